@@ -1,0 +1,3 @@
+pub mod Name
+pub mod Schema
+pub mod Event

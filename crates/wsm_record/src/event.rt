@@ -1,0 +1,41 @@
+//! What a row says.
+
+/// A value of a field, a column or an accumulator.
+#[derive(Clone, Copy, Debug, PartialEq, Eq)]
+pub enum Value {
+    /// A whole number.
+    Int(i64),
+    /// A truth.
+    Bool(bool),
+    /// The number of a declared name, counted from 0.
+    Enum(u16),
+}
+
+/// What a row says, once its cells are read.
+#[derive(Debug, Drop)]
+pub enum Event {
+    /// A record.
+    Record {
+        /// The number of its key, or none where the key isn't declared.
+        key: Option<u16>,
+        /// When it happened, in event time.
+        time: i64,
+        /// Its values, in the order of the declared fields.
+        values: Vec<Value>,
+    },
+    /// The claim of the source that no record with an earlier time is to come, but late ones.
+    Watermark(i64),
+}
+
+/// Why a row is no event.
+#[derive(Clone, Copy, Debug, PartialEq, Eq)]
+pub enum RowFault {
+    /// The first cell is neither `r` nor `w`, or there is none.
+    BadTag,
+    /// There are not as many cells as such a row has.
+    CellCount,
+    /// A cell is no whole number of 64 bits.
+    BadNumber,
+    /// A cell is no truth, or none of the names that are declared for its field.
+    BadName,
+}

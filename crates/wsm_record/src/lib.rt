@@ -1,0 +1,14 @@
+//! What a query declares and what a row says: names, types, schemas, values and events.
+//!
+//! A [`Schema`] is the declared keys and fields of a query. A row of the input is an [`Event`]: a
+//! record of one key, with a time and a [`Value`] for each field, or a watermark. Times are whole
+//! numbers in the query's own unit of event time.
+#![tactic(auto)]
+
+pub use event::{Event, RowFault, Value};
+pub use name::Name;
+pub use words::{Form, Kind, Mode};
+
+mod event;
+mod name;
+mod words;

@@ -1,0 +1,38 @@
+//! The words that query texts, programs and their meaning share.
+
+/// What a firing's columns are computed over (Akidau et al. 2015, "refinement").
+#[derive(Clone, Copy, Debug, PartialEq, Eq)]
+pub enum Mode {
+    /// The records that no earlier firing showed.
+    Discarding,
+    /// All records of the pane.
+    Accumulating,
+}
+
+/// What a query writes: its panes, or one of the streams of a relation (Arasu et al. 2006).
+#[derive(Clone, Copy, Debug, PartialEq, Eq)]
+pub enum Form {
+    /// A row for each pane that fires.
+    Panes,
+    /// The rows that the relation gained since the last instant.
+    Istream,
+    /// The rows that the relation lost since the last instant.
+    Dstream,
+    /// The rows of the relation.
+    Rstream,
+}
+
+/// How an aggregate folds the values of its records.
+#[derive(Clone, Copy, Debug, PartialEq, Eq)]
+pub enum Kind {
+    /// Their sum.
+    Sum,
+    /// The least.
+    Min,
+    /// The greatest.
+    Max,
+    /// Whether some is true.
+    Any,
+    /// Whether all are true.
+    All,
+}
