@@ -1,3 +1,4 @@
 pub mod Name
 pub mod Schema
 pub mod Event
+pub mod Fields

@@ -1,5 +1,6 @@
 -- Which texts are names.
-use Rattle.std.specs.Prelude.{ℕ, Bool, false, ◌&&◌, ◌||◌, not, List, [], ◌∷◌, length, nat_le, nat_eq, codes, bytes_eq}
+use Rattle.std.specs.Prelude.{ℕ, Bool, false, ◌&&◌, ◌||◌, not, List, [], ◌∷◌, ◌++◌, length, nat_le, nat_eq, bytes_eq}
+use Rattle.wsm_record.specs.declared.reserved.TheConstants.{RESERVED}
 use Rattle.std.specs.List.{list_any, list_all}
 
 abbrev pub is_between : ℕ → ℕ → ℕ → Bool
@@ -17,22 +18,12 @@ is_word_byte c = is_letter c || (is_digit c || nat_eq c 95)
 abbrev pub name_limit : ℕ
 name_limit = 32
 
--- the words of query texts, which are no names
-abbrev pub reserved : List (List ℕ)
-reserved =
-    codes "KEYS" ∷ codes "KEY" ∷ codes "FIELD" ∷ codes "INT" ∷ codes "BOOL" ∷ codes "ENUM" ∷ codes "START" ∷ codes "SKEW"
-    ∷ codes "LATENESS" ∷ codes "RECORDS" ∷ codes "BUDGET" ∷ codes "RECORD" ∷ codes "PANE" ∷ codes "HELD" ∷ codes "SELECT" ∷ codes "WHERE"
-    ∷ codes "HAVING" ∷ codes "WINDOW" ∷ codes "FIXED" ∷ codes "SLIDING" ∷ codes "SESSION" ∷ codes "EVERY" ∷ codes "ACCUMULATING" ∷ codes "DISCARDING"
-    ∷ codes "RETRACTING" ∷ codes "EARLY" ∷ codes "LATE" ∷ codes "EMIT" ∷ codes "PANES" ∷ codes "ISTREAM" ∷ codes "DSTREAM" ∷ codes "RSTREAM"
-    ∷ codes "AND" ∷ codes "OR" ∷ codes "NOT" ∷ codes "TRUE" ∷ codes "FALSE" ∷ codes "COUNT" ∷ codes "SUM" ∷ codes "MIN"
-    ∷ codes "MAX" ∷ codes "ANY" ∷ codes "ALL" ∷ codes "IF" ∷ codes "THEN" ∷ codes "ELSE" ∷ codes "END" ∷ codes "FROM"
-    ∷ codes "SOURCES" ∷ []
-
 abbrev pub is_among : List ℕ → List (List ℕ) → Bool
 is_among x xs = list_any (bytes_eq x) xs
 
+-- a word of query texts, which is no name
 unfoldable pub is_reserved : List ℕ → Bool
-is_reserved word = is_among word reserved
+is_reserved word = list_any (λ r. bytes_eq word r.now) RESERVED
 
 -- a letter, then letters, digits and _
 abbrev pub is_word : List ℕ → Bool
@@ -42,3 +33,8 @@ is_word (c ∷ cs) = is_letter c && list_all is_word_byte cs
 -- a word of at most 32 bytes that isn't reserved
 abbrev pub is_name : List ℕ → Bool
 is_name word = is_word word && (nat_le (length word) name_limit && not (is_reserved word))
+
+-- a name stands behind those before it or behind itself
+abbrev pub repeats_after : List (List ℕ) → List (List ℕ) → Bool
+repeats_after before [] = false
+repeats_after before (x ∷ xs) = is_among x before || repeats_after (before ++ x ∷ []) xs

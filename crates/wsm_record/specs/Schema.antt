@@ -1,5 +1,9 @@
 -- What a query declares of its records, and which values fit.
-use Rattle.std.specs.Prelude.{ℕ, Bool, true, false, ◌&&◌, List, [], ◌∷◌, length, ℤ, int_le, nat_lt}
+use Rattle.std.specs.Prelude.{ℕ, Bool, true, false, ◌&&◌, ◌||◌, cond, List, [], ◌∷◌, ◌++◌, length, ℤ, int_le, int_lt, nat_lt, nat_eq, Option, Some, None}
+use Rattle.std.specs.List.{list_any}
+use Rattle.wsm_record.specs.declared.schema.SchemaRefusal.{SchemaRefusal}
+use Rattle.wsm_record.specs.declared.schema.SchemaRefusal.TheVariants.{NoKeys, TooMany, DuplicateName, EmptyRange}
+use Rattle.wsm_record.specs.Name.{is_among, repeats_after}
 use Rattle.wsm_record.specs.declared.event.Value.{Value}
 use Rattle.wsm_record.specs.declared.event.Value.TheVariants as values
 
@@ -30,3 +34,41 @@ abbrev pub fit_fields : List DeclaredField → List Value → Bool
 fit_fields [] [] = true
 fit_fields (f ∷ fs) (v ∷ vs) = fits_type f.type v && fit_fields fs vs
 fit_fields _ _ = false
+
+-- more keys, fields or names of a field than there may be
+abbrev pub name_limit : ℕ
+name_limit = 1000
+
+abbrev pub field_limit : ℕ
+field_limit = 16
+
+abbrev pub has_too_many_names : FieldType → Bool
+has_too_many_names (Enum names) = nat_lt name_limit (length names)
+has_too_many_names _ = false
+
+abbrev pub is_too_many : Declared → Bool
+is_too_many d = nat_lt name_limit (length d.keys) || (nat_lt field_limit (length d.fields) || list_any (λ f. has_too_many_names f.type) d.fields)
+
+-- the fault of a type: it has no values, or a name twice
+abbrev pub type_refusal : FieldType → Option SchemaRefusal
+type_refusal (Int lo hi) = cond (int_lt hi lo) (Some EmptyRange) None
+type_refusal Truth = None
+type_refusal (Enum []) = Some EmptyRange
+type_refusal (Enum (n ∷ ns)) = cond (repeats_after [] (n ∷ ns)) (Some DuplicateName) None
+
+-- the first of two faults
+abbrev pub or_else : Option SchemaRefusal → Option SchemaRefusal → Option SchemaRefusal
+or_else (Some r) other = Some r
+or_else None other = other
+
+-- the first fault of fields that stand behind others
+abbrev pub fields_refusal : List (List ℕ) → List DeclaredField → Option SchemaRefusal
+fields_refusal before [] = None
+fields_refusal before (f ∷ fs) = cond (is_among f.name before) (Some DuplicateName) (or_else (type_refusal f.type) (fields_refusal (before ++ f.name ∷ []) fs))
+
+-- the first fault of keys and fields
+abbrev pub schema_refusal : Declared → Option SchemaRefusal
+schema_refusal d =
+    cond (nat_eq (length d.keys) 0) (Some NoKeys)
+    (cond (is_too_many d) (Some TooMany)
+    (cond (repeats_after [] d.keys) (Some DuplicateName) (fields_refusal [] d.fields)))

@@ -7,8 +7,14 @@
 
 pub use event::{Event, RowFault, Value};
 pub use name::Name;
+pub use names::Names;
+pub use reserved::is_keyword;
+pub use schema::{DeclaredField, Field, FieldType, Schema, SchemaRefusal, Ty};
 pub use words::{Form, Kind, Mode};
 
 mod event;
 mod name;
+mod names;
+mod reserved;
+mod schema;
 mod words;

@@ -1,8 +1,11 @@
 //! Names that a query declares.
 
-ghost use Rattle.std.specs.Prelude.{◌≡◌, ◌↔◌, IfSome, IsSome, IsTrue};
-ghost use Rattle.wsm_record.specs.Name.{is_name};
+ghost use Rattle.std.specs.Prelude.{◌≡◌, IfSome, is_some};
+ghost use Rattle.std.specs.List.{list_all};
+ghost use Rattle.wsm_record.specs.Name.{is_name, is_word, is_word_byte};
 
+use crate::reserved::is_keyword;
+use std::hash::{Hash, Hasher};
 use std::marker::Model;
 
 /// The most bytes of a name.
@@ -17,12 +20,108 @@ pub struct Name {
 }
 
 impl Model for Name {
-    ghost use Rattle.std.specs.Prelude.{List, ℕ, take, ◌≤◌, ◌<◌, IsTrue};
+    ghost use Rattle.std.specs.Prelude.{◌≡◌, ◌≤◌, ℕ, List, take, true};
     ghost use Rattle.wsm_record.specs.Name.{is_name};
 
     ghost Value = { List ℕ };
 
     ghost view = { λ a. take a.len a.bytes };
 
-    ghost invariant = { λ a. IsTrue (is_name (take a.len a.bytes)) × (a.len ≤ 32) };
+    ghost invariant = { λ a. (is_name (take a.len a.bytes) ≡ true) × (a.len ≤ 32) };
+}
+
+impl Name {
+    /// The name with these bytes, where they make one. It takes no memory.
+    pub fn new(text: &[u8]) -> Option<Name>
+        ensures which { is_some result ≡ is_name text.now }
+        ensures text { IfSome result (λ name. name ≡ text.now) }
+    {
+        if !is_declarable(text) {
+            return None;
+        }
+        let len = text.len();
+        let mut bytes = [0; MAX_NAME];
+        bytes[..len].copy_from_slice(text);
+        Some(Name { bytes, len })
+    }
+
+    pub fn as_bytes(&self) -> &[u8]
+        ensures { result.now ≡ self.now }
+    {
+        &self.bytes[..self.len]
+    }
+
+    /// The same name once more. It takes no memory.
+    pub fn copied(&self) -> Name
+        ensures { result ≡ self.now }
+    {
+        Name {
+            bytes: self.bytes,
+            len: self.len,
+        }
+    }
+}
+
+impl PartialEq for Name {
+    ghost use Rattle.std.specs.Prelude.{nat_eq};
+    ghost use Rattle.std.specs.Cmp.Lexicographic.{pointwise};
+    ghost use Rattle.std.specs.Cmp.Rules.{comparing};
+    ghost use Rattle.std.proofs.Common.{rules};
+
+    ghost eq = { pointwise nat_eq };
+
+    ghost laws = { Prim.search (comparing, rules) };
+
+    fn eq(&self, other: &Name) -> bool {
+        self.as_bytes() == other.as_bytes()
+    }
+}
+
+impl Eq for Name {
+    ghost use Rattle.std.specs.Cmp.Rules.{comparing};
+    ghost use Rattle.std.proofs.Common.{rules};
+
+    ghost laws = { Prim.search (comparing, rules) };
+}
+
+impl Hash for Name {
+    ghost use Rattle.std.specs.Hash as fed;
+    ghost use Rattle.std.specs.Cmp.Rules.{comparing, hashing};
+    ghost use Rattle.std.proofs.Common.{rules};
+
+    ghost hash_input = { fed.slice fed.u8 };
+
+    ghost respects_eq = { Prim.search (hashing, comparing, rules) };
+
+    fn hash<H: Hasher>(&self, state: &mut H) {
+        self.as_bytes().hash(state);
+    }
+}
+
+// Whether a text is a name.
+fn is_declarable(text: &[u8]) -> bool
+    ensures { result ≡ is_name text.now }
+{
+    is_plain_word(text) && text.len() <= MAX_NAME && !is_keyword(text)
+}
+
+fn is_plain_word(text: &[u8]) -> bool
+    ensures { result ≡ is_word text.now }
+{
+    match text {
+        [first, rest @ ..] => first.is_ascii_alphabetic() && are_parts(rest),
+        [] => false,
+    }
+}
+
+fn are_parts(bytes: &[u8]) -> bool
+    ensures { result ≡ list_all is_word_byte bytes.now }
+{
+    bytes.iter().all(|b| is_part(*b))
+}
+
+fn is_part(byte: u8) -> bool
+    ensures { result ≡ is_word_byte byte }
+{
+    byte.is_ascii_alphabetic() || byte.is_ascii_digit() || byte == b'_'
 }

@@ -1,0 +1,6 @@
+use Rattle.wsm_record.specs.Name.{is_reserved}
+use Rattle.wsm_record.proofs.reserved.is_keyword.Goals as goal
+
+pub returns : goal.returns
+unfolding is_reserved
+returns c = c.is_one_of.ensures

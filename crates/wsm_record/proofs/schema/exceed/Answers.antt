@@ -1,0 +1,6 @@
+use Rattle.std.proofs.Common.{◌∙◌}
+use Rattle.wsm_record.proofs.Declaring.{too_many_names}
+use Rattle.wsm_record.proofs.schema.exceed.Goals as goal
+
+pub returns : goal.returns
+returns c = c.has_wide_field.ensures ∙ too_many_names c.args.keys.now c.args.fields.now c.if-keys-gt-MAX_NAMES.false c.if-fields-gt-MAX_FIELDS.false

@@ -1,0 +1,71 @@
+//! The reserved words.
+
+ghost use Rattle.std.specs.Prelude.{◌≡◌, bytes_eq};
+ghost use Rattle.std.specs.List.{list_any};
+ghost use Rattle.wsm_record.specs.Name.{is_reserved};
+
+/// The words of query texts, which are no names.
+pub const RESERVED: [&str; 49] = [
+    "KEYS",
+    "KEY",
+    "FIELD",
+    "INT",
+    "BOOL",
+    "ENUM",
+    "START",
+    "SKEW",
+    "LATENESS",
+    "RECORDS",
+    "BUDGET",
+    "RECORD",
+    "PANE",
+    "HELD",
+    "SELECT",
+    "WHERE",
+    "HAVING",
+    "WINDOW",
+    "FIXED",
+    "SLIDING",
+    "SESSION",
+    "EVERY",
+    "ACCUMULATING",
+    "DISCARDING",
+    "RETRACTING",
+    "EARLY",
+    "LATE",
+    "EMIT",
+    "PANES",
+    "ISTREAM",
+    "DSTREAM",
+    "RSTREAM",
+    "AND",
+    "OR",
+    "NOT",
+    "TRUE",
+    "FALSE",
+    "COUNT",
+    "SUM",
+    "MIN",
+    "MAX",
+    "ANY",
+    "ALL",
+    "IF",
+    "THEN",
+    "ELSE",
+    "END",
+    "FROM",
+    "SOURCES",
+];
+
+/// Whether a word is reserved.
+pub fn is_keyword(word: &[u8]) -> bool
+    ensures { result ≡ is_reserved word.now }
+{
+    is_one_of(word, &RESERVED)
+}
+
+fn is_one_of(word: &[u8], words: &[&str]) -> bool
+    ensures { result ≡ list_any (λ w. bytes_eq word.now w.now) words.now }
+{
+    words.iter().any(|w| word == w.as_bytes())
+}

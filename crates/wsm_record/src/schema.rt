@@ -1,0 +1,275 @@
+//! What a query declares of its records.
+
+ghost use Rattle.std.specs.Prelude.{false, ◌≡◌, ◌≢◌, ◌<◌, ◌≤◌, ◌⊎◌, ℕ, List, [], length, map, position, bytes_eq, Some, None, Ok, Err, slice_get, IfOk, IfErr};
+ghost use Rattle.wsm_record.specs.Schema.{fits_type, fit_fields, type_refusal, fields_refusal, schema_refusal, is_too_many, has_too_many_names};
+ghost use Rattle.std.specs.List.{list_any};
+ghost use Rattle.wsm_record.specs.Fields.{declared_type, declared_field, type_seen, field_seen, declared_of};
+
+use crate::event::Value;
+use crate::name::Name;
+use crate::names::{MAX_NAMES, Names};
+use std::alloc::{AllocError, AllocFailed, Global};
+use std::marker::Model;
+use thiserror::Error;
+
+/// The most fields of a schema.
+pub const MAX_FIELDS: usize = 16;
+
+/// What a query declares a field as.
+#[derive(Debug, Drop)]
+pub enum Ty {
+    /// A whole number from `lo` to `hi`.
+    Int { lo: i64, hi: i64 },
+    /// A truth.
+    Bool,
+    /// One of these names.
+    Enum(Vec<Name>),
+}
+
+/// A field as a query declares it.
+#[derive(Debug, Drop)]
+pub struct Field {
+    pub name: Name,
+    pub ty: Ty,
+}
+
+/// Why keys and fields make no schema. The order is that in which faults are found.
+#[derive(Clone, Copy, Debug, PartialEq, Eq, Error)]
+pub enum SchemaRefusal {
+    /// There is no key.
+    #[error("S4 NoKeys")]
+    NoKeys,
+    /// There are more than 1,000 keys, 16 fields, or 1,000 names of a field.
+    #[error("S3 TooMany")]
+    TooMany,
+    /// A name stands twice among the keys, the fields, or the names of a field.
+    #[error("S1 DuplicateName")]
+    DuplicateName,
+    /// A field has no value: its interval is empty, or it has no names.
+    #[error("S2 EmptyRange")]
+    EmptyRange,
+    /// Memory was refused.
+    #[error("out of memory")]
+    Memory,
+}
+
+impl From<AllocError> for SchemaRefusal {
+    ghost use Rattle.std.specs.Prelude.{false, ◌≡◌};
+    ghost use Rattle.wsm_record.specs.declared.schema.SchemaRefusal.TheVariants.{Memory};
+
+    ghost from_gives = { λ _ e. e ≡ Memory };
+
+    fn from(_e: AllocError) -> SchemaRefusal {
+        SchemaRefusal::Memory
+    }
+}
+
+impl<T: Drop> From<AllocFailed<T>> for SchemaRefusal {
+    ghost use Rattle.std.specs.Prelude.{false, ◌≡◌};
+    ghost use Rattle.wsm_record.specs.declared.schema.SchemaRefusal.TheVariants.{Memory};
+
+    ghost from_gives = { λ _ e. e ≡ Memory };
+
+    fn from(_e: AllocFailed<T>) -> SchemaRefusal {
+        SchemaRefusal::Memory
+    }
+}
+
+/// The type of a declared field.
+#[derive(Drop)]
+pub enum FieldType {
+    /// A whole number from `lo` to `hi`.
+    Int { lo: i64, hi: i64 },
+    /// A truth.
+    Bool,
+    /// One of these names.
+    Enum(Names),
+}
+
+impl FieldType {
+    /// Whether a value is of the type: in its interval, or the number of one of its names.
+    pub fn fits(&self, value: Value) -> bool
+        ensures { result ≡ fits_type (type_seen self.now) value }
+    {
+        match (self, value) {
+            (FieldType::Int { lo, hi }, Value::Int(n)) => *lo <= n && n <= *hi,
+            (FieldType::Bool, Value::Bool(_)) => true,
+            (FieldType::Enum(names), Value::Enum(i)) => (i as usize) < names.len(),
+            _ => false,
+        }
+    }
+
+    // The type as it is kept, where it has values and no name twice.
+    fn declare(alloc: Global, ty: &Ty) -> Result<FieldType, SchemaRefusal>
+        requires { has_too_many_names (declared_type ty.now) ≡ false }
+        ensures kept { IfOk result (λ t. type_seen t ≡ declared_type ty.now) }
+        ensures accepted { IfOk result (λ _. type_refusal (declared_type ty.now) ≡ None) }
+        ensures refused { IfErr result (λ r. (r ≡ SchemaRefusal.Memory) ⊎ (type_refusal (declared_type ty.now) ≡ Some r)) }
+    {
+        match ty {
+            Ty::Int { lo, hi } if hi < lo => Err(SchemaRefusal::EmptyRange),
+            Ty::Int { lo, hi } => Ok(FieldType::Int { lo: *lo, hi: *hi }),
+            Ty::Bool => Ok(FieldType::Bool),
+            Ty::Enum(names) if names.is_empty() => Err(SchemaRefusal::EmptyRange),
+            Ty::Enum(names) => Ok(FieldType::Enum(Names::collect(alloc, names)?)),
+        }
+    }
+}
+
+/// A declared field.
+#[derive(Drop)]
+pub struct DeclaredField {
+    pub name: Name,
+    pub ty: FieldType,
+}
+
+/// The declared keys and fields. A key's number is its place among the keys, a field's its place
+/// among the fields. A clause sees the names as their bytes.
+#[derive(Drop)]
+pub struct Schema {
+    keys: Names,
+    fields: Vec<DeclaredField>,
+}
+
+impl Model for Schema {
+    ghost use Rattle.std.specs.Prelude.{false, ◌≡◌, None, map};
+    ghost use Rattle.wsm_record.specs.Schema.{Declared, schema_refusal};
+    ghost use Rattle.wsm_record.specs.Fields.{field_seen};
+
+    ghost Value = { Declared };
+
+    ghost view = { λ a. record { keys = a.keys; fields = map field_seen a.fields.items } };
+
+    ghost invariant = { λ a. schema_refusal (record { keys = a.keys; fields = map field_seen a.fields.items }) ≡ None };
+}
+
+impl Schema {
+    /// The schema of these keys and fields, or the first fault.
+    pub fn new(alloc: Global, keys: &[Name], fields: &[Field]) -> Result<Schema, SchemaRefusal>
+        ensures declared { IfOk result (λ s. s ≡ declared_of keys.now fields.now) }
+        ensures accepted { IfOk result (λ _. schema_refusal (declared_of keys.now fields.now) ≡ None) }
+        ensures refused { IfErr result (λ r. (r ≡ SchemaRefusal.Memory) ⊎ (schema_refusal (declared_of keys.now fields.now) ≡ Some r)) }
+    {
+        if keys.is_empty() {
+            return Err(SchemaRefusal::NoKeys);
+        }
+        if exceed(keys, fields) {
+            return Err(SchemaRefusal::TooMany);
+        }
+        let keys = Names::collect(alloc, keys)?;
+        let fields = declare(alloc, fields)?;
+        Ok(Schema { keys, fields })
+    }
+
+    /// The declared keys.
+    pub fn keys(&self) -> &Names
+        ensures { result.now ≡ self.now.keys }
+    {
+        &self.keys
+    }
+
+    /// How many keys there are: 1 to 1,000.
+    pub fn key_count(&self) -> usize
+        ensures count { result ≡ length self.now.keys }
+        ensures some { 0 < result }
+        ensures most { result ≤ MAX_NAMES }
+    {
+        self.keys.len()
+    }
+
+    /// The number of the key with these bytes, if it is declared.
+    pub fn key_number(&self, text: &[u8]) -> Option<u16>
+        ensures { result ≡ position (bytes_eq text.now) self.now.keys }
+    {
+        self.keys.number_of(text)
+    }
+
+    /// The bytes of a key.
+    pub fn key_name(&self, number: u16) -> &[u8]
+        requires { number < length self.now.keys }
+        ensures { slice_get self.now.keys number ≡ Some result.now }
+    {
+        self.keys.text_of(number)
+    }
+
+    /// The declared fields, in their order.
+    pub fn fields(&self) -> &[DeclaredField]
+        ensures { map field_seen result.now ≡ self.now.fields }
+    {
+        &self.fields
+    }
+
+    /// Whether there is one value for each field, of its type.
+    pub fn fits(&self, values: &[Value]) -> bool
+        ensures { result ≡ fit_fields self.now.fields values.now }
+    {
+        fit(&self.fields, values)
+    }
+}
+
+fn fit(fields: &[DeclaredField], values: &[Value]) -> bool
+    ensures { result ≡ fit_fields (map field_seen fields.now) values.now }
+{
+    if fields.len() != values.len() {
+        return false;
+    }
+    for (i, field) in fields.iter().enumerate() {
+        if !field.ty.fits(values[i]) {
+            return false;
+        }
+    }
+    true
+}
+
+// Whether there are more keys, fields or names than there may be.
+fn exceed(keys: &[Name], fields: &[Field]) -> bool
+    ensures { result ≡ is_too_many (declared_of keys.now fields.now) }
+{
+    if keys.len() > MAX_NAMES {
+        return true;
+    }
+    if fields.len() > MAX_FIELDS {
+        return true;
+    }
+    has_wide_field(fields)
+}
+
+fn has_wide_field(fields: &[Field]) -> bool
+    ensures { result ≡ list_any (λ f. has_too_many_names (declared_type f.ty)) fields.now }
+{
+    fields.iter().any(|field| has_many_names(field))
+}
+
+fn has_many_names(field: &Field) -> bool
+    ensures { result ≡ has_too_many_names (declared_type field.now.ty) }
+{
+    match &field.ty {
+        Ty::Enum(names) => names.len() > MAX_NAMES,
+        _ => false,
+    }
+}
+
+// The fields as they are kept, or the first fault.
+fn declare(alloc: Global, fields: &[Field]) -> Result<Vec<DeclaredField>, SchemaRefusal>
+    requires { list_any (λ f. has_too_many_names (declared_type f.ty)) fields.now ≡ false }
+    ensures kept { IfOk result (λ kept. map field_seen kept.items ≡ map declared_field fields.now) }
+    ensures accepted { IfOk result (λ _. fields_refusal [] (map declared_field fields.now) ≡ None) }
+    ensures refused { IfErr result (λ r. (r ≡ SchemaRefusal.Memory) ⊎ (fields_refusal [] (map declared_field fields.now) ≡ Some r)) }
+{
+    let mut kept: Vec<DeclaredField> = Vec::with_capacity(alloc, fields.len())?;
+    for field in fields {
+        if has_field(&kept, &field.name) {
+            return Err(SchemaRefusal::DuplicateName);
+        }
+        let ty = FieldType::declare(alloc, &field.ty)?;
+        let name = field.name.copied();
+        kept.push(DeclaredField { name, ty })?;
+    }
+    Ok(kept)
+}
+
+fn has_field(fields: &[DeclaredField], name: &Name) -> bool
+    ensures { result ≡ list_any (λ f. bytes_eq name.now f.name) fields.now }
+{
+    fields.iter().any(|field| *name == field.name)
+}
