@@ -1,9 +1,11 @@
 //! Windows and their shapes.
 
-/// A stretch of event time, from `start` on and before `end`.
+/// A stretch of event time, from its start on and before its end.
 #[derive(Clone, Copy, Debug, PartialEq, Eq)]
 pub struct Window {
+    /// The first time inside.
     pub start: i64,
+    /// The first time past it.
     pub end: i64,
 }
 
