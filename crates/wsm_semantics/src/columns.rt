@@ -1,0 +1,69 @@
+//! The columns of a row, inline.
+
+ghost use Rattle.std.specs.Prelude.{◌≡◌, List, [], ◌∷◌, ◌++◌, length, nat_eq, ◌<◌};
+
+use std::marker::Model;
+use wsm_record::Value;
+
+/// The most columns of a row.
+pub const MAX_COLUMNS: usize = 16;
+
+/// The columns of a row, at most [`MAX_COLUMNS`], held inline. A clause sees their values.
+#[derive(Debug, Drop)]
+pub struct Columns {
+    values: [Value; MAX_COLUMNS],
+    len: usize,
+}
+
+impl Model for Columns {
+    ghost use Rattle.std.specs.Prelude.{◌≡◌, List, ◌≤◌, length, take};
+    ghost use Rattle.wsm_record.specs.declared.event.Value.{Value as OneValue};
+
+    ghost Value = { List OneValue };
+
+    ghost view = { λ c. take c.len c.values };
+
+    ghost invariant = { λ c. (c.len ≤ 16) × (length c.values ≡ 16) };
+}
+
+impl Columns {
+    /// No columns.
+    pub fn new() -> Columns
+        ensures { result ≡ [] }
+    {
+        Columns {
+            values: [Value::Int(0); MAX_COLUMNS],
+            len: 0,
+        }
+    }
+
+    /// The number of columns.
+    pub fn len(&self) -> usize
+        ensures { result ≡ length self.now }
+    {
+        self.len
+    }
+
+    /// Whether there are no columns.
+    pub fn is_empty(&self) -> bool
+        ensures { result ≡ nat_eq (length self.now) 0 }
+    {
+        self.len == 0
+    }
+
+    /// The values, from the left.
+    pub fn as_slice(&self) -> &[Value]
+        ensures { result.now ≡ self.now }
+    {
+        &self.values[..self.len]
+    }
+
+    /// Adds a column on the right.
+    pub fn push(&mut self, value: Value)
+        requires { length self.old < MAX_COLUMNS }
+        ensures { self.new ≡ self.old ++ value ∷ [] }
+    {
+        self.values[self.len] = value;
+        self.len += 1;
+    }
+}
