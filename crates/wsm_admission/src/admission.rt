@@ -1,34 +1,188 @@
-//! The verdict on each event.
+//! What is kept of the events so far, and the decision on the next.
 
-/// Why an event isn't taken. The name of the variant is the word that is printed.
-#[derive(Clone, Copy, Debug, PartialEq, Eq)]
-pub enum Refusal {
-    /// The record's key isn't declared.
-    UnknownKey,
-    /// The values aren't one for each field, of its type, in its interval or among its names.
-    FieldRange,
-    /// The time or the watermark isn't in 0 to 10^16.
-    TimeRange,
-    /// The record is further ahead of the watermark than the skew.
-    TooFarAhead,
-    /// The record is further behind the watermark than the lateness.
-    Late,
-    /// As many records as the limit were admitted already.
-    RecordLimit,
-    /// The watermark isn't past the one that holds.
-    NotRising,
+ghost use Rattle.std.specs.Prelude.{◌≡◌, ◌≤ℤ◌, IsTrue, List, [], ◌∷◌, nat_le, pos};
+ghost use Rattle.wsm_record.specs.Event.{Event as AnyEvent, event_of, Record, Watermark};
+ghost use Rattle.wsm_record.specs.Schema.{DeclaredField};
+ghost use Rattle.wsm_admission.specs.Clock.{IsWithinLimits, latest_time, is_late, is_time as lies_in_time, is_too_far_ahead, watermark_of, watermark_refusal, verdict as verdict_after};
+ghost use Rattle.wsm_admission.specs.Admission.{Fits, IsInRange, opened, answer, decision, after};
+
+use crate::clock::{Clock, LATEST_TIME};
+use crate::verdict::{Admitted, Refusal};
+use std::marker::Model;
+use wsm_record::{Event, Schema, Value};
+
+/// The watermark and the counts of the events so far.
+#[derive(Debug, Drop)]
+pub struct Admission {
+    clock: Clock,
+    mark: i64,
+    admitted: u64,
+    late: u64,
+    refused: u64,
 }
 
-/// What an event that is taken does to the clock.
-#[derive(Clone, Copy, Debug, PartialEq, Eq)]
-pub enum Admitted {
-    /// A record: the watermark stays.
-    Record,
-    /// A watermark, which replaces the old one.
-    Watermark {
-        /// The watermark before.
-        old: i64,
-        /// The watermark from now on.
-        new: i64,
-    },
+impl Model for Admission {
+    ghost use Rattle.wsm_admission.specs.Admission.{State, IsInRange};
+
+    ghost Value = { State };
+
+    ghost view = { λ a. record { clock = a.clock; mark = a.mark; admitted = a.admitted; late = a.late; refused = a.refused } };
+
+    ghost invariant = { λ a. IsInRange (record { clock = a.clock; mark = a.mark; admitted = a.admitted; late = a.late; refused = a.refused }) };
+}
+
+impl Admission {
+    /// Before the first event.
+    pub fn new(clock: Clock) -> Admission
+        requires { IsWithinLimits clock }
+        ensures opened { result ≡ opened clock }
+        ensures fits { (fields : List DeclaredField) → Fits fields result [] }
+    {
+        Admission {
+            clock,
+            mark: clock.start,
+            admitted: 0,
+            late: 0,
+            refused: 0,
+        }
+    }
+
+    /// The watermark, in event time.
+    pub fn mark(&self) -> i64
+        ensures mark { result ≡ self.now.mark }
+        ensures from { pos 0 ≤ℤ result }
+        ensures to { result ≤ℤ latest_time }
+    {
+        self.mark
+    }
+
+    /// How many records were admitted.
+    pub fn admitted(&self) -> u64
+        ensures { result ≡ self.now.admitted }
+    {
+        self.admitted
+    }
+
+    /// How many records were late, at most the greatest `u64`.
+    pub fn late(&self) -> u64
+        ensures { result ≡ self.now.late }
+    {
+        self.late
+    }
+
+    /// How many events were refused, without the late records, at most the greatest `u64`.
+    pub fn refused(&self) -> u64
+        ensures { result ≡ self.now.refused }
+    {
+        self.refused
+    }
+
+    /// Decides on the next event: the first rule that refuses it, or what it does to the clock. A
+    /// refusal changes one counter alone: that of the late records, or that of all others refused.
+    pub fn decide(&mut self, schema: &Schema, event: &Event) -> Result<Admitted, Refusal>
+        ensures decision { result ≡ decision schema.now.fields self.old (event_of event.now) }
+        ensures state { self.new ≡ after result self.old }
+        ensures range { IsInRange self.new }
+        ensures verdict { (past : List AnyEvent) → Fits schema.now.fields self.old past →
+            result ≡ answer (watermark_of self.old.clock past) (event_of event.now) (verdict_after self.old.clock schema.now.fields past (event_of event.now)) }
+        ensures fits { (past : List AnyEvent) → Fits schema.now.fields self.old past → Fits schema.now.fields self.new (event_of event.now ∷ past) }
+    {
+        let decision = self.decision(schema, event);
+        match decision {
+            Ok(Admitted::Record) => self.admitted += 1,
+            Ok(Admitted::Watermark { new, .. }) => self.mark = new,
+            Err(refusal) => self.count(refusal),
+        }
+        decision
+    }
+
+    // Counts a refusal.
+    fn count(&mut self, refusal: Refusal)
+        ensures { self.new ≡ after (Err refusal) self.old }
+    {
+        match refusal {
+            Refusal::Late => self.late = self.late.saturating_add(1),
+            _ => self.refused = self.refused.saturating_add(1),
+        }
+    }
+
+    // The first rule that refuses the event, or what it does to the clock.
+    fn decision(&self, schema: &Schema, event: &Event) -> Result<Admitted, Refusal>
+        ensures { result ≡ decision schema.now.fields self.now (event_of event.now) }
+    {
+        match event {
+            Event::Record { key, time, values } => self.try_record(schema, *key, *time, values),
+            Event::Watermark(time) => self.try_watermark(*time),
+        }
+    }
+
+    fn try_record(
+        &self,
+        schema: &Schema,
+        key: Option<u16>,
+        time: i64,
+        values: &[Value],
+    ) -> Result<Admitted, Refusal>
+        ensures { result ≡ decision schema.now.fields self.now (Record key time values.now) }
+    {
+        if key.is_none() {
+            Err(Refusal::UnknownKey)
+        } else if !schema.fits(values) {
+            Err(Refusal::FieldRange)
+        } else if !is_time(time) {
+            Err(Refusal::TimeRange)
+        } else if self.is_too_far_ahead(time) {
+            Err(Refusal::TooFarAhead)
+        } else if self.is_late(time) {
+            Err(Refusal::Late)
+        } else if self.is_full() {
+            Err(Refusal::RecordLimit)
+        } else {
+            Ok(Admitted::Record)
+        }
+    }
+
+    fn try_watermark(&self, time: i64) -> Result<Admitted, Refusal>
+        ensures { result ≡ answer self.now.mark (Watermark time) (watermark_refusal self.now.mark time) }
+    {
+        if !is_time(time) {
+            Err(Refusal::TimeRange)
+        } else if time <= self.mark {
+            Err(Refusal::NotRising)
+        } else {
+            Ok(Admitted::Watermark {
+                old: self.mark,
+                new: time,
+            })
+        }
+    }
+
+    // Whether a record is further ahead of the watermark than the skew.
+    fn is_too_far_ahead(&self, time: i64) -> bool
+        ensures { result ≡ is_too_far_ahead self.now.clock self.now.mark time }
+    {
+        time > self.mark + self.clock.skew
+    }
+
+    // Whether a record is further behind the watermark than the lateness.
+    fn is_late(&self, time: i64) -> bool
+        requires { IsTrue (lies_in_time time) }
+        ensures { result ≡ is_late self.now.clock self.now.mark time }
+    {
+        time + self.clock.lateness < self.mark
+    }
+
+    // Whether as many records as the limit were admitted.
+    fn is_full(&self) -> bool
+        ensures { result ≡ nat_le self.now.clock.records self.now.admitted }
+    {
+        self.clock.records <= self.admitted
+    }
+}
+
+// Whether a record or a watermark may have this time.
+fn is_time(time: i64) -> bool
+    ensures { result ≡ lies_in_time time }
+{
+    0 <= time && time <= LATEST_TIME
 }

@@ -1,0 +1,17 @@
+//! The numbers of a query's clock.
+
+/// The latest time of a record or a watermark, in event time. The earliest is 0.
+pub const LATEST_TIME: i64 = 10_000_000_000_000_000;
+
+/// The numbers of a query's clock, in event time but for the records.
+#[derive(Clone, Copy, Debug, PartialEq, Eq)]
+pub struct Clock {
+    /// The watermark before the first event.
+    pub start: i64,
+    /// How far ahead of the watermark a record may be.
+    pub skew: i64,
+    /// How far behind the watermark a record may be.
+    pub lateness: i64,
+    /// How many records are admitted at most.
+    pub records: u64,
+}
