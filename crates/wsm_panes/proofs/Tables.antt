@@ -1,0 +1,72 @@
+-- What an edit of the sorted list does to the map that it stands for.
+use Rattle.std.proofs.Common.{◌≡◌, ◌⊎◌, ◌<◌, ◌≤◌, ◌+◌, ℕ, List, [], length, inl, inr, arith, Bool, true, false, T, cond, None, sym, refl, ap, ◌∙◌}
+use Rattle.std.specs.Prelude.{filter, not}
+use Rattle.std.specs.Option.{is_some}
+use Rattle.std.proofs.lemmas.Bool.{false≢true}
+use Rattle.std.specs.Ordering.{eq_by_cmp}
+use Rattle.std.specs.Cmp.{eq_by_cmp_equiv}
+use Rattle.std.specs.declared.cmp.Ordering.TheVariants.{Equal}
+use Rattle.std.specs.FinMap.{FinMap, empty, empty_of_len, entries, find, from_sorted, get, insert, is_sorted, len, put, remove, retain_keys, entries-from_sorted, entries-insert, get-from_sorted, get-remove, get-retain_keys, len-entries, same_entries_map, same_map}
+use Rattle.std.specs.FinMap.Entries.{find-where_key, length-put, is_sorted-put, is_sorted-where_key}
+use Rattle.wsm_panes.specs.declared.pane.Place.{Place}
+use Rattle.wsm_panes.specs.declared.pane.Pane.{Pane}
+use Rattle.wsm_panes.specs.Place.{place_cmp, is_other}
+use Rattle.wsm_panes.proofs.Entries.{exact_places, places_total}
+
+to_T : (b : Bool) → b ≡ true → T b
+to_T b e = rw e tt
+
+from_T : (b : Bool) → T b → b ≡ true
+from_T true t = refl
+from_T false t = absurd t
+
+turned : {A : Type 0} (b : Bool) (x y : A) → cond (not b) x y ≡ cond b y x
+turned true x y = refl
+turned false x y = refl
+
+alike : (p : Place → Bool) (q x : Place) → place_cmp q x ≡ Equal → p x ≡ p q
+alike p q x t = ap p (sym (exact_places q x t))
+
+abbrev pub map_of : List (Place × Pane) → FinMap place_cmp Pane
+map_of es = from_sorted es
+
+fits_in : (b : Bool) (n room : ℕ) → (b ≡ true) ⊎ (n < room) → n ≤ room → cond b n (n + 1) ≤ room
+fits_in true n room h le = le
+fits_in false n room h le = elim h [ inl bad ↦ absurd (false≢true bad) | inr lt ↦ omega arith ]
+
+module _ (es : List (Place × Pane)) (sorted : is_sorted place_cmp es ≡ true) where
+  pub entries_are : entries (map_of es) ≡ es
+  entries_are = entries-from_sorted place_cmp es (to_T _ sorted)
+
+  pub get_is : (q : Place) → get (map_of es) q ≡ find place_cmp q es
+  get_is q = get-from_sorted place_cmp es q (to_T _ sorted)
+
+  pub len_is : len (map_of es) ≡ length es
+  len_is = len-entries (map_of es) ∙ ap length entries_are
+
+  pub put_sorted : (k : Place) (v : Pane) → is_sorted place_cmp (put place_cmp k v es) ≡ true
+  put_sorted k v = from_T _ (is_sorted-put place_cmp places_total k v es (to_T _ sorted))
+
+  pub put_is : (k : Place) (v : Pane) → map_of (put place_cmp k v es) ≡ insert (map_of es) k v
+  put_is k v = same_entries_map _ _ (entries-from_sorted place_cmp _ (to_T _ (put_sorted k v)) ∙ sym (entries-insert places_total (map_of es) k v ∙ ap (put place_cmp k v) entries_are))
+
+  pub kept_sorted : (p : Place → Bool) → is_sorted place_cmp (filter (λ e. p e.0) es) ≡ true
+  kept_sorted p = from_T _ (is_sorted-where_key place_cmp p es (to_T _ sorted))
+
+  pub kept_is : (p : Place → Bool) → map_of (filter (λ e. p e.0) es) ≡ retain_keys (map_of es) p
+  kept_is p = same_map places_total exact_places _ _ (λ q.
+      get-from_sorted place_cmp _ q (to_T _ (kept_sorted p)) ∙ find-where_key place_cmp p q (alike p q) es
+      ∙ sym (get-retain_keys (map_of es) p q (alike p q) ∙ ap (λ o. cond (p q) o None) (get_is q)))
+
+  pub others_are : (k : Place) → map_of (filter (λ e. is_other k e.0) es) ≡ remove (map_of es) k
+  others_are k = kept_is (is_other k) ∙ same_map places_total exact_places _ _ (λ q.
+      get-retain_keys (map_of es) (is_other k) q (alike (is_other k) q) ∙ turned (eq_by_cmp place_cmp k q) _ _
+      ∙ ap (λ b. cond b None (get (map_of es) q)) ((eq_by_cmp_equiv places_total).symm k q)
+      ∙ sym (get-remove places_total (map_of es) k q))
+
+  -- the entry is there, or there is room for it
+  pub put_fits : (k : Place) (v : Pane) (room : ℕ) → (is_some (find place_cmp k es) ≡ true) ⊎ (length es < room) → length es ≤ room → length (put place_cmp k v es) ≤ room
+  put_fits k v room h le = rw (length-put place_cmp places_total k v es (to_T _ sorted)) (fits_in (is_some (find place_cmp k es)) (length es) room h le)
+
+pub map_of-nil : map_of [] ≡ empty
+map_of-nil = empty_of_len (map_of []) (len_is [] refl)

@@ -1,0 +1,27 @@
+use Rattle.std.proofs.Common.{◌≡◌, ◌⊎◌, ◌<◌, ◌≤◌, length, ap, arith, true, inl, inr}
+use Rattle.std.specs.FinMap as map
+use Rattle.wsm_panes.specs.Place.{place_cmp}
+use Rattle.wsm_panes.proofs.Tables.{get_is, len_is, put_sorted, put_is, put_fits}
+use Rattle.wsm_panes.proofs.list.ListTablePaneTable.put.Goals as goal
+
+pub put_pane-requires-clause-room : goal.put_pane-requires-clause-room
+put_pane-requires-clause-room c = elim (rw (← c.self.view_is) at c.requires) [
+  | inl there ↦ inl (rw (get_is c.self.inside.entries.items c.self.invariant.0 c.args.place) at there)
+  | inr room ↦ inr (omega (arith, len_is c.self.inside.entries.items c.self.invariant.0, c.self.inside.entries.ok.0, c.self.invariant.2))
+]
+
+pub invariant_of-self : goal.invariant_of-self
+invariant_of-self c =
+    let room : (map.contains_key (map.from_sorted c.self.inside.entries.items) c.args.place ≡ true) ⊎ (map.len (map.from_sorted {R = place_cmp} c.self.inside.entries.items) < c.self.inside.room) = rw (← c.self.view_is) at c.requires in
+    let fits : length (map.put place_cmp c.args.place c.args.pane c.self.inside.entries.items) ≤ c.self.inside.room =
+    put_fits c.self.inside.entries.items c.self.invariant.0 c.args.place c.args.pane _
+    (elim room [ inl there ↦ inl (rw (get_is c.self.inside.entries.items c.self.invariant.0 c.args.place) at there) | inr left ↦ inr (omega (arith, len_is c.self.inside.entries.items c.self.invariant.0)) ])
+    (omega (arith, c.self.inside.entries.ok.0, c.self.invariant.1))
+    in (
+      rw c.put_pane.ensures.items (put_sorted c.self.inside.entries.items c.self.invariant.0 c.args.place c.args.pane),
+      omega (arith, fits, ap length c.put_pane.ensures.items, c.put_pane.new.entries.ok.0),
+      omega (arith, c.put_pane.ensures.capacity, c.self.invariant.2),
+    )
+
+pub returns-clause-panes : goal.returns-clause-panes
+returns-clause-panes c = rw (c.put_pane.ensures.items, ← c.self.view_is) (put_is c.self.inside.entries.items c.self.invariant.0 c.args.place c.args.pane)
