@@ -1,0 +1,6 @@
+pub mod Program
+pub mod View
+pub mod Spelling
+pub mod Reading
+pub mod Text
+pub mod Vectors

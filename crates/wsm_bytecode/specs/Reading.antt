@@ -1,0 +1,353 @@
+-- Reading the bytes of a program from the left, up to the first fault.
+use Rattle.std.specs.Prelude.{◌≡◌, ℕ, zero, suc, Bool, ◌&&◌, not, List, [], ◌∷◌, length, take, drop, ℤ, pos, int_le, nat_lt, is_some, Result, Ok, Err, bytes_eq, ◌==◌, if◌then◌else◌}
+use Rattle.std.specs.Int.{Width, w8, w16, w64, byte_len, from_le_bytes, cast_signed}
+use Rattle.wsm_bytecode.specs.declared.instr.CellType.{CellType}
+use Rattle.wsm_bytecode.specs.declared.instr.CellType.TheVariants as types
+use Rattle.wsm_record.specs.declared.Kind.{Kind}
+use Rattle.wsm_record.specs.declared.Kind.TheVariants.{Sum, Min, Max, Any, All}
+use Rattle.wsm_bytecode.specs.declared.instr.Instr.{Instr}
+use Rattle.wsm_bytecode.specs.declared.instr.Instr.TheVariants.{PushInt, PushBool, PushEnum, Field, Key, Acc, Count, Add, Sub, Mul, Div, Rem, Neg, Eq, Ne, Lt, Le, Gt, Ge, Not, Jump, JumpIfFalse, Fold, Return}
+use Rattle.wsm_windows.specs.declared.Shape.{Shape}
+use Rattle.wsm_windows.specs.declared.Shape.TheVariants.{Fixed, Sliding, Session}
+use Rattle.wsm_record.specs.declared.Mode.{Mode}
+use Rattle.wsm_record.specs.declared.Mode.TheVariants.{Discarding, Accumulating}
+use Rattle.wsm_record.specs.declared.Form.{Form}
+use Rattle.wsm_record.specs.declared.Form.TheVariants.{Panes, Istream, Dstream, Rstream}
+use Rattle.wsm_bytecode.specs.declared.refusal.DecodeRefusal.{DecodeRefusal}
+use Rattle.wsm_bytecode.specs.declared.refusal.DecodeRefusal.TheVariants.{BadMagic, Version, Truncated, UnknownOpcode, Operand, TrailingBytes, Memory}
+use Rattle.wsm_bytecode.specs.Program.{Name, Header, Program, enum_names, is_name_of, is_within, latest_time, is_span, is_size, is_form_of, is_stated}
+use Rattle.wsm_record.specs.Schema.{FieldType, Int, Truth, Enum, DeclaredField, Declared}
+use Rattle.wsm_bytecode.specs.declared.program.Budget.{Budget}
+use Rattle.wsm_record.specs.Name.{is_between, is_name, is_among}
+use Rattle.wsm_bytecode.specs.Spelling.{magic}
+
+-- a value and the bytes after it, or the first fault
+abbrev pub Read : Type 0 → Type 0
+Read A = Result (A × List ℕ) DecodeRefusal
+
+infixl 10 ◌>>=◌
+abbrev pub ◌>>=◌ : {A B : Type 0} → Result A DecodeRefusal → (A → Result B DecodeRefusal) → Result B DecodeRefusal
+(Ok x) >>= f = f x
+(Err e) >>= f = Err e
+
+abbrev pub bytes_at : ℕ → List ℕ → Read (List ℕ)
+bytes_at n bytes = if nat_lt (length bytes) n then Err Truncated else Ok (take n bytes, drop n bytes)
+
+abbrev pub number_at : Width → List ℕ → Read ℕ
+number_at w bytes = do
+  b ← bytes_at (byte_len w) bytes
+  Ok (from_le_bytes w b.0, b.1)
+
+abbrev pub signed_at : List ℕ → Read ℤ
+signed_at bytes = do
+  n ← number_at w64 bytes
+  Ok (cast_signed w64 n.0, n.1)
+
+-- a value is judged once its last byte was read
+abbrev pub judged : {A : Type 0} → (A → Bool) → Read A → Read A
+judged good read = do
+  x ← read
+  if good x.0 then Ok x else Err Operand
+
+-- so many, one after the other
+abbrev pub several : {A : Type 0} → (List ℕ → Read A) → ℕ → List ℕ → Read (List A)
+several one zero bytes = Ok ([], bytes)
+several one (suc n) bytes = do
+  first ← one bytes
+  others ← several one n first.1
+  Ok (first.0 ∷ others.0, others.1)
+
+-- the length is judged at its own byte
+abbrev pub name_at : List ℕ → Read Name
+name_at bytes = do
+  n ← judged (is_between 1 32) (number_at w8 bytes)
+  judged is_name (bytes_at n.0 n.1)
+
+-- so many names, none of them one of those before
+abbrev pub names_after : List Name → ℕ → List ℕ → Read (List Name)
+names_after before zero bytes = Ok ([], bytes)
+names_after before (suc n) bytes = do
+  first ← judged (λ x. not (is_among x before)) (name_at bytes)
+  others ← names_after (first.0 ∷ before) n first.1
+  Ok (first.0 ∷ others.0, others.1)
+
+abbrev pub names_at : List ℕ → Read (List Name)
+names_at bytes = do
+  n ← judged (is_between 1 1000) (number_at w16 bytes)
+  names_after [] n.0 n.1
+
+-- two numbers are judged together at the later one
+abbrev pub interval_at : List ℕ → Read FieldType
+interval_at bytes = do
+  lo ← signed_at bytes
+  hi ← judged (λ hi. int_le lo.0 hi) (signed_at lo.1)
+  Ok (Int lo.0 hi.0, hi.1)
+
+abbrev pub enum_at : List ℕ → Read FieldType
+enum_at bytes = do
+  ns ← names_at bytes
+  Ok (Enum ns.0, ns.1)
+
+abbrev pub field_type_by : ℕ → List ℕ → Read FieldType
+field_type_by zero bytes = interval_at bytes
+field_type_by (suc zero) bytes = Ok (Truth, bytes)
+field_type_by _ bytes = enum_at bytes
+
+abbrev pub field_type_at : List ℕ → Read FieldType
+field_type_at bytes = do
+  tag ← judged (is_between 0 2) (number_at w8 bytes)
+  field_type_by tag.0 tag.1
+
+abbrev pub fields_after : List Name → ℕ → List ℕ → Read (List DeclaredField)
+fields_after before zero bytes = Ok ([], bytes)
+fields_after before (suc n) bytes = do
+  first ← judged (λ x. not (is_among x before)) (name_at bytes)
+  type ← field_type_at first.1
+  others ← fields_after (first.0 ∷ before) n type.1
+  Ok (record { name = first.0; type = type.0 } ∷ others.0, others.1)
+
+abbrev pub schema_at : List ℕ → Read Declared
+schema_at bytes = do
+  keys ← names_at bytes
+  n ← judged (is_between 0 16) (number_at w8 keys.1)
+  fields ← fields_after [] n.0 n.1
+  Ok (record { keys = keys.0; fields = fields.0 }, fields.1)
+
+abbrev pub fixed_at : List ℕ → Read Shape
+fixed_at bytes = do
+  size ← judged is_size (signed_at bytes)
+  Ok (Fixed size.0, size.1)
+
+abbrev pub sliding_at : List ℕ → Read Shape
+sliding_at bytes = do
+  size ← judged is_size (signed_at bytes)
+  period ← judged (λ d. is_size d && int_le d size.0) (signed_at size.1)
+  Ok (Sliding size.0 period.0, period.1)
+
+abbrev pub session_at : List ℕ → Read Shape
+session_at bytes = do
+  gap ← judged is_size (signed_at bytes)
+  Ok (Session gap.0, gap.1)
+
+abbrev pub shape_by : ℕ → List ℕ → Read Shape
+shape_by zero bytes = fixed_at bytes
+shape_by (suc zero) bytes = sliding_at bytes
+shape_by _ bytes = session_at bytes
+
+abbrev pub shape_at : List ℕ → Read Shape
+shape_at bytes = do
+  tag ← judged (is_between 0 2) (number_at w8 bytes)
+  shape_by tag.0 tag.1
+
+abbrev pub mode_by : ℕ → Mode
+mode_by zero = Discarding
+mode_by _ = Accumulating
+
+abbrev pub mode_at : List ℕ → Read Mode
+mode_at bytes = do
+  tag ← judged (is_between 0 1) (number_at w8 bytes)
+  Ok (mode_by tag.0, tag.1)
+
+abbrev pub form_by : ℕ → Form
+form_by zero = Panes
+form_by (suc zero) = Istream
+form_by (suc (suc zero)) = Dstream
+form_by _ = Rstream
+
+-- judged beside the mode
+abbrev pub form_at : Mode → List ℕ → Read Form
+form_at m bytes = do
+  tag ← judged (λ n. is_between 0 3 n && is_form_of m (form_by n)) (number_at w8 bytes)
+  Ok (form_by tag.0, tag.1)
+
+abbrev pub kind_by : ℕ → Kind
+kind_by zero = Sum
+kind_by (suc zero) = Min
+kind_by (suc (suc zero)) = Max
+kind_by (suc (suc (suc zero))) = Any
+kind_by _ = All
+
+abbrev pub kind_at : List ℕ → Read Kind
+kind_at bytes = do
+  tag ← judged (is_between 0 4) (number_at w8 bytes)
+  Ok (kind_by tag.0, tag.1)
+
+abbrev pub kinds_at : List ℕ → Read (List Kind)
+kinds_at bytes = do
+  n ← judged (is_between 0 16) (number_at w8 bytes)
+  several kind_at n.0 n.1
+
+-- an ENUM that there is
+abbrev pub enum_number_at : Declared → List ℕ → Read ℕ
+enum_number_at s bytes = judged (λ e. is_some (enum_names s e)) (number_at w8 bytes)
+
+abbrev pub enum_column_at : Declared → List ℕ → Read CellType
+enum_column_at s bytes = do
+  e ← enum_number_at s bytes
+  Ok (types.Enum e.0, e.1)
+
+abbrev pub column_by : Declared → ℕ → List ℕ → Read CellType
+column_by s zero bytes = Ok (types.Int, bytes)
+column_by s (suc zero) bytes = Ok (types.Bool, bytes)
+column_by s _ bytes = enum_column_at s bytes
+
+abbrev pub column_at : Declared → List ℕ → Read CellType
+column_at s bytes = do
+  tag ← judged (is_between 0 2) (number_at w8 bytes)
+  column_by s tag.0 tag.1
+
+abbrev pub columns_at : Declared → List ℕ → Read (List CellType)
+columns_at s bytes = do
+  n ← judged (is_between 1 16) (number_at w8 bytes)
+  several (column_at s) n.0 n.1
+
+abbrev pub budget_at : List ℕ → Read Budget
+budget_at bytes = do
+  per_record ← judged is_stated (number_at w64 bytes)
+  per_pane ← judged is_stated (number_at w64 per_record.1)
+  held ← judged (is_between 1 100000) (number_at w64 per_pane.1)
+  Ok (record { per_record = per_record.0; per_pane = per_pane.0; held = held.0 }, held.1)
+
+-- fewer than four bytes are cut off, whatever they are
+abbrev pub magic_at : List ℕ → Read (List ℕ)
+magic_at bytes = do
+  m ← bytes_at 4 bytes
+  if bytes_eq m.0 magic then Ok m else Err BadMagic
+
+abbrev pub version_at : List ℕ → Read ℕ
+version_at bytes = do
+  v ← number_at w8 bytes
+  if v.0 == 1 then Ok v else Err Version
+
+abbrev pub header_at : List ℕ → Read Header
+header_at bytes = do
+  m ← magic_at bytes
+  version ← version_at m.1
+  schema ← schema_at version.1
+  start ← judged (is_within (pos 0) latest_time) (signed_at schema.1)
+  skew ← judged is_span (signed_at start.1)
+  lateness ← judged is_span (signed_at skew.1)
+  records ← judged is_size (signed_at lateness.1)
+  shape ← shape_at records.1
+  mode ← mode_at shape.1
+  early ← judged is_span (signed_at mode.1)
+  late ← judged is_span (signed_at early.1)
+  form ← form_at mode.0 late.1
+  kinds ← kinds_at form.1
+  columns ← columns_at schema.0 kinds.1
+  budget ← budget_at columns.1
+  Ok (
+    record {
+      schema = schema.0;
+      start = start.0;
+      skew = skew.0;
+      lateness = lateness.0;
+      records = records.0;
+      shape = shape.0;
+      mode = mode.0;
+      early = early.0;
+      late = late.0;
+      form = form.0;
+      kinds = kinds.0;
+      columns = columns.0;
+      budget = budget.0;
+    },
+    budget.1,
+  )
+
+-- ---- reading instructions
+
+abbrev pub push_int_at : List ℕ → Read Instr
+push_int_at bytes = do
+  n ← signed_at bytes
+  Ok (PushInt n.0, n.1)
+
+abbrev pub push_bool_at : List ℕ → Read Instr
+push_bool_at bytes = do
+  b ← judged (is_between 0 1) (number_at w8 bytes)
+  Ok (PushBool (b.0 == 1), b.1)
+
+-- the ENUM is judged at its own byte
+abbrev pub push_enum_at : Declared → List ℕ → Read Instr
+push_enum_at s bytes = do
+  e ← enum_number_at s bytes
+  i ← judged (is_name_of (enum_names s e.0)) (number_at w16 e.1)
+  Ok (PushEnum e.0 i.0, i.1)
+
+-- a byte that is less than a count
+abbrev pub index_at : ℕ → (ℕ → Instr) → List ℕ → Read Instr
+index_at count made bytes = do
+  i ← judged (λ i. nat_lt i count) (number_at w8 bytes)
+  Ok (made i.0, i.1)
+
+-- a target isn't judged
+abbrev pub target_at : (ℕ → Instr) → List ℕ → Read Instr
+target_at made bytes = do
+  t ← number_at w16 bytes
+  Ok (made t.0, t.1)
+
+abbrev pub instr_by : Header → ℕ → List ℕ → Read Instr
+instr_by h c bytes =
+    if c == 1 then push_int_at bytes
+    else if c == 2 then push_bool_at bytes
+    else if c == 3 then push_enum_at h.schema bytes
+    else if c == 4 then index_at (length h.schema.fields) Field bytes
+    else if c == 5 then Ok (Key, bytes)
+    else if c == 6 then index_at (length h.kinds) Acc bytes
+    else if c == 7 then Ok (Count, bytes)
+    else if c == 16 then Ok (Add, bytes)
+    else if c == 17 then Ok (Sub, bytes)
+    else if c == 18 then Ok (Mul, bytes)
+    else if c == 19 then Ok (Div, bytes)
+    else if c == 20 then Ok (Rem, bytes)
+    else if c == 21 then Ok (Neg, bytes)
+    else if c == 32 then Ok (Eq, bytes)
+    else if c == 33 then Ok (Ne, bytes)
+    else if c == 34 then Ok (Lt, bytes)
+    else if c == 35 then Ok (Le, bytes)
+    else if c == 36 then Ok (Gt, bytes)
+    else if c == 37 then Ok (Ge, bytes)
+    else if c == 40 then Ok (Not, bytes)
+    else if c == 48 then target_at Jump bytes
+    else if c == 49 then target_at JumpIfFalse bytes
+    else if c == 64 then index_at (length h.kinds) Fold bytes
+    else if c == 80 then Ok (Return, bytes)
+    else Err UnknownOpcode
+
+abbrev pub instr_at : Header → List ℕ → Read Instr
+instr_at h bytes = do
+  c ← number_at w8 bytes
+  instr_by h c.0 c.1
+
+abbrev pub code_at : Header → List ℕ → Read (List Instr)
+code_at h bytes = do
+  n ← judged (is_between 0 1000) (number_at w16 bytes)
+  several (instr_at h) n.0 n.1
+
+abbrev pub program_at : List ℕ → Read Program
+program_at bytes = do
+  h ← header_at bytes
+  selection ← code_at h.0 h.1
+  update ← code_at h.0 selection.1
+  fire ← code_at h.0 update.1
+  Ok (record { header = h.0; selection = selection.0; update = update.0; fire = fire.0 }, fire.1)
+
+abbrev pub all_read : {A : Type 0} → A → List ℕ → Result A DecodeRefusal
+all_read x [] = Ok x
+all_read x (b ∷ bytes) = Err TrailingBytes
+
+-- all of the bytes
+abbrev pub decode : List ℕ → Result Program DecodeRefusal
+decode bytes = do
+  p ← program_at bytes
+  all_read p.0 p.1
+
+-- ---- what a reader of the code answers: what reading gives, seen by view, unless memory ran out
+
+abbrev pub Fails : {Y : Type 0} → DecodeRefusal → Result Y DecodeRefusal → Type 0
+Fails Memory read = Unit {0}
+Fails f read = read ≡ Err f
+
+abbrev pub Gives : {X Y : Type 0} → (X → Y) → Result X DecodeRefusal → Result Y DecodeRefusal → Type 0
+Gives view (Ok x) read = read ≡ Ok (view x)
+Gives view (Err e) read = Fails e read

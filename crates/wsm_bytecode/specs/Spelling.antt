@@ -1,0 +1,131 @@
+-- The one spelling of a program as bytes, version 1. Numbers stand with their lowest byte first.
+use Rattle.std.specs.Prelude.{ℕ, Bool, true, false, List, ◌++◌, length, ℤ, codes}
+use Rattle.std.specs.List.{flat_map}
+use Rattle.std.specs.Int.{w8, w16, w64, to_le_bytes, cast_unsigned}
+use Rattle.wsm_bytecode.specs.declared.instr.CellType.{CellType}
+use Rattle.wsm_bytecode.specs.declared.instr.CellType.TheVariants as types
+use Rattle.wsm_record.specs.declared.Kind.{Kind}
+use Rattle.wsm_record.specs.declared.Kind.TheVariants.{Sum, Min, Max, Any, All}
+use Rattle.wsm_bytecode.specs.declared.instr.Instr.{Instr}
+use Rattle.wsm_bytecode.specs.declared.instr.Instr.TheVariants.{PushInt, PushBool, PushEnum, Field, Key, Acc, Count, Add, Sub, Mul, Div, Rem, Neg, Eq, Ne, Lt, Le, Gt, Ge, Not, Jump, JumpIfFalse, Fold, Return}
+use Rattle.wsm_windows.specs.declared.Shape.{Shape}
+use Rattle.wsm_windows.specs.declared.Shape.TheVariants.{Fixed, Sliding, Session}
+use Rattle.wsm_record.specs.declared.Mode.{Mode}
+use Rattle.wsm_record.specs.declared.Mode.TheVariants.{Discarding, Accumulating}
+use Rattle.wsm_record.specs.declared.Form.{Form}
+use Rattle.wsm_record.specs.declared.Form.TheVariants.{Panes, Istream, Dstream, Rstream}
+use Rattle.wsm_bytecode.specs.Program.{Name, Header, Program}
+use Rattle.wsm_record.specs.Schema.{FieldType, Int, Truth, Enum, DeclaredField, Declared}
+use Rattle.wsm_bytecode.specs.declared.program.Budget.{Budget}
+
+abbrev pub byte : ℕ → List ℕ
+byte n = to_le_bytes w8 n
+
+abbrev pub number : ℕ → List ℕ
+number n = to_le_bytes w16 n
+
+abbrev pub long : ℕ → List ℕ
+long n = to_le_bytes w64 n
+
+-- in two's complement
+abbrev pub signed : ℤ → List ℕ
+signed n = to_le_bytes w64 (cast_unsigned w64 n)
+
+abbrev pub name : Name → List ℕ
+name n = byte (length n) ++ n
+
+abbrev pub names : List Name → List ℕ
+names ns = number (length ns) ++ flat_map name ns
+
+abbrev pub field_type : FieldType → List ℕ
+field_type (Int lo hi) = byte 0 ++ signed lo ++ signed hi
+field_type Truth = byte 1
+field_type (Enum ns) = byte 2 ++ names ns
+
+abbrev pub field : DeclaredField → List ℕ
+field f = name f.name ++ field_type f.type
+
+abbrev pub schema : Declared → List ℕ
+schema s = names s.keys ++ byte (length s.fields) ++ flat_map field s.fields
+
+abbrev pub shape : Shape → List ℕ
+shape (Fixed size) = byte 0 ++ signed size
+shape (Sliding size period) = byte 1 ++ signed size ++ signed period
+shape (Session gap) = byte 2 ++ signed gap
+
+abbrev pub mode : Mode → List ℕ
+mode Discarding = byte 0
+mode Accumulating = byte 1
+
+abbrev pub form : Form → List ℕ
+form Panes = byte 0
+form Istream = byte 1
+form Dstream = byte 2
+form Rstream = byte 3
+
+abbrev pub kind : Kind → List ℕ
+kind Sum = byte 0
+kind Min = byte 1
+kind Max = byte 2
+kind Any = byte 3
+kind All = byte 4
+
+abbrev pub kinds : List Kind → List ℕ
+kinds ks = byte (length ks) ++ flat_map kind ks
+
+abbrev pub column : CellType → List ℕ
+column types.Int = byte 0
+column types.Bool = byte 1
+column (types.Enum e) = byte 2 ++ byte e
+
+abbrev pub columns : List CellType → List ℕ
+columns ts = byte (length ts) ++ flat_map column ts
+
+abbrev pub budget : Budget → List ℕ
+budget b = long b.per_record ++ long b.per_pane ++ long b.held
+
+abbrev pub magic : List ℕ
+magic = codes "WSMP"
+
+abbrev pub header : Header → List ℕ
+header h = magic ++ byte 1 ++ schema h.schema
+    ++ signed h.start ++ signed h.skew ++ signed h.lateness ++ signed h.records
+    ++ shape h.shape ++ mode h.mode ++ signed h.early ++ signed h.late ++ form h.form
+    ++ kinds h.kinds ++ columns h.columns ++ budget h.budget
+
+abbrev pub truth : Bool → ℕ
+truth false = 0
+truth true = 1
+
+-- the code of the table, and the operands
+abbrev pub instr : Instr → List ℕ
+instr (PushInt n) = byte 1 ++ signed n
+instr (PushBool b) = byte 2 ++ byte (truth b)
+instr (PushEnum e i) = byte 3 ++ byte e ++ number i
+instr (Field f) = byte 4 ++ byte f
+instr Key = byte 5
+instr (Acc a) = byte 6 ++ byte a
+instr Count = byte 7
+instr Add = byte 16
+instr Sub = byte 17
+instr Mul = byte 18
+instr Div = byte 19
+instr Rem = byte 20
+instr Neg = byte 21
+instr Eq = byte 32
+instr Ne = byte 33
+instr Lt = byte 34
+instr Le = byte 35
+instr Gt = byte 36
+instr Ge = byte 37
+instr Not = byte 40
+instr (Jump t) = byte 48 ++ number t
+instr (JumpIfFalse t) = byte 49 ++ number t
+instr (Fold a) = byte 64 ++ byte a
+instr Return = byte 80
+
+abbrev pub code : List Instr → List ℕ
+code is = number (length is) ++ flat_map instr is
+
+abbrev pub spelling : Program → List ℕ
+spelling p = header p.header ++ code p.selection ++ code p.update ++ code p.fire

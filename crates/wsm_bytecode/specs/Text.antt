@@ -1,0 +1,67 @@
+-- The lines of the disassembly.
+use Rattle.std.specs.Prelude.{ℕ, suc, true, false, List, [], ◌∷◌, ◌++◌, map, ℤ, pos, codes}
+use Rattle.std.specs.List.{flat_map, join_with_byte}
+use Rattle.std.specs.Fmt.{signed_decimal}
+use Rattle.wsm_bytecode.specs.declared.instr.Instr.{Instr}
+use Rattle.wsm_bytecode.specs.declared.instr.Instr.TheVariants.{PushInt, PushBool, PushEnum, Field, Key, Acc, Count, Add, Sub, Mul, Div, Rem, Neg, Eq, Ne, Lt, Le, Gt, Ge, Not, Jump, JumpIfFalse, Fold, Return}
+use Rattle.wsm_bytecode.specs.Program.{Program}
+
+-- a word of a line: letters, or a number in decimal
+pub data Word : Type 0 where
+  Letters : (bytes : List ℕ) → Word
+  Number : (value : ℤ) → Word
+
+abbrev word : List ℕ → List Word
+word bytes = Letters bytes ∷ []
+
+-- a name and one operand that isn't negative
+abbrev with_one : List ℕ → ℕ → List Word
+with_one bytes n = Letters bytes ∷ Number (pos n) ∷ []
+
+-- the name and the operands
+abbrev pub instr_words : Instr → List Word
+instr_words (PushInt n) = Letters (codes "PUSHI") ∷ Number n ∷ []
+instr_words (PushBool false) = with_one (codes "PUSHB") 0
+instr_words (PushBool true) = with_one (codes "PUSHB") 1
+instr_words (PushEnum e i) = Letters (codes "PUSHE") ∷ Number (pos e) ∷ Number (pos i) ∷ []
+instr_words (Field f) = with_one (codes "FIELD") f
+instr_words Key = word (codes "KEY")
+instr_words (Acc a) = with_one (codes "ACC") a
+instr_words Count = word (codes "COUNT")
+instr_words Add = word (codes "ADD")
+instr_words Sub = word (codes "SUB")
+instr_words Mul = word (codes "MUL")
+instr_words Div = word (codes "DIV")
+instr_words Rem = word (codes "REM")
+instr_words Neg = word (codes "NEG")
+instr_words Eq = word (codes "EQ")
+instr_words Ne = word (codes "NE")
+instr_words Lt = word (codes "LT")
+instr_words Le = word (codes "LE")
+instr_words Gt = word (codes "GT")
+instr_words Ge = word (codes "GE")
+instr_words Not = word (codes "NOT")
+instr_words (Jump t) = with_one (codes "JMP") t
+instr_words (JumpIfFalse t) = with_one (codes "JF") t
+instr_words (Fold a) = with_one (codes "FOLD") a
+instr_words Return = word (codes "RET")
+
+-- section, place, name, operands, for the instructions from a place on
+abbrev pub section_lines : List ℕ → ℕ → List Instr → List (List Word)
+section_lines name place [] = []
+section_lines name place (i ∷ is) = (Letters name ∷ Number (pos place) ∷ instr_words i) ∷ section_lines name (suc place) is
+
+abbrev pub lines : Program → List (List Word)
+lines p = section_lines (codes "where") 0 p.selection ++ section_lines (codes "update") 0 p.update ++ section_lines (codes "fire") 0 p.fire
+
+abbrev pub word_text : Word → List ℕ
+word_text (Letters bytes) = bytes
+word_text (Number n) = signed_decimal n
+
+-- the words joined by one space
+abbrev pub line_text : List Word → List ℕ
+line_text ws = join_with_byte 32 (map word_text ws)
+
+-- each line ended by one line feed
+abbrev pub text : Program → List ℕ
+text p = flat_map (λ l. line_text l ++ 10 ∷ []) (lines p)

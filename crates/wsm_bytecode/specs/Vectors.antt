@@ -1,0 +1,139 @@
+-- Worked rows, computed by the definitions: a program, its bytes, and bytes with a fault.
+use Rattle.std.specs.Prelude.{◌≡◌, refl, ℕ, zero, suc, Bool, true, false, ◌&&◌, List, [], ◌∷◌, ◌++◌, take, length, pos, Result, Ok, Err, codes, slice_set}
+use Rattle.wsm_record.specs.Name.{is_reserved}
+use Rattle.wsm_record.specs.Schema.{Int}
+use Rattle.wsm_record.specs.declared.Kind.TheVariants.{Sum}
+use Rattle.wsm_record.specs.declared.Mode.TheVariants.{Accumulating}
+use Rattle.wsm_record.specs.declared.Form.TheVariants.{Panes}
+use Rattle.wsm_windows.specs.declared.Shape.TheVariants.{Fixed}
+use Rattle.wsm_bytecode.specs.declared.instr.CellType.TheVariants as types
+use Rattle.wsm_bytecode.specs.declared.instr.Instr.TheVariants.{PushBool, Field, Acc, Count, Fold, Return}
+use Rattle.wsm_bytecode.specs.declared.refusal.DecodeRefusal.{DecodeRefusal}
+use Rattle.wsm_bytecode.specs.declared.refusal.DecodeRefusal.TheVariants.{BadMagic, Version, Truncated, UnknownOpcode, Operand, TrailingBytes}
+use Rattle.wsm_bytecode.specs.Program.{Program, is_schema, is_header, is_section, is_program}
+use Rattle.wsm_bytecode.specs.Spelling.{spelling}
+use Rattle.wsm_bytecode.specs.Reading.{decode}
+use Rattle.wsm_bytecode.specs.Text.{Letters, Number, lines}
+
+-- counts the records of keys a and b in windows of 60, and sums their field n
+abbrev pub base : Program
+base = record {
+  header = record {
+    schema = record { keys = codes "a" ∷ codes "b" ∷ []; fields = record { name = codes "n"; type = Int (pos 0) (pos 100) } ∷ [] };
+    start = pos 0;
+    skew = pos 100;
+    lateness = pos 10;
+    records = pos 1000;
+    shape = Fixed (pos 60);
+    mode = Accumulating;
+    early = pos 0;
+    late = pos 0;
+    form = Panes;
+    kinds = Sum ∷ [];
+    columns = types.Int ∷ types.Int ∷ [];
+    budget = record { per_record = 5; per_pane = 4; held = 6 };
+  };
+  selection = PushBool true ∷ Return ∷ [];
+  update = Field 0 ∷ Fold 0 ∷ Return ∷ [];
+  fire = Count ∷ Acc 0 ∷ PushBool true ∷ Return ∷ [];
+}
+
+-- magic, version, keys, field
+abbrev schema_bytes : List ℕ
+schema_bytes =
+    87 ∷ 83 ∷ 77 ∷ 80 ∷ 1 ∷ 2 ∷ 0 ∷ 1 ∷ 97 ∷ 1 ∷ 98
+    ∷ 1 ∷ 1 ∷ 110 ∷ 0 ∷ 0 ∷ 0 ∷ 0 ∷ 0 ∷ 0 ∷ 0 ∷ 0 ∷ 0 ∷ 100 ∷ 0 ∷ 0 ∷ 0 ∷ 0 ∷ 0 ∷ 0 ∷ 0 ∷ []
+
+-- clock, shape, mode, triggers, form
+abbrev clock_bytes : List ℕ
+clock_bytes =
+    0 ∷ 0 ∷ 0 ∷ 0 ∷ 0 ∷ 0 ∷ 0 ∷ 0 ∷ 100 ∷ 0 ∷ 0 ∷ 0 ∷ 0 ∷ 0 ∷ 0 ∷ 0 ∷ 10 ∷ 0 ∷ 0 ∷ 0 ∷ 0 ∷ 0 ∷ 0 ∷ 0 ∷ 232 ∷ 3 ∷ 0 ∷ 0 ∷ 0 ∷ 0 ∷ 0 ∷ 0
+    ∷ 0 ∷ 60 ∷ 0 ∷ 0 ∷ 0 ∷ 0 ∷ 0 ∷ 0 ∷ 0
+    ∷ 1 ∷ 0 ∷ 0 ∷ 0 ∷ 0 ∷ 0 ∷ 0 ∷ 0 ∷ 0 ∷ 0 ∷ 0 ∷ 0 ∷ 0 ∷ 0 ∷ 0 ∷ 0 ∷ 0 ∷ 0 ∷ []
+
+-- accumulators, columns, budget
+abbrev column_bytes : List ℕ
+column_bytes =
+    1 ∷ 0 ∷ 2 ∷ 0 ∷ 0
+    ∷ 5 ∷ 0 ∷ 0 ∷ 0 ∷ 0 ∷ 0 ∷ 0 ∷ 0 ∷ 4 ∷ 0 ∷ 0 ∷ 0 ∷ 0 ∷ 0 ∷ 0 ∷ 0 ∷ 6 ∷ 0 ∷ 0 ∷ 0 ∷ 0 ∷ 0 ∷ 0 ∷ 0 ∷ []
+
+-- the three sections
+abbrev code_bytes : List ℕ
+code_bytes = 2 ∷ 0 ∷ 2 ∷ 1 ∷ 80 ∷ 3 ∷ 0 ∷ 4 ∷ 0 ∷ 64 ∷ 0 ∷ 80 ∷ 4 ∷ 0 ∷ 7 ∷ 6 ∷ 0 ∷ 2 ∷ 1 ∷ 80 ∷ []
+
+abbrev pub base_bytes : List ℕ
+base_bytes = schema_bytes ++ (clock_bytes ++ (column_bytes ++ code_bytes))
+
+base_length : length base_bytes ≡ 139
+base_length = refl
+
+base_spelled : spelling base ≡ base_bytes
+base_spelled = refl
+
+base_read : decode base_bytes ≡ Ok base
+unfolding is_reserved
+base_read = refl
+
+base_allowed : is_program base ≡ true
+unfolding is_program is_header is_section is_schema is_reserved
+base_allowed = refl
+
+other_version : decode (slice_set base_bytes 4 7) ≡ Err Version
+other_version = refl
+
+-- byte 10 is that of the first key
+repeated_key : decode (slice_set base_bytes 10 97) ≡ Err Operand
+unfolding is_reserved
+repeated_key = refl
+
+-- byte 127 names a second field
+no_such_field : decode (slice_set base_bytes 127 1) ≡ Err Operand
+unfolding is_reserved
+no_such_field = refl
+
+-- byte 133 is no instruction
+no_such_code : decode (slice_set base_bytes 133 127) ≡ Err UnknownOpcode
+unfolding is_reserved
+no_such_code = refl
+
+one_more : decode (base_bytes ++ 0 ∷ []) ≡ Err TrailingBytes
+unfolding is_reserved
+one_more = refl
+
+abbrev is_truncated : Result Program DecodeRefusal → Bool
+is_truncated (Err Truncated) = true
+is_truncated _ = false
+
+-- the first so many beginnings, the longest first
+abbrev beginnings_truncated : ℕ → Bool
+beginnings_truncated zero = true
+beginnings_truncated (suc n) = is_truncated (decode (take n base_bytes)) && beginnings_truncated n
+
+each_beginning : beginnings_truncated 139 ≡ true
+unfolding is_reserved
+each_beginning = refl
+
+other_magic : decode (codes "WSMQ") ≡ Err BadMagic
+other_magic = refl
+
+-- fewer than four bytes, whatever they are
+short_and_other : decode (codes "XY") ≡ Err Truncated
+short_and_other = refl
+
+-- a value is judged once its last byte was read, so the repeated key comes before the cut
+cut_after_repeated_key : decode (take 11 (slice_set base_bytes 10 97)) ≡ Err Operand
+unfolding is_reserved
+cut_after_repeated_key = refl
+
+nine_lines : lines base
+    ≡ ((Letters (codes "where") ∷ Number (pos 0) ∷ Letters (codes "PUSHB") ∷ Number (pos 1) ∷ [])
+    ∷ (Letters (codes "where") ∷ Number (pos 1) ∷ Letters (codes "RET") ∷ [])
+    ∷ (Letters (codes "update") ∷ Number (pos 0) ∷ Letters (codes "FIELD") ∷ Number (pos 0) ∷ [])
+    ∷ (Letters (codes "update") ∷ Number (pos 1) ∷ Letters (codes "FOLD") ∷ Number (pos 0) ∷ [])
+    ∷ (Letters (codes "update") ∷ Number (pos 2) ∷ Letters (codes "RET") ∷ [])
+    ∷ (Letters (codes "fire") ∷ Number (pos 0) ∷ Letters (codes "COUNT") ∷ [])
+    ∷ (Letters (codes "fire") ∷ Number (pos 1) ∷ Letters (codes "ACC") ∷ Number (pos 0) ∷ [])
+    ∷ (Letters (codes "fire") ∷ Number (pos 2) ∷ Letters (codes "PUSHB") ∷ Number (pos 1) ∷ [])
+    ∷ (Letters (codes "fire") ∷ Number (pos 3) ∷ Letters (codes "RET") ∷ [])
+    ∷ [])
+nine_lines = refl

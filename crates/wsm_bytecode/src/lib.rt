@@ -1,0 +1,23 @@
+//! Programs of the stream machine: their instructions, their one spelling as bytes, their listing.
+//!
+//! A [`Program`] is a [`Header`] and three sections of instructions: `where` selects records,
+//! `update` folds a record into its pane's accumulators, and `fire` computes the row of a pane. A
+//! program always names only fields, accumulators and names that its header has, and its numbers
+//! lie in their ranges: [`Program::new`] and [`decode`] refuse anything else.
+//!
+//! - `instr`: the instruction table
+//! - `program`: headers and programs
+//! - `refusal`: why bytes are no program
+//! - `numbers`, `names`, `settings`, `code`, `reading`: from bytes to a program
+//! - `writing`: from a program to its bytes
+//! - `judging`: the same checks on a program put together by hand
+//! - `listing`: a line of text for each instruction
+#![tactic(auto)]
+
+pub use instr::{CellType, Instr, SectionId};
+pub use program::{Budget, Header, Program, Section};
+pub use refusal::DecodeRefusal;
+
+mod instr;
+mod program;
+mod refusal;
