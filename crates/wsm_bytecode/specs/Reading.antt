@@ -58,7 +58,7 @@ several one (suc n) bytes = do
   Ok (first.0 ∷ others.0, others.1)
 
 -- the length is judged at its own byte
-abbrev pub name_at : List ℕ → Read Name
+unfoldable pub name_at : List ℕ → Read Name
 name_at bytes = do
   n ← judged (is_between 1 32) (number_at w8 bytes)
   judged is_name (bytes_at n.0 n.1)
@@ -71,19 +71,19 @@ names_after before (suc n) bytes = do
   others ← names_after (first.0 ∷ before) n first.1
   Ok (first.0 ∷ others.0, others.1)
 
-abbrev pub names_at : List ℕ → Read (List Name)
+unfoldable pub names_at : List ℕ → Read (List Name)
 names_at bytes = do
   n ← judged (is_between 1 1000) (number_at w16 bytes)
   names_after [] n.0 n.1
 
 -- two numbers are judged together at the later one
-abbrev pub interval_at : List ℕ → Read FieldType
+unfoldable pub interval_at : List ℕ → Read FieldType
 interval_at bytes = do
   lo ← signed_at bytes
   hi ← judged (λ hi. int_le lo.0 hi) (signed_at lo.1)
   Ok (Int lo.0 hi.0, hi.1)
 
-abbrev pub enum_at : List ℕ → Read FieldType
+unfoldable pub enum_at : List ℕ → Read FieldType
 enum_at bytes = do
   ns ← names_at bytes
   Ok (Enum ns.0, ns.1)
@@ -93,7 +93,7 @@ field_type_by zero bytes = interval_at bytes
 field_type_by (suc zero) bytes = Ok (Truth, bytes)
 field_type_by _ bytes = enum_at bytes
 
-abbrev pub field_type_at : List ℕ → Read FieldType
+unfoldable pub field_type_at : List ℕ → Read FieldType
 field_type_at bytes = do
   tag ← judged (is_between 0 2) (number_at w8 bytes)
   field_type_by tag.0 tag.1
@@ -106,25 +106,25 @@ fields_after before (suc n) bytes = do
   others ← fields_after (first.0 ∷ before) n type.1
   Ok (record { name = first.0; type = type.0 } ∷ others.0, others.1)
 
-abbrev pub schema_at : List ℕ → Read Declared
+unfoldable pub schema_at : List ℕ → Read Declared
 schema_at bytes = do
   keys ← names_at bytes
   n ← judged (is_between 0 16) (number_at w8 keys.1)
   fields ← fields_after [] n.0 n.1
   Ok (record { keys = keys.0; fields = fields.0 }, fields.1)
 
-abbrev pub fixed_at : List ℕ → Read Shape
+unfoldable pub fixed_at : List ℕ → Read Shape
 fixed_at bytes = do
   size ← judged is_size (signed_at bytes)
   Ok (Fixed size.0, size.1)
 
-abbrev pub sliding_at : List ℕ → Read Shape
+unfoldable pub sliding_at : List ℕ → Read Shape
 sliding_at bytes = do
   size ← judged is_size (signed_at bytes)
   period ← judged (λ d. is_size d && int_le d size.0) (signed_at size.1)
   Ok (Sliding size.0 period.0, period.1)
 
-abbrev pub session_at : List ℕ → Read Shape
+unfoldable pub session_at : List ℕ → Read Shape
 session_at bytes = do
   gap ← judged is_size (signed_at bytes)
   Ok (Session gap.0, gap.1)
@@ -134,7 +134,7 @@ shape_by zero bytes = fixed_at bytes
 shape_by (suc zero) bytes = sliding_at bytes
 shape_by _ bytes = session_at bytes
 
-abbrev pub shape_at : List ℕ → Read Shape
+unfoldable pub shape_at : List ℕ → Read Shape
 shape_at bytes = do
   tag ← judged (is_between 0 2) (number_at w8 bytes)
   shape_by tag.0 tag.1
@@ -143,7 +143,7 @@ abbrev pub mode_by : ℕ → Mode
 mode_by zero = Discarding
 mode_by _ = Accumulating
 
-abbrev pub mode_at : List ℕ → Read Mode
+unfoldable pub mode_at : List ℕ → Read Mode
 mode_at bytes = do
   tag ← judged (is_between 0 1) (number_at w8 bytes)
   Ok (mode_by tag.0, tag.1)
@@ -155,7 +155,7 @@ form_by (suc (suc zero)) = Dstream
 form_by _ = Rstream
 
 -- judged beside the mode
-abbrev pub form_at : Mode → List ℕ → Read Form
+unfoldable pub form_at : Mode → List ℕ → Read Form
 form_at m bytes = do
   tag ← judged (λ n. is_between 0 3 n && is_form_of m (form_by n)) (number_at w8 bytes)
   Ok (form_by tag.0, tag.1)
@@ -167,21 +167,21 @@ kind_by (suc (suc zero)) = Max
 kind_by (suc (suc (suc zero))) = Any
 kind_by _ = All
 
-abbrev pub kind_at : List ℕ → Read Kind
+unfoldable pub kind_at : List ℕ → Read Kind
 kind_at bytes = do
   tag ← judged (is_between 0 4) (number_at w8 bytes)
   Ok (kind_by tag.0, tag.1)
 
-abbrev pub kinds_at : List ℕ → Read (List Kind)
+unfoldable pub kinds_at : List ℕ → Read (List Kind)
 kinds_at bytes = do
   n ← judged (is_between 0 16) (number_at w8 bytes)
   several kind_at n.0 n.1
 
 -- an ENUM that there is
-abbrev pub enum_number_at : Declared → List ℕ → Read ℕ
+unfoldable pub enum_number_at : Declared → List ℕ → Read ℕ
 enum_number_at s bytes = judged (λ e. is_some (enum_names s e)) (number_at w8 bytes)
 
-abbrev pub enum_column_at : Declared → List ℕ → Read CellType
+unfoldable pub enum_column_at : Declared → List ℕ → Read CellType
 enum_column_at s bytes = do
   e ← enum_number_at s bytes
   Ok (types.Enum e.0, e.1)
@@ -191,17 +191,17 @@ column_by s zero bytes = Ok (types.Int, bytes)
 column_by s (suc zero) bytes = Ok (types.Bool, bytes)
 column_by s _ bytes = enum_column_at s bytes
 
-abbrev pub column_at : Declared → List ℕ → Read CellType
+unfoldable pub column_at : Declared → List ℕ → Read CellType
 column_at s bytes = do
   tag ← judged (is_between 0 2) (number_at w8 bytes)
   column_by s tag.0 tag.1
 
-abbrev pub columns_at : Declared → List ℕ → Read (List CellType)
+unfoldable pub columns_at : Declared → List ℕ → Read (List CellType)
 columns_at s bytes = do
   n ← judged (is_between 1 16) (number_at w8 bytes)
   several (column_at s) n.0 n.1
 
-abbrev pub budget_at : List ℕ → Read Budget
+unfoldable pub budget_at : List ℕ → Read Budget
 budget_at bytes = do
   per_record ← judged is_stated (number_at w64 bytes)
   per_pane ← judged is_stated (number_at w64 per_record.1)
@@ -209,17 +209,17 @@ budget_at bytes = do
   Ok (record { per_record = per_record.0; per_pane = per_pane.0; held = held.0 }, held.1)
 
 -- fewer than four bytes are cut off, whatever they are
-abbrev pub magic_at : List ℕ → Read (List ℕ)
+unfoldable pub magic_at : List ℕ → Read (List ℕ)
 magic_at bytes = do
   m ← bytes_at 4 bytes
   if bytes_eq m.0 magic then Ok m else Err BadMagic
 
-abbrev pub version_at : List ℕ → Read ℕ
+unfoldable pub version_at : List ℕ → Read ℕ
 version_at bytes = do
   v ← number_at w8 bytes
   if v.0 == 1 then Ok v else Err Version
 
-abbrev pub header_at : List ℕ → Read Header
+unfoldable pub header_at : List ℕ → Read Header
 header_at bytes = do
   m ← magic_at bytes
   version ← version_at m.1
@@ -257,36 +257,36 @@ header_at bytes = do
 
 -- ---- reading instructions
 
-abbrev pub push_int_at : List ℕ → Read Instr
+unfoldable pub push_int_at : List ℕ → Read Instr
 push_int_at bytes = do
   n ← signed_at bytes
   Ok (PushInt n.0, n.1)
 
-abbrev pub push_bool_at : List ℕ → Read Instr
+unfoldable pub push_bool_at : List ℕ → Read Instr
 push_bool_at bytes = do
   b ← judged (is_between 0 1) (number_at w8 bytes)
   Ok (PushBool (b.0 == 1), b.1)
 
 -- the ENUM is judged at its own byte
-abbrev pub push_enum_at : Declared → List ℕ → Read Instr
+unfoldable pub push_enum_at : Declared → List ℕ → Read Instr
 push_enum_at s bytes = do
   e ← enum_number_at s bytes
   i ← judged (is_name_of (enum_names s e.0)) (number_at w16 e.1)
   Ok (PushEnum e.0 i.0, i.1)
 
 -- a byte that is less than a count
-abbrev pub index_at : ℕ → (ℕ → Instr) → List ℕ → Read Instr
+unfoldable pub index_at : ℕ → (ℕ → Instr) → List ℕ → Read Instr
 index_at count made bytes = do
   i ← judged (λ i. nat_lt i count) (number_at w8 bytes)
   Ok (made i.0, i.1)
 
 -- a target isn't judged
-abbrev pub target_at : (ℕ → Instr) → List ℕ → Read Instr
+unfoldable pub target_at : (ℕ → Instr) → List ℕ → Read Instr
 target_at made bytes = do
   t ← number_at w16 bytes
   Ok (made t.0, t.1)
 
-abbrev pub instr_by : Header → ℕ → List ℕ → Read Instr
+unfoldable pub instr_by : Header → ℕ → List ℕ → Read Instr
 instr_by h c bytes =
     if c == 1 then push_int_at bytes
     else if c == 2 then push_bool_at bytes
@@ -314,17 +314,17 @@ instr_by h c bytes =
     else if c == 80 then Ok (Return, bytes)
     else Err UnknownOpcode
 
-abbrev pub instr_at : Header → List ℕ → Read Instr
+unfoldable pub instr_at : Header → List ℕ → Read Instr
 instr_at h bytes = do
   c ← number_at w8 bytes
   instr_by h c.0 c.1
 
-abbrev pub code_at : Header → List ℕ → Read (List Instr)
+unfoldable pub code_at : Header → List ℕ → Read (List Instr)
 code_at h bytes = do
   n ← judged (is_between 0 1000) (number_at w16 bytes)
   several (instr_at h) n.0 n.1
 
-abbrev pub program_at : List ℕ → Read Program
+unfoldable pub program_at : List ℕ → Read Program
 program_at bytes = do
   h ← header_at bytes
   selection ← code_at h.0 h.1
@@ -337,7 +337,7 @@ all_read x [] = Ok x
 all_read x (b ∷ bytes) = Err TrailingBytes
 
 -- all of the bytes
-abbrev pub decode : List ℕ → Result Program DecodeRefusal
+unfoldable pub decode : List ℕ → Result Program DecodeRefusal
 decode bytes = do
   p ← program_at bytes
   all_read p.0 p.1

@@ -1,0 +1,267 @@
+-- What was spelled is read again: instructions, sections and whole programs.
+use Rattle.std.proofs.Common.{lit<, leb, ◌≡◌, ℕ, zero, suc, ◌<◌, ◌≤◌, Bool, true, false, ltb, ◌&&◌, not, List, [], ◌∷◌, ◌++◌, length, ℤ, pos, Option, Some, None, is_some, Ok, refl, sym, ap, ◌∙◌, append_assoc, append-nil, arith}
+use Rattle.std.specs.Prelude.{◌==◌, slice_get}
+use Rattle.std.specs.List.{list_all, flat_map}
+use Rattle.std.specs.Int.{w8, w16}
+use Rattle.std.proofs.lemmas.Bool.{true≢false, ltb-true, leb-true, le-leb, and_parts, and_from}
+use Rattle.wsm_bytecode.specs.declared.instr.Instr.{Instr}
+use Rattle.wsm_bytecode.specs.declared.instr.Instr.TheVariants.{PushInt, PushBool, PushEnum, Field, Key, Acc, Count, Add, Sub, Mul, Div, Rem, Neg, Eq, Ne, Lt, Le, Gt, Ge, Not, Jump, JumpIfFalse, Fold, Return}
+use Rattle.wsm_bytecode.specs.Program.{Name, names_of_type, names_of_field, is_name_list, are_names_after, are_fields_after, is_field_type, Header, Program, is_name_of, is_schema, is_instr, is_section, is_header, is_program, enum_names, is_within, latest_time, is_span, is_size, is_shape, is_form_of, is_column, is_budget}
+use Rattle.wsm_record.specs.Schema.{FieldType, Int, Truth, Enum, DeclaredField, Declared}
+use Rattle.wsm_record.specs.Name.{is_name, is_among, is_between}
+use Rattle.wsm_bytecode.specs.Reading.{judged, number_at, signed_at, enum_number_at, push_int_at, push_bool_at, push_enum_at, index_at, target_at, instr_by, instr_at, code_at, several, magic_at, version_at, schema_at, shape_at, mode_at, form_at, kinds_at, columns_at, budget_at, header_at, program_at, decode}
+use Rattle.wsm_bytecode.specs.Spelling.{byte, number, signed, instr, code, magic, header, schema, shape, mode, form, kinds, columns, budget, spelling}
+use Rattle.wsm_bytecode.proofs.Numbers.{bytes_again, byte_again, short_again, signed_again, judged_again}
+use Rattle.wsm_bytecode.proofs.Parts.{tag_again, below, several_again, enum_number_again, enum_is_small, start_again, span_again, size_again, schema_again, shape_again, mode_again, form_again, kinds_again, columns_again, budget_again}
+
+instr_step : (h : Header) (c : ℕ) (mid : List ℕ) (i : Instr) (rest : List ℕ) → c < 256 → instr_by h c mid ≡ Ok (i, rest) → instr_at h (byte c ++ mid) ≡ Ok (i, rest)
+unfolding instr_at
+instr_step h c mid i rest lt e = rw (byte_again c mid lt, e) refl
+
+push_int_step : (bytes : List ℕ) (n : ℤ) (rest : List ℕ) → signed_at bytes ≡ Ok (n, rest) → push_int_at bytes ≡ Ok (PushInt n, rest)
+unfolding push_int_at
+push_int_step bytes n rest e = rw e refl
+
+push_bool_step : (bytes : List ℕ) (n : ℕ) (rest : List ℕ) → judged (is_between 0 1) (number_at w8 bytes) ≡ Ok (n, rest) → push_bool_at bytes ≡ Ok (PushBool (n == 1), rest)
+unfolding push_bool_at
+push_bool_step bytes n rest e = rw e refl
+
+push_enum_step : (s : Declared) (bytes : List ℕ) (e i : ℕ) (mid rest : List ℕ) → enum_number_at s bytes ≡ Ok (e, mid) → judged (is_name_of (enum_names s e)) (number_at w16 mid) ≡ Ok (i, rest) → push_enum_at s bytes ≡ Ok (PushEnum e i, rest)
+unfolding push_enum_at
+push_enum_step s bytes e i mid rest p q = rw (p, q) refl
+
+index_again : (count : ℕ) (made : ℕ → Instr) (i : ℕ) (rest : List ℕ) → count < 256 → ltb i count ≡ true → index_at count made (byte i ++ rest) ≡ Ok (made i, rest)
+unfolding index_at
+index_again count made i rest few h =
+    let lt : i < count = ltb-true i count h in
+    rw (judged_again (λ x. ltb x count) (number_at w8 (byte i ++ rest)) i rest (byte_again i rest (omega arith)) h) refl
+
+target_again : (made : ℕ → Instr) (t : ℕ) (rest : List ℕ) → ltb t 65536 ≡ true → target_at made (number t ++ rest) ≡ Ok (made t, rest)
+unfolding target_at
+target_again made t rest h = rw (short_again t rest (ltb-true t 65536 h)) refl
+
+names_there : (o : Option (List Name)) (i : ℕ) → is_name_of o i ≡ true → is_some o ≡ true
+names_there None i e = absurd (true≢false (sym e))
+names_there (Some ns) i e = refl
+
+few_below : (n : ℕ) → leb n 16 ≡ true → n < 256
+few_below n h =
+    let le : n ≤ 16 = leb-true n 16 h in
+    omega arith
+
+-- a name's number is below 1,000, but that it fits two bytes is all that is asked
+pub record FewParts (h : Header) : Type 0 where
+  pub fields : leb (length h.schema.fields) 16 ≡ true
+  pub kinds : leb (length h.kinds) 16 ≡ true
+  pub names : (e i : ℕ) → is_name_of (enum_names h.schema e) i ≡ true → i < 65536
+
+plain : (h : Header) (c : ℕ) (i : Instr) (rest : List ℕ) → c < 256 → instr_by h c rest ≡ Ok (i, rest) → instr_at h (byte c ++ rest) ≡ Ok (i, rest)
+plain h c i rest lt e = instr_step h c rest i rest lt e
+
+pub instr_again : (h : Header) → FewParts h → (i : Instr) (rest : List ℕ) → is_instr h i ≡ true → instr_at h (instr i ++ rest) ≡ Ok (i, rest)
+unfolding instr_by push_int_at
+instr_again h few (PushInt n) rest good = instr_step h 1 (signed n ++ rest) (PushInt n) rest (lit< tt) (push_int_step (signed n ++ rest) n rest (signed_again n rest good))
+instr_again h few (PushBool false) rest good = instr_step h 2 (byte 0 ++ rest) (PushBool false) rest (lit< tt) (push_bool_step (byte 0 ++ rest) 0 rest (tag_again 0 1 0 rest (lit< tt) refl))
+instr_again h few (PushBool true) rest good = instr_step h 2 (byte 1 ++ rest) (PushBool true) rest (lit< tt) (push_bool_step (byte 1 ++ rest) 1 rest (tag_again 0 1 1 rest (lit< tt) refl))
+instr_again h few (PushEnum e i) rest good =
+    let there = names_there (enum_names h.schema e) i good in
+    let mid = number i ++ rest in
+    instr_step h 3 (byte e ++ mid) (PushEnum e i) rest (lit< tt)
+    (push_enum_step h.schema (byte e ++ mid) e i mid rest (enum_number_again h.schema e mid (enum_is_small h.schema e few.fields there) there)
+    (judged_again (is_name_of (enum_names h.schema e)) (number_at w16 mid) i rest (short_again i rest (few.names e i good)) good))
+instr_again h few (Field f) rest good = instr_step h 4 (byte f ++ rest) (Field f) rest (lit< tt) (index_again (length h.schema.fields) Field f rest (few_below _ few.fields) good)
+instr_again h few Key rest good = plain h 5 Key rest (lit< tt) refl
+instr_again h few (Acc a) rest good = instr_step h 6 (byte a ++ rest) (Acc a) rest (lit< tt) (index_again (length h.kinds) Acc a rest (few_below _ few.kinds) good)
+instr_again h few Count rest good = plain h 7 Count rest (lit< tt) refl
+instr_again h few Add rest good = plain h 16 Add rest (lit< tt) refl
+instr_again h few Sub rest good = plain h 17 Sub rest (lit< tt) refl
+instr_again h few Mul rest good = plain h 18 Mul rest (lit< tt) refl
+instr_again h few Div rest good = plain h 19 Div rest (lit< tt) refl
+instr_again h few Rem rest good = plain h 20 Rem rest (lit< tt) refl
+instr_again h few Neg rest good = plain h 21 Neg rest (lit< tt) refl
+instr_again h few Eq rest good = plain h 32 Eq rest (lit< tt) refl
+instr_again h few Ne rest good = plain h 33 Ne rest (lit< tt) refl
+instr_again h few Lt rest good = plain h 34 Lt rest (lit< tt) refl
+instr_again h few Le rest good = plain h 35 Le rest (lit< tt) refl
+instr_again h few Gt rest good = plain h 36 Gt rest (lit< tt) refl
+instr_again h few Ge rest good = plain h 37 Ge rest (lit< tt) refl
+instr_again h few Not rest good = plain h 40 Not rest (lit< tt) refl
+instr_again h few (Jump t) rest good = instr_step h 48 (number t ++ rest) (Jump t) rest (lit< tt) (target_again Jump t rest good)
+instr_again h few (JumpIfFalse t) rest good = instr_step h 49 (number t ++ rest) (JumpIfFalse t) rest (lit< tt) (target_again JumpIfFalse t rest good)
+instr_again h few (Fold a) rest good = instr_step h 64 (byte a ++ rest) (Fold a) rest (lit< tt) (index_again (length h.kinds) Fold a rest (few_below _ few.kinds) good)
+instr_again h few Return rest good = plain h 80 Return rest (lit< tt) refl
+
+code_step : (h : Header) (bytes : List ℕ) (n : ℕ) (mid : List ℕ) (is : List Instr) (rest : List ℕ) → judged (is_between 0 1000) (number_at w16 bytes) ≡ Ok (n, mid) → several (instr_at h) n mid ≡ Ok (is, rest) → code_at h bytes ≡ Ok (is, rest)
+unfolding code_at
+code_step h bytes n mid is rest e f = rw (e, f) refl
+
+pub code_again : (h : Header) → FewParts h → (is : List Instr) (rest : List ℕ) → is_section h is ≡ true → code_at h (code is ++ rest) ≡ Ok (is, rest)
+unfolding is_section
+code_again h few is rest good =
+    let a = and_parts (leb (length is) 1000) (list_all (is_instr h) is) good in
+    let short : is_between 0 1000 (length is) ≡ true = and_from (leb 0 (length is)) (leb (length is) 1000) (le-leb _ _ (omega arith)) a.0 in
+    let mid = flat_map instr is ++ rest in
+    code_step h (number (length is) ++ mid) (length is) mid is rest
+    (judged_again (is_between 0 1000) (number_at w16 (number (length is) ++ mid)) (length is) mid (short_again (length is) mid (below (length is) 0 1000 65536 (lit< tt) short)) short)
+    (several_again (instr_at h) instr (is_instr h) (instr_again h few) is rest a.1)
+
+-- ---- the header
+
+pub regroup_15 : (a0 a1 a2 a3 a4 a5 a6 a7 a8 a9 a10 a11 a12 a13 a14 rest : List ℕ)
+    → a0 ++ a1 ++ a2 ++ a3 ++ a4 ++ a5 ++ a6 ++ a7 ++ a8 ++ a9 ++ a10 ++ a11 ++ a12 ++ a13 ++ a14 ++ rest
+    ≡ a0 ++ (a1 ++ (a2 ++ (a3 ++ (a4 ++ (a5 ++ (a6 ++ (a7 ++ (a8 ++ (a9 ++ (a10 ++ (a11 ++ (a12 ++ (a13 ++ (a14 ++ rest))))))))))))))
+regroup_15 a0 a1 a2 a3 a4 a5 a6 a7 a8 a9 a10 a11 a12 a13 a14 rest = simp append_assoc refl
+
+pub regroup_4 : (a b c d rest : List ℕ) → a ++ b ++ c ++ d ++ rest ≡ a ++ (b ++ (c ++ (d ++ rest)))
+regroup_4 a b c d rest = simp append_assoc refl
+
+list_below : (o : Option (List Name)) (ns : List Name) (i : ℕ) → is_name_list ns ≡ true → ltb i (length ns) ≡ true → i < 65536
+list_below o ns i h e =
+    let a = and_parts (is_between 1 1000 (length ns)) (are_names_after [] ns) h in
+    let le : length ns ≤ 1000 = leb-true _ _ (and_parts (leb 1 (length ns)) (leb (length ns) 1000) a.0).1 in
+    let lt : i < length ns = ltb-true i (length ns) e in
+    omega arith
+
+type_below : (t : FieldType) (i : ℕ) → is_field_type t ≡ true → is_name_of (names_of_type t) i ≡ true → i < 65536
+type_below (Int lo hi) i h e = absurd (true≢false (sym e))
+type_below Truth i h e = absurd (true≢false (sym e))
+type_below (Enum ns) i h e = list_below None ns i h e
+
+later_fields : (before : List Name) (g : DeclaredField) (fs : List DeclaredField) → are_fields_after before (g ∷ fs) ≡ true → (is_field_type g.type ≡ true) × (are_fields_after (g.name ∷ before) fs ≡ true)
+later_fields before g fs h =
+    let a = and_parts (is_name g.name) (not (is_among g.name before) && (is_field_type g.type && are_fields_after (g.name ∷ before) fs)) h in
+    let b = and_parts (not (is_among g.name before)) (is_field_type g.type && are_fields_after (g.name ∷ before) fs) a.1 in
+    and_parts (is_field_type g.type) (are_fields_after (g.name ∷ before) fs) b.1
+
+fields_below : (before : List Name) (fs : List DeclaredField) (f i : ℕ) → are_fields_after before fs ≡ true → is_name_of (names_of_field (slice_get fs f)) i ≡ true → i < 65536
+fields_below before [] f i h e = absurd (true≢false (sym e))
+fields_below before (g ∷ fs) zero i h e = type_below g.type i (later_fields before g fs h).0 e
+fields_below before (g ∷ fs) (suc f) i h e = fields_below (g.name ∷ before) fs f i (later_fields before g fs h).1 e
+
+names_below : (s : Declared) (e i : ℕ) → is_schema s ≡ true → is_name_of (enum_names s e) i ≡ true → i < 65536
+unfolding is_schema
+names_below s zero i h good = list_below None s.keys i (and_parts (is_name_list s.keys) (leb (length s.fields) 16 && are_fields_after [] s.fields) h).0 good
+names_below s (suc f) i h good =
+    let a = and_parts (is_name_list s.keys) (leb (length s.fields) 16 && are_fields_after [] s.fields) h in
+    fields_below [] s.fields f i (and_parts (leb (length s.fields) 16) (are_fields_after [] s.fields) a.1).1 good
+
+few_fields : (s : Declared) → is_schema s ≡ true → leb (length s.fields) 16 ≡ true
+unfolding is_schema
+few_fields s h =
+    let a = and_parts (is_name_list s.keys) (leb (length s.fields) 16 && are_fields_after [] s.fields) h in
+    (and_parts (leb (length s.fields) 16) (are_fields_after [] s.fields) a.1).0
+
+magic_again : (rest : List ℕ) → magic_at (magic ++ rest) ≡ Ok (magic, rest)
+unfolding magic_at
+magic_again rest = rw (bytes_again 4 magic rest refl) refl
+
+version_again : (rest : List ℕ) → version_at (byte 1 ++ rest) ≡ Ok (1, rest)
+unfolding version_at
+version_again rest = rw (byte_again 1 rest (lit< tt)) refl
+
+-- what is_header holds, part by part
+pub record HeaderParts (h : Header) : Type 0 where
+  pub schema : is_schema h.schema ≡ true
+  pub start : is_within (pos 0) latest_time h.start ≡ true
+  pub skew : is_span h.skew ≡ true
+  pub lateness : is_span h.lateness ≡ true
+  pub records : is_size h.records ≡ true
+  pub shape : is_shape h.shape ≡ true
+  pub early : is_span h.early ≡ true
+  pub late : is_span h.late ≡ true
+  pub form : is_form_of h.mode h.form ≡ true
+  pub kinds : leb (length h.kinds) 16 ≡ true
+  pub count : is_between 1 16 (length h.columns) ≡ true
+  pub columns : list_all (is_column h.schema) h.columns ≡ true
+  pub budget : is_budget h.budget ≡ true
+
+twelve : (a b c d e f g h i j k l m : Bool) → (a && (b && (c && (d && (e && (f && (g && (h && (i && (j && (k && (l && m)))))))))))) ≡ true
+    → (a ≡ true) × (b ≡ true) × (c ≡ true) × (d ≡ true) × (e ≡ true) × (f ≡ true) × (g ≡ true) × (h ≡ true) × (i ≡ true) × (j ≡ true) × (k ≡ true) × (l ≡ true) × (m ≡ true)
+twelve a b c d e f g h i j k l m p =
+    let q1 = and_parts a (b && (c && (d && (e && (f && (g && (h && (i && (j && (k && (l && m))))))))))) p in
+    let q2 = and_parts b (c && (d && (e && (f && (g && (h && (i && (j && (k && (l && m)))))))))) q1.1 in
+    let q3 = and_parts c (d && (e && (f && (g && (h && (i && (j && (k && (l && m))))))))) q2.1 in
+    let q4 = and_parts d (e && (f && (g && (h && (i && (j && (k && (l && m)))))))) q3.1 in
+    let q5 = and_parts e (f && (g && (h && (i && (j && (k && (l && m))))))) q4.1 in
+    let q6 = and_parts f (g && (h && (i && (j && (k && (l && m)))))) q5.1 in
+    let q7 = and_parts g (h && (i && (j && (k && (l && m))))) q6.1 in
+    let q8 = and_parts h (i && (j && (k && (l && m)))) q7.1 in
+    let q9 = and_parts i (j && (k && (l && m))) q8.1 in
+    let q10 = and_parts j (k && (l && m)) q9.1 in
+    let q11 = and_parts k (l && m) q10.1 in
+    let q12 = and_parts l m q11.1 in
+    (q1.0, q2.0, q3.0, q4.0, q5.0, q6.0, q7.0, q8.0, q9.0, q10.0, q11.0, q12.0, q12.1)
+
+header_parts : (h : Header) → is_header h ≡ true → HeaderParts h
+unfolding is_schema is_header
+header_parts h e =
+    let p = twelve (is_schema h.schema) (is_within (pos 0) latest_time h.start) (is_span h.skew) (is_span h.lateness) (is_size h.records) (is_shape h.shape) (is_span h.early) (is_span h.late) (is_form_of h.mode h.form)
+    (leb (length h.kinds) 16) (is_between 1 16 (length h.columns)) (list_all (is_column h.schema) h.columns) (is_budget h.budget) e in
+    record { schema = p.0; start = p.1; skew = p.2; lateness = p.3; records = p.4; shape = p.5; early = p.6; late = p.7; form = p.8; kinds = p.9; count = p.10; columns = p.11; budget = p.12 }
+
+few_parts : (h : Header) → HeaderParts h → FewParts h
+few_parts h p = record { fields = few_fields h.schema p.schema; kinds = p.kinds; names = λ e i. names_below h.schema e i p.schema }
+
+header_step : (h : Header) (bytes r1 r2 r3 r4 r5 r6 r7 r8 r9 r10 r11 r12 r13 r14 rest : List ℕ)
+    → magic_at bytes ≡ Ok (magic, r1) → version_at r1 ≡ Ok (1, r2) → schema_at r2 ≡ Ok (h.schema, r3)
+    → judged (is_within (pos 0) latest_time) (signed_at r3) ≡ Ok (h.start, r4) → judged is_span (signed_at r4) ≡ Ok (h.skew, r5)
+    → judged is_span (signed_at r5) ≡ Ok (h.lateness, r6) → judged is_size (signed_at r6) ≡ Ok (h.records, r7)
+    → shape_at r7 ≡ Ok (h.shape, r8) → mode_at r8 ≡ Ok (h.mode, r9)
+    → judged is_span (signed_at r9) ≡ Ok (h.early, r10) → judged is_span (signed_at r10) ≡ Ok (h.late, r11) → form_at h.mode r11 ≡ Ok (h.form, r12)
+    → kinds_at r12 ≡ Ok (h.kinds, r13) → columns_at h.schema r13 ≡ Ok (h.columns, r14) → budget_at r14 ≡ Ok (h.budget, rest)
+    → header_at bytes ≡ Ok (h, rest)
+unfolding header_at
+header_step h bytes r1 r2 r3 r4 r5 r6 r7 r8 r9 r10 r11 r12 r13 r14 rest e1 e2 e3 e4 e5 e6 e7 e8 e9 e10 e11 e12 e13 e14 e15 =
+    rw (e1, e2, e3, e4, e5, e6, e7, e8, e9, e10, e11, e12, e13, e14, e15) refl
+
+pub header_again : (h : Header) (rest : List ℕ) → HeaderParts h → header_at (header h ++ rest) ≡ Ok (h, rest)
+header_again h rest p =
+    let r14 = budget h.budget ++ rest in
+    let r13 = columns h.columns ++ r14 in
+    let r12 = kinds h.kinds ++ r13 in
+    let r11 = form h.form ++ r12 in
+    let r10 = signed h.late ++ r11 in
+    let r9 = signed h.early ++ r10 in
+    let r8 = mode h.mode ++ r9 in
+    let r7 = shape h.shape ++ r8 in
+    let r6 = signed h.records ++ r7 in
+    let r5 = signed h.lateness ++ r6 in
+    let r4 = signed h.skew ++ r5 in
+    let r3 = signed h.start ++ r4 in
+    let r2 = schema h.schema ++ r3 in
+    let r1 = byte 1 ++ r2 in
+    ap header_at (regroup_15 magic (byte 1) (schema h.schema) (signed h.start) (signed h.skew) (signed h.lateness) (signed h.records) (shape h.shape) (mode h.mode) (signed h.early) (signed h.late) (form h.form) (kinds h.kinds) (columns h.columns) (budget h.budget) rest)
+    ∙ header_step h (magic ++ r1) r1 r2 r3 r4 r5 r6 r7 r8 r9 r10 r11 r12 r13 r14 rest
+    (magic_again r1) (version_again r2) (schema_again h.schema r3 p.schema) (start_again h.start r4 p.start) (span_again h.skew r5 p.skew) (span_again h.lateness r6 p.lateness) (size_again h.records r7 p.records)
+    (shape_again h.shape r8 p.shape) (mode_again h.mode r9) (span_again h.early r10 p.early) (span_again h.late r11 p.late) (form_again h.mode h.form r12 p.form)
+    (kinds_again h.kinds r13 p.kinds) (columns_again h.schema h.columns r14 (few_fields h.schema p.schema) p.count p.columns) (budget_again h.budget rest p.budget)
+
+-- ---- the program
+
+program_step : (p : Program) (bytes r1 r2 r3 rest : List ℕ) → header_at bytes ≡ Ok (p.header, r1) → code_at p.header r1 ≡ Ok (p.selection, r2) → code_at p.header r2 ≡ Ok (p.update, r3) → code_at p.header r3 ≡ Ok (p.fire, rest)
+    → program_at bytes ≡ Ok (p, rest)
+unfolding program_at
+program_step p bytes r1 r2 r3 rest e1 e2 e3 e4 = rw (e1, e2, e3, e4) refl
+
+-- the spelling of a program is read as that program, and what follows it is left
+pub program_again : (p : Program) (rest : List ℕ) → is_program p ≡ true → program_at (spelling p ++ rest) ≡ Ok (p, rest)
+unfolding is_header is_program
+program_again p rest good =
+    let a = and_parts (is_header p.header) (is_section p.header p.selection && (is_section p.header p.update && is_section p.header p.fire)) good in
+    let b = and_parts (is_section p.header p.selection) (is_section p.header p.update && is_section p.header p.fire) a.1 in
+    let c = and_parts (is_section p.header p.update) (is_section p.header p.fire) b.1 in
+    let parts = header_parts p.header a.0 in
+    let few = few_parts p.header parts in
+    let r3 = code p.fire ++ rest in
+    let r2 = code p.update ++ r3 in
+    let r1 = code p.selection ++ r2 in
+    ap program_at (regroup_4 (header p.header) (code p.selection) (code p.update) (code p.fire) rest)
+    ∙ program_step p (header p.header ++ r1) r1 r2 r3 rest (header_again p.header r1 parts) (code_again p.header few p.selection r2 b.0) (code_again p.header few p.update r3 c.0) (code_again p.header few p.fire rest c.1)
+
+decode_step : (p : Program) (bytes : List ℕ) → program_at bytes ≡ Ok (p, []) → decode bytes ≡ Ok p
+unfolding decode
+decode_step p bytes e = rw e refl
+
+-- what is spelled is read
+pub decode_again : (p : Program) → is_program p ≡ true → decode (spelling p) ≡ Ok p
+decode_again p good = decode_step p (spelling p) (ap program_at (sym (append-nil (spelling p))) ∙ program_again p [] good)

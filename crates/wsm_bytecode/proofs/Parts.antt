@@ -1,0 +1,288 @@
+-- What was spelled is read again: the parts of a header.
+use Rattle.std.proofs.Common.{lit<, leb, ◌≡◌, ℕ, zero, suc, ◌^◌, ◌<◌, ◌≤◌, Bool, true, ◌&&◌, not, List, [], ◌∷◌, ◌++◌, length, ℤ, pos, negsuc, is_some, Ok, refl, sym, ap, ◌∙◌, append_assoc, arith}
+use Rattle.std.specs.Prelude.{int_le, slice_get}
+use Rattle.std.specs.List.{list_all, flat_map}
+use Rattle.std.specs.Int.{w8, w16, w64}
+use Rattle.std.proofs.lemmas.Int.{ints}
+use Rattle.std.proofs.lemmas.Bool.{true≢false, leb-true, le-leb, and_parts, and_from}
+use Rattle.wsm_bytecode.specs.declared.instr.CellType.{CellType}
+use Rattle.wsm_bytecode.specs.declared.instr.CellType.TheVariants as types
+use Rattle.wsm_record.specs.declared.Kind.{Kind}
+use Rattle.wsm_record.specs.declared.Kind.TheVariants.{Sum, Min, Max, Any, All}
+use Rattle.wsm_windows.specs.declared.Shape.{Shape}
+use Rattle.wsm_windows.specs.declared.Shape.TheVariants.{Fixed, Sliding, Session}
+use Rattle.wsm_record.specs.declared.Mode.{Mode}
+use Rattle.wsm_record.specs.declared.Mode.TheVariants.{Discarding, Accumulating}
+use Rattle.wsm_record.specs.declared.Form.{Form}
+use Rattle.wsm_record.specs.declared.Form.TheVariants.{Panes, Istream, Dstream, Rstream}
+use Rattle.wsm_bytecode.specs.Program.{Name, is_i64, is_within, are_names_after, is_name_list, is_field_type, are_fields_after, is_schema, is_span, is_size, is_shape, is_form_of, is_column, is_stated, is_budget, enum_names, names_of_field, latest_time, longest_span}
+use Rattle.wsm_record.specs.Schema.{FieldType, Int, Truth, Enum, DeclaredField, Declared}
+use Rattle.wsm_bytecode.specs.declared.program.Budget.{Budget}
+use Rattle.wsm_record.specs.Name.{is_between, is_name, is_among}
+use Rattle.wsm_bytecode.specs.Reading.{Read, judged, number_at, signed_at, name_at, names_after, names_at, interval_at, enum_at, field_type_by, field_type_at, fields_after, schema_at, shape_at, fixed_at, sliding_at, session_at, shape_by, mode_at, mode_by, form_at, form_by, kind_at, kind_by, kinds_at, enum_number_at, enum_column_at, column_by, column_at, columns_at, budget_at, several}
+use Rattle.wsm_bytecode.specs.Spelling.{byte, number, long, signed, name, names, field_type, field, schema, shape, mode, form, kind, column, kinds, columns, budget}
+use Rattle.wsm_bytecode.proofs.Numbers.{byte_again, short_again, long_again, signed_again, judged_again, name_again}
+
+pub regroup_3 : (a b c rest : List ℕ) → a ++ b ++ c ++ rest ≡ a ++ (b ++ (c ++ rest))
+regroup_3 a b c rest = simp append_assoc refl
+
+-- so many, one after the other
+pub several_again : {A : Type 0} (one : List ℕ → Read A) (spell : A → List ℕ) (good : A → Bool) → ((x : A) (rest : List ℕ) → good x ≡ true → one (spell x ++ rest) ≡ Ok (x, rest))
+    → (xs : List A) (rest : List ℕ) → list_all good xs ≡ true → several one (length xs) (flat_map spell xs ++ rest) ≡ Ok (xs, rest)
+several_again one spell good again [] rest h = refl
+several_again one spell good again (x ∷ xs) rest h =
+    let a = and_parts _ _ h in
+    rw (append_assoc (spell x) (flat_map spell xs) rest, again x (flat_map spell xs ++ rest) a.0, several_again one spell good again xs rest a.1) refl
+
+names_after_step : (before : List Name) (k : ℕ) (bytes : List ℕ) (n : Name) (mid : List ℕ) (ns : List Name) (rest : List ℕ) → name_at bytes ≡ Ok (n, mid) → not (is_among n before) ≡ true
+    → names_after (n ∷ before) k mid ≡ Ok (ns, rest) → names_after before (suc k) bytes ≡ Ok (n ∷ ns, rest)
+names_after_step before k bytes n mid ns rest e g f = rw (judged_again (λ x. not (is_among x before)) (name_at bytes) n mid e g, f) refl
+
+pub names_after_again : (before ns : List Name) (rest : List ℕ) → are_names_after before ns ≡ true → names_after before (length ns) (flat_map name ns ++ rest) ≡ Ok (ns, rest)
+names_after_again before [] rest h = refl
+names_after_again before (n ∷ ns) rest h =
+    let a = and_parts (is_name n) (not (is_among n before) && are_names_after (n ∷ before) ns) h in
+    let b = and_parts (not (is_among n before)) (are_names_after (n ∷ before) ns) a.1 in
+    let others = flat_map name ns ++ rest in
+    ap (names_after before (suc (length ns))) (append_assoc (name n) (flat_map name ns) rest)
+    ∙ names_after_step before (length ns) (name n ++ others) n others ns rest (name_again n others a.0) b.0 (names_after_again (n ∷ before) ns rest b.1)
+
+pub below : (n lo hi m : ℕ) → hi < m → is_between lo hi n ≡ true → n < m
+below n lo hi m h e =
+    let le : n ≤ hi = leb-true n hi (and_parts (leb lo n) (leb n hi) e).1 in
+    omega arith
+
+names_step : (bytes : List ℕ) (k : ℕ) (mid : List ℕ) (ns : List Name) (rest : List ℕ) → judged (is_between 1 1000) (number_at w16 bytes) ≡ Ok (k, mid) → names_after [] k mid ≡ Ok (ns, rest) → names_at bytes ≡ Ok (ns, rest)
+unfolding names_at
+names_step bytes k mid ns rest e f = rw (e, f) refl
+
+pub names_again : (ns : List Name) (rest : List ℕ) → is_name_list ns ≡ true → names_at (names ns ++ rest) ≡ Ok (ns, rest)
+names_again ns rest h =
+    let a = and_parts (is_between 1 1000 (length ns)) (are_names_after [] ns) h in
+    let others = flat_map name ns ++ rest in
+    ap names_at (append_assoc (number (length ns)) (flat_map name ns) rest)
+    ∙ names_step (number (length ns) ++ others) (length ns) others ns rest
+    (judged_again (is_between 1 1000) (number_at w16 (number (length ns) ++ others)) (length ns) others (short_again (length ns) others (below (length ns) 1 1000 65536 (lit< tt) a.0)) a.0)
+    (names_after_again [] ns rest a.1)
+
+-- ---- fields
+
+interval_step : (bytes : List ℕ) (lo hi : ℤ) (mid rest : List ℕ) → signed_at bytes ≡ Ok (lo, mid) → judged (λ n. int_le lo n) (signed_at mid) ≡ Ok (hi, rest) → interval_at bytes ≡ Ok (Int lo hi, rest)
+unfolding interval_at
+interval_step bytes lo hi mid rest e f = rw (e, f) refl
+
+interval_again : (lo hi : ℤ) (rest : List ℕ) → is_i64 lo ≡ true → is_i64 hi ≡ true → int_le lo hi ≡ true → interval_at (signed lo ++ (signed hi ++ rest)) ≡ Ok (Int lo hi, rest)
+interval_again lo hi rest p q r =
+    interval_step (signed lo ++ (signed hi ++ rest)) lo hi (signed hi ++ rest) rest (signed_again lo (signed hi ++ rest) p)
+    (judged_again (λ n. int_le lo n) (signed_at (signed hi ++ rest)) hi rest (signed_again hi rest q) r)
+
+enum_step : (bytes : List ℕ) (ns : List Name) (rest : List ℕ) → names_at bytes ≡ Ok (ns, rest) → enum_at bytes ≡ Ok (Enum ns, rest)
+unfolding enum_at
+enum_step bytes ns rest e = rw e refl
+
+pub tag_again : (lo hi n : ℕ) (rest : List ℕ) → hi < 256 → is_between lo hi n ≡ true → judged (is_between lo hi) (number_at w8 (byte n ++ rest)) ≡ Ok (n, rest)
+tag_again lo hi n rest h g = judged_again (is_between lo hi) (number_at w8 (byte n ++ rest)) n rest (byte_again n rest (below n lo hi 256 h g)) g
+
+type_step : (bytes : List ℕ) (tag : ℕ) (mid : List ℕ) (t : FieldType) (rest : List ℕ) → judged (is_between 0 2) (number_at w8 bytes) ≡ Ok (tag, mid) → field_type_by tag mid ≡ Ok (t, rest) → field_type_at bytes ≡ Ok (t, rest)
+unfolding field_type_at
+type_step bytes tag mid t rest e f = rw (e, f) refl
+
+pub field_type_again : (t : FieldType) (rest : List ℕ) → is_field_type t ≡ true → field_type_at (field_type t ++ rest) ≡ Ok (t, rest)
+field_type_again (Int lo hi) rest h =
+    let a = and_parts (is_i64 lo) (is_i64 hi && int_le lo hi) h in
+    let b = and_parts (is_i64 hi) (int_le lo hi) a.1 in
+    let mid = signed lo ++ (signed hi ++ rest) in
+    type_step (byte 0 ++ mid) 0 mid (Int lo hi) rest (tag_again 0 2 0 mid (lit< tt) refl) (interval_again lo hi rest a.0 b.0 b.1)
+field_type_again Truth rest h = type_step (byte 1 ++ rest) 1 rest Truth rest (tag_again 0 2 1 rest (lit< tt) refl) refl
+field_type_again (Enum ns) rest h =
+    type_step (byte 2 ++ (names ns ++ rest)) 2 (names ns ++ rest) (Enum ns) rest (tag_again 0 2 2 (names ns ++ rest) (lit< tt) refl) (enum_step (names ns ++ rest) ns rest (names_again ns rest h))
+
+fields_step : (before : List Name) (k : ℕ) (bytes : List ℕ) (f : DeclaredField) (mid next : List ℕ) (fs : List DeclaredField) (rest : List ℕ) → name_at bytes ≡ Ok (f.name, mid) → not (is_among f.name before) ≡ true
+    → field_type_at mid ≡ Ok (f.type, next) → fields_after (f.name ∷ before) k next ≡ Ok (fs, rest) → fields_after before (suc k) bytes ≡ Ok (f ∷ fs, rest)
+fields_step before k bytes f mid next fs rest e g t h = rw (judged_again (λ x. not (is_among x before)) (name_at bytes) f.name mid e g, t, h) refl
+
+pub fields_after_again : (before : List Name) (fs : List DeclaredField) (rest : List ℕ) → are_fields_after before fs ≡ true → fields_after before (length fs) (flat_map field fs ++ rest) ≡ Ok (fs, rest)
+fields_after_again before [] rest h = refl
+fields_after_again before (f ∷ fs) rest h =
+    let a = and_parts (is_name f.name) (not (is_among f.name before) && (is_field_type f.type && are_fields_after (f.name ∷ before) fs)) h in
+    let b = and_parts (not (is_among f.name before)) (is_field_type f.type && are_fields_after (f.name ∷ before) fs) a.1 in
+    let c = and_parts (is_field_type f.type) (are_fields_after (f.name ∷ before) fs) b.1 in
+    let others = flat_map field fs ++ rest in
+    let mid = field_type f.type ++ others in
+    let regrouped : (field f ++ flat_map field fs) ++ rest ≡ name f.name ++ mid = append_assoc (field f) (flat_map field fs) rest ∙ append_assoc (name f.name) (field_type f.type) others in
+    ap (fields_after before (suc (length fs))) regrouped
+    ∙ fields_step before (length fs) (name f.name ++ mid) f mid others fs rest (name_again f.name mid a.0) b.0 (field_type_again f.type others c.0) (fields_after_again (f.name ∷ before) fs rest c.1)
+
+schema_step : (bytes : List ℕ) (s : Declared) (mid : List ℕ) (k : ℕ) (next rest : List ℕ) → names_at bytes ≡ Ok (s.keys, mid) → judged (is_between 0 16) (number_at w8 mid) ≡ Ok (k, next) → fields_after [] k next ≡ Ok (s.fields, rest)
+    → schema_at bytes ≡ Ok (s, rest)
+unfolding schema_at
+schema_step bytes s mid k next rest e f g = rw (e, f, g) refl
+
+pub schema_again : (s : Declared) (rest : List ℕ) → is_schema s ≡ true → schema_at (schema s ++ rest) ≡ Ok (s, rest)
+unfolding is_schema
+schema_again s rest h =
+    let a = and_parts (is_name_list s.keys) (leb (length s.fields) 16 && are_fields_after [] s.fields) h in
+    let b = and_parts (leb (length s.fields) 16) (are_fields_after [] s.fields) a.1 in
+    let few : is_between 0 16 (length s.fields) ≡ true = and_from (leb 0 (length s.fields)) (leb (length s.fields) 16) (le-leb _ _ (omega arith)) b.0 in
+    let others = flat_map field s.fields ++ rest in
+    let mid = byte (length s.fields) ++ others in
+    ap schema_at (regroup_3 (names s.keys) (byte (length s.fields)) (flat_map field s.fields) rest)
+    ∙ schema_step (names s.keys ++ mid) s mid (length s.fields) others rest (names_again s.keys mid a.0) (tag_again 0 16 (length s.fields) others (lit< tt) few) (fields_after_again [] s.fields rest b.1)
+
+-- ---- shape, mode, form
+
+le_through : (a b c : ℤ) → int_le a b ≡ true → int_le b c ≡ true → int_le a c ≡ true
+le_through a b c p q = grind (arith, ints)
+
+is_i64_within : (lo hi n : ℤ) → int_le (negsuc 9223372036854775807) lo ≡ true → int_le hi (pos 9223372036854775807) ≡ true → is_within lo hi n ≡ true → is_i64 n ≡ true
+is_i64_within lo hi n p q h =
+    let a = and_parts (int_le lo n) (int_le n hi) h in
+    and_from _ _ (le_through (negsuc 9223372036854775807) lo n p a.0) (le_through n hi (pos 9223372036854775807) a.1 q)
+
+pub span_again : (n : ℤ) (rest : List ℕ) → is_span n ≡ true → judged is_span (signed_at (signed n ++ rest)) ≡ Ok (n, rest)
+span_again n rest h = judged_again is_span (signed_at (signed n ++ rest)) n rest (signed_again n rest (is_i64_within (pos 0) longest_span n refl refl h)) h
+
+pub size_again : (n : ℤ) (rest : List ℕ) → is_size n ≡ true → judged is_size (signed_at (signed n ++ rest)) ≡ Ok (n, rest)
+size_again n rest h = judged_again is_size (signed_at (signed n ++ rest)) n rest (signed_again n rest (is_i64_within (pos 1) longest_span n refl refl h)) h
+
+pub start_again : (n : ℤ) (rest : List ℕ) → is_within (pos 0) latest_time n ≡ true → judged (is_within (pos 0) latest_time) (signed_at (signed n ++ rest)) ≡ Ok (n, rest)
+start_again n rest h = judged_again (is_within (pos 0) latest_time) (signed_at (signed n ++ rest)) n rest (signed_again n rest (is_i64_within (pos 0) latest_time n refl refl h)) h
+
+shape_step : (bytes : List ℕ) (tag : ℕ) (mid : List ℕ) (s : Shape) (rest : List ℕ) → judged (is_between 0 2) (number_at w8 bytes) ≡ Ok (tag, mid) → shape_by tag mid ≡ Ok (s, rest) → shape_at bytes ≡ Ok (s, rest)
+unfolding shape_at
+shape_step bytes tag mid s rest e f = rw (e, f) refl
+
+fixed_step : (bytes : List ℕ) (n : ℤ) (rest : List ℕ) → judged is_size (signed_at bytes) ≡ Ok (n, rest) → fixed_at bytes ≡ Ok (Fixed n, rest)
+unfolding fixed_at
+fixed_step bytes n rest e = rw e refl
+
+session_step : (bytes : List ℕ) (n : ℤ) (rest : List ℕ) → judged is_size (signed_at bytes) ≡ Ok (n, rest) → session_at bytes ≡ Ok (Session n, rest)
+unfolding session_at
+session_step bytes n rest e = rw e refl
+
+sliding_step : (bytes : List ℕ) (n d : ℤ) (mid rest : List ℕ) → judged is_size (signed_at bytes) ≡ Ok (n, mid) → judged (λ x. is_size x && int_le x n) (signed_at mid) ≡ Ok (d, rest) → sliding_at bytes ≡ Ok (Sliding n d, rest)
+unfolding sliding_at
+sliding_step bytes n d mid rest e f = rw (e, f) refl
+
+pub shape_again : (s : Shape) (rest : List ℕ) → is_shape s ≡ true → shape_at (shape s ++ rest) ≡ Ok (s, rest)
+shape_again (Fixed n) rest h =
+    let mid = signed n ++ rest in
+    shape_step (byte 0 ++ mid) 0 mid (Fixed n) rest (tag_again 0 2 0 mid (lit< tt) refl) (fixed_step mid n rest (size_again n rest h))
+shape_again (Sliding n d) rest h =
+    let a = and_parts (is_size n) (is_size d && int_le d n) h in
+    let b = and_parts (is_size d) (int_le d n) a.1 in
+    let next = signed d ++ rest in
+    let mid = signed n ++ next in
+    let period = judged_again (λ x. is_size x && int_le x n) (signed_at next) d rest (signed_again d rest (is_i64_within (pos 1) longest_span d refl refl b.0)) a.1 in
+    shape_step (byte 1 ++ mid) 1 mid (Sliding n d) rest (tag_again 0 2 1 mid (lit< tt) refl) (sliding_step mid n d next rest (size_again n next a.0) period)
+shape_again (Session n) rest h =
+    let mid = signed n ++ rest in
+    shape_step (byte 2 ++ mid) 2 mid (Session n) rest (tag_again 0 2 2 mid (lit< tt) refl) (session_step mid n rest (size_again n rest h))
+
+mode_step : (bytes : List ℕ) (tag : ℕ) (rest : List ℕ) → judged (is_between 0 1) (number_at w8 bytes) ≡ Ok (tag, rest) → mode_at bytes ≡ Ok (mode_by tag, rest)
+unfolding mode_at
+mode_step bytes tag rest e = rw e refl
+
+pub mode_again : (m : Mode) (rest : List ℕ) → mode_at (mode m ++ rest) ≡ Ok (m, rest)
+mode_again Discarding rest = mode_step (byte 0 ++ rest) 0 rest (tag_again 0 1 0 rest (lit< tt) refl)
+mode_again Accumulating rest = mode_step (byte 1 ++ rest) 1 rest (tag_again 0 1 1 rest (lit< tt) refl)
+
+form_step : (m : Mode) (bytes : List ℕ) (tag : ℕ) (rest : List ℕ) → judged (λ n. is_between 0 3 n && is_form_of m (form_by n)) (number_at w8 bytes) ≡ Ok (tag, rest) → form_at m bytes ≡ Ok (form_by tag, rest)
+unfolding form_at
+form_step m bytes tag rest e = rw e refl
+
+form_tag : (m : Mode) (tag : ℕ) (rest : List ℕ) → tag < 256 → (is_between 0 3 tag && is_form_of m (form_by tag)) ≡ true → form_at m (byte tag ++ rest) ≡ Ok (form_by tag, rest)
+form_tag m tag rest lt h = form_step m (byte tag ++ rest) tag rest (judged_again (λ n. is_between 0 3 n && is_form_of m (form_by n)) (number_at w8 (byte tag ++ rest)) tag rest (byte_again tag rest lt) h)
+
+pub form_again : (m : Mode) (f : Form) (rest : List ℕ) → is_form_of m f ≡ true → form_at m (form f ++ rest) ≡ Ok (f, rest)
+form_again m Panes rest h = form_tag m 0 rest (lit< tt) h
+form_again m Istream rest h = form_tag m 1 rest (lit< tt) h
+form_again m Dstream rest h = form_tag m 2 rest (lit< tt) h
+form_again m Rstream rest h = form_tag m 3 rest (lit< tt) h
+
+-- ---- accumulators and columns
+
+kind_step : (bytes : List ℕ) (tag : ℕ) (rest : List ℕ) → judged (is_between 0 4) (number_at w8 bytes) ≡ Ok (tag, rest) → kind_at bytes ≡ Ok (kind_by tag, rest)
+unfolding kind_at
+kind_step bytes tag rest e = rw e refl
+
+kind_again : (k : Kind) (rest : List ℕ) → kind_at (kind k ++ rest) ≡ Ok (k, rest)
+kind_again Sum rest = kind_step (byte 0 ++ rest) 0 rest (tag_again 0 4 0 rest (lit< tt) refl)
+kind_again Min rest = kind_step (byte 1 ++ rest) 1 rest (tag_again 0 4 1 rest (lit< tt) refl)
+kind_again Max rest = kind_step (byte 2 ++ rest) 2 rest (tag_again 0 4 2 rest (lit< tt) refl)
+kind_again Any rest = kind_step (byte 3 ++ rest) 3 rest (tag_again 0 4 3 rest (lit< tt) refl)
+kind_again All rest = kind_step (byte 4 ++ rest) 4 rest (tag_again 0 4 4 rest (lit< tt) refl)
+
+kinds_step : (bytes : List ℕ) (n : ℕ) (mid : List ℕ) (ks : List Kind) (rest : List ℕ) → judged (is_between 0 16) (number_at w8 bytes) ≡ Ok (n, mid) → several kind_at n mid ≡ Ok (ks, rest) → kinds_at bytes ≡ Ok (ks, rest)
+unfolding kinds_at
+kinds_step bytes n mid ks rest e f = rw (e, f) refl
+
+any_kind : (ks : List Kind) → list_all (λ (k : Kind). true) ks ≡ true
+any_kind [] = refl
+any_kind (k ∷ ks) = any_kind ks
+
+pub kinds_again : (ks : List Kind) (rest : List ℕ) → leb (length ks) 16 ≡ true → kinds_at (kinds ks ++ rest) ≡ Ok (ks, rest)
+kinds_again ks rest h =
+    let few : is_between 0 16 (length ks) ≡ true = and_from (leb 0 (length ks)) (leb (length ks) 16) (le-leb _ _ (omega arith)) h in
+    let mid = flat_map kind ks ++ rest in
+    kinds_step (byte (length ks) ++ mid) (length ks) mid ks rest (tag_again 0 16 (length ks) mid (lit< tt) few) (several_again kind_at kind (λ k. true) (λ k r e. kind_again k r) ks rest (any_kind ks))
+
+pub enum_number_again : (s : Declared) (e : ℕ) (rest : List ℕ) → e < 256 → is_some (enum_names s e) ≡ true → enum_number_at s (byte e ++ rest) ≡ Ok (e, rest)
+unfolding enum_number_at
+enum_number_again s e rest lt h = judged_again (λ x. is_some (enum_names s x)) (number_at w8 (byte e ++ rest)) e rest (byte_again e rest lt) h
+
+column_step : (s : Declared) (bytes : List ℕ) (tag : ℕ) (mid : List ℕ) (t : CellType) (rest : List ℕ) → judged (is_between 0 2) (number_at w8 bytes) ≡ Ok (tag, mid) → column_by s tag mid ≡ Ok (t, rest) → column_at s bytes ≡ Ok (t, rest)
+unfolding column_at
+column_step s bytes tag mid t rest e f = rw (e, f) refl
+
+enum_column_step : (s : Declared) (bytes : List ℕ) (e : ℕ) (rest : List ℕ) → enum_number_at s bytes ≡ Ok (e, rest) → enum_column_at s bytes ≡ Ok (types.Enum e, rest)
+unfolding enum_column_at
+enum_column_step s bytes e rest h = rw h refl
+
+found_below : (fs : List DeclaredField) (f : ℕ) → is_some (names_of_field (slice_get fs f)) ≡ true → f < length fs
+found_below [] f e = absurd (true≢false (sym e))
+found_below (g ∷ fs) zero e = omega arith
+found_below (g ∷ fs) (suc f) e = omega (arith, found_below fs f e)
+
+-- an ENUM that there is has a number of one byte
+pub enum_is_small : (s : Declared) (e : ℕ) → leb (length s.fields) 16 ≡ true → is_some (enum_names s e) ≡ true → e < 256
+enum_is_small s zero few h = lit< tt
+enum_is_small s (suc f) few h =
+    let le : length s.fields ≤ 16 = leb-true _ _ few in
+    omega (arith, found_below s.fields f h)
+
+column_again : (s : Declared) → leb (length s.fields) 16 ≡ true → (t : CellType) (rest : List ℕ) → is_column s t ≡ true → column_at s (column t ++ rest) ≡ Ok (t, rest)
+column_again s few types.Int rest h = column_step s (byte 0 ++ rest) 0 rest types.Int rest (tag_again 0 2 0 rest (lit< tt) refl) refl
+column_again s few types.Bool rest h = column_step s (byte 1 ++ rest) 1 rest types.Bool rest (tag_again 0 2 1 rest (lit< tt) refl) refl
+column_again s few (types.Enum e) rest h =
+    column_step s (byte 2 ++ (byte e ++ rest)) 2 (byte e ++ rest) (types.Enum e) rest (tag_again 0 2 2 (byte e ++ rest) (lit< tt) refl)
+    (enum_column_step s (byte e ++ rest) e rest (enum_number_again s e rest (enum_is_small s e few h) h))
+
+columns_step : (s : Declared) (bytes : List ℕ) (n : ℕ) (mid : List ℕ) (ts : List CellType) (rest : List ℕ) → judged (is_between 1 16) (number_at w8 bytes) ≡ Ok (n, mid) → several (column_at s) n mid ≡ Ok (ts, rest)
+    → columns_at s bytes ≡ Ok (ts, rest)
+unfolding columns_at
+columns_step s bytes n mid ts rest e f = rw (e, f) refl
+
+pub columns_again : (s : Declared) (ts : List CellType) (rest : List ℕ) → leb (length s.fields) 16 ≡ true → is_between 1 16 (length ts) ≡ true → list_all (is_column s) ts ≡ true → columns_at s (columns ts ++ rest) ≡ Ok (ts, rest)
+columns_again s ts rest few h good =
+    let mid = flat_map column ts ++ rest in
+    columns_step s (byte (length ts) ++ mid) (length ts) mid ts rest (tag_again 1 16 (length ts) mid (lit< tt) h) (several_again (column_at s) column (is_column s) (column_again s few) ts rest good)
+
+-- ---- the stated numbers
+
+stated_again : (n : ℕ) (rest : List ℕ) → is_stated n ≡ true → judged is_stated (number_at w64 (long n ++ rest)) ≡ Ok (n, rest)
+stated_again n rest h = judged_again is_stated (number_at w64 (long n ++ rest)) n rest (long_again n rest (below n 1 1000000000000000000 (2 ^ 64) (lit< tt) h)) h
+
+budget_step : (bytes : List ℕ) (b : Budget) (mid next rest : List ℕ) → judged is_stated (number_at w64 bytes) ≡ Ok (b.per_record, mid) → judged is_stated (number_at w64 mid) ≡ Ok (b.per_pane, next)
+    → judged (is_between 1 100000) (number_at w64 next) ≡ Ok (b.held, rest) → budget_at bytes ≡ Ok (b, rest)
+unfolding budget_at
+budget_step bytes b mid next rest e f g = rw (e, f, g) refl
+
+pub budget_again : (b : Budget) (rest : List ℕ) → is_budget b ≡ true → budget_at (budget b ++ rest) ≡ Ok (b, rest)
+budget_again b rest h =
+    let a = and_parts (is_stated b.per_record) (is_stated b.per_pane && is_between 1 100000 b.held) h in
+    let c = and_parts (is_stated b.per_pane) (is_between 1 100000 b.held) a.1 in
+    let next = long b.held ++ rest in
+    let mid = long b.per_pane ++ next in
+    budget_step (long b.per_record ++ mid) b mid next rest (stated_again b.per_record mid a.0) (stated_again b.per_pane next c.0)
+    (judged_again (is_between 1 100000) (number_at w64 next) b.held rest (long_again b.held rest (below b.held 1 100000 (2 ^ 64) (lit< tt) c.1)) c.1)

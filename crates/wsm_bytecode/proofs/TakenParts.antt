@@ -1,0 +1,340 @@
+-- What was read is what was spelled: the parts of a header.
+use Rattle.std.proofs.Common.{leb, ◌≡◌, ℕ, zero, suc, ◌^◌, ◌≤◌, Bool, true, ◌&&◌, not, List, [], ◌∷◌, ◌++◌, length, ℤ, is_some, Ok, refl, sym, ap, subst, ◌∙◌, append_assoc, arith}
+use Rattle.std.specs.Prelude.{int_le}
+use Rattle.std.specs.List.{list_all, flat_map}
+use Rattle.std.specs.Int.{w8, w16, w64}
+use Rattle.std.proofs.lemmas.Bool.{leb-true, le-leb, and_parts, and_from}
+use Rattle.wsm_bytecode.specs.declared.instr.CellType.{CellType}
+use Rattle.wsm_bytecode.specs.declared.instr.CellType.TheVariants as types
+use Rattle.wsm_record.specs.declared.Kind.{Kind}
+use Rattle.wsm_windows.specs.declared.Shape.{Shape}
+use Rattle.wsm_windows.specs.declared.Shape.TheVariants.{Fixed, Sliding, Session}
+use Rattle.wsm_record.specs.declared.Mode.{Mode}
+use Rattle.wsm_record.specs.declared.Form.{Form}
+use Rattle.wsm_bytecode.specs.Program.{Name, are_names_after, is_name_list, is_field_type, are_fields_after, is_schema, is_size, is_shape, is_form_of, is_column, is_stated, is_budget, enum_names}
+use Rattle.wsm_record.specs.Schema.{FieldType, Int, Truth, Enum, DeclaredField, Declared}
+use Rattle.wsm_bytecode.specs.declared.program.Budget.{Budget}
+use Rattle.wsm_record.specs.Name.{is_between, is_name, is_among}
+use Rattle.wsm_bytecode.specs.Reading.{◌>>=◌, judged, bytes_at, number_at, signed_at, name_at, names_after, names_at, interval_at, enum_at, field_type_by, field_type_at, fields_after, schema_at, shape_at, fixed_at, sliding_at, session_at, shape_by, mode_at, mode_by, form_at, form_by, kind_at, kind_by, kinds_at, enum_number_at, enum_column_at, column_by, column_at, columns_at, budget_at, several}
+use Rattle.wsm_bytecode.specs.Spelling.{byte, number, long, signed, name, names, field_type, field, schema, shape, mode, form, kind, column, kinds, columns, budget}
+use Rattle.wsm_bytecode.proofs.Parts.{regroup_3}
+use Rattle.wsm_bytecode.proofs.Taken.{IsBytes, bind_ok, judged_ok, ok_is, Took, Exact, bytes_taken, byte_taken, number_taken, wide16, wide64, signed_taken, several_taken}
+
+-- ---- names
+
+pub name_taken : Exact name_at name is_name
+unfolding name_at
+name_taken bytes x fits e =
+    let b = bind_ok (judged (is_between 1 32) (number_at w8 bytes)) (λ n. judged is_name (bytes_at n.0 n.1)) x e in
+    let j = judged_ok (is_between 1 32) (number_at w8 bytes) b.0 b.1 in
+    let t = byte_taken bytes b.0 fits j.0 in
+    let k = judged_ok is_name (bytes_at b.0.0 b.0.1) x b.2 in
+    let p = bytes_taken b.0.0 b.0.1 x t.fits k.0 in
+    record { parts = t.parts ∙ ap (λ r. byte b.0.0 ++ r) p.parts ∙ ap (λ n. byte n ++ (x.0 ++ x.1)) (sym p.len); fits = p.fits; good = k.1 }
+
+pub record TookNames (before : List Name) (n : ℕ) (bytes : List ℕ) (x : List Name × List ℕ) : Type 0 where
+  pub parts : bytes ≡ flat_map name x.0 ++ x.1
+  pub fits : IsBytes x.1
+  pub len : length x.0 ≡ n
+  pub good : are_names_after before x.0 ≡ true
+
+names_after_taken : (before : List Name) (n : ℕ) (bytes : List ℕ) (x : List Name × List ℕ) → IsBytes bytes → names_after before n bytes ≡ Ok x → TookNames before n bytes x
+names_after_taken before zero bytes x fits e =
+    let made : List Name × List ℕ = ([], bytes) in
+    subst (λ y. TookNames before 0 bytes y) (ok_is made x e) (record { parts = refl; fits = fits; len = refl; good = refl })
+names_after_taken before (suc n) bytes x fits e =
+    let a = bind_ok (judged (λ y. not (is_among y before)) (name_at bytes)) (λ first. names_after (first.0 ∷ before) n first.1 >>= λ others. Ok (first.0 ∷ others.0, others.1)) x e in
+    let b = bind_ok (names_after (a.0.0 ∷ before) n a.0.1) (λ others. Ok (a.0.0 ∷ others.0, others.1)) x a.2 in
+    let j = judged_ok (λ y. not (is_among y before)) (name_at bytes) a.0 a.1 in
+    let t = name_taken bytes a.0 fits j.0 in
+    let u = names_after_taken (a.0.0 ∷ before) n a.0.1 b.0 t.fits b.1 in
+    let made : List Name × List ℕ = (a.0.0 ∷ b.0.0, b.0.1) in
+    subst (λ y. TookNames before (suc n) bytes y) (ok_is made x b.2)
+    (record {
+      parts = t.parts ∙ ap (λ r. name a.0.0 ++ r) u.parts ∙ sym (append_assoc (name a.0.0) (flat_map name b.0.0) b.0.1);
+      fits = u.fits;
+      len = ap suc u.len;
+      good = and_from _ _ t.good (and_from _ _ j.1 u.good);
+    })
+
+pub names_taken : Exact names_at names is_name_list
+unfolding names_at
+names_taken bytes x fits e =
+    let b = bind_ok (judged (is_between 1 1000) (number_at w16 bytes)) (λ n. names_after [] n.0 n.1) x e in
+    let j = judged_ok (is_between 1 1000) (number_at w16 bytes) b.0 b.1 in
+    let t = number_taken w16 65536 wide16 bytes b.0 fits j.0 in
+    let u = names_after_taken [] b.0.0 b.0.1 x t.fits b.2 in
+    record {
+      parts = t.parts ∙ ap (λ r. number b.0.0 ++ r) u.parts ∙ ap (λ n. number n ++ (flat_map name x.0 ++ x.1)) (sym u.len);
+      fits = u.fits;
+      good = and_from _ _ (ap (is_between 1 1000) u.len ∙ j.1) u.good;
+    }
+
+-- ---- tags
+
+pub tag_taken : (lo hi : ℕ) (bytes : List ℕ) (x : ℕ × List ℕ) → IsBytes bytes → judged (is_between lo hi) (number_at w8 bytes) ≡ Ok x → Took byte (is_between lo hi) bytes x
+tag_taken lo hi bytes x fits e =
+    let j = judged_ok (is_between lo hi) (number_at w8 bytes) x e in
+    let t = byte_taken bytes x fits j.0 in
+    record { parts = t.parts; fits = t.fits; good = j.1 }
+
+pub at_most : (lo hi n : ℕ) → is_between lo hi n ≡ true → n ≤ hi
+at_most lo hi n e = leb-true n hi (and_parts (leb lo n) (leb n hi) e).1
+
+-- what stands behind a tag
+after_tag : {A : Type 0} (spell : A → List ℕ) (good : A → Bool) (bytes : List ℕ) (t : ℕ × List ℕ) (x : A × List ℕ) → bytes ≡ byte t.0 ++ t.1 → Took spell good (byte t.0 ++ t.1) x → Took spell good bytes x
+after_tag spell good bytes t x e h = record { parts = e ∙ h.parts; fits = h.fits; good = h.good }
+
+-- ---- fields
+
+interval_taken : (bytes : List ℕ) (x : FieldType × List ℕ) → IsBytes bytes → interval_at bytes ≡ Ok x → Took field_type is_field_type (byte 0 ++ bytes) x
+unfolding interval_at
+interval_taken bytes x fits e =
+    let a = bind_ok (signed_at bytes) (λ lo. judged (λ hi. int_le lo.0 hi) (signed_at lo.1) >>= λ hi. Ok (Int lo.0 hi.0, hi.1)) x e in
+    let b = bind_ok (judged (λ hi. int_le a.0.0 hi) (signed_at a.0.1)) (λ hi. Ok (Int a.0.0 hi.0, hi.1)) x a.2 in
+    let j = judged_ok (λ hi. int_le a.0.0 hi) (signed_at a.0.1) b.0 b.1 in
+    let t = signed_taken bytes a.0 fits a.1 in
+    let u = signed_taken a.0.1 b.0 t.fits j.0 in
+    let made : FieldType × List ℕ = (Int a.0.0 b.0.0, b.0.1) in
+    subst (λ y. Took field_type is_field_type (byte 0 ++ bytes) y) (ok_is made x b.2)
+    (record { parts = ap (λ r. byte 0 ++ r) (t.parts ∙ ap (λ r. signed a.0.0 ++ r) u.parts); fits = u.fits; good = and_from _ _ t.good (and_from _ _ u.good j.1) })
+
+enum_taken : (bytes : List ℕ) (x : FieldType × List ℕ) → IsBytes bytes → enum_at bytes ≡ Ok x → Took field_type is_field_type (byte 2 ++ bytes) x
+unfolding names_at enum_at
+enum_taken bytes x fits e =
+    let a = bind_ok (names_at bytes) (λ ns. Ok (Enum ns.0, ns.1)) x e in
+    let t = names_taken bytes a.0 fits a.1 in
+    let made : FieldType × List ℕ = (Enum a.0.0, a.0.1) in
+    subst (λ y. Took field_type is_field_type (byte 2 ++ bytes) y) (ok_is made x a.2) (record { parts = ap (λ r. byte 2 ++ r) t.parts; fits = t.fits; good = t.good })
+
+type_by_taken : (n : ℕ) (bytes : List ℕ) (x : FieldType × List ℕ) → n ≤ 2 → IsBytes bytes → field_type_by n bytes ≡ Ok x → Took field_type is_field_type (byte n ++ bytes) x
+type_by_taken zero bytes x le fits e = interval_taken bytes x fits e
+type_by_taken (suc zero) bytes x le fits e =
+    let made : FieldType × List ℕ = (Truth, bytes) in
+    subst (λ y. Took field_type is_field_type (byte 1 ++ bytes) y) (ok_is made x e) (record { parts = refl; fits = fits; good = refl })
+type_by_taken (suc (suc n)) bytes x le fits e =
+    let two : 2 ≡ suc (suc n) = omega arith in
+    subst (λ k. Took field_type is_field_type (byte k ++ bytes) x) two (enum_taken bytes x fits e)
+
+pub field_type_taken : Exact field_type_at field_type is_field_type
+unfolding field_type_at
+field_type_taken bytes x fits e =
+    let b = bind_ok (judged (is_between 0 2) (number_at w8 bytes)) (λ tag. field_type_by tag.0 tag.1) x e in
+    let t = tag_taken 0 2 bytes b.0 fits b.1 in
+    after_tag field_type is_field_type bytes b.0 x t.parts (type_by_taken b.0.0 b.0.1 x (at_most 0 2 b.0.0 t.good) t.fits b.2)
+
+pub record TookFields (before : List Name) (n : ℕ) (bytes : List ℕ) (x : List DeclaredField × List ℕ) : Type 0 where
+  pub parts : bytes ≡ flat_map field x.0 ++ x.1
+  pub fits : IsBytes x.1
+  pub len : length x.0 ≡ n
+  pub good : are_fields_after before x.0 ≡ true
+
+fields_after_taken : (before : List Name) (n : ℕ) (bytes : List ℕ) (x : List DeclaredField × List ℕ) → IsBytes bytes → fields_after before n bytes ≡ Ok x → TookFields before n bytes x
+fields_after_taken before zero bytes x fits e =
+    let made : List DeclaredField × List ℕ = ([], bytes) in
+    subst (λ y. TookFields before 0 bytes y) (ok_is made x e) (record { parts = refl; fits = fits; len = refl; good = refl })
+fields_after_taken before (suc n) bytes x fits e =
+    let a = bind_ok (judged (λ y. not (is_among y before)) (name_at bytes)) (λ first. field_type_at first.1 >>= λ type. fields_after (first.0 ∷ before) n type.1 >>= λ others. Ok (record { name = first.0; type = type.0 } ∷ others.0, others.1)) x e in
+    let b = bind_ok (field_type_at a.0.1) (λ type. fields_after (a.0.0 ∷ before) n type.1 >>= λ others. Ok (record { name = a.0.0; type = type.0 } ∷ others.0, others.1)) x a.2 in
+    let c = bind_ok (fields_after (a.0.0 ∷ before) n b.0.1) (λ others. Ok (record { name = a.0.0; type = b.0.0 } ∷ others.0, others.1)) x b.2 in
+    let j = judged_ok (λ y. not (is_among y before)) (name_at bytes) a.0 a.1 in
+    let t = name_taken bytes a.0 fits j.0 in
+    let v = field_type_taken a.0.1 b.0 t.fits b.1 in
+    let u = fields_after_taken (a.0.0 ∷ before) n b.0.1 c.0 v.fits c.1 in
+    let one : DeclaredField = record { name = a.0.0; type = b.0.0 } in
+    let made : List DeclaredField × List ℕ = (one ∷ c.0.0, c.0.1) in
+    subst (λ y. TookFields before (suc n) bytes y) (ok_is made x c.2)
+    (record {
+      parts = t.parts ∙ ap (λ r. name a.0.0 ++ r) (v.parts ∙ ap (λ r. field_type b.0.0 ++ r) u.parts)
+          ∙ sym (append_assoc (field one) (flat_map field c.0.0) c.0.1 ∙ append_assoc (name a.0.0) (field_type b.0.0) (flat_map field c.0.0 ++ c.0.1));
+      fits = u.fits;
+      len = ap suc u.len;
+      good = and_from _ _ t.good (and_from _ _ j.1 (and_from _ _ v.good u.good));
+    })
+
+pub schema_taken : Exact schema_at schema is_schema
+unfolding names_at schema_at is_schema
+schema_taken bytes x fits e =
+    let a = bind_ok (names_at bytes) (λ keys. judged (is_between 0 16) (number_at w8 keys.1) >>= λ n. fields_after [] n.0 n.1 >>= λ fields. Ok (record { keys = keys.0; fields = fields.0 }, fields.1)) x e in
+    let b = bind_ok (judged (is_between 0 16) (number_at w8 a.0.1)) (λ n. fields_after [] n.0 n.1 >>= λ fields. Ok (record { keys = a.0.0; fields = fields.0 }, fields.1)) x a.2 in
+    let c = bind_ok (fields_after [] b.0.0 b.0.1) (λ fields. Ok (record { keys = a.0.0; fields = fields.0 }, fields.1)) x b.2 in
+    let t = names_taken bytes a.0 fits a.1 in
+    let v = tag_taken 0 16 a.0.1 b.0 t.fits b.1 in
+    let u = fields_after_taken [] b.0.0 b.0.1 c.0 v.fits c.1 in
+    let made : Declared × List ℕ = (record { keys = a.0.0; fields = c.0.0 }, c.0.1) in
+    let few : length c.0.0 ≤ 16 = omega (arith, u.len, at_most 0 16 b.0.0 v.good) in
+    subst (λ y. Took schema is_schema bytes y) (ok_is made x c.2)
+    (record {
+      parts = t.parts ∙ ap (λ r. names a.0.0 ++ r) (v.parts ∙ ap (λ r. byte b.0.0 ++ r) u.parts ∙ ap (λ n. byte n ++ (flat_map field c.0.0 ++ c.0.1)) (sym u.len))
+          ∙ sym (regroup_3 (names a.0.0) (byte (length c.0.0)) (flat_map field c.0.0) c.0.1);
+      fits = u.fits;
+      good = and_from _ _ t.good (and_from _ _ (le-leb _ _ few) u.good);
+    })
+
+-- ---- shape, mode, form
+
+pub measure_taken : (test : ℤ → Bool) (bytes : List ℕ) (x : ℤ × List ℕ) → IsBytes bytes → judged test (signed_at bytes) ≡ Ok x → Took signed test bytes x
+measure_taken test bytes x fits e =
+    let j = judged_ok test (signed_at bytes) x e in
+    let t = signed_taken bytes x fits j.0 in
+    record { parts = t.parts; fits = t.fits; good = j.1 }
+
+fixed_taken : (bytes : List ℕ) (x : Shape × List ℕ) → IsBytes bytes → fixed_at bytes ≡ Ok x → Took shape is_shape (byte 0 ++ bytes) x
+unfolding fixed_at
+fixed_taken bytes x fits e =
+    let a = bind_ok (judged is_size (signed_at bytes)) (λ n. Ok (Fixed n.0, n.1)) x e in
+    let t = measure_taken is_size bytes a.0 fits a.1 in
+    let made : Shape × List ℕ = (Fixed a.0.0, a.0.1) in
+    subst (λ y. Took shape is_shape (byte 0 ++ bytes) y) (ok_is made x a.2) (record { parts = ap (λ r. byte 0 ++ r) t.parts; fits = t.fits; good = t.good })
+
+session_taken : (bytes : List ℕ) (x : Shape × List ℕ) → IsBytes bytes → session_at bytes ≡ Ok x → Took shape is_shape (byte 2 ++ bytes) x
+unfolding session_at
+session_taken bytes x fits e =
+    let a = bind_ok (judged is_size (signed_at bytes)) (λ n. Ok (Session n.0, n.1)) x e in
+    let t = measure_taken is_size bytes a.0 fits a.1 in
+    let made : Shape × List ℕ = (Session a.0.0, a.0.1) in
+    subst (λ y. Took shape is_shape (byte 2 ++ bytes) y) (ok_is made x a.2) (record { parts = ap (λ r. byte 2 ++ r) t.parts; fits = t.fits; good = t.good })
+
+sliding_taken : (bytes : List ℕ) (x : Shape × List ℕ) → IsBytes bytes → sliding_at bytes ≡ Ok x → Took shape is_shape (byte 1 ++ bytes) x
+unfolding sliding_at
+sliding_taken bytes x fits e =
+    let a = bind_ok (judged is_size (signed_at bytes)) (λ n. judged (λ d. is_size d && int_le d n.0) (signed_at n.1) >>= λ d. Ok (Sliding n.0 d.0, d.1)) x e in
+    let b = bind_ok (judged (λ d. is_size d && int_le d a.0.0) (signed_at a.0.1)) (λ d. Ok (Sliding a.0.0 d.0, d.1)) x a.2 in
+    let t = measure_taken is_size bytes a.0 fits a.1 in
+    let u = measure_taken (λ d. is_size d && int_le d a.0.0) a.0.1 b.0 t.fits b.1 in
+    let made : Shape × List ℕ = (Sliding a.0.0 b.0.0, b.0.1) in
+    subst (λ y. Took shape is_shape (byte 1 ++ bytes) y) (ok_is made x b.2)
+    (record { parts = ap (λ r. byte 1 ++ r) (t.parts ∙ ap (λ r. signed a.0.0 ++ r) u.parts); fits = u.fits; good = and_from _ _ t.good u.good })
+
+shape_by_taken : (n : ℕ) (bytes : List ℕ) (x : Shape × List ℕ) → n ≤ 2 → IsBytes bytes → shape_by n bytes ≡ Ok x → Took shape is_shape (byte n ++ bytes) x
+shape_by_taken zero bytes x le fits e = fixed_taken bytes x fits e
+shape_by_taken (suc zero) bytes x le fits e = sliding_taken bytes x fits e
+shape_by_taken (suc (suc n)) bytes x le fits e =
+    let two : 2 ≡ suc (suc n) = omega arith in
+    subst (λ k. Took shape is_shape (byte k ++ bytes) x) two (session_taken bytes x fits e)
+
+pub shape_taken : Exact shape_at shape is_shape
+unfolding shape_at
+shape_taken bytes x fits e =
+    let b = bind_ok (judged (is_between 0 2) (number_at w8 bytes)) (λ tag. shape_by tag.0 tag.1) x e in
+    let t = tag_taken 0 2 bytes b.0 fits b.1 in
+    after_tag shape is_shape bytes b.0 x t.parts (shape_by_taken b.0.0 b.0.1 x (at_most 0 2 b.0.0 t.good) t.fits b.2)
+
+mode_of_tag : (n : ℕ) → n ≤ 1 → byte n ≡ mode (mode_by n)
+mode_of_tag zero h = refl
+mode_of_tag (suc n) h =
+    let one : suc n ≡ 1 = omega arith in
+    ap byte one
+
+pub mode_taken : Exact mode_at mode (λ m. true)
+unfolding mode_at
+mode_taken bytes x fits e =
+    let b = bind_ok (judged (is_between 0 1) (number_at w8 bytes)) (λ tag. Ok (mode_by tag.0, tag.1)) x e in
+    let t = tag_taken 0 1 bytes b.0 fits b.1 in
+    let made : Mode × List ℕ = (mode_by b.0.0, b.0.1) in
+    subst (λ y. Took mode (λ m. true) bytes y) (ok_is made x b.2) (record { parts = t.parts ∙ ap (λ r. r ++ b.0.1) (mode_of_tag b.0.0 (at_most 0 1 b.0.0 t.good)); fits = t.fits; good = refl })
+
+form_of_tag : (n : ℕ) → n ≤ 3 → byte n ≡ form (form_by n)
+form_of_tag zero h = refl
+form_of_tag (suc zero) h = refl
+form_of_tag (suc (suc zero)) h = refl
+form_of_tag (suc (suc (suc n))) h =
+    let three : suc (suc (suc n)) ≡ 3 = omega arith in
+    ap byte three
+
+pub form_taken : (m : Mode) → Exact (form_at m) form (is_form_of m)
+unfolding form_at
+form_taken m bytes x fits e =
+    let b = bind_ok (judged (λ n. is_between 0 3 n && is_form_of m (form_by n)) (number_at w8 bytes)) (λ tag. Ok (form_by tag.0, tag.1)) x e in
+    let j = judged_ok (λ n. is_between 0 3 n && is_form_of m (form_by n)) (number_at w8 bytes) b.0 b.1 in
+    let t = byte_taken bytes b.0 fits j.0 in
+    let g = and_parts (is_between 0 3 b.0.0) (is_form_of m (form_by b.0.0)) j.1 in
+    let made : Form × List ℕ = (form_by b.0.0, b.0.1) in
+    subst (λ y. Took form (is_form_of m) bytes y) (ok_is made x b.2) (record { parts = t.parts ∙ ap (λ r. r ++ b.0.1) (form_of_tag b.0.0 (at_most 0 3 b.0.0 g.0)); fits = t.fits; good = g.1 })
+
+-- ---- accumulators and columns
+
+kind_of_tag : (n : ℕ) → n ≤ 4 → byte n ≡ kind (kind_by n)
+kind_of_tag zero h = refl
+kind_of_tag (suc zero) h = refl
+kind_of_tag (suc (suc zero)) h = refl
+kind_of_tag (suc (suc (suc zero))) h = refl
+kind_of_tag (suc (suc (suc (suc n)))) h =
+    let four : suc (suc (suc (suc n))) ≡ 4 = omega arith in
+    ap byte four
+
+kind_taken : Exact kind_at kind (λ k. true)
+unfolding kind_at
+kind_taken bytes x fits e =
+    let b = bind_ok (judged (is_between 0 4) (number_at w8 bytes)) (λ tag. Ok (kind_by tag.0, tag.1)) x e in
+    let t = tag_taken 0 4 bytes b.0 fits b.1 in
+    let made : Kind × List ℕ = (kind_by b.0.0, b.0.1) in
+    subst (λ y. Took kind (λ k. true) bytes y) (ok_is made x b.2) (record { parts = t.parts ∙ ap (λ r. r ++ b.0.1) (kind_of_tag b.0.0 (at_most 0 4 b.0.0 t.good)); fits = t.fits; good = refl })
+
+pub kinds_taken : Exact kinds_at kinds (λ ks. leb (length ks) 16)
+unfolding kinds_at
+kinds_taken bytes x fits e =
+    let b = bind_ok (judged (is_between 0 16) (number_at w8 bytes)) (λ n. several kind_at n.0 n.1) x e in
+    let t = tag_taken 0 16 bytes b.0 fits b.1 in
+    let u = several_taken kind_at kind (λ k. true) kind_taken b.0.0 b.0.1 x t.fits b.2 in
+    let few : length x.0 ≤ 16 = omega (arith, u.len, at_most 0 16 b.0.0 t.good) in
+    record { parts = t.parts ∙ ap (λ r. byte b.0.0 ++ r) u.parts ∙ ap (λ n. byte n ++ (flat_map kind x.0 ++ x.1)) (sym u.len); fits = u.fits; good = le-leb _ _ few }
+
+pub enum_number_taken : (s : Declared) → Exact (enum_number_at s) byte (λ e. is_some (enum_names s e))
+unfolding enum_number_at
+enum_number_taken s bytes x fits e =
+    let j = judged_ok (λ n. is_some (enum_names s n)) (number_at w8 bytes) x e in
+    let t = byte_taken bytes x fits j.0 in
+    record { parts = t.parts; fits = t.fits; good = j.1 }
+
+column_by_taken : (s : Declared) (n : ℕ) (bytes : List ℕ) (x : CellType × List ℕ) → n ≤ 2 → IsBytes bytes → column_by s n bytes ≡ Ok x → Took column (is_column s) (byte n ++ bytes) x
+unfolding enum_column_at
+column_by_taken s zero bytes x le fits e =
+    let made : CellType × List ℕ = (types.Int, bytes) in
+    subst (λ y. Took column (is_column s) (byte 0 ++ bytes) y) (ok_is made x e) (record { parts = refl; fits = fits; good = refl })
+column_by_taken s (suc zero) bytes x le fits e =
+    let made : CellType × List ℕ = (types.Bool, bytes) in
+    subst (λ y. Took column (is_column s) (byte 1 ++ bytes) y) (ok_is made x e) (record { parts = refl; fits = fits; good = refl })
+column_by_taken s (suc (suc n)) bytes x le fits e =
+    let two : 2 ≡ suc (suc n) = omega arith in
+    let a = bind_ok (enum_number_at s bytes) (λ d. Ok (types.Enum d.0, d.1)) x e in
+    let t = enum_number_taken s bytes a.0 fits a.1 in
+    let made : CellType × List ℕ = (types.Enum a.0.0, a.0.1) in
+    subst (λ k. Took column (is_column s) (byte k ++ bytes) x) two
+    (subst (λ y. Took column (is_column s) (byte 2 ++ bytes) y) (ok_is made x a.2) (record { parts = ap (λ r. byte 2 ++ r) t.parts; fits = t.fits; good = t.good }))
+
+column_taken : (s : Declared) → Exact (column_at s) column (is_column s)
+unfolding column_at
+column_taken s bytes x fits e =
+    let b = bind_ok (judged (is_between 0 2) (number_at w8 bytes)) (λ tag. column_by s tag.0 tag.1) x e in
+    let t = tag_taken 0 2 bytes b.0 fits b.1 in
+    after_tag column (is_column s) bytes b.0 x t.parts (column_by_taken s b.0.0 b.0.1 x (at_most 0 2 b.0.0 t.good) t.fits b.2)
+
+pub columns_taken : (s : Declared) → Exact (columns_at s) columns (λ ts. is_between 1 16 (length ts) && list_all (is_column s) ts)
+unfolding columns_at
+columns_taken s bytes x fits e =
+    let b = bind_ok (judged (is_between 1 16) (number_at w8 bytes)) (λ n. several (column_at s) n.0 n.1) x e in
+    let t = tag_taken 1 16 bytes b.0 fits b.1 in
+    let u = several_taken (column_at s) column (is_column s) (column_taken s) b.0.0 b.0.1 x t.fits b.2 in
+    record { parts = t.parts ∙ ap (λ r. byte b.0.0 ++ r) u.parts ∙ ap (λ n. byte n ++ (flat_map column x.0 ++ x.1)) (sym u.len); fits = u.fits; good = and_from _ _ (ap (is_between 1 16) u.len ∙ t.good) u.good }
+
+-- ---- the stated numbers
+
+long_taken : (test : ℕ → Bool) (bytes : List ℕ) (x : ℕ × List ℕ) → IsBytes bytes → judged test (number_at w64 bytes) ≡ Ok x → Took long test bytes x
+long_taken test bytes x fits e =
+    let j = judged_ok test (number_at w64 bytes) x e in
+    let t = number_taken w64 (2 ^ 64) wide64 bytes x fits j.0 in
+    record { parts = t.parts; fits = t.fits; good = j.1 }
+
+pub budget_taken : Exact budget_at budget is_budget
+unfolding budget_at
+budget_taken bytes x fits e =
+    let a = bind_ok (judged is_stated (number_at w64 bytes)) (λ p. judged is_stated (number_at w64 p.1) >>= λ q. judged (is_between 1 100000) (number_at w64 q.1) >>= λ h. Ok (record { per_record = p.0; per_pane = q.0; held = h.0 }, h.1)) x e in
+    let b = bind_ok (judged is_stated (number_at w64 a.0.1)) (λ q. judged (is_between 1 100000) (number_at w64 q.1) >>= λ h. Ok (record { per_record = a.0.0; per_pane = q.0; held = h.0 }, h.1)) x a.2 in
+    let c = bind_ok (judged (is_between 1 100000) (number_at w64 b.0.1)) (λ h. Ok (record { per_record = a.0.0; per_pane = b.0.0; held = h.0 }, h.1)) x b.2 in
+    let t = long_taken is_stated bytes a.0 fits a.1 in
+    let u = long_taken is_stated a.0.1 b.0 t.fits b.1 in
+    let v = long_taken (is_between 1 100000) b.0.1 c.0 u.fits c.1 in
+    let made : Budget × List ℕ = (record { per_record = a.0.0; per_pane = b.0.0; held = c.0.0 }, c.0.1) in
+    subst (λ y. Took budget is_budget bytes y) (ok_is made x c.2)
+    (record { parts = t.parts ∙ ap (λ r. long a.0.0 ++ r) (u.parts ∙ ap (λ r. long b.0.0 ++ r) v.parts); fits = v.fits; good = and_from _ _ t.good (and_from _ _ u.good v.good) })

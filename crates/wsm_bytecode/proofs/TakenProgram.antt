@@ -1,0 +1,315 @@
+-- What was read is what was spelled: instructions, sections and whole programs.
+use Rattle.std.proofs.Common.{leb, ◌≡◌, ℕ, zero, suc, ◌≤◌, Bool, true, false, cond, ltb, ◌&&◌, List, [], ◌∷◌, ◌++◌, length, ℤ, pos, Result, Ok, Err, refl, sym, ap, subst, ◌∙◌, append-nil, arith}
+use Rattle.std.specs.Prelude.{◌==◌, bytes_eq}
+use Rattle.std.specs.List.{list_all, flat_map}
+use Rattle.std.specs.Int.{w8, w16}
+use Rattle.std.proofs.lemmas.Bool.{true≢false, le-leb, eqb-true, and_parts, and_from}
+use Rattle.wsm_bytecode.specs.declared.refusal.DecodeRefusal.{DecodeRefusal}
+use Rattle.wsm_bytecode.specs.declared.refusal.DecodeRefusal.TheVariants.{UnknownOpcode, BadMagic, Version}
+use Rattle.wsm_bytecode.specs.declared.instr.Instr.{Instr}
+use Rattle.wsm_bytecode.specs.declared.instr.CellType.{CellType}
+use Rattle.wsm_record.specs.declared.Kind.{Kind}
+use Rattle.wsm_windows.specs.declared.Shape.{Shape}
+use Rattle.wsm_record.specs.declared.Mode.{Mode}
+use Rattle.wsm_record.specs.declared.Form.{Form}
+use Rattle.wsm_bytecode.specs.declared.instr.Instr.TheVariants.{PushInt, PushBool, PushEnum, Field, Key, Acc, Count, Add, Sub, Mul, Div, Rem, Neg, Eq, Ne, Lt, Le, Gt, Ge, Not, Jump, JumpIfFalse, Fold, Return}
+use Rattle.wsm_record.specs.Schema.{Declared}
+use Rattle.wsm_bytecode.specs.declared.program.Budget.{Budget}
+use Rattle.wsm_bytecode.specs.Program.{Header, Program, is_name_of, is_schema, is_instr, is_section, is_header, is_program, enum_names, is_within, latest_time, is_span, is_size, is_shape, is_form_of, is_column, is_budget}
+use Rattle.wsm_record.specs.Name.{is_between}
+use Rattle.wsm_bytecode.specs.Reading.{◌>>=◌, Read, judged, number_at, signed_at, enum_number_at, push_int_at, push_bool_at, push_enum_at, index_at, target_at, instr_by, instr_at, code_at, several, magic_at, version_at, bytes_at, schema_at, shape_at, mode_at, form_at, kinds_at, columns_at, budget_at, header_at, program_at, all_read, decode}
+use Rattle.wsm_bytecode.specs.Spelling.{byte, number, signed, truth, instr, code, magic, header, schema, shape, mode, form, kinds, columns, budget, spelling}
+use Rattle.wsm_bytecode.proofs.Codec.{regroup_4, regroup_15}
+use Rattle.wsm_bytecode.proofs.Taken.{IsBytes, bind_ok, test_ok, judged_ok, ok_is, Took, Exact, bytes_taken, byte_taken, number_taken, wide16, signed_taken, several_taken}
+use Rattle.wsm_bytecode.proofs.TakenParts.{tag_taken, at_most, measure_taken, schema_taken, shape_taken, mode_taken, form_taken, kinds_taken, columns_taken, budget_taken, enum_number_taken}
+
+-- ---- instructions
+
+push_int_taken : (h : Header) (bytes : List ℕ) (x : Instr × List ℕ) → IsBytes bytes → push_int_at bytes ≡ Ok x → Took instr (is_instr h) (byte 1 ++ bytes) x
+unfolding push_int_at
+push_int_taken h bytes x fits e =
+    let a = bind_ok (signed_at bytes) (λ n. Ok (PushInt n.0, n.1)) x e in
+    let t = signed_taken bytes a.0 fits a.1 in
+    let made : Instr × List ℕ = (PushInt a.0.0, a.0.1) in
+    subst (λ y. Took instr (is_instr h) (byte 1 ++ bytes) y) (ok_is made x a.2) (record { parts = ap (λ r. byte 1 ++ r) t.parts; fits = t.fits; good = t.good })
+
+truth_of_tag : (n : ℕ) → n ≤ 1 → byte n ≡ byte (truth (n == 1))
+truth_of_tag zero h = refl
+truth_of_tag (suc n) h =
+    let one : 1 ≡ suc n = omega arith in
+    subst (λ k. byte k ≡ byte (truth (k == 1))) one refl
+
+push_bool_taken : (h : Header) (bytes : List ℕ) (x : Instr × List ℕ) → IsBytes bytes → push_bool_at bytes ≡ Ok x → Took instr (is_instr h) (byte 2 ++ bytes) x
+unfolding push_bool_at
+push_bool_taken h bytes x fits e =
+    let a = bind_ok (judged (is_between 0 1) (number_at w8 bytes)) (λ b. Ok (PushBool (b.0 == 1), b.1)) x e in
+    let t = tag_taken 0 1 bytes a.0 fits a.1 in
+    let made : Instr × List ℕ = (PushBool (a.0.0 == 1), a.0.1) in
+    subst (λ y. Took instr (is_instr h) (byte 2 ++ bytes) y) (ok_is made x a.2)
+    (record { parts = ap (λ r. byte 2 ++ r) (t.parts ∙ ap (λ r. r ++ a.0.1) (truth_of_tag a.0.0 (at_most 0 1 a.0.0 t.good))); fits = t.fits; good = refl })
+
+push_enum_taken : (h : Header) (bytes : List ℕ) (x : Instr × List ℕ) → IsBytes bytes → push_enum_at h.schema bytes ≡ Ok x → Took instr (is_instr h) (byte 3 ++ bytes) x
+unfolding enum_number_at push_enum_at
+push_enum_taken h bytes x fits e =
+    let a = bind_ok (enum_number_at h.schema bytes) (λ d. judged (is_name_of (enum_names h.schema d.0)) (number_at w16 d.1) >>= λ i. Ok (PushEnum d.0 i.0, i.1)) x e in
+    let b = bind_ok (judged (is_name_of (enum_names h.schema a.0.0)) (number_at w16 a.0.1)) (λ i. Ok (PushEnum a.0.0 i.0, i.1)) x a.2 in
+    let t = enum_number_taken h.schema bytes a.0 fits a.1 in
+    let j = judged_ok (is_name_of (enum_names h.schema a.0.0)) (number_at w16 a.0.1) b.0 b.1 in
+    let u = number_taken w16 65536 wide16 a.0.1 b.0 t.fits j.0 in
+    let made : Instr × List ℕ = (PushEnum a.0.0 b.0.0, b.0.1) in
+    subst (λ y. Took instr (is_instr h) (byte 3 ++ bytes) y) (ok_is made x b.2)
+    (record { parts = ap (λ r. byte 3 ++ r) (t.parts ∙ ap (λ r. byte a.0.0 ++ r) u.parts); fits = u.fits; good = j.1 })
+
+index_taken : (h : Header) (c count : ℕ) (made : ℕ → Instr) → ((i : ℕ) (rest : List ℕ) → byte c ++ (byte i ++ rest) ≡ instr (made i) ++ rest) → ((i : ℕ) → ltb i count ≡ is_instr h (made i))
+    → (bytes : List ℕ) (x : Instr × List ℕ) → IsBytes bytes → index_at count made bytes ≡ Ok x → Took instr (is_instr h) (byte c ++ bytes) x
+unfolding index_at
+index_taken h c count made spelled good bytes x fits e =
+    let a = bind_ok (judged (λ i. ltb i count) (number_at w8 bytes)) (λ i. Ok (made i.0, i.1)) x e in
+    let j = judged_ok (λ i. ltb i count) (number_at w8 bytes) a.0 a.1 in
+    let t = byte_taken bytes a.0 fits j.0 in
+    let one : Instr × List ℕ = (made a.0.0, a.0.1) in
+    subst (λ y. Took instr (is_instr h) (byte c ++ bytes) y) (ok_is one x a.2)
+    (record { parts = ap (λ r. byte c ++ r) t.parts ∙ spelled a.0.0 a.0.1; fits = t.fits; good = sym (good a.0.0) ∙ j.1 })
+
+target_taken : (h : Header) (c : ℕ) (made : ℕ → Instr) → ((t : ℕ) (rest : List ℕ) → byte c ++ (number t ++ rest) ≡ instr (made t) ++ rest) → ((t : ℕ) → ltb t 65536 ≡ is_instr h (made t))
+    → (bytes : List ℕ) (x : Instr × List ℕ) → IsBytes bytes → target_at made bytes ≡ Ok x → Took instr (is_instr h) (byte c ++ bytes) x
+unfolding target_at
+target_taken h c made spelled good bytes x fits e =
+    let a = bind_ok (number_at w16 bytes) (λ t. Ok (made t.0, t.1)) x e in
+    let t = number_taken w16 65536 wide16 bytes a.0 fits a.1 in
+    let one : Instr × List ℕ = (made a.0.0, a.0.1) in
+    subst (λ y. Took instr (is_instr h) (byte c ++ bytes) y) (ok_is one x a.2)
+    (record { parts = ap (λ r. byte c ++ r) t.parts ∙ spelled a.0.0 a.0.1; fits = t.fits; good = sym (good a.0.0) ∙ t.good })
+
+abbrev ok_read : Instr × List ℕ → Read Instr
+ok_read x = Ok x
+
+plain_taken : (h : Header) (k : ℕ) (i : Instr) → byte k ≡ instr i → is_instr h i ≡ true → (bytes : List ℕ) (x : Instr × List ℕ) → IsBytes bytes → ok_read (i, bytes) ≡ Ok x → Took instr (is_instr h) (byte k ++ bytes) x
+plain_taken h k i spelled good bytes x fits e =
+    let made : Instr × List ℕ = (i, bytes) in
+    subst (λ y. Took instr (is_instr h) (byte k ++ bytes) y) (ok_is made x e) (record { parts = ap (λ r. r ++ bytes) spelled; fits = fits; good = good })
+
+-- one test of a chain
+choose : {A P : Type 0} (b : Bool) (p q r : A) → cond b p q ≡ r → (b ≡ true → p ≡ r → P) → (b ≡ false → q ≡ r → P) → P
+choose true p q r e f g = f refl e
+choose false p q r e f g = g refl e
+
+by_code : (h : Header) (c k : ℕ) (bytes : List ℕ) (x : Instr × List ℕ) → (c == k) ≡ true → Took instr (is_instr h) (byte k ++ bytes) x → Took instr (is_instr h) (byte c ++ bytes) x
+by_code h c k bytes x e t = subst (λ n. Took instr (is_instr h) (byte n ++ bytes) x) (sym (eqb-true c k e)) t
+
+abbrev no_reading : Read Instr
+no_reading = Err UnknownOpcode
+
+no_code : (x : Instr × List ℕ) → no_reading ≡ Ok x → ⊥
+no_code x e = cc
+
+instr_by_taken : (h : Header) (c : ℕ) (bytes : List ℕ) (x : Instr × List ℕ) → IsBytes bytes → instr_by h c bytes ≡ Ok x → Took instr (is_instr h) (byte c ++ bytes) x
+unfolding instr_by
+instr_by_taken h c bytes x fits e0 =
+    choose (c == 1) (push_int_at bytes) (cond (c == 2) (push_bool_at bytes) (cond (c == 3) (push_enum_at h.schema bytes) (cond (c == 4) (index_at (length h.schema.fields) Field bytes) (cond (c == 5) (Ok (Key, bytes)) (cond (c == 6) (index_at (length h.kinds) Acc bytes) (cond (c == 7) (Ok (Count, bytes)) (cond (c == 16) (Ok (Add, bytes)) (cond (c == 17) (Ok (Sub, bytes)) (cond (c == 18) (Ok (Mul, bytes)) (cond (c == 19) (Ok (Div, bytes)) (cond (c == 20) (Ok (Rem, bytes)) (cond (c == 21) (Ok (Neg, bytes)) (cond (c == 32) (Ok (Eq, bytes)) (cond (c == 33) (Ok (Ne, bytes)) (cond (c == 34) (Ok (Lt, bytes)) (cond (c == 35) (Ok (Le, bytes)) (cond (c == 36) (Ok (Gt, bytes)) (cond (c == 37) (Ok (Ge, bytes)) (cond (c == 40) (Ok (Not, bytes)) (cond (c == 48) (target_at Jump bytes) (cond (c == 49) (target_at JumpIfFalse bytes) (cond (c == 64) (index_at (length h.kinds) Fold bytes) (cond (c == 80) (Ok (Return, bytes)) (Err UnknownOpcode)))))))))))))))))))))))) (Ok x) e0 (λ t r. by_code h c 1 bytes x t (push_int_taken h bytes x fits r)) (λ f0 e1.
+    choose (c == 2) (push_bool_at bytes) (cond (c == 3) (push_enum_at h.schema bytes) (cond (c == 4) (index_at (length h.schema.fields) Field bytes) (cond (c == 5) (Ok (Key, bytes)) (cond (c == 6) (index_at (length h.kinds) Acc bytes) (cond (c == 7) (Ok (Count, bytes)) (cond (c == 16) (Ok (Add, bytes)) (cond (c == 17) (Ok (Sub, bytes)) (cond (c == 18) (Ok (Mul, bytes)) (cond (c == 19) (Ok (Div, bytes)) (cond (c == 20) (Ok (Rem, bytes)) (cond (c == 21) (Ok (Neg, bytes)) (cond (c == 32) (Ok (Eq, bytes)) (cond (c == 33) (Ok (Ne, bytes)) (cond (c == 34) (Ok (Lt, bytes)) (cond (c == 35) (Ok (Le, bytes)) (cond (c == 36) (Ok (Gt, bytes)) (cond (c == 37) (Ok (Ge, bytes)) (cond (c == 40) (Ok (Not, bytes)) (cond (c == 48) (target_at Jump bytes) (cond (c == 49) (target_at JumpIfFalse bytes) (cond (c == 64) (index_at (length h.kinds) Fold bytes) (cond (c == 80) (Ok (Return, bytes)) (Err UnknownOpcode))))))))))))))))))))))) (Ok x) e1 (λ t r. by_code h c 2 bytes x t (push_bool_taken h bytes x fits r)) (λ f1 e2.
+    choose (c == 3) (push_enum_at h.schema bytes) (cond (c == 4) (index_at (length h.schema.fields) Field bytes) (cond (c == 5) (Ok (Key, bytes)) (cond (c == 6) (index_at (length h.kinds) Acc bytes) (cond (c == 7) (Ok (Count, bytes)) (cond (c == 16) (Ok (Add, bytes)) (cond (c == 17) (Ok (Sub, bytes)) (cond (c == 18) (Ok (Mul, bytes)) (cond (c == 19) (Ok (Div, bytes)) (cond (c == 20) (Ok (Rem, bytes)) (cond (c == 21) (Ok (Neg, bytes)) (cond (c == 32) (Ok (Eq, bytes)) (cond (c == 33) (Ok (Ne, bytes)) (cond (c == 34) (Ok (Lt, bytes)) (cond (c == 35) (Ok (Le, bytes)) (cond (c == 36) (Ok (Gt, bytes)) (cond (c == 37) (Ok (Ge, bytes)) (cond (c == 40) (Ok (Not, bytes)) (cond (c == 48) (target_at Jump bytes) (cond (c == 49) (target_at JumpIfFalse bytes) (cond (c == 64) (index_at (length h.kinds) Fold bytes) (cond (c == 80) (Ok (Return, bytes)) (Err UnknownOpcode)))))))))))))))))))))) (Ok x) e2 (λ t r. by_code h c 3 bytes x t (push_enum_taken h bytes x fits r)) (λ f2 e3.
+    choose (c == 4) (index_at (length h.schema.fields) Field bytes) (cond (c == 5) (Ok (Key, bytes)) (cond (c == 6) (index_at (length h.kinds) Acc bytes) (cond (c == 7) (Ok (Count, bytes)) (cond (c == 16) (Ok (Add, bytes)) (cond (c == 17) (Ok (Sub, bytes)) (cond (c == 18) (Ok (Mul, bytes)) (cond (c == 19) (Ok (Div, bytes)) (cond (c == 20) (Ok (Rem, bytes)) (cond (c == 21) (Ok (Neg, bytes)) (cond (c == 32) (Ok (Eq, bytes)) (cond (c == 33) (Ok (Ne, bytes)) (cond (c == 34) (Ok (Lt, bytes)) (cond (c == 35) (Ok (Le, bytes)) (cond (c == 36) (Ok (Gt, bytes)) (cond (c == 37) (Ok (Ge, bytes)) (cond (c == 40) (Ok (Not, bytes)) (cond (c == 48) (target_at Jump bytes) (cond (c == 49) (target_at JumpIfFalse bytes) (cond (c == 64) (index_at (length h.kinds) Fold bytes) (cond (c == 80) (Ok (Return, bytes)) (Err UnknownOpcode))))))))))))))))))))) (Ok x) e3 (λ t r. by_code h c 4 bytes x t (index_taken h 4 (length h.schema.fields) Field (λ i rest. refl) (λ i. refl) bytes x fits r)) (λ f3 e4.
+    choose (c == 5) (Ok (Key, bytes)) (cond (c == 6) (index_at (length h.kinds) Acc bytes) (cond (c == 7) (Ok (Count, bytes)) (cond (c == 16) (Ok (Add, bytes)) (cond (c == 17) (Ok (Sub, bytes)) (cond (c == 18) (Ok (Mul, bytes)) (cond (c == 19) (Ok (Div, bytes)) (cond (c == 20) (Ok (Rem, bytes)) (cond (c == 21) (Ok (Neg, bytes)) (cond (c == 32) (Ok (Eq, bytes)) (cond (c == 33) (Ok (Ne, bytes)) (cond (c == 34) (Ok (Lt, bytes)) (cond (c == 35) (Ok (Le, bytes)) (cond (c == 36) (Ok (Gt, bytes)) (cond (c == 37) (Ok (Ge, bytes)) (cond (c == 40) (Ok (Not, bytes)) (cond (c == 48) (target_at Jump bytes) (cond (c == 49) (target_at JumpIfFalse bytes) (cond (c == 64) (index_at (length h.kinds) Fold bytes) (cond (c == 80) (Ok (Return, bytes)) (Err UnknownOpcode)))))))))))))))))))) (Ok x) e4 (λ t r. by_code h c 5 bytes x t (plain_taken h 5 Key refl refl bytes x fits r)) (λ f4 e5.
+    choose (c == 6) (index_at (length h.kinds) Acc bytes) (cond (c == 7) (Ok (Count, bytes)) (cond (c == 16) (Ok (Add, bytes)) (cond (c == 17) (Ok (Sub, bytes)) (cond (c == 18) (Ok (Mul, bytes)) (cond (c == 19) (Ok (Div, bytes)) (cond (c == 20) (Ok (Rem, bytes)) (cond (c == 21) (Ok (Neg, bytes)) (cond (c == 32) (Ok (Eq, bytes)) (cond (c == 33) (Ok (Ne, bytes)) (cond (c == 34) (Ok (Lt, bytes)) (cond (c == 35) (Ok (Le, bytes)) (cond (c == 36) (Ok (Gt, bytes)) (cond (c == 37) (Ok (Ge, bytes)) (cond (c == 40) (Ok (Not, bytes)) (cond (c == 48) (target_at Jump bytes) (cond (c == 49) (target_at JumpIfFalse bytes) (cond (c == 64) (index_at (length h.kinds) Fold bytes) (cond (c == 80) (Ok (Return, bytes)) (Err UnknownOpcode))))))))))))))))))) (Ok x) e5 (λ t r. by_code h c 6 bytes x t (index_taken h 6 (length h.kinds) Acc (λ i rest. refl) (λ i. refl) bytes x fits r)) (λ f5 e6.
+    choose (c == 7) (Ok (Count, bytes)) (cond (c == 16) (Ok (Add, bytes)) (cond (c == 17) (Ok (Sub, bytes)) (cond (c == 18) (Ok (Mul, bytes)) (cond (c == 19) (Ok (Div, bytes)) (cond (c == 20) (Ok (Rem, bytes)) (cond (c == 21) (Ok (Neg, bytes)) (cond (c == 32) (Ok (Eq, bytes)) (cond (c == 33) (Ok (Ne, bytes)) (cond (c == 34) (Ok (Lt, bytes)) (cond (c == 35) (Ok (Le, bytes)) (cond (c == 36) (Ok (Gt, bytes)) (cond (c == 37) (Ok (Ge, bytes)) (cond (c == 40) (Ok (Not, bytes)) (cond (c == 48) (target_at Jump bytes) (cond (c == 49) (target_at JumpIfFalse bytes) (cond (c == 64) (index_at (length h.kinds) Fold bytes) (cond (c == 80) (Ok (Return, bytes)) (Err UnknownOpcode)))))))))))))))))) (Ok x) e6 (λ t r. by_code h c 7 bytes x t (plain_taken h 7 Count refl refl bytes x fits r)) (λ f6 e7.
+    choose (c == 16) (Ok (Add, bytes)) (cond (c == 17) (Ok (Sub, bytes)) (cond (c == 18) (Ok (Mul, bytes)) (cond (c == 19) (Ok (Div, bytes)) (cond (c == 20) (Ok (Rem, bytes)) (cond (c == 21) (Ok (Neg, bytes)) (cond (c == 32) (Ok (Eq, bytes)) (cond (c == 33) (Ok (Ne, bytes)) (cond (c == 34) (Ok (Lt, bytes)) (cond (c == 35) (Ok (Le, bytes)) (cond (c == 36) (Ok (Gt, bytes)) (cond (c == 37) (Ok (Ge, bytes)) (cond (c == 40) (Ok (Not, bytes)) (cond (c == 48) (target_at Jump bytes) (cond (c == 49) (target_at JumpIfFalse bytes) (cond (c == 64) (index_at (length h.kinds) Fold bytes) (cond (c == 80) (Ok (Return, bytes)) (Err UnknownOpcode))))))))))))))))) (Ok x) e7 (λ t r. by_code h c 16 bytes x t (plain_taken h 16 Add refl refl bytes x fits r)) (λ f7 e8.
+    choose (c == 17) (Ok (Sub, bytes)) (cond (c == 18) (Ok (Mul, bytes)) (cond (c == 19) (Ok (Div, bytes)) (cond (c == 20) (Ok (Rem, bytes)) (cond (c == 21) (Ok (Neg, bytes)) (cond (c == 32) (Ok (Eq, bytes)) (cond (c == 33) (Ok (Ne, bytes)) (cond (c == 34) (Ok (Lt, bytes)) (cond (c == 35) (Ok (Le, bytes)) (cond (c == 36) (Ok (Gt, bytes)) (cond (c == 37) (Ok (Ge, bytes)) (cond (c == 40) (Ok (Not, bytes)) (cond (c == 48) (target_at Jump bytes) (cond (c == 49) (target_at JumpIfFalse bytes) (cond (c == 64) (index_at (length h.kinds) Fold bytes) (cond (c == 80) (Ok (Return, bytes)) (Err UnknownOpcode)))))))))))))))) (Ok x) e8 (λ t r. by_code h c 17 bytes x t (plain_taken h 17 Sub refl refl bytes x fits r)) (λ f8 e9.
+    choose (c == 18) (Ok (Mul, bytes)) (cond (c == 19) (Ok (Div, bytes)) (cond (c == 20) (Ok (Rem, bytes)) (cond (c == 21) (Ok (Neg, bytes)) (cond (c == 32) (Ok (Eq, bytes)) (cond (c == 33) (Ok (Ne, bytes)) (cond (c == 34) (Ok (Lt, bytes)) (cond (c == 35) (Ok (Le, bytes)) (cond (c == 36) (Ok (Gt, bytes)) (cond (c == 37) (Ok (Ge, bytes)) (cond (c == 40) (Ok (Not, bytes)) (cond (c == 48) (target_at Jump bytes) (cond (c == 49) (target_at JumpIfFalse bytes) (cond (c == 64) (index_at (length h.kinds) Fold bytes) (cond (c == 80) (Ok (Return, bytes)) (Err UnknownOpcode))))))))))))))) (Ok x) e9 (λ t r. by_code h c 18 bytes x t (plain_taken h 18 Mul refl refl bytes x fits r)) (λ f9 e10.
+    choose (c == 19) (Ok (Div, bytes)) (cond (c == 20) (Ok (Rem, bytes)) (cond (c == 21) (Ok (Neg, bytes)) (cond (c == 32) (Ok (Eq, bytes)) (cond (c == 33) (Ok (Ne, bytes)) (cond (c == 34) (Ok (Lt, bytes)) (cond (c == 35) (Ok (Le, bytes)) (cond (c == 36) (Ok (Gt, bytes)) (cond (c == 37) (Ok (Ge, bytes)) (cond (c == 40) (Ok (Not, bytes)) (cond (c == 48) (target_at Jump bytes) (cond (c == 49) (target_at JumpIfFalse bytes) (cond (c == 64) (index_at (length h.kinds) Fold bytes) (cond (c == 80) (Ok (Return, bytes)) (Err UnknownOpcode)))))))))))))) (Ok x) e10 (λ t r. by_code h c 19 bytes x t (plain_taken h 19 Div refl refl bytes x fits r)) (λ f10 e11.
+    choose (c == 20) (Ok (Rem, bytes)) (cond (c == 21) (Ok (Neg, bytes)) (cond (c == 32) (Ok (Eq, bytes)) (cond (c == 33) (Ok (Ne, bytes)) (cond (c == 34) (Ok (Lt, bytes)) (cond (c == 35) (Ok (Le, bytes)) (cond (c == 36) (Ok (Gt, bytes)) (cond (c == 37) (Ok (Ge, bytes)) (cond (c == 40) (Ok (Not, bytes)) (cond (c == 48) (target_at Jump bytes) (cond (c == 49) (target_at JumpIfFalse bytes) (cond (c == 64) (index_at (length h.kinds) Fold bytes) (cond (c == 80) (Ok (Return, bytes)) (Err UnknownOpcode))))))))))))) (Ok x) e11 (λ t r. by_code h c 20 bytes x t (plain_taken h 20 Rem refl refl bytes x fits r)) (λ f11 e12.
+    choose (c == 21) (Ok (Neg, bytes)) (cond (c == 32) (Ok (Eq, bytes)) (cond (c == 33) (Ok (Ne, bytes)) (cond (c == 34) (Ok (Lt, bytes)) (cond (c == 35) (Ok (Le, bytes)) (cond (c == 36) (Ok (Gt, bytes)) (cond (c == 37) (Ok (Ge, bytes)) (cond (c == 40) (Ok (Not, bytes)) (cond (c == 48) (target_at Jump bytes) (cond (c == 49) (target_at JumpIfFalse bytes) (cond (c == 64) (index_at (length h.kinds) Fold bytes) (cond (c == 80) (Ok (Return, bytes)) (Err UnknownOpcode)))))))))))) (Ok x) e12 (λ t r. by_code h c 21 bytes x t (plain_taken h 21 Neg refl refl bytes x fits r)) (λ f12 e13.
+    choose (c == 32) (Ok (Eq, bytes)) (cond (c == 33) (Ok (Ne, bytes)) (cond (c == 34) (Ok (Lt, bytes)) (cond (c == 35) (Ok (Le, bytes)) (cond (c == 36) (Ok (Gt, bytes)) (cond (c == 37) (Ok (Ge, bytes)) (cond (c == 40) (Ok (Not, bytes)) (cond (c == 48) (target_at Jump bytes) (cond (c == 49) (target_at JumpIfFalse bytes) (cond (c == 64) (index_at (length h.kinds) Fold bytes) (cond (c == 80) (Ok (Return, bytes)) (Err UnknownOpcode))))))))))) (Ok x) e13 (λ t r. by_code h c 32 bytes x t (plain_taken h 32 Eq refl refl bytes x fits r)) (λ f13 e14.
+    choose (c == 33) (Ok (Ne, bytes)) (cond (c == 34) (Ok (Lt, bytes)) (cond (c == 35) (Ok (Le, bytes)) (cond (c == 36) (Ok (Gt, bytes)) (cond (c == 37) (Ok (Ge, bytes)) (cond (c == 40) (Ok (Not, bytes)) (cond (c == 48) (target_at Jump bytes) (cond (c == 49) (target_at JumpIfFalse bytes) (cond (c == 64) (index_at (length h.kinds) Fold bytes) (cond (c == 80) (Ok (Return, bytes)) (Err UnknownOpcode)))))))))) (Ok x) e14 (λ t r. by_code h c 33 bytes x t (plain_taken h 33 Ne refl refl bytes x fits r)) (λ f14 e15.
+    choose (c == 34) (Ok (Lt, bytes)) (cond (c == 35) (Ok (Le, bytes)) (cond (c == 36) (Ok (Gt, bytes)) (cond (c == 37) (Ok (Ge, bytes)) (cond (c == 40) (Ok (Not, bytes)) (cond (c == 48) (target_at Jump bytes) (cond (c == 49) (target_at JumpIfFalse bytes) (cond (c == 64) (index_at (length h.kinds) Fold bytes) (cond (c == 80) (Ok (Return, bytes)) (Err UnknownOpcode))))))))) (Ok x) e15 (λ t r. by_code h c 34 bytes x t (plain_taken h 34 Lt refl refl bytes x fits r)) (λ f15 e16.
+    choose (c == 35) (Ok (Le, bytes)) (cond (c == 36) (Ok (Gt, bytes)) (cond (c == 37) (Ok (Ge, bytes)) (cond (c == 40) (Ok (Not, bytes)) (cond (c == 48) (target_at Jump bytes) (cond (c == 49) (target_at JumpIfFalse bytes) (cond (c == 64) (index_at (length h.kinds) Fold bytes) (cond (c == 80) (Ok (Return, bytes)) (Err UnknownOpcode)))))))) (Ok x) e16 (λ t r. by_code h c 35 bytes x t (plain_taken h 35 Le refl refl bytes x fits r)) (λ f16 e17.
+    choose (c == 36) (Ok (Gt, bytes)) (cond (c == 37) (Ok (Ge, bytes)) (cond (c == 40) (Ok (Not, bytes)) (cond (c == 48) (target_at Jump bytes) (cond (c == 49) (target_at JumpIfFalse bytes) (cond (c == 64) (index_at (length h.kinds) Fold bytes) (cond (c == 80) (Ok (Return, bytes)) (Err UnknownOpcode))))))) (Ok x) e17 (λ t r. by_code h c 36 bytes x t (plain_taken h 36 Gt refl refl bytes x fits r)) (λ f17 e18.
+    choose (c == 37) (Ok (Ge, bytes)) (cond (c == 40) (Ok (Not, bytes)) (cond (c == 48) (target_at Jump bytes) (cond (c == 49) (target_at JumpIfFalse bytes) (cond (c == 64) (index_at (length h.kinds) Fold bytes) (cond (c == 80) (Ok (Return, bytes)) (Err UnknownOpcode)))))) (Ok x) e18 (λ t r. by_code h c 37 bytes x t (plain_taken h 37 Ge refl refl bytes x fits r)) (λ f18 e19.
+    choose (c == 40) (Ok (Not, bytes)) (cond (c == 48) (target_at Jump bytes) (cond (c == 49) (target_at JumpIfFalse bytes) (cond (c == 64) (index_at (length h.kinds) Fold bytes) (cond (c == 80) (Ok (Return, bytes)) (Err UnknownOpcode))))) (Ok x) e19 (λ t r. by_code h c 40 bytes x t (plain_taken h 40 Not refl refl bytes x fits r)) (λ f19 e20.
+    choose (c == 48) (target_at Jump bytes) (cond (c == 49) (target_at JumpIfFalse bytes) (cond (c == 64) (index_at (length h.kinds) Fold bytes) (cond (c == 80) (Ok (Return, bytes)) (Err UnknownOpcode)))) (Ok x) e20 (λ t r. by_code h c 48 bytes x t (target_taken h 48 Jump (λ t rest. refl) (λ t. refl) bytes x fits r)) (λ f20 e21.
+    choose (c == 49) (target_at JumpIfFalse bytes) (cond (c == 64) (index_at (length h.kinds) Fold bytes) (cond (c == 80) (Ok (Return, bytes)) (Err UnknownOpcode))) (Ok x) e21 (λ t r. by_code h c 49 bytes x t (target_taken h 49 JumpIfFalse (λ t rest. refl) (λ t. refl) bytes x fits r)) (λ f21 e22.
+    choose (c == 64) (index_at (length h.kinds) Fold bytes) (cond (c == 80) (Ok (Return, bytes)) (Err UnknownOpcode)) (Ok x) e22 (λ t r. by_code h c 64 bytes x t (index_taken h 64 (length h.kinds) Fold (λ i rest. refl) (λ i. refl) bytes x fits r)) (λ f22 e23.
+    choose (c == 80) (Ok (Return, bytes)) (Err UnknownOpcode) (Ok x) e23 (λ t r. by_code h c 80 bytes x t (plain_taken h 80 Return refl refl bytes x fits r)) (λ f23 e24.
+    absurd (no_code x e24)))))))))))))))))))))))))
+
+pub instr_taken : (h : Header) → Exact (instr_at h) instr (is_instr h)
+unfolding instr_at
+instr_taken h bytes x fits e =
+    let b = bind_ok (number_at w8 bytes) (λ c. instr_by h c.0 c.1) x e in
+    let t = byte_taken bytes b.0 fits b.1 in
+    let u = instr_by_taken h b.0.0 b.0.1 x t.fits b.2 in
+    record { parts = t.parts ∙ u.parts; fits = u.fits; good = u.good }
+
+pub code_taken : (h : Header) → Exact (code_at h) code (is_section h)
+unfolding code_at is_section
+code_taken h bytes x fits e =
+    let b = bind_ok (judged (is_between 0 1000) (number_at w16 bytes)) (λ n. several (instr_at h) n.0 n.1) x e in
+    let j = judged_ok (is_between 0 1000) (number_at w16 bytes) b.0 b.1 in
+    let t = number_taken w16 65536 wide16 bytes b.0 fits j.0 in
+    let u = several_taken (instr_at h) instr (is_instr h) (instr_taken h) b.0.0 b.0.1 x t.fits b.2 in
+    let few : length x.0 ≤ 1000 = omega (arith, u.len, at_most 0 1000 b.0.0 j.1) in
+    record { parts = t.parts ∙ ap (λ r. number b.0.0 ++ r) u.parts ∙ ap (λ n. number n ++ (flat_map instr x.0 ++ x.1)) (sym u.len); fits = u.fits; good = and_from _ _ (le-leb _ _ few) u.good }
+
+same_bytes : (a b : List ℕ) → bytes_eq a b ≡ true → a ≡ b
+same_bytes [] [] e = refl
+same_bytes [] (y ∷ ys) e = absurd (true≢false (sym e))
+same_bytes (x ∷ xs) [] e = absurd (true≢false (sym e))
+same_bytes (x ∷ xs) (y ∷ ys) e =
+    let p = and_parts (x == y) (bytes_eq xs ys) e in
+    rw (eqb-true x y p.0, same_bytes xs ys p.1) refl
+
+-- ---- the header
+
+magic_taken : (bytes : List ℕ) (x : List ℕ × List ℕ) → IsBytes bytes → magic_at bytes ≡ Ok x → (bytes ≡ magic ++ x.1) × IsBytes x.1
+unfolding magic_at
+magic_taken bytes x fits e =
+    let b = bind_ok (bytes_at 4 bytes) (λ m. cond (bytes_eq m.0 magic) (Ok m) (Err BadMagic)) x e in
+    let g = test_ok (bytes_eq b.0.0 magic) BadMagic b.0 x b.2 in
+    let p = bytes_taken 4 bytes b.0 fits b.1 in
+    subst (λ y. (bytes ≡ magic ++ y.1) × IsBytes y.1) g.1 (p.parts ∙ ap (λ m. m ++ b.0.1) (same_bytes b.0.0 magic g.0), p.fits)
+
+version_taken : (bytes : List ℕ) (x : ℕ × List ℕ) → IsBytes bytes → version_at bytes ≡ Ok x → (bytes ≡ byte 1 ++ x.1) × IsBytes x.1
+unfolding version_at
+version_taken bytes x fits e =
+    let b = bind_ok (number_at w8 bytes) (λ v. cond (v.0 == 1) (Ok v) (Err Version)) x e in
+    let g = test_ok (b.0.0 == 1) Version b.0 x b.2 in
+    let t = byte_taken bytes b.0 fits b.1 in
+    subst (λ y. (bytes ≡ byte 1 ++ y.1) × IsBytes y.1) g.1 (t.parts ∙ ap (λ n. byte n ++ b.0.1) (eqb-true b.0.0 1 g.0), t.fits)
+
+twelve_from : (a b c d e f g h i j k l m : Bool) → a ≡ true → b ≡ true → c ≡ true → d ≡ true → e ≡ true → f ≡ true → g ≡ true → h ≡ true → i ≡ true → j ≡ true → k ≡ true → l ≡ true → m ≡ true
+    → (a && (b && (c && (d && (e && (f && (g && (h && (i && (j && (k && (l && m)))))))))))) ≡ true
+twelve_from true b c d e f g h i j k l m p1 p2 p3 p4 p5 p6 p7 p8 p9 p10 p11 p12 p13 =
+    and_from _ _ p2 (and_from _ _ p3 (and_from _ _ p4 (and_from _ _ p5 (and_from _ _ p6 (and_from _ _ p7 (and_from _ _ p8 (and_from _ _ p9 (and_from _ _ p10 (and_from _ _ p11 (and_from _ _ p12 p13))))))))))
+twelve_from false b c d e f g h i j k l m p1 p2 p3 p4 p5 p6 p7 p8 p9 p10 p11 p12 p13 = absurd (true≢false (sym p1))
+
+abbrev header_done : Header × List ℕ → Read Header
+header_done x = Ok x
+
+header_joined : (h : Header) (bytes r1 r2 r3 r4 r5 r6 r7 r8 r9 r10 r11 r12 r13 r14 rest : List ℕ)
+    → bytes ≡ magic ++ r1 → r1 ≡ byte 1 ++ r2 → r2 ≡ schema h.schema ++ r3 → r3 ≡ signed h.start ++ r4 → r4 ≡ signed h.skew ++ r5 → r5 ≡ signed h.lateness ++ r6 → r6 ≡ signed h.records ++ r7 → r7 ≡ shape h.shape ++ r8 → r8 ≡ mode h.mode ++ r9 → r9 ≡ signed h.early ++ r10 → r10 ≡ signed h.late ++ r11 → r11 ≡ form h.form ++ r12 → r12 ≡ kinds h.kinds ++ r13 → r13 ≡ columns h.columns ++ r14 → r14 ≡ budget h.budget ++ rest
+    → bytes ≡ header h ++ rest
+header_joined h bytes r1 r2 r3 r4 r5 r6 r7 r8 r9 r10 r11 r12 r13 r14 rest e0 e1 e2 e3 e4 e5 e6 e7 e8 e9 e10 e11 e12 e13 e14 =
+    let s15 : List ℕ = rest in
+    let s14 : List ℕ = budget h.budget ++ s15 in
+    let s13 : List ℕ = columns h.columns ++ s14 in
+    let s12 : List ℕ = kinds h.kinds ++ s13 in
+    let s11 : List ℕ = form h.form ++ s12 in
+    let s10 : List ℕ = signed h.late ++ s11 in
+    let s9 : List ℕ = signed h.early ++ s10 in
+    let s8 : List ℕ = mode h.mode ++ s9 in
+    let s7 : List ℕ = shape h.shape ++ s8 in
+    let s6 : List ℕ = signed h.records ++ s7 in
+    let s5 : List ℕ = signed h.lateness ++ s6 in
+    let s4 : List ℕ = signed h.skew ++ s5 in
+    let s3 : List ℕ = signed h.start ++ s4 in
+    let s2 : List ℕ = schema h.schema ++ s3 in
+    let s1 : List ℕ = byte 1 ++ s2 in
+    let q14 : r14 ≡ s14 = e14 in
+    let q13 : r13 ≡ s13 = e13 ∙ ap (λ r. columns h.columns ++ r) q14 in
+    let q12 : r12 ≡ s12 = e12 ∙ ap (λ r. kinds h.kinds ++ r) q13 in
+    let q11 : r11 ≡ s11 = e11 ∙ ap (λ r. form h.form ++ r) q12 in
+    let q10 : r10 ≡ s10 = e10 ∙ ap (λ r. signed h.late ++ r) q11 in
+    let q9 : r9 ≡ s9 = e9 ∙ ap (λ r. signed h.early ++ r) q10 in
+    let q8 : r8 ≡ s8 = e8 ∙ ap (λ r. mode h.mode ++ r) q9 in
+    let q7 : r7 ≡ s7 = e7 ∙ ap (λ r. shape h.shape ++ r) q8 in
+    let q6 : r6 ≡ s6 = e6 ∙ ap (λ r. signed h.records ++ r) q7 in
+    let q5 : r5 ≡ s5 = e5 ∙ ap (λ r. signed h.lateness ++ r) q6 in
+    let q4 : r4 ≡ s4 = e4 ∙ ap (λ r. signed h.skew ++ r) q5 in
+    let q3 : r3 ≡ s3 = e3 ∙ ap (λ r. signed h.start ++ r) q4 in
+    let q2 : r2 ≡ s2 = e2 ∙ ap (λ r. schema h.schema ++ r) q3 in
+    let q1 : r1 ≡ s1 = e1 ∙ ap (λ r. byte 1 ++ r) q2 in
+    e0 ∙ ap (λ r. magic ++ r) q1 ∙ sym (regroup_15 magic (byte 1) (schema h.schema) (signed h.start) (signed h.skew) (signed h.lateness) (signed h.records) (shape h.shape) (mode h.mode) (signed h.early) (signed h.late) (form h.form) (kinds h.kinds) (columns h.columns) (budget h.budget) rest)
+
+header_from : (bytes : List ℕ) (x : Header × List ℕ) (v_m : List ℕ × List ℕ) (v_version : ℕ × List ℕ) (v_schema : Declared × List ℕ) (v_start : ℤ × List ℕ) (v_skew : ℤ × List ℕ) (v_lateness : ℤ × List ℕ) (v_records : ℤ × List ℕ) (v_shape : Shape × List ℕ) (v_mode : Mode × List ℕ) (v_early : ℤ × List ℕ) (v_late : ℤ × List ℕ) (v_form : Form × List ℕ) (v_kinds : List Kind × List ℕ) (v_columns : List CellType × List ℕ) (v_budget : Budget × List ℕ)
+    → IsBytes bytes → magic_at bytes ≡ Ok v_m → version_at v_m.1 ≡ Ok v_version → schema_at v_version.1 ≡ Ok v_schema → judged (is_within (pos 0) latest_time) (signed_at v_schema.1) ≡ Ok v_start → judged is_span (signed_at v_start.1) ≡ Ok v_skew → judged is_span (signed_at v_skew.1) ≡ Ok v_lateness → judged is_size (signed_at v_lateness.1) ≡ Ok v_records → shape_at v_records.1 ≡ Ok v_shape → mode_at v_shape.1 ≡ Ok v_mode → judged is_span (signed_at v_mode.1) ≡ Ok v_early → judged is_span (signed_at v_early.1) ≡ Ok v_late → form_at v_mode.0 v_late.1 ≡ Ok v_form → kinds_at v_form.1 ≡ Ok v_kinds → columns_at v_schema.0 v_kinds.1 ≡ Ok v_columns → budget_at v_columns.1 ≡ Ok v_budget
+    → header_done (record { schema = v_schema.0; start = v_start.0; skew = v_skew.0; lateness = v_lateness.0; records = v_records.0; shape = v_shape.0; mode = v_mode.0; early = v_early.0; late = v_late.0; form = v_form.0; kinds = v_kinds.0; columns = v_columns.0; budget = v_budget.0 }, v_budget.1) ≡ Ok x → Took header is_header bytes x
+unfolding is_header is_schema
+header_from bytes x v_m v_version v_schema v_start v_skew v_lateness v_records v_shape v_mode v_early v_late v_form v_kinds v_columns v_budget fits e0 e1 e2 e3 e4 e5 e6 e7 e8 e9 e10 e11 e12 e13 e14 last =
+    let t0 = magic_taken bytes v_m fits e0 in
+    let t1 = version_taken v_m.1 v_version t0.1 e1 in
+    let t2 = schema_taken v_version.1 v_schema t1.1 e2 in
+    let t3 = measure_taken (is_within (pos 0) latest_time) v_schema.1 v_start t2.fits e3 in
+    let t4 = measure_taken is_span v_start.1 v_skew t3.fits e4 in
+    let t5 = measure_taken is_span v_skew.1 v_lateness t4.fits e5 in
+    let t6 = measure_taken is_size v_lateness.1 v_records t5.fits e6 in
+    let t7 = shape_taken v_records.1 v_shape t6.fits e7 in
+    let t8 = mode_taken v_shape.1 v_mode t7.fits e8 in
+    let t9 = measure_taken is_span v_mode.1 v_early t8.fits e9 in
+    let t10 = measure_taken is_span v_early.1 v_late t9.fits e10 in
+    let t11 = form_taken v_mode.0 v_late.1 v_form t10.fits e11 in
+    let t12 = kinds_taken v_form.1 v_kinds t11.fits e12 in
+    let t13 = columns_taken v_schema.0 v_kinds.1 v_columns t12.fits e13 in
+    let t14 = budget_taken v_columns.1 v_budget t13.fits e14 in
+    let c = and_parts (is_between 1 16 (length v_columns.0)) (list_all (is_column v_schema.0) v_columns.0) t13.good in
+    let made : Header × List ℕ = (record { schema = v_schema.0; start = v_start.0; skew = v_skew.0; lateness = v_lateness.0; records = v_records.0; shape = v_shape.0; mode = v_mode.0; early = v_early.0; late = v_late.0; form = v_form.0; kinds = v_kinds.0; columns = v_columns.0; budget = v_budget.0 }, v_budget.1) in
+    subst (λ y. Took header is_header bytes y) (ok_is made x last)
+    (record {
+      parts = header_joined made.0 bytes v_m.1 v_version.1 v_schema.1 v_start.1 v_skew.1 v_lateness.1 v_records.1 v_shape.1 v_mode.1 v_early.1 v_late.1 v_form.1 v_kinds.1 v_columns.1 v_budget.1 t0.0 t1.0 t2.parts t3.parts t4.parts t5.parts t6.parts t7.parts t8.parts t9.parts t10.parts t11.parts t12.parts t13.parts t14.parts;
+      fits = t14.fits;
+      good = twelve_from (is_schema v_schema.0) (is_within (pos 0) latest_time v_start.0) (is_span v_skew.0) (is_span v_lateness.0) (is_size v_records.0) (is_shape v_shape.0) (is_span v_early.0) (is_span v_late.0) (is_form_of v_mode.0 v_form.0)
+          (leb (length v_kinds.0) 16) (is_between 1 16 (length v_columns.0)) (list_all (is_column v_schema.0) v_columns.0) (is_budget v_budget.0)
+          t2.good t3.good t4.good t5.good t6.good t7.good t9.good t10.good t11.good t12.good c.0 c.1 t14.good;
+    })
+
+bind_then : {A B P : Type 0} (r : Result A DecodeRefusal) (f : A → Result B DecodeRefusal) (y : B) → (r >>= f) ≡ Ok y → ((x : A) → r ≡ Ok x → f x ≡ Ok y → P) → P
+bind_then (Ok x) f y e go = go x refl e
+bind_then (Err d) f y e go = absurd cc
+
+pub header_taken : Exact header_at header is_header
+unfolding magic_at header_at
+header_taken bytes x fits l0 =
+    bind_then (magic_at bytes) (λ v_m. version_at v_m.1 >>= λ v_version. schema_at v_version.1 >>= λ v_schema. judged (is_within (pos 0) latest_time) (signed_at v_schema.1) >>= λ v_start. judged is_span (signed_at v_start.1) >>= λ v_skew. judged is_span (signed_at v_skew.1) >>= λ v_lateness. judged is_size (signed_at v_lateness.1) >>= λ v_records. shape_at v_records.1 >>= λ v_shape. mode_at v_shape.1 >>= λ v_mode. judged is_span (signed_at v_mode.1) >>= λ v_early. judged is_span (signed_at v_early.1) >>= λ v_late. form_at v_mode.0 v_late.1 >>= λ v_form. kinds_at v_form.1 >>= λ v_kinds. columns_at v_schema.0 v_kinds.1 >>= λ v_columns. budget_at v_columns.1 >>= λ v_budget. Ok (record { schema = v_schema.0; start = v_start.0; skew = v_skew.0; lateness = v_lateness.0; records = v_records.0; shape = v_shape.0; mode = v_mode.0; early = v_early.0; late = v_late.0; form = v_form.0; kinds = v_kinds.0; columns = v_columns.0; budget = v_budget.0 }, v_budget.1)) x l0 (λ v_m e0 l1.
+    bind_then (version_at v_m.1) (λ v_version. schema_at v_version.1 >>= λ v_schema. judged (is_within (pos 0) latest_time) (signed_at v_schema.1) >>= λ v_start. judged is_span (signed_at v_start.1) >>= λ v_skew. judged is_span (signed_at v_skew.1) >>= λ v_lateness. judged is_size (signed_at v_lateness.1) >>= λ v_records. shape_at v_records.1 >>= λ v_shape. mode_at v_shape.1 >>= λ v_mode. judged is_span (signed_at v_mode.1) >>= λ v_early. judged is_span (signed_at v_early.1) >>= λ v_late. form_at v_mode.0 v_late.1 >>= λ v_form. kinds_at v_form.1 >>= λ v_kinds. columns_at v_schema.0 v_kinds.1 >>= λ v_columns. budget_at v_columns.1 >>= λ v_budget. Ok (record { schema = v_schema.0; start = v_start.0; skew = v_skew.0; lateness = v_lateness.0; records = v_records.0; shape = v_shape.0; mode = v_mode.0; early = v_early.0; late = v_late.0; form = v_form.0; kinds = v_kinds.0; columns = v_columns.0; budget = v_budget.0 }, v_budget.1)) x l1 (λ v_version e1 l2.
+    bind_then (schema_at v_version.1) (λ v_schema. judged (is_within (pos 0) latest_time) (signed_at v_schema.1) >>= λ v_start. judged is_span (signed_at v_start.1) >>= λ v_skew. judged is_span (signed_at v_skew.1) >>= λ v_lateness. judged is_size (signed_at v_lateness.1) >>= λ v_records. shape_at v_records.1 >>= λ v_shape. mode_at v_shape.1 >>= λ v_mode. judged is_span (signed_at v_mode.1) >>= λ v_early. judged is_span (signed_at v_early.1) >>= λ v_late. form_at v_mode.0 v_late.1 >>= λ v_form. kinds_at v_form.1 >>= λ v_kinds. columns_at v_schema.0 v_kinds.1 >>= λ v_columns. budget_at v_columns.1 >>= λ v_budget. Ok (record { schema = v_schema.0; start = v_start.0; skew = v_skew.0; lateness = v_lateness.0; records = v_records.0; shape = v_shape.0; mode = v_mode.0; early = v_early.0; late = v_late.0; form = v_form.0; kinds = v_kinds.0; columns = v_columns.0; budget = v_budget.0 }, v_budget.1)) x l2 (λ v_schema e2 l3.
+    bind_then (judged (is_within (pos 0) latest_time) (signed_at v_schema.1)) (λ v_start. judged is_span (signed_at v_start.1) >>= λ v_skew. judged is_span (signed_at v_skew.1) >>= λ v_lateness. judged is_size (signed_at v_lateness.1) >>= λ v_records. shape_at v_records.1 >>= λ v_shape. mode_at v_shape.1 >>= λ v_mode. judged is_span (signed_at v_mode.1) >>= λ v_early. judged is_span (signed_at v_early.1) >>= λ v_late. form_at v_mode.0 v_late.1 >>= λ v_form. kinds_at v_form.1 >>= λ v_kinds. columns_at v_schema.0 v_kinds.1 >>= λ v_columns. budget_at v_columns.1 >>= λ v_budget. Ok (record { schema = v_schema.0; start = v_start.0; skew = v_skew.0; lateness = v_lateness.0; records = v_records.0; shape = v_shape.0; mode = v_mode.0; early = v_early.0; late = v_late.0; form = v_form.0; kinds = v_kinds.0; columns = v_columns.0; budget = v_budget.0 }, v_budget.1)) x l3 (λ v_start e3 l4.
+    bind_then (judged is_span (signed_at v_start.1)) (λ v_skew. judged is_span (signed_at v_skew.1) >>= λ v_lateness. judged is_size (signed_at v_lateness.1) >>= λ v_records. shape_at v_records.1 >>= λ v_shape. mode_at v_shape.1 >>= λ v_mode. judged is_span (signed_at v_mode.1) >>= λ v_early. judged is_span (signed_at v_early.1) >>= λ v_late. form_at v_mode.0 v_late.1 >>= λ v_form. kinds_at v_form.1 >>= λ v_kinds. columns_at v_schema.0 v_kinds.1 >>= λ v_columns. budget_at v_columns.1 >>= λ v_budget. Ok (record { schema = v_schema.0; start = v_start.0; skew = v_skew.0; lateness = v_lateness.0; records = v_records.0; shape = v_shape.0; mode = v_mode.0; early = v_early.0; late = v_late.0; form = v_form.0; kinds = v_kinds.0; columns = v_columns.0; budget = v_budget.0 }, v_budget.1)) x l4 (λ v_skew e4 l5.
+    bind_then (judged is_span (signed_at v_skew.1)) (λ v_lateness. judged is_size (signed_at v_lateness.1) >>= λ v_records. shape_at v_records.1 >>= λ v_shape. mode_at v_shape.1 >>= λ v_mode. judged is_span (signed_at v_mode.1) >>= λ v_early. judged is_span (signed_at v_early.1) >>= λ v_late. form_at v_mode.0 v_late.1 >>= λ v_form. kinds_at v_form.1 >>= λ v_kinds. columns_at v_schema.0 v_kinds.1 >>= λ v_columns. budget_at v_columns.1 >>= λ v_budget. Ok (record { schema = v_schema.0; start = v_start.0; skew = v_skew.0; lateness = v_lateness.0; records = v_records.0; shape = v_shape.0; mode = v_mode.0; early = v_early.0; late = v_late.0; form = v_form.0; kinds = v_kinds.0; columns = v_columns.0; budget = v_budget.0 }, v_budget.1)) x l5 (λ v_lateness e5 l6.
+    bind_then (judged is_size (signed_at v_lateness.1)) (λ v_records. shape_at v_records.1 >>= λ v_shape. mode_at v_shape.1 >>= λ v_mode. judged is_span (signed_at v_mode.1) >>= λ v_early. judged is_span (signed_at v_early.1) >>= λ v_late. form_at v_mode.0 v_late.1 >>= λ v_form. kinds_at v_form.1 >>= λ v_kinds. columns_at v_schema.0 v_kinds.1 >>= λ v_columns. budget_at v_columns.1 >>= λ v_budget. Ok (record { schema = v_schema.0; start = v_start.0; skew = v_skew.0; lateness = v_lateness.0; records = v_records.0; shape = v_shape.0; mode = v_mode.0; early = v_early.0; late = v_late.0; form = v_form.0; kinds = v_kinds.0; columns = v_columns.0; budget = v_budget.0 }, v_budget.1)) x l6 (λ v_records e6 l7.
+    bind_then (shape_at v_records.1) (λ v_shape. mode_at v_shape.1 >>= λ v_mode. judged is_span (signed_at v_mode.1) >>= λ v_early. judged is_span (signed_at v_early.1) >>= λ v_late. form_at v_mode.0 v_late.1 >>= λ v_form. kinds_at v_form.1 >>= λ v_kinds. columns_at v_schema.0 v_kinds.1 >>= λ v_columns. budget_at v_columns.1 >>= λ v_budget. Ok (record { schema = v_schema.0; start = v_start.0; skew = v_skew.0; lateness = v_lateness.0; records = v_records.0; shape = v_shape.0; mode = v_mode.0; early = v_early.0; late = v_late.0; form = v_form.0; kinds = v_kinds.0; columns = v_columns.0; budget = v_budget.0 }, v_budget.1)) x l7 (λ v_shape e7 l8.
+    bind_then (mode_at v_shape.1) (λ v_mode. judged is_span (signed_at v_mode.1) >>= λ v_early. judged is_span (signed_at v_early.1) >>= λ v_late. form_at v_mode.0 v_late.1 >>= λ v_form. kinds_at v_form.1 >>= λ v_kinds. columns_at v_schema.0 v_kinds.1 >>= λ v_columns. budget_at v_columns.1 >>= λ v_budget. Ok (record { schema = v_schema.0; start = v_start.0; skew = v_skew.0; lateness = v_lateness.0; records = v_records.0; shape = v_shape.0; mode = v_mode.0; early = v_early.0; late = v_late.0; form = v_form.0; kinds = v_kinds.0; columns = v_columns.0; budget = v_budget.0 }, v_budget.1)) x l8 (λ v_mode e8 l9.
+    bind_then (judged is_span (signed_at v_mode.1)) (λ v_early. judged is_span (signed_at v_early.1) >>= λ v_late. form_at v_mode.0 v_late.1 >>= λ v_form. kinds_at v_form.1 >>= λ v_kinds. columns_at v_schema.0 v_kinds.1 >>= λ v_columns. budget_at v_columns.1 >>= λ v_budget. Ok (record { schema = v_schema.0; start = v_start.0; skew = v_skew.0; lateness = v_lateness.0; records = v_records.0; shape = v_shape.0; mode = v_mode.0; early = v_early.0; late = v_late.0; form = v_form.0; kinds = v_kinds.0; columns = v_columns.0; budget = v_budget.0 }, v_budget.1)) x l9 (λ v_early e9 l10.
+    bind_then (judged is_span (signed_at v_early.1)) (λ v_late. form_at v_mode.0 v_late.1 >>= λ v_form. kinds_at v_form.1 >>= λ v_kinds. columns_at v_schema.0 v_kinds.1 >>= λ v_columns. budget_at v_columns.1 >>= λ v_budget. Ok (record { schema = v_schema.0; start = v_start.0; skew = v_skew.0; lateness = v_lateness.0; records = v_records.0; shape = v_shape.0; mode = v_mode.0; early = v_early.0; late = v_late.0; form = v_form.0; kinds = v_kinds.0; columns = v_columns.0; budget = v_budget.0 }, v_budget.1)) x l10 (λ v_late e10 l11.
+    bind_then (form_at v_mode.0 v_late.1) (λ v_form. kinds_at v_form.1 >>= λ v_kinds. columns_at v_schema.0 v_kinds.1 >>= λ v_columns. budget_at v_columns.1 >>= λ v_budget. Ok (record { schema = v_schema.0; start = v_start.0; skew = v_skew.0; lateness = v_lateness.0; records = v_records.0; shape = v_shape.0; mode = v_mode.0; early = v_early.0; late = v_late.0; form = v_form.0; kinds = v_kinds.0; columns = v_columns.0; budget = v_budget.0 }, v_budget.1)) x l11 (λ v_form e11 l12.
+    bind_then (kinds_at v_form.1) (λ v_kinds. columns_at v_schema.0 v_kinds.1 >>= λ v_columns. budget_at v_columns.1 >>= λ v_budget. Ok (record { schema = v_schema.0; start = v_start.0; skew = v_skew.0; lateness = v_lateness.0; records = v_records.0; shape = v_shape.0; mode = v_mode.0; early = v_early.0; late = v_late.0; form = v_form.0; kinds = v_kinds.0; columns = v_columns.0; budget = v_budget.0 }, v_budget.1)) x l12 (λ v_kinds e12 l13.
+    bind_then (columns_at v_schema.0 v_kinds.1) (λ v_columns. budget_at v_columns.1 >>= λ v_budget. Ok (record { schema = v_schema.0; start = v_start.0; skew = v_skew.0; lateness = v_lateness.0; records = v_records.0; shape = v_shape.0; mode = v_mode.0; early = v_early.0; late = v_late.0; form = v_form.0; kinds = v_kinds.0; columns = v_columns.0; budget = v_budget.0 }, v_budget.1)) x l13 (λ v_columns e13 l14.
+    bind_then (budget_at v_columns.1) (λ v_budget. Ok (record { schema = v_schema.0; start = v_start.0; skew = v_skew.0; lateness = v_lateness.0; records = v_records.0; shape = v_shape.0; mode = v_mode.0; early = v_early.0; late = v_late.0; form = v_form.0; kinds = v_kinds.0; columns = v_columns.0; budget = v_budget.0 }, v_budget.1)) x l14 (λ v_budget e14 l15.
+    header_from bytes x v_m v_version v_schema v_start v_skew v_lateness v_records v_shape v_mode v_early v_late v_form v_kinds v_columns v_budget fits e0 e1 e2 e3 e4 e5 e6 e7 e8 e9 e10 e11 e12 e13 e14 l15)))))))))))))))
+
+-- ---- the program
+
+pub program_taken : Exact program_at spelling is_program
+unfolding header_at program_at is_program
+program_taken bytes x fits e =
+    let a = bind_ok (header_at bytes) (λ h. code_at h.0 h.1 >>= λ s. code_at h.0 s.1 >>= λ u. code_at h.0 u.1 >>= λ f. Ok (record { header = h.0; selection = s.0; update = u.0; fire = f.0 }, f.1)) x e in
+    let h = a.0 in
+    let b = bind_ok (code_at h.0 h.1) (λ s. code_at h.0 s.1 >>= λ u. code_at h.0 u.1 >>= λ f. Ok (record { header = h.0; selection = s.0; update = u.0; fire = f.0 }, f.1)) x a.2 in
+    let s = b.0 in
+    let c = bind_ok (code_at h.0 s.1) (λ u. code_at h.0 u.1 >>= λ f. Ok (record { header = h.0; selection = s.0; update = u.0; fire = f.0 }, f.1)) x b.2 in
+    let u = c.0 in
+    let d = bind_ok (code_at h.0 u.1) (λ f. Ok (record { header = h.0; selection = s.0; update = u.0; fire = f.0 }, f.1)) x c.2 in
+    let f = d.0 in
+    let t0 = header_taken bytes h fits a.1 in
+    let t1 = code_taken h.0 h.1 s t0.fits b.1 in
+    let t2 = code_taken h.0 s.1 u t1.fits c.1 in
+    let t3 = code_taken h.0 u.1 f t2.fits d.1 in
+    let made : Program × List ℕ = (record { header = h.0; selection = s.0; update = u.0; fire = f.0 }, f.1) in
+    subst (λ y. Took spelling is_program bytes y) (ok_is made x d.2)
+    (record {
+      parts = t0.parts ∙ ap (λ r. header h.0 ++ r) (t1.parts ∙ ap (λ r. code s.0 ++ r) (t2.parts ∙ ap (λ r. code u.0 ++ r) t3.parts)) ∙ sym (regroup_4 (header h.0) (code s.0) (code u.0) (code f.0) f.1);
+      fits = t3.fits;
+      good = and_from _ _ t0.good (and_from _ _ t1.good (and_from _ _ t2.good t3.good));
+    })
+
+all_ok : (p q : Program) (rest : List ℕ) → all_read p rest ≡ Ok q → (p ≡ q) × (rest ≡ [])
+all_ok p q [] e = (ok_is p q e, refl)
+all_ok p q (b ∷ rest) e = absurd cc
+
+-- what is read is a program, and is spelled so
+pub decode_is : (bytes : List ℕ) (p : Program) → IsBytes bytes → decode bytes ≡ Ok p → (bytes ≡ spelling p) × (is_program p ≡ true)
+unfolding program_at decode
+decode_is bytes p fits e =
+    let a = bind_ok (program_at bytes) (λ q. all_read q.0 q.1) p e in
+    let t = program_taken bytes a.0 fits a.1 in
+    let g = all_ok a.0.0 p a.0.1 a.2 in
+    let whole : bytes ≡ spelling a.0.0 = t.parts ∙ ap (λ r. spelling a.0.0 ++ r) g.1 ∙ append-nil (spelling a.0.0) in
+    subst (λ q. (bytes ≡ spelling q) × (is_program q ≡ true)) g.0 (whole, t.good)
