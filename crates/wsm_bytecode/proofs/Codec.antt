@@ -127,16 +127,16 @@ type_below (Int lo hi) i h e = absurd (true≢false (sym e))
 type_below Truth i h e = absurd (true≢false (sym e))
 type_below (Enum ns) i h e = list_below None ns i h e
 
-later_fields : (before : List Name) (g : DeclaredField) (fs : List DeclaredField) → are_fields_after before (g ∷ fs) ≡ true → (is_field_type g.type ≡ true) × (are_fields_after (g.name ∷ before) fs ≡ true)
+later_fields : (before : List Name) (g : DeclaredField) (fs : List DeclaredField) → are_fields_after before (g ∷ fs) ≡ true → (is_field_type g.type ≡ true) × (are_fields_after (before ++ g.name ∷ []) fs ≡ true)
 later_fields before g fs h =
-    let a = and_parts (is_name g.name) (not (is_among g.name before) && (is_field_type g.type && are_fields_after (g.name ∷ before) fs)) h in
-    let b = and_parts (not (is_among g.name before)) (is_field_type g.type && are_fields_after (g.name ∷ before) fs) a.1 in
-    and_parts (is_field_type g.type) (are_fields_after (g.name ∷ before) fs) b.1
+    let a = and_parts (is_name g.name) (not (is_among g.name before) && (is_field_type g.type && are_fields_after (before ++ g.name ∷ []) fs)) h in
+    let b = and_parts (not (is_among g.name before)) (is_field_type g.type && are_fields_after (before ++ g.name ∷ []) fs) a.1 in
+    and_parts (is_field_type g.type) (are_fields_after (before ++ g.name ∷ []) fs) b.1
 
 fields_below : (before : List Name) (fs : List DeclaredField) (f i : ℕ) → are_fields_after before fs ≡ true → is_name_of (names_of_field (slice_get fs f)) i ≡ true → i < 65536
 fields_below before [] f i h e = absurd (true≢false (sym e))
 fields_below before (g ∷ fs) zero i h e = type_below g.type i (later_fields before g fs h).0 e
-fields_below before (g ∷ fs) (suc f) i h e = fields_below (g.name ∷ before) fs f i (later_fields before g fs h).1 e
+fields_below before (g ∷ fs) (suc f) i h e = fields_below (before ++ g.name ∷ []) fs f i (later_fields before g fs h).1 e
 
 names_below : (s : Declared) (e i : ℕ) → is_schema s ≡ true → is_name_of (enum_names s e) i ≡ true → i < 65536
 unfolding is_schema

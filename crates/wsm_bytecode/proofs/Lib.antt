@@ -4,3 +4,4 @@ pub mod Codec
 pub mod Taken
 pub mod TakenParts
 pub mod TakenProgram
+pub mod Loop

@@ -35,17 +35,17 @@ several_again one spell good again (x ∷ xs) rest h =
     rw (append_assoc (spell x) (flat_map spell xs) rest, again x (flat_map spell xs ++ rest) a.0, several_again one spell good again xs rest a.1) refl
 
 names_after_step : (before : List Name) (k : ℕ) (bytes : List ℕ) (n : Name) (mid : List ℕ) (ns : List Name) (rest : List ℕ) → name_at bytes ≡ Ok (n, mid) → not (is_among n before) ≡ true
-    → names_after (n ∷ before) k mid ≡ Ok (ns, rest) → names_after before (suc k) bytes ≡ Ok (n ∷ ns, rest)
+    → names_after (before ++ n ∷ []) k mid ≡ Ok (ns, rest) → names_after before (suc k) bytes ≡ Ok (n ∷ ns, rest)
 names_after_step before k bytes n mid ns rest e g f = rw (judged_again (λ x. not (is_among x before)) (name_at bytes) n mid e g, f) refl
 
 pub names_after_again : (before ns : List Name) (rest : List ℕ) → are_names_after before ns ≡ true → names_after before (length ns) (flat_map name ns ++ rest) ≡ Ok (ns, rest)
 names_after_again before [] rest h = refl
 names_after_again before (n ∷ ns) rest h =
-    let a = and_parts (is_name n) (not (is_among n before) && are_names_after (n ∷ before) ns) h in
-    let b = and_parts (not (is_among n before)) (are_names_after (n ∷ before) ns) a.1 in
+    let a = and_parts (is_name n) (not (is_among n before) && are_names_after (before ++ n ∷ []) ns) h in
+    let b = and_parts (not (is_among n before)) (are_names_after (before ++ n ∷ []) ns) a.1 in
     let others = flat_map name ns ++ rest in
     ap (names_after before (suc (length ns))) (append_assoc (name n) (flat_map name ns) rest)
-    ∙ names_after_step before (length ns) (name n ++ others) n others ns rest (name_again n others a.0) b.0 (names_after_again (n ∷ before) ns rest b.1)
+    ∙ names_after_step before (length ns) (name n ++ others) n others ns rest (name_again n others a.0) b.0 (names_after_again (before ++ n ∷ []) ns rest b.1)
 
 pub below : (n lo hi m : ℕ) → hi < m → is_between lo hi n ≡ true → n < m
 below n lo hi m h e =
@@ -98,20 +98,20 @@ field_type_again (Enum ns) rest h =
     type_step (byte 2 ++ (names ns ++ rest)) 2 (names ns ++ rest) (Enum ns) rest (tag_again 0 2 2 (names ns ++ rest) (lit< tt) refl) (enum_step (names ns ++ rest) ns rest (names_again ns rest h))
 
 fields_step : (before : List Name) (k : ℕ) (bytes : List ℕ) (f : DeclaredField) (mid next : List ℕ) (fs : List DeclaredField) (rest : List ℕ) → name_at bytes ≡ Ok (f.name, mid) → not (is_among f.name before) ≡ true
-    → field_type_at mid ≡ Ok (f.type, next) → fields_after (f.name ∷ before) k next ≡ Ok (fs, rest) → fields_after before (suc k) bytes ≡ Ok (f ∷ fs, rest)
+    → field_type_at mid ≡ Ok (f.type, next) → fields_after (before ++ f.name ∷ []) k next ≡ Ok (fs, rest) → fields_after before (suc k) bytes ≡ Ok (f ∷ fs, rest)
 fields_step before k bytes f mid next fs rest e g t h = rw (judged_again (λ x. not (is_among x before)) (name_at bytes) f.name mid e g, t, h) refl
 
 pub fields_after_again : (before : List Name) (fs : List DeclaredField) (rest : List ℕ) → are_fields_after before fs ≡ true → fields_after before (length fs) (flat_map field fs ++ rest) ≡ Ok (fs, rest)
 fields_after_again before [] rest h = refl
 fields_after_again before (f ∷ fs) rest h =
-    let a = and_parts (is_name f.name) (not (is_among f.name before) && (is_field_type f.type && are_fields_after (f.name ∷ before) fs)) h in
-    let b = and_parts (not (is_among f.name before)) (is_field_type f.type && are_fields_after (f.name ∷ before) fs) a.1 in
-    let c = and_parts (is_field_type f.type) (are_fields_after (f.name ∷ before) fs) b.1 in
+    let a = and_parts (is_name f.name) (not (is_among f.name before) && (is_field_type f.type && are_fields_after (before ++ f.name ∷ []) fs)) h in
+    let b = and_parts (not (is_among f.name before)) (is_field_type f.type && are_fields_after (before ++ f.name ∷ []) fs) a.1 in
+    let c = and_parts (is_field_type f.type) (are_fields_after (before ++ f.name ∷ []) fs) b.1 in
     let others = flat_map field fs ++ rest in
     let mid = field_type f.type ++ others in
     let regrouped : (field f ++ flat_map field fs) ++ rest ≡ name f.name ++ mid = append_assoc (field f) (flat_map field fs) rest ∙ append_assoc (name f.name) (field_type f.type) others in
     ap (fields_after before (suc (length fs))) regrouped
-    ∙ fields_step before (length fs) (name f.name ++ mid) f mid others fs rest (name_again f.name mid a.0) b.0 (field_type_again f.type others c.0) (fields_after_again (f.name ∷ before) fs rest c.1)
+    ∙ fields_step before (length fs) (name f.name ++ mid) f mid others fs rest (name_again f.name mid a.0) b.0 (field_type_again f.type others c.0) (fields_after_again (before ++ f.name ∷ []) fs rest c.1)
 
 schema_step : (bytes : List ℕ) (s : Declared) (mid : List ℕ) (k : ℕ) (next rest : List ℕ) → names_at bytes ≡ Ok (s.keys, mid) → judged (is_between 0 16) (number_at w8 mid) ≡ Ok (k, next) → fields_after [] k next ≡ Ok (s.fields, rest)
     → schema_at bytes ≡ Ok (s, rest)
@@ -160,7 +160,7 @@ session_step : (bytes : List ℕ) (n : ℤ) (rest : List ℕ) → judged is_size
 unfolding session_at
 session_step bytes n rest e = rw e refl
 
-sliding_step : (bytes : List ℕ) (n d : ℤ) (mid rest : List ℕ) → judged is_size (signed_at bytes) ≡ Ok (n, mid) → judged (λ x. is_size x && int_le x n) (signed_at mid) ≡ Ok (d, rest) → sliding_at bytes ≡ Ok (Sliding n d, rest)
+sliding_step : (bytes : List ℕ) (n d : ℤ) (mid rest : List ℕ) → judged is_size (signed_at bytes) ≡ Ok (n, mid) → judged (is_within (pos 1) n) (signed_at mid) ≡ Ok (d, rest) → sliding_at bytes ≡ Ok (Sliding n d, rest)
 unfolding sliding_at
 sliding_step bytes n d mid rest e f = rw (e, f) refl
 
@@ -169,11 +169,12 @@ shape_again (Fixed n) rest h =
     let mid = signed n ++ rest in
     shape_step (byte 0 ++ mid) 0 mid (Fixed n) rest (tag_again 0 2 0 mid (lit< tt) refl) (fixed_step mid n rest (size_again n rest h))
 shape_again (Sliding n d) rest h =
-    let a = and_parts (is_size n) (is_size d && int_le d n) h in
-    let b = and_parts (is_size d) (int_le d n) a.1 in
+    let a = and_parts (is_size n) (is_within (pos 1) n d) h in
+    let top = (and_parts (int_le (pos 1) n) (int_le n longest_span) a.0).1 in
+    let high : int_le n (pos 9223372036854775807) ≡ true = le_through n longest_span (pos 9223372036854775807) top refl in
     let next = signed d ++ rest in
     let mid = signed n ++ next in
-    let period = judged_again (λ x. is_size x && int_le x n) (signed_at next) d rest (signed_again d rest (is_i64_within (pos 1) longest_span d refl refl b.0)) a.1 in
+    let period = judged_again (is_within (pos 1) n) (signed_at next) d rest (signed_again d rest (is_i64_within (pos 1) n d refl high a.1)) a.1 in
     shape_step (byte 1 ++ mid) 1 mid (Sliding n d) rest (tag_again 0 2 1 mid (lit< tt) refl) (sliding_step mid n d next rest (size_again n next a.0) period)
 shape_again (Session n) rest h =
     let mid = signed n ++ rest in

@@ -1,5 +1,5 @@
 -- What was read is what was spelled: the parts of a header.
-use Rattle.std.proofs.Common.{leb, ◌≡◌, ℕ, zero, suc, ◌^◌, ◌≤◌, Bool, true, ◌&&◌, not, List, [], ◌∷◌, ◌++◌, length, ℤ, is_some, Ok, refl, sym, ap, subst, ◌∙◌, append_assoc, arith}
+use Rattle.std.proofs.Common.{leb, ◌≡◌, ℕ, zero, suc, ◌^◌, ◌≤◌, Bool, true, ◌&&◌, not, List, [], ◌∷◌, ◌++◌, length, ℤ, pos, is_some, Ok, refl, sym, ap, subst, ◌∙◌, append_assoc, arith}
 use Rattle.std.specs.Prelude.{int_le}
 use Rattle.std.specs.List.{list_all, flat_map}
 use Rattle.std.specs.Int.{w8, w16, w64}
@@ -11,7 +11,7 @@ use Rattle.wsm_windows.specs.declared.Shape.{Shape}
 use Rattle.wsm_windows.specs.declared.Shape.TheVariants.{Fixed, Sliding, Session}
 use Rattle.wsm_record.specs.declared.Mode.{Mode}
 use Rattle.wsm_record.specs.declared.Form.{Form}
-use Rattle.wsm_bytecode.specs.Program.{Name, are_names_after, is_name_list, is_field_type, are_fields_after, is_schema, is_size, is_shape, is_form_of, is_column, is_stated, is_budget, enum_names}
+use Rattle.wsm_bytecode.specs.Program.{Name, are_names_after, is_name_list, is_field_type, are_fields_after, is_schema, is_size, is_within, is_shape, is_form_of, is_column, is_stated, is_budget, enum_names}
 use Rattle.wsm_record.specs.Schema.{FieldType, Int, Truth, Enum, DeclaredField, Declared}
 use Rattle.wsm_bytecode.specs.declared.program.Budget.{Budget}
 use Rattle.wsm_record.specs.Name.{is_between, is_name, is_among}
@@ -43,11 +43,11 @@ names_after_taken before zero bytes x fits e =
     let made : List Name × List ℕ = ([], bytes) in
     subst (λ y. TookNames before 0 bytes y) (ok_is made x e) (record { parts = refl; fits = fits; len = refl; good = refl })
 names_after_taken before (suc n) bytes x fits e =
-    let a = bind_ok (judged (λ y. not (is_among y before)) (name_at bytes)) (λ first. names_after (first.0 ∷ before) n first.1 >>= λ others. Ok (first.0 ∷ others.0, others.1)) x e in
-    let b = bind_ok (names_after (a.0.0 ∷ before) n a.0.1) (λ others. Ok (a.0.0 ∷ others.0, others.1)) x a.2 in
+    let a = bind_ok (judged (λ y. not (is_among y before)) (name_at bytes)) (λ first. names_after (before ++ first.0 ∷ []) n first.1 >>= λ others. Ok (first.0 ∷ others.0, others.1)) x e in
+    let b = bind_ok (names_after (before ++ a.0.0 ∷ []) n a.0.1) (λ others. Ok (a.0.0 ∷ others.0, others.1)) x a.2 in
     let j = judged_ok (λ y. not (is_among y before)) (name_at bytes) a.0 a.1 in
     let t = name_taken bytes a.0 fits j.0 in
-    let u = names_after_taken (a.0.0 ∷ before) n a.0.1 b.0 t.fits b.1 in
+    let u = names_after_taken (before ++ a.0.0 ∷ []) n a.0.1 b.0 t.fits b.1 in
     let made : List Name × List ℕ = (a.0.0 ∷ b.0.0, b.0.1) in
     subst (λ y. TookNames before (suc n) bytes y) (ok_is made x b.2)
     (record {
@@ -134,13 +134,13 @@ fields_after_taken before zero bytes x fits e =
     let made : List DeclaredField × List ℕ = ([], bytes) in
     subst (λ y. TookFields before 0 bytes y) (ok_is made x e) (record { parts = refl; fits = fits; len = refl; good = refl })
 fields_after_taken before (suc n) bytes x fits e =
-    let a = bind_ok (judged (λ y. not (is_among y before)) (name_at bytes)) (λ first. field_type_at first.1 >>= λ type. fields_after (first.0 ∷ before) n type.1 >>= λ others. Ok (record { name = first.0; type = type.0 } ∷ others.0, others.1)) x e in
-    let b = bind_ok (field_type_at a.0.1) (λ type. fields_after (a.0.0 ∷ before) n type.1 >>= λ others. Ok (record { name = a.0.0; type = type.0 } ∷ others.0, others.1)) x a.2 in
-    let c = bind_ok (fields_after (a.0.0 ∷ before) n b.0.1) (λ others. Ok (record { name = a.0.0; type = b.0.0 } ∷ others.0, others.1)) x b.2 in
+    let a = bind_ok (judged (λ y. not (is_among y before)) (name_at bytes)) (λ first. field_type_at first.1 >>= λ type. fields_after (before ++ first.0 ∷ []) n type.1 >>= λ others. Ok (record { name = first.0; type = type.0 } ∷ others.0, others.1)) x e in
+    let b = bind_ok (field_type_at a.0.1) (λ type. fields_after (before ++ a.0.0 ∷ []) n type.1 >>= λ others. Ok (record { name = a.0.0; type = type.0 } ∷ others.0, others.1)) x a.2 in
+    let c = bind_ok (fields_after (before ++ a.0.0 ∷ []) n b.0.1) (λ others. Ok (record { name = a.0.0; type = b.0.0 } ∷ others.0, others.1)) x b.2 in
     let j = judged_ok (λ y. not (is_among y before)) (name_at bytes) a.0 a.1 in
     let t = name_taken bytes a.0 fits j.0 in
     let v = field_type_taken a.0.1 b.0 t.fits b.1 in
-    let u = fields_after_taken (a.0.0 ∷ before) n b.0.1 c.0 v.fits c.1 in
+    let u = fields_after_taken (before ++ a.0.0 ∷ []) n b.0.1 c.0 v.fits c.1 in
     let one : DeclaredField = record { name = a.0.0; type = b.0.0 } in
     let made : List DeclaredField × List ℕ = (one ∷ c.0.0, c.0.1) in
     subst (λ y. TookFields before (suc n) bytes y) (ok_is made x c.2)
@@ -198,10 +198,10 @@ session_taken bytes x fits e =
 sliding_taken : (bytes : List ℕ) (x : Shape × List ℕ) → IsBytes bytes → sliding_at bytes ≡ Ok x → Took shape is_shape (byte 1 ++ bytes) x
 unfolding sliding_at
 sliding_taken bytes x fits e =
-    let a = bind_ok (judged is_size (signed_at bytes)) (λ n. judged (λ d. is_size d && int_le d n.0) (signed_at n.1) >>= λ d. Ok (Sliding n.0 d.0, d.1)) x e in
-    let b = bind_ok (judged (λ d. is_size d && int_le d a.0.0) (signed_at a.0.1)) (λ d. Ok (Sliding a.0.0 d.0, d.1)) x a.2 in
+    let a = bind_ok (judged is_size (signed_at bytes)) (λ n. judged (is_within (pos 1) n.0) (signed_at n.1) >>= λ d. Ok (Sliding n.0 d.0, d.1)) x e in
+    let b = bind_ok (judged (is_within (pos 1) a.0.0) (signed_at a.0.1)) (λ d. Ok (Sliding a.0.0 d.0, d.1)) x a.2 in
     let t = measure_taken is_size bytes a.0 fits a.1 in
-    let u = measure_taken (λ d. is_size d && int_le d a.0.0) a.0.1 b.0 t.fits b.1 in
+    let u = measure_taken (is_within (pos 1) a.0.0) a.0.1 b.0 t.fits b.1 in
     let made : Shape × List ℕ = (Sliding a.0.0 b.0.0, b.0.1) in
     subst (λ y. Took shape is_shape (byte 1 ++ bytes) y) (ok_is made x b.2)
     (record { parts = ap (λ r. byte 1 ++ r) (t.parts ∙ ap (λ r. signed a.0.0 ++ r) u.parts); fits = u.fits; good = and_from _ _ t.good u.good })

@@ -1,5 +1,5 @@
 -- Programs, without where they lie in memory, and what holds of each.
-use Rattle.std.specs.Prelude.{ℕ, zero, suc, Bool, true, false, ◌&&◌, not, List, [], ◌∷◌, length, ℤ, pos, negsuc, int_le, nat_le, nat_lt, Option, Some, None, is_some, slice_get}
+use Rattle.std.specs.Prelude.{ℕ, zero, suc, Bool, true, false, ◌&&◌, not, List, [], ◌∷◌, ◌++◌, length, ℤ, pos, negsuc, int_le, nat_le, nat_lt, Option, Some, None, is_some, slice_get}
 use Rattle.std.specs.List.{list_all}
 use Rattle.wsm_record.specs.declared.Kind.{Kind}
 use Rattle.wsm_record.specs.declared.Kind.TheVariants.{Sum, Min, Max, Any, All}
@@ -83,7 +83,7 @@ is_i64 n = is_within (negsuc 9223372036854775807) (pos 9223372036854775807) n
 -- names, none of them one of those before it
 abbrev pub are_names_after : List Name → List Name → Bool
 are_names_after before [] = true
-are_names_after before (n ∷ ns) = is_name n && (not (is_among n before) && are_names_after (n ∷ before) ns)
+are_names_after before (n ∷ ns) = is_name n && (not (is_among n before) && are_names_after (before ++ n ∷ []) ns)
 
 -- 1 to 1,000 of them
 abbrev pub is_name_list : List Name → Bool
@@ -97,7 +97,7 @@ is_field_type (Enum names) = is_name_list names
 -- their names are none of those before
 abbrev pub are_fields_after : List Name → List DeclaredField → Bool
 are_fields_after before [] = true
-are_fields_after before (f ∷ fs) = is_name f.name && (not (is_among f.name before) && (is_field_type f.type && are_fields_after (f.name ∷ before) fs))
+are_fields_after before (f ∷ fs) = is_name f.name && (not (is_among f.name before) && (is_field_type f.type && are_fields_after (before ++ f.name ∷ []) fs))
 
 unfoldable pub is_schema : Declared → Bool
 is_schema s = is_name_list s.keys && (nat_le (length s.fields) 16 && are_fields_after [] s.fields)
@@ -116,7 +116,7 @@ is_size n = is_within (pos 1) longest_span n
 
 abbrev pub is_shape : Shape → Bool
 is_shape (Fixed size) = is_size size
-is_shape (Sliding size period) = is_size size && (is_size period && int_le period size)
+is_shape (Sliding size period) = is_size size && is_within (pos 1) size period
 is_shape (Session gap) = is_size gap
 
 -- a stream of changes needs accumulating panes

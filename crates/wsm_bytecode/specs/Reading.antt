@@ -1,5 +1,5 @@
 -- Reading the bytes of a program from the left, up to the first fault.
-use Rattle.std.specs.Prelude.{◌≡◌, ℕ, zero, suc, Bool, ◌&&◌, not, List, [], ◌∷◌, length, take, drop, ℤ, pos, int_le, nat_lt, is_some, Result, Ok, Err, bytes_eq, ◌==◌, if◌then◌else◌}
+use Rattle.std.specs.Prelude.{◌≡◌, ℕ, zero, suc, Bool, ◌&&◌, not, List, [], ◌∷◌, ◌++◌, length, take, drop, ℤ, pos, int_le, nat_lt, is_some, Result, Ok, Err, bytes_eq, ◌==◌, if◌then◌else◌}
 use Rattle.std.specs.Int.{Width, w8, w16, w64, byte_len, from_le_bytes, cast_signed}
 use Rattle.wsm_bytecode.specs.declared.instr.CellType.{CellType}
 use Rattle.wsm_bytecode.specs.declared.instr.CellType.TheVariants as types
@@ -68,7 +68,7 @@ abbrev pub names_after : List Name → ℕ → List ℕ → Read (List Name)
 names_after before zero bytes = Ok ([], bytes)
 names_after before (suc n) bytes = do
   first ← judged (λ x. not (is_among x before)) (name_at bytes)
-  others ← names_after (first.0 ∷ before) n first.1
+  others ← names_after (before ++ first.0 ∷ []) n first.1
   Ok (first.0 ∷ others.0, others.1)
 
 unfoldable pub names_at : List ℕ → Read (List Name)
@@ -103,7 +103,7 @@ fields_after before zero bytes = Ok ([], bytes)
 fields_after before (suc n) bytes = do
   first ← judged (λ x. not (is_among x before)) (name_at bytes)
   type ← field_type_at first.1
-  others ← fields_after (first.0 ∷ before) n type.1
+  others ← fields_after (before ++ first.0 ∷ []) n type.1
   Ok (record { name = first.0; type = type.0 } ∷ others.0, others.1)
 
 unfoldable pub schema_at : List ℕ → Read Declared
@@ -121,7 +121,7 @@ fixed_at bytes = do
 unfoldable pub sliding_at : List ℕ → Read Shape
 sliding_at bytes = do
   size ← judged is_size (signed_at bytes)
-  period ← judged (λ d. is_size d && int_le d size.0) (signed_at size.1)
+  period ← judged (is_within (pos 1) size.0) (signed_at size.1)
   Ok (Sliding size.0 period.0, period.1)
 
 unfoldable pub session_at : List ℕ → Read Shape

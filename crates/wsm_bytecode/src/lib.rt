@@ -19,5 +19,7 @@ pub use program::{Budget, Header, Program, Section};
 pub use refusal::DecodeRefusal;
 
 mod instr;
+mod limits;
 mod program;
+mod reading;
 mod refusal;

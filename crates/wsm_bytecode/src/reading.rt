@@ -1,0 +1,4 @@
+//! From bytes to a program.
+
+mod numbers;
+mod settings;

@@ -1,0 +1,106 @@
+//! The parts of a header behind its schema.
+
+ghost use Rattle.std.specs.Prelude.{◌≡◌};
+ghost use Rattle.wsm_bytecode.specs.Reading.{Gives, shape_at, mode_at, form_at, kind_at, kinds_at, several, budget_at};
+
+use crate::limits::{LONGEST_SPAN, MAX_ACCUMULATORS, MAX_HELD, MAX_STATED};
+use crate::program::Budget;
+use crate::reading::numbers::{byte_of, byte_within, i64_within, u64_within};
+use crate::refusal::DecodeRefusal;
+use std::alloc::Global;
+use wsm_record::{Form, Kind, Mode};
+use wsm_windows::Shape;
+
+#[tactic(auto, unfolding(crate::specs::Reading::shape_at, crate::specs::Reading::fixed_at, crate::specs::Reading::sliding_at, crate::specs::Reading::session_at))]
+pub(crate) fn shape_of(bytes: &[u8]) -> Result<(Shape, &[u8]), DecodeRefusal>
+    ensures { Gives (λ x. (x.0, x.1.now)) result (shape_at bytes.now) }
+{
+    let (tag, rest) = byte_within(bytes, 0, 2)?;
+    let (size, rest) = i64_within(rest, 1, LONGEST_SPAN)?;
+    match tag {
+        0 => Ok((Shape::Fixed(size), rest)),
+        1 => {
+            let (period, rest) = i64_within(rest, 1, size)?;
+            Ok((Shape::Sliding(size, period), rest))
+        }
+        _ => Ok((Shape::Session(size), rest)),
+    }
+}
+
+#[tactic(auto, unfolding(crate::specs::Reading::mode_at))]
+pub(crate) fn mode_of(bytes: &[u8]) -> Result<(Mode, &[u8]), DecodeRefusal>
+    ensures { Gives (λ x. (x.0, x.1.now)) result (mode_at bytes.now) }
+{
+    let (tag, rest) = byte_within(bytes, 0, 1)?;
+    match tag {
+        0 => Ok((Mode::Discarding, rest)),
+        _ => Ok((Mode::Accumulating, rest)),
+    }
+}
+
+/// A stream of changes is a form of accumulating programs alone.
+#[tactic(auto, unfolding(crate::specs::Reading::form_at))]
+pub(crate) fn form_of(bytes: &[u8], mode: Mode) -> Result<(Form, &[u8]), DecodeRefusal>
+    ensures { Gives (λ x. (x.0, x.1.now)) result (form_at mode bytes.now) }
+{
+    let (tag, rest) = byte_of(bytes)?;
+    match (tag, mode) {
+        (0, _) => Ok((Form::Panes, rest)),
+        (1, Mode::Accumulating) => Ok((Form::Istream, rest)),
+        (2, Mode::Accumulating) => Ok((Form::Dstream, rest)),
+        (3, Mode::Accumulating) => Ok((Form::Rstream, rest)),
+        _ => Err(DecodeRefusal::Operand),
+    }
+}
+
+#[tactic(auto, unfolding(crate::specs::Reading::kind_at))]
+fn kind_of(bytes: &[u8]) -> Result<(Kind, &[u8]), DecodeRefusal>
+    ensures { Gives (λ x. (x.0, x.1.now)) result (kind_at bytes.now) }
+{
+    let (tag, rest) = byte_within(bytes, 0, 4)?;
+    let kind = match tag {
+        0 => Kind::Sum,
+        1 => Kind::Min,
+        2 => Kind::Max,
+        3 => Kind::Any,
+        _ => Kind::All,
+    };
+    Ok((kind, rest))
+}
+
+/// How each accumulator folds, of at most 16.
+#[tactic(auto, unfolding(crate::specs::Reading::kinds_at))]
+pub(crate) fn kinds_of(alloc: Global, bytes: &[u8]) -> Result<(Vec<Kind>, &[u8]), DecodeRefusal>
+    ensures { Gives (λ x. (x.0.items, x.1.now)) result (kinds_at bytes.now) }
+{
+    let (count, rest) = byte_within(bytes, 0, MAX_ACCUMULATORS)?;
+    so_many_kinds(alloc, rest, count)
+}
+
+fn so_many_kinds(alloc: Global, bytes: &[u8], count: u8) -> Result<(Vec<Kind>, &[u8]), DecodeRefusal>
+    ensures { Gives (λ x. (x.0.items, x.1.now)) result (several kind_at count bytes.now) }
+{
+    let mut kinds = Vec::new(alloc);
+    let mut rest = bytes;
+    for _ in 0..count {
+        let (kind, after) = kind_of(rest)?;
+        kinds.push(kind)?;
+        rest = after;
+    }
+    Ok((kinds, rest))
+}
+
+#[tactic(auto, unfolding(crate::specs::Reading::budget_at))]
+pub(crate) fn budget_of(bytes: &[u8]) -> Result<(Budget, &[u8]), DecodeRefusal>
+    ensures { Gives (λ x. (x.0, x.1.now)) result (budget_at bytes.now) }
+{
+    let (per_record, rest) = u64_within(bytes, 1, MAX_STATED)?;
+    let (per_pane, rest) = u64_within(rest, 1, MAX_STATED)?;
+    let (held, rest) = u64_within(rest, 1, MAX_HELD)?;
+    let budget = Budget {
+        per_record,
+        per_pane,
+        held,
+    };
+    Ok((budget, rest))
+}
