@@ -1,0 +1,189 @@
+-- Rows of values that are joined place by place.
+use Rattle.std.proofs.Common.{◌≡◌, ℕ, zero, suc, ◌<◌, Bool, true, false, ◌||◌, ◌&&◌, List, [], ◌∷◌, ◌++◌, length, get_or, set, take, ◌≤◌, length-take, Some, refl, sym, ap, ◌∙◌, arith}
+use Rattle.std.specs.Prelude.{ℤ, ◌+ℤ◌}
+use Rattle.std.specs.Int.{int_min, int_max}
+use Rattle.std.proofs.Math.Seq.{take-nil}
+use Rattle.std.proofs.lemmas.Bool.{true≢false}
+use Rattle.wsm_record.specs.declared.event.Value.{Value}
+use Rattle.wsm_record.specs.declared.event.Value.TheVariants.{Int, Bool as Truth}
+use Rattle.wsm_record.specs.declared.words.Kind.{Kind}
+use Rattle.wsm_record.specs.declared.words.Kind.TheVariants.{Sum, Min, Max, Any, All}
+use Rattle.wsm_fold.specs.Lawful.{sum_laws, min_laws, max_laws, any_laws, all_laws}
+use Rattle.wsm_fold.specs.Fold.{is_of_kind, are_of_kinds, number_of, truth_of, join, joins, folds_of}
+use Rattle.wsm_fold.specs.Accumulators.{Accumulators, AreFoldsOf, SumFits, SumsFit}
+use Rattle.wsm_fold.proofs.Bags.{fold_by-append}
+
+-- ---- the laws of a kind, and of a row of kinds
+
+pub join_comm : (k : Kind) (a b : Value) → join k a b ≡ join k b a
+join_comm Sum a b = ap Int (sum_laws.commutative (number_of a) (number_of b))
+join_comm Min a b = ap Int (min_laws.commutative (number_of a) (number_of b))
+join_comm Max a b = ap Int (max_laws.commutative (number_of a) (number_of b))
+join_comm Any a b = ap Truth (any_laws.commutative (truth_of a) (truth_of b))
+join_comm All a b = ap Truth (all_laws.commutative (truth_of a) (truth_of b))
+
+pub join_assoc : (k : Kind) (a b c : Value) → join k (join k a b) c ≡ join k a (join k b c)
+join_assoc Sum a b c = ap Int (sum_laws.associative (number_of a) (number_of b) (number_of c))
+join_assoc Min a b c = ap Int (min_laws.associative (number_of a) (number_of b) (number_of c))
+join_assoc Max a b c = ap Int (max_laws.associative (number_of a) (number_of b) (number_of c))
+join_assoc Any a b c = ap Truth (any_laws.associative (truth_of a) (truth_of b) (truth_of c))
+join_assoc All a b c = ap Truth (all_laws.associative (truth_of a) (truth_of b) (truth_of c))
+
+pub joins_comm : (ks : List Kind) (xs ys : List Value) → joins ks xs ys ≡ joins ks ys xs
+joins_comm [] xs ys = refl
+joins_comm (k ∷ ks) [] [] = refl
+joins_comm (k ∷ ks) [] (y ∷ ys) = refl
+joins_comm (k ∷ ks) (x ∷ xs) [] = refl
+joins_comm (k ∷ ks) (x ∷ xs) (y ∷ ys) = rw (join_comm k x y, joins_comm ks xs ys) refl
+
+pub joins_assoc : (ks : List Kind) (xs ys zs : List Value) → joins ks (joins ks xs ys) zs ≡ joins ks xs (joins ks ys zs)
+joins_assoc [] xs ys zs = refl
+joins_assoc (k ∷ ks) [] ys zs = refl
+joins_assoc (k ∷ ks) (x ∷ xs) [] zs = refl
+joins_assoc (k ∷ ks) (x ∷ xs) (y ∷ ys) [] = refl
+joins_assoc (k ∷ ks) (x ∷ xs) (y ∷ ys) (z ∷ zs) = rw (join_assoc k x y z, joins_assoc ks xs ys zs) refl
+
+-- ---- types
+
+both_hold : (a b : Bool) → (a && b) ≡ true → (a ≡ true) × (b ≡ true)
+both_hold true b e = (refl, e)
+both_hold false b e = absurd (true≢false (sym e))
+
+-- there is a value for each kind
+pub length-are_of_kinds : (ks : List Kind) (vs : List Value) → are_of_kinds ks vs ≡ true → length vs ≡ length ks
+length-are_of_kinds [] [] e = refl
+length-are_of_kinds [] (v ∷ vs) e = absurd (true≢false (sym e))
+length-are_of_kinds (k ∷ ks) [] e = absurd (true≢false (sym e))
+length-are_of_kinds (k ∷ ks) (v ∷ vs) e = omega (arith, length-are_of_kinds ks vs ((both_hold (is_of_kind k v) _ e).1))
+
+is_of_kind-join : (k : Kind) (a b : Value) → is_of_kind k (join k a b) ≡ true
+is_of_kind-join Sum a b = refl
+is_of_kind-join Min a b = refl
+is_of_kind-join Max a b = refl
+is_of_kind-join Any a b = refl
+is_of_kind-join All a b = refl
+
+pub are_of_kinds-joins : (ks : List Kind) (xs ys : List Value) → length xs ≡ length ks → length ys ≡ length ks → are_of_kinds ks (joins ks xs ys) ≡ true
+are_of_kinds-joins [] xs ys p q = refl
+are_of_kinds-joins (k ∷ ks) [] ys p q = absurd (omega arith)
+are_of_kinds-joins (k ∷ ks) (x ∷ xs) [] p q = absurd (omega arith)
+are_of_kinds-joins (k ∷ ks) (x ∷ xs) (y ∷ ys) p q = rw (is_of_kind-join k x y) (are_of_kinds-joins ks xs ys (omega arith) (omega arith))
+
+-- ---- joined in place
+
+-- the first n places are joined, and the rest not yet
+abbrev pub joined_up_to : ℕ → List Kind → List Value → List Value → List Value
+joined_up_to (suc n) (k ∷ ks) (x ∷ xs) (y ∷ ys) = join k x y ∷ joined_up_to n ks xs ys
+joined_up_to n ks xs ys = xs
+
+-- there are a kind and a place for each value
+pub record HasPlaces (ks : List Kind) (xs ys : List Value) : Type 0 where
+  pub kinds : length ys ≤ length ks
+  pub places : length ys ≤ length xs
+
+pub length-joined_up_to : (n : ℕ) (ks : List Kind) (xs ys : List Value) → length (joined_up_to n ks xs ys) ≡ length xs
+length-joined_up_to zero ks xs ys = refl
+length-joined_up_to (suc n) [] xs ys = refl
+length-joined_up_to (suc n) (k ∷ ks) [] ys = refl
+length-joined_up_to (suc n) (k ∷ ks) (x ∷ xs) [] = refl
+length-joined_up_to (suc n) (k ∷ ks) (x ∷ xs) (y ∷ ys) = omega (arith, length-joined_up_to n ks xs ys)
+
+has_places_left : (k : Kind) (ks : List Kind) (x : Value) (xs : List Value) (y : Value) (ys : List Value) → HasPlaces (k ∷ ks) (x ∷ xs) (y ∷ ys) → HasPlaces ks xs ys
+has_places_left k ks x xs y ys a = record { kinds = omega (arith, a.kinds); places = omega (arith, a.places) }
+
+-- one place more
+pub joined_up_to_more : (n : ℕ) (ks : List Kind) (xs ys : List Value) (k : Kind) (x y : Value) → HasPlaces ks xs ys → n < length ys
+    → set (joined_up_to n ks xs ys) n (join (get_or ks n k) (get_or (joined_up_to n ks xs ys) n x) (get_or ys n y)) ≡ joined_up_to (suc n) ks xs ys
+joined_up_to_more n ks xs [] k x y a h = absurd (omega (arith, h))
+joined_up_to_more n [] xs (w ∷ ys) k x y a h = absurd (omega (arith, a.kinds))
+joined_up_to_more n (l ∷ ks) [] (w ∷ ys) k x y a h = absurd (omega (arith, a.places))
+joined_up_to_more zero (l ∷ ks) (v ∷ xs) (w ∷ ys) k x y a h = refl
+joined_up_to_more (suc n) (l ∷ ks) (v ∷ xs) (w ∷ ys) k x y a h =
+    ap (λ r. join l v w ∷ r) (joined_up_to_more n ks xs ys k x y (has_places_left l ks v xs w ys a) (omega (arith, h)))
+
+pub fits_at : (n : ℕ) (ks : List Kind) (xs ys : List Value) (k : Kind) (x y : Value) → HasPlaces ks xs ys → n < length ys → SumsFit ks xs ys
+    → SumFits (get_or ks n k) (get_or (joined_up_to n ks xs ys) n x) (get_or ys n y)
+fits_at n ks xs [] k x y a h f = absurd (omega (arith, h))
+fits_at n [] xs (w ∷ ys) k x y a h f = absurd (omega (arith, a.kinds))
+fits_at n (l ∷ ks) [] (w ∷ ys) k x y a h f = absurd (omega (arith, a.places))
+fits_at zero (l ∷ ks) (v ∷ xs) (w ∷ ys) k x y a h f = f.0
+fits_at (suc n) (l ∷ ks) (v ∷ xs) (w ∷ ys) k x y a h f = fits_at n ks xs ys k x y (has_places_left l ks v xs w ys a) (omega (arith, h)) f.1
+
+-- all places
+pub joined_up_to_all : (ks : List Kind) (xs ys : List Value) → HasPlaces ks xs ys → take (length ys) (joined_up_to (length ys) ks xs ys) ≡ joins ks xs ys
+joined_up_to_all [] [] [] a = refl
+joined_up_to_all [] (x ∷ xs) [] a = refl
+joined_up_to_all (k ∷ ks) [] [] a = refl
+joined_up_to_all (k ∷ ks) (x ∷ xs) [] a = refl
+joined_up_to_all [] xs (y ∷ ys) a = absurd (omega (arith, a.kinds))
+joined_up_to_all (k ∷ ks) [] (y ∷ ys) a = absurd (omega (arith, a.places))
+joined_up_to_all (k ∷ ks) (x ∷ xs) (y ∷ ys) a = ap (λ r. join k x y ∷ r) (joined_up_to_all ks xs ys (has_places_left k ks x xs y ys a))
+
+-- ---- a row that is shorter than what it is joined to
+
+joins_none : (ks : List Kind) (ys : List Value) → joins ks [] ys ≡ []
+joins_none [] ys = refl
+joins_none (k ∷ ks) ys = refl
+
+no_joins : (ks : List Kind) (xs : List Value) → joins ks xs [] ≡ []
+no_joins [] xs = refl
+no_joins (k ∷ ks) [] = refl
+no_joins (k ∷ ks) (x ∷ xs) = refl
+
+pub joins-take : (n : ℕ) (ks : List Kind) (xs ys : List Value) → length ys ≤ n → joins (take n ks) (take n xs) ys ≡ joins ks xs ys
+joins-take n [] xs ys h = rw (take-nil {A = Kind} n) refl
+joins-take n (k ∷ ks) [] ys h = rw (take-nil {A = Value} n) (joins_none (take n (k ∷ ks)) ys)
+joins-take n (k ∷ ks) (x ∷ xs) [] h = no_joins (take n (k ∷ ks)) (take n (x ∷ xs))
+joins-take zero (k ∷ ks) (x ∷ xs) (y ∷ ys) h = absurd (omega (arith, h))
+joins-take (suc n) (k ∷ ks) (x ∷ xs) (y ∷ ys) h = ap (λ r. join k x y ∷ r) (joins-take n ks xs ys (omega (arith, h)))
+
+pub SumsFit-take : (n : ℕ) (ks : List Kind) (xs ys : List Value) → length ys ≤ n → SumsFit (take n ks) (take n xs) ys → SumsFit ks xs ys
+SumsFit-take n [] xs ys h f = tt
+SumsFit-take n (k ∷ ks) [] ys h f = tt
+SumsFit-take n (k ∷ ks) (x ∷ xs) [] h f = tt
+SumsFit-take zero (k ∷ ks) (x ∷ xs) (y ∷ ys) h f = absurd (omega (arith, h))
+SumsFit-take (suc n) (k ∷ ks) (x ∷ xs) (y ∷ ys) h f = (f.0, SumsFit-take n ks xs ys (omega (arith, h)) f.1)
+
+-- ---- accumulators that lie in the first n places
+
+-- what a clause sees of them
+abbrev pub held : ℕ → List Kind → List Value → Accumulators
+held n ks xs = record { kinds = take n ks; values = take n xs }
+
+module _ (n : ℕ) (ks : List Kind) (xs vs : List Value) (a : Accumulators) (is : held n ks xs ≡ a) (room : n ≤ length ks) (types : are_of_kinds a.kinds vs ≡ true) where
+  pub row_length : length vs ≡ n
+  row_length =
+      let fit : are_of_kinds (take n ks) vs ≡ true = ap (λ b. are_of_kinds b.kinds vs) is ∙ types in
+      omega (arith, length-are_of_kinds (take n ks) vs fit, length-take n ks)
+
+  pub row_has_places : are_of_kinds (take n ks) (take n xs) ≡ true → HasPlaces ks xs vs
+  row_has_places old = record {
+    kinds = omega (arith, row_length, room);
+    places = omega (arith, row_length, length-are_of_kinds (take n ks) (take n xs) old, length-take n ks, length-take n xs);
+  }
+
+  pub row_sums : SumsFit a.kinds a.values vs → SumsFit ks xs vs
+  row_sums fit = SumsFit-take n ks xs vs (omega (arith, row_length)) (rw (← is) at fit)
+
+  -- the row is joined to what they held
+  pub row_joined : (new : List Value) → take (length vs) new ≡ joins ks xs vs → take n new ≡ joins a.kinds a.values vs
+  row_joined new e =
+      let from : joins (take n ks) (take n xs) vs ≡ joins a.kinds a.values vs = ap (λ b. joins b.kinds b.values vs) is in
+      ap (λ k. take k new) (sym row_length) ∙ e ∙ sym (joins-take n ks xs vs (omega (arith, row_length))) ∙ from
+
+  -- each value has its kind's type still
+  pub joined_types : are_of_kinds (take n ks) (take n xs) ≡ true → (new : List Value) → take (length vs) new ≡ joins ks xs vs → are_of_kinds (take n ks) (take n new) ≡ true
+  joined_types old new e =
+      let fit : are_of_kinds (take n ks) vs ≡ true = ap (λ b. are_of_kinds b.kinds vs) is ∙ types in
+      let joined : take n new ≡ joins (take n ks) (take n xs) vs = row_joined new e ∙ sym (ap (λ b. joins b.kinds b.values vs) is) in
+      ap (are_of_kinds (take n ks)) joined ∙ are_of_kinds-joins (take n ks) (take n xs) vs (length-are_of_kinds (take n ks) (take n xs) old) (length-are_of_kinds (take n ks) vs fit)
+
+-- they hold the folds of a bag, and then of the bag with the row more
+pub more_folds : (a : Accumulators) (vs new : List Value) → new ≡ joins a.kinds a.values vs
+    → (rows : List (List Value)) → AreFoldsOf rows a → folds_of a.kinds (rows ++ vs ∷ []) ≡ Some new
+more_folds a vs new e rows h = fold_by-append (joins a.kinds) (joins_assoc a.kinds) a.values vs rows (vs ∷ []) h refl ∙ ap Some (sym e)
+
+-- the same, of accumulators in the first n places
+pub more_held : (n : ℕ) (ks : List Kind) (xs vs new : List Value) (a : Accumulators) → held n ks xs ≡ a → new ≡ joins a.kinds a.values vs
+    → (rows : List (List Value)) → AreFoldsOf rows a → folds_of (take n ks) (rows ++ vs ∷ []) ≡ Some new
+more_held n ks xs vs new a is e rows h = ap (λ b. folds_of b.kinds (rows ++ vs ∷ [])) is ∙ more_folds a vs new e rows h

@@ -1,0 +1,4 @@
+pub mod Laws
+pub mod Lawful
+pub mod Fold
+pub mod Accumulators
