@@ -1,0 +1,60 @@
+use super::*;
+use crate::device::write_out;
+use std::io;
+use std::test::Fail;
+
+// Takes so many bytes, one at a time, and then nothing.
+#[derive(Drop)]
+struct TakesFew {
+    taken: Vec<u8>,
+    left: usize,
+}
+
+impl Write for TakesFew {
+    fn write(&mut self, buf: &[u8]) -> io::Result<usize> {
+        if self.left == 0 || buf.is_empty() {
+            return Ok(0);
+        }
+        self.taken.push(buf[0])?;
+        self.left -= 1;
+        Ok(1)
+    }
+
+    fn flush(&mut self) -> io::Result<()> {
+        Ok(())
+    }
+}
+
+#[test]
+fn a_vec_takes_all(rt: HostRuntime) -> Result<(), Fail> {
+    let mut device = Guarded::new(Vec::new(rt.alloc()));
+    write_out(&mut device, b"pane,on_time")?;
+    write_out(&mut device, b",a")?;
+    device.flush()?;
+    assert!(rt; !device.failed());
+    assert_eq!(rt;
+        device.into_writer().as_slice(),
+        b"pane,on_time,a".as_slice()
+    );
+    Ok(())
+}
+
+#[test]
+fn a_full_writer_has_exactly_the_beginning(rt: HostRuntime) -> Result<(), Fail> {
+    let text = b"pane,on_time,a,0,60,2,10\n";
+    for left in [0, 1, 10, 24] {
+        let few = TakesFew {
+            taken: Vec::new(rt.alloc()),
+            left,
+        };
+        let mut device = Guarded::new(few);
+        assert_eq!(rt; write_out(&mut device, text), Err(DeviceFault), "at {left}");
+        assert!(rt; device.failed());
+        assert_eq!(rt;
+            device.into_writer().taken.as_slice(),
+            &text[..left],
+            "at {left}"
+        );
+    }
+    Ok(())
+}
