@@ -1,3 +1,4 @@
 pub mod Windows
 pub mod Life
+pub mod Left
 pub mod Vectors

@@ -1,5 +1,5 @@
 -- How long a window is held, and how many of one key are held at once: this project's own rule.
-use Rattle.std.specs.Prelude.{◌≡◌, ℕ, ◌+◌, Bool, ◌&&◌, List, [], ◌∷◌, All, ℤ, ◌+ℤ◌, ◌*ℤ◌, ◌≤ℤ◌, int_lt, int_le, unsigned_abs, IsTrue}
+use Rattle.std.specs.Prelude.{◌≡◌, ℕ, ◌+◌, Bool, ◌&&◌, List, [], ◌∷◌, All, ℤ, ◌+ℤ◌, ◌*ℤ◌, ◌<ℤ◌, ◌≤ℤ◌, int_lt, int_le, unsigned_abs}
 use Rattle.std.specs.Int.{div_ceil}
 use Rattle.wsm_windows.specs.declared.window.Window.{Window}
 use Rattle.wsm_windows.specs.declared.window.Shape.{Shape}
@@ -39,5 +39,5 @@ AreOfOneKey (Session gap) ws = AreSessions gap ws
 
 -- live, with a start that isn't more than the skew ahead of the mark
 pub record IsHeld (skew lateness mark : ℤ) (w : Window) : Type 0 where
-  pub live : IsTrue (is_live w lateness mark)
+  pub live : mark <ℤ (w.end +ℤ lateness)
   pub near : w.start ≤ℤ (mark +ℤ skew)
