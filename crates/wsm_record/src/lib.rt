@@ -17,4 +17,6 @@ mod name;
 mod names;
 mod reserved;
 mod schema;
+#[cfg(test)]
+mod tests;
 mod words;
