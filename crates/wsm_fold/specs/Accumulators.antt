@@ -1,5 +1,5 @@
 -- What the accumulators of a pane hold: the folds of the rows that came so far.
-use Rattle.std.specs.Prelude.{◌≡◌, List, [], ◌∷◌, Some, ◌+ℤ◌, FitsSigned}
+use Rattle.std.specs.Prelude.{◌≡◌, List, ◌∷◌, Some, ◌+ℤ◌, FitsSigned}
 use Rattle.std.specs.Int.{w64}
 use Rattle.wsm_record.specs.declared.event.Value.{Value}
 use Rattle.wsm_record.specs.declared.words.Kind.{Kind}

@@ -1,11 +1,12 @@
 -- The fold of a bag by kind, over its values in any order: sum, least, greatest, some, all.
-use Rattle.std.specs.Prelude.{Bool, true, false, ◌||◌, ◌&&◌, List, [], ◌∷◌, ℤ, pos, ◌+ℤ◌, Option}
+use Rattle.std.specs.Prelude.{ℕ, Bool, true, false, ◌||◌, ◌&&◌, List, [], ◌∷◌, map, ℤ, pos, ◌+ℤ◌, ◌*ℤ◌, ◌≤ℤ◌, Option}
+use Rattle.std.specs.List.{slice_index_or}
 use Rattle.std.specs.Int.{int_min, int_max}
 use Rattle.wsm_record.specs.declared.event.Value.{Value}
 use Rattle.wsm_record.specs.declared.event.Value.TheVariants.{Int, Bool as Truth}
 use Rattle.wsm_record.specs.declared.words.Kind.{Kind}
 use Rattle.wsm_record.specs.declared.words.Kind.TheVariants.{Sum, Min, Max, Any, All}
-use Rattle.wsm_fold.specs.Laws.{fold_by}
+use Rattle.wsm_fold.specs.Laws.{fold_by, IsBetween}
 
 -- ---- which values an accumulator folds
 
@@ -54,3 +55,23 @@ joins _ _ _ = []
 -- of rows of values that are folded together, one value an accumulator in each
 abbrev pub folds_of : List Kind → List (List Value) → Option (List Value)
 folds_of ks rows = fold_by (joins ks) rows
+
+-- ---- a bag's values at one place, and their range
+
+-- the values at place a of each row
+abbrev pub column : ℕ → List (List Value) → List Value
+column a rows = map (λ row. slice_index_or row a (Int (pos 0))) rows
+
+-- SUM, MIN and MAX fold numbers
+abbrev pub folds_numbers : Kind → Bool
+folds_numbers k = is_of_kind k (Int (pos 0))
+
+-- the fold of n numbers that are all x
+abbrev pub times : Kind → ℕ → ℤ → ℤ
+times Sum n x = pos n *ℤ x
+times _ n x = x
+
+-- a number between the bounds
+abbrev pub IsNumberBetween : ℤ → ℤ → Value → Type 0
+IsNumberBetween lo hi (Int n) = IsBetween ◌≤ℤ◌ lo hi n
+IsNumberBetween lo hi _ = ⊥

@@ -5,10 +5,9 @@ ghost use Rattle.wsm_record.specs.declared.event.Value.{Value as OneValue};
 ghost use Rattle.wsm_fold.specs.Fold.{is_of_kind, are_of_kinds, number_of, truth_of, join as join_of, joins};
 ghost use Rattle.wsm_fold.specs.Accumulators.{AreFoldsOf, SumFits, SumsFit};
 
+use crate::fold::{All, Any, Fold, Max, Min, Sum};
 use std::marker::Model;
 use wsm_record::{Kind, Value};
-
-use crate::fold::{All, Any, Fold, Max, Min, Sum};
 
 /// The most accumulators of a program.
 pub const MAX_ACCUMULATORS: usize = 16;

@@ -6,12 +6,10 @@
 //! [`Accs`] holds the folds of a pane's accumulators, inline: its calls take no memory.
 #![tactic(auto)]
 
-
 pub use accumulators::{Accs, MAX_ACCUMULATORS};
 pub use fold::{All, Any, Fold, Max, Min, Sum};
 pub use wsm_record::Kind;
 
-
 mod accumulators;
 mod fold;
-
+pub mod laws;

@@ -1,5 +1,5 @@
-use Rattle.std.proofs.Common.{◌≡◌, ◌∙◌, ap, sym, arith, add-one, length}
-use Rattle.wsm_fold.proofs.Rows.{HasPlaces, joined_up_to, joined_up_to_more, joined_up_to_all, fits_at}
+use Rattle.std.proofs.Common.{◌≡◌, arith, add-one, length}
+use Rattle.wsm_fold.proofs.Rows.{joined_up_to_more, joined_up_to_all, fits_at}
 use Rattle.wsm_fold.proofs.accumulators.join_all.Goals as goal
 
 pub join-requires : goal.join-requires

@@ -1,4 +1,4 @@
-use Rattle.std.proofs.Common.{◌≡◌, ◌≤◌, arith, length}
+use Rattle.std.proofs.Common.{◌≤◌, arith, length}
 use Rattle.wsm_fold.proofs.Rows.{row_has_places, row_sums, row_joined, joined_types, more_held}
 use Rattle.wsm_fold.proofs.accumulators.Accs.fold.Goals as goal
 

@@ -1,5 +1,3 @@
-use Rattle.std.proofs.Common.{◌≡◌, ◌∙◌, ap, sym}
-use Rattle.wsm_fold.specs.Fold.{joins}
 use Rattle.wsm_fold.proofs.Bags.{fold_by-append}
 use Rattle.wsm_fold.proofs.Rows.{joins_assoc}
 use Rattle.wsm_fold.proofs.accumulators.Accs.merge.Goals as goal

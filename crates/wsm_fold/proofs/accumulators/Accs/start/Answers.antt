@@ -1,4 +1,4 @@
-use Rattle.std.proofs.Common.{◌≡◌, ◌≤◌, length, arith, length-take}
+use Rattle.std.proofs.Common.{arith, length-take}
 use Rattle.wsm_fold.proofs.Rows.{length-are_of_kinds}
 use Rattle.wsm_fold.proofs.accumulators.Accs.start.Goals as goal
 
