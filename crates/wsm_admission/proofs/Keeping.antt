@@ -5,7 +5,7 @@ use Rattle.std.specs.Prelude.{int_le, not, if◌then◌else◌}
 use Rattle.std.specs.Int.{int_max}
 use Rattle.wsm_record.specs.declared.event.Value.{Value}
 use Rattle.wsm_record.specs.Event.{Event, Record, Watermark}
-use Rattle.wsm_record.specs.Schema.{DeclaredField}
+use Rattle.wsm_record.specs.Schema.{Declared}
 use Rattle.wsm_admission.specs.declared.verdict.Admitted.{Admitted}
 use Rattle.wsm_admission.specs.declared.verdict.Refusal.{Refusal}
 use Rattle.wsm_admission.specs.declared.verdict.Refusal.TheVariants as refusal
@@ -54,36 +54,36 @@ rises s t false low h k = refl
 rises s t true true h k = grind (arith, ints)
 rises s t true false h k = grind (arith, ints)
 
-mark-after : (fields : List DeclaredField) (s : State) (e : Event) (past : List Event) → s.mark ≡ watermark_of s.clock past → (after (decision fields s e) s).mark ≡ watermark_of s.clock (e ∷ past)
-mark-after fields s (Record k t vs) past h = record_keeps s k t vs (verdict_at s.clock fields s.mark s.admitted (Record k t vs)) ∙ h
-mark-after fields s (Watermark t) past h = rises s t (is_time t) (int_le t s.mark) refl refl ∙ ap (λ (m : ℤ). if is_time t then int_max m t else m) h
+mark-after : (declared : Declared) (s : State) (e : Event) (past : List Event) → s.mark ≡ watermark_of s.clock past → (after (decision declared s e) s).mark ≡ watermark_of s.clock (e ∷ past)
+mark-after declared s (Record k t vs) past h = record_keeps s k t vs (verdict_at s.clock declared s.mark s.admitted (Record k t vs)) ∙ h
+mark-after declared s (Watermark t) past h = rises s t (is_time t) (int_le t s.mark) refl refl ∙ ap (λ (m : ℤ). if is_time t then int_max m t else m) h
 
 -- by what is kept an event has the verdict that it has by the history
-verdict_kept : (fields : List DeclaredField) (s : State) (e : Event) (past : List Event) → Fits fields s past → verdict_at s.clock fields s.mark s.admitted e ≡ verdict s.clock fields past e
-verdict_kept fields s e past h = λ i. verdict_at s.clock fields (h.mark i) (h.admitted i) e
+verdict_kept : (declared : Declared) (s : State) (e : Event) (past : List Event) → Fits declared s past → verdict_at s.clock declared s.mark s.admitted e ≡ verdict s.clock declared past e
+verdict_kept declared s e past h = λ i. verdict_at s.clock declared (h.mark i) (h.admitted i) e
 
 -- what is kept after an event is the history's with that event
-pub Fits-after : (fields : List DeclaredField) (s : State) (e : Event) (past : List Event) → Fits fields s past → Fits fields (after (decision fields s e) s) (e ∷ past)
-Fits-after fields s e past h =
-    let v : Option Refusal = verdict_at s.clock fields s.mark s.admitted e in
-    let same : s.clock ≡ (after (decision fields s e) s).clock = sym (clock-after s e v) in
-    let by_history : v ≡ verdict s.clock fields past e = verdict_kept fields s e past h in
+pub Fits-after : (declared : Declared) (s : State) (e : Event) (past : List Event) → Fits declared s past → Fits declared (after (decision declared s e) s) (e ∷ past)
+Fits-after declared s e past h =
+    let v : Option Refusal = verdict_at s.clock declared s.mark s.admitted e in
+    let same : s.clock ≡ (after (decision declared s e) s).clock = sym (clock-after s e v) in
+    let by_history : v ≡ verdict s.clock declared past e = verdict_kept declared s e past h in
     record {
-      mark = mark-after fields s e past h.mark ∙ ap (λ (c : Clock). watermark_of c (e ∷ past)) same;
+      mark = mark-after declared s e past h.mark ∙ ap (λ (c : Clock). watermark_of c (e ∷ past)) same;
       admitted =
           admitted-after s e v
           ∙ (λ i. admitted_with (h.admitted i) e (by_history i))
-          ∙ ap (λ (c : Clock). admitted_count c fields (e ∷ past)) same;
+          ∙ ap (λ (c : Clock). admitted_count c declared (e ∷ past)) same;
       late =
-          late-after s e v (late_count s.clock fields past) h.late
-          ∙ ap (λ (v : Option Refusal). counter (late_with (late_count s.clock fields past) v)) by_history
-          ∙ ap (λ (c : Clock). counter (late_count c fields (e ∷ past))) same;
+          late-after s e v (late_count s.clock declared past) h.late
+          ∙ ap (λ (v : Option Refusal). counter (late_with (late_count s.clock declared past) v)) by_history
+          ∙ ap (λ (c : Clock). counter (late_count c declared (e ∷ past))) same;
       refused =
-          refused-after s e v (refused_count s.clock fields past) h.refused
-          ∙ ap (λ (v : Option Refusal). counter (refused_with (refused_count s.clock fields past) v)) by_history
-          ∙ ap (λ (c : Clock). counter (refused_count c fields (e ∷ past))) same;
+          refused-after s e v (refused_count s.clock declared past) h.refused
+          ∙ ap (λ (v : Option Refusal). counter (refused_with (refused_count s.clock declared past) v)) by_history
+          ∙ ap (λ (c : Clock). counter (refused_count c declared (e ∷ past))) same;
     }
 
 -- the same, said of what was answered and kept
-pub Fits-kept : (fields : List DeclaredField) (s kept : State) (e : Event) (past : List Event) (r : Result Admitted Refusal) → r ≡ decision fields s e → kept ≡ after r s → Fits fields s past → Fits fields kept (e ∷ past)
-Fits-kept fields s kept e past r answered is h = rw (is, answered) (Fits-after fields s e past h)
+pub Fits-kept : (declared : Declared) (s kept : State) (e : Event) (past : List Event) (r : Result Admitted Refusal) → r ≡ decision declared s e → kept ≡ after r s → Fits declared s past → Fits declared kept (e ∷ past)
+Fits-kept declared s kept e past r answered is h = rw (is, answered) (Fits-after declared s e past h)

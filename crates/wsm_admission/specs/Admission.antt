@@ -1,7 +1,7 @@
 -- What an admission keeps of a history, and how an event changes it.
 use Rattle.std.specs.Prelude.{◌≡◌, ℕ, ◌+◌, ◌≤◌, min, List, ℤ, pos, ◌≤ℤ◌, Option, Some, None, Result, Ok, Err}
 use Rattle.wsm_record.specs.Event.{Event, Record, Watermark}
-use Rattle.wsm_record.specs.Schema.{DeclaredField}
+use Rattle.wsm_record.specs.Schema.{Declared}
 use Rattle.wsm_admission.specs.declared.clock.Clock.{Clock}
 use Rattle.wsm_admission.specs.declared.verdict.Admitted.{Admitted}
 use Rattle.wsm_admission.specs.declared.verdict.Admitted.TheVariants as admitted
@@ -39,8 +39,8 @@ answer mark (Record key time values) None = Ok admitted.Record
 answer mark (Watermark time) None = Ok (admitted.Watermark mark time)
 
 -- the answer to an event, by what is kept
-abbrev pub decision : List DeclaredField → State → Event → Result Admitted Refusal
-decision fields s e = answer s.mark e (verdict_at s.clock fields s.mark s.admitted e)
+abbrev pub decision : Declared → State → Event → Result Admitted Refusal
+decision declared s e = answer s.mark e (verdict_at s.clock declared s.mark s.admitted e)
 
 -- what is kept after an answer
 abbrev pub after : Result Admitted Refusal → State → State
@@ -50,8 +50,8 @@ after (Err refusal.Late) s = record s { late = counter (s.late + 1) }
 after (Err _) s = record s { refused = counter (s.refused + 1) }
 
 -- what is kept is the history's
-pub record Fits (fields : List DeclaredField) (s : State) (past : List Event) : Type 0 where
+pub record Fits (declared : Declared) (s : State) (past : List Event) : Type 0 where
   pub mark : s.mark ≡ watermark_of s.clock past
-  pub admitted : s.admitted ≡ admitted_count s.clock fields past
-  pub late : s.late ≡ counter (late_count s.clock fields past)
-  pub refused : s.refused ≡ counter (refused_count s.clock fields past)
+  pub admitted : s.admitted ≡ admitted_count s.clock declared past
+  pub late : s.late ≡ counter (late_count s.clock declared past)
+  pub refused : s.refused ≡ counter (refused_count s.clock declared past)

@@ -2,8 +2,8 @@
 
 ghost use Rattle.std.specs.Prelude.{◌≡◌, ◌≤ℤ◌, IsTrue, List, [], ◌∷◌, nat_le, pos};
 ghost use Rattle.wsm_record.specs.Event.{Event as AnyEvent, event_of, Record, Watermark};
-ghost use Rattle.wsm_record.specs.Schema.{DeclaredField};
-ghost use Rattle.wsm_admission.specs.Clock.{IsWithinLimits, latest_time, is_late, is_time as lies_in_time, is_too_far_ahead, watermark_of, watermark_refusal, verdict as verdict_after};
+ghost use Rattle.wsm_record.specs.Schema.{Declared};
+ghost use Rattle.wsm_admission.specs.Clock.{IsWithinLimits, latest_time, is_key as is_declared_key, is_late, is_time as lies_in_time, is_too_far_ahead, watermark_of, watermark_refusal, verdict as verdict_after};
 ghost use Rattle.wsm_admission.specs.Admission.{Fits, IsInRange, opened, answer, decision, after};
 
 use crate::clock::{Clock, LATEST_TIME};
@@ -36,7 +36,7 @@ impl Admission {
     pub fn new(clock: Clock) -> Admission
         requires { IsWithinLimits clock }
         ensures opened { result ≡ opened clock }
-        ensures fits { (fields : List DeclaredField) → Fits fields result [] }
+        ensures fits { (declared : Declared) → Fits declared result [] }
     {
         Admission {
             clock,
@@ -80,12 +80,12 @@ impl Admission {
     /// Decides on the next event: the first rule that refuses it, or what it does to the clock. A
     /// refusal changes one counter alone: that of the late records, or that of all others refused.
     pub fn decide(&mut self, schema: &Schema, event: &Event) -> Result<Admitted, Refusal>
-        ensures decision { result ≡ decision schema.now.fields self.old (event_of event.now) }
+        ensures decision { result ≡ decision schema.now self.old (event_of event.now) }
         ensures state { self.new ≡ after result self.old }
         ensures range { IsInRange self.new }
-        ensures verdict { (past : List AnyEvent) → Fits schema.now.fields self.old past →
-            result ≡ answer (watermark_of self.old.clock past) (event_of event.now) (verdict_after self.old.clock schema.now.fields past (event_of event.now)) }
-        ensures fits { (past : List AnyEvent) → Fits schema.now.fields self.old past → Fits schema.now.fields self.new (event_of event.now ∷ past) }
+        ensures verdict { (past : List AnyEvent) → Fits schema.now self.old past →
+            result ≡ answer (watermark_of self.old.clock past) (event_of event.now) (verdict_after self.old.clock schema.now past (event_of event.now)) }
+        ensures fits { (past : List AnyEvent) → Fits schema.now self.old past → Fits schema.now self.new (event_of event.now ∷ past) }
     {
         let decision = self.decision(schema, event);
         match decision {
@@ -108,7 +108,7 @@ impl Admission {
 
     // The first rule that refuses the event, or what it does to the clock.
     fn decision(&self, schema: &Schema, event: &Event) -> Result<Admitted, Refusal>
-        ensures { result ≡ decision schema.now.fields self.now (event_of event.now) }
+        ensures { result ≡ decision schema.now self.now (event_of event.now) }
     {
         match event {
             Event::Record { key, time, values } => self.try_record(schema, *key, *time, values),
@@ -123,9 +123,9 @@ impl Admission {
         time: i64,
         values: &[Value],
     ) -> Result<Admitted, Refusal>
-        ensures { result ≡ decision schema.now.fields self.now (Record key time values.now) }
+        ensures { result ≡ decision schema.now self.now (Record key time values.now) }
     {
-        if key.is_none() {
+        if !is_key(schema, key) {
             Err(Refusal::UnknownKey)
         } else if !schema.fits(values) {
             Err(Refusal::FieldRange)
@@ -177,6 +177,16 @@ impl Admission {
         ensures { result ≡ nat_le self.now.clock.records self.now.admitted }
     {
         self.clock.records <= self.admitted
+    }
+}
+
+// Whether it is the number of a declared key.
+fn is_key(schema: &Schema, key: Option<u16>) -> bool
+    ensures { result ≡ is_declared_key schema.now key }
+{
+    match key {
+        Some(key) => usize::from(key) < schema.key_count(),
+        None => false,
     }
 }
 

@@ -1,0 +1,9 @@
+pub mod Query
+pub mod Sessions
+pub mod Panes
+pub mod Firings
+pub mod Relation
+pub mod Lines
+pub mod Text
+pub mod Counting
+pub mod Rows

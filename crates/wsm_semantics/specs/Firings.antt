@@ -1,0 +1,102 @@
+-- What fires on a turn, and the rows of panes. Triggers early, on time and late, discarding and
+-- accumulating are those of the Dataflow Model (Akidau et al. 2015); their exact conditions, the
+-- final firing and what counts as shown are this project's own rules.
+use Rattle.std.specs.Prelude.{ℕ, zero, suc, Bool, false, ◌&&◌, ◌||◌, not, List, [], ◌∷◌, ◌++◌, length, filter, filter_map, ℤ, ◌+ℤ◌, int_lt, int_le, nat_lt, nat_le, nat_eq, Option, Some, None, option_map, if◌then◌else◌}
+use Rattle.std.specs.List.{list_any}
+use Rattle.std.specs.Ordering.{eq_by_cmp}
+use Rattle.wsm_record.specs.declared.words.Mode.{Mode}
+use Rattle.wsm_record.specs.declared.words.Mode.TheVariants.{Discarding, Accumulating}
+use Rattle.wsm_record.specs.Event.{Event, Record, Watermark}
+use Rattle.wsm_windows.specs.declared.window.PaneKind.{PaneKind}
+use Rattle.wsm_windows.specs.declared.window.PaneKind.TheVariants.{Early, OnTime, Late, Final}
+use Rattle.wsm_windows.specs.declared.window.Shape.{Shape}
+use Rattle.wsm_windows.specs.declared.window.Shape.TheVariants.{Fixed, Sliding, Session}
+use Rattle.wsm_windows.specs.Life.{is_due}
+use Rattle.wsm_semantics.specs.declared.place.Place.{Place}
+use Rattle.wsm_semantics.specs.declared.out_row.OutRow.{OutRow}
+use Rattle.wsm_semantics.specs.declared.out_row.OutRow.TheVariants.{Pane}
+use Rattle.wsm_semantics.specs.Query.{Datum, Query, mark, is_taken}
+use Rattle.wsm_semantics.specs.Panes.{place_cmp, window_of, panes}
+
+pub record Firing : Type 0 where
+  pub kind : PaneKind
+  pub place : Place
+  pub contents : List Datum
+  pub fired : List Datum  -- what its row is computed over
+
+abbrev pub holds : Datum → List Datum → Bool
+holds d ds = list_any (λ x. nat_eq x.turn d.turn) ds
+
+-- firings that show a place's records: those of the key and window, for sessions of the key
+abbrev pub shows : Shape → Place → Place → Bool
+shows (Fixed size) p fired = eq_by_cmp place_cmp p fired
+shows (Sliding size period) p fired = eq_by_cmp place_cmp p fired
+shows (Session gap) p fired = nat_eq p.key fired.key
+
+abbrev pub firing_set : Mode → List Datum → List Datum → List Datum
+firing_set Accumulating all unshown = all
+firing_set Discarding all unshown = unshown
+
+-- a count that is declared is reached
+abbrev pub is_enough : ℕ → ℕ → Bool
+is_enough zero n = false
+is_enough (suc m) n = nat_le (suc m) n
+
+-- the kind of a firing on the turn of a selected record, for a window that it entered
+abbrev pub kind_on_record : Query → ℤ → ℤ → ℕ → Option PaneKind
+kind_on_record q w end unshown =
+    if int_lt w end
+    then (if is_enough q.early unshown then Some Early else None)
+    else (if is_enough q.late unshown then Some Late else None)
+
+-- the kind of a firing on the turn of a watermark that rises from old to new
+abbrev pub kind_on_watermark : Query → ℤ → ℤ → Place → ℕ → ℕ → Option PaneKind
+kind_on_watermark q old new p fired unshown =
+    if is_due (window_of p) old new && nat_lt 0 fired then Some OnTime
+    else if (int_lt old (p.end +ℤ q.clock.lateness) && int_le (p.end +ℤ q.clock.lateness) new) && nat_lt 0 unshown then Some Final
+    else None
+
+abbrev pub firing_of : Place → List Datum → List Datum → Option PaneKind → Option Firing
+firing_of p all fired None = None
+firing_of p all fired (Some kind) = Some (record { kind = kind; place = p; contents = all; fired = fired })
+
+-- what a place with its contents does on the turn of an event, where it is told which records were shown before
+abbrev pub fire : (Datum → Bool) → Query → List Event → Event → Place → List Datum → Option Firing
+fire shown q past (Record key time values) p all =
+    let unshown = filter (λ d. not (shown d)) all in
+    if list_any (λ d. nat_eq d.turn (length past)) all
+    then firing_of p all (firing_set q.mode all unshown) (kind_on_record q (mark q past) p.end (length unshown))
+    else None
+fire shown q past (Watermark time) p all =
+    let unshown = filter (λ d. not (shown d)) all in
+    let set = firing_set q.mode all unshown in
+    if is_taken q past (Watermark time)
+    then firing_of p all set (kind_on_watermark q (mark q past) time p (length set) (length unshown))
+    else None
+
+-- what fires on a turn, where it is told which records of a place were shown before
+abbrev pub firings_by : (Place → Datum → Bool) → Query → List Event → Event → List Firing
+firings_by shown q past e = filter_map (λ p. fire (shown p.0) q past e p.0 p.1) (panes q (e ∷ past))
+
+-- a firing of the place in the history had the record in its contents
+abbrev pub is_shown : Query → List Event → Place → Datum → Bool
+is_shown q [] p d = false
+is_shown q (e ∷ past) p d =
+    is_shown q past p d || list_any (λ f. shows q.shape p f.place && holds d f.contents) (firings_by (is_shown q past) q past e)
+
+-- what fires on the turn of an event after a history, in the order of places
+abbrev pub firings : Query → List Event → Event → List Firing
+firings q past e = firings_by (is_shown q past) q past e
+
+-- all firings of a history, the oldest turn's first
+abbrev pub firings_so_far : Query → List Event → List Firing
+firings_so_far q [] = []
+firings_so_far q (e ∷ past) = firings_so_far q past ++ firings q past e
+
+-- the row of a firing, where HAVING is true
+abbrev pub row_of : Query → Firing → Option OutRow
+row_of q f = option_map (Pane f.kind f.place.key (window_of f.place)) (q.row f.place.key f.fired)
+
+-- the pane rows of the turn of an event after a history
+abbrev pub pane_rows : Query → List Event → Event → List OutRow
+pane_rows q past e = filter_map (row_of q) (firings q past e)

@@ -1,0 +1,62 @@
+-- Panes: each key and window that has contents, with these. Windows are assigned to a record and
+-- merged at its key (Akidau et al. 2015); how long a pane is held is this project's own rule.
+use Rattle.std.specs.Prelude.{ℕ, Bool, ◌&&◌, List, [], ◌∷◌, map, filter, flat_map, ℤ, nat_eq}
+use Rattle.std.specs.Ordering.{int_cmp, nat_cmp, ordering_then}
+use Rattle.std.specs.FinMap.Entries.{put, where_key}
+use Rattle.std.specs.declared.cmp.Ordering.{Ordering}
+use Rattle.wsm_record.specs.Event.{Event}
+use Rattle.wsm_windows.specs.declared.window.Window.{Window}
+use Rattle.wsm_windows.specs.declared.window.Shape.{Shape}
+use Rattle.wsm_windows.specs.declared.window.Shape.TheVariants.{Fixed, Sliding, Session}
+use Rattle.wsm_windows.specs.Windows.{window, windows_of, has_inside}
+use Rattle.wsm_windows.specs.Life.{is_live}
+use Rattle.wsm_semantics.specs.declared.place.Place.{Place}
+use Rattle.wsm_semantics.specs.Query.{Datum, Query, mark, selected}
+use Rattle.wsm_semantics.specs.Sessions.{sessions}
+
+-- by end, then start, then key
+abbrev pub place_cmp : Place → Place → Ordering
+place_cmp a b = ordering_then (int_cmp a.end b.end) (ordering_then (int_cmp a.start b.start) (nat_cmp a.key b.key))
+
+abbrev pub at : ℕ → Window → Place
+at key w = record { end = w.end; start = w.start; key = key }
+
+abbrev pub window_of : Place → Window
+window_of p = window p.start p.end
+
+abbrev pub of_key : ℕ → List Datum → List Datum
+of_key key ds = filter (λ d. nat_eq d.key key) ds
+
+-- the windows that a record stands in, among all selected records
+abbrev pub windows_among : Shape → List Datum → Datum → List Window
+windows_among (Fixed size) ds d = windows_of size size d.time
+windows_among (Sliding size period) ds d = windows_of size period d.time
+windows_among (Session gap) ds d = filter (has_inside d.time) (sessions gap (map (λ x. x.time) (of_key d.key ds)))
+
+-- where the selected records stand, a place as often as records stand there
+abbrev pub places : Query → List Event → List Place
+places q past = let ds = selected q past in flat_map (λ d. map (at d.key) (windows_among q.shape ds d)) ds
+
+-- of the key, and inside the window
+abbrev pub is_there : Place → Datum → Bool
+is_there p d = nat_eq d.key p.key && has_inside d.time (window_of p)
+
+-- the selected records of a place, the newest first
+abbrev pub contents : Query → List Event → Place → List Datum
+contents q past p = filter (is_there p) (selected q past)
+
+abbrev pub with_contents : (Place → List Datum) → List Place → List (Place × List Datum)
+with_contents c [] = []
+with_contents c (p ∷ ps) = put place_cmp p (c p) (with_contents c ps)
+
+-- each place that has contents, with these, in the order of places
+abbrev pub panes : Query → List Event → List (Place × List Datum)
+panes q past = with_contents (contents q past) (places q past)
+
+-- the end and the lateness aren't behind the watermark
+abbrev pub is_live_at : Query → ℤ → Place → Bool
+is_live_at q w p = is_live (window_of p) q.clock.lateness w
+
+-- the panes that are held after a history
+abbrev pub held : Query → List Event → List (Place × List Datum)
+held q past = where_key place_cmp (is_live_at q (mark q past)) (panes q past)

@@ -1,0 +1,56 @@
+-- What a query means, and which records it selects. A history is a list of events, the newest
+-- first; nothing is kept beside it. The clauses of a query are this project's own.
+use Rattle.std.specs.Prelude.{ℕ, Bool, ◌&&◌, List, [], ◌∷◌, ◌++◌, length, ℤ, Option, Some, None, is_none, if◌then◌else◌}
+use Rattle.wsm_record.specs.declared.event.Value.{Value}
+use Rattle.wsm_record.specs.declared.words.Form.{Form}
+use Rattle.wsm_record.specs.declared.words.Mode.{Mode}
+use Rattle.wsm_record.specs.Event.{Event, Record, Watermark}
+use Rattle.wsm_record.specs.Schema.{Declared}
+use Rattle.wsm_windows.specs.declared.window.Shape.{Shape}
+use Rattle.wsm_admission.specs.declared.clock.Clock.{Clock}
+use Rattle.wsm_admission.specs.declared.verdict.Refusal.{Refusal}
+use Rattle.wsm_admission.specs.Clock.{watermark_of, verdict}
+
+-- a selected record: how many events came before it, and what it says
+pub record Datum : Type 0 where
+  pub turn : ℕ
+  pub key : ℕ
+  pub time : ℤ
+  pub values : List Value
+
+-- a query is what its clauses mean
+pub record Query : Type 0 where
+  pub clock : Clock
+  pub declared : Declared
+  pub shape : Shape
+  pub mode : Mode
+  pub early : ℕ  -- the count of EARLY EVERY, or 0 for none
+  pub late : ℕ  -- the count of LATE EVERY, or 0 for none
+  pub form : Form
+  pub selects : ℕ → List Value → Bool  -- whether WHERE is true of a key and values
+  pub row : ℕ → List Datum → Option (List Value)  -- the columns of a key and records, where HAVING is true
+
+-- the watermark after a history
+abbrev pub mark : Query → List Event → ℤ
+mark q past = watermark_of q.clock past
+
+-- the verdict on an event after a history
+abbrev pub verdict_on : Query → List Event → Event → Option Refusal
+verdict_on q past e = verdict q.clock q.declared past e
+
+abbrev pub is_taken : Query → List Event → Event → Bool
+is_taken q past e = is_none (verdict_on q past e)
+
+-- the record of an event, if it is one that is admitted and selected
+abbrev pub selection_of : Query → List Event → Event → List Datum
+selection_of q past (Record None time values) = []
+selection_of q past (Record (Some key) time values) =
+    if is_taken q past (Record (Some key) time values) && q.selects key values
+    then record { turn = length past; key = key; time = time; values = values } ∷ []
+    else []
+selection_of q past (Watermark time) = []
+
+-- the selected records of a history, the newest first
+abbrev pub selected : Query → List Event → List Datum
+selected q [] = []
+selected q (e ∷ past) = selection_of q past e ++ selected q past

@@ -1,0 +1,170 @@
+-- Worked rows, computed by the definitions. Inputs are written as they are read, the oldest row first.
+use Rattle.std.specs.Prelude.{◌≡◌, refl, ℕ, true, List, [], ◌∷◌, reverse, map, length, ℤ, pos, negsuc, ◌+ℤ◌, int_lt, Some, None, Ok, Err, codes, if◌then◌else◌}
+use Rattle.wsm_record.specs.declared.event.Value.{Value}
+use Rattle.wsm_record.specs.declared.event.Value.TheVariants.{Int}
+use Rattle.wsm_record.specs.declared.event.RowFault.TheVariants.{BadTag, CellCount, BadNumber}
+use Rattle.wsm_record.specs.declared.words.Form.TheVariants as form
+use Rattle.wsm_record.specs.declared.words.Mode.TheVariants as mode
+use Rattle.wsm_record.specs.Event.{Record, Watermark}
+use Rattle.wsm_record.specs.Schema.{Int as Between}
+use Rattle.wsm_windows.specs.declared.window.PaneKind.{PaneKind}
+use Rattle.wsm_windows.specs.declared.window.PaneKind.TheVariants.{Early, OnTime, Late, Final}
+use Rattle.wsm_windows.specs.declared.window.Shape.TheVariants.{Fixed, Sliding, Session}
+use Rattle.wsm_windows.specs.Windows.{window}
+use Rattle.wsm_admission.specs.declared.verdict.Refusal.TheVariants as refusal
+use Rattle.wsm_semantics.specs.declared.out_row.OutRow.TheVariants.{Pane, Istream, Dstream, Rstream}
+use Rattle.wsm_semantics.specs.Query.{Datum, Query}
+use Rattle.wsm_semantics.specs.Lines.{Row, Line, Out, Faulty, Refused, End, all_lines}
+
+abbrev first_value : List Value → ℤ
+first_value (Int n ∷ vs) = n
+first_value _ = pos 0
+
+abbrev total : List Datum → ℤ
+total [] = pos 0
+total (d ∷ ds) = total ds +ℤ first_value d.values
+
+abbrev count : List Datum → Value
+count ds = Int (pos (length ds))
+
+-- KEYS a, b; FIELD n INT 0..100; START 0; SKEW 100; LATENESS 10; RECORDS 1000;
+-- SELECT COUNT(*), SUM(n) WINDOW FIXED 60 ACCUMULATING EMIT PANES;
+abbrev base : Query
+base = record {
+  clock = record { start = pos 0; skew = pos 100; lateness = pos 10; records = 1000 };
+  declared = record {
+    keys = codes "a" ∷ codes "b" ∷ [];
+    fields = record { name = codes "n"; type = Between (pos 0) (pos 100) } ∷ [];
+  };
+  shape = Fixed (pos 60);
+  mode = mode.Accumulating;
+  early = 0;
+  late = 0;
+  form = form.Panes;
+  selects = λ key values. true;
+  row = λ key ds. Some (count ds ∷ Int (total ds) ∷ []);
+}
+
+abbrev with_lateness : ℕ → Query → Query
+with_lateness l q = record q { clock = record q.clock { lateness = pos l } }
+
+-- SELECT COUNT(*)
+abbrev counting : Query
+counting = record base { row = λ key ds. Some (count ds ∷ []) }
+
+-- rows of the keys a and b, and of watermarks
+abbrev a : ℕ → ℕ → Row
+a time n = Ok (Record (Some 0) (pos time) (Int (pos n) ∷ []))
+
+abbrev b : ℕ → ℕ → Row
+b time n = Ok (Record (Some 1) (pos time) (Int (pos n) ∷ []))
+
+abbrev w : ℕ → Row
+w time = Ok (Watermark (pos time))
+
+abbrev ints : List ℕ → List Value
+ints ns = map (λ n. Int (pos n)) ns
+
+abbrev pane : PaneKind → ℕ → ℕ → ℕ → List ℕ → Line
+pane kind key start end columns = Out (Pane kind key (window (pos start) (pos end)) (ints columns))
+
+abbrev written : Query → List Row → List Line
+written q rows = all_lines q (reverse rows)
+
+empty_input : written base [] ≡ End 0 0 0 0 0 ∷ []
+empty_input = refl
+
+two_records_in_one_pane : written base (a 5 7 ∷ a 59 3 ∷ w 60 ∷ []) ≡ pane OnTime 0 0 60 (2 ∷ 10 ∷ []) ∷ End 3 2 0 0 1 ∷ []
+two_records_in_one_pane = refl
+
+end_of_a_window_is_outside : written base (a 60 1 ∷ w 60 ∷ []) ≡ End 2 1 0 0 0 ∷ []
+end_of_a_window_is_outside = refl
+
+late_record_is_counted : written base (w 60 ∷ a 49 4 ∷ a 50 6 ∷ w 70 ∷ []) ≡ pane Final 0 0 60 (1 ∷ 6 ∷ []) ∷ End 4 1 1 0 1 ∷ []
+late_record_is_counted = refl
+
+too_far_ahead_is_refused : written base (a 100 1 ∷ a 101 1 ∷ []) ≡ Refused 2 refusal.TooFarAhead ∷ End 2 1 0 1 0 ∷ []
+too_far_ahead_is_refused = refl
+
+panes_fire_once :
+    written base (a 5 1 ∷ a 65 2 ∷ w 20 ∷ a 120 4 ∷ w 1000 ∷ [])
+    ≡ pane OnTime 0 0 60 (1 ∷ 1 ∷ []) ∷ pane OnTime 0 60 120 (1 ∷ 2 ∷ []) ∷ pane OnTime 0 120 180 (1 ∷ 4 ∷ []) ∷ End 5 3 0 0 3 ∷ []
+panes_fire_once = refl
+
+exactly_a_gap_apart_are_two_sessions :
+    written (record base { shape = Session (pos 30) }) (a 10 1 ∷ a 40 2 ∷ w 100 ∷ [])
+    ≡ pane OnTime 0 10 40 (1 ∷ 1 ∷ []) ∷ pane OnTime 0 40 70 (1 ∷ 2 ∷ []) ∷ End 3 2 0 0 2 ∷ []
+exactly_a_gap_apart_are_two_sessions = refl
+
+late_record_opens_no_session :
+    written (with_lateness 0 (record base { shape = Session (pos 30) })) (a 10 1 ∷ w 40 ∷ a 39 2 ∷ a 40 3 ∷ w 70 ∷ [])
+    ≡ pane OnTime 0 10 40 (1 ∷ 1 ∷ []) ∷ pane OnTime 0 40 70 (1 ∷ 3 ∷ []) ∷ End 5 2 1 0 2 ∷ []
+late_record_opens_no_session = refl
+
+a_record_joins_two_sessions :
+    written (record base { shape = Session (pos 30) }) (a 0 1 ∷ a 40 2 ∷ a 20 4 ∷ w 70 ∷ []) ≡ pane OnTime 0 0 70 (3 ∷ 7 ∷ []) ∷ End 4 3 0 0 1 ∷ []
+a_record_joins_two_sessions = refl
+
+a_joined_session_fires_early :
+    written (record base { shape = Session (pos 30); early = 4 }) (a 0 1 ∷ a 1 1 ∷ a 40 1 ∷ a 41 1 ∷ a 20 1 ∷ [])
+    ≡ pane Early 0 0 71 (5 ∷ 5 ∷ []) ∷ End 5 5 0 0 1 ∷ []
+a_joined_session_fires_early = refl
+
+discarding_shows_a_record_once :
+    written (record base { mode = mode.Discarding; early = 2 }) (a 1 2 ∷ a 2 3 ∷ w 60 ∷ []) ≡ pane Early 0 0 60 (2 ∷ 5 ∷ []) ∷ End 3 2 0 0 1 ∷ []
+discarding_shows_a_record_once = refl
+
+accumulating_shows_it_again :
+    written (record base { early = 2 }) (a 1 2 ∷ a 2 3 ∷ w 60 ∷ [])
+    ≡ pane Early 0 0 60 (2 ∷ 5 ∷ []) ∷ pane OnTime 0 0 60 (2 ∷ 5 ∷ []) ∷ End 3 2 0 0 2 ∷ []
+accumulating_shows_it_again = refl
+
+sliding_windows_start_before_0 :
+    written (record base { shape = Sliding (pos 60) (pos 25) }) (a 5 1 ∷ w 35 ∷ [])
+    ≡ Out (Pane OnTime 0 (window (negsuc 49) (pos 10)) (ints (1 ∷ 1 ∷ []))) ∷ Out (Pane OnTime 0 (window (negsuc 24) (pos 35)) (ints (1 ∷ 1 ∷ []))) ∷ End 2 1 0 0 2 ∷ []
+sliding_windows_start_before_0 = refl
+
+equal_rows_are_gained_each :
+    written (with_lateness 0 (record counting { form = form.Istream })) (a 1 1 ∷ b 2 1 ∷ w 60 ∷ w 61 ∷ [])
+    ≡ Out (Istream (pos 60) (ints (1 ∷ []))) ∷ Out (Istream (pos 60) (ints (1 ∷ []))) ∷ End 4 2 0 0 2 ∷ []
+equal_rows_are_gained_each = refl
+
+equal_rows_are_lost_each :
+    written (with_lateness 0 (record counting { form = form.Dstream })) (a 1 1 ∷ b 2 1 ∷ w 60 ∷ w 61 ∷ [])
+    ≡ Out (Dstream (pos 61) (ints (1 ∷ []))) ∷ Out (Dstream (pos 61) (ints (1 ∷ []))) ∷ End 4 2 0 0 2 ∷ []
+equal_rows_are_lost_each = refl
+
+nothing_stands_for_a_session_just_joined :
+    written (with_lateness 100 (record counting { shape = Session (pos 30); form = form.Rstream })) (a 0 1 ∷ a 40 1 ∷ w 70 ∷ a 20 1 ∷ w 80 ∷ w 170 ∷ [])
+    ≡ Out (Rstream (pos 70) (ints (1 ∷ []))) ∷ Out (Rstream (pos 70) (ints (1 ∷ []))) ∷ Out (Rstream (pos 170) (ints (3 ∷ []))) ∷ End 6 3 0 0 3 ∷ []
+nothing_stands_for_a_session_just_joined = refl
+
+-- SELECT COUNT(*) HAVING SUM(n) > 5
+having_false_writes_no_row :
+    written (record base { row = λ key ds. if int_lt (pos 5) (total ds) then Some (count ds ∷ []) else None }) (a 1 5 ∷ b 1 6 ∷ w 60 ∷ [])
+    ≡ pane OnTime 1 0 60 (1 ∷ []) ∷ End 3 2 0 0 2 ∷ []
+having_false_writes_no_row = refl
+
+the_first_rule_refuses :
+    written (record base { clock = record base.clock { records = 2 } })
+    (a 1 1 ∷ a 2 1 ∷ a 3 1 ∷ Ok (Record None (pos 1) (ints (1 ∷ []))) ∷ a 1 101 ∷ w 5 ∷ w 5 ∷ [])
+    ≡ Refused 3 refusal.RecordLimit ∷ Refused 4 refusal.UnknownKey ∷ Refused 5 refusal.FieldRange ∷ Refused 7 refusal.NotRising ∷ End 7 2 0 4 0 ∷ []
+the_first_rule_refuses = refl
+
+faulty_rows_are_refused :
+    written base (Err BadTag ∷ Err CellCount ∷ Err BadNumber ∷ []) ≡ Faulty 1 BadTag ∷ Faulty 2 CellCount ∷ Faulty 3 BadNumber ∷ End 3 0 0 3 0 ∷ []
+faulty_rows_are_refused = refl
+
+late_and_final_panes :
+    written (record base { late = 2 }) (a 55 1 ∷ w 60 ∷ a 56 2 ∷ a 57 3 ∷ a 58 4 ∷ w 70 ∷ [])
+    ≡ pane OnTime 0 0 60 (1 ∷ 1 ∷ []) ∷ pane Late 0 0 60 (3 ∷ 6 ∷ []) ∷ pane Final 0 0 60 (4 ∷ 10 ∷ []) ∷ End 6 4 0 0 3 ∷ []
+late_and_final_panes = refl
+
+late_and_final_panes_of_unshown_records :
+    written (record base { mode = mode.Discarding; late = 2 }) (a 55 1 ∷ w 60 ∷ a 56 2 ∷ a 57 3 ∷ a 58 4 ∷ w 70 ∷ [])
+    ≡ pane OnTime 0 0 60 (1 ∷ 1 ∷ []) ∷ pane Late 0 0 60 (2 ∷ 5 ∷ []) ∷ pane Final 0 0 60 (1 ∷ 4 ∷ []) ∷ End 6 4 0 0 3 ∷ []
+late_and_final_panes_of_unshown_records = refl
+
+windows_far_apart :
+    written base (a 5 1 ∷ w 80 ∷ a 180 2 ∷ w 250 ∷ []) ≡ pane OnTime 0 0 60 (1 ∷ 1 ∷ []) ∷ pane OnTime 0 180 240 (1 ∷ 2 ∷ []) ∷ End 4 2 0 0 2 ∷ []
+windows_far_apart = refl

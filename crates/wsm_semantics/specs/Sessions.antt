@@ -1,0 +1,27 @@
+-- The sessions of one key's times (Akidau et al. 2015, window merging): times less than a gap apart
+-- are linked, and a session is a class of the chains of links.
+use Rattle.std.specs.Prelude.{List, [], ◌∷◌, ℤ, ◌+ℤ◌, int_lt, if◌then◌else◌}
+use Rattle.wsm_windows.specs.declared.window.Window.{Window}
+use Rattle.wsm_windows.specs.Windows.{window}
+
+-- a time put into rising times
+abbrev pub with_time : ℤ → List ℤ → List ℤ
+with_time t [] = t ∷ []
+with_time t (u ∷ us) = if int_lt t u then t ∷ u ∷ us else u ∷ with_time t us
+
+abbrev pub rising : List ℤ → List ℤ
+rising [] = []
+rising (t ∷ ts) = with_time t (rising ts)
+
+-- the sessions with one time more, which is at most all of theirs
+abbrev pub with_earlier : ℤ → ℤ → List Window → List Window
+with_earlier gap t [] = window t (t +ℤ gap) ∷ []
+with_earlier gap t (w ∷ ws) = if int_lt w.start (t +ℤ gap) then window t w.end ∷ ws else window t (t +ℤ gap) ∷ w ∷ ws
+
+abbrev pub sessions_of_rising : ℤ → List ℤ → List Window
+sessions_of_rising gap [] = []
+sessions_of_rising gap (t ∷ ts) = with_earlier gap t (sessions_of_rising gap ts)
+
+-- the sessions of some times, by rising start: from the least time to a gap after the greatest
+abbrev pub sessions : ℤ → List ℤ → List Window
+sessions gap times = sessions_of_rising gap (rising times)
