@@ -1,1 +1,3 @@
 pub mod NumberLemmas
+pub mod RowsLemmas
+pub mod Written

@@ -8,7 +8,9 @@
 pub use device::{Device, DeviceFault, write_out};
 pub use guarded::Guarded;
 pub use number::read_number;
+pub use rows::{ReadEnd, Rows};
 
 mod device;
 mod guarded;
 mod number;
+mod rows;
