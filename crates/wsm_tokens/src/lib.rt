@@ -1,0 +1,17 @@
+//! The tokens of a query text, read one at a time, and the faults that a text can have.
+//!
+//! A [`Reader`] stands in front of a token of a text. A rule of a grammar looks at it, takes it and
+//! goes on, or stops there: see [`Reader::ask`], [`Reader::number`] and [`Reader::name`]. Where it
+//! stops, a [`TextFault`] has the offset, and [`refusal_of`] makes a line and a column of it.
+#![tactic(auto)]
+
+pub use fault::{Fault, ParseRefusal, Stop, TextFault, refusal_of};
+pub use place::{Place, place_at};
+pub use reader::Reader;
+pub use token::{Sign, Token};
+
+mod fault;
+mod place;
+mod reader;
+mod scan;
+mod token;

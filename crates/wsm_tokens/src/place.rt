@@ -1,0 +1,65 @@
+//! Lines and columns.
+
+ghost use Rattle.std.specs.Prelude.{◌≡◌, ◌≤◌, length, take, count_by, not};
+ghost use Rattle.std.specs.List.{suffix_len};
+ghost use Rattle.wsm_tokens.specs.Place.{is_line_feed, place_of};
+
+use memchr::arch::all::memchr::One;
+use memchr::memrchr;
+use std::fmt;
+use std::fmt::{Display, Formatter};
+
+/// Where a byte of a text stands, from 1. A line ends at a line feed.
+#[derive(Clone, Copy, Debug, PartialEq, Eq)]
+pub struct Place {
+    pub line: usize,
+    /// In bytes.
+    pub column: usize,
+}
+
+/// The place of a byte of a text by its offset in bytes, or just past the last one.
+#[tactic(auto, unfolding(crate::specs::Place::place_of))]
+pub fn place_at(text: &[u8], offset: usize) -> Place
+    ensures { result ≡ place_of text.now offset }
+{
+    let before = front(text, offset);
+    Place {
+        line: 1 + line_feeds(before),
+        column: 1 + column_of(before),
+    }
+}
+
+fn front(text: &[u8], len: usize) -> &[u8]
+    ensures { result.now ≡ take len text.now }
+{
+    if len < text.len() {
+        text.split_at(len).0
+    } else {
+        text
+    }
+}
+
+fn line_feeds(text: &[u8]) -> usize
+    ensures { result ≡ count_by is_line_feed text.now }
+{
+    One::new(b'\n').count(text)
+}
+
+// How many bytes stand behind the last line feed.
+fn column_of(text: &[u8]) -> usize
+    ensures bytes { result ≡ suffix_len (λ c. not (is_line_feed c)) text.now }
+    ensures within { result ≤ length text.now }
+{
+    match memrchr(b'\n', text) {
+        Some(end) => text.len() - (end + 1),
+        None => text.len(),
+    }
+}
+
+impl Display for Place {
+    fn fmt<W: fmt::Write>(&self, f: &mut Formatter<W>) -> fmt::Result {
+        let line = self.line;
+        let column = self.column;
+        write!(f, "{line}:{column}")
+    }
+}
