@@ -5,5 +5,6 @@ pub mod Firings
 pub mod Relation
 pub mod Lines
 pub mod Text
+pub mod Machine
 pub mod Counting
 pub mod Rows
