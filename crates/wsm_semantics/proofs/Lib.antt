@@ -1,2 +1,5 @@
+pub mod Lists
 pub mod Tables
 pub mod Fixed
+pub mod Turns
+pub mod FixedStep

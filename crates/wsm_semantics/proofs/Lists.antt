@@ -1,0 +1,114 @@
+-- Lists: what filters and tables with other values give.
+use Rattle.std.proofs.Common.{◌≡◌, ◌≤◌, ◌<◌, ℕ, zero, suc, ◌+◌, Bool, true, false, ◌||◌, cond, List, [], ◌∷◌, ◌++◌, map, length, Option, Some, None, refl, sym, ap, subst, ◌∙◌}
+use Rattle.std.proofs.lemmas.Bool.{true≢false}
+use Rattle.std.specs.Prelude.{filter, filter_map, option_map, if◌then◌else◌}
+use Rattle.std.specs.List.{AllByRecursion, cons_option, list_any}
+use Rattle.std.specs.Ordering.{eq_by_cmp}
+use Rattle.std.specs.declared.cmp.Ordering.{Ordering}
+use Rattle.std.specs.declared.cmp.Ordering.TheVariants.{Less, Equal, Greater}
+use Rattle.std.specs.FinMap.Entries.{put, find, where_key, by_order}
+
+-- a list with a first element
+abbrev pub IsNonEmpty : {A : Type 0} → List A → Type 0
+IsNonEmpty {A} xs = (x : A) × (rest : List A) × (xs ≡ x ∷ rest)
+
+module _ {A : Type 0} where
+  pub none_pass : (t : A → Bool) (xs : List A) → list_any t xs ≡ false → filter t xs ≡ []
+  none_pass t [] h = refl
+  none_pass t (x ∷ xs) h =
+      elim (t x) as (λ b. (b || list_any t xs) ≡ false → cond b (x ∷ filter t xs) (filter t xs) ≡ []) [
+        | true ↦ λ k. absurd (true≢false k)
+        | false ↦ λ k. none_pass t xs k
+      ] h
+
+  pub some_pass : (t : A → Bool) (xs : List A) → list_any t xs ≡ true → IsNonEmpty (filter t xs)
+  some_pass t [] h = absurd (true≢false (sym h))
+  some_pass t (x ∷ xs) h =
+      elim (t x) as (λ b. (b || list_any t xs) ≡ true → IsNonEmpty (cond b (x ∷ filter t xs) (filter t xs))) [
+        | true ↦ λ k. (x, filter t xs, refl)
+        | false ↦ λ k. some_pass t xs k
+      ] h
+
+  -- what passes the narrower test passes the wider
+  pub filter_within : (p r : A → Bool) → ((x : A) → p x ≡ true → r x ≡ true) → (xs : List A) → filter p (filter r xs) ≡ filter p xs
+  filter_within p r h [] = refl
+  filter_within p r h (x ∷ xs) =
+      elim (r x) as (λ b. r x ≡ b → filter p (cond b (x ∷ filter r xs) (filter r xs)) ≡ cond (p x) (x ∷ filter p xs) (filter p xs)) [
+        | true ↦ λ k. ap (λ (ys : List A). cond (p x) (x ∷ ys) ys) (filter_within p r h xs)
+        | false ↦ λ k. filter_within p r h xs ∙ elim (p x) as (λ b. p x ≡ b → filter p xs ≡ cond b (x ∷ filter p xs) (filter p xs)) [
+          | true ↦ λ l. absurd (true≢false (sym (h x l) ∙ k))
+          | false ↦ λ l. refl
+        ] refl
+      ] refl
+
+  pub filter_same : (p r : A → Bool) → ((x : A) → p x ≡ r x) → (xs : List A) → filter p xs ≡ filter r xs
+  filter_same p r h [] = refl
+  filter_same p r h (x ∷ xs) = λ i. cond (h x i) (x ∷ filter_same p r h xs i) (filter_same p r h xs i)
+
+  module _ (P : A → Type 0) where
+    pub filter-all : (t : A → Bool) (xs : List A) → AllByRecursion P xs → AllByRecursion P (filter t xs)
+    filter-all t [] h = tt
+    filter-all t (x ∷ xs) h =
+        elim (t x) as (λ b. AllByRecursion P (cond b (x ∷ filter t xs) (filter t xs))) [
+          | true ↦ (h.0, filter-all t xs h.1)
+          | false ↦ filter-all t xs h.1
+        ]
+
+    pub all-each : (Q : A → Type 0) (xs : List A) → ((x : A) → P x → Q x) → AllByRecursion P xs → AllByRecursion Q xs
+    all-each Q [] f h = tt
+    all-each Q (x ∷ xs) f h = (f x h.0, all-each Q xs f h.1)
+
+module _ {A B : Type 0} where
+  pub filter_map_none : (g : A → Option B) (xs : List A) → ((x : A) → g x ≡ None) → filter_map g xs ≡ []
+  filter_map_none g [] h = refl
+  filter_map_none g (x ∷ xs) h = rw (h x) (filter_map_none g xs h)
+
+  -- those that pass give a value each, and the others none
+  pub filter_map_chosen : (g : A → Option B) (p : A → Bool) (f : A → B) (xs : List A) → AllByRecursion (λ x. g x ≡ cond (p x) (Some (f x)) None) xs → filter_map g xs ≡ map f (filter p xs)
+  filter_map_chosen g p f [] h = refl
+  filter_map_chosen g p f (x ∷ xs) h =
+      (λ i. cons_option (h.0 i) (filter_map_chosen g p f xs h.1 i))
+      ∙ elim (p x) as (λ b. cons_option (cond b (Some (f x)) None) (map f (filter p xs)) ≡ map f (cond b (x ∷ filter p xs) (filter p xs))) [
+        | true ↦ refl
+        | false ↦ refl
+      ]
+
+module _ {K A B : Type 0} (R : K → K → Ordering) (f : A → B) where
+  -- the same keys with other values
+  abbrev pub valued : List (K × A) → List (K × B)
+  valued es = map (λ e. (e.0, f e.1)) es
+
+  pub find-valued : (q : K) (es : List (K × A)) → find R q (valued es) ≡ option_map f (find R q es)
+  find-valued q [] = refl
+  find-valued q (e ∷ es) =
+      elim (eq_by_cmp R q e.0) as (λ b. cond b (Some (f e.1)) (find R q (valued es)) ≡ option_map f (cond b (Some e.1) (find R q es))) [
+        | true ↦ refl
+        | false ↦ find-valued q es
+      ]
+
+  pub valued-put : (k : K) (v : A) (es : List (K × A)) → valued (put R k v es) ≡ put R k (f v) (valued es)
+  valued-put k v [] = refl
+  valued-put k v (e ∷ es) =
+      elim (R k e.0) as (λ o. valued (by_order o ((k, v) ∷ e ∷ es) ((e.0, v) ∷ es) (e ∷ put R k v es)) ≡ by_order o ((k, f v) ∷ (e.0, f e.1) ∷ valued es) ((e.0, f v) ∷ valued es) ((e.0, f e.1) ∷ put R k (f v) (valued es))) [
+        | Less ↦ refl
+        | Equal ↦ refl
+        | Greater ↦ ap (λ (fs : List (K × B)). (e.0, f e.1) ∷ fs) (valued-put k v es)
+      ]
+
+  pub valued-filter : (p : K → Bool) (es : List (K × A)) → valued (filter (λ e. p e.0) es) ≡ filter (λ e. p e.0) (valued es)
+  valued-filter p [] = refl
+  valued-filter p (e ∷ es) =
+      elim (p e.0) as (λ b. valued (cond b (e ∷ filter (λ e. p e.0) es) (filter (λ e. p e.0) es)) ≡ cond b ((e.0, f e.1) ∷ filter (λ e. p e.0) (valued es)) (filter (λ e. p e.0) (valued es))) [
+        | true ↦ ap (λ (fs : List (K × B)). (e.0, f e.1) ∷ fs) (valued-filter p es)
+        | false ↦ valued-filter p es
+      ]
+
+module _ {K A : Type 0} (R : K → K → Ordering) (same : (x y : K) → R x y ≡ Equal → x ≡ y) (P : K × A → Type 0) where
+  pub put-all : (k : K) (v : A) (es : List (K × A)) → P (k, v) → AllByRecursion P es → AllByRecursion P (put R k v es)
+  put-all k v [] h t = (h, tt)
+  put-all k v (e ∷ es) h t =
+      elim (R k e.0) as (λ o. R k e.0 ≡ o → AllByRecursion P (by_order o ((k, v) ∷ e ∷ es) ((e.0, v) ∷ es) (e ∷ put R k v es))) [
+        | Less ↦ λ less. (h, t)
+        | Equal ↦ λ tie. (subst (λ (x : K). P (x, v)) (same k e.0 tie) h, t.1)
+        | Greater ↦ λ more. (t.0, put-all k v es h t.1)
+      ] refl
