@@ -1,3 +1,4 @@
 pub mod NumberLemmas
 pub mod RowsLemmas
 pub mod Written
+pub mod CellLemmas

@@ -1,5 +1,5 @@
 -- Rows with what they say, computed.
-use Rattle.std.specs.Prelude.{◌≡◌, List, [], ◌∷◌, pos, negsuc, Some, None, Ok, Err, true, codes, refl}
+use Rattle.std.specs.Prelude.{◌≡◌, [], ◌∷◌, pos, negsuc, Some, None, Ok, Err, true, codes, refl}
 use Rattle.wsm_record.specs.declared.event.Value.TheVariants as values
 use Rattle.wsm_record.specs.declared.event.RowFault.TheVariants.{BadTag, CellCount, BadNumber, BadName}
 use Rattle.wsm_record.specs.Event.{Record, Watermark}

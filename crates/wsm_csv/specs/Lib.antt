@@ -5,3 +5,5 @@ pub mod Cells
 pub mod CellRows
 pub mod Records
 pub mod Rows
+pub mod Refused
+pub mod Tags

@@ -1,8 +1,6 @@
 -- The rows of a reader: the records that `csv` reads, in order.
-use Rattle.std.specs.Prelude.{◌≡◌, ℕ, Bool, true, ◌++◌, List, [], ◌∷◌, Option, Some, None, Result, MatchResult, ⊤}
-use Rattle.std.specs.Bool.{MatchBool}
-use Rattle.csv.specs.Reading.{AreRecords, Reached, Ready, default_config, has_failed, source_of, strip_bom}
-use Rattle.csv.specs.Records.{fields_of}
+use Rattle.std.specs.Prelude.{ℕ, List, Option, Some, None, ⊤}
+use Rattle.csv.specs.Reading.{AreRecords, Reached, default_config, strip_bom}
 use Rattle.csv.specs.declared.parser.State.{State}
 use Rattle.csv.specs.declared.parser.State.TheVariants as st
 

@@ -8,9 +8,11 @@
 pub use device::{Device, DeviceFault, write_out};
 pub use guarded::Guarded;
 pub use number::read_number;
+pub use row::{RowRefusal, read_row};
 pub use rows::{ReadEnd, Rows};
 
 mod device;
 mod guarded;
 mod number;
+mod row;
 mod rows;

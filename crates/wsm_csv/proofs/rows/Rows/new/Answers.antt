@@ -1,4 +1,4 @@
-use Rattle.std.proofs.Common.{◌∙◌, inl, inr}
+use Rattle.std.proofs.Common.{◌∙◌, inr}
 use Rattle.wsm_csv.proofs.RowsLemmas.{HasRest-start}
 use Rattle.wsm_csv.proofs.rows.Rows.new.Goals as goal
 

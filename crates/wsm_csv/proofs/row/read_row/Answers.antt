@@ -1,0 +1,42 @@
+use Rattle.std.proofs.Common.{◌≡◌, ◌∙◌, sym, ap, subst, Some, List, ℕ}
+use Rattle.std.proofs.lemmas.Result.{err_from_is_err_and}
+use Rattle.csv.specs.Records.{fields_of}
+use Rattle.wsm_record.specs.Schema.{Declared}
+use Rattle.wsm_csv.specs.declared.row.Tag.{Tag}
+use Rattle.wsm_csv.specs.declared.row.Tag.TheVariants.{Record, Watermark}
+use Rattle.wsm_csv.specs.Tags.{row_tag}
+use Rattle.wsm_csv.proofs.CellLemmas.{TagDecides, row_tag-decides}
+use Rattle.wsm_csv.proofs.row.read_row.Goals as goal
+
+decides : (d : Declared) (cells : List (List ℕ)) (t k : Tag) → Some t ≡ row_tag cells → t ≡ k → TagDecides d cells (Some k)
+decides d cells t k e h = subst (TagDecides d cells) (sym e ∙ ap Some h) (row_tag-decides d cells)
+
+pub returns-in_err-read_watermark-in-Some-Watermark-clause-fault :
+    goal.returns-in_err-read_watermark-in-Some-Watermark-clause-fault
+returns-in_err-read_watermark-in-Some-Watermark-clause-fault c =
+    let is = decides c.args.schema.now (fields_of c.args.row.now) _ Watermark c.in-Some-Watermark.ensures c.in-Some-Watermark.field-0-is in
+    let p = err_from_is_err_and c.from_residual.result c.from_residual.ensures.1 in
+    rw (p.1, p.2) (is ∙ (c.in_err-read_watermark-in-Some-Watermark).ensures)
+
+pub returns-in-Some-Record-clause-event : goal.returns-in-Some-Record-clause-event
+returns-in-Some-Record-clause-event c =
+    let is = decides c.args.schema.now (fields_of c.args.row.now) _ Record c.in-Some-Record.ensures c.in-Some-Record.field-0-is in
+    rw is.0 c.read_record.ensures.event
+
+pub returns-in-Some-Record-clause-fault : goal.returns-in-Some-Record-clause-fault
+returns-in-Some-Record-clause-fault c =
+    let is = decides c.args.schema.now (fields_of c.args.row.now) _ Record c.in-Some-Record.ensures c.in-Some-Record.field-0-is in
+    rw is.0 c.read_record.ensures.fault
+
+pub returns-in-Some-Record-clause-memory : goal.returns-in-Some-Record-clause-memory
+returns-in-Some-Record-clause-memory c refused =
+    (decides c.args.schema.now (fields_of c.args.row.now) _ Record c.in-Some-Record.ensures c.in-Some-Record.field-0-is).1
+
+pub returns-in_ok-read_watermark-in-Some-Watermark-clause-event :
+    goal.returns-in_ok-read_watermark-in-Some-Watermark-clause-event
+returns-in_ok-read_watermark-in-Some-Watermark-clause-event c =
+    decides c.args.schema.now (fields_of c.args.row.now) _ Watermark c.in-Some-Watermark.ensures c.in-Some-Watermark.field-0-is ∙ (c.in_ok-read_watermark-in-Some-Watermark).ensures
+
+pub returns-in-None-clause-fault : goal.returns-in-None-clause-fault
+returns-in-None-clause-fault c =
+    subst (TagDecides c.args.schema.now (fields_of c.args.row.now)) (sym c.in-None.ensures) (row_tag-decides c.args.schema.now (fields_of c.args.row.now))
