@@ -69,12 +69,12 @@ pub at_end : (text : List ℕ) (offset : ℕ) → length text ≤ offset → tok
 unfolding tokens_at tokens_from
 at_end text offset h = rw (drop_all offset text h) refl
 
-pub word_found : (text : List ℕ) (more : ℕ) → 0 < length text → more ≡ prefix_len is_word_byte (drop 1 text) → more ≤ 31 → (1 + more ≤ length text) × (first_word (get_or text 0 0) (drop 1 text) (prefix_len is_word_byte (drop 1 text)) ≡ Found (Word (take (1 + more) text)) more)
+pub word_found : (text : List ℕ) (more : ℕ) → 0 < length text → more ≡ prefix_len is_word_byte (drop 1 text) → more ≤ 31 → (1 + more ≤ length text) × (Unit {0}) × (first_word (get_or text 0 0) (drop 1 text) (prefix_len is_word_byte (drop 1 text)) ≡ Found (Word (take (1 + more) text)) more)
 word_found [] more h p k = absurd (omega arith)
 word_found (c ∷ text) more h p k =
     let short : more ≤ length text = omega (arith, prefix_len-le-length is_word_byte text) in
     let e = lt-ltb more 32 (omega arith) in
-    (omega arith, rw (← p, e, one-add) refl)
+    (omega arith, tt, rw (← p, e, one-add) refl)
 
 pub word_lost : (text : List ℕ) (more : ℕ) → 0 < length text → more ≡ prefix_len is_word_byte (drop 1 text) → 31 < more → (32 < length text) × (first_word (get_or text 0 0) (drop 1 text) (prefix_len is_word_byte (drop 1 text)) ≡ Lost BadCharacter 32)
 word_lost [] more h p k = absurd (omega arith)

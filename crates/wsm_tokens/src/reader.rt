@@ -1,8 +1,8 @@
 //! Reading a text token by token.
 
-ghost use Rattle.std.specs.Prelude.{◌≡◌, ◌<◌, ◌≤◌, ◌-◌, false, length, slice_index, option_map, IsTrue, OnErr};
+ghost use Rattle.std.specs.Prelude.{◌≡◌, ◌<◌, ◌≤◌, ◌-◌, false, length, slice_index, option_map, pos, ◌≤ℤ◌, IfOk, IfSome, IsTrue, OnErr};
 ghost use Rattle.wsm_tokens.specs.Tokens.{is_blank, tokens, token_of, tokens_at};
-ghost use Rattle.wsm_tokens.specs.Sight.{Sees};
+ghost use Rattle.wsm_tokens.specs.Sight.{Sees, NotNegative};
 ghost use Rattle.wsm_tokens.specs.Read.{in_sight, begins, begins_number, behind, count, is_end, unexpected, too_deep, number, name, ask, ended, Gives};
 
 use crate::fault::{Fault, Stop, TextFault};
@@ -105,7 +105,8 @@ impl<'a> Reader<'a> {
     /// The token in sight, or none at the end of the text and where no token can be read.
     #[tactic(auto, unfolding(crate::specs::Read::in_sight))]
     pub fn peek(&self) -> Option<Token<'a>>
-        ensures { option_map token_of result ≡ in_sight self.now }
+        ensures token { option_map token_of result ≡ in_sight self.now }
+        ensures natural { IfSome result NotNegative }
     {
         match self.sight {
             Sight::Token(token, _) => Some(token),
@@ -201,6 +202,7 @@ impl<'a> Reader<'a> {
     #[tactic(auto, unfolding(crate::specs::Read::number, crate::specs::Read::in_sight, crate::specs::Read::behind, crate::specs::Read::unexpected, crate::specs::Read::count))]
     pub fn number(&mut self) -> Result<i64, Stop>
         ensures gives { Gives (λ n. n) result self.new (number self.old) }
+        ensures natural { IfOk result (λ n. pos 0 ≤ℤ n) }
         ensures onward { count self.new ≤ count self.old }
         ensures err { OnErr result (self.new ≡ self.old) }
     {

@@ -8,7 +8,8 @@ returns-then-offset-text c = at_end c.args.text.now c.args.offset (omega arith)
 pub returns-in-Token : goal.returns-in-Token
 returns-in-Token c =
     let s = rw c.in-Token.is at c.first_of.ensures in
-    at_token c.args.text.now _ c.args.offset _ c.in-Token.more c.split_at.ensures.back c.requires.within s.0 s.1
+    let t = at_token c.args.text.now _ c.args.offset _ c.in-Token.more c.split_at.ensures.back c.requires.within s.0 s.2 in
+    (t.0, s.1, t.1)
 
 pub returns-in-Fault : goal.returns-in-Fault
 returns-in-Fault c =

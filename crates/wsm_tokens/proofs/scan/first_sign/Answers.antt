@@ -8,4 +8,4 @@ returns-in-Some c =
     let found = sym c.sign_of.ensures ∙ c.in-Some.is in
     let fits = sign_fits c.args.text.now c.in-Some.sign found in
     let some = sign_some c.in-Some.sign in
-    rw c.text.ensures (omega arith, ap first_sign found)
+    rw c.text.ensures (omega arith, tt, ap first_sign found)
