@@ -36,7 +36,7 @@ admitted-after s (Watermark t) None = refl
 admitted-after s (Watermark t) (Some refusal.Late) = refl
 admitted-after s (Watermark t) (Some _) = refl
 
-clock-after : (s : State) (e : Event) (v : Option Refusal) → (after (answer s.mark e v) s).clock ≡ s.clock
+pub clock-after : (s : State) (e : Event) (v : Option Refusal) → (after (answer s.mark e v) s).clock ≡ s.clock
 clock-after s (Record k t vs) None = refl
 clock-after s (Watermark t) None = refl
 clock-after s e (Some refusal.Late) = refl

@@ -19,7 +19,7 @@ one_window s h = nat.div-eq_of_lt-le {k = 1} s (omega arith) (omega arith)
 inside : (t : ℤ) (s r : ℕ) → r < s → (int_le (t -ℤ pos r) t && int_lt t ((t -ℤ pos r) +ℤ pos s)) ≡ true
 inside t s r h = grind (arith, ints)
 
-starts_before : (t : ℤ) (s r : ℕ) → int_rem_euclid t (pos s) ≡ pos r → r < s → has_inside t (window (last_start (pos s) t) (last_start (pos s) t +ℤ pos s)) ≡ true
+pub starts_before : (t : ℤ) (s r : ℕ) → int_rem_euclid t (pos s) ≡ pos r → r < s → has_inside t (window (last_start (pos s) t) (last_start (pos s) t +ℤ pos s)) ≡ true
 starts_before t s r e h = rw e (inside t s r h)
 
 pub fixed_one : (s : ℕ) (t : ℤ) → 0 < s → windows_of (pos s) (pos s) t ≡ window (last_start (pos s) t) (last_start (pos s) t +ℤ pos s) ∷ []

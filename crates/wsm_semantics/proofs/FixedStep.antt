@@ -11,7 +11,7 @@ use Rattle.wsm_windows.specs.declared.window.Window.{Window}
 use Rattle.wsm_record.specs.Event.{Event}
 use Rattle.wsm_windows.specs.declared.window.Shape.{Shape}
 use Rattle.wsm_windows.specs.declared.window.Shape.TheVariants.{Fixed}
-use Rattle.wsm_windows.specs.Windows.{window, last_start, has_inside}
+use Rattle.wsm_windows.specs.Windows.{window, last_start}
 use Rattle.wsm_semantics.specs.declared.place.Place.{Place}
 use Rattle.wsm_semantics.specs.Query.{Query, Datum, mark, selected, selection_of}
 use Rattle.wsm_semantics.specs.Panes.{place_cmp, at, places, is_there, contents, panes, held, is_live_at, windows_among}
@@ -40,7 +40,7 @@ both : (a b : Bool) → (a && b) ≡ true → (a ≡ true) × (b ≡ true)
 both true b h = (refl, h)
 both false b h = absurd (true≢false (sym h))
 
-here : (s : ℕ) (h : 0 < s) (d : Datum) (p : Place) (x : Datum) → p ≡ place_of s x → is_there p d ≡ true → p ≡ place_of s d
+pub here : (s : ℕ) (h : 0 < s) (d : Datum) (p : Place) (x : Datum) → p ≡ place_of s x → is_there p d ≡ true → p ≡ place_of s d
 here s h d p x e i =
     let ks = both _ _ (subst (λ (r : Place). is_there r d ≡ true) e i) in
     let k : d.key ≡ x.key = same_key _ _ ks.0 in

@@ -1,12 +1,12 @@
 -- Lists: what filters and tables with other values give.
-use Rattle.std.proofs.Common.{◌≡◌, ◌≤◌, ◌<◌, ℕ, zero, suc, ◌+◌, Bool, true, false, ◌||◌, cond, List, [], ◌∷◌, ◌++◌, map, length, Option, Some, None, refl, sym, ap, subst, ◌∙◌}
+use Rattle.std.proofs.Common.{◌≡◌, suc, Bool, true, false, ◌||◌, cond, List, [], ◌∷◌, map, length, Option, Some, None, refl, sym, ap, subst, ◌∙◌}
 use Rattle.std.proofs.lemmas.Bool.{true≢false}
-use Rattle.std.specs.Prelude.{filter, filter_map, option_map, if◌then◌else◌}
+use Rattle.std.specs.Prelude.{filter, filter_map, option_map}
 use Rattle.std.specs.List.{AllByRecursion, cons_option, list_any}
 use Rattle.std.specs.Ordering.{eq_by_cmp}
 use Rattle.std.specs.declared.cmp.Ordering.{Ordering}
 use Rattle.std.specs.declared.cmp.Ordering.TheVariants.{Less, Equal, Greater}
-use Rattle.std.specs.FinMap.Entries.{put, find, where_key, by_order}
+use Rattle.std.specs.FinMap.Entries.{put, find, by_order}
 
 -- a list with a first element
 abbrev pub IsNonEmpty : {A : Type 0} → List A → Type 0
@@ -59,6 +59,10 @@ module _ {A : Type 0} where
     all-each Q (x ∷ xs) f h = (f x h.0, all-each Q xs f h.1)
 
 module _ {A B : Type 0} where
+  pub length_each : (f : A → B) (xs : List A) → length (map f xs) ≡ length xs
+  length_each f [] = refl
+  length_each f (x ∷ xs) = ap suc (length_each f xs)
+
   pub filter_map_none : (g : A → Option B) (xs : List A) → ((x : A) → g x ≡ None) → filter_map g xs ≡ []
   filter_map_none g [] h = refl
   filter_map_none g (x ∷ xs) h = rw (h x) (filter_map_none g xs h)

@@ -1,9 +1,9 @@
 -- What one turn does to the panes that are held, and what it fires: of any query, an event that is
 -- no selected record and no accepted watermark; where panes fire on time alone, also the others.
-use Rattle.std.proofs.Common.{◌≡◌, ◌≤◌, ◌<◌, ℕ, zero, suc, ◌+◌, Bool, true, false, ◌&&◌, cond, List, [], ◌∷◌, ◌++◌, map, length, ℤ, pos, ◌+ℤ◌, ◌-ℤ◌, ◌<ℤ◌, ◌≤ℤ◌, T, Option, Some, None, refl, sym, ap, subst, ◌∙◌, arith}
+use Rattle.std.proofs.Common.{◌≡◌, ℕ, suc, Bool, true, false, ◌&&◌, cond, List, [], ◌∷◌, ◌++◌, map, length, ℤ, pos, ◌+ℤ◌, ◌-ℤ◌, ◌<ℤ◌, Option, Some, None, refl, sym, ap, ◌∙◌, arith}
 use Rattle.std.proofs.lemmas.Int.{ints}
 use Rattle.std.proofs.lemmas.Bool.Decides.{nat_tests}
-use Rattle.std.specs.Prelude.{int_le, int_lt, nat_lt, not, filter, filter_map, flat_map, nat_eq, is_none, if◌then◌else◌}
+use Rattle.std.specs.Prelude.{int_le, int_lt, nat_lt, not, filter, flat_map, nat_eq, is_none}
 use Rattle.std.specs.List.{AllByRecursion, list_any}
 use Rattle.wsm_record.specs.declared.event.Value.{Value}
 use Rattle.wsm_record.specs.declared.words.Mode.{Mode}
@@ -15,7 +15,7 @@ use Rattle.wsm_admission.specs.declared.verdict.Refusal.{Refusal}
 use Rattle.wsm_admission.proofs.Taken.{accepted_watermark, refused_watermark}
 use Rattle.wsm_semantics.specs.declared.place.Place.{Place}
 use Rattle.wsm_semantics.specs.Query.{Query, Datum, mark, verdict_on, is_taken, selected, selection_of}
-use Rattle.wsm_semantics.specs.Panes.{place_cmp, at, is_there, panes, held, is_live_at, windows_among, with_contents, window_of}
+use Rattle.wsm_semantics.specs.Panes.{at, is_there, panes, held, is_live_at, windows_among, with_contents, window_of}
 use Rattle.wsm_semantics.specs.Firings.{Firing, firings, fire, firing_of, firing_set, is_shown, kind_on_record, kind_on_watermark}
 use Rattle.wsm_semantics.specs.Machine.{FiresOnTime}
 use Rattle.wsm_semantics.proofs.Lists.{IsNonEmpty, filter_within, filter_same, all-each, filter_map_none, filter_map_chosen}

@@ -12,6 +12,7 @@ use Rattle.wsm_windows.specs.declared.window.PaneKind.TheVariants.{OnTime}
 use Rattle.wsm_windows.specs.declared.window.Shape.{Shape}
 use Rattle.wsm_windows.specs.Windows.{windows_of_shape}
 use Rattle.wsm_windows.specs.Life.{is_due}
+use Rattle.wsm_admission.specs.declared.clock.Clock.{Clock}
 use Rattle.wsm_admission.specs.declared.verdict.Admitted.{Admitted}
 use Rattle.wsm_admission.specs.declared.verdict.Admitted.TheVariants as admitted
 use Rattle.wsm_admission.specs.declared.verdict.Refusal.{Refusal}
@@ -51,6 +52,10 @@ pub record State (X : Type 0) : Type 0 where
   pub panes : List (Place × X)
   pub fed : ℕ
   pub fired : ℕ
+
+-- before the first event
+abbrev pub opened : {X : Type 0} → Clock → State X
+opened clock = record { admission = admission.opened clock; panes = []; fed = 0; fired = 0 }
 
 -- each held pane with its summary
 abbrev pub summaries : {X : Type 0} → (List Datum → X) → Query → List Event → List (Place × X)
