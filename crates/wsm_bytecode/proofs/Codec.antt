@@ -6,10 +6,10 @@ use Rattle.std.specs.Int.{w8, w16}
 use Rattle.std.proofs.lemmas.Bool.{true≢false, ltb-true, leb-true, le-leb, and_parts, and_from}
 use Rattle.wsm_bytecode.specs.declared.instr.Instr.{Instr}
 use Rattle.wsm_bytecode.specs.declared.instr.Instr.TheVariants.{PushInt, PushBool, PushEnum, Field, Key, Acc, Count, Add, Sub, Mul, Div, Rem, Neg, Eq, Ne, Lt, Le, Gt, Ge, Not, Jump, JumpIfFalse, Fold, Return}
-use Rattle.wsm_bytecode.specs.Program.{Name, names_of_type, names_of_field, is_name_list, are_names_after, are_fields_after, is_field_type, Header, Program, is_name_of, is_schema, is_instr, is_section, is_header, is_program, enum_names, is_within, latest_time, is_span, is_size, is_shape, is_form_of, is_column, is_budget}
+use Rattle.wsm_bytecode.specs.Program.{Name, names_of_type, names_of_field, is_name_list, are_names_after, is_field_after, are_fields_after, is_field_type, Header, Program, is_name_of, is_schema, is_instr, is_section, is_header, is_program, enum_names, is_within, latest_time, is_span, is_size, is_shape, is_form_of, is_column, is_budget}
 use Rattle.wsm_record.specs.Schema.{FieldType, Int, Truth, Enum, DeclaredField, Declared}
 use Rattle.wsm_record.specs.Name.{is_name, is_among, is_between}
-use Rattle.wsm_bytecode.specs.Reading.{judged, number_at, signed_at, enum_number_at, push_int_at, push_bool_at, push_enum_at, index_at, target_at, instr_by, instr_at, code_at, several, magic_at, version_at, schema_at, shape_at, mode_at, form_at, kinds_at, columns_at, budget_at, header_at, program_at, decode}
+use Rattle.wsm_bytecode.specs.Reading.{judged, number_at, signed_at, enum_number_at, push_int_at, push_bool_at, push_enum_at, index_at, target_at, plain_instr, instr_by, instr_at, code_at, several, after_magic, after_version, schema_at, shape_at, mode_at, form_at, kinds_at, columns_at, budget_at, header_at, program_at, decode}
 use Rattle.wsm_bytecode.specs.Spelling.{byte, number, signed, instr, code, magic, header, schema, shape, mode, form, kinds, columns, budget, spelling}
 use Rattle.wsm_bytecode.proofs.Numbers.{bytes_again, byte_again, short_again, signed_again, judged_again}
 use Rattle.wsm_bytecode.proofs.Parts.{tag_again, below, several_again, enum_number_again, enum_is_small, start_again, span_again, size_again, schema_again, shape_again, mode_again, form_again, kinds_again, columns_again, budget_again}
@@ -59,7 +59,7 @@ plain : (h : Header) (c : ℕ) (i : Instr) (rest : List ℕ) → c < 256 → ins
 plain h c i rest lt e = instr_step h c rest i rest lt e
 
 pub instr_again : (h : Header) → FewParts h → (i : Instr) (rest : List ℕ) → is_instr h i ≡ true → instr_at h (instr i ++ rest) ≡ Ok (i, rest)
-unfolding instr_by push_int_at
+unfolding instr_by plain_instr instr
 instr_again h few (PushInt n) rest good = instr_step h 1 (signed n ++ rest) (PushInt n) rest (lit< tt) (push_int_step (signed n ++ rest) n rest (signed_again n rest good))
 instr_again h few (PushBool false) rest good = instr_step h 2 (byte 0 ++ rest) (PushBool false) rest (lit< tt) (push_bool_step (byte 0 ++ rest) 0 rest (tag_again 0 1 0 rest (lit< tt) refl))
 instr_again h few (PushBool true) rest good = instr_step h 2 (byte 1 ++ rest) (PushBool true) rest (lit< tt) (push_bool_step (byte 1 ++ rest) 1 rest (tag_again 0 1 1 rest (lit< tt) refl))
@@ -96,7 +96,7 @@ unfolding code_at
 code_step h bytes n mid is rest e f = rw (e, f) refl
 
 pub code_again : (h : Header) → FewParts h → (is : List Instr) (rest : List ℕ) → is_section h is ≡ true → code_at h (code is ++ rest) ≡ Ok (is, rest)
-unfolding is_section
+unfolding is_section code
 code_again h few is rest good =
     let a = and_parts (leb (length is) 1000) (list_all (is_instr h) is) good in
     let short : is_between 0 1000 (length is) ≡ true = and_from (leb 0 (length is)) (leb (length is) 1000) (le-leb _ _ (omega arith)) a.0 in
@@ -129,9 +129,9 @@ type_below (Enum ns) i h e = list_below None ns i h e
 
 later_fields : (before : List Name) (g : DeclaredField) (fs : List DeclaredField) → are_fields_after before (g ∷ fs) ≡ true → (is_field_type g.type ≡ true) × (are_fields_after (before ++ g.name ∷ []) fs ≡ true)
 later_fields before g fs h =
-    let a = and_parts (is_name g.name) (not (is_among g.name before) && (is_field_type g.type && are_fields_after (before ++ g.name ∷ []) fs)) h in
-    let b = and_parts (not (is_among g.name before)) (is_field_type g.type && are_fields_after (before ++ g.name ∷ []) fs) a.1 in
-    and_parts (is_field_type g.type) (are_fields_after (before ++ g.name ∷ []) fs) b.1
+    let a = and_parts (is_field_after before g) (are_fields_after (before ++ g.name ∷ []) fs) h in
+    let b = and_parts (is_name g.name) (not (is_among g.name before) && is_field_type g.type) a.0 in
+    ((and_parts (not (is_among g.name before)) (is_field_type g.type) b.1).1, a.1)
 
 fields_below : (before : List Name) (fs : List DeclaredField) (f i : ℕ) → are_fields_after before fs ≡ true → is_name_of (names_of_field (slice_get fs f)) i ≡ true → i < 65536
 fields_below before [] f i h e = absurd (true≢false (sym e))
@@ -151,12 +151,12 @@ few_fields s h =
     let a = and_parts (is_name_list s.keys) (leb (length s.fields) 16 && are_fields_after [] s.fields) h in
     (and_parts (leb (length s.fields) 16) (are_fields_after [] s.fields) a.1).0
 
-magic_again : (rest : List ℕ) → magic_at (magic ++ rest) ≡ Ok (magic, rest)
-unfolding magic_at
+magic_again : (rest : List ℕ) → after_magic (magic ++ rest) ≡ Ok rest
+unfolding after_magic
 magic_again rest = rw (bytes_again 4 magic rest refl) refl
 
-version_again : (rest : List ℕ) → version_at (byte 1 ++ rest) ≡ Ok (1, rest)
-unfolding version_at
+version_again : (rest : List ℕ) → after_version (byte 1 ++ rest) ≡ Ok rest
+unfolding after_version
 version_again rest = rw (byte_again 1 rest (lit< tt)) refl
 
 -- what is_header holds, part by part
@@ -203,7 +203,7 @@ few_parts : (h : Header) → HeaderParts h → FewParts h
 few_parts h p = record { fields = few_fields h.schema p.schema; kinds = p.kinds; names = λ e i. names_below h.schema e i p.schema }
 
 header_step : (h : Header) (bytes r1 r2 r3 r4 r5 r6 r7 r8 r9 r10 r11 r12 r13 r14 rest : List ℕ)
-    → magic_at bytes ≡ Ok (magic, r1) → version_at r1 ≡ Ok (1, r2) → schema_at r2 ≡ Ok (h.schema, r3)
+    → after_magic bytes ≡ Ok r1 → after_version r1 ≡ Ok r2 → schema_at r2 ≡ Ok (h.schema, r3)
     → judged (is_within (pos 0) latest_time) (signed_at r3) ≡ Ok (h.start, r4) → judged is_span (signed_at r4) ≡ Ok (h.skew, r5)
     → judged is_span (signed_at r5) ≡ Ok (h.lateness, r6) → judged is_size (signed_at r6) ≡ Ok (h.records, r7)
     → shape_at r7 ≡ Ok (h.shape, r8) → mode_at r8 ≡ Ok (h.mode, r9)
@@ -215,6 +215,7 @@ header_step h bytes r1 r2 r3 r4 r5 r6 r7 r8 r9 r10 r11 r12 r13 r14 rest e1 e2 e3
     rw (e1, e2, e3, e4, e5, e6, e7, e8, e9, e10, e11, e12, e13, e14, e15) refl
 
 pub header_again : (h : Header) (rest : List ℕ) → HeaderParts h → header_at (header h ++ rest) ≡ Ok (h, rest)
+unfolding header
 header_again h rest p =
     let r14 = budget h.budget ++ rest in
     let r13 = columns h.columns ++ r14 in
@@ -238,14 +239,14 @@ header_again h rest p =
 
 -- ---- the program
 
-program_step : (p : Program) (bytes r1 r2 r3 rest : List ℕ) → header_at bytes ≡ Ok (p.header, r1) → code_at p.header r1 ≡ Ok (p.selection, r2) → code_at p.header r2 ≡ Ok (p.update, r3) → code_at p.header r3 ≡ Ok (p.fire, rest)
+pub program_step : (p : Program) (bytes r1 r2 r3 rest : List ℕ) → header_at bytes ≡ Ok (p.header, r1) → code_at p.header r1 ≡ Ok (p.selection, r2) → code_at p.header r2 ≡ Ok (p.update, r3) → code_at p.header r3 ≡ Ok (p.fire, rest)
     → program_at bytes ≡ Ok (p, rest)
 unfolding program_at
 program_step p bytes r1 r2 r3 rest e1 e2 e3 e4 = rw (e1, e2, e3, e4) refl
 
 -- the spelling of a program is read as that program, and what follows it is left
 pub program_again : (p : Program) (rest : List ℕ) → is_program p ≡ true → program_at (spelling p ++ rest) ≡ Ok (p, rest)
-unfolding is_header is_program
+unfolding is_header is_program spelling header
 program_again p rest good =
     let a = and_parts (is_header p.header) (is_section p.header p.selection && (is_section p.header p.update && is_section p.header p.fire)) good in
     let b = and_parts (is_section p.header p.selection) (is_section p.header p.update && is_section p.header p.fire) a.1 in

@@ -5,3 +5,5 @@ pub mod Taken
 pub mod TakenParts
 pub mod TakenProgram
 pub mod Loop
+pub mod NamesOf
+pub mod Reader

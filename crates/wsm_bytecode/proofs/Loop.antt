@@ -1,9 +1,14 @@
 -- Reading one after the other, as a loop does.
-use Rattle.std.proofs.Common.{◌≡◌, ℕ, suc, ◌-◌, ◌+◌, ◌≤◌, ◌<◌, List, [], ◌∷◌, ◌++◌, Result, Ok, Err, refl, sym, ap, subst, ◌∙◌, append_assoc, arith}
-use Rattle.std.proofs.lemmas.List.{append-nil}
+use Rattle.std.proofs.Common.{◌≡◌, ℕ, suc, ◌-◌, ◌+◌, ◌<◌, true, false, ◌||◌, map, List, [], ◌∷◌, ◌++◌, Result, Ok, Err, refl, sym, ap, subst, ◌∙◌, append_assoc, arith}
+use Rattle.std.specs.Prelude.{bytes_eq}
+use Rattle.std.specs.List.{list_any}
+use Rattle.wsm_record.specs.declared.schema.Field.{Field}
+use Rattle.wsm_record.specs.Name.{is_among}
+use Rattle.wsm_record.specs.Schema.{DeclaredField}
 use Rattle.wsm_bytecode.specs.declared.refusal.DecodeRefusal.{DecodeRefusal}
-use Rattle.wsm_bytecode.specs.declared.refusal.DecodeRefusal.TheVariants.{Memory}
-use Rattle.wsm_bytecode.specs.Reading.{Read, ◌>>=◌, Fails, several}
+use Rattle.wsm_bytecode.specs.declared.refusal.DecodeRefusal.TheVariants.{Memory, Operand}
+use Rattle.wsm_bytecode.specs.Program.{Name}
+use Rattle.wsm_bytecode.specs.Reading.{Read, ◌>>=◌, Fails, several, name_at, field_type_at, new_name_at, names_after, new_field_at, fields_after}
 
 -- what was read before, and what is still read
 abbrev pub with_front : {A : Type 0} → List A → Read (List A) → Read (List A)
@@ -14,30 +19,76 @@ pub fails_so : {A B : Type 0} (e : DecodeRefusal) (r : Result A DecodeRefusal) (
 fails_so Memory r f h = tt
 fails_so e r f h = ap (λ x. x >>= f) h
 
-pub regroup : {A : Type 0} (front : List A) (n : A) (read : Read (List A)) → with_front front (read >>= λ x. Ok (n ∷ x.0, x.1)) ≡ with_front (front ++ n ∷ []) read
+regroup : {A : Type 0} (front : List A) (n : A) (read : Read (List A)) → with_front front (read >>= λ x. Ok (n ∷ x.0, x.1)) ≡ with_front (front ++ n ∷ []) read
 regroup {A} front n (Ok x) = ap (λ (ns : List A). Ok (ns, x.1)) (simp append_assoc)
 regroup front n (Err f) = refl
+
+-- one, and then the others, which may depend on it
+abbrev one_then : {A : Type 0} → Read A → (A → List ℕ → Read (List A)) → Read (List A)
+one_then one later = one >>= λ first. later first.0 first.1 >>= λ others. Ok (first.0 ∷ others.0, others.1)
+
+moves_on : {A : Type 0} (one : Read A) (later : A → List ℕ → Read (List A)) (front : List A) (n : A) (after : List ℕ) → one ≡ Ok (n, after)
+    → with_front front (one_then one later) ≡ with_front (front ++ n ∷ []) (later n after)
+moves_on one later front n after h = rw h (regroup front n (later n after))
+
+stops : {A : Type 0} (e : DecodeRefusal) (one : Read A) (later : A → List ℕ → Read (List A)) (front : List A) → Fails e one → Fails e (with_front front (one_then one later))
+stops e one later front h =
+    fails_so e (one_then one later) (λ x. Ok (front ++ x.0, x.1)) (fails_so e one (λ first. later first.0 first.1 >>= λ others. Ok (first.0 ∷ others.0, others.1)) h)
+
+one_less : (count i : ℕ) → i < count → count - i ≡ suc (count - (i + 1))
+one_less count i lt = omega arith
+
+-- ---- so many of one kind
 
 pub goes_on : {A : Type 0} (one : List ℕ → Read A) (front : List A) (count i : ℕ) (bytes : List ℕ) (n : A) (after : List ℕ) (total : Read (List A)) → i < count → one bytes ≡ Ok (n, after)
     → with_front front (several one (count - i) bytes) ≡ total → with_front (front ++ n ∷ []) (several one (count - (i + 1)) after) ≡ total
 goes_on one front count i bytes n after total lt h so_far =
-    let k : count - i ≡ suc (count - (i + 1)) = omega arith in
-    let step : with_front front (several one (count - i) bytes) ≡ with_front (front ++ n ∷ []) (several one (count - (i + 1)) after) = rw (k, h) (regroup front n (several one (count - (i + 1)) after)) in
-    sym step ∙ so_far
-
-fails_first : {A : Type 0} (e : DecodeRefusal) (one : List ℕ → Read A) (front : List A) (k : ℕ) (bytes : List ℕ) → Fails e (one bytes) → Fails e (with_front front (several one (suc k) bytes))
-fails_first e one front k bytes h =
-    fails_so e (several one (suc k) bytes) (λ x. Ok (front ++ x.0, x.1)) (fails_so e (one bytes) (λ first. several one k first.1 >>= λ others. Ok (first.0 ∷ others.0, others.1)) h)
+    sym (moves_on (one bytes) (λ _. several one (count - (i + 1))) front n after h) ∙ (ap (λ k. with_front front (several one k bytes)) (sym (one_less count i lt)) ∙ so_far)
 
 pub ends : {A : Type 0} (e : DecodeRefusal) (one : List ℕ → Read A) (front : List A) (count i : ℕ) (bytes : List ℕ) (total : Read (List A)) → i < count → Fails e (one bytes)
     → with_front front (several one (count - i) bytes) ≡ total → Fails e total
 ends {A} e one front count i bytes total lt h so_far =
-    let k : count - i ≡ suc (count - (i + 1)) = omega arith in
-    let whole : with_front front (several one (suc (count - (i + 1))) bytes) ≡ total = ap (λ n. with_front front (several one n bytes)) (sym k) ∙ so_far in
-    subst (λ (r : Read (List A)). Fails e r) whole (fails_first e one front (count - (i + 1)) bytes h)
+    let whole : with_front front (several one (suc (count - (i + 1))) bytes) ≡ total = ap (λ k. with_front front (several one k bytes)) (sym (one_less count i lt)) ∙ so_far in
+    subst (λ (r : Read (List A)). Fails e r) whole (stops e (one bytes) (λ _. several one (count - (i + 1))) front h)
 
-pub is_done : {A : Type 0} (one : List ℕ → Read A) (front : List A) (count i : ℕ) (bytes : List ℕ) (total : Read (List A)) → count ≤ i → with_front front (several one (count - i) bytes) ≡ total → total ≡ Ok (front, bytes)
-is_done {A} one front count i bytes total le so_far =
-    let k : count - i ≡ 0 = omega arith in
-    let step : with_front front (several one (count - i) bytes) ≡ Ok (front, bytes) = rw k (ap (λ (ns : List A). Ok (ns, bytes)) (append-nil front)) in
-    sym so_far ∙ step
+-- ---- names
+
+pub names_go_on : (front : List Name) (count i : ℕ) (bytes : List ℕ) (n : Name) (after : List ℕ) (total : Read (List Name)) → i < count → new_name_at front bytes ≡ Ok (n, after)
+    → with_front front (names_after front (count - i) bytes) ≡ total → with_front (front ++ n ∷ []) (names_after (front ++ n ∷ []) (count - (i + 1)) after) ≡ total
+names_go_on front count i bytes n after total lt h so_far =
+    sym (moves_on (new_name_at front bytes) (λ x. names_after (front ++ x ∷ []) (count - (i + 1))) front n after h) ∙ (ap (λ k. with_front front (names_after front k bytes)) (sym (one_less count i lt)) ∙ so_far)
+
+pub names_end : (e : DecodeRefusal) (front : List Name) (count i : ℕ) (bytes : List ℕ) (total : Read (List Name)) → i < count → Fails e (new_name_at front bytes)
+    → with_front front (names_after front (count - i) bytes) ≡ total → Fails e total
+names_end e front count i bytes total lt h so_far =
+    let whole : with_front front (names_after front (suc (count - (i + 1))) bytes) ≡ total = ap (λ k. with_front front (names_after front k bytes)) (sym (one_less count i lt)) ∙ so_far in
+    subst (λ (r : Read (List Name)). Fails e r) whole (stops e (new_name_at front bytes) (λ x. names_after (front ++ x ∷ []) (count - (i + 1))) front h)
+
+-- ---- fields
+
+pub fields_go_on : (front : List DeclaredField) (names : List Name) (count i : ℕ) (bytes : List ℕ) (f : DeclaredField) (after : List ℕ) (total : Read (List DeclaredField)) → i < count → new_field_at names bytes ≡ Ok (f, after)
+    → with_front front (fields_after names (count - i) bytes) ≡ total → with_front (front ++ f ∷ []) (fields_after (names ++ f.name ∷ []) (count - (i + 1)) after) ≡ total
+fields_go_on front names count i bytes f after total lt h so_far =
+    sym (moves_on (new_field_at names bytes) (λ x. fields_after (names ++ x.name ∷ []) (count - (i + 1))) front f after h) ∙ (ap (λ k. with_front front (fields_after names k bytes)) (sym (one_less count i lt)) ∙ so_far)
+
+pub fields_end : (e : DecodeRefusal) (front : List DeclaredField) (names : List Name) (count i : ℕ) (bytes : List ℕ) (total : Read (List DeclaredField)) → i < count → Fails e (new_field_at names bytes)
+    → with_front front (fields_after names (count - i) bytes) ≡ total → Fails e total
+fields_end e front names count i bytes total lt h so_far =
+    let whole : with_front front (fields_after names (suc (count - (i + 1))) bytes) ≡ total = ap (λ k. with_front front (fields_after names k bytes)) (sym (one_less count i lt)) ∙ so_far in
+    subst (λ (r : Read (List DeclaredField)). Fails e r) whole (stops e (new_field_at names bytes) (λ x. fields_after (names ++ x.name ∷ []) (count - (i + 1))) front h)
+
+among_names : (n : Name) (fs : List Field) → is_among n (map (λ f. f.name) fs) ≡ list_any (λ f. bytes_eq n f.name) fs
+among_names n [] = refl
+among_names n (f ∷ fs) = ap (λ b. bytes_eq n f.name || b) (among_names n fs)
+
+-- the name of a new field, and what follows it
+pub new_field_named : (before : List Field) (bytes : List ℕ) (n : Name) (rest : List ℕ) → name_at bytes ≡ Ok (n, rest) → list_any (λ f. bytes_eq n f.name) before ≡ false
+    → new_field_at (map (λ f. f.name) before) bytes ≡ (field_type_at rest >>= λ type. Ok (record { name = n; type = type.0 }, type.1))
+unfolding new_field_at
+new_field_named before bytes n rest e other = rw (e, among_names n before ∙ other) refl
+
+-- a name that was there before
+pub new_field_taken : (before : List Field) (bytes : List ℕ) (n : Name) (rest : List ℕ) → name_at bytes ≡ Ok (n, rest) → list_any (λ f. bytes_eq n f.name) before ≡ true
+    → new_field_at (map (λ f. f.name) before) bytes ≡ Err Operand
+unfolding new_field_at
+new_field_taken before bytes n rest e same = rw (e, among_names n before ∙ same) refl

@@ -1,8 +1,7 @@
 -- What was spelled is read again: numbers and names.
-use Rattle.std.proofs.Common.{lit<, leb, ◌≡◌, ℕ, suc, ◌^◌, ◌<◌, ◌≤◌, Bool, true, false, ltb, ◌&&◌, not, List, [], ◌∷◌, ◌++◌, length, ℤ, pos, negsuc, Ok, refl, sym, ap, ◌∙◌, append_assoc, arith, SFits}
-use Rattle.std.specs.List.{list_all}
+use Rattle.std.proofs.Common.{lit<, leb, ◌≡◌, ℕ, ◌^◌, ◌<◌, ◌≤◌, Bool, true, false, ltb, ◌&&◌, not, List, [], ◌∷◌, ◌++◌, length, ℤ, pos, negsuc, Ok, refl, sym, ap, ◌∙◌, append_assoc, arith, SFits}
 use Rattle.std.specs.Int.{Width, w8, w16, w64, byte_len, to_le_bytes, from_le_bytes, cast_unsigned}
-use Rattle.std.proofs.lemmas.Bool.{true≢false, ltb-true, le-ltb, leb-true, le-leb, and_parts, and_from}
+use Rattle.std.proofs.lemmas.Bool.{true≢false, le-ltb, leb-true, le-leb, and_parts, and_from}
 use Rattle.std.proofs.lemmas.List.{take_at, drop_at, length-append}
 use Rattle.std.proofs.lemmas.Int.{ints, to_z-of_z}
 use Rattle.std.proofs.lemmas.Nat.{from_le_bytes-to_le_bytes_2, from_le_bytes-to_le_bytes_8}

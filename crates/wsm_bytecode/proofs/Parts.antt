@@ -15,11 +15,11 @@ use Rattle.wsm_record.specs.declared.Mode.{Mode}
 use Rattle.wsm_record.specs.declared.Mode.TheVariants.{Discarding, Accumulating}
 use Rattle.wsm_record.specs.declared.Form.{Form}
 use Rattle.wsm_record.specs.declared.Form.TheVariants.{Panes, Istream, Dstream, Rstream}
-use Rattle.wsm_bytecode.specs.Program.{Name, is_i64, is_within, are_names_after, is_name_list, is_field_type, are_fields_after, is_schema, is_span, is_size, is_shape, is_form_of, is_column, is_stated, is_budget, enum_names, names_of_field, latest_time, longest_span}
+use Rattle.wsm_bytecode.specs.Program.{Name, is_i64, is_within, are_names_after, is_name_list, is_field_type, is_field_after, are_fields_after, is_schema, is_span, is_size, is_shape, is_form_of, is_column, is_stated, is_budget, enum_names, names_of_field, latest_time, longest_span}
 use Rattle.wsm_record.specs.Schema.{FieldType, Int, Truth, Enum, DeclaredField, Declared}
 use Rattle.wsm_bytecode.specs.declared.program.Budget.{Budget}
 use Rattle.wsm_record.specs.Name.{is_between, is_name, is_among}
-use Rattle.wsm_bytecode.specs.Reading.{Read, judged, number_at, signed_at, name_at, names_after, names_at, interval_at, enum_at, field_type_by, field_type_at, fields_after, schema_at, shape_at, fixed_at, sliding_at, session_at, shape_by, mode_at, mode_by, form_at, form_by, kind_at, kind_by, kinds_at, enum_number_at, enum_column_at, column_by, column_at, columns_at, budget_at, several}
+use Rattle.wsm_bytecode.specs.Reading.{Read, judged, number_at, signed_at, name_at, names_after, names_at, interval_at, enum_at, field_type_by, field_type_at, new_field_at, fields_after, schema_at, shape_at, fixed_at, sliding_at, session_at, shape_by, mode_at, mode_by, form_at, form_by, kind_at, kind_by, kinds_at, enum_number_at, enum_column_at, column_by, column_at, columns_at, budget_at, several}
 use Rattle.wsm_bytecode.specs.Spelling.{byte, number, long, signed, name, names, field_type, field, schema, shape, mode, form, kind, column, kinds, columns, budget}
 use Rattle.wsm_bytecode.proofs.Numbers.{byte_again, short_again, long_again, signed_again, judged_again, name_again}
 
@@ -97,21 +97,30 @@ field_type_again Truth rest h = type_step (byte 1 ++ rest) 1 rest Truth rest (ta
 field_type_again (Enum ns) rest h =
     type_step (byte 2 ++ (names ns ++ rest)) 2 (names ns ++ rest) (Enum ns) rest (tag_again 0 2 2 (names ns ++ rest) (lit< tt) refl) (enum_step (names ns ++ rest) ns rest (names_again ns rest h))
 
-fields_step : (before : List Name) (k : ℕ) (bytes : List ℕ) (f : DeclaredField) (mid next : List ℕ) (fs : List DeclaredField) (rest : List ℕ) → name_at bytes ≡ Ok (f.name, mid) → not (is_among f.name before) ≡ true
-    → field_type_at mid ≡ Ok (f.type, next) → fields_after (before ++ f.name ∷ []) k next ≡ Ok (fs, rest) → fields_after before (suc k) bytes ≡ Ok (f ∷ fs, rest)
-fields_step before k bytes f mid next fs rest e g t h = rw (judged_again (λ x. not (is_among x before)) (name_at bytes) f.name mid e g, t, h) refl
+new_field_step : (before : List Name) (bytes : List ℕ) (f : DeclaredField) (mid rest : List ℕ) → name_at bytes ≡ Ok (f.name, mid) → not (is_among f.name before) ≡ true
+    → field_type_at mid ≡ Ok (f.type, rest) → new_field_at before bytes ≡ Ok (f, rest)
+unfolding new_field_at
+new_field_step before bytes f mid rest e g t = rw (judged_again (λ x. not (is_among x before)) (name_at bytes) f.name mid e g, t) refl
+
+new_field_again : (before : List Name) (f : DeclaredField) (rest : List ℕ) → is_field_after before f ≡ true → new_field_at before (field f ++ rest) ≡ Ok (f, rest)
+new_field_again before f rest h =
+    let a = and_parts (is_name f.name) (not (is_among f.name before) && is_field_type f.type) h in
+    let b = and_parts (not (is_among f.name before)) (is_field_type f.type) a.1 in
+    let mid = field_type f.type ++ rest in
+    ap (new_field_at before) (append_assoc (name f.name) (field_type f.type) rest)
+    ∙ new_field_step before (name f.name ++ mid) f mid rest (name_again f.name mid a.0) b.0 (field_type_again f.type rest b.1)
+
+fields_step : (before : List Name) (k : ℕ) (bytes : List ℕ) (f : DeclaredField) (mid : List ℕ) (fs : List DeclaredField) (rest : List ℕ) → new_field_at before bytes ≡ Ok (f, mid)
+    → fields_after (before ++ f.name ∷ []) k mid ≡ Ok (fs, rest) → fields_after before (suc k) bytes ≡ Ok (f ∷ fs, rest)
+fields_step before k bytes f mid fs rest e h = rw (e, h) refl
 
 pub fields_after_again : (before : List Name) (fs : List DeclaredField) (rest : List ℕ) → are_fields_after before fs ≡ true → fields_after before (length fs) (flat_map field fs ++ rest) ≡ Ok (fs, rest)
 fields_after_again before [] rest h = refl
 fields_after_again before (f ∷ fs) rest h =
-    let a = and_parts (is_name f.name) (not (is_among f.name before) && (is_field_type f.type && are_fields_after (before ++ f.name ∷ []) fs)) h in
-    let b = and_parts (not (is_among f.name before)) (is_field_type f.type && are_fields_after (before ++ f.name ∷ []) fs) a.1 in
-    let c = and_parts (is_field_type f.type) (are_fields_after (before ++ f.name ∷ []) fs) b.1 in
+    let a = and_parts (is_field_after before f) (are_fields_after (before ++ f.name ∷ []) fs) h in
     let others = flat_map field fs ++ rest in
-    let mid = field_type f.type ++ others in
-    let regrouped : (field f ++ flat_map field fs) ++ rest ≡ name f.name ++ mid = append_assoc (field f) (flat_map field fs) rest ∙ append_assoc (name f.name) (field_type f.type) others in
-    ap (fields_after before (suc (length fs))) regrouped
-    ∙ fields_step before (length fs) (name f.name ++ mid) f mid others fs rest (name_again f.name mid a.0) b.0 (field_type_again f.type others c.0) (fields_after_again (before ++ f.name ∷ []) fs rest c.1)
+    ap (fields_after before (suc (length fs))) (append_assoc (field f) (flat_map field fs) rest)
+    ∙ fields_step before (length fs) (field f ++ others) f others fs rest (new_field_again before f others a.0) (fields_after_again (before ++ f.name ∷ []) fs rest a.1)
 
 schema_step : (bytes : List ℕ) (s : Declared) (mid : List ℕ) (k : ℕ) (next rest : List ℕ) → names_at bytes ≡ Ok (s.keys, mid) → judged (is_between 0 16) (number_at w8 mid) ≡ Ok (k, next) → fields_after [] k next ≡ Ok (s.fields, rest)
     → schema_at bytes ≡ Ok (s, rest)
@@ -119,7 +128,7 @@ unfolding schema_at
 schema_step bytes s mid k next rest e f g = rw (e, f, g) refl
 
 pub schema_again : (s : Declared) (rest : List ℕ) → is_schema s ≡ true → schema_at (schema s ++ rest) ≡ Ok (s, rest)
-unfolding is_schema
+unfolding is_schema schema
 schema_again s rest h =
     let a = and_parts (is_name_list s.keys) (leb (length s.fields) 16 && are_fields_after [] s.fields) h in
     let b = and_parts (leb (length s.fields) 16) (are_fields_after [] s.fields) a.1 in

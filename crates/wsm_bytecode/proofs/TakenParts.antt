@@ -11,11 +11,11 @@ use Rattle.wsm_windows.specs.declared.Shape.{Shape}
 use Rattle.wsm_windows.specs.declared.Shape.TheVariants.{Fixed, Sliding, Session}
 use Rattle.wsm_record.specs.declared.Mode.{Mode}
 use Rattle.wsm_record.specs.declared.Form.{Form}
-use Rattle.wsm_bytecode.specs.Program.{Name, are_names_after, is_name_list, is_field_type, are_fields_after, is_schema, is_size, is_within, is_shape, is_form_of, is_column, is_stated, is_budget, enum_names}
+use Rattle.wsm_bytecode.specs.Program.{Name, are_names_after, is_name_list, is_field_type, is_field_after, are_fields_after, is_schema, is_size, is_within, is_shape, is_form_of, is_column, is_stated, is_budget, enum_names}
 use Rattle.wsm_record.specs.Schema.{FieldType, Int, Truth, Enum, DeclaredField, Declared}
 use Rattle.wsm_bytecode.specs.declared.program.Budget.{Budget}
 use Rattle.wsm_record.specs.Name.{is_between, is_name, is_among}
-use Rattle.wsm_bytecode.specs.Reading.{◌>>=◌, judged, bytes_at, number_at, signed_at, name_at, names_after, names_at, interval_at, enum_at, field_type_by, field_type_at, fields_after, schema_at, shape_at, fixed_at, sliding_at, session_at, shape_by, mode_at, mode_by, form_at, form_by, kind_at, kind_by, kinds_at, enum_number_at, enum_column_at, column_by, column_at, columns_at, budget_at, several}
+use Rattle.wsm_bytecode.specs.Reading.{◌>>=◌, judged, bytes_at, number_at, signed_at, name_at, names_after, names_at, interval_at, enum_at, field_type_by, field_type_at, new_field_at, fields_after, schema_at, shape_at, fixed_at, sliding_at, session_at, shape_by, mode_at, mode_by, form_at, form_by, kind_at, kind_by, kinds_at, enum_number_at, enum_column_at, column_by, column_at, columns_at, budget_at, several}
 use Rattle.wsm_bytecode.specs.Spelling.{byte, number, long, signed, name, names, field_type, field, schema, shape, mode, form, kind, column, kinds, columns, budget}
 use Rattle.wsm_bytecode.proofs.Parts.{regroup_3}
 use Rattle.wsm_bytecode.proofs.Taken.{IsBytes, bind_ok, judged_ok, ok_is, Took, Exact, bytes_taken, byte_taken, number_taken, wide16, wide64, signed_taken, several_taken}
@@ -129,31 +129,42 @@ pub record TookFields (before : List Name) (n : ℕ) (bytes : List ℕ) (x : Lis
   pub len : length x.0 ≡ n
   pub good : are_fields_after before x.0 ≡ true
 
+new_field_taken : (before : List Name) → Exact (new_field_at before) field (is_field_after before)
+unfolding new_field_at
+new_field_taken before bytes x fits e =
+    let a = bind_ok (judged (λ y. not (is_among y before)) (name_at bytes)) (λ n. field_type_at n.1 >>= λ type. Ok (record { name = n.0; type = type.0 }, type.1)) x e in
+    let b = bind_ok (field_type_at a.0.1) (λ type. Ok (record { name = a.0.0; type = type.0 }, type.1)) x a.2 in
+    let j = judged_ok (λ y. not (is_among y before)) (name_at bytes) a.0 a.1 in
+    let t = name_taken bytes a.0 fits j.0 in
+    let v = field_type_taken a.0.1 b.0 t.fits b.1 in
+    let made : DeclaredField × List ℕ = (record { name = a.0.0; type = b.0.0 }, b.0.1) in
+    subst (λ y. Took field (is_field_after before) bytes y) (ok_is made x b.2)
+    (record {
+      parts = t.parts ∙ ap (λ r. name a.0.0 ++ r) v.parts ∙ sym (append_assoc (name a.0.0) (field_type b.0.0) b.0.1);
+      fits = v.fits;
+      good = and_from _ _ t.good (and_from _ _ j.1 v.good);
+    })
+
 fields_after_taken : (before : List Name) (n : ℕ) (bytes : List ℕ) (x : List DeclaredField × List ℕ) → IsBytes bytes → fields_after before n bytes ≡ Ok x → TookFields before n bytes x
 fields_after_taken before zero bytes x fits e =
     let made : List DeclaredField × List ℕ = ([], bytes) in
     subst (λ y. TookFields before 0 bytes y) (ok_is made x e) (record { parts = refl; fits = fits; len = refl; good = refl })
 fields_after_taken before (suc n) bytes x fits e =
-    let a = bind_ok (judged (λ y. not (is_among y before)) (name_at bytes)) (λ first. field_type_at first.1 >>= λ type. fields_after (before ++ first.0 ∷ []) n type.1 >>= λ others. Ok (record { name = first.0; type = type.0 } ∷ others.0, others.1)) x e in
-    let b = bind_ok (field_type_at a.0.1) (λ type. fields_after (before ++ a.0.0 ∷ []) n type.1 >>= λ others. Ok (record { name = a.0.0; type = type.0 } ∷ others.0, others.1)) x a.2 in
-    let c = bind_ok (fields_after (before ++ a.0.0 ∷ []) n b.0.1) (λ others. Ok (record { name = a.0.0; type = b.0.0 } ∷ others.0, others.1)) x b.2 in
-    let j = judged_ok (λ y. not (is_among y before)) (name_at bytes) a.0 a.1 in
-    let t = name_taken bytes a.0 fits j.0 in
-    let v = field_type_taken a.0.1 b.0 t.fits b.1 in
-    let u = fields_after_taken (before ++ a.0.0 ∷ []) n b.0.1 c.0 v.fits c.1 in
-    let one : DeclaredField = record { name = a.0.0; type = b.0.0 } in
-    let made : List DeclaredField × List ℕ = (one ∷ c.0.0, c.0.1) in
-    subst (λ y. TookFields before (suc n) bytes y) (ok_is made x c.2)
+    let a = bind_ok (new_field_at before bytes) (λ first. fields_after (before ++ first.0.name ∷ []) n first.1 >>= λ others. Ok (first.0 ∷ others.0, others.1)) x e in
+    let b = bind_ok (fields_after (before ++ a.0.0.name ∷ []) n a.0.1) (λ others. Ok (a.0.0 ∷ others.0, others.1)) x a.2 in
+    let t = new_field_taken before bytes a.0 fits a.1 in
+    let u = fields_after_taken (before ++ a.0.0.name ∷ []) n a.0.1 b.0 t.fits b.1 in
+    let made : List DeclaredField × List ℕ = (a.0.0 ∷ b.0.0, b.0.1) in
+    subst (λ y. TookFields before (suc n) bytes y) (ok_is made x b.2)
     (record {
-      parts = t.parts ∙ ap (λ r. name a.0.0 ++ r) (v.parts ∙ ap (λ r. field_type b.0.0 ++ r) u.parts)
-          ∙ sym (append_assoc (field one) (flat_map field c.0.0) c.0.1 ∙ append_assoc (name a.0.0) (field_type b.0.0) (flat_map field c.0.0 ++ c.0.1));
+      parts = t.parts ∙ ap (λ r. field a.0.0 ++ r) u.parts ∙ sym (append_assoc (field a.0.0) (flat_map field b.0.0) b.0.1);
       fits = u.fits;
       len = ap suc u.len;
-      good = and_from _ _ t.good (and_from _ _ j.1 (and_from _ _ v.good u.good));
+      good = and_from _ _ t.good u.good;
     })
 
 pub schema_taken : Exact schema_at schema is_schema
-unfolding names_at schema_at is_schema
+unfolding names_at schema_at is_schema schema
 schema_taken bytes x fits e =
     let a = bind_ok (names_at bytes) (λ keys. judged (is_between 0 16) (number_at w8 keys.1) >>= λ n. fields_after [] n.0 n.1 >>= λ fields. Ok (record { keys = keys.0; fields = fields.0 }, fields.1)) x e in
     let b = bind_ok (judged (is_between 0 16) (number_at w8 a.0.1)) (λ n. fields_after [] n.0 n.1 >>= λ fields. Ok (record { keys = a.0.0; fields = fields.0 }, fields.1)) x a.2 in

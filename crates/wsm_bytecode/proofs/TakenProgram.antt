@@ -1,11 +1,11 @@
 -- What was read is what was spelled: instructions, sections and whole programs.
-use Rattle.std.proofs.Common.{leb, ◌≡◌, ℕ, zero, suc, ◌≤◌, Bool, true, false, cond, ltb, ◌&&◌, List, [], ◌∷◌, ◌++◌, length, ℤ, pos, Result, Ok, Err, refl, sym, ap, subst, ◌∙◌, append-nil, arith}
+use Rattle.std.proofs.Common.{Option, None, Some, leb, ◌≡◌, ℕ, zero, suc, ◌≤◌, Bool, true, false, cond, ltb, ◌&&◌, List, [], ◌∷◌, ◌++◌, length, ℤ, pos, Result, Ok, Err, refl, sym, ap, subst, ◌∙◌, append-nil, arith}
 use Rattle.std.specs.Prelude.{◌==◌, bytes_eq}
 use Rattle.std.specs.List.{list_all, flat_map}
 use Rattle.std.specs.Int.{w8, w16}
 use Rattle.std.proofs.lemmas.Bool.{true≢false, le-leb, eqb-true, and_parts, and_from}
 use Rattle.wsm_bytecode.specs.declared.refusal.DecodeRefusal.{DecodeRefusal}
-use Rattle.wsm_bytecode.specs.declared.refusal.DecodeRefusal.TheVariants.{UnknownOpcode, BadMagic, Version}
+use Rattle.wsm_bytecode.specs.declared.refusal.DecodeRefusal.TheVariants.{BadMagic, Version}
 use Rattle.wsm_bytecode.specs.declared.instr.Instr.{Instr}
 use Rattle.wsm_bytecode.specs.declared.instr.CellType.{CellType}
 use Rattle.wsm_record.specs.declared.Kind.{Kind}
@@ -17,7 +17,7 @@ use Rattle.wsm_record.specs.Schema.{Declared}
 use Rattle.wsm_bytecode.specs.declared.program.Budget.{Budget}
 use Rattle.wsm_bytecode.specs.Program.{Header, Program, is_name_of, is_schema, is_instr, is_section, is_header, is_program, enum_names, is_within, latest_time, is_span, is_size, is_shape, is_form_of, is_column, is_budget}
 use Rattle.wsm_record.specs.Name.{is_between}
-use Rattle.wsm_bytecode.specs.Reading.{◌>>=◌, Read, judged, number_at, signed_at, enum_number_at, push_int_at, push_bool_at, push_enum_at, index_at, target_at, instr_by, instr_at, code_at, several, magic_at, version_at, bytes_at, schema_at, shape_at, mode_at, form_at, kinds_at, columns_at, budget_at, header_at, program_at, all_read, decode}
+use Rattle.wsm_bytecode.specs.Reading.{◌>>=◌, Read, judged, number_at, signed_at, enum_number_at, push_int_at, push_bool_at, push_enum_at, index_at, target_at, plain_instr, plain_at, instr_by, instr_at, code_at, several, after_magic, after_version, bytes_at, schema_at, shape_at, mode_at, form_at, kinds_at, columns_at, budget_at, header_at, program_at, all_read, decode}
 use Rattle.wsm_bytecode.specs.Spelling.{byte, number, signed, truth, instr, code, magic, header, schema, shape, mode, form, kinds, columns, budget, spelling}
 use Rattle.wsm_bytecode.proofs.Codec.{regroup_4, regroup_15}
 use Rattle.wsm_bytecode.proofs.Taken.{IsBytes, bind_ok, test_ok, judged_ok, ok_is, Took, Exact, bytes_taken, byte_taken, number_taken, wide16, signed_taken, several_taken}
@@ -26,7 +26,7 @@ use Rattle.wsm_bytecode.proofs.TakenParts.{tag_taken, at_most, measure_taken, sc
 -- ---- instructions
 
 push_int_taken : (h : Header) (bytes : List ℕ) (x : Instr × List ℕ) → IsBytes bytes → push_int_at bytes ≡ Ok x → Took instr (is_instr h) (byte 1 ++ bytes) x
-unfolding push_int_at
+unfolding push_int_at instr
 push_int_taken h bytes x fits e =
     let a = bind_ok (signed_at bytes) (λ n. Ok (PushInt n.0, n.1)) x e in
     let t = signed_taken bytes a.0 fits a.1 in
@@ -40,7 +40,7 @@ truth_of_tag (suc n) h =
     subst (λ k. byte k ≡ byte (truth (k == 1))) one refl
 
 push_bool_taken : (h : Header) (bytes : List ℕ) (x : Instr × List ℕ) → IsBytes bytes → push_bool_at bytes ≡ Ok x → Took instr (is_instr h) (byte 2 ++ bytes) x
-unfolding push_bool_at
+unfolding push_bool_at instr
 push_bool_taken h bytes x fits e =
     let a = bind_ok (judged (is_between 0 1) (number_at w8 bytes)) (λ b. Ok (PushBool (b.0 == 1), b.1)) x e in
     let t = tag_taken 0 1 bytes a.0 fits a.1 in
@@ -49,7 +49,7 @@ push_bool_taken h bytes x fits e =
     (record { parts = ap (λ r. byte 2 ++ r) (t.parts ∙ ap (λ r. r ++ a.0.1) (truth_of_tag a.0.0 (at_most 0 1 a.0.0 t.good))); fits = t.fits; good = refl })
 
 push_enum_taken : (h : Header) (bytes : List ℕ) (x : Instr × List ℕ) → IsBytes bytes → push_enum_at h.schema bytes ≡ Ok x → Took instr (is_instr h) (byte 3 ++ bytes) x
-unfolding enum_number_at push_enum_at
+unfolding enum_number_at push_enum_at instr
 push_enum_taken h bytes x fits e =
     let a = bind_ok (enum_number_at h.schema bytes) (λ d. judged (is_name_of (enum_names h.schema d.0)) (number_at w16 d.1) >>= λ i. Ok (PushEnum d.0 i.0, i.1)) x e in
     let b = bind_ok (judged (is_name_of (enum_names h.schema a.0.0)) (number_at w16 a.0.1)) (λ i. Ok (PushEnum a.0.0 i.0, i.1)) x a.2 in
@@ -84,53 +84,64 @@ target_taken h c made spelled good bytes x fits e =
 abbrev ok_read : Instr × List ℕ → Read Instr
 ok_read x = Ok x
 
-plain_taken : (h : Header) (k : ℕ) (i : Instr) → byte k ≡ instr i → is_instr h i ≡ true → (bytes : List ℕ) (x : Instr × List ℕ) → IsBytes bytes → ok_read (i, bytes) ≡ Ok x → Took instr (is_instr h) (byte k ++ bytes) x
-plain_taken h k i spelled good bytes x fits e =
-    let made : Instr × List ℕ = (i, bytes) in
-    subst (λ y. Took instr (is_instr h) (byte k ++ bytes) y) (ok_is made x e) (record { parts = ap (λ r. r ++ bytes) spelled; fits = fits; good = good })
-
 -- one test of a chain
 choose : {A P : Type 0} (b : Bool) (p q r : A) → cond b p q ≡ r → (b ≡ true → p ≡ r → P) → (b ≡ false → q ≡ r → P) → P
 choose true p q r e f g = f refl e
 choose false p q r e f g = g refl e
 
+-- an instruction without operands is its code, and always good
+record IsPlain (h : Header) (c : ℕ) (i : Instr) : Type 0 where
+  spelled : instr i ≡ byte c
+  good : is_instr h i ≡ true
+
+plain_here : (h : Header) (c k : ℕ) (i j : Instr) → instr j ≡ byte k → is_instr h j ≡ true → (c == k) ≡ true → Some j ≡ Some i → IsPlain h c i
+plain_here h c k i j spelled good t e =
+    let same : j ≡ i = cc in
+    subst (λ y. IsPlain h c y) same (record { spelled = spelled ∙ ap byte (sym (eqb-true c k t)); good = good })
+
+plain_found : (h : Header) (c : ℕ) (i : Instr) → plain_instr c ≡ Some i → IsPlain h c i
+unfolding plain_instr instr
+plain_found h c i e0 =
+    choose _ _ _ _ e0 (λ t r. plain_here h c 5 i Key refl refl t r) (λ _ e1.
+    choose _ _ _ _ e1 (λ t r. plain_here h c 7 i Count refl refl t r) (λ _ e2.
+    choose _ _ _ _ e2 (λ t r. plain_here h c 16 i Add refl refl t r) (λ _ e3.
+    choose _ _ _ _ e3 (λ t r. plain_here h c 17 i Sub refl refl t r) (λ _ e4.
+    choose _ _ _ _ e4 (λ t r. plain_here h c 18 i Mul refl refl t r) (λ _ e5.
+    choose _ _ _ _ e5 (λ t r. plain_here h c 19 i Div refl refl t r) (λ _ e6.
+    choose _ _ _ _ e6 (λ t r. plain_here h c 20 i Rem refl refl t r) (λ _ e7.
+    choose _ _ _ _ e7 (λ t r. plain_here h c 21 i Neg refl refl t r) (λ _ e8.
+    choose _ _ _ _ e8 (λ t r. plain_here h c 32 i Eq refl refl t r) (λ _ e9.
+    choose _ _ _ _ e9 (λ t r. plain_here h c 33 i Ne refl refl t r) (λ _ e10.
+    choose _ _ _ _ e10 (λ t r. plain_here h c 34 i Lt refl refl t r) (λ _ e11.
+    choose _ _ _ _ e11 (λ t r. plain_here h c 35 i Le refl refl t r) (λ _ e12.
+    choose _ _ _ _ e12 (λ t r. plain_here h c 36 i Gt refl refl t r) (λ _ e13.
+    choose _ _ _ _ e13 (λ t r. plain_here h c 37 i Ge refl refl t r) (λ _ e14.
+    choose _ _ _ _ e14 (λ t r. plain_here h c 40 i Not refl refl t r) (λ _ e15.
+    choose _ _ _ _ e15 (λ t r. plain_here h c 80 i Return refl refl t r) (λ _ e16.
+    absurd cc))))))))))))))))
+
+plain_taken : (h : Header) (c : ℕ) (o : Option Instr) (bytes : List ℕ) (x : Instr × List ℕ) → ((i : Instr) → o ≡ Some i → IsPlain h c i) → IsBytes bytes → plain_at o bytes ≡ Ok x → Took instr (is_instr h) (byte c ++ bytes) x
+plain_taken h c None bytes x found fits e = absurd cc
+plain_taken h c (Some i) bytes x found fits e =
+    let p = found i refl in
+    let made : Instr × List ℕ = (i, bytes) in
+    subst (λ y. Took instr (is_instr h) (byte c ++ bytes) y) (ok_is made x e) (record { parts = ap (λ r. r ++ bytes) (sym p.spelled); fits = fits; good = p.good })
+
 by_code : (h : Header) (c k : ℕ) (bytes : List ℕ) (x : Instr × List ℕ) → (c == k) ≡ true → Took instr (is_instr h) (byte k ++ bytes) x → Took instr (is_instr h) (byte c ++ bytes) x
 by_code h c k bytes x e t = subst (λ n. Took instr (is_instr h) (byte n ++ bytes) x) (sym (eqb-true c k e)) t
 
-abbrev no_reading : Read Instr
-no_reading = Err UnknownOpcode
-
-no_code : (x : Instr × List ℕ) → no_reading ≡ Ok x → ⊥
-no_code x e = cc
-
 instr_by_taken : (h : Header) (c : ℕ) (bytes : List ℕ) (x : Instr × List ℕ) → IsBytes bytes → instr_by h c bytes ≡ Ok x → Took instr (is_instr h) (byte c ++ bytes) x
-unfolding instr_by
+unfolding instr_by instr
 instr_by_taken h c bytes x fits e0 =
-    choose (c == 1) (push_int_at bytes) (cond (c == 2) (push_bool_at bytes) (cond (c == 3) (push_enum_at h.schema bytes) (cond (c == 4) (index_at (length h.schema.fields) Field bytes) (cond (c == 5) (Ok (Key, bytes)) (cond (c == 6) (index_at (length h.kinds) Acc bytes) (cond (c == 7) (Ok (Count, bytes)) (cond (c == 16) (Ok (Add, bytes)) (cond (c == 17) (Ok (Sub, bytes)) (cond (c == 18) (Ok (Mul, bytes)) (cond (c == 19) (Ok (Div, bytes)) (cond (c == 20) (Ok (Rem, bytes)) (cond (c == 21) (Ok (Neg, bytes)) (cond (c == 32) (Ok (Eq, bytes)) (cond (c == 33) (Ok (Ne, bytes)) (cond (c == 34) (Ok (Lt, bytes)) (cond (c == 35) (Ok (Le, bytes)) (cond (c == 36) (Ok (Gt, bytes)) (cond (c == 37) (Ok (Ge, bytes)) (cond (c == 40) (Ok (Not, bytes)) (cond (c == 48) (target_at Jump bytes) (cond (c == 49) (target_at JumpIfFalse bytes) (cond (c == 64) (index_at (length h.kinds) Fold bytes) (cond (c == 80) (Ok (Return, bytes)) (Err UnknownOpcode)))))))))))))))))))))))) (Ok x) e0 (λ t r. by_code h c 1 bytes x t (push_int_taken h bytes x fits r)) (λ f0 e1.
-    choose (c == 2) (push_bool_at bytes) (cond (c == 3) (push_enum_at h.schema bytes) (cond (c == 4) (index_at (length h.schema.fields) Field bytes) (cond (c == 5) (Ok (Key, bytes)) (cond (c == 6) (index_at (length h.kinds) Acc bytes) (cond (c == 7) (Ok (Count, bytes)) (cond (c == 16) (Ok (Add, bytes)) (cond (c == 17) (Ok (Sub, bytes)) (cond (c == 18) (Ok (Mul, bytes)) (cond (c == 19) (Ok (Div, bytes)) (cond (c == 20) (Ok (Rem, bytes)) (cond (c == 21) (Ok (Neg, bytes)) (cond (c == 32) (Ok (Eq, bytes)) (cond (c == 33) (Ok (Ne, bytes)) (cond (c == 34) (Ok (Lt, bytes)) (cond (c == 35) (Ok (Le, bytes)) (cond (c == 36) (Ok (Gt, bytes)) (cond (c == 37) (Ok (Ge, bytes)) (cond (c == 40) (Ok (Not, bytes)) (cond (c == 48) (target_at Jump bytes) (cond (c == 49) (target_at JumpIfFalse bytes) (cond (c == 64) (index_at (length h.kinds) Fold bytes) (cond (c == 80) (Ok (Return, bytes)) (Err UnknownOpcode))))))))))))))))))))))) (Ok x) e1 (λ t r. by_code h c 2 bytes x t (push_bool_taken h bytes x fits r)) (λ f1 e2.
-    choose (c == 3) (push_enum_at h.schema bytes) (cond (c == 4) (index_at (length h.schema.fields) Field bytes) (cond (c == 5) (Ok (Key, bytes)) (cond (c == 6) (index_at (length h.kinds) Acc bytes) (cond (c == 7) (Ok (Count, bytes)) (cond (c == 16) (Ok (Add, bytes)) (cond (c == 17) (Ok (Sub, bytes)) (cond (c == 18) (Ok (Mul, bytes)) (cond (c == 19) (Ok (Div, bytes)) (cond (c == 20) (Ok (Rem, bytes)) (cond (c == 21) (Ok (Neg, bytes)) (cond (c == 32) (Ok (Eq, bytes)) (cond (c == 33) (Ok (Ne, bytes)) (cond (c == 34) (Ok (Lt, bytes)) (cond (c == 35) (Ok (Le, bytes)) (cond (c == 36) (Ok (Gt, bytes)) (cond (c == 37) (Ok (Ge, bytes)) (cond (c == 40) (Ok (Not, bytes)) (cond (c == 48) (target_at Jump bytes) (cond (c == 49) (target_at JumpIfFalse bytes) (cond (c == 64) (index_at (length h.kinds) Fold bytes) (cond (c == 80) (Ok (Return, bytes)) (Err UnknownOpcode)))))))))))))))))))))) (Ok x) e2 (λ t r. by_code h c 3 bytes x t (push_enum_taken h bytes x fits r)) (λ f2 e3.
-    choose (c == 4) (index_at (length h.schema.fields) Field bytes) (cond (c == 5) (Ok (Key, bytes)) (cond (c == 6) (index_at (length h.kinds) Acc bytes) (cond (c == 7) (Ok (Count, bytes)) (cond (c == 16) (Ok (Add, bytes)) (cond (c == 17) (Ok (Sub, bytes)) (cond (c == 18) (Ok (Mul, bytes)) (cond (c == 19) (Ok (Div, bytes)) (cond (c == 20) (Ok (Rem, bytes)) (cond (c == 21) (Ok (Neg, bytes)) (cond (c == 32) (Ok (Eq, bytes)) (cond (c == 33) (Ok (Ne, bytes)) (cond (c == 34) (Ok (Lt, bytes)) (cond (c == 35) (Ok (Le, bytes)) (cond (c == 36) (Ok (Gt, bytes)) (cond (c == 37) (Ok (Ge, bytes)) (cond (c == 40) (Ok (Not, bytes)) (cond (c == 48) (target_at Jump bytes) (cond (c == 49) (target_at JumpIfFalse bytes) (cond (c == 64) (index_at (length h.kinds) Fold bytes) (cond (c == 80) (Ok (Return, bytes)) (Err UnknownOpcode))))))))))))))))))))) (Ok x) e3 (λ t r. by_code h c 4 bytes x t (index_taken h 4 (length h.schema.fields) Field (λ i rest. refl) (λ i. refl) bytes x fits r)) (λ f3 e4.
-    choose (c == 5) (Ok (Key, bytes)) (cond (c == 6) (index_at (length h.kinds) Acc bytes) (cond (c == 7) (Ok (Count, bytes)) (cond (c == 16) (Ok (Add, bytes)) (cond (c == 17) (Ok (Sub, bytes)) (cond (c == 18) (Ok (Mul, bytes)) (cond (c == 19) (Ok (Div, bytes)) (cond (c == 20) (Ok (Rem, bytes)) (cond (c == 21) (Ok (Neg, bytes)) (cond (c == 32) (Ok (Eq, bytes)) (cond (c == 33) (Ok (Ne, bytes)) (cond (c == 34) (Ok (Lt, bytes)) (cond (c == 35) (Ok (Le, bytes)) (cond (c == 36) (Ok (Gt, bytes)) (cond (c == 37) (Ok (Ge, bytes)) (cond (c == 40) (Ok (Not, bytes)) (cond (c == 48) (target_at Jump bytes) (cond (c == 49) (target_at JumpIfFalse bytes) (cond (c == 64) (index_at (length h.kinds) Fold bytes) (cond (c == 80) (Ok (Return, bytes)) (Err UnknownOpcode)))))))))))))))))))) (Ok x) e4 (λ t r. by_code h c 5 bytes x t (plain_taken h 5 Key refl refl bytes x fits r)) (λ f4 e5.
-    choose (c == 6) (index_at (length h.kinds) Acc bytes) (cond (c == 7) (Ok (Count, bytes)) (cond (c == 16) (Ok (Add, bytes)) (cond (c == 17) (Ok (Sub, bytes)) (cond (c == 18) (Ok (Mul, bytes)) (cond (c == 19) (Ok (Div, bytes)) (cond (c == 20) (Ok (Rem, bytes)) (cond (c == 21) (Ok (Neg, bytes)) (cond (c == 32) (Ok (Eq, bytes)) (cond (c == 33) (Ok (Ne, bytes)) (cond (c == 34) (Ok (Lt, bytes)) (cond (c == 35) (Ok (Le, bytes)) (cond (c == 36) (Ok (Gt, bytes)) (cond (c == 37) (Ok (Ge, bytes)) (cond (c == 40) (Ok (Not, bytes)) (cond (c == 48) (target_at Jump bytes) (cond (c == 49) (target_at JumpIfFalse bytes) (cond (c == 64) (index_at (length h.kinds) Fold bytes) (cond (c == 80) (Ok (Return, bytes)) (Err UnknownOpcode))))))))))))))))))) (Ok x) e5 (λ t r. by_code h c 6 bytes x t (index_taken h 6 (length h.kinds) Acc (λ i rest. refl) (λ i. refl) bytes x fits r)) (λ f5 e6.
-    choose (c == 7) (Ok (Count, bytes)) (cond (c == 16) (Ok (Add, bytes)) (cond (c == 17) (Ok (Sub, bytes)) (cond (c == 18) (Ok (Mul, bytes)) (cond (c == 19) (Ok (Div, bytes)) (cond (c == 20) (Ok (Rem, bytes)) (cond (c == 21) (Ok (Neg, bytes)) (cond (c == 32) (Ok (Eq, bytes)) (cond (c == 33) (Ok (Ne, bytes)) (cond (c == 34) (Ok (Lt, bytes)) (cond (c == 35) (Ok (Le, bytes)) (cond (c == 36) (Ok (Gt, bytes)) (cond (c == 37) (Ok (Ge, bytes)) (cond (c == 40) (Ok (Not, bytes)) (cond (c == 48) (target_at Jump bytes) (cond (c == 49) (target_at JumpIfFalse bytes) (cond (c == 64) (index_at (length h.kinds) Fold bytes) (cond (c == 80) (Ok (Return, bytes)) (Err UnknownOpcode)))))))))))))))))) (Ok x) e6 (λ t r. by_code h c 7 bytes x t (plain_taken h 7 Count refl refl bytes x fits r)) (λ f6 e7.
-    choose (c == 16) (Ok (Add, bytes)) (cond (c == 17) (Ok (Sub, bytes)) (cond (c == 18) (Ok (Mul, bytes)) (cond (c == 19) (Ok (Div, bytes)) (cond (c == 20) (Ok (Rem, bytes)) (cond (c == 21) (Ok (Neg, bytes)) (cond (c == 32) (Ok (Eq, bytes)) (cond (c == 33) (Ok (Ne, bytes)) (cond (c == 34) (Ok (Lt, bytes)) (cond (c == 35) (Ok (Le, bytes)) (cond (c == 36) (Ok (Gt, bytes)) (cond (c == 37) (Ok (Ge, bytes)) (cond (c == 40) (Ok (Not, bytes)) (cond (c == 48) (target_at Jump bytes) (cond (c == 49) (target_at JumpIfFalse bytes) (cond (c == 64) (index_at (length h.kinds) Fold bytes) (cond (c == 80) (Ok (Return, bytes)) (Err UnknownOpcode))))))))))))))))) (Ok x) e7 (λ t r. by_code h c 16 bytes x t (plain_taken h 16 Add refl refl bytes x fits r)) (λ f7 e8.
-    choose (c == 17) (Ok (Sub, bytes)) (cond (c == 18) (Ok (Mul, bytes)) (cond (c == 19) (Ok (Div, bytes)) (cond (c == 20) (Ok (Rem, bytes)) (cond (c == 21) (Ok (Neg, bytes)) (cond (c == 32) (Ok (Eq, bytes)) (cond (c == 33) (Ok (Ne, bytes)) (cond (c == 34) (Ok (Lt, bytes)) (cond (c == 35) (Ok (Le, bytes)) (cond (c == 36) (Ok (Gt, bytes)) (cond (c == 37) (Ok (Ge, bytes)) (cond (c == 40) (Ok (Not, bytes)) (cond (c == 48) (target_at Jump bytes) (cond (c == 49) (target_at JumpIfFalse bytes) (cond (c == 64) (index_at (length h.kinds) Fold bytes) (cond (c == 80) (Ok (Return, bytes)) (Err UnknownOpcode)))))))))))))))) (Ok x) e8 (λ t r. by_code h c 17 bytes x t (plain_taken h 17 Sub refl refl bytes x fits r)) (λ f8 e9.
-    choose (c == 18) (Ok (Mul, bytes)) (cond (c == 19) (Ok (Div, bytes)) (cond (c == 20) (Ok (Rem, bytes)) (cond (c == 21) (Ok (Neg, bytes)) (cond (c == 32) (Ok (Eq, bytes)) (cond (c == 33) (Ok (Ne, bytes)) (cond (c == 34) (Ok (Lt, bytes)) (cond (c == 35) (Ok (Le, bytes)) (cond (c == 36) (Ok (Gt, bytes)) (cond (c == 37) (Ok (Ge, bytes)) (cond (c == 40) (Ok (Not, bytes)) (cond (c == 48) (target_at Jump bytes) (cond (c == 49) (target_at JumpIfFalse bytes) (cond (c == 64) (index_at (length h.kinds) Fold bytes) (cond (c == 80) (Ok (Return, bytes)) (Err UnknownOpcode))))))))))))))) (Ok x) e9 (λ t r. by_code h c 18 bytes x t (plain_taken h 18 Mul refl refl bytes x fits r)) (λ f9 e10.
-    choose (c == 19) (Ok (Div, bytes)) (cond (c == 20) (Ok (Rem, bytes)) (cond (c == 21) (Ok (Neg, bytes)) (cond (c == 32) (Ok (Eq, bytes)) (cond (c == 33) (Ok (Ne, bytes)) (cond (c == 34) (Ok (Lt, bytes)) (cond (c == 35) (Ok (Le, bytes)) (cond (c == 36) (Ok (Gt, bytes)) (cond (c == 37) (Ok (Ge, bytes)) (cond (c == 40) (Ok (Not, bytes)) (cond (c == 48) (target_at Jump bytes) (cond (c == 49) (target_at JumpIfFalse bytes) (cond (c == 64) (index_at (length h.kinds) Fold bytes) (cond (c == 80) (Ok (Return, bytes)) (Err UnknownOpcode)))))))))))))) (Ok x) e10 (λ t r. by_code h c 19 bytes x t (plain_taken h 19 Div refl refl bytes x fits r)) (λ f10 e11.
-    choose (c == 20) (Ok (Rem, bytes)) (cond (c == 21) (Ok (Neg, bytes)) (cond (c == 32) (Ok (Eq, bytes)) (cond (c == 33) (Ok (Ne, bytes)) (cond (c == 34) (Ok (Lt, bytes)) (cond (c == 35) (Ok (Le, bytes)) (cond (c == 36) (Ok (Gt, bytes)) (cond (c == 37) (Ok (Ge, bytes)) (cond (c == 40) (Ok (Not, bytes)) (cond (c == 48) (target_at Jump bytes) (cond (c == 49) (target_at JumpIfFalse bytes) (cond (c == 64) (index_at (length h.kinds) Fold bytes) (cond (c == 80) (Ok (Return, bytes)) (Err UnknownOpcode))))))))))))) (Ok x) e11 (λ t r. by_code h c 20 bytes x t (plain_taken h 20 Rem refl refl bytes x fits r)) (λ f11 e12.
-    choose (c == 21) (Ok (Neg, bytes)) (cond (c == 32) (Ok (Eq, bytes)) (cond (c == 33) (Ok (Ne, bytes)) (cond (c == 34) (Ok (Lt, bytes)) (cond (c == 35) (Ok (Le, bytes)) (cond (c == 36) (Ok (Gt, bytes)) (cond (c == 37) (Ok (Ge, bytes)) (cond (c == 40) (Ok (Not, bytes)) (cond (c == 48) (target_at Jump bytes) (cond (c == 49) (target_at JumpIfFalse bytes) (cond (c == 64) (index_at (length h.kinds) Fold bytes) (cond (c == 80) (Ok (Return, bytes)) (Err UnknownOpcode)))))))))))) (Ok x) e12 (λ t r. by_code h c 21 bytes x t (plain_taken h 21 Neg refl refl bytes x fits r)) (λ f12 e13.
-    choose (c == 32) (Ok (Eq, bytes)) (cond (c == 33) (Ok (Ne, bytes)) (cond (c == 34) (Ok (Lt, bytes)) (cond (c == 35) (Ok (Le, bytes)) (cond (c == 36) (Ok (Gt, bytes)) (cond (c == 37) (Ok (Ge, bytes)) (cond (c == 40) (Ok (Not, bytes)) (cond (c == 48) (target_at Jump bytes) (cond (c == 49) (target_at JumpIfFalse bytes) (cond (c == 64) (index_at (length h.kinds) Fold bytes) (cond (c == 80) (Ok (Return, bytes)) (Err UnknownOpcode))))))))))) (Ok x) e13 (λ t r. by_code h c 32 bytes x t (plain_taken h 32 Eq refl refl bytes x fits r)) (λ f13 e14.
-    choose (c == 33) (Ok (Ne, bytes)) (cond (c == 34) (Ok (Lt, bytes)) (cond (c == 35) (Ok (Le, bytes)) (cond (c == 36) (Ok (Gt, bytes)) (cond (c == 37) (Ok (Ge, bytes)) (cond (c == 40) (Ok (Not, bytes)) (cond (c == 48) (target_at Jump bytes) (cond (c == 49) (target_at JumpIfFalse bytes) (cond (c == 64) (index_at (length h.kinds) Fold bytes) (cond (c == 80) (Ok (Return, bytes)) (Err UnknownOpcode)))))))))) (Ok x) e14 (λ t r. by_code h c 33 bytes x t (plain_taken h 33 Ne refl refl bytes x fits r)) (λ f14 e15.
-    choose (c == 34) (Ok (Lt, bytes)) (cond (c == 35) (Ok (Le, bytes)) (cond (c == 36) (Ok (Gt, bytes)) (cond (c == 37) (Ok (Ge, bytes)) (cond (c == 40) (Ok (Not, bytes)) (cond (c == 48) (target_at Jump bytes) (cond (c == 49) (target_at JumpIfFalse bytes) (cond (c == 64) (index_at (length h.kinds) Fold bytes) (cond (c == 80) (Ok (Return, bytes)) (Err UnknownOpcode))))))))) (Ok x) e15 (λ t r. by_code h c 34 bytes x t (plain_taken h 34 Lt refl refl bytes x fits r)) (λ f15 e16.
-    choose (c == 35) (Ok (Le, bytes)) (cond (c == 36) (Ok (Gt, bytes)) (cond (c == 37) (Ok (Ge, bytes)) (cond (c == 40) (Ok (Not, bytes)) (cond (c == 48) (target_at Jump bytes) (cond (c == 49) (target_at JumpIfFalse bytes) (cond (c == 64) (index_at (length h.kinds) Fold bytes) (cond (c == 80) (Ok (Return, bytes)) (Err UnknownOpcode)))))))) (Ok x) e16 (λ t r. by_code h c 35 bytes x t (plain_taken h 35 Le refl refl bytes x fits r)) (λ f16 e17.
-    choose (c == 36) (Ok (Gt, bytes)) (cond (c == 37) (Ok (Ge, bytes)) (cond (c == 40) (Ok (Not, bytes)) (cond (c == 48) (target_at Jump bytes) (cond (c == 49) (target_at JumpIfFalse bytes) (cond (c == 64) (index_at (length h.kinds) Fold bytes) (cond (c == 80) (Ok (Return, bytes)) (Err UnknownOpcode))))))) (Ok x) e17 (λ t r. by_code h c 36 bytes x t (plain_taken h 36 Gt refl refl bytes x fits r)) (λ f17 e18.
-    choose (c == 37) (Ok (Ge, bytes)) (cond (c == 40) (Ok (Not, bytes)) (cond (c == 48) (target_at Jump bytes) (cond (c == 49) (target_at JumpIfFalse bytes) (cond (c == 64) (index_at (length h.kinds) Fold bytes) (cond (c == 80) (Ok (Return, bytes)) (Err UnknownOpcode)))))) (Ok x) e18 (λ t r. by_code h c 37 bytes x t (plain_taken h 37 Ge refl refl bytes x fits r)) (λ f18 e19.
-    choose (c == 40) (Ok (Not, bytes)) (cond (c == 48) (target_at Jump bytes) (cond (c == 49) (target_at JumpIfFalse bytes) (cond (c == 64) (index_at (length h.kinds) Fold bytes) (cond (c == 80) (Ok (Return, bytes)) (Err UnknownOpcode))))) (Ok x) e19 (λ t r. by_code h c 40 bytes x t (plain_taken h 40 Not refl refl bytes x fits r)) (λ f19 e20.
-    choose (c == 48) (target_at Jump bytes) (cond (c == 49) (target_at JumpIfFalse bytes) (cond (c == 64) (index_at (length h.kinds) Fold bytes) (cond (c == 80) (Ok (Return, bytes)) (Err UnknownOpcode)))) (Ok x) e20 (λ t r. by_code h c 48 bytes x t (target_taken h 48 Jump (λ t rest. refl) (λ t. refl) bytes x fits r)) (λ f20 e21.
-    choose (c == 49) (target_at JumpIfFalse bytes) (cond (c == 64) (index_at (length h.kinds) Fold bytes) (cond (c == 80) (Ok (Return, bytes)) (Err UnknownOpcode))) (Ok x) e21 (λ t r. by_code h c 49 bytes x t (target_taken h 49 JumpIfFalse (λ t rest. refl) (λ t. refl) bytes x fits r)) (λ f21 e22.
-    choose (c == 64) (index_at (length h.kinds) Fold bytes) (cond (c == 80) (Ok (Return, bytes)) (Err UnknownOpcode)) (Ok x) e22 (λ t r. by_code h c 64 bytes x t (index_taken h 64 (length h.kinds) Fold (λ i rest. refl) (λ i. refl) bytes x fits r)) (λ f22 e23.
-    choose (c == 80) (Ok (Return, bytes)) (Err UnknownOpcode) (Ok x) e23 (λ t r. by_code h c 80 bytes x t (plain_taken h 80 Return refl refl bytes x fits r)) (λ f23 e24.
-    absurd (no_code x e24)))))))))))))))))))))))))
+    choose _ _ _ _ e0 (λ t r. by_code h c 1 bytes x t (push_int_taken h bytes x fits r)) (λ _ e1.
+    choose _ _ _ _ e1 (λ t r. by_code h c 2 bytes x t (push_bool_taken h bytes x fits r)) (λ _ e2.
+    choose _ _ _ _ e2 (λ t r. by_code h c 3 bytes x t (push_enum_taken h bytes x fits r)) (λ _ e3.
+    choose _ _ _ _ e3 (λ t r. by_code h c 4 bytes x t (index_taken h 4 (length h.schema.fields) Field (λ i rest. refl) (λ i. refl) bytes x fits r)) (λ _ e4.
+    choose _ _ _ _ e4 (λ t r. by_code h c 6 bytes x t (index_taken h 6 (length h.kinds) Acc (λ i rest. refl) (λ i. refl) bytes x fits r)) (λ _ e5.
+    choose _ _ _ _ e5 (λ t r. by_code h c 48 bytes x t (target_taken h 48 Jump (λ t rest. refl) (λ t. refl) bytes x fits r)) (λ _ e6.
+    choose _ _ _ _ e6 (λ t r. by_code h c 49 bytes x t (target_taken h 49 JumpIfFalse (λ t rest. refl) (λ t. refl) bytes x fits r)) (λ _ e7.
+    choose _ _ _ _ e7 (λ t r. by_code h c 64 bytes x t (index_taken h 64 (length h.kinds) Fold (λ i rest. refl) (λ i. refl) bytes x fits r)) (λ _ e8.
+    plain_taken h c (plain_instr c) bytes x (plain_found h c) fits e8))))))))
 
 pub instr_taken : (h : Header) → Exact (instr_at h) instr (is_instr h)
 unfolding instr_at
@@ -141,7 +152,7 @@ instr_taken h bytes x fits e =
     record { parts = t.parts ∙ u.parts; fits = u.fits; good = u.good }
 
 pub code_taken : (h : Header) → Exact (code_at h) code (is_section h)
-unfolding code_at is_section
+unfolding code_at is_section code
 code_taken h bytes x fits e =
     let b = bind_ok (judged (is_between 0 1000) (number_at w16 bytes)) (λ n. several (instr_at h) n.0 n.1) x e in
     let j = judged_ok (is_between 0 1000) (number_at w16 bytes) b.0 b.1 in
@@ -160,21 +171,21 @@ same_bytes (x ∷ xs) (y ∷ ys) e =
 
 -- ---- the header
 
-magic_taken : (bytes : List ℕ) (x : List ℕ × List ℕ) → IsBytes bytes → magic_at bytes ≡ Ok x → (bytes ≡ magic ++ x.1) × IsBytes x.1
-unfolding magic_at
-magic_taken bytes x fits e =
-    let b = bind_ok (bytes_at 4 bytes) (λ m. cond (bytes_eq m.0 magic) (Ok m) (Err BadMagic)) x e in
-    let g = test_ok (bytes_eq b.0.0 magic) BadMagic b.0 x b.2 in
+magic_taken : (bytes rest : List ℕ) → IsBytes bytes → after_magic bytes ≡ Ok rest → (bytes ≡ magic ++ rest) × IsBytes rest
+unfolding after_magic
+magic_taken bytes rest fits e =
+    let b = bind_ok (bytes_at 4 bytes) (λ m. cond (bytes_eq m.0 magic) (Ok m.1) (Err BadMagic)) rest e in
+    let g = test_ok (bytes_eq b.0.0 magic) BadMagic b.0.1 rest b.2 in
     let p = bytes_taken 4 bytes b.0 fits b.1 in
-    subst (λ y. (bytes ≡ magic ++ y.1) × IsBytes y.1) g.1 (p.parts ∙ ap (λ m. m ++ b.0.1) (same_bytes b.0.0 magic g.0), p.fits)
+    subst (λ y. (bytes ≡ magic ++ y) × IsBytes y) g.1 (p.parts ∙ ap (λ m. m ++ b.0.1) (same_bytes b.0.0 magic g.0), p.fits)
 
-version_taken : (bytes : List ℕ) (x : ℕ × List ℕ) → IsBytes bytes → version_at bytes ≡ Ok x → (bytes ≡ byte 1 ++ x.1) × IsBytes x.1
-unfolding version_at
-version_taken bytes x fits e =
-    let b = bind_ok (number_at w8 bytes) (λ v. cond (v.0 == 1) (Ok v) (Err Version)) x e in
-    let g = test_ok (b.0.0 == 1) Version b.0 x b.2 in
+version_taken : (bytes rest : List ℕ) → IsBytes bytes → after_version bytes ≡ Ok rest → (bytes ≡ byte 1 ++ rest) × IsBytes rest
+unfolding after_version
+version_taken bytes rest fits e =
+    let b = bind_ok (number_at w8 bytes) (λ v. cond (v.0 == 1) (Ok v.1) (Err Version)) rest e in
+    let g = test_ok (b.0.0 == 1) Version b.0.1 rest b.2 in
     let t = byte_taken bytes b.0 fits b.1 in
-    subst (λ y. (bytes ≡ byte 1 ++ y.1) × IsBytes y.1) g.1 (t.parts ∙ ap (λ n. byte n ++ b.0.1) (eqb-true b.0.0 1 g.0), t.fits)
+    subst (λ y. (bytes ≡ byte 1 ++ y) × IsBytes y) g.1 (t.parts ∙ ap (λ n. byte n ++ b.0.1) (eqb-true b.0.0 1 g.0), t.fits)
 
 twelve_from : (a b c d e f g h i j k l m : Bool) → a ≡ true → b ≡ true → c ≡ true → d ≡ true → e ≡ true → f ≡ true → g ≡ true → h ≡ true → i ≡ true → j ≡ true → k ≡ true → l ≡ true → m ≡ true
     → (a && (b && (c && (d && (e && (f && (g && (h && (i && (j && (k && (l && m)))))))))))) ≡ true
@@ -188,6 +199,7 @@ header_done x = Ok x
 header_joined : (h : Header) (bytes r1 r2 r3 r4 r5 r6 r7 r8 r9 r10 r11 r12 r13 r14 rest : List ℕ)
     → bytes ≡ magic ++ r1 → r1 ≡ byte 1 ++ r2 → r2 ≡ schema h.schema ++ r3 → r3 ≡ signed h.start ++ r4 → r4 ≡ signed h.skew ++ r5 → r5 ≡ signed h.lateness ++ r6 → r6 ≡ signed h.records ++ r7 → r7 ≡ shape h.shape ++ r8 → r8 ≡ mode h.mode ++ r9 → r9 ≡ signed h.early ++ r10 → r10 ≡ signed h.late ++ r11 → r11 ≡ form h.form ++ r12 → r12 ≡ kinds h.kinds ++ r13 → r13 ≡ columns h.columns ++ r14 → r14 ≡ budget h.budget ++ rest
     → bytes ≡ header h ++ rest
+unfolding header
 header_joined h bytes r1 r2 r3 r4 r5 r6 r7 r8 r9 r10 r11 r12 r13 r14 rest e0 e1 e2 e3 e4 e5 e6 e7 e8 e9 e10 e11 e12 e13 e14 =
     let s15 : List ℕ = rest in
     let s14 : List ℕ = budget h.budget ++ s15 in
@@ -220,14 +232,14 @@ header_joined h bytes r1 r2 r3 r4 r5 r6 r7 r8 r9 r10 r11 r12 r13 r14 rest e0 e1 
     let q1 : r1 ≡ s1 = e1 ∙ ap (λ r. byte 1 ++ r) q2 in
     e0 ∙ ap (λ r. magic ++ r) q1 ∙ sym (regroup_15 magic (byte 1) (schema h.schema) (signed h.start) (signed h.skew) (signed h.lateness) (signed h.records) (shape h.shape) (mode h.mode) (signed h.early) (signed h.late) (form h.form) (kinds h.kinds) (columns h.columns) (budget h.budget) rest)
 
-header_from : (bytes : List ℕ) (x : Header × List ℕ) (v_m : List ℕ × List ℕ) (v_version : ℕ × List ℕ) (v_schema : Declared × List ℕ) (v_start : ℤ × List ℕ) (v_skew : ℤ × List ℕ) (v_lateness : ℤ × List ℕ) (v_records : ℤ × List ℕ) (v_shape : Shape × List ℕ) (v_mode : Mode × List ℕ) (v_early : ℤ × List ℕ) (v_late : ℤ × List ℕ) (v_form : Form × List ℕ) (v_kinds : List Kind × List ℕ) (v_columns : List CellType × List ℕ) (v_budget : Budget × List ℕ)
-    → IsBytes bytes → magic_at bytes ≡ Ok v_m → version_at v_m.1 ≡ Ok v_version → schema_at v_version.1 ≡ Ok v_schema → judged (is_within (pos 0) latest_time) (signed_at v_schema.1) ≡ Ok v_start → judged is_span (signed_at v_start.1) ≡ Ok v_skew → judged is_span (signed_at v_skew.1) ≡ Ok v_lateness → judged is_size (signed_at v_lateness.1) ≡ Ok v_records → shape_at v_records.1 ≡ Ok v_shape → mode_at v_shape.1 ≡ Ok v_mode → judged is_span (signed_at v_mode.1) ≡ Ok v_early → judged is_span (signed_at v_early.1) ≡ Ok v_late → form_at v_mode.0 v_late.1 ≡ Ok v_form → kinds_at v_form.1 ≡ Ok v_kinds → columns_at v_schema.0 v_kinds.1 ≡ Ok v_columns → budget_at v_columns.1 ≡ Ok v_budget
+header_from : (bytes : List ℕ) (x : Header × List ℕ) (v_m v_version : List ℕ) (v_schema : Declared × List ℕ) (v_start : ℤ × List ℕ) (v_skew : ℤ × List ℕ) (v_lateness : ℤ × List ℕ) (v_records : ℤ × List ℕ) (v_shape : Shape × List ℕ) (v_mode : Mode × List ℕ) (v_early : ℤ × List ℕ) (v_late : ℤ × List ℕ) (v_form : Form × List ℕ) (v_kinds : List Kind × List ℕ) (v_columns : List CellType × List ℕ) (v_budget : Budget × List ℕ)
+    → IsBytes bytes → after_magic bytes ≡ Ok v_m → after_version v_m ≡ Ok v_version → schema_at v_version ≡ Ok v_schema → judged (is_within (pos 0) latest_time) (signed_at v_schema.1) ≡ Ok v_start → judged is_span (signed_at v_start.1) ≡ Ok v_skew → judged is_span (signed_at v_skew.1) ≡ Ok v_lateness → judged is_size (signed_at v_lateness.1) ≡ Ok v_records → shape_at v_records.1 ≡ Ok v_shape → mode_at v_shape.1 ≡ Ok v_mode → judged is_span (signed_at v_mode.1) ≡ Ok v_early → judged is_span (signed_at v_early.1) ≡ Ok v_late → form_at v_mode.0 v_late.1 ≡ Ok v_form → kinds_at v_form.1 ≡ Ok v_kinds → columns_at v_schema.0 v_kinds.1 ≡ Ok v_columns → budget_at v_columns.1 ≡ Ok v_budget
     → header_done (record { schema = v_schema.0; start = v_start.0; skew = v_skew.0; lateness = v_lateness.0; records = v_records.0; shape = v_shape.0; mode = v_mode.0; early = v_early.0; late = v_late.0; form = v_form.0; kinds = v_kinds.0; columns = v_columns.0; budget = v_budget.0 }, v_budget.1) ≡ Ok x → Took header is_header bytes x
 unfolding is_header is_schema
 header_from bytes x v_m v_version v_schema v_start v_skew v_lateness v_records v_shape v_mode v_early v_late v_form v_kinds v_columns v_budget fits e0 e1 e2 e3 e4 e5 e6 e7 e8 e9 e10 e11 e12 e13 e14 last =
     let t0 = magic_taken bytes v_m fits e0 in
-    let t1 = version_taken v_m.1 v_version t0.1 e1 in
-    let t2 = schema_taken v_version.1 v_schema t1.1 e2 in
+    let t1 = version_taken v_m v_version t0.1 e1 in
+    let t2 = schema_taken v_version v_schema t1.1 e2 in
     let t3 = measure_taken (is_within (pos 0) latest_time) v_schema.1 v_start t2.fits e3 in
     let t4 = measure_taken is_span v_start.1 v_skew t3.fits e4 in
     let t5 = measure_taken is_span v_skew.1 v_lateness t4.fits e5 in
@@ -244,7 +256,7 @@ header_from bytes x v_m v_version v_schema v_start v_skew v_lateness v_records v
     let made : Header × List ℕ = (record { schema = v_schema.0; start = v_start.0; skew = v_skew.0; lateness = v_lateness.0; records = v_records.0; shape = v_shape.0; mode = v_mode.0; early = v_early.0; late = v_late.0; form = v_form.0; kinds = v_kinds.0; columns = v_columns.0; budget = v_budget.0 }, v_budget.1) in
     subst (λ y. Took header is_header bytes y) (ok_is made x last)
     (record {
-      parts = header_joined made.0 bytes v_m.1 v_version.1 v_schema.1 v_start.1 v_skew.1 v_lateness.1 v_records.1 v_shape.1 v_mode.1 v_early.1 v_late.1 v_form.1 v_kinds.1 v_columns.1 v_budget.1 t0.0 t1.0 t2.parts t3.parts t4.parts t5.parts t6.parts t7.parts t8.parts t9.parts t10.parts t11.parts t12.parts t13.parts t14.parts;
+      parts = header_joined made.0 bytes v_m v_version v_schema.1 v_start.1 v_skew.1 v_lateness.1 v_records.1 v_shape.1 v_mode.1 v_early.1 v_late.1 v_form.1 v_kinds.1 v_columns.1 v_budget.1 t0.0 t1.0 t2.parts t3.parts t4.parts t5.parts t6.parts t7.parts t8.parts t9.parts t10.parts t11.parts t12.parts t13.parts t14.parts;
       fits = t14.fits;
       good = twelve_from (is_schema v_schema.0) (is_within (pos 0) latest_time v_start.0) (is_span v_skew.0) (is_span v_lateness.0) (is_size v_records.0) (is_shape v_shape.0) (is_span v_early.0) (is_span v_late.0) (is_form_of v_mode.0 v_form.0)
           (leb (length v_kinds.0) 16) (is_between 1 16 (length v_columns.0)) (list_all (is_column v_schema.0) v_columns.0) (is_budget v_budget.0)
@@ -256,29 +268,29 @@ bind_then (Ok x) f y e go = go x refl e
 bind_then (Err d) f y e go = absurd cc
 
 pub header_taken : Exact header_at header is_header
-unfolding magic_at header_at
+unfolding header_at
 header_taken bytes x fits l0 =
-    bind_then (magic_at bytes) (λ v_m. version_at v_m.1 >>= λ v_version. schema_at v_version.1 >>= λ v_schema. judged (is_within (pos 0) latest_time) (signed_at v_schema.1) >>= λ v_start. judged is_span (signed_at v_start.1) >>= λ v_skew. judged is_span (signed_at v_skew.1) >>= λ v_lateness. judged is_size (signed_at v_lateness.1) >>= λ v_records. shape_at v_records.1 >>= λ v_shape. mode_at v_shape.1 >>= λ v_mode. judged is_span (signed_at v_mode.1) >>= λ v_early. judged is_span (signed_at v_early.1) >>= λ v_late. form_at v_mode.0 v_late.1 >>= λ v_form. kinds_at v_form.1 >>= λ v_kinds. columns_at v_schema.0 v_kinds.1 >>= λ v_columns. budget_at v_columns.1 >>= λ v_budget. Ok (record { schema = v_schema.0; start = v_start.0; skew = v_skew.0; lateness = v_lateness.0; records = v_records.0; shape = v_shape.0; mode = v_mode.0; early = v_early.0; late = v_late.0; form = v_form.0; kinds = v_kinds.0; columns = v_columns.0; budget = v_budget.0 }, v_budget.1)) x l0 (λ v_m e0 l1.
-    bind_then (version_at v_m.1) (λ v_version. schema_at v_version.1 >>= λ v_schema. judged (is_within (pos 0) latest_time) (signed_at v_schema.1) >>= λ v_start. judged is_span (signed_at v_start.1) >>= λ v_skew. judged is_span (signed_at v_skew.1) >>= λ v_lateness. judged is_size (signed_at v_lateness.1) >>= λ v_records. shape_at v_records.1 >>= λ v_shape. mode_at v_shape.1 >>= λ v_mode. judged is_span (signed_at v_mode.1) >>= λ v_early. judged is_span (signed_at v_early.1) >>= λ v_late. form_at v_mode.0 v_late.1 >>= λ v_form. kinds_at v_form.1 >>= λ v_kinds. columns_at v_schema.0 v_kinds.1 >>= λ v_columns. budget_at v_columns.1 >>= λ v_budget. Ok (record { schema = v_schema.0; start = v_start.0; skew = v_skew.0; lateness = v_lateness.0; records = v_records.0; shape = v_shape.0; mode = v_mode.0; early = v_early.0; late = v_late.0; form = v_form.0; kinds = v_kinds.0; columns = v_columns.0; budget = v_budget.0 }, v_budget.1)) x l1 (λ v_version e1 l2.
-    bind_then (schema_at v_version.1) (λ v_schema. judged (is_within (pos 0) latest_time) (signed_at v_schema.1) >>= λ v_start. judged is_span (signed_at v_start.1) >>= λ v_skew. judged is_span (signed_at v_skew.1) >>= λ v_lateness. judged is_size (signed_at v_lateness.1) >>= λ v_records. shape_at v_records.1 >>= λ v_shape. mode_at v_shape.1 >>= λ v_mode. judged is_span (signed_at v_mode.1) >>= λ v_early. judged is_span (signed_at v_early.1) >>= λ v_late. form_at v_mode.0 v_late.1 >>= λ v_form. kinds_at v_form.1 >>= λ v_kinds. columns_at v_schema.0 v_kinds.1 >>= λ v_columns. budget_at v_columns.1 >>= λ v_budget. Ok (record { schema = v_schema.0; start = v_start.0; skew = v_skew.0; lateness = v_lateness.0; records = v_records.0; shape = v_shape.0; mode = v_mode.0; early = v_early.0; late = v_late.0; form = v_form.0; kinds = v_kinds.0; columns = v_columns.0; budget = v_budget.0 }, v_budget.1)) x l2 (λ v_schema e2 l3.
-    bind_then (judged (is_within (pos 0) latest_time) (signed_at v_schema.1)) (λ v_start. judged is_span (signed_at v_start.1) >>= λ v_skew. judged is_span (signed_at v_skew.1) >>= λ v_lateness. judged is_size (signed_at v_lateness.1) >>= λ v_records. shape_at v_records.1 >>= λ v_shape. mode_at v_shape.1 >>= λ v_mode. judged is_span (signed_at v_mode.1) >>= λ v_early. judged is_span (signed_at v_early.1) >>= λ v_late. form_at v_mode.0 v_late.1 >>= λ v_form. kinds_at v_form.1 >>= λ v_kinds. columns_at v_schema.0 v_kinds.1 >>= λ v_columns. budget_at v_columns.1 >>= λ v_budget. Ok (record { schema = v_schema.0; start = v_start.0; skew = v_skew.0; lateness = v_lateness.0; records = v_records.0; shape = v_shape.0; mode = v_mode.0; early = v_early.0; late = v_late.0; form = v_form.0; kinds = v_kinds.0; columns = v_columns.0; budget = v_budget.0 }, v_budget.1)) x l3 (λ v_start e3 l4.
-    bind_then (judged is_span (signed_at v_start.1)) (λ v_skew. judged is_span (signed_at v_skew.1) >>= λ v_lateness. judged is_size (signed_at v_lateness.1) >>= λ v_records. shape_at v_records.1 >>= λ v_shape. mode_at v_shape.1 >>= λ v_mode. judged is_span (signed_at v_mode.1) >>= λ v_early. judged is_span (signed_at v_early.1) >>= λ v_late. form_at v_mode.0 v_late.1 >>= λ v_form. kinds_at v_form.1 >>= λ v_kinds. columns_at v_schema.0 v_kinds.1 >>= λ v_columns. budget_at v_columns.1 >>= λ v_budget. Ok (record { schema = v_schema.0; start = v_start.0; skew = v_skew.0; lateness = v_lateness.0; records = v_records.0; shape = v_shape.0; mode = v_mode.0; early = v_early.0; late = v_late.0; form = v_form.0; kinds = v_kinds.0; columns = v_columns.0; budget = v_budget.0 }, v_budget.1)) x l4 (λ v_skew e4 l5.
-    bind_then (judged is_span (signed_at v_skew.1)) (λ v_lateness. judged is_size (signed_at v_lateness.1) >>= λ v_records. shape_at v_records.1 >>= λ v_shape. mode_at v_shape.1 >>= λ v_mode. judged is_span (signed_at v_mode.1) >>= λ v_early. judged is_span (signed_at v_early.1) >>= λ v_late. form_at v_mode.0 v_late.1 >>= λ v_form. kinds_at v_form.1 >>= λ v_kinds. columns_at v_schema.0 v_kinds.1 >>= λ v_columns. budget_at v_columns.1 >>= λ v_budget. Ok (record { schema = v_schema.0; start = v_start.0; skew = v_skew.0; lateness = v_lateness.0; records = v_records.0; shape = v_shape.0; mode = v_mode.0; early = v_early.0; late = v_late.0; form = v_form.0; kinds = v_kinds.0; columns = v_columns.0; budget = v_budget.0 }, v_budget.1)) x l5 (λ v_lateness e5 l6.
-    bind_then (judged is_size (signed_at v_lateness.1)) (λ v_records. shape_at v_records.1 >>= λ v_shape. mode_at v_shape.1 >>= λ v_mode. judged is_span (signed_at v_mode.1) >>= λ v_early. judged is_span (signed_at v_early.1) >>= λ v_late. form_at v_mode.0 v_late.1 >>= λ v_form. kinds_at v_form.1 >>= λ v_kinds. columns_at v_schema.0 v_kinds.1 >>= λ v_columns. budget_at v_columns.1 >>= λ v_budget. Ok (record { schema = v_schema.0; start = v_start.0; skew = v_skew.0; lateness = v_lateness.0; records = v_records.0; shape = v_shape.0; mode = v_mode.0; early = v_early.0; late = v_late.0; form = v_form.0; kinds = v_kinds.0; columns = v_columns.0; budget = v_budget.0 }, v_budget.1)) x l6 (λ v_records e6 l7.
-    bind_then (shape_at v_records.1) (λ v_shape. mode_at v_shape.1 >>= λ v_mode. judged is_span (signed_at v_mode.1) >>= λ v_early. judged is_span (signed_at v_early.1) >>= λ v_late. form_at v_mode.0 v_late.1 >>= λ v_form. kinds_at v_form.1 >>= λ v_kinds. columns_at v_schema.0 v_kinds.1 >>= λ v_columns. budget_at v_columns.1 >>= λ v_budget. Ok (record { schema = v_schema.0; start = v_start.0; skew = v_skew.0; lateness = v_lateness.0; records = v_records.0; shape = v_shape.0; mode = v_mode.0; early = v_early.0; late = v_late.0; form = v_form.0; kinds = v_kinds.0; columns = v_columns.0; budget = v_budget.0 }, v_budget.1)) x l7 (λ v_shape e7 l8.
-    bind_then (mode_at v_shape.1) (λ v_mode. judged is_span (signed_at v_mode.1) >>= λ v_early. judged is_span (signed_at v_early.1) >>= λ v_late. form_at v_mode.0 v_late.1 >>= λ v_form. kinds_at v_form.1 >>= λ v_kinds. columns_at v_schema.0 v_kinds.1 >>= λ v_columns. budget_at v_columns.1 >>= λ v_budget. Ok (record { schema = v_schema.0; start = v_start.0; skew = v_skew.0; lateness = v_lateness.0; records = v_records.0; shape = v_shape.0; mode = v_mode.0; early = v_early.0; late = v_late.0; form = v_form.0; kinds = v_kinds.0; columns = v_columns.0; budget = v_budget.0 }, v_budget.1)) x l8 (λ v_mode e8 l9.
-    bind_then (judged is_span (signed_at v_mode.1)) (λ v_early. judged is_span (signed_at v_early.1) >>= λ v_late. form_at v_mode.0 v_late.1 >>= λ v_form. kinds_at v_form.1 >>= λ v_kinds. columns_at v_schema.0 v_kinds.1 >>= λ v_columns. budget_at v_columns.1 >>= λ v_budget. Ok (record { schema = v_schema.0; start = v_start.0; skew = v_skew.0; lateness = v_lateness.0; records = v_records.0; shape = v_shape.0; mode = v_mode.0; early = v_early.0; late = v_late.0; form = v_form.0; kinds = v_kinds.0; columns = v_columns.0; budget = v_budget.0 }, v_budget.1)) x l9 (λ v_early e9 l10.
-    bind_then (judged is_span (signed_at v_early.1)) (λ v_late. form_at v_mode.0 v_late.1 >>= λ v_form. kinds_at v_form.1 >>= λ v_kinds. columns_at v_schema.0 v_kinds.1 >>= λ v_columns. budget_at v_columns.1 >>= λ v_budget. Ok (record { schema = v_schema.0; start = v_start.0; skew = v_skew.0; lateness = v_lateness.0; records = v_records.0; shape = v_shape.0; mode = v_mode.0; early = v_early.0; late = v_late.0; form = v_form.0; kinds = v_kinds.0; columns = v_columns.0; budget = v_budget.0 }, v_budget.1)) x l10 (λ v_late e10 l11.
-    bind_then (form_at v_mode.0 v_late.1) (λ v_form. kinds_at v_form.1 >>= λ v_kinds. columns_at v_schema.0 v_kinds.1 >>= λ v_columns. budget_at v_columns.1 >>= λ v_budget. Ok (record { schema = v_schema.0; start = v_start.0; skew = v_skew.0; lateness = v_lateness.0; records = v_records.0; shape = v_shape.0; mode = v_mode.0; early = v_early.0; late = v_late.0; form = v_form.0; kinds = v_kinds.0; columns = v_columns.0; budget = v_budget.0 }, v_budget.1)) x l11 (λ v_form e11 l12.
-    bind_then (kinds_at v_form.1) (λ v_kinds. columns_at v_schema.0 v_kinds.1 >>= λ v_columns. budget_at v_columns.1 >>= λ v_budget. Ok (record { schema = v_schema.0; start = v_start.0; skew = v_skew.0; lateness = v_lateness.0; records = v_records.0; shape = v_shape.0; mode = v_mode.0; early = v_early.0; late = v_late.0; form = v_form.0; kinds = v_kinds.0; columns = v_columns.0; budget = v_budget.0 }, v_budget.1)) x l12 (λ v_kinds e12 l13.
-    bind_then (columns_at v_schema.0 v_kinds.1) (λ v_columns. budget_at v_columns.1 >>= λ v_budget. Ok (record { schema = v_schema.0; start = v_start.0; skew = v_skew.0; lateness = v_lateness.0; records = v_records.0; shape = v_shape.0; mode = v_mode.0; early = v_early.0; late = v_late.0; form = v_form.0; kinds = v_kinds.0; columns = v_columns.0; budget = v_budget.0 }, v_budget.1)) x l13 (λ v_columns e13 l14.
-    bind_then (budget_at v_columns.1) (λ v_budget. Ok (record { schema = v_schema.0; start = v_start.0; skew = v_skew.0; lateness = v_lateness.0; records = v_records.0; shape = v_shape.0; mode = v_mode.0; early = v_early.0; late = v_late.0; form = v_form.0; kinds = v_kinds.0; columns = v_columns.0; budget = v_budget.0 }, v_budget.1)) x l14 (λ v_budget e14 l15.
+    bind_then _ _ x l0 (λ v_m e0 l1.
+    bind_then _ _ x l1 (λ v_version e1 l2.
+    bind_then _ _ x l2 (λ v_schema e2 l3.
+    bind_then _ _ x l3 (λ v_start e3 l4.
+    bind_then _ _ x l4 (λ v_skew e4 l5.
+    bind_then _ _ x l5 (λ v_lateness e5 l6.
+    bind_then _ _ x l6 (λ v_records e6 l7.
+    bind_then _ _ x l7 (λ v_shape e7 l8.
+    bind_then _ _ x l8 (λ v_mode e8 l9.
+    bind_then _ _ x l9 (λ v_early e9 l10.
+    bind_then _ _ x l10 (λ v_late e10 l11.
+    bind_then _ _ x l11 (λ v_form e11 l12.
+    bind_then _ _ x l12 (λ v_kinds e12 l13.
+    bind_then _ _ x l13 (λ v_columns e13 l14.
+    bind_then _ _ x l14 (λ v_budget e14 l15.
     header_from bytes x v_m v_version v_schema v_start v_skew v_lateness v_records v_shape v_mode v_early v_late v_form v_kinds v_columns v_budget fits e0 e1 e2 e3 e4 e5 e6 e7 e8 e9 e10 e11 e12 e13 e14 l15)))))))))))))))
 
 -- ---- the program
 
 pub program_taken : Exact program_at spelling is_program
-unfolding header_at program_at is_program
+unfolding header_at program_at is_program spelling
 program_taken bytes x fits e =
     let a = bind_ok (header_at bytes) (λ h. code_at h.0 h.1 >>= λ s. code_at h.0 s.1 >>= λ u. code_at h.0 u.1 >>= λ f. Ok (record { header = h.0; selection = s.0; update = u.0; fire = f.0 }, f.1)) x e in
     let h = a.0 in

@@ -94,10 +94,13 @@ is_field_type (Int lo hi) = is_i64 lo && (is_i64 hi && int_le lo hi)
 is_field_type Truth = true
 is_field_type (Enum names) = is_name_list names
 
--- their names are none of those before
+-- its name is none of those before
+abbrev pub is_field_after : List Name → DeclaredField → Bool
+is_field_after before f = is_name f.name && (not (is_among f.name before) && is_field_type f.type)
+
 abbrev pub are_fields_after : List Name → List DeclaredField → Bool
 are_fields_after before [] = true
-are_fields_after before (f ∷ fs) = is_name f.name && (not (is_among f.name before) && (is_field_type f.type && are_fields_after (before ++ f.name ∷ []) fs))
+are_fields_after before (f ∷ fs) = is_field_after before f && are_fields_after (before ++ f.name ∷ []) fs
 
 unfoldable pub is_schema : Declared → Bool
 is_schema s = is_name_list s.keys && (nat_le (length s.fields) 16 && are_fields_after [] s.fields)

@@ -1,5 +1,5 @@
 -- Reading the bytes of a program from the left, up to the first fault.
-use Rattle.std.specs.Prelude.{◌≡◌, ℕ, zero, suc, Bool, ◌&&◌, not, List, [], ◌∷◌, ◌++◌, length, take, drop, ℤ, pos, int_le, nat_lt, is_some, Result, Ok, Err, bytes_eq, ◌==◌, if◌then◌else◌}
+use Rattle.std.specs.Prelude.{◌≡◌, ℕ, zero, suc, Bool, ◌&&◌, not, List, [], ◌∷◌, ◌++◌, length, take, drop, ℤ, pos, int_le, nat_lt, is_some, Option, Some, None, Result, Ok, Err, bytes_eq, ◌==◌, if◌then◌else◌}
 use Rattle.std.specs.Int.{Width, w8, w16, w64, byte_len, from_le_bytes, cast_signed}
 use Rattle.wsm_bytecode.specs.declared.instr.CellType.{CellType}
 use Rattle.wsm_bytecode.specs.declared.instr.CellType.TheVariants as types
@@ -63,11 +63,15 @@ name_at bytes = do
   n ← judged (is_between 1 32) (number_at w8 bytes)
   judged is_name (bytes_at n.0 n.1)
 
+-- a name that is none of those before
+abbrev pub new_name_at : List Name → List ℕ → Read Name
+new_name_at before bytes = judged (λ x. not (is_among x before)) (name_at bytes)
+
 -- so many names, none of them one of those before
 abbrev pub names_after : List Name → ℕ → List ℕ → Read (List Name)
 names_after before zero bytes = Ok ([], bytes)
 names_after before (suc n) bytes = do
-  first ← judged (λ x. not (is_among x before)) (name_at bytes)
+  first ← new_name_at before bytes
   others ← names_after (before ++ first.0 ∷ []) n first.1
   Ok (first.0 ∷ others.0, others.1)
 
@@ -98,13 +102,19 @@ field_type_at bytes = do
   tag ← judged (is_between 0 2) (number_at w8 bytes)
   field_type_by tag.0 tag.1
 
+-- a field whose name is none of those before
+unfoldable pub new_field_at : List Name → List ℕ → Read DeclaredField
+new_field_at before bytes = do
+  name ← new_name_at before bytes
+  type ← field_type_at name.1
+  Ok (record { name = name.0; type = type.0 }, type.1)
+
 abbrev pub fields_after : List Name → ℕ → List ℕ → Read (List DeclaredField)
 fields_after before zero bytes = Ok ([], bytes)
 fields_after before (suc n) bytes = do
-  first ← judged (λ x. not (is_among x before)) (name_at bytes)
-  type ← field_type_at first.1
-  others ← fields_after (before ++ first.0 ∷ []) n type.1
-  Ok (record { name = first.0; type = type.0 } ∷ others.0, others.1)
+  first ← new_field_at before bytes
+  others ← fields_after (before ++ first.0.name ∷ []) n first.1
+  Ok (first.0 ∷ others.0, others.1)
 
 unfoldable pub schema_at : List ℕ → Read Declared
 schema_at bytes = do
@@ -208,22 +218,22 @@ budget_at bytes = do
   held ← judged (is_between 1 100000) (number_at w64 per_pane.1)
   Ok (record { per_record = per_record.0; per_pane = per_pane.0; held = held.0 }, held.1)
 
--- fewer than four bytes are cut off, whatever they are
-unfoldable pub magic_at : List ℕ → Read (List ℕ)
-magic_at bytes = do
+-- the bytes after the magic ones; fewer than four bytes are cut off, whatever they are
+unfoldable pub after_magic : List ℕ → Result (List ℕ) DecodeRefusal
+after_magic bytes = do
   m ← bytes_at 4 bytes
-  if bytes_eq m.0 magic then Ok m else Err BadMagic
+  if bytes_eq m.0 magic then Ok m.1 else Err BadMagic
 
-unfoldable pub version_at : List ℕ → Read ℕ
-version_at bytes = do
+unfoldable pub after_version : List ℕ → Result (List ℕ) DecodeRefusal
+after_version bytes = do
   v ← number_at w8 bytes
-  if v.0 == 1 then Ok v else Err Version
+  if v.0 == 1 then Ok v.1 else Err Version
 
 unfoldable pub header_at : List ℕ → Read Header
 header_at bytes = do
-  m ← magic_at bytes
-  version ← version_at m.1
-  schema ← schema_at version.1
+  numbered ← after_magic bytes
+  declared ← after_version numbered
+  schema ← schema_at declared
   start ← judged (is_within (pos 0) latest_time) (signed_at schema.1)
   skew ← judged is_span (signed_at start.1)
   lateness ← judged is_span (signed_at skew.1)
@@ -286,33 +296,44 @@ target_at made bytes = do
   t ← number_at w16 bytes
   Ok (made t.0, t.1)
 
+-- the instruction of a code, of those without operands
+unfoldable pub plain_instr : ℕ → Option Instr
+plain_instr c =
+    if c == 5 then Some Key
+    else if c == 7 then Some Count
+    else if c == 16 then Some Add
+    else if c == 17 then Some Sub
+    else if c == 18 then Some Mul
+    else if c == 19 then Some Div
+    else if c == 20 then Some Rem
+    else if c == 21 then Some Neg
+    else if c == 32 then Some Eq
+    else if c == 33 then Some Ne
+    else if c == 34 then Some Lt
+    else if c == 35 then Some Le
+    else if c == 36 then Some Gt
+    else if c == 37 then Some Ge
+    else if c == 40 then Some Not
+    else if c == 80 then Some Return
+    else None
+
+-- it stands alone
+abbrev pub plain_at : Option Instr → List ℕ → Read Instr
+plain_at None bytes = Err UnknownOpcode
+plain_at (Some i) bytes = Ok (i, bytes)
+
+-- the operands of the instruction of a code
 unfoldable pub instr_by : Header → ℕ → List ℕ → Read Instr
 instr_by h c bytes =
     if c == 1 then push_int_at bytes
     else if c == 2 then push_bool_at bytes
     else if c == 3 then push_enum_at h.schema bytes
     else if c == 4 then index_at (length h.schema.fields) Field bytes
-    else if c == 5 then Ok (Key, bytes)
     else if c == 6 then index_at (length h.kinds) Acc bytes
-    else if c == 7 then Ok (Count, bytes)
-    else if c == 16 then Ok (Add, bytes)
-    else if c == 17 then Ok (Sub, bytes)
-    else if c == 18 then Ok (Mul, bytes)
-    else if c == 19 then Ok (Div, bytes)
-    else if c == 20 then Ok (Rem, bytes)
-    else if c == 21 then Ok (Neg, bytes)
-    else if c == 32 then Ok (Eq, bytes)
-    else if c == 33 then Ok (Ne, bytes)
-    else if c == 34 then Ok (Lt, bytes)
-    else if c == 35 then Ok (Le, bytes)
-    else if c == 36 then Ok (Gt, bytes)
-    else if c == 37 then Ok (Ge, bytes)
-    else if c == 40 then Ok (Not, bytes)
     else if c == 48 then target_at Jump bytes
     else if c == 49 then target_at JumpIfFalse bytes
     else if c == 64 then index_at (length h.kinds) Fold bytes
-    else if c == 80 then Ok (Return, bytes)
-    else Err UnknownOpcode
+    else plain_at (plain_instr c) bytes
 
 unfoldable pub instr_at : Header → List ℕ → Read Instr
 instr_at h bytes = do

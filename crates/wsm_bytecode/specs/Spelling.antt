@@ -45,7 +45,7 @@ field_type (Enum ns) = byte 2 ++ names ns
 abbrev pub field : DeclaredField → List ℕ
 field f = name f.name ++ field_type f.type
 
-abbrev pub schema : Declared → List ℕ
+unfoldable pub schema : Declared → List ℕ
 schema s = names s.keys ++ byte (length s.fields) ++ flat_map field s.fields
 
 abbrev pub shape : Shape → List ℕ
@@ -87,7 +87,7 @@ budget b = long b.per_record ++ long b.per_pane ++ long b.held
 abbrev pub magic : List ℕ
 magic = codes "WSMP"
 
-abbrev pub header : Header → List ℕ
+unfoldable pub header : Header → List ℕ
 header h = magic ++ byte 1 ++ schema h.schema
     ++ signed h.start ++ signed h.skew ++ signed h.lateness ++ signed h.records
     ++ shape h.shape ++ mode h.mode ++ signed h.early ++ signed h.late ++ form h.form
@@ -98,7 +98,7 @@ truth false = 0
 truth true = 1
 
 -- the code of the table, and the operands
-abbrev pub instr : Instr → List ℕ
+unfoldable pub instr : Instr → List ℕ
 instr (PushInt n) = byte 1 ++ signed n
 instr (PushBool b) = byte 2 ++ byte (truth b)
 instr (PushEnum e i) = byte 3 ++ byte e ++ number i
@@ -124,8 +124,8 @@ instr (JumpIfFalse t) = byte 49 ++ number t
 instr (Fold a) = byte 64 ++ byte a
 instr Return = byte 80
 
-abbrev pub code : List Instr → List ℕ
+unfoldable pub code : List Instr → List ℕ
 code is = number (length is) ++ flat_map instr is
 
-abbrev pub spelling : Program → List ℕ
+unfoldable pub spelling : Program → List ℕ
 spelling p = header p.header ++ code p.selection ++ code p.update ++ code p.fire

@@ -16,8 +16,10 @@
 
 pub use instr::{CellType, Instr, SectionId};
 pub use program::{Budget, Header, Program, Section};
+pub use reading::decode;
 pub use refusal::DecodeRefusal;
 
+mod enums;
 mod instr;
 mod limits;
 mod program;

@@ -1,4 +1,9 @@
-//! The ranges of a program's numbers.
+//! The ranges of a program's numbers, and what its bytes begin with.
+
+/// The first bytes of a program.
+pub(crate) const MAGIC: &[u8] = b"WSMP";
+/// The version of the bytes.
+pub(crate) const VERSION: u8 = 1;
 
 /// The latest time, in units of event time.
 pub(crate) const LATEST_TIME: i64 = 10_000_000_000_000_000;
@@ -18,3 +23,5 @@ pub(crate) const MAX_COLUMNS: u8 = 16;
 pub(crate) const MAX_FIELDS: u8 = 16;
 /// The most keys, and the most names of a field.
 pub(crate) const MAX_NAMES: u16 = 1_000;
+/// The most bytes of a name.
+pub(crate) const MAX_NAME: u8 = 32;

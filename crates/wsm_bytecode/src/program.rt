@@ -2,7 +2,7 @@
 
 ghost use Rattle.std.specs.Prelude.{◌≡◌, IsTrue};
 ghost use Rattle.wsm_bytecode.specs.Program.{section as section_of, is_program};
-ghost use Rattle.wsm_bytecode.specs.View.{header_of};
+ghost use Rattle.wsm_bytecode.specs.View.{header_of, program_of};
 
 use crate::instr::{CellType, Instr, SectionId};
 use std::marker::Model;
@@ -24,7 +24,7 @@ pub struct Budget {
 }
 
 /// What a program declares before its sections. Times and spans are in units of event time.
-#[derive(Debug, Drop)]
+#[derive(Drop)]
 pub struct Header {
     /// The keys and the fields of a record.
     pub schema: Schema,
@@ -56,7 +56,7 @@ pub struct Header {
 
 /// A header and three sections. Their numbers lie in their ranges, and each operand names a field,
 /// an accumulator or a name that there is. A jump's target may be any number.
-#[derive(Debug, Drop)]
+#[derive(Drop)]
 pub struct Program {
     header: Header,
     selection: Section,
@@ -78,6 +78,24 @@ impl Model for Program {
 }
 
 impl Program {
+    // The parts of a program that were judged.
+    pub(crate) fn of_parts(
+        header: Header,
+        selection: Section,
+        update: Section,
+        fire: Section,
+    ) -> Program
+        requires { IsTrue (is_program (program_of header selection.items update.items fire.items)) }
+        ensures { result ≡ program_of header selection.items update.items fire.items }
+    {
+        Program {
+            header,
+            selection,
+            update,
+            fire,
+        }
+    }
+
     /// What the program declares.
     pub fn header(&self) -> &Header
         ensures header { header_of result.now ≡ self.now.header }

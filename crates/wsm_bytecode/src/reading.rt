@@ -1,4 +1,59 @@
 //! From bytes to a program.
 
+ghost use Rattle.std.specs.Prelude.{◌≡◌, IfOk, IsTrue, Ok};
+ghost use Rattle.wsm_bytecode.specs.Program.{Program as Value, is_program};
+ghost use Rattle.wsm_bytecode.specs.Spelling.{spelling};
+ghost use Rattle.wsm_bytecode.specs.Reading.{Gives, program_at, decode as decoded};
+
+use crate::program::Program;
+use crate::reading::code::section_of;
+use crate::reading::header::header_of;
+use crate::refusal::DecodeRefusal;
+use std::alloc::Global;
+
+mod code;
+mod header;
+mod names;
 mod numbers;
+mod schema;
 mod settings;
+
+/// The program that the bytes spell, or their first fault from the left.
+///
+/// A value is judged once its last byte was read: so a value that is refused comes before bytes
+/// that are cut off behind it.
+pub fn decode(alloc: Global, bytes: &[u8]) -> Result<Program, DecodeRefusal>
+    // What is read is spelled so.
+    ensures found { IfOk result (λ p. bytes.now ≡ spelling p) }
+    // What is read is a program.
+    ensures lawful { IfOk result (λ p. IsTrue (is_program p)) }
+    // What is spelled so is read, unless memory runs out.
+    ensures only { (p : Value) → IsTrue (is_program p) → bytes.now ≡ spelling p → Gives (λ q. q) result (Ok p) }
+    // Which fault it is.
+    ensures exact { Gives (λ q. q) result (decoded bytes.now) }
+{
+    all(alloc, bytes)
+}
+
+// A program and nothing after it.
+#[tactic(auto, unfolding(crate::specs::Reading::decode))]
+fn all(alloc: Global, bytes: &[u8]) -> Result<Program, DecodeRefusal>
+    ensures { Gives (λ q. q) result (decoded bytes.now) }
+{
+    let (program, rest) = program_of(alloc, bytes)?;
+    if !rest.is_empty() {
+        return Err(DecodeRefusal::TrailingBytes);
+    }
+    Ok(program)
+}
+
+#[tactic(auto, unfolding(crate::specs::Reading::program_at))]
+fn program_of(alloc: Global, bytes: &[u8]) -> Result<(Program, &[u8]), DecodeRefusal>
+    ensures { Gives (λ x. (x.0, x.1.now)) result (program_at bytes.now) }
+{
+    let (header, rest) = header_of(alloc, bytes)?;
+    let (selection, rest) = section_of(alloc, &header, rest)?;
+    let (update, rest) = section_of(alloc, &header, rest)?;
+    let (fire, rest) = section_of(alloc, &header, rest)?;
+    Ok((Program::of_parts(header, selection, update, fire), rest))
+}

@@ -77,7 +77,11 @@ pub(crate) fn kinds_of(alloc: Global, bytes: &[u8]) -> Result<(Vec<Kind>, &[u8])
     so_many_kinds(alloc, rest, count)
 }
 
-fn so_many_kinds(alloc: Global, bytes: &[u8], count: u8) -> Result<(Vec<Kind>, &[u8]), DecodeRefusal>
+fn so_many_kinds(
+    alloc: Global,
+    bytes: &[u8],
+    count: u8,
+) -> Result<(Vec<Kind>, &[u8]), DecodeRefusal>
     ensures { Gives (λ x. (x.0.items, x.1.now)) result (several kind_at count bytes.now) }
 {
     let mut kinds = Vec::new(alloc);

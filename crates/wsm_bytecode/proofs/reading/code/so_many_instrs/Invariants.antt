@@ -1,0 +1,8 @@
+use Rattle.std.proofs.Common.{◌≡◌, ◌-◌}
+use Rattle.wsm_bytecode.specs.View.{header_of}
+use Rattle.wsm_bytecode.specs.Reading.{several, instr_at}
+use Rattle.wsm_bytecode.proofs.Loop.{with_front}
+use Rattle.wsm_bytecode.proofs.reading.code.so_many_instrs.Given as goal
+
+abbrev pub invariant-loop : goal.invariant-loop
+invariant-loop l = with_front l.instrs.items (several (instr_at (header_of l.fn.header)) (l.count - l.counter) l.rest) ≡ several (instr_at (header_of l.fn.header)) l.count l.bytes

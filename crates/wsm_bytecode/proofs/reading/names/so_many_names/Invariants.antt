@@ -1,0 +1,7 @@
+use Rattle.std.proofs.Common.{◌≡◌, ◌-◌, []}
+use Rattle.wsm_bytecode.specs.Reading.{names_after}
+use Rattle.wsm_bytecode.proofs.Loop.{with_front}
+use Rattle.wsm_bytecode.proofs.reading.names.so_many_names.Given as goal
+
+abbrev pub invariant-loop : goal.invariant-loop
+invariant-loop l = with_front l.names.items (names_after l.names.items (l.count - l.counter) l.rest) ≡ names_after [] l.count l.bytes

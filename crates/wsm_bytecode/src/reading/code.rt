@@ -1,0 +1,188 @@
+//! Instructions and sections.
+
+ghost use Rattle.std.specs.Prelude.{◌≡◌, nat_lt};
+ghost use Rattle.std.specs.Int.{w8};
+ghost use Rattle.wsm_bytecode.specs.View.{header_of};
+ghost use Rattle.wsm_bytecode.specs.Reading.{Gives, judged, number_at, several, push_int_at, push_bool_at, push_enum_at, index_at, target_at, plain_instr, instr_by, instr_at, code_at};
+ghost use Rattle.wsm_bytecode.specs.declared.instr.Instr.TheVariants.{Field, Acc, Fold, Jump, JumpIfFalse};
+
+use crate::enums::names;
+use crate::instr::Instr;
+use crate::limits::MAX_SECTION;
+use crate::program::{Header, Section};
+use crate::reading::header::enum_of;
+use crate::reading::numbers::{byte_of, byte_within, i64_of, u16_of, u16_within};
+use crate::refusal::DecodeRefusal;
+use std::alloc::Global;
+use wsm_record::Schema;
+
+/// The number of instructions, and these.
+#[tactic(auto, unfolding(crate::specs::Reading::code_at))]
+pub(crate) fn section_of<'a>(
+    alloc: Global,
+    header: &Header,
+    bytes: &'a [u8],
+) -> Result<(Section, &'a [u8]), DecodeRefusal>
+    ensures { Gives (λ x. (x.0.items, x.1.now)) result (code_at (header_of header.now) bytes.now) }
+{
+    let (count, rest) = u16_within(bytes, 0, MAX_SECTION)?;
+    so_many_instrs(alloc, header, rest, count)
+}
+
+fn so_many_instrs<'a>(
+    alloc: Global,
+    header: &Header,
+    bytes: &'a [u8],
+    count: u16,
+) -> Result<(Section, &'a [u8]), DecodeRefusal>
+    ensures { Gives (λ x. (x.0.items, x.1.now)) result (several (instr_at (header_of header.now)) count bytes.now) }
+{
+    let mut instrs = Vec::new(alloc);
+    let mut rest = bytes;
+    for _ in 0..count {
+        let (instr, after) = instr_of(header, rest)?;
+        instrs.push(instr)?;
+        rest = after;
+    }
+    Ok((instrs, rest))
+}
+
+#[tactic(auto, unfolding(crate::specs::Reading::instr_at))]
+fn instr_of<'a>(header: &Header, bytes: &'a [u8]) -> Result<(Instr, &'a [u8]), DecodeRefusal>
+    ensures { Gives (λ x. (x.0, x.1.now)) result (instr_at (header_of header.now) bytes.now) }
+{
+    let (code, rest) = byte_of(bytes)?;
+    instr_of_code(header, code, rest)
+}
+
+// The operands of the instruction of a code, which stand behind it.
+#[tactic(auto, unfolding(crate::specs::Reading::instr_by))]
+fn instr_of_code<'a>(
+    header: &Header,
+    code: u8,
+    bytes: &'a [u8],
+) -> Result<(Instr, &'a [u8]), DecodeRefusal>
+    ensures { Gives (λ x. (x.0, x.1.now)) result (instr_by (header_of header.now) code bytes.now) }
+{
+    match code {
+        0x01 => push_int_of(bytes),
+        0x02 => push_bool_of(bytes),
+        0x03 => push_enum_of(&header.schema, bytes),
+        0x04 => field_of(header.schema.fields().len(), bytes),
+        0x06 => acc_of(header.kinds.len(), bytes),
+        0x30 => jump_of(bytes),
+        0x31 => jump_if_false_of(bytes),
+        0x40 => fold_of(header.kinds.len(), bytes),
+        _ => match plain_instr_of(code) {
+            Some(instr) => Ok((instr, bytes)),
+            None => Err(DecodeRefusal::UnknownOpcode),
+        },
+    }
+}
+
+// The instruction of a code, of those without operands.
+#[tactic(auto, unfolding(crate::specs::Reading::plain_instr))]
+fn plain_instr_of(code: u8) -> Option<Instr>
+    ensures { result ≡ plain_instr code }
+{
+    let instr = match code {
+        0x05 => Instr::Key,
+        0x07 => Instr::Count,
+        0x10 => Instr::Add,
+        0x11 => Instr::Sub,
+        0x12 => Instr::Mul,
+        0x13 => Instr::Div,
+        0x14 => Instr::Rem,
+        0x15 => Instr::Neg,
+        0x20 => Instr::Eq,
+        0x21 => Instr::Ne,
+        0x22 => Instr::Lt,
+        0x23 => Instr::Le,
+        0x24 => Instr::Gt,
+        0x25 => Instr::Ge,
+        0x28 => Instr::Not,
+        0x50 => Instr::Return,
+        _ => return None,
+    };
+    Some(instr)
+}
+
+#[tactic(auto, unfolding(crate::specs::Reading::push_int_at))]
+fn push_int_of(bytes: &[u8]) -> Result<(Instr, &[u8]), DecodeRefusal>
+    ensures { Gives (λ x. (x.0, x.1.now)) result (push_int_at bytes.now) }
+{
+    let (number, rest) = i64_of(bytes)?;
+    Ok((Instr::PushInt(number), rest))
+}
+
+#[tactic(auto, unfolding(crate::specs::Reading::push_bool_at))]
+fn push_bool_of(bytes: &[u8]) -> Result<(Instr, &[u8]), DecodeRefusal>
+    ensures { Gives (λ x. (x.0, x.1.now)) result (push_bool_at bytes.now) }
+{
+    let (truth, rest) = byte_within(bytes, 0, 1)?;
+    Ok((Instr::PushBool(truth == 1), rest))
+}
+
+// The ENUM is judged at its own byte, its name's number behind it.
+#[tactic(auto, unfolding(crate::specs::Reading::push_enum_at, crate::specs::Reading::enum_number_at))]
+fn push_enum_of<'a>(schema: &Schema, bytes: &'a [u8]) -> Result<(Instr, &'a [u8]), DecodeRefusal>
+    ensures { Gives (λ x. (x.0, x.1.now)) result (push_enum_at schema.now bytes.now) }
+{
+    let (number, rest) = enum_of(schema, bytes)?;
+    let (name, rest) = u16_of(rest)?;
+    if !names(schema, number, name) {
+        return Err(DecodeRefusal::Operand);
+    }
+    Ok((Instr::PushEnum(number, name), rest))
+}
+
+#[tactic(auto, unfolding(crate::specs::Reading::index_at))]
+fn field_of(count: usize, bytes: &[u8]) -> Result<(Instr, &[u8]), DecodeRefusal>
+    ensures { Gives (λ x. (x.0, x.1.now)) result (index_at count Field bytes.now) }
+{
+    let (field, rest) = byte_below(bytes, count)?;
+    Ok((Instr::Field(field), rest))
+}
+
+#[tactic(auto, unfolding(crate::specs::Reading::index_at))]
+fn acc_of(count: usize, bytes: &[u8]) -> Result<(Instr, &[u8]), DecodeRefusal>
+    ensures { Gives (λ x. (x.0, x.1.now)) result (index_at count Acc bytes.now) }
+{
+    let (accumulator, rest) = byte_below(bytes, count)?;
+    Ok((Instr::Acc(accumulator), rest))
+}
+
+#[tactic(auto, unfolding(crate::specs::Reading::index_at))]
+fn fold_of(count: usize, bytes: &[u8]) -> Result<(Instr, &[u8]), DecodeRefusal>
+    ensures { Gives (λ x. (x.0, x.1.now)) result (index_at count Fold bytes.now) }
+{
+    let (accumulator, rest) = byte_below(bytes, count)?;
+    Ok((Instr::Fold(accumulator), rest))
+}
+
+#[tactic(auto, unfolding(crate::specs::Reading::target_at))]
+fn jump_of(bytes: &[u8]) -> Result<(Instr, &[u8]), DecodeRefusal>
+    ensures { Gives (λ x. (x.0, x.1.now)) result (target_at Jump bytes.now) }
+{
+    let (target, rest) = u16_of(bytes)?;
+    Ok((Instr::Jump(target), rest))
+}
+
+#[tactic(auto, unfolding(crate::specs::Reading::target_at))]
+fn jump_if_false_of(bytes: &[u8]) -> Result<(Instr, &[u8]), DecodeRefusal>
+    ensures { Gives (λ x. (x.0, x.1.now)) result (target_at JumpIfFalse bytes.now) }
+{
+    let (target, rest) = u16_of(bytes)?;
+    Ok((Instr::JumpIfFalse(target), rest))
+}
+
+// A byte that is less than a count.
+fn byte_below(bytes: &[u8], count: usize) -> Result<(u8, &[u8]), DecodeRefusal>
+    ensures { Gives (λ x. (x.0, x.1.now)) result (judged (λ i. nat_lt i count) (number_at w8 bytes.now)) }
+{
+    let (number, rest) = byte_of(bytes)?;
+    if number as usize >= count {
+        return Err(DecodeRefusal::Operand);
+    }
+    Ok((number, rest))
+}

@@ -1,0 +1,138 @@
+//! The header.
+
+ghost use Rattle.std.specs.Prelude.{◌≡◌};
+ghost use Rattle.wsm_bytecode.specs.View.{header_of as seen};
+ghost use Rattle.wsm_bytecode.specs.Reading.{Gives, several, after_magic, after_version, enum_number_at, column_at, columns_at, header_at};
+
+use crate::enums::name_count;
+use crate::instr::CellType;
+use crate::limits::{LATEST_TIME, LONGEST_SPAN, MAGIC, MAX_COLUMNS, VERSION};
+use crate::program::Header;
+use crate::reading::numbers::{byte_of, byte_within, i64_within};
+use crate::reading::schema::schema_of;
+use crate::reading::settings::{budget_of, form_of, kinds_of, mode_of, shape_of};
+use crate::refusal::DecodeRefusal;
+use std::alloc::Global;
+use wsm_record::Schema;
+
+#[tactic(auto, unfolding(crate::specs::Reading::header_at))]
+pub(crate) fn header_of(alloc: Global, bytes: &[u8]) -> Result<(Header, &[u8]), DecodeRefusal>
+    ensures { Gives (λ x. (seen x.0, x.1.now)) result (header_at bytes.now) }
+{
+    let rest = skip_magic(bytes)?;
+    let rest = skip_version(rest)?;
+    let (schema, rest) = schema_of(alloc, rest)?;
+    let (start, rest) = i64_within(rest, 0, LATEST_TIME)?;
+    let (skew, rest) = i64_within(rest, 0, LONGEST_SPAN)?;
+    let (lateness, rest) = i64_within(rest, 0, LONGEST_SPAN)?;
+    let (records, rest) = i64_within(rest, 1, LONGEST_SPAN)?;
+    let (shape, rest) = shape_of(rest)?;
+    let (mode, rest) = mode_of(rest)?;
+    let (early, rest) = i64_within(rest, 0, LONGEST_SPAN)?;
+    let (late, rest) = i64_within(rest, 0, LONGEST_SPAN)?;
+    let (form, rest) = form_of(rest, mode)?;
+    let (kinds, rest) = kinds_of(alloc, rest)?;
+    let (columns, rest) = columns_of(alloc, &schema, rest)?;
+    let (budget, rest) = budget_of(rest)?;
+    let header = Header {
+        schema,
+        start,
+        skew,
+        lateness,
+        records,
+        shape,
+        mode,
+        early,
+        late,
+        form,
+        kinds,
+        columns,
+        budget,
+    };
+    Ok((header, rest))
+}
+
+/// The bytes after `WSMP`.
+#[tactic(auto, unfolding(crate::specs::Reading::after_magic))]
+fn skip_magic(bytes: &[u8]) -> Result<&[u8], DecodeRefusal>
+    ensures { Gives (λ x. x.now) result (after_magic bytes.now) }
+{
+    if bytes.len() < MAGIC.len() {
+        return Err(DecodeRefusal::Truncated);
+    }
+    let (front, rest) = bytes.split_at(MAGIC.len());
+    if front != MAGIC {
+        return Err(DecodeRefusal::BadMagic);
+    }
+    Ok(rest)
+}
+
+/// The bytes after the version.
+#[tactic(auto, unfolding(crate::specs::Reading::after_version))]
+fn skip_version(bytes: &[u8]) -> Result<&[u8], DecodeRefusal>
+    ensures { Gives (λ x. x.now) result (after_version bytes.now) }
+{
+    let (version, rest) = byte_of(bytes)?;
+    if version != VERSION {
+        return Err(DecodeRefusal::Version);
+    }
+    Ok(rest)
+}
+
+/// The types of 1 to 16 columns.
+#[tactic(auto, unfolding(crate::specs::Reading::columns_at))]
+fn columns_of<'a>(
+    alloc: Global,
+    schema: &Schema,
+    bytes: &'a [u8],
+) -> Result<(Vec<CellType>, &'a [u8]), DecodeRefusal>
+    ensures { Gives (λ x. (x.0.items, x.1.now)) result (columns_at schema.now bytes.now) }
+{
+    let (count, rest) = byte_within(bytes, 1, MAX_COLUMNS)?;
+    so_many_columns(alloc, schema, rest, count)
+}
+
+fn so_many_columns<'a>(
+    alloc: Global,
+    schema: &Schema,
+    bytes: &'a [u8],
+    count: u8,
+) -> Result<(Vec<CellType>, &'a [u8]), DecodeRefusal>
+    ensures { Gives (λ x. (x.0.items, x.1.now)) result (several (column_at schema.now) count bytes.now) }
+{
+    let mut columns = Vec::new(alloc);
+    let mut rest = bytes;
+    for _ in 0..count {
+        let (column, after) = column_of(schema, rest)?;
+        columns.push(column)?;
+        rest = after;
+    }
+    Ok((columns, rest))
+}
+
+#[tactic(auto, unfolding(crate::specs::Reading::column_at, crate::specs::Reading::enum_column_at))]
+fn column_of<'a>(schema: &Schema, bytes: &'a [u8]) -> Result<(CellType, &'a [u8]), DecodeRefusal>
+    ensures { Gives (λ x. (x.0, x.1.now)) result (column_at schema.now bytes.now) }
+{
+    let (tag, rest) = byte_within(bytes, 0, 2)?;
+    match tag {
+        0 => Ok((CellType::Int, rest)),
+        1 => Ok((CellType::Bool, rest)),
+        _ => {
+            let (number, rest) = enum_of(schema, rest)?;
+            Ok((CellType::Enum(number), rest))
+        }
+    }
+}
+
+/// The number of an ENUM that there is.
+#[tactic(auto, unfolding(crate::specs::Reading::enum_number_at))]
+pub(crate) fn enum_of<'a>(schema: &Schema, bytes: &'a [u8]) -> Result<(u8, &'a [u8]), DecodeRefusal>
+    ensures { Gives (λ x. (x.0, x.1.now)) result (enum_number_at schema.now bytes.now) }
+{
+    let (number, rest) = byte_of(bytes)?;
+    match name_count(schema, number) {
+        Some(_) => Ok((number, rest)),
+        None => Err(DecodeRefusal::Operand),
+    }
+}
