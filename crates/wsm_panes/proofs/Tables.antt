@@ -6,9 +6,9 @@ use Rattle.std.proofs.lemmas.Bool.{false≢true}
 use Rattle.std.specs.Ordering.{eq_by_cmp}
 use Rattle.std.specs.Cmp.{eq_by_cmp_equiv}
 use Rattle.std.specs.declared.cmp.Ordering.TheVariants.{Equal}
-use Rattle.std.specs.FinMap.{FinMap, empty, empty_of_len, entries, find, from_sorted, get, insert, is_sorted, len, put, remove, retain_keys, entries-from_sorted, entries-insert, get-from_sorted, get-remove, get-retain_keys, len-entries, same_entries_map, same_map}
-use Rattle.std.specs.FinMap.Entries.{find-where_key, length-put, is_sorted-put, is_sorted-where_key}
-use Rattle.wsm_panes.specs.declared.pane.Place.{Place}
+use Rattle.std.specs.FinMap.{FinMap, empty, empty_of_len, entries, find, from_sorted, get, insert, is_sorted, len, put, remove, retain_keys, entries-from_sorted, entries-insert, get-from_sorted, get-remove, get-retain_keys, get-entries, len-entries, entries_sorted, same_entries_map, same_map}
+use Rattle.std.specs.FinMap.Entries.{where_key, same_entries, find-where_key, length-put, is_sorted-put, is_sorted-where_key}
+use Rattle.wsm_semantics.specs.declared.place.Place.{Place}
 use Rattle.wsm_panes.specs.declared.pane.Pane.{Pane}
 use Rattle.wsm_panes.specs.Place.{place_cmp, is_other}
 use Rattle.wsm_panes.proofs.Entries.{exact_places, places_total}
@@ -70,3 +70,14 @@ module _ (es : List (Place × Pane)) (sorted : is_sorted place_cmp es ≡ true) 
 
 pub map_of-nil : map_of [] ≡ empty
 map_of-nil = empty_of_len (map_of []) (len_is [] refl)
+
+-- the entries of what is left where places pass a test
+pub entries_kept : (m : FinMap place_cmp Pane) (p : Place → Bool) → entries (retain_keys m p) ≡ where_key place_cmp p (entries m)
+entries_kept m p = same_entries place_cmp places_total exact_places _ _
+    (entries_sorted (retain_keys m p))
+    (is_sorted-where_key place_cmp p (entries m) (entries_sorted m))
+    (λ q.
+    sym (get-entries (retain_keys m p) q)
+    ∙ get-retain_keys m p q (alike p q)
+    ∙ ap (λ o. cond (p q) o None) (get-entries m q)
+    ∙ sym (find-where_key place_cmp p q (alike p q) (entries m)))

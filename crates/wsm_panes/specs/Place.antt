@@ -1,13 +1,10 @@
 use Rattle.std.specs.Prelude.{ℕ, suc, ℤ, Bool, List, [], ◌∷◌, if◌then◌else◌, not, int_lt, refl}
 use Rattle.std.specs.declared.cmp.Ordering.{Ordering}
-use Rattle.std.specs.Ordering.{int_cmp, nat_cmp, ordering_then, is_gt, eq_by_cmp}
+use Rattle.std.specs.Ordering.{is_gt, eq_by_cmp}
 use Rattle.std.specs.Coded.{Coded, code_by, coded×, coded_ℕ, coded_ℤ}
-use Rattle.wsm_panes.specs.declared.pane.Place.{Place}
+use Rattle.wsm_semantics.specs.declared.place.Place.{Place}
 use Rattle.wsm_panes.specs.declared.pane.Pane.{Pane}
-
--- by end, then start, then key
-abbrev pub place_cmp : Place → Place → Ordering
-place_cmp a b = ordering_then (int_cmp a.end b.end) (ordering_then (int_cmp a.start b.start) (nat_cmp a.key b.key))
+pub use Rattle.wsm_semantics.specs.Panes.{place_cmp}
 
 -- how many entries a scan for a key passes, in an order
 abbrev pub before : {K X : Type 0} → (K → K → Ordering) → K → List (K × X) → ℕ

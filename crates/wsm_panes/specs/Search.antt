@@ -1,6 +1,6 @@
 use Rattle.std.specs.Prelude.{◌≡◌, ℕ, ◌<◌, ◌≤◌, List, length, None, Some, slice_index_or, slice_set, insert}
 use Rattle.std.specs.FinMap.{find, put}
-use Rattle.wsm_panes.specs.declared.pane.Place.{Place}
+use Rattle.wsm_semantics.specs.declared.place.Place.{Place}
 use Rattle.wsm_panes.specs.declared.pane.Pane.{Pane}
 use Rattle.wsm_panes.specs.Place.{place_cmp}
 

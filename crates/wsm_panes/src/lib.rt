@@ -7,8 +7,9 @@
 #![tactic(auto)]
 
 pub use list::ListTable;
-pub use pane::{Pane, Place};
+pub use pane::Pane;
 pub use table::PaneTable;
+pub use wsm_semantics::Place;
 
 mod list;
 mod pane;

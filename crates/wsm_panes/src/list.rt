@@ -5,11 +5,12 @@ ghost use Rattle.std.specs.FinMap as map;
 ghost use Rattle.wsm_panes.specs.Place.{place_cmp, is_kept, is_other};
 ghost use Rattle.wsm_panes.specs.Search.{IsAt, IsGapFor};
 
-use crate::pane::{Pane, Place};
+use crate::pane::Pane;
 use crate::table::PaneTable;
 use std::alloc::{AllocError, Global};
 use std::cmp::Ordering;
 use std::marker::Model;
+use wsm_semantics::Place;
 
 /// A table kept as a sorted list: a pane is found by binary search, and a new one moves those
 /// behind it.

@@ -4,7 +4,8 @@ ghost use Rattle.std.specs.Prelude.{◌≡◌, ◌⊎◌, ◌<◌, ℕ, Some, tr
 ghost use Rattle.std.specs.FinMap as map;
 ghost use Rattle.wsm_panes.specs.Place.{place_cmp, is_kept};
 
-use crate::pane::{Pane, Place};
+use crate::pane::Pane;
+use wsm_semantics::Place;
 
 /// A finite map from places to panes, with room for a number of them.
 ///

@@ -1,7 +1,7 @@
 use Rattle.std.proofs.Common.{◌≡◌, ◌<◌, ◌+◌, ◌-◌, ◌/◌, length, pos, sym, ap, ◌∙◌, arith}
 use Rattle.std.specs.Ordering.{is_gt}
 use Rattle.std.proofs.lemmas.List.{get_or_default}
-use Rattle.wsm_panes.specs.declared.pane.Place.{Place}
+use Rattle.wsm_semantics.specs.declared.place.Place.{Place}
 use Rattle.wsm_panes.specs.declared.pane.Pane.{Pane}
 use Rattle.wsm_panes.specs.Place.{place_cmp, before}
 use Rattle.wsm_panes.proofs.Sorted.{passes, stops, before_within}

@@ -1,6 +1,6 @@
 use Rattle.std.proofs.Common.{◌≡◌, ◌<◌, ◌≤◌, ◌-◌, length, get_or}
 use Rattle.std.specs.declared.cmp.Ordering.TheVariants.{Less}
-use Rattle.wsm_panes.specs.declared.pane.Place.{Place}
+use Rattle.wsm_semantics.specs.declared.place.Place.{Place}
 use Rattle.wsm_panes.specs.declared.pane.Pane.{Pane}
 use Rattle.wsm_panes.specs.Place.{before, place_cmp}
 use Rattle.wsm_panes.proofs.list.search.Given as goal

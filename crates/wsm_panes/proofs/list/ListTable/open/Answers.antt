@@ -1,5 +1,5 @@
 use Rattle.std.proofs.Common.{List, ap, ◌∙◌}
-use Rattle.wsm_panes.specs.declared.pane.Place.{Place}
+use Rattle.wsm_semantics.specs.declared.place.Place.{Place}
 use Rattle.wsm_panes.specs.declared.pane.Pane.{Pane}
 use Rattle.wsm_panes.specs.Table.{Table}
 use Rattle.wsm_panes.proofs.Tables.{map_of, map_of-nil}
