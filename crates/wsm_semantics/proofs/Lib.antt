@@ -6,3 +6,4 @@ pub mod FixedStep
 pub mod FixedPanes
 pub mod Steps
 pub mod Counts
+pub mod Bounds
