@@ -1,0 +1,3 @@
+pub mod Shrinking
+pub mod Braces
+pub mod Fields

@@ -1,0 +1,88 @@
+//! Queries that count, read from their texts.
+
+ghost use Rattle.std.specs.Prelude.{◌≡◌};
+ghost use Rattle.wsm.specs.Said.{said};
+ghost use Rattle.wsm.specs.Query.{clock_of, parsed, query_of};
+ghost use Rattle.wsm.specs.Ends.{Answers};
+
+use crate::end::End;
+use crate::query::checks::check;
+use crate::query::grammar::query;
+use crate::query::refusal::QueryRefusal;
+use crate::query::text::{ClockText, QueryText};
+use std::alloc::Global;
+use wsm_admission::Clock;
+use wsm_record::{Schema, SchemaRefusal};
+use wsm_tokens::{ParseRefusal, Reader, refusal_of};
+
+/// A query that counts the records of each key over fixed windows.
+#[derive(Drop)]
+pub struct CountQuery {
+    pub schema: Schema,
+    pub clock: Clock,
+    /// The size of the windows, in event time.
+    pub size: i64,
+}
+
+/// The query of a text, or the first refusal.
+#[tactic(auto, unfolding(crate::specs::Query::query_of))]
+pub fn read_query(alloc: Global, text: &[u8]) -> Result<CountQuery, End>
+    ensures { Answers (λ q. q) result (query_of text.now) }
+{
+    let text = parse(alloc, text)?;
+    check(alloc, &text)?;
+    let schema = Schema::new(alloc, &text.keys, &text.fields)?;
+    Ok(CountQuery {
+        schema,
+        clock: clock_of(text.clock),
+        size: text.size,
+    })
+}
+
+// What a text says, or the place where reading stops.
+#[tactic(auto, unfolding(crate::specs::Query::parsed))]
+fn parse(alloc: Global, text: &[u8]) -> Result<QueryText, End>
+    ensures { Answers said result (parsed text.now) }
+{
+    match query(alloc, &mut Reader::new(text)) {
+        Ok(said) => Ok(said),
+        Err(stop) => Err(End::from(refusal_of(text, stop))),
+    }
+}
+
+fn clock_of(clock: ClockText) -> Clock
+    ensures { result ≡ clock_of clock }
+{
+    Clock {
+        start: clock.start,
+        skew: clock.skew,
+        lateness: clock.lateness,
+        records: clock.records.unsigned_abs(),
+    }
+}
+
+impl From<ParseRefusal> for End {
+    ghost use Rattle.std.specs.Prelude.{◌≡◌};
+    ghost use Rattle.wsm.specs.Stops.{end_of};
+
+    ghost from_gives = { λ r e. e ≡ end_of r };
+
+    fn from(refusal: ParseRefusal) -> End {
+        match refusal {
+            ParseRefusal::Text(fault, place) => End::Refused(QueryRefusal::Text(fault, place)),
+            ParseRefusal::Memory => End::Memory,
+        }
+    }
+}
+
+impl From<SchemaRefusal> for End {
+    ghost use Rattle.std.specs.Prelude.{◌≡◌};
+    ghost use Rattle.wsm.specs.declared.end.End.TheVariants.{Memory};
+
+    ghost from_gives = { λ _ e. e ≡ Memory };
+
+    // What was checked is refused for want of memory alone.
+    fn from(_refusal: SchemaRefusal) -> End {
+        End::Memory
+    }
+}
