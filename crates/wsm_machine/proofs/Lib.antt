@@ -1,0 +1,8 @@
+pub mod Pairs
+pub mod Reversed
+pub mod Traps
+pub mod Tested
+pub mod Runs
+pub mod Returns
+pub mod Taken
+pub mod Operands

@@ -1,0 +1,5 @@
+pub mod Inputs
+pub mod Step
+pub mod Run
+pub mod Steps
+pub mod Vectors
