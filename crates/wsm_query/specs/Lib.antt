@@ -1,0 +1,5 @@
+pub mod Tree
+pub mod Seen
+pub mod Grammar
+pub mod Parse
+pub mod Steps

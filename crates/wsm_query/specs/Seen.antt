@@ -1,0 +1,57 @@
+-- A query of the code as the tree that it stands for: without pointers, and each name as its bytes.
+use Rattle.std.specs.Prelude.{map, option_map}
+use Rattle.wsm_query.specs.declared.expr.Expr.{Expr as Code}
+use Rattle.wsm_query.specs.declared.expr.Expr.TheVariants as code
+use Rattle.wsm_query.specs.declared.query.Ty.{Ty as CodeTy}
+use Rattle.wsm_query.specs.declared.query.Ty.TheVariants as code_ty
+use Rattle.wsm_query.specs.declared.query.Declared.{Declared as CodeField}
+use Rattle.wsm_query.specs.declared.query.Budget.{Budget as CodeBudget}
+use Rattle.wsm_query.specs.declared.query.Query.{Query as CodeQuery}
+use Rattle.wsm_query.specs.Tree.{Ty, IntTy, BoolTy, EnumTy, Declared, Budget, Query, Expr, Number, Truth, Field, EnumName, Key, KeyName, Count, Aggregate, If, Brackets, Minus, Not, Binary, And, Or}
+
+abbrev pub seen_expr : Code → Expr
+seen_expr (code.Number n) = Number n
+seen_expr (code.Truth b) = Truth b
+seen_expr (code.Field x) = Field x
+seen_expr (code.EnumName x y) = EnumName x y
+seen_expr code.Key = Key
+seen_expr (code.KeyName x) = KeyName x
+seen_expr code.Count = Count
+seen_expr (code.Aggregate' kind p e) = Aggregate kind (seen_expr e)
+seen_expr (code.If' p c q x r y) = If (seen_expr c) (seen_expr x) (seen_expr y)
+seen_expr (code.Brackets' p e) = Brackets (seen_expr e)
+seen_expr (code.Minus' p e) = Minus (seen_expr e)
+seen_expr (code.Not' p e) = Not (seen_expr e)
+seen_expr (code.Binary' op p x q y) = Binary op (seen_expr x) (seen_expr y)
+seen_expr (code.And' p x q y) = And (seen_expr x) (seen_expr y)
+seen_expr (code.Or' p x q y) = Or (seen_expr x) (seen_expr y)
+
+abbrev pub seen_ty : CodeTy → Ty
+seen_ty (code_ty.Int lo hi) = IntTy lo hi
+seen_ty code_ty.Bool = BoolTy
+seen_ty (code_ty.Enum names) = EnumTy names.items
+
+abbrev pub seen_field : CodeField → Declared
+seen_field d = record { name = d.name; ty = seen_ty d.ty }
+
+abbrev pub seen_budget : CodeBudget → Budget
+seen_budget b = record { per_record = b.per_record; per_pane = b.per_pane; held = b.held }
+
+abbrev pub seen : CodeQuery → Query
+seen q = record {
+  keys = q.keys.items;
+  fields = map seen_field q.fields.items;
+  start = q.start;
+  skew = q.skew;
+  lateness = q.lateness;
+  records = q.records;
+  budget = option_map seen_budget q.budget;
+  columns = map seen_expr q.columns.items;
+  condition = option_map seen_expr q.condition;
+  having = option_map seen_expr q.having;
+  shape = q.shape;
+  mode = q.mode;
+  early = q.early;
+  late = q.late;
+  form = q.form;
+}

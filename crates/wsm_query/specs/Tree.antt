@@ -1,0 +1,63 @@
+-- The tree of a query text. This project's own language; windows, triggers and accumulation modes are those of
+-- Akidau et al. 2015, "The Dataflow Model", and the forms of the output those of Arasu et al. 2006, "The CQL continuous query language".
+use Rattle.std.specs.Prelude.{ℕ, Bool, List, ℤ, Option}
+use Rattle.wsm_record.specs.declared.words.Kind.{Kind}
+use Rattle.wsm_record.specs.declared.words.Mode.{Mode}
+use Rattle.wsm_record.specs.declared.words.Form.{Form}
+use Rattle.wsm_windows.specs.declared.window.Shape.{Shape}
+use Rattle.wsm_query.specs.declared.expr.Op.{Op}
+
+-- a name, as its bytes
+abbrev pub Name : Type 0
+Name = List ℕ
+
+-- an expression, with a case for each form of the grammar, brackets too
+pub data Expr : Type 0 where
+  Number : (value : ℤ) → Expr
+  Truth : (value : Bool) → Expr
+  Field : (field : Name) → Expr
+  EnumName : (field : Name) → (name : Name) → Expr  -- color.red
+  Key : Expr
+  KeyName : (name : Name) → Expr  -- KEY.a
+  Count : Expr
+  Aggregate : (kind : Kind) → (operand : Expr) → Expr
+  If : (test : Expr) → (first : Expr) → (second : Expr) → Expr
+  Brackets : (inner : Expr) → Expr
+  Minus : (operand : Expr) → Expr
+  Not : (operand : Expr) → Expr
+  Binary : (op : Op) → (left : Expr) → (right : Expr) → Expr
+  And : (left : Expr) → (right : Expr) → Expr
+  Or : (left : Expr) → (right : Expr) → Expr
+
+-- a field's declared type
+pub data Ty : Type 0 where
+  IntTy : (lo : ℤ) → (hi : ℤ) → Ty
+  BoolTy : Ty
+  EnumTy : (names : List Name) → Ty
+
+pub record Declared : Type 0 where
+  pub name : Name
+  pub ty : Ty
+
+pub record Budget : Type 0 where
+  pub per_record : ℤ
+  pub per_pane : ℤ
+  pub held : ℤ
+
+-- a query, with a field for each clause
+pub record Query : Type 0 where
+  pub keys : List Name
+  pub fields : List Declared
+  pub start : ℤ
+  pub skew : ℤ
+  pub lateness : ℤ
+  pub records : ℤ
+  pub budget : Option Budget
+  pub columns : List Expr
+  pub condition : Option Expr  -- WHERE
+  pub having : Option Expr
+  pub shape : Shape
+  pub mode : Mode
+  pub early : Option ℤ
+  pub late : Option ℤ
+  pub form : Form

@@ -1,0 +1,202 @@
+//! The rules of the grammar below the expressions: a function each, in the grammar's order.
+
+ghost use Rattle.std.specs.Prelude.{◌≡◌, ◌≤◌, codes, map};
+ghost use Rattle.wsm_tokens.specs.Read.{Gives, count};
+ghost use Rattle.wsm_query.specs.Grammar.{int, names, type_of, field, brace, list_of, expr, shape, mode, form, every, budget};
+ghost use Rattle.wsm_query.specs.Seen.{seen_budget, seen_expr, seen_field, seen_ty};
+
+use crate::expr::Expr;
+use crate::parse_expr::expression;
+use crate::query::{Budget, Declared, Ty};
+use std::alloc::Global;
+use wsm_record::{Form, Mode, Name};
+use wsm_tokens::{Reader, Stop};
+use wsm_windows::Shape;
+
+// int = [ "-" ] num
+#[tactic(auto, unfolding(crate::specs::Grammar::int))]
+fn int(reader: &mut Reader) -> Result<i64, Stop>
+    ensures gives { Gives (λ n. n) result reader.new (int reader.old) }
+    ensures onward { count reader.new ≤ count reader.old }
+{
+    if reader.begins(b"-") {
+        reader.advance();
+        let value = reader.number()?;
+        Ok(-value)
+    } else {
+        reader.number()
+    }
+}
+
+// names = name { "," name }
+#[tactic(auto, unfolding(crate::specs::Grammar::names, crate::specs::Grammar::list_of, crate::specs::Grammar::brace))]
+pub fn names(alloc: Global, reader: &mut Reader) -> Result<Vec<Name>, Stop>
+    ensures gives { Gives (λ v. v.items) result reader.new (names reader.old) }
+    ensures onward { count reader.new ≤ count reader.old }
+{
+    let mut names = Vec::new(alloc);
+    let first = reader.name()?;
+    names.push(first)?;
+    while reader.begins(b",") {
+        reader.advance();
+        let name = reader.name()?;
+        names.push(name)?;
+    }
+    Ok(names)
+}
+
+// type = "INT" int ".." int | "BOOL" | "ENUM" "(" names ")"
+#[tactic(auto, unfolding(crate::specs::Grammar::type_of))]
+fn type_of(alloc: Global, reader: &mut Reader) -> Result<Ty, Stop>
+    ensures gives { Gives seen_ty result reader.new (type_of reader.old) }
+    ensures onward { count reader.new ≤ count reader.old }
+{
+    if reader.begins(b"INT") {
+        reader.advance();
+        let lo = int(reader)?;
+        reader.ask(b"..")?;
+        let hi = int(reader)?;
+        return Ok(Ty::Int { lo, hi });
+    }
+    if reader.begins(b"BOOL") {
+        reader.advance();
+        return Ok(Ty::Bool);
+    }
+    reader.ask(b"ENUM")?;
+    reader.ask(b"(")?;
+    let names = names(alloc, reader)?;
+    reader.ask(b")")?;
+    Ok(Ty::Enum(names))
+}
+
+// name type ";", behind FIELD
+#[tactic(auto, unfolding(crate::specs::Grammar::field))]
+fn field(alloc: Global, reader: &mut Reader) -> Result<Declared, Stop>
+    ensures gives { Gives seen_field result reader.new (field reader.old) }
+    ensures onward { count reader.new ≤ count reader.old }
+{
+    let name = reader.name()?;
+    let ty = type_of(alloc, reader)?;
+    reader.ask(b";")?;
+    Ok(Declared { name, ty })
+}
+
+// { "FIELD" name type ";" }
+#[tactic(auto, unfolding(crate::specs::Grammar::brace))]
+pub fn fields(alloc: Global, reader: &mut Reader) -> Result<Vec<Declared>, Stop>
+    ensures gives { Gives (λ v. map seen_field v.items) result reader.new (brace (codes "FIELD") field reader.old) }
+    ensures onward { count reader.new ≤ count reader.old }
+{
+    let mut fields = Vec::new(alloc);
+    while reader.begins(b"FIELD") {
+        reader.advance();
+        let field = field(alloc, reader)?;
+        fields.push(field)?;
+    }
+    Ok(fields)
+}
+
+// expr { "," expr }
+#[tactic(auto, unfolding(crate::specs::Grammar::list_of, crate::specs::Grammar::brace))]
+pub fn columns(alloc: Global, reader: &mut Reader) -> Result<Vec<Expr>, Stop>
+    ensures gives { Gives (λ v. map seen_expr v.items) result reader.new (list_of expr reader.old) }
+    ensures onward { count reader.new ≤ count reader.old }
+{
+    let mut columns = Vec::new(alloc);
+    let first = expression(alloc, reader)?;
+    columns.push(first)?;
+    while reader.begins(b",") {
+        reader.advance();
+        let column = expression(alloc, reader)?;
+        columns.push(column)?;
+    }
+    Ok(columns)
+}
+
+// shape = "FIXED" num | "SLIDING" num "EVERY" num | "SESSION" num
+#[tactic(auto, unfolding(crate::specs::Grammar::shape))]
+pub fn shape(reader: &mut Reader) -> Result<Shape, Stop>
+    ensures gives { Gives (λ s. s) result reader.new (shape reader.old) }
+    ensures onward { count reader.new ≤ count reader.old }
+{
+    if reader.begins(b"FIXED") {
+        reader.advance();
+        return Ok(Shape::Fixed(reader.number()?));
+    }
+    if reader.begins(b"SLIDING") {
+        reader.advance();
+        let size = reader.number()?;
+        reader.ask(b"EVERY")?;
+        return Ok(Shape::Sliding(size, reader.number()?));
+    }
+    reader.ask(b"SESSION")?;
+    Ok(Shape::Session(reader.number()?))
+}
+
+// mode = "ACCUMULATING" | "DISCARDING"
+#[tactic(auto, unfolding(crate::specs::Grammar::mode))]
+pub fn mode(reader: &mut Reader) -> Result<Mode, Stop>
+    ensures gives { Gives (λ m. m) result reader.new (mode reader.old) }
+    ensures onward { count reader.new ≤ count reader.old }
+{
+    let mode = if reader.begins(b"ACCUMULATING") {
+        Mode::Accumulating
+    } else if reader.begins(b"DISCARDING") {
+        Mode::Discarding
+    } else {
+        return Err(reader.unexpected());
+    };
+    reader.advance();
+    Ok(mode)
+}
+
+// form = "PANES" | "ISTREAM" | "DSTREAM" | "RSTREAM"
+#[tactic(auto, unfolding(crate::specs::Grammar::form))]
+pub fn form(reader: &mut Reader) -> Result<Form, Stop>
+    ensures gives { Gives (λ f. f) result reader.new (form reader.old) }
+    ensures onward { count reader.new ≤ count reader.old }
+{
+    let form = if reader.begins(b"PANES") {
+        Form::Panes
+    } else if reader.begins(b"ISTREAM") {
+        Form::Istream
+    } else if reader.begins(b"DSTREAM") {
+        Form::Dstream
+    } else if reader.begins(b"RSTREAM") {
+        Form::Rstream
+    } else {
+        return Err(reader.unexpected());
+    };
+    reader.advance();
+    Ok(form)
+}
+
+// "EVERY" num, behind EARLY or LATE
+#[tactic(auto, unfolding(crate::specs::Grammar::every))]
+pub fn every(reader: &mut Reader) -> Result<i64, Stop>
+    ensures gives { Gives (λ n. n) result reader.new (every reader.old) }
+    ensures onward { count reader.new ≤ count reader.old }
+{
+    reader.ask(b"EVERY")?;
+    reader.number()
+}
+
+// "RECORD" num "PANE" num "HELD" num ";", behind BUDGET
+#[tactic(auto, unfolding(crate::specs::Grammar::budget))]
+pub fn budget(reader: &mut Reader) -> Result<Budget, Stop>
+    ensures gives { Gives seen_budget result reader.new (budget reader.old) }
+    ensures onward { count reader.new ≤ count reader.old }
+{
+    reader.ask(b"RECORD")?;
+    let per_record = reader.number()?;
+    reader.ask(b"PANE")?;
+    let per_pane = reader.number()?;
+    reader.ask(b"HELD")?;
+    let held = reader.number()?;
+    reader.ask(b";")?;
+    Ok(Budget {
+        per_record,
+        per_pane,
+        held,
+    })
+}

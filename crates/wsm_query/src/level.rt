@@ -1,0 +1,37 @@
+//! The limits of levels and chains.
+
+ghost use Rattle.std.specs.Prelude.{◌≡◌, ◌+◌, ◌≤◌, IfOk};
+ghost use Rattle.wsm_tokens.specs.Read.{Gives, count};
+ghost use Rattle.wsm_query.specs.Grammar.{levels, opened};
+ghost use Rattle.wsm_query.specs.Steps.{at_level, spend};
+
+use wsm_tokens::{Reader, Stop};
+
+/// How many levels of an expression may be open at one time.
+pub const MAX_LEVELS: usize = 24;
+
+/// How many operators one chain may have.
+pub const MAX_CHAIN: usize = 64;
+
+/// Takes the token in sight as one of those that are left, or stops as too deep.
+pub fn spend(reader: &mut Reader, left: usize) -> Result<usize, Stop>
+    ensures gives { Gives (λ m. m) result reader.new (spend left reader.old) }
+    ensures fewer { IfOk result (λ m. m + 1 ≡ left) }
+    ensures onward { count reader.new ≤ count reader.old }
+{
+    if left == 0 {
+        return Err(reader.too_deep());
+    }
+    reader.advance();
+    Ok(left - 1)
+}
+
+/// Takes a token that opens a level, of those that are left.
+#[tactic(auto, using(crate::proofs::Levels::opens))]
+pub fn open(reader: &mut Reader, left: usize) -> Result<usize, Stop>
+    ensures gives { Gives at_level result reader.new (opened (levels left) reader.old) }
+    ensures fewer { IfOk result (λ m. m + 1 ≡ left) }
+    ensures onward { count reader.new ≤ count reader.old }
+{
+    spend(reader, left)
+}

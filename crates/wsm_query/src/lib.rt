@@ -1,0 +1,16 @@
+//! Query texts: from bytes to a tree, and back.
+//!
+//! [`parse`] gives the tree of a text exactly where the grammar has the text, and else the first
+//! fault with its line and column.
+#![tactic(auto)]
+
+pub use expr::{Expr, Op};
+pub use query::{Budget, Declared, Query, Ty};
+pub use reading::parse;
+
+mod clauses;
+mod expr;
+mod level;
+mod parse_expr;
+mod query;
+mod reading;

@@ -1,0 +1,60 @@
+//! The tree of a query.
+
+use crate::expr::Expr;
+use wsm_record::{Form, Mode, Name};
+use wsm_windows::Shape;
+
+/// The declared type of a field.
+#[derive(Debug, Drop)]
+pub enum Ty {
+    /// Whole numbers from `lo` to `hi`, both included.
+    Int { lo: i64, hi: i64 },
+    Bool,
+    Enum(Vec<Name>),
+}
+
+/// A declared field.
+#[derive(Debug, Drop)]
+pub struct Declared {
+    pub name: Name,
+    pub ty: Ty,
+}
+
+/// What a query states that it needs at most.
+#[derive(Clone, Copy, Debug, PartialEq, Eq)]
+pub struct Budget {
+    /// Instructions for a record.
+    pub per_record: i64,
+    /// Instructions for a pane that fires.
+    pub per_pane: i64,
+    /// Panes held at one time.
+    pub held: i64,
+}
+
+/// A query, with a field for each clause.
+#[derive(Debug, Drop)]
+pub struct Query {
+    pub keys: Vec<Name>,
+    pub fields: Vec<Declared>,
+    /// Where the watermark starts, in event time.
+    pub start: i64,
+    /// How far ahead of the watermark a record may be, in event time.
+    pub skew: i64,
+    /// How far behind the watermark a record may be, in event time.
+    pub lateness: i64,
+    /// How many records are admitted.
+    pub records: i64,
+    pub budget: Option<Budget>,
+    /// What is selected.
+    pub columns: Vec<Expr>,
+    /// WHERE
+    pub condition: Option<Expr>,
+    pub having: Option<Expr>,
+    pub shape: Shape,
+    pub mode: Mode,
+    /// After how many unshown records a pane fires early.
+    pub early: Option<i64>,
+    /// After how many unshown records a pane fires late.
+    pub late: Option<i64>,
+    pub form: Form,
+}

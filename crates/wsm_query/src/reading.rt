@@ -1,0 +1,128 @@
+//! The rule of a whole query, and the reading of a text.
+
+ghost use Rattle.std.specs.Prelude.{codes, option_map};
+ghost use Rattle.wsm_tokens.specs.Read.{Gives, number};
+ghost use Rattle.wsm_query.specs.Grammar as rule;
+ghost use Rattle.wsm_query.specs.Parse.{Parses, parse, query_text};
+ghost use Rattle.wsm_query.specs.Seen.{seen, seen_budget, seen_expr};
+
+use crate::clauses::{budget, columns, every, fields, form, mode, names, shape};
+use crate::expr::Expr;
+use crate::parse_expr::expression;
+use crate::query::{Budget, Query};
+use std::alloc::Global;
+use wsm_tokens::{ParseRefusal, Reader, Stop, refusal_of};
+
+/// The tree of a query text, or the first fault from the left with its place.
+#[tactic(auto, unfolding(crate::specs::Parse::parse))]
+pub fn parse(alloc: Global, text: &[u8]) -> Result<Query, ParseRefusal>
+    ensures { Parses result (parse text.now) }
+{
+    let mut reader = Reader::new(text);
+    match query_text(alloc, &mut reader) {
+        Ok(query) => Ok(query),
+        Err(stop) => Err(refusal_of(text, stop)),
+    }
+}
+
+// A query, behind which only the end of the text is taken.
+#[tactic(auto, unfolding(crate::specs::Parse::query_text))]
+fn query_text(alloc: Global, reader: &mut Reader) -> Result<Query, Stop>
+    ensures { Gives seen result reader.new (query_text reader.old) }
+{
+    let query = query(alloc, reader)?;
+    reader.ended()?;
+    Ok(query)
+}
+
+// query = "KEYS" names ";" { "FIELD" name type ";" } "START" num ";" "SKEW" num ";"
+//         "LATENESS" num ";" "RECORDS" num ";"
+//         [ "BUDGET" "RECORD" num "PANE" num "HELD" num ";" ]
+//         "SELECT" expr { "," expr } [ "WHERE" expr ] [ "HAVING" expr ]
+//         "WINDOW" shape mode [ "EARLY" "EVERY" num ] [ "LATE" "EVERY" num ] "EMIT" form ";"
+#[tactic(auto, unfolding(crate::specs::Grammar::query))]
+fn query(alloc: Global, reader: &mut Reader) -> Result<Query, Stop>
+    ensures { Gives seen result reader.new (rule.query reader.old) }
+{
+    reader.ask(b"KEYS")?;
+    let keys = names(alloc, reader)?;
+    reader.ask(b";")?;
+    let fields = fields(alloc, reader)?;
+    let start = clause(reader, b"START")?;
+    let skew = clause(reader, b"SKEW")?;
+    let lateness = clause(reader, b"LATENESS")?;
+    let records = clause(reader, b"RECORDS")?;
+    let budget = optional_budget(reader)?;
+    reader.ask(b"SELECT")?;
+    let columns = columns(alloc, reader)?;
+    let condition = optional_expr(alloc, reader, b"WHERE")?;
+    let having = optional_expr(alloc, reader, b"HAVING")?;
+    reader.ask(b"WINDOW")?;
+    let shape = shape(reader)?;
+    let mode = mode(reader)?;
+    let early = optional_every(reader, b"EARLY")?;
+    let late = optional_every(reader, b"LATE")?;
+    reader.ask(b"EMIT")?;
+    let form = form(reader)?;
+    reader.ask(b";")?;
+    Ok(Query {
+        keys,
+        fields,
+        start,
+        skew,
+        lateness,
+        records,
+        budget,
+        columns,
+        condition,
+        having,
+        shape,
+        mode,
+        early,
+        late,
+        form,
+    })
+}
+
+// A word, a number and a semicolon.
+fn clause(reader: &mut Reader, word: &[u8]) -> Result<i64, Stop>
+    ensures { Gives (λ n. n) result reader.new (rule.clause word.now number reader.old) }
+{
+    reader.ask(word)?;
+    let value = reader.number()?;
+    reader.ask(b";")?;
+    Ok(value)
+}
+
+// [ "BUDGET" .. ";" ]
+fn optional_budget(reader: &mut Reader) -> Result<Option<Budget>, Stop>
+    ensures { Gives (option_map seen_budget) result reader.new (rule.optional (codes "BUDGET") rule.budget reader.old) }
+{
+    if !reader.begins(b"BUDGET") {
+        return Ok(None);
+    }
+    reader.advance();
+    Ok(Some(budget(reader)?))
+}
+
+// [ word expr ]
+fn optional_expr(alloc: Global, reader: &mut Reader, word: &[u8]) -> Result<Option<Expr>, Stop>
+    ensures { Gives (option_map seen_expr) result reader.new (rule.optional word.now rule.expr reader.old) }
+{
+    if !reader.begins(word) {
+        return Ok(None);
+    }
+    reader.advance();
+    Ok(Some(expression(alloc, reader)?))
+}
+
+// [ word "EVERY" num ]
+fn optional_every(reader: &mut Reader, word: &[u8]) -> Result<Option<i64>, Stop>
+    ensures { Gives (λ o. o) result reader.new (rule.optional word.now rule.every reader.old) }
+{
+    if !reader.begins(word) {
+        return Ok(None);
+    }
+    reader.advance();
+    Ok(Some(every(reader)?))
+}
