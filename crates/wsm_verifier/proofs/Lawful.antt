@@ -1,0 +1,107 @@
+-- What a program's own laws say of its numbers.
+use Rattle.std.proofs.Common.{◌≡◌, ℕ, ◌+◌, ◌*◌, ◌≤◌, true, false, Bool, ◌&&◌, List, length, ℤ, pos, ◌+ℤ◌, ◌≤ℤ◌, sym, refl, subst, IsTrue, to_z, of_z, w64, arith}
+use Rattle.std.proofs.lemmas.Bool.{true≢false}
+use Rattle.std.proofs.lemmas.Int.{ints}
+use Rattle.std.proofs.Math.Nat.{div-le_self, mul-le-mul_right, mul-le-mul_left}
+use Rattle.std.specs.Prelude.{nat_le, unsigned_abs}
+use Rattle.std.specs.Int.{div_ceil}
+use Rattle.wsm_windows.specs.declared.Shape.{Shape}
+use Rattle.wsm_windows.specs.declared.Shape.TheVariants.{Fixed, Sliding, Session}
+use Rattle.wsm_windows.specs.Windows.{IsShape, IsSpan}
+use Rattle.wsm_windows.specs.Life.{live_bound}
+use Rattle.wsm_bytecode.specs.declared.Instr.{Instr}
+use Rattle.wsm_bytecode.specs.declared.SectionId.{SectionId}
+use Rattle.wsm_bytecode.specs.declared.SectionId.TheVariants.{Where, Update, Fire}
+use Rattle.wsm_bytecode.specs.Program.{Header, Program, section, is_within, is_span, is_size, is_shape, is_section, is_header, is_program, is_schema, is_form_of, latest_time}
+
+left : (a b : Bool) → (a && b) ≡ true → a ≡ true
+left true b e = refl
+left false b e = absurd (true≢false (sym e))
+
+right : (a b : Bool) → (a && b) ≡ true → b ≡ true
+right true b e = e
+right false b e = absurd (true≢false (sym e))
+
+within : (lo hi n : ℤ) → is_within lo hi n ≡ true → (lo ≤ℤ n) × (n ≤ℤ hi)
+within lo hi n h = (grind (arith, ints), grind (arith, ints))
+
+few : (n m : ℕ) → nat_le n m ≡ true → n ≤ m
+few n m h = grind arith
+
+sized : (n : ℤ) → is_size n ≡ true → (pos 1 ≤ℤ n) × (n ≤ℤ pos 1000000000000)
+sized n h = within (pos 1) (pos 1000000000000) n h
+
+lawful_shape : (s : Shape) → is_shape s ≡ true → IsShape s
+lawful_shape (Fixed size) h = let w = sized size h in record { period_low = w.0; period_high = omega (arith, ints); size_high = w.1 }
+lawful_shape (Sliding size period) h =
+    let w = sized size (left _ _ h) in
+    let v = within (pos 1) size period (right _ _ h) in
+    record { period_low = v.0; period_high = v.1; size_high = w.1 }
+lawful_shape (Session gap) h = let w = sized gap h in record { period_low = w.0; period_high = omega (arith, ints); size_high = w.1 }
+
+lawful_span : (n : ℤ) → is_span n ≡ true → IsSpan n
+lawful_span n h = let w = within (pos 0) (pos 1000000000000) n h in record { low = w.0; high = w.1 }
+
+-- the numbers of a header that its costs are made of
+pub record IsLawful (h : Header) : Type 0 where
+  pub shape : IsShape h.shape
+  pub skew : IsSpan h.skew
+  pub lateness : IsSpan h.lateness
+  pub records : (pos 1 ≤ℤ h.records) × (h.records ≤ℤ pos 1000000000000)
+  pub kinds : length h.kinds ≤ 16
+
+lawful_header : (h : Header) → is_header h ≡ true → IsLawful h
+unfolding is_header
+lawful_header h e =
+    let times = right (is_schema h.schema) _ e in
+    let spans = right (is_within (pos 0) latest_time h.start) _ times in
+    let lateness = right (is_span h.skew) _ spans in
+    let records = right (is_span h.lateness) _ lateness in
+    let shape = right (is_size h.records) _ records in
+    let early = right (is_shape h.shape) _ shape in
+    let late = right (is_span h.early) _ early in
+    let form = right (is_span h.late) _ late in
+    let kinds = right (is_form_of h.mode h.form) _ form in
+    record {
+      shape = lawful_shape h.shape (left (is_shape h.shape) _ shape);
+      skew = lawful_span h.skew (left (is_span h.skew) _ spans);
+      lateness = lawful_span h.lateness (left (is_span h.lateness) _ lateness);
+      records = sized h.records (left (is_size h.records) _ records);
+      kinds = few (length h.kinds) 16 (left (nat_le (length h.kinds) 16) _ kinds);
+    }
+
+short_section : (h : Header) (code : List Instr) → is_section h code ≡ true → length code ≤ 1000
+unfolding is_section
+short_section h code e = few (length code) 1000 (left (nat_le (length code) 1000) _ e)
+
+pub lawful : (p : Program) → IsTrue (is_program p) → IsLawful p.header
+unfolding is_program
+lawful p e = lawful_header p.header (left (is_header p.header) _ e)
+
+pub short : (p : Program) (id : SectionId) → IsTrue (is_program p) → length (section p id) ≤ 1000
+unfolding is_program
+short p Where e = short_section p.header p.selection (left (is_section p.header p.selection) _ (right (is_header p.header) _ e))
+short p Update e = short_section p.header p.update (left (is_section p.header p.update) _ (right (is_section p.header p.selection) _ (right (is_header p.header) _ e)))
+short p Fire e = short_section p.header p.fire (right (is_section p.header p.update) _ (right (is_section p.header p.selection) _ (right (is_header p.header) _ e)))
+
+-- the same of a header that is the program's
+pub lawful_seen : (p : Program) (g : Header) → g ≡ p.header → IsTrue (is_program p) → IsLawful g
+lawful_seen p g e h = subst IsLawful (sym e) (lawful p h)
+
+pub short_seen : (p : Program) (id : SectionId) (code : List Instr) → code ≡ section p id → IsTrue (is_program p) → length code ≤ 1000
+short_seen p id code e h = rw e (short p id h)
+
+ceil_few : (a b m : ℕ) → a ≤ m → div_ceil a b ≤ m + 1
+ceil_few a b m h = omega (arith, div-le_self a b)
+
+-- a live bound is small
+pub live_few : (s : Shape) (skew late : ℤ) → IsShape s → IsSpan skew → IsSpan late → live_bound s skew late ≤ 3000000000002
+live_few (Fixed size) skew late s f l = omega (arith, ceil_few (unsigned_abs ((skew +ℤ late) +ℤ size)) (unsigned_abs size) 3000000000000 (omega (arith, ints, s.size_high, s.period_low)))
+live_few (Sliding size period) skew late s f l = omega (arith, ceil_few (unsigned_abs ((skew +ℤ late) +ℤ size)) (unsigned_abs period) 3000000000000 (omega (arith, ints, s.size_high, s.period_low, s.period_high)))
+live_few (Session gap) skew late s f l = omega (arith, ceil_few (unsigned_abs (skew +ℤ late)) (unsigned_abs gap) 3000000000000 (omega (arith, ints)))
+
+pub product_few : (a b m n : ℕ) → a ≤ m → b ≤ n → a * b ≤ m * n
+product_few a b m n h k = omega (arith, mul-le-mul_right b h, mul-le-mul_left m k)
+
+pub span_seen : (n : ℤ) → IsSpan n → IsSpan (to_z w64 (of_z w64 n))
+span_seen n h = record { low = omega (arith, ints, h.low, h.high); high = omega (arith, ints, h.low, h.high) }

@@ -1,0 +1,5 @@
+pub mod Passing
+pub mod Longest
+pub mod Accepting
+pub mod Lawful
+mod Ways

@@ -1,0 +1,189 @@
+-- What is known at each place of a section: the hull of all that its incoming edges carry.
+use Rattle.std.specs.Prelude.{ℕ, suc, Bool, true, false, ◌&&◌, cond, List, [], ◌∷◌, ◌++◌, length, take, drop, reverse, nat_eq, nat_lt, Option, Some, None, option_map, slice_index_or, slice_set}
+use Rattle.std.specs.List.{list_any, filter_map}
+use Rattle.std.specs.Bool.{beq}
+use Rattle.wsm_interval.specs.declared.Interval.{Interval}
+use Rattle.wsm_bytecode.specs.declared.Instr.{Instr}
+use Rattle.wsm_bytecode.specs.declared.Instr.TheVariants.{PushInt, PushBool, PushEnum, Field, Key, Acc, Count, Add, Sub, Mul, Div, Rem, Neg, Eq, Ne, Lt, Le, Gt, Ge, Not, Jump, JumpIfFalse, Fold, Return}
+use Rattle.wsm_verifier.specs.declared.known.Known.{Known}
+use Rattle.wsm_verifier.specs.declared.known.Known.TheVariants.{Number, Truth, NameOf}
+use Rattle.wsm_interval.specs.Interval.{interval, add, sub, mul, div, rem, neg, hull}
+
+-- what is known before an instruction
+pub record State : Type 0 where
+  pub stack : List Known  -- the last value first
+  pub folded : List Bool  -- for each accumulator, whether it is folded already
+
+-- what FIELD, COUNT and ACC push
+pub record Ranges : Type 0 where
+  pub fields : List Known
+  pub count : Interval
+  pub accumulators : List Known
+
+-- the places that an instruction at p can go on to
+abbrev pub next : Instr → ℕ → List ℕ
+next (Jump t) p = t ∷ []
+next (JumpIfFalse t) p = suc p ∷ t ∷ []
+next Return p = []
+next _ p = suc p ∷ []
+
+-- there is an edge from the instruction at p to place q; edges lead forward alone
+abbrev pub leads : Instr → ℕ → ℕ → Bool
+leads i p q = nat_lt p q && list_any (nat_eq q) (next i p)
+
+abbrev pub pops : Instr → ℕ
+pops Neg = 1
+pops Not = 1
+pops (JumpIfFalse t) = 1
+pops (Fold a) = 1
+pops Add = 2
+pops Sub = 2
+pops Mul = 2
+pops Div = 2
+pops Rem = 2
+pops Eq = 2
+pops Ne = 2
+pops Lt = 2
+pops Le = 2
+pops Gt = 2
+pops Ge = 2
+pops _ = 0
+
+-- of one number, or of two: the right one is the last on the stack
+abbrev pub of_one : (Interval → Option Interval) → List Known → Option (List Known)
+of_one f (Number x ∷ s) = option_map (λ z. Number z ∷ []) (f x)
+of_one f _ = None
+
+abbrev pub of_two : (Interval → Interval → Option Interval) → List Known → Option (List Known)
+of_two f (Number y ∷ Number x ∷ s) = option_map (λ z. Number z ∷ []) (f x y)
+of_two f _ = None
+
+-- what an instruction pushes; None where arithmetic has no interval
+abbrev pub pushed : Ranges → Instr → List Known → Option (List Known)
+pushed r (PushInt n) s = Some (Number (interval n n) ∷ [])
+pushed r (PushBool b) s = Some (Truth ∷ [])
+pushed r (PushEnum e i) s = Some (NameOf e ∷ [])
+pushed r (Field f) s = Some (slice_index_or r.fields f Truth ∷ [])
+pushed r Key s = Some (NameOf 0 ∷ [])
+pushed r (Acc a) s = Some (slice_index_or r.accumulators a Truth ∷ [])
+pushed r Count s = Some (Number r.count ∷ [])
+pushed r Add s = of_two add s
+pushed r Sub s = of_two sub s
+pushed r Mul s = of_two mul s
+pushed r Div s = of_two div s
+pushed r Rem s = of_two rem s
+pushed r Neg s = of_one neg s
+pushed r Eq s = Some (Truth ∷ [])
+pushed r Ne s = Some (Truth ∷ [])
+pushed r Lt s = Some (Truth ∷ [])
+pushed r Le s = Some (Truth ∷ [])
+pushed r Gt s = Some (Truth ∷ [])
+pushed r Ge s = Some (Truth ∷ [])
+pushed r Not s = Some (Truth ∷ [])
+pushed r (Jump t) s = Some []
+pushed r (JumpIfFalse t) s = Some []
+pushed r (Fold a) s = Some []
+pushed r Return s = Some []
+
+abbrev pub folded_after : Instr → List Bool → List Bool
+folded_after (Fold a) fs = slice_set fs a true
+folded_after _ fs = fs
+
+-- What the edges of an instruction carry; they carry nothing where arithmetic has no interval.
+-- (Where a rule holds of the instruction, it doesn't matter what is carried: edges lead forward, so the first fault is there or before.)
+abbrev pub after : Ranges → Instr → State → Option State
+after r i s = option_map (λ vs. record { stack = vs ++ drop (pops i) s.stack; folded = folded_after i s.folded }) (pushed r i s.stack)
+
+abbrev pub same_type : Known → Known → Bool
+same_type (Number x) (Number y) = true
+same_type Truth Truth = true
+same_type (NameOf e) (NameOf f) = nat_eq e f
+same_type _ _ = false
+
+abbrev pub same_types : List Known → List Known → Bool
+same_types [] [] = true
+same_types (x ∷ xs) (y ∷ ys) = same_type x y && same_types xs ys
+same_types _ _ = false
+
+abbrev pub same_flags : List Bool → List Bool → Bool
+same_flags [] [] = true
+same_flags (f ∷ fs) (g ∷ gs) = beq f g && same_flags fs gs
+same_flags _ _ = false
+
+-- the same height, types and folded accumulators
+abbrev pub agree : State → State → Bool
+agree s t = same_types s.stack t.stack && same_flags s.folded t.folded
+
+abbrev pub hull_known : Known → Known → Known
+hull_known (Number x) (Number y) = Number (hull x y)
+hull_known x y = x
+
+abbrev pub hull_stacks : List Known → List Known → List Known
+hull_stacks (x ∷ xs) (y ∷ ys) = hull_known x y ∷ hull_stacks xs ys
+hull_stacks _ _ = []
+
+abbrev pub hull_states : State → State → State
+hull_states s t = record { stack = hull_stacks s.stack t.stack; folded = s.folded }
+
+-- what a place is known to have
+pub data Label : Type 0 where
+  Unreached : Label  -- no edge leads there
+  Differing : Label  -- its edges differ in height, types or folded accumulators
+  Reached : (state : State) → Label
+
+abbrev pub label_with : State → Label → Label
+label_with s Unreached = Reached s
+label_with s Differing = Differing
+label_with s (Reached t) = cond (agree s t) (Reached (hull_states s t)) Differing
+
+-- the hull of all states that are carried to a place
+abbrev pub hull_all : List State → Label
+hull_all [] = Unreached
+hull_all (s ∷ ss) = label_with s (hull_all ss)
+
+-- an instruction, its place, the label of this place and what its edges carry
+pub record Visit : Type 0 where
+  pub place : ℕ
+  pub instr : Instr
+  pub label : Label
+  pub carried : Option State
+
+abbrev pub carried_from : Ranges → Instr → Label → Option State
+carried_from r i (Reached s) = after r i s
+carried_from r i _ = None
+
+-- what an edge from an instruction to place q carries
+abbrev pub carried_to : ℕ → Visit → Option State
+carried_to q v = cond (leads v.instr v.place q) v.carried None
+
+-- the hull of all that edges from given places carry to place q
+abbrev pub gathered : ℕ → List Visit → Label
+gathered q vs = hull_all (filter_map (carried_to q) vs)
+
+-- the label of place q, where all places before it are visited: the entry's at place 0, else the hull of all edges into it
+abbrev pub label_of : State → ℕ → List Visit → Label
+label_of entry q [] = Reached entry
+label_of entry q before = gathered q before
+
+abbrev pub visit : Ranges → ℕ → Instr → Label → Visit
+visit r q i l = record { place = q; instr = i; label = l; carried = carried_from r i l }
+
+-- the visit of the next place
+abbrev pub visit_of : State → Ranges → Instr → List Visit → Visit
+visit_of entry r i before = visit r (length before) i (label_of entry (length before) before)
+
+abbrev pub visited_next : State → Ranges → Instr → List Visit → List Visit
+visited_next entry r i before = visit_of entry r i before ∷ before
+
+-- the places of a section, the last first, from its instructions, the last first
+abbrev pub visits_back : State → Ranges → List Instr → List Visit
+visits_back entry r [] = []
+visits_back entry r (i ∷ before) = visited_next entry r i (visits_back entry r before)
+
+-- the places of a section with their labels, the last first
+abbrev pub visits : State → Ranges → List Instr → List Visit
+visits entry r is = visits_back entry r (reverse is)
+
+-- the label of place p
+abbrev pub label_at : State → Ranges → List Instr → ℕ → Label
+label_at entry r is p = label_of entry p (visits entry r (take p is))

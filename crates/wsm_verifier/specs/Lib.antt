@@ -1,0 +1,4 @@
+pub mod Costs
+pub mod Labels
+pub mod Rules
+pub mod Vectors

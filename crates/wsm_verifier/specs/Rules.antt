@@ -1,0 +1,292 @@
+-- The rules of acceptance: at each place the first that holds, and what a program comes to.
+use Rattle.std.specs.Prelude.{ℕ, suc, ◌+◌, ◌*ℤ◌, Bool, true, false, ◌&&◌, not, cond, List, [], ◌∷◌, length, map, reverse, ℤ, pos, nat_eq, nat_lt, Option, Some, None, is_none, option_map, Result, Ok, Err, slice_get, slice_index_or}
+use Rattle.std.specs.Int.{int_min, int_max}
+use Rattle.std.specs.List.{list_all}
+use Rattle.wsm_interval.specs.declared.Interval.{Interval}
+use Rattle.wsm_bytecode.specs.declared.Instr.{Instr}
+use Rattle.wsm_bytecode.specs.declared.Instr.TheVariants.{Field, Acc, Count, Add, Sub, Mul, Div, Rem, Neg, Eq, Ne, Lt, Le, Gt, Ge, Not, Jump, JumpIfFalse, Fold, Return}
+use Rattle.wsm_bytecode.specs.declared.SectionId.{SectionId}
+use Rattle.wsm_bytecode.specs.declared.SectionId.TheVariants.{Where, Update, Fire}
+use Rattle.wsm_record.specs.declared.Kind.{Kind}
+use Rattle.wsm_record.specs.declared.Kind.TheVariants.{Sum, Min, Max, Any, All}
+use Rattle.wsm_record.specs.Schema.{FieldType, Int, Truth as IsTruth, Enum, DeclaredField}
+use Rattle.wsm_bytecode.specs.declared.Budget.{Budget as Stated}
+use Rattle.wsm_bytecode.specs.declared.CellType.{CellType}
+use Rattle.wsm_bytecode.specs.declared.CellType.TheVariants as column
+use Rattle.wsm_verifier.specs.declared.rejection.Rule.{Rule}
+use Rattle.wsm_verifier.specs.declared.rejection.Rule.TheVariants as rule
+use Rattle.wsm_verifier.specs.declared.rejection.Part.TheVariants.{Code, Budget}
+use Rattle.wsm_verifier.specs.declared.rejection.Rejection.{Rejection}
+use Rattle.wsm_verifier.specs.declared.costs.Costs.{Costs}
+use Rattle.wsm_interval.specs.Interval.{interval, hull, holds, in_i64}
+use Rattle.wsm_bytecode.specs.Program.{Program, section}
+use Rattle.wsm_verifier.specs.declared.known.Known.{Known}
+use Rattle.wsm_verifier.specs.declared.known.Known.TheVariants.{Number, Truth, NameOf}
+use Rattle.wsm_verifier.specs.Labels.{State, Ranges, pops, pushed, same_type, same_types, Label, Unreached, Differing, Reached, Visit, visits}
+use Rattle.wsm_verifier.specs.Costs.{needed}
+
+-- the types that a section returns, the last first
+abbrev pub column_known : CellType → Known
+column_known column.Int = Number (interval (pos 0) (pos 0))
+column_known column.Bool = Truth
+column_known (column.Enum e) = NameOf e
+
+abbrev pub results : Program → SectionId → List Known
+results p Where = Truth ∷ []
+results p Update = []
+results p Fire = Truth ∷ reverse (map column_known p.header.columns)
+
+-- the instruction may stand in the section
+abbrev pub may_stand : SectionId → Instr → Bool
+may_stand Fire (Field f) = false
+may_stand Where (Acc a) = false
+may_stand Update (Acc a) = false
+may_stand Where Count = false
+may_stand Update Count = false
+may_stand Where (Fold a) = false
+may_stand Fire (Fold a) = false
+may_stand _ _ = true
+
+abbrev pub is_number : Known → Bool
+is_number (Number x) = true
+is_number _ = false
+
+abbrev pub is_truth : Known → Bool
+is_truth Truth = true
+is_truth _ = false
+
+abbrev pub folds_into : Kind → Known → Bool
+folds_into Any x = is_truth x
+folds_into All x = is_truth x
+folds_into _ x = is_number x
+
+abbrev pub last_is : (Known → Bool) → List Known → Bool
+last_is f (x ∷ s) = f x
+last_is f _ = false
+
+abbrev pub last_two : (Known → Known → Bool) → List Known → Bool
+last_two f (y ∷ x ∷ s) = f x y
+last_two f _ = false
+
+abbrev pub numbers : Known → Known → Bool
+numbers x y = is_number x && is_number y
+
+abbrev pub kind_of : Program → ℕ → Kind
+kind_of p a = slice_index_or p.header.kinds a Sum
+
+-- the operands have the types that the instruction takes; RET takes exactly what its section returns
+abbrev pub types_fit : Program → SectionId → Instr → List Known → Bool
+types_fit p c Add s = last_two numbers s
+types_fit p c Sub s = last_two numbers s
+types_fit p c Mul s = last_two numbers s
+types_fit p c Div s = last_two numbers s
+types_fit p c Rem s = last_two numbers s
+types_fit p c Neg s = last_is is_number s
+types_fit p c Eq s = last_two same_type s
+types_fit p c Ne s = last_two same_type s
+types_fit p c Lt s = last_two numbers s
+types_fit p c Le s = last_two numbers s
+types_fit p c Gt s = last_two numbers s
+types_fit p c Ge s = last_two numbers s
+types_fit p c Not s = last_is is_truth s
+types_fit p c (JumpIfFalse t) s = last_is is_truth s
+types_fit p c (Fold a) s = last_is (folds_into (kind_of p a)) s
+types_fit p c Return s = same_types s (results p c)
+types_fit _ _ _ _ = true
+
+abbrev pub folds_again : Instr → List Bool → Bool
+folds_again (Fold a) folded = slice_index_or folded a false
+folds_again _ folded = false
+
+abbrev pub has_zero : Known → Known → Bool
+has_zero x (Number y) = holds y (pos 0)
+has_zero x _ = false
+
+-- the divisor's interval has 0 inside
+abbrev pub may_divide_by_zero : Instr → List Known → Bool
+may_divide_by_zero Div s = last_two has_zero s
+may_divide_by_zero Rem s = last_two has_zero s
+may_divide_by_zero _ s = false
+
+-- all records together could take a sum of such values out of 64 bits
+abbrev pub sum_leaves : ℤ → Kind → Known → Bool
+sum_leaves records Sum (Number x) = not (in_i64 (records *ℤ x.lo) && in_i64 (records *ℤ x.hi))
+sum_leaves records _ x = false
+
+abbrev pub accumulator_leaves : Program → Instr → List Known → Bool
+accumulator_leaves p (Fold a) s = last_is (sum_leaves p.header.records (kind_of p a)) s
+accumulator_leaves p _ s = false
+
+-- a 33rd value
+abbrev pub overflows : List Known → Option (List Known) → ℕ → Bool
+overflows s None popped = false
+overflows s (Some vs) popped = nat_lt (32 + popped) (length s + length vs)
+
+abbrev pub fold_missing : SectionId → Instr → List Bool → Bool
+fold_missing Update Return folded = not (list_all (λ b. b) folded)
+fold_missing _ _ folded = false
+
+-- n is the number of instructions
+abbrev pub is_later : ℕ → ℕ → ℕ → Bool
+is_later n p target = nat_lt p target && nat_lt target n
+
+abbrev pub bad_jump : ℕ → ℕ → Instr → Bool
+bad_jump n p (Jump t) = not (is_later n p t)
+bad_jump n p (JumpIfFalse t) = not (is_later n p t)
+bad_jump n p _ = false
+
+abbrev pub goes_on : Instr → Bool
+goes_on (Jump t) = false
+goes_on Return = false
+goes_on _ = true
+
+abbrev pub first_of : List (Rule × Bool) → Option Rule
+first_of [] = None
+first_of (t ∷ ts) = cond (t.1) (Some (t.0)) (first_of ts)
+
+-- where rules are tried: in a section of n instructions
+pub record Setting : Type 0 where
+  pub program : Program
+  pub section : SectionId
+  pub ranges : Ranges
+  pub n : ℕ
+
+-- the rules for an instruction at place p before which s is known, in their order, each with whether it holds
+abbrev pub tests : Setting → ℕ → Instr → State → List (Rule × Bool)
+tests c p i s =
+    (rule.NotHere, not (may_stand c.section i))
+    ∷ (rule.StackUnderflow, nat_lt (length s.stack) (pops i))
+    ∷ (rule.Type, not (types_fit c.program c.section i s.stack))
+    ∷ (rule.FoldTwice, folds_again i s.folded)
+    ∷ (rule.MayDivideByZero, may_divide_by_zero i s.stack)
+    ∷ (rule.MayOverflow, is_none (pushed c.ranges i s.stack))
+    ∷ (rule.AccumulatorRange, accumulator_leaves c.program i s.stack)
+    ∷ (rule.StackOverflow, overflows s.stack (pushed c.ranges i s.stack) (pops i))
+    ∷ (rule.FoldMissing, fold_missing c.section i s.folded)
+    ∷ (rule.BadJump, bad_jump c.n p i)
+    ∷ (rule.NoReturn, goes_on i && nat_eq (suc p) c.n)
+    ∷ []
+
+-- the first rule that holds of the instruction at place p
+abbrev pub fault_of : Setting → ℕ → Instr → Label → Option Rule
+fault_of c p i Unreached = Some rule.Unreachable
+fault_of c p i Differing = Some rule.Join
+fault_of c p i (Reached s) = first_of (tests c p i s)
+
+abbrev pub fault_at : Setting → Visit → Option Rejection
+fault_at c v = option_map (λ r. record { part = Code c.section; place = v.place; rule = r }) (fault_of c v.place v.instr v.label)
+
+-- the first of two rejections
+abbrev pub or_then : Option Rejection → Option Rejection → Option Rejection
+or_then None r = r
+or_then (Some r) _ = Some r
+
+-- the first fault of places that are given with the last first
+abbrev pub first_fault : Setting → List Visit → Option Rejection
+first_fault c [] = None
+first_fault c (v ∷ before) = or_then (first_fault c before) (fault_at c v)
+
+-- a section without instructions comes to its end at place 0
+abbrev pub section_fault : Setting → List Visit → Option Rejection
+section_fault c [] = Some (record { part = Code c.section; place = 0; rule = rule.NoReturn })
+section_fault c vs = first_fault c vs
+
+-- at the entry nothing is on the stack and nothing is folded
+abbrev pub entry : Program → State
+entry p = record { stack = []; folded = map (λ k. false) p.header.kinds }
+
+-- ENUM f + 1 is field f
+abbrev pub known_field : ℕ → FieldType → Known
+known_field f (Int lo hi) = Number (interval lo hi)
+known_field f IsTruth = Truth
+known_field f (Enum names) = NameOf (suc f)
+
+abbrev pub known_fields : ℕ → List DeclaredField → List Known
+known_fields f [] = []
+known_fields f (t ∷ ts) = known_field f t.type ∷ known_fields (suc f) ts
+
+-- what instructions may push, where what ACC pushes is given
+abbrev pub ranges_with : Program → List Known → Ranges
+ranges_with p accumulators = record { fields = known_fields 0 p.header.schema.fields; count = interval (pos 1) p.header.records; accumulators = accumulators }
+
+-- in WHERE and UPDATE, where ACC may not stand
+abbrev pub ranges_of_record : Program → Ranges
+ranges_of_record p = ranges_with p []
+
+abbrev pub hull_options : Option Interval → Option Interval → Option Interval
+hull_options None y = y
+hull_options (Some x) None = Some x
+hull_options (Some x) (Some y) = Some (hull x y)
+
+abbrev pub last_number : List Known → Option Interval
+last_number (Number x ∷ s) = Some x
+last_number _ = None
+
+-- the interval of the number that a place folds into accumulator a
+abbrev pub value_folded : ℕ → Instr → Label → Option Interval
+value_folded a (Fold b) (Reached s) = cond (nat_eq a b) (last_number s.stack) None
+value_folded a _ _ = None
+
+-- the hull of the numbers folded into accumulator a at all its FOLDs
+abbrev pub values_folded : ℕ → List Visit → Option Interval
+values_folded a [] = None
+values_folded a (v ∷ vs) = hull_options (value_folded a v.instr v.label) (values_folded a vs)
+
+-- an accumulator's range over 1 to as many values as there are records, each in x
+abbrev pub accumulated : ℤ → Kind → Interval → Option Interval
+accumulated records Sum x = Some (interval (int_min x.lo (records *ℤ x.lo)) (int_max x.hi (records *ℤ x.hi)))
+accumulated records Min x = Some x
+accumulated records Max x = Some x
+accumulated records _ x = None
+
+abbrev pub and_then : {A B : Type 0} → (A → Option B) → Option A → Option B
+and_then f None = None
+and_then f (Some x) = f x
+
+abbrev pub update_visits : Program → List Visit
+update_visits p = visits (entry p) (ranges_of_record p) p.update
+
+-- the range of accumulator a; None where it is no accumulator of numbers
+abbrev pub range : Program → ℕ → Option Interval
+range p a = and_then (λ k. and_then (accumulated p.header.records k) (values_folded a (update_visits p))) (slice_get p.header.kinds a)
+
+abbrev pub known_range : Option Interval → Known
+known_range None = Truth
+known_range (Some x) = Number x
+
+abbrev pub known_accumulators : ℤ → ℕ → List Kind → List Visit → List Known
+known_accumulators records a [] vs = []
+known_accumulators records a (k ∷ ks) vs = known_range (and_then (accumulated records k) (values_folded a vs)) ∷ known_accumulators records (suc a) ks vs
+
+-- in FIRE
+abbrev pub ranges_of_pane : Program → List Visit → Ranges
+ranges_of_pane p updated = ranges_with p (known_accumulators p.header.records 0 p.header.kinds updated)
+
+abbrev pub fault_in : Program → SectionId → Ranges → Option Rejection
+fault_in p c r = section_fault (record { program = p; section = c; ranges = r; n = length (section p c) }) (visits (entry p) r (section p c))
+
+abbrev pub code_fault : Program → Option Rejection
+code_fault p = or_then (fault_in p Where (ranges_of_record p)) (or_then (fault_in p Update (ranges_of_record p)) (fault_in p Fire (ranges_of_pane p (update_visits p))))
+
+abbrev pub first_stated : List (Rule × Bool) → Option Rejection
+first_stated ts = option_map (λ r. record { part = Budget; place = 0; rule = r }) (first_of ts)
+
+-- a stated number is below the needed one
+abbrev pub budget_fault : Stated → Costs → Option Rejection
+budget_fault stated need = first_stated (
+    (rule.BudgetRecord, nat_lt stated.per_record need.per_record)
+    ∷ (rule.BudgetPane, nat_lt stated.per_pane need.per_pane)
+    ∷ (rule.BudgetHeld, nat_lt stated.held need.held)
+    ∷ [])
+
+-- the first fault of a program, or none
+abbrev pub fault : Program → Option Rejection
+fault p = or_then (code_fault p) (budget_fault p.header.budget (needed p))
+
+abbrev pub unless : Costs → Option Rejection → Result Costs Rejection
+unless need None = Ok need
+unless need (Some r) = Err r
+
+-- a program is accepted with the numbers that it needs, or refused for its first fault
+abbrev pub judge : Program → Result Costs Rejection
+judge p = unless (needed p) (fault p)

@@ -1,0 +1,16 @@
+//! What makes a program trustworthy before its first row: what it may cost, and the rules of
+//! acceptance.
+//!
+//! A section is a list of instructions whose jumps lead forward alone. What is known at a place is
+//! the hull of all that the ways to it carry (Cousot & Cousot 1977): the types on the stack, an
+//! interval for each number, and which accumulators are folded. The cost of a section is its longest
+//! path, in instructions.
+#![tactic(auto)]
+
+pub use costs::{Costs, needed};
+pub use rejection::{Part, Rejection, Rule};
+
+mod costs;
+mod known;
+mod paths;
+mod rejection;

@@ -1,0 +1,63 @@
+//! Why a program is refused.
+
+use wsm_bytecode::SectionId;
+
+/// Why a program is refused.
+#[derive(Clone, Copy, Debug, PartialEq, Eq)]
+pub enum Rule {
+    /// An instruction has too few operands.
+    StackUnderflow,
+    /// A 33rd value would be on the stack.
+    StackOverflow,
+    /// An operand has another type than the instruction takes, or a section ends on a stack that
+    /// isn't exactly its result.
+    Type,
+    /// A jump leads back, to its own place, or past the end of its section.
+    BadJump,
+    /// Ways to a place differ in the height of the stack, in types, or in what is folded.
+    Join,
+    /// No way leads to a place.
+    Unreachable,
+    /// A section can run past its last instruction, or has none.
+    NoReturn,
+    /// An instruction may not stand in its section.
+    NotHere,
+    /// An accumulator is folded a second time.
+    FoldTwice,
+    /// The update section ends with an accumulator that isn't folded.
+    FoldMissing,
+    /// A result of arithmetic may leave 64 bits.
+    MayOverflow,
+    /// A divisor may be 0.
+    MayDivideByZero,
+    /// A sum over all records may leave 64 bits.
+    AccumulatorRange,
+    /// Fewer instructions are stated for a record than it may take.
+    BudgetRecord,
+    /// Fewer instructions are stated for a pane than it may take.
+    BudgetPane,
+    /// Fewer panes are stated than may be held.
+    BudgetHeld,
+    /// There was no memory for the verifier. This says nothing of the program.
+    Memory,
+}
+
+/// The part of a program that a rejection is about.
+#[derive(Clone, Copy, Debug, PartialEq, Eq)]
+pub enum Part {
+    /// A section.
+    Code(SectionId),
+    /// The numbers that the program states of its cost.
+    Budget,
+}
+
+/// The first fault of a program.
+#[derive(Clone, Copy, Debug, PartialEq, Eq)]
+pub struct Rejection {
+    /// Where the fault is.
+    pub part: Part,
+    /// The place of the instruction in its section, from 0; 0 in the budget.
+    pub place: usize,
+    /// What is wrong there.
+    pub rule: Rule,
+}
