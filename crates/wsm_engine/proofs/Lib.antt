@@ -1,0 +1,5 @@
+pub mod Bound
+pub mod Due
+pub mod Entering
+pub mod Keeping
+pub mod Turning

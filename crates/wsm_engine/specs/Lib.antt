@@ -1,0 +1,4 @@
+pub mod Plan
+pub mod Machine
+pub mod Held
+pub mod Engine
