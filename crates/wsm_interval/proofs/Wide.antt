@@ -1,7 +1,7 @@
 -- What is computed in 128 bits is what whole numbers give.
 use Rattle.std.proofs.Common.{rules, ◌≡◌, ℕ, zero, suc, ◌/◌, ◌^◌, ◌≤◌, lit<, ℤ, pos, negsuc, neg_ℤ, ◌+ℤ◌, ◌-ℤ◌, ◌*ℤ◌, SFits, to_z, of_z, w64, Option, refl, ◌∙◌, arith}
 use Rattle.std.specs.Int.{w128}
-use Rattle.std.proofs.lemmas.Int.{ints, clamps, to_z-of_z, fits_signed_mul, fits_signed_from_abs, quot_is}
+use Rattle.std.proofs.lemmas.Int.{ints, clamps, to_z-of_z, fits_signed_mul, fits_signed_from_abs}
 use Rattle.std.proofs.Math.Nat.{div-le_self}
 use Rattle.std.specs.Prelude.{Bool, true, false, cond, None, int_div, unsigned_abs, FitsSigned, IfSome}
 use Rattle.std.specs.Int.{int_min, int_max}
@@ -58,9 +58,6 @@ abs_quotient (negsuc a) (negsuc d) = div-le_self (suc a) (suc d)
 quotient_fits : (x y : ℤ) → SFits w64 x → FitsSigned w128 (int_div x y)
 quotient_fits x y h = fits_signed_from_abs w128 (int_div x y) (omega (arith, abs_quotient x y, size_of x h))
 
-pub quotient_is : (a c x y : ℤ) → a ≡ x → c ≡ y → SFits w64 x → SFits w64 y → to_z w128 (of_z w128 (int_div (to_z w128 (of_z w128 a)) (to_z w128 (of_z w128 c)))) ≡ int_div x y
-quotient_is a c x y e f g h = rw (e, f) (quot_is w128 x y (wider x g) (wider y h) (quotient_fits x y g))
-
 pub most_fits : (m lo hi : ℤ) → SFits w64 lo → SFits w64 hi → m ≡ int_max (pos (unsigned_abs lo)) (pos (unsigned_abs hi)) → unsigned_abs m ≤ 2 ^ 63
 most_fits m lo hi g h e = omega (arith, ints, clamps, size_of lo g, size_of hi h)
 
@@ -82,3 +79,8 @@ difference_is a c x y e f g h = rw (e, f) (omega (arith, ints))
 
 pub negation_is : (a x : ℤ) → a ≡ x → SFits w64 x → to_z w128 (of_z w128 (pos 0 -ℤ to_z w128 (of_z w128 a))) ≡ neg_ℤ x
 negation_is a x e g = rw e (omega (arith, ints))
+
+pub quotient_seen : (r a c x y : ℤ) → r ≡ int_div (to_z w128 (of_z w128 a)) (to_z w128 (of_z w128 c)) → a ≡ x → c ≡ y → SFits w64 x → SFits w64 y → to_z w128 (of_z w128 r) ≡ int_div x y
+quotient_seen r a c x y e f g h k =
+    let same : r ≡ int_div x y = e ∙ rw (end_is a x h f, end_is c y k g) refl in
+    rw same (to_z-of_z w128 (int_div x y) (quotient_fits x y h))

@@ -1,6 +1,6 @@
 //! Intervals and their arithmetic.
 
-ghost use Rattle.std.specs.Prelude.{◌≡◌, ℤ, pos, neg_ℤ, ◌+ℤ◌, ◌-ℤ◌, ◌*ℤ◌, ◌≤ℤ◌, int_div, int_rem, IfSome};
+ghost use Rattle.std.specs.Prelude.{◌≡◌, ◌≤◌, ℤ, pos, neg_ℤ, ◌+ℤ◌, ◌-ℤ◌, ◌*ℤ◌, ◌≤ℤ◌, int_div, int_rem, unsigned_abs, IfSome};
 ghost use Rattle.wsm_interval.specs.Interval as spec;
 ghost use Rattle.wsm_interval.specs.Interval.{Holds};
 
@@ -63,7 +63,6 @@ impl Interval {
     /// What a number of this over one of the other, rounded towards zero, can be. `None` too where the
     /// other holds 0.
     pub fn div(self, other: Interval) -> Option<Interval>
-        requires { other.lo ≤ℤ other.hi }
         ensures formula { result ≡ spec.div self other }
         ensures quotients { (m n : ℤ) → Holds self m → Holds other n → IfSome result (λ z. Holds z (int_div m n)) }
     {
@@ -72,7 +71,12 @@ impl Interval {
         }
         let (a, b) = self.ends();
         let (c, d) = other.ends();
-        around(a / c, a / d, b / c, b / d)
+        around(
+            quotient(a, c),
+            quotient(a, d),
+            quotient(b, c),
+            quotient(b, d),
+        )
     }
 
     /// What is left of a number of this over one of the other, with the first one's sign, can be.
@@ -125,4 +129,13 @@ fn around(p: i128, q: i128, r: i128, s: i128) -> Option<Interval>
     ensures { result ≡ spec.around p q r s }
 {
     within(p.min(q).min(r.min(s)), p.max(q).max(r.max(s)))
+}
+
+// A quotient, rounded towards zero. Over 0 it is 0: no interval that is in order asks for it.
+fn quotient(a: i128, c: i128) -> i128
+    requires size { unsigned_abs a ≤ 9223372036854775808 }
+    requires divisor { unsigned_abs c ≤ 9223372036854775808 }
+    ensures { result ≡ int_div a c }
+{
+    if c == 0 { 0 } else { a / c }
 }
