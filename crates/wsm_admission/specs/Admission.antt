@@ -7,7 +7,7 @@ use Rattle.wsm_admission.specs.declared.verdict.Admitted.{Admitted}
 use Rattle.wsm_admission.specs.declared.verdict.Admitted.TheVariants as admitted
 use Rattle.wsm_admission.specs.declared.verdict.Refusal.{Refusal}
 use Rattle.wsm_admission.specs.declared.verdict.Refusal.TheVariants as refusal
-use Rattle.wsm_admission.specs.Clock.{IsWithinLimits, latest_time, verdict_at, watermark_of, admitted_count, late_count, refused_count}
+use Rattle.wsm_admission.specs.Clock.{IsWithinLimits, latest_time, verdict, verdict_at, watermark_of, admitted_count, late_count, refused_count}
 
 -- a counter of 64 bits, which stays at its greatest value
 abbrev pub counter : ℕ → ℕ
@@ -37,6 +37,10 @@ abbrev pub answer : ℤ → Event → Option Refusal → Result Admitted Refusal
 answer mark e (Some r) = Err r
 answer mark (Record key time values) None = Ok admitted.Record
 answer mark (Watermark time) None = Ok (admitted.Watermark mark time)
+
+-- the answer to an event after a history
+abbrev pub answer_after : Clock → Declared → List Event → Event → Result Admitted Refusal
+answer_after c declared past e = answer (watermark_of c past) e (verdict c declared past e)
 
 -- the answer to an event, by what is kept
 abbrev pub decision : Declared → State → Event → Result Admitted Refusal

@@ -3,8 +3,11 @@
 ghost use Rattle.std.specs.Prelude.{◌≡◌, ◌≤ℤ◌, IsTrue, List, [], ◌∷◌, nat_le, pos};
 ghost use Rattle.wsm_record.specs.Event.{Event as AnyEvent, event_of, Record, Watermark};
 ghost use Rattle.wsm_record.specs.Schema.{Declared};
-ghost use Rattle.wsm_admission.specs.Clock.{IsWithinLimits, latest_time, is_key as is_declared_key, is_late, is_time as lies_in_time, is_too_far_ahead, watermark_of, watermark_refusal, verdict as verdict_after};
-ghost use Rattle.wsm_admission.specs.Admission.{Fits, IsInRange, opened, answer, decision, after};
+ghost use Rattle.wsm_admission.specs.Clock.{IsWithinLimits, latest_time, watermark_refusal};
+ghost use Rattle.wsm_admission.specs.Clock.{is_key as is_declared_key, is_time as lies_in_time};
+ghost use Rattle.wsm_admission.specs.Clock.{is_too_far_ahead, is_late};
+ghost use Rattle.wsm_admission.specs.Admission.{Fits, IsInRange, opened, after};
+ghost use Rattle.wsm_admission.specs.Admission.{answer, answer_after, decision};
 
 use crate::clock::{Clock, LATEST_TIME};
 use crate::verdict::{Admitted, Refusal};
@@ -26,9 +29,21 @@ impl Model for Admission {
 
     ghost Value = { State };
 
-    ghost view = { λ a. record { clock = a.clock; mark = a.mark; admitted = a.admitted; late = a.late; refused = a.refused } };
+    ghost view = { λ a. record {
+      clock = a.clock;
+      mark = a.mark;
+      admitted = a.admitted;
+      late = a.late;
+      refused = a.refused;
+    } };
 
-    ghost invariant = { λ a. IsInRange (record { clock = a.clock; mark = a.mark; admitted = a.admitted; late = a.late; refused = a.refused }) };
+    ghost invariant = { λ a. IsInRange (record {
+      clock = a.clock;
+      mark = a.mark;
+      admitted = a.admitted;
+      late = a.late;
+      refused = a.refused;
+    }) };
 }
 
 impl Admission {
@@ -84,8 +99,9 @@ impl Admission {
         ensures state { self.new ≡ after result self.old }
         ensures range { IsInRange self.new }
         ensures verdict { (past : List AnyEvent) → Fits schema.now self.old past →
-            result ≡ answer (watermark_of self.old.clock past) (event_of event.now) (verdict_after self.old.clock schema.now past (event_of event.now)) }
-        ensures fits { (past : List AnyEvent) → Fits schema.now self.old past → Fits schema.now self.new (event_of event.now ∷ past) }
+            result ≡ answer_after self.old.clock schema.now past (event_of event.now) }
+        ensures fits { (past : List AnyEvent) → Fits schema.now self.old past →
+            Fits schema.now self.new (event_of event.now ∷ past) }
     {
         let decision = self.decision(schema, event);
         match decision {

@@ -1,0 +1,127 @@
+-- Windows that are assigned to a record by its time alone, fixed or sliding: where records stand,
+-- and what a record does to the panes that are held.
+use Rattle.std.proofs.Common.{◌≡◌, ℕ, zero, suc, Bool, true, false, ◌&&◌, ◌||◌, List, [], ◌∷◌, ◌++◌, map, ℤ, refl, sym, ap, subst, ◌∙◌, arith}
+use Rattle.std.proofs.lemmas.Int.{ints}
+use Rattle.std.proofs.lemmas.Bool.{true≢false}
+use Rattle.std.proofs.lemmas.Bool.Decides.{nat_tests}
+use Rattle.std.specs.Prelude.{Contains, flat_map, nat_eq}
+use Rattle.std.specs.List.{list_any}
+use Rattle.std.specs.Ordering.{eq_by_cmp, is_eq}
+use Rattle.std.specs.Cmp.{tied_itself}
+use Rattle.wsm_windows.specs.declared.window.Window.{Window}
+use Rattle.wsm_windows.specs.declared.window.Shape.{Shape}
+use Rattle.wsm_windows.specs.declared.window.Shape.TheVariants.{Fixed, Sliding, Session}
+use Rattle.wsm_windows.specs.Windows.{has_inside, windows_of_shape, IsWindowOf, IsWindowOfShape, IsShape}
+use Rattle.wsm_windows.proofs.Members.{exactly}
+use Rattle.wsm_semantics.specs.declared.place.Place.{Place}
+use Rattle.wsm_semantics.specs.Query.{Datum}
+use Rattle.wsm_semantics.specs.Panes.{place_cmp, at, window_of, windows_among, is_there}
+use Rattle.wsm_semantics.proofs.Tables.{among, is_equal, places_total, places_exact}
+
+-- each window is assigned by a record's time alone
+abbrev pub IsAssigned : Shape → Type 0
+IsAssigned (Fixed size) = Unit {0}
+IsAssigned (Sliding size period) = Unit {0}
+IsAssigned (Session gap) = ⊥
+
+same_answer : (a b : Bool) → (a ≡ true → b ≡ true) → (b ≡ true → a ≡ true) → a ≡ b
+same_answer true b f g = sym (f refl)
+same_answer false true f g = g refl
+same_answer false false f g = refl
+
+pub tied : (p r : Place) → p ≡ r → eq_by_cmp place_cmp p r ≡ true
+tied p r e = subst (λ (x : Place). eq_by_cmp place_cmp p x ≡ true) e (ap is_eq (tied_itself places_total p))
+
+pub among-append : (p : Place) (xs ys : List Place) → among p (xs ++ ys) ≡ (among p xs || among p ys)
+among-append p [] ys = refl
+among-append p (x ∷ xs) ys =
+    elim (eq_by_cmp place_cmp p x) as (λ b. (b || among p (xs ++ ys)) ≡ ((b || among p xs) || among p ys)) [ true ↦ refl | false ↦ among-append p xs ys ]
+
+contains_among : (k : ℕ) (ws : List Window) (w : Window) → Contains ws w → among (at k w) (map (at k) ws) ≡ true
+contains_among k [] w (i, less, e) = absurd (omega arith)
+contains_among k (x ∷ xs) w (zero, less, e) = ap (λ (b : Bool). b || among (at k w) (map (at k) xs)) (tied (at k w) (at k x) (ap (at k) (sym e)))
+contains_among k (x ∷ xs) w (suc i, less, e) =
+    let later : among (at k w) (map (at k) xs) ≡ true = contains_among k xs w (i, omega arith, e) in
+    elim (eq_by_cmp place_cmp (at k w) (at k x)) as (λ b. (b || among (at k w) (map (at k) xs)) ≡ true) [ true ↦ refl | false ↦ later ]
+
+among_contains : (p : Place) (k : ℕ) (ws : List Window) → among p (map (at k) ws) ≡ true → (w : Window) × Contains ws w × (p ≡ at k w)
+among_contains p k [] h = absurd (true≢false (sym h))
+among_contains p k (x ∷ xs) h =
+    elim (eq_by_cmp place_cmp p (at k x)) as (λ b. eq_by_cmp place_cmp p (at k x) ≡ b → (b || among p (map (at k) xs)) ≡ true → (w : Window) × Contains (x ∷ xs) w × (p ≡ at k w)) [
+      | true ↦ λ e _. (x, (0, omega arith, refl), places_exact p (at k x) (is_equal _ e))
+      | false ↦ λ e h. let (w, (i, less, is), same) = among_contains p k xs h in (w, (suc i, omega arith, is), same)
+    ] refl h
+
+pub windows_assigned : (shape : Shape) → IsAssigned shape → (ds : List Datum) (d : Datum) → windows_among shape ds d ≡ windows_of_shape shape d.time
+windows_assigned (Fixed size) a ds d = refl
+windows_assigned (Sliding size period) a ds d = refl
+windows_assigned (Session gap) a ds d = absurd a
+
+inside_grid : (size period t : ℤ) (w : Window) → IsWindowOf size period t w → has_inside t w ≡ true
+inside_grid size period t w h = let from = h.from in let until = h.until in grind (arith, ints)
+
+inside_of : (shape : Shape) → IsAssigned shape → (t : ℤ) (w : Window) → IsWindowOfShape shape t w → has_inside t w ≡ true
+inside_of (Fixed size) a t w h = inside_grid size size t w h
+inside_of (Sliding size period) a t w h = inside_grid size period t w h
+inside_of (Session gap) a t w h = absurd a
+
+moved_grid : (size period u t : ℤ) (w : Window) → IsWindowOf size period u w → has_inside t w ≡ true → IsWindowOf size period t w
+moved_grid size period u t w h i = record { k = h.k; start = h.start; end = h.end; from = grind (arith, ints); until = grind (arith, ints) }
+
+-- a window is one of each time that is inside
+moved : (shape : Shape) → IsAssigned shape → (u t : ℤ) (w : Window) → IsWindowOfShape shape u w → has_inside t w ≡ true → IsWindowOfShape shape t w
+moved (Fixed size) a u t w h i = moved_grid size size u t w h i
+moved (Sliding size period) a u t w h i = moved_grid size period u t w h i
+moved (Session gap) a u t w h i = absurd a
+
+itself : (k : ℕ) → nat_eq k k ≡ true
+itself k = grind (arith, nat_tests)
+
+same_key : (j k : ℕ) → nat_eq j k ≡ true → j ≡ k
+same_key j k h = grind (arith, nat_tests)
+
+both : (a b : Bool) → (a && b) ≡ true → (a ≡ true) × (b ≡ true)
+both true b h = (refl, h)
+both false b h = absurd (true≢false (sym h))
+
+module _ (shape : Shape) (ok : IsShape shape) (assigned : IsAssigned shape) where
+  -- where a record stands
+  abbrev pub stands : Datum → List Place
+  stands d = map (at d.key) (windows_of_shape shape d.time)
+
+  -- the window of some time
+  abbrev pub OnGrid : Place → Type 0
+  OnGrid p = (u : ℤ) × IsWindowOfShape shape u (window_of p)
+
+  pub on_grid : (p : Place) (d : Datum) → among p (stands d) ≡ true → OnGrid p
+  on_grid p d h =
+      let (w, c, is) = among_contains p d.key (windows_of_shape shape d.time) h in
+      (d.time, subst (λ (r : Place). IsWindowOfShape shape d.time (window_of r)) (sym is) ((exactly shape d.time (windows_of_shape shape d.time) ok refl w).0 c))
+
+  stands_there : (p : Place) (d : Datum) → among p (stands d) ≡ true → is_there p d ≡ true
+  stands_there p d h =
+      let (w, c, is) = among_contains p d.key (windows_of_shape shape d.time) h in
+      subst (λ (r : Place). is_there r d ≡ true) (sym is)
+      (rw (itself d.key) (inside_of shape assigned d.time w ((exactly shape d.time (windows_of_shape shape d.time) ok refl w).0 c)))
+
+  there_stands : (p : Place) → OnGrid p → (d : Datum) → is_there p d ≡ true → among p (stands d) ≡ true
+  there_stands p (u, grid) d h =
+      let (k, i) = both _ _ h in
+      let c : Contains (windows_of_shape shape d.time) (window_of p) = (exactly shape d.time (windows_of_shape shape d.time) ok refl (window_of p)).1 (moved shape assigned u d.time (window_of p) grid i) in
+      subst (λ (r : Place). among r (stands d) ≡ true) (ap (λ (j : ℕ). at j (window_of p)) (same_key d.key p.key k)) (contains_among d.key (windows_of_shape shape d.time) (window_of p) c)
+
+  -- a place on the grid is a record's exactly where the record stands in it
+  pub own : (p : Place) → OnGrid p → (d : Datum) → among p (stands d) ≡ is_there p d
+  own p grid d = same_answer _ _ (stands_there p d) (there_stands p grid d)
+
+  pub among_all : (p : Place) → OnGrid p → (ds : List Datum) → among p (flat_map stands ds) ≡ list_any (is_there p) ds
+  among_all p grid [] = refl
+  among_all p grid (d ∷ ds) = among-append p (stands d) (flat_map stands ds) ∙ (λ i. own p grid d i || among_all p grid ds i)
+
+  pub on_grid_all : (p : Place) (ds : List Datum) → among p (flat_map stands ds) ≡ true → OnGrid p
+  on_grid_all p [] h = absurd (true≢false (sym h))
+  on_grid_all p (d ∷ ds) h =
+      elim (among p (stands d)) as (λ b. among p (stands d) ≡ b → (b || among p (flat_map stands ds)) ≡ true → OnGrid p) [
+        | true ↦ λ e _. on_grid p d e
+        | false ↦ λ e h. on_grid_all p ds h
+      ] refl (sym (among-append p (stands d) (flat_map stands ds)) ∙ h)
