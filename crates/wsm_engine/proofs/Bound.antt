@@ -134,7 +134,8 @@ module _ (limits : Limits) (size : ℕ) (is : limits.size ≡ pos size) (some : 
   fit [] from sorted held le above = omega arith
   fit (e ∷ es) from sorted held le above =
       let inside = within e.0 held.0 in
-      let rest : length es + suc (number limits.keys size low e.0) ≤ bound * limits.keys = fit es (suc (number limits.keys size low e.0)) (second_of_and _ _ sorted) held.1 inside (after es e.0 held.0 held.1 (first_of_and _ _ sorted)) in
+      let behind = after es e.0 held.0 held.1 (first_of_and (below_all place_cmp e.0 es) (is_sorted place_cmp es) sorted) in
+      let rest = fit es (suc (number limits.keys size low e.0)) (second_of_and (below_all place_cmp e.0 es) (is_sorted place_cmp es) sorted) held.1 inside behind in
       omega (arith, rest, above.0)
 
   from_zero : (es : List (Place × Pane)) → AllByRecursion (λ e. 0 ≤ number limits.keys size low e.0) es

@@ -53,7 +53,7 @@ past_end old new p ahead still = grind (arith, ints)
 none_behind : (old new : ℤ) (p : Place) (es : List (Place × Pane)) → T (below_all place_cmp p es) → new <ℤ p.end → due old new es ≡ []
 none_behind old new p [] below ahead = refl
 none_behind old new p (e ∷ es) below ahead =
-    let order : p.end ≤ℤ e.0.end = ends_in_order p e.0 (lesser _ (first_of_and _ _ below)) in
+    let order : p.end ≤ℤ e.0.end = ends_in_order p e.0 (lesser (place_cmp p e.0) (first_of_and (is_lt (place_cmp p e.0)) (below_all place_cmp p es) below)) in
     let further : new <ℤ e.0.end = omega (arith, ints) in
     rw (not_due old new e.0 further) (none_behind old new p es (second_of_and _ _ below) ahead)
 

@@ -37,7 +37,7 @@ pub entries_empty : map.entries (map.empty {X = Pane} {R = place_cmp}) ≡ []
 entries_empty = ap map.entries (sym map_of-nil) ∙ entries_are [] refl
 
 pub room_is : (s : State) → s.shape ≡ Fixed (size_of s.shape) → room_of s ≡ room_within (limits_of s)
-room_is s fixed = ap (λ (shape : Shape). length s.schema.keys * live_bound shape s.admission.clock.skew s.admission.clock.lateness) fixed
+room_is s fixed = ap (λ (shape : Shape). length s.schema.keys * live_bound shape s.clock.skew s.clock.lateness) fixed
 
 pub some_size : (shape : Shape) → IsShape shape → pos 1 ≤ℤ size_of shape
 some_size shape is = omega (arith, ints, is.period_low, is.period_high)
@@ -57,14 +57,14 @@ record_taken declared s key time values h = taken_record s.clock declared s.mark
     none_refuses mark key time values (Some r) h = absurd (cc)
 
 -- the place of an admitted record in one of its windows can be held
-place_held : (s : State) (key : ℕ) (time : ℤ) (values : List Value) (w : Window) → IsTaken s.admission.clock s.schema s.admission.mark s.admission.admitted (Some key) time values → IsWindowOf (size_of s.shape) (size_of s.shape) time w → IsHeldPlace (limits_of s) (at key w)
-place_held s key time values w taken window = record {
+place_held : (s : State) (clock : s.admission.clock ≡ s.clock) (key : ℕ) (time : ℤ) (values : List Value) (w : Window) → IsTaken s.admission.clock s.schema s.admission.mark s.admission.admitted (Some key) time values → IsWindowOf (size_of s.shape) (size_of s.shape) time w → IsHeldPlace (limits_of s) (at key w)
+place_held s clock key time values w taken window = record {
   key = declared key (length s.schema.keys) taken.has_key;
   turn = window.k;
   start = window.start;
   end = window.end;
-  live = prompt s.admission.mark s.admission.clock.lateness time w.end taken.prompt window.until;
-  near = ahead (s.admission.mark +ℤ s.admission.clock.skew) time w.start taken.near window.from;
+  live = prompt s.admission.mark s.clock.lateness time w.end (rw clock at taken.prompt) window.until;
+  near = ahead (s.admission.mark +ℤ s.clock.skew) time w.start (rw clock at taken.near) window.from;
   in_time = in_range time w.start taken.in_time window.from;
 } where
   declared : (key keys : ℕ) → nat_lt key keys ≡ true → key < keys
@@ -99,7 +99,7 @@ module _ (s : State) (kept : IsKept s) (key : ℕ) (time : ℤ) (values : List V
     count = omega (arith, one, kept.admission.admitted_to, kept.admission.limits.records_to);
     held = kept.panes;
     near = all_contained (λ w. IsHeldPlace (limits_of s) (at key w)) ws (λ w in_list.
-        place_held s key time values w (record_taken s.schema s.admission (Some key) time values taken) (rw kept.fixed at (each w in_list)));
+        place_held s kept.clock key time values w (record_taken s.schema s.admission (Some key) time values taken) (rw kept.fixed at (each w in_list)));
   }
 
 -- ---- a watermark

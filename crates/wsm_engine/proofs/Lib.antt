@@ -3,3 +3,4 @@ pub mod Due
 pub mod Entering
 pub mod Keeping
 pub mod Turning
+pub mod Meaning

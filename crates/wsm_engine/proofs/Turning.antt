@@ -5,6 +5,7 @@ use Rattle.std.proofs.lemmas.Option.{same_Some}
 use Rattle.wsm_record.specs.declared.event.Value.{Value}
 use Rattle.wsm_record.specs.Event.{Event, Record, Watermark}
 use Rattle.wsm_windows.specs.Windows.{windows_of_shape}
+use Rattle.wsm_admission.specs.declared.clock.Clock.{Clock}
 use Rattle.wsm_admission.specs.declared.verdict.Admitted.{Admitted}
 use Rattle.wsm_admission.specs.declared.verdict.Admitted.TheVariants as admitted
 use Rattle.wsm_admission.specs.declared.verdict.Refusal.{Refusal}
@@ -19,12 +20,12 @@ use Rattle.wsm_semantics.specs.Machine as machine
 use Rattle.wsm_engine.specs.Plan.{plan}
 use Rattle.wsm_engine.specs.Machine.{State, turn, answer_to, record_of, machine_of, with_machine}
 
-abbrev state : Declared → Shape → admission.State → List (Place × Pane) → List OutRow → ℕ → ℕ → State
-state schema shape a panes rows fed fired = record { schema = schema; shape = shape; admission = a; panes = panes; rows = rows; fed = fed; fired = fired }
+abbrev state : Declared → Clock → Shape → admission.State → List (Place × Pane) → List OutRow → ℕ → ℕ → State
+state schema clock shape a panes rows fed fired = record { schema = schema; clock = clock; shape = shape; admission = a; panes = panes; rows = rows; fed = fed; fired = fired }
 
-pub same_state : (schema : Declared) (shape : Shape) (a b : admission.State) (ps qs : List (Place × Pane)) (rs os : List OutRow) (m n i j : ℕ) → a ≡ b → ps ≡ qs → rs ≡ os → m ≡ n → i ≡ j →
-    state schema shape a ps rs m i ≡ state schema shape b qs os n j
-same_state schema shape a b ps qs rs os m n i j e f g h k = λ x. state schema shape (e x) (f x) (g x) (h x) (k x)
+pub same_state : (schema : Declared) (clock : Clock) (shape : Shape) (a b : admission.State) (ps qs : List (Place × Pane)) (rs os : List OutRow) (m n i j : ℕ) → a ≡ b → ps ≡ qs → rs ≡ os → m ≡ n → i ≡ j →
+    state schema clock shape a ps rs m i ≡ state schema clock shape b qs os n j
+same_state schema clock shape a b ps qs rs os m n i j e f g h k = λ x. state schema clock shape (e x) (f x) (g x) (h x) (k x)
 
 -- what is kept after an event that was answered so
 abbrev pub turn_by : Result Admitted Refusal → State → Event → State

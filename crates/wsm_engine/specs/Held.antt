@@ -47,14 +47,15 @@ pub record CanEnter (limits : Limits) (most room : ℕ) (panes : List (Place × 
   pub near : AllByRecursion (λ w. IsHeldPlace limits (at key w)) windows
 
 abbrev pub limits_of : State → Limits
-limits_of s = record { keys = length s.schema.keys; size = size_of s.shape; lateness = s.admission.clock.lateness; skew = s.admission.clock.skew; mark = s.admission.mark }
+limits_of s = record { keys = length s.schema.keys; size = size_of s.shape; lateness = s.clock.lateness; skew = s.clock.skew; mark = s.admission.mark }
 
 -- what an engine keeps is within its limits: fixed windows, no lateness, and panes that can be held
 pub record IsKept (s : State) : Type 0 where
   pub shape : IsShape s.shape
   pub fixed : s.shape ≡ Fixed (size_of s.shape)
   pub admission : IsInRange s.admission
-  pub prompt : s.admission.clock.lateness ≡ pos 0
+  pub clock : s.admission.clock ≡ s.clock
+  pub prompt : s.clock.lateness ≡ pos 0
   pub panes : AllByRecursion (IsHeldPane (limits_of s) s.admission.admitted) s.panes
 
 -- a pane that isn't behind a mark, with a place and a count in range

@@ -1,5 +1,5 @@
 -- What the engine keeps, and what an event does to it.
-use Rattle.std.specs.Prelude.{ℕ, ◌*◌, List, [], length, ℤ, Option, Some, None, Result, Ok, Err}
+use Rattle.std.specs.Prelude.{◌≡◌, ℕ, ◌*◌, List, [], length, ℤ, Option, Some, None, Result, Ok, Err}
 use Rattle.wsm_record.specs.Event.{Event, Record}
 use Rattle.wsm_record.specs.Schema.{Declared}
 use Rattle.wsm_windows.specs.declared.window.Shape.{Shape}
@@ -13,11 +13,13 @@ use Rattle.wsm_semantics.specs.declared.place.Place.{Place}
 use Rattle.wsm_semantics.specs.declared.out_row.OutRow.{OutRow}
 use Rattle.wsm_semantics.specs.Machine as machine
 use Rattle.wsm_panes.specs.declared.pane.Pane.{Pane}
+use Rattle.wsm_engine.specs.declared.reply.Reply.{Reply}
 use Rattle.wsm_engine.specs.Plan.{plan}
 
 -- the panes are in the order of their places; the rows are those of the last event
 pub record State : Type 0 where
   pub schema : Declared
+  pub clock : Clock
   pub shape : Shape
   pub admission : admission.State
   pub panes : List (Place × Pane)
@@ -27,7 +29,7 @@ pub record State : Type 0 where
 
 -- before the first event
 abbrev pub opened : Declared → Clock → Shape → State
-opened schema clock shape = record { schema = schema; shape = shape; admission = admission.opened clock; panes = []; rows = []; fed = 0; fired = 0 }
+opened schema clock shape = record { schema = schema; clock = clock; shape = shape; admission = admission.opened clock; panes = []; rows = []; fed = 0; fired = 0 }
 
 -- what is kept of the events
 abbrev pub machine_of : State → machine.State Pane
@@ -54,10 +56,24 @@ abbrev pub refusal_of : Result Admitted Refusal → Option Refusal
 refusal_of (Ok a) = None
 refusal_of (Err r) = Some r
 
--- how many panes an answer fires
-abbrev pub fired_by : Result Admitted Refusal → State → ℕ
-fired_by answer s = length (machine.fired_by plan answer (machine_of s))
+-- the reply to an event; a plan takes no instructions
+abbrev pub reply_to : State → Event → Reply
+reply_to s e = let answer = answer_to s e in record {
+  refusal = refusal_of answer;
+  record_steps = 0;
+  fired = length (machine.fired_by plan answer (machine_of s));
+  pane_steps_max = 0;
+  pane_steps_total = 0;
+}
+
+-- a refused event changes counters alone, and writes no row
+pub record IsRefused (old new : State) : Type 0 where
+  pub panes : new.panes ≡ old.panes
+  pub rows : new.rows ≡ []
+  pub mark : new.admission.mark ≡ old.admission.mark
+  pub admitted : new.admission.admitted ≡ old.admission.admitted
+  pub fired : new.fired ≡ old.fired
 
 -- the most panes that are held
 abbrev pub room_of : State → ℕ
-room_of s = length s.schema.keys * live_bound s.shape s.admission.clock.skew s.admission.clock.lateness
+room_of s = length s.schema.keys * live_bound s.shape s.clock.skew s.clock.lateness

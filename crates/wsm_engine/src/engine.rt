@@ -1,12 +1,19 @@
 //! The engine of a query that counts the records of each key and fixed window.
 
-ghost use Rattle.std.specs.Prelude.{◌≡◌, ◌≤◌, ◌*◌, ℤ, pos, length, IfOk};
-ghost use Rattle.wsm_record.specs.Event.{event_of};
+ghost use Rattle.std.specs.Prelude.{◌≡◌, ◌≤◌, ◌*◌, List, [], ◌∷◌, pos, length, IfOk, IsSome};
+ghost use Rattle.wsm_record.specs.Event.{Event as AnyEvent, event_of};
 ghost use Rattle.wsm_windows.specs.declared.window.Shape.TheVariants.{Fixed};
 ghost use Rattle.wsm_windows.specs.Windows.{IsShape};
 ghost use Rattle.wsm_windows.specs.Life as life;
 ghost use Rattle.wsm_admission.specs.Clock.{IsWithinLimits};
-ghost use Rattle.wsm_engine.specs.Machine.{opened, turn, answer_to, refusal_of, fired_by, room_of, record_of as spec_record_of};
+ghost use Rattle.wsm_semantics.specs.Query.{verdict_on};
+ghost use Rattle.wsm_semantics.specs.Panes.{held};
+ghost use Rattle.wsm_semantics.specs.Firings.{firings};
+ghost use Rattle.wsm_semantics.specs.Relation.{turn_rows};
+ghost use Rattle.wsm_semantics.specs.Counting.{count_query};
+ghost use Rattle.wsm_engine.specs.Machine.{opened, turn, reply_to, room_of, record_of as spec_record_of, IsRefused};
+ghost use Rattle.wsm_engine.specs.Held.{IsKept};
+ghost use Rattle.wsm_engine.specs.Meaning.{query_of, Fits, totals_of};
 
 use crate::panes::{advance, enter_all};
 use crate::reply::{Reply, Totals};
@@ -22,8 +29,8 @@ use wsm_windows::{Shape, live_bound, windows_of};
 #[derive(Drop)]
 pub struct Engine {
     schema: Schema,
+    clock: Clock,
     shape: Shape,
-    lateness: i64,
     admission: Admission,
     table: ListTable,
     rows: Vec<OutRow>,
@@ -60,15 +67,17 @@ impl Engine {
         requires lateness { clock.lateness ≡ pos 0 }
         requires size { IsShape (Fixed size) }
         requires room { length schema.keys * life.live_bound (Fixed size) clock.skew clock.lateness ≤ 100000 }
-        ensures { IfOk result (λ e. e ≡ opened schema clock (Fixed size)) }
+        ensures opened { IfOk result (λ e. e ≡ opened schema clock (Fixed size)) }
+        ensures query { IfOk result (λ e. query_of e ≡ count_query schema clock size) }
+        ensures fits { IfOk result (λ e. Fits e []) }
     {
         let shape = Shape::Fixed(size);
         let live = live_bound(shape, clock.skew, clock.lateness);
         let room = schema.key_count() * live as usize;
         Ok(Engine {
             schema,
+            clock,
             shape,
-            lateness: clock.lateness,
             admission: Admission::new(clock),
             table: ListTable::open(alloc, room)?,
             rows: Vec::with_capacity(alloc, room)?,
@@ -78,28 +87,17 @@ impl Engine {
     }
 
     /// Takes the next event: decides on it, puts a record into its panes, and fires the panes that a
-    /// watermark comes to. The rows of the last event are gone.
+    /// watermark comes to. The rows of the last event are gone. It takes no memory.
     pub fn feed(&mut self, event: &Event) -> Reply
-        ensures state { self.new ≡ turn self.old (event_of event.now) }
-        ensures refusal { result.refusal ≡ refusal_of (answer_to self.old (event_of event.now)) }
-        ensures fired { result.fired ≡ fired_by (answer_to self.old (event_of event.now)) self.old }
+        ensures query { query_of self.new ≡ query_of self.old }
+        ensures fits { (past : List AnyEvent) → Fits self.old past → Fits self.new (event_of event.now ∷ past) }
+        ensures refusal { (past : List AnyEvent) → Fits self.old past → result.refusal ≡ verdict_on (query_of self.old) past (event_of event.now) }
+        ensures rows { (past : List AnyEvent) → Fits self.old past → self.new.rows ≡ turn_rows (query_of self.old) past (event_of event.now) }
+        ensures fired { (past : List AnyEvent) → Fits self.old past → result.fired ≡ length (firings (query_of self.old) past (event_of event.now)) }
+        ensures refused { IsSome result.refusal → IsRefused self.old self.new }
+        ensures reply { result ≡ reply_to self.old (event_of event.now) }
     {
-        self.rows.clear();
-        self.fed = self.fed.saturating_add(1);
-        match self.admission.decide(&self.schema, event) {
-            Err(refusal) => Reply::of_refusal(refusal),
-            Ok(Admitted::Record) => {
-                if let Some((key, time)) = record_of(event) {
-                    enter_all(&mut self.table, key, windows_of(self.shape, time));
-                }
-                Reply::of_firings(0)
-            }
-            Ok(Admitted::Watermark { old, new }) => {
-                let fired = advance(&mut self.table, &mut self.rows, old, new, self.lateness);
-                self.fired = self.fired.saturating_add(fired);
-                Reply::of_firings(fired)
-            }
-        }
+        self.turn(event)
     }
 
     /// The rows of the last event, in order.
@@ -111,7 +109,7 @@ impl Engine {
 
     /// How many panes are held.
     pub fn held(&self) -> usize
-        ensures held { result ≡ length self.now.panes }
+        ensures held { (past : List AnyEvent) → Fits self.now past → result ≡ length (held (query_of self.now) past) }
         ensures within { result ≤ room_of self.now }
     {
         self.table.len()
@@ -126,11 +124,7 @@ impl Engine {
 
     /// What all events so far come to.
     pub fn totals(&self) -> Totals
-        ensures rows { result.rows ≡ self.now.fed }
-        ensures admitted { result.admitted ≡ self.now.admission.admitted }
-        ensures late { result.late ≡ self.now.admission.late }
-        ensures refused { result.refused ≡ self.now.admission.refused }
-        ensures panes { result.panes ≡ self.now.fired }
+        ensures { (past : List AnyEvent) → Fits self.now past → result ≡ totals_of (query_of self.now) past }
     {
         Totals {
             rows: self.fed,
@@ -138,6 +132,31 @@ impl Engine {
             late: self.admission.late(),
             refused: self.admission.refused(),
             panes: self.fired,
+        }
+    }
+
+    // The turn of an event, as a step of the machine that keeps a summary for each held pane.
+    fn turn(&mut self, event: &Event) -> Reply
+        ensures kept { IsKept self.old }
+        ensures state { self.new ≡ turn self.old (event_of event.now) }
+        ensures reply { result ≡ reply_to self.old (event_of event.now) }
+    {
+        self.rows.clear();
+        self.fed = self.fed.saturating_add(1);
+        match self.admission.decide(&self.schema, event) {
+            Err(refusal) => Reply::of_refusal(refusal),
+            Ok(Admitted::Record) => {
+                if let Some((key, time)) = record_of(event) {
+                    enter_all(&mut self.table, key, windows_of(self.shape, time));
+                }
+                Reply::of_firings(0)
+            }
+            Ok(Admitted::Watermark { old, new }) => {
+                let lateness = self.clock.lateness;
+                let fired = advance(&mut self.table, &mut self.rows, old, new, lateness);
+                self.fired = self.fired.saturating_add(fired);
+                Reply::of_firings(fired)
+            }
         }
     }
 }

@@ -21,8 +21,7 @@ pub struct Reply {
 
 impl Reply {
     pub(crate) fn of_refusal(refusal: Refusal) -> Reply
-        ensures refusal { result.refusal ≡ Some refusal }
-        ensures fired { result.fired ≡ 0 }
+        ensures { result ≡ record { refusal = Some refusal; record_steps = 0; fired = 0; pane_steps_max = 0; pane_steps_total = 0 } }
     {
         Reply {
             refusal: Some(refusal),
@@ -34,8 +33,7 @@ impl Reply {
     }
 
     pub(crate) fn of_firings(fired: u64) -> Reply
-        ensures refusal { result.refusal ≡ None }
-        ensures fired { result.fired ≡ fired }
+        ensures { result ≡ record { refusal = None; record_steps = 0; fired = fired; pane_steps_max = 0; pane_steps_total = 0 } }
     {
         Reply {
             refusal: None,

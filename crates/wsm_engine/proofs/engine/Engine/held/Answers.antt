@@ -1,12 +1,17 @@
-use Rattle.std.proofs.Common.{◌∙◌, ◌≤◌, ◌≡◌, length, arith}
+use Rattle.std.proofs.Common.{ap, ◌∙◌, ◌≤◌, ◌≡◌, length, arith}
 use Rattle.std.specs.FinMap as map
 use Rattle.wsm_engine.specs.Engine.{state_of}
-use Rattle.wsm_engine.specs.Machine.{room_of}
+use Rattle.wsm_semantics.proofs.Steps.{panes-fit}
+use Rattle.wsm_engine.specs.Plan.{summary}
+use Rattle.wsm_engine.specs.Machine.{State, machine_of, room_of}
+use Rattle.wsm_engine.specs.Meaning.{query_of}
 use Rattle.wsm_engine.proofs.Keeping.{held_within}
 use Rattle.wsm_engine.proofs.engine.Engine.held.Goals as goal
 
 pub returns-clause-held : goal.returns-clause-held
-returns-clause-held c = rw (← c.self.view_is) (c.len.ensures ∙ map.len-entries c.self.inside.table.panes)
+returns-clause-held c = λ past fits.
+    let same : length (map.entries c.self.inside.table.panes) ≡ length c.args.self.now.panes = ap (λ (s : State). length s.panes) c.self.view_is in
+    c.len.ensures ∙ map.len-entries c.self.inside.table.panes ∙ same ∙ panes-fit summary (query_of c.args.self.now) (machine_of c.args.self.now) past fits
 
 pub returns-clause-within : goal.returns-clause-within
 returns-clause-within c =

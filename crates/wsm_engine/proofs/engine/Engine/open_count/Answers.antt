@@ -1,11 +1,16 @@
-use Rattle.std.proofs.Common.{◌≡◌, ap, sym, ◌∙◌, arith, SFits, w64, to_z-of_z, refl, pos}
+use Rattle.std.proofs.Common.{◌≡◌, [], ap, sym, subst, ◌∙◌, arith, SFits, w64, to_z-of_z, refl, pos}
 use Rattle.std.proofs.lemmas.Int.{ints, fits_signed_from_abs}
 use Rattle.wsm_panes.specs.Table.{Table}
+use Rattle.wsm_semantics.specs.Counting.{count_query}
+use Rattle.wsm_semantics.proofs.Steps.{Fits-opened}
+use Rattle.wsm_engine.specs.Plan.{summary}
+use Rattle.wsm_engine.specs.Machine.{State}
+use Rattle.wsm_engine.specs.Meaning.{Fits}
 use Rattle.wsm_engine.proofs.Keeping.{entries_empty}
 use Rattle.wsm_engine.proofs.engine.Engine.open_count.Goals as goal
 
-pub returns : goal.returns
-returns c =
+pub returns-clause-opened : goal.returns-clause-opened
+returns-clause-opened c =
     let size : SFits w64 c.args.size = c.ranges.size in
     rw (c.in_ok-open.ensures, c.in_ok-with_capacity.ensures.items, c.new.ensures.opened, entries_empty, to_z-of_z size) refl
 
@@ -19,10 +24,13 @@ invariant_of-result c =
         shape = rw (to_z-of_z size) c.requires.size;
         fixed = refl;
         admission = rw c.new.ensures.opened (record { limits = c.requires.clock; mark_from = c.requires.clock.start_from; mark_to = c.requires.clock.start_to; admitted_to = omega arith });
-        prompt = rw c.new.ensures.opened c.requires.lateness;
+        clock = rw c.new.ensures.opened refl;
+        prompt = c.requires.lateness;
         panes = rw (c.in_ok-open.ensures, entries_empty) tt;
       };
-      lateness = rw c.new.ensures.opened (to_z-of_z lateness);
-      room = rw (c.in_ok-open.ensures, c.new.ensures.opened, c.key_count.ensures.count, c.live_bound-live.ensures.bound) (simp to_z-of_z refl);
+      room = rw (c.in_ok-open.ensures, c.key_count.ensures.count, c.live_bound-live.ensures.bound) (simp to_z-of_z refl);
       rows = omega (arith, ap (λ (t : Table). t.room) c.in_ok-open.ensures, c.in_ok-with_capacity.ensures.capacity);
     }
+
+pub returns-clause-fits : goal.returns-clause-fits
+returns-clause-fits c = subst (λ (s : State). Fits s []) (sym (returns-clause-opened c)) (Fits-opened summary (count_query c.args.schema c.args.clock c.args.size))
