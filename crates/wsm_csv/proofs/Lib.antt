@@ -2,3 +2,4 @@ pub mod NumberLemmas
 pub mod RowsLemmas
 pub mod Written
 pub mod CellLemmas
+pub mod LineLemmas

@@ -7,3 +7,4 @@ pub mod Records
 pub mod Rows
 pub mod Refused
 pub mod Tags
+pub mod Lines

@@ -10,9 +10,11 @@ pub use guarded::Guarded;
 pub use number::read_number;
 pub use row::{RowRefusal, read_row};
 pub use rows::{ReadEnd, Rows};
+pub use text::{EndRow, end_text, fault_text, refusal_text, row_text};
 
 mod device;
 mod guarded;
 mod number;
 mod row;
 mod rows;
+mod text;

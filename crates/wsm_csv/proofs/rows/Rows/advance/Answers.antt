@@ -1,4 +1,3 @@
-use Rattle.std.proofs.Common.{◌-◌}
 use Rattle.wsm_csv.proofs.RowsLemmas.{Follows-read}
 use Rattle.wsm_csv.proofs.rows.Rows.advance.Goals as goal
 
@@ -6,4 +5,4 @@ use Rattle.wsm_csv.proofs.rows.Rows.advance.Goals as goal
 pub returns-in-Ok-clause-advances : goal.returns-in-Ok-clause-advances
 returns-in-Ok-clause-advances g c known rows follows =
     let now = c.in-Ok.ensures in
-    Follows-read g.R.Read.remaining known rows c.args.self.now record { reader = c.read_byte_record.new.self; row = c.read_byte_record.new.row; left = c.args.self.now.left - 1 } c.in-Ok.found follows (now.reads follows.plain follows.ready) (now.ready follows.plain) now.flexible
+    Follows-read g.R.Read.remaining known rows c.args.self.now _ c.in-Ok.found follows (now.reads follows.plain follows.ready) (now.ready follows.plain) now.flexible

@@ -1,0 +1,263 @@
+//! The lines that are written: rows, refusals and the end, as text.
+//!
+//! A line is its cells with commas between them and a line feed behind. No cell needs a quote. Each
+//! call adds one line to a buffer; after a refusal of memory the buffer has what it had, and perhaps
+//! a beginning of the line.
+
+ghost use Rattle.std.specs.Prelude.{◌≡◌, ◌++◌, ◌∷◌, [], List, codes, map, slice_index_or, OnOk};
+ghost use Rattle.std.specs.Fmt.{decimal, signed_decimal};
+ghost use Rattle.wsm_semantics.specs.Lines.{Out, Faulty, Refused, End};
+ghost use Rattle.wsm_semantics.specs.Text as text;
+ghost use Rattle.wsm_csv.specs.Lines.{cells_text, column_names, names_of};
+
+use itoa::Buffer;
+use std::alloc::AllocError;
+use wsm_admission::Refusal;
+use wsm_record::{Names, RowFault, Schema, Value};
+use wsm_semantics::{Columns, OutRow};
+use wsm_windows::{PaneKind, Window};
+
+/// The numbers of the last line.
+#[derive(Clone, Copy, Debug, PartialEq, Eq)]
+pub struct EndRow {
+    /// The rows read.
+    pub rows: u64,
+    /// The records admitted.
+    pub admitted: u64,
+    /// The records that were late.
+    pub late: u64,
+    /// The rows refused, without the late records.
+    pub refused: u64,
+    /// The panes that fired.
+    pub panes: u64,
+}
+
+/// Adds the line of a row. `columns` has for each column the names that its numbers stand for, or
+/// none; a number that stands for no name is an empty cell.
+pub fn row_text(
+    schema: &Schema,
+    columns: &[Option<&Names>],
+    row: &OutRow,
+    out: &mut Vec<u8>,
+) -> Result<(), AllocError>
+    ensures { OnOk result (out.new.items ≡ out.old.items ++ text.line_text (names_of schema.now columns.now) (Out row.now)) }
+{
+    add_row(schema, columns, row, out)?;
+    end_line(out)
+}
+
+/// Adds the line of a row that is no event.
+pub fn fault_text(row: u64, why: RowFault, out: &mut Vec<u8>) -> Result<(), AllocError>
+    ensures { (names : text.Names) → OnOk result (out.new.items ≡ out.old.items ++ text.line_text names (Faulty row why)) }
+{
+    add_refused(row, fault_word(why), out)
+}
+
+/// Adds the line of a row whose event is refused.
+pub fn refusal_text(row: u64, why: Refusal, out: &mut Vec<u8>) -> Result<(), AllocError>
+    ensures { (names : text.Names) → OnOk result (out.new.items ≡ out.old.items ++ text.line_text names (Refused row why)) }
+{
+    add_refused(row, refusal_word(why), out)
+}
+
+/// Adds the last line.
+pub fn end_text(end: EndRow, out: &mut Vec<u8>) -> Result<(), AllocError>
+    ensures { (names : text.Names) → OnOk result (out.new.items ≡ out.old.items ++ text.line_text names (End end.rows end.admitted end.late end.refused end.panes)) }
+{
+    out.extend_from_slice(b"end")?;
+    add_count(end.rows, out)?;
+    add_count(end.admitted, out)?;
+    add_count(end.late, out)?;
+    add_count(end.refused, out)?;
+    add_count(end.panes, out)?;
+    end_line(out)
+}
+
+// The cells of a row.
+fn add_row(
+    schema: &Schema,
+    columns: &[Option<&Names>],
+    row: &OutRow,
+    out: &mut Vec<u8>,
+) -> Result<(), AllocError>
+    ensures { OnOk result (out.new.items ≡ out.old.items ++ text.joined (text.row_cells (names_of schema.now columns.now) row.now)) }
+{
+    match row {
+        OutRow::Pane {
+            kind,
+            key,
+            window,
+            columns: values,
+        } => {
+            add_pane(schema, *kind, *key, *window, out)?;
+            add_values(columns, values.as_slice(), out)
+        }
+        OutRow::Istream {
+            mark,
+            columns: values,
+        } => add_stream(b"istream", *mark, columns, values, out),
+        OutRow::Dstream {
+            mark,
+            columns: values,
+        } => add_stream(b"dstream", *mark, columns, values, out),
+        OutRow::Rstream {
+            mark,
+            columns: values,
+        } => add_stream(b"rstream", *mark, columns, values, out),
+    }
+}
+
+// The cells of a pane in front of its columns.
+fn add_pane(
+    schema: &Schema,
+    kind: PaneKind,
+    key: u16,
+    window: Window,
+    out: &mut Vec<u8>,
+) -> Result<(), AllocError>
+    ensures { OnOk result (out.new.items ≡ out.old.items ++ (codes "pane" ++ cells_text (text.kind_word kind ∷ text.name_at schema.now.keys key ∷ signed_decimal window.start ∷ signed_decimal window.end ∷ []))) }
+{
+    out.extend_from_slice(b"pane")?;
+    add_cell(kind_word(kind), out)?;
+    add_cell(name_text(Some(schema.keys()), key), out)?;
+    add_number(window.start, out)?;
+    add_number(window.end, out)
+}
+
+// The cells of a row of a stream.
+fn add_stream(
+    word: &[u8],
+    mark: i64,
+    columns: &[Option<&Names>],
+    values: &Columns,
+    out: &mut Vec<u8>,
+) -> Result<(), AllocError>
+    ensures { OnOk result (out.new.items ≡ out.old.items ++ (word.now ++ cells_text (signed_decimal mark ∷ text.value_texts (map column_names columns.now) values.now))) }
+{
+    out.extend_from_slice(word)?;
+    add_number(mark, out)?;
+    add_values(columns, values.as_slice(), out)
+}
+
+// The line of a refused row, with the word of its refusal.
+fn add_refused(row: u64, word: &[u8], out: &mut Vec<u8>) -> Result<(), AllocError>
+    ensures { OnOk result (out.new.items ≡ out.old.items ++ (codes "refused" ++ cells_text (decimal row ∷ word.now ∷ []) ++ 10 ∷ [])) }
+{
+    out.extend_from_slice(b"refused")?;
+    add_count(row, out)?;
+    add_cell(word, out)?;
+    end_line(out)
+}
+
+// A cell for each value of a row.
+fn add_values(
+    columns: &[Option<&Names>],
+    values: &[Value],
+    out: &mut Vec<u8>,
+) -> Result<(), AllocError>
+    ensures { OnOk result (out.new.items ≡ out.old.items ++ cells_text (text.value_texts (map column_names columns.now) values.now)) }
+{
+    for (place, value) in values.iter().enumerate() {
+        add_value(names_at(columns, place), *value, out)?;
+    }
+    Ok(())
+}
+
+fn add_value(names: Option<&Names>, value: Value, out: &mut Vec<u8>) -> Result<(), AllocError>
+    ensures { OnOk result (out.new.items ≡ out.old.items ++ 44 ∷ text.value_text (column_names names.entry) value) }
+{
+    match value {
+        Value::Int(number) => add_number(number, out),
+        Value::Bool(true) => add_cell(b"true", out),
+        Value::Bool(false) => add_cell(b"false", out),
+        Value::Enum(number) => add_cell(name_text(names, number), out),
+    }
+}
+
+fn add_number(number: i64, out: &mut Vec<u8>) -> Result<(), AllocError>
+    ensures { OnOk result (out.new.items ≡ out.old.items ++ 44 ∷ signed_decimal number) }
+{
+    let mut digits = Buffer::new();
+    add_cell(digits.format(number).as_bytes(), out)
+}
+
+fn add_count(count: u64, out: &mut Vec<u8>) -> Result<(), AllocError>
+    ensures { OnOk result (out.new.items ≡ out.old.items ++ 44 ∷ decimal count) }
+{
+    let mut digits = Buffer::new();
+    add_cell(digits.format(count).as_bytes(), out)
+}
+
+// A comma and a cell.
+fn add_cell(cell: &[u8], out: &mut Vec<u8>) -> Result<(), AllocError>
+    ensures { OnOk result (out.new.items ≡ out.old.items ++ 44 ∷ cell.now) }
+{
+    out.push(b',')?;
+    out.extend_from_slice(cell)
+}
+
+fn end_line(out: &mut Vec<u8>) -> Result<(), AllocError>
+    ensures { OnOk result (out.new.items ≡ out.old.items ++ 10 ∷ []) }
+{
+    Ok(out.push(b'\n')?)
+}
+
+// The names that the numbers of a column stand for.
+fn names_at<'a>(columns: &[Option<&'a Names>], place: usize) -> Option<&'a Names>
+    ensures { column_names result ≡ slice_index_or (map column_names columns.now) place [] }
+{
+    if place < columns.len() {
+        columns[place]
+    } else {
+        None
+    }
+}
+
+// The name that a number stands for, or no byte.
+fn name_text<'a>(names: Option<&'a Names>, number: u16) -> &'a [u8]
+    ensures { result.now ≡ text.name_at (column_names names.entry) number }
+{
+    match names {
+        Some(names) if (number as usize) < names.len() => names.text_of(number),
+        _ => b"",
+    }
+}
+
+fn kind_word(kind: PaneKind) -> &'static [u8]
+    ensures { result.now ≡ text.kind_word kind }
+{
+    match kind {
+        PaneKind::Early => b"early",
+        PaneKind::OnTime => b"on_time",
+        PaneKind::Late => b"late",
+        PaneKind::Final => b"final",
+    }
+}
+
+fn fault_word(why: RowFault) -> &'static [u8]
+    ensures { result.now ≡ text.fault_word why }
+{
+    match why {
+        RowFault::BadTag => b"BadTag",
+        RowFault::CellCount => b"CellCount",
+        RowFault::BadNumber => b"BadNumber",
+        RowFault::BadName => b"BadName",
+    }
+}
+
+fn refusal_word(why: Refusal) -> &'static [u8]
+    ensures { result.now ≡ text.refusal_word why }
+{
+    match why {
+        Refusal::UnknownKey => b"UnknownKey",
+        Refusal::FieldRange => b"FieldRange",
+        Refusal::TimeRange => b"TimeRange",
+        Refusal::TooFarAhead => b"TooFarAhead",
+        Refusal::Late => b"Late",
+        Refusal::RecordLimit => b"RecordLimit",
+        Refusal::NotRising => b"NotRising",
+    }
+}
+
+#[cfg(test)]
+mod tests;
