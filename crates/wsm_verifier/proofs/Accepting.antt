@@ -19,11 +19,11 @@ none≢some {A} {X} {a} e = let tag : Option A → Bool = λ o. elim o [ None �
 pub record Passes (c : Setting) (p : ℕ) (i : Instr) (s : State) : Type 0 where
   pub stands : not (may_stand c.section i) ≡ false
   pub enough : nat_lt (length s.stack) (pops i) ≡ false
-  pub types : not (types_fit c.program c.section i s.stack) ≡ false
+  pub types : not (types_fit c.kinds c.ends i s.stack) ≡ false
   pub folds_once : folds_again i s.folded ≡ false
   pub divides : may_divide_by_zero i s.stack ≡ false
   pub has_interval : is_none (pushed c.ranges i s.stack) ≡ false
-  pub sums : accumulator_leaves c.program i s.stack ≡ false
+  pub sums : accumulator_leaves c.records c.kinds i s.stack ≡ false
   pub has_room : overflows s.stack (pushed c.ranges i s.stack) (pops i) ≡ false
   pub all_folded : fold_missing c.section i s.folded ≡ false
   pub jumps : bad_jump c.n p i ≡ false

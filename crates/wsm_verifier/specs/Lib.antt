@@ -1,4 +1,5 @@
 pub mod Costs
 pub mod Labels
 pub mod Rules
+pub mod Pushing
 pub mod Vectors

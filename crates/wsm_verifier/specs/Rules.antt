@@ -71,27 +71,27 @@ last_two f _ = false
 abbrev pub numbers : Known → Known → Bool
 numbers x y = is_number x && is_number y
 
-abbrev pub kind_of : Program → ℕ → Kind
-kind_of p a = slice_index_or p.header.kinds a Sum
+abbrev pub kind_of : List Kind → ℕ → Kind
+kind_of kinds a = slice_index_or kinds a Sum
 
--- the operands have the types that the instruction takes; RET takes exactly what its section returns
-abbrev pub types_fit : Program → SectionId → Instr → List Known → Bool
-types_fit p c Add s = last_two numbers s
-types_fit p c Sub s = last_two numbers s
-types_fit p c Mul s = last_two numbers s
-types_fit p c Div s = last_two numbers s
-types_fit p c Rem s = last_two numbers s
-types_fit p c Neg s = last_is is_number s
-types_fit p c Eq s = last_two same_type s
-types_fit p c Ne s = last_two same_type s
-types_fit p c Lt s = last_two numbers s
-types_fit p c Le s = last_two numbers s
-types_fit p c Gt s = last_two numbers s
-types_fit p c Ge s = last_two numbers s
-types_fit p c Not s = last_is is_truth s
-types_fit p c (JumpIfFalse t) s = last_is is_truth s
-types_fit p c (Fold a) s = last_is (folds_into (kind_of p a)) s
-types_fit p c Return s = same_types s (results p c)
+-- the operands have the types that the instruction takes; RET takes exactly what its section ends with
+abbrev pub types_fit : List Kind → List Known → Instr → List Known → Bool
+types_fit kinds ends Add s = last_two numbers s
+types_fit kinds ends Sub s = last_two numbers s
+types_fit kinds ends Mul s = last_two numbers s
+types_fit kinds ends Div s = last_two numbers s
+types_fit kinds ends Rem s = last_two numbers s
+types_fit kinds ends Neg s = last_is is_number s
+types_fit kinds ends Eq s = last_two same_type s
+types_fit kinds ends Ne s = last_two same_type s
+types_fit kinds ends Lt s = last_two numbers s
+types_fit kinds ends Le s = last_two numbers s
+types_fit kinds ends Gt s = last_two numbers s
+types_fit kinds ends Ge s = last_two numbers s
+types_fit kinds ends Not s = last_is is_truth s
+types_fit kinds ends (JumpIfFalse t) s = last_is is_truth s
+types_fit kinds ends (Fold a) s = last_is (folds_into (kind_of kinds a)) s
+types_fit kinds ends Return s = same_types s ends
 types_fit _ _ _ _ = true
 
 abbrev pub folds_again : Instr → List Bool → Bool
@@ -113,9 +113,9 @@ abbrev pub sum_leaves : ℤ → Kind → Known → Bool
 sum_leaves records Sum (Number x) = not (in_i64 (records *ℤ x.lo) && in_i64 (records *ℤ x.hi))
 sum_leaves records _ x = false
 
-abbrev pub accumulator_leaves : Program → Instr → List Known → Bool
-accumulator_leaves p (Fold a) s = last_is (sum_leaves p.header.records (kind_of p a)) s
-accumulator_leaves p _ s = false
+abbrev pub accumulator_leaves : ℤ → List Kind → Instr → List Known → Bool
+accumulator_leaves records kinds (Fold a) s = last_is (sum_leaves records (kind_of kinds a)) s
+accumulator_leaves records kinds _ s = false
 
 -- a 33rd value
 abbrev pub overflows : List Known → Option (List Known) → ℕ → Bool
@@ -146,8 +146,10 @@ first_of (t ∷ ts) = cond (t.1) (Some (t.0)) (first_of ts)
 
 -- where rules are tried: in a section of n instructions
 pub record Setting : Type 0 where
-  pub program : Program
   pub section : SectionId
+  pub kinds : List Kind
+  pub records : ℤ
+  pub ends : List Known  -- what its stack is at the end, the last first
   pub ranges : Ranges
   pub n : ℕ
 
@@ -156,11 +158,11 @@ abbrev pub tests : Setting → ℕ → Instr → State → List (Rule × Bool)
 tests c p i s =
     (rule.NotHere, not (may_stand c.section i))
     ∷ (rule.StackUnderflow, nat_lt (length s.stack) (pops i))
-    ∷ (rule.Type, not (types_fit c.program c.section i s.stack))
+    ∷ (rule.Type, not (types_fit c.kinds c.ends i s.stack))
     ∷ (rule.FoldTwice, folds_again i s.folded)
     ∷ (rule.MayDivideByZero, may_divide_by_zero i s.stack)
     ∷ (rule.MayOverflow, is_none (pushed c.ranges i s.stack))
-    ∷ (rule.AccumulatorRange, accumulator_leaves c.program i s.stack)
+    ∷ (rule.AccumulatorRange, accumulator_leaves c.records c.kinds i s.stack)
     ∷ (rule.StackOverflow, overflows s.stack (pushed c.ranges i s.stack) (pops i))
     ∷ (rule.FoldMissing, fold_missing c.section i s.folded)
     ∷ (rule.BadJump, bad_jump c.n p i)
@@ -262,8 +264,11 @@ known_accumulators records a (k ∷ ks) vs = known_range (and_then (accumulated 
 abbrev pub ranges_of_pane : Program → List Visit → Ranges
 ranges_of_pane p updated = ranges_with p (known_accumulators p.header.records 0 p.header.kinds updated)
 
+abbrev pub setting : Program → SectionId → Ranges → Setting
+setting p c r = record { section = c; kinds = p.header.kinds; records = p.header.records; ends = results p c; ranges = r; n = length (section p c) }
+
 abbrev pub fault_in : Program → SectionId → Ranges → Option Rejection
-fault_in p c r = section_fault (record { program = p; section = c; ranges = r; n = length (section p c) }) (visits (entry p) r (section p c))
+fault_in p c r = section_fault (setting p c r) (visits (entry p) r (section p c))
 
 abbrev pub code_fault : Program → Option Rejection
 code_fault p = or_then (fault_in p Where (ranges_of_record p)) (or_then (fault_in p Update (ranges_of_record p)) (fault_in p Fire (ranges_of_pane p (update_visits p))))

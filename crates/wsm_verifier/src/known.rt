@@ -1,5 +1,10 @@
 //! What is known of a value on the stack.
 
+ghost use Rattle.std.specs.Prelude.{◌≡◌};
+ghost use Rattle.wsm_verifier.specs.Labels as spec;
+ghost use Rattle.wsm_verifier.specs.Rules as rules;
+
+use wsm_bytecode::CellType;
 use wsm_interval::Interval;
 
 /// What is known of a value on the stack.
@@ -11,4 +16,50 @@ pub enum Known {
     Truth,
     /// A name: of the keys (0), or of field `e - 1`, which is an ENUM.
     NameOf(u8),
+}
+
+impl Known {
+    /// What a column of a type returns; its numbers may be any.
+    pub(crate) fn of_column(column: CellType) -> Known
+        ensures { result ≡ rules.column_known column }
+    {
+        match column {
+            CellType::Int => Known::Number(Interval { lo: 0, hi: 0 }),
+            CellType::Bool => Known::Truth,
+            CellType::Enum(e) => Known::NameOf(e),
+        }
+    }
+
+    pub(crate) fn is_number(self) -> bool
+        ensures { result ≡ rules.is_number self }
+    {
+        matches!(self, Known::Number(_))
+    }
+
+    pub(crate) fn is_truth(self) -> bool
+        ensures { result ≡ rules.is_truth self }
+    {
+        matches!(self, Known::Truth)
+    }
+
+    /// Whether both are numbers, truths, or names of one ENUM.
+    pub(crate) fn has_type_of(self, other: Known) -> bool
+        ensures { result ≡ spec.same_type self other }
+    {
+        match (self, other) {
+            (Known::Number(_), Known::Number(_)) | (Known::Truth, Known::Truth) => true,
+            (Known::NameOf(e), Known::NameOf(f)) => e == f,
+            _ => false,
+        }
+    }
+
+    /// What is known of a value that is this or that one.
+    pub(crate) fn hull(self, other: Known) -> Known
+        ensures { result ≡ spec.hull_known self other }
+    {
+        match (self, other) {
+            (Known::Number(x), Known::Number(y)) => Known::Number(x.hull(y)),
+            _ => self,
+        }
+    }
 }

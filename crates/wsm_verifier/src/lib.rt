@@ -13,4 +13,8 @@ pub use rejection::{Part, Rejection, Rule};
 mod costs;
 mod known;
 mod paths;
+mod ranges;
 mod rejection;
+mod state;
+mod table;
+mod types;

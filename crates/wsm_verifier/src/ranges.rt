@@ -1,0 +1,94 @@
+//! What instructions may push.
+
+ghost use Rattle.std.specs.Prelude.{◌≡◌, option_map, slice_index_or};
+ghost use Rattle.std.specs.Option.{option_to_list};
+ghost use Rattle.wsm_verifier.specs.Labels as spec;
+ghost use Rattle.wsm_verifier.specs.Pushing as pushing;
+
+use crate::known::Known;
+use std::marker::Model;
+use wsm_bytecode::Instr;
+use wsm_interval::Interval;
+
+/// What is known of the values that are read: those of the fields, the number of records in a
+/// firing, and the accumulators.
+#[derive(Drop)]
+pub(crate) struct Ranges {
+    pub(crate) fields: Vec<Known>,
+    pub(crate) count: Interval,
+    pub(crate) accumulators: Vec<Known>,
+}
+
+impl Model for Ranges {
+    ghost use Rattle.wsm_verifier.specs.Labels.{Ranges as RangesValue};
+
+    ghost Value = { RangesValue };
+
+    ghost view = { λ a. record { fields = a.fields.items; count = a.count; accumulators = a.accumulators.items } };
+}
+
+impl Ranges {
+    /// What an instruction pushes, or `None` where its arithmetic may leave 64 bits. The last value
+    /// of a stack is the first of its list.
+    pub(crate) fn pushed(&self, instr: Instr, stack: &[Known]) -> Option<Option<Known>>
+        ensures { option_map option_to_list result ≡ spec.pushed self.now instr stack.now }
+    {
+        match instr {
+            Instr::PushInt(n) => Some(Some(Known::Number(Interval { lo: n, hi: n }))),
+            Instr::PushEnum(e, _) => Some(Some(Known::NameOf(e))),
+            Instr::Field(field) => Some(Some(self.field(field))),
+            Instr::Key => Some(Some(Known::NameOf(0))),
+            Instr::Acc(accumulator) => Some(Some(self.accumulator(accumulator))),
+            Instr::Count => Some(Some(Known::Number(self.count))),
+            Instr::Add | Instr::Sub | Instr::Mul | Instr::Div | Instr::Rem => {
+                Some(Some(Known::Number(of_two(instr, stack)?)))
+            }
+            Instr::Neg => Some(Some(Known::Number(negated(stack)?))),
+            Instr::Jump(_) | Instr::JumpIfFalse(_) | Instr::Fold(_) | Instr::Return => Some(None),
+            _ => Some(Some(Known::Truth)),
+        }
+    }
+
+    fn field(&self, field: u8) -> Known
+        ensures { result ≡ slice_index_or self.now.fields field Known.Truth }
+    {
+        self.fields
+            .get(field as usize)
+            .copied()
+            .unwrap_or(Known::Truth)
+    }
+
+    fn accumulator(&self, accumulator: u8) -> Known
+        ensures { result ≡ slice_index_or self.now.accumulators accumulator Known.Truth }
+    {
+        self.accumulators
+            .get(accumulator as usize)
+            .copied()
+            .unwrap_or(Known::Truth)
+    }
+}
+
+// The interval of a result, of the last two numbers.
+fn of_two(instr: Instr, stack: &[Known]) -> Option<Interval>
+    ensures { result ≡ pushing.of_two instr stack.now }
+{
+    let [Known::Number(y), Known::Number(x), ..] = stack else {
+        return None;
+    };
+    match instr {
+        Instr::Add => x.add(*y),
+        Instr::Sub => x.sub(*y),
+        Instr::Mul => x.mul(*y),
+        Instr::Div => x.div(*y),
+        _ => x.rem(*y),
+    }
+}
+
+fn negated(stack: &[Known]) -> Option<Interval>
+    ensures { result ≡ pushing.of_one stack.now }
+{
+    match stack {
+        [Known::Number(x), ..] => x.neg(),
+        _ => None,
+    }
+}
