@@ -1,9 +1,9 @@
 -- The panes that a watermark fires are the first ones, since places are in the order of their ends.
-use Rattle.std.proofs.Common.{◌≡◌, ◌⊎◌, ◌<◌, ◌+◌, ℕ, zero, suc, ℤ, ◌<ℤ◌, ◌≤ℤ◌, List, [], ◌∷◌, T, Bool, true, false, Option, Some, None, length, drop, map, ◌++◌, append_assoc, append-nil, add-one, refl, sym, ap, ◌∙◌, subst, inl, inr, arith}
-use Rattle.std.specs.Prelude.{◌&&◌, int_lt, int_le, cond, slice_get}
-use Rattle.std.specs.List.{AllByRecursion, filter, filter_map}
-use Rattle.std.specs.Ordering.{int_cmp, nat_cmp, ordering_then, is_lt}
-use Rattle.std.specs.declared.cmp.Ordering.TheVariants.{Less, Equal, Greater}
+use Rattle.std.proofs.Common.{◌≡◌, ◌<◌, ◌+◌, ℕ, zero, suc, ℤ, ◌<ℤ◌, ◌≤ℤ◌, List, [], ◌∷◌, T, Bool, true, false, Some, length, drop, ◌++◌, append_assoc, append-nil, add-one, refl, sym, ap, ◌∙◌, subst, inl, inr, arith}
+use Rattle.std.specs.Prelude.{cond, slice_get}
+use Rattle.std.specs.List.{AllByRecursion, filter_map}
+use Rattle.std.specs.Ordering.{is_lt}
+use Rattle.std.specs.declared.cmp.Ordering.TheVariants.{Less}
 use Rattle.std.specs.FinMap.Entries.{is_sorted, below_all}
 use Rattle.std.proofs.lemmas.Int.{ints}
 use Rattle.std.proofs.lemmas.List.Elements.{All-from_recursion}

@@ -1,6 +1,6 @@
 -- What a record does to the panes that are held.
 use Rattle.std.proofs.Common.{◌≡◌, ◌⊎◌, ◌<◌, ◌≤◌, ◌+◌, ◌^◌, ℕ, List, [], ◌∷◌, T, Bool, true, false, cond, Option, Some, None, length, refl, ap, ◌∙◌, inl, inr, arith, MatchOption}
-use Rattle.std.specs.Prelude.{◌≤ℤ◌, pos, ⊤}
+use Rattle.std.specs.Prelude.{⊤}
 use Rattle.std.specs.Option.{is_some}
 use Rattle.std.specs.List.{AllByRecursion}
 use Rattle.std.specs.Ordering.{eq_by_cmp}

@@ -1,7 +1,7 @@
 -- What is true of what an engine keeps, and stays true over an event.
-use Rattle.std.proofs.Common.{◌≡◌, ◌<◌, ◌≤◌, ◌+◌, ◌*◌, ◌^◌, ℕ, ℤ, T, Bool, true, false, cond, List, [], ◌∷◌, length, get_or, Option, Some, None, pos, ◌+ℤ◌, ◌-ℤ◌, ◌≤ℤ◌, ◌<ℤ◌, w64, refl, sym, ap, ◌∙◌, arith}
-use Rattle.std.specs.Prelude.{Ok, Err, Result, int_lt, nat_lt, nat_le, Contains, unsigned_abs, FitsSigned}
-use Rattle.std.specs.List.{AllByRecursion, filter}
+use Rattle.std.proofs.Common.{◌≡◌, ◌<◌, ◌≤◌, ◌*◌, ℕ, ℤ, T, true, false, cond, List, [], ◌∷◌, length, get_or, Option, Some, None, pos, ◌+ℤ◌, ◌-ℤ◌, ◌≤ℤ◌, ◌<ℤ◌, w64, refl, sym, ap, ◌∙◌, arith}
+use Rattle.std.specs.Prelude.{Ok, int_lt, nat_lt, Contains, unsigned_abs, FitsSigned}
+use Rattle.std.specs.List.{AllByRecursion}
 use Rattle.std.specs.FinMap.Entries.{is_sorted, where_key}
 use Rattle.std.proofs.lemmas.Int.{ints, fits_signed_from_abs}
 use Rattle.std.proofs.lemmas.Bool.Decides.{nat_tests}
@@ -13,22 +13,21 @@ use Rattle.wsm_record.specs.Schema.{Declared}
 use Rattle.wsm_windows.specs.declared.window.Window.{Window}
 use Rattle.wsm_windows.specs.declared.window.Shape.{Shape}
 use Rattle.wsm_windows.specs.declared.window.Shape.TheVariants.{Fixed}
-use Rattle.wsm_windows.specs.Windows.{IsShape, IsWindowOf, IsWindowOfShape, IsPlaced, size_of, windows_of_shape}
+use Rattle.wsm_windows.specs.Windows.{IsShape, IsWindowOf, IsWindowOfShape, size_of, windows_of_shape}
 use Rattle.wsm_windows.specs.Life.{live_bound}
-use Rattle.wsm_admission.specs.declared.verdict.Admitted.{Admitted}
 use Rattle.wsm_admission.specs.declared.verdict.Admitted.TheVariants as admitted
 use Rattle.wsm_admission.specs.declared.verdict.Refusal.{Refusal}
-use Rattle.wsm_admission.specs.Clock.{is_time, is_key, is_too_far_ahead, is_late, latest_time, verdict_at, watermark_refusal}
+use Rattle.wsm_admission.specs.Clock.{is_time, latest_time, watermark_refusal}
 use Rattle.wsm_admission.specs.Admission as admission
 use Rattle.wsm_admission.specs.Admission.{answer, decision, IsInRange}
 use Rattle.wsm_admission.proofs.Taken.{IsTaken, taken_record, accepted_watermark}
 use Rattle.wsm_semantics.specs.declared.place.Place.{Place}
-use Rattle.wsm_semantics.specs.Panes.{place_cmp, at, window_of}
+use Rattle.wsm_semantics.specs.Panes.{place_cmp, at}
 use Rattle.wsm_semantics.proofs.Fixed.{fixed_one}
 use Rattle.wsm_panes.specs.declared.pane.Pane.{Pane}
 use Rattle.std.specs.FinMap as map
 use Rattle.wsm_panes.proofs.Tables.{map_of-nil, entries_are}
-use Rattle.wsm_engine.specs.Machine.{State, room_of, answer_to}
+use Rattle.wsm_engine.specs.Machine.{State, room_of}
 use Rattle.wsm_engine.specs.Held.{Limits, IsHeldPlace, IsHeldPane, CanEnter, IsKept, IsFirable, limits_of, room_within}
 use Rattle.wsm_engine.proofs.Bound.{at_most}
 use Rattle.wsm_engine.proofs.Entering.{places}

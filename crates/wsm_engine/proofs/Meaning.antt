@@ -1,19 +1,17 @@
 -- A turn of what an engine keeps fits the history with its event, and answers as the meaning does.
-use Rattle.std.proofs.Common.{◌≡◌, ◌<◌, ◌+◌, ℕ, List, [], ◌∷◌, Option, Some, None, length, ℤ, pos, refl, sym, ap, subst, ◌∙◌, arith}
+use Rattle.std.proofs.Common.{◌≡◌, ◌<◌, ℕ, List, ◌∷◌, Option, Some, None, length, ℤ, pos, refl, sym, ap, subst, ◌∙◌, arith}
 use Rattle.std.specs.Prelude.{Ok, Err, Result, IsSome, unsigned_abs, ◌≤ℤ◌}
 use Rattle.std.proofs.lemmas.Int.{ints}
-use Rattle.wsm_record.specs.declared.event.Value.{Value}
 use Rattle.wsm_record.specs.Event.{Event, Record, Watermark}
 use Rattle.wsm_windows.specs.declared.window.Shape.{Shape}
 use Rattle.wsm_windows.specs.declared.window.Shape.TheVariants.{Fixed}
 use Rattle.wsm_windows.specs.Windows.{size_of}
 use Rattle.wsm_admission.specs.declared.verdict.Admitted.{Admitted}
-use Rattle.wsm_admission.specs.declared.verdict.Admitted.TheVariants as admitted
 use Rattle.wsm_admission.specs.declared.verdict.Refusal.{Refusal}
 use Rattle.wsm_admission.specs.declared.verdict.Refusal.TheVariants as refusal
 use Rattle.wsm_admission.specs.Admission as admission
 use Rattle.wsm_admission.specs.Admission.{answer, after}
-use Rattle.wsm_semantics.specs.Query.{Query, Datum, mark, verdict_on}
+use Rattle.wsm_semantics.specs.Query.{mark, verdict_on}
 use Rattle.wsm_semantics.specs.Firings.{firings}
 use Rattle.wsm_semantics.specs.Relation.{turn_rows}
 use Rattle.wsm_semantics.specs.Machine as machine
@@ -25,7 +23,7 @@ use Rattle.wsm_engine.specs.Machine.{State, turn, answer_to, reply_to, refusal_o
 use Rattle.wsm_engine.specs.Held.{IsKept}
 use Rattle.wsm_engine.specs.Meaning.{query_of, Fits}
 use Rattle.wsm_engine.proofs.Keeping.{some_size}
-use Rattle.wsm_engine.proofs.Turning.{turn_by, turn_is}
+use Rattle.wsm_engine.proofs.Turning.{turn_is}
 
 -- the plan runs the query
 runs : (s : State) → Runs plan summary (query_of s)

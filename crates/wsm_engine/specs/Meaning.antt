@@ -1,5 +1,5 @@
 -- What an engine means: the query that it runs, and how it fits a history.
-use Rattle.std.specs.Prelude.{ℕ, List, length}
+use Rattle.std.specs.Prelude.{List, length}
 use Rattle.wsm_record.specs.Event.{Event}
 use Rattle.wsm_windows.specs.Windows.{size_of}
 use Rattle.wsm_admission.specs.Clock.{admitted_count, late_count, refused_count}

@@ -13,3 +13,5 @@ mod engine;
 mod panes;
 mod plan;
 mod reply;
+#[cfg(test)]
+mod tests;

@@ -1,4 +1,4 @@
-use Rattle.std.proofs.Common.{◌≡◌, ◌∙◌, ap, sym, SFits, w64, to_z-of_z, length, ◌-ℤ◌, arith}
+use Rattle.std.proofs.Common.{◌∙◌, ap, SFits, w64, to_z-of_z, length, ◌-ℤ◌, arith}
 use Rattle.std.proofs.lemmas.Int.{ints, fits_signed_from_abs}
 use Rattle.std.specs.FinMap as map
 use Rattle.wsm_panes.proofs.Tables.{entries_kept}

@@ -1,7 +1,5 @@
-use Rattle.std.proofs.Common.{◌≡◌, ◌∷◌, ◌+◌, ℕ, [], length, ap, sym, ◌∙◌, arith}
+use Rattle.std.proofs.Common.{◌≡◌, ◌+◌, length, sym, ◌∙◌, arith}
 use Rattle.std.specs.FinMap as map
-use Rattle.std.specs.List.{AllByRecursion}
-use Rattle.wsm_engine.specs.Held.{Limits, CanEnter, IsHeldPane}
 use Rattle.wsm_engine.proofs.Entering.{has_room, has_count, can_go_on, room_for}
 use Rattle.wsm_engine.proofs.panes.enter_all.Goals as goal
 

@@ -1,5 +1,4 @@
-use Rattle.std.proofs.Common.{◌≡◌, ◌<ℤ◌, ◌≤◌, ◌+◌, [], drop, length, SFits, w64, to_z-of_z, sym, ap, ◌∙◌, arith, false}
-use Rattle.std.proofs.lemmas.Int.{ints}
+use Rattle.std.proofs.Common.{◌≡◌, ◌≤◌, length, SFits, w64, to_z-of_z, sym, ap, ◌∙◌, arith, false}
 use Rattle.std.specs.FinMap as map
 use Rattle.std.proofs.lemmas.List.{drop_all}
 use Rattle.wsm_windows.specs.Life.{is_due}

@@ -1,9 +1,9 @@
-use Rattle.std.proofs.Common.{ap, ◌∙◌, ◌≤◌, ◌≡◌, length, arith}
+use Rattle.std.proofs.Common.{ap, ◌∙◌, ◌≡◌, length}
 use Rattle.std.specs.FinMap as map
 use Rattle.wsm_engine.specs.Engine.{state_of}
 use Rattle.wsm_semantics.proofs.Steps.{panes-fit}
 use Rattle.wsm_engine.specs.Plan.{summary}
-use Rattle.wsm_engine.specs.Machine.{State, machine_of, room_of}
+use Rattle.wsm_engine.specs.Machine.{State, machine_of}
 use Rattle.wsm_engine.specs.Meaning.{query_of}
 use Rattle.wsm_engine.proofs.Keeping.{held_within}
 use Rattle.wsm_engine.proofs.engine.Engine.held.Goals as goal

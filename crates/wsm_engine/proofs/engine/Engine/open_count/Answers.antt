@@ -1,4 +1,4 @@
-use Rattle.std.proofs.Common.{◌≡◌, [], ap, sym, subst, ◌∙◌, arith, SFits, w64, to_z-of_z, refl, pos}
+use Rattle.std.proofs.Common.{[], ap, sym, subst, arith, SFits, w64, to_z-of_z, refl}
 use Rattle.std.proofs.lemmas.Int.{ints, fits_signed_from_abs}
 use Rattle.wsm_panes.specs.Table.{Table}
 use Rattle.wsm_semantics.specs.Counting.{count_query}

@@ -1,4 +1,4 @@
-use Rattle.std.proofs.Common.{◌≡◌, ◌≤◌, ◌+◌, ◌-ℤ◌, ℤ, pos, List, Some, None, refl, length, ap, sym, ◌∙◌, arith, SFits, w64, to_z-of_z}
+use Rattle.std.proofs.Common.{◌≡◌, ◌≤◌, ◌+◌, ◌-ℤ◌, List, Some, None, refl, length, ap, sym, ◌∙◌, arith, SFits, w64, to_z-of_z}
 use Rattle.std.specs.Prelude.{ℕ, Ok, filter_map}
 use Rattle.std.specs.FinMap as map
 use Rattle.std.proofs.lemmas.Int.{ints, fits_signed_from_abs}
@@ -12,7 +12,7 @@ use Rattle.wsm_admission.specs.Admission.{after, counter}
 use Rattle.wsm_semantics.specs.Machine.{entered, past_limit, due, row_on_time}
 use Rattle.wsm_engine.specs.Plan.{plan}
 use Rattle.wsm_engine.specs.Engine.{state_of}
-use Rattle.wsm_engine.specs.Machine.{State, answer_to, record_of, turn}
+use Rattle.wsm_engine.specs.Machine.{answer_to, record_of, turn}
 use Rattle.wsm_engine.specs.Held.{limits_of}
 use Rattle.wsm_engine.proofs.Keeping.{held_within, can_enter, one, record_taken, watermark_answer, all_firable, kept_on, fits_time}
 use Rattle.wsm_engine.proofs.Turning.{turn_is, turn_by, record_is, no_record_turn, same_state}
