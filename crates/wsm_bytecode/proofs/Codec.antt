@@ -1,12 +1,12 @@
 -- What was spelled is read again: instructions, sections and whole programs.
-use Rattle.std.proofs.Common.{lit<, leb, ◌≡◌, ℕ, zero, suc, ◌<◌, ◌≤◌, Bool, true, false, ltb, ◌&&◌, not, List, [], ◌∷◌, ◌++◌, length, ℤ, pos, Option, Some, None, is_some, Ok, refl, sym, ap, ◌∙◌, append_assoc, append-nil, arith}
+use Rattle.std.proofs.Common.{lit<, leb, ◌≡◌, ℕ, zero, suc, ◌<◌, ◌≤◌, true, false, ltb, ◌&&◌, not, List, [], ◌∷◌, ◌++◌, length, ℤ, pos, Option, Some, None, is_some, Ok, refl, sym, ap, ◌∙◌, append_assoc, append-nil, arith}
 use Rattle.std.specs.Prelude.{◌==◌, slice_get}
 use Rattle.std.specs.List.{list_all, flat_map}
 use Rattle.std.specs.Int.{w8, w16}
 use Rattle.std.proofs.lemmas.Bool.{true≢false, ltb-true, leb-true, le-leb, and_parts, and_from}
 use Rattle.wsm_bytecode.specs.declared.instr.Instr.{Instr}
 use Rattle.wsm_bytecode.specs.declared.instr.Instr.TheVariants.{PushInt, PushBool, PushEnum, Field, Key, Acc, Count, Add, Sub, Mul, Div, Rem, Neg, Eq, Ne, Lt, Le, Gt, Ge, Not, Jump, JumpIfFalse, Fold, Return}
-use Rattle.wsm_bytecode.specs.Program.{Name, names_of_type, names_of_field, is_name_list, are_names_after, is_field_after, are_fields_after, is_field_type, Header, Program, is_name_of, is_schema, is_instr, is_section, is_header, is_program, enum_names, is_within, latest_time, is_span, is_size, is_shape, is_form_of, is_column, is_budget}
+use Rattle.wsm_bytecode.specs.Program.{Name, names_of_type, names_of_field, is_name_list, are_names_after, is_field_after, are_fields_after, is_field_type, Header, Program, is_name_of, is_schema, is_instr, is_section, is_header, is_clock, is_firing, is_row, is_program, enum_names, is_within, latest_time, is_span, is_size, is_shape, is_form_of, is_column, is_budget}
 use Rattle.wsm_record.specs.Schema.{FieldType, Int, Truth, Enum, DeclaredField, Declared}
 use Rattle.wsm_record.specs.Name.{is_name, is_among, is_between}
 use Rattle.wsm_bytecode.specs.Reading.{judged, number_at, signed_at, enum_number_at, push_int_at, push_bool_at, push_enum_at, index_at, target_at, plain_instr, instr_by, instr_at, code_at, several, after_magic, after_version, schema_at, shape_at, mode_at, form_at, kinds_at, columns_at, budget_at, header_at, program_at, decode}
@@ -145,7 +145,7 @@ names_below s (suc f) i h good =
     let a = and_parts (is_name_list s.keys) (leb (length s.fields) 16 && are_fields_after [] s.fields) h in
     fields_below [] s.fields f i (and_parts (leb (length s.fields) 16) (are_fields_after [] s.fields) a.1).1 good
 
-few_fields : (s : Declared) → is_schema s ≡ true → leb (length s.fields) 16 ≡ true
+pub few_fields : (s : Declared) → is_schema s ≡ true → leb (length s.fields) 16 ≡ true
 unfolding is_schema
 few_fields s h =
     let a = and_parts (is_name_list s.keys) (leb (length s.fields) 16 && are_fields_after [] s.fields) h in
@@ -175,29 +175,22 @@ pub record HeaderParts (h : Header) : Type 0 where
   pub columns : list_all (is_column h.schema) h.columns ≡ true
   pub budget : is_budget h.budget ≡ true
 
-twelve : (a b c d e f g h i j k l m : Bool) → (a && (b && (c && (d && (e && (f && (g && (h && (i && (j && (k && (l && m)))))))))))) ≡ true
-    → (a ≡ true) × (b ≡ true) × (c ≡ true) × (d ≡ true) × (e ≡ true) × (f ≡ true) × (g ≡ true) × (h ≡ true) × (i ≡ true) × (j ≡ true) × (k ≡ true) × (l ≡ true) × (m ≡ true)
-twelve a b c d e f g h i j k l m p =
-    let q1 = and_parts a (b && (c && (d && (e && (f && (g && (h && (i && (j && (k && (l && m))))))))))) p in
-    let q2 = and_parts b (c && (d && (e && (f && (g && (h && (i && (j && (k && (l && m)))))))))) q1.1 in
-    let q3 = and_parts c (d && (e && (f && (g && (h && (i && (j && (k && (l && m))))))))) q2.1 in
-    let q4 = and_parts d (e && (f && (g && (h && (i && (j && (k && (l && m)))))))) q3.1 in
-    let q5 = and_parts e (f && (g && (h && (i && (j && (k && (l && m))))))) q4.1 in
-    let q6 = and_parts f (g && (h && (i && (j && (k && (l && m)))))) q5.1 in
-    let q7 = and_parts g (h && (i && (j && (k && (l && m))))) q6.1 in
-    let q8 = and_parts h (i && (j && (k && (l && m)))) q7.1 in
-    let q9 = and_parts i (j && (k && (l && m))) q8.1 in
-    let q10 = and_parts j (k && (l && m)) q9.1 in
-    let q11 = and_parts k (l && m) q10.1 in
-    let q12 = and_parts l m q11.1 in
-    (q1.0, q2.0, q3.0, q4.0, q5.0, q6.0, q7.0, q8.0, q9.0, q10.0, q11.0, q12.0, q12.1)
-
-header_parts : (h : Header) → is_header h ≡ true → HeaderParts h
-unfolding is_schema is_header
+pub header_parts : (h : Header) → is_header h ≡ true → HeaderParts h
+unfolding is_header
 header_parts h e =
-    let p = twelve (is_schema h.schema) (is_within (pos 0) latest_time h.start) (is_span h.skew) (is_span h.lateness) (is_size h.records) (is_shape h.shape) (is_span h.early) (is_span h.late) (is_form_of h.mode h.form)
-    (leb (length h.kinds) 16) (is_between 1 16 (length h.columns)) (list_all (is_column h.schema) h.columns) (is_budget h.budget) e in
-    record { schema = p.0; start = p.1; skew = p.2; lateness = p.3; records = p.4; shape = p.5; early = p.6; late = p.7; form = p.8; kinds = p.9; count = p.10; columns = p.11; budget = p.12 }
+    let p = and_parts (is_schema h.schema) (is_clock h && (is_firing h && (is_row h && is_budget h.budget))) e in
+    let q = and_parts (is_clock h) (is_firing h && (is_row h && is_budget h.budget)) p.1 in
+    let r = and_parts (is_firing h) (is_row h && is_budget h.budget) q.1 in
+    let s = and_parts (is_row h) (is_budget h.budget) r.1 in
+    let c1 = and_parts (is_within (pos 0) latest_time h.start) (is_span h.skew && (is_span h.lateness && is_size h.records)) q.0 in
+    let c2 = and_parts (is_span h.skew) (is_span h.lateness && is_size h.records) c1.1 in
+    let c3 = and_parts (is_span h.lateness) (is_size h.records) c2.1 in
+    let f1 = and_parts (is_shape h.shape) (is_span h.early && (is_span h.late && is_form_of h.mode h.form)) r.0 in
+    let f2 = and_parts (is_span h.early) (is_span h.late && is_form_of h.mode h.form) f1.1 in
+    let f3 = and_parts (is_span h.late) (is_form_of h.mode h.form) f2.1 in
+    let r1 = and_parts (leb (length h.kinds) 16) (is_between 1 16 (length h.columns) && list_all (is_column h.schema) h.columns) s.0 in
+    let r2 = and_parts (is_between 1 16 (length h.columns)) (list_all (is_column h.schema) h.columns) r1.1 in
+    record { schema = p.0; start = c1.0; skew = c2.0; lateness = c3.0; records = c3.1; shape = f1.0; early = f2.0; late = f3.0; form = f3.1; kinds = r1.0; count = r2.0; columns = r2.1; budget = s.1 }
 
 few_parts : (h : Header) → HeaderParts h → FewParts h
 few_parts h p = record { fields = few_fields h.schema p.schema; kinds = p.kinds; names = λ e i. names_below h.schema e i p.schema }

@@ -7,3 +7,6 @@ pub mod TakenProgram
 pub mod Loop
 pub mod NamesOf
 pub mod Reader
+pub mod Spelled
+pub mod Places
+pub mod Lines

@@ -77,9 +77,12 @@ fields_end e front names count i bytes total lt h so_far =
     let whole : with_front front (fields_after names (suc (count - (i + 1))) bytes) ≡ total = ap (λ k. with_front front (fields_after names k bytes)) (sym (one_less count i lt)) ∙ so_far in
     subst (λ (r : Read (List DeclaredField)). Fails e r) whole (stops e (new_field_at names bytes) (λ x. fields_after (names ++ x.name ∷ []) (count - (i + 1))) front h)
 
+pub among_named : {X : Type 0} (g : X → Name) (n : Name) (xs : List X) → is_among n (map g xs) ≡ list_any (λ x. bytes_eq n (g x)) xs
+among_named g n [] = refl
+among_named g n (x ∷ xs) = ap (λ b. bytes_eq n (g x) || b) (among_named g n xs)
+
 among_names : (n : Name) (fs : List Field) → is_among n (map (λ f. f.name) fs) ≡ list_any (λ f. bytes_eq n f.name) fs
-among_names n [] = refl
-among_names n (f ∷ fs) = ap (λ b. bytes_eq n f.name || b) (among_names n fs)
+among_names n fs = among_named (λ f. f.name) n fs
 
 -- the name of a new field, and what follows it
 pub new_field_named : (before : List Field) (bytes : List ℕ) (n : Name) (rest : List ℕ) → name_at bytes ≡ Ok (n, rest) → list_any (λ f. bytes_eq n f.name) before ≡ false

@@ -1,6 +1,6 @@
 -- What was spelled is read again: numbers and names.
 use Rattle.std.proofs.Common.{lit<, leb, ◌≡◌, ℕ, ◌^◌, ◌<◌, ◌≤◌, Bool, true, false, ltb, ◌&&◌, not, List, [], ◌∷◌, ◌++◌, length, ℤ, pos, negsuc, Ok, refl, sym, ap, ◌∙◌, append_assoc, arith, SFits}
-use Rattle.std.specs.Int.{Width, w8, w16, w64, byte_len, to_le_bytes, from_le_bytes, cast_unsigned}
+use Rattle.std.specs.Int.{Width, w8, w16, w64, byte_len, to_le_bytes, from_le_bytes, cast_signed, cast_unsigned}
 use Rattle.std.proofs.lemmas.Bool.{true≢false, le-ltb, leb-true, le-leb, and_parts, and_from}
 use Rattle.std.proofs.lemmas.List.{take_at, drop_at, length-append}
 use Rattle.std.proofs.lemmas.Int.{ints, to_z-of_z}
@@ -25,17 +25,24 @@ pub short_again : (n : ℕ) (rest : List ℕ) → n < 65536 → number_at w16 (n
 short_again n rest h = number_again w16 n rest refl (from_le_bytes-to_le_bytes_2 n h)
 
 pub long_again : (n : ℕ) (rest : List ℕ) → n < 2 ^ 64 → number_at w64 (long n ++ rest) ≡ Ok (n, rest)
+unfolding long
 long_again n rest h = number_again w64 n rest refl (from_le_bytes-to_le_bytes_8 n h)
 
-fits : (n : ℤ) → is_i64 n ≡ true → SFits w64 n
+pub fits : (n : ℤ) → is_i64 n ≡ true → SFits w64 n
 fits n h = grind (arith, ints)
 
 unsigned_fits : (n : ℤ) → is_i64 n ≡ true → cast_unsigned w64 n < 2 ^ 64
 unsigned_fits (pos n) h = grind (arith, ints)
 unsigned_fits (negsuc n) h = omega arith
 
+signed_step : (bytes : List ℕ) (n : ℕ) (rest : List ℕ) → number_at w64 bytes ≡ Ok (n, rest) → signed_at bytes ≡ Ok (cast_signed w64 n, rest)
+signed_step bytes n rest e = rw e refl
+
 pub signed_again : (n : ℤ) (rest : List ℕ) → is_i64 n ≡ true → signed_at (signed n ++ rest) ≡ Ok (n, rest)
-signed_again n rest h = rw (long_again (cast_unsigned w64 n) rest (unsigned_fits n h), to_z-of_z w64 n (fits n h)) refl
+unfolding signed long
+signed_again n rest h =
+    signed_step (long (cast_unsigned w64 n) ++ rest) (cast_unsigned w64 n) rest (long_again (cast_unsigned w64 n) rest (unsigned_fits n h))
+    ∙ ap (λ (m : ℤ). Ok (m, rest)) (to_z-of_z w64 n (fits n h))
 
 pub judged_again : {A : Type 0} (good : A → Bool) (read : Read A) (x : A) (rest : List ℕ) → read ≡ Ok (x, rest) → good x ≡ true → judged good read ≡ Ok (x, rest)
 judged_again good read x rest e g = rw (e, g) refl
@@ -46,7 +53,7 @@ word_is_some : (n : Name) → is_word n ≡ true → 1 ≤ length n
 word_is_some [] e = absurd (true≢false (sym e))
 word_is_some (c ∷ cs) e = omega arith
 
-name_is_short : (n : Name) → is_name n ≡ true → is_between 1 32 (length n) ≡ true
+pub name_is_short : (n : Name) → is_name n ≡ true → is_between 1 32 (length n) ≡ true
 name_is_short n e =
     let a = and_parts (is_word n) (leb (length n) name_limit && not (is_reserved n)) e in
     let b = and_parts (leb (length n) name_limit) (not (is_reserved n)) a.1 in

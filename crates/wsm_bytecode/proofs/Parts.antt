@@ -88,6 +88,7 @@ unfolding field_type_at
 type_step bytes tag mid t rest e f = rw (e, f) refl
 
 pub field_type_again : (t : FieldType) (rest : List ℕ) → is_field_type t ≡ true → field_type_at (field_type t ++ rest) ≡ Ok (t, rest)
+unfolding signed
 field_type_again (Int lo hi) rest h =
     let a = and_parts (is_i64 lo) (is_i64 hi && int_le lo hi) h in
     let b = and_parts (is_i64 hi) (int_le lo hi) a.1 in
@@ -143,7 +144,7 @@ schema_again s rest h =
 le_through : (a b c : ℤ) → int_le a b ≡ true → int_le b c ≡ true → int_le a c ≡ true
 le_through a b c p q = grind (arith, ints)
 
-is_i64_within : (lo hi n : ℤ) → int_le (negsuc 9223372036854775807) lo ≡ true → int_le hi (pos 9223372036854775807) ≡ true → is_within lo hi n ≡ true → is_i64 n ≡ true
+pub is_i64_within : (lo hi n : ℤ) → int_le (negsuc 9223372036854775807) lo ≡ true → int_le hi (pos 9223372036854775807) ≡ true → is_within lo hi n ≡ true → is_i64 n ≡ true
 is_i64_within lo hi n p q h =
     let a = and_parts (int_le lo n) (int_le n hi) h in
     and_from _ _ (le_through (negsuc 9223372036854775807) lo n p a.0) (le_through n hi (pos 9223372036854775807) a.1 q)
@@ -174,6 +175,7 @@ unfolding sliding_at
 sliding_step bytes n d mid rest e f = rw (e, f) refl
 
 pub shape_again : (s : Shape) (rest : List ℕ) → is_shape s ≡ true → shape_at (shape s ++ rest) ≡ Ok (s, rest)
+unfolding signed
 shape_again (Fixed n) rest h =
     let mid = signed n ++ rest in
     shape_step (byte 0 ++ mid) 0 mid (Fixed n) rest (tag_again 0 2 0 mid (lit< tt) refl) (fixed_step mid n rest (size_again n rest h))
@@ -289,6 +291,7 @@ unfolding budget_at
 budget_step bytes b mid next rest e f g = rw (e, f, g) refl
 
 pub budget_again : (b : Budget) (rest : List ℕ) → is_budget b ≡ true → budget_at (budget b ++ rest) ≡ Ok (b, rest)
+unfolding long
 budget_again b rest h =
     let a = and_parts (is_stated b.per_record) (is_stated b.per_pane && is_between 1 100000 b.held) h in
     let c = and_parts (is_stated b.per_pane) (is_between 1 100000 b.held) a.1 in

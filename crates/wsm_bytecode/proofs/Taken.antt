@@ -110,6 +110,7 @@ fits_is_i64 (pos n) h = grind (arith, h.sfits)
 fits_is_i64 (negsuc n) h = grind (arith, h.sfits)
 
 pub signed_taken : Exact signed_at signed is_i64
+unfolding signed
 signed_taken bytes x fits e =
     let b = bind_ok (number_at w64 bytes) (λ n. Ok (cast_signed w64 n.0, n.1)) x e in
     let t = number_taken w64 (2 ^ 64) wide64 bytes b.0 fits b.1 in

@@ -88,7 +88,7 @@ after_tag spell good bytes t x e h = record { parts = e ∙ h.parts; fits = h.fi
 -- ---- fields
 
 interval_taken : (bytes : List ℕ) (x : FieldType × List ℕ) → IsBytes bytes → interval_at bytes ≡ Ok x → Took field_type is_field_type (byte 0 ++ bytes) x
-unfolding interval_at
+unfolding interval_at signed
 interval_taken bytes x fits e =
     let a = bind_ok (signed_at bytes) (λ lo. judged (λ hi. int_le lo.0 hi) (signed_at lo.1) >>= λ hi. Ok (Int lo.0 hi.0, hi.1)) x e in
     let b = bind_ok (judged (λ hi. int_le a.0.0 hi) (signed_at a.0.1)) (λ hi. Ok (Int a.0.0 hi.0, hi.1)) x a.2 in
@@ -207,7 +207,7 @@ session_taken bytes x fits e =
     subst (λ y. Took shape is_shape (byte 2 ++ bytes) y) (ok_is made x a.2) (record { parts = ap (λ r. byte 2 ++ r) t.parts; fits = t.fits; good = t.good })
 
 sliding_taken : (bytes : List ℕ) (x : Shape × List ℕ) → IsBytes bytes → sliding_at bytes ≡ Ok x → Took shape is_shape (byte 1 ++ bytes) x
-unfolding sliding_at
+unfolding sliding_at signed
 sliding_taken bytes x fits e =
     let a = bind_ok (judged is_size (signed_at bytes)) (λ n. judged (is_within (pos 1) n.0) (signed_at n.1) >>= λ d. Ok (Sliding n.0 d.0, d.1)) x e in
     let b = bind_ok (judged (is_within (pos 1) a.0.0) (signed_at a.0.1)) (λ d. Ok (Sliding a.0.0 d.0, d.1)) x a.2 in
@@ -332,13 +332,14 @@ columns_taken s bytes x fits e =
 -- ---- the stated numbers
 
 long_taken : (test : ℕ → Bool) (bytes : List ℕ) (x : ℕ × List ℕ) → IsBytes bytes → judged test (number_at w64 bytes) ≡ Ok x → Took long test bytes x
+unfolding long
 long_taken test bytes x fits e =
     let j = judged_ok test (number_at w64 bytes) x e in
     let t = number_taken w64 (2 ^ 64) wide64 bytes x fits j.0 in
     record { parts = t.parts; fits = t.fits; good = j.1 }
 
 pub budget_taken : Exact budget_at budget is_budget
-unfolding budget_at
+unfolding budget_at long
 budget_taken bytes x fits e =
     let a = bind_ok (judged is_stated (number_at w64 bytes)) (λ p. judged is_stated (number_at w64 p.1) >>= λ q. judged (is_between 1 100000) (number_at w64 q.1) >>= λ h. Ok (record { per_record = p.0; per_pane = q.0; held = h.0 }, h.1)) x e in
     let b = bind_ok (judged is_stated (number_at w64 a.0.1)) (λ q. judged (is_between 1 100000) (number_at w64 q.1) >>= λ h. Ok (record { per_record = a.0.0; per_pane = q.0; held = h.0 }, h.1)) x a.2 in

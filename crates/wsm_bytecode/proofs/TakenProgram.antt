@@ -1,5 +1,5 @@
 -- What was read is what was spelled: instructions, sections and whole programs.
-use Rattle.std.proofs.Common.{Option, None, Some, leb, ◌≡◌, ℕ, zero, suc, ◌≤◌, Bool, true, false, cond, ltb, ◌&&◌, List, [], ◌∷◌, ◌++◌, length, ℤ, pos, Result, Ok, Err, refl, sym, ap, subst, ◌∙◌, append-nil, arith}
+use Rattle.std.proofs.Common.{Option, None, Some, ◌≡◌, ℕ, zero, suc, ◌≤◌, Bool, true, false, cond, ltb, List, [], ◌∷◌, ◌++◌, length, ℤ, pos, Result, Ok, Err, refl, sym, ap, subst, ◌∙◌, append-nil, arith}
 use Rattle.std.specs.Prelude.{◌==◌, bytes_eq}
 use Rattle.std.specs.List.{list_all, flat_map}
 use Rattle.std.specs.Int.{w8, w16}
@@ -15,7 +15,7 @@ use Rattle.wsm_record.specs.declared.Form.{Form}
 use Rattle.wsm_bytecode.specs.declared.instr.Instr.TheVariants.{PushInt, PushBool, PushEnum, Field, Key, Acc, Count, Add, Sub, Mul, Div, Rem, Neg, Eq, Ne, Lt, Le, Gt, Ge, Not, Jump, JumpIfFalse, Fold, Return}
 use Rattle.wsm_record.specs.Schema.{Declared}
 use Rattle.wsm_bytecode.specs.declared.program.Budget.{Budget}
-use Rattle.wsm_bytecode.specs.Program.{Header, Program, is_name_of, is_schema, is_instr, is_section, is_header, is_program, enum_names, is_within, latest_time, is_span, is_size, is_shape, is_form_of, is_column, is_budget}
+use Rattle.wsm_bytecode.specs.Program.{Header, Program, is_name_of, is_schema, is_instr, is_section, is_header, is_program, enum_names, is_within, latest_time, is_span, is_size, is_column}
 use Rattle.wsm_record.specs.Name.{is_between}
 use Rattle.wsm_bytecode.specs.Reading.{◌>>=◌, Read, judged, number_at, signed_at, enum_number_at, push_int_at, push_bool_at, push_enum_at, index_at, target_at, plain_instr, plain_at, instr_by, instr_at, code_at, several, after_magic, after_version, bytes_at, schema_at, shape_at, mode_at, form_at, kinds_at, columns_at, budget_at, header_at, program_at, all_read, decode}
 use Rattle.wsm_bytecode.specs.Spelling.{byte, number, signed, truth, instr, code, magic, header, schema, shape, mode, form, kinds, columns, budget, spelling}
@@ -187,12 +187,6 @@ version_taken bytes rest fits e =
     let t = byte_taken bytes b.0 fits b.1 in
     subst (λ y. (bytes ≡ byte 1 ++ y) × IsBytes y) g.1 (t.parts ∙ ap (λ n. byte n ++ b.0.1) (eqb-true b.0.0 1 g.0), t.fits)
 
-twelve_from : (a b c d e f g h i j k l m : Bool) → a ≡ true → b ≡ true → c ≡ true → d ≡ true → e ≡ true → f ≡ true → g ≡ true → h ≡ true → i ≡ true → j ≡ true → k ≡ true → l ≡ true → m ≡ true
-    → (a && (b && (c && (d && (e && (f && (g && (h && (i && (j && (k && (l && m)))))))))))) ≡ true
-twelve_from true b c d e f g h i j k l m p1 p2 p3 p4 p5 p6 p7 p8 p9 p10 p11 p12 p13 =
-    and_from _ _ p2 (and_from _ _ p3 (and_from _ _ p4 (and_from _ _ p5 (and_from _ _ p6 (and_from _ _ p7 (and_from _ _ p8 (and_from _ _ p9 (and_from _ _ p10 (and_from _ _ p11 (and_from _ _ p12 p13))))))))))
-twelve_from false b c d e f g h i j k l m p1 p2 p3 p4 p5 p6 p7 p8 p9 p10 p11 p12 p13 = absurd (true≢false (sym p1))
-
 abbrev header_done : Header × List ℕ → Read Header
 header_done x = Ok x
 
@@ -258,9 +252,10 @@ header_from bytes x v_m v_version v_schema v_start v_skew v_lateness v_records v
     (record {
       parts = header_joined made.0 bytes v_m v_version v_schema.1 v_start.1 v_skew.1 v_lateness.1 v_records.1 v_shape.1 v_mode.1 v_early.1 v_late.1 v_form.1 v_kinds.1 v_columns.1 v_budget.1 t0.0 t1.0 t2.parts t3.parts t4.parts t5.parts t6.parts t7.parts t8.parts t9.parts t10.parts t11.parts t12.parts t13.parts t14.parts;
       fits = t14.fits;
-      good = twelve_from (is_schema v_schema.0) (is_within (pos 0) latest_time v_start.0) (is_span v_skew.0) (is_span v_lateness.0) (is_size v_records.0) (is_shape v_shape.0) (is_span v_early.0) (is_span v_late.0) (is_form_of v_mode.0 v_form.0)
-          (leb (length v_kinds.0) 16) (is_between 1 16 (length v_columns.0)) (list_all (is_column v_schema.0) v_columns.0) (is_budget v_budget.0)
-          t2.good t3.good t4.good t5.good t6.good t7.good t9.good t10.good t11.good t12.good c.0 c.1 t14.good;
+      good = and_from _ _ t2.good
+          (and_from _ _ (and_from _ _ t3.good (and_from _ _ t4.good (and_from _ _ t5.good t6.good)))
+          (and_from _ _ (and_from _ _ t7.good (and_from _ _ t9.good (and_from _ _ t10.good t11.good)))
+          (and_from _ _ (and_from _ _ t12.good (and_from _ _ c.0 c.1)) t14.good)));
     })
 
 bind_then : {A B P : Type 0} (r : Result A DecodeRefusal) (f : A → Result B DecodeRefusal) (y : B) → (r >>= f) ≡ Ok y → ((x : A) → r ≡ Ok x → f x ≡ Ok y → P) → P

@@ -139,12 +139,19 @@ is_stated n = is_between 1 1000000000000000000 n
 abbrev pub is_budget : Budget → Bool
 is_budget b = is_stated b.per_record && (is_stated b.per_pane && is_between 1 100000 b.held)
 
+abbrev pub is_clock : Header → Bool
+is_clock h = is_within (pos 0) latest_time h.start && (is_span h.skew && (is_span h.lateness && is_size h.records))
+
+-- when panes fire, and what is written
+abbrev pub is_firing : Header → Bool
+is_firing h = is_shape h.shape && (is_span h.early && (is_span h.late && is_form_of h.mode h.form))
+
+-- what a pane keeps, and what its row has
+abbrev pub is_row : Header → Bool
+is_row h = nat_le (length h.kinds) 16 && (is_between 1 16 (length h.columns) && list_all (is_column h.schema) h.columns)
+
 unfoldable pub is_header : Header → Bool
-is_header h = is_schema h.schema
-    && (is_within (pos 0) latest_time h.start && (is_span h.skew && (is_span h.lateness && (is_size h.records
-    && (is_shape h.shape && (is_span h.early && (is_span h.late && (is_form_of h.mode h.form
-    && (nat_le (length h.kinds) 16 && (is_between 1 16 (length h.columns) && (list_all (is_column h.schema) h.columns
-    && is_budget h.budget)))))))))))
+is_header h = is_schema h.schema && (is_clock h && (is_firing h && (is_row h && is_budget h.budget)))
 
 abbrev pub is_name_of : Option (List Name) → ℕ → Bool
 is_name_of None i = false

@@ -24,11 +24,11 @@ byte n = to_le_bytes w8 n
 abbrev pub number : ℕ → List ℕ
 number n = to_le_bytes w16 n
 
-abbrev pub long : ℕ → List ℕ
+unfoldable pub long : ℕ → List ℕ
 long n = to_le_bytes w64 n
 
 -- in two's complement
-abbrev pub signed : ℤ → List ℕ
+unfoldable pub signed : ℤ → List ℕ
 signed n = to_le_bytes w64 (cast_unsigned w64 n)
 
 abbrev pub name : Name → List ℕ

@@ -1,10 +1,13 @@
 -- The lines of the disassembly.
-use Rattle.std.specs.Prelude.{ℕ, suc, true, false, List, [], ◌∷◌, ◌++◌, map, ℤ, pos, codes}
+use Rattle.std.specs.Prelude.{ℕ, suc, List, [], ◌∷◌, ◌++◌, map, ℤ, pos, codes}
 use Rattle.std.specs.List.{flat_map, join_with_byte}
 use Rattle.std.specs.Fmt.{signed_decimal}
 use Rattle.wsm_bytecode.specs.declared.instr.Instr.{Instr}
 use Rattle.wsm_bytecode.specs.declared.instr.Instr.TheVariants.{PushInt, PushBool, PushEnum, Field, Key, Acc, Count, Add, Sub, Mul, Div, Rem, Neg, Eq, Ne, Lt, Le, Gt, Ge, Not, Jump, JumpIfFalse, Fold, Return}
+use Rattle.wsm_bytecode.specs.declared.instr.SectionId.{SectionId}
+use Rattle.wsm_bytecode.specs.declared.instr.SectionId.TheVariants.{Where, Update, Fire}
 use Rattle.wsm_bytecode.specs.Program.{Program}
+use Rattle.wsm_bytecode.specs.Spelling.{truth}
 
 -- a word of a line: letters, or a number in decimal
 pub data Word : Type 0 where
@@ -21,8 +24,7 @@ with_one bytes n = Letters bytes ∷ Number (pos n) ∷ []
 -- the name and the operands
 abbrev pub instr_words : Instr → List Word
 instr_words (PushInt n) = Letters (codes "PUSHI") ∷ Number n ∷ []
-instr_words (PushBool false) = with_one (codes "PUSHB") 0
-instr_words (PushBool true) = with_one (codes "PUSHB") 1
+instr_words (PushBool b) = with_one (codes "PUSHB") (truth b)
 instr_words (PushEnum e i) = Letters (codes "PUSHE") ∷ Number (pos e) ∷ Number (pos i) ∷ []
 instr_words (Field f) = with_one (codes "FIELD") f
 instr_words Key = word (codes "KEY")
@@ -51,8 +53,13 @@ abbrev pub section_lines : List ℕ → ℕ → List Instr → List (List Word)
 section_lines name place [] = []
 section_lines name place (i ∷ is) = (Letters name ∷ Number (pos place) ∷ instr_words i) ∷ section_lines name (suc place) is
 
+abbrev pub section_name : SectionId → List ℕ
+section_name Where = codes "where"
+section_name Update = codes "update"
+section_name Fire = codes "fire"
+
 abbrev pub lines : Program → List (List Word)
-lines p = section_lines (codes "where") 0 p.selection ++ section_lines (codes "update") 0 p.update ++ section_lines (codes "fire") 0 p.fire
+lines p = section_lines (section_name Where) 0 p.selection ++ section_lines (section_name Update) 0 p.update ++ section_lines (section_name Fire) 0 p.fire
 
 abbrev pub word_text : Word → List ℕ
 word_text (Letters bytes) = bytes
@@ -63,5 +70,14 @@ abbrev pub line_text : List Word → List ℕ
 line_text ws = join_with_byte 32 (map word_text ws)
 
 -- each line ended by one line feed
-abbrev pub text : Program → List ℕ
-text p = flat_map (λ l. line_text l ++ 10 ∷ []) (lines p)
+abbrev pub lines_text : List (List Word) → List ℕ
+lines_text ls = flat_map (λ l. line_text l ++ 10 ∷ []) ls
+
+unfoldable pub text : Program → List ℕ
+text p = lines_text (lines p)
+
+abbrev pub section_text : SectionId → ℕ → List Instr → List ℕ
+section_text id place instrs = lines_text (section_lines (section_name id) place instrs)
+
+abbrev pub instr_text : Instr → List ℕ
+instr_text i = line_text (instr_words i)

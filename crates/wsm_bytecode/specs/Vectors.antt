@@ -11,7 +11,7 @@ use Rattle.wsm_bytecode.specs.declared.instr.Instr.TheVariants.{PushBool, Field,
 use Rattle.wsm_bytecode.specs.declared.refusal.DecodeRefusal.{DecodeRefusal}
 use Rattle.wsm_bytecode.specs.declared.refusal.DecodeRefusal.TheVariants.{BadMagic, Version, Truncated, UnknownOpcode, Operand, TrailingBytes}
 use Rattle.wsm_bytecode.specs.Program.{Program, is_schema, is_header, is_section, is_program}
-use Rattle.wsm_bytecode.specs.Spelling.{schema, header, instr, code, spelling}
+use Rattle.wsm_bytecode.specs.Spelling.{long, signed, schema, header, instr, code, spelling}
 use Rattle.wsm_bytecode.specs.Reading.{name_at, names_at, interval_at, enum_at, field_type_at, new_field_at, schema_at, fixed_at, sliding_at, session_at, shape_at, mode_at, form_at, kind_at, kinds_at, enum_number_at, enum_column_at, column_at, columns_at, budget_at, after_magic, after_version, header_at, push_int_at, push_bool_at, push_enum_at, index_at, target_at, plain_instr, instr_by, instr_at, code_at, program_at, decode}
 use Rattle.wsm_bytecode.specs.Text.{Letters, Number, lines}
 
@@ -68,7 +68,7 @@ base_length : length base_bytes ≡ 139
 base_length = refl
 
 base_spelled : spelling base ≡ base_bytes
-unfolding spelling header schema code instr
+unfolding spelling header schema code instr long signed
 base_spelled = refl
 
 base_read : decode base_bytes ≡ Ok base

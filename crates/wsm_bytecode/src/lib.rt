@@ -8,20 +8,27 @@
 //! - `instr`: the instruction table
 //! - `program`: headers and programs
 //! - `refusal`: why bytes are no program
-//! - `numbers`, `names`, `settings`, `code`, `reading`: from bytes to a program
+//! - `reading`: from bytes to a program
 //! - `writing`: from a program to its bytes
-//! - `judging`: the same checks on a program put together by hand
+//! - `judging`, `enums`, `limits`: the same checks on the parts of a program
 //! - `listing`: a line of text for each instruction
 #![tactic(auto)]
 
 pub use instr::{CellType, Instr, SectionId};
+pub use listing::disassemble;
 pub use program::{Budget, Header, Program, Section};
 pub use reading::decode;
 pub use refusal::DecodeRefusal;
+pub use writing::encode;
 
 mod enums;
 mod instr;
+mod judging;
 mod limits;
+mod listing;
 mod program;
 mod reading;
 mod refusal;
+#[cfg(test)]
+mod tests;
+mod writing;

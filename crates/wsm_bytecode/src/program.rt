@@ -1,10 +1,12 @@
 //! Headers and programs.
 
-ghost use Rattle.std.specs.Prelude.{◌≡◌, IsTrue};
+ghost use Rattle.std.specs.Prelude.{◌≡◌, ◌≤◌, length, is_ok, IfOk, IfErr, IsTrue};
 ghost use Rattle.wsm_bytecode.specs.Program.{section as section_of, is_program};
 ghost use Rattle.wsm_bytecode.specs.View.{header_of, program_of};
 
 use crate::instr::{CellType, Instr, SectionId};
+use crate::judging::is_lawful;
+use crate::refusal::DecodeRefusal;
 use std::marker::Model;
 use wsm_record::{Form, Kind, Mode, Schema};
 use wsm_windows::Shape;
@@ -78,6 +80,24 @@ impl Model for Program {
 }
 
 impl Program {
+    /// Puts a program together, or refuses its parts by [`DecodeRefusal::Operand`], where reading
+    /// its bytes would. It takes no memory.
+    pub fn new(
+        header: Header,
+        selection: Section,
+        update: Section,
+        fire: Section,
+    ) -> Result<Program, DecodeRefusal>
+        ensures made { IfOk result (λ p. p ≡ program_of header selection.items update.items fire.items) }
+        ensures lawful { is_ok result ≡ is_program (program_of header selection.items update.items fire.items) }
+        ensures refused { IfErr result (λ refusal. refusal ≡ DecodeRefusal.Operand) }
+    {
+        if !is_lawful(&header, &selection, &update, &fire) {
+            return Err(DecodeRefusal::Operand);
+        }
+        Ok(Program::of_parts(header, selection, update, fire))
+    }
+
     // The parts of a program that were judged.
     pub(crate) fn of_parts(
         header: Header,
@@ -107,6 +127,7 @@ impl Program {
     /// The instructions of a section.
     pub fn section(&self, id: SectionId) -> &[Instr]
         ensures instructions { result.now ≡ section_of self.now id }
+        ensures most { length result.now ≤ 1000 }
         ensures lawful { IsTrue (is_program self.now) }
     {
         match id {

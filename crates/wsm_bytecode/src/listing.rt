@@ -1,0 +1,96 @@
+//! The listing of a program: a line of text for each instruction.
+
+ghost use Rattle.std.specs.Prelude.{◌≡◌, ◌++◌, IfOk, OnOk, string_bytes};
+ghost use Rattle.wsm_bytecode.specs.Text.{text, section_text};
+
+use crate::instr::{Instr, SectionId};
+use crate::program::Program;
+use std::alloc::{AllocError, Global};
+use std::fmt;
+
+/// The lines of a program: section, place, name and operands in decimal, joined by one space.
+///
+/// Each line ends with a line feed. A section without instructions has no line.
+#[tactic(auto, unfolding(crate::specs::Text::text))]
+pub fn disassemble(alloc: Global, program: &Program) -> Result<String, AllocError>
+    ensures { IfOk result (λ listing. string_bytes listing ≡ text program.now) }
+{
+    let mut listing = String::new(alloc);
+    list_section(
+        &mut listing,
+        SectionId::Where,
+        program.section(SectionId::Where),
+    )?;
+    list_section(
+        &mut listing,
+        SectionId::Update,
+        program.section(SectionId::Update),
+    )?;
+    list_section(
+        &mut listing,
+        SectionId::Fire,
+        program.section(SectionId::Fire),
+    )?;
+    Ok(listing)
+}
+
+fn list_section(listing: &mut String, id: SectionId, instrs: &[Instr]) -> Result<(), AllocError>
+    ensures { OnOk result (string_bytes listing.new ≡ string_bytes listing.old ++ section_text id 0 instrs.now) }
+{
+    for (place, instr) in instrs.iter().enumerate() {
+        write!(listing, "{id} {place} {instr}\n")?;
+    }
+    Ok(())
+}
+
+impl fmt::Display for SectionId {
+    ghost use Rattle.std.specs.Prelude.{Some};
+    ghost use Rattle.wsm_bytecode.specs.Text.{section_name};
+
+    ghost output = { λ id. Some (section_name id) };
+
+    fn fmt<W: fmt::Write>(&self, f: &mut fmt::Formatter<W>) -> fmt::Result {
+        match self {
+            SectionId::Where => f.write_str("where"),
+            SectionId::Update => f.write_str("update"),
+            SectionId::Fire => f.write_str("fire"),
+        }
+    }
+}
+
+/// The name, and the operands in decimal.
+impl fmt::Display for Instr {
+    ghost use Rattle.std.specs.Prelude.{Some};
+    ghost use Rattle.wsm_bytecode.specs.Text.{instr_text};
+
+    ghost output = { λ instr. Some (instr_text instr) };
+
+    fn fmt<W: fmt::Write>(&self, f: &mut fmt::Formatter<W>) -> fmt::Result {
+        match self {
+            Instr::PushInt(value) => write!(f, "PUSHI {value}"),
+            Instr::PushBool(truth) => write!(f, "PUSHB {}", u8::from(*truth)),
+            Instr::PushEnum(list, name) => write!(f, "PUSHE {list} {name}"),
+            Instr::Field(field) => write!(f, "FIELD {field}"),
+            Instr::Key => f.write_str("KEY"),
+            Instr::Acc(accumulator) => write!(f, "ACC {accumulator}"),
+            Instr::Count => f.write_str("COUNT"),
+            Instr::Add => f.write_str("ADD"),
+            Instr::Sub => f.write_str("SUB"),
+            Instr::Mul => f.write_str("MUL"),
+            Instr::Div => f.write_str("DIV"),
+            Instr::Rem => f.write_str("REM"),
+            Instr::Neg => f.write_str("NEG"),
+            Instr::Eq => f.write_str("EQ"),
+            Instr::Ne => f.write_str("NE"),
+            Instr::Lt => f.write_str("LT"),
+            Instr::Le => f.write_str("LE"),
+            Instr::Gt => f.write_str("GT"),
+            Instr::Ge => f.write_str("GE"),
+            Instr::Not => f.write_str("NOT"),
+            Instr::Jump(target) => write!(f, "JMP {target}"),
+            Instr::JumpIfFalse(target) => write!(f, "JF {target}"),
+            Instr::Fold(accumulator) => write!(f, "FOLD {accumulator}"),
+            Instr::Return => f.write_str("RET"),
+        }
+    }
+}

@@ -1,0 +1,90 @@
+use super::*;
+use std::test::Fail;
+
+// Counts the records of keys a and b in windows of 60, and sums their field n.
+const BASE: [u8; 139] = [
+    0x57, 0x53, 0x4d, 0x50, 0x01, 0x02, 0x00, 0x01, 0x61, 0x01, 0x62, 0x01, 0x01, 0x6e, 0x00, 0x00,
+    0x00, 0x00, 0x00, 0x00, 0x00, 0x00, 0x00, 0x64, 0x00, 0x00, 0x00, 0x00, 0x00, 0x00, 0x00, 0x00,
+    0x00, 0x00, 0x00, 0x00, 0x00, 0x00, 0x00, 0x64, 0x00, 0x00, 0x00, 0x00, 0x00, 0x00, 0x00, 0x0a,
+    0x00, 0x00, 0x00, 0x00, 0x00, 0x00, 0x00, 0xe8, 0x03, 0x00, 0x00, 0x00, 0x00, 0x00, 0x00, 0x00,
+    0x3c, 0x00, 0x00, 0x00, 0x00, 0x00, 0x00, 0x00, 0x01, 0x00, 0x00, 0x00, 0x00, 0x00, 0x00, 0x00,
+    0x00, 0x00, 0x00, 0x00, 0x00, 0x00, 0x00, 0x00, 0x00, 0x00, 0x01, 0x00, 0x02, 0x00, 0x00, 0x05,
+    0x00, 0x00, 0x00, 0x00, 0x00, 0x00, 0x00, 0x04, 0x00, 0x00, 0x00, 0x00, 0x00, 0x00, 0x00, 0x06,
+    0x00, 0x00, 0x00, 0x00, 0x00, 0x00, 0x00, 0x02, 0x00, 0x02, 0x01, 0x50, 0x03, 0x00, 0x04, 0x00,
+    0x40, 0x00, 0x50, 0x04, 0x00, 0x07, 0x06, 0x00, 0x02, 0x01, 0x50,
+];
+
+const LINES: &str = "where 0 PUSHB 1
+where 1 RET
+update 0 FIELD 0
+update 1 FOLD 0
+update 2 RET
+fire 0 COUNT
+fire 1 ACC 0
+fire 2 PUSHB 1
+fire 3 RET
+";
+
+#[test]
+fn bytes_are_read_and_written_again(rt: HostRuntime) -> Result<(), Fail> {
+    let program = decode(rt.alloc(), &BASE)?;
+    let bytes = encode(rt.alloc(), &program)?;
+    assert_eq!(rt; bytes.as_slice(), BASE.as_slice());
+    let listing = disassemble(rt.alloc(), &program)?;
+    assert_eq!(rt; listing.as_str(), LINES);
+    Ok(())
+}
+
+#[test]
+fn first_fault(rt: HostRuntime) {
+    let cases = [
+        (0, 0x58, DecodeRefusal::BadMagic),
+        (4, 0x07, DecodeRefusal::Version),
+        (10, 0x61, DecodeRefusal::Operand),
+        (127, 0x01, DecodeRefusal::Operand),
+        (133, 0x7f, DecodeRefusal::UnknownOpcode),
+    ];
+    for (place, byte, refusal) in cases {
+        let mut bytes = BASE;
+        if let Some(changed) = bytes.get_mut(place) {
+            *changed = byte;
+        }
+        let answer = decode(rt.alloc(), &bytes).err();
+        assert_eq!(rt; answer, Some(refusal), "byte {place}");
+    }
+}
+
+#[test]
+fn each_beginning_is_cut_off(rt: HostRuntime) {
+    for len in 0..BASE.len() {
+        let answer = decode(rt.alloc(), &BASE[..len]).err();
+        assert_eq!(rt; answer, Some(DecodeRefusal::Truncated), "{len} bytes");
+    }
+}
+
+#[test]
+fn one_byte_more(rt: HostRuntime) -> Result<(), Fail> {
+    let mut bytes = BASE.to_vec(rt.alloc())?;
+    bytes.push(0)?;
+    let answer = decode(rt.alloc(), &bytes).err();
+    assert_eq!(rt; answer, Some(DecodeRefusal::TrailingBytes));
+    Ok(())
+}
+
+#[test]
+fn printed_names(rt: HostRuntime) -> Result<(), Fail> {
+    let cases = [
+        (DecodeRefusal::BadMagic, "B1 BadMagic"),
+        (DecodeRefusal::Version, "B2 Version"),
+        (DecodeRefusal::Truncated, "B3 Truncated"),
+        (DecodeRefusal::UnknownOpcode, "B4 UnknownOpcode"),
+        (DecodeRefusal::Operand, "B5 Operand"),
+        (DecodeRefusal::TrailingBytes, "B6 TrailingBytes"),
+        (DecodeRefusal::Memory, "B7 Memory"),
+    ];
+    for (refusal, name) in cases {
+        let text = format!(in rt.alloc(); "{refusal}")?;
+        assert_eq!(rt; text.as_str(), name);
+    }
+    Ok(())
+}

@@ -1,0 +1,80 @@
+//! Keys and fields.
+
+ghost use Rattle.std.specs.Prelude.{◌≡◌, ◌++◌, ◌<◌, ◌&&◌, map, length, OnOk, IsTrue};
+ghost use Rattle.std.specs.List.{flat_map, list_all};
+ghost use Rattle.wsm_record.specs.Name.{is_name};
+ghost use Rattle.wsm_record.specs.Fields.{type_seen, field_seen};
+ghost use Rattle.wsm_bytecode.specs.Program.{is_field_type, is_schema};
+ghost use Rattle.wsm_bytecode.specs.Spelling.{byte, name as name_bytes, names as names_bytes, field_type as type_bytes, field as field_bytes, schema as schema_bytes};
+
+use crate::writing::numbers::{put_two, put_u8, put_u16};
+use std::alloc::AllocError;
+use wsm_record::{DeclaredField, FieldType, Names, Schema};
+
+#[tactic(auto, unfolding(crate::specs::Spelling::schema))]
+pub(crate) fn put_schema(out: &mut Vec<u8>, schema: &Schema) -> Result<(), AllocError>
+    requires { IsTrue (is_schema schema.now) }
+    ensures { OnOk result (out.new.items ≡ out.old.items ++ schema_bytes schema.now) }
+{
+    put_names(out, schema.keys())?;
+    put_fields(out, schema.fields())
+}
+
+/// The number of fields, and these.
+fn put_fields(out: &mut Vec<u8>, fields: &[DeclaredField]) -> Result<(), AllocError>
+    requires count { length fields.now < 256 }
+    requires lawful { IsTrue (list_all (λ f. is_name f.name && is_field_type (type_seen f.ty)) fields.now) }
+    ensures { OnOk result (out.new.items ≡ out.old.items ++ (byte (length fields.now) ++ flat_map field_bytes (map field_seen fields.now))) }
+{
+    put_u8(out, fields.len() as u8)?;
+    for field in fields {
+        put_field(out, field)?;
+    }
+    Ok(())
+}
+
+fn put_field(out: &mut Vec<u8>, field: &DeclaredField) -> Result<(), AllocError>
+    requires { IsTrue (is_name field.now.name && is_field_type (type_seen field.now.ty)) }
+    ensures { OnOk result (out.new.items ≡ out.old.items ++ field_bytes (field_seen field.now)) }
+{
+    put_name(out, field.name.as_bytes())?;
+    put_type(out, &field.ty)
+}
+
+fn put_type(out: &mut Vec<u8>, ty: &FieldType) -> Result<(), AllocError>
+    requires { IsTrue (is_field_type (type_seen ty.now)) }
+    ensures { OnOk result (out.new.items ≡ out.old.items ++ type_bytes (type_seen ty.now)) }
+{
+    match ty {
+        FieldType::Int { lo, hi } => {
+            put_u8(out, 0)?;
+            put_two(out, *lo, *hi)
+        }
+        FieldType::Bool => put_u8(out, 1),
+        FieldType::Enum(names) => {
+            put_u8(out, 2)?;
+            put_names(out, names)
+        }
+    }
+}
+
+/// The number of names, and these.
+fn put_names(out: &mut Vec<u8>, names: &Names) -> Result<(), AllocError>
+    requires { IsTrue (list_all is_name names.now) }
+    ensures { OnOk result (out.new.items ≡ out.old.items ++ names_bytes names.now) }
+{
+    let count = names.len() as u16;
+    put_u16(out, count)?;
+    for number in 0..count {
+        put_name(out, names.text_of(number))?;
+    }
+    Ok(())
+}
+
+fn put_name(out: &mut Vec<u8>, name: &[u8]) -> Result<(), AllocError>
+    requires { length name.now < 256 }
+    ensures { OnOk result (out.new.items ≡ out.old.items ++ name_bytes name.now) }
+{
+    put_u8(out, name.len() as u8)?;
+    out.extend_from_slice(name)
+}
