@@ -1,5 +1,6 @@
 pub mod Tree
 pub mod Seen
 pub mod Grammar
-pub mod Parse
 pub mod Steps
+pub mod Parse
+pub mod Vectors

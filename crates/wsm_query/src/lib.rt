@@ -14,3 +14,5 @@ mod level;
 mod parse_expr;
 mod query;
 mod reading;
+#[cfg(test)]
+mod tests;

@@ -1,0 +1,174 @@
+-- Texts with their trees, or their first faults, computed by the definitions.
+use Rattle.std.specs.Prelude.{◌≡◌, refl, ℕ, zero, suc, List, [], ◌∷◌, ◌++◌, replicate, pos, Some, None, Result, Ok, Err, codes}
+use Rattle.wsm_record.specs.Name.{is_reserved}
+use Rattle.wsm_record.specs.declared.words.Kind.TheVariants.{Sum}
+use Rattle.wsm_record.specs.declared.words.Mode.TheVariants.{Accumulating}
+use Rattle.wsm_record.specs.declared.words.Form.TheVariants.{Panes}
+use Rattle.wsm_windows.specs.declared.window.Shape.TheVariants.{Fixed}
+use Rattle.wsm_tokens.specs.declared.fault.Fault.{Fault}
+use Rattle.wsm_tokens.specs.declared.fault.Fault.TheVariants.{BadCharacter, Unexpected, NumberTooLarge, TooDeep}
+use Rattle.wsm_tokens.specs.declared.fault.ParseRefusal.{ParseRefusal}
+use Rattle.wsm_tokens.specs.declared.fault.ParseRefusal.TheVariants as refusals
+use Rattle.wsm_tokens.specs.Place.{place_of}
+use Rattle.wsm_tokens.specs.Tokens.{tokens, tokens_from, first_of, sign_of}
+use Rattle.wsm_tokens.specs.Read.{unexpected, too_deep, begins, begins_number, is_end, behind, count, ask, number, name, ended}
+use Rattle.wsm_query.specs.declared.expr.Op.TheVariants.{Sub, Ne, Gt, Div}
+use Rattle.wsm_query.specs.Tree.{Query, IntTy, Number, Field, Count, Aggregate, Brackets, Binary, And}
+use Rattle.wsm_query.specs.Grammar.{brace, list_of, aggregate, count_of, choice, brackets, pointed, leaf, atom, unary, chain, chained, prod, sum, cmp, neg, conj, expr_in, levels, expr, int, names, type_of, field, budget, shape, mode, form, every, query}
+use Rattle.wsm_query.specs.Parse.{parse, query_text}
+
+-- the base query with other parts
+abbrev head : List ℕ
+head = codes "KEYS a, b;\nFIELD n INT 0..100;\nSTART 0; SKEW 100; LATENESS 10; RECORDS 1000;\nSELECT "
+
+abbrev tail : List ℕ
+tail = codes "\nWINDOW FIXED 60 ACCUMULATING\nEMIT PANES;\n"
+
+abbrev selecting : List ℕ → List ℕ
+selecting columns = head ++ columns ++ tail
+
+abbrev declaring : List ℕ → List ℕ
+declaring fields = codes "KEYS a, b; " ++ fields ++ codes " START 0; SKEW 100; LATENESS 10; RECORDS 1000; SELECT COUNT(*) WINDOW FIXED 60 ACCUMULATING EMIT PANES;"
+
+abbrev ending : List ℕ → List ℕ
+ending tail = head ++ codes "COUNT(*) " ++ tail
+
+abbrev base : Query
+base = record {
+  keys = codes "a" ∷ codes "b" ∷ [];
+  fields = record { name = codes "n"; ty = IntTy (pos 0) (pos 100) } ∷ [];
+  start = pos 0;
+  skew = pos 100;
+  lateness = pos 10;
+  records = pos 1000;
+  budget = None;
+  columns = Count ∷ Aggregate Sum (Field (codes "n")) ∷ [];
+  condition = None;
+  having = None;
+  shape = Fixed (pos 60);
+  mode = Accumulating;
+  early = None;
+  late = None;
+  form = Panes;
+}
+
+-- what a text comes to
+pub data Answer : Type 0 where
+  Unread : (fault : Fault) → (line : ℕ) → (column : ℕ) → Answer
+  Taken : Answer
+
+abbrev of_read : Result Query ParseRefusal → Answer
+of_read (Ok q) = Taken
+of_read (Err (refusals.Text fault at)) = Unread fault at.line at.column
+of_read (Err refusals.Memory) = Taken
+
+abbrev answer : List ℕ → Answer
+answer text = of_read (parse text)
+
+-- n times the bytes
+abbrev times : ℕ → List ℕ → List ℕ
+times zero bytes = []
+times (suc n) bytes = bytes ++ times n bytes
+
+base_parses : parse (selecting (codes "COUNT(*), SUM(n)")) ≡ Ok base
+unfolding parse query_text tokens tokens_from first_of sign_of place_of is_reserved unexpected too_deep begins begins_number is_end behind count ask number name ended brace list_of aggregate count_of choice brackets pointed leaf atom unary chain chained prod sum cmp neg conj expr_in levels expr int names type_of field budget shape mode form every query
+base_parses = refl
+
+two_keys_without_comma : answer (codes "KEYS a b;") ≡ Unread Unexpected 1 8
+unfolding parse query_text tokens tokens_from first_of sign_of place_of is_reserved unexpected too_deep begins begins_number is_end behind count ask number name ended brace list_of aggregate count_of choice brackets pointed leaf atom unary chain chained prod sum cmp neg conj expr_in levels expr int names type_of field budget shape mode form every query
+two_keys_without_comma = refl
+
+empty_text : answer [] ≡ Unread Unexpected 1 1
+unfolding parse query_text tokens tokens_from first_of sign_of place_of is_reserved unexpected too_deep begins begins_number is_end behind count ask number name ended brace list_of aggregate count_of choice brackets pointed leaf atom unary chain chained prod sum cmp neg conj expr_in levels expr int names type_of field budget shape mode form every query
+empty_text = refl
+
+-- the end is just past the last byte, blanks too
+end_behind_a_line : answer (codes "KEYS a;\n") ≡ Unread Unexpected 2 1
+unfolding parse query_text tokens tokens_from first_of sign_of place_of is_reserved unexpected too_deep begins begins_number is_end behind count ask number name ended brace list_of aggregate count_of choice brackets pointed leaf atom unary chain chained prod sum cmp neg conj expr_in levels expr int names type_of field budget shape mode form every query
+end_behind_a_line = refl
+
+no_token : answer (selecting (codes "COUNT(*) ! 1")) ≡ Unread BadCharacter 4 17
+unfolding parse query_text tokens tokens_from first_of sign_of place_of is_reserved unexpected too_deep begins begins_number is_end behind count ask number name ended brace list_of aggregate count_of choice brackets pointed leaf atom unary chain chained prod sum cmp neg conj expr_in levels expr int names type_of field budget shape mode form every query
+no_token = refl
+
+-- the 33rd byte of a word
+long_word : answer (codes "KEYS " ++ replicate 33 97) ≡ Unread BadCharacter 1 38
+unfolding parse query_text tokens tokens_from first_of sign_of place_of is_reserved unexpected too_deep begins begins_number is_end behind count ask number name ended brace list_of aggregate count_of choice brackets pointed leaf atom unary chain chained prod sum cmp neg conj expr_in levels expr int names type_of field budget shape mode form every query
+long_word = refl
+
+-- also where no word would be taken
+long_word_for_a_sign : answer (codes "KEYS a " ++ replicate 33 97) ≡ Unread BadCharacter 1 40
+unfolding parse query_text tokens tokens_from first_of sign_of place_of is_reserved unexpected too_deep begins begins_number is_end behind count ask number name ended brace list_of aggregate count_of choice brackets pointed leaf atom unary chain chained prod sum cmp neg conj expr_in levels expr int names type_of field budget shape mode form every query
+long_word_for_a_sign = refl
+
+longest_word : answer (codes "KEYS " ++ replicate 32 97) ≡ Unread Unexpected 1 38
+unfolding parse query_text tokens tokens_from first_of sign_of place_of is_reserved unexpected too_deep begins begins_number is_end behind count ask number name ended brace list_of aggregate count_of choice brackets pointed leaf atom unary chain chained prod sum cmp neg conj expr_in levels expr int names type_of field budget shape mode form every query
+longest_word = refl
+
+great_number : answer (selecting (codes "9223372036854775808")) ≡ Unread NumberTooLarge 4 8
+unfolding parse query_text tokens tokens_from first_of sign_of place_of is_reserved unexpected too_deep begins begins_number is_end behind count ask number name ended brace list_of aggregate count_of choice brackets pointed leaf atom unary chain chained prod sum cmp neg conj expr_in levels expr int names type_of field budget shape mode form every query
+great_number = refl
+
+greatest_number : answer (selecting (codes "0009223372036854775807")) ≡ Taken
+unfolding parse query_text tokens tokens_from first_of sign_of place_of is_reserved unexpected too_deep begins begins_number is_end behind count ask number name ended brace list_of aggregate count_of choice brackets pointed leaf atom unary chain chained prod sum cmp neg conj expr_in levels expr int names type_of field budget shape mode form every query
+greatest_number = refl
+
+levels_24 : answer (selecting (replicate 24 40 ++ codes "1" ++ replicate 24 41)) ≡ Taken
+unfolding parse query_text tokens tokens_from first_of sign_of place_of is_reserved unexpected too_deep begins begins_number is_end behind count ask number name ended brace list_of aggregate count_of choice brackets pointed leaf atom unary chain chained prod sum cmp neg conj expr_in levels expr int names type_of field budget shape mode form every query
+levels_24 = refl
+
+-- at the bracket, whatever follows it
+levels_25 : answer (selecting (replicate 25 40 ++ codes "@")) ≡ Unread TooDeep 4 32
+unfolding parse query_text tokens tokens_from first_of sign_of place_of is_reserved unexpected too_deep begins begins_number is_end behind count ask number name ended brace list_of aggregate count_of choice brackets pointed leaf atom unary chain chained prod sum cmp neg conj expr_in levels expr int names type_of field budget shape mode form every query
+levels_25 = refl
+
+-- COUNT opens a level, before its bracket is asked for
+level_of_count : answer (selecting (replicate 24 40 ++ codes "COUNT;")) ≡ Unread TooDeep 4 32
+unfolding parse query_text tokens tokens_from first_of sign_of place_of is_reserved unexpected too_deep begins begins_number is_end behind count ask number name ended brace list_of aggregate count_of choice brackets pointed leaf atom unary chain chained prod sum cmp neg conj expr_in levels expr int names type_of field budget shape mode form every query
+level_of_count = refl
+
+level_of_minus : answer (selecting (replicate 23 40 ++ codes "- - 1")) ≡ Unread TooDeep 4 33
+unfolding parse query_text tokens tokens_from first_of sign_of place_of is_reserved unexpected too_deep begins begins_number is_end behind count ask number name ended brace list_of aggregate count_of choice brackets pointed leaf atom unary chain chained prod sum cmp neg conj expr_in levels expr int names type_of field budget shape mode form every query
+level_of_minus = refl
+
+chain_64 : answer (selecting (codes "1" ++ times 32 (codes " + 1 - 1"))) ≡ Taken
+unfolding parse query_text tokens tokens_from first_of sign_of place_of is_reserved unexpected too_deep begins begins_number is_end behind count ask number name ended brace list_of aggregate count_of choice brackets pointed leaf atom unary chain chained prod sum cmp neg conj expr_in levels expr int names type_of field budget shape mode form every query
+chain_64 = refl
+
+-- `+` and `-` are one chain
+chain_65 : answer (selecting (codes "1" ++ times 32 (codes "+1-1") ++ codes "+ @")) ≡ Unread TooDeep 4 137
+unfolding parse query_text tokens tokens_from first_of sign_of place_of is_reserved unexpected too_deep begins begins_number is_end behind count ask number name ended brace list_of aggregate count_of choice brackets pointed leaf atom unary chain chained prod sum cmp neg conj expr_in levels expr int names type_of field budget shape mode form every query
+chain_65 = refl
+
+chains_apart : answer (selecting (codes "1" ++ times 64 (codes "*1") ++ codes "+1" ++ times 64 (codes "*1"))) ≡ Taken
+unfolding parse query_text tokens tokens_from first_of sign_of place_of is_reserved unexpected too_deep begins begins_number is_end behind count ask number name ended brace list_of aggregate count_of choice brackets pointed leaf atom unary chain chained prod sum cmp neg conj expr_in levels expr int names type_of field budget shape mode form every query
+chains_apart = refl
+
+comparison_twice : answer (selecting (codes "1 < 2 < 3")) ≡ Unread Unexpected 4 14
+unfolding parse query_text tokens tokens_from first_of sign_of place_of is_reserved unexpected too_deep begins begins_number is_end behind count ask number name ended brace list_of aggregate count_of choice brackets pointed leaf atom unary chain chained prod sum cmp neg conj expr_in levels expr int names type_of field budget shape mode form every query
+comparison_twice = refl
+
+reserved_name : answer (selecting (codes "FROM")) ≡ Unread Unexpected 4 8
+unfolding parse query_text tokens tokens_from first_of sign_of place_of is_reserved unexpected too_deep begins begins_number is_end behind count ask number name ended brace list_of aggregate count_of choice brackets pointed leaf atom unary chain chained prod sum cmp neg conj expr_in levels expr int names type_of field budget shape mode form every query
+reserved_name = refl
+
+behind_the_end : answer (selecting (codes "1") ++ codes ";") ≡ Unread Unexpected 7 1
+unfolding parse query_text tokens tokens_from first_of sign_of place_of is_reserved unexpected too_deep begins begins_number is_end behind count ask number name ended brace list_of aggregate count_of choice brackets pointed leaf atom unary chain chained prod sum cmp neg conj expr_in levels expr int names type_of field budget shape mode form every query
+behind_the_end = refl
+
+-- `n <> 0 AND 10 / n > 1`
+abbrev guarded : Query
+guarded = record base { condition = Some (And (Binary Ne (Field (codes "n")) (Number (pos 0))) (Binary Gt (Binary Div (Number (pos 10)) (Field (codes "n"))) (Number (pos 1)))) }
+
+guarded_parses : parse (selecting (codes "COUNT(*), SUM(n) WHERE n <> 0 AND 10 / n > 1")) ≡ Ok guarded
+unfolding parse query_text tokens tokens_from first_of sign_of place_of is_reserved unexpected too_deep begins begins_number is_end behind count ask number name ended brace list_of aggregate count_of choice brackets pointed leaf atom unary chain chained prod sum cmp neg conj expr_in levels expr int names type_of field budget shape mode form every query
+guarded_parses = refl
+
+-- chains lean to the left
+to_the_left : parse (selecting (codes "7 - 2 - 1")) ≡ Ok (record base { columns = Binary Sub (Binary Sub (Number (pos 7)) (Number (pos 2))) (Number (pos 1)) ∷ [] })
+unfolding parse query_text tokens tokens_from first_of sign_of place_of is_reserved unexpected too_deep begins begins_number is_end behind count ask number name ended brace list_of aggregate count_of choice brackets pointed leaf atom unary chain chained prod sum cmp neg conj expr_in levels expr int names type_of field budget shape mode form every query
+to_the_left = refl
+
+brackets_stay : parse (selecting (codes "7-(2-1)")) ≡ Ok (record base { columns = Binary Sub (Number (pos 7)) (Brackets (Binary Sub (Number (pos 2)) (Number (pos 1)))) ∷ [] })
+unfolding parse query_text tokens tokens_from first_of sign_of place_of is_reserved unexpected too_deep begins begins_number is_end behind count ask number name ended brace list_of aggregate count_of choice brackets pointed leaf atom unary chain chained prod sum cmp neg conj expr_in levels expr int names type_of field budget shape mode form every query
+brackets_stay = refl
