@@ -76,3 +76,6 @@ impl Machine {
         (Outcome::Trap(Trap::BadJump), steps)
     }
 }
+
+#[cfg(test)]
+mod tests;
