@@ -2,12 +2,17 @@
 #![tactic(auto)]
 
 pub use end::End;
-pub use query::{CheckFault, CountQuery, Part, QueryRefusal, read_query};
+pub use query::{CheckFault, Part, QueryRefusal};
+pub use run::run_query;
 pub use words::{Job, WordsRefusal, command_of};
+pub use wsm_csv::{Device, DeviceFault, Guarded, write_out};
+pub use wsm_engine::Totals;
 
 mod end;
 mod help;
 mod query;
+mod run;
 #[cfg(test)]
 mod tests;
+mod turns;
 mod words;

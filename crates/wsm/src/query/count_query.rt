@@ -1,6 +1,7 @@
 //! Queries that count, read from their texts.
 
-ghost use Rattle.std.specs.Prelude.{◌≡◌};
+ghost use Rattle.std.specs.Prelude.{◌≡◌, IfOk};
+ghost use Rattle.wsm.specs.Fit.{IsFit};
 ghost use Rattle.wsm.specs.Said.{said};
 ghost use Rattle.wsm.specs.Query.{clock_of, parsed, query_of};
 ghost use Rattle.wsm.specs.Ends.{Answers};
@@ -27,7 +28,8 @@ pub struct CountQuery {
 /// The query of a text, or the first refusal.
 #[tactic(auto, unfolding(crate::specs::Query::query_of))]
 pub fn read_query(alloc: Global, text: &[u8]) -> Result<CountQuery, End>
-    ensures { Answers (λ q. q) result (query_of text.now) }
+    ensures judged { Answers (λ q. q) result (query_of text.now) }
+    ensures fit { IfOk result IsFit }
 {
     let text = parse(alloc, text)?;
     check(alloc, &text)?;
