@@ -215,13 +215,13 @@ fn other_words_are_refused(rt: HostRuntime) -> Result<(), Fail> {
 #[test]
 fn help_shows_a_query_and_rows(rt: HostRuntime) -> Result<(), Fail> {
     for words in [
-        ["wsm", "--help"].as_slice(),
+        ["wsm_cli", "--help"].as_slice(),
         &["wsm", "run", "--help"],
         &["wsm", "-h"],
     ] {
         let (text, status) = refusal(rt.alloc(), words)?;
         for want in [
-            "Usage: wsm",
+            "Usage: wsm ",
             "  SELECT COUNT(*)\n",
             "  r,a,5,7\n",
             "  w,60\n",

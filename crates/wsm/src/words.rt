@@ -71,6 +71,7 @@ fn wsm_command<'a>(alloc: Global) -> Result<Command<'a>, AllocError>
     ensures { IfOk result (λ c. app_of c ≡ the_app) }
 {
     let wsm = Command::new(alloc, "wsm")
+        .bin_name("wsm")?
         .about(help::ABOUT)
         .after_help(help::EXAMPLE)
         .subcommand_required(true)

@@ -15,7 +15,7 @@ pub returns : goal.returns
 returns c =
     let run_is = c.in_ok-run_command.ensures in
     let local = third_fails _ _ _ _ (ap (λ (a : App). a.top.is_plain) run_is) in
-    let named : app_of c.after_help.result ≡ new_app (codes "wsm") = ap app_of_fields c.after_help.ensures ∙ (ap app_of_fields c.about.ensures ∙ c.new.ensures.app) in
+    let named : app_of c.after_help.result ≡ new_app (codes "wsm") = ap app_of_fields c.after_help.ensures ∙ (ap app_of_fields c.about.ensures ∙ (ap app_of_fields c.in_ok-bin_name.ensures.0 ∙ c.new.ensures.app)) in
     let required_is : app_of c.subcommand_required.result ≡ required_app = ap app_of_fields c.subcommand_required.ensures
     ∙ ap (λ (a : App). let b : App = record a { top = record a.top { subcommand_required = true } } in b) named in
     c.in_ok-wsm.ensures.shape local ∙ ap₂ with_subcommand required_is (ap (λ (a : App). a.top) run_is)
