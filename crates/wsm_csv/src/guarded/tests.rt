@@ -25,6 +25,29 @@ impl Write for TakesFew {
     }
 }
 
+// Takes all bytes, and fails where they are to leave.
+#[derive(Drop)]
+struct FailsToFlush;
+
+impl Write for FailsToFlush {
+    fn write(&mut self, buf: &[u8]) -> io::Result<usize> {
+        Ok(buf.len())
+    }
+
+    fn flush(&mut self) -> io::Result<()> {
+        Err(io::Error::from(io::ErrorKind::Other))
+    }
+}
+
+#[test]
+fn a_failed_flush_is_told(rt: HostRuntime) -> Result<(), Fail> {
+    let mut device = Guarded::new(FailsToFlush);
+    write_out(&mut device, b"end")?;
+    assert_eq!(rt; device.flush(), Err(DeviceFault));
+    assert!(rt; device.failed());
+    Ok(())
+}
+
 #[test]
 fn a_vec_takes_all(rt: HostRuntime) -> Result<(), Fail> {
     let mut device = Guarded::new(Vec::new(rt.alloc()));
