@@ -12,7 +12,7 @@ use Rattle.wsm_windows.specs.Life.{live_bound}
 use Rattle.wsm_bytecode.specs.declared.Instr.{Instr}
 use Rattle.wsm_bytecode.specs.declared.SectionId.{SectionId}
 use Rattle.wsm_bytecode.specs.declared.SectionId.TheVariants.{Where, Update, Fire}
-use Rattle.wsm_bytecode.specs.Program.{Header, Program, section, is_within, is_span, is_size, is_shape, is_section, is_header, is_program, is_schema, is_form_of, latest_time}
+use Rattle.wsm_bytecode.specs.Program.{Header, Program, section, is_within, is_span, is_size, is_shape, is_section, is_header, is_program, is_schema, is_clock, is_firing, is_row, latest_time}
 
 left : (a b : Bool) → (a && b) ≡ true → a ≡ true
 left true b e = refl
@@ -53,21 +53,18 @@ pub record IsLawful (h : Header) : Type 0 where
 lawful_header : (h : Header) → is_header h ≡ true → IsLawful h
 unfolding is_header
 lawful_header h e =
-    let times = right (is_schema h.schema) _ e in
-    let spans = right (is_within (pos 0) latest_time h.start) _ times in
-    let lateness = right (is_span h.skew) _ spans in
-    let records = right (is_span h.lateness) _ lateness in
-    let shape = right (is_size h.records) _ records in
-    let early = right (is_shape h.shape) _ shape in
-    let late = right (is_span h.early) _ early in
-    let form = right (is_span h.late) _ late in
-    let kinds = right (is_form_of h.mode h.form) _ form in
+    let parts = right (is_schema h.schema) _ e in
+    let behind_clock = right (is_clock h) _ parts in
+    let firing = left (is_firing h) _ behind_clock in
+    let row = left (is_row h) _ (right (is_firing h) _ behind_clock) in
+    let spans = right (is_within (pos 0) latest_time h.start) _ (left (is_clock h) _ parts) in
+    let behind_skew = right (is_span h.skew) _ spans in
     record {
-      shape = lawful_shape h.shape (left (is_shape h.shape) _ shape);
+      shape = lawful_shape h.shape (left (is_shape h.shape) _ firing);
       skew = lawful_span h.skew (left (is_span h.skew) _ spans);
-      lateness = lawful_span h.lateness (left (is_span h.lateness) _ lateness);
-      records = sized h.records (left (is_size h.records) _ records);
-      kinds = few (length h.kinds) 16 (left (nat_le (length h.kinds) 16) _ kinds);
+      lateness = lawful_span h.lateness (left (is_span h.lateness) _ behind_skew);
+      records = sized h.records (right (is_span h.lateness) _ behind_skew);
+      kinds = few (length h.kinds) 16 (left (nat_le (length h.kinds) 16) _ row);
     }
 
 short_section : (h : Header) (code : List Instr) → is_section h code ≡ true → length code ≤ 1000
