@@ -3,6 +3,7 @@ pub mod Braces
 pub mod Fields
 pub mod Texts
 pub mod Queries
+pub mod Schemas
 pub mod Turning
 pub mod Taking
 pub mod Ending

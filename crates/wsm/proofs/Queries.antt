@@ -15,7 +15,7 @@ use Rattle.wsm.specs.Grammar.{Said}
 use Rattle.wsm.specs.Query.{clock_of, counting}
 use Rattle.wsm.specs.Checks.{want, in_range, is_clock, is_size, has_few_panes, judged, keys_judged, fields_judged}
 
-want-holds : (b : Bool) (f : CheckFault) (p : Part) → want b f p ≡ Ok tt → b ≡ true
+pub want-holds : (b : Bool) (f : CheckFault) (p : Part) → want b f p ≡ Ok tt → b ≡ true
 want-holds true f p e = refl
 want-holds false f p e = cc
 
@@ -24,7 +24,7 @@ pub rest-ok : {A : Type 0} (r : Judged (Unit {0})) (next : Judged A) (y : A) →
 rest-ok (Ok u) next y e = e
 rest-ok (Err r) next y e = cc
 
-first-ok : {A : Type 0} (b : Bool) (f : CheckFault) (p : Part) (next : Judged A) (y : A) → (want b f p >>= (λ _. next)) ≡ Ok y → b ≡ true
+pub first-ok : {A : Type 0} (b : Bool) (f : CheckFault) (p : Part) (next : Judged A) (y : A) → (want b f p >>= (λ _. next)) ≡ Ok y → b ≡ true
 first-ok true f p next y e = refl
 first-ok false f p next y e = cc
 
@@ -37,11 +37,11 @@ judged-passed q e =
     let panes = rest-ok (want (is_size q.size) _ _) _ tt size in
     (first-ok (is_clock q.clock) _ _ _ tt clock, first-ok (is_size q.size) _ _ _ tt size, want-holds (has_few_panes q) _ _ panes)
 
-left : (a b : Bool) → (a && b) ≡ true → a ≡ true
+pub left : (a b : Bool) → (a && b) ≡ true → a ≡ true
 left true b e = refl
 left false b e = cc
 
-right : (a b : Bool) → (a && b) ≡ true → b ≡ true
+pub right : (a b : Bool) → (a && b) ≡ true → b ≡ true
 right true b e = e
 right false b e = cc
 

@@ -18,7 +18,7 @@ use Rattle.wsm_csv.proofs.Written.{Appends-join, Appends-start, TakesPart-last}
 use Rattle.wsm.specs.declared.query.count_query.CountQuery.{CountQuery}
 use Rattle.wsm.specs.declared.turns.Turns.{Turns}
 use Rattle.wsm.specs.Written.{Cells, meaning_of, key_names, rows_of, turns_text, input_text, line_of, EndsEarly}
-use Rattle.wsm.specs.Reads.{end_of_read}
+use Rattle.wsm.specs.Stops.{end_of_read}
 use Rattle.wsm.specs.Turns.{Fits, Begins, Turned, Awaits, Passes}
 
 pub rows_of-more : (q : CountQuery) (cells : List Cells) (c : Cells) → rows_of q (cells ++ c ∷ []) ≡ event_of_cells q.schema c ∷ rows_of q cells

@@ -1,5 +1,5 @@
 -- The checks of what a query text says, in their order: the first refusal decides. This project's own rule.
-use Rattle.std.specs.Prelude.{ℕ, ◌+◌, ◌*◌, Bool, true, ◌&&◌, not, if◌then◌else◌, List, [], ◌∷◌, ◌++◌, length, ℤ, pos, int_le, nat_le, nat_lt, bytes_eq, Ok, Err}
+use Rattle.std.specs.Prelude.{ℕ, ◌+◌, ◌*◌, Bool, false, ◌&&◌, not, if◌then◌else◌, List, [], ◌∷◌, ◌++◌, length, ℤ, pos, int_le, nat_le, nat_lt, bytes_eq, Ok, Err}
 use Rattle.std.specs.List.{list_any}
 use Rattle.wsm_record.specs.Name.{repeats_after}
 use Rattle.wsm_record.specs.Schema.{FieldType, Int, Truth, Enum, DeclaredField}
@@ -33,18 +33,18 @@ keys_judged keys = do
 abbrev pub is_declared : List ℕ → List DeclaredField → Bool
 is_declared name fields = list_any (λ f. bytes_eq name f.name) fields
 
--- an interval has a number
-abbrev pub has_values : FieldType → Bool
-has_values (Int lo hi) = int_le lo hi
-has_values Truth = true
-has_values (Enum names) = true
+-- a whole number of an interval that has one
+abbrev pub is_number : FieldType → Bool
+is_number (Int lo hi) = int_le lo hi
+is_number Truth = false
+is_number (Enum names) = false
 
 -- a field behind others
 unfoldable pub field_judged : List DeclaredField → DeclaredField → Judged (Unit {0})
 field_judged before f = do
   _ ← want (nat_lt (length before) 16) Limit (part.Field (length before + 1))
   _ ← want (not (is_declared f.name before)) Duplicate (part.Field (length before + 1))
-  want (has_values f.type) Limit (part.Field (length before + 1))
+  want (is_number f.type) Limit (part.Field (length before + 1))
 
 abbrev pub fields_judged : List DeclaredField → List DeclaredField → Judged (Unit {0})
 fields_judged before [] = Ok tt

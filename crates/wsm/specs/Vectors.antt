@@ -55,8 +55,8 @@ usual = record {
 
 -- n more fields
 abbrev more_fields : ℕ → List ℕ → List ℕ
-more_fields zero name = []
-more_fields (suc n) name = codes "FIELD " ++ name ++ codes " INT 0..1;" ++ more_fields n (name ++ codes "x")
+more_fields zero first = []
+more_fields (suc n) first = codes "FIELD " ++ first ++ codes " INT 0..1;" ++ more_fields n (first ++ codes "x")
 
 -- texts with what they come to
 abbrev texts : List (List ℕ × Answer)

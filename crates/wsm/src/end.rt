@@ -3,6 +3,8 @@
 use crate::query::QueryRefusal;
 use std::alloc::{AllocError, AllocFailed};
 use thiserror::Error;
+use wsm_csv::{DeviceFault, ReadEnd};
+use wsm_tokens::ParseRefusal;
 
 /// How a run ended early. Its text is what the program prints.
 #[derive(Clone, Copy, Debug, PartialEq, Eq, Error)]
@@ -51,5 +53,44 @@ impl From<QueryRefusal> for End {
 
     fn from(refusal: QueryRefusal) -> End {
         End::Refused(refusal)
+    }
+}
+
+impl From<ParseRefusal> for End {
+    ghost use Rattle.std.specs.Prelude.{◌≡◌};
+    ghost use Rattle.wsm.specs.Stops.{end_of};
+
+    ghost from_gives = { λ r e. e ≡ end_of r };
+
+    fn from(refusal: ParseRefusal) -> End {
+        match refusal {
+            ParseRefusal::Text(fault, place) => End::Refused(QueryRefusal::Text(fault, place)),
+            ParseRefusal::Memory => End::Memory,
+        }
+    }
+}
+
+impl From<ReadEnd> for End {
+    ghost use Rattle.std.specs.Prelude.{◌≡◌};
+    ghost use Rattle.wsm.specs.Stops.{end_of_read};
+
+    ghost from_gives = { λ r e. e ≡ end_of_read r };
+
+    fn from(end: ReadEnd) -> End {
+        match end {
+            ReadEnd::Failed => End::ReadFailed,
+            ReadEnd::Memory => End::Memory,
+        }
+    }
+}
+
+impl From<DeviceFault> for End {
+    ghost use Rattle.std.specs.Prelude.{◌≡◌};
+    ghost use Rattle.wsm.specs.declared.end.End.TheVariants.{WriteFailed};
+
+    ghost from_gives = { λ _ e. e ≡ WriteFailed };
+
+    fn from(_fault: DeviceFault) -> End {
+        End::WriteFailed
     }
 }

@@ -14,7 +14,7 @@ use crate::query::read_query;
 use crate::turns::Turns;
 use std::alloc::Global;
 use std::io::Read;
-use wsm_csv::{Device, DeviceFault, EndRow, ReadEnd, Rows, end_text, write_out};
+use wsm_csv::{Device, DeviceFault, EndRow, Rows, end_text, write_out};
 use wsm_engine::Totals;
 
 // How many bytes of lines are gathered before a device is given them.
@@ -103,30 +103,5 @@ fn end_row(totals: Totals) -> EndRow
         late: totals.late,
         refused: totals.refused,
         panes: totals.panes,
-    }
-}
-
-impl From<ReadEnd> for End {
-    ghost use Rattle.std.specs.Prelude.{◌≡◌};
-    ghost use Rattle.wsm.specs.Reads.{end_of_read};
-
-    ghost from_gives = { λ r e. e ≡ end_of_read r };
-
-    fn from(end: ReadEnd) -> End {
-        match end {
-            ReadEnd::Failed => End::ReadFailed,
-            ReadEnd::Memory => End::Memory,
-        }
-    }
-}
-
-impl From<DeviceFault> for End {
-    ghost use Rattle.std.specs.Prelude.{◌≡◌};
-    ghost use Rattle.wsm.specs.declared.end.End.TheVariants.{WriteFailed};
-
-    ghost from_gives = { λ _ e. e ≡ WriteFailed };
-
-    fn from(_fault: DeviceFault) -> End {
-        End::WriteFailed
     }
 }

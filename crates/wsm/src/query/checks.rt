@@ -3,7 +3,7 @@
 ghost use Rattle.std.specs.Prelude.{◌≡◌, ◌≤◌, ◌*◌, [], map, length, true, nat_le, bytes_eq, OnOk};
 ghost use Rattle.std.specs.List.{list_any};
 ghost use Rattle.wsm_record.specs.Fields.{declared_field, declared_type};
-ghost use Rattle.wsm.specs.Checks.{want, in_range, is_clock, is_size, has_few_panes, is_declared, has_values, judged, keys_judged, field_judged, fields_judged};
+ghost use Rattle.wsm.specs.Checks.{want, in_range, is_clock, is_size, has_few_panes, is_declared, is_number, judged, keys_judged, field_judged, fields_judged};
 ghost use Rattle.wsm.specs.Said.{said};
 ghost use Rattle.wsm.specs.Ends.{Answers};
 
@@ -88,7 +88,7 @@ fn check_field(before: &[Field], field: &Field) -> Result<(), QueryRefusal>
         CheckFault::Duplicate,
         part,
     )?;
-    want(has_values(&field.ty), CheckFault::Limit, part)
+    want(is_number(&field.ty), CheckFault::Limit, part)
 }
 
 fn is_declared(name: &Name, fields: &[Field]) -> bool
@@ -103,12 +103,12 @@ fn has_name(fields: &[Field], name: &Name) -> bool
     fields.iter().any(|field| *name == field.name)
 }
 
-fn has_values(ty: &Ty) -> bool
-    ensures { result ≡ has_values (declared_type ty.now) }
+fn is_number(ty: &Ty) -> bool
+    ensures { result ≡ is_number (declared_type ty.now) }
 {
     match ty {
         Ty::Int { lo, hi } => lo <= hi,
-        Ty::Bool | Ty::Enum(_) => true,
+        Ty::Bool | Ty::Enum(_) => false,
     }
 }
 

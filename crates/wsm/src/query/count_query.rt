@@ -1,20 +1,20 @@
 //! Queries that count, read from their texts.
 
-ghost use Rattle.std.specs.Prelude.{◌≡◌, IfOk};
+ghost use Rattle.std.specs.Prelude.{◌≡◌, Ok, IfOk};
 ghost use Rattle.wsm.specs.Fit.{IsFit};
 ghost use Rattle.wsm.specs.Said.{said};
+ghost use Rattle.wsm.specs.Checks.{judged};
 ghost use Rattle.wsm.specs.Query.{clock_of, parsed, query_of};
 ghost use Rattle.wsm.specs.Ends.{Answers};
 
 use crate::end::End;
 use crate::query::checks::check;
 use crate::query::grammar::query;
-use crate::query::refusal::QueryRefusal;
 use crate::query::text::{ClockText, QueryText};
-use std::alloc::Global;
+use std::alloc::{AllocError, Global};
 use wsm_admission::Clock;
 use wsm_record::{Schema, SchemaRefusal};
-use wsm_tokens::{ParseRefusal, Reader, refusal_of};
+use wsm_tokens::{Reader, refusal_of};
 
 /// A query that counts the records of each key over fixed windows.
 #[derive(Drop)]
@@ -33,9 +33,8 @@ pub fn read_query(alloc: Global, text: &[u8]) -> Result<CountQuery, End>
 {
     let text = parse(alloc, text)?;
     check(alloc, &text)?;
-    let schema = Schema::new(alloc, &text.keys, &text.fields)?;
     Ok(CountQuery {
-        schema,
+        schema: schema_of(alloc, &text)?,
         clock: clock_of(text.clock),
         size: text.size,
     })
@@ -52,6 +51,20 @@ fn parse(alloc: Global, text: &[u8]) -> Result<QueryText, End>
     }
 }
 
+// The schema of a text that passed the checks: only memory can refuse it.
+fn schema_of(alloc: Global, text: &QueryText) -> Result<Schema, AllocError>
+    requires { judged (said text.now) ≡ Ok tt }
+    ensures { IfOk result (λ s. s ≡ (said text.now).declared) }
+{
+    match Schema::new(alloc, &text.keys, &text.fields) {
+        Ok(schema) => Ok(schema),
+        Err(refusal) => match refusal {
+            SchemaRefusal::Memory => Err(AllocError),
+            _ => unreachable!(),
+        },
+    }
+}
+
 fn clock_of(clock: ClockText) -> Clock
     ensures { result ≡ clock_of clock }
 {
@@ -60,31 +73,5 @@ fn clock_of(clock: ClockText) -> Clock
         skew: clock.skew,
         lateness: clock.lateness,
         records: clock.records.unsigned_abs(),
-    }
-}
-
-impl From<ParseRefusal> for End {
-    ghost use Rattle.std.specs.Prelude.{◌≡◌};
-    ghost use Rattle.wsm.specs.Stops.{end_of};
-
-    ghost from_gives = { λ r e. e ≡ end_of r };
-
-    fn from(refusal: ParseRefusal) -> End {
-        match refusal {
-            ParseRefusal::Text(fault, place) => End::Refused(QueryRefusal::Text(fault, place)),
-            ParseRefusal::Memory => End::Memory,
-        }
-    }
-}
-
-impl From<SchemaRefusal> for End {
-    ghost use Rattle.std.specs.Prelude.{◌≡◌};
-    ghost use Rattle.wsm.specs.declared.end.End.TheVariants.{Memory};
-
-    ghost from_gives = { λ _ e. e ≡ Memory };
-
-    // What was checked is refused for want of memory alone.
-    fn from(_refusal: SchemaRefusal) -> End {
-        End::Memory
     }
 }

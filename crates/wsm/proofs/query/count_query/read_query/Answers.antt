@@ -11,4 +11,4 @@ pub returns-clause-fit : goal.returns-clause-fit
 returns-clause-fit c =
     let text = c.in_ok-text.text in
     let fits : FitsSigned w64 text.size = search rules in
-    rw (c.in_ok-schema.ensures.declared, c.deref.ensures.value, c.deref-2.ensures.value, c.clock_of.ensures) (simp to_z-of_z (fit_of (said text) c.in_ok-check.ensures))
+    rw (c.in_ok-schema_of.ensures, c.clock_of.ensures) (simp to_z-of_z (fit_of (said text) c.in_ok-check.ensures))
