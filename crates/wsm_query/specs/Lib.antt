@@ -3,4 +3,5 @@ pub mod Seen
 pub mod Grammar
 pub mod Steps
 pub mod Parse
+pub mod Print
 pub mod Vectors

@@ -1,5 +1,6 @@
 pub mod Place
 pub mod Tokens
+pub mod Written
 pub mod Code
 pub mod Sight
 pub mod Read
