@@ -1,5 +1,8 @@
 use super::*;
+use std::alloc::Global;
 use std::test::Fail;
+use wsm_record::{Field, Form, Kind, Mode, Name, Schema, Ty};
+use wsm_windows::Shape;
 
 // Counts the records of keys a and b in windows of 60, and sums their field n.
 const BASE: [u8; 139] = [
@@ -32,6 +35,69 @@ fn bytes_are_read_and_written_again(rt: HostRuntime) -> Result<(), Fail> {
     assert_eq!(rt; bytes.as_slice(), BASE.as_slice());
     let listing = disassemble(rt.alloc(), &program)?;
     assert_eq!(rt; listing.as_str(), LINES);
+    Ok(())
+}
+
+// The header of the same program.
+fn base_header(alloc: Global) -> Result<Header, Fail> {
+    let mut keys = Vec::new(alloc);
+    keys.push(Name::new(b"a").ok_or("a name")?)?;
+    keys.push(Name::new(b"b").ok_or("a name")?)?;
+    let name = Name::new(b"n").ok_or("a name")?;
+    let ty = Ty::Int { lo: 0, hi: 100 };
+    let mut fields = Vec::new(alloc);
+    fields.push(Field { name, ty })?;
+    Ok(Header {
+        schema: Schema::new(alloc, &keys, &fields)?,
+        start: 0,
+        skew: 100,
+        lateness: 10,
+        records: 1000,
+        shape: Shape::Fixed(60),
+        mode: Mode::Accumulating,
+        early: 0,
+        late: 0,
+        form: Form::Panes,
+        kinds: Vec::from_slice(alloc, &[Kind::Sum])?,
+        columns: Vec::from_slice(alloc, &[CellType::Int, CellType::Int])?,
+        budget: Budget {
+            per_record: 5,
+            per_pane: 4,
+            held: 6,
+        },
+    })
+}
+
+// Its sections put together, where UPDATE folds a field.
+fn put_together(alloc: Global, field: u8) -> Result<Result<Program, DecodeRefusal>, Fail> {
+    let selection = [Instr::PushBool(true), Instr::Return];
+    let update = [Instr::Field(field), Instr::Fold(0), Instr::Return];
+    let fire = [
+        Instr::Count,
+        Instr::Acc(0),
+        Instr::PushBool(true),
+        Instr::Return,
+    ];
+    Ok(Program::new(
+        base_header(alloc)?,
+        Vec::from_slice(alloc, &selection)?,
+        Vec::from_slice(alloc, &update)?,
+        Vec::from_slice(alloc, &fire)?,
+    ))
+}
+
+#[test]
+fn parts_are_put_together(rt: HostRuntime) -> Result<(), Fail> {
+    let program = put_together(rt.alloc(), 0)??;
+    let bytes = encode(rt.alloc(), &program)?;
+    assert_eq!(rt; bytes.as_slice(), BASE.as_slice());
+    Ok(())
+}
+
+#[test]
+fn an_undeclared_field_is_refused(rt: HostRuntime) -> Result<(), Fail> {
+    let refusal = put_together(rt.alloc(), 1)?.err();
+    assert_eq!(rt; refusal, Some(DecodeRefusal::Operand));
     Ok(())
 }
 
