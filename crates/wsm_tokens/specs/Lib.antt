@@ -1,6 +1,7 @@
 pub mod Place
 pub mod Tokens
 pub mod Written
+pub mod Proper
 pub mod Code
 pub mod Sight
 pub mod Read

@@ -1,9 +1,10 @@
 -- Texts and their tokens, computed by the definitions.
-use Rattle.std.specs.Prelude.{◌≡◌, refl, ◌++◌, [], ◌∷◌, pos, replicate, codes}
+use Rattle.std.specs.Prelude.{◌≡◌, refl, true, false, ◌++◌, [], ◌∷◌, pos, negsuc, replicate, codes}
 use Rattle.wsm_tokens.specs.declared.fault.Fault.TheVariants.{BadCharacter, NumberTooLarge}
 use Rattle.wsm_tokens.specs.declared.token.Sign.TheVariants.{Dot, DotDot, Less, LessOrEqual, NotEqual}
 use Rattle.wsm_tokens.specs.Tokens.{Word, Mark, Number, Then, End, Bad, tokens, tokens_from, first_of, sign_of}
 use Rattle.wsm_tokens.specs.Place.{place_of}
+use Rattle.wsm_tokens.specs.Proper.{is_proper}
 
 no_bytes : tokens [] ≡ End 0
 unfolding tokens tokens_from
@@ -65,3 +66,16 @@ second_line = refl
 behind_a_line : place_of (codes "KEYS a;\n") 8 ≡ record { line = 2; column = 1 }
 unfolding place_of
 behind_a_line = refl
+
+keyword : is_proper (Word (codes "SELECT")) ≡ true
+keyword = refl
+
+-- 33 bytes
+long_is_improper : is_proper (Word (replicate 33 97)) ≡ false
+long_is_improper = refl
+
+digit_is_no_word : is_proper (Word (codes "1x")) ≡ false
+digit_is_no_word = refl
+
+negative_is_improper : is_proper (Number (negsuc 0)) ≡ false
+negative_is_improper = refl

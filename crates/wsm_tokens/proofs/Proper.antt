@@ -1,0 +1,75 @@
+-- Which tokens are proper: names, and all that a text has.
+use Rattle.std.proofs.Common.{◌≡◌, ℕ, zero, suc, ◌+◌, ◌≤◌, Bool, true, ◌&&◌, not, List, [], ◌∷◌, ◌++◌, length, take, leb, pos, refl, arith, one-add}
+use Rattle.std.specs.Prelude.{Option, Some, None}
+use Rattle.std.specs.List.{prefix_len, list_all}
+use Rattle.std.proofs.lemmas.Bool.{and_parts, and_from, cond_both, ltb-true, le-leb}
+use Rattle.std.proofs.Math.Dec.{ltb}
+use Rattle.std.proofs.lemmas.List.Folds.{length-prefix_len, list_all-append}
+use Rattle.wsm_record.specs.Name.{is_letter, is_digit, is_word, is_word_byte, is_name, is_reserved, name_limit}
+use Rattle.wsm_tokens.specs.declared.token.Sign.{Sign}
+use Rattle.wsm_tokens.specs.Tokens.{Token, Word, Number, Then, Bad, First, Blank, Found, Lost, sign_of, is_blank, value_of, number_limit, first_of, first_word, first_number, first_sign, tokens_from, tokens}
+use Rattle.wsm_tokens.specs.Proper.{is_proper, are_proper, has_proper}
+
+pub name_is_proper : (w : List ℕ) → is_name w ≡ true → is_proper (Word w) ≡ true
+name_is_proper w h =
+    let a = and_parts (is_word w) (leb (length w) name_limit && not (is_reserved w)) h in
+    let b = and_parts (leb (length w) name_limit) (not (is_reserved w)) a.1 in
+    and_from (is_word w) (leb (length w) name_limit) a.0 b.0
+
+pub number_is_proper : (n : ℕ) → n ≤ number_limit → is_proper (Number (pos n)) ≡ true
+number_is_proper n h = le-leb n number_limit h
+
+pub proper-append : (us vs : List Token) → are_proper us ≡ true → are_proper vs ≡ true → are_proper (us ++ vs) ≡ true
+proper-append us vs h k = rw (list_all-append is_proper us vs, h, k) refl
+
+passing : (p : ℕ → Bool) (xs : List ℕ) → list_all p (take (prefix_len p xs) xs) ≡ true
+passing p [] = refl
+passing p (c ∷ xs) =
+    cond_both (p c) (1 + prefix_len p xs) 0 (λ n. list_all p (take n (c ∷ xs)) ≡ true) (λ e. rw (one-add, e, passing p xs) refl) (λ e. refl)
+
+-- what a text begins with is no token, or a proper one
+abbrev begins_proper : First → Bool
+begins_proper Blank = true
+begins_proper (Found t more) = is_proper t
+begins_proper (Lost fault on) = true
+
+word_is_proper : (c : ℕ) (text : List ℕ) → is_letter c ≡ true → begins_proper (first_word c text (prefix_len is_word_byte text)) ≡ true
+word_is_proper c text e =
+    let m = prefix_len is_word_byte text in
+    let long = λ (h : ltb m name_limit ≡ true). le-leb (length (c ∷ take m text)) name_limit (omega (arith, ltb-true m name_limit h, length-prefix_len is_word_byte text)) in
+    cond_both (ltb m name_limit) (Found (Word (c ∷ take m text)) m) _ (λ f. begins_proper f ≡ true) (λ h. rw (e, passing is_word_byte text, long h) refl) (λ h. refl)
+
+figures_are_proper : (value more : ℕ) → begins_proper (first_number value more) ≡ true
+figures_are_proper value more = cond_both (leb value number_limit) (Found (Number (pos value)) more) _ (λ f. begins_proper f ≡ true) (λ h. h) (λ h. refl)
+
+sign_is_proper : (o : Option Sign) → begins_proper (first_sign o) ≡ true
+sign_is_proper None = refl
+sign_is_proper (Some s) = refl
+
+first_is_proper : (c : ℕ) (text : List ℕ) → begins_proper (first_of c text) ≡ true
+unfolding first_of
+first_is_proper c text =
+    let P = λ (f : First). begins_proper f ≡ true in
+    let n = prefix_len is_digit text in
+    cond_both (is_blank c) _ _ P (λ h. refl) (λ h.
+    cond_both (is_letter c) _ _ P (word_is_proper c text) (λ h.
+    cond_both (is_digit c) _ _ P (λ h. figures_are_proper (value_of (c ∷ take n text)) n) (λ h. sign_is_proper (sign_of (c ∷ text)))))
+
+pub from_proper : (behind at : ℕ) (text : List ℕ) → has_proper (tokens_from behind at text) ≡ true
+unfolding tokens_from has_proper
+from_proper behind at [] = refl
+from_proper (suc behind) at (c ∷ text) = from_proper behind (at + 1) text
+from_proper zero at (c ∷ text) =
+    elim (first_of c text) as (λ f. begins_proper f ≡ true → has_proper (elim f [
+      | Blank ↦ tokens_from zero (at + 1) text
+      | Found token more ↦ Then token at (tokens_from more (at + 1) text)
+      | Lost fault on ↦ Bad fault (at + on)
+    ]) ≡ true) [
+      | Blank ↦ λ h. from_proper zero (at + 1) text
+      | Found token more ↦ λ h. rw (h, from_proper more (at + 1) text) refl
+      | Lost fault on ↦ λ h. refl
+    ] (first_is_proper c text)
+
+pub tokens_are_proper : (text : List ℕ) → has_proper (tokens text) ≡ true
+unfolding tokens
+tokens_are_proper text = from_proper 0 0 text
