@@ -1,5 +1,6 @@
 -- Where a byte of a text stands.
-use Rattle.std.specs.Prelude.{ℕ, ◌+◌, Bool, not, nat_eq, List, take, count_by}
+use Rattle.std.specs.Prelude.{ℕ, ◌+◌, ◌++◌, Bool, not, nat_eq, List, take, count_by, codes}
+use Rattle.std.specs.Fmt.{decimal}
 use Rattle.std.specs.List.{suffix_len}
 use Rattle.wsm_tokens.specs.declared.place.Place.{Place}
 
@@ -11,3 +12,7 @@ unfoldable pub place_of : List ℕ → ℕ → Place
 place_of text offset =
     let before = take offset text in
     record { line = 1 + count_by is_line_feed before; column = 1 + suffix_len (λ c. not (is_line_feed c)) before }
+
+-- LINE:COLUMN
+abbrev pub place_text : Place → List ℕ
+place_text p = decimal p.line ++ codes ":" ++ decimal p.column

@@ -48,6 +48,11 @@ pub enum ParseRefusal {
 }
 
 impl Display for Fault {
+    ghost use Rattle.std.specs.Prelude.{Some};
+    ghost use Rattle.wsm_tokens.specs.Refusal.{fault_text};
+
+    ghost output = { λ fault. Some (fault_text fault) };
+
     fn fmt<W: fmt::Write>(&self, f: &mut Formatter<W>) -> fmt::Result {
         f.write_str(match self {
             Fault::BadCharacter => "P1 BadCharacter",
@@ -59,6 +64,11 @@ impl Display for Fault {
 }
 
 impl Display for ParseRefusal {
+    ghost use Rattle.std.specs.Prelude.{Some};
+    ghost use Rattle.wsm_tokens.specs.Refusal.{refusal_text};
+
+    ghost output = { λ refusal. Some (refusal_text refusal) };
+
     fn fmt<W: fmt::Write>(&self, f: &mut Formatter<W>) -> fmt::Result {
         match self {
             ParseRefusal::Text(fault, place) => write!(f, "{fault} at {place}"),

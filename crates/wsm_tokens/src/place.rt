@@ -57,6 +57,11 @@ fn column_of(text: &[u8]) -> usize
 }
 
 impl Display for Place {
+    ghost use Rattle.std.specs.Prelude.{Some};
+    ghost use Rattle.wsm_tokens.specs.Place.{place_text};
+
+    ghost output = { λ place. Some (place_text place) };
+
     fn fmt<W: fmt::Write>(&self, f: &mut Formatter<W>) -> fmt::Result {
         let line = self.line;
         let column = self.column;
