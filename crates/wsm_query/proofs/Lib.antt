@@ -1,3 +1,4 @@
 pub mod Chains
 pub mod Levels
 pub mod Lists
+pub mod Written

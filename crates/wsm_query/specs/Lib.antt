@@ -1,5 +1,6 @@
 pub mod Tree
 pub mod Seen
+pub mod Adds
 pub mod Grammar
 pub mod Steps
 pub mod Parse

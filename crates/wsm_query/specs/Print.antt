@@ -92,7 +92,7 @@ abbrev pub budget_tokens : Option Budget → List Token
 budget_tokens None = []
 budget_tokens (Some b) =
     clause_tokens (codes "BUDGET")
-        (Word (codes "RECORD") ∷ figures b.per_record ++ Word (codes "PANE") ∷ figures b.per_pane ++ Word (codes "HELD") ∷ figures b.held)
+    (Word (codes "RECORD") ∷ figures b.per_record ++ Word (codes "PANE") ∷ figures b.per_pane ++ Word (codes "HELD") ∷ figures b.held)
 
 abbrev pub condition_tokens : List ℕ → Option Expr → List Token
 condition_tokens w None = []

@@ -5,6 +5,7 @@
 #![tactic(auto)]
 
 pub use expr::{Expr, Op};
+pub use printing::print;
 pub use query::{Budget, Declared, Query, Ty};
 pub use reading::parse;
 
@@ -12,6 +13,10 @@ mod clauses;
 mod expr;
 mod level;
 mod parse_expr;
+mod print_clauses;
+mod print_expr;
+mod print_tokens;
+mod printing;
 mod query;
 mod reading;
 #[cfg(test)]
