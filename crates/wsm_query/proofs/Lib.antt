@@ -5,3 +5,4 @@ pub mod Written
 pub mod Blind
 pub mod BlindRules
 pub mod Spelt
+pub mod SpeltRules

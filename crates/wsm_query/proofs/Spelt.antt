@@ -93,7 +93,7 @@ no_sign : sign_of [] ≡ None
 unfolding sign_of
 no_sign = refl
 
-differ : {A : Type 0} (b : Bool) → b ≡ true → b ≡ false → A
+pub differ : {A : Type 0} (b : Bool) → b ≡ true → b ≡ false → A
 differ b e f = cc
 
 word_only : (s : List ℕ) → is_worded s ≡ true → (u : Token) → is_proper u ≡ true → bytes_eq s (spelling u) ≡ true → u ≡ Word s
