@@ -6,3 +6,5 @@ pub mod Blind
 pub mod BlindRules
 pub mod Spelt
 pub mod SpeltRules
+pub mod SpeltClauses
+pub mod Tail
