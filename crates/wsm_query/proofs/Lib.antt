@@ -8,3 +8,4 @@ pub mod Spelt
 pub mod SpeltRules
 pub mod SpeltClauses
 pub mod Tail
+pub mod Back
