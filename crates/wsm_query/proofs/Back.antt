@@ -55,12 +55,34 @@ pub carry_end : {A : Type 0} {whole : Rule A} {front : List Token} {final : A �
 carry_end {whole = whole} x same =
     record { law = λ p e ts q. record { again = λ k. ap (λ us. whole (put us k)) (sym same) ∙ e k; proper = ap are_proper (sym same) ∙ p; rest_proper = q } }
 
+last_backs : {A : Type 0} (whole : Rule A) (front : List Token) (rule : Rule A) (toks final : A → List Token) (read : Read A)
+    → are_proper front ≡ true → ((k : Tokens) → whole (put front k) ≡ rule k) → ((x : A) → front ++ toks x ≡ final x)
+    → Backs rule toks read → Backs whole final read
+last_backs whole front rule toks final (Took x rest) p e same b =
+    record {
+      again = λ k. ap (λ us. whole (put us k)) (sym (same x)) ∙ ap whole (put_append front (toks x) k) ∙ e (put (toks x) k) ∙ b.again k;
+      proper = ap are_proper (sym (same x)) ∙ more_proper front (toks x) p b.proper;
+      rest_proper = b.rest_proper;
+    }
+last_backs whole front rule toks final (Stopped f) p e same b = tt
+
+-- a last rule behind the tokens in front
+pub carry_last : {A : Type 0} {whole : Rule A} {front : List Token} {rule : Rule A} {toks final : A → List Token}
+    → ReadsBack rule toks → ((x : A) → front ++ toks x ≡ final x) → Carries whole front rule final
+carry_last {whole = whole} {front = front} {rule = rule} {toks = toks} {final = final} r same =
+    record { law = λ p e ts q. last_backs whole front rule toks final (rule ts) p e same (r.law ts q) }
+
+pub alike : {A : Type 0} {whole : Rule A} {front : List Token} {rule : Rule A} {final : A → List Token} (other : Rule A) → ((ts : Tokens) → rule ts ≡ other ts)
+    → Carries whole front other final → Carries whole front rule final
+alike {whole = whole} {final = final} other same c =
+    record { law = λ p e ts q. subst (λ r. Backs whole final r) (sym (same ts)) (c.law p (λ k. e k ∙ same k) ts q) }
+
 -- a rule behind a first token
 pub carries_behind : {A : Type 0} {whole rule : Rule A} {final : A → List Token} (t : Token) (ts : Tokens) → First t ts → ((k : Tokens) → whole (Then t 0 k) ≡ rule k)
     → Carries whole (t ∷ []) rule final → Backs whole final (rule (behind ts))
 carries_behind t ts f e c = c.law (both_true f.itself refl) e (behind ts) f.proper
 
-asked_again : (s : List ℕ) (t : Token) → bytes_eq s (spelling t) ≡ true → (k : Tokens) → ask s (Then t 0 k) ≡ Took tt k
+pub asked_again : (s : List ℕ) (t : Token) → bytes_eq s (spelling t) ≡ true → (k : Tokens) → ask s (Then t 0 k) ≡ Took tt k
 unfolding ask begins behind
 asked_again s t e k = ap (λ (b : Bool). elim b [ true ↦ Took tt k | false ↦ Stopped (unexpected (Then t 0 k)) ]) e
 

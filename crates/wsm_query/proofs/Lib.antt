@@ -9,3 +9,6 @@ pub mod SpeltRules
 pub mod SpeltClauses
 pub mod Tail
 pub mod Back
+pub mod BackRules
+pub mod QueryAgain
+pub mod RoundTrip

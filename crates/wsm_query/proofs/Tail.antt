@@ -46,7 +46,7 @@ behind_fields keys fields = do
     form = form;
   })
 
-clause_blind : {A : Type 0} {rule : Rule A} (s : List ℕ) → Blind rule → Blind (clause s rule)
+pub clause_blind : {A : Type 0} {rule : Rule A} (s : List ℕ) → Blind rule → Blind (clause s rule)
 clause_blind s r = after_blind s (until_blind (codes ";") r)
 
 pub tail_blind : (keys : List Name) (fields : List Declared) → Blind (behind_fields keys fields)
