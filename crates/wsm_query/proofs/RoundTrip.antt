@@ -1,10 +1,9 @@
 -- A query that a text was read as is read again from the text that it is printed as.
-use Rattle.std.proofs.Common.{◌≡◌, ℕ, List, refl, sym, ap, ◌∙◌}
-use Rattle.std.specs.Prelude.{Result, Ok, Err, codes}
-use Rattle.wsm_tokens.specs.declared.fault.ParseRefusal.{ParseRefusal}
+use Rattle.std.proofs.Common.{◌≡◌, ℕ, List, refl, sym, ap, subst, ◌∙◌}
+use Rattle.std.specs.Prelude.{Ok, codes}
 use Rattle.wsm_tokens.specs.Tokens.{Tokens, End, tokens}
-use Rattle.wsm_tokens.specs.Read.{Read, Took, Stopped, ended}
-use Rattle.wsm_tokens.specs.Written.{bare, put, written}
+use Rattle.wsm_tokens.specs.Read.{Read, Took, Stopped}
+use Rattle.wsm_tokens.specs.Written.{written}
 use Rattle.wsm_tokens.proofs.Proper.{tokens_are_proper}
 use Rattle.wsm_tokens.proofs.ReadBack.{read_back}
 use Rattle.wsm_query.specs.Tree.{Query}
@@ -13,6 +12,7 @@ use Rattle.wsm_query.specs.Parse.{query_text, outcome, parse}
 use Rattle.wsm_query.specs.Print.{query_tokens, print}
 use Rattle.wsm_query.proofs.Blind.{Blind, bare_read, give_blind, bind_blind, brace_blind, ended_blind}
 use Rattle.wsm_query.proofs.BlindRules.{names_blind, field_blind}
+use Rattle.wsm_query.proofs.Spelt.{Proper}
 use Rattle.wsm_query.proofs.Tail.{clause_blind, tail_blind}
 use Rattle.wsm_query.proofs.QueryAgain.{Whole, text_again}
 
@@ -39,6 +39,10 @@ printed q w =
 taken : (text : List ℕ) (q : Query) (read : Read Query) → query_text (tokens text) ≡ read → outcome text read ≡ Ok q → Whole q
 taken text q (Took given rest) e o = let same : given ≡ q = cc in text_again (tokens text) (tokens_are_proper text) q rest (e ∙ ap (λ q. Took q rest) same)
 taken text q (Stopped f) e o = cc
+
+-- a query that was read whole from the tokens of a text
+pub printed_again : (text : List ℕ) (ts : Tokens) (q : Query) (rest : Tokens) → ts ≡ tokens text → query_text ts ≡ Took q rest → parse (print q) ≡ Ok q
+printed_again text ts q rest same e = printed q (text_again ts (subst (λ us. Proper us) (sym same) (tokens_are_proper text)) q rest e)
 
 pub round_trip : (text : List ℕ) (q : Query) → parse text ≡ Ok q → parse (print q) ≡ Ok q
 unfolding parse

@@ -1,9 +1,10 @@
 //! The rule of a whole query, and the reading of a text.
 
-ghost use Rattle.std.specs.Prelude.{codes, option_map};
+ghost use Rattle.std.specs.Prelude.{◌≡◌, Ok, IfOk, codes, option_map};
 ghost use Rattle.wsm_tokens.specs.Read.{Gives, number};
 ghost use Rattle.wsm_query.specs.Grammar as rule;
 ghost use Rattle.wsm_query.specs.Parse.{Parses, parse, query_text};
+ghost use Rattle.wsm_query.specs.Print.{print};
 ghost use Rattle.wsm_query.specs.Seen.{seen, seen_budget, seen_expr};
 
 use crate::clauses::{budget, columns, every, fields, form, mode, names, shape};
@@ -13,10 +14,12 @@ use crate::query::{Budget, Query};
 use std::alloc::Global;
 use wsm_tokens::{ParseRefusal, Reader, Stop, refusal_of};
 
-/// The tree of a query text, or the first fault from the left with its place.
+/// The tree of a query text, or the first fault from the left with its place. The text that a query is printed as has
+/// that query's tree.
 #[tactic(auto, unfolding(crate::specs::Parse::parse))]
 pub fn parse(alloc: Global, text: &[u8]) -> Result<Query, ParseRefusal>
-    ensures { Parses result (parse text.now) }
+    ensures reads { Parses result (parse text.now) }
+    ensures printed { IfOk result (λ q. parse (print (seen q)) ≡ Ok (seen q)) }
 {
     let mut reader = Reader::new(text);
     match query_text(alloc, &mut reader) {
