@@ -1,16 +1,15 @@
 -- Rules that read the tokens of what they took again, whatever stands behind these.
 use Rattle.std.proofs.Common.{◌≡◌, ℕ, zero, suc, ◌≤◌, Bool, true, false, List, [], ◌∷◌, ◌++◌, length, refl, sym, ap, subst, ◌∙◌, arith}
-use Rattle.std.specs.Prelude.{Option, Some, None, codes, bytes_eq}
-use Rattle.std.specs.List.{flat_map, list_all}
+use Rattle.std.specs.Prelude.{bytes_eq}
+use Rattle.std.specs.List.{flat_map}
 use Rattle.std.specs.Cmp.Derive.{both_true}
 use Rattle.std.proofs.lemmas.List.Folds.{list_all-append}
-use Rattle.std.proofs.lemmas.Bool.{and_parts}
-use Rattle.wsm_tokens.specs.Tokens.{Token, Word, Mark, Tokens, Then, End, Bad}
-use Rattle.wsm_tokens.specs.Proper.{is_proper, are_proper, has_proper}
+use Rattle.wsm_tokens.specs.Tokens.{Token, Tokens, Then}
+use Rattle.wsm_tokens.specs.Proper.{is_proper, are_proper}
 use Rattle.wsm_tokens.specs.Read.{Read, Rule, Took, Stopped, ◌>>=◌, give, and_then, unexpected, begins, behind, count, spelling, ask}
-use Rattle.wsm_tokens.specs.Written.{bare, put}
+use Rattle.wsm_tokens.specs.Written.{put}
 use Rattle.wsm_query.specs.Grammar.{either, turns, brace}
-use Rattle.wsm_query.proofs.Spelt.{Proper, put_append, Says, differ, First, begun}
+use Rattle.wsm_query.proofs.Spelt.{Proper, put_append, Says, First, begun}
 
 -- the rule reads the tokens of x again
 abbrev pub Again : {A : Type 0} → Rule A → (A → List Token) → A → Type 0

@@ -1,6 +1,6 @@
 -- The keys and the fields of a query are read again from their tokens.
-use Rattle.std.proofs.Common.{◌≡◌, ℕ, zero, suc, Bool, true, false, List, [], ◌∷◌, ◌++◌, map, ℤ, pos, negsuc, neg_ℤ, refl, sym, ap, ◌∙◌, append_assoc}
-use Rattle.std.specs.Prelude.{Option, Some, None, codes, bytes_eq}
+use Rattle.std.proofs.Common.{◌≡◌, ℕ, zero, suc, Bool, true, false, List, [], ◌∷◌, ◌++◌, ℤ, pos, negsuc, neg_ℤ, refl, sym, ap, ◌∙◌}
+use Rattle.std.specs.Prelude.{codes, bytes_eq}
 use Rattle.std.specs.List.{flat_map}
 use Rattle.std.specs.Cmp.Derive.{both_true}
 use Rattle.std.proofs.lemmas.Bool.{and_parts}
@@ -12,13 +12,13 @@ use Rattle.wsm_tokens.specs.declared.token.Sign.TheVariants as signs
 use Rattle.wsm_tokens.specs.Tokens.{Token, Word, Mark, Number as Figure, Tokens, Then, End, Bad, sign_text}
 use Rattle.wsm_tokens.specs.Proper.{is_proper, are_proper, has_proper}
 use Rattle.wsm_tokens.specs.Read.{Read, Rule, Took, Stopped, ◌>>=◌, give, and_then, unexpected, begins, behind, spelling, ask, number, name}
-use Rattle.wsm_tokens.specs.Written.{bare, put}
+use Rattle.wsm_tokens.specs.Written.{put}
 use Rattle.wsm_query.specs.Tree.{Name, Ty, IntTy, BoolTy, EnumTy, Declared}
 use Rattle.wsm_query.specs.Grammar.{after, until, clause, either, brace, list_of, int, names, type_of, field}
-use Rattle.wsm_query.specs.Print.{figures, with_commas, name_tokens, ty_tokens, field_tokens, clause_tokens}
-use Rattle.wsm_query.proofs.Spelt.{Proper, put_append, Says, word_says, sign_says, differ, First, begun}
+use Rattle.wsm_query.specs.Print.{figures, name_tokens, ty_tokens, clause_tokens}
+use Rattle.wsm_query.proofs.Spelt.{Proper, put_append, Says, word_says, sign_says, differ, begun}
 use Rattle.wsm_query.proofs.SpeltClauses.{commas}
-use Rattle.wsm_query.proofs.Back.{Again, Back, Backs, ReadsBack, Carries, more_proper, carried, carry, carry_end, carry_last, alike, carries_behind, asked_again, ask_back, AllAgain, Lasts, AllBack, brace_back, brace_again}
+use Rattle.wsm_query.proofs.Back.{Again, Back, Backs, ReadsBack, Carries, more_proper, carried, carry, carry_end, carry_last, alike, carries_behind, asked_again, ask_back, AllAgain, AllBack, brace_back, brace_again}
 
 abbrev word_token : Name → List Token
 word_token x = Word x ∷ []

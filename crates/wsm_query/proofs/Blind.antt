@@ -5,7 +5,7 @@ use Rattle.wsm_tokens.specs.declared.fault.TextFault.{TextFault}
 use Rattle.wsm_tokens.specs.Tokens.{Tokens, Then, End, Bad, Word, Mark, Number}
 use Rattle.wsm_tokens.specs.Read.{Read, Rule, Took, Stopped, ◌>>=◌, give, and_then, unexpected, too_deep, begins, begins_number, behind, count, ask, number, name, is_end, ended}
 use Rattle.wsm_tokens.specs.Written.{bare}
-use Rattle.wsm_query.specs.Grammar.{looked_up, one_of, either, after, until, clause, optional, turns, brace, list_of, Deeper, opened, at}
+use Rattle.wsm_query.specs.Grammar.{looked_up, one_of, either, after, until, optional, turns, brace, list_of, Deeper, opened, at}
 use Rattle.wsm_record.specs.Name.{is_name}
 
 abbrev pub bare_fault : TextFault → TextFault

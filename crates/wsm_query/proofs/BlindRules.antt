@@ -1,15 +1,15 @@
 -- Each rule of the grammar is blind to places.
-use Rattle.std.proofs.Common.{ℕ, zero, suc, true, false, List, [], ◌∷◌, neg_ℤ}
-use Rattle.std.specs.Prelude.{Option, Some, None, codes}
+use Rattle.std.proofs.Common.{ℕ, zero, suc, true, false, [], ◌∷◌, neg_ℤ}
+use Rattle.std.specs.Prelude.{Option, codes}
 use Rattle.wsm_record.specs.declared.words.Kind.{Kind}
 use Rattle.wsm_record.specs.declared.words.Mode.TheVariants.{Discarding, Accumulating}
 use Rattle.wsm_record.specs.declared.words.Form.TheVariants.{Panes, Istream, Dstream, Rstream}
 use Rattle.wsm_windows.specs.declared.window.Shape.TheVariants.{Fixed, Sliding, Session}
-use Rattle.wsm_tokens.specs.Read.{Rule, Took, Stopped, ◌>>=◌, give, and_then, behind, number, too_deep}
-use Rattle.wsm_query.specs.Tree.{Name, Ty, IntTy, BoolTy, EnumTy, Declared, Budget, Query, Expr, Number, Truth, Field, EnumName, Key, KeyName, Count, Aggregate, If, Brackets, Minus, Not}
+use Rattle.wsm_tokens.specs.Read.{Rule, Stopped, give, and_then, behind, too_deep}
+use Rattle.wsm_query.specs.Tree.{Name, IntTy, BoolTy, EnumTy, Expr, Number, Truth, Field, EnumName, Key, KeyName, Count, Aggregate, If, Brackets, Minus, Not}
 use Rattle.wsm_query.specs.Grammar.{kinds, aggregate, count_of, choice, brackets, pointed, leaf, atom, unary, chain, chain_limit, chained, products, sums, comparisons, ands, ors, prod, sum, compared, cmp, neg, conj, expr_in, Deeper, deeper, levels, level_limit, expr, int, names, type_of, field, budget, shape, mode, form, every}
 use Rattle.wsm_query.proofs.Chains.{Table}
-use Rattle.wsm_query.proofs.Blind.{Blind, BlindAt, BlindIn, give_blind, bind_blind, behind_blind, deep_blind, lost_blind, at_blind, either_blind, numbered_blind, listed_blind, one_of_blind, ask_blind, number_blind, name_blind, after_blind, until_blind, list_of_blind, opened_blind}
+use Rattle.wsm_query.proofs.Blind.{Blind, BlindAt, BlindIn, give_blind, bind_blind, behind_blind, deep_blind, at_blind, either_blind, numbered_blind, listed_blind, one_of_blind, ask_blind, number_blind, name_blind, after_blind, until_blind, list_of_blind, opened_blind}
 
 aggregate_blind : (d : Option Deeper) → BlindIn d → (kind : Kind) → Blind (aggregate d kind)
 unfolding aggregate
@@ -25,12 +25,12 @@ choice_blind : (d : Option Deeper) → BlindIn d → Blind (choice d)
 unfolding choice
 choice_blind d k =
     opened_blind d k (λ e h.
-      bind_blind h.expr (λ c.
-      bind_blind (ask_blind (codes "THEN")) (λ _.
-      bind_blind h.expr (λ x.
-      bind_blind (ask_blind (codes "ELSE")) (λ _.
-      bind_blind h.expr (λ y.
-      bind_blind (ask_blind (codes "END")) (λ _. give_blind (If c x y))))))))
+    bind_blind h.expr (λ c.
+    bind_blind (ask_blind (codes "THEN")) (λ _.
+    bind_blind h.expr (λ x.
+    bind_blind (ask_blind (codes "ELSE")) (λ _.
+    bind_blind h.expr (λ y.
+    bind_blind (ask_blind (codes "END")) (λ _. give_blind (If c x y))))))))
 
 brackets_blind : (d : Option Deeper) → BlindIn d → Blind (brackets d)
 unfolding brackets

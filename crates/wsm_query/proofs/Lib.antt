@@ -1,7 +1,6 @@
 pub mod Chains
 pub mod Levels
 pub mod Lists
-pub mod Written
 pub mod Blind
 pub mod BlindRules
 pub mod Spelt
@@ -12,3 +11,4 @@ pub mod Back
 pub mod BackRules
 pub mod QueryAgain
 pub mod RoundTrip
+pub mod Written

@@ -1,21 +1,20 @@
 -- A query that was read from tokens is read from its own tokens again.
-use Rattle.std.proofs.Common.{◌≡◌, ℕ, Bool, true, false, List, [], ◌∷◌, ◌++◌, refl, sym, ap, subst, ◌∙◌}
-use Rattle.std.specs.Prelude.{Result, Ok, Err, codes}
+use Rattle.std.proofs.Common.{◌≡◌, Bool, true, false, List, [], ◌∷◌, refl, sym, ap, subst, ◌∙◌}
+use Rattle.std.specs.Prelude.{codes}
 use Rattle.std.specs.List.{flat_map}
 use Rattle.std.specs.Cmp.Derive.{both_true}
 use Rattle.std.proofs.lemmas.Bool.{and_parts}
-use Rattle.wsm_tokens.specs.declared.fault.ParseRefusal.{ParseRefusal}
 use Rattle.wsm_tokens.specs.Tokens.{Token, Word, Tokens, Then, End, Bad}
 use Rattle.wsm_tokens.specs.Proper.{is_proper, are_proper, has_proper}
 use Rattle.wsm_tokens.specs.Read.{Read, Rule, Took, Stopped, ◌>>=◌, give, and_then, unexpected, begins, behind, number, is_end, ask, ended}
 use Rattle.wsm_tokens.specs.Written.{bare, put}
 use Rattle.wsm_query.specs.Tree.{Name, Declared, Query}
 use Rattle.wsm_query.specs.Grammar.{clause, until, brace, names, field, query}
-use Rattle.wsm_query.specs.Parse.{query_text, outcome}
+use Rattle.wsm_query.specs.Parse.{query_text}
 use Rattle.wsm_query.specs.Print.{name_tokens, clause_tokens, field_tokens, query_tokens}
-use Rattle.wsm_query.proofs.Blind.{Blind, bare_read, give_blind, bind_blind, ended_blind}
+use Rattle.wsm_query.proofs.Blind.{bare_read}
 use Rattle.wsm_query.proofs.Spelt.{Proper, put_append, word_says, First, begun, Ends}
-use Rattle.wsm_query.proofs.Back.{Again, Back, Backs, AllAgain, Lasts, AllBack, more_proper, brace_back, brace_again}
+use Rattle.wsm_query.proofs.Back.{Again, Backs, AllAgain, AllBack, more_proper, brace_back, brace_again}
 use Rattle.wsm_query.proofs.BackRules.{keys_back, field_body, field_back}
 use Rattle.wsm_query.proofs.Tail.{behind_fields, tail_blind, head_tokens, tail_goes}
 

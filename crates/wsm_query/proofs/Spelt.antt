@@ -1,17 +1,16 @@
 -- What a rule took is the tokens of its tree: with what it read and the tokens behind that, the tokens where it began are put together again.
-use Rattle.std.proofs.Common.{◌≡◌, ℕ, zero, suc, Bool, true, false, List, [], ◌∷◌, ◌++◌, ℤ, pos, negsuc, refl, sym, ap, ◌∙◌, append_assoc}
-use Rattle.std.specs.Prelude.{Option, Some, None, codes, bytes_eq, nat_le}
+use Rattle.std.proofs.Common.{◌≡◌, ℕ, Bool, true, false, List, [], ◌∷◌, ◌++◌, refl, sym, ap, ◌∙◌}
+use Rattle.std.specs.Prelude.{Option, Some, None, bytes_eq, nat_le}
 use Rattle.std.proofs.lemmas.Bool.{and_parts}
 use Rattle.std.proofs.lemmas.Slice.Eq.{bytes_eq-Decides}
-use Rattle.wsm_record.specs.Name.{is_name, is_word}
+use Rattle.wsm_record.specs.Name.{is_word}
 use Rattle.wsm_tokens.specs.declared.token.Sign.{Sign}
 use Rattle.wsm_tokens.specs.declared.token.Sign.TheVariants as signs
 use Rattle.wsm_tokens.specs.Tokens.{Token, Word, Mark, Number, Tokens, Then, End, Bad, sign_text, sign_of}
 use Rattle.wsm_tokens.specs.Proper.{is_proper, has_proper}
-use Rattle.wsm_tokens.specs.Read.{Read, Rule, Took, Stopped, ◌>>=◌, give, and_then, unexpected, too_deep, begins, begins_number, behind, spelling, ask, number, name}
+use Rattle.wsm_tokens.specs.Read.{Read, Rule, Took, Stopped, ◌>>=◌, give, and_then, unexpected, too_deep, begins, begins_number, behind, spelling}
 use Rattle.wsm_tokens.specs.Written.{bare, put}
-use Rattle.wsm_query.specs.Grammar.{looked_up, one_of, either, after, until, clause, optional, turns, brace, list_of, Deeper, opened, at}
-use Rattle.wsm_query.specs.Print.{figures}
+use Rattle.wsm_query.specs.Grammar.{looked_up, either, at}
 
 abbrev pub Proper : Tokens → Type 0
 Proper ts = has_proper ts ≡ true

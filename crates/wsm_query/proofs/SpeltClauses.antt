@@ -1,19 +1,17 @@
 -- What each clause took is the tokens of its tree.
-use Rattle.std.proofs.Common.{◌≡◌, ℕ, zero, suc, List, [], ◌∷◌, ◌++◌, map, ℤ, refl, sym, ap, ◌∙◌, append_assoc, append-nil}
+use Rattle.std.proofs.Common.{◌≡◌, ℕ, zero, suc, List, [], ◌∷◌, ◌++◌, map, refl, ap, append_assoc, append-nil}
 use Rattle.std.specs.Prelude.{Option, Some, None, codes}
 use Rattle.std.specs.List.{flat_map}
-use Rattle.wsm_record.specs.declared.words.Mode.{Mode}
 use Rattle.wsm_record.specs.declared.words.Mode.TheVariants.{Discarding, Accumulating}
-use Rattle.wsm_record.specs.declared.words.Form.{Form}
 use Rattle.wsm_record.specs.declared.words.Form.TheVariants.{Panes, Istream, Dstream, Rstream}
 use Rattle.wsm_windows.specs.declared.window.Shape.TheVariants.{Fixed, Sliding, Session}
 use Rattle.wsm_tokens.specs.declared.token.Sign.TheVariants as signs
-use Rattle.wsm_tokens.specs.Tokens.{Token, Word, Mark, Tokens}
-use Rattle.wsm_tokens.specs.Read.{Rule, Took, give, count, behind, number, name}
-use Rattle.wsm_query.specs.Tree.{Name, Budget, Expr}
+use Rattle.wsm_tokens.specs.Tokens.{Token, Word, Mark}
+use Rattle.wsm_tokens.specs.Read.{Rule, Took, count, behind}
+use Rattle.wsm_query.specs.Tree.{Budget}
 use Rattle.wsm_query.specs.Grammar.{one_of, after, clause, optional, turns, brace, list_of, names, expr, budget, shape, mode, form, every}
-use Rattle.wsm_query.specs.Print.{figures, expr_tokens, with_commas, name_tokens, clause_tokens, budget_tokens, condition_tokens, shape_tokens, mode_word, every_tokens, form_word}
-use Rattle.wsm_query.proofs.Spelt.{Says, word_says, sign_says, Spelt, Goes, spelt, last_goes, step, done, behind_opens, lost_goes, either_goes, Entry, Entries, listed_goes}
+use Rattle.wsm_query.specs.Print.{figures, with_commas, name_tokens, clause_tokens, budget_tokens, condition_tokens, shape_tokens, mode_word, every_tokens, form_word}
+use Rattle.wsm_query.proofs.Spelt.{Says, word_says, sign_says, Spelt, spelt, last_goes, step, done, behind_opens, lost_goes, either_goes, Entry, Entries, listed_goes}
 use Rattle.wsm_query.proofs.SpeltRules.{word_spelt, sign_spelt, number_spelt, name_spelt, expr_spelt}
 
 pub after_spelt : {A : Type 0} {rule : Rule A} {toks : A → List Token} (s : List ℕ) → Says s (Word s) → Spelt rule toks → Spelt (after s rule) (λ x. Word s ∷ toks x)
@@ -55,10 +53,10 @@ budget_body_spelt : Spelt budget budget_body
 unfolding budget budget_body
 budget_body_spelt =
     spelt (λ b.
-      step (after_spelt (codes "RECORD") (word_says _ refl) number_spelt) (λ r.
-      step (after_spelt (codes "PANE") (word_says _ refl) number_spelt) (λ p.
-      step (after_spelt (codes "HELD") (word_says _ refl) number_spelt) (λ h.
-      step (sign_spelt signs.Semicolon) (λ _. done (record { per_record = r; per_pane = p; held = h }) (simp append_assoc))))))
+    step (after_spelt (codes "RECORD") (word_says _ refl) number_spelt) (λ r.
+    step (after_spelt (codes "PANE") (word_says _ refl) number_spelt) (λ p.
+    step (after_spelt (codes "HELD") (word_says _ refl) number_spelt) (λ h.
+    step (sign_spelt signs.Semicolon) (λ _. done (record { per_record = r; per_pane = p; held = h }) (simp append_assoc))))))
 
 pub budget_spelt : Spelt (optional (codes "BUDGET") budget) budget_tokens
 unfolding budget_body
@@ -78,10 +76,10 @@ pub shape_spelt : Spelt shape shape_tokens
 unfolding shape
 shape_spelt =
     spelt (λ b.
-      either_goes (codes "FIXED") (Word (codes "FIXED")) (word_says _ refl) (step number_spelt (λ s. done (Fixed s) refl))
-      (either_goes (codes "SLIDING") (Word (codes "SLIDING")) (word_says _ refl)
-        (step number_spelt (λ s. step (after_spelt (codes "EVERY") (word_says _ refl) number_spelt) (λ d. done (Sliding s d) refl)))
-      (step (word_spelt (codes "SESSION") (word_says _ refl)) (λ _. step number_spelt (λ g. done (Session g) refl)))))
+    either_goes (codes "FIXED") (Word (codes "FIXED")) (word_says _ refl) (step number_spelt (λ s. done (Fixed s) refl))
+    (either_goes (codes "SLIDING") (Word (codes "SLIDING")) (word_says _ refl)
+    (step number_spelt (λ s. step (after_spelt (codes "EVERY") (word_says _ refl) number_spelt) (λ d. done (Sliding s d) refl)))
+    (step (word_spelt (codes "SESSION") (word_says _ refl)) (λ _. step number_spelt (λ g. done (Session g) refl)))))
 
 -- the word is that of the entry
 abbrev IsWord : {A : Type 0} → (A → List ℕ) → Token → A → Type 0

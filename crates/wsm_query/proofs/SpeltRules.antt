@@ -1,5 +1,5 @@
 -- What each rule of expressions took is the tokens of its tree.
-use Rattle.std.proofs.Common.{◌≡◌, ℕ, zero, suc, Bool, true, false, List, [], ◌∷◌, ◌++◌, ℤ, pos, negsuc, refl, sym, ap, ◌∙◌, append_assoc}
+use Rattle.std.proofs.Common.{◌≡◌, ℕ, zero, suc, Bool, true, false, List, [], ◌∷◌, ◌++◌, pos, negsuc, refl, sym, ap, ◌∙◌, append_assoc}
 use Rattle.std.specs.Prelude.{Option, Some, None, codes}
 use Rattle.std.proofs.lemmas.Bool.{and_parts}
 use Rattle.wsm_record.specs.Name.{is_name}
@@ -10,13 +10,13 @@ use Rattle.wsm_tokens.specs.declared.token.Sign.{Sign}
 use Rattle.wsm_tokens.specs.declared.token.Sign.TheVariants as signs
 use Rattle.wsm_tokens.specs.Tokens.{Token, Word, Mark, Number as Figure, Tokens, Then, End, Bad, sign_text}
 use Rattle.wsm_tokens.specs.Proper.{is_proper, has_proper}
-use Rattle.wsm_tokens.specs.Read.{Read, Rule, Took, Stopped, ◌>>=◌, give, and_then, too_deep, unexpected, behind, ask, number, name, begins}
-use Rattle.wsm_tokens.specs.Written.{bare, put}
+use Rattle.wsm_tokens.specs.Read.{Rule, Took, Stopped, ◌>>=◌, give, and_then, too_deep, unexpected, behind, ask, number, name, begins}
+use Rattle.wsm_tokens.specs.Written.{bare}
 use Rattle.wsm_query.specs.Tree.{Name, Expr, Number, Truth, Field, EnumName, Key, KeyName, Count, Aggregate, If, Brackets, Minus, Not}
 use Rattle.wsm_query.specs.Grammar.{kinds, aggregate, count_of, choice, brackets, pointed, leaf, atom, unary, chain, chain_limit, chained, products, sums, comparisons, ands, ors, prod, sum, compared, cmp, neg, conj, expr_in, Deeper, opened, deeper, levels, level_limit, expr}
 use Rattle.wsm_query.specs.Print.{figures, kind_word, expr_tokens}
 use Rattle.wsm_query.proofs.Chains.{Table}
-use Rattle.wsm_query.proofs.Spelt.{Proper, Says, word_says, sign_says, differ, First, begun, Ends, Spelt, Goes, Opens, spelt, last_goes, goes, step, done, moved, behind_opens, deep_opens, at_goes, either_goes, numbered_goes, Entry, Entries, listed_goes}
+use Rattle.wsm_query.proofs.Spelt.{Proper, Says, word_says, sign_says, differ, begun, Ends, Spelt, Goes, Opens, spelt, goes, step, done, moved, behind_opens, deep_opens, at_goes, either_goes, numbered_goes, Entry, Entries, listed_goes}
 
 ask_ends : (s : List ℕ) (t : Token) → Says s t → (ts : Tokens) → Proper ts → (c : Bool) → begins s ts ≡ c
     → Ends (bare ts) (λ (u : Unit {0}). t ∷ []) (elim c [ true ↦ Took tt (behind ts) | false ↦ Stopped (unexpected ts) ])
@@ -80,28 +80,28 @@ aggregate_opens : {b : Tokens} (d : Option Deeper) → SpeltIn d → (kind : Kin
 unfolding aggregate
 aggregate_opens d k kind =
     opened_goes d k (λ e h.
-      step (sign_spelt signs.Open) (λ _.
-      step h.expr (λ x.
-      step (sign_spelt signs.Close) (λ _. done (Aggregate kind x) (simp append_assoc)))))
+    step (sign_spelt signs.Open) (λ _.
+    step h.expr (λ x.
+    step (sign_spelt signs.Close) (λ _. done (Aggregate kind x) (simp append_assoc)))))
 
 count_of_opens : {b : Tokens} (d : Option Deeper) → SpeltIn d → Opens b (Word (codes "COUNT") ∷ []) (count_of d) expr_tokens
 unfolding count_of
 count_of_opens d k =
     opened_goes d k (λ e h.
-      step (sign_spelt signs.Open) (λ _.
-      step (sign_spelt signs.Star) (λ _.
-      step (sign_spelt signs.Close) (λ _. done Count refl))))
+    step (sign_spelt signs.Open) (λ _.
+    step (sign_spelt signs.Star) (λ _.
+    step (sign_spelt signs.Close) (λ _. done Count refl))))
 
 choice_opens : {b : Tokens} (d : Option Deeper) → SpeltIn d → Opens b (Word (codes "IF") ∷ []) (choice d) expr_tokens
 unfolding choice
 choice_opens d k =
     opened_goes d k (λ e h.
-      step h.expr (λ c.
-      step (word_spelt (codes "THEN") (word_says _ refl)) (λ _.
-      step h.expr (λ x.
-      step (word_spelt (codes "ELSE") (word_says _ refl)) (λ _.
-      step h.expr (λ y.
-      step (word_spelt (codes "END") (word_says _ refl)) (λ _. done (If c x y) (simp append_assoc))))))))
+    step h.expr (λ c.
+    step (word_spelt (codes "THEN") (word_says _ refl)) (λ _.
+    step h.expr (λ x.
+    step (word_spelt (codes "ELSE") (word_says _ refl)) (λ _.
+    step h.expr (λ y.
+    step (word_spelt (codes "END") (word_says _ refl)) (λ _. done (If c x y) (simp append_assoc))))))))
 
 brackets_opens : {b : Tokens} (d : Option Deeper) → SpeltIn d → Opens b (Mark signs.Open ∷ []) (brackets d) expr_tokens
 unfolding brackets
@@ -162,7 +162,7 @@ chain_goes zero table r rule s x =
 chain_goes {b = b} (suc n) table r rule s x =
     listed_goes Joins table r {found = λ make ts. and_then (rule (behind ts)) (λ y. chain n table rule (make x y))} {second = give x}
     (λ make t j. behind_opens (step {go = λ y. chain n table rule (make x y)} s (λ y.
-      moved (expr_tokens (make x y)) (joined t make x y j) (chain_goes {b = b} n table r rule s (make x y)))))
+    moved (expr_tokens (make x y)) (joined t make x y j) (chain_goes {b = b} n table r rule s (make x y)))))
     (done x refl)
 
 chained_spelt : (table : Table) → Entries Joins table → (rule : Rule Expr) → Spelt rule expr_tokens → Spelt (chained table rule) expr_tokens
@@ -182,9 +182,16 @@ sum_entries : Entries Joins sums
 sum_entries = (sign_joins signs.Plus _ (λ x y. refl), (sign_joins signs.Minus _ (λ x y. refl), tt))
 
 comparison_entries : Entries Joins comparisons
-comparison_entries =
-    (sign_joins signs.Equal _ (λ x y. refl), (sign_joins signs.NotEqual _ (λ x y. refl), (sign_joins signs.Less _ (λ x y. refl),
-    (sign_joins signs.LessOrEqual _ (λ x y. refl), (sign_joins signs.Greater _ (λ x y. refl), (sign_joins signs.GreaterOrEqual _ (λ x y. refl), tt))))))
+comparison_entries = (
+  sign_joins signs.Equal _ (λ x y. refl),
+  (
+    sign_joins signs.NotEqual _ (λ x y. refl),
+    (
+      sign_joins signs.Less _ (λ x y. refl),
+      (sign_joins signs.LessOrEqual _ (λ x y. refl), (sign_joins signs.Greater _ (λ x y. refl), (sign_joins signs.GreaterOrEqual _ (λ x y. refl), tt))),
+    ),
+  ),
+)
 
 and_entries : Entries Joins ands
 and_entries = (word_joins (codes "AND") _ (word_says _ refl) (λ x y. refl), tt)

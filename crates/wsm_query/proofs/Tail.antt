@@ -1,12 +1,12 @@
 -- What a query has behind its fields.
-use Rattle.std.proofs.Common.{◌≡◌, ℕ, List, [], ◌∷◌, ◌++◌, map, refl, append_assoc}
-use Rattle.std.specs.Prelude.{Option, Some, None, codes}
+use Rattle.std.proofs.Common.{ℕ, List, ◌++◌, refl, append_assoc}
+use Rattle.std.specs.Prelude.{codes}
 use Rattle.std.specs.List.{flat_map}
-use Rattle.wsm_tokens.specs.Tokens.{Token, Word, Tokens}
+use Rattle.wsm_tokens.specs.Tokens.{Token, Tokens}
 use Rattle.wsm_tokens.specs.Read.{Rule, ◌>>=◌, give, number}
 use Rattle.wsm_query.specs.Tree.{Name, Declared, Query}
 use Rattle.wsm_query.specs.Grammar.{after, clause, optional, list_of, expr, budget, shape, mode, form, every}
-use Rattle.wsm_query.specs.Print.{figures, expr_tokens, name_tokens, clause_tokens, field_tokens, query_tokens}
+use Rattle.wsm_query.specs.Print.{name_tokens, clause_tokens, field_tokens, query_tokens}
 use Rattle.wsm_query.proofs.Blind.{Blind, give_blind, bind_blind, number_blind, after_blind, until_blind, optional_blind, list_of_blind}
 use Rattle.wsm_query.proofs.BlindRules.{expr_blind, budget_blind, shape_blind, mode_blind, form_blind, every_blind}
 use Rattle.wsm_query.proofs.Spelt.{word_says, Goes, step, done}
@@ -84,22 +84,22 @@ tail_goes keys fields =
     step (interval_spelt (codes "EARLY") (word_says _ refl)) (λ early.
     step (interval_spelt (codes "LATE") (word_says _ refl)) (λ late.
     step (clause_spelt (codes "EMIT") (word_says _ refl) form_spelt) (λ form.
-      done
-      (record {
-        keys = keys;
-        fields = fields;
-        start = start;
-        skew = skew;
-        lateness = lateness;
-        records = records;
-        budget = budget;
-        columns = columns;
-        condition = condition;
-        having = having;
-        shape = shape;
-        mode = mode;
-        early = early;
-        late = late;
-        form = form;
-      })
-      (simp append_assoc))))))))))))))
+    done
+    (record {
+      keys = keys;
+      fields = fields;
+      start = start;
+      skew = skew;
+      lateness = lateness;
+      records = records;
+      budget = budget;
+      columns = columns;
+      condition = condition;
+      having = having;
+      shape = shape;
+      mode = mode;
+      early = early;
+      late = late;
+      form = form;
+    })
+    (simp append_assoc))))))))))))))
