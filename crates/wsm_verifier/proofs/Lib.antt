@@ -3,3 +3,4 @@ pub mod Longest
 pub mod Accepting
 pub mod Lawful
 mod Ways
+mod Trying

@@ -2,4 +2,5 @@ pub mod Costs
 pub mod Labels
 pub mod Rules
 pub mod Pushing
+pub mod Trying
 pub mod Vectors

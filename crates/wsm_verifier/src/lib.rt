@@ -15,6 +15,7 @@ mod known;
 mod paths;
 mod ranges;
 mod rejection;
+mod rules;
 mod state;
 mod table;
 mod types;

@@ -1,6 +1,6 @@
 //! What the instruction table says of each instruction.
 
-ghost use Rattle.std.specs.Prelude.{◌≡◌};
+ghost use Rattle.std.specs.Prelude.{◌≡◌, ◌≤◌};
 ghost use Rattle.wsm_verifier.specs.Labels as spec;
 ghost use Rattle.wsm_verifier.specs.Rules as rules;
 
@@ -8,7 +8,8 @@ use wsm_bytecode::{Instr, SectionId};
 
 /// How many values an instruction takes from the stack.
 pub(crate) fn pops(instr: Instr) -> usize
-    ensures { result ≡ spec.pops instr }
+    ensures taken { result ≡ spec.pops instr }
+    ensures few { result ≤ 2 }
 {
     match instr {
         Instr::Neg | Instr::Not | Instr::JumpIfFalse(_) | Instr::Fold(_) => 1,

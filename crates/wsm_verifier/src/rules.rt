@@ -1,0 +1,136 @@
+//! The rules that are tried at a place, in their order.
+
+ghost use Rattle.std.specs.Prelude.{◌≡◌, ◌≤◌, ◌&&◌, Some, suc, nat_eq};
+ghost use Rattle.std.specs.List.{list_all};
+ghost use Rattle.std.specs.Option.{option_to_list};
+ghost use Rattle.wsm_verifier.specs.Rules as rules;
+ghost use Rattle.wsm_verifier.specs.Rules.{first_of, tests};
+ghost use Rattle.wsm_verifier.specs.Trying.{setting_of, operand_tests, result_tests};
+
+use crate::known::Known;
+use crate::ranges::Ranges;
+use crate::rejection::Rule;
+use crate::state::State;
+use crate::table::{goes_on, is_bad_jump, may_stand, pops};
+use crate::types::{fit, may_divide_by_zero, sum_may_leave};
+use wsm_bytecode::{Instr, SectionId};
+use wsm_record::Kind;
+
+// The most values on a stack.
+const PLACES: usize = 32;
+
+/// Where rules are tried.
+#[derive(Clone, Copy)]
+pub(crate) struct Setting<'a> {
+    pub(crate) section: SectionId,
+    pub(crate) kinds: &'a [Kind],
+    /// The most records that are admitted.
+    pub(crate) records: i64,
+    /// What the section's stack is at its end, the last value first.
+    pub(crate) ends: &'a [Known],
+    pub(crate) ranges: &'a Ranges,
+    /// The number of the section's instructions.
+    pub(crate) length: usize,
+}
+
+impl Setting<'_> {
+    /// The first rule that holds of an instruction at a place, before which a state is known.
+    pub(crate) fn first_rule(&self, place: usize, instr: Instr, state: &State) -> Option<Rule>
+        ensures { result ≡ first_of (tests (setting_of self.now) place instr state.now) }
+    {
+        match self.operand_rule(instr, state) {
+            Some(rule) => Some(rule),
+            None => self.result_rule(place, instr, state),
+        }
+    }
+
+    // The first rule of an instruction's operands.
+    fn operand_rule(&self, instr: Instr, state: &State) -> Option<Rule>
+        ensures { result ≡ first_of (operand_tests (setting_of self.now) instr state.now) }
+    {
+        let stack = state.stack();
+        if !may_stand(self.section, instr) {
+            return Some(Rule::NotHere);
+        }
+        if stack.len() < pops(instr) {
+            return Some(Rule::StackUnderflow);
+        }
+        if !fit(self.kinds, self.ends, instr, stack) {
+            return Some(Rule::Type);
+        }
+        if folds_again(instr, state.folded()) {
+            return Some(Rule::FoldTwice);
+        }
+        if may_divide_by_zero(instr, stack) {
+            return Some(Rule::MayDivideByZero);
+        }
+        None
+    }
+
+    // The first rule of what an instruction makes of its operands, and of where it goes.
+    fn result_rule(&self, place: usize, instr: Instr, state: &State) -> Option<Rule>
+        ensures { result ≡ first_of (result_tests (setting_of self.now) place instr state.now) }
+    {
+        let stack = state.stack();
+        let Some(pushed) = self.ranges.pushed(instr, stack) else {
+            return Some(Rule::MayOverflow);
+        };
+        if sum_may_leave(self.records, self.kinds, instr, stack) {
+            return Some(Rule::AccumulatorRange);
+        }
+        if overflows(stack, pushed, pops(instr)) {
+            return Some(Rule::StackOverflow);
+        }
+        if misses_fold(self.section, instr, state.folded()) {
+            return Some(Rule::FoldMissing);
+        }
+        if is_bad_jump(self.length, place, instr) {
+            return Some(Rule::BadJump);
+        }
+        if goes_on(instr) && is_last(self.length, place) {
+            return Some(Rule::NoReturn);
+        }
+        None
+    }
+}
+
+// Whether an instruction folds an accumulator that is folded.
+fn folds_again(instr: Instr, folded: &[bool]) -> bool
+    ensures { result ≡ rules.folds_again instr folded.now }
+{
+    match instr {
+        Instr::Fold(accumulator) => folded.get(accumulator as usize).copied().unwrap_or(false),
+        _ => false,
+    }
+}
+
+// Whether a stack has too many values once some are taken and one is pushed.
+fn overflows(stack: &[Known], pushed: Option<Known>, taken: usize) -> bool
+    requires { taken ≤ 2 }
+    ensures { result ≡ rules.overflows stack.now (Some (option_to_list pushed)) taken }
+{
+    PLACES + taken < stack.len() + pushed.is_some() as usize
+}
+
+// Whether the update section ends there, with an accumulator that isn't folded.
+fn misses_fold(section: SectionId, instr: Instr, folded: &[bool]) -> bool
+    ensures { result ≡ rules.fold_missing section instr folded.now }
+{
+    match (section, instr) {
+        (SectionId::Update, Instr::Return) => !are_all(folded),
+        _ => false,
+    }
+}
+
+fn are_all(folded: &[bool]) -> bool
+    ensures { result ≡ list_all (λ b. b) folded.now }
+{
+    folded.iter().all(|is_folded| *is_folded)
+}
+
+// Whether no place is behind a place.
+fn is_last(length: usize, place: usize) -> bool
+    ensures { result ≡ nat_eq (suc place) length }
+{
+    place.checked_add(1) == Some(length)
+}
