@@ -3,4 +3,6 @@ pub mod Longest
 pub mod Accepting
 pub mod Lawful
 mod Ways
+mod Widening
+mod Turning
 mod Trying

@@ -12,6 +12,8 @@ pub use rejection::{Part, Rejection, Rule};
 
 mod costs;
 mod known;
+mod label;
+mod pass;
 mod paths;
 mod ranges;
 mod rejection;

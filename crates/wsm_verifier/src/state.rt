@@ -1,9 +1,11 @@
 //! What is known before an instruction.
 
-ghost use Rattle.std.specs.Prelude.{false, true, ◌≡◌, ◌≤◌, ◌<◌, [], ◌++◌, length, drop, replicate, slice_set, IfOk, OnOk};
+ghost use Rattle.std.specs.Prelude.{false, true, ◌≡◌, ◌≤◌, ◌<◌, [], ◌++◌, length, drop, replicate, slice_set, IsTrue, IfOk, OnOk};
 ghost use Rattle.std.specs.Option.{option_to_list};
+ghost use Rattle.wsm_verifier.specs.Labels as spec;
 
 use crate::known::Known;
+use crate::types::have_types_of;
 use std::alloc::{AllocError, Global};
 use std::marker::Model;
 
@@ -59,11 +61,60 @@ impl State {
         Ok(())
     }
 
-    /// Counts an accumulator as folded.
+    /// Counts an accumulator as folded, if there is one.
     pub(crate) fn fold(&mut self, accumulator: u8)
-        requires { accumulator < length self.old.folded }
         ensures { self.new ≡ record self.old { folded = slice_set self.old.folded accumulator true } }
     {
-        self.folded[accumulator as usize] = true;
+        let accumulator = accumulator as usize;
+        if accumulator < self.folded.len() {
+            self.folded[accumulator] = true;
+        }
+    }
+
+    /// Whether both have the same height, types and folded accumulators.
+    pub(crate) fn agrees(&self, other: &State) -> bool
+        ensures { result ≡ spec.agree self.now other.now }
+    {
+        have_types_of(&self.stack, &other.stack) && have_flags_of(&self.folded, &other.folded)
+    }
+
+    /// Widens each value to what is known of this or of the other one.
+    pub(crate) fn widen(&mut self, other: &State)
+        requires { IsTrue (spec.agree self.old other.now) }
+        ensures { self.new ≡ spec.hull_states self.old other.now }
+    {
+        widen_all(&mut self.stack, &other.stack);
+    }
+
+    /// The same state once more.
+    pub(crate) fn try_clone(&self, alloc: Global) -> Result<State, AllocError>
+        ensures { IfOk result (λ s. s ≡ self.now) }
+    {
+        Ok(State {
+            stack: self.stack.iter().copied().collect(alloc)?,
+            folded: self.folded.iter().copied().collect(alloc)?,
+        })
+    }
+}
+
+// Whether the same accumulators are folded.
+fn have_flags_of(folded: &[bool], other: &[bool]) -> bool
+    ensures { result ≡ spec.same_flags folded.now other.now }
+{
+    let Some((flag, flags)) = folded.split_first() else {
+        return other.is_empty();
+    };
+    let Some((other_flag, other_flags)) = other.split_first() else {
+        return false;
+    };
+    flag == other_flag && have_flags_of(flags, other_flags)
+}
+
+fn widen_all(stack: &mut [Known], other: &[Known])
+    requires { length stack.old ≡ length other.now }
+    ensures { stack.new ≡ spec.hull_stacks stack.old other.now }
+{
+    for place in 0..stack.len() {
+        stack[place] = stack[place].hull(other[place]);
     }
 }

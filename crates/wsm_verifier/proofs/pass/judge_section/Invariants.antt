@@ -1,0 +1,8 @@
+use Rattle.wsm_verifier.specs.Trying.{setting_of}
+use Rattle.wsm_verifier.specs.Turning.{unfolded}
+use Rattle.wsm_verifier.proofs.Turning.{Stands}
+use Rattle.wsm_verifier.proofs.pass.judge_section.Given as goal
+
+-- what is kept is what the visits so far come to
+abbrev pub invariant-loop-place : goal.invariant-loop-place
+invariant-loop-place l = Stands (setting_of l.setting) (unfolded l.accumulators) l.code l.place l.labels.items l.accumulators l.folded.items

@@ -1,0 +1,13 @@
+use Rattle.std.proofs.Common.{suc, ◌&&◌, ap, sym, ◌∙◌, length-set}
+use Rattle.std.specs.Prelude.{nat_eq}
+use Rattle.wsm_verifier.specs.Labels.{Reached}
+use Rattle.wsm_verifier.specs.Rules.{goes_on}
+use Rattle.wsm_verifier.specs.Trying.{setting_of}
+use Rattle.wsm_verifier.proofs.Accepting.{passes}
+use Rattle.wsm_verifier.proofs.pass.turn.Goals as goal
+
+-- the last instruction goes on to no next place
+pub carry-requires-clause-ends : goal.carry-requires-clause-ends
+carry-requires-clause-ends c =
+    let ends = (passes (setting_of c.args.setting.now) c.args.place c.args.instr (Reached c.in-Ok.state) c.in-Ok.ensures.passed).2.ends in
+    ap (λ n. goes_on c.args.instr && nat_eq (suc c.args.place) n) (length-set c.args.labels.now c.args.place c.replace-label.new.dest ∙ sym c.requires.length) ∙ ends

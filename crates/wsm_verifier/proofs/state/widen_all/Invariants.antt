@@ -1,0 +1,7 @@
+use Rattle.std.proofs.Common.{◌≡◌}
+use Rattle.wsm_verifier.proofs.Widening.{widened}
+use Rattle.wsm_verifier.proofs.state.widen_all.Given as goal
+
+-- the values so far are widened
+abbrev pub invariant-loop-place : goal.invariant-loop-place
+invariant-loop-place l = l.stack ≡ widened l.place l.fn.stack l.other
