@@ -5,6 +5,7 @@ use Rattle.std.proofs.lemmas.Int.{ints}
 use Rattle.std.proofs.Math.Nat.{div-le_self, mul-le-mul_right, mul-le-mul_left}
 use Rattle.std.specs.Prelude.{nat_le, unsigned_abs}
 use Rattle.std.specs.Int.{div_ceil}
+use Rattle.wsm_record.specs.Schema.{Declared}
 use Rattle.wsm_windows.specs.declared.Shape.{Shape}
 use Rattle.wsm_windows.specs.declared.Shape.TheVariants.{Fixed, Sliding, Session}
 use Rattle.wsm_windows.specs.Windows.{IsShape, IsSpan}
@@ -12,7 +13,7 @@ use Rattle.wsm_windows.specs.Life.{live_bound}
 use Rattle.wsm_bytecode.specs.declared.Instr.{Instr}
 use Rattle.wsm_bytecode.specs.declared.SectionId.{SectionId}
 use Rattle.wsm_bytecode.specs.declared.SectionId.TheVariants.{Where, Update, Fire}
-use Rattle.wsm_bytecode.specs.Program.{Header, Program, section, is_within, is_span, is_size, is_shape, is_section, is_header, is_program, is_schema, is_clock, is_firing, is_row, latest_time}
+use Rattle.wsm_bytecode.specs.Program.{Header, Program, section, is_within, is_span, is_size, is_shape, is_section, is_header, is_program, is_schema, is_name_list, is_clock, is_firing, is_row, latest_time}
 
 left : (a b : Bool) → (a && b) ≡ true → a ≡ true
 left true b e = refl
@@ -49,6 +50,11 @@ pub record IsLawful (h : Header) : Type 0 where
   pub lateness : IsSpan h.lateness
   pub records : (pos 1 ≤ℤ h.records) × (h.records ≤ℤ pos 1000000000000)
   pub kinds : length h.kinds ≤ 16
+  pub fields : length h.schema.fields ≤ 16
+
+few_fields : (s : Declared) → is_schema s ≡ true → length s.fields ≤ 16
+unfolding is_schema
+few_fields s e = few (length s.fields) 16 (left (nat_le (length s.fields) 16) _ (right (is_name_list s.keys) _ e))
 
 lawful_header : (h : Header) → is_header h ≡ true → IsLawful h
 unfolding is_header
@@ -65,6 +71,7 @@ lawful_header h e =
       lateness = lawful_span h.lateness (left (is_span h.lateness) _ behind_skew);
       records = sized h.records (right (is_span h.lateness) _ behind_skew);
       kinds = few (length h.kinds) 16 (left (nat_le (length h.kinds) 16) _ row);
+      fields = few_fields h.schema (left (is_schema h.schema) _ e);
     }
 
 short_section : (h : Header) (code : List Instr) → is_section h code ≡ true → length code ≤ 1000

@@ -6,3 +6,5 @@ mod Ways
 mod Widening
 mod Turning
 mod Trying
+mod Accumulating
+mod Judging

@@ -9,15 +9,19 @@
 
 pub use costs::{Costs, needed};
 pub use rejection::{Part, Rejection, Rule};
+pub use verified::{Verified, verify};
 
+mod accumulated;
 mod costs;
 mod known;
 mod label;
 mod pass;
 mod paths;
 mod ranges;
+mod reads;
 mod rejection;
 mod rules;
 mod state;
 mod table;
 mod types;
+mod verified;

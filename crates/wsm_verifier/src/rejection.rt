@@ -1,5 +1,6 @@
 //! Why a program is refused.
 
+use std::alloc::AllocError;
 use wsm_bytecode::SectionId;
 
 /// Why a program is refused.
@@ -60,4 +61,20 @@ pub struct Rejection {
     pub place: usize,
     /// What is wrong there.
     pub rule: Rule,
+}
+
+// There was no memory.
+impl From<AllocError> for Rejection {
+    ghost use Rattle.std.specs.Prelude.{◌≡◌};
+    ghost use Rattle.wsm_verifier.specs.declared.rejection.Rule.TheVariants.{Memory};
+
+    ghost from_gives = { λ _ r. r.rule ≡ Memory };
+
+    fn from(_e: AllocError) -> Rejection {
+        Rejection {
+            part: Part::Budget,
+            place: 0,
+            rule: Rule::Memory,
+        }
+    }
 }
