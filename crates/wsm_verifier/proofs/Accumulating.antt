@@ -6,14 +6,14 @@ use Rattle.std.proofs.lemmas.List.{append_assoc}
 use Rattle.std.specs.Prelude.{nat_eq, int_lt, slice_get, slice_index_or}
 use Rattle.std.specs.Int.{int_min, int_max}
 use Rattle.wsm_interval.specs.declared.Interval.{Interval}
-use Rattle.wsm_interval.specs.Interval.{in_i64, hull}
+use Rattle.wsm_interval.specs.Interval.{in_i64}
 use Rattle.wsm_record.specs.declared.Kind.{Kind}
 use Rattle.wsm_record.specs.declared.Kind.TheVariants.{Sum}
 use Rattle.wsm_bytecode.specs.declared.Instr.{Instr}
 use Rattle.wsm_bytecode.specs.declared.Instr.TheVariants.{Fold}
 use Rattle.wsm_verifier.specs.declared.known.Known.{Known}
 use Rattle.wsm_verifier.specs.declared.known.Known.TheVariants.{Number}
-use Rattle.wsm_verifier.specs.Labels.{State, Label, Unreached, Differing, Reached, Visit}
+use Rattle.wsm_verifier.specs.Labels.{State, Reached, Visit}
 use Rattle.wsm_verifier.specs.Rules.{Setting, kind_of, sum_leaves, last_is, last_number, value_folded, values_folded, hull_options, accumulated, and_then, known_range, known_accumulators, fault_of, first_fault, accumulator_leaves}
 use Rattle.wsm_verifier.specs.Accumulated.{folded_from, accumulated_each, stays}
 use Rattle.wsm_verifier.proofs.Accepting.{Each, each_passes, passes}
@@ -111,8 +111,8 @@ stay_each c a [] h = refl
 stay_each c a (v ∷ vs) h =
     let at = passes c v.place v.instr v.label h.0 in
     stay_hull c.records (kind_of c.kinds a) (value_folded a v.instr v.label) (values_folded a vs)
-        (subst (λ l. stays c.records (kind_of c.kinds a) (value_folded a v.instr l) ≡ true) (sym at.1) (stay_value c a v.instr at.0 at.2.sums))
-        (stay_each c a vs h.1)
+    (subst (λ l. stays c.records (kind_of c.kinds a) (value_folded a v.instr l) ≡ true) (sym at.1) (stay_value c a v.instr at.0 at.2.sums))
+    (stay_each c a vs h.1)
 
 index_is : (b : ℕ) (ks : List Kind) (vs : List Visit) (a : ℕ) → (slice_index_or (folded_from b ks vs) a None ≡ None) ⊎ (slice_index_or (folded_from b ks vs) a None ≡ values_folded (b + a) vs)
 index_is b [] vs a = inl refl

@@ -1,5 +1,5 @@
 -- What is found of the sections and of the stated numbers is what a program is judged by.
-use Rattle.std.proofs.Common.{◌≡◌, ℕ, ◌+◌, ◌<◌, ◌≤◌, Bool, true, false, ◌⊎◌, inl, inr, List, [], ◌∷◌, length, map, replicate, ℤ, Option, Some, None, Result, Ok, Err, IfOk, IfErr, IsErrAnd, refl, sym, ap, subst, ◌∙◌, arith}
+use Rattle.std.proofs.Common.{◌≡◌, ℕ, ◌+◌, ◌<◌, true, false, ◌⊎◌, inr, List, [], ◌∷◌, length, map, replicate, Option, Some, None, Result, Ok, Err, IfOk, IfErr, IsErrAnd, refl, sym, ap, ◌∙◌, arith}
 use Rattle.std.specs.Prelude.{slice_get, slice_index_or}
 use Rattle.std.specs.Global.{Vec}
 use Rattle.wsm_interval.specs.declared.Interval.{Interval}
@@ -8,12 +8,11 @@ use Rattle.wsm_bytecode.specs.declared.Instr.{Instr}
 use Rattle.wsm_bytecode.specs.declared.SectionId.{SectionId}
 use Rattle.wsm_bytecode.specs.declared.SectionId.TheVariants.{Where, Update, Fire}
 use Rattle.wsm_bytecode.specs.Program.{Program, section}
-use Rattle.wsm_verifier.specs.declared.known.Known.{Known}
 use Rattle.wsm_verifier.specs.declared.rejection.Rule.TheVariants.{Memory}
 use Rattle.wsm_verifier.specs.declared.rejection.Rejection.{Rejection}
-use Rattle.wsm_verifier.specs.Labels.{State, Ranges, Visit, visits}
-use Rattle.wsm_verifier.specs.Rules.{Setting, setting, results, entry, kind_of, first_fault, section_fault, or_then, fault_in, code_fault, ranges_with, ranges_of_record, ranges_of_pane, update_visits, values_folded, and_then, accumulated, range}
-use Rattle.wsm_verifier.specs.Accumulated.{folded_from, accumulated_each, ranges_of, stays}
+use Rattle.wsm_verifier.specs.Labels.{Ranges, Visit, visits}
+use Rattle.wsm_verifier.specs.Rules.{Setting, setting, entry, kind_of, first_fault, section_fault, or_then, fault_in, code_fault, ranges_of_record, ranges_of_pane, update_visits, values_folded, and_then, accumulated, range}
+use Rattle.wsm_verifier.specs.Accumulated.{folded_from, ranges_of, stays}
 use Rattle.wsm_verifier.specs.Turning.{unfolded}
 use Rattle.wsm_verifier.proofs.Accumulating.{folded_is, range_at, stay_all}
 

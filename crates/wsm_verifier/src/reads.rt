@@ -45,7 +45,10 @@ pub(crate) fn known_ranges(
 ) -> Result<Vec<Known>, AllocError>
     ensures { IfOk result (λ known. known.items ≡ map known_range ranges.now) }
 {
-    ranges.iter().map(|range| known_range(*range)).collect(alloc)
+    ranges
+        .iter()
+        .map(|range| known_range(*range))
+        .collect(alloc)
 }
 
 fn known_range(range: Option<Interval>) -> Known

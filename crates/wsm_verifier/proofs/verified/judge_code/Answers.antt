@@ -1,4 +1,4 @@
-use Rattle.std.proofs.Common.{rules, ◌≡◌, None, length, map, true, to_z, of_z, w64, subst, sym, ap, ◌∙◌}
+use Rattle.std.proofs.Common.{rules, ◌≡◌, None, length, map, to_z, of_z, w64, subst, sym, ap, ◌∙◌}
 use Rattle.wsm_bytecode.specs.declared.SectionId.TheVariants.{Where, Update, Fire}
 use Rattle.wsm_verifier.specs.Accumulated.{folded_from, ranges_of}
 use Rattle.wsm_verifier.specs.Rules.{fault_in, known_range, ranges_with, ranges_of_record, ranges_of_pane, update_visits}

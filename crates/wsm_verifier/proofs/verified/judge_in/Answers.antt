@@ -1,6 +1,4 @@
 use Rattle.std.proofs.Common.{rules, ◌≡◌, length}
-use Rattle.wsm_verifier.specs.Labels.{visits}
-use Rattle.wsm_verifier.specs.Rules.{section_fault, fault_in}
 use Rattle.wsm_verifier.specs.Trying.{setting_of}
 use Rattle.wsm_verifier.proofs.Judging.{visits_seen, fault_seen, passed_as, refused_as, folded_as}
 use Rattle.wsm_verifier.proofs.verified.judge_in.Goals as goal
