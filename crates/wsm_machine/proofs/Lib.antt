@@ -6,3 +6,8 @@ pub mod Runs
 pub mod Returns
 pub mod Taken
 pub mod Operands
+pub mod Fitting
+mod Giving
+mod Leading
+mod Returning
+pub mod Stepping

@@ -3,3 +3,4 @@ pub mod Step
 pub mod Run
 pub mod Steps
 pub mod Vectors
+pub mod Fits
