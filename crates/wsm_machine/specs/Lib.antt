@@ -4,3 +4,4 @@ pub mod Run
 pub mod Steps
 pub mod Vectors
 pub mod Fits
+pub mod InRange
