@@ -7,7 +7,13 @@ pub mod Returns
 pub mod Taken
 pub mod Operands
 pub mod Fitting
+mod Giving
+mod Leading
+mod Returning
+pub mod Stepping
+pub mod Gathering
 pub mod Reaching
 pub mod Folding
 pub mod Ranged
 pub mod Completing
+pub mod Leaving

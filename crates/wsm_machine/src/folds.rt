@@ -1,8 +1,9 @@
 //! What a run folds.
 
-ghost use Rattle.std.specs.Prelude.{◌≡◌, ◌<◌, ◌≤◌, Some, None, length, replicate, slice_get, slice_set, is_some, Option};
+ghost use Rattle.std.specs.Prelude.{◌≡◌, ◌<◌, ◌≤◌, Some, None, length, take, map, replicate, slice_get, slice_set, is_some, Option};
 ghost use Rattle.wsm_record.specs.declared.event.Value.{Value};
 ghost use Rattle.std.specs.List.{list_all};
+ghost use Rattle.wsm_machine.specs.InRange.{folded_value};
 
 use std::marker::Model;
 use wsm_fold::MAX_ACCUMULATORS;
@@ -40,9 +41,27 @@ impl Folds {
 
     /// What is folded, by accumulator.
     pub fn values(&self) -> &[Option<Value>]
-        ensures { result.now ≡ self.now }
+        ensures values { result.now ≡ self.now }
+        ensures room { length result.now ≤ MAX_ACCUMULATORS }
     {
         &self.places[..self.len]
+    }
+
+    /// How many accumulators there are.
+    pub(crate) fn len(&self) -> usize
+        ensures len { result ≡ length self.now }
+        ensures room { result ≤ MAX_ACCUMULATORS }
+    {
+        self.values().len()
+    }
+
+    /// Copies what is folded, and a false truth for each accumulator that isn't.
+    pub(crate) fn copy_to(&self, values: &mut [Value; MAX_ACCUMULATORS])
+        ensures { take (length self.now) values.new ≡ map folded_value self.now }
+    {
+        for (a, folded) in self.values().iter().enumerate() {
+            values[a] = folded.unwrap_or(Value::Bool(false));
+        }
     }
 
     /// Whether an accumulator is folded.

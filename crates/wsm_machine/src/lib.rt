@@ -8,6 +8,7 @@
 pub use cell::Cell;
 pub use folds::Folds;
 pub use inputs::Inputs;
+pub use machine::{Fired, Kept, Machine, Updated};
 pub use outcome::{Outcome, Trap};
 pub use run::{Ran, run_any};
 pub use stack::{PLACES, Stack};
@@ -16,6 +17,7 @@ mod cell;
 mod folds;
 mod inputs;
 mod machine;
+mod frame;
 mod operations;
 mod outcome;
 mod pushes;

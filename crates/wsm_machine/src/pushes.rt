@@ -6,11 +6,11 @@ ghost use Rattle.wsm_machine.specs.Step.{Setting as AnySetting};
 ghost use Rattle.wsm_machine.specs.Steps.{Steps, HasOperand, setting_of};
 
 use crate::cell::Cell;
-use crate::machine::{Flow, Machine, Setting};
+use crate::frame::{Flow, Frame, Setting};
 use crate::outcome::Trap;
 use wsm_bytecode::SectionId;
 
-impl Machine {
+impl Frame {
     /// Pushes a number; `StackFull`.
     pub fn push_int(&mut self, n: i64) -> Result<Flow, Trap>
         ensures { (c : AnySetting) (place : ℕ) → Steps c place (instr.PushInt n) self.old result self.new }

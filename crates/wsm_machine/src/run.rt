@@ -9,7 +9,7 @@ ghost use Rattle.wsm_machine.specs.Steps.{HasOperand, setting_of, at};
 
 use crate::folds::Folds;
 use crate::inputs::Inputs;
-use crate::machine::{Flow, Machine, Setting};
+use crate::frame::{Flow, Frame, Setting};
 use crate::outcome::{Outcome, Trap};
 use crate::stack::Stack;
 use std::alloc::Global;
@@ -43,9 +43,9 @@ pub fn run_any(alloc: Global, program: &Program, section: SectionId, inputs: &In
         columns: &header.columns,
         inputs: *inputs,
     };
-    let mut machine = Machine::open(alloc, header.kinds.len());
-    let (outcome, steps) = machine.run(&setting);
-    let Machine { stack, folds } = machine;
+    let mut frame = Frame::open(alloc, header.kinds.len());
+    let (outcome, steps) = frame.run(&setting);
+    let Frame { stack, folds } = frame;
     Ran {
         outcome,
         steps,
@@ -54,9 +54,9 @@ pub fn run_any(alloc: Global, program: &Program, section: SectionId, inputs: &In
     }
 }
 
-impl Machine {
-    // Executes instructions from the first place on, and answers how the run ends and after how many.
-    fn run(&mut self, setting: &Setting) -> (Outcome, u64)
+impl Frame {
+    /// Executes instructions from the first place on, and answers how the run ends and after how many.
+    pub fn run(&mut self, setting: &Setting) -> (Outcome, u64)
         requires operands { (p : ℕ) (i : Instr) → slice_get setting.now.code.now p ≡ Some i → HasOperand (setting_of setting.now) i }
         requires places { length self.old.folds ≡ length setting.now.kinds.now }
         ensures { run_at (setting_of setting.now) (at 0 self.old) ≡ ended result.0 result.1 (at 0 self.new) }

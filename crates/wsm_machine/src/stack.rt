@@ -1,6 +1,6 @@
 //! The stack of a run.
 
-ghost use Rattle.std.specs.Prelude.{◌≡◌, ◌<◌, ◌≤◌, ◌+◌, [], ◌∷◌, length, reverse, drop, MatchOption};
+ghost use Rattle.std.specs.Prelude.{◌≡◌, ◌<◌, ◌≤◌, ◌+◌, List, [], ◌∷◌, length, reverse, drop, MatchOption};
 
 use crate::cell::Cell;
 use smallvec::SmallVec;
@@ -45,6 +45,23 @@ impl Stack {
         ensures room { length result.now ≤ PLACES }
     {
         self.cells.as_slice()
+    }
+
+    /// Takes all values away.
+    pub(crate) fn clear(&mut self)
+        ensures { self.new ≡ [] }
+    {
+        self.cells.truncate(0);
+    }
+
+    /// The values below the top one, the lowest first.
+    pub(crate) fn below_top(&self) -> &[Cell]
+        ensures { (x : Cell) (rest : List Cell) → self.now ≡ x ∷ rest → result.now ≡ reverse rest }
+    {
+        match self.cells.as_slice() {
+            [below @ .., _] => below,
+            [] => &[],
+        }
     }
 
     pub(crate) fn len(&self) -> usize

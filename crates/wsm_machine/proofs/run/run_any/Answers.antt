@@ -1,7 +1,7 @@
 use Rattle.std.proofs.Common.{◌≡◌, ◌∙◌, [], length, None, replicate, sym, ap, subst, arith}
 use Rattle.std.specs.Prelude.{slice_get}
 use Rattle.wsm_bytecode.specs.Program.{Header}
-use Rattle.wsm_machine.specs.declared.machine.Machine.{Machine}
+use Rattle.wsm_machine.specs.declared.frame.Frame.{Frame}
 use Rattle.wsm_machine.specs.declared.run.Ran.{Ran}
 use Rattle.wsm_machine.specs.Inputs.{inputs_of}
 use Rattle.wsm_machine.specs.Step.{Setting}
@@ -11,8 +11,8 @@ use Rattle.wsm_machine.proofs.Operands.{few_kinds, operands, same_setting}
 use Rattle.wsm_machine.proofs.Runs.{steps_at_most}
 use Rattle.wsm_machine.proofs.run.run_any.Goals as goal
 
-pub open-machine-requires : goal.open-machine-requires
-open-machine-requires c =
+pub open-frame-requires : goal.open-frame-requires
+open-frame-requires c =
     let kinds = ap (λ (h : Header). length h.kinds) c.header-header.ensures.header in
     let few = few_kinds c.args.program.now c.header-header.ensures.lawful in
     omega (arith, kinds, few, ap length c.deref.ensures.value, c.deref.ensures.len, c.len.ensures)
@@ -32,6 +32,6 @@ pub returns-clause-bounded : goal.returns-clause-bounded
 returns-clause-bounded c =
     let setting = setting_of (record { section = c.args.section; code = c.section.result; kinds = c.deref.result; columns = c.deref-2.result; inputs = c.args.inputs.now }) in
     let many : c.len.result ≡ length setting.kinds = c.len.ensures ∙ sym c.deref.ensures.len in
-    let fresh : at 0 c.open-machine.result ≡ entry setting = ap (λ (m : Machine). at 0 m) c.open-machine.ensures ∙ ap (λ k. record { place = 0; stack = []; folds = replicate k None }) many in
+    let fresh : at 0 c.open-frame.result ≡ entry setting = ap (λ (m : Frame). at 0 m) c.open-frame.ensures ∙ ap (λ k. record { place = 0; stack = []; folds = replicate k None }) many in
     let ran = ap (λ (r : Ran). r.steps) (ap (run_at setting) (sym fresh) ∙ c.run-outcome.ensures) in
     omega (arith, steps_at_most setting, ran, ap length c.section.ensures.instructions)

@@ -2,7 +2,7 @@ use Rattle.std.proofs.Common.{◌≡◌, ◌≤◌, ◌-◌, length}
 use Rattle.wsm_machine.specs.Run.{run_at}
 use Rattle.wsm_machine.specs.Steps.{setting_of, at}
 use Rattle.wsm_machine.proofs.Runs.{more}
-use Rattle.wsm_machine.proofs.machine.Machine.run.Given as goal
+use Rattle.wsm_machine.proofs.frame.Frame.run.Given as goal
 
 abbrev pub invariant-loop-place : goal.invariant-loop-place
 invariant-loop-place l = record {

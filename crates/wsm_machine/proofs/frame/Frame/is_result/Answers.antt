@@ -1,7 +1,7 @@
 use Rattle.std.proofs.Common.{◌∙◌}
 use Rattle.wsm_machine.specs.Steps.{setting_of, at}
 use Rattle.wsm_machine.proofs.Returns.{result_of_where, result_of_fire}
-use Rattle.wsm_machine.proofs.machine.Machine.is_result.Goals as goal
+use Rattle.wsm_machine.proofs.frame.Frame.is_result.Goals as goal
 
 pub returns-in-Where : goal.returns-in-Where
 returns-in-Where c place =

@@ -3,13 +3,13 @@ use Rattle.std.specs.Prelude.{slice_get}
 use Rattle.std.proofs.lemmas.Option.{slice_get-get_or}
 use Rattle.wsm_bytecode.specs.declared.instr.Instr.TheVariants.{PushInt}
 use Rattle.wsm_machine.specs.Step.{Goes, Traps, step}
-use Rattle.wsm_machine.specs.declared.machine.Machine.{Machine}
+use Rattle.wsm_machine.specs.declared.frame.Frame.{Frame}
 use Rattle.wsm_machine.specs.declared.outcome.Outcome.TheVariants.{Done, Trap as Trapped}
 use Rattle.wsm_machine.specs.Run.{run_at, ended}
 use Rattle.wsm_machine.specs.Steps.{setting_of, at}
 use Rattle.wsm_machine.proofs.Runs.{step_leads_on, length-folds, run_goes_on, run_ends, run_traps}
 use Rattle.wsm_machine.proofs.Taken.{goes_next, goes_to, ends}
-use Rattle.wsm_machine.proofs.machine.Machine.run.Goals as goal
+use Rattle.wsm_machine.proofs.frame.Frame.run.Goals as goal
 
 pub loop-place-preserved-in-Ok-Next : goal.loop-place-preserved-in-Ok-Next
 loop-place-preserved-in-Ok-Next c =
@@ -58,7 +58,7 @@ returns-in-Ok-End c =
     let there : slice_get setting.code c.loop-place.place ≡ Some i = slice_get-get_or setting.code c.loop-place.place (PushInt (pos 0)) c.loop-place-test.true in
     let ended_there = ends setting c.loop-place.place i c.loop-place.self _ c.step.new.self c.step.ensures _ c.in-Ok-End.is c.in-Ok-End.field-0-is in
     run_ends setting from i c.loop-place.steps (run_at setting (at 0 c.args.self.now)) there ended_there.0 c.loop-place.invariant.so_far
-    ∙ ap (λ (m : Machine). ended Done (c.loop-place.steps + 1) (at 0 m)) (sym ended_there.1)
+    ∙ ap (λ (m : Frame). ended Done (c.loop-place.steps + 1) (at 0 m)) (sym ended_there.1)
 
 pub returns-in-Err : goal.returns-in-Err
 returns-in-Err c =
@@ -68,4 +68,4 @@ returns-in-Err c =
     let there : slice_get setting.code c.loop-place.place ≡ Some i = slice_get-get_or setting.code c.loop-place.place (PushInt (pos 0)) c.loop-place-test.true in
     let trapped : (step setting from i ≡ Traps c.in-Err.trap) × (c.step.new.self ≡ c.loop-place.self) = c.in-Err.ensures in
     run_traps setting from i c.in-Err.trap c.loop-place.steps (run_at setting (at 0 c.args.self.now)) there trapped.0 c.loop-place.invariant.so_far
-    ∙ ap (λ (m : Machine). ended (Trapped c.in-Err.trap) (c.loop-place.steps + 1) (at 0 m)) (sym trapped.1)
+    ∙ ap (λ (m : Frame). ended (Trapped c.in-Err.trap) (c.loop-place.steps + 1) (at 0 m)) (sym trapped.1)
