@@ -1,4 +1,5 @@
 pub mod Pairs
+pub mod PairsAt
 pub mod Reversed
 pub mod Traps
 pub mod Tested

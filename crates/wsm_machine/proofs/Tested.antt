@@ -4,7 +4,11 @@ use Rattle.wsm_fold.specs.Fold.{is_of_kind, are_of_kinds}
 use Rattle.wsm_bytecode.specs.declared.instr.CellType.{CellType}
 use Rattle.wsm_machine.specs.Inputs.{is_of_field, are_of_fields}
 use Rattle.wsm_machine.specs.Step.{is_type, are_types}
+use Rattle.wsm_bytecode.specs.Program.{Program}
+use Rattle.wsm_verifier.specs.Rules.{range}
+use Rattle.wsm_machine.specs.InRange.{is_acc_in, accs_in}
 use Rattle.wsm_machine.proofs.Pairs.{TestsPairs}
+use Rattle.wsm_machine.proofs.PairsAt.{TestsAt}
 
 pub kinds_tested : TestsPairs is_of_kind are_of_kinds
 kinds_tested = record { none = refl; more = λ x y xs ys. refl; too_few = λ x xs. refl; too_many = λ y ys. refl }
@@ -34,3 +38,6 @@ are_types-snoc (s ∷ ts) (v ∷ us) t u = ap (λ (b : Bool). is_type s v && b) 
   and_assoc' : (a b c : Bool) → (a && (b && c)) ≡ ((a && b) && c)
   and_assoc' true b c = refl
   and_assoc' false b c = refl
+
+pub accs_tested : (p : Program) → TestsAt (λ a k v. is_acc_in (range p a) k v) (accs_in p)
+accs_tested p = record { none = λ n. refl; more = λ n x y xs ys. refl; too_few = λ n x xs. refl; too_many = λ n y ys. refl }

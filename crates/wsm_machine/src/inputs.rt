@@ -1,12 +1,15 @@
 //! What a section is run on.
 
-ghost use Rattle.std.specs.Prelude.{◌≡◌, map};
+ghost use Rattle.std.specs.Prelude.{◌≡◌, ◌≤◌, map, length, IsTrue};
 ghost use Rattle.wsm_record.specs.Fields.{field_seen, type_seen};
 ghost use Rattle.wsm_fold.specs.Fold.{is_of_kind as is_of_kind_of, are_of_kinds as are_of_kinds_of};
 ghost use Rattle.wsm_machine.specs.Inputs.{inputs_of, inputs_fit, is_of_field as is_of_field_of, are_of_fields as are_of_fields_of};
+ghost use Rattle.wsm_machine.specs.InRange.{is_word, is_number_in as is_number_in_of, is_acc_in as is_acc_in_of, accs_in as accs_in_of, in_range as in_range_of};
 
-use wsm_bytecode::Program;
+use wsm_bytecode::{Program, SectionId};
+use wsm_interval::Interval;
 use wsm_record::{DeclaredField, FieldType, Kind, Value};
+use wsm_verifier::Verified;
 
 /// What a section may read. WHERE and UPDATE read the key and the values of a record; FIRE reads
 /// the key of a pane, the number of records in its firing, and what its accumulators hold.
@@ -34,6 +37,28 @@ impl Inputs<'_> {
         (self.key as usize) < keys
             && are_of_fields(fields, self.values)
             && are_of_kinds(&header.kinds, self.accs)
+    }
+
+    /// Whether a section of a verified program may run on these: a declared key; in WHERE and
+    /// UPDATE a value of its type for each field, its numbers in the declared interval; in FIRE from
+    /// one record to as many as the program allows, and for each accumulator a value of its type,
+    /// its numbers in the accumulator's range.
+    pub fn in_range(&self, verified: &Verified, section: SectionId) -> bool
+        ensures { result ≡ in_range_of verified.now section (inputs_of self.now) }
+    {
+        let header = verified.program().header();
+        let is_declared = (self.key as usize) < header.schema.key_count();
+        match section {
+            SectionId::Where | SectionId::Update => {
+                is_declared && header.schema.fits(self.values)
+            }
+            SectionId::Fire => {
+                is_declared
+                    && 1 <= self.count
+                    && self.count <= header.records
+                    && accs_in(verified, &header.kinds, self.accs)
+            }
+        }
     }
 }
 
@@ -77,6 +102,40 @@ fn are_of_kinds(kinds: &[Kind], values: &[Value]) -> bool
         }
     }
     true
+}
+
+// One value for each accumulator, of its type and in its range.
+fn accs_in(verified: &Verified, kinds: &[Kind], accs: &[Value]) -> bool
+    requires { length kinds.now ≤ 16 }
+    ensures { result ≡ accs_in_of verified.now 0 kinds.now accs.now }
+{
+    if kinds.len() != accs.len() {
+        return false;
+    }
+    for (a, kind) in kinds.iter().enumerate() {
+        if !is_acc_in(verified.range(a as u8), *kind, accs[a]) {
+            return false;
+        }
+    }
+    true
+}
+
+// Whether an accumulator may hold a value, where its numbers have this range.
+fn is_acc_in(range: Option<Interval>, kind: Kind, value: Value) -> bool
+    ensures { result ≡ is_acc_in_of range kind value }
+{
+    is_of_kind(kind, value) && is_number_in(range, value)
+}
+
+// Whether a value is in a range, if it is a number.
+fn is_number_in(range: Option<Interval>, value: Value) -> bool
+    ensures in_range { result ≡ is_number_in_of range value }
+    ensures word { IsTrue (is_word value) }
+{
+    match value {
+        Value::Int(n) => range.is_some_and(|range| range.holds(n)),
+        _ => true,
+    }
 }
 
 // Whether an accumulator folds a value.
