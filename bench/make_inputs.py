@@ -1,0 +1,78 @@
+#!/usr/bin/env python3
+"""Writes texts of a megabyte and a large program into a folder: make_inputs.py FOLDER"""
+import struct
+import sys
+from pathlib import Path
+
+MEGABYTE = 1 << 20
+
+
+def clock(start=0, skew=100, lateness=10, records=1000):
+    return struct.pack("<qqqq", start, skew, lateness, records)
+
+
+def header(budget):
+    """Keys a and b, a field n INT 0..100, windows of 60, one SUM, two INT columns."""
+    keys = struct.pack("<H", 2) + b"\x01a\x01b"
+    fields = b"\x01\x01n\x00" + struct.pack("<qq", 0, 100)
+    shape = b"\x00" + struct.pack("<q", 60)
+    triggers = struct.pack("<qq", 0, 0)
+    return (
+        b"WSMP\x01" + keys + fields + clock() + shape + b"\x01" + triggers + b"\x00"
+        + b"\x01\x00" + b"\x02\x00\x00" + struct.pack("<QQQ", *budget)
+    )
+
+
+PUSHB, RET = b"\x02\x01", b"\x50"
+COUNT, ADD, NOT = b"\x07", b"\x10", b"\x28"
+FIELD, ACC, FOLD = b"\x04\x00", b"\x06\x00", b"\x40\x00"
+
+
+def pushi(n):
+    return b"\x01" + struct.pack("<q", n)
+
+
+def jump(code, target):
+    return code + struct.pack("<H", target)
+
+
+def joins(place, number):
+    """Tests whose two ways meet again, three instructions each."""
+    code = []
+    for _ in range(number):
+        code += [PUSHB, jump(b"\x31", place + 3), jump(b"\x30", place + 3)]
+        place += 3
+    return code
+
+
+def section(code):
+    assert len(code) == 1000
+    return struct.pack("<H", len(code)) + b"".join(code)
+
+
+def large_program():
+    """Three sections of 1,000 instructions; the last one keeps 28 values on the stack."""
+    where = joins(0, 332) + [PUSHB, NOT, NOT, RET]
+    update = joins(0, 332) + [jump(b"\x30", 997), FIELD, FOLD, RET]
+    front = [COUNT, ACC] + [pushi(1)] * 26
+    back = [ADD] * 26 + [PUSHB, RET]
+    middle = joins(len(front), 314)
+    place = len(front) + len(middle)
+    fill = [jump(b"\x30", place + k + 1) for k in range(1000 - place - len(back))]
+    fire = front + middle + fill + back
+    return header((10**6, 10**6, 6)) + section(where) + section(update) + section(fire)
+
+
+def main(folder):
+    folder = Path(folder)
+    folder.mkdir(exist_ok=True)
+    head = b"KEYS a; START 0; SKEW 0; LATENESS 0; RECORDS 1; SELECT "
+    (folder / "blanks.wsm").write_bytes(b" " * MEGABYTE)
+    (folder / "brackets.wsm").write_bytes(head + b"(" * MEGABYTE)
+    keys = ",".join(f"k{n}" for n in range(MEGABYTE // 8)).encode()
+    tail = b"; START 0; SKEW 0; LATENESS 0; RECORDS 1; SELECT COUNT(*) WINDOW FIXED 1 ACCUMULATING EMIT PANES;"
+    (folder / "keys.wsm").write_bytes(b"KEYS " + keys + tail)
+    (folder / "large.wsmp").write_bytes(large_program())
+
+
+main(sys.argv[1])
