@@ -23,5 +23,7 @@ mod rejection;
 mod rules;
 mod state;
 mod table;
+#[cfg(test)]
+mod tests;
 mod types;
 mod verified;
