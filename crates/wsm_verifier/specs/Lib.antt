@@ -5,4 +5,5 @@ pub mod Pushing
 pub mod Trying
 pub mod Accumulated
 pub mod Turning
+pub mod Text
 pub mod Vectors

@@ -73,14 +73,16 @@ pub enum Part {
 }
 
 impl fmt::Display for Part {
+    ghost use Rattle.std.specs.Prelude.{Some};
+    ghost use Rattle.wsm_verifier.specs.Text.{part_text};
+
+    ghost output = { λ part. Some (part_text part) };
+
     fn fmt<W: fmt::Write>(&self, f: &mut fmt::Formatter<W>) -> fmt::Result {
-        let name = match *self {
-            Part::Code(SectionId::Where) => "where",
-            Part::Code(SectionId::Update) => "update",
-            Part::Code(SectionId::Fire) => "fire",
-            Part::Budget => "budget",
-        };
-        write!(f, "{name}")
+        match self {
+            Part::Code(section) => write!(f, "{section}"),
+            Part::Budget => f.write_str("budget"),
+        }
     }
 }
 

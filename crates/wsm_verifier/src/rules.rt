@@ -1,4 +1,40 @@
 //! The rules that are tried at a place, in their order.
+//!
+//! The running example has a field n from 0 to 100, at most 1,000 records, one SUM, which folds n,
+//! and one column of numbers:
+//!
+//! ```text
+//! where 0 PUSHB 1      update 0 FIELD 0      fire 0 PUSHI 100
+//! where 1 RET          update 1 FOLD 0       fire 1 ACC 0
+//!                      update 2 RET          fire 2 PUSHI 1
+//!                                            fire 3 ADD
+//!                                            fire 4 DIV
+//!                                            fire 5 PUSHB 1
+//!                                            fire 6 RET
+//! ```
+//!
+//! It is accepted: the sum lies in 0 to 100,000, the divisor in 1 to 100,001, the column in 0 to
+//! 100. Sections are tried in this order, and their places from 0 on. At a place the first rule
+//! that holds is the fault; beside each is a change of the example that it refuses.
+//!
+//! 1. `Unreachable`: no edge leads here. `JMP 6` at fire 4 leaves fire 5 without one.
+//! 2. `Join`: edges into the place differ in height, types or what is folded. `PUSHB 0`, `JF 4` in
+//!    front of `FIELD 0`, `FOLD 0`: update 4 is come to with the sum folded and not folded.
+//! 3. `NotHere`: `COUNT` at where 0.
+//! 4. `StackUnderflow`: no `PUSHI 100`, so that `DIV` finds one number.
+//! 5. `Type`: `PUSHB 1` at fire 2, where `ADD` takes numbers; or no `PUSHB 1` at fire 5, where the
+//!    stack at `RET` isn't the section's result.
+//! 6. `FoldTwice`: `FIELD 0`, `FOLD 0` once more behind update 1.
+//! 7. `MayDivideByZero`: `PUSHI 0` at fire 2, with a divisor from 0 to 100,000.
+//! 8. `MayOverflow`: `PUSHI 9223372036854775807` at fire 2, so that `ADD` may leave 64 bits.
+//! 9. `AccumulatorRange`: a field up to 10^18, of which 1,000 may not have a sum of 64 bits.
+//! 10. `StackOverflow`: 33 times `PUSHI 100` in front.
+//! 11. `FoldMissing`: update with `RET` alone.
+//! 12. `BadJump`: `JMP 0` at fire 5, which doesn't lead forward.
+//! 13. `NoReturn`: no `RET` at the end of a section; one without instructions has it at place 0.
+//!
+//! Behind the sections come the stated numbers: `BudgetRecord` below 5 (2 instructions of where, 3
+//! of update), `BudgetPane` below 7, and `BudgetHeld` below the keys times the most live windows.
 
 ghost use Rattle.std.specs.Prelude.{◌≡◌, ◌≤◌, ◌&&◌, Some, suc, nat_eq};
 ghost use Rattle.std.specs.List.{list_all};
