@@ -1,7 +1,7 @@
 -- What a run folds lies in the hull of what its section folds.
-use Rattle.std.proofs.Common.{◌≡◌, ℕ, zero, suc, ◌+◌, Bool, true, false, ◌&&◌, cond, ◌⊎◌, inl, inr, List, [], ◌∷◌, ◌++◌, length, map, take, Option, Some, None, refl, sym, subst, ap, ◌∙◌, arith, length-set}
+use Rattle.std.proofs.Common.{◌≡◌, ℕ, zero, suc, ◌+◌, Bool, true, false, ◌&&◌, cond, ◌⊎◌, inl, inr, List, [], ◌∷◌, ◌++◌, length, map, take, Option, Some, None, refl, sym, subst, ap, ◌∙◌, arith}
 use Rattle.std.proofs.lemmas.Bool.{true≢false}
-use Rattle.std.specs.Prelude.{nat_eq, slice_get, slice_set, slice_index_or, not, ℤ, int_le, ◌≤ℤ◌}
+use Rattle.std.specs.Prelude.{nat_eq, slice_get, slice_set, not, ℤ, int_le, ◌≤ℤ◌}
 use Rattle.wsm_interval.specs.declared.Interval.{Interval}
 use Rattle.wsm_interval.specs.Interval.{Holds, holds, hull}
 use Rattle.wsm_interval.proofs.Holding.{hull_holds_left, hull_holds_right}
@@ -13,16 +13,15 @@ use Rattle.wsm_bytecode.specs.declared.instr.Instr.{Instr}
 use Rattle.wsm_bytecode.specs.declared.instr.Instr.TheVariants.{Fold}
 use Rattle.wsm_verifier.specs.declared.known.Known.{Known}
 use Rattle.wsm_verifier.specs.declared.known.Known.TheVariants.{Number, Truth, NameOf}
-use Rattle.wsm_verifier.specs.Labels.{State as Knows, Label, Reached, Visit, visit_of, visits, label_of, label_at}
+use Rattle.wsm_verifier.specs.Labels.{State as Knows, Reached, Visit, visit_of, visits, label_of, label_at}
 use Rattle.wsm_verifier.specs.Rules.{Setting as Rules, kind_of, folds_into, types_fit, last_number, hull_options, value_folded, values_folded}
-use Rattle.wsm_verifier.proofs.Accepting.{Passes}
 use Rattle.wsm_machine.specs.declared.cell.Cell.{Cell}
 use Rattle.wsm_machine.specs.declared.cell.Cell.TheVariants as cell
-use Rattle.wsm_machine.specs.Step.{Setting, State, Goes, step, after, with_fold, value_of}
-use Rattle.wsm_machine.specs.Fits.{Fits, FitsAll, FitsState}
+use Rattle.wsm_machine.specs.Step.{Setting, State, with_fold, value_of}
+use Rattle.wsm_machine.specs.Fits.{Fits, FitsAll}
 use Rattle.wsm_machine.specs.InRange.{is_number_in, is_value_in, are_values_in}
 use Rattle.wsm_machine.proofs.Runs.{goes_after, length-folds}
-use Rattle.wsm_machine.proofs.Reaching.{Faultless, FitsAt, StepsKeep, Split, split_all, length-visits}
+use Rattle.wsm_machine.proofs.Reaching.{StepsKeep, split_all, length-visits}
 
 no : {X : Type 0} → false ≡ true → X
 no e = absurd (true≢false (sym e))
@@ -116,25 +115,25 @@ module _ (v : Rules) (e : Knows) (c : Setting) where
       let before = visits e v.ranges (take p c.code) in
       let known : label_of e (length before) before ≡ Reached s = ap (λ q. label_of e q before) (length-visits e v.ranges c.code p (Fold a) here) ∙ lab in
       let folds : value_folded a (Fold a) (label_of e (length before) before) ≡ Some y =
-        ap (value_folded a (Fold a)) known ∙ ap (λ b. cond b (last_number s.stack) None) (same a) ∙ ap last_number top in
+      ap (value_folded a (Fold a)) known ∙ ap (λ b. cond b (last_number s.stack) None) (same a) ∙ ap last_number top in
       subst (λ vs. HoldsIn (values_folded a vs) n) (sym split.1)
       (folded_among a split.0 (visit_of e v.ranges (Fold a) before) before n (y, folds, h))
 
   folds_top : (a p : ℕ) (s : Knows) (xs : List Known) (x : Cell) (stack : List Cell) → s.stack ≡ xs → slice_get c.code p ≡ Some (Fold a) → label_at e v.ranges c.code p ≡ Reached s → types_fit v.kinds v.ends (Fold a) xs ≡ true → FitsAll xs (x ∷ stack)
-    → is_value_in (values_folded a (visits e v.ranges c.code)) (kind_of v.kinds a) (value_of x) ≡ true
+      → is_value_in (values_folded a (visits e v.ranges c.code)) (kind_of v.kinds a) (value_of x) ≡ true
   folds_top a p s [] x stack is here lab types fits = absurd fits
   folds_top a p s (k ∷ ks) x stack is here lab types fits =
       folds_value (kind_of v.kinds a) k x (values_folded a (visits e v.ranges c.code)) types fits.0
       (λ y n eq h. fold_in a p s y ks n here lab (is ∙ ap (λ z. z ∷ ks) eq) h)
 
   after_fold : (i : Instr) (p : ℕ) (s : Knows) (stack : List Cell) (folds : List (Option Value)) → slice_get c.code p ≡ Some i → label_at e v.ranges c.code p ≡ Reached s → types_fit v.kinds v.ends i s.stack ≡ true → FitsAll s.stack stack
-    → ((a : ℕ) (x : Value) → slice_get folds a ≡ Some (Some x) → is_value_in (values_folded a (visits e v.ranges c.code)) (kind_of v.kinds a) x ≡ true)
-    → (a : ℕ) (x : Value) → slice_get (with_fold i stack folds) a ≡ Some (Some x) → is_value_in (values_folded a (visits e v.ranges c.code)) (kind_of v.kinds a) x ≡ true
+      → ((a : ℕ) (x : Value) → slice_get folds a ≡ Some (Some x) → is_value_in (values_folded a (visits e v.ranges c.code)) (kind_of v.kinds a) x ≡ true)
+      → (a : ℕ) (x : Value) → slice_get (with_fold i stack folds) a ≡ Some (Some x) → is_value_in (values_folded a (visits e v.ranges c.code)) (kind_of v.kinds a) x ≡ true
   after_fold (Fold b) p s [] folds here lab types fits old a x g = old a x g
   after_fold (Fold b) p s (y ∷ stack) folds here lab types fits old a x g =
       elim (got_set folds a b (value_of y) x g) [
         | inl new ↦ subst (λ n. is_value_in (values_folded n (visits e v.ranges c.code)) (kind_of v.kinds n) x ≡ true) (sym new.0)
-          (subst (λ z. is_value_in (values_folded b (visits e v.ranges c.code)) (kind_of v.kinds b) z ≡ true) new.1 (folds_top b p s s.stack y stack refl here lab types fits))
+            (subst (λ z. is_value_in (values_folded b (visits e v.ranges c.code)) (kind_of v.kinds b) z ≡ true) new.1 (folds_top b p s s.stack y stack refl here lab types fits))
         | inr kept ↦ old a x kept
       ]
   after_fold i p s stack folds here lab types fits old a x g = old a x g
@@ -143,7 +142,7 @@ module _ (v : Rules) (e : Knows) (c : Setting) where
   folds_fit i m t here at goes kept = record {
     places = length-folds c m i t goes ∙ kept.places;
     values = subst (λ (n : State). (a : ℕ) (x : Value) → slice_get n.folds a ≡ Some (Some x) → is_value_in (values_folded a (visits e v.ranges c.code)) (kind_of v.kinds a) x ≡ true) (sym (goes_after c m i t goes))
-      (after_fold i m.place at.knows m.stack m.folds here at.label (not_false (types_fit v.kinds v.ends i at.knows.stack) at.passes.types) at.fits.values kept.values);
+        (after_fold i m.place at.knows m.stack m.folds here at.label (not_false (types_fit v.kinds v.ends i at.knows.stack) at.passes.types) at.fits.values kept.values);
   }
 
 -- ---- as one list

@@ -129,7 +129,7 @@ module _ (p : Program) (c : SectionId) (r : labels.Ranges) (d : Inputs) (i : Ins
     fits = g.fits;
     room = ap (λ n. has_no_room (drop n m.stack) (pushed d i m.stack)) (same_pops p.header.kinds i)
         ∙ room_for (labels.pops i) g.vs (pushed d i m.stack) s.stack m.stack g.values (length_fits s.stack m.stack f.values) h.enough
-          (ap (λ o. rules.overflows s.stack o (labels.pops i)) (sym g.known) ∙ h.has_room);
+        (ap (λ o. rules.overflows s.stack o (labels.pops i)) (sym g.known) ∙ h.has_room);
   }
 
   after_is : (g : Gives r d p.header.kinds i s.stack m.stack) → labels.after r i s ≡ Some (state_with i s g.vs)

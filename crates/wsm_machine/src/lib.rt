@@ -1,5 +1,10 @@
 //! The stack machine that runs the sections of a program.
 //!
+//! A [`Machine`] runs the sections of verified programs, on inputs in range: see
+//! [`Inputs::in_range`]. Such a run meets no trap and comes to its return within the longest path of
+//! its section, and what it answers has the types that the program states and lies in the intervals
+//! that the verifier knows.
+//!
 //! [`run_any`] runs a section of any program, verified or not, on [`Inputs`] of the header's types.
 //! Every run ends: in its result, or in the first [`Trap`] that holds. Each jump leads forward, so a
 //! run executes at most as many instructions as its section has. No run takes memory.
@@ -15,9 +20,9 @@ pub use stack::{PLACES, Stack};
 
 mod cell;
 mod folds;
+mod frame;
 mod inputs;
 mod machine;
-mod frame;
 mod operations;
 mod outcome;
 mod pushes;

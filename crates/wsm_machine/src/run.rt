@@ -8,8 +8,8 @@ ghost use Rattle.wsm_machine.specs.Run.{run, run_at, ended};
 ghost use Rattle.wsm_machine.specs.Steps.{HasOperand, setting_of, at};
 
 use crate::folds::Folds;
-use crate::inputs::Inputs;
 use crate::frame::{Flow, Frame, Setting};
+use crate::inputs::Inputs;
 use crate::outcome::{Outcome, Trap};
 use crate::stack::Stack;
 use std::alloc::Global;
