@@ -1,7 +1,6 @@
 -- What a run folds lies in the hull of what its section folds.
 use Rattle.std.proofs.Common.{◌≡◌, ℕ, zero, suc, ◌+◌, Bool, true, false, ◌&&◌, cond, ◌⊎◌, inl, inr, List, [], ◌∷◌, ◌++◌, length, map, take, Option, Some, None, refl, sym, subst, ap, ◌∙◌, arith}
-use Rattle.std.proofs.lemmas.Bool.{true≢false}
-use Rattle.std.specs.Prelude.{nat_eq, slice_get, slice_set, not, ℤ, int_le, ◌≤ℤ◌}
+use Rattle.std.specs.Prelude.{nat_eq, slice_get, slice_set, ℤ, int_le, ◌≤ℤ◌}
 use Rattle.wsm_interval.specs.declared.Interval.{Interval}
 use Rattle.wsm_interval.specs.Interval.{Holds, holds, hull}
 use Rattle.wsm_interval.proofs.Holding.{hull_holds_left, hull_holds_right}
@@ -21,13 +20,8 @@ use Rattle.wsm_machine.specs.Step.{Setting, State, with_fold, value_of}
 use Rattle.wsm_machine.specs.Fits.{Fits, FitsAll}
 use Rattle.wsm_machine.specs.InRange.{is_number_in, is_value_in, are_values_in}
 use Rattle.wsm_machine.proofs.Runs.{goes_after, length-folds}
-use Rattle.wsm_machine.proofs.Reaching.{StepsKeep, split_all, length-visits}
-
-no : {X : Type 0} → false ≡ true → X
-no e = absurd (true≢false (sym e))
-
-none≢some : {A X : Type 0} {a : A} → None ≡ Some a → X
-none≢some {A} {X} {a} e = let tag : Option A → Bool = λ o. elim o [ None ↦ true | Some x ↦ false ] in absurd (true≢false (ap tag e))
+use Rattle.wsm_machine.proofs.Reaching.{none≢some, StepsKeep, split_all, length-visits}
+use Rattle.wsm_machine.proofs.Fitting.{no, not_false}
 
 some_is : {A : Type 0} (a b : A) → Some a ≡ Some b → a ≡ b
 some_is a b e = cc
@@ -102,10 +96,6 @@ got_set (x ∷ xs) (suc a) (suc b) y z e = elim (got_set xs a b y z e) [ inl h �
 pub record FoldsFit (v : Rules) (vs : List Visit) (m : State) : Type 0 where
   pub places : length m.folds ≡ length v.kinds
   pub values : (a : ℕ) (x : Value) → slice_get m.folds a ≡ Some (Some x) → is_value_in (values_folded a vs) (kind_of v.kinds a) x ≡ true
-
-not_false : (b : Bool) → not b ≡ false → b ≡ true
-not_false true e = refl
-not_false false e = absurd (true≢false e)
 
 module _ (v : Rules) (e : Knows) (c : Setting) where
   -- a FOLD's number lies in the hull of the section's
