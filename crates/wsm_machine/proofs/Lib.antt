@@ -18,3 +18,4 @@ pub mod Folding
 pub mod Ranged
 pub mod Completing
 pub mod Leaving
+pub mod Accumulating
