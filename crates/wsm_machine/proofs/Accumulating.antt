@@ -12,7 +12,7 @@ use Rattle.wsm_record.specs.declared.event.Value.TheVariants as values
 use Rattle.wsm_record.specs.declared.words.Kind.{Kind}
 use Rattle.wsm_record.specs.declared.words.Kind.TheVariants.{Sum, Min, Max, Any, All}
 use Rattle.wsm_fold.specs.Laws.{joined_to}
-use Rattle.wsm_fold.specs.Fold.{is_of_kind, join, joins, folds_of}
+use Rattle.wsm_fold.specs.Fold.{join, joins, folds_of}
 use Rattle.wsm_bytecode.specs.Program.{Program}
 use Rattle.wsm_verifier.specs.Rules.{accumulated, and_then, values_folded, update_visits, range}
 use Rattle.wsm_machine.specs.InRange.{is_number_in, is_word, is_value_in, is_acc_in, are_values_in, are_folded_in, accs_in}
@@ -24,31 +24,31 @@ use Rattle.wsm_machine.proofs.Reaching.{none≢some}
 once : (x : ℤ) → (pos 1 *ℤ x) ≡ x
 once x = omega (arith, ints, suc_ℤ-*ℤ (pos 0) x, zero-*ℤ x)
 
-once_more : (n : ℕ) (x : ℤ) → (pos (suc n) *ℤ x) ≡ (pos n *ℤ x) +ℤ x
+pub once_more : (n : ℕ) (x : ℤ) → (pos (suc n) *ℤ x) ≡ (pos n *ℤ x) +ℤ x
 once_more n x = suc_ℤ-*ℤ (pos n) x
 
 at_most : (m n : ℕ) → n ≤ suc m → (n ≡ suc m) ⊎ (n ≤ m)
 at_most m n h = grind arith
 
-rises : (m n : ℕ) (x : ℤ) → pos 0 ≤ℤ x → n ≤ m → (pos n *ℤ x) ≤ℤ (pos m *ℤ x)
+pub rises : (m n : ℕ) (x : ℤ) → pos 0 ≤ℤ x → n ≤ m → (pos n *ℤ x) ≤ℤ (pos m *ℤ x)
 rises zero n x h l = let none : n ≡ 0 = omega (arith, l) in subst (λ k. (pos k *ℤ x) ≤ℤ (pos 0 *ℤ x)) (sym none) (omega (arith, ints))
 rises (suc m) n x h l = elim (at_most m n l) [
   | inl e ↦ subst (λ k. (pos k *ℤ x) ≤ℤ (pos (suc m) *ℤ x)) (sym e) (omega (arith, ints))
   | inr k ↦ omega (arith, ints, once_more m x, rises m n x h k, h)
 ]
 
-falls : (m n : ℕ) (x : ℤ) → x ≤ℤ pos 0 → n ≤ m → (pos m *ℤ x) ≤ℤ (pos n *ℤ x)
+pub falls : (m n : ℕ) (x : ℤ) → x ≤ℤ pos 0 → n ≤ m → (pos m *ℤ x) ≤ℤ (pos n *ℤ x)
 falls zero n x h l = let none : n ≡ 0 = omega (arith, l) in subst (λ k. (pos 0 *ℤ x) ≤ℤ (pos k *ℤ x)) (sym none) (omega (arith, ints))
 falls (suc m) n x h l = elim (at_most m n l) [
   | inl e ↦ subst (λ k. (pos (suc m) *ℤ x) ≤ℤ (pos k *ℤ x)) (sym e) (omega (arith, ints))
   | inr k ↦ omega (arith, ints, once_more m x, falls m n x h k, h)
 ]
 
-signs : (x : ℤ) → (pos 0 ≤ℤ x) ⊎ (x ≤ℤ pos 0)
+pub signs : (x : ℤ) → (pos 0 ≤ℤ x) ⊎ (x ≤ℤ pos 0)
 signs (pos n) = inl (omega (arith, ints))
 signs (negsuc n) = inr (omega (arith, ints))
 
-through : {a b c : ℤ} → a ≤ℤ b → b ≤ℤ c → a ≤ℤ c
+pub through : {a b c : ℤ} → a ≤ℤ b → b ≤ℤ c → a ≤ℤ c
 through h k = omega (arith, ints)
 
 min_left : (a b : ℤ) → int_min a b ≤ℤ a
@@ -78,7 +78,7 @@ greatest_multiple m n x f l = elim (signs x) [
 
 -- ---- what an accumulator holds of n values
 
-abbrev NumberIn : (Interval → ℤ → Type 0) → Option Interval → Value → Type 0
+abbrev pub NumberIn : (Interval → ℤ → Type 0) → Option Interval → Value → Type 0
 NumberIn f None v = ⊥
 NumberIn f (Some x) (values.Int z) = f x z
 NumberIn f (Some x) (values.Bool b) = ⊥
@@ -90,10 +90,10 @@ IsTruthValue (values.Bool b) = Unit {0}
 IsTruthValue (values.Enum i) = ⊥
 
 -- n times the ends
-abbrev Multiplied : ℕ → Interval → ℤ → Type 0
+abbrev pub Multiplied : ℕ → Interval → ℤ → Type 0
 Multiplied n x z = ((pos n *ℤ x.lo) ≤ℤ z) × (z ≤ℤ (pos n *ℤ x.hi))
 
-abbrev ValueIn : Kind → Option Interval → ℕ → Value → Type 0
+abbrev pub ValueIn : Kind → Option Interval → ℕ → Value → Type 0
 ValueIn Sum o n v = NumberIn (Multiplied n) o v
 ValueIn Min o n v = NumberIn Holds o v
 ValueIn Max o n v = NumberIn Holds o v
@@ -189,7 +189,7 @@ in_accumulated m n All o (values.Enum i) f l h = absurd h
 
 -- ---- rows
 
-abbrev ValuesIn : (ℕ → Option Interval) → ℕ → ℕ → List Kind → List Value → Type 0
+abbrev pub ValuesIn : (ℕ → Option Interval) → ℕ → ℕ → List Kind → List Value → Type 0
 ValuesIn o a n [] [] = Unit {0}
 ValuesIn o a n (k ∷ ks) (v ∷ vs) = ValueIn k (o a) n v × ValuesIn o (suc a) n ks vs
 ValuesIn o a n _ _ = ⊥
@@ -208,7 +208,7 @@ more_rows o a n (k ∷ ks) [] ws h g = absurd h
 more_rows o a n (k ∷ ks) (u ∷ us) [] h g = absurd g
 more_rows o a n (k ∷ ks) (u ∷ us) (w ∷ ws) h g = (more_values k (o a) n u w h.0 g.0, more_rows o (suc a) n ks us ws h.1 g.1)
 
-rows_in : (o : ℕ → Option Interval) (ks : List Kind) (row : List Value) (rows : List (List Value)) → list_all (are_values_in o 0 ks) (row ∷ rows) ≡ true
+pub rows_in : (o : ℕ → Option Interval) (ks : List Kind) (row : List Value) (rows : List (List Value)) → list_all (are_values_in o 0 ks) (row ∷ rows) ≡ true
     → ValuesIn o 0 (length (row ∷ rows)) ks (joined_to (joins ks) row (folds_of ks rows))
 rows_in o ks row [] e = one_row o 0 ks row (and_is (are_values_in o 0 ks row) true e).0
 rows_in o ks row (next ∷ rows) e =
@@ -232,10 +232,10 @@ accs_from p m n a (k ∷ ks) [] r f l at w h = absurd h
 accs_from p m n a (k ∷ ks) (v ∷ vs) r f l at w h =
     let words = and_is (is_word v) (list_all is_word vs) w in
     let there : range p a ≡ and_then (accumulated (pos m) k) (values_folded a (update_visits p)) =
-      range_at p a k (ap (slice_get p.header.kinds) (plus_none a) ∙ at 0) ∙ ap (λ z. and_then (accumulated z k) (values_folded a (update_visits p))) r in
+    range_at p a k (ap (slice_get p.header.kinds) (plus_none a) ∙ at 0) ∙ ap (λ z. and_then (accumulated z k) (values_folded a (update_visits p))) r in
     both (is_acc_in (range p a) k v) (accs_in p (suc a) ks vs)
     (both (is_value_in (range p a) k v) (is_word v)
-      (subst (λ o. is_value_in o k v ≡ true) (sym there) (in_accumulated m n k (values_folded a (update_visits p)) v f l h.0)) words.0)
+    (subst (λ o. is_value_in o k v ≡ true) (sym there) (in_accumulated m n k (values_folded a (update_visits p)) v f l h.0)) words.0)
     (accs_from p m n (suc a) ks vs r f l (λ j. ap (slice_get p.header.kinds) (plus_more a j) ∙ at (suc j)) words.1 h.1)
   where
     plus_none : (a : ℕ) → a ≡ a + 0
@@ -243,6 +243,11 @@ accs_from p m n a (k ∷ ks) (v ∷ vs) r f l at w h =
 
     plus_more : (a j : ℕ) → suc a + j ≡ a + suc j
     plus_more a j = omega arith
+
+-- the records of a program as a count
+pub counted : (z : ℤ) (n : ℕ) → pos n ≤ℤ z → (m : ℕ) × (z ≡ pos m) × (n ≤ m)
+counted (pos m) n h = (m, refl, omega (arith, ints, h))
+counted (negsuc m) n h = absurd (omega (arith, ints, h))
 
 -- Where UPDATE folded each row, and there are at most as many as the program allows, what the accumulators hold is what FIRE may read. Numbers are of 64 bits, as those of the code are.
 pub accs_of_rows : (p : Program) (rows : List (List Value)) (held : List Value) → list_all (are_folded_in p) rows ≡ true → pos (length rows) ≤ℤ p.header.records
@@ -252,12 +257,8 @@ accs_of_rows p (row ∷ rows) held e few is w =
     let records = counted p.header.records (length (row ∷ rows)) few in
     accs_from p records.0 (length (row ∷ rows)) 0 p.header.kinds held records.1 (omega arith) records.2 (λ j. ap (slice_get p.header.kinds) (from_none j)) w
     (subst (ValuesIn (λ b. values_folded b (update_visits p)) 0 (length (row ∷ rows)) p.header.kinds) (some_is (joined_to (joins p.header.kinds) row (folds_of p.header.kinds rows)) held is)
-      (rows_in (λ b. values_folded b (update_visits p)) p.header.kinds row rows e))
+    (rows_in (λ b. values_folded b (update_visits p)) p.header.kinds row rows e))
   where
-    counted : (z : ℤ) (n : ℕ) → pos n ≤ℤ z → (m : ℕ) × (z ≡ pos m) × (n ≤ m)
-    counted (pos m) n h = (m, refl, omega (arith, ints, h))
-    counted (negsuc m) n h = absurd (omega (arith, ints, h))
-
     from_none : (j : ℕ) → 0 + j ≡ j
     from_none j = omega arith
 

@@ -19,3 +19,4 @@ pub mod Ranged
 pub mod Completing
 pub mod Leaving
 pub mod Accumulating
+pub mod Summing

@@ -3,7 +3,8 @@
 //! A [`Machine`] runs the sections of verified programs, on inputs in range: see
 //! [`Inputs::in_range`]. Such a run meets no trap and comes to its return within the longest path of
 //! its section, and what it answers has the types that the program states and lies in the intervals
-//! that the verifier knows.
+//! that the verifier knows. What UPDATE folds stays in 64 bits and in the range that FIRE reads: see
+//! [`laws`].
 //!
 //! [`run_any`] runs a section of any program, verified or not, on [`Inputs`] of the header's types.
 //! Every run ends: in its result, or in the first [`Trap`] that holds. Each jump leads forward, so a
@@ -22,6 +23,7 @@ mod cell;
 mod folds;
 mod frame;
 mod inputs;
+pub mod laws;
 mod machine;
 mod operations;
 mod outcome;
