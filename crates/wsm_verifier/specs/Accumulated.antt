@@ -26,5 +26,6 @@ abbrev pub stays : ℤ → Kind → Option Interval → Bool
 stays records k None = true
 stays records k (Some x) = not (sum_leaves records k (Number x))
 
+-- the same for each accumulator
 abbrev pub StayAll : ℤ → List Kind → List (Option Interval) → Type 0
 StayAll records kinds folded = (a : ℕ) → stays records (kind_of kinds a) (slice_index_or folded a None) ≡ true
