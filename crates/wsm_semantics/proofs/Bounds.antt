@@ -1,25 +1,28 @@
 -- How many panes and records there can be: of a held pane, its key is declared, its window is of the
 -- grid, lives and starts no further ahead than the skew, and its records are among those admitted.
-use Rattle.std.proofs.Common.{◌≡◌, ℕ, suc, ◌+◌, ◌<◌, ◌≤◌, Bool, true, false, ◌&&◌, cond, List, [], ◌∷◌, ◌++◌, map, length, ℤ, pos, ◌+ℤ◌, ◌≤ℤ◌, Option, Some, None, refl, sym, subst, arith, length-append}
+use Rattle.std.proofs.Common.{◌≡◌, ℕ, suc, ◌+◌, ◌<◌, ◌≤◌, Bool, true, false, ◌&&◌, cond, List, [], ◌∷◌, ◌++◌, map, length, ℤ, ◌+ℤ◌, ◌≤ℤ◌, Option, Some, None, refl, sym, subst, arith, length-append}
 use Rattle.std.proofs.lemmas.Int.{ints}
 use Rattle.std.proofs.lemmas.Bool.Decides.{nat_tests}
 use Rattle.std.proofs.Math.Nat.{le_trans}
-use Rattle.std.specs.Prelude.{filter, is_none, int_le, int_lt, nat_lt}
+use Rattle.std.specs.Prelude.{Contains, filter, flat_map, is_none, int_lt, nat_lt}
 use Rattle.std.specs.List.{AllByRecursion}
 use Rattle.wsm_record.specs.declared.event.Value.{Value}
 use Rattle.wsm_record.specs.Event.{Event, Record, Watermark}
-use Rattle.wsm_windows.specs.declared.window.Shape.TheVariants.{Fixed}
-use Rattle.wsm_windows.specs.Windows.{last_start}
+use Rattle.wsm_windows.specs.declared.window.Window.{Window}
+use Rattle.wsm_windows.specs.declared.window.Shape.{Shape}
+use Rattle.wsm_windows.specs.declared.window.Shape.TheVariants.{Fixed, Sliding, Session}
+use Rattle.wsm_windows.specs.Windows.{windows_of_shape, IsShape, IsWindowOfShape}
+use Rattle.wsm_windows.proofs.Members.{exactly}
 use Rattle.wsm_admission.specs.declared.verdict.Refusal.{Refusal}
 use Rattle.wsm_admission.specs.Clock.{admitted_count, admitted_with}
 use Rattle.wsm_admission.proofs.Taken.{taken_record, watermark_rises}
 use Rattle.wsm_semantics.specs.declared.place.Place.{Place}
 use Rattle.wsm_semantics.specs.Query.{Query, Datum, mark, verdict_on, selected, selection_of}
-use Rattle.wsm_semantics.specs.Panes.{place_cmp, is_there, contents, panes, held, is_live_at, with_contents}
+use Rattle.wsm_semantics.specs.Panes.{place_cmp, at, window_of, is_there, contents, panes, held, is_live_at, with_contents}
 use Rattle.wsm_semantics.proofs.Lists.{filter-all, all-each, put-all}
 use Rattle.wsm_semantics.proofs.Tables.{places_exact}
-use Rattle.wsm_semantics.proofs.Fixed.{rem_below, starts_before}
-use Rattle.wsm_semantics.proofs.FixedStep.{place_of, places_fixed}
+use Rattle.wsm_semantics.proofs.Assigned.{IsAssigned, stands}
+use Rattle.wsm_semantics.proofs.AssignedStep.{places-assigned}
 
 all-append : {A : Type 0} (P : A → Type 0) (xs ys : List A) → AllByRecursion P xs → AllByRecursion P ys → AllByRecursion P (xs ++ ys)
 all-append P [] ys h k = k
@@ -39,11 +42,10 @@ pub record IsSelected (q : Query) (w : ℤ) (d : Datum) : Type 0 where
   pub near : d.time ≤ℤ (w +ℤ q.clock.skew)
 
 -- a pane that is held, after a history
-pub record IsHeldPane (q : Query) (size : ℕ) (past : List Event) (e : Place × List Datum) : Type 0 where
+pub record IsHeldPane (q : Query) (past : List Event) (e : Place × List Datum) : Type 0 where
   pub key : e.0.key < length q.declared.keys
   pub time : ℤ
-  pub start : e.0.start ≡ last_start (pos size) time
-  pub end : e.0.end ≡ e.0.start +ℤ pos size
+  pub window : IsWindowOfShape q.shape time (window_of e.0)
   pub near : e.0.start ≤ℤ (mark q past +ℤ q.clock.skew)
   pub count : length e.1 ≤ admitted_count q.clock q.declared past
 
@@ -58,6 +60,14 @@ not_ahead w t skew h = grind (arith, ints)
 
 still_near : (t w v skew : ℤ) → w ≤ℤ v → t ≤ℤ (w +ℤ skew) → t ≤ℤ (v +ℤ skew)
 still_near t w v skew h k = omega (arith, ints)
+
+starts_before : (shape : Shape) → IsAssigned shape → (t : ℤ) (w : Window) → IsWindowOfShape shape t w → w.start ≤ℤ t
+starts_before (Fixed size) a t w h = h.from
+starts_before (Sliding size period) a t w h = h.from
+starts_before (Session gap) a t w h = absurd a
+
+no_later : (start t most : ℤ) → start ≤ℤ t → t ≤ℤ most → start ≤ℤ most
+no_later start t most h k = omega (arith, ints)
 
 module _ (q : Query) where
   ahead : (w v : ℤ) → w ≤ℤ v → (d : Datum) → IsSelected q w d → IsSelected q v d
@@ -99,43 +109,43 @@ module _ (q : Query) where
       rw (length-append (selection_of q past e) (selected q past))
       (both_grow (length (selection_of q past e)) (length (selected q past)) (admitted_count q.clock q.declared past) _ (selected_count past) (one_selected e past (admitted_count q.clock q.declared past)))
 
-  module _ (s : ℕ) (pos_s : 0 < s) (shape : q.shape ≡ Fixed (pos s)) (past : List Event) where
-    first_of : (a b : Bool) → (a && b) ≡ true → a ≡ true
-    first_of true b h = refl
-    first_of false b h = h
+  -- each pane that is held lives
+  pub held_lives : (past : List Event) → AllByRecursion (λ e. is_live_at q (mark q past) e.0 ≡ true) (held q past)
+  held_lives past = passed (panes q past) where
+    passed : (es : List (Place × List Datum)) → AllByRecursion (λ e. is_live_at q (mark q past) e.0 ≡ true) (filter (λ e. is_live_at q (mark q past) e.0) es)
+    passed [] = tt
+    passed (e ∷ es) = elim (is_live_at q (mark q past) e.0) as (λ b. is_live_at q (mark q past) e.0 ≡ b → AllByRecursion (λ e. is_live_at q (mark q past) e.0 ≡ true) (cond b (e ∷ filter (λ e. is_live_at q (mark q past) e.0) es) (filter (λ e. is_live_at q (mark q past) e.0) es))) [
+      | true ↦ λ k. (k, passed es)
+      | false ↦ λ k. passed es
+    ] refl
 
-    begins : (t w skew start : ℤ) → int_le start t ≡ true → t ≤ℤ (w +ℤ skew) → start ≤ℤ (w +ℤ skew)
-    begins t w skew start h k = grind (arith, ints)
+  module _ (ok : IsShape q.shape) (assigned : IsAssigned q.shape) (past : List Event) where
+    one_held : (d : Datum) → IsSelected q (mark q past) d → (w : Window) → IsWindowOfShape q.shape d.time w → IsHeldPane q past (at d.key w, contents q past (at d.key w))
+    one_held d h w window = record {
+      key = h.key;
+      time = d.time;
+      window = window;
+      near = no_later w.start d.time (mark q past +ℤ q.clock.skew) (starts_before q.shape assigned d.time w window) h.near;
+      count = le_trans (length-filter (is_there (at d.key w)) (selected q past)) (selected_count past);
+    }
 
-    one_held : (d : Datum) → IsSelected q (mark q past) d → IsHeldPane q s past (place_of s d, contents q past (place_of s d))
-    one_held d h =
-        let r = rem_below d.time s pos_s in
-        record {
-          key = h.key;
-          time = d.time;
-          start = refl;
-          end = refl;
-          near = begins d.time (mark q past) q.clock.skew (place_of s d).start (first_of _ _ (starts_before d.time s r.0 r.1 r.2)) h.near;
-          count = le_trans (length-filter (is_there (place_of s d)) (selected q past)) (selected_count past);
-        }
+    -- a record's windows, before other places
+    windows_held : (d : Datum) → IsSelected q (mark q past) d → (ws : List Window) → ((w : Window) → Contains ws w → IsWindowOfShape q.shape d.time w) →
+        (ps : List Place) → AllByRecursion (IsHeldPane q past) (with_contents (contents q past) ps) → AllByRecursion (IsHeldPane q past) (with_contents (contents q past) (map (at d.key) ws ++ ps))
+    windows_held d h [] each ps rest = rest
+    windows_held d h (w ∷ ws) each ps rest =
+        put-all place_cmp places_exact (IsHeldPane q past) (at d.key w) (contents q past (at d.key w)) (with_contents (contents q past) (map (at d.key) ws ++ ps))
+        (one_held d h w (each w (0, omega arith, refl)))
+        (windows_held d h ws (λ v (i, less, is). each v (suc i, omega arith, is)) ps rest)
 
-    each_held : (ds : List Datum) → AllByRecursion (IsSelected q (mark q past)) ds → AllByRecursion (IsHeldPane q s past) (with_contents (contents q past) (map (place_of s) ds))
+    each_held : (ds : List Datum) → AllByRecursion (IsSelected q (mark q past)) ds → AllByRecursion (IsHeldPane q past) (with_contents (contents q past) (flat_map (stands q.shape ok assigned) ds))
     each_held [] h = tt
     each_held (d ∷ ds) h =
-        put-all place_cmp places_exact (IsHeldPane q s past) (place_of s d) (contents q past (place_of s d)) (with_contents (contents q past) (map (place_of s) ds)) (one_held d h.0) (each_held ds h.1)
+        let ws : List Window = windows_of_shape q.shape d.time in
+        windows_held d h.0 ws (λ w. (exactly q.shape d.time ws ok refl w).0) (flat_map (stands q.shape ok assigned) ds) (each_held ds h.1)
 
     -- of each pane that is held
-    pub held_bounds : AllByRecursion (IsHeldPane q s past) (held q past)
+    pub held_bounds : AllByRecursion (IsHeldPane q past) (held q past)
     held_bounds =
-        filter-all (IsHeldPane q s past) (λ e. is_live_at q (mark q past) e.0) (panes q past)
-        (subst (λ (ps : List Place). AllByRecursion (IsHeldPane q s past) (with_contents (contents q past) ps)) (sym (places_fixed q s pos_s shape past)) (each_held (selected q past) (each_selected past)))
-
-    -- and each lives
-    pub held_lives : AllByRecursion (λ e. is_live_at q (mark q past) e.0 ≡ true) (held q past)
-    held_lives = passed (panes q past) where
-      passed : (es : List (Place × List Datum)) → AllByRecursion (λ e. is_live_at q (mark q past) e.0 ≡ true) (filter (λ e. is_live_at q (mark q past) e.0) es)
-      passed [] = tt
-      passed (e ∷ es) = elim (is_live_at q (mark q past) e.0) as (λ b. is_live_at q (mark q past) e.0 ≡ b → AllByRecursion (λ e. is_live_at q (mark q past) e.0 ≡ true) (cond b (e ∷ filter (λ e. is_live_at q (mark q past) e.0) es) (filter (λ e. is_live_at q (mark q past) e.0) es))) [
-        | true ↦ λ k. (k, passed es)
-        | false ↦ λ k. passed es
-      ] refl
+        filter-all (IsHeldPane q past) (λ e. is_live_at q (mark q past) e.0) (panes q past)
+        (subst (λ (ps : List Place). AllByRecursion (IsHeldPane q past) (with_contents (contents q past) ps)) (sym (places-assigned q ok assigned past)) (each_held (selected q past) (each_selected past)))
