@@ -15,6 +15,7 @@ use Rattle.wsm_windows.specs.declared.window.Shape.{Shape}
 use Rattle.wsm_windows.specs.declared.window.Shape.TheVariants.{Fixed}
 use Rattle.wsm_windows.specs.Windows.{IsShape, IsWindowOf, IsWindowOfShape, size_of, windows_of_shape}
 use Rattle.wsm_windows.specs.Life.{live_bound}
+use Rattle.wsm_windows.proofs.Fixed.{fixed_one}
 use Rattle.wsm_admission.specs.declared.verdict.Admitted.TheVariants as admitted
 use Rattle.wsm_admission.specs.declared.verdict.Refusal.{Refusal}
 use Rattle.wsm_admission.specs.Clock.{is_time, latest_time, watermark_refusal}
@@ -23,7 +24,6 @@ use Rattle.wsm_admission.specs.Admission.{answer, decision, IsInRange}
 use Rattle.wsm_admission.proofs.Taken.{IsTaken, taken_record, accepted_watermark}
 use Rattle.wsm_semantics.specs.declared.place.Place.{Place}
 use Rattle.wsm_semantics.specs.Panes.{place_cmp, at}
-use Rattle.wsm_semantics.proofs.Fixed.{fixed_one}
 use Rattle.wsm_panes.specs.declared.pane.Pane.{Pane}
 use Rattle.std.specs.FinMap as map
 use Rattle.wsm_panes.proofs.Tables.{map_of-nil, entries_are}

@@ -1,11 +1,9 @@
 -- A turn of what an engine keeps fits the history with its event, and answers as the meaning does.
-use Rattle.std.proofs.Common.{◌≡◌, ◌<◌, ℕ, List, ◌∷◌, Option, Some, None, length, ℤ, pos, refl, sym, ap, subst, ◌∙◌, arith}
-use Rattle.std.specs.Prelude.{Ok, Err, Result, IsSome, unsigned_abs, ◌≤ℤ◌}
-use Rattle.std.proofs.lemmas.Int.{ints}
+use Rattle.std.proofs.Common.{◌≡◌, ℕ, List, ◌∷◌, Option, Some, None, length, ℤ, refl, sym, ap, subst, ◌∙◌, arith}
+use Rattle.std.specs.Prelude.{Ok, Err, Result, IsSome}
 use Rattle.wsm_record.specs.Event.{Event, Record, Watermark}
 use Rattle.wsm_windows.specs.declared.window.Shape.{Shape}
-use Rattle.wsm_windows.specs.declared.window.Shape.TheVariants.{Fixed}
-use Rattle.wsm_windows.specs.Windows.{size_of}
+use Rattle.wsm_windows.specs.Windows.{IsShape}
 use Rattle.wsm_admission.specs.declared.verdict.Admitted.{Admitted}
 use Rattle.wsm_admission.specs.declared.verdict.Refusal.{Refusal}
 use Rattle.wsm_admission.specs.declared.verdict.Refusal.TheVariants as refusal
@@ -16,13 +14,13 @@ use Rattle.wsm_semantics.specs.Firings.{firings}
 use Rattle.wsm_semantics.specs.Relation.{turn_rows}
 use Rattle.wsm_semantics.specs.Machine as machine
 use Rattle.wsm_semantics.specs.Machine.{Runs, FiresOnTime}
-use Rattle.wsm_semantics.proofs.Steps.{Fits-step, rows-step, fires-step, decision-fits}
+use Rattle.wsm_semantics.proofs.Stepping.{decision-fits}
+use Rattle.wsm_semantics.proofs.AssignedSteps.{Fits-step, rows-step, fires-step}
 use Rattle.wsm_panes.specs.declared.pane.Pane.{Pane}
 use Rattle.wsm_engine.specs.Plan.{plan, summary}
 use Rattle.wsm_engine.specs.Machine.{State, turn, answer_to, reply_to, refusal_of, machine_of, IsRefused}
 use Rattle.wsm_engine.specs.Held.{IsKept}
 use Rattle.wsm_engine.specs.Meaning.{query_of, Fits}
-use Rattle.wsm_engine.proofs.Keeping.{some_size}
 use Rattle.wsm_engine.proofs.Turning.{turn_is}
 
 -- the plan runs the query
@@ -37,11 +35,8 @@ runs s = record {
   pane_of n = record { count = n }
 
 module _ (s : State) (kept : IsKept s) (e : Event) (past : List Event) (fits : Fits s past) where
-  size_is : size_of s.shape ≡ pos (unsigned_abs (size_of s.shape))
-  size_is = let some : pos 1 ≤ℤ size_of s.shape = some_size s.shape kept.shape in grind (arith, ints)
-
-  size_some : 0 < unsigned_abs (size_of s.shape)
-  size_some = let some : pos 1 ≤ℤ size_of s.shape = some_size s.shape kept.shape in grind (arith, ints)
+  shape_is : IsShape (query_of s).shape
+  shape_is = subst IsShape kept.fixed kept.shape
 
   plain : FiresOnTime (query_of s)
   plain = record { form = refl; mode = refl; early = refl; late = refl; lateness = kept.prompt }
@@ -49,13 +44,13 @@ module _ (s : State) (kept : IsKept s) (e : Event) (past : List Event) (fits : F
   pub turn_fits : Fits (turn s e) (e ∷ past)
   turn_fits =
       subst (λ (shape : Shape). machine.Fits summary (query_of s) (machine.step plan s.schema shape (machine_of s) e) (e ∷ past)) (sym kept.fixed)
-      (Fits-step plan summary (query_of s) (runs s) (unsigned_abs (size_of s.shape)) size_some (ap Fixed size_is) plain (machine_of s) e past fits)
+      (Fits-step plan summary (query_of s) (runs s) shape_is tt plain (machine_of s) e past fits)
 
   pub turn_writes : (turn s e).rows ≡ turn_rows (query_of s) past e
-  turn_writes = rows-step plan summary (query_of s) (runs s) (unsigned_abs (size_of s.shape)) size_some (ap Fixed size_is) plain (machine_of s) e past fits
+  turn_writes = rows-step plan summary (query_of s) (runs s) shape_is tt plain (machine_of s) e past fits
 
   pub turn_fires : (reply_to s e).fired ≡ length (firings (query_of s) past e)
-  turn_fires = fires-step plan summary (query_of s) (runs s) (unsigned_abs (size_of s.shape)) size_some (ap Fixed size_is) plain (machine_of s) e past fits
+  turn_fires = fires-step plan summary (query_of s) (runs s) shape_is tt plain (machine_of s) e past fits
 
   pub turn_refuses : (reply_to s e).refusal ≡ verdict_on (query_of s) past e
   turn_refuses = ap refusal_of (decision-fits (query_of s) s.admission past e fits.clock fits.admission) ∙ told (mark (query_of s) past) e (verdict_on (query_of s) past e)

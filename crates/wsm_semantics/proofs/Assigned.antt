@@ -80,7 +80,7 @@ itself k = grind (arith, nat_tests)
 same_key : (j k : ℕ) → nat_eq j k ≡ true → j ≡ k
 same_key j k h = grind (arith, nat_tests)
 
-both : (a b : Bool) → (a && b) ≡ true → (a ≡ true) × (b ≡ true)
+pub both : (a b : Bool) → (a && b) ≡ true → (a ≡ true) × (b ≡ true)
 both true b h = (refl, h)
 both false b h = absurd (true≢false (sym h))
 

@@ -2,7 +2,6 @@
 -- panes of its windows.
 use Rattle.std.proofs.Common.{◌≡◌, ℕ, Bool, true, false, ◌&&◌, ◌||◌, cond, List, [], ◌∷◌, ◌++◌, map, length, ℤ, ◌+ℤ◌, ◌<ℤ◌, T, Option, Some, None, refl, sym, ap, subst, ◌∙◌, arith}
 use Rattle.std.proofs.lemmas.Int.{ints}
-use Rattle.std.proofs.lemmas.Bool.{true≢false}
 use Rattle.std.proofs.lemmas.List.Elements.{All-head, All-tail}
 use Rattle.std.specs.Prelude.{All, filter, flat_map, int_le, int_lt, is_none, option_map}
 use Rattle.std.specs.List.{AllByRecursion, list_any}
@@ -20,9 +19,8 @@ use Rattle.wsm_semantics.specs.Query.{Query, Datum, mark, verdict_on, selected, 
 use Rattle.wsm_semantics.specs.Panes.{place_cmp, at, windows_among, places, is_there, contents, panes, held, is_live_at, with_contents}
 use Rattle.wsm_semantics.specs.Machine.{Plan, Runs, summaries, entered}
 use Rattle.wsm_semantics.proofs.Lists.{IsNonEmpty, none_pass, some_pass, put-all, valued, find-valued}
-use Rattle.wsm_semantics.proofs.Tables.{among, is_equal, places_total, places_exact}
-use Rattle.wsm_semantics.proofs.FixedStep.{find-held, is_sorted-held}
-use Rattle.wsm_semantics.proofs.Assigned.{IsAssigned, OnGrid, stands, windows_assigned, among-append, among_all, on_grid, on_grid_all, own, tied}
+use Rattle.wsm_semantics.proofs.Tables.{among, is_equal, places_total, places_exact, find-held, is_sorted-held}
+use Rattle.wsm_semantics.proofs.Assigned.{IsAssigned, OnGrid, stands, windows_assigned, among-append, among_all, on_grid, on_grid_all, own, tied, both}
 
 module _ {X : Type 0} (plan : Plan X) (k : ℕ) (vs : List Value) where
   is_sorted-entered : (ws : List Window) (es : List (Place × X)) → T (is_sorted place_cmp es) → T (is_sorted place_cmp (entered plan k vs ws es))
@@ -74,10 +72,6 @@ module _ {A B : Type 0} (f : A → B) where
 
 kept_live : (mark t l start end : ℤ) → int_lt (t +ℤ l) mark ≡ false → (int_le start t && int_lt t end) ≡ true → int_lt mark (end +ℤ l) ≡ true
 kept_live mark t l start end prompt inside = grind (arith, ints)
-
-second : (a b : Bool) → (a && b) ≡ true → b ≡ true
-second true b h = h
-second false b h = absurd (true≢false (sym h))
 
 module _ (q : Query) (ok : IsShape q.shape) (assigned : IsAssigned q.shape) (past : List Event) where
   places_flat : (ds xs : List Datum) → flat_map (λ d. map (at d.key) (windows_among q.shape ds d)) xs ≡ flat_map (stands q.shape ok assigned) xs
@@ -166,7 +160,7 @@ module _ {X : Type 0} (plan : Plan X) (summary : List Datum → X) (q : Query) (
       find-entered plan k vs ws (rising q.shape t ws ok refl) p (summaries summary q past)
       ∙ ap (λ (o : Option X). cond mine (Some (plan.enter k vs o)) o) (find-summaries summary q past p)
       ∙ looked q ok assigned past plan summary runs d mine others live (is_there p d) c
-      (λ h. (kept_live (mark q past) t q.clock.lateness p.start p.end prompt (second _ _ (stood h)), stood h))
+      (λ h. (kept_live (mark q past) t q.clock.lateness p.start p.end prompt (both _ _ (stood h)).1, stood h))
       (λ h others. some_pass (is_there p) (selected q past) (sym (among_places q ok assigned past p (on_grid q.shape ok assigned p d h)) ∙ others))
       (λ h others. none_pass (is_there p) (selected q past) (sym (among_places q ok assigned past p (on_grid q.shape ok assigned p d h)) ∙ others))
       (λ h others. sym (own q.shape ok assigned p (grid_of q ok assigned past p others) d) ∙ h)

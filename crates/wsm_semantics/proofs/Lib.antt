@@ -1,13 +1,9 @@
 pub mod Lists
 pub mod Tables
-pub mod Fixed
 pub mod Turns
-pub mod FixedStep
-pub mod FixedPanes
 pub mod Assigned
 pub mod AssignedStep
 pub mod Stepping
-pub mod Steps
 pub mod AssignedSteps
 pub mod Counts
 pub mod Bounds

@@ -90,15 +90,6 @@ module _ {K A B : Type 0} (R : K → K → Ordering) (f : A → B) where
         | false ↦ find-valued q es
       ]
 
-  pub valued-put : (k : K) (v : A) (es : List (K × A)) → valued (put R k v es) ≡ put R k (f v) (valued es)
-  valued-put k v [] = refl
-  valued-put k v (e ∷ es) =
-      elim (R k e.0) as (λ o. valued (by_order o ((k, v) ∷ e ∷ es) ((e.0, v) ∷ es) (e ∷ put R k v es)) ≡ by_order o ((k, f v) ∷ (e.0, f e.1) ∷ valued es) ((e.0, f v) ∷ valued es) ((e.0, f e.1) ∷ put R k (f v) (valued es))) [
-        | Less ↦ refl
-        | Equal ↦ refl
-        | Greater ↦ ap (λ (fs : List (K × B)). (e.0, f e.1) ∷ fs) (valued-put k v es)
-      ]
-
   pub valued-filter : (p : K → Bool) (es : List (K × A)) → valued (filter (λ e. p e.0) es) ≡ filter (λ e. p e.0) (valued es)
   valued-filter p [] = refl
   valued-filter p (e ∷ es) =

@@ -1,5 +1,5 @@
 -- The order of places, and what a look-up in a table of panes finds.
-use Rattle.std.proofs.Common.{◌≡◌, Bool, true, false, ◌||◌, cond, List, [], ◌∷◌, T, Some, None, refl, sym, ap, ◌∙◌}
+use Rattle.std.proofs.Common.{◌≡◌, Bool, true, false, ◌||◌, cond, List, [], ◌∷◌, T, Option, Some, None, refl, sym, ap, ◌∙◌}
 use Rattle.std.proofs.lemmas.Bool.{true≢false}
 use Rattle.std.specs.List.{list_any}
 use Rattle.std.specs.Ordering.{eq_by_cmp, ordering_then, is_eq}
@@ -7,11 +7,12 @@ use Rattle.std.specs.Cmp.{IsTotalOrder}
 use Rattle.std.specs.declared.cmp.Ordering.{Ordering}
 use Rattle.std.specs.declared.cmp.Ordering.TheVariants.{Less, Equal, Greater}
 use Rattle.std.specs.FinMap.{IsAntisymmetric, int_cmp-IsAntisymmetric, nat_cmp-IsAntisymmetric}
-use Rattle.std.specs.FinMap.Entries.{find, is_sorted, find-put, is_sorted-put}
+use Rattle.std.specs.FinMap.Entries.{find, is_sorted, find-put, find-where_key, is_sorted-put, is_sorted-where_key}
 use Rattle.std.proofs.lemmas.Cmp.{on_total, then_total, int_cmp_total, nat_cmp_total}
+use Rattle.wsm_record.specs.Event.{Event}
 use Rattle.wsm_semantics.specs.declared.place.Place.{Place}
-use Rattle.wsm_semantics.specs.Query.{Datum}
-use Rattle.wsm_semantics.specs.Panes.{place_cmp, with_contents}
+use Rattle.wsm_semantics.specs.Query.{Query, Datum, mark}
+use Rattle.wsm_semantics.specs.Panes.{place_cmp, places, contents, panes, held, is_live_at, with_contents}
 
 pub places_total : IsTotalOrder place_cmp
 places_total = then_total (on_total (λ (p : Place). p.end) int_cmp_total) (then_total (on_total (λ (p : Place). p.start) int_cmp_total) (on_total (λ (p : Place). p.key) nat_cmp_total))
@@ -56,3 +57,12 @@ find-with_contents c q (p ∷ ps) =
       | true ↦ λ e. ap (λ x. Some (c x)) (sym (places_exact q p (tie q p e)))
       | false ↦ λ e. find-with_contents c q ps
     ] refl
+
+-- what a look-up in the held panes finds
+pub find-held : (q : Query) (past : List Event) (p : Place) → find place_cmp p (held q past) ≡ cond (is_live_at q (mark q past) p) (cond (among p (places q past)) (Some (contents q past p)) None) None
+find-held q past p =
+    find-where_key place_cmp (is_live_at q (mark q past)) p (λ x tie. ap (is_live_at q (mark q past)) (sym (places_exact p x tie))) (panes q past)
+    ∙ ap (λ (o : Option (List Datum)). cond (is_live_at q (mark q past) p) o None) (find-with_contents (contents q past) p (places q past))
+
+pub is_sorted-held : (q : Query) (past : List Event) → T (is_sorted place_cmp (held q past))
+is_sorted-held q past = is_sorted-where_key place_cmp (is_live_at q (mark q past)) (panes q past) (is_sorted-with_contents (contents q past) (places q past))

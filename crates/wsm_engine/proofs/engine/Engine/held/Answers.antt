@@ -1,7 +1,7 @@
 use Rattle.std.proofs.Common.{ap, ◌∙◌, ◌≡◌, length}
 use Rattle.std.specs.FinMap as map
 use Rattle.wsm_engine.specs.Engine.{state_of}
-use Rattle.wsm_semantics.proofs.Steps.{panes-fit}
+use Rattle.wsm_semantics.proofs.Stepping.{panes-fit}
 use Rattle.wsm_engine.specs.Plan.{summary}
 use Rattle.wsm_engine.specs.Machine.{State, machine_of}
 use Rattle.wsm_engine.specs.Meaning.{query_of}

@@ -2,7 +2,7 @@ use Rattle.std.proofs.Common.{[], ap, sym, subst, arith, SFits, w64, to_z-of_z, 
 use Rattle.std.proofs.lemmas.Int.{ints, fits_signed_from_abs}
 use Rattle.wsm_panes.specs.Table.{Table}
 use Rattle.wsm_semantics.specs.Counting.{count_query}
-use Rattle.wsm_semantics.proofs.Steps.{Fits-opened}
+use Rattle.wsm_semantics.proofs.Stepping.{Fits-opened}
 use Rattle.wsm_engine.specs.Plan.{summary}
 use Rattle.wsm_engine.specs.Machine.{State}
 use Rattle.wsm_engine.specs.Meaning.{Fits}
