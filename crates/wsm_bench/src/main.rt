@@ -5,11 +5,9 @@
 //! `verify FILE` also verifies what it read each time. It prints `taken`, or the refusal.
 #![tactic(auto)]
 
-use std::env;
-use std::fs;
-use std::io;
 use std::process::ExitCode;
 use std::rt::{Env, Files};
+use std::{env, fs, io};
 use wsm_bytecode::decode;
 use wsm_query::parse;
 use wsm_verifier::verify;
