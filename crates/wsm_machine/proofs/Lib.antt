@@ -20,3 +20,14 @@ pub mod Completing
 pub mod Leaving
 pub mod Accumulating
 pub mod Summing
+pub mod Meaning
+pub mod Words
+pub mod Sounding
+pub mod Holding
+pub mod SoundSteps
+pub mod Costing
+pub mod Histories
+pub mod Telling
+pub mod Firing
+pub mod Counting
+pub mod Costs

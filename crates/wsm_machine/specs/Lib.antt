@@ -5,3 +5,6 @@ pub mod Steps
 pub mod Vectors
 pub mod Fits
 pub mod InRange
+pub mod Meaning
+pub mod MeaningVectors
+pub mod Sound

@@ -39,6 +39,15 @@ impl Folds {
         }
     }
 
+    /// Begins again, over so many accumulators.
+    pub(crate) fn restart(&mut self, len: usize)
+        requires { len ≤ MAX_ACCUMULATORS }
+        ensures { self.new ≡ replicate len None }
+    {
+        self.places[..len].fill(None);
+        self.len = len;
+    }
+
     /// What is folded, by accumulator.
     pub fn values(&self) -> &[Option<Value>]
         ensures values { result.now ≡ self.now }

@@ -63,7 +63,7 @@ impl Frame {
         ensures { self.new ≡ record { stack = []; folds = replicate accumulators None } }
     {
         self.stack.clear();
-        self.folds = Folds::open(accumulators);
+        self.folds.restart(accumulators);
     }
 
     /// Whether the truth on top is true; there is one.

@@ -1,10 +1,9 @@
 -- Windows that are assigned to a record by its time alone, fixed or sliding: where records stand,
 -- and what a record does to the panes that are held.
-use Rattle.std.proofs.Common.{◌≡◌, ℕ, zero, suc, Bool, true, false, ◌&&◌, ◌||◌, List, [], ◌∷◌, ◌++◌, map, ℤ, refl, sym, ap, subst, ◌∙◌, arith}
+use Rattle.std.proofs.Common.{◌≡◌, ℕ, zero, suc, Bool, true, false, ◌&&◌, ◌||◌, List, [], ◌∷◌, map, ℤ, refl, sym, ap, subst, ◌∙◌, arith}
 use Rattle.std.proofs.lemmas.Int.{ints}
 use Rattle.std.proofs.lemmas.Bool.{true≢false}
-use Rattle.std.proofs.lemmas.Bool.Decides.{nat_tests}
-use Rattle.std.specs.Prelude.{Contains, flat_map, nat_eq}
+use Rattle.std.specs.Prelude.{Contains, flat_map}
 use Rattle.std.specs.List.{list_any}
 use Rattle.std.specs.Ordering.{eq_by_cmp, is_eq}
 use Rattle.std.specs.Cmp.{tied_itself}
@@ -17,6 +16,7 @@ use Rattle.wsm_semantics.specs.declared.place.Place.{Place}
 use Rattle.wsm_semantics.specs.Query.{Datum}
 use Rattle.wsm_semantics.specs.Panes.{place_cmp, at, window_of, windows_among, is_there}
 use Rattle.wsm_semantics.proofs.Tables.{among, is_equal, places_total, places_exact}
+use Rattle.wsm_semantics.proofs.Each.{itself, list_any-append, same_answers, same_key}
 
 -- each window is assigned by a record's time alone
 abbrev pub IsAssigned : Shape → Type 0
@@ -24,20 +24,10 @@ IsAssigned (Fixed size) = Unit {0}
 IsAssigned (Sliding size period) = Unit {0}
 IsAssigned (Session gap) = ⊥
 
-same_answer : (a b : Bool) → (a ≡ true → b ≡ true) → (b ≡ true → a ≡ true) → a ≡ b
-same_answer true b f g = sym (f refl)
-same_answer false true f g = g refl
-same_answer false false f g = refl
-
 pub tied : (p r : Place) → p ≡ r → eq_by_cmp place_cmp p r ≡ true
 tied p r e = subst (λ (x : Place). eq_by_cmp place_cmp p x ≡ true) e (ap is_eq (tied_itself places_total p))
 
-pub among-append : (p : Place) (xs ys : List Place) → among p (xs ++ ys) ≡ (among p xs || among p ys)
-among-append p [] ys = refl
-among-append p (x ∷ xs) ys =
-    elim (eq_by_cmp place_cmp p x) as (λ b. (b || among p (xs ++ ys)) ≡ ((b || among p xs) || among p ys)) [ true ↦ refl | false ↦ among-append p xs ys ]
-
-contains_among : (k : ℕ) (ws : List Window) (w : Window) → Contains ws w → among (at k w) (map (at k) ws) ≡ true
+pub contains_among : (k : ℕ) (ws : List Window) (w : Window) → Contains ws w → among (at k w) (map (at k) ws) ≡ true
 contains_among k [] w (i, less, e) = absurd (omega arith)
 contains_among k (x ∷ xs) w (zero, less, e) = ap (λ (b : Bool). b || among (at k w) (map (at k) xs)) (tied (at k w) (at k x) (ap (at k) (sym e)))
 contains_among k (x ∷ xs) w (suc i, less, e) =
@@ -74,12 +64,6 @@ moved (Fixed size) a u t w h i = moved_grid size size u t w h i
 moved (Sliding size period) a u t w h i = moved_grid size period u t w h i
 moved (Session gap) a u t w h i = absurd a
 
-itself : (k : ℕ) → nat_eq k k ≡ true
-itself k = grind (arith, nat_tests)
-
-same_key : (j k : ℕ) → nat_eq j k ≡ true → j ≡ k
-same_key j k h = grind (arith, nat_tests)
-
 pub both : (a b : Bool) → (a && b) ≡ true → (a ≡ true) × (b ≡ true)
 both true b h = (refl, h)
 both false b h = absurd (true≢false (sym h))
@@ -112,11 +96,11 @@ module _ (shape : Shape) (ok : IsShape shape) (assigned : IsAssigned shape) wher
 
   -- a place on the grid is a record's exactly where the record stands in it
   pub own : (p : Place) → OnGrid p → (d : Datum) → among p (stands d) ≡ is_there p d
-  own p grid d = same_answer _ _ (stands_there p d) (there_stands p grid d)
+  own p grid d = same_answers _ _ (stands_there p d) (there_stands p grid d)
 
   pub among_all : (p : Place) → OnGrid p → (ds : List Datum) → among p (flat_map stands ds) ≡ list_any (is_there p) ds
   among_all p grid [] = refl
-  among_all p grid (d ∷ ds) = among-append p (stands d) (flat_map stands ds) ∙ (λ i. own p grid d i || among_all p grid ds i)
+  among_all p grid (d ∷ ds) = list_any-append (eq_by_cmp place_cmp p) (stands d) (flat_map stands ds) ∙ (λ i. own p grid d i || among_all p grid ds i)
 
   pub on_grid_all : (p : Place) (ds : List Datum) → among p (flat_map stands ds) ≡ true → OnGrid p
   on_grid_all p [] h = absurd (true≢false (sym h))
@@ -124,4 +108,4 @@ module _ (shape : Shape) (ok : IsShape shape) (assigned : IsAssigned shape) wher
       elim (among p (stands d)) as (λ b. among p (stands d) ≡ b → (b || among p (flat_map stands ds)) ≡ true → OnGrid p) [
         | true ↦ λ e _. on_grid p d e
         | false ↦ λ e h. on_grid_all p ds h
-      ] refl (sym (among-append p (stands d) (flat_map stands ds)) ∙ h)
+      ] refl (sym (list_any-append (eq_by_cmp place_cmp p) (stands d) (flat_map stands ds)) ∙ h)

@@ -5,8 +5,8 @@ use Rattle.std.proofs.lemmas.Int.{ints}
 use Rattle.std.proofs.lemmas.List.Elements.{All-head, All-tail}
 use Rattle.std.specs.Prelude.{All, filter, flat_map, int_le, int_lt, is_none, option_map}
 use Rattle.std.specs.List.{AllByRecursion, list_any}
-use Rattle.std.specs.Ordering.{eq_by_cmp, is_lt}
-use Rattle.std.specs.FinMap.Entries.{put, find, is_sorted, below_all, find-put, is_sorted-put, same_entries}
+use Rattle.std.specs.Ordering.{eq_by_cmp}
+use Rattle.std.specs.FinMap.Entries.{put, find, is_sorted, find-put, is_sorted-put, same_entries}
 use Rattle.wsm_record.specs.declared.event.Value.{Value}
 use Rattle.wsm_record.specs.Event.{Event, Record}
 use Rattle.wsm_windows.specs.declared.window.Window.{Window}
@@ -16,14 +16,16 @@ use Rattle.wsm_admission.specs.Clock.{admitted_count, is_late}
 use Rattle.wsm_admission.proofs.Taken.{taken_record}
 use Rattle.wsm_semantics.specs.declared.place.Place.{Place}
 use Rattle.wsm_semantics.specs.Query.{Query, Datum, mark, verdict_on, selected, selection_of}
-use Rattle.wsm_semantics.specs.Panes.{place_cmp, at, windows_among, places, is_there, contents, panes, held, is_live_at, with_contents}
+use Rattle.wsm_semantics.specs.Panes.{place_cmp, at, windows_among, places, is_there, contents, panes, held, is_live_at}
 use Rattle.wsm_semantics.specs.Machine.{Plan, Runs, summaries, entered}
-use Rattle.wsm_semantics.proofs.Lists.{IsNonEmpty, none_pass, some_pass, put-all, valued, find-valued}
-use Rattle.wsm_semantics.proofs.Tables.{among, is_equal, places_total, places_exact, find-held, is_sorted-held}
-use Rattle.wsm_semantics.proofs.Assigned.{IsAssigned, OnGrid, stands, windows_assigned, among-append, among_all, on_grid, on_grid_all, own, tied, both}
+use Rattle.wsm_semantics.proofs.Lists.{IsNonEmpty, none_pass, some_pass, all-each, find-valued}
+use Rattle.wsm_semantics.proofs.Tables.{among, is_equal, places_total, places_exact, is_sorted-keyed, find-held, is_sorted-held}
+use Rattle.wsm_semantics.proofs.Assigned.{IsAssigned, OnGrid, stands, windows_assigned, among_all, on_grid, on_grid_all, own, both}
+use Rattle.wsm_semantics.proofs.Each.{list_any-append}
+use Rattle.wsm_semantics.proofs.Showing.{IsPane, each_pane}
 
 module _ {X : Type 0} (plan : Plan X) (k : ℕ) (vs : List Value) where
-  is_sorted-entered : (ws : List Window) (es : List (Place × X)) → T (is_sorted place_cmp es) → T (is_sorted place_cmp (entered plan k vs ws es))
+  pub is_sorted-entered : (ws : List Window) (es : List (Place × X)) → T (is_sorted place_cmp es) → T (is_sorted place_cmp (entered plan k vs ws es))
   is_sorted-entered [] es h = h
   is_sorted-entered (w ∷ ws) es h = is_sorted-entered ws _ (is_sorted-put place_cmp places_total (at k w) (plan.enter k vs (find place_cmp (at k w) es)) es h)
 
@@ -48,7 +50,7 @@ module _ {X : Type 0} (plan : Plan X) (k : ℕ) (vs : List Value) where
   mix false later old at_w new h f = ap (λ (o : Option X). cond later (Some (plan.enter k vs o)) o) h
 
   -- a record is put into the panes of its windows, and into no others
-  find-entered : (ws : List Window) → IsRising ws → (p : Place) (es : List (Place × X)) →
+  pub find-entered : (ws : List Window) → IsRising ws → (p : Place) (es : List (Place × X)) →
       find place_cmp p (entered plan k vs ws es) ≡ cond (among p (map (at k) ws)) (Some (plan.enter k vs (find place_cmp p es))) (find place_cmp p es)
   find-entered [] h p es = refl
   find-entered (w ∷ ws) h p es =
@@ -61,16 +63,7 @@ module _ {X : Type 0} (plan : Plan X) (k : ℕ) (vs : List Value) where
         ap (λ (r : Place). find place_cmp r es) (sym same),
       ))
 
-module _ {A B : Type 0} (f : A → B) where
-  below-valued : (p : Place) (es : List (Place × A)) → below_all place_cmp p (valued place_cmp f es) ≡ below_all place_cmp p es
-  below-valued p [] = refl
-  below-valued p (e ∷ es) = ap (λ (b : Bool). is_lt (place_cmp p e.0) && b) (below-valued p es)
-
-  is_sorted-valued : (es : List (Place × A)) → is_sorted place_cmp (valued place_cmp f es) ≡ is_sorted place_cmp es
-  is_sorted-valued [] = refl
-  is_sorted-valued (e ∷ es) = λ i. below-valued e.0 es i && is_sorted-valued es i
-
-kept_live : (mark t l start end : ℤ) → int_lt (t +ℤ l) mark ≡ false → (int_le start t && int_lt t end) ≡ true → int_lt mark (end +ℤ l) ≡ true
+pub kept_live : (mark t l start end : ℤ) → int_lt (t +ℤ l) mark ≡ false → (int_le start t && int_lt t end) ≡ true → int_lt mark (end +ℤ l) ≡ true
 kept_live mark t l start end prompt inside = grind (arith, ints)
 
 module _ (q : Query) (ok : IsShape q.shape) (assigned : IsAssigned q.shape) (past : List Event) where
@@ -81,29 +74,18 @@ module _ (q : Query) (ok : IsShape q.shape) (assigned : IsAssigned q.shape) (pas
   pub places-assigned : places q past ≡ flat_map (stands q.shape ok assigned) (selected q past)
   places-assigned = places_flat (selected q past) (selected q past)
 
-  among_places : (p : Place) → OnGrid q.shape ok assigned p → among p (places q past) ≡ list_any (is_there p) (selected q past)
+  pub among_places : (p : Place) → OnGrid q.shape ok assigned p → among p (places q past) ≡ list_any (is_there p) (selected q past)
   among_places p grid = ap (among p) places-assigned ∙ among_all q.shape ok assigned p grid (selected q past)
 
-  grid_of : (p : Place) → among p (places q past) ≡ true → OnGrid q.shape ok assigned p
+  pub grid_of : (p : Place) → among p (places q past) ≡ true → OnGrid q.shape ok assigned p
   grid_of p h = on_grid_all q.shape ok assigned p (selected q past) (ap (among p) (sym places-assigned) ∙ h)
-
-  among_each : (all ps : List Place) → ((p : Place) → among p ps ≡ true → among p all ≡ true) → AllByRecursion (λ p. among p all ≡ true) ps
-  among_each all [] within = tt
-  among_each all (p ∷ ps) within = (
-    within p (ap (λ (b : Bool). b || among p ps) (tied p p refl)),
-    among_each all ps (λ r h. within r (elim (eq_by_cmp place_cmp r p) as (λ b. (b || among r ps) ≡ true) [ true ↦ refl | false ↦ h ])),
-  )
-
-  filled_at : (ps : List Place) → AllByRecursion (λ p. among p (places q past) ≡ true) ps → AllByRecursion (λ e. IsNonEmpty e.1) (with_contents (contents q past) ps)
-  filled_at [] h = tt
-  filled_at (p ∷ ps) h =
-      put-all place_cmp places_exact (λ e. IsNonEmpty e.1) p (contents q past p) (with_contents (contents q past) ps)
-      (some_pass (is_there p) (selected q past) (sym (among_places p (grid_of p h.0)) ∙ h.0))
-      (filled_at ps h.1)
 
   -- each pane has records
   pub panes_filled : AllByRecursion (λ e. IsNonEmpty e.1) (panes q past)
-  panes_filled = filled_at (places q past) (among_each (places q past) (places q past) (λ p h. h))
+  panes_filled =
+      all-each (IsPane q past) (λ e. IsNonEmpty e.1) (panes q past)
+      (λ e pane. subst IsNonEmpty (sym pane.0) (some_pass (is_there e.0) (selected q past) (sym (among_places e.0 (grid_of e.0 pane.1)) ∙ pane.1)))
+      (each_pane q past)
 
   module _ {X : Type 0} (plan : Plan X) (summary : List Datum → X) (runs : Runs plan summary q) (d : Datum) where
     -- what is found at a place before and after a record: the record's place or not, others' or not
@@ -131,7 +113,7 @@ find-summaries : {X : Type 0} (summary : List Datum → X) (q : Query) (past : L
 find-summaries summary q past p = find-valued place_cmp summary p (held q past) ∙ ap (option_map summary) (find-held q past p)
 
 is_sorted-summaries : {X : Type 0} (summary : List Datum → X) (q : Query) (past : List Event) → T (is_sorted place_cmp (summaries summary q past))
-is_sorted-summaries summary q past = subst T (sym (is_sorted-valued summary (held q past))) (is_sorted-held q past)
+is_sorted-summaries summary q past = is_sorted-keyed (λ p. summary) (held q past) (is_sorted-held q past)
 
 module _ {X : Type 0} (plan : Plan X) (summary : List Datum → X) (q : Query) (runs : Runs plan summary q) (ok : IsShape q.shape) (assigned : IsAssigned q.shape) (past : List Event) where
   -- an admitted and selected record is put into the panes of its windows, and nothing else changes
@@ -153,7 +135,7 @@ module _ {X : Type 0} (plan : Plan X) (summary : List Datum → X) (q : Query) (
       let c : List Datum = contents q past p in
       let placed : among p (places q (e ∷ past)) ≡ (mine || others) =
       ap (among p) (places-assigned q ok assigned (e ∷ past) ∙ (λ i. flat_map (stands q.shape ok assigned) (sel i ++ selected q past)))
-      ∙ among-append p (map (at k) ws) (flat_map (stands q.shape ok assigned) (selected q past))
+      ∙ list_any-append (eq_by_cmp place_cmp p) (map (at k) ws) (flat_map (stands q.shape ok assigned) (selected q past))
       ∙ ap (λ (ps : List Place). mine || among p ps) (sym (places-assigned q ok assigned past)) in
       let held_more : contents q (e ∷ past) p ≡ cond (is_there p d) (d ∷ c) c = λ i. filter (is_there p) (sel i ++ selected q past) in
       let stood : (mine ≡ true → is_there p d ≡ true) = λ h. sym (own q.shape ok assigned p (on_grid q.shape ok assigned p d h) d) ∙ h in

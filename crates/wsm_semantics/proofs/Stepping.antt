@@ -63,10 +63,10 @@ module _ {X : Type 0} (plan : Plan X) where
 none_fired : (n : ℕ) (fs gs : List Firing) → n ≡ counter (length fs) → gs ≡ [] → n ≡ counter (length (fs ++ gs))
 none_fired n fs gs h none = rw none (omega (arith, length-append {A = Firing} fs []))
 
-some_fired : (n m : ℕ) (fs gs : List Firing) → n ≡ counter (length fs) → m ≡ length gs → counter (n + m) ≡ counter (length (fs ++ gs))
+pub some_fired : (n m : ℕ) (fs gs : List Firing) → n ≡ counter (length fs) → m ≡ length gs → counter (n + m) ≡ counter (length (fs ++ gs))
 some_fired n m fs gs h k = omega (arith, length-append {A = Firing} fs gs)
 
-one_fed : (n : ℕ) (past : List Event) → n ≡ counter (length past) → counter (n + 1) ≡ counter (suc (length past))
+pub one_fed : (n : ℕ) (past : List Event) → n ≡ counter (length past) → counter (n + 1) ≡ counter (suc (length past))
 one_fed n past h = omega arith
 
 -- what a machine rests on: a record is put into the panes of its windows, and each pane has records

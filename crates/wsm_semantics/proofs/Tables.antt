@@ -1,18 +1,20 @@
--- The order of places, and what a look-up in a table of panes finds.
-use Rattle.std.proofs.Common.{◌≡◌, Bool, true, false, ◌||◌, cond, List, [], ◌∷◌, T, Option, Some, None, refl, sym, ap, ◌∙◌}
+-- The order of places, and what a look-up in a table of panes finds, and in what is kept of them.
+use Rattle.std.proofs.Common.{◌≡◌, Bool, true, false, ◌&&◌, ◌||◌, cond, List, [], ◌∷◌, map, T, Option, Some, None, refl, sym, ap, subst, ◌∙◌}
 use Rattle.std.proofs.lemmas.Bool.{true≢false}
+use Rattle.std.specs.Prelude.{option_map}
 use Rattle.std.specs.List.{list_any}
-use Rattle.std.specs.Ordering.{eq_by_cmp, ordering_then, is_eq}
+use Rattle.std.specs.Ordering.{eq_by_cmp, ordering_then, is_eq, is_lt}
 use Rattle.std.specs.Cmp.{IsTotalOrder}
 use Rattle.std.specs.declared.cmp.Ordering.{Ordering}
 use Rattle.std.specs.declared.cmp.Ordering.TheVariants.{Less, Equal, Greater}
 use Rattle.std.specs.FinMap.{IsAntisymmetric, int_cmp-IsAntisymmetric, nat_cmp-IsAntisymmetric}
-use Rattle.std.specs.FinMap.Entries.{find, is_sorted, find-put, find-where_key, is_sorted-put, is_sorted-where_key}
+use Rattle.std.specs.FinMap.Entries.{find, is_sorted, below_all, find-put, find-where_key, is_sorted-put, is_sorted-where_key}
 use Rattle.std.proofs.lemmas.Cmp.{on_total, then_total, int_cmp_total, nat_cmp_total}
 use Rattle.wsm_record.specs.Event.{Event}
 use Rattle.wsm_semantics.specs.declared.place.Place.{Place}
 use Rattle.wsm_semantics.specs.Query.{Query, Datum, mark}
 use Rattle.wsm_semantics.specs.Panes.{place_cmp, places, contents, panes, held, is_live_at, with_contents}
+use Rattle.wsm_semantics.specs.Kept.{Kept, kept_in, kept}
 
 pub places_total : IsTotalOrder place_cmp
 places_total = then_total (on_total (λ (p : Place). p.end) int_cmp_total) (then_total (on_total (λ (p : Place). p.start) int_cmp_total) (on_total (λ (p : Place). p.key) nat_cmp_total))
@@ -37,9 +39,9 @@ places_exact a b h =
     let s = ordering_then_equal _ _ e.1 in
     place_is a b (int_cmp-IsAntisymmetric _ _ e.0) (int_cmp-IsAntisymmetric _ _ s.0) (nat_cmp-IsAntisymmetric _ _ s.1)
 
--- what a test that is true says of the order
-tie : (q p : Place) → eq_by_cmp place_cmp q p ≡ true → place_cmp q p ≡ Equal
-tie q p e = is_equal (place_cmp q p) e
+-- a place that ties is that place
+pub tie_is : (p r : Place) → eq_by_cmp place_cmp p r ≡ true → p ≡ r
+tie_is p r h = places_exact p r (is_equal _ h)
 
 abbrev pub among : Place → List Place → Bool
 among p ps = list_any (eq_by_cmp place_cmp p) ps
@@ -54,7 +56,7 @@ find-with_contents c q [] = refl
 find-with_contents c q (p ∷ ps) =
     find-put place_cmp places_total q p (c p) (with_contents c ps)
     ∙ elim (eq_by_cmp place_cmp q p) as (λ b. eq_by_cmp place_cmp q p ≡ b → cond b (Some (c p)) (find place_cmp q (with_contents c ps)) ≡ cond (b || among q ps) (Some (c q)) None) [
-      | true ↦ λ e. ap (λ x. Some (c x)) (sym (places_exact q p (tie q p e)))
+      | true ↦ λ e. ap (λ x. Some (c x)) (sym (tie_is q p e))
       | false ↦ λ e. find-with_contents c q ps
     ] refl
 
@@ -66,3 +68,48 @@ find-held q past p =
 
 pub is_sorted-held : (q : Query) (past : List Event) → T (is_sorted place_cmp (held q past))
 is_sorted-held q past = is_sorted-where_key place_cmp (is_live_at q (mark q past)) (panes q past) (is_sorted-with_contents (contents q past) (places q past))
+
+-- ---- tables whose values go by the place too
+
+module _ {A B : Type 0} (f : Place → A → B) where
+  abbrev pub keyed : List (Place × A) → List (Place × B)
+  keyed es = map (λ e. (e.0, f e.0 e.1)) es
+
+  pub find-keyed : (p : Place) (es : List (Place × A)) → find place_cmp p (keyed es) ≡ option_map (f p) (find place_cmp p es)
+  find-keyed p [] = refl
+  find-keyed p (e ∷ es) =
+      elim (eq_by_cmp place_cmp p e.0) as (λ b. eq_by_cmp place_cmp p e.0 ≡ b → cond b (Some (f e.0 e.1)) (find place_cmp p (keyed es)) ≡ option_map (f p) (cond b (Some e.1) (find place_cmp p es))) [
+        | true ↦ λ t. ap (λ (x : Place). Some (f x e.1)) (sym (tie_is p e.0 t))
+        | false ↦ λ t. find-keyed p es
+      ] refl
+
+  below-keyed : (p : Place) (es : List (Place × A)) → below_all place_cmp p (keyed es) ≡ below_all place_cmp p es
+  below-keyed p [] = refl
+  below-keyed p (e ∷ es) = ap (λ (b : Bool). is_lt (place_cmp p e.0) && b) (below-keyed p es)
+
+  sorted-keyed : (es : List (Place × A)) → is_sorted place_cmp (keyed es) ≡ is_sorted place_cmp es
+  sorted-keyed [] = refl
+  sorted-keyed (e ∷ es) = λ i. below-keyed e.0 es i && sorted-keyed es i
+
+  pub is_sorted-keyed : (es : List (Place × A)) → T (is_sorted place_cmp es) → T (is_sorted place_cmp (keyed es))
+  is_sorted-keyed es h = subst T (sym (sorted-keyed es)) h
+
+module _ (q : Query) (past : List Event) where
+  -- what is kept of a place with some records
+  abbrev pub kept_of : Place → List Datum → Kept
+  kept_of p all = (kept_in q past (p, all)).1
+
+  pub is_sorted-kept : T (is_sorted place_cmp (kept q past))
+  is_sorted-kept = is_sorted-keyed kept_of (held q past) (is_sorted-held q past)
+
+  -- what a look-up in what is kept finds
+  pub find-kept : (p : Place) → find place_cmp p (kept q past) ≡ cond (is_live_at q (mark q past) p) (cond (among p (places q past)) (Some (kept_of p (contents q past p))) None) None
+  find-kept p =
+      find-keyed kept_of p (held q past)
+      ∙ ap (option_map (kept_of p)) (find-held q past p)
+      ∙ mapped (is_live_at q (mark q past) p) (among p (places q past))
+    where
+      mapped : (live placed : Bool) → option_map (kept_of p) (cond live (cond placed (Some (contents q past p)) None) None) ≡ cond live (cond placed (Some (kept_of p (contents q past p))) None) None
+      mapped true true = refl
+      mapped true false = refl
+      mapped false placed = refl

@@ -33,13 +33,13 @@ module _ (q : Query) (past : List Event) where
   held-same e none same = λ i. filter (λ p. is_live_at q (same i) p.0) (panes-same e none i)
 
   -- a refused event selects nothing
-  refused_selects : (e : Event) (r : Refusal) → verdict_on q past e ≡ Some r → selection_of q past e ≡ []
+  pub refused_selects : (e : Event) (r : Refusal) → verdict_on q past e ≡ Some r → selection_of q past e ≡ []
   refused_selects (Record None t vs) r h = refl
   refused_selects (Record (Some k) t vs) r h =
       ap (λ (v : Option Refusal). cond (is_none v && q.selects k vs) (record { turn = length past; key = k; time = t; values = vs } ∷ []) []) h
   refused_selects (Watermark t) r h = refl
 
-  refused_stays : (e : Event) (r : Refusal) → verdict_on q past e ≡ Some r → mark q (e ∷ past) ≡ mark q past
+  pub refused_stays : (e : Event) (r : Refusal) → verdict_on q past e ≡ Some r → mark q (e ∷ past) ≡ mark q past
   refused_stays (Record k t vs) r h = refl
   refused_stays (Watermark t) r h = refused_watermark (mark q past) t r h
 

@@ -7,4 +7,14 @@ pub mod Lines
 pub mod Text
 pub mod Machine
 pub mod Counting
+pub mod Kept
+pub mod Replay
+pub mod Summaries
+pub mod Totals
+pub mod Steps
+pub mod FiringSets
+pub mod HeldBounds
+pub mod Order
 pub mod Rows
+pub mod KeptRows
+pub mod OrderRows

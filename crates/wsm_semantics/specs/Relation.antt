@@ -1,9 +1,9 @@
 -- The relation at an accepted watermark, and the three streams (Arasu et al. 2006): a relation is a
 -- bag at each instant, Istream what it gained, Dstream what it lost, Rstream what it is. The
 -- instants and which pane stands for a window are this project's own rules.
-use Rattle.std.specs.Prelude.{Bool, true, false, ◌&&◌, List, [], ◌∷◌, map, filter, filter_map, Option, Some, None, option_and_then, if◌then◌else◌}
+use Rattle.std.specs.Prelude.{Bool, ◌&&◌, List, [], ◌∷◌, map, filter, filter_map, Option, Some, None, option_and_then, if◌then◌else◌}
 use Rattle.std.specs.List.{list_all}
-use Rattle.std.specs.Ordering.{int_cmp, nat_cmp, ordering_then, is_eq, is_gt}
+use Rattle.std.specs.Ordering.{int_cmp, nat_cmp, bool_cmp, ordering_then, is_eq, is_gt}
 use Rattle.std.specs.declared.cmp.Ordering.{Ordering}
 use Rattle.std.specs.declared.cmp.Ordering.TheVariants.{Less, Equal, Greater}
 use Rattle.wsm_record.specs.declared.event.Value.{Value}
@@ -35,13 +35,17 @@ greatest_of all (f ∷ fs) = if list_all (λ g. is_within g.contents f.contents)
 abbrev pub standing : Query → List Firing → Place → List Datum → Option Firing
 standing q fs p all = let cs = candidates q p all fs in greatest_of cs cs
 
+-- values of one type by value; no column has values of two types
 abbrev pub value_cmp : Value → Value → Ordering
 value_cmp (Int a) (Int b) = int_cmp a b
-value_cmp (Truth false) (Truth true) = Less
-value_cmp (Truth true) (Truth false) = Greater
-value_cmp (Truth a) (Truth b) = Equal
+value_cmp (Int a) (Truth b) = Less
+value_cmp (Int a) (Enum b) = Less
+value_cmp (Truth a) (Int b) = Greater
+value_cmp (Truth a) (Truth b) = bool_cmp a b
+value_cmp (Truth a) (Enum b) = Less
+value_cmp (Enum a) (Int b) = Greater
+value_cmp (Enum a) (Truth b) = Greater
 value_cmp (Enum a) (Enum b) = nat_cmp a b
-value_cmp _ _ = Equal
 
 -- by columns from the left
 abbrev pub row_cmp : List Value → List Value → Ordering

@@ -20,16 +20,16 @@ abbrev first_value : List Value → ℤ
 first_value (Int n ∷ vs) = n
 first_value _ = pos 0
 
-abbrev total : List Datum → ℤ
+abbrev pub total : List Datum → ℤ
 total [] = pos 0
 total (d ∷ ds) = total ds +ℤ first_value d.values
 
-abbrev count : List Datum → Value
+abbrev pub count : List Datum → Value
 count ds = Int (pos (length ds))
 
 -- KEYS a, b; FIELD n INT 0..100; START 0; SKEW 100; LATENESS 10; RECORDS 1000;
 -- SELECT COUNT(*), SUM(n) WINDOW FIXED 60 ACCUMULATING EMIT PANES;
-abbrev base : Query
+abbrev pub base : Query
 base = record {
   clock = record { start = pos 0; skew = pos 100; lateness = pos 10; records = 1000 };
   declared = record {
@@ -45,7 +45,7 @@ base = record {
   row = λ key ds. Some (count ds ∷ Int (total ds) ∷ []);
 }
 
-abbrev with_lateness : ℕ → Query → Query
+abbrev pub with_lateness : ℕ → Query → Query
 with_lateness l q = record q { clock = record q.clock { lateness = pos l } }
 
 -- SELECT COUNT(*)
@@ -53,13 +53,13 @@ abbrev counting : Query
 counting = record base { row = λ key ds. Some (count ds ∷ []) }
 
 -- rows of the keys a and b, and of watermarks
-abbrev a : ℕ → ℕ → Row
+abbrev pub a : ℕ → ℕ → Row
 a time n = Ok (Record (Some 0) (pos time) (Int (pos n) ∷ []))
 
-abbrev b : ℕ → ℕ → Row
+abbrev pub b : ℕ → ℕ → Row
 b time n = Ok (Record (Some 1) (pos time) (Int (pos n) ∷ []))
 
-abbrev w : ℕ → Row
+abbrev pub w : ℕ → Row
 w time = Ok (Watermark (pos time))
 
 abbrev ints : List ℕ → List Value

@@ -58,6 +58,16 @@ impl Columns {
         &self.values[..self.len]
     }
 
+    /// The same columns once more.
+    pub fn copied(&self) -> Columns
+        ensures { result ≡ self.now }
+    {
+        Columns {
+            values: self.values,
+            len: self.len,
+        }
+    }
+
     /// Adds a column on the right.
     pub fn push(&mut self, value: Value)
         requires { length self.old < MAX_COLUMNS }

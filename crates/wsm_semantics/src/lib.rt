@@ -12,5 +12,6 @@ pub use out_row::OutRow;
 pub use place::Place;
 
 mod columns;
+pub mod laws;
 mod out_row;
 mod place;

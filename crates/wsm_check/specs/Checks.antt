@@ -1,0 +1,131 @@
+-- The checks of a query, in their order: the first refusal decides, and names its part.
+use Rattle.std.specs.Prelude.{◌≡◌, ℕ, suc, ◌*◌, Bool, true, false, ◌&&◌, not, cond, List, [], ◌∷◌, ◌++◌, length, ℤ, pos, int_le, nat_le, nat_lt, Option, Some, None, Ok, Err}
+use Rattle.wsm_record.specs.Name.{is_among}
+use Rattle.wsm_record.specs.declared.words.Mode.{Mode}
+use Rattle.wsm_record.specs.declared.words.Mode.TheVariants.{Discarding, Accumulating}
+use Rattle.wsm_record.specs.declared.words.Form.{Form}
+use Rattle.wsm_record.specs.declared.words.Form.TheVariants.{Panes}
+use Rattle.wsm_windows.specs.declared.window.Shape.{Shape}
+use Rattle.wsm_windows.specs.declared.window.Shape.TheVariants.{Fixed, Sliding, Session}
+use Rattle.wsm_windows.specs.Life.{live_bound}
+use Rattle.wsm_query.specs.Tree.{Name, Ty, IntTy, BoolTy, EnumTy, Declared, Budget, Query, Expr}
+use Rattle.wsm_check.specs.declared.refusal.CheckFault.{CheckFault}
+use Rattle.wsm_check.specs.declared.refusal.CheckFault.TheVariants.{Duplicate, Limit, StreamNeedsAccumulating}
+use Rattle.wsm_check.specs.declared.refusal.Part.{Part}
+use Rattle.wsm_check.specs.declared.refusal.Part.TheVariants as part
+use Rattle.wsm_check.specs.declared.refusal.CheckRefusal.{CheckRefusal}
+use Rattle.wsm_check.specs.Names.{has_repeats}
+use Rattle.wsm_check.specs.Types.{Around, InWhere, InColumn, Typed, typed, typed_condition}
+use Rattle.wsm_check.specs.Sizes.{accumulators, where_size, update_size, fire_size, stack_need}
+
+-- a refusal where the condition fails
+abbrev pub unless : Bool → CheckFault → Part → Option CheckRefusal
+unless b f p = cond b None (Some (record { fault = f; part = p }))
+
+-- the first of two, and of many
+abbrev pub or_else : Option CheckRefusal → Option CheckRefusal → Option CheckRefusal
+or_else None r = r
+or_else (Some x) r = Some x
+
+abbrev pub first : List (Option CheckRefusal) → Option CheckRefusal
+first [] = None
+first (r ∷ rs) = or_else r (first rs)
+
+abbrev pub in_range : ℤ → ℤ → ℤ → Bool
+in_range lo hi n = int_le lo n && int_le n hi
+
+-- 1 to 1,000 names, none of them twice
+abbrev pub names_refusal : Part → List Name → Option CheckRefusal
+names_refusal p xs = first (unless (nat_le 1 (length xs) && nat_le (length xs) 1000) Limit p ∷ unless (not (has_repeats xs)) Duplicate p ∷ [])
+
+abbrev pub ty_refusal : Part → Ty → Option CheckRefusal
+ty_refusal p (IntTy lo hi) = unless (int_le lo hi) Limit p
+ty_refusal p BoolTy = None
+ty_refusal p (EnumTy names) = names_refusal p names
+
+-- of the fields behind those with the names: at most 16, and none of a name twice
+abbrev pub fields_refusal : List Name → List Declared → Option CheckRefusal
+fields_refusal names [] = None
+fields_refusal names (d ∷ ds) =
+    let p = part.Field (suc (length names)) in
+    first (unless (nat_lt (length names) 16) Limit p ∷ unless (not (is_among d.name names)) Duplicate p ∷ ty_refusal p d.ty ∷ fields_refusal (names ++ d.name ∷ []) ds ∷ [])
+
+abbrev pub is_time : ℤ → Bool
+is_time n = in_range (pos 0) (pos 10000000000000000) n
+
+-- how far a record may be ahead or behind
+abbrev pub is_span : ℤ → Bool
+is_span n = in_range (pos 0) (pos 1000000000000) n
+
+-- a number of records, a size, a period or a gap
+abbrev pub is_count : ℤ → Bool
+is_count n = in_range (pos 1) (pos 1000000000000) n
+
+abbrev pub clock_fits : Query → Bool
+clock_fits q = is_time q.start && (is_span q.skew && (is_span q.lateness && is_count q.records))
+
+abbrev pub is_cost : ℤ → Bool
+is_cost n = in_range (pos 1) (pos 1000000000000000000) n
+
+abbrev pub budget_fits : Option Budget → Bool
+budget_fits None = true
+budget_fits (Some b) = is_cost b.per_record && (is_cost b.per_pane && in_range (pos 1) (pos 100000) b.held)
+
+abbrev pub shape_fits : Shape → Bool
+shape_fits (Fixed s) = is_count s
+shape_fits (Sliding s d) = is_count s && (is_count d && int_le d s)
+shape_fits (Session g) = is_count g
+
+abbrev pub every_fits : Option ℤ → Bool
+every_fits None = true
+every_fits (Some n) = is_count n
+
+-- a stream form needs the mode ACCUMULATING
+abbrev pub may_emit : Form → Mode → Bool
+may_emit Panes m = true
+may_emit f Accumulating = true
+may_emit f Discarding = false
+
+abbrev pub typed_refusal : Part → Typed → Option CheckRefusal
+typed_refusal p (Ok t) = None
+typed_refusal p (Err f) = Some (record { fault = f; part = p })
+
+abbrev pub condition_refusal : Query → Around → Part → Option Expr → Option CheckRefusal
+condition_refusal q around p None = None
+condition_refusal q around p (Some e) = typed_refusal p (typed_condition q around e)
+
+-- of the columns behind the first i: 1 to 16 of them
+abbrev pub columns_refusal : Query → ℕ → List Expr → Option CheckRefusal
+columns_refusal q i [] = unless (nat_lt 0 i) Limit (part.Column 1)
+columns_refusal q i (e ∷ es) =
+    let p = part.Column (suc i) in
+    first (unless (nat_lt i 16) Limit p ∷ typed_refusal p (typed q InColumn e) ∷ columns_refusal q (suc i) es ∷ [])
+
+-- at most 16 accumulators, 1,000 instructions in a section, 32 places on the stack, and 100,000 panes at once
+abbrev pub code_fits : Query → Bool
+code_fits q =
+    nat_le (length (accumulators q)) 16
+    && (nat_le (where_size q) 1000
+    && (nat_le (update_size q) 1000
+    && (nat_le (fire_size q) 1000
+    && (nat_le (stack_need q) 32 && nat_le (length q.keys * live_bound q.shape q.skew q.lateness) 100000))))
+
+abbrev pub refusal : Query → Option CheckRefusal
+refusal q =
+    first (
+    names_refusal part.Keys q.keys
+    ∷ fields_refusal [] q.fields
+    ∷ unless (clock_fits q) Limit part.Clock
+    ∷ unless (budget_fits q.budget) Limit part.Budget
+    ∷ unless (shape_fits q.shape) Limit part.Window
+    ∷ unless (every_fits q.early && every_fits q.late) Limit part.Trigger
+    ∷ unless (may_emit q.form q.mode) StreamNeedsAccumulating part.Emit
+    ∷ condition_refusal q InWhere part.Where q.condition
+    ∷ columns_refusal q 0 q.columns
+    ∷ condition_refusal q InColumn part.Having q.having
+    ∷ unless (code_fits q) Limit part.Code
+    ∷ [])
+
+-- no check refuses the query
+abbrev pub IsChecked : Query → Type 0
+IsChecked q = refusal q ≡ None

@@ -1,0 +1,31 @@
+-- Where names stand in the lists that a query declares.
+use Rattle.std.specs.Prelude.{ℕ, Bool, false, ◌||◌, cond, List, [], ◌∷◌, map, bytes_eq}
+use Rattle.std.specs.List.{position_or_len}
+use Rattle.wsm_record.specs.Name.{is_among}
+use Rattle.wsm_query.specs.Tree.{Name, Ty, IntTy, BoolTy, EnumTy, Declared}
+
+-- the number of names before it, so its number where it is among them
+abbrev pub place_of : Name → List Name → ℕ
+place_of x xs = position_or_len (bytes_eq x) xs
+
+abbrev pub has_repeats : List Name → Bool
+has_repeats [] = false
+has_repeats (x ∷ xs) = is_among x xs || has_repeats xs
+
+abbrev pub field_names : List Declared → List Name
+field_names ds = map (λ d. d.name) ds
+
+-- the number of a field
+abbrev pub field_place : List Declared → Name → ℕ
+field_place ds x = place_of x (field_names ds)
+
+-- the names that a type declares
+abbrev pub names_of : Ty → List Name
+names_of (IntTy lo hi) = []
+names_of BoolTy = []
+names_of (EnumTy names) = names
+
+-- the type of the first field of that name; a name that no field has is refused elsewhere
+abbrev pub type_of : Name → List Declared → Ty
+type_of x [] = BoolTy
+type_of x (d ∷ ds) = cond (bytes_eq x d.name) d.ty (type_of x ds)

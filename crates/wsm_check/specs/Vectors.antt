@@ -1,0 +1,199 @@
+-- Queries with their first refusals, computed by the definitions.
+use Rattle.std.specs.Prelude.{◌≡◌, refl, ℕ, zero, suc, true, List, [], ◌∷◌, ◌++◌, replicate, pos, negsuc, Option, Some, None, codes}
+use Rattle.wsm_record.specs.declared.words.Kind.TheVariants.{Sum, Any}
+use Rattle.wsm_record.specs.declared.words.Mode.TheVariants.{Discarding, Accumulating}
+use Rattle.wsm_record.specs.declared.words.Form.TheVariants.{Panes, Istream}
+use Rattle.wsm_windows.specs.declared.window.Shape.TheVariants.{Fixed, Sliding}
+use Rattle.wsm_query.specs.declared.expr.Op.TheVariants.{Add, Eq, Gt}
+use Rattle.wsm_query.specs.Tree.{Query, Ty, IntTy, BoolTy, EnumTy, Declared, Expr, Number, Truth, Field, EnumName, Key, KeyName, Count, Aggregate, If, Binary}
+use Rattle.wsm_check.specs.declared.refusal.CheckFault.{CheckFault}
+use Rattle.wsm_check.specs.declared.refusal.CheckFault.TheVariants.{UnknownName, Duplicate, FieldOutsideAggregate, AggregateNested, AggregateInWhere, Limit, StreamNeedsAccumulating}
+use Rattle.wsm_check.specs.declared.refusal.CheckFault.TheVariants as fault
+use Rattle.wsm_check.specs.declared.refusal.Part.{Part}
+use Rattle.wsm_check.specs.declared.refusal.Part.TheVariants as part
+use Rattle.wsm_check.specs.declared.refusal.CheckRefusal.{CheckRefusal}
+use Rattle.wsm_check.specs.Checks.{refusal}
+
+abbrev n : Expr
+n = Field (codes "n")
+
+abbrev m : Expr
+m = Field (codes "m")
+
+abbrev one : Expr
+one = Number (pos 1)
+
+abbrev field : List ℕ → Ty → Declared
+field name ty = record { name = name; ty = ty }
+
+-- `SELECT COUNT(*), SUM(n)` in fixed windows of 60
+abbrev base : Query
+base = record {
+  keys = codes "a" ∷ codes "b" ∷ [];
+  fields = field (codes "n") (IntTy (pos 0) (pos 100)) ∷ [];
+  start = pos 0;
+  skew = pos 100;
+  lateness = pos 10;
+  records = pos 1000;
+  budget = None;
+  columns = Count ∷ Aggregate Sum n ∷ [];
+  condition = None;
+  having = None;
+  shape = Fixed (pos 60);
+  mode = Accumulating;
+  early = None;
+  late = None;
+  form = Panes;
+}
+
+abbrev selecting : List Expr → Option CheckRefusal
+selecting columns = refusal (record base { columns = columns })
+
+abbrev having : Expr → Option CheckRefusal
+having e = refusal (record base { having = Some e })
+
+abbrev filtered : Expr → Option CheckRefusal
+filtered e = refusal (record base { condition = Some e })
+
+abbrev declaring : List Declared → Option CheckRefusal
+declaring fields = refusal (record base { fields = fields; columns = Count ∷ [] })
+
+abbrev refused : CheckFault → Part → Option CheckRefusal
+refused f p = Some (record { fault = f; part = p })
+
+base_is_checked : refusal base ≡ None
+base_is_checked = refl
+
+-- names and types in expressions
+
+field_in_a_column : selecting (n ∷ []) ≡ refused FieldOutsideAggregate (part.Column 1)
+field_in_a_column = refl
+
+unknown_field : selecting (m ∷ []) ≡ refused UnknownName (part.Column 1)
+unknown_field = refl
+
+aggregate_in_an_aggregate : selecting (Aggregate Sum Count ∷ []) ≡ refused AggregateNested (part.Column 1)
+aggregate_in_an_aggregate = refl
+
+number_and_truth : selecting (Binary Eq (Aggregate Sum n) (Truth true) ∷ []) ≡ refused fault.Type (part.Column 1)
+number_and_truth = refl
+
+aggregate_in_where : filtered (Binary Gt (Aggregate Sum n) one) ≡ refused AggregateInWhere part.Where
+aggregate_in_where = refl
+
+-- at the outer one, on the way down
+nested_in_where : filtered (Aggregate Any (Binary Gt (Aggregate Sum n) one)) ≡ refused AggregateInWhere part.Where
+nested_in_where = refl
+
+-- parts before the whole
+name_before_type : selecting (Binary Add (Truth true) m ∷ []) ≡ refused UnknownName (part.Column 1)
+name_before_type = refl
+
+unknown_key : selecting (Count ∷ Binary Eq Key (KeyName (codes "c")) ∷ []) ≡ refused UnknownName (part.Column 2)
+unknown_key = refl
+
+known_key : having (Binary Eq Key (KeyName (codes "b"))) ≡ None
+known_key = refl
+
+having_a_number : having one ≡ refused fault.Type part.Having
+having_a_number = refl
+
+where_before_columns : refusal (record base { condition = Some one; columns = m ∷ [] }) ≡ refused fault.Type part.Where
+where_before_columns = refl
+
+abbrev two_colors : List Declared
+two_colors = field (codes "f") (EnumTy (codes "x" ∷ [])) ∷ field (codes "g") (EnumTy (codes "x" ∷ [])) ∷ []
+
+-- two fields' names are two types, also where they are the same
+names_of_two_fields : refusal (record base { fields = two_colors; columns = Count ∷ []; condition = Some (Binary Eq (Field (codes "f")) (EnumName (codes "g") (codes "x"))) }) ≡ refused fault.Type part.Where
+names_of_two_fields = refl
+
+names_of_one_field : refusal (record base { fields = two_colors; columns = Count ∷ []; condition = Some (Binary Eq (Field (codes "g")) (EnumName (codes "g") (codes "x"))) }) ≡ None
+names_of_one_field = refl
+
+-- a name of a field is no field
+name_in_a_column : refusal (record base { fields = two_colors; columns = EnumName (codes "g") (codes "x") ∷ [] }) ≡ None
+name_in_a_column = refl
+
+branches_differ : having (If (Truth true) one (Truth true)) ≡ refused fault.Type part.Having
+branches_differ = refl
+
+-- declarations
+
+key_twice : refusal (record base { keys = codes "a" ∷ codes "a" ∷ [] }) ≡ refused Duplicate part.Keys
+key_twice = refl
+
+no_keys : refusal (record base { keys = [] }) ≡ refused Limit part.Keys
+no_keys = refl
+
+field_twice : declaring (field (codes "n") BoolTy ∷ field (codes "n") (IntTy (pos 2) (pos 1)) ∷ []) ≡ refused Duplicate (part.Field 2)
+field_twice = refl
+
+empty_range : declaring (field (codes "n") (IntTy (pos 2) (pos 1)) ∷ []) ≡ refused Limit (part.Field 1)
+empty_range = refl
+
+least_range : declaring (field (codes "n") (IntTy (negsuc 1) (negsuc 1)) ∷ []) ≡ None
+least_range = refl
+
+name_twice : declaring (field (codes "n") (EnumTy (codes "x" ∷ codes "y" ∷ codes "x" ∷ [])) ∷ []) ≡ refused Duplicate (part.Field 1)
+name_twice = refl
+
+-- numbers
+
+no_records : refusal (record base { records = pos 0 }) ≡ refused Limit part.Clock
+no_records = refl
+
+no_steps : refusal (record base { budget = Some (record { per_record = pos 0; per_pane = pos 1; held = pos 1 }) }) ≡ refused Limit part.Budget
+no_steps = refl
+
+period_past_size : refusal (record base { shape = Sliding (pos 2) (pos 3) }) ≡ refused Limit part.Window
+period_past_size = refl
+
+no_count : refusal (record base { early = Some (pos 0) }) ≡ refused Limit part.Trigger
+no_count = refl
+
+stream_of_discarding : refusal (record base { mode = Discarding; form = Istream }) ≡ refused StreamNeedsAccumulating part.Emit
+stream_of_discarding = refl
+
+no_column : selecting [] ≡ refused Limit (part.Column 1)
+no_column = refl
+
+-- the columns before the 17th are walked first
+columns_17 : selecting (one ∷ replicate 16 n) ≡ refused FieldOutsideAggregate (part.Column 2)
+columns_17 = refl
+
+column_17 : selecting (replicate 16 one ++ m ∷ []) ≡ refused Limit (part.Column 17)
+column_17 = refl
+
+columns_16 : selecting (replicate 16 one) ≡ None
+columns_16 = refl
+
+-- n sums of equal operands, which aren't shared
+abbrev sums : ℕ → Expr
+sums zero = Aggregate Sum n
+sums (suc k) = Binary Add (sums k) (Aggregate Sum n)
+
+accumulators_16 : selecting (sums 15 ∷ []) ≡ None
+accumulators_16 = refl
+
+accumulators_17 : selecting (sums 16 ∷ []) ≡ refused Limit part.Code
+accumulators_17 = refl
+
+-- operators in their right operands, so many deep
+abbrev deep : ℕ → Expr
+deep zero = one
+deep (suc k) = Binary Add one (deep k)
+
+stack_of_32 : selecting (deep 31 ∷ []) ≡ None
+stack_of_32 = refl
+
+stack_of_33 : selecting (deep 32 ∷ []) ≡ refused Limit part.Code
+stack_of_33 = refl
+
+-- behind a column it needs one place more
+stack_behind_a_column : selecting (one ∷ deep 31 ∷ []) ≡ refused Limit part.Code
+stack_behind_a_column = refl
+
+-- two keys with 1,000,110 live windows each
+too_many_panes : refusal (record base { shape = Sliding (pos 1000000) (pos 1) }) ≡ refused Limit part.Code
+too_many_panes = refl

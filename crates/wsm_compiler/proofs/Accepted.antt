@@ -1,0 +1,228 @@
+-- A checked query's program is accepted exactly where its ranges fit and it states enough.
+use Rattle.std.proofs.Common.{◌≡◌, ℕ, Bool, true, false, ◌&&◌, ◌||◌, not, cond, List, [], ◌∷◌, ◌++◌, Option, Some, None, refl, sym, ap, ◌∙◌, arith}
+use Rattle.std.specs.Prelude.{is_some, is_none, is_ok, option_map, nat_lt, nat_le}
+use Rattle.std.specs.List.{list_all, flat_map}
+use Rattle.wsm_bytecode.specs.declared.SectionId.TheVariants.{Where, Update, Fire}
+use Rattle.wsm_bytecode.specs.declared.program.Budget.{Budget as Stated}
+use Rattle.wsm_interval.specs.declared.interval.Interval.{Interval}
+use Rattle.wsm_interval.specs.Interval.{add, sub, mul, div, rem}
+use Rattle.wsm_query.specs.declared.expr.Op.{Op}
+use Rattle.wsm_query.specs.declared.expr.Op.TheVariants.{Add, Sub, Mul, Div, Rem, Eq, Ne, Lt, Le, Gt, Ge}
+use Rattle.wsm_query.specs.Tree.{Query, Expr, Number, Truth, Field, EnumName, Key, KeyName, Count, Aggregate, If, Brackets, Minus, Not, Binary, And, Or}
+use Rattle.wsm_check.specs.Sizes.{Acc, accumulators, accumulators_of, in_option, fired}
+use Rattle.wsm_verifier.specs.declared.rejection.Rejection.{Rejection}
+use Rattle.wsm_verifier.specs.declared.rejection.Rule.{Rule}
+use Rattle.wsm_verifier.specs.declared.rejection.Rule.TheVariants.{BudgetRecord, BudgetPane, BudgetHeld}
+use Rattle.wsm_verifier.specs.declared.rejection.Part.TheVariants as part
+use Rattle.wsm_verifier.specs.declared.costs.Costs.{Costs}
+use Rattle.wsm_verifier.specs.Costs.{needed}
+use Rattle.wsm_verifier.specs.Rules.{or_then, fault_in, ranges_of_record, ranges_of_pane, update_visits, code_fault, budget_fault, fault, unless}
+use Rattle.wsm_compiler.specs.Ranges.{Range, Unfit, NoNumber, Within, no_number, on_intervals, of_op, of_minus, of_branches, if_fits, of_aggregate, range, fits, ranges_fit}
+use Rattle.wsm_compiler.specs.Program.{program_stating, stated, needed_of, program_of}
+use Rattle.wsm_compiler.specs.Accepted.{states_enough, FaultlessExactly, AcceptedExactly, AcceptedWithoutBudget}
+use Rattle.wsm_compiler.proofs.Hulls.{no, and_is, both_true}
+use Rattle.wsm_compiler.proofs.Conditions.{condition_fits, columns_fit, where_faults}
+use Rattle.wsm_compiler.proofs.Folding.{acc_fits, accs_fit, update_faults}
+use Rattle.wsm_compiler.proofs.Firing.{fire_faults}
+use Rattle.wsm_compiler.proofs.Checked.{Fine, fine}
+
+-- ---- where a range fits, so do those of its parts
+
+two_fit : (r p : Range) → fits (no_number r p) ≡ true → (fits r ≡ true) × (fits p ≡ true)
+two_fit Unfit p h = no h
+two_fit NoNumber Unfit h = no h
+two_fit NoNumber NoNumber h = (refl, refl)
+two_fit NoNumber (Within y) h = (refl, refl)
+two_fit (Within x) Unfit h = no h
+two_fit (Within x) NoNumber h = (refl, refl)
+two_fit (Within x) (Within y) h = (refl, refl)
+
+intervals_fit : (f : Interval → Interval → Option Interval) (r p : Range) → fits (on_intervals f r p) ≡ true → (fits r ≡ true) × (fits p ≡ true)
+intervals_fit f Unfit p h = no h
+intervals_fit f NoNumber Unfit h = no h
+intervals_fit f NoNumber NoNumber h = (refl, refl)
+intervals_fit f NoNumber (Within y) h = (refl, refl)
+intervals_fit f (Within x) Unfit h = no h
+intervals_fit f (Within x) NoNumber h = (refl, refl)
+intervals_fit f (Within x) (Within y) h = (refl, refl)
+
+op_fit : (op : Op) (r p : Range) → fits (of_op op r p) ≡ true → (fits r ≡ true) × (fits p ≡ true)
+op_fit Add r p h = intervals_fit add r p h
+op_fit Sub r p h = intervals_fit sub r p h
+op_fit Mul r p h = intervals_fit mul r p h
+op_fit Div r p h = intervals_fit div r p h
+op_fit Rem r p h = intervals_fit rem r p h
+op_fit Eq r p h = two_fit r p h
+op_fit Ne r p h = two_fit r p h
+op_fit Lt r p h = two_fit r p h
+op_fit Le r p h = two_fit r p h
+op_fit Gt r p h = two_fit r p h
+op_fit Ge r p h = two_fit r p h
+
+minus_fit : (r : Range) → fits (of_minus r) ≡ true → fits r ≡ true
+minus_fit Unfit h = h
+minus_fit NoNumber h = refl
+minus_fit (Within x) h = refl
+
+branches_fit : (r p : Range) → fits (of_branches r p) ≡ true → (fits r ≡ true) × (fits p ≡ true)
+branches_fit Unfit p h = no h
+branches_fit NoNumber Unfit h = no h
+branches_fit NoNumber NoNumber h = (refl, refl)
+branches_fit NoNumber (Within y) h = (refl, refl)
+branches_fit (Within x) Unfit h = no h
+branches_fit (Within x) NoNumber h = (refl, refl)
+branches_fit (Within x) (Within y) h = (refl, refl)
+
+test_fits : (b r : Range) → fits (if_fits b r) ≡ true → (fits b ≡ true) × (fits r ≡ true)
+test_fits Unfit r h = no h
+test_fits NoNumber r h = (refl, h)
+test_fits (Within x) r h = (refl, h)
+
+and_groups : (a b d : Bool) → (a && (b && d)) ≡ ((a && b) && d)
+and_groups true b d = refl
+and_groups false b d = refl
+
+list_all-append : {A : Type 0} (f : A → Bool) (xs ys : List A) → list_all f (xs ++ ys) ≡ (list_all f xs && list_all f ys)
+list_all-append f [] ys = refl
+list_all-append f (x ∷ xs) ys = ap (λ b. f x && b) (list_all-append f xs ys) ∙ and_groups (f x) (list_all f xs) (list_all f ys)
+
+and_true : (b : Bool) → (b && true) ≡ b
+and_true true = refl
+and_true false = refl
+
+module _ (q : Query) (b : Stated) where
+  fit_both : (xs ys : List Acc) → accs_fit q b xs ≡ true → accs_fit q b ys ≡ true → accs_fit q b (xs ++ ys) ≡ true
+  fit_both xs ys h l = list_all-append (acc_fits q b) xs ys ∙ both_true (accs_fit q b xs) (accs_fit q b ys) h l
+
+  accs_of_fit : (e : Expr) → fits (range q e) ≡ true → accs_fit q b (accumulators_of e) ≡ true
+  accs_of_fit (Aggregate kind e) h = both_true (fits (of_aggregate q.records kind (range q e))) true h refl
+  accs_of_fit (If c x y) h =
+      let t = test_fits (range q c) (of_branches (range q x) (range q y)) h in
+      let p = branches_fit (range q x) (range q y) t.1 in
+      fit_both (accumulators_of c) (accumulators_of x ++ accumulators_of y) (accs_of_fit c t.0) (fit_both (accumulators_of x) (accumulators_of y) (accs_of_fit x p.0) (accs_of_fit y p.1))
+  accs_of_fit (Brackets e) h = accs_of_fit e h
+  accs_of_fit (Minus e) h = accs_of_fit e (minus_fit (range q e) h)
+  accs_of_fit (Not e) h = accs_of_fit e h
+  accs_of_fit (Binary op x y) h = let p = op_fit op (range q x) (range q y) h in fit_both (accumulators_of x) (accumulators_of y) (accs_of_fit x p.0) (accs_of_fit y p.1)
+  accs_of_fit (And x y) h = let p = two_fit (range q x) (range q y) h in fit_both (accumulators_of x) (accumulators_of y) (accs_of_fit x p.0) (accs_of_fit y p.1)
+  accs_of_fit (Or x y) h = let p = two_fit (range q x) (range q y) h in fit_both (accumulators_of x) (accumulators_of y) (accs_of_fit x p.0) (accs_of_fit y p.1)
+  accs_of_fit (Number n) h = refl
+  accs_of_fit (Truth v) h = refl
+  accs_of_fit (Field x) h = refl
+  accs_of_fit (EnumName x y) h = refl
+  accs_of_fit Key h = refl
+  accs_of_fit (KeyName x) h = refl
+  accs_of_fit Count h = refl
+
+  pub accs_of_all : (es : List Expr) → columns_fit q es ≡ true → accs_fit q b (flat_map accumulators_of es) ≡ true
+  accs_of_all [] h = refl
+  accs_of_all (e ∷ es) h =
+      let p = and_is (fits (range q e)) (columns_fit q es) h in
+      fit_both (accumulators_of e) (flat_map accumulators_of es) (accs_of_fit e p.0) (accs_of_all es p.1)
+
+  option_fits : (o : Option Expr) → columns_fit q (in_option o) ≡ condition_fits q o
+  option_fits None = refl
+  option_fits (Some e) = and_true (fits (range q e))
+
+  pub fired_fit : columns_fit q (fired q) ≡ (columns_fit q q.columns && condition_fits q q.having)
+  fired_fit = list_all-append (λ e. fits (range q e)) q.columns (in_option q.having) ∙ ap (λ v. columns_fit q q.columns && v) (option_fits q.having)
+
+  pub all_fit : ranges_fit q ≡ (condition_fits q q.condition && columns_fit q (fired q))
+  all_fit = list_all-append (λ e. fits (range q e)) (in_option q.condition) (fired q) ∙ ap (λ v. v && columns_fit q (fired q)) (option_fits q.condition)
+
+  -- ---- the three sections
+
+  some_or : (x y : Option Rejection) → is_some (or_then x y) ≡ (is_some x || is_some y)
+  some_or None y = refl
+  some_or (Some r) y = refl
+
+  not_both : (x y : Bool) → (not x || not y) ≡ not (x && y)
+  not_both true y = refl
+  not_both false y = refl
+
+  or_true : (x : Bool) → (x || true) ≡ true
+  or_true true = refl
+  or_true false = refl
+
+  abbrev where_fault : Option Rejection
+  where_fault = let p = program_stating q b in fault_in p Where (ranges_of_record p)
+
+  abbrev update_fault : Option Rejection
+  update_fault = let p = program_stating q b in fault_in p Update (ranges_of_record p)
+
+  abbrev fire_fault : Option Rejection
+  fire_fault = let p = program_stating q b in fault_in p Fire (ranges_of_pane p (update_visits p))
+
+  by_accs : (u w : Bool) → accs_fit q b (accumulators q) ≡ u → columns_fit q (fired q) ≡ w → Fine q b → (is_some update_fault || is_some fire_fault) ≡ not w
+  by_accs true w hu hw h =
+      (λ i. (update_faults q b h.accs h.update_need ∙ ap not hu) i || fire_faults q b h.columns h.having h.accs h.update_need h.fire_need hu i) ∙ ap not (sym fired_fit ∙ hw)
+  by_accs false true hu hw h = no (sym hu ∙ accs_of_all (fired q) hw)
+  by_accs false false hu hw h = ap (λ x. x || is_some fire_fault) (update_faults q b h.accs h.update_need ∙ ap not hu)
+
+  pub code_faults : Fine q b → is_some (code_fault (program_stating q b)) ≡ not (ranges_fit q)
+  code_faults h =
+      some_or where_fault (or_then update_fault fire_fault)
+      ∙ ap (λ x. is_some where_fault || x) (some_or update_fault fire_fault ∙ by_accs (accs_fit q b (accumulators q)) (columns_fit q (fired q)) refl refl h)
+      ∙ ap (λ x. x || not (columns_fit q (fired q))) (where_faults q b h.condition h.where_need)
+      ∙ not_both (condition_fits q q.condition) (columns_fit q (fired q))
+      ∙ ap not (sym all_fit)
+
+-- ---- the numbers that are stated
+
+none_is : (o : Option Rejection) → is_none o ≡ not (is_some o)
+none_is None = refl
+none_is (Some r) = refl
+
+not_not : (b : Bool) → not (not b) ≡ b
+not_not true = refl
+not_not false = refl
+
+not_above : (a b : ℕ) → nat_le b a ≡ true → nat_lt a b ≡ false
+not_above a b h = grind arith
+
+above : (a b : ℕ) → nat_le b a ≡ false → nat_lt a b ≡ true
+above a b h = grind arith
+
+not_below : (a b : ℕ) → not (nat_lt a b) ≡ nat_le b a
+not_below a b = elim (nat_le b a) as (λ x. nat_le b a ≡ x → not (nat_lt a b) ≡ x) [ true ↦ λ h. ap not (not_above a b h) | false ↦ λ h. ap not (above a b h) ] refl
+
+first_of_three : (x y z : Bool) (r1 r2 r3 : Rule) (f : Rule → Rejection) → is_none (option_map f (cond x (Some r1) (cond y (Some r2) (cond z (Some r3) None)))) ≡ (not x && (not y && not z))
+first_of_three true y z r1 r2 r3 f = refl
+first_of_three false true z r1 r2 r3 f = refl
+first_of_three false false true r1 r2 r3 f = refl
+first_of_three false false false r1 r2 r3 f = refl
+
+stated_enough : (s : Stated) (n : Costs) → is_none (budget_fault s n) ≡ (nat_le n.per_record s.per_record && (nat_le n.per_pane s.per_pane && nat_le n.held s.held))
+stated_enough s n =
+    first_of_three (nat_lt s.per_record n.per_record) (nat_lt s.per_pane n.per_pane) (nat_lt s.held n.held) BudgetRecord BudgetPane BudgetHeld (λ r. record { part = part.Budget; place = 0; rule = r })
+    ∙ (λ i. not_below s.per_record n.per_record i && (not_below s.per_pane n.per_pane i && not_below s.held n.held i))
+
+none_both : (a b : Option Rejection) → is_none (or_then a b) ≡ (is_none a && is_none b)
+none_both None b = refl
+none_both (Some r) b = refl
+
+ok_is_none : (n : Costs) (o : Option Rejection) → is_ok (unless n o) ≡ is_none o
+ok_is_none n None = refl
+ok_is_none n (Some r) = refl
+
+pub faultless_exactly : (q : Query) → FaultlessExactly q
+faultless_exactly q h =
+    let s = stated (needed_of q) q.budget in
+    none_is (code_fault (program_of q)) ∙ ap not (code_faults q s (fine q s h)) ∙ not_not (ranges_fit q)
+
+pub accepted_exactly : (q : Query) → AcceptedExactly q
+accepted_exactly q h =
+    let p = program_of q in
+    ok_is_none (needed p) (fault p)
+    ∙ none_both (code_fault p) (budget_fault p.header.budget (needed p))
+    ∙ (λ i. faultless_exactly q h i && stated_enough p.header.budget (needed p) i)
+
+at_most_itself : (n : ℕ) → nat_le n n ≡ true
+at_most_itself n = grind arith
+
+pub accepted_without_budget : (q : Query) → AcceptedWithoutBudget q
+accepted_without_budget q h e =
+    let n = needed_of q in
+    let enough : states_enough (program_of q) ≡ true =
+    ap (λ b. states_enough (program_stating q (stated n b))) e ∙ (λ i. at_most_itself n.per_record i && (at_most_itself n.per_pane i && at_most_itself n.held i)) in
+    accepted_exactly q h ∙ ap (λ b. ranges_fit q && b) enough ∙ and_true (ranges_fit q)

@@ -1,0 +1,104 @@
+-- What holds of a query that no check refuses.
+use Rattle.std.proofs.Common.{◌≡◌, ℕ, suc, ◌≤◌, List, [], ◌∷◌, ◌++◌, Option, Some, None, Ok, Err, refl, sym, ap, arith}
+use Rattle.std.specs.Prelude.{max}
+use Rattle.std.specs.List.{flat_map}
+use Rattle.wsm_bytecode.specs.declared.program.Budget.{Budget as Stated}
+use Rattle.wsm_query.specs.Tree.{Query, Expr, Number, Truth, Field, EnumName, Key, KeyName, Count, Aggregate, If, Brackets, Minus, Not, Binary, And, Or}
+use Rattle.wsm_check.specs.declared.refusal.Part.{Part}
+use Rattle.wsm_check.specs.declared.refusal.Part.TheVariants as part
+use Rattle.wsm_check.specs.Sizes.{Acc, accumulators, accumulators_of, in_option, need_of_condition, need_of_columns, need_of_folds}
+use Rattle.wsm_check.specs.Types.{ExprTy, IntValue, BoolValue, Around, InWhere, InColumn, InAggregate, Typed, wanted, if_typed, ty_eq, operand_ty, op_ty, typed, typed_condition}
+use Rattle.wsm_check.specs.Checks.{first, typed_refusal, condition_refusal, columns_refusal, IsChecked}
+use Rattle.wsm_compiler.proofs.Hulls.{no}
+use Rattle.wsm_compiler.proofs.Passed.{is_refusal, none_of_both, passed}
+use Rattle.wsm_compiler.proofs.Finding.{entered_is, unary_is, two_types, if_types, logic_types}
+use Rattle.wsm_compiler.proofs.Conditions.{ConditionTyped, ColumnsTyped}
+use Rattle.wsm_compiler.proofs.Folding.{AccsTyped}
+
+typed_none : (p : Part) (x : Typed) → typed_refusal p x ≡ None → (t : ExprTy) × (x ≡ Ok t)
+typed_none p (Ok t) h = (t, refl)
+typed_none p (Err f) h = no (sym (ap is_refusal h))
+
+condition_typed : (q : Query) (around : Around) (p : Part) (o : Option Expr) → condition_refusal q around p o ≡ None → ConditionTyped q around o
+condition_typed q around p None h = tt
+condition_typed q around p (Some e) h = let t = typed_none p (typed_condition q around e) h in (unary_is q around e BoolValue t.0 t.1).0
+
+columns_typed : (q : Query) (i : ℕ) (es : List Expr) → columns_refusal q i es ≡ None → ColumnsTyped q es
+columns_typed q i [] h = tt
+columns_typed q i (e ∷ es) h =
+    let p = part.Column (suc i) in
+    let rest = first (typed_refusal p (typed q InColumn e) ∷ columns_refusal q (suc i) es ∷ []) in
+    let a = none_of_both _ rest h in
+    let b = none_of_both (typed_refusal p (typed q InColumn e)) (first (columns_refusal q (suc i) es ∷ [])) a.1 in
+    let c = none_of_both (columns_refusal q (suc i) es) None b.1 in
+    (typed_none p (typed q InColumn e) b.0, columns_typed q (suc i) es c.0)
+
+-- ---- aggregates have their types
+
+module _ (q : Query) (b : Stated) where
+  accs_both : (xs ys : List Acc) → AccsTyped q b xs → AccsTyped q b ys → AccsTyped q b (xs ++ ys)
+  accs_both [] ys h l = l
+  accs_both (x ∷ xs) ys h l = (h.0, accs_both xs ys h.1 l)
+
+  pub accs_typed : (around : Around) (e : Expr) (t : ExprTy) → typed q around e ≡ Ok t → AccsTyped q b (accumulators_of e)
+  accs_typed around (Aggregate kind e) t h =
+      let u = unary_is q InAggregate e (operand_ty kind) t (entered_is around (if_typed (typed q InAggregate e) (λ t. wanted (ty_eq t (operand_ty kind)) (operand_ty kind))) t h).1 in
+      (u.0, tt)
+  accs_typed around (If c x y) t h =
+      let p = if_types q around c x y t h in
+      accs_both (accumulators_of c) (accumulators_of x ++ accumulators_of y) (accs_typed around c BoolValue p.test_is)
+      (accs_both (accumulators_of x) (accumulators_of y) (accs_typed around x t p.first_is) (accs_typed around y t p.second_is))
+  accs_typed around (Brackets e) t h = accs_typed around e t h
+  accs_typed around (Minus e) t h = accs_typed around e IntValue (unary_is q around e IntValue t h).0
+  accs_typed around (Not e) t h = accs_typed around e BoolValue (unary_is q around e BoolValue t h).0
+  accs_typed around (Binary op x y) t h =
+      let p = two_types q around x y (op_ty op) t h in accs_both (accumulators_of x) (accumulators_of y) (accs_typed around x p.left p.left_is) (accs_typed around y p.right p.right_is)
+  accs_typed around (And x y) t h =
+      let p = logic_types q around x y t h in accs_both (accumulators_of x) (accumulators_of y) (accs_typed around x BoolValue p.left_is) (accs_typed around y BoolValue p.right_is)
+  accs_typed around (Or x y) t h =
+      let p = logic_types q around x y t h in accs_both (accumulators_of x) (accumulators_of y) (accs_typed around x BoolValue p.left_is) (accs_typed around y BoolValue p.right_is)
+  accs_typed around (Number n) t h = tt
+  accs_typed around (Truth v) t h = tt
+  accs_typed around (Field x) t h = tt
+  accs_typed around (EnumName x y) t h = tt
+  accs_typed around Key t h = tt
+  accs_typed around (KeyName x) t h = tt
+  accs_typed around Count t h = tt
+
+  of_columns : (es rest : List Expr) → ColumnsTyped q es → AccsTyped q b (flat_map accumulators_of rest) → AccsTyped q b (flat_map accumulators_of (es ++ rest))
+  of_columns [] rest h l = l
+  of_columns (e ∷ es) rest h l = accs_both (accumulators_of e) (flat_map accumulators_of (es ++ rest)) (accs_typed InColumn e h.0.0 h.0.1) (of_columns es rest h.1 l)
+
+  of_having : (o : Option Expr) → ConditionTyped q InColumn o → AccsTyped q b (flat_map accumulators_of (in_option o))
+  of_having None h = tt
+  of_having (Some e) h = accs_both (accumulators_of e) [] (accs_typed InColumn e BoolValue h) tt
+
+  -- ---- a checked query
+
+  pub record Fine : Type 0 where
+    pub condition : ConditionTyped q InWhere q.condition
+    pub columns : ColumnsTyped q q.columns
+    pub having : ConditionTyped q InColumn q.having
+    pub accs : AccsTyped q b (accumulators q)
+    pub where_need : need_of_condition q.condition ≤ 32
+    pub update_need : need_of_folds (accumulators q) ≤ 32
+    pub fire_need : need_of_columns 0 q.having q.columns ≤ 32
+
+  pub fine : IsChecked q → Fine
+  fine h =
+      let p = passed q h in
+      let need = needs (need_of_condition q.condition) (need_of_folds (accumulators q)) (need_of_columns 0 q.having q.columns) p.code.stack in
+      let columns = columns_typed q 0 q.columns p.columns in
+      let having = condition_typed q InColumn part.Having q.having p.having in
+      record {
+        condition = condition_typed q InWhere part.Where q.condition p.condition;
+        columns = columns;
+        having = having;
+        accs = of_columns q.columns (in_option q.having) columns (of_having q.having having);
+        where_need = need.0;
+        update_need = need.1;
+        fire_need = need.2;
+      }
+    where
+      needs : (a d m : ℕ) → max a (max d m) ≤ 32 → (a ≤ 32) × (d ≤ 32) × (m ≤ 32)
+      needs a d m h = (omega (arith, h), omega (arith, h), omega (arith, h))

@@ -1,0 +1,124 @@
+-- Behind each column of an accepted query the verifier knows its range.
+use Rattle.std.proofs.Common.{◌≡◌, ℕ, ◌+◌, ◌≤◌, ◌<◌, true, List, [], ◌∷◌, ◌++◌, length, take, Option, Some, None, refl, sym, ap, subst, ◌∙◌, arith, append_assoc, length-append}
+use Rattle.std.specs.Prelude.{max}
+use Rattle.std.specs.List.{flat_map}
+use Rattle.wsm_bytecode.specs.declared.instr.Instr.{Instr}
+use Rattle.wsm_bytecode.specs.declared.program.Budget.{Budget as Stated}
+use Rattle.wsm_query.specs.Tree.{Query, Expr}
+use Rattle.wsm_check.specs.Types.{ExprTy, IntValue, BoolValue, EnumValue, InColumn, typed}
+use Rattle.wsm_check.specs.Sizes.{accumulators_of, aggregates, size, condition_size, columns_size, fired, need, need_of_columns}
+use Rattle.wsm_verifier.specs.declared.known.Known.{Known}
+use Rattle.wsm_verifier.specs.Labels.{State, Ranges, Visit, Reached, label_of, label_at, visits, visited_next}
+use Rattle.wsm_verifier.specs.Rules.{Setting, entry, known_accumulators, update_visits}
+use Rattle.wsm_compiler.specs.Code.{code, columns_code}
+use Rattle.wsm_compiler.specs.Ranges.{Range, Unfit, NoNumber, Within, range, fits}
+use Rattle.wsm_compiler.specs.Program.{type_or_int, program_stating, program_of, stated, needed_of}
+use Rattle.wsm_compiler.specs.Labelled.{known_as, ColumnLabels, LabelsAreRanges}
+use Rattle.wsm_compiler.proofs.Visits.{nil_right, extended, added, extended_is, visits_are}
+use Rattle.wsm_compiler.proofs.Hulls.{no, and_is}
+use Rattle.wsm_compiler.proofs.Parts.{Comes, Labels, shorter, continued}
+use Rattle.wsm_compiler.proofs.Tests.{with_known, pushed_on}
+use Rattle.wsm_compiler.proofs.Sizes.{length-code, some_size, some_code, length-accumulators_of}
+use Rattle.wsm_compiler.proofs.Suiting.{suits, known_of}
+use Rattle.wsm_compiler.proofs.Finding.{Reads, Accs, accs_left, accs_right, range_suits, found_is}
+use Rattle.wsm_compiler.proofs.Labelling.{labelled}
+use Rattle.wsm_compiler.proofs.Reading.{reads_fire}
+use Rattle.wsm_compiler.proofs.Conditions.{in_condition, condition_fits, ColumnsTyped, columns_fit, some_columns, length-columns}
+use Rattle.wsm_compiler.proofs.Folded.{all_values}
+use Rattle.wsm_compiler.proofs.Firing.{firing, accs_known, accs_are}
+use Rattle.wsm_compiler.proofs.Checked.{fine}
+use Rattle.wsm_compiler.proofs.Accepted.{accs_of_all, fired_fit, all_fit}
+
+known_is : (t : ExprTy) (r : Range) → suits t r ≡ true → fits r ≡ true → known_of t r ≡ Some (known_as t r)
+known_is t Unfit h l = no l
+known_is IntValue NoNumber h l = no h
+known_is IntValue (Within i) h l = refl
+known_is BoolValue NoNumber h l = refl
+known_is BoolValue (Within i) h l = no h
+known_is (EnumValue e) NoNumber h l = refl
+known_is (EnumValue e) (Within i) h l = no h
+
+extended_append : (e : State) (r : Ranges) (vs : List Visit) (is js : List Instr) → extended e r vs (is ++ js) ≡ extended e r (extended e r vs is) js
+extended_append e r vs [] js = refl
+extended_append e r vs (i ∷ is) js = extended_append e r (visited_next e r i vs) is js
+
+take_front : (xs ys : List Instr) → take (length xs) (xs ++ ys) ≡ xs
+take_front [] ys = refl
+take_front (x ∷ xs) ys = ap (λ zs. x ∷ zs) (take_front xs ys)
+
+-- the visits of a section's first instructions
+visits_front : (e : State) (r : Ranges) (is js : List Instr) (n : ℕ) → n ≡ length is → visits e r (take n (is ++ js)) ≡ extended e r [] is
+visits_front e r is js n h =
+    ap (λ m. visits e r (take m (is ++ js))) h ∙ ap (visits e r) (take_front is js) ∙ visits_are e r is ∙ sym (extended_is e r [] is ∙ nil_right (added e r [] is))
+
+module _ (q : Query) (b : Stated) (e : State) (c : Setting) (reads : Reads c q InColumn) where
+  columns_labelled : (front : List Instr) (k a : ℕ) (es : List Expr) (below : List Known) → length front ≡ k → ColumnsTyped q es → columns_fit q es ≡ true → Accs c q a (flat_map accumulators_of es ++ in_condition q.having) →
+      need_of_columns (length below) q.having es ≤ 32 → k + columns_size q.having es ≤ c.n → e.folded ≡ (entry (program_of q)).folded →
+      Comes e (extended e c.ranges [] front) k (record { stack = below; folded = e.folded }) (length (columns_code q k a es)) →
+      ColumnLabels q (label_at e c.ranges (front ++ columns_code q k a es)) k es below
+  columns_labelled front k a [] below lf h fit accs room more flags comes = tt
+  columns_labelled front k a (x ∷ es) below lf h fit accs room more flags comes =
+      let s : State = record { stack = below; folded = e.folded } in
+      let t = h.0.0 in
+      let hx = h.0.1 in
+      let is = code q k a x in
+      let j = k + size x in
+      let a' = a + aggregates x in
+      let rest = columns_code q j a' es in
+      let vs = extended e c.ranges [] front in
+      let f = and_is (fits (range q x)) (columns_fit q es) fit in
+      let y = known_as (type_or_int (typed q InColumn x)) (range q x) in
+      let whole : Accs c q a (accumulators_of x ++ (flat_map accumulators_of es ++ in_condition q.having)) =
+      subst (λ xs. Accs c q a xs) (append_assoc (accumulators_of x) (flat_map accumulators_of es) (in_condition q.having)) accs in
+      let here = accs_left c q a (accumulators_of x) (flat_map accumulators_of es ++ in_condition q.having) whole in
+      let behind = accs_right c q a (aggregates x) (accumulators_of x) (flat_map accumulators_of es ++ in_condition q.having) (length-accumulators_of x) whole in
+      let known' = found_is c q InColumn reads a x t hx (λ _. here) ∙ known_is t (range q x) (range_suits c q InColumn x t hx) f.0 ∙ ap (λ u. Some (known_as u (range q x))) (sym (ap type_or_int hx)) in
+      let la = length-append is rest in
+      let lc = length-code q k a x in
+      let comes' : Comes e vs k s (length is + length rest) = subst (λ m. Comes e vs k s m) la comes in
+      let first : Labels e c vs k is (Some (with_known y s)) =
+      subst (λ o. Labels e c vs k is (pushed_on s o)) known'
+      (labelled e c q InColumn reads k a x t s hx (λ _. here) (first_room (length below) (need x) _ room) (omega (arith, more, some_columns_size q.having es)) vs (shorter e vs k s (length is) (length rest) comes')) in
+      let next = continued e c vs k is (length rest) s (with_known y s) (some_code q k a x) (some_columns q j a' es) comes' first in
+      let lfc = length-append front is in
+      let place : k + length is ≡ j = ap (λ n. k + n) lc in
+      let there : j ≡ length (front ++ is) = omega (arith, lfc, lf, lc) in
+      let grouped : front ++ (is ++ rest) ≡ (front ++ is) ++ rest = sym (append_assoc front is rest) in
+      let seen = extended_append e c.ranges [] front is in
+      let label : label_at e c.ranges (front ++ (is ++ rest)) j ≡ Reached (with_known y s) =
+      ap (λ xs. label_at e c.ranges xs j) grouped
+      ∙ ap (label_of e j) (visits_front e c.ranges (front ++ is) rest j there ∙ seen)
+      ∙ ap (λ n. label_of e n (extended e c.ranges vs is)) (sym place)
+      ∙ next.label in (
+        label ∙ ap (λ fs. Reached (record { stack = y ∷ below; folded = fs })) flags,
+        subst (λ xs. ColumnLabels q (label_at e c.ranges xs) j es (y ∷ below)) (sym grouped)
+            (columns_labelled (front ++ is) j a' es (y ∷ below) (sym there) h.1 f.1 behind (rest_room (length below) (need x) _ room) (omega (arith, more)) flags
+            (subst (λ n. Comes e (extended e c.ranges [] (front ++ is)) n (with_known y s) (length rest)) place (subst (λ ws. Comes e ws (k + length is) (with_known y s) (length rest)) (sym seen) next))),
+      )
+    where
+      first_room : (l n m : ℕ) → max (l + n) m ≤ 32 → l + n ≤ 32
+      first_room l n m h = omega (arith, h)
+
+      rest_room : (l n m : ℕ) → max (l + n) m ≤ 32 → m ≤ 32
+      rest_room l n m h = omega (arith, h)
+
+      some_condition_size : (o : Option Expr) → 0 < condition_size o
+      some_condition_size None = omega arith
+      some_condition_size (Some x) = some_size x
+
+      some_columns_size : (o : Option Expr) (es : List Expr) → 0 < columns_size o es
+      some_columns_size o [] = omega (arith, some_condition_size o)
+      some_columns_size o (x ∷ es) = omega (arith, some_size x)
+
+pub labels_are_ranges : (q : Query) → LabelsAreRanges q
+labels_are_ranges q checked fit =
+    let b = stated (needed_of q) q.budget in
+    let p = program_stating q b in
+    let f = fine q b checked in
+    let parts = and_is (condition_fits q q.condition) (columns_fit q (fired q)) (sym (all_fit q b) ∙ fit) in
+    let columns = and_is (columns_fit q q.columns) (condition_fits q q.having) (sym (fired_fit q b) ∙ parts.1) in
+    let accs = accs_of_all q b (fired q) parts.1 in
+    let l = length-columns q 0 0 q.columns in
+    columns_labelled q b (entry p) (firing q b) (reads_fire q b (known_accumulators q.records 0 p.header.kinds (update_visits p))) [] 0 0 q.columns [] refl f.columns columns.0
+    (subst (λ xs. Accs (firing q b) q 0 xs) (accs_are q b) (accs_known q b f.accs accs (all_values q b f.accs f.update_need accs))) f.fire_need (omega (arith, l)) refl
+    (record { long = refl; label = refl; quiet = λ d u w. refl })

@@ -1,0 +1,170 @@
+-- WHERE and FIRE have a fault exactly where a range of their expressions doesn't fit.
+use Rattle.std.proofs.Common.{◌≡◌, ℕ, ◌+◌, ◌≤◌, ◌<◌, Bool, true, false, ◌&&◌, not, List, [], ◌∷◌, ◌++◌, length, map, reverse, Option, Some, None, Ok, refl, sym, ap, subst, ◌∙◌, arith, append_assoc, length-append}
+use Rattle.std.proofs.lemmas.List.{reverse-append}
+use Rattle.std.specs.Prelude.{is_some, max}
+use Rattle.std.specs.List.{list_all, flat_map}
+use Rattle.wsm_bytecode.specs.declared.instr.Instr.TheVariants as instr
+use Rattle.wsm_bytecode.specs.declared.SectionId.TheVariants.{Where}
+use Rattle.wsm_bytecode.specs.declared.program.Budget.{Budget as Stated}
+use Rattle.wsm_query.specs.Tree.{Query, Expr}
+use Rattle.wsm_check.specs.Types.{ExprTy, IntValue, BoolValue, EnumValue, Around, InWhere, InColumn, ty_eq, typed}
+use Rattle.wsm_check.specs.Sizes.{Acc, accumulators_of, aggregates, size, condition_size, columns_size, need, need_of_condition, need_of_columns}
+use Rattle.wsm_verifier.specs.declared.known.Known.{Known}
+use Rattle.wsm_verifier.specs.declared.known.Known.TheVariants as known
+use Rattle.wsm_verifier.specs.Labels.{State, same_type, same_types}
+use Rattle.wsm_verifier.specs.Rules.{Setting, setting, entry, ranges_of_record, column_known, fold_missing, fault_in}
+use Rattle.wsm_compiler.specs.Code.{code, condition_code, columns_code}
+use Rattle.wsm_compiler.specs.Ranges.{Range, Unfit, NoNumber, Within, range, fits}
+use Rattle.wsm_compiler.specs.Program.{cell_type, type_or_int, column_type, program_stating}
+use Rattle.wsm_compiler.proofs.Hulls.{no, type_self}
+use Rattle.wsm_compiler.proofs.Tests.{with_known}
+use Rattle.wsm_compiler.proofs.Sizes.{length-code, some_size, some_need, some_code, length-accumulators_of}
+use Rattle.wsm_compiler.proofs.Found.{found}
+use Rattle.wsm_compiler.proofs.Suiting.{suits, known_of, known_truth, known_has, known_type, type_of_two}
+use Rattle.wsm_compiler.proofs.Finding.{Reads, Accs, AccsIn, accs_left, accs_right, range_suits, found_is}
+use Rattle.wsm_compiler.proofs.Labelling.{labelled, truth_pushed}
+use Rattle.wsm_compiler.proofs.Ending.{Ends, or_behind, follow_ends, return_ends, whole_section}
+use Rattle.wsm_compiler.proofs.Reading.{in_column, reads_where}
+
+abbrev pub condition_fits : Query → Option Expr → Bool
+condition_fits q None = true
+condition_fits q (Some e) = fits (range q e)
+
+abbrev pub ConditionTyped : Query → Around → Option Expr → Type 0
+ConditionTyped q around None = Unit {0}
+ConditionTyped q around (Some e) = typed q around e ≡ Ok BoolValue
+
+abbrev pub in_condition : Option Expr → List Acc
+in_condition None = []
+in_condition (Some e) = accumulators_of e
+
+-- a fault where it doesn't fit, or what comes behind
+pub fits_and : (t : ExprTy) (r : Range) (b : Bool) → suits t r ≡ true → or_behind (known_of t r) (λ x. not b) ≡ not (fits r && b)
+fits_and t Unfit b h = refl
+fits_and IntValue NoNumber b h = no h
+fits_and BoolValue NoNumber b h = refl
+fits_and (EnumValue e) NoNumber b h = refl
+fits_and IntValue (Within i) b h = refl
+fits_and BoolValue (Within i) b h = no h
+fits_and (EnumValue e) (Within i) b h = no h
+
+and_true : (b : Bool) → (b && true) ≡ b
+and_true true = refl
+and_true false = refl
+
+some_is : (a b : Known) → Some a ≡ Some b → a ≡ b
+some_is a b e = ap (λ o. elim o [ None ↦ a | Some z ↦ z ]) e
+
+-- a condition and its section's return
+pub condition_ends : (e : State) (c : Setting) (q : Query) (around : Around) → Reads c q around → (k a : ℕ) (o : Option Expr) (s : State) → ConditionTyped q around o → AccsIn c q around a (in_condition o) →
+    length s.stack + need_of_condition o ≤ 32 → k + condition_size o < c.n → same_types (known.Truth ∷ s.stack) c.ends ≡ true → fold_missing c.section instr.Return s.folded ≡ false →
+    Ends e c k (condition_code q k a o ++ instr.Return ∷ []) s (not (condition_fits q o))
+condition_ends e c q around reads k a None s h accs room more types folded =
+    follow_ends e c k 1 (instr.PushBool true ∷ []) (instr.Return ∷ []) s (Some known.Truth) (λ x. false) refl (omega arith) (omega arith)
+    (truth_pushed e c k s (omega (arith, room)) (omega (arith, more)) true)
+    (λ x h. subst (λ z. Ends e c (k + 1) (instr.Return ∷ []) (with_known z s) false) (some_is known.Truth x h) (return_ends e c (k + 1) (with_known known.Truth s) types folded (omega (arith, room))))
+condition_ends e c q around reads k a (Some x) s h accs room more types folded =
+    subst (λ b. Ends e c k (code q k a x ++ instr.Return ∷ []) s b)
+    (ap (λ o. or_behind o (λ y. false)) (found_is c q around reads a x BoolValue h accs) ∙ fits_and BoolValue (range q x) true (range_suits c q around x BoolValue h) ∙ ap not (and_true (fits (range q x))))
+    (follow_ends e c k (size x) (code q k a x) (instr.Return ∷ []) s (found c q a x) (λ y. false) (length-code q k a x) (some_code q k a x) (omega arith)
+    (labelled e c q around reads k a x BoolValue s h accs room more)
+    (λ y ey.
+    let truth = known_truth (range q x) y (sym (found_is c q around reads a x BoolValue h accs) ∙ ey) in
+    subst (λ z. Ends e c (k + size x) (instr.Return ∷ []) (with_known z s) false) (sym truth) (return_ends e c (k + size x) (with_known known.Truth s) types folded (omega (arith, room, some_need x)))))
+
+pub length-condition : (q : Query) (k a : ℕ) (o : Option Expr) → length (condition_code q k a o) ≡ condition_size o
+length-condition q k a None = refl
+length-condition q k a (Some x) = length-code q k a x
+
+-- WHERE
+pub where_faults : (q : Query) (b : Stated) → ConditionTyped q InWhere q.condition → need_of_condition q.condition ≤ 32 →
+    is_some (fault_in (program_stating q b) Where (ranges_of_record (program_stating q b))) ≡ not (condition_fits q q.condition)
+where_faults q b h room =
+    let p = program_stating q b in
+    let r = ranges_of_record p in
+    let l = length-append (condition_code q 0 0 q.condition) (instr.Return ∷ []) in
+    let m = length-condition q 0 0 q.condition in
+    whole_section p Where r (not (condition_fits q q.condition)) (omega (arith, l))
+    (condition_ends (entry p) (setting p Where r) q InWhere (reads_where q b) 0 0 q.condition (entry p) h (λ e. no (ap in_column e)) (omega (arith, room)) (omega (arith, l, m)) refl refl)
+
+-- ---- FIRE
+
+abbrev pub ColumnsTyped : Query → List Expr → Type 0
+ColumnsTyped q [] = Unit {0}
+ColumnsTyped q (x ∷ xs) = ((t : ExprTy) × (typed q InColumn x ≡ Ok t)) × ColumnsTyped q xs
+
+abbrev pub columns_fit : Query → List Expr → Bool
+columns_fit q xs = list_all (λ x. fits (range q x)) xs
+
+-- what FIRE ends with, where below are the values that are there already
+abbrev ends_of : Query → List Expr → List Known → List Known
+ends_of q es below = reverse (map column_known (map (column_type q) es)) ++ below
+
+ends_next : (q : Query) (x : Expr) (es : List Expr) (below : List Known) → ends_of q (x ∷ es) below ≡ ends_of q es (column_known (column_type q x) ∷ below)
+ends_next q x es below =
+    let ks = map column_known (map (column_type q) es) in
+    let y = column_known (column_type q x) in
+    ap (λ zs. zs ++ below) (reverse-append (y ∷ []) ks) ∙ append_assoc (reverse ks) (y ∷ []) below
+
+column_has : (t : ExprTy) → known_type (column_known (cell_type t)) ≡ t
+column_has IntValue = refl
+column_has BoolValue = refl
+column_has (EnumValue e) = refl
+
+-- a column's value has its type
+column_same : (q : Query) (x : Expr) (t : ExprTy) (y : Known) → typed q InColumn x ≡ Ok t → known_type y ≡ t → same_type y (column_known (column_type q x)) ≡ true
+column_same q x t y h l =
+    let is : known_type (column_known (column_type q x)) ≡ known_type y = ap (λ r. known_type (column_known (cell_type (type_or_int r)))) h ∙ column_has t ∙ sym l in
+    sym (type_of_two y (column_known (column_type q x))) ∙ ap (ty_eq (known_type y)) is ∙ type_of_two y y ∙ type_self y
+
+pub some_columns : (q : Query) (k a : ℕ) (es : List Expr) → 0 < length (columns_code q k a es)
+some_columns q k a [] = let l = length-append (condition_code q k a q.having) (instr.Return ∷ []) in omega (arith, l)
+some_columns q k a (x ∷ es) = let l = length-append (code q k a x) (columns_code q (k + size x) (a + aggregates x) es) in omega (arith, l, some_code q k a x)
+
+pub length-columns : (q : Query) (k a : ℕ) (es : List Expr) → length (columns_code q k a es) ≡ columns_size q.having es
+length-columns q k a [] = let l = length-append (condition_code q k a q.having) (instr.Return ∷ []) in omega (arith, l, length-condition q k a q.having)
+length-columns q k a (x ∷ es) =
+    let l = length-append (code q k a x) (columns_code q (k + size x) (a + aggregates x) es) in omega (arith, l, length-code q k a x, length-columns q (k + size x) (a + aggregates x) es)
+
+pub columns_ends : (e : State) (c : Setting) (q : Query) → Reads c q InColumn → (k a : ℕ) (es : List Expr) (s : State) (below : List Known) → ColumnsTyped q es → ConditionTyped q InColumn q.having →
+    Accs c q a (flat_map accumulators_of es ++ in_condition q.having) → need_of_columns (length s.stack) q.having es ≤ 32 → k + columns_size q.having es ≤ c.n →
+    same_types s.stack below ≡ true → c.ends ≡ known.Truth ∷ ends_of q es below → fold_missing c.section instr.Return s.folded ≡ false →
+    Ends e c k (columns_code q k a es) s (not (columns_fit q es && condition_fits q q.having))
+columns_ends e c q reads k a [] s below h hh accs room more types ends folded =
+    condition_ends e c q InColumn reads k a q.having s hh (λ _. accs) room (omega (arith, more)) (ap (same_types (known.Truth ∷ s.stack)) ends ∙ types) folded
+columns_ends e c q reads k a (x ∷ es) s below h hh accs room more types ends folded =
+    let t = h.0.0 in
+    let hx = h.0.1 in
+    let j = k + size x in
+    let b = a + aggregates x in
+    let rest = columns_code q j b es in
+    let fit = columns_fit q es && condition_fits q q.having in
+    let here : Accs c q a (accumulators_of x) = accs_left c q a (accumulators_of x) _ (subst (λ xs. Accs c q a xs) (append_assoc (accumulators_of x) (flat_map accumulators_of es) (in_condition q.having)) accs) in
+    let behind : Accs c q b (flat_map accumulators_of es ++ in_condition q.having) =
+    accs_right c q a (aggregates x) (accumulators_of x) _ (length-accumulators_of x) (subst (λ xs. Accs c q a xs) (append_assoc (accumulators_of x) (flat_map accumulators_of es) (in_condition q.having)) accs) in
+    subst (λ w. Ends e c k (code q k a x ++ rest) s w)
+    (ap (λ o. or_behind o (λ y. not fit)) (found_is c q InColumn reads a x t hx (λ _. here)) ∙ fits_and t (range q x) fit (range_suits c q InColumn x t hx) ∙ ap not (sym (and_groups (fits (range q x)) (columns_fit q es) (condition_fits q q.having))))
+    (follow_ends e c k (size x) (code q k a x) rest s (found c q a x) (λ y. not fit) (length-code q k a x) (some_code q k a x) (some_columns q j b es)
+    (labelled e c q InColumn reads k a x t s hx (λ _. here) (first_room (length s.stack) (need x) _ room) (omega (arith, more, some_columns_size q.having es)))
+    (λ y ey.
+    columns_ends e c q reads j b es (with_known y s) (column_known (column_type q x) ∷ below) h.1 hh behind (rest_room (length s.stack) (need x) _ room) (omega (arith, more))
+    (λ i. column_same q x t y hx (known_has t (range q x) y (sym (found_is c q InColumn reads a x t hx (λ _. here)) ∙ ey)) i && types i)
+    (ends ∙ ap (λ zs. known.Truth ∷ zs) (ends_next q x es below)) folded))
+  where
+    and_groups : (a b d : Bool) → ((a && b) && d) ≡ (a && (b && d))
+    and_groups true b d = refl
+    and_groups false b d = refl
+
+    first_room : (l n m : ℕ) → max (l + n) m ≤ 32 → l + n ≤ 32
+    first_room l n m h = omega (arith, h)
+
+    rest_room : (l n m : ℕ) → max (l + n) m ≤ 32 → m ≤ 32
+    rest_room l n m h = omega (arith, h)
+
+    some_condition_size : (o : Option Expr) → 0 < condition_size o
+    some_condition_size None = omega arith
+    some_condition_size (Some x) = some_size x
+
+    some_columns_size : (o : Option Expr) (es : List Expr) → 0 < columns_size o es
+    some_columns_size o [] = omega (arith, some_condition_size o)
+    some_columns_size o (x ∷ es) = omega (arith, some_size x)

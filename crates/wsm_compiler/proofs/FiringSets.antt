@@ -1,0 +1,220 @@
+-- What a firing's row is computed over, after any history: at least one record and at most as many as the clock allows, all of the
+-- firing's key and in range.
+use Rattle.std.proofs.Common.{◌≡◌, ℕ, zero, suc, ◌≤◌, Bool, true, false, ◌&&◌, not, cond, List, [], ◌∷◌, ◌++◌, length, ℤ, Option, Some, None, refl, arith}
+use Rattle.std.specs.Prelude.{◌+ℤ◌, filter, filter_map, is_none, nat_eq, nat_lt, int_le, int_lt}
+use Rattle.std.specs.Option.{IfSome}
+use Rattle.std.specs.List.{AllByRecursion, cons_option, list_all, list_any}
+use Rattle.wsm_record.specs.declared.event.Value.{Value}
+use Rattle.wsm_record.specs.declared.words.Mode.{Mode}
+use Rattle.wsm_record.specs.declared.words.Mode.TheVariants.{Discarding, Accumulating}
+use Rattle.wsm_record.specs.Event.{Event, Record, Watermark}
+use Rattle.wsm_record.specs.Schema.{fit_fields}
+use Rattle.wsm_windows.specs.declared.window.PaneKind.{PaneKind}
+use Rattle.wsm_windows.specs.declared.window.PaneKind.TheVariants.{Early, OnTime, Late, Final}
+use Rattle.wsm_windows.specs.Life.{is_due}
+use Rattle.wsm_windows.specs.Windows.{has_inside}
+use Rattle.wsm_admission.specs.declared.verdict.Refusal.{Refusal}
+use Rattle.wsm_admission.specs.Clock.{admitted_count}
+use Rattle.wsm_admission.proofs.Taken.{taken_record, admitted_count-le}
+use Rattle.wsm_semantics.specs.declared.place.Place.{Place}
+use Rattle.wsm_semantics.specs.Query.{Query as Meant, Datum, mark, verdict_on, is_taken, selection_of, selected}
+use Rattle.wsm_semantics.specs.Panes.{place_cmp, window_of, is_there, contents, places, with_contents, panes}
+use Rattle.wsm_semantics.specs.Firings.{Firing, firing_set, is_enough, kind_on_record, kind_on_watermark, firing_of, fire, is_shown, firings, firings_so_far}
+use Rattle.wsm_semantics.specs.Relation.{candidates, greatest_of, standing, is_within}
+use Rattle.wsm_semantics.proofs.SelectedRecords.{selected_count}
+use Rattle.wsm_semantics.proofs.Lists.{filter-all, put-all}
+use Rattle.wsm_semantics.proofs.Tables.{places_exact}
+use Rattle.wsm_compiler.proofs.Hulls.{no, and_is, both_true}
+use Rattle.wsm_compiler.proofs.Parts.{none≢some}
+
+pub all_joined : {A : Type 0} (P : A → Type 0) (xs ys : List A) → AllByRecursion P xs → AllByRecursion P ys → AllByRecursion P (xs ++ ys)
+all_joined P [] ys h l = l
+all_joined P (x ∷ xs) ys h l = (h.0, all_joined P xs ys h.1 l)
+
+length-filter : {A : Type 0} (t : A → Bool) (xs : List A) → length (filter t xs) ≤ length xs
+length-filter t [] = omega arith
+length-filter t (x ∷ xs) =
+    let rest = length-filter t xs in
+    elim (t x) as (λ b. length (cond b (x ∷ filter t xs) (filter t xs)) ≤ suc (length xs)) [ true ↦ omega (arith, rest) | false ↦ omega (arith, rest) ]
+
+all_found : {A B : Type 0} (P : B → Type 0) (g : A → Option B) (xs : List A) → AllByRecursion (λ x. IfSome (g x) P) xs → AllByRecursion P (filter_map g xs)
+all_found P g [] h = tt
+all_found {A} {B} P g (x ∷ xs) h = one (g x) h.0 (all_found P g xs h.1)
+  where
+    one : (o : Option B) → IfSome o P → AllByRecursion P (filter_map g xs) → AllByRecursion P (cons_option o (filter_map g xs))
+    one None k rest = rest
+    one (Some y) k rest = (k, rest)
+
+all_each : {A : Type 0} (P Q : A → Type 0) → ((x : A) → P x → Q x) → (xs : List A) → AllByRecursion P xs → AllByRecursion Q xs
+all_each P Q f [] h = tt
+all_each P Q f (x ∷ xs) h = (f x h.0, all_each P Q f xs h.1)
+
+at_least : (n : ℕ) → nat_lt 0 n ≡ true → 1 ≤ n
+at_least n h = grind arith
+
+same_key : (m n : ℕ) → nat_eq m n ≡ true → m ≡ n
+same_key m n h = grind arith
+
+abbrev pub datum : List Event → ℕ → ℤ → List Value → Datum
+datum past key time values = record { turn = length past; key = key; time = time; values = values }
+
+module _ (m : Meant) where
+  -- a declared key, and values that fit
+  abbrev pub Fits : Datum → Type 0
+  Fits d = (nat_lt d.key (length m.declared.keys) && fit_fields m.declared.fields d.values) ≡ true
+
+  pub record IsFiringSet (key : ℕ) (ds : List Datum) : Type 0 where
+    pub same : AllByRecursion (λ d. d.key ≡ key) ds
+    pub some : 1 ≤ length ds
+    pub few : length ds ≤ m.clock.records
+    pub each : AllByRecursion Fits ds
+
+  abbrev pub IsOfSet : Firing → Type 0
+  IsOfSet f = IsFiringSet f.place.key f.fired
+
+  -- ---- selected records
+
+  pub taken_fits : (past : List Event) (key : ℕ) (time : ℤ) (values : List Value) → verdict_on m past (Record (Some key) time values) ≡ None → (nat_lt key (length m.declared.keys) && fit_fields m.declared.fields values) ≡ true
+  taken_fits past key time values h =
+      let t = taken_record m.clock m.declared (mark m past) (admitted_count m.clock m.declared past) (Some key) time values h in
+      both_true (nat_lt key (length m.declared.keys)) (fit_fields m.declared.fields values) t.has_key t.fits
+
+  one_fits : (e : Event) (past : List Event) → AllByRecursion Fits (selection_of m past e)
+  one_fits (Record None time values) past = tt
+  one_fits (Record (Some key) time values) past = pick (verdict_on m past (Record (Some key) time values)) refl
+    where
+      pick : (v : Option Refusal) → verdict_on m past (Record (Some key) time values) ≡ v → AllByRecursion Fits (cond (is_none v && m.selects key values) (datum past key time values ∷ []) [])
+      pick None h =
+          let fits = taken_fits past key time values h in
+          elim (m.selects key values) as (λ b. AllByRecursion Fits (cond b (datum past key time values ∷ []) [])) [ true ↦ (fits, tt) | false ↦ tt ]
+      pick (Some r) h = tt
+  one_fits (Watermark time) past = tt
+
+  all_fit : (past : List Event) → AllByRecursion Fits (selected m past)
+  all_fit [] = tt
+  all_fit (e ∷ past) = all_joined Fits (selection_of m past e) (selected m past) (one_fits e past) (all_fit past)
+
+  -- ---- panes
+
+  -- records of a place
+  record AreOf (p : Place) (ds : List Datum) : Type 0 where
+    same : AllByRecursion (λ d. d.key ≡ p.key) ds
+    few : length ds ≤ m.clock.records
+    each : AllByRecursion Fits ds
+
+  keys_there : (p : Place) (ds : List Datum) → AllByRecursion (λ d. d.key ≡ p.key) (filter (is_there p) ds)
+  keys_there p [] = tt
+  keys_there p (d ∷ ds) = by_test (is_there p d) refl (keys_there p ds)
+    where
+      by_test : (b : Bool) → is_there p d ≡ b → AllByRecursion (λ d. d.key ≡ p.key) (filter (is_there p) ds) → AllByRecursion (λ d. d.key ≡ p.key) (cond b (d ∷ filter (is_there p) ds) (filter (is_there p) ds))
+      by_test true h rest = (same_key d.key p.key (and_is (nat_eq d.key p.key) (has_inside d.time (window_of p)) h).0, rest)
+      by_test false h rest = rest
+
+  at_most : (a b c d : ℕ) → a ≤ b → b ≤ c → c ≤ d → a ≤ d
+  at_most a b c d h i j = omega (arith, h, i, j)
+
+  contents_are : (past : List Event) (p : Place) → AreOf p (contents m past p)
+  contents_are past p = record {
+    same = keys_there p (selected m past);
+    few = at_most (length (contents m past p)) (length (selected m past)) (admitted_count m.clock m.declared past) m.clock.records (length-filter (is_there p) (selected m past)) (selected_count m past) (admitted_count-le m.clock m.declared past);
+    each = filter-all Fits (is_there p) (selected m past) (all_fit past);
+  }
+
+  abbrev IsPaneOf : Place × List Datum → Type 0
+  IsPaneOf e = AreOf e.0 e.1
+
+  entries : (c : Place → List Datum) → ((p : Place) → AreOf p (c p)) → (ps : List Place) → AllByRecursion IsPaneOf (with_contents c ps)
+  entries c h [] = tt
+  entries c h (p ∷ ps) = put-all place_cmp places_exact IsPaneOf p (c p) (with_contents c ps) (h p) (entries c h ps)
+
+  panes_are : (past : List Event) → AllByRecursion IsPaneOf (panes m past)
+  panes_are past = entries (contents m past) (contents_are past) (places m past)
+
+  -- ---- firings
+
+  part_of : (p : Place) (t : Datum → Bool) (all : List Datum) → AreOf p all → AreOf p (filter t all)
+  part_of p t all h =
+      let l = length-filter t all in
+      record {
+        same = filter-all (λ d. d.key ≡ p.key) t all h.same;
+        few = omega (arith, l, h.few);
+        each = filter-all Fits t all h.each;
+      }
+
+  -- all records of a pane, or those that weren't shown
+  set_of : (mode : Mode) (p : Place) (t : Datum → Bool) (all : List Datum) → AreOf p all → 1 ≤ length (firing_set mode all (filter t all)) → IsFiringSet p.key (firing_set mode all (filter t all))
+  set_of Accumulating p t all h some = record { same = h.same; some = some; few = h.few; each = h.each }
+  set_of Discarding p t all h some = let f = part_of p t all h in record { same = f.same; some = some; few = f.few; each = f.each }
+
+  some_unshown : (mode : Mode) (t : Datum → Bool) (all : List Datum) → 1 ≤ length (filter t all) → 1 ≤ length (firing_set mode all (filter t all))
+  some_unshown Accumulating t all h = let l = length-filter t all in omega (arith, l, h)
+  some_unshown Discarding t all h = h
+
+  enough : (k n : ℕ) → is_enough k n ≡ true → 1 ≤ n
+  enough zero n h = no h
+  enough (suc k) n h = grind arith
+
+  chosen : (b : Bool) (k : PaneKind) (x : PaneKind) → cond b (Some k) None ≡ Some x → b ≡ true
+  chosen true k x h = refl
+  chosen false k x h = none≢some h
+
+  on_record : (w end : ℤ) (unshown : ℕ) (k : PaneKind) → kind_on_record m w end unshown ≡ Some k → 1 ≤ unshown
+  on_record w end unshown k h =
+      elim (int_lt w end) as (λ b. cond b (cond (is_enough m.early unshown) (Some Early) None) (cond (is_enough m.late unshown) (Some Late) None) ≡ Some k → 1 ≤ unshown) [
+        | true ↦ λ h. enough m.early unshown (chosen (is_enough m.early unshown) Early k h)
+        | false ↦ λ h. enough m.late unshown (chosen (is_enough m.late unshown) Late k h)
+      ] h
+
+  on_watermark : (due final : Bool) (set unshown : ℕ) (k : PaneKind) → cond (due && nat_lt 0 set) (Some OnTime) (cond (final && nat_lt 0 unshown) (Some Final) None) ≡ Some k → (1 ≤ unshown → 1 ≤ set) → 1 ≤ set
+  on_watermark due final set unshown k h more = by_test (due && nat_lt 0 set) refl h
+    where
+      by_test : (b : Bool) → (due && nat_lt 0 set) ≡ b → cond b (Some OnTime) (cond (final && nat_lt 0 unshown) (Some Final) None) ≡ Some k → 1 ≤ set
+      by_test true e h = at_least set (and_is due (nat_lt 0 set) e).1
+      by_test false e h = more (at_least unshown (and_is final (nat_lt 0 unshown) (chosen (final && nat_lt 0 unshown) Final k h)).1)
+
+  fired : (p : Place) (all set : List Datum) (o : Option PaneKind) → ((k : PaneKind) → o ≡ Some k → IsFiringSet p.key set) → IfSome (firing_of p all set o) IsOfSet
+  fired p all set None h = tt
+  fired p all set (Some k) h = h k refl
+
+  given : (b : Bool) (o : Option Firing) → IfSome o IsOfSet → IfSome (cond b o None) IsOfSet
+  given true o h = h
+  given false o h = tt
+
+  one_fires : (shown : Datum → Bool) (past : List Event) (e : Event) (p : Place) (all : List Datum) → AreOf p all → IfSome (fire shown m past e p all) IsOfSet
+  one_fires shown past (Record key time values) p all h =
+      let t : Datum → Bool = λ d. not (shown d) in
+      let unshown = filter t all in
+      let kind = kind_on_record m (mark m past) p.end (length unshown) in
+      let set = firing_set m.mode all unshown in
+      given (list_any (λ d. nat_eq d.turn (length past)) all) (firing_of p all set kind)
+      (fired p all set kind (λ k is. set_of m.mode p t all h (some_unshown m.mode t all (on_record (mark m past) p.end (length unshown) k is))))
+  one_fires shown past (Watermark time) p all h =
+      let t : Datum → Bool = λ d. not (shown d) in
+      let unshown = filter t all in
+      let set = firing_set m.mode all unshown in
+      let kind = kind_on_watermark m (mark m past) time p (length set) (length unshown) in
+      let end = p.end +ℤ m.clock.lateness in
+      given (is_taken m past (Watermark time)) (firing_of p all set kind)
+      (fired p all set kind
+      (λ k is. set_of m.mode p t all h (on_watermark (is_due (window_of p) (mark m past) time) (int_lt (mark m past) end && int_le end time) (length set) (length unshown) k is (some_unshown m.mode t all))))
+
+  pub firings_of_sets : (past : List Event) (e : Event) → AllByRecursion IsOfSet (firings m past e)
+  firings_of_sets past e =
+      all_found IsOfSet (λ p. fire (is_shown m past p.0) m past e p.0 p.1) (panes m (e ∷ past))
+      (all_each IsPaneOf (λ p. IfSome (fire (is_shown m past p.0) m past e p.0 p.1) IsOfSet) (λ p h. one_fires (is_shown m past p.0) past e p.0 p.1 h) (panes m (e ∷ past)) (panes_are (e ∷ past)))
+
+  pub so_far_of_sets : (past : List Event) → AllByRecursion IsOfSet (firings_so_far m past)
+  so_far_of_sets [] = tt
+  so_far_of_sets (e ∷ past) = all_joined IsOfSet (firings_so_far m past) (firings m past e) (so_far_of_sets past) (firings_of_sets past e)
+
+  -- the firing that stands for a place is one of them
+  greatest_is : (all fs : List Firing) → AllByRecursion IsOfSet fs → IfSome (greatest_of all fs) IsOfSet
+  greatest_is all [] h = tt
+  greatest_is all (f ∷ fs) h = by_test (list_all (λ g. is_within g.contents f.contents) all) (greatest_is all fs h.1)
+    where
+      by_test : (b : Bool) → IfSome (greatest_of all fs) IsOfSet → IfSome (cond b (Some f) (greatest_of all fs)) IsOfSet
+      by_test true rest = h.0
+      by_test false rest = rest
+
+  pub standing_of_set : (fs : List Firing) (p : Place) (all : List Datum) → AllByRecursion IsOfSet fs → IfSome (standing m fs p all) IsOfSet
+  standing_of_set fs p all h = let cs = candidates m p all fs in greatest_is cs cs (filter-all IsOfSet _ fs h)

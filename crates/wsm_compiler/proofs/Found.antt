@@ -1,0 +1,138 @@
+-- What the verifier finds of an expression, by its structure: none where a place of its code has a fault.
+use Rattle.std.proofs.Common.{◌≡◌, ℕ, suc, ◌+◌, ◌<◌, Bool, true, ◌&&◌, cond, List, [], ◌∷◌, ◌++◌, length, Option, Some, None, refl, sym, ap, subst}
+use Rattle.std.specs.Prelude.{pos, ◌-ℤ◌, int_div, unsigned_abs, is_none, option_map}
+use Rattle.std.specs.Int.{int_max}
+use Rattle.wsm_interval.specs.declared.interval.Interval.{Interval}
+use Rattle.wsm_interval.specs.Interval.{around, rem_within, div, rem}
+use Rattle.wsm_bytecode.specs.declared.instr.Instr.{Instr}
+use Rattle.wsm_bytecode.specs.declared.instr.Instr.TheVariants as instr
+use Rattle.wsm_query.specs.declared.expr.Op.{Op}
+use Rattle.wsm_query.specs.declared.expr.Op.TheVariants.{Add, Sub, Mul, Div, Rem, Eq, Ne, Lt, Le, Gt, Ge}
+use Rattle.wsm_query.specs.Tree.{Query, Expr, Number, Truth, Field, EnumName, Key, KeyName, Count, Aggregate, If, Brackets, Minus, Not, Binary, And, Or}
+use Rattle.wsm_check.specs.Names.{place_of, field_place, type_of, names_of}
+use Rattle.wsm_check.specs.Sizes.{aggregates}
+use Rattle.wsm_verifier.specs.declared.known.Known.{Known}
+use Rattle.wsm_verifier.specs.declared.known.Known.TheVariants as known
+use Rattle.wsm_verifier.specs.Labels.{State, pushed, of_one, of_two}
+use Rattle.wsm_verifier.specs.Rules.{Setting, may_stand, types_fit, has_zero, and_then}
+use Rattle.wsm_compiler.specs.Code.{instruction}
+use Rattle.wsm_compiler.proofs.Hulls.{no}
+use Rattle.wsm_compiler.proofs.Parts.{none≢some, Labelled, sequence}
+use Rattle.wsm_compiler.proofs.Tests.{stacked, with_known, pushed_on, acting}
+use Rattle.wsm_compiler.proofs.Choosing.{hulled}
+
+abbrev pub head_of : Option (List Known) → Option Known
+head_of None = None
+head_of (Some []) = None
+head_of (Some (x ∷ xs)) = Some x
+
+-- what an instruction makes of its operands
+abbrev pub of_instr : Setting → Instr → List Known → Option Known
+of_instr c i ops = cond (may_stand c.section i && types_fit c.kinds c.ends i ops) (head_of (pushed c.ranges i ops)) None
+
+abbrev pub found : Setting → Query → ℕ → Expr → Option Known
+found c q a (Number n) = of_instr c (instr.PushInt n) []
+found c q a (Truth b) = of_instr c (instr.PushBool b) []
+found c q a (Field x) = of_instr c (instr.Field (field_place q.fields x)) []
+found c q a (EnumName x y) = of_instr c (instr.PushEnum (suc (field_place q.fields x)) (place_of y (names_of (type_of x q.fields)))) []
+found c q a Key = of_instr c instr.Key []
+found c q a (KeyName x) = of_instr c (instr.PushEnum 0 (place_of x q.keys)) []
+found c q a Count = of_instr c instr.Count []
+found c q a (Aggregate kind e) = of_instr c (instr.Acc a) []
+found c q a (If t x y) = and_then (λ b. hulled (found c q (a + aggregates t) x) (found c q (a + (aggregates t + aggregates x)) y)) (found c q a t)
+found c q a (Brackets e) = found c q a e
+found c q a (Minus e) = and_then (λ x. of_instr c instr.Neg (x ∷ [])) (found c q a e)
+found c q a (Not e) = and_then (λ x. of_instr c instr.Not (x ∷ [])) (found c q a e)
+found c q a (Binary op x y) = and_then (λ u. and_then (λ v. of_instr c (instruction op) (v ∷ u ∷ [])) (found c q (a + aggregates x) y)) (found c q a x)
+found c q a (And x y) = and_then (λ b. hulled (found c q (a + aggregates x) y) (Some known.Truth)) (found c q a x)
+found c q a (Or x y) = and_then (λ b. hulled (Some known.Truth) (found c q (a + aggregates x) y)) (found c q a x)
+
+-- ---- one instruction, with its operands on the stack
+
+numbers_alone : (o : Option Interval) → option_map (λ z. known.Number z ∷ []) o ≡ option_map (λ x. x ∷ []) (head_of (option_map (λ z. known.Number z ∷ []) o))
+numbers_alone None = refl
+numbers_alone (Some z) = refl
+
+two_alone : (f : Interval → Interval → Option Interval) (v u : Known) (s : List Known) → of_two f (v ∷ u ∷ s) ≡ option_map (λ x. x ∷ []) (head_of (of_two f (v ∷ u ∷ [])))
+two_alone f (known.Number y) (known.Number x) s = numbers_alone (f x y)
+two_alone f (known.Number y) known.Truth s = refl
+two_alone f (known.Number y) (known.NameOf e) s = refl
+two_alone f known.Truth u s = refl
+two_alone f (known.NameOf e) u s = refl
+
+one_alone : (f : Interval → Option Interval) (v : Known) (s : List Known) → of_one f (v ∷ s) ≡ option_map (λ x. x ∷ []) (head_of (of_one f (v ∷ [])))
+one_alone f (known.Number x) s = numbers_alone (f x)
+one_alone f known.Truth s = refl
+one_alone f (known.NameOf e) s = refl
+
+-- where the divisor may be 0 there is no interval
+zero_div : (v u : Known) → has_zero u v ≡ true → is_none (head_of (of_two div (v ∷ u ∷ []))) ≡ true
+zero_div (known.Number y) (known.Number x) h =
+    ap (λ b. is_none (head_of (option_map (λ z. known.Number z ∷ []) (cond b None (around (int_div x.lo y.lo) (int_div x.lo y.hi) (int_div x.hi y.lo) (int_div x.hi y.hi)))))) h
+zero_div (known.Number y) known.Truth h = refl
+zero_div (known.Number y) (known.NameOf e) h = refl
+zero_div known.Truth u h = no h
+zero_div (known.NameOf e) u h = no h
+
+zero_rem : (v u : Known) → has_zero u v ≡ true → is_none (head_of (of_two rem (v ∷ u ∷ []))) ≡ true
+zero_rem (known.Number y) (known.Number x) h =
+    ap (λ b. is_none (head_of (option_map (λ z. known.Number z ∷ []) (cond b None (rem_within (int_max (pos (unsigned_abs y.lo)) (pos (unsigned_abs y.hi)) -ℤ pos 1) x))))) h
+zero_rem (known.Number y) known.Truth h = refl
+zero_rem (known.Number y) (known.NameOf e) h = refl
+zero_rem known.Truth u h = no h
+zero_rem (known.NameOf e) u h = no h
+
+module _ (e : State) (c : Setting) (k : ℕ) (s : State) (room : length s.stack < 32) (more : suc k < c.n) where
+  abbrev Makes : Instr → List Known → Type 0
+  Makes i ops = Labelled e c k (i ∷ []) (stacked ops s) (pushed_on s (of_instr c i ops))
+
+  pub push_int : (n : _) → Makes (instr.PushInt n) []
+  push_int n = acting e c k (instr.PushInt n) [] s true _ refl refl refl refl (λ h. no h) room more
+
+  pub push_bool : (b : Bool) → Makes (instr.PushBool b) []
+  push_bool b = acting e c k (instr.PushBool b) [] s true _ refl refl refl refl (λ h. no h) room more
+
+  pub push_enum : (d n : ℕ) → Makes (instr.PushEnum d n) []
+  push_enum d n = acting e c k (instr.PushEnum d n) [] s true _ refl refl refl refl (λ h. no h) room more
+
+  pub push_field : (f : ℕ) → Makes (instr.Field f) []
+  push_field f = acting e c k (instr.Field f) [] s true _ refl refl refl refl (λ h. no h) room more
+
+  pub push_key : Makes instr.Key []
+  push_key = acting e c k instr.Key [] s true _ refl refl refl refl (λ h. no h) room more
+
+  pub push_acc : (a : ℕ) → Makes (instr.Acc a) []
+  push_acc a = acting e c k (instr.Acc a) [] s true _ refl refl refl refl (λ h. no h) room more
+
+  pub push_count : Makes instr.Count []
+  push_count = acting e c k instr.Count [] s true _ refl refl refl refl (λ h. no h) room more
+
+  pub make_neg : (v : Known) → Makes instr.Neg (v ∷ [])
+  make_neg v = acting e c k instr.Neg (v ∷ []) s _ _ refl refl refl (one_alone _ v s.stack) (λ h. no h) room more
+
+  pub make_not : (v : Known) → Makes instr.Not (v ∷ [])
+  make_not v = acting e c k instr.Not (v ∷ []) s _ _ refl refl refl refl (λ h. no h) room more
+
+  pub make_op : (op : Op) (u v : Known) → Makes (instruction op) (v ∷ u ∷ [])
+  make_op Add u v = acting e c k instr.Add (v ∷ u ∷ []) s _ _ refl refl refl (two_alone _ v u s.stack) (λ h. no h) room more
+  make_op Sub u v = acting e c k instr.Sub (v ∷ u ∷ []) s _ _ refl refl refl (two_alone _ v u s.stack) (λ h. no h) room more
+  make_op Mul u v = acting e c k instr.Mul (v ∷ u ∷ []) s _ _ refl refl refl (two_alone _ v u s.stack) (λ h. no h) room more
+  make_op Div u v = acting e c k instr.Div (v ∷ u ∷ []) s _ _ refl refl refl (two_alone _ v u s.stack) (zero_div v u) room more
+  make_op Rem u v = acting e c k instr.Rem (v ∷ u ∷ []) s _ _ refl refl refl (two_alone _ v u s.stack) (zero_rem v u) room more
+  make_op Eq u v = acting e c k instr.Eq (v ∷ u ∷ []) s _ _ refl refl refl refl (λ h. no h) room more
+  make_op Ne u v = acting e c k instr.Ne (v ∷ u ∷ []) s _ _ refl refl refl refl (λ h. no h) room more
+  make_op Lt u v = acting e c k instr.Lt (v ∷ u ∷ []) s _ _ refl refl refl refl (λ h. no h) room more
+  make_op Le u v = acting e c k instr.Le (v ∷ u ∷ []) s _ _ refl refl refl refl (λ h. no h) room more
+  make_op Gt u v = acting e c k instr.Gt (v ∷ u ∷ []) s _ _ refl refl refl refl (λ h. no h) room more
+  make_op Ge u v = acting e c k instr.Ge (v ∷ u ∷ []) s _ _ refl refl refl refl (λ h. no h) room more
+
+-- a part of n places that pushes a value, and what follows it
+pub follow : (e : State) (c : Setting) (k n : ℕ) (is js : List Instr) (s : State) (o : Option Known) (f : Known → Option State) → length is ≡ n → 0 < length is → 0 < length js →
+    Labelled e c k is s (pushed_on s o) → ((x : Known) → o ≡ Some x → Labelled e c (k + n) js (with_known x s) (f x)) → Labelled e c k (is ++ js) s (and_then f o)
+follow e c k n is js s None f hn hi hj first rest = sequence e c k is js s None (λ t. None) hi hj first (λ t h. none≢some h)
+follow e c k n is js s (Some x) f hn hi hj first rest =
+    sequence e c k is js s (Some (with_known x s)) (λ t. f x) hi hj first
+    (λ t h. subst (λ w. Labelled e c (k + length is) js w (f x)) (some_is (with_known x s) t h) (subst (λ m. Labelled e c (k + m) js (with_known x s) (f x)) (sym hn) (rest x refl)))
+  where
+    some_is : (s t : State) → Some s ≡ Some t → s ≡ t
+    some_is s t h = ap (λ o. elim o [ None ↦ s | Some u ↦ u ]) h

@@ -1,0 +1,221 @@
+-- What edges carry to one place, put together in any groups.
+use Rattle.std.proofs.Common.{◌≡◌, ℕ, Bool, true, false, ◌&&◌, cond, List, [], ◌∷◌, ◌++◌, refl, sym, ap, subst, ◌∙◌, arith}
+use Rattle.std.proofs.lemmas.Bool.{true≢false}
+use Rattle.std.proofs.lemmas.Int.{ints, clamps}
+use Rattle.std.specs.Prelude.{ℤ, nat_eq}
+use Rattle.std.specs.Int.{int_min, int_max}
+use Rattle.std.specs.Bool.{beq}
+use Rattle.wsm_interval.specs.declared.interval.Interval.{Interval}
+use Rattle.wsm_interval.specs.Interval.{interval, hull}
+use Rattle.wsm_verifier.specs.declared.known.Known.{Known}
+use Rattle.wsm_verifier.specs.declared.known.Known.TheVariants.{Number, Truth, NameOf}
+use Rattle.wsm_verifier.specs.Labels.{State, Label, Unreached, Differing, Reached, same_type, same_types, same_flags, agree, hull_known, hull_stacks, hull_states, label_with, hull_all}
+
+pub no : {X : Type 0} → false ≡ true → X
+no e = absurd (true≢false (sym e))
+
+pub and_is : (a b : Bool) → (a && b) ≡ true → (a ≡ true) × (b ≡ true)
+and_is true b e = (refl, e)
+and_is false b e = no e
+
+pub both_true : (a b : Bool) → a ≡ true → b ≡ true → (a && b) ≡ true
+both_true a b e h = (λ i. e i && h i)
+
+min_self : (a : ℤ) → int_min a a ≡ a
+min_self a = omega (arith, ints, clamps)
+
+max_self : (a : ℤ) → int_max a a ≡ a
+max_self a = omega (arith, ints, clamps)
+
+min_groups : (a b d : ℤ) → int_min a (int_min b d) ≡ int_min (int_min a b) d
+min_groups a b d = omega (arith, ints, clamps)
+
+max_groups : (a b d : ℤ) → int_max a (int_max b d) ≡ int_max (int_max a b) d
+max_groups a b d = omega (arith, ints, clamps)
+
+min_either : (a b : ℤ) → int_min a b ≡ int_min b a
+min_either a b = omega (arith, ints, clamps)
+
+max_either : (a b : ℤ) → int_max a b ≡ int_max b a
+max_either a b = omega (arith, ints, clamps)
+
+hull_self : (x : Interval) → hull x x ≡ x
+hull_self x = (λ i. interval (min_self x.lo i) (max_self x.hi i))
+
+pub hull_either : (x y : Interval) → hull x y ≡ hull y x
+hull_either x y = (λ i. interval (min_either x.lo y.lo i) (max_either x.hi y.hi i))
+
+hull_groups : (x y z : Interval) → hull x (hull y z) ≡ hull (hull x y) z
+hull_groups x y z = (λ i. interval (min_groups x.lo y.lo z.lo i) (max_groups x.hi y.hi z.hi i))
+
+known_self : (x : Known) → hull_known x x ≡ x
+known_self (Number x) = ap Number (hull_self x)
+known_self Truth = refl
+known_self (NameOf e) = refl
+
+pub stack_self : (xs : List Known) → hull_stacks xs xs ≡ xs
+stack_self [] = refl
+stack_self (x ∷ xs) = (λ i. known_self x i ∷ stack_self xs i)
+
+pub type_self : (x : Known) → same_type x x ≡ true
+type_self (Number x) = refl
+type_self Truth = refl
+type_self (NameOf e) = same e
+  where
+    same : (e : ℕ) → nat_eq e e ≡ true
+    same e = grind arith
+
+pub types_self : (xs : List Known) → same_types xs xs ≡ true
+types_self [] = refl
+types_self (x ∷ xs) = both_true (same_type x x) (same_types xs xs) (type_self x) (types_self xs)
+
+pub flags_self : (fs : List Bool) → same_flags fs fs ≡ true
+flags_self [] = refl
+flags_self (true ∷ fs) = flags_self fs
+flags_self (false ∷ fs) = flags_self fs
+
+-- ---- one type is that of the other, and of their hull
+
+same_number : (d e f : ℕ) → nat_eq d e ≡ true → nat_eq d f ≡ true → nat_eq e f ≡ true
+same_number d e f h l = grind arith
+
+-- the second of three that the first and the third agree with
+type_of_hull : (x y z : Known) → same_type x y ≡ true → same_type (hull_known x y) z ≡ true → same_type y z ≡ true
+type_of_hull (Number x) (Number y) z h l = l
+type_of_hull (Number x) Truth z h l = no h
+type_of_hull (Number x) (NameOf e) z h l = no h
+type_of_hull Truth (Number y) z h l = no h
+type_of_hull Truth Truth z h l = l
+type_of_hull Truth (NameOf e) z h l = no h
+type_of_hull (NameOf d) (Number y) z h l = no h
+type_of_hull (NameOf d) Truth z h l = no h
+type_of_hull (NameOf d) (NameOf e) (Number z) h l = no l
+type_of_hull (NameOf d) (NameOf e) Truth h l = no l
+type_of_hull (NameOf d) (NameOf e) (NameOf f) h l = same_number d e f h l
+
+type_with_hull : (x y z : Known) → same_type x y ≡ true → same_type y z ≡ true → same_type x (hull_known y z) ≡ true
+type_with_hull (Number x) (Number y) (Number z) h l = refl
+type_with_hull (Number x) (Number y) Truth h l = refl
+type_with_hull (Number x) (Number y) (NameOf e) h l = refl
+type_with_hull x Truth z h l = h
+type_with_hull x (NameOf e) z h l = h
+type_with_hull Truth (Number y) z h l = no h
+type_with_hull (NameOf d) (Number y) z h l = no h
+
+known_groups : (x y z : Known) → same_type x y ≡ true → same_type y z ≡ true → hull_known x (hull_known y z) ≡ hull_known (hull_known x y) z
+known_groups (Number x) (Number y) (Number z) h l = ap Number (hull_groups x y z)
+known_groups (Number x) (Number y) Truth h l = no l
+known_groups (Number x) (Number y) (NameOf e) h l = no l
+known_groups (Number x) Truth z h l = no h
+known_groups (Number x) (NameOf e) z h l = no h
+known_groups Truth y z h l = refl
+known_groups (NameOf d) y z h l = refl
+
+types_of_hull : (xs ys zs : List Known) → same_types xs ys ≡ true → same_types (hull_stacks xs ys) zs ≡ true → same_types ys zs ≡ true
+types_of_hull [] [] zs h l = l
+types_of_hull [] (y ∷ ys) zs h l = no h
+types_of_hull (x ∷ xs) [] zs h l = no h
+types_of_hull (x ∷ xs) (y ∷ ys) [] h l = no l
+types_of_hull (x ∷ xs) (y ∷ ys) (z ∷ zs) h l =
+    let a = and_is (same_type x y) (same_types xs ys) h in
+    let b = and_is (same_type (hull_known x y) z) (same_types (hull_stacks xs ys) zs) l in
+    both_true (same_type y z) (same_types ys zs) (type_of_hull x y z a.0 b.0) (types_of_hull xs ys zs a.1 b.1)
+
+types_with_hull : (xs ys zs : List Known) → same_types xs ys ≡ true → same_types ys zs ≡ true → same_types xs (hull_stacks ys zs) ≡ true
+types_with_hull [] [] zs h l = refl
+types_with_hull [] (y ∷ ys) zs h l = no h
+types_with_hull (x ∷ xs) [] zs h l = no h
+types_with_hull (x ∷ xs) (y ∷ ys) [] h l = no l
+types_with_hull (x ∷ xs) (y ∷ ys) (z ∷ zs) h l =
+    let a = and_is (same_type x y) (same_types xs ys) h in
+    let b = and_is (same_type y z) (same_types ys zs) l in
+    both_true (same_type x (hull_known y z)) (same_types xs (hull_stacks ys zs)) (type_with_hull x y z a.0 b.0) (types_with_hull xs ys zs a.1 b.1)
+
+stack_groups : (xs ys zs : List Known) → same_types xs ys ≡ true → same_types ys zs ≡ true → hull_stacks xs (hull_stacks ys zs) ≡ hull_stacks (hull_stacks xs ys) zs
+stack_groups [] ys zs h l = refl
+stack_groups (x ∷ xs) [] zs h l = no h
+stack_groups (x ∷ xs) (y ∷ ys) [] h l = no l
+stack_groups (x ∷ xs) (y ∷ ys) (z ∷ zs) h l =
+    let a = and_is (same_type x y) (same_types xs ys) h in
+    let b = and_is (same_type y z) (same_types ys zs) l in
+    (λ i. known_groups x y z a.0 b.0 i ∷ stack_groups xs ys zs a.1 b.1 i)
+
+flag_is : (a b : Bool) → beq a b ≡ true → a ≡ b
+flag_is true true e = refl
+flag_is true false e = no e
+flag_is false true e = no e
+flag_is false false e = refl
+
+flags_are : (fs gs : List Bool) → same_flags fs gs ≡ true → fs ≡ gs
+flags_are [] [] e = refl
+flags_are [] (g ∷ gs) e = no e
+flags_are (f ∷ fs) [] e = no e
+flags_are (f ∷ fs) (g ∷ gs) e =
+    let t = and_is (beq f g) (same_flags fs gs) e in
+    (λ i. flag_is f g t.0 i ∷ flags_are fs gs t.1 i)
+
+-- ---- states
+
+parts : (s t : State) → agree s t ≡ true → (same_types s.stack t.stack ≡ true) × (same_flags s.folded t.folded ≡ true)
+parts s t h = and_is (same_types s.stack t.stack) (same_flags s.folded t.folded) h
+
+agree_of_hull : (s t u : State) → agree s t ≡ true → agree (hull_states s t) u ≡ true → agree t u ≡ true
+agree_of_hull s t u h l =
+    let a = parts s t h in
+    let b = parts (hull_states s t) u l in
+    let flags = subst (λ fs. same_flags fs u.folded ≡ true) (flags_are s.folded t.folded a.1) b.1 in
+    both_true (same_types t.stack u.stack) (same_flags t.folded u.folded) (types_of_hull s.stack t.stack u.stack a.0 b.0) flags
+
+agree_with_hull : (s t u : State) → agree s t ≡ true → agree t u ≡ true → agree s (hull_states t u) ≡ true
+agree_with_hull s t u h l =
+    let a = parts s t h in
+    let b = parts t u l in
+    both_true (same_types s.stack (hull_stacks t.stack u.stack)) (same_flags s.folded t.folded) (types_with_hull s.stack t.stack u.stack a.0 b.0) a.1
+
+states_groups : (s t u : State) → agree s t ≡ true → agree t u ≡ true → hull_states s (hull_states t u) ≡ hull_states (hull_states s t) u
+states_groups s t u h l = ap (λ stack. record { stack = stack; folded = s.folded }) (stack_groups s.stack t.stack u.stack (parts s t h).0 (parts t u l).0)
+
+-- ---- one state more
+
+abbrev state_or : State → Label → State
+state_or s (Reached t) = t
+state_or s _ = s
+
+abbrev is_reached : Label → Bool
+is_reached (Reached t) = true
+is_reached _ = false
+
+abbrev is_unreached : Label → Bool
+is_unreached Unreached = true
+is_unreached _ = false
+
+never_unreached : (s : State) (l : Label) → is_unreached (label_with s l) ≡ false
+never_unreached s Unreached = refl
+never_unreached s Differing = refl
+never_unreached s (Reached t) = elim (agree s t) as (λ b. is_unreached (cond b (Reached (hull_states s t)) Differing) ≡ false) [ true ↦ refl | false ↦ refl ]
+
+agreed : (s t : State) → agree s t ≡ true → label_with s (Reached t) ≡ Reached (hull_states s t)
+agreed s t h = ap (λ b. cond b (Reached (hull_states s t)) Differing) h
+
+-- a state before others, where they are known with one more
+before_others : (s u t : State) (l m : Label) → is_unreached l ≡ false → label_with s l ≡ Reached u → agree u t ≡ true → ((w : State) → l ≡ Reached w → agree w t ≡ true → m ≡ Reached (hull_states w t)) → label_with s m ≡ Reached (hull_states u t)
+before_others s u t Unreached m n e a go = no (sym n)
+before_others s u t Differing m n e a go = no (ap is_reached e)
+before_others s u t (Reached w) m n e a go =
+    elim (agree s w) as (λ b. agree s w ≡ b → cond b (Reached (hull_states s w)) Differing ≡ Reached u → label_with s m ≡ Reached (hull_states u t)) [
+      | true ↦ λ h e.
+          let is : hull_states s w ≡ u = ap (state_or s) e in
+          let a' : agree (hull_states s w) t ≡ true = subst (λ x. agree x t ≡ true) (sym is) a in
+          let b : agree w t ≡ true = agree_of_hull s w t h a' in
+          ap (label_with s) (go w refl b) ∙ agreed s (hull_states w t) (agree_with_hull s w t h b) ∙ ap Reached (states_groups s w t h b) ∙ ap (λ x. Reached (hull_states x t)) is
+      | false ↦ λ h e. no (ap is_reached e)
+    ] refl e
+
+-- what a last edge more makes of a hull
+pub hull_with : (ss : List State) (u t : State) → hull_all ss ≡ Reached u → agree u t ≡ true → hull_all (ss ++ t ∷ []) ≡ Reached (hull_states u t)
+hull_with [] u t e a = no (ap is_reached e)
+hull_with (s ∷ []) u t e a =
+    let is : s ≡ u = ap (state_or s) e in
+    subst (λ x. label_with x (Reached t) ≡ Reached (hull_states u t)) (sym is) (agreed u t a)
+hull_with (s ∷ r ∷ ss) u t e a =
+    before_others s u t (hull_all (r ∷ ss)) (hull_all ((r ∷ ss) ++ t ∷ [])) (never_unreached r (hull_all ss)) e a (λ w h b. hull_with (r ∷ ss) w t h b)

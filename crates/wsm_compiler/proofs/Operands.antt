@@ -1,0 +1,243 @@
+-- The operands of generated code name what the program has.
+use Rattle.std.proofs.Common.{◌≡◌, ℕ, suc, ◌+◌, ◌≤◌, ◌<◌, Bool, true, false, ◌&&◌, cond, List, [], ◌∷◌, ◌++◌, length, map, Option, Some, None, Ok, Err, refl, ap, subst, ◌∙◌, arith}
+use Rattle.std.proofs.lemmas.List.Folds.{list_all-append}
+use Rattle.std.specs.Prelude.{is_some, nat_lt}
+use Rattle.std.specs.List.{list_all}
+use Rattle.wsm_record.specs.declared.words.Kind.{Kind}
+use Rattle.wsm_record.specs.declared.words.Kind.TheVariants.{Sum, Min, Max, Any, All}
+use Rattle.wsm_record.specs.Name.{is_among}
+use Rattle.wsm_bytecode.specs.declared.instr.Instr.{Instr}
+use Rattle.wsm_bytecode.specs.declared.instr.Instr.TheVariants as instr
+use Rattle.wsm_bytecode.specs.declared.program.Budget.{Budget as Stated}
+use Rattle.wsm_bytecode.specs.Program.{Header, names_of_type, is_name_of, is_column, is_instr}
+use Rattle.wsm_query.specs.declared.expr.Op.{Op}
+use Rattle.wsm_query.specs.declared.expr.Op.TheVariants.{Add, Sub, Mul, Div, Rem, Eq, Ne, Lt, Le, Gt, Ge}
+use Rattle.wsm_query.specs.Tree.{Name, Ty, IntTy, BoolTy, EnumTy, Query, Expr, Number, Truth, Field, EnumName, Key, KeyName, Count, Aggregate, If, Brackets, Minus, Not, Binary, And, Or}
+use Rattle.wsm_check.specs.declared.refusal.CheckFault.{CheckFault}
+use Rattle.wsm_check.specs.Names.{field_names, field_place, type_of, names_of, place_of}
+use Rattle.wsm_check.specs.Types.{ExprTy, IntValue, BoolValue, EnumValue, Around, InColumn, InAggregate, Typed, wanted, if_typed, ty_eq, declared_ty, operand_ty, op_ty, typed}
+use Rattle.wsm_check.specs.Sizes.{Acc, aggregates, size, condition_size, folds_size, columns_size}
+use Rattle.wsm_compiler.specs.Code.{code, choice, instruction, condition_code, folds, columns_code}
+use Rattle.wsm_compiler.specs.Lawful.{numbers_fit}
+use Rattle.wsm_compiler.specs.Program.{field_type, cell_type, type_or_int, column_type, program_stating}
+use Rattle.wsm_compiler.proofs.Hulls.{no, and_is, both_true}
+use Rattle.wsm_compiler.proofs.Suiting.{ok_is, err≢ok, result_of}
+use Rattle.wsm_compiler.proofs.Finding.{cond_ok, field_is, entered_is, op_is, two_types, if_types, logic_types, unary_is}
+use Rattle.wsm_compiler.proofs.Reading.{declared, in_column}
+use Rattle.wsm_compiler.proofs.Conditions.{ConditionTyped, ColumnsTyped}
+use Rattle.wsm_compiler.proofs.Folding.{AccsTyped}
+use Rattle.wsm_compiler.proofs.Naming.{place_below, field_below, names_there, name_there}
+
+cond_is : (b : Bool) (x : Typed) (f : CheckFault) (t : ExprTy) → cond b x (Err f) ≡ Ok t → b ≡ true
+cond_is true x f t e = refl
+cond_is false x f t e = err≢ok e
+
+abbrev pub condition_numbers : Option Expr → Bool
+condition_numbers None = true
+condition_numbers (Some e) = numbers_fit e
+
+abbrev pub condition_aggregates : Option Expr → ℕ
+condition_aggregates None = 0
+condition_aggregates (Some e) = aggregates e
+
+abbrev pub operands_fit : List Acc → Bool
+operands_fit accs = list_all (λ acc. numbers_fit acc.operand) accs
+
+module _ (q : Query) (b : Stated) where
+  abbrev pub head : Header
+  head = (program_stating q b).header
+
+  abbrev Named : ExprTy → Type 0
+  Named t = is_column head.schema (cell_type t) ≡ true
+
+  -- ---- the types of columns
+
+  declared_named : (x : Name) → is_among x (field_names q.fields) ≡ true → (ty : Ty) → type_of x q.fields ≡ ty → Named (declared_ty (field_place q.fields x) ty)
+  declared_named x h (IntTy lo hi) is = refl
+  declared_named x h BoolTy is = refl
+  declared_named x h (EnumTy names) is = ap is_some (names_there q.fields x h ∙ ap (λ ty. names_of_type (field_type ty)) is)
+
+  some_names : (ty : Ty) (y : Name) → is_among y (names_of ty) ≡ true → is_some (names_of_type (field_type ty)) ≡ true
+  some_names (IntTy lo hi) y h = no h
+  some_names BoolTy y h = no h
+  some_names (EnumTy names) y h = refl
+
+  -- the name of a field, and a name of its type
+  both_declared : (around : Around) (x y : Name) (t : ExprTy) → typed q around (EnumName x y) ≡ Ok t → (is_among x (field_names q.fields) ≡ true) × (is_among y (names_of (type_of x q.fields)) ≡ true)
+  both_declared around x y t h =
+      and_is (is_among x (field_names q.fields)) (is_among y (names_of (type_of x q.fields)))
+      (cond_is (is_among x (field_names q.fields) && is_among y (names_of (type_of x q.fields))) _ _ t h)
+
+  named_as : (t u : ExprTy) → t ≡ u → Named t → Named u
+  named_as t u e h = subst Named e h
+
+  operand_named : (kind : Kind) → Named (operand_ty kind)
+  operand_named Sum = refl
+  operand_named Min = refl
+  operand_named Max = refl
+  operand_named Any = refl
+  operand_named All = refl
+
+  result_named : (op : Op) → Named (result_of op)
+  result_named Add = refl
+  result_named Sub = refl
+  result_named Mul = refl
+  result_named Div = refl
+  result_named Rem = refl
+  result_named Eq = refl
+  result_named Ne = refl
+  result_named Lt = refl
+  result_named Le = refl
+  result_named Gt = refl
+  result_named Ge = refl
+
+  type_named : (around : Around) (e : Expr) (t : ExprTy) → typed q around e ≡ Ok t → Named t
+  type_named around (Number n) t h = named_as IntValue t (ok_is IntValue t h) refl
+  type_named around (Truth v) t h = named_as BoolValue t (ok_is BoolValue t h) refl
+  type_named around (Field x) t h = named_as (declared_ty (field_place q.fields x) (type_of x q.fields)) t (field_is q around x t h) (declared_named x (declared q around x t h) (type_of x q.fields) refl)
+  type_named around (EnumName x y) t h =
+      let p = both_declared around x y t h in
+      let u = EnumValue (suc (field_place q.fields x)) in
+      named_as u t (ok_is u t (cond_ok (is_among x (field_names q.fields) && is_among y (names_of (type_of x q.fields))) (Ok u) _ t h))
+      (ap is_some (names_there q.fields x p.0) ∙ some_names (type_of x q.fields) y p.1)
+  type_named around Key t h = named_as (EnumValue 0) t (ok_is (EnumValue 0) t h) refl
+  type_named around (KeyName x) t h = named_as (EnumValue 0) t (ok_is (EnumValue 0) t (cond_ok (is_among x q.keys) (Ok (EnumValue 0)) _ t h)) refl
+  type_named around Count t h = named_as IntValue t (ok_is IntValue t (entered_is around (Ok IntValue) t h).1) refl
+  type_named around (Aggregate kind e) t h =
+      let inner = if_typed (typed q InAggregate e) (λ t. wanted (ty_eq t (operand_ty kind)) (operand_ty kind)) in
+      named_as (operand_ty kind) t (unary_is q InAggregate e (operand_ty kind) t (entered_is around inner t h).1).1 (operand_named kind)
+  type_named around (If c x y) t h = type_named around x t (if_types q around c x y t h).first_is
+  type_named around (Brackets e) t h = type_named around e t h
+  type_named around (Minus e) t h = named_as IntValue t (unary_is q around e IntValue t h).1 refl
+  type_named around (Not e) t h = named_as BoolValue t (unary_is q around e BoolValue t h).1 refl
+  type_named around (Binary op x y) t h =
+      let p = two_types q around x y (op_ty op) t h in named_as (result_of op) t (op_is op p.left p.right t p.both).1 (result_named op)
+  type_named around (And x y) t h = named_as BoolValue t (logic_types q around x y t h).is refl
+  type_named around (Or x y) t h = named_as BoolValue t (logic_types q around x y t h).is refl
+
+  pub columns_named : (es : List Expr) → ColumnsTyped q es → list_all (is_column head.schema) (map (column_type q) es) ≡ true
+  columns_named [] h = refl
+  columns_named (e ∷ es) h =
+      both_true (is_column head.schema (column_type q e)) (list_all (is_column head.schema) (map (column_type q) es))
+      (ap (λ r. is_column head.schema (cell_type (type_or_int r))) h.0.1 ∙ type_named InColumn e h.0.0 h.0.1) (columns_named es h.1)
+
+  -- ---- instructions
+
+  abbrev pub AllFine : List Instr → Type 0
+  AllFine is = list_all (is_instr head) is ≡ true
+
+  pub fine_both : (is js : List Instr) → AllFine is → AllFine js → AllFine (is ++ js)
+  fine_both is js h l = list_all-append (is_instr head) is js ∙ both_true (list_all (is_instr head) is) (list_all (is_instr head) js) h l
+
+  fine_one : (i : Instr) → is_instr head i ≡ true → AllFine (i ∷ [])
+  fine_one i h = both_true (is_instr head i) true h refl
+
+  op_fine : (op : Op) → is_instr head (instruction op) ≡ true
+  op_fine Add = refl
+  op_fine Sub = refl
+  op_fine Mul = refl
+  op_fine Div = refl
+  op_fine Rem = refl
+  op_fine Eq = refl
+  op_fine Ne = refl
+  op_fine Lt = refl
+  op_fine Le = refl
+  op_fine Gt = refl
+  op_fine Ge = refl
+
+  is_below : (m n : ℕ) → m < n → nat_lt m n ≡ true
+  is_below m n h = grind arith
+
+  choice_fine : (k : ℕ) (first : List Instr) (m : ℕ) (second : List Instr) (n : ℕ) → AllFine first → AllFine second → k + m + 1 + n < 65536 → AllFine (choice k first m second n)
+  choice_fine k first m second n h l room =
+      let j1 = instr.JumpIfFalse (k + m + 1) in
+      let j2 = instr.Jump (k + m + 1 + n) in
+      both_true (is_instr head j1) (list_all (is_instr head) (first ++ j2 ∷ second)) (is_below (k + m + 1) 65536 (omega (arith, room)))
+      (fine_both first (j2 ∷ second) h (both_true (is_instr head j2) (list_all (is_instr head) second) (is_below (k + m + 1 + n) 65536 room) l))
+
+  -- in a column there is an accumulator for each aggregate
+  abbrev Room : Around → ℕ → Expr → Type 0
+  Room around a e = around ≡ InColumn → a + aggregates e ≤ length head.kinds
+
+  code_fine : (around : Around) (k a : ℕ) (e : Expr) (t : ExprTy) → typed q around e ≡ Ok t → numbers_fit e ≡ true → Room around a e → k + size e < 65536 → AllFine (code q k a e)
+  code_fine around k a (Number n) t h l accs room = fine_one (instr.PushInt n) l
+  code_fine around k a (Truth v) t h l accs room = refl
+  code_fine around k a (Field x) t h l accs room = fine_one (instr.Field (field_place q.fields x)) (field_below q.fields x (declared q around x t h))
+  code_fine around k a (EnumName x y) t h l accs room =
+      let p = both_declared around x y t h in
+      let ty = type_of x q.fields in
+      fine_one (instr.PushEnum (suc (field_place q.fields x)) (place_of y (names_of ty)))
+      (ap (λ o. is_name_of o (place_of y (names_of ty))) (names_there q.fields x p.0) ∙ name_there ty y p.1)
+  code_fine around k a Key t h l accs room = refl
+  code_fine around k a (KeyName x) t h l accs room = fine_one (instr.PushEnum 0 (place_of x q.keys)) (place_below x q.keys (cond_is (is_among x q.keys) _ _ t h))
+  code_fine around k a Count t h l accs room = refl
+  code_fine around k a (Aggregate kind e) t h l accs room =
+      let inner = if_typed (typed q InAggregate e) (λ t. wanted (ty_eq t (operand_ty kind)) (operand_ty kind)) in
+      let n = accs (entered_is around inner t h).0 in
+      fine_one (instr.Acc a) (is_below a (length head.kinds) (omega (arith, n)))
+  code_fine around k a (If c x y) t h l accs room =
+      let p = if_types q around c x y t h in
+      let f = and_is (numbers_fit c) (numbers_fit x && numbers_fit y) l in
+      let g = and_is (numbers_fit x) (numbers_fit y) f.1 in
+      let j = k + size c + 1 in
+      let d = a + (aggregates c + aggregates x) in
+      fine_both (code q k a c) (choice j (code q j (a + aggregates c) x) (size x) (code q (j + size x + 1) d y) (size y))
+      (code_fine around k a c BoolValue p.test_is f.0 (λ e. let n = accs e in omega (arith, n)) (omega (arith, room)))
+      (choice_fine j (code q j (a + aggregates c) x) (size x) (code q (j + size x + 1) d y) (size y)
+      (code_fine around j (a + aggregates c) x t p.first_is g.0 (λ e. let n = accs e in omega (arith, n)) (omega (arith, room)))
+      (code_fine around (j + size x + 1) d y t p.second_is g.1 (λ e. let n = accs e in omega (arith, n)) (omega (arith, room)))
+      (omega (arith, room)))
+  code_fine around k a (Brackets e) t h l accs room = code_fine around k a e t h l accs room
+  code_fine around k a (Minus e) t h l accs room =
+      fine_both (code q k a e) (instr.Neg ∷ []) (code_fine around k a e IntValue (unary_is q around e IntValue t h).0 l accs (omega (arith, room))) refl
+  code_fine around k a (Not e) t h l accs room =
+      fine_both (code q k a e) (instr.Not ∷ []) (code_fine around k a e BoolValue (unary_is q around e BoolValue t h).0 l accs (omega (arith, room))) refl
+  code_fine around k a (Binary op x y) t h l accs room =
+      let p = two_types q around x y (op_ty op) t h in
+      let f = and_is (numbers_fit x) (numbers_fit y) l in
+      let right = code q (k + size x) (a + aggregates x) y in
+      fine_both (code q k a x) (right ++ instruction op ∷ []) (code_fine around k a x p.left p.left_is f.0 (λ e. let n = accs e in omega (arith, n)) (omega (arith, room)))
+      (fine_both right (instruction op ∷ []) (code_fine around (k + size x) (a + aggregates x) y p.right p.right_is f.1 (λ e. let n = accs e in omega (arith, n)) (omega (arith, room)))
+      (fine_one (instruction op) (op_fine op)))
+  code_fine around k a (And x y) t h l accs room =
+      let p = logic_types q around x y t h in
+      let f = and_is (numbers_fit x) (numbers_fit y) l in
+      let j = k + size x + 1 in
+      let first = code q j (a + aggregates x) y in
+      fine_both (code q k a x) (choice j first (size y) (instr.PushBool false ∷ []) 1) (code_fine around k a x BoolValue p.left_is f.0 (λ e. let n = accs e in omega (arith, n)) (omega (arith, room)))
+      (choice_fine j first (size y) (instr.PushBool false ∷ []) 1 (code_fine around j (a + aggregates x) y BoolValue p.right_is f.1 (λ e. let n = accs e in omega (arith, n)) (omega (arith, room))) refl (omega (arith, room)))
+  code_fine around k a (Or x y) t h l accs room =
+      let p = logic_types q around x y t h in
+      let f = and_is (numbers_fit x) (numbers_fit y) l in
+      let j = k + size x + 1 in
+      let second = code q (j + 1 + 1) (a + aggregates x) y in
+      fine_both (code q k a x) (choice j (instr.PushBool true ∷ []) 1 second (size y)) (code_fine around k a x BoolValue p.left_is f.0 (λ e. let n = accs e in omega (arith, n)) (omega (arith, room)))
+      (choice_fine j (instr.PushBool true ∷ []) 1 second (size y) refl (code_fine around (j + 1 + 1) (a + aggregates x) y BoolValue p.right_is f.1 (λ e. let n = accs e in omega (arith, n)) (omega (arith, room))) (omega (arith, room)))
+
+  -- ---- sections
+
+  pub condition_fine : (around : Around) (k a : ℕ) (o : Option Expr) → ConditionTyped q around o → condition_numbers o ≡ true → (around ≡ InColumn → a + condition_aggregates o ≤ length head.kinds) → k + condition_size o < 65536 →
+      AllFine (condition_code q k a o ++ instr.Return ∷ [])
+  condition_fine around k a None h l accs room = refl
+  condition_fine around k a (Some e) h l accs room = fine_both (code q k a e) (instr.Return ∷ []) (code_fine around k a e BoolValue h l accs room) refl
+
+  pub folds_fine : (k a : ℕ) (accs : List Acc) → AccsTyped q b accs → operands_fit accs ≡ true → a + length accs ≤ length head.kinds → k + folds_size accs < 65536 → AllFine (folds q k a accs)
+  folds_fine k a [] h l n room = refl
+  folds_fine k a (acc ∷ accs) h l n room =
+      let e = acc.operand in
+      let p = and_is (numbers_fit e) (operands_fit accs) l in
+      let rest = folds q (k + size e + 1) (suc a) accs in
+      fine_both (code q k 0 e) (instr.Fold a ∷ rest) (code_fine InAggregate k 0 e (operand_ty acc.kind) h.0 p.0 (λ e. no (ap in_column e)) (omega (arith, room)))
+      (both_true (is_instr head (instr.Fold a)) (list_all (is_instr head) rest) (is_below a (length head.kinds) (omega (arith, n))) (folds_fine (k + size e + 1) (suc a) accs h.1 p.1 (omega (arith, n)) (omega (arith, room))))
+
+  abbrev pub columns_aggregates : List Expr → ℕ
+  columns_aggregates [] = condition_aggregates q.having
+  columns_aggregates (e ∷ es) = aggregates e + columns_aggregates es
+
+  pub columns_fine : (k a : ℕ) (es : List Expr) → ColumnsTyped q es → ConditionTyped q InColumn q.having → list_all numbers_fit es ≡ true → condition_numbers q.having ≡ true → a + columns_aggregates es ≤ length head.kinds →
+      k + columns_size q.having es < 65536 → AllFine (columns_code q k a es)
+  columns_fine k a [] h having l m n room = condition_fine InColumn k a q.having having m (λ e. n) (omega (arith, room))
+  columns_fine k a (e ∷ es) h having l m n room =
+      let p = and_is (numbers_fit e) (list_all numbers_fit es) l in
+      fine_both (code q k a e) (columns_code q (k + size e) (a + aggregates e) es)
+      (code_fine InColumn k a e h.0.0 h.0.1 p.0 (λ c. omega (arith, n)) (omega (arith, room))) (columns_fine (k + size e) (a + aggregates e) es h.1 having p.1 m (omega (arith, n)) (omega (arith, room)))

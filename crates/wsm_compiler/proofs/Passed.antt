@@ -1,0 +1,107 @@
+-- The checks that a query passed, one by one.
+use Rattle.std.proofs.Common.{◌≡◌, ◌≤◌, ◌*◌, Bool, true, false, ◌&&◌, [], ◌∷◌, length, Option, Some, None, refl, sym, ap, arith}
+use Rattle.std.specs.Prelude.{nat_le}
+use Rattle.wsm_windows.specs.Life.{live_bound}
+use Rattle.wsm_query.specs.Tree.{Query}
+use Rattle.wsm_check.specs.declared.refusal.CheckFault.{CheckFault}
+use Rattle.wsm_check.specs.declared.refusal.CheckFault.TheVariants.{Limit, StreamNeedsAccumulating}
+use Rattle.wsm_check.specs.declared.refusal.Part.{Part}
+use Rattle.wsm_check.specs.declared.refusal.Part.TheVariants as part
+use Rattle.wsm_check.specs.declared.refusal.CheckRefusal.{CheckRefusal}
+use Rattle.wsm_check.specs.Sizes.{accumulators, where_size, update_size, fire_size, stack_need}
+use Rattle.wsm_check.specs.Types.{InWhere, InColumn}
+use Rattle.wsm_check.specs.Checks.{unless, or_else, first, names_refusal, fields_refusal, clock_fits, budget_fits, shape_fits, every_fits, may_emit, condition_refusal, columns_refusal, code_fits, IsChecked}
+use Rattle.wsm_compiler.proofs.Hulls.{no, and_is}
+
+abbrev pub is_refusal : Option CheckRefusal → Bool
+is_refusal None = false
+is_refusal (Some r) = true
+
+pub none_of_both : (a b : Option CheckRefusal) → or_else a b ≡ None → (a ≡ None) × (b ≡ None)
+none_of_both None b h = (refl, h)
+none_of_both (Some r) b h = no (sym (ap is_refusal h))
+
+pub unless_none : (b : Bool) (f : CheckFault) (p : Part) → unless b f p ≡ None → b ≡ true
+unless_none true f p h = refl
+unless_none false f p h = no (sym (ap is_refusal h))
+
+is_at_most : (m n : _) → nat_le m n ≡ true → m ≤ n
+is_at_most m n h = grind arith
+
+-- how large the code is, and how many panes there may be
+pub record CodeFits (q : Query) : Type 0 where
+  pub accs : length (accumulators q) ≤ 16
+  pub selection : where_size q ≤ 1000
+  pub update : update_size q ≤ 1000
+  pub fire : fire_size q ≤ 1000
+  pub stack : stack_need q ≤ 32
+  pub held : length q.keys * live_bound q.shape q.skew q.lateness ≤ 100000
+
+code_fits_in : (q : Query) → code_fits q ≡ true → CodeFits q
+code_fits_in q fits =
+    let held = nat_le (length q.keys * live_bound q.shape q.skew q.lateness) 100000 in
+    let stack = nat_le (stack_need q) 32 in
+    let f1 = and_is (nat_le (length (accumulators q)) 16) (nat_le (where_size q) 1000 && (nat_le (update_size q) 1000 && (nat_le (fire_size q) 1000 && (stack && held)))) fits in
+    let f2 = and_is (nat_le (where_size q) 1000) (nat_le (update_size q) 1000 && (nat_le (fire_size q) 1000 && (stack && held))) f1.1 in
+    let f3 = and_is (nat_le (update_size q) 1000) (nat_le (fire_size q) 1000 && (stack && held)) f2.1 in
+    let f4 = and_is (nat_le (fire_size q) 1000) (stack && held) f3.1 in
+    let f5 = and_is stack held f4.1 in
+    record {
+      accs = is_at_most (length (accumulators q)) 16 f1.0;
+      selection = is_at_most (where_size q) 1000 f2.0;
+      update = is_at_most (update_size q) 1000 f3.0;
+      fire = is_at_most (fire_size q) 1000 f4.0;
+      stack = is_at_most (stack_need q) 32 f5.0;
+      held = is_at_most (length q.keys * live_bound q.shape q.skew q.lateness) 100000 f5.1;
+    }
+
+pub record Passed (q : Query) : Type 0 where
+  pub keys : names_refusal part.Keys q.keys ≡ None
+  pub fields : fields_refusal [] q.fields ≡ None
+  pub clock : clock_fits q ≡ true
+  pub budget : budget_fits q.budget ≡ true
+  pub shape : shape_fits q.shape ≡ true
+  pub triggers : (every_fits q.early && every_fits q.late) ≡ true
+  pub emit : may_emit q.form q.mode ≡ true
+  pub condition : condition_refusal q InWhere part.Where q.condition ≡ None
+  pub columns : columns_refusal q 0 q.columns ≡ None
+  pub having : condition_refusal q InColumn part.Having q.having ≡ None
+  pub code : CodeFits q
+
+pub passed : (q : Query) → IsChecked q → Passed q
+passed q h =
+    let r11 = unless (code_fits q) Limit part.Code in
+    let r10 = condition_refusal q InColumn part.Having q.having in
+    let r9 = columns_refusal q 0 q.columns in
+    let r8 = condition_refusal q InWhere part.Where q.condition in
+    let r7 = unless (may_emit q.form q.mode) StreamNeedsAccumulating part.Emit in
+    let r6 = unless (every_fits q.early && every_fits q.late) Limit part.Trigger in
+    let r5 = unless (shape_fits q.shape) Limit part.Window in
+    let r4 = unless (budget_fits q.budget) Limit part.Budget in
+    let r3 = unless (clock_fits q) Limit part.Clock in
+    let r2 = fields_refusal [] q.fields in
+    let r1 = names_refusal part.Keys q.keys in
+    let h1 = none_of_both r1 (first (r2 ∷ r3 ∷ r4 ∷ r5 ∷ r6 ∷ r7 ∷ r8 ∷ r9 ∷ r10 ∷ r11 ∷ [])) h in
+    let h2 = none_of_both r2 (first (r3 ∷ r4 ∷ r5 ∷ r6 ∷ r7 ∷ r8 ∷ r9 ∷ r10 ∷ r11 ∷ [])) h1.1 in
+    let h3 = none_of_both r3 (first (r4 ∷ r5 ∷ r6 ∷ r7 ∷ r8 ∷ r9 ∷ r10 ∷ r11 ∷ [])) h2.1 in
+    let h4 = none_of_both r4 (first (r5 ∷ r6 ∷ r7 ∷ r8 ∷ r9 ∷ r10 ∷ r11 ∷ [])) h3.1 in
+    let h5 = none_of_both r5 (first (r6 ∷ r7 ∷ r8 ∷ r9 ∷ r10 ∷ r11 ∷ [])) h4.1 in
+    let h6 = none_of_both r6 (first (r7 ∷ r8 ∷ r9 ∷ r10 ∷ r11 ∷ [])) h5.1 in
+    let h7 = none_of_both r7 (first (r8 ∷ r9 ∷ r10 ∷ r11 ∷ [])) h6.1 in
+    let h8 = none_of_both r8 (first (r9 ∷ r10 ∷ r11 ∷ [])) h7.1 in
+    let h9 = none_of_both r9 (first (r10 ∷ r11 ∷ [])) h8.1 in
+    let h10 = none_of_both r10 (first (r11 ∷ [])) h9.1 in
+    let h11 = none_of_both r11 None h10.1 in
+    record {
+      keys = h1.0;
+      fields = h2.0;
+      clock = unless_none (clock_fits q) Limit part.Clock h3.0;
+      budget = unless_none (budget_fits q.budget) Limit part.Budget h4.0;
+      shape = unless_none (shape_fits q.shape) Limit part.Window h5.0;
+      triggers = unless_none (every_fits q.early && every_fits q.late) Limit part.Trigger h6.0;
+      emit = unless_none (may_emit q.form q.mode) StreamNeedsAccumulating part.Emit h7.0;
+      condition = h8.0;
+      columns = h9.0;
+      having = h10.0;
+      code = code_fits_in q (unless_none (code_fits q) Limit part.Code h11.0);
+    }

@@ -1,0 +1,198 @@
+-- Queries that select the same of the records in range, and have the same rows over panes in range, have the same lines for every input.
+use Rattle.std.proofs.Common.{◌≡◌, ℕ, suc, ◌+◌, ◌≤◌, Bool, true, false, ◌&&◌, ◌||◌, cond, List, [], ◌∷◌, ◌++◌, length, map, ℤ, Option, Some, None, Ok, Err, refl, sym, ap, subst, ◌∙◌, arith}
+use Rattle.std.proofs.lemmas.Int.{ints}
+use Rattle.std.specs.Prelude.{pos, negsuc, ◌≤ℤ◌, filter, filter_map, flat_map, is_none, nat_lt, option_map, option_and_then, unsigned_abs}
+use Rattle.std.specs.Option.{IfSome}
+use Rattle.std.specs.List.{AllByRecursion, cons_option, list_all, list_any}
+use Rattle.std.specs.FinMap.Entries.{where_key}
+use Rattle.wsm_record.specs.declared.event.Value.{Value}
+use Rattle.wsm_record.specs.declared.words.Form.{Form}
+use Rattle.wsm_record.specs.declared.words.Form.TheVariants as form
+use Rattle.wsm_record.specs.Event.{Event, Record, Watermark}
+use Rattle.wsm_record.specs.Schema.{fit_fields}
+use Rattle.wsm_admission.specs.declared.verdict.Refusal.{Refusal}
+use Rattle.wsm_admission.specs.Clock.{admitted_count, late_count, refused_count}
+use Rattle.wsm_admission.specs.Admission.{counter}
+use Rattle.wsm_semantics.specs.declared.place.Place.{Place}
+use Rattle.wsm_semantics.specs.declared.out_row.OutRow.TheVariants.{Pane, Istream, Dstream, Rstream}
+use Rattle.wsm_semantics.specs.Query.{Query as Meant, Datum, mark, verdict_on, is_taken, selection_of, selected}
+use Rattle.wsm_semantics.specs.Panes.{place_cmp, at, window_of, windows_among, is_there, is_live_at, with_contents, panes, held}
+use Rattle.wsm_semantics.specs.Firings.{Firing, holds, shows, fire, firings_by, is_shown, firings, firings_so_far, row_of, pane_rows}
+use Rattle.wsm_semantics.specs.Relation.{standing, sorted_rows, difference, relation_at, relation, rows_of}
+use Rattle.wsm_semantics.specs.Lines.{Row, Out, End, events, refusal_lines, turn_lines, lines_so_far, fault_count, end_line, all_lines}
+use Rattle.wsm_machine.specs.Meaning.{query_of}
+use Rattle.wsm_query.specs.Tree.{Query}
+use Rattle.wsm_check.specs.Checks.{is_time, is_span, is_count}
+use Rattle.wsm_compiler.specs.Program.{program_of}
+use Rattle.wsm_compiler.specs.Means.{meant}
+use Rattle.wsm_compiler.specs.SameMeaning.{record_in_range, IsPane, IsAccepted}
+use Rattle.wsm_compiler.specs.Accepted.{states_enough}
+use Rattle.wsm_compiler.specs.Ranges.{ranges_fit}
+use Rattle.wsm_compiler.specs.SameLines.{SameLines, TextMeans}
+use Rattle.wsm_compiler.proofs.Hulls.{no, and_is, both_true}
+use Rattle.wsm_compiler.proofs.Accepted.{accepted_exactly}
+use Rattle.wsm_compiler.proofs.Texts.{parsed_is_spelt}
+use Rattle.wsm_compiler.proofs.Passed.{passed}
+use Rattle.wsm_compiler.proofs.FiringSets.{datum, IsFiringSet, IsOfSet, taken_fits, firings_of_sets, so_far_of_sets, standing_of_set}
+use Rattle.wsm_compiler.proofs.TotalPanes.{stands_for_meant}
+
+found_same : {A B : Type 0} (f g : A → Option B) (xs : List A) → AllByRecursion (λ x. f x ≡ g x) xs → filter_map f xs ≡ filter_map g xs
+found_same f g [] h = refl
+found_same f g (x ∷ xs) h = (λ i. cons_option (h.0 i) (found_same f g xs h.1 i))
+
+each : {A : Type 0} (P Q : A → Type 0) → ((x : A) → P x → Q x) → (xs : List A) → AllByRecursion P xs → AllByRecursion Q xs
+each P Q f [] h = tt
+each P Q f (x ∷ xs) h = (f x h.0, each P Q f xs h.1)
+
+module _ (m : Meant) (sel : ℕ → List Value → Bool) (row : ℕ → List Datum → Option (List Value)) where
+  -- the clauses of the first, with other meanings of WHERE and of rows
+  abbrev other : Meant
+  other = record m { selects = sel; row = row }
+
+  -- where records are in range they select the same, and over the sets of firings they have the same row
+  record Agree : Type 0 where
+    selects : (key : ℕ) (values : List Value) → (nat_lt key (length m.declared.keys) && fit_fields m.declared.fields values) ≡ true → m.selects key values ≡ sel key values
+    rows : (key : ℕ) (ds : List Datum) → IsFiringSet m key ds → m.row key ds ≡ row key ds
+
+  module _ (agree : Agree) where
+    selection_same : (past : List Event) (e : Event) → selection_of m past e ≡ selection_of other past e
+    selection_same past (Record None time values) = refl
+    selection_same past (Record (Some key) time values) = pick (verdict_on m past (Record (Some key) time values)) refl
+      where
+        pick : (v : Option Refusal) → verdict_on m past (Record (Some key) time values) ≡ v →
+            cond (is_none v && m.selects key values) (datum past key time values ∷ []) [] ≡ cond (is_none v && sel key values) (datum past key time values ∷ []) []
+        pick None h = ap (λ b. cond b (datum past key time values ∷ []) []) (agree.selects key values (taken_fits m past key time values h))
+        pick (Some r) h = refl
+    selection_same past (Watermark time) = refl
+
+    selected_same : (past : List Event) → selected m past ≡ selected other past
+    selected_same [] = refl
+    selected_same (e ∷ past) = (λ i. selection_same past e i ++ selected_same past i)
+
+    panes_same : (past : List Event) → panes m past ≡ panes other past
+    panes_same past = ap (λ ds. with_contents (λ p. filter (is_there p) ds) (flat_map (λ d. map (at d.key) (windows_among m.shape ds d)) ds)) (selected_same past)
+
+    held_same : (past : List Event) → held m past ≡ held other past
+    held_same past = ap (where_key place_cmp (is_live_at m (mark m past))) (panes_same past)
+
+    -- ---- firings
+
+    fire_same : (shown : Datum → Bool) (past : List Event) (e : Event) (p : Place) (all : List Datum) → fire shown m past e p all ≡ fire shown other past e p all
+    fire_same shown past (Record key time values) p all = refl
+    fire_same shown past (Watermark time) p all = refl
+
+    by_same : (shown also : Place → Datum → Bool) → shown ≡ also → (past : List Event) (e : Event) → firings_by shown m past e ≡ firings_by also other past e
+    by_same shown also h past e = (λ i. filter_map (λ p. fire_same (h i p.0) past e p.0 p.1 i) (panes_same (e ∷ past) i))
+
+    shown_same : (past : List Event) → is_shown m past ≡ is_shown other past
+    shown_same [] = (λ i p d. false)
+    shown_same (e ∷ past) = (λ i p d. shown_same past i p d || list_any (λ f. shows m.shape p f.place && holds d f.contents) (by_same (is_shown m past) (is_shown other past) (shown_same past) past e i))
+
+    firings_same : (past : List Event) (e : Event) → firings m past e ≡ firings other past e
+    firings_same past e = by_same (is_shown m past) (is_shown other past) (shown_same past) past e
+
+    so_far_same : (past : List Event) → firings_so_far m past ≡ firings_so_far other past
+    so_far_same [] = refl
+    so_far_same (e ∷ past) = (λ i. so_far_same past i ++ firings_same past e i)
+
+    -- ---- rows
+
+    pane_rows_same : (past : List Event) (e : Event) → pane_rows m past e ≡ pane_rows other past e
+    pane_rows_same past e =
+        found_same (row_of m) (row_of other) (firings m past e)
+        (each (IsOfSet m) (λ f. row_of m f ≡ row_of other f) (λ f h. ap (option_map (Pane f.kind f.place.key (window_of f.place))) (agree.rows f.place.key f.fired h)) (firings m past e) (firings_of_sets m past e))
+        ∙ ap (filter_map (row_of other)) (firings_same past e)
+
+    standing_row : (o : Option Firing) → IfSome o (IsOfSet m) → option_and_then (λ f. m.row f.place.key f.fired) o ≡ option_and_then (λ f. row f.place.key f.fired) o
+    standing_row None h = refl
+    standing_row (Some f) h = agree.rows f.place.key f.fired h
+
+    abbrev standing_in : List Firing → Place × List Datum → Option (List Value)
+    standing_in fs p = option_and_then (λ f. m.row f.place.key f.fired) (standing m fs p.0 p.1)
+
+    abbrev other_standing_in : List Firing → Place × List Datum → Option (List Value)
+    other_standing_in fs p = option_and_then (λ f. row f.place.key f.fired) (standing m fs p.0 p.1)
+
+    all_standing : (fs : List Firing) → AllByRecursion (IsOfSet m) fs → (ps : List (Place × List Datum)) → AllByRecursion (λ p. standing_in fs p ≡ other_standing_in fs p) ps
+    all_standing fs h [] = tt
+    all_standing fs h (p ∷ ps) = (standing_row (standing m fs p.0 p.1) (standing_of_set m fs p.0 p.1 h), all_standing fs h ps)
+
+    relation_at_same : (past : List Event) (e : Event) → relation_at m past e ≡ relation_at other past e
+    relation_at_same past e =
+        let fs = firings_so_far m (e ∷ past) in
+        ap sorted_rows
+        (found_same (standing_in fs) (other_standing_in fs) (held m past) (all_standing fs (so_far_of_sets m (e ∷ past)) (held m past))
+        ∙ (λ i. filter_map (other_standing_in (so_far_same (e ∷ past) i)) (held_same past i)))
+
+    relation_same : (past : List Event) → relation m past ≡ relation other past
+    relation_same [] = refl
+    relation_same (Record key time values ∷ past) = relation_same past
+    relation_same (Watermark time ∷ past) = (λ i. cond (is_taken m past (Watermark time)) (relation_at_same past (Watermark time) i) (relation_same past i))
+
+    rows_same : (f : Form) (past : List Event) (e : Event) → rows_of f m past e ≡ rows_of f other past e
+    rows_same form.Panes past e = pane_rows_same past e
+    rows_same form.Istream past (Record key time values) = refl
+    rows_same form.Dstream past (Record key time values) = refl
+    rows_same form.Rstream past (Record key time values) = refl
+    rows_same form.Istream past (Watermark time) = (λ i. map (Istream time) (difference (relation_at_same past (Watermark time) i) (relation_same past i)))
+    rows_same form.Dstream past (Watermark time) = (λ i. map (Dstream time) (difference (relation_same past i) (relation_at_same past (Watermark time) i)))
+    rows_same form.Rstream past (Watermark time) = (λ i. map (Rstream time) (relation_at_same past (Watermark time) i))
+
+    -- ---- lines
+
+    turn_same : (before : List Row) (r : Row) → turn_lines m before r ≡ turn_lines other before r
+    turn_same before (Err fault) = refl
+    turn_same before (Ok e) =
+        let past = events before in
+        (λ i. refusal_lines (counter (length before + 1)) (verdict_on m past e) ++ map Out (cond (is_taken m past e) (rows_same m.form past e i) []))
+
+    so_far_lines_same : (rows : List Row) → lines_so_far m rows ≡ lines_so_far other rows
+    so_far_lines_same [] = refl
+    so_far_lines_same (r ∷ before) = (λ i. so_far_lines_same before i ++ turn_same before r i)
+
+    end_same : (rows : List Row) → end_line m rows ≡ end_line other rows
+    end_same rows =
+        let past = events rows in
+        ap (λ (fs : List Firing). End (counter (length rows)) (counter (admitted_count m.clock m.declared past)) (counter (late_count m.clock m.declared past))
+        (counter (fault_count rows + refused_count m.clock m.declared past)) (counter (length fs))) (so_far_same past)
+
+    lines_same : (rows : List Row) → all_lines m rows ≡ all_lines other rows
+    lines_same rows = (λ i. so_far_lines_same rows i ++ end_same rows i ∷ [])
+
+-- ---- the text and its program
+
+few_of : (n : ℕ) (records : ℤ) → is_count records ≡ true → n ≤ unsigned_abs records → pos n ≤ℤ records
+few_of n (pos r) h l = omega (arith, ints, l)
+few_of n (negsuc r) h l = no h
+
+length-values : (ds : List Datum) → length (map (λ (d : Datum). d.values) ds) ≡ length ds
+length-values [] = refl
+length-values (d ∷ ds) = ap suc (length-values ds)
+
+all_in_range : (q : Query) (key : ℕ) (ds : List Datum) → AllByRecursion (λ d. d.key ≡ key) ds → AllByRecursion (λ d. record_in_range q d.key d.values ≡ true) ds → list_all (record_in_range q key) (map (λ d. d.values) ds) ≡ true
+all_in_range q key [] same fits = refl
+all_in_range q key (d ∷ ds) same fits =
+    (λ i. subst (λ k. record_in_range q k d.values ≡ true) same.0 fits.0 i && all_in_range q key ds same.1 fits.1 i)
+
+pane_is : (q : Query) → IsAccepted q → (key : ℕ) (ds : List Datum) → IsFiringSet (query_of (program_of q)) key ds → IsPane q key (map (λ d. d.values) ds)
+pane_is q a key ds h =
+    let clock = (passed q a.checked).clock in
+    let c1 = and_is (is_time q.start) (is_span q.skew && (is_span q.lateness && is_count q.records)) clock in
+    let c2 = and_is (is_span q.skew) (is_span q.lateness && is_count q.records) c1.1 in
+    let c3 = and_is (is_span q.lateness) (is_count q.records) c2.1 in
+    let n = length-values ds in
+    let few : length (map (λ (d : Datum). d.values) ds) ≤ unsigned_abs q.records = subst (λ l. l ≤ unsigned_abs q.records) (sym n) h.few in
+    record {
+      some = subst (λ l. 1 ≤ l) (sym n) h.some;
+      few = few_of (length (map (λ (d : Datum). d.values) ds)) q.records c3.1 few;
+      each = all_in_range q key ds h.same h.each;
+    }
+
+pub same_lines : (q : Query) → SameLines q
+same_lines q a rows =
+    let s = stands_for_meant q a in
+    lines_same (query_of (program_of q)) (meant q).selects (meant q).row (record { selects = s.selects; rows = λ key ds h. s.row key ds h.same (pane_is q a key ds h) }) rows
+
+pub text_means : (text : List ℕ) (q : Query) → TextMeans text q
+text_means text q read checked fit enough =
+    same_lines q (record { checked = checked; spelt = parsed_is_spelt text q read; accepted = accepted_exactly q checked ∙ both_true (ranges_fit q) (states_enough (program_of q)) fit enough })

@@ -1,0 +1,241 @@
+-- Runs of WHERE and of FIRE end with the meanings of their expressions, or trap where one has none.
+use Rattle.std.proofs.Common.{◌≡◌, inl, inr, ℕ, ◌+◌, ◌≤◌, ◌<◌, true, ◌&&◌, not, cond, List, [], ◌∷◌, ◌++◌, length, map, reverse, replicate, Option, Some, None, Ok, refl, sym, ap, subst, ◌∙◌, arith, append_assoc, length-append}
+use Rattle.std.proofs.lemmas.List.{reverse-append}
+use Rattle.std.specs.Prelude.{max, nat_eq, slice_get}
+use Rattle.std.specs.List.{flat_map}
+use Rattle.wsm_record.specs.declared.event.Value.{Value}
+use Rattle.wsm_record.specs.declared.event.Value.TheVariants.{Int, Bool as Truth', Enum}
+use Rattle.wsm_bytecode.specs.declared.instr.CellType.{CellType}
+use Rattle.wsm_bytecode.specs.declared.instr.CellType.TheVariants as types
+use Rattle.wsm_bytecode.specs.declared.instr.Instr.{Instr}
+use Rattle.wsm_bytecode.specs.declared.instr.Instr.TheVariants as instr
+use Rattle.wsm_bytecode.specs.declared.instr.SectionId.TheVariants.{Where, Fire}
+use Rattle.wsm_bytecode.specs.declared.program.Budget.{Budget as Stated}
+use Rattle.wsm_machine.specs.declared.cell.Cell.{Cell}
+use Rattle.wsm_machine.specs.declared.outcome.Outcome.TheVariants.{Done}
+use Rattle.wsm_machine.specs.declared.outcome.Trap.TheVariants.{Underflow, BadReturn}
+use Rattle.wsm_machine.specs.declared.run.Ran.{Ran}
+use Rattle.wsm_machine.specs.Inputs.{Inputs}
+use Rattle.wsm_machine.specs.Step.{Setting, setting, State, Ends, step, unless, type_of, is_type, are_types, is_result}
+use Rattle.wsm_machine.specs.Run.{run_at, act, go_on, ended}
+use Rattle.wsm_machine.proofs.Runs.{run_step}
+use Rattle.wsm_query.specs.Tree.{Query, Expr}
+use Rattle.wsm_check.specs.Types.{ExprTy, IntValue, BoolValue, EnumValue, Around, InWhere, InColumn, typed}
+use Rattle.wsm_check.specs.Sizes.{accumulators_of, aggregates, size, condition_size, columns_size, need, need_of_condition, need_of_columns}
+use Rattle.wsm_compiler.specs.Meaning.{Scene, on_record, on_accumulators}
+use Rattle.wsm_compiler.specs.Code.{code, condition_code, columns_code, where_section, fire_section}
+use Rattle.wsm_compiler.specs.Program.{cell_type, type_or_int, column_type, program_stating, stated, needed_of, program_of}
+use Rattle.wsm_compiler.specs.Runs.{of_ty, cell, Serves, ServesAccs, state, topped, Gives, StandsAt}
+use Rattle.wsm_compiler.specs.Sections.{in_bounds, condition_value, Leaves, on_stack, fired_stack, WhereRuns, FireRuns}
+use Rattle.wsm_compiler.proofs.Visits.{nil_right}
+use Rattle.wsm_compiler.proofs.Hulls.{no, both_true}
+use Rattle.wsm_compiler.proofs.Parts.{none≢some}
+use Rattle.wsm_compiler.proofs.Reading.{in_column}
+use Rattle.wsm_compiler.proofs.Sizes.{some_size}
+use Rattle.wsm_compiler.proofs.Conditions.{ConditionTyped, ColumnsTyped, in_condition, length-condition, length-columns}
+use Rattle.wsm_compiler.proofs.Checked.{fine}
+use Rattle.wsm_compiler.proofs.Firing.{accs_are}
+use Rattle.wsm_compiler.proofs.Bounded.{bounded_is}
+use Rattle.wsm_compiler.proofs.Values.{value_has, serves_left, serves_right}
+use Rattle.wsm_compiler.proofs.Machine.{none_under, push_bool}
+use Rattle.wsm_compiler.proofs.Running.{split_code, code_runs}
+use Rattle.wsm_compiler.proofs.Serving.{serves_where, serves_fire, serves_accs}
+
+-- ---- a section stands in itself
+
+seam : (before after : List Instr) (i : Instr) → slice_get (before ++ i ∷ after) (length before) ≡ Some i
+seam [] after i = refl
+seam (j ∷ before) after i = seam before after i
+
+stands_behind : (before is : List Instr) → StandsAt (before ++ is) (length before) is
+stands_behind before [] = tt
+stands_behind before (i ∷ is) =
+    let h = stands_behind (before ++ i ∷ []) is in
+    let l = length-append before (i ∷ []) in
+    let e : length (before ++ i ∷ []) ≡ length before + 1 = l in
+    let h' = subst (λ n. StandsAt ((before ++ i ∷ []) ++ is) n is) e h in
+    (seam before is i, subst (λ section. StandsAt section (length before + 1) is) (append_assoc before (i ∷ []) is) h')
+
+pub stands_all : (is : List Instr) → StandsAt is 0 is
+stands_all is = stands_behind [] is
+
+-- ---- the return
+
+pub return_ends : (c : Setting) (s : State) → slice_get c.code s.place ≡ Some instr.Return → is_result c s ≡ true → run_at c s ≡ ended Done 1 s
+return_ends c s at h =
+    let ends : step c s instr.Return ≡ Ends = (λ i. unless (cond (none_under (length s.stack) i) (Some Underflow) (cond (not (h i)) (Some BadReturn) None)) Ends) in
+    run_step c s ∙ ap (act c (run_at c) s) at ∙ ap (go_on (run_at c) s) ends
+
+-- what a run leaves that comes to a return, or traps
+pub comes_to : (c : Setting) (s : State) (o : Option State) (stack : Option (List Cell)) → Gives c s o →
+    (o ≡ None → stack ≡ None) → ((t : State) → o ≡ Some t → (stack ≡ Some t.stack) × (run_at c t ≡ ended Done 1 t)) → Leaves (run_at c s) stack
+comes_to c s None stack g none some = subst (λ x. Leaves (run_at c s) x) (sym (none refl)) g
+comes_to c s (Some t) stack g none some =
+    let h = some t refl in
+    subst (λ x. Leaves (run_at c s) x) (sym h.0) (ap (λ (r : Ran). r.outcome) g.1 ∙ ap (λ (r : Ran). r.outcome) h.1, ap (λ (r : Ran). r.stack) g.1 ∙ ap (λ (r : Ran). r.stack) h.1)
+
+-- ---- conditions
+
+module _ (c : Setting) (q : Query) (around : Around) (s : Scene) (serves : Serves c q around s) where
+  pub code_means : (k a : ℕ) (e : Expr) (t : ExprTy) → typed q around e ≡ Ok t → ServesAccs c around s a (accumulators_of e) → StandsAt c.code k (code q k a e) → k + size e < length c.code →
+      (stack : List Cell) (folds : List (Option Value)) → length stack + need e ≤ 32 → Gives c (state k stack folds) (topped (k + size e) stack folds t (in_bounds q s a e))
+  code_means k a e t h accs at inside stack folds room =
+      subst (λ o. Gives c (state k stack folds) (topped (k + size e) stack folds t o)) (bounded_is q s a e) (code_runs c q around s serves k a e t h accs at inside stack folds room)
+
+  pub means_has : (a : ℕ) (e : Expr) (t : ExprTy) → typed q around e ≡ Ok t → ServesAccs c around s a (accumulators_of e) → of_ty t (in_bounds q s a e) ≡ true
+  means_has a e t h accs = ap (of_ty t) (sym (bounded_is q s a e)) ∙ value_has c q around s serves a e t h accs
+
+  condition_gives : (k a : ℕ) (o : Option Expr) (js : List Instr) → ConditionTyped q around o → ServesAccs c around s a (in_condition o) → StandsAt c.code k (condition_code q k a o ++ js) → k + condition_size o < length c.code →
+      (stack : List Cell) (folds : List (Option Value)) → length stack + need_of_condition o ≤ 32 → Gives c (state k stack folds) (topped (k + condition_size o) stack folds BoolValue (condition_value q s a o))
+  condition_gives k a None js h accs at inside stack folds room = push_bool c k stack folds (omega (arith, room)) true at.0
+  condition_gives k a (Some e) js h accs at inside stack folds room = code_means k a e BoolValue h accs (split_code q c.code k a e js at).0 inside stack folds room
+
+  condition_has : (a : ℕ) (o : Option Expr) → ConditionTyped q around o → ServesAccs c around s a (in_condition o) → of_ty BoolValue (condition_value q s a o) ≡ true
+  condition_has a None h accs = refl
+  condition_has a (Some e) h accs = means_has a e BoolValue h accs
+
+  condition_stands : (k a : ℕ) (o : Option Expr) (js : List Instr) → StandsAt c.code k (condition_code q k a o ++ js) → StandsAt c.code (k + condition_size o) js
+  condition_stands k a None js h = h.1
+  condition_stands k a (Some e) js h = (split_code q c.code k a e js h).1
+
+truth_type : (v : Value) → of_ty BoolValue (Some v) ≡ true → type_of (cell BoolValue v) ≡ types.Bool
+truth_type (Int n) h = no h
+truth_type (Truth' b) h = refl
+truth_type (Enum i) h = no h
+
+cell_has : (t : ExprTy) (v : Value) → of_ty t (Some v) ≡ true → type_of (cell t v) ≡ cell_type t
+cell_has IntValue (Int n) h = refl
+cell_has IntValue (Truth' b) h = no h
+cell_has IntValue (Enum i) h = no h
+cell_has BoolValue (Int n) h = no h
+cell_has BoolValue (Truth' b) h = refl
+cell_has BoolValue (Enum i) h = no h
+cell_has (EnumValue e) (Int n) h = no h
+cell_has (EnumValue e) (Truth' b) h = no h
+cell_has (EnumValue e) (Enum i) h = refl
+
+is_its_type : (t : CellType) → is_type t t ≡ true
+is_its_type types.Int = refl
+is_its_type types.Bool = refl
+is_its_type (types.Enum e) = same e
+  where
+    same : (e : ℕ) → nat_eq e e ≡ true
+    same e = grind arith
+
+are_their_types : (ts : List CellType) → are_types ts ts ≡ true
+are_their_types [] = refl
+are_their_types (t ∷ ts) = both_true (is_type t t) (are_types ts ts) (is_its_type t) (are_their_types ts)
+
+-- ---- WHERE
+
+-- the state behind a condition, and what stands on its stack
+none_topped : (k : ℕ) (stack : List Cell) (folds : List (Option Value)) (o : Option Value) → topped k stack folds BoolValue o ≡ None → on_stack stack o ≡ None
+none_topped k stack folds None e = refl
+none_topped k stack folds (Some v) e = none≢some (sym e)
+
+topped_returns : (c : Setting) (k : ℕ) (stack : List Cell) (folds : List (Option Value)) (o : Option Value) → of_ty BoolValue o ≡ true → slice_get c.code k ≡ Some instr.Return →
+    ((v : Value) → type_of (cell BoolValue v) ≡ types.Bool → is_result c (state k (cell BoolValue v ∷ stack) folds) ≡ true) → (t : State) → topped k stack folds BoolValue o ≡ Some t → (on_stack stack o ≡ Some t.stack) × (run_at c t ≡ ended Done 1 t)
+topped_returns c k stack folds None has at good t e = none≢some e
+topped_returns c k stack folds (Some v) has at good t e =
+    let u = state k (cell BoolValue v ∷ stack) folds in
+    let is : u ≡ t = ap (λ o. elim o [ None ↦ u | Some z ↦ z ]) e in
+    (ap (λ (z : State). Some z.stack) is, subst (λ z. run_at c z ≡ ended Done 1 z) is (return_ends c u at (good v (truth_type v has))))
+
+pub where_runs : (q : Query) → WhereRuns q
+where_runs q checked d fit =
+    let b = stated (needed_of q) q.budget in
+    let f = fine q b checked in
+    let c = setting (program_of q) Where d in
+    let s = on_record d.key d.values in
+    let serves = serves_where q b d fit in
+    let at = stands_all (where_section q) in
+    let l = length-append (condition_code q 0 0 q.condition) (instr.Return ∷ []) in
+    let m = length-condition q 0 0 q.condition in
+    let none : ServesAccs c InWhere s 0 (in_condition q.condition) = λ e. no (ap in_column e) in
+    let folds : List (Option Value) = replicate (length c.kinds) None in
+    let value = condition_value q s 0 q.condition in
+    let k = 0 + condition_size q.condition in
+    let returns = condition_stands c q InWhere s serves 0 0 q.condition (instr.Return ∷ []) at in
+    comes_to c (state 0 [] folds) (topped k [] folds BoolValue value) (on_stack [] value)
+    (condition_gives c q InWhere s serves 0 0 q.condition (instr.Return ∷ []) f.condition none at (omega (arith, l, m)) [] folds (omega (arith, f.where_need)))
+    (none_topped k [] folds value)
+    (topped_returns c k [] folds value (condition_has c q InWhere s serves 0 q.condition f.condition none) returns.0 (λ v h. ap (λ u. (is_type types.Bool u && true) && true) h))
+
+-- ---- FIRE
+
+-- the last of values, whose types are those of the columns, is a truth
+fire_result : (c : Setting) (columns : List CellType) (x : Cell) (stack : List Cell) → type_of x ≡ types.Bool → reverse (map type_of stack) ≡ columns → are_types (columns ++ types.Bool ∷ []) (reverse (map type_of (x ∷ stack))) ≡ true
+fire_result c columns x stack h e =
+    let is : reverse (map type_of (x ∷ stack)) ≡ columns ++ types.Bool ∷ [] = reverse-append (type_of x ∷ []) (map type_of stack) ∙ (λ i. e i ++ h i ∷ []) in
+    ap (are_types (columns ++ types.Bool ∷ [])) is ∙ are_their_types (columns ++ types.Bool ∷ [])
+
+module _ (q : Query) (b : Stated) (d : Inputs) where
+  abbrev c : Setting
+  c = setting (program_stating q b) Fire d
+
+  abbrev s : Scene
+  s = on_accumulators d.key d.count d.accs
+
+  -- columns that are left, and the types of those on the stack
+  columns_run : (k a : ℕ) (es : List Expr) (stack : List Cell) (folds : List (Option Value)) → ColumnsTyped q es → ConditionTyped q InColumn q.having → ServesAccs c InColumn s a (flat_map accumulators_of es ++ in_condition q.having) →
+      StandsAt c.code k (columns_code q k a es) → k + columns_size q.having es ≤ length c.code → need_of_columns (length stack) q.having es ≤ 32 → reverse (map type_of stack) ++ map (column_type q) es ≡ map (column_type q) q.columns →
+      Leaves (run_at c (state k stack folds)) (fired_stack q s a es stack)
+  columns_run k a [] stack folds h hh accs at inside room types' =
+      let serves = serves_fire q b d in
+      let value = condition_value q s a q.having in
+      let j = k + condition_size q.having in
+      let returns = condition_stands c q InColumn s serves k a q.having (instr.Return ∷ []) at in
+      comes_to c (state k stack folds) (topped j stack folds BoolValue value) (on_stack stack value)
+      (condition_gives c q InColumn s serves k a q.having (instr.Return ∷ []) hh accs at (omega (arith, inside)) stack folds room)
+      (none_topped j stack folds value)
+      (topped_returns c j stack folds value (condition_has c q InColumn s serves a q.having hh accs) returns.0
+      (λ v e. ap (λ x. x && true) (fire_result c (map (column_type q) q.columns) (cell BoolValue v) stack e (sym (nil_right (reverse (map type_of stack))) ∙ types'))))
+  columns_run k a (x ∷ es) stack folds h hh accs at inside room types' =
+      let serves = serves_fire q b d in
+      let t = h.0.0 in
+      let j = k + size x in
+      let whole : ServesAccs c InColumn s a (accumulators_of x ++ (flat_map accumulators_of es ++ in_condition q.having)) =
+      subst (λ xs. ServesAccs c InColumn s a xs) (append_assoc (accumulators_of x) (flat_map accumulators_of es) (in_condition q.having)) accs in
+      let here = serves_left c InColumn s a (accumulators_of x) (flat_map accumulators_of es ++ in_condition q.having) whole in
+      let parts = split_code q c.code k a x (columns_code q j (a + aggregates x) es) at in
+      let ty : type_or_int (typed q InColumn x) ≡ t = ap type_or_int h.0.1 in
+      one_column (state k stack folds) j a x es stack folds t ty (in_bounds q s a x) (means_has c q InColumn s serves a x t h.0.1 here)
+      (code_means c q InColumn s serves k a x t h.0.1 here parts.0 (omega (arith, inside, some_columns_size q.having es)) stack folds (first_room (length stack) (need x) _ room))
+      (λ v has. columns_run j (a + aggregates x) es (cell t v ∷ stack) folds h.1 hh (serves_right c InColumn s a x (flat_map accumulators_of es ++ in_condition q.having) whole) parts.1 (omega (arith, inside)) (rest_room (length stack) (need x) _ room)
+      (ap (λ zs. zs ++ map (column_type q) es) (reverse-append (type_of (cell t v) ∷ []) (map type_of stack)) ∙ append_assoc (reverse (map type_of stack)) (type_of (cell t v) ∷ []) (map (column_type q) es)
+      ∙ ap (λ z. reverse (map type_of stack) ++ z ∷ map (column_type q) es) (cell_has t v has ∙ ap cell_type (sym ty)) ∙ types'))
+    where
+      first_room : (l n m : ℕ) → max (l + n) m ≤ 32 → l + n ≤ 32
+      first_room l n m h = omega (arith, h)
+
+      rest_room : (l n m : ℕ) → max (l + n) m ≤ 32 → m ≤ 32
+      rest_room l n m h = omega (arith, h)
+
+      some_condition_size : (o : Option Expr) → 0 < condition_size o
+      some_condition_size None = omega arith
+      some_condition_size (Some x) = some_size x
+
+      some_columns_size : (o : Option Expr) (es : List Expr) → 0 < columns_size o es
+      some_columns_size o [] = omega (arith, some_condition_size o)
+      some_columns_size o (x ∷ es) = omega (arith, some_size x)
+
+      one_column : (m : State) (j a : ℕ) (x : Expr) (es : List Expr) (stack : List Cell) (folds : List (Option Value)) (t : ExprTy) → type_or_int (typed q InColumn x) ≡ t → (o : Option Value) → of_ty t o ≡ true → Gives c m (topped j stack folds t o) →
+          ((v : Value) → of_ty t (Some v) ≡ true → Leaves (run_at c (state j (cell t v ∷ stack) folds)) (fired_stack q s (a + aggregates x) es (cell t v ∷ stack))) →
+          Leaves (run_at c m) (elim o [ None ↦ None | Some v ↦ fired_stack q s (a + aggregates x) es (cell (type_or_int (typed q InColumn x)) v ∷ stack) ])
+      one_column m j a x es stack folds t ty None has g rest = g
+      one_column m j a x es stack folds t ty (Some v) has g rest =
+          subst (λ u. Leaves (run_at c m) (fired_stack q s (a + aggregates x) es (cell u v ∷ stack))) (sym ty) (leaves_on (run_at c m) (run_at c (state j (cell t v ∷ stack) folds)) (fired_stack q s (a + aggregates x) es (cell t v ∷ stack)) (ap (λ (r : Ran). r.outcome) g.1) (ap (λ (r : Ran). r.stack) g.1) (rest v has))
+        where
+          leaves_on : (r p : Ran) (o : Option (List Cell)) → r.outcome ≡ p.outcome → r.stack ≡ p.stack → Leaves p o → Leaves r o
+          leaves_on r p None e l (inl h) = inl (e ∙ h)
+          leaves_on r p None e l (inr h) = inr (e ∙ h)
+          leaves_on r p (Some stack) e l h = (e ∙ h.0, l ∙ h.1)
+
+pub fire_runs : (q : Query) → FireRuns q
+fire_runs q checked d fit =
+    let b = stated (needed_of q) q.budget in
+    let f = fine q b checked in
+    let l = length-columns q 0 0 q.columns in
+    columns_run q b d 0 0 q.columns [] (replicate (length (setting (program_of q) Fire d).kinds) None) f.columns f.having
+    (subst (λ accs. ServesAccs (setting (program_of q) Fire d) InColumn (on_accumulators d.key d.count d.accs) 0 accs) (accs_are q b) (serves_accs q b d fit))
+    (stands_all (fire_section q)) (omega (arith, l)) f.fire_need refl

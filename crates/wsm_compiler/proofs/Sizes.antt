@@ -1,0 +1,104 @@
+-- Lengths of code, and that no part of it is empty.
+use Rattle.std.proofs.Common.{◌≡◌, ℕ, ◌+◌, ◌<◌, true, false, List, [], ◌∷◌, ◌++◌, length, refl, arith, length-append}
+use Rattle.wsm_bytecode.specs.declared.instr.Instr.{Instr}
+use Rattle.wsm_query.specs.Tree.{Query, Expr, Number, Truth, Field, EnumName, Key, KeyName, Count, Aggregate, If, Brackets, Minus, Not, Binary, And, Or}
+use Rattle.wsm_check.specs.Sizes.{aggregates, accumulators_of, size, need}
+use Rattle.wsm_compiler.specs.Code.{code, choice, instruction}
+use Rattle.wsm_bytecode.specs.declared.instr.Instr.TheVariants as instr
+
+pub length-accumulators_of : (e : Expr) → length (accumulators_of e) ≡ aggregates e
+length-accumulators_of (Aggregate kind e) = refl
+length-accumulators_of (If c x y) =
+    let hc = length-accumulators_of c in
+    let hx = length-accumulators_of x in
+    let hy = length-accumulators_of y in
+    simp (length-append, hc, hx, hy) refl
+length-accumulators_of (Brackets e) = length-accumulators_of e
+length-accumulators_of (Minus e) = length-accumulators_of e
+length-accumulators_of (Not e) = length-accumulators_of e
+length-accumulators_of (Binary op x y) =
+    let hx = length-accumulators_of x in let hy = length-accumulators_of y in simp (length-append, hx, hy) refl
+length-accumulators_of (And x y) =
+    let hx = length-accumulators_of x in let hy = length-accumulators_of y in simp (length-append, hx, hy) refl
+length-accumulators_of (Or x y) =
+    let hx = length-accumulators_of x in let hy = length-accumulators_of y in simp (length-append, hx, hy) refl
+length-accumulators_of _ = refl
+
+pub length-choice : (j : ℕ) (first : List Instr) (m : ℕ) (second : List Instr) (n : ℕ) → length (choice j first m second n) ≡ length first + length second + 2
+length-choice j first m second n = let l = length-append first (instr.Jump (j + m + 1 + n) ∷ second) in omega (arith, l)
+
+-- the code of an expression has as many instructions as its size says
+pub length-code : (q : Query) (k a : ℕ) (e : Expr) → length (code q k a e) ≡ size e
+length-code q k a (If c x y) =
+    let j = k + size c + 1 in
+    let first = code q j (a + aggregates c) x in
+    let second = code q (j + size x + 1) (a + (aggregates c + aggregates x)) y in
+    let l = length-append (code q k a c) (choice j first (size x) second (size y)) in
+    let m = length-choice j first (size x) second (size y) in
+    omega (arith, l, m, length-code q k a c, length-code q j (a + aggregates c) x, length-code q (j + size x + 1) (a + (aggregates c + aggregates x)) y)
+length-code q k a (Brackets e) = length-code q k a e
+length-code q k a (Minus e) = let l = length-append (code q k a e) (instr.Neg ∷ []) in omega (arith, l, length-code q k a e)
+length-code q k a (Not e) = let l = length-append (code q k a e) (instr.Not ∷ []) in omega (arith, l, length-code q k a e)
+length-code q k a (Binary op x y) =
+    let b = a + aggregates x in
+    let right = code q (k + size x) b y in
+    let l = length-append (code q k a x) (right ++ instruction op ∷ []) in
+    let m = length-append right (instruction op ∷ []) in
+    omega (arith, l, m, length-code q k a x, length-code q (k + size x) b y)
+length-code q k a (And x y) =
+    let j = k + size x + 1 in
+    let first = code q j (a + aggregates x) y in
+    let l = length-append (code q k a x) (choice j first (size y) (instr.PushBool false ∷ []) 1) in
+    let m = length-choice j first (size y) (instr.PushBool false ∷ []) 1 in
+    omega (arith, l, m, length-code q k a x, length-code q j (a + aggregates x) y)
+length-code q k a (Or x y) =
+    let j = k + size x + 1 in
+    let second = code q (j + 1 + 1) (a + aggregates x) y in
+    let l = length-append (code q k a x) (choice j (instr.PushBool true ∷ []) 1 second (size y)) in
+    let m = length-choice j (instr.PushBool true ∷ []) 1 second (size y) in
+    omega (arith, l, m, length-code q k a x, length-code q (j + 1 + 1) (a + aggregates x) y)
+length-code q k a (Number n) = refl
+length-code q k a (Truth b) = refl
+length-code q k a (Field x) = refl
+length-code q k a (EnumName x y) = refl
+length-code q k a Key = refl
+length-code q k a (KeyName x) = refl
+length-code q k a Count = refl
+length-code q k a (Aggregate kind e) = refl
+
+pub some_size : (e : Expr) → 0 < size e
+some_size (Brackets e) = some_size e
+some_size (If c x y) = omega arith
+some_size (Minus e) = omega arith
+some_size (Not e) = omega arith
+some_size (Binary op x y) = omega arith
+some_size (And x y) = omega arith
+some_size (Or x y) = omega arith
+some_size (Number n) = omega arith
+some_size (Truth b) = omega arith
+some_size (Field x) = omega arith
+some_size (EnumName x y) = omega arith
+some_size Key = omega arith
+some_size (KeyName x) = omega arith
+some_size Count = omega arith
+some_size (Aggregate kind e) = omega arith
+
+pub some_need : (e : Expr) → 0 < need e
+some_need (Brackets e) = some_need e
+some_need (Minus e) = some_need e
+some_need (Not e) = some_need e
+some_need (If c x y) = omega (arith, some_need c)
+some_need (Binary op x y) = omega arith
+some_need (And x y) = omega (arith, some_need x)
+some_need (Or x y) = omega (arith, some_need x)
+some_need (Number n) = omega arith
+some_need (Truth b) = omega arith
+some_need (Field x) = omega arith
+some_need (EnumName x y) = omega arith
+some_need Key = omega arith
+some_need (KeyName x) = omega arith
+some_need Count = omega arith
+some_need (Aggregate kind e) = omega arith
+
+pub some_code : (q : Query) (k a : ℕ) (e : Expr) → 0 < length (code q k a e)
+some_code q k a e = omega (arith, length-code q k a e, some_size e)

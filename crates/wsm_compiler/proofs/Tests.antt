@@ -1,0 +1,152 @@
+-- The rules at one instruction of generated code.
+use Rattle.std.proofs.Common.{◌≡◌, ℕ, suc, ◌+◌, ◌<◌, Bool, true, false, ◌&&◌, ◌||◌, not, cond, List, [], ◌∷◌, ◌++◌, length, drop, Option, Some, None, refl, sym, ap, ◌∙◌, arith, length-append}
+use Rattle.std.specs.Prelude.{ℤ, is_some, is_none, option_map, nat_eq, nat_lt}
+use Rattle.std.specs.List.{list_any}
+use Rattle.wsm_record.specs.declared.Kind.{Kind}
+use Rattle.wsm_bytecode.specs.declared.Instr.{Instr}
+use Rattle.wsm_bytecode.specs.declared.Instr.TheVariants.{Jump, JumpIfFalse, Fold, Return}
+use Rattle.wsm_bytecode.specs.declared.SectionId.{SectionId}
+use Rattle.wsm_bytecode.specs.declared.SectionId.TheVariants.{Where, Update, Fire}
+use Rattle.wsm_verifier.specs.declared.rejection.Rule.{Rule}
+use Rattle.wsm_verifier.specs.declared.known.Known.{Known}
+use Rattle.wsm_verifier.specs.Labels.{State, Reached, next, pops, pushed, folded_after}
+use Rattle.wsm_verifier.specs.Rules.{Setting, may_stand, types_fit, folds_again, may_divide_by_zero, accumulator_leaves, overflows, fold_missing, bad_jump, goes_on, first_of, tests, fault_of}
+use Rattle.wsm_compiler.proofs.Hulls.{no}
+use Rattle.wsm_compiler.proofs.Parts.{none≢some, Labelled, one}
+
+any_test : (ts : List (Rule × Bool)) → is_some (first_of ts) ≡ list_any (λ t. t.1) ts
+any_test [] = refl
+any_test (t ∷ ts) = elim (t.1) as (λ b. is_some (cond b (Some (t.0)) (first_of ts)) ≡ (b || list_any (λ t. t.1) ts)) [ true ↦ refl | false ↦ any_test ts ]
+
+-- whether a rule holds, where it is known of each
+pub tested : (c : Setting) (p : ℕ) (i : Instr) (s : State) (b1 b2 b3 b4 b5 b6 b7 b8 b9 b10 b11 : Bool) →
+    not (may_stand c.section i) ≡ b1 → nat_lt (length s.stack) (pops i) ≡ b2 → not (types_fit c.kinds c.ends i s.stack) ≡ b3 → folds_again i s.folded ≡ b4 →
+    may_divide_by_zero i s.stack ≡ b5 → is_none (pushed c.ranges i s.stack) ≡ b6 → accumulator_leaves c.records c.kinds i s.stack ≡ b7 →
+    overflows s.stack (pushed c.ranges i s.stack) (pops i) ≡ b8 → fold_missing c.section i s.folded ≡ b9 → bad_jump c.n p i ≡ b10 → (goes_on i && nat_eq (suc p) c.n) ≡ b11 →
+    is_some (fault_of c p i (Reached s)) ≡ (b1 || (b2 || (b3 || (b4 || (b5 || (b6 || (b7 || (b8 || (b9 || (b10 || (b11 || false)))))))))))
+tested c p i s b1 b2 b3 b4 b5 b6 b7 b8 b9 b10 b11 h1 h2 h3 h4 h5 h6 h7 h8 h9 h10 h11 =
+    any_test (tests c p i s)
+    ∙ (λ j. h1 j || (h2 j || (h3 j || (h4 j || (h5 j || (h6 j || (h7 j || (h8 j || (h9 j || (h10 j || (h11 j || false)))))))))))
+
+-- an instruction that goes on to the next place, and folds nothing
+abbrev pub plain : Instr → Bool
+plain (Jump t) = false
+plain (JumpIfFalse t) = false
+plain (Fold a) = false
+plain Return = false
+plain _ = true
+
+pub plain_next : (i : Instr) (k : ℕ) → plain i ≡ true → next i k ≡ suc k ∷ []
+plain_next (Jump t) k h = no h
+plain_next (JumpIfFalse t) k h = no h
+plain_next Return k h = no h
+plain_next i k h = refl
+
+plain_again : (i : Instr) (fs : List Bool) → plain i ≡ true → folds_again i fs ≡ false
+plain_again (Fold a) fs h = no h
+plain_again i fs h = refl
+
+plain_leaves : (n : ℤ) (ks : List Kind) (i : Instr) (s : List Known) → plain i ≡ true → accumulator_leaves n ks i s ≡ false
+plain_leaves n ks (Fold a) s h = no h
+plain_leaves n ks i s h = refl
+
+plain_missing : (id : SectionId) (i : Instr) (fs : List Bool) → plain i ≡ true → fold_missing id i fs ≡ false
+plain_missing Update Return fs h = no h
+plain_missing Where i fs h = refl
+plain_missing Fire i fs h = refl
+plain_missing Update i fs h = refl
+
+plain_jumps : (n p : ℕ) (i : Instr) → plain i ≡ true → bad_jump n p i ≡ false
+plain_jumps n p (Jump t) h = no h
+plain_jumps n p (JumpIfFalse t) h = no h
+plain_jumps n p i h = refl
+
+plain_folded : (i : Instr) (fs : List Bool) → plain i ≡ true → folded_after i fs ≡ fs
+plain_folded (Fold a) fs h = no h
+plain_folded i fs h = refl
+
+and_false : (b : Bool) → (b && false) ≡ false
+and_false true = refl
+and_false false = refl
+
+-- a place has one behind it
+pub not_last : (b : Bool) (p n : ℕ) → suc p < n → (b && nat_eq (suc p) n) ≡ false
+not_last b p n h = let e : nat_eq (suc p) n ≡ false = grind arith in ap (λ x. b && x) e ∙ and_false b
+
+-- operands on a stack, the last first
+abbrev pub stacked : List Known → State → State
+stacked ops s = record { stack = ops ++ s.stack; folded = s.folded }
+
+abbrev pub with_known : Known → State → State
+with_known x s = record { stack = x ∷ s.stack; folded = s.folded }
+
+abbrev pub pushed_on : State → Option Known → Option State
+pushed_on s o = option_map (λ x. with_known x s) o
+
+enough : (ops s : List Known) (n : ℕ) → n ≡ length ops → nat_lt (length (ops ++ s)) n ≡ false
+enough ops s n h = let l = length-append ops s in grind (arith, l, h)
+
+has_room : (ops s : List Known) (p : Option Known) (o : Option (List Known)) (n : ℕ) → o ≡ option_map (λ x. x ∷ []) p → n ≡ length ops → length s < 32 → overflows (ops ++ s) o n ≡ false
+has_room ops s None o n e h l = ap (λ x. overflows (ops ++ s) x n) e
+has_room ops s (Some x) o n e h l =
+    let m = length-append ops s in
+    let f : nat_lt (32 + n) (length (ops ++ s) + 1) ≡ false = grind (arith, m, h, l) in
+    ap (λ x. overflows (ops ++ s) x n) e ∙ f
+
+none_alone : (p : Option Known) → is_none (option_map (λ (x : Known). x ∷ []) p) ≡ is_none p
+none_alone None = refl
+none_alone (Some x) = refl
+
+-- it faults where it may not stand, where types don't fit, or where arithmetic has no interval
+verdict : (stands types divides : Bool) (p : Option Known) → (divides ≡ true → is_none p ≡ true) →
+    (not stands || (false || (not types || (false || (divides || (is_none p || (false || (false || (false || (false || (false || false))))))))))) ≡ is_none (cond (stands && types) p None)
+verdict false types divides p h = refl
+verdict true false divides p h = refl
+verdict true true true p h = sym (h refl)
+verdict true true false None h = refl
+verdict true true false (Some x) h = refl
+
+map_twice : {A B D : Type 0} (f : A → B) (g : B → D) (o : Option A) → option_map g (option_map f o) ≡ option_map (λ x. g (f x)) o
+map_twice f g None = refl
+map_twice f g (Some x) = refl
+
+pub drop_front : {A : Type 0} (xs ys : List A) → drop (length xs) (xs ++ ys) ≡ ys
+drop_front [] ys = refl
+drop_front (x ∷ xs) ys = drop_front xs ys
+
+-- what is pushed, in place of the first n values
+abbrev laid : List Known → List Bool → ℕ → List Known → State
+laid below fs n vs = record { stack = vs ++ drop n below; folded = fs }
+
+abbrev over : List Known → List Bool → Known → State
+over below fs x = record { stack = x ∷ below; folded = fs }
+
+given_some : (s t : State) (b : Bool) (p : Option Known) → pushed_on s (cond b p None) ≡ Some t → pushed_on s p ≡ Some t
+given_some s t true p h = h
+given_some s t false p h = none≢some h
+
+-- a plain instruction with its operands on the stack pushes what it makes of them, or faults
+pub acting : (e : State) (c : Setting) (k : ℕ) (i : Instr) (ops : List Known) (s : State) (types : Bool) (p : Option Known) →
+    plain i ≡ true → pops i ≡ length ops → types_fit c.kinds c.ends i (ops ++ s.stack) ≡ types → pushed c.ranges i (ops ++ s.stack) ≡ option_map (λ x. x ∷ []) p →
+    (may_divide_by_zero i (ops ++ s.stack) ≡ true → is_none p ≡ true) → length s.stack < 32 → suc k < c.n →
+    Labelled e c k (i ∷ []) (stacked ops s) (pushed_on s (cond (may_stand c.section i && types) p None))
+acting e c k i ops s types p pl popped fit is div room more =
+    let st = stacked ops s in
+    let d = may_divide_by_zero i (ops ++ s.stack) in
+    one e c k i st (pushed_on s (cond (may_stand c.section i && types) p None)) (plain_next i k pl)
+    (
+    tested c k i st (not (may_stand c.section i)) false (not types) false d (is_none p) false false false false false
+    refl (enough ops s.stack (pops i) popped) (ap not fit) (plain_again i s.folded pl) refl (ap is_none is ∙ none_alone p) (plain_leaves c.records c.kinds i (ops ++ s.stack) pl)
+    (has_room ops s.stack p (pushed c.ranges i (ops ++ s.stack)) (pops i) is popped room) (plain_missing c.section i s.folded pl) (plain_jumps c.n k i pl) (not_last (goes_on i) k c.n more)
+    ∙ verdict (may_stand c.section i) types d p div
+    ∙ sym (some_none s (cond (may_stand c.section i && types) p None))
+    )
+    (λ t h.
+    (λ j. option_map (laid (ops ++ s.stack) (plain_folded i s.folded pl j) (popped j)) (is j))
+    ∙ map_twice (λ x. x ∷ []) (laid (ops ++ s.stack) s.folded (length ops)) p
+    ∙ ap (λ below. option_map (over below s.folded) p) (drop_front ops s.stack)
+    ∙ given_some s t (may_stand c.section i && types) p h)
+  where
+    some_none : (s : State) (o : Option Known) → is_none (pushed_on s o) ≡ is_none o
+    some_none s None = refl
+    some_none s (Some x) = refl

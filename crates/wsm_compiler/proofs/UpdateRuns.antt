@@ -1,0 +1,199 @@
+-- A run of UPDATE folds the meaning of each aggregate's operand, or traps where one has none.
+use Rattle.std.proofs.Common.{◌≡◌, inl, inr, ℕ, suc, ◌+◌, ◌≤◌, true, false, not, cond, List, [], ◌∷◌, ◌++◌, length, map, replicate, Option, Some, None, refl, sym, ap, subst, ◌∙◌, arith, append_assoc, length-append}
+use Rattle.std.specs.Prelude.{max, nat_lt, is_some, unwrap_or, option_map, slice_get, slice_set}
+use Rattle.std.specs.List.{list_all}
+use Rattle.wsm_record.specs.declared.event.Value.{Value}
+use Rattle.wsm_record.specs.declared.event.Value.TheVariants.{Int, Bool as Truth', Enum}
+use Rattle.wsm_record.specs.declared.words.Kind.{Kind}
+use Rattle.wsm_record.specs.declared.words.Kind.TheVariants.{Sum, Min, Max, Any, All}
+use Rattle.wsm_bytecode.specs.declared.instr.CellType.TheVariants as types
+use Rattle.wsm_bytecode.specs.declared.instr.Instr.TheVariants as instr
+use Rattle.wsm_bytecode.specs.declared.instr.SectionId.TheVariants.{Update}
+use Rattle.wsm_bytecode.specs.declared.program.Budget.{Budget as Stated}
+use Rattle.wsm_bytecode.specs.Program.{kind_type}
+use Rattle.wsm_machine.specs.declared.outcome.Trap.TheVariants.{Underflow, WrongType, FoldTwice}
+use Rattle.wsm_machine.specs.declared.run.Ran.{Ran}
+use Rattle.wsm_machine.specs.Inputs.{Inputs}
+use Rattle.wsm_machine.specs.Step.{Setting, setting, State, Goes, step, unless, type_of, value_of, is_type, folds_twice}
+use Rattle.wsm_machine.specs.Run.{run_at}
+use Rattle.wsm_query.specs.Tree.{Query}
+use Rattle.wsm_check.specs.Types.{ExprTy, InAggregate, operand_ty}
+use Rattle.wsm_check.specs.Sizes.{Acc, accumulators, accumulators_of, size, need, folds_size, need_of_folds}
+use Rattle.wsm_compiler.specs.Meaning.{Scene, on_record}
+use Rattle.wsm_compiler.specs.Code.{folds, update_section}
+use Rattle.wsm_compiler.specs.Program.{program_stating, stated, needed_of, program_of}
+use Rattle.wsm_compiler.specs.Runs.{of_ty, cell, ServesAccs, state, topped, Gives, StandsAt}
+use Rattle.wsm_compiler.specs.Sections.{record_fits, in_bounds, folded_values, Folds, UpdateRuns}
+use Rattle.wsm_compiler.proofs.Visits.{nil_right}
+use Rattle.wsm_compiler.proofs.Hulls.{no}
+use Rattle.wsm_compiler.proofs.Reading.{in_column}
+use Rattle.wsm_compiler.proofs.Checked.{fine}
+use Rattle.wsm_compiler.proofs.Folding.{AccsTyped, length-folds, some_folds_size}
+use Rattle.wsm_compiler.proofs.Machine.{run_goes, gives_on}
+use Rattle.wsm_compiler.proofs.Running.{split_code}
+use Rattle.wsm_compiler.proofs.Serving.{serves_update}
+use Rattle.wsm_compiler.proofs.SectionRuns.{stands_all, return_ends, code_means, means_has}
+
+-- ---- accumulators, of which the first are folded
+
+unfolded_at : (done rest : List (Option Value)) → folds_twice (instr.Fold (length done)) (done ++ None ∷ rest) ≡ false
+unfolded_at [] rest = refl
+unfolded_at (v ∷ done) rest = unfolded_at done rest
+
+set_at : (done rest : List (Option Value)) (v : Value) → slice_set (done ++ None ∷ rest) (length done) (Some v) ≡ (done ++ Some v ∷ []) ++ rest
+set_at [] rest v = refl
+set_at (w ∷ done) rest v = ap (λ vs. w ∷ vs) (set_at done rest v)
+
+length-map : (vs : List Value) → length (map (λ (v : Value). Some v) vs) ≡ length vs
+length-map [] = refl
+length-map (v ∷ vs) = ap suc (length-map vs)
+
+map-append : (vs ws : List Value) → map (λ (v : Value). Some v) (vs ++ ws) ≡ map (λ (v : Value). Some v) vs ++ map (λ (v : Value). Some v) ws
+map-append [] ws = refl
+map-append (v ∷ vs) ws = ap (λ xs. Some v ∷ xs) (map-append vs ws)
+
+all_folded : (vs : List Value) → list_all is_some (map (λ (v : Value). Some v) vs ++ []) ≡ true
+all_folded [] = refl
+all_folded (v ∷ vs) = all_folded vs
+
+kind_at : (before accs : List Acc) (acc : Acc) → slice_get (map (λ acc. acc.kind) (before ++ acc ∷ accs)) (length before) ≡ Some acc.kind
+kind_at [] accs acc = refl
+kind_at (x ∷ before) accs acc = kind_at before accs acc
+
+folds_type : (kind : Kind) (v : Value) → of_ty (operand_ty kind) (Some v) ≡ true → is_type (kind_type kind) (type_of (cell (operand_ty kind) v)) ≡ true
+folds_type Sum (Int n) h = refl
+folds_type Sum (Truth' b) h = no h
+folds_type Sum (Enum i) h = no h
+folds_type Min (Int n) h = refl
+folds_type Min (Truth' b) h = no h
+folds_type Min (Enum i) h = no h
+folds_type Max (Int n) h = refl
+folds_type Max (Truth' b) h = no h
+folds_type Max (Enum i) h = no h
+folds_type Any (Int n) h = no h
+folds_type Any (Truth' b) h = refl
+folds_type Any (Enum i) h = no h
+folds_type All (Int n) h = no h
+folds_type All (Truth' b) h = refl
+folds_type All (Enum i) h = no h
+
+value_is : (t : ExprTy) (v : Value) → value_of (cell t v) ≡ v
+value_is t (Int n) = refl
+value_is t (Truth' b) = refl
+value_is t (Enum i) = refl
+
+one_there : (n : ℕ) → nat_lt (suc n) 1 ≡ false
+one_there n = grind arith
+
+-- a run that goes on as one that folds
+folds_on : (r p : Ran) (o : Option (List Value)) → r.outcome ≡ p.outcome → r.stack ≡ p.stack → r.folds ≡ p.folds → Folds p o → Folds r o
+folds_on r p None e l m (inl h) = inl (e ∙ h)
+folds_on r p None e l m (inr h) = inr (e ∙ h)
+folds_on r p (Some vs) e l m h = (e ∙ h.0, l ∙ h.1, m ∙ h.2)
+
+pub folds_behind : (c : Setting) (s t : State) (o : Option (List Value)) → Gives c s (Some t) → Folds (run_at c t) o → Folds (run_at c s) o
+folds_behind c s t o g h = folds_on (run_at c s) (run_at c t) o (ap (λ (r : Ran). r.outcome) g.1) (ap (λ (r : Ran). r.stack) g.1) (ap (λ (r : Ran). r.folds) g.1) h
+
+abbrev with_front : List Value → Option (List Value) → Option (List Value)
+with_front vs None = None
+with_front vs (Some ws) = Some (vs ++ ws)
+
+abbrev one_more : Value → Option (List Value) → Option (List Value)
+one_more v o = elim o [ None ↦ None | Some xs ↦ Some (v ∷ xs) ]
+
+front_moved : (vs : List Value) (v : Value) (o : Option (List Value)) → with_front (vs ++ v ∷ []) o ≡ with_front vs (one_more v o)
+front_moved vs v None = refl
+front_moved vs v (Some ws) = ap Some (append_assoc vs (v ∷ []) ws)
+
+with_none : (o : Option (List Value)) → with_front [] o ≡ o
+with_none None = refl
+with_none (Some vs) = refl
+
+module _ (q : Query) (b : Stated) (d : Inputs) (fit : record_fits q d ≡ true) where
+  abbrev c : Setting
+  c = setting (program_stating q b) Update d
+
+  abbrev s : Scene
+  s = on_record d.key d.values
+
+  abbrev held : List Value → ℕ → List (Option Value)
+  held vs n = map (λ (v : Value). Some v) vs ++ replicate n None
+
+  none_inside : (accs : List Acc) → ServesAccs c InAggregate s 0 accs
+  none_inside accs e = no (ap in_column e)
+
+  -- a fold takes the value on top into its accumulator
+  fold_step : (k : ℕ) (vs : List Value) (n a : ℕ) (kind : Kind) (v : Value) → length vs ≡ a → of_ty (operand_ty kind) (Some v) ≡ true → slice_get c.code k ≡ Some (instr.Fold a) → slice_get c.kinds a ≡ Some kind →
+      Gives c (state k (cell (operand_ty kind) v ∷ []) (held vs (suc n))) (Some (state (k + 1) [] (held (vs ++ v ∷ []) n)))
+  fold_step k vs n a kind v l has at is =
+      let done = map (λ (v : Value). Some v) vs in
+      let rest : List (Option Value) = replicate n None in
+      let x = cell (operand_ty kind) v in
+      let m = state k (x ∷ []) (done ++ None ∷ rest) in
+      let place : a ≡ length done = sym (length-map vs ∙ l) in
+      let set = slice_set (done ++ None ∷ rest) (length done) (Some (value_of x)) in
+      let taken : is_type (unwrap_or (option_map kind_type (slice_get c.kinds (length done))) types.Int) (type_of x) ≡ true =
+      ap (λ o. is_type (unwrap_or (option_map kind_type o) types.Int) (type_of x)) (subst (λ p. slice_get c.kinds p ≡ Some kind) place is) ∙ folds_type kind v has in
+      let next : set ≡ (done ++ Some v ∷ []) ++ rest = ap (λ w. slice_set (done ++ None ∷ rest) (length done) (Some w)) (value_is (operand_ty kind) v) ∙ set_at done rest v in
+      let goes : step c m (instr.Fold (length done)) ≡ Goes (state (k + 1) [] set) =
+      (λ i. unless (cond (one_there 0 i) (Some Underflow) (cond (not (taken i)) (Some WrongType) (cond (unfolded_at done rest i) (Some FoldTwice) None))) (Goes (state (k + 1) [] set))) in
+      subst (λ fs. Gives c m (Some (state (k + 1) [] fs))) (next ∙ ap (λ fs. fs ++ rest) (sym (map-append vs (v ∷ []))))
+      (run_goes c m (state (k + 1) [] set) (instr.Fold (length done)) (subst (λ p. slice_get c.code k ≡ Some (instr.Fold p)) place at) goes)
+
+  folds_run : (k : ℕ) (before accs : List Acc) (vs : List Value) → before ++ accs ≡ accumulators q → length vs ≡ length before → AccsTyped q b accs → StandsAt c.code k (folds q k (length before) accs) → k + folds_size accs ≤ length c.code → need_of_folds accs ≤ 32 →
+      Folds (run_at c (state k [] (held vs (length accs)))) (with_front vs (folded_values q s accs))
+  folds_run k before [] vs e l h at inside room =
+      let st = state k [] (held vs 0) in
+      let r = return_ends c st at.0 (all_folded vs) in
+      (ap (λ (r : Ran). r.outcome) r, ap (λ (r : Ran). r.stack) r, ap (λ (r : Ran). r.folds) r ∙ nil_right (map (λ (v : Value). Some v) vs) ∙ ap (map (λ (v : Value). Some v)) (sym (nil_right vs)))
+  folds_run k before (acc ∷ accs) vs e l h at inside room =
+      let y = acc.operand in
+      let t = operand_ty acc.kind in
+      let a = length before in
+      let j = k + size y in
+      let parts = split_code q c.code k 0 y (instr.Fold a ∷ folds q (j + 1) (suc a) accs) at in
+      let serves = serves_update q b d fit in
+      let la = length-append before (acc ∷ []) in
+      let count : length (before ++ acc ∷ []) ≡ suc a = omega (arith, la) in
+      by_value k j vs (length accs) acc (folded_values q s accs) (in_bounds q s 0 y) (means_has c q InAggregate s serves 0 y t h.0 (none_inside (accumulators_of y)))
+      (code_means c q InAggregate s serves k 0 y t h.0 (none_inside (accumulators_of y)) parts.0 (omega (arith, inside, some_folds_size q b accs)) [] (held vs (suc (length accs))) (first_room (need y) _ room))
+      (λ v has.
+      let lv = length-append vs (v ∷ []) in (
+        fold_step j vs (length accs) a acc.kind v l has parts.1.0 (ap (λ xs. slice_get (map (λ acc. acc.kind) xs) a) (sym e) ∙ kind_at before accs acc),
+        folds_run (j + 1) (before ++ acc ∷ []) accs (vs ++ v ∷ []) (append_assoc before (acc ∷ []) accs ∙ e) (omega (arith, lv, count, l)) h.1 (subst (λ n. StandsAt c.code (j + 1) (folds q (j + 1) n accs)) (sym count) parts.1.1) (omega (arith, inside)) (rest_room (need y) _ room),
+      ))
+    where
+      first_room : (l m : ℕ) → max l m ≤ 32 → 0 + l ≤ 32
+      first_room l m h = omega (arith, h)
+
+      rest_room : (l m : ℕ) → max l m ≤ 32 → m ≤ 32
+      rest_room l m h = omega (arith, h)
+
+      by_value : (k j : ℕ) (vs : List Value) (n : ℕ) (acc : Acc) (rest : Option (List Value)) (o : Option Value) → of_ty (operand_ty acc.kind) o ≡ true →
+          Gives c (state k [] (held vs (suc n))) (topped j [] (held vs (suc n)) (operand_ty acc.kind) o) →
+          ((v : Value) → of_ty (operand_ty acc.kind) (Some v) ≡ true →
+          Gives c (state j (cell (operand_ty acc.kind) v ∷ []) (held vs (suc n))) (Some (state (j + 1) [] (held (vs ++ v ∷ []) n))) × Folds (run_at c (state (j + 1) [] (held (vs ++ v ∷ []) n))) (with_front (vs ++ v ∷ []) rest)) →
+          Folds (run_at c (state k [] (held vs (suc n)))) (with_front vs (elim o [ None ↦ None | Some v ↦ elim rest [ None ↦ None | Some xs ↦ Some (v ∷ xs) ] ]))
+      by_value k j vs n acc rest None has g go = g
+      by_value k j vs n acc rest (Some v) has g go =
+          let st = state k [] (held vs (suc n)) in
+          let m = state j (cell (operand_ty acc.kind) v ∷ []) (held vs (suc n)) in
+          let u = state (j + 1) [] (held (vs ++ v ∷ []) n) in
+          let p = go v has in
+          folds_behind c st u (with_front vs (one_more v rest)) (gives_on c st m (Some u) g p.0) (subst (λ o. Folds (run_at c u) o) (front_moved vs v rest) p.1)
+
+pub update_runs : (q : Query) → UpdateRuns q
+update_runs q checked d fit =
+    let b = stated (needed_of q) q.budget in
+    let f = fine q b checked in
+    let c = setting (program_of q) Update d in
+    let l = length-folds q b 0 0 (accumulators q) in
+    let none : List (Option Value) = replicate (length (accumulators q)) None in
+    let same : replicate (length c.kinds) None ≡ none = ap (λ n. replicate n None) (length-kinds (accumulators q)) in
+    subst (λ fs. Folds (run_at c (state 0 [] fs)) (folded_values q (on_record d.key d.values) (accumulators q))) (sym same)
+    (subst (λ o. Folds (run_at c (state 0 [] none)) o) (with_none (folded_values q (on_record d.key d.values) (accumulators q)))
+    (folds_run q b d fit 0 [] (accumulators q) [] refl refl f.accs (stands_all (update_section q)) (omega (arith, l)) f.update_need))
+  where
+    length-kinds : (accs : List Acc) → length (map (λ acc. acc.kind) accs) ≡ length accs
+    length-kinds [] = refl
+    length-kinds (x ∷ accs) = ap suc (length-kinds accs)

@@ -1,0 +1,185 @@
+-- What an expression of a type means, as code computes it, is a value of that type.
+use Rattle.std.proofs.Common.{◌≡◌, ℕ, ◌+◌, Bool, true, false, ◌&&◌, cond, List, ◌++◌, Option, Some, None, Ok, refl, sym, ap, subst, ◌∙◌, arith}
+use Rattle.std.specs.Prelude.{ℤ, pos, slice_get, int_div, int_rem}
+use Rattle.std.specs.Ordering.{int_eq}
+use Rattle.wsm_record.specs.declared.event.Value.{Value}
+use Rattle.wsm_record.specs.declared.event.Value.TheVariants.{Int, Bool as Truth', Enum}
+use Rattle.wsm_record.specs.Name.{is_among}
+use Rattle.wsm_interval.specs.Interval.{in_i64}
+use Rattle.wsm_query.specs.declared.expr.Op.{Op}
+use Rattle.wsm_query.specs.declared.expr.Op.TheVariants.{Add, Sub, Mul, Div, Rem, Eq, Ne, Lt, Le, Gt, Ge}
+use Rattle.wsm_query.specs.Tree.{Query, Expr, Number, Truth, Field, EnumName, Key, KeyName, Count, Aggregate, If, Brackets, Minus, Not, Binary, And, Or}
+use Rattle.wsm_check.specs.Names.{field_names, field_place, type_of, names_of}
+use Rattle.wsm_check.specs.Types.{ExprTy, IntValue, BoolValue, EnumValue, ty_eq, Around, InAggregate, operand_ty, op_ty, typed}
+use Rattle.wsm_check.specs.Sizes.{Acc, accumulators_of, aggregates}
+use Rattle.wsm_machine.specs.Step.{Setting}
+use Rattle.wsm_compiler.specs.Meaning.{Scene, on_numbers, on_same, on_two, both, minus, negated, chosen}
+use Rattle.wsm_compiler.specs.Bounded.{kept, bounded_from}
+use Rattle.wsm_compiler.specs.Runs.{of_ty, Serves, ServesAccs}
+use Rattle.wsm_compiler.proofs.Hulls.{no}
+use Rattle.wsm_compiler.proofs.Suiting.{ok_is, op_typed, result_of}
+use Rattle.wsm_compiler.proofs.Finding.{cond_ok, entered_is, op_is, two_types, if_types, logic_types, unary_is, get_left, get_right}
+use Rattle.wsm_compiler.proofs.Sizes.{length-accumulators_of}
+
+-- ---- accumulators of parts
+
+pub serves_left : (c : Setting) (around : Around) (s : Scene) (a : ℕ) (xs ys : List Acc) → ServesAccs c around s a (xs ++ ys) → ServesAccs c around s a xs
+serves_left c around s a xs ys h e j acc get = h e j acc (get_left xs ys j acc get)
+
+pub serves_right : (c : Setting) (around : Around) (s : Scene) (a : ℕ) (x : Expr) (ys : List Acc) → ServesAccs c around s a (accumulators_of x ++ ys) → ServesAccs c around s (a + aggregates x) ys
+serves_right c around s a x ys h e j acc get =
+    let l = length-accumulators_of x in
+    let there : a + (aggregates x + j) ≡ a + aggregates x + j = omega arith in
+    let g = h e (aggregates x + j) acc (ap (λ n. slice_get (accumulators_of x ++ ys) (n + j)) (sym l) ∙ get_right (accumulators_of x) ys j ∙ get) in (
+      g.0,
+      ap (λ n. s.aggregate n acc.kind acc.operand) (sym there) ∙ g.1,
+      g.2,
+      ap (λ n. slice_get c.inputs.accs n) (sym there) ∙ g.3,
+    )
+
+-- ---- operators
+
+if_kept : (n : ℤ) (b : Bool) → of_ty IntValue (cond b (Some (Int n)) None) ≡ true
+if_kept n true = refl
+if_kept n false = refl
+
+kept_has : (t : ExprTy) (o : Option Value) → of_ty t o ≡ true → of_ty t (kept o) ≡ true
+kept_has t None h = refl
+kept_has IntValue (Some (Int n)) h = if_kept n (in_i64 n)
+kept_has BoolValue (Some (Int n)) h = no h
+kept_has (EnumValue e) (Some (Int n)) h = no h
+kept_has t (Some (Truth' b)) h = h
+kept_has t (Some (Enum i)) h = h
+
+unless_zero : (b : Bool) (n : ℤ) → of_ty IntValue (cond b None (Some (Int n))) ≡ true
+unless_zero true n = refl
+unless_zero false n = refl
+
+numbers_have : (op : Op) (x y : ℤ) → of_ty (result_of op) (on_numbers op x y) ≡ true
+numbers_have Add x y = refl
+numbers_have Sub x y = refl
+numbers_have Mul x y = refl
+numbers_have Div x y = unless_zero (int_eq y (pos 0)) (int_div x y)
+numbers_have Rem x y = unless_zero (int_eq y (pos 0)) (int_rem x y)
+numbers_have Eq x y = refl
+numbers_have Ne x y = refl
+numbers_have Lt x y = refl
+numbers_have Le x y = refl
+numbers_have Gt x y = refl
+numbers_have Ge x y = refl
+
+same_have : (op : Op) (b : Bool) → of_ty BoolValue (on_same op b) ≡ true
+same_have Eq b = refl
+same_have Ne b = refl
+same_have Add b = refl
+same_have Sub b = refl
+same_have Mul b = refl
+same_have Div b = refl
+same_have Rem b = refl
+same_have Lt b = refl
+same_have Le b = refl
+same_have Gt b = refl
+same_have Ge b = refl
+
+-- an operator on values that are no numbers
+not_numbers : (op : Op) (t u : ExprTy) (b : Bool) → ty_eq t IntValue ≡ false → op_typed op t u ≡ true → of_ty (result_of op) (on_same op b) ≡ true
+not_numbers Eq t u b n h = refl
+not_numbers Ne t u b n h = refl
+not_numbers Add t u b n h = no (sym (ap (λ x. x && ty_eq u IntValue) n) ∙ h)
+not_numbers Sub t u b n h = no (sym (ap (λ x. x && ty_eq u IntValue) n) ∙ h)
+not_numbers Mul t u b n h = no (sym (ap (λ x. x && ty_eq u IntValue) n) ∙ h)
+not_numbers Div t u b n h = no (sym (ap (λ x. x && ty_eq u IntValue) n) ∙ h)
+not_numbers Rem t u b n h = no (sym (ap (λ x. x && ty_eq u IntValue) n) ∙ h)
+not_numbers Lt t u b n h = no (sym (ap (λ x. x && ty_eq u IntValue) n) ∙ h)
+not_numbers Le t u b n h = no (sym (ap (λ x. x && ty_eq u IntValue) n) ∙ h)
+not_numbers Gt t u b n h = no (sym (ap (λ x. x && ty_eq u IntValue) n) ∙ h)
+not_numbers Ge t u b n h = no (sym (ap (λ x. x && ty_eq u IntValue) n) ∙ h)
+
+two_have : (op : Op) (t u : ExprTy) (v w : Value) → op_typed op t u ≡ true → of_ty t (Some v) ≡ true → of_ty u (Some w) ≡ true → of_ty (result_of op) (on_two op v w) ≡ true
+two_have op t u (Int x) (Int y) h l m = numbers_have op x y
+two_have op IntValue u (Truth' a) (Truth' b) h l m = no l
+two_have op BoolValue u (Truth' a) (Truth' b) h l m = not_numbers op BoolValue u _ refl h
+two_have op (EnumValue e) u (Truth' a) (Truth' b) h l m = no l
+two_have op IntValue u (Enum i) (Enum j) h l m = no l
+two_have op BoolValue u (Enum i) (Enum j) h l m = no l
+two_have op (EnumValue e) u (Enum i) (Enum j) h l m = not_numbers op (EnumValue e) u _ refl h
+two_have op t u (Int x) (Truth' b) h l m = refl
+two_have op t u (Int x) (Enum j) h l m = refl
+two_have op t u (Truth' a) (Int y) h l m = refl
+two_have op t u (Truth' a) (Enum j) h l m = refl
+two_have op t u (Enum i) (Int y) h l m = refl
+two_have op t u (Enum i) (Truth' b) h l m = refl
+
+both_have : (op : Op) (t u : ExprTy) (o p : Option Value) → op_typed op t u ≡ true → of_ty t o ≡ true → of_ty u p ≡ true → of_ty (result_of op) (kept (both (on_two op) o p)) ≡ true
+both_have op t u None p h l m = refl
+both_have op t u (Some v) None h l m = refl
+both_have op t u (Some v) (Some w) h l m = kept_has (result_of op) (on_two op v w) (two_have op t u v w h l m)
+
+minus_has : (o : Option Value) → of_ty IntValue o ≡ true → of_ty IntValue (kept (minus o)) ≡ true
+minus_has None h = refl
+minus_has (Some (Int n)) h = kept_has IntValue (minus (Some (Int n))) refl
+minus_has (Some (Truth' b)) h = refl
+minus_has (Some (Enum i)) h = refl
+
+negated_has : (o : Option Value) → of_ty BoolValue (negated o) ≡ true
+negated_has None = refl
+negated_has (Some (Int n)) = refl
+negated_has (Some (Truth' b)) = refl
+negated_has (Some (Enum i)) = refl
+
+chosen_has : (t : ExprTy) (o x y : Option Value) → of_ty t x ≡ true → of_ty t y ≡ true → of_ty t (chosen o x y) ≡ true
+chosen_has t None x y h l = refl
+chosen_has t (Some (Int n)) x y h l = refl
+chosen_has t (Some (Truth' true)) x y h l = h
+chosen_has t (Some (Truth' false)) x y h l = l
+chosen_has t (Some (Enum i)) x y h l = refl
+
+at_type : (o : Option Value) (u t : ExprTy) → u ≡ t → of_ty u o ≡ true → of_ty t o ≡ true
+at_type o u t e h = subst (λ x. of_ty x o ≡ true) e h
+
+pub value_has : (c : Setting) (q : Query) (around : Around) (s : Scene) → Serves c q around s → (a : ℕ) (e : Expr) (t : ExprTy) → typed q around e ≡ Ok t → ServesAccs c around s a (accumulators_of e) → of_ty t (bounded_from q s a e) ≡ true
+value_has c q around s serves a (Number n) t h accs = at_type (bounded_from q s a (Number n)) IntValue t (ok_is _ t h) (if_kept n (in_i64 n))
+value_has c q around s serves a (Truth b) t h accs = at_type (bounded_from q s a (Truth b)) BoolValue t (ok_is _ t h) refl
+value_has c q around s serves a (Field x) t h accs =
+    let f = serves.field x t h in kept_has t (s.field (field_place q.fields x)) (ap (of_ty t) f.1 ∙ f.2)
+value_has c q around s serves a (EnumName x y) t h accs =
+    at_type (bounded_from q s a (EnumName x y)) (EnumValue _) t (ok_is _ t (cond_ok (is_among x (field_names q.fields) && is_among y (names_of (type_of x q.fields))) _ _ t h)) refl
+value_has c q around s serves a Key t h accs = at_type (bounded_from q s a Key) (EnumValue 0) t (ok_is _ t h) refl
+value_has c q around s serves a (KeyName x) t h accs = at_type (bounded_from q s a (KeyName x)) (EnumValue 0) t (ok_is _ t (cond_ok (is_among x q.keys) _ _ t h)) refl
+value_has c q around s serves a Count t h accs =
+    let e = entered_is around (Ok IntValue) t h in
+    at_type (bounded_from q s a Count) IntValue t (ok_is _ t e.1) (kept_has IntValue s.count (ap (of_ty IntValue) (serves.count e.0)))
+value_has c q around s serves a (Aggregate kind e) t h accs =
+    let i = entered_is around _ t h in
+    let u = unary_is q InAggregate e (operand_ty kind) t i.1 in
+    let first : a + 0 ≡ a = omega arith in
+    let g = accs i.0 0 (record { kind = kind; operand = e }) refl in
+    at_type (bounded_from q s a (Aggregate kind e)) (operand_ty kind) t u.1
+    (kept_has (operand_ty kind) (s.aggregate a kind e) (ap (λ n. of_ty (operand_ty kind) (s.aggregate n kind e)) (sym first) ∙ ap (of_ty (operand_ty kind)) g.1 ∙ g.2))
+value_has c q around s serves a (If b x y) t h accs =
+    let p = if_types q around b x y t h in
+    let rest = serves_right c around s a b (accumulators_of x ++ accumulators_of y) accs in
+    let second = serves_right c around s (a + aggregates b) x (accumulators_of y) rest in
+    let place : a + aggregates b + aggregates x ≡ a + (aggregates b + aggregates x) = omega arith in
+    chosen_has t (bounded_from q s a b) (bounded_from q s (a + aggregates b) x) (bounded_from q s (a + (aggregates b + aggregates x)) y)
+    (value_has c q around s serves (a + aggregates b) x t p.first_is (serves_left c around s (a + aggregates b) (accumulators_of x) (accumulators_of y) rest))
+    (value_has c q around s serves (a + (aggregates b + aggregates x)) y t p.second_is (subst (λ n. ServesAccs c around s n (accumulators_of y)) place second))
+value_has c q around s serves a (Brackets e) t h accs = value_has c q around s serves a e t h accs
+value_has c q around s serves a (Minus e) t h accs =
+    let u = unary_is q around e IntValue t h in at_type (bounded_from q s a (Minus e)) IntValue t u.1 (minus_has (bounded_from q s a e) (value_has c q around s serves a e IntValue u.0 accs))
+value_has c q around s serves a (Not e) t h accs = let u = unary_is q around e BoolValue t h in at_type (bounded_from q s a (Not e)) BoolValue t u.1 (negated_has (bounded_from q s a e))
+value_has c q around s serves a (Binary op x y) t h accs =
+    let p = two_types q around x y (op_ty op) t h in
+    let o = op_is op p.left p.right t p.both in
+    at_type (bounded_from q s a (Binary op x y)) (result_of op) t o.1
+    (both_have op p.left p.right (bounded_from q s a x) (bounded_from q s (a + aggregates x) y) o.0
+    (value_has c q around s serves a x p.left p.left_is (serves_left c around s a (accumulators_of x) (accumulators_of y) accs))
+    (value_has c q around s serves (a + aggregates x) y p.right p.right_is (serves_right c around s a x (accumulators_of y) accs)))
+value_has c q around s serves a (And x y) t h accs =
+    let p = logic_types q around x y t h in
+    at_type (bounded_from q s a (And x y)) BoolValue t p.is
+    (chosen_has BoolValue (bounded_from q s a x) (bounded_from q s (a + aggregates x) y) (Some (Truth' false)) (value_has c q around s serves (a + aggregates x) y BoolValue p.right_is (serves_right c around s a x (accumulators_of y) accs)) refl)
+value_has c q around s serves a (Or x y) t h accs =
+    let p = logic_types q around x y t h in
+    at_type (bounded_from q s a (Or x y)) BoolValue t p.is
+    (chosen_has BoolValue (bounded_from q s a x) (Some (Truth' true)) (bounded_from q s (a + aggregates x) y) refl (value_has c q around s serves (a + aggregates x) y BoolValue p.right_is (serves_right c around s a x (accumulators_of y) accs)))

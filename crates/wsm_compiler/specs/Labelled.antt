@@ -1,0 +1,37 @@
+-- What the verifier knows behind the columns of a query: their ranges, each on those before.
+use Rattle.std.specs.Prelude.{◌≡◌, ℕ, ◌+◌, true, List, [], ◌∷◌, pos}
+use Rattle.wsm_interval.specs.Interval.{interval}
+use Rattle.wsm_verifier.specs.declared.known.Known.{Known}
+use Rattle.wsm_verifier.specs.declared.known.Known.TheVariants.{Number, Truth, NameOf}
+use Rattle.wsm_verifier.specs.Labels.{Label, Reached, label_at}
+use Rattle.wsm_verifier.specs.Rules.{entry, ranges_of_pane, update_visits}
+use Rattle.wsm_query.specs.Tree.{Query, Expr}
+use Rattle.wsm_check.specs.Checks.{IsChecked}
+use Rattle.wsm_check.specs.Sizes.{size}
+use Rattle.wsm_check.specs.Types.{ExprTy, IntValue, BoolValue, EnumValue, InColumn, typed}
+use Rattle.wsm_compiler.specs.Code.{fire_section}
+use Rattle.wsm_compiler.specs.Ranges.{Range, Unfit, NoNumber, Within, range, ranges_fit}
+use Rattle.wsm_compiler.specs.Program.{type_or_int, program_of}
+
+-- a number is in its range; where it has none no label is claimed
+abbrev pub number_as : Range → Known
+number_as (Within i) = Number i
+number_as NoNumber = Number (interval (pos 0) (pos 0))
+number_as Unfit = Number (interval (pos 0) (pos 0))
+
+-- a value of a type and a range, as the verifier knows it
+abbrev pub known_as : ExprTy → Range → Known
+known_as IntValue r = number_as r
+known_as BoolValue r = Truth
+known_as (EnumValue e) r = NameOf e
+
+-- behind the code of each column, from place k on, its range is known on top of what is below
+abbrev pub ColumnLabels : Query → (ℕ → Label) → ℕ → List Expr → List Known → Type 0
+ColumnLabels q label k [] below = Unit {0}
+ColumnLabels q label k (e ∷ es) below =
+    let x = known_as (type_or_int (typed q InColumn e)) (range q e) in
+    (label (k + size e) ≡ Reached (record { stack = x ∷ below; folded = (entry (program_of q)).folded })) × ColumnLabels q label (k + size e) es (x ∷ below)
+
+abbrev pub LabelsAreRanges : Query → Type 0
+LabelsAreRanges q = IsChecked q → ranges_fit q ≡ true →
+    ColumnLabels q (label_at (entry (program_of q)) (ranges_of_pane (program_of q) (update_visits (program_of q))) (fire_section q)) 0 q.columns []

@@ -1,0 +1,17 @@
+pub mod Meaning
+pub mod Ranges
+pub mod Code
+pub mod Bounded
+pub mod Program
+pub mod Means
+pub mod Runs
+pub mod Sections
+pub mod Folded
+pub mod Labelled
+pub mod Longest
+pub mod Sized
+pub mod Accepted
+pub mod Lawful
+pub mod SameMeaning
+pub mod SameLines
+pub mod Vectors

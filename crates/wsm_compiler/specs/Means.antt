@@ -1,0 +1,19 @@
+-- What a query means over a history: its clauses, with what WHERE, the columns and HAVING mean.
+use Rattle.std.specs.Prelude.{map, unsigned_abs}
+use Rattle.wsm_semantics.specs.Query.{Query as Meant}
+use Rattle.wsm_query.specs.Tree.{Query}
+use Rattle.wsm_compiler.specs.Meaning.{selects, row}
+use Rattle.wsm_compiler.specs.Program.{schema_of, every}
+
+abbrev pub meant : Query → Meant
+meant q = record {
+  clock = record { start = q.start; skew = q.skew; lateness = q.lateness; records = unsigned_abs q.records };
+  declared = schema_of q;
+  shape = q.shape;
+  mode = q.mode;
+  early = unsigned_abs (every q.early);
+  late = unsigned_abs (every q.late);
+  form = q.form;
+  selects = selects q;
+  row = λ key records. row q key (map (λ d. d.values) records);
+}

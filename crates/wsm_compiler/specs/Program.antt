@@ -1,0 +1,74 @@
+-- The program of a query.
+use Rattle.std.specs.Prelude.{map, ℤ, pos, unsigned_abs, Option, Some, None, Ok, Err}
+use Rattle.wsm_record.specs.Schema.{FieldType, Int, Truth, Enum, Declared as Schema}
+use Rattle.wsm_bytecode.specs.declared.instr.CellType.{CellType}
+use Rattle.wsm_bytecode.specs.declared.instr.CellType.TheVariants as types
+use Rattle.wsm_bytecode.specs.declared.program.Budget.{Budget as Stated}
+use Rattle.wsm_bytecode.specs.Program.{Program}
+use Rattle.wsm_verifier.specs.declared.costs.Costs.{Costs}
+use Rattle.wsm_verifier.specs.Costs.{needed}
+use Rattle.wsm_query.specs.Tree.{Query, Ty, IntTy, BoolTy, EnumTy, Budget, Expr}
+use Rattle.wsm_check.specs.Types.{ExprTy, IntValue, BoolValue, EnumValue, Typed, InColumn, typed}
+use Rattle.wsm_check.specs.Sizes.{accumulators}
+use Rattle.wsm_compiler.specs.Code.{where_section, update_section, fire_section}
+
+abbrev pub field_type : Ty → FieldType
+field_type (IntTy lo hi) = Int lo hi
+field_type BoolTy = Truth
+field_type (EnumTy names) = Enum names
+
+-- the keys and fields
+abbrev pub schema_of : Query → Schema
+schema_of q = record { keys = q.keys; fields = map (λ d. record { name = d.name; type = field_type d.ty }) q.fields }
+
+abbrev pub cell_type : ExprTy → CellType
+cell_type IntValue = types.Int
+cell_type BoolValue = types.Bool
+cell_type (EnumValue e) = types.Enum e
+
+-- a query that no check refuses has a type for each column
+abbrev pub type_or_int : Typed → ExprTy
+type_or_int (Ok t) = t
+type_or_int (Err f) = IntValue
+
+abbrev pub column_type : Query → Expr → CellType
+column_type q e = cell_type (type_or_int (typed q InColumn e))
+
+-- 0 where there is no count
+abbrev pub every : Option ℤ → ℤ
+every None = pos 0
+every (Some n) = n
+
+abbrev pub program_stating : Query → Stated → Program
+program_stating q stated = record {
+  header = record {
+    schema = schema_of q;
+    start = q.start;
+    skew = q.skew;
+    lateness = q.lateness;
+    records = q.records;
+    shape = q.shape;
+    mode = q.mode;
+    early = every q.early;
+    late = every q.late;
+    form = q.form;
+    kinds = map (λ acc. acc.kind) (accumulators q);
+    columns = map (column_type q) q.columns;
+    budget = stated;
+  };
+  selection = where_section q;
+  update = update_section q;
+  fire = fire_section q;
+}
+
+-- what the program needs, whatever it states
+abbrev pub needed_of : Query → Costs
+needed_of q = needed (program_stating q (record { per_record = 0; per_pane = 0; held = 0 }))
+
+-- a query without BUDGET states what it needs
+abbrev pub stated : Costs → Option Budget → Stated
+stated need None = record { per_record = need.per_record; per_pane = need.per_pane; held = need.held }
+stated need (Some b) = record { per_record = unsigned_abs b.per_record; per_pane = unsigned_abs b.per_pane; held = unsigned_abs b.held }
+
+abbrev pub program_of : Query → Program
+program_of q = program_stating q (stated (needed_of q) q.budget)

@@ -1,0 +1,92 @@
+-- The ranges of a query's expressions, by their structure.
+use Rattle.std.specs.Prelude.{Bool, true, false, ◌&&◌, cond, ◌++◌, ℤ, pos, ◌*ℤ◌, Option, Some, None}
+use Rattle.std.specs.List.{list_all}
+use Rattle.std.specs.Int.{int_min, int_max}
+use Rattle.wsm_record.specs.declared.words.Kind.{Kind}
+use Rattle.wsm_record.specs.declared.words.Kind.TheVariants.{Sum, Min, Max}
+use Rattle.wsm_interval.specs.declared.interval.Interval.{Interval}
+use Rattle.wsm_interval.specs.Interval.{interval, in_i64, add, sub, mul, div, rem, neg, hull}
+use Rattle.wsm_query.specs.declared.expr.Op.{Op}
+use Rattle.wsm_query.specs.declared.expr.Op.TheVariants.{Add, Sub, Mul, Div, Rem}
+use Rattle.wsm_query.specs.Tree.{Query, Ty, IntTy, BoolTy, EnumTy, Expr, Number, Field, Count, Aggregate, If, Brackets, Minus, Not, Binary, And, Or}
+use Rattle.wsm_check.specs.Names.{type_of}
+use Rattle.wsm_check.specs.Sizes.{in_option, fired}
+
+-- an expression's range: none for it or for a part of it, no number, or an interval
+pub data Range : Type 0 where
+  Unfit : Range
+  NoNumber : Range
+  Within : (interval : Interval) → Range
+
+abbrev pub within : Option Interval → Range
+within None = Unfit
+within (Some i) = Within i
+
+-- both parts fit, and give a value that is no number
+abbrev pub no_number : Range → Range → Range
+no_number Unfit _ = Unfit
+no_number _ Unfit = Unfit
+no_number _ _ = NoNumber
+
+abbrev pub on_intervals : (Interval → Interval → Option Interval) → Range → Range → Range
+on_intervals f (Within x) (Within y) = within (f x y)
+on_intervals f x y = no_number x y
+
+abbrev pub of_op : Op → Range → Range → Range
+of_op Add x y = on_intervals add x y
+of_op Sub x y = on_intervals sub x y
+of_op Mul x y = on_intervals mul x y
+of_op Div x y = on_intervals div x y
+of_op Rem x y = on_intervals rem x y
+of_op _ x y = no_number x y
+
+abbrev pub of_minus : Range → Range
+of_minus (Within x) = within (neg x)
+of_minus x = x
+
+abbrev pub of_branches : Range → Range → Range
+of_branches (Within x) (Within y) = Within (hull x y)
+of_branches x y = no_number x y
+
+abbrev pub if_fits : Range → Range → Range
+if_fits Unfit r = Unfit
+if_fits _ r = r
+
+-- the sum of at least one and at most n numbers of the interval, where n of them always stay in 64 bits
+abbrev pub of_sum : ℤ → Interval → Range
+of_sum n x =
+    cond (in_i64 (n *ℤ x.lo) && in_i64 (n *ℤ x.hi)) (Within (interval (int_min x.lo (n *ℤ x.lo)) (int_max x.hi (n *ℤ x.hi)))) Unfit
+
+abbrev pub of_aggregate : ℤ → Kind → Range → Range
+of_aggregate n Sum (Within x) = of_sum n x
+of_aggregate n Min x = x
+of_aggregate n Max x = x
+of_aggregate n _ x = no_number x x
+
+abbrev pub of_type : Ty → Range
+of_type (IntTy lo hi) = Within (interval lo hi)
+of_type BoolTy = NoNumber
+of_type (EnumTy names) = NoNumber
+
+abbrev pub range : Query → Expr → Range
+range q (Number n) = Within (interval n n)
+range q (Field x) = of_type (type_of x q.fields)
+range q Count = Within (interval (pos 1) q.records)
+range q (Aggregate kind e) = of_aggregate q.records kind (range q e)
+range q (If c x y) = if_fits (range q c) (of_branches (range q x) (range q y))
+range q (Brackets e) = range q e
+range q (Minus e) = of_minus (range q e)
+range q (Not e) = range q e
+range q (Binary op x y) = of_op op (range q x) (range q y)
+range q (And x y) = no_number (range q x) (range q y)
+range q (Or x y) = no_number (range q x) (range q y)
+range q _ = NoNumber
+
+abbrev pub fits : Range → Bool
+fits Unfit = false
+fits NoNumber = true
+fits (Within i) = true
+
+-- each number of the query, evaluated or not, has a range in 64 bits
+abbrev pub ranges_fit : Query → Bool
+ranges_fit q = list_all (λ e. fits (range q e)) (in_option q.condition ++ fired q)

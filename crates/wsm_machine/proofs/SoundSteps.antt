@@ -1,0 +1,170 @@
+-- What a verified program keeps is sound after every event, and so after every history: what its
+-- accumulators hold is in bounds, FIRE may read it, and no sum leaves 64 bits.
+use Rattle.std.proofs.Common.{◌≡◌, ℕ, ◌+◌, ◌≤◌, true, false, cond, List, [], ◌∷◌, length, ℤ, Option, Some, None, Ok, Err, IsTrue, refl, sym, subst, ◌∙◌, arith}
+use Rattle.std.proofs.lemmas.Int.{ints}
+use Rattle.std.proofs.lemmas.Bool.Decides.{nat_tests}
+use Rattle.std.specs.Prelude.{pos, ◌≤ℤ◌, nat_lt, nat_le, IfSome, unsigned_abs}
+use Rattle.std.specs.List.{AllByRecursion}
+use Rattle.wsm_record.specs.declared.event.Value.{Value}
+use Rattle.wsm_record.specs.declared.words.Mode.{Mode}
+use Rattle.wsm_record.specs.declared.words.Mode.TheVariants.{Discarding, Accumulating}
+use Rattle.wsm_record.specs.Event.{Event, Record, Watermark}
+use Rattle.wsm_record.specs.Schema.{fit_fields}
+use Rattle.wsm_windows.specs.declared.window.Shape.{Shape}
+use Rattle.wsm_windows.specs.declared.window.Shape.TheVariants.{Session}
+use Rattle.wsm_admission.specs.declared.clock.Clock.{Clock}
+use Rattle.wsm_admission.specs.declared.verdict.Refusal.{Refusal}
+use Rattle.wsm_admission.specs.declared.verdict.Refusal.TheVariants as refusal
+use Rattle.wsm_admission.specs.Clock.{verdict_at}
+use Rattle.wsm_admission.specs.Admission as admission
+use Rattle.wsm_admission.specs.Admission.{after, answer}
+use Rattle.wsm_admission.proofs.Keeping.{clock-after}
+use Rattle.wsm_admission.proofs.Taken.{IsTaken, taken_record}
+use Rattle.wsm_fold.specs.Accumulators.{SumsFit}
+use Rattle.wsm_semantics.specs.declared.place.Place.{Place}
+use Rattle.wsm_semantics.specs.Query.{Datum}
+use Rattle.wsm_semantics.specs.Kept.{is_linked}
+use Rattle.wsm_semantics.specs.Summaries.{Pane, fired_count, linked, after_record}
+use Rattle.wsm_semantics.specs.Totals.{AtMost, total}
+use Rattle.wsm_semantics.specs.Replay.{datum}
+use Rattle.wsm_semantics.specs.Steps.{State, opened, panes_after, step, run}
+use Rattle.wsm_semantics.proofs.Lists.{all-each, filter-all}
+use Rattle.wsm_semantics.proofs.Totals.{at_most_later, each_of, total-where}
+use Rattle.wsm_bytecode.specs.declared.instr.SectionId.TheVariants.{Fire}
+use Rattle.wsm_bytecode.specs.Program.{Program, is_program}
+use Rattle.wsm_verifier.specs.declared.costs.Costs.{Costs}
+use Rattle.wsm_verifier.specs.Rules.{judge, values_folded, update_visits}
+use Rattle.wsm_verifier.proofs.Lawful as lawful_programs
+use Rattle.wsm_machine.specs.InRange.{in_range}
+use Rattle.wsm_machine.specs.Meaning.{pane_inputs, clock_of, query_of, plan_of}
+use Rattle.wsm_machine.specs.Sound.{AreFoldsOf, IsSoundEntry, AreSound, IsSoundState, IsDatumInRange}
+use Rattle.wsm_machine.proofs.Accumulating.{ValuesIn}
+use Rattle.wsm_machine.proofs.Sounding.{in_bounds, may_fire, parts_fit, both}
+use Rattle.wsm_machine.proofs.Holding.{sound_after_record, sound_after_watermark, sound_opened}
+
+module _ (p : Program) (costs : Costs) (judged : judge p ≡ Ok costs) (lawful : IsTrue (is_program p)) where
+  -- an admitted record is in range
+  pub record_in_range : (c : Clock) (mark : ℤ) (n turn key : ℕ) (time : ℤ) (values : List Value) → verdict_at c p.header.schema mark n (Record (Some key) time values) ≡ None →
+      IsDatumInRange p (datum turn key time values)
+  record_in_range c mark n turn key time values h =
+      let taken : IsTaken c p.header.schema mark n (Some key) time values = taken_record c p.header.schema mark n (Some key) time values h in
+      both (nat_lt key (length p.header.schema.keys)) (fit_fields p.header.schema.fields values) taken.has_key taken.fits
+
+  -- and there were fewer records than the program allows
+  pub room_for_record : (mark : ℤ) (n key : ℕ) (time : ℤ) (values : List Value) → verdict_at (clock_of p.header) p.header.schema mark n (Record (Some key) time values) ≡ None → pos (n + 1) ≤ℤ p.header.records
+  room_for_record mark n key time values h =
+      fits p.header.records n (lawful_programs.lawful p lawful).records.0 (taken_record (clock_of p.header) p.header.schema mark n (Some key) time values h).room
+    where
+      fits : (r : ℤ) (n : ℕ) → pos 1 ≤ℤ r → nat_le (unsigned_abs r) n ≡ false → pos (n + 1) ≤ℤ r
+      fits r n l h = grind (arith, ints, nat_tests)
+
+  more_sound : (m n : ℕ) (panes : List (Place × Pane (List Value))) → m ≤ n → AreSound p m panes → AreSound p n panes
+  more_sound m n panes l h = record { each = h.each; counts = at_most_later p.header.shape m n l panes h.counts }
+
+  refused_admits : (s : admission.State) (r : Refusal) → (after (Err r) s).admitted ≡ s.admitted
+  refused_admits s refusal.Late = refl
+  refused_admits s _ = refl
+
+  panes_sound : (s : State (List Value)) → AreSound p s.admission.admitted s.panes → (e : Event) (v : Option Refusal) →
+      v ≡ verdict_at s.admission.clock p.header.schema s.admission.mark s.admission.admitted e →
+      AreSound p (after (answer s.admission.mark e v) s.admission).admitted (panes_after (plan_of p) (query_of p) (answer s.admission.mark e v) e s)
+  panes_sound s sound (Record (Some k) t vs) None h =
+      elim ((plan_of p).selects k vs) as (λ b. AreSound p (s.admission.admitted + 1) (cond b (after_record (plan_of p) (query_of p) s.admission.mark (datum 0 k t vs) s.panes) s.panes)) [
+        | true ↦ sound_after_record p costs judged lawful (datum 0 k t vs) (record_in_range s.admission.clock s.admission.mark s.admission.admitted 0 k t vs (sym h)) s.admission.mark s.admission.admitted s.panes sound
+        | false ↦ more_sound s.admission.admitted (s.admission.admitted + 1) s.panes (omega arith) sound
+      ]
+  panes_sound s sound (Record None t vs) None h = absurd (cc)
+  panes_sound s sound (Watermark t) None h = sound_after_watermark p s.admission.mark t s.admission.admitted s.panes sound
+  panes_sound s sound e (Some r) h = subst (λ n. AreSound p n s.panes) (sym (refused_admits s.admission r)) sound
+
+  admitted_few : (s : admission.State) (e : Event) (v : Option Refusal) → v ≡ verdict_at s.clock p.header.schema s.mark s.admitted e → s.admitted ≤ s.clock.records → (after (answer s.mark e v) s).admitted ≤ s.clock.records
+  admitted_few s (Record (Some k) t vs) None h l =
+      let room : nat_le s.clock.records s.admitted ≡ false = (taken_record s.clock p.header.schema s.mark s.admitted (Some k) t vs (sym h)).room in
+      grind (arith, nat_tests)
+  admitted_few s (Record None t vs) None h l = absurd (cc)
+  admitted_few s (Watermark t) None h l = l
+  admitted_few s e (Some r) h l = subst (λ n. n ≤ s.clock.records) (sym (refused_admits s r)) l
+
+  -- an event
+  pub sound_step : (s : State (List Value)) (e : Event) → IsSoundState p s → IsSoundState p (step (plan_of p) (query_of p) s e)
+  sound_step s e h =
+      let v : Option Refusal = verdict_at s.admission.clock p.header.schema s.admission.mark s.admission.admitted e in
+      let same : (after (answer s.admission.mark e v) s.admission).clock ≡ s.admission.clock = clock-after s.admission e v in
+      record {
+        clock = same ∙ h.clock;
+        admitted = subst (λ (c : Clock). (after (answer s.admission.mark e v) s.admission).admitted ≤ c.records) (sym same) (admitted_few s.admission e v refl h.admitted);
+        panes = panes_sound s h.panes e v refl;
+      }
+
+  -- before the first event, and after any list of events
+  pub sound_state_opened : IsSoundState p (opened (plan_of p) (query_of p))
+  sound_state_opened = record { clock = refl; admitted = omega arith; panes = sound_opened p }
+
+  pub sound_run : (past : List Event) → IsSoundState p (run (plan_of p) (query_of p) past)
+  sound_run [] = sound_state_opened
+  sound_run (e ∷ past) = sound_step (run (plan_of p) (query_of p) past) e (sound_run past)
+
+  -- ---- what soundness gives
+
+  -- as many records as were admitted are as many as the program allows
+  pub admitted_within : (s : State (List Value)) → IsSoundState p s → pos s.admission.admitted ≤ℤ p.header.records
+  admitted_within s h =
+      few p.header.records s.admission.admitted (lawful_programs.lawful p lawful).records.0 (subst (λ (c : Clock). s.admission.admitted ≤ c.records) h.clock h.admitted)
+    where
+      few : (r : ℤ) (n : ℕ) → pos 1 ≤ℤ r → n ≤ unsigned_abs r → pos n ≤ℤ r
+      few r n l h = grind (arith, ints)
+
+  count_least : (m : Mode) (n : ℕ) (h : Pane (List Value)) → h.unshown ≤ h.count → h.count ≤ n → fired_count m h ≤ n
+  count_least Accumulating n h u l = l
+  count_least Discarding n h u l = omega (arith, u, l)
+
+  -- what a pane may be said to hold, by its number of records
+  abbrev pub IsInBounds : Place × Pane (List Value) → Type 0
+  IsInBounds e = IfSome e.1.folded (λ held. ValuesIn (λ a. values_folded a (update_visits p)) 0 (fired_count p.header.mode e.1) p.header.kinds held)
+
+  pane_in_bounds : (n : ℕ) (o : Option (List Value)) → AreFoldsOf p n o → IfSome o (λ held. ValuesIn (λ a. values_folded a (update_visits p)) 0 n p.header.kinds held)
+  pane_in_bounds n None f = tt
+  pane_in_bounds n (Some held) f = in_bounds p n held f
+
+  -- each accumulator of each pane lies in the bounds for the number of records that its next firing is computed over
+  pub all_in_bounds : (n : ℕ) (panes : List (Place × Pane (List Value))) → AreSound p n panes → AllByRecursion IsInBounds panes
+  all_in_bounds n panes h = all-each (IsSoundEntry p) IsInBounds panes (λ e f. pane_in_bounds (fired_count p.header.mode e.1) e.1.folded f.pane.folds) h.each
+
+  -- FIRE may read what a pane holds
+  abbrev pub CanFire : Place × Pane (List Value) → Type 0
+  CanFire e = (held : List Value) → e.1.folded ≡ Some held → IsTrue (in_range p Fire (pane_inputs e.0.key (fired_count p.header.mode e.1) held))
+
+  both_each : {A : Type 0} (P Q : A → Type 0) (xs : List A) → AllByRecursion P xs → AllByRecursion Q xs → AllByRecursion (λ x. P x × Q x) xs
+  both_each P Q [] f g = tt
+  both_each P Q (x ∷ xs) f g = ((f.0, g.0), both_each P Q xs f.1 g.1)
+
+  pub all_can_fire : (n : ℕ) (panes : List (Place × Pane (List Value))) → pos n ≤ℤ p.header.records → AreSound p n panes → AllByRecursion CanFire panes
+  all_can_fire n panes few h =
+      all-each (λ e. IsSoundEntry p e × (e.1.count ≤ n)) CanFire panes
+      (λ e f held is.
+      may_fire p costs judged e.0.key (fired_count p.header.mode e.1) held f.0.key (subst (AreFoldsOf p (fired_count p.header.mode e.1)) is f.0.pane.folds)
+      (least (fired_count p.header.mode e.1) (count_least p.header.mode n e.1 f.0.pane.unshown f.1)))
+      (both_each (IsSoundEntry p) (λ e. e.1.count ≤ n) panes h.each (each_of p.header.shape n panes h.counts))
+    where
+      least : (m : ℕ) → m ≤ n → pos m ≤ℤ p.header.records
+      least m l = omega (arith, ints, few, l)
+
+  -- two sessions that a record joins are joined in 64 bits
+  pub joins_fit : (n : ℕ) (panes : List (Place × Pane (List Value))) (gap : ℤ) (d : Datum) (e f : Place × Pane (List Value)) (es : List (Place × Pane (List Value))) (xs ys : List Value) →
+      p.header.shape ≡ Session gap → pos n ≤ℤ p.header.records → AreSound p n panes → linked gap d panes ≡ e ∷ f ∷ es → e.1.folded ≡ Some xs → f.1.folded ≡ Some ys → SumsFit p.header.kinds xs ys
+  joins_fit n panes gap d e f es xs ys session few h is ex fy =
+      let parts : AllByRecursion (IsSoundEntry p) (e ∷ f ∷ es) = subst (AllByRecursion (IsSoundEntry p)) is (filter-all (IsSoundEntry p) (λ e. is_linked gap d e.0) panes h.each) in
+      let all : total panes ≤ n = subst (λ (sh : Shape). AtMost sh n panes) session h.counts in
+      let some : total (e ∷ f ∷ es) ≤ n = subst (λ ps. total ps ≤ n) is (through (total (linked gap d panes)) (total panes) (total-where (is_linked gap d) panes) all) in
+      parts_fit p costs judged (fired_count p.header.mode e.1) (fired_count p.header.mode f.1) xs ys
+      (subst (AreFoldsOf p (fired_count p.header.mode e.1)) ex parts.0.pane.folds)
+      (subst (AreFoldsOf p (fired_count p.header.mode f.1)) fy parts.1.0.pane.folds)
+      (least (fired_count p.header.mode e.1) (fired_count p.header.mode f.1)
+      (count_least p.header.mode e.1.count e.1 parts.0.pane.unshown (omega arith))
+      (count_least p.header.mode f.1.count f.1 parts.1.0.pane.unshown (omega arith)) some)
+    where
+      through : (a b : ℕ) → a ≤ b → b ≤ n → a ≤ n
+      through a b l m = omega (arith, l, m)
+
+      least : (a b : ℕ) → a ≤ e.1.count → b ≤ f.1.count → e.1.count + (f.1.count + total es) ≤ n → pos (a + b) ≤ℤ p.header.records
+      least a b l m t = omega (arith, ints, few, l, m, t)

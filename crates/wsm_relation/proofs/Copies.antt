@@ -1,0 +1,152 @@
+-- The positive and the negative part of rows with their numbers, and the difference of bags.
+use Rattle.std.proofs.Common.{◌≡◌, ℕ, zero, suc, ◌+◌, ◌-◌, ◌<◌, true, false, cond, List, [], ◌∷◌, ◌++◌, length, refl, sym, ap, ◌∙◌, inl, inr, arith}
+use Rattle.std.specs.Prelude.{ℤ, pos, negsuc, ◌-ℤ◌, int_lt, unsigned_abs}
+use Rattle.std.specs.List.{AllByRecursion}
+use Rattle.std.specs.declared.cmp.Ordering.TheVariants.{Less}
+use Rattle.std.specs.Ordering.{is_gt, is_eq}
+use Rattle.std.specs.Cmp.{tied_itself}
+use Rattle.std.proofs.lemmas.Bool.{cases_Bool}
+use Rattle.std.proofs.lemmas.Int.{ints}
+use Rattle.wsm_record.specs.declared.event.Value.{Value}
+use Rattle.wsm_semantics.specs.Relation.{row_cmp, difference}
+use Rattle.wsm_relation.specs.Rows.{IsInOrder, count_of}
+use Rattle.wsm_relation.specs.Tally.{IsTally, IsChange, number_of, copies, gained, lost, gains, losses}
+use Rattle.wsm_relation.proofs.Ordered.{rows_total, exact_rows, same_rows}
+use Rattle.wsm_relation.proofs.Places.{each, cases_Ordering, count-none, none_before}
+use Rattle.wsm_relation.proofs.Bags.{once, count-difference, difference-in_order}
+use Rattle.wsm_relation.proofs.Numbers.{Entry, number-before}
+
+pub copies-append : (n : ℕ) (r : List Value) (rows : List (List Value)) → copies n r rows ≡ copies n r [] ++ rows
+copies-append zero r rows = refl
+copies-append (suc n) r rows = ap (λ l. r ∷ l) (copies-append n r rows)
+
+pub copies-next : (n : ℕ) (r : List Value) → copies (suc n) r [] ≡ copies n r [] ++ r ∷ []
+copies-next zero r = refl
+copies-next (suc n) r = ap (λ l. r ∷ l) (copies-next n r)
+
+pub length-copies : (n : ℕ) (r : List Value) (rows : List (List Value)) → length (copies n r rows) ≡ n + length rows
+length-copies zero r rows = omega arith
+length-copies (suc n) r rows = omega (arith, length-copies n r rows)
+
+all_copies : (P : List Value → Type 0) (n : ℕ) (r : List Value) (rows : List (List Value)) → P r → AllByRecursion P rows → AllByRecursion P (copies n r rows)
+all_copies P zero r rows p all = all
+all_copies P (suc n) r rows p all = (p, all_copies P n r rows p all)
+
+copies-in_order : (n : ℕ) (r : List Value) (rows : List (List Value)) → AllByRecursion (λ y. is_gt (row_cmp r y) ≡ false) rows → IsInOrder rows → IsInOrder (copies n r rows)
+copies-in_order zero r rows all sorted = sorted
+copies-in_order (suc n) r rows all sorted = (all_copies (λ y. is_gt (row_cmp r y) ≡ false) n r rows (ap is_gt (tied_itself rows_total r)) all, copies-in_order n r rows all sorted)
+
+count-copies : (q r : List Value) (n : ℕ) (rows : List (List Value)) → count_of q (copies n r rows) ≡ cond (is_eq (row_cmp q r)) n 0 + count_of q rows
+count-copies q r n rows = elim (cases_Bool (is_eq (row_cmp q r))) [ inl tie ↦ rw tie (all_tied tie n) | inr apart ↦ rw apart (none_tied apart n) ] where
+  all_tied : is_eq (row_cmp q r) ≡ true → (n : ℕ) → count_of q (copies n r rows) ≡ n + count_of q rows
+  all_tied tie zero = omega arith
+  all_tied tie (suc n) = rw tie (omega (arith, all_tied tie n))
+
+  none_tied : is_eq (row_cmp q r) ≡ false → (n : ℕ) → count_of q (copies n r rows) ≡ 0 + count_of q rows
+  none_tied apart zero = omega arith
+  none_tied apart (suc n) = rw apart (omega (arith, none_tied apart n))
+
+-- ---- rows with their numbers, each as often as a part of its number says
+
+abbrev part : (ℤ → ℕ) → List Entry → List (List Value)
+part f [] = []
+part f (e ∷ es) = copies (f e.1) e.0 (part f es)
+
+all_part : (f : ℤ → ℕ) (P : List Value → Type 0) (es : List Entry) → AllByRecursion (λ e. P e.0) es → AllByRecursion P (part f es)
+all_part f P [] all = tt
+all_part f P (e ∷ es) all = all_copies P (f e.1) e.0 (part f es) all.0 (all_part f P es all.1)
+
+part-in_order : (f : ℤ → ℕ) (es : List Entry) → IsTally es → IsInOrder (part f es)
+part-in_order f [] tally = tt
+part-in_order f (e ∷ es) tally = copies-in_order (f e.1) e.0 (part f es) (all_part f (λ y. is_gt (row_cmp e.0 y) ≡ false) es (each (λ g. row_cmp e.0 g.0 ≡ Less) (λ g. is_gt (row_cmp e.0 g.0) ≡ false) (λ g h. ap is_gt h) es tally.0)) (part-in_order f es tally.2)
+
+count-part : (f : ℤ → ℕ) → f (pos 0) ≡ 0 → (q : List Value) (es : List Entry) → IsTally es → count_of q (part f es) ≡ f (number_of q es)
+count-part f none q [] tally = sym none
+count-part f none q (e ∷ es) tally = elim (cases_Bool (is_eq (row_cmp q e.0))) [
+  | inl here ↦
+      let before : number_of q es ≡ pos 0 = number-before q es (each (λ g. row_cmp e.0 g.0 ≡ Less) (λ g. row_cmp q g.0 ≡ Less) (λ g h. ap (λ (x : List Value). row_cmp x g.0) (same_rows q e.0 here) ∙ h) es tally.0) in
+      let rest : count_of q (part f es) ≡ 0 = count-part f none q es tally.2 ∙ ap f before ∙ none in
+      count-copies q e.0 (f e.1) (part f es) ∙ rw here (omega arith)
+  | inr other ↦ count-copies q e.0 (f e.1) (part f es) ∙ rw other (let rest : count_of q (part f es) ≡ f (number_of q es) = count-part f none q es tally.2 in omega arith)
+]
+
+gains-part : (es : List Entry) → part gained es ≡ gains es
+gains-part [] = refl
+gains-part (e ∷ es) = ap (copies (gained e.1) e.0) (gains-part es)
+
+losses-part : (es : List Entry) → part lost es ≡ losses es
+losses-part [] = refl
+losses-part (e ∷ es) = ap (copies (lost e.1) e.0) (losses-part es)
+
+pub gains-in_order : (es : List Entry) → IsTally es → IsInOrder (gains es)
+gains-in_order es tally = rw (← gains-part es) (part-in_order gained es tally)
+
+pub losses-in_order : (es : List Entry) → IsTally es → IsInOrder (losses es)
+losses-in_order es tally = rw (← losses-part es) (part-in_order lost es tally)
+
+-- ---- lists in row order with the same counts are one
+
+same_tails : (x : List Value) (xs ys : List (List Value)) → ((q : List Value) → count_of q (x ∷ xs) ≡ count_of q (x ∷ ys)) → (q : List Value) → count_of q xs ≡ count_of q ys
+same_tails x xs ys same q = let h : once q x + count_of q xs ≡ once q x + count_of q ys = same q in omega arith
+
+count-first : (x : List Value) (xs : List (List Value)) → 0 < count_of x (x ∷ xs)
+count-first x xs = rw (tied_itself rows_total x) (omega arith)
+
+pub one_list : (xs ys : List (List Value)) → IsInOrder xs → IsInOrder ys → ((q : List Value) → count_of q xs ≡ count_of q ys) → xs ≡ ys
+one_list [] [] sorted others same = refl
+one_list [] (y ∷ ys) sorted others same = absurd (let h : 0 ≡ count_of y (y ∷ ys) = same y in let k = count-first y ys in omega arith)
+one_list (x ∷ xs) [] sorted others same = absurd (let h : count_of x (x ∷ xs) ≡ 0 = same x in let k = count-first x xs in omega arith)
+one_list (x ∷ xs) (y ∷ ys) sorted others same = elim (cases_Ordering (row_cmp x y)) [
+  | inl less ↦ absurd (
+      let none : count_of x (y ∷ ys) ≡ 0 = count-none x (y ∷ ys) (none_before x y ys others less) in
+      let k : 0 < count_of x (x ∷ xs) = count-first x xs in
+      let h : count_of x (x ∷ xs) ≡ count_of x (y ∷ ys) = same x in
+      omega arith)
+  | inr rest ↦ elim rest [
+    | inl tie ↦
+        let head : x ≡ y = exact_rows x y tie in
+        let tails : xs ≡ ys = one_list xs ys sorted.1 others.1 (same_tails x xs ys (λ q. same q ∙ ap (λ (z : List Value). count_of q (z ∷ ys)) (sym head))) in
+        λ i. head i ∷ tails i
+    | inr more ↦ absurd (
+        let less : row_cmp y x ≡ Less = rw (rows_total.antisymm y x, more) refl in
+        let none : count_of y (x ∷ xs) ≡ 0 = count-none y (x ∷ xs) (none_before y x xs sorted less) in
+        let k : 0 < count_of y (y ∷ ys) = count-first y ys in
+        let h : count_of y (x ∷ xs) ≡ count_of y (y ∷ ys) = same y in
+        omega arith)
+  ]
+]
+
+gained-less : (z : ℤ) (a b : ℕ) → z ≡ pos a -ℤ pos b → gained z ≡ a - b
+gained-less (pos n) a b h = omega (arith, ints)
+gained-less (negsuc n) a b h = omega (arith, ints)
+
+lost-less : (z : ℤ) (a b : ℕ) → z ≡ pos a -ℤ pos b → lost z ≡ b - a
+lost-less (pos n) a b h = omega (arith, ints)
+lost-less (negsuc n) a b h = omega (arith, ints)
+
+pub gained-abs : (z : ℤ) → int_lt (pos 0) z ≡ true → unsigned_abs z ≡ gained z
+gained-abs (pos n) h = refl
+gained-abs (negsuc n) h = absurd (cc)
+
+pub gained-none : (z : ℤ) → int_lt (pos 0) z ≡ false → gained z ≡ 0
+gained-none (pos n) h = grind (arith, ints)
+gained-none (negsuc n) h = refl
+
+pub lost-abs : (z : ℤ) → int_lt z (pos 0) ≡ true → unsigned_abs z ≡ lost z
+lost-abs (pos n) h = grind (arith, ints)
+lost-abs (negsuc n) h = refl
+
+pub lost-none : (z : ℤ) → int_lt z (pos 0) ≡ false → lost z ≡ 0
+lost-none (pos n) h = refl
+lost-none (negsuc n) h = absurd (cc)
+
+module _ (before now : List (List Value)) (es : List Entry) (tally : IsTally es) (change : IsChange before now es) where
+  -- the positive part is what is there more often than before
+  pub gains-difference : IsInOrder now → gains es ≡ difference now before
+  gains-difference sorted = one_list (gains es) (difference now before) (gains-in_order es tally) (difference-in_order now before sorted) (λ q.
+      ap (count_of q) (sym (gains-part es)) ∙ count-part gained refl q es tally ∙ gained-less (number_of q es) (count_of q now) (count_of q before) (change q) ∙ sym (count-difference q now before))
+
+  -- the negative part what is there less often
+  pub losses-difference : IsInOrder before → losses es ≡ difference before now
+  losses-difference sorted = one_list (losses es) (difference before now) (losses-in_order es tally) (difference-in_order before now sorted) (λ q.
+      ap (count_of q) (sym (losses-part es)) ∙ count-part lost refl q es tally ∙ lost-less (number_of q es) (count_of q now) (count_of q before) (change q) ∙ sym (count-difference q before now))

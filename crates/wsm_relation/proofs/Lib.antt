@@ -1,0 +1,9 @@
+pub mod Ordered
+pub mod Places
+pub mod Bags
+pub mod Boxes
+pub mod Walk
+pub mod Numbers
+pub mod Copies
+pub mod Entries
+pub mod Shifts

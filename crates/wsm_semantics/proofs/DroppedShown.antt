@@ -1,0 +1,129 @@
+-- A place whose end and lateness the watermark came to has shown all of its records: what was unshown
+-- fired when it was dropped, on time or as the final firing. For any mode.
+use Rattle.std.proofs.Common.{◌≡◌, ℕ, suc, Bool, true, false, ◌&&◌, cond, not, List, [], ◌∷◌, ◌++◌, map, length, ℤ, ◌+ℤ◌, Option, Some, None, is_none, refl, sym, ap, subst, ◌∙◌, arith}
+use Rattle.std.proofs.lemmas.Int.{ints}
+use Rattle.std.proofs.lemmas.Bool.{true≢false, or_left}
+use Rattle.std.proofs.lemmas.Bool.Decides.{nat_tests}
+use Rattle.std.specs.Prelude.{filter, flat_map, int_le, int_lt, nat_lt}
+use Rattle.std.specs.List.{AllByRecursion}
+use Rattle.wsm_record.specs.declared.event.Value.{Value}
+use Rattle.wsm_record.specs.Event.{Event, Record, Watermark}
+use Rattle.wsm_windows.specs.declared.window.PaneKind.TheVariants.{OnTime, Final}
+use Rattle.wsm_windows.specs.Life.{is_due}
+use Rattle.wsm_admission.specs.declared.verdict.Refusal.{Refusal}
+use Rattle.wsm_admission.specs.Clock.{is_late}
+use Rattle.wsm_admission.proofs.Taken.{accepted_watermark}
+use Rattle.wsm_semantics.specs.declared.place.Place.{Place}
+use Rattle.wsm_semantics.specs.Query.{Query, Datum, mark, verdict_on, selected, selection_of}
+use Rattle.wsm_semantics.specs.Panes.{at, window_of, windows_among, places, is_there, contents, is_live_at}
+use Rattle.wsm_semantics.specs.Firings.{firing_set, is_shown, kind_on_watermark}
+use Rattle.wsm_semantics.specs.Replay.{datum}
+use Rattle.wsm_semantics.proofs.Lists.{all-each}
+use Rattle.wsm_semantics.proofs.Tables.{among}
+use Rattle.wsm_semantics.proofs.Assigned.{both}
+use Rattle.wsm_semantics.proofs.AssignedStep.{kept_live}
+use Rattle.wsm_semantics.proofs.Turns.{refused_stays}
+use Rattle.wsm_semantics.proofs.KeptTurns.{comes_in_time, selects_one}
+use Rattle.wsm_semantics.proofs.Showing.{ShowsOwn, unshown_of, unshown_by, unshown-after}
+
+-- a place that is new with a selected record has it
+abbrev pub NewHaveRecord : Query → Type 0
+NewHaveRecord q = (past : List Event) (k : ℕ) (t : ℤ) (vs : List Value) → verdict_on q past (Record (Some k) t vs) ≡ None → q.selects k vs ≡ true → (p : Place) →
+    among p (places q (Record (Some k) t vs ∷ past)) ≡ true → is_there p (datum (length past) k t vs) ≡ false → among p (places q past) ≡ true
+
+-- all records of the place were shown
+abbrev pub AllShown : Query → List Event → Place → Type 0
+AllShown q past p = AllByRecursion (λ d. is_shown q past p d ≡ true) (contents q past p)
+
+-- each place that isn't held has shown all of its records
+abbrev pub DropsShown : Query → List Event → Type 0
+DropsShown q past = (p : Place) → among p (places q past) ≡ true → is_live_at q (mark q past) p ≡ false → AllShown q past p
+
+passed_all : (t : Datum → Bool) (xs : List Datum) → filter (λ d. not (t d)) xs ≡ [] → AllByRecursion (λ d. t d ≡ true) xs
+passed_all t [] h = tt
+passed_all t (x ∷ xs) h =
+    elim (t x) as (λ b. t x ≡ b → cond (not b) (x ∷ filter (λ d. not (t d)) xs) (filter (λ d. not (t d)) xs) ≡ [] → AllByRecursion (λ d. t d ≡ true) (x ∷ xs)) [
+      | true ↦ λ e k. (e, passed_all t xs k)
+      | false ↦ λ e k. absurd (cc)
+    ] refl h
+
+dropped_now : (t end : ℤ) → int_lt t end ≡ false → int_le end t ≡ true
+dropped_now t end h = grind (arith, ints)
+
+some_left : (n : ℕ) → nat_lt 0 (suc n) ≡ true
+some_left n = grind (arith, nat_tests)
+
+-- at the watermark that comes to the end and the lateness, what is unshown fires
+last_fires : (q : Query) (old t : ℤ) (p : Place) (n : ℕ) (left : List Datum) → int_lt old (p.end +ℤ q.clock.lateness) ≡ true → int_lt t (p.end +ℤ q.clock.lateness) ≡ false →
+    unshown_by (kind_on_watermark q old t p n (length left)) left ≡ []
+last_fires q old t p n [] live dead =
+    elim (kind_on_watermark q old t p n 0) as (λ o. unshown_by o [] ≡ []) [ None ↦ refl | Some kind ↦ refl ]
+last_fires q old t p n (x ∷ xs) live dead =
+    let last : Bool = (int_lt old (p.end +ℤ q.clock.lateness) && int_le (p.end +ℤ q.clock.lateness) t) && nat_lt 0 (suc (length xs)) in
+    let fires : last ≡ true = λ i. (live i && dropped_now t (p.end +ℤ q.clock.lateness) dead i) && some_left (length xs) i in
+    elim (is_due (window_of p) old t && nat_lt 0 n) as (λ b. unshown_by (cond b (Some OnTime) (cond last (Some Final) None)) (x ∷ xs) ≡ []) [
+      | true ↦ refl
+      | false ↦ ap (λ (b : Bool). unshown_by (cond b (Some Final) None) (x ∷ xs)) fires
+    ]
+
+module _ (q : Query) (own : (past : List Event) → ShowsOwn q past) (new : NewHaveRecord q) where
+  module _ (past : List Event) (before : DropsShown q past) where
+    -- what was shown is shown later
+    later : (e : Event) (p : Place) → contents q (e ∷ past) p ≡ contents q past p → AllShown q past p → AllShown q (e ∷ past) p
+    later e p same shown =
+        subst (AllByRecursion (λ d. is_shown q (e ∷ past) p d ≡ true)) (sym same)
+        (all-each (λ d. is_shown q past p d ≡ true) (λ d. is_shown q (e ∷ past) p d ≡ true) (contents q past p) (λ d h. or_left _ _ h) shown)
+
+    -- an event that selects nothing and leaves the watermark
+    still : (e : Event) → selection_of q past e ≡ [] → mark q (e ∷ past) ≡ mark q past → DropsShown q (e ∷ past)
+    still e none same p placed dead =
+        later e p (ap (λ (ds : List Datum). filter (is_there p) (ds ++ selected q past)) none)
+        (before p
+        (ap (among p) (ap (λ (ds : List Datum). flat_map (λ d. map (at d.key) (windows_among q.shape (ds ++ selected q past) d)) (ds ++ selected q past)) (sym none)) ∙ placed)
+        (ap (λ (w : ℤ). is_live_at q w p) (sym same) ∙ dead))
+
+    -- a selected record comes into no place that isn't held
+    recorded : (k : ℕ) (t : ℤ) (vs : List Value) → verdict_on q past (Record (Some k) t vs) ≡ None → q.selects k vs ≡ true → DropsShown q (Record (Some k) t vs ∷ past)
+    recorded k t vs taken selects p placed dead =
+        let e : Event = Record (Some k) t vs in
+        let d : Datum = datum (length past) k t vs in
+        let prompt : is_late q.clock (mark q past) t ≡ false = comes_in_time q past k t vs taken in
+        let away : is_there p d ≡ false = elim (is_there p d) as (λ b. is_there p d ≡ b → b ≡ false) [
+          | true ↦ λ there. sym (kept_live (mark q past) t q.clock.lateness p.start p.end prompt (both _ _ there).1) ∙ dead
+          | false ↦ λ _. refl
+        ] refl in
+        let selection : selection_of q past e ≡ d ∷ [] = selects_one q past k t vs taken selects in
+        later e p
+        (ap (λ (ds : List Datum). filter (is_there p) (ds ++ selected q past)) selection ∙ ap (λ (b : Bool). cond b (d ∷ contents q past p) (contents q past p)) away)
+        (before p (new past k t vs taken selects p placed away) dead)
+
+    -- an accepted watermark drops a place once it has shown all
+    risen : (t : ℤ) → verdict_on q past (Watermark t) ≡ None → DropsShown q (Watermark t ∷ past)
+    risen t taken p placed dead =
+        let e : Event = Watermark t in
+        let all : List Datum = contents q past p in
+        let left : List Datum = unshown_of q past p all in
+        let dead_at : is_live_at q t p ≡ false = ap (λ (w : ℤ). is_live_at q w p) (sym (accepted_watermark (mark q past) t taken).0) ∙ dead in
+        elim (is_live_at q (mark q past) p) as (λ b. is_live_at q (mark q past) p ≡ b → AllShown q (e ∷ past) p) [
+          | true ↦ λ live. passed_all (is_shown q (e ∷ past) p) all
+              (unshown-after q past e (own (e ∷ past)) p placed
+              ∙ ap (λ (v : Option Refusal). unshown_by (cond (is_none v) (kind_on_watermark q (mark q past) t p (length (firing_set q.mode all left)) (length left)) None) left) taken
+              ∙ last_fires q (mark q past) t p (length (firing_set q.mode all left)) left live dead_at)
+          | false ↦ λ before_it. later e p refl (before p placed before_it)
+        ] refl
+
+    after : (e : Event) → DropsShown q (e ∷ past)
+    after (Record None t vs) = still (Record None t vs) refl refl
+    after (Record (Some k) t vs) = by_verdict (verdict_on q past (Record (Some k) t vs)) (q.selects k vs) refl refl where
+      by_verdict : (v : Option Refusal) (b : Bool) → verdict_on q past (Record (Some k) t vs) ≡ v → q.selects k vs ≡ b → DropsShown q (Record (Some k) t vs ∷ past)
+      by_verdict None true taken selects = recorded k t vs taken selects
+      by_verdict None false taken other = still (Record (Some k) t vs) (λ i. cond (is_none (taken i) && other i) (datum (length past) k t vs ∷ []) []) refl
+      by_verdict (Some r) b refused other = still (Record (Some k) t vs) (ap (λ (v : Option Refusal). cond (is_none v && q.selects k vs) (datum (length past) k t vs ∷ []) []) refused) refl
+    after (Watermark t) = by_verdict (verdict_on q past (Watermark t)) refl where
+      by_verdict : (v : Option Refusal) → verdict_on q past (Watermark t) ≡ v → DropsShown q (Watermark t ∷ past)
+      by_verdict None taken = risen t taken
+      by_verdict (Some r) refused = still (Watermark t) refl (refused_stays q past (Watermark t) r refused)
+
+  pub dropped_shown : (past : List Event) → DropsShown q past
+  dropped_shown [] = λ p placed dead. absurd (true≢false (sym placed))
+  dropped_shown (e ∷ past) = after past (dropped_shown past) e

@@ -1,0 +1,26 @@
+-- What is held and written is bounded, for windows of any shape, any mode, triggers and form.
+use Rattle.std.proofs.Common.{◌≤◌, length, arith}
+use Rattle.wsm_windows.specs.Windows.{IsShape}
+use Rattle.wsm_admission.specs.Clock.{IsWithinLimits, admitted_count}
+use Rattle.wsm_admission.proofs.Taken.{admitted_count-le}
+use Rattle.wsm_semantics.specs.Query.{Query}
+use Rattle.wsm_semantics.specs.Panes.{held}
+use Rattle.wsm_semantics.specs.HeldBounds.{HeldBounded}
+use Rattle.wsm_semantics.proofs.Lists.{all-each}
+use Rattle.wsm_semantics.proofs.HeldPanes.{IsHeldPane, held_panes}
+use Rattle.wsm_semantics.proofs.HeldBound as bound
+use Rattle.wsm_semantics.proofs.HeldContents as contents
+use Rattle.wsm_semantics.proofs.RowsBound as rows
+
+pub held_bounded : (q : Query) → IsShape q.shape → IsWithinLimits q.clock → HeldBounded q
+held_bounded q ok within = record {
+  of_key = λ past key. bound.held_at_key q ok within past key;
+  panes = λ past. bound.held_bounded q ok within past;
+  records = λ past.
+      all-each (IsHeldPane q past) (λ e. length e.1 ≤ q.clock.records) (held q past)
+      (λ e pane. let most = pane.count in let limit : admitted_count q.clock q.declared past ≤ q.clock.records = admitted_count-le q.clock q.declared past in omega arith)
+      (held_panes q ok past);
+  in_sessions = λ past gap is. contents.contents_limited q gap is ok past;
+  fired = λ past e. rows.firings_bounded q ok within past e;
+  rows = λ past e. rows.rows_bounded q ok within past e;
+}

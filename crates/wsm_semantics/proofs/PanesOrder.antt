@@ -1,0 +1,141 @@
+-- The panes of two bags of records that are the same: the same places, each with the same bag.
+use Rattle.std.proofs.Common.{◌≡◌, ℕ, Bool, true, false, ◌&&◌, ◌||◌, cond, List, [], ◌∷◌, ◌++◌, map, ℤ, Some, None, refl, sym, ap, ◌∙◌, arith}
+use Rattle.std.proofs.lemmas.Int.{ints}
+use Rattle.std.specs.Prelude.{filter, flat_map, int_lt, nat_eq, option_map}
+use Rattle.std.specs.Ordering.{eq_by_cmp}
+use Rattle.std.specs.FinMap.Entries.{same_entries}
+use Rattle.wsm_windows.specs.declared.window.Shape.{Shape}
+use Rattle.wsm_windows.specs.declared.window.Shape.TheVariants.{Fixed, Sliding, Session}
+use Rattle.wsm_windows.specs.Windows.{has_inside, windows_of, IsShape}
+use Rattle.wsm_semantics.specs.declared.place.Place.{Place}
+use Rattle.wsm_semantics.specs.Query.{Datum}
+use Rattle.wsm_semantics.specs.Sessions.{with_time, rising, sessions_of_rising}
+use Rattle.wsm_semantics.specs.Panes.{place_cmp, at, window_of, of_key, is_there, windows_among, with_contents}
+use Rattle.wsm_semantics.proofs.Tables.{among, places_total, places_exact, find-with_contents, is_sorted-with_contents, keyed, find-keyed, is_sorted-keyed}
+use Rattle.wsm_semantics.proofs.Each.{list_any-append}
+use Rattle.wsm_semantics.proofs.SessionPlaces.{places-sessions}
+use Rattle.wsm_semantics.proofs.Bags.{Shuffled, Empty, With, Swapped, Through, AgreeOn, same_filter}
+
+-- the places of some selected records
+abbrev pub places_of : Shape → List Datum → List Place
+places_of shape ds = flat_map (λ d. map (at d.key) (windows_among shape ds d)) ds
+
+abbrev pub contents_of : List Datum → Place → List Datum
+contents_of ds p = filter (is_there p) ds
+
+-- the panes of some selected records
+abbrev pub panes_of : Shape → List Datum → List (Place × List Datum)
+panes_of shape ds = with_contents (contents_of ds) (places_of shape ds)
+
+-- ---- windows assigned by time alone
+
+swapped_or : (a b c : Bool) → (a || (b || c)) ≡ (b || (a || c))
+swapped_or true true c = refl
+swapped_or true false c = refl
+swapped_or false b c = refl
+
+among_bag : (f : ℕ → ℤ → List Place) (p : Place) (ds es : List Datum) → Shuffled ds es → among p (flat_map (λ d. f d.key d.time) ds) ≡ among p (flat_map (λ d. f d.key d.time) es)
+among_bag f p _ _ Empty = refl
+among_bag f p _ _ (With d e ds es key time values h) =
+    list_any-append (eq_by_cmp place_cmp p) (f d.key d.time) (flat_map (λ d. f d.key d.time) ds)
+    ∙ (λ i. among p (f (key i) (time i)) || among_bag f p ds es h i)
+    ∙ sym (list_any-append (eq_by_cmp place_cmp p) (f e.key e.time) (flat_map (λ d. f d.key d.time) es))
+among_bag f p _ _ (Swapped d e ds) =
+    let rest : List Place = flat_map (λ d. f d.key d.time) ds in
+    list_any-append (eq_by_cmp place_cmp p) (f d.key d.time) (f e.key e.time ++ rest)
+    ∙ ap (λ (b : Bool). among p (f d.key d.time) || b) (list_any-append (eq_by_cmp place_cmp p) (f e.key e.time) rest)
+    ∙ swapped_or (among p (f d.key d.time)) (among p (f e.key e.time)) (among p rest)
+    ∙ ap (λ (b : Bool). among p (f e.key e.time) || b) (sym (list_any-append (eq_by_cmp place_cmp p) (f d.key d.time) rest))
+    ∙ sym (list_any-append (eq_by_cmp place_cmp p) (f e.key e.time) (f d.key d.time ++ rest))
+among_bag f p _ _ (Through ds es fs h k) = among_bag f p ds es h ∙ among_bag f p es fs k
+
+-- ---- sessions
+
+-- two times may be put in in either order
+times_swap : (t u : ℤ) (xs : List ℤ) → with_time t (with_time u xs) ≡ with_time u (with_time t xs)
+times_swap t u [] =
+    elim (int_lt t u) as (λ a. int_lt t u ≡ a → cond a (t ∷ u ∷ []) (u ∷ t ∷ []) ≡ cond (int_lt u t) (u ∷ t ∷ []) (t ∷ u ∷ [])) [
+      | true ↦ λ k. let back : int_lt u t ≡ false = grind (arith, ints) in ap (λ (b : Bool). cond b (u ∷ t ∷ []) (t ∷ u ∷ [])) (sym back)
+      | false ↦ λ k. elim (int_lt u t) as (λ b. int_lt u t ≡ b → u ∷ t ∷ [] ≡ cond b (u ∷ t ∷ []) (t ∷ u ∷ [])) [
+        | true ↦ λ l. refl
+        | false ↦ λ l. let same : t ≡ u = grind (arith, ints) in λ i. sym same i ∷ same i ∷ []
+      ] refl
+    ] refl
+times_swap t u (x ∷ xs) =
+    elim (int_lt u x) as (λ a. int_lt u x ≡ a → with_time t (cond a (u ∷ x ∷ xs) (x ∷ with_time u xs)) ≡ with_time u (cond (int_lt t x) (t ∷ x ∷ xs) (x ∷ with_time t xs))) [
+      | true ↦ λ u_first. elim (int_lt t x) as (λ b. int_lt t x ≡ b → with_time t (u ∷ x ∷ xs) ≡ with_time u (cond b (t ∷ x ∷ xs) (x ∷ with_time t xs))) [
+        | true ↦ λ t_first. both_first u_first t_first
+        | false ↦ λ t_later.
+            let after : int_lt t u ≡ false = grind (arith, ints) in
+            ap (λ (b : Bool). cond b (t ∷ u ∷ x ∷ xs) (u ∷ with_time t (x ∷ xs))) after
+            ∙ ap (λ (b : Bool). u ∷ cond b (t ∷ x ∷ xs) (x ∷ with_time t xs)) t_later
+            ∙ ap (λ (b : Bool). cond b (u ∷ x ∷ with_time t xs) (x ∷ with_time u (with_time t xs))) (sym u_first)
+      ] refl
+      | false ↦ λ u_later. elim (int_lt t x) as (λ b. int_lt t x ≡ b → with_time t (x ∷ with_time u xs) ≡ with_time u (cond b (t ∷ x ∷ xs) (x ∷ with_time t xs))) [
+        | true ↦ λ t_first.
+            let after : int_lt u t ≡ false = grind (arith, ints) in
+            ap (λ (b : Bool). cond b (t ∷ x ∷ with_time u xs) (x ∷ with_time t (with_time u xs))) t_first
+            ∙ ap (λ (b : Bool). t ∷ cond b (u ∷ x ∷ xs) (x ∷ with_time u xs)) (sym u_later)
+            ∙ ap (λ (b : Bool). cond b (u ∷ t ∷ x ∷ xs) (t ∷ with_time u (x ∷ xs))) (sym after)
+        | false ↦ λ t_later.
+            ap (λ (b : Bool). cond b (t ∷ x ∷ with_time u xs) (x ∷ with_time t (with_time u xs))) t_later
+            ∙ ap (λ (ys : List ℤ). x ∷ ys) (times_swap t u xs)
+            ∙ ap (λ (b : Bool). cond b (u ∷ x ∷ with_time t xs) (x ∷ with_time u (with_time t xs))) (sym u_later)
+      ] refl
+    ] refl
+  where
+    both_first : int_lt u x ≡ true → int_lt t x ≡ true → with_time t (u ∷ x ∷ xs) ≡ with_time u (t ∷ x ∷ xs)
+    both_first u_first t_first =
+        elim (int_lt t u) as (λ a. int_lt t u ≡ a → cond a (t ∷ u ∷ x ∷ xs) (u ∷ with_time t (x ∷ xs)) ≡ with_time u (t ∷ x ∷ xs)) [
+          | true ↦ λ k.
+              let back : int_lt u t ≡ false = grind (arith, ints) in
+              ap (λ (b : Bool). t ∷ cond b (u ∷ x ∷ xs) (x ∷ with_time u xs)) (sym u_first)
+              ∙ ap (λ (b : Bool). cond b (u ∷ t ∷ x ∷ xs) (t ∷ with_time u (x ∷ xs))) (sym back)
+          | false ↦ λ k. elim (int_lt u t) as (λ b. int_lt u t ≡ b → u ∷ with_time t (x ∷ xs) ≡ cond b (u ∷ t ∷ x ∷ xs) (t ∷ with_time u (x ∷ xs))) [
+            | true ↦ λ l. ap (λ (b : Bool). u ∷ cond b (t ∷ x ∷ xs) (x ∷ with_time t xs)) t_first
+            | false ↦ λ l. let same : t ≡ u = grind (arith, ints) in λ i. sym same i ∷ with_time (same i) (x ∷ xs)
+          ] refl
+        ] refl
+
+rising_bag : (ds es : List Datum) → Shuffled ds es → rising (map (λ x. x.time) ds) ≡ rising (map (λ x. x.time) es)
+rising_bag _ _ Empty = refl
+rising_bag _ _ (With d e ds es key time values h) = λ i. with_time (time i) (rising_bag ds es h i)
+rising_bag _ _ (Swapped d e ds) = times_swap d.time e.time (rising (map (λ x. x.time) ds))
+rising_bag _ _ (Through ds es fs h k) = rising_bag ds es h ∙ rising_bag es fs k
+
+of_key_agrees : (key : ℕ) → AgreeOn (λ d. nat_eq d.key key) (λ d. nat_eq d.key key)
+of_key_agrees key d e k t v = ap (λ (n : ℕ). nat_eq n key) k
+
+-- ---- places and panes
+
+pub among_same : (shape : Shape) → IsShape shape → (p : Place) (ds es : List Datum) → Shuffled ds es → among p (places_of shape ds) ≡ among p (places_of shape es)
+among_same (Fixed size) ok p ds es h = among_bag (λ k t. map (at k) (windows_of size size t)) p ds es h
+among_same (Sliding size period) ok p ds es h = among_bag (λ k t. map (at k) (windows_of size period t)) p ds es h
+among_same (Session gap) ok p ds es h =
+    places-sessions gap ds ok.period_low p
+    ∙ ap (λ (ts : List ℤ). among p (map (at p.key) (sessions_of_rising gap ts)))
+    (rising_bag (of_key p.key ds) (of_key p.key es) (same_filter (λ d. nat_eq d.key p.key) (λ d. nat_eq d.key p.key) (of_key_agrees p.key) ds es h))
+    ∙ sym (places-sessions gap es ok.period_low p)
+
+pub there_agrees : (p : Place) → AgreeOn (is_there p) (is_there p)
+there_agrees p d e k t v = λ i. nat_eq (k i) p.key && has_inside (t i) (window_of p)
+
+pub same_contents : (p : Place) (ds es : List Datum) → Shuffled ds es → Shuffled (contents_of ds p) (contents_of es p)
+same_contents p = same_filter (is_there p) (is_there p) (there_agrees p)
+
+-- the panes of the one are those of the other, each with its own records
+pub same_panes : (shape : Shape) → IsShape shape → (ds es : List Datum) → Shuffled ds es → panes_of shape es ≡ map (λ x. (x.0, contents_of es x.0)) (panes_of shape ds)
+same_panes shape ok ds es h =
+    same_entries place_cmp places_total places_exact (panes_of shape es) (keyed (λ p _. contents_of es p) (panes_of shape ds))
+    (is_sorted-with_contents (contents_of es) (places_of shape es))
+    (is_sorted-keyed (λ p _. contents_of es p) (panes_of shape ds) (is_sorted-with_contents (contents_of ds) (places_of shape ds)))
+    (λ p.
+    find-with_contents (contents_of es) p (places_of shape es)
+    ∙ ap (λ (b : Bool). cond b (Some (contents_of es p)) None) (sym (among_same shape ok p ds es h))
+    ∙ gate (among p (places_of shape ds)) (contents_of es p) (contents_of ds p)
+    ∙ ap (option_map (λ _. contents_of es p)) (sym (find-with_contents (contents_of ds) p (places_of shape ds)))
+    ∙ sym (find-keyed (λ p _. contents_of es p) p (panes_of shape ds)))
+  where
+    gate : (b : Bool) (x y : List Datum) → cond b (Some x) None ≡ option_map (λ (_ : List Datum). x) (cond b (Some y) None)
+    gate true x y = refl
+    gate false x y = refl

@@ -1,0 +1,91 @@
+-- What is known of each selected record: its key is declared, its values fit, WHERE is true of it, and
+-- its time is one that a record may have and no further ahead of the watermark than the skew. No more
+-- records are selected than admitted.
+use Rattle.std.proofs.Common.{◌≡◌, ℕ, ◌+◌, ◌<◌, ◌≤◌, true, false, ◌&&◌, cond, List, [], ◌∷◌, length, ℤ, ◌+ℤ◌, ◌≤ℤ◌, Option, Some, None, refl, sym, arith, length-append}
+use Rattle.std.proofs.lemmas.Int.{ints}
+use Rattle.std.proofs.lemmas.Bool.Decides.{nat_tests}
+use Rattle.std.specs.Prelude.{is_none, int_lt, nat_lt}
+use Rattle.std.specs.List.{AllByRecursion}
+use Rattle.wsm_record.specs.Event.{Event, Record, Watermark}
+use Rattle.wsm_record.specs.Schema.{fit_fields}
+use Rattle.wsm_windows.specs.Windows.{IsTime}
+use Rattle.wsm_admission.specs.declared.verdict.Refusal.{Refusal}
+use Rattle.wsm_admission.specs.Clock.{admitted_count, admitted_with, is_time}
+use Rattle.wsm_admission.proofs.Taken.{taken_record, watermark_rises}
+use Rattle.wsm_semantics.specs.Query.{Query, Datum, mark, verdict_on, selected, selection_of}
+use Rattle.wsm_semantics.specs.Replay.{datum}
+use Rattle.wsm_semantics.proofs.Lists.{all-each}
+use Rattle.wsm_semantics.proofs.Each.{all-append}
+
+-- what is known of a selected record, at a watermark
+pub record IsSelected (q : Query) (w : ℤ) (d : Datum) : Type 0 where
+  pub key : d.key < length q.declared.keys
+  pub fits : fit_fields q.declared.fields d.values ≡ true
+  pub selects : q.selects d.key d.values ≡ true
+  pub time : IsTime d.time
+  pub near : d.time ≤ℤ (w +ℤ q.clock.skew)
+
+is_below : (k n : ℕ) → nat_lt k n ≡ true → k < n
+is_below k n h = grind (arith, nat_tests)
+
+not_ahead : (w t skew : ℤ) → int_lt (w +ℤ skew) t ≡ false → t ≤ℤ (w +ℤ skew)
+not_ahead w t skew h = grind (arith, ints)
+
+still_near : (t w v skew : ℤ) → w ≤ℤ v → t ≤ℤ (w +ℤ skew) → t ≤ℤ (v +ℤ skew)
+still_near t w v skew h k = omega (arith, ints)
+
+pub a_time : (t : ℤ) → is_time t ≡ true → IsTime t
+a_time t h = record { low = grind (arith, ints); high = grind (arith, ints) }
+
+module _ (q : Query) where
+  -- a later watermark is no further behind
+  pub ahead : (w v : ℤ) → w ≤ℤ v → (d : Datum) → IsSelected q w d → IsSelected q v d
+  ahead w v rises d h = record { key = h.key; fits = h.fits; selects = h.selects; time = h.time; near = still_near d.time w v q.clock.skew rises h.near }
+
+  selects_one : (e : Event) (past : List Event) → AllByRecursion (IsSelected q (mark q (e ∷ past))) (selection_of q past e)
+  selects_one (Record None t vs) past = tt
+  selects_one (Record (Some k) t vs) past = pick (verdict_on q past (Record (Some k) t vs)) refl where
+    pick : (v : Option Refusal) → v ≡ verdict_on q past (Record (Some k) t vs) → AllByRecursion (IsSelected q (mark q past)) (cond (is_none v && q.selects k vs) (datum (length past) k t vs ∷ []) [])
+    pick None h =
+        let taken = taken_record q.clock q.declared (mark q past) (admitted_count q.clock q.declared past) (Some k) t vs (sym h) in
+        elim (q.selects k vs) as (λ b. q.selects k vs ≡ b → AllByRecursion (IsSelected q (mark q past)) (cond b (datum (length past) k t vs ∷ []) [])) [
+          | true ↦ λ is. (
+            record {
+              key = is_below k (length q.declared.keys) taken.has_key;
+              fits = taken.fits;
+              selects = is;
+              time = a_time t taken.in_time;
+              near = not_ahead (mark q past) t q.clock.skew taken.near;
+            },
+            tt,
+          )
+          | false ↦ λ is. tt
+        ] refl
+    pick (Some r) h = tt
+  selects_one (Watermark t) past = tt
+
+  -- of each selected record
+  pub each_selected : (past : List Event) → AllByRecursion (IsSelected q (mark q past)) (selected q past)
+  each_selected [] = tt
+  each_selected (e ∷ past) =
+      all-append (IsSelected q (mark q (e ∷ past))) (selection_of q past e) (selected q past)
+      (selects_one e past)
+      (all-each (IsSelected q (mark q past)) (IsSelected q (mark q (e ∷ past))) (selected q past) (ahead (mark q past) (mark q (e ∷ past)) (watermark_rises q.clock e past)) (each_selected past))
+
+  one_selected : (e : Event) (past : List Event) (n : ℕ) → length (selection_of q past e) + n ≤ admitted_with n e (verdict_on q past e)
+  one_selected (Record None t vs) past n = omega arith
+  one_selected (Record (Some k) t vs) past n = pick (verdict_on q past (Record (Some k) t vs)) where
+    pick : (v : Option Refusal) → length (cond (is_none v && q.selects k vs) (datum (length past) k t vs ∷ []) []) + n ≤ admitted_with n (Record (Some k) t vs) v
+    pick None = elim (q.selects k vs) as (λ b. length (cond b (datum (length past) k t vs ∷ []) []) + n ≤ n + 1) [ true ↦ omega arith | false ↦ omega arith ]
+    pick (Some r) = omega arith
+  one_selected (Watermark t) past n = omega arith
+
+  both_grow : (sel old n all : ℕ) → old ≤ n → sel + n ≤ all → sel + old ≤ all
+  both_grow sel old n all h k = omega arith
+
+  -- no more records are selected than admitted
+  pub selected_count : (past : List Event) → length (selected q past) ≤ admitted_count q.clock q.declared past
+  selected_count [] = omega arith
+  selected_count (e ∷ past) =
+      rw (length-append (selection_of q past e) (selected q past))
+      (both_grow (length (selection_of q past e)) (length (selected q past)) (admitted_count q.clock q.declared past) _ (selected_count past) (one_selected e past (admitted_count q.clock q.declared past)))

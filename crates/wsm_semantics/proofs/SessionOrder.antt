@@ -1,0 +1,183 @@
+-- The live sessions of one key, by rising start, as a list that a time is put into: which ones it is
+-- linked to, in what place, and what is left where sessions are dropped.
+use Rattle.std.proofs.Common.{◌≡◌, Bool, true, false, ◌&&◌, cond, List, [], ◌∷◌, ◌++◌, ℤ, pos, ◌+ℤ◌, ◌≤ℤ◌, ◌<ℤ◌, refl, sym, subst, ap, ◌∙◌, arith}
+use Rattle.std.proofs.lemmas.Int.{ints, clamps}
+use Rattle.std.proofs.lemmas.List.Elements.{All-from_recursion, filter-append}
+use Rattle.std.specs.Prelude.{filter, int_le, int_lt}
+use Rattle.std.specs.Int.{int_max, int_min}
+use Rattle.std.specs.List.{AllByRecursion}
+use Rattle.wsm_windows.specs.declared.window.Window.{Window}
+use Rattle.wsm_windows.specs.Windows.{window}
+use Rattle.wsm_windows.specs.Life.{AreSessions, is_live}
+use Rattle.wsm_semantics.specs.Sessions.{with_time, rising, sessions_of_rising, sessions, ends_by, ends_after, starts_from, links, session_of, with_session}
+use Rattle.wsm_semantics.proofs.Lists.{filter_within}
+use Rattle.wsm_semantics.proofs.Each.{filter_swap}
+use Rattle.wsm_semantics.proofs.Sessions.{StartFrom, AreApart, sooner, holds_time, none_ends_by, none_linked, all_later, sessions-more, sessions_apart}
+use Rattle.wsm_semantics.proofs.SessionTimes.{apart-filter, both_linked, linked_all}
+
+-- ---- a time may stand anywhere among the times
+
+same_time : (t u : ℤ) → int_lt t u ≡ false → int_lt u t ≡ false → t ≡ u
+same_time t u h k = grind (arith, ints)
+
+first_two : (t u : ℤ) (xs : List ℤ) → cond (int_lt t u) (t ∷ u ∷ xs) (u ∷ t ∷ xs) ≡ cond (int_lt u t) (u ∷ t ∷ xs) (t ∷ u ∷ xs)
+first_two t u xs =
+    elim (int_lt t u) as (λ b. int_lt t u ≡ b → cond b (t ∷ u ∷ xs) (u ∷ t ∷ xs) ≡ cond (int_lt u t) (u ∷ t ∷ xs) (t ∷ u ∷ xs)) [
+      | true ↦ λ h. let e : int_lt u t ≡ false = grind (arith, ints) in ap (λ (b : Bool). cond b (u ∷ t ∷ xs) (t ∷ u ∷ xs)) (sym e)
+      | false ↦ λ h. elim (int_lt u t) as (λ b. int_lt u t ≡ b → u ∷ t ∷ xs ≡ cond b (u ∷ t ∷ xs) (t ∷ u ∷ xs)) [
+        | true ↦ λ k. refl
+        | false ↦ λ k. let e : t ≡ u = same_time t u h k in λ i. sym e i ∷ e i ∷ xs
+      ] refl
+    ] refl
+
+with_time-swap : (t u : ℤ) (xs : List ℤ) → with_time t (with_time u xs) ≡ with_time u (with_time t xs)
+with_time-swap t u [] = first_two t u []
+with_time-swap t u (x ∷ xs) =
+    elim (int_lt u x) as (λ b. int_lt u x ≡ b → with_time t (cond b (u ∷ x ∷ xs) (x ∷ with_time u xs)) ≡ with_time u (cond (int_lt t x) (t ∷ x ∷ xs) (x ∷ with_time t xs))) [
+      | true ↦ λ h. elim (int_lt t x) as (λ c. int_lt t x ≡ c → with_time t (u ∷ x ∷ xs) ≡ with_time u (cond c (t ∷ x ∷ xs) (x ∷ with_time t xs))) [
+        | true ↦ λ k.
+            ap (λ (c : Bool). cond (int_lt t u) (t ∷ u ∷ x ∷ xs) (u ∷ cond c (t ∷ x ∷ xs) (x ∷ with_time t xs))) k
+            ∙ first_two t u (x ∷ xs)
+            ∙ ap (λ (c : Bool). cond (int_lt u t) (u ∷ t ∷ x ∷ xs) (t ∷ cond c (u ∷ x ∷ xs) (x ∷ with_time u xs))) (sym h)
+        | false ↦ λ k.
+            let e : int_lt t u ≡ false = grind (arith, ints) in
+            (λ i. cond (e i) (t ∷ u ∷ x ∷ xs) (u ∷ cond (k i) (t ∷ x ∷ xs) (x ∷ with_time t xs)))
+            ∙ ap (λ (c : Bool). cond c (u ∷ x ∷ with_time t xs) (x ∷ with_time u (with_time t xs))) (sym h)
+      ] refl
+      | false ↦ λ h. elim (int_lt t x) as (λ c. int_lt t x ≡ c → cond c (t ∷ x ∷ with_time u xs) (x ∷ with_time t (with_time u xs)) ≡ with_time u (cond c (t ∷ x ∷ xs) (x ∷ with_time t xs))) [
+        | true ↦ λ k.
+            let e : int_lt u t ≡ false = grind (arith, ints) in
+            sym (λ i. cond (e i) (u ∷ t ∷ x ∷ xs) (t ∷ cond (h i) (u ∷ x ∷ xs) (x ∷ with_time u xs)))
+        | false ↦ λ k.
+            ap (λ (ys : List ℤ). x ∷ ys) (with_time-swap t u xs)
+            ∙ ap (λ (c : Bool). cond c (u ∷ x ∷ with_time t xs) (x ∷ with_time u (with_time t xs))) (sym h)
+      ] refl
+    ] refl
+
+pub rising-anywhere : (t : ℤ) (ts us : List ℤ) → rising (ts ++ t ∷ us) ≡ rising (t ∷ ts ++ us)
+rising-anywhere t [] us = refl
+rising-anywhere t (s ∷ ts) us = ap (with_time s) (rising-anywhere t ts us) ∙ with_time-swap s t (rising (ts ++ us))
+
+-- ---- sessions that lie apart
+
+pub are_sessions : (gap : ℤ) (ws : List Window) → AreApart gap ws → AreSessions gap ws
+are_sessions gap [] a = tt
+are_sessions gap (w ∷ ws) a = (a.0, All-from_recursion (λ v. w.end ≤ℤ v.start) ws a.1, are_sessions gap ws a.2)
+
+module _ (gap : ℤ) (long : pos 1 ≤ℤ gap) where
+  -- the sessions with one time more, wherever it stands
+  pub sessions-anywhere : (t : ℤ) (ts us : List ℤ) → sessions gap (ts ++ t ∷ us) ≡ with_session gap t (sessions gap (ts ++ us))
+  sessions-anywhere t ts us = ap (sessions_of_rising gap) (rising-anywhere t ts us) ∙ sessions-more gap long t (ts ++ us)
+
+  -- the sessions of times, live or all, lie apart and rise, each a gap long or more
+  pub sessions-are : (p : Window → Bool) (ts : List ℤ) → AreSessions gap (filter p (sessions gap ts))
+  sessions-are p ts = are_sessions gap (filter p (sessions gap ts)) (apart-filter gap p (sessions gap ts) (sessions_apart gap long ts))
+
+  -- first those that ended by a time, then those that it is linked to, then those a gap after it
+  pub in_order : (t : ℤ) (ws : List Window) → AreApart gap ws → ws ≡ filter (ends_by t) ws ++ (filter (links gap t) ws ++ filter (starts_from (t +ℤ gap)) ws)
+  in_order t [] a = refl
+  in_order t (w ∷ ws) a =
+      let lasts : (w.start +ℤ gap) ≤ℤ w.end = a.0 in
+      let rest = in_order t ws a.2 in
+      let P : List Window = filter (ends_by t) ws in
+      let L : List Window = filter (links gap t) ws in
+      let S : List Window = filter (starts_from (t +ℤ gap)) ws in
+      elim (int_le w.end t) as (λ b. int_le w.end t ≡ b → w ∷ ws ≡ cond b (w ∷ P) P ++ (cond (links gap t w) (w ∷ L) L ++ cond (int_le (t +ℤ gap) w.start) (w ∷ S) S)) [
+        | true ↦ λ h.
+            let l : links gap t w ≡ false = ended_apart t w h in
+            let s : int_le (t +ℤ gap) w.start ≡ false = grind (arith, ints) in
+            ap (λ (vs : List Window). w ∷ vs) rest ∙ sym (λ i. w ∷ (P ++ (cond (l i) (w ∷ L) L ++ cond (s i) (w ∷ S) S)))
+        | false ↦ λ h.
+            let lives : t <ℤ w.end = grind (arith, ints) in
+            let none : P ≡ [] = none_ends_by gap long t ws a.2 (sooner t w.end (omega (arith, ints)) ws a.1) in
+            elim (int_lt w.start (t +ℤ gap)) as (λ b. int_lt w.start (t +ℤ gap) ≡ b → w ∷ ws ≡ P ++ (cond (b && int_lt t w.end) (w ∷ L) L ++ cond (int_le (t +ℤ gap) w.start) (w ∷ S) S)) [
+              | true ↦ λ k.
+                  let l : int_lt t w.end ≡ true = grind (arith, ints) in
+                  let s : int_le (t +ℤ gap) w.start ≡ false = grind (arith, ints) in
+                  ap (λ (vs : List Window). w ∷ vs) (rest ∙ ap (λ (vs : List Window). vs ++ (L ++ S)) none)
+                  ∙ sym (λ i. none i ++ (cond (l i) (w ∷ L) L ++ cond (s i) (w ∷ S) S))
+              | false ↦ λ k.
+                  let s : int_le (t +ℤ gap) w.start ≡ true = grind (arith, ints) in
+                  let far : StartFrom (t +ℤ gap) ws = sooner (t +ℤ gap) w.end (after w.start w.end t lasts s) ws a.1 in
+                  sym (λ i. none i ++ (none_linked gap long t ws far i ++ cond (s i) (w ∷ all_later gap long (t +ℤ gap) ws far i) S))
+            ] refl
+      ] refl
+    where
+      ended_apart : (t : ℤ) (w : Window) → int_le w.end t ≡ true → links gap t w ≡ false
+      ended_apart t w h = grind (arith, ints)
+
+      after : (start end t : ℤ) → (start +ℤ gap) ≤ℤ end → int_le (t +ℤ gap) start ≡ true → (t +ℤ gap) ≤ℤ end
+      after start end t h k = grind (arith, ints)
+
+  -- ---- what a time does to sessions: it begins one, extends one or joins two
+
+  -- before and after those that it is linked to
+  abbrev before : ℤ → List Window → List Window
+  before t ws = filter (ends_by t) ws
+
+  abbrev beyond : ℤ → List Window → List Window
+  beyond t ws = filter (starts_from (t +ℤ gap)) ws
+
+  module _ (t : ℤ) (ws : List Window) (apart : AreApart gap ws) where
+    around : (ls : List Window) → filter (links gap t) ws ≡ ls → (ws ≡ before t ws ++ (ls ++ beyond t ws)) × (with_session gap t ws ≡ before t ws ++ session_of gap t ls ∷ beyond t ws)
+    around ls h = (in_order t ws apart ∙ ap (λ (vs : List Window). before t ws ++ (vs ++ beyond t ws)) h, ap (λ (vs : List Window). before t ws ++ session_of gap t vs ∷ beyond t ws) h)
+
+    -- a time that is linked to none
+    pub begins : filter (links gap t) ws ≡ [] → (ws ≡ before t ws ++ beyond t ws) × (with_session gap t ws ≡ before t ws ++ window t (t +ℤ gap) ∷ beyond t ws)
+    begins h = around [] h
+
+    -- to one
+    pub extends : (w : Window) → filter (links gap t) ws ≡ w ∷ [] →
+        (ws ≡ before t ws ++ w ∷ beyond t ws) × (with_session gap t ws ≡ before t ws ++ window (int_min w.start t) (int_max w.end (t +ℤ gap)) ∷ beyond t ws)
+    extends w h = around (w ∷ []) h
+
+    -- to two
+    pub joins : (w v : Window) → filter (links gap t) ws ≡ w ∷ v ∷ [] → (ws ≡ before t ws ++ w ∷ v ∷ beyond t ws) × (with_session gap t ws ≡ before t ws ++ window w.start v.end ∷ beyond t ws)
+    joins w v h =
+        let parts = around (w ∷ v ∷ []) h in
+        let two : AreApart gap (w ∷ v ∷ []) = subst (AreApart gap) h (apart-filter gap (links gap t) ws apart) in
+        let both : AllByRecursion (λ x. links gap t x ≡ true) (w ∷ v ∷ []) = subst (AllByRecursion (λ x. links gap t x ≡ true)) h (linked_all gap long t ws) in
+        (parts.0, parts.1 ∙ λ i. before t ws ++ window (start w v two both i) (end w v two both i) ∷ beyond t ws)
+      where
+        least : (w v : Window) (t : ℤ) → (w.start +ℤ gap) ≤ℤ w.end → w.end ≤ℤ v.start → v.start <ℤ (t +ℤ gap) → int_min w.start (int_min v.start t) ≡ w.start
+        least w v t a b c = omega (arith, ints, clamps)
+
+        greatest : (w v : Window) (t : ℤ) → w.end ≤ℤ v.start → (v.start +ℤ gap) ≤ℤ v.end → t <ℤ w.end → int_max w.end (int_max v.end (t +ℤ gap)) ≡ v.end
+        greatest w v t a b c = omega (arith, ints, clamps)
+
+        start : (w v : Window) → AreApart gap (w ∷ v ∷ []) → AllByRecursion (λ x. links gap t x ≡ true) (w ∷ v ∷ []) → int_min w.start (int_min v.start t) ≡ w.start
+        start w v two both = least w v t two.0 two.1.0 (both_linked gap long t v both.1.0).0
+
+        end : (w v : Window) → AreApart gap (w ∷ v ∷ []) → AllByRecursion (λ x. links gap t x ≡ true) (w ∷ v ∷ []) → int_max w.end (int_max v.end (t +ℤ gap)) ≡ v.end
+        end w v two both = greatest w v t two.1.0 two.2.0 (both_linked gap long t w both.0).1
+
+  -- ---- sessions that were dropped
+
+  -- a record that isn't late is linked to no dropped session
+  pub dropped_apart : (mark t lateness : ℤ) (w : Window) → int_lt (t +ℤ lateness) mark ≡ false → is_live w lateness mark ≡ false → links gap t w ≡ false
+  dropped_apart mark t lateness w prompt dead = grind (arith, ints)
+
+  -- a time is put into the live sessions as into all: none that ended before it is linked to it
+  pub live-more : (limit t : ℤ) → limit ≤ℤ t → (ws : List Window) → filter (ends_after limit) (with_session gap t ws) ≡ with_session gap t (filter (ends_after limit) ws)
+  live-more limit t h ws =
+      let E : Window → Bool = ends_after limit in
+      let L : List Window = filter (links gap t) ws in
+      let v : Window = session_of gap t L in
+      let end : (t +ℤ gap) ≤ℤ v.end = (holds_time gap long t L).1 in
+      let lives : int_lt limit v.end ≡ true = grind (arith, ints) in
+      filter-append E (filter (ends_by t) ws) (v ∷ filter (starts_from (t +ℤ gap)) ws)
+      ∙ (λ i. filter_swap E (ends_by t) ws i ++ cond (lives i) (v ∷ filter_swap E (starts_from (t +ℤ gap)) ws i) (filter E (filter (starts_from (t +ℤ gap)) ws)))
+      ∙ ap (λ (ls : List Window). filter (ends_by t) (filter E ws) ++ session_of gap t ls ∷ filter (starts_from (t +ℤ gap)) (filter E ws)) (sym (filter_within (links gap t) E (λ w k. linked_lives limit t w h k) ws))
+    where
+      linked_lives : (limit t : ℤ) (w : Window) → limit ≤ℤ t → links gap t w ≡ true → int_lt limit w.end ≡ true
+      linked_lives limit t w h k = grind (arith, ints)
+
+  -- the live sessions of the times placed, with one time more
+  pub live_sessions-more : (limit t : ℤ) (ts : List ℤ) → limit ≤ℤ t → filter (ends_after limit) (sessions gap (t ∷ ts)) ≡ with_session gap t (filter (ends_after limit) (sessions gap ts))
+  live_sessions-more limit t ts h = ap (filter (ends_after limit)) (sessions-more gap long t ts) ∙ live-more limit t h (sessions gap ts)
+
+-- a later limit drops those that end by it, and no other
+pub live-dropped : (old limit : ℤ) → old ≤ℤ limit → (ws : List Window) → filter (ends_after limit) (filter (ends_after old) ws) ≡ filter (ends_after limit) ws
+live-dropped old limit h ws = filter_within (ends_after limit) (ends_after old) (λ w k. still old limit w h k) ws where
+  still : (old limit : ℤ) (w : Window) → old ≤ℤ limit → int_lt limit w.end ≡ true → int_lt old w.end ≡ true
+  still old limit w h k = grind (arith, ints)

@@ -1,0 +1,26 @@
+-- How much is held and written, whatever the shape of windows, the mode, the triggers and the form. The
+-- bounds, and that watermarks drop what they pass, are this project's own rules.
+use Rattle.std.specs.Prelude.{◌≡◌, ℕ, ◌*◌, ◌≤◌, List, length, filter, ℤ, nat_eq}
+use Rattle.std.specs.List.{AllByRecursion, sum_by}
+use Rattle.wsm_record.specs.Event.{Event}
+use Rattle.wsm_windows.specs.declared.window.Shape.TheVariants.{Session}
+use Rattle.wsm_windows.specs.Life.{live_bound}
+use Rattle.wsm_semantics.specs.Query.{Query}
+use Rattle.wsm_semantics.specs.Panes.{held}
+use Rattle.wsm_semantics.specs.Firings.{firings}
+use Rattle.wsm_semantics.specs.Relation.{turn_rows}
+
+-- the most panes: for each declared key, the most windows that are live at once
+abbrev pub most_panes : Query → ℕ
+most_panes q = length q.declared.keys * live_bound q.shape q.clock.skew q.clock.lateness
+
+-- after any history: of each key no more panes are held than windows can be live at once, and so
+-- many in all; each has no more records than may be admitted, and sessions no more together, as a
+-- record stands in one alone; and no turn fires or writes more than panes can be held
+pub record HeldBounded (q : Query) : Type 0 where
+  pub of_key : (past : List Event) (key : ℕ) → length (filter (λ e. nat_eq e.0.key key) (held q past)) ≤ live_bound q.shape q.clock.skew q.clock.lateness
+  pub panes : (past : List Event) → length (held q past) ≤ most_panes q
+  pub records : (past : List Event) → AllByRecursion (λ e. length e.1 ≤ q.clock.records) (held q past)
+  pub in_sessions : (past : List Event) (gap : ℤ) → q.shape ≡ Session gap → sum_by (λ e. length e.1) (held q past) ≤ q.clock.records
+  pub fired : (past : List Event) (e : Event) → length (firings q past e) ≤ most_panes q
+  pub rows : (past : List Event) (e : Event) → length (turn_rows q past e) ≤ most_panes q

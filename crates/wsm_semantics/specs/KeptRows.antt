@@ -1,0 +1,120 @@
+-- Worked rows on what is kept: after each event of some histories, a replay by what is kept alone
+-- keeps, fires and writes what the definitions say. Inputs are written as they are read, the oldest
+-- row first.
+use Rattle.std.specs.Prelude.{◌≡◌, refl, List, [], ◌∷◌, reverse, nat_eq, pos, int_lt, Some, None, if◌then◌else◌}
+use Rattle.wsm_record.specs.declared.event.Value.TheVariants.{Int}
+use Rattle.wsm_record.specs.declared.words.Form.TheVariants as form
+use Rattle.wsm_record.specs.declared.words.Mode.TheVariants as mode
+use Rattle.wsm_record.specs.Event.{Event}
+use Rattle.wsm_windows.specs.declared.window.Shape.TheVariants.{Sliding, Session}
+use Rattle.wsm_semantics.specs.declared.out_row.OutRow.{OutRow}
+use Rattle.wsm_semantics.specs.Query.{Query}
+use Rattle.wsm_semantics.specs.Firings.{Firing, firings}
+use Rattle.wsm_semantics.specs.Relation.{turn_rows}
+use Rattle.wsm_semantics.specs.Lines.{Row, events}
+use Rattle.wsm_semantics.specs.Replay.{State, after, fired_by, turn_rows_by, state}
+use Rattle.wsm_semantics.specs.Rows.{total, count, base, with_lateness, a, b, w}
+
+-- what is kept after an event, what it fired and the rows of its turn
+abbrev Stage : Type 0
+Stage = State × List Firing × List OutRow
+
+abbrev latest : List Stage → State
+latest [] = record { panes = []; relation = [] }
+latest (s ∷ ss) = s.0
+
+-- the stages of a history, the newest first: by a replay, and by the definitions
+abbrev by_replay : Query → List Event → List Stage
+by_replay q [] = []
+by_replay q (e ∷ past) = let ss = by_replay q past in (after q past e (latest ss), fired_by q past e (latest ss).panes, turn_rows_by q past e (latest ss)) ∷ ss
+
+abbrev by_definition : Query → List Event → List Stage
+by_definition q [] = []
+by_definition q (e ∷ past) = (state q (e ∷ past), firings q past e, turn_rows q past e) ∷ by_definition q past
+
+abbrev Agree : Query → List Row → Type 0
+Agree q rows = by_replay q (events (reverse rows)) ≡ by_definition q (events (reverse rows))
+
+-- ---- FIXED 60
+
+panes_fire_once : Agree base (a 5 1 ∷ a 65 2 ∷ w 20 ∷ w 10 ∷ a 120 4 ∷ w 1000 ∷ [])
+panes_fire_once = refl
+
+early_and_late : Agree (record base { early = 2; late = 2 }) (a 50 1 ∷ a 55 2 ∷ a 56 3 ∷ w 60 ∷ a 57 4 ∷ a 58 5 ∷ a 59 6 ∷ w 70 ∷ [])
+early_and_late = refl
+
+early_and_late_discarding : Agree (record base { mode = mode.Discarding; early = 2; late = 2 }) (a 50 1 ∷ b 55 2 ∷ a 56 3 ∷ w 60 ∷ a 57 4 ∷ a 58 5 ∷ b 59 6 ∷ w 70 ∷ [])
+early_and_late_discarding = refl
+
+each_record_discarding : Agree (with_lateness 0 (record base { mode = mode.Discarding; early = 1 })) (a 50 1 ∷ b 55 2 ∷ w 60 ∷ a 57 4 ∷ a 61 5 ∷ w 130 ∷ [])
+each_record_discarding = refl
+
+-- WHERE the key is a
+refused_and_unselected : Agree (record base { selects = λ key values. nat_eq key 0; early = 2 }) (a 50 1 ∷ b 51 2 ∷ a 101 3 ∷ w 65 ∷ a 54 4 ∷ b 60 5 ∷ a 55 6 ∷ w 65 ∷ a 56 7 ∷ w 70 ∷ [])
+refused_and_unselected = refl
+
+-- HAVING SUM(n) > 1, with EARLY EVERY 2 LATE EVERY 2
+abbrev having : Query
+having = with_lateness 100 (record base {
+  early = 2;
+  late = 2;
+  row = λ key ds. if int_lt (pos 1) (total ds) then Some (count ds ∷ Int (total ds) ∷ []) else None;
+})
+
+abbrev two_windows : List Row
+two_windows = a 5 1 ∷ a 6 2 ∷ w 60 ∷ a 7 3 ∷ b 8 1 ∷ a 61 1 ∷ w 61 ∷ a 59 4 ∷ w 160 ∷ []
+
+gained : Agree (record having { form = form.Istream }) two_windows
+gained = refl
+
+lost : Agree (record having { early = 1; form = form.Dstream }) two_windows
+lost = refl
+
+whole_bags : Agree (record having { early = 0; late = 1; form = form.Rstream }) two_windows
+whole_bags = refl
+
+-- ---- SLIDING 60 EVERY 25
+
+sliding : Agree (record base { shape = Sliding (pos 60) (pos 25); early = 2; late = 1 }) (a 5 1 ∷ a 30 2 ∷ w 35 ∷ a 34 3 ∷ b 33 1 ∷ w 60 ∷ [])
+sliding = refl
+
+sliding_discarding : Agree (record base { shape = Sliding (pos 60) (pos 25); mode = mode.Discarding; early = 1; late = 2 }) (a 5 1 ∷ w 12 ∷ a 4 2 ∷ w 35 ∷ a 34 3 ∷ w 200 ∷ [])
+sliding_discarding = refl
+
+sliding_gained : Agree (record having { shape = Sliding (pos 60) (pos 25); form = form.Istream }) (a 5 1 ∷ a 30 2 ∷ w 35 ∷ a 20 3 ∷ w 70 ∷ a 0 4 ∷ w 135 ∷ [])
+sliding_gained = refl
+
+-- ---- SESSION 30
+
+abbrev sessions : Query
+sessions = record base { shape = Session (pos 30) }
+
+sessions_are_joined : Agree sessions (a 0 1 ∷ a 40 1 ∷ b 5 1 ∷ a 20 1 ∷ w 35 ∷ a 75 1 ∷ b 31 1 ∷ a 71 1 ∷ w 75 ∷ w 120 ∷ [])
+sessions_are_joined = refl
+
+sessions_early_and_late : Agree (record sessions { early = 2; late = 1 }) (a 0 1 ∷ a 40 2 ∷ a 20 4 ∷ b 20 1 ∷ w 70 ∷ a 65 1 ∷ w 80 ∷ [])
+sessions_early_and_late = refl
+
+sessions_discarding : Agree (with_lateness 40 (record sessions { early = 2; late = 1; mode = mode.Discarding })) (a 0 1 ∷ a 60 1 ∷ a 1 1 ∷ w 35 ∷ a 31 1 ∷ b 0 1 ∷ w 40 ∷ a 30 1 ∷ [])
+sessions_discarding = refl
+
+late_and_joined : Agree (with_lateness 40 (record sessions { early = 2; late = 1; mode = mode.Discarding })) (a 0 1 ∷ a 40 1 ∷ w 75 ∷ a 35 1 ∷ a 12 1 ∷ w 110 ∷ [])
+late_and_joined = refl
+
+dropped_sessions_are_left : Agree (with_lateness 0 (record sessions { late = 1; mode = mode.Discarding })) (a 10 1 ∷ w 40 ∷ a 39 1 ∷ a 40 1 ∷ a 10 1 ∷ w 69 ∷ a 69 1 ∷ w 70 ∷ a 98 1 ∷ a 100 1 ∷ w 160 ∷ [])
+dropped_sessions_are_left = refl
+
+fired_parts_are_joined : Agree (with_lateness 100 sessions) (a 0 1 ∷ a 40 1 ∷ w 30 ∷ w 70 ∷ a 20 1 ∷ a 20 1 ∷ a 99 1 ∷ w 80 ∷ a 71 1 ∷ w 170 ∷ w 171 ∷ w 300 ∷ [])
+fired_parts_are_joined = refl
+
+fired_and_unfired_are_joined : Agree (record having { shape = Session (pos 30); early = 0; form = form.Istream }) (a 0 1 ∷ a 40 2 ∷ w 30 ∷ a 20 3 ∷ w 35 ∷ a 60 4 ∷ w 90 ∷ [])
+fired_and_unfired_are_joined = refl
+
+joined_parts_leave_the_bag : Agree (record having { shape = Session (pos 30); early = 0; late = 0; form = form.Rstream }) (a 0 1 ∷ a 40 1 ∷ w 70 ∷ a 20 1 ∷ w 80 ∷ a 60 1 ∷ w 90 ∷ w 210 ∷ [])
+joined_parts_leave_the_bag = refl
+
+joined_parts_are_lost : Agree (record having { shape = Session (pos 30); early = 0; late = 1; form = form.Dstream }) (a 0 1 ∷ a 40 1 ∷ b 20 1 ∷ w 70 ∷ a 20 1 ∷ w 71 ∷ w 170 ∷ [])
+joined_parts_are_lost = refl
+
+joined_parts_fire_early : Agree (record having { shape = Session (pos 30); late = 0 }) (a 0 1 ∷ a 1 1 ∷ a 40 1 ∷ a 41 1 ∷ a 20 1 ∷ a 21 1 ∷ w 71 ∷ [])
+joined_parts_fire_early = refl

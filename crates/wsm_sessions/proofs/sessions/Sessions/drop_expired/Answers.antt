@@ -1,0 +1,24 @@
+use Rattle.std.proofs.Common.{ap, ◌∙◌, sym, arith, SFits, w64, to_z-of_z}
+use Rattle.std.specs.Prelude.{filter}
+use Rattle.wsm_semantics.specs.Sessions.{ends_after}
+use Rattle.wsm_semantics.proofs.LiveTimes.{sessions-live}
+use Rattle.wsm_sessions.specs.Live.{times_left}
+use Rattle.wsm_sessions.proofs.sessions.Sessions.drop_expired.Goals as goal
+
+pub invariant_of-self : goal.invariant_of-self
+invariant_of-self c =
+    let limit : SFits w64 c.args.limit = c.ranges.limit in
+    let items = simp to_z-of_z at c.keep_past.ensures.items in
+    let of = c.self.invariant.2 in (
+      c.self.invariant.0,
+      c.self.invariant.1,
+      record { times = times_left c.self.inside.gap c.args.limit of.times; are = items ∙ ap (filter (ends_after c.args.limit)) of.are ∙ sym (sessions-live c.args.limit c.self.inside.gap c.self.invariant.0 of.times) },
+      omega (arith, c.keep_past.ensures.len, c.self.invariant.3),
+      omega (arith, c.keep_past.ensures.capacity, c.self.invariant.4),
+    )
+
+pub returns-clause-fits : goal.returns-clause-fits
+returns-clause-fits c times h =
+    let limit : SFits w64 c.args.limit = c.ranges.limit in
+    let items = simp to_z-of_z at c.keep_past.ensures.items in
+    rw (← c.self.view_is) (items ∙ ap (filter (ends_after c.args.limit)) (rw (← c.self.view_is) at h) ∙ sym (sessions-live c.args.limit c.self.inside.gap c.self.invariant.0 times))

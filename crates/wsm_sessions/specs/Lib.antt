@@ -1,0 +1,4 @@
+pub mod Live
+pub mod Placing
+pub mod Classes
+pub mod Vectors

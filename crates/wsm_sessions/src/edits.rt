@@ -1,0 +1,132 @@
+//! Edits of a list of sessions.
+
+ghost use Rattle.std.specs.Prelude.{◌≡◌, ◌⊎◌, ◌+◌, ◌<◌, ◌≤◌, ◌+ℤ◌, ◌≤ℤ◌, pos, true, false, int_lt, length, filter, vec_len, vec_capacity};
+ghost use Rattle.std.specs.Int.{int_max, int_min};
+ghost use Rattle.std.specs.List.Sorted.{IsPartitionedBy};
+ghost use Rattle.wsm_windows.specs.Windows.{IsTime, window, greatest_span};
+ghost use Rattle.wsm_semantics.specs.Sessions.{with_session, ends_by, ends_after};
+ghost use Rattle.wsm_sessions.specs.Live.{IsOfTimes};
+ghost use Rattle.wsm_sessions.specs.Placing.{placed, is_any_linked, joined_at};
+ghost use Rattle.wsm_sessions.specs.Placing as spec;
+
+use crate::placed::Placed;
+use wsm_windows::Window;
+
+/// Puts a time into sessions, where room is left or it is linked to one.
+pub fn put_time(windows: &mut Vec<Window>, gap: i64, time: i64) -> Placed
+    requires gap_low { pos 1 ≤ℤ gap }
+    requires gap_high { gap ≤ℤ greatest_span }
+    requires time { IsTime time }
+    requires sessions { IsOfTimes gap windows.old.items }
+    requires room { (is_any_linked gap time windows.old.items ≡ true) ⊎ (vec_len windows.old < vec_capacity windows.old) }
+    ensures items { windows.new.items ≡ with_session gap time windows.old.items }
+    ensures placed { result ≡ placed gap time windows.old.items }
+    ensures len { (vec_len windows.new ≤ vec_len windows.old) ⊎ ((is_any_linked gap time windows.old.items ≡ false) × (vec_len windows.new ≡ vec_len windows.old + 1)) }
+    ensures capacity { vec_capacity windows.new ≡ vec_capacity windows.old }
+{
+    let found = find(windows, gap, time);
+    match found {
+        Placed::New(i) => windows.insert(i, alone(gap, time)).unwrap(),
+        Placed::Extends(i) => windows[i] = extended(windows[i], gap, time),
+        Placed::Joins(i) => join(windows, i),
+    }
+    found
+}
+
+/// What a time does to sessions: which it is linked to, and at what place.
+pub fn find(windows: &[Window], gap: i64, time: i64) -> Placed
+    requires gap_low { pos 1 ≤ℤ gap }
+    requires gap_high { gap ≤ℤ greatest_span }
+    requires time { IsTime time }
+    requires sessions { IsOfTimes gap windows.now }
+    ensures { result ≡ placed gap time windows.now }
+{
+    let i = ended_by(windows, time);
+    let reach = time + gap;
+    if !starts_before(windows, i, reach) {
+        Placed::New(i)
+    } else if !starts_before(windows, i + 1, reach) {
+        Placed::Extends(i)
+    } else {
+        Placed::Joins(i)
+    }
+}
+
+// The session of one time.
+fn alone(gap: i64, time: i64) -> Window
+    requires gap_low { pos 1 ≤ℤ gap }
+    requires gap_high { gap ≤ℤ greatest_span }
+    requires time { IsTime time }
+    ensures { result ≡ window time (time +ℤ gap) }
+{
+    Window {
+        start: time,
+        end: time + gap,
+    }
+}
+
+// A session with a time that is linked to it alone.
+fn extended(session: Window, gap: i64, time: i64) -> Window
+    requires gap_low { pos 1 ≤ℤ gap }
+    requires gap_high { gap ≤ℤ greatest_span }
+    requires time { IsTime time }
+    ensures { result ≡ window (int_min session.start time) (int_max session.end (time +ℤ gap)) }
+{
+    Window {
+        start: session.start.min(time),
+        end: session.end.max(time + gap),
+    }
+}
+
+// Puts the sessions at a place and at the next together.
+fn join(windows: &mut Vec<Window>, i: usize)
+    requires { i + 1 < vec_len windows.old }
+    ensures items { windows.new.items ≡ joined_at windows.old.items i }
+    ensures len { vec_len windows.new ≤ vec_len windows.old }
+    ensures capacity { vec_capacity windows.new ≡ vec_capacity windows.old }
+{
+    let next = windows.remove(i + 1);
+    windows[i] = joined(windows[i], next);
+}
+
+// A session and the next, which a time between them links.
+fn joined(session: Window, next: Window) -> Window
+    ensures { result ≡ window session.start next.end }
+{
+    Window {
+        start: session.start,
+        end: next.end,
+    }
+}
+
+// How many windows end by a time, where those come first.
+fn ended_by(windows: &[Window], time: i64) -> usize
+    requires { IsPartitionedBy (ends_by time) windows.now }
+    ensures count { result ≡ length (filter (ends_by time) windows.now) }
+    ensures within { result ≤ length windows.now }
+{
+    windows.partition_point(|w| w.end <= time)
+}
+
+// Whether there is a window at a place, and it starts before a time.
+fn starts_before(windows: &[Window], i: usize, time: i64) -> bool
+    ensures { result ≡ spec.starts_before time windows.now i }
+{
+    i < windows.len() && is_before(windows[i], time)
+}
+
+// Whether a window starts before a time.
+fn is_before(window: Window, time: i64) -> bool
+    ensures { result ≡ int_lt window.start time }
+{
+    window.start < time
+}
+
+/// Keeps the windows that end after a limit.
+pub fn keep_past(windows: &mut Vec<Window>, limit: i64)
+    ensures items { windows.new.items ≡ filter (ends_after limit) windows.old.items }
+    ensures len { vec_len windows.new ≤ vec_len windows.old }
+    ensures capacity { vec_capacity windows.new ≡ vec_capacity windows.old }
+{
+    windows.retain(|w| w.end > limit);
+}

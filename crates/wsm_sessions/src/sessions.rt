@@ -1,0 +1,117 @@
+//! The sessions of one key.
+
+ghost use Rattle.std.specs.Prelude.{◌≡◌, ℕ, ◌<◌, ℤ, pos, ◌≤ℤ◌, List, [], ◌∷◌, length, filter, Contains, IfOk, true, Some, slice_get};
+ghost use Rattle.std.specs.List.{list_any};
+ghost use Rattle.wsm_windows.specs.Windows.{IsTime, greatest_span, has_inside};
+ghost use Rattle.wsm_semantics.specs.Sessions.{with_session, ends_after};
+ghost use Rattle.wsm_sessions.specs.Classes.{IsClass};
+ghost use Rattle.wsm_sessions.specs.Live.{Fits, times_left};
+ghost use Rattle.wsm_sessions.specs.Placing.{placed};
+ghost use Rattle.wsm_sessions.specs.Placing as spec;
+
+use crate::edits::{find, keep_past, put_time};
+use crate::placed::Placed;
+use std::alloc::{AllocError, Global};
+use std::marker::Model;
+use wsm_windows::Window;
+
+/// The sessions of the times that were placed and not dropped, by rising start. A clause sees their
+/// windows, the gap and the room.
+#[derive(Drop)]
+pub struct Sessions {
+    gap: i64,
+    room: usize,
+    windows: Vec<Window>,
+}
+
+impl Model for Sessions {
+    ghost use Rattle.std.specs.Prelude.{◌≤◌, ◌≤ℤ◌, pos, vec_len, vec_capacity};
+    ghost use Rattle.wsm_windows.specs.Windows.{greatest_span};
+    ghost use Rattle.wsm_sessions.specs.Live.{Live, IsOfTimes};
+
+    ghost Value = { Live };
+
+    ghost view = { λ a. record { gap = a.gap; room = a.room; windows = a.windows.items } };
+
+    ghost invariant = { λ a. (pos 1 ≤ℤ a.gap) × (a.gap ≤ℤ greatest_span) × IsOfTimes a.gap a.windows.items × (vec_len a.windows ≤ a.room) × (a.room ≤ vec_capacity a.windows) };
+}
+
+impl Sessions {
+    /// No session yet, with room for so many. No later call takes memory.
+    ///
+    /// # Errors
+    ///
+    /// Where there is no memory for the room.
+    pub fn open(alloc: Global, gap: i64, room: usize) -> Result<Self, AllocError>
+        requires gap_low { pos 1 ≤ℤ gap }
+        requires gap_high { gap ≤ℤ greatest_span }
+        ensures empty { IfOk result (λ s. s ≡ record { gap = gap; room = room; windows = [] }) }
+        ensures fits { IfOk result (λ s. Fits s []) }
+    {
+        Ok(Sessions {
+            gap,
+            room,
+            windows: Vec::with_capacity(alloc, room)?,
+        })
+    }
+
+    /// Whether a time can be placed: room is left, or it is linked to a session.
+    pub fn admits(&self, time: i64) -> bool
+        requires { IsTime time }
+        ensures { result ≡ spec.admits self.now time }
+    {
+        self.len() < self.room || self.is_linked(time)
+    }
+
+    // Whether a session has a time less than a gap from this one.
+    fn is_linked(&self, time: i64) -> bool
+        requires { IsTime time }
+        ensures { result ≡ spec.is_linked self.now time }
+    {
+        match find(&self.windows, self.gap, time) {
+            Placed::New(_) => false,
+            Placed::Extends(_) => true,
+            Placed::Joins(_) => true,
+        }
+    }
+
+    /// Puts a time into the sessions that it is linked to, or into one of its own.
+    pub fn place(&mut self, time: i64) -> Placed
+        requires time { IsTime time }
+        requires admits { spec.admits self.old time ≡ true }
+        ensures windows { self.new ≡ record self.old { windows = with_session self.old.gap time self.old.windows } }
+        ensures placed { result ≡ placed self.old.gap time self.old.windows }
+        // Of whatever times it had the sessions, it has those of one time more.
+        ensures fits { (times : List ℤ) → Fits self.old times → Fits self.new (time ∷ times) }
+    {
+        put_time(&mut self.windows, self.gap, time)
+    }
+
+    /// Drops the sessions that end by a limit, which is in event time, and their times.
+    pub fn drop_expired(&mut self, limit: i64)
+        ensures windows { self.new ≡ record self.old { windows = filter (ends_after limit) self.old.windows } }
+        // Of whatever times it had the sessions, it has those of the times that aren't in a dropped one.
+        ensures fits { (times : List ℤ) → Fits self.old times → Fits self.new (times_left self.old.gap limit times) }
+    {
+        keep_past(&mut self.windows, limit);
+    }
+
+    /// The session at place `i`, by rising start.
+    pub fn at(&self, i: usize) -> Window
+        requires { i < length self.now.windows }
+        ensures session { slice_get self.now.windows i ≡ Some result }
+        // Of whatever times it has the sessions, this is a class of the chains of links.
+        ensures class { (times : List ℤ) → Fits self.now times → IsClass self.now.gap times result }
+    {
+        self.windows[i]
+    }
+
+    /// How many sessions there are.
+    pub fn len(&self) -> usize
+        ensures len { result ≡ length self.now.windows }
+        // Of whatever times it has the sessions, each is in one.
+        ensures covers { (times : List ℤ) → Fits self.now times → (t : ℤ) → Contains times t → list_any (has_inside t) self.now.windows ≡ true }
+    {
+        self.windows.len()
+    }
+}

@@ -1,0 +1,2 @@
+pub mod Triggers
+pub mod Vectors
