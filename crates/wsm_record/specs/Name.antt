@@ -1,6 +1,5 @@
 -- Which texts are names.
-use Rattle.std.specs.Prelude.{ℕ, Bool, false, ◌&&◌, ◌||◌, not, List, [], ◌∷◌, ◌++◌, length, nat_le, nat_eq, bytes_eq}
-use Rattle.wsm_record.specs.declared.reserved.TheConstants.{RESERVED}
+use Rattle.std.specs.Prelude.{ℕ, Bool, false, ◌&&◌, ◌||◌, not, List, [], ◌∷◌, ◌++◌, length, nat_le, nat_eq, bytes_eq, codes}
 use Rattle.std.specs.List.{list_any, list_all}
 
 abbrev pub is_between : ℕ → ℕ → ℕ → Bool
@@ -21,9 +20,16 @@ name_limit = 32
 abbrev pub is_among : List ℕ → List (List ℕ) → Bool
 is_among x xs = list_any (bytes_eq x) xs
 
+-- the 49 words of query texts
+abbrev pub reserved_words : List (List ℕ)
+reserved_words =
+    codes "KEYS" ∷ codes "KEY" ∷ codes "FIELD" ∷ codes "INT" ∷ codes "BOOL" ∷ codes "ENUM" ∷ codes "START" ∷ codes "SKEW" ∷ codes "LATENESS" ∷ codes "RECORDS" ∷ codes "BUDGET" ∷ codes "RECORD" ∷ codes "PANE" ∷ codes "HELD" ∷
+    codes "SELECT" ∷ codes "WHERE" ∷ codes "HAVING" ∷ codes "WINDOW" ∷ codes "FIXED" ∷ codes "SLIDING" ∷ codes "SESSION" ∷ codes "EVERY" ∷ codes "ACCUMULATING" ∷ codes "DISCARDING" ∷ codes "RETRACTING" ∷ codes "EARLY" ∷ codes "LATE" ∷
+    codes "EMIT" ∷ codes "PANES" ∷ codes "ISTREAM" ∷ codes "DSTREAM" ∷ codes "RSTREAM" ∷ codes "AND" ∷ codes "OR" ∷ codes "NOT" ∷ codes "TRUE" ∷ codes "FALSE" ∷ codes "COUNT" ∷ codes "SUM" ∷ codes "MIN" ∷ codes "MAX" ∷ codes "ANY" ∷ codes "ALL" ∷ codes "IF" ∷ codes "THEN" ∷ codes "ELSE" ∷ codes "END" ∷ codes "FROM" ∷ codes "SOURCES" ∷ []
+
 -- a word of query texts, which is no name
 unfoldable pub is_reserved : List ℕ → Bool
-is_reserved word = list_any (λ r. bytes_eq word r.now) RESERVED
+is_reserved word = is_among word reserved_words
 
 -- a letter, then letters, digits and _
 abbrev pub is_word : List ℕ → Bool

@@ -1,66 +1,80 @@
 //! Why a program is refused.
 
 use std::alloc::AllocError;
+use std::error::Error;
 use std::fmt;
-use thiserror::Error;
 use wsm_bytecode::SectionId;
 
 /// Why a program is refused. Its text is its name.
-#[derive(Clone, Copy, Debug, PartialEq, Eq, Error)]
+#[derive(Clone, Copy, Debug, PartialEq, Eq)]
 pub enum Rule {
     /// An instruction has too few operands.
-    #[error("StackUnderflow")]
     StackUnderflow,
     /// A 33rd value would be on the stack.
-    #[error("StackOverflow")]
     StackOverflow,
     /// An operand has another type than the instruction takes, or a section ends on a stack that
     /// isn't exactly its result.
-    #[error("Type")]
     Type,
     /// A jump leads back, to its own place, or past the end of its section.
-    #[error("BadJump")]
     BadJump,
     /// Ways to a place differ in the height of the stack, in types, or in what is folded.
-    #[error("Join")]
     Join,
     /// No way leads to a place.
-    #[error("Unreachable")]
     Unreachable,
     /// A section can run past its last instruction, or has none.
-    #[error("NoReturn")]
     NoReturn,
     /// An instruction may not stand in its section.
-    #[error("NotHere")]
     NotHere,
     /// An accumulator is folded a second time.
-    #[error("FoldTwice")]
     FoldTwice,
     /// The update section ends with an accumulator that isn't folded.
-    #[error("FoldMissing")]
     FoldMissing,
     /// A result of arithmetic may leave 64 bits.
-    #[error("MayOverflow")]
     MayOverflow,
     /// A divisor may be 0.
-    #[error("MayDivideByZero")]
     MayDivideByZero,
     /// A sum over all records may leave 64 bits.
-    #[error("AccumulatorRange")]
     AccumulatorRange,
     /// Fewer instructions are stated for a record than it may take.
-    #[error("BudgetRecord")]
     BudgetRecord,
     /// Fewer instructions are stated for a pane than it may take.
-    #[error("BudgetPane")]
     BudgetPane,
     /// Fewer panes are stated than may be held.
-    #[error("BudgetHeld")]
     BudgetHeld,
     /// There was no memory for the verifier. This says nothing of the program.
-    #[error("Memory")]
     Memory,
 }
+
+impl fmt::Display for Rule {
+    ghost use Rattle.std.specs.Prelude.{Some};
+    ghost use Rattle.wsm_verifier.specs.Text.{rule_name};
+
+    ghost output = { λ rule. Some (rule_name rule) };
+
+    fn fmt<W: fmt::Write>(&self, f: &mut fmt::Formatter<W>) -> fmt::Result {
+        f.write_str(match self {
+            Rule::StackUnderflow => "StackUnderflow",
+            Rule::StackOverflow => "StackOverflow",
+            Rule::Type => "Type",
+            Rule::BadJump => "BadJump",
+            Rule::Join => "Join",
+            Rule::Unreachable => "Unreachable",
+            Rule::NoReturn => "NoReturn",
+            Rule::NotHere => "NotHere",
+            Rule::FoldTwice => "FoldTwice",
+            Rule::FoldMissing => "FoldMissing",
+            Rule::MayOverflow => "MayOverflow",
+            Rule::MayDivideByZero => "MayDivideByZero",
+            Rule::AccumulatorRange => "AccumulatorRange",
+            Rule::BudgetRecord => "BudgetRecord",
+            Rule::BudgetPane => "BudgetPane",
+            Rule::BudgetHeld => "BudgetHeld",
+            Rule::Memory => "Memory",
+        })
+    }
+}
+
+impl Error for Rule {}
 
 /// The part of a program that a rejection is about. Its text is `where`, `update`, `fire` or
 /// `budget`.
@@ -87,8 +101,7 @@ impl fmt::Display for Part {
 }
 
 /// The first fault of a program. Its text is as `fire,2,MayDivideByZero`.
-#[derive(Clone, Copy, Debug, PartialEq, Eq, Error)]
-#[error("{part},{place},{rule}")]
+#[derive(Clone, Copy, Debug, PartialEq, Eq)]
 pub struct Rejection {
     /// Where the fault is.
     pub part: Part,
@@ -97,6 +110,20 @@ pub struct Rejection {
     /// What is wrong there.
     pub rule: Rule,
 }
+
+impl fmt::Display for Rejection {
+    ghost use Rattle.std.specs.Prelude.{Some};
+    ghost use Rattle.wsm_verifier.specs.Text.{rejection_text};
+
+    ghost output = { λ rejection. Some (rejection_text rejection) };
+
+    fn fmt<W: fmt::Write>(&self, f: &mut fmt::Formatter<W>) -> fmt::Result {
+        let Rejection { part, place, rule } = self;
+        write!(f, "{part},{place},{rule}")
+    }
+}
+
+impl Error for Rejection {}
 
 // There was no memory.
 impl From<AllocError> for Rejection {

@@ -1,4 +1,4 @@
-//! The numbers that programs state, and printed refusals.
+//! The numbers that programs state.
 
 use super::*;
 
@@ -68,34 +68,5 @@ fn a_refused_program_comes_back(rt: HostRuntime) -> Result<(), Fail> {
         return Err(Fail::from("accepted"));
     };
     assert_eq!(rt; program.header().budget.held, 5);
-    Ok(())
-}
-
-#[test]
-fn printed(rt: HostRuntime) -> Result<(), Fail> {
-    for (part, place, rule, want) in [
-        (
-            Part::Code(SectionId::Fire),
-            2,
-            Rule::MayDivideByZero,
-            "fire,2,MayDivideByZero",
-        ),
-        (
-            Part::Code(SectionId::Where),
-            1,
-            Rule::BadJump,
-            "where,1,BadJump",
-        ),
-        (
-            Part::Code(SectionId::Update),
-            0,
-            Rule::FoldMissing,
-            "update,0,FoldMissing",
-        ),
-        (Part::Budget, 0, Rule::BudgetHeld, "budget,0,BudgetHeld"),
-    ] {
-        let rejection = Rejection { part, place, rule };
-        assert_eq!(rt; rejection.to_string(rt.alloc())?.as_str(), want);
-    }
     Ok(())
 }
