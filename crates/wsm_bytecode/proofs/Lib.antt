@@ -10,3 +10,4 @@ pub mod Reader
 pub mod Spelled
 pub mod Places
 pub mod Lines
+pub mod Stating

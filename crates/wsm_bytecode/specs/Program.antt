@@ -49,6 +49,10 @@ section p Where = p.selection
 section p Update = p.update
 section p Fire = p.fire
 
+-- the same program, which states another budget
+abbrev pub stating : Program → Budget → Program
+stating p budget = record p { header = record p.header { budget = budget } }
+
 -- the names of a field that is an ENUM
 abbrev pub names_of_type : FieldType → Option (List Name)
 names_of_type (Enum names) = Some names

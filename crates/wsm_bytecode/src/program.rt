@@ -1,7 +1,7 @@
 //! Headers and programs.
 
 ghost use Rattle.std.specs.Prelude.{◌≡◌, ◌≤◌, length, is_ok, IfOk, IfErr, IsTrue};
-ghost use Rattle.wsm_bytecode.specs.Program.{section as section_of, is_program};
+ghost use Rattle.wsm_bytecode.specs.Program.{section as section_of, is_budget, is_program, stating};
 ghost use Rattle.wsm_bytecode.specs.View.{header_of, program_of};
 
 use crate::instr::{CellType, Instr, SectionId};
@@ -114,6 +114,21 @@ impl Program {
             update,
             fire,
         }
+    }
+
+    /// The same program, which states another budget. It takes no memory.
+    pub fn stating(self, budget: Budget) -> Program
+        requires { IsTrue (is_budget budget) }
+        ensures { result ≡ stating self budget }
+    {
+        let Program {
+            mut header,
+            selection,
+            update,
+            fire,
+        } = self;
+        header.budget = budget;
+        Program::of_parts(header, selection, update, fire)
     }
 
     /// What the program declares.

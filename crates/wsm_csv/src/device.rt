@@ -16,6 +16,9 @@ pub trait Device {
     /// Whether a call has failed.
     ghost has_failed: { Self → Bool };
 
+    /// Whether all that was taken has left, by a flush that didn't fail.
+    ghost is_flushed: { Self → Bool };
+
     /// Takes a beginning of the bytes, and answers how many: at least one of a slice that isn't
     /// empty. An error takes none, and is answered exactly where the device has failed afterwards.
     fn put(&mut self, bytes: &[u8]) -> Result<usize, DeviceFault>
@@ -32,6 +35,7 @@ pub trait Device {
     fn flush(&mut self) -> Result<(), DeviceFault>
         requires { has_failed self.old ≡ false }
         ensures kept { Keeps (taken self.old) (taken self.new) }
+        ensures flushed { OnOk result (is_flushed self.new ≡ true) }
         ensures works { OnOk result (has_failed self.new ≡ false) }
         ensures fails { OnErr result (has_failed self.new ≡ true) };
 

@@ -11,6 +11,7 @@ use std::io::Write;
 pub struct Guarded<W> {
     writer: W,
     failed: bool,
+    flushed: bool,
 }
 
 impl<W: Write> Guarded<W> {
@@ -24,6 +25,7 @@ impl<W: Write> Guarded<W> {
         Guarded {
             writer,
             failed: false,
+            flushed: false,
         }
     }
 
@@ -42,10 +44,13 @@ impl<W: Write> Device for Guarded<W> {
 
     ghost has_failed = { λ g. g.failed };
 
+    ghost is_flushed = { λ g. g.flushed };
+
     fn put(&mut self, bytes: &[u8]) -> Result<usize, DeviceFault> {
         if bytes.is_empty() {
             return Ok(0);
         }
+        self.flushed = false;
         match self.writer.write(bytes) {
             Ok(count) if 0 < count => Ok(count),
             _ => {
@@ -57,7 +62,10 @@ impl<W: Write> Device for Guarded<W> {
 
     fn flush(&mut self) -> Result<(), DeviceFault> {
         match self.writer.flush() {
-            Ok(()) => Ok(()),
+            Ok(()) => {
+                self.flushed = true;
+                Ok(())
+            }
             Err(_) => {
                 self.failed = true;
                 Err(DeviceFault)

@@ -1,6 +1,7 @@
 -- Rows of values that are joined place by place.
-use Rattle.std.proofs.Common.{◌≡◌, ℕ, zero, suc, ◌<◌, Bool, true, false, ◌&&◌, List, [], ◌∷◌, ◌++◌, length, get_or, set, take, ◌≤◌, length-take, Some, refl, sym, ap, ◌∙◌, arith}
-use Rattle.std.proofs.Math.Seq.{take-nil}
+use Rattle.std.proofs.Common.{◌≡◌, ℕ, zero, suc, ◌-◌, ◌<◌, Bool, true, false, ◌&&◌, List, [], ◌∷◌, ◌++◌, length, get_or, set, take, drop, replicate, ◌≤◌, length-append, length-drop, length-take, Some, refl, sym, ap, ◌∙◌, arith}
+use Rattle.std.proofs.Math.Seq.{take-nil, drop-append_seam}
+use Rattle.std.proofs.lemmas.List.{length-replicate, drop-replicate}
 use Rattle.std.proofs.lemmas.Bool.{true≢false}
 use Rattle.wsm_record.specs.declared.event.Value.{Value}
 use Rattle.wsm_record.specs.declared.event.Value.TheVariants.{Int, Bool as Truth}
@@ -8,7 +9,7 @@ use Rattle.wsm_record.specs.declared.words.Kind.{Kind}
 use Rattle.wsm_record.specs.declared.words.Kind.TheVariants.{Sum, Min, Max, Any, All}
 use Rattle.wsm_fold.specs.Lawful.{sum_laws, min_laws, max_laws, any_laws, all_laws}
 use Rattle.wsm_fold.specs.Fold.{is_of_kind, are_of_kinds, number_of, truth_of, join, joins, folds_of}
-use Rattle.wsm_fold.specs.Accumulators.{Accumulators, AreFoldsOf, SumFits, SumsFit}
+use Rattle.wsm_fold.specs.Accumulators.{SumFits, SumsFit}
 use Rattle.wsm_fold.proofs.Bags.{fold_by-append}
 
 -- ---- the laws of a kind, and of a row of kinds
@@ -119,69 +120,62 @@ joined_up_to_all (k ∷ ks) (x ∷ xs) (y ∷ ys) a = ap (λ r. join k x y ∷ r
 
 -- ---- a row that is shorter than what it is joined to
 
-joins_none : (ks : List Kind) (ys : List Value) → joins ks [] ys ≡ []
-joins_none [] ys = refl
-joins_none (k ∷ ks) ys = refl
-
 no_joins : (ks : List Kind) (xs : List Value) → joins ks xs [] ≡ []
 no_joins [] xs = refl
 no_joins (k ∷ ks) [] = refl
 no_joins (k ∷ ks) (x ∷ xs) = refl
 
-pub joins-take : (n : ℕ) (ks : List Kind) (xs ys : List Value) → length ys ≤ n → joins (take n ks) (take n xs) ys ≡ joins ks xs ys
-joins-take n [] xs ys h = rw (take-nil {A = Kind} n) refl
-joins-take n (k ∷ ks) [] ys h = rw (take-nil {A = Value} n) (joins_none (take n (k ∷ ks)) ys)
-joins-take n (k ∷ ks) (x ∷ xs) [] h = no_joins (take n (k ∷ ks)) (take n (x ∷ xs))
+pub joins-take : (n : ℕ) (ks : List Kind) (xs ys : List Value) → length ys ≤ n → joins ks (take n xs) ys ≡ joins ks xs ys
+joins-take n [] xs ys h = refl
+joins-take n (k ∷ ks) [] ys h = rw (take-nil {A = Value} n) refl
+joins-take n (k ∷ ks) (x ∷ xs) [] h = no_joins (k ∷ ks) (take n (x ∷ xs))
 joins-take zero (k ∷ ks) (x ∷ xs) (y ∷ ys) h = absurd (omega (arith, h))
 joins-take (suc n) (k ∷ ks) (x ∷ xs) (y ∷ ys) h = ap (λ r. join k x y ∷ r) (joins-take n ks xs ys (omega (arith, h)))
 
-pub SumsFit-take : (n : ℕ) (ks : List Kind) (xs ys : List Value) → length ys ≤ n → SumsFit (take n ks) (take n xs) ys → SumsFit ks xs ys
+pub SumsFit-take : (n : ℕ) (ks : List Kind) (xs ys : List Value) → length ys ≤ n → SumsFit ks (take n xs) ys → SumsFit ks xs ys
 SumsFit-take n [] xs ys h f = tt
 SumsFit-take n (k ∷ ks) [] ys h f = tt
 SumsFit-take n (k ∷ ks) (x ∷ xs) [] h f = tt
 SumsFit-take zero (k ∷ ks) (x ∷ xs) (y ∷ ys) h f = absurd (omega (arith, h))
 SumsFit-take (suc n) (k ∷ ks) (x ∷ xs) (y ∷ ys) h f = (f.0, SumsFit-take n ks xs ys (omega (arith, h)) f.1)
 
--- ---- accumulators that lie in the first n places
+-- and what lies behind them stays
+pub joined_up_to_rest : (n : ℕ) (ks : List Kind) (xs ys : List Value) → drop n (joined_up_to n ks xs ys) ≡ drop n xs
+joined_up_to_rest zero ks xs ys = refl
+joined_up_to_rest (suc n) [] xs ys = refl
+joined_up_to_rest (suc n) (k ∷ ks) [] ys = refl
+joined_up_to_rest (suc n) (k ∷ ks) (x ∷ xs) [] = refl
+joined_up_to_rest (suc n) (k ∷ ks) (x ∷ xs) (y ∷ ys) = joined_up_to_rest n ks xs ys
 
--- what a clause sees of them
-abbrev pub held : ℕ → List Kind → List Value → Accumulators
-held n ks xs = record { kinds = take n ks; values = take n xs }
+-- ---- values in the first n places
 
-module _ (n : ℕ) (ks : List Kind) (xs vs : List Value) (a : Accumulators) (is : held n ks xs ≡ a) (room : n ≤ length ks) (types : are_of_kinds a.kinds vs ≡ true) where
-  pub row_length : length vs ≡ n
+-- as many places as kinds are in use, and so a row can be joined to them
+pub record AreHeld (ks : List Kind) (n : ℕ) (places held values : List Value) : Type 0 where
+  pub held_is : take n places ≡ held
+  pub room : n ≤ length places
+  pub held_types : are_of_kinds ks held ≡ true
+  pub types : are_of_kinds ks values ≡ true
+
+module _ (ks : List Kind) (n : ℕ) (places held values : List Value) (a : AreHeld ks n places held values) where
+  pub row_length : length values ≡ n
   row_length =
-      let fit : are_of_kinds (take n ks) vs ≡ true = ap (λ b. are_of_kinds b.kinds vs) is ∙ types in
-      omega (arith, length-are_of_kinds (take n ks) vs fit, length-take n ks)
+      omega (arith, length-are_of_kinds ks values a.types, length-are_of_kinds ks held a.held_types, simp length-take at (ap length a.held_is), a.room)
 
-  pub row_has_places : are_of_kinds (take n ks) (take n xs) ≡ true → HasPlaces ks xs vs
-  row_has_places old = record {
-    kinds = omega (arith, row_length, room);
-    places = omega (arith, row_length, length-are_of_kinds (take n ks) (take n xs) old, length-take n ks, length-take n xs);
-  }
+  pub row_has_places : HasPlaces ks places values
+  row_has_places = record { kinds = omega (arith, length-are_of_kinds ks values a.types); places = omega (arith, row_length, a.room) }
 
-  pub row_sums : SumsFit a.kinds a.values vs → SumsFit ks xs vs
-  row_sums fit = SumsFit-take n ks xs vs (omega (arith, row_length)) (rw (← is) at fit)
+  pub row_sums : SumsFit ks held values → SumsFit ks places values
+  row_sums fit = SumsFit-take n ks places values (omega (arith, row_length)) (rw (← a.held_is) at fit)
 
-  -- the row is joined to what they held
-  pub row_joined : (new : List Value) → take (length vs) new ≡ joins ks xs vs → take n new ≡ joins a.kinds a.values vs
+  pub row_joined : (new : List Value) → take (length values) new ≡ joins ks places values → take n new ≡ joins ks held values
   row_joined new e =
-      let from : joins (take n ks) (take n xs) vs ≡ joins a.kinds a.values vs = ap (λ b. joins b.kinds b.values vs) is in
-      ap (λ k. take k new) (sym row_length) ∙ e ∙ sym (joins-take n ks xs vs (omega (arith, row_length))) ∙ from
+      ap (λ k. take k new) (sym row_length) ∙ e ∙ sym (joins-take n ks places values (omega (arith, row_length))) ∙ ap (λ xs. joins ks xs values) a.held_is
 
-  -- each value has its kind's type still
-  pub joined_types : are_of_kinds (take n ks) (take n xs) ≡ true → (new : List Value) → take (length vs) new ≡ joins ks xs vs → are_of_kinds (take n ks) (take n new) ≡ true
-  joined_types old new e =
-      let fit : are_of_kinds (take n ks) vs ≡ true = ap (λ b. are_of_kinds b.kinds vs) is ∙ types in
-      let joined : take n new ≡ joins (take n ks) (take n xs) vs = row_joined new e ∙ sym (ap (λ b. joins b.kinds b.values vs) is) in
-      ap (are_of_kinds (take n ks)) joined ∙ are_of_kinds-joins (take n ks) (take n xs) vs (length-are_of_kinds (take n ks) (take n xs) old) (length-are_of_kinds (take n ks) vs fit)
+-- ---- a row copied into blank places
 
--- they hold the folds of a bag, and then of the bag with the row more
-pub more_folds : (a : Accumulators) (vs new : List Value) → new ≡ joins a.kinds a.values vs
-    → (rows : List (List Value)) → AreFoldsOf rows a → folds_of a.kinds (rows ++ vs ∷ []) ≡ Some new
-more_folds a vs new e rows h = fold_by-append (joins a.kinds) (joins_assoc a.kinds) a.values vs rows (vs ∷ []) h refl ∙ ap Some (sym e)
+pub copied_among : (n : ℕ) (z : Value) (xs copy : List Value) → copy ≡ xs → length xs ≤ n → length (copy ++ drop (length xs) (replicate n z)) ≡ n
+copied_among n z xs copy e h = simp (e, length-append, length-drop, length-replicate) (omega (arith, h))
 
--- the same, of accumulators in the first n places
-pub more_held : (n : ℕ) (ks : List Kind) (xs vs new : List Value) (a : Accumulators) → held n ks xs ≡ a → new ≡ joins a.kinds a.values vs
-    → (rows : List (List Value)) → AreFoldsOf rows a → folds_of (take n ks) (rows ++ vs ∷ []) ≡ Some new
-more_held n ks xs vs new a is e rows h = ap (λ b. folds_of b.kinds (rows ++ vs ∷ [])) is ∙ more_folds a vs new e rows h
+pub blank_behind : (n : ℕ) (z : Value) (xs copy : List Value) → copy ≡ xs → drop (length xs) (copy ++ drop (length xs) (replicate n z)) ≡ replicate (n - length xs) z
+blank_behind n z xs copy e =
+    ap (λ ys. drop (length xs) (ys ++ drop (length xs) (replicate n z))) e ∙ drop-append_seam xs (drop (length xs) (replicate n z)) ∙ drop-replicate (length xs) n z

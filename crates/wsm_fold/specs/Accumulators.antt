@@ -1,19 +1,10 @@
--- What the accumulators of a pane hold: the folds of the rows that came so far.
-use Rattle.std.specs.Prelude.{◌≡◌, List, ◌∷◌, Some, ◌+ℤ◌, FitsSigned}
+-- Which rows of values accumulators can join.
+use Rattle.std.specs.Prelude.{List, ◌∷◌, ◌+ℤ◌, FitsSigned}
 use Rattle.std.specs.Int.{w64}
 use Rattle.wsm_record.specs.declared.event.Value.{Value}
 use Rattle.wsm_record.specs.declared.words.Kind.{Kind}
 use Rattle.wsm_record.specs.declared.words.Kind.TheVariants.{Sum}
-use Rattle.wsm_fold.specs.Fold.{number_of, folds_of}
-
--- an accumulator for each kind, and what it holds
-pub record Accumulators : Type 0 where
-  pub kinds : List Kind
-  pub values : List Value
-
--- they hold the folds of a bag of rows, listed in any order
-abbrev pub AreFoldsOf : List (List Value) → Accumulators → Type 0
-AreFoldsOf rows a = folds_of a.kinds rows ≡ Some a.values
+use Rattle.wsm_fold.specs.Fold.{number_of}
 
 -- the sum of two values is a value again
 abbrev pub SumFits : Kind → Value → Value → Type 0

@@ -1,9 +1,9 @@
 //! The accumulators of a pane.
 
-ghost use Rattle.std.specs.Prelude.{◌≡◌, ◌≤◌, ◌∷◌, [], ◌++◌, List, length, take, IsTrue};
+ghost use Rattle.std.specs.Prelude.{◌≡◌, ◌≤◌, ◌∷◌, [], ◌++◌, List, Some, length, take, drop, IsTrue};
 ghost use Rattle.wsm_record.specs.declared.event.Value.{Value as OneValue};
-ghost use Rattle.wsm_fold.specs.Fold.{is_of_kind, are_of_kinds, number_of, truth_of, join as join_of, joins};
-ghost use Rattle.wsm_fold.specs.Accumulators.{AreFoldsOf, SumFits, SumsFit};
+ghost use Rattle.wsm_fold.specs.Fold.{is_of_kind, are_of_kinds, number_of, truth_of, join as join_of, joins, folds_of};
+ghost use Rattle.wsm_fold.specs.Accumulators.{SumFits, SumsFit};
 
 use crate::fold::{All, Any, Fold, Max, Min, Sum};
 use std::marker::Model;
@@ -12,77 +12,74 @@ use wsm_record::{Kind, Value};
 /// The most accumulators of a program.
 pub const MAX_ACCUMULATORS: usize = 16;
 
-/// The accumulators of a pane, held inline: a kind and a value each. No call takes memory.
+/// What the accumulators of a pane hold, inline: a value each. No call takes memory.
 ///
-/// A clause sees the kinds and the values. What the values are is said of every bag of rows: where
-/// they are the folds of a bag before a call, they are the folds of the bag with the row more after
-/// it.
-#[derive(Debug, Drop)]
-pub struct Accs {
-    kinds: [Kind; MAX_ACCUMULATORS],
+/// A clause sees the values. What they are is said of every bag of rows: where they are the folds of
+/// a bag before a call, they are the folds of the bag with the row more after it.
+#[derive(Clone, Copy, Debug)]
+pub struct Folded {
     values: [Value; MAX_ACCUMULATORS],
     len: usize,
 }
 
-impl Model for Accs {
-    ghost use Rattle.std.specs.Prelude.{take, ◌≤◌, IsTrue};
-    ghost use Rattle.wsm_fold.specs.Fold.{are_of_kinds};
-    ghost use Rattle.wsm_fold.specs.Accumulators.{Accumulators};
+impl Model for Folded {
+    ghost use Rattle.std.specs.Prelude.{◌≡◌, ◌≤◌, ◌-◌, ◌++◌, List, length, take, drop, replicate, pos};
+    ghost use Rattle.std.proofs.Common.{arith, sym, ap, ◌∙◌, take-append-drop, length-take-le};
+    ghost use Rattle.wsm_record.specs.declared.event.Value.{Value as OneValue};
+    ghost use Rattle.wsm_record.specs.declared.event.Value.TheVariants.{Int};
 
-    ghost Value = { Accumulators };
+    ghost Value = { List OneValue };
 
-    ghost view = { λ a. record { kinds = take a.len a.kinds; values = take a.len a.values } };
+    ghost view = { λ f. take f.len f.values };
 
-    // Each value is of its kind's type.
-    ghost invariant = { λ a. (a.len ≤ 16) × IsTrue (are_of_kinds (take a.len a.kinds) (take a.len a.values)) };
+    // The places behind the values hold 0, so that equal values are equal bit by bit.
+    ghost invariant = { λ f. (f.len ≤ 16) × (length f.values ≡ 16) × (drop f.len f.values ≡ replicate (16 - f.len) (Int (pos 0))) };
+
+    ghost inverse = { λ xs. record { values = xs ++ replicate (16 - length xs) (Int (pos 0)); len = length xs } };
+
+    ghost inverse_ok = { λ f h i. record {
+      values = (ap (λ n. take f.len f.values ++ replicate (16 - n) (Int (pos 0))) (length-take-le f.len f.values (omega (arith, h.0, h.1))) ∙ ap (λ rest. take f.len f.values ++ rest) (sym h.2) ∙ take-append-drop f.len f.values) i;
+      len = length-take-le f.len f.values (omega (arith, h.0, h.1)) i;
+    } };
 }
 
-impl Accs {
-    /// Accumulators of a first row of values.
-    pub fn start(kinds: &[Kind], values: &[Value]) -> Self
-        requires room { length kinds.now ≤ MAX_ACCUMULATORS }
-        requires types { IsTrue (are_of_kinds kinds.now values.now) }
-        ensures holds { result ≡ record { kinds = kinds.now; values = values.now } }
-        ensures bag { AreFoldsOf (values.now ∷ []) result }
+impl Folded {
+    /// What a first row of values comes to.
+    pub fn start(values: &[Value]) -> Self
+        requires { length values.now ≤ MAX_ACCUMULATORS }
+        ensures { result ≡ values.now }
     {
-        let mut held_kinds = [Kind::Sum; MAX_ACCUMULATORS];
         let mut held = [Value::Int(0); MAX_ACCUMULATORS];
-        let len = kinds.len();
-        held_kinds[..len].copy_from_slice(kinds);
+        let len = values.len();
         held[..len].copy_from_slice(values);
-        Accs {
-            kinds: held_kinds,
-            values: held,
-            len,
-        }
+        Folded { values: held, len }
     }
 
-    /// Folds a row of values, one for each accumulator.
-    pub fn fold(&mut self, values: &[Value])
-        requires types { IsTrue (are_of_kinds self.old.kinds values.now) }
-        requires sums { SumsFit self.old.kinds self.old.values values.now }
-        ensures kinds { self.new.kinds ≡ self.old.kinds }
-        ensures joined { self.new.values ≡ joins self.old.kinds self.old.values values.now }
-        ensures bag { (rows : List (List OneValue)) → AreFoldsOf rows self.old → AreFoldsOf (rows ++ values.now ∷ []) self.new }
+    /// Folds a row of values, one for each accumulator of these kinds.
+    pub fn fold(&mut self, kinds: &[Kind], values: &[Value])
+        requires held { IsTrue (are_of_kinds kinds.now self.old) }
+        requires types { IsTrue (are_of_kinds kinds.now values.now) }
+        requires sums { SumsFit kinds.now self.old values.now }
+        ensures joined { self.new ≡ joins kinds.now self.old values.now }
+        ensures bag { (rows : List (List OneValue)) → folds_of kinds.now rows ≡ Some self.old → folds_of kinds.now (rows ++ values.now ∷ []) ≡ Some self.new }
     {
-        join_all(&self.kinds, &mut self.values, values);
+        join_all(kinds, &mut self.values, values);
     }
 
     /// Folds what other accumulators of the same kinds hold.
-    pub fn merge(&mut self, other: &Accs)
-        requires kinds { other.now.kinds ≡ self.old.kinds }
-        requires sums { SumsFit self.old.kinds self.old.values other.now.values }
-        ensures kinds { self.new.kinds ≡ self.old.kinds }
-        ensures joined { self.new.values ≡ joins self.old.kinds self.old.values other.now.values }
-        ensures bag { (xs ys : List (List OneValue)) → AreFoldsOf xs self.old → AreFoldsOf ys other.now → AreFoldsOf (xs ++ ys) self.new }
+    pub fn merge(&mut self, kinds: &[Kind], other: &Folded)
+        requires held { IsTrue (are_of_kinds kinds.now self.old) }
+        requires types { IsTrue (are_of_kinds kinds.now other.now) }
+        requires sums { SumsFit kinds.now self.old other.now }
+        ensures joined { self.new ≡ joins kinds.now self.old other.now }
+        ensures bag { (xs ys : List (List OneValue)) → folds_of kinds.now xs ≡ Some self.old → folds_of kinds.now ys ≡ Some other.now → folds_of kinds.now (xs ++ ys) ≡ Some self.new }
     {
-        self.fold(other.values());
+        self.fold(kinds, other.values());
     }
 
     /// What each accumulator holds, in their order.
     pub fn values(&self) -> &[Value]
-        ensures holds { result.now ≡ self.now.values }
-        ensures types { IsTrue (are_of_kinds self.now.kinds result.now) }
+        ensures { result.now ≡ self.now }
     {
         &self.values[..self.len]
     }
@@ -93,7 +90,8 @@ fn join_all(kinds: &[Kind], places: &mut [Value], values: &[Value])
     requires kinds { length values.now ≤ length kinds.now }
     requires places { length values.now ≤ length places.old }
     requires sums { SumsFit kinds.now places.old values.now }
-    ensures { take (length values.now) places.new ≡ joins kinds.now places.old values.now }
+    ensures joined { take (length values.now) places.new ≡ joins kinds.now places.old values.now }
+    ensures rest { drop (length values.now) places.new ≡ drop (length values.now) places.old }
 {
     for (i, value) in values.iter().enumerate() {
         places[i] = join(kinds[i], places[i], *value);

@@ -18,7 +18,8 @@ use Rattle.wsm_semantics.specs.declared.out_row.OutRow.{OutRow}
 use Rattle.wsm_semantics.specs.declared.out_row.OutRow.TheVariants as rows
 use Rattle.wsm_semantics.specs.Query.{Datum}
 use Rattle.wsm_semantics.specs.Lines.{Line, Out, End, all_lines}
-use Rattle.wsm_semantics.specs.Summaries.{Pane, Unfired, Row as Stands, after_record, after_watermark, fired_by_watermark, row_of, relation_of, at_watermark, summaries}
+use Rattle.wsm_semantics.specs.declared.standing.Standing.TheVariants.{Unfired, Row as Stands}
+use Rattle.wsm_semantics.specs.Summaries.{Pane, after_record, after_watermark, fired_by_watermark, row_of, relation_of, at_watermark, summaries}
 use Rattle.wsm_semantics.specs.Kept.{kept}
 use Rattle.wsm_semantics.specs.Steps.{step_rows, run}
 use Rattle.wsm_bytecode.specs.declared.instr.CellType.TheVariants as types

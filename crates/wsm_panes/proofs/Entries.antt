@@ -1,21 +1,20 @@
 -- Edits of a sorted list of entries, and what they do to the map that it stands for.
-use Rattle.std.proofs.Common.{◌≡◌, ◌≢◌, ℕ, ◌<◌, ◌≤◌, List, length, get_or, Bool, true, false, Some, refl, sym, ap, subst, ◌∙◌, inl, inr, arith}
-use Rattle.std.specs.Prelude.{ℤ, ◌&&◌, nat_eq}
+use Rattle.std.proofs.Common.{◌≡◌, ◌≢◌, ℕ, ◌<◌, ◌≤◌, List, [], ◌∷◌, length, get_or, Bool, true, false, Some, refl, sym, ap, subst, ◌∙◌, inl, inr, arith}
+use Rattle.std.specs.Prelude.{◌&&◌, nat_eq}
+use Rattle.std.specs.Bool.{Decides}
 use Rattle.std.specs.declared.cmp.Ordering.{Ordering}
 use Rattle.std.specs.declared.cmp.Ordering.TheVariants.{Less, Equal, Greater}
-use Rattle.std.specs.Ordering.{int_cmp, int_eq, nat_cmp, is_gt, is_eq, eq_by_cmp, ordering_then}
-use Rattle.std.specs.Cmp.{IsTotalOrder, int_cmp_total, nat_cmp_total, tied_itself, eq_by_cmp_equiv, tied_then}
+use Rattle.std.specs.Ordering.{int_cmp, int_eq, nat_cmp, is_gt, is_eq, eq_by_cmp}
+use Rattle.std.specs.Cmp.{IsTotalOrder, int_cmp_total, nat_cmp_total, tied_itself}
 use Rattle.std.specs.FinMap.{find, is_sorted}
 use Rattle.std.proofs.lemmas.List.{get_or_default}
 use Rattle.wsm_panes.specs.Search.{IsAt, IsGapFor}
 use Rattle.wsm_panes.proofs.Sorted.{find_absent, find_over, put_over, put_between, reaches, stops, before_within}
 use Rattle.std.proofs.lemmas.Bool.{cases_Bool}
-use Rattle.std.proofs.lemmas.Bool.Decides.{Decides-int_eq, nat_tests}
-use Rattle.std.proofs.lemmas.Int.{ints}
+use Rattle.std.proofs.lemmas.Bool.Decides.{Decides-int_eq, Decides-eqb, Decides-and, Decides-like}
 use Rattle.std.proofs.lemmas.Cmp.{on_total, then_total}
 use Rattle.std.proofs.lemmas.Map.Lookups.{CmpEqualImpliesEq, exact_pairs, exact_signed, exact_unsigned}
 use Rattle.wsm_semantics.specs.declared.place.Place.{Place}
-use Rattle.wsm_panes.specs.declared.pane.Pane.{Pane}
 use Rattle.wsm_panes.specs.Place.{place_cmp, before}
 
 -- places that compare alike are one
@@ -27,37 +26,6 @@ exact_places a b h =
 pub places_total : IsTotalOrder place_cmp
 places_total = then_total (on_total (λ p. p.end) int_cmp_total) (then_total (on_total (λ p. p.start) int_cmp_total) (on_total (λ p. p.key) nat_cmp_total))
 
--- places that are one tie, and others don't
-pub place_tie : (p q : Place) → p ≡ q → eq_by_cmp place_cmp p q ≡ true
-place_tie p q e = rw e ((eq_by_cmp_equiv places_total).refl q)
-
-tied : (r : Ordering) → is_eq r ≡ true → r ≡ Equal
-tied Less e = absurd (cc)
-tied Equal e = refl
-tied Greater e = absurd (cc)
-
-pub places_apart : (p q : Place) → p ≢ q → eq_by_cmp place_cmp p q ≡ false
-places_apart p q apart = elim (cases_Bool (eq_by_cmp place_cmp p q)) [ inl t ↦ absurd (apart (exact_places p q (tied _ t))) | inr f ↦ f ]
-
--- what `==` answers is what `cmp` answers
-int_tied : (x y : ℤ) → int_eq x y ≡ is_eq (int_cmp x y)
-int_tied x y = grind (arith, ints, Decides-int_eq x y)
-
-nat_tied : (x y : ℕ) → nat_eq x y ≡ is_eq (nat_cmp x y)
-nat_tied x y = grind (arith, nat_tests)
-
-and_tied : (a b c : Ordering) (x y z : Bool) → x ≡ is_eq a → y ≡ is_eq b → z ≡ is_eq c → (x && (y && z)) ≡ is_eq (ordering_then a (ordering_then b c))
-and_tied a b c x y z e f g = rw (e, f, g, tied_then b c) (tied_then a (ordering_then b c))
-
-pub same_test : (p q : Place) → (int_eq p.end q.end && (int_eq p.start q.start && nat_eq p.key q.key)) ≡ eq_by_cmp place_cmp p q
-same_test p q = and_tied _ _ _ _ _ _ (int_tied p.end q.end) (int_tied p.start q.start) (nat_tied p.key q.key)
-
-pub places_equal : (p q : Place) → (int_eq p.end q.end && (int_eq p.start q.start && nat_eq p.key q.key)) ≡ true → p ≡ q
-places_equal p q h = exact_places p q (tied _ (sym (same_test p q) ∙ h))
-
-pub places_differ : (p q : Place) → (int_eq p.end q.end && (int_eq p.start q.start && nat_eq p.key q.key)) ≡ false → p ≢ q
-places_differ p q h e = let k : true ≡ false = sym (place_tie p q e) ∙ sym (same_test p q) ∙ h in cc
-
 apart : (p q : Place) → place_cmp p q ≡ Less → q ≢ p
 apart p q less same = let tie : Less ≡ Equal = sym less ∙ rw same (tied_itself places_total p) in cc
 
@@ -67,7 +35,7 @@ no_gt Equal h = refl
 no_gt Greater h = absurd (h refl)
 
 -- the entry at the place
-pub at_here : (es : List (Place × Pane)) (i : ℕ) (d : Place × Pane) (q : Place) → is_sorted place_cmp es ≡ true → i < length es → place_cmp q (get_or es i d).0 ≡ Equal → IsAt es q i
+pub at_here : {P : Type 0} (es : List (Place × P)) (i : ℕ) (d : Place × P) (q : Place) → is_sorted place_cmp es ≡ true → i < length es → place_cmp q (get_or es i d).0 ≡ Equal → IsAt es q i
 at_here es i d q sorted within tie =
     let same : (get_or es i d).0 ≡ q = sym (exact_places q _ tie) in
     let stop : before place_cmp q es ≤ i = stops place_cmp es i d q within (no_gt _ (λ e. let bad : Equal ≡ Greater = sym tie ∙ e in cc)) in
@@ -75,19 +43,54 @@ at_here es i d q sorted within tie =
     let here : i ≡ before place_cmp q es = omega arith in
     record {
       within = within;
+      stops = here;
+      same = λ e. ap (λ x. x.0) (get_or_default es i e d within) ∙ same;
       finds = λ e. find_here es i e q here within (ap (λ x. x.0) (get_or_default es i e d within) ∙ same);
       puts = λ pane. sym (rw here (put_over place_cmp places_total es d q pane (subst (λ n. n < length es) here within) (subst (λ n. (get_or es n d).0 ≡ q) here same)));
     } where
-      find_here : (es : List (Place × Pane)) (i : ℕ) (e : Place × Pane) (q : Place) → i ≡ before place_cmp q es → i < length es → (get_or es i e).0 ≡ q → find place_cmp q es ≡ Some (get_or es i e).1
+      find_here : {P : Type 0} (es : List (Place × P)) (i : ℕ) (e : Place × P) (q : Place) → i ≡ before place_cmp q es → i < length es → (get_or es i e).0 ≡ q → find place_cmp q es ≡ Some (get_or es i e).1
       find_here es i e q here within same =
           subst (λ n. find place_cmp q es ≡ Some (get_or es n e).1) (sym here) (find_over place_cmp places_total es e q (subst (λ n. n < length es) here within) (subst (λ n. (get_or es n e).0 ≡ q) here same))
 
 -- where no entry is at the place, and one would go
-pub gap_here : (es : List (Place × Pane)) (d : Place × Pane) (i : ℕ) (q : Place) → is_sorted place_cmp es ≡ true → i ≡ before place_cmp q es → (i < length es → place_cmp q (get_or es i d).0 ≡ Less) → IsGapFor es q i
+pub gap_here : {P : Type 0} (es : List (Place × P)) (d : Place × P) (i : ℕ) (q : Place) → is_sorted place_cmp es ≡ true → i ≡ before place_cmp q es → (i < length es → place_cmp q (get_or es i d).0 ≡ Less) → IsGapFor es q i
 gap_here es d i q sorted here less =
     let other : before place_cmp q es < length es → (get_or es (before place_cmp q es) d).0 ≢ q = subst (λ n. n < length es → (get_or es n d).0 ≢ q) here (λ w. apart q _ (less w)) in
     record {
       within = omega (arith, before_within place_cmp es q);
+      stops = here;
       absent = find_absent place_cmp places_total exact_places es d q (rw sorted tt) other;
       puts = λ pane. sym (rw here (put_between place_cmp places_total exact_places es d q pane other));
     }
+
+pub gap_any : {P : Type 0} (es : List (Place × P)) (i : ℕ) (q : Place) → is_sorted place_cmp es ≡ true → i ≡ before place_cmp q es → ((d : Place × P) → i < length es → place_cmp q (get_or es i d).0 ≡ Less) → IsGapFor es q i
+gap_any [] i q sorted here less = record { within = omega (arith, here); stops = here; absent = refl; puts = λ pane. rw here refl }
+gap_any (e ∷ es) i q sorted here less = gap_here (e ∷ es) e i q sorted here (less e)
+
+is_equal : (r : Ordering) → is_eq r ≡ true → r ≡ Equal
+is_equal Less h = let bad : false ≡ true = h in cc
+is_equal Equal h = refl
+is_equal Greater h = let bad : false ≡ true = h in cc
+
+-- the test whether two places are one
+abbrev pub eq_place : Place → Place → Bool
+eq_place p q = int_eq p.end q.end && (int_eq p.start q.start && nat_eq p.key q.key)
+
+pub Decides-eq_place : (p q : Place) → Decides (eq_place p q) (p ≡ q)
+Decides-eq_place p q =
+    Decides-like (eq_place p q)
+    (λ h i. record { end = h.0 i; start = h.1.0 i; key = h.1.1 i })
+    (λ same. (ap (λ x. x.end) same, (ap (λ x. x.start) same, ap (λ x. x.key) same)))
+    (Decides-and _ _ (Decides-int_eq p.end q.end) (Decides-and _ _ (Decides-int_eq p.start q.start) (Decides-eqb p.key q.key)))
+
+pub tied_place : (p q : Place) → p ≡ q → eq_by_cmp place_cmp p q ≡ true
+tied_place p q same = rw same (ap is_eq (tied_itself places_total q))
+
+pub place_tied : (p q : Place) → eq_by_cmp place_cmp p q ≡ true → p ≡ q
+place_tied p q h = exact_places p q (is_equal (place_cmp p q) h)
+
+pub apart_place : (p q : Place) → p ≢ q → eq_by_cmp place_cmp p q ≡ false
+apart_place p q other = elim (cases_Bool (eq_by_cmp place_cmp p q)) [
+  | inl tie ↦ absurd (other (place_tied p q tie))
+  | inr apart ↦ apart
+]

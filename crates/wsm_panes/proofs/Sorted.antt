@@ -9,21 +9,21 @@ use Rattle.std.specs.FinMap.{find, put, is_sorted}
 use Rattle.std.specs.FinMap.Entries.{below_all}
 use Rattle.std.specs.Ordering.{is_lt, is_gt, ordering_reverse}
 
-cases_Ordering : (r : Ordering) → (r ≡ Less) ⊎ (r ≡ Equal) ⊎ (r ≡ Greater)
+pub cases_Ordering : (r : Ordering) → (r ≡ Less) ⊎ (r ≡ Equal) ⊎ (r ≡ Greater)
 cases_Ordering Less = inl refl
 cases_Ordering Equal = inr (inl refl)
 cases_Ordering Greater = inr (inr refl)
 
-lesser : (r : Ordering) → T (is_lt r) → r ≡ Less
+pub lesser : (r : Ordering) → T (is_lt r) → r ≡ Less
 lesser Less t = refl
 lesser Equal t = absurd t
 lesser Greater t = absurd t
 
-first_of_and : (a b : Bool) → T (a && b) → T a
+pub first_of_and : (a b : Bool) → T (a && b) → T a
 first_of_and true b t = tt
 first_of_and false b t = absurd t
 
-second_of_and : (a b : Bool) → T (a && b) → T b
+pub second_of_and : (a b : Bool) → T (a && b) → T b
 second_of_and true b t = t
 second_of_and false b t = absurd t
 

@@ -9,14 +9,13 @@ use Rattle.std.specs.declared.cmp.Ordering.TheVariants.{Equal}
 use Rattle.std.specs.FinMap.{FinMap, empty, empty_of_len, entries, find, from_sorted, get, insert, is_sorted, len, put, remove, retain_keys, entries-from_sorted, entries-insert, get-from_sorted, get-remove, get-retain_keys, get-entries, len-entries, entries_sorted, same_entries_map, same_map}
 use Rattle.std.specs.FinMap.Entries.{where_key, same_entries, find-where_key, length-put, is_sorted-put, is_sorted-where_key}
 use Rattle.wsm_semantics.specs.declared.place.Place.{Place}
-use Rattle.wsm_panes.specs.declared.pane.Pane.{Pane}
 use Rattle.wsm_panes.specs.Place.{place_cmp, is_other}
 use Rattle.wsm_panes.proofs.Entries.{exact_places, places_total}
 
-to_T : (b : Bool) → b ≡ true → T b
+pub to_T : (b : Bool) → b ≡ true → T b
 to_T b e = rw e tt
 
-from_T : (b : Bool) → T b → b ≡ true
+pub from_T : (b : Bool) → T b → b ≡ true
 from_T true t = refl
 from_T false t = absurd t
 
@@ -24,17 +23,17 @@ turned : {A : Type 0} (b : Bool) (x y : A) → cond (not b) x y ≡ cond b y x
 turned true x y = refl
 turned false x y = refl
 
-alike : (p : Place → Bool) (q x : Place) → place_cmp q x ≡ Equal → p x ≡ p q
+pub alike : (p : Place → Bool) (q x : Place) → place_cmp q x ≡ Equal → p x ≡ p q
 alike p q x t = ap p (sym (exact_places q x t))
 
-abbrev pub map_of : List (Place × Pane) → FinMap place_cmp Pane
+abbrev pub map_of : {P : Type 0} → List (Place × P) → FinMap place_cmp P
 map_of es = from_sorted es
 
 fits_in : (b : Bool) (n room : ℕ) → (b ≡ true) ⊎ (n < room) → n ≤ room → cond b n (n + 1) ≤ room
 fits_in true n room h le = le
 fits_in false n room h le = elim h [ inl bad ↦ absurd (false≢true bad) | inr lt ↦ omega arith ]
 
-module _ (es : List (Place × Pane)) (sorted : is_sorted place_cmp es ≡ true) where
+module _ {P : Type 0} (es : List (Place × P)) (sorted : is_sorted place_cmp es ≡ true) where
   pub entries_are : entries (map_of es) ≡ es
   entries_are = entries-from_sorted place_cmp es (to_T _ sorted)
 
@@ -44,10 +43,10 @@ module _ (es : List (Place × Pane)) (sorted : is_sorted place_cmp es ≡ true) 
   pub len_is : len (map_of es) ≡ length es
   len_is = len-entries (map_of es) ∙ ap length entries_are
 
-  pub put_sorted : (k : Place) (v : Pane) → is_sorted place_cmp (put place_cmp k v es) ≡ true
+  pub put_sorted : (k : Place) (v : P) → is_sorted place_cmp (put place_cmp k v es) ≡ true
   put_sorted k v = from_T _ (is_sorted-put place_cmp places_total k v es (to_T _ sorted))
 
-  pub put_is : (k : Place) (v : Pane) → map_of (put place_cmp k v es) ≡ insert (map_of es) k v
+  pub put_is : (k : Place) (v : P) → map_of (put place_cmp k v es) ≡ insert (map_of es) k v
   put_is k v = same_entries_map _ _ (entries-from_sorted place_cmp _ (to_T _ (put_sorted k v)) ∙ sym (entries-insert places_total (map_of es) k v ∙ ap (put place_cmp k v) entries_are))
 
   pub kept_sorted : (p : Place → Bool) → is_sorted place_cmp (filter (λ e. p e.0) es) ≡ true
@@ -65,14 +64,14 @@ module _ (es : List (Place × Pane)) (sorted : is_sorted place_cmp es ≡ true) 
       ∙ sym (get-remove places_total (map_of es) k q))
 
   -- the entry is there, or there is room for it
-  pub put_fits : (k : Place) (v : Pane) (room : ℕ) → (is_some (find place_cmp k es) ≡ true) ⊎ (length es < room) → length es ≤ room → length (put place_cmp k v es) ≤ room
+  pub put_fits : (k : Place) (v : P) (room : ℕ) → (is_some (find place_cmp k es) ≡ true) ⊎ (length es < room) → length es ≤ room → length (put place_cmp k v es) ≤ room
   put_fits k v room h le = rw (length-put place_cmp places_total k v es (to_T _ sorted)) (fits_in (is_some (find place_cmp k es)) (length es) room h le)
 
-pub map_of-nil : map_of [] ≡ empty
-map_of-nil = empty_of_len (map_of []) (len_is [] refl)
+pub map_of-nil : {P : Type 0} → map_of {P = P} [] ≡ empty
+map_of-nil {P = P} = empty_of_len (map_of {P = P} []) (len_is {P = P} [] refl)
 
 -- the entries of what is left where places pass a test
-pub entries_kept : (m : FinMap place_cmp Pane) (p : Place → Bool) → entries (retain_keys m p) ≡ where_key place_cmp p (entries m)
+pub entries_kept : {P : Type 0} (m : FinMap place_cmp P) (p : Place → Bool) → entries (retain_keys m p) ≡ where_key place_cmp p (entries m)
 entries_kept m p = same_entries place_cmp places_total exact_places _ _
     (entries_sorted (retain_keys m p))
     (is_sorted-where_key place_cmp p (entries m) (entries_sorted m))
@@ -81,3 +80,6 @@ entries_kept m p = same_entries place_cmp places_total exact_places _ _
     ∙ get-retain_keys m p q (alike p q)
     ∙ ap (λ o. cond (p q) o None) (get-entries m q)
     ∙ sym (find-where_key place_cmp p q (alike p q) (entries m)))
+
+pub entries_none : {P : Type 0} → entries (empty {K = Place} {X = P} {R = place_cmp}) ≡ []
+entries_none {P = P} = sym (ap entries (map_of-nil {P = P})) ∙ entries_are {P = P} [] refl

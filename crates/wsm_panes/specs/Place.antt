@@ -3,7 +3,6 @@ use Rattle.std.specs.declared.cmp.Ordering.{Ordering}
 use Rattle.std.specs.Ordering.{is_gt, eq_by_cmp}
 use Rattle.std.specs.Coded.{Coded, code_by, coded×, coded_ℕ, coded_ℤ}
 use Rattle.wsm_semantics.specs.declared.place.Place.{Place}
-use Rattle.wsm_panes.specs.declared.pane.Pane.{Pane}
 pub use Rattle.wsm_semantics.specs.Panes.{place_cmp}
 
 -- how many entries a scan for a key passes, in an order
@@ -21,6 +20,3 @@ is_other place other = not (eq_by_cmp place_cmp place other)
 -- a place as three numbers
 abbrev pub coded_place : Coded Place
 coded_place = code_by (ℤ × (ℤ × ℕ)) (coded× coded_ℤ (coded× coded_ℤ coded_ℕ)) (λ p. (p.end, (p.start, p.key))) (λ t. record { end = t.0; start = t.1.0; key = t.1.1 }) (λ _. refl)
-
-abbrev pub coded_pane : Coded Pane
-coded_pane = code_by ℕ coded_ℕ (λ p. p.count) (λ n. record { count = n }) (λ _. refl)

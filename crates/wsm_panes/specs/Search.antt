@@ -1,17 +1,23 @@
-use Rattle.std.specs.Prelude.{◌≡◌, ℕ, ◌<◌, ◌≤◌, List, length, None, Some, slice_index_or, slice_set, insert}
+use Rattle.std.specs.Prelude.{◌≡◌, ℕ, ◌<◌, ◌≤◌, List, length, None, Some, slice_index_or, slice_set, insert, ◌⊎◌}
 use Rattle.std.specs.FinMap.{find, put}
 use Rattle.wsm_semantics.specs.declared.place.Place.{Place}
-use Rattle.wsm_panes.specs.declared.pane.Pane.{Pane}
-use Rattle.wsm_panes.specs.Place.{place_cmp}
+use Rattle.wsm_panes.specs.Place.{place_cmp, before}
 
 -- the entry at i is at the place: a look-up finds its pane, and setting the place writes over it
-pub record IsAt (es : List (Place × Pane)) (place : Place) (i : ℕ) : Type 0 where
+pub record IsAt {P : Type 0} (es : List (Place × P)) (place : Place) (i : ℕ) : Type 0 where
   pub within : i < length es
-  pub finds : (default : Place × Pane) → find place_cmp place es ≡ Some (slice_index_or es i default).1
-  pub puts : (pane : Pane) → put place_cmp place pane es ≡ slice_set es i (place, pane)
+  pub stops : i ≡ before place_cmp place es
+  pub same : (default : Place × P) → (slice_index_or es i default).0 ≡ place
+  pub finds : (default : Place × P) → find place_cmp place es ≡ Some (slice_index_or es i default).1
+  pub puts : (pane : P) → put place_cmp place pane es ≡ slice_set es i (place, pane)
 
 -- no entry is at the place, and one would go in front of i
-pub record IsGapFor (es : List (Place × Pane)) (place : Place) (i : ℕ) : Type 0 where
+pub record IsGapFor {P : Type 0} (es : List (Place × P)) (place : Place) (i : ℕ) : Type 0 where
   pub within : i ≤ length es
+  pub stops : i ≡ before place_cmp place es
   pub absent : find place_cmp place es ≡ None
-  pub puts : (pane : Pane) → put place_cmp place pane es ≡ insert es i (place, pane)
+  pub puts : (pane : P) → put place_cmp place pane es ≡ insert es i (place, pane)
+
+-- the slot of a place: where it is, or where it would go
+abbrev pub IsSlotFor : {P : Type 0} → List (Place × P) → Place → ℕ → Type 0
+IsSlotFor es place i = IsAt es place i ⊎ IsGapFor es place i

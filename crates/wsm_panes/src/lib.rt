@@ -1,16 +1,25 @@
-//! Tables of the panes that are held: what is kept of each key and window.
+//! The panes that are held: what is kept of each key and window.
 //!
-//! A table is a [`PaneTable`]: a finite map from places, which are a window and a key, to panes,
+//! [`HeldPanes`] puts records into panes, and drops panes that expire. It keeps them in a table. A table is a [`PaneTable`]: a finite map from places, which are a window and a key, to panes,
 //! with room for a number of them that is reserved when it is opened. It is walked by end, then
 //! start, then key, so panes come in the order in which they fire and expire. [`ListTable`] keeps
-//! the panes in a sorted list.
+//! the panes in a sorted list, and [`RingTable`] in a ring of slots, a row for each window.
 #![tactic(auto)]
 
+pub use held::{Entered, HeldPanes, MAX_PANES};
 pub use list::ListTable;
 pub use pane::Pane;
-pub use table::PaneTable;
+pub use ring::Ring;
+pub use ring_table::RingTable;
+pub use table::{Found, PaneTable};
 pub use wsm_semantics::Place;
 
+mod entering;
+mod held;
+mod joining;
 mod list;
 mod pane;
+mod ring;
+mod ring_table;
+mod slots;
 mod table;

@@ -1,12 +1,12 @@
 //! A table kept as a sorted list.
 
-ghost use Rattle.std.specs.Prelude.{◌≡◌, ◌⊎◌, ◌<◌, ◌≤◌, IfOk, IfErr, IsTrue, filter, vec_len, vec_capacity, IsSome};
+ghost use Rattle.std.specs.Prelude.{◌≡◌, ◌⊎◌, ◌<◌, ◌≤◌, IfOk, IfErr, IsTrue, true, filter, vec_len, vec_capacity, IsSome, slice_get};
 ghost use Rattle.std.specs.FinMap as map;
 ghost use Rattle.wsm_panes.specs.Place.{place_cmp, is_kept, is_other};
-ghost use Rattle.wsm_panes.specs.Search.{IsAt, IsGapFor};
+ghost use Rattle.wsm_panes.specs.Search.{IsAt, IsGapFor, IsSlotFor};
+ghost use Rattle.wsm_panes.specs.Walk.{following};
 
-use crate::pane::Pane;
-use crate::table::PaneTable;
+use crate::table::{Found, PaneTable};
 use std::alloc::{AllocError, Global};
 use std::cmp::Ordering;
 use std::marker::Model;
@@ -15,27 +15,27 @@ use wsm_semantics::Place;
 /// A table kept as a sorted list: a pane is found by binary search, and a new one moves those
 /// behind it.
 #[derive(Drop)]
-pub struct ListTable {
-    entries: Vec<(Place, Pane)>,
+pub struct ListTable<P> {
+    entries: Vec<(Place, P)>,
     room: usize,
 }
 
-impl Model for ListTable {
+impl<P> Model for ListTable<P> {
     ghost use Rattle.std.specs.Prelude.{◌≤◌, IsTrue, vec_len, vec_capacity};
     ghost use Rattle.wsm_panes.specs.Place.{place_cmp};
     ghost use Rattle.wsm_panes.specs.Table.{Table, coded_table};
     ghost use Rattle.std.specs.FinMap as map;
 
-    ghost Value = { Table };
+    ghost Value = { Table P };
 
-    ghost coded = { coded_table };
+    ghost coded = { coded_table P.code };
 
     ghost view = { λ a. record { panes = map.from_sorted a.entries.items; room = a.room } };
 
     ghost invariant = { λ a. IsTrue (map.is_sorted place_cmp a.entries.items) × (vec_len a.entries ≤ a.room) × (a.room ≤ vec_capacity a.entries) };
 }
 
-impl ListTable {
+impl<P: Copy> ListTable<P> {
     /// An empty table, with room for so many panes. No later call takes memory.
     ///
     /// # Errors
@@ -51,17 +51,29 @@ impl ListTable {
     }
 }
 
-impl PaneTable for ListTable {
+impl<P: Copy> PaneTable<P> for ListTable<P> {
+    ghost use Rattle.std.specs.Prelude.{ℕ};
+
+    ghost Room = { ℕ };
+
     ghost panes = { λ t. t.panes };
 
     ghost room = { λ t. t.room };
 
-    fn get(&self, place: Place) -> Option<Pane> {
-        find_pane(&self.entries, place)
+    ghost Admits = { λ room ps place. (map.contains_key ps place ≡ true) ⊎ (map.len ps < room) };
+
+    ghost IsSlot = { λ room ps place i. IsSlotFor (map.entries ps) place i };
+
+    fn find(&self, place: Place) -> Found<P> {
+        find_slot(&self.entries, place)
     }
 
-    fn put(&mut self, place: Place, pane: Pane) {
-        put_pane(&mut self.entries, place, pane);
+    fn admits(&self, place: Place) -> bool {
+        self.len() < self.room || self.get(place).is_some()
+    }
+
+    fn put_at(&mut self, slot: usize, place: Place, pane: P) {
+        set_slot(&mut self.entries, slot, place, pane);
     }
 
     fn remove(&mut self, place: Place) {
@@ -76,23 +88,59 @@ impl PaneTable for ListTable {
         self.entries.len()
     }
 
-    fn at(&self, i: usize) -> (Place, Pane) {
+    fn first(&self) -> Option<(Place, P)> {
+        entry_at(&self.entries, 0)
+    }
+
+    fn next(&self, place: Place) -> Option<(Place, P)> {
+        entry_at(&self.entries, behind(&self.entries, place))
+    }
+
+    fn at(&self, i: usize) -> (Place, P) {
         self.entries[i]
     }
 }
 
-fn find_pane(entries: &[(Place, Pane)], place: Place) -> Option<Pane>
+fn find_slot<P: Copy>(entries: &[(Place, P)], place: Place) -> Found<P>
     requires { IsTrue (map.is_sorted place_cmp entries.now) }
-    ensures { result ≡ map.find place_cmp place entries.now }
+    ensures slot { IsSlotFor entries.now place result.slot }
+    ensures pane { result.pane ≡ map.find place_cmp place entries.now }
 {
     match search(entries, place) {
-        Ok(i) => Some(entries[i].1),
-        Err(_) => None,
+        Ok(i) => Found {
+            slot: i,
+            pane: Some(entries[i].1),
+        },
+        Err(i) => Found {
+            slot: i,
+            pane: None,
+        },
+    }
+}
+
+// Where the entries behind a place begin.
+fn behind<P: Copy>(entries: &[(Place, P)], place: Place) -> usize
+    requires { IsTrue (map.is_sorted place_cmp entries.now) }
+    ensures { following place entries.now ≡ slice_get entries.now result }
+{
+    match search(entries, place) {
+        Ok(i) => i + 1,
+        Err(i) => i,
+    }
+}
+
+fn entry_at<P: Copy>(entries: &[(Place, P)], i: usize) -> Option<(Place, P)>
+    ensures { result ≡ slice_get entries.now i }
+{
+    if i < entries.len() {
+        Some(entries[i])
+    } else {
+        None
     }
 }
 
 // Where the place is, or where it would go.
-fn search(entries: &[(Place, Pane)], place: Place) -> Result<usize, usize>
+fn search<P: Copy>(entries: &[(Place, P)], place: Place) -> Result<usize, usize>
     requires { IsTrue (map.is_sorted place_cmp entries.now) }
     ensures found { IfOk result (IsAt entries.now place) }
     ensures absent { IfErr result (IsGapFor entries.now place) }
@@ -110,19 +158,21 @@ fn search(entries: &[(Place, Pane)], place: Place) -> Result<usize, usize>
     Err(low)
 }
 
-fn put_pane(entries: &mut Vec<(Place, Pane)>, place: Place, pane: Pane)
+fn set_slot<P: Copy>(entries: &mut Vec<(Place, P)>, slot: usize, place: Place, pane: P)
     requires sorted { IsTrue (map.is_sorted place_cmp entries.old.items) }
+    requires slot { IsSlotFor entries.old.items place slot }
     requires room { (IsSome (map.find place_cmp place entries.old.items)) ⊎ (vec_len entries.old < vec_capacity entries.old) }
     ensures items { entries.new.items ≡ map.put place_cmp place pane entries.old.items }
     ensures capacity { vec_capacity entries.new ≡ vec_capacity entries.old }
 {
-    match search(entries, place) {
-        Ok(i) => entries[i] = (place, pane),
-        Err(i) => entries.insert(i, (place, pane)).unwrap(),
+    if slot < entries.len() && entries[slot].0 == place {
+        entries[slot] = (place, pane);
+    } else {
+        entries.insert(slot, (place, pane)).unwrap();
     }
 }
 
-fn keep_others(entries: &mut Vec<(Place, Pane)>, place: Place)
+fn keep_others<P: Copy>(entries: &mut Vec<(Place, P)>, place: Place)
     ensures items { entries.new.items ≡ filter (λ e. is_other place e.0) entries.old.items }
     ensures len { vec_len entries.new ≤ vec_len entries.old }
     ensures capacity { vec_capacity entries.new ≡ vec_capacity entries.old }
@@ -130,7 +180,7 @@ fn keep_others(entries: &mut Vec<(Place, Pane)>, place: Place)
     entries.retain(|e| e.0 != place);
 }
 
-fn keep_past(entries: &mut Vec<(Place, Pane)>, limit: i64)
+fn keep_past<P: Copy>(entries: &mut Vec<(Place, P)>, limit: i64)
     ensures items { entries.new.items ≡ filter (λ e. is_kept limit e.0) entries.old.items }
     ensures len { vec_len entries.new ≤ vec_len entries.old }
     ensures capacity { vec_capacity entries.new ≡ vec_capacity entries.old }

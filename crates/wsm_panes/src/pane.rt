@@ -1,9 +1,173 @@
 //! Panes.
 
+ghost use Rattle.std.specs.Prelude.{◌≡◌, ◌≤◌, List, [], length, None, Some, IfSome, IsTrue, option_map};
+ghost use Rattle.wsm_record.specs.declared.event.Value.{Value as OneValue};
+ghost use Rattle.wsm_fold.specs.Fold.{are_of_kinds, joins};
+ghost use Rattle.wsm_fold.specs.Accumulators.{SumsFit};
+ghost use Rattle.wsm_semantics.specs.Query.{Datum};
+ghost use Rattle.wsm_semantics.specs.Summaries.{left_folded, standing_joined, with_folded, with_record};
+ghost use Rattle.wsm_semantics.specs.Summaries as kept;
+ghost use Rattle.wsm_semantics.specs.declared.standing.Standing.TheVariants.{Row};
+ghost use Rattle.wsm_panes.specs.Held.{CanJoin, CanJoinFolds, CanRecord, CanTake, taking};
+
+use std::marker::Model;
+use wsm_fold::Folded;
+use wsm_record::{Kind, Mode, Value};
+use wsm_semantics::{Columns, Standing};
+
 /// What is kept of the records of a key in a window: a pane of the Dataflow Model (Akidau et al.
-/// 2015), without its records.
-#[derive(Clone, Copy, Debug, PartialEq, Eq)]
+/// 2015), without its records. A clause sees how many records it has, how many of them no firing
+/// showed yet, what those that the next firing is computed over are folded to, and what stands.
+#[derive(Clone, Copy, Debug)]
 pub struct Pane {
-    /// How many records are in it.
-    pub count: u64,
+    count: u64,
+    unshown: u64,
+    folded: Option<Folded>,
+    stands: Standing,
+}
+
+impl Model for Pane {
+    ghost use Rattle.std.specs.Prelude.{List};
+    ghost use Rattle.wsm_record.specs.declared.event.Value.{Value as OneValue};
+    ghost use Rattle.wsm_semantics.specs.Summaries.{Pane as AnyPane};
+
+    ghost Value = { AnyPane (List OneValue) };
+
+    ghost view = { λ a. record { count = a.count; unshown = a.unshown; folded = a.folded; stands = a.stands } };
+
+    ghost inverse = { λ h. record { count = h.count; unshown = h.unshown; folded = h.folded; stands = h.stands } };
+}
+
+impl Pane {
+    /// How many records it has.
+    pub fn count(&self) -> u64
+        ensures { result ≡ self.now.count }
+    {
+        self.count
+    }
+
+    /// How many of its records no firing showed yet.
+    pub fn unshown(&self) -> u64
+        ensures { result ≡ self.now.unshown }
+    {
+        self.unshown
+    }
+
+    /// What the records that the next firing is computed over are folded to, where there are any.
+    pub fn folded(&self) -> Option<&[Value]>
+        ensures { option_map (λ values. values.now) result ≡ self.now.folded }
+    {
+        match &self.folded {
+            Some(folded) => Some(folded.values()),
+            None => None,
+        }
+    }
+
+    /// The pane once it fired: it has shown all of its records, and the row of the firing stands.
+    pub fn fired(self, mode: Mode, row: Option<Columns>) -> Pane
+        ensures { result ≡ record self { unshown = 0; folded = left_folded mode self.folded; stands = Row row } }
+    {
+        let folded = match mode {
+            Mode::Accumulating => self.folded,
+            Mode::Discarding => None,
+        };
+        Pane {
+            count: self.count,
+            unshown: 0,
+            folded,
+            stands: Standing::Row(row),
+        }
+    }
+
+    /// The row that stands for it.
+    pub fn standing_row(&self) -> Option<Columns>
+        ensures { result ≡ kept.standing_row self.now.stands }
+    {
+        match self.stands {
+            Standing::Row(row) => row,
+            Standing::Unfired => None,
+            Standing::Joined => None,
+        }
+    }
+
+    /// A pane of one record, which is folded by these values.
+    pub(crate) fn first(values: &[Value]) -> Pane
+        requires { length values.now ≤ 16 }
+        ensures { (d : Datum) → result ≡ with_record (taking [] values.now) d None }
+    {
+        Pane {
+            count: 1,
+            unshown: 1,
+            folded: Some(Folded::start(values)),
+            stands: Standing::Unfired,
+        }
+    }
+
+    /// Puts a record in, which is folded by these values.
+    pub(crate) fn record(&mut self, kinds: &[Kind], values: &[Value])
+        requires few { length values.now ≤ 16 }
+        requires types { IsTrue (are_of_kinds kinds.now values.now) }
+        requires room { CanRecord kinds.now values.now self.old }
+        ensures { (d : Datum) → self.new ≡ with_record (taking kinds.now values.now) d (Some self.old) }
+    {
+        self.count += 1;
+        self.unshown += 1;
+        fold_in(&mut self.folded, kinds, values);
+    }
+
+    /// Puts the records of another pane in.
+    pub(crate) fn join(&mut self, kinds: &[Kind], other: &Pane)
+        requires { CanJoin kinds.now self.old other.now }
+        ensures { (values : List OneValue) → self.new ≡ kept.joined (taking kinds.now values) self.old other.now }
+    {
+        self.count += other.count;
+        self.unshown += other.unshown;
+        self.folded = joined_folds(kinds, self.folded, other.folded);
+        self.stands = joined_standing(self.stands, other.stands);
+    }
+}
+
+// Folds values into what is held, if anything is.
+fn fold_in(folded: &mut Option<Folded>, kinds: &[Kind], values: &[Value])
+    requires few { length values.now ≤ 16 }
+    requires types { IsTrue (are_of_kinds kinds.now values.now) }
+    requires takes { IfSome folded.old (CanTake kinds.now values.now) }
+    ensures { (d : Datum) → folded.new ≡ Some (with_folded (taking kinds.now values.now) d folded.old) }
+{
+    match folded {
+        Some(held) => held.fold(kinds, values),
+        None => *folded = Some(Folded::start(values)),
+    }
+}
+
+fn joined_folds(kinds: &[Kind], left: Option<Folded>, right: Option<Folded>) -> Option<Folded>
+    requires { CanJoinFolds kinds.now left right }
+    ensures { (values : List OneValue) → result ≡ kept.joined_folds (taking kinds.now values) left right }
+{
+    match (left, right) {
+        (None, right) => right,
+        (Some(left), None) => Some(left),
+        (Some(left), Some(right)) => Some(merged(kinds, left, right)),
+    }
+}
+
+fn merged(kinds: &[Kind], left: Folded, right: Folded) -> Folded
+    requires left { IsTrue (are_of_kinds kinds.now left) }
+    requires right { IsTrue (are_of_kinds kinds.now right) }
+    requires sums { SumsFit kinds.now left right }
+    ensures { result ≡ joins kinds.now left right }
+{
+    let mut left = left;
+    left.merge(kinds, &right);
+    left
+}
+
+fn joined_standing(left: Standing, right: Standing) -> Standing
+    ensures { result ≡ standing_joined left right }
+{
+    match (left, right) {
+        (Standing::Unfired, right) => right,
+        (left, Standing::Unfired) => left,
+        _ => Standing::Joined,
+    }
 }

@@ -1,29 +1,50 @@
 //! What a table of panes does.
 
-ghost use Rattle.std.specs.Prelude.{◌≡◌, ◌⊎◌, ◌<◌, ℕ, Some, true, slice_get};
+ghost use Rattle.std.specs.Prelude.{◌≡◌, ◌↔◌, ◌<◌, ℕ, Some, true, IsTrue, slice_get};
 ghost use Rattle.std.specs.FinMap as map;
 ghost use Rattle.wsm_panes.specs.Place.{place_cmp, is_kept};
+ghost use Rattle.wsm_panes.specs.Walk.{following};
+ghost use Rattle.wsm_semantics.specs.declared.place.Place.{Place as AnyPlace};
 
-use crate::pane::Pane;
 use wsm_semantics::Place;
 
-/// A finite map from places to panes, with room for a number of them.
+/// What a search comes to: the slot of a place, and the pane that is there.
+#[derive(Clone, Copy, Debug, PartialEq, Eq)]
+pub struct Found<P> {
+    /// Where the pane is, or where it would go.
+    pub slot: usize,
+    /// The pane, if one is there.
+    pub pane: Option<P>,
+}
+
+/// A finite map from places to panes, with room for some of them.
 ///
 /// No call takes memory: the room was reserved when the table was opened.
-pub trait PaneTable {
-    ghost use Rattle.wsm_panes.specs.declared.pane.Pane.{Pane};
+pub trait PaneTable<P: Copy> {
+    ghost Room: { Type 0 };
 
-    ghost panes: { Self → map.FinMap place_cmp Pane };
+    ghost panes: { Self → map.FinMap place_cmp P };
 
-    ghost room: { Self → ℕ };
+    ghost room: { Self → Room };
 
-    /// The pane at a place, if one is there.
-    fn get(&self, place: Place) -> Option<Pane>
-        ensures { result ≡ map.get (panes self.now) place };
+    // With this room and beside these panes there can be a pane at the place.
+    ghost Admits: { Room → map.FinMap place_cmp P → AnyPlace → Type 0 };
 
-    /// Sets the pane at a place, where one is there or room is left.
-    fn put(&mut self, place: Place, pane: Pane)
-        requires { (map.contains_key (panes self.old) place ≡ true) ⊎ (map.len (panes self.old) < room self.old) }
+    ghost IsSlot: { Room → map.FinMap place_cmp P → AnyPlace → ℕ → Type 0 };
+
+    /// The slot of a place, and the pane that is there.
+    fn find(&self, place: Place) -> Found<P>
+        ensures slot { IsSlot (room self.now) (panes self.now) place result.slot }
+        ensures pane { result.pane ≡ map.get (panes self.now) place };
+
+    /// Whether a pane can be set at a place.
+    fn admits(&self, place: Place) -> bool
+        ensures { IsTrue result ↔ Admits (room self.now) (panes self.now) place };
+
+    /// Sets the pane at a place, in the slot that a search found for it.
+    fn put_at(&mut self, slot: usize, place: Place, pane: P)
+        requires slot { IsSlot (room self.old) (panes self.old) place slot }
+        requires admits { Admits (room self.old) (panes self.old) place }
         ensures panes { panes self.new ≡ map.insert (panes self.old) place pane }
         ensures room { room self.new ≡ room self.old };
 
@@ -41,8 +62,41 @@ pub trait PaneTable {
     fn len(&self) -> usize
         ensures { result ≡ map.len (panes self.now) };
 
+    /// The first pane in the order of the places, with its place.
+    fn first(&self) -> Option<(Place, P)>
+        ensures { result ≡ slice_get (map.entries (panes self.now)) 0 };
+
+    /// The pane behind the one at a place, in the order of the places, with its place.
+    fn next(&self, place: Place) -> Option<(Place, P)>
+        requires { map.contains_key (panes self.now) place ≡ true }
+        ensures { result ≡ following place (map.entries (panes self.now)) };
+
+    /// The pane at a place, if one is there.
+    fn get(&self, place: Place) -> Option<P>
+        ensures { result ≡ map.get (panes self.now) place }
+    {
+        self.find(place).pane
+    }
+
+    /// Sets the pane at a place.
+    fn put(&mut self, place: Place, pane: P)
+        requires { Admits (room self.old) (panes self.old) place }
+        ensures panes { panes self.new ≡ map.insert (panes self.old) place pane }
+        ensures room { room self.new ≡ room self.old }
+    {
+        let slot = self.find(place).slot;
+        self.put_at(slot, place, pane);
+    }
+
     /// The pane number `i` in the order of the places, with its place.
-    fn at(&self, i: usize) -> (Place, Pane)
+    fn at(&self, i: usize) -> (Place, P)
         requires { i < map.len (panes self.now) }
-        ensures { slice_get (map.entries (panes self.now)) i ≡ Some result };
+        ensures { slice_get (map.entries (panes self.now)) i ≡ Some result }
+    {
+        let mut entry = self.first().unwrap();
+        for _ in 0..i {
+            entry = self.next(entry.0).unwrap();
+        }
+        entry
+    }
 }

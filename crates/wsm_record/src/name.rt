@@ -1,6 +1,6 @@
 //! Names that a query declares.
 
-ghost use Rattle.std.specs.Prelude.{◌≡◌, IfSome, is_some};
+ghost use Rattle.std.specs.Prelude.{◌≡◌, IfSome, is_some, true};
 ghost use Rattle.std.specs.List.{list_all};
 ghost use Rattle.wsm_record.specs.Name.{is_name, is_word, is_word_byte};
 
@@ -49,6 +49,13 @@ impl Name {
         ensures { result.now ≡ self.now }
     {
         &self.bytes[..self.len]
+    }
+
+    /// Its bytes make a name. A call does nothing.
+    pub fn is_spelt(&self)
+        ensures { is_name self.now ≡ true }
+    {
+        let _ = &self.len;
     }
 
     /// The same name once more. It takes no memory.

@@ -34,7 +34,7 @@ pub fn append_all(rows: &[Box<Columns>], out: &mut Vec<Columns>)
 {
     let mut i = 0;
     while i < rows.len() {
-        out.push(rows[i].copied()).unwrap();
+        out.push(*rows[i]).unwrap();
         i += 1;
     }
 }
@@ -57,7 +57,7 @@ pub fn append_difference(rows: &[Box<Columns>], others: &[Box<Columns>], out: &m
         };
         match order {
             Ordering::Less => {
-                out.push(rows[i].copied()).unwrap();
+                out.push(*rows[i]).unwrap();
                 i += 1;
             }
             Ordering::Equal => {

@@ -27,7 +27,7 @@ use Rattle.wsm_semantics.proofs.Each.{list_any-append, or_true}
 use Rattle.wsm_semantics.proofs.Within.{wider}
 use Rattle.wsm_semantics.proofs.Showing.{not_shown_yet}
 use Rattle.wsm_semantics.proofs.FiringsSoFar.{PlacesLaw, shows_itself}
-use Rattle.wsm_semantics.proofs.Standing.{joined_unfired}
+use Rattle.wsm_semantics.proofs.StandingFirings.{joined_unfired}
 use Rattle.wsm_semantics.proofs.StandsTurn.{stands-taken}
 use Rattle.wsm_semantics.proofs.KeptTurns.{kept_is, comes_in_time, selects_one}
 use Rattle.wsm_semantics.proofs.EventTurns.{EntersPanes}

@@ -11,7 +11,7 @@ pub mod Merging
 pub mod Within
 pub mod Showing
 pub mod FiringsSoFar
-pub mod Standing
+pub mod StandingFirings
 pub mod StandsTurn
 pub mod KeptTurns
 pub mod EventTurns

@@ -30,7 +30,7 @@ use Rattle.wsm_semantics.proofs.SessionPlaces.{one_of, times_of, sessions_of, ha
 use Rattle.wsm_semantics.proofs.SessionStep.{among_places, among_linked, ws, mine, linked, kept_linked, records_at, new_inside, put_records, contents_more, places_more, merged-kept}
 use Rattle.wsm_semantics.proofs.Showing.{IsPane, each_among, each_pane}
 use Rattle.wsm_semantics.proofs.FiringsSoFar.{PlacesLaw, StaysIn, shows_itself, shows_key}
-use Rattle.wsm_semantics.proofs.Standing.{joined_unfired, joined_stands}
+use Rattle.wsm_semantics.proofs.StandingFirings.{joined_unfired, joined_stands}
 use Rattle.wsm_semantics.proofs.StandsTurn.{AreDistinct, IsTakenIn, TakesIn, stands-taken}
 use Rattle.wsm_semantics.proofs.KeptTurns.{kept_is, comes_in_time, selects_one}
 use Rattle.wsm_semantics.proofs.EventTurns.{EntersPanes}

@@ -25,7 +25,7 @@ use Rattle.wsm_semantics.proofs.Each.{itself, same_answers, none_of, all-append,
 use Rattle.wsm_semantics.proofs.Merging.{holds-filter, selected_falls}
 use Rattle.wsm_semantics.proofs.Within.{Within, IsPart, within, is_within_by, itself_within, same_part, part_stays, one_held}
 use Rattle.wsm_semantics.proofs.Showing.{does, firings_are, kind_of, unshown_of}
-use Rattle.wsm_semantics.proofs.Standing.{stands_of, stands-fired, AreApart, EachApart, stands-parts, joined_stands}
+use Rattle.wsm_semantics.proofs.StandingFirings.{stands_of, stands-fired, AreApart, EachApart, stands-parts, joined_stands}
 use Rattle.wsm_semantics.proofs.FiringsSoFar.{PlacesLaw, IsOf, IsFiring, IsFilled, fires_as, not_some, same_some, shows_itself, shows_back, shows_on, shown_so_far, one_home, contents_part, each_filled, each_firing}
 
 -- what an entry that is found gives is among what all give

@@ -35,7 +35,7 @@ module _ {X : Type 0} (plan : Plan X) (m n key : ℕ) (time : ℤ) (values : Lis
   session-turnless gap [] = refl
   session-turnless gap (e ∷ es) = ap (λ (p : Place). at key (window (int_min e.0.start p.start) (int_max e.0.end p.end))) (session-turnless gap es)
 
-  entered-turnless : (sh : Shape) (es : List (Place × Pane X)) → entered plan sh (datum m key time values) es ≡ entered plan sh (datum n key time values) es
+  pub entered-turnless : (sh : Shape) (es : List (Place × Pane X)) → entered plan sh (datum m key time values) es ≡ entered plan sh (datum n key time values) es
   entered-turnless (Fixed size) es = assigned-turnless (windows_of size size time) es
   entered-turnless (Sliding size period) es = assigned-turnless (windows_of size period time) es
   entered-turnless (Session gap) es =

@@ -17,6 +17,8 @@ use Rattle.wsm_windows.specs.Windows.{window, windows_of}
 use Rattle.wsm_semantics.specs.declared.place.Place.{Place}
 use Rattle.wsm_semantics.specs.declared.out_row.OutRow.{OutRow}
 use Rattle.wsm_semantics.specs.declared.out_row.OutRow.TheVariants as rows
+pub use Rattle.wsm_semantics.specs.declared.standing.Standing.{Standing}
+pub use Rattle.wsm_semantics.specs.declared.standing.Standing.TheVariants.{Unfired, Row, Joined}
 use Rattle.wsm_semantics.specs.Query.{Datum, Query}
 use Rattle.wsm_semantics.specs.Panes.{place_cmp, at, window_of, is_there, is_live_at}
 use Rattle.wsm_semantics.specs.Firings.{Firing, firing_set, kind_on_record, kind_on_watermark}
@@ -37,13 +39,6 @@ pub record IsLawful {X : Type 0} (plan : Plan X) : Type 0 where
   pub more : (x : X) (key : ℕ) (values : List Value) → plan.more x key values ≡ plan.join x (plan.first key values)
   pub commutative : (x y : X) → plan.join x y ≡ plan.join y x
   pub associative : (x y z : X) → plan.join (plan.join x y) z ≡ plan.join x (plan.join y z)
-
--- the row that stands for a pane: none, as no part of it fired; the columns of a firing, or none
--- where its HAVING was false; or none, as two parts that fired were joined since
-pub data Standing : Type 0 where
-  Unfired : Standing
-  Row : (columns : Option (List Value)) → Standing
-  Joined : Standing
 
 pub record Pane (X : Type 0) : Type 0 where
   pub count : ℕ

@@ -9,21 +9,31 @@ use wsm_record::Value;
 pub const MAX_COLUMNS: usize = 16;
 
 /// The columns of a row, at most [`MAX_COLUMNS`], held inline. A clause sees their values.
-#[derive(Debug, Drop)]
+#[derive(Clone, Copy, Debug)]
 pub struct Columns {
     values: [Value; MAX_COLUMNS],
     len: usize,
 }
 
 impl Model for Columns {
-    ghost use Rattle.std.specs.Prelude.{◌≡◌, List, ◌≤◌, length, take};
+    ghost use Rattle.std.specs.Prelude.{◌≡◌, ◌≤◌, ◌-◌, ◌++◌, List, length, take, drop, replicate, pos};
+    ghost use Rattle.std.proofs.Common.{arith, sym, ap, ◌∙◌, take-append-drop, length-take-le};
     ghost use Rattle.wsm_record.specs.declared.event.Value.{Value as OneValue};
+    ghost use Rattle.wsm_record.specs.declared.event.Value.TheVariants.{Int};
 
     ghost Value = { List OneValue };
 
     ghost view = { λ c. take c.len c.values };
 
-    ghost invariant = { λ c. (c.len ≤ 16) × (length c.values ≡ 16) };
+    // The places behind the columns hold 0, so that equal columns are equal bit by bit.
+    ghost invariant = { λ c. (c.len ≤ 16) × (length c.values ≡ 16) × (drop c.len c.values ≡ replicate (16 - c.len) (Int (pos 0))) };
+
+    ghost inverse = { λ xs. record { values = xs ++ replicate (16 - length xs) (Int (pos 0)); len = length xs } };
+
+    ghost inverse_ok = { λ c h i. record {
+      values = (ap (λ n. take c.len c.values ++ replicate (16 - n) (Int (pos 0))) (length-take-le c.len c.values (omega (arith, h.0, h.1))) ∙ ap (λ rest. take c.len c.values ++ rest) (sym h.2) ∙ take-append-drop c.len c.values) i;
+      len = length-take-le c.len c.values (omega (arith, h.0, h.1)) i;
+    } };
 }
 
 impl Columns {
@@ -56,16 +66,6 @@ impl Columns {
         ensures { result.now ≡ self.now }
     {
         &self.values[..self.len]
-    }
-
-    /// The same columns once more.
-    pub fn copied(&self) -> Columns
-        ensures { result ≡ self.now }
-    {
-        Columns {
-            values: self.values,
-            len: self.len,
-        }
     }
 
     /// Adds a column on the right.

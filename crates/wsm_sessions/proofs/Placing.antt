@@ -2,21 +2,21 @@
 use Rattle.std.proofs.Common.{◌≡◌, ℕ, zero, suc, ◌+◌, ◌<◌, ◌≤◌, Bool, true, false, ◌||◌, List, [], ◌∷◌, ◌++◌, length, get_or, length-append, add-one, ℤ, pos, ◌+ℤ◌, ◌≤ℤ◌, refl, sym, subst, ap, ◌∙◌, arith}
 use Rattle.std.proofs.lemmas.Int.{ints}
 use Rattle.std.proofs.lemmas.Bool.{true≢false}
-use Rattle.std.specs.Prelude.{filter, int_le, int_lt, insert, slice_set}
+use Rattle.std.specs.Prelude.{filter, int_le, int_lt, insert, slice_get, slice_set, Some}
 use Rattle.std.specs.Int.{int_max, int_min}
 use Rattle.std.specs.List.{AllByRecursion, list_any, remove}
 use Rattle.std.specs.List.Sorted.{IsPartitionedBy}
 use Rattle.wsm_windows.specs.declared.window.Window.{Window}
 use Rattle.wsm_windows.specs.Windows.{window}
-use Rattle.wsm_semantics.specs.Sessions.{ends_by, starts_from, links, with_session}
+use Rattle.wsm_semantics.specs.Sessions.{ends_by, starts_from, links, session_of, with_session}
 use Rattle.wsm_semantics.proofs.Each.{passed}
 use Rattle.wsm_semantics.proofs.Sessions.{StartFrom, AreApart, sessions_apart}
 use Rattle.wsm_semantics.proofs.SessionTimes.{apart-filter, linked_all, two_at_most}
 use Rattle.wsm_semantics.proofs.SessionOrder.{in_order, begins, extends, joins}
 use Rattle.wsm_sessions.specs.Live.{IsOfTimes}
 use Rattle.wsm_sessions.specs.declared.placed.Placed.TheVariants.{New, Extends, Joins}
-use Rattle.wsm_sessions.specs.Placing.{starts_before, placed, placed_at, joined_at}
-use Rattle.wsm_sessions.proofs.Seams.{any_passes, insert_seam, get_seam, set_seam, within_seam, within_behind}
+use Rattle.wsm_sessions.specs.Placing.{starts_before, placed, placed_at, place_of, joined_at}
+use Rattle.wsm_sessions.proofs.Seams.{any_passes, insert_seam, get_seam, get_behind, set_seam, within_seam, within_behind}
 
 -- ---- where windows start
 
@@ -78,6 +78,22 @@ joins_is n i [] le h = absurd (cc)
 joins_is n i (w ∷ []) le h = absurd (cc)
 joins_is n i (w ∷ v ∷ []) le h = (cc, (w, (v, refl)))
 joins_is n i (w ∷ v ∷ x ∷ ls) le h = absurd (omega arith)
+
+its_place : (n : ℕ) (ls : List Window) → place_of (placed_at n ls) ≡ n
+its_place n [] = refl
+its_place n (w ∷ []) = refl
+its_place n (w ∷ v ∷ ls) = refl
+
+some_seam : (xs ys : List Window) (y : Window) → slice_get (xs ++ y ∷ ys) (length xs) ≡ Some y
+some_seam [] ys y = refl
+some_seam (x ∷ xs) ys y = some_seam xs ys y
+
+-- the session that holds the time now, at its place
+pub session_at : (gap t : ℤ) (ws : List Window) → slice_get (with_session gap t ws) (place_of (placed gap t ws)) ≡ Some (session_of gap t (filter (links gap t) ws))
+session_at gap t ws =
+    let ended = filter (ends_by t) ws in
+    let linked = filter (links gap t) ws in
+    ap (slice_get (with_session gap t ws)) (its_place (length ended) linked) ∙ some_seam ended (filter (starts_from (t +ℤ gap)) ws) (session_of gap t linked)
 
 -- ---- ends rise
 
@@ -215,6 +231,30 @@ module _ (gap : ℤ) (long : pos 1 ≤ℤ gap) (t : ℤ) where
         let within = subst (λ (vs : List Window). suc (length ended) < length vs) (sym parts.0) (within_behind ended later w v) in
         let next : i + 1 ≡ suc (length ended) = add-one i ∙ ap suc (sym at.0) in
         (omega (arith, next, within), ap (joined_at ws) (sym at.0) ∙ ap (λ (vs : List Window). joined_at vs (length ended)) parts.0 ∙ joined_seam ended later w v ∙ sym parts.1)
+
+    -- ---- those that it is linked to, at their places
+
+    pub linked_none : (i : ℕ) → placed gap t ws ≡ New i → [] ≡ linked
+    linked_none i h = sym (new_is (length ended) i linked h).1
+
+    pub linked_one : (i : ℕ) → placed gap t ws ≡ Extends i → (d : Window) → get_or ws i d ∷ [] ≡ linked
+    linked_one i h d =
+        let at = extends_is (length ended) i linked h in
+        let w : Window = at.1.0 in
+        let parts = extends gap long t ws apart w at.1.1 in
+        let read : get_or ws i d ≡ w = ap (λ (k : ℕ). get_or ws k d) (sym at.0) ∙ ap (λ (vs : List Window). get_or vs (length ended) d) parts.0 ∙ get_seam ended later w d in
+        ap (λ (v : Window). v ∷ []) read ∙ sym at.1.1
+
+    pub linked_two : (i : ℕ) → placed gap t ws ≡ Joins i → (d e : Window) → get_or ws i d ∷ get_or ws (i + 1) e ∷ [] ≡ linked
+    linked_two i h d e =
+        let at = joins_is (length ended) i linked (two_at_most gap long t linked (apart-filter gap (links gap t) ws apart) are_linked) h in
+        let w : Window = at.1.0 in
+        let v : Window = at.1.1.0 in
+        let parts = joins gap long t ws apart w v at.1.1.1 in
+        let first : get_or ws i d ≡ w = ap (λ (k : ℕ). get_or ws k d) (sym at.0) ∙ ap (λ (vs : List Window). get_or vs (length ended) d) parts.0 ∙ get_seam ended (v ∷ later) w d in
+        let second : get_or ws (i + 1) e ≡ v =
+        ap (λ (k : ℕ). get_or ws k e) (add-one i ∙ ap suc (sym at.0)) ∙ ap (λ (vs : List Window). get_or vs (suc (length ended)) e) parts.0 ∙ get_behind ended later w v e in
+        (λ k. first k ∷ second k ∷ []) ∙ sym at.1.1.1
 
     -- ---- whether it is linked to any
 

@@ -6,6 +6,8 @@ use Rattle.wsm_windows.specs.Windows.{window}
 use Rattle.wsm_semantics.specs.Sessions.{ends_by, links}
 use Rattle.wsm_sessions.specs.declared.placed.Placed.{Placed}
 use Rattle.wsm_sessions.specs.declared.placed.Placed.TheVariants.{New, Extends, Joins}
+use Rattle.wsm_sessions.specs.declared.placed.Linked.{Linked}
+use Rattle.wsm_sessions.specs.declared.placed.Linked.TheVariants as linked
 use Rattle.wsm_sessions.specs.Live.{Live}
 
 -- by the sessions that the time is linked to
@@ -17,6 +19,16 @@ placed_at i (w ∷ v ∷ ws) = Joins i
 -- it is placed behind the sessions that ended by it
 abbrev pub placed : ℤ → ℤ → List Window → Placed
 placed gap t ws = placed_at (length (filter (ends_by t) ws)) (filter (links gap t) ws)
+
+abbrev pub place_of : Placed → ℕ
+place_of (New i) = i
+place_of (Extends i) = i
+place_of (Joins i) = i
+
+abbrev pub those_linked : Linked → List Window
+those_linked linked.None = []
+those_linked (linked.One w) = w ∷ []
+those_linked (linked.Two w v) = w ∷ v ∷ []
 
 abbrev pub is_any_linked : ℤ → ℤ → List Window → Bool
 is_any_linked gap t ws = list_any (links gap t) ws

@@ -5,7 +5,7 @@
 //! start, with room for a number of them that is reserved when it is opened.
 #![tactic(auto)]
 
-pub use placed::Placed;
+pub use placed::{Linked, Placed};
 pub use sessions::Sessions;
 
 mod edits;

@@ -3,14 +3,14 @@
 ghost use Rattle.std.specs.Prelude.{◌≡◌, ℕ, ◌<◌, ℤ, pos, ◌≤ℤ◌, List, [], ◌∷◌, length, filter, Contains, IfOk, true, Some, slice_get};
 ghost use Rattle.std.specs.List.{list_any};
 ghost use Rattle.wsm_windows.specs.Windows.{IsTime, greatest_span, has_inside};
-ghost use Rattle.wsm_semantics.specs.Sessions.{with_session, ends_after};
+ghost use Rattle.wsm_semantics.specs.Sessions.{with_session, session_of, links, ends_after};
 ghost use Rattle.wsm_sessions.specs.Classes.{IsClass};
 ghost use Rattle.wsm_sessions.specs.Live.{Fits, times_left};
-ghost use Rattle.wsm_sessions.specs.Placing.{placed};
+ghost use Rattle.wsm_sessions.specs.Placing.{placed, those_linked};
 ghost use Rattle.wsm_sessions.specs.Placing as spec;
 
 use crate::edits::{find, keep_past, put_time};
-use crate::placed::Placed;
+use crate::placed::{Linked, Placed};
 use std::alloc::{AllocError, Global};
 use std::marker::Model;
 use wsm_windows::Window;
@@ -73,6 +73,31 @@ impl Sessions {
             Placed::Extends(_) => true,
             Placed::Joins(_) => true,
         }
+    }
+
+    /// The sessions that a time is linked to.
+    pub fn linked(&self, time: i64) -> Linked
+        requires { IsTime time }
+        ensures { those_linked result ≡ filter (links self.now.gap time) self.now.windows }
+    {
+        let windows = &self.windows;
+        match find(windows, self.gap, time) {
+            Placed::New(_) => Linked::None,
+            Placed::Extends(i) => Linked::One(windows[i]),
+            Placed::Joins(i) => Linked::Two(windows[i], windows[i + 1]),
+        }
+    }
+
+    /// Places a time, and gives the session that it is in now.
+    pub fn enter(&mut self, time: i64) -> Window
+        requires time { IsTime time }
+        requires admits { spec.admits self.old time ≡ true }
+        ensures windows { self.new ≡ record self.old { windows = with_session self.old.gap time self.old.windows } }
+        ensures session { result ≡ session_of self.old.gap time (filter (links self.old.gap time) self.old.windows) }
+        ensures fits { (times : List ℤ) → Fits self.old times → Fits self.new (time ∷ times) }
+    {
+        let placed = self.place(time);
+        self.at(placed.index())
     }
 
     /// Puts a time into the sessions that it is linked to, or into one of its own.

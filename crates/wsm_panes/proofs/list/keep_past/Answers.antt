@@ -5,4 +5,4 @@ use Rattle.wsm_panes.proofs.list.keep_past.Goals as goal
 
 -- the closure answers the test, and stays as it was
 pub returns-clause-items : goal.returns-clause-items
-returns-clause-items c = filter_same _ (λ e. is_kept c.args.limit e.0) _ (λ e b g h. (search rules, search rules)) _ _ c.retain.ensures.filtered
+returns-clause-items o c = filter_same _ (λ e. is_kept c.args.limit e.0) _ (λ e b g h. (search rules, search rules)) _ _ c.retain.ensures.filtered

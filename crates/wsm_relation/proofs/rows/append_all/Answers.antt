@@ -4,9 +4,9 @@ use Rattle.wsm_relation.proofs.rows.append_all.Goals as goal
 
 pub loop-i-preserved : goal.loop-i-preserved
 loop-i-preserved c =
-    let pushed : c.push.new.self.items ≡ c.loop-i.out.items ++ c.copied.result ∷ [] = rw c.unwrap.ensures at c.push.ensures.items in
+    let pushed : c.push.new.self.items ≡ c.loop-i.out.items ++ c.deref.result.now ∷ [] = rw c.unwrap.ensures at c.push.ensures.items in
     let longer : vec_len c.push.new.self ≡ vec_len c.loop-i.out + 1 = rw c.unwrap.ensures at c.push.ensures.len in
-    let value : c.copied.result ≡ c.index-rows-i.result.value = c.copied.ensures ∙ c.deref.ensures in
+    let value : c.deref.result.now ≡ c.index-rows-i.result.value = c.deref.ensures in
     record {
       items =
           pushed

@@ -12,9 +12,9 @@ loop-i-preserved-in-Less c =
     let i = c.loop-i.i in
     let j = c.loop-i.j in
     let box = c.index-rows-i-in-Less.result in
-    let pushed : c.push.new.self.items ≡ c.loop-i.out.items ++ c.copied.result ∷ [] = rw c.unwrap.ensures at c.push.ensures.items in
+    let pushed : c.push.new.self.items ≡ c.loop-i.out.items ++ c.deref-in-Less.result.now ∷ [] = rw c.unwrap.ensures at c.push.ensures.items in
     let longer : vec_len c.push.new.self ≡ vec_len c.loop-i.out + 1 = rw c.unwrap.ensures at c.push.ensures.len in
-    let value : c.copied.result ≡ box.value = c.copied.ensures ∙ c.deref-in-Less.ensures in
+    let value : c.deref-in-Less.result.now ≡ box.value = c.deref-in-Less.ensures in
     let step : left xs ys i j i j ≡ box.value ∷ left xs ys i j (i + 1) j = elim c.if-j-others.branch [
       | then-j-others w ↦
           let less : row_cmp w.index-rows-i.result.value w.index-others-j.result.value ≡ Less = cc in
@@ -24,7 +24,7 @@ loop-i-preserved-in-Less c =
     record {
       items =
           ap (λ l. l ++ left xs ys i j (i + 1) j) pushed
-          ∙ append_assoc c.loop-i.out.items (c.copied.result ∷ []) (left xs ys i j (i + 1) j)
+          ∙ append_assoc c.loop-i.out.items (c.deref-in-Less.result.now ∷ []) (left xs ys i j (i + 1) j)
           ∙ (λ k. c.loop-i.out.items ++ (value k ∷ left xs ys i j (i + 1) j))
           ∙ ap (λ l. c.loop-i.out.items ++ l) (sym step)
           ∙ c.loop-i.invariant.items;

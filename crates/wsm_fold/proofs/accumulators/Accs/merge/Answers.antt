@@ -1,7 +1,0 @@
-use Rattle.wsm_fold.proofs.Bags.{fold_by-append}
-use Rattle.wsm_fold.proofs.Rows.{joins_assoc}
-use Rattle.wsm_fold.proofs.accumulators.Accs.merge.Goals as goal
-
-pub returns-clause-bag : goal.returns-clause-bag
-returns-clause-bag c xs ys e f =
-    rw (c.fold.ensures.kinds, c.fold.ensures.joined, c.values.ensures.holds) (fold_by-append _ (joins_assoc c.args.self.now.kinds) _ _ xs ys e (rw c.requires.kinds at f))

@@ -1,0 +1,130 @@
+-- Windows on the grid of a ring, and the order of their places.
+use Rattle.std.proofs.Common.{SFits, w64, rules, Option, Some, None, ◌≡◌, ◌⊎◌, ℕ, zero, suc, ◌+◌, ◌-◌, ◌*◌, ◌/◌, ◌%◌, ◌<◌, ◌≤◌, true, false, ℤ, pos, negsuc, ◌+ℤ◌, ◌-ℤ◌, ◌*ℤ◌, ◌<ℤ◌, ◌≤ℤ◌, refl, sym, ap, subst, ◌∙◌, inl, inr, arith}
+use Rattle.std.specs.Int.{int_rem_euclid, int_div_euclid}
+use Rattle.std.specs.Bool.{Decides}
+use Rattle.std.specs.Option.{SomeIff, option_eq}
+use Rattle.std.specs.Ordering.{int_eq, int_cmp, nat_cmp}
+use Rattle.std.specs.declared.cmp.Ordering.TheVariants.{Less, Equal}
+use lib.Signed.{le_z}
+use Rattle.std.proofs.lemmas.Int.{ints}
+use Rattle.std.proofs.lemmas.Nat.{row_fits}
+use Rattle.std.proofs.lemmas.Bool.Decides.{nat_tests, Decides-like, Decides-int_eq}
+use Rattle.std.proofs.Math.Nat.{div-add-mod'}
+use Rattle.std.proofs.Math.IntN.{suc_ℤ-*ℤ, +ℤ-suc_ℤ, +ℤ_idr, negsuc-*ℤ-pos}
+use Rattle.wsm_semantics.specs.declared.place.Place.{Place}
+use Rattle.wsm_panes.specs.declared.ring.Ring.{Ring}
+use Rattle.wsm_panes.specs.Place.{place_cmp}
+use Rattle.wsm_panes.specs.Ring.{IsRing, IsOfRing, window_number, row_of, slot_of}
+
+below_zero : (a p : ℕ) → 0 < p → negsuc a ≡ negsuc (a / p) *ℤ pos p +ℤ pos (p - 1 - a % p)
+below_zero a p h =
+    let whole : a / p * p + a % p ≡ a = div-add-mod' a p in
+    let below : a % p < p = omega arith in
+    let more : suc (a / p) * p ≡ a / p * p + p = omega arith in
+    rw (negsuc-*ℤ-pos (a / p) p, more) (omega (arith, ints))
+
+-- a number is its quotient times the divisor, and the remainder
+pub quot_rem : (s : ℤ) (p : ℕ) → 0 < p → s ≡ int_div_euclid s (pos p) *ℤ pos p +ℤ int_rem_euclid s (pos p)
+quot_rem (pos a) p h = let whole : a / p * p + a % p ≡ a = div-add-mod' a p in omega (arith, ints)
+quot_rem (negsuc a) p h = below_zero a p h
+
+pub rem_within : (s : ℤ) (p : ℕ) → 0 < p → (k : ℕ) × (int_rem_euclid s (pos p) ≡ pos k) × (k < p)
+rem_within (pos a) p h = (a % p, refl, omega arith)
+rem_within (negsuc a) p h = (p - 1 - a % p, refl, omega arith)
+
+-- a row of slots ends within them
+pub row_within : (r : Ring) (start : ℤ) → IsRing r → row_of r start + r.keys ≤ r.bound * r.keys
+row_within r start is =
+    let rem = rem_within (window_number r start) r.bound (omega (arith, is.bound)) in
+    rw rem.1 (row_fits rem.0 r.keys r.bound r.keys rem.2 (omega arith))
+
+pub slot_within : (r : Ring) (p : Place) → IsRing r → IsOfRing r p → slot_of r p < r.bound * r.keys
+slot_within r p is of = omega (arith, row_within r p.start is, of.key)
+
+on_grid_pos : (s : ℤ) (p : ℕ) → 0 < p → int_rem_euclid s (pos p) ≡ pos 0 → s ≡ int_div_euclid s (pos p) *ℤ pos p
+on_grid_pos s p h rem = quot_rem s p h ∙ rw rem (omega (arith, ints))
+
+rem_pos : (s : ℤ) (p : ℕ) → 0 < p → s ≡ int_div_euclid s (pos p) *ℤ pos p → int_rem_euclid s (pos p) ≡ pos 0
+rem_pos s p h is = let all = quot_rem s p h in omega (arith, ints)
+
+-- a time is on the grid where nothing remains
+pub on_grid : (s p : ℤ) → pos 1 ≤ℤ p → int_rem_euclid s p ≡ pos 0 → s ≡ int_div_euclid s p *ℤ p
+on_grid s (pos p) h rem = on_grid_pos s p (omega (arith, ints)) rem
+on_grid s (negsuc p) h rem = absurd (omega (arith, ints))
+
+pub rem_on_grid : (s p : ℤ) → pos 1 ≤ℤ p → s ≡ int_div_euclid s p *ℤ p → int_rem_euclid s p ≡ pos 0
+rem_on_grid s (pos p) h is = rem_pos s p (omega (arith, ints)) is
+rem_on_grid s (negsuc p) h is = absurd (omega (arith, ints))
+
+int_less : (x y : ℤ) → x <ℤ y → int_cmp x y ≡ Less
+int_less x y h = grind (arith, ints)
+
+int_same : (x y : ℤ) → x ≡ y → int_cmp x y ≡ Equal
+int_same x y h = rw h (grind (arith, ints))
+
+nat_less : (x y : ℕ) → x < y → nat_cmp x y ≡ Less
+nat_less x y h = grind (arith, nat_tests)
+
+pub window_less : (r : Ring) (p q : Place) → IsOfRing r p → IsOfRing r q → p.start <ℤ q.start → place_cmp p q ≡ Less
+window_less r p q a b less = rw (int_less p.end q.end (omega (arith, ints, a.end, b.end))) refl
+
+pub key_less : (r : Ring) (p q : Place) → IsOfRing r p → IsOfRing r q → p.start ≡ q.start → p.key < q.key → place_cmp p q ≡ Less
+key_less r p q a b same less = rw (int_same p.end q.end (omega (arith, ints, a.end, b.end)), int_same p.start q.start same, nat_less p.key q.key less) refl
+
+-- whether a sum is made and is the end
+pub Decides-ends : (o : Option ℤ) (s e : ℤ) → SomeIff o (SFits w64 s) s → SFits w64 e → Decides (option_eq int_eq o (Some e)) (e ≡ s)
+Decides-ends None s e h fits = (λ bad. let no : false ≡ true = bad in cc, λ same. absurd (h (subst (λ z. SFits w64 z) same fits)))
+Decides-ends (Some x) s e h fits = Decides-like (int_eq x e) (λ is. sym is ∙ h.1) (λ is. h.1 ∙ sym is) (Decides-int_eq x e)
+
+zero_rem : (p : ℤ) → pos 1 ≤ℤ p → int_rem_euclid (pos 0) p ≡ pos 0
+zero_rem (pos p) h = ap pos (omega (arith, ints))
+zero_rem (negsuc p) h = absurd (omega (arith, ints))
+
+pub zero_on_grid : (p : ℤ) → pos 1 ≤ℤ p → pos 0 ≡ int_div_euclid (pos 0) p *ℤ p
+zero_on_grid p h = on_grid (pos 0) p h (zero_rem p h)
+
+pub times_more : (q : ℤ) (m p : ℕ) → (q +ℤ pos m) *ℤ pos p ≡ q *ℤ pos p +ℤ pos (m * p)
+times_more q zero p = rw (+ℤ_idr q) (omega (arith, ints))
+times_more q (suc m) p =
+    let one_more : suc m * p ≡ m * p + p = omega arith in
+    rw (+ℤ-suc_ℤ q (pos m), suc_ℤ-*ℤ (q +ℤ pos m) (pos p), times_more q m p, one_more) (omega (arith, ints))
+
+above_by : (k l d : ℤ) → l ≡ k +ℤ d → ((j : ℕ) × (l ≡ k +ℤ pos j)) ⊎ ((j : ℕ) × (k ≡ l +ℤ pos j))
+above_by k l (pos j) e = inl (j, e)
+above_by k l (negsuc j) e = inr (suc j, omega (arith, ints))
+
+next_above : (p j : ℕ) (a b x y : ℤ) → a ≡ x → b ≡ y → y ≡ x +ℤ pos (j * p) → a <ℤ b → (a +ℤ pos p) ≤ℤ b
+next_above p zero a b x y e f g less = absurd (omega (arith, ints))
+next_above p (suc j) a b x y e f g less =
+    let one_more : suc j * p ≡ j * p + p = omega arith in
+    omega (arith, ints)
+
+never_below : (p j : ℕ) (a b x y : ℤ) → a ≡ x → b ≡ y → x ≡ y +ℤ pos (j * p) → a <ℤ b → ⊥
+never_below p j a b x y e f g less = omega (arith, ints)
+
+next_multiple : (p : ℕ) (k l a b : ℤ) → a ≡ k *ℤ pos p → b ≡ l *ℤ pos p → a <ℤ b → (a +ℤ pos p) ≤ℤ b
+next_multiple p k l a b e f less =
+    elim (above_by k l (l -ℤ k) (omega (arith, ints))) [
+      | inl up ↦ next_above p up.0 a b (k *ℤ pos p) (l *ℤ pos p) e f (ap (λ (z : ℤ). z *ℤ pos p) up.1 ∙ times_more k up.0 p) less
+      | inr up ↦ absurd (never_below p up.0 a b (k *ℤ pos p) (l *ℤ pos p) e f (ap (λ (z : ℤ). z *ℤ pos p) up.1 ∙ times_more l up.0 p) less)
+    ]
+
+-- of two times on the grid the later is a period or more behind the other
+pub next_on_grid : (p k l a b : ℤ) → pos 1 ≤ℤ p → a ≡ k *ℤ p → b ≡ l *ℤ p → a <ℤ b → (a +ℤ p) ≤ℤ b
+next_on_grid (pos p) k l a b h e f less = next_multiple p k l a b e f less
+next_on_grid (negsuc p) k l a b h e f less = absurd (omega (arith, ints))
+
+-- the time a period later is on the grid too
+pub on_grid_next : (k p a : ℤ) → pos 1 ≤ℤ p → a ≡ k *ℤ p → (a +ℤ p) ≡ (k +ℤ pos 1) *ℤ p
+on_grid_next k (pos p) a h is = let one : 1 * p ≡ p = omega arith in rw (times_more k 1 p, one, is) refl
+on_grid_next k (negsuc p) a h is = absurd (omega (arith, ints))
+
+-- what lies between two numbers that fit fits too
+pub between_fits : (a b c : ℤ) → SFits w64 a → SFits w64 c → a ≤ℤ b → b ≤ℤ c → SFits w64 b
+between_fits a b c f g h k = search (rules, ints)
+
+pub le_from : (x y : ℤ) → le_z x y ≡ true → x ≤ℤ y
+le_from x y h = grind (arith, ints)
+
+pub lt_from : (x y : ℤ) → le_z x y ≡ false → y <ℤ x
+lt_from x y h = grind (arith, ints)

@@ -1,0 +1,14 @@
+use Rattle.std.proofs.Common.{[], sym, ap, subst, ◌∙◌}
+use Rattle.std.specs.FinMap as map
+use Rattle.wsm_panes.specs.OfKeys.{AreOfKeys}
+use Rattle.wsm_panes.proofs.Tables.{entries_none}
+use Rattle.wsm_panes.proofs.held.HeldPanes.open.Goals as goal
+
+pub invariant_of-result : goal.invariant_of-result
+invariant_of-result c = record {
+  shape = c.requires.shape;
+  room = ap (λ t. t.room) c.in_ok-open.ensures;
+  sessions = λ gap is.
+      subst (λ es. AreOfKeys gap c.args.keys c.args.live es c.in_ok-open_sessions.field-0.items) (sym (ap (λ t. map.entries t.panes) c.in_ok-open.ensures ∙ entries_none))
+      (c.in_ok-open_sessions.ensures gap is);
+}

@@ -1,0 +1,16 @@
+use Rattle.std.proofs.Common.{◌≡◌, ℕ, ◌≤◌, ◌⊎◌, ◌<ℤ◌, Some}
+use Rattle.wsm_panes.proofs.Scan.{left_until}
+use Rattle.wsm_semantics.specs.declared.place.Place.{Place}
+use Rattle.wsm_panes.specs.Ring.{IsFromOn, slot_at, IsOnGrid}
+use Rattle.wsm_panes.proofs.slots.first_from.Given as goal
+
+-- what is from the first window on is from this one on
+abbrev pub invariant-loop-start : goal.invariant-loop-start
+invariant-loop-start g l = record {
+  grid : IsOnGrid l.ring l.start;
+  later : (l.fn.start <ℤ l.start) ⊎ ((l.start ≡ l.fn.start) × (l.fn.key ≤ l.key));
+  left : (i : ℕ) (e : Place × _) → slot_at l.slots i ≡ Some e → IsFromOn l.fn.start l.fn.key e.0 → IsFromOn l.start l.key e.0;
+}
+
+abbrev pub decreases-loop-start : goal.decreases-loop-start
+decreases-loop-start g l = left_until l.start l.last

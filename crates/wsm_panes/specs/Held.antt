@@ -1,0 +1,117 @@
+-- The panes that are held, and what a record does to them.
+use Rattle.std.specs.Prelude.{◌≡◌, ℕ, ◌+◌, ◌*◌, ◌^◌, ◌≤◌, ◌<◌, Bool, true, IsTrue, List, [], ◌∷◌, length, map as map_list, filter, nat_eq, nat_lt, false, ℤ, Option, Some, None, IfSome, refl}
+use Rattle.std.specs.List.{AllByRecursion}
+use Rattle.std.specs.Coded.{Coded, code_by, coded×, coded_ℕ}
+use Rattle.std.specs.FinMap as map
+use Rattle.std.specs.FinMap.Entries.{find}
+use Rattle.wsm_record.specs.declared.event.Value.{Value}
+use Rattle.wsm_record.specs.declared.words.Kind.{Kind}
+use Rattle.wsm_windows.specs.declared.window.Window.{Window}
+use Rattle.wsm_windows.specs.declared.window.Shape.{Shape}
+use Rattle.wsm_windows.specs.declared.window.Shape.TheVariants.{Session}
+use Rattle.wsm_windows.specs.Windows.{IsTime}
+use Rattle.wsm_fold.specs.Fold.{are_of_kinds, joins}
+use Rattle.wsm_fold.specs.Accumulators.{SumsFit}
+use Rattle.wsm_semantics.specs.declared.place.Place.{Place}
+use Rattle.wsm_semantics.specs.Query.{Datum}
+use Rattle.wsm_semantics.specs.Panes.{place_cmp, at, window_of}
+use Rattle.wsm_semantics.specs.Replay.{datum}
+use Rattle.wsm_semantics.specs.Summaries.{Plan, Pane, assigned, entered, joined, linked, session_with}
+use Rattle.wsm_panes.specs.Place.{coded_place}
+
+-- the panes, for keys of these numbers, with room for so many live windows of each
+pub record Held : Type 0 where
+  pub keys : ℕ
+  pub shape : Shape
+  pub live : ℕ
+  pub panes : map.FinMap place_cmp (Pane (List Value))
+
+abbrev pub coded_held : Coded Shape → Coded (Pane (List Value)) → Coded Held
+coded_held shapes panes =
+    code_by (ℕ × (Shape × (ℕ × map.FinMap place_cmp (Pane (List Value))))) (coded× coded_ℕ (coded× shapes (coded× coded_ℕ (map.code coded_place panes))))
+    (λ h. (h.keys, (h.shape, (h.live, h.panes)))) (λ t. record { keys = t.0; shape = t.1.0; live = t.1.1.0; panes = t.1.1.1 }) (λ _. refl)
+
+abbrev pub entries_of : Held → List (Place × Pane (List Value))
+entries_of h = map.entries h.panes
+
+abbrev pub room_of : Held → ℕ
+room_of h = h.keys * h.live
+
+-- the keys, the shape and the room stay
+pub record IsKept (old new : Held) : Type 0 where
+  pub keys : new.keys ≡ old.keys
+  pub shape : new.shape ≡ old.shape
+  pub live : new.live ≡ old.live
+
+-- how entering takes the values that a record is folded by: a plan whose WHERE and FIRE say nothing
+abbrev pub taking : List Kind → List Value → Plan (List Value)
+taking kinds values = record { selects = λ _ _. true; first = λ _ _. values; more = λ held _ _. joins kinds held values; join = joins kinds; row = λ _ _ _. None }
+
+-- what is held with a record of a key and a time, that is folded by these values
+abbrev pub with_entered : List Kind → ℕ → ℤ → List Value → Held → List (Place × Pane (List Value))
+with_entered kinds key time values h = entered (taking kinds values) h.shape (datum 0 key time []) (entries_of h)
+
+-- the window of the session that a record is in, where windows are sessions
+abbrev pub session_entered : Shape → Datum → List (Place × Pane (List Value)) → Option Window
+session_entered (Session gap) d panes = Some (window_of (session_with gap d (linked gap d panes)))
+session_entered shape d panes = None
+
+-- whether two sessions are joined by a record
+abbrev pub joins_sessions : Shape → Datum → List (Place × Pane (List Value)) → Bool
+joins_sessions (Session gap) d panes = nat_lt 1 (length (linked gap d panes))
+joins_sessions shape d panes = false
+
+-- the windows of a key's panes, in the order of the places
+abbrev pub windows_of_key : {X : Type 0} → ℕ → List (Place × X) → List Window
+windows_of_key key panes = map_list (λ e. window_of e.0) (filter (λ e. nat_eq key e.0.key) panes)
+
+-- what a pane holds can take a row of values
+pub record CanTake (kinds : List Kind) (values held : List Value) : Type 0 where
+  pub types : IsTrue (are_of_kinds kinds held)
+  pub sums : SumsFit kinds held values
+
+-- what two panes hold can be joined
+abbrev pub CanJoinFolds : List Kind → Option (List Value) → Option (List Value) → Type 0
+CanJoinFolds kinds (Some xs) (Some ys) = IsTrue (are_of_kinds kinds xs) × IsTrue (are_of_kinds kinds ys) × SumsFit kinds xs ys
+CanJoinFolds kinds _ _ = Unit {0}
+
+-- a pane can take one record more
+pub record CanRecord (kinds : List Kind) (values : List Value) (h : Pane (List Value)) : Type 0 where
+  pub count : h.count < 2 ^ 63
+  pub unshown : h.unshown < 2 ^ 63
+  pub takes : IfSome h.folded (CanTake kinds values)
+
+-- two panes can be joined
+pub record CanJoin (kinds : List Kind) (h g : Pane (List Value)) : Type 0 where
+  pub count : h.count + g.count < 2 ^ 63
+  pub unshown : h.unshown + g.unshown < 2 ^ 63
+  pub folds : CanJoinFolds kinds h.folded g.folded
+
+-- a record can be put into the panes of these windows one after the other
+pub record CanEnterWindows (most : ℕ) (kinds : List Kind) (values : List Value) (key : ℕ) (time : ℤ) (ws : List Window) (es : List (Place × Pane (List Value))) : Type 0 where
+  pub room : length (assigned (taking kinds values) (datum 0 key time []) ws es) ≤ most
+  pub takes : AllByRecursion (λ w. IfSome (find place_cmp (at key w) es) (CanRecord kinds values)) ws
+
+-- the panes that a record is linked to can be joined, and what they come to can take it
+abbrev pub CanJoinAll : List Kind → List Value → List (Place × Pane (List Value)) → Type 0
+CanJoinAll kinds values [] = Unit {0}
+CanJoinAll kinds values (e ∷ []) = CanRecord kinds values e.1
+CanJoinAll kinds values (e ∷ f ∷ es) = CanJoin kinds e.1 f.1 × CanRecord kinds values (joined (taking kinds values) e.1 f.1)
+
+pub record IsRoomy (kinds : List Kind) (values : List Value) (e : Place × Pane (List Value)) : Type 0 where
+  pub count : e.1.count < 2 ^ 62
+  pub unshown : e.1.unshown < 2 ^ 62
+  pub takes : IfSome e.1.folded (CanTake kinds values)
+
+-- a record of a key and a time, that is folded by these values, can be put in
+pub record CanEnter (h : Held) (kinds : List Kind) (key : ℕ) (time : ℤ) (values : List Value) : Type 0 where
+  pub declared : key < h.keys
+  pub timely : IsTime time
+  pub few : length kinds ≤ 16
+  pub types : IsTrue (are_of_kinds kinds values)
+  pub room : length (with_entered kinds key time values h) ≤ room_of h
+  pub live : length (filter (λ e. nat_eq e.0.key key) (with_entered kinds key time values h)) ≤ h.live
+  pub panes : AllByRecursion (IsRoomy kinds values) (entries_of h)
+  -- the two sessions that it joins can be joined, and what they come to can take it
+  pub joins : (gap : ℤ) → h.shape ≡ Session gap → (e f : Place × Pane (List Value)) (es : List (Place × Pane (List Value))) → linked gap (datum 0 key time []) (entries_of h) ≡ e ∷ f ∷ es
+      → (xs ys : List Value) → e.1.folded ≡ Some xs → f.1.folded ≡ Some ys → SumsFit kinds xs ys × SumsFit kinds (joins kinds xs ys) values

@@ -1,0 +1,105 @@
+-- A ring of slots: which slot a place has, and which panes can stand there.
+use Rattle.std.specs.Prelude.{◌≡◌, ◌≢◌, ◌⊎◌, ◌<ℤ◌, ℕ, ◌+◌, ◌*◌, ◌^◌, ◌≤◌, Bool, true, false, List, [], ◌∷◌, Option, Some, None, length, if◌then◌else◌, slice_index_or, slice_set, ◌<◌, ℤ, pos, ◌+ℤ◌, ◌*ℤ◌, ◌≤ℤ◌, unsigned_abs}
+use Rattle.std.specs.Int.{int_div_euclid, int_rem_euclid}
+use Rattle.std.specs.Ordering.{eq_by_cmp, int_eq}
+use Rattle.std.specs.FinMap as map
+use Rattle.wsm_semantics.specs.declared.place.Place.{Place}
+use Rattle.wsm_panes.specs.declared.ring.Ring.{Ring}
+use Rattle.wsm_panes.specs.Place.{place_cmp, is_kept}
+
+-- periods of at least one and at most the size; at least one key and window; slots that can be counted
+pub record IsRing (r : Ring) : Type 0 where
+  pub period_low : pos 1 ≤ℤ r.period
+  pub period_high : r.period ≤ℤ r.size
+  pub keys : 1 ≤ r.keys
+  pub bound : 1 ≤ r.bound
+  pub windows : r.bound ≤ 2 ^ 32
+  pub slots : r.bound * r.keys ≤ 2 ^ 32
+
+-- which of the windows, counted from the one at 0 on, starts at a time
+abbrev pub window_number : Ring → ℤ → ℤ
+window_number r start = int_div_euclid start r.period
+
+-- the first slot of a window: a row of slots, one for each key
+abbrev pub row_of : Ring → ℤ → ℕ
+row_of r start = unsigned_abs (int_rem_euclid (window_number r start) (pos r.bound)) * r.keys
+
+abbrev pub slot_of : Ring → Place → ℕ
+slot_of r p = row_of r p.start + p.key
+
+-- a window of the shape can start at the time
+abbrev pub IsOnGrid : Ring → ℤ → Type 0
+IsOnGrid r start = (k : ℤ) × (start ≡ k *ℤ r.period)
+
+-- its window is one of the shape, and its key one of the keys
+pub record IsOfRing (r : Ring) (p : Place) : Type 0 where
+  pub key : p.key < r.keys
+  pub start : p.start ≡ window_number r p.start *ℤ r.period
+  pub end : p.end ≡ p.start +ℤ r.size
+
+-- the pane is there, or its slot is free
+abbrev pub RingAdmits : {P : Type 0} → Ring → map.FinMap place_cmp P → Place → Type 0
+RingAdmits r ps p = IsOfRing r p × ((map.contains_key ps p ≡ true) ⊎ ((q : Place) → slot_of r q ≡ slot_of r p → map.get ps q ≡ None))
+
+-- the entries in slots
+abbrev pub held : {X : Type 0} → List (Option X) → List X
+held [] = []
+held (None ∷ os) = held os
+held (Some x ∷ os) = x ∷ held os
+
+-- no slot has an entry
+abbrev pub AreFree : {X : Type 0} → List (Option X) → Type 0
+AreFree os = (i : ℕ) (x : _) → slice_index_or os i None ≢ Some x
+
+-- what a slot has
+abbrev pub slot_at : {X : Type 0} → List (Option X) → ℕ → Option X
+slot_at os i = slice_index_or os i None
+
+-- the pane at a place, of what is in its slot
+abbrev pub pane_of : {P : Type 0} → Place → Option (Place × P) → Option P
+pane_of q None = None
+pane_of q (Some e) = if eq_by_cmp place_cmp q e.0 then Some e.1 else None
+
+-- what is left in a slot of what is past a limit
+abbrev pub kept_slot : {P : Type 0} → ℤ → Option (Place × P) → Option (Place × P)
+kept_slot limit None = None
+kept_slot limit (Some e) = if is_kept limit e.0 then Some e else None
+
+-- the slot is cleared where it has the pane at the place, and else all stays
+abbrev pub IsTakenOut : {P : Type 0} → Place → ℕ → List (Option (Place × P)) → List (Option (Place × P)) → Type 0
+IsTakenOut p i os ns = ((pane_of p (slot_at os i) ≡ None) × (ns ≡ os)) ⊎ ((v : _) × (slot_at os i ≡ Some (p, v)) × (i < length os) × (ns ≡ slice_set os i None))
+
+-- each entry is of the ring, and in its own slot
+abbrev pub AreInPlace : {P : Type 0} → Ring → List (Option (Place × P)) → Type 0
+AreInPlace r os = (i : ℕ) (e : Place × _) → slot_at os i ≡ Some e → IsOfRing r e.0 × (slot_of r e.0 ≡ i)
+
+-- no entry starts after the last time
+abbrev pub AreUntil : {P : Type 0} → ℤ → List (Option (Place × P)) → Type 0
+AreUntil last os = (i : ℕ) (e : Place × _) → slot_at os i ≡ Some e → e.0.start ≤ℤ last
+
+-- no entry starts before the first time or after the last
+abbrev pub AreBetween : {P : Type 0} → ℤ → ℤ → List (Option (Place × P)) → Type 0
+AreBetween low high os = (i : ℕ) (e : Place × _) → slot_at os i ≡ Some e → (low ≤ℤ e.0.start) × (e.0.start ≤ℤ high)
+
+-- the place is at a window and a key, or behind them
+abbrev pub IsFromOn : ℤ → ℕ → Place → Type 0
+IsFromOn start key p = (start <ℤ p.start) ⊎ ((p.start ≡ start) × (key ≤ p.key))
+
+-- the first entry from a window and a key on, if there is one
+abbrev pub IsFirstFrom : {P : Type 0} → Ring → List (Option (Place × P)) → ℤ → ℕ → Option (Place × P) → Type 0
+IsFirstFrom r os start key None = (i : ℕ) (e : Place × _) → slot_at os i ≡ Some e → ¬ (IsFromOn start key e.0)
+IsFirstFrom r os start key (Some e) = (slot_at os (slot_of r e.0) ≡ Some e) × IsFromOn start key e.0 × ((i : ℕ) (f : Place × _) → slot_at os i ≡ Some f → IsFromOn start key f.0 → IsFromOn e.0.start e.0.key f.0)
+
+-- whether a slot has an entry of the window that starts at a time
+abbrev pub starts_at : {P : Type 0} → ℤ → Option (Place × P) → Bool
+starts_at start None = false
+starts_at start (Some e) = int_eq e.0.start start
+
+-- none of a row's slots, from one to before another, has an entry of the window
+abbrev pub NoneInRow : {P : Type 0} → List (Option (Place × P)) → ℕ → ℤ → ℕ → ℕ → Type 0
+NoneInRow os row start key end = (k : ℕ) (e : Place × _) → key ≤ k → k < end → slot_at os (row + k) ≡ Some e → e.0.start ≢ start
+
+-- the first entry of a window in a row, from a key on
+abbrev pub IsFirstInRow : {P : Type 0} → List (Option (Place × P)) → ℕ → ℤ → ℕ → ℕ → Option (Place × P) → Type 0
+IsFirstInRow os row start key keys None = NoneInRow os row start key keys
+IsFirstInRow os row start key keys (Some e) = (k : ℕ) × (key ≤ k) × (k < keys) × (slot_at os (row + k) ≡ Some e) × (e.0.start ≡ start) × NoneInRow os row start key k

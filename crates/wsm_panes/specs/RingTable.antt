@@ -1,0 +1,15 @@
+use Rattle.std.specs.Prelude.{◌≡◌, ◌*◌, ◌+ℤ◌, length}
+use Rattle.std.specs.Int.{w64}
+use Rattle.std.specs.Int.RustNames.{FitsSigned}
+use Rattle.wsm_panes.specs.declared.ring_table.RingTable.TheInside.{Inside}
+use Rattle.wsm_panes.specs.Ring.{IsRing, AreInPlace, AreBetween, IsOnGrid, held}
+
+-- each entry is in its own slot, and the windows from the first to the last have all entries
+pub record IsSound {P : Type 0} (a : Inside P) : Type 0 where
+  pub ring : IsRing a.ring
+  pub slots : length a.slots.items ≡ a.ring.bound * a.ring.keys
+  pub placed : AreInPlace a.ring a.slots.items
+  pub between : AreBetween a.first a.last a.slots.items
+  pub grid : IsOnGrid a.ring a.first
+  pub last : FitsSigned w64 (a.last +ℤ a.ring.size)
+  pub len : a.len ≡ length (held a.slots.items)

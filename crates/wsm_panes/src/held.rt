@@ -1,0 +1,209 @@
+//! The panes that are held.
+
+ghost use Rattle.std.specs.Prelude.{◌≡◌, ◌*◌, ◌<◌, ◌≤◌, ◌≤ℤ◌, ℤ, pos, [], length, IfOk, IsSome, Some, int_lt, slice_get};
+ghost use Rattle.std.specs.FinMap as map;
+ghost use Rattle.std.specs.FinMap.Entries.{find, put, where_key};
+ghost use Rattle.wsm_windows.specs.Windows.{IsShape, greatest_span, windows_of_shape};
+ghost use Rattle.wsm_windows.specs.declared.window.Shape.TheVariants.{Session};
+ghost use Rattle.wsm_semantics.specs.Panes.{place_cmp};
+ghost use Rattle.wsm_semantics.specs.Replay.{datum};
+ghost use Rattle.wsm_panes.specs.Held.{CanEnter, IsKept, entries_of, joins_sessions, room_of, session_entered, with_entered};
+ghost use Rattle.wsm_panes.specs.OfKeys.{AreOfKeys, AreDropped};
+
+use crate::entering::enter_windows;
+use crate::joining::enter_session;
+use crate::list::ListTable;
+use crate::pane::Pane;
+use crate::table::PaneTable;
+use std::alloc::{AllocError, Global};
+use std::marker::Model;
+use wsm_record::{Kind, Value};
+use wsm_semantics::Place;
+use wsm_sessions::Sessions;
+use wsm_windows::{Shape, Window};
+
+/// The most panes that there can be room for.
+pub const MAX_PANES: usize = 100_000;
+
+/// What putting a record in came to.
+#[derive(Clone, Copy, Debug, PartialEq, Eq)]
+pub struct Entered {
+    /// How many windows it was put into.
+    pub windows: u64,
+    /// Whether it joined two sessions.
+    pub joined: bool,
+    /// The window of its session, where windows are sessions.
+    pub session: Option<Window>,
+}
+
+/// The panes that are held, for each key and window, with what is kept of their records. In sessions
+/// a record joins the panes that it is linked to (Akidau et al. 2015, "window merging").
+#[derive(Drop)]
+pub struct HeldPanes {
+    keys: usize,
+    shape: Shape,
+    live: usize,
+    table: ListTable<Pane>,
+    // Of each key, where windows are sessions.
+    sessions: Vec<Sessions>,
+}
+
+impl Model for HeldPanes {
+    ghost use Rattle.std.specs.Coded.{codes};
+    ghost use Rattle.wsm_panes.specs.Held.{Held, coded_held};
+    ghost use Rattle.wsm_panes.specs.contracts.pane.Pane as one_pane;
+    ghost use Rattle.wsm_windows.specs.contracts.window.Shape as one_shape;
+
+    ghost Value = { Held };
+
+    ghost coded = { coded_held (Prim.hlevel (codes, one_shape.the_row.coded)) (Prim.hlevel (codes, one_pane.the_row.coded)) };
+
+    ghost view = { λ a. record { keys = a.keys; shape = a.shape; live = a.live; panes = a.table.panes } };
+
+    ghost use Rattle.wsm_panes.specs.HeldState.{IsSound};
+
+    ghost invariant = { λ a. IsSound a };
+}
+
+impl HeldPanes {
+    /// No pane yet, with room for so many live windows of each key. No later call takes memory.
+    ///
+    /// # Errors
+    ///
+    /// Where there is no memory for the room.
+    pub fn open(
+        alloc: Global,
+        keys: usize,
+        shape: Shape,
+        live: usize,
+    ) -> Result<HeldPanes, AllocError>
+        requires shape { IsShape shape }
+        requires room { keys * live ≤ MAX_PANES }
+        ensures { IfOk result (λ h. h ≡ record { keys = keys; shape = shape; live = live; panes = map.empty }) }
+    {
+        Ok(HeldPanes {
+            keys,
+            shape,
+            live,
+            table: ListTable::open(alloc, keys * live)?,
+            sessions: open_sessions(alloc, keys, shape, live)?,
+        })
+    }
+
+    /// Puts a record into the pane of each of its windows. In sessions that is one pane, which joins
+    /// those that the record is linked to.
+    pub fn enter(&mut self, kinds: &[Kind], key: u16, time: i64, values: &[Value]) -> Entered
+        requires { CanEnter self.old kinds.now key time values.now }
+        ensures panes { entries_of self.new ≡ with_entered kinds.now key time values.now self.old }
+        ensures keeps { IsKept self.old self.new }
+        ensures windows { result.windows ≡ length (windows_of_shape self.old.shape time) }
+        ensures joined { result.joined ≡ joins_sessions self.old.shape (datum 0 key time []) (entries_of self.old) }
+        ensures session { result.session ≡ session_entered self.old.shape (datum 0 key time []) (entries_of self.old) }
+    {
+        match self.shape {
+            Shape::Session(_) => {
+                let sessions = &mut self.sessions[key as usize];
+                let (session, joined) = enter_session(
+                    &mut self.table,
+                    sessions,
+                    kinds,
+                    key,
+                    time,
+                    values,
+                );
+                Entered {
+                    windows: 1,
+                    joined,
+                    session: Some(session),
+                }
+            }
+            _ => Entered {
+                windows: enter_windows(&mut self.table, self.shape, kinds, key, time, values),
+                joined: false,
+                session: None,
+            },
+        }
+    }
+
+    /// How many panes there are.
+    pub fn len(&self) -> usize
+        ensures { result ≡ length (entries_of self.now) }
+    {
+        self.table.len()
+    }
+
+    /// The pane number `i` in the order of the places, with its place.
+    pub fn at(&self, i: usize) -> (Place, Pane)
+        requires { i < length (entries_of self.now) }
+        ensures { slice_get (entries_of self.now) i ≡ Some result }
+    {
+        self.table.at(i)
+    }
+
+    /// The pane at a place, if one is there.
+    pub fn get(&self, place: Place) -> Option<Pane>
+        ensures { result ≡ find place_cmp place (entries_of self.now) }
+    {
+        self.table.get(place)
+    }
+
+    /// Sets the pane at a place where one is.
+    pub fn replace(&mut self, place: Place, pane: Pane)
+        requires { IsSome (find place_cmp place (entries_of self.old)) }
+        ensures panes { entries_of self.new ≡ put place_cmp place pane (entries_of self.old) }
+        ensures keeps { IsKept self.old self.new }
+    {
+        self.table.put(place, pane);
+    }
+
+    /// Drops the panes of windows with an end of at most the limit, which is in event time.
+    pub fn drop_expired(&mut self, limit: i64)
+        ensures panes { entries_of self.new ≡ where_key place_cmp (λ p. int_lt limit p.end) (entries_of self.old) }
+        ensures keeps { IsKept self.old self.new }
+    {
+        self.table.drop_expired(limit);
+        drop_sessions(&mut self.sessions, limit);
+    }
+}
+
+// No session yet of each key, where windows are sessions.
+fn open_sessions(
+    alloc: Global,
+    keys: usize,
+    shape: Shape,
+    live: usize,
+) -> Result<Vec<Sessions>, AllocError>
+    requires { IsShape shape }
+    ensures { IfOk result (λ v. (gap : ℤ) → shape ≡ Session gap → AreOfKeys gap keys live [] v.items) }
+{
+    match shape {
+        Shape::Session(gap) => no_sessions(alloc, keys, gap, live),
+        _ => Ok(Vec::new(alloc)),
+    }
+}
+
+fn no_sessions(
+    alloc: Global,
+    keys: usize,
+    gap: i64,
+    live: usize,
+) -> Result<Vec<Sessions>, AllocError>
+    requires low { pos 1 ≤ℤ gap }
+    requires high { gap ≤ℤ greatest_span }
+    ensures { IfOk result (λ v. AreOfKeys gap keys live [] v.items) }
+{
+    let mut sessions = Vec::with_capacity(alloc, keys)?;
+    for _ in 0..keys {
+        sessions.push_reserved(Sessions::open(alloc, gap, live)?);
+    }
+    Ok(sessions)
+}
+
+// Drops the sessions of each key that end by a limit.
+fn drop_sessions(sessions: &mut Vec<Sessions>, limit: i64)
+    ensures { AreDropped limit sessions.old.items sessions.new.items }
+{
+    for i in 0..sessions.len() {
+        sessions[i].drop_expired(limit);
+    }
+}

@@ -1,0 +1,99 @@
+//! What a record does to a table of panes whose windows are sessions.
+
+ghost use Rattle.std.specs.Prelude.{◌≡◌, ◌≤◌, ◌≤ℤ◌, ℕ, ℤ, pos, Bool, false, [], ◌∷◌, List, length, not, filter, nat_eq, nat_lt, Some, IsSome, IfSome, IsTrue};
+ghost use Rattle.std.specs.FinMap as map;
+ghost use Rattle.wsm_record.specs.declared.event.Value.{Value as OneValue};
+ghost use Rattle.wsm_windows.specs.Windows.{IsTime};
+ghost use Rattle.wsm_fold.specs.Fold.{are_of_kinds};
+ghost use Rattle.wsm_semantics.specs.Panes.{window_of};
+ghost use Rattle.wsm_semantics.specs.Kept.{is_linked};
+ghost use Rattle.wsm_semantics.specs.Replay.{datum};
+ghost use Rattle.wsm_semantics.specs.Sessions.{with_session};
+ghost use Rattle.wsm_semantics.specs.Summaries.{joined_all, linked, merged_session, session_with};
+ghost use Rattle.wsm_sessions.specs.Live.{Fits};
+ghost use Rattle.wsm_panes.specs.Held.{CanJoin, CanRecord, CanJoinAll, taking, windows_of_key};
+
+use crate::entering::{place_of, with_one_more};
+use crate::list::ListTable;
+use crate::pane::Pane;
+use crate::table::PaneTable;
+use wsm_record::{Kind, Value};
+use wsm_semantics::Place;
+use wsm_sessions::{Linked, Sessions};
+use wsm_windows::Window;
+
+/// Puts a record into its session, which joins the panes that it is linked to. Gives the window of
+/// the session, and tells whether two were joined.
+pub(crate) fn enter_session(
+    table: &mut ListTable<Pane>,
+    sessions: &mut Sessions,
+    kinds: &[Kind],
+    key: u16,
+    time: i64,
+    values: &[Value],
+) -> (Window, bool)
+    requires time { IsTime time }
+    requires gap { pos 1 ≤ℤ sessions.old.gap }
+    requires times { (times : List ℤ) × Fits sessions.old times }
+    requires agree { windows_of_key key (map.entries table.old.panes) ≡ sessions.old.windows }
+    requires few { length values.now ≤ 16 }
+    requires types { IsTrue (are_of_kinds kinds.now values.now) }
+    requires joins { CanJoinAll kinds.now values.now (linked sessions.old.gap (datum 0 key time []) (map.entries table.old.panes)) }
+    requires room { length (merged_session (taking kinds.now values.now) sessions.old.gap (datum 0 key time []) (map.entries table.old.panes)) ≤ table.old.room }
+    requires live { length (filter (λ e. nat_eq e.0.key key) (merged_session (taking kinds.now values.now) sessions.old.gap (datum 0 key time []) (map.entries table.old.panes))) ≤ sessions.old.room }
+    ensures panes { map.entries table.new.panes ≡ merged_session (taking kinds.now values.now) sessions.old.gap (datum 0 key time []) (map.entries table.old.panes) }
+    ensures room { table.new.room ≡ table.old.room }
+    ensures session { result.0 ≡ window_of (session_with sessions.old.gap (datum 0 key time []) (linked sessions.old.gap (datum 0 key time []) (map.entries table.old.panes))) }
+    ensures joined { result.1 ≡ nat_lt 1 (length (linked sessions.old.gap (datum 0 key time []) (map.entries table.old.panes))) }
+    ensures sessions { sessions.new ≡ record sessions.old { windows = with_session sessions.old.gap time sessions.old.windows } }
+    ensures fits { (times : List ℤ) → Fits sessions.old times → Fits sessions.new (time ∷ times) }
+    ensures agree { windows_of_key key (map.entries table.new.panes) ≡ sessions.new.windows }
+    ensures others { (k : ℕ) → nat_eq key k ≡ false → windows_of_key k (map.entries table.new.panes) ≡ windows_of_key k (map.entries table.old.panes) }
+{
+    let (pane, joined) = take_linked(table, sessions, kinds, key, time);
+    let session = sessions.enter(time);
+    table.put(place_of(key, session), with_one_more(pane, kinds, values));
+    (session, joined)
+}
+
+// Takes the panes that a record is linked to out, and gives what they come to together, if there are
+// any. Tells whether they are two.
+fn take_linked(
+    table: &mut ListTable<Pane>,
+    sessions: &Sessions,
+    kinds: &[Kind],
+    key: u16,
+    time: i64,
+) -> (Option<Pane>, bool)
+    requires time { IsTime time }
+    requires agree { windows_of_key key (map.entries table.old.panes) ≡ sessions.now.windows }
+    requires joins { (values : List OneValue) × CanJoinAll kinds.now values (linked sessions.now.gap (datum 0 key time []) (map.entries table.old.panes)) }
+    ensures panes { table.new.panes ≡ map.retain_keys table.old.panes (λ p. not (is_linked sessions.now.gap (datum 0 key time []) p)) }
+    ensures room { table.new.room ≡ table.old.room }
+    ensures pane { (values : List OneValue) → result.0 ≡ joined_all (taking kinds.now values) (linked sessions.now.gap (datum 0 key time []) (map.entries table.old.panes)) }
+    ensures takes { (values : List OneValue) → CanJoinAll kinds.now values (linked sessions.now.gap (datum 0 key time []) (map.entries table.old.panes)) → IfSome result.0 (CanRecord kinds.now values) }
+    ensures joined { result.1 ≡ nat_lt 1 (length (linked sessions.now.gap (datum 0 key time []) (map.entries table.old.panes))) }
+{
+    match sessions.linked(time) {
+        Linked::None => (None, false),
+        Linked::One(window) => (Some(take(table, place_of(key, window))), false),
+        Linked::Two(first, second) => {
+            let mut pane = take(table, place_of(key, first));
+            let other = take(table, place_of(key, second));
+            pane.join(kinds, &other);
+            (Some(pane), true)
+        }
+    }
+}
+
+// Takes the pane at a place out.
+fn take(table: &mut ListTable<Pane>, place: Place) -> Pane
+    requires { IsSome (map.get table.old.panes place) }
+    ensures pane { map.get table.old.panes place ≡ Some result }
+    ensures panes { table.new.panes ≡ map.remove table.old.panes place }
+    ensures room { table.new.room ≡ table.old.room }
+{
+    let pane = table.get(place).unwrap();
+    table.remove(place);
+    pane
+}

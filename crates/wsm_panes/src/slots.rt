@@ -1,0 +1,186 @@
+//! Entries in the slots of a ring.
+
+ghost use Rattle.std.specs.Prelude.{◌≡◌, ◌≢◌, ◌⊎◌, ◌+◌, ◌*◌, ◌≤◌, ◌<◌, ℕ, ◌≤ℤ◌, ◌<ℤ◌, Some, None, IfOk, length, slice_set};
+ghost use Rattle.wsm_panes.specs.Ring.{IsRing, IsOfRing, AreInPlace, AreBetween, AreFree, AreUntil, IsFirstFrom, IsFirstInRow, IsOnGrid, IsTakenOut, held, kept_slot, pane_of, slot_at, slot_of, row_of, window_number};
+ghost use Rattle.std.specs.Prelude.{◌*ℤ◌, ◌+ℤ◌};
+ghost use Rattle.std.specs.Int.{w64};
+ghost use Rattle.std.specs.Int.RustNames.{FitsSigned};
+ghost use Rattle.wsm_panes.specs.Ring as spec;
+
+use crate::ring::Ring;
+use std::alloc::{AllocError, Global};
+use wsm_semantics::Place;
+
+/// A place in a ring with its pane, where one is held.
+pub(crate) type Slot<P> = Option<(Place, P)>;
+
+/// So many slots, each of which is free.
+///
+/// # Errors
+///
+/// Where there is no memory for them.
+pub(crate) fn free_slots<P: Copy>(alloc: Global, count: usize) -> Result<Vec<Slot<P>>, AllocError>
+    ensures len { IfOk result (λ v. length v.items ≡ count) }
+    ensures free { IfOk result (λ v. AreFree v.items) }
+{
+    let mut slots = Vec::with_capacity(alloc, count)?;
+    for _ in 0..count {
+        slots.push_reserved(None);
+    }
+    Ok(slots)
+}
+
+/// The pane at a place, of what is in its slot.
+pub(crate) fn pane_at<P: Copy>(slots: &[Slot<P>], slot: usize, place: Place) -> Option<P>
+    ensures { result ≡ pane_of place (slot_at slots.now slot) }
+{
+    match slots.get(slot) {
+        Some(Some((other, pane))) if *other == place => Some(*pane),
+        _ => None,
+    }
+}
+
+/// Puts a pane into a slot, and tells how many more entries there are.
+pub(crate) fn fill<P: Copy>(slots: &mut Vec<Slot<P>>, slot: usize, place: Place, pane: P) -> usize
+    requires { slot < length slots.old.items }
+    ensures slots { slots.new.items ≡ slice_set slots.old.items slot (Some (place, pane)) }
+    ensures len { length (held slots.new.items) ≡ length (held slots.old.items) + result }
+{
+    let more = if slots[slot].is_none() { 1 } else { 0 };
+    slots[slot] = Some((place, pane));
+    more
+}
+
+/// Clears a slot where it has the pane at a place, and tells how many fewer entries there are.
+pub(crate) fn take_out<P: Copy>(slots: &mut Vec<Slot<P>>, slot: usize, place: Place) -> usize
+    ensures slots { IsTakenOut place slot slots.old.items slots.new.items }
+    ensures len { length (held slots.new.items) + result ≡ length (held slots.old.items) }
+{
+    match pane_at(slots, slot, place) {
+        None => 0,
+        Some(_) => {
+            slots[slot] = None;
+            1
+        }
+    }
+}
+
+/// The first entry from a window and a key on.
+pub(crate) fn first_from<P: Copy>(
+    ring: Ring,
+    slots: &[Slot<P>],
+    start: i64,
+    key: usize,
+    last: i64,
+) -> Option<(Place, P)>
+    requires ring { IsRing ring }
+    requires slots { length slots.now ≡ ring.bound * ring.keys }
+    requires placed { AreInPlace ring slots.now }
+    requires before { AreUntil last slots.now }
+    requires start { IsOnGrid ring start }
+    requires last { FitsSigned w64 (last +ℤ ring.size) }
+    ensures { IsFirstFrom ring slots.now start key result }
+{
+    let mut start = start;
+    let mut key = key;
+    while start <= last {
+        let found = first_in_row(slots, ring.row(start), start, key, ring.keys);
+        if found.is_some() {
+            return found;
+        }
+        start += ring.period;
+        key = 0;
+    }
+    None
+}
+
+// The first entry of a window from a key on.
+fn first_in_row<P: Copy>(
+    slots: &[Slot<P>],
+    row: usize,
+    start: i64,
+    key: usize,
+    keys: usize,
+) -> Option<(Place, P)>
+    requires { row + keys ≤ length slots.now }
+    ensures { IsFirstInRow slots.now row start key keys result }
+{
+    for key in key..keys {
+        if starts_at(&slots[row + key], start) {
+            return slots[row + key];
+        }
+    }
+    None
+}
+
+// Whether a slot has an entry of the window that starts at a time.
+fn starts_at<P: Copy>(slot: &Slot<P>, start: i64) -> bool
+    ensures { result ≡ spec.starts_at start slot.now }
+{
+    match slot {
+        Some((place, _)) => place.start == start,
+        None => false,
+    }
+}
+
+/// Clears the slots of windows from a first to a last one that expire. Tells the first window that
+/// doesn't, and how many entries are gone.
+pub(crate) fn clear_expired<P: Copy>(
+    ring: Ring,
+    slots: &mut Vec<Slot<P>>,
+    first: i64,
+    last: i64,
+    limit: i64,
+) -> (i64, usize)
+    requires ring { IsRing ring }
+    requires slots { length slots.old.items ≡ ring.bound * ring.keys }
+    requires placed { AreInPlace ring slots.old.items }
+    requires between { AreBetween first last slots.old.items }
+    requires first { IsOnGrid ring first }
+    ensures size { length slots.new.items ≡ length slots.old.items }
+    ensures kept { (i : ℕ) → slot_at slots.new.items i ≡ kept_slot limit (slot_at slots.old.items i) }
+    ensures len { length (held slots.new.items) + result.1 ≡ length (held slots.old.items) }
+    ensures first { IsOnGrid ring result.0 }
+    ensures between { AreBetween result.0 last slots.new.items }
+{
+    let mut start = first;
+    let mut cleared = 0;
+    if let Some(latest) = limit.checked_sub(ring.size) {
+        let last = last.min(latest);
+        while start <= last {
+            cleared += clear_row(slots, ring.row(start), ring.keys, limit);
+            start += ring.period;
+        }
+    }
+    (start, cleared)
+}
+
+// Clears the slots of a row whose entries expire, and tells how many they were.
+fn clear_row<P: Copy>(slots: &mut Vec<Slot<P>>, row: usize, keys: usize, limit: i64) -> usize
+    requires { row + keys ≤ length slots.old.items }
+    ensures size { length slots.new.items ≡ length slots.old.items }
+    ensures inside { (i : ℕ) → row ≤ i → i < row + keys → slot_at slots.new.items i ≡ kept_slot limit (slot_at slots.old.items i) }
+    ensures outside { (i : ℕ) → (i < row) ⊎ (row + keys ≤ i) → slot_at slots.new.items i ≡ slot_at slots.old.items i }
+    ensures len { length (held slots.new.items) + result ≡ length (held slots.old.items) }
+{
+    let mut cleared = 0;
+    for i in row..row + keys {
+        cleared += clear_slot(slots, i, limit);
+    }
+    cleared
+}
+
+// Clears a slot whose entry expires, and tells how many fewer entries there are.
+fn clear_slot<P: Copy>(slots: &mut Vec<Slot<P>>, slot: usize, limit: i64) -> usize
+    requires { slot < length slots.old.items }
+    ensures slots { slots.new.items ≡ slice_set slots.old.items slot (kept_slot limit (slot_at slots.old.items slot)) }
+    ensures len { length (held slots.new.items) + result ≡ length (held slots.old.items) }
+{
+    match slots[slot] {
+        Some((place, _)) if place.end <= limit => {
+            slots[slot] = None;
+            1
+        }
+        _ => 0,
+    }
+}
