@@ -1,9 +1,7 @@
-pub mod Shrinking
-pub mod Braces
-pub mod Fields
-pub mod Texts
-pub mod Queries
-pub mod Schemas
+pub mod Judging
 pub mod Turning
 pub mod Taking
-pub mod Ending
+pub mod FewColumns
+pub mod Texts
+pub mod SameText
+pub mod Beginning

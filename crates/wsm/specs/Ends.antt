@@ -1,26 +1,53 @@
--- Steps that may be refused, and how the code ends by a refusal.
-use Rattle.std.specs.Prelude.{◌≡◌, Result, Ok, Err}
-use Rattle.wsm.specs.declared.query.refusal.QueryRefusal.{QueryRefusal}
+-- How a run, a judgement or a compilation ends early.
+use Rattle.std.specs.Prelude.{ℕ, Bool, true, false, if◌then◌else◌}
+use Rattle.wsm_tokens.specs.declared.fault.ParseRefusal.{ParseRefusal}
+use Rattle.wsm_tokens.specs.declared.fault.ParseRefusal.TheVariants as parse
+use Rattle.wsm_check.specs.declared.refusal.CheckRefusal.{CheckRefusal}
+use Rattle.wsm_check.specs.declared.refusal.CheckRefusal.TheVariants as check
+use Rattle.wsm_bytecode.specs.declared.refusal.DecodeRefusal.{DecodeRefusal}
+use Rattle.wsm_bytecode.specs.declared.refusal.DecodeRefusal.TheVariants as bytes
+use Rattle.wsm_verifier.specs.declared.rejection.Rejection.{Rejection}
+use Rattle.wsm_verifier.specs.declared.rejection.Rule.{Rule}
+use Rattle.wsm_verifier.specs.declared.rejection.Rule.TheVariants as rule
+use Rattle.wsm_csv.specs.declared.rows.ReadEnd.{ReadEnd}
+use Rattle.wsm_csv.specs.declared.rows.ReadEnd.TheVariants as read
+use Rattle.wsm.specs.declared.end.Refusal.TheVariants.{Text, Check, Bytes}
 use Rattle.wsm.specs.declared.end.End.{End}
-use Rattle.wsm.specs.declared.end.End.TheVariants.{Refused, Memory, ReadFailed, WriteFailed}
+use Rattle.wsm.specs.declared.end.End.TheVariants.{Refused, Rejected, Memory, ReadFailed, WriteFailed}
 
--- a value, or the first refusal
-abbrev pub Judged : Type 0 → Type 0
-Judged A = Result A QueryRefusal
+-- the program's exit status
+abbrev pub status : End → ℕ
+status (Refused why) = 3
+status (Rejected why) = 4
+status Memory = 5
+status ReadFailed = 6
+status WriteFailed = 7
 
-infixl 10 ◌>>=◌
-abbrev pub ◌>>=◌ : {A B : Type 0} → Judged A → (A → Judged B) → Judged B
-(Ok x) >>= go = go x
-(Err r) >>= go = Err r
+abbrev pub end_of_text : ParseRefusal → End
+end_of_text (parse.Text fault place) = Refused (Text fault place)
+end_of_text parse.Memory = Memory
 
--- an end by the refusal, or for want of memory
-abbrev pub EndsBy : {A : Type 0} → End → Judged A → Type 0
-EndsBy (Refused r) judged = judged ≡ Err r
-EndsBy Memory judged = Unit {0}
-EndsBy ReadFailed judged = ⊥
-EndsBy WriteFailed judged = ⊥
+abbrev pub end_of_check : CheckRefusal → End
+end_of_check (check.Fault fault part) = Refused (Check fault part)
+end_of_check check.Memory = Memory
 
--- what the code answers, seen by view, is what is judged, unless memory ran out
-abbrev pub Answers : {X A : Type 0} → (X → A) → Result X End → Judged A → Type 0
-Answers view (Ok x) judged = judged ≡ Ok (view x)
-Answers view (Err e) judged = EndsBy e judged
+abbrev pub end_of_bytes : DecodeRefusal → End
+end_of_bytes bytes.Memory = Memory
+end_of_bytes fault = Refused (Bytes fault)
+
+abbrev pub is_of_memory : Rule → Bool
+is_of_memory rule.Memory = true
+is_of_memory why = false
+
+abbrev pub end_of_rejection : Rejection → End
+end_of_rejection why = if is_of_memory why.rule then Memory else Rejected why
+
+abbrev pub end_of_read : ReadEnd → End
+end_of_read read.Failed = ReadFailed
+end_of_read read.Memory = Memory
+
+-- want of memory is told as a fault of the bytes or of the program: no answer does so
+abbrev pub hides_memory : End → Bool
+hides_memory (Refused (Bytes bytes.Memory)) = true
+hides_memory (Rejected why) = is_of_memory why.rule
+hides_memory end = false

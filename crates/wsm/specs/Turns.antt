@@ -1,44 +1,45 @@
 -- What the turns of a run keep, and how it fits the rows so far.
-use Rattle.std.specs.Prelude.{◌≡◌, ℕ, ◌++◌, List, [], ◌∷◌, length, map, ◌+◌, Option}
+use Rattle.std.specs.Prelude.{◌≡◌, ℕ, ◌+◌, List, ◌∷◌, ◌++◌, length, map, Option}
 use Rattle.std.specs.Io.KnownBytes.{Appends}
 use Rattle.wsm_record.specs.declared.event.RowFault.{RowFault}
 use Rattle.wsm_record.specs.Event.{Event}
 use Rattle.wsm_admission.specs.Admission.{counter}
 use Rattle.wsm_semantics.specs.Query.{verdict_on}
 use Rattle.wsm_semantics.specs.Relation.{turn_rows}
-use Rattle.wsm_semantics.specs.Lines.{Row, Out, Faulty, events, fault_count, refusal_lines, turn_lines}
+use Rattle.wsm_semantics.specs.Lines.{Row, Out, Faulty, events, end_line, fault_count, refusal_lines, turn_lines}
 use Rattle.wsm_semantics.specs.Text.{Names, line_text, lines_text}
-use Rattle.wsm_engine.specs.Machine.{State}
+use Rattle.wsm_bytecode.specs.Program.{Program}
+use Rattle.wsm_machine.specs.Meaning.{query_of}
+use Rattle.wsm_engine.specs.declared.reply.Totals.{Totals}
+use Rattle.wsm_engine.specs.State.{State}
 use Rattle.wsm_engine.specs.Meaning as engine
-use Rattle.wsm.specs.declared.query.count_query.CountQuery.{CountQuery}
 use Rattle.wsm.specs.declared.turns.Turns.{Turns}
-use Rattle.wsm.specs.Written.{Cells, meaning_of, key_names, rows_of, turns_text}
+use Rattle.wsm.specs.Asked.{asked_by_program}
+use Rattle.wsm.specs.Written.{Cells, line_of, rows_of, turns_text}
 
--- the engine of the query, after a history of events
-pub record EngineFits (q : CountQuery) (s : State) (past : List Event) : Type 0 where
-  pub query : engine.query_of s ≡ meaning_of q
+-- the engine of the program, after a history of events
+pub record EngineFits (p : Program) (s : State) (past : List Event) : Type 0 where
+  pub program : s.program ≡ p
   pub fits : engine.Fits s past
 
--- the turns of the query, after rows
-pub record Fits (q : CountQuery) (t : Turns) (before : List Row) : Type 0 where
-  pub engine : EngineFits q t.engine (events before)
+-- the turns of the program, after rows
+pub record Fits (p : Program) (t : Turns) (before : List Row) : Type 0 where
+  pub engine : EngineFits p t.engine (events before)
   pub rows : t.rows ≡ counter (length before)
   pub faults : t.faults ≡ counter (fault_count before)
 
--- before the first row
-pub record Begins (q : CountQuery) (t : Turns) : Type 0 where
-  pub fits : Fits q t []
-  pub lines : t.lines.items ≡ []
+abbrev pub names : Program → Names
+names p = (asked_by_program p).names
 
--- one turn more: the lines of the row stand behind those that were there
-pub record Turned (q : CountQuery) (old new : Turns) (before : List Row) (row : Row) : Type 0 where
-  pub fits : Fits q new (row ∷ before)
-  pub lines : new.lines.items ≡ old.lines.items ++ lines_text (key_names q) (turn_lines (meaning_of q) before row)
+-- one turn more, with the lines of the row
+pub record Turned (p : Program) (new : Turns) (before : List Row) (row : Row) : Type 0 where
+  pub fits : Fits p new (row ∷ before)
+  pub lines : new.lines.items ≡ lines_text (names p) (turn_lines (query_of p) before row)
 
--- one event more, whose row has the number of the rows so far
-pub record Fed (q : CountQuery) (old new : Turns) (past : List Event) (e : Event) : Type 0 where
-  pub engine : EngineFits q new.engine (e ∷ past)
-  pub lines : new.lines.items ≡ old.lines.items ++ lines_text (key_names q) (refusal_lines old.rows (verdict_on (meaning_of q) past e) ++ map Out (turn_rows (meaning_of q) past e))
+-- one event more, whose row has the number of the rows so far: its lines stand behind those that were there
+pub record Fed (p : Program) (old new : Turns) (past : List Event) (e : Event) : Type 0 where
+  pub engine : EngineFits p new.engine (e ∷ past)
+  pub lines : new.lines.items ≡ old.lines.items ++ lines_text (names p) (refusal_lines old.rows (verdict_on (query_of p) past e) ++ map Out (turn_rows (query_of p) past e))
   pub rows : new.rows ≡ old.rows
   pub faults : new.faults ≡ old.faults
 
@@ -49,15 +50,12 @@ pub record Refuses (old new : Turns) (why : RowFault) : Type 0 where
   pub rows : new.rows ≡ old.rows
   pub faults : new.faults ≡ counter (old.faults + 1)
 
--- some lines were taken, and those that are left make with them the lines of these rows
-pub record Awaits (q : CountQuery) (cells : List Cells) (old now : Option (List ℕ)) (t : Turns) : Type 0 where
-  pub fits : Fits q t (rows_of q cells)
-  pub done : List ℕ
-  pub taken : Appends old now done
-  pub text : done ++ t.lines.items ≡ turns_text q cells
+-- the turns of these rows were taken, and their text written
+pub record Stands (p : Program) (cells : List Cells) (old now : Option (List ℕ)) (t : Turns) : Type 0 where
+  pub fits : Fits p t (rows_of (asked_by_program p) cells)
+  pub text : Appends old now (turns_text (asked_by_program p) cells)
 
--- of some bytes a beginning was taken, and these are left
-pub record Passes (old new : Option (List ℕ)) (before after : List ℕ) : Type 0 where
-  pub part : List ℕ
-  pub taken : Appends old new part
-  pub rest : part ++ after ≡ before
+-- the turns are at their end: their lines are the last line, with these numbers
+pub record Ends (p : Program) (new : Turns) (rows : List Row) (totals : Totals) : Type 0 where
+  pub lines : new.lines.items ≡ line_text (names p) (line_of totals)
+  pub numbers : line_of totals ≡ end_line (query_of p) rows

@@ -1,38 +1,66 @@
 -- The command that the program has, and the job that a parse of its words asks for.
-use Rattle.std.specs.Prelude.{◌≡◌, List, true, Option, Some, None, codes, option_map, string_bytes}
-use Rattle.clap.specs.Words.{App, Row, Rule, Text, first_of, new_app, new_rule, with_rule, with_subcommand}
+use Rattle.std.specs.Prelude.{◌≡◌, List, Bool, true, false, Option, Some, None, String, codes, option_map, string_bytes}
+use Rattle.clap.specs.Words.{App, Row, Rule, Text, first_of, one_of, new_app, new_rule, with_rule, with_subcommand}
+use Rattle.clap.specs.declared.builder.ArgAction.TheVariants.{SetTrue}
 use Rattle.wsm.specs.declared.words.Job.{Job}
-use Rattle.wsm.specs.declared.words.Job.TheVariants.{Run}
+use Rattle.wsm.specs.declared.words.Job.TheVariants.{Run, Compile, Verify, Explain}
 use Rattle.wsm.specs.declared.words.WordsRefusal.{WordsRefusal}
 use Rattle.wsm.specs.declared.words.WordsRefusal.TheVariants.{Words, Memory}
 
--- QUERY
-abbrev pub query_rule : Rule
-query_rule = record (new_rule (codes "query")) { value_names = 1; required = true }
+-- a file that has to be named
+abbrev pub file_rule : Text → Rule
+file_rule id = record (new_rule id) { value_names = 1; required = true }
+
+-- [--program]
+abbrev pub program_flag : Rule
+program_flag = record (new_rule (codes "program")) { long = Some (codes "program"); action = Some SetTrue }
 
 -- [ROWS]
 abbrev pub rows_rule : Rule
 rows_rule = record (new_rule (codes "rows")) { value_names = 1 }
 
--- run QUERY [ROWS]
+-- run [--program] QUERY [ROWS]
 abbrev pub run_app : App
-run_app = with_rule (with_rule (new_app (codes "run")) query_rule) rows_rule
+run_app = with_rule (with_rule (with_rule (new_app (codes "run")) program_flag) (file_rule (codes "query"))) rows_rule
+
+-- compile QUERY OUT
+abbrev pub compile_app : App
+compile_app = with_rule (with_rule (new_app (codes "compile")) (file_rule (codes "query"))) (file_rule (codes "out"))
+
+-- verify PROGRAM
+abbrev pub verify_app : App
+verify_app = with_rule (new_app (codes "verify")) (file_rule (codes "program"))
+
+-- explain PROGRAM
+abbrev pub explain_app : App
+explain_app = with_rule (new_app (codes "explain")) (file_rule (codes "program"))
 
 -- the program's command, which wants a subcommand
 abbrev pub required_app : App
 required_app = let a = new_app (codes "wsm") in record a { top = record a.top { subcommand_required = true } }
 
 abbrev pub the_app : App
-the_app = with_subcommand required_app run_app.top
+the_app = with_subcommand (with_subcommand (with_subcommand (with_subcommand required_app run_app.top) compile_app.top) verify_app.top) explain_app.top
 
--- the job has what the entries of the run command have
-abbrev pub IsRun : List Row → Job → Type 0
-IsRun entries (Run query rows) = (first_of (codes "query") entries ≡ Some (string_bytes query)) × (option_map string_bytes rows ≡ first_of (codes "rows") entries)
+-- what a flag's text says: one of these, or there is none
+abbrev pub SaysFlag : Option Text → Bool → Type 0
+SaysFlag text flag = (text ≡ None → flag ≡ false) × (text ≡ Some (codes "true") → flag ≡ true) × (text ≡ Some (codes "false") → flag ≡ false)
+
+-- the entry of an argument is the file
+abbrev pub Names : {Z : Type 0} → List Row → Text → String Z → Type 0
+Names entries id file = first_of id entries ≡ Some (string_bytes file)
+
+-- the job has what the entries of the command of its name have
+abbrev pub IsJob : Text → List Row → Job → Type 0
+IsJob name entries (Run program query rows) = (name ≡ codes "run") × SaysFlag (one_of (codes "program") entries) program × Names entries (codes "query") query × (option_map string_bytes rows ≡ first_of (codes "rows") entries)
+IsJob name entries (Compile query out) = (name ≡ codes "compile") × Names entries (codes "query") query × Names entries (codes "out") out
+IsJob name entries (Verify program) = (name ≡ codes "verify") × Names entries (codes "program") program
+IsJob name entries (Explain program) = (name ≡ codes "explain") × Names entries (codes "program") program
 
 -- a job is that of the subcommand and its entries
 abbrev pub IsJobOf : Option (Text × List Row) → Job → Type 0
 IsJobOf None job = ⊥
-IsJobOf (Some found) job = (found.0 ≡ codes "run") × IsRun found.1 job
+IsJobOf (Some found) job = IsJob found.0 found.1 job
 
 -- want of memory, and no refusal of the words
 abbrev pub IsMemory : WordsRefusal → Type 0

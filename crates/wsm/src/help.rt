@@ -4,36 +4,108 @@
 pub const ABOUT: &str =
     "Runs a query over a stream of timed rows, and writes a row for each pane of a window.";
 
-/// What a query and a row look like.
-pub const EXAMPLE: &str = "A query declares keys, fields, a clock and windows:
+/// A query, rows, and what comes of them.
+pub const EXAMPLE: &str = "A query declares keys, fields, a clock and windows. This makes one:
 
-  KEYS a, b;
+  echo 'KEYS a, b;
   FIELD n INT 0..100;
-  START 0; SKEW 100; LATENESS 0; RECORDS 1000;
-  SELECT COUNT(*)
+  START 0; SKEW 100; LATENESS 10; RECORDS 1000;
+  SELECT COUNT(*), SUM(n)
   WINDOW FIXED 60 ACCUMULATING
-  EMIT PANES;
+  EMIT PANES;' > sums.wsm
 
 A row is a record, `r,KEY,TIME` and a cell for each field, or a watermark, `w,TIME`:
 
-  r,a,5,7
-  r,b,59,3
-  w,60
+  printf 'r,a,5,7\\nr,a,59,3\\nw,60\\n' | wsm run sums.wsm
 
-For each pane that a watermark completes a row is written:
+For each pane that a watermark completes a row is written, and an end row last:
 
-  pane,on_time,a,0,60,1
-  pane,on_time,b,0,60,1
-  end,3,2,0,0,2
+  pane,on_time,a,0,60,2,10
+  end,3,2,0,0,1
 
 The end row counts rows, admitted records, late records, refused rows and panes.
 Nothing fires at the end of the rows: end them with a watermark.";
 
 /// What the command `run` does.
-pub const RUN: &str = "Runs the query of a file over rows, and writes to standard output.";
+pub const RUN: &str = "Runs a query or a program over rows, and writes to standard output.";
+
+/// What the flag for a program says.
+pub const IS_PROGRAM: &str = "QUERY is a program that `wsm compile` wrote";
+
+/// What is run.
+pub const QUERY_OR_PROGRAM: &str = "The file of the query's text, or of the program";
+
+/// What the rows' file is.
+pub const ROWS: &str = "The file of the rows; standard input where it is left out";
+
+/// An example of the command `run`.
+pub const RUN_EXAMPLE: &str = "With the query of `wsm --help`,
+
+  printf 'r,a,5,7\\nr,a,59,3\\nw,60\\n' > rows.csv
+  wsm run sums.wsm rows.csv
+
+writes
+
+  pane,on_time,a,0,60,2,10
+  end,3,2,0,0,1";
+
+/// What the command `compile` does.
+pub const COMPILE: &str = "Writes the program of a query to a file, without judging it.";
 
 /// What the query's file is.
 pub const QUERY: &str = "The file of the query's text";
 
-/// What the rows' file is.
-pub const ROWS: &str = "The file of the rows; standard input where it is left out";
+/// What is written.
+pub const OUT: &str = "The file that is written";
+
+/// An example of the command `compile`.
+pub const COMPILE_EXAMPLE: &str = "With the query of `wsm --help`,
+
+  wsm compile sums.wsm sums.bin
+  printf 'r,a,5,7\\nr,a,59,3\\nw,60\\n' | wsm run --program sums.bin
+
+writes what the query does:
+
+  pane,on_time,a,0,60,2,10
+  end,3,2,0,0,1";
+
+/// What the command `verify` does.
+pub const VERIFY: &str = "Tells whether a program is accepted, and what it may cost.";
+
+/// What the program's file is.
+pub const PROGRAM: &str = "The file of the program";
+
+/// An example of the command `verify`.
+pub const VERIFY_EXAMPLE: &str = "With the query of `wsm --help`,
+
+  wsm compile sums.wsm sums.bin
+  wsm verify sums.bin
+
+writes
+
+  accepted,5,4,6
+
+A record takes at most 5 instructions and a pane 4, and 6 panes are held at most. Of a program
+that is not accepted the first fault is told, as `rejected,fire,2,MayDivideByZero`.";
+
+/// What the command `explain` does.
+pub const EXPLAIN: &str = "Lists a program, and tells whether it is accepted.";
+
+/// An example of the command `explain`.
+pub const EXPLAIN_EXAMPLE: &str = "With the query of `wsm --help`,
+
+  wsm compile sums.wsm sums.bin
+  wsm explain sums.bin
+
+writes
+
+  where 0 PUSHB 1
+  where 1 RET
+  update 0 FIELD 0
+  update 1 FOLD 0
+  update 2 RET
+  fire 0 COUNT
+  fire 1 ACC 0
+  fire 2 PUSHB 1
+  fire 3 RET
+  accepted,5,4,6";

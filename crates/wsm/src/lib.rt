@@ -1,40 +1,50 @@
-//! Runs a query over rows of text, from the bytes of both to the bytes of the answer.
+//! Runs queries and programs over rows of text, from the bytes of both to the bytes of the answer.
 //!
-//! [`run_query`] reads the text of a query, takes the turn of each row of a reader, and gives a
-//! device the lines of each turn and a last one. This query and these rows
+//! [`run_query`] reads and checks the text of a query, compiles it, has the program verified, takes
+//! the turn of each row of a reader, and gives a device the lines of each turn and a last one.
+//! [`run_program`] does so from the bytes of a program. This query and these rows
 //!
 //! ```text
 //! KEYS a; FIELD n INT 0..9; START 0; SKEW 60; LATENESS 0; RECORDS 10;
-//! SELECT COUNT(*) WINDOW FIXED 60 ACCUMULATING EMIT PANES;
+//! SELECT COUNT(*), SUM(n) WINDOW FIXED 60 ACCUMULATING EMIT PANES;
 //!
 //! r,a,5,7
 //! w,60
 //! ```
 //!
-//! give the lines `pane,on_time,a,0,60,1` and `end,2,1,0,0,1`.
+//! give the lines `pane,on_time,a,0,60,1,7` and `end,2,1,0,0,1`.
 //!
-//! What the device takes is exactly the text that the query's definition gives for the rows that were
-//! read, or a beginning of it where the run ends early, and the [`End`] says why. A text that is no
-//! query that can be run ends with its first [`QueryRefusal`], and nothing is written. The queries
-//! are those that count the records of each key over fixed windows and write each pane on time.
+//! What the device takes is exactly the text that the query means for the rows that were read, or a
+//! beginning of it where the run ends early, and the [`End`] says why. A text that is no query ends
+//! with its first [`Refusal`], a program that is not accepted with the verifier's rejection, and then
+//! nothing is written.
 //!
-//! `query` reads and checks the text, `turns` keeps what the rows so far come to, `run` goes from the
-//! reader to the device, and `words` reads the words of the program with the texts of `help`.
+//! [`compile_text`] gives the bytes of a query's program, and [`judge`] writes what the verifier says
+//! of a program. `judged` goes from texts and bytes to verified programs, `turns` keeps what the rows
+//! so far come to, `columns` has the lines of a turn's rows, `run` goes from the reader to the device,
+//! and `words` reads the words of the program with the texts of `help`.
 #![tactic(auto)]
 
-pub use end::End;
-pub use query::{CheckFault, Part, QueryRefusal};
-pub use run::run_query;
+pub use compile::compile_text;
+pub use end::{End, Refusal, status_of};
+pub use run::{run_program, run_query};
+pub use verdict::judge;
 pub use words::{Job, WordsRefusal, command_of};
+pub use wsm_bytecode::DecodeRefusal;
+pub use wsm_check::{CheckFault, Part};
 pub use wsm_csv::{Device, DeviceFault, Guarded, write_out};
 pub use wsm_engine::Totals;
 pub use wsm_tokens::{Fault, Place};
+pub use wsm_verifier::Rejection;
 
+mod columns;
+mod compile;
 mod end;
 mod help;
-mod query;
+mod judged;
 mod run;
 #[cfg(test)]
 mod tests;
 mod turns;
+mod verdict;
 mod words;

@@ -1,34 +1,38 @@
-//! Running a query over rows.
+//! Running queries and programs over rows.
 
-ghost use Rattle.std.specs.Prelude.{◌≡◌, ℕ, List, [], Option, Err, true, false, IfOk, OnErr, OnOk, MatchResult};
-ghost use Rattle.std.specs.Io.KnownBytes.{Appends};
-ghost use Rattle.wsm_csv.specs.Device.{TakesPart};
+ghost use Rattle.std.specs.Prelude.{◌≡◌, ℕ, List, [], Option, Ok, Err, true, false, IfErr, IfOk, OnOk, is_ok};
+ghost use Rattle.wsm_bytecode.specs.Program.{Program as Value};
+ghost use Rattle.wsm_verifier.specs.Rules.{judge};
+ghost use Rattle.wsm_query.specs.Tree.{Query};
+ghost use Rattle.wsm_compiler.specs.Program.{program_of};
 ghost use Rattle.wsm_csv.specs.Records.{AreAll};
-ghost use Rattle.wsm.specs.declared.query.count_query.CountQuery.{CountQuery};
-ghost use Rattle.wsm.specs.Query.{query_of};
-ghost use Rattle.wsm.specs.Written.{Cells, Ends, EndsEarly, Runs, line_of};
-ghost use Rattle.wsm.specs.Turns.{Awaits, Begins, Passes};
+ghost use Rattle.wsm.specs.Asked.{asked_by_program, asked_by_query};
+ghost use Rattle.wsm.specs.Begun.{IsAcceptedProgram, IsAcceptedQuery};
+ghost use Rattle.wsm.specs.Ends.{hides_memory};
+ghost use Rattle.wsm.specs.Judged.{bytes_judged, text_judged};
+ghost use Rattle.wsm.specs.Written.{Cells, Completes, EndsEarly, NeverBegins};
+ghost use Rattle.wsm.specs.Turns.{Fits, Stands};
 
-use crate::end::End;
-use crate::query::read_query;
+use crate::end::{End, Refusal};
+use crate::judged::{program_of_bytes, program_of_text, verified};
 use crate::turns::Turns;
 use std::alloc::Global;
 use std::io::Read;
-use wsm_csv::{Device, DeviceFault, EndRow, Rows, end_text, write_out};
+use wsm_bytecode::Program;
+use wsm_csv::{Device, Rows};
 use wsm_engine::Totals;
+use wsm_verifier::{Rejection, Verified};
 
-// How many bytes of lines are gathered before a device is given them.
-const BATCH: usize = 65_536;
-
-/// Runs the query of a text over the rows of a reader: each row is read and its turn taken, and the
-/// lines of the turns are written in order. At last the end row is written, whose numbers are
-/// answered.
+/// Runs the query of a text over the rows of a reader. Each row is read and its turn taken, and the
+/// device is given the lines of the turn before the next row is asked for. At last it is given the
+/// end row, whose numbers are answered, and is flushed.
 ///
 /// # Errors
 ///
-/// [`End::Refused`] where the text is no query that can be run: then nothing is read or written.
-/// After another end what the device took is a beginning of the lines of the rows that were read;
-/// [`End::WriteFailed`] comes only where the device has failed.
+/// [`End::Refused`] where the text is no query or a check refuses it, and [`End::Rejected`] where the
+/// verifier refuses its program: then nothing is read or written. After [`End::Memory`] or
+/// [`End::ReadFailed`] the device took the lines of the first rows, those of each turn whole; after
+/// [`End::WriteFailed`] it took a beginning of the lines.
 pub fn run_query<R: Read + Drop, D: Device>(
     alloc: Global,
     text: &[u8],
@@ -36,16 +40,88 @@ pub fn run_query<R: Read + Drop, D: Device>(
     out: &mut D,
 ) -> Result<Totals, End>
     requires { D.has_failed out.old ≡ false }
-    ensures ends { (cells : List Cells) × Ends (R.remaining rows) (query_of text.now) cells (D.taken out.old) (D.taken out.new) result }
+    // A text that is refused ends the run so, and nothing is written.
+    ensures refused { (why : Refusal) → text_judged text.now ≡ Err why → NeverBegins (End.Refused why) (D.taken out.old) (D.taken out.new) result }
+    // So does a query whose program is rejected.
+    ensures rejected { (q : Query) (why : Rejection) → text_judged text.now ≡ Ok q → judge (program_of q) ≡ Err why → NeverBegins (End.Rejected why) (D.taken out.old) (D.taken out.new) result }
+    // The run of any other ends well where it read all rows and wrote what the query means for them,
+    ensures completes { (q : Query) → IsAcceptedQuery text.now q → IfOk result (λ totals. (cells : List Cells) × Completes (R.remaining rows) (asked_by_query q) cells (D.taken out.old) (D.taken out.new) totals) }
+    ensures flushed { OnOk result (D.is_flushed out.new ≡ true) }
+    // and else for want of memory, of rows or of a device that works, with a beginning of this written.
+    ensures ends_early { (q : Query) → IsAcceptedQuery text.now q → IfErr result (λ end. (cells : List Cells) × EndsEarly (R.remaining rows) (asked_by_query q) cells (D.taken out.old) (D.taken out.new) end) }
+    ensures write_failed { result ≡ Err End.WriteFailed → D.has_failed out.new ≡ true }
+    ensures memory_apart { IfErr result (λ end. hides_memory end ≡ false) }
+{
+    let program = program_of_text(alloc, text)?;
+    run_judged(alloc, program, rows, out)
+}
+
+/// Runs the program that bytes spell over the rows of a reader, as [`run_query`] does.
+///
+/// # Errors
+///
+/// [`End::Refused`] where the bytes spell no program, and else as [`run_query`].
+pub fn run_program<R: Read + Drop, D: Device>(
+    alloc: Global,
+    program: &[u8],
+    rows: R,
+    out: &mut D,
+) -> Result<Totals, End>
+    requires { D.has_failed out.old ≡ false }
+    // Bytes that are refused end the run so, and nothing is written.
+    ensures refused { (why : Refusal) → bytes_judged program.now ≡ Err why → NeverBegins (End.Refused why) (D.taken out.old) (D.taken out.new) result }
+    // So does a program that is rejected.
+    ensures rejected { (p : Value) (why : Rejection) → bytes_judged program.now ≡ Ok p → judge p ≡ Err why → NeverBegins (End.Rejected why) (D.taken out.old) (D.taken out.new) result }
+    // The run of any other ends well where it read all rows and wrote what the program means for them,
+    ensures completes { (p : Value) → IsAcceptedProgram program.now p → IfOk result (λ totals. (cells : List Cells) × Completes (R.remaining rows) (asked_by_program p) cells (D.taken out.old) (D.taken out.new) totals) }
+    ensures flushed { OnOk result (D.is_flushed out.new ≡ true) }
+    // and else for want of memory, of rows or of a device that works, with a beginning of this written.
+    ensures ends_early { (p : Value) → IsAcceptedProgram program.now p → IfErr result (λ end. (cells : List Cells) × EndsEarly (R.remaining rows) (asked_by_program p) cells (D.taken out.old) (D.taken out.new) end) }
+    ensures write_failed { result ≡ Err End.WriteFailed → D.has_failed out.new ≡ true }
+    ensures memory_apart { IfErr result (λ end. hides_memory end ≡ false) }
+{
+    let program = program_of_bytes(alloc, program)?;
+    run_judged(alloc, program, rows, out)
+}
+
+// Runs a program over the rows of a reader, if it is accepted.
+fn run_judged<R: Read + Drop, D: Device>(
+    alloc: Global,
+    program: Program,
+    rows: R,
+    out: &mut D,
+) -> Result<Totals, End>
+    requires { D.has_failed out.old ≡ false }
+    ensures rejected { (why : Rejection) → judge program ≡ Err why → NeverBegins (End.Rejected why) (D.taken out.old) (D.taken out.new) result }
+    ensures completes { IfOk result (λ totals. (cells : List Cells) × Completes (R.remaining rows) (asked_by_program program) cells (D.taken out.old) (D.taken out.new) totals) }
+    ensures flushed { OnOk result (D.is_flushed out.new ≡ true) }
+    ensures ends_early { is_ok (judge program) ≡ true → IfErr result (λ end. (cells : List Cells) × EndsEarly (R.remaining rows) (asked_by_program program) cells (D.taken out.old) (D.taken out.new) end) }
+    ensures write_failed { result ≡ Err End.WriteFailed → D.has_failed out.new ≡ true }
+    ensures memory_apart { IfErr result (λ end. hides_memory end ≡ false) }
+{
+    let verified = verified(alloc, program)?;
+    run_verified(alloc, verified, rows, out)
+}
+
+// Runs an accepted program over the rows of a reader.
+fn run_verified<R: Read + Drop, D: Device>(
+    alloc: Global,
+    verified: Verified,
+    rows: R,
+    out: &mut D,
+) -> Result<Totals, End>
+    requires { D.has_failed out.old ≡ false }
+    ensures completes { IfOk result (λ totals. (cells : List Cells) × Completes (R.remaining rows) (asked_by_program verified) cells (D.taken out.old) (D.taken out.new) totals) }
+    ensures flushed { OnOk result (D.is_flushed out.new ≡ true) }
+    ensures ends_early { IfErr result (λ end. (cells : List Cells) × EndsEarly (R.remaining rows) (asked_by_program verified) cells (D.taken out.old) (D.taken out.new) end) }
     ensures write_failed { result ≡ Err End.WriteFailed → D.has_failed out.new ≡ true }
 {
-    let query = read_query(alloc, text)?;
-    let mut turns = Turns::open(alloc, query)?;
+    let mut turns = Turns::open(alloc, verified)?;
     take_rows(alloc, &mut turns, rows, out)?;
     finish(&mut turns, out)
 }
 
-// Takes the turn of each row, and gives the device most of the lines.
+// Takes the turn of each row, and gives the device its lines before the next row is asked for.
 fn take_rows<R: Read + Drop, D: Device>(
     alloc: Global,
     turns: &mut Turns,
@@ -53,55 +129,31 @@ fn take_rows<R: Read + Drop, D: Device>(
     out: &mut D,
 ) -> Result<(), End>
     requires { D.has_failed out.old ≡ false }
-    ensures all { (q : CountQuery) → Begins q turns.old → MatchResult result (λ _. (cells : List Cells) × AreAll (R.remaining reader) cells × Awaits q cells (D.taken out.old) (D.taken out.new) turns.new) (λ e. (cells : List Cells) × EndsEarly (R.remaining reader) q cells (D.taken out.old) (D.taken out.new) e) }
+    ensures taken { (p : Value) → Fits p turns.old [] → IfOk result (λ _. (cells : List Cells) × AreAll (R.remaining reader) cells × Stands p cells (D.taken out.old) (D.taken out.new) turns.new) }
+    ensures ends_early { (p : Value) → Fits p turns.old [] → IfErr result (λ end. (cells : List Cells) × EndsEarly (R.remaining reader) (asked_by_program p) cells (D.taken out.old) (D.taken out.new) end) }
     ensures works { OnOk result (D.has_failed out.new ≡ false) }
     ensures write_failed { result ≡ Err End.WriteFailed → D.has_failed out.new ≡ true }
 {
     let mut rows = Rows::new(alloc, reader);
     while rows.advance()? {
         turns.take(alloc, rows.row())?;
-        pass_on(&mut turns.lines, out)?;
+        turns.write(out)?;
     }
     Ok(())
 }
 
-// Gives the device the lines, where they are many.
-fn pass_on<D: Device>(lines: &mut Vec<u8>, out: &mut D) -> Result<(), DeviceFault>
-    requires { D.has_failed out.old ≡ false }
-    ensures passes { OnOk result (Passes (D.taken out.old) (D.taken out.new) lines.old.items lines.new.items) }
-    ensures works { OnOk result (D.has_failed out.new ≡ false) }
-    ensures part { OnErr result (TakesPart (D.taken out.old) (D.taken out.new) lines.old.items) }
-    ensures fails { OnErr result (D.has_failed out.new ≡ true) }
-{
-    if lines.len() < BATCH {
-        return Ok(());
-    }
-    write_out(out, lines)?;
-    lines.clear();
-    Ok(())
-}
-
-// Writes the lines that are left, and the end row.
+// Writes the end row, and has all that was written leave.
 fn finish<D: Device>(turns: &mut Turns, out: &mut D) -> Result<Totals, End>
     requires { D.has_failed out.old ≡ false }
-    ensures runs { (known : Option (List ℕ)) (q : CountQuery) (cells : List Cells) (old : Option (List ℕ)) → AreAll known cells → Awaits q cells old (D.taken out.old) turns.old → Runs known q cells old (D.taken out.new) result }
+    ensures completes { (known : Option (List ℕ)) (p : Value) (cells : List Cells) (old : Option (List ℕ)) → AreAll known cells → Stands p cells old (D.taken out.old) turns.old →
+        IfOk result (λ totals. Completes known (asked_by_program p) cells old (D.taken out.new) totals) }
+    ensures flushed { OnOk result (D.is_flushed out.new ≡ true) }
+    ensures ends_early { (known : Option (List ℕ)) (p : Value) (cells : List Cells) (old : Option (List ℕ)) → AreAll known cells → Stands p cells old (D.taken out.old) turns.old →
+        IfErr result (λ end. EndsEarly known (asked_by_program p) cells old (D.taken out.new) end) }
     ensures write_failed { result ≡ Err End.WriteFailed → D.has_failed out.new ≡ true }
 {
-    let totals = turns.totals();
-    end_text(end_row(totals), &mut turns.lines)?;
-    write_out(out, &turns.lines)?;
+    let totals = turns.end()?;
+    turns.write(out)?;
     out.flush()?;
     Ok(totals)
-}
-
-fn end_row(totals: Totals) -> EndRow
-    ensures { result ≡ record { rows = totals.rows; admitted = totals.admitted; late = totals.late; refused = totals.refused; panes = totals.panes } }
-{
-    EndRow {
-        rows: totals.rows,
-        admitted: totals.admitted,
-        late: totals.late,
-        refused: totals.refused,
-        panes: totals.panes,
-    }
 }

@@ -1,47 +1,53 @@
 //! The turns of a run.
 
-ghost use Rattle.std.specs.Prelude.{◌≡◌, ◌++◌, [], Some, OnOk, map};
-ghost use Rattle.wsm_semantics.specs.Lines.{Out, refusal_lines};
-ghost use Rattle.wsm_semantics.specs.Text.{Names, line_text, lines_text};
-ghost use Rattle.wsm_csv.specs.Lines.{names_of};
+ghost use Rattle.std.specs.Prelude.{◌≡◌, ◌++◌, Some, OnOk};
+ghost use Rattle.wsm_semantics.specs.Lines.{refusal_lines};
+ghost use Rattle.wsm_semantics.specs.Text.{Names, lines_text};
 
-use crate::query::CountQuery;
+use crate::columns::add_rows;
 use csv::ByteRecord;
 use std::alloc::{AllocError, Global};
 use wsm_admission::Refusal;
-use wsm_csv::{RowRefusal, fault_text, read_row, refusal_text, row_text};
+use wsm_csv::{
+    Device, DeviceFault, EndRow, RowRefusal, end_text, fault_text, read_row, refusal_text,
+    write_out,
+};
 use wsm_engine::{Engine, Totals};
-use wsm_record::{Event, RowFault, Schema};
-use wsm_semantics::OutRow;
+use wsm_record::{Event, RowFault};
+use wsm_verifier::Verified;
 
-/// What the turns so far come to: an engine, and the lines that no device has taken yet.
+/// What the turns so far come to: an engine, and the lines of the last turn.
 #[derive(Drop)]
 pub struct Turns {
-    pub engine: Engine,
-    pub lines: Vec<u8>,
-    /// The rows so far, events or not.
-    pub rows: u64,
-    /// The rows that were no event.
-    pub faults: u64,
+    engine: Engine,
+    lines: Vec<u8>,
+    // The rows so far, events or not.
+    rows: u64,
+    // The rows that were no event.
+    faults: u64,
 }
 
 impl Turns {
-    ghost use Rattle.std.specs.Prelude.{◌≡◌, List, IfOk, OnOk};
+    ghost use Rattle.std.specs.Prelude.{◌≡◌, true, false, List, [], IfOk, OnErr, OnOk};
+    ghost use Rattle.std.specs.Io.KnownBytes.{Appends};
     ghost use Rattle.csv.specs.Records.{fields_of};
     ghost use Rattle.wsm_record.specs.Event.{Event as AnyEvent, event_of};
     ghost use Rattle.wsm_semantics.specs.Lines.{Row, end_line};
+    ghost use Rattle.wsm_semantics.specs.Text.{line_text};
+    ghost use Rattle.wsm_bytecode.specs.Program.{Program};
+    ghost use Rattle.wsm_machine.specs.Meaning.{query_of};
     ghost use Rattle.wsm_csv.specs.Cells.{event_of_cells};
-    ghost use Rattle.wsm.specs.declared.query.count_query.CountQuery.{CountQuery as Counting};
-    ghost use Rattle.wsm.specs.Written.{line_of, meaning_of};
-    ghost use Rattle.wsm.specs.Fit.{IsFit};
-    ghost use Rattle.wsm.specs.Turns.{Begins, EngineFits, Fed, Fits, Refuses, Turned};
+    ghost use Rattle.wsm_csv.specs.Device.{TakesPart};
+    ghost use Rattle.wsm.specs.Written.{line_of};
+    ghost use Rattle.wsm.specs.Turns.{EngineFits, Ends, Fed, Fits, Refuses, Turned};
 
     /// Before the first row.
-    pub fn open(alloc: Global, query: CountQuery) -> Result<Turns, AllocError>
-        requires { IsFit query }
-        ensures { IfOk result (Begins query) }
+    pub fn open(alloc: Global, verified: Verified) -> Result<Turns, AllocError>
+        ensures { IfOk result (λ turns. Fits verified turns []) }
     {
-        let engine = Engine::open_count(alloc, query.schema, query.clock, query.size)?;
+        let Ok(engine) = Engine::open(alloc, verified) else {
+            return Err(AllocError);
+        };
         Ok(Turns {
             engine,
             lines: Vec::new(alloc),
@@ -50,10 +56,11 @@ impl Turns {
         })
     }
 
-    /// Takes the turn of a row, and adds its lines.
+    /// Takes the turn of a row. The lines are then those of the turn.
     pub fn take(&mut self, alloc: Global, row: &ByteRecord) -> Result<(), AllocError>
-        ensures { (q : Counting) (before : List Row) → Fits q self.old before → OnOk result (Turned q self.old self.new before (event_of_cells q.schema (fields_of row.now))) }
+        ensures { (p : Program) (before : List Row) → Fits p self.old before → OnOk result (Turned p self.new before (event_of_cells p.header.schema (fields_of row.now))) }
     {
+        self.lines.clear();
         self.rows = self.rows.saturating_add(1);
         match read_row(alloc, self.engine.schema(), row) {
             Ok(event) => self.feed(&event),
@@ -64,11 +71,11 @@ impl Turns {
 
     // The turn of an event.
     fn feed(&mut self, event: &Event) -> Result<(), AllocError>
-        ensures { (q : Counting) (past : List AnyEvent) → EngineFits q self.old.engine past → OnOk result (Fed q self.old self.new past (event_of event.now)) }
+        ensures { (p : Program) (past : List AnyEvent) → EngineFits p self.old.engine past → OnOk result (Fed p self.old self.new past (event_of event.now)) }
     {
         let reply = self.engine.feed(event);
         add_refusal(self.rows, reply.refusal, &mut self.lines)?;
-        add_rows(self.engine.schema(), self.engine.rows(), &mut self.lines)?;
+        add_rows(self.engine.program(), self.engine.rows(), &mut self.lines)?;
         Ok(())
     }
 
@@ -81,9 +88,30 @@ impl Turns {
         Ok(())
     }
 
-    /// What all turns come to.
-    pub fn totals(&self) -> Totals
-        ensures { (q : Counting) (rows : List Row) → Fits q self.now rows → line_of result ≡ end_line (meaning_of q) rows }
+    /// Ends the turns. The lines are then the last line, whose numbers are answered.
+    pub fn end(&mut self) -> Result<Totals, AllocError>
+        ensures { (p : Program) (rows : List Row) → Fits p self.old rows → IfOk result (λ totals. Ends p self.new rows totals) }
+    {
+        let totals = self.totals();
+        self.lines.clear();
+        end_text(end_row(totals), &mut self.lines)?;
+        Ok(totals)
+    }
+
+    /// Gives a device the lines. Where it can't, it took a beginning of them and has failed.
+    pub fn write<D: Device>(&self, out: &mut D) -> Result<(), DeviceFault>
+        requires { D.has_failed out.old ≡ false }
+        ensures all { OnOk result (Appends (D.taken out.old) (D.taken out.new) self.now.lines.items) }
+        ensures works { OnOk result (D.has_failed out.new ≡ false) }
+        ensures part { OnErr result (TakesPart (D.taken out.old) (D.taken out.new) self.now.lines.items) }
+        ensures fails { OnErr result (D.has_failed out.new ≡ true) }
+    {
+        write_out(out, &self.lines)
+    }
+
+    // What all turns come to.
+    fn totals(&self) -> Totals
+        ensures { (p : Program) (rows : List Row) → Fits p self.now rows → line_of result ≡ end_line (query_of p) rows }
     {
         let totals = self.engine.totals();
         Totals {
@@ -93,6 +121,18 @@ impl Turns {
             refused: self.faults.saturating_add(totals.refused),
             panes: totals.panes,
         }
+    }
+}
+
+fn end_row(totals: Totals) -> EndRow
+    ensures { result ≡ record { rows = totals.rows; admitted = totals.admitted; late = totals.late; refused = totals.refused; panes = totals.panes } }
+{
+    EndRow {
+        rows: totals.rows,
+        admitted: totals.admitted,
+        late: totals.late,
+        refused: totals.refused,
+        panes: totals.panes,
     }
 }
 
@@ -114,20 +154,4 @@ fn add_reason(row: u64, why: Refusal, lines: &mut Vec<u8>) -> Result<(), AllocEr
         Refusal::Late => Ok(()),
         _ => refusal_text(row, why, lines),
     }
-}
-
-// Adds a line for each row.
-fn add_rows(schema: &Schema, rows: &[OutRow], lines: &mut Vec<u8>) -> Result<(), AllocError>
-    ensures { OnOk result (lines.new.items ≡ lines.old.items ++ lines_text (names_of schema.now []) (map Out rows.now)) }
-{
-    for row in rows {
-        add_row(schema, row, lines)?;
-    }
-    Ok(())
-}
-
-fn add_row(schema: &Schema, row: &OutRow, lines: &mut Vec<u8>) -> Result<(), AllocError>
-    ensures { OnOk result (lines.new.items ≡ lines.old.items ++ line_text (names_of schema.now []) (Out row.now)) }
-{
-    row_text(schema, &[], row, lines)
 }

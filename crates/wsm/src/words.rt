@@ -1,23 +1,42 @@
 //! The program's words.
 
-ghost use Rattle.std.specs.Prelude.{◌≡◌, true, IfOk, IfErr, map, option_map, string_bytes};
-ghost use Rattle.clap.specs.Words.{app_of, found_of, rows_of, subcommand_of, subcommand_rows_of, takes};
-ghost use Rattle.wsm.specs.Words.{the_app, run_app, IsJobOf, IsMemory, IsRun};
+ghost use Rattle.std.specs.Prelude.{◌≡◌, true, false, IfOk, IfErr, codes, map, option_map, string_bytes};
+ghost use Rattle.clap.specs.Words.{app_of, found_of, first_of, rows_of, rule_of, subcommand_of, subcommand_rows_of, takes};
+ghost use Rattle.wsm.specs.Words.{the_app, required_app, run_app, compile_app, verify_app, explain_app, file_rule, program_flag, IsJob, IsJobOf, IsMemory, Names};
 
 use crate::help;
 use clap::error::ErrorKind;
-use clap::{Arg, ArgMatches, Command};
+use clap::{Arg, ArgAction, ArgMatches, Command};
 use std::alloc::{AllocError, Global};
 
-/// What the words ask for.
+/// What the words ask for. Files are told by their names.
 #[derive(Debug, Drop)]
 pub enum Job {
-    /// To run a query over rows.
+    /// To run a query, or a program, over rows.
     Run {
-        /// The name of the file with the query's text.
+        /// Whether the file has the bytes of a program, and not the text of a query.
+        program: bool,
+        /// The file of the query or the program.
         query: String,
-        /// The name of the file with the rows; standard input where there is none.
+        /// The file of the rows; standard input where there is none.
         rows: Option<String>,
+    },
+    /// To write the program of a query.
+    Compile {
+        /// The file of the query's text.
+        query: String,
+        /// The file that is written.
+        out: String,
+    },
+    /// To tell whether a program is accepted.
+    Verify {
+        /// The file of the program.
+        program: String,
+    },
+    /// To list a program, and to tell whether it is accepted.
+    Explain {
+        /// The file of the program.
+        program: String,
     },
 }
 
@@ -57,7 +76,8 @@ impl From<clap::Error> for WordsRefusal {
 }
 
 /// The job that the words ask for, the program's own name first among them. A subcommand is
-/// required: `run QUERY [ROWS]`. Words that `clap` takes are refused for want of memory alone.
+/// required: `run [--program] QUERY [ROWS]`, `compile QUERY OUT`, `verify PROGRAM` or
+/// `explain PROGRAM`. Words that `clap` takes are refused for want of memory alone.
 pub fn command_of(alloc: Global, words: &[&str]) -> Result<Job, WordsRefusal>
     ensures job { IfOk result (IsJobOf (subcommand_of the_app (map (λ s. s.now) words.now))) }
     ensures refused { IfErr result (λ e. takes the_app (map (λ s. s.now) words.now) ≡ true → IsMemory e) }
@@ -66,57 +86,156 @@ pub fn command_of(alloc: Global, words: &[&str]) -> Result<Job, WordsRefusal>
     job_of(alloc, &matches)
 }
 
-// The program's command, with a subcommand.
+// The program's command, with its subcommands.
 fn wsm_command<'a>(alloc: Global) -> Result<Command<'a>, AllocError>
     ensures { IfOk result (λ c. app_of c ≡ the_app) }
+{
+    let wsm = required_command(alloc)?
+        .subcommand(run_command(alloc)?)?
+        .subcommand(compile_command(alloc)?)?
+        .subcommand(verify_command(alloc)?)?
+        .subcommand(explain_command(alloc)?)?;
+    Ok(wsm)
+}
+
+// The program's command, which wants a subcommand.
+fn required_command<'a>(alloc: Global) -> Result<Command<'a>, AllocError>
+    ensures { IfOk result (λ c. app_of c ≡ required_app) }
 {
     let wsm = Command::new(alloc, "wsm")
         .bin_name("wsm")?
         .about(help::ABOUT)
         .after_help(help::EXAMPLE)
-        .subcommand_required(true)
-        .subcommand(run_command(alloc)?)?;
+        .subcommand_required(true);
     Ok(wsm)
 }
 
-// `run QUERY [ROWS]`
+// `run [--program] QUERY [ROWS]`
 fn run_command<'a>(alloc: Global) -> Result<Command<'a>, AllocError>
     ensures { IfOk result (λ c. app_of c ≡ run_app) }
 {
-    let query = Arg::new(alloc, "query")
-        .value_name("QUERY")
-        .help(help::QUERY)
-        .required(true);
     let rows = Arg::new(alloc, "rows").value_name("ROWS").help(help::ROWS);
     let run = Command::new(alloc, "run")
         .about(help::RUN)
-        .after_help(help::EXAMPLE)
-        .arg(query)?
+        .after_help(help::RUN_EXAMPLE)
+        .arg(program_flag(alloc))?
+        .arg(file(alloc, "query", "QUERY", help::QUERY_OR_PROGRAM))?
         .arg(rows)?;
     Ok(run)
+}
+
+// `compile QUERY OUT`
+fn compile_command<'a>(alloc: Global) -> Result<Command<'a>, AllocError>
+    ensures { IfOk result (λ c. app_of c ≡ compile_app) }
+{
+    let compile = Command::new(alloc, "compile")
+        .about(help::COMPILE)
+        .after_help(help::COMPILE_EXAMPLE)
+        .arg(file(alloc, "query", "QUERY", help::QUERY))?
+        .arg(file(alloc, "out", "OUT", help::OUT))?;
+    Ok(compile)
+}
+
+// `verify PROGRAM`
+fn verify_command<'a>(alloc: Global) -> Result<Command<'a>, AllocError>
+    ensures { IfOk result (λ c. app_of c ≡ verify_app) }
+{
+    let verify = Command::new(alloc, "verify")
+        .about(help::VERIFY)
+        .after_help(help::VERIFY_EXAMPLE)
+        .arg(file(alloc, "program", "PROGRAM", help::PROGRAM))?;
+    Ok(verify)
+}
+
+// `explain PROGRAM`
+fn explain_command<'a>(alloc: Global) -> Result<Command<'a>, AllocError>
+    ensures { IfOk result (λ c. app_of c ≡ explain_app) }
+{
+    let explain = Command::new(alloc, "explain")
+        .about(help::EXPLAIN)
+        .after_help(help::EXPLAIN_EXAMPLE)
+        .arg(file(alloc, "program", "PROGRAM", help::PROGRAM))?;
+    Ok(explain)
+}
+
+// `--program`
+fn program_flag<'a>(alloc: Global) -> Arg<'a>
+    ensures rule { rule_of result ≡ program_flag }
+    ensures local { result.global ≡ false }
+{
+    Arg::new(alloc, "program")
+        .help(help::IS_PROGRAM)
+        .long("program")
+        .action(ArgAction::SetTrue)
+}
+
+// A file that has to be named.
+fn file<'a>(alloc: Global, id: &'a str, name: &'a str, help: &'a str) -> Arg<'a>
+    ensures rule { rule_of result ≡ file_rule id.entry.now }
+    ensures local { result.global ≡ false }
+{
+    Arg::new(alloc, id)
+        .value_name(name)
+        .help(help)
+        .required(true)
 }
 
 // The job of a parse.
 fn job_of(alloc: Global, matches: &ArgMatches<'_>) -> Result<Job, WordsRefusal>
     ensures job { IfOk result (IsJobOf (subcommand_rows_of matches.now)) }
-    ensures refused { IfErr result (λ e. IsMemory e) }
+    ensures refused { IfErr result IsMemory }
 {
-    let Some(inner) = matches.subcommand_matches("run") else {
-        return Err(WordsRefusal::Memory);
-    };
-    run_job(alloc, inner)
+    if let Some(inner) = matches.subcommand_matches("run") {
+        return run_job(alloc, inner);
+    }
+    if let Some(inner) = matches.subcommand_matches("compile") {
+        return compile_job(alloc, inner);
+    }
+    if let Some(inner) = matches.subcommand_matches("verify") {
+        let program = file_of(alloc, inner, "program")?;
+        return Ok(Job::Verify { program });
+    }
+    if let Some(inner) = matches.subcommand_matches("explain") {
+        let program = file_of(alloc, inner, "program")?;
+        return Ok(Job::Explain { program });
+    }
+    Err(WordsRefusal::Memory)
 }
 
 // The job of the words behind `run`.
 fn run_job(alloc: Global, inner: &ArgMatches<'_>) -> Result<Job, WordsRefusal>
-    ensures job { IfOk result (IsRun (rows_of (found_of inner.now))) }
-    ensures refused { IfErr result (λ e. IsMemory e) }
+    ensures job { IfOk result (IsJob (codes "run") (rows_of (found_of inner.now))) }
+    ensures refused { IfErr result IsMemory }
 {
-    let Some(query) = text_of(alloc, inner.get_str("query"))? else {
-        return Err(WordsRefusal::Memory);
-    };
+    let program = inner.get_flag("program");
+    let query = file_of(alloc, inner, "query")?;
     let rows = text_of(alloc, inner.get_str("rows"))?;
-    Ok(Job::Run { query, rows })
+    Ok(Job::Run {
+        program,
+        query,
+        rows,
+    })
+}
+
+// The job of the words behind `compile`.
+fn compile_job(alloc: Global, inner: &ArgMatches<'_>) -> Result<Job, WordsRefusal>
+    ensures job { IfOk result (IsJob (codes "compile") (rows_of (found_of inner.now))) }
+    ensures refused { IfErr result IsMemory }
+{
+    let query = file_of(alloc, inner, "query")?;
+    let out = file_of(alloc, inner, "out")?;
+    Ok(Job::Compile { query, out })
+}
+
+// The name of a file that a parse gives: its words have one.
+fn file_of(alloc: Global, inner: &ArgMatches<'_>, id: &str) -> Result<String, WordsRefusal>
+    ensures named { IfOk result (Names (rows_of (found_of inner.now)) id.now) }
+    ensures refused { IfErr result IsMemory }
+{
+    match text_of(alloc, inner.get_str(id))? {
+        Some(name) => Ok(name),
+        None => Err(WordsRefusal::Memory),
+    }
 }
 
 // A copy of a text, if there is one.

@@ -1,0 +1,8 @@
+pub mod Naming
+pub mod Counting
+pub mod Resolving
+pub mod Flat
+pub mod Following
+pub mod Repeats
+pub mod Spellings
+pub mod Passing

@@ -1,5 +1,5 @@
 -- The checks of a query, in their order: the first refusal decides, and names its part.
-use Rattle.std.specs.Prelude.{◌≡◌, ℕ, suc, ◌*◌, Bool, true, false, ◌&&◌, not, cond, List, [], ◌∷◌, ◌++◌, length, ℤ, pos, int_le, nat_le, nat_lt, Option, Some, None, Ok, Err}
+use Rattle.std.specs.Prelude.{◌≡◌, ℕ, suc, ◌*◌, Bool, true, false, ◌&&◌, not, cond, List, [], ◌∷◌, ◌++◌, length, ℤ, pos, int_le, nat_le, nat_lt, Option, Some, None, Result, Ok, Err, ◌⊎◌}
 use Rattle.wsm_record.specs.Name.{is_among}
 use Rattle.wsm_record.specs.declared.words.Mode.{Mode}
 use Rattle.wsm_record.specs.declared.words.Mode.TheVariants.{Discarding, Accumulating}
@@ -14,13 +14,14 @@ use Rattle.wsm_check.specs.declared.refusal.CheckFault.TheVariants.{Duplicate, L
 use Rattle.wsm_check.specs.declared.refusal.Part.{Part}
 use Rattle.wsm_check.specs.declared.refusal.Part.TheVariants as part
 use Rattle.wsm_check.specs.declared.refusal.CheckRefusal.{CheckRefusal}
+use Rattle.wsm_check.specs.declared.refusal.CheckRefusal.TheVariants.{Fault, Memory}
 use Rattle.wsm_check.specs.Names.{has_repeats}
 use Rattle.wsm_check.specs.Types.{Around, InWhere, InColumn, Typed, typed, typed_condition}
 use Rattle.wsm_check.specs.Sizes.{accumulators, where_size, update_size, fire_size, stack_need}
 
 -- a refusal where the condition fails
 abbrev pub unless : Bool → CheckFault → Part → Option CheckRefusal
-unless b f p = cond b None (Some (record { fault = f; part = p }))
+unless b f p = cond b None (Some (Fault f p))
 
 -- the first of two, and of many
 abbrev pub or_else : Option CheckRefusal → Option CheckRefusal → Option CheckRefusal
@@ -42,6 +43,12 @@ abbrev pub ty_refusal : Part → Ty → Option CheckRefusal
 ty_refusal p (IntTy lo hi) = unless (int_le lo hi) Limit p
 ty_refusal p BoolTy = None
 ty_refusal p (EnumTy names) = names_refusal p names
+
+-- of a field behind those with the names: at most 16, and none of a name twice
+abbrev pub field_refusal : List Name → Declared → Option CheckRefusal
+field_refusal names d =
+    let p = part.Field (suc (length names)) in
+    first (unless (nat_lt (length names) 16) Limit p ∷ unless (not (is_among d.name names)) Duplicate p ∷ ty_refusal p d.ty ∷ [])
 
 -- of the fields behind those with the names: at most 16, and none of a name twice
 abbrev pub fields_refusal : List Name → List Declared → Option CheckRefusal
@@ -88,7 +95,7 @@ may_emit f Discarding = false
 
 abbrev pub typed_refusal : Part → Typed → Option CheckRefusal
 typed_refusal p (Ok t) = None
-typed_refusal p (Err f) = Some (record { fault = f; part = p })
+typed_refusal p (Err f) = Some (Fault f p)
 
 abbrev pub condition_refusal : Query → Around → Part → Option Expr → Option CheckRefusal
 condition_refusal q around p None = None
@@ -110,6 +117,17 @@ code_fits q =
     && (nat_le (fire_size q) 1000
     && (nat_le (stack_need q) 32 && nat_le (length q.keys * live_bound q.shape q.skew q.lateness) 100000))))
 
+-- of the clauses of numbers, and the form
+abbrev pub numbers_refusal : Query → Option CheckRefusal
+numbers_refusal q =
+    first (
+    unless (clock_fits q) Limit part.Clock
+    ∷ unless (budget_fits q.budget) Limit part.Budget
+    ∷ unless (shape_fits q.shape) Limit part.Window
+    ∷ unless (every_fits q.early && every_fits q.late) Limit part.Trigger
+    ∷ unless (may_emit q.form q.mode) StreamNeedsAccumulating part.Emit
+    ∷ [])
+
 abbrev pub refusal : Query → Option CheckRefusal
 refusal q =
     first (
@@ -126,6 +144,24 @@ refusal q =
     ∷ unless (code_fits q) Limit part.Code
     ∷ [])
 
+-- the same, with the clauses of numbers as one
+abbrev pub grouped_refusal : Query → Option CheckRefusal
+grouped_refusal q =
+    first (
+    names_refusal part.Keys q.keys
+    ∷ fields_refusal [] q.fields
+    ∷ numbers_refusal q
+    ∷ condition_refusal q InWhere part.Where q.condition
+    ∷ columns_refusal q 0 q.columns
+    ∷ condition_refusal q InColumn part.Having q.having
+    ∷ unless (code_fits q) Limit part.Code
+    ∷ [])
+
 -- no check refuses the query
 abbrev pub IsChecked : Query → Type 0
 IsChecked q = refusal q ≡ None
+
+-- what the code answers of a check, unless memory ran out
+abbrev pub Judges : Result (Unit {0}) CheckRefusal → Option CheckRefusal → Type 0
+Judges (Ok u) r = r ≡ None
+Judges (Err e) r = (e ≡ Memory) ⊎ (r ≡ Some e)

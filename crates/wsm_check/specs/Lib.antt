@@ -2,4 +2,9 @@ pub mod Names
 pub mod Sizes
 pub mod Types
 pub mod Checks
+pub mod Spelt
+pub mod Terms
+pub mod Parts
+pub mod Seen
+pub mod Text
 pub mod Vectors

@@ -1,5 +1,5 @@
 -- Where names stand in the lists that a query declares.
-use Rattle.std.specs.Prelude.{ℕ, Bool, false, ◌||◌, cond, List, [], ◌∷◌, map, bytes_eq}
+use Rattle.std.specs.Prelude.{◌≡◌, ◌<◌, ℕ, Bool, true, false, ◌||◌, cond, List, [], ◌∷◌, map, length, bytes_eq}
 use Rattle.std.specs.List.{position_or_len}
 use Rattle.wsm_record.specs.Name.{is_among}
 use Rattle.wsm_query.specs.Tree.{Name, Ty, IntTy, BoolTy, EnumTy, Declared}
@@ -29,3 +29,16 @@ names_of (EnumTy names) = names
 abbrev pub type_of : Name → List Declared → Ty
 type_of x [] = BoolTy
 type_of x (d ∷ ds) = cond (bytes_eq x d.name) d.ty (type_of x ds)
+
+-- a field of that name is declared, one of the first 16, with this number and type
+pub record Found (ds : List Declared) (x : Name) (number : ℕ) (ty : Ty) : Type 0 where
+  pub there : is_among x (field_names ds) ≡ true
+  pub few : number < 16
+  pub place : number ≡ field_place ds x
+  pub declared : ty ≡ type_of x ds
+
+-- no field of that name is declared
+pub record Absent (ds : List Declared) (x : Name) : Type 0 where
+  pub there : is_among x (field_names ds) ≡ false
+  pub place : field_place ds x ≡ length ds
+  pub declared : type_of x ds ≡ BoolTy

@@ -5,10 +5,14 @@ use Rattle.wsm_record.specs.declared.words.Kind.TheVariants.{Sum, Min, Max, Any,
 use Rattle.wsm_record.specs.Name.{is_among}
 use Rattle.wsm_query.specs.declared.expr.Op.{Op}
 use Rattle.wsm_query.specs.declared.expr.Op.TheVariants.{Add, Sub, Mul, Div, Rem, Eq, Ne, Lt, Le, Gt, Ge}
+use Rattle.wsm_check.specs.declared.types.ValueTy.{ValueTy}
+use Rattle.wsm_check.specs.declared.types.ValueTy.TheVariants as value
 use Rattle.wsm_query.specs.Tree.{Name, Ty, IntTy, BoolTy, EnumTy, Query, Expr, Number, Truth, Field, EnumName, Key, KeyName, Count, Aggregate, If, Brackets, Minus, Not, Binary, And, Or}
 use Rattle.wsm_check.specs.declared.refusal.CheckFault.{CheckFault}
 use Rattle.wsm_check.specs.declared.refusal.CheckFault.TheVariants.{UnknownName, FieldOutsideAggregate, AggregateNested, AggregateInWhere}
 use Rattle.wsm_check.specs.declared.refusal.CheckFault.TheVariants as fault
+pub use Rattle.wsm_check.specs.declared.types.Around.{Around}
+pub use Rattle.wsm_check.specs.declared.types.Around.TheVariants.{InWhere, InColumn, InAggregate}
 use Rattle.wsm_check.specs.Names.{field_names, field_place, type_of, names_of}
 
 -- the type of a value; ENUM 0 is the key, and f + 1 is field f
@@ -17,21 +21,24 @@ pub data ExprTy : Type 0 where
   BoolValue : ExprTy
   EnumValue : (enum : ℕ) → ExprTy
 
+abbrev pub seen_ty : ValueTy → ExprTy
+seen_ty value.Int = IntValue
+seen_ty value.Bool = BoolValue
+seen_ty (value.Enum e) = EnumValue e
+
 abbrev pub ty_eq : ExprTy → ExprTy → Bool
 ty_eq IntValue IntValue = true
 ty_eq BoolValue BoolValue = true
 ty_eq (EnumValue e) (EnumValue f) = nat_eq e f
 ty_eq _ _ = false
 
--- where an expression stands
-pub data Around : Type 0 where
-  InWhere : Around
-  InColumn : Around  -- or in HAVING
-  InAggregate : Around
-
 -- a type, or the first fault
 abbrev pub Typed : Type 0
 Typed = Result ExprTy CheckFault
+
+abbrev pub seen_typed : Result ValueTy CheckFault → Typed
+seen_typed (Ok t) = Ok (seen_ty t)
+seen_typed (Err f) = Err f
 
 abbrev pub wanted : Bool → ExprTy → Typed
 wanted b t = cond b (Ok t) (Err fault.Type)

@@ -12,6 +12,7 @@ use Rattle.wsm_check.specs.declared.refusal.CheckFault.TheVariants as fault
 use Rattle.wsm_check.specs.declared.refusal.Part.{Part}
 use Rattle.wsm_check.specs.declared.refusal.Part.TheVariants as part
 use Rattle.wsm_check.specs.declared.refusal.CheckRefusal.{CheckRefusal}
+use Rattle.wsm_check.specs.declared.refusal.CheckRefusal.TheVariants.{Fault}
 use Rattle.wsm_check.specs.Checks.{refusal}
 
 abbrev n : Expr
@@ -59,7 +60,7 @@ abbrev declaring : List Declared → Option CheckRefusal
 declaring fields = refusal (record base { fields = fields; columns = Count ∷ [] })
 
 abbrev refused : CheckFault → Part → Option CheckRefusal
-refused f p = Some (record { fault = f; part = p })
+refused f p = Some (Fault f p)
 
 base_is_checked : refusal base ≡ None
 base_is_checked = refl

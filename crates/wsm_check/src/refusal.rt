@@ -1,5 +1,9 @@
 //! Why a query is refused.
 
+use std::error::Error;
+use std::fmt;
+use std::fmt::{Display, Formatter};
+
 /// Why a query is refused.
 #[derive(Clone, Copy, Debug, PartialEq, Eq)]
 pub enum CheckFault {
@@ -19,8 +23,6 @@ pub enum CheckFault {
     Limit,
     /// A stream form stands with a mode that isn't ACCUMULATING.
     StreamNeedsAccumulating,
-    /// There was no memory for the checks. This says nothing of the query.
-    Memory,
 }
 
 /// The part of a query that a refusal is about.
@@ -44,7 +46,67 @@ pub enum Part {
 
 /// Why a query is refused, and where.
 #[derive(Clone, Copy, Debug, PartialEq, Eq)]
-pub struct CheckRefusal {
-    pub fault: CheckFault,
-    pub part: Part,
+pub enum CheckRefusal {
+    Fault(CheckFault, Part),
+    /// There was no memory for the checks. This says nothing of the query.
+    Memory,
 }
+
+impl Display for CheckFault {
+    ghost use Rattle.std.specs.Prelude.{Some};
+    ghost use Rattle.wsm_check.specs.Text.{fault_text};
+
+    ghost output = { λ fault. Some (fault_text fault) };
+
+    fn fmt<W: fmt::Write>(&self, f: &mut Formatter<W>) -> fmt::Result {
+        f.write_str(match self {
+            CheckFault::UnknownName => "C1 UnknownName",
+            CheckFault::Type => "C2 Type",
+            CheckFault::Duplicate => "C3 Duplicate",
+            CheckFault::FieldOutsideAggregate => "C4 FieldOutsideAggregate",
+            CheckFault::AggregateNested => "C5 AggregateNested",
+            CheckFault::AggregateInWhere => "C6 AggregateInWhere",
+            CheckFault::Limit => "C7 Limit",
+            CheckFault::StreamNeedsAccumulating => "C8 StreamNeedsAccumulating",
+        })
+    }
+}
+
+impl Display for Part {
+    ghost use Rattle.std.specs.Prelude.{Some};
+    ghost use Rattle.wsm_check.specs.Text.{part_text};
+
+    ghost output = { λ part. Some (part_text part) };
+
+    fn fmt<W: fmt::Write>(&self, f: &mut Formatter<W>) -> fmt::Result {
+        match self {
+            Part::Keys => f.write_str("keys"),
+            Part::Field(number) => write!(f, "field {number}"),
+            Part::Clock => f.write_str("clock"),
+            Part::Budget => f.write_str("budget"),
+            Part::Window => f.write_str("window"),
+            Part::Trigger => f.write_str("trigger"),
+            Part::Emit => f.write_str("emit"),
+            Part::Where => f.write_str("where"),
+            Part::Column(number) => write!(f, "column {number}"),
+            Part::Having => f.write_str("having"),
+            Part::Code => f.write_str("code"),
+        }
+    }
+}
+
+impl Display for CheckRefusal {
+    ghost use Rattle.std.specs.Prelude.{Some};
+    ghost use Rattle.wsm_check.specs.Text.{refusal_text};
+
+    ghost output = { λ refusal. Some (refusal_text refusal) };
+
+    fn fmt<W: fmt::Write>(&self, f: &mut Formatter<W>) -> fmt::Result {
+        match self {
+            CheckRefusal::Fault(fault, part) => write!(f, "{fault} in {part}"),
+            CheckRefusal::Memory => f.write_str("out of memory"),
+        }
+    }
+}
+
+impl Error for CheckRefusal {}

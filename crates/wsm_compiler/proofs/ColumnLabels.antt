@@ -12,7 +12,8 @@ use Rattle.wsm_verifier.specs.Labels.{State, Ranges, Visit, Reached, label_of, l
 use Rattle.wsm_verifier.specs.Rules.{Setting, entry, known_accumulators, update_visits}
 use Rattle.wsm_compiler.specs.Code.{code, columns_code}
 use Rattle.wsm_compiler.specs.Ranges.{Range, Unfit, NoNumber, Within, range, fits}
-use Rattle.wsm_compiler.specs.Program.{type_or_int, program_stating, program_of, stated, needed_of}
+use Rattle.wsm_check.specs.Parts.{type_or_int}
+use Rattle.wsm_compiler.specs.Program.{program_stating, program_of, stated, needed_of}
 use Rattle.wsm_compiler.specs.Labelled.{known_as, ColumnLabels, LabelsAreRanges}
 use Rattle.wsm_compiler.proofs.Visits.{nil_right, extended, added, extended_is, visits_are}
 use Rattle.wsm_compiler.proofs.Hulls.{no, and_is}

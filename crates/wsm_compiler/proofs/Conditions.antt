@@ -15,7 +15,8 @@ use Rattle.wsm_verifier.specs.Labels.{State, same_type, same_types}
 use Rattle.wsm_verifier.specs.Rules.{Setting, setting, entry, ranges_of_record, column_known, fold_missing, fault_in}
 use Rattle.wsm_compiler.specs.Code.{code, condition_code, columns_code}
 use Rattle.wsm_compiler.specs.Ranges.{Range, Unfit, NoNumber, Within, range, fits}
-use Rattle.wsm_compiler.specs.Program.{cell_type, type_or_int, column_type, program_stating}
+use Rattle.wsm_check.specs.Parts.{type_or_int}
+use Rattle.wsm_compiler.specs.Program.{cell_type, column_type, program_stating}
 use Rattle.wsm_compiler.proofs.Hulls.{no, type_self}
 use Rattle.wsm_compiler.proofs.Tests.{with_known}
 use Rattle.wsm_compiler.proofs.Sizes.{length-code, some_size, some_need, some_code, length-accumulators_of}

@@ -23,7 +23,8 @@ use Rattle.wsm_check.specs.Types.{typed, InWhere, InColumn}
 use Rattle.wsm_check.specs.Sizes.{Acc, accumulators, accumulators_of, in_option, fired}
 use Rattle.wsm_check.specs.Checks.{unless, first, ty_refusal, fields_refusal, is_count, shape_fits, every_fits, may_emit, typed_refusal, columns_refusal}
 use Rattle.wsm_compiler.specs.Code.{where_section, update_section, fire_section}
-use Rattle.wsm_compiler.specs.Lawful.{numbers_fit, is_spelt_type, is_spelt_field, IsSpelt, IsLawful}
+use Rattle.wsm_check.specs.Spelt.{numbers_fit, is_spelt_type, is_spelt_field, IsSpelt}
+use Rattle.wsm_compiler.specs.Lawful.{IsLawful}
 use Rattle.wsm_compiler.specs.Program.{field_type, column_type, every, stated, needed_of, program_of}
 use Rattle.wsm_compiler.proofs.Hulls.{no, and_is, both_true}
 use Rattle.wsm_compiler.proofs.Sizes.{length-accumulators_of}

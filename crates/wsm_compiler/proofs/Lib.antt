@@ -4,6 +4,8 @@ pub mod Parts
 pub mod Tests
 pub mod Choosing
 pub mod Sizes
+pub mod Coding
+pub mod Resolving
 pub mod Found
 pub mod Suiting
 pub mod Finding
@@ -38,4 +40,6 @@ pub mod TotalPanes
 pub mod FiringSets
 pub mod SameLines
 pub mod Rules
+pub mod Schemas
+pub mod Assembling
 pub mod Texts

@@ -18,8 +18,9 @@ use Rattle.wsm_check.specs.Names.{field_names, field_place, type_of, names_of, p
 use Rattle.wsm_check.specs.Types.{ExprTy, IntValue, BoolValue, EnumValue, Around, InColumn, InAggregate, Typed, wanted, if_typed, ty_eq, declared_ty, operand_ty, op_ty, typed}
 use Rattle.wsm_check.specs.Sizes.{Acc, aggregates, size, condition_size, folds_size, columns_size}
 use Rattle.wsm_compiler.specs.Code.{code, choice, instruction, condition_code, folds, columns_code}
-use Rattle.wsm_compiler.specs.Lawful.{numbers_fit}
-use Rattle.wsm_compiler.specs.Program.{field_type, cell_type, type_or_int, column_type, program_stating}
+use Rattle.wsm_check.specs.Spelt.{numbers_fit}
+use Rattle.wsm_check.specs.Parts.{type_or_int}
+use Rattle.wsm_compiler.specs.Program.{field_type, cell_type, column_type, program_stating}
 use Rattle.wsm_compiler.proofs.Hulls.{no, and_is, both_true}
 use Rattle.wsm_compiler.proofs.Suiting.{ok_is, err≢ok, result_of}
 use Rattle.wsm_compiler.proofs.Finding.{cond_ok, field_is, entered_is, op_is, two_types, if_types, logic_types, unary_is}

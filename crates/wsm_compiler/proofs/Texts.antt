@@ -17,7 +17,8 @@ use Rattle.wsm_query.specs.Grammar as grammar
 use Rattle.wsm_query.specs.Grammar.{looked_up, kinds, Deeper, opened, aggregate, count_of, choice, brackets, pointed, leaf, atom, unary, chain, chain_limit, chained, products, sums, comparisons, ands, ors, prod, sum, compared, cmp, neg, conj, expr_in, deeper, levels, level_limit, expr, int, names, type_of, field, budget, shape, mode, form, every, query}
 use Rattle.wsm_query.specs.Parse.{query_text, outcome, parse}
 use Rattle.wsm_check.specs.Sizes.{in_option}
-use Rattle.wsm_compiler.specs.Lawful.{numbers_fit, is_spelt_type, is_spelt_field, IsSpelt, ParsedIsSpelt}
+use Rattle.wsm_check.specs.Spelt.{numbers_fit, is_spelt_type, is_spelt_field, IsSpelt}
+use Rattle.wsm_compiler.specs.Lawful.{ParsedIsSpelt}
 use Rattle.wsm_compiler.proofs.Hulls.{both_true}
 use Rattle.wsm_compiler.proofs.Suiting.{err≢ok}
 use Rattle.wsm_compiler.proofs.Rules.{Proper, Sound, Gives, Anything, behind_proper, gives, goes_on, asks, eithers, sees, afters, untils, clauses, optionals, braces, lists, words, IsName, IsNumber, names_are, numbers_are}

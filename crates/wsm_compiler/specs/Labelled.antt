@@ -11,7 +11,8 @@ use Rattle.wsm_check.specs.Sizes.{size}
 use Rattle.wsm_check.specs.Types.{ExprTy, IntValue, BoolValue, EnumValue, InColumn, typed}
 use Rattle.wsm_compiler.specs.Code.{fire_section}
 use Rattle.wsm_compiler.specs.Ranges.{Range, Unfit, NoNumber, Within, range, ranges_fit}
-use Rattle.wsm_compiler.specs.Program.{type_or_int, program_of}
+use Rattle.wsm_check.specs.Parts.{type_or_int}
+use Rattle.wsm_compiler.specs.Program.{program_of}
 
 -- a number is in its range; where it has none no label is claimed
 abbrev pub number_as : Range → Known

@@ -1,8 +1,10 @@
 pub mod Meaning
 pub mod Ranges
 pub mod Code
+pub mod TermCode
 pub mod Bounded
 pub mod Program
+pub mod Assembled
 pub mod Means
 pub mod Runs
 pub mod Sections

@@ -1,5 +1,5 @@
 -- The program of a query.
-use Rattle.std.specs.Prelude.{map, ℤ, pos, unsigned_abs, Option, Some, None, Ok, Err}
+use Rattle.std.specs.Prelude.{map, ℤ, pos, unsigned_abs, Option, Some, None}
 use Rattle.wsm_record.specs.Schema.{FieldType, Int, Truth, Enum, Declared as Schema}
 use Rattle.wsm_bytecode.specs.declared.instr.CellType.{CellType}
 use Rattle.wsm_bytecode.specs.declared.instr.CellType.TheVariants as types
@@ -8,7 +8,8 @@ use Rattle.wsm_bytecode.specs.Program.{Program}
 use Rattle.wsm_verifier.specs.declared.costs.Costs.{Costs}
 use Rattle.wsm_verifier.specs.Costs.{needed}
 use Rattle.wsm_query.specs.Tree.{Query, Ty, IntTy, BoolTy, EnumTy, Budget, Expr}
-use Rattle.wsm_check.specs.Types.{ExprTy, IntValue, BoolValue, EnumValue, Typed, InColumn, typed}
+use Rattle.wsm_check.specs.Types.{ExprTy, IntValue, BoolValue, EnumValue, InColumn, typed}
+use Rattle.wsm_check.specs.Parts.{type_or_int}
 use Rattle.wsm_check.specs.Sizes.{accumulators}
 use Rattle.wsm_compiler.specs.Code.{where_section, update_section, fire_section}
 
@@ -25,11 +26,6 @@ abbrev pub cell_type : ExprTy → CellType
 cell_type IntValue = types.Int
 cell_type BoolValue = types.Bool
 cell_type (EnumValue e) = types.Enum e
-
--- a query that no check refuses has a type for each column
-abbrev pub type_or_int : Typed → ExprTy
-type_or_int (Ok t) = t
-type_or_int (Err f) = IntValue
 
 abbrev pub column_type : Query → Expr → CellType
 column_type q e = cell_type (type_or_int (typed q InColumn e))

@@ -14,7 +14,7 @@ use Rattle.wsm_check.specs.Sizes.{accumulators, in_option, fired}
 use Rattle.wsm_compiler.specs.Meaning.{Scene, meaning, meets_i64, on_record, on_records}
 use Rattle.wsm_compiler.specs.Program.{schema_of, program_of}
 use Rattle.wsm_compiler.specs.Folded.{Hold}
-use Rattle.wsm_compiler.specs.Lawful.{IsSpelt}
+use Rattle.wsm_check.specs.Spelt.{IsSpelt}
 use Rattle.wsm_compiler.specs.Means.{meant}
 
 -- No check refuses it, its names are names and its numbers have 64 bits, and the verifier takes its program.

@@ -16,7 +16,8 @@ use Rattle.wsm_check.specs.Checks.{IsChecked}
 use Rattle.wsm_check.specs.Types.{BoolValue, InColumn, typed}
 use Rattle.wsm_check.specs.Sizes.{Acc, accumulators, aggregates}
 use Rattle.wsm_compiler.specs.Meaning.{Scene, meaning_from, meets_i64, all_of, on_record, on_accumulators}
-use Rattle.wsm_compiler.specs.Program.{type_or_int, schema_of, program_of}
+use Rattle.wsm_check.specs.Parts.{type_or_int}
+use Rattle.wsm_compiler.specs.Program.{schema_of, program_of}
 use Rattle.wsm_compiler.specs.Runs.{cell}
 
 -- what WHERE and UPDATE read has the fields' types, and what FIRE reads the accumulators'; intervals aren't asked

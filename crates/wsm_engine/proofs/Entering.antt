@@ -1,79 +1,207 @@
--- What a record does to the panes that are held.
-use Rattle.std.proofs.Common.{◌≡◌, ◌⊎◌, ◌<◌, ◌≤◌, ◌+◌, ◌^◌, ℕ, List, [], ◌∷◌, T, Bool, true, false, cond, Option, Some, None, length, refl, ap, ◌∙◌, inl, inr, arith, MatchOption}
-use Rattle.std.specs.Prelude.{⊤}
-use Rattle.std.specs.Option.{is_some}
+-- A selected record can be put in: there is room, and every sum stays in 64 bits.
+use Rattle.std.proofs.Common.{◌≡◌, ℕ, suc, ◌+◌, ◌*◌, ◌≤◌, ◌<◌, ◌^◌, true, false, Bool, ◌&&◌, List, [], ◌∷◌, map, length, ℤ, pos, ◌≤ℤ◌, Option, Some, None, Ok, IsTrue, refl, sym, ap, subst, ◌∙◌, arith}
+use Rattle.std.proofs.lemmas.Int.{ints}
+use Rattle.std.proofs.lemmas.Bool.{and_parts}
+use Rattle.std.proofs.lemmas.Bool.Decides.{nat_tests}
+use Rattle.std.specs.Prelude.{filter, nat_eq, nat_lt, IfSome}
 use Rattle.std.specs.List.{AllByRecursion}
-use Rattle.std.specs.Ordering.{eq_by_cmp}
-use Rattle.std.specs.declared.cmp.Ordering.TheVariants.{Less, Equal, Greater}
-use Rattle.std.specs.FinMap as map
-use Rattle.std.specs.FinMap.Entries.{put, find, is_sorted, by_order, is_sorted-put, length-put}
-use Rattle.wsm_windows.specs.declared.window.Window.{Window}
+use Rattle.wsm_record.specs.declared.event.Value.{Value}
+use Rattle.wsm_record.specs.declared.words.Kind.{Kind}
+use Rattle.wsm_record.specs.Event.{Event, Record}
+use Rattle.wsm_windows.specs.declared.window.Shape.{Shape}
+use Rattle.wsm_windows.specs.declared.window.Shape.TheVariants.{Session}
+use Rattle.wsm_windows.specs.Life.{live_bound}
+use Rattle.wsm_windows.specs.Windows.{IsTime}
+use Rattle.wsm_interval.specs.declared.Interval.{Interval}
+use Rattle.wsm_interval.specs.Interval.{interval, holds}
+use Rattle.wsm_admission.proofs.Taken.{IsTaken, taken_record}
+use Rattle.wsm_fold.specs.Fold.{are_of_kinds, is_of_kind, joins}
+use Rattle.wsm_fold.specs.Accumulators.{SumsFit}
 use Rattle.wsm_semantics.specs.declared.place.Place.{Place}
-use Rattle.wsm_semantics.specs.Panes.{place_cmp, at}
-use Rattle.wsm_panes.specs.declared.pane.Pane.{Pane}
-use Rattle.wsm_panes.proofs.Entries.{places_total}
-use Rattle.wsm_engine.specs.Plan.{with_record}
-use Rattle.wsm_engine.specs.Held.{Limits, IsHeldPlace, IsHeldPane, CanEnter, room_within}
-use Rattle.wsm_engine.proofs.Bound.{at_most}
+use Rattle.wsm_semantics.specs.Query.{Query, Datum, mark, verdict_on}
+use Rattle.wsm_semantics.specs.Panes.{held}
+use Rattle.wsm_semantics.specs.HeldBounds.{most_panes}
+use Rattle.wsm_semantics.specs.Kept as kept
+use Rattle.wsm_semantics.specs.Kept.{Kept, kept_in, is_linked}
+use Rattle.wsm_semantics.specs.Summaries.{Pane, fired_count, linked, entered, joined, joined_folds, summaries, pane_of}
+use Rattle.wsm_semantics.specs.Totals.{AtMost, total}
+use Rattle.wsm_semantics.specs.Replay.{datum}
+use Rattle.wsm_semantics.proofs.Lists.{length_each, filter-all}
+use Rattle.wsm_semantics.proofs.Each.{all-both, filter-map}
+use Rattle.wsm_semantics.proofs.Images.{entered-summaries, where-summaries}
+use Rattle.wsm_semantics.proofs.Turnless as turnless
+use Rattle.wsm_semantics.proofs.KeptLaw.{enters}
+use Rattle.wsm_semantics.proofs.HeldBound.{held_at_key, held_bounded}
+use Rattle.wsm_semantics.proofs.SelectedRecords.{a_time}
+use Rattle.wsm_semantics.proofs.Totals.{each_of, total-where}
+use Rattle.wsm_bytecode.specs.declared.instr.SectionId.TheVariants.{Fire}
+use Rattle.wsm_bytecode.specs.Program.{Program, is_program}
+use Rattle.wsm_verifier.specs.declared.costs.Costs.{Costs}
+use Rattle.wsm_verifier.specs.Rules.{judge, range}
+use Rattle.wsm_verifier.proofs.Lawful.{lawful as program_lawful}
+use Rattle.wsm_machine.specs.InRange.{in_range, is_value_in, is_word, is_acc_in, is_number_in, accs_in}
+use Rattle.wsm_machine.specs.Meaning.{clock_of, query_of, plan_of, selects, updated, pane_inputs}
+use Rattle.wsm_machine.specs.Sound.{AreSound, IsSoundEntry, IsSoundPane, IsDatumInRange}
+use Rattle.wsm_machine.proofs.Meaning.{plan_lawful}
+use Rattle.wsm_machine.proofs.Holding.{joined_all_sound}
+use Rattle.wsm_machine.proofs.SoundSteps.{record_in_range, room_for_record, all_can_fire, joins_fit}
+use Rattle.wsm_machine.proofs.Telling.{pane_fits}
+use Rattle.wsm_machine.proofs.Sounding.{row_folded, may_fire}
+use Rattle.wsm_panes.specs.Held.{Held, entries_of, room_of, taking, with_entered, CanTake, IsRoomy, CanEnter}
+use Rattle.wsm_engine.proofs.Limits.{clock_within}
+use Rattle.wsm_engine.proofs.Agreeing.{entered_same}
+use Rattle.wsm_engine.proofs.Holding.{Panes, admitted, kept_panes, kept_sound, admitted_few}
 
--- where places and panes have a property each, they have it with one more
-all_put : (Q : Place → Type 0) (C : Pane → Type 0) (k : Place) (v : Pane) → Q k → C v → (es : List (Place × Pane)) → AllByRecursion (λ e. Q e.0 × C e.1) es → AllByRecursion (λ e. Q e.0 × C e.1) (put place_cmp k v es)
-all_put Q C k v q c [] all = ((q, c), tt)
-all_put Q C k v q c (e ∷ es) all =
-    elim (place_cmp k e.0) as (λ o. AllByRecursion (λ e. Q e.0 × C e.1) (by_order o ((k, v) ∷ e ∷ es) ((e.0, v) ∷ es) (e ∷ put place_cmp k v es))) [
-      | Less ↦ ((q, c), all)
-      | Equal ↦ ((all.0.0, c), all.1)
-      | Greater ↦ (all.0, all_put Q C k v q c es all.1)
-    ]
+-- what FIRE may read has the accumulators' types
+accs_types : (p : Program) (a : ℕ) (ks : List Kind) (vs : List Value) → accs_in p a ks vs ≡ true → are_of_kinds ks vs ≡ true
+accs_types p a [] [] h = refl
+accs_types p a [] (v ∷ vs) h = h
+accs_types p a (k ∷ ks) [] h = h
+accs_types p a (k ∷ ks) (v ∷ vs) h =
+    let parts = and_parts (is_acc_in (range p a) k v) _ h in
+    let value = and_parts (is_value_in (range p a) k v) (is_word v) parts.0 in
+    let kind = and_parts (is_of_kind k v) (is_number_in (range p a) v) value.0 in
+    λ i. kind.0 i && accs_types p (suc a) ks vs parts.1 i
 
-found : (Q : Place → Type 0) (C : Pane → Type 0) (k : Place) (es : List (Place × Pane)) → AllByRecursion (λ e. Q e.0 × C e.1) es → MatchOption (find place_cmp k es) ⊤ C
-found Q C k [] all = tt
-found Q C k (e ∷ es) all = elim (eq_by_cmp place_cmp k e.0) as (λ b. MatchOption (cond b (Some e.1) (find place_cmp k es)) ⊤ C) [ true ↦ all.0.1 | false ↦ found Q C k es all.1 ]
+fire_types : (p : Program) (key n : ℕ) (held : List Value) → IsTrue (in_range p Fire (pane_inputs key n held)) → IsTrue (are_of_kinds p.header.kinds held)
+fire_types p key n held h =
+    accs_types p 0 p.header.kinds held (and_parts (holds (interval (pos 1) p.header.records) (pos n)) _ (and_parts (nat_lt key (length p.header.schema.keys)) _ h).1).1
 
-more : (limits : Limits) (most : ℕ) (es : List (Place × Pane)) → AllByRecursion (IsHeldPane limits most) es → AllByRecursion (IsHeldPane limits (most + 1)) es
-more limits most [] all = tt
-more limits most (e ∷ es) all = ((all.0.0, omega (arith, all.0.1)), more limits most es all.1)
+module _ (p : Program) (costs : Costs) (judged : judge p ≡ Ok costs) (lawful : IsTrue (is_program p)) (past : List Event)
+  (k : ℕ) (t : ℤ) (vs : List Value) (taken : verdict_on (query_of p) past (Record (Some k) t vs) ≡ None) where
+  abbrev n : ℕ
+  n = admitted p costs judged lawful past
 
-pub places : (limits : Limits) (most : ℕ) (es : List (Place × Pane)) → AllByRecursion (IsHeldPane limits most) es → AllByRecursion (λ e. IsHeldPlace limits e.0) es
-places limits most [] all = tt
-places limits most (e ∷ es) all = (all.0.0, places limits most es all.1)
+  abbrev es : Panes
+  es = kept_panes p costs judged lawful past
 
-abbrev pub entered_one : Place → List (Place × Pane) → List (Place × Pane)
-entered_one p es = put place_cmp p (with_record (find place_cmp p es)) es
+  abbrev d : Datum
+  d = datum 0 k t vs
 
-one_more : (most : ℕ) (o : Option Pane) → MatchOption o ⊤ (λ p. p.count ≤ most) → (with_record o).count ≤ most + 1
-one_more most None h = omega arith
-one_more most (Some p) h = omega arith
+  sound : AreSound p n es
+  sound = kept_sound p costs judged lawful past
 
-small : (most : ℕ) (o : Option Pane) → most < 2 ^ 63 → MatchOption o ⊤ (λ p. p.count ≤ most) → MatchOption o ⊤ (λ p. p.count < 2 ^ 63)
-small most None lt h = tt
-small most (Some p) lt h = omega arith
+  facts : IsTaken (clock_of p.header) p.header.schema (mark (query_of p) past) n (Some k) t vs
+  facts = taken_record (clock_of p.header) p.header.schema (mark (query_of p) past) n (Some k) t vs taken
 
-left : (b : Bool) (n room : ℕ) → cond b n (n + 1) ≤ room → (b ≡ true) ⊎ (n < room)
-left true n room le = inl refl
-left false n room le = inr (omega arith)
+  -- the record is in range
+  pub ranged : IsDatumInRange p d
+  ranged = record_in_range p costs judged lawful (clock_of p.header) (mark (query_of p) past) n 0 k t vs taken
 
-module _ (limits : Limits) (most room key : ℕ) (es : List (Place × Pane)) (w : Window) (ws : List Window) (sorted : T (is_sorted place_cmp es)) (can : CanEnter limits most room es key (w ∷ ws)) where
-  below : MatchOption (find place_cmp (at key w) es) ⊤ (λ p. p.count ≤ most)
-  below = found (IsHeldPlace limits) (λ p. p.count ≤ most) (at key w) es can.held
+  pub room : pos (n + 1) ≤ℤ p.header.records
+  room = room_for_record p costs judged lawful (mark (query_of p) past) n k t vs taken
 
-  held : AllByRecursion (IsHeldPane limits (most + 1)) (entered_one (at key w) es)
-  held = all_put (IsHeldPlace limits) (λ p. p.count ≤ most + 1) (at key w) (with_record (find place_cmp (at key w) es)) can.near.0 (one_more most _ below) es (more limits most es can.held)
+  pub timely : IsTime t
+  timely = a_time t facts.in_time
 
-  -- the pane is there, or there is room for it
-  pub has_room : (is_some (find place_cmp (at key w) es) ≡ true) ⊎ (length es < room)
-  has_room =
-      let v = with_record (find place_cmp (at key w) es) in
-      let fits : length (put place_cmp (at key w) v es) ≤ room_within limits = at_most limits can.some (put place_cmp (at key w) v es) (is_sorted-put place_cmp places_total (at key w) v es sorted) (places limits (most + 1) _ held) in
-      left (is_some (find place_cmp (at key w) es)) (length es) room (rw (← can.reserved, length-put place_cmp places_total (at key w) v es sorted) at fits)
+  pub declared : k < length p.header.schema.keys
+  declared = less k (length p.header.schema.keys) facts.has_key
+    where
+      less : (k keys : ℕ) → nat_lt k keys ≡ true → k < keys
+      less k keys h = grind (arith, nat_tests)
 
-  pub has_count : MatchOption (find place_cmp (at key w) es) ⊤ (λ p. p.count < 2 ^ 63)
-  has_count = small most _ (omega (arith, can.count)) below
+  -- ---- sums
 
-  -- then it can enter the windows that are left
-  pub can_go_on : CanEnter limits (most + 1) room (entered_one (at key w) es) key ws
-  can_go_on = record { some = can.some; reserved = can.reserved; count = omega (arith, can.count); held = held; near = can.near.1 }
+  few_records : (m : ℕ) → m ≤ n → m < 2 ^ 62
+  few_records m l = let most = (program_lawful p lawful).records.1 in omega (arith, ints, l, room, most)
 
--- the same of a table's map
-pub room_for : (m : map.FinMap place_cmp Pane) (p : Place) (room : ℕ) → (is_some (find place_cmp p (map.entries m)) ≡ true) ⊎ (length (map.entries m) < room) → (map.contains_key m p ≡ true) ⊎ (map.len m < room)
-room_for m p room h = elim h [ inl there ↦ inl (ap is_some (map.get-entries m p) ∙ there) | inr lt ↦ inr (omega (arith, map.len-entries m)) ]
+  takes : (e : Place × Pane (List Value)) → IsSoundPane p e.1 → e.1.count ≤ n → ((held : List Value) → e.1.folded ≡ Some held → IsTrue (in_range p Fire (pane_inputs e.0.key (fired_count p.header.mode e.1) held)))
+      → (o : Option (List Value)) → e.1.folded ≡ o → IfSome o (CanTake p.header.kinds (updated p k vs))
+  takes e is l can None h = tt
+  takes e is l can (Some held) h = record {
+    types = fire_types p e.0.key (fired_count p.header.mode e.1) held (can held h);
+    sums = pane_fits p costs judged lawful d ranged n e.1 held is l room h;
+  }
+
+  -- each pane can take the record
+  roomy : AllByRecursion (IsRoomy p.header.kinds (updated p k vs)) es
+  roomy =
+      all-both (λ e. IsSoundEntry p e × (e.1.count ≤ n)) (λ e. (held : List Value) → e.1.folded ≡ Some held → IsTrue (in_range p Fire (pane_inputs e.0.key (fired_count p.header.mode e.1) held)))
+      (IsRoomy p.header.kinds (updated p k vs))
+      (λ e is can. record {
+        count = few_records e.1.count is.1;
+        unshown = few_records e.1.unshown (omega (arith, is.0.pane.unshown, is.1));
+        takes = takes e is.0.pane is.1 can e.1.folded refl;
+      }) es
+      (all-both (IsSoundEntry p) (λ e. e.1.count ≤ n) (λ e. IsSoundEntry p e × (e.1.count ≤ n)) (λ e a b. (a, b)) es sound.each (each_of p.header.shape n es sound.counts))
+      (all_can_fire p costs judged lawful n es (admitted_few p costs judged lawful past) sound)
+
+  -- two sessions that the record joins can be joined, and can take it
+  joinable : (gap : ℤ) → p.header.shape ≡ Session gap → (e f : Place × Pane (List Value)) (rest : Panes) → linked gap d es ≡ e ∷ f ∷ rest → (xs ys : List Value) → e.1.folded ≡ Some xs → f.1.folded ≡ Some ys
+      → SumsFit p.header.kinds xs ys × SumsFit p.header.kinds (joins p.header.kinds xs ys) (updated p k vs)
+  joinable gap session e f rest is xs ys ex fy =
+      let parts : AllByRecursion (IsSoundEntry p) (e ∷ f ∷ rest) = subst (AllByRecursion (IsSoundEntry p)) is (filter-all (IsSoundEntry p) (λ x. is_linked gap d x.0) es sound.each) in
+      let all : total es ≤ n = subst (λ (sh : Shape). AtMost sh n es) session sound.counts in
+      let some : total (e ∷ f ∷ rest) ≤ total es = subst (λ ps. total ps ≤ total es) is (total-where (is_linked gap d) es) in
+      let both : IsSoundPane p (joined (plan_of p) e.1 f.1) = joined_all_sound p (e ∷ f ∷ []) (parts.0, (parts.1.0, tt)) in (
+        joins_fit p costs judged lawful n es gap d e f rest xs ys session (admitted_few p costs judged lawful past) sound is ex fy,
+        pane_fits p costs judged lawful d ranged n (joined (plan_of p) e.1 f.1) (joins p.header.kinds xs ys) both
+            (least e.1.count f.1.count (total rest) (total es) some all) room (λ i. joined_folds (plan_of p) (ex i) (fy i)),
+      )
+    where
+      least : (a b c m : ℕ) → a + (b + c) ≤ m → m ≤ n → a + b ≤ n
+      least a b c m h l = omega (arith, h, l)
+
+  -- ---- room
+
+  types : IsTrue (are_of_kinds p.header.kinds (updated p k vs))
+  types = fire_types p k 1 (updated p k vs) (may_fire p costs judged k 1 (updated p k vs) declared (row_folded p costs judged lawful d ranged) (program_lawful p lawful).records.0)
+
+  -- the panes once the record is put in
+  abbrev pub now : Panes
+  now = entered (plan_of p) p.header.shape d es
+
+  module _ (chosen : selects p k vs ≡ true) where
+    abbrev e : Event
+    e = Record (Some k) t vs
+
+    abbrev q : Query
+    q = query_of p
+
+    abbrev in_kept : Place × List Datum → Place × Pane (List Value)
+    in_kept x = (x.0, pane_of (plan_of p) p.header.mode x.0.key (kept_in q past x).1)
+
+    -- they are those that are held with it
+    pub now_held : now ≡ summaries (plan_of p) p.header.mode (map (kept_in q past) (held q (e ∷ past)))
+    now_held =
+        turnless.entered-turnless (plan_of p) 0 (length past) k t vs p.header.shape es
+        ∙ entered-summaries (plan_of p) p.header.mode (plan_lawful p) p.header.shape (datum (length past) k t vs) (kept.kept q past)
+        ∙ ap (summaries (plan_of p) p.header.mode) (enters q (program_lawful p lawful).shape past k t vs taken chosen)
+
+    length_summed : (xs : List (Place × Kept)) → length (summaries (plan_of p) p.header.mode xs) ≡ length xs
+    length_summed xs = length_each (λ (x : Place × Kept). (x.0, pane_of (plan_of p) p.header.mode x.0.key x.1)) xs
+
+    pub now_within : length now ≤ most_panes q
+    now_within =
+        subst (λ n. n ≤ most_panes q) (sym (ap length now_held ∙ length_summed _ ∙ length_each (kept_in q past) (held q (e ∷ past))))
+        (held_bounded q (program_lawful p lawful).shape (clock_within p lawful) (e ∷ past))
+
+    of_key : length (filter (λ x. nat_eq x.0.key k) now) ≤ live_bound p.header.shape p.header.skew p.header.lateness
+    of_key =
+        subst (λ n. n ≤ live_bound p.header.shape p.header.skew p.header.lateness)
+        (sym (
+        ap (λ (xs : Panes). length (filter (λ x. nat_eq x.0.key k) xs)) now_held
+        ∙ ap length (where-summaries (plan_of p) p.header.mode (λ r. nat_eq r.key k) (map (kept_in q past) (held q (e ∷ past))))
+        ∙ length_summed _
+        ∙ ap length (filter-map (kept_in q past) (λ x. nat_eq x.0.key k) (held q (e ∷ past)))
+        ∙ length_each (kept_in q past) _
+        ))
+        (held_at_key q (program_lawful p lawful).shape (clock_within p lawful) (e ∷ past) k)
+
+    pub can_enter : (h : Held) → h.keys ≡ length p.header.schema.keys → h.shape ≡ p.header.shape → h.live ≡ live_bound p.header.shape p.header.skew p.header.lateness → entries_of h ≡ es
+        → CanEnter h p.header.kinds k t (updated p k vs)
+    can_enter h keys shape live is =
+        let with : with_entered p.header.kinds k t (updated p k vs) h ≡ now = (λ i. entered (taking p.header.kinds (updated p k vs)) (shape i) (datum 0 k t []) (is i)) ∙ entered_same p k t vs p.header.shape es in
+        record {
+          declared = subst (λ m. k < m) (sym keys) declared;
+          timely = timely;
+          few = (program_lawful p lawful).kinds;
+          types = types;
+          room = subst (λ xs. length xs ≤ h.keys * h.live) (sym with) (subst (λ m. length now ≤ m * h.live) (sym keys) (subst (λ m. length now ≤ length p.header.schema.keys * m) (sym live) now_within));
+          live = subst (λ xs. length (filter (λ x. nat_eq x.0.key k) xs) ≤ h.live) (sym with) (subst (λ m. length (filter (λ x. nat_eq x.0.key k) now) ≤ m) (sym live) of_key);
+          panes = subst (AllByRecursion (IsRoomy p.header.kinds (updated p k vs))) (sym is) roomy;
+          joins = λ gap session x y rest linked xs ys ex fy. joinable gap (sym shape ∙ session) x y rest (ap (linked_by gap) (sym is) ∙ linked) xs ys ex fy;
+        }
+      where
+        linked_by : ℤ → Panes → Panes
+        linked_by gap xs = linked gap d xs

@@ -1,6 +1,10 @@
-pub mod Bound
-pub mod Due
-pub mod Entering
-pub mod Keeping
 pub mod Turning
-pub mod Meaning
+pub mod Within
+pub mod Agreeing
+pub mod Limits
+pub mod Holding
+pub mod Entering
+pub mod Inside
+pub mod Firings
+pub mod Coming
+pub mod Acting

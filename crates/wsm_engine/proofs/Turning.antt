@@ -1,74 +1,256 @@
--- A turn by the answer to its event.
-use Rattle.std.proofs.Common.{◌≡◌, ◌+◌, ℕ, ℤ, List, [], Some, None, refl, sym, ap}
-use Rattle.std.specs.Prelude.{Ok, Result, filter_map, length, ◌-ℤ◌}
-use Rattle.std.proofs.lemmas.Option.{same_Some}
+-- A turn of what an engine keeps fits the history with its event, writes its rows and answers as the
+-- meaning does: the relation is read where its rows are written, and nowhere else.
+use Rattle.std.proofs.Common.{◌≡◌, ℕ, ◌+◌, ◌≤◌, List, [], ◌∷◌, map, length, ℤ, Option, Some, None, IsTrue, refl, sym, ap, subst, ◌∙◌, arith}
+use Rattle.std.specs.Prelude.{Ok, Err, Result, IsSome, filter_map, sum}
 use Rattle.wsm_record.specs.declared.event.Value.{Value}
+use Rattle.wsm_record.specs.declared.words.Form.{Form}
+use Rattle.wsm_record.specs.declared.words.Form.TheVariants as form
 use Rattle.wsm_record.specs.Event.{Event, Record, Watermark}
-use Rattle.wsm_windows.specs.Windows.{windows_of_shape}
-use Rattle.wsm_admission.specs.declared.clock.Clock.{Clock}
 use Rattle.wsm_admission.specs.declared.verdict.Admitted.{Admitted}
 use Rattle.wsm_admission.specs.declared.verdict.Admitted.TheVariants as admitted
 use Rattle.wsm_admission.specs.declared.verdict.Refusal.{Refusal}
+use Rattle.wsm_admission.specs.declared.verdict.Refusal.TheVariants as refusal
 use Rattle.wsm_admission.specs.Admission as admission
-use Rattle.wsm_admission.specs.Admission.{counter, after}
-use Rattle.wsm_record.specs.Schema.{Declared}
-use Rattle.wsm_windows.specs.declared.window.Shape.{Shape}
-use Rattle.wsm_semantics.specs.declared.place.Place.{Place}
+use Rattle.wsm_admission.specs.Admission.{answer, after}
 use Rattle.wsm_semantics.specs.declared.out_row.OutRow.{OutRow}
-use Rattle.wsm_panes.specs.declared.pane.Pane.{Pane}
-use Rattle.wsm_semantics.specs.Machine as machine
-use Rattle.wsm_engine.specs.Plan.{plan}
-use Rattle.wsm_engine.specs.Machine.{State, turn, answer_to, record_of, machine_of, with_machine}
+use Rattle.wsm_semantics.specs.Query.{mark, verdict_on}
+use Rattle.wsm_semantics.specs.declared.place.Place.{Place}
+use Rattle.wsm_semantics.specs.Panes.{held}
+use Rattle.wsm_semantics.specs.Kept as kept
+use Rattle.wsm_semantics.specs.Kept.{Kept}
+use Rattle.wsm_semantics.specs.Firings.{firings}
+use Rattle.wsm_semantics.specs.Relation.{turn_rows, relation}
+use Rattle.wsm_semantics.specs.Summaries.{Plan, Pane, Fired, pane_of, row_of, summary_fired}
+use Rattle.wsm_semantics.specs.Steps as steps
+use Rattle.wsm_semantics.specs.Steps.{answer_to, panes_after, fired_by, relation_after, streamed_by, chosen_rows, step, step_fires, step_rows}
+use Rattle.wsm_semantics.proofs.Lists.{length_each}
+use Rattle.wsm_semantics.proofs.Stepping.{decision-fits}
+use Rattle.wsm_semantics.proofs.Steps.{Fits-step, rows-step, fires-step}
+use Rattle.wsm_semantics.specs.Query.{Query}
+use Rattle.wsm_bytecode.specs.Program.{Program, is_program}
+use Rattle.wsm_verifier.proofs.Lawful.{lawful as program_lawful}
+use Rattle.wsm_machine.specs.Meaning.{query_of, plan_of, pane_cost, pane_cost_by, answer_cost}
+use Rattle.wsm_machine.proofs.Meaning.{plan_lawful, plan_runs}
+use Rattle.wsm_machine.proofs.Costs.{step_cost_is, fired_costs_are}
+use Rattle.wsm_panes.specs.Held.{entries_of}
+use Rattle.wsm_engine.specs.declared.runner.Runner.{Runner}
+use Rattle.wsm_engine.specs.Runner.{Comes}
+use Rattle.wsm_engine.specs.State.{State}
+use Rattle.wsm_firing.specs.declared.tally.Tally.{Tally}
+use Rattle.wsm_firing.specs.Tally.{greatest, tally_of}
+use Rattle.wsm_firing.specs.Streams.{relation_kept}
+use Rattle.wsm_engine.specs.Meaning.{reply_to, Fits, IsRefused, KeepsRelation}
+use Rattle.wsm_engine.specs.Turn.{turn, refusal_of, reply_by}
 
-abbrev state : Declared → Clock → Shape → admission.State → List (Place × Pane) → List OutRow → ℕ → ℕ → State
-state schema clock shape a panes rows fed fired = record { schema = schema; clock = clock; shape = shape; admission = a; panes = panes; rows = rows; fed = fed; fired = fired }
+-- ---- with another relation
 
-pub same_state : (schema : Declared) (clock : Clock) (shape : Shape) (a b : admission.State) (ps qs : List (Place × Pane)) (rs os : List OutRow) (m n i j : ℕ) → a ≡ b → ps ≡ qs → rs ≡ os → m ≡ n → i ≡ j →
-    state schema clock shape a ps rs m i ≡ state schema clock shape b qs os n j
-same_state schema clock shape a b ps qs rs os m n i j e f g h k = λ x. state schema clock shape (e x) (f x) (g x) (h x) (k x)
+module _ (p : Program) (s : steps.State (List Value)) (r : List (List Value)) where
+  abbrev plan : Plan (List Value)
+  plan = plan_of p
 
--- what is kept after an event that was answered so
-abbrev pub turn_by : Result Admitted Refusal → State → Event → State
-turn_by answer s e = with_machine s
-    (filter_map (machine.row_on_time plan) (machine.fired_by plan answer (machine_of s)))
-    (machine.acted plan s.shape answer e (record (machine_of s) { admission = after answer s.admission; fed = counter (s.fed + 1) }))
+  abbrev q : Query
+  q = query_of p
 
-pub turn_is : (s : State) (e : Event) (answer : Result Admitted Refusal) → answer ≡ answer_to s e → turn s e ≡ turn_by answer s e
-turn_is s e answer h = ap (λ (a : Result Admitted Refusal). turn_by a s e) (sym h)
+  -- the same state, of another relation
+  abbrev pub other : steps.State (List Value)
+  other = record s { relation = r }
 
-pub watermark_turn : (s : State) (e : Event) (old new : ℤ) → turn_by (Ok (admitted.Watermark old new)) s e ≡ record s {
-  admission = record (s.admission) { mark = new };
-  panes = machine.past_limit plan (new -ℤ s.admission.clock.lateness) s.panes;
-  rows = filter_map (machine.row_on_time plan) (machine.due plan old new s.panes);
-  fed = counter (s.fed + 1);
-  fired = counter (s.fired + length (machine.due plan old new s.panes));
-}
-watermark_turn s e old new = refl
+  pub panes_same : (a : Result Admitted Refusal) (e : Event) → panes_after (plan_of p) (query_of p) a e other ≡ panes_after (plan_of p) (query_of p) a e s
+  panes_same (Ok admitted.Record) (Record (Some k) t vs) = refl
+  panes_same (Ok admitted.Record) (Record None t vs) = refl
+  panes_same (Ok admitted.Record) (Watermark t) = refl
+  panes_same (Ok (admitted.Watermark old new)) e = refl
+  panes_same (Err x) e = refl
 
-record_from : List Value → ℕ × ℤ → Event
-record_from values p = Record (Some p.0) p.1 values
+  pub fired_same : (a : Result Admitted Refusal) (e : Event) → fired_by (plan_of p) (query_of p) a e other ≡ fired_by (plan_of p) (query_of p) a e s
+  fired_same (Ok admitted.Record) (Record (Some k) t vs) = refl
+  fired_same (Ok admitted.Record) (Record None t vs) = refl
+  fired_same (Ok admitted.Record) (Watermark t) = refl
+  fired_same (Ok (admitted.Watermark old new)) e = refl
+  fired_same (Err x) e = refl
 
--- an event with a key and a time is a record of them
-pub record_is : (e : Event) (key : ℕ) (time : ℤ) → record_of e ≡ Some (key, time) → (values : List Value) × (e ≡ Record (Some key) time values)
-unfolding record_from
-record_is (Record (Some k) t values) key time h = (values, ap (record_from values) (same_Some _ _ h))
-record_is (Record None t values) key time h = absurd (cc)
-record_is (Watermark t) key time h = absurd (cc)
+  -- the rows of a form, where its relation is the one that is kept
+  pub rows_same : (f : Form) (a : Result Admitted Refusal) (fired : List OutRow) → (KeepsRelation f → s.relation ≡ r) →
+      chosen_rows f fired (streamed_by (plan_of p) (query_of p) f a s) ≡ chosen_rows f fired (streamed_by (plan_of p) (query_of p) f a other)
+  rows_same form.Panes a fired h = refl
+  rows_same form.Istream a fired h = λ i. streamed_by (plan_of p) (query_of p) form.Istream a (record s { relation = h tt i })
+  rows_same form.Dstream a fired h = λ i. streamed_by (plan_of p) (query_of p) form.Dstream a (record s { relation = h tt i })
+  rows_same form.Rstream a fired h = λ i. streamed_by (plan_of p) (query_of p) form.Rstream a (record s { relation = h tt i })
 
--- any other, answered so, puts no record into a pane
-pub no_record_turn : (s : State) (e : Event) → record_of e ≡ None → turn_by (Ok admitted.Record) s e ≡ record s {
-  admission = record (s.admission) { admitted = s.admission.admitted + 1 };
-  rows = [];
-  fed = counter (s.fed + 1);
-}
-no_record_turn s (Record (Some key) time values) h = absurd (cc)
-no_record_turn s (Record None time values) h = refl
-no_record_turn s (Watermark time) h = refl
+  pub relation_same : (f : Form) (a : Result Admitted Refusal) (now : List (List Value)) → (KeepsRelation f → s.relation ≡ r) → relation_after (plan_of p) (query_of p) a other ≡ now →
+      KeepsRelation f → relation_kept f s.relation (relation_after (plan_of p) (query_of p) a s) ≡ now
+  relation_same form.Panes a now h is k = absurd k
+  relation_same form.Istream a now h is k = (λ i. relation_after (plan_of p) (query_of p) a (record s { relation = h tt i })) ∙ is
+  relation_same form.Dstream a now h is k = (λ i. relation_after (plan_of p) (query_of p) a (record s { relation = h tt i })) ∙ is
+  relation_same form.Rstream a now h is k = (λ i. relation_after (plan_of p) (query_of p) a (record s { relation = h tt i })) ∙ is
 
-pub record_turn : (s : State) (key : ℕ) (time : ℤ) (values : List Value) → turn_by (Ok admitted.Record) s (Record (Some key) time values) ≡ record s {
-  admission = record (s.admission) { admitted = s.admission.admitted + 1 };
-  panes = machine.entered plan key values (windows_of_shape s.shape time) s.panes;
-  rows = [];
-  fed = counter (s.fed + 1);
-}
-record_turn s key time values = refl
+-- ---- the turn
+
+module _ (s : State) (whole : IsTrue (is_program s.program)) (past : List Event) (fits : Fits s past) where
+  abbrev was : List (List Value)
+  was = relation (query_of s.program) past
+
+  abbrev told : steps.State (List Value)
+  told = record s.machine { relation = relation (query_of s.program) past }
+
+  -- what is kept, with the relation of the history
+  pub told_fits : steps.Fits (plan_of s.program) (query_of s.program) told past
+  told_fits = record { clock = fits.clock; admission = fits.admission; panes = fits.panes; relation = refl; fed = fits.fed; fired = fits.fired }
+
+  module _ (e : Event) where
+    abbrev answered : Result Admitted Refusal
+    answered = answer_to (plan_of s.program) (query_of s.program) s.machine e
+
+    next : steps.Fits (plan_of s.program) (query_of s.program) (step (plan_of s.program) (query_of s.program) told e) (e ∷ past)
+    next = let is = program_lawful s.program whole in Fits-step (plan_of s.program) (plan_lawful s.program) (query_of s.program) (plan_runs s.program) is.shape is.lateness.low told e past told_fits
+
+    pub turn_fits : Fits (turn s e) (e ∷ past)
+    turn_fits = record {
+      clock = next.clock;
+      admission = next.admission;
+      panes = sym (panes_same s.program s.machine was answered e) ∙ next.panes;
+      relation = relation_same s.program s.machine was s.program.header.form answered (relation (query_of s.program) (e ∷ past)) fits.relation next.relation;
+      fed = next.fed;
+      fired = (λ i. admission.counter (s.machine.fired + length (sym (fired_same s.program s.machine was answered e) i))) ∙ next.fired;
+    }
+
+    pub turn_writes : (turn s e).rows ≡ turn_rows (query_of s.program) past e
+    turn_writes =
+        (λ i. chosen_rows s.program.header.form (filter_map (row_of (plan_of s.program)) (sym (fired_same s.program s.machine was answered e) i)) (streamed_by (plan_of s.program) (query_of s.program) s.program.header.form answered s.machine))
+        ∙ rows_same s.program s.machine was s.program.header.form answered _ fits.relation
+        ∙ (let is = program_lawful s.program whole in rows-step (plan_of s.program) (plan_lawful s.program) (query_of s.program) (plan_runs s.program) is.shape is.lateness.low told e past told_fits)
+
+    told_reply : (m : ℤ) (e : Event) (v : Option Refusal) → refusal_of (answer m e v) ≡ v
+    told_reply m (Record key time values) None = refl
+    told_reply m (Watermark time) None = refl
+    told_reply m e (Some r) = refl
+
+    turn_refuses : (reply_by s e).refusal ≡ verdict_on (query_of s.program) past e
+    turn_refuses =
+        ap refusal_of (decision-fits (query_of s.program) s.machine.admission past e fits.clock fits.admission)
+        ∙ told_reply (mark (query_of s.program) past) e (verdict_on (query_of s.program) past e)
+
+    -- its firings with their costs
+    same_firings : step_fires (plan_of s.program) (query_of s.program) s.machine e ≡ step_fires (plan_of s.program) (query_of s.program) told e
+    same_firings = sym (fired_same s.program s.machine was answered e)
+
+    turn_fires : (reply_by s e).fired ≡ length (firings (query_of s.program) past e)
+    turn_fires =
+        let is = program_lawful s.program whole in
+        ap length (same_firings ∙ fires-step (plan_of s.program) (plan_lawful s.program) (query_of s.program) (plan_runs s.program) is.shape is.lateness.low told e past told_fits)
+        ∙ length_each (summary_fired (plan_of s.program)) (firings (query_of s.program) past e)
+
+    turn_costs : map (pane_cost_by s.program) (step_fires (plan_of s.program) (query_of s.program) s.machine e) ≡ map (pane_cost s.program) (firings (query_of s.program) past e)
+    turn_costs = ap (map (pane_cost_by s.program)) same_firings ∙ fired_costs_are s.program whole told e past told_fits
+
+    same_cost : (a : Result Admitted Refusal) (e : Event) → answer_cost s.program a e s.machine ≡ answer_cost s.program a e told
+    same_cost (Ok admitted.Record) (Record (Some k) t vs) = refl
+    same_cost (Ok admitted.Record) (Record None t vs) = refl
+    same_cost (Ok admitted.Record) (Watermark t) = refl
+    same_cost (Ok (admitted.Watermark old new)) e = refl
+    same_cost (Err x) e = refl
+
+    pub turn_replies : reply_by s e ≡ reply_to s.program past e
+    turn_replies = λ i. record {
+      refusal = turn_refuses i;
+      record_steps = (same_cost answered e ∙ step_cost_is s.program whole told e past told_fits) i;
+      fired = turn_fires i;
+      pane_steps_max = greatest (turn_costs i);
+      pane_steps_total = sum (turn_costs i);
+    }
+
+-- ---- a refused event changes counters alone
+
+refused_after : (s : admission.State) (r : Refusal) → ((after (Err r) s).mark ≡ s.mark) × ((after (Err r) s).admitted ≡ s.admitted)
+refused_after s refusal.Late = (refl, refl)
+refused_after s _ = (refl, refl)
+
+no_rows : (p : Program) (s : steps.State (List Value)) (r : Refusal) (e : Event) (f : Form) → chosen_rows f [] (streamed_by (plan_of p) (query_of p) f (Err r) s) ≡ []
+no_rows p s r e form.Panes = refl
+no_rows p s r e form.Istream = refl
+no_rows p s r e form.Dstream = refl
+no_rows p s r e form.Rstream = refl
+
+as_before : (f : Form) (r : List (List Value)) → relation_kept f r r ≡ r
+as_before form.Panes r = refl
+as_before form.Istream r = refl
+as_before form.Dstream r = refl
+as_before form.Rstream r = refl
+
+stays : (n : ℕ) → n ≤ 18446744073709551615 → admission.counter (n + 0) ≡ n
+stays n h = omega (arith, h)
+
+pub refused_turn : (s : State) → s.machine.fired ≤ 18446744073709551615 → (e : Event) → IsSome (reply_by s e).refusal → IsRefused s (turn s e)
+refused_turn s few e some = by_answer (answer_to (plan_of s.program) (query_of s.program) s.machine e) refl some
+  where
+    by_answer : (a : Result Admitted Refusal) → a ≡ answer_to (plan_of s.program) (query_of s.program) s.machine e → IsSome (refusal_of a) → IsRefused s (turn s e)
+    by_answer (Ok a) is some = absurd (cc)
+    by_answer (Err r) is some = record {
+      panes = λ i. panes_after (plan_of s.program) (query_of s.program) (sym is i) e s.machine;
+      relation = (λ i. relation_kept s.program.header.form s.machine.relation (relation_after (plan_of s.program) (query_of s.program) (sym is i) s.machine)) ∙ as_before s.program.header.form s.machine.relation;
+      rows = (λ i. chosen_rows s.program.header.form (filter_map (row_of (plan_of s.program)) (fired_by (plan_of s.program) (query_of s.program) (sym is i) e s.machine)) (streamed_by (plan_of s.program) (query_of s.program) s.program.header.form (sym is i) s.machine))
+          ∙ no_rows s.program s.machine r e s.program.header.form;
+      mark = (λ i. (after (sym is i) s.machine.admission).mark) ∙ (refused_after s.machine.admission r).0;
+      admitted = (λ i. (after (sym is i) s.machine.admission).admitted) ∙ (refused_after s.machine.admission r).1;
+      fired = (λ i. admission.counter (s.machine.fired + length (fired_by (plan_of s.program) (query_of s.program) (sym is i) e s.machine))) ∙ stays s.machine.fired few;
+    }
+
+-- ---- the turn by the answer
+
+-- what is kept after an answer is what is kept after the turn
+pub turned_is : (s : State) (e : Event) (a : Result Admitted Refusal) → a ≡ answer_to (plan_of s.program) (query_of s.program) s.machine e →
+    (kept : admission.State) (panes : List (Place × Pane (List Value))) (related : List (List Value)) (fed fired : ℕ) (rows : List OutRow) →
+    kept ≡ after a s.machine.admission → panes ≡ panes_after (plan_of s.program) (query_of s.program) a e s.machine
+    → related ≡ relation_kept s.program.header.form s.machine.relation (relation_after (plan_of s.program) (query_of s.program) a s.machine)
+    → fed ≡ admission.counter (s.machine.fed + 1) → fired ≡ admission.counter (s.machine.fired + length (fired_by (plan_of s.program) (query_of s.program) a e s.machine))
+    → rows ≡ chosen_rows s.program.header.form (filter_map (row_of (plan_of s.program)) (fired_by (plan_of s.program) (query_of s.program) a e s.machine)) (streamed_by (plan_of s.program) (query_of s.program) s.program.header.form a s.machine)
+    → record { program = s.program; machine = record { admission = kept; panes = panes; relation = related; fed = fed; fired = fired }; rows = rows } ≡ turn s e
+turned_is s e a is kept panes related fed fired rows hk hp hr hf hn ho =
+    (λ i. record { program = s.program; machine = record { admission = hk i; panes = hp i; relation = hr i; fed = hf i; fired = hn i }; rows = ho i })
+    ∙ (λ i. record {
+      program = s.program;
+      machine = record {
+        admission = after (is i) s.machine.admission;
+        panes = panes_after (plan_of s.program) (query_of s.program) (is i) e s.machine;
+        relation = relation_kept s.program.header.form s.machine.relation (relation_after (plan_of s.program) (query_of s.program) (is i) s.machine);
+        fed = admission.counter (s.machine.fed + 1);
+        fired = admission.counter (s.machine.fired + length (fired_by (plan_of s.program) (query_of s.program) (is i) e s.machine));
+      };
+      rows = chosen_rows s.program.header.form (filter_map (row_of (plan_of s.program)) (fired_by (plan_of s.program) (query_of s.program) (is i) e s.machine)) (streamed_by (plan_of s.program) (query_of s.program) s.program.header.form (is i) s.machine);
+    })
+
+-- an event comes to the runner of an engine that fits a history
+pub comes_of : (s : State) (past : List Event) → Fits s past → (r : Runner) → entries_of r.held ≡ s.machine.panes → (m : ℤ) → m ≡ s.machine.admission.mark → (a : Result Admitted Refusal) (e : Event)
+    → a ≡ answer_to (plan_of s.program) (query_of s.program) s.machine e → Comes s.program past r m a e
+comes_of s past fits r held m is a e answered =
+    let here : m ≡ mark (query_of s.program) past = is ∙ fits.admission.mark ∙ ap (λ c. mark (record (query_of s.program) { clock = c }) past) fits.clock in
+    record {
+      marked = here;
+      answered = answered ∙ decision-fits (query_of s.program) s.machine.admission past e fits.clock fits.admission ∙ ap (λ (n : ℤ). answer n e (verdict_on (query_of s.program) past e)) (sym here);
+      panes = held ∙ fits.panes;
+    }
+
+-- as many panes are held as the definition says
+pub held_is : (s : State) (past : List Event) → Fits s past → length s.machine.panes ≡ length (held (query_of s.program) past)
+held_is s past fits =
+    ap length fits.panes
+    ∙ length_each (λ (e : Place × Kept). (e.0, pane_of (plan_of s.program) s.program.header.mode e.0.key e.1)) (kept.kept (query_of s.program) past)
+    ∙ length_each (kept.kept_in (query_of s.program) past) (held (query_of s.program) past)
+
+-- what is answered after an answer is the reply of the turn
+pub replied_is : (s : State) (e : Event) (a : Result Admitted Refusal) → a ≡ answer_to (plan_of s.program) (query_of s.program) s.machine e →
+    (refused : Option Refusal) (cost : ℕ) (t : Tally) → refused ≡ refusal_of a → cost ≡ answer_cost s.program a e s.machine → t ≡ tally_of s.program (fired_by (plan_of s.program) (query_of s.program) a e s.machine)
+    → record { refusal = refused; record_steps = cost; fired = t.fired; pane_steps_max = t.steps_max; pane_steps_total = t.steps_total } ≡ reply_by s e
+replied_is s e a is refused cost t hr hc ht =
+    (λ i. record { refusal = hr i; record_steps = hc i; fired = (ht i).fired; pane_steps_max = (ht i).steps_max; pane_steps_total = (ht i).steps_total })
+    ∙ (λ i. let fs = fired_by (plan_of s.program) (query_of s.program) (is i) e s.machine in record {
+      refusal = refusal_of (is i);
+      record_steps = answer_cost s.program (is i) e s.machine;
+      fired = length fs;
+      pane_steps_max = greatest (map (pane_cost_by s.program) fs);
+      pane_steps_total = sum (map (pane_cost_by s.program) fs);
+    })
+
+-- the count of firings has 64 bits
+pub fired_few : (s : State) (past : List Event) → Fits s past → s.machine.fired ≤ 18446744073709551615
+fired_few s past fits = subst (λ n. n ≤ 18446744073709551615) (sym fits.fired) (omega arith)

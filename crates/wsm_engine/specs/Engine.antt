@@ -1,15 +1,20 @@
 -- What an engine's fields come to, and what is true of them.
-use Rattle.std.specs.Prelude.{◌≡◌, ◌≤◌, vec_capacity}
-use Rattle.std.specs.FinMap as map
+use Rattle.std.specs.Prelude.{List}
+use Rattle.wsm_record.specs.Event.{Event}
+use Rattle.wsm_panes.specs.Held.{entries_of}
 use Rattle.wsm_engine.specs.declared.engine.Engine.TheInside.{Inside}
-use Rattle.wsm_engine.specs.Machine.{State, room_of}
-use Rattle.wsm_engine.specs.Held.{IsKept}
+use Rattle.wsm_engine.specs.State.{State}
+use Rattle.wsm_engine.specs.Meaning.{Fits}
+use Rattle.wsm_engine.specs.Runner.{IsOf}
 
 abbrev pub state_of : Inside → State
-state_of a = record { schema = a.schema; clock = a.clock; shape = a.shape; admission = a.admission; panes = map.entries a.table.panes; rows = a.rows.items; fed = a.fed; fired = a.fired }
+state_of a = record {
+  program = a.verified;
+  machine = record { admission = a.admission; panes = entries_of a.runner.held; relation = a.runner.streams.relation; fed = a.fed; fired = a.fired };
+  rows = a.runner.rows.items;
+}
 
--- what is kept is within its limits, and there is room for as many panes and rows as can be held
+-- the runner is the program's, and what is kept is some history's
 pub record IsSound (a : Inside) : Type 0 where
-  pub kept : IsKept (state_of a)
-  pub room : a.table.room ≡ room_of (state_of a)
-  pub rows : a.table.room ≤ vec_capacity a.rows
+  pub runner : IsOf a.verified a.runner
+  pub history : (past : List Event) × Fits (state_of a) past

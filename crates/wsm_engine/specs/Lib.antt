@@ -1,5 +1,5 @@
-pub mod Plan
-pub mod Machine
-pub mod Held
-pub mod Engine
+pub mod State
 pub mod Meaning
+pub mod Turn
+pub mod Runner
+pub mod Engine

@@ -1,24 +1,32 @@
--- What an engine means: the query that it runs, and how it fits a history.
-use Rattle.std.specs.Prelude.{List, length}
+-- What an engine means: how it fits a history, and what it answers to the next event.
+use Rattle.std.specs.Prelude.{◌≡◌, List, [], map, length, sum}
+use Rattle.wsm_record.specs.declared.words.Form.{Form}
+use Rattle.wsm_record.specs.declared.words.Form.TheVariants as form
 use Rattle.wsm_record.specs.Event.{Event}
-use Rattle.wsm_windows.specs.Windows.{size_of}
 use Rattle.wsm_admission.specs.Clock.{admitted_count, late_count, refused_count}
+use Rattle.wsm_admission.specs.Admission as admission
 use Rattle.wsm_admission.specs.Admission.{counter}
-use Rattle.wsm_semantics.specs.Query.{Query}
-use Rattle.wsm_semantics.specs.Firings.{firings_so_far}
-use Rattle.wsm_semantics.specs.Counting.{count_query}
-use Rattle.wsm_semantics.specs.Machine as machine
+use Rattle.wsm_semantics.specs.Query.{Query, verdict_on}
+use Rattle.wsm_semantics.specs.Firings.{firings, firings_so_far}
+use Rattle.wsm_semantics.specs.Relation.{relation}
+use Rattle.wsm_semantics.specs.Kept.{kept}
+use Rattle.wsm_semantics.specs.Summaries.{summaries}
+use Rattle.wsm_bytecode.specs.Program.{Program}
+use Rattle.wsm_machine.specs.Meaning.{query_of, plan_of, record_cost, pane_cost}
+use Rattle.wsm_firing.specs.Tally.{greatest}
+use Rattle.wsm_engine.specs.declared.reply.Reply.{Reply}
 use Rattle.wsm_engine.specs.declared.reply.Totals.{Totals}
-use Rattle.wsm_engine.specs.Plan.{summary}
-use Rattle.wsm_engine.specs.Machine.{State, machine_of}
+use Rattle.wsm_engine.specs.State.{State}
 
--- the query that is run
-abbrev pub query_of : State → Query
-query_of s = count_query s.schema s.clock (size_of s.shape)
-
--- what is kept is the history's
-abbrev pub Fits : State → List Event → Type 0
-Fits s past = machine.Fits summary (query_of s) (machine_of s) past
+-- the reply of a program to an event after a history
+abbrev pub reply_to : Program → List Event → Event → Reply
+reply_to p past e = let q = query_of p in let costs = map (pane_cost p) (firings q past e) in record {
+  refusal = verdict_on q past e;
+  record_steps = record_cost p past e;
+  fired = length (firings q past e);
+  pane_steps_max = greatest costs;
+  pane_steps_total = sum costs;
+}
 
 -- what the events of a history come to
 abbrev pub totals_of : Query → List Event → Totals
@@ -29,3 +37,26 @@ totals_of q past = record {
   refused = counter (refused_count q.clock q.declared past);
   panes = counter (length (firings_so_far q past));
 }
+
+-- the form writes the rows of a relation, and not those of the panes that fire
+abbrev pub KeepsRelation : Form → Type 0
+KeepsRelation form.Panes = ⊥
+KeepsRelation _ = Unit {0}
+
+-- what is kept is the history's; a relation is kept where its rows are written
+pub record Fits (s : State) (past : List Event) : Type 0 where
+  pub clock : s.machine.admission.clock ≡ (query_of s.program).clock
+  pub admission : admission.Fits (query_of s.program).declared s.machine.admission past
+  pub panes : s.machine.panes ≡ summaries (plan_of s.program) (query_of s.program).mode (kept (query_of s.program) past)
+  pub relation : KeepsRelation (query_of s.program).form → s.machine.relation ≡ relation (query_of s.program) past
+  pub fed : s.machine.fed ≡ counter (length past)
+  pub fired : s.machine.fired ≡ counter (length (firings_so_far (query_of s.program) past))
+
+-- a refused event changes counters alone, and writes no row
+pub record IsRefused (old new : State) : Type 0 where
+  pub panes : new.machine.panes ≡ old.machine.panes
+  pub relation : new.machine.relation ≡ old.machine.relation
+  pub rows : new.rows ≡ []
+  pub mark : new.machine.admission.mark ≡ old.machine.admission.mark
+  pub admitted : new.machine.admission.admitted ≡ old.machine.admission.admitted
+  pub fired : new.machine.fired ≡ old.machine.fired

@@ -1,45 +1,39 @@
-//! The engine of a query that counts the records of each key and fixed window.
+//! The engine of a verified program.
 
-ghost use Rattle.std.specs.Prelude.{◌≡◌, ◌≤◌, ◌*◌, List, [], ◌∷◌, pos, length, IfOk, IsSome};
+ghost use Rattle.std.specs.Prelude.{◌≡◌, ◌≤◌, List, [], ◌∷◌, length, Ok, IfOk, IfErr, IsSome, IsTrue};
 ghost use Rattle.wsm_record.specs.Event.{Event as AnyEvent, event_of};
-ghost use Rattle.wsm_windows.specs.declared.window.Shape.TheVariants.{Fixed};
-ghost use Rattle.wsm_windows.specs.Windows.{IsShape};
-ghost use Rattle.wsm_windows.specs.Life as life;
-ghost use Rattle.wsm_admission.specs.Clock.{IsWithinLimits};
-ghost use Rattle.wsm_semantics.specs.Query.{verdict_on};
 ghost use Rattle.wsm_semantics.specs.Panes.{held};
-ghost use Rattle.wsm_semantics.specs.Firings.{firings};
 ghost use Rattle.wsm_semantics.specs.Relation.{turn_rows};
-ghost use Rattle.wsm_semantics.specs.Counting.{count_query};
-ghost use Rattle.wsm_engine.specs.Machine.{opened, turn, reply_to, room_of, record_of as spec_record_of, IsRefused};
-ghost use Rattle.wsm_engine.specs.Held.{IsKept};
-ghost use Rattle.wsm_engine.specs.Meaning.{query_of, Fits, totals_of};
+ghost use Rattle.wsm_bytecode.specs.Program.{is_program};
+ghost use Rattle.wsm_bytecode.specs.View.{header_of};
+ghost use Rattle.wsm_verifier.specs.Costs.{needed};
+ghost use Rattle.wsm_verifier.specs.Rules.{judge};
+ghost use Rattle.wsm_machine.specs.Meaning.{clock_of, query_of};
+ghost use Rattle.wsm_engine.specs.Meaning.{Fits, reply_to, totals_of, IsRefused};
+ghost use Rattle.wsm_engine.specs.Turn.{turn, reply_by, refusal_of as spec_refusal_of};
 
-use crate::panes::{advance, enter_all};
 use crate::reply::{Reply, Totals};
-use std::alloc::{AllocError, Global};
+use crate::runner::Runner;
+use std::alloc::Global;
 use std::marker::Model;
-use wsm_admission::{Admission, Admitted, Clock};
-use wsm_panes::{ListTable, PaneTable};
+use wsm_admission::{Admission, Admitted, Clock, Refusal};
+use wsm_bytecode::{Header, Program};
 use wsm_record::{Event, Schema};
 use wsm_semantics::OutRow;
-use wsm_windows::{Shape, live_bound, windows_of};
+use wsm_verifier::Verified;
 
-/// What is kept of a stream, and the rows of the last event.
+/// A verified program, what is kept of the events, and the rows of the last one.
 #[derive(Drop)]
 pub struct Engine {
-    schema: Schema,
-    clock: Clock,
-    shape: Shape,
+    verified: Verified,
     admission: Admission,
-    table: ListTable,
-    rows: Vec<OutRow>,
+    runner: Runner,
     fed: u64,
     fired: u64,
 }
 
 impl Model for Engine {
-    ghost use Rattle.wsm_engine.specs.Machine.{State};
+    ghost use Rattle.wsm_engine.specs.State.{State};
 
     ghost Value = { State };
 
@@ -50,52 +44,49 @@ impl Model for Engine {
     ghost invariant = { IsSound };
 }
 
+/// Why an engine wasn't opened.
+#[derive(Drop)]
+pub enum OpenRefusal {
+    /// There was no memory. The program is handed back.
+    Memory(Verified),
+}
+
 impl Engine {
-    /// Opens the engine of a query that counts the records of each key and fixed window of a size,
-    /// which is in event time, and reserves all room.
+    /// Opens the engine of a program, and reserves all room. No later call takes memory.
     ///
     /// # Errors
     ///
     /// Where there is no memory for the room.
-    pub fn open_count(
-        alloc: Global,
-        schema: Schema,
-        clock: Clock,
-        size: i64,
-    ) -> Result<Engine, AllocError>
-        requires clock { IsWithinLimits clock }
-        requires lateness { clock.lateness ≡ pos 0 }
-        requires size { IsShape (Fixed size) }
-        requires room { length schema.keys * life.live_bound (Fixed size) clock.skew clock.lateness ≤ 100000 }
-        ensures opened { IfOk result (λ e. e ≡ opened schema clock (Fixed size)) }
-        ensures query { IfOk result (λ e. query_of e ≡ count_query schema clock size) }
+    pub fn open(alloc: Global, verified: Verified) -> Result<Engine, OpenRefusal>
+        ensures program { IfOk result (λ e. e.program ≡ verified) }
         ensures fits { IfOk result (λ e. Fits e []) }
+        ensures rows { IfOk result (λ e. e.rows ≡ []) }
+        ensures handed_back { IfErr result (λ r. r ≡ OpenRefusal.Memory verified) }
     {
-        let shape = Shape::Fixed(size);
-        let live = live_bound(shape, clock.skew, clock.lateness);
-        let room = schema.key_count() * live as usize;
+        let Ok(runner) = Runner::open(alloc, &verified) else {
+            return Err(OpenRefusal::Memory(verified));
+        };
+        let admission = Admission::new(clock(verified.program()));
         Ok(Engine {
-            schema,
-            clock,
-            shape,
-            admission: Admission::new(clock),
-            table: ListTable::open(alloc, room)?,
-            rows: Vec::with_capacity(alloc, room)?,
+            verified,
+            admission,
+            runner,
             fed: 0,
             fired: 0,
         })
     }
 
-    /// Takes the next event: decides on it, puts a record into its panes, and fires the panes that a
-    /// watermark comes to. The rows of the last event are gone. It takes no memory.
+    /// Takes the next event: decides on it, puts a selected record into its panes, and fires the panes
+    /// that its triggers or a watermark call for. The rows of the last event are gone. It takes no
+    /// memory.
     pub fn feed(&mut self, event: &Event) -> Reply
-        ensures query { query_of self.new ≡ query_of self.old }
+        ensures program { self.new.program ≡ self.old.program }
         ensures fits { (past : List AnyEvent) → Fits self.old past → Fits self.new (event_of event.now ∷ past) }
-        ensures refusal { (past : List AnyEvent) → Fits self.old past → result.refusal ≡ verdict_on (query_of self.old) past (event_of event.now) }
-        ensures rows { (past : List AnyEvent) → Fits self.old past → self.new.rows ≡ turn_rows (query_of self.old) past (event_of event.now) }
-        ensures fired { (past : List AnyEvent) → Fits self.old past → result.fired ≡ length (firings (query_of self.old) past (event_of event.now)) }
+        ensures reply { (past : List AnyEvent) → Fits self.old past → result ≡ reply_to self.old.program past (event_of event.now) }
+        ensures rows { (past : List AnyEvent) → Fits self.old past → self.new.rows ≡ turn_rows (query_of self.old.program) past (event_of event.now) }
         ensures refused { IsSome result.refusal → IsRefused self.old self.new }
-        ensures reply { result ≡ reply_to self.old (event_of event.now) }
+        ensures record_within { result.record_steps ≤ self.old.program.header.budget.per_record }
+        ensures pane_within { result.pane_steps_max ≤ self.old.program.header.budget.per_pane }
     {
         self.turn(event)
     }
@@ -104,27 +95,34 @@ impl Engine {
     pub fn rows(&self) -> &[OutRow]
         ensures { result.now ≡ self.now.rows }
     {
-        &self.rows
+        &self.runner.rows
     }
 
     /// How many panes are held.
     pub fn held(&self) -> usize
-        ensures held { (past : List AnyEvent) → Fits self.now past → result ≡ length (held (query_of self.now) past) }
-        ensures within { result ≤ room_of self.now }
+        ensures held { (past : List AnyEvent) → Fits self.now past → result ≡ length (held (query_of self.now.program) past) }
+        ensures within { result ≤ self.now.program.header.budget.held }
     {
-        self.table.len()
+        self.runner.held.len()
     }
 
-    /// What the query declares of its records.
-    pub fn schema(&self) -> &Schema
-        ensures { result.now ≡ self.now.schema }
+    /// The program that is run.
+    pub fn program(&self) -> &Program
+        ensures { result.now ≡ self.now.program }
     {
-        &self.schema
+        self.verified.program()
+    }
+
+    /// What the program declares of its records.
+    pub fn schema(&self) -> &Schema
+        ensures { result.now ≡ self.now.program.header.schema }
+    {
+        &self.verified.program().header().schema
     }
 
     /// What all events so far come to.
     pub fn totals(&self) -> Totals
-        ensures { (past : List AnyEvent) → Fits self.now past → result ≡ totals_of (query_of self.now) past }
+        ensures { (past : List AnyEvent) → Fits self.now past → result ≡ totals_of (query_of self.now.program) past }
     {
         Totals {
             rows: self.fed,
@@ -137,36 +135,47 @@ impl Engine {
 
     // The turn of an event, as a step of the machine that keeps a summary for each held pane.
     fn turn(&mut self, event: &Event) -> Reply
-        ensures kept { IsKept self.old }
+        ensures judged { judge self.old.program ≡ Ok (needed self.old.program) }
+        ensures lawful { IsTrue (is_program self.old.program) }
+        ensures history { (past : List AnyEvent) × Fits self.old past }
         ensures state { self.new ≡ turn self.old (event_of event.now) }
-        ensures reply { result ≡ reply_to self.old (event_of event.now) }
+        ensures reply { result ≡ reply_by self.old (event_of event.now) }
     {
-        self.rows.clear();
+        let mark = self.admission.mark();
+        let schema = &self.verified.program().header().schema;
+        let answer = self.admission.decide(schema, event);
+        let done = self.runner.act(&self.verified, mark, answer, event);
         self.fed = self.fed.saturating_add(1);
-        match self.admission.decide(&self.schema, event) {
-            Err(refusal) => Reply::of_refusal(refusal),
-            Ok(Admitted::Record) => {
-                if let Some((key, time)) = record_of(event) {
-                    enter_all(&mut self.table, key, windows_of(self.shape, time));
-                }
-                Reply::of_firings(0)
-            }
-            Ok(Admitted::Watermark { old, new }) => {
-                let lateness = self.clock.lateness;
-                let fired = advance(&mut self.table, &mut self.rows, old, new, lateness);
-                self.fired = self.fired.saturating_add(fired);
-                Reply::of_firings(fired)
-            }
+        self.fired = self.fired.saturating_add(done.tally.fired);
+        Reply {
+            refusal: refusal_of(answer),
+            record_steps: done.record_steps,
+            fired: done.tally.fired,
+            pane_steps_max: done.tally.steps_max,
+            pane_steps_total: done.tally.steps_total,
         }
     }
 }
 
-// The key and time of a record of a key.
-fn record_of(event: &Event) -> Option<(u16, i64)>
-    ensures { result ≡ spec_record_of (event_of event.now) }
+// The clock of a program.
+fn clock(program: &Program) -> Clock
+    ensures { result ≡ clock_of program.now.header }
 {
-    match event {
-        Event::Record { key, time, .. } => key.map(|key| (key, *time)),
-        Event::Watermark(_) => None,
+    let header = program.header();
+    Clock {
+        start: header.start,
+        skew: header.skew,
+        lateness: header.lateness,
+        records: header.records.unsigned_abs(),
+    }
+}
+
+// The refusal, if the answer is one.
+fn refusal_of(answer: Result<Admitted, Refusal>) -> Option<Refusal>
+    ensures { result ≡ spec_refusal_of answer }
+{
+    match answer {
+        Ok(_) => None,
+        Err(refusal) => Some(refusal),
     }
 }

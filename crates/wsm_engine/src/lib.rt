@@ -1,17 +1,14 @@
-//! The engine: one turn of a query, from an event to the rows that it writes.
+//! The engine: the turns of a verified program, from an event to the rows that it writes.
 //!
-//! An [`Engine`] keeps the watermark, the counts and the panes that are held. [`Engine::feed`] takes
-//! an event, decides on it, puts an admitted record into the pane of each of its windows, and fires
-//! the panes that an accepted watermark comes to. All room is reserved by [`Engine::open_count`], so
-//! no later call takes memory.
+//! An [`Engine`] keeps the watermark, the counts, the panes that are held and, where a stream of the
+//! relation is written, the relation. [`Engine::feed`] takes an event, decides on it, puts a selected
+//! record into the pane of each of its windows, and fires the panes that its triggers or an accepted
+//! watermark call for. All room is reserved by [`Engine::open`], so no later call takes memory.
 #![tactic(auto)]
 
-pub use engine::Engine;
+pub use engine::{Engine, OpenRefusal};
 pub use reply::{Reply, Totals};
 
 mod engine;
-mod panes;
-mod plan;
 mod reply;
-#[cfg(test)]
-mod tests;
+mod runner;

@@ -1,7 +1,5 @@
 //! What a turn answers, and what all turns so far come to.
 
-ghost use Rattle.std.specs.Prelude.{◌≡◌, Some, None};
-
 use wsm_admission::Refusal;
 
 /// What a turn answers.
@@ -9,7 +7,7 @@ use wsm_admission::Refusal;
 pub struct Reply {
     /// Why the event wasn't taken, if it wasn't.
     pub refusal: Option<Refusal>,
-    /// How many instructions the record took.
+    /// How many instructions the record took, and a step for each accumulator of two joined sessions.
     pub record_steps: u64,
     /// How many panes fired.
     pub fired: u64,
@@ -17,32 +15,6 @@ pub struct Reply {
     pub pane_steps_max: u64,
     /// How many instructions all panes took to fire.
     pub pane_steps_total: u64,
-}
-
-impl Reply {
-    pub(crate) fn of_refusal(refusal: Refusal) -> Reply
-        ensures { result ≡ record { refusal = Some refusal; record_steps = 0; fired = 0; pane_steps_max = 0; pane_steps_total = 0 } }
-    {
-        Reply {
-            refusal: Some(refusal),
-            record_steps: 0,
-            fired: 0,
-            pane_steps_max: 0,
-            pane_steps_total: 0,
-        }
-    }
-
-    pub(crate) fn of_firings(fired: u64) -> Reply
-        ensures { result ≡ record { refusal = None; record_steps = 0; fired = fired; pane_steps_max = 0; pane_steps_total = 0 } }
-    {
-        Reply {
-            refusal: None,
-            record_steps: 0,
-            fired,
-            pane_steps_max: 0,
-            pane_steps_total: 0,
-        }
-    }
 }
 
 /// What all turns so far come to. A number stays at the greatest `u64` once it has come to it.

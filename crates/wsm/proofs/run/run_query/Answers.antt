@@ -1,25 +1,47 @@
-use Rattle.std.proofs.Common.{[]}
-use Rattle.std.proofs.lemmas.Result.{err_from_is_err_and}
-use Rattle.wsm.proofs.Texts.{AreFirst-none, TakesPart-none}
-use Rattle.wsm.proofs.Ending.{Ends-refused}
+use Rattle.std.proofs.Common.{◌≡◌, ◌∙◌, true, List, Err, subst, sym, ap}
+use Rattle.std.specs.Prelude.{IfErr, IfOk, is_ok}
+use Rattle.std.proofs.lemmas.Result.{err_from_is_err_and, IfOk-weaker, IfErr-weaker}
+use Rattle.wsm_engine.specs.declared.reply.Totals.{Totals}
+use Rattle.wsm_bytecode.specs.Program.{Program}
+use Rattle.wsm_verifier.specs.Rules.{judge}
+use Rattle.wsm_compiler.specs.Program.{program_of}
+use Rattle.wsm.specs.declared.end.End.{End}
+use Rattle.wsm.specs.Asked.{Asked, asked_by_program, asked_by_query}
+use Rattle.wsm.specs.Judged.{text_judged}
+use Rattle.wsm.specs.Written.{Cells, Completes, EndsEarly}
+use Rattle.wsm.proofs.Beginning.{refused_by, unread_early}
+use Rattle.wsm.proofs.SameText.{same_program, text_completes, text_ends_early}
 use Rattle.wsm.proofs.run.run_query.Goals as goal
 
-pub returns-in_err-query-clause-ends : goal.returns-in_err-query-clause-ends
-returns-in_err-query-clause-ends g c =
-    let p = err_from_is_err_and c.from_residual.result c.from_residual.ensures.1 in
-    rw (p.1, p.2) ([], Ends-refused (g.R.Read.remaining c.args.rows) (g.D.Device.taken c.args.out.now) _ c.in_err-query.field-0.0 c.in_err-query.ensures.judged)
+pub returns-in_err-program-clause-refused : goal.returns-in_err-program-clause-refused
+returns-in_err-program-clause-refused g c =
+    let e = err_from_is_err_and c.from_residual.result c.from_residual.ensures.1 in
+    rw (e.1, e.2) (λ why refused. refused_by (text_judged c.args.text.now) c.in_err-program.field-0.0 why (g.D.Device.taken c.args.out.now) c.in_err-program.ensures.refused refused)
 
-pub returns-in_err-turns-clause-ends : goal.returns-in_err-turns-clause-ends
-returns-in_err-turns-clause-ends g c =
-    let p = err_from_is_err_and c.from_residual-in_err-turns.result c.from_residual-in_err-turns.ensures.1 in
-    rw (p.1, p.2, c.in_ok-query.ensures.judged) ([], record { first = AreFirst-none (g.R.Read.remaining c.args.rows); part = TakesPart-none (g.D.Device.taken c.args.out.now) _ })
+pub returns-in_err-program-clause-ends_early : goal.returns-in_err-program-clause-ends_early
+returns-in_err-program-clause-ends_early g c =
+    let e = err_from_is_err_and c.from_residual.result c.from_residual.ensures.1 in
+    rw (e.1, e.2) (λ q accepted. unread_early (text_judged c.args.text.now) q c.in_err-program.field-0.0 (g.R.Read.remaining c.args.rows) (g.D.Device.taken c.args.out.now) (asked_by_query q) c.in_err-program.ensures.refused accepted.judged)
 
-pub returns-in_err-take_rows-clause-ends : goal.returns-in_err-take_rows-clause-ends
-returns-in_err-take_rows-clause-ends g c =
-    let p = err_from_is_err_and c.from_residual-in_err-take_rows.result c.from_residual-in_err-take_rows.ensures.1 in
-    rw (p.1, p.2, c.in_ok-query.ensures.judged) (c.in_err-take_rows.ensures.all c.in_ok-query.query c.in_ok-turns.ensures)
+pub returns-clause-rejected : goal.returns-clause-rejected
+returns-clause-rejected g c = λ q why judged rejected.
+    c.run_judged.ensures.rejected why (subst (λ (p : Program). judge p ≡ Err why) (sym (same_program c.args.text.now q c.in_ok-program.program judged c.in_ok-program.ensures.compiled)) rejected)
 
-pub returns-clause-ends : goal.returns-clause-ends
-returns-clause-ends g c =
-    let (cells, all, awaits) = c.in_ok-take_rows.ensures.all c.in_ok-query.query c.in_ok-turns.ensures in
-    rw c.in_ok-query.ensures.judged (cells, c.finish.ensures.runs (g.R.Read.remaining c.args.rows) c.in_ok-query.query cells (g.D.Device.taken c.args.out.now) all awaits)
+pub returns-clause-completes : goal.returns-clause-completes
+returns-clause-completes g c = λ q accepted.
+    let known = g.R.Read.remaining c.args.rows in
+    let old = g.D.Device.taken c.args.out.now in
+    let new = g.D.Device.taken c.run_judged.new.out in
+    let Whole : Asked → Totals → Type 0 = λ a totals. (cells : List Cells) × Completes known a cells old new totals in
+    IfOk-weaker c.run_judged.result (Whole (asked_by_program (program_of q))) (Whole (asked_by_query q)) (λ totals h. text_completes c.args.text.now q accepted known old new totals h)
+    (subst (λ (p : Program). IfOk c.run_judged.result (Whole (asked_by_program p))) (same_program c.args.text.now q c.in_ok-program.program accepted.judged c.in_ok-program.ensures.compiled) c.run_judged.ensures.completes)
+
+pub returns-clause-ends_early : goal.returns-clause-ends_early
+returns-clause-ends_early g c = λ q accepted.
+    let known = g.R.Read.remaining c.args.rows in
+    let old = g.D.Device.taken c.args.out.now in
+    let new = g.D.Device.taken c.run_judged.new.out in
+    let Part : Asked → End → Type 0 = λ a end. (cells : List Cells) × EndsEarly known a cells old new end in
+    let same = same_program c.args.text.now q c.in_ok-program.program accepted.judged c.in_ok-program.ensures.compiled in
+    IfErr-weaker c.run_judged.result (Part (asked_by_program (program_of q))) (Part (asked_by_query q)) (λ end h. text_ends_early c.args.text.now q accepted known old new end h)
+    (subst (λ (p : Program). IfErr c.run_judged.result (Part (asked_by_program p))) same (c.run_judged.ensures.ends_early (subst (λ (p : Program). is_ok (judge p) ≡ true) (sym same) accepted.accepted)))

@@ -3,67 +3,63 @@ use Rattle.std.proofs.lemmas.Result.{err_from_is_err_and}
 use Rattle.wsm_csv.specs.Cells.{event_of_cells}
 use Rattle.wsm_csv.specs.Rows.{cells_of}
 use Rattle.wsm_csv.proofs.RowsLemmas.{Follows-first}
+use Rattle.wsm.specs.Asked.{asked_by_program}
 use Rattle.wsm.specs.Written.{Cells, rows_of}
-use Rattle.wsm.specs.Turns.{Fits, Turned}
-use Rattle.wsm.proofs.Texts.{Awaits-start, Awaits-next, Awaits-fails, Awaits-part, EndsEarly-read}
+use Rattle.wsm.specs.Turns.{Turned}
+use Rattle.wsm.proofs.Texts.{Stands-start, Stands-next, TakesPart-next, EndsEarly-read}
 use Rattle.wsm.proofs.run.take_rows.Goals as goal
 
 pub loop-rows-init : goal.loop-rows-init
 loop-rows-init g c = record {
   works = c.requires;
-  turns = λ q begins. ([], c.new-rows.ensures, Awaits-start q (g.D.Device.taken c.args.out.now) c.args.turns.now begins);
+  turns = λ p fits. ([], c.new-rows.ensures, Stands-start p (g.D.Device.taken c.args.out.now) c.args.turns.now fits);
 }
 
-pub returns-in_err-advance-clause-all : goal.returns-in_err-advance-clause-all
-returns-in_err-advance-clause-all g c =
-    let p = err_from_is_err_and c.from_residual.result c.from_residual.ensures.1 in
-    rw (p.1, p.2) (λ q begins.
-    let (cells, follows, awaits) = c.loop-rows.invariant.turns q begins in
+pub returns-in_err-advance-clause-ends_early : goal.returns-in_err-advance-clause-ends_early
+returns-in_err-advance-clause-ends_early g c =
+    let e = err_from_is_err_and c.from_residual.result c.from_residual.ensures.1 in
+    rw (e.1, e.2) (λ p fits.
+    let (cells, follows, stands) = c.loop-rows.invariant.turns p fits in
     let read = c.in_err-advance.ensures.advances (g.R.Read.remaining c.args.reader) cells follows in
-    (cells, EndsEarly-read (g.R.Read.remaining c.args.reader) q cells (g.D.Device.taken c.args.out.now) (g.D.Device.taken c.loop-rows.out) c.in_err-advance.field-0.0 read.0 (Awaits-part q cells _ _ c.loop-rows.turns awaits)))
+    (cells, EndsEarly-read (g.R.Read.remaining c.args.reader) (asked_by_program p) cells (g.D.Device.taken c.args.out.now) (g.D.Device.taken c.loop-rows.out) c.in_err-advance.field-0.0 read.0 stands.text))
 
-pub returns-in_err-take-clause-all : goal.returns-in_err-take-clause-all
-returns-in_err-take-clause-all g c =
-    let p = err_from_is_err_and c.from_residual-in_err-take.result c.from_residual-in_err-take.ensures.1 in
-    rw (p.1, p.2) (λ q begins.
-    let (cells, follows, awaits) = c.loop-rows.invariant.turns q begins in (
-      cells,
-      record {
-        first = Follows-first g.R.Read.remaining (g.R.Read.remaining c.args.reader) cells c.loop-rows.rows follows;
-        part = Awaits-part q cells (g.D.Device.taken c.args.out.now) (g.D.Device.taken c.loop-rows.out) c.loop-rows.turns awaits;
-      },
-    ))
+pub returns-in_err-take-clause-ends_early : goal.returns-in_err-take-clause-ends_early
+returns-in_err-take-clause-ends_early g c =
+    let e = err_from_is_err_and c.from_residual-in_err-take.result c.from_residual-in_err-take.ensures.1 in
+    rw (e.1, e.2) (λ p fits.
+    let (cells, follows, stands) = c.loop-rows.invariant.turns p fits in
+    (cells, record { first = Follows-first g.R.Read.remaining (g.R.Read.remaining c.args.reader) cells c.loop-rows.rows follows; text = stands.text }))
 
 pub loop-rows-preserved : goal.loop-rows-preserved
 loop-rows-preserved g c = record {
-  works = c.in_ok-pass_on.ensures.works;
-  turns = λ q begins.
-      let (cells, follows, awaits) = c.loop-rows.invariant.turns q begins in
+  works = c.in_ok-write.ensures.works;
+  turns = λ p fits.
+      let (cells, follows, stands) = c.loop-rows.invariant.turns p fits in
       let row = cells_of c.advance.new.self in
       let follows' = rw c.if-branch.true at (c.in_ok-advance.ensures.advances (g.R.Read.remaining c.args.reader) cells follows) in
-      let turned = subst (λ (f : Cells). Turned q c.loop-rows.turns c.take.new.self (rows_of q cells) (event_of_cells q.schema f)) c.row.ensures (c.in_ok-take.ensures q (rows_of q cells) awaits.fits) in
-      let turns = record c.take.new.self { lines = c.pass_on.new.lines } in
-      let fits : Fits q turns (event_of_cells q.schema row ∷ rows_of q cells) = record { engine = turned.fits.engine; rows = turned.fits.rows; faults = turned.fits.faults } in
-      (cells ++ row ∷ [], follows', Awaits-next q cells row (g.D.Device.taken c.args.out.now) (g.D.Device.taken c.loop-rows.out) (g.D.Device.taken c.pass_on.new.out) c.loop-rows.turns c.take.new.self turns awaits turned c.in_ok-pass_on.ensures.passes fits);
+      let turned = subst (λ (f : Cells). Turned p c.take.new.self (rows_of (asked_by_program p) cells) (event_of_cells p.header.schema f)) c.row.ensures (c.in_ok-take.ensures p (rows_of (asked_by_program p) cells) stands.fits) in
+      let taken = c.in_ok-write.ensures.all in
+      (cells ++ row ∷ [], follows', Stands-next p cells row (g.D.Device.taken c.args.out.now) (g.D.Device.taken c.loop-rows.out) (g.D.Device.taken c.write.new.out) c.loop-rows.turns c.take.new.self stands turned taken);
 }
 
-pub returns-in_err-pass_on-clause-all : goal.returns-in_err-pass_on-clause-all
-returns-in_err-pass_on-clause-all g c =
-    let p = err_from_is_err_and c.from_residual-in_err-pass_on.result c.from_residual-in_err-pass_on.ensures.1 in
-    rw (p.1, p.2) (λ q begins.
-    let (cells, follows, awaits) = c.loop-rows.invariant.turns q begins in
+pub returns-in_err-write-clause-ends_early : goal.returns-in_err-write-clause-ends_early
+returns-in_err-write-clause-ends_early g c =
+    let e = err_from_is_err_and c.from_residual-in_err-write.result c.from_residual-in_err-write.ensures.1 in
+    rw (e.1, e.2) (λ p fits.
+    let (cells, follows, stands) = c.loop-rows.invariant.turns p fits in
     let row = cells_of c.advance.new.self in
     let follows' = rw c.if-branch.true at (c.in_ok-advance.ensures.advances (g.R.Read.remaining c.args.reader) cells follows) in
-    let turned = subst (λ (f : Cells). Turned q c.loop-rows.turns c.take.new.self (rows_of q cells) (event_of_cells q.schema f)) c.row.ensures (c.in_ok-take.ensures q (rows_of q cells) awaits.fits) in (
+    let turned = subst (λ (f : Cells). Turned p c.take.new.self (rows_of (asked_by_program p) cells) (event_of_cells p.header.schema f)) c.row.ensures (c.in_ok-take.ensures p (rows_of (asked_by_program p) cells) stands.fits) in
+    let part = c.in_err-write.ensures.part in (
       cells ++ row ∷ [],
       inl (record {
         first = Follows-first g.R.Read.remaining (g.R.Read.remaining c.args.reader) (cells ++ row ∷ []) c.advance.new.self follows';
-        part = Awaits-fails q cells row (g.D.Device.taken c.args.out.now) (g.D.Device.taken c.loop-rows.out) (g.D.Device.taken c.pass_on.new.out) c.loop-rows.turns c.take.new.self awaits turned c.in_err-pass_on.ensures.part;
+        part = TakesPart-next p cells row (g.D.Device.taken c.args.out.now) (g.D.Device.taken c.loop-rows.out) (g.D.Device.taken c.write.new.out) c.loop-rows.turns c.take.new.self stands turned part;
       }),
     ))
 
-pub returns-clause-all : goal.returns-clause-all
-returns-clause-all g c = λ q begins.
-    let (cells, follows, awaits) = c.loop-rows.invariant.turns q begins in
+pub returns-clause-taken : goal.returns-clause-taken
+returns-clause-taken g c = λ p fits.
+    let (cells, follows, stands) = c.loop-rows.invariant.turns p fits in
     let all = rw c.if-branch.false at (c.in_ok-advance.ensures.advances (g.R.Read.remaining c.args.reader) cells follows) in
-    (cells, all, awaits)
+    (cells, all, stands)

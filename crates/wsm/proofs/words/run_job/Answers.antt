@@ -1,11 +1,18 @@
-use Rattle.std.proofs.Common.{◌∙◌, sym, ap, codes, option_map, string_bytes}
+use Rattle.std.proofs.Common.{◌∙◌, refl, codes}
 use Rattle.clap.specs.Words.{found_of}
-use Rattle.clap.proofs.WalkLemmas.{first_value-rows}
+use Rattle.clap.proofs.WalkLemmas.{first_value-rows, one_text-rows}
 use Rattle.wsm.proofs.words.run_job.Goals as goal
 
 pub returns-clause-job : goal.returns-clause-job
 returns-clause-job c =
-    let found = found_of c.args.inner.now in (
-      sym (first_value-rows found (codes "query")) ∙ sym c.get_str.ensures ∙ sym c.in_ok-query.ensures ∙ ap (option_map string_bytes) c.in-Some.is,
-      c.in_ok-rows.ensures ∙ c.get_str-2.ensures ∙ first_value-rows found (codes "rows"),
+    let found = found_of c.args.inner.now in
+    let flag = c.get_flag-program.ensures in (
+      refl,
+      (
+        λ e. flag.none (one_text-rows found (codes "program") ∙ e),
+        λ e. flag.value (one_text-rows found (codes "program") ∙ e),
+        λ e. flag.other (one_text-rows found (codes "program") ∙ e),
+      ),
+      c.in_ok-query.ensures.named,
+      c.in_ok-rows.ensures ∙ c.get_str.ensures ∙ first_value-rows found (codes "rows"),
     )

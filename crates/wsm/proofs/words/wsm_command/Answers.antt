@@ -1,7 +1,5 @@
-use Rattle.std.proofs.Common.{◌≡◌, ◌∙◌, ◌&&◌, ap, ap₂, codes, Bool, true, false, not, refl}
-use Rattle.clap.specs.Words.{App, app_of, new_app, with_subcommand}
-use Rattle.clap.specs.Simple.{app_of_fields}
-use Rattle.wsm.specs.Words.{required_app}
+use Rattle.std.proofs.Common.{◌≡◌, ◌∙◌, ◌&&◌, ap, ap₂, Bool, true, false, not, refl}
+use Rattle.clap.specs.Words.{App, app_of, with_subcommand}
 use Rattle.wsm.proofs.words.wsm_command.Goals as goal
 
 -- the third of the tests that a plain command passes
@@ -13,9 +11,13 @@ third_fails false b c d e = cc
 
 pub returns : goal.returns
 returns c =
+    let top = λ (a : App). a.top in
+    let plain = λ (a : App). a.top.is_plain in
     let run_is = c.in_ok-run_command.ensures in
-    let local = third_fails _ _ _ _ (ap (λ (a : App). a.top.is_plain) run_is) in
-    let named : app_of c.after_help.result ≡ new_app (codes "wsm") = ap app_of_fields c.after_help.ensures ∙ (ap app_of_fields c.about.ensures ∙ (ap app_of_fields c.in_ok-bin_name.ensures.0 ∙ c.new.ensures.app)) in
-    let required_is : app_of c.subcommand_required.result ≡ required_app = ap app_of_fields c.subcommand_required.ensures
-    ∙ ap (λ (a : App). let b : App = record a { top = record a.top { subcommand_required = true } } in b) named in
-    c.in_ok-wsm.ensures.shape local ∙ ap₂ with_subcommand required_is (ap (λ (a : App). a.top) run_is)
+    let compile_is = c.in_ok-compile_command.ensures in
+    let verify_is = c.in_ok-verify_command.ensures in
+    let explain_is = c.in_ok-explain_command.ensures in
+    let with_run = c.in_ok-subcommand.ensures.shape (third_fails _ _ _ _ (ap plain run_is)) ∙ ap₂ with_subcommand c.in_ok-required_command.ensures (ap top run_is) in
+    let with_compile = c.in_ok-subcommand-2.ensures.shape (third_fails _ _ _ _ (ap plain compile_is)) ∙ ap₂ with_subcommand with_run (ap top compile_is) in
+    let with_verify = c.in_ok-subcommand-3.ensures.shape (third_fails _ _ _ _ (ap plain verify_is)) ∙ ap₂ with_subcommand with_compile (ap top verify_is) in
+    c.in_ok-wsm.ensures.shape (third_fails _ _ _ _ (ap plain explain_is)) ∙ ap₂ with_subcommand with_verify (ap top explain_is)

@@ -1,25 +1,39 @@
-use Rattle.std.proofs.Common.{ap, ◌∙◌}
+use Rattle.std.proofs.Common.{◌≡◌, ◌≤◌, ◌∷◌, ap, sym, subst, ◌∙◌, arith}
 use Rattle.wsm_record.specs.Event.{event_of}
-use Rattle.wsm_engine.specs.Machine.{State}
-use Rattle.wsm_engine.specs.Meaning.{query_of}
+use Rattle.wsm_verifier.specs.Costs.{needed}
+use Rattle.wsm_semantics.specs.Relation.{turn_rows}
+use Rattle.wsm_machine.specs.Meaning.{query_of, pane_cost_by}
+use Rattle.wsm_machine.proofs.Costs.{step_cost_within}
 use Rattle.wsm_engine.specs.declared.reply.Reply.{Reply}
-use Rattle.wsm_engine.proofs.Meaning.{turn_fits, turn_writes, turn_fires, turn_refuses, refused_turn}
+use Rattle.wsm_engine.specs.State.{State}
+use Rattle.wsm_engine.specs.Meaning.{Fits, IsRefused}
+use Rattle.wsm_engine.specs.Turn.{turn, reply_by}
+use Rattle.std.specs.Prelude.{IsSome}
+use Rattle.wsm_engine.proofs.Turning.{turn_fits, turn_writes, turn_replies, refused_turn, fired_few}
+use Rattle.wsm_engine.proofs.Within.{firings_within}
 use Rattle.wsm_engine.proofs.engine.Engine.feed.Goals as goal
 
-pub returns-clause-query : goal.returns-clause-query
-returns-clause-query c = ap query_of c.turn.ensures.state
-
 pub returns-clause-fits : goal.returns-clause-fits
-returns-clause-fits c = λ past fits. rw c.turn.ensures.state (turn_fits c.args.self.now c.turn.ensures.kept (event_of c.args.event.now) past fits)
+returns-clause-fits c = λ past fits. rw c.turn.ensures.state (turn_fits c.args.self.now c.turn.ensures.lawful past fits (event_of c.args.event.now))
 
-pub returns-clause-refusal : goal.returns-clause-refusal
-returns-clause-refusal c = λ past fits. ap (λ (r : Reply). r.refusal) c.turn.ensures.reply ∙ turn_refuses c.args.self.now c.turn.ensures.kept (event_of c.args.event.now) past fits
+pub returns-clause-reply : goal.returns-clause-reply
+returns-clause-reply c = λ past fits. c.turn.ensures.reply ∙ turn_replies c.args.self.now c.turn.ensures.lawful past fits (event_of c.args.event.now)
 
 pub returns-clause-rows : goal.returns-clause-rows
-returns-clause-rows c = λ past fits. ap (λ (s : State). s.rows) c.turn.ensures.state ∙ turn_writes c.args.self.now c.turn.ensures.kept (event_of c.args.event.now) past fits
-
-pub returns-clause-fired : goal.returns-clause-fired
-returns-clause-fired c = λ past fits. ap (λ (r : Reply). r.fired) c.turn.ensures.reply ∙ turn_fires c.args.self.now c.turn.ensures.kept (event_of c.args.event.now) past fits
+returns-clause-rows c = λ past fits. ap (λ (s : State). s.rows) c.turn.ensures.state ∙ turn_writes c.args.self.now c.turn.ensures.lawful past fits (event_of c.args.event.now)
 
 pub returns-clause-refused : goal.returns-clause-refused
-returns-clause-refused c = λ some. rw c.turn.ensures.state (refused_turn c.args.self.now (event_of c.args.event.now) (rw c.turn.ensures.reply at some))
+returns-clause-refused c = λ some.
+    let s = c.args.self.now in
+    let few = fired_few s c.turn.ensures.history.0 c.turn.ensures.history.1 in
+    rw c.turn.ensures.state (refused_turn s few (event_of c.args.event.now) (subst (λ (r : Reply). IsSome r.refusal) c.turn.ensures.reply some))
+
+pub returns-clause-record_within : goal.returns-clause-record_within
+returns-clause-record_within c =
+    let s = c.args.self.now in
+    rw c.turn.ensures.reply (step_cost_within s.program (needed s.program) c.turn.ensures.judged c.turn.ensures.lawful s.machine (event_of c.args.event.now))
+
+pub returns-clause-pane_within : goal.returns-clause-pane_within
+returns-clause-pane_within c =
+    let s = c.args.self.now in
+    rw c.turn.ensures.reply (firings_within s (needed s.program) c.turn.ensures.judged c.turn.ensures.lawful c.turn.ensures.history.0 c.turn.ensures.history.1 (event_of c.args.event.now))

@@ -1,0 +1,56 @@
+-- Runs that end before their first row.
+use Rattle.std.proofs.Common.{◌≡◌, ℕ, true, false, List, [], Option, Result, Ok, Err, inl, inr, refl}
+use Rattle.std.specs.Prelude.{is_ok}
+use Rattle.wsm_engine.specs.declared.reply.Totals.{Totals}
+use Rattle.wsm_verifier.specs.declared.rejection.Rejection.{Rejection}
+use Rattle.wsm.specs.declared.end.Refusal.{Refusal}
+use Rattle.wsm.specs.declared.end.End.{End}
+use Rattle.wsm.specs.declared.end.End.TheVariants.{Refused, Rejected, Memory, ReadFailed, WriteFailed}
+use Rattle.wsm.specs.Asked.{Asked}
+use Rattle.wsm.specs.Ends.{hides_memory}
+use Rattle.wsm.specs.Judged.{EndsBy, RejectsBy}
+use Rattle.wsm.specs.Written.{Cells, EndsEarly, NeverBegins}
+use Rattle.wsm.proofs.Texts.{AreFirst-none, Appends-none, Keeps-same}
+
+-- a refused input
+pub refused_by : {A : Type 0} (judged : Result A Refusal) (e : End) (why : Refusal) (known : Option (List ℕ)) → EndsBy judged e → judged ≡ Err why → NeverBegins (Refused why) known known (Err e)
+refused_by judged (Refused r) why known ends is = record { end = inl (cc); kept = Keeps-same known }
+refused_by judged (Rejected r) why known ends is = absurd ends
+refused_by judged Memory why known ends is = record { end = inr refl; kept = Keeps-same known }
+refused_by judged ReadFailed why known ends is = absurd ends
+refused_by judged WriteFailed why known ends is = absurd ends
+
+-- a rejected program
+pub rejected_by : {A : Type 0} (judged : Result A Rejection) (e : End) (why : Rejection) (known : Option (List ℕ)) → RejectsBy judged e → judged ≡ Err why → NeverBegins (Rejected why) known known (Err e)
+rejected_by judged (Refused r) why known ends is = absurd ends
+rejected_by judged (Rejected r) why known ends is = record { end = inl (cc); kept = Keeps-same known }
+rejected_by judged Memory why known ends is = record { end = inr refl; kept = Keeps-same known }
+rejected_by judged ReadFailed why known ends is = absurd ends
+rejected_by judged WriteFailed why known ends is = absurd ends
+
+-- want of memory for an input that is neither
+pub unread_early : {A : Type 0} (judged : Result A Refusal) (x : A) (e : End) (known taken : Option (List ℕ)) (a : Asked) → EndsBy judged e → judged ≡ Ok x → (cells : List Cells) × EndsEarly known a cells taken taken e
+unread_early judged x (Refused r) known taken a ends is = cc
+unread_early judged x (Rejected r) known taken a ends is = absurd ends
+unread_early judged x Memory known taken a ends is = ([], record { first = AreFirst-none known; text = Appends-none a taken })
+unread_early judged x ReadFailed known taken a ends is = absurd ends
+unread_early judged x WriteFailed known taken a ends is = absurd ends
+
+was_rejected : {A : Type 0} (judged : Result A Rejection) (r : Rejection) → judged ≡ Err r → is_ok judged ≡ true → ⊥
+was_rejected (Ok x) r is ok = cc
+was_rejected (Err s) r is ok = cc
+
+pub unverified_early : {A : Type 0} (judged : Result A Rejection) (e : End) (known taken : Option (List ℕ)) (a : Asked) → RejectsBy judged e → is_ok judged ≡ true → (cells : List Cells) × EndsEarly known a cells taken taken e
+unverified_early judged (Refused r) known taken a ends ok = absurd ends
+unverified_early judged (Rejected r) known taken a ends ok = absurd (was_rejected judged r ends ok)
+unverified_early judged Memory known taken a ends ok = ([], record { first = AreFirst-none known; text = Appends-none a taken })
+unverified_early judged ReadFailed known taken a ends ok = absurd ends
+unverified_early judged WriteFailed known taken a ends ok = absurd ends
+
+-- a run that was begun ends neither refused nor rejected
+pub begun_apart : (known : Option (List ℕ)) (a : Asked) (old new : Option (List ℕ)) (e : End) → (cells : List Cells) × EndsEarly known a cells old new e → hides_memory e ≡ false
+begun_apart known a old new (Refused r) (cells, h) = absurd h
+begun_apart known a old new (Rejected r) (cells, h) = absurd h
+begun_apart known a old new Memory (cells, h) = refl
+begun_apart known a old new ReadFailed (cells, h) = refl
+begun_apart known a old new WriteFailed (cells, h) = refl

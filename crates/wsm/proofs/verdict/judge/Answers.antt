@@ -1,0 +1,15 @@
+use Rattle.std.proofs.Common.{rules, List, ℕ}
+use Rattle.std.proofs.lemmas.Result.{err_from_is_err_and}
+use Rattle.std.specs.Io.KnownBytes.{Appends}
+use Rattle.wsm_csv.proofs.Written.{Keeps-Appends, TakesPart-all}
+use Rattle.wsm.specs.Verdict.{report}
+use Rattle.wsm.proofs.verdict.judge.Goals as goal
+
+-- a flush that fails keeps what was written, and that is all
+pub returns-in_err-flush-clause-stops : goal.returns-in_err-flush-clause-stops
+returns-in_err-flush-clause-stops g c =
+    let p = err_from_is_err_and c.from_residual-in_err-flush.result c.from_residual-in_err-flush.ensures.1 in
+    let taken = g.D.Device.taken in
+    let text : List ℕ = report c.args.explain c.in_ok-program.program in
+    let written : Appends (taken c.args.out.now) (taken c.write_out.new.device) text = search rules in
+    rw (p.1, p.2) (c.in_ok-program.program, c.in_ok-program.ensures.read, TakesPart-all _ _ text (Keeps-Appends _ _ _ text written c.in_err-flush.ensures.kept))

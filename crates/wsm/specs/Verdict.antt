@@ -1,0 +1,40 @@
+-- What is written of a program that is judged.
+use Rattle.std.specs.Prelude.{◌≡◌, ℕ, Bool, List, [], ◌∷◌, ◌++◌, Option, Result, Ok, Err, is_ok, if◌then◌else◌, codes}
+use Rattle.std.specs.Fmt.{decimal}
+use Rattle.std.specs.Io.KnownBytes.{Appends, Keeps}
+use Rattle.wsm_bytecode.specs.Program.{Program}
+use Rattle.wsm_bytecode.specs.Text.{text}
+use Rattle.wsm_verifier.specs.declared.costs.Costs.{Costs}
+use Rattle.wsm_verifier.specs.declared.rejection.Rejection.{Rejection}
+use Rattle.wsm_verifier.specs.Rules.{judge}
+use Rattle.wsm_verifier.specs.Text.{rejection_text}
+use Rattle.wsm_csv.specs.Device.{TakesPart}
+use Rattle.wsm.specs.declared.end.Refusal.{Refusal}
+use Rattle.wsm.specs.declared.end.End.{End}
+use Rattle.wsm.specs.declared.end.End.TheVariants.{Refused, Memory, WriteFailed}
+
+-- `accepted,RECORD,PANE,HELD` with the needed numbers, or `rejected,WHERE,PLACE,NAME`; a line feed
+abbrev pub verdict : Result Costs Rejection → List ℕ
+verdict (Ok need) = codes "accepted," ++ decimal need.per_record ++ codes "," ++ decimal need.per_pane ++ codes "," ++ decimal need.held ++ codes "\n"
+verdict (Err why) = codes "rejected," ++ rejection_text why ++ codes "\n"
+
+-- to explain, the listing comes first
+abbrev pub listing : Bool → Program → List ℕ
+listing explain p = if explain then text p else []
+
+abbrev pub report : Bool → Program → List ℕ
+report explain p = listing explain p ++ verdict (judge p)
+
+-- the program that was read was reported, and it is told whether it is accepted
+pub record Reports (read : Result Program Refusal) (explain : Bool) (old new : Option (List ℕ)) (accepted : Bool) : Type 0 where
+  pub program : Program
+  pub read_as : read ≡ Ok program
+  pub written : Appends old new (report explain program)
+  pub tells : accepted ≡ is_ok (judge program)
+
+-- a refusal is that of the bytes; only where the device has failed a part of the report was written, else nothing
+abbrev pub StopsBy : Result Program Refusal → Bool → Option (List ℕ) → Option (List ℕ) → End → Type 0
+StopsBy read explain old new (Refused why) = (read ≡ Err why) × Keeps old new
+StopsBy read explain old new Memory = Keeps old new
+StopsBy read explain old new WriteFailed = (p : Program) × (read ≡ Ok p) × TakesPart old new (report explain p)
+StopsBy read explain old new end = ⊥

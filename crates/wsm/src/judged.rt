@@ -1,0 +1,75 @@
+//! From the text of a query, or the bytes of a program, to a program that was judged.
+
+ghost use Rattle.std.specs.Prelude.{◌≡◌, ◌⊎◌, false, Ok, Some, IfOk, IfErr};
+ghost use Rattle.wsm_query.specs.Seen.{seen};
+ghost use Rattle.wsm_query.specs.Tree.{Query as QueryTree};
+ghost use Rattle.wsm_check.specs.Checks.{IsChecked, refusal};
+ghost use Rattle.wsm_check.specs.Parts.{parts_of};
+ghost use Rattle.wsm_check.specs.Seen.{seen_parts};
+ghost use Rattle.wsm_check.specs.Spelt.{IsSpelt};
+ghost use Rattle.wsm_verifier.specs.Costs.{needed};
+ghost use Rattle.wsm_verifier.specs.Rules.{judge};
+ghost use Rattle.wsm_compiler.specs.Program.{program_of};
+ghost use Rattle.wsm.specs.Ends.{hides_memory};
+ghost use Rattle.wsm.specs.Judged.{text_judged, bytes_judged, EndsBy, RejectsBy};
+
+use crate::end::End;
+use std::alloc::{AllocError, Global};
+use wsm_bytecode::{Program, decode};
+use wsm_check::{CheckRefusal, Checked, check};
+use wsm_compiler::{compile, laws};
+use wsm_query::{Query, parse};
+use wsm_verifier::{Verified, verify};
+
+/// The program of a query's text: the text is read, checked and compiled.
+pub(crate) fn program_of_text(alloc: Global, text: &[u8]) -> Result<Program, End>
+    ensures compiled { IfOk result (λ p. (q : QueryTree) × (text_judged text.now ≡ Ok q) × (p ≡ program_of q)) }
+    ensures refused { IfErr result (EndsBy (text_judged text.now)) }
+    ensures memory_apart { IfErr result (λ end. hides_memory end ≡ false) }
+{
+    let query = parse(alloc, text)?;
+    laws::is_lawful();
+    let checked = checked_of(alloc, query)?;
+    Ok(compiled(alloc, checked)?)
+}
+
+// The query as a checked one.
+fn checked_of(alloc: Global, query: Query) -> Result<Checked, CheckRefusal>
+    ensures checked { IfOk result (λ _. IsChecked (seen query)) }
+    ensures parts { IfOk result (λ checked. seen_parts checked.parts ≡ parts_of (seen query)) }
+    ensures refused { IfErr result (λ why. (why ≡ CheckRefusal.Memory) ⊎ (refusal (seen query) ≡ Some why)) }
+{
+    match check(alloc, query) {
+        Ok(checked) => Ok(checked),
+        Err((_, refusal)) => Err(refusal),
+    }
+}
+
+// The program of a checked query.
+fn compiled(alloc: Global, checked: Checked) -> Result<Program, AllocError>
+    ensures { (q : QueryTree) → IsChecked q → IsSpelt q → seen_parts checked.parts ≡ parts_of q → IfOk result (λ p. p ≡ program_of q) }
+{
+    compile(alloc, &checked)
+}
+
+/// The program that bytes spell.
+pub(crate) fn program_of_bytes(alloc: Global, bytes: &[u8]) -> Result<Program, End>
+    ensures read { IfOk result (λ p. bytes_judged bytes.now ≡ Ok p) }
+    ensures refused { IfErr result (EndsBy (bytes_judged bytes.now)) }
+    ensures memory_apart { IfErr result (λ end. hides_memory end ≡ false) }
+{
+    Ok(decode(alloc, bytes)?)
+}
+
+/// The program as an accepted one.
+pub(crate) fn verified(alloc: Global, program: Program) -> Result<Verified, End>
+    ensures kept { IfOk result (λ verified. verified ≡ program) }
+    ensures accepted { IfOk result (λ _. judge program ≡ Ok (needed program)) }
+    ensures rejected { IfErr result (RejectsBy (judge program)) }
+    ensures memory_apart { IfErr result (λ end. hides_memory end ≡ false) }
+{
+    match verify(alloc, program) {
+        Ok(verified) => Ok(verified),
+        Err((_, rejection)) => Err(End::from(rejection)),
+    }
+}

@@ -1,0 +1,87 @@
+//! Judging a program: what `verify` and `explain` write.
+
+ghost use Rattle.std.specs.Prelude.{◌≡◌, ◌++◌, Err, false, true, is_ok, IfOk, IfErr, OnOk, string_bytes};
+ghost use Rattle.wsm_verifier.specs.Rules.{judge as judge_of};
+ghost use Rattle.wsm.specs.Ends.{hides_memory};
+ghost use Rattle.wsm.specs.Judged.{bytes_judged};
+ghost use Rattle.wsm.specs.Verdict.{listing, verdict, Reports, StopsBy};
+
+use crate::end::End;
+use crate::judged::{program_of_bytes, verified};
+use std::alloc::{AllocError, Global};
+use wsm_bytecode::{Program, disassemble};
+use wsm_csv::{Device, write_out};
+use wsm_verifier::Verified;
+
+/// Judges the program of some bytes, and answers whether it is accepted. A line is written:
+/// `accepted,RECORD,PANE,HELD` with the numbers that the program needs, or
+/// `rejected,WHERE,PLACE,NAME` with its first fault. To explain, its listing is written first.
+///
+/// # Errors
+///
+/// [`End::Refused`] where the bytes spell no program: then nothing is written. Nothing is written
+/// for want of memory either. [`End::WriteFailed`] comes only where the device has failed: it took a
+/// beginning of the text.
+pub fn judge<D: Device>(
+    alloc: Global,
+    program: &[u8],
+    explain: bool,
+    out: &mut D,
+) -> Result<bool, End>
+    requires { D.has_failed out.old ≡ false }
+    ensures reports { IfOk result (Reports (bytes_judged program.now) explain (D.taken out.old) (D.taken out.new)) }
+    ensures flushed { OnOk result (D.is_flushed out.new ≡ true) }
+    ensures stops { IfErr result (StopsBy (bytes_judged program.now) explain (D.taken out.old) (D.taken out.new)) }
+    ensures write_failed { result ≡ Err End.WriteFailed → D.has_failed out.new ≡ true }
+    ensures memory_apart { IfErr result (λ end. hides_memory end ≡ false) }
+{
+    let program = program_of_bytes(alloc, program)?;
+    let mut text = listing(alloc, &program, explain)?;
+    let accepted = add_verdict(alloc, program, &mut text)?;
+    write_out(out, text.as_bytes())?;
+    out.flush()?;
+    Ok(accepted)
+}
+
+// The listing of a program that is to be explained; else nothing.
+fn listing(alloc: Global, program: &Program, explain: bool) -> Result<String, AllocError>
+    ensures { IfOk result (λ text. string_bytes text ≡ listing explain program.now) }
+{
+    if explain {
+        disassemble(alloc, program)
+    } else {
+        Ok(String::new(alloc))
+    }
+}
+
+// Adds the line of a judgement, and tells whether the program is accepted.
+fn add_verdict(alloc: Global, program: Program, text: &mut String) -> Result<bool, End>
+    ensures accepted { IfOk result (λ accepted. accepted ≡ is_ok (judge_of program)) }
+    ensures line { OnOk result (string_bytes text.new ≡ string_bytes text.old ++ verdict (judge_of program)) }
+    ensures memory { IfErr result (λ end. end ≡ End.Memory) }
+{
+    match verified(alloc, program) {
+        Ok(verified) => {
+            add_accepted(&verified, text)?;
+            Ok(true)
+        }
+        Err(End::Rejected(rejection)) => {
+            write!(text, "rejected,{rejection}\n")?;
+            Ok(false)
+        }
+        Err(_) => Err(End::Memory),
+    }
+}
+
+// Adds the line of an accepted program.
+fn add_accepted(verified: &Verified, text: &mut String) -> Result<(), AllocError>
+    ensures { OnOk result (string_bytes text.new ≡ string_bytes text.old ++ verdict (judge_of verified.now)) }
+{
+    let _accepted = verified.program();
+    let need = verified.costs();
+    write!(
+        text,
+        "accepted,{},{},{}\n",
+        need.per_record, need.per_pane, need.held
+    )
+}

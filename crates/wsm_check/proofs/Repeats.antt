@@ -1,0 +1,57 @@
+-- A list repeats a name where one stands among those before it.
+use Rattle.std.proofs.Common.{◌≡◌, ◌∙◌, ◌||◌, ◌++◌, Bool, true, false, List, [], ◌∷◌, bytes_eq, refl, sym, ap, ap₂}
+use Rattle.std.proofs.lemmas.Slice.Eq.{bytes_eq-Decides}
+use Rattle.std.specs.List.{list_any}
+use Rattle.wsm_record.specs.Name.{is_among, repeats_after}
+use Rattle.wsm_query.specs.Tree.{Name}
+use Rattle.wsm_check.specs.Names.{has_repeats}
+
+either_way : (a b : Bool) → (a ≡ true → b ≡ true) → (b ≡ true → a ≡ true) → a ≡ b
+either_way true b f g = sym (f refl)
+either_way false true f g = g refl
+either_way false false f g = refl
+
+same_either_way : (x y : Name) → bytes_eq x y ≡ bytes_eq y x
+same_either_way x y =
+    either_way (bytes_eq x y) (bytes_eq y x) (λ e. (bytes_eq-Decides y x).1 (sym ((bytes_eq-Decides x y).0 e))) (λ e. (bytes_eq-Decides x y).1 (sym ((bytes_eq-Decides y x).0 e)))
+
+swapped : (a b c d : Bool) → ((a || b) || (c || d)) ≡ ((a || c) || (b || d))
+swapped true b c d = refl
+swapped false true true d = refl
+swapped false true false d = refl
+swapped false false c d = refl
+
+grouped : (a b c d : Bool) → (a || ((b || c) || d)) ≡ ((a || b) || (c || d))
+grouped true b c d = refl
+grouped false true c d = refl
+grouped false false c d = refl
+
+among_more : (x y : Name) (before : List Name) → is_among y (before ++ x ∷ []) ≡ (is_among y before || bytes_eq x y)
+among_more x y [] = swap_end (bytes_eq y x) ∙ same_either_way y x
+  where
+    swap_end : (b : Bool) → (b || false) ≡ b
+    swap_end true = refl
+    swap_end false = refl
+among_more x y (z ∷ before) = ap (λ b. bytes_eq y z || b) (among_more x y before) ∙ moved (bytes_eq y z) _ _
+  where
+    moved : (a b c : Bool) → (a || (b || c)) ≡ ((a || b) || c)
+    moved true b c = refl
+    moved false b c = refl
+
+some_more : (x : Name) (before xs : List Name) → list_any (λ y. is_among y (before ++ x ∷ [])) xs ≡ (list_any (λ y. is_among y before) xs || is_among x xs)
+some_more x before [] = refl
+some_more x before (y ∷ xs) =
+    ap₂ (λ a b. a || b) (among_more x y before) (some_more x before xs) ∙ swapped (is_among y before) (bytes_eq x y) (list_any (λ z. is_among z before) xs) (is_among x xs)
+
+repeats_behind : (before xs : List Name) → repeats_after before xs ≡ (list_any (λ y. is_among y before) xs || has_repeats xs)
+repeats_behind before [] = refl
+repeats_behind before (x ∷ xs) =
+    ap (λ b. is_among x before || b) (repeats_behind (before ++ x ∷ []) xs ∙ ap (λ b. b || has_repeats xs) (some_more x before xs))
+    ∙ grouped (is_among x before) (list_any (λ y. is_among y before) xs) (is_among x xs) (has_repeats xs)
+
+none_among : (xs : List Name) → list_any (λ y. is_among y []) xs ≡ false
+none_among [] = refl
+none_among (x ∷ xs) = none_among xs
+
+pub repeats_is : (xs : List Name) → repeats_after [] xs ≡ has_repeats xs
+repeats_is xs = repeats_behind [] xs ∙ ap (λ b. b || has_repeats xs) (none_among xs)

@@ -1,0 +1,95 @@
+-- What a checked query has.
+use Rattle.std.specs.Prelude.{◌≡◌, ◌≤◌, ℕ, ◌+◌, true, List, [], ◌∷◌, map, ℤ, Option, option_map, Ok, Err}
+use Rattle.std.specs.List.{list_all}
+use Rattle.wsm_record.specs.declared.words.Kind.{Kind}
+use Rattle.wsm_record.specs.declared.words.Mode.{Mode}
+use Rattle.wsm_record.specs.declared.words.Form.{Form}
+use Rattle.wsm_windows.specs.declared.window.Shape.{Shape}
+use Rattle.wsm_query.specs.Tree.{Name, Declared, Budget, Query, Expr}
+use Rattle.wsm_check.specs.Types.{ExprTy, IntValue, Typed, InColumn, typed}
+use Rattle.wsm_check.specs.Sizes.{Acc, aggregates, accumulators, in_option}
+use Rattle.wsm_check.specs.Checks.{IsChecked}
+use Rattle.wsm_check.specs.Spelt.{IsSpelt}
+use Rattle.wsm_check.specs.Terms.{Term, has_few_names, is_flat, resolved}
+
+-- what an accumulator folds
+pub record Folding : Type 0 where
+  pub kind : Kind
+  pub operand : Term
+
+pub record Column : Type 0 where
+  pub ty : ExprTy
+  pub term : Term
+
+pub record Parts : Type 0 where
+  pub keys : List Name
+  pub fields : List Declared
+  pub start : ℤ
+  pub skew : ℤ
+  pub lateness : ℤ
+  pub records : ℤ
+  pub budget : Option Budget
+  pub shape : Shape
+  pub mode : Mode
+  pub early : Option ℤ
+  pub late : Option ℤ
+  pub form : Form
+  pub condition : Option Term  -- WHERE
+  pub foldings : List Folding
+  pub columns : List Column
+  pub having : Option Term
+
+-- a query that no check refuses has a type for each column
+abbrev pub type_or_int : Typed → ExprTy
+type_or_int (Ok t) = t
+type_or_int (Err f) = IntValue
+
+-- the accumulators before HAVING
+abbrev pub aggregates_of : List Expr → ℕ
+aggregates_of [] = 0
+aggregates_of (e ∷ es) = aggregates e + aggregates_of es
+
+-- an operand has no aggregate
+abbrev pub folding : Query → Acc → Folding
+folding q acc = record { kind = acc.kind; operand = resolved q 0 acc.operand }
+
+-- the columns whose first aggregate is the a-th of the query
+abbrev pub columns_from : Query → ℕ → List Expr → List Column
+columns_from q a [] = []
+columns_from q a (e ∷ es) = record { ty = type_or_int (typed q InColumn e); term = resolved q a e } ∷ columns_from q (a + aggregates e) es
+
+abbrev pub parts_of : Query → Parts
+parts_of q = record {
+  keys = q.keys;
+  fields = q.fields;
+  start = q.start;
+  skew = q.skew;
+  lateness = q.lateness;
+  records = q.records;
+  budget = q.budget;
+  shape = q.shape;
+  mode = q.mode;
+  early = q.early;
+  late = q.late;
+  form = q.form;
+  condition = option_map (resolved q 0) q.condition;
+  foldings = map (folding q) (accumulators q);
+  columns = columns_from q 0 q.columns;
+  having = option_map (resolved q (aggregates_of q.columns)) q.having;
+}
+
+-- its lists are short, no aggregate stands in an aggregate, and there are few
+pub record MayBeResolved (q : Query) : Type 0 where
+  pub names : has_few_names q ≡ true
+  pub condition : list_all is_flat (in_option q.condition) ≡ true
+  pub columns : list_all is_flat q.columns ≡ true
+  pub having : list_all is_flat (in_option q.having) ≡ true
+  pub tested : aggregates_of (in_option q.condition) ≡ 0
+  pub fired : aggregates_of q.columns + aggregates_of (in_option q.having) ≤ 16
+
+-- these are the parts of a query that no check refuses
+pub record ArePartsOfChecked (p : Parts) : Type 0 where
+  pub query : Query
+  pub checked : IsChecked query
+  pub spelt : IsSpelt query
+  pub is : p ≡ parts_of query

@@ -1,0 +1,34 @@
+-- What holds of every query of the code: names are names, and numbers have 64 bits.
+use Rattle.std.specs.Prelude.{◌≡◌, Bool, true, ◌&&◌, ◌++◌}
+use Rattle.std.specs.List.{list_all}
+use Rattle.wsm_record.specs.Name.{is_name}
+use Rattle.wsm_interval.specs.Interval.{in_i64}
+use Rattle.wsm_query.specs.Tree.{Ty, IntTy, BoolTy, EnumTy, Declared, Query, Expr, Number, Aggregate, If, Brackets, Minus, Not, Binary, And, Or}
+use Rattle.wsm_check.specs.Sizes.{in_option, fired}
+
+-- each number in an expression has 64 bits
+abbrev pub numbers_fit : Expr → Bool
+numbers_fit (Number n) = in_i64 n
+numbers_fit (Aggregate kind e) = numbers_fit e
+numbers_fit (If c x y) = numbers_fit c && (numbers_fit x && numbers_fit y)
+numbers_fit (Brackets e) = numbers_fit e
+numbers_fit (Minus e) = numbers_fit e
+numbers_fit (Not e) = numbers_fit e
+numbers_fit (Binary op x y) = numbers_fit x && numbers_fit y
+numbers_fit (And x y) = numbers_fit x && numbers_fit y
+numbers_fit (Or x y) = numbers_fit x && numbers_fit y
+numbers_fit _ = true
+
+abbrev pub is_spelt_type : Ty → Bool
+is_spelt_type (IntTy lo hi) = in_i64 lo && in_i64 hi
+is_spelt_type BoolTy = true
+is_spelt_type (EnumTy names) = list_all is_name names
+
+abbrev pub is_spelt_field : Declared → Bool
+is_spelt_field d = is_name d.name && is_spelt_type d.ty
+
+-- each name that the query declares is a name, and each number of its types and expressions has 64 bits
+pub record IsSpelt (q : Query) : Type 0 where
+  pub keys : list_all is_name q.keys ≡ true
+  pub fields : list_all is_spelt_field q.fields ≡ true
+  pub numbers : list_all numbers_fit (in_option q.condition ++ fired q) ≡ true

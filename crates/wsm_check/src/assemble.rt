@@ -1,0 +1,98 @@
+//! The terms of all expressions of a query.
+
+ghost use Rattle.std.specs.Prelude.{◌≡◌, ◌≤◌, ◌+◌, ◌++◌, length, map, option_map, true, IfOk, OnOk};
+ghost use Rattle.std.specs.List.{flat_map, list_all};
+ghost use Rattle.wsm_query.specs.Seen.{seen, seen_expr};
+ghost use Rattle.wsm_check.specs.Types.{InColumn, seen_ty, typed};
+ghost use Rattle.wsm_check.specs.Sizes.{accumulators_of, fired, in_option};
+ghost use Rattle.wsm_check.specs.Spelt.{numbers_fit};
+ghost use Rattle.wsm_check.specs.Terms.{has_few_names, is_flat, resolved};
+ghost use Rattle.wsm_check.specs.Parts.{MayBeResolved, aggregates_of, columns_from, folding, type_or_int};
+ghost use Rattle.wsm_check.specs.Seen.{AreTermsOf, seen_column, seen_folding, seen_term};
+
+use crate::parts::{Column, Folding, Terms};
+use crate::resolve::resolve;
+use crate::term::Term;
+use crate::types::{Around, ValueTy, type_of};
+use std::alloc::{AllocError, Global};
+use wsm_query::{Expr, Query};
+
+/// The terms of all expressions.
+#[tactic(auto, using(crate::proofs::Resolving::all_parts))]
+pub fn terms_of(alloc: Global, query: &Query) -> Result<Terms, AllocError>
+    requires fields { length query.now.fields.items ≤ 16 }
+    requires resolved { MayBeResolved (seen query.now) }
+    ensures terms { IfOk result (AreTermsOf (seen query.now)) }
+    ensures spelt { let q = seen query.now in OnOk result (list_all numbers_fit (in_option q.condition ++ fired q) ≡ true) }
+{
+    let mut none = Vec::new(alloc);
+    let condition = resolve_option(alloc, query, &query.condition, &mut none)?;
+    let mut foldings = Vec::new(alloc);
+    let mut columns = Vec::new(alloc);
+    resolve_columns(alloc, query, &query.columns, &mut foldings, &mut columns)?;
+    let having = resolve_option(alloc, query, &query.having, &mut foldings)?;
+    Ok(Terms {
+        condition,
+        foldings,
+        columns,
+        having,
+    })
+}
+
+fn resolve_option(
+    alloc: Global,
+    query: &Query,
+    condition: &Option<Expr>,
+    foldings: &mut Vec<Folding>,
+) -> Result<Option<Term>, AllocError>
+    requires fields { length query.now.fields.items ≤ 16 }
+    requires names { has_few_names (seen query.now) ≡ true }
+    requires room { length foldings.old.items + aggregates_of (in_option (option_map seen_expr condition.now)) ≤ 16 }
+    requires flat { list_all is_flat (in_option (option_map seen_expr condition.now)) ≡ true }
+    ensures term { IfOk result (λ t. option_map seen_term t ≡ option_map (resolved (seen query.now) (length foldings.old.items)) (option_map seen_expr condition.now)) }
+    ensures foldings { OnOk result (map seen_folding foldings.new.items ≡ map seen_folding foldings.old.items ++ map (folding (seen query.now)) (flat_map accumulators_of (in_option (option_map seen_expr condition.now)))) }
+    ensures spelt { OnOk result (list_all numbers_fit (in_option (option_map seen_expr condition.now)) ≡ true) }
+{
+    match condition {
+        None => Ok(None),
+        Some(test) => Ok(Some(resolve(alloc, query, test, foldings)?)),
+    }
+}
+
+// Adds the columns, and their accumulators, behind those that are there.
+#[tactic(auto, using(crate::proofs::Resolving::parts))]
+fn resolve_columns(
+    alloc: Global,
+    query: &Query,
+    exprs: &[Expr],
+    foldings: &mut Vec<Folding>,
+    columns: &mut Vec<Column>,
+) -> Result<(), AllocError>
+    requires fields { length query.now.fields.items ≤ 16 }
+    requires names { has_few_names (seen query.now) ≡ true }
+    requires room { length foldings.old.items + aggregates_of (map seen_expr exprs.now) ≤ 16 }
+    requires flat { list_all is_flat (map seen_expr exprs.now) ≡ true }
+    ensures columns { OnOk result (map seen_column columns.new.items ≡ map seen_column columns.old.items ++ columns_from (seen query.now) (length foldings.old.items) (map seen_expr exprs.now)) }
+    ensures foldings { OnOk result (map seen_folding foldings.new.items ≡ map seen_folding foldings.old.items ++ map (folding (seen query.now)) (flat_map accumulators_of (map seen_expr exprs.now))) }
+    ensures count { OnOk result (length foldings.new.items ≡ length foldings.old.items + aggregates_of (map seen_expr exprs.now)) }
+    ensures spelt { OnOk result (list_all numbers_fit (map seen_expr exprs.now) ≡ true) }
+{
+    let [first, rest @ ..] = exprs else {
+        return Ok(());
+    };
+    let ty = type_of_column(query, first);
+    let term = resolve(alloc, query, first, foldings)?;
+    columns.push(Column { ty, term })?;
+    resolve_columns(alloc, query, rest, foldings, columns)
+}
+
+// The checks have passed, so a column has a type.
+fn type_of_column(query: &Query, column: &Expr) -> ValueTy
+    requires { length query.now.fields.items ≤ 16 }
+    ensures { seen_ty result ≡ type_or_int (typed (seen query.now) InColumn (seen_expr column.now)) }
+{
+    match type_of(query, Around::InColumn, column) {
+        Ok(ty) => ty,
+        Err(_) => ValueTy::Int,
+    }
+}

@@ -1,0 +1,174 @@
+//! The checks of a query, in their order: the first that fails refuses it.
+
+ghost use Rattle.std.specs.Prelude.{◌≡◌, ◌≤◌, ◌+◌, [], length, map, option_map, true, not, OnOk};
+ghost use Rattle.wsm_query.specs.Seen.{seen, seen_expr, seen_field, seen_ty};
+ghost use Rattle.wsm_check.specs.Names.{field_names, has_repeats};
+ghost use Rattle.wsm_check.specs.Checks.{Judges, clock_fits, columns_refusal, condition_refusal, field_refusal, fields_refusal, grouped_refusal, names_refusal, numbers_refusal, refusal, shape_fits, ty_refusal, typed_refusal, unless};
+ghost use Rattle.wsm_check.specs.Types.{InColumn, typed};
+
+use crate::code::code_fits;
+use crate::limits::{budget_fits, clock_fits, every_fits, may_emit, shape_fits};
+use crate::names::is_among_fields;
+use crate::refusal::{CheckFault, CheckRefusal, Part};
+use crate::types::{Around, judge_condition, type_of};
+use std::alloc::Global;
+use wsm_query::{Declared, Expr, Query, Ty};
+use wsm_record::{Name, Names, SchemaRefusal};
+
+const MAX_NAMES: usize = 1000;
+
+const MAX_FIELDS: usize = 16;
+
+const MAX_COLUMNS: usize = 16;
+
+// A refusal where the condition fails.
+fn want(holds: bool, fault: CheckFault, part: Part) -> Result<(), CheckRefusal>
+    ensures judged { Judges result (unless holds fault part) }
+    ensures holds { OnOk result (holds ≡ true) }
+{
+    if holds {
+        Ok(())
+    } else {
+        Err(CheckRefusal::Fault(fault, part))
+    }
+}
+
+// 1 to 1,000 names, none of them twice.
+#[tactic(auto, using(crate::proofs::Following::steps))]
+fn judge_names(alloc: Global, part: Part, names: &[Name]) -> Result<(), CheckRefusal>
+    ensures { Judges result (names_refusal part names.now) }
+{
+    let is_count = !names.is_empty() && names.len() <= MAX_NAMES;
+    want(is_count, CheckFault::Limit, part)?;
+    judge_repeats(alloc, part, names)
+}
+
+#[tactic(auto, using(crate::proofs::Repeats::repeats_is))]
+fn judge_repeats(alloc: Global, part: Part, names: &[Name]) -> Result<(), CheckRefusal>
+    requires { length names.now ≤ MAX_NAMES }
+    ensures { Judges result (unless (not (has_repeats names.now)) CheckFault.Duplicate part) }
+{
+    match Names::collect(alloc, names) {
+        Ok(_) => Ok(()),
+        Err(SchemaRefusal::DuplicateName) => Err(CheckRefusal::Fault(CheckFault::Duplicate, part)),
+        Err(_) => Err(CheckRefusal::Memory),
+    }
+}
+
+fn judge_ty(alloc: Global, part: Part, ty: &Ty) -> Result<(), CheckRefusal>
+    ensures { Judges result (ty_refusal part (seen_ty ty.now)) }
+{
+    match ty {
+        Ty::Int { lo, hi } => want(lo <= hi, CheckFault::Limit, part),
+        Ty::Bool => Ok(()),
+        Ty::Enum(names) => judge_names(alloc, part, names),
+    }
+}
+
+// At most 16 fields, and none of a name twice.
+#[tactic(auto, using(crate::proofs::Following::next_passed, crate::proofs::Following::next_refused))]
+fn judge_fields(alloc: Global, fields: &[Declared]) -> Result<(), CheckRefusal>
+    ensures judged { Judges result (fields_refusal [] (map seen_field fields.now)) }
+    ensures few { OnOk result (length fields.now ≤ MAX_FIELDS) }
+{
+    for (i, field) in fields.iter().enumerate() {
+        judge_field(alloc, &fields[..i], field)?;
+    }
+    Ok(())
+}
+
+// A field behind others.
+#[tactic(auto, using(crate::proofs::Following::steps, crate::proofs::Following::counted_names))]
+fn judge_field(alloc: Global, before: &[Declared], field: &Declared) -> Result<(), CheckRefusal>
+    ensures { Judges result (field_refusal (field_names (map seen_field before.now)) (seen_field field.now)) }
+{
+    let part = Part::Field(before.len() as u64 + 1);
+    want(before.len() < MAX_FIELDS, CheckFault::Limit, part)?;
+    let is_fresh = !is_among_fields(&field.name, before);
+    want(is_fresh, CheckFault::Duplicate, part)?;
+    judge_ty(alloc, part, &field.ty)
+}
+
+// The clauses of numbers, and the form.
+#[tactic(auto, using(crate::proofs::Following::steps))]
+fn judge_numbers(query: &Query) -> Result<(), CheckRefusal>
+    ensures judged { Judges result (numbers_refusal (seen query.now)) }
+    ensures clock { OnOk result (clock_fits (seen query.now) ≡ true) }
+    ensures shape { OnOk result (shape_fits query.now.shape ≡ true) }
+{
+    want(clock_fits(query), CheckFault::Limit, Part::Clock)?;
+    want(budget_fits(query.budget), CheckFault::Limit, Part::Budget)?;
+    want(shape_fits(query.shape), CheckFault::Limit, Part::Window)?;
+    let counts_fit = every_fits(query.early) && every_fits(query.late);
+    want(counts_fit, CheckFault::Limit, Part::Trigger)?;
+    let is_emitted = may_emit(query.form, query.mode);
+    want(is_emitted, CheckFault::StreamNeedsAccumulating, Part::Emit)
+}
+
+fn judge_option(
+    query: &Query,
+    around: Around,
+    part: Part,
+    condition: &Option<Expr>,
+) -> Result<(), CheckRefusal>
+    requires { length query.now.fields.items ≤ 16 }
+    ensures { Judges result (condition_refusal (seen query.now) around part (option_map seen_expr condition.now)) }
+{
+    match condition {
+        None => Ok(()),
+        Some(test) => match judge_condition(query, around, test) {
+            Ok(()) => Ok(()),
+            Err(fault) => Err(CheckRefusal::Fault(fault, part)),
+        },
+    }
+}
+
+// The columns behind others: 1 to 16 of them.
+#[tactic(auto, using(crate::proofs::Following::steps))]
+fn judge_columns(query: &Query, passed: usize, columns: &[Expr]) -> Result<(), CheckRefusal>
+    requires fields { length query.now.fields.items ≤ 16 }
+    requires passed { passed ≤ MAX_COLUMNS }
+    ensures judged { Judges result (columns_refusal (seen query.now) passed (map seen_expr columns.now)) }
+    ensures few { OnOk result (passed + length columns.now ≤ MAX_COLUMNS) }
+{
+    let [first, rest @ ..] = columns else {
+        return want(passed > 0, CheckFault::Limit, Part::Column(1));
+    };
+    want(
+        passed < MAX_COLUMNS,
+        CheckFault::Limit,
+        Part::Column(passed as u64 + 1),
+    )?;
+    judge_column(query, Part::Column(passed as u64 + 1), first)?;
+    judge_columns(query, passed + 1, rest)
+}
+
+fn judge_column(query: &Query, part: Part, column: &Expr) -> Result<(), CheckRefusal>
+    requires { length query.now.fields.items ≤ 16 }
+    ensures { Judges result (typed_refusal part (typed (seen query.now) InColumn (seen_expr column.now))) }
+{
+    match type_of(query, Around::InColumn, column) {
+        Ok(_) => Ok(()),
+        Err(fault) => Err(CheckRefusal::Fault(fault, part)),
+    }
+}
+
+/// Whether the query passes all checks, or the first that refuses it.
+pub fn judge(alloc: Global, query: &Query) -> Result<(), CheckRefusal>
+    ensures { Judges result (refusal (seen query.now)) }
+{
+    judge_in_groups(alloc, query)
+}
+
+#[tactic(auto, using(crate::proofs::Following::steps))]
+fn judge_in_groups(alloc: Global, query: &Query) -> Result<(), CheckRefusal>
+    ensures { Judges result (grouped_refusal (seen query.now)) }
+{
+    judge_names(alloc, Part::Keys, &query.keys)?;
+    judge_fields(alloc, &query.fields)?;
+    judge_numbers(query)?;
+    judge_option(query, Around::InWhere, Part::Where, &query.condition)?;
+    judge_columns(query, 0, &query.columns)?;
+    judge_option(query, Around::InColumn, Part::Having, &query.having)?;
+    want(code_fits(query), CheckFault::Limit, Part::Code)
+}

@@ -1,0 +1,95 @@
+//! The ranges of the numbers of a query.
+
+ghost use Rattle.std.specs.Prelude.{◌≡◌, option_map};
+ghost use Rattle.wsm_query.specs.Seen.{seen, seen_budget};
+ghost use Rattle.wsm_check.specs.Checks.{budget_fits, clock_fits, every_fits, in_range, is_cost, is_count, is_span, is_time, may_emit, shape_fits};
+
+use wsm_query::{Budget, Query};
+use wsm_record::{Form, Mode};
+use wsm_windows::Shape;
+
+const MAX_TIME: i64 = 10_000_000_000_000_000;
+
+// The greatest skew, lateness, size, period, gap and number of records.
+const MAX_NUMBER: i64 = 1_000_000_000_000;
+
+const MAX_COST: i64 = 1_000_000_000_000_000_000;
+
+const MAX_HELD: i64 = 100_000;
+
+/// Whether START, SKEW, LATENESS and RECORDS are in range.
+pub fn clock_fits(query: &Query) -> bool
+    ensures { result ≡ clock_fits (seen query.now) }
+{
+    is_within(0, MAX_TIME, query.start)
+        && is_span(query.skew)
+        && is_span(query.lateness)
+        && is_count(query.records)
+}
+
+/// Whether the numbers of BUDGET are in range.
+pub fn budget_fits(budget: Option<Budget>) -> bool
+    ensures { result ≡ budget_fits (option_map seen_budget budget) }
+{
+    match budget {
+        None => true,
+        Some(b) => {
+            is_cost(b.per_record) && is_cost(b.per_pane) && is_within(1, MAX_HELD, b.held)
+        }
+    }
+}
+
+/// Whether size, period and gap are in range, and the period is at most the size.
+pub fn shape_fits(shape: Shape) -> bool
+    ensures { result ≡ shape_fits shape }
+{
+    match shape {
+        Shape::Fixed(size) => is_count(size),
+        Shape::Sliding(size, period) => is_count(size) && is_count(period) && period <= size,
+        Shape::Session(gap) => is_count(gap),
+    }
+}
+
+/// Whether the count of a trigger is in range.
+pub fn every_fits(every: Option<i64>) -> bool
+    ensures { result ≡ every_fits every }
+{
+    match every {
+        None => true,
+        Some(count) => is_count(count),
+    }
+}
+
+/// Whether a form may stand with a mode: a stream needs ACCUMULATING.
+pub fn may_emit(form: Form, mode: Mode) -> bool
+    ensures { result ≡ may_emit form mode }
+{
+    match (form, mode) {
+        (Form::Panes, _) | (_, Mode::Accumulating) => true,
+        (_, Mode::Discarding) => false,
+    }
+}
+
+fn is_span(number: i64) -> bool
+    ensures { result ≡ is_span number }
+{
+    is_within(0, MAX_NUMBER, number)
+}
+
+fn is_count(number: i64) -> bool
+    ensures { result ≡ is_count number }
+{
+    is_within(1, MAX_NUMBER, number)
+}
+
+fn is_cost(number: i64) -> bool
+    ensures { result ≡ is_cost number }
+{
+    is_within(1, MAX_COST, number)
+}
+
+fn is_within(lo: i64, hi: i64, number: i64) -> bool
+    ensures { result ≡ in_range lo hi number }
+{
+    lo <= number && number <= hi
+}

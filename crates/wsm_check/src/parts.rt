@@ -1,0 +1,62 @@
+//! What a checked query has.
+
+use crate::term::Term;
+use crate::types::ValueTy;
+use wsm_query::{Budget, Declared};
+use wsm_record::{Form, Kind, Mode, Name};
+use wsm_windows::Shape;
+
+/// What an accumulator folds.
+#[derive(Debug, Drop)]
+pub struct Folding {
+    pub kind: Kind,
+    /// The value that a record adds.
+    pub operand: Term,
+}
+
+/// A column.
+#[derive(Debug, Drop)]
+pub struct Column {
+    pub ty: ValueTy,
+    pub term: Term,
+}
+
+/// What a checked query has: names are numbers in its expressions, and each aggregate has an
+/// accumulator of its own.
+#[derive(Debug, Drop)]
+pub struct Parts {
+    pub keys: Vec<Name>,
+    pub fields: Vec<Declared>,
+    /// Where the watermark starts, in event time.
+    pub start: i64,
+    /// How far ahead of the watermark a record may be, in event time.
+    pub skew: i64,
+    /// How far behind the watermark a record may be, in event time.
+    pub lateness: i64,
+    /// How many records are admitted.
+    pub records: i64,
+    pub budget: Option<Budget>,
+    pub shape: Shape,
+    pub mode: Mode,
+    /// After how many unshown records a pane fires early.
+    pub early: Option<i64>,
+    /// After how many unshown records a pane fires late.
+    pub late: Option<i64>,
+    pub form: Form,
+    /// WHERE
+    pub condition: Option<Term>,
+    /// The accumulators by their numbers: those of the columns, then those of HAVING.
+    pub foldings: Vec<Folding>,
+    pub columns: Vec<Column>,
+    pub having: Option<Term>,
+}
+
+/// What the expressions of a checked query are.
+#[derive(Debug, Drop)]
+pub struct Terms {
+    /// WHERE
+    pub condition: Option<Term>,
+    pub foldings: Vec<Folding>,
+    pub columns: Vec<Column>,
+    pub having: Option<Term>,
+}

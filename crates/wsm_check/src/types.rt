@@ -1,0 +1,192 @@
+//! The types of expressions.
+
+ghost use Rattle.std.specs.Prelude.{◌≡◌, ◌≤◌, ◌<◌, cond, length, Ok, Err, IfOk, IfErr};
+ghost use Rattle.wsm_record.specs.Name as name_rule;
+ghost use Rattle.wsm_query.specs.Tree.{Aggregate};
+ghost use Rattle.wsm_query.specs.Seen.{seen, seen_expr, seen_ty as seen_declared};
+ghost use Rattle.wsm_check.specs.Types as rule;
+ghost use Rattle.wsm_check.specs.Types.{IntValue, BoolValue, EnumValue, entered, enum_ty, field_ty, op_ty, seen_ty, seen_typed, typed, typed_condition, wanted};
+
+use crate::names::{find_field, is_among};
+use crate::refusal::CheckFault;
+use wsm_query::{Expr, Op, Query, Ty};
+use wsm_record::{Kind, Name};
+
+/// The type of a value.
+#[derive(Clone, Copy, Debug, PartialEq, Eq)]
+pub enum ValueTy {
+    Int,
+    Bool,
+    /// A name of an ENUM: 0 is the keys, `f + 1` the names of field `f`.
+    Enum(u8),
+}
+
+/// Where an expression stands.
+#[derive(Clone, Copy, Debug, PartialEq, Eq)]
+pub enum Around {
+    InWhere,
+    /// In a column or in HAVING.
+    InColumn,
+    InAggregate,
+}
+
+/// The type of an expression, or its first fault: its parts are walked from the left, and before
+/// itself.
+#[cycle(typed)]
+pub fn type_of(query: &Query, around: Around, expr: &Expr) -> Result<ValueTy, CheckFault>
+    requires { length query.now.fields.items ≤ 16 }
+    ensures { seen_typed result ≡ typed (seen query.now) around (seen_expr expr.now) }
+{
+    match expr {
+        Expr::Number(_) => Ok(ValueTy::Int),
+        Expr::Truth(_) => Ok(ValueTy::Bool),
+        Expr::Field(field) => type_of_field(query, around, field),
+        Expr::EnumName(field, name) => type_of_name(query, field, name),
+        Expr::Key => Ok(ValueTy::Enum(0)),
+        Expr::KeyName(name) => type_of_key(query, name),
+        Expr::Count => type_of_count(around),
+        Expr::Aggregate(kind, operand) => type_of_aggregate(query, around, *kind, operand),
+        Expr::If(test, first, second) => {
+            let given = type_of(query, around, test)?;
+            let x = type_of(query, around, first)?;
+            let y = type_of(query, around, second)?;
+            want(given == ValueTy::Bool && x == y, x)
+        }
+        Expr::Brackets(inner) => type_of(query, around, inner),
+        Expr::Minus(operand) => {
+            let given = type_of(query, around, operand)?;
+            want(given == ValueTy::Int, ValueTy::Int)
+        }
+        Expr::Not(operand) => {
+            let given = type_of(query, around, operand)?;
+            want(given == ValueTy::Bool, ValueTy::Bool)
+        }
+        Expr::Binary(op, left, right) => {
+            let x = type_of(query, around, left)?;
+            let y = type_of(query, around, right)?;
+            type_of_op(*op, x, y)
+        }
+        Expr::And(left, right) | Expr::Or(left, right) => {
+            let x = type_of(query, around, left)?;
+            let y = type_of(query, around, right)?;
+            want(x == ValueTy::Bool && y == ValueTy::Bool, ValueTy::Bool)
+        }
+    }
+}
+
+// COUNT(*) is an aggregate too.
+fn type_of_count(around: Around) -> Result<ValueTy, CheckFault>
+    ensures { seen_typed result ≡ entered around (Ok IntValue) }
+{
+    match around {
+        Around::InColumn => Ok(ValueTy::Int),
+        Around::InWhere => Err(CheckFault::AggregateInWhere),
+        Around::InAggregate => Err(CheckFault::AggregateNested),
+    }
+}
+
+// The fault of where an aggregate stands is found before those of its operand.
+#[cycle(typed)]
+fn type_of_aggregate(
+    query: &Query,
+    around: Around,
+    kind: Kind,
+    operand: &Expr,
+) -> Result<ValueTy, CheckFault>
+    requires { length query.now.fields.items ≤ 16 }
+    ensures { seen_typed result ≡ typed (seen query.now) around (Aggregate kind (seen_expr operand.now)) }
+{
+    match around {
+        Around::InColumn => {
+            let given = type_of(query, Around::InAggregate, operand)?;
+            let wanted = operand_ty(kind);
+            want(given == wanted, wanted)
+        }
+        Around::InWhere => Err(CheckFault::AggregateInWhere),
+        Around::InAggregate => Err(CheckFault::AggregateNested),
+    }
+}
+
+fn operand_ty(kind: Kind) -> ValueTy
+    ensures { seen_ty result ≡ rule.operand_ty kind }
+{
+    match kind {
+        Kind::Sum | Kind::Min | Kind::Max => ValueTy::Int,
+        Kind::Any | Kind::All => ValueTy::Bool,
+    }
+}
+
+// A type where the operands have the types that are asked for.
+fn want(holds: bool, ty: ValueTy) -> Result<ValueTy, CheckFault>
+    ensures { seen_typed result ≡ wanted holds (seen_ty ty) }
+{
+    if holds { Ok(ty) } else { Err(CheckFault::Type) }
+}
+
+fn type_of_op(op: Op, left: ValueTy, right: ValueTy) -> Result<ValueTy, CheckFault>
+    ensures { seen_typed result ≡ op_ty op (seen_ty left) (seen_ty right) }
+{
+    let are_numbers = left == ValueTy::Int && right == ValueTy::Int;
+    match op {
+        Op::Add | Op::Sub | Op::Mul | Op::Div | Op::Rem => want(are_numbers, ValueTy::Int),
+        Op::Eq | Op::Ne => want(left == right, ValueTy::Bool),
+        Op::Lt | Op::Le | Op::Gt | Op::Ge => want(are_numbers, ValueTy::Bool),
+    }
+}
+
+// A field is read in WHERE and in an aggregate alone.
+fn type_of_field(query: &Query, around: Around, field: &Name) -> Result<ValueTy, CheckFault>
+    requires { length query.now.fields.items ≤ 16 }
+    ensures { seen_typed result ≡ field_ty (seen query.now) around field.now }
+{
+    let Some((number, ty)) = find_field(&query.fields, field) else {
+        return Err(CheckFault::UnknownName);
+    };
+    match around {
+        Around::InWhere | Around::InAggregate => Ok(declared_ty(number, ty)),
+        Around::InColumn => Err(CheckFault::FieldOutsideAggregate),
+    }
+}
+
+fn declared_ty(number: u8, ty: &Ty) -> ValueTy
+    requires { number < 16 }
+    ensures { seen_ty result ≡ rule.declared_ty number (seen_declared ty.now) }
+{
+    match ty {
+        Ty::Int { .. } => ValueTy::Int,
+        Ty::Bool => ValueTy::Bool,
+        Ty::Enum(_) => ValueTy::Enum(number + 1),
+    }
+}
+
+// The field must be there, an ENUM, and have the name.
+fn type_of_name(query: &Query, field: &Name, name: &Name) -> Result<ValueTy, CheckFault>
+    requires { length query.now.fields.items ≤ 16 }
+    ensures { seen_typed result ≡ enum_ty (seen query.now) field.now name.now }
+{
+    match find_field(&query.fields, field) {
+        Some((number, Ty::Enum(names))) if is_among(name, names) => Ok(ValueTy::Enum(number + 1)),
+        _ => Err(CheckFault::UnknownName),
+    }
+}
+
+fn type_of_key(query: &Query, name: &Name) -> Result<ValueTy, CheckFault>
+    ensures { seen_typed result ≡ cond (name_rule.is_among name.now query.now.keys.items) (Ok (EnumValue 0)) (Err CheckFault.UnknownName) }
+{
+    if is_among(name, &query.keys) {
+        Ok(ValueTy::Enum(0))
+    } else {
+        Err(CheckFault::UnknownName)
+    }
+}
+
+/// Whether a condition is BOOL, or its first fault.
+pub fn judge_condition(query: &Query, around: Around, condition: &Expr) -> Result<(), CheckFault>
+    requires { length query.now.fields.items ≤ 16 }
+    ensures judged { IfErr result (λ f. typed_condition (seen query.now) around (seen_expr condition.now) ≡ Err f) }
+    ensures holds { IfOk result (λ _. typed_condition (seen query.now) around (seen_expr condition.now) ≡ Ok BoolValue) }
+{
+    let given = type_of(query, around, condition)?;
+    want(given == ValueTy::Bool, ValueTy::Bool)?;
+    Ok(())
+}

@@ -1,0 +1,96 @@
+//! What the jobs of the program do with files, standard input and standard output.
+
+use std::fs::{self, File};
+use std::io::{self, ErrorKind, Read, Write};
+use std::rt::Files;
+use wsm::{Device, End, Guarded, Job, compile_text, judge, run_program, run_query, write_out};
+
+/// Does the job. It is false where a program was judged and rejected.
+pub fn done<R: Files + AllocGlobal + Input + Print>(rt: &R, job: &Job) -> Result<bool, End> {
+    match job {
+        Job::Run {
+            program,
+            query,
+            rows,
+        } => run(rt, *program, query, rows.as_ref()),
+        Job::Compile { query, out } => compile(rt, query, out),
+        Job::Verify { program } => judged(rt, program, false),
+        Job::Explain { program } => judged(rt, program, true),
+    }
+}
+
+// Runs a query or a program over a file of rows, or over standard input.
+fn run<R: Files + AllocGlobal + Input + Print>(
+    rt: &R,
+    program: bool,
+    query: &String,
+    rows: Option<&String>,
+) -> Result<bool, End> {
+    let query = read(rt, query)?;
+    match rows {
+        None => run_over(rt, program, &query, rt.reader()),
+        Some(rows) => match File::open(rt, rows.as_str()) {
+            Ok(rows) => run_over(rt, program, &query, rows),
+            Err(error) => Err(end_of(&error, End::ReadFailed)),
+        },
+    }
+}
+
+fn run_over<R: AllocGlobal + Print, I: Read + Drop>(
+    rt: &R,
+    program: bool,
+    query: &[u8],
+    rows: I,
+) -> Result<bool, End> {
+    let mut output = Guarded::new(io::writer(rt));
+    if program {
+        run_program(rt.alloc(), query, rows, &mut output)?;
+    } else {
+        run_query(rt.alloc(), query, rows, &mut output)?;
+    }
+    Ok(true)
+}
+
+// Writes the program of a query to a file. The file is made once the program is there.
+fn compile<R: Files + AllocGlobal>(rt: &R, query: &String, out: &String) -> Result<bool, End> {
+    let text = read(rt, query)?;
+    let program = compile_text(rt.alloc(), &text)?;
+    match File::create(rt, out.as_str()) {
+        Ok(file) => write(&program, file),
+        Err(error) => Err(end_of(&error, End::WriteFailed)),
+    }
+}
+
+fn write<W: Write + Drop>(bytes: &[u8], file: W) -> Result<bool, End> {
+    let mut out = Guarded::new(file);
+    write_out(&mut out, bytes)?;
+    out.flush()?;
+    Ok(true)
+}
+
+// Writes the judgement of a file's program.
+fn judged<R: Files + AllocGlobal + Print>(
+    rt: &R,
+    program: &String,
+    explain: bool,
+) -> Result<bool, End> {
+    let bytes = read(rt, program)?;
+    let mut output = Guarded::new(io::writer(rt));
+    judge(rt.alloc(), &bytes, explain, &mut output)
+}
+
+// The bytes of a file.
+fn read<R: Files + AllocGlobal>(rt: &R, name: &String) -> Result<Vec<u8>, End> {
+    match fs::read(rt, name.as_str()) {
+        Ok(bytes) => Ok(bytes),
+        Err(error) => Err(end_of(&error, End::ReadFailed)),
+    }
+}
+
+// How a job ends where a file can't be opened, read or made: as given, but for want of memory.
+fn end_of(error: &io::Error, end: End) -> End {
+    match error.kind() {
+        ErrorKind::OutOfMemory => End::Memory,
+        _ => end,
+    }
+}

@@ -1,0 +1,75 @@
+-- Code that is added part by part.
+use Rattle.std.proofs.Common.{◌≡◌, ℕ, ◌+◌, ◌<◌, false, true, List, [], ◌∷◌, ◌++◌, length, map, drop, get_or, refl, sym, ◌∙◌, ap, arith, add-one, append_assoc, length-append}
+use Rattle.std.proofs.lemmas.List.{drop_more}
+use Rattle.wsm_bytecode.specs.declared.instr.Instr.{Instr}
+use Rattle.wsm_bytecode.specs.declared.instr.Instr.TheVariants as instr
+use Rattle.wsm_check.specs.Terms.{Term, Number, Truth, Field, Name, Key, Count, Accumulator, If, Minus, Not, Binary, And, Or}
+use Rattle.wsm_compiler.specs.Code.{instruction, choice}
+use Rattle.wsm_check.specs.Parts.{Folding}
+use Rattle.wsm_compiler.specs.TermCode.{term_size, term_code, foldings_code}
+use Rattle.wsm_compiler.proofs.Sizes.{length-choice}
+
+-- a term has as many instructions as its size says
+pub length-term_code : (k : ℕ) (t : Term) → length (term_code k t) ≡ term_size t
+length-term_code k (If c x y) =
+    let j = k + term_size c + 1 in
+    let first = term_code j x in
+    let second = term_code (j + term_size x + 1) y in
+    let l = length-append (term_code k c) (choice j first (term_size x) second (term_size y)) in
+    let m = length-choice j first (term_size x) second (term_size y) in
+    omega (arith, l, m, length-term_code k c, length-term_code j x, length-term_code (j + term_size x + 1) y)
+length-term_code k (Minus x) = let l = length-append (term_code k x) (instr.Neg ∷ []) in omega (arith, l, length-term_code k x)
+length-term_code k (Not x) = let l = length-append (term_code k x) (instr.Not ∷ []) in omega (arith, l, length-term_code k x)
+length-term_code k (Binary op x y) =
+    let right = term_code (k + term_size x) y in
+    let l = length-append (term_code k x) (right ++ instruction op ∷ []) in
+    let m = length-append right (instruction op ∷ []) in
+    omega (arith, l, m, length-term_code k x, length-term_code (k + term_size x) y)
+length-term_code k (And x y) =
+    let j = k + term_size x + 1 in
+    let first = term_code j y in
+    let l = length-append (term_code k x) (choice j first (term_size y) (instr.PushBool false ∷ []) 1) in
+    let m = length-choice j first (term_size y) (instr.PushBool false ∷ []) 1 in
+    omega (arith, l, m, length-term_code k x, length-term_code j y)
+length-term_code k (Or x y) =
+    let j = k + term_size x + 1 in
+    let second = term_code (j + 1 + 1) y in
+    let l = length-append (term_code k x) (choice j (instr.PushBool true ∷ []) 1 second (term_size y)) in
+    let m = length-choice j (instr.PushBool true ∷ []) 1 second (term_size y) in
+    omega (arith, l, m, length-term_code k x, length-term_code (j + 1 + 1) y)
+length-term_code k (Number n) = refl
+length-term_code k (Truth b) = refl
+length-term_code k (Field f) = refl
+length-term_code k (Name e i) = refl
+length-term_code k Key = refl
+length-term_code k Count = refl
+length-term_code k (Accumulator a) = refl
+
+-- and so many stand there more once it is added
+pub length-added : (code : List Instr) (k : ℕ) (t : Term) → length (code ++ term_code k t) ≡ length code + term_size t
+length-added code k t = length-append code (term_code k t) ∙ ap (λ n. length code + n) (length-term_code k t)
+
+-- the same behind an instruction
+pub length-added_behind : (code : List Instr) (i : Instr) (k : ℕ) (t : Term) → length (code ++ i ∷ term_code k t) ≡ length code + 1 + term_size t
+length-added_behind code i k t = let l = length-append code (i ∷ term_code k t) in omega (arith, l, length-term_code k t)
+
+pub ruleset added = (length-added, length-added_behind, append_assoc)
+
+-- the elements from place i on are the one there and those behind it
+pub seen_rest : {X Y : Type 0} (f : X → Y) (xs : List X) (i : ℕ) (x : X) → i < length xs → x ≡ get_or xs i x → map f (drop i xs) ≡ f x ∷ map f (drop (i + 1) xs)
+seen_rest f xs i x h e = ap (map f) (drop_more xs i x h ∙ ap (λ y. y ∷ drop (i + 1) xs) (sym e))
+
+-- an operand's code, and its FOLD
+pub folded : (code mid next : List Instr) (a : ℕ) (f : Folding) (fs : List Folding) → mid ≡ code ++ term_code (length code) f.operand → next ≡ mid ++ instr.Fold a ∷ [] →
+    (length next ≡ length code + term_size f.operand + 1) × (next ++ foldings_code (length next) (a + 1) fs ≡ code ++ foldings_code (length code) a (f ∷ fs))
+folded code mid next a f fs m n =
+    let t = term_code (length code) f.operand in
+    let l : length next ≡ length code + term_size f.operand + 1 = omega (arith, ap length n, ap length m, length-append mid (instr.Fold a ∷ []), length-added code (length code) f.operand) in
+    (l, rw (l, n, m, add-one a) (simp append_assoc))
+
+-- a column's code
+pub computed : (code next : List Instr) (t : Term) (rest : ℕ → List Instr) → next ≡ code ++ term_code (length code) t →
+    (length next ≡ length code + term_size t) × (next ++ rest (length next) ≡ code ++ (term_code (length code) t ++ rest (length code + term_size t)))
+computed code next t rest n =
+    let l : length next ≡ length code + term_size t = omega (arith, ap length n, length-added code (length code) t) in
+    (l, rw (l, n) (simp append_assoc))

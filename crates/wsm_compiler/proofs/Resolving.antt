@@ -1,0 +1,101 @@
+-- The code of what a checked query has is the code of the query.
+use Rattle.std.proofs.Common.{◌≡◌, ℕ, ◌+◌, List, [], ◌∷◌, ◌++◌, map, Option, Some, None, refl, ap, ap₂, arith}
+use Rattle.std.specs.Prelude.{suc, option_map}
+use Rattle.std.proofs.lemmas.Simd.{map-map}
+use Rattle.wsm_bytecode.specs.declared.instr.Instr.TheVariants as instr
+use Rattle.wsm_bytecode.specs.declared.program.Budget.{Budget as Stated}
+use Rattle.wsm_query.specs.Tree.{Query, Expr, Number, Truth, Field, EnumName, Key, KeyName, Count, Aggregate, If, Brackets, Minus, Not, Binary, And, Or}
+use Rattle.wsm_check.specs.Sizes.{Acc, aggregates, accumulators, size, condition_size, folds_size, columns_size}
+use Rattle.wsm_check.specs.Terms.{resolved}
+use Rattle.wsm_check.specs.Parts.{aggregates_of, folding, columns_from, parts_of}
+use Rattle.wsm_compiler.specs.Code.{code, condition_code, folds, columns_code}
+use Rattle.wsm_compiler.specs.TermCode.{term_code, term_size, ending_code, ending_size, foldings_code, foldings_size, firing_code, firing_size}
+use Rattle.wsm_compiler.specs.Program.{cell_type, column_type, program_stating}
+use Rattle.wsm_compiler.specs.Assembled.{assembled}
+
+pub resolved_size : (q : Query) (a : ℕ) (e : Expr) → term_size (resolved q a e) ≡ size e
+resolved_size q a (If c x y) = rw (resolved_size q a c, resolved_size q (a + aggregates c) x, resolved_size q (a + (aggregates c + aggregates x)) y) refl
+resolved_size q a (Brackets e) = resolved_size q a e
+resolved_size q a (Minus e) = ap (λ n. n + 1) (resolved_size q a e)
+resolved_size q a (Not e) = ap (λ n. n + 1) (resolved_size q a e)
+resolved_size q a (Binary op x y) = ap₂ (λ m n. m + n + 1) (resolved_size q a x) (resolved_size q (a + aggregates x) y)
+resolved_size q a (And x y) = ap₂ (λ m n. m + n + 3) (resolved_size q a x) (resolved_size q (a + aggregates x) y)
+resolved_size q a (Or x y) = ap₂ (λ m n. m + n + 3) (resolved_size q a x) (resolved_size q (a + aggregates x) y)
+resolved_size q a (Number n) = refl
+resolved_size q a (Truth b) = refl
+resolved_size q a (Field x) = refl
+resolved_size q a (EnumName x y) = refl
+resolved_size q a Key = refl
+resolved_size q a (KeyName x) = refl
+resolved_size q a Count = refl
+resolved_size q a (Aggregate kind e) = refl
+
+pub resolved_code : (q : Query) (k a : ℕ) (e : Expr) → term_code k (resolved q a e) ≡ code q k a e
+resolved_code q k a (If c x y) =
+    let b = a + aggregates c in
+    let d = a + (aggregates c + aggregates x) in
+    let j = k + size c + 1 in
+    rw (resolved_size q a c, resolved_size q b x, resolved_size q d y, resolved_code q k a c, resolved_code q j b x, resolved_code q (j + size x + 1) d y) refl
+resolved_code q k a (Brackets e) = resolved_code q k a e
+resolved_code q k a (Minus e) = ap (λ is. is ++ instr.Neg ∷ []) (resolved_code q k a e)
+resolved_code q k a (Not e) = ap (λ is. is ++ instr.Not ∷ []) (resolved_code q k a e)
+resolved_code q k a (Binary op x y) =
+    let b = a + aggregates x in
+    rw (resolved_size q a x, resolved_code q k a x, resolved_code q (k + size x) b y) refl
+resolved_code q k a (And x y) =
+    let b = a + aggregates x in
+    rw (resolved_size q a x, resolved_size q b y, resolved_code q k a x, resolved_code q (k + size x + 1) b y) refl
+resolved_code q k a (Or x y) =
+    let b = a + aggregates x in
+    rw (resolved_size q a x, resolved_size q b y, resolved_code q k a x, resolved_code q (k + size x + 1 + 1 + 1) b y) refl
+resolved_code q k a (Number n) = refl
+resolved_code q k a (Truth b) = refl
+resolved_code q k a (Field x) = refl
+resolved_code q k a (EnumName x y) = refl
+resolved_code q k a Key = refl
+resolved_code q k a (KeyName x) = refl
+resolved_code q k a Count = refl
+resolved_code q k a (Aggregate kind e) = refl
+
+-- ---- sections
+
+ended : (q : Query) (k a : ℕ) (o : Option Expr) → ending_code k (option_map (resolved q a) o) ≡ condition_code q k a o ++ instr.Return ∷ []
+ended q k a None = refl
+ended q k a (Some e) = ap (λ is. is ++ instr.Return ∷ []) (resolved_code q k a e)
+
+pub ended_size : (q : Query) (a : ℕ) (o : Option Expr) → ending_size (option_map (resolved q a) o) ≡ condition_size o + 1
+ended_size q a None = refl
+ended_size q a (Some e) = ap (λ n. n + 1) (resolved_size q a e)
+
+folded : (q : Query) (k a : ℕ) (accs : List Acc) → foldings_code k a (map (folding q) accs) ≡ folds q k a accs
+folded q k a [] = refl
+folded q k a (acc ∷ accs) = rw (resolved_size q 0 acc.operand, resolved_code q k 0 acc.operand, folded q (k + size acc.operand + 1) (suc a) accs) refl
+
+pub folded_size : (q : Query) (accs : List Acc) → foldings_size (map (folding q) accs) ≡ folds_size accs
+folded_size q [] = refl
+folded_size q (acc ∷ accs) = ap₂ (λ m n. m + 1 + n) (resolved_size q 0 acc.operand) (folded_size q accs)
+
+-- HAVING's aggregates are behind those of the columns
+fired : (q : Query) (h k a : ℕ) (es : List Expr) → h ≡ a + aggregates_of es → firing_code k (option_map (resolved q h) q.having) (columns_from q a es) ≡ columns_code q k a es
+fired q h k a [] n = let m : h ≡ a = omega (arith, n) in rw m (ended q k a q.having)
+fired q h k a (e ∷ es) n = rw (resolved_size q a e, resolved_code q k a e, fired q h (k + size e) (a + aggregates e) es (omega (arith, n))) refl
+
+pub fired_size : (q : Query) (h a : ℕ) (es : List Expr) → firing_size (option_map (resolved q h) q.having) (columns_from q a es) ≡ columns_size q.having es
+fired_size q h a [] = ended_size q h q.having
+fired_size q h a (e ∷ es) = ap₂ (λ m n. m + n) (resolved_size q a e) (fired_size q h (a + aggregates e) es)
+
+-- ---- the program
+
+column_types : (q : Query) (a : ℕ) (es : List Expr) → map (λ c. cell_type c.ty) (columns_from q a es) ≡ map (column_type q) es
+column_types q a [] = refl
+column_types q a (e ∷ es) = ap (λ ts. column_type q e ∷ ts) (column_types q (a + aggregates e) es)
+
+pub assembled_is : (q : Query) (b : Stated) → assembled (parts_of q) b ≡ program_stating q b
+assembled_is q b =
+    rw (
+      map-map (λ f. f.kind) (folding q) (accumulators q),
+      column_types q 0 q.columns,
+      ended q 0 0 q.condition,
+      folded q 0 0 (accumulators q),
+      fired q (aggregates_of q.columns) 0 0 q.columns (omega arith),
+    ) refl

@@ -1,0 +1,18 @@
+use Rattle.std.proofs.Common.{ap, sym, ◌∙◌, None}
+use Rattle.std.specs.Prelude.{option_map}
+use Rattle.wsm_bytecode.specs.Program.{is_budget}
+use Rattle.wsm_verifier.specs.Costs.{needed}
+use Rattle.wsm_query.specs.Seen.{seen_budget}
+use Rattle.wsm_check.specs.Seen.{seen_parts}
+use Rattle.wsm_compiler.specs.Assembled.{assembled}
+use Rattle.wsm_compiler.specs.Program.{stated}
+use Rattle.wsm_compiler.specs.declared.compiling.TheConstants.{LEAST}
+use Rattle.wsm_compiler.proofs.Assembling.{is_budget_of}
+use Rattle.wsm_compiler.proofs.compiling.program_with_need.Goals as goal
+
+pub stating-requires : goal.stating-requires
+stating-requires c =
+    let p = seen_parts c.args.checked.now.parts in
+    let need = c.in_ok-need.ensures.numbers ∙ ap needed c.in_ok-program.ensures in
+    let none = ap (option_map seen_budget) c.requires in
+    ap (λ costs. is_budget (stated costs None)) need ∙ ap (λ budget. is_budget (stated (needed (assembled p LEAST)) budget)) (sym none) ∙ is_budget_of p c.args.checked.now.of_checked LEAST

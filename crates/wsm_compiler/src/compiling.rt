@@ -1,0 +1,78 @@
+//! From a checked query to its program.
+
+ghost use Rattle.std.specs.Prelude.{◌≡◌, IfOk, IsTrue};
+ghost use Rattle.wsm_query.specs.Tree.{Query};
+ghost use Rattle.wsm_query.specs.Seen.{seen_budget};
+ghost use Rattle.wsm_check.specs.Checks.{IsChecked};
+ghost use Rattle.wsm_check.specs.Parts.{parts_of};
+ghost use Rattle.wsm_check.specs.Seen.{seen_parts};
+ghost use Rattle.wsm_check.specs.Spelt.{IsSpelt};
+ghost use Rattle.wsm_bytecode.specs.Program.{is_budget};
+ghost use Rattle.wsm_verifier.specs.declared.costs.Costs.{Costs};
+ghost use Rattle.wsm_verifier.specs.Costs.{needed};
+ghost use Rattle.wsm_compiler.specs.Assembled.{assembled};
+ghost use Rattle.wsm_compiler.specs.Program as spec;
+ghost use Rattle.wsm_compiler.specs.Program.{program_of};
+
+use crate::headers::header;
+use crate::sections::{fire, selection, update};
+use std::alloc::{AllocError, Global};
+use wsm_bytecode::{Budget, Program};
+use wsm_check::Checked;
+use wsm_query::Budget as Clause;
+use wsm_verifier::needed;
+
+// What a program states until its need is known.
+const LEAST: Budget = Budget {
+    per_record: 1,
+    per_pane: 1,
+    held: 1,
+};
+
+/// The program of a checked query. Where the query has no BUDGET, the program states what it needs.
+pub fn compile(alloc: Global, checked: &Checked) -> Result<Program, AllocError>
+    ensures { (q : Query) → IsChecked q → IsSpelt q → seen_parts checked.now.parts ≡ parts_of q → IfOk result (λ p. p ≡ program_of q) }
+{
+    match checked.parts.budget {
+        Some(clause) => program(alloc, checked, stated(clause)),
+        None => program_with_need(alloc, checked),
+    }
+}
+
+// The program that states what it needs.
+fn program_with_need(alloc: Global, checked: &Checked) -> Result<Program, AllocError>
+    requires { checked.now.parts.budget ≡ None }
+    ensures { let parts = seen_parts checked.now.parts in IfOk result (λ p. p ≡ assembled parts (spec.stated (needed (assembled parts LEAST)) None)) }
+{
+    let program = program(alloc, checked, LEAST)?;
+    let need = needed(alloc, &program)?;
+    Ok(program.stating(Budget {
+        per_record: need.per_record,
+        per_pane: need.per_pane,
+        held: need.held,
+    }))
+}
+
+// What a BUDGET clause states.
+fn stated(clause: Clause) -> Budget
+    ensures { (need : Costs) → result ≡ spec.stated need (Some (seen_budget clause)) }
+{
+    Budget {
+        per_record: clause.per_record.unsigned_abs(),
+        per_pane: clause.per_pane.unsigned_abs(),
+        held: clause.held.unsigned_abs(),
+    }
+}
+
+// The program that states a budget.
+fn program(alloc: Global, checked: &Checked, budget: Budget) -> Result<Program, AllocError>
+    requires { IsTrue (is_budget budget) }
+    ensures { IfOk result (λ p. p ≡ assembled (seen_parts checked.now.parts) budget) }
+{
+    let parts = &checked.parts;
+    let header = header(alloc, parts, budget)?;
+    let selection = selection(alloc, &parts.condition)?;
+    let update = update(alloc, &parts.foldings)?;
+    let fire = fire(alloc, &parts.columns, &parts.having)?;
+    Ok(Program::new(header, selection, update, fire).unwrap())
+}

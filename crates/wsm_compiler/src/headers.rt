@@ -1,0 +1,122 @@
+//! The header of a program.
+
+ghost use Rattle.std.specs.Prelude.{◌≡◌, map, IfOk};
+ghost use Rattle.wsm_record.specs.Schema.{schema_refusal};
+ghost use Rattle.wsm_record.specs.Fields.{declared_field, declared_type};
+ghost use Rattle.wsm_bytecode.specs.View.{header_of};
+ghost use Rattle.wsm_query.specs.Seen.{seen_field, seen_ty};
+ghost use Rattle.wsm_check.specs.Seen.{seen_column, seen_folding, seen_parts};
+ghost use Rattle.wsm_check.specs.Seen as value;
+ghost use Rattle.wsm_compiler.specs.Program as spec;
+ghost use Rattle.wsm_compiler.specs.Assembled.{assembled_header, kept, kept_field};
+
+use std::alloc::{AllocError, Global};
+use wsm_bytecode::{Budget, CellType, Header};
+use wsm_check::{Column, Folding, Parts, ValueTy};
+use wsm_query::{Declared, Ty};
+use wsm_record::{Field, Kind, Name, Schema, SchemaRefusal, Ty as FieldTy};
+
+/// The header of a program that states a budget.
+pub fn header(alloc: Global, parts: &Parts, budget: Budget) -> Result<Header, AllocError>
+    requires { schema_refusal (assembled_header (seen_parts parts.now) budget).schema ≡ None }
+    ensures { IfOk result (λ header. header_of header ≡ assembled_header (seen_parts parts.now) budget) }
+{
+    Ok(Header {
+        schema: schema(alloc, &parts.keys, &parts.fields)?,
+        start: parts.start,
+        skew: parts.skew,
+        lateness: parts.lateness,
+        records: parts.records,
+        shape: parts.shape,
+        mode: parts.mode,
+        early: every(parts.early),
+        late: every(parts.late),
+        form: parts.form,
+        kinds: kinds(alloc, &parts.foldings)?,
+        columns: column_types(alloc, &parts.columns)?,
+        budget,
+    })
+}
+
+// After how many records a firing comes, or 0 where none does.
+fn every(count: Option<i64>) -> i64
+    ensures { result ≡ spec.every count }
+{
+    count.unwrap_or(0)
+}
+
+// The keys and fields as a program keeps them.
+fn schema(alloc: Global, keys: &[Name], fields: &[Declared]) -> Result<Schema, AllocError>
+    requires { schema_refusal (kept keys.now (map seen_field fields.now)) ≡ None }
+    ensures { IfOk result (λ schema. schema ≡ kept keys.now (map seen_field fields.now)) }
+{
+    let fields = kept_fields(alloc, fields)?;
+    match Schema::new(alloc, keys, &fields) {
+        Ok(schema) => Ok(schema),
+        Err(SchemaRefusal::Memory) => Err(AllocError),
+        Err(_) => unreachable!(),
+    }
+}
+
+fn kept_fields(alloc: Global, fields: &[Declared]) -> Result<Vec<Field>, AllocError>
+    ensures { IfOk result (λ kept. map declared_field kept.items ≡ map kept_field (map seen_field fields.now)) }
+{
+    let mut kept = Vec::with_capacity(alloc, fields.len())?;
+    for field in fields {
+        let name = field.name.copied();
+        let ty = kept_type(alloc, &field.ty)?;
+        kept.push(Field { name, ty })?;
+    }
+    Ok(kept)
+}
+
+fn kept_type(alloc: Global, ty: &Ty) -> Result<FieldTy, AllocError>
+    ensures { IfOk result (λ kept. declared_type kept ≡ spec.field_type (seen_ty ty.now)) }
+{
+    match ty {
+        Ty::Int { lo, hi } => Ok(FieldTy::Int { lo: *lo, hi: *hi }),
+        Ty::Bool => Ok(FieldTy::Bool),
+        Ty::Enum(names) => Ok(FieldTy::Enum(copied(alloc, names)?)),
+    }
+}
+
+fn copied(alloc: Global, names: &[Name]) -> Result<Vec<Name>, AllocError>
+    ensures { IfOk result (λ copied. copied.items ≡ names.now) }
+{
+    let mut copied = Vec::with_capacity(alloc, names.len())?;
+    for name in names {
+        copied.push(name.copied())?;
+    }
+    Ok(copied)
+}
+
+// How the accumulators fold.
+fn kinds(alloc: Global, foldings: &[Folding]) -> Result<Vec<Kind>, AllocError>
+    ensures { IfOk result (λ kinds. kinds.items ≡ map (λ f. f.kind) (map seen_folding foldings.now)) }
+{
+    let mut kinds = Vec::with_capacity(alloc, foldings.len())?;
+    for folding in foldings {
+        kinds.push(folding.kind)?;
+    }
+    Ok(kinds)
+}
+
+fn column_types(alloc: Global, columns: &[Column]) -> Result<Vec<CellType>, AllocError>
+    ensures { IfOk result (λ types. types.items ≡ map (λ c. spec.cell_type c.ty) (map seen_column columns.now)) }
+{
+    let mut types = Vec::with_capacity(alloc, columns.len())?;
+    for column in columns {
+        types.push(cell_type(column.ty))?;
+    }
+    Ok(types)
+}
+
+fn cell_type(ty: ValueTy) -> CellType
+    ensures { result ≡ spec.cell_type (value.seen_ty ty) }
+{
+    match ty {
+        ValueTy::Int => CellType::Int,
+        ValueTy::Bool => CellType::Bool,
+        ValueTy::Enum(list) => CellType::Enum(list),
+    }
+}

@@ -1,0 +1,145 @@
+-- What fires on a turn of a verified program can: FIRE may read it, and there is room for its rows and
+-- its steps.
+use Rattle.std.proofs.Common.{◌≡◌, ℕ, suc, ◌+◌, ◌*◌, ◌≤◌, ◌<◌, ◌^◌, Bool, true, cond, List, [], ◌∷◌, map, length, ℤ, Option, Some, None, Ok, Result, IsTrue, refl, sym, ap, subst, ◌∙◌, arith}
+use Rattle.std.proofs.lemmas.List.Sums.{sum_by-cons}
+use Rattle.std.specs.Prelude.{filter_map, sum}
+use Rattle.std.specs.List.{AllByRecursion, cons_option}
+use Rattle.wsm_record.specs.declared.event.Value.{Value}
+use Rattle.wsm_record.specs.Event.{Event, Record, Watermark}
+use Rattle.wsm_windows.specs.declared.window.PaneKind.{PaneKind}
+use Rattle.wsm_windows.specs.Windows.{IsPlaced}
+use Rattle.wsm_admission.specs.declared.verdict.Admitted.{Admitted}
+use Rattle.wsm_admission.specs.declared.verdict.Admitted.TheVariants as admitted
+use Rattle.wsm_admission.specs.declared.verdict.Refusal.{Refusal}
+use Rattle.wsm_admission.specs.Admission.{answer}
+use Rattle.wsm_semantics.specs.declared.place.Place.{Place}
+use Rattle.wsm_semantics.specs.Query.{Query, mark, verdict_on}
+use Rattle.wsm_semantics.specs.Panes.{window_of}
+use Rattle.wsm_semantics.specs.HeldBounds.{most_panes}
+use Rattle.wsm_semantics.specs.Kept.{Kept, kept}
+use Rattle.wsm_semantics.specs.Summaries.{Pane, Fired, fired_of, fires, fired_by_record, fired_by_watermark, kind_by_record, kind_by_watermark}
+use Rattle.wsm_semantics.specs.Replay.{datum}
+use Rattle.wsm_semantics.specs.Steps as steps
+use Rattle.wsm_semantics.specs.Steps.{answer_to, fired_by, run, step_fires}
+use Rattle.wsm_semantics.proofs.Lists.{all-each}
+use Rattle.wsm_semantics.proofs.Each.{map-all}
+use Rattle.wsm_semantics.proofs.Stepping.{decision-fits}
+use Rattle.wsm_semantics.proofs.KeptPanes as panes_kept
+use Rattle.wsm_bytecode.specs.declared.instr.SectionId.TheVariants.{Fire}
+use Rattle.wsm_bytecode.specs.Program.{Program, is_program}
+use Rattle.wsm_verifier.specs.declared.costs.Costs.{Costs}
+use Rattle.wsm_verifier.specs.Rules.{judge}
+use Rattle.wsm_verifier.proofs.Lawful.{lawful as program_lawful, short}
+use Rattle.wsm_machine.specs.Meaning.{query_of, plan_of, selects, pane_inputs, fire_run, fire_steps, pane_cost_by}
+use Rattle.wsm_machine.specs.Sound.{MayFire}
+use Rattle.wsm_machine.specs.Step.{setting}
+use Rattle.wsm_machine.proofs.Runs.{steps_at_most}
+use Rattle.wsm_machine.proofs.Firing.{step_fires_may}
+use Rattle.wsm_machine.proofs.Histories as histories
+use Rattle.wsm_firing.specs.Firing.{CanFire}
+use Rattle.wsm_firing.specs.ByRecord.{CanFireByRecord, fires_by_record}
+use Rattle.wsm_firing.specs.ByWatermark.{CanFireByWatermark, fires_by_watermark}
+use Rattle.wsm_panes.specs.Held.{session_entered}
+use Rattle.wsm_engine.proofs.Limits.{panes_few}
+use Rattle.wsm_engine.proofs.Holding.{Panes, kept_panes, kept_within}
+use Rattle.wsm_engine.proofs.Entering.{now, now_within, timely}
+use Rattle.wsm_engine.proofs.Inside.{inside_is}
+
+-- no more fire than there are panes
+length-fires : (q : Query) (kind : Place → Pane (List Value) → Option PaneKind) (es : Panes) → length (fires q kind es) ≤ length es
+length-fires q kind [] = omega arith
+length-fires q kind (e ∷ es) =
+    let rest : length (fires q kind es) ≤ length es = length-fires q kind es in
+    elim (kind e.0 e.1) as (λ o. length (cons_option (fired_of q.mode e.0 e.1 o) (fires q kind es)) ≤ suc (length es)) [
+      | None ↦ omega (arith, rest)
+      | Some k ↦ omega (arith, rest)
+    ]
+
+module _ (p : Program) (costs : Costs) (judged : judge p ≡ Ok costs) (lawful : IsTrue (is_program p)) where
+  cost_few : (f : Fired (List Value)) → MayFire p f → pane_cost_by p f ≤ 1000
+  cost_few f h =
+      let steps : (fire_run p f.place.key f.count h.held).steps ≤ length p.fire = steps_at_most (setting p Fire (pane_inputs f.place.key f.count h.held)) in
+      let few : length p.fire ≤ 1000 = short p Fire lawful in
+      let all : (fire_run p f.place.key f.count h.held).steps ≤ 1000 = omega (arith, steps, few) in
+      subst (λ o. fire_steps p f.place.key f.count o ≤ 1000) (sym h.folded) all
+
+  costs_few : (fs : List (Fired (List Value))) → AllByRecursion (MayFire p) fs → sum (map (pane_cost_by p) fs) ≤ 1000 * length fs
+  costs_few [] h = omega arith
+  costs_few (f ∷ fs) h = let one = cost_few f h.0 in let rest = costs_few fs h.1 in let all = sum_by-cons (λ (n : ℕ). n) (pane_cost_by p f) (map (pane_cost_by p) fs) in omega (arith, one, rest, all)
+
+  -- so many firings as panes can be held can be fired
+  can_fire : (capacity : ℕ) (fs : List (Fired (List Value))) → AllByRecursion (MayFire p) fs → length fs ≤ most_panes (query_of p) → most_panes (query_of p) ≤ capacity → CanFire p capacity fs
+  can_fire capacity fs may few room =
+      let most : most_panes (query_of p) ≤ 100000 = panes_few p costs judged lawful in
+      let steps = costs_few fs may in
+      record { each = may; room = omega (arith, few, room); fired = omega (arith, few, most); steps = omega (arith, steps, few, most) }
+
+  module _ (past : List Event) where
+    abbrev q : Query
+    q = query_of p
+
+    abbrev ran : steps.State (List Value)
+    ran = run (plan_of p) (query_of p) past
+
+    abbrev es : Panes
+    es = kept_panes p costs judged lawful past
+
+    panes_are : ran.panes ≡ es
+    panes_are = (histories.fits p costs judged lawful past).panes
+
+    marked : ran.admission.mark ≡ mark q past
+    marked = let there = histories.fits p costs judged lawful past in there.admission.mark ∙ ap (λ c. mark (record q { clock = c }) past) there.clock
+
+    answered : (e : Event) (v : Option Refusal) → verdict_on q past e ≡ v → answer_to (plan_of p) q ran e ≡ answer (mark q past) e v
+    answered e v is =
+        let there = histories.fits p costs judged lawful past in
+        decision-fits q ran.admission past e there.clock there.admission ∙ ap (answer (mark q past) e) is
+
+    may : (e : Event) → AllByRecursion (MayFire p) (step_fires (plan_of p) q ran e)
+    may e = step_fires_may p costs judged lawful ran (histories.sound p costs judged lawful past) e
+
+    -- ---- a watermark
+
+    module _ (t : ℤ) (taken : verdict_on (query_of p) past (Watermark t) ≡ None) where
+      by_watermark : step_fires (plan_of p) q ran (Watermark t) ≡ fires_by_watermark p (mark q past) t es
+      by_watermark =
+          ap (λ (a : Result Admitted Refusal). fired_by (plan_of p) q a (Watermark t) ran) (answered (Watermark t) None taken)
+          ∙ ap (λ (ps : Panes). fired_by_watermark (plan_of p) q (mark q past) t ps) panes_are
+
+      placed : AllByRecursion (λ e. IsPlaced (window_of e.0)) es
+      placed =
+          map-all (λ e. IsPlaced (window_of e.0)) _ (kept q past)
+          (all-each (panes_kept.IsKeptPane q past) (λ e. IsPlaced (window_of e.0)) (kept q past) (λ e h. h.pane.place) (panes_kept.kept_panes q (program_lawful p lawful).shape past))
+
+      -- the panes that a watermark comes to can be fired
+      pub can_by_watermark : (capacity : ℕ) → most_panes (query_of p) ≤ capacity → CanFireByWatermark p capacity (mark (query_of p) past) t (kept_panes p costs judged lawful past)
+      can_by_watermark capacity room =
+          let within : length es ≤ most_panes q = kept_within p costs judged lawful past in
+          let few : length (fires_by_watermark p (mark q past) t es) ≤ length es = length-fires q (kind_by_watermark q (mark q past) t) es in
+          record {
+            placed = placed;
+            can = can_fire capacity _ (subst (AllByRecursion (MayFire p)) by_watermark (may (Watermark t))) (omega (arith, within, few)) room;
+          }
+
+    -- ---- a selected record
+
+    module _ (k : ℕ) (t : ℤ) (vs : List Value) (taken : verdict_on (query_of p) past (Record (Some k) t vs) ≡ None) (chosen : selects p k vs ≡ true) where
+      abbrev after : Panes
+      after = now p costs judged lawful past k t vs taken
+
+      by_record : step_fires (plan_of p) q ran (Record (Some k) t vs) ≡ fires_by_record p (mark q past) k t after
+      by_record =
+          ap (λ (a : Result Admitted Refusal). fired_by (plan_of p) q a (Record (Some k) t vs) ran) (answered (Record (Some k) t vs) None taken)
+          ∙ (λ i. cond (chosen i) (fired_by_record (plan_of p) q (marked i) (datum 0 k t vs) (panes_are i)) [])
+
+      -- the panes that it entered can be fired
+      pub can_by_record : (capacity : ℕ) → most_panes (query_of p) ≤ capacity →
+          CanFireByRecord p capacity (mark (query_of p) past) k t (session_entered p.header.shape (datum 0 k t []) (kept_panes p costs judged lawful past)) (now p costs judged lawful past k t vs taken)
+      can_by_record capacity room =
+          let within : length after ≤ most_panes q = now_within p costs judged lawful past k t vs taken chosen in
+          let few : length (fires_by_record p (mark q past) k t after) ≤ length after = length-fires q (kind_by_record q (mark q past) (datum 0 k t [])) after in
+          record {
+            timely = timely p costs judged lawful past k t vs taken;
+            entered = inside_is p costs judged lawful past k t vs taken chosen;
+            can = can_fire capacity _ (subst (AllByRecursion (MayFire p)) by_record (may (Record (Some k) t vs))) (omega (arith, within, few)) room;
+          }

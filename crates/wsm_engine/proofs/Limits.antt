@@ -1,0 +1,72 @@
+-- What a program's own laws say of its clock, and of how many panes it holds.
+use Rattle.std.proofs.Common.{◌≡◌, ℕ, ◌*◌, ◌≤◌, true, Bool, ◌&&◌, length, sym, subst, ◌∙◌, ℤ, pos, ◌≤ℤ◌, Ok, IsTrue, arith}
+use Rattle.std.proofs.lemmas.Bool.{and_parts}
+use Rattle.std.proofs.lemmas.Int.{ints}
+use Rattle.std.proofs.lemmas.Bool.Decides.{nat_tests}
+use Rattle.std.specs.Prelude.{unsigned_abs, int_le, nat_le}
+use Rattle.wsm_windows.specs.Life.{live_bound}
+use Rattle.wsm_admission.specs.Clock.{IsWithinLimits}
+use Rattle.wsm_semantics.specs.HeldBounds.{most_panes}
+use Rattle.wsm_record.specs.Name.{is_between}
+use Rattle.wsm_bytecode.specs.Program.{Header, Program, is_within, is_schema, is_clock, is_firing, is_row, is_budget, is_stated, is_header, is_program, is_section, latest_time}
+use Rattle.wsm_verifier.specs.declared.costs.Costs.{Costs}
+use Rattle.wsm_verifier.specs.Costs.{needed}
+use Rattle.wsm_verifier.specs.Rules.{judge}
+use Rattle.wsm_verifier.proofs.Lawful.{IsLawful, lawful as program_lawful}
+use Rattle.wsm_machine.specs.Meaning.{clock_of, query_of}
+use Rattle.wsm_machine.proofs.Costing.{stated}
+
+header_lawful : (p : Program) → IsTrue (is_program p) → is_header p.header ≡ true
+unfolding is_program
+header_lawful p h = (and_parts (is_header p.header) _ h).0
+
+clock_lawful : (h : Header) → is_header h ≡ true → is_clock h ≡ true
+unfolding is_header
+clock_lawful h e = (and_parts (is_clock h) _ (and_parts (is_schema h.schema) _ e).1).0
+
+budget_lawful : (h : Header) → is_header h ≡ true → is_budget h.budget ≡ true
+unfolding is_header
+budget_lawful h e = (and_parts (is_row h) _ (and_parts (is_firing h) _ (and_parts (is_clock h) _ (and_parts (is_schema h.schema) _ e).1).1).1).1
+
+between : (lo hi n : ℤ) → is_within lo hi n ≡ true → (lo ≤ℤ n) × (n ≤ℤ hi)
+between lo hi n h = (grind (arith, ints), grind (arith, ints))
+
+at_most : (lo hi n : ℕ) → is_between lo hi n ≡ true → n ≤ hi
+at_most lo hi n h = grind (arith, nat_tests)
+
+-- the clock of a program is within the limits of clocks
+pub clock_within : (p : Program) → IsTrue (is_program p) → IsWithinLimits (clock_of p.header)
+clock_within p whole =
+    let start = between (pos 0) latest_time p.header.start (and_parts (is_within (pos 0) latest_time p.header.start) _ (clock_lawful p.header (header_lawful p whole))).0 in
+    let is : IsLawful p.header = program_lawful p whole in
+    record {
+      start_from = start.0;
+      start_to = start.1;
+      skew_from = is.skew.low;
+      skew_to = is.skew.high;
+      lateness_from = is.lateness.low;
+      lateness_to = is.lateness.high;
+      records_from = omega (arith, ints, is.records.0);
+      records_to = omega (arith, ints, is.records.0, is.records.1);
+    }
+
+-- there are numbers of 64 bits in plenty for what is stated of a record
+pub record_stated : (p : Program) → IsTrue (is_program p) → p.header.budget.per_record ≤ 1000000000000000000
+record_stated p whole = at_most 1 1000000000000000000 p.header.budget.per_record (and_parts (is_stated p.header.budget.per_record) _ (budget_lawful p.header (header_lawful p whole))).0
+
+module _ (p : Program) (costs : Costs) (judged : judge p ≡ Ok costs) where
+  -- no more panes are held than is stated
+  pub panes_stated : most_panes (query_of p) ≤ p.header.budget.held
+  panes_stated = (stated p costs judged).held
+
+  pub panes_few : IsTrue (is_program p) → most_panes (query_of p) ≤ 100000
+  panes_few whole =
+      let most : p.header.budget.held ≤ 100000 =
+      at_most 1 100000 p.header.budget.held
+      (and_parts (is_stated p.header.budget.per_pane) _ (and_parts (is_stated p.header.budget.per_record) _ (budget_lawful p.header (header_lawful p whole))).1).1 in
+      omega (arith, most, panes_stated)
+
+-- there are no more places for panes than that
+pub room_few : (p : Program) → judge p ≡ Ok (needed p) → IsTrue (is_program p) → (h : Header) → h ≡ p.header → (keys live : ℕ) → keys ≡ length h.schema.keys → live ≡ live_bound h.shape h.skew h.lateness → keys * live ≤ 100000
+room_few p judged whole h is keys live k l =
+    subst (λ n. n ≤ 100000) (sym ((λ i. k i * l i) ∙ (λ i. length (is i).schema.keys * live_bound (is i).shape (is i).skew (is i).lateness))) (panes_few p (needed p) judged whole)

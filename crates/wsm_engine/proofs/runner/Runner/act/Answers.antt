@@ -1,0 +1,96 @@
+use Rattle.std.proofs.Common.{rules, ◌≡◌, ◌∙◌, Option, Some, None, Ok, SFits, w64, to_z-of_z, refl, sym, ap, arith}
+use Rattle.wsm_record.specs.Event.{Event, Record, Watermark, event_of}
+use Rattle.wsm_admission.specs.declared.verdict.Admitted.TheVariants as admitted
+use Rattle.wsm_firing.specs.Tally.{tally_of}
+use Rattle.wsm_engine.proofs.Acting.{panes_record, fired_record, rows_record, panes_mark, fired_mark, relation_mark, rows_mark}
+use Rattle.wsm_engine.proofs.Coming.{time_fits, mark_fits, old_fits, comes_with, comes_at}
+use Rattle.wsm_engine.proofs.runner.Runner.act.Goals as goal
+
+pub take_record-requires-clause-comes : goal.take_record-requires-clause-comes
+take_record-requires-clause-comes c =
+    let h = c.in-Record-Some-default-default in
+    let is : c.args.answer ≡ Ok admitted.Record = search rules in
+    let ev : event_of c.args.event.now ≡ Record (Some h.key) h.time h.values.items = search rules in
+    let mark : SFits w64 c.args.mark = c.ranges.mark in
+    let all = comes_with c.args.verified.now c.requires.comes.0 c.args.self.now c.args.mark c.args.answer (event_of c.args.event.now) c.requires.comes.1 (record c.args.self.now { rows = c.clear.new.self }) refl (Some h.key) h.time h.values.items is ev in
+    let time : SFits w64 h.time = time_fits c.args.verified.now c.requires.comes.0 c.args.self.now c.requires.program c.args.mark h.key h.time h.values.items c.args.answer (event_of c.args.event.now) c.requires.comes.1 is ev in
+    (c.requires.comes.0, rw c.deref.ensures.value (simp to_z-of_z all))
+
+pub take_watermark-requires-clause-comes : goal.take_watermark-requires-clause-comes
+take_watermark-requires-clause-comes c =
+    let h = c.in-Ok-Watermark in
+    let p = c.args.verified.now in
+    let is : c.args.answer ≡ Ok (admitted.Watermark h.old h.new) = search rules in
+    let all = comes_at p c.requires.comes.0 c.args.self.now c.args.mark c.args.answer (event_of c.args.event.now) c.requires.comes.1 (record c.args.self.now { rows = c.clear.new.self }) refl h.old h.new is in
+    let new : SFits w64 h.new = mark_fits p c.requires.comes.0 c.args.self.now c.args.mark c.args.answer (event_of c.args.event.now) c.requires.comes.1 c.requires.program h.old h.new is in
+    let old : SFits w64 h.old = old_fits p c.requires.comes.0 c.args.self.now c.args.mark c.args.answer (event_of c.args.event.now) c.requires.comes.1 h.old h.new is c.ranges.mark in
+    (c.requires.comes.0, simp to_z-of_z all)
+
+pub returns-in-Record-Some-default-default-clause-panes : goal.returns-in-Record-Some-default-default-clause-panes
+returns-in-Record-Some-default-default-clause-panes c = λ s at.
+    let h = c.in-Record-Some-default-default in
+    let p = c.args.verified.now in
+    let is : c.args.answer ≡ Ok admitted.Record = search rules in
+    let ev : event_of c.args.event.now ≡ Record (Some h.key) h.time h.values.items = search rules in
+    let mark : SFits w64 c.args.mark = c.ranges.mark in
+    let time : SFits w64 h.time = time_fits p c.requires.comes.0 c.args.self.now c.requires.program c.args.mark h.key h.time h.values.items c.args.answer (event_of c.args.event.now) c.requires.comes.1 is ev in
+    (simp to_z-of_z at (rw c.deref.ensures.value at c.take_record.ensures.panes))
+    ∙ panes_record p c.args.self.now c.args.mark s at c.args.answer (event_of c.args.event.now) h.key h.time h.values.items is ev
+
+pub returns-in-Record-Some-default-default-clause-rows : goal.returns-in-Record-Some-default-default-clause-rows
+returns-in-Record-Some-default-default-clause-rows c = λ s at.
+    let h = c.in-Record-Some-default-default in
+    let p = c.args.verified.now in
+    let is : c.args.answer ≡ Ok admitted.Record = search rules in
+    let ev : event_of c.args.event.now ≡ Record (Some h.key) h.time h.values.items = search rules in
+    let mark : SFits w64 c.args.mark = c.ranges.mark in
+    let time : SFits w64 h.time = time_fits p c.requires.comes.0 c.args.self.now c.requires.program c.args.mark h.key h.time h.values.items c.args.answer (event_of c.args.event.now) c.requires.comes.1 is ev in
+    (simp to_z-of_z at (rw c.deref.ensures.value at c.take_record.ensures.rows))
+    ∙ rows_record p c.args.self.now c.args.mark s at c.args.answer (event_of c.args.event.now) h.key h.time h.values.items is ev
+
+pub returns-in-Record-Some-default-default-clause-tally : goal.returns-in-Record-Some-default-default-clause-tally
+returns-in-Record-Some-default-default-clause-tally c = λ s at.
+    let h = c.in-Record-Some-default-default in
+    let p = c.args.verified.now in
+    let is : c.args.answer ≡ Ok admitted.Record = search rules in
+    let ev : event_of c.args.event.now ≡ Record (Some h.key) h.time h.values.items = search rules in
+    let mark : SFits w64 c.args.mark = c.ranges.mark in
+    let time : SFits w64 h.time = time_fits p c.requires.comes.0 c.args.self.now c.requires.program c.args.mark h.key h.time h.values.items c.args.answer (event_of c.args.event.now) c.requires.comes.1 is ev in
+    (simp to_z-of_z at (rw c.deref.ensures.value at c.take_record.ensures.tally))
+    ∙ ap (tally_of p) (fired_record p c.args.self.now c.args.mark s at c.args.answer (event_of c.args.event.now) h.key h.time h.values.items is ev)
+
+pub returns-in-Ok-Watermark-clause-panes : goal.returns-in-Ok-Watermark-clause-panes
+returns-in-Ok-Watermark-clause-panes c = λ s at.
+    let h = c.in-Ok-Watermark in
+    let p = c.args.verified.now in
+    let is : c.args.answer ≡ Ok (admitted.Watermark h.old h.new) = search rules in
+    let new : SFits w64 h.new = mark_fits p c.requires.comes.0 c.args.self.now c.args.mark c.args.answer (event_of c.args.event.now) c.requires.comes.1 c.requires.program h.old h.new is in
+    let old : SFits w64 h.old = old_fits p c.requires.comes.0 c.args.self.now c.args.mark c.args.answer (event_of c.args.event.now) c.requires.comes.1 h.old h.new is c.ranges.mark in
+    (simp to_z-of_z at c.take_watermark.ensures.panes) ∙ panes_mark p c.args.self.now c.args.mark s at c.args.answer (event_of c.args.event.now) h.old h.new is
+
+pub returns-in-Ok-Watermark-clause-relation : goal.returns-in-Ok-Watermark-clause-relation
+returns-in-Ok-Watermark-clause-relation c = λ s at.
+    let h = c.in-Ok-Watermark in
+    let p = c.args.verified.now in
+    let is : c.args.answer ≡ Ok (admitted.Watermark h.old h.new) = search rules in
+    let new : SFits w64 h.new = mark_fits p c.requires.comes.0 c.args.self.now c.args.mark c.args.answer (event_of c.args.event.now) c.requires.comes.1 c.requires.program h.old h.new is in
+    let old : SFits w64 h.old = old_fits p c.requires.comes.0 c.args.self.now c.args.mark c.args.answer (event_of c.args.event.now) c.requires.comes.1 h.old h.new is c.ranges.mark in
+    (simp to_z-of_z at c.take_watermark.ensures.relation) ∙ relation_mark p c.args.self.now c.args.mark s at c.args.answer (event_of c.args.event.now) h.old h.new is
+
+pub returns-in-Ok-Watermark-clause-rows : goal.returns-in-Ok-Watermark-clause-rows
+returns-in-Ok-Watermark-clause-rows c = λ s at.
+    let h = c.in-Ok-Watermark in
+    let p = c.args.verified.now in
+    let is : c.args.answer ≡ Ok (admitted.Watermark h.old h.new) = search rules in
+    let new : SFits w64 h.new = mark_fits p c.requires.comes.0 c.args.self.now c.args.mark c.args.answer (event_of c.args.event.now) c.requires.comes.1 c.requires.program h.old h.new is in
+    let old : SFits w64 h.old = old_fits p c.requires.comes.0 c.args.self.now c.args.mark c.args.answer (event_of c.args.event.now) c.requires.comes.1 h.old h.new is c.ranges.mark in
+    (simp to_z-of_z at c.take_watermark.ensures.rows) ∙ rows_mark p c.args.self.now c.args.mark s at c.args.answer (event_of c.args.event.now) h.old h.new is
+
+pub returns-in-Ok-Watermark-clause-tally : goal.returns-in-Ok-Watermark-clause-tally
+returns-in-Ok-Watermark-clause-tally c = λ s at.
+    let h = c.in-Ok-Watermark in
+    let p = c.args.verified.now in
+    let is : c.args.answer ≡ Ok (admitted.Watermark h.old h.new) = search rules in
+    let new : SFits w64 h.new = mark_fits p c.requires.comes.0 c.args.self.now c.args.mark c.args.answer (event_of c.args.event.now) c.requires.comes.1 c.requires.program h.old h.new is in
+    let old : SFits w64 h.old = old_fits p c.requires.comes.0 c.args.self.now c.args.mark c.args.answer (event_of c.args.event.now) c.requires.comes.1 h.old h.new is c.ranges.mark in
+    (simp to_z-of_z at c.take_watermark.ensures.tally) ∙ ap (tally_of p) (fired_mark p c.args.self.now c.args.mark s at c.args.answer (event_of c.args.event.now) h.old h.new is)

@@ -1,0 +1,67 @@
+use Rattle.std.proofs.Common.{◌≡◌, ◌≤◌, ◌+◌, ◌*◌, ◌∙◌, cond, length, List, refl, SFits, w64, to_z-of_z, sym, ap, arith}
+use Rattle.wsm_record.specs.declared.event.Value.{Value}
+use Rattle.wsm_record.specs.declared.words.Kind.{Kind}
+use Rattle.wsm_bytecode.specs.declared.instr.SectionId.TheVariants.{Update}
+use Rattle.wsm_bytecode.specs.Program.{Header}
+use Rattle.wsm_machine.specs.Inputs.{Inputs}
+use Rattle.wsm_machine.specs.Run.{run}
+use Rattle.wsm_machine.specs.Meaning.{updated, update_run}
+use Rattle.wsm_machine.proofs.Telling.{updated_is}
+use Rattle.wsm_engine.specs.Runner.{entering_cost}
+use Rattle.wsm_panes.specs.Held.{entries_of}
+use Rattle.wsm_engine.proofs.Coming.{enters, entered_is, cost_is, cost_stated}
+use Rattle.wsm_engine.proofs.runner.Runner.enter.Given as given
+use Rattle.wsm_engine.proofs.runner.Runner.enter.Goals as goal
+
+pub enter-entered-requires : goal.enter-entered-requires
+enter-entered-requires c =
+    let p = c.args.verified.now in
+    let comes = c.requires.comes in
+    let time : SFits w64 c.args.time = c.ranges.time in
+    let kinds : p.header.kinds ≡ c.deref.result.now = sym (ap (λ (h : Header). h.kinds) (c.header.ensures.header ∙ ap (λ q. q.header) c.program.ensures.program)) ∙ sym c.deref.ensures.value in
+    let values : updated p c.args.key c.args.values.now ≡ c.update-updated.result.values.now = updated_is p c.args.key c.args.values.now c.update-updated.result.values.now (rw c.record_inputs.ensures at c.update-updated.ensures.folds) in
+    simp to_z-of_z (enters p comes.0 c.args.self.now c.requires.program comes.1 c.args.key c.args.time c.args.values.now comes.2 c.requires.selected c.deref.result.now c.update-updated.result.values.now kinds values)
+
+pub overflow_mul-result : goal.overflow_mul-result
+overflow_mul-result c =
+    let p = c.args.verified.now in
+    let comes = c.requires.comes in
+    let time : SFits w64 c.args.time = c.ranges.time in
+    let kinds : p.header.kinds ≡ c.deref.result.now = sym (ap (λ (h : Header). h.kinds) (c.header.ensures.header ∙ ap (λ q. q.header) c.program.ensures.program)) ∙ sym c.deref.ensures.value in
+    let cost = cost_is p comes.0 c.args.self.now c.requires.program comes.1 c.args.key c.args.time c.args.values.now comes.2 c.requires.selected
+    c.enter-entered.result.windows c.update-updated.result.steps (cond c.enter-entered.result.joined (length c.deref.result.now) 0) c.enter-entered.result.joined c.deref.result.now
+    (simp to_z-of_z at c.enter-entered.ensures.windows) (rw c.record_inputs.ensures at c.update-updated.ensures.steps) (simp to_z-of_z at c.enter-entered.ensures.joined) kinds refl in
+    let most = cost_stated p comes.0 c.args.self.now c.requires.program comes.1 c.args.key c.args.time c.args.values.now comes.2 c.requires.selected in
+    omega (arith, cost, most)
+
+pub overflow_add-result : goal.overflow_add-result
+overflow_add-result c =
+    let p = c.args.verified.now in
+    let comes = c.requires.comes in
+    let time : SFits w64 c.args.time = c.ranges.time in
+    let kinds : p.header.kinds ≡ c.deref-2.result.now = sym (ap (λ (h : Header). h.kinds) (c.header.ensures.header ∙ ap (λ q. q.header) c.program.ensures.program)) ∙ sym c.deref-2.ensures.value in
+    let cost = cost_is p comes.0 c.args.self.now c.requires.program comes.1 c.args.key c.args.time c.args.values.now comes.2 c.requires.selected
+    c.enter-entered.result.windows c.update-updated.result.steps c.join_steps.result c.enter-entered.result.joined c.deref-2.result.now
+    (simp to_z-of_z at c.enter-entered.ensures.windows) (rw c.record_inputs.ensures at c.update-updated.ensures.steps) (simp to_z-of_z at c.enter-entered.ensures.joined) kinds c.join_steps.ensures in
+    let most = cost_stated p comes.0 c.args.self.now c.requires.program comes.1 c.args.key c.args.time c.args.values.now comes.2 c.requires.selected in
+    omega (arith, cost, most)
+
+pub returns-clause-panes : goal.returns-clause-panes
+returns-clause-panes c =
+    let p = c.args.verified.now in
+    let comes = c.requires.comes in
+    let time : SFits w64 c.args.time = c.ranges.time in
+    let kinds : p.header.kinds ≡ c.deref.result.now = sym (ap (λ (h : Header). h.kinds) (c.header.ensures.header ∙ ap (λ q. q.header) c.program.ensures.program)) ∙ sym c.deref.ensures.value in
+    let values : updated p c.args.key c.args.values.now ≡ c.update-updated.result.values.now = updated_is p c.args.key c.args.values.now c.update-updated.result.values.now (rw c.record_inputs.ensures at c.update-updated.ensures.folds) in
+    (simp to_z-of_z at c.enter-entered.ensures.panes)
+    ∙ entered_is p comes.0 c.args.self.now c.requires.program comes.1 c.args.key c.args.time c.args.values.now comes.2 c.requires.selected c.deref.result.now c.update-updated.result.values.now kinds values
+
+pub returns-clause-steps : goal.returns-clause-steps
+returns-clause-steps c =
+    let p = c.args.verified.now in
+    let comes = c.requires.comes in
+    let time : SFits w64 c.args.time = c.ranges.time in
+    let kinds : p.header.kinds ≡ c.deref-2.result.now = sym (ap (λ (h : Header). h.kinds) (c.header.ensures.header ∙ ap (λ q. q.header) c.program.ensures.program)) ∙ sym c.deref-2.ensures.value in
+    cost_is p comes.0 c.args.self.now c.requires.program comes.1 c.args.key c.args.time c.args.values.now comes.2 c.requires.selected
+    c.enter-entered.result.windows c.update-updated.result.steps c.join_steps.result c.enter-entered.result.joined c.deref-2.result.now
+    (simp to_z-of_z at c.enter-entered.ensures.windows) (rw c.record_inputs.ensures at c.update-updated.ensures.steps) (simp to_z-of_z at c.enter-entered.ensures.joined) kinds c.join_steps.ensures

@@ -1,0 +1,44 @@
+use Rattle.std.proofs.Common.{◌≡◌, ◌≤◌, ◌*◌, ℕ, IsTrue, length, SFits, w64, to_z-of_z, refl, sym, ap, subst, ◌∙◌, arith}
+use Rattle.std.proofs.lemmas.Int.{ints, fits_signed_from_abs}
+use Rattle.wsm_windows.specs.Life.{live_bound}
+use Rattle.wsm_windows.specs.Windows.{IsShape, IsSpan}
+use Rattle.wsm_bytecode.specs.Program.{Program, is_program}
+use Rattle.wsm_bytecode.specs.View.{header_of}
+use Rattle.wsm_verifier.specs.Costs.{needed}
+use Rattle.wsm_verifier.proofs.Lawful.{lawful, lawful_seen, span_seen}
+use Rattle.wsm_engine.proofs.Limits.{room_few}
+use Rattle.wsm_engine.proofs.runner.Runner.open.Goals as goal
+
+pub live_bound-live-requires-clause-shape : goal.live_bound-live-requires-clause-shape
+live_bound-live-requires-clause-shape c = (lawful_seen c.program.result.now (header_of c.header-header.result.now) c.header-header.ensures.header c.header-header.ensures.lawful).shape
+
+pub live_bound-live-requires-clause-skew : goal.live_bound-live-requires-clause-skew
+live_bound-live-requires-clause-skew c = span_seen c.header-header.result.now.skew (lawful_seen c.program.result.now (header_of c.header-header.result.now) c.header-header.ensures.header c.header-header.ensures.lawful).skew
+
+pub live_bound-live-requires-clause-lateness : goal.live_bound-live-requires-clause-lateness
+live_bound-live-requires-clause-lateness c = span_seen c.header-header.result.now.lateness (lawful_seen c.program.result.now (header_of c.header-header.result.now) c.header-header.ensures.header c.header-header.ensures.lawful).lateness
+
+pub open-requires-2-clause-shape : goal.open-requires-2-clause-shape
+open-requires-2-clause-shape c = (lawful_seen c.program.result.now (header_of c.header-header.result.now) c.header-header.ensures.header c.header-header.ensures.lawful).shape
+
+pub overflow_mul-room : goal.overflow_mul-room
+overflow_mul-room c =
+    let p = c.args.verified.now in
+    let h = header_of c.header-header.result.now in
+    let same = c.header-header.ensures.header ∙ ap (λ (q : Program). q.header) c.program.ensures.program in
+    let is = lawful_seen c.program.result.now h c.header-header.ensures.header c.header-header.ensures.lawful in
+    let skew : SFits w64 h.skew = fits_signed_from_abs w64 h.skew (omega (arith, ints, is.skew.low, is.skew.high)) in
+    let lateness : SFits w64 h.lateness = fits_signed_from_abs w64 h.lateness (omega (arith, ints, is.lateness.low, is.lateness.high)) in
+    let few = room_few p c.program.ensures.accepted (subst (λ (q : Program). IsTrue (is_program q)) c.program.ensures.program c.header-header.ensures.lawful) h same c.key_count-keys.result c.live_bound-live.result c.key_count-keys.ensures.count (simp to_z-of_z at c.live_bound-live.ensures.bound) in
+    omega (arith, few)
+
+pub open-requires-2-clause-room : goal.open-requires-2-clause-room
+open-requires-2-clause-room c =
+    let p = c.args.verified.now in
+    let h = header_of c.header-header.result.now in
+    let same = c.header-header.ensures.header ∙ ap (λ (q : Program). q.header) c.program.ensures.program in
+    let is = lawful_seen c.program.result.now h c.header-header.ensures.header c.header-header.ensures.lawful in
+    let skew : SFits w64 h.skew = fits_signed_from_abs w64 h.skew (omega (arith, ints, is.skew.low, is.skew.high)) in
+    let lateness : SFits w64 h.lateness = fits_signed_from_abs w64 h.lateness (omega (arith, ints, is.lateness.low, is.lateness.high)) in
+    let few = room_few p c.program.ensures.accepted (subst (λ (q : Program). IsTrue (is_program q)) c.program.ensures.program c.header-header.ensures.lawful) h same c.key_count-keys.result c.live_bound-live.result c.key_count-keys.ensures.count (simp to_z-of_z at c.live_bound-live.ensures.bound) in
+    omega (arith, few)

@@ -1,0 +1,59 @@
+-- The runner of a program: for what it has room, and what it keeps as an event comes.
+use Rattle.std.specs.Prelude.{◌≡◌, ℕ, ◌*◌, ◌+◌, ◌≤◌, List, [], length, ℤ, Result, Ok, vec_capacity, if◌then◌else◌}
+use Rattle.wsm_record.specs.declared.event.Value.{Value}
+use Rattle.wsm_record.specs.Event.{Event}
+use Rattle.wsm_windows.specs.Life.{live_bound}
+use Rattle.wsm_windows.specs.Windows.{windows_of_shape}
+use Rattle.wsm_admission.specs.declared.verdict.Admitted.{Admitted}
+use Rattle.wsm_admission.specs.declared.verdict.Refusal.{Refusal}
+use Rattle.wsm_admission.specs.Admission.{answer}
+use Rattle.wsm_semantics.specs.declared.place.Place.{Place}
+use Rattle.wsm_semantics.specs.Query as query
+use Rattle.wsm_semantics.specs.Query.{verdict_on}
+use Rattle.wsm_semantics.specs.HeldBounds.{most_panes}
+use Rattle.wsm_semantics.specs.Kept.{kept}
+use Rattle.wsm_semantics.specs.Summaries.{Pane, Fired, summaries, after_record, fired_by_record}
+use Rattle.wsm_semantics.specs.Replay.{datum}
+use Rattle.wsm_semantics.specs.Steps.{State}
+use Rattle.wsm_bytecode.specs.Program.{Program, is_program}
+use Rattle.wsm_verifier.specs.Costs.{needed}
+use Rattle.wsm_verifier.specs.Rules.{judge}
+use Rattle.wsm_machine.specs.Meaning.{query_of, plan_of, selects, update_run, joins_held}
+use Rattle.wsm_panes.specs.Held.{entries_of}
+use Rattle.std.specs.Prelude.{IsTrue}
+use Rattle.wsm_engine.specs.declared.runner.Runner.{Runner}
+
+-- the program is accepted, and there is room for as many panes and rows as it can hold
+pub record IsOf (p : Program) (r : Runner) : Type 0 where
+  pub judged : judge p ≡ Ok (needed p)
+  pub lawful : IsTrue (is_program p)
+  pub keys : r.held.keys ≡ length p.header.schema.keys
+  pub shape : r.held.shape ≡ p.header.shape
+  pub live : r.held.live ≡ live_bound p.header.shape p.header.skew p.header.lateness
+  pub form : r.streams.form ≡ p.header.form
+  pub room : r.streams.room ≡ most_panes (query_of p)
+  pub rows : most_panes (query_of p) ≤ vec_capacity r.rows
+
+-- an event comes after a history, with its answer, and what is held is the history's
+pub record Comes (p : Program) (past : List Event) (r : Runner) (mark : ℤ) (a : Result Admitted Refusal) (e : Event) : Type 0 where
+  pub marked : mark ≡ query.mark (query_of p) past
+  pub answered : a ≡ answer mark e (verdict_on (query_of p) past e)
+  pub panes : entries_of r.held ≡ summaries (plan_of p) p.header.mode (kept (query_of p) past)
+
+-- the runner keeps the panes and the relation of a state of the machine at a mark
+pub record IsAt (mark : ℤ) (r : Runner) (s : State (List Value)) : Type 0 where
+  pub marked : s.admission.mark ≡ mark
+  pub panes : s.panes ≡ entries_of r.held
+  pub relation : s.relation ≡ r.streams.relation
+
+-- what a record does that WHERE is asked of
+abbrev pub panes_with : Program → ℤ → ℕ → ℤ → List Value → List (Place × Pane (List Value)) → List (Place × Pane (List Value))
+panes_with p mark key time values panes = if selects p key values then after_record (plan_of p) (query_of p) mark (datum 0 key time values) panes else panes
+
+abbrev pub fired_with : Program → ℤ → ℕ → ℤ → List Value → List (Place × Pane (List Value)) → List (Fired (List Value))
+fired_with p mark key time values panes = if selects p key values then fired_by_record (plan_of p) (query_of p) mark (datum 0 key time values) panes else []
+
+-- the instructions of UPDATE for a selected record, once for each window, and a step for each accumulator that is joined
+abbrev pub entering_cost : Program → ℕ → ℤ → List Value → List (Place × Pane (List Value)) → ℕ
+entering_cost p key time values panes =
+    length (windows_of_shape p.header.shape time) * (update_run p key values).steps + (if joins_held p.header.shape (datum 0 key time values) panes then length p.header.kinds else 0)

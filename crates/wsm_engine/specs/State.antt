@@ -1,0 +1,11 @@
+-- What an engine keeps: the program that it runs, what is kept of the events, and the rows of the last.
+use Rattle.std.specs.Prelude.{List}
+use Rattle.wsm_record.specs.declared.event.Value.{Value}
+use Rattle.wsm_semantics.specs.declared.out_row.OutRow.{OutRow}
+use Rattle.wsm_semantics.specs.Steps as steps
+use Rattle.wsm_bytecode.specs.Program.{Program}
+
+pub record State : Type 0 where
+  pub program : Program
+  pub machine : steps.State (List Value)
+  pub rows : List OutRow

@@ -1,0 +1,231 @@
+//! What an event does to the panes that are held, by a program's sections.
+
+ghost use Rattle.std.specs.Prelude.{◌≡◌, ℤ, List, [], length, Ok, Some, true, filter_map, if◌then◌else◌, IfOk};
+ghost use Rattle.wsm_record.specs.declared.event.Value.{Value as OneValue};
+ghost use Rattle.wsm_record.specs.Event.{Event as AnyEvent, Record, Watermark, event_of};
+ghost use Rattle.wsm_admission.specs.declared.verdict.Admitted.TheVariants as admitted;
+ghost use Rattle.wsm_semantics.specs.Replay.{datum};
+ghost use Rattle.wsm_semantics.specs.Summaries.{after_watermark, entered, fired_by_watermark, relation_of, at_watermark, row_of};
+ghost use Rattle.wsm_semantics.specs.Steps.{State, chosen_rows, fired_by, panes_after, relation_after, stream_rows, streamed_by};
+ghost use Rattle.wsm_machine.specs.Inputs.{inputs_of};
+ghost use Rattle.wsm_machine.specs.Meaning.{answer_cost, plan_of, query_of, record_cost_by, record_inputs as inputs_of_record, selects};
+ghost use Rattle.wsm_panes.specs.Held.{IsKept, entries_of, session_entered};
+ghost use Rattle.wsm_firing.specs.Tally.{tally_of};
+ghost use Rattle.wsm_firing.specs.Firing.{rows_of};
+ghost use Rattle.wsm_firing.specs.Streams.{relation_kept};
+ghost use Rattle.wsm_engine.specs.Runner.{Comes, IsAt, IsOf, entering_cost, fired_with, panes_with};
+
+use std::alloc::{AllocError, Global};
+use wsm_admission::{Admitted, Refusal};
+use wsm_firing::{Streams, Tally, fire_by_record, fire_by_watermark};
+use wsm_machine::{Inputs, Machine};
+use wsm_panes::HeldPanes;
+use wsm_record::{Event, Kind, Value};
+use wsm_semantics::OutRow;
+use wsm_verifier::Verified;
+use wsm_windows::{Window, live_bound};
+
+/// What runs a program's sections, the panes that they are run for, and the rows of the last event.
+#[derive(Drop)]
+pub struct Runner {
+    pub machine: Machine,
+    pub held: HeldPanes,
+    pub streams: Streams,
+    pub rows: Vec<OutRow>,
+}
+
+/// What an event came to.
+#[derive(Clone, Copy)]
+pub struct Done {
+    /// How many instructions a record took, and a step for each accumulator of two joined sessions.
+    pub record_steps: u64,
+    /// What the firings came to.
+    pub tally: Tally,
+}
+
+const NO_FIRING: Tally = Tally {
+    fired: 0,
+    steps_max: 0,
+    steps_total: 0,
+};
+
+const NOTHING: Done = Done {
+    record_steps: 0,
+    tally: NO_FIRING,
+};
+
+impl Runner {
+    /// The runner of a program, with all room reserved.
+    pub fn open(alloc: Global, verified: &Verified) -> Result<Runner, AllocError>
+        ensures program { IfOk result (IsOf verified.now) }
+        ensures panes { IfOk result (λ r. entries_of r.held ≡ []) }
+        ensures relation { IfOk result (λ r. r.streams.relation ≡ []) }
+        ensures rows { IfOk result (λ r. r.rows.items ≡ []) }
+    {
+        let header = verified.program().header();
+        let keys = header.schema.key_count();
+        let live = live_bound(header.shape, header.skew, header.lateness) as usize;
+        let room = keys * live;
+        Ok(Runner {
+            machine: Machine::open(alloc),
+            held: HeldPanes::open(alloc, keys, header.shape, live)?,
+            streams: Streams::open(alloc, header.form, room)?,
+            rows: Vec::with_capacity(alloc, room)?,
+        })
+    }
+
+    /// Does what the answer to an event calls for. The rows of the last event are gone.
+    pub fn act(
+        &mut self,
+        verified: &Verified,
+        mark: i64,
+        answer: Result<Admitted, Refusal>,
+        event: &Event,
+    ) -> Done
+        requires program { IsOf verified.now self.old }
+        requires comes { (past : List AnyEvent) × Comes verified.now past self.old mark answer (event_of event.now) }
+        ensures program { IsOf verified.now self.new }
+        ensures panes { (s : State (List OneValue)) → IsAt mark self.old s → entries_of self.new.held ≡ panes_after (plan_of verified.now) (query_of verified.now) answer (event_of event.now) s }
+        ensures relation { (s : State (List OneValue)) → IsAt mark self.old s →
+            self.new.streams.relation ≡ relation_kept verified.now.header.form s.relation (relation_after (plan_of verified.now) (query_of verified.now) answer s) }
+        ensures rows { (s : State (List OneValue)) → IsAt mark self.old s →
+            self.new.rows.items ≡ chosen_rows verified.now.header.form (filter_map (row_of (plan_of verified.now)) (fired_by (plan_of verified.now) (query_of verified.now) answer (event_of event.now) s)) (streamed_by (plan_of verified.now) (query_of verified.now) verified.now.header.form answer s) }
+        ensures cost { (s : State (List OneValue)) → IsAt mark self.old s → result.record_steps ≡ answer_cost verified.now answer (event_of event.now) s }
+        ensures tally { (s : State (List OneValue)) → IsAt mark self.old s → result.tally ≡ tally_of verified.now (fired_by (plan_of verified.now) (query_of verified.now) answer (event_of event.now) s) }
+    {
+        self.rows.clear();
+        match answer {
+            Ok(Admitted::Record) => match event {
+                Event::Record {
+                    key: Some(key),
+                    time,
+                    values,
+                } => self.take_record(verified, mark, *key, *time, values),
+                _ => NOTHING,
+            },
+            Ok(Admitted::Watermark { old, new }) => Done {
+                record_steps: 0,
+                tally: self.take_watermark(verified, old, new),
+            },
+            Err(_) => NOTHING,
+        }
+    }
+
+    // Takes a record that was admitted: where WHERE selects it, it is put into its panes, and those that
+    // its triggers call for are fired.
+    fn take_record(
+        &mut self,
+        verified: &Verified,
+        mark: i64,
+        key: u16,
+        time: i64,
+        values: &[Value],
+    ) -> Done
+        requires program { IsOf verified.now self.old }
+        requires empty { self.old.rows.items ≡ [] }
+        requires comes { (past : List AnyEvent) × Comes verified.now past self.old mark (Ok admitted.Record) (Record (Some key) time values.now) }
+        ensures program { IsOf verified.now self.new }
+        ensures panes { entries_of self.new.held ≡ panes_with verified.now mark key time values.now (entries_of self.old.held) }
+        ensures streams { self.new.streams ≡ self.old.streams }
+        ensures rows { self.new.rows.items ≡ rows_of verified.now (fired_with verified.now mark key time values.now (entries_of self.old.held)) }
+        ensures cost { result.record_steps ≡ record_cost_by verified.now (entries_of self.old.held) (datum 0 key time values.now) }
+        ensures tally { result.tally ≡ tally_of verified.now (fired_with verified.now mark key time values.now (entries_of self.old.held)) }
+    {
+        let kept = self.machine.keep(verified, &record_inputs(key, values));
+        if !kept.keeps {
+            return Done {
+                record_steps: kept.steps,
+                tally: NO_FIRING,
+            };
+        }
+        let (steps, session) = self.enter(verified, key, time, values);
+        let tally = fire_by_record(
+            verified,
+            &mut self.machine,
+            &mut self.held,
+            &mut self.rows,
+            mark,
+            key,
+            time,
+            session,
+        );
+        Done {
+            record_steps: kept.steps + steps,
+            tally,
+        }
+    }
+
+    // Runs UPDATE on a selected record, and puts what it gives into the record's panes. Answers the
+    // steps and the record's session.
+    fn enter(
+        &mut self,
+        verified: &Verified,
+        key: u16,
+        time: i64,
+        values: &[Value],
+    ) -> (u64, Option<Window>)
+        requires program { IsOf verified.now self.old }
+        requires selected { selects verified.now key values.now ≡ true }
+        requires comes { (past : List AnyEvent) × (mark : ℤ) × Comes verified.now past self.old mark (Ok admitted.Record) (Record (Some key) time values.now) }
+        ensures panes { entries_of self.new.held ≡ entered (plan_of verified.now) verified.now.header.shape (datum 0 key time values.now) (entries_of self.old.held) }
+        ensures keeps { IsKept self.old.held self.new.held }
+        ensures streams { self.new.streams ≡ self.old.streams }
+        ensures rows { self.new.rows ≡ self.old.rows }
+        ensures steps { result.0 ≡ entering_cost verified.now key time values.now (entries_of self.old.held) }
+        ensures session { result.1 ≡ session_entered verified.now.header.shape (datum 0 key time []) (entries_of self.old.held) }
+    {
+        let updated = self.machine.update(verified, &record_inputs(key, values));
+        let steps = updated.steps;
+        let kinds = &verified.program().header().kinds;
+        let entered = self.held.enter(kinds, key, time, updated.values);
+        (
+            entered.windows * steps + join_steps(kinds, entered.joined),
+            entered.session,
+        )
+    }
+
+    // Takes a watermark that was accepted: fires the panes that it comes to, goes on to the relation at
+    // it, and drops the panes that end with the lateness by then.
+    fn take_watermark(&mut self, verified: &Verified, old: i64, new: i64) -> Tally
+        requires program { IsOf verified.now self.old }
+        requires empty { self.old.rows.items ≡ [] }
+        requires comes { (past : List AnyEvent) × Comes verified.now past self.old old (Ok (admitted.Watermark old new)) (Watermark new) }
+        ensures program { IsOf verified.now self.new }
+        ensures panes { entries_of self.new.held ≡ after_watermark (plan_of verified.now) (query_of verified.now) old new (entries_of self.old.held) }
+        ensures relation { self.new.streams.relation ≡ relation_kept verified.now.header.form self.old.streams.relation (relation_of (at_watermark (plan_of verified.now) (query_of verified.now) old new (entries_of self.old.held))) }
+        ensures rows { self.new.rows.items ≡ chosen_rows verified.now.header.form (filter_map (row_of (plan_of verified.now)) (fired_by_watermark (plan_of verified.now) (query_of verified.now) old new (entries_of self.old.held)))
+            (stream_rows verified.now.header.form new self.old.streams.relation (relation_of (at_watermark (plan_of verified.now) (query_of verified.now) old new (entries_of self.old.held)))) }
+        ensures tally { result ≡ tally_of verified.now (fired_by_watermark (plan_of verified.now) (query_of verified.now) old new (entries_of self.old.held)) }
+    {
+        let tally = fire_by_watermark(
+            verified,
+            &mut self.machine,
+            &mut self.held,
+            &mut self.rows,
+            old,
+            new,
+        );
+        self.streams.advance(&self.held, new, &mut self.rows);
+        self.held.drop_expired(new - verified.program().header().lateness);
+        tally
+    }
+}
+
+// What WHERE and UPDATE read of a record.
+fn record_inputs<'a>(key: u16, values: &'a [Value]) -> Inputs<'a>
+    ensures { inputs_of result ≡ inputs_of_record key values.now }
+{
+    Inputs {
+        key,
+        values,
+        count: 0,
+        accs: &[],
+    }
+}
+
+// A step for each accumulator, where two sessions were joined.
+fn join_steps(kinds: &[Kind], joined: bool) -> u64
+    ensures { result ≡ (if joined then length kinds.now else 0) }
+{
+    if joined { kinds.len() as u64 } else { 0 }
+}

@@ -1,0 +1,57 @@
+-- What a program's own laws say of its triggers and columns, and of the records that a firing is computed over.
+use Rattle.std.proofs.Common.{◌≡◌, ℕ, ◌≤◌, true, Bool, ◌&&◌, List, length, ℤ, pos, ◌≤ℤ◌, IsTrue, SFits, w64, to_z, of_z, to_z-of_z, sym, ap, subst, ◌∙◌, arith}
+use Rattle.std.proofs.lemmas.Int.{ints, fits_signed_from_abs}
+use Rattle.std.proofs.lemmas.Bool.Decides.{nat_tests}
+use Rattle.std.specs.Prelude.{nat_le, nat_lt, unsigned_abs}
+use Rattle.wsm_record.specs.declared.event.Value.{Value}
+use Rattle.wsm_windows.specs.Windows.{IsSpan}
+use Rattle.wsm_interval.specs.Interval.{interval, holds}
+use Rattle.wsm_semantics.proofs.Assigned.{both}
+use Rattle.wsm_bytecode.specs.declared.instr.SectionId.TheVariants.{Fire}
+use Rattle.wsm_bytecode.specs.Program.{Header, Program, is_span, is_shape, is_form_of, is_schema, is_clock, is_firing, is_row, is_budget, is_header, is_program, is_section}
+use Rattle.wsm_verifier.proofs.Lawful.{lawful}
+use Rattle.wsm_machine.specs.InRange.{in_range, accs_in}
+use Rattle.wsm_machine.specs.Meaning.{pane_inputs}
+
+pub record IsLawfulFiring (h : Header) : Type 0 where
+  pub early : IsSpan h.early
+  pub late : IsSpan h.late
+  pub columns : length h.columns ≤ 16
+
+span : (n : ℤ) → is_span n ≡ true → IsSpan n
+span n h = record { low = grind (arith, ints); high = grind (arith, ints) }
+
+of_header : (h : Header) → is_header h ≡ true → IsLawfulFiring h
+unfolding is_header
+of_header h e =
+    let behind_clock = (both (is_clock h) _ (both (is_schema h.schema) _ e).1).1 in
+    let spans = (both (is_shape h.shape) _ (both (is_firing h) _ behind_clock).0).1 in
+    let row = (both (is_row h) _ (both (is_firing h) _ behind_clock).1).0 in
+    record {
+      early = span h.early (both (is_span h.early) _ spans).0;
+      late = span h.late (both (is_span h.late) _ (both (is_span h.early) _ spans).1).0;
+      columns = few (length h.columns) (both _ _ (both (nat_le (length h.kinds) 16) _ row).1).0;
+    }
+  where
+    few : (n : ℕ) → (nat_le 1 n && nat_le n 16) ≡ true → n ≤ 16
+    few n h = let few = (both (nat_le 1 n) (nat_le n 16) h).1 in grind (arith, nat_tests)
+
+of_program : (p : Program) → IsTrue (is_program p) → IsLawfulFiring p.header
+unfolding is_program
+of_program p e = of_header p.header (both (is_header p.header) _ e).0
+
+pub lawful_firing : (p : Program) (g : Header) → g ≡ p.header → IsTrue (is_program p) → IsLawfulFiring g
+lawful_firing p g e h = subst IsLawfulFiring (sym e) (of_program p h)
+
+-- so many records have 64 bits with a sign
+pub count_fits : (p : Program) → IsTrue (is_program p) → (key n : ℕ) (held : List Value) → IsTrue (in_range p Fire (pane_inputs key n held)) → SFits w64 (pos n)
+count_fits p whole key n held ranged =
+    let most = (lawful p whole).records.1 in
+    let within = (both (holds (interval (pos 1) p.header.records) (pos n)) (accs_in p 0 p.header.kinds held) (both (nat_lt key (length p.header.schema.keys)) _ ranged).1).0 in
+    fits_signed_from_abs w64 (pos n) (grind (arith, ints, most, within))
+
+-- a count that is compared with 0
+pub zero_count : (n : ℤ) → IsSpan n → of_z w64 n ≡ 0 → unsigned_abs n ≡ 0
+zero_count n s zero =
+    let fits : SFits w64 n = fits_signed_from_abs w64 n (grind (arith, ints, s.low, s.high)) in
+    ap unsigned_abs (sym (to_z-of_z fits) ∙ ap (to_z w64) zero)

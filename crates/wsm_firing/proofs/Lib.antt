@@ -1,0 +1,12 @@
+pub mod Agreeing
+pub mod AtPlace
+pub mod InTurn
+pub mod Counting
+pub mod Walk
+pub mod Behind
+pub mod InOrder
+pub mod Triggered
+pub mod Headers
+pub mod Running
+pub mod Entered
+pub mod Gathering

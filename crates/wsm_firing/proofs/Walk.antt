@@ -1,0 +1,117 @@
+-- A walk over panes in order that fires those that have a kind, one after another.
+use Rattle.std.proofs.Common.{◌≡◌, ℕ, zero, suc, ◌+◌, ◌<◌, Bool, true, false, cond, T, Option, Some, None, List, [], ◌∷◌, drop, length, refl, sym, ap, subst, ◌∙◌, add-one}
+use Rattle.std.specs.Prelude.{ℤ, slice_get}
+use Rattle.std.specs.List.{AllByRecursion, cons_option}
+use Rattle.std.specs.Ordering.{eq_by_cmp, is_eq, is_lt, ordering_reverse}
+use Rattle.std.specs.Cmp.{tied_itself}
+use Rattle.std.specs.declared.cmp.Ordering.TheVariants.{Less, Equal, Greater}
+use Rattle.std.specs.FinMap.Entries.{put, find, is_sorted, below_all, by_order}
+use Rattle.std.proofs.Math.Seq.{drop-cons}
+use Rattle.std.proofs.lemmas.Option.{slice_get_within, get_or_from_slice_get}
+use Rattle.wsm_windows.specs.declared.window.PaneKind.{PaneKind}
+use Rattle.wsm_semantics.specs.declared.place.Place.{Place}
+use Rattle.wsm_semantics.specs.Query.{Query}
+use Rattle.wsm_semantics.specs.Panes.{place_cmp}
+use Rattle.wsm_semantics.specs.Summaries.{Plan, Pane, Fired, fired_of, fires, fired_pane, all_fired}
+use Rattle.wsm_semantics.proofs.Tables.{places_total}
+use Rattle.wsm_firing.proofs.Agreeing.{Kind, Entries, none_fired}
+use Rattle.wsm_firing.proofs.AtPlace.{first_of, second_of, lesser}
+
+pub rest_at : {A : Type 0} (xs : List A) (i : ℕ) (x : A) → slice_get xs i ≡ Some x → drop i xs ≡ x ∷ drop (i + 1) xs
+rest_at xs i x at =
+    let within = slice_get_within xs i x at in
+    rw (drop-cons xs i x, get_or_from_slice_get xs i x x at, add-one) refl
+
+some_same : {A : Type 0} {x y : A} → Some x ≡ Some y → x ≡ y
+some_same {A} {x} {y} is = let value : Option A → A = λ o. elim o [ None ↦ x | Some z ↦ z ] in ap value is
+
+-- an entry behind another of a list in order
+behind : {X : Type 0} (p : Place) (es : List (Place × X)) (i : ℕ) (e : Place × X) → T (below_all place_cmp p es) → slice_get es i ≡ Some e → place_cmp p e.0 ≡ Less
+behind p [] i e below at = absurd (cc)
+behind p (x ∷ es) zero e below at = subst (λ (y : Place × _). place_cmp p y.0 ≡ Less) (some_same at) (lesser _ (first_of (is_lt (place_cmp p x.0)) (below_all place_cmp p es) below))
+behind p (x ∷ es) (suc i) e below at = behind p es i e (second_of (is_lt (place_cmp p x.0)) (below_all place_cmp p es) below) at
+
+turned : (p r : Place) → place_cmp p r ≡ Less → place_cmp r p ≡ Greater
+turned p r less = places_total.antisymm r p ∙ ap ordering_reverse less
+
+-- the pane at an entry's place is the entry's
+pub find_at : {X : Type 0} (es : List (Place × X)) (i : ℕ) (e : Place × X) → T (is_sorted place_cmp es) → slice_get es i ≡ Some e → find place_cmp e.0 es ≡ Some e.1
+find_at [] i e sorted at = absurd (cc)
+find_at (x ∷ es) zero e sorted at =
+    subst (λ (y : Place × _). find place_cmp y.0 (x ∷ es) ≡ Some y.1) (some_same at) (ap (λ o. cond (is_eq o) (Some x.1) (find place_cmp x.0 es)) (tied_itself places_total x.0))
+find_at (x ∷ es) (suc i) e sorted at =
+    let less : place_cmp x.0 e.0 ≡ Less = behind x.0 es i e (first_of (below_all place_cmp x.0 es) (is_sorted place_cmp es) sorted) at in
+    ap (λ o. cond (is_eq o) (Some x.1) (find place_cmp e.0 es)) (turned x.0 e.0 less) ∙ find_at es i e (second_of (below_all place_cmp x.0 es) (is_sorted place_cmp es) sorted) at
+
+pub holds_at : {A : Type 0} (P : A → Type 0) (xs : List A) (i : ℕ) (x : A) → AllByRecursion P xs → slice_get xs i ≡ Some x → P x
+holds_at P [] i x all at = absurd (cc)
+holds_at P (y ∷ ys) zero x all at = subst P (some_same at) all.0
+holds_at P (y ∷ ys) (suc i) x all at = holds_at P ys i x all.1 at
+
+module _ {X : Type 0} (plan : Plan X) (q : Query) (kind : Place → Pane X → Option PaneKind) where
+  -- the first so many entries fired, the others as they were
+  abbrev pub fired_first : ℕ → Entries plan q → Entries plan q
+  fired_first zero es = es
+  fired_first (suc n) [] = []
+  fired_first (suc n) (e ∷ es) = (e.0, fired_pane plan q.mode e.0 (kind e.0 e.1) e.1) ∷ fired_first n es
+
+  -- the next one is as it was
+  pub unfired_at : (n : ℕ) (es : Entries plan q) (e : Place × Pane X) → slice_get (fired_first n es) n ≡ Some e → slice_get es n ≡ Some e
+  unfired_at zero es e at = at
+  unfired_at (suc n) [] e at = at
+  unfired_at (suc n) (x ∷ es) e at = unfired_at n es e at
+
+  -- it fires, in its place
+  pub next_put : (n : ℕ) (es : Entries plan q) (e : Place × Pane X) → T (is_sorted place_cmp es) → slice_get es n ≡ Some e →
+      put place_cmp e.0 (fired_pane plan q.mode e.0 (kind e.0 e.1) e.1) (fired_first n es) ≡ fired_first (suc n) es
+  next_put n [] e sorted at = absurd (cc)
+  next_put zero (x ∷ es) e sorted at =
+      subst (λ (y : Place × Pane X). put place_cmp y.0 (fired_pane plan q.mode y.0 (kind y.0 y.1) y.1) (x ∷ es) ≡ fired_first 1 (x ∷ es)) (some_same at)
+      (let v : Pane X = fired_pane plan q.mode x.0 (kind x.0 x.1) x.1 in ap (λ o. by_order o ((x.0, v) ∷ x ∷ es) ((x.0, v) ∷ es) (x ∷ put place_cmp x.0 v es)) (tied_itself places_total x.0))
+  next_put (suc n) (x ∷ es) e sorted at =
+      let less : place_cmp x.0 e.0 ≡ Less = behind x.0 es n e (first_of (below_all place_cmp x.0 es) (is_sorted place_cmp es) sorted) at in
+      let v : Pane X = fired_pane plan q.mode e.0 (kind e.0 e.1) e.1 in
+      let x' : Place × Pane X = (x.0, fired_pane plan q.mode x.0 (kind x.0 x.1) x.1) in
+      ap (λ o. by_order o ((e.0, v) ∷ x' ∷ fired_first n es) ((x.0, v) ∷ fired_first n es) (x' ∷ put place_cmp e.0 v (fired_first n es))) (turned x.0 e.0 less)
+      ∙ ap (λ (fs : Entries plan q). x' ∷ fs) (next_put n es e (second_of (below_all place_cmp x.0 es) (is_sorted place_cmp es) sorted) at)
+
+  -- it doesn't fire
+  pub next_stays : (n : ℕ) (es : Entries plan q) (e : Place × Pane X) → slice_get es n ≡ Some e → kind e.0 e.1 ≡ None → fired_first n es ≡ fired_first (suc n) es
+  next_stays n [] e at none = absurd (cc)
+  next_stays zero (x ∷ es) e at none =
+      let same : kind x.0 x.1 ≡ None = subst (λ (y : Place × Pane X). kind y.0 y.1 ≡ None) (sym (some_same at)) none in
+      sym (λ i. (x.0, fired_pane plan q.mode x.0 (same i) x.1) ∷ es)
+  next_stays (suc n) (x ∷ es) e at none = ap (λ (fs : Entries plan q). (x.0, fired_pane plan q.mode x.0 (kind x.0 x.1) x.1) ∷ fs) (next_stays n es e at none)
+
+  -- none of the others fires
+  pub rest_stays : (n : ℕ) (es : Entries plan q) → AllByRecursion (λ e. kind e.0 e.1 ≡ None) (drop n es) → fired_first n es ≡ all_fired plan q kind es
+  rest_stays zero es none = sym (none_fired plan q kind es none)
+  rest_stays (suc n) [] none = refl
+  rest_stays (suc n) (x ∷ es) none = ap (λ (fs : Entries plan q). (x.0, fired_pane plan q.mode x.0 (kind x.0 x.1) x.1) ∷ fs) (rest_stays n es none)
+
+  -- what is left to fire
+  pub fires_at : (es : Entries plan q) (i : ℕ) (e : Place × Pane X) → slice_get es i ≡ Some e → fires q kind (drop i es) ≡ cons_option (fired_of q.mode e.0 e.1 (kind e.0 e.1)) (fires q kind (drop (i + 1) es))
+  fires_at es i e at = ap (fires q kind) (rest_at es i e at)
+
+  pub length-fired_first : (n : ℕ) (es : Entries plan q) → length (fired_first n es) ≡ length es
+  length-fired_first zero es = refl
+  length-fired_first (suc n) [] = refl
+  length-fired_first (suc n) (e ∷ es) = ap suc (length-fired_first n es)
+
+  -- a step of the walk
+  module _ (es now : Entries plan q) (i : ℕ) (e : Place × Pane X) (so_far : now ≡ fired_first i es) (sorted : T (is_sorted place_cmp es)) (at : slice_get now i ≡ Some e) where
+    pub as_it_was : slice_get es i ≡ Some e
+    as_it_was = unfired_at i es e (ap (λ fs. slice_get fs i) (sym so_far) ∙ at)
+
+    one_further : fired_first (suc i) es ≡ fired_first (i + 1) es
+    one_further = ap (λ n. fired_first n es) (sym (add-one i))
+
+    pub fires_next : (k : PaneKind) → kind e.0 e.1 ≡ Some k → put place_cmp e.0 (fired_pane plan q.mode e.0 (Some k) e.1) now ≡ fired_first (i + 1) es
+    fires_next k is =
+        (λ j. put place_cmp e.0 (fired_pane plan q.mode e.0 (sym is j) e.1) (so_far j)) ∙ next_put i es e sorted as_it_was ∙ one_further
+
+    pub stays_next : kind e.0 e.1 ≡ None → now ≡ fired_first (i + 1) es
+    stays_next none = so_far ∙ next_stays i es e as_it_was none ∙ one_further
+
+    pub fired_next : (k : Option PaneKind) → kind e.0 e.1 ≡ k → fires q kind (drop i es) ≡ cons_option (fired_of q.mode e.0 e.1 k) (fires q kind (drop (i + 1) es))
+    fired_next k is = fires_at es i e as_it_was ∙ ap (λ k. cons_option (fired_of q.mode e.0 e.1 k) (fires q kind (drop (i + 1) es))) is

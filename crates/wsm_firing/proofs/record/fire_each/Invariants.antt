@@ -1,0 +1,21 @@
+use Rattle.std.proofs.Common.{◌≡◌, map, vec_capacity}
+use Rattle.wsm_semantics.specs.Panes.{at}
+use Rattle.wsm_semantics.specs.Summaries.{all_fired, fires}
+use Rattle.wsm_machine.specs.Meaning.{plan_of, query_of}
+use Rattle.wsm_panes.specs.Held.{IsKept, entries_of}
+use Rattle.wsm_firing.specs.ByRecord.{AreInOrder, kind_at}
+use Rattle.wsm_firing.proofs.Counting.{ComesTo}
+use Rattle.wsm_firing.proofs.record.fire_each.Given as goal
+
+-- to fire at the windows that are left comes to firing at all
+abbrev pub invariant-loop-window : goal.invariant-loop-window
+invariant-loop-window l = record {
+  order : AreInOrder (map (at l.key) l.window-iterator);
+  panes : all_fired (plan_of l.verified) (query_of l.verified) (kind_at (query_of l.verified) l.mark (map (at l.key) l.window-iterator)) (entries_of l.held)
+      ≡ all_fired (plan_of l.verified) (query_of l.verified) (kind_at (query_of l.verified) l.mark (map (at l.key) l.fn.windows)) (entries_of l.fn.held);
+  keeps : IsKept l.fn.held l.held;
+  capacity : vec_capacity l.rows ≡ vec_capacity l.fn.rows;
+  comes : ComesTo l.verified (vec_capacity l.fn.rows) l.tally l.rows.items
+      (fires (query_of l.verified) (kind_at (query_of l.verified) l.mark (map (at l.key) l.window-iterator)) (entries_of l.held))
+      (fires (query_of l.verified) (kind_at (query_of l.verified) l.mark (map (at l.key) l.fn.windows)) (entries_of l.fn.held));
+}

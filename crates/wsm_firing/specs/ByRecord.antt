@@ -1,0 +1,50 @@
+-- What fires on the turn of a record.
+use Rattle.std.specs.Prelude.{◌≡◌, ℕ, ℤ, Bool, List, [], ◌∷◌, map, Option, Some, None, if◌then◌else◌}
+use Rattle.std.specs.List.{AllByRecursion, list_any}
+use Rattle.std.specs.Ordering.{eq_by_cmp}
+use Rattle.std.specs.declared.cmp.Ordering.TheVariants.{Less}
+use Rattle.wsm_record.specs.declared.event.Value.{Value}
+use Rattle.wsm_windows.specs.declared.window.PaneKind.{PaneKind}
+use Rattle.wsm_windows.specs.declared.window.Shape.{Shape}
+use Rattle.wsm_windows.specs.declared.window.Window.{Window}
+use Rattle.wsm_windows.specs.Windows.{IsTime, windows_of_shape}
+use Rattle.wsm_semantics.specs.declared.place.Place.{Place}
+use Rattle.wsm_semantics.specs.Query.{Query}
+use Rattle.wsm_semantics.specs.Panes.{place_cmp, at, is_there}
+use Rattle.wsm_semantics.specs.Firings.{kind_on_record}
+use Rattle.wsm_semantics.specs.Replay.{datum}
+use Rattle.wsm_semantics.specs.Summaries.{Pane, Fired, fires, kind_by_record}
+use Rattle.wsm_bytecode.specs.Program.{Program}
+use Rattle.wsm_machine.specs.Meaning.{query_of}
+use Rattle.wsm_firing.specs.Firing.{CanFire}
+
+-- the windows that a record is put into: its session, or those that its time is assigned to
+abbrev pub windows_entered : Shape → ℤ → Option Window → List Window
+windows_entered shape time (Some session) = session ∷ []
+windows_entered shape time None = windows_of_shape shape time
+
+abbrev pub places_entered : Shape → ℕ → ℤ → Option Window → List Place
+places_entered shape key time session = map (at key) (windows_entered shape time session)
+
+-- whether a place is one of some places
+abbrev pub is_among : List Place → Place → Bool
+is_among places p = list_any (eq_by_cmp place_cmp p) places
+
+-- what a pane at one of some places fires as, on the turn of a record in it
+abbrev pub kind_at : {X : Type 0} → Query → ℤ → List Place → Place → Pane X → Option PaneKind
+kind_at q mark places p h = if is_among places p then kind_on_record q mark p.end h.unshown else None
+
+-- each place before the next
+abbrev pub AreInOrder : List Place → Type 0
+AreInOrder [] = Unit {0}
+AreInOrder (p ∷ ps) = AllByRecursion (λ r. place_cmp p r ≡ Less) ps × AreInOrder ps
+
+-- what fires on the turn of a record of a key and a time
+abbrev pub fires_by_record : Program → ℤ → ℕ → ℤ → List (Place × Pane (List Value)) → List (Fired (List Value))
+fires_by_record p mark key time panes = fires (query_of p) (kind_by_record (query_of p) mark (datum 0 key time [])) panes
+
+-- the panes that a record is in are those at the windows that it was put into, and what fires can
+pub record CanFireByRecord (p : Program) (capacity : ℕ) (mark : ℤ) (key : ℕ) (time : ℤ) (session : Option Window) (panes : List (Place × Pane (List Value))) : Type 0 where
+  pub timely : IsTime time
+  pub entered : AllByRecursion (λ e. is_there e.0 (datum 0 key time []) ≡ is_among (places_entered p.header.shape key time session) e.0) panes
+  pub can : CanFire p capacity (fires_by_record p mark key time panes)

@@ -1,0 +1,20 @@
+-- What fires on the turn of a watermark.
+use Rattle.std.specs.Prelude.{ℕ, ℤ, List, ◌≤ℤ◌}
+use Rattle.std.specs.List.{AllByRecursion}
+use Rattle.wsm_record.specs.declared.event.Value.{Value}
+use Rattle.wsm_windows.specs.Windows.{IsPlaced}
+use Rattle.wsm_semantics.specs.declared.place.Place.{Place}
+use Rattle.wsm_semantics.specs.Panes.{window_of}
+use Rattle.wsm_semantics.specs.Summaries.{Pane, Fired, fires, kind_by_watermark}
+use Rattle.wsm_bytecode.specs.Program.{Program}
+use Rattle.wsm_machine.specs.Meaning.{query_of}
+use Rattle.wsm_firing.specs.Firing.{CanFire}
+
+-- what fires on the turn of a watermark that rises from one mark to another
+abbrev pub fires_by_watermark : Program → ℤ → ℤ → List (Place × Pane (List Value)) → List (Fired (List Value))
+fires_by_watermark p old new panes = fires (query_of p) (kind_by_watermark (query_of p) old new) panes
+
+-- times can stand in the panes' windows, and what fires can
+pub record CanFireByWatermark (p : Program) (capacity : ℕ) (old new : ℤ) (panes : List (Place × Pane (List Value))) : Type 0 where
+  pub placed : AllByRecursion (λ e. IsPlaced (window_of e.0)) panes
+  pub can : CanFire p capacity (fires_by_watermark p old new panes)

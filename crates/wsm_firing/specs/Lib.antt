@@ -1,0 +1,6 @@
+pub mod Tally
+pub mod Due
+pub mod Firing
+pub mod ByRecord
+pub mod ByWatermark
+pub mod Streams

@@ -1,0 +1,54 @@
+//! What a pane fires as.
+
+ghost use Rattle.std.specs.Prelude.{◌≡◌, FitsSigned};
+ghost use Rattle.std.specs.Int.{w64};
+ghost use Rattle.wsm_windows.specs.Windows.{IsPlaced, IsSpan};
+ghost use Rattle.wsm_semantics.specs.Query.{Query};
+ghost use Rattle.wsm_semantics.specs.Firings.{kind_on_record};
+ghost use Rattle.wsm_semantics.specs.Panes.{window_of};
+ghost use Rattle.wsm_semantics.specs.Summaries.{kind_by_watermark};
+ghost use Rattle.wsm_machine.specs.Meaning.{query_of};
+
+use wsm_bytecode::Header;
+use wsm_panes::Pane;
+use wsm_semantics::Place;
+use wsm_triggers::{Trigger, on_record, on_watermark};
+use wsm_verifier::Verified;
+use wsm_windows::PaneKind;
+
+/// What a pane fires as on the turn of a record in it, at a mark.
+pub fn record_kind(verified: &Verified, mark: i64, place: Place, pane: &Pane) -> Option<PaneKind>
+    requires { FitsSigned w64 place.end }
+    ensures { result ≡ kind_on_record (query_of verified.now) mark place.end pane.now.unshown }
+{
+    let header = verified.program().header();
+    let trigger = Trigger {
+        early: header.early.unsigned_abs(),
+        late: header.late.unsigned_abs(),
+    };
+    on_record(trigger, mark, place.end, pane.unshown())
+}
+
+/// What a pane fires as on the turn of a watermark that rises from one mark to another.
+pub fn watermark_kind(
+    header: &Header,
+    old: i64,
+    new: i64,
+    place: Place,
+    pane: &Pane,
+) -> Option<PaneKind>
+    requires lateness { IsSpan header.now.lateness }
+    requires placed { IsPlaced (window_of place) }
+    // In each query with the header's mode and lateness.
+    ensures { (q : Query) → q.mode ≡ header.now.mode → q.clock.lateness ≡ header.now.lateness → result ≡ kind_by_watermark q old new place pane.now }
+{
+    on_watermark(
+        header.mode,
+        old,
+        new,
+        place.end,
+        header.lateness,
+        pane.count(),
+        pane.unshown(),
+    )
+}

@@ -1,0 +1,20 @@
+//! Firings: FIRE run on the panes that fire on a turn, the rows that they write, what stands for
+//! them, and the streams of the relation that stands (Arasu et al. 2006).
+//!
+//! [`fire_by_record`] fires the panes that a record entered, and [`fire_by_watermark`] those that a
+//! rising watermark comes to. Which fire is said by the triggers; which row stands for a pane is this
+//! project's own rule. No call here takes memory but [`Streams::open`].
+#![tactic(auto)]
+
+pub use record::fire_by_record;
+pub use streams::Streams;
+pub use tally::Tally;
+pub use watermark::fire_by_watermark;
+
+mod fire;
+mod kinds;
+mod record;
+mod run;
+mod streams;
+mod tally;
+mod watermark;

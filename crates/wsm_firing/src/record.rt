@@ -1,0 +1,121 @@
+//! Firings on the turn of a record.
+
+ghost use Rattle.std.specs.Prelude.{◌≡◌, ◌++◌, [], ◌∷◌, map, vec_capacity, vec_len};
+ghost use Rattle.wsm_semantics.specs.Panes.{at};
+ghost use Rattle.wsm_semantics.specs.Replay.{datum};
+ghost use Rattle.wsm_semantics.specs.Summaries.{all_fired, fires, kind_by_record};
+ghost use Rattle.wsm_machine.specs.Meaning.{plan_of, query_of};
+ghost use Rattle.wsm_panes.specs.Held.{IsKept, entries_of};
+ghost use Rattle.wsm_firing.specs.Tally.{tally_of, tally_with};
+ghost use Rattle.wsm_firing.specs.Firing.{CanAdd, CanFire, rows_of};
+ghost use Rattle.wsm_firing.specs.ByRecord.{AreInOrder, CanFireByRecord, fires_by_record, kind_at};
+
+use crate::fire::{Due, fire};
+use crate::kinds::record_kind;
+use crate::tally::Tally;
+use wsm_machine::Machine;
+use wsm_panes::HeldPanes;
+use wsm_semantics::{OutRow, Place};
+use wsm_verifier::Verified;
+use wsm_windows::{Window, Windows, windows_of};
+
+/// Fires the panes that a selected record of a key and a time was put into and that its triggers call
+/// for, at a mark, by end, then start. A row is written for each where HAVING is true and rows are
+/// those of panes. The session is the record's, where windows are sessions.
+pub fn fire_by_record(
+    verified: &Verified,
+    machine: &mut Machine,
+    held: &mut HeldPanes,
+    rows: &mut Vec<OutRow>,
+    mark: i64,
+    key: u16,
+    time: i64,
+    session: Option<Window>,
+) -> Tally
+    requires empty { rows.old.items ≡ [] }
+    requires can { CanFireByRecord verified.now (vec_capacity rows.old) mark key time session (entries_of held.old) }
+    ensures panes { entries_of held.new ≡ all_fired (plan_of verified.now) (query_of verified.now) (kind_by_record (query_of verified.now) mark (datum 0 key time [])) (entries_of held.old) }
+    ensures keeps { IsKept held.old held.new }
+    ensures rows { rows.new.items ≡ rows_of verified.now (fires_by_record verified.now mark key time (entries_of held.old)) }
+    ensures capacity { vec_capacity rows.new ≡ vec_capacity rows.old }
+    ensures tally { result ≡ tally_of verified.now (fires_by_record verified.now mark key time (entries_of held.old)) }
+{
+    let header = verified.program().header();
+    if header.early == 0 && header.late == 0 {
+        return Tally::none();
+    }
+    match session {
+        Some(window) => {
+            let mut tally = Tally::none();
+            let place = place_of(key, window);
+            fire_at(verified, machine, held, rows, &mut tally, mark, place);
+            tally
+        }
+        None => {
+            let windows = windows_of(header.shape, time);
+            fire_each(verified, machine, held, rows, mark, key, windows)
+        }
+    }
+}
+
+// Fires the panes at some windows of a key.
+fn fire_each(
+    verified: &Verified,
+    machine: &mut Machine,
+    held: &mut HeldPanes,
+    rows: &mut Vec<OutRow>,
+    mark: i64,
+    key: u16,
+    windows: Windows,
+) -> Tally
+    requires empty { rows.old.items ≡ [] }
+    requires order { AreInOrder (map (at key) windows) }
+    requires can { CanFire verified.now (vec_capacity rows.old) (fires (query_of verified.now) (kind_at (query_of verified.now) mark (map (at key) windows)) (entries_of held.old)) }
+    ensures panes { entries_of held.new ≡ all_fired (plan_of verified.now) (query_of verified.now) (kind_at (query_of verified.now) mark (map (at key) windows)) (entries_of held.old) }
+    ensures keeps { IsKept held.old held.new }
+    ensures rows { rows.new.items ≡ rows_of verified.now (fires (query_of verified.now) (kind_at (query_of verified.now) mark (map (at key) windows)) (entries_of held.old)) }
+    ensures capacity { vec_capacity rows.new ≡ vec_capacity rows.old }
+    ensures tally { result ≡ tally_of verified.now (fires (query_of verified.now) (kind_at (query_of verified.now) mark (map (at key) windows)) (entries_of held.old)) }
+{
+    let mut tally = Tally::none();
+    for window in windows {
+        let place = place_of(key, window);
+        fire_at(verified, machine, held, rows, &mut tally, mark, place);
+    }
+    tally
+}
+
+// Fires the pane at a place, where one is and its trigger calls for it.
+fn fire_at(
+    verified: &Verified,
+    machine: &mut Machine,
+    held: &mut HeldPanes,
+    rows: &mut Vec<OutRow>,
+    tally: &mut Tally,
+    mark: i64,
+    place: Place,
+)
+    requires { CanAdd verified.now (vec_capacity rows.old) (vec_len rows.old) tally.old (fires (query_of verified.now) (kind_at (query_of verified.now) mark (place ∷ [])) (entries_of held.old)) }
+    ensures panes { entries_of held.new ≡ all_fired (plan_of verified.now) (query_of verified.now) (kind_at (query_of verified.now) mark (place ∷ [])) (entries_of held.old) }
+    ensures keeps { IsKept held.old held.new }
+    ensures rows { rows.new.items ≡ rows.old.items ++ rows_of verified.now (fires (query_of verified.now) (kind_at (query_of verified.now) mark (place ∷ [])) (entries_of held.old)) }
+    ensures capacity { vec_capacity rows.new ≡ vec_capacity rows.old }
+    ensures tally { tally.new ≡ tally_with verified.now tally.old (fires (query_of verified.now) (kind_at (query_of verified.now) mark (place ∷ [])) (entries_of held.old)) }
+{
+    let Some(pane) = held.get(place) else {
+        return;
+    };
+    if let Some(kind) = record_kind(verified, mark, place, &pane) {
+        fire(verified, machine, held, rows, tally, Due { kind, place, pane });
+    }
+}
+
+fn place_of(key: u16, window: Window) -> Place
+    ensures { result ≡ at key window }
+{
+    Place {
+        end: window.end,
+        start: window.start,
+        key,
+    }
+}
