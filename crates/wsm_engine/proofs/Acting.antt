@@ -19,7 +19,7 @@ use Rattle.wsm_panes.specs.Held.{entries_of}
 use Rattle.wsm_firing.specs.Streams.{relation_kept}
 use Rattle.wsm_firing.specs.Firing.{rows_of}
 use Rattle.wsm_engine.specs.declared.runner.Runner.{Runner}
-use Rattle.wsm_engine.specs.Runner.{IsAt, Comes, panes_with, fired_with}
+use Rattle.wsm_engine.specs.Runner.{IsAt, panes_with, fired_with}
 use Rattle.wsm_engine.proofs.Holding.{Panes}
 
 module _ (p : Program) (r : Runner) (m : ℤ) (s : State (List Value)) (at : IsAt m r s) (a : Result Admitted Refusal) (e : Event) where

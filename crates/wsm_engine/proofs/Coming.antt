@@ -58,7 +58,7 @@ module _ (p : Program) (past : List Event) (r : Runner) (of : IsOf p r) (m : ℤ
 
   -- ---- a selected record
 
-  module _ (k : ℕ) (t : ℤ) (vs : List Value) (comes : Comes p past r m (Ok admitted.Record) (Record (Some k) t vs)) (chosen : selects p k vs ≡ true) where
+  module _ (k : ℕ) (t : ℤ) (vs : List Value) (comes : Comes p past r.held m (Ok admitted.Record) (Record (Some k) t vs)) (chosen : selects p k vs ≡ true) where
     taken : verdict_on (query_of p) past (Record (Some k) t vs) ≡ None
     taken = none_refuses m (Record (Some k) t vs) (verdict_on (query_of p) past (Record (Some k) t vs)) admitted.Record comes.answered
 
@@ -106,7 +106,7 @@ module _ (p : Program) (past : List Event) (r : Runner) (of : IsOf p r) (m : ℤ
 
   -- ---- a watermark
 
-  module _ (new : ℤ) (comes : Comes p past r m (Ok (admitted.Watermark m new)) (Watermark new)) where
+  module _ (new : ℤ) (comes : Comes p past r.held m (Ok (admitted.Watermark m new)) (Watermark new)) where
     accepted : verdict_on (query_of p) past (Watermark new) ≡ None
     accepted = none_refuses m (Watermark new) (verdict_on (query_of p) past (Watermark new)) (admitted.Watermark m new) comes.answered
 
@@ -120,7 +120,7 @@ module _ (p : Program) (past : List Event) (r : Runner) (of : IsOf p r) (m : ℤ
         (subst (λ n. CanFireByWatermark p capacity n new es) (sym comes.marked) (can_by_watermark p (needed p) of.judged of.lawful past new accepted capacity room))
 
   -- as many panes are held as there is room for
-  pub held_within : (a : Result Admitted Refusal) (e : Event) → Comes p past r m a e → length (entries_of r.held) ≤ most_panes (query_of p)
+  pub held_within : (a : Result Admitted Refusal) (e : Event) → Comes p past r.held m a e → length (entries_of r.held) ≤ most_panes (query_of p)
   held_within a e comes = subst (λ xs. length xs ≤ most_panes (query_of p)) (sym comes.panes) (kept_within p (needed p) of.judged of.lawful past)
 
 -- ---- times of 64 bits
@@ -128,7 +128,7 @@ module _ (p : Program) (past : List Event) (r : Runner) (of : IsOf p r) (m : ℤ
 fits : (t : ℤ) → IsTime t → SFits w64 t
 fits t h = fits_signed_from_abs w64 t (omega (arith, ints, h.low, h.high))
 
-pub time_fits : (p : Program) (past : List Event) (r : Runner) (of : IsOf p r) (m : ℤ) (k : ℕ) (t : ℤ) (vs : List Value) (a : Result Admitted Refusal) (e : Event) → Comes p past r m a e → a ≡ Ok admitted.Record → e ≡ Record (Some k) t vs → SFits w64 t
+pub time_fits : (p : Program) (past : List Event) (r : Runner) (of : IsOf p r) (m : ℤ) (k : ℕ) (t : ℤ) (vs : List Value) (a : Result Admitted Refusal) (e : Event) → Comes p past r.held m a e → a ≡ Ok admitted.Record → e ≡ Record (Some k) t vs → SFits w64 t
 time_fits p past r of m k t vs a e comes is ev =
     fits t (timely p (needed p) of.judged of.lawful past k t vs
     (none_refuses m (Record (Some k) t vs) _ admitted.Record (sym is ∙ comes.answered ∙ ap (λ (f : Event). answer m f (verdict_on (query_of p) past f)) ev)))
@@ -139,30 +139,34 @@ the_mark m (Record k t vs) None old new h = absurd (cc)
 the_mark m (Watermark t) None old new h = let same : t ≡ new = cc in (cc, ap Watermark same)
 the_mark m e (Some r) old new h = absurd (cc)
 
-module _ (p : Program) (past : List Event) (r : Runner) (m : ℤ) (a : Result Admitted Refusal) (e : Event) (comes : Comes p past r m a e) where
-  -- the same of a runner that holds the same panes
-  pub comes_with : (x : Runner) → x.held ≡ r.held → (k : Option ℕ) (t : ℤ) (vs : List Value) → a ≡ Ok admitted.Record → e ≡ Record k t vs → Comes p past x m (Ok admitted.Record) (Record k t vs)
-  comes_with x same k t vs is ev = record {
+module _ (p : Program) (past : List Event) (h : Held) (m : ℤ) (a : Result Admitted Refusal) (e : Event) (comes : Comes p past h m a e) where
+  -- the same of an answer to a record or a watermark
+  pub comes_with : (k : Option ℕ) (t : ℤ) (vs : List Value) → a ≡ Ok admitted.Record → e ≡ Record k t vs → Comes p past h m (Ok admitted.Record) (Record k t vs)
+  comes_with k t vs is ev = record {
     marked = comes.marked;
     answered = sym is ∙ comes.answered ∙ ap (λ (f : Event). answer m f (verdict_on (query_of p) past f)) ev;
-    panes = ap entries_of same ∙ comes.panes;
+    panes = comes.panes;
   }
 
-  pub comes_at : (x : Runner) → x.held ≡ r.held → (old new : ℤ) → a ≡ Ok (admitted.Watermark old new) → Comes p past x old (Ok (admitted.Watermark old new)) (Watermark new)
-  comes_at x same old new is =
-      let (from, ev) = the_mark m e (verdict_on (query_of p) past e) old new (sym is ∙ comes.answered) in
+  from_mark : (old new : ℤ) → a ≡ Ok (admitted.Watermark old new) → (old ≡ m) × (e ≡ Watermark new)
+  from_mark old new is = the_mark m e (verdict_on (query_of p) past e) old new (sym is ∙ comes.answered)
+
+  pub comes_at : (old new : ℤ) → a ≡ Ok (admitted.Watermark old new) → Comes p past h old (Ok (admitted.Watermark old new)) (Watermark new)
+  comes_at old new is =
+      let (from, ev) = from_mark old new is in
       record {
         marked = from ∙ comes.marked;
         answered = sym is ∙ comes.answered ∙ (λ i. answer (sym from i) (ev i) (verdict_on (query_of p) past (ev i)));
-        panes = ap entries_of same ∙ comes.panes;
+        panes = comes.panes;
       }
 
-  -- the marks of an accepted watermark have 64 bits
-  pub mark_fits : (of : IsOf p r) (old new : ℤ) → a ≡ Ok (admitted.Watermark old new) → SFits w64 new
-  mark_fits of old new is = fits new (a_mark p past r of old new (comes_at r refl old new is))
-
+  -- the old mark has 64 bits
   pub old_fits : (old new : ℤ) → a ≡ Ok (admitted.Watermark old new) → SFits w64 m → SFits w64 old
-  old_fits old new is h = subst (SFits w64) (sym (the_mark m e (verdict_on (query_of p) past e) old new (sym is ∙ comes.answered)).0) h
+  old_fits old new is fit = subst (SFits w64) (sym (from_mark old new is).0) fit
+
+-- and so has the new one
+pub mark_fits : (p : Program) (past : List Event) (r : Runner) (m : ℤ) (a : Result Admitted Refusal) (e : Event) → Comes p past r.held m a e → IsOf p r → (old new : ℤ) → a ≡ Ok (admitted.Watermark old new) → SFits w64 new
+mark_fits p past r m a e comes of old new is = fits new (a_mark p past r of old new (comes_at p past r.held m a e comes old new is))
 
 -- ---- rows and drops of a watermark
 

@@ -68,7 +68,7 @@ fire_types p key n held h =
     accs_types p 0 p.header.kinds held (and_parts (holds (interval (pos 1) p.header.records) (pos n)) _ (and_parts (nat_lt key (length p.header.schema.keys)) _ h).1).1
 
 module _ (p : Program) (costs : Costs) (judged : judge p ≡ Ok costs) (lawful : IsTrue (is_program p)) (past : List Event)
-  (k : ℕ) (t : ℤ) (vs : List Value) (taken : verdict_on (query_of p) past (Record (Some k) t vs) ≡ None) where
+    (k : ℕ) (t : ℤ) (vs : List Value) (taken : verdict_on (query_of p) past (Record (Some k) t vs) ≡ None) where
   abbrev n : ℕ
   n = admitted p costs judged lawful past
 

@@ -46,7 +46,7 @@ one_session false true linked f g old h = absurd (true≢false (sym h ∙ (λ i.
 one_session false false linked f g old h = refl
 
 module _ (p : Program) (costs : Costs) (judged : judge p ≡ Ok costs) (lawful : IsTrue (is_program p)) (past : List Event)
-  (k : ℕ) (t : ℤ) (vs : List Value) (taken : verdict_on (query_of p) past (Record (Some k) t vs) ≡ None) (chosen : selects p k vs ≡ true) where
+    (k : ℕ) (t : ℤ) (vs : List Value) (taken : verdict_on (query_of p) past (Record (Some k) t vs) ≡ None) (chosen : selects p k vs ≡ true) where
   abbrev q : Query
   q = query_of p
 

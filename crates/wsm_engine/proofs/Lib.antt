@@ -8,3 +8,4 @@ pub mod Inside
 pub mod Firings
 pub mod Coming
 pub mod Acting
+pub mod Spending

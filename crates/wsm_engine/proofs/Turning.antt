@@ -32,8 +32,7 @@ use Rattle.wsm_verifier.proofs.Lawful.{lawful as program_lawful}
 use Rattle.wsm_machine.specs.Meaning.{query_of, plan_of, pane_cost, pane_cost_by, answer_cost}
 use Rattle.wsm_machine.proofs.Meaning.{plan_lawful, plan_runs}
 use Rattle.wsm_machine.proofs.Costs.{step_cost_is, fired_costs_are}
-use Rattle.wsm_panes.specs.Held.{entries_of}
-use Rattle.wsm_engine.specs.declared.runner.Runner.{Runner}
+use Rattle.wsm_panes.specs.Held.{Held, entries_of}
 use Rattle.wsm_engine.specs.Runner.{Comes}
 use Rattle.wsm_engine.specs.State.{State}
 use Rattle.wsm_firing.specs.declared.tally.Tally.{Tally}
@@ -220,9 +219,9 @@ turned_is s e a is kept panes related fed fired rows hk hp hr hf hn ho =
     })
 
 -- an event comes to the runner of an engine that fits a history
-pub comes_of : (s : State) (past : List Event) → Fits s past → (r : Runner) → entries_of r.held ≡ s.machine.panes → (m : ℤ) → m ≡ s.machine.admission.mark → (a : Result Admitted Refusal) (e : Event)
-    → a ≡ answer_to (plan_of s.program) (query_of s.program) s.machine e → Comes s.program past r m a e
-comes_of s past fits r held m is a e answered =
+pub comes_of : (s : State) (past : List Event) → Fits s past → (h : Held) → entries_of h ≡ s.machine.panes → (m : ℤ) → m ≡ s.machine.admission.mark → (a : Result Admitted Refusal) (e : Event)
+    → a ≡ answer_to (plan_of s.program) (query_of s.program) s.machine e → Comes s.program past h m a e
+comes_of s past fits h held m is a e answered =
     let here : m ≡ mark (query_of s.program) past = is ∙ fits.admission.mark ∙ ap (λ c. mark (record (query_of s.program) { clock = c }) past) fits.clock in
     record {
       marked = here;

@@ -20,7 +20,7 @@ use Rattle.wsm_engine.specs.Meaning.{Fits}
 use Rattle.wsm_engine.proofs.Holding.{admitted, kept_sound, admitted_few}
 
 -- the greatest of some costs is at most their bound
-greatest_within : (f : Fired (List Value) → ℕ) (most : ℕ) (fs : List (Fired (List Value))) → AllByRecursion (λ x. f x ≤ most) fs → greatest (map f fs) ≤ most
+pub greatest_within : (f : Fired (List Value) → ℕ) (most : ℕ) (fs : List (Fired (List Value))) → AllByRecursion (λ x. f x ≤ most) fs → greatest (map f fs) ≤ most
 greatest_within f most [] h = omega arith
 greatest_within f most (x ∷ fs) h = omega (arith, h.0, greatest_within f most fs h.1)
 

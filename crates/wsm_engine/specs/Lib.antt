@@ -3,3 +3,4 @@ pub mod Meaning
 pub mod Turn
 pub mod Runner
 pub mod Engine
+pub mod Laws

@@ -19,7 +19,7 @@ use Rattle.wsm_bytecode.specs.Program.{Program, is_program}
 use Rattle.wsm_verifier.specs.Costs.{needed}
 use Rattle.wsm_verifier.specs.Rules.{judge}
 use Rattle.wsm_machine.specs.Meaning.{query_of, plan_of, selects, update_run, joins_held}
-use Rattle.wsm_panes.specs.Held.{entries_of}
+use Rattle.wsm_panes.specs.Held.{Held, entries_of}
 use Rattle.std.specs.Prelude.{IsTrue}
 use Rattle.wsm_engine.specs.declared.runner.Runner.{Runner}
 
@@ -35,10 +35,10 @@ pub record IsOf (p : Program) (r : Runner) : Type 0 where
   pub rows : most_panes (query_of p) ≤ vec_capacity r.rows
 
 -- an event comes after a history, with its answer, and what is held is the history's
-pub record Comes (p : Program) (past : List Event) (r : Runner) (mark : ℤ) (a : Result Admitted Refusal) (e : Event) : Type 0 where
+pub record Comes (p : Program) (past : List Event) (h : Held) (mark : ℤ) (a : Result Admitted Refusal) (e : Event) : Type 0 where
   pub marked : mark ≡ query.mark (query_of p) past
   pub answered : a ≡ answer mark e (verdict_on (query_of p) past e)
-  pub panes : entries_of r.held ≡ summaries (plan_of p) p.header.mode (kept (query_of p) past)
+  pub panes : entries_of h ≡ summaries (plan_of p) p.header.mode (kept (query_of p) past)
 
 -- the runner keeps the panes and the relation of a state of the machine at a mark
 pub record IsAt (mark : ℤ) (r : Runner) (s : State (List Value)) : Type 0 where

@@ -10,5 +10,6 @@ pub use engine::{Engine, OpenRefusal};
 pub use reply::{Reply, Totals};
 
 mod engine;
+pub mod laws;
 mod reply;
 mod runner;

@@ -83,7 +83,7 @@ impl Runner {
         event: &Event,
     ) -> Done
         requires program { IsOf verified.now self.old }
-        requires comes { (past : List AnyEvent) × Comes verified.now past self.old mark answer (event_of event.now) }
+        requires comes { (past : List AnyEvent) × Comes verified.now past self.old.held mark answer (event_of event.now) }
         ensures program { IsOf verified.now self.new }
         ensures panes { (s : State (List OneValue)) → IsAt mark self.old s → entries_of self.new.held ≡ panes_after (plan_of verified.now) (query_of verified.now) answer (event_of event.now) s }
         ensures relation { (s : State (List OneValue)) → IsAt mark self.old s →
@@ -123,7 +123,7 @@ impl Runner {
     ) -> Done
         requires program { IsOf verified.now self.old }
         requires empty { self.old.rows.items ≡ [] }
-        requires comes { (past : List AnyEvent) × Comes verified.now past self.old mark (Ok admitted.Record) (Record (Some key) time values.now) }
+        requires comes { (past : List AnyEvent) × Comes verified.now past self.old.held mark (Ok admitted.Record) (Record (Some key) time values.now) }
         ensures program { IsOf verified.now self.new }
         ensures panes { entries_of self.new.held ≡ panes_with verified.now mark key time values.now (entries_of self.old.held) }
         ensures streams { self.new.streams ≡ self.old.streams }
@@ -166,7 +166,7 @@ impl Runner {
     ) -> (u64, Option<Window>)
         requires program { IsOf verified.now self.old }
         requires selected { selects verified.now key values.now ≡ true }
-        requires comes { (past : List AnyEvent) × (mark : ℤ) × Comes verified.now past self.old mark (Ok admitted.Record) (Record (Some key) time values.now) }
+        requires comes { (past : List AnyEvent) × (mark : ℤ) × Comes verified.now past self.old.held mark (Ok admitted.Record) (Record (Some key) time values.now) }
         ensures panes { entries_of self.new.held ≡ entered (plan_of verified.now) verified.now.header.shape (datum 0 key time values.now) (entries_of self.old.held) }
         ensures keeps { IsKept self.old.held self.new.held }
         ensures streams { self.new.streams ≡ self.old.streams }
@@ -189,7 +189,7 @@ impl Runner {
     fn take_watermark(&mut self, verified: &Verified, old: i64, new: i64) -> Tally
         requires program { IsOf verified.now self.old }
         requires empty { self.old.rows.items ≡ [] }
-        requires comes { (past : List AnyEvent) × Comes verified.now past self.old old (Ok (admitted.Watermark old new)) (Watermark new) }
+        requires comes { (past : List AnyEvent) × Comes verified.now past self.old.held old (Ok (admitted.Watermark old new)) (Watermark new) }
         ensures program { IsOf verified.now self.new }
         ensures panes { entries_of self.new.held ≡ after_watermark (plan_of verified.now) (query_of verified.now) old new (entries_of self.old.held) }
         ensures relation { self.new.streams.relation ≡ relation_kept verified.now.header.form self.old.streams.relation (relation_of (at_watermark (plan_of verified.now) (query_of verified.now) old new (entries_of self.old.held))) }
@@ -205,8 +205,9 @@ impl Runner {
             old,
             new,
         );
+        let limit = new - verified.program().header().lateness;
         self.streams.advance(&self.held, new, &mut self.rows);
-        self.held.drop_expired(new - verified.program().header().lateness);
+        self.held.drop_expired(limit);
         tally
     }
 }

@@ -44,9 +44,10 @@ module _ {X : Type 0} (plan : Plan X) (q : Query) (mark : ℤ) (p : Place) where
   none_behind x further [] below = tt
   none_behind x further (e ∷ es) below =
       let less : place_cmp p e.0 ≡ Less = further e.0 (lesser _ (first_of (is_lt (place_cmp x e.0)) (below_all place_cmp x es) below)) in
-      let unlike : eq_by_cmp place_cmp e.0 p ≡ false = ap is_eq (places_total.antisymm e.0 p ∙ ap ordering_reverse less) in
-      (ap (λ (b : Bool). cond (b || false) (kind_on_record q mark e.0.end e.1.unshown) None) unlike,
-      none_behind x further es (second_of (is_lt (place_cmp x e.0)) (below_all place_cmp x es) below))
+      let unlike : eq_by_cmp place_cmp e.0 p ≡ false = ap is_eq (places_total.antisymm e.0 p ∙ ap ordering_reverse less) in (
+        ap (λ (b : Bool). cond (b || false) (kind_on_record q mark e.0.end e.1.unshown) None) unlike,
+        none_behind x further es (second_of (is_lt (place_cmp x e.0)) (below_all place_cmp x es) below),
+      )
 
   abbrev found_fires : Option (Pane X) → List (Fired X)
   found_fires None = []

@@ -1,8 +1,7 @@
 -- On the turn of a record, panes fire at the windows that it was put into, and none where no count is declared.
-use Rattle.std.proofs.Common.{◌≡◌, ℕ, Bool, true, false, cond, List, [], ◌∷◌, None, Some, refl, sym, ap, ◌∙◌}
+use Rattle.std.proofs.Common.{◌≡◌, Bool, true, false, cond, List, [], ◌∷◌, None, Some, refl, sym, ap, ◌∙◌}
 use Rattle.std.specs.Prelude.{ℤ, int_lt}
 use Rattle.std.specs.List.{AllByRecursion}
-use Rattle.wsm_windows.specs.declared.window.PaneKind.{PaneKind}
 use Rattle.wsm_windows.specs.declared.window.PaneKind.TheVariants.{Early, Late}
 use Rattle.wsm_semantics.specs.declared.place.Place.{Place}
 use Rattle.wsm_semantics.specs.Query.{Query, Datum}
@@ -24,6 +23,8 @@ module _ {X : Type 0} (q : Query) (mark : ℤ) (d : Datum) where
   -- no count is declared
   pub no_kinds : q.early ≡ 0 → q.late ≡ 0 → (es : List (Place × Pane X)) → AllByRecursion (λ e. kind_by_record q mark d e.0 e.1 ≡ None) es
   no_kinds early late [] = tt
-  no_kinds early late (e ∷ es) =
-      ((λ i. cond (is_there e.0 d) (cond (int_lt mark e.0.end) (cond (is_enough (early i) e.1.unshown) (Some Early) None) (cond (is_enough (late i) e.1.unshown) (Some Late) None)) None)
-      ∙ none_at_all (is_there e.0 d) (int_lt mark e.0.end), no_kinds early late es)
+  no_kinds early late (e ∷ es) = (
+    (λ i. cond (is_there e.0 d) (cond (int_lt mark e.0.end) (cond (is_enough (early i) e.1.unshown) (Some Early) None) (cond (is_enough (late i) e.1.unshown) (Some Late) None)) None)
+        ∙ none_at_all (is_there e.0 d) (int_lt mark e.0.end),
+    no_kinds early late es,
+  )

@@ -1,5 +1,5 @@
 -- What a program's own laws say of its triggers and columns, and of the records that a firing is computed over.
-use Rattle.std.proofs.Common.{◌≡◌, ℕ, ◌≤◌, true, Bool, ◌&&◌, List, length, ℤ, pos, ◌≤ℤ◌, IsTrue, SFits, w64, to_z, of_z, to_z-of_z, sym, ap, subst, ◌∙◌, arith}
+use Rattle.std.proofs.Common.{◌≡◌, ℕ, ◌≤◌, true, ◌&&◌, List, length, ℤ, pos, IsTrue, SFits, w64, to_z, of_z, to_z-of_z, sym, ap, subst, ◌∙◌, arith}
 use Rattle.std.proofs.lemmas.Int.{ints, fits_signed_from_abs}
 use Rattle.std.proofs.lemmas.Bool.Decides.{nat_tests}
 use Rattle.std.specs.Prelude.{nat_le, nat_lt, unsigned_abs}
@@ -8,7 +8,7 @@ use Rattle.wsm_windows.specs.Windows.{IsSpan}
 use Rattle.wsm_interval.specs.Interval.{interval, holds}
 use Rattle.wsm_semantics.proofs.Assigned.{both}
 use Rattle.wsm_bytecode.specs.declared.instr.SectionId.TheVariants.{Fire}
-use Rattle.wsm_bytecode.specs.Program.{Header, Program, is_span, is_shape, is_form_of, is_schema, is_clock, is_firing, is_row, is_budget, is_header, is_program, is_section}
+use Rattle.wsm_bytecode.specs.Program.{Header, Program, is_span, is_shape, is_schema, is_clock, is_firing, is_row, is_header, is_program}
 use Rattle.wsm_verifier.proofs.Lawful.{lawful}
 use Rattle.wsm_machine.specs.InRange.{in_range, accs_in}
 use Rattle.wsm_machine.specs.Meaning.{pane_inputs}

@@ -10,3 +10,4 @@ pub mod Headers
 pub mod Running
 pub mod Entered
 pub mod Gathering
+pub mod Streaming

@@ -1,5 +1,5 @@
 -- FIRE run on a pane's numbers gives the columns and the instructions of its firing.
-use Rattle.std.proofs.Common.{◌≡◌, ℕ, ◌<◌, ◌^◌, Bool, cond, List, [], ◌∷◌, map, reverse, Option, Some, None, pos, refl, sym, ap, ◌∙◌, SFits, w64, to_z, arith}
+use Rattle.std.proofs.Common.{◌≡◌, ℕ, ◌<◌, ◌^◌, Bool, cond, List, [], ◌∷◌, map, reverse, Option, Some, None, pos, sym, ap, ◌∙◌, SFits, w64, to_z, arith}
 use Rattle.std.proofs.lemmas.Int.{ints, to_z_pos}
 use Rattle.std.specs.Prelude.{option_map}
 use Rattle.std.specs.Option.{option_and_then}

@@ -1,5 +1,5 @@
 -- What a trigger says of so many records is what it says of a pane that keeps their number.
-use Rattle.std.proofs.Common.{◌≡◌, ℕ, List, length, replicate, Option, refl, sym, ap, ◌∙◌}
+use Rattle.std.proofs.Common.{◌≡◌, ℕ, List, length, replicate, Option, ◌∙◌}
 use Rattle.std.specs.Prelude.{ℤ, pos, []}
 use Rattle.std.proofs.lemmas.List.{length-replicate}
 use Rattle.wsm_record.specs.declared.words.Mode.{Mode}

@@ -1,5 +1,5 @@
 -- What fires on the turn of a watermark.
-use Rattle.std.specs.Prelude.{ℕ, ℤ, List, ◌≤ℤ◌}
+use Rattle.std.specs.Prelude.{ℕ, ℤ, List}
 use Rattle.std.specs.List.{AllByRecursion}
 use Rattle.wsm_record.specs.declared.event.Value.{Value}
 use Rattle.wsm_windows.specs.Windows.{IsPlaced}

@@ -1,10 +1,11 @@
 -- The relation of the standing rows, and what its streams write.
-use Rattle.std.specs.Prelude.{◌≡◌, ℕ, ◌+◌, ◌≤◌, List, [], length, ℤ}
+use Rattle.std.specs.Prelude.{◌≡◌, ℕ, ◌+◌, ◌≤◌, List, length, ℤ}
 use Rattle.wsm_record.specs.declared.event.Value.{Value}
 use Rattle.wsm_record.specs.declared.words.Form.{Form}
 use Rattle.wsm_record.specs.declared.words.Form.TheVariants as form
 use Rattle.wsm_semantics.specs.declared.out_row.OutRow.{OutRow}
 use Rattle.wsm_semantics.specs.declared.out_row.OutRow.TheVariants.{Istream, Dstream, Rstream}
+use Rattle.wsm_semantics.specs.Relation.{difference}
 use Rattle.wsm_relation.specs.Bag.{Bag}
 
 -- a form, room for so many rows, and the relation at the last instant
@@ -28,6 +29,12 @@ abbrev pub stream_row : Form → ℤ → List Value → OutRow
 stream_row form.Istream mark row = Istream mark row
 stream_row form.Dstream mark row = Dstream mark row
 stream_row _ mark row = Rstream mark row
+
+-- the rows of a stream, from the relation before and the relation now
+abbrev pub changes_of : Form → List (List Value) → List (List Value) → List (List Value)
+changes_of form.Istream before now = difference now before
+changes_of form.Dstream before now = difference before now
+changes_of _ before now = now
 
 -- room for the relation before and now, and for what changed
 pub record HasRooms (room : ℕ) (before now : Bag) (capacity : ℕ) : Type 0 where

@@ -58,13 +58,7 @@ pub fn fire(
 }
 
 // Writes the row of a firing, where HAVING is true and rows are those of panes.
-fn write(
-    form: Form,
-    rows: &mut Vec<OutRow>,
-    kind: PaneKind,
-    place: Place,
-    columns: Option<Columns>,
-)
+fn write(form: Form, rows: &mut Vec<OutRow>, kind: PaneKind, place: Place, columns: Option<Columns>)
     requires { vec_len rows.old < vec_capacity rows.old }
     ensures rows { rows.new.items ≡ rows.old.items ++ chosen_rows form (cons_option (option_map (PaneRow kind place.key (window_of place)) columns) []) [] }
     ensures capacity { vec_capacity rows.new ≡ vec_capacity rows.old }

@@ -106,7 +106,14 @@ fn fire_at(
         return;
     };
     if let Some(kind) = record_kind(verified, mark, place, &pane) {
-        fire(verified, machine, held, rows, tally, Due { kind, place, pane });
+        fire(
+            verified,
+            machine,
+            held,
+            rows,
+            tally,
+            Due { kind, place, pane },
+        );
     }
 }
 

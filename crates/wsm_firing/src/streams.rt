@@ -4,7 +4,7 @@ ghost use Rattle.std.specs.Prelude.{◌≡◌, ◌≤◌, ◌+◌, ◌++◌, [],
 ghost use Rattle.wsm_semantics.specs.Summaries.{relation_of};
 ghost use Rattle.wsm_semantics.specs.Steps.{stream_rows};
 ghost use Rattle.wsm_panes.specs.Held.{entries_of};
-ghost use Rattle.wsm_firing.specs.Streams.{HasRoomFor, relation_kept, stream_row};
+ghost use Rattle.wsm_firing.specs.Streams.{HasRoomFor, changes_of, relation_kept, stream_row};
 
 use std::alloc::{AllocError, Global};
 use std::marker::Model;
@@ -68,24 +68,29 @@ impl Streams {
         ensures rows { rows.new.items ≡ rows.old.items ++ stream_rows self.old.form mark self.old.relation (relation_of (entries_of held.now)) }
         ensures capacity { vec_capacity rows.new ≡ vec_capacity rows.old }
     {
-        match self.form {
-            Form::Panes => return,
-            Form::Istream => {
-                gather(&mut self.now, held);
-                istream(&self.before, &self.now, &mut self.changes);
-            }
-            Form::Dstream => {
-                gather(&mut self.now, held);
-                dstream(&self.before, &self.now, &mut self.changes);
-            }
-            Form::Rstream => {
-                gather(&mut self.now, held);
-                rstream(&self.now, &mut self.changes);
-            }
+        if let Form::Panes = self.form {
+            return;
         }
-        write_all(self.form, mark, &self.changes, rows);
+        gather(&mut self.now, held);
         self.changes.clear();
+        compare(self.form, &self.before, &self.now, &mut self.changes);
+        write_all(self.form, mark, &self.changes, rows);
         mem::swap(&mut self.before, &mut self.now);
+    }
+}
+
+// The rows of a stream, from the relation before and the relation now.
+fn compare(form: Form, before: &Relation, now: &Relation, changes: &mut Vec<Columns>)
+    requires empty { changes.old.items ≡ [] }
+    requires before { length before.now.rows ≤ vec_capacity changes.old }
+    requires now { length now.now.rows ≤ vec_capacity changes.old }
+    ensures rows { changes.new.items ≡ changes_of form before.now.rows now.now.rows }
+    ensures capacity { vec_capacity changes.old ≤ vec_capacity changes.new }
+{
+    match form {
+        Form::Istream => istream(before, now, changes),
+        Form::Dstream => dstream(before, now, changes),
+        Form::Panes | Form::Rstream => rstream(now, changes),
     }
 }
 

@@ -43,7 +43,14 @@ pub fn fire_by_watermark(
             break;
         }
         if let Some(kind) = watermark_kind(header, old, new, place, &pane) {
-            fire(verified, machine, held, rows, &mut tally, Due { kind, place, pane });
+            fire(
+                verified,
+                machine,
+                held,
+                rows,
+                &mut tally,
+                Due { kind, place, pane },
+            );
         }
     }
     tally

@@ -1,5 +1,5 @@
 -- Rows of values that are joined place by place.
-use Rattle.std.proofs.Common.{◌≡◌, ℕ, zero, suc, ◌-◌, ◌<◌, Bool, true, false, ◌&&◌, List, [], ◌∷◌, ◌++◌, length, get_or, set, take, drop, replicate, ◌≤◌, length-append, length-drop, length-take, Some, refl, sym, ap, ◌∙◌, arith}
+use Rattle.std.proofs.Common.{◌≡◌, ℕ, zero, suc, ◌-◌, ◌<◌, Bool, true, false, ◌&&◌, List, [], ◌∷◌, ◌++◌, length, get_or, set, take, drop, replicate, ◌≤◌, length-append, length-drop, length-take, refl, sym, ap, ◌∙◌, arith}
 use Rattle.std.proofs.Math.Seq.{take-nil, drop-append_seam}
 use Rattle.std.proofs.lemmas.List.{length-replicate, drop-replicate}
 use Rattle.std.proofs.lemmas.Bool.{true≢false}
@@ -8,9 +8,8 @@ use Rattle.wsm_record.specs.declared.event.Value.TheVariants.{Int, Bool as Truth
 use Rattle.wsm_record.specs.declared.words.Kind.{Kind}
 use Rattle.wsm_record.specs.declared.words.Kind.TheVariants.{Sum, Min, Max, Any, All}
 use Rattle.wsm_fold.specs.Lawful.{sum_laws, min_laws, max_laws, any_laws, all_laws}
-use Rattle.wsm_fold.specs.Fold.{is_of_kind, are_of_kinds, number_of, truth_of, join, joins, folds_of}
+use Rattle.wsm_fold.specs.Fold.{is_of_kind, are_of_kinds, number_of, truth_of, join, joins}
 use Rattle.wsm_fold.specs.Accumulators.{SumFits, SumsFit}
-use Rattle.wsm_fold.proofs.Bags.{fold_by-append}
 
 -- ---- the laws of a kind, and of a row of kinds
 

@@ -1,5 +1,5 @@
 -- What it takes to put a record in, for the table and for the sessions of its key.
-use Rattle.std.proofs.Common.{◌≡◌, ◌≢◌, ◌<◌, ◌≤◌, ◌+◌, ◌^◌, ◌⊎◌, ℕ, zero, suc, Bool, true, false, cond, List, [], ◌∷◌, ◌++◌, map, length, get_or, ℤ, Option, Some, None, IfSome, refl, sym, ap, subst, ◌∙◌, inl, inr, arith}
+use Rattle.std.proofs.Common.{◌≡◌, ◌≢◌, ◌<◌, ◌≤◌, ◌+◌, ◌⊎◌, ℕ, zero, suc, Bool, true, false, cond, List, [], ◌∷◌, ◌++◌, map, length, get_or, ℤ, Option, Some, None, IfSome, refl, sym, ap, subst, ◌∙◌, inl, inr, arith}
 use Rattle.std.proofs.lemmas.Bool.{true≢false, and_parts}
 use Rattle.std.proofs.lemmas.Bool.Decides.{nat_tests}
 use Rattle.std.proofs.lemmas.Option.{slice_get-get_or}
@@ -9,7 +9,7 @@ use Rattle.std.specs.Ordering.{is_eq}
 use Rattle.std.specs.declared.cmp.Ordering.{Ordering}
 use Rattle.std.specs.declared.cmp.Ordering.TheVariants.{Less, Equal, Greater}
 use Rattle.std.specs.List.{AllByRecursion}
-use Rattle.std.specs.FinMap.Entries.{put, find, by_order, is_sorted, length-put, where_key}
+use Rattle.std.specs.FinMap.Entries.{put, find, by_order, is_sorted, length-put}
 use Rattle.wsm_record.specs.declared.event.Value.{Value}
 use Rattle.wsm_record.specs.declared.words.Kind.{Kind}
 use Rattle.wsm_windows.specs.declared.window.Window.{Window}
@@ -91,9 +91,6 @@ module _ (h : Held) (kinds : List Kind) (key : ℕ) (time : ℤ) (values : List 
     room = subst (λ es. length es ≤ room_of h) (entered_assigned (taking kinds values) h.shape other (datum 0 key time []) (entries_of h)) can.room;
     takes = all-any (λ w. IfSome (find place_cmp (at key w) (entries_of h)) (CanRecord kinds values)) (λ w. each_found kinds values (entries_of h) can.panes (at key w)) (windows_of_shape h.shape time);
   }
-
-  pub windows_put : ((gap : ℤ) → h.shape ≢ Session gap) → entered (taking kinds values) h.shape (datum 0 key time []) (entries_of h) ≡ assigned (taking kinds values) (datum 0 key time []) (windows_of_shape h.shape time) (entries_of h)
-  windows_put other = entered_assigned (taking kinds values) h.shape other (datum 0 key time []) (entries_of h)
 
   module _ (gap : ℤ) (is : h.shape ≡ Session gap) where
     pub joins_can : CanJoinAll kinds values (linked gap (datum 0 key time []) (entries_of h))

@@ -1,7 +1,6 @@
 -- A record put into the panes of its windows one after the other: each put finds its pane as it was or
 -- has room.
-use Rattle.std.proofs.Common.{◌≡◌, ◌⊎◌, ◌<◌, ◌≤◌, ◌+◌, ◌-◌, ◌/◌, ◌^◌, ℕ, zero, suc, Bool, true, false, cond, List, [], ◌∷◌, length, length-append, Option, Some, None, IfSome, inl, inr, refl, sym, ap, subst, ◌∙◌, arith}
-use Rattle.std.proofs.lemmas.Bool.{true≢false}
+use Rattle.std.proofs.Common.{◌≡◌, ◌⊎◌, ◌<◌, ◌≤◌, ◌+◌, ◌-◌, ◌/◌, ◌^◌, ℕ, zero, suc, Bool, true, false, cond, List, [], ◌∷◌, length, length-append, Some, IfSome, inl, inr, refl, sym, ap, subst, ◌∙◌, arith}
 use Rattle.std.proofs.lemmas.Int.{ints}
 use Rattle.std.proofs.lemmas.List.Elements.{All-head, All-tail}
 use Rattle.std.proofs.Math.Nat.{div-le_self}
@@ -24,7 +23,7 @@ use Rattle.wsm_semantics.specs.Replay.{datum}
 use Rattle.wsm_semantics.specs.Summaries.{Plan, Pane, assigned, with_record}
 use Rattle.wsm_semantics.proofs.ManyKeys.{length-filter}
 use Rattle.wsm_panes.specs.Held.{CanEnterWindows, CanRecord, taking}
-use Rattle.wsm_panes.proofs.Entries.{places_total, place_tied, apart_place}
+use Rattle.wsm_panes.proofs.Entries.{places_total, apart_place}
 use Rattle.wsm_panes.proofs.Tables.{to_T, from_T}
 
 abbrev Sorted : {X : Type 0} → List (Place × X) → Type 0

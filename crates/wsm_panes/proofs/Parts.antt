@@ -1,37 +1,27 @@
 -- A record put into its session: which panes it is linked to, by the sessions of its key, and which
 -- sessions its key has then.
-use Rattle.std.proofs.Common.{◌≡◌, ◌≢◌, ◌<◌, ◌≤◌, ◌+◌, ℕ, suc, Bool, T, true, false, cond, List, [], ◌∷◌, ◌++◌, map, length, length-append, ◌⊎◌, ◌||◌, ℤ, pos, ◌+ℤ◌, ◌<ℤ◌, ◌≤ℤ◌, Option, Some, None, refl, sym, ap, subst, ◌∙◌, inl, inr, arith}
-use Rattle.std.proofs.lemmas.Bool.{true≢false, and_parts, or_left, or_right, cases_Bool}
-use Rattle.std.proofs.lemmas.Bool.Decides.{nat_tests}
+use Rattle.std.proofs.Common.{◌≡◌, ℕ, suc, Bool, true, false, cond, List, [], ◌∷◌, ◌++◌, map, length, ℤ, pos, ◌+ℤ◌, ◌<ℤ◌, ◌≤ℤ◌, Some, None, refl, sym, ap, ◌∙◌, arith}
 use Rattle.std.proofs.lemmas.Int.{ints}
-use Rattle.std.specs.Prelude.{◌&&◌, not, filter, int_lt, int_le, nat_eq, nat_lt}
+use Rattle.std.specs.Prelude.{◌&&◌, not, filter, int_lt, nat_eq}
 use Rattle.std.specs.Int.{int_max, int_min}
-use Rattle.std.specs.List.{AllByRecursion, list_any}
-use Rattle.std.specs.Option.{is_some}
-use Rattle.std.specs.Ordering.{eq_by_cmp, is_lt, int_cmp, nat_cmp, ordering_then}
-use Rattle.std.specs.declared.cmp.Ordering.{Ordering}
+use Rattle.std.specs.Ordering.{eq_by_cmp, int_cmp, nat_cmp, ordering_then}
 use Rattle.std.specs.declared.cmp.Ordering.TheVariants.{Less, Equal, Greater}
-use Rattle.std.specs.Cmp.{tied_itself}
-use Rattle.std.specs.FinMap.{FinMap, contains_key, entries, len, len-entries, entries-insert, get, insert, remove, retain_keys, get-remove, get-retain_keys, get-entries, entries_sorted, same_map}
-use Rattle.std.specs.FinMap.Entries.{put, find, where_key, by_order, find-put, find-where_key, same_entries, is_sorted, is_sorted-put, is_sorted-where_key}
+use Rattle.std.specs.FinMap.Entries.{put, find, by_order, find-put, find-where_key, same_entries, is_sorted, is_sorted-put, is_sorted-where_key}
 use Rattle.wsm_windows.specs.declared.window.Window.{Window}
 use Rattle.wsm_windows.specs.Windows.{window}
 use Rattle.wsm_semantics.specs.declared.place.Place.{Place}
 use Rattle.wsm_semantics.specs.Panes.{place_cmp, at, window_of}
 use Rattle.wsm_semantics.specs.Query.{Datum}
 use Rattle.wsm_semantics.specs.Kept.{is_linked}
-use Rattle.wsm_semantics.specs.Replay.{datum}
-use Rattle.wsm_semantics.specs.Sessions.{links, ends_by, starts_from, session_of, sessions, with_session}
-use Rattle.wsm_semantics.specs.Summaries.{Pane, Plan, joined_all, linked, merged_session, session_with, with_record}
-use Rattle.wsm_semantics.proofs.Lists.{all-each, filter_same, length_each, none_pass}
-use Rattle.wsm_semantics.proofs.Each.{passed, same_key, none_of, all_of, filter-append, map-map}
-use Rattle.wsm_semantics.proofs.Sessions.{AreApart, StartFrom, sessions-more, sessions_apart}
-use Rattle.wsm_semantics.proofs.SessionTimes.{linked_all}
-use Rattle.wsm_semantics.proofs.SessionOrder.{begins, in_order}
+use Rattle.wsm_semantics.specs.Sessions.{links, ends_by, starts_from, session_of, with_session}
+use Rattle.wsm_semantics.specs.Summaries.{Pane, session_with}
+use Rattle.wsm_semantics.proofs.Lists.{all-each}
+use Rattle.wsm_semantics.proofs.Each.{passed, same_key, none_of, all_of, filter-append}
+use Rattle.wsm_semantics.proofs.Sessions.{AreApart, StartFrom}
+use Rattle.wsm_semantics.proofs.SessionOrder.{in_order}
 use Rattle.wsm_panes.specs.Held.{windows_of_key}
-use Rattle.wsm_panes.proofs.Entries.{places_total, exact_places, place_tied, tied_place}
-use Rattle.wsm_panes.proofs.Tables.{to_T, from_T, alike, entries_kept}
-use Rattle.wsm_panes.proofs.InTurn.{finds_or_fits}
+use Rattle.wsm_panes.proofs.Entries.{places_total, exact_places, place_tied}
+use Rattle.wsm_panes.proofs.Tables.{to_T, from_T, alike}
 
 -- ---- the panes that a record is linked to
 
@@ -228,197 +218,3 @@ entered_windows {X = X} gap long d v es sorted apart after =
 pub session_is : {X : Type 0} (gap : ℤ) (d : Datum) (ls : List (Place × Pane X)) → session_with gap d ls ≡ at d.key (session_of gap d.time (map (λ (e : Place × Pane X). window_of e.0) ls))
 session_is gap d [] = refl
 session_is gap d (e ∷ ls) = ap (λ (p : Place). at d.key (window (int_min e.0.start p.start) (int_max e.0.end p.end))) (session_is gap d ls)
-
--- ---- a table without the panes that a record is linked to
-
-module _ {X : Type 0} (gap : ℤ) (d : Datum) (m : FinMap place_cmp X) where
-  abbrev far : Place → Bool
-  far p = not (is_linked gap d p)
-
-  -- a place that it is linked to has its pane among those
-  found_linked : (q : Place) → is_linked gap d q ≡ true → get m q ≡ find place_cmp q (filter (λ e. is_linked gap d e.0) (entries m))
-  found_linked q h =
-      get-entries m q ∙ sym (find-where_key place_cmp (is_linked gap d) q (alike (is_linked gap d) q) (entries m) ∙ ap (λ b. cond b (find place_cmp q (entries m)) None) h)
-
-  pub none_left : filter (λ e. is_linked gap d e.0) (entries m) ≡ [] → m ≡ retain_keys m far
-  none_left none = same_map places_total exact_places _ _ (λ q. sym (get-retain_keys m far q (alike far q) ∙ stays q (is_linked gap d q) refl)) where
-    stays : (q : Place) (b : Bool) → is_linked gap d q ≡ b → cond (far q) (get m q) None ≡ get m q
-    stays q true h = ap (λ b. cond (not b) (get m q) None) h ∙ sym (found_linked q h ∙ ap (find place_cmp q) none)
-    stays q false h = ap (λ b. cond (not b) (get m q) None) h
-
-  module _ (p : Place) (v : X) (is : filter (λ e. is_linked gap d e.0) (entries m) ≡ (p, v) ∷ []) where
-    one_linked : is_linked gap d p ≡ true
-    one_linked = (subst (AllByRecursion (λ (e : Place × X). is_linked gap d e.0 ≡ true)) is (passed (λ e. is_linked gap d e.0) (entries m))).0
-
-    pub one_found : get m p ≡ Some v
-    one_found = found_linked p one_linked ∙ ap (find place_cmp p) is ∙ ap (λ b. cond b (Some v) None) (tied_place p p refl)
-
-    pub one_left : remove m p ≡ retain_keys m far
-    one_left = same_map places_total exact_places _ _ (λ q. get-remove places_total m p q ∙ sides q (eq_by_cmp place_cmp q p) refl ∙ sym (get-retain_keys m far q (alike far q))) where
-      sides : (q : Place) (b : Bool) → eq_by_cmp place_cmp q p ≡ b → cond (eq_by_cmp place_cmp q p) None (get m q) ≡ cond (far q) (get m q) None
-      sides q true h =
-          let at_p : is_linked gap d q ≡ true = ap (is_linked gap d) (place_tied q p h) ∙ one_linked in
-          ap (λ b. cond b None (get m q)) h ∙ sym (ap (λ b. cond (not b) (get m q) None) at_p)
-      sides q false h = ap (λ b. cond b None (get m q)) h ∙ unlinked (is_linked gap d q) refl where
-        unlinked : (b : Bool) → is_linked gap d q ≡ b → get m q ≡ cond (far q) (get m q) None
-        unlinked true l = found_linked q l ∙ ap (find place_cmp q) is ∙ ap (λ b. cond b (Some v) None) h ∙ sym (ap (λ b. cond (not b) (get m q) None) l)
-        unlinked false l = sym (ap (λ b. cond (not b) (get m q) None) l)
-
-  module _ (p r : Place) (v w : X) (is : filter (λ e. is_linked gap d e.0) (entries m) ≡ (p, v) ∷ (r, w) ∷ []) where
-    both_linked : (is_linked gap d p ≡ true) × (is_linked gap d r ≡ true)
-    both_linked = let h = subst (AllByRecursion (λ (e : Place × X). is_linked gap d e.0 ≡ true)) is (passed (λ e. is_linked gap d e.0) (entries m)) in (h.0, h.1.0)
-
-    -- places come in order, so the second is not the first
-    apart_two : eq_by_cmp place_cmp r p ≡ false
-    apart_two =
-        let sorted = subst (λ (es : List (Place × X)). T (is_sorted place_cmp es)) is (is_sorted-where_key place_cmp (is_linked gap d) (entries m) (entries_sorted m)) in
-        first_less p r (and_parts _ _ (and_parts _ _ (from_T _ sorted)).0).0
-      where
-        first_less : (p r : Place) → is_lt (place_cmp p r) ≡ true → eq_by_cmp place_cmp r p ≡ false
-        first_less p r h = elim (cases_Bool (eq_by_cmp place_cmp r p)) [
-          | inl tie ↦ absurd (true≢false (sym h ∙ ap (λ (q : Place). is_lt (place_cmp p q)) (place_tied r p tie) ∙ ap is_lt (tied_itself places_total p)))
-          | inr other ↦ other
-        ]
-
-    pub first_found : get m p ≡ Some v
-    first_found = found_linked p both_linked.0 ∙ ap (find place_cmp p) is ∙ ap (λ b. cond b (Some v) (find place_cmp p ((r, w) ∷ []))) (tied_place p p refl)
-
-    second_in : get m r ≡ Some w
-    second_in =
-        found_linked r both_linked.1 ∙ ap (find place_cmp r) is ∙ ap (λ b. cond b (Some v) (find place_cmp r ((r, w) ∷ []))) apart_two ∙ ap (λ b. cond b (Some w) None) (tied_place r r refl)
-
-    pub second_found : get (remove m p) r ≡ Some w
-    second_found = get-remove places_total m p r ∙ ap (λ b. cond b None (get m r)) apart_two ∙ second_in
-
-    pub both_left : remove (remove m p) r ≡ retain_keys m far
-    both_left = same_map places_total exact_places _ _ (λ q.
-        get-remove places_total (remove m p) r q
-        ∙ ap (λ o. cond (eq_by_cmp place_cmp q r) None o) (get-remove places_total m p q)
-        ∙ sides q (eq_by_cmp place_cmp q r) (eq_by_cmp place_cmp q p) refl refl
-        ∙ sym (get-retain_keys m far q (alike far q)))
-      where
-        sides : (q : Place) (b c : Bool) → eq_by_cmp place_cmp q r ≡ b → eq_by_cmp place_cmp q p ≡ c
-            → cond (eq_by_cmp place_cmp q r) None (cond (eq_by_cmp place_cmp q p) None (get m q)) ≡ cond (far q) (get m q) None
-        sides q true c h k =
-            let at_r : is_linked gap d q ≡ true = ap (is_linked gap d) (place_tied q r h) ∙ both_linked.1 in
-            ap (λ b. cond b None (cond (eq_by_cmp place_cmp q p) None (get m q))) h ∙ sym (ap (λ b. cond (not b) (get m q) None) at_r)
-        sides q false true h k =
-            let at_p : is_linked gap d q ≡ true = ap (is_linked gap d) (place_tied q p k) ∙ both_linked.0 in
-            (λ i. cond (h i) None (cond (k i) None (get m q))) ∙ sym (ap (λ b. cond (not b) (get m q) None) at_p)
-        sides q false false h k = (λ i. cond (h i) None (cond (k i) None (get m q))) ∙ unlinked (is_linked gap d q) refl where
-          unlinked : (b : Bool) → is_linked gap d q ≡ b → get m q ≡ cond (far q) (get m q) None
-          unlinked true l = found_linked q l ∙ ap (find place_cmp q) is ∙ (λ i. cond (k i) (Some v) (cond (h i) (Some w) None)) ∙ sym (ap (λ b. cond (not b) (get m q) None) l)
-          unlinked false l = sym (ap (λ b. cond (not b) (get m q) None) l)
-
--- ---- entries by their places
-
-module _ {X : Type 0} where
-  pub no_entry : (ls : List (Place × X)) → map (λ e. e.0) ls ≡ [] → ls ≡ []
-  no_entry [] h = refl
-  no_entry (e ∷ ls) h = absurd (cc)
-
-  pub one_entry : (ls : List (Place × X)) (p : Place) → map (λ e. e.0) ls ≡ p ∷ [] → (v : X) × (ls ≡ (p, v) ∷ [])
-  one_entry [] p h = absurd (cc)
-  one_entry (e ∷ ls) p h = (e.1, λ i. (heads h i, e.1) ∷ no_entry ls (tails h) i) where
-    heads : e.0 ∷ map (λ (f : Place × X). f.0) ls ≡ p ∷ [] → e.0 ≡ p
-    heads k = cc
-
-    tails : e.0 ∷ map (λ (f : Place × X). f.0) ls ≡ p ∷ [] → map (λ (f : Place × X). f.0) ls ≡ []
-    tails k = cc
-
-  pub two_entries : (ls : List (Place × X)) (p r : Place) → map (λ e. e.0) ls ≡ p ∷ r ∷ [] → (v : X) × ((w : X) × (ls ≡ (p, v) ∷ (r, w) ∷ []))
-  two_entries [] p r h = absurd (cc)
-  two_entries (e ∷ ls) p r h = let rest = one_entry ls r (tails h) in (e.1, (rest.0, λ i. (heads h i, e.1) ∷ rest.1 i)) where
-    heads : e.0 ∷ map (λ (f : Place × X). f.0) ls ≡ p ∷ r ∷ [] → e.0 ≡ p
-    heads k = cc
-
-    tails : e.0 ∷ map (λ (f : Place × X). f.0) ls ≡ p ∷ r ∷ [] → map (λ (f : Place × X). f.0) ls ≡ r ∷ []
-    tails k = cc
-
--- ---- a record put into its session
-
-windows_back : (k : ℕ) (ws : List Window) → map window_of (map (at k) ws) ≡ ws
-windows_back k [] = refl
-windows_back k (w ∷ ws) = ap (λ (vs : List Window). w ∷ vs) (windows_back k ws)
-
-module _ {X : Type 0} (plan : Plan X) (gap : ℤ) (key : ℕ) (t : ℤ) (m : FinMap place_cmp (Pane X)) (ws : List Window) (agree : windows_of_key key (entries m) ≡ ws) where
-  abbrev it : Datum
-  it = datum 0 key t []
-
-  pub parts_at : (vs : List Window) → vs ≡ filter (links gap t) ws → map (λ e. e.0) (linked gap it (entries m)) ≡ map (at key) vs
-  parts_at vs e = linked_places gap it (entries m) ∙ ap (λ us. map (at key) (filter (links gap t) us)) agree ∙ ap (map (at key)) (sym e)
-
-  linked_windows : map (λ e. window_of e.0) (linked gap it (entries m)) ≡ filter (links gap t) ws
-  linked_windows =
-      sym (map-map window_of (λ (e : Place × Pane X). e.0) (linked gap it (entries m))) ∙ ap (map window_of) (parts_at (filter (links gap t) ws) refl) ∙ windows_back key (filter (links gap t) ws)
-
-  pub session_place : session_with gap it (linked gap it (entries m)) ≡ at key (session_of gap t (filter (links gap t) ws))
-  session_place = session_is gap it (linked gap it (entries m)) ∙ ap (λ us. at key (session_of gap t us)) linked_windows
-
-  -- the panes that it isn't linked to, with the one that it comes into
-  pub record Puts (left : FinMap place_cmp (Pane X)) (p : Place) (pane : Option (Pane X)) (v : Pane X) : Type 0 where
-    pub left_is : left ≡ retain_keys m (λ p. not (is_linked gap it p))
-    pub place_is : p ≡ at key (session_of gap t (filter (links gap t) ws))
-    pub pane_is : pane ≡ joined_all plan (linked gap it (entries m))
-    pub value_is : v ≡ with_record plan it pane
-
-  module _ (left : FinMap place_cmp (Pane X)) (p : Place) (pane : Option (Pane X)) (v : Pane X) (puts : Puts left p pane v) where
-    put_is_merged : put place_cmp p v (entries left) ≡ merged_session plan gap it (entries m)
-    put_is_merged = λ i. put place_cmp
-        ((puts.place_is ∙ sym session_place) i)
-        ((puts.value_is ∙ ap (with_record plan it) puts.pane_is) i)
-        ((ap entries puts.left_is ∙ entries_kept m (λ p. not (is_linked gap it p))) i)
-
-    pub merged_is : entries (insert left p v) ≡ merged_session plan gap it (entries m)
-    merged_is = entries-insert places_total left p v ∙ put_is_merged
-
-    pub merged_fits : (most : ℕ) → length (merged_session plan gap it (entries m)) ≤ most → (contains_key left p ≡ true) ⊎ (len left < most)
-    merged_fits most fits = elim (finds_or_fits most p v (entries left) (from_T _ (entries_sorted left)) (subst (λ es. length es ≤ most) (sym put_is_merged) fits)) [
-      | inl there ↦ inl (ap is_some (get-entries left p) ∙ there)
-      | inr less ↦ inr (omega (arith, less, len-entries left))
-    ]
-
-  -- the windows of a key that isn't the record's stay
-  pub merged_others : (k : ℕ) → nat_eq key k ≡ false → windows_of_key k (merged_session plan gap it (entries m)) ≡ windows_of_key k (entries m)
-  merged_others k other =
-      put_other gap it k (session_with gap it (linked gap it (entries m))) (with_record plan it (joined_all plan (linked gap it (entries m)))) (ap (λ (p : Place). nat_eq k p.key) session_place ∙ turned key k other) (where_key place_cmp (λ p. not (is_linked gap it p)) (entries m))
-      ∙ other_windows gap it k other (entries m)
-    where
-      turned : (j k : ℕ) → nat_eq j k ≡ false → nat_eq k j ≡ false
-      turned j k h = grind (arith, nat_tests)
-
-  module _ (long : pos 1 ≤ℤ gap) (times : List ℤ) (fits : ws ≡ sessions gap times) where
-    apart_now : AreApart gap ws
-    apart_now = subst (AreApart gap) (sym fits) (sessions_apart gap long times)
-
-    apart_then : AreApart gap (with_session gap t ws)
-    apart_then = subst (AreApart gap) (sessions-more gap long t times ∙ ap (with_session gap t) (sym fits)) (sessions_apart gap long (t ∷ times))
-
-    pub merged_windows : windows_of_key key (merged_session plan gap it (entries m)) ≡ with_session gap t ws
-    merged_windows =
-        let v = with_record plan it (joined_all plan (linked gap it (entries m))) in
-        let rest = where_key place_cmp (λ p. not (is_linked gap it p)) (entries m) in
-        ap (λ p. windows_of_key key (put place_cmp p v rest)) (session_place ∙ ap (λ us. at key (session_of gap t (filter (links gap t) us))) (sym agree))
-        ∙ entered_windows gap long it v (entries m) (from_T _ (entries_sorted m)) (subst (AreApart gap) (sym agree) apart_now) (subst (λ us. AreApart gap (with_session gap t us)) (sym agree) apart_then)
-        ∙ ap (with_session gap t) agree
-
-    -- where there is room for the key's sessions with the record, there was before, or it is linked to one
-    pub admits_it : (most : ℕ) → length (filter (λ e. nat_eq e.0.key key) (merged_session plan gap it (entries m))) ≤ most → (nat_lt (length ws) most || list_any (links gap t) ws) ≡ true
-    admits_it most live = elim (cases_Bool (list_any (links gap t) ws)) [
-      | inl some ↦ or_right (nat_lt (length ws) most) _ some
-      | inr none ↦
-          let begun = begins gap long t ws apart_now (none_pass (links gap t) ws none) in
-          let ended = filter (ends_by t) ws in
-          let later = filter (starts_from (t +ℤ gap)) ws in
-          let before : length ws ≡ length ended + length later = ap length begun.0 ∙ length-append ended later in
-          let after : length (with_session gap t ws) ≡ length ended + suc (length later) = ap length begun.1 ∙ length-append ended (window t (t +ℤ gap) ∷ later) in
-          let counted : length (windows_of_key key (merged_session plan gap it (entries m))) ≡ length (with_session gap t ws) = ap length merged_windows in
-          let same : length (windows_of_key key (merged_session plan gap it (entries m))) ≡ length (filter (λ e. nat_eq e.0.key key) (merged_session plan gap it (entries m))) =
-          length_each (λ e. window_of e.0) (filter (λ e. nat_eq key e.0.key) (merged_session plan gap it (entries m))) ∙ ap length (filter_same (λ e. nat_eq key e.0.key) (λ e. nat_eq e.0.key key) (λ e. either key e.0.key) (merged_session plan gap it (entries m))) in
-          or_left _ (list_any (links gap t) ws) (is_below (length ws) most (omega (arith, live, before, after, counted, same)))
-    ] where
-      either : (j k : ℕ) → nat_eq j k ≡ nat_eq k j
-      either j k = grind (arith, nat_tests)
-
-      is_below : (a b : ℕ) → a < b → nat_lt a b ≡ true
-      is_below a b h = grind (arith, nat_tests)

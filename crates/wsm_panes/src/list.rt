@@ -77,7 +77,7 @@ impl<P: Copy> PaneTable<P> for ListTable<P> {
     }
 
     fn remove(&mut self, place: Place) {
-        keep_others(&mut self.entries, place);
+        take_out(&mut self.entries, place);
     }
 
     fn drop_expired(&mut self, limit: i64) {
@@ -172,12 +172,18 @@ fn set_slot<P: Copy>(entries: &mut Vec<(Place, P)>, slot: usize, place: Place, p
     }
 }
 
-fn keep_others<P: Copy>(entries: &mut Vec<(Place, P)>, place: Place)
+fn take_out<P: Copy>(entries: &mut Vec<(Place, P)>, place: Place)
+    requires { IsTrue (map.is_sorted place_cmp entries.old.items) }
     ensures items { entries.new.items ≡ filter (λ e. is_other place e.0) entries.old.items }
     ensures len { vec_len entries.new ≤ vec_len entries.old }
     ensures capacity { vec_capacity entries.new ≡ vec_capacity entries.old }
 {
-    entries.retain(|e| e.0 != place);
+    match search(entries, place) {
+        Ok(i) => {
+            entries.remove(i);
+        }
+        Err(_) => {}
+    }
 }
 
 fn keep_past<P: Copy>(entries: &mut Vec<(Place, P)>, limit: i64)

@@ -1,8 +1,6 @@
-use Rattle.std.proofs.Common.{◌≡◌, T, ◌∷◌, [], length, List, sym, ap, subst, ◌∙◌, ◌++◌, vec_len, vec_capacity, SFits, w64, to_z-of_z}
+use Rattle.std.proofs.Common.{List, sym, ap, subst, ◌∙◌, ◌++◌, vec_len, vec_capacity, SFits, w64, to_z-of_z}
 use Rattle.std.specs.FinMap as map
-use Rattle.std.specs.FinMap.Entries.{find, is_sorted}
 use Rattle.wsm_record.specs.declared.event.Value.{Value}
-use Rattle.wsm_semantics.specs.Panes.{place_cmp}
 use Rattle.wsm_semantics.specs.Summaries.{Fired}
 use Rattle.wsm_machine.specs.Meaning.{plan_of, query_of}
 use Rattle.wsm_panes.specs.Held.{entries_of}
@@ -82,4 +80,3 @@ returns-in_default-record_kind-clause-tally c =
     let none = no_kind (plan_of p) (query_of p) c.args.mark c.args.place (entries_of held) (map.entries_sorted held.panes) c.in-Some.pane (sym c.get.ensures ∙ c.in-Some.is)
     (sym (simp to_z-of_z at c.record_kind.ensures) ∙ c.in_default-record_kind.is) in
     no_tally p c.args.tally.now _ none.firings
-

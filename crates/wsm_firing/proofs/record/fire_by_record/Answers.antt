@@ -1,22 +1,19 @@
-use Rattle.std.proofs.Common.{◌≡◌, ◌∷◌, [], ◌++◌, ℤ, ℕ, None, Some, List, Option, map, length, refl, sym, ap, subst, ◌∙◌, vec_len, vec_capacity, SFits, w64, to_z, of_z, to_z-of_z, IsTrue, arith}
-use Rattle.std.proofs.lemmas.Int.{ints}
+use Rattle.std.proofs.Common.{◌≡◌, ◌∷◌, [], ◌++◌, List, Option, map, length, sym, ap, subst, ◌∙◌, vec_len, vec_capacity, SFits, w64, to_z-of_z}
 use Rattle.std.specs.Prelude.{unsigned_abs}
 use Rattle.std.specs.List.{AllByRecursion}
 use Rattle.wsm_record.specs.declared.event.Value.{Value}
 use Rattle.wsm_windows.specs.declared.window.Window.{Window}
-use Rattle.wsm_windows.specs.declared.window.Shape.{Shape}
 use Rattle.wsm_windows.specs.Windows.{IsShape, windows_of_shape}
 use Rattle.wsm_semantics.specs.declared.place.Place.{Place}
 use Rattle.wsm_semantics.specs.Query.{Datum}
 use Rattle.wsm_semantics.specs.Panes.{at, is_there}
 use Rattle.wsm_semantics.specs.Replay.{datum}
 use Rattle.wsm_semantics.specs.Summaries.{Fired, Pane, all_fired, fires, kind_by_record}
-use Rattle.wsm_bytecode.specs.Program.{Program, Header, is_program}
+use Rattle.wsm_bytecode.specs.Program.{Program, Header}
 use Rattle.wsm_bytecode.specs.View.{header_of}
 use Rattle.wsm_verifier.proofs.Lawful as lawful_programs
 use Rattle.wsm_machine.specs.Meaning.{plan_of, query_of}
 use Rattle.wsm_panes.specs.Held.{entries_of}
-use Rattle.wsm_firing.specs.declared.tally.Tally.{Tally}
 use Rattle.wsm_firing.specs.Tally.{tally_of, tally_with}
 use Rattle.wsm_firing.specs.Firing.{CanAdd, CanFire, rows_of}
 use Rattle.wsm_firing.specs.ByRecord.{is_among, kind_at, places_entered}
@@ -183,4 +180,3 @@ returns-in-None-clause-tally c =
     let same = same_kinds q c.args.mark d ps es (subst (λ (ws : List Window). AllByRecursion (λ e. is_there e.0 d ≡ is_among (map (at c.args.key) ws) e.0) es) (sym listed) entered) in
     let some : fires q (kind_at q c.args.mark ps) es ≡ all = fires_same (plan_of p) q (kind_at q c.args.mark ps) kind es same in
     simp to_z-of_z at c.fire_each.ensures.tally ∙ ap (tally_of p) some
-

@@ -126,4 +126,3 @@ returns-clause-tally c =
     let still : AllByRecursion (λ e. kind [] e.0 e.1 ≡ None) now = all-any (λ e. kind [] e.0 e.1 ≡ None) (λ e. refl) now in
     let none : fires q (kind c.loop-window.window-iterator) now ≡ [] = ap (λ (ws : List Window). fires q (kind ws) now) c.in-None.ensures.steps.0 ∙ none_fires (plan_of p) q (kind []) now still in
     simp to_z-of_z at (last_tally p room c.loop-window.tally c.loop-window.rows.items _ all none c.loop-window.invariant.comes)
-

@@ -1,5 +1,4 @@
-use Rattle.std.proofs.Common.{◌≡◌, ℕ, ◌≤◌, pos, length, List, Some, None, refl, sym, ap, subst, ◌∙◌, SFits, w64, IsTrue, arith}
-use Rattle.wsm_record.specs.declared.event.Value.{Value}
+use Rattle.std.proofs.Common.{◌≡◌, ℕ, ◌≤◌, pos, length, Some, sym, ap, subst, ◌∙◌, SFits, w64, IsTrue, arith}
 use Rattle.wsm_semantics.specs.Summaries.{fired_count}
 use Rattle.wsm_semantics.proofs.Lists.{length_each}
 use Rattle.wsm_bytecode.specs.declared.instr.SectionId.TheVariants.{Fire}

@@ -1,7 +1,7 @@
-use Rattle.std.proofs.Common.{◌≡◌, ◌≤◌, ◌<◌, ◌+◌, ◌∷◌, [], ◌++◌, ℤ, T, List, Option, Some, None, length, drop, refl, sym, ap, subst, ◌∙◌, vec_len, vec_capacity, IsTrue, SFits, w64, to_z, of_z, to_z-of_z, arith}
+use Rattle.std.proofs.Common.{◌≡◌, ◌+◌, ◌∷◌, [], ◌++◌, ℤ, List, Option, Some, None, length, drop, refl, sym, ap, subst, ◌∙◌, vec_capacity, IsTrue, SFits, w64, to_z, of_z, to_z-of_z, arith}
 use Rattle.std.proofs.lemmas.Int.{ints, fits_signed_from_abs}
 use Rattle.std.proofs.lemmas.List.{drop_all}
-use Rattle.std.specs.Prelude.{ℕ, pos, ◌≤ℤ◌, ◌<ℤ◌}
+use Rattle.std.specs.Prelude.{ℕ, ◌<ℤ◌}
 use Rattle.std.specs.List.{AllByRecursion}
 use Rattle.std.specs.FinMap as map
 use Rattle.wsm_record.specs.declared.event.Value.{Value}
@@ -208,4 +208,3 @@ returns-then-place-new-clause-tally c =
     let whole : IsTrue (is_program p) = subst (λ (p : Program). IsTrue (is_program p)) c.program.ensures.program c.header-header.ensures.lawful in
     let still = rest_still q (lawful_programs.lawful p whole).lateness.low old new es i e sorted there far in
     simp to_z-of_z at (last_tally p room c.loop-i.tally c.loop-i.rows.items _ all (none_fires (plan_of p) q kind (drop i es) still) c.loop-i.invariant.comes)
-

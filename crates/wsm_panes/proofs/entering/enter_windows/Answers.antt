@@ -1,5 +1,4 @@
-use Rattle.std.proofs.Common.{◌≡◌, ◌+◌, length, [], ap, sym, ◌∙◌, arith, w64, to_z, of_z}
-use Rattle.std.specs.FinMap as map
+use Rattle.std.proofs.Common.{[], ◌∙◌, arith, w64, to_z, of_z}
 use Rattle.wsm_semantics.specs.Replay.{datum}
 use Rattle.wsm_panes.proofs.InTurn.{few_windows, room_at, takes_at, put_at_is, can_go_on}
 use Rattle.wsm_panes.proofs.entering.enter_windows.Goals as goal

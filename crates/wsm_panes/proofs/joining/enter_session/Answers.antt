@@ -1,9 +1,9 @@
-use Rattle.std.proofs.Common.{◌≡◌, ◌⊎◌, ◌<◌, true, [], sym, ap, subst, ◌∙◌, SFits, w64, to_z-of_z}
+use Rattle.std.proofs.Common.{[], sym, ap, ◌∙◌, SFits, w64, to_z-of_z}
 use Rattle.std.specs.FinMap as map
 use Rattle.wsm_semantics.specs.Panes.{at, window_of}
 use Rattle.wsm_semantics.specs.Replay.{datum}
 use Rattle.wsm_panes.specs.Held.{taking, windows_of_key}
-use Rattle.wsm_panes.proofs.Parts.{Puts, admits_it, merged_fits, merged_is, merged_others, merged_windows, session_place}
+use Rattle.wsm_panes.proofs.Merged.{Puts, admits_it, merged_fits, merged_is, merged_others, merged_windows, session_place}
 use Rattle.wsm_panes.proofs.joining.enter_session.Goals as goal
 
 pub enter-session-requires-clause-admits : goal.enter-session-requires-clause-admits

@@ -5,8 +5,9 @@ use Rattle.wsm_semantics.specs.Panes.{at}
 use Rattle.wsm_semantics.specs.Replay.{datum}
 use Rattle.wsm_semantics.specs.Summaries.{joined, joined_all}
 use Rattle.wsm_sessions.specs.Placing.{those_linked}
-use Rattle.wsm_panes.specs.Held.{CanJoin, CanJoinAll, CanRecord, taking}
-use Rattle.wsm_panes.proofs.Parts.{none_left, one_found, one_left, first_found, second_found, both_left, no_entry, one_entry, two_entries, parts_at}
+use Rattle.wsm_panes.specs.Held.{CanJoinAll, CanRecord, taking}
+use Rattle.wsm_panes.proofs.Merged.{parts_at}
+use Rattle.wsm_panes.proofs.Taken.{none_left, one_found, one_left, first_found, second_found, both_left, no_entry, one_entry, two_entries}
 use Rattle.wsm_panes.proofs.joining.take_linked.Goals as goal
 
 some_is : {A : Type 0} (a b : A) → Some a ≡ Some b → a ≡ b

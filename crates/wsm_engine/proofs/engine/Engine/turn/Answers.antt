@@ -26,7 +26,7 @@ act-done-requires-clause-comes c =
     let mark : SFits w64 c.mark-mark.result = fits_signed_from_abs w64 c.mark-mark.result (grind (arith, ints, c.mark-mark.ensures.from, c.mark-mark.ensures.to)) in
     let answered : c.decide-answer.result ≡ answer_to (plan_of s.program) (query_of s.program) s.machine e =
     c.decide-answer.ensures.decision ∙ ap (λ (h : Header). decision h.schema s.machine.admission e) (c.header.ensures.header ∙ ap (λ (p : Program). p.header) c.program.ensures.program) in
-    (history.0, simp to_z-of_z (comes_of s history.0 history.1 c.self.inside.runner refl c.mark-mark.result c.mark-mark.ensures.mark c.decide-answer.result e answered))
+    (history.0, simp to_z-of_z (comes_of s history.0 history.1 c.self.inside.runner.held refl c.mark-mark.result c.mark-mark.ensures.mark c.decide-answer.result e answered))
 
 pub invariant_of-self : goal.invariant_of-self
 invariant_of-self c =

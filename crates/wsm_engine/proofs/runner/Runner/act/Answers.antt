@@ -12,7 +12,7 @@ take_record-requires-clause-comes c =
     let is : c.args.answer ≡ Ok admitted.Record = search rules in
     let ev : event_of c.args.event.now ≡ Record (Some h.key) h.time h.values.items = search rules in
     let mark : SFits w64 c.args.mark = c.ranges.mark in
-    let all = comes_with c.args.verified.now c.requires.comes.0 c.args.self.now c.args.mark c.args.answer (event_of c.args.event.now) c.requires.comes.1 (record c.args.self.now { rows = c.clear.new.self }) refl (Some h.key) h.time h.values.items is ev in
+    let all = comes_with c.args.verified.now c.requires.comes.0 c.args.self.now.held c.args.mark c.args.answer (event_of c.args.event.now) c.requires.comes.1 (Some h.key) h.time h.values.items is ev in
     let time : SFits w64 h.time = time_fits c.args.verified.now c.requires.comes.0 c.args.self.now c.requires.program c.args.mark h.key h.time h.values.items c.args.answer (event_of c.args.event.now) c.requires.comes.1 is ev in
     (c.requires.comes.0, rw c.deref.ensures.value (simp to_z-of_z all))
 
@@ -21,9 +21,9 @@ take_watermark-requires-clause-comes c =
     let h = c.in-Ok-Watermark in
     let p = c.args.verified.now in
     let is : c.args.answer ≡ Ok (admitted.Watermark h.old h.new) = search rules in
-    let all = comes_at p c.requires.comes.0 c.args.self.now c.args.mark c.args.answer (event_of c.args.event.now) c.requires.comes.1 (record c.args.self.now { rows = c.clear.new.self }) refl h.old h.new is in
+    let all = comes_at p c.requires.comes.0 c.args.self.now.held c.args.mark c.args.answer (event_of c.args.event.now) c.requires.comes.1 h.old h.new is in
     let new : SFits w64 h.new = mark_fits p c.requires.comes.0 c.args.self.now c.args.mark c.args.answer (event_of c.args.event.now) c.requires.comes.1 c.requires.program h.old h.new is in
-    let old : SFits w64 h.old = old_fits p c.requires.comes.0 c.args.self.now c.args.mark c.args.answer (event_of c.args.event.now) c.requires.comes.1 h.old h.new is c.ranges.mark in
+    let old : SFits w64 h.old = old_fits p c.requires.comes.0 c.args.self.now.held c.args.mark c.args.answer (event_of c.args.event.now) c.requires.comes.1 h.old h.new is c.ranges.mark in
     (c.requires.comes.0, simp to_z-of_z all)
 
 pub returns-in-Record-Some-default-default-clause-panes : goal.returns-in-Record-Some-default-default-clause-panes
@@ -65,7 +65,7 @@ returns-in-Ok-Watermark-clause-panes c = λ s at.
     let p = c.args.verified.now in
     let is : c.args.answer ≡ Ok (admitted.Watermark h.old h.new) = search rules in
     let new : SFits w64 h.new = mark_fits p c.requires.comes.0 c.args.self.now c.args.mark c.args.answer (event_of c.args.event.now) c.requires.comes.1 c.requires.program h.old h.new is in
-    let old : SFits w64 h.old = old_fits p c.requires.comes.0 c.args.self.now c.args.mark c.args.answer (event_of c.args.event.now) c.requires.comes.1 h.old h.new is c.ranges.mark in
+    let old : SFits w64 h.old = old_fits p c.requires.comes.0 c.args.self.now.held c.args.mark c.args.answer (event_of c.args.event.now) c.requires.comes.1 h.old h.new is c.ranges.mark in
     (simp to_z-of_z at c.take_watermark.ensures.panes) ∙ panes_mark p c.args.self.now c.args.mark s at c.args.answer (event_of c.args.event.now) h.old h.new is
 
 pub returns-in-Ok-Watermark-clause-relation : goal.returns-in-Ok-Watermark-clause-relation
@@ -74,7 +74,7 @@ returns-in-Ok-Watermark-clause-relation c = λ s at.
     let p = c.args.verified.now in
     let is : c.args.answer ≡ Ok (admitted.Watermark h.old h.new) = search rules in
     let new : SFits w64 h.new = mark_fits p c.requires.comes.0 c.args.self.now c.args.mark c.args.answer (event_of c.args.event.now) c.requires.comes.1 c.requires.program h.old h.new is in
-    let old : SFits w64 h.old = old_fits p c.requires.comes.0 c.args.self.now c.args.mark c.args.answer (event_of c.args.event.now) c.requires.comes.1 h.old h.new is c.ranges.mark in
+    let old : SFits w64 h.old = old_fits p c.requires.comes.0 c.args.self.now.held c.args.mark c.args.answer (event_of c.args.event.now) c.requires.comes.1 h.old h.new is c.ranges.mark in
     (simp to_z-of_z at c.take_watermark.ensures.relation) ∙ relation_mark p c.args.self.now c.args.mark s at c.args.answer (event_of c.args.event.now) h.old h.new is
 
 pub returns-in-Ok-Watermark-clause-rows : goal.returns-in-Ok-Watermark-clause-rows
@@ -83,7 +83,7 @@ returns-in-Ok-Watermark-clause-rows c = λ s at.
     let p = c.args.verified.now in
     let is : c.args.answer ≡ Ok (admitted.Watermark h.old h.new) = search rules in
     let new : SFits w64 h.new = mark_fits p c.requires.comes.0 c.args.self.now c.args.mark c.args.answer (event_of c.args.event.now) c.requires.comes.1 c.requires.program h.old h.new is in
-    let old : SFits w64 h.old = old_fits p c.requires.comes.0 c.args.self.now c.args.mark c.args.answer (event_of c.args.event.now) c.requires.comes.1 h.old h.new is c.ranges.mark in
+    let old : SFits w64 h.old = old_fits p c.requires.comes.0 c.args.self.now.held c.args.mark c.args.answer (event_of c.args.event.now) c.requires.comes.1 h.old h.new is c.ranges.mark in
     (simp to_z-of_z at c.take_watermark.ensures.rows) ∙ rows_mark p c.args.self.now c.args.mark s at c.args.answer (event_of c.args.event.now) h.old h.new is
 
 pub returns-in-Ok-Watermark-clause-tally : goal.returns-in-Ok-Watermark-clause-tally
@@ -92,5 +92,5 @@ returns-in-Ok-Watermark-clause-tally c = λ s at.
     let p = c.args.verified.now in
     let is : c.args.answer ≡ Ok (admitted.Watermark h.old h.new) = search rules in
     let new : SFits w64 h.new = mark_fits p c.requires.comes.0 c.args.self.now c.args.mark c.args.answer (event_of c.args.event.now) c.requires.comes.1 c.requires.program h.old h.new is in
-    let old : SFits w64 h.old = old_fits p c.requires.comes.0 c.args.self.now c.args.mark c.args.answer (event_of c.args.event.now) c.requires.comes.1 h.old h.new is c.ranges.mark in
+    let old : SFits w64 h.old = old_fits p c.requires.comes.0 c.args.self.now.held c.args.mark c.args.answer (event_of c.args.event.now) c.requires.comes.1 h.old h.new is c.ranges.mark in
     (simp to_z-of_z at c.take_watermark.ensures.tally) ∙ ap (tally_of p) (fired_mark p c.args.self.now c.args.mark s at c.args.answer (event_of c.args.event.now) h.old h.new is)

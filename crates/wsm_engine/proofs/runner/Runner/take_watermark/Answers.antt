@@ -41,8 +41,8 @@ advance-requires-clause-panes c =
     let same = as_many p c.args.old c.args.new (entries_of c.args.self.now.held) (entries_of c.fire_by_watermark-tally.new.held) (simp to_z-of_z at c.fire_by_watermark-tally.ensures.panes) in
     rw c.requires.program.room (omega (arith, few, same))
 
-pub overflow_sub-new : goal.overflow_sub-new
-overflow_sub-new c =
+pub overflow_sub-limit : goal.overflow_sub-limit
+overflow_sub-limit c =
     let p = c.args.verified.now in
     let new : SFits w64 c.args.new = c.ranges.new in
     let late : c.header.result.now.lateness ≡ p.header.lateness = ap (λ (h : Header). h.lateness) (c.header.ensures.header ∙ ap (λ (q : Program). q.header) c.program.ensures.program) in

@@ -1,6 +1,6 @@
 use Rattle.std.proofs.Common.{◌≡◌, arith, length, drop, [], ◌∷◌, Some, refl, sym, ap, ◌∙◌}
 use Rattle.wsm_fold.proofs.Bags.{fold_by-append}
-use Rattle.wsm_fold.proofs.Rows.{AreHeld, row_length, row_has_places, row_sums, row_joined, joins_assoc}
+use Rattle.wsm_fold.proofs.Rows.{row_length, row_has_places, row_sums, row_joined, joins_assoc}
 use Rattle.wsm_fold.proofs.accumulators.Folded.fold.Goals as goal
 
 pub join_all-requires-clause-kinds : goal.join_all-requires-clause-kinds

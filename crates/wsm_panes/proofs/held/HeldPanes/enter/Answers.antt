@@ -1,6 +1,6 @@
-use Rattle.std.proofs.Common.{◌≡◌, List, [], ◌∷◌, Some, length, refl, sym, ap, subst, ◌∙◌, arith, SFits, w64, to_z-of_z}
+use Rattle.std.proofs.Common.{◌∷◌, Some, ap, ◌∙◌, SFits, w64, to_z-of_z}
 use Rattle.std.specs.FinMap as map
-use Rattle.wsm_panes.proofs.Enters.{few_values, joins_can, room_can, live_can, windows_can, windows_put, key_of, keys_written}
+use Rattle.wsm_panes.proofs.Enters.{few_values, joins_can, room_can, live_can, windows_can, key_of, keys_written}
 use Rattle.wsm_panes.proofs.held.HeldPanes.enter.Goals as goal
 
 pub enter_session-joined-requires-clause-few : goal.enter_session-joined-requires-clause-few

@@ -1,4 +1,4 @@
-use Rattle.std.proofs.Common.{[], sym, ap, subst, ◌∙◌}
+use Rattle.std.proofs.Common.{sym, ap, subst, ◌∙◌}
 use Rattle.std.specs.FinMap as map
 use Rattle.wsm_panes.specs.OfKeys.{AreOfKeys}
 use Rattle.wsm_panes.proofs.Tables.{entries_none}

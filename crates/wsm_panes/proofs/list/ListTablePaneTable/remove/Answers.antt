@@ -5,10 +5,10 @@ use Rattle.wsm_panes.proofs.list.ListTablePaneTable.remove.Goals as goal
 
 pub invariant_of-self : goal.invariant_of-self
 invariant_of-self o c = (
-  rw c.keep_others.ensures.items (kept_sorted c.self.inside.entries.items c.self.invariant.0 (is_other c.args.place)),
-  omega (arith, c.keep_others.ensures.len, c.self.invariant.1),
-  omega (arith, c.keep_others.ensures.capacity, c.self.invariant.2),
+  rw c.take_out.ensures.items (kept_sorted c.self.inside.entries.items c.self.invariant.0 (is_other c.args.place)),
+  omega (arith, c.take_out.ensures.len, c.self.invariant.1),
+  omega (arith, c.take_out.ensures.capacity, c.self.invariant.2),
 )
 
 pub returns-clause-panes : goal.returns-clause-panes
-returns-clause-panes o c = rw (c.keep_others.ensures.items, ← c.self.view_is) (others_are c.self.inside.entries.items c.self.invariant.0 c.args.place)
+returns-clause-panes o c = rw (c.take_out.ensures.items, ← c.self.view_is) (others_are c.self.inside.entries.items c.self.invariant.0 c.args.place)

@@ -1,0 +1,45 @@
+//! What holds of every accepted program, over every history of events. The contract of each function
+//! is the law; a call of it does nothing.
+
+ghost use Rattle.std.specs.Prelude.{◌≡◌, ◌≤◌, ℕ, ℤ, List, Some, None, Ok, map, length, IsTrue};
+ghost use Rattle.std.specs.List.{AllByRecursion};
+ghost use Rattle.wsm_record.specs.declared.event.Value.{Value};
+ghost use Rattle.wsm_record.specs.declared.words.Mode.TheVariants.{Discarding};
+ghost use Rattle.wsm_record.specs.Event.{Event, Record};
+ghost use Rattle.wsm_semantics.specs.Query.{verdict_on};
+ghost use Rattle.wsm_semantics.specs.Panes.{held};
+ghost use Rattle.wsm_semantics.specs.Firings.{firings};
+ghost use Rattle.wsm_semantics.specs.FiringSets.{FiresOnce};
+ghost use Rattle.wsm_bytecode.specs.Program.{Program, is_program};
+ghost use Rattle.wsm_verifier.specs.declared.costs.Costs.{Costs};
+ghost use Rattle.wsm_verifier.specs.Rules.{judge};
+ghost use Rattle.wsm_machine.specs.Meaning.{query_of, record_cost, pane_cost};
+ghost use Rattle.wsm_firing.specs.Tally.{greatest};
+ghost use Rattle.wsm_engine.specs.Laws.{RecordEnds, FiringEnds};
+
+/// No run of a section meets a trap: WHERE and UPDATE come to their ends on each record that is
+/// admitted, and FIRE on each firing.
+pub fn never_traps()
+    ensures records { (p : Program) (costs : Costs) → judge p ≡ Ok costs → IsTrue (is_program p) → (past : List Event) (key : ℕ) (time : ℤ) (values : List Value)
+        → verdict_on (query_of p) past (Record (Some key) time values) ≡ None → RecordEnds p key values }
+    ensures firings { (p : Program) (costs : Costs) → judge p ≡ Ok costs → IsTrue (is_program p) → (past : List Event) (e : Event) → AllByRecursion (FiringEnds p) (firings (query_of p) past e) }
+{}
+
+/// No more panes are held than the program states.
+pub fn held_within()
+    ensures { (p : Program) (costs : Costs) → judge p ≡ Ok costs → IsTrue (is_program p) → (past : List Event) → length (held (query_of p) past) ≤ p.header.budget.held }
+{}
+
+/// No turn takes more instructions for its record, and none of its firings more for its pane, than the
+/// program states.
+pub fn spends_within()
+    ensures records { (p : Program) (costs : Costs) → judge p ≡ Ok costs → IsTrue (is_program p) → (past : List Event) (e : Event) → record_cost p past e ≤ p.header.budget.per_record }
+    ensures panes { (p : Program) (costs : Costs) → judge p ≡ Ok costs → IsTrue (is_program p) → (past : List Event) (e : Event)
+        → greatest (map (pane_cost p) (firings (query_of p) past e)) ≤ p.header.budget.per_pane }
+{}
+
+/// Where panes discard what they showed, each selected record is in exactly one firing set of each of
+/// its windows by the time that the window is dropped.
+pub fn shown_once()
+    ensures { (p : Program) → IsTrue (is_program p) → p.header.mode ≡ Discarding → FiresOnce (query_of p) }
+{}
