@@ -9,7 +9,7 @@ pub use checks::check;
 pub use parts::{Column, Folding, Parts};
 pub use refusal::{CheckFault, CheckRefusal, Part};
 pub use term::Term;
-pub use types::ValueTy;
+pub use types::{Around, ValueTy};
 
 mod assemble;
 mod checked;

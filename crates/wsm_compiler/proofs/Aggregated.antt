@@ -7,7 +7,8 @@ use Rattle.wsm_record.specs.declared.event.Value.TheVariants.{Bool as Truth'}
 use Rattle.wsm_interval.specs.Interval.{in_i64}
 use Rattle.wsm_machine.specs.declared.cell.Cell.{Cell}
 use Rattle.wsm_query.specs.Tree.{Query, Expr, Number, Truth, Field, EnumName, Key, KeyName, Count, Aggregate, If, Brackets, Minus, Not, Binary, And, Or}
-use Rattle.wsm_check.specs.Types.{InColumn, typed}
+use Rattle.wsm_check.specs.Types.{typed}
+use Rattle.wsm_check.specs.declared.types.Around.TheVariants.{InColumn}
 use Rattle.wsm_check.specs.Sizes.{Acc, accumulators_of, aggregates}
 use Rattle.wsm_compiler.specs.Meaning.{Scene, meaning_from, met_from, on_records, on_accumulators, on_two, both, minus, negated, chosen, chosen_numbers, number_of}
 use Rattle.wsm_bytecode.specs.declared.instr.SectionId.TheVariants.{Fire}

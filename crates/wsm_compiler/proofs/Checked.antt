@@ -7,7 +7,9 @@ use Rattle.wsm_query.specs.Tree.{Query, Expr, Number, Truth, Field, EnumName, Ke
 use Rattle.wsm_check.specs.declared.refusal.Part.{Part}
 use Rattle.wsm_check.specs.declared.refusal.Part.TheVariants as part
 use Rattle.wsm_check.specs.Sizes.{Acc, accumulators, accumulators_of, in_option, need_of_condition, need_of_columns, need_of_folds}
-use Rattle.wsm_check.specs.Types.{ExprTy, IntValue, BoolValue, Around, InWhere, InColumn, InAggregate, Typed, wanted, if_typed, ty_eq, operand_ty, op_ty, typed, typed_condition}
+use Rattle.wsm_check.specs.Types.{ExprTy, IntValue, BoolValue, Typed, wanted, if_typed, ty_eq, operand_ty, op_ty, typed, typed_condition}
+use Rattle.wsm_check.specs.declared.types.Around.{Around}
+use Rattle.wsm_check.specs.declared.types.Around.TheVariants.{InWhere, InColumn, InAggregate}
 use Rattle.wsm_check.specs.Checks.{first, typed_refusal, condition_refusal, columns_refusal, IsChecked}
 use Rattle.wsm_compiler.proofs.Hulls.{no}
 use Rattle.wsm_compiler.proofs.Passed.{is_refusal, none_of_both, passed}

@@ -7,7 +7,9 @@ use Rattle.wsm_bytecode.specs.declared.instr.Instr.TheVariants as instr
 use Rattle.wsm_bytecode.specs.declared.SectionId.TheVariants.{Where}
 use Rattle.wsm_bytecode.specs.declared.program.Budget.{Budget as Stated}
 use Rattle.wsm_query.specs.Tree.{Query, Expr}
-use Rattle.wsm_check.specs.Types.{ExprTy, IntValue, BoolValue, EnumValue, Around, InWhere, InColumn, ty_eq, typed}
+use Rattle.wsm_check.specs.Types.{ExprTy, IntValue, BoolValue, EnumValue, ty_eq, typed}
+use Rattle.wsm_check.specs.declared.types.Around.{Around}
+use Rattle.wsm_check.specs.declared.types.Around.TheVariants.{InWhere, InColumn}
 use Rattle.wsm_check.specs.Sizes.{Acc, accumulators_of, aggregates, size, condition_size, columns_size, need, need_of_condition, need_of_columns}
 use Rattle.wsm_verifier.specs.declared.known.Known.{Known}
 use Rattle.wsm_verifier.specs.declared.known.Known.TheVariants as known

@@ -12,7 +12,9 @@ use Rattle.wsm_query.specs.declared.expr.Op.{Op}
 use Rattle.wsm_query.specs.declared.expr.Op.TheVariants.{Add, Sub, Mul, Div, Rem, Eq, Ne, Lt, Le, Gt, Ge}
 use Rattle.wsm_query.specs.Tree.{Name, Ty, IntTy, BoolTy, EnumTy, Query, Expr, Number, Truth, Field, EnumName, Key, KeyName, Count, Aggregate, If, Brackets, Minus, Not, Binary, And, Or}
 use Rattle.wsm_check.specs.Names.{field_names, field_place, type_of, names_of}
-use Rattle.wsm_check.specs.Types.{ExprTy, IntValue, BoolValue, EnumValue, ty_eq, Around, InWhere, InColumn, InAggregate, Typed, wanted, if_typed, declared_ty, read_at, field_ty, operand_ty, op_ty, logic_ty, entered, typed}
+use Rattle.wsm_check.specs.Types.{ExprTy, IntValue, BoolValue, EnumValue, ty_eq, Typed, wanted, if_typed, declared_ty, read_at, field_ty, operand_ty, op_ty, logic_ty, entered, typed}
+use Rattle.wsm_check.specs.declared.types.Around.{Around}
+use Rattle.wsm_check.specs.declared.types.Around.TheVariants.{InWhere, InColumn, InAggregate}
 use Rattle.wsm_check.specs.Sizes.{Acc, accumulators_of, aggregates}
 use Rattle.wsm_verifier.specs.declared.known.Known.{Known}
 use Rattle.wsm_verifier.specs.declared.known.Known.TheVariants as known

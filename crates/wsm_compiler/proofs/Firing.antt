@@ -9,7 +9,8 @@ use Rattle.wsm_interval.specs.Interval.{interval, in_i64}
 use Rattle.wsm_bytecode.specs.declared.SectionId.TheVariants.{Fire}
 use Rattle.wsm_bytecode.specs.declared.program.Budget.{Budget as Stated}
 use Rattle.wsm_query.specs.Tree.{Query, Expr}
-use Rattle.wsm_check.specs.Types.{InColumn, InAggregate, operand_ty}
+use Rattle.wsm_check.specs.Types.{operand_ty}
+use Rattle.wsm_check.specs.declared.types.Around.TheVariants.{InColumn, InAggregate}
 use Rattle.wsm_check.specs.Sizes.{Acc, accumulators, accumulators_of, in_option, need_of_folds, need_of_columns}
 use Rattle.wsm_verifier.specs.declared.known.Known.{Known}
 use Rattle.wsm_verifier.specs.declared.known.Known.TheVariants.{Number, Truth}

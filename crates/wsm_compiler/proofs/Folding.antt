@@ -10,7 +10,8 @@ use Rattle.wsm_bytecode.specs.declared.instr.Instr.TheVariants.{Fold}
 use Rattle.wsm_bytecode.specs.declared.SectionId.TheVariants.{Update}
 use Rattle.wsm_bytecode.specs.declared.program.Budget.{Budget as Stated}
 use Rattle.wsm_query.specs.Tree.{Query}
-use Rattle.wsm_check.specs.Types.{InAggregate, operand_ty, typed}
+use Rattle.wsm_check.specs.Types.{operand_ty, typed}
+use Rattle.wsm_check.specs.declared.types.Around.TheVariants.{InAggregate}
 use Rattle.wsm_check.specs.Sizes.{Acc, accumulators, accumulators_of, size, need, folds_size, need_of_folds}
 use Rattle.wsm_verifier.specs.declared.known.Known.{Known}
 use Rattle.wsm_verifier.specs.Labels.{State}

@@ -2,7 +2,8 @@
 use Rattle.std.proofs.Common.{◌≡◌, ℕ, suc, ◌+◌, ◌≤◌, ◌<◌, true, false, [], ◌∷◌, ◌++◌, length, Option, Some, None, Ok, refl, sym, ap, subst, ◌∙◌, arith, length-append}
 use Rattle.wsm_bytecode.specs.declared.instr.Instr.TheVariants as instr
 use Rattle.wsm_query.specs.Tree.{Query, Expr, Number, Truth, Field, EnumName, Key, KeyName, Count, Aggregate, If, Brackets, Minus, Not, Binary, And, Or}
-use Rattle.wsm_check.specs.Types.{ExprTy, IntValue, BoolValue, Around, typed, op_ty}
+use Rattle.wsm_check.specs.Types.{ExprTy, IntValue, BoolValue, typed, op_ty}
+use Rattle.wsm_check.specs.declared.types.Around.{Around}
 use Rattle.wsm_check.specs.Sizes.{aggregates, accumulators_of, size, need}
 use Rattle.wsm_verifier.specs.declared.known.Known.{Known}
 use Rattle.wsm_verifier.specs.declared.known.Known.TheVariants as known

@@ -19,7 +19,8 @@ use Rattle.wsm_check.specs.declared.refusal.CheckFault.TheVariants.{Duplicate, L
 use Rattle.wsm_check.specs.declared.refusal.Part.{Part}
 use Rattle.wsm_check.specs.declared.refusal.Part.TheVariants as part
 use Rattle.wsm_check.specs.Names.{has_repeats}
-use Rattle.wsm_check.specs.Types.{typed, InWhere, InColumn}
+use Rattle.wsm_check.specs.Types.{typed}
+use Rattle.wsm_check.specs.declared.types.Around.TheVariants.{InWhere, InColumn}
 use Rattle.wsm_check.specs.Sizes.{Acc, accumulators, accumulators_of, in_option, fired}
 use Rattle.wsm_check.specs.Checks.{unless, first, ty_refusal, fields_refusal, is_count, shape_fits, every_fits, may_emit, typed_refusal, columns_refusal}
 use Rattle.wsm_compiler.specs.Code.{where_section, update_section, fire_section}

@@ -15,7 +15,9 @@ use Rattle.wsm_query.specs.declared.expr.Op.TheVariants.{Add, Sub, Mul, Div, Rem
 use Rattle.wsm_query.specs.Tree.{Name, Ty, IntTy, BoolTy, EnumTy, Query, Expr, Number, Truth, Field, EnumName, Key, KeyName, Count, Aggregate, If, Brackets, Minus, Not, Binary, And, Or}
 use Rattle.wsm_check.specs.declared.refusal.CheckFault.{CheckFault}
 use Rattle.wsm_check.specs.Names.{field_names, field_place, type_of, names_of, place_of}
-use Rattle.wsm_check.specs.Types.{ExprTy, IntValue, BoolValue, EnumValue, Around, InColumn, InAggregate, Typed, wanted, if_typed, ty_eq, declared_ty, operand_ty, op_ty, typed}
+use Rattle.wsm_check.specs.Types.{ExprTy, IntValue, BoolValue, EnumValue, Typed, wanted, if_typed, ty_eq, declared_ty, operand_ty, op_ty, typed}
+use Rattle.wsm_check.specs.declared.types.Around.{Around}
+use Rattle.wsm_check.specs.declared.types.Around.TheVariants.{InColumn, InAggregate}
 use Rattle.wsm_check.specs.Sizes.{Acc, aggregates, size, condition_size, folds_size, columns_size}
 use Rattle.wsm_compiler.specs.Code.{code, choice, instruction, condition_code, folds, columns_code}
 use Rattle.wsm_check.specs.Spelt.{numbers_fit}

@@ -11,7 +11,9 @@ use Rattle.wsm_query.specs.Tree.{Name, Ty, IntTy, BoolTy, EnumTy, Declared, Quer
 use Rattle.wsm_check.specs.declared.refusal.CheckFault.{CheckFault}
 use Rattle.wsm_check.specs.declared.refusal.CheckFault.TheVariants.{UnknownName}
 use Rattle.wsm_check.specs.Names.{field_names, field_place, type_of}
-use Rattle.wsm_check.specs.Types.{ExprTy, Around, InWhere, InColumn, InAggregate, Typed, declared_ty, read_at, field_ty}
+use Rattle.wsm_check.specs.Types.{ExprTy, Typed, declared_ty, read_at, field_ty}
+use Rattle.wsm_check.specs.declared.types.Around.{Around}
+use Rattle.wsm_check.specs.declared.types.Around.TheVariants.{InWhere, InColumn, InAggregate}
 use Rattle.wsm_compiler.specs.Program.{field_type, program_stating}
 use Rattle.wsm_compiler.specs.Ranges.{of_type}
 use Rattle.wsm_compiler.proofs.Hulls.{no}

@@ -15,7 +15,9 @@ use Rattle.wsm_machine.specs.declared.outcome.Trap.TheVariants.{Underflow, Stack
 use Rattle.wsm_machine.specs.Step.{Setting, State, Next, Goes, cell_of, may_stand, overflows, push_on, step, unless}
 use Rattle.wsm_query.specs.Tree.{Query, Ty, IntTy, BoolTy, EnumTy, Expr, Number, Truth, Field, EnumName, Key, KeyName, Count, Aggregate, If, Brackets, Minus, Not, Binary, And, Or}
 use Rattle.wsm_check.specs.Names.{place_of, field_names, field_place, type_of, names_of}
-use Rattle.wsm_check.specs.Types.{ExprTy, IntValue, BoolValue, EnumValue, Around, InColumn, InAggregate, declared_ty, operand_ty, op_ty, typed}
+use Rattle.wsm_check.specs.Types.{ExprTy, IntValue, BoolValue, EnumValue, declared_ty, operand_ty, op_ty, typed}
+use Rattle.wsm_check.specs.declared.types.Around.{Around}
+use Rattle.wsm_check.specs.declared.types.Around.TheVariants.{InColumn, InAggregate}
 use Rattle.wsm_check.specs.Sizes.{accumulators_of, aggregates, size}
 use Rattle.wsm_compiler.specs.Meaning.{Scene, on_two, both, minus, negated, chosen}
 use Rattle.wsm_compiler.specs.Bounded.{kept, bounded_from}

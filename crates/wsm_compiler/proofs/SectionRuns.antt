@@ -20,7 +20,9 @@ use Rattle.wsm_machine.specs.Step.{Setting, setting, State, Ends, step, unless, 
 use Rattle.wsm_machine.specs.Run.{run_at, act, go_on, ended}
 use Rattle.wsm_machine.proofs.Runs.{run_step}
 use Rattle.wsm_query.specs.Tree.{Query, Expr}
-use Rattle.wsm_check.specs.Types.{ExprTy, IntValue, BoolValue, EnumValue, Around, InWhere, InColumn, typed}
+use Rattle.wsm_check.specs.Types.{ExprTy, IntValue, BoolValue, EnumValue, typed}
+use Rattle.wsm_check.specs.declared.types.Around.{Around}
+use Rattle.wsm_check.specs.declared.types.Around.TheVariants.{InWhere, InColumn}
 use Rattle.wsm_check.specs.Sizes.{accumulators_of, aggregates, size, condition_size, columns_size, need, need_of_condition, need_of_columns}
 use Rattle.wsm_compiler.specs.Meaning.{Scene, on_record, on_accumulators}
 use Rattle.wsm_compiler.specs.Code.{code, condition_code, columns_code, where_section, fire_section}

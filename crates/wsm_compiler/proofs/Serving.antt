@@ -13,7 +13,9 @@ use Rattle.wsm_machine.specs.Inputs.{Inputs, is_of_field, are_of_fields}
 use Rattle.wsm_machine.specs.Step.{setting}
 use Rattle.wsm_query.specs.Tree.{Name, Ty, IntTy, BoolTy, EnumTy, Declared, Query}
 use Rattle.wsm_check.specs.Names.{field_names, field_place, type_of}
-use Rattle.wsm_check.specs.Types.{ExprTy, Around, InWhere, InColumn, InAggregate, declared_ty, field_ty, operand_ty}
+use Rattle.wsm_check.specs.Types.{ExprTy, declared_ty, field_ty, operand_ty}
+use Rattle.wsm_check.specs.declared.types.Around.{Around}
+use Rattle.wsm_check.specs.declared.types.Around.TheVariants.{InWhere, InColumn, InAggregate}
 use Rattle.wsm_check.specs.Sizes.{Acc, accumulators}
 use Rattle.wsm_compiler.specs.Meaning.{on_record, on_accumulators}
 use Rattle.wsm_compiler.specs.Program.{field_type, program_stating}

@@ -27,7 +27,8 @@ use Rattle.wsm_machine.specs.Meaning.{pane_inputs, fire_run, updated, updated_al
 use Rattle.wsm_machine.proofs.Sounding.{may_fire}
 use Rattle.wsm_machine.proofs.Words.{updated_words}
 use Rattle.wsm_query.specs.Tree.{Query, Expr}
-use Rattle.wsm_check.specs.Types.{ExprTy, BoolValue, InColumn, typed}
+use Rattle.wsm_check.specs.Types.{ExprTy, BoolValue, typed}
+use Rattle.wsm_check.specs.declared.types.Around.TheVariants.{InColumn}
 use Rattle.wsm_check.specs.Sizes.{aggregates, accumulators, in_option, fired}
 use Rattle.wsm_compiler.specs.Meaning.{Scene, meaning, meets_i64, all_of, on_records, condition_holds, row}
 use Rattle.wsm_compiler.specs.Means.{meant}

@@ -17,7 +17,8 @@ use Rattle.wsm_machine.specs.Inputs.{Inputs}
 use Rattle.wsm_machine.specs.Step.{Setting, setting, State, Goes, step, unless, type_of, value_of, is_type, folds_twice}
 use Rattle.wsm_machine.specs.Run.{run_at}
 use Rattle.wsm_query.specs.Tree.{Query}
-use Rattle.wsm_check.specs.Types.{ExprTy, InAggregate, operand_ty}
+use Rattle.wsm_check.specs.Types.{ExprTy, operand_ty}
+use Rattle.wsm_check.specs.declared.types.Around.TheVariants.{InAggregate}
 use Rattle.wsm_check.specs.Sizes.{Acc, accumulators, accumulators_of, size, need, folds_size, need_of_folds}
 use Rattle.wsm_compiler.specs.Meaning.{Scene, on_record}
 use Rattle.wsm_compiler.specs.Code.{folds, update_section}

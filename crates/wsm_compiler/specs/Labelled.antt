@@ -8,7 +8,8 @@ use Rattle.wsm_verifier.specs.Rules.{entry, ranges_of_pane, update_visits}
 use Rattle.wsm_query.specs.Tree.{Query, Expr}
 use Rattle.wsm_check.specs.Checks.{IsChecked}
 use Rattle.wsm_check.specs.Sizes.{size}
-use Rattle.wsm_check.specs.Types.{ExprTy, IntValue, BoolValue, EnumValue, InColumn, typed}
+use Rattle.wsm_check.specs.Types.{ExprTy, IntValue, BoolValue, EnumValue, typed}
+use Rattle.wsm_check.specs.declared.types.Around.TheVariants.{InColumn}
 use Rattle.wsm_compiler.specs.Code.{fire_section}
 use Rattle.wsm_compiler.specs.Ranges.{Range, Unfit, NoNumber, Within, range, ranges_fit}
 use Rattle.wsm_check.specs.Parts.{type_or_int}

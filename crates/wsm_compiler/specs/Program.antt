@@ -8,7 +8,8 @@ use Rattle.wsm_bytecode.specs.Program.{Program}
 use Rattle.wsm_verifier.specs.declared.costs.Costs.{Costs}
 use Rattle.wsm_verifier.specs.Costs.{needed}
 use Rattle.wsm_query.specs.Tree.{Query, Ty, IntTy, BoolTy, EnumTy, Budget, Expr}
-use Rattle.wsm_check.specs.Types.{ExprTy, IntValue, BoolValue, EnumValue, InColumn, typed}
+use Rattle.wsm_check.specs.Types.{ExprTy, IntValue, BoolValue, EnumValue, typed}
+use Rattle.wsm_check.specs.declared.types.Around.TheVariants.{InColumn}
 use Rattle.wsm_check.specs.Parts.{type_or_int}
 use Rattle.wsm_check.specs.Sizes.{accumulators}
 use Rattle.wsm_compiler.specs.Code.{where_section, update_section, fire_section}

@@ -13,7 +13,8 @@ use Rattle.wsm_machine.specs.Inputs.{Inputs, are_of_fields}
 use Rattle.wsm_machine.specs.Run.{run}
 use Rattle.wsm_query.specs.Tree.{Query, Expr}
 use Rattle.wsm_check.specs.Checks.{IsChecked}
-use Rattle.wsm_check.specs.Types.{BoolValue, InColumn, typed}
+use Rattle.wsm_check.specs.Types.{BoolValue, typed}
+use Rattle.wsm_check.specs.declared.types.Around.TheVariants.{InColumn}
 use Rattle.wsm_check.specs.Sizes.{Acc, accumulators, aggregates}
 use Rattle.wsm_compiler.specs.Meaning.{Scene, meaning_from, meets_i64, all_of, on_record, on_accumulators}
 use Rattle.wsm_check.specs.Parts.{type_or_int}

@@ -11,8 +11,8 @@ invariant_of-self c =
       omega (arith, simp length-take at (ap length c.self.view_is)),
       rw length-set c.self.invariant.1,
       drop-set-lt (n + 1) values n c.args.value (omega arith)
-      ∙ sym (drop-drop 1 n values)
-      ∙ ap (drop 1) c.self.invariant.2
-      ∙ drop-replicate 1 (16 - n) (Int (pos 0))
-      ∙ ap (λ (m : ℕ). replicate m (Int (pos 0))) left,
+          ∙ sym (drop-drop 1 n values)
+          ∙ ap (drop 1) c.self.invariant.2
+          ∙ drop-replicate 1 (16 - n) (Int (pos 0))
+          ∙ ap (λ (m : ℕ). replicate m (Int (pos 0))) left,
     )
