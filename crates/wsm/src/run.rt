@@ -117,8 +117,24 @@ fn run_verified<R: Read + Drop, D: Device>(
     ensures write_failed { result ≡ Err End.WriteFailed → D.has_failed out.new ≡ true }
 {
     let mut turns = Turns::open(alloc, verified)?;
-    take_rows(alloc, &mut turns, rows, out)?;
-    finish(&mut turns, out)
+    run_turns(alloc, &mut turns, rows, out)
+}
+
+// Takes the turns of all rows, from the first on, and ends.
+fn run_turns<R: Read + Drop, D: Device>(
+    alloc: Global,
+    turns: &mut Turns,
+    rows: R,
+    out: &mut D,
+) -> Result<Totals, End>
+    requires { D.has_failed out.old ≡ false }
+    ensures completes { (p : Value) → Fits p turns.old [] → IfOk result (λ totals. (cells : List Cells) × Completes (R.remaining rows) (asked_by_program p) cells (D.taken out.old) (D.taken out.new) totals) }
+    ensures flushed { OnOk result (D.is_flushed out.new ≡ true) }
+    ensures ends_early { (p : Value) → Fits p turns.old [] → IfErr result (λ end. (cells : List Cells) × EndsEarly (R.remaining rows) (asked_by_program p) cells (D.taken out.old) (D.taken out.new) end) }
+    ensures write_failed { result ≡ Err End.WriteFailed → D.has_failed out.new ≡ true }
+{
+    take_rows(alloc, turns, rows, out)?;
+    finish(turns, out)
 }
 
 // Takes the turn of each row, and gives the device its lines before the next row is asked for.

@@ -13,3 +13,5 @@ mod engine;
 pub mod laws;
 mod reply;
 mod runner;
+#[cfg(test)]
+mod tests;

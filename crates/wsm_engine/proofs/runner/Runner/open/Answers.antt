@@ -6,6 +6,8 @@ use Rattle.wsm_bytecode.specs.Program.{Program, is_program}
 use Rattle.wsm_bytecode.specs.View.{header_of}
 use Rattle.wsm_verifier.specs.Costs.{needed}
 use Rattle.wsm_verifier.proofs.Lawful.{lawful, lawful_seen, span_seen}
+use Rattle.wsm_panes.specs.Held.{entries_of}
+use Rattle.wsm_panes.proofs.Tables.{entries_none}
 use Rattle.wsm_engine.proofs.Limits.{room_few}
 use Rattle.wsm_engine.proofs.runner.Runner.open.Goals as goal
 
@@ -42,3 +44,6 @@ open-requires-2-clause-room c =
     let lateness : SFits w64 h.lateness = fits_signed_from_abs w64 h.lateness (omega (arith, ints, is.lateness.low, is.lateness.high)) in
     let few = room_few p c.program.ensures.accepted (subst (λ (q : Program). IsTrue (is_program q)) c.program.ensures.program c.header-header.ensures.lawful) h same c.key_count-keys.result c.live_bound-live.result c.key_count-keys.ensures.count (simp to_z-of_z at c.live_bound-live.ensures.bound) in
     omega (arith, few)
+
+pub returns-clause-panes : goal.returns-clause-panes
+returns-clause-panes c = ap entries_of c.in_ok-open.ensures ∙ entries_none

@@ -1,0 +1,35 @@
+use Rattle.std.specs.Prelude.{Result, Ok, Err, IfErr, IfOk, List}
+use Rattle.std.proofs.lemmas.Result.{err_from_is_err_and}
+use Rattle.wsm_engine.specs.declared.reply.Totals.{Totals}
+use Rattle.wsm.specs.declared.end.End.{End}
+use Rattle.wsm.specs.Asked.{asked_by_program}
+use Rattle.wsm.specs.Written.{Cells, Completes, EndsEarly}
+use Rattle.wsm.proofs.run.run_turns.Goals as goal
+
+-- what is told of some cells is told of cells
+cells_of_end : (P : End → List Cells → Type 0) (r : Result Totals End) (cells : List Cells) → IfErr r (λ end. P end cells) → IfErr r (λ end. (x : List Cells) × P end x)
+cells_of_end P (Ok totals) cells h = h
+cells_of_end P (Err end) cells h = (cells, h)
+
+cells_of_totals : (P : Totals → List Cells → Type 0) (r : Result Totals End) (cells : List Cells) → IfOk r (λ totals. P totals cells) → IfOk r (λ totals. (x : List Cells) × P totals x)
+cells_of_totals P (Ok totals) cells h = (cells, h)
+cells_of_totals P (Err end) cells h = h
+
+pub returns-in_err-take_rows-clause-ends_early : goal.returns-in_err-take_rows-clause-ends_early
+returns-in_err-take_rows-clause-ends_early g c =
+    let e = err_from_is_err_and c.from_residual.result c.from_residual.ensures.1 in
+    rw (e.1, e.2) (λ p fits. c.in_err-take_rows.ensures.ends_early p fits)
+
+pub returns-clause-completes : goal.returns-clause-completes
+returns-clause-completes g c = λ p fits.
+    let t = c.in_ok-take_rows.ensures.taken p fits in
+    let old = g.D.Device.taken c.args.out.now in
+    cells_of_totals (λ totals cells. Completes (g.R.Read.remaining c.args.rows) (asked_by_program p) cells old (g.D.Device.taken c.finish.new.out) totals) c.finish.result t.0
+    (c.finish.ensures.completes (g.R.Read.remaining c.args.rows) p t.0 old t.1 t.2)
+
+pub returns-clause-ends_early : goal.returns-clause-ends_early
+returns-clause-ends_early g c = λ p fits.
+    let t = c.in_ok-take_rows.ensures.taken p fits in
+    let old = g.D.Device.taken c.args.out.now in
+    cells_of_end (λ end cells. EndsEarly (g.R.Read.remaining c.args.rows) (asked_by_program p) cells old (g.D.Device.taken c.finish.new.out) end) c.finish.result t.0
+    (c.finish.ensures.ends_early (g.R.Read.remaining c.args.rows) p t.0 old t.1 t.2)
