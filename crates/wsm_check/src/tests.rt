@@ -35,7 +35,11 @@ fn checked(alloc: Global, selection: &str) -> Result<Option<Checked>, AllocError
 // How a selection is judged: `ok`, or its refusal.
 fn told(alloc: Global, selection: &str) -> Result<String, AllocError> {
     let text = text_of(alloc, selection)?;
-    match parse(alloc, text.as_str().as_bytes()) {
+    judged(alloc, text.as_str())
+}
+
+fn judged(alloc: Global, text: &str) -> Result<String, AllocError> {
+    match parse(alloc, text.as_bytes()) {
         Ok(query) => match check(alloc, query) {
             Ok(_) => String::from_str(alloc, "ok"),
             Err((_, refusal)) => format!(in alloc; "{refusal}"),
@@ -70,6 +74,55 @@ fn selections(rt: HostRuntime) -> Result<(), Fail> {
             ("KEY.c", "C1 UnknownName in column 1"),
         ],
     )
+}
+
+// A clause that is refused, beside one that isn't.
+#[test]
+fn clauses(rt: HostRuntime) -> Result<(), Fail> {
+    for (head, window, want) in [
+        (
+            "a, b; FIELD n INT 0..0",
+            "FIXED 60 ACCUMULATING EMIT PANES",
+            "ok",
+        ),
+        (
+            "a, a; FIELD n INT 0..0",
+            "FIXED 60 ACCUMULATING EMIT PANES",
+            "C3 Duplicate in keys",
+        ),
+        (
+            "a; FIELD n INT 1..0",
+            "FIXED 60 ACCUMULATING EMIT PANES",
+            "C7 Limit in field 1",
+        ),
+        (
+            "a; FIELD n BOOL",
+            "SLIDING 60 EVERY 60 ACCUMULATING EMIT PANES",
+            "ok",
+        ),
+        (
+            "a; FIELD n BOOL",
+            "SLIDING 60 EVERY 61 ACCUMULATING EMIT PANES",
+            "C7 Limit in window",
+        ),
+        (
+            "a; FIELD n BOOL",
+            "SESSION 60 ACCUMULATING EMIT DSTREAM",
+            "ok",
+        ),
+        (
+            "a; FIELD n BOOL",
+            "SESSION 60 DISCARDING EMIT DSTREAM",
+            "C8 StreamNeedsAccumulating in emit",
+        ),
+    ] {
+        let text = format!(in rt.alloc();
+            "KEYS {head}; START 0; SKEW 0; LATENESS 0; RECORDS 1; SELECT 1 WINDOW {window};"
+        )?;
+        let told = judged(rt.alloc(), text.as_str())?;
+        assert_eq!(rt; told.as_str(), want, "{text}");
+    }
+    Ok(())
 }
 
 #[test]

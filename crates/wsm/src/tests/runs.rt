@@ -2,8 +2,9 @@ use crate::{End, Guarded, Totals, compile_text, judge, run_program, run_query};
 use std::alloc::Global;
 use std::process::Abort;
 use std::test::Fail;
-use wsm_bytecode::decode;
+use wsm_bytecode::{SectionId, decode};
 use wsm_engine::Engine;
+use wsm_machine::{Inputs, Outcome, run_any};
 use wsm_record::{Event, Value};
 use wsm_verifier::verify;
 
@@ -194,6 +195,31 @@ fn early_panes(rt: HostRuntime) -> Result<(), Fail> {
 }
 
 #[test]
+fn late_panes(rt: HostRuntime) -> Result<(), Fail> {
+    let late = "r,a,55,1\nw,60\nr,a,56,2\nr,a,57,3\nr,a,58,4\nw,70\n";
+    let cases = [
+        Case {
+            window: "FIXED 60 ACCUMULATING LATE EVERY 2",
+            rows: late,
+            want: "pane,on_time,a,0,60,1,1\npane,late,a,0,60,3,6\npane,final,a,0,60,4,10\nend,6,4,0,0,3\n",
+            ..BASE
+        },
+        Case {
+            window: "FIXED 60 DISCARDING LATE EVERY 2",
+            rows: late,
+            want: "pane,on_time,a,0,60,1,1\npane,late,a,0,60,2,5\npane,final,a,0,60,1,4\nend,6,4,0,0,3\n",
+            ..BASE
+        },
+        Case {
+            rows: "r,a,5,1\nw,80\nr,a,180,2\nw,250\n",
+            want: "pane,on_time,a,0,60,1,1\npane,on_time,a,180,240,1,2\nend,4,2,0,0,2\n",
+            ..BASE
+        },
+    ];
+    all_write(&rt, &cases)
+}
+
+#[test]
 fn streams(rt: HostRuntime) -> Result<(), Fail> {
     let cases = [
         Case {
@@ -249,6 +275,11 @@ fn queries_are_judged(rt: HostRuntime) -> Result<(), Fail> {
             ..BASE
         },
         Case {
+            columns: "COUNT(*) WHERE n <> 0 AND 10 / n > 1",
+            want: "rejected,where,6,MayDivideByZero\n",
+            ..BASE
+        },
+        Case {
             field: "n INT 0..1000000000000",
             clock: "START 0; SKEW 100; LATENESS 10; RECORDS 1000000000000",
             want: "rejected,update,1,AccumulatorRange\n",
@@ -284,8 +315,28 @@ fn some_queries_do_not_run(rt: HostRuntime) -> Result<(), Fail> {
             ..BASE
         },
         Case {
-            columns: "COUNT(*), SUM(n > 1)",
-            want: "C2 Type in column 2",
+            columns: "n",
+            want: "C4 FieldOutsideAggregate in column 1",
+            ..BASE
+        },
+        Case {
+            columns: "m",
+            want: "C1 UnknownName in column 1",
+            ..BASE
+        },
+        Case {
+            columns: "SUM(COUNT(*))",
+            want: "C5 AggregateNested in column 1",
+            ..BASE
+        },
+        Case {
+            columns: "SUM(n) = TRUE",
+            want: "C2 Type in column 1",
+            ..BASE
+        },
+        Case {
+            columns: "COUNT(*) WHERE SUM(n) > 1",
+            want: "C6 AggregateInWhere in where",
             ..BASE
         },
         Case {
@@ -302,6 +353,29 @@ fn some_queries_do_not_run(rt: HostRuntime) -> Result<(), Fail> {
         assert_eq!(rt; why.as_str(), case.want, "{text}");
         assert!(rt; written.is_empty());
     }
+    Ok(())
+}
+
+// The right side of AND divides by zero, and isn't evaluated.
+#[test]
+fn where_evaluates_what_it_needs(rt: HostRuntime) -> Result<(), Fail> {
+    let alloc = rt.alloc();
+    let case = Case {
+        columns: "COUNT(*) WHERE n <> 0 AND 10 / n > 1",
+        ..BASE
+    };
+    let text = text_of(alloc, &case)?;
+    let program = decode(alloc, &compile_text(alloc, text.as_str().as_bytes())?)?;
+    let inputs = Inputs {
+        key: 0,
+        values: &[Value::Int(0)],
+        count: 0,
+        accs: &[],
+    };
+    assert!(rt; inputs.fits(&program));
+    let ran = run_any(alloc, &program, SectionId::Where, &inputs);
+    assert_eq!(rt; ran.outcome, Outcome::Done);
+    assert_eq!(rt; ran.steps, 6);
     Ok(())
 }
 
@@ -337,27 +411,61 @@ fn bytes_that_are_no_program(rt: HostRuntime) -> Result<(), Fail> {
     Ok(())
 }
 
-// How many panes are held after records of both keys at some times.
-fn held(alloc: Global, case: &Case, times: &[i64]) -> Result<usize, Fail> {
+// The engine of a query.
+fn opened(alloc: Global, case: &Case) -> Result<Engine, Fail> {
     let text = text_of(alloc, case)?;
     let program = decode(alloc, &compile_text(alloc, text.as_bytes())?)?;
     let Ok(verified) = verify(alloc, program) else {
         return Err(Fail::from("rejected"));
     };
-    let Ok(mut engine) = Engine::open(alloc, verified) else {
+    let Ok(engine) = Engine::open(alloc, verified) else {
         return Err(Fail::from("out of memory"));
     };
+    Ok(engine)
+}
+
+fn record(alloc: Global, key: u16, time: i64) -> Result<Event, Fail> {
+    let values = [Value::Int(1)].to_vec(alloc)?;
+    Ok(Event::Record {
+        key: Some(key),
+        time,
+        values,
+    })
+}
+
+// How many panes are held after records of both keys at some times.
+fn held(alloc: Global, case: &Case, times: &[i64]) -> Result<usize, Fail> {
+    let mut engine = opened(alloc, case)?;
     for time in times {
         for key in 0..2u16 {
-            let values = [Value::Int(1)].to_vec(alloc)?;
-            let _reply = engine.feed(&Event::Record {
-                key: Some(key),
-                time: *time,
-                values,
-            });
+            let _reply = engine.feed(&record(alloc, key, *time)?);
         }
     }
     Ok(engine.held())
+}
+
+// How many instructions the records of a key at some times take.
+fn steps(alloc: Global, case: &Case, times: &[i64]) -> Result<Vec<u64>, Fail> {
+    let mut engine = opened(alloc, case)?;
+    let mut steps = Vec::new(alloc);
+    for time in times {
+        steps.push(engine.feed(&record(alloc, 0, *time)?).record_steps)?;
+    }
+    steps.push(engine.feed(&Event::Watermark(100)).pane_steps_max)?;
+    Ok(steps)
+}
+
+#[test]
+fn steps_are_told(rt: HostRuntime) -> Result<(), Fail> {
+    let fixed = steps(rt.alloc(), &BASE, &[5, 59])?;
+    assert_eq!(rt; fixed.as_slice(), [5, 5, 4].as_slice());
+    let sessions = Case {
+        window: "SESSION 30 ACCUMULATING",
+        ..BASE
+    };
+    let joined = steps(rt.alloc(), &sessions, &[0, 40, 20])?;
+    assert_eq!(rt; joined.as_slice(), [5, 5, 6, 4].as_slice());
+    Ok(())
 }
 
 #[test]
