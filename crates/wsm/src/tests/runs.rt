@@ -2,11 +2,6 @@ use crate::{End, Guarded, Totals, compile_text, judge, run_program, run_query};
 use std::alloc::Global;
 use std::process::Abort;
 use std::test::Fail;
-use wsm_bytecode::{SectionId, decode};
-use wsm_engine::Engine;
-use wsm_machine::{Inputs, Outcome, run_any};
-use wsm_record::{Event, Value};
-use wsm_verifier::verify;
 
 // The clauses of a query over keys a and b, rows for it, and what is written.
 #[derive(Clone, Copy)]
@@ -356,29 +351,6 @@ fn some_queries_do_not_run(rt: HostRuntime) -> Result<(), Fail> {
     Ok(())
 }
 
-// The right side of AND divides by zero, and isn't evaluated.
-#[test]
-fn where_evaluates_what_it_needs(rt: HostRuntime) -> Result<(), Fail> {
-    let alloc = rt.alloc();
-    let case = Case {
-        columns: "COUNT(*) WHERE n <> 0 AND 10 / n > 1",
-        ..BASE
-    };
-    let text = text_of(alloc, &case)?;
-    let program = decode(alloc, &compile_text(alloc, text.as_str().as_bytes())?)?;
-    let inputs = Inputs {
-        key: 0,
-        values: &[Value::Int(0)],
-        count: 0,
-        accs: &[],
-    };
-    assert!(rt; inputs.fits(&program));
-    let ran = run_any(alloc, &program, SectionId::Where, &inputs);
-    assert_eq!(rt; ran.outcome, Outcome::Done);
-    assert_eq!(rt; ran.steps, 6);
-    Ok(())
-}
-
 #[test]
 fn texts_that_are_no_queries(rt: HostRuntime) -> Result<(), Fail> {
     let cases = [
@@ -408,73 +380,5 @@ fn bytes_that_are_no_program(rt: HostRuntime) -> Result<(), Fail> {
     let why = format!(in rt.alloc(); "{}", end.err().ok_or("it ran")?)?;
     assert_eq!(rt; why.as_str(), "B3 Truncated");
     assert!(rt; out.into_writer().is_empty());
-    Ok(())
-}
-
-// The engine of a query.
-fn opened(alloc: Global, case: &Case) -> Result<Engine, Fail> {
-    let text = text_of(alloc, case)?;
-    let program = decode(alloc, &compile_text(alloc, text.as_bytes())?)?;
-    let Ok(verified) = verify(alloc, program) else {
-        return Err(Fail::from("rejected"));
-    };
-    let Ok(engine) = Engine::open(alloc, verified) else {
-        return Err(Fail::from("out of memory"));
-    };
-    Ok(engine)
-}
-
-fn record(alloc: Global, key: u16, time: i64) -> Result<Event, Fail> {
-    let values = [Value::Int(1)].to_vec(alloc)?;
-    Ok(Event::Record {
-        key: Some(key),
-        time,
-        values,
-    })
-}
-
-// How many panes are held after records of both keys at some times.
-fn held(alloc: Global, case: &Case, times: &[i64]) -> Result<usize, Fail> {
-    let mut engine = opened(alloc, case)?;
-    for time in times {
-        for key in 0..2u16 {
-            let _reply = engine.feed(&record(alloc, key, *time)?);
-        }
-    }
-    Ok(engine.held())
-}
-
-// How many instructions the records of a key at some times take.
-fn steps(alloc: Global, case: &Case, times: &[i64]) -> Result<Vec<u64>, Fail> {
-    let mut engine = opened(alloc, case)?;
-    let mut steps = Vec::new(alloc);
-    for time in times {
-        steps.push(engine.feed(&record(alloc, 0, *time)?).record_steps)?;
-    }
-    steps.push(engine.feed(&Event::Watermark(100)).pane_steps_max)?;
-    Ok(steps)
-}
-
-#[test]
-fn steps_are_told(rt: HostRuntime) -> Result<(), Fail> {
-    let fixed = steps(rt.alloc(), &BASE, &[5, 59])?;
-    assert_eq!(rt; fixed.as_slice(), [5, 5, 4].as_slice());
-    let sessions = Case {
-        window: "SESSION 30 ACCUMULATING",
-        ..BASE
-    };
-    let joined = steps(rt.alloc(), &sessions, &[0, 40, 20])?;
-    assert_eq!(rt; joined.as_slice(), [5, 5, 6, 4].as_slice());
-    Ok(())
-}
-
-#[test]
-fn panes_are_held(rt: HostRuntime) -> Result<(), Fail> {
-    assert_eq!(rt; held(rt.alloc(), &BASE, &[0, 60, 100])?, 4);
-    let later = Case {
-        clock: "START 59; SKEW 100; LATENESS 10; RECORDS 1000",
-        ..BASE
-    };
-    assert_eq!(rt; held(rt.alloc(), &later, &[49, 119, 159])?, 6);
     Ok(())
 }
