@@ -1,14 +1,13 @@
 -- What a program's own laws say of its clock, and of how many panes it holds.
-use Rattle.std.proofs.Common.{◌≡◌, ℕ, ◌*◌, ◌≤◌, true, Bool, ◌&&◌, length, sym, subst, ◌∙◌, ℤ, pos, ◌≤ℤ◌, Ok, IsTrue, arith}
+use Rattle.std.proofs.Common.{◌≡◌, ℕ, ◌*◌, ◌≤◌, true, length, sym, subst, ◌∙◌, ℤ, pos, ◌≤ℤ◌, Ok, IsTrue, arith}
 use Rattle.std.proofs.lemmas.Bool.{and_parts}
 use Rattle.std.proofs.lemmas.Int.{ints}
 use Rattle.std.proofs.lemmas.Bool.Decides.{nat_tests}
-use Rattle.std.specs.Prelude.{unsigned_abs, int_le, nat_le}
 use Rattle.wsm_windows.specs.Life.{live_bound}
 use Rattle.wsm_admission.specs.Clock.{IsWithinLimits}
 use Rattle.wsm_semantics.specs.HeldBounds.{most_panes}
 use Rattle.wsm_record.specs.Name.{is_between}
-use Rattle.wsm_bytecode.specs.Program.{Header, Program, is_within, is_schema, is_clock, is_firing, is_row, is_budget, is_stated, is_header, is_program, is_section, latest_time}
+use Rattle.wsm_bytecode.specs.Program.{Header, Program, is_within, is_schema, is_clock, is_firing, is_row, is_budget, is_stated, is_header, is_program, latest_time}
 use Rattle.wsm_verifier.specs.declared.costs.Costs.{Costs}
 use Rattle.wsm_verifier.specs.Costs.{needed}
 use Rattle.wsm_verifier.specs.Rules.{judge}

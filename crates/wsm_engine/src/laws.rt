@@ -1,7 +1,7 @@
 //! What holds of every accepted program, over every history of events. The contract of each function
 //! is the law; a call of it does nothing.
 
-ghost use Rattle.std.specs.Prelude.{◌≡◌, ◌≤◌, ℕ, ℤ, List, Some, None, Ok, map, length, IsTrue};
+ghost use Rattle.std.specs.Prelude.{◌≡◌, ◌≤◌, ℕ, ℤ, List, Some, None, Ok, map, length, unsigned_abs, IsTrue};
 ghost use Rattle.std.specs.List.{AllByRecursion};
 ghost use Rattle.wsm_record.specs.declared.event.Value.{Value};
 ghost use Rattle.wsm_record.specs.declared.words.Mode.TheVariants.{Discarding};
@@ -10,6 +10,7 @@ ghost use Rattle.wsm_semantics.specs.Query.{verdict_on};
 ghost use Rattle.wsm_semantics.specs.Panes.{held};
 ghost use Rattle.wsm_semantics.specs.Firings.{firings};
 ghost use Rattle.wsm_semantics.specs.FiringSets.{FiresOnce};
+ghost use Rattle.wsm_semantics.specs.Order.{IsOrderFree, OrderLaw};
 ghost use Rattle.wsm_bytecode.specs.Program.{Program, is_program};
 ghost use Rattle.wsm_verifier.specs.declared.costs.Costs.{Costs};
 ghost use Rattle.wsm_verifier.specs.Rules.{judge};
@@ -42,4 +43,11 @@ pub fn spends_within()
 /// its windows by the time that the window is dropped.
 pub fn shown_once()
     ensures { (p : Program) → IsTrue (is_program p) → p.header.mode ≡ Discarding → FiresOnce (query_of p) }
+{}
+
+/// Where the events between two accepted watermarks come in another order, each with its verdict, each
+/// watermark fires the same on time, with the same rows. Panes that discard what they showed are not to
+/// fire early for that, and sessions that discard not late either.
+pub fn permuted()
+    ensures { (p : Program) → IsTrue (is_program p) → IsOrderFree p.header.mode p.header.shape (unsigned_abs p.header.early) (unsigned_abs p.header.late) → OrderLaw (query_of p) }
 {}
