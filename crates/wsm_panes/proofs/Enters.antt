@@ -25,15 +25,23 @@ use Rattle.wsm_semantics.specs.Query.{Datum}
 use Rattle.wsm_semantics.specs.Kept.{is_linked}
 use Rattle.wsm_semantics.specs.Replay.{datum}
 use Rattle.wsm_semantics.specs.Sessions.{ends_after}
-use Rattle.wsm_semantics.specs.Summaries.{Plan, Pane, assigned, entered, joined, joined_folds, linked, merged_session}
+use Rattle.wsm_semantics.specs.Summaries.{Plan, Pane, assigned, entered, joined, joined_folds, linked, merged_session, with_record}
 use Rattle.wsm_semantics.proofs.Lists.{filter-all}
 use Rattle.wsm_semantics.proofs.Each.{all-any, filter_swap, filter-map}
 use Rattle.wsm_sessions.specs.Live.{Live, times_left}
-use Rattle.wsm_panes.specs.Held.{CanEnter, CanEnterWindows, CanJoin, CanJoinAll, CanJoinFolds, CanRecord, CanTake, Held, IsRoomy, entries_of, room_of, taking, windows_of_key}
+use Rattle.wsm_panes.specs.Held.{CanEnter, CanEnterWindows, CanJoin, CanJoinAll, CanJoinFolds, CanRecord, CanTake, Held, IsRoomy, entries_of, room_of, taking, windows_of_key, with_one_more}
 use Rattle.wsm_panes.specs.OfKeys.{AreDropped, AreOfKeys, IsOfKey}
 use Rattle.wsm_panes.specs.Place.{is_kept}
 use Rattle.wsm_panes.proofs.Entries.{places_total}
 use Rattle.wsm_panes.proofs.Tables.{to_T}
+
+-- which record it is doesn't matter, beside the values
+pub any_datum : (kinds : List Kind) (values : List Value) (d : Datum) (pane : Option (Pane (List Value))) → with_one_more kinds values pane ≡ with_record (taking kinds values) d pane
+any_datum kinds values d None = refl
+any_datum kinds values d (Some h) = by h.folded refl where
+  by : (o : Option (List Value)) → h.folded ≡ o → with_one_more kinds values (Some h) ≡ with_record (taking kinds values) d (Some h)
+  by None is = rw is refl
+  by (Some xs) is = rw is refl
 
 entered_assigned : {X : Type 0} (plan : Plan X) (s : Shape) → ((gap : ℤ) → s ≢ Session gap) → (d : Datum) (es : List (Place × Pane X)) → entered plan s d es ≡ assigned plan d (windows_of_shape s d.time) es
 entered_assigned plan (Fixed size) other d es = refl

@@ -1,5 +1,5 @@
 -- The panes that are held, and what a record does to them.
-use Rattle.std.specs.Prelude.{◌≡◌, ℕ, ◌+◌, ◌*◌, ◌^◌, ◌≤◌, ◌<◌, Bool, true, IsTrue, List, [], ◌∷◌, length, map as map_list, filter, nat_eq, nat_lt, false, ℤ, Option, Some, None, IfSome, refl}
+use Rattle.std.specs.Prelude.{◌≡◌, ℕ, ◌+◌, ◌*◌, ◌^◌, ◌≤◌, ◌<◌, Bool, true, IsTrue, List, [], ◌∷◌, length, map as map_list, filter, nat_eq, nat_lt, false, ℤ, pos, Option, Some, None, IfSome, refl}
 use Rattle.std.specs.List.{AllByRecursion}
 use Rattle.std.specs.Coded.{Coded, code_by, coded×, coded_ℕ}
 use Rattle.std.specs.FinMap as map
@@ -16,7 +16,7 @@ use Rattle.wsm_semantics.specs.declared.place.Place.{Place}
 use Rattle.wsm_semantics.specs.Query.{Datum}
 use Rattle.wsm_semantics.specs.Panes.{place_cmp, at, window_of}
 use Rattle.wsm_semantics.specs.Replay.{datum}
-use Rattle.wsm_semantics.specs.Summaries.{Plan, Pane, assigned, entered, joined, linked, session_with}
+use Rattle.wsm_semantics.specs.Summaries.{Plan, Pane, assigned, entered, joined, linked, session_with, with_record}
 use Rattle.wsm_panes.specs.Place.{coded_place}
 
 -- the panes, for keys of these numbers, with room for so many live windows of each
@@ -46,6 +46,10 @@ pub record IsKept (old new : Held) : Type 0 where
 -- how entering takes the values that a record is folded by: a plan whose WHERE and FIRE say nothing
 abbrev pub taking : List Kind → List Value → Plan (List Value)
 taking kinds values = record { selects = λ _ _. true; first = λ _ _. values; more = λ held _ _. joins kinds held values; join = joins kinds; row = λ _ _ _. None }
+
+-- a pane, if there is one, with one record more
+abbrev pub with_one_more : List Kind → List Value → Option (Pane (List Value)) → Pane (List Value)
+with_one_more kinds values pane = with_record (taking kinds values) (datum 0 0 (pos 0) []) pane
 
 -- what is held with a record of a key and a time, that is folded by these values
 abbrev pub with_entered : List Kind → ℕ → ℤ → List Value → Held → List (Place × Pane (List Value))

@@ -13,9 +13,10 @@ ghost use Rattle.wsm_semantics.specs.Summaries.{joined_all, linked, merged_sessi
 ghost use Rattle.wsm_sessions.specs.Live.{Fits};
 ghost use Rattle.wsm_panes.specs.Held.{CanJoin, CanRecord, CanJoinAll, taking, windows_of_key};
 
-use crate::entering::{place_of, with_one_more};
+use crate::entering::place_of;
 use crate::list::ListTable;
 use crate::pane::Pane;
+use crate::recording::with_one_more;
 use crate::table::PaneTable;
 use wsm_record::{Kind, Value};
 use wsm_semantics::Place;

@@ -9,6 +9,7 @@
 pub use held::{Entered, HeldPanes, MAX_PANES};
 pub use list::ListTable;
 pub use pane::Pane;
+pub use recording::TakesRecords;
 pub use ring::Ring;
 pub use ring_table::RingTable;
 pub use table::{Found, PaneTable};
@@ -19,6 +20,7 @@ mod held;
 mod joining;
 mod list;
 mod pane;
+mod recording;
 mod ring;
 mod ring_table;
 mod slots;

@@ -1,15 +1,18 @@
 //! A table kept as a sorted list.
 
-ghost use Rattle.std.specs.Prelude.{◌≡◌, ◌⊎◌, ◌<◌, ◌≤◌, IfOk, IfErr, IsTrue, true, filter, vec_len, vec_capacity, IsSome, slice_get};
+ghost use Rattle.std.specs.Prelude.{◌≡◌, ◌⊎◌, ◌<◌, ◌≤◌, IfOk, IfErr, IsTrue, true, filter, vec_len, vec_capacity, IsSome, IfSome, length, slice_get};
 ghost use Rattle.std.specs.FinMap as map;
+ghost use Rattle.wsm_fold.specs.Fold.{are_of_kinds};
 ghost use Rattle.wsm_panes.specs.Place.{place_cmp, is_kept, is_other};
 ghost use Rattle.wsm_panes.specs.Search.{IsAt, IsGapFor, IsSlotFor};
 ghost use Rattle.wsm_panes.specs.Walk.{following};
 
+use crate::recording::TakesRecords;
 use crate::table::{Found, PaneTable};
 use std::alloc::{AllocError, Global};
 use std::cmp::Ordering;
 use std::marker::Model;
+use wsm_record::{Kind, Value};
 use wsm_semantics::Place;
 
 /// A table kept as a sorted list: a pane is found by binary search, and a new one moves those
@@ -51,7 +54,7 @@ impl<P: Copy> ListTable<P> {
     }
 }
 
-impl<P: Copy> PaneTable<P> for ListTable<P> {
+impl<P: TakesRecords> PaneTable<P> for ListTable<P> {
     ghost use Rattle.std.specs.Prelude.{ℕ};
 
     ghost Room = { ℕ };
@@ -94,6 +97,10 @@ impl<P: Copy> PaneTable<P> for ListTable<P> {
 
     fn next(&self, place: Place) -> Option<(Place, P)> {
         entry_at(&self.entries, behind(&self.entries, place))
+    }
+
+    fn enter(&mut self, place: Place, kinds: &[Kind], values: &[Value]) {
+        enter_in(&mut self.entries, place, kinds, values);
     }
 
     fn at(&self, i: usize) -> (Place, P) {
@@ -169,6 +176,27 @@ fn set_slot<P: Copy>(entries: &mut Vec<(Place, P)>, slot: usize, place: Place, p
         entries[slot] = (place, pane);
     } else {
         entries.insert(slot, (place, pane)).unwrap();
+    }
+}
+
+// Puts a record into the pane at a place, and makes a pane of it where none is.
+fn enter_in<P: TakesRecords>(
+    entries: &mut Vec<(Place, P)>,
+    place: Place,
+    kinds: &[Kind],
+    values: &[Value],
+)
+    requires sorted { IsTrue (map.is_sorted place_cmp entries.old.items) }
+    requires few { length values.now ≤ 16 }
+    requires types { IsTrue (are_of_kinds kinds.now values.now) }
+    requires room { (IsSome (map.find place_cmp place entries.old.items)) ⊎ (vec_len entries.old < vec_capacity entries.old) }
+    requires takes { IfSome (map.find place_cmp place entries.old.items) (P.CanTakeRecord kinds.now values.now) }
+    ensures items { entries.new.items ≡ map.put place_cmp place (P.with_record kinds.now values.now (map.find place_cmp place entries.old.items)) entries.old.items }
+    ensures capacity { vec_capacity entries.new ≡ vec_capacity entries.old }
+{
+    match search(entries, place) {
+        Ok(i) => entries[i].1.record(kinds, values),
+        Err(i) => entries.insert(i, (place, P::first(values))).unwrap(),
     }
 }
 

@@ -10,6 +10,7 @@ ghost use Rattle.wsm_semantics.specs.Summaries as kept;
 ghost use Rattle.wsm_semantics.specs.declared.standing.Standing.TheVariants.{Row};
 ghost use Rattle.wsm_panes.specs.Held.{CanJoin, CanJoinFolds, CanRecord, CanTake, taking};
 
+use crate::recording::TakesRecords;
 use std::marker::Model;
 use wsm_fold::Folded;
 use wsm_record::{Kind, Mode, Value};
@@ -90,31 +91,6 @@ impl Pane {
         }
     }
 
-    /// A pane of one record, which is folded by these values.
-    pub(crate) fn first(values: &[Value]) -> Pane
-        requires { length values.now ≤ 16 }
-        ensures { (d : Datum) → result ≡ with_record (taking [] values.now) d None }
-    {
-        Pane {
-            count: 1,
-            unshown: 1,
-            folded: Some(Folded::start(values)),
-            stands: Standing::Unfired,
-        }
-    }
-
-    /// Puts a record in, which is folded by these values.
-    pub(crate) fn record(&mut self, kinds: &[Kind], values: &[Value])
-        requires few { length values.now ≤ 16 }
-        requires types { IsTrue (are_of_kinds kinds.now values.now) }
-        requires room { CanRecord kinds.now values.now self.old }
-        ensures { (d : Datum) → self.new ≡ with_record (taking kinds.now values.now) d (Some self.old) }
-    {
-        self.count += 1;
-        self.unshown += 1;
-        fold_in(&mut self.folded, kinds, values);
-    }
-
     /// Puts the records of another pane in.
     pub(crate) fn join(&mut self, kinds: &[Kind], other: &Pane)
         requires { CanJoin kinds.now self.old other.now }
@@ -124,6 +100,29 @@ impl Pane {
         self.unshown += other.unshown;
         self.folded = joined_folds(kinds, self.folded, other.folded);
         self.stands = joined_standing(self.stands, other.stands);
+    }
+}
+
+impl TakesRecords for Pane {
+    ghost use Rattle.wsm_panes.specs.Held.{CanRecord, with_one_more};
+
+    ghost CanTakeRecord = { CanRecord };
+
+    ghost with_record = { with_one_more };
+
+    fn first(values: &[Value]) -> Pane {
+        Pane {
+            count: 1,
+            unshown: 1,
+            folded: Some(Folded::start(values)),
+            stands: Standing::Unfired,
+        }
+    }
+
+    fn record(&mut self, kinds: &[Kind], values: &[Value]) {
+        self.count += 1;
+        self.unshown += 1;
+        fold_in(&mut self.folded, kinds, values);
     }
 }
 

@@ -5,6 +5,7 @@ ghost use Rattle.std.specs.FinMap as map;
 ghost use Rattle.wsm_panes.specs.Place.{place_cmp};
 ghost use Rattle.wsm_panes.specs.Ring.{IsRing, RingAdmits, window_number, slot_of};
 
+use crate::recording::TakesRecords;
 use crate::ring::Ring;
 use crate::slots::{Slot, clear_expired, fill, first_from, free_slots, pane_at, take_out};
 use crate::table::{Found, PaneTable};
@@ -59,7 +60,7 @@ impl<P: Copy> RingTable<P> {
     }
 }
 
-impl<P: Copy> PaneTable<P> for RingTable<P> {
+impl<P: TakesRecords> PaneTable<P> for RingTable<P> {
     ghost use Rattle.wsm_panes.specs.declared.ring.Ring.{Ring as AnyRing};
 
     ghost Room = { AnyRing };

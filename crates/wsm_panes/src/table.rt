@@ -1,11 +1,14 @@
 //! What a table of panes does.
 
-ghost use Rattle.std.specs.Prelude.{◌≡◌, ◌↔◌, ◌<◌, ℕ, Some, true, IsTrue, slice_get};
+ghost use Rattle.std.specs.Prelude.{◌≡◌, ◌↔◌, ◌<◌, ◌≤◌, ℕ, Some, true, IfSome, IsTrue, length, slice_get};
 ghost use Rattle.std.specs.FinMap as map;
 ghost use Rattle.wsm_panes.specs.Place.{place_cmp, is_kept};
 ghost use Rattle.wsm_panes.specs.Walk.{following};
+ghost use Rattle.wsm_fold.specs.Fold.{are_of_kinds};
 ghost use Rattle.wsm_semantics.specs.declared.place.Place.{Place as AnyPlace};
 
+use crate::recording::{TakesRecords, with_one_more};
+use wsm_record::{Kind, Value};
 use wsm_semantics::Place;
 
 /// What a search comes to: the slot of a place, and the pane that is there.
@@ -20,7 +23,7 @@ pub struct Found<P> {
 /// A finite map from places to panes, with room for some of them.
 ///
 /// No call takes memory: the room was reserved when the table was opened.
-pub trait PaneTable<P: Copy> {
+pub trait PaneTable<P: TakesRecords> {
     ghost Room: { Type 0 };
 
     ghost panes: { Self → map.FinMap place_cmp P };
@@ -86,6 +89,20 @@ pub trait PaneTable<P: Copy> {
     {
         let slot = self.find(place).slot;
         self.put_at(slot, place, pane);
+    }
+
+    /// Puts a record into the pane at a place, and makes a pane of it where none is. The record is
+    /// folded by the values.
+    fn enter(&mut self, place: Place, kinds: &[Kind], values: &[Value])
+        requires few { length values.now ≤ 16 }
+        requires types { IsTrue (are_of_kinds kinds.now values.now) }
+        requires admits { Admits (room self.old) (panes self.old) place }
+        requires takes { IfSome (map.get (panes self.old) place) (P.CanTakeRecord kinds.now values.now) }
+        ensures panes { panes self.new ≡ map.insert (panes self.old) place (P.with_record kinds.now values.now (map.get (panes self.old) place)) }
+        ensures room { room self.new ≡ room self.old }
+    {
+        let found = self.find(place);
+        self.put_at(found.slot, place, with_one_more(found.pane, kinds, values));
     }
 
     /// The pane number `i` in the order of the places, with its place.

@@ -3,6 +3,7 @@ use Rattle.std.specs.FinMap as map
 use Rattle.wsm_semantics.specs.Panes.{at, window_of}
 use Rattle.wsm_semantics.specs.Replay.{datum}
 use Rattle.wsm_panes.specs.Held.{taking, windows_of_key}
+use Rattle.wsm_panes.proofs.Enters.{any_datum}
 use Rattle.wsm_panes.proofs.Merged.{Puts, admits_it, merged_fits, merged_is, merged_others, merged_windows, session_place}
 use Rattle.wsm_panes.proofs.joining.enter_session.Goals as goal
 
@@ -21,7 +22,7 @@ put-requires c =
       left_is = simp to_z-of_z at c.take_linked-pane.ensures.panes;
       place_is = c.place_of.ensures ∙ ap (at c.args.key) (simp to_z-of_z at c.enter-session.ensures.session);
       pane_is = simp to_z-of_z at c.take_linked-pane.ensures.pane c.args.values.now;
-      value_is = c.with_one_more.ensures (datum 0 c.args.key c.args.time []);
+      value_is = c.with_one_more.ensures ∙ any_datum c.args.kinds.now c.args.values.now (datum 0 c.args.key c.args.time []) c.take_linked-pane.result.0;
     } in
     rw c.take_linked-pane.ensures.room (merged_fits plan c.args.sessions.now.gap c.args.key c.args.time c.args.table.now.panes c.args.sessions.now.windows c.requires.agree c.take_linked-pane.new.table.panes c.place_of.result c.take_linked-pane.result.0 c.with_one_more.result puts c.args.table.now.room c.requires.room)
 
@@ -34,7 +35,7 @@ returns-clause-panes c =
       left_is = simp to_z-of_z at c.take_linked-pane.ensures.panes;
       place_is = c.place_of.ensures ∙ ap (at c.args.key) (simp to_z-of_z at c.enter-session.ensures.session);
       pane_is = simp to_z-of_z at c.take_linked-pane.ensures.pane c.args.values.now;
-      value_is = c.with_one_more.ensures (datum 0 c.args.key c.args.time []);
+      value_is = c.with_one_more.ensures ∙ any_datum c.args.kinds.now c.args.values.now (datum 0 c.args.key c.args.time []) c.take_linked-pane.result.0;
     } in
     ap map.entries c.put.ensures.panes ∙ merged_is plan c.args.sessions.now.gap c.args.key c.args.time c.args.table.now.panes c.args.sessions.now.windows c.requires.agree c.take_linked-pane.new.table.panes c.place_of.result c.take_linked-pane.result.0 c.with_one_more.result puts
 
@@ -53,7 +54,7 @@ returns-clause-agree c =
       left_is = simp to_z-of_z at c.take_linked-pane.ensures.panes;
       place_is = c.place_of.ensures ∙ ap (at c.args.key) (simp to_z-of_z at c.enter-session.ensures.session);
       pane_is = simp to_z-of_z at c.take_linked-pane.ensures.pane c.args.values.now;
-      value_is = c.with_one_more.ensures (datum 0 c.args.key c.args.time []);
+      value_is = c.with_one_more.ensures ∙ any_datum c.args.kinds.now c.args.values.now (datum 0 c.args.key c.args.time []) c.take_linked-pane.result.0;
     } in
     ap (windows_of_key c.args.key) (ap map.entries c.put.ensures.panes ∙ merged_is plan c.args.sessions.now.gap c.args.key c.args.time c.args.table.now.panes c.args.sessions.now.windows c.requires.agree c.take_linked-pane.new.table.panes c.place_of.result c.take_linked-pane.result.0 c.with_one_more.result puts)
     ∙ merged_windows plan c.args.sessions.now.gap c.args.key c.args.time c.args.table.now.panes c.args.sessions.now.windows c.requires.agree c.requires.gap c.requires.times.0 c.requires.times.1
@@ -68,6 +69,6 @@ returns-clause-others c k other =
       left_is = simp to_z-of_z at c.take_linked-pane.ensures.panes;
       place_is = c.place_of.ensures ∙ ap (at c.args.key) (simp to_z-of_z at c.enter-session.ensures.session);
       pane_is = simp to_z-of_z at c.take_linked-pane.ensures.pane c.args.values.now;
-      value_is = c.with_one_more.ensures (datum 0 c.args.key c.args.time []);
+      value_is = c.with_one_more.ensures ∙ any_datum c.args.kinds.now c.args.values.now (datum 0 c.args.key c.args.time []) c.take_linked-pane.result.0;
     } in
     ap (windows_of_key k) (ap map.entries c.put.ensures.panes ∙ merged_is plan c.args.sessions.now.gap c.args.key c.args.time c.args.table.now.panes c.args.sessions.now.windows c.requires.agree c.take_linked-pane.new.table.panes c.place_of.result c.take_linked-pane.result.0 c.with_one_more.result puts) ∙ merged_others plan c.args.sessions.now.gap c.args.key c.args.time c.args.table.now.panes c.args.sessions.now.windows c.requires.agree k other
