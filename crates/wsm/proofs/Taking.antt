@@ -1,5 +1,5 @@
 -- A turn of a row, by what the row says.
-use Rattle.std.proofs.Common.{◌≡◌, ◌∙◌, ◌+◌, ◌++◌, ℕ, suc, List, [], length, map, Ok, Err, sym, ap, subst, arith}
+use Rattle.std.proofs.Common.{◌≡◌, ◌∙◌, ◌+◌, ◌++◌, ℕ, suc, List, [], ◌∷◌, length, map, Ok, Err, sym, ap, subst, arith}
 use Rattle.wsm_record.specs.declared.event.RowFault.{RowFault}
 use Rattle.wsm_record.specs.Event.{Event}
 use Rattle.wsm_admission.specs.Admission.{counter}
@@ -63,3 +63,12 @@ taken_event p old mid new before row e is fits counted fed = subst (Turned p new
 
 pub taken_fault : (p : Program) (old mid new : Turns) (before : List Row) (row : Row) (why : RowFault) → row ≡ Err why → Fits p old before → Counted old mid → Refuses mid new why → Turned p new before row
 taken_fault p old mid new before row why is fits counted refuses = subst (Turned p new before) (sym is) (turned_fault p old mid new before why fits counted refuses)
+
+-- one event more, whose spare vector was kept
+pub fed_kept : (p : Program) (old fed new : Turns) (past : List Event) (e : Event) → new ≡ record fed { spare = new.spare } → Fed p old fed past e → Fed p old new past e
+fed_kept p old fed new past e kept f = record {
+  engine = subst (λ (t : Turns). EngineFits p t.engine (e ∷ past)) (sym kept) f.engine;
+  lines = ap (λ (t : Turns). t.lines.items) kept ∙ f.lines;
+  rows = ap (λ (t : Turns). t.rows) kept ∙ f.rows;
+  faults = ap (λ (t : Turns). t.faults) kept ∙ f.faults;
+}

@@ -9,11 +9,11 @@ use csv::ByteRecord;
 use std::alloc::{AllocError, Global};
 use wsm_admission::Refusal;
 use wsm_csv::{
-    Device, DeviceFault, EndRow, RowRefusal, end_text, fault_text, read_row, refusal_text,
+    Device, DeviceFault, EndRow, RowRefusal, end_text, fault_text, read_row_with, refusal_text,
     write_out,
 };
 use wsm_engine::{Engine, Totals};
-use wsm_record::{Event, RowFault};
+use wsm_record::{Event, RowFault, Value};
 use wsm_verifier::Verified;
 
 /// What the turns so far come to: an engine, and the lines of the last turn.
@@ -21,6 +21,8 @@ use wsm_verifier::Verified;
 pub struct Turns {
     engine: Engine,
     lines: Vec<u8>,
+    // The vector of the last record's values, for those of the next.
+    spare: Vec<Value>,
     // The rows so far, events or not.
     rows: u64,
     // The rows that were no event.
@@ -51,6 +53,7 @@ impl Turns {
         Ok(Turns {
             engine,
             lines: Vec::new(alloc),
+            spare: Vec::new(alloc),
             rows: 0,
             faults: 0,
         })
@@ -62,10 +65,28 @@ impl Turns {
     {
         self.lines.clear();
         self.rows = self.rows.saturating_add(1);
-        match read_row(alloc, self.engine.schema(), row) {
-            Ok(event) => self.feed(&event),
+        match read_row_with(alloc, self.engine.schema(), row, &mut self.spare) {
+            Ok(event) => self.feed_and_keep(event),
             Err(RowRefusal::Fault(why)) => self.refuse(why),
             Err(RowRefusal::Memory) => Err(AllocError),
+        }
+    }
+
+    // The turn of an event, whose vector of values is kept for the next record.
+    fn feed_and_keep(&mut self, event: Event) -> Result<(), AllocError>
+        ensures { (p : Program) (past : List AnyEvent) → EngineFits p self.old.engine past → OnOk result (Fed p self.old self.new past (event_of event)) }
+    {
+        self.feed(&event)?;
+        self.keep(event);
+        Ok(())
+    }
+
+    // Keeps the vector of a record's values.
+    fn keep(&mut self, event: Event)
+        ensures { self.new ≡ record self.old { spare = self.new.spare } }
+    {
+        if let Event::Record { values, .. } = event {
+            self.spare = values;
         }
     }
 

@@ -1,6 +1,6 @@
 //! Reading rows as events.
 
-ghost use Rattle.std.specs.Prelude.{◌≡◌, ◌+◌, ◌<◌, List, drop, length, map, IfErr, IfOk, MatchResult, Err, Ok, Some, slice_get};
+ghost use Rattle.std.specs.Prelude.{◌≡◌, ◌≢◌, ◌+◌, ◌<◌, ◌≤◌, List, drop, length, map, vec_capacity, IfErr, IfOk, MatchResult, OnOk, Err, Ok, Some, slice_get};
 ghost use Rattle.csv.specs.Records.{fields_of};
 ghost use Rattle.wsm_record.specs.Event.{event_of};
 ghost use Rattle.wsm_record.specs.Fields.{field_seen, type_seen};
@@ -11,6 +11,7 @@ ghost use Rattle.wsm_csv.specs.Tags.{row_tag, tag_of};
 use crate::number::read_number;
 use csv::ByteRecord;
 use std::alloc::{AllocError, Global};
+use std::mem;
 use wsm_record::{DeclaredField, Event, FieldType, RowFault, Schema, Value};
 
 /// The cells of a record in front of its fields: its tag, its key and its time.
@@ -66,8 +67,25 @@ pub fn read_row(alloc: Global, schema: &Schema, row: &ByteRecord) -> Result<Even
     ensures fault { IfErr result (λ r. IfFault r (λ f. event_of_cells schema.now (fields_of row.now) ≡ Err f)) }
     ensures memory { result ≡ Err RowRefusal.Memory → slice_get (fields_of row.now) 0 ≡ Some record_tag }
 {
+    read_row_with(alloc, schema, row, &mut Vec::new(alloc))
+}
+
+/// The event of a row, as [`read_row`] reads it, with a record's values in a spare vector: what stood
+/// in it is gone, and an empty one is left in its place. Where it has room for a value of each field
+/// no memory is asked for. A row that is no record leaves the vector its room.
+pub fn read_row_with(
+    alloc: Global,
+    schema: &Schema,
+    row: &ByteRecord,
+    spare: &mut Vec<Value>,
+) -> Result<Event, RowRefusal>
+    ensures event { IfOk result (λ e. event_of_cells schema.now (fields_of row.now) ≡ Ok (event_of e)) }
+    ensures fault { IfErr result (λ r. IfFault r (λ f. event_of_cells schema.now (fields_of row.now) ≡ Err f)) }
+    ensures memory { result ≡ Err RowRefusal.Memory → slice_get (fields_of row.now) 0 ≡ Some record_tag }
+    ensures room { length schema.now.fields ≤ vec_capacity spare.old → result ≢ Err RowRefusal.Memory }
+{
     match read_tag(row) {
-        Some(Tag::Record) => read_record(alloc, schema, row),
+        Some(Tag::Record) => read_record(alloc, schema, row, spare),
         Some(Tag::Watermark) => Ok(read_watermark(row)?),
         None => Err(RowRefusal::Fault(RowFault::BadTag)),
     }
@@ -89,9 +107,15 @@ fn cell_tag(cell: &[u8]) -> Option<Tag>
     }
 }
 
-fn read_record(alloc: Global, schema: &Schema, row: &ByteRecord) -> Result<Event, RowRefusal>
+fn read_record(
+    alloc: Global,
+    schema: &Schema,
+    row: &ByteRecord,
+    spare: &mut Vec<Value>,
+) -> Result<Event, RowRefusal>
     ensures event { IfOk result (λ e. record_of schema.now (drop 1 (fields_of row.now)) ≡ Ok (event_of e)) }
     ensures fault { IfErr result (λ r. IfFault r (λ f. record_of schema.now (drop 1 (fields_of row.now)) ≡ Err f)) }
+    ensures room { length schema.now.fields ≤ vec_capacity spare.old → result ≢ Err RowRefusal.Memory }
 {
     let fields = schema.fields();
     if row.len() != RECORD_HEAD + fields.len() {
@@ -99,7 +123,8 @@ fn read_record(alloc: Global, schema: &Schema, row: &ByteRecord) -> Result<Event
     }
     let key = schema.key_number(cell_at(row, 1));
     let time = read_time(cell_at(row, 2))?;
-    let values = read_values(alloc, fields, row)?;
+    read_values(fields, row, spare)?;
+    let values = mem::replace(spare, Vec::new(alloc));
     Ok(Event::Record { key, time, values })
 }
 
@@ -113,22 +138,24 @@ fn read_watermark(row: &ByteRecord) -> Result<Event, RowFault>
     Ok(Event::Watermark(time))
 }
 
-// The values of a record, or the first fault.
+// Reads the values of a record in place of those that are there, up to the first fault.
 fn read_values(
-    alloc: Global,
     fields: &[DeclaredField],
     row: &ByteRecord,
-) -> Result<Vec<Value>, RowRefusal>
+    values: &mut Vec<Value>,
+) -> Result<(), RowRefusal>
     requires { length (fields_of row.now) ≡ RECORD_HEAD + length fields.now }
-    ensures values { IfOk result (λ v. values_of (map field_seen fields.now) (drop RECORD_HEAD (fields_of row.now)) ≡ Ok v.items) }
+    ensures values { OnOk result (values_of (map field_seen fields.now) (drop RECORD_HEAD (fields_of row.now)) ≡ Ok values.new.items) }
     ensures fault { IfErr result (λ r. IfFault r (λ f. values_of (map field_seen fields.now) (drop RECORD_HEAD (fields_of row.now)) ≡ Err f)) }
+    ensures room { length fields.now ≤ vec_capacity values.old → result ≢ Err RowRefusal.Memory }
 {
-    let mut values = Vec::with_capacity(alloc, fields.len())?;
+    values.clear();
+    values.reserve(fields.len())?;
     for (place, field) in fields.iter().enumerate() {
         let value = read_value(&field.ty, cell_at(row, RECORD_HEAD + place))?;
         values.push_reserved(value);
     }
-    Ok(values)
+    Ok(())
 }
 
 fn read_value(ty: &FieldType, cell: &[u8]) -> Result<Value, RowFault>
