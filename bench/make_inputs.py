@@ -1,5 +1,5 @@
 #!/usr/bin/env python3
-"""Writes texts of a megabyte and a large program into a folder: make_inputs.py FOLDER"""
+"""Writes texts of a megabyte, a wide query and a large program into a folder: make_inputs.py FOLDER"""
 import struct
 import sys
 from pathlib import Path
@@ -63,6 +63,14 @@ def large_program():
     return header((10**6, 10**6, 6)) + section(where) + section(update) + section(fire)
 
 
+def wide_query(columns):
+    """Columns of 64 operators each, 36 inside of a SUM and 28 behind it: with 16 of them UPDATE has 993 instructions."""
+    inside = "n" + " + -1" * 12 + " + 1" * 12
+    column = f"SUM({inside})" + " + 1" * 28
+    head = "KEYS a, b;\nFIELD n INT 0..100;\nSTART 0; SKEW 100; LATENESS 10; RECORDS 1000;\nSELECT "
+    return head + ",\n".join([column] * columns) + "\nWINDOW FIXED 60 ACCUMULATING\nEMIT PANES;\n"
+
+
 def main(folder):
     folder = Path(folder)
     folder.mkdir(exist_ok=True)
@@ -73,6 +81,8 @@ def main(folder):
     tail = b"; START 0; SKEW 0; LATENESS 0; RECORDS 1; SELECT COUNT(*) WINDOW FIXED 1 ACCUMULATING EMIT PANES;"
     (folder / "keys.wsm").write_bytes(b"KEYS " + keys + tail)
     (folder / "large.wsmp").write_bytes(large_program())
+    for columns in [1, 2, 4, 8, 16]:
+        (folder / f"wide{columns}.wsm").write_text(wide_query(columns))
 
 
 main(sys.argv[1])
