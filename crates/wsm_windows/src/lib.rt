@@ -11,4 +11,6 @@ pub use window::{PaneKind, Shape, Window};
 
 mod assignment;
 mod life;
+#[cfg(test)]
+mod tests;
 mod window;
