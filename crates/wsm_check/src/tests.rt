@@ -65,13 +65,33 @@ fn selections(rt: HostRuntime) -> Result<(), Fail> {
             ("COUNT(*), SUM(n)", "ok"),
             ("c.red, KEY = KEY.b WHERE c = c.blue AND n > 1", "ok"),
             ("COUNT(*), n", "C4 FieldOutsideAggregate in column 2"),
-            ("SUM(COUNT(*))", "C5 AggregateNested in column 1"),
-            ("SUM(n) + TRUE", "C2 Type in column 1"),
             ("1 WHERE c = d.red", "C2 Type in where"),
             ("1 WHERE ANY(SUM(n) > 1)", "C6 AggregateInWhere in where"),
-            ("1 WHERE c = c.green", "C1 UnknownName in where"),
             ("1 HAVING COUNT(*)", "C2 Type in having"),
             ("KEY.c", "C1 UnknownName in column 1"),
+        ],
+    )
+}
+
+// Each selection is refused, and the one behind it isn't.
+#[test]
+fn neighbours(rt: HostRuntime) -> Result<(), Fail> {
+    expect(
+        &rt,
+        rt.alloc(),
+        &[
+            ("m", "C1 UnknownName in column 1"),
+            ("KEY", "ok"),
+            ("1 WHERE c = c.green", "C1 UnknownName in where"),
+            ("1 WHERE c = c.blue", "ok"),
+            ("SUM(n) = TRUE", "C2 Type in column 1"),
+            ("SUM(n) = 1", "ok"),
+            ("n", "C4 FieldOutsideAggregate in column 1"),
+            ("MAX(n)", "ok"),
+            ("SUM(COUNT(*))", "C5 AggregateNested in column 1"),
+            ("SUM(n) + COUNT(*)", "ok"),
+            ("1 WHERE SUM(n) > 1", "C6 AggregateInWhere in where"),
+            ("1 HAVING SUM(n) > 1", "ok"),
         ],
     )
 }
