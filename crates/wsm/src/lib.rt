@@ -14,6 +14,22 @@
 //!
 //! give the lines `pane,on_time,a,0,60,1,7` and `end,2,1,0,0,1`.
 //!
+//! In code, with `text` and `rows` for them:
+//!
+//! ```rust
+//! use wsm::{Guarded, compile_text, run_program, run_query};
+//!
+//! let mut out = Guarded::new(Vec::new(alloc));
+//! let totals = run_query(alloc, text, rows, &mut out)?;
+//! assert_eq!(rt; (totals.rows, totals.panes), (2, 1));
+//! let written = out.into_writer(); // the two lines
+//!
+//! let program = compile_text(alloc, text)?;
+//! let mut again = Guarded::new(Vec::new(alloc));
+//! run_program(alloc, &program, rows, &mut again)?;
+//! assert_eq!(rt; again.into_writer().as_slice(), written.as_slice());
+//! ```
+//!
 //! What the device takes is exactly the text that the query means for the rows that were read, or a
 //! beginning of it where the run ends early, and the [`End`] says why. A text that is no query ends
 //! with its first [`Refusal`], a program that is not accepted with the verifier's rejection, and then

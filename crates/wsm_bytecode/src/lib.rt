@@ -5,6 +5,22 @@
 //! program always names only fields, accumulators and names that its header has, and its numbers
 //! lie in their ranges: [`Program::new`] and [`decode`] refuse anything else.
 //!
+//! Where `bytes` is the program that counts the records of two keys in windows of 60 and sums their
+//! one field:
+//!
+//! ```rust
+//! use wsm_bytecode::{DecodeRefusal, Instr, SectionId, decode, disassemble, encode};
+//!
+//! let program = decode(alloc, bytes)?;
+//! let update = [Instr::Field(0), Instr::Fold(0), Instr::Return];
+//! assert_eq!(rt; program.section(SectionId::Update), update.as_slice());
+//! assert_eq!(rt; encode(alloc, &program)?.as_slice(), bytes); // a program has one spelling
+//! let listing = disassemble(alloc, &program)?; // as `update 0 FIELD 0`, a line for each
+//!
+//! let cut = decode(alloc, &bytes[..bytes.len() - 1]);
+//! assert!(rt; cut.is_err_and(|e| e == DecodeRefusal::Truncated));
+//! ```
+//!
 //! - `instr`: the instruction table
 //! - `program`: headers and programs
 //! - `refusal`: why bytes are no program

@@ -2,6 +2,30 @@
 //!
 //! [`parse`] gives the tree of a text exactly where the grammar has the text, and else the first
 //! fault with its line and column.
+//!
+//! With this `text`
+//!
+//! ```text
+//! KEYS a, b; FIELD n INT 0..100; START 0; SKEW 100; LATENESS 10; RECORDS 1000;
+//! SELECT COUNT(*), SUM(n) WINDOW FIXED 60 ACCUMULATING EMIT PANES;
+//! ```
+//!
+//! a reader of texts can do
+//!
+//! ```rust
+//! use wsm_query::{parse, print};
+//! use wsm_tokens::{Fault, ParseRefusal, Place};
+//! use wsm_windows::Shape;
+//!
+//! let query = parse(alloc, text)?;
+//! assert_eq!(rt; query.shape, Shape::Fixed(60));
+//! assert_eq!(rt; query.columns.len(), 2);
+//! let printed = print(alloc, &query)?; // parsed again, it gives the same query
+//!
+//! let place = Place { line: 1, column: 8 };
+//! let refusal = ParseRefusal::Text(Fault::Unexpected, place);
+//! assert!(rt; parse(alloc, b"KEYS a b;").is_err_and(|e| e == refusal));
+//! ```
 #![tactic(auto)]
 
 pub use expr::{Expr, Op};

@@ -3,6 +3,23 @@
 //! A [`Relation`] is a bag of rows, kept in row order. [`istream`], [`dstream`] and [`rstream`] give
 //! the rows that one has more often than another, or all its rows. [`Changes`] gives the same from
 //! what was gained and lost in between.
+//!
+//! Where `row(n)` is a row of the one column n:
+//!
+//! ```rust
+//! use wsm_record::Value::Int;
+//! use wsm_relation::{Relation, istream};
+//!
+//! let mut before = Relation::open(alloc, 2, 1)?; // at most two rows of one column
+//! let mut now = Relation::open(alloc, 2, 1)?;
+//! before.add(row(5));
+//! now.add(row(18));
+//! now.add(row(5));
+//! let mut gained = Vec::with_capacity(alloc, 2)?;
+//! istream(&before, &now, &mut gained);
+//! assert_eq!(rt; gained.len(), 1);
+//! assert_eq!(rt; gained[0].as_slice(), [Int(18)].as_slice());
+//! ```
 #![tactic(auto)]
 
 pub use changes::Changes;

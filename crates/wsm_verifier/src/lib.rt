@@ -8,6 +8,24 @@
 //! the hull of all that the ways to it carry (Cousot & Cousot 1977): the types on the stack, an
 //! interval for each number, and which accumulators are folded. The cost of a section is its longest
 //! path, in instructions.
+//!
+//! Where `bytes` is the program that counts the records of two keys in windows of 60 and sums their
+//! field n of 0 to 100, and `wrong` one that writes `100 / SUM(n)`:
+//!
+//! ```rust
+//! use wsm_bytecode::{SectionId, decode};
+//! use wsm_interval::Interval;
+//! use wsm_verifier::{Part, Rejection, Rule, verify};
+//!
+//! if let Ok(verified) = verify(alloc, decode(alloc, bytes)?) {
+//!     assert_eq!(rt; verified.costs().per_record, 5);
+//!     // 1 to 1000 records have numbers of 0 to 100.
+//!     assert_eq!(rt; verified.range(0), Some(Interval { lo: 0, hi: 100_000 }));
+//! }
+//! let part = Part::Code(SectionId::Fire);
+//! let fault = Rejection { part, place: 2, rule: Rule::MayDivideByZero };
+//! assert!(rt; verify(alloc, decode(alloc, wrong)?).is_err_and(|(_program, e)| e == fault));
+//! ```
 #![tactic(auto)]
 
 pub use costs::{Costs, needed};
