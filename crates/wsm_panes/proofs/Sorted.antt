@@ -67,7 +67,7 @@ module _ {K X : Type 0} (R : K → K → Ordering) where
   absent_tail e es d k n m is r r_is other rest = r_is ∙ rest (λ w at. (rw is at other) (omega arith) at)
 
   -- a key below all is not there
-  find_below : IsTotalOrder R → (es : List (K × X)) (x k : K) → T (below_all R x es) → R k x ≡ Less → find R k es ≡ None
+  pub find_below : IsTotalOrder R → (es : List (K × X)) (x k : K) → T (below_all R x es) → R k x ≡ Less → find R k es ≡ None
   find_below o [] x k below less = refl
   find_below o (e ∷ es) x k below less =
       let next : R k e.0 ≡ Less = o.trans k x e.0 less (lesser (R x e.0) (first_of_and (is_lt (R x e.0)) _ below)) in

@@ -12,7 +12,7 @@ pub use pane::Pane;
 pub use recording::TakesRecords;
 pub use ring::Ring;
 pub use ring_table::RingTable;
-pub use table::{Found, PaneTable};
+pub use table::PaneTable;
 pub use wsm_semantics::Place;
 
 mod entering;
@@ -24,4 +24,5 @@ mod recording;
 mod ring;
 mod ring_table;
 mod slots;
+mod store;
 mod table;

@@ -1,41 +1,48 @@
 //! A table kept as a sorted list.
 
-ghost use Rattle.std.specs.Prelude.{◌≡◌, ◌⊎◌, ◌<◌, ◌≤◌, IfOk, IfErr, IsTrue, true, filter, vec_len, vec_capacity, IsSome, IfSome, length, slice_get};
+ghost use Rattle.std.specs.Prelude.{◌≡◌, ◌⊎◌, ◌<◌, ◌≤◌, ◌+◌, ℕ, IfOk, IfErr, IsTrue, true, not, drop, filter, take, vec_len, vec_capacity, IsSome, IfSome, length, slice_get};
 ghost use Rattle.std.specs.FinMap as map;
 ghost use Rattle.wsm_fold.specs.Fold.{are_of_kinds};
 ghost use Rattle.wsm_panes.specs.Place.{place_cmp, is_kept, is_other};
-ghost use Rattle.wsm_panes.specs.Search.{IsAt, IsGapFor, IsSlotFor};
+ghost use Rattle.wsm_panes.specs.Search.{IsAt, IsGapFor};
+ghost use Rattle.wsm_panes.specs.Stored.{AreStored, listed, shown, uses};
 ghost use Rattle.wsm_panes.specs.Walk.{following};
 
 use crate::recording::TakesRecords;
-use crate::table::{Found, PaneTable};
+use crate::store::Store;
+use crate::table::PaneTable;
 use std::alloc::{AllocError, Global};
 use std::cmp::Ordering;
 use std::marker::Model;
 use wsm_record::{Kind, Value};
 use wsm_semantics::Place;
 
-/// A table kept as a sorted list: a pane is found by binary search, and a new one moves those
-/// behind it.
+/// A table kept as a sorted list of places, each with the slot of its pane: a place is found by
+/// binary search, and a new one moves those behind it. Panes stay in their slots.
 #[derive(Drop)]
 pub struct ListTable<P> {
-    entries: Vec<(Place, P)>,
+    entries: Vec<Entry>,
+    store: Store<P>,
     room: usize,
 }
 
+// A place, and the slot of its pane.
+type Entry = (Place, usize);
+
 impl<P> Model for ListTable<P> {
-    ghost use Rattle.std.specs.Prelude.{◌≤◌, IsTrue, vec_len, vec_capacity};
-    ghost use Rattle.wsm_panes.specs.Place.{place_cmp};
     ghost use Rattle.wsm_panes.specs.Table.{Table, coded_table};
+    ghost use Rattle.wsm_panes.specs.Stored.{shown};
     ghost use Rattle.std.specs.FinMap as map;
 
     ghost Value = { Table P };
 
     ghost coded = { coded_table P.code };
 
-    ghost view = { λ a. record { panes = map.from_sorted a.entries.items; room = a.room } };
+    ghost view = { λ a. record { panes = map.from_sorted (shown a.store.panes.items a.entries.items); room = a.room } };
 
-    ghost invariant = { λ a. IsTrue (map.is_sorted place_cmp a.entries.items) × (vec_len a.entries ≤ a.room) × (a.room ≤ vec_capacity a.entries) };
+    ghost use Rattle.wsm_panes.specs.ListState.{IsSound};
+
+    ghost invariant = { λ a. IsSound a };
 }
 
 impl<P: Copy> ListTable<P> {
@@ -49,6 +56,7 @@ impl<P: Copy> ListTable<P> {
     {
         Ok(ListTable {
             entries: Vec::with_capacity(alloc, room)?,
+            store: Store::open(alloc, room)?,
             room,
         })
     }
@@ -65,26 +73,24 @@ impl<P: TakesRecords> PaneTable<P> for ListTable<P> {
 
     ghost Admits = { λ room ps place. (map.contains_key ps place ≡ true) ⊎ (map.len ps < room) };
 
-    ghost IsSlot = { λ room ps place i. IsSlotFor (map.entries ps) place i };
-
-    fn find(&self, place: Place) -> Found<P> {
-        find_slot(&self.entries, place)
+    fn get(&self, place: Place) -> Option<P> {
+        pane_at(&self.entries, &self.store, place)
     }
 
     fn admits(&self, place: Place) -> bool {
         self.len() < self.room || self.get(place).is_some()
     }
 
-    fn put_at(&mut self, slot: usize, place: Place, pane: P) {
-        set_slot(&mut self.entries, slot, place, pane);
+    fn put(&mut self, place: Place, pane: P) {
+        put_in(&mut self.entries, &mut self.store, place, pane);
     }
 
     fn remove(&mut self, place: Place) {
-        take_out(&mut self.entries, place);
+        take_out(&mut self.entries, &mut self.store, place);
     }
 
     fn drop_expired(&mut self, limit: i64) {
-        keep_past(&mut self.entries, limit);
+        keep_past(&mut self.entries, &mut self.store, limit);
     }
 
     fn len(&self) -> usize {
@@ -92,41 +98,35 @@ impl<P: TakesRecords> PaneTable<P> for ListTable<P> {
     }
 
     fn first(&self) -> Option<(Place, P)> {
-        entry_at(&self.entries, 0)
+        entry_at(&self.entries, &self.store, 0)
     }
 
     fn next(&self, place: Place) -> Option<(Place, P)> {
-        entry_at(&self.entries, behind(&self.entries, place))
+        entry_at(&self.entries, &self.store, behind(&self.entries, place))
     }
 
     fn enter(&mut self, place: Place, kinds: &[Kind], values: &[Value]) {
-        enter_in(&mut self.entries, place, kinds, values);
+        enter_in(&mut self.entries, &mut self.store, place, kinds, values);
     }
 
     fn at(&self, i: usize) -> (Place, P) {
-        self.entries[i]
+        let (place, slot) = self.entries[i];
+        (place, self.store.get(slot))
     }
 }
 
-fn find_slot<P: Copy>(entries: &[(Place, P)], place: Place) -> Found<P>
-    requires { IsTrue (map.is_sorted place_cmp entries.now) }
-    ensures slot { IsSlotFor entries.now place result.slot }
-    ensures pane { result.pane ≡ map.find place_cmp place entries.now }
+fn pane_at<P: Copy>(entries: &[Entry], store: &Store<P>, place: Place) -> Option<P>
+    requires { AreStored store.now.panes.items store.now.free.items entries.now }
+    ensures { result ≡ map.find place_cmp place (shown store.now.panes.items entries.now) }
 {
     match search(entries, place) {
-        Ok(i) => Found {
-            slot: i,
-            pane: Some(entries[i].1),
-        },
-        Err(i) => Found {
-            slot: i,
-            pane: None,
-        },
+        Ok(i) => Some(store.get(entries[i].1)),
+        Err(_) => None,
     }
 }
 
 // Where the entries behind a place begin.
-fn behind<P: Copy>(entries: &[(Place, P)], place: Place) -> usize
+fn behind(entries: &[Entry], place: Place) -> usize
     requires { IsTrue (map.is_sorted place_cmp entries.now) }
     ensures { following place entries.now ≡ slice_get entries.now result }
 {
@@ -136,18 +136,20 @@ fn behind<P: Copy>(entries: &[(Place, P)], place: Place) -> usize
     }
 }
 
-fn entry_at<P: Copy>(entries: &[(Place, P)], i: usize) -> Option<(Place, P)>
-    ensures { result ≡ slice_get entries.now i }
+fn entry_at<P: Copy>(entries: &[Entry], store: &Store<P>, i: usize) -> Option<(Place, P)>
+    requires { AreStored store.now.panes.items store.now.free.items entries.now }
+    ensures { result ≡ slice_get (shown store.now.panes.items entries.now) i }
 {
     if i < entries.len() {
-        Some(entries[i])
+        let (place, slot) = entries[i];
+        Some((place, store.get(slot)))
     } else {
         None
     }
 }
 
 // Where the place is, or where it would go.
-fn search<P: Copy>(entries: &[(Place, P)], place: Place) -> Result<usize, usize>
+fn search(entries: &[Entry], place: Place) -> Result<usize, usize>
     requires { IsTrue (map.is_sorted place_cmp entries.now) }
     ensures found { IfOk result (IsAt entries.now place) }
     ensures absent { IfErr result (IsGapFor entries.now place) }
@@ -165,59 +167,118 @@ fn search<P: Copy>(entries: &[(Place, P)], place: Place) -> Result<usize, usize>
     Err(low)
 }
 
-fn set_slot<P: Copy>(entries: &mut Vec<(Place, P)>, slot: usize, place: Place, pane: P)
-    requires sorted { IsTrue (map.is_sorted place_cmp entries.old.items) }
-    requires slot { IsSlotFor entries.old.items place slot }
-    requires room { (IsSome (map.find place_cmp place entries.old.items)) ⊎ (vec_len entries.old < vec_capacity entries.old) }
-    ensures items { entries.new.items ≡ map.put place_cmp place pane entries.old.items }
-    ensures capacity { vec_capacity entries.new ≡ vec_capacity entries.old }
+// Sets the pane at a place.
+fn put_in<P: Copy>(entries: &mut Vec<Entry>, store: &mut Store<P>, place: Place, pane: P)
+    requires stored { AreStored store.old.panes.items store.old.free.items entries.old.items }
+    requires room { (IsSome (map.find place_cmp place entries.old.items)) ⊎ ((vec_len entries.old < vec_capacity entries.old) × (vec_len entries.old < vec_capacity store.old.panes)) }
+    ensures shown { shown store.new.panes.items entries.new.items ≡ map.put place_cmp place pane (shown store.old.panes.items entries.old.items) }
+    ensures stored { AreStored store.new.panes.items store.new.free.items entries.new.items }
+    ensures room { (vec_capacity entries.new ≡ vec_capacity entries.old) × (vec_capacity store.new.panes ≡ vec_capacity store.old.panes) × (vec_capacity store.new.free ≡ vec_capacity store.old.free) }
 {
-    if slot < entries.len() && entries[slot].0 == place {
-        entries[slot] = (place, pane);
-    } else {
-        entries.insert(slot, (place, pane)).unwrap();
+    match search(entries, place) {
+        Ok(i) => store.set(entries[i].1, pane),
+        Err(i) => add(entries, store, i, place, pane),
     }
 }
 
 // Puts a record into the pane at a place, and makes a pane of it where none is.
 fn enter_in<P: TakesRecords>(
-    entries: &mut Vec<(Place, P)>,
+    entries: &mut Vec<Entry>,
+    store: &mut Store<P>,
     place: Place,
     kinds: &[Kind],
     values: &[Value],
 )
-    requires sorted { IsTrue (map.is_sorted place_cmp entries.old.items) }
+    requires stored { AreStored store.old.panes.items store.old.free.items entries.old.items }
     requires few { length values.now ≤ 16 }
     requires types { IsTrue (are_of_kinds kinds.now values.now) }
-    requires room { (IsSome (map.find place_cmp place entries.old.items)) ⊎ (vec_len entries.old < vec_capacity entries.old) }
-    requires takes { IfSome (map.find place_cmp place entries.old.items) (P.CanTakeRecord kinds.now values.now) }
-    ensures items { entries.new.items ≡ map.put place_cmp place (P.with_record kinds.now values.now (map.find place_cmp place entries.old.items)) entries.old.items }
-    ensures capacity { vec_capacity entries.new ≡ vec_capacity entries.old }
+    requires room { (IsSome (map.find place_cmp place entries.old.items)) ⊎ ((vec_len entries.old < vec_capacity entries.old) × (vec_len entries.old < vec_capacity store.old.panes)) }
+    requires takes { IfSome (map.find place_cmp place (shown store.old.panes.items entries.old.items)) (P.CanTakeRecord kinds.now values.now) }
+    ensures shown { shown store.new.panes.items entries.new.items ≡ map.put place_cmp place (P.with_record kinds.now values.now (map.find place_cmp place (shown store.old.panes.items entries.old.items))) (shown store.old.panes.items entries.old.items) }
+    ensures stored { AreStored store.new.panes.items store.new.free.items entries.new.items }
+    ensures room { (vec_capacity entries.new ≡ vec_capacity entries.old) × (vec_capacity store.new.panes ≡ vec_capacity store.old.panes) × (vec_capacity store.new.free ≡ vec_capacity store.old.free) }
 {
     match search(entries, place) {
-        Ok(i) => entries[i].1.record(kinds, values),
-        Err(i) => entries.insert(i, (place, P::first(values))).unwrap(),
+        Ok(i) => store.record(entries[i].1, kinds, values),
+        Err(i) => add(entries, store, i, place, P::first(values)),
     }
 }
 
-fn take_out<P: Copy>(entries: &mut Vec<(Place, P)>, place: Place)
-    requires { IsTrue (map.is_sorted place_cmp entries.old.items) }
-    ensures items { entries.new.items ≡ filter (λ e. is_other place e.0) entries.old.items }
-    ensures len { vec_len entries.new ≤ vec_len entries.old }
-    ensures capacity { vec_capacity entries.new ≡ vec_capacity entries.old }
+// Has a place that no entry is at go in front of an entry, with a pane.
+fn add<P: Copy>(entries: &mut Vec<Entry>, store: &mut Store<P>, i: usize, place: Place, pane: P)
+    requires stored { AreStored store.old.panes.items store.old.free.items entries.old.items }
+    requires gap { IsGapFor entries.old.items place i }
+    requires room { (vec_len entries.old < vec_capacity entries.old) × (vec_len entries.old < vec_capacity store.old.panes) }
+    ensures shown { shown store.new.panes.items entries.new.items ≡ map.put place_cmp place pane (shown store.old.panes.items entries.old.items) }
+    ensures stored { AreStored store.new.panes.items store.new.free.items entries.new.items }
+    ensures room { (vec_capacity entries.new ≡ vec_capacity entries.old) × (vec_capacity store.new.panes ≡ vec_capacity store.old.panes) × (vec_capacity store.new.free ≡ vec_capacity store.old.free) }
+{
+    let slot = store.put(pane);
+    entries.insert(i, (place, slot)).unwrap();
+}
+
+fn take_out<P: Copy>(entries: &mut Vec<Entry>, store: &mut Store<P>, place: Place)
+    requires stored { AreStored store.old.panes.items store.old.free.items entries.old.items }
+    requires room { length store.old.panes.items ≤ vec_capacity store.old.free }
+    ensures shown { shown store.new.panes.items entries.new.items ≡ filter (λ e. is_other place e.0) (shown store.old.panes.items entries.old.items) }
+    ensures stored { AreStored store.new.panes.items store.new.free.items entries.new.items }
+    ensures room { (vec_capacity entries.new ≡ vec_capacity entries.old) × (vec_capacity store.new.panes ≡ vec_capacity store.old.panes) × (vec_capacity store.new.free ≡ vec_capacity store.old.free) }
 {
     match search(entries, place) {
         Ok(i) => {
-            entries.remove(i);
+            let entry = entries.remove(i);
+            store.release(entry.1);
         }
         Err(_) => {}
     }
 }
 
-fn keep_past<P: Copy>(entries: &mut Vec<(Place, P)>, limit: i64)
-    ensures items { entries.new.items ≡ filter (λ e. is_kept limit e.0) entries.old.items }
-    ensures len { vec_len entries.new ≤ vec_len entries.old }
+fn keep_past<P: Copy>(entries: &mut Vec<Entry>, store: &mut Store<P>, limit: i64)
+    requires stored { AreStored store.old.panes.items store.old.free.items entries.old.items }
+    requires room { length store.old.panes.items ≤ vec_capacity store.old.free }
+    ensures shown { shown store.new.panes.items entries.new.items ≡ filter (λ e. is_kept limit e.0) (shown store.old.panes.items entries.old.items) }
+    ensures stored { AreStored store.new.panes.items store.new.free.items entries.new.items }
+    ensures room { (vec_capacity entries.new ≡ vec_capacity entries.old) × (vec_capacity store.new.panes ≡ vec_capacity store.old.panes) × (vec_capacity store.new.free ≡ vec_capacity store.old.free) }
+{
+    let expired = release_expired(entries, store, limit);
+    if expired > 0 {
+        drop_first(entries, expired);
+    }
+}
+
+// Has the slots of the entries that expire be free, and tells how many they are: the first ones.
+fn release_expired<P: Copy>(entries: &[Entry], store: &mut Store<P>, limit: i64) -> usize
+    requires stored { AreStored store.old.panes.items store.old.free.items entries.now }
+    requires room { length store.old.panes.items ≤ vec_capacity store.old.free }
+    ensures within { result ≤ length entries.now }
+    ensures left { filter (λ e. is_kept limit e.0) entries.now ≡ drop result entries.now }
+    ensures panes { store.new.panes.items ≡ store.old.panes.items }
+    ensures free { (s : ℕ) → listed s store.new.free.items ≡ uses s (take result entries.now) + listed s store.old.free.items }
+    ensures count { length store.new.free.items ≡ length store.old.free.items + result }
+    ensures room { (vec_capacity store.new.panes ≡ vec_capacity store.old.panes) × (vec_capacity store.new.free ≡ vec_capacity store.old.free) }
+{
+    let mut expired = 0;
+    while expired < entries.len() && expires(entries[expired].0, limit) {
+        store.release(entries[expired].1);
+        expired += 1;
+    }
+    expired
+}
+
+// Whether a place has a window with an end of at most the limit.
+fn expires(place: Place, limit: i64) -> bool
+    ensures { result ≡ not (is_kept limit place) }
+{
+    place.end <= limit
+}
+
+// Drops the first entries, so many.
+fn drop_first(entries: &mut Vec<Entry>, count: usize)
+    requires { count ≤ length entries.old.items }
+    ensures items { entries.new.items ≡ drop count entries.old.items }
     ensures capacity { vec_capacity entries.new ≡ vec_capacity entries.old }
 {
-    entries.retain(|e| e.0.end > limit);
+    let left = entries.len() - count;
+    entries.copy_within(count.., 0);
+    entries.truncate(left);
 }

@@ -3,12 +3,12 @@
 ghost use Rattle.std.specs.Prelude.{◌≡◌, ◌⊎◌, ◌<◌, ◌≤ℤ◌, IfOk};
 ghost use Rattle.std.specs.FinMap as map;
 ghost use Rattle.wsm_panes.specs.Place.{place_cmp};
-ghost use Rattle.wsm_panes.specs.Ring.{IsRing, RingAdmits, window_number, slot_of};
+ghost use Rattle.wsm_panes.specs.Ring.{IsRing, RingAdmits, window_number};
 
 use crate::recording::TakesRecords;
 use crate::ring::Ring;
 use crate::slots::{Slot, clear_expired, fill, first_from, free_slots, pane_at, take_out};
-use crate::table::{Found, PaneTable};
+use crate::table::PaneTable;
 use std::alloc::{AllocError, Global};
 use std::marker::Model;
 use wsm_semantics::Place;
@@ -71,14 +71,8 @@ impl<P: TakesRecords> PaneTable<P> for RingTable<P> {
 
     ghost Admits = { RingAdmits };
 
-    ghost IsSlot = { λ ring ps place i. i ≡ slot_of ring place };
-
-    fn find(&self, place: Place) -> Found<P> {
-        let slot = self.ring.slot(place);
-        Found {
-            slot,
-            pane: pane_at(&self.slots, slot, place),
-        }
+    fn get(&self, place: Place) -> Option<P> {
+        pane_at(&self.slots, self.ring.slot(place), place)
     }
 
     fn admits(&self, place: Place) -> bool {
@@ -89,7 +83,8 @@ impl<P: TakesRecords> PaneTable<P> for RingTable<P> {
             }
     }
 
-    fn put_at(&mut self, slot: usize, place: Place, pane: P) {
+    fn put(&mut self, place: Place, pane: P) {
+        let slot = self.ring.slot(place);
         (self.first, self.last) = stretched(self.len, self.first, self.last, place.start);
         self.len += fill(&mut self.slots, slot, place, pane);
     }

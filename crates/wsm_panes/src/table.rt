@@ -1,6 +1,6 @@
 //! What a table of panes does.
 
-ghost use Rattle.std.specs.Prelude.{◌≡◌, ◌↔◌, ◌<◌, ◌≤◌, ℕ, Some, true, IfSome, IsTrue, length, slice_get};
+ghost use Rattle.std.specs.Prelude.{◌≡◌, ◌↔◌, ◌<◌, ◌≤◌, Some, true, IfSome, IsTrue, length, slice_get};
 ghost use Rattle.std.specs.FinMap as map;
 ghost use Rattle.wsm_panes.specs.Place.{place_cmp, is_kept};
 ghost use Rattle.wsm_panes.specs.Walk.{following};
@@ -10,15 +10,6 @@ ghost use Rattle.wsm_semantics.specs.declared.place.Place.{Place as AnyPlace};
 use crate::recording::{TakesRecords, with_one_more};
 use wsm_record::{Kind, Value};
 use wsm_semantics::Place;
-
-/// What a search comes to: the slot of a place, and the pane that is there.
-#[derive(Clone, Copy, Debug, PartialEq, Eq)]
-pub struct Found<P> {
-    /// Where the pane is, or where it would go.
-    pub slot: usize,
-    /// The pane, if one is there.
-    pub pane: Option<P>,
-}
 
 /// A finite map from places to panes, with room for some of them.
 ///
@@ -33,21 +24,17 @@ pub trait PaneTable<P: TakesRecords> {
     // With this room and beside these panes there can be a pane at the place.
     ghost Admits: { Room → map.FinMap place_cmp P → AnyPlace → Type 0 };
 
-    ghost IsSlot: { Room → map.FinMap place_cmp P → AnyPlace → ℕ → Type 0 };
-
-    /// The slot of a place, and the pane that is there.
-    fn find(&self, place: Place) -> Found<P>
-        ensures slot { IsSlot (room self.now) (panes self.now) place result.slot }
-        ensures pane { result.pane ≡ map.get (panes self.now) place };
+    /// The pane at a place, if one is there.
+    fn get(&self, place: Place) -> Option<P>
+        ensures { result ≡ map.get (panes self.now) place };
 
     /// Whether a pane can be set at a place.
     fn admits(&self, place: Place) -> bool
         ensures { IsTrue result ↔ Admits (room self.now) (panes self.now) place };
 
-    /// Sets the pane at a place, in the slot that a search found for it.
-    fn put_at(&mut self, slot: usize, place: Place, pane: P)
-        requires slot { IsSlot (room self.old) (panes self.old) place slot }
-        requires admits { Admits (room self.old) (panes self.old) place }
+    /// Sets the pane at a place.
+    fn put(&mut self, place: Place, pane: P)
+        requires { Admits (room self.old) (panes self.old) place }
         ensures panes { panes self.new ≡ map.insert (panes self.old) place pane }
         ensures room { room self.new ≡ room self.old };
 
@@ -74,23 +61,6 @@ pub trait PaneTable<P: TakesRecords> {
         requires { map.contains_key (panes self.now) place ≡ true }
         ensures { result ≡ following place (map.entries (panes self.now)) };
 
-    /// The pane at a place, if one is there.
-    fn get(&self, place: Place) -> Option<P>
-        ensures { result ≡ map.get (panes self.now) place }
-    {
-        self.find(place).pane
-    }
-
-    /// Sets the pane at a place.
-    fn put(&mut self, place: Place, pane: P)
-        requires { Admits (room self.old) (panes self.old) place }
-        ensures panes { panes self.new ≡ map.insert (panes self.old) place pane }
-        ensures room { room self.new ≡ room self.old }
-    {
-        let slot = self.find(place).slot;
-        self.put_at(slot, place, pane);
-    }
-
     /// Puts a record into the pane at a place, and makes a pane of it where none is. The record is
     /// folded by the values.
     fn enter(&mut self, place: Place, kinds: &[Kind], values: &[Value])
@@ -101,8 +71,8 @@ pub trait PaneTable<P: TakesRecords> {
         ensures panes { panes self.new ≡ map.insert (panes self.old) place (P.with_record kinds.now values.now (map.get (panes self.old) place)) }
         ensures room { room self.new ≡ room self.old }
     {
-        let found = self.find(place);
-        self.put_at(found.slot, place, with_one_more(found.pane, kinds, values));
+        let pane = with_one_more(self.get(place), kinds, values);
+        self.put(place, pane);
     }
 
     /// The pane number `i` in the order of the places, with its place.

@@ -8,29 +8,29 @@ use Rattle.wsm_semantics.specs.declared.place.Place.{Place}
 use Rattle.wsm_panes.specs.Ring.{RingAdmits, IsOfRing, slot_of, window_number}
 use Rattle.wsm_panes.proofs.Placed.{panes_in, panes_put, own_slot, placed_set, between_put, held_length}
 use Rattle.wsm_panes.proofs.Rings.{slot_within}
-use Rattle.wsm_panes.proofs.ring_table.RingTablePaneTable.put_at.Goals as goal
+use Rattle.wsm_panes.proofs.ring_table.RingTablePaneTable.put.Goals as goal
 
 pub fill-requires : goal.fill-requires
 fill-requires g c =
     let a = c.self.inside in
-    let is : c.args.slot ≡ slot_of a.ring c.args.place = rw (← c.self.view_is) at c.requires.slot in
-    let admits : RingAdmits a.ring (panes_in a.slots.items) c.args.place = rw (← c.self.view_is) at c.requires.admits in
+    let is : c.slot-slot.result ≡ slot_of a.ring c.args.place = c.slot-slot.ensures in
+    let admits : RingAdmits a.ring (panes_in a.slots.items) c.args.place = rw (← c.self.view_is) at c.requires in
     omega (arith, is, c.self.invariant.slots, slot_within a.ring c.args.place c.self.invariant.ring admits.0)
 
 pub overflow_add-self : goal.overflow_add-self
 overflow_add-self g c =
     let a = c.self.inside in
     let few = held_length c.fill.new.slots.items in
-    let same : length c.fill.new.slots.items ≡ length a.slots.items = ap length c.fill.ensures.slots ∙ length-set a.slots.items c.args.slot (Some (c.args.place, c.args.pane)) in
+    let same : length c.fill.new.slots.items ≡ length a.slots.items = ap length c.fill.ensures.slots ∙ length-set a.slots.items c.slot-slot.result (Some (c.args.place, c.args.pane)) in
     omega (arith, few, same, c.fill.ensures.len, c.self.invariant.len, c.self.invariant.slots, c.self.invariant.ring.slots)
 
 pub invariant_of-self : goal.invariant_of-self
 invariant_of-self g c =
     let a = c.self.inside in
     let e = let x : Place × _ = (c.args.place, c.args.pane) in x in
-    let is : c.args.slot ≡ slot_of a.ring c.args.place = rw (← c.self.view_is) at c.requires.slot in
-    let admits : RingAdmits a.ring (panes_in a.slots.items) c.args.place = rw (← c.self.view_is) at c.requires.admits in
-    let within : c.args.slot < length a.slots.items = omega (arith, is, c.self.invariant.slots, slot_within a.ring c.args.place c.self.invariant.ring admits.0) in
+    let is : c.slot-slot.result ≡ slot_of a.ring c.args.place = c.slot-slot.ensures in
+    let admits : RingAdmits a.ring (panes_in a.slots.items) c.args.place = rw (← c.self.view_is) at c.requires in
+    let within : c.slot-slot.result < length a.slots.items = omega (arith, is, c.self.invariant.slots, slot_within a.ring c.args.place c.self.invariant.ring admits.0) in
     let start : SFits w64 c.args.place.start = search rules in
     let end : SFits w64 c.args.place.end = search rules in
     let first : SFits w64 a.first = search rules in
@@ -45,10 +45,10 @@ invariant_of-self g c =
     let z1 : to_z w64 (of_z w64 c.stretched.result.1) ≡ c.stretched.result.1 = to_z-of_z w64 c.stretched.result.1 high in
     record {
       ring = c.self.invariant.ring;
-      slots = ap length c.fill.ensures.slots ∙ length-set a.slots.items c.args.slot (Some (c.args.place, c.args.pane)) ∙ c.self.invariant.slots;
-      placed = rw c.fill.ensures.slots (placed_set a.ring a.slots.items c.args.slot (Some (c.args.place, c.args.pane)) c.self.invariant.placed within
-          (λ f same. subst (λ (x : Place). IsOfRing a.ring x × (slot_of a.ring x ≡ c.args.slot)) (ap (λ y. y.0) (same_Some _ f same)) (admits.0, sym is)));
-      between = rw (c.fill.ensures.slots, z0, z1) (between_put a.slots.items c.args.slot (c.args.place, c.args.pane) a.first a.last c.stretched.result.0 c.stretched.result.1 within c.self.invariant.between
+      slots = ap length c.fill.ensures.slots ∙ length-set a.slots.items c.slot-slot.result (Some (c.args.place, c.args.pane)) ∙ c.self.invariant.slots;
+      placed = rw c.fill.ensures.slots (placed_set a.ring a.slots.items c.slot-slot.result (Some (c.args.place, c.args.pane)) c.self.invariant.placed within
+          (λ f same. subst (λ (x : Place). IsOfRing a.ring x × (slot_of a.ring x ≡ c.slot-slot.result)) (ap (λ y. y.0) (same_Some _ f same)) (admits.0, sym is)));
+      between = rw (c.fill.ensures.slots, z0, z1) (between_put a.slots.items c.slot-slot.result (c.args.place, c.args.pane) a.first a.last c.stretched.result.0 c.stretched.result.1 within c.self.invariant.between
           (λ some. wider (omega (arith, some, c.self.invariant.len))) around);
       grid = rw z0 (elim either [ inl same ↦ rw same (window_number a.ring c.args.place.start, admits.0.start) | inr same ↦ rw same c.self.invariant.grid ]);
       last = rw z1 (elim other [ inl same ↦ rw (same, ← admits.0.end) end | inr same ↦ rw same c.self.invariant.last ]);
@@ -58,8 +58,8 @@ invariant_of-self g c =
 pub returns-clause-panes : goal.returns-clause-panes
 returns-clause-panes g c =
     let a = c.self.inside in
-    let is : c.args.slot ≡ slot_of a.ring c.args.place = rw (← c.self.view_is) at c.requires.slot in
-    let admits : RingAdmits a.ring (panes_in a.slots.items) c.args.place = rw (← c.self.view_is) at c.requires.admits in
+    let is : c.slot-slot.result ≡ slot_of a.ring c.args.place = c.slot-slot.ensures in
+    let admits : RingAdmits a.ring (panes_in a.slots.items) c.args.place = rw (← c.self.view_is) at c.requires in
     let within : slot_of a.ring c.args.place < length a.slots.items = omega (arith, c.self.invariant.slots, slot_within a.ring c.args.place c.self.invariant.ring admits.0) in
     ap panes_in (c.fill.ensures.slots ∙ ap (λ n. set a.slots.items n (Some (c.args.place, c.args.pane))) is)
     ∙ panes_put a.ring a.slots.items c.args.place c.args.pane c.self.invariant.placed admits.0 within (own_slot a.ring a.slots.items c.args.place c.self.invariant.placed admits)
