@@ -31,3 +31,7 @@ pub mod Telling
 pub mod Firing
 pub mod Counting
 pub mod Costs
+pub mod Standing
+pub mod Binary
+pub mod Trusting
+pub mod Rows

@@ -8,3 +8,4 @@ pub mod InRange
 pub mod Meaning
 pub mod MeaningVectors
 pub mod Sound
+pub mod Stands

@@ -39,38 +39,12 @@ impl Folds {
         }
     }
 
-    /// Begins again, over so many accumulators.
-    pub(crate) fn restart(&mut self, len: usize)
-        requires { len ≤ MAX_ACCUMULATORS }
-        ensures { self.new ≡ replicate len None }
-    {
-        self.places[..len].fill(None);
-        self.len = len;
-    }
-
     /// What is folded, by accumulator.
     pub fn values(&self) -> &[Option<Value>]
         ensures values { result.now ≡ self.now }
         ensures room { length result.now ≤ MAX_ACCUMULATORS }
     {
         &self.places[..self.len]
-    }
-
-    /// How many accumulators there are.
-    pub(crate) fn len(&self) -> usize
-        ensures len { result ≡ length self.now }
-        ensures room { result ≤ MAX_ACCUMULATORS }
-    {
-        self.values().len()
-    }
-
-    /// Copies what is folded, and a false truth for each accumulator that isn't.
-    pub(crate) fn copy_to(&self, values: &mut [Value; MAX_ACCUMULATORS])
-        ensures { take (length self.now) values.new ≡ map folded_value self.now }
-    {
-        for (a, folded) in self.values().iter().enumerate() {
-            values[a] = folded.unwrap_or(Value::Bool(false));
-        }
     }
 
     /// Whether an accumulator is folded.

@@ -57,22 +57,6 @@ impl Frame {
         }
     }
 
-    /// Begins again, over so many accumulators.
-    pub fn start(&mut self, accumulators: usize)
-        requires { accumulators ≤ 16 }
-        ensures { self.new ≡ record { stack = []; folds = replicate accumulators None } }
-    {
-        self.stack.clear();
-        self.folds.restart(accumulators);
-    }
-
-    /// Whether the truth on top is true; there is one.
-    pub fn is_true(&self) -> bool
-        ensures { (b : Truth) (rest : List Cell) → self.now.stack ≡ cells.Bool b ∷ rest → result ≡ b }
-    {
-        matches!(self.stack.top(), Some(Cell::Bool(true)))
-    }
-
     /// The two numbers on top, the left operand first.
     pub fn numbers(&self) -> Result<(i64, i64), Trap>
         ensures { MatchResult result

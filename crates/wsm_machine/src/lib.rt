@@ -32,3 +32,4 @@ mod results;
 mod run;
 mod stack;
 mod step;
+mod unchecked;

@@ -47,23 +47,6 @@ impl Stack {
         self.cells.as_slice()
     }
 
-    /// Takes all values away.
-    pub(crate) fn clear(&mut self)
-        ensures { self.new ≡ [] }
-    {
-        self.cells.truncate(0);
-    }
-
-    /// The values below the top one, the lowest first.
-    pub(crate) fn below_top(&self) -> &[Cell]
-        ensures { (x : Cell) (rest : List Cell) → self.now ≡ x ∷ rest → result.now ≡ reverse rest }
-    {
-        match self.cells.as_slice() {
-            [below @ .., _] => below,
-            [] => &[],
-        }
-    }
-
     pub(crate) fn len(&self) -> usize
         ensures len { result ≡ length self.now }
         ensures room { result ≤ PLACES }
