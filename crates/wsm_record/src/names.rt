@@ -6,7 +6,7 @@ ghost use Rattle.wsm_record.specs.Name.{repeats_after};
 use crate::name::Name;
 use crate::schema::SchemaRefusal;
 use indexmap::IndexSet;
-use std::alloc::Global;
+use std::alloc::{AllocError, Global};
 use std::marker::Model;
 
 /// The most names of one list.
@@ -16,16 +16,19 @@ pub const MAX_NAMES: usize = 1000;
 #[derive(Drop)]
 pub struct Names {
     texts: IndexSet<Vec<u8>>,
+    // At the place of a text a number to try first: a guess, which nothing rests on.
+    guesses: Vec<u16>,
 }
 
 impl Model for Names {
-    ghost use Rattle.std.specs.Prelude.{◌≤◌, ℕ, List, length, map};
+    ghost use Rattle.std.specs.Prelude.{◌≡◌, ◌≤◌, ℕ, List, [], length, map, false};
+    ghost use Rattle.wsm_record.specs.Name.{repeats_after};
 
     ghost Value = { List (List ℕ) };
 
     ghost view = { λ a. map (λ v. v.items) a.texts.keys };
 
-    ghost invariant = { λ a. length a.texts.keys ≤ 1000 };
+    ghost invariant = { λ a. (length a.texts.keys ≤ 1000) × (repeats_after [] (map (λ v. v.items) a.texts.keys) ≡ false) };
 }
 
 impl Names {
@@ -43,7 +46,8 @@ impl Names {
                 return Err(SchemaRefusal::DuplicateName);
             }
         }
-        Ok(Names { texts })
+        let guesses = guesses_of(alloc, names)?;
+        Ok(Names { texts, guesses })
     }
 
     pub fn len(&self) -> usize
@@ -55,6 +59,27 @@ impl Names {
 
     /// The number of the name with these bytes, if there is one.
     pub fn number_of(&self, text: &[u8]) -> Option<u16>
+        ensures { result ≡ position (bytes_eq text.now) self.now }
+    {
+        match self.guesses.get(place_of(text, self.guesses.len())) {
+            Some(number) if self.has(*number, text) => Some(*number),
+            _ => self.search(text),
+        }
+    }
+
+    // Whether a name has this number and these bytes.
+    fn has(&self, number: u16, text: &[u8]) -> bool
+        ensures { result ≡ true → slice_get self.now number ≡ Some text.now }
+    {
+        match self.texts.get_index(usize::from(number)) {
+            Some(name) => name.as_slice() == text,
+            None => false,
+        }
+    }
+
+    // The number of the name with these bytes, without a guess.
+    #[cold]
+    fn search(&self, text: &[u8]) -> Option<u16>
         ensures { result ≡ position (bytes_eq text.now) self.now }
     {
         match self.texts.get_index_of(text) {
@@ -70,4 +95,26 @@ impl Names {
     {
         self.texts.get_index(number as usize).unwrap()
     }
+}
+
+// At the place of each name's text its number. Where names share a place the last one has it.
+fn guesses_of(alloc: Global, names: &[Name]) -> Result<Vec<u16>, AllocError>
+    requires { length names.now ≤ MAX_NAMES }
+{
+    let places = (4 * names.len()).next_power_of_two();
+    let mut guesses = vec![in alloc; 0; places]?;
+    for (number, name) in names.iter().enumerate() {
+        if let Some(guess) = guesses.get_mut(place_of(name.as_bytes(), places)) {
+            *guess = number as u16;
+        }
+    }
+    Ok(guesses)
+}
+
+// The place of a text among so many places, a power of two: few texts share one.
+fn place_of(text: &[u8], places: usize) -> usize {
+    let hash = text.iter().fold(0usize, |hash, byte| {
+        hash.wrapping_mul(31).wrapping_add(usize::from(*byte))
+    });
+    hash & places.wrapping_sub(1)
 }

@@ -13,3 +13,15 @@ returns-in_err-flush-clause-stops g c =
     let text : List ℕ = report c.args.explain c.in_ok-program.program in
     let written : Appends (taken c.args.out.now) (taken c.write_out.new.device) text = search rules in
     rw (p.1, p.2) (c.in_ok-program.program, c.in_ok-program.ensures.read, TakesPart-all _ _ text (Keeps-Appends _ _ _ text written c.in_err-flush.ensures.kept))
+
+pub returns-clause-reports : goal.returns-clause-reports
+returns-clause-reports g c =
+    let taken = g.D.Device.taken in
+    let text : List ℕ = report c.args.explain c.in_ok-program.program in
+    let written : Appends (taken c.args.out.now) (taken c.write_out.new.device) text = search rules in
+    record {
+      program = c.in_ok-program.program;
+      read_as = c.in_ok-program.ensures.read;
+      written = Keeps-Appends _ _ _ text written c.in_ok-flush.ensures.kept;
+      tells = c.in_ok-accepted.ensures.accepted;
+    }

@@ -1,15 +1,10 @@
-use Rattle.std.proofs.Common.{◌∙◌, sym, ap, bytes_eq, position}
-use Rattle.wsm_record.proofs.Lists.{position-map}
+use Rattle.std.proofs.Common.{◌≡◌, ◌∙◌, sym, ap, [], false}
+use Rattle.wsm_record.specs.Name.{repeats_after}
+use Rattle.wsm_record.proofs.Lists.{position-distinct}
 use Rattle.wsm_record.proofs.names.Names.number_of.Goals as goal
 
+-- the name of a guess that has the bytes
 pub returns-in-Some : goal.returns-in-Some
 returns-in-Some c =
-    c.in-Some.ensures.index
-    ∙ sym (position-map (bytes_eq c.args.text.now) (λ v. v.items) c.self.inside.texts.keys)
-    ∙ ap (position (bytes_eq c.args.text.now)) c.self.view_is
-
-pub returns-in-None : goal.returns-in-None
-returns-in-None c =
-    c.in-None.ensures.index
-    ∙ sym (position-map (bytes_eq c.args.text.now) (λ v. v.items) c.self.inside.texts.keys)
-    ∙ ap (position (bytes_eq c.args.text.now)) c.self.view_is
+    let distinct : repeats_after [] c.args.self.now ≡ false = ap (repeats_after []) (sym c.self.view_is) ∙ c.self.invariant.1 in
+    sym (position-distinct c.args.self.now c.in-Some.number.now c.args.text.now distinct (c.has.ensures c.if-has.true))
