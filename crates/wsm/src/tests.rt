@@ -1,6 +1,7 @@
 //! What no clause says.
 
 mod devices;
+mod ends;
 mod judging;
 mod runs;
 mod words;

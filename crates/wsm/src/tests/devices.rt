@@ -1,4 +1,5 @@
 use crate::{End, Guarded, run_query};
+use std::alloc::{AllocError, Global};
 use std::cell::Cell;
 use std::io;
 use std::io::{Read, Write};
@@ -9,6 +10,8 @@ START 0; SKEW 100; LATENESS 10; RECORDS 1000;
 SELECT COUNT(*), SUM(n) WINDOW FIXED 60 ACCUMULATING EMIT PANES;";
 
 const ROWS: &[u8] = b"r,a,5,7\nr,a,59,3\nw,60\n";
+
+const WRITTEN: &[u8] = b"pane,on_time,a,0,60,2,10\nend,3,2,0,0,1\n";
 
 fn failure() -> io::Error {
     io::Error::from(io::ErrorKind::Other)
@@ -41,15 +44,50 @@ impl Write for TakesFew {
 
 #[test]
 fn a_failed_device_took_a_beginning(rt: HostRuntime) -> Result<(), Fail> {
-    let whole = b"pane,on_time,a,0,60,2,10\nend,3,2,0,0,1\n".as_slice();
-    let cases = [(0, b"".as_slice()), (10, b"pane,on_ti"), (39, whole)];
-    for (left, want) in cases {
+    // The last one takes all of it, and fails where it is flushed.
+    for left in 0..WRITTEN.len() + 1 {
         let taken = Vec::new(rt.alloc());
         let mut out = Guarded::new(TakesFew { taken, left });
         let end = run_query(rt.alloc(), QUERY, ROWS, &mut out);
-        assert_eq!(rt; end, Err(End::WriteFailed));
-        assert_eq!(rt; out.into_writer().taken.as_slice(), want);
+        assert_eq!(rt; end, Err(End::WriteFailed), "at {left}");
+        let taken = out.into_writer().taken;
+        assert_eq!(rt; Some(taken.as_slice()), WRITTEN.get(..left), "at {left}");
     }
+    Ok(())
+}
+
+// Two records stand in 2,000 windows each, which fire at once.
+const MANY_WINDOWS: &[u8] = b"KEYS a, b; START 0; SKEW 0; LATENESS 0; RECORDS 2; SELECT COUNT(*)
+WINDOW SLIDING 2000 EVERY 1 ACCUMULATING EMIT PANES;";
+
+// The lines of their panes.
+fn panes(alloc: Global) -> Result<String, AllocError> {
+    let mut lines = String::new(alloc);
+    for (start, end) in (-1999..1).zip(1..2001) {
+        write!(
+            lines,
+            "pane,on_time,a,{start},{end},1\npane,on_time,b,{start},{end},1\n"
+        )?;
+    }
+    Ok(lines)
+}
+
+#[test]
+fn a_device_fails_in_a_turn_of_many_lines(rt: HostRuntime) -> Result<(), Fail> {
+    let taken = Vec::new(rt.alloc());
+    let mut out = Guarded::new(TakesFew {
+        taken,
+        left: 70_000,
+    });
+    let rows = b"r,a,0\nr,b,0\nw,2000\n".as_slice();
+    let end = run_query(rt.alloc(), MANY_WINDOWS, rows, &mut out);
+    assert_eq!(rt; end, Err(End::WriteFailed));
+    let panes = panes(rt.alloc())?;
+    assert!(rt; panes.len() > 70_000);
+    assert_eq!(rt;
+        Some(out.into_writer().taken.as_slice()),
+        panes.as_bytes().get(..70_000)
+    );
     Ok(())
 }
 
@@ -73,13 +111,18 @@ impl Read for FailsBehind<'_> {
 
 #[test]
 fn a_failed_read_ends_a_run_between_turns(rt: HostRuntime) -> Result<(), Fail> {
-    let mut out = Guarded::new(Vec::new(rt.alloc()));
-    let end = run_query(rt.alloc(), QUERY, FailsBehind(ROWS), &mut out);
-    assert_eq!(rt; end, Err(End::ReadFailed));
-    assert_eq!(rt;
-        out.into_writer().as_slice(),
-        b"pane,on_time,a,0,60,2,10\n".as_slice()
-    );
+    let cases = [
+        (b"".as_slice(), b"".as_slice()),
+        (b"r,a,5,7", b""),
+        (b"r,a,5,7\nr,a,59,3\nw,60", b""),
+        (ROWS, b"pane,on_time,a,0,60,2,10\n"),
+    ];
+    for (rows, want) in cases {
+        let mut out = Guarded::new(Vec::new(rt.alloc()));
+        let end = run_query(rt.alloc(), QUERY, FailsBehind(rows), &mut out);
+        assert_eq!(rt; end, Err(End::ReadFailed));
+        assert_eq!(rt; out.into_writer().as_slice(), want);
+    }
     Ok(())
 }
 

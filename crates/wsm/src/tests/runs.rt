@@ -28,6 +28,33 @@ const BASE: Case = Case {
 
 const PROMPT: &str = "START 0; SKEW 100; LATENESS 0; RECORDS 1000";
 
+const TWO_RECORDS: Case = Case {
+    rows: "r,a,5,7\nr,a,59,3\nw,60\n",
+    want: "pane,on_time,a,0,60,2,10\nend,3,2,0,0,1\n",
+    ..BASE
+};
+
+const TWO_SESSIONS: Case = Case {
+    window: "SESSION 30 ACCUMULATING",
+    rows: "r,a,10,1\nr,a,40,2\nw,100\n",
+    want: "pane,on_time,a,10,40,1,1\npane,on_time,a,40,70,1,2\nend,3,2,0,0,2\n",
+    ..BASE
+};
+
+const JOINED_SESSIONS: Case = Case {
+    window: "SESSION 30 ACCUMULATING",
+    rows: "r,a,0,1\nr,a,40,2\nr,a,20,4\nw,70\n",
+    want: "pane,on_time,a,0,70,3,7\nend,4,3,0,0,1\n",
+    ..BASE
+};
+
+const SLIDING: Case = Case {
+    window: "SLIDING 60 EVERY 25 ACCUMULATING",
+    rows: "r,a,5,1\nw,35\n",
+    want: "pane,on_time,a,-50,10,1,1\npane,on_time,a,-25,35,1,1\nend,2,1,0,0,2\n",
+    ..BASE
+};
+
 fn text_of(alloc: Global, case: &Case) -> Result<String, Fail> {
     let (field, clock, columns) = (case.field, case.clock, case.columns);
     let (window, form) = (case.window, case.form);
@@ -72,11 +99,7 @@ fn all_write<R: Abort + AllocGlobal>(rt: &R, cases: &[Case]) -> Result<(), Fail>
 fn fixed_windows(rt: HostRuntime) -> Result<(), Fail> {
     let cases = [
         BASE,
-        Case {
-            rows: "r,a,5,7\nr,a,59,3\nw,60\n",
-            want: "pane,on_time,a,0,60,2,10\nend,3,2,0,0,1\n",
-            ..BASE
-        },
+        TWO_RECORDS,
         Case {
             rows: "r,a,60,1\nw,60\n",
             want: "end,2,1,0,0,0\n",
@@ -135,12 +158,7 @@ fn refused_rows(rt: HostRuntime) -> Result<(), Fail> {
 #[test]
 fn sessions_and_sliding_windows(rt: HostRuntime) -> Result<(), Fail> {
     let cases = [
-        Case {
-            window: "SESSION 30 ACCUMULATING",
-            rows: "r,a,10,1\nr,a,40,2\nw,100\n",
-            want: "pane,on_time,a,10,40,1,1\npane,on_time,a,40,70,1,2\nend,3,2,0,0,2\n",
-            ..BASE
-        },
+        TWO_SESSIONS,
         Case {
             clock: PROMPT,
             window: "SESSION 30 ACCUMULATING",
@@ -148,22 +166,56 @@ fn sessions_and_sliding_windows(rt: HostRuntime) -> Result<(), Fail> {
             want: "pane,on_time,a,10,40,1,1\npane,on_time,a,40,70,1,3\nend,5,2,1,0,2\n",
             ..BASE
         },
-        Case {
-            window: "SESSION 30 ACCUMULATING",
-            rows: "r,a,0,1\nr,a,40,2\nr,a,20,4\nw,70\n",
-            want: "pane,on_time,a,0,70,3,7\nend,4,3,0,0,1\n",
-            ..BASE
-        },
+        JOINED_SESSIONS,
         Case {
             window: "SESSION 30 ACCUMULATING EARLY EVERY 4",
             rows: "r,a,0,1\nr,a,1,1\nr,a,40,1\nr,a,41,1\nr,a,20,1\n",
             want: "pane,early,a,0,71,5,5\nend,5,5,0,0,1\n",
             ..BASE
         },
+        SLIDING,
+    ];
+    all_write(&rt, &cases)
+}
+
+// Where nothing comes late, the lateness changes nothing.
+#[test]
+fn without_lateness(rt: HostRuntime) -> Result<(), Fail> {
+    let cases = [
         Case {
-            window: "SLIDING 60 EVERY 25 ACCUMULATING",
-            rows: "r,a,5,1\nw,35\n",
-            want: "pane,on_time,a,-50,10,1,1\npane,on_time,a,-25,35,1,1\nend,2,1,0,0,2\n",
+            clock: PROMPT,
+            ..TWO_RECORDS
+        },
+        Case {
+            clock: PROMPT,
+            ..TWO_SESSIONS
+        },
+        Case {
+            clock: PROMPT,
+            ..JOINED_SESSIONS
+        },
+        Case {
+            clock: PROMPT,
+            ..SLIDING
+        },
+    ];
+    all_write(&rt, &cases)
+}
+
+#[test]
+fn greatest_numbers(rt: HostRuntime) -> Result<(), Fail> {
+    let cases = [
+        Case {
+            field: "n INT 0..9223372036854775807",
+            clock: "START 0; SKEW 100; LATENESS 10; RECORDS 1",
+            rows: "r,a,5,9223372036854775807\nw,60\n",
+            want: "pane,on_time,a,0,60,1,9223372036854775807\nend,2,1,0,0,1\n",
+            ..BASE
+        },
+        Case {
+            clock: "START 9999999999999940; SKEW 100; LATENESS 10; RECORDS 1000",
+            rows: "r,a,10000000000000000,1\nr,a,10000000000000001,1\nw,10000000000000000\n",
+            want: "refused,2,TimeRange\nend,3,1,0,1,0\n",
             ..BASE
         },
     ];
@@ -246,6 +298,14 @@ fn streams(rt: HostRuntime) -> Result<(), Fail> {
     all_write(&rt, &cases)
 }
 
+// The line of the judgement of a query's program.
+fn judgement(alloc: Global, text: &str) -> Result<Vec<u8>, Fail> {
+    let program = compile_text(alloc, text.as_bytes())?;
+    let mut out = Guarded::new(Vec::new(alloc));
+    judge(alloc, &program, false, &mut out)?;
+    Ok(out.into_writer())
+}
+
 // Here `want` is the line of the judgement.
 #[test]
 fn queries_are_judged(rt: HostRuntime) -> Result<(), Fail> {
@@ -270,6 +330,11 @@ fn queries_are_judged(rt: HostRuntime) -> Result<(), Fail> {
             ..BASE
         },
         Case {
+            columns: "COUNT(*) WHERE n <> 0 AND 10 / n > 1",
+            want: "rejected,where,6,MayDivideByZero\n",
+            ..BASE
+        },
+        Case {
             field: "n INT 0..1000000000000",
             clock: "START 0; SKEW 100; LATENESS 10; RECORDS 1000000000000",
             want: "rejected,update,1,AccumulatorRange\n",
@@ -278,15 +343,18 @@ fn queries_are_judged(rt: HostRuntime) -> Result<(), Fail> {
     ];
     for case in &cases {
         let text = text_of(rt.alloc(), case)?;
-        let program = compile_text(rt.alloc(), text.as_bytes())?;
-        let mut out = Guarded::new(Vec::new(rt.alloc()));
-        let _accepted = judge(rt.alloc(), &program, false, &mut out)?;
-        assert_eq!(rt;
-            out.into_writer().as_slice(),
-            case.want.as_bytes(),
-            "{text}"
-        );
+        let line = judgement(rt.alloc(), text.as_str())?;
+        assert_eq!(rt; line.as_slice(), case.want.as_bytes(), "{text}");
     }
+    Ok(())
+}
+
+// A text ends with a refusal, and nothing is written.
+fn does_not_run<R: Abort + AllocGlobal>(rt: &R, text: &str, want: &str) -> Result<(), Fail> {
+    let (written, end) = ran(rt.alloc(), text, "r,a,1,1\nw,60\n");
+    assert!(rt; written.is_empty(), "{text}");
+    let why = format!(in rt.alloc(); "{}", end.err().ok_or("it ran")?)?;
+    assert_eq!(rt; why.as_str(), want, "{text}");
     Ok(())
 }
 
@@ -318,10 +386,7 @@ fn some_queries_do_not_run(rt: HostRuntime) -> Result<(), Fail> {
     ];
     for case in &cases {
         let text = text_of(rt.alloc(), case)?;
-        let (written, end) = ran(rt.alloc(), text.as_str(), "r,a,1,1\nw,60\n");
-        let why = format!(in rt.alloc(); "{}", end.err().ok_or("it ran")?)?;
-        assert_eq!(rt; why.as_str(), case.want, "{text}");
-        assert!(rt; written.is_empty());
+        does_not_run(&rt, text.as_str(), case.want)?;
     }
     Ok(())
 }
@@ -334,10 +399,7 @@ fn texts_that_are_no_queries(rt: HostRuntime) -> Result<(), Fail> {
         ("KEYS a;\n\n  @", "P1 BadCharacter at 3:3"),
     ];
     for (text, want) in cases {
-        let (written, end) = ran(rt.alloc(), text, "r,a,1,1\n");
-        let why = format!(in rt.alloc(); "{}", end.err().ok_or("it ran")?)?;
-        assert_eq!(rt; why.as_str(), want);
-        assert!(rt; written.is_empty());
+        does_not_run(&rt, text, want)?;
     }
     Ok(())
 }
