@@ -1,5 +1,5 @@
 -- The names of an ENUM, from the fields as they are kept.
-use Rattle.std.proofs.Common.{◌≡◌, ℕ, zero, suc, ◌-◌, ◌<◌, length, get_or, List, map, Option, Some, None, refl, ap, sym, ◌∙◌, arith}
+use Rattle.std.proofs.Common.{◌≡◌, ℕ, zero, suc, ◌-◌, ◌<◌, length, get_or, List, map, Option, Some, refl, ap, sym, ◌∙◌, arith}
 use Rattle.std.specs.Prelude.{slice_get}
 use Rattle.std.specs.Option.{option_map}
 use Rattle.std.proofs.lemmas.Option.{slice_get-map, slice_get_read}
@@ -19,8 +19,3 @@ pub names_there : (kept : List KeptField) (s : Declared) (n : ℕ) (f : KeptFiel
 names_there kept s n f some seen within same =
     let there : slice_get kept (n - 1) ≡ Some f = slice_get_read kept (length kept) (n - 1) f refl within same in
     one_more s n some ∙ ap names_of_field (ap (λ (fs : List DeclaredField). slice_get fs (n - 1)) (sym seen) ∙ slice_get-map field_seen kept (n - 1) ∙ ap (λ (o : Option KeptField). option_map field_seen o) there)
-
--- no field has the number
-pub no_names : (kept : List KeptField) (s : Declared) (n : ℕ) → (n ≡ 0 → ⊥) → map field_seen kept ≡ s.fields → slice_get kept (n - 1) ≡ None → enum_names s n ≡ None
-no_names kept s n some seen missing =
-    one_more s n some ∙ ap names_of_field (ap (λ (fs : List DeclaredField). slice_get fs (n - 1)) (sym seen) ∙ slice_get-map field_seen kept (n - 1) ∙ ap (λ (o : Option KeptField). option_map field_seen o) missing)

@@ -77,10 +77,6 @@ rest_at (m ∷ ns) (suc i) n e =
     let r = rest_at ns i n e in
     (r.0, ap (λ (xs : List Name). m ∷ xs) r.1)
 
-drop_all : (ns : List Name) → drop (length ns) ns ≡ []
-drop_all [] = refl
-drop_all (n ∷ ns) = drop_all ns
-
 goes : (before all : List Name) (n : Name) (rest : List Name) → all ≡ n ∷ rest → is_name n ≡ true → not (is_among n before) ≡ true → are_names_after before all ≡ are_names_after (before ++ n ∷ []) rest
 goes before all n rest e f g = ap (are_names_after before) e ∙ rw (f, g) refl
 
@@ -88,9 +84,6 @@ stops : (a b c : Bool) → (a && b) ≡ false → (a && (b && c)) ≡ false
 stops true true c h = absurd cc
 stops true false c h = refl
 stops false b c h = refl
-
-pub all_there : (ns : List Name) → are_names_after (take (length ns) ns) (drop (length ns) ns) ≡ are_names_after [] ns → true ≡ are_names_after [] ns
-all_there ns so_far = ap (are_names_after (take (length ns) ns)) (sym (drop_all ns)) ∙ so_far
 
 -- a good name goes on
 pub name_goes_on : (ns : List Name) (i : ℕ) (b : Bool) → i < length ns → ((n : Name) → slice_get ns i ≡ Some n → b ≡ (is_name n && not (is_among n (take i ns)))) → b ≡ true

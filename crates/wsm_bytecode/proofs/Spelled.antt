@@ -140,7 +140,7 @@ names_more o out new ns i n e so_far more =
     more ∙ ap (λ x. x ++ name n) so_far ∙ append_assoc o (number (length ns) ++ flat_map name (take i ns)) (name n)
     ∙ ap (λ x. o ++ x) (append_assoc (number (length ns)) (flat_map name (take i ns)) (name n) ∙ ap (λ x. number (length ns) ++ x) (sym next))
 
-few : (h : Header) (code : List Instr) → is_section h code ≡ true → length code ≤ 1000
+pub few : (h : Header) (code : List Instr) → is_section h code ≡ true → length code ≤ 1000
 unfolding is_section
 few h code e = leb-true _ _ (and_parts (leb (length code) 1000) (list_all (is_instr h) code) e).0
 

@@ -1,5 +1,5 @@
 -- A program that states another budget is one still.
-use Rattle.std.proofs.Common.{Bool, true, false, ◌&&◌, IsTrue, arith}
+use Rattle.std.proofs.Common.{Bool, ◌&&◌, IsTrue, arith}
 use Rattle.std.proofs.lemmas.Grind.{common_steps}
 use Rattle.wsm_bytecode.specs.declared.program.Budget.{Budget}
 use Rattle.wsm_bytecode.specs.Program.{Program, stating, is_schema, is_clock, is_firing, is_row, is_budget, is_header, is_section, is_program}

@@ -3,7 +3,8 @@ use Rattle.std.proofs.Common.{Option, None, Some, ◌≡◌, ℕ, zero, suc, ◌
 use Rattle.std.specs.Prelude.{◌==◌, bytes_eq}
 use Rattle.std.specs.List.{list_all, flat_map}
 use Rattle.std.specs.Int.{w8, w16}
-use Rattle.std.proofs.lemmas.Bool.{true≢false, le-leb, eqb-true, and_parts, and_from}
+use Rattle.std.proofs.lemmas.Bool.{le-leb, eqb-true, and_parts, and_from}
+use Rattle.std.proofs.lemmas.Slice.Eq.{bytes_eq-Decides}
 use Rattle.wsm_bytecode.specs.declared.refusal.DecodeRefusal.{DecodeRefusal}
 use Rattle.wsm_bytecode.specs.declared.refusal.DecodeRefusal.TheVariants.{BadMagic, Version}
 use Rattle.wsm_bytecode.specs.declared.instr.Instr.{Instr}
@@ -80,9 +81,6 @@ target_taken h c made spelled good bytes x fits e =
     let one : Instr × List ℕ = (made a.0.0, a.0.1) in
     subst (λ y. Took instr (is_instr h) (byte c ++ bytes) y) (ok_is one x a.2)
     (record { parts = ap (λ r. byte c ++ r) t.parts ∙ spelled a.0.0 a.0.1; fits = t.fits; good = sym (good a.0.0) ∙ t.good })
-
-abbrev ok_read : Instr × List ℕ → Read Instr
-ok_read x = Ok x
 
 -- one test of a chain
 choose : {A P : Type 0} (b : Bool) (p q r : A) → cond b p q ≡ r → (b ≡ true → p ≡ r → P) → (b ≡ false → q ≡ r → P) → P
@@ -161,14 +159,6 @@ code_taken h bytes x fits e =
     let few : length x.0 ≤ 1000 = omega (arith, u.len, at_most 0 1000 b.0.0 j.1) in
     record { parts = t.parts ∙ ap (λ r. number b.0.0 ++ r) u.parts ∙ ap (λ n. number n ++ (flat_map instr x.0 ++ x.1)) (sym u.len); fits = u.fits; good = and_from _ _ (le-leb _ _ few) u.good }
 
-same_bytes : (a b : List ℕ) → bytes_eq a b ≡ true → a ≡ b
-same_bytes [] [] e = refl
-same_bytes [] (y ∷ ys) e = absurd (true≢false (sym e))
-same_bytes (x ∷ xs) [] e = absurd (true≢false (sym e))
-same_bytes (x ∷ xs) (y ∷ ys) e =
-    let p = and_parts (x == y) (bytes_eq xs ys) e in
-    rw (eqb-true x y p.0, same_bytes xs ys p.1) refl
-
 -- ---- the header
 
 magic_taken : (bytes rest : List ℕ) → IsBytes bytes → after_magic bytes ≡ Ok rest → (bytes ≡ magic ++ rest) × IsBytes rest
@@ -177,7 +167,7 @@ magic_taken bytes rest fits e =
     let b = bind_ok (bytes_at 4 bytes) (λ m. cond (bytes_eq m.0 magic) (Ok m.1) (Err BadMagic)) rest e in
     let g = test_ok (bytes_eq b.0.0 magic) BadMagic b.0.1 rest b.2 in
     let p = bytes_taken 4 bytes b.0 fits b.1 in
-    subst (λ y. (bytes ≡ magic ++ y) × IsBytes y) g.1 (p.parts ∙ ap (λ m. m ++ b.0.1) (same_bytes b.0.0 magic g.0), p.fits)
+    subst (λ y. (bytes ≡ magic ++ y) × IsBytes y) g.1 (p.parts ∙ ap (λ m. m ++ b.0.1) ((bytes_eq-Decides b.0.0 magic).0 g.0), p.fits)
 
 version_taken : (bytes rest : List ℕ) → IsBytes bytes → after_version bytes ≡ Ok rest → (bytes ≡ byte 1 ++ rest) × IsBytes rest
 unfolding after_version

@@ -1,18 +1,11 @@
 -- An expression that has a type has no aggregate in an aggregate.
-use Rattle.std.proofs.Common.{◌≡◌, Bool, true, false, ◌&&◌, Ok, Err, nat_eq, refl, sym, ap, arith}
+use Rattle.std.proofs.Common.{◌≡◌, Bool, true, false, ◌&&◌, Ok, Err, nat_eq, refl, ap, arith}
 use Rattle.std.specs.Prelude.{is_ok}
-use Rattle.std.proofs.lemmas.Bool.{true≢false}
+use Rattle.std.proofs.lemmas.Bool.{and_from, false≢true}
 use Rattle.wsm_query.specs.Tree.{Query, Expr, Number, Truth, Field, EnumName, Key, KeyName, Count, Aggregate, If, Brackets, Minus, Not, Binary, And, Or}
 use Rattle.wsm_check.specs.Types.{ExprTy, Around, InWhere, InColumn, InAggregate, Typed, if_typed, if_both, entered, typed}
 use Rattle.wsm_check.specs.Sizes.{aggregates}
 use Rattle.wsm_check.specs.Terms.{is_flat}
-
-no : {X : Type 0} → false ≡ true → X
-no e = absurd (true≢false (sym e))
-
-both : (a b : Bool) → a ≡ true → b ≡ true → (a && b) ≡ true
-both true b e h = h
-both false b e h = e
 
 abbrev pub HasType : Query → Around → Expr → Type 0
 HasType q around e = is_ok (typed q around e) ≡ true
@@ -23,15 +16,15 @@ first_ok (Err f) go h = h
 
 rest_ok : (x : Typed) (go : ExprTy → Typed) → is_ok (if_typed x go) ≡ true → (t : ExprTy) × (is_ok (go t) ≡ true)
 rest_ok (Ok t) go h = (t, h)
-rest_ok (Err f) go h = no h
+rest_ok (Err f) go h = absurd (false≢true h)
 
 second_ok : (x y : Typed) (go : ExprTy → ExprTy → Typed) → is_ok (if_both x y go) ≡ true → is_ok y ≡ true
 second_ok x y go h = let r = rest_ok x (λ t. if_typed y (λ u. go t u)) h in first_ok y (λ u. go r.0 u) r.1
 
 entered_ok : (around : Around) (x : Typed) → is_ok (entered around x) ≡ true → is_ok x ≡ true
-entered_ok InWhere x h = no h
+entered_ok InWhere x h = absurd (false≢true h)
 entered_ok InColumn x h = h
-entered_ok InAggregate x h = no h
+entered_ok InAggregate x h = absurd (false≢true h)
 
 -- no aggregate may stand there
 abbrev pub bare : Around → Bool
@@ -40,9 +33,9 @@ bare InColumn = false
 bare InAggregate = true
 
 none_entered : {X : Type 0} (around : Around) (x : Typed) → bare around ≡ true → is_ok (entered around x) ≡ true → X
-none_entered InWhere x b h = no h
-none_entered InColumn x b h = no b
-none_entered InAggregate x b h = no h
+none_entered InWhere x b h = absurd (false≢true h)
+none_entered InColumn x b h = absurd (false≢true b)
+none_entered InAggregate x b h = absurd (false≢true h)
 
 -- an expression in WHERE or in an aggregate has no aggregate
 pub plain : (q : Query) (around : Around) → bare around ≡ true → (e : Expr) → HasType q around e → aggregates e ≡ 0
@@ -67,17 +60,17 @@ plain q around b Count h = refl
 pub flat : (q : Query) (around : Around) (e : Expr) → HasType q around e → is_flat e ≡ true
 flat q around (Aggregate kind e) h =
     let inner = first_ok (typed q InAggregate e) _ (entered_ok around _ h) in
-    both (nat_eq (aggregates e) 0) (is_flat e) (ap (λ n. nat_eq n 0) (plain q InAggregate refl e inner)) (flat q InAggregate e inner)
+    and_from (nat_eq (aggregates e) 0) (is_flat e) (ap (λ n. nat_eq n 0) (plain q InAggregate refl e inner)) (flat q InAggregate e inner)
 flat q around (If c x y) h =
     let r = rest_ok (typed q around c) _ h in
-    both (is_flat c) (is_flat x && is_flat y) (flat q around c (first_ok (typed q around c) _ h))
-    (both (is_flat x) (is_flat y) (flat q around x (first_ok (typed q around x) _ r.1)) (flat q around y (second_ok (typed q around x) (typed q around y) _ r.1)))
+    and_from (is_flat c) (is_flat x && is_flat y) (flat q around c (first_ok (typed q around c) _ h))
+    (and_from (is_flat x) (is_flat y) (flat q around x (first_ok (typed q around x) _ r.1)) (flat q around y (second_ok (typed q around x) (typed q around y) _ r.1)))
 flat q around (Brackets e) h = flat q around e h
 flat q around (Minus e) h = flat q around e (first_ok (typed q around e) _ h)
 flat q around (Not e) h = flat q around e (first_ok (typed q around e) _ h)
-flat q around (Binary op x y) h = both (is_flat x) (is_flat y) (flat q around x (first_ok (typed q around x) _ h)) (flat q around y (second_ok (typed q around x) (typed q around y) _ h))
-flat q around (And x y) h = both (is_flat x) (is_flat y) (flat q around x (first_ok (typed q around x) _ h)) (flat q around y (second_ok (typed q around x) (typed q around y) _ h))
-flat q around (Or x y) h = both (is_flat x) (is_flat y) (flat q around x (first_ok (typed q around x) _ h)) (flat q around y (second_ok (typed q around x) (typed q around y) _ h))
+flat q around (Binary op x y) h = and_from (is_flat x) (is_flat y) (flat q around x (first_ok (typed q around x) _ h)) (flat q around y (second_ok (typed q around x) (typed q around y) _ h))
+flat q around (And x y) h = and_from (is_flat x) (is_flat y) (flat q around x (first_ok (typed q around x) _ h)) (flat q around y (second_ok (typed q around x) (typed q around y) _ h))
+flat q around (Or x y) h = and_from (is_flat x) (is_flat y) (flat q around x (first_ok (typed q around x) _ h)) (flat q around y (second_ok (typed q around x) (typed q around y) _ h))
 flat q around (Number n) h = refl
 flat q around (Truth b) h = refl
 flat q around (Field x) h = refl

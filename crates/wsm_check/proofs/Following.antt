@@ -1,7 +1,6 @@
 -- Checks one behind the other.
 use Rattle.std.proofs.Common.{◌≡◌, ◌∙◌, ◌≤◌, ◌<◌, ◌+◌, ◌++◌, ◌||◌, ℕ, suc, Bool, true, false, not, ◌&&◌, nat_lt, List, [], ◌∷◌, length, map, take, drop, get_or, Option, Some, None, Err, Result, inl, inr, bytes_eq, refl, ap, ap₂, sym, arith, add-one, length-append, nat_le}
-use Rattle.std.proofs.lemmas.Bool.{and_parts}
-use Rattle.std.proofs.lemmas.Bool.Decides.{nat_tests}
+use Rattle.std.proofs.lemmas.Bool.{and_parts, ltb-true, and_from}
 use Rattle.std.proofs.lemmas.List.{length-map, map-append, take_more}
 use Rattle.std.proofs.Math.Seq.{drop-cons}
 use Rattle.std.specs.List.{list_all, list_any}
@@ -107,12 +106,6 @@ pub passed_both : (r s : Option CheckRefusal) → or_else r s ≡ None → (r �
 passed_both None s h = (refl, h)
 passed_both (Some f) s h = cc
 
-is_below : (m n : ℕ) → nat_lt m n ≡ true → m < n
-is_below m n h = grind (arith, nat_tests)
-
-pub is_at_most : (m n : ℕ) → nat_le m n ≡ true → m ≤ n
-is_at_most m n h = grind (arith, nat_tests)
-
 pub few_of_names : (p : Part) (xs : List Name) → names_refusal p xs ≡ None → nat_le (length xs) 1000 ≡ true
 few_of_names p xs h = (and_parts (nat_le 1 (length xs)) _ (passed_unless (nat_le 1 (length xs) && nat_le (length xs) 1000) Limit p _ h).0).1
 
@@ -130,14 +123,10 @@ fields_passed names (d ∷ ds) l h =
     let b = passed_unless (not (is_among d.name names)) Duplicate p _ a.1 in
     let e = passed_both (ty_refusal p d.ty) _ b.1 in
     let f = passed_both (fields_refusal (names ++ d.name ∷ []) ds) None e.1 in
-    let below = is_below (length names) 16 a.0 in
+    let below = ltb-true (length names) 16 a.0 in
     let more = length-append names (d.name ∷ []) in
     let there = fields_passed (names ++ d.name ∷ []) ds (omega arith) f.0 in
-    (omega (arith, there.0), both_hold (few_names d) (list_all few_names ds) (few_in_type p d.ty e.0) there.1)
-  where
-    both_hold : (a b : Bool) → a ≡ true → b ≡ true → (a && b) ≡ true
-    both_hold true b g k = k
-    both_hold false b g k = g
+    (omega (arith, there.0), and_from (few_names d) (list_all few_names ds) (few_in_type p d.ty e.0) there.1)
 
 pub few_fields : (fields : List CodeField) → fields_refusal [] (map seen_field fields) ≡ None → length fields ≤ 16
 few_fields fields h = let l = length-map fields seen_field in omega (arith, (fields_passed [] (map seen_field fields) (omega arith) h).0)

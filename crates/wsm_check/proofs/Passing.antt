@@ -1,8 +1,8 @@
 -- What holds of a query that no check refuses.
-use Rattle.std.proofs.Common.{◌≡◌, ◌∙◌, ◌+◌, ◌++◌, ◌≤◌, ℕ, suc, Bool, true, ◌&&◌, List, [], ◌∷◌, length, Option, Some, None, Ok, Err, nat_le, nat_lt, refl, ap, arith, length-append}
+use Rattle.std.proofs.Common.{◌≡◌, ◌∙◌, ◌+◌, ◌++◌, ◌≤◌, ℕ, suc, true, List, [], ◌∷◌, length, Option, Some, None, Ok, Err, nat_le, nat_lt, refl, ap, arith, length-append}
 use Rattle.std.specs.Prelude.{is_ok}
 use Rattle.std.specs.List.{flat_map, list_all}
-use Rattle.std.proofs.lemmas.Bool.{and_parts}
+use Rattle.std.proofs.lemmas.Bool.{and_parts, and_from, leb-true}
 use Rattle.wsm_query.specs.Tree.{Query, Expr, Number, Truth, Field, EnumName, Key, KeyName, Count, Aggregate, If, Brackets, Minus, Not, Binary, And, Or}
 use Rattle.wsm_check.specs.declared.refusal.CheckFault.TheVariants.{Limit}
 use Rattle.wsm_check.specs.declared.refusal.Part.{Part}
@@ -13,12 +13,12 @@ use Rattle.wsm_check.specs.Checks.{first, unless, names_refusal, fields_refusal,
 use Rattle.wsm_check.specs.Terms.{is_flat}
 use Rattle.wsm_check.specs.Parts.{MayBeResolved, aggregates_of}
 use Rattle.wsm_check.proofs.Flat.{flat, plain, first_ok}
-use Rattle.wsm_check.proofs.Following.{in_groups, passed_both, passed_unless, few_of_names, short_lists, is_at_most}
+use Rattle.wsm_check.proofs.Following.{in_groups, passed_both, passed_unless, few_of_names, short_lists}
 use Rattle.wsm_check.proofs.Resolving.{flat_map-append}
 
 -- ---- aggregates are as many as their accumulators
 
-counted : (e : Expr) → length (accumulators_of e) ≡ aggregates e
+pub counted : (e : Expr) → length (accumulators_of e) ≡ aggregates e
 counted (Aggregate kind e) = refl
 counted (If c x y) =
     omega (arith, length-append (accumulators_of c) (accumulators_of x ++ accumulators_of y), length-append (accumulators_of x) (accumulators_of y), counted c, counted x, counted y)
@@ -51,12 +51,9 @@ has_type : (p : Part) (x : Typed) → typed_refusal p x ≡ None → is_ok x ≡
 has_type p (Ok t) h = refl
 has_type p (Err f) h = cc
 
-both : (a b : Bool) → a ≡ true → b ≡ true → (a && b) ≡ true
-both a b e h = (λ i. e i && h i)
-
 condition_flat : (q : Query) (around : Around) (p : Part) (o : Option Expr) → condition_refusal q around p o ≡ None → list_all is_flat (in_option o) ≡ true
 condition_flat q around p None h = refl
-condition_flat q around p (Some e) h = both (is_flat e) true (flat q around e (first_ok (typed q around e) _ (has_type p (typed_condition q around e) h))) refl
+condition_flat q around p (Some e) h = and_from (is_flat e) true (flat q around e (first_ok (typed q around e) _ (has_type p (typed_condition q around e) h))) refl
 
 condition_plain : (q : Query) (p : Part) (o : Option Expr) → condition_refusal q InWhere p o ≡ None → aggregates_of (in_option o) ≡ 0
 condition_plain q p None h = refl
@@ -69,7 +66,7 @@ columns_flat q i (e ∷ es) h =
     let a = passed_unless (nat_lt i 16) Limit p _ h in
     let b = passed_both (typed_refusal p (typed q InColumn e)) _ a.1 in
     let c = passed_both (columns_refusal q (suc i) es) None b.1 in
-    both (is_flat e) (list_all is_flat es) (flat q InColumn e (has_type p (typed q InColumn e) b.0)) (columns_flat q (suc i) es c.0)
+    and_from (is_flat e) (list_all is_flat es) (flat q InColumn e (has_type p (typed q InColumn e) b.0)) (columns_flat q (suc i) es c.0)
 
 -- ---- a checked query
 
@@ -90,11 +87,11 @@ passed q h =
     let h5 = passed_both columns (first (having ∷ code ∷ [])) h4.1 in
     let h6 = passed_both having (first (code ∷ [])) h5.1 in
     let fits = (passed_unless (code_fits q) Limit part.Code None h6.1).0 in
-    let few : length (accumulators q) ≤ 16 = is_at_most (length (accumulators q)) 16 (and_parts (nat_le (length (accumulators q)) 16) _ fits).0 in
+    let few : length (accumulators q) ≤ 16 = leb-true (length (accumulators q)) 16 (and_parts (nat_le (length (accumulators q)) 16) _ fits).0 in
     record {
       fields = h2.0;
       resolved = record {
-        names = both (nat_le (length q.keys) 1000) _ (few_of_names part.Keys q.keys h1.0) (short_lists q.fields h2.0);
+        names = and_from (nat_le (length q.keys) 1000) _ (few_of_names part.Keys q.keys h1.0) (short_lists q.fields h2.0);
         condition = condition_flat q InWhere part.Where q.condition h4.0;
         columns = columns_flat q 0 q.columns h5.0;
         having = condition_flat q InColumn part.Having q.having h6.0;

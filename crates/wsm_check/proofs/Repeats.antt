@@ -2,18 +2,15 @@
 use Rattle.std.proofs.Common.{◌≡◌, ◌∙◌, ◌||◌, ◌++◌, Bool, true, false, List, [], ◌∷◌, bytes_eq, refl, sym, ap, ap₂}
 use Rattle.std.proofs.lemmas.Slice.Eq.{bytes_eq-Decides}
 use Rattle.std.specs.List.{list_any}
+use Rattle.std.proofs.Math.Bool.{or-false}
+use Rattle.std.proofs.lemmas.Bool.Decides.{same_from_decides}
 use Rattle.wsm_record.specs.Name.{is_among, repeats_after}
 use Rattle.wsm_query.specs.Tree.{Name}
 use Rattle.wsm_check.specs.Names.{has_repeats}
 
-either_way : (a b : Bool) → (a ≡ true → b ≡ true) → (b ≡ true → a ≡ true) → a ≡ b
-either_way true b f g = sym (f refl)
-either_way false true f g = g refl
-either_way false false f g = refl
-
-same_either_way : (x y : Name) → bytes_eq x y ≡ bytes_eq y x
+pub same_either_way : (x y : Name) → bytes_eq x y ≡ bytes_eq y x
 same_either_way x y =
-    either_way (bytes_eq x y) (bytes_eq y x) (λ e. (bytes_eq-Decides y x).1 (sym ((bytes_eq-Decides x y).0 e))) (λ e. (bytes_eq-Decides x y).1 (sym ((bytes_eq-Decides y x).0 e)))
+    same_from_decides (bytes_eq x y) (bytes_eq y x) (bytes_eq-Decides x y) (λ e. sym ((bytes_eq-Decides y x).0 e), λ e. (bytes_eq-Decides y x).1 (sym e))
 
 swapped : (a b c d : Bool) → ((a || b) || (c || d)) ≡ ((a || c) || (b || d))
 swapped true b c d = refl
@@ -27,11 +24,7 @@ grouped false true c d = refl
 grouped false false c d = refl
 
 among_more : (x y : Name) (before : List Name) → is_among y (before ++ x ∷ []) ≡ (is_among y before || bytes_eq x y)
-among_more x y [] = swap_end (bytes_eq y x) ∙ same_either_way y x
-  where
-    swap_end : (b : Bool) → (b || false) ≡ b
-    swap_end true = refl
-    swap_end false = refl
+among_more x y [] = or-false (bytes_eq y x) ∙ same_either_way y x
 among_more x y (z ∷ before) = ap (λ b. bytes_eq y z || b) (among_more x y before) ∙ moved (bytes_eq y z) _ _
   where
     moved : (a b c : Bool) → (a || (b || c)) ≡ ((a || b) || c)

@@ -2,6 +2,8 @@
 use Rattle.std.proofs.Common.{◌≡◌, ℕ, Bool, true, false, ◌&&◌, ◌||◌, not, cond, List, [], ◌∷◌, ◌++◌, Option, Some, None, refl, sym, ap, ◌∙◌, arith}
 use Rattle.std.specs.Prelude.{is_some, is_none, is_ok, option_map, nat_lt, nat_le}
 use Rattle.std.specs.List.{list_all, flat_map}
+use Rattle.std.proofs.lemmas.Bool.{and_from, and_parts}
+use Rattle.std.proofs.Math.Bool.{and-true, and_assoc}
 use Rattle.wsm_bytecode.specs.declared.SectionId.TheVariants.{Where, Update, Fire}
 use Rattle.wsm_bytecode.specs.declared.program.Budget.{Budget as Stated}
 use Rattle.wsm_interval.specs.declared.interval.Interval.{Interval}
@@ -20,11 +22,12 @@ use Rattle.wsm_verifier.specs.Rules.{or_then, fault_in, ranges_of_record, ranges
 use Rattle.wsm_compiler.specs.Ranges.{Range, Unfit, NoNumber, Within, no_number, on_intervals, of_op, of_minus, of_branches, if_fits, of_aggregate, range, fits, ranges_fit}
 use Rattle.wsm_compiler.specs.Program.{program_stating, stated, needed_of, program_of}
 use Rattle.wsm_compiler.specs.Accepted.{states_enough, FaultlessExactly, AcceptedExactly, AcceptedWithoutBudget}
-use Rattle.wsm_compiler.proofs.Hulls.{no, and_is, both_true}
+use Rattle.wsm_compiler.proofs.Hulls.{no}
 use Rattle.wsm_compiler.proofs.Conditions.{condition_fits, columns_fit, where_faults}
 use Rattle.wsm_compiler.proofs.Folding.{acc_fits, accs_fit, update_faults}
 use Rattle.wsm_compiler.proofs.Firing.{fire_faults}
 use Rattle.wsm_compiler.proofs.Checked.{Fine, fine}
+use Rattle.wsm_compiler.proofs.Visits.{some_or}
 
 -- ---- where a range fits, so do those of its parts
 
@@ -78,24 +81,16 @@ test_fits Unfit r h = no h
 test_fits NoNumber r h = (refl, h)
 test_fits (Within x) r h = (refl, h)
 
-and_groups : (a b d : Bool) → (a && (b && d)) ≡ ((a && b) && d)
-and_groups true b d = refl
-and_groups false b d = refl
-
 list_all-append : {A : Type 0} (f : A → Bool) (xs ys : List A) → list_all f (xs ++ ys) ≡ (list_all f xs && list_all f ys)
 list_all-append f [] ys = refl
-list_all-append f (x ∷ xs) ys = ap (λ b. f x && b) (list_all-append f xs ys) ∙ and_groups (f x) (list_all f xs) (list_all f ys)
-
-and_true : (b : Bool) → (b && true) ≡ b
-and_true true = refl
-and_true false = refl
+list_all-append f (x ∷ xs) ys = ap (λ b. f x && b) (list_all-append f xs ys) ∙ sym (and_assoc (f x) (list_all f xs) (list_all f ys))
 
 module _ (q : Query) (b : Stated) where
   fit_both : (xs ys : List Acc) → accs_fit q b xs ≡ true → accs_fit q b ys ≡ true → accs_fit q b (xs ++ ys) ≡ true
-  fit_both xs ys h l = list_all-append (acc_fits q b) xs ys ∙ both_true (accs_fit q b xs) (accs_fit q b ys) h l
+  fit_both xs ys h l = list_all-append (acc_fits q b) xs ys ∙ and_from (accs_fit q b xs) (accs_fit q b ys) h l
 
   accs_of_fit : (e : Expr) → fits (range q e) ≡ true → accs_fit q b (accumulators_of e) ≡ true
-  accs_of_fit (Aggregate kind e) h = both_true (fits (of_aggregate q.records kind (range q e))) true h refl
+  accs_of_fit (Aggregate kind e) h = and_from (fits (of_aggregate q.records kind (range q e))) true h refl
   accs_of_fit (If c x y) h =
       let t = test_fits (range q c) (of_branches (range q x) (range q y)) h in
       let p = branches_fit (range q x) (range q y) t.1 in
@@ -117,12 +112,12 @@ module _ (q : Query) (b : Stated) where
   pub accs_of_all : (es : List Expr) → columns_fit q es ≡ true → accs_fit q b (flat_map accumulators_of es) ≡ true
   accs_of_all [] h = refl
   accs_of_all (e ∷ es) h =
-      let p = and_is (fits (range q e)) (columns_fit q es) h in
+      let p = and_parts (fits (range q e)) (columns_fit q es) h in
       fit_both (accumulators_of e) (flat_map accumulators_of es) (accs_of_fit e p.0) (accs_of_all es p.1)
 
   option_fits : (o : Option Expr) → columns_fit q (in_option o) ≡ condition_fits q o
   option_fits None = refl
-  option_fits (Some e) = and_true (fits (range q e))
+  option_fits (Some e) = and-true (fits (range q e))
 
   pub fired_fit : columns_fit q (fired q) ≡ (columns_fit q q.columns && condition_fits q q.having)
   fired_fit = list_all-append (λ e. fits (range q e)) q.columns (in_option q.having) ∙ ap (λ v. columns_fit q q.columns && v) (option_fits q.having)
@@ -132,17 +127,9 @@ module _ (q : Query) (b : Stated) where
 
   -- ---- the three sections
 
-  some_or : (x y : Option Rejection) → is_some (or_then x y) ≡ (is_some x || is_some y)
-  some_or None y = refl
-  some_or (Some r) y = refl
-
   not_both : (x y : Bool) → (not x || not y) ≡ not (x && y)
   not_both true y = refl
   not_both false y = refl
-
-  or_true : (x : Bool) → (x || true) ≡ true
-  or_true true = refl
-  or_true false = refl
 
   abbrev where_fault : Option Rejection
   where_fault = let p = program_stating q b in fault_in p Where (ranges_of_record p)
@@ -225,4 +212,4 @@ accepted_without_budget q h e =
     let n = needed_of q in
     let enough : states_enough (program_of q) ≡ true =
     ap (λ b. states_enough (program_stating q (stated n b))) e ∙ (λ i. at_most_itself n.per_record i && (at_most_itself n.per_pane i && at_most_itself n.held i)) in
-    accepted_exactly q h ∙ ap (λ b. ranges_fit q && b) enough ∙ and_true (ranges_fit q)
+    accepted_exactly q h ∙ ap (λ b. ranges_fit q && b) enough ∙ and-true (ranges_fit q)

@@ -5,10 +5,11 @@ use Rattle.std.proofs.Math.Bridge.{le_prop}
 use Rattle.std.proofs.Math.Bool.{Bool-set}
 use Rattle.std.proofs.lemmas.List.{length-map}
 use Rattle.std.specs.Prelude.{◌&&◌}
+use Rattle.std.proofs.lemmas.Bool.{and_parts}
 use Rattle.wsm_record.specs.Schema.{schema_refusal}
 use Rattle.wsm_bytecode.specs.declared.instr.Instr.{Instr}
 use Rattle.wsm_bytecode.specs.declared.program.Budget.{Budget as Stated}
-use Rattle.wsm_bytecode.specs.Program.{Header, Program, is_schema, is_clock, is_firing, is_row, is_budget, is_header, is_section, is_program}
+use Rattle.wsm_bytecode.specs.Program.{Header, Program, is_schema, is_clock, is_firing, is_row, is_budget, is_header, is_program}
 use Rattle.wsm_bytecode.proofs.Stating.{lawful_stating}
 use Rattle.wsm_verifier.specs.Costs.{needed}
 use Rattle.wsm_query.specs.Tree.{Query}
@@ -17,28 +18,24 @@ use Rattle.wsm_check.specs.Parts.{Parts, ArePartsOfChecked, folding, aggregates_
 use Rattle.wsm_compiler.specs.TermCode.{ending_code, ending_size, foldings_code, foldings_size, firing_code, firing_size}
 use Rattle.wsm_compiler.specs.Program.{stated, needed_of, program_of}
 use Rattle.wsm_compiler.specs.Assembled.{assembled, assembled_header}
-use Rattle.wsm_compiler.proofs.Hulls.{and_is}
 use Rattle.wsm_compiler.proofs.Passed.{passed}
 use Rattle.wsm_compiler.proofs.Lawful.{is_lawful}
 use Rattle.wsm_compiler.proofs.Schemas.{schema_fits}
 use Rattle.wsm_compiler.proofs.Resolving.{ended_size, folded_size, fired_size, assembled_is}
-
-header_of : (p : Program) → is_program p ≡ true → is_header p.header ≡ true
-unfolding is_program
-header_of p h = let g = p.header in (and_is (is_header g) (is_section g p.selection && (is_section g p.update && is_section g p.fire)) h).0
+use Rattle.wsm_bytecode.proofs.Spelled.{program_header}
 
 budget_of : (p : Program) → is_program p ≡ true → is_budget p.header.budget ≡ true
 unfolding is_header
 budget_of p h =
     let g = p.header in
-    let a = and_is (is_schema g.schema) (is_clock g && (is_firing g && (is_row g && is_budget g.budget))) (header_of p h) in
-    let b = and_is (is_clock g) (is_firing g && (is_row g && is_budget g.budget)) a.1 in
-    let d = and_is (is_firing g) (is_row g && is_budget g.budget) b.1 in
-    (and_is (is_row g) (is_budget g.budget) d.1).1
+    let a = and_parts (is_schema g.schema) (is_clock g && (is_firing g && (is_row g && is_budget g.budget))) (program_header p h) in
+    let b = and_parts (is_clock g) (is_firing g && (is_row g && is_budget g.budget)) a.1 in
+    let d = and_parts (is_firing g) (is_row g && is_budget g.budget) b.1 in
+    (and_parts (is_row g) (is_budget g.budget) d.1).1
 
 schema_of : (p : Program) → is_program p ≡ true → is_schema p.header.schema ≡ true
 unfolding is_header
-schema_of p h = let g = p.header in (and_is (is_schema g.schema) (is_clock g && (is_firing g && (is_row g && is_budget g.budget))) (header_of p h)).0
+schema_of p h = let g = p.header in (and_parts (is_schema g.schema) (is_clock g && (is_firing g && (is_row g && is_budget g.budget))) (program_header p h)).0
 
 -- a header and sections that are those of the parts
 pub put_together : (p : Parts) (b : Stated) (header : Header) (selection update fire : List Instr) → header ≡ assembled_header p b →

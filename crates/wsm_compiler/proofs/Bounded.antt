@@ -1,6 +1,7 @@
 -- What code computes is the meaning where every number met has 64 bits.
 use Rattle.std.proofs.Common.{◌≡◌, ℕ, ◌+◌, Bool, true, false, ◌&&◌, cond, List, [], ◌∷◌, ◌++◌, ℤ, Option, Some, None, refl, sym, ap, ◌∙◌}
 use Rattle.std.specs.List.{list_all}
+use Rattle.std.proofs.Math.Bool.{and_assoc}
 use Rattle.wsm_record.specs.declared.event.Value.{Value}
 use Rattle.wsm_record.specs.declared.event.Value.TheVariants.{Int, Bool as Truth', Enum}
 use Rattle.wsm_interval.specs.Interval.{in_i64}
@@ -15,10 +16,6 @@ given b v = cond b v None
 
 abbrev fit : List ℤ → Bool
 fit ns = list_all in_i64 ns
-
-and_assoc : (a b c : Bool) → ((a && b) && c) ≡ (a && (b && c))
-and_assoc true b c = refl
-and_assoc false b c = refl
 
 fit-append : (ms ns : List ℤ) → fit (ms ++ ns) ≡ (fit ms && fit ns)
 fit-append [] ns = refl

@@ -12,10 +12,11 @@ use Rattle.wsm_check.specs.declared.types.Around.{Around}
 use Rattle.wsm_check.specs.declared.types.Around.TheVariants.{InWhere, InColumn, InAggregate}
 use Rattle.wsm_check.specs.Checks.{first, typed_refusal, condition_refusal, columns_refusal, IsChecked}
 use Rattle.wsm_compiler.proofs.Hulls.{no}
-use Rattle.wsm_compiler.proofs.Passed.{is_refusal, none_of_both, passed}
+use Rattle.wsm_compiler.proofs.Passed.{is_refusal, passed}
 use Rattle.wsm_compiler.proofs.Finding.{entered_is, unary_is, two_types, if_types, logic_types}
 use Rattle.wsm_compiler.proofs.Conditions.{ConditionTyped, ColumnsTyped}
 use Rattle.wsm_compiler.proofs.Folding.{AccsTyped}
+use Rattle.wsm_check.proofs.Following.{passed_both}
 
 typed_none : (p : Part) (x : Typed) → typed_refusal p x ≡ None → (t : ExprTy) × (x ≡ Ok t)
 typed_none p (Ok t) h = (t, refl)
@@ -30,9 +31,9 @@ columns_typed q i [] h = tt
 columns_typed q i (e ∷ es) h =
     let p = part.Column (suc i) in
     let rest = first (typed_refusal p (typed q InColumn e) ∷ columns_refusal q (suc i) es ∷ []) in
-    let a = none_of_both _ rest h in
-    let b = none_of_both (typed_refusal p (typed q InColumn e)) (first (columns_refusal q (suc i) es ∷ [])) a.1 in
-    let c = none_of_both (columns_refusal q (suc i) es) None b.1 in
+    let a = passed_both _ rest h in
+    let b = passed_both (typed_refusal p (typed q InColumn e)) (first (columns_refusal q (suc i) es ∷ [])) a.1 in
+    let c = passed_both (columns_refusal q (suc i) es) None b.1 in
     (typed_none p (typed q InColumn e) b.0, columns_typed q (suc i) es c.0)
 
 -- ---- aggregates have their types

@@ -2,6 +2,8 @@
 use Rattle.std.proofs.Common.{◌≡◌, ℕ, suc, ◌+◌, ◌≤◌, ◌<◌, Bool, true, false, ◌&&◌, ◌||◌, not, cond, List, [], ◌∷◌, ◌++◌, length, Option, Some, None, refl, sym, ap, ◌∙◌, arith, length-append}
 use Rattle.std.specs.Prelude.{is_some, nat_eq, nat_lt}
 use Rattle.std.specs.List.{cons_option}
+use Rattle.std.proofs.lemmas.Bool.{and_from, lt-ltb, eq-eqb, or_right}
+use Rattle.std.proofs.Math.Bool.{and-false}
 use Rattle.wsm_bytecode.specs.declared.Instr.{Instr}
 use Rattle.wsm_bytecode.specs.declared.Instr.TheVariants.{Jump, JumpIfFalse}
 use Rattle.wsm_bytecode.specs.declared.SectionId.{SectionId}
@@ -12,9 +14,10 @@ use Rattle.wsm_verifier.specs.Labels.{State, Label, Unreached, Reached, Visit, s
 use Rattle.wsm_verifier.specs.Rules.{Setting, may_stand, fold_missing, is_later, fault_of}
 use Rattle.wsm_compiler.specs.Code.{choice}
 use Rattle.wsm_compiler.proofs.Visits.{nil_right, extended, added, extended_is, added_append, carries, carries_append, faults, faults_append, or_true}
-use Rattle.wsm_compiler.proofs.Hulls.{both_true, stack_self, types_self, flags_self, hull_with}
+use Rattle.wsm_compiler.proofs.Hulls.{stack_self, types_self, flags_self, hull_with}
 use Rattle.wsm_compiler.proofs.Parts.{none≢some, Comes, Labels, Labelled, shorter, continued, visit_is, fault_is}
 use Rattle.wsm_compiler.proofs.Tests.{tested, not_last, with_known, pushed_on}
+use Rattle.wsm_semantics.proofs.Merging.{unlike}
 
 -- what is known behind two parts of which one is run; the second stands later
 abbrev pub hulled : Option Known → Option Known → Option Known
@@ -44,19 +47,19 @@ missing_at_jump Where t fs = refl
 missing_at_jump Update t fs = refl
 missing_at_jump Fire t fs = refl
 
-is_below : (a b : ℕ) → a < b → nat_lt a b ≡ true
-is_below a b h = grind arith
-
 well : (n p t : ℕ) → p < t → t < n → not (is_later n p t) ≡ false
-well n p t h l = (λ i. not (is_below p t h i && is_below t n l i))
+well n p t h l = (λ i. not (lt-ltb p t h i && lt-ltb t n l i))
 
-has_one : (n : ℕ) → nat_lt (suc n) 1 ≡ false
+pub has_one : (n : ℕ) → nat_lt (suc n) 1 ≡ false
 has_one n = grind arith
 
-room_at_test : (n : ℕ) → n < 32 → nat_lt 33 (suc n + 0) ≡ false
+pub not_under : (n : ℕ) → nat_lt n 0 ≡ false
+not_under n = grind arith
+
+pub room_at_test : (n : ℕ) → n < 32 → nat_lt 33 (suc n + 0) ≡ false
 room_at_test n h = grind arith
 
-room_at_jump : (n : ℕ) → n ≤ 32 → nat_lt 32 (n + 0) ≡ false
+pub room_at_jump : (n : ℕ) → n ≤ 32 → nat_lt 32 (n + 0) ≡ false
 room_at_jump n h = grind arith
 
 pub test_passes : (c : Setting) (k t : ℕ) (s : State) → length s.stack < 32 → k < t → t < c.n → suc k < c.n → is_some (fault_of c k (JumpIfFalse t) (Reached (with_known Truth s))) ≡ false
@@ -70,14 +73,8 @@ jump_passes c k t s room later inside =
     tested c k (Jump t) s false false false false false false false false false false false
     (ap not (jumps c.section t)) (not_under (length s.stack)) refl refl refl refl refl (room_at_jump (length s.stack) room)
     (missing_at_jump c.section t s.folded) (well c.n k t later inside) refl
-  where
-    not_under : (n : ℕ) → nat_lt n 0 ≡ false
-    not_under n = grind arith
 
 -- ---- their edges
-
-same_place : (q p : ℕ) → q ≡ p → nat_eq q p ≡ true
-same_place q p h = grind arith
 
 other_place : (q p : ℕ) → p < q → nat_eq q p ≡ false
 other_place q p h = grind arith
@@ -86,29 +83,19 @@ abbrev leads_two : ℕ → ℕ → ℕ → Bool
 leads_two k t q = nat_lt k q && (nat_eq q (suc k) || (nat_eq q t || false))
 
 to_next : (k t : ℕ) → leads_two k t (k + 1) ≡ true
-to_next k t = (λ i. is_below k (k + 1) (omega arith) i && (same_place (k + 1) (suc k) (omega arith) i || (nat_eq (k + 1) t || false)))
+to_next k t = (λ i. lt-ltb k (k + 1) (omega arith) i && (eq-eqb (k + 1) (suc k) (omega arith) i || (nat_eq (k + 1) t || false)))
 
 to_target : (k t : ℕ) → k < t → leads_two k t t ≡ true
-to_target k t h = (λ i. is_below k t h i && or_true' (nat_eq t (suc k)) (nat_eq t t || false) (λ j. same_place t t refl j || false) i)
-  where
-    or_true' : (a b : Bool) → b ≡ true → (a || b) ≡ true
-    or_true' a b h = ap (λ x. a || x) h ∙ or_true a
+to_target k t h = (λ i. lt-ltb k t h i && or_right (nat_eq t (suc k)) (nat_eq t t || false) (λ j. eq-eqb t t refl j || false) i)
 
 to_no_other : (k t q : ℕ) → k + 1 < q → nat_eq q t ≡ false → leads_two k t q ≡ false
-to_no_other k t q h l = (λ i. is_below k q (omega (arith, h)) i && (other_place q (suc k) (omega (arith, h)) i || (l i || false)))
+to_no_other k t q h l = (λ i. lt-ltb k q (omega (arith, h)) i && (other_place q (suc k) (omega (arith, h)) i || (l i || false)))
 
 to_jump : (k t : ℕ) → k < t → (nat_lt k t && (nat_eq t t || false)) ≡ true
-to_jump k t h = (λ i. is_below k t h i && (same_place t t refl i || false))
+to_jump k t h = (λ i. lt-ltb k t h i && (eq-eqb t t refl i || false))
 
 jump_to_no_other : (k t q : ℕ) → nat_eq q t ≡ false → (nat_lt k q && (nat_eq q t || false)) ≡ false
-jump_to_no_other k t q l = ap (λ x. nat_lt k q && (x || false)) l ∙ and_false (nat_lt k q)
-  where
-    and_false : (b : Bool) → (b && false) ≡ false
-    and_false true = refl
-    and_false false = refl
-
-before_place : (q p : ℕ) → q < p → nat_eq q p ≡ false
-before_place q p h = grind arith
+jump_to_no_other k t q l = ap (λ x. nat_lt k q && (x || false)) l ∙ and-false (nat_lt k q)
 
 -- ---- the choice
 
@@ -156,7 +143,7 @@ module _ (e : State) (c : Setting) (i m n : ℕ) (first second : List Instr) (s 
   comes0 = record {
     long = omega (arith, at.long);
     label = ap hull_all (ws0_at true (i + 1) (to_next i (place_of_second i m)) (omega arith) (omega (arith, pm)));
-    quiet = λ q l h. ws0_at false q (to_no_other i (place_of_second i m) q l (before_place q (place_of_second i m) (omega (arith, h, hm)))) (omega (arith, l)) (omega (arith, h, hm, pn));
+    quiet = λ q l h. ws0_at false q (to_no_other i (place_of_second i m) q l (unlike q (place_of_second i m) (omega (arith, h, hm)))) (omega (arith, l)) (omega (arith, h, hm, pn));
   }
 
   abbrev ws1 : List Visit
@@ -218,10 +205,10 @@ module _ (e : State) (c : Setting) (i m n : ℕ) (first second : List Instr) (s 
     comes2 = record {
       long = omega (arith, comes1.long, hm);
       label = ap hull_all
-          (λ j. cons_option (edge_on false (place_of_second i m) (jump_to_no_other (i + 1 + length first) (place_of_second i m + n) (place_of_second i m) (before_place _ _ (omega (arith, pn)))) j)
+          (λ j. cons_option (edge_on false (place_of_second i m) (jump_to_no_other (i + 1 + length first) (place_of_second i m + n) (place_of_second i m) (unlike _ _ (omega (arith, pn)))) j)
           (ws1_at true (place_of_second i m) (to_target i (place_of_second i m) (omega arith)) (omega (arith, hm)) (omega (arith, pn)) j));
       quiet = λ q l h.
-          (λ j. cons_option (edge_on false q (jump_to_no_other (i + 1 + length first) (place_of_second i m + n) q (before_place _ _ (omega (arith, h, hn)))) j)
+          (λ j. cons_option (edge_on false q (jump_to_no_other (i + 1 + length first) (place_of_second i m + n) q (unlike _ _ (omega (arith, h, hn)))) j)
           (ws1_at false q (to_no_other i (place_of_second i m) q (omega (arith, l)) (other_place q (place_of_second i m) l)) (omega (arith, l, hm)) (omega (arith, h, hn)) j));
     }
 
@@ -273,7 +260,7 @@ module _ (e : State) (c : Setting) (i m n : ℕ) (first second : List Instr) (s 
       let t = with_known a s in
       let u = with_known b s in
       let low : length t.stack ≤ 32 = omega (arith, room) in
-      let agrees : agree u t ≡ true = both_true (same_type b a && _) _ (both_true (same_type b a) _ same (types_self s.stack)) (flags_self s.folded) in
+      let agrees : agree u t ≡ true = and_from (same_type b a && _) _ (and_from (same_type b a) _ same (types_self s.stack)) (flags_self s.folded) in
       let is : hull_states u t ≡ with_known (hull_known b a) s = ap (λ below. record { stack = hull_known b a ∷ below; folded = s.folded }) (stack_self s.stack) in
       record {
         faulty = faults_whole ∙ (λ j. ((lb.faulty j || passes1 t low la j) || la.faulty j) || passes0 j);

@@ -2,6 +2,7 @@
 use Rattle.std.proofs.Common.{◌≡◌, ℕ, ◌+◌, ◌≤◌, ◌<◌, true, List, [], ◌∷◌, ◌++◌, length, take, Option, Some, None, refl, sym, ap, subst, ◌∙◌, arith, append_assoc, length-append}
 use Rattle.std.specs.Prelude.{max}
 use Rattle.std.specs.List.{flat_map}
+use Rattle.std.proofs.lemmas.Bool.{and_parts}
 use Rattle.wsm_bytecode.specs.declared.instr.Instr.{Instr}
 use Rattle.wsm_bytecode.specs.declared.program.Budget.{Budget as Stated}
 use Rattle.wsm_query.specs.Tree.{Query, Expr}
@@ -17,10 +18,10 @@ use Rattle.wsm_check.specs.Parts.{type_or_int}
 use Rattle.wsm_compiler.specs.Program.{program_stating, program_of, stated, needed_of}
 use Rattle.wsm_compiler.specs.Labelled.{known_as, ColumnLabels, LabelsAreRanges}
 use Rattle.wsm_compiler.proofs.Visits.{nil_right, extended, added, extended_is, visits_are}
-use Rattle.wsm_compiler.proofs.Hulls.{no, and_is}
+use Rattle.wsm_compiler.proofs.Hulls.{no}
 use Rattle.wsm_compiler.proofs.Parts.{Comes, Labels, shorter, continued}
 use Rattle.wsm_compiler.proofs.Tests.{with_known, pushed_on}
-use Rattle.wsm_compiler.proofs.Sizes.{length-code, some_size, some_code, length-accumulators_of}
+use Rattle.wsm_compiler.proofs.Sizes.{length-code, some_size, some_code}
 use Rattle.wsm_compiler.proofs.Suiting.{suits, known_of}
 use Rattle.wsm_compiler.proofs.Finding.{Reads, Accs, accs_left, accs_right, range_suits, found_is}
 use Rattle.wsm_compiler.proofs.Labelling.{labelled}
@@ -30,6 +31,7 @@ use Rattle.wsm_compiler.proofs.Folded.{all_values}
 use Rattle.wsm_compiler.proofs.Firing.{firing, accs_known, accs_are}
 use Rattle.wsm_compiler.proofs.Checked.{fine}
 use Rattle.wsm_compiler.proofs.Accepted.{accs_of_all, fired_fit, all_fit}
+use Rattle.wsm_check.proofs.Passing.{counted}
 
 known_is : (t : ExprTy) (r : Range) → suits t r ≡ true → fits r ≡ true → known_of t r ≡ Some (known_as t r)
 known_is t Unfit h l = no l
@@ -68,12 +70,12 @@ module _ (q : Query) (b : Stated) (e : State) (c : Setting) (reads : Reads c q I
       let a' = a + aggregates x in
       let rest = columns_code q j a' es in
       let vs = extended e c.ranges [] front in
-      let f = and_is (fits (range q x)) (columns_fit q es) fit in
+      let f = and_parts (fits (range q x)) (columns_fit q es) fit in
       let y = known_as (type_or_int (typed q InColumn x)) (range q x) in
       let whole : Accs c q a (accumulators_of x ++ (flat_map accumulators_of es ++ in_condition q.having)) =
       subst (λ xs. Accs c q a xs) (append_assoc (accumulators_of x) (flat_map accumulators_of es) (in_condition q.having)) accs in
       let here = accs_left c q a (accumulators_of x) (flat_map accumulators_of es ++ in_condition q.having) whole in
-      let behind = accs_right c q a (aggregates x) (accumulators_of x) (flat_map accumulators_of es ++ in_condition q.having) (length-accumulators_of x) whole in
+      let behind = accs_right c q a (aggregates x) (accumulators_of x) (flat_map accumulators_of es ++ in_condition q.having) (counted x) whole in
       let known' = found_is c q InColumn reads a x t hx (λ _. here) ∙ known_is t (range q x) (range_suits c q InColumn x t hx) f.0 ∙ ap (λ u. Some (known_as u (range q x))) (sym (ap type_or_int hx)) in
       let la = length-append is rest in
       let lc = length-code q k a x in
@@ -117,8 +119,8 @@ labels_are_ranges q checked fit =
     let b = stated (needed_of q) q.budget in
     let p = program_stating q b in
     let f = fine q b checked in
-    let parts = and_is (condition_fits q q.condition) (columns_fit q (fired q)) (sym (all_fit q b) ∙ fit) in
-    let columns = and_is (columns_fit q q.columns) (condition_fits q q.having) (sym (fired_fit q b) ∙ parts.1) in
+    let parts = and_parts (condition_fits q q.condition) (columns_fit q (fired q)) (sym (all_fit q b) ∙ fit) in
+    let columns = and_parts (columns_fit q q.columns) (condition_fits q q.having) (sym (fired_fit q b) ∙ parts.1) in
     let accs = accs_of_all q b (fired q) parts.1 in
     let l = length-columns q 0 0 q.columns in
     columns_labelled q b (entry p) (firing q b) (reads_fire q b (known_accumulators q.records 0 p.header.kinds (update_visits p))) [] 0 0 q.columns [] refl f.columns columns.0

@@ -3,6 +3,8 @@ use Rattle.std.proofs.Common.{◌≡◌, ℕ, ◌+◌, ◌≤◌, ◌<◌, Bool,
 use Rattle.std.proofs.lemmas.List.{reverse-append}
 use Rattle.std.specs.Prelude.{is_some, max}
 use Rattle.std.specs.List.{list_all, flat_map}
+use Rattle.std.proofs.lemmas.Option.{same_Some}
+use Rattle.std.proofs.Math.Bool.{and-true, and_assoc}
 use Rattle.wsm_bytecode.specs.declared.instr.Instr.TheVariants as instr
 use Rattle.wsm_bytecode.specs.declared.SectionId.TheVariants.{Where}
 use Rattle.wsm_bytecode.specs.declared.program.Budget.{Budget as Stated}
@@ -21,13 +23,14 @@ use Rattle.wsm_check.specs.Parts.{type_or_int}
 use Rattle.wsm_compiler.specs.Program.{cell_type, column_type, program_stating}
 use Rattle.wsm_compiler.proofs.Hulls.{no, type_self}
 use Rattle.wsm_compiler.proofs.Tests.{with_known}
-use Rattle.wsm_compiler.proofs.Sizes.{length-code, some_size, some_need, some_code, length-accumulators_of}
+use Rattle.wsm_compiler.proofs.Sizes.{length-code, some_size, some_need, some_code}
 use Rattle.wsm_compiler.proofs.Found.{found}
 use Rattle.wsm_compiler.proofs.Suiting.{suits, known_of, known_truth, known_has, known_type, type_of_two}
 use Rattle.wsm_compiler.proofs.Finding.{Reads, Accs, AccsIn, accs_left, accs_right, range_suits, found_is}
 use Rattle.wsm_compiler.proofs.Labelling.{labelled, truth_pushed}
 use Rattle.wsm_compiler.proofs.Ending.{Ends, or_behind, follow_ends, return_ends, whole_section}
 use Rattle.wsm_compiler.proofs.Reading.{in_column, reads_where}
+use Rattle.wsm_check.proofs.Passing.{counted}
 
 abbrev pub condition_fits : Query → Option Expr → Bool
 condition_fits q None = true
@@ -51,13 +54,6 @@ fits_and IntValue (Within i) b h = refl
 fits_and BoolValue (Within i) b h = no h
 fits_and (EnumValue e) (Within i) b h = no h
 
-and_true : (b : Bool) → (b && true) ≡ b
-and_true true = refl
-and_true false = refl
-
-some_is : (a b : Known) → Some a ≡ Some b → a ≡ b
-some_is a b e = ap (λ o. elim o [ None ↦ a | Some z ↦ z ]) e
-
 -- a condition and its section's return
 pub condition_ends : (e : State) (c : Setting) (q : Query) (around : Around) → Reads c q around → (k a : ℕ) (o : Option Expr) (s : State) → ConditionTyped q around o → AccsIn c q around a (in_condition o) →
     length s.stack + need_of_condition o ≤ 32 → k + condition_size o < c.n → same_types (known.Truth ∷ s.stack) c.ends ≡ true → fold_missing c.section instr.Return s.folded ≡ false →
@@ -65,10 +61,10 @@ pub condition_ends : (e : State) (c : Setting) (q : Query) (around : Around) →
 condition_ends e c q around reads k a None s h accs room more types folded =
     follow_ends e c k 1 (instr.PushBool true ∷ []) (instr.Return ∷ []) s (Some known.Truth) (λ x. false) refl (omega arith) (omega arith)
     (truth_pushed e c k s (omega (arith, room)) (omega (arith, more)) true)
-    (λ x h. subst (λ z. Ends e c (k + 1) (instr.Return ∷ []) (with_known z s) false) (some_is known.Truth x h) (return_ends e c (k + 1) (with_known known.Truth s) types folded (omega (arith, room))))
+    (λ x h. subst (λ z. Ends e c (k + 1) (instr.Return ∷ []) (with_known z s) false) (same_Some known.Truth x h) (return_ends e c (k + 1) (with_known known.Truth s) types folded (omega (arith, room))))
 condition_ends e c q around reads k a (Some x) s h accs room more types folded =
     subst (λ b. Ends e c k (code q k a x ++ instr.Return ∷ []) s b)
-    (ap (λ o. or_behind o (λ y. false)) (found_is c q around reads a x BoolValue h accs) ∙ fits_and BoolValue (range q x) true (range_suits c q around x BoolValue h) ∙ ap not (and_true (fits (range q x))))
+    (ap (λ o. or_behind o (λ y. false)) (found_is c q around reads a x BoolValue h accs) ∙ fits_and BoolValue (range q x) true (range_suits c q around x BoolValue h) ∙ ap not (and-true (fits (range q x))))
     (follow_ends e c k (size x) (code q k a x) (instr.Return ∷ []) s (found c q a x) (λ y. false) (length-code q k a x) (some_code q k a x) (omega arith)
     (labelled e c q around reads k a x BoolValue s h accs room more)
     (λ y ey.
@@ -144,9 +140,9 @@ columns_ends e c q reads k a (x ∷ es) s below h hh accs room more types ends f
     let fit = columns_fit q es && condition_fits q q.having in
     let here : Accs c q a (accumulators_of x) = accs_left c q a (accumulators_of x) _ (subst (λ xs. Accs c q a xs) (append_assoc (accumulators_of x) (flat_map accumulators_of es) (in_condition q.having)) accs) in
     let behind : Accs c q b (flat_map accumulators_of es ++ in_condition q.having) =
-    accs_right c q a (aggregates x) (accumulators_of x) _ (length-accumulators_of x) (subst (λ xs. Accs c q a xs) (append_assoc (accumulators_of x) (flat_map accumulators_of es) (in_condition q.having)) accs) in
+    accs_right c q a (aggregates x) (accumulators_of x) _ (counted x) (subst (λ xs. Accs c q a xs) (append_assoc (accumulators_of x) (flat_map accumulators_of es) (in_condition q.having)) accs) in
     subst (λ w. Ends e c k (code q k a x ++ rest) s w)
-    (ap (λ o. or_behind o (λ y. not fit)) (found_is c q InColumn reads a x t hx (λ _. here)) ∙ fits_and t (range q x) fit (range_suits c q InColumn x t hx) ∙ ap not (sym (and_groups (fits (range q x)) (columns_fit q es) (condition_fits q q.having))))
+    (ap (λ o. or_behind o (λ y. not fit)) (found_is c q InColumn reads a x t hx (λ _. here)) ∙ fits_and t (range q x) fit (range_suits c q InColumn x t hx) ∙ ap not (sym (and_assoc (fits (range q x)) (columns_fit q es) (condition_fits q q.having))))
     (follow_ends e c k (size x) (code q k a x) rest s (found c q a x) (λ y. not fit) (length-code q k a x) (some_code q k a x) (some_columns q j b es)
     (labelled e c q InColumn reads k a x t s hx (λ _. here) (first_room (length s.stack) (need x) _ room) (omega (arith, more, some_columns_size q.having es)))
     (λ y ey.
@@ -154,10 +150,6 @@ columns_ends e c q reads k a (x ∷ es) s below h hh accs room more types ends f
     (λ i. column_same q x t y hx (known_has t (range q x) y (sym (found_is c q InColumn reads a x t hx (λ _. here)) ∙ ey)) i && types i)
     (ends ∙ ap (λ zs. known.Truth ∷ zs) (ends_next q x es below)) folded))
   where
-    and_groups : (a b d : Bool) → ((a && b) && d) ≡ (a && (b && d))
-    and_groups true b d = refl
-    and_groups false b d = refl
-
     first_room : (l n m : ℕ) → max (l + n) m ≤ 32 → l + n ≤ 32
     first_room l n m h = omega (arith, h)
 

@@ -5,6 +5,7 @@ use Rattle.std.proofs.lemmas.Grind.{div_ceil_times}
 use Rattle.std.proofs.Math.Nat.{div-le_self}
 use Rattle.std.specs.Prelude.{◌+ℤ◌, max, min, pos, negsuc, int_le, nat_le, unsigned_abs, ◌/◌, ◌%◌}
 use Rattle.std.specs.Int.{div_ceil}
+use Rattle.std.proofs.lemmas.Bool.{and_from, and_parts, le-leb}
 use Rattle.wsm_record.specs.Name.{is_between}
 use Rattle.wsm_windows.specs.declared.window.Shape.{Shape}
 use Rattle.wsm_windows.specs.declared.window.Shape.TheVariants.{Fixed, Sliding, Session}
@@ -17,7 +18,7 @@ use Rattle.wsm_check.specs.Checks.{in_range, is_count, is_span, is_time, is_cost
 use Rattle.wsm_check.specs.Sizes.{Acc, accumulators, size, condition_size, folds_size, columns_size}
 use Rattle.wsm_compiler.specs.Longest.{longest, longest_condition, longest_folds, longest_columns, needed_by_structure}
 use Rattle.wsm_compiler.specs.Program.{needed_of, stated}
-use Rattle.wsm_compiler.proofs.Hulls.{no, and_is, both_true}
+use Rattle.wsm_compiler.proofs.Hulls.{no}
 use Rattle.wsm_compiler.proofs.Longest.{needed_is}
 use Rattle.wsm_compiler.proofs.Passed.{Passed}
 
@@ -81,7 +82,7 @@ abbrev limit : ℤ
 limit = pos 1000000000000
 
 count_is : (n : ℤ) → is_count n ≡ true → (0 < unsigned_abs n) × (unsigned_abs n ≤ 1000000000000)
-count_is (pos n) h = let p = and_is (int_le (pos 1) (pos n)) (int_le (pos n) limit) h in (from n p.0, to n p.1)
+count_is (pos n) h = let p = and_parts (int_le (pos 1) (pos n)) (int_le (pos n) limit) h in (from n p.0, to n p.1)
   where
     from : (n : ℕ) → int_le (pos 1) (pos n) ≡ true → 0 < n
     from n h = grind arith
@@ -93,7 +94,7 @@ count_is (negsuc n) h = no h
 windows_at_most : (s : Shape) → shape_fits s ≡ true → windows_of_a_record s ≤ 1000000000001
 windows_at_most (Fixed size) h = omega arith
 windows_at_most (Sliding size period) h =
-    let c = count_is size (and_is (is_count size) (is_count period && int_le period size) h).0 in
+    let c = count_is size (and_parts (is_count size) (is_count period && int_le period size) h).0 in
     let d = ceil_at_most (unsigned_abs size) (unsigned_abs period) in
     omega (arith, c.1, d)
 windows_at_most (Session gap) h = omega arith
@@ -107,18 +108,15 @@ spans_added (pos m) (pos n) (negsuc l) h i j = no j
 live_at_least : (s : Shape) (skew lateness : ℤ) → shape_fits s ≡ true → is_span skew ≡ true → is_span lateness ≡ true → 0 < live_bound s skew lateness
 live_at_least (Fixed size) skew lateness h i j = ceil_at_least (unsigned_abs ((skew +ℤ lateness) +ℤ size)) (unsigned_abs size) (spans_added skew lateness size i j h) (count_is size h).0
 live_at_least (Sliding size period) skew lateness h i j =
-    let p = and_is (is_count size) (is_count period && int_le period size) h in
-    let d = and_is (is_count period) (int_le period size) p.1 in
+    let p = and_parts (is_count size) (is_count period && int_le period size) h in
+    let d = and_parts (is_count period) (int_le period size) p.1 in
     ceil_at_least (unsigned_abs ((skew +ℤ lateness) +ℤ size)) (unsigned_abs period) (spans_added skew lateness size i j p.0) (count_is period d.0).0
 live_at_least (Session gap) skew lateness h i j = omega arith
 
 -- ---- what is stated
 
 between : (lo hi n : ℕ) → lo ≤ n → n ≤ hi → is_between lo hi n ≡ true
-between lo hi n h l = both_true (nat_le lo n) (nat_le n hi) (at_most lo n h) (at_most n hi l)
-  where
-    at_most : (m n : ℕ) → m ≤ n → nat_le m n ≡ true
-    at_most m n h = grind arith
+between lo hi n h l = and_from (nat_le lo n) (nat_le n hi) (le-leb lo n h) (le-leb n hi l)
 
 abbrev costs_fit : Costs → Bool
 costs_fit c = is_stated c.per_record && (is_stated c.per_pane && is_between 1 100000 c.held)
@@ -144,18 +142,18 @@ needed_fits q p keys =
     let windows = windows_at_most q.shape p.shape in
     let product = product_at_most (windows_of_a_record q.shape) (longest_folds (accumulators q)) windows (omega (arith, u, p.code.update)) in
     let joins = joins_at_most q.shape (length (accumulators q)) in
-    let i = and_is (is_time q.start) (is_span q.skew && (is_span q.lateness && is_count q.records)) p.clock in
-    let j = and_is (is_span q.skew) (is_span q.lateness && is_count q.records) i.1 in
-    let k = and_is (is_span q.lateness) (is_count q.records) j.1 in
+    let i = and_parts (is_time q.start) (is_span q.skew && (is_span q.lateness && is_count q.records)) p.clock in
+    let j = and_parts (is_span q.skew) (is_span q.lateness && is_count q.records) i.1 in
+    let k = and_parts (is_span q.lateness) (is_count q.records) j.1 in
     let live = live_at_least q.shape q.skew q.lateness p.shape j.0 k.0 in
-    both_true (is_stated need.per_record) (is_stated need.per_pane && is_between 1 100000 need.held)
+    and_from (is_stated need.per_record) (is_stated need.per_pane && is_between 1 100000 need.held)
     (between 1 1000000000000000000 need.per_record (omega arith) (omega (arith, w, product, joins, p.code.selection, p.code.accs)))
-    (both_true (is_stated need.per_pane) (is_between 1 100000 need.held)
+    (and_from (is_stated need.per_pane) (is_between 1 100000 need.held)
     (between 1 1000000000000000000 need.per_pane (omega (arith, f.0)) (omega (arith, f.1, p.code.fire)))
     (between 1 100000 need.held (product_at_least (length q.keys) (live_bound q.shape q.skew q.lateness) keys live) p.code.held))
 
 cost_is : (lo hi : ℕ) (n : ℤ) → in_range (pos lo) (pos hi) n ≡ true → is_between lo hi (unsigned_abs n) ≡ true
-cost_is lo hi (pos n) h = let p = and_is (int_le (pos lo) (pos n)) (int_le (pos n) (pos hi)) h in both_true (nat_le lo n) (nat_le n hi) (same lo n p.0) (same n hi p.1)
+cost_is lo hi (pos n) h = let p = and_parts (int_le (pos lo) (pos n)) (int_le (pos n) (pos hi)) h in and_from (nat_le lo n) (nat_le n hi) (same lo n p.0) (same n hi p.1)
   where
     same : (m n : ℕ) → int_le (pos m) (pos n) ≡ true → nat_le m n ≡ true
     same m n h = grind arith
@@ -167,7 +165,7 @@ budget_is q p keys = by_budget q.budget p.budget
     by_budget : (o : Option Budget) → budget_fits o ≡ true → is_budget (stated (needed_of q) o) ≡ true
     by_budget None h = ap costs_fit (needed_is q) ∙ needed_fits q p keys
     by_budget (Some b) h =
-        let f = and_is (is_cost b.per_record) (is_cost b.per_pane && in_range (pos 1) (pos 100000) b.held) h in
-        let g = and_is (is_cost b.per_pane) (in_range (pos 1) (pos 100000) b.held) f.1 in
-        both_true (is_stated (unsigned_abs b.per_record)) (is_stated (unsigned_abs b.per_pane) && is_between 1 100000 (unsigned_abs b.held)) (cost_is 1 1000000000000000000 b.per_record f.0)
-        (both_true (is_stated (unsigned_abs b.per_pane)) (is_between 1 100000 (unsigned_abs b.held)) (cost_is 1 1000000000000000000 b.per_pane g.0) (cost_is 1 100000 b.held g.1))
+        let f = and_parts (is_cost b.per_record) (is_cost b.per_pane && in_range (pos 1) (pos 100000) b.held) h in
+        let g = and_parts (is_cost b.per_pane) (in_range (pos 1) (pos 100000) b.held) f.1 in
+        and_from (is_stated (unsigned_abs b.per_record)) (is_stated (unsigned_abs b.per_pane) && is_between 1 100000 (unsigned_abs b.held)) (cost_is 1 1000000000000000000 b.per_record f.0)
+        (and_from (is_stated (unsigned_abs b.per_pane)) (is_between 1 100000 (unsigned_abs b.held)) (cost_is 1 1000000000000000000 b.per_pane g.0) (cost_is 1 100000 b.held g.1))

@@ -1,6 +1,8 @@
 -- Sections that end by a return: whether one of their places has a fault.
 use Rattle.std.proofs.Common.{◌≡◌, ℕ, ◌+◌, ◌≤◌, ◌<◌, Bool, true, false, ◌||◌, not, List, [], ◌∷◌, ◌++◌, length, Option, Some, None, refl, sym, ap, subst, ◌∙◌, arith, length-append}
-use Rattle.std.specs.Prelude.{is_some, nat_lt}
+use Rattle.std.specs.Prelude.{is_some}
+use Rattle.std.proofs.Math.Bool.{or-false}
+use Rattle.std.proofs.lemmas.Option.{same_Some}
 use Rattle.wsm_bytecode.specs.declared.instr.Instr.{Instr}
 use Rattle.wsm_bytecode.specs.declared.instr.Instr.TheVariants.{Return}
 use Rattle.wsm_bytecode.specs.declared.SectionId.{SectionId}
@@ -9,10 +11,11 @@ use Rattle.wsm_bytecode.specs.Program.{Program, section}
 use Rattle.wsm_verifier.specs.declared.known.Known.{Known}
 use Rattle.wsm_verifier.specs.Labels.{State, Ranges, Reached, Visit, same_types}
 use Rattle.wsm_verifier.specs.Rules.{Setting, may_stand, fold_missing, section_fault, setting, entry, fault_in}
-use Rattle.wsm_compiler.proofs.Visits.{extended, added, added_append, length-added, visits_are, faults, faults_append, or_true, or_false}
+use Rattle.wsm_compiler.proofs.Visits.{extended, added, added_append, length-added, visits_are, faults, faults_append, or_true}
 use Rattle.wsm_compiler.proofs.Hulls.{no}
 use Rattle.wsm_compiler.proofs.Parts.{Comes, Labelled, shorter, continued, visit_is, fault_is}
 use Rattle.wsm_compiler.proofs.Tests.{tested, with_known, pushed_on}
+use Rattle.wsm_compiler.proofs.Choosing.{room_at_jump, not_under}
 
 -- instructions up to the end of their section: whether they have a fault
 abbrev pub Ends : State → Setting → ℕ → List Instr → State → Bool → Type 0
@@ -33,7 +36,7 @@ sequence_ends e c k is js s (Some t) g hi hj first rest vs at =
     let whole = subst (λ m. Comes e vs k s m) (length-append is js) at in
     let a = first vs (shorter e vs k s (length is) (length js) whole) in
     let ws = extended e c.ranges vs is in
-    ap (faults c) (added_append e c.ranges vs is js) ∙ faults_append c (added e c.ranges ws js) (added e c.ranges vs is) ∙ ap (λ b. faults c (added e c.ranges ws js) || b) a.faulty ∙ or_false (faults c (added e c.ranges ws js))
+    ap (faults c) (added_append e c.ranges vs is js) ∙ faults_append c (added e c.ranges ws js) (added e c.ranges vs is) ∙ ap (λ b. faults c (added e c.ranges ws js) || b) a.faulty ∙ or-false (faults c (added e c.ranges ws js))
     ∙ rest t refl ws (continued e c vs k is (length js) s t hi hj whole a)
 
 -- a part of n places that pushes a value, and what ends the section
@@ -43,10 +46,7 @@ follow_ends e c k n is js s None g hn hi hj first rest =
     sequence_ends e c k is js s None (λ t. true) hi hj first (λ t h. no (ap is_some h))
 follow_ends e c k n is js s (Some x) g hn hi hj first rest =
     sequence_ends e c k is js s (Some (with_known x s)) (λ t. g x) hi hj first
-    (λ t h. subst (λ w. Ends e c (k + length is) js w (g x)) (some_is (with_known x s) t h) (subst (λ m. Ends e c (k + m) js (with_known x s) (g x)) (sym hn) (rest x refl)))
-  where
-    some_is : (s t : State) → Some s ≡ Some t → s ≡ t
-    some_is s t h = ap (λ o. elim o [ None ↦ s | Some u ↦ u ]) h
+    (λ t h. subst (λ w. Ends e c (k + length is) js w (g x)) (same_Some (with_known x s) t h) (subst (λ m. Ends e c (k + m) js (with_known x s) (g x)) (sym hn) (rest x refl)))
 
 -- ---- the return
 
@@ -60,13 +60,7 @@ pub return_ends : (e : State) (c : Setting) (k : ℕ) (s : State) → same_types
 return_ends e c k s types folded low vs at =
     ap (λ w. faults c (w ∷ [])) (visit_is e c.ranges Return vs k s at.long at.label) ∙ fault_is c k Return (Reached s)
     ∙ tested c k Return s false false false false false false false false false false false
-    (ap not (returns c.section)) (not_under (length s.stack)) (ap not types) refl refl refl refl (room (length s.stack) low) folded refl refl
-  where
-    not_under : (n : ℕ) → nat_lt n 0 ≡ false
-    not_under n = grind arith
-
-    room : (n : ℕ) → n ≤ 32 → nat_lt 32 (n + 0) ≡ false
-    room n h = grind arith
+    (ap not (returns c.section)) (not_under (length s.stack)) (ap not types) refl refl refl refl (room_at_jump (length s.stack) low) folded refl refl
 
 -- ---- a whole section
 

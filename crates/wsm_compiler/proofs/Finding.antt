@@ -2,6 +2,7 @@
 use Rattle.std.proofs.Common.{◌≡◌, ℕ, zero, suc, ◌+◌, Bool, true, false, ◌&&◌, cond, List, [], ◌∷◌, ◌++◌, length, Option, Some, None, Ok, Err, refl, sym, ap, subst, ◌∙◌, arith}
 use Rattle.std.specs.Prelude.{ℤ, pos, ◌*ℤ◌, slice_get}
 use Rattle.std.specs.Int.{int_min, int_max}
+use Rattle.std.proofs.lemmas.Bool.{and_parts}
 use Rattle.wsm_record.specs.declared.words.Kind.{Kind}
 use Rattle.wsm_record.specs.declared.words.Kind.TheVariants.{Sum, Min, Max, Any, All}
 use Rattle.wsm_record.specs.Name.{is_among}
@@ -21,11 +22,11 @@ use Rattle.wsm_verifier.specs.declared.known.Known.TheVariants as known
 use Rattle.wsm_verifier.specs.Rules.{Setting, and_then}
 use Rattle.wsm_compiler.specs.Code.{instruction}
 use Rattle.wsm_compiler.specs.Ranges.{Range, Unfit, NoNumber, Within, no_number, of_branches, if_fits, of_sum, of_aggregate, of_type, range}
-use Rattle.wsm_compiler.proofs.Hulls.{no, and_is, hull_either}
+use Rattle.wsm_compiler.proofs.Hulls.{no, hull_either}
 use Rattle.wsm_compiler.proofs.Choosing.{hulled}
 use Rattle.wsm_compiler.proofs.Found.{of_instr, found}
 use Rattle.wsm_compiler.proofs.Suiting.{ok_is, err≢ok, typed_first, wanted_is, ty_is, suits, known_of, made, minus_found, minus_suits, not_found, op_typed, result_of, op_found}
-use Rattle.wsm_compiler.proofs.Sizes.{length-accumulators_of}
+use Rattle.wsm_check.proofs.Passing.{counted}
 
 -- ---- types
 
@@ -84,7 +85,7 @@ if_types q around c x y w e =
     let b = typed_first (typed q around c) (λ b. if_typed (typed q around x) (λ t. if_typed (typed q around y) (λ u. wanted (ty_eq b BoolValue && ty_eq t u) t))) w e in
     let two = two_types q around x y (λ t u. wanted (ty_eq b.0 BoolValue && ty_eq t u) t) w b.2 in
     let same = wanted_is (ty_eq b.0 BoolValue && ty_eq two.left two.right) two.left w two.both in
-    let parts = and_is (ty_eq b.0 BoolValue) (ty_eq two.left two.right) same.0 in
+    let parts = and_parts (ty_eq b.0 BoolValue) (ty_eq two.left two.right) same.0 in
     record {
       test_is = b.1 ∙ ap Ok (ty_is b.0 BoolValue parts.0);
       first_is = two.left_is ∙ ap Ok same.1;
@@ -101,7 +102,7 @@ pub logic_types : (q : Query) (around : Around) (x y : Expr) (w : ExprTy) → if
 logic_types q around x y w e =
     let two = two_types q around x y logic_ty w e in
     let same = wanted_is (ty_eq two.left BoolValue && ty_eq two.right BoolValue) BoolValue w two.both in
-    let parts = and_is (ty_eq two.left BoolValue) (ty_eq two.right BoolValue) same.0 in
+    let parts = and_parts (ty_eq two.left BoolValue) (ty_eq two.right BoolValue) same.0 in
     record { left_is = two.left_is ∙ ap Ok (ty_is two.left BoolValue parts.0); right_is = two.right_is ∙ ap Ok (ty_is two.right BoolValue parts.1); is = same.1 }
 
 -- the operand of a unary operator that gives the type that it takes
@@ -239,7 +240,7 @@ pub in_left : (c : Setting) (q : Query) (around : Around) (a : ℕ) (x y : Expr)
 in_left c q around a x y h e = accs_left c q a (accumulators_of x) (accumulators_of y) (h e)
 
 pub in_right : (c : Setting) (q : Query) (around : Around) (a : ℕ) (x y : Expr) → AccsIn c q around a (accumulators_of x ++ accumulators_of y) → AccsIn c q around (a + aggregates x) (accumulators_of y)
-in_right c q around a x y h e = accs_right c q a (aggregates x) (accumulators_of x) (accumulators_of y) (length-accumulators_of x) (h e)
+in_right c q around a x y h e = accs_right c q a (aggregates x) (accumulators_of x) (accumulators_of y) (counted x) (h e)
 
 -- the three parts of IF
 pub record ThreeAccs (c : Setting) (q : Query) (around : Around) (a : ℕ) (b x y : Expr) : Type 0 where
@@ -249,12 +250,12 @@ pub record ThreeAccs (c : Setting) (q : Query) (around : Around) (a : ℕ) (b x 
 
 pub three_accs : (c : Setting) (q : Query) (around : Around) (a : ℕ) (b x y : Expr) → AccsIn c q around a (accumulators_of (If b x y)) → ThreeAccs c q around a b x y
 three_accs c q around a b x y h =
-    let rest : AccsIn c q around (a + aggregates b) (accumulators_of x ++ accumulators_of y) = λ e. accs_right c q a (aggregates b) (accumulators_of b) (accumulators_of x ++ accumulators_of y) (length-accumulators_of b) (h e) in
+    let rest : AccsIn c q around (a + aggregates b) (accumulators_of x ++ accumulators_of y) = λ e. accs_right c q a (aggregates b) (accumulators_of b) (accumulators_of x ++ accumulators_of y) (counted b) (h e) in
     let place : a + aggregates b + aggregates x ≡ a + (aggregates b + aggregates x) = omega arith in
     record {
       test = λ e. accs_left c q a (accumulators_of b) (accumulators_of x ++ accumulators_of y) (h e);
       first = λ e. accs_left c q (a + aggregates b) (accumulators_of x) (accumulators_of y) (rest e);
-      second = λ e. subst (λ n. Accs c q n (accumulators_of y)) place (accs_right c q (a + aggregates b) (aggregates x) (accumulators_of x) (accumulators_of y) (length-accumulators_of x) (rest e));
+      second = λ e. subst (λ n. Accs c q n (accumulators_of y)) place (accs_right c q (a + aggregates b) (aggregates x) (accumulators_of x) (accumulators_of y) (counted x) (rest e));
     }
 
 at_type : (o : Option Known) (r : Range) (u t : ExprTy) → u ≡ t → o ≡ known_of u r → o ≡ known_of t r

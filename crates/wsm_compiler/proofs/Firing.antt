@@ -3,6 +3,8 @@ use Rattle.std.proofs.Common.{◌≡◌, ℕ, zero, suc, ◌+◌, ◌≤◌, tru
 use Rattle.std.specs.Prelude.{ℤ, ◌*ℤ◌, is_some, slice_get, slice_index_or}
 use Rattle.std.specs.List.{flat_map}
 use Rattle.std.specs.Int.{int_min, int_max}
+use Rattle.std.proofs.lemmas.Option.{same_Some}
+use Rattle.std.proofs.lemmas.Bool.{and_parts}
 use Rattle.wsm_record.specs.declared.words.Kind.{Kind}
 use Rattle.wsm_record.specs.declared.words.Kind.TheVariants.{Sum, Min, Max, Any, All}
 use Rattle.wsm_interval.specs.Interval.{interval, in_i64}
@@ -19,7 +21,7 @@ use Rattle.wsm_verifier.specs.Rules.{Setting, setting, entry, and_then, accumula
 use Rattle.wsm_compiler.specs.Ranges.{Range, Unfit, NoNumber, Within, of_aggregate, range, fits}
 use Rattle.wsm_compiler.specs.Program.{column_type, program_stating}
 use Rattle.wsm_compiler.proofs.Visits.{nil_right}
-use Rattle.wsm_compiler.proofs.Hulls.{no, and_is}
+use Rattle.wsm_compiler.proofs.Hulls.{no}
 use Rattle.wsm_compiler.proofs.Parts.{none≢some}
 use Rattle.wsm_compiler.proofs.Suiting.{suits, known_of}
 use Rattle.wsm_compiler.proofs.Finding.{Accs, range_suits}
@@ -54,9 +56,6 @@ aggregate_known n All Unfit h l = no l
 aggregate_known n All NoNumber h l = refl
 aggregate_known n All (Within x) h l = no h
 
-get_is : {A : Type 0} (x y : A) → Some x ≡ Some y → x ≡ y
-get_is x y h = ap (λ o. elim o [ None ↦ x | Some z ↦ z ]) h
-
 flat_append : (xs ys : List Expr) → flat_map accumulators_of (xs ++ ys) ≡ flat_map accumulators_of xs ++ flat_map accumulators_of ys
 flat_append [] ys = refl
 flat_append (x ∷ xs) ys = ap (λ zs. accumulators_of x ++ zs) (flat_append xs ys) ∙ sym (append_assoc (accumulators_of x) (flat_map accumulators_of xs) (flat_map accumulators_of ys))
@@ -74,11 +73,11 @@ module _ (q : Query) (b : Stated) where
       Some (slice_index_or (known_from n accs vs) j Truth) ≡ known_of (operand_ty acc.kind) (of_aggregate q.records acc.kind (range q acc.operand))
   known_at n [] vs j acc h fit values e = none≢some e
   known_at n (x ∷ accs) vs zero acc h fit values e =
-      let f = and_is (acc_fits q b x) (accs_fit q b accs) fit in
+      let f = and_parts (acc_fits q b x) (accs_fit q b accs) fit in
       ap (λ o. Some (known_range (and_then (accumulated q.records x.kind) o))) values.0
       ∙ aggregate_known q.records x.kind (range q x.operand) (range_suits (updating q b) q InAggregate x.operand (operand_ty x.kind) h.0) f.0
-      ∙ ap (λ z. known_of (operand_ty z.kind) (of_aggregate q.records z.kind (range q z.operand))) (get_is x acc e)
-  known_at n (x ∷ accs) vs (suc j) acc h fit values e = known_at (suc n) accs vs j acc h.1 (and_is (acc_fits q b x) (accs_fit q b accs) fit).1 values.1 e
+      ∙ ap (λ z. known_of (operand_ty z.kind) (of_aggregate q.records z.kind (range q z.operand))) (same_Some x acc e)
+  known_at n (x ∷ accs) vs (suc j) acc h fit values e = known_at (suc n) accs vs j acc h.1 (and_parts (acc_fits q b x) (accs_fit q b accs) fit).1 values.1 e
 
   abbrev pub firing : Setting
   firing = let p = program_stating q b in setting p Fire (ranges_of_pane p (update_visits p))

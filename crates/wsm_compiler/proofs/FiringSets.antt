@@ -4,6 +4,7 @@ use Rattle.std.proofs.Common.{◌≡◌, ℕ, zero, suc, ◌≤◌, Bool, true, 
 use Rattle.std.specs.Prelude.{◌+ℤ◌, filter, filter_map, is_none, nat_eq, nat_lt, int_le, int_lt}
 use Rattle.std.specs.Option.{IfSome}
 use Rattle.std.specs.List.{AllByRecursion, cons_option, list_all, list_any}
+use Rattle.std.proofs.lemmas.Bool.{and_from, eqb-true, and_parts}
 use Rattle.wsm_record.specs.declared.event.Value.{Value}
 use Rattle.wsm_record.specs.declared.words.Mode.{Mode}
 use Rattle.wsm_record.specs.declared.words.Mode.TheVariants.{Discarding, Accumulating}
@@ -24,7 +25,7 @@ use Rattle.wsm_semantics.specs.Relation.{candidates, greatest_of, standing, is_w
 use Rattle.wsm_semantics.proofs.SelectedRecords.{selected_count}
 use Rattle.wsm_semantics.proofs.Lists.{filter-all, put-all}
 use Rattle.wsm_semantics.proofs.Tables.{places_exact}
-use Rattle.wsm_compiler.proofs.Hulls.{no, and_is, both_true}
+use Rattle.wsm_compiler.proofs.Hulls.{no}
 use Rattle.wsm_compiler.proofs.Parts.{none≢some}
 
 pub all_joined : {A : Type 0} (P : A → Type 0) (xs ys : List A) → AllByRecursion P xs → AllByRecursion P ys → AllByRecursion P (xs ++ ys)
@@ -52,9 +53,6 @@ all_each P Q f (x ∷ xs) h = (f x h.0, all_each P Q f xs h.1)
 at_least : (n : ℕ) → nat_lt 0 n ≡ true → 1 ≤ n
 at_least n h = grind arith
 
-same_key : (m n : ℕ) → nat_eq m n ≡ true → m ≡ n
-same_key m n h = grind arith
-
 abbrev pub datum : List Event → ℕ → ℤ → List Value → Datum
 datum past key time values = record { turn = length past; key = key; time = time; values = values }
 
@@ -77,7 +75,7 @@ module _ (m : Meant) where
   pub taken_fits : (past : List Event) (key : ℕ) (time : ℤ) (values : List Value) → verdict_on m past (Record (Some key) time values) ≡ None → (nat_lt key (length m.declared.keys) && fit_fields m.declared.fields values) ≡ true
   taken_fits past key time values h =
       let t = taken_record m.clock m.declared (mark m past) (admitted_count m.clock m.declared past) (Some key) time values h in
-      both_true (nat_lt key (length m.declared.keys)) (fit_fields m.declared.fields values) t.has_key t.fits
+      and_from (nat_lt key (length m.declared.keys)) (fit_fields m.declared.fields values) t.has_key t.fits
 
   one_fits : (e : Event) (past : List Event) → AllByRecursion Fits (selection_of m past e)
   one_fits (Record None time values) past = tt
@@ -107,7 +105,7 @@ module _ (m : Meant) where
   keys_there p (d ∷ ds) = by_test (is_there p d) refl (keys_there p ds)
     where
       by_test : (b : Bool) → is_there p d ≡ b → AllByRecursion (λ d. d.key ≡ p.key) (filter (is_there p) ds) → AllByRecursion (λ d. d.key ≡ p.key) (cond b (d ∷ filter (is_there p) ds) (filter (is_there p) ds))
-      by_test true h rest = (same_key d.key p.key (and_is (nat_eq d.key p.key) (has_inside d.time (window_of p)) h).0, rest)
+      by_test true h rest = (eqb-true d.key p.key (and_parts (nat_eq d.key p.key) (has_inside d.time (window_of p)) h).0, rest)
       by_test false h rest = rest
 
   at_most : (a b c d : ℕ) → a ≤ b → b ≤ c → c ≤ d → a ≤ d
@@ -169,8 +167,8 @@ module _ (m : Meant) where
   on_watermark due final set unshown k h more = by_test (due && nat_lt 0 set) refl h
     where
       by_test : (b : Bool) → (due && nat_lt 0 set) ≡ b → cond b (Some OnTime) (cond (final && nat_lt 0 unshown) (Some Final) None) ≡ Some k → 1 ≤ set
-      by_test true e h = at_least set (and_is due (nat_lt 0 set) e).1
-      by_test false e h = more (at_least unshown (and_is final (nat_lt 0 unshown) (chosen (final && nat_lt 0 unshown) Final k h)).1)
+      by_test true e h = at_least set (and_parts due (nat_lt 0 set) e).1
+      by_test false e h = more (at_least unshown (and_parts final (nat_lt 0 unshown) (chosen (final && nat_lt 0 unshown) Final k h)).1)
 
   fired : (p : Place) (all set : List Datum) (o : Option PaneKind) → ((k : PaneKind) → o ≡ Some k → IsFiringSet p.key set) → IfSome (firing_of p all set o) IsOfSet
   fired p all set None h = tt

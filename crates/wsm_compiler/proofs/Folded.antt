@@ -3,6 +3,7 @@ use Rattle.std.proofs.Common.{◌≡◌, ℕ, suc, ◌+◌, ◌≤◌, ◌<◌, 
 use Rattle.std.specs.Prelude.{ℤ, ◌*ℤ◌, max, nat_eq}
 use Rattle.std.specs.List.{list_all}
 use Rattle.std.specs.Int.{int_min, int_max}
+use Rattle.std.proofs.lemmas.Bool.{and_parts}
 use Rattle.wsm_record.specs.declared.words.Kind.{Kind}
 use Rattle.wsm_record.specs.declared.words.Kind.TheVariants.{Sum, Min, Max, Any, All}
 use Rattle.wsm_interval.specs.declared.interval.Interval.{Interval}
@@ -24,7 +25,7 @@ use Rattle.wsm_compiler.specs.Code.{code, choice, instruction, folds, update_sec
 use Rattle.wsm_compiler.specs.Ranges.{Range, Unfit, NoNumber, Within, of_aggregate, range, fits}
 use Rattle.wsm_compiler.specs.Program.{program_stating}
 use Rattle.wsm_compiler.proofs.Visits.{extended, added, added_append, visits_are}
-use Rattle.wsm_compiler.proofs.Hulls.{no, and_is}
+use Rattle.wsm_compiler.proofs.Hulls.{no}
 use Rattle.wsm_compiler.proofs.Parts.{Comes, Labels, continued, shorter, visit_is}
 use Rattle.wsm_compiler.proofs.Tests.{with_known, pushed_on}
 use Rattle.wsm_compiler.proofs.Sizes.{length-code, some_code}
@@ -34,6 +35,8 @@ use Rattle.wsm_compiler.proofs.Finding.{range_suits, found_is}
 use Rattle.wsm_compiler.proofs.Labelling.{labelled}
 use Rattle.wsm_compiler.proofs.Reading.{reads_update}
 use Rattle.wsm_compiler.proofs.Folding.{folded_so, set_next, unset, takes, if_takes, updating, behind_fold, fold_one, acc_fits, accs_fit, AccsTyped, KindsAt, no_accs, some_folds, some_folds_size, length-folds, entry_is, all_kinds}
+use Rattle.wsm_semantics.proofs.Merging.{unlike_newer}
+use Rattle.wsm_semantics.proofs.Each.{itself}
 
 -- ---- only folds fold
 
@@ -63,13 +66,13 @@ none_behind b (v ∷ vs) ws h = ap (hull_options (value_folded b v.instr v.label
 values_none : (e : State) (r : Ranges) (b : ℕ) (vs : List Visit) (is : List Instr) → list_all not_fold is ≡ true → values_folded b (added e r vs is) ≡ None
 values_none e r b vs [] h = refl
 values_none e r b vs (i ∷ is) h =
-    let p = and_is (not_fold i) (list_all not_fold is) h in
+    let p = and_parts (not_fold i) (list_all not_fold is) h in
     let v = visit_of e r i vs in
     none_in_front b (added e r (v ∷ vs) is) (v ∷ []) (values_none e r b (v ∷ vs) is p.1) ∙ ap (λ o. hull_options o None) (value_none b i v.label p.0)
 
 all_both : (is js : List Instr) → list_all not_fold is ≡ true → list_all not_fold js ≡ true → list_all not_fold (is ++ js) ≡ true
 all_both [] js h l = l
-all_both (i ∷ is) js h l = let p = and_is (not_fold i) (list_all not_fold is) h in (λ j. p.0 j && all_both is js p.1 l j)
+all_both (i ∷ is) js h l = let p = and_parts (not_fold i) (list_all not_fold is) h in (λ j. p.0 j && all_both is js p.1 l j)
 
 op_folds_none : (op : Op) → not_fold (instruction op) ≡ true
 op_folds_none Add = refl
@@ -151,14 +154,8 @@ value_of n All Unfit h l = no l
 value_of n All NoNumber h l = record { value = known.Truth; is = refl; interval = refl; taken = refl }
 value_of n All (Within x) h l = no h
 
-same_place : (a : ℕ) → nat_eq a a ≡ true
-same_place a = grind arith
-
 other_below : (a b : ℕ) → b < a → nat_eq b a ≡ false
 other_below a b h = grind arith
-
-other_above : (a b : ℕ) → a < b → nat_eq b a ≡ false
-other_above a b h = grind arith
 
 module _ (q : Query) (b : Stated) where
   -- into each accumulator from the a-th on its operand's value is folded
@@ -220,10 +217,10 @@ module _ (q : Query) (b : Stated) where
       put_together is h = (
         λ d u. at d ∙ none_in_front d new2 (v1 ∷ []) (h.0 d (omega (arith, u))) ∙ fold_at d false (other_below a d u),
         (
-          at a ∙ none_in_front a new2 (v1 ∷ []) (h.0 a (omega arith)) ∙ fold_at a true (same_place a) ∙ alone (last_number (value ∷ [])) ∙ is,
+          at a ∙ none_in_front a new2 (v1 ∷ []) (h.0 a (omega arith)) ∙ fold_at a true (itself a) ∙ alone (last_number (value ∷ [])) ∙ is,
           subst (λ vs. ValuesAt (suc a) accs vs) (sym whole_is)
               (values_behind (suc a) accs (new2 ++ v1 ∷ []) (added e r vs (code q k 0 x)) (λ d u. values_none e r d vs (code q k 0 x) (code_folds_none q k 0 x))
-              (values_behind (suc a) accs new2 (v1 ∷ []) (λ d u. fold_at d false (other_above a d u)) h.1)),
+              (values_behind (suc a) accs new2 (v1 ∷ []) (λ d u. fold_at d false (unlike_newer a d u)) h.1)),
         ),
       )
 
@@ -236,7 +233,7 @@ module _ (q : Query) (b : Stated) where
       let is = code q k 0 y in
       let st = folded_so a (suc (length accs)) in
       let rest = folds q (k + size y + 1) (suc a) accs in
-      let f = and_is (acc_fits q b acc) (accs_fit q b accs) fit in
+      let f = and_parts (acc_fits q b acc) (accs_fit q b accs) fit in
       let v = value_of q.records acc.kind (range q y) (range_suits c q InAggregate y (operand_ty acc.kind) h.0) f.0 in
       let found' : found c q 0 y ≡ Some v.value = found_is c q InAggregate (reads_update q b) 0 y (operand_ty acc.kind) h.0 (no_accs q b 0 (accumulators_of y)) ∙ v.is in
       let lc = length-code q k 0 y in

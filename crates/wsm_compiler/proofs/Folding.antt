@@ -1,8 +1,9 @@
 -- UPDATE has a fault exactly where the range of an aggregate doesn't fit.
 use Rattle.std.proofs.Common.{◌≡◌, ℕ, zero, suc, ◌+◌, ◌≤◌, ◌<◌, Bool, true, false, ◌&&◌, ◌||◌, not, cond, List, [], ◌∷◌, ◌++◌, length, map, replicate, Option, Some, None, Ok, refl, sym, ap, subst, ◌∙◌, arith, length-append}
-use Rattle.std.specs.Prelude.{ℤ, ◌*ℤ◌, is_some, is_none, max, nat_lt, slice_index_or, slice_set}
+use Rattle.std.specs.Prelude.{ℤ, ◌*ℤ◌, is_some, is_none, max, slice_index_or, slice_set}
 use Rattle.std.specs.List.{list_all}
 use Rattle.std.specs.Int.{int_min, int_max}
+use Rattle.std.proofs.lemmas.Option.{same_Some}
 use Rattle.wsm_record.specs.declared.words.Kind.{Kind}
 use Rattle.wsm_record.specs.declared.words.Kind.TheVariants.{Sum, Min, Max, Any, All}
 use Rattle.wsm_interval.specs.Interval.{interval, in_i64}
@@ -29,6 +30,7 @@ use Rattle.wsm_compiler.proofs.Finding.{AccsIn, range_suits, found_is}
 use Rattle.wsm_compiler.proofs.Labelling.{labelled}
 use Rattle.wsm_compiler.proofs.Ending.{Ends, or_behind, sequence_ends, follow_ends, return_ends, whole_section}
 use Rattle.wsm_compiler.proofs.Reading.{in_column, reads_update}
+use Rattle.wsm_compiler.proofs.Choosing.{room_at_test, has_one}
 
 -- ---- which accumulators are folded: the first, and none of the others
 
@@ -70,12 +72,6 @@ taken_is : (b : Bool) (s t : State) → if_takes b s ≡ Some t → Some s ≡ S
 taken_is true s t h = h
 taken_is false s t h = none≢some h
 
-room_at_fold : (n : ℕ) → n < 32 → nat_lt 33 (suc n + 0) ≡ false
-room_at_fold n h = grind arith
-
-has_one : (n : ℕ) → nat_lt (suc n) 1 ≡ false
-has_one n = grind arith
-
 module _ (q : Query) (b : Stated) where
   abbrev pub updating : Setting
   updating = setting (program_stating q b) Update (ranges_of_record (program_stating q b))
@@ -89,7 +85,7 @@ module _ (q : Query) (b : Stated) where
   fold_one e k a x s kind is once room more =
       one e updating k (Fold a) (with_known x s) (if_takes (takes q.records kind x) (behind_fold a s)) refl
       (tested updating k (Fold a) (with_known x s) false false (not (folds_into kind x)) false false false (sum_leaves q.records kind x) false false false false
-      refl (has_one (length s.stack)) (ap (λ z. not (folds_into z x)) is) once refl refl (ap (λ z. sum_leaves q.records z x) is) (room_at_fold (length s.stack) room) refl refl (not_last true k updating.n more)
+      refl (has_one (length s.stack)) (ap (λ z. not (folds_into z x)) is) once refl refl (ap (λ z. sum_leaves q.records z x) is) (room_at_test (length s.stack) room) refl refl (not_last true k updating.n more)
       ∙ fold_verdict (folds_into kind x) (sum_leaves q.records kind x) (behind_fold a s))
       (λ t h. taken_is (takes q.records kind x) (behind_fold a s) t h)
 
@@ -164,16 +160,13 @@ module _ (q : Query) (b : Stated) where
       (labelled e updating q InAggregate (reads_update q b) k 0 x (operand_ty acc.kind) s h.0 (no_accs 0 (accumulators_of x)) (first_room (need x) _ room) (omega (arith, more, some_folds_size accs)))
       (λ z ez. sequence_ends e updating j (Fold a ∷ []) rest (with_known z s) (if_takes (takes q.records acc.kind z) (behind_fold a s)) (λ t. not w) (omega arith) (some_folds (j + 1) (suc a) accs)
       (fold_one e j a z s acc.kind kinds.0 (unset a n) (omega arith) (omega (arith, more, some_folds_size accs)))
-      (λ t ht. subst (λ u. Ends e updating (j + 1) rest u (not w)) (state_is (behind_fold a s) t (taken_is (takes q.records acc.kind z) (behind_fold a s) t ht)) behind)))
+      (λ t ht. subst (λ u. Ends e updating (j + 1) rest u (not w)) (same_Some (behind_fold a s) t (taken_is (takes q.records acc.kind z) (behind_fold a s) t ht)) behind)))
     where
       rest_room : (l m : ℕ) → max l m ≤ 32 → m ≤ 32
       rest_room l m h = omega (arith, h)
 
       first_room : (l m : ℕ) → max l m ≤ 32 → 0 + l ≤ 32
       first_room l m h = omega (arith, h)
-
-      state_is : (s t : State) → Some s ≡ Some t → s ≡ t
-      state_is s t h = ap (λ o. elim o [ None ↦ s | Some u ↦ u ]) h
 
   pub length-folds : (k a : ℕ) (accs : List Acc) → length (folds q k a accs) ≡ folds_size accs
   length-folds k a [] = refl

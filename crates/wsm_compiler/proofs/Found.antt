@@ -2,6 +2,7 @@
 use Rattle.std.proofs.Common.{◌≡◌, ℕ, suc, ◌+◌, ◌<◌, Bool, true, ◌&&◌, cond, List, [], ◌∷◌, ◌++◌, length, Option, Some, None, refl, sym, ap, subst}
 use Rattle.std.specs.Prelude.{pos, ◌-ℤ◌, int_div, unsigned_abs, is_none, option_map}
 use Rattle.std.specs.Int.{int_max}
+use Rattle.std.proofs.lemmas.Option.{same_Some}
 use Rattle.wsm_interval.specs.declared.interval.Interval.{Interval}
 use Rattle.wsm_interval.specs.Interval.{around, rem_within, div, rem}
 use Rattle.wsm_bytecode.specs.declared.instr.Instr.{Instr}
@@ -132,7 +133,4 @@ pub follow : (e : State) (c : Setting) (k n : ℕ) (is js : List Instr) (s : Sta
 follow e c k n is js s None f hn hi hj first rest = sequence e c k is js s None (λ t. None) hi hj first (λ t h. none≢some h)
 follow e c k n is js s (Some x) f hn hi hj first rest =
     sequence e c k is js s (Some (with_known x s)) (λ t. f x) hi hj first
-    (λ t h. subst (λ w. Labelled e c (k + length is) js w (f x)) (some_is (with_known x s) t h) (subst (λ m. Labelled e c (k + m) js (with_known x s) (f x)) (sym hn) (rest x refl)))
-  where
-    some_is : (s t : State) → Some s ≡ Some t → s ≡ t
-    some_is s t h = ap (λ o. elim o [ None ↦ s | Some u ↦ u ]) h
+    (λ t h. subst (λ w. Labelled e c (k + length is) js w (f x)) (same_Some (with_known x s) t h) (subst (λ m. Labelled e c (k + m) js (with_known x s) (f x)) (sym hn) (rest x refl)))

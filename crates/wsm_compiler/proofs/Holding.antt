@@ -1,6 +1,7 @@
 -- The folds of UPDATE's values are what accumulators hold of the records, column by column.
 use Rattle.std.proofs.Common.{◌≡◌, ℕ, zero, suc, ◌+◌, Bool, true, false, cond, List, [], ◌∷◌, map, Option, Some, None, refl, sym, ap, ◌∙◌, arith}
 use Rattle.std.specs.Prelude.{slice_get}
+use Rattle.std.proofs.lemmas.Option.{same_Some}
 use Rattle.wsm_record.specs.declared.event.Value.{Value}
 use Rattle.wsm_record.specs.declared.words.Kind.{Kind}
 use Rattle.wsm_fold.specs.Laws.{joined_to}
@@ -34,9 +35,6 @@ fold_parts k ks p (r ∷ rs) = ap (λ row. joins (k ∷ ks) (p.0 ∷ p.1) row) (
 
 -- ---- the values of a record
 
-some_is : {A : Type 0} (x y : A) → Some x ≡ Some y → x ≡ y
-some_is x y h = ap (λ o. elim o [ None ↦ x | Some z ↦ z ]) h
-
 record First (o : Option Value) (rest : Option (List Value)) (row : List Value) : Type 0 where
   value : Value
   values : List Value
@@ -47,7 +45,7 @@ record First (o : Option Value) (rest : Option (List Value)) (row : List Value) 
 first_of : (o : Option Value) (rest : Option (List Value)) (row : List Value) → elim o as (λ x. Option (List Value)) [ None ↦ None | Some x ↦ elim rest [ None ↦ None | Some xs ↦ Some (x ∷ xs) ] ] ≡ Some row → First o rest row
 first_of None rest row h = none≢some h
 first_of (Some x) None row h = none≢some h
-first_of (Some x) (Some xs) row h = record { value = x; values = xs; is = refl; rest_is = refl; row_is = sym (some_is (x ∷ xs) row h) }
+first_of (Some x) (Some xs) row h = record { value = x; values = xs; is = refl; rest_is = refl; row_is = sym (same_Some (x ∷ xs) row h) }
 
 bounded_means : (b : Bool) (o : Option Value) (v : Value) → cond b o None ≡ Some v → o ≡ Some v
 bounded_means true o v h = h
@@ -93,14 +91,14 @@ module _ (q : Query) (key : ℕ) where
       by_parts go [] e f u j get = none≢some e
       by_parts go (p ∷ ps) e f u zero get =
           let ks = map (λ acc. acc.kind) accs in
-          let same = some_is _ held e in
-          let acc_is = some_is x acc get in
+          let same = same_Some _ held e in
+          let acc_is = same_Some x acc get in
           ap (λ vs. slice_get vs 0) (sym same ∙ fold_parts x.kind ks p ps)
           ∙ ap (fold_where_all x.kind) (sym f)
           ∙ ap (λ (a : Acc). fold_where_all a.kind (all_of (meanings a records))) acc_is
       by_parts go (p ∷ ps) e f u (suc j) get =
           let ks = map (λ acc. acc.kind) accs in
-          let same = some_is _ held e in
+          let same = same_Some _ held e in
           ap (λ vs. slice_get vs (suc j)) (sym same ∙ fold_parts x.kind ks p ps)
           ∙ go (others (p ∷ ps)) (joined_to (joins ks) p.1 (folds_of ks (others ps))) u refl j get
 

@@ -1,25 +1,20 @@
 -- What edges carry to one place, put together in any groups.
-use Rattle.std.proofs.Common.{◌≡◌, ℕ, Bool, true, false, ◌&&◌, cond, List, [], ◌∷◌, ◌++◌, refl, sym, ap, subst, ◌∙◌, arith}
-use Rattle.std.proofs.lemmas.Bool.{true≢false}
+use Rattle.std.proofs.Common.{◌≡◌, ℕ, Bool, true, false, cond, List, [], ◌∷◌, ◌++◌, refl, sym, ap, subst, ◌∙◌, arith}
+use Rattle.std.proofs.lemmas.Bool.{true≢false, and_from, and_parts}
 use Rattle.std.proofs.lemmas.Int.{ints, clamps}
 use Rattle.std.specs.Prelude.{ℤ, nat_eq}
 use Rattle.std.specs.Int.{int_min, int_max}
 use Rattle.std.specs.Bool.{beq}
+use Rattle.std.specs.Cmp.{booleans_Decides}
 use Rattle.wsm_interval.specs.declared.interval.Interval.{Interval}
 use Rattle.wsm_interval.specs.Interval.{interval, hull}
 use Rattle.wsm_verifier.specs.declared.known.Known.{Known}
 use Rattle.wsm_verifier.specs.declared.known.Known.TheVariants.{Number, Truth, NameOf}
 use Rattle.wsm_verifier.specs.Labels.{State, Label, Unreached, Differing, Reached, same_type, same_types, same_flags, agree, hull_known, hull_stacks, hull_states, label_with, hull_all}
+use Rattle.wsm_semantics.proofs.Each.{itself}
 
 pub no : {X : Type 0} → false ≡ true → X
 no e = absurd (true≢false (sym e))
-
-pub and_is : (a b : Bool) → (a && b) ≡ true → (a ≡ true) × (b ≡ true)
-and_is true b e = (refl, e)
-and_is false b e = no e
-
-pub both_true : (a b : Bool) → a ≡ true → b ≡ true → (a && b) ≡ true
-both_true a b e h = (λ i. e i && h i)
 
 min_self : (a : ℤ) → int_min a a ≡ a
 min_self a = omega (arith, ints, clamps)
@@ -60,14 +55,11 @@ stack_self (x ∷ xs) = (λ i. known_self x i ∷ stack_self xs i)
 pub type_self : (x : Known) → same_type x x ≡ true
 type_self (Number x) = refl
 type_self Truth = refl
-type_self (NameOf e) = same e
-  where
-    same : (e : ℕ) → nat_eq e e ≡ true
-    same e = grind arith
+type_self (NameOf e) = itself e
 
 pub types_self : (xs : List Known) → same_types xs xs ≡ true
 types_self [] = refl
-types_self (x ∷ xs) = both_true (same_type x x) (same_types xs xs) (type_self x) (types_self xs)
+types_self (x ∷ xs) = and_from (same_type x x) (same_types xs xs) (type_self x) (types_self xs)
 
 pub flags_self : (fs : List Bool) → same_flags fs fs ≡ true
 flags_self [] = refl
@@ -117,9 +109,9 @@ types_of_hull [] (y ∷ ys) zs h l = no h
 types_of_hull (x ∷ xs) [] zs h l = no h
 types_of_hull (x ∷ xs) (y ∷ ys) [] h l = no l
 types_of_hull (x ∷ xs) (y ∷ ys) (z ∷ zs) h l =
-    let a = and_is (same_type x y) (same_types xs ys) h in
-    let b = and_is (same_type (hull_known x y) z) (same_types (hull_stacks xs ys) zs) l in
-    both_true (same_type y z) (same_types ys zs) (type_of_hull x y z a.0 b.0) (types_of_hull xs ys zs a.1 b.1)
+    let a = and_parts (same_type x y) (same_types xs ys) h in
+    let b = and_parts (same_type (hull_known x y) z) (same_types (hull_stacks xs ys) zs) l in
+    and_from (same_type y z) (same_types ys zs) (type_of_hull x y z a.0 b.0) (types_of_hull xs ys zs a.1 b.1)
 
 types_with_hull : (xs ys zs : List Known) → same_types xs ys ≡ true → same_types ys zs ≡ true → same_types xs (hull_stacks ys zs) ≡ true
 types_with_hull [] [] zs h l = refl
@@ -127,50 +119,44 @@ types_with_hull [] (y ∷ ys) zs h l = no h
 types_with_hull (x ∷ xs) [] zs h l = no h
 types_with_hull (x ∷ xs) (y ∷ ys) [] h l = no l
 types_with_hull (x ∷ xs) (y ∷ ys) (z ∷ zs) h l =
-    let a = and_is (same_type x y) (same_types xs ys) h in
-    let b = and_is (same_type y z) (same_types ys zs) l in
-    both_true (same_type x (hull_known y z)) (same_types xs (hull_stacks ys zs)) (type_with_hull x y z a.0 b.0) (types_with_hull xs ys zs a.1 b.1)
+    let a = and_parts (same_type x y) (same_types xs ys) h in
+    let b = and_parts (same_type y z) (same_types ys zs) l in
+    and_from (same_type x (hull_known y z)) (same_types xs (hull_stacks ys zs)) (type_with_hull x y z a.0 b.0) (types_with_hull xs ys zs a.1 b.1)
 
 stack_groups : (xs ys zs : List Known) → same_types xs ys ≡ true → same_types ys zs ≡ true → hull_stacks xs (hull_stacks ys zs) ≡ hull_stacks (hull_stacks xs ys) zs
 stack_groups [] ys zs h l = refl
 stack_groups (x ∷ xs) [] zs h l = no h
 stack_groups (x ∷ xs) (y ∷ ys) [] h l = no l
 stack_groups (x ∷ xs) (y ∷ ys) (z ∷ zs) h l =
-    let a = and_is (same_type x y) (same_types xs ys) h in
-    let b = and_is (same_type y z) (same_types ys zs) l in
+    let a = and_parts (same_type x y) (same_types xs ys) h in
+    let b = and_parts (same_type y z) (same_types ys zs) l in
     (λ i. known_groups x y z a.0 b.0 i ∷ stack_groups xs ys zs a.1 b.1 i)
-
-flag_is : (a b : Bool) → beq a b ≡ true → a ≡ b
-flag_is true true e = refl
-flag_is true false e = no e
-flag_is false true e = no e
-flag_is false false e = refl
 
 flags_are : (fs gs : List Bool) → same_flags fs gs ≡ true → fs ≡ gs
 flags_are [] [] e = refl
 flags_are [] (g ∷ gs) e = no e
 flags_are (f ∷ fs) [] e = no e
 flags_are (f ∷ fs) (g ∷ gs) e =
-    let t = and_is (beq f g) (same_flags fs gs) e in
-    (λ i. flag_is f g t.0 i ∷ flags_are fs gs t.1 i)
+    let t = and_parts (beq f g) (same_flags fs gs) e in
+    (λ i. (booleans_Decides f g).0 t.0 i ∷ flags_are fs gs t.1 i)
 
 -- ---- states
 
 parts : (s t : State) → agree s t ≡ true → (same_types s.stack t.stack ≡ true) × (same_flags s.folded t.folded ≡ true)
-parts s t h = and_is (same_types s.stack t.stack) (same_flags s.folded t.folded) h
+parts s t h = and_parts (same_types s.stack t.stack) (same_flags s.folded t.folded) h
 
 agree_of_hull : (s t u : State) → agree s t ≡ true → agree (hull_states s t) u ≡ true → agree t u ≡ true
 agree_of_hull s t u h l =
     let a = parts s t h in
     let b = parts (hull_states s t) u l in
     let flags = subst (λ fs. same_flags fs u.folded ≡ true) (flags_are s.folded t.folded a.1) b.1 in
-    both_true (same_types t.stack u.stack) (same_flags t.folded u.folded) (types_of_hull s.stack t.stack u.stack a.0 b.0) flags
+    and_from (same_types t.stack u.stack) (same_flags t.folded u.folded) (types_of_hull s.stack t.stack u.stack a.0 b.0) flags
 
 agree_with_hull : (s t u : State) → agree s t ≡ true → agree t u ≡ true → agree s (hull_states t u) ≡ true
 agree_with_hull s t u h l =
     let a = parts s t h in
     let b = parts t u l in
-    both_true (same_types s.stack (hull_stacks t.stack u.stack)) (same_flags s.folded t.folded) (types_with_hull s.stack t.stack u.stack a.0 b.0) a.1
+    and_from (same_types s.stack (hull_stacks t.stack u.stack)) (same_flags s.folded t.folded) (types_with_hull s.stack t.stack u.stack a.0 b.0) a.1
 
 states_groups : (s t u : State) → agree s t ≡ true → agree t u ≡ true → hull_states s (hull_states t u) ≡ hull_states (hull_states s t) u
 states_groups s t u h l = ap (λ stack. record { stack = stack; folded = s.folded }) (stack_groups s.stack t.stack u.stack (parts s t h).0 (parts t u l).0)

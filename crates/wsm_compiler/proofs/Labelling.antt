@@ -1,5 +1,6 @@
 -- The code of an expression of a type: the verifier finds a fault in it, or knows its value behind it as it is found by structure.
 use Rattle.std.proofs.Common.{◌≡◌, ℕ, suc, ◌+◌, ◌≤◌, ◌<◌, true, false, [], ◌∷◌, ◌++◌, length, Option, Some, None, Ok, refl, sym, ap, subst, ◌∙◌, arith, length-append}
+use Rattle.std.proofs.lemmas.Option.{same_Some}
 use Rattle.wsm_bytecode.specs.declared.instr.Instr.TheVariants as instr
 use Rattle.wsm_query.specs.Tree.{Query, Expr, Number, Truth, Field, EnumName, Key, KeyName, Count, Aggregate, If, Brackets, Minus, Not, Binary, And, Or}
 use Rattle.wsm_check.specs.Types.{ExprTy, IntValue, BoolValue, typed, op_ty}
@@ -35,17 +36,11 @@ is_truth c q around reads a x h accs u e = known_truth (range q x) u (sym (found
 -- a truth that an expression is found to be
 truth_same : (c : Setting) (q : Query) (around : Around) → Reads c q around → (a : ℕ) (x : Expr) → typed q around x ≡ Ok BoolValue → AccsIn c q around a (accumulators_of x) → (u v : Known) → found c q a x ≡ Some u → Some known.Truth ≡ Some v → same_type v u ≡ true
 truth_same c q around reads a x h accs u v e l =
-    ap (λ z. same_type z u) (sym (some_is known.Truth v l)) ∙ ap (same_type known.Truth) (is_truth c q around reads a x h accs u e)
-  where
-    some_is : (a b : Known) → Some a ≡ Some b → a ≡ b
-    some_is a b e = ap (λ o. elim o [ None ↦ a | Some z ↦ z ]) e
+    ap (λ z. same_type z u) (sym (same_Some known.Truth v l)) ∙ ap (same_type known.Truth) (is_truth c q around reads a x h accs u e)
 
 same_truth : (c : Setting) (q : Query) (around : Around) → Reads c q around → (a : ℕ) (x : Expr) → typed q around x ≡ Ok BoolValue → AccsIn c q around a (accumulators_of x) → (u v : Known) → Some known.Truth ≡ Some u → found c q a x ≡ Some v → same_type v u ≡ true
 same_truth c q around reads a x h accs u v l e =
-    ap (same_type v) (sym (some_is known.Truth u l)) ∙ ap (λ z. same_type z known.Truth) (is_truth c q around reads a x h accs v e)
-  where
-    some_is : (a b : Known) → Some a ≡ Some b → a ≡ b
-    some_is a b e = ap (λ o. elim o [ None ↦ a | Some z ↦ z ]) e
+    ap (same_type v) (sym (same_Some known.Truth u l)) ∙ ap (λ z. same_type z known.Truth) (is_truth c q around reads a x h accs v e)
 
 -- a truth that an instruction pushes
 pub truth_pushed : (e : State) (c : Setting) (k : ℕ) (s : State) → length s.stack < 32 → suc k < c.n → (b : _) → Labelled e c k (instr.PushBool b ∷ []) s (pushed_on s (Some known.Truth))

@@ -3,6 +3,7 @@ use Rattle.std.proofs.Common.{◌≡◌, ℕ, suc, ◌+◌, ◌≤◌, ◌<◌, 
 use Rattle.std.proofs.lemmas.List.Folds.{list_all-append}
 use Rattle.std.specs.Prelude.{pos, negsuc, int_le, nat_le, nat_lt}
 use Rattle.std.specs.List.{list_all, flat_map}
+use Rattle.std.proofs.lemmas.Bool.{and_from, ltb-true, and_parts, leb-true, le-leb}
 use Rattle.wsm_record.specs.declared.words.Mode.{Mode}
 use Rattle.wsm_record.specs.declared.words.Mode.TheVariants.{Discarding, Accumulating}
 use Rattle.wsm_record.specs.declared.words.Form.{Form}
@@ -27,31 +28,23 @@ use Rattle.wsm_compiler.specs.Code.{where_section, update_section, fire_section}
 use Rattle.wsm_check.specs.Spelt.{numbers_fit, is_spelt_type, is_spelt_field, IsSpelt}
 use Rattle.wsm_compiler.specs.Lawful.{IsLawful}
 use Rattle.wsm_compiler.specs.Program.{field_type, column_type, every, stated, needed_of, program_of}
-use Rattle.wsm_compiler.proofs.Hulls.{no, and_is, both_true}
-use Rattle.wsm_compiler.proofs.Sizes.{length-accumulators_of}
+use Rattle.wsm_compiler.proofs.Hulls.{no}
 use Rattle.wsm_compiler.proofs.Sized.{sizes_are_lengths}
 use Rattle.wsm_compiler.proofs.Reading.{in_column}
-use Rattle.wsm_compiler.proofs.Passed.{Passed, passed, none_of_both, unless_none}
+use Rattle.wsm_compiler.proofs.Passed.{Passed, passed, unless_none}
 use Rattle.wsm_compiler.proofs.Checked.{Fine, fine}
 use Rattle.wsm_compiler.proofs.Naming.{declared_as, length-fields, names_listed}
 use Rattle.wsm_compiler.proofs.Operands.{condition_numbers, condition_aggregates, columns_aggregates, operands_fit, condition_fine, folds_fine, columns_fine, columns_named}
 use Rattle.wsm_compiler.proofs.Costs.{budget_is}
-
-is_below : (m n : ℕ) → nat_lt m n ≡ true → m < n
-is_below m n h = grind arith
-
-at_most : (m n : ℕ) → m ≤ n → nat_le m n ≡ true
-at_most m n h = grind arith
-
-is_at_most : (m n : ℕ) → nat_le m n ≡ true → m ≤ n
-is_at_most m n h = grind arith
+use Rattle.wsm_check.proofs.Following.{passed_both}
+use Rattle.wsm_check.proofs.Passing.{counted}
 
 -- ---- the schema
 
 type_listed : (p : Part) (ty : Ty) → ty_refusal p ty ≡ None → is_spelt_type ty ≡ true → is_field_type (field_type ty) ≡ true
 type_listed p (IntTy lo hi) h l =
-    let b = and_is (in_i64 lo) (in_i64 hi) l in
-    both_true (in_i64 lo) (in_i64 hi && int_le lo hi) b.0 (both_true (in_i64 hi) (int_le lo hi) b.1 (unless_none (int_le lo hi) Limit p h))
+    let b = and_parts (in_i64 lo) (in_i64 hi) l in
+    and_from (in_i64 lo) (in_i64 hi && int_le lo hi) b.0 (and_from (in_i64 hi) (int_le lo hi) b.1 (unless_none (int_le lo hi) Limit p h))
 type_listed p BoolTy h l = refl
 type_listed p (EnumTy names) h l = names_listed p names h l
 
@@ -68,28 +61,28 @@ field_passed names d ds h =
     let r2 = unless (not (is_among d.name names)) Duplicate p in
     let r3 = ty_refusal p d.ty in
     let r4 = fields_refusal (names ++ d.name ∷ []) ds in
-    let h1 = none_of_both r1 (first (r2 ∷ r3 ∷ r4 ∷ [])) h in
-    let h2 = none_of_both r2 (first (r3 ∷ r4 ∷ [])) h1.1 in
-    let h3 = none_of_both r3 (first (r4 ∷ [])) h2.1 in
-    let h4 = none_of_both r4 None h3.1 in
+    let h1 = passed_both r1 (first (r2 ∷ r3 ∷ r4 ∷ [])) h in
+    let h2 = passed_both r2 (first (r3 ∷ r4 ∷ [])) h1.1 in
+    let h3 = passed_both r3 (first (r4 ∷ [])) h2.1 in
+    let h4 = passed_both r4 None h3.1 in
     record { room = unless_none (nat_lt (length names) 16) Limit p h1.0; apart = unless_none (not (is_among d.name names)) Duplicate p h2.0; ty = h3.0; rest = h4.0 }
 
 fields_listed : (names : List Name) (ds : List Declared) → fields_refusal names ds ≡ None → list_all is_spelt_field ds ≡ true → are_fields_after names (map declared_as ds) ≡ true
 fields_listed names [] h l = refl
 fields_listed names (d ∷ ds) h l =
     let p = field_passed names d ds h in
-    let s = and_is (is_spelt_field d) (list_all is_spelt_field ds) l in
-    let t = and_is (is_name d.name) (is_spelt_type d.ty) s.0 in
-    both_true (is_field_after names (declared_as d)) (are_fields_after (names ++ d.name ∷ []) (map declared_as ds))
-    (both_true (is_name d.name) (not (is_among d.name names) && is_field_type (field_type d.ty)) t.0
-    (both_true (not (is_among d.name names)) (is_field_type (field_type d.ty)) p.apart (type_listed (part.Field (suc (length names))) d.ty p.ty t.1)))
+    let s = and_parts (is_spelt_field d) (list_all is_spelt_field ds) l in
+    let t = and_parts (is_name d.name) (is_spelt_type d.ty) s.0 in
+    and_from (is_field_after names (declared_as d)) (are_fields_after (names ++ d.name ∷ []) (map declared_as ds))
+    (and_from (is_name d.name) (not (is_among d.name names) && is_field_type (field_type d.ty)) t.0
+    (and_from (not (is_among d.name names)) (is_field_type (field_type d.ty)) p.apart (type_listed (part.Field (suc (length names))) d.ty p.ty t.1)))
     (fields_listed (names ++ d.name ∷ []) ds p.rest s.1)
 
 fields_few : (names : List Name) (ds : List Declared) → fields_refusal names ds ≡ None → length names ≤ 16 → length names + length ds ≤ 16
 fields_few names [] h l = omega (arith, l)
 fields_few names (d ∷ ds) h l =
     let p = field_passed names d ds h in
-    let room = is_below (length names) 16 p.room in
+    let room = ltb-true (length names) 16 p.room in
     let a = length-append names (d.name ∷ []) in
     let rest = fields_few (names ++ d.name ∷ []) ds p.rest (omega (arith, a, room)) in
     omega (arith, a, rest)
@@ -99,23 +92,23 @@ unfolding is_schema
 schema_is q p s =
     let few = fields_few [] q.fields p.fields (omega arith) in
     let same = length-fields q.fields in
-    both_true (is_name_list q.keys) (nat_le (length (map declared_as q.fields)) 16 && are_fields_after [] (map declared_as q.fields)) (names_listed part.Keys q.keys p.keys s.keys)
-    (both_true (nat_le (length (map declared_as q.fields)) 16) (are_fields_after [] (map declared_as q.fields)) (at_most (length (map declared_as q.fields)) 16 (omega (arith, few, same))) (fields_listed [] q.fields p.fields s.fields))
+    and_from (is_name_list q.keys) (nat_le (length (map declared_as q.fields)) 16 && are_fields_after [] (map declared_as q.fields)) (names_listed part.Keys q.keys p.keys s.keys)
+    (and_from (nat_le (length (map declared_as q.fields)) 16) (are_fields_after [] (map declared_as q.fields)) (le-leb (length (map declared_as q.fields)) 16 (omega (arith, few, same))) (fields_listed [] q.fields p.fields s.fields))
 
 -- ---- when panes fire
 
 shape_is : (s : Shape) → shape_fits s ≡ true → is_shape s ≡ true
 shape_is (Fixed size) h = h
 shape_is (Sliding size period) h =
-    let p = and_is (is_count size) (is_count period && int_le period size) h in
-    let d = and_is (is_count period) (int_le period size) p.1 in
-    let one = and_is (int_le (pos 1) period) (int_le period (pos 1000000000000)) d.0 in
-    both_true (is_size size) (is_within (pos 1) size period) p.0 (both_true (int_le (pos 1) period) (int_le period size) one.0 d.1)
+    let p = and_parts (is_count size) (is_count period && int_le period size) h in
+    let d = and_parts (is_count period) (int_le period size) p.1 in
+    let one = and_parts (int_le (pos 1) period) (int_le period (pos 1000000000000)) d.0 in
+    and_from (is_size size) (is_within (pos 1) size period) p.0 (and_from (int_le (pos 1) period) (int_le period size) one.0 d.1)
 shape_is (Session gap) h = h
 
 every_is : (o : Option ℤ) → every_fits o ≡ true → is_span (every o) ≡ true
 every_is None h = refl
-every_is (Some (pos n)) h = let p = and_is (int_le (pos 1) (pos n)) (int_le (pos n) (pos 1000000000000)) h in both_true (int_le (pos 0) (pos n)) (int_le (pos n) (pos 1000000000000)) (from n) p.1
+every_is (Some (pos n)) h = let p = and_parts (int_le (pos 1) (pos n)) (int_le (pos n) (pos 1000000000000)) h in and_from (int_le (pos 0) (pos n)) (int_le (pos n) (pos 1000000000000)) (from n) p.1
   where
     from : (n : ℕ) → int_le (pos 0) (pos n) ≡ true
     from n = grind arith
@@ -131,16 +124,16 @@ form_is Rstream Discarding h = no h
 -- ---- columns and accumulators
 
 columns_few : (q : Query) (i : ℕ) (es : List Expr) → columns_refusal q i es ≡ None → i ≤ 16 → (0 < i + length es) × (i + length es ≤ 16)
-columns_few q i [] h l = let some = is_below 0 i (unless_none (nat_lt 0 i) Limit (part.Column 1) h) in (omega (arith, some), omega (arith, l))
+columns_few q i [] h l = let some = ltb-true 0 i (unless_none (nat_lt 0 i) Limit (part.Column 1) h) in (omega (arith, some), omega (arith, l))
 columns_few q i (e ∷ es) h l =
     let p = part.Column (suc i) in
     let r1 = unless (nat_lt i 16) Limit p in
     let r2 = typed_refusal p (typed q InColumn e) in
     let r3 = columns_refusal q (suc i) es in
-    let h1 = none_of_both r1 (first (r2 ∷ r3 ∷ [])) h in
-    let h2 = none_of_both r2 (first (r3 ∷ [])) h1.1 in
-    let h3 = none_of_both r3 None h2.1 in
-    let room = is_below i 16 (unless_none (nat_lt i 16) Limit p h1.0) in
+    let h1 = passed_both r1 (first (r2 ∷ r3 ∷ [])) h in
+    let h2 = passed_both r2 (first (r3 ∷ [])) h1.1 in
+    let h3 = passed_both r3 None h2.1 in
+    let room = ltb-true i 16 (unless_none (nat_lt i 16) Limit p h1.0) in
     let rest = columns_few q (suc i) es h3.0 (omega (arith, room)) in
     (omega (arith, rest.0), omega (arith, rest.1))
 
@@ -149,20 +142,20 @@ length-map f [] = refl
 length-map f (x ∷ xs) = ap suc (length-map f xs)
 
 operands_both : (xs ys : List Acc) → operands_fit xs ≡ true → operands_fit ys ≡ true → operands_fit (xs ++ ys) ≡ true
-operands_both xs ys h l = list_all-append (λ acc. numbers_fit acc.operand) xs ys ∙ both_true (operands_fit xs) (operands_fit ys) h l
+operands_both xs ys h l = list_all-append (λ acc. numbers_fit acc.operand) xs ys ∙ and_from (operands_fit xs) (operands_fit ys) h l
 
 operands_of : (e : Expr) → numbers_fit e ≡ true → operands_fit (accumulators_of e) ≡ true
-operands_of (Aggregate kind e) h = both_true (numbers_fit e) true h refl
+operands_of (Aggregate kind e) h = and_from (numbers_fit e) true h refl
 operands_of (If c x y) h =
-    let p = and_is (numbers_fit c) (numbers_fit x && numbers_fit y) h in
-    let r = and_is (numbers_fit x) (numbers_fit y) p.1 in
+    let p = and_parts (numbers_fit c) (numbers_fit x && numbers_fit y) h in
+    let r = and_parts (numbers_fit x) (numbers_fit y) p.1 in
     operands_both (accumulators_of c) (accumulators_of x ++ accumulators_of y) (operands_of c p.0) (operands_both (accumulators_of x) (accumulators_of y) (operands_of x r.0) (operands_of y r.1))
 operands_of (Brackets e) h = operands_of e h
 operands_of (Minus e) h = operands_of e h
 operands_of (Not e) h = operands_of e h
-operands_of (Binary op x y) h = let p = and_is (numbers_fit x) (numbers_fit y) h in operands_both (accumulators_of x) (accumulators_of y) (operands_of x p.0) (operands_of y p.1)
-operands_of (And x y) h = let p = and_is (numbers_fit x) (numbers_fit y) h in operands_both (accumulators_of x) (accumulators_of y) (operands_of x p.0) (operands_of y p.1)
-operands_of (Or x y) h = let p = and_is (numbers_fit x) (numbers_fit y) h in operands_both (accumulators_of x) (accumulators_of y) (operands_of x p.0) (operands_of y p.1)
+operands_of (Binary op x y) h = let p = and_parts (numbers_fit x) (numbers_fit y) h in operands_both (accumulators_of x) (accumulators_of y) (operands_of x p.0) (operands_of y p.1)
+operands_of (And x y) h = let p = and_parts (numbers_fit x) (numbers_fit y) h in operands_both (accumulators_of x) (accumulators_of y) (operands_of x p.0) (operands_of y p.1)
+operands_of (Or x y) h = let p = and_parts (numbers_fit x) (numbers_fit y) h in operands_both (accumulators_of x) (accumulators_of y) (operands_of x p.0) (operands_of y p.1)
 operands_of (Number n) h = refl
 operands_of (Truth b) h = refl
 operands_of (Field x) h = refl
@@ -173,21 +166,21 @@ operands_of Count h = refl
 
 operands_of_all : (es : List Expr) → list_all numbers_fit es ≡ true → operands_fit (flat_map accumulators_of es) ≡ true
 operands_of_all [] h = refl
-operands_of_all (e ∷ es) h = let p = and_is (numbers_fit e) (list_all numbers_fit es) h in operands_both (accumulators_of e) (flat_map accumulators_of es) (operands_of e p.0) (operands_of_all es p.1)
+operands_of_all (e ∷ es) h = let p = and_parts (numbers_fit e) (list_all numbers_fit es) h in operands_both (accumulators_of e) (flat_map accumulators_of es) (operands_of e p.0) (operands_of_all es p.1)
 
 condition_numbers_is : (o : Option Expr) → list_all numbers_fit (in_option o) ≡ true → condition_numbers o ≡ true
 condition_numbers_is None h = refl
-condition_numbers_is (Some e) h = (and_is (numbers_fit e) true h).0
+condition_numbers_is (Some e) h = (and_parts (numbers_fit e) true h).0
 
 aggregates_counted : (q : Query) (b : Stated) (es : List Expr) → length (flat_map accumulators_of (es ++ in_option q.having)) ≡ columns_aggregates q b es
 aggregates_counted q b [] = of_having q.having
   where
     of_having : (o : Option Expr) → length (flat_map accumulators_of (in_option o)) ≡ condition_aggregates o
     of_having None = refl
-    of_having (Some e) = let a = length-append (accumulators_of e) [] in let l = length-accumulators_of e in omega (arith, a, l)
+    of_having (Some e) = let a = length-append (accumulators_of e) [] in let l = counted e in omega (arith, a, l)
 aggregates_counted q b (e ∷ es) =
     let a = length-append (accumulators_of e) (flat_map accumulators_of (es ++ in_option q.having)) in
-    let l = length-accumulators_of e in
+    let l = counted e in
     let rest = aggregates_counted q b es in
     omega (arith, a, l, rest)
 
@@ -195,20 +188,20 @@ aggregates_counted q b (e ∷ es) =
 
 section_is : (h : Header) (code : List Instr) → length code ≤ 1000 → list_all (is_instr h) code ≡ true → is_section h code ≡ true
 unfolding is_section
-section_is h code l fine = both_true (nat_le (length code) 1000) (list_all (is_instr h) code) (at_most (length code) 1000 l) fine
+section_is h code l fine = and_from (nat_le (length code) 1000) (list_all (is_instr h) code) (le-leb (length code) 1000 l) fine
 
 module _ (q : Query) (passes : Passed q) (spelt : IsSpelt q) (b : Stated) (f : Fine q b) where
   keys_there : 0 < length q.keys
   keys_there =
       let many = nat_le 1 (length q.keys) && nat_le (length q.keys) 1000 in
-      let a = none_of_both (unless many Limit part.Keys) (first (unless (not (has_repeats q.keys)) Duplicate part.Keys ∷ [])) passes.keys in
-      is_at_most 1 (length q.keys) (and_is (nat_le 1 (length q.keys)) (nat_le (length q.keys) 1000) (unless_none many Limit part.Keys a.0)).0
+      let a = passed_both (unless many Limit part.Keys) (first (unless (not (has_repeats q.keys)) Duplicate part.Keys ∷ [])) passes.keys in
+      leb-true 1 (length q.keys) (and_parts (nat_le 1 (length q.keys)) (nat_le (length q.keys) 1000) (unless_none many Limit part.Keys a.0)).0
 
   parts : (list_all numbers_fit (in_option q.condition) ≡ true) × (list_all numbers_fit (fired q) ≡ true)
-  parts = and_is (list_all numbers_fit (in_option q.condition)) (list_all numbers_fit (fired q)) (sym (list_all-append numbers_fit (in_option q.condition) (fired q)) ∙ spelt.numbers)
+  parts = and_parts (list_all numbers_fit (in_option q.condition)) (list_all numbers_fit (fired q)) (sym (list_all-append numbers_fit (in_option q.condition) (fired q)) ∙ spelt.numbers)
 
   columns_parts : (list_all numbers_fit q.columns ≡ true) × (list_all numbers_fit (in_option q.having) ≡ true)
-  columns_parts = and_is (list_all numbers_fit q.columns) (list_all numbers_fit (in_option q.having)) (sym (list_all-append numbers_fit q.columns (in_option q.having)) ∙ parts.1)
+  columns_parts = and_parts (list_all numbers_fit q.columns) (list_all numbers_fit (in_option q.having)) (sym (list_all-append numbers_fit q.columns (in_option q.having)) ∙ parts.1)
 
   abbrev head : Header
   head = record (program_of q).header { budget = b }
@@ -218,26 +211,26 @@ module _ (q : Query) (passes : Passed q) (spelt : IsSpelt q) (b : Stated) (f : F
 
   firing_is : is_firing head ≡ true
   firing_is =
-      let t = and_is (every_fits q.early) (every_fits q.late) passes.triggers in
-      both_true (is_shape q.shape) (is_span (every q.early) && (is_span (every q.late) && is_form_of q.mode q.form)) (shape_is q.shape passes.shape)
-      (both_true (is_span (every q.early)) (is_span (every q.late) && is_form_of q.mode q.form) (every_is q.early t.0)
-      (both_true (is_span (every q.late)) (is_form_of q.mode q.form) (every_is q.late t.1) (form_is q.form q.mode passes.emit)))
+      let t = and_parts (every_fits q.early) (every_fits q.late) passes.triggers in
+      and_from (is_shape q.shape) (is_span (every q.early) && (is_span (every q.late) && is_form_of q.mode q.form)) (shape_is q.shape passes.shape)
+      (and_from (is_span (every q.early)) (is_span (every q.late) && is_form_of q.mode q.form) (every_is q.early t.0)
+      (and_from (is_span (every q.late)) (is_form_of q.mode q.form) (every_is q.late t.1) (form_is q.form q.mode passes.emit)))
 
   row_is : is_row head ≡ true
   row_is =
       let few = columns_few q 0 q.columns passes.columns (omega arith) in
       let l = length-map (column_type q) q.columns in
       let named = columns_named q b q.columns f.columns in
-      both_true (nat_le (length head.kinds) 16) (is_between 1 16 (length head.columns) && list_all (is_column head.schema) head.columns) (at_most (length head.kinds) 16 (omega (arith, kinds_counted, passes.code.accs)))
-      (both_true (is_between 1 16 (length head.columns)) (list_all (is_column head.schema) head.columns)
-      (both_true (nat_le 1 (length head.columns)) (nat_le (length head.columns) 16) (at_most 1 (length head.columns) (omega (arith, l, few.0))) (at_most (length head.columns) 16 (omega (arith, l, few.1)))) named)
+      and_from (nat_le (length head.kinds) 16) (is_between 1 16 (length head.columns) && list_all (is_column head.schema) head.columns) (le-leb (length head.kinds) 16 (omega (arith, kinds_counted, passes.code.accs)))
+      (and_from (is_between 1 16 (length head.columns)) (list_all (is_column head.schema) head.columns)
+      (and_from (nat_le 1 (length head.columns)) (nat_le (length head.columns) 16) (le-leb 1 (length head.columns) (omega (arith, l, few.0))) (le-leb (length head.columns) 16 (omega (arith, l, few.1)))) named)
 
   header_is : is_budget b ≡ true → is_header head ≡ true
   unfolding is_header
   header_is budget =
-      both_true (is_schema head.schema) (is_clock head && (is_firing head && (is_row head && is_budget b))) (schema_is q passes spelt)
-      (both_true (is_clock head) (is_firing head && (is_row head && is_budget b)) passes.clock
-      (both_true (is_firing head) (is_row head && is_budget b) firing_is (both_true (is_row head) (is_budget b) row_is budget)))
+      and_from (is_schema head.schema) (is_clock head && (is_firing head && (is_row head && is_budget b))) (schema_is q passes spelt)
+      (and_from (is_clock head) (is_firing head && (is_row head && is_budget b)) passes.clock
+      (and_from (is_firing head) (is_row head && is_budget b) firing_is (and_from (is_row head) (is_budget b) row_is budget)))
 
   where_is : is_section head (where_section q) ≡ true
   where_is =
@@ -265,6 +258,6 @@ is_lawful q h s =
     let p = passed q h in
     let f = fine q b h in
     let hd = (program_of q).header in
-    both_true (is_header hd) (is_section hd (where_section q) && (is_section hd (update_section q) && is_section hd (fire_section q))) (header_is q p s b f (budget_is q p (keys_there q p s b f)))
-    (both_true (is_section hd (where_section q)) (is_section hd (update_section q) && is_section hd (fire_section q)) (where_is q p s b f)
-    (both_true (is_section hd (update_section q)) (is_section hd (fire_section q)) (update_is q p s b f) (fire_is q p s b f)))
+    and_from (is_header hd) (is_section hd (where_section q) && (is_section hd (update_section q) && is_section hd (fire_section q))) (header_is q p s b f (budget_is q p (keys_there q p s b f)))
+    (and_from (is_section hd (where_section q)) (is_section hd (update_section q) && is_section hd (fire_section q)) (where_is q p s b f)
+    (and_from (is_section hd (update_section q)) (is_section hd (fire_section q)) (update_is q p s b f) (fire_is q p s b f)))

@@ -1,6 +1,8 @@
 -- The longest path of generated code is found by the structure of the query.
-use Rattle.std.proofs.Common.{◌≡◌, ℕ, zero, suc, ◌+◌, ◌-◌, ◌*◌, ◌<◌, max, true, false, cond, List, [], ◌∷◌, ◌++◌, length, map, Option, Some, None, refl, sym, ap, ◌∙◌, arith, append_assoc, length-append}
-use Rattle.std.specs.Prelude.{nat_lt, option_map, unwrap_or, slice_index_or}
+use Rattle.std.proofs.Common.{◌≡◌, ℕ, zero, suc, ◌+◌, ◌-◌, ◌*◌, max, true, false, cond, List, [], ◌∷◌, ◌++◌, length, map, Option, Some, None, refl, sym, ap, ◌∙◌, arith, append_assoc, length-append}
+use Rattle.std.specs.Prelude.{option_map, unwrap_or, slice_index_or}
+use Rattle.std.proofs.lemmas.Bool.{lt-ltb}
+use Rattle.std.proofs.lemmas.List.{length-map}
 use Rattle.wsm_bytecode.specs.declared.instr.Instr.{Instr}
 use Rattle.wsm_bytecode.specs.declared.instr.Instr.TheVariants as instr
 use Rattle.wsm_verifier.specs.Costs.{longer, longest_of, one_more, way_from, way_of, ways, longest_path, windows_of_a_record, join_steps}
@@ -30,9 +32,6 @@ plus_plus m n (Some k) = ap Some (sums m n k)
     sums : (m n k : ℕ) → m + (n + k) ≡ m + n + k
     sums m n k = omega arith
 
-same_plus : (m n : ℕ) (o : Option ℕ) → m ≡ n → plus m o ≡ plus n o
-same_plus m n o h = ap (λ k. plus k o) h
-
 one_is : (o : Option ℕ) → one_more o ≡ plus 1 o
 one_is None = refl
 one_is (Some n) = let e : suc n ≡ 1 + n = omega arith in ap Some e
@@ -56,14 +55,11 @@ at_behind p (x ∷ xs) ys (suc n) q h =
     let e : suc p + length xs ≡ p + suc (length xs) = omega arith in
     at_behind (suc p) xs ys n q f ∙ ap (λ r. at r ys q) e
 
-is_below : (a b : ℕ) → a < b → nat_lt a b ≡ true
-is_below a b h = grind arith
-
 -- the way over an edge, to the q-th instruction behind
 over_edge : (k t q : ℕ) (is : List Instr) → t ≡ suc k + q → way_from k (ways (suc k) is) t ≡ at (suc k) is q
 over_edge k t q is h =
     let e : t - suc k ≡ q = omega (arith, h) in
-    ap (λ b. cond b (slice_index_or (ways (suc k) is) (t - suc k) None) None) (is_below k t (omega (arith, h))) ∙ ap (at (suc k) is) e
+    ap (λ b. cond b (slice_index_or (ways (suc k) is) (t - suc k) None) None) (lt-ltb k t (omega (arith, h))) ∙ ap (at (suc k) is) e
 
 plain_way : (k : ℕ) (i : Instr) (later : List (Option ℕ)) → plain i ≡ true → way_of k i later ≡ one_more (longest_of (map (way_from k later) (next i k)))
 plain_way k instr.Return later h = no h
@@ -231,11 +227,7 @@ fire_longest q = is_path _ (longest_columns q.having q.columns) (columns_path q 
 pub needed_is : (q : Query) → NeededByStructure q
 needed_is q =
     (λ i. record {
-      per_record = where_longest q i + windows_of_a_record q.shape * update_longest q i + join_steps q.shape (length-kinds (accumulators q) i);
+      per_record = where_longest q i + windows_of_a_record q.shape * update_longest q i + join_steps q.shape (length-map (accumulators q) (λ (acc : Acc). acc.kind) i);
       per_pane = fire_longest q i;
       held = (needed_by_structure q).held;
     })
-  where
-    length-kinds : (accs : List Acc) → length (map (λ acc. acc.kind) accs) ≡ length accs
-    length-kinds [] = refl
-    length-kinds (x ∷ accs) = ap suc (length-kinds accs)

@@ -1,8 +1,10 @@
 -- Where names that are declared stand, and that names listed without repeats are listed as programs list them.
 use Rattle.std.proofs.Common.{◌≡◌, ℕ, suc, ◌+◌, Bool, true, false, ◌&&◌, ◌||◌, not, cond, List, [], ◌∷◌, ◌++◌, length, map, None, refl, sym, ap, ◌∙◌, arith}
 use Rattle.std.proofs.lemmas.List.Folds.{list_any-append}
-use Rattle.std.specs.Prelude.{bytes_eq, nat_eq, nat_le, nat_lt, slice_get}
+use Rattle.std.specs.Prelude.{bytes_eq, nat_le, nat_lt, slice_get}
 use Rattle.std.specs.List.{list_all}
+use Rattle.std.proofs.lemmas.Bool.{and_from, and_parts, not-true}
+use Rattle.std.proofs.Math.Bool.{or-false}
 use Rattle.wsm_record.specs.Name.{is_name, is_among}
 use Rattle.wsm_record.specs.Schema.{DeclaredField}
 use Rattle.wsm_bytecode.specs.Program.{names_of_type, names_of_field, is_name_of, are_names_after, is_name_list}
@@ -12,8 +14,10 @@ use Rattle.wsm_check.specs.declared.refusal.Part.{Part}
 use Rattle.wsm_check.specs.Names.{place_of, has_repeats, field_names, field_place, names_of, type_of}
 use Rattle.wsm_check.specs.Checks.{unless, first, names_refusal}
 use Rattle.wsm_compiler.specs.Program.{field_type}
-use Rattle.wsm_compiler.proofs.Hulls.{no, and_is, both_true}
-use Rattle.wsm_compiler.proofs.Passed.{none_of_both, unless_none}
+use Rattle.wsm_compiler.proofs.Hulls.{no}
+use Rattle.wsm_compiler.proofs.Passed.{unless_none}
+use Rattle.wsm_check.proofs.Repeats.{same_either_way}
+use Rattle.wsm_check.proofs.Following.{passed_both}
 
 -- ---- places
 
@@ -70,23 +74,6 @@ or_is : (a b : Bool) → (a || b) ≡ false → (a ≡ false) × (b ≡ false)
 or_is true b h = no (sym h)
 or_is false b h = (refl, h)
 
-or_false : (a : Bool) → (a || false) ≡ a
-or_false true = refl
-or_false false = refl
-
-same_either : (m n : ℕ) → nat_eq m n ≡ nat_eq n m
-same_either m n = grind arith
-
-either_way : (x y : Name) → bytes_eq x y ≡ bytes_eq y x
-either_way [] [] = refl
-either_way [] (c ∷ y) = refl
-either_way (c ∷ x) [] = refl
-either_way (c ∷ x) (d ∷ y) = (λ i. same_either c d i && either_way x y i)
-
-not_is : (b : Bool) → not b ≡ true → b ≡ false
-not_is true h = no h
-not_is false h = refl
-
 abbrev pub apart : List Name → List Name → Bool
 apart before xs = list_all (λ x. not (is_among x before)) xs
 
@@ -98,27 +85,27 @@ apart_none (x ∷ xs) = apart_none xs
 apart_more : (before : List Name) (x : Name) (ys : List Name) → apart before ys ≡ true → is_among x ys ≡ false → apart (before ++ x ∷ []) ys ≡ true
 apart_more before x [] h l = refl
 apart_more before x (y ∷ ys) h l =
-    let p = and_is (not (is_among y before)) (apart before ys) h in
+    let p = and_parts (not (is_among y before)) (apart before ys) h in
     let d = or_is (bytes_eq x y) (is_among x ys) l in
     let absent : is_among y (before ++ x ∷ []) ≡ false =
-    list_any-append (bytes_eq y) before (x ∷ []) ∙ (λ i. not_is (is_among y before) p.0 i || or_false (bytes_eq y x) i) ∙ either_way y x ∙ d.0 in
-    both_true (not (is_among y (before ++ x ∷ []))) (apart (before ++ x ∷ []) ys) (ap not absent) (apart_more before x ys p.1 d.1)
+    list_any-append (bytes_eq y) before (x ∷ []) ∙ (λ i. not-true (is_among y before) p.0 i || or-false (bytes_eq y x) i) ∙ same_either_way y x ∙ d.0 in
+    and_from (not (is_among y (before ++ x ∷ []))) (apart (before ++ x ∷ []) ys) (ap not absent) (apart_more before x ys p.1 d.1)
 
 listed_after : (before xs : List Name) → list_all is_name xs ≡ true → apart before xs ≡ true → has_repeats xs ≡ false → are_names_after before xs ≡ true
 listed_after before [] h l r = refl
 listed_after before (x ∷ xs) h l r =
-    let p = and_is (is_name x) (list_all is_name xs) h in
-    let a = and_is (not (is_among x before)) (apart before xs) l in
+    let p = and_parts (is_name x) (list_all is_name xs) h in
+    let a = and_parts (not (is_among x before)) (apart before xs) l in
     let d = or_is (is_among x xs) (has_repeats xs) r in
     let rest = are_names_after (before ++ x ∷ []) xs in
-    both_true (is_name x) (not (is_among x before) && rest) p.0
-    (both_true (not (is_among x before)) rest a.0 (listed_after (before ++ x ∷ []) xs p.1 (apart_more before x xs a.1 d.0) d.1))
+    and_from (is_name x) (not (is_among x before) && rest) p.0
+    (and_from (not (is_among x before)) rest a.0 (listed_after (before ++ x ∷ []) xs p.1 (apart_more before x xs a.1 d.0) d.1))
 
 pub names_listed : (p : Part) (xs : List Name) → names_refusal p xs ≡ None → list_all is_name xs ≡ true → is_name_list xs ≡ true
 names_listed p xs h l =
     let many = nat_le 1 (length xs) && nat_le (length xs) 1000 in
     let r2 = unless (not (has_repeats xs)) Duplicate p in
-    let a = none_of_both (unless many Limit p) (first (r2 ∷ [])) h in
-    let b = none_of_both r2 None a.1 in
-    both_true many (are_names_after [] xs) (unless_none many Limit p a.0)
-    (listed_after [] xs l (apart_none xs) (not_is (has_repeats xs) (unless_none (not (has_repeats xs)) Duplicate p b.0)))
+    let a = passed_both (unless many Limit p) (first (r2 ∷ [])) h in
+    let b = passed_both r2 None a.1 in
+    and_from many (are_names_after [] xs) (unless_none many Limit p a.0)
+    (listed_after [] xs l (apart_none xs) (not-true (has_repeats xs) (unless_none (not (has_repeats xs)) Duplicate p b.0)))

@@ -1,8 +1,9 @@
 -- The operands of generated code name what the program has.
-use Rattle.std.proofs.Common.{◌≡◌, ℕ, suc, ◌+◌, ◌≤◌, ◌<◌, Bool, true, false, ◌&&◌, cond, List, [], ◌∷◌, ◌++◌, length, map, Option, Some, None, Ok, Err, refl, ap, subst, ◌∙◌, arith}
+use Rattle.std.proofs.Common.{◌≡◌, ℕ, suc, ◌+◌, ◌≤◌, ◌<◌, Bool, true, false, ◌&&◌, List, [], ◌∷◌, ◌++◌, length, map, Option, Some, None, Ok, refl, ap, subst, ◌∙◌, arith}
 use Rattle.std.proofs.lemmas.List.Folds.{list_all-append}
-use Rattle.std.specs.Prelude.{is_some, nat_lt}
+use Rattle.std.specs.Prelude.{is_some}
 use Rattle.std.specs.List.{list_all}
+use Rattle.std.proofs.lemmas.Bool.{and_from, lt-ltb, and_parts}
 use Rattle.wsm_record.specs.declared.words.Kind.{Kind}
 use Rattle.wsm_record.specs.declared.words.Kind.TheVariants.{Sum, Min, Max, Any, All}
 use Rattle.wsm_record.specs.Name.{is_among}
@@ -13,9 +14,8 @@ use Rattle.wsm_bytecode.specs.Program.{Header, names_of_type, is_name_of, is_col
 use Rattle.wsm_query.specs.declared.expr.Op.{Op}
 use Rattle.wsm_query.specs.declared.expr.Op.TheVariants.{Add, Sub, Mul, Div, Rem, Eq, Ne, Lt, Le, Gt, Ge}
 use Rattle.wsm_query.specs.Tree.{Name, Ty, IntTy, BoolTy, EnumTy, Query, Expr, Number, Truth, Field, EnumName, Key, KeyName, Count, Aggregate, If, Brackets, Minus, Not, Binary, And, Or}
-use Rattle.wsm_check.specs.declared.refusal.CheckFault.{CheckFault}
 use Rattle.wsm_check.specs.Names.{field_names, field_place, type_of, names_of, place_of}
-use Rattle.wsm_check.specs.Types.{ExprTy, IntValue, BoolValue, EnumValue, Typed, wanted, if_typed, ty_eq, declared_ty, operand_ty, op_ty, typed}
+use Rattle.wsm_check.specs.Types.{ExprTy, IntValue, BoolValue, EnumValue, wanted, if_typed, ty_eq, declared_ty, operand_ty, op_ty, typed}
 use Rattle.wsm_check.specs.declared.types.Around.{Around}
 use Rattle.wsm_check.specs.declared.types.Around.TheVariants.{InColumn, InAggregate}
 use Rattle.wsm_check.specs.Sizes.{Acc, aggregates, size, condition_size, folds_size, columns_size}
@@ -23,17 +23,13 @@ use Rattle.wsm_compiler.specs.Code.{code, choice, instruction, condition_code, f
 use Rattle.wsm_check.specs.Spelt.{numbers_fit}
 use Rattle.wsm_check.specs.Parts.{type_or_int}
 use Rattle.wsm_compiler.specs.Program.{field_type, cell_type, column_type, program_stating}
-use Rattle.wsm_compiler.proofs.Hulls.{no, and_is, both_true}
-use Rattle.wsm_compiler.proofs.Suiting.{ok_is, err≢ok, result_of}
+use Rattle.wsm_compiler.proofs.Hulls.{no}
+use Rattle.wsm_compiler.proofs.Suiting.{ok_is, result_of}
 use Rattle.wsm_compiler.proofs.Finding.{cond_ok, field_is, entered_is, op_is, two_types, if_types, logic_types, unary_is}
-use Rattle.wsm_compiler.proofs.Reading.{declared, in_column}
+use Rattle.wsm_compiler.proofs.Reading.{declared, in_column, of_cond}
 use Rattle.wsm_compiler.proofs.Conditions.{ConditionTyped, ColumnsTyped}
 use Rattle.wsm_compiler.proofs.Folding.{AccsTyped}
 use Rattle.wsm_compiler.proofs.Naming.{place_below, field_below, names_there, name_there}
-
-cond_is : (b : Bool) (x : Typed) (f : CheckFault) (t : ExprTy) → cond b x (Err f) ≡ Ok t → b ≡ true
-cond_is true x f t e = refl
-cond_is false x f t e = err≢ok e
 
 abbrev pub condition_numbers : Option Expr → Bool
 condition_numbers None = true
@@ -68,8 +64,8 @@ module _ (q : Query) (b : Stated) where
   -- the name of a field, and a name of its type
   both_declared : (around : Around) (x y : Name) (t : ExprTy) → typed q around (EnumName x y) ≡ Ok t → (is_among x (field_names q.fields) ≡ true) × (is_among y (names_of (type_of x q.fields)) ≡ true)
   both_declared around x y t h =
-      and_is (is_among x (field_names q.fields)) (is_among y (names_of (type_of x q.fields)))
-      (cond_is (is_among x (field_names q.fields) && is_among y (names_of (type_of x q.fields))) _ _ t h)
+      and_parts (is_among x (field_names q.fields)) (is_among y (names_of (type_of x q.fields)))
+      (of_cond (is_among x (field_names q.fields) && is_among y (names_of (type_of x q.fields))) _ _ t h)
 
   named_as : (t u : ExprTy) → t ≡ u → Named t → Named u
   named_as t u e h = subst Named e h
@@ -121,7 +117,7 @@ module _ (q : Query) (b : Stated) where
   pub columns_named : (es : List Expr) → ColumnsTyped q es → list_all (is_column head.schema) (map (column_type q) es) ≡ true
   columns_named [] h = refl
   columns_named (e ∷ es) h =
-      both_true (is_column head.schema (column_type q e)) (list_all (is_column head.schema) (map (column_type q) es))
+      and_from (is_column head.schema (column_type q e)) (list_all (is_column head.schema) (map (column_type q) es))
       (ap (λ r. is_column head.schema (cell_type (type_or_int r))) h.0.1 ∙ type_named InColumn e h.0.0 h.0.1) (columns_named es h.1)
 
   -- ---- instructions
@@ -130,10 +126,10 @@ module _ (q : Query) (b : Stated) where
   AllFine is = list_all (is_instr head) is ≡ true
 
   pub fine_both : (is js : List Instr) → AllFine is → AllFine js → AllFine (is ++ js)
-  fine_both is js h l = list_all-append (is_instr head) is js ∙ both_true (list_all (is_instr head) is) (list_all (is_instr head) js) h l
+  fine_both is js h l = list_all-append (is_instr head) is js ∙ and_from (list_all (is_instr head) is) (list_all (is_instr head) js) h l
 
   fine_one : (i : Instr) → is_instr head i ≡ true → AllFine (i ∷ [])
-  fine_one i h = both_true (is_instr head i) true h refl
+  fine_one i h = and_from (is_instr head i) true h refl
 
   op_fine : (op : Op) → is_instr head (instruction op) ≡ true
   op_fine Add = refl
@@ -148,15 +144,12 @@ module _ (q : Query) (b : Stated) where
   op_fine Gt = refl
   op_fine Ge = refl
 
-  is_below : (m n : ℕ) → m < n → nat_lt m n ≡ true
-  is_below m n h = grind arith
-
   choice_fine : (k : ℕ) (first : List Instr) (m : ℕ) (second : List Instr) (n : ℕ) → AllFine first → AllFine second → k + m + 1 + n < 65536 → AllFine (choice k first m second n)
   choice_fine k first m second n h l room =
       let j1 = instr.JumpIfFalse (k + m + 1) in
       let j2 = instr.Jump (k + m + 1 + n) in
-      both_true (is_instr head j1) (list_all (is_instr head) (first ++ j2 ∷ second)) (is_below (k + m + 1) 65536 (omega (arith, room)))
-      (fine_both first (j2 ∷ second) h (both_true (is_instr head j2) (list_all (is_instr head) second) (is_below (k + m + 1 + n) 65536 room) l))
+      and_from (is_instr head j1) (list_all (is_instr head) (first ++ j2 ∷ second)) (lt-ltb (k + m + 1) 65536 (omega (arith, room)))
+      (fine_both first (j2 ∷ second) h (and_from (is_instr head j2) (list_all (is_instr head) second) (lt-ltb (k + m + 1 + n) 65536 room) l))
 
   -- in a column there is an accumulator for each aggregate
   abbrev Room : Around → ℕ → Expr → Type 0
@@ -172,16 +165,16 @@ module _ (q : Query) (b : Stated) where
       fine_one (instr.PushEnum (suc (field_place q.fields x)) (place_of y (names_of ty)))
       (ap (λ o. is_name_of o (place_of y (names_of ty))) (names_there q.fields x p.0) ∙ name_there ty y p.1)
   code_fine around k a Key t h l accs room = refl
-  code_fine around k a (KeyName x) t h l accs room = fine_one (instr.PushEnum 0 (place_of x q.keys)) (place_below x q.keys (cond_is (is_among x q.keys) _ _ t h))
+  code_fine around k a (KeyName x) t h l accs room = fine_one (instr.PushEnum 0 (place_of x q.keys)) (place_below x q.keys (of_cond (is_among x q.keys) _ _ t h))
   code_fine around k a Count t h l accs room = refl
   code_fine around k a (Aggregate kind e) t h l accs room =
       let inner = if_typed (typed q InAggregate e) (λ t. wanted (ty_eq t (operand_ty kind)) (operand_ty kind)) in
       let n = accs (entered_is around inner t h).0 in
-      fine_one (instr.Acc a) (is_below a (length head.kinds) (omega (arith, n)))
+      fine_one (instr.Acc a) (lt-ltb a (length head.kinds) (omega (arith, n)))
   code_fine around k a (If c x y) t h l accs room =
       let p = if_types q around c x y t h in
-      let f = and_is (numbers_fit c) (numbers_fit x && numbers_fit y) l in
-      let g = and_is (numbers_fit x) (numbers_fit y) f.1 in
+      let f = and_parts (numbers_fit c) (numbers_fit x && numbers_fit y) l in
+      let g = and_parts (numbers_fit x) (numbers_fit y) f.1 in
       let j = k + size c + 1 in
       let d = a + (aggregates c + aggregates x) in
       fine_both (code q k a c) (choice j (code q j (a + aggregates c) x) (size x) (code q (j + size x + 1) d y) (size y))
@@ -197,21 +190,21 @@ module _ (q : Query) (b : Stated) where
       fine_both (code q k a e) (instr.Not ∷ []) (code_fine around k a e BoolValue (unary_is q around e BoolValue t h).0 l accs (omega (arith, room))) refl
   code_fine around k a (Binary op x y) t h l accs room =
       let p = two_types q around x y (op_ty op) t h in
-      let f = and_is (numbers_fit x) (numbers_fit y) l in
+      let f = and_parts (numbers_fit x) (numbers_fit y) l in
       let right = code q (k + size x) (a + aggregates x) y in
       fine_both (code q k a x) (right ++ instruction op ∷ []) (code_fine around k a x p.left p.left_is f.0 (λ e. let n = accs e in omega (arith, n)) (omega (arith, room)))
       (fine_both right (instruction op ∷ []) (code_fine around (k + size x) (a + aggregates x) y p.right p.right_is f.1 (λ e. let n = accs e in omega (arith, n)) (omega (arith, room)))
       (fine_one (instruction op) (op_fine op)))
   code_fine around k a (And x y) t h l accs room =
       let p = logic_types q around x y t h in
-      let f = and_is (numbers_fit x) (numbers_fit y) l in
+      let f = and_parts (numbers_fit x) (numbers_fit y) l in
       let j = k + size x + 1 in
       let first = code q j (a + aggregates x) y in
       fine_both (code q k a x) (choice j first (size y) (instr.PushBool false ∷ []) 1) (code_fine around k a x BoolValue p.left_is f.0 (λ e. let n = accs e in omega (arith, n)) (omega (arith, room)))
       (choice_fine j first (size y) (instr.PushBool false ∷ []) 1 (code_fine around j (a + aggregates x) y BoolValue p.right_is f.1 (λ e. let n = accs e in omega (arith, n)) (omega (arith, room))) refl (omega (arith, room)))
   code_fine around k a (Or x y) t h l accs room =
       let p = logic_types q around x y t h in
-      let f = and_is (numbers_fit x) (numbers_fit y) l in
+      let f = and_parts (numbers_fit x) (numbers_fit y) l in
       let j = k + size x + 1 in
       let second = code q (j + 1 + 1) (a + aggregates x) y in
       fine_both (code q k a x) (choice j (instr.PushBool true ∷ []) 1 second (size y)) (code_fine around k a x BoolValue p.left_is f.0 (λ e. let n = accs e in omega (arith, n)) (omega (arith, room)))
@@ -228,10 +221,10 @@ module _ (q : Query) (b : Stated) where
   folds_fine k a [] h l n room = refl
   folds_fine k a (acc ∷ accs) h l n room =
       let e = acc.operand in
-      let p = and_is (numbers_fit e) (operands_fit accs) l in
+      let p = and_parts (numbers_fit e) (operands_fit accs) l in
       let rest = folds q (k + size e + 1) (suc a) accs in
       fine_both (code q k 0 e) (instr.Fold a ∷ rest) (code_fine InAggregate k 0 e (operand_ty acc.kind) h.0 p.0 (λ e. no (ap in_column e)) (omega (arith, room)))
-      (both_true (is_instr head (instr.Fold a)) (list_all (is_instr head) rest) (is_below a (length head.kinds) (omega (arith, n))) (folds_fine (k + size e + 1) (suc a) accs h.1 p.1 (omega (arith, n)) (omega (arith, room))))
+      (and_from (is_instr head (instr.Fold a)) (list_all (is_instr head) rest) (lt-ltb a (length head.kinds) (omega (arith, n))) (folds_fine (k + size e + 1) (suc a) accs h.1 p.1 (omega (arith, n)) (omega (arith, room))))
 
   abbrev pub columns_aggregates : List Expr → ℕ
   columns_aggregates [] = condition_aggregates q.having
@@ -241,6 +234,6 @@ module _ (q : Query) (b : Stated) where
       k + columns_size q.having es < 65536 → AllFine (columns_code q k a es)
   columns_fine k a [] h having l m n room = condition_fine InColumn k a q.having having m (λ e. n) (omega (arith, room))
   columns_fine k a (e ∷ es) h having l m n room =
-      let p = and_is (numbers_fit e) (list_all numbers_fit es) l in
+      let p = and_parts (numbers_fit e) (list_all numbers_fit es) l in
       fine_both (code q k a e) (columns_code q (k + size e) (a + aggregates e) es)
       (code_fine InColumn k a e h.0.0 h.0.1 p.0 (λ c. omega (arith, n)) (omega (arith, room))) (columns_fine (k + size e) (a + aggregates e) es h.1 having p.1 m (omega (arith, n)) (omega (arith, room)))

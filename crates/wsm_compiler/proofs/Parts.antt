@@ -2,10 +2,11 @@
 use Rattle.std.proofs.Common.{◌≡◌, ℕ, suc, ◌+◌, ◌<◌, Bool, true, false, ◌&&◌, ◌||◌, cond, List, [], ◌∷◌, ◌++◌, length, Option, Some, None, refl, ap, subst, ◌∙◌, arith, length-append}
 use Rattle.std.specs.Prelude.{is_some, is_none, option_map, nat_eq, nat_lt}
 use Rattle.std.specs.List.{cons_option, list_any}
+use Rattle.std.proofs.Math.Bool.{or-false}
 use Rattle.wsm_bytecode.specs.declared.Instr.{Instr}
 use Rattle.wsm_verifier.specs.Labels.{State, Ranges, Label, Reached, Visit, next, after, carried_to, hull_all, gathered, label_of, visit, visit_of}
 use Rattle.wsm_verifier.specs.Rules.{Setting, fault_of, fault_at, and_then}
-use Rattle.wsm_compiler.proofs.Visits.{nil_right, both_empty, extended, added, extended_is, added_append, length-extended, carries, carries_append, label_gathered, faults, faults_append, or_false, or_true}
+use Rattle.wsm_compiler.proofs.Visits.{nil_right, both_empty, extended, added, extended_is, added_append, length-extended, carries, carries_append, label_gathered, faults, faults_append, or_true}
 use Rattle.wsm_compiler.proofs.Hulls.{no}
 
 pub none≢some : {A X : Type 0} {a : A} → None ≡ Some a → X
@@ -72,7 +73,7 @@ sequence e c k is js s (Some t) f hi hj first rest vs at =
     let end : k + length (is ++ js) ≡ k + length is + length js = omega (arith, m) in
     let q = k + length is + length js in
     record {
-      faulty = ap (faults c) whole ∙ faults_append c more new ∙ ap (λ b. faults c more || b) a.faulty ∙ or_false (faults c more) ∙ b.faulty;
+      faulty = ap (faults c) whole ∙ faults_append c more new ∙ ap (λ b. faults c more || b) a.faulty ∙ or-false (faults c more) ∙ b.faulty;
       gives = λ u h.
           ap (λ p. hull_all (carries p (added e c.ranges vs (is ++ js)))) end
           ∙ ap (λ w. hull_all (carries q w)) whole

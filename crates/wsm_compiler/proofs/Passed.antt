@@ -1,6 +1,7 @@
 -- The checks that a query passed, one by one.
 use Rattle.std.proofs.Common.{◌≡◌, ◌≤◌, ◌*◌, Bool, true, false, ◌&&◌, [], ◌∷◌, length, Option, Some, None, refl, sym, ap, arith}
 use Rattle.std.specs.Prelude.{nat_le}
+use Rattle.std.proofs.lemmas.Bool.{and_parts}
 use Rattle.wsm_windows.specs.Life.{live_bound}
 use Rattle.wsm_query.specs.Tree.{Query}
 use Rattle.wsm_check.specs.declared.refusal.CheckFault.{CheckFault}
@@ -10,16 +11,13 @@ use Rattle.wsm_check.specs.declared.refusal.Part.TheVariants as part
 use Rattle.wsm_check.specs.declared.refusal.CheckRefusal.{CheckRefusal}
 use Rattle.wsm_check.specs.Sizes.{accumulators, where_size, update_size, fire_size, stack_need}
 use Rattle.wsm_check.specs.declared.types.Around.TheVariants.{InWhere, InColumn}
-use Rattle.wsm_check.specs.Checks.{unless, or_else, first, names_refusal, fields_refusal, clock_fits, budget_fits, shape_fits, every_fits, may_emit, condition_refusal, columns_refusal, code_fits, IsChecked}
-use Rattle.wsm_compiler.proofs.Hulls.{no, and_is}
+use Rattle.wsm_check.specs.Checks.{unless, first, names_refusal, fields_refusal, clock_fits, budget_fits, shape_fits, every_fits, may_emit, condition_refusal, columns_refusal, code_fits, IsChecked}
+use Rattle.wsm_compiler.proofs.Hulls.{no}
+use Rattle.wsm_check.proofs.Following.{passed_both}
 
 abbrev pub is_refusal : Option CheckRefusal → Bool
 is_refusal None = false
 is_refusal (Some r) = true
-
-pub none_of_both : (a b : Option CheckRefusal) → or_else a b ≡ None → (a ≡ None) × (b ≡ None)
-none_of_both None b h = (refl, h)
-none_of_both (Some r) b h = no (sym (ap is_refusal h))
 
 pub unless_none : (b : Bool) (f : CheckFault) (p : Part) → unless b f p ≡ None → b ≡ true
 unless_none true f p h = refl
@@ -41,11 +39,11 @@ code_fits_in : (q : Query) → code_fits q ≡ true → CodeFits q
 code_fits_in q fits =
     let held = nat_le (length q.keys * live_bound q.shape q.skew q.lateness) 100000 in
     let stack = nat_le (stack_need q) 32 in
-    let f1 = and_is (nat_le (length (accumulators q)) 16) (nat_le (where_size q) 1000 && (nat_le (update_size q) 1000 && (nat_le (fire_size q) 1000 && (stack && held)))) fits in
-    let f2 = and_is (nat_le (where_size q) 1000) (nat_le (update_size q) 1000 && (nat_le (fire_size q) 1000 && (stack && held))) f1.1 in
-    let f3 = and_is (nat_le (update_size q) 1000) (nat_le (fire_size q) 1000 && (stack && held)) f2.1 in
-    let f4 = and_is (nat_le (fire_size q) 1000) (stack && held) f3.1 in
-    let f5 = and_is stack held f4.1 in
+    let f1 = and_parts (nat_le (length (accumulators q)) 16) (nat_le (where_size q) 1000 && (nat_le (update_size q) 1000 && (nat_le (fire_size q) 1000 && (stack && held)))) fits in
+    let f2 = and_parts (nat_le (where_size q) 1000) (nat_le (update_size q) 1000 && (nat_le (fire_size q) 1000 && (stack && held))) f1.1 in
+    let f3 = and_parts (nat_le (update_size q) 1000) (nat_le (fire_size q) 1000 && (stack && held)) f2.1 in
+    let f4 = and_parts (nat_le (fire_size q) 1000) (stack && held) f3.1 in
+    let f5 = and_parts stack held f4.1 in
     record {
       accs = is_at_most (length (accumulators q)) 16 f1.0;
       selection = is_at_most (where_size q) 1000 f2.0;
@@ -81,17 +79,17 @@ passed q h =
     let r3 = unless (clock_fits q) Limit part.Clock in
     let r2 = fields_refusal [] q.fields in
     let r1 = names_refusal part.Keys q.keys in
-    let h1 = none_of_both r1 (first (r2 ∷ r3 ∷ r4 ∷ r5 ∷ r6 ∷ r7 ∷ r8 ∷ r9 ∷ r10 ∷ r11 ∷ [])) h in
-    let h2 = none_of_both r2 (first (r3 ∷ r4 ∷ r5 ∷ r6 ∷ r7 ∷ r8 ∷ r9 ∷ r10 ∷ r11 ∷ [])) h1.1 in
-    let h3 = none_of_both r3 (first (r4 ∷ r5 ∷ r6 ∷ r7 ∷ r8 ∷ r9 ∷ r10 ∷ r11 ∷ [])) h2.1 in
-    let h4 = none_of_both r4 (first (r5 ∷ r6 ∷ r7 ∷ r8 ∷ r9 ∷ r10 ∷ r11 ∷ [])) h3.1 in
-    let h5 = none_of_both r5 (first (r6 ∷ r7 ∷ r8 ∷ r9 ∷ r10 ∷ r11 ∷ [])) h4.1 in
-    let h6 = none_of_both r6 (first (r7 ∷ r8 ∷ r9 ∷ r10 ∷ r11 ∷ [])) h5.1 in
-    let h7 = none_of_both r7 (first (r8 ∷ r9 ∷ r10 ∷ r11 ∷ [])) h6.1 in
-    let h8 = none_of_both r8 (first (r9 ∷ r10 ∷ r11 ∷ [])) h7.1 in
-    let h9 = none_of_both r9 (first (r10 ∷ r11 ∷ [])) h8.1 in
-    let h10 = none_of_both r10 (first (r11 ∷ [])) h9.1 in
-    let h11 = none_of_both r11 None h10.1 in
+    let h1 = passed_both r1 (first (r2 ∷ r3 ∷ r4 ∷ r5 ∷ r6 ∷ r7 ∷ r8 ∷ r9 ∷ r10 ∷ r11 ∷ [])) h in
+    let h2 = passed_both r2 (first (r3 ∷ r4 ∷ r5 ∷ r6 ∷ r7 ∷ r8 ∷ r9 ∷ r10 ∷ r11 ∷ [])) h1.1 in
+    let h3 = passed_both r3 (first (r4 ∷ r5 ∷ r6 ∷ r7 ∷ r8 ∷ r9 ∷ r10 ∷ r11 ∷ [])) h2.1 in
+    let h4 = passed_both r4 (first (r5 ∷ r6 ∷ r7 ∷ r8 ∷ r9 ∷ r10 ∷ r11 ∷ [])) h3.1 in
+    let h5 = passed_both r5 (first (r6 ∷ r7 ∷ r8 ∷ r9 ∷ r10 ∷ r11 ∷ [])) h4.1 in
+    let h6 = passed_both r6 (first (r7 ∷ r8 ∷ r9 ∷ r10 ∷ r11 ∷ [])) h5.1 in
+    let h7 = passed_both r7 (first (r8 ∷ r9 ∷ r10 ∷ r11 ∷ [])) h6.1 in
+    let h8 = passed_both r8 (first (r9 ∷ r10 ∷ r11 ∷ [])) h7.1 in
+    let h9 = passed_both r9 (first (r10 ∷ r11 ∷ [])) h8.1 in
+    let h10 = passed_both r10 (first (r11 ∷ [])) h9.1 in
+    let h11 = passed_both r11 None h10.1 in
     record {
       keys = h1.0;
       fields = h2.0;

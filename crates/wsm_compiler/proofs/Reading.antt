@@ -60,7 +60,7 @@ known_at n (d ∷ ds) x h =
       | false ↦ λ e h. behind_head n d ds x e (known_at (suc n) ds x h)
     ] refl h
 
-of_cond : (b : Bool) (y : Typed) (f : CheckFault) (t : ExprTy) → cond b y (Err f) ≡ Ok t → b ≡ true
+pub of_cond : (b : Bool) (y : Typed) (f : CheckFault) (t : ExprTy) → cond b y (Err f) ≡ Ok t → b ≡ true
 of_cond true y f t h = refl
 of_cond false y f t h = err≢ok h
 

@@ -3,12 +3,13 @@ use Rattle.std.proofs.Common.{◌≡◌, ℕ, zero, suc, Bool, true, false, List
 use Rattle.std.specs.Option.{IfSome}
 use Rattle.std.specs.Prelude.{ℤ, pos, negsuc, nat_le}
 use Rattle.std.specs.List.{AllByRecursion}
+use Rattle.std.proofs.lemmas.Bool.{and_parts}
 use Rattle.wsm_record.specs.Name.{is_name}
 use Rattle.wsm_tokens.specs.Tokens.{Word, Mark, Number, Tokens, Then, End, Bad, number_limit}
 use Rattle.wsm_tokens.specs.Proper.{is_proper, has_proper}
 use Rattle.wsm_tokens.specs.Read.{Read, Rule, Took, Stopped, ◌>>=◌, give, and_then, unexpected, begins, behind, count, ask, number, name}
 use Rattle.wsm_query.specs.Grammar.{looked_up, one_of, either, at, after, until, optional, turns, brace, list_of}
-use Rattle.wsm_compiler.proofs.Hulls.{no, and_is}
+use Rattle.wsm_compiler.proofs.Hulls.{no}
 
 abbrev pub Proper : Tokens → Type 0
 Proper ts = has_proper ts ≡ true
@@ -25,7 +26,7 @@ Anything x = Unit {0}
 
 pub behind_proper : (ts : Tokens) → Proper ts → Proper (behind ts)
 unfolding behind has_proper
-behind_proper (Then t at rest) h = (and_is (is_proper t) (has_proper rest) h).1
+behind_proper (Then t at rest) h = (and_parts (is_proper t) (has_proper rest) h).1
 behind_proper (End at) h = h
 behind_proper (Bad f at) h = h
 
@@ -113,7 +114,7 @@ names_are = record { law = by_token }
     by_test false w f rest e p = tt
 
     by_token : (ts : Tokens) → Proper ts → Sound IsName (name ts)
-    by_token (Then (Word w) at rest) p = by_test (is_name w) w _ rest refl (and_is (is_proper (Word w)) (has_proper rest) p).1
+    by_token (Then (Word w) at rest) p = by_test (is_name w) w _ rest refl (and_parts (is_proper (Word w)) (has_proper rest) p).1
     by_token (Then (Mark s) at rest) p = tt
     by_token (Then (Number n) at rest) p = tt
     by_token (End at) p = tt
@@ -124,7 +125,7 @@ unfolding number has_proper
 numbers_are = record { law = by_token }
   where
     by_token : (ts : Tokens) → Proper ts → Sound IsNumber (number ts)
-    by_token (Then (Number (pos n)) at rest) p = and_is (is_proper (Number (pos n))) (has_proper rest) p
+    by_token (Then (Number (pos n)) at rest) p = and_parts (is_proper (Number (pos n))) (has_proper rest) p
     by_token (Then (Number (negsuc n)) at rest) p = no p
     by_token (Then (Word w) at rest) p = tt
     by_token (Then (Mark s) at rest) p = tt

@@ -29,7 +29,8 @@ use Rattle.wsm_compiler.proofs.Suiting.{ok_is, op_typed, result_of}
 use Rattle.wsm_compiler.proofs.Finding.{cond_ok, field_is, entered_is, op_is, two_types, if_types, logic_types, unary_is}
 use Rattle.wsm_compiler.proofs.Reading.{is_fine, not_in_column}
 use Rattle.wsm_compiler.proofs.Values.{serves_left, serves_right, value_has}
-use Rattle.wsm_compiler.proofs.Machine.{bind, step_is, none_under, has_room, number_gives, run_goes, push_int, push_bool, push_enum, push_key, one_type, op_gives, neg_gives, not_gives, jump_goes, choose}
+use Rattle.wsm_compiler.proofs.Machine.{bind, step_is, has_room, number_gives, run_goes, push_int, push_bool, push_enum, push_key, one_type, op_gives, neg_gives, not_gives, jump_goes, choose}
+use Rattle.wsm_compiler.proofs.Choosing.{not_under}
 
 -- ---- places
 
@@ -61,13 +62,13 @@ read_gives : (c : Setting) (k : ℕ) (stack : List Cell) (folds : List (Option V
     step c (state k stack folds) i ≡ reads b k stack folds (Some (cell t v)) → Gives c (state k stack folds) (topped (k + 1) stack folds t (kept (Some v)))
 read_gives c k stack folds room i IntValue (Int n) b h at l e =
     number_gives c k stack folds room (state k stack folds) i n _ at
-    (e ∙ step_is b (nat_lt (length stack) 0) _ (nat_lt 31 (length stack)) (Goes (state (k + 1) (cells.Int n ∷ stack) folds)) l (none_under (length stack)) (has_room (length stack) room))
+    (e ∙ step_is b (nat_lt (length stack) 0) _ (nat_lt 31 (length stack)) (Goes (state (k + 1) (cells.Int n ∷ stack) folds)) l (not_under (length stack)) (has_room (length stack) room))
 read_gives c k stack folds room i BoolValue (Truth' v) b h at l e =
     run_goes c (state k stack folds) (state (k + 1) (cells.Bool v ∷ stack) folds) i at
-    (e ∙ step_is b (nat_lt (length stack) 0) false (nat_lt 31 (length stack)) (Goes (state (k + 1) (cells.Bool v ∷ stack) folds)) l (none_under (length stack)) (has_room (length stack) room))
+    (e ∙ step_is b (nat_lt (length stack) 0) false (nat_lt 31 (length stack)) (Goes (state (k + 1) (cells.Bool v ∷ stack) folds)) l (not_under (length stack)) (has_room (length stack) room))
 read_gives c k stack folds room i (EnumValue d) (Enum n) b h at l e =
     run_goes c (state k stack folds) (state (k + 1) (cells.Enum d n ∷ stack) folds) i at
-    (e ∙ step_is b (nat_lt (length stack) 0) false (nat_lt 31 (length stack)) (Goes (state (k + 1) (cells.Enum d n ∷ stack) folds)) l (none_under (length stack)) (has_room (length stack) room))
+    (e ∙ step_is b (nat_lt (length stack) 0) false (nat_lt 31 (length stack)) (Goes (state (k + 1) (cells.Enum d n ∷ stack) folds)) l (not_under (length stack)) (has_room (length stack) room))
 read_gives c k stack folds room i IntValue (Truth' v) b h at l e = no h
 read_gives c k stack folds room i IntValue (Enum n) b h at l e = no h
 read_gives c k stack folds room i BoolValue (Int n) b h at l e = no h

@@ -5,6 +5,7 @@ use Rattle.std.specs.Prelude.{pos, negsuc, ◌≤ℤ◌, filter, filter_map, fla
 use Rattle.std.specs.Option.{IfSome}
 use Rattle.std.specs.List.{AllByRecursion, cons_option, list_all, list_any}
 use Rattle.std.specs.FinMap.Entries.{where_key}
+use Rattle.std.proofs.lemmas.Bool.{and_from, and_parts}
 use Rattle.wsm_record.specs.declared.event.Value.{Value}
 use Rattle.wsm_record.specs.declared.words.Form.{Form}
 use Rattle.wsm_record.specs.declared.words.Form.TheVariants as form
@@ -29,7 +30,7 @@ use Rattle.wsm_compiler.specs.SameMeaning.{record_in_range, IsPane, IsAccepted}
 use Rattle.wsm_compiler.specs.Accepted.{states_enough}
 use Rattle.wsm_compiler.specs.Ranges.{ranges_fit}
 use Rattle.wsm_compiler.specs.SameLines.{SameLines, TextMeans}
-use Rattle.wsm_compiler.proofs.Hulls.{no, and_is, both_true}
+use Rattle.wsm_compiler.proofs.Hulls.{no}
 use Rattle.wsm_compiler.proofs.Accepted.{accepted_exactly}
 use Rattle.wsm_compiler.proofs.Texts.{parsed_is_spelt}
 use Rattle.wsm_compiler.proofs.Passed.{passed}
@@ -177,9 +178,9 @@ all_in_range q key (d ∷ ds) same fits =
 pane_is : (q : Query) → IsAccepted q → (key : ℕ) (ds : List Datum) → IsFiringSet (query_of (program_of q)) key ds → IsPane q key (map (λ d. d.values) ds)
 pane_is q a key ds h =
     let clock = (passed q a.checked).clock in
-    let c1 = and_is (is_time q.start) (is_span q.skew && (is_span q.lateness && is_count q.records)) clock in
-    let c2 = and_is (is_span q.skew) (is_span q.lateness && is_count q.records) c1.1 in
-    let c3 = and_is (is_span q.lateness) (is_count q.records) c2.1 in
+    let c1 = and_parts (is_time q.start) (is_span q.skew && (is_span q.lateness && is_count q.records)) clock in
+    let c2 = and_parts (is_span q.skew) (is_span q.lateness && is_count q.records) c1.1 in
+    let c3 = and_parts (is_span q.lateness) (is_count q.records) c2.1 in
     let n = length-values ds in
     let few : length (map (λ (d : Datum). d.values) ds) ≤ unsigned_abs q.records = subst (λ l. l ≤ unsigned_abs q.records) (sym n) h.few in
     record {
@@ -195,4 +196,4 @@ same_lines q a rows =
 
 pub text_means : (text : List ℕ) (q : Query) → TextMeans text q
 text_means text q read checked fit enough =
-    same_lines q (record { checked = checked; spelt = parsed_is_spelt text q read; accepted = accepted_exactly q checked ∙ both_true (ranges_fit q) (states_enough (program_of q)) fit enough })
+    same_lines q (record { checked = checked; spelt = parsed_is_spelt text q read; accepted = accepted_exactly q checked ∙ and_from (ranges_fit q) (states_enough (program_of q)) fit enough })

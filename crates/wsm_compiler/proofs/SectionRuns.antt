@@ -1,8 +1,9 @@
 -- Runs of WHERE and of FIRE end with the meanings of their expressions, or trap where one has none.
 use Rattle.std.proofs.Common.{◌≡◌, inl, inr, ℕ, ◌+◌, ◌≤◌, ◌<◌, true, ◌&&◌, not, cond, List, [], ◌∷◌, ◌++◌, length, map, reverse, replicate, Option, Some, None, Ok, refl, sym, ap, subst, ◌∙◌, arith, append_assoc, length-append}
 use Rattle.std.proofs.lemmas.List.{reverse-append}
-use Rattle.std.specs.Prelude.{max, nat_eq, slice_get}
+use Rattle.std.specs.Prelude.{max, slice_get}
 use Rattle.std.specs.List.{flat_map}
+use Rattle.std.proofs.lemmas.Bool.{and_from}
 use Rattle.wsm_record.specs.declared.event.Value.{Value}
 use Rattle.wsm_record.specs.declared.event.Value.TheVariants.{Int, Bool as Truth', Enum}
 use Rattle.wsm_bytecode.specs.declared.instr.CellType.{CellType}
@@ -31,7 +32,7 @@ use Rattle.wsm_compiler.specs.Program.{cell_type, column_type, program_stating, 
 use Rattle.wsm_compiler.specs.Runs.{of_ty, cell, Serves, ServesAccs, state, topped, Gives, StandsAt}
 use Rattle.wsm_compiler.specs.Sections.{in_bounds, condition_value, Leaves, on_stack, fired_stack, WhereRuns, FireRuns}
 use Rattle.wsm_compiler.proofs.Visits.{nil_right}
-use Rattle.wsm_compiler.proofs.Hulls.{no, both_true}
+use Rattle.wsm_compiler.proofs.Hulls.{no}
 use Rattle.wsm_compiler.proofs.Parts.{none≢some}
 use Rattle.wsm_compiler.proofs.Reading.{in_column}
 use Rattle.wsm_compiler.proofs.Sizes.{some_size}
@@ -40,9 +41,11 @@ use Rattle.wsm_compiler.proofs.Checked.{fine}
 use Rattle.wsm_compiler.proofs.Firing.{accs_are}
 use Rattle.wsm_compiler.proofs.Bounded.{bounded_is}
 use Rattle.wsm_compiler.proofs.Values.{value_has, serves_left, serves_right}
-use Rattle.wsm_compiler.proofs.Machine.{none_under, push_bool}
+use Rattle.wsm_compiler.proofs.Machine.{push_bool}
 use Rattle.wsm_compiler.proofs.Running.{split_code, code_runs}
 use Rattle.wsm_compiler.proofs.Serving.{serves_where, serves_fire, serves_accs}
+use Rattle.wsm_compiler.proofs.Choosing.{not_under}
+use Rattle.wsm_semantics.proofs.Each.{itself}
 
 -- ---- a section stands in itself
 
@@ -66,7 +69,7 @@ stands_all is = stands_behind [] is
 
 pub return_ends : (c : Setting) (s : State) → slice_get c.code s.place ≡ Some instr.Return → is_result c s ≡ true → run_at c s ≡ ended Done 1 s
 return_ends c s at h =
-    let ends : step c s instr.Return ≡ Ends = (λ i. unless (cond (none_under (length s.stack) i) (Some Underflow) (cond (not (h i)) (Some BadReturn) None)) Ends) in
+    let ends : step c s instr.Return ≡ Ends = (λ i. unless (cond (not_under (length s.stack) i) (Some Underflow) (cond (not (h i)) (Some BadReturn) None)) Ends) in
     run_step c s ∙ ap (act c (run_at c) s) at ∙ ap (go_on (run_at c) s) ends
 
 -- what a run leaves that comes to a return, or traps
@@ -120,14 +123,11 @@ cell_has (EnumValue e) (Enum i) h = refl
 is_its_type : (t : CellType) → is_type t t ≡ true
 is_its_type types.Int = refl
 is_its_type types.Bool = refl
-is_its_type (types.Enum e) = same e
-  where
-    same : (e : ℕ) → nat_eq e e ≡ true
-    same e = grind arith
+is_its_type (types.Enum e) = itself e
 
 are_their_types : (ts : List CellType) → are_types ts ts ≡ true
 are_their_types [] = refl
-are_their_types (t ∷ ts) = both_true (is_type t t) (are_types ts ts) (is_its_type t) (are_their_types ts)
+are_their_types (t ∷ ts) = and_from (is_type t t) (are_types ts ts) (is_its_type t) (are_their_types ts)
 
 -- ---- WHERE
 

@@ -1,6 +1,7 @@
 -- What a section reads of inputs that fit the header is what its expressions mean.
 use Rattle.std.proofs.Common.{◌≡◌, ℕ, zero, suc, ◌+◌, true, false, ◌||◌, not, cond, List, [], ◌∷◌, map, Some, None, Ok, refl, sym, ap, ◌∙◌, arith}
 use Rattle.std.specs.Prelude.{bytes_eq, slice_get}
+use Rattle.std.proofs.lemmas.Bool.{and_parts}
 use Rattle.wsm_record.specs.declared.event.Value.{Value}
 use Rattle.wsm_record.specs.declared.event.Value.TheVariants.{Int, Bool as Truth', Enum}
 use Rattle.wsm_record.specs.declared.words.Kind.{Kind}
@@ -21,7 +22,7 @@ use Rattle.wsm_compiler.specs.Meaning.{on_record, on_accumulators}
 use Rattle.wsm_compiler.specs.Program.{field_type, program_stating}
 use Rattle.wsm_compiler.specs.Runs.{of_ty, Serves, ServesAccs}
 use Rattle.wsm_compiler.specs.Sections.{record_fits, pane_fits}
-use Rattle.wsm_compiler.proofs.Hulls.{no, and_is}
+use Rattle.wsm_compiler.proofs.Hulls.{no}
 use Rattle.wsm_compiler.proofs.Parts.{none≢some}
 use Rattle.wsm_compiler.proofs.Finding.{field_is}
 use Rattle.wsm_compiler.proofs.Reading.{declared, is_fine, not_in_column, in_column}
@@ -49,7 +50,7 @@ read_at : (ds : List Declared) (vs : List Value) (x : Name) → is_among x (fiel
 read_at [] vs x h l = no h
 read_at (d ∷ ds) [] x h l = no l
 read_at (d ∷ ds) (v ∷ vs) x h l =
-    let p = and_is (is_of_field (field_type d.ty) v) (are_of_fields (map (λ d. record { name = d.name; type = field_type d.ty }) ds) vs) l in
+    let p = and_parts (is_of_field (field_type d.ty) v) (are_of_fields (map (λ d. record { name = d.name; type = field_type d.ty }) ds) vs) l in
     elim (bytes_eq x d.name) as (λ b. bytes_eq x d.name ≡ b → (b || is_among x (field_names ds)) ≡ true → Read (d ∷ ds) (v ∷ vs) x) [
       | true ↦ λ e h. record {
         value = v;
@@ -97,12 +98,12 @@ held_at : (accs : List Acc) (vs : List Value) (j : ℕ) (acc : Acc) → are_of_k
 held_at [] vs j acc h e = none≢some e
 held_at (x ∷ accs) [] j acc h e = no h
 held_at (x ∷ accs) (v ∷ vs) zero acc h e =
-    let p = and_is (is_of_kind x.kind v) (are_of_kinds (map (λ acc. acc.kind) accs) vs) h in
+    let p = and_parts (is_of_kind x.kind v) (are_of_kinds (map (λ acc. acc.kind) accs) vs) h in
     (v, refl, ap (λ z. of_ty (operand_ty z.kind) (Some v)) (sym (acc_is x acc e)) ∙ of_kind x.kind v p.0)
   where
     acc_is : (x y : Acc) → Some x ≡ Some y → x ≡ y
     acc_is x y h = ap (λ o. elim o [ None ↦ x | Some z ↦ z ]) h
-held_at (x ∷ accs) (v ∷ vs) (suc j) acc h e = held_at accs vs j acc (and_is (is_of_kind x.kind v) (are_of_kinds (map (λ acc. acc.kind) accs) vs) h).1 e
+held_at (x ∷ accs) (v ∷ vs) (suc j) acc h e = held_at accs vs j acc (and_parts (is_of_kind x.kind v) (are_of_kinds (map (λ acc. acc.kind) accs) vs) h).1 e
 
 -- ---- sections
 

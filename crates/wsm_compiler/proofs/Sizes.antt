@@ -2,27 +2,9 @@
 use Rattle.std.proofs.Common.{◌≡◌, ℕ, ◌+◌, ◌<◌, true, false, List, [], ◌∷◌, ◌++◌, length, refl, arith, length-append}
 use Rattle.wsm_bytecode.specs.declared.instr.Instr.{Instr}
 use Rattle.wsm_query.specs.Tree.{Query, Expr, Number, Truth, Field, EnumName, Key, KeyName, Count, Aggregate, If, Brackets, Minus, Not, Binary, And, Or}
-use Rattle.wsm_check.specs.Sizes.{aggregates, accumulators_of, size, need}
+use Rattle.wsm_check.specs.Sizes.{aggregates, size, need}
 use Rattle.wsm_compiler.specs.Code.{code, choice, instruction}
 use Rattle.wsm_bytecode.specs.declared.instr.Instr.TheVariants as instr
-
-pub length-accumulators_of : (e : Expr) → length (accumulators_of e) ≡ aggregates e
-length-accumulators_of (Aggregate kind e) = refl
-length-accumulators_of (If c x y) =
-    let hc = length-accumulators_of c in
-    let hx = length-accumulators_of x in
-    let hy = length-accumulators_of y in
-    simp (length-append, hc, hx, hy) refl
-length-accumulators_of (Brackets e) = length-accumulators_of e
-length-accumulators_of (Minus e) = length-accumulators_of e
-length-accumulators_of (Not e) = length-accumulators_of e
-length-accumulators_of (Binary op x y) =
-    let hx = length-accumulators_of x in let hy = length-accumulators_of y in simp (length-append, hx, hy) refl
-length-accumulators_of (And x y) =
-    let hx = length-accumulators_of x in let hy = length-accumulators_of y in simp (length-append, hx, hy) refl
-length-accumulators_of (Or x y) =
-    let hx = length-accumulators_of x in let hy = length-accumulators_of y in simp (length-append, hx, hy) refl
-length-accumulators_of _ = refl
 
 pub length-choice : (j : ℕ) (first : List Instr) (m : ℕ) (second : List Instr) (n : ℕ) → length (choice j first m second n) ≡ length first + length second + 2
 length-choice j first m second n = let l = length-append first (instr.Jump (j + m + 1 + n) ∷ second) in omega (arith, l)

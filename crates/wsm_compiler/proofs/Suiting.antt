@@ -1,6 +1,7 @@
 -- What the verifier finds of an expression is its range, in its type.
-use Rattle.std.proofs.Common.{◌≡◌, ℕ, Bool, true, false, ◌&&◌, not, cond, [], ◌∷◌, Option, Some, None, Result, Ok, Err, refl, sym, ap, subst, ◌∙◌, arith}
-use Rattle.std.specs.Prelude.{nat_eq, option_map}
+use Rattle.std.proofs.Common.{◌≡◌, Bool, true, false, ◌&&◌, not, cond, [], ◌∷◌, Option, Some, None, Result, Ok, Err, refl, sym, ap, subst, ◌∙◌}
+use Rattle.std.specs.Prelude.{option_map}
+use Rattle.std.proofs.lemmas.Bool.{eqb-true, and_parts}
 use Rattle.wsm_interval.specs.declared.interval.Interval.{Interval}
 use Rattle.wsm_interval.specs.Interval.{add, sub, mul, div, rem, neg}
 use Rattle.wsm_bytecode.specs.declared.instr.Instr.{Instr}
@@ -16,7 +17,7 @@ use Rattle.wsm_verifier.specs.Labels.{same_type}
 use Rattle.wsm_verifier.specs.Rules.{Setting, may_stand, and_then}
 use Rattle.wsm_compiler.specs.Code.{instruction}
 use Rattle.wsm_compiler.specs.Ranges.{Range, Unfit, NoNumber, Within, within, no_number, on_intervals, of_op, of_minus}
-use Rattle.wsm_compiler.proofs.Hulls.{no, and_is, type_self}
+use Rattle.wsm_compiler.proofs.Hulls.{no, type_self}
 use Rattle.wsm_compiler.proofs.Parts.{none≢some}
 use Rattle.wsm_compiler.proofs.Found.{of_instr, head_of}
 
@@ -43,9 +44,6 @@ pub wanted_is : (b : Bool) (u t : ExprTy) → wanted b u ≡ Ok t → (b ≡ tru
 wanted_is true u t e = (refl, ok_is u t e)
 wanted_is false u t e = err≢ok e
 
-same_number : (d e : ℕ) → nat_eq d e ≡ true → d ≡ e
-same_number d e h = grind arith
-
 pub ty_is : (t u : ExprTy) → ty_eq t u ≡ true → t ≡ u
 ty_is IntValue IntValue h = refl
 ty_is IntValue BoolValue h = no h
@@ -55,7 +53,7 @@ ty_is BoolValue BoolValue h = refl
 ty_is BoolValue (EnumValue e) h = no h
 ty_is (EnumValue d) IntValue h = no h
 ty_is (EnumValue d) BoolValue h = no h
-ty_is (EnumValue d) (EnumValue e) h = ap EnumValue (same_number d e h)
+ty_is (EnumValue d) (EnumValue e) h = ap EnumValue (eqb-true d e h)
 
 -- ---- a range in a type
 
@@ -228,7 +226,7 @@ OpFound c op t u w r p = (Two c (instruction op) (known_of t r) (known_of u p) �
 two_numbers : (c : Setting) (op : Op) (t u w : ExprTy) (r p : Range) → (ty_eq t IntValue && ty_eq u IntValue) ≡ true → suits t r ≡ true → suits u p ≡ true →
     (suits IntValue r ≡ true → suits IntValue p ≡ true → OpFound c op IntValue IntValue w r p) → OpFound c op t u w r p
 two_numbers c op t u w r p h l m go =
-    let a = and_is (ty_eq t IntValue) (ty_eq u IntValue) h in
+    let a = and_parts (ty_eq t IntValue) (ty_eq u IntValue) h in
     let t_is = ty_is t IntValue a.0 in
     let u_is = ty_is u IntValue a.1 in
     subst (λ x. OpFound c op x u w r p) (sym t_is) (subst (λ x. OpFound c op IntValue x w r p) (sym u_is) (go (ap (λ x. suits x r) (sym t_is) ∙ l) (ap (λ x. suits x p) (sym u_is) ∙ m)))

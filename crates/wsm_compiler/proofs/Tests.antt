@@ -2,6 +2,7 @@
 use Rattle.std.proofs.Common.{◌≡◌, ℕ, suc, ◌+◌, ◌<◌, Bool, true, false, ◌&&◌, ◌||◌, not, cond, List, [], ◌∷◌, ◌++◌, length, drop, Option, Some, None, refl, sym, ap, ◌∙◌, arith, length-append}
 use Rattle.std.specs.Prelude.{ℤ, is_some, is_none, option_map, nat_eq, nat_lt}
 use Rattle.std.specs.List.{list_any}
+use Rattle.std.proofs.Math.Bool.{and-false}
 use Rattle.wsm_record.specs.declared.Kind.{Kind}
 use Rattle.wsm_bytecode.specs.declared.Instr.{Instr}
 use Rattle.wsm_bytecode.specs.declared.Instr.TheVariants.{Jump, JumpIfFalse, Fold, Return}
@@ -65,13 +66,9 @@ plain_folded : (i : Instr) (fs : List Bool) → plain i ≡ true → folded_afte
 plain_folded (Fold a) fs h = no h
 plain_folded i fs h = refl
 
-and_false : (b : Bool) → (b && false) ≡ false
-and_false true = refl
-and_false false = refl
-
 -- a place has one behind it
 pub not_last : (b : Bool) (p n : ℕ) → suc p < n → (b && nat_eq (suc p) n) ≡ false
-not_last b p n h = let e : nat_eq (suc p) n ≡ false = grind arith in ap (λ x. b && x) e ∙ and_false b
+not_last b p n h = let e : nat_eq (suc p) n ≡ false = grind arith in ap (λ x. b && x) e ∙ and-false b
 
 -- operands on a stack, the last first
 abbrev pub stacked : List Known → State → State

@@ -4,6 +4,7 @@ use Rattle.std.proofs.lemmas.List.Folds.{list_all-append}
 use Rattle.std.specs.Option.{IfSome}
 use Rattle.std.specs.Prelude.{ℤ, pos, negsuc, neg_ℤ, int_le, nat_le, codes}
 use Rattle.std.specs.List.{AllByRecursion, list_all}
+use Rattle.std.proofs.lemmas.Bool.{and_from}
 use Rattle.wsm_record.specs.declared.words.Kind.{Kind}
 use Rattle.wsm_record.specs.declared.words.Mode.TheVariants.{Discarding, Accumulating}
 use Rattle.wsm_record.specs.declared.words.Form.TheVariants.{Panes, Istream, Dstream, Rstream}
@@ -19,14 +20,13 @@ use Rattle.wsm_query.specs.Parse.{query_text, outcome, parse}
 use Rattle.wsm_check.specs.Sizes.{in_option}
 use Rattle.wsm_check.specs.Spelt.{numbers_fit, is_spelt_type, is_spelt_field, IsSpelt}
 use Rattle.wsm_compiler.specs.Lawful.{ParsedIsSpelt}
-use Rattle.wsm_compiler.proofs.Hulls.{both_true}
 use Rattle.wsm_compiler.proofs.Suiting.{err≢ok}
 use Rattle.wsm_compiler.proofs.Rules.{Proper, Sound, Gives, Anything, behind_proper, gives, goes_on, asks, eithers, sees, afters, untils, clauses, optionals, braces, lists, words, IsName, IsNumber, names_are, numbers_are}
 
 -- ---- numbers
 
 number_fits : (n : ℤ) → IsNumber n → in_i64 n ≡ true
-number_fits (pos n) h = both_true (int_le (negsuc 9223372036854775807) (pos n)) (int_le (pos n) (pos 9223372036854775807)) (above n) (below n h)
+number_fits (pos n) h = and_from (int_le (negsuc 9223372036854775807) (pos n)) (int_le (pos n) (pos 9223372036854775807)) (above n) (below n h)
   where
     above : (n : ℕ) → int_le (negsuc 9223372036854775807) (pos n) ≡ true
     above n = grind arith
@@ -37,7 +37,7 @@ number_fits (negsuc n) h = absurd h
 
 minus_fits : (n : ℤ) → IsNumber n → in_i64 (neg_ℤ n) ≡ true
 minus_fits (pos zero) h = refl
-minus_fits (pos (suc n)) h = both_true (int_le (negsuc 9223372036854775807) (negsuc n)) (int_le (negsuc n) (pos 9223372036854775807)) (above n h) (below n)
+minus_fits (pos (suc n)) h = and_from (int_le (negsuc 9223372036854775807) (negsuc n)) (int_le (negsuc n) (pos 9223372036854775807)) (above n h) (below n)
   where
     above : (n : ℕ) → nat_le (suc n) 9223372036854775807 ≡ true → int_le (negsuc 9223372036854775807) (negsuc n) ≡ true
     above n h = grind arith
@@ -76,7 +76,7 @@ unfolding choice
 choices d h =
     goes_on (opens d h)
     (λ d f. goes_on f.expr (λ c hc. goes_on (asks (codes "THEN")) (λ _ _. goes_on f.expr (λ x hx. goes_on (asks (codes "ELSE")) (λ _ _. goes_on f.expr (λ y hy. goes_on (asks (codes "END"))
-    (λ _ _. gives Fine (If c x y) (both_true (numbers_fit c) (numbers_fit x && numbers_fit y) hc (both_true (numbers_fit x) (numbers_fit y) hx hy)))))))))
+    (λ _ _. gives Fine (If c x y) (and_from (numbers_fit c) (numbers_fit x && numbers_fit y) hc (and_from (numbers_fit x) (numbers_fit y) hx hy)))))))))
 
 in_brackets : (d : Option Deeper) → IfSome d AreFine → Gives Fine (brackets d)
 unfolding brackets
@@ -160,7 +160,7 @@ unfolding chained
 chained_are table rule t r = goes_on r (λ x h. chains chain_limit table rule x t r h)
 
 two : (x y : Expr) → Fine x → Fine y → (numbers_fit x && numbers_fit y) ≡ true
-two x y h l = both_true (numbers_fit x) (numbers_fit y) h l
+two x y h l = and_from (numbers_fit x) (numbers_fit y) h l
 
 prods : (d : Option Deeper) → IfSome d AreFine → Gives Fine (prod d)
 unfolding prod
@@ -225,7 +225,7 @@ name_lists = lists names_are
 
 pass_all : {A : Type 0} (test : A → Bool) (xs : List A) → AllByRecursion (λ x. test x ≡ true) xs → list_all test xs ≡ true
 pass_all test [] h = refl
-pass_all test (x ∷ xs) h = both_true (test x) (list_all test xs) h.0 (pass_all test xs h.1)
+pass_all test (x ∷ xs) h = and_from (test x) (list_all test xs) h.0 (pass_all test xs h.1)
 
 abbrev IsSpeltType : Ty → Type 0
 IsSpeltType t = is_spelt_type t ≡ true
@@ -233,7 +233,7 @@ IsSpeltType t = is_spelt_type t ≡ true
 types_are : Gives IsSpeltType type_of
 unfolding type_of
 types_are =
-    eithers (codes "INT") (goes_on ints_are (λ lo h. goes_on (afters (codes "..") ints_are) (λ hi l. gives IsSpeltType (IntTy lo hi) (both_true (in_i64 lo) (in_i64 hi) h l))))
+    eithers (codes "INT") (goes_on ints_are (λ lo h. goes_on (afters (codes "..") ints_are) (λ hi l. gives IsSpeltType (IntTy lo hi) (and_from (in_i64 lo) (in_i64 hi) h l))))
     (eithers (codes "BOOL") (gives IsSpeltType BoolTy refl)
     (afters (codes "ENUM") (afters (codes "(") (untils (codes ")") (goes_on name_lists (λ xs h. gives IsSpeltType (EnumTy xs) (pass_all is_name xs h)))))))
 
@@ -243,7 +243,7 @@ IsSpeltField d = is_spelt_field d ≡ true
 fields_are : Gives IsSpeltField field
 unfolding field
 fields_are =
-    goes_on names_are (λ x h. goes_on types_are (λ t l. goes_on (asks (codes ";")) (λ _ _. gives IsSpeltField (record { name = x; ty = t }) (both_true (is_name x) (is_spelt_type t) h l))))
+    goes_on names_are (λ x h. goes_on types_are (λ t l. goes_on (asks (codes ";")) (λ _ _. gives IsSpeltField (record { name = x; ty = t }) (and_from (is_name x) (is_spelt_type t) h l))))
 
 budgets : Gives Anything budget
 unfolding budget
@@ -279,7 +279,7 @@ everies = afters (codes "EVERY") any_number
 
 option_fine : (o : Option Expr) → IfSome o Fine → list_all numbers_fit (in_option o) ≡ true
 option_fine None h = refl
-option_fine (Some e) h = both_true (numbers_fit e) true h refl
+option_fine (Some e) h = and_from (numbers_fit e) true h refl
 
 queries : Gives IsSpelt query
 unfolding query
@@ -304,8 +304,8 @@ queries =
       fields = pass_all is_spelt_field fields hf;
       numbers =
           list_all-append numbers_fit (in_option condition) (columns ++ in_option having)
-          ∙ both_true (list_all numbers_fit (in_option condition)) (list_all numbers_fit (columns ++ in_option having)) (option_fine condition hw)
-          (list_all-append numbers_fit columns (in_option having) ∙ both_true (list_all numbers_fit columns) (list_all numbers_fit (in_option having)) (pass_all numbers_fit columns hc) (option_fine having hh));
+          ∙ and_from (list_all numbers_fit (in_option condition)) (list_all numbers_fit (columns ++ in_option having)) (option_fine condition hw)
+          (list_all-append numbers_fit columns (in_option having) ∙ and_from (list_all numbers_fit columns) (list_all numbers_fit (in_option having)) (pass_all numbers_fit columns hc) (option_fine having hh));
     }))))))))))))))))
 
 -- ---- texts

@@ -2,6 +2,7 @@
 use Rattle.std.proofs.Common.{◌≡◌, inl, inr, ℕ, Bool, true, false, ◌&&◌, cond, List, [], ◌∷◌, length, map, Option, Some, None, Result, Ok, Err, refl, sym, ap, subst, ◌∙◌}
 use Rattle.std.specs.Prelude.{nat_lt, is_ok}
 use Rattle.std.specs.List.{AllByRecursion}
+use Rattle.std.proofs.lemmas.Bool.{and_from, and_parts}
 use Rattle.wsm_record.specs.declared.event.Value.{Value}
 use Rattle.wsm_record.specs.declared.event.Value.TheVariants.{Int, Bool as Truth', Enum}
 use Rattle.wsm_record.specs.Schema.{FieldType, Int as Between, Truth, Enum as Names, DeclaredField, fits_type, fit_fields}
@@ -31,7 +32,7 @@ use Rattle.wsm_compiler.specs.Program.{schema_of, program_of}
 use Rattle.wsm_compiler.specs.Runs.{cell}
 use Rattle.wsm_compiler.specs.Sections.{in_bounds, condition_value, folded_values, on_stack, Traps, Leaves, Folds, record_fits}
 use Rattle.wsm_compiler.specs.SameMeaning.{IsAccepted, record_in_range, HasValue, TotalOnRecords}
-use Rattle.wsm_compiler.proofs.Hulls.{no, and_is, both_true}
+use Rattle.wsm_compiler.proofs.Hulls.{no}
 use Rattle.wsm_compiler.proofs.Parts.{none≢some}
 use Rattle.wsm_compiler.proofs.Lawful.{is_lawful}
 use Rattle.wsm_compiler.proofs.SectionRuns.{where_runs}
@@ -106,14 +107,14 @@ of_fields [] [] h = refl
 of_fields [] (v ∷ vs) h = no h
 of_fields (f ∷ fs) [] h = no h
 of_fields (f ∷ fs) (v ∷ vs) h =
-    let p = and_is (fits_type f.type v) (fit_fields fs vs) h in both_true (is_of_field f.type v) (are_of_fields fs vs) (of_type f.type v p.0) (of_fields fs vs p.1)
+    let p = and_parts (fits_type f.type v) (fit_fields fs vs) h in and_from (is_of_field f.type v) (are_of_fields fs vs) (of_type f.type v p.0) (of_fields fs vs p.1)
 
 module _ (q : Query) (a : IsAccepted q) (key : ℕ) (values : List Value) (h : record_in_range q key values ≡ true) where
   abbrev d : Inputs
   d = record_inputs key values
 
   fit : record_fits q d ≡ true
-  fit = of_fields (schema_of q).fields values (and_is (nat_lt key (length q.keys)) (fit_fields (schema_of q).fields values) h).1
+  fit = of_fields (schema_of q).fields values (and_parts (nat_lt key (length q.keys)) (fit_fields (schema_of q).fields values) h).1
 
   -- ---- WHERE
 

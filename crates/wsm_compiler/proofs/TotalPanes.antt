@@ -5,8 +5,8 @@ use Rattle.std.proofs.lemmas.List.{reverse-append, map-append}
 use Rattle.std.specs.Option.{option_and_then}
 use Rattle.std.specs.Prelude.{pos, nat_lt}
 use Rattle.std.specs.List.{AllByRecursion, list_all}
+use Rattle.std.proofs.lemmas.Bool.{and_from, ltb-true, and_parts}
 use Rattle.wsm_record.specs.declared.event.Value.{Value}
-use Rattle.wsm_record.specs.declared.event.Value.TheVariants.{Int, Bool as Truth', Enum}
 use Rattle.wsm_record.specs.declared.words.Kind.{Kind}
 use Rattle.wsm_record.specs.Schema.{fit_fields}
 use Rattle.wsm_interval.specs.Interval.{interval, holds, in_i64}
@@ -39,18 +39,14 @@ use Rattle.wsm_compiler.specs.Sections.{in_bounds, condition_value, on_stack, fi
 use Rattle.wsm_compiler.specs.Folded.{AreUpdates}
 use Rattle.wsm_compiler.specs.SameMeaning.{IsAccepted, record_in_range, IsPane, HasValue, UpdatesHold, TotalOnPanes, AreOfKey, StandsForMeant}
 use Rattle.wsm_compiler.proofs.Visits.{nil_right}
-use Rattle.wsm_compiler.proofs.Hulls.{no, and_is, both_true}
+use Rattle.wsm_compiler.proofs.Hulls.{no}
 use Rattle.wsm_compiler.proofs.Parts.{none≢some}
 use Rattle.wsm_compiler.proofs.Aggregated.{free, fire_means}
 use Rattle.wsm_compiler.proofs.Holding.{folds_hold}
 use Rattle.wsm_compiler.proofs.Total.{costs_of, ends, left, has_value, in_bounds_is, condition_has, says, selects_same, updated_is, updated_in}
+use Rattle.wsm_compiler.proofs.UpdateRuns.{value_is}
 
 -- ---- the stack that FIRE leaves
-
-value_is : (t : ExprTy) (v : Value) → value_of (cell t v) ≡ v
-value_is t (Int n) = refl
-value_is t (Truth' b) = refl
-value_is t (Enum i) = refl
 
 abbrev values_up : List Cell → List Value
 values_up stack = map value_of (reverse stack)
@@ -122,9 +118,6 @@ module _ (q : Query) (key : ℕ) (records : List (List Value)) where
   fired_total [] o h l = l
   fired_total (e ∷ es) o h l = (h.0, fired_total es o h.1 l)
 
-is_below : (m n : ℕ) → nat_lt m n ≡ true → m < n
-is_below m n h = grind arith
-
 -- ---- what is folded
 
 kinds_of : (p : Program) (a : ℕ) (ks : List Kind) (vs : List Value) → accs_in p a ks vs ≡ true → are_of_kinds ks vs ≡ true
@@ -133,9 +126,9 @@ kinds_of p a [] (v ∷ vs) h = no h
 kinds_of p a (k ∷ ks) [] h = no h
 kinds_of p a (k ∷ ks) (v ∷ vs) h =
     let r = range p a in
-    let b = and_is (is_acc_in r k v) (accs_in p (suc a) ks vs) h in
-    let c = and_is (is_value_in r k v) (is_word v) b.0 in
-    both_true (is_of_kind k v) (are_of_kinds ks vs) (and_is (is_of_kind k v) (is_number_in r v) c.0).0 (kinds_of p (suc a) ks vs b.1)
+    let b = and_parts (is_acc_in r k v) (accs_in p (suc a) ks vs) h in
+    let c = and_parts (is_value_in r k v) (is_word v) b.0 in
+    and_from (is_of_kind k v) (are_of_kinds ks vs) (and_parts (is_of_kind k v) (is_number_in r v) c.0).0 (kinds_of p (suc a) ks vs b.1)
 
 module _ (q : Query) (a : IsAccepted q) (key : ℕ) where
   abbrev p : Program
@@ -147,17 +140,17 @@ module _ (q : Query) (a : IsAccepted q) (key : ℕ) where
 
   updates : (records : List (List Value)) → list_all (record_in_range q key) records ≡ true → AreUpdates q key (accumulators q) records (rows records)
   updates [] h = tt
-  updates (vs ∷ records) h = let b = and_is (record_in_range q key vs) (list_all (record_in_range q key) records) h in (updated_is q a key vs b.0, updates records b.1)
+  updates (vs ∷ records) h = let b = and_parts (record_in_range q key vs) (list_all (record_in_range q key) records) h in (updated_is q a key vs b.0, updates records b.1)
 
   rows_in : (records : List (List Value)) → list_all (record_in_range q key) records ≡ true → list_all (are_folded_in p) (rows records) ≡ true
   rows_in [] h = refl
   rows_in (vs ∷ records) h =
-      let b = and_is (record_in_range q key vs) (list_all (record_in_range q key) records) h in
-      both_true (are_folded_in p (updated p key vs)) (list_all (are_folded_in p) (rows records)) (updated_in q a key vs b.0) (rows_in records b.1)
+      let b = and_parts (record_in_range q key vs) (list_all (record_in_range q key) records) h in
+      and_from (are_folded_in p (updated p key vs)) (list_all (are_folded_in p) (rows records)) (updated_in q a key vs b.0) (rows_in records b.1)
 
   rows_words : (records : List (List Value)) → list_all (list_all is_word) (rows records) ≡ true
   rows_words [] = refl
-  rows_words (vs ∷ records) = both_true (list_all is_word (updated p key vs)) (list_all (list_all is_word) (rows records)) (updated_words p key vs) (rows_words records)
+  rows_words (vs ∷ records) = and_from (list_all is_word (updated p key vs)) (list_all (list_all is_word) (rows records)) (updated_words p key vs) (rows_words records)
 
   length-rows : (records : List (List Value)) → length (rows records) ≡ length records
   length-rows [] = refl
@@ -187,16 +180,16 @@ module _ (q : Query) (a : IsAccepted q) (key : ℕ) where
         of_first : (records : List (List Value)) → 1 ≤ length records → list_all (record_in_range q key) records ≡ true → key < length q.keys
         of_first [] l e = absurd (omega (arith, l))
         of_first (vs ∷ records) l e =
-            let b = and_is (record_in_range q key vs) (list_all (record_in_range q key) records) e in
-            is_below key (length q.keys) (and_is (nat_lt key (length q.keys)) (fit_fields (schema_of q).fields vs) b.0).0
+            let b = and_parts (record_in_range q key vs) (list_all (record_in_range q key) records) e in
+            ltb-true key (length q.keys) (and_parts (nat_lt key (length q.keys)) (fit_fields (schema_of q).fields vs) b.0).0
 
     ranged : in_range p Fire d ≡ true
     ranged = let c = costs_of (judge p) a.accepted in may_fire p c.0 c.1 key (length records) held key_declared folds h.few
 
     fit : pane_fits q d ≡ true
     fit =
-        let b = and_is (nat_lt key (length q.keys)) (holds (interval (pos 1) q.records) (pos (length records)) && accs_in p 0 p.header.kinds held) ranged in
-        kinds_of p 0 p.header.kinds held (and_is (holds (interval (pos 1) q.records) (pos (length records))) (accs_in p 0 p.header.kinds held) b.1).1
+        let b = and_parts (nat_lt key (length q.keys)) (holds (interval (pos 1) q.records) (pos (length records)) && accs_in p 0 p.header.kinds held) ranged in
+        kinds_of p 0 p.header.kinds held (and_parts (holds (interval (pos 1) q.records) (pos (length records))) (accs_in p 0 p.header.kinds held) b.1).1
 
     abbrev ran : Ran
     ran = fire_run p key (length records) held

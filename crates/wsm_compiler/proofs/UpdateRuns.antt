@@ -1,7 +1,8 @@
 -- A run of UPDATE folds the meaning of each aggregate's operand, or traps where one has none.
 use Rattle.std.proofs.Common.{◌≡◌, inl, inr, ℕ, suc, ◌+◌, ◌≤◌, true, false, not, cond, List, [], ◌∷◌, ◌++◌, length, map, replicate, Option, Some, None, refl, sym, ap, subst, ◌∙◌, arith, append_assoc, length-append}
-use Rattle.std.specs.Prelude.{max, nat_lt, is_some, unwrap_or, option_map, slice_get, slice_set}
+use Rattle.std.specs.Prelude.{max, is_some, unwrap_or, option_map, slice_get, slice_set}
 use Rattle.std.specs.List.{list_all}
+use Rattle.std.proofs.lemmas.List.{length-map}
 use Rattle.wsm_record.specs.declared.event.Value.{Value}
 use Rattle.wsm_record.specs.declared.event.Value.TheVariants.{Int, Bool as Truth', Enum}
 use Rattle.wsm_record.specs.declared.words.Kind.{Kind}
@@ -34,6 +35,7 @@ use Rattle.wsm_compiler.proofs.Machine.{run_goes, gives_on}
 use Rattle.wsm_compiler.proofs.Running.{split_code}
 use Rattle.wsm_compiler.proofs.Serving.{serves_update}
 use Rattle.wsm_compiler.proofs.SectionRuns.{stands_all, return_ends, code_means, means_has}
+use Rattle.wsm_compiler.proofs.Choosing.{has_one}
 
 -- ---- accumulators, of which the first are folded
 
@@ -44,10 +46,6 @@ unfolded_at (v ∷ done) rest = unfolded_at done rest
 set_at : (done rest : List (Option Value)) (v : Value) → slice_set (done ++ None ∷ rest) (length done) (Some v) ≡ (done ++ Some v ∷ []) ++ rest
 set_at [] rest v = refl
 set_at (w ∷ done) rest v = ap (λ vs. w ∷ vs) (set_at done rest v)
-
-length-map : (vs : List Value) → length (map (λ (v : Value). Some v) vs) ≡ length vs
-length-map [] = refl
-length-map (v ∷ vs) = ap suc (length-map vs)
 
 map-append : (vs ws : List Value) → map (λ (v : Value). Some v) (vs ++ ws) ≡ map (λ (v : Value). Some v) vs ++ map (λ (v : Value). Some v) ws
 map-append [] ws = refl
@@ -78,13 +76,10 @@ folds_type All (Int n) h = no h
 folds_type All (Truth' b) h = refl
 folds_type All (Enum i) h = no h
 
-value_is : (t : ExprTy) (v : Value) → value_of (cell t v) ≡ v
+pub value_is : (t : ExprTy) (v : Value) → value_of (cell t v) ≡ v
 value_is t (Int n) = refl
 value_is t (Truth' b) = refl
 value_is t (Enum i) = refl
-
-one_there : (n : ℕ) → nat_lt (suc n) 1 ≡ false
-one_there n = grind arith
 
 -- a run that goes on as one that folds
 folds_on : (r p : Ran) (o : Option (List Value)) → r.outcome ≡ p.outcome → r.stack ≡ p.stack → r.folds ≡ p.folds → Folds p o → Folds r o
@@ -131,13 +126,13 @@ module _ (q : Query) (b : Stated) (d : Inputs) (fit : record_fits q d ≡ true) 
       let rest : List (Option Value) = replicate n None in
       let x = cell (operand_ty kind) v in
       let m = state k (x ∷ []) (done ++ None ∷ rest) in
-      let place : a ≡ length done = sym (length-map vs ∙ l) in
+      let place : a ≡ length done = sym (length-map vs (λ (v : Value). Some v) ∙ l) in
       let set = slice_set (done ++ None ∷ rest) (length done) (Some (value_of x)) in
       let taken : is_type (unwrap_or (option_map kind_type (slice_get c.kinds (length done))) types.Int) (type_of x) ≡ true =
       ap (λ o. is_type (unwrap_or (option_map kind_type o) types.Int) (type_of x)) (subst (λ p. slice_get c.kinds p ≡ Some kind) place is) ∙ folds_type kind v has in
       let next : set ≡ (done ++ Some v ∷ []) ++ rest = ap (λ w. slice_set (done ++ None ∷ rest) (length done) (Some w)) (value_is (operand_ty kind) v) ∙ set_at done rest v in
       let goes : step c m (instr.Fold (length done)) ≡ Goes (state (k + 1) [] set) =
-      (λ i. unless (cond (one_there 0 i) (Some Underflow) (cond (not (taken i)) (Some WrongType) (cond (unfolded_at done rest i) (Some FoldTwice) None))) (Goes (state (k + 1) [] set))) in
+      (λ i. unless (cond (has_one 0 i) (Some Underflow) (cond (not (taken i)) (Some WrongType) (cond (unfolded_at done rest i) (Some FoldTwice) None))) (Goes (state (k + 1) [] set))) in
       subst (λ fs. Gives c m (Some (state (k + 1) [] fs))) (next ∙ ap (λ fs. fs ++ rest) (sym (map-append vs (v ∷ []))))
       (run_goes c m (state (k + 1) [] set) (instr.Fold (length done)) (subst (λ p. slice_get c.code k ≡ Some (instr.Fold p)) place at) goes)
 
@@ -190,11 +185,7 @@ update_runs q checked d fit =
     let c = setting (program_of q) Update d in
     let l = length-folds q b 0 0 (accumulators q) in
     let none : List (Option Value) = replicate (length (accumulators q)) None in
-    let same : replicate (length c.kinds) None ≡ none = ap (λ n. replicate n None) (length-kinds (accumulators q)) in
+    let same : replicate (length c.kinds) None ≡ none = ap (λ n. replicate n None) (length-map (accumulators q) (λ (acc : Acc). acc.kind)) in
     subst (λ fs. Folds (run_at c (state 0 [] fs)) (folded_values q (on_record d.key d.values) (accumulators q))) (sym same)
     (subst (λ o. Folds (run_at c (state 0 [] none)) o) (with_none (folded_values q (on_record d.key d.values) (accumulators q)))
     (folds_run q b d fit 0 [] (accumulators q) [] refl refl f.accs (stands_all (update_section q)) (omega (arith, l)) f.update_need))
-  where
-    length-kinds : (accs : List Acc) → length (map (λ acc. acc.kind) accs) ≡ length accs
-    length-kinds [] = refl
-    length-kinds (x ∷ accs) = ap suc (length-kinds accs)

@@ -21,7 +21,7 @@ use Rattle.wsm_compiler.specs.Runs.{of_ty, Serves, ServesAccs}
 use Rattle.wsm_compiler.proofs.Hulls.{no}
 use Rattle.wsm_compiler.proofs.Suiting.{ok_is, op_typed, result_of}
 use Rattle.wsm_compiler.proofs.Finding.{cond_ok, entered_is, op_is, two_types, if_types, logic_types, unary_is, get_left, get_right}
-use Rattle.wsm_compiler.proofs.Sizes.{length-accumulators_of}
+use Rattle.wsm_check.proofs.Passing.{counted}
 
 -- ---- accumulators of parts
 
@@ -30,7 +30,7 @@ serves_left c around s a xs ys h e j acc get = h e j acc (get_left xs ys j acc g
 
 pub serves_right : (c : Setting) (around : Around) (s : Scene) (a : ℕ) (x : Expr) (ys : List Acc) → ServesAccs c around s a (accumulators_of x ++ ys) → ServesAccs c around s (a + aggregates x) ys
 serves_right c around s a x ys h e j acc get =
-    let l = length-accumulators_of x in
+    let l = counted x in
     let there : a + (aggregates x + j) ≡ a + aggregates x + j = omega arith in
     let g = h e (aggregates x + j) acc (ap (λ n. slice_get (accumulators_of x ++ ys) (n + j)) (sym l) ∙ get_right (accumulators_of x) ys j ∙ get) in (
       g.0,
@@ -69,19 +69,6 @@ numbers_have Lt x y = refl
 numbers_have Le x y = refl
 numbers_have Gt x y = refl
 numbers_have Ge x y = refl
-
-same_have : (op : Op) (b : Bool) → of_ty BoolValue (on_same op b) ≡ true
-same_have Eq b = refl
-same_have Ne b = refl
-same_have Add b = refl
-same_have Sub b = refl
-same_have Mul b = refl
-same_have Div b = refl
-same_have Rem b = refl
-same_have Lt b = refl
-same_have Le b = refl
-same_have Gt b = refl
-same_have Ge b = refl
 
 -- an operator on values that are no numbers
 not_numbers : (op : Op) (t u : ExprTy) (b : Bool) → ty_eq t IntValue ≡ false → op_typed op t u ≡ true → of_ty (result_of op) (on_same op b) ≡ true

@@ -83,7 +83,7 @@ label_gathered e q (v ∷ vs) h = refl
 abbrev pub faults : Setting → List Visit → Bool
 faults c vs = is_some (first_fault c vs)
 
-some_or : (a b : Option Rejection) → is_some (or_then a b) ≡ (is_some a || is_some b)
+pub some_or : (a b : Option Rejection) → is_some (or_then a b) ≡ (is_some a || is_some b)
 some_or None b = refl
 some_or (Some r) b = refl
 
@@ -94,9 +94,6 @@ swapped false true false = refl
 swapped false false true = refl
 swapped false false false = refl
 
-or_self : (b : Bool) → b ≡ (false || b)
-or_self b = refl
-
 pub faults_append : (c : Setting) (vs ws : List Visit) → faults c (vs ++ ws) ≡ (faults c vs || faults c ws)
 faults_append c [] ws = refl
 faults_append c (v ∷ vs) ws =
@@ -104,10 +101,6 @@ faults_append c (v ∷ vs) ws =
     ∙ ap (λ b. b || is_some (fault_at c v)) (faults_append c vs ws)
     ∙ swapped (faults c vs) (faults c ws) (is_some (fault_at c v))
     ∙ ap (λ b. b || faults c ws) (sym (some_or (first_fault c vs) (fault_at c v)))
-
-pub or_false : (b : Bool) → (b || false) ≡ b
-or_false true = refl
-or_false false = refl
 
 pub or_true : (b : Bool) → (b || true) ≡ true
 or_true true = refl

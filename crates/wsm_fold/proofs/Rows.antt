@@ -1,8 +1,8 @@
 -- Rows of values that are joined place by place.
-use Rattle.std.proofs.Common.{◌≡◌, ℕ, zero, suc, ◌-◌, ◌<◌, Bool, true, false, ◌&&◌, List, [], ◌∷◌, ◌++◌, length, get_or, set, take, drop, replicate, ◌≤◌, length-append, length-drop, length-take, refl, sym, ap, ◌∙◌, arith}
+use Rattle.std.proofs.Common.{◌≡◌, ℕ, zero, suc, ◌-◌, ◌<◌, true, List, [], ◌∷◌, ◌++◌, length, get_or, set, take, drop, replicate, ◌≤◌, length-append, length-drop, length-take, refl, sym, ap, ◌∙◌, arith}
 use Rattle.std.proofs.Math.Seq.{take-nil, drop-append_seam}
 use Rattle.std.proofs.lemmas.List.{length-replicate, drop-replicate}
-use Rattle.std.proofs.lemmas.Bool.{true≢false}
+use Rattle.std.proofs.lemmas.Bool.{true≢false, and_parts}
 use Rattle.wsm_record.specs.declared.event.Value.{Value}
 use Rattle.wsm_record.specs.declared.event.Value.TheVariants.{Int, Bool as Truth}
 use Rattle.wsm_record.specs.declared.words.Kind.{Kind}
@@ -43,16 +43,12 @@ joins_assoc (k ∷ ks) (x ∷ xs) (y ∷ ys) (z ∷ zs) = rw (join_assoc k x y z
 
 -- ---- types
 
-both_hold : (a b : Bool) → (a && b) ≡ true → (a ≡ true) × (b ≡ true)
-both_hold true b e = (refl, e)
-both_hold false b e = absurd (true≢false (sym e))
-
 -- there is a value for each kind
 pub length-are_of_kinds : (ks : List Kind) (vs : List Value) → are_of_kinds ks vs ≡ true → length vs ≡ length ks
 length-are_of_kinds [] [] e = refl
 length-are_of_kinds [] (v ∷ vs) e = absurd (true≢false (sym e))
 length-are_of_kinds (k ∷ ks) [] e = absurd (true≢false (sym e))
-length-are_of_kinds (k ∷ ks) (v ∷ vs) e = omega (arith, length-are_of_kinds ks vs ((both_hold (is_of_kind k v) _ e).1))
+length-are_of_kinds (k ∷ ks) (v ∷ vs) e = omega (arith, length-are_of_kinds ks vs ((and_parts (is_of_kind k v) _ e).1))
 
 is_of_kind-join : (k : Kind) (a b : Value) → is_of_kind k (join k a b) ≡ true
 is_of_kind-join Sum a b = refl
@@ -78,13 +74,6 @@ joined_up_to n ks xs ys = xs
 pub record HasPlaces (ks : List Kind) (xs ys : List Value) : Type 0 where
   pub kinds : length ys ≤ length ks
   pub places : length ys ≤ length xs
-
-pub length-joined_up_to : (n : ℕ) (ks : List Kind) (xs ys : List Value) → length (joined_up_to n ks xs ys) ≡ length xs
-length-joined_up_to zero ks xs ys = refl
-length-joined_up_to (suc n) [] xs ys = refl
-length-joined_up_to (suc n) (k ∷ ks) [] ys = refl
-length-joined_up_to (suc n) (k ∷ ks) (x ∷ xs) [] = refl
-length-joined_up_to (suc n) (k ∷ ks) (x ∷ xs) (y ∷ ys) = omega (arith, length-joined_up_to n ks xs ys)
 
 has_places_left : (k : Kind) (ks : List Kind) (x : Value) (xs : List Value) (y : Value) (ys : List Value) → HasPlaces (k ∷ ks) (x ∷ xs) (y ∷ ys) → HasPlaces ks xs ys
 has_places_left k ks x xs y ys a = record { kinds = omega (arith, a.kinds); places = omega (arith, a.places) }

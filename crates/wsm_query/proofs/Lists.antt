@@ -1,19 +1,12 @@
 -- The rest of a brace, by what stands next.
-use Rattle.std.proofs.Common.{◌≡◌, ℕ, zero, suc, ◌-◌, ◌<◌, ◌≤◌, true, false, List, [], ◌∷◌, ◌++◌, refl, sym, ◌∙◌, arith, append_assoc, append-nil, ap, le_refl}
-use Rattle.std.specs.Prelude.{codes}
-use Rattle.wsm_tokens.specs.declared.fault.Stop.{Stop}
+use Rattle.std.proofs.Common.{◌≡◌, ℕ, zero, suc, ◌-◌, ◌<◌, ◌≤◌, true, List, [], ◌∷◌, ◌++◌, refl, sym, ◌∙◌, arith, append_assoc, ap}
 use Rattle.wsm_tokens.specs.Tokens.{Tokens}
-use Rattle.wsm_tokens.specs.Read.{Read, Rule, Took, Stopped, ◌>>=◌, and_then, give, begins, behind, count, Stops}
-use Rattle.wsm_query.specs.Grammar.{turns, either, brace, list_of}
-use Rattle.wsm_query.proofs.Chains.{stops_behind}
+use Rattle.wsm_tokens.specs.Read.{Read, Rule, Took, Stopped, ◌>>=◌, and_then, give, begins, behind, count}
+use Rattle.wsm_query.specs.Grammar.{turns, either}
 
 -- what a brace reads, behind what was read before
 abbrev pub with_front : {A : Type 0} → List A → Read (List A) → Read (List A)
 with_front front read = and_then read (λ xs. give (front ++ xs))
-
-turns_end : {A : Type 0} (n : ℕ) (s : List ℕ) (rule : Rule A) (ts : Tokens) → begins s ts ≡ false → turns n s rule ts ≡ Took [] ts
-turns_end zero s rule ts e = refl
-turns_end (suc n) s rule ts e = rw (e, turns, either) refl
 
 turns_more : {A : Type 0} (n m : ℕ) (s : List ℕ) (rule : Rule A) (ts : Tokens) → n ≡ suc m → begins s ts ≡ true → turns n s rule ts ≡ and_then (rule (behind ts)) (λ x. turns m s rule >>= λ xs. give (x ∷ xs))
 turns_more zero m s rule ts i e = absurd (omega arith)
@@ -25,9 +18,6 @@ pub record TurnsGoOn {A : Type 0} (s : List ℕ) (rule : Rule A) (front : List A
   pub enough : count ts ≤ n
   pub same : with_front front (turns n s rule ts) ≡ whole
 
-pub turns_ended : {A : Type 0} {s : List ℕ} {rule : Rule A} {front : List A} {ts : Tokens} {whole : Read (List A)} → TurnsGoOn s rule front ts whole → begins s ts ≡ false → whole ≡ Took front ts
-turns_ended {s = s} {rule = rule} {front = front} {ts = ts} g e = sym g.same ∙ rw (turns_end g.n s rule ts e, append-nil) refl
-
 joined : {A : Type 0} (front : List A) (x : A) (read : Read (List A)) → with_front front (and_then read (λ xs. give (x ∷ xs))) ≡ with_front (front ++ x ∷ []) read
 joined front x (Took xs ts) = rw append_assoc refl
 joined front x (Stopped f) = refl
@@ -37,12 +27,6 @@ module _ {A : Type 0} (s : List ℕ) (rule : Rule A) (front : List A) (ts : Toke
   more =
       let enough = g.enough in
       ap (with_front front) (sym (turns_more g.n (g.n - 1) s rule ts (omega arith) e)) ∙ g.same
-
-pub turn_stops : {A : Type 0} {s : List ℕ} {rule : Rule A} {front : List A} {ts : Tokens} {whole : Read (List A)} → TurnsGoOn s rule front ts whole → begins s ts ≡ true → 0 < count ts
-    → (us : Tokens) → us ≡ behind ts → (stop : Stop) → Stops stop (rule us) → Stops stop whole
-turn_stops {s = s} {rule = rule} {front = front} {ts = ts} {whole = whole} g e some us i stop h =
-    let k = rw i at h in
-    rw (← more s rule front ts whole g e some) (stops_behind stop _ (λ xs. give (front ++ xs)) (stops_behind stop (rule (behind ts)) (λ x. turns (g.n - 1) s rule >>= λ xs. give (x ∷ xs)) k))
 
 pub turns_go_on : {A : Type 0} {s : List ℕ} {rule : Rule A} {front : List A} {ts : Tokens} {whole : Read (List A)} → TurnsGoOn s rule front ts whole → begins s ts ≡ true → 0 < count ts
     → (us vs : Tokens) (x : A) (next : List A) → us ≡ behind ts → count us ≡ count ts - 1 → rule us ≡ Took x vs → count vs ≤ count us → next ≡ front ++ x ∷ [] → TurnsGoOn s rule next vs whole
@@ -54,16 +38,3 @@ turns_go_on {s = s} {rule = rule} {front = front} {ts = ts} {whole = whole} g e 
       enough = omega arith;
       same = rw same (sym (joined front x (turns (g.n - 1) s rule vs)) ∙ ap (λ r. with_front front (and_then r (λ x. turns (g.n - 1) s rule >>= λ xs. give (x ∷ xs)))) (sym read) ∙ more s rule front ts whole g e some);
     }
-
-with_none : {A : Type 0} (read : Read (List A)) → with_front [] read ≡ read
-with_none (Took xs ts) = refl
-with_none (Stopped f) = refl
-
-pub brace_begins : {A : Type 0} (s : List ℕ) (rule : Rule A) (ts : Tokens) → TurnsGoOn s rule [] ts (brace s rule ts)
-unfolding brace
-brace_begins s rule ts = record { n = count ts; enough = le_refl (count ts); same = with_none (turns (count ts) s rule ts) }
-
--- one turn stands before the brace of a list
-pub list_begins : {A : Type 0} (rule : Rule A) (ts us : Tokens) (x : A) (front : List A) → rule ts ≡ Took x us → front ≡ x ∷ [] → TurnsGoOn (codes ",") rule front us (list_of rule ts)
-unfolding list_of brace
-list_begins rule ts us x front r f = record { n = count us; enough = le_refl (count us); same = rw (f, r) refl }

@@ -1,5 +1,5 @@
 -- A query that a text was read as is read again from the text that it is printed as.
-use Rattle.std.proofs.Common.{◌≡◌, ℕ, List, refl, sym, ap, subst, ◌∙◌}
+use Rattle.std.proofs.Common.{◌≡◌, ℕ, List, sym, ap, subst, ◌∙◌}
 use Rattle.std.specs.Prelude.{Ok, codes}
 use Rattle.wsm_tokens.specs.Tokens.{Tokens, End, tokens}
 use Rattle.wsm_tokens.specs.Read.{Read, Took, Stopped}
@@ -36,14 +36,6 @@ printed q w =
     outcome_of text (query_text (tokens text)) q (End 0)
     (sym (text_blind.law (tokens text)) ∙ ap query_text (read_back (query_tokens q) w.proper) ∙ w.again)
 
-taken : (text : List ℕ) (q : Query) (read : Read Query) → query_text (tokens text) ≡ read → outcome text read ≡ Ok q → Whole q
-taken text q (Took given rest) e o = let same : given ≡ q = cc in text_again (tokens text) (tokens_are_proper text) q rest (e ∙ ap (λ q. Took q rest) same)
-taken text q (Stopped f) e o = cc
-
 -- a query that was read whole from the tokens of a text
 pub printed_again : (text : List ℕ) (ts : Tokens) (q : Query) (rest : Tokens) → ts ≡ tokens text → query_text ts ≡ Took q rest → parse (print q) ≡ Ok q
 printed_again text ts q rest same e = printed q (text_again ts (subst (λ us. Proper us) (sym same) (tokens_are_proper text)) q rest e)
-
-pub round_trip : (text : List ℕ) (q : Query) → parse text ≡ Ok q → parse (print q) ≡ Ok q
-unfolding parse
-round_trip text q e = printed q (taken text q (query_text (tokens text)) refl e)

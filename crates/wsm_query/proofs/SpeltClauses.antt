@@ -9,10 +9,10 @@ use Rattle.wsm_tokens.specs.declared.token.Sign.TheVariants as signs
 use Rattle.wsm_tokens.specs.Tokens.{Token, Word, Mark}
 use Rattle.wsm_tokens.specs.Read.{Rule, Took, count, behind}
 use Rattle.wsm_query.specs.Tree.{Budget}
-use Rattle.wsm_query.specs.Grammar.{one_of, after, clause, optional, turns, brace, list_of, names, expr, budget, shape, mode, form, every}
-use Rattle.wsm_query.specs.Print.{figures, with_commas, name_tokens, clause_tokens, budget_tokens, condition_tokens, shape_tokens, mode_word, every_tokens, form_word}
+use Rattle.wsm_query.specs.Grammar.{one_of, after, clause, optional, turns, brace, list_of, expr, budget, shape, mode, form, every}
+use Rattle.wsm_query.specs.Print.{figures, with_commas, clause_tokens, budget_tokens, condition_tokens, shape_tokens, mode_word, every_tokens, form_word}
 use Rattle.wsm_query.proofs.Spelt.{Says, word_says, sign_says, Spelt, spelt, last_goes, step, done, behind_opens, lost_goes, either_goes, Entry, Entries, listed_goes}
-use Rattle.wsm_query.proofs.SpeltRules.{word_spelt, sign_spelt, number_spelt, name_spelt, expr_spelt}
+use Rattle.wsm_query.proofs.SpeltRules.{word_spelt, sign_spelt, number_spelt, expr_spelt}
 
 pub after_spelt : {A : Type 0} {rule : Rule A} {toks : A → List Token} (s : List ℕ) → Says s (Word s) → Spelt rule toks → Spelt (after s rule) (λ x. Word s ∷ toks x)
 after_spelt s k r = spelt (λ b. step (word_spelt s k) (λ _. last_goes r (λ x. refl)))
@@ -41,10 +41,6 @@ pub list_of_spelt : {A : Type 0} {rule : Rule A} {toks : A → List Token} → S
 unfolding list_of
 list_of_spelt {toks = toks} r =
     spelt (λ b. step r (λ x. step (brace_spelt (codes ",") (Mark signs.Comma) (sign_says signs.Comma) r) (λ xs. done (x ∷ xs) (commas toks x xs))))
-
-pub names_spelt : Spelt names name_tokens
-unfolding names
-names_spelt = list_of_spelt name_spelt
 
 budget_body : Budget → List Token
 budget_body b = (Word (codes "RECORD") ∷ figures b.per_record ++ Word (codes "PANE") ∷ figures b.per_pane ++ Word (codes "HELD") ∷ figures b.held) ++ Mark signs.Semicolon ∷ []

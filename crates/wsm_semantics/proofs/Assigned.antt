@@ -1,8 +1,8 @@
 -- Windows that are assigned to a record by its time alone, fixed or sliding: where records stand,
 -- and what a record does to the panes that are held.
-use Rattle.std.proofs.Common.{◌≡◌, ℕ, zero, suc, Bool, true, false, ◌&&◌, ◌||◌, List, [], ◌∷◌, map, ℤ, refl, sym, ap, subst, ◌∙◌, arith}
+use Rattle.std.proofs.Common.{◌≡◌, ℕ, zero, suc, Bool, true, false, ◌||◌, List, [], ◌∷◌, map, ℤ, refl, sym, ap, subst, ◌∙◌, arith}
 use Rattle.std.proofs.lemmas.Int.{ints}
-use Rattle.std.proofs.lemmas.Bool.{true≢false}
+use Rattle.std.proofs.lemmas.Bool.{true≢false, eqb-true, and_parts}
 use Rattle.std.specs.Prelude.{Contains, flat_map}
 use Rattle.std.specs.List.{list_any}
 use Rattle.std.specs.Ordering.{eq_by_cmp, is_eq}
@@ -15,8 +15,10 @@ use Rattle.wsm_windows.proofs.Members.{exactly}
 use Rattle.wsm_semantics.specs.declared.place.Place.{Place}
 use Rattle.wsm_semantics.specs.Query.{Datum}
 use Rattle.wsm_semantics.specs.Panes.{place_cmp, at, window_of, windows_among, is_there}
-use Rattle.wsm_semantics.proofs.Tables.{among, is_equal, places_total, places_exact}
-use Rattle.wsm_semantics.proofs.Each.{itself, list_any-append, same_answers, same_key}
+use Rattle.wsm_semantics.proofs.Tables.{among, tie_is, places_total}
+use Rattle.wsm_semantics.proofs.Each.{itself, list_any-append, same_answers}
+-- what both of two tests say
+pub use Rattle.std.proofs.lemmas.Bool.{and_parts as both}
 
 -- each window is assigned by a record's time alone
 abbrev pub IsAssigned : Shape → Type 0
@@ -38,7 +40,7 @@ among_contains : (p : Place) (k : ℕ) (ws : List Window) → among p (map (at k
 among_contains p k [] h = absurd (true≢false (sym h))
 among_contains p k (x ∷ xs) h =
     elim (eq_by_cmp place_cmp p (at k x)) as (λ b. eq_by_cmp place_cmp p (at k x) ≡ b → (b || among p (map (at k) xs)) ≡ true → (w : Window) × Contains (x ∷ xs) w × (p ≡ at k w)) [
-      | true ↦ λ e _. (x, (0, omega arith, refl), places_exact p (at k x) (is_equal _ e))
+      | true ↦ λ e _. (x, (0, omega arith, refl), tie_is p (at k x) e)
       | false ↦ λ e h. let (w, (i, less, is), same) = among_contains p k xs h in (w, (suc i, omega arith, is), same)
     ] refl h
 
@@ -64,10 +66,6 @@ moved (Fixed size) a u t w h i = moved_grid size size u t w h i
 moved (Sliding size period) a u t w h i = moved_grid size period u t w h i
 moved (Session gap) a u t w h i = absurd a
 
-pub both : (a b : Bool) → (a && b) ≡ true → (a ≡ true) × (b ≡ true)
-both true b h = (refl, h)
-both false b h = absurd (true≢false (sym h))
-
 module _ (shape : Shape) (ok : IsShape shape) (assigned : IsAssigned shape) where
   -- where a record stands
   abbrev pub stands : Datum → List Place
@@ -90,9 +88,9 @@ module _ (shape : Shape) (ok : IsShape shape) (assigned : IsAssigned shape) wher
 
   there_stands : (p : Place) → OnGrid p → (d : Datum) → is_there p d ≡ true → among p (stands d) ≡ true
   there_stands p (u, grid) d h =
-      let (k, i) = both _ _ h in
+      let (k, i) = and_parts _ _ h in
       let c : Contains (windows_of_shape shape d.time) (window_of p) = (exactly shape d.time (windows_of_shape shape d.time) ok refl (window_of p)).1 (moved shape assigned u d.time (window_of p) grid i) in
-      subst (λ (r : Place). among r (stands d) ≡ true) (ap (λ (j : ℕ). at j (window_of p)) (same_key d.key p.key k)) (contains_among d.key (windows_of_shape shape d.time) (window_of p) c)
+      subst (λ (r : Place). among r (stands d) ≡ true) (ap (λ (j : ℕ). at j (window_of p)) (eqb-true d.key p.key k)) (contains_among d.key (windows_of_shape shape d.time) (window_of p) c)
 
   -- a place on the grid is a record's exactly where the record stands in it
   pub own : (p : Place) → OnGrid p → (d : Datum) → among p (stands d) ≡ is_there p d

@@ -1,10 +1,10 @@
 -- Windows assigned by a record's time alone: where panes are, and how a selected record enters what is
 -- kept of them.
 use Rattle.std.proofs.Common.{◌≡◌, Bool, true, false, ◌||◌, cond, List, [], ◌∷◌, ◌++◌, map, length, Option, Some, None, refl, sym, ap, ◌∙◌, arith}
-use Rattle.std.proofs.lemmas.Bool.{true≢false, or_left, and_parts}
+use Rattle.std.proofs.lemmas.Bool.{true≢false, or_left, and_parts, or_right}
 use Rattle.std.specs.Prelude.{filter, flat_map, not, option_map}
 use Rattle.std.specs.Ordering.{eq_by_cmp}
-use Rattle.std.specs.FinMap.Entries.{put, find, same_entries}
+use Rattle.std.specs.FinMap.Entries.{same_entries}
 use Rattle.wsm_record.specs.Event.{Event, Record}
 use Rattle.wsm_windows.specs.declared.window.Window.{Window}
 use Rattle.wsm_windows.specs.declared.window.Shape.{Shape}
@@ -15,15 +15,13 @@ use Rattle.wsm_semantics.specs.declared.place.Place.{Place}
 use Rattle.wsm_semantics.specs.Query.{Query, Datum, mark, selected, selection_of}
 use Rattle.wsm_semantics.specs.Panes.{place_cmp, at, places, is_there, contents, held, is_live_at}
 use Rattle.wsm_semantics.specs.Firings.{is_shown, shows}
-use Rattle.wsm_semantics.specs.Machine.{Plan}
-use Rattle.wsm_semantics.specs.Machine as machine
 use Rattle.wsm_semantics.specs.Kept.{Kept, Unfired, alone, with_record, assigned, entered, stands_in, kept}
 use Rattle.wsm_semantics.specs.Replay.{datum}
 use Rattle.wsm_semantics.proofs.Lists.{none_pass}
 use Rattle.wsm_semantics.proofs.Tables.{among, tie_is, places_total, places_exact, keyed, find-keyed, is_sorted-keyed, kept_of, find-kept, is_sorted-kept, find-held, is_sorted-held}
 use Rattle.wsm_semantics.proofs.Assigned.{IsAssigned, stands, on_grid, own, tied}
 use Rattle.wsm_semantics.proofs.AssignedStep.{panes_filled, places-assigned, among_places, grid_of, kept_live, find-entered, is_sorted-entered}
-use Rattle.wsm_semantics.proofs.Each.{list_any-append, or_true}
+use Rattle.wsm_semantics.proofs.Each.{list_any-append}
 use Rattle.wsm_semantics.proofs.Within.{wider}
 use Rattle.wsm_semantics.proofs.Showing.{not_shown_yet}
 use Rattle.wsm_semantics.proofs.FiringsSoFar.{PlacesLaw, shows_itself}
@@ -44,7 +42,7 @@ module _ (q : Query) (ok : IsShape q.shape) (is_assigned : IsAssigned q.shape) w
       let grid = grid_of q ok is_assigned past p h in
       among_places q ok is_assigned (e ∷ past) p grid
       ∙ list_any-append (is_there p) (selection_of q past e) (selected q past)
-      ∙ or_true _ _ (sym (among_places q ok is_assigned past p grid) ∙ h)
+      ∙ or_right _ _ (sym (among_places q ok is_assigned past p grid) ∙ h)
 
   pub assigned_places : PlacesLaw q
   assigned_places = record {
@@ -77,14 +75,6 @@ module _ (q : Query) (ok : IsShape q.shape) (is_assigned : IsAssigned q.shape) w
 
 -- ---- a selected record
 
--- a plan that keeps records
-abbrev pub keeping : Datum → Plan Kept
-keeping d = record { selects = λ k vs. true; enter = λ k vs. with_record d; row = λ k h. None }
-
-pub by_windows : (d : Datum) (ws : List Window) (panes : List (Place × Kept)) → assigned d ws panes ≡ machine.entered (keeping d) d.key d.values ws panes
-by_windows d [] panes = refl
-by_windows d (w ∷ ws) panes = by_windows d ws (put place_cmp (at d.key w) (with_record d (find place_cmp (at d.key w) panes)) panes)
-
 pub on_shape : (shape : Shape) → IsAssigned shape → (d : Datum) (panes : List (Place × Kept)) → entered shape d panes ≡ assigned d (windows_of_shape shape d.time) panes
 on_shape (Fixed size) a d panes = refl
 on_shape (Sliding size period) a d panes = refl
@@ -115,10 +105,10 @@ module _ (q : Query) (ok : IsShape q.shape) (is_assigned : IsAssigned q.shape) w
       let e : Event = Record (Some k) t vs in
       let ws : List Window = windows_of_shape q.shape t in
       let sel : selection_of q past e ≡ d ∷ [] = selects_one q past k t vs taken selects in
-      let enters : entered q.shape d (kept q past) ≡ machine.entered (keeping d) k vs ws (kept q past) = on_shape q.shape is_assigned d (kept q past) ∙ by_windows d ws (kept q past) in
+      let enters : entered q.shape d (kept q past) ≡ assigned d ws (kept q past) = on_shape q.shape is_assigned d (kept q past) in
       enters
-      ∙ same_entries place_cmp places_total places_exact (machine.entered (keeping d) k vs ws (kept q past)) (keyed (kept_of q past) (held q (e ∷ past)))
-      (is_sorted-entered (keeping d) k vs ws (kept q past) (is_sorted-kept q past))
+      ∙ same_entries place_cmp places_total places_exact (assigned d ws (kept q past)) (keyed (kept_of q past) (held q (e ∷ past)))
+      (is_sorted-entered d ws (kept q past) (is_sorted-kept q past))
       (is_sorted-keyed (kept_of q past) (held q (e ∷ past)) (is_sorted-held q (e ∷ past)))
       (λ p.
       let mine : Bool = among p (map (at k) ws) in
@@ -132,7 +122,7 @@ module _ (q : Query) (ok : IsShape q.shape) (is_assigned : IsAssigned q.shape) w
       let here : (mine ≡ true → is_there p d ≡ true) = λ m. sym (own q.shape ok is_assigned p (on_grid q.shape ok is_assigned p d m) d) ∙ m in
       let grown : contents q (e ∷ past) p ≡ cond (is_there p d) (d ∷ c) c = λ i. filter (is_there p) (sel i ++ selected q past) in
       let unshown : (xs : List Datum) → filter new (d ∷ xs) ≡ d ∷ filter new xs = λ xs. ap (λ (b : Bool). cond (not b) (d ∷ filter new xs) (filter new xs)) (not_shown_yet q past p d (omega arith)) in
-      find-entered (keeping d) k vs ws (rising q.shape t ws ok refl) p (kept q past)
+      find-entered d ws (rising q.shape t ws ok refl) p (kept q past)
       ∙ ap (λ (o : Option Kept). cond mine (Some (with_record d o)) o) (find-kept q past p)
       ∙ looked d (kept_of q past p c) (kept_of q past p) (contents q (e ∷ past) p) mine others (is_live_at q (mark q past) p) (among p (places q (e ∷ past))) placed
       (λ m. kept_live (mark q past) t q.clock.lateness p.start p.end (comes_in_time q past k t vs taken) (and_parts _ _ (here m)).1)

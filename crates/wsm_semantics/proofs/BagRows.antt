@@ -1,15 +1,11 @@
 -- Rows that are told from the key, the number of records and a fold of what each says, where the fold
 -- doesn't depend on the order: these ignore the order of the records, and their turns.
-use Rattle.std.proofs.Common.{◌≡◌, ℕ, List, [], ◌∷◌, map, length, ℤ, pos, Option, Some, sym, ap, ◌∙◌}
+use Rattle.std.proofs.Common.{◌≡◌, ℕ, List, map, length, ℤ, Option, sym, ap, ◌∙◌}
 use Rattle.std.proofs.lemmas.List.{length-map}
 use Rattle.std.proofs.lemmas.List.Sorted.{IsPermutation-map, length_permutation}
 use Rattle.std.specs.Prelude.{IsPermutation}
 use Rattle.wsm_record.specs.declared.event.Value.{Value}
-use Rattle.wsm_record.specs.declared.event.Value.TheVariants.{Int}
-use Rattle.wsm_record.specs.Schema.{Declared}
-use Rattle.wsm_admission.specs.declared.clock.Clock.{Clock}
 use Rattle.wsm_semantics.specs.Query.{Datum, Query}
-use Rattle.wsm_semantics.specs.Counting.{count_query}
 use Rattle.wsm_semantics.specs.Order.{said_by, SameBag, IgnoresOrder}
 use Rattle.wsm_semantics.proofs.Each.{map-map}
 
@@ -25,7 +21,3 @@ module _ {A X : Type 0} (folded : List A → X) (free : (xs ys : List A) → IsP
 
   pub ignores_order : (q : Query) (row : ℕ → ℕ → X → Option (List Value)) → ((key : ℕ) (ds : List Datum) → q.row key ds ≡ row key (length ds) (folded (map (λ d. part (said_by d)) ds))) → IgnoresOrder q
   ignores_order q row is key ds es h = is key ds ∙ (λ i. row key (same_number ds es h i) (same_fold ds es h i)) ∙ sym (is key es)
-
--- as the query that counts records does
-pub count_ignores : (declared : Declared) (clock : Clock) (size : ℤ) → IgnoresOrder (count_query declared clock size)
-count_ignores declared clock size key ds es h = ap (λ (n : ℕ). Some (Int (pos n) ∷ [])) (same_number ds es h)

@@ -5,6 +5,7 @@ use Rattle.std.proofs.lemmas.Int.{ints, clamps}
 use Rattle.std.specs.Prelude.{int_lt, int_le, nat_eq, nat_lt}
 use Rattle.std.specs.Int.{int_max}
 use Rattle.std.specs.List.{list_any}
+use Rattle.std.proofs.Math.Bool.{and-false}
 use Rattle.wsm_record.specs.declared.words.Mode.{Mode}
 use Rattle.wsm_record.specs.declared.words.Mode.TheVariants.{Discarding}
 use Rattle.wsm_record.specs.Event.{Event, Record, Watermark}
@@ -19,7 +20,7 @@ use Rattle.wsm_semantics.specs.Panes.{contents, panes}
 use Rattle.wsm_semantics.specs.Firings.{firings, firing_set, is_enough, is_shown, shows, holds, kind_on_watermark}
 use Rattle.wsm_semantics.specs.Order.{Permuted}
 use Rattle.wsm_semantics.proofs.Assigned.{IsAssigned}
-use Rattle.wsm_semantics.proofs.Each.{all_of, all-any, list_any-none, and_false}
+use Rattle.wsm_semantics.proofs.Each.{all_of, all-any, list_any-none}
 use Rattle.wsm_semantics.proofs.AssignedTurns.{same_shown}
 use Rattle.wsm_semantics.proofs.Showing.{unshown_of, kind_of, shown_now}
 use Rattle.wsm_semantics.proofs.PanesOrder.{same_contents}
@@ -44,7 +45,7 @@ none_on_record early late n later h none = ap (λ (b : Bool). cond b (cond (is_e
 gates : (a b c d : Bool) → b ≡ false → d ≡ false → (x y : Bool) → cond ((a && b) && x) (Some OnTime) (cond ((c && d) && y) (Some Final) None) ≡ None
 gates a b c d h k x y =
     (λ i. cond ((a && h i) && x) (Some OnTime) (cond ((c && k i) && y) (Some Final) None))
-    ∙ (λ i. cond (and_false a i && x) (Some OnTime) (cond (and_false c i && y) (Some Final) None))
+    ∙ (λ i. cond (and-false a i && x) (Some OnTime) (cond (and-false c i && y) (Some Final) None))
 
 module _ (q : Query) (low : pos 0 ≤ℤ q.clock.lateness) (none : q.early ≡ 0) where
   idle : (past : List Event) (e : Event) (p : Place) (all : List Datum) → int_lt (mark q (e ∷ past)) p.end ≡ true → kind_of q past e p all ≡ None
@@ -81,7 +82,7 @@ module _ (q : Query) (low : pos 0 ≤ℤ q.clock.lateness) (none : q.early ≡ 0
         other x =
             elim (shows q.shape p x.0) as (λ b. shows q.shape p x.0 ≡ b → (is_some (kind_of q past e x.0 x.1) && (b && holds d x.1)) ≡ false) [
               | true ↦ λ its. ap (λ (o : Option PaneKind). is_some o && holds d x.1) (idle past e x.0 x.1 (subst (λ (r : Place). int_lt (mark q (e ∷ past)) r.end ≡ true) (same_shown q.shape assigned p x.0 its) h))
-              | false ↦ λ _. and_false (is_some (kind_of q past e x.0 x.1))
+              | false ↦ λ _. and-false (is_some (kind_of q past e x.0 x.1))
             ] refl
 
     all_unshown : (past : List Event) (p : Place) (all : List Datum) → int_lt (mark q past) p.end ≡ true → unshown_of q past p all ≡ all

@@ -3,6 +3,8 @@
 use Rattle.std.proofs.Common.{◌≡◌, ℕ, Bool, true, false, ◌&&◌, ◌||◌, cond, not, List, [], ◌∷◌, ◌++◌, length, ℤ, pos, Option, Some, None, is_none, is_some, refl, sym, ap, subst, ◌∙◌, arith}
 use Rattle.std.specs.Prelude.{filter, nat_eq, int_lt}
 use Rattle.std.specs.List.{list_any}
+use Rattle.std.proofs.lemmas.Bool.{eqb-true}
+use Rattle.std.proofs.Math.Bool.{and-false, or-false, and_comm}
 use Rattle.wsm_record.proofs.Lists.{list_any-map}
 use Rattle.wsm_record.specs.declared.event.Value.{Value}
 use Rattle.wsm_record.specs.declared.words.Mode.{Mode}
@@ -20,7 +22,7 @@ use Rattle.wsm_semantics.specs.Panes.{at, window_of, is_there, contents, panes}
 use Rattle.wsm_semantics.specs.Firings.{firings, firings_by, firing_set, is_enough, is_shown, shows, holds, kind_on_watermark}
 use Rattle.wsm_semantics.specs.Order.{Judged, judged, is_accepted, Reordered, Done, Next, Swap, Then, Permuted}
 use Rattle.wsm_semantics.proofs.Lists.{all-each, filter_same}
-use Rattle.wsm_semantics.proofs.Each.{all_of, all-any, all-swap, filter-append, filter-each, filter-filter, list_any-each, list_any-none, and_false, or_false, same_key}
+use Rattle.wsm_semantics.proofs.Each.{all_of, all-any, all-swap, filter-append, filter-each, filter-filter, list_any-each, list_any-none}
 use Rattle.wsm_semantics.proofs.Within.{new_turn}
 use Rattle.wsm_semantics.proofs.Merging.{selected_falls, holds-filter}
 use Rattle.wsm_semantics.proofs.Showing.{IsPane, each_pane, unshown_of, kind_of, shown_now, not_shown_yet}
@@ -122,16 +124,10 @@ module _ (q : Query) (ok : IsShape q.shape) where
         alike d =
             elim (nat_eq d.key p.key) as (λ b. nat_eq d.key p.key ≡ b → ((b && has_inside d.time (window_of p)) && not (is_shown q past p d)) ≡ (not (is_shown q past (its d) d) && (b && has_inside d.time (window_of p)))) [
               | true ↦ λ k.
-                  ap (λ (b : Bool). has_inside d.time (window_of p) && not b) (shown_by_key past p (its d) d (sym (same_key d.key p.key k)))
-                  ∙ and_swap (has_inside d.time (window_of p)) (not (is_shown q past (its d) d))
-              | false ↦ λ k. sym (and_false (not (is_shown q past (its d) d)))
+                  ap (λ (b : Bool). has_inside d.time (window_of p) && not b) (shown_by_key past p (its d) d (sym (eqb-true d.key p.key k)))
+                  ∙ and_comm (has_inside d.time (window_of p)) (not (is_shown q past (its d) d))
+              | false ↦ λ k. sym (and-false (not (is_shown q past (its d) d)))
             ] refl
-          where
-            and_swap : (a b : Bool) → (a && b) ≡ (b && a)
-            and_swap true true = refl
-            and_swap true false = refl
-            and_swap false true = refl
-            and_swap false false = refl
 
     -- an event that fires nothing leaves what was unshown, and its own record
     left_more : (past : List Event) (e : Event) → ((p : Place) (all : List Datum) → kind_of q past e p all ≡ None) → left_of (e ∷ past) ≡ selection_of q past e ++ left_of past
@@ -148,7 +144,7 @@ module _ (q : Query) (ok : IsShape q.shape) where
             (shown_now q past e (its d) d
             ∙ list_any-none (λ x. is_some (kind_of q past e x.0 x.1) && (shows q.shape (its d) x.0 && holds d x.1)) (panes q (e ∷ past))
             (all-any (λ x. (is_some (kind_of q past e x.0 x.1) && (shows q.shape (its d) x.0 && holds d x.1)) ≡ false) (λ x. ap (λ (o : Option PaneKind). is_some o && (shows q.shape (its d) x.0 && holds d x.1)) (idle x.0 x.1)) (panes q (e ∷ past))))
-            ∙ or_false (is_shown q past (its d) d)
+            ∙ or-false (is_shown q past (its d) d)
 
     idle_record : (past : List Event) (k : Option ℕ) (t : ℤ) (vs : List Value) (p : Place) (all : List Datum) → kind_of q past (Record k t vs) p all ≡ None
     idle_record past k t vs p all =

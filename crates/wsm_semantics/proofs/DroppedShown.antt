@@ -2,8 +2,7 @@
 -- fired when it was dropped, on time or as the final firing. For any mode.
 use Rattle.std.proofs.Common.{◌≡◌, ℕ, suc, Bool, true, false, ◌&&◌, cond, not, List, [], ◌∷◌, ◌++◌, map, length, ℤ, ◌+ℤ◌, Option, Some, None, is_none, refl, sym, ap, subst, ◌∙◌, arith}
 use Rattle.std.proofs.lemmas.Int.{ints}
-use Rattle.std.proofs.lemmas.Bool.{true≢false, or_left}
-use Rattle.std.proofs.lemmas.Bool.Decides.{nat_tests}
+use Rattle.std.proofs.lemmas.Bool.{true≢false, or_left, and_parts, lt-ltb}
 use Rattle.std.specs.Prelude.{filter, flat_map, int_le, int_lt, nat_lt}
 use Rattle.std.specs.List.{AllByRecursion}
 use Rattle.wsm_record.specs.declared.event.Value.{Value}
@@ -20,7 +19,6 @@ use Rattle.wsm_semantics.specs.Firings.{firing_set, is_shown, kind_on_watermark}
 use Rattle.wsm_semantics.specs.Replay.{datum}
 use Rattle.wsm_semantics.proofs.Lists.{all-each}
 use Rattle.wsm_semantics.proofs.Tables.{among}
-use Rattle.wsm_semantics.proofs.Assigned.{both}
 use Rattle.wsm_semantics.proofs.AssignedStep.{kept_live}
 use Rattle.wsm_semantics.proofs.Turns.{refused_stays}
 use Rattle.wsm_semantics.proofs.KeptTurns.{comes_in_time, selects_one}
@@ -50,9 +48,6 @@ passed_all t (x ∷ xs) h =
 dropped_now : (t end : ℤ) → int_lt t end ≡ false → int_le end t ≡ true
 dropped_now t end h = grind (arith, ints)
 
-some_left : (n : ℕ) → nat_lt 0 (suc n) ≡ true
-some_left n = grind (arith, nat_tests)
-
 -- at the watermark that comes to the end and the lateness, what is unshown fires
 last_fires : (q : Query) (old t : ℤ) (p : Place) (n : ℕ) (left : List Datum) → int_lt old (p.end +ℤ q.clock.lateness) ≡ true → int_lt t (p.end +ℤ q.clock.lateness) ≡ false →
     unshown_by (kind_on_watermark q old t p n (length left)) left ≡ []
@@ -60,7 +55,7 @@ last_fires q old t p n [] live dead =
     elim (kind_on_watermark q old t p n 0) as (λ o. unshown_by o [] ≡ []) [ None ↦ refl | Some kind ↦ refl ]
 last_fires q old t p n (x ∷ xs) live dead =
     let last : Bool = (int_lt old (p.end +ℤ q.clock.lateness) && int_le (p.end +ℤ q.clock.lateness) t) && nat_lt 0 (suc (length xs)) in
-    let fires : last ≡ true = λ i. (live i && dropped_now t (p.end +ℤ q.clock.lateness) dead i) && some_left (length xs) i in
+    let fires : last ≡ true = λ i. (live i && dropped_now t (p.end +ℤ q.clock.lateness) dead i) && lt-ltb 0 (suc (length xs)) (omega arith) i in
     elim (is_due (window_of p) old t && nat_lt 0 n) as (λ b. unshown_by (cond b (Some OnTime) (cond last (Some Final) None)) (x ∷ xs) ≡ []) [
       | true ↦ refl
       | false ↦ ap (λ (b : Bool). unshown_by (cond b (Some Final) None) (x ∷ xs)) fires
@@ -89,7 +84,7 @@ module _ (q : Query) (own : (past : List Event) → ShowsOwn q past) (new : NewH
         let d : Datum = datum (length past) k t vs in
         let prompt : is_late q.clock (mark q past) t ≡ false = comes_in_time q past k t vs taken in
         let away : is_there p d ≡ false = elim (is_there p d) as (λ b. is_there p d ≡ b → b ≡ false) [
-          | true ↦ λ there. sym (kept_live (mark q past) t q.clock.lateness p.start p.end prompt (both _ _ there).1) ∙ dead
+          | true ↦ λ there. sym (kept_live (mark q past) t q.clock.lateness p.start p.end prompt (and_parts _ _ there).1) ∙ dead
           | false ↦ λ _. refl
         ] refl in
         let selection : selection_of q past e ≡ d ∷ [] = selects_one q past k t vs taken selects in

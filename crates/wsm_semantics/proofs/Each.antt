@@ -4,12 +4,12 @@ use Rattle.std.proofs.lemmas.Bool.{true≢false, and_from, and_parts, or_cases, 
 use Rattle.std.proofs.lemmas.Bool.Decides.{nat_tests}
 use Rattle.std.specs.Prelude.{filter, filter_map, nat_eq}
 use Rattle.std.specs.List.{AllByRecursion, cons_option, list_all, list_any}
+use Rattle.std.proofs.Math.Bool.{and-false}
+-- the same number, by its test
+pub use Rattle.std.proofs.lemmas.Bool.{eqb-true as same_key}
 
 pub itself : (n : ℕ) → nat_eq n n ≡ true
 itself n = grind (arith, nat_tests)
-
-pub same_key : (j k : ℕ) → nat_eq j k ≡ true → j ≡ k
-same_key j k h = grind (arith, nat_tests)
 
 pub same_answers : (a b : Bool) → (a ≡ true → b ≡ true) → (b ≡ true → a ≡ true) → a ≡ b
 same_answers true b f g = sym (f refl)
@@ -20,22 +20,10 @@ pub as_true : (b : Bool) → T b → b ≡ true
 as_true true h = refl
 as_true false h = absurd h
 
-pub or_true : (a b : Bool) → b ≡ true → (a || b) ≡ true
-or_true true b h = refl
-or_true false b h = h
-
-pub and_false : (b : Bool) → (b && false) ≡ false
-and_false true = refl
-and_false false = refl
-
-pub or_false : (b : Bool) → (b || false) ≡ b
-or_false true = refl
-or_false false = refl
-
 -- a test that the other makes true
 pub and_of : (a b : Bool) → (b ≡ true → a ≡ true) → (a && b) ≡ b
 and_of a true f = ap (λ (c : Bool). c && true) (f refl)
-and_of a false f = and_false a
+and_of a false f = and-false a
 
 pub passed : {A : Type 0} (p : A → Bool) (xs : List A) → AllByRecursion (λ x. p x ≡ true) (filter p xs)
 passed p [] = tt

@@ -1,13 +1,14 @@
 -- Discarding: a record that a turn shows is in one firing set of it, as one pane shows it, and a
 -- record that was shown before is in none. So over a history it is in one where it is shown.
 use Rattle.std.proofs.Common.{◌≡◌, ℕ, suc, ◌+◌, Bool, true, false, ◌&&◌, ◌||◌, cond, not, List, [], ◌∷◌, length, map, Some, None, is_some, refl, sym, ap, ◌∙◌}
-use Rattle.std.proofs.lemmas.Bool.{true≢false, and_parts}
+use Rattle.std.proofs.lemmas.Bool.{true≢false, and_parts, eqb-true}
 use Rattle.std.proofs.lemmas.List.{length-append}
 use Rattle.std.specs.Prelude.{filter, filter_map, nat_eq}
 use Rattle.std.specs.List.{AllByRecursion, cons_option, list_any}
 use Rattle.std.specs.Ordering.{is_lt}
 use Rattle.std.specs.Cmp.{tied_itself}
 use Rattle.std.specs.FinMap.Entries.{below_all, is_sorted}
+use Rattle.std.proofs.Math.Bool.{and-false}
 use Rattle.wsm_record.specs.declared.words.Mode.{Mode}
 use Rattle.wsm_record.specs.declared.words.Mode.TheVariants.{Discarding}
 use Rattle.wsm_record.specs.Event.{Event}
@@ -17,7 +18,7 @@ use Rattle.wsm_semantics.specs.Panes.{place_cmp, places, contents, panes}
 use Rattle.wsm_semantics.specs.Firings.{Firing, firing_of, firing_set, firings, firings_by, firings_so_far, holds, is_shown, shows}
 use Rattle.wsm_semantics.specs.FiringSets.{has_in_set, times_fired}
 use Rattle.wsm_semantics.proofs.Tables.{tie_is, places_total, is_sorted-with_contents}
-use Rattle.wsm_semantics.proofs.Each.{and_false, all-any, as_true, filter-append, filter-each, none_of, same_answers, same_key, some_of}
+use Rattle.wsm_semantics.proofs.Each.{all-any, as_true, filter-append, filter-each, none_of, same_answers, some_of}
 use Rattle.wsm_semantics.proofs.StandsTurn.{AreDistinct}
 use Rattle.wsm_semantics.proofs.Showing.{IsPane, ShowsOwn, each_pane, does, firings_are, kind_of, unshown_of, shown_now}
 use Rattle.wsm_semantics.proofs.FiringsSoFar.{shows_back, shows_on}
@@ -55,11 +56,11 @@ spread false after false rest h = refl
 
 -- the records that weren't shown hold a record where all do and it wasn't shown
 holds_unshown : (q : Query) (past : List Event) (p : Place) (d : Datum) (ys : List Datum) → holds d (unshown_of q past p ys) ≡ (not (is_shown q past p d) && holds d ys)
-holds_unshown q past p d [] = sym (and_false (not (is_shown q past p d)))
+holds_unshown q past p d [] = sym (and-false (not (is_shown q past p d)))
 holds_unshown q past p d (y ∷ ys) =
     first_held (not (is_shown q past p y)) d y (unshown_of q past p ys)
     ∙ ap (λ (b : Bool). (not (is_shown q past p y) && nat_eq y.turn d.turn) || b) (holds_unshown q past p d ys)
-    ∙ spread (is_shown q past p y) (is_shown q past p d) (nat_eq y.turn d.turn) (holds d ys) (λ same. shown_by_turn q past p y d (same_key y.turn d.turn same))
+    ∙ spread (is_shown q past p y) (is_shown q past p d) (nat_eq y.turn d.turn) (holds d ys) (λ same. shown_by_turn q past p y d (eqb-true y.turn d.turn same))
 
 -- ---- one that passes
 
@@ -98,7 +99,7 @@ one_passes P t one (x ∷ xs) all apart =
 
 -- a record that is held is one of the turn
 held_one : (P : Datum → Type 0) (d : Datum) (xs : List Datum) → AllByRecursion P xs → holds d xs ≡ true → (x : Datum) × P x × (x.turn ≡ d.turn)
-held_one P d xs all h = let (x, is, same) = some_of P (λ x. nat_eq x.turn d.turn) xs all h in (x, is, same_key x.turn d.turn same)
+held_one P d xs all h = let (x, is, same) = some_of P (λ x. nat_eq x.turn d.turn) xs all h in (x, is, eqb-true x.turn d.turn same)
 
 gathered : (fires there now held : Bool) → (fires && (there && (now && held))) ≡ (now && (fires && (there && held)))
 gathered true true now held = refl

@@ -1,12 +1,13 @@
 -- All firings of a history: the contents of each are within those of one pane of now, which it shows;
 -- and a record is shown by those that have it.
 use Rattle.std.proofs.Common.{◌≡◌, ℕ, Bool, true, ◌&&◌, ◌||◌, List, [], ◌∷◌, Option, Some, None, refl, sym, ap, subst, ◌∙◌, arith}
-use Rattle.std.proofs.lemmas.Bool.{true≢false, and_parts}
+use Rattle.std.proofs.lemmas.Bool.{true≢false, and_parts, eqb-true}
 use Rattle.std.proofs.lemmas.Bool.Decides.{nat_tests}
 use Rattle.std.specs.Prelude.{nat_eq}
-use Rattle.std.specs.Option.{unwrap_or, is_some}
+use Rattle.std.specs.Option.{is_some}
 use Rattle.std.specs.List.{AllByRecursion, list_any}
 use Rattle.std.specs.Ordering.{eq_by_cmp}
+use Rattle.std.proofs.lemmas.Option.{same_Some}
 use Rattle.wsm_record.specs.declared.words.Mode.{Mode}
 use Rattle.wsm_record.specs.declared.words.Mode.TheVariants.{Accumulating}
 use Rattle.wsm_record.specs.Event.{Event}
@@ -20,7 +21,7 @@ use Rattle.wsm_semantics.specs.Firings.{Firing, holds, shows, firing_of, firing_
 use Rattle.wsm_semantics.proofs.Lists.{IsNonEmpty, filter-all, all-each}
 use Rattle.wsm_semantics.proofs.Tables.{tie_is, among}
 use Rattle.wsm_semantics.proofs.Assigned.{tied}
-use Rattle.wsm_semantics.proofs.Each.{itself, same_key, same_answers, passed, all-swap, all-both, all-append, filter_map-all, list_any-append}
+use Rattle.wsm_semantics.proofs.Each.{itself, same_answers, passed, all-swap, all-both, all-append, filter_map-all, list_any-append}
 use Rattle.wsm_semantics.proofs.Merging.{selected_falls, holds-filter}
 use Rattle.wsm_semantics.proofs.Within.{Within, IsPart, filter_part, part_stays, wider, one_held}
 use Rattle.wsm_semantics.proofs.Showing.{IsPane, ShowsOwn, each_pane, does, firings_are, kind_of, unshown_of}
@@ -51,7 +52,7 @@ shows_on (Session gap) p r s h g = onward p.key r.key s.key h g
 pub shows_key : (shape : Shape) (p r : Place) → shows shape p r ≡ true → p.key ≡ r.key
 shows_key (Fixed size) p r h = ap (λ (p : Place). p.key) (tie_is p r h)
 shows_key (Sliding size period) p r h = ap (λ (p : Place). p.key) (tie_is p r h)
-shows_key (Session gap) p r h = same_key p.key r.key h
+shows_key (Session gap) p r h = eqb-true p.key r.key h
 
 -- a place of after an event has the records of a place
 abbrev pub StaysIn : Query → List Event → Event → Place → Type 0
@@ -72,9 +73,6 @@ pub record IsOf (q : Query) (past : List Event) (p : Place) (all : List Datum) (
   pub contents : f.contents ≡ all
   pub fired : f.fired ≡ firing_set q.mode all (unshown_of q past p all)
 
-pub same_some : {A : Type 0} (x y : A) → Some x ≡ Some y → x ≡ y
-same_some x y h = ap (λ o. unwrap_or o x) h
-
 pub not_some : {A : Type 0} (x : A) → Some x ≡ None → ⊥
 not_some x h = true≢false (ap is_some h)
 
@@ -83,7 +81,7 @@ fires_as q past e p all f h = of_kind (kind_of q past e p all) h where
   of_kind : (k : Option PaneKind) → firing_of p all (firing_set q.mode all (unshown_of q past p all)) k ≡ Some f → IsOf q past p all f
   of_kind None h = absurd (not_some f (sym h))
   of_kind (Some kind) h =
-      let is : record { kind = kind; place = p; contents = all; fired = firing_set q.mode all (unshown_of q past p all) } ≡ f = same_some _ f h in
+      let is : record { kind = kind; place = p; contents = all; fired = firing_set q.mode all (unshown_of q past p all) } ≡ f = same_Some _ f h in
       record { place = ap (λ (g : Firing). g.place) (sym is); contents = ap (λ (g : Firing). g.contents) (sym is); fired = ap (λ (g : Firing). g.fired) (sym is) }
 
 -- a record is shown where a firing so far that shows the place has it

@@ -4,6 +4,7 @@
 use Rattle.std.proofs.Common.{◌≡◌, ℕ, ◌<◌, ◌≤◌, true, List, ◌∷◌, map, length, ℤ, pos, ◌+ℤ◌, ◌≤ℤ◌, Some, None, refl, sym, ap, subst, ◌∙◌}
 use Rattle.std.specs.Prelude.{All, nat_eq}
 use Rattle.std.specs.List.{AllByRecursion}
+use Rattle.std.proofs.lemmas.Bool.{eqb-true}
 use Rattle.wsm_record.specs.declared.event.Value.{Value}
 use Rattle.wsm_record.specs.Event.{Event, Record}
 use Rattle.wsm_windows.specs.declared.window.Window.{Window}
@@ -23,7 +24,7 @@ use Rattle.wsm_semantics.proofs.Lists.{filter-all, all-each, length_each}
 use Rattle.wsm_semantics.proofs.Tables.{among, is_sorted-held}
 use Rattle.wsm_semantics.proofs.Assigned.{IsAssigned}
 use Rattle.wsm_semantics.proofs.AssignedStep.{grid_of}
-use Rattle.wsm_semantics.proofs.Each.{passed, all-both, as_true, map-all, same_key}
+use Rattle.wsm_semantics.proofs.Each.{passed, all-both, as_true, map-all}
 use Rattle.wsm_semantics.proofs.Sessions.{sessions_apart}
 use Rattle.wsm_semantics.proofs.SessionTimes.{IsOneOf}
 use Rattle.wsm_semantics.proofs.SessionPlaces.{one_of, times_of, sessions_of}
@@ -39,7 +40,7 @@ module _ (q : Query) (ok : IsShape q.shape) (within : IsWithinLimits q.clock) (p
 
   of_key_all : (k : ℕ) → AllByRecursion (λ e. (e.0.key ≡ k) × IsHeldPane q past e) (of_one k)
   of_key_all k =
-      all-both (λ e. nat_eq e.0.key k ≡ true) (IsHeldPane q past) (λ e. (e.0.key ≡ k) × IsHeldPane q past e) (λ e key pane. (same_key e.0.key k key, pane)) (of_one k)
+      all-both (λ e. nat_eq e.0.key k ≡ true) (IsHeldPane q past) (λ e. (e.0.key ≡ k) × IsHeldPane q past e) (λ e key pane. (eqb-true e.0.key k key, pane)) (of_one k)
       (passed (λ e. nat_eq e.0.key k) (held q past))
       (filter-all (IsHeldPane q past) (λ e. nat_eq e.0.key k) (held q past) (held_panes q ok past))
 

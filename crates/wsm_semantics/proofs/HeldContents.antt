@@ -1,34 +1,29 @@
 -- How many records panes have: the sessions that are held have together no more than were admitted,
--- as no record lies in two; so those that a record is linked to have with it no more than the limit.
-use Rattle.std.proofs.Common.{◌≡◌, ℕ, suc, ◌+◌, ◌<◌, ◌≤◌, Bool, true, false, ◌||◌, cond, List, [], ◌∷◌, map, length, ℤ, Option, Some, None, refl, sym, ap, subst, ◌∙◌, arith}
-use Rattle.std.proofs.lemmas.Bool.{true≢false, and_parts}
+-- as no record lies in two.
+use Rattle.std.proofs.Common.{◌≡◌, suc, ◌+◌, ◌≤◌, Bool, true, false, ◌||◌, cond, List, [], ◌∷◌, length, ℤ, refl, sym, ap, subst, ◌∙◌, arith}
+use Rattle.std.proofs.lemmas.Bool.{true≢false, and_parts, eqb-true}
 use Rattle.std.proofs.lemmas.List.Sums.{sum_by-cons}
 use Rattle.std.specs.Prelude.{filter, nat_eq}
 use Rattle.std.specs.List.{AllByRecursion, list_any, sum_by}
 use Rattle.std.specs.Cmp.{tied_itself}
 use Rattle.std.specs.Ordering.{is_lt}
-use Rattle.wsm_record.specs.declared.event.Value.{Value}
-use Rattle.wsm_record.specs.Event.{Event, Record}
+use Rattle.wsm_record.specs.Event.{Event}
 use Rattle.wsm_windows.specs.declared.window.Shape.{Shape}
 use Rattle.wsm_windows.specs.declared.window.Shape.TheVariants.{Session}
 use Rattle.wsm_windows.specs.Windows.{IsShape}
 use Rattle.wsm_admission.specs.Clock.{admitted_count}
-use Rattle.wsm_admission.proofs.Taken.{taken_record, admitted_count-le}
+use Rattle.wsm_admission.proofs.Taken.{admitted_count-le}
 use Rattle.wsm_semantics.specs.declared.place.Place.{Place}
-use Rattle.wsm_semantics.specs.Query.{Query, Datum, mark, verdict_on, selected}
+use Rattle.wsm_semantics.specs.Query.{Query, Datum, selected}
 use Rattle.wsm_semantics.specs.Panes.{place_cmp, places, is_there, held}
 use Rattle.wsm_semantics.specs.Firings.{shows}
-use Rattle.wsm_semantics.specs.Kept.{Kept, kept, kept_in, is_linked, merged, joined_to, joined_all, with_record}
-use Rattle.wsm_semantics.specs.Replay.{datum}
 use Rattle.wsm_semantics.proofs.Lists.{all-each}
 use Rattle.wsm_semantics.proofs.Tables.{among, places_total, is_sorted-held}
-use Rattle.wsm_semantics.proofs.Each.{as_true, itself, same_key}
-use Rattle.wsm_semantics.proofs.Summaries.{length-merged}
+use Rattle.wsm_semantics.proofs.Each.{as_true, itself}
 use Rattle.wsm_semantics.proofs.KeptLaw as kept_law
 use Rattle.wsm_semantics.proofs.SelectedRecords.{selected_count}
-use Rattle.wsm_semantics.proofs.ManyKeys.{Precedes, AreInOrder, in_order, at_key, length-filter}
+use Rattle.wsm_semantics.proofs.ManyKeys.{Precedes, AreInOrder, in_order, length-filter}
 use Rattle.wsm_semantics.proofs.HeldPanes.{IsHeldPane, held_panes}
-use Rattle.wsm_semantics.proofs.KeptPanes.{has_room}
 
 -- ---- sums of lengths
 
@@ -46,20 +41,6 @@ module _ {A : Type 0} where
           | false ↦ rest
         ]
       ] refl
-
-  pub sum_by-filter : (f : A → ℕ) (t : A → Bool) (xs : List A) → sum_by f (filter t xs) ≤ sum_by f xs
-  sum_by-filter f t [] = omega arith
-  sum_by-filter f t (x ∷ xs) =
-      let rest : sum_by f (filter t xs) ≤ sum_by f xs = sum_by-filter f t xs in
-      let whole : sum_by f (x ∷ xs) ≡ f x + sum_by f xs = sum_by-cons f x xs in
-      elim (t x) as (λ b. sum_by f (cond b (x ∷ filter t xs) (filter t xs)) ≤ sum_by f (x ∷ xs)) [
-        | true ↦ let part : sum_by f (x ∷ filter t xs) ≡ f x + sum_by f (filter t xs) = sum_by-cons f x (filter t xs) in omega arith
-        | false ↦ omega arith
-      ]
-
-pub sum_by-map : {A B : Type 0} (f : B → ℕ) (g : A → B) (xs : List A) → sum_by f (map g xs) ≡ sum_by (λ x. f (g x)) xs
-sum_by-map f g [] = refl
-sum_by-map f g (x ∷ xs) = sum_by-cons f (g x) (map g xs) ∙ ap (λ (n : ℕ). f (g x) + n) (sum_by-map f g xs) ∙ sym (sum_by-cons (λ x. f (g x)) x xs)
 
 -- ---- places of which no two have a record in common
 
@@ -82,21 +63,6 @@ lengths_apart ds (e ∷ es) has apart =
     either_passes (is_there e.0) (λ d. list_any (λ e. is_there e.0 d) es) (λ d there. in_none e.0 d there es apart.0) ds in
     omega arith
 
--- ---- records of panes that are put together
-
--- a record with those of the panes that are put together
-pub length-joined : (d : Datum) (es : List (Place × Kept)) → length (with_record d (joined_all es)).all ≡ suc (sum_by (λ e. length e.1.all) es)
-length-joined d [] = refl
-length-joined d (e ∷ es) =
-    let rest : length (with_record d (joined_all es)).all ≡ suc (sum_by (λ e. length e.1.all) es) = length-joined d es in
-    let whole : sum_by (λ e. length e.1.all) (e ∷ es) ≡ length e.1.all + sum_by (λ e. length e.1.all) es = sum_by-cons (λ e. length e.1.all) e es in
-    of_two (joined_all es) rest whole
-  where
-    of_two : (o : Option Kept) → length (with_record d o).all ≡ suc (sum_by (λ e. length e.1.all) es) → sum_by (λ e. length e.1.all) (e ∷ es) ≡ length e.1.all + sum_by (λ e. length e.1.all) es →
-        suc (length (joined_to e.1 o).all) ≡ suc (sum_by (λ e. length e.1.all) (e ∷ es))
-    of_two None h k = omega arith
-    of_two (Some b) h k = let both : length (merged e.1.all b.all) ≡ length e.1.all + length b.all = length-merged e.1.all b.all in omega arith
-
 -- ---- sessions
 
 module _ (q : Query) (gap : ℤ) (is : q.shape ≡ Session gap) (ok : IsShape q.shape) (past : List Event) where
@@ -107,7 +73,7 @@ module _ (q : Query) (gap : ℤ) (is : q.shape ≡ Session gap) (ok : IsShape q.
         | true ↦ λ g.
             let in_p = and_parts _ _ h in
             let in_r = and_parts _ _ g in
-            let key : p.key ≡ r.key = sym (same_key d.key p.key in_p.0) ∙ same_key d.key r.key in_r.0 in
+            let key : p.key ≡ r.key = sym (eqb-true d.key p.key in_p.0) ∙ eqb-true d.key r.key in_r.0 in
             let shown : shows q.shape p r ≡ true = ap (λ (s : Shape). shows s p r) is ∙ ap (nat_eq p.key) (sym key) ∙ itself p.key in
             let same : p ≡ r = (kept_law.places q ok).apart past p r placed_p placed_r shown d h g in
             absurd (true≢false (sym before ∙ ap (λ (x : Place). is_lt (place_cmp p x)) (sym same) ∙ ap is_lt (tied_itself places_total p)))
@@ -133,40 +99,9 @@ module _ (q : Query) (gap : ℤ) (is : q.shape ≡ Session gap) (ok : IsShape q.
       let most : length ds ≤ admitted_count q.clock q.declared past = selected_count q past in
       omega arith
 
-  -- so those of one key
-  pub contents_of_key : (k : ℕ) → sum_by (λ e. length e.1) (at_key k (held q past)) ≤ admitted_count q.clock q.declared past
-  contents_of_key k =
-      let part : sum_by (λ e. length e.1) (at_key k (held q past)) ≤ sum_by (λ e. length e.1) (held q past) = sum_by-filter (λ e. length e.1) (λ e. nat_eq e.0.key k) (held q past) in
-      let most : sum_by (λ e. length e.1) (held q past) ≤ admitted_count q.clock q.declared past = contents_bounded in
-      omega arith
-
   -- and the limit of records bounds them
   pub contents_limited : sum_by (λ e. length e.1) (held q past) ≤ q.clock.records
   contents_limited =
       let most : sum_by (λ e. length e.1) (held q past) ≤ admitted_count q.clock q.declared past = contents_bounded in
       let limit : admitted_count q.clock q.declared past ≤ q.clock.records = admitted_count-le q.clock q.declared past in
       omega arith
-
-  pub kept_contents : sum_by (λ e. length e.1.all) (kept q past) ≤ admitted_count q.clock q.declared past
-  kept_contents = subst (λ (n : ℕ). n ≤ admitted_count q.clock q.declared past) (sym (sum_by-map (λ e. length e.1.all) (kept_in q past) (held q past))) contents_bounded
-
-  module _ (k : ℕ) (t : ℤ) (vs : List Value) (taken : verdict_on q past (Record (Some k) t vs) ≡ None) where
-    -- the kept panes that a record is linked to
-    abbrev pub linked : List (Place × Kept)
-    linked = filter (λ e. is_linked gap (datum (length past) k t vs) e.0) (kept q past)
-
-    -- they have fewer records than the limit
-    pub linked_limited : sum_by (λ e. length e.1.all) linked < q.clock.records
-    linked_limited =
-        let part : sum_by (λ e. length e.1.all) linked ≤ sum_by (λ e. length e.1.all) (kept q past) = sum_by-filter (λ e. length e.1.all) (λ e. is_linked gap (datum (length past) k t vs) e.0) (kept q past) in
-        let most : sum_by (λ e. length e.1.all) (kept q past) ≤ admitted_count q.clock q.declared past = kept_contents in
-        let room : admitted_count q.clock q.declared past < q.clock.records =
-        has_room q.clock.records (admitted_count q.clock q.declared past) (taken_record q.clock q.declared (mark q past) (admitted_count q.clock q.declared past) (Some k) t vs taken).room in
-        omega arith
-
-    -- and with the record, put together, no more than the limit
-    pub joined_limited : length (with_record (datum (length past) k t vs) (joined_all linked)).all ≤ q.clock.records
-    joined_limited =
-        let all : length (with_record (datum (length past) k t vs) (joined_all linked)).all ≡ suc (sum_by (λ e. length e.1.all) linked) = length-joined (datum (length past) k t vs) linked in
-        let fewer : sum_by (λ e. length e.1.all) linked < q.clock.records = linked_limited in
-        omega arith

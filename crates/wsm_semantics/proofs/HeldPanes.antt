@@ -3,7 +3,7 @@
 -- it has at least one record, each of them selected, of its key and inside its window.
 use Rattle.std.proofs.Common.{◌≡◌, ℕ, ◌<◌, ◌≤◌, true, List, [], ◌∷◌, length, ℤ, pos, ◌+ℤ◌, ◌≤ℤ◌, ◌<ℤ◌, refl, sym, subst, ◌∙◌, arith}
 use Rattle.std.proofs.lemmas.Int.{ints, clamps}
-use Rattle.std.proofs.lemmas.Bool.{and_parts}
+use Rattle.std.proofs.lemmas.Bool.{and_parts, eqb-true}
 use Rattle.std.specs.Prelude.{filter, int_lt}
 use Rattle.std.specs.Int.{int_max, int_min}
 use Rattle.std.specs.List.{AllByRecursion}
@@ -21,7 +21,7 @@ use Rattle.wsm_semantics.proofs.Lists.{IsNonEmpty, filter-all, all-each}
 use Rattle.wsm_semantics.proofs.Tables.{among}
 use Rattle.wsm_semantics.proofs.Assigned.{IsAssigned, OnGrid}
 use Rattle.wsm_semantics.proofs.AssignedStep.{grid_of}
-use Rattle.wsm_semantics.proofs.Each.{passed, all-append, all-both, all-passed, map-all, same_key}
+use Rattle.wsm_semantics.proofs.Each.{passed, all-append, all-both, all-passed, map-all}
 use Rattle.wsm_semantics.proofs.Showing.{IsPane, each_pane}
 use Rattle.wsm_semantics.proofs.Sessions.{sessions-more}
 use Rattle.wsm_semantics.proofs.SessionTimes.{IsOneOf, of-all, inside_is}
@@ -81,12 +81,6 @@ session_placed gap t w most lies from until =
 
 -- ---- of any shape
 
--- a window that is assigned, or a session
-pub either_shape : (P : Shape → Type 0) (shape : Shape) → (IsAssigned shape → P shape) → ((gap : ℤ) → P (Session gap)) → P shape
-either_shape P (Fixed size) f g = f tt
-either_shape P (Sliding size period) f g = f tt
-either_shape P (Session gap) f g = g gap
-
 -- a pane that is held, after a history
 pub record IsHeldPane (q : Query) (past : List Event) (e : Place × List Datum) : Type 0 where
   pub key : e.0.key < length q.declared.keys
@@ -145,7 +139,7 @@ module _ (q : Query) (ok : IsShape q.shape) (past : List Event) where
       let parts = and_parts _ _ first in
       let inside : (e.0.start ≤ℤ d.time) × (d.time <ℤ e.0.end) = inside_is d.time (window_of e.0) parts.1 in
       record {
-        key = subst (λ (k : ℕ). k < length q.declared.keys) (same_key d.key e.0.key parts.0) known.key;
+        key = subst (λ (k : ℕ). k < length q.declared.keys) (eqb-true d.key e.0.key parts.0) known.key;
         place = in_range e.0 pane.1 d.time known.time inside.0 inside.1;
         live = lives (mark q past) q.clock.lateness e.0.end live;
         near = no_later e.0.start d.time (mark q past +ℤ q.clock.skew) inside.0 known.near;

@@ -3,6 +3,7 @@
 use Rattle.std.proofs.Common.{◌≡◌, ℕ, ◌<◌, Bool, true, false, ◌&&◌, ◌||◌, cond, not, List, [], ◌∷◌, ◌++◌, map, length, ℤ, Option, Some, None, is_none, refl, sym, ap, ◌∙◌, append-nil}
 use Rattle.std.specs.Prelude.{filter, nat_eq}
 use Rattle.std.specs.List.{AllByRecursion, list_any}
+use Rattle.std.proofs.Math.Bool.{or-false}
 use Rattle.wsm_record.specs.declared.event.Value.{Value}
 use Rattle.wsm_record.specs.declared.words.Mode.{Mode}
 use Rattle.wsm_record.specs.Event.{Event, Record, Watermark}
@@ -19,7 +20,7 @@ use Rattle.wsm_semantics.specs.Kept.{Kept, kept, kept_in, fires, fired_kept, all
 use Rattle.wsm_semantics.specs.Replay.{datum}
 use Rattle.wsm_semantics.proofs.Lists.{filter-all, all-each, filter_same, filter_map_none}
 use Rattle.wsm_semantics.proofs.Tables.{among, kept_of}
-use Rattle.wsm_semantics.proofs.Each.{or_false, all-any, map-each, map-map, filter_map-each, filter_map-filter, filter_map-map, list_any-none}
+use Rattle.wsm_semantics.proofs.Each.{all-any, map-each, map-map, filter_map-each, filter_map-filter, filter_map-map, list_any-none}
 use Rattle.wsm_semantics.proofs.Merging.{Below, unlike, selected_below}
 use Rattle.wsm_semantics.proofs.Turns.{held-same, refused_selects, refused_stays, firings-refused}
 use Rattle.wsm_semantics.proofs.Showing.{IsPane, each_pane, does, firings_are, kind_of, unshown_of, unshown_by, unshown-after}
@@ -100,7 +101,7 @@ module _ (q : Query) (past : List Event) where
     where
       unshown_alike : (x : Place × List Datum) → unshown_of q (e ∷ past) x.0 x.1 ≡ unshown_of q past x.0 x.1
       unshown_alike x =
-          filter_same _ _ (λ d. ap not (ap (λ (fs : List Firing). is_shown q past x.0 d || list_any (λ f. shows q.shape x.0 f.place && holds d f.contents) fs) silent ∙ or_false (is_shown q past x.0 d))) x.1
+          filter_same _ _ (λ d. ap not (ap (λ (fs : List Firing). is_shown q past x.0 d || list_any (λ f. shows q.shape x.0 f.place && holds d f.contents) fs) silent ∙ or-false (is_shown q past x.0 d))) x.1
 
       stands_alike : (x : Place × List Datum) → stands_in q (e ∷ past) x.0 x.1 ≡ stands_in q past x.0 x.1
       stands_alike x =

@@ -4,8 +4,6 @@ pub mod Turns
 pub mod Assigned
 pub mod AssignedStep
 pub mod Stepping
-pub mod AssignedSteps
-pub mod Counts
 pub mod Each
 pub mod Merging
 pub mod Within
@@ -41,9 +39,7 @@ pub mod HeldBound
 pub mod KeptPanes
 pub mod HeldContents
 pub mod RowsBound
-pub mod FiredRecords
 pub mod RecordWindows
-pub mod Rooms
 pub mod HeldLaw
 pub mod Bags
 pub mod PanesOrder

@@ -1,12 +1,11 @@
 -- Lists: what filters and tables with other values give.
-use Rattle.std.proofs.Common.{◌≡◌, suc, Bool, true, false, ◌||◌, cond, List, [], ◌∷◌, map, length, Option, Some, None, refl, sym, ap, subst, ◌∙◌}
+use Rattle.std.proofs.Common.{◌≡◌, suc, Bool, true, false, ◌||◌, cond, List, [], ◌∷◌, map, length, Option, None, refl, sym, ap, subst, ◌∙◌}
 use Rattle.std.proofs.lemmas.Bool.{true≢false}
-use Rattle.std.specs.Prelude.{filter, filter_map, option_map}
-use Rattle.std.specs.List.{AllByRecursion, cons_option, list_any}
-use Rattle.std.specs.Ordering.{eq_by_cmp}
+use Rattle.std.specs.Prelude.{filter, filter_map}
+use Rattle.std.specs.List.{AllByRecursion, list_any}
 use Rattle.std.specs.declared.cmp.Ordering.{Ordering}
 use Rattle.std.specs.declared.cmp.Ordering.TheVariants.{Less, Equal, Greater}
-use Rattle.std.specs.FinMap.Entries.{put, find, by_order}
+use Rattle.std.specs.FinMap.Entries.{put, by_order}
 
 -- a list with a first element
 abbrev pub IsNonEmpty : {A : Type 0} → List A → Type 0
@@ -66,37 +65,6 @@ module _ {A B : Type 0} where
   pub filter_map_none : (g : A → Option B) (xs : List A) → ((x : A) → g x ≡ None) → filter_map g xs ≡ []
   filter_map_none g [] h = refl
   filter_map_none g (x ∷ xs) h = rw (h x) (filter_map_none g xs h)
-
-  -- those that pass give a value each, and the others none
-  pub filter_map_chosen : (g : A → Option B) (p : A → Bool) (f : A → B) (xs : List A) → AllByRecursion (λ x. g x ≡ cond (p x) (Some (f x)) None) xs → filter_map g xs ≡ map f (filter p xs)
-  filter_map_chosen g p f [] h = refl
-  filter_map_chosen g p f (x ∷ xs) h =
-      (λ i. cons_option (h.0 i) (filter_map_chosen g p f xs h.1 i))
-      ∙ elim (p x) as (λ b. cons_option (cond b (Some (f x)) None) (map f (filter p xs)) ≡ map f (cond b (x ∷ filter p xs) (filter p xs))) [
-        | true ↦ refl
-        | false ↦ refl
-      ]
-
-module _ {K A B : Type 0} (R : K → K → Ordering) (f : A → B) where
-  -- the same keys with other values
-  abbrev pub valued : List (K × A) → List (K × B)
-  valued es = map (λ e. (e.0, f e.1)) es
-
-  pub find-valued : (q : K) (es : List (K × A)) → find R q (valued es) ≡ option_map f (find R q es)
-  find-valued q [] = refl
-  find-valued q (e ∷ es) =
-      elim (eq_by_cmp R q e.0) as (λ b. cond b (Some (f e.1)) (find R q (valued es)) ≡ option_map f (cond b (Some e.1) (find R q es))) [
-        | true ↦ refl
-        | false ↦ find-valued q es
-      ]
-
-  pub valued-filter : (p : K → Bool) (es : List (K × A)) → valued (filter (λ e. p e.0) es) ≡ filter (λ e. p e.0) (valued es)
-  valued-filter p [] = refl
-  valued-filter p (e ∷ es) =
-      elim (p e.0) as (λ b. valued (cond b (e ∷ filter (λ e. p e.0) es) (filter (λ e. p e.0) es)) ≡ cond b ((e.0, f e.1) ∷ filter (λ e. p e.0) (valued es)) (filter (λ e. p e.0) (valued es))) [
-        | true ↦ ap (λ (fs : List (K × B)). (e.0, f e.1) ∷ fs) (valued-filter p es)
-        | false ↦ valued-filter p es
-      ]
 
 module _ {K A : Type 0} (R : K → K → Ordering) (same : (x y : K) → R x y ≡ Equal → x ≡ y) (P : K × A → Type 0) where
   pub put-all : (k : K) (v : A) (es : List (K × A)) → P (k, v) → AllByRecursion P es → AllByRecursion P (put R k v es)

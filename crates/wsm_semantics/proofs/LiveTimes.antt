@@ -4,12 +4,14 @@ use Rattle.std.proofs.Common.{◌≡◌, Bool, true, false, ◌&&◌, ◌||◌, 
 use Rattle.std.proofs.lemmas.Int.{ints}
 use Rattle.std.specs.Prelude.{filter, int_le, int_lt}
 use Rattle.std.specs.List.{AllByRecursion, list_any}
+use Rattle.std.proofs.Math.Bool.{and-false}
 use Rattle.wsm_windows.specs.declared.window.Window.{Window}
 use Rattle.wsm_windows.specs.Windows.{window, has_inside}
 use Rattle.wsm_semantics.specs.Sessions.{with_time, rising, with_earlier, sessions_of_rising, sessions, ends_after}
 use Rattle.wsm_semantics.proofs.Lists.{filter-all, all-each}
-use Rattle.wsm_semantics.proofs.Each.{and_false, filter-each}
+use Rattle.wsm_semantics.proofs.Each.{filter-each}
 use Rattle.wsm_semantics.proofs.Sessions.{StartFrom, AreApart, TimesFrom, AreRising, is_rising, apart_rising, from_times, head_linked, head_apart, sooner}
+use Rattle.wsm_semantics.proofs.SessionTimes.{not_inside_after}
 
 -- ---- rising times that pass a test
 
@@ -57,9 +59,7 @@ module _ (limit : ℤ) where
   lives_in ws u = list_any (λ w. ends_after limit w && has_inside u w) ws
 
   not_inside : (u : ℤ) (w : Window) → u <ℤ w.start → (ends_after limit w && has_inside u w) ≡ false
-  not_inside u w h = let e : has_inside u w ≡ false = outside u w h in ap (λ (b : Bool). ends_after limit w && b) e ∙ and_false (ends_after limit w) where
-    outside : (u : ℤ) (w : Window) → u <ℤ w.start → has_inside u w ≡ false
-    outside u w h = grind (arith, ints)
+  not_inside u w h = let e : has_inside u w ≡ false = not_inside_after u w h in ap (λ (b : Bool). ends_after limit w && b) e ∙ and-false (ends_after limit w)
 
   none_later : (u x : ℤ) → u <ℤ x → (ws : List Window) → StartFrom x ws → lives_in ws u ≡ false
   none_later u x h [] f = refl
@@ -76,7 +76,7 @@ module _ (limit : ℤ) where
   inside_after u e x h = let k : int_le u x ≡ true = grind (arith, ints) in ap (λ (b : Bool). b && int_lt x e) (sym k)
 
   past_end : (u e x : ℤ) → e ≤ℤ x → (int_le u x && int_lt x e) ≡ false
-  past_end u e x h = let k : int_lt x e ≡ false = grind (arith, ints) in ap (λ (b : Bool). int_le u x && b) k ∙ and_false (int_le u x)
+  past_end u e x h = let k : int_lt x e ≡ false = grind (arith, ints) in ap (λ (b : Bool). int_le u x && b) k ∙ and-false (int_le u x)
 
   itself_inside : (u e : ℤ) → u <ℤ e → (int_le u u && int_lt u e) ≡ true
   itself_inside u e h = grind (arith, ints)
@@ -137,7 +137,7 @@ module _ (limit : ℤ) where
               let others : filter (lives_in (v ∷ w ∷ ws)) us ≡ F =
               filter-each (lives_in (v ∷ w ∷ ws)) (lives_in (w ∷ ws)) us
               (all-each (λ x. w.start ≤ℤ x) (λ x. lives_in (v ∷ w ∷ ws) x ≡ lives_in (w ∷ ws) x) us
-              (λ x m. ap (λ (b : Bool). b || lives_in (w ∷ ws) x) (ap (λ (b : Bool). ends_after limit v && b) (past_end u (u +ℤ gap) x (omega (arith, ints))) ∙ and_false (ends_after limit v)))
+              (λ x m. ap (λ (b : Bool). b || lives_in (w ∷ ws) x) (ap (λ (b : Bool). ends_after limit v && b) (past_end u (u +ℤ gap) x (omega (arith, ints))) ∙ and-false (ends_after limit v)))
               times) in
               (λ i. sessions_of_rising gap (cond (mine i) (u ∷ others i) (others i)))
               ∙ elim (ends_after limit v) as (λ b. sessions_of_rising gap (cond b (u ∷ F) F) ≡ cond b (v ∷ live (w ∷ ws)) (live (w ∷ ws))) [

@@ -4,6 +4,7 @@ use Rattle.std.proofs.Common.{◌≡◌, ℕ, suc, ◌<◌, Bool, true, false, �
 use Rattle.std.proofs.lemmas.Bool.Decides.{nat_tests}
 use Rattle.std.specs.Prelude.{filter, nat_eq, nat_lt}
 use Rattle.std.specs.List.{AllByRecursion}
+use Rattle.std.proofs.lemmas.Bool.{lt-ltb}
 use Rattle.wsm_record.specs.Event.{Event, Record, Watermark}
 use Rattle.wsm_semantics.specs.Query.{Query, Datum, is_taken, selected, selection_of}
 use Rattle.wsm_semantics.specs.Firings.{holds}
@@ -54,9 +55,6 @@ pub selected_falls : (q : Query) (past : List Event) → AreFalling (selected q 
 selected_falls q [] = tt
 selected_falls q (e ∷ past) = falls_one_more (length past) (selection_of q past e) (selected q past) (selected_below q past) (selected_falls q past) (one_or_none q past e)
 
-newer : (m n : ℕ) → m < n → nat_lt m n ≡ true
-newer m n h = grind (arith, nat_tests)
-
 older : (m n : ℕ) → m < n → nat_lt n m ≡ false
 older m n h = grind (arith, nat_tests)
 
@@ -68,7 +66,7 @@ unlike_newer m n h = grind (arith, nat_tests)
 
 put_first : (x : Datum) (ys : List Datum) → Below x.turn ys → with_datum x ys ≡ x ∷ ys
 put_first x [] h = refl
-put_first x (y ∷ ys) h = ap (λ (b : Bool). cond b (x ∷ y ∷ ys) (y ∷ with_datum x ys)) (newer y.turn x.turn h.0)
+put_first x (y ∷ ys) h = ap (λ (b : Bool). cond b (x ∷ y ∷ ys) (y ∷ with_datum x ys)) (lt-ltb y.turn x.turn h.0)
 
 first_of_second : (x : Datum) (xs ys : List Datum) → Below x.turn xs → merged xs (x ∷ ys) ≡ x ∷ merged xs ys
 first_of_second x [] ys h = refl

@@ -1,7 +1,6 @@
 -- The panes of two bags of records that are the same: the same places, each with the same bag.
-use Rattle.std.proofs.Common.{◌≡◌, ℕ, Bool, true, false, ◌&&◌, ◌||◌, cond, List, [], ◌∷◌, ◌++◌, map, ℤ, Some, None, refl, sym, ap, ◌∙◌, arith}
-use Rattle.std.proofs.lemmas.Int.{ints}
-use Rattle.std.specs.Prelude.{filter, flat_map, int_lt, nat_eq, option_map}
+use Rattle.std.proofs.Common.{◌≡◌, ℕ, Bool, true, false, ◌&&◌, ◌||◌, cond, List, ◌++◌, map, ℤ, Some, None, refl, sym, ap, ◌∙◌}
+use Rattle.std.specs.Prelude.{filter, flat_map, nat_eq, option_map}
 use Rattle.std.specs.Ordering.{eq_by_cmp}
 use Rattle.std.specs.FinMap.Entries.{same_entries}
 use Rattle.wsm_windows.specs.declared.window.Shape.{Shape}
@@ -15,6 +14,7 @@ use Rattle.wsm_semantics.proofs.Tables.{among, places_total, places_exact, find-
 use Rattle.wsm_semantics.proofs.Each.{list_any-append}
 use Rattle.wsm_semantics.proofs.SessionPlaces.{places-sessions}
 use Rattle.wsm_semantics.proofs.Bags.{Shuffled, Empty, With, Swapped, Through, AgreeOn, same_filter}
+use Rattle.wsm_semantics.proofs.SessionOrder.{with_time-swap}
 
 -- the places of some selected records
 abbrev pub places_of : Shape → List Datum → List Place
@@ -51,56 +51,10 @@ among_bag f p _ _ (Through ds es fs h k) = among_bag f p ds es h ∙ among_bag f
 
 -- ---- sessions
 
--- two times may be put in in either order
-times_swap : (t u : ℤ) (xs : List ℤ) → with_time t (with_time u xs) ≡ with_time u (with_time t xs)
-times_swap t u [] =
-    elim (int_lt t u) as (λ a. int_lt t u ≡ a → cond a (t ∷ u ∷ []) (u ∷ t ∷ []) ≡ cond (int_lt u t) (u ∷ t ∷ []) (t ∷ u ∷ [])) [
-      | true ↦ λ k. let back : int_lt u t ≡ false = grind (arith, ints) in ap (λ (b : Bool). cond b (u ∷ t ∷ []) (t ∷ u ∷ [])) (sym back)
-      | false ↦ λ k. elim (int_lt u t) as (λ b. int_lt u t ≡ b → u ∷ t ∷ [] ≡ cond b (u ∷ t ∷ []) (t ∷ u ∷ [])) [
-        | true ↦ λ l. refl
-        | false ↦ λ l. let same : t ≡ u = grind (arith, ints) in λ i. sym same i ∷ same i ∷ []
-      ] refl
-    ] refl
-times_swap t u (x ∷ xs) =
-    elim (int_lt u x) as (λ a. int_lt u x ≡ a → with_time t (cond a (u ∷ x ∷ xs) (x ∷ with_time u xs)) ≡ with_time u (cond (int_lt t x) (t ∷ x ∷ xs) (x ∷ with_time t xs))) [
-      | true ↦ λ u_first. elim (int_lt t x) as (λ b. int_lt t x ≡ b → with_time t (u ∷ x ∷ xs) ≡ with_time u (cond b (t ∷ x ∷ xs) (x ∷ with_time t xs))) [
-        | true ↦ λ t_first. both_first u_first t_first
-        | false ↦ λ t_later.
-            let after : int_lt t u ≡ false = grind (arith, ints) in
-            ap (λ (b : Bool). cond b (t ∷ u ∷ x ∷ xs) (u ∷ with_time t (x ∷ xs))) after
-            ∙ ap (λ (b : Bool). u ∷ cond b (t ∷ x ∷ xs) (x ∷ with_time t xs)) t_later
-            ∙ ap (λ (b : Bool). cond b (u ∷ x ∷ with_time t xs) (x ∷ with_time u (with_time t xs))) (sym u_first)
-      ] refl
-      | false ↦ λ u_later. elim (int_lt t x) as (λ b. int_lt t x ≡ b → with_time t (x ∷ with_time u xs) ≡ with_time u (cond b (t ∷ x ∷ xs) (x ∷ with_time t xs))) [
-        | true ↦ λ t_first.
-            let after : int_lt u t ≡ false = grind (arith, ints) in
-            ap (λ (b : Bool). cond b (t ∷ x ∷ with_time u xs) (x ∷ with_time t (with_time u xs))) t_first
-            ∙ ap (λ (b : Bool). t ∷ cond b (u ∷ x ∷ xs) (x ∷ with_time u xs)) (sym u_later)
-            ∙ ap (λ (b : Bool). cond b (u ∷ t ∷ x ∷ xs) (t ∷ with_time u (x ∷ xs))) (sym after)
-        | false ↦ λ t_later.
-            ap (λ (b : Bool). cond b (t ∷ x ∷ with_time u xs) (x ∷ with_time t (with_time u xs))) t_later
-            ∙ ap (λ (ys : List ℤ). x ∷ ys) (times_swap t u xs)
-            ∙ ap (λ (b : Bool). cond b (u ∷ x ∷ with_time t xs) (x ∷ with_time u (with_time t xs))) (sym u_later)
-      ] refl
-    ] refl
-  where
-    both_first : int_lt u x ≡ true → int_lt t x ≡ true → with_time t (u ∷ x ∷ xs) ≡ with_time u (t ∷ x ∷ xs)
-    both_first u_first t_first =
-        elim (int_lt t u) as (λ a. int_lt t u ≡ a → cond a (t ∷ u ∷ x ∷ xs) (u ∷ with_time t (x ∷ xs)) ≡ with_time u (t ∷ x ∷ xs)) [
-          | true ↦ λ k.
-              let back : int_lt u t ≡ false = grind (arith, ints) in
-              ap (λ (b : Bool). t ∷ cond b (u ∷ x ∷ xs) (x ∷ with_time u xs)) (sym u_first)
-              ∙ ap (λ (b : Bool). cond b (u ∷ t ∷ x ∷ xs) (t ∷ with_time u (x ∷ xs))) (sym back)
-          | false ↦ λ k. elim (int_lt u t) as (λ b. int_lt u t ≡ b → u ∷ with_time t (x ∷ xs) ≡ cond b (u ∷ t ∷ x ∷ xs) (t ∷ with_time u (x ∷ xs))) [
-            | true ↦ λ l. ap (λ (b : Bool). u ∷ cond b (t ∷ x ∷ xs) (x ∷ with_time t xs)) t_first
-            | false ↦ λ l. let same : t ≡ u = grind (arith, ints) in λ i. sym same i ∷ with_time (same i) (x ∷ xs)
-          ] refl
-        ] refl
-
 rising_bag : (ds es : List Datum) → Shuffled ds es → rising (map (λ x. x.time) ds) ≡ rising (map (λ x. x.time) es)
 rising_bag _ _ Empty = refl
 rising_bag _ _ (With d e ds es key time values h) = λ i. with_time (time i) (rising_bag ds es h i)
-rising_bag _ _ (Swapped d e ds) = times_swap d.time e.time (rising (map (λ x. x.time) ds))
+rising_bag _ _ (Swapped d e ds) = with_time-swap d.time e.time (rising (map (λ x. x.time) ds))
 rising_bag _ _ (Through ds es fs h k) = rising_bag ds es h ∙ rising_bag es fs k
 
 of_key_agrees : (key : ℕ) → AgreeOn (λ d. nat_eq d.key key) (λ d. nat_eq d.key key)

@@ -3,9 +3,9 @@
 -- records are selected than admitted.
 use Rattle.std.proofs.Common.{◌≡◌, ℕ, ◌+◌, ◌<◌, ◌≤◌, true, false, ◌&&◌, cond, List, [], ◌∷◌, length, ℤ, ◌+ℤ◌, ◌≤ℤ◌, Option, Some, None, refl, sym, arith, length-append}
 use Rattle.std.proofs.lemmas.Int.{ints}
-use Rattle.std.proofs.lemmas.Bool.Decides.{nat_tests}
-use Rattle.std.specs.Prelude.{is_none, int_lt, nat_lt}
+use Rattle.std.specs.Prelude.{is_none, int_lt}
 use Rattle.std.specs.List.{AllByRecursion}
+use Rattle.std.proofs.lemmas.Bool.{ltb-true}
 use Rattle.wsm_record.specs.Event.{Event, Record, Watermark}
 use Rattle.wsm_record.specs.Schema.{fit_fields}
 use Rattle.wsm_windows.specs.Windows.{IsTime}
@@ -24,9 +24,6 @@ pub record IsSelected (q : Query) (w : ℤ) (d : Datum) : Type 0 where
   pub selects : q.selects d.key d.values ≡ true
   pub time : IsTime d.time
   pub near : d.time ≤ℤ (w +ℤ q.clock.skew)
-
-is_below : (k n : ℕ) → nat_lt k n ≡ true → k < n
-is_below k n h = grind (arith, nat_tests)
 
 not_ahead : (w t skew : ℤ) → int_lt (w +ℤ skew) t ≡ false → t ≤ℤ (w +ℤ skew)
 not_ahead w t skew h = grind (arith, ints)
@@ -51,7 +48,7 @@ module _ (q : Query) where
         elim (q.selects k vs) as (λ b. q.selects k vs ≡ b → AllByRecursion (IsSelected q (mark q past)) (cond b (datum (length past) k t vs ∷ []) [])) [
           | true ↦ λ is. (
             record {
-              key = is_below k (length q.declared.keys) taken.has_key;
+              key = ltb-true k (length q.declared.keys) taken.has_key;
               fits = taken.fits;
               selects = is;
               time = a_time t taken.in_time;

@@ -9,6 +9,7 @@ use Rattle.std.specs.List.{AllByRecursion, list_any}
 use Rattle.std.specs.Ordering.{eq_by_cmp, is_lt, int_cmp, nat_cmp, ordering_then}
 use Rattle.std.specs.declared.cmp.Ordering.TheVariants.{Less, Equal, Greater}
 use Rattle.std.specs.FinMap.Entries.{find, is_sorted, below_all}
+use Rattle.std.proofs.Math.Bool.{and-false, or-false}
 use Rattle.wsm_record.specs.Event.{Event}
 use Rattle.wsm_windows.specs.declared.window.Window.{Window}
 use Rattle.wsm_windows.specs.declared.window.Shape.{Shape}
@@ -22,7 +23,7 @@ use Rattle.wsm_semantics.specs.Firings.{firings_by, holds, is_shown, shows}
 use Rattle.wsm_semantics.specs.Kept.{Kept, kept_in, merged, session_with, joined_to, joined_all, with_record}
 use Rattle.wsm_semantics.proofs.Lists.{all-each, filter_same}
 use Rattle.wsm_semantics.proofs.Tables.{tie_is, among}
-use Rattle.wsm_semantics.proofs.Each.{and_false, or_false, all-any, filter-each, filter-filter, none_of}
+use Rattle.wsm_semantics.proofs.Each.{all-any, filter-each, filter-filter, none_of}
 use Rattle.wsm_semantics.proofs.Merging.{selected_falls, merged-filter}
 use Rattle.wsm_semantics.proofs.Sessions.{StartFrom, AreApart}
 use Rattle.wsm_semantics.proofs.SessionTimes.{covered, inside_is, inside_of_joined, none_after}
@@ -100,7 +101,7 @@ module _ (q : Query) (gap : ℤ) (is : q.shape ≡ Session gap) (long : pos 1 �
 
   one_pane : (w : Window) → KeepsOf (kept_in q past (at k w, contents q past (at k w))).1 (w ∷ [])
   one_pane w =
-      let same : (x : Datum) → is_there (at k w) x ≡ is_in_any k (w ∷ []) x = λ x. ap (λ (b : Bool). nat_eq x.key k && b) (sym (or_false (has_inside x.time w))) in
+      let same : (x : Datum) → is_there (at k w) x ≡ is_in_any k (w ∷ []) x = λ x. ap (λ (b : Bool). nat_eq x.key k && b) (sym (or-false (has_inside x.time w))) in
       record {
         all = filter_same _ _ same ds;
         unshown = filter-filter (λ x. not (is_shown q past (at k w) x)) (is_there (at k w)) ds
@@ -122,9 +123,9 @@ module _ (q : Query) (gap : ℤ) (is : q.shape ≡ Session gap) (long : pos 1 �
 
   not_both : (w : Window) (ws : List Window) → StartFrom w.end ws → (x : Datum) → is_in_any k (w ∷ []) x ≡ true → is_in_any k ws x ≡ false
   not_both w ws from x h =
-      let inside : has_inside x.time w ≡ true = sym (or_false (has_inside x.time w)) ∙ (and_parts _ _ h).1 in
+      let inside : has_inside x.time w ≡ true = sym (or-false (has_inside x.time w)) ∙ (and_parts _ _ h).1 in
       ap (λ (b : Bool). nat_eq x.key k && b) (none_after x.time w.end (inside_is x.time w inside).1 ws from)
-      ∙ and_false (nat_eq x.key k)
+      ∙ and-false (nat_eq x.key k)
 
   two_panes : (a b : Kept) (w : Window) (ws : List Window) → StartFrom w.end ws → KeepsOf a (w ∷ []) → KeepsOf b ws → KeepsOf (joined_to a (Some b)) (w ∷ ws)
   two_panes a b w ws from ka kb = record {
@@ -145,8 +146,8 @@ module _ (q : Query) (gap : ℤ) (is : q.shape ≡ Session gap) (long : pos 1 �
   pub all_panes_with : (d : Datum) (ws : List Window) → AreApart gap ws →
       ((with_record d (joined_all (kept_at ws))).all ≡ d ∷ filter (is_in_any k ws) ds) × ((with_record d (joined_all (kept_at ws))).unshown ≡ d ∷ filter (λ x. is_in_any k ws x && new x) ds)
   all_panes_with d [] a = (
-    ap (λ (xs : List Datum). d ∷ xs) (sym (none_of (is_in_any k []) ds (all-any (λ x. is_in_any k [] x ≡ false) (λ x. and_false (nat_eq x.key k)) ds))),
-    ap (λ (xs : List Datum). d ∷ xs) (sym (none_of (λ x. is_in_any k [] x && new x) ds (all-any (λ x. (is_in_any k [] x && new x) ≡ false) (λ x. ap (λ (b : Bool). b && new x) (and_false (nat_eq x.key k))) ds))),
+    ap (λ (xs : List Datum). d ∷ xs) (sym (none_of (is_in_any k []) ds (all-any (λ x. is_in_any k [] x ≡ false) (λ x. and-false (nat_eq x.key k)) ds))),
+    ap (λ (xs : List Datum). d ∷ xs) (sym (none_of (λ x. is_in_any k [] x && new x) ds (all-any (λ x. (is_in_any k [] x && new x) ≡ false) (λ x. ap (λ (b : Bool). b && new x) (and-false (nat_eq x.key k))) ds))),
   )
   all_panes_with d (w ∷ ws) a =
       let h : KeepsOf (joined_to (kept_in q past (at k w, contents q past (at k w))).1 (joined_all (kept_at ws))) (w ∷ ws) = all_panes w ws a in

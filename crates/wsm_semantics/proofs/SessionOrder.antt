@@ -30,7 +30,7 @@ first_two t u xs =
       ] refl
     ] refl
 
-with_time-swap : (t u : ℤ) (xs : List ℤ) → with_time t (with_time u xs) ≡ with_time u (with_time t xs)
+pub with_time-swap : (t u : ℤ) (xs : List ℤ) → with_time t (with_time u xs) ≡ with_time u (with_time t xs)
 with_time-swap t u [] = first_two t u []
 with_time-swap t u (x ∷ xs) =
     elim (int_lt u x) as (λ b. int_lt u x ≡ b → with_time t (cond b (u ∷ x ∷ xs) (x ∷ with_time u xs)) ≡ with_time u (cond (int_lt t x) (t ∷ x ∷ xs) (x ∷ with_time t xs))) [

@@ -2,7 +2,7 @@
 -- its session takes the place of those that it is linked to.
 use Rattle.std.proofs.Common.{◌≡◌, ℕ, Bool, true, false, ◌&&◌, ◌||◌, cond, not, List, [], ◌∷◌, map, ℤ, pos, ◌+ℤ◌, ◌≤ℤ◌, inl, inr, refl, sym, ap, ◌∙◌, arith}
 use Rattle.std.proofs.lemmas.Int.{ints}
-use Rattle.std.proofs.lemmas.Bool.{true≢false}
+use Rattle.std.proofs.lemmas.Bool.{true≢false, eqb-true, or_right}
 use Rattle.std.proofs.lemmas.List.{map-append}
 use Rattle.std.proofs.lemmas.Map.Views.{any-filter_same}
 use Rattle.std.specs.Prelude.{filter, flat_map, nat_eq}
@@ -17,7 +17,7 @@ use Rattle.wsm_semantics.specs.Sessions.{sessions, ends_by, starts_from, links, 
 use Rattle.wsm_semantics.specs.Panes.{place_cmp, at, window_of, of_key, is_there}
 use Rattle.wsm_semantics.specs.Kept.{is_linked}
 use Rattle.wsm_semantics.proofs.Tables.{tie_is, among}
-use Rattle.wsm_semantics.proofs.Each.{list_any-append, and_of, list_any-filter, or_true, itself, same_key}
+use Rattle.wsm_semantics.proofs.Each.{list_any-append, and_of, list_any-filter, itself}
 use Rattle.wsm_semantics.proofs.Sessions.{sessions-more}
 use Rattle.wsm_semantics.proofs.SessionTimes.{IsOneOf, of-all, owned}
 
@@ -74,7 +74,7 @@ module _ (gap : ℤ) (ds : List Datum) where
   among_one p d =
       elim (nat_eq d.key p.key) as (λ b. nat_eq d.key p.key ≡ b → among p (stands d) ≡ ((b && has_inside d.time (window_of p)) && is_session p)) [
         | true ↦ λ e.
-            ap (λ (k : ℕ). among p (map (at k) (filter (has_inside d.time) (sessions_of k)))) (same_key d.key p.key e)
+            ap (λ (k : ℕ). among p (map (at k) (filter (has_inside d.time) (sessions_of k)))) (eqb-true d.key p.key e)
             ∙ among-passing p p.key (has_inside d.time) (sessions_of p.key)
         | false ↦ λ e. other_key p d.key (filter (has_inside d.time) (sessions_of d.key)) e
       ] refl
@@ -107,7 +107,7 @@ module _ (gap : ℤ) (long : pos 1 ≤ℤ gap) (ds : List Datum) (d : Datum) whe
   sorted t w = grind (arith, ints)
 
   placed : (a c l e s : Bool) → (a || c) ≡ not l → ((a && s) || (e || (c && s))) ≡ (e || (not l && s))
-  placed a c l true s h = or_true (a && s) true refl
+  placed a c l true s h = or_right (a && s) true refl
   placed true c l false s h = most c s ∙ ap (λ (b : Bool). b && s) h where
     most : (c s : Bool) → (s || (c && s)) ≡ s
     most true true = refl
@@ -125,7 +125,7 @@ module _ (gap : ℤ) (long : pos 1 ≤ℤ gap) (ds : List Datum) (d : Datum) whe
       elim (nat_eq d.key p.key) as (λ b. nat_eq d.key p.key ≡ b →
       among p (map (at p.key) (sessions gap (map (λ x. x.time) (cond b (d ∷ old) old)))) ≡ (eq_by_cmp place_cmp p joined_place || (not (b && links gap t (window_of p)) && is_session gap ds p))) [
         | true ↦ λ e.
-            let same : d.key ≡ p.key = same_key d.key p.key e in
+            let same : d.key ≡ p.key = eqb-true d.key p.key e in
             let v : Window = session_of gap t (filter (links gap t) ws) in
             ap (λ (vs : List Window). among p (map (at p.key) vs)) (sessions-more gap long t (times_of gap ds p.key))
             ∙ ap (among p) (map-append (at p.key) (filter (ends_by t) ws) (v ∷ filter (starts_from (t +ℤ gap)) ws))

@@ -2,7 +2,7 @@
 -- that it is linked to, with their records and it, and every other pane stays as it was.
 use Rattle.std.proofs.Common.{◌≡◌, ℕ, ◌≤◌, Bool, true, false, ◌&&◌, ◌||◌, cond, not, List, [], ◌∷◌, ◌++◌, map, length, ℤ, pos, ◌+ℤ◌, ◌≤ℤ◌, Option, Some, None, refl, sym, ap, ◌∙◌, arith}
 use Rattle.std.proofs.lemmas.Int.{ints}
-use Rattle.std.proofs.lemmas.Bool.{and_parts}
+use Rattle.std.proofs.lemmas.Bool.{and_parts, eqb-true}
 use Rattle.std.specs.Prelude.{filter, flat_map, int_le, int_lt, nat_eq, option_map}
 use Rattle.std.specs.Ordering.{eq_by_cmp}
 use Rattle.std.specs.FinMap.Entries.{find, where_key, find-put, find-where_key, is_sorted-put, is_sorted-where_key, same_entries}
@@ -18,7 +18,7 @@ use Rattle.wsm_semantics.specs.Panes.{place_cmp, at, window_of, windows_among, p
 use Rattle.wsm_semantics.specs.Firings.{is_shown}
 use Rattle.wsm_semantics.specs.Kept.{Kept, kept, kept_in, is_linked, session_with, joined_all, with_record, merged_session}
 use Rattle.wsm_semantics.proofs.Tables.{tie_is, among, places_total, places_exact, find-keyed, is_sorted-keyed, kept_of, find-kept, is_sorted-kept, find-held, is_sorted-held}
-use Rattle.wsm_semantics.proofs.Each.{filter-map, filter-filter, itself, same_key}
+use Rattle.wsm_semantics.proofs.Each.{filter-map, filter-filter, itself}
 use Rattle.wsm_semantics.proofs.Sessions.{holds_time, sessions_apart}
 use Rattle.wsm_semantics.proofs.SessionTimes.{apart-filter}
 use Rattle.wsm_semantics.proofs.SessionPlaces.{other_key, among-passing, times_of, sessions_of, is_session, places-sessions, joined_place, session_after, inside_links}
@@ -86,7 +86,7 @@ module _ (q : Query) (gap : ℤ) (is : q.shape ≡ Session gap) (long : pos 1 �
     among_linked p =
         elim (nat_eq d.key p.key) as (λ b. nat_eq d.key p.key ≡ b → among p (map (at d.key) ws) ≡ ((b && links gap d.time (window_of p)) && is_session gap ds p)) [
           | true ↦ λ e.
-              ap (λ (k : ℕ). among p (map (at k) (filter (links gap d.time) (sessions_of gap ds k)))) (same_key d.key p.key e)
+              ap (λ (k : ℕ). among p (map (at k) (filter (links gap d.time) (sessions_of gap ds k)))) (eqb-true d.key p.key e)
               ∙ among-passing p p.key (links gap d.time) (sessions_of gap ds p.key)
           | false ↦ λ e. other_key p d.key ws e
         ] refl

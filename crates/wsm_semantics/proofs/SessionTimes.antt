@@ -1,18 +1,19 @@
 -- Times and the sessions of one key: each time lies in exactly one session, each session has a time,
 -- a time is linked to two sessions at most, and to none that ended by it.
-use Rattle.std.proofs.Common.{◌≡◌, ◌≤◌, Bool, true, false, ◌&&◌, ◌||◌, cond, List, [], ◌∷◌, ◌++◌, length, ℤ, pos, ◌+ℤ◌, ◌≤ℤ◌, ◌<ℤ◌, ◌⊎◌, inl, inr, refl, sym, ap, subst, ◌∙◌, arith}
+use Rattle.std.proofs.Common.{◌≡◌, ◌≤◌, Bool, true, false, ◌||◌, cond, List, [], ◌∷◌, ◌++◌, length, ℤ, pos, ◌+ℤ◌, ◌≤ℤ◌, ◌<ℤ◌, ◌⊎◌, inl, inr, refl, sym, ap, subst, ◌∙◌, arith}
 use Rattle.std.proofs.lemmas.Int.{ints, clamps}
-use Rattle.std.proofs.lemmas.Bool.{true≢false}
+use Rattle.std.proofs.lemmas.Bool.{true≢false, or_right}
 use Rattle.std.proofs.lemmas.List.Folds.{list_any-append}
-use Rattle.std.specs.Prelude.{filter, int_lt}
+use Rattle.std.specs.Prelude.{filter}
 use Rattle.std.specs.Int.{int_max, int_min}
 use Rattle.std.specs.List.{AllByRecursion, list_any}
 use Rattle.wsm_windows.specs.declared.window.Window.{Window}
 use Rattle.wsm_windows.specs.Windows.{window, has_inside}
 use Rattle.wsm_semantics.specs.Sessions.{sessions, ends_by, starts_from, links, session_of, with_session}
 use Rattle.wsm_semantics.proofs.Lists.{IsNonEmpty, some_pass, filter-all, all-each}
-use Rattle.wsm_semantics.proofs.Each.{passed, and_false, all-append, or_true, same_answers}
+use Rattle.wsm_semantics.proofs.Each.{passed, all-append, same_answers}
 use Rattle.wsm_semantics.proofs.Sessions.{StartFrom, AreApart, holds_time, sessions-more, sessions_apart}
+use Rattle.wsm_windows.proofs.Members.{is_inside}
 
 all-middle : {A : Type 0} (P : A → Type 0) (xs ys : List A) (y : A) → AllByRecursion P (xs ++ y ∷ ys) → P y
 all-middle P [] ys y h = h.0
@@ -31,13 +32,10 @@ of-all P a (w ∷ ws) h (inr m) = of-all P a ws h.1 m
 pub inside_is : (u : ℤ) (w : Window) → has_inside u w ≡ true → (w.start ≤ℤ u) × (u <ℤ w.end)
 inside_is u w h = (grind (arith, ints), grind (arith, ints))
 
-pub is_inside : (u : ℤ) (w : Window) → w.start ≤ℤ u → u <ℤ w.end → has_inside u w ≡ true
-is_inside u w h k = grind (arith, ints)
-
 not_inside_before : (u : ℤ) (w : Window) → w.end ≤ℤ u → has_inside u w ≡ false
 not_inside_before u w h = grind (arith, ints)
 
-not_inside_after : (u : ℤ) (w : Window) → u <ℤ w.start → has_inside u w ≡ false
+pub not_inside_after : (u : ℤ) (w : Window) → u <ℤ w.start → has_inside u w ≡ false
 not_inside_after u w h = grind (arith, ints)
 
 wider : (u : ℤ) (w v : Window) → has_inside u v ≡ true → has_inside u (window (int_min w.start v.start) (int_max w.end v.end)) ≡ true
@@ -95,8 +93,8 @@ module _ (gap : ℤ) where
     where
       pick : (x y z a b c : Bool) → (a ≡ true → x ≡ true) → (b ≡ true → y ≡ true) → (c ≡ true → z ≡ true) → (a ≡ true) ⊎ ((b ≡ true) ⊎ (c ≡ true)) → (x || (y || z)) ≡ true
       pick x y z a b c f g h (inl k) = ap (λ (d : Bool). d || (y || z)) (f k)
-      pick x y z a b c f g h (inr (inl k)) = or_true x (y || z) (ap (λ (d : Bool). d || z) (g k))
-      pick x y z a b c f g h (inr (inr k)) = or_true x (y || z) (or_true y z (h k))
+      pick x y z a b c f g h (inr (inl k)) = or_right x (y || z) (ap (λ (d : Bool). d || z) (g k))
+      pick x y z a b c f g h (inr (inr k)) = or_right x (y || z) (or_right y z (h k))
 
   -- what is inside a linked session is inside the joined one
   inside_joined : (u t : ℤ) (ws : List Window) → list_any (has_inside u) ws ≡ true → has_inside u (session_of gap t ws) ≡ true
@@ -118,8 +116,8 @@ module _ (gap : ℤ) where
     where
       pick : (a b c d : Bool) → (b ≡ true → d ≡ true) → (a ≡ true) ⊎ ((b ≡ true) ⊎ (c ≡ true)) → (a || (d || c)) ≡ true
       pick a b c d f (inl k) = ap (λ (x : Bool). x || (d || c)) k
-      pick a b c d f (inr (inl k)) = or_true a (d || c) (ap (λ (x : Bool). x || c) (f k))
-      pick a b c d f (inr (inr k)) = or_true a (d || c) (or_true d c k)
+      pick a b c d f (inr (inl k)) = or_right a (d || c) (ap (λ (x : Bool). x || c) (f k))
+      pick a b c d f (inr (inr k)) = or_right a (d || c) (or_right d c k)
 
   before_middle : (ps qs : List Window) (v : Window) → AreApart gap (ps ++ v ∷ qs) → AllByRecursion (λ w. w.end ≤ℤ v.start) ps × StartFrom v.end qs
   before_middle [] qs v a = (tt, a.1)
@@ -131,10 +129,6 @@ module _ (gap : ℤ) where
     | true ↦ (a.0, filter-all (λ v. w.end ≤ℤ v.start) p ws a.1, apart-filter p ws a.2)
     | false ↦ apart-filter p ws a.2
   ]
-
-  -- a session that ended by a limit is linked to no later time
-  pub dropped_not_linked : (limit t : ℤ) (w : Window) → limit ≤ℤ t → w.end ≤ℤ limit → links gap t w ≡ false
-  dropped_not_linked limit t w h k = let e : int_lt t w.end ≡ false = grind (arith, ints) in ap (λ (b : Bool). int_lt w.start (t +ℤ gap) && b) e ∙ and_false (int_lt w.start (t +ℤ gap))
 
   module _ (long : pos 1 ≤ℤ gap) where
     holds_itself : (t : ℤ) (ws : List Window) → has_inside t (session_of gap t ws) ≡ true
@@ -151,7 +145,7 @@ module _ (gap : ℤ) where
         let ws : List Window = sessions gap ts in
         subst (λ (vs : List Window). AllByRecursion (λ u. list_any (has_inside u) vs ≡ true) (t ∷ ts)) (sym (sessions-more gap long t ts)) (
           list_any-append (has_inside t) (filter (ends_by t) ws) _
-              ∙ or_true (list_any (has_inside t) (filter (ends_by t) ws)) _ (ap (λ (b : Bool). b || list_any (has_inside t) (filter (starts_from (t +ℤ gap)) ws)) (holds_itself t (filter (links gap t) ws))),
+              ∙ or_right (list_any (has_inside t) (filter (ends_by t) ws)) _ (ap (λ (b : Bool). b || list_any (has_inside t) (filter (starts_from (t +ℤ gap)) ws)) (holds_itself t (filter (links gap t) ws))),
           all-each (λ u. list_any (has_inside u) ws ≡ true) (λ u. list_any (has_inside u) (with_session gap t ws) ≡ true) ts (λ u h. stays_covered t u ws h) (covered ts),
         )
 
@@ -180,7 +174,7 @@ module _ (gap : ℤ) where
     owned (t ∷ ts) =
         let ws : List Window = sessions gap ts in
         let Has : Window → Type 0 = λ w. list_any (λ u. has_inside u w) (t ∷ ts) ≡ true in
-        let old : AllByRecursion Has ws = all-each (λ w. list_any (λ u. has_inside u w) ts ≡ true) Has ws (λ w h. or_true (has_inside t w) _ h) (owned ts) in
+        let old : AllByRecursion Has ws = all-each (λ w. list_any (λ u. has_inside u w) ts ≡ true) Has ws (λ w h. or_right (has_inside t w) _ h) (owned ts) in
         subst (AllByRecursion Has) (sym (sessions-more gap long t ts))
         (all-append Has (filter (ends_by t) ws) _ (filter-all Has (ends_by t) ws old)
         (ap (λ (b : Bool). b || list_any (λ u. has_inside u (session_of gap t (filter (links gap t) ws))) ts) (holds_itself t (filter (links gap t) ws)), filter-all Has (starts_from (t +ℤ gap)) ws old))
@@ -241,7 +235,3 @@ module _ (gap : ℤ) where
       where
         clash : (t gap : ℤ) (w v x : Window) → t <ℤ w.end → x.start <ℤ (t +ℤ gap) → w.end ≤ℤ v.start → (v.start +ℤ gap) ≤ℤ v.end → v.end ≤ℤ x.start → ⊥
         clash t gap w v x a b c d e = omega (arith, ints)
-
-    -- a time is linked to two sessions at most
-    pub two_linked : (t : ℤ) (ts : List ℤ) → length (filter (links gap t) (sessions gap ts)) ≤ 2
-    two_linked t ts = two_at_most t _ (apart-filter (links gap t) (sessions gap ts) (sessions_apart gap long ts)) (linked_all t (sessions gap ts))

@@ -2,7 +2,7 @@
 -- is linked to.
 use Rattle.std.proofs.Common.{◌≡◌, ℕ, ◌≤◌, Bool, true, false, ◌&&◌, ◌||◌, cond, not, List, [], ◌∷◌, ◌++◌, map, length, ℤ, pos, ◌+ℤ◌, ◌≤ℤ◌, inl, inr, Option, Some, None, is_none, refl, sym, ap, subst, ◌∙◌, arith}
 use Rattle.std.proofs.lemmas.Int.{ints}
-use Rattle.std.proofs.lemmas.Bool.{true≢false, and_parts, and_from, or_left}
+use Rattle.std.proofs.lemmas.Bool.{true≢false, and_parts, and_from, or_left, or_right}
 use Rattle.std.specs.Prelude.{flat_map, nat_eq}
 use Rattle.std.specs.List.{AllByRecursion, list_any}
 use Rattle.std.specs.Ordering.{eq_by_cmp}
@@ -22,7 +22,7 @@ use Rattle.wsm_semantics.specs.Replay.{datum}
 use Rattle.wsm_semantics.proofs.Lists.{IsNonEmpty, all-each, some_pass}
 use Rattle.wsm_semantics.proofs.Tables.{among, kept_of}
 use Rattle.wsm_semantics.proofs.Assigned.{tied}
-use Rattle.wsm_semantics.proofs.Each.{map-all, map-map, or_true}
+use Rattle.wsm_semantics.proofs.Each.{map-all, map-map}
 use Rattle.wsm_semantics.proofs.Within.{wider}
 use Rattle.wsm_semantics.proofs.Sessions.{AreApart, sessions_apart}
 use Rattle.wsm_semantics.proofs.SessionTimes.{IsOneOf, apart-filter, inside_of_joined, one_inside}
@@ -38,7 +38,7 @@ use Rattle.wsm_semantics.proofs.EventTurns.{EntersPanes}
 of_one : (t : Window → Bool) (a : Window) (vs : List Window) → IsOneOf a vs → t a ≡ true → list_any t vs ≡ true
 of_one t a [] one h = absurd one
 of_one t a (v ∷ vs) (inl same) h = or_left _ _ (ap t (sym same) ∙ h)
-of_one t a (v ∷ vs) (inr later) h = or_true _ _ (of_one t a vs later h)
+of_one t a (v ∷ vs) (inr later) h = or_right _ _ (of_one t a vs later h)
 
 -- sessions that lie apart are at places of their own
 distinct_at : (gap : ℤ) → pos 1 ≤ℤ gap → (k : ℕ) (vs : List Window) → AreApart gap vs → AreDistinct (map (at k) vs)
@@ -103,7 +103,7 @@ module _ (q : Query) (gap : ℤ) (is : q.shape ≡ Session gap) (long : pos 1 �
     placed_here = placed_more here ∙ or_left _ _ (tied here here refl)
 
     placed_still : (r : Place) → among r (places q past) ≡ true → is_linked gap d r ≡ false → among r (places q (e ∷ past)) ≡ true
-    placed_still r placed other = placed_more r ∙ or_true _ _ (and_from _ _ (ap not other) placed)
+    placed_still r placed other = placed_more r ∙ or_right _ _ (and_from _ _ (ap not other) placed)
 
     among_joined : (r : Place) → among r joined ≡ (is_linked gap d r && among r (places q past))
     among_joined r = among_linked q gap is long past d (comes_in_time q past k t vs taken) r ∙ (λ i. is_linked gap d r && sym (among_places q gap is long past r) i)

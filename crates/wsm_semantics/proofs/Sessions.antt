@@ -4,11 +4,12 @@ use Rattle.std.proofs.lemmas.Int.{ints, clamps}
 use Rattle.std.specs.Prelude.{filter, int_le, int_lt}
 use Rattle.std.specs.Int.{int_max, int_min}
 use Rattle.std.specs.List.{AllByRecursion}
+use Rattle.std.proofs.Math.Bool.{and-false}
 use Rattle.wsm_windows.specs.declared.window.Window.{Window}
 use Rattle.wsm_windows.specs.Windows.{window}
 use Rattle.wsm_semantics.specs.Sessions.{with_time, rising, with_earlier, sessions_of_rising, sessions, ends_by, starts_from, links, session_of, with_session}
 use Rattle.wsm_semantics.proofs.Lists.{filter-all, all-each}
-use Rattle.wsm_semantics.proofs.Each.{all-append, and_false}
+use Rattle.wsm_semantics.proofs.Each.{all-append}
 
 -- none starts before x
 abbrev pub StartFrom : ℤ → List Window → Type 0
@@ -114,7 +115,7 @@ module _ (gap : ℤ) (long : pos 1 ≤ℤ gap) where
         let a : int_le w.end t ≡ true = grind (arith, ints) in
         let b : int_lt t w.end ≡ false = grind (arith, ints) in
         let c : int_le (t +ℤ gap) w.start ≡ false = grind (arith, ints) in
-        let d : (int_lt w.start (t +ℤ gap) && int_lt t w.end) ≡ false = ap (λ (x : Bool). int_lt w.start (t +ℤ gap) && x) b ∙ and_false (int_lt w.start (t +ℤ gap)) in
+        let d : (int_lt w.start (t +ℤ gap) && int_lt t w.end) ≡ false = ap (λ (x : Bool). int_lt w.start (t +ℤ gap) && x) b ∙ and-false (int_lt w.start (t +ℤ gap)) in
         λ i. cond (a i) (w ∷ filter (ends_by t) ws) (filter (ends_by t) ws) ++ session_of gap t (cond (d i) (w ∷ filter (links gap t) ws) (filter (links gap t) ws)) ∷ cond (c i) (w ∷ filter (starts_from (t +ℤ gap)) ws) (filter (starts_from (t +ℤ gap)) ws)
 
     -- a session that it is linked to comes first

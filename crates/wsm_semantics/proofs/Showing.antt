@@ -6,6 +6,8 @@ use Rattle.std.specs.Prelude.{filter, filter_map, nat_eq}
 use Rattle.std.specs.List.{AllByRecursion, cons_option, list_any}
 use Rattle.std.specs.Ordering.{eq_by_cmp}
 use Rattle.std.specs.FinMap.Entries.{is_some-find}
+use Rattle.std.proofs.Math.Bool.{and-false, or-false, and-true}
+use Rattle.std.proofs.lemmas.Bool.{or_right}
 use Rattle.wsm_record.proofs.Lists.{list_any-map}
 use Rattle.wsm_record.specs.Event.{Event, Record, Watermark}
 use Rattle.wsm_windows.specs.declared.window.PaneKind.{PaneKind}
@@ -14,9 +16,9 @@ use Rattle.wsm_semantics.specs.Query.{Query, Datum, mark, is_taken, selected}
 use Rattle.wsm_semantics.specs.Panes.{place_cmp, is_there, places, contents, panes, with_contents}
 use Rattle.wsm_semantics.specs.Firings.{Firing, firings, fire, firing_of, firing_set, holds, is_shown, kind_on_record, kind_on_watermark, shows}
 use Rattle.wsm_semantics.proofs.Lists.{filter-all, all-each, filter_same, put-all}
-use Rattle.wsm_semantics.proofs.Tables.{among, is_equal, places_exact, find-with_contents}
+use Rattle.wsm_semantics.proofs.Tables.{among, tie_is, places_exact, find-with_contents}
 use Rattle.wsm_semantics.proofs.Assigned.{tied}
-use Rattle.wsm_semantics.proofs.Each.{and_false, or_false, or_true, all-any, filter-each, filter_map-each, none_of, list_any-each, list_any-and, list_any-none}
+use Rattle.wsm_semantics.proofs.Each.{all-any, filter-each, filter_map-each, none_of, list_any-each, list_any-and, list_any-none}
 use Rattle.wsm_semantics.proofs.Merging.{Below, selected_below}
 
 -- ---- each pane has its records
@@ -25,7 +27,7 @@ pub each_among : (all ps : List Place) → ((p : Place) → among p ps ≡ true 
 each_among all [] within = tt
 each_among all (p ∷ ps) within = (
   within p (ap (λ (b : Bool). b || among p ps) (tied p p refl)),
-  each_among all ps (λ r h. within r (or_true (eq_by_cmp place_cmp r p) (among r ps) h)),
+  each_among all ps (λ r h. within r (or_right (eq_by_cmp place_cmp r p) (among r ps) h)),
 )
 
 -- a place with its records
@@ -114,8 +116,8 @@ not_shown_yet q (e ∷ past) p d h =
     (all-each (IsPane q (e ∷ past)) (λ x. (is_some (kind_of q past e x.0 x.1) && (shows q.shape p x.0 && holds d x.1)) ≡ false) (panes q (e ∷ past))
     (λ x is. ap (λ (ds : List Datum). is_some (kind_of q past e x.0 x.1) && (shows q.shape p x.0 && holds d ds)) is.0
     ∙ ap (λ (b : Bool). is_some (kind_of q past e x.0 x.1) && (shows q.shape p x.0 && b)) (none_holds (suc (length past)) d h (contents q (e ∷ past) x.0) (contents_below q (e ∷ past) x.0))
-    ∙ ap (λ (b : Bool). is_some (kind_of q past e x.0 x.1) && b) (and_false (shows q.shape p x.0))
-    ∙ and_false (is_some (kind_of q past e x.0 x.1)))
+    ∙ ap (λ (b : Bool). is_some (kind_of q past e x.0 x.1) && b) (and-false (shows q.shape p x.0))
+    ∙ and-false (is_some (kind_of q past e x.0 x.1)))
     (each_pane q (e ∷ past))) in
     λ i. not_shown_yet q past p d (omega arith) i || now i
 
@@ -145,20 +147,16 @@ module _ (q : Query) (past : List Event) (e : Event) (own : ShowsOwn q (e ∷ pa
         (all-each (IsPane q (e ∷ past)) (λ x. (is_some (kind_of q past e x.0 x.1) && (shows q.shape p x.0 && holds d x.1)) ≡ (is_some kind && eq_by_cmp place_cmp p x.0)) (panes q (e ∷ past)) (λ x is. one x is) (each_pane q (e ∷ past)))
         ∙ list_any-and (λ x. eq_by_cmp place_cmp p x.0) (is_some kind) (panes q (e ∷ past))
         ∙ ap (λ (b : Bool). is_some kind && b) (found q (e ∷ past) p there)
-        ∙ with_true (is_some kind)
+        ∙ and-true (is_some kind)
         )
       where
-        with_true : (b : Bool) → (b && true) ≡ b
-        with_true true = refl
-        with_true false = refl
-
         one : (x : Place × List Datum) → IsPane q (e ∷ past) x → (is_some (kind_of q past e x.0 x.1) && (shows q.shape p x.0 && holds d x.1)) ≡ (is_some kind && eq_by_cmp place_cmp p x.0)
         one x is =
             ap (λ (ds : List Datum). is_some (kind_of q past e x.0 x.1) && (shows q.shape p x.0 && holds d ds)) is.0
             ∙ ap (λ (b : Bool). is_some (kind_of q past e x.0 x.1) && b) (hit x.0 is.1)
             ∙ elim (eq_by_cmp place_cmp p x.0) as (λ b. eq_by_cmp place_cmp p x.0 ≡ b → (is_some (kind_of q past e x.0 x.1) && b) ≡ (is_some kind && b)) [
-              | true ↦ λ t. ap (λ (ds : List Datum). is_some (kind_of q past e x.0 ds) && true) is.0 ∙ ap (λ (r : Place). is_some (kind_of q past e r (contents q (e ∷ past) r)) && true) (sym (places_exact p x.0 (is_equal _ t)))
-              | false ↦ λ t. and_false (is_some (kind_of q past e x.0 x.1)) ∙ sym (and_false (is_some kind))
+              | true ↦ λ t. ap (λ (ds : List Datum). is_some (kind_of q past e x.0 ds) && true) is.0 ∙ ap (λ (r : Place). is_some (kind_of q past e r (contents q (e ∷ past) r)) && true) (sym (tie_is p x.0 t))
+              | false ↦ λ t. and-false (is_some (kind_of q past e x.0 x.1)) ∙ sym (and-false (is_some kind))
             ] refl
 
     -- a pane that fires has shown all, and another what it had
@@ -167,6 +165,6 @@ module _ (q : Query) (past : List Event) (e : Event) (own : ShowsOwn q (e ∷ pa
         filter-each (λ d. not (is_shown q (e ∷ past) p d)) (λ d. not (is_shown q past p d || is_some kind)) (contents q (e ∷ past) p)
         (all-each _ (λ d. not (is_shown q (e ∷ past) p d) ≡ not (is_shown q past p d || is_some kind)) (contents q (e ∷ past) p) (λ d hit. ap not (shows_where d hit)) (own p there))
         ∙ elim kind as (λ o. filter (λ d. not (is_shown q past p d || is_some o)) (contents q (e ∷ past) p) ≡ unshown_by o (unshown_of q past p (contents q (e ∷ past) p))) [
-          | None ↦ filter_same _ _ (λ d. ap not (or_false (is_shown q past p d))) (contents q (e ∷ past) p)
-          | Some k ↦ none_of _ (contents q (e ∷ past) p) (all-any (λ d. not (is_shown q past p d || true) ≡ false) (λ d. ap not (or_true (is_shown q past p d) true refl)) (contents q (e ∷ past) p))
+          | None ↦ filter_same _ _ (λ d. ap not (or-false (is_shown q past p d))) (contents q (e ∷ past) p)
+          | Some k ↦ none_of _ (contents q (e ∷ past) p) (all-any (λ d. not (is_shown q past p d || true) ≡ false) (λ d. ap not (or_right (is_shown q past p d) true refl)) (contents q (e ∷ past) p))
         ]

@@ -1,12 +1,13 @@
 -- What stands for a pane after an event: what it fires over, where it fires; else what stood for the
 -- panes that it took in, joined.
 use Rattle.std.proofs.Common.{◌≡◌, Bool, true, false, ◌&&◌, cond, not, List, [], ◌∷◌, ◌++◌, map, length, ℤ, Option, Some, None, refl, sym, ap, subst, ◌∙◌, append-nil, arith}
-use Rattle.std.proofs.lemmas.Bool.{true≢false, and_parts, and_from, or_left, false_from_ne_true}
+use Rattle.std.proofs.lemmas.Bool.{true≢false, and_parts, and_from, or_left, false_from_ne_true, or_right, not-true}
 use Rattle.std.proofs.lemmas.Bool.Decides.{nat_tests}
 use Rattle.std.specs.Prelude.{ℕ, zero, suc, nat_eq, nat_le, filter, filter_map, int_lt, int_le, ◌+ℤ◌}
 use Rattle.std.specs.List.{AllByRecursion, list_any, cons_option}
 use Rattle.std.specs.Ordering.{eq_by_cmp}
 use Rattle.std.specs.FinMap.Entries.{find}
+use Rattle.std.proofs.lemmas.Option.{same_Some}
 use Rattle.wsm_record.specs.declared.words.Mode.{Mode}
 use Rattle.wsm_record.specs.declared.words.Mode.TheVariants.{Discarding, Accumulating}
 use Rattle.wsm_record.specs.Event.{Event, Record, Watermark}
@@ -21,18 +22,18 @@ use Rattle.wsm_semantics.specs.Relation.{is_within}
 use Rattle.wsm_semantics.specs.Kept.{Firing as Stood, stands_in, fired_kept}
 use Rattle.wsm_semantics.proofs.Lists.{IsNonEmpty, all-each}
 use Rattle.wsm_semantics.proofs.Tables.{tie_is, among, find-with_contents, kept_of}
-use Rattle.wsm_semantics.proofs.Each.{itself, same_answers, none_of, all-append, all-after, all-both, all-passed, each_fails, filter-append, filter-each, filter_map-all, list_any-append, list_any-filter, list_any-more, or_true, some_of}
+use Rattle.wsm_semantics.proofs.Each.{itself, same_answers, none_of, all-append, all-after, all-both, all-passed, each_fails, filter-append, filter-each, filter_map-all, list_any-append, list_any-filter, list_any-more, some_of}
 use Rattle.wsm_semantics.proofs.Merging.{holds-filter, selected_falls}
 use Rattle.wsm_semantics.proofs.Within.{Within, IsPart, within, is_within_by, itself_within, same_part, part_stays, one_held}
 use Rattle.wsm_semantics.proofs.Showing.{does, firings_are, kind_of, unshown_of}
 use Rattle.wsm_semantics.proofs.StandingFirings.{stands_of, stands-fired, AreApart, EachApart, stands-parts, joined_stands}
-use Rattle.wsm_semantics.proofs.FiringsSoFar.{PlacesLaw, IsOf, IsFiring, IsFilled, fires_as, not_some, same_some, shows_itself, shows_back, shows_on, shown_so_far, one_home, contents_part, each_filled, each_firing}
+use Rattle.wsm_semantics.proofs.FiringsSoFar.{PlacesLaw, IsOf, IsFiring, IsFilled, fires_as, not_some, shows_itself, shows_back, shows_on, shown_so_far, one_home, contents_part, each_filled, each_firing}
 
 -- what an entry that is found gives is among what all give
 module _ {A B : Type 0} (g : Place × A → Option B) (t : B → Bool) (p : Place) (v : A) (y : B) (gives : g (p, v) ≡ Some y) (passes : t y ≡ true) where
   skip_one : (o : Option B) (ys : List B) → list_any t ys ≡ true → list_any t (cons_option o ys) ≡ true
   skip_one None ys h = h
-  skip_one (Some z) ys h = or_true (t z) (list_any t ys) h
+  skip_one (Some z) ys h = or_right (t z) (list_any t ys) h
 
   found_gives : (es : List (Place × A)) → find place_cmp p es ≡ Some v → list_any t (filter_map g es) ≡ true
   found_gives [] h = absurd (not_some v (sym h))
@@ -40,7 +41,7 @@ module _ {A B : Type 0} (g : Place × A → Option B) (t : B → Bool) (p : Plac
       elim (eq_by_cmp place_cmp p e.0) as (λ b. eq_by_cmp place_cmp p e.0 ≡ b → cond b (Some e.1) (find place_cmp p es) ≡ Some v → list_any t (filter_map g (e ∷ es)) ≡ true) [
         | true ↦ λ same is.
             let key : e.0 ≡ p = sym (tie_is p e.0 same) in
-            let value : e.1 ≡ v = same_some e.1 v is in
+            let value : e.1 ≡ v = same_Some e.1 v is in
             let gives_e : g e ≡ Some y = (λ i. g (key i, value i)) ∙ gives in
             ap (λ (o : Option B). list_any t (cons_option o (filter_map g es))) gives_e ∙ or_left _ _ passes
         | false ↦ λ other is. skip_one (g e) (filter_map g es) (found_gives es is)
@@ -90,12 +91,8 @@ one_passes t [] (d, rest, is) = absurd (cc)
 one_passes t (x ∷ xs) h =
     elim (t x) as (λ b. t x ≡ b → IsNonEmpty (cond b (x ∷ filter t xs) (filter t xs)) → (d : Datum) × (t d ≡ true) × (holds d (x ∷ xs) ≡ true)) [
       | true ↦ λ e h. (x, e, or_left _ _ (itself x.turn))
-      | false ↦ λ e h. let (d, ok, held) = one_passes t xs h in (d, ok, or_true _ _ held)
+      | false ↦ λ e h. let (d, ok, held) = one_passes t xs h in (d, ok, or_right _ _ held)
     ] refl h
-
-not_so : (b : Bool) → not b ≡ true → b ≡ false
-not_so true h = sym h
-not_so false h = refl
 
 -- ---- on the turn of an event
 
@@ -169,7 +166,7 @@ module _ (q : Query) (law : PlacesLaw q) (past : List Event) (e : Event) (p : Pl
       let (d, hidden, held) = one_passes (λ d. not (is_shown q past p d)) all (u, us, some) in
       all-each (λ g. (shows q.shape p g.place && holds d g.contents) ≡ false) IsAlike (firings_so_far q past)
       (λ g misses may most. absurd (true≢false (sym (and_from _ _ (and_parts _ _ may).0 (within all g.contents most d held)) ∙ misses)))
-      (each_fails (λ g. shows q.shape p g.place && holds d g.contents) (firings_so_far q past) (sym (shown_so_far q past p d) ∙ not_so _ hidden))
+      (each_fails (λ g. shows q.shape p g.place && holds d g.contents) (firings_so_far q past) (sym (shown_so_far q past p d) ∙ not-true _ hidden))
 
   -- where it fires, what it fires over stands for it
   stands-firing : (k : PaneKind) → kind ≡ Some k → stands_in q (e ∷ past) p all ≡ Stood set
@@ -186,7 +183,7 @@ module _ (q : Query) (law : PlacesLaw q) (past : List Event) (e : Event) (p : Pl
       (all-each (λ g. may_stand g ≡ true → does q past e (p, all) ≡ Some g) IsAlike now (λ g own may most. (fires_as q past e p all g (own may)).fired) own_firings)))
       (list_any-filter (λ g. is_within all g.contents) may_stand (before ++ now)
       ∙ list_any-append (λ g. may_stand g && is_within all g.contents) before now
-      ∙ or_true _ _
+      ∙ or_right _ _
       (ap (list_any (λ g. may_stand g && is_within all g.contents)) (firings_are q past e)
       ∙ found_gives (does q past e) (λ g. may_stand g && is_within all g.contents) p all f fires (its_own f (fires_as q past e p all f fires)) (panes q (e ∷ past))
       (find-with_contents (contents q (e ∷ past)) p (places q (e ∷ past)) ∙ ap (λ (b : Bool). cond b (Some all) None) placed)))

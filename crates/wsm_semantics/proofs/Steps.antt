@@ -14,12 +14,11 @@ use Rattle.wsm_admission.proofs.Keeping.{Fits-after, clock-after}
 use Rattle.wsm_semantics.specs.declared.place.Place.{Place}
 use Rattle.wsm_semantics.specs.declared.out_row.OutRow.{OutRow}
 use Rattle.wsm_semantics.specs.Query.{Query, mark, verdict_on, is_taken}
-use Rattle.wsm_semantics.specs.Panes.{held}
 use Rattle.wsm_semantics.specs.Firings as firings
 use Rattle.wsm_semantics.specs.Firings.{Firing, firings_so_far}
 use Rattle.wsm_semantics.specs.Relation.{relation, relation_at, rows_of, turn_rows}
-use Rattle.wsm_semantics.specs.Kept.{Kept, kept, kept_in, kept_at_watermark}
-use Rattle.wsm_semantics.specs.Summaries.{Plan, IsLawful, Runs, Pane, after_record, fired_by_record, at_watermark, after_watermark, fired_by_watermark, relation_of, row_of, summaries, summary_fired, pane_of}
+use Rattle.wsm_semantics.specs.Kept.{kept, kept_at_watermark}
+use Rattle.wsm_semantics.specs.Summaries.{Plan, IsLawful, Runs, Pane, after_record, fired_by_record, at_watermark, after_watermark, fired_by_watermark, relation_of, row_of, summaries, summary_fired}
 use Rattle.wsm_semantics.specs.Steps.{State, stream_rows, chosen_rows, opened, panes_after, fired_by, relation_after, streamed_by, answer_to, step, step_fires, step_rows, run, Fits}
 use Rattle.wsm_semantics.specs.Replay.{datum}
 use Rattle.wsm_semantics.proofs.Lists.{length_each}
@@ -163,13 +162,6 @@ module _ {X : Type 0} (plan : Plan X) (lawful : IsLawful plan) (q : Query) (runs
     fired = some_fired s.fired (length (step_fires plan q s e)) (firings_so_far q past) (firings.firings q past e) fits.fired
         (ap length fires-step ∙ length_each (summary_fired plan) (firings.firings q past e));
   }
-
--- it holds as many panes as the definition says
-pub panes-fit : {X : Type 0} (plan : Plan X) (q : Query) (s : State X) (past : List Event) → Fits plan q s past → length s.panes ≡ length (held q past)
-panes-fit plan q s past fits =
-    ap length fits.panes
-    ∙ length_each (λ (e : Place × Kept). (e.0, pane_of plan q.mode e.0.key e.1)) (kept q past)
-    ∙ length_each (kept_in q past) (held q past)
 
 -- what is kept after a history fits it
 pub Fits-run : {X : Type 0} (plan : Plan X) (lawful : IsLawful plan) (q : Query) (runs : Runs plan q) (ok : IsShape q.shape) (low : pos 0 ≤ℤ q.clock.lateness) (past : List Event) → Fits plan q (run plan q past) past

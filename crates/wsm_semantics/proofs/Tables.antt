@@ -1,10 +1,9 @@
 -- The order of places, and what a look-up in a table of panes finds, and in what is kept of them.
 use Rattle.std.proofs.Common.{◌≡◌, Bool, true, false, ◌&&◌, ◌||◌, cond, List, [], ◌∷◌, map, T, Option, Some, None, refl, sym, ap, subst, ◌∙◌}
-use Rattle.std.proofs.lemmas.Bool.{true≢false}
 use Rattle.std.specs.Prelude.{option_map}
 use Rattle.std.specs.List.{list_any}
-use Rattle.std.specs.Ordering.{eq_by_cmp, ordering_then, is_eq, is_lt}
-use Rattle.std.specs.Cmp.{IsTotalOrder}
+use Rattle.std.specs.Ordering.{eq_by_cmp, ordering_then, is_lt}
+use Rattle.std.specs.Cmp.{IsTotalOrder, Equal-is}
 use Rattle.std.specs.declared.cmp.Ordering.{Ordering}
 use Rattle.std.specs.declared.cmp.Ordering.TheVariants.{Less, Equal, Greater}
 use Rattle.std.specs.FinMap.{IsAntisymmetric, int_cmp-IsAntisymmetric, nat_cmp-IsAntisymmetric}
@@ -24,11 +23,6 @@ ordering_then_equal Less b e = absurd (cc)
 ordering_then_equal Equal b e = (refl, e)
 ordering_then_equal Greater b e = absurd (cc)
 
-pub is_equal : (r : Ordering) → is_eq r ≡ true → r ≡ Equal
-is_equal Less e = absurd (true≢false (sym e))
-is_equal Equal e = refl
-is_equal Greater e = absurd (true≢false (sym e))
-
 place_is : (a b : Place) → a.end ≡ b.end → a.start ≡ b.start → a.key ≡ b.key → a ≡ b
 place_is a b e s k i = record { end = e i; start = s i; key = k i }
 
@@ -41,7 +35,7 @@ places_exact a b h =
 
 -- a place that ties is that place
 pub tie_is : (p r : Place) → eq_by_cmp place_cmp p r ≡ true → p ≡ r
-tie_is p r h = places_exact p r (is_equal _ h)
+tie_is p r h = places_exact p r ((Equal-is _).0 h)
 
 abbrev pub among : Place → List Place → Bool
 among p ps = list_any (eq_by_cmp place_cmp p) ps

@@ -22,13 +22,13 @@ use Rattle.wsm_semantics.specs.Kept.{is_linked}
 use Rattle.wsm_semantics.specs.Summaries.{Plan, Pane, session_with, linked, with_record, joined_with, joined_all, assigned, merged_session, entered, fired_pane, all_fired, kind_by_record, kind_by_watermark, after_record, at_watermark, after_watermark}
 use Rattle.wsm_semantics.specs.Totals.{count_of, total, EachAtMost, AtMost}
 use Rattle.wsm_semantics.proofs.Lists.{filter-all, all-each, put-all}
-use Rattle.wsm_semantics.proofs.Tables.{is_equal, places_exact, places_total}
+use Rattle.wsm_semantics.proofs.Tables.{tie_is, places_exact, places_total}
 
 -- windows with other starts are other places
 apart : (k : ℕ) (w v : Window) → w.start <ℤ v.start → eq_by_cmp place_cmp (at k v) (at k w) ≡ false
 apart k w v less =
     elim (eq_by_cmp place_cmp (at k v) (at k w)) as (λ b. eq_by_cmp place_cmp (at k v) (at k w) ≡ b → b ≡ false) [
-      | true ↦ λ e. absurd (let same : v.start ≡ w.start = ap (λ (p : Place). p.start) (places_exact (at k v) (at k w) (is_equal _ e)) in omega (arith, ints))
+      | true ↦ λ e. absurd (let same : v.start ≡ w.start = ap (λ (p : Place). p.start) (tie_is (at k v) (at k w) e) in omega (arith, ints))
       | false ↦ λ e. refl
     ] refl
 

@@ -1,7 +1,7 @@
 -- Lists of records by the records that they hold: which are within which, and those that are parts of
 -- the selected records, in their order.
 use Rattle.std.proofs.Common.{◌≡◌, ℕ, ◌<◌, Bool, true, false, ◌&&◌, cond, List, [], ◌∷◌, ◌++◌, length, Some, None, refl, sym, ap, subst, ◌∙◌, ⊎_elim}
-use Rattle.std.proofs.lemmas.Bool.{true≢false, and_parts, and_from, or_cases, or_left, or_right}
+use Rattle.std.proofs.lemmas.Bool.{true≢false, and_parts, and_from, or_cases, or_left, or_right, eqb-true}
 use Rattle.std.specs.Prelude.{filter}
 use Rattle.std.specs.List.{AllByRecursion}
 use Rattle.wsm_record.specs.Event.{Event, Record, Watermark}
@@ -10,7 +10,7 @@ use Rattle.wsm_semantics.specs.Firings.{holds}
 use Rattle.wsm_semantics.specs.Relation.{is_within}
 use Rattle.wsm_semantics.specs.Replay.{datum}
 use Rattle.wsm_semantics.proofs.Lists.{IsNonEmpty, filter-all, filter_same, all-each}
-use Rattle.wsm_semantics.proofs.Each.{itself, same_key, same_answers, filter-each}
+use Rattle.wsm_semantics.proofs.Each.{itself, same_answers, filter-each}
 use Rattle.wsm_semantics.proofs.Merging.{AreFalling, Below, none_held, holds-filter, selected_below}
 
 -- each record that the first holds, the second holds
@@ -26,7 +26,7 @@ within [] ys h d k = absurd (true≢false (sym k))
 within (x ∷ xs) ys h d k =
     let parts = and_parts _ _ h in
     ⊎_elim
-    (λ same. ap (λ (n : ℕ). holds (record d { turn = n }) ys) (sym (same_key x.turn d.turn same)) ∙ parts.0)
+    (λ same. ap (λ (n : ℕ). holds (record d { turn = n }) ys) (sym (eqb-true x.turn d.turn same)) ∙ parts.0)
     (λ later. within xs ys parts.1 d later)
     (or_cases _ _ k)
 

@@ -5,8 +5,6 @@ pub mod Firings
 pub mod Relation
 pub mod Lines
 pub mod Text
-pub mod Machine
-pub mod Counting
 pub mod Kept
 pub mod Replay
 pub mod Summaries

@@ -9,8 +9,9 @@ use Rattle.wsm_windows.specs.Windows.{window, has_inside}
 use Rattle.wsm_semantics.specs.Sessions.{with_time, rising, with_earlier, sessions_of_rising, sessions, links}
 use Rattle.wsm_semantics.proofs.Lists.{all-each}
 use Rattle.wsm_semantics.proofs.Sessions.{StartFrom, AreApart, TimesFrom, AreRising, is_rising, apart_rising, from_times, sessions_apart, sooner}
-use Rattle.wsm_semantics.proofs.SessionTimes.{IsOneOf, of-all, inside_is, is_inside, covered, one_inside, both_linked}
+use Rattle.wsm_semantics.proofs.SessionTimes.{IsOneOf, of-all, inside_is, covered, one_inside, both_linked}
 use Rattle.wsm_sessions.specs.Classes.{IsLinked, IsChain, HasLinked, IsClass}
+use Rattle.wsm_windows.proofs.Members.{is_inside}
 
 -- ---- one of some times
 

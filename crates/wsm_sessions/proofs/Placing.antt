@@ -127,10 +127,6 @@ module _ (gap : ℤ) (long : pos 1 ≤ℤ gap) (t : ℤ) where
   abbrev Far : List Window → Type 0
   Far vs = AllByRecursion (λ w. starts_from reach w ≡ true) vs
 
-  first_is : (ls vs : List Window) → Linked ls → Far vs → starts_before reach (ls ++ vs) 0 ≡ list_any (links gap t) ls
-  first_is [] vs l f = far reach vs f
-  first_is (w ∷ ls) vs l f = near gap t w l.0 ∙ sym (ap (λ (b : Bool). b || list_any (links gap t) ls) l.0)
-
   none_first : (ls vs : List Window) → Linked ls → starts_before reach (ls ++ vs) 0 ≡ false → ls ≡ []
   none_first [] vs l h = refl
   none_first (w ∷ ls) vs l h = absurd (true≢false (sym (near gap t w l.0) ∙ h))
@@ -167,10 +163,6 @@ module _ (gap : ℤ) (long : pos 1 ≤ℤ gap) (t : ℤ) where
 
     second_at : starts_before reach ws (suc (length ended)) ≡ starts_before reach (linked ++ later) 1
     second_at = ap (λ (vs : List Window). starts_before reach vs (suc (length ended))) (in_order gap long t ws apart) ∙ before_behind reach ended (linked ++ later)
-
-    -- the first that didn't end by the time starts before its reach where one is linked to it
-    pub linked_at : starts_before reach ws (length ended) ≡ list_any (links gap t) ws
-    linked_at = first_at ∙ first_is linked later are_linked are_far ∙ sym (any_passes (links gap t) ws)
 
     pub none_at : starts_before reach ws (length ended) ≡ false → linked ≡ []
     none_at h = none_first linked later are_linked (sym first_at ∙ h)
@@ -233,9 +225,6 @@ module _ (gap : ℤ) (long : pos 1 ≤ℤ gap) (t : ℤ) where
         (omega (arith, next, within), ap (joined_at ws) (sym at.0) ∙ ap (λ (vs : List Window). joined_at vs (length ended)) parts.0 ∙ joined_seam ended later w v ∙ sym parts.1)
 
     -- ---- those that it is linked to, at their places
-
-    pub linked_none : (i : ℕ) → placed gap t ws ≡ New i → [] ≡ linked
-    linked_none i h = sym (new_is (length ended) i linked h).1
 
     pub linked_one : (i : ℕ) → placed gap t ws ≡ Extends i → (d : Window) → get_or ws i d ∷ [] ≡ linked
     linked_one i h d =

@@ -2,7 +2,7 @@
 use Rattle.std.proofs.Common.{◌≡◌, ℕ, zero, suc, ◌<◌, ◌≤◌, Bool, true, false, ◌||◌, cond, List, [], ◌∷◌, ◌++◌, length, get_or, refl, sym, ap, ◌∙◌, arith}
 use Rattle.std.proofs.Math.Seq.{take-append_seam, drop-append_seam}
 use Rattle.std.specs.Prelude.{filter, insert, slice_set}
-use Rattle.std.specs.List.{list_any, remove}
+use Rattle.std.specs.List.{list_any}
 use Rattle.std.specs.List.Sorted.{IsPartitionPoint}
 
 module _ {A : Type 0} where
@@ -39,10 +39,6 @@ module _ {A : Type 0} where
   pub set_seam : (xs ys : List A) (y z : A) → slice_set (xs ++ y ∷ ys) (length xs) z ≡ xs ++ z ∷ ys
   set_seam [] ys y z = refl
   set_seam (x ∷ xs) ys y z = ap (λ (zs : List A). x ∷ zs) (set_seam xs ys y z)
-
-  pub remove_behind : (xs ys : List A) (y z : A) → remove (xs ++ y ∷ z ∷ ys) (suc (length xs)) ≡ xs ++ y ∷ ys
-  remove_behind [] ys y z = refl
-  remove_behind (x ∷ xs) ys y z = ap (λ (zs : List A). x ∷ zs) (remove_behind xs ys y z)
 
   pub within_seam : (xs ys : List A) (y : A) → length xs < length (xs ++ y ∷ ys)
   within_seam [] ys y = omega arith

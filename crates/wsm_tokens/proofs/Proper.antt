@@ -1,26 +1,14 @@
 -- Which tokens are proper: names, and all that a text has.
-use Rattle.std.proofs.Common.{◌≡◌, ℕ, zero, suc, ◌+◌, ◌≤◌, Bool, true, ◌&&◌, not, List, [], ◌∷◌, ◌++◌, length, take, leb, pos, refl, arith, one-add}
+use Rattle.std.proofs.Common.{◌≡◌, ℕ, zero, suc, ◌+◌, Bool, true, List, [], ◌∷◌, length, take, leb, pos, refl, arith, one-add}
 use Rattle.std.specs.Prelude.{Option, Some, None}
 use Rattle.std.specs.List.{prefix_len, list_all}
-use Rattle.std.proofs.lemmas.Bool.{and_parts, and_from, cond_both, ltb-true, le-leb}
+use Rattle.std.proofs.lemmas.Bool.{cond_both, ltb-true, le-leb}
 use Rattle.std.proofs.Math.Dec.{ltb}
-use Rattle.std.proofs.lemmas.List.Folds.{length-prefix_len, list_all-append}
-use Rattle.wsm_record.specs.Name.{is_letter, is_digit, is_word, is_word_byte, is_name, is_reserved, name_limit}
+use Rattle.std.proofs.lemmas.List.Folds.{length-prefix_len}
+use Rattle.wsm_record.specs.Name.{is_letter, is_digit, is_word_byte, name_limit}
 use Rattle.wsm_tokens.specs.declared.token.Sign.{Sign}
-use Rattle.wsm_tokens.specs.Tokens.{Token, Word, Number, Then, Bad, First, Blank, Found, Lost, sign_of, is_blank, value_of, number_limit, first_of, first_word, first_number, first_sign, tokens_from, tokens}
-use Rattle.wsm_tokens.specs.Proper.{is_proper, are_proper, has_proper}
-
-pub name_is_proper : (w : List ℕ) → is_name w ≡ true → is_proper (Word w) ≡ true
-name_is_proper w h =
-    let a = and_parts (is_word w) (leb (length w) name_limit && not (is_reserved w)) h in
-    let b = and_parts (leb (length w) name_limit) (not (is_reserved w)) a.1 in
-    and_from (is_word w) (leb (length w) name_limit) a.0 b.0
-
-pub number_is_proper : (n : ℕ) → n ≤ number_limit → is_proper (Number (pos n)) ≡ true
-number_is_proper n h = le-leb n number_limit h
-
-pub proper-append : (us vs : List Token) → are_proper us ≡ true → are_proper vs ≡ true → are_proper (us ++ vs) ≡ true
-proper-append us vs h k = rw (list_all-append is_proper us vs, h, k) refl
+use Rattle.wsm_tokens.specs.Tokens.{Word, Number, Then, Bad, First, Blank, Found, Lost, sign_of, is_blank, value_of, number_limit, first_of, first_word, first_number, first_sign, tokens_from, tokens}
+use Rattle.wsm_tokens.specs.Proper.{is_proper, has_proper}
 
 passing : (p : ℕ → Bool) (xs : List ℕ) → list_all p (take (prefix_len p xs) xs) ≡ true
 passing p [] = refl

@@ -1,5 +1,5 @@
 -- Tokens that are written with a space between each two are read back as they are.
-use Rattle.std.proofs.Common.{◌≡◌, ℕ, suc, ◌+◌, ◌^◌, ◌<◌, Bool, true, false, ◌&&◌, List, [], ◌∷◌, ◌++◌, length, leb, pos, negsuc, refl, sym, ap, ◌∙◌, arith, add-zero, append-nil}
+use Rattle.std.proofs.Common.{◌≡◌, ℕ, suc, ◌+◌, ◌^◌, ◌<◌, Bool, true, false, ◌&&◌, List, [], ◌∷◌, ◌++◌, length, leb, pos, negsuc, refl, ap, ◌∙◌, arith, add-zero, append-nil}
 use Rattle.std.specs.Prelude.{Option, Some, None}
 use Rattle.std.specs.List.{prefix_len, list_all}
 use Rattle.std.specs.Fmt.{decimal}
@@ -10,11 +10,10 @@ use Rattle.std.proofs.Math.Seq.{take-append_seam}
 use Rattle.wsm_record.specs.Name.{is_letter, is_digit, is_word_byte, name_limit}
 use Rattle.wsm_tokens.specs.declared.token.Sign.{Sign}
 use Rattle.wsm_tokens.specs.declared.token.Sign.TheVariants as signs
-use Rattle.wsm_tokens.specs.Tokens.{Token, Word, Mark, Number, Tokens, Then, End, Bad, Found, sign_text, sign_of, is_blank, number_limit, first_of, tokens_from, tokens}
+use Rattle.wsm_tokens.specs.Tokens.{Token, Word, Mark, Number, Then, End, Found, sign_text, sign_of, is_blank, number_limit, first_of, tokens_from, tokens}
 use Rattle.wsm_tokens.specs.Written.{token_text, written, bare, put}
-use Rattle.wsm_tokens.specs.Proper.{is_proper, are_proper, has_proper}
+use Rattle.wsm_tokens.specs.Proper.{is_proper, are_proper}
 use Rattle.wsm_tokens.proofs.Decimals.{Digits, decimal_digits}
-use Rattle.wsm_tokens.proofs.Proper.{tokens_are_proper}
 
 -- what stands behind a token: nothing, or a space and more
 abbrev spaced : Option (List ℕ) → List ℕ
@@ -148,20 +147,3 @@ read_from (u ∷ v ∷ us) at h =
 pub read_back : (us : List Token) → are_proper us ≡ true → bare (tokens (written us)) ≡ put us (End 0)
 unfolding tokens
 read_back us h = read_from us 0 h
-
--- what a text was read as is proper
-pub read_is_proper : (ts : Tokens) (us : List Token) → has_proper ts ≡ true → bare ts ≡ put us (End 0) → are_proper us ≡ true
-unfolding bare has_proper
-read_is_proper (Then t at ts) [] h e = cc
-read_is_proper (Then t at ts) (u ∷ us) h e =
-    let a = and_parts (is_proper t) (has_proper ts) h in
-    let same : t ≡ u = cc in
-    rw (← same, a.0, read_is_proper ts us a.1 cc) refl
-read_is_proper (End at) [] h e = refl
-read_is_proper (End at) (u ∷ us) h e = cc
-read_is_proper (Bad fault at) [] h e = cc
-read_is_proper (Bad fault at) (u ∷ us) h e = cc
-
--- a text that is read whole has the same tokens as the text that is written of them
-pub read_again : (text : List ℕ) (us : List Token) → bare (tokens text) ≡ put us (End 0) → bare (tokens (written us)) ≡ bare (tokens text)
-read_again text us e = read_back us (read_is_proper (tokens text) us (tokens_are_proper text) e) ∙ sym e

@@ -1,5 +1,5 @@
 -- The tokens of a text from an offset on, by what stands there.
-use Rattle.std.proofs.Common.{◌≡◌, ℕ, zero, suc, ◌+◌, ◌-◌, ◌*◌, ◌<◌, ◌≤◌, Bool, true, false, cond, List, [], ◌∷◌, length, get_or, take, drop, find, nat_eq, length-append, refl, sym, ap, ◌∙◌, arith, length-drop, one-add, add-zero}
+use Rattle.std.proofs.Common.{◌≡◌, ℕ, zero, suc, ◌+◌, ◌-◌, ◌<◌, ◌≤◌, Bool, true, false, cond, List, [], ◌∷◌, length, get_or, take, drop, find, nat_eq, length-append, refl, sym, ap, ◌∙◌, arith, length-drop, one-add, add-zero}
 use Rattle.std.specs.Prelude.{Some}
 use Rattle.std.specs.List.{prefix_len, starts_with}
 use Rattle.std.proofs.lemmas.Slice.Eq.{starts_is}
@@ -7,14 +7,14 @@ use Rattle.std.proofs.lemmas.Bool.Decides.{Decides-eqb}
 use Rattle.std.proofs.lemmas.Bool.{lt-ltb}
 use Rattle.std.proofs.Math.Dec.{ltb}
 use Rattle.std.proofs.lemmas.Bool.Decides.{nat_tests}
-use Rattle.std.proofs.lemmas.List.{take_more, get_or-drop, drop-drop, drop_all}
-use Rattle.std.proofs.lemmas.List.Sums.{fold_push, prefix_len-le-length}
+use Rattle.std.proofs.lemmas.List.{get_or-drop, drop-drop, drop_all}
+use Rattle.std.proofs.lemmas.List.Sums.{prefix_len-le-length}
 use Rattle.wsm_record.specs.Name.{is_word_byte}
 use Rattle.wsm_tokens.specs.declared.fault.Fault.{Fault}
 use Rattle.wsm_tokens.specs.declared.fault.Fault.TheVariants.{BadCharacter}
 use Rattle.wsm_tokens.specs.declared.token.Sign.{Sign}
 use Rattle.wsm_tokens.specs.declared.token.Sign.TheVariants as signs
-use Rattle.wsm_tokens.specs.Tokens.{sign_of, sign_text, all_signs, Token, Word, Then, End, Bad, Found, Lost, first_of, first_word, is_blank, tokens_from, tokens_at, value_of}
+use Rattle.wsm_tokens.specs.Tokens.{sign_of, sign_text, all_signs, Token, Word, Then, End, Bad, Found, Lost, first_of, first_word, is_blank, tokens_from, tokens_at}
 
 -- the bytes of a token are passed over
 pub passed : (n at : ℕ) (xs : List ℕ) → n ≤ length xs → tokens_from n at xs ≡ tokens_from 0 (at + n) (drop n xs)
@@ -25,9 +25,6 @@ passed (suc n) at (c ∷ xs) h =
     let e : (at + 1) + n ≡ at + suc n = omega arith in
     let k : n ≤ length xs = omega arith in
     passed n (at + 1) xs k ∙ ap (λ i. tokens_from 0 i (drop n xs)) e
-
-pub value_of-more : (ds : List ℕ) (i : ℕ) → i < length ds → value_of (take (i + 1) ds) ≡ 10 * value_of (take i ds) + (get_or ds i 0 - 48)
-value_of-more ds i h = rw (take_more ds i 0 h, fold_push (λ n c. 10 * n + (c - 48)) 0 (take i ds) (get_or ds i 0)) refl
 
 from_blank : (at : ℕ) (xs : List ℕ) → 0 < length xs → is_blank (get_or xs 0 0) ≡ true → tokens_from 0 (at + 1) (drop 1 xs) ≡ tokens_from 0 at xs
 unfolding tokens_from first_of

@@ -1,6 +1,6 @@
 -- What a section without a fault folds into each accumulator, and that sums of it stay in 64 bits.
 use Rattle.std.proofs.Common.{◌≡◌, ℕ, zero, suc, ◌+◌, ◌<◌, Bool, true, false, ◌&&◌, not, cond, ◌⊎◌, inl, inr, List, [], ◌∷◌, ◌++◌, length, map, drop, get_or, ℤ, ◌*ℤ◌, Option, Some, None, refl, sym, ap, subst, ◌∙◌, arith}
-use Rattle.std.proofs.lemmas.Bool.{true≢false}
+use Rattle.std.proofs.lemmas.Bool.{true≢false, eqb-true}
 use Rattle.std.proofs.Math.Seq.{drop-cons}
 use Rattle.std.proofs.lemmas.List.{append_assoc}
 use Rattle.std.specs.Prelude.{nat_eq, int_lt, slice_get, slice_index_or}
@@ -89,9 +89,6 @@ stay_hull r Sum (Some x) (Some y) h l =
     both (in_i64 (r *ℤ int_min x.lo y.lo)) (in_i64 (r *ℤ int_max x.hi y.hi)) (in_least r x.lo y.lo low.0 high.0) (in_greatest r x.hi y.hi low.1 high.1)
 stay_hull r _ (Some x) (Some y) h l = refl
 
-same : (a b : ℕ) → nat_eq a b ≡ true → a ≡ b
-same a b e = grind arith
-
 stay_last : (r : ℤ) (k : Kind) (s : List Known) → last_is (sum_leaves r k) s ≡ false → stays r k (last_number s) ≡ true
 stay_last r k [] e = refl
 stay_last r k (Number x ∷ s) e = ap not e
@@ -101,7 +98,7 @@ stay_last r k (_ ∷ s) e = refl
 stay_value : (c : Setting) (a : ℕ) (i : Instr) (s : State) → accumulator_leaves c.records c.kinds i s.stack ≡ false → stays c.records (kind_of c.kinds a) (value_folded a i (Reached s)) ≡ true
 stay_value c a (Fold b) s e =
     elim (nat_eq a b) as (λ t. nat_eq a b ≡ t → stays c.records (kind_of c.kinds a) (cond t (last_number s.stack) None) ≡ true) [
-      | true ↦ λ t. rw (same a b t) (stay_last c.records (kind_of c.kinds b) s.stack e)
+      | true ↦ λ t. rw (eqb-true a b t) (stay_last c.records (kind_of c.kinds b) s.stack e)
       | false ↦ λ t. refl
     ] refl
 stay_value c a _ s e = refl

@@ -1,6 +1,6 @@
 -- What a program's own laws say of its numbers.
-use Rattle.std.proofs.Common.{◌≡◌, ℕ, ◌+◌, ◌*◌, ◌≤◌, true, false, Bool, ◌&&◌, List, length, ℤ, pos, ◌+ℤ◌, ◌≤ℤ◌, sym, refl, subst, IsTrue, to_z, of_z, w64, arith}
-use Rattle.std.proofs.lemmas.Bool.{true≢false}
+use Rattle.std.proofs.Common.{◌≡◌, ℕ, ◌+◌, ◌*◌, ◌≤◌, true, List, length, ℤ, pos, ◌+ℤ◌, ◌≤ℤ◌, sym, subst, IsTrue, to_z, of_z, w64, arith}
+use Rattle.std.proofs.lemmas.Bool.{leb-true, and_parts}
 use Rattle.std.proofs.lemmas.Int.{ints}
 use Rattle.std.proofs.Math.Nat.{div-le_self, mul-le-mul_right, mul-le-mul_left}
 use Rattle.std.specs.Prelude.{nat_le, unsigned_abs}
@@ -14,20 +14,10 @@ use Rattle.wsm_bytecode.specs.declared.Instr.{Instr}
 use Rattle.wsm_bytecode.specs.declared.SectionId.{SectionId}
 use Rattle.wsm_bytecode.specs.declared.SectionId.TheVariants.{Where, Update, Fire}
 use Rattle.wsm_bytecode.specs.Program.{Header, Program, section, is_within, is_span, is_size, is_shape, is_section, is_header, is_program, is_schema, is_name_list, is_clock, is_firing, is_row, latest_time}
-
-left : (a b : Bool) → (a && b) ≡ true → a ≡ true
-left true b e = refl
-left false b e = absurd (true≢false (sym e))
-
-right : (a b : Bool) → (a && b) ≡ true → b ≡ true
-right true b e = e
-right false b e = absurd (true≢false (sym e))
+use Rattle.wsm_bytecode.proofs.Spelled.{few}
 
 within : (lo hi n : ℤ) → is_within lo hi n ≡ true → (lo ≤ℤ n) × (n ≤ℤ hi)
 within lo hi n h = (grind (arith, ints), grind (arith, ints))
-
-few : (n m : ℕ) → nat_le n m ≡ true → n ≤ m
-few n m h = grind arith
 
 sized : (n : ℤ) → is_size n ≡ true → (pos 1 ≤ℤ n) × (n ≤ℤ pos 1000000000000)
 sized n h = within (pos 1) (pos 1000000000000) n h
@@ -35,8 +25,8 @@ sized n h = within (pos 1) (pos 1000000000000) n h
 lawful_shape : (s : Shape) → is_shape s ≡ true → IsShape s
 lawful_shape (Fixed size) h = let w = sized size h in record { period_low = w.0; period_high = omega (arith, ints); size_high = w.1 }
 lawful_shape (Sliding size period) h =
-    let w = sized size (left _ _ h) in
-    let v = within (pos 1) size period (right _ _ h) in
+    let w = sized size (and_parts _ _ h).0 in
+    let v = within (pos 1) size period (and_parts _ _ h).1 in
     record { period_low = v.0; period_high = v.1; size_high = w.1 }
 lawful_shape (Session gap) h = let w = sized gap h in record { period_low = w.0; period_high = omega (arith, ints); size_high = w.1 }
 
@@ -54,39 +44,35 @@ pub record IsLawful (h : Header) : Type 0 where
 
 few_fields : (s : Declared) → is_schema s ≡ true → length s.fields ≤ 16
 unfolding is_schema
-few_fields s e = few (length s.fields) 16 (left (nat_le (length s.fields) 16) _ (right (is_name_list s.keys) _ e))
+few_fields s e = leb-true (length s.fields) 16 (and_parts (nat_le (length s.fields) 16) _ (and_parts (is_name_list s.keys) _ e).1).0
 
 lawful_header : (h : Header) → is_header h ≡ true → IsLawful h
 unfolding is_header
 lawful_header h e =
-    let parts = right (is_schema h.schema) _ e in
-    let behind_clock = right (is_clock h) _ parts in
-    let firing = left (is_firing h) _ behind_clock in
-    let row = left (is_row h) _ (right (is_firing h) _ behind_clock) in
-    let spans = right (is_within (pos 0) latest_time h.start) _ (left (is_clock h) _ parts) in
-    let behind_skew = right (is_span h.skew) _ spans in
+    let parts = (and_parts (is_schema h.schema) _ e).1 in
+    let behind_clock = (and_parts (is_clock h) _ parts).1 in
+    let firing = (and_parts (is_firing h) _ behind_clock).0 in
+    let row = (and_parts (is_row h) _ (and_parts (is_firing h) _ behind_clock).1).0 in
+    let spans = (and_parts (is_within (pos 0) latest_time h.start) _ (and_parts (is_clock h) _ parts).0).1 in
+    let behind_skew = (and_parts (is_span h.skew) _ spans).1 in
     record {
-      shape = lawful_shape h.shape (left (is_shape h.shape) _ firing);
-      skew = lawful_span h.skew (left (is_span h.skew) _ spans);
-      lateness = lawful_span h.lateness (left (is_span h.lateness) _ behind_skew);
-      records = sized h.records (right (is_span h.lateness) _ behind_skew);
-      kinds = few (length h.kinds) 16 (left (nat_le (length h.kinds) 16) _ row);
-      fields = few_fields h.schema (left (is_schema h.schema) _ e);
+      shape = lawful_shape h.shape (and_parts (is_shape h.shape) _ firing).0;
+      skew = lawful_span h.skew (and_parts (is_span h.skew) _ spans).0;
+      lateness = lawful_span h.lateness (and_parts (is_span h.lateness) _ behind_skew).0;
+      records = sized h.records (and_parts (is_span h.lateness) _ behind_skew).1;
+      kinds = leb-true (length h.kinds) 16 (and_parts (nat_le (length h.kinds) 16) _ row).0;
+      fields = few_fields h.schema (and_parts (is_schema h.schema) _ e).0;
     }
-
-short_section : (h : Header) (code : List Instr) → is_section h code ≡ true → length code ≤ 1000
-unfolding is_section
-short_section h code e = few (length code) 1000 (left (nat_le (length code) 1000) _ e)
 
 pub lawful : (p : Program) → IsTrue (is_program p) → IsLawful p.header
 unfolding is_program
-lawful p e = lawful_header p.header (left (is_header p.header) _ e)
+lawful p e = lawful_header p.header (and_parts (is_header p.header) _ e).0
 
 pub short : (p : Program) (id : SectionId) → IsTrue (is_program p) → length (section p id) ≤ 1000
 unfolding is_program
-short p Where e = short_section p.header p.selection (left (is_section p.header p.selection) _ (right (is_header p.header) _ e))
-short p Update e = short_section p.header p.update (left (is_section p.header p.update) _ (right (is_section p.header p.selection) _ (right (is_header p.header) _ e)))
-short p Fire e = short_section p.header p.fire (right (is_section p.header p.update) _ (right (is_section p.header p.selection) _ (right (is_header p.header) _ e)))
+short p Where e = few p.header p.selection (and_parts (is_section p.header p.selection) _ (and_parts (is_header p.header) _ e).1).0
+short p Update e = few p.header p.update (and_parts (is_section p.header p.update) _ (and_parts (is_section p.header p.selection) _ (and_parts (is_header p.header) _ e).1).1).0
+short p Fire e = few p.header p.fire (and_parts (is_section p.header p.update) _ (and_parts (is_section p.header p.selection) _ (and_parts (is_header p.header) _ e).1).1).1
 
 -- the same of a header that is the program's
 pub lawful_seen : (p : Program) (g : Header) → g ≡ p.header → IsTrue (is_program p) → IsLawful g

@@ -1,15 +1,13 @@
 -- The computed longest path of a section is the greatest length of its paths.
-use Rattle.std.proofs.Common.{◌≡◌, ℕ, zero, suc, ◌+◌, ◌-◌, ◌≤◌, max, Bool, true, false, ◌&&◌, ◌||◌, cond, ◌⊎◌, inl, inr, List, [], ◌∷◌, length, map, Option, Some, None, refl, sym, subst, ap, ◌∙◌, arith}
-use Rattle.std.proofs.lemmas.Bool.{true≢false}
+use Rattle.std.proofs.Common.{◌≡◌, ℕ, zero, suc, ◌+◌, ◌-◌, ◌≤◌, max, Bool, true, false, ◌||◌, cond, ◌⊎◌, inl, inr, List, [], ◌∷◌, length, map, Option, Some, None, refl, sym, subst, ap, ◌∙◌, arith}
+use Rattle.std.proofs.lemmas.Bool.{true≢false, and_from, eqb-true, and_parts, or_right, or_left, eq-eqb}
 use Rattle.std.specs.Prelude.{nat_eq, nat_lt, slice_get, slice_index_or, unwrap_or}
 use Rattle.std.specs.List.{list_any}
+use Rattle.std.proofs.lemmas.Option.{same_Some}
 use Rattle.wsm_bytecode.specs.declared.Instr.{Instr}
 use Rattle.wsm_bytecode.specs.declared.Instr.TheVariants.{Return}
 use Rattle.wsm_verifier.specs.Labels.{leads, next}
 use Rattle.wsm_verifier.specs.Costs.{Path, Ends, Goes, IsLongestPath, longer, longest_of, one_more, way_from, way_of, ways, longest_path}
-
-some_is : {A : Type 0} (a b : A) → Some a ≡ Some b → a ≡ b
-some_is a b e = cc
 
 none≢some : {A : Type 0} (a : A) → None ≡ Some a → ⊥
 none≢some a e = let tag : Option _ → Bool = λ o. elim o [ None ↦ true | Some x ↦ false ] in true≢false (ap tag e)
@@ -25,46 +23,24 @@ longer_is (Some m) (Some k) n e =
 
 longer_left : (a b : Option ℕ) (n : ℕ) → a ≡ Some n → (m : ℕ) × (longer a b ≡ Some m) × (n ≤ m)
 longer_left None b n e = absurd (none≢some n e)
-longer_left (Some k) None n e = (k, refl, omega (arith, some_is k n e))
-longer_left (Some k) (Some m) n e = (max k m, refl, omega (arith, some_is k n e))
+longer_left (Some k) None n e = (k, refl, omega (arith, same_Some k n e))
+longer_left (Some k) (Some m) n e = (max k m, refl, omega (arith, same_Some k n e))
 
 longer_right : (a b : Option ℕ) (n : ℕ) → b ≡ Some n → (m : ℕ) × (longer a b ≡ Some m) × (n ≤ m)
 longer_right None b n e = (n, e, omega arith)
 longer_right (Some k) None n e = absurd (none≢some n e)
-longer_right (Some k) (Some m) n e = (max k m, refl, omega (arith, some_is m n e))
-
-same : (q : ℕ) → nat_eq q q ≡ true
-same q = grind arith
-
-is_same : (q r : ℕ) → nat_eq q r ≡ true → q ≡ r
-is_same q r e = grind arith
-
-or_left : (a b : Bool) → a ≡ true → (a || b) ≡ true
-or_left true b e = refl
-or_left false b e = absurd (true≢false (sym e))
-
-or_right : (a b : Bool) → b ≡ true → (a || b) ≡ true
-or_right true b e = refl
-or_right false b e = e
+longer_right (Some k) (Some m) n e = (max k m, refl, omega (arith, same_Some m n e))
 
 or_is : (a b : Bool) → (a || b) ≡ true → (a ≡ true) ⊎ (b ≡ true)
 or_is true b e = inl refl
 or_is false b e = inr e
-
-and_is : (a b : Bool) → (a && b) ≡ true → (a ≡ true) × (b ≡ true)
-and_is true b e = (refl, e)
-and_is false b e = absurd (true≢false (sym e))
-
-both : (a b : Bool) → a ≡ true → b ≡ true → (a && b) ≡ true
-both true b e h = h
-both false b e h = absurd (true≢false (sym e))
 
 -- the longest of some ways is one of them
 one_of : (f : ℕ → Option ℕ) (qs : List ℕ) (n : ℕ) → longest_of (map f qs) ≡ Some n → (q : ℕ) × (list_any (nat_eq q) qs ≡ true) × (f q ≡ Some n)
 one_of f [] n e = absurd (none≢some n e)
 one_of f (q ∷ qs) n e =
     elim (longer_is (f q) (longest_of (map f qs)) n e) [
-      | inl h ↦ (q, or_left (nat_eq q q) _ (same q), h)
+      | inl h ↦ (q, or_left (nat_eq q q) _ (eq-eqb q q refl), h)
       | inr h ↦ let r = one_of f qs n h in (r.0, or_right (nat_eq r.0 q) _ r.1, r.2)
     ]
 
@@ -73,7 +49,7 @@ at_least : (f : ℕ → Option ℕ) (qs : List ℕ) (q n : ℕ) → list_any (na
 at_least f [] q n h e = absurd (true≢false (sym h))
 at_least f (r ∷ qs) q n h e =
     elim (or_is (nat_eq q r) (list_any (nat_eq q) qs) h) [
-      | inl s ↦ longer_left (f r) (longest_of (map f qs)) n (ap f (sym (is_same q r s)) ∙ e)
+      | inl s ↦ longer_left (f r) (longest_of (map f qs)) n (ap f (sym (eqb-true q r s)) ∙ e)
       | inr s ↦ let m = at_least f qs q n s e in
           let k = longer_right (f r) (longest_of (map f qs)) m.0 m.1 in
           (k.0, k.1, omega (arith, m.2, k.2))
@@ -86,7 +62,7 @@ way_is _ = inr (λ p later. refl)
 
 one_more_is : (a : Option ℕ) (n : ℕ) → one_more a ≡ Some n → (m : ℕ) × (a ≡ Some m) × (n ≡ suc m)
 one_more_is None n e = absurd (none≢some n e)
-one_more_is (Some m) n e = (m, refl, sym (some_is (suc m) n e))
+one_more_is (Some m) n e = (m, refl, sym (same_Some (suc m) n e))
 
 cond_some : (b : Bool) (o : Option ℕ) (n : ℕ) → cond b o None ≡ Some n → (b ≡ true) × (o ≡ Some n)
 cond_some true o n e = (refl, e)
@@ -111,13 +87,13 @@ reached all [] p s k n e = absurd (none≢some n e)
 reached all (i ∷ is) p s zero n e =
     let zero_more : p ≡ p + 0 = omega arith in
     elim (way_is i) [
-      | inl h ↦ let one : 1 ≡ n = some_is 1 n (sym (ap (λ j. way_of p j (ways (suc p) is)) h) ∙ e) in
+      | inl h ↦ let one : 1 ≡ n = same_Some 1 n (sym (ap (λ j. way_of p j (ways (suc p) is)) h) ∙ e) in
           subst (λ q. Path all q n) zero_more (subst (λ m. Path all p m) one (Ends p (first all p i is s ∙ ap Some h)))
       | inr h ↦ let m = one_more_is (longest_of (map (way_from p (ways (suc p) is)) (next i p))) n (sym (h p (ways (suc p) is)) ∙ e) in
           let q = one_of (way_from p (ways (suc p) is)) (next i p) m.0 m.1 in
           let w = cond_some (nat_lt p q.0) (slice_index_or (ways (suc p) is) (q.0 - suc p) None) m.0 q.2 in
           let rest : Path all q.0 m.0 = subst (λ r. Path all r m.0) (less p q.0 w.0) (reached all is (suc p) (after_first all p i is s) (q.0 - suc p) m.0 w.1) in
-          subst (λ r. Path all r n) zero_more (subst (λ r. Path all p r) (sym m.2) (Goes p q.0 m.0 i (first all p i is s) (both (nat_lt p q.0) _ w.0 q.1) rest))
+          subst (λ r. Path all r n) zero_more (subst (λ r. Path all p r) (sym m.2) (Goes p q.0 m.0 i (first all p i is s) (and_from (nat_lt p q.0) _ w.0 q.1) rest))
     ]
 reached all (i ∷ is) p s (suc k) n e =
     let later : suc p + k ≡ p + suc k = omega arith in
@@ -145,11 +121,11 @@ bounded all (i ∷ is) p s zero q n e w =
     let here : q ≡ p = omega (arith, e) in
     let found : slice_get all q ≡ Some i = ap (slice_get all) here ∙ first all p i is s in
     elim (path_is all q n w) [
-      | inl h ↦ let ret : i ≡ Return = some_is i Return (sym found ∙ h.0) in
+      | inl h ↦ let ret : i ≡ Return = same_Some i Return (sym found ∙ h.0) in
           (1, ap (λ j. way_of p j (ways (suc p) is)) ret, omega (arith, h.1))
-      | inr h ↦ let same_instr : h.2 ≡ i = some_is h.2 i (sym h.3 ∙ found) in
+      | inr h ↦ let same_instr : h.2 ≡ i = same_Some h.2 i (sym h.3 ∙ found) in
           let edge : leads i p h.0 ≡ true = subst (λ r. leads i r h.0 ≡ true) here (subst (λ j. leads j q h.0 ≡ true) same_instr h.4) in
-          let l = and_is (nat_lt p h.0) _ edge in
+          let l = and_parts (nat_lt p h.0) _ edge in
           let rest = bounded all is (suc p) (after_first all p i is s) (h.0 - suc p) h.0 h.1 (sym (less p h.0 l.0)) h.5 in
           let way : way_from p (ways (suc p) is) h.0 ≡ Some rest.0 = ap (λ b. cond b (slice_index_or (ways (suc p) is) (h.0 - suc p) None) None) l.0 ∙ rest.1 in
           let best = at_least (way_from p (ways (suc p) is)) (next i p) h.0 rest.0 l.1 way in
@@ -169,7 +145,7 @@ longest_by is None e = record {
   reached = inl refl;
 }
 longest_by is (Some n) e = record {
-  no_longer = λ m w. let b = bounded is is 0 (from_start is) 0 0 m refl w in omega (arith, b.2, some_is n b.0 (sym e ∙ b.1));
+  no_longer = λ m w. let b = bounded is is 0 (from_start is) 0 0 m refl w in omega (arith, b.2, same_Some n b.0 (sym e ∙ b.1));
   reached = inr (reached is is 0 (from_start is) 0 n e);
 }
 
@@ -181,7 +157,7 @@ pub short_way : (p : ℕ) (is : List Instr) (k n : ℕ) → slice_index_or (ways
 short_way p [] k n e = absurd (none≢some n e)
 short_way p (i ∷ is) zero n e =
     elim (way_is i) [
-      | inl h ↦ let one : 1 ≡ n = some_is 1 n (sym (ap (λ j. way_of p j (ways (suc p) is)) h) ∙ e) in omega arith
+      | inl h ↦ let one : 1 ≡ n = same_Some 1 n (sym (ap (λ j. way_of p j (ways (suc p) is)) h) ∙ e) in omega arith
       | inr h ↦ let m = one_more_is (longest_of (map (way_from p (ways (suc p) is)) (next i p))) n (sym (h p (ways (suc p) is)) ∙ e) in
           let q = one_of (way_from p (ways (suc p) is)) (next i p) m.0 m.1 in
           let w = cond_some (nat_lt p q.0) (slice_index_or (ways (suc p) is) (q.0 - suc p) None) m.0 q.2 in

@@ -1,14 +1,14 @@
 -- What the pass keeps, from one place to the next.
-use Rattle.std.proofs.Common.{◌≡◌, ◌≢◌, ℕ, zero, suc, ◌+◌, ◌<◌, ◌≤◌, Bool, true, false, ◌&&◌, ◌||◌, not, cond, List, [], ◌∷◌, ◌++◌, length, take, drop, reverse, get_or, set, replicate, Option, Some, None, refl, sym, ap, ◌∙◌, subst, arith, length-set}
-use Rattle.std.proofs.lemmas.Bool.{true≢false}
-use Rattle.std.proofs.lemmas.List.{get_or-set_other, get_or-set_same, take-append-drop, take-append-le, take_all, reverse-append, length-reverse, length-take-le, length-replicate}
+use Rattle.std.proofs.Common.{◌≡◌, ◌≢◌, ℕ, zero, suc, ◌+◌, ◌<◌, ◌≤◌, Bool, true, false, ◌&&◌, ◌||◌, not, cond, List, [], ◌∷◌, ◌++◌, length, take, drop, reverse, get_or, set, Option, Some, None, refl, sym, ap, ◌∙◌, subst, arith, length-set}
+use Rattle.std.proofs.lemmas.Bool.{true≢false, eqb-true}
+use Rattle.std.proofs.lemmas.List.{get_or-set_other, get_or-set_same, take-append-drop, take-append-le, take_all, reverse-append, length-reverse, length-take-le}
 use Rattle.std.proofs.lemmas.Option.{slice_get_within, slice_get-get_or}
 use Rattle.std.specs.Prelude.{nat_eq, nat_lt, slice_get, slice_index_or, option_map}
+use Rattle.std.proofs.Math.Bool.{or-false}
 use Rattle.wsm_interval.specs.declared.Interval.{Interval}
 use Rattle.wsm_bytecode.specs.declared.Instr.{Instr}
 use Rattle.wsm_bytecode.specs.declared.Instr.TheVariants.{Jump, JumpIfFalse, Return}
 use Rattle.wsm_verifier.specs.declared.rejection.Rule.{Rule}
-use Rattle.wsm_verifier.specs.declared.rejection.Rule.TheVariants as rule
 use Rattle.wsm_verifier.specs.declared.rejection.Rejection.{Rejection}
 use Rattle.wsm_verifier.specs.declared.rejection.Part.TheVariants.{Code}
 use Rattle.wsm_verifier.specs.Labels.{State, Ranges, Label, Unreached, Reached, Visit, label_with, leads, carried_from, carried_to, gathered, label_of, visit, visit_of, visits_back, visits}
@@ -18,29 +18,22 @@ use Rattle.wsm_verifier.proofs.Passing.{with_edge, gathered_next, length-visits_
 
 -- ---- the labels that an instruction changes
 
-is_same : (q t : ℕ) → nat_eq q t ≡ true → q ≡ t
-is_same q t e = grind arith
-
 is_other : (q t : ℕ) → nat_eq q t ≡ false → q ≢ t
 is_other q t e = λ h. true≢false (sym (let same : nat_eq q t ≡ true = grind arith in same) ∙ e)
 
 joined_at-at : (t : ℕ) (s : State) (labels : List Label) (q : ℕ) → q < length labels → label_in (joined_at t s labels) q ≡ with_edge (cond (nat_eq q t) (Some s) None) (label_in labels q)
 joined_at-at t s labels q h =
     elim (nat_eq q t) as (λ b. nat_eq q t ≡ b → label_in (joined_at t s labels) q ≡ with_edge (cond b (Some s) None) (label_in labels q)) [
-      | true ↦ λ e. subst (λ k. label_in (joined_at k s labels) q ≡ label_with s (label_in labels q)) (is_same q t e) (get_or-set_same labels q (label_with s (label_in labels q)) Unreached h)
+      | true ↦ λ e. subst (λ k. label_in (joined_at k s labels) q ≡ label_with s (label_in labels q)) (eqb-true q t e) (get_or-set_same labels q (label_with s (label_in labels q)) Unreached h)
       | false ↦ λ e. get_or-set_other labels t q (label_with s (label_in labels t)) Unreached (is_other q t e)
     ] refl
 
 later : (p q : ℕ) (b : Bool) → p < q → (nat_lt p q && b) ≡ b
 later p q b h = let yes : nat_lt p q ≡ true = grind arith in ap (λ t. t && b) yes
 
-or_false : (b : Bool) → (b || false) ≡ b
-or_false true = refl
-or_false false = refl
-
 -- to one place
 one_edge : (p q : ℕ) (b : Bool) (s : State) (l : Label) → p < q → with_edge (cond b (Some s) None) l ≡ with_edge (cond (nat_lt p q && (b || false)) (Some s) None) l
-one_edge p q b s l h = ap (λ t. with_edge (cond t (Some s) None) l) (sym (later p q (b || false) h ∙ or_false b))
+one_edge p q b s l h = ap (λ t. with_edge (cond t (Some s) None) l) (sym (later p q (b || false) h ∙ or-false b))
 
 no_edge : (b : Bool) (s : State) (l : Label) → with_edge (cond (b && false) (Some s) None) l ≡ l
 no_edge true s l = refl
@@ -173,33 +166,6 @@ stands_next c e is p i labels new n folded widened s here none so same values =
           ∙ sym (ap (values_folded a) more);
     }
 
-unreached-in : (n q : ℕ) → label_in (replicate n Unreached) q ≡ Unreached
-unreached-in zero q = refl
-unreached-in (suc n) zero = refl
-unreached-in (suc n) (suc q) = unreached-in n q
-
-first_kept : (e : State) (n q : ℕ) → 0 < n → label_in (set (replicate n Unreached) 0 (Reached e)) q ≡ kept_for e q []
-first_kept e zero q h = absurd (omega arith)
-first_kept e (suc n) zero h = refl
-first_kept e (suc n) (suc q) h = unreached-in n q
-
-nothing_folded : (n a : ℕ) → slice_index_or (replicate n None) a None ≡ values_folded a []
-nothing_folded zero a = refl
-nothing_folded (suc n) zero = refl
-nothing_folded (suc n) (suc a) = nothing_folded n a
-
--- before the first place
-pub stands_first : (c : Setting) (e : State) (is : List Instr) (labels : List Label) (n : ℕ) (folded : List (Option Interval)) → 0 < length is →
-    labels ≡ set (replicate (length is) Unreached) 0 (Reached e) → folded ≡ replicate n None → Stands c e is 0 labels n folded
-stands_first c e is labels n folded some so none = record {
-  some = some;
-  long = ap length so ∙ length-set (replicate (length is) Unreached) 0 (Reached e) ∙ length-replicate (length is) Unreached;
-  many = ap length none ∙ length-replicate n None;
-  faultless = refl;
-  kept = λ q behind within. ap (λ ls. label_in ls q) so ∙ first_kept e (length is) q some;
-  values = λ a few. ap (λ fs. slice_index_or fs a None) none ∙ nothing_folded n a;
-}
-
 -- what a slice of a vector's whole list was made, as its list
 pub written : {X : Type 0} (n : ℕ) (xs ys : List X) → n ≡ length xs → length ys ≡ length xs → take n (ys ++ drop (length ys) xs) ≡ ys
 written n xs ys h same = take-append-le n ys (drop (length ys) xs) (omega arith) ∙ take_all n ys (omega arith)
@@ -261,12 +227,3 @@ pub stands_passed : (c : Setting) (e : State) (is : List Instr) (p : ℕ) (label
 stands_passed c e is p labels n folded s end =
     some_visits c (visits e c.ranges is) (omega (arith, s.some, length-visits_back e c.ranges (reverse is), length-reverse is))
     ∙ ap (λ js. first_fault c (visits e c.ranges js)) (sym (take_all p is end)) ∙ s.faultless
-
-pub stands_values : (c : Setting) (e : State) (is : List Instr) (p : ℕ) (labels : List Label) (n : ℕ) (folded : List (Option Interval)) →
-    Stands c e is p labels n folded → length is ≤ p → (a : ℕ) → a < n → slice_index_or folded a None ≡ values_folded a (visits e c.ranges is)
-stands_values c e is p labels n folded s end a few = s.values a few ∙ ap (λ js. values_folded a (visits e c.ranges js)) (take_all p is end)
-
--- a section without instructions
-pub empty_refused : (c : Setting) (e : State) (r : Ranges) (is : List Instr) → length is ≡ 0 → section_fault c (visits e r is) ≡ Some (record { part = Code c.section; place = 0; rule = rule.NoReturn })
-empty_refused c e r [] h = refl
-empty_refused c e r (i ∷ is) h = absurd (omega arith)

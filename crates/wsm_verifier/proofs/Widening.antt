@@ -1,6 +1,6 @@
 -- A stack that is widened in place, a value at a time.
-use Rattle.std.proofs.Common.{◌≡◌, ℕ, zero, suc, ◌+◌, ◌<◌, Bool, true, false, ◌&&◌, List, [], ◌∷◌, ◌++◌, length, get_or, set, replicate, refl, sym, ap, arith}
-use Rattle.std.proofs.lemmas.Bool.{true≢false}
+use Rattle.std.proofs.Common.{◌≡◌, ℕ, zero, suc, ◌+◌, ◌<◌, Bool, true, ◌&&◌, List, [], ◌∷◌, length, get_or, set, refl, sym, ap, arith}
+use Rattle.std.proofs.lemmas.Bool.{true≢false, and_parts}
 use Rattle.wsm_verifier.specs.declared.known.Known.{Known}
 use Rattle.wsm_verifier.specs.Labels.{same_type, same_types, hull_known, hull_stacks}
 
@@ -28,24 +28,12 @@ widened_all [] ys l = refl
 widened_all (x ∷ xs) [] l = absurd (omega arith)
 widened_all (x ∷ xs) (y ∷ ys) l = ap (λ zs. hull_known x y ∷ zs) (widened_all xs ys (omega arith))
 
-both : (a b : Bool) → (a && b) ≡ true → b ≡ true
-both true b e = e
-both false b e = absurd (true≢false (sym e))
-
 -- stacks of the same types have the same height
 pub same_height : (xs ys : List Known) → same_types xs ys ≡ true → length xs ≡ length ys
 same_height [] [] e = refl
 same_height [] (y ∷ ys) e = absurd (true≢false (sym e))
 same_height (x ∷ xs) [] e = absurd (true≢false (sym e))
-same_height (x ∷ xs) (y ∷ ys) e = ap suc (same_height xs ys (both (same_type x y) (same_types xs ys) e))
-
-first_of_both : (a b : Bool) → (a && b) ≡ true → a ≡ true
-first_of_both true b e = refl
-first_of_both false b e = absurd (true≢false (sym e))
+same_height (x ∷ xs) (y ∷ ys) e = ap suc (same_height xs ys (and_parts (same_type x y) (same_types xs ys) e).1)
 
 pub same_height_and : (xs ys : List Known) (b : Bool) → (same_types xs ys && b) ≡ true → length xs ≡ length ys
-same_height_and xs ys b e = same_height xs ys (first_of_both (same_types xs ys) b e)
-
-pub replicate_more : {A : Type 0} (n : ℕ) (x : A) → replicate n x ++ x ∷ [] ≡ replicate (suc n) x
-replicate_more zero x = refl
-replicate_more (suc n) x = ap (λ xs. x ∷ xs) (replicate_more n x)
+same_height_and xs ys b e = same_height xs ys (and_parts (same_types xs ys) b e).0

@@ -94,7 +94,7 @@ start_of a b last x y m e f g = omega (arith, ints)
 soon_enough : (a b last t rem : ℤ) (m r s p : ℕ) → 0 < p → a ≡ last -ℤ pos m → b ≡ a +ℤ pos s → t <ℤ b → rem ≡ pos r → last ≡ t -ℤ rem → m + p ≤ s + p - 1
 soon_enough a b last t rem m r s p h e f g i j = omega (arith, ints)
 
-is_inside : (t : ℤ) (w : Window) → w.start ≤ℤ t → t <ℤ w.end → has_inside t w ≡ true
+pub is_inside : (t : ℤ) (w : Window) → w.start ≤ℤ t → t <ℤ w.end → has_inside t w ≡ true
 is_inside t w h k = grind (arith, ints)
 
 too_late : (a t last x y rem : ℤ) (j r p : ℕ) → r < p → rem ≡ pos r → last ≡ t -ℤ rem → a ≤ℤ t → a ≡ y → last ≡ x → y ≡ x +ℤ pos (suc j * p) → ⊥
