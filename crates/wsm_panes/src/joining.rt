@@ -1,6 +1,6 @@
 //! What a record does to a table of panes whose windows are sessions.
 
-ghost use Rattle.std.specs.Prelude.{◌≡◌, ◌≤◌, ◌≤ℤ◌, ℕ, ℤ, pos, Bool, false, [], ◌∷◌, List, length, not, filter, nat_eq, nat_lt, Some, IsSome, IfSome, IsTrue};
+ghost use Rattle.std.specs.Prelude.{◌≡◌, ◌⊎◌, ◌<◌, ◌≤◌, ◌≤ℤ◌, ℕ, ℤ, pos, Bool, true, false, [], ◌∷◌, List, length, not, filter, nat_eq, nat_lt, Some, IsSome, IfSome, IsTrue};
 ghost use Rattle.std.specs.FinMap as map;
 ghost use Rattle.wsm_record.specs.declared.event.Value.{Value as OneValue};
 ghost use Rattle.wsm_windows.specs.Windows.{IsTime};
@@ -11,7 +11,7 @@ ghost use Rattle.wsm_semantics.specs.Replay.{datum};
 ghost use Rattle.wsm_semantics.specs.Sessions.{with_session};
 ghost use Rattle.wsm_semantics.specs.Summaries.{joined_all, linked, merged_session, session_with};
 ghost use Rattle.wsm_sessions.specs.Live.{Fits};
-ghost use Rattle.wsm_panes.specs.Held.{CanJoin, CanRecord, CanJoinAll, taking, windows_of_key};
+ghost use Rattle.wsm_panes.specs.Held.{CanJoin, CanRecord, CanJoinAll, taking, windows_of_key, with_one_more};
 
 use crate::entering::place_of;
 use crate::list::ListTable;
@@ -26,6 +26,73 @@ use wsm_windows::Window;
 /// Puts a record into its session, which joins the panes that it is linked to. Gives the window of
 /// the session, and tells whether two were joined.
 pub(crate) fn enter_session(
+    table: &mut ListTable<Pane>,
+    sessions: &mut Sessions,
+    kinds: &[Kind],
+    key: u16,
+    time: i64,
+    values: &[Value],
+) -> (Window, bool)
+    requires time { IsTime time }
+    requires gap { pos 1 ≤ℤ sessions.old.gap }
+    requires times { (times : List ℤ) × Fits sessions.old times }
+    requires agree { windows_of_key key (map.entries table.old.panes) ≡ sessions.old.windows }
+    requires few { length values.now ≤ 16 }
+    requires types { IsTrue (are_of_kinds kinds.now values.now) }
+    requires joins { CanJoinAll kinds.now values.now (linked sessions.old.gap (datum 0 key time []) (map.entries table.old.panes)) }
+    requires room { length (merged_session (taking kinds.now values.now) sessions.old.gap (datum 0 key time []) (map.entries table.old.panes)) ≤ table.old.room }
+    requires live { length (filter (λ e. nat_eq e.0.key key) (merged_session (taking kinds.now values.now) sessions.old.gap (datum 0 key time []) (map.entries table.old.panes))) ≤ sessions.old.room }
+    ensures panes { map.entries table.new.panes ≡ merged_session (taking kinds.now values.now) sessions.old.gap (datum 0 key time []) (map.entries table.old.panes) }
+    ensures room { table.new.room ≡ table.old.room }
+    ensures session { result.0 ≡ window_of (session_with sessions.old.gap (datum 0 key time []) (linked sessions.old.gap (datum 0 key time []) (map.entries table.old.panes))) }
+    ensures joined { result.1 ≡ nat_lt 1 (length (linked sessions.old.gap (datum 0 key time []) (map.entries table.old.panes))) }
+    ensures sessions { sessions.new ≡ record sessions.old { windows = with_session sessions.old.gap time sessions.old.windows } }
+    ensures fits { (times : List ℤ) → Fits sessions.old times → Fits sessions.new (time ∷ times) }
+    ensures agree { windows_of_key key (map.entries table.new.panes) ≡ sessions.new.windows }
+    ensures others { (k : ℕ) → nat_eq key k ≡ false → windows_of_key k (map.entries table.new.panes) ≡ windows_of_key k (map.entries table.old.panes) }
+{
+    match sessions.linked(time) {
+        Linked::One(window) => {
+            let session = sessions.enter(time);
+            enter_moved(
+                table,
+                place_of(key, window),
+                place_of(key, session),
+                kinds,
+                values,
+            );
+            (session, false)
+        }
+        _ => merge_linked(table, sessions, kinds, key, time, values),
+    }
+}
+
+// Puts a record into the pane at a place, which goes to the place of the session then.
+fn enter_moved(
+    table: &mut ListTable<Pane>,
+    from: Place,
+    to: Place,
+    kinds: &[Kind],
+    values: &[Value],
+)
+    requires few { length values.now ≤ 16 }
+    requires types { IsTrue (are_of_kinds kinds.now values.now) }
+    requires there { IsSome (map.get table.old.panes from) }
+    requires takes { IfSome (map.get table.old.panes from) (CanRecord kinds.now values.now) }
+    requires room { (map.contains_key (map.remove table.old.panes from) to ≡ true) ⊎ (map.len (map.remove table.old.panes from) < table.old.room) }
+    ensures panes { table.new.panes ≡ map.insert (map.remove table.old.panes from) to (with_one_more kinds.now values.now (map.get table.old.panes from)) }
+    ensures room { table.new.room ≡ table.old.room }
+{
+    if from == to {
+        table.enter(to, kinds, values);
+    } else {
+        let pane = take(table, from);
+        table.put(to, with_one_more(Some(pane), kinds, values));
+    }
+}
+
+// Puts a record into its session, of what the panes that it is linked to come to together.
+fn merge_linked(
     table: &mut ListTable<Pane>,
     sessions: &mut Sessions,
     kinds: &[Kind],
