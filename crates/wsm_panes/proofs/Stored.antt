@@ -1,10 +1,10 @@
 -- What an edit of the entries or of a slot does to what is shown of them.
-use Rattle.std.proofs.Common.{◌≡◌, ◌≢◌, ◌⊎◌, ◌<◌, ◌≤◌, ◌+◌, ℕ, zero, suc, Bool, true, cond, Option, Some, None, List, [], ◌∷◌, ◌++◌, length, refl, sym, ap, ◌∙◌, inl, inr, arith}
+use Rattle.std.proofs.Common.{◌≡◌, ◌≢◌, ◌⊎◌, ◌<◌, ◌≤◌, ◌+◌, ℕ, zero, suc, Bool, true, Option, Some, None, List, [], ◌∷◌, ◌++◌, length, refl, sym, ap, ◌∙◌, inl, inr, arith}
 use Rattle.std.proofs.lemmas.Bool.{true≢false, cases_Bool}
 use Rattle.std.proofs.lemmas.Bool.Decides.{nat_tests}
 use Rattle.std.specs.Prelude.{◌&&◌, filter, nat_lt, slice_get, slice_set}
 use Rattle.std.specs.Option.{is_some}
-use Rattle.std.specs.Ordering.{is_lt, is_gt}
+use Rattle.std.specs.Ordering.{is_lt}
 use Rattle.std.specs.FinMap.Entries.{find, put, is_sorted, below_all}
 use Rattle.wsm_semantics.specs.declared.place.Place.{Place}
 use Rattle.wsm_panes.specs.Place.{place_cmp, before}
@@ -18,9 +18,6 @@ use Rattle.wsm_panes.proofs.Tables.{to_T, from_T}
 
 pub same_self : (s : ℕ) → same s s ≡ 1
 same_self s = grind (arith, nat_tests)
-
-pub same_apart : (r s : ℕ) → r ≢ s → same r s ≡ 0
-same_apart r s h = grind (arith, nat_tests)
 
 pub apart_same : (r s : ℕ) → same r s ≡ 0 → r ≢ s
 apart_same r s h is = let one : same r s ≡ 1 = rw is (same_self s) in omega (arith, h, one)
@@ -64,10 +61,6 @@ module _ {P : Type 0} (panes : List P) where
   pub shown_length : (es : List (Place × ℕ)) → AreIn panes es → length (shown panes es) ≡ length es
   shown_length [] h = refl
   shown_length (e ∷ es) h = ap length (shown_cons e es h.0).1 ∙ ap suc (shown_length es h.1)
-
-  pub shown_before : (q : Place) (es : List (Place × ℕ)) → AreIn panes es → before place_cmp q (shown panes es) ≡ before place_cmp q es
-  shown_before q [] h = refl
-  shown_before q (e ∷ es) h = ap (before place_cmp q) (shown_cons e es h.0).1 ∙ ap (λ n. cond (is_gt (place_cmp q e.0)) (suc n) 0) (shown_before q es h.1)
 
   shown_below : (q : Place) (es : List (Place × ℕ)) → AreIn panes es → below_all place_cmp q (shown panes es) ≡ below_all place_cmp q es
   shown_below q [] h = refl

@@ -1,10 +1,10 @@
 -- Entries and their slots after an edit of either: they are stored as they were, and what is shown of them is
 -- what an edit of the panes themselves comes to.
 use Rattle.std.proofs.Common.{◌≡◌, ◌≢◌, ◌⊎◌, ◌<◌, ◌≤◌, ◌+◌, ℕ, zero, suc, Bool, true, false, cond, T, Option, Some, None, List, [], ◌∷◌, length, get_or, take, drop, refl, sym, ap, subst, ◌∙◌, inl, inr, arith, ℤ}
-use Rattle.std.proofs.lemmas.Bool.{true≢false, cases_Bool}
+use Rattle.std.proofs.lemmas.Bool.{true≢false}
 use Rattle.std.proofs.lemmas.Bool.Decides.{nat_tests}
 use Rattle.std.proofs.lemmas.Int.{ints}
-use Rattle.std.specs.Prelude.{◌≤ℤ◌, ◌<ℤ◌, filter, insert, nat_lt, slice_get}
+use Rattle.std.specs.Prelude.{◌≤ℤ◌, ◌<ℤ◌, filter, nat_lt, slice_get}
 use Rattle.std.specs.List.{remove}
 use Rattle.std.specs.Option.{is_some}
 use Rattle.std.specs.Ordering.{is_lt, int_cmp, ordering_then, MatchOrdering}
@@ -15,11 +15,10 @@ use Rattle.std.specs.declared.cmp.Ordering.TheVariants.{Less, Equal, Greater}
 use Rattle.std.specs.FinMap.{contains_key, len}
 use Rattle.std.specs.FinMap.Entries.{find, put, is_sorted, below_all, length-put}
 use Rattle.wsm_semantics.specs.declared.place.Place.{Place}
-use Rattle.wsm_panes.specs.Place.{place_cmp, before, is_kept}
-use Rattle.wsm_panes.specs.Search.{IsGapFor}
+use Rattle.wsm_panes.specs.Place.{place_cmp, is_kept}
 use Rattle.wsm_panes.specs.Stored.{AreStored, listed, same, shown, unowned, uses}
-use Rattle.wsm_panes.proofs.Entries.{places_total, exact_places}
-use Rattle.wsm_panes.proofs.Sorted.{before_within, find_absent, put_between, cases_Ordering, lesser, first_of_and, second_of_and}
+use Rattle.wsm_panes.proofs.Entries.{places_total}
+use Rattle.wsm_panes.proofs.Sorted.{cases_Ordering, lesser, first_of_and, second_of_and}
 use Rattle.wsm_panes.proofs.Tables.{to_T, from_T, put_sorted, kept_sorted, map_of, get_is, len_is}
 use Rattle.wsm_panes.proofs.Stored.{AreIn, are_in, pane_in, same_self, shown_filter, shown_find, shown_length, shown_put, shown_set, shown_sorted, uses-append, uses_put}
 
@@ -76,19 +75,10 @@ module _ {P : Type 0} (panes : List P) (free : List ℕ) (es : List (Place × �
     by (e ∷ fs) zero a w = a.0
     by (e ∷ fs) (suc j) a w = by fs j a.1 (omega (arith, w))
 
-  pub free_in : (s : ℕ) → 0 < listed s free → s < length panes
-  free_in s some = elim (cases_Bool (nat_lt s (length panes))) [
-    | inl less ↦ grind (arith, nat_tests)
-    | inr more ↦ let one = h.once s in let past : cond {A = ℕ} (nat_lt s (length panes)) 0 1 ≡ 1 = rw more refl in absurd (omega (arith, one, past, some))
-  ]
-
   -- a pane is written into the slot of a place
-  module _ (q : Place) (k : ℕ) (v : P) (new : List P) (found : find place_cmp q es ≡ Some k) (here : slice_get new k ≡ Some v) (others : (s : ℕ) → k ≢ s → slice_get new s ≡ slice_get panes s) (slots : length new ≡ length panes) where
+  module _ (q : Place) (k : ℕ) (v : P) (new : List P) (found : find place_cmp q es ≡ Some k) (here : slice_get new k ≡ Some v) (others : (s : ℕ) → k ≢ s → slice_get new s ≡ slice_get panes s) where
     pub written_shows : shown new es ≡ put place_cmp q v (shown panes es)
     written_shows = shown_set panes new k v here others q es all_in h.sorted found (one_use k)
-
-    pub written_stored : AreStored new free es
-    written_stored = record { sorted = h.sorted; once = λ s. rw slots (h.once s); count = h.count ∙ sym slots }
 
   -- a place has a pane of its own, in a slot that none had
   module _ (q : Place) (k : ℕ) (v : P) (new : List P) (left : List ℕ) (none : find place_cmp q es ≡ None) (here : slice_get new k ≡ Some v) (others : (s : ℕ) → k ≢ s → slice_get new s ≡ slice_get panes s)
@@ -116,17 +106,6 @@ module _ {P : Type 0} (panes : List P) (free : List ℕ) (es : List (Place × �
       sorted = ap (is_sorted place_cmp) is ∙ kept_sorted es h.sorted t;
       once = λ s. let one = h.once s in let moved = freed s in omega (arith, one, moved);
       count = omega (arith, count, h.count);
-    }
-
--- where the scan for a place stops at another place, the place would go there
-pub gap_other : (es : List (Place × ℕ)) (i : ℕ) (q : Place) → is_sorted place_cmp es ≡ true → i ≡ before place_cmp q es → (i < length es → (get_or es i (q, 0)).0 ≢ q) → IsGapFor es q i
-gap_other es i q sorted here other =
-    let apart : before place_cmp q es < length es → (get_or es (before place_cmp q es) (q, 0)).0 ≢ q = subst (λ n. n < length es → (get_or es n (q, 0)).0 ≢ q) here other in
-    record {
-      within = let w = before_within place_cmp es q in omega (arith, here, w);
-      stops = here;
-      absent = find_absent place_cmp places_total exact_places es (q, 0) q (to_T _ sorted) apart;
-      puts = λ k. sym (subst (λ n. insert es n (q, k) ≡ put place_cmp q k es) (sym here) (put_between place_cmp places_total exact_places es (q, 0) q k apart));
     }
 
 -- ---- entries that expire come first

@@ -1,13 +1,11 @@
 -- What an edit of the sorted list does to the map that it stands for.
-use Rattle.std.proofs.Common.{◌≡◌, ◌⊎◌, ◌<◌, ◌≤◌, ◌+◌, ℕ, List, [], length, inl, inr, arith, Bool, true, false, T, cond, None, sym, refl, ap, ◌∙◌}
+use Rattle.std.proofs.Common.{◌≡◌, List, [], length, Bool, true, false, T, cond, None, sym, refl, ap, ◌∙◌}
 use Rattle.std.specs.Prelude.{filter, not}
-use Rattle.std.specs.Option.{is_some}
-use Rattle.std.proofs.lemmas.Bool.{false≢true}
 use Rattle.std.specs.Ordering.{eq_by_cmp}
 use Rattle.std.specs.Cmp.{eq_by_cmp_equiv}
 use Rattle.std.specs.declared.cmp.Ordering.TheVariants.{Equal}
 use Rattle.std.specs.FinMap.{FinMap, empty, empty_of_len, entries, find, from_sorted, get, insert, is_sorted, len, put, remove, retain_keys, entries-from_sorted, entries-insert, get-from_sorted, get-remove, get-retain_keys, get-entries, len-entries, entries_sorted, same_entries_map, same_map}
-use Rattle.std.specs.FinMap.Entries.{where_key, same_entries, find-where_key, length-put, is_sorted-put, is_sorted-where_key}
+use Rattle.std.specs.FinMap.Entries.{where_key, same_entries, find-where_key, is_sorted-put, is_sorted-where_key}
 use Rattle.wsm_semantics.specs.declared.place.Place.{Place}
 use Rattle.wsm_panes.specs.Place.{place_cmp, is_other}
 use Rattle.wsm_panes.proofs.Entries.{exact_places, places_total}
@@ -28,10 +26,6 @@ alike p q x t = ap p (sym (exact_places q x t))
 
 abbrev pub map_of : {P : Type 0} → List (Place × P) → FinMap place_cmp P
 map_of es = from_sorted es
-
-fits_in : (b : Bool) (n room : ℕ) → (b ≡ true) ⊎ (n < room) → n ≤ room → cond b n (n + 1) ≤ room
-fits_in true n room h le = le
-fits_in false n room h le = elim h [ inl bad ↦ absurd (false≢true bad) | inr lt ↦ omega arith ]
 
 module _ {P : Type 0} (es : List (Place × P)) (sorted : is_sorted place_cmp es ≡ true) where
   pub entries_are : entries (map_of es) ≡ es
@@ -62,10 +56,6 @@ module _ {P : Type 0} (es : List (Place × P)) (sorted : is_sorted place_cmp es 
       get-retain_keys (map_of es) (is_other k) q (alike (is_other k) q) ∙ turned (eq_by_cmp place_cmp k q) _ _
       ∙ ap (λ b. cond b None (get (map_of es) q)) ((eq_by_cmp_equiv places_total).symm k q)
       ∙ sym (get-remove places_total (map_of es) k q))
-
-  -- the entry is there, or there is room for it
-  pub put_fits : (k : Place) (v : P) (room : ℕ) → (is_some (find place_cmp k es) ≡ true) ⊎ (length es < room) → length es ≤ room → length (put place_cmp k v es) ≤ room
-  put_fits k v room h le = rw (length-put place_cmp places_total k v es (to_T _ sorted)) (fits_in (is_some (find place_cmp k es)) (length es) room h le)
 
 pub map_of-nil : {P : Type 0} → map_of {P = P} [] ≡ empty
 map_of-nil {P = P} = empty_of_len (map_of {P = P} []) (len_is {P = P} [] refl)

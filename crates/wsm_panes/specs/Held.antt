@@ -6,6 +6,7 @@ use Rattle.std.specs.FinMap as map
 use Rattle.std.specs.FinMap.Entries.{find}
 use Rattle.wsm_record.specs.declared.event.Value.{Value}
 use Rattle.wsm_record.specs.declared.words.Kind.{Kind}
+use Rattle.wsm_record.specs.declared.words.Mode.{Mode}
 use Rattle.wsm_windows.specs.declared.window.Window.{Window}
 use Rattle.wsm_windows.specs.declared.window.Shape.{Shape}
 use Rattle.wsm_windows.specs.declared.window.Shape.TheVariants.{Session}
@@ -13,10 +14,11 @@ use Rattle.wsm_windows.specs.Windows.{IsTime}
 use Rattle.wsm_fold.specs.Fold.{are_of_kinds, joins}
 use Rattle.wsm_fold.specs.Accumulators.{SumsFit}
 use Rattle.wsm_semantics.specs.declared.place.Place.{Place}
+use Rattle.wsm_semantics.specs.declared.standing.Standing.TheVariants.{Row}
 use Rattle.wsm_semantics.specs.Query.{Datum}
 use Rattle.wsm_semantics.specs.Panes.{place_cmp, at, window_of}
 use Rattle.wsm_semantics.specs.Replay.{datum}
-use Rattle.wsm_semantics.specs.Summaries.{Plan, Pane, assigned, entered, joined, linked, session_with, with_record}
+use Rattle.wsm_semantics.specs.Summaries.{Plan, Pane, assigned, entered, joined, left_folded, linked, session_with, with_record}
 use Rattle.wsm_panes.specs.Place.{coded_place}
 
 -- the panes, for keys of these numbers, with room for so many live windows of each
@@ -50,6 +52,10 @@ taking kinds values = record { selects = λ _ _. true; first = λ _ _. values; m
 -- a pane, if there is one, with one record more
 abbrev pub with_one_more : List Kind → List Value → Option (Pane (List Value)) → Pane (List Value)
 with_one_more kinds values pane = with_record (taking kinds values) (datum 0 0 (pos 0) []) pane
+
+-- a pane that fired: it has shown all of its records, and the row of the firing stands
+abbrev pub once_fired : Mode → Option (List Value) → Pane (List Value) → Pane (List Value)
+once_fired mode row h = record h { unshown = 0; folded = left_folded mode h.folded; stands = Row row }
 
 -- what is held with a record of a key and a time, that is folded by these values
 abbrev pub with_entered : List Kind → ℕ → ℤ → List Value → Held → List (Place × Pane (List Value))

@@ -1,4 +1,4 @@
-use Rattle.std.specs.Prelude.{◌≡◌, ℕ, ◌<◌, ◌≤◌, List, length, None, Some, slice_index_or, slice_set, insert, ◌⊎◌}
+use Rattle.std.specs.Prelude.{◌≡◌, ℕ, ◌<◌, ◌≤◌, List, length, None, Some, slice_index_or, slice_set, insert}
 use Rattle.std.specs.FinMap.{find, put}
 use Rattle.wsm_semantics.specs.declared.place.Place.{Place}
 use Rattle.wsm_panes.specs.Place.{place_cmp, before}
@@ -17,7 +17,3 @@ pub record IsGapFor {P : Type 0} (es : List (Place × P)) (place : Place) (i : �
   pub stops : i ≡ before place_cmp place es
   pub absent : find place_cmp place es ≡ None
   pub puts : (pane : P) → put place_cmp place pane es ≡ insert es i (place, pane)
-
--- the slot of a place: where it is, or where it would go
-abbrev pub IsSlotFor : {P : Type 0} → List (Place × P) → Place → ℕ → Type 0
-IsSlotFor es place i = IsAt es place i ⊎ IsGapFor es place i

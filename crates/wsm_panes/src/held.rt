@@ -1,13 +1,15 @@
 //! The panes that are held.
 
-ghost use Rattle.std.specs.Prelude.{◌≡◌, ◌*◌, ◌<◌, ◌≤◌, ◌≤ℤ◌, ℤ, pos, [], length, IfOk, IsSome, Some, int_lt, slice_get};
+ghost use Rattle.std.specs.Prelude.{◌≡◌, ◌*◌, ◌<◌, ◌≤◌, ◌≤ℤ◌, ℤ, pos, List, [], length, IfOk, IsSome, Some, int_lt, slice_get};
 ghost use Rattle.std.specs.FinMap as map;
 ghost use Rattle.std.specs.FinMap.Entries.{find, put, where_key};
 ghost use Rattle.wsm_windows.specs.Windows.{IsShape, greatest_span, windows_of_shape};
 ghost use Rattle.wsm_windows.specs.declared.window.Shape.TheVariants.{Session};
 ghost use Rattle.wsm_semantics.specs.Panes.{place_cmp};
 ghost use Rattle.wsm_semantics.specs.Replay.{datum};
-ghost use Rattle.wsm_panes.specs.Held.{CanEnter, IsKept, entries_of, joins_sessions, room_of, session_entered, with_entered};
+ghost use Rattle.wsm_semantics.specs.Summaries.{Pane as AnyPane};
+ghost use Rattle.wsm_record.specs.declared.event.Value.{Value as OneValue};
+ghost use Rattle.wsm_panes.specs.Held.{CanEnter, IsKept, entries_of, joins_sessions, once_fired, room_of, session_entered, with_entered};
 ghost use Rattle.wsm_panes.specs.OfKeys.{AreOfKeys, AreDropped};
 
 use crate::entering::enter_windows;
@@ -17,8 +19,8 @@ use crate::pane::Pane;
 use crate::table::PaneTable;
 use std::alloc::{AllocError, Global};
 use std::marker::Model;
-use wsm_record::{Kind, Value};
-use wsm_semantics::Place;
+use wsm_record::{Kind, Mode, Value};
+use wsm_semantics::{Columns, Place};
 use wsm_sessions::Sessions;
 use wsm_windows::{Shape, Window};
 
@@ -154,6 +156,16 @@ impl HeldPanes {
         ensures keeps { IsKept self.old self.new }
     {
         self.table.put(place, pane);
+    }
+
+    /// Has the pane at a place where one is have fired: it has shown all of its records, and the row
+    /// of the firing stands.
+    pub fn fire_at(&mut self, place: Place, mode: Mode, row: Option<Columns>)
+        requires { IsSome (find place_cmp place (entries_of self.old)) }
+        ensures panes { (pane : AnyPane (List OneValue)) × (find place_cmp place (entries_of self.old) ≡ Some pane) × (entries_of self.new ≡ put place_cmp place (once_fired mode row pane) (entries_of self.old)) }
+        ensures keeps { IsKept self.old self.new }
+    {
+        self.table.fire(place, mode, row);
     }
 
     /// Drops the panes of windows with an end of at most the limit, which is in event time.

@@ -1,21 +1,25 @@
 //! A table kept as a sorted list.
 
-ghost use Rattle.std.specs.Prelude.{◌≡◌, ◌⊎◌, ◌<◌, ◌≤◌, ◌+◌, ℕ, IfOk, IfErr, IsTrue, true, not, drop, filter, take, vec_len, vec_capacity, IsSome, IfSome, length, slice_get};
+ghost use Rattle.std.specs.Prelude.{◌≡◌, ◌⊎◌, ◌<◌, ◌≤◌, ◌+◌, ℕ, List, Some, IfOk, IfErr, IsTrue, true, not, drop, filter, take, vec_len, vec_capacity, IsSome, IfSome, length, slice_get};
 ghost use Rattle.std.specs.FinMap as map;
 ghost use Rattle.wsm_fold.specs.Fold.{are_of_kinds};
+ghost use Rattle.wsm_record.specs.declared.event.Value.{Value as OneValue};
+ghost use Rattle.wsm_semantics.specs.Summaries.{Pane as AnyPane};
+ghost use Rattle.wsm_panes.specs.Held.{once_fired};
 ghost use Rattle.wsm_panes.specs.Place.{place_cmp, is_kept, is_other};
 ghost use Rattle.wsm_panes.specs.Search.{IsAt, IsGapFor};
 ghost use Rattle.wsm_panes.specs.Stored.{AreStored, listed, shown, uses};
 ghost use Rattle.wsm_panes.specs.Walk.{following};
 
+use crate::pane::Pane;
 use crate::recording::TakesRecords;
 use crate::store::Store;
 use crate::table::PaneTable;
 use std::alloc::{AllocError, Global};
 use std::cmp::Ordering;
 use std::marker::Model;
-use wsm_record::{Kind, Value};
-use wsm_semantics::Place;
+use wsm_record::{Kind, Mode, Value};
+use wsm_semantics::{Columns, Place};
 
 /// A table kept as a sorted list of places, each with the slot of its pane: a place is found by
 /// binary search, and a new one moves those behind it. Panes stay in their slots.
@@ -59,6 +63,17 @@ impl<P: Copy> ListTable<P> {
             store: Store::open(alloc, room)?,
             room,
         })
+    }
+}
+
+impl ListTable<Pane> {
+    /// Has the pane at a place have fired.
+    pub(crate) fn fire(&mut self, place: Place, mode: Mode, row: Option<Columns>)
+        requires { IsSome (map.get self.old.panes place) }
+        ensures panes { (pane : AnyPane (List OneValue)) × (map.get self.old.panes place ≡ Some pane) × (self.new.panes ≡ map.insert self.old.panes place (once_fired mode row pane)) }
+        ensures room { self.new.room ≡ self.old.room }
+    {
+        fire_in(&self.entries, &mut self.store, place, mode, row);
     }
 }
 
@@ -202,6 +217,24 @@ fn enter_in<P: TakesRecords>(
         Ok(i) => store.record(entries[i].1, kinds, values),
         Err(i) => add(entries, store, i, place, P::first(values)),
     }
+}
+
+// Has the pane at a place have fired.
+fn fire_in(
+    entries: &[Entry],
+    store: &mut Store<Pane>,
+    place: Place,
+    mode: Mode,
+    row: Option<Columns>,
+)
+    requires stored { AreStored store.old.panes.items store.old.free.items entries.now }
+    requires there { IsSome (map.find place_cmp place entries.now) }
+    ensures shown { (pane : AnyPane (List OneValue)) × (map.find place_cmp place (shown store.old.panes.items entries.now) ≡ Some pane) × (shown store.new.panes.items entries.now ≡ map.put place_cmp place (once_fired mode row pane) (shown store.old.panes.items entries.now)) }
+    ensures stored { AreStored store.new.panes.items store.new.free.items entries.now }
+    ensures room { (vec_capacity store.new.panes ≡ vec_capacity store.old.panes) × (vec_capacity store.new.free ≡ vec_capacity store.old.free) }
+{
+    let i = search(entries, place).unwrap();
+    store.fire(entries[i].1, mode, row);
 }
 
 // Has a place that no entry is at go in front of an entry, with a pane.

@@ -8,7 +8,7 @@ ghost use Rattle.wsm_semantics.specs.Query.{Datum};
 ghost use Rattle.wsm_semantics.specs.Summaries.{left_folded, standing_joined, with_folded, with_record};
 ghost use Rattle.wsm_semantics.specs.Summaries as kept;
 ghost use Rattle.wsm_semantics.specs.declared.standing.Standing.TheVariants.{Row};
-ghost use Rattle.wsm_panes.specs.Held.{CanJoin, CanJoinFolds, CanRecord, CanTake, taking};
+ghost use Rattle.wsm_panes.specs.Held.{CanJoin, CanJoinFolds, CanRecord, CanTake, once_fired, taking};
 
 use crate::recording::TakesRecords;
 use std::marker::Model;
@@ -68,16 +68,20 @@ impl Pane {
     pub fn fired(self, mode: Mode, row: Option<Columns>) -> Pane
         ensures { result ≡ record self { unshown = 0; folded = left_folded mode self.folded; stands = Row row } }
     {
-        let folded = match mode {
-            Mode::Accumulating => self.folded,
-            Mode::Discarding => None,
-        };
-        Pane {
-            count: self.count,
-            unshown: 0,
-            folded,
-            stands: Standing::Row(row),
+        let mut pane = self;
+        pane.fire(mode, row);
+        pane
+    }
+
+    /// Has it have fired: it has shown all of its records, and the row of the firing stands.
+    pub(crate) fn fire(&mut self, mode: Mode, row: Option<Columns>)
+        ensures { self.new ≡ once_fired mode row self.old }
+    {
+        self.unshown = 0;
+        if mode == Mode::Discarding {
+            self.folded = None;
         }
+        self.stands = Standing::Row(row);
     }
 
     /// The row that stands for it.

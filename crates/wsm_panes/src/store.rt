@@ -1,12 +1,15 @@
 //! Panes in slots that are used again.
 
-ghost use Rattle.std.specs.Prelude.{◌≡◌, ◌≢◌, ◌⊎◌, ◌+◌, ◌≤◌, ◌<◌, ℕ, [], Some, IfOk, IfSome, IsTrue, length, slice_get, vec_len, vec_capacity};
+ghost use Rattle.std.specs.Prelude.{◌≡◌, ◌≢◌, ◌⊎◌, ◌+◌, ◌≤◌, ◌<◌, ℕ, [], Some, IfOk, IfSome, IsTrue, length, option_map, slice_get, vec_len, vec_capacity};
 ghost use Rattle.wsm_fold.specs.Fold.{are_of_kinds};
+ghost use Rattle.wsm_panes.specs.Held.{once_fired};
 ghost use Rattle.wsm_panes.specs.Stored.{listed, same, unowned};
 
+use crate::pane::Pane;
 use crate::recording::TakesRecords;
 use std::alloc::{AllocError, Global};
-use wsm_record::{Kind, Value};
+use wsm_record::{Kind, Mode, Value};
+use wsm_semantics::Columns;
 
 /// Panes in slots that are numbered from 0 on. The slot of a pane that is gone is free for another.
 #[derive(Drop)]
@@ -101,5 +104,19 @@ impl<P: TakesRecords> Store<P> {
         ensures room { (vec_capacity self.new.panes ≡ vec_capacity self.old.panes) × (vec_capacity self.new.free ≡ vec_capacity self.old.free) }
     {
         self.panes[slot].record(kinds, values);
+    }
+}
+
+impl Store<Pane> {
+    /// Has the pane in a slot have fired.
+    pub(crate) fn fire(&mut self, slot: usize, mode: Mode, row: Option<Columns>)
+        requires { slot < length self.old.panes.items }
+        ensures here { slice_get self.new.panes.items slot ≡ option_map (once_fired mode row) (slice_get self.old.panes.items slot) }
+        ensures others { (s : ℕ) → slot ≢ s → slice_get self.new.panes.items s ≡ slice_get self.old.panes.items s }
+        ensures slots { length self.new.panes.items ≡ length self.old.panes.items }
+        ensures free { self.new.free.items ≡ self.old.free.items }
+        ensures room { (vec_capacity self.new.panes ≡ vec_capacity self.old.panes) × (vec_capacity self.new.free ≡ vec_capacity self.old.free) }
+    {
+        self.panes[slot].fire(mode, row);
     }
 }

@@ -36,7 +36,7 @@ returns-in-Ok-clause-shown g c =
     let finds : map.find place_cmp c.args.place c.args.entries.now.items ≡ Some c.index.result.now.1 = here.finds c.index.result.now ∙ ap (λ (e : Place × ℕ). Some e.1) (sym c.index.ensures) in
     let panes = c.args.store.now.panes.items in
     let found = find_is _ _ _ c.requires.stored c.args.place ∙ ap (pane_in panes) finds in
-    written_shows _ _ _ c.requires.stored c.args.place c.index.result.now.1 (g.P.TakesRecords.with_record c.args.kinds.now c.args.values.now (slice_get panes c.index.result.now.1)) c.record.new.self.panes.items finds c.record.ensures.here c.record.ensures.others c.record.ensures.slots
+    written_shows _ _ _ c.requires.stored c.args.place c.index.result.now.1 (g.P.TakesRecords.with_record c.args.kinds.now c.args.values.now (slice_get panes c.index.result.now.1)) c.record.new.self.panes.items finds c.record.ensures.here c.record.ensures.others
     ∙ ap (λ o. map.put place_cmp c.args.place (g.P.TakesRecords.with_record c.args.kinds.now c.args.values.now o) (shown panes c.args.entries.now.items)) (sym found)
 
 pub returns-in-Err-clause-shown : goal.returns-in-Err-clause-shown

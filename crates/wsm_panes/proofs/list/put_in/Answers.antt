@@ -25,4 +25,4 @@ pub returns-in-Ok-clause-shown : goal.returns-in-Ok-clause-shown
 returns-in-Ok-clause-shown g c =
     let here = rw c.deref.ensures.value at c.in-Ok.ensures.found in
     let finds : map.find place_cmp c.args.place c.args.entries.now.items ≡ Some c.index.result.now.1 = here.finds c.index.result.now ∙ ap (λ (e : Place × ℕ). Some e.1) (sym c.index.ensures) in
-    written_shows _ _ _ c.requires.stored c.args.place c.index.result.now.1 c.args.pane c.set.new.self.panes.items finds c.set.ensures.here c.set.ensures.others c.set.ensures.slots
+    written_shows _ _ _ c.requires.stored c.args.place c.index.result.now.1 c.args.pane c.set.new.self.panes.items finds c.set.ensures.here c.set.ensures.others
