@@ -1,9 +1,8 @@
 //! What a run folds.
 
-ghost use Rattle.std.specs.Prelude.{◌≡◌, ◌<◌, ◌≤◌, Some, None, length, take, map, replicate, slice_get, slice_set, is_some, Option};
+ghost use Rattle.std.specs.Prelude.{◌≡◌, ◌<◌, ◌≤◌, Some, None, length, take, replicate, slice_get, slice_set, is_some, Option};
 ghost use Rattle.wsm_record.specs.declared.event.Value.{Value};
 ghost use Rattle.std.specs.List.{list_all};
-ghost use Rattle.wsm_machine.specs.InRange.{folded_value};
 
 use std::marker::Model;
 use wsm_fold::MAX_ACCUMULATORS;

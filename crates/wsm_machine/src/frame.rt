@@ -1,6 +1,6 @@
 //! The state of a run, and what each instruction does with it.
 
-ghost use Rattle.std.specs.Prelude.{◌≡◌, ◌≤◌, List, ◌∷◌, [], Bool as Truth, Some, None, true, length, drop, replicate, ℤ, FitsSigned, MatchResult};
+ghost use Rattle.std.specs.Prelude.{◌≡◌, ◌≤◌, ◌∷◌, [], Some, None, true, length, drop, replicate, ℤ, FitsSigned, MatchResult};
 ghost use Rattle.std.specs.Option.{SomeIff};
 ghost use Rattle.std.specs.Int.{w64};
 ghost use Rattle.wsm_bytecode.specs.declared.instr.CellType.TheVariants as types;
