@@ -24,7 +24,7 @@ pub struct Setting<'a> {
     pub code: &'a [Instr],
     pub kinds: &'a [Kind],
     pub columns: &'a [CellType],
-    pub inputs: Inputs<'a>,
+    pub inputs: &'a Inputs<'a>,
 }
 
 /// Where a run goes after an instruction.

@@ -41,7 +41,7 @@ pub fn run_any(alloc: Global, program: &Program, section: SectionId, inputs: &In
         code: program.section(section),
         kinds: &header.kinds,
         columns: &header.columns,
-        inputs: *inputs,
+        inputs,
     };
     let mut frame = Frame::open(alloc, header.kinds.len());
     let (outcome, steps) = frame.run(&setting);

@@ -30,7 +30,7 @@ run-outcome-requires-clause-operands c n i at_place =
 
 pub returns-clause-bounded : goal.returns-clause-bounded
 returns-clause-bounded c =
-    let setting = setting_of (record { section = c.args.section; code = c.section.result; kinds = c.deref.result; columns = c.deref-2.result; inputs = c.args.inputs.now }) in
+    let setting = setting_of (record { section = c.args.section; code = c.section.result; kinds = c.deref.result; columns = c.deref-2.result; inputs = c.args.inputs }) in
     let many : c.len.result ≡ length setting.kinds = c.len.ensures ∙ sym c.deref.ensures.len in
     let fresh : at 0 c.open-frame.result ≡ entry setting = ap (λ (m : Frame). at 0 m) c.open-frame.ensures ∙ ap (λ k. record { place = 0; stack = []; folds = replicate k None }) many in
     let ran = ap (λ (r : Ran). r.steps) (ap (run_at setting) (sym fresh) ∙ c.run-outcome.ensures) in
