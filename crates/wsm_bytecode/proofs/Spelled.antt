@@ -140,9 +140,9 @@ names_more o out new ns i n e so_far more =
     more ∙ ap (λ x. x ++ name n) so_far ∙ append_assoc o (number (length ns) ++ flat_map name (take i ns)) (name n)
     ∙ ap (λ x. o ++ x) (append_assoc (number (length ns)) (flat_map name (take i ns)) (name n) ∙ ap (λ x. number (length ns) ++ x) (sym next))
 
-pub few : (h : Header) (code : List Instr) → is_section h code ≡ true → length code ≤ 1000
+pub short_section : (h : Header) (code : List Instr) → is_section h code ≡ true → length code ≤ 1000
 unfolding is_section
-few h code e = leb-true _ _ (and_parts (leb (length code) 1000) (list_all (is_instr h) code) e).0
+short_section h code e = leb-true _ _ (and_parts (leb (length code) 1000) (list_all (is_instr h) code) e).0
 
 pub few_instrs : (p : Program) (id : SectionId) → is_program p ≡ true → length (section p id) ≤ 1000
 unfolding is_program
@@ -150,4 +150,4 @@ few_instrs p id h =
     let a = and_parts (is_header p.header) (is_section p.header p.selection && (is_section p.header p.update && is_section p.header p.fire)) h in
     let b = and_parts (is_section p.header p.selection) (is_section p.header p.update && is_section p.header p.fire) a.1 in
     let c = and_parts (is_section p.header p.update) (is_section p.header p.fire) b.1 in
-    elim id as (λ i. length (section p i) ≤ 1000) [ Where ↦ few p.header p.selection b.0 | Update ↦ few p.header p.update c.0 | Fire ↦ few p.header p.fire c.1 ]
+    elim id as (λ i. length (section p i) ≤ 1000) [ Where ↦ short_section p.header p.selection b.0 | Update ↦ short_section p.header p.update c.0 | Fire ↦ short_section p.header p.fire c.1 ]

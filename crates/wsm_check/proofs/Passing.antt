@@ -18,27 +18,27 @@ use Rattle.wsm_check.proofs.Resolving.{flat_map-append}
 
 -- ---- aggregates are as many as their accumulators
 
-pub counted : (e : Expr) → length (accumulators_of e) ≡ aggregates e
-counted (Aggregate kind e) = refl
-counted (If c x y) =
-    omega (arith, length-append (accumulators_of c) (accumulators_of x ++ accumulators_of y), length-append (accumulators_of x) (accumulators_of y), counted c, counted x, counted y)
-counted (Brackets e) = counted e
-counted (Minus e) = counted e
-counted (Not e) = counted e
-counted (Binary op x y) = omega (arith, length-append (accumulators_of x) (accumulators_of y), counted x, counted y)
-counted (And x y) = omega (arith, length-append (accumulators_of x) (accumulators_of y), counted x, counted y)
-counted (Or x y) = omega (arith, length-append (accumulators_of x) (accumulators_of y), counted x, counted y)
-counted (Number n) = refl
-counted (Truth b) = refl
-counted (Field x) = refl
-counted (EnumName x y) = refl
-counted Key = refl
-counted (KeyName x) = refl
-counted Count = refl
+pub length-accumulators_of : (e : Expr) → length (accumulators_of e) ≡ aggregates e
+length-accumulators_of (Aggregate kind e) = refl
+length-accumulators_of (If c x y) =
+    omega (arith, length-append (accumulators_of c) (accumulators_of x ++ accumulators_of y), length-append (accumulators_of x) (accumulators_of y), length-accumulators_of c, length-accumulators_of x, length-accumulators_of y)
+length-accumulators_of (Brackets e) = length-accumulators_of e
+length-accumulators_of (Minus e) = length-accumulators_of e
+length-accumulators_of (Not e) = length-accumulators_of e
+length-accumulators_of (Binary op x y) = omega (arith, length-append (accumulators_of x) (accumulators_of y), length-accumulators_of x, length-accumulators_of y)
+length-accumulators_of (And x y) = omega (arith, length-append (accumulators_of x) (accumulators_of y), length-accumulators_of x, length-accumulators_of y)
+length-accumulators_of (Or x y) = omega (arith, length-append (accumulators_of x) (accumulators_of y), length-accumulators_of x, length-accumulators_of y)
+length-accumulators_of (Number n) = refl
+length-accumulators_of (Truth b) = refl
+length-accumulators_of (Field x) = refl
+length-accumulators_of (EnumName x y) = refl
+length-accumulators_of Key = refl
+length-accumulators_of (KeyName x) = refl
+length-accumulators_of Count = refl
 
 counted_all : (es : List Expr) → length (flat_map accumulators_of es) ≡ aggregates_of es
 counted_all [] = refl
-counted_all (e ∷ es) = omega (arith, length-append (accumulators_of e) (flat_map accumulators_of es), counted e, counted_all es)
+counted_all (e ∷ es) = omega (arith, length-append (accumulators_of e) (flat_map accumulators_of es), length-accumulators_of e, counted_all es)
 
 fired_aggregates : (q : Query) → aggregates_of q.columns + aggregates_of (in_option q.having) ≡ length (accumulators q)
 fired_aggregates q =

@@ -22,7 +22,7 @@ use Rattle.wsm_compiler.proofs.Finding.{get_left, get_right}
 use Rattle.wsm_compiler.proofs.Conditions.{in_condition}
 use Rattle.wsm_compiler.proofs.Firing.{accs_are}
 use Rattle.wsm_compiler.proofs.SectionRuns.{fire_runs}
-use Rattle.wsm_check.proofs.Passing.{counted}
+use Rattle.wsm_check.proofs.Passing.{length-accumulators_of}
 
 -- on records an aggregate's number doesn't matter
 pub free : (q : Query) (key : ℕ) (records : List (List Value)) (a b : ℕ) (e : Expr) →
@@ -64,7 +64,7 @@ hold_left q key records accs a xs ys h j acc get = h j acc (get_left xs ys j acc
 
 hold_right : (q : Query) (key : ℕ) (records : List (List Value)) (accs : List Value) (a : ℕ) (x : Expr) (ys : List Acc) → Hold q key records accs a (accumulators_of x ++ ys) → Hold q key records accs (a + aggregates x) ys
 hold_right q key records accs a x ys h j acc get =
-    let l = counted x in
+    let l = length-accumulators_of x in
     let there : a + (aggregates x + j) ≡ a + aggregates x + j = omega arith in
     ap (slice_get accs) (sym there) ∙ h (aggregates x + j) acc (ap (λ n. slice_get (accumulators_of x ++ ys) (n + j)) (sym l) ∙ get_right (accumulators_of x) ys j ∙ get)
 

@@ -31,7 +31,7 @@ use Rattle.wsm_compiler.proofs.Folded.{all_values}
 use Rattle.wsm_compiler.proofs.Firing.{firing, accs_known, accs_are}
 use Rattle.wsm_compiler.proofs.Checked.{fine}
 use Rattle.wsm_compiler.proofs.Accepted.{accs_of_all, fired_fit, all_fit}
-use Rattle.wsm_check.proofs.Passing.{counted}
+use Rattle.wsm_check.proofs.Passing.{length-accumulators_of}
 
 known_is : (t : ExprTy) (r : Range) → suits t r ≡ true → fits r ≡ true → known_of t r ≡ Some (known_as t r)
 known_is t Unfit h l = no l
@@ -75,7 +75,7 @@ module _ (q : Query) (b : Stated) (e : State) (c : Setting) (reads : Reads c q I
       let whole : Accs c q a (accumulators_of x ++ (flat_map accumulators_of es ++ in_condition q.having)) =
       subst (λ xs. Accs c q a xs) (append_assoc (accumulators_of x) (flat_map accumulators_of es) (in_condition q.having)) accs in
       let here = accs_left c q a (accumulators_of x) (flat_map accumulators_of es ++ in_condition q.having) whole in
-      let behind = accs_right c q a (aggregates x) (accumulators_of x) (flat_map accumulators_of es ++ in_condition q.having) (counted x) whole in
+      let behind = accs_right c q a (aggregates x) (accumulators_of x) (flat_map accumulators_of es ++ in_condition q.having) (length-accumulators_of x) whole in
       let known' = found_is c q InColumn reads a x t hx (λ _. here) ∙ known_is t (range q x) (range_suits c q InColumn x t hx) f.0 ∙ ap (λ u. Some (known_as u (range q x))) (sym (ap type_or_int hx)) in
       let la = length-append is rest in
       let lc = length-code q k a x in

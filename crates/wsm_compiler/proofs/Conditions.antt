@@ -30,7 +30,7 @@ use Rattle.wsm_compiler.proofs.Finding.{Reads, Accs, AccsIn, accs_left, accs_rig
 use Rattle.wsm_compiler.proofs.Labelling.{labelled, truth_pushed}
 use Rattle.wsm_compiler.proofs.Ending.{Ends, or_behind, follow_ends, return_ends, whole_section}
 use Rattle.wsm_compiler.proofs.Reading.{in_column, reads_where}
-use Rattle.wsm_check.proofs.Passing.{counted}
+use Rattle.wsm_check.proofs.Passing.{length-accumulators_of}
 
 abbrev pub condition_fits : Query → Option Expr → Bool
 condition_fits q None = true
@@ -140,7 +140,7 @@ columns_ends e c q reads k a (x ∷ es) s below h hh accs room more types ends f
     let fit = columns_fit q es && condition_fits q q.having in
     let here : Accs c q a (accumulators_of x) = accs_left c q a (accumulators_of x) _ (subst (λ xs. Accs c q a xs) (append_assoc (accumulators_of x) (flat_map accumulators_of es) (in_condition q.having)) accs) in
     let behind : Accs c q b (flat_map accumulators_of es ++ in_condition q.having) =
-    accs_right c q a (aggregates x) (accumulators_of x) _ (counted x) (subst (λ xs. Accs c q a xs) (append_assoc (accumulators_of x) (flat_map accumulators_of es) (in_condition q.having)) accs) in
+    accs_right c q a (aggregates x) (accumulators_of x) _ (length-accumulators_of x) (subst (λ xs. Accs c q a xs) (append_assoc (accumulators_of x) (flat_map accumulators_of es) (in_condition q.having)) accs) in
     subst (λ w. Ends e c k (code q k a x ++ rest) s w)
     (ap (λ o. or_behind o (λ y. not fit)) (found_is c q InColumn reads a x t hx (λ _. here)) ∙ fits_and t (range q x) fit (range_suits c q InColumn x t hx) ∙ ap not (sym (and_assoc (fits (range q x)) (columns_fit q es) (condition_fits q q.having))))
     (follow_ends e c k (size x) (code q k a x) rest s (found c q a x) (λ y. not fit) (length-code q k a x) (some_code q k a x) (some_columns q j b es)

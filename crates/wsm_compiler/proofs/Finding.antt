@@ -26,7 +26,7 @@ use Rattle.wsm_compiler.proofs.Hulls.{no, hull_either}
 use Rattle.wsm_compiler.proofs.Choosing.{hulled}
 use Rattle.wsm_compiler.proofs.Found.{of_instr, found}
 use Rattle.wsm_compiler.proofs.Suiting.{ok_is, err≢ok, typed_first, wanted_is, ty_is, suits, known_of, made, minus_found, minus_suits, not_found, op_typed, result_of, op_found}
-use Rattle.wsm_check.proofs.Passing.{counted}
+use Rattle.wsm_check.proofs.Passing.{length-accumulators_of}
 
 -- ---- types
 
@@ -240,7 +240,7 @@ pub in_left : (c : Setting) (q : Query) (around : Around) (a : ℕ) (x y : Expr)
 in_left c q around a x y h e = accs_left c q a (accumulators_of x) (accumulators_of y) (h e)
 
 pub in_right : (c : Setting) (q : Query) (around : Around) (a : ℕ) (x y : Expr) → AccsIn c q around a (accumulators_of x ++ accumulators_of y) → AccsIn c q around (a + aggregates x) (accumulators_of y)
-in_right c q around a x y h e = accs_right c q a (aggregates x) (accumulators_of x) (accumulators_of y) (counted x) (h e)
+in_right c q around a x y h e = accs_right c q a (aggregates x) (accumulators_of x) (accumulators_of y) (length-accumulators_of x) (h e)
 
 -- the three parts of IF
 pub record ThreeAccs (c : Setting) (q : Query) (around : Around) (a : ℕ) (b x y : Expr) : Type 0 where
@@ -250,12 +250,12 @@ pub record ThreeAccs (c : Setting) (q : Query) (around : Around) (a : ℕ) (b x 
 
 pub three_accs : (c : Setting) (q : Query) (around : Around) (a : ℕ) (b x y : Expr) → AccsIn c q around a (accumulators_of (If b x y)) → ThreeAccs c q around a b x y
 three_accs c q around a b x y h =
-    let rest : AccsIn c q around (a + aggregates b) (accumulators_of x ++ accumulators_of y) = λ e. accs_right c q a (aggregates b) (accumulators_of b) (accumulators_of x ++ accumulators_of y) (counted b) (h e) in
+    let rest : AccsIn c q around (a + aggregates b) (accumulators_of x ++ accumulators_of y) = λ e. accs_right c q a (aggregates b) (accumulators_of b) (accumulators_of x ++ accumulators_of y) (length-accumulators_of b) (h e) in
     let place : a + aggregates b + aggregates x ≡ a + (aggregates b + aggregates x) = omega arith in
     record {
       test = λ e. accs_left c q a (accumulators_of b) (accumulators_of x ++ accumulators_of y) (h e);
       first = λ e. accs_left c q (a + aggregates b) (accumulators_of x) (accumulators_of y) (rest e);
-      second = λ e. subst (λ n. Accs c q n (accumulators_of y)) place (accs_right c q (a + aggregates b) (aggregates x) (accumulators_of x) (accumulators_of y) (counted x) (rest e));
+      second = λ e. subst (λ n. Accs c q n (accumulators_of y)) place (accs_right c q (a + aggregates b) (aggregates x) (accumulators_of x) (accumulators_of y) (length-accumulators_of x) (rest e));
     }
 
 at_type : (o : Option Known) (r : Range) (u t : ExprTy) → u ≡ t → o ≡ known_of u r → o ≡ known_of t r

@@ -37,7 +37,7 @@ use Rattle.wsm_compiler.proofs.Naming.{declared_as, length-fields, names_listed}
 use Rattle.wsm_compiler.proofs.Operands.{condition_numbers, condition_aggregates, columns_aggregates, operands_fit, condition_fine, folds_fine, columns_fine, columns_named}
 use Rattle.wsm_compiler.proofs.Costs.{budget_is}
 use Rattle.wsm_check.proofs.Following.{passed_both}
-use Rattle.wsm_check.proofs.Passing.{counted}
+use Rattle.wsm_check.proofs.Passing.{length-accumulators_of}
 
 -- ---- the schema
 
@@ -177,10 +177,10 @@ aggregates_counted q b [] = of_having q.having
   where
     of_having : (o : Option Expr) → length (flat_map accumulators_of (in_option o)) ≡ condition_aggregates o
     of_having None = refl
-    of_having (Some e) = let a = length-append (accumulators_of e) [] in let l = counted e in omega (arith, a, l)
+    of_having (Some e) = let a = length-append (accumulators_of e) [] in let l = length-accumulators_of e in omega (arith, a, l)
 aggregates_counted q b (e ∷ es) =
     let a = length-append (accumulators_of e) (flat_map accumulators_of (es ++ in_option q.having)) in
-    let l = counted e in
+    let l = length-accumulators_of e in
     let rest = aggregates_counted q b es in
     omega (arith, a, l, rest)
 

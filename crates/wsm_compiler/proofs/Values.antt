@@ -21,7 +21,7 @@ use Rattle.wsm_compiler.specs.Runs.{of_ty, Serves, ServesAccs}
 use Rattle.wsm_compiler.proofs.Hulls.{no}
 use Rattle.wsm_compiler.proofs.Suiting.{ok_is, op_typed, result_of}
 use Rattle.wsm_compiler.proofs.Finding.{cond_ok, entered_is, op_is, two_types, if_types, logic_types, unary_is, get_left, get_right}
-use Rattle.wsm_check.proofs.Passing.{counted}
+use Rattle.wsm_check.proofs.Passing.{length-accumulators_of}
 
 -- ---- accumulators of parts
 
@@ -30,7 +30,7 @@ serves_left c around s a xs ys h e j acc get = h e j acc (get_left xs ys j acc g
 
 pub serves_right : (c : Setting) (around : Around) (s : Scene) (a : ℕ) (x : Expr) (ys : List Acc) → ServesAccs c around s a (accumulators_of x ++ ys) → ServesAccs c around s (a + aggregates x) ys
 serves_right c around s a x ys h e j acc get =
-    let l = counted x in
+    let l = length-accumulators_of x in
     let there : a + (aggregates x + j) ≡ a + aggregates x + j = omega arith in
     let g = h e (aggregates x + j) acc (ap (λ n. slice_get (accumulators_of x ++ ys) (n + j)) (sym l) ∙ get_right (accumulators_of x) ys j ∙ get) in (
       g.0,

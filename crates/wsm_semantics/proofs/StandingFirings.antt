@@ -114,9 +114,6 @@ module _ (P : Firing → Type 0) (fs : List Firing) (all : AllByRecursion P fs) 
       (λ none_t. second none_t)
       (cases_Bool (list_any t fs))
     where
-      either : Firing → Bool
-      either f = t f || u f
-
       right_only : (gs : List Firing) → AllByRecursion (λ f. t f ≡ false) gs → AllByRecursion (λ f. (t f || u f) ≡ u f) gs
       right_only [] h = tt
       right_only (g ∷ gs) h = (ap (λ (b : Bool). b || u g) h.0, right_only gs h.1)

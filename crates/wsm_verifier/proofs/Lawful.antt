@@ -14,7 +14,7 @@ use Rattle.wsm_bytecode.specs.declared.Instr.{Instr}
 use Rattle.wsm_bytecode.specs.declared.SectionId.{SectionId}
 use Rattle.wsm_bytecode.specs.declared.SectionId.TheVariants.{Where, Update, Fire}
 use Rattle.wsm_bytecode.specs.Program.{Header, Program, section, is_within, is_span, is_size, is_shape, is_section, is_header, is_program, is_schema, is_name_list, is_clock, is_firing, is_row, latest_time}
-use Rattle.wsm_bytecode.proofs.Spelled.{few}
+use Rattle.wsm_bytecode.proofs.Spelled.{short_section}
 
 within : (lo hi n : ℤ) → is_within lo hi n ≡ true → (lo ≤ℤ n) × (n ≤ℤ hi)
 within lo hi n h = (grind (arith, ints), grind (arith, ints))
@@ -70,9 +70,9 @@ lawful p e = lawful_header p.header (and_parts (is_header p.header) _ e).0
 
 pub short : (p : Program) (id : SectionId) → IsTrue (is_program p) → length (section p id) ≤ 1000
 unfolding is_program
-short p Where e = few p.header p.selection (and_parts (is_section p.header p.selection) _ (and_parts (is_header p.header) _ e).1).0
-short p Update e = few p.header p.update (and_parts (is_section p.header p.update) _ (and_parts (is_section p.header p.selection) _ (and_parts (is_header p.header) _ e).1).1).0
-short p Fire e = few p.header p.fire (and_parts (is_section p.header p.update) _ (and_parts (is_section p.header p.selection) _ (and_parts (is_header p.header) _ e).1).1).1
+short p Where e = short_section p.header p.selection (and_parts (is_section p.header p.selection) _ (and_parts (is_header p.header) _ e).1).0
+short p Update e = short_section p.header p.update (and_parts (is_section p.header p.update) _ (and_parts (is_section p.header p.selection) _ (and_parts (is_header p.header) _ e).1).1).0
+short p Fire e = short_section p.header p.fire (and_parts (is_section p.header p.update) _ (and_parts (is_section p.header p.selection) _ (and_parts (is_header p.header) _ e).1).1).1
 
 -- the same of a header that is the program's
 pub lawful_seen : (p : Program) (g : Header) → g ≡ p.header → IsTrue (is_program p) → IsLawful g
