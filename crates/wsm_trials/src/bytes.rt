@@ -1,0 +1,190 @@
+//! Programs of which a byte was changed, or the end cut off.
+
+use crate::given::{
+    BASE, BASE_PROGRAM, BASE_ROWS, BASE_TEXT, SESSION_ROWS, SESSION_TEXT, SESSIONS, STREAM,
+    STREAM_ROWS, STREAM_TEXT, is_whole, program_ran,
+};
+use std::alloc::Global;
+use std::process::Abort;
+use std::test::Fail;
+use wsm::{DecodeRefusal, End, compile_text};
+use wsm_bytecode::{decode, encode};
+
+/// How bytes were taken.
+#[derive(Clone, Copy, Debug, PartialEq, Eq)]
+enum Taken {
+    /// They are no program.
+    Refused,
+    /// They are a program that the verifier rejects.
+    Rejected,
+    /// They are a program that was accepted, and ran the rows to their end.
+    Ran,
+    /// Something else happened, which is never right.
+    Wrong,
+}
+
+/// How many of a number of trials were taken in each way.
+#[derive(Clone, Copy, Debug, PartialEq, Eq)]
+struct Counts {
+    refused: u32,
+    rejected: u32,
+    ran: u32,
+    wrong: u32,
+}
+
+impl Counts {
+    const NONE: Counts = Counts {
+        refused: 0,
+        rejected: 0,
+        ran: 0,
+        wrong: 0,
+    };
+
+    fn add(&mut self, taken: Taken) {
+        let count = match taken {
+            Taken::Refused => &mut self.refused,
+            Taken::Rejected => &mut self.rejected,
+            Taken::Ran => &mut self.ran,
+            Taken::Wrong => &mut self.wrong,
+        };
+        *count = count.saturating_add(1);
+    }
+}
+
+// Whether bytes are refused, or else spell a program that is written as those bytes again.
+fn read_again(alloc: Global, bytes: &[u8]) -> Taken {
+    match decode(alloc, bytes) {
+        Ok(program) => match encode(alloc, &program) {
+            Ok(again) if again.as_slice() == bytes => Taken::Ran,
+            _ => Taken::Wrong,
+        },
+        Err(DecodeRefusal::Memory) => Taken::Wrong,
+        Err(_) => Taken::Refused,
+    }
+}
+
+// How a run of a program over rows went.
+fn run_again(alloc: Global, bytes: &[u8], rows: &[u8]) -> Taken {
+    let (text, end) = program_ran(alloc, bytes, rows);
+    match end {
+        Ok(_) if is_whole(&text) => Taken::Ran,
+        Err(End::Rejected(_)) if text.is_empty() => Taken::Rejected,
+        _ => Taken::Wrong,
+    }
+}
+
+fn tried(alloc: Global, bytes: &[u8], rows: &[u8]) -> Taken {
+    match read_again(alloc, bytes) {
+        Taken::Ran => run_again(alloc, bytes, rows),
+        other => other,
+    }
+}
+
+// Each other value of the byte at a place.
+fn change_byte(alloc: Global, bytes: &mut [u8], place: usize, rows: &[u8], counts: &mut Counts) {
+    let Some(old) = bytes.get(place).copied() else {
+        return;
+    };
+    for byte in 0..=u8::MAX {
+        if byte != old {
+            put(bytes, place, byte);
+            counts.add(tried(alloc, bytes, rows));
+        }
+    }
+    put(bytes, place, old);
+}
+
+fn put(bytes: &mut [u8], place: usize, byte: u8) {
+    if let Some(there) = bytes.get_mut(place) {
+        *there = byte;
+    }
+}
+
+// Each other value of each byte.
+fn change_bytes(alloc: Global, bytes: &[u8], rows: &[u8]) -> Result<Counts, Fail> {
+    let mut changed = bytes.to_vec(alloc)?;
+    let mut counts = Counts::NONE;
+    for place in 0..bytes.len() {
+        change_byte(alloc, &mut changed, place, rows, &mut counts);
+    }
+    Ok(counts)
+}
+
+// How many of the proper beginnings are refused as cut off.
+fn cut_off(alloc: Global, bytes: &[u8]) -> usize {
+    let mut refused = 0usize;
+    for len in 0..bytes.len() {
+        if is_truncated(alloc, &bytes[..len]) {
+            refused = refused.saturating_add(1);
+        }
+    }
+    refused
+}
+
+fn is_truncated(alloc: Global, bytes: &[u8]) -> bool {
+    matches!(decode(alloc, bytes), Err(DecodeRefusal::Truncated))
+}
+
+#[test]
+fn beginnings_of_the_base_program(rt: HostRuntime) -> Result<(), Fail> {
+    let compiled = compile_text(rt.alloc(), BASE)?;
+    assert_eq!(rt; compiled.as_slice(), BASE_PROGRAM.as_slice());
+    assert_eq!(rt; cut_off(rt.alloc(), &BASE_PROGRAM), 139);
+    Ok(())
+}
+
+#[test]
+fn beginnings_of_other_programs(rt: HostRuntime) -> Result<(), Fail> {
+    let sessions = compile_text(rt.alloc(), SESSIONS)?;
+    assert_eq!(rt; cut_off(rt.alloc(), &sessions), sessions.len());
+    let stream = compile_text(rt.alloc(), STREAM)?;
+    assert_eq!(rt; cut_off(rt.alloc(), &stream), stream.len());
+    Ok(())
+}
+
+#[test]
+fn changes_of_the_base_program(rt: HostRuntime) -> Result<(), Fail> {
+    let (text, _) = program_ran(rt.alloc(), &BASE_PROGRAM, BASE_ROWS);
+    assert_eq!(rt; text.as_slice(), BASE_TEXT);
+    let counts = change_bytes(rt.alloc(), &BASE_PROGRAM, BASE_ROWS)?;
+    let want = Counts {
+        refused: 19_892,
+        rejected: 2_992,
+        ran: 12_561,
+        wrong: 0,
+    };
+    assert_eq!(rt; counts, want);
+    Ok(())
+}
+
+#[test]
+fn changes_of_a_program_of_sessions(rt: HostRuntime) -> Result<(), Fail> {
+    let program = compile_text(rt.alloc(), SESSIONS)?;
+    let (text, end) = program_ran(rt.alloc(), &program, SESSION_ROWS);
+    assert_eq!(rt; text.as_slice(), SESSION_TEXT, "{end:?}");
+    let counts = change_bytes(rt.alloc(), &program, SESSION_ROWS)?;
+    let want = Counts {
+        refused: 40_431,
+        rejected: 4_398,
+        ran: 19_686,
+        wrong: 0,
+    };
+    assert_eq!(rt; counts, want);
+    Ok(())
+}
+
+#[test]
+fn changes_of_a_program_of_a_stream(rt: HostRuntime) -> Result<(), Fail> {
+    let program = compile_text(rt.alloc(), STREAM)?;
+    let (text, end) = program_ran(rt.alloc(), &program, STREAM_ROWS);
+    assert_eq!(rt; text.as_slice(), STREAM_TEXT, "{end:?}");
+    let counts = change_bytes(rt.alloc(), &program, STREAM_ROWS)?;
+    let want = Counts {
+        refused: 23_143,
+        rejected: 4_201,
+        ran: 13_456,
+        wrong: 0,
+    };
+    assert_eq!(rt; counts, want);
+    Ok(())
+}

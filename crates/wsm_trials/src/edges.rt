@@ -1,0 +1,424 @@
+//! Numbers on both sides of each limit.
+
+use crate::given::ran;
+use std::alloc::Global;
+use std::process::Abort;
+use std::test::Fail;
+use wsm::compile_text;
+
+// The clauses of a query.
+#[derive(Clone, Copy)]
+struct Clauses<'a> {
+    keys: &'a str,
+    fields: &'a str,
+    start: &'a str,
+    skew: &'a str,
+    lateness: &'a str,
+    records: &'a str,
+    budget: &'a str,
+    columns: &'a str,
+    window: &'a str,
+}
+
+const BASE: Clauses<'static> = Clauses {
+    keys: "a, b",
+    fields: "FIELD n INT 0..100;",
+    start: "0",
+    skew: "100",
+    lateness: "10",
+    records: "1000",
+    budget: "",
+    columns: "COUNT(*), SUM(n)",
+    window: "FIXED 60 ACCUMULATING",
+};
+
+// A window that is as long as a window may be.
+const LONGEST: Clauses<'static> = Clauses {
+    window: "FIXED 1000000000000 ACCUMULATING",
+    ..BASE
+};
+
+fn text_of(alloc: Global, clauses: &Clauses) -> Result<String, Fail> {
+    let (keys, fields, columns) = (clauses.keys, clauses.fields, clauses.columns);
+    let (start, skew) = (clauses.start, clauses.skew);
+    let (lateness, records) = (clauses.lateness, clauses.records);
+    let (budget, window) = (clauses.budget, clauses.window);
+    Ok(format!(in alloc;
+        "KEYS {keys}; {fields} START {start}; SKEW {skew}; LATENESS {lateness}; RECORDS {records}; {budget}\nSELECT {columns} WINDOW {window} EMIT PANES;"
+    )?)
+}
+
+// Why a query is refused, or "compiled".
+fn answer(alloc: Global, text: &str) -> Result<String, Fail> {
+    match compile_text(alloc, text.as_bytes()) {
+        Ok(_) => Ok(String::from_str(alloc, "compiled")?),
+        Err(end) => Ok(format!(in alloc; "{end}")?),
+    }
+}
+
+fn expect<R: Abort + AllocGlobal>(rt: &R, clauses: &Clauses, want: &str) -> Result<(), Fail> {
+    let text = text_of(rt.alloc(), clauses)?;
+    let answer = answer(rt.alloc(), text.as_str())?;
+    assert_eq!(rt; answer.as_str(), want, "{text}");
+    Ok(())
+}
+
+fn expect_all<R: Abort + AllocGlobal>(rt: &R, cases: &[(Clauses, &str)]) -> Result<(), Fail> {
+    for (clauses, want) in cases {
+        expect(rt, clauses, want)?;
+    }
+    Ok(())
+}
+
+const FITS: &str = "compiled";
+
+const CLOCK: &str = "C7 Limit in clock";
+
+#[test]
+fn starts(rt: HostRuntime) -> Result<(), Fail> {
+    for (start, want) in [("10000000000000000", FITS), ("10000000000000001", CLOCK)] {
+        expect(&rt, &Clauses { start, ..BASE }, want)?;
+    }
+    Ok(())
+}
+
+#[test]
+fn skews(rt: HostRuntime) -> Result<(), Fail> {
+    let cases = [
+        ("0", FITS),
+        ("1000000000000", FITS),
+        ("1000000000001", CLOCK),
+    ];
+    for (skew, want) in cases {
+        expect(&rt, &Clauses { skew, ..LONGEST }, want)?;
+    }
+    Ok(())
+}
+
+#[test]
+fn latenesses(rt: HostRuntime) -> Result<(), Fail> {
+    let cases = [
+        ("0", FITS),
+        ("1000000000000", FITS),
+        ("1000000000001", CLOCK),
+    ];
+    for (lateness, want) in cases {
+        expect(
+            &rt,
+            &Clauses {
+                lateness,
+                ..LONGEST
+            },
+            want,
+        )?;
+    }
+    Ok(())
+}
+
+#[test]
+fn numbers_of_records(rt: HostRuntime) -> Result<(), Fail> {
+    let cases = [
+        ("0", CLOCK),
+        ("1", FITS),
+        ("1000000000000", FITS),
+        ("1000000000001", CLOCK),
+    ];
+    for (records, want) in cases {
+        expect(&rt, &Clauses { records, ..BASE }, want)?;
+    }
+    Ok(())
+}
+
+#[test]
+fn windows(rt: HostRuntime) -> Result<(), Fail> {
+    let refused = "C7 Limit in window";
+    let cases = [
+        ("FIXED 0 ACCUMULATING", refused),
+        ("FIXED 1 ACCUMULATING", FITS),
+        ("FIXED 1000000000000 ACCUMULATING", FITS),
+        ("FIXED 1000000000001 ACCUMULATING", refused),
+        ("SLIDING 60 EVERY 0 ACCUMULATING", refused),
+        ("SLIDING 60 EVERY 1 ACCUMULATING", FITS),
+        ("SLIDING 60 EVERY 60 ACCUMULATING", FITS),
+        ("SLIDING 60 EVERY 61 ACCUMULATING", refused),
+        ("SESSION 0 ACCUMULATING", refused),
+        ("SESSION 1 ACCUMULATING", FITS),
+        ("SESSION 1000000000000 ACCUMULATING", FITS),
+        ("SESSION 1000000000001 ACCUMULATING", refused),
+        // Two keys of 50,000 windows that are live at once, and of 50,001.
+        ("SLIDING 49890 EVERY 1 ACCUMULATING", FITS),
+        ("SLIDING 49891 EVERY 1 ACCUMULATING", "C7 Limit in code"),
+    ];
+    for (window, want) in cases {
+        expect(&rt, &Clauses { window, ..BASE }, want)?;
+    }
+    Ok(())
+}
+
+#[test]
+fn triggers(rt: HostRuntime) -> Result<(), Fail> {
+    let refused = "C7 Limit in trigger";
+    let cases = [
+        ("FIXED 60 ACCUMULATING EARLY EVERY 0", refused),
+        ("FIXED 60 ACCUMULATING EARLY EVERY 1", FITS),
+        ("FIXED 60 ACCUMULATING EARLY EVERY 1000000000000", FITS),
+        ("FIXED 60 ACCUMULATING EARLY EVERY 1000000000001", refused),
+        ("FIXED 60 ACCUMULATING LATE EVERY 0", refused),
+        ("FIXED 60 ACCUMULATING LATE EVERY 1", FITS),
+        ("FIXED 60 ACCUMULATING LATE EVERY 1000000000000", FITS),
+        ("FIXED 60 ACCUMULATING LATE EVERY 1000000000001", refused),
+    ];
+    for (window, want) in cases {
+        expect(&rt, &Clauses { window, ..BASE }, want)?;
+    }
+    Ok(())
+}
+
+#[test]
+fn budgets(rt: HostRuntime) -> Result<(), Fail> {
+    let refused = "C7 Limit in budget";
+    let cases = [
+        ("BUDGET RECORD 0 PANE 1 HELD 1;", refused),
+        ("BUDGET RECORD 1 PANE 0 HELD 1;", refused),
+        ("BUDGET RECORD 1 PANE 1 HELD 0;", refused),
+        ("BUDGET RECORD 1 PANE 1 HELD 1;", FITS),
+        ("BUDGET RECORD 1000000000000000000 PANE 1 HELD 1;", FITS),
+        ("BUDGET RECORD 1000000000000000001 PANE 1 HELD 1;", refused),
+        ("BUDGET RECORD 1 PANE 1000000000000000000 HELD 1;", FITS),
+        ("BUDGET RECORD 1 PANE 1000000000000000001 HELD 1;", refused),
+        ("BUDGET RECORD 1 PANE 1 HELD 100000;", FITS),
+        ("BUDGET RECORD 1 PANE 1 HELD 100001;", refused),
+    ];
+    for (budget, want) in cases {
+        expect(&rt, &Clauses { budget, ..BASE }, want)?;
+    }
+    Ok(())
+}
+
+#[test]
+fn numbers_and_names(rt: HostRuntime) -> Result<(), Fail> {
+    let cases = [
+        ("FIELD n INT 5..5;", FITS),
+        ("FIELD n INT 5..4;", "C7 Limit in field 1"),
+        (
+            "FIELD n INT -9223372036854775807..9223372036854775807;",
+            FITS,
+        ),
+        (
+            "FIELD n INT 0..9223372036854775808;",
+            "P3 NumberTooLarge at 1:27",
+        ),
+        (
+            "FIELD n INT -9223372036854775808..0;",
+            "P3 NumberTooLarge at 1:25",
+        ),
+        ("FIELD n INT 0..00000000000000000000000000007;", FITS),
+    ];
+    for (fields, want) in cases {
+        expect(&rt, &Clauses { fields, ..BASE }, want)?;
+    }
+    let cases = [
+        ("abcdefghijklmnopqrstuvwxyz_01234", FITS),
+        (
+            "abcdefghijklmnopqrstuvwxyz_012345",
+            "P1 BadCharacter at 1:38",
+        ),
+    ];
+    for (keys, want) in cases {
+        expect(&rt, &Clauses { keys, ..BASE }, want)?;
+    }
+    Ok(())
+}
+
+// A text, so many times.
+fn times(alloc: Global, text: &str, count: usize) -> Result<String, Fail> {
+    let mut all = String::new(alloc);
+    for _ in 0..count {
+        all.push_str(text)?;
+    }
+    Ok(all)
+}
+
+// So many names, from n0 on.
+fn names(alloc: Global, count: usize) -> Result<String, Fail> {
+    let mut all = String::from_str(alloc, "n0")?;
+    for number in 1..count {
+        let more = format!(in alloc; ", n{number}")?;
+        all.push_str(more.as_str())?;
+    }
+    Ok(all)
+}
+
+// So many fields, from n0 on.
+fn fields(alloc: Global, count: usize) -> Result<String, Fail> {
+    let mut all = String::from_str(alloc, "FIELD n BOOL; ")?;
+    for number in 1..count {
+        let more = format!(in alloc; "FIELD n{number} INT 0..1; ")?;
+        all.push_str(more.as_str())?;
+    }
+    Ok(all)
+}
+
+#[test]
+fn counts_of_names(rt: HostRuntime) -> Result<(), Fail> {
+    for (count, want) in [(1_000, FITS), (1_001, "C7 Limit in keys")] {
+        let keys = names(rt.alloc(), count)?;
+        let keys = keys.as_str();
+        expect(&rt, &Clauses { keys, ..BASE }, want)?;
+    }
+    for (count, want) in [(1_000, FITS), (1_001, "C7 Limit in field 2")] {
+        let names = names(rt.alloc(), count)?;
+        let fields = format!(in rt.alloc(); "FIELD n INT 0..1; FIELD e ENUM({names});")?;
+        let fields = fields.as_str();
+        expect(&rt, &Clauses { fields, ..BASE }, want)?;
+    }
+    for (count, want) in [(16, FITS), (17, "C7 Limit in field 17")] {
+        let fields = fields(rt.alloc(), count)?;
+        let fields = fields.as_str();
+        let columns = "ANY(n)";
+        expect(
+            &rt,
+            &Clauses {
+                fields,
+                columns,
+                ..BASE
+            },
+            want,
+        )?;
+    }
+    Ok(())
+}
+
+#[test]
+fn counts_of_columns_and_accumulators(rt: HostRuntime) -> Result<(), Fail> {
+    for (more, want) in [(15, FITS), (16, "C7 Limit in column 17")] {
+        let more = times(rt.alloc(), ", COUNT(*)", more)?;
+        let columns = format!(in rt.alloc(); "COUNT(*){more}")?;
+        let columns = columns.as_str();
+        expect(&rt, &Clauses { columns, ..BASE }, want)?;
+    }
+    for (more, want) in [(15, FITS), (16, "C7 Limit in code")] {
+        let more = times(rt.alloc(), " + SUM(n)", more)?;
+        let columns = format!(in rt.alloc(); "MAX(n){more}")?;
+        let columns = columns.as_str();
+        expect(&rt, &Clauses { columns, ..BASE }, want)?;
+    }
+    Ok(())
+}
+
+// A column of a text between so many of two others.
+fn expect_nested<R: Abort + AllocGlobal>(
+    rt: &R,
+    open: &str,
+    inside: &str,
+    close: &str,
+    count: usize,
+    want: &str,
+) -> Result<(), Fail> {
+    let open = times(rt.alloc(), open, count)?;
+    let close = times(rt.alloc(), close, count)?;
+    let columns = format!(in rt.alloc(); "{open}{inside}{close}")?;
+    let columns = columns.as_str();
+    expect(rt, &Clauses { columns, ..BASE }, want)
+}
+
+#[test]
+fn levels(rt: HostRuntime) -> Result<(), Fail> {
+    expect_nested(&rt, "(", "7", ")", 24, FITS)?;
+    expect_nested(&rt, "(", "7", ")", 25, "P4 TooDeep at 2:32")?;
+    expect_nested(&rt, "NOT ", "TRUE", "", 24, FITS)?;
+    expect_nested(&rt, "NOT ", "TRUE", "", 25, "P4 TooDeep at 2:104")
+}
+
+#[test]
+fn chains(rt: HostRuntime) -> Result<(), Fail> {
+    expect_nested(&rt, "", "7", " + 7", 64, FITS)?;
+    expect_nested(&rt, "", "7", " + 7", 65, "P4 TooDeep at 2:266")
+}
+
+// The update folds seven sums of 129 instructions, and one of 88 or 89: with its folds and its return
+// it has 1,000 instructions, or one more.
+#[test]
+fn instructions_of_a_section(rt: HostRuntime) -> Result<(), Fail> {
+    let long = times(rt.alloc(), " + n", 64)?;
+    let long = format!(in rt.alloc(); "SUM(n{long}), ")?;
+    let longs = times(rt.alloc(), long.as_str(), 7)?;
+    for (first, more, want) in [("-n", 43, FITS), ("n", 44, "C7 Limit in code")] {
+        let more = times(rt.alloc(), " + n", more)?;
+        let columns = format!(in rt.alloc(); "{longs}SUM({first}{more})")?;
+        let columns = columns.as_str();
+        expect(&rt, &Clauses { columns, ..BASE }, want)?;
+    }
+    Ok(())
+}
+
+// Behind as many columns, a column that needs 24 places of the stack.
+#[test]
+fn places_of_the_stack(rt: HostRuntime) -> Result<(), Fail> {
+    let open = times(rt.alloc(), "7 + (", 23)?;
+    let close = times(rt.alloc(), ")", 23)?;
+    for (before, want) in [(8, FITS), (9, "C7 Limit in code")] {
+        let before = times(rt.alloc(), "COUNT(*), ", before)?;
+        let columns = format!(in rt.alloc(); "{before}{open}7{close}")?;
+        let columns = columns.as_str();
+        expect(&rt, &Clauses { columns, ..BASE }, want)?;
+    }
+    Ok(())
+}
+
+fn expect_run<R: Abort + AllocGlobal>(
+    rt: &R,
+    clauses: &Clauses,
+    rows: &[u8],
+    want: &[u8],
+) -> Result<(), Fail> {
+    let text = text_of(rt.alloc(), clauses)?;
+    let (written, end) = ran(rt.alloc(), text.as_bytes(), rows);
+    assert_eq!(rt; written.as_slice(), want, "{text}: {end:?}");
+    assert!(rt; end.is_ok(), "{text}");
+    Ok(())
+}
+
+#[test]
+fn the_greatest_number_and_the_latest_time(rt: HostRuntime) -> Result<(), Fail> {
+    let greatest = Clauses {
+        fields: "FIELD n INT 0..9223372036854775807;",
+        records: "1",
+        ..BASE
+    };
+    expect_run(
+        &rt,
+        &greatest,
+        b"r,a,5,9223372036854775807\nw,60\n",
+        b"pane,on_time,a,0,60,1,9223372036854775807\nend,2,1,0,0,1\n",
+    )?;
+    let latest = Clauses {
+        start: "9999999999999940",
+        ..BASE
+    };
+    expect_run(
+        &rt,
+        &latest,
+        b"r,a,10000000000000000,1\nr,a,10000000000000001,1\nw,10000000000000000\n",
+        b"refused,2,TimeRange\nend,3,1,0,1,0\n",
+    )
+}
+
+// The panes that the greatest number of keys can hold at once.
+#[test]
+fn a_record_of_each_of_a_thousand_keys(rt: HostRuntime) -> Result<(), Fail> {
+    let keys = names(rt.alloc(), 1_000)?;
+    let mut rows = String::new(rt.alloc());
+    for number in 0..1_000 {
+        let row = format!(in rt.alloc(); "r,n{number},5,1\n")?;
+        rows.push_str(row.as_str())?;
+    }
+    rows.push_str("r,n1000,5,1\n")?;
+    let keys = keys.as_str();
+    expect_run(
+        &rt,
+        &Clauses { keys, ..BASE },
+        rows.as_bytes(),
+        b"refused,1001,UnknownKey\nend,1001,1000,0,1,0\n",
+    )
+}

@@ -1,0 +1,302 @@
+//! Programs put together at random, over the header of the base program.
+
+use crate::given::{is_whole, program_ran};
+use crate::noise::Noise;
+use crate::sections::Sections;
+use std::alloc::Global;
+use std::test::Fail;
+use wsm_bytecode::{Budget, CellType, Header, Program, SectionId, decode, encode};
+use wsm_machine::{Inputs, Outcome, run_any};
+use wsm_record::{Field, Form, Kind, Mode, Name, Schema, Ty, Value};
+use wsm_verifier::{Costs, Rule, Verified, verify};
+use wsm_windows::Shape;
+
+/// Rows of both keys: the ends of the field's interval, an early, a late and a refused record.
+const ROWS: &[u8] =
+    b"r,a,5,7\nr,b,59,100\nr,a,0,0\nr,a,1,101\nw,60\nr,a,61,50\nr,b,52,1\nr,a,3,1\nw,70\nw,200\n";
+
+/// Numbers that no section put together here needs more than.
+const ROOMY: Budget = Budget {
+    per_record: 1_000,
+    per_pane: 1_000,
+    held: 100,
+};
+
+/// How a program was taken.
+#[derive(Clone, Copy, Debug, PartialEq, Eq)]
+enum Taken {
+    /// An operand names nothing.
+    Refused,
+    /// The verifier rejects it.
+    Rejected(Rule),
+    /// It was accepted and kept its promises.
+    Ran,
+    /// It broke a promise.
+    Wrong,
+}
+
+// The header of the base program, which states a budget.
+fn header(alloc: Global, budget: Budget) -> Result<Header, Fail> {
+    let mut keys = Vec::new(alloc);
+    keys.push(Name::new(b"a").ok_or("a name")?)?;
+    keys.push(Name::new(b"b").ok_or("a name")?)?;
+    let name = Name::new(b"n").ok_or("a name")?;
+    let ty = Ty::Int { lo: 0, hi: 100 };
+    let mut fields = Vec::new(alloc);
+    fields.push(Field { name, ty })?;
+    Ok(Header {
+        schema: Schema::new(alloc, &keys, &fields)?,
+        start: 0,
+        skew: 100,
+        lateness: 10,
+        records: 1000,
+        shape: Shape::Fixed(60),
+        mode: Mode::Accumulating,
+        early: 0,
+        late: 0,
+        form: Form::Panes,
+        kinds: Vec::from_slice(alloc, &[Kind::Sum])?,
+        columns: Vec::from_slice(alloc, &[CellType::Int, CellType::Int])?,
+        budget,
+    })
+}
+
+// The bytes of a program of sections, unless an operand names nothing.
+fn bytes_of(alloc: Global, sections: &Sections, budget: Budget) -> Result<Option<Vec<u8>>, Fail> {
+    let made = Program::new(
+        header(alloc, budget)?,
+        sections.selection.to_vec(alloc)?,
+        sections.update.to_vec(alloc)?,
+        sections.fire.to_vec(alloc)?,
+    );
+    match made {
+        Ok(program) => Ok(Some(encode(alloc, &program)?)),
+        Err(_) => Ok(None),
+    }
+}
+
+fn verified(alloc: Global, bytes: &[u8]) -> Result<Verified, Rule> {
+    let Ok(program) = decode(alloc, bytes) else {
+        return Err(Rule::Memory);
+    };
+    match verify(alloc, program) {
+        Ok(verified) => Ok(verified),
+        Err((_, rejection)) => Err(rejection.rule),
+    }
+}
+
+// What a program needs, or the rule by which it is rejected.
+fn judged(alloc: Global, bytes: &[u8]) -> Result<Costs, Rule> {
+    match verified(alloc, bytes) {
+        Ok(verified) => Ok(verified.costs()),
+        Err(rule) => Err(rule),
+    }
+}
+
+// How many instructions a run of a section takes to its return, on inputs that are in range.
+fn steps(alloc: Global, verified: &Verified, id: SectionId, inputs: &Inputs) -> Option<u64> {
+    let program = verified.program();
+    if !inputs.in_range(verified, id) || !inputs.fits(program) {
+        return None;
+    }
+    let ran = run_any(alloc, program, id, inputs);
+    match ran.outcome {
+        Outcome::Done => Some(ran.steps),
+        Outcome::Trap(_) => None,
+    }
+}
+
+// What a record of a key and a number costs.
+fn record_steps(alloc: Global, verified: &Verified, key: u16, number: i64) -> Option<u64> {
+    let values = [Value::Int(number)];
+    let accs = [Value::Int(0)];
+    let inputs = Inputs {
+        key,
+        values: &values,
+        count: 1,
+        accs: &accs,
+    };
+    let kept = steps(alloc, verified, SectionId::Where, &inputs)?;
+    let updated = steps(alloc, verified, SectionId::Update, &inputs)?;
+    Some(kept.saturating_add(updated))
+}
+
+// What a firing of a key, of some records and a sum costs.
+fn pane_steps(alloc: Global, verified: &Verified, key: u16, count: i64, sum: i64) -> Option<u64> {
+    let values = [Value::Int(0)];
+    let accs = [Value::Int(sum)];
+    let inputs = Inputs {
+        key,
+        values: &values,
+        count,
+        accs: &accs,
+    };
+    steps(alloc, verified, SectionId::Fire, &inputs)
+}
+
+// Whether each run of a record keeps within a number of steps.
+fn records_within(alloc: Global, verified: &Verified, most: u64) -> bool {
+    let cases = [(0, 0), (1, 0), (0, 1), (1, 60), (0, 99), (0, 100), (1, 100)];
+    cases.iter().all(|(key, number)| {
+        record_steps(alloc, verified, *key, *number).is_some_and(|steps| steps <= most)
+    })
+}
+
+// Whether each firing keeps within a number of steps, at both ends of the sum's range too.
+fn panes_within(alloc: Global, verified: &Verified, most: u64) -> bool {
+    let Some(range) = verified.range(0) else {
+        return false;
+    };
+    let cases = [
+        (0, 1, range.lo),
+        (1, 1, range.hi),
+        (0, 1000, range.lo),
+        (1, 1000, range.hi),
+    ];
+    cases.iter().all(|(key, count, sum)| {
+        pane_steps(alloc, verified, *key, *count, *sum).is_some_and(|steps| steps <= most)
+    })
+}
+
+// Whether the runs of an accepted program keep within what it needs.
+fn keeps_within(alloc: Global, bytes: &[u8], costs: Costs) -> bool {
+    match verified(alloc, bytes) {
+        Ok(verified) => {
+            records_within(alloc, &verified, costs.per_record)
+                && panes_within(alloc, &verified, costs.per_pane)
+        }
+        Err(_) => false,
+    }
+}
+
+// What is needed, less one of a number.
+fn one_less(costs: Costs) -> [(Budget, Rule); 3] {
+    let exact = stated(costs);
+    let per_record = exact.per_record.saturating_sub(1);
+    let per_pane = exact.per_pane.saturating_sub(1);
+    let held = exact.held.saturating_sub(1);
+    [
+        (
+            Budget {
+                per_record,
+                ..exact
+            },
+            Rule::BudgetRecord,
+        ),
+        (Budget { per_pane, ..exact }, Rule::BudgetPane),
+        (Budget { held, ..exact }, Rule::BudgetHeld),
+    ]
+}
+
+fn stated(costs: Costs) -> Budget {
+    Budget {
+        per_record: costs.per_record,
+        per_pane: costs.per_pane,
+        held: costs.held,
+    }
+}
+
+// Whether sections are judged so, where they state a budget.
+fn is_judged(
+    alloc: Global,
+    sections: &Sections,
+    budget: Budget,
+    want: Result<Costs, Rule>,
+) -> Result<bool, Fail> {
+    let Some(bytes) = bytes_of(alloc, sections, budget)? else {
+        return Ok(false);
+    };
+    Ok(judged(alloc, &bytes) == want)
+}
+
+// Whether one less than what is needed is rejected, for each number.
+fn needs_all(alloc: Global, sections: &Sections, costs: Costs) -> Result<bool, Fail> {
+    for (budget, rule) in one_less(costs) {
+        if !is_judged(alloc, sections, budget, Err(rule))? {
+            return Ok(false);
+        }
+    }
+    Ok(true)
+}
+
+// Whether an accepted program of sections, which states what it needs and no more, keeps its
+// promises.
+fn keeps(alloc: Global, sections: &Sections, costs: Costs) -> Result<bool, Fail> {
+    let Some(bytes) = bytes_of(alloc, sections, stated(costs))? else {
+        return Ok(false);
+    };
+    if judged(alloc, &bytes) != Ok(costs) || !keeps_within(alloc, &bytes, costs) {
+        return Ok(false);
+    }
+    let (text, end) = program_ran(alloc, &bytes, ROWS);
+    Ok(end.is_ok() && is_whole(&text))
+}
+
+fn tried(alloc: Global, sections: &Sections) -> Result<Taken, Fail> {
+    let Some(bytes) = bytes_of(alloc, sections, ROOMY)? else {
+        return Ok(Taken::Refused);
+    };
+    match judged(alloc, &bytes) {
+        Err(Rule::Memory) => Ok(Taken::Wrong),
+        Err(rule) => Ok(Taken::Rejected(rule)),
+        Ok(costs) => {
+            let is_kept = keeps(alloc, sections, costs)? && needs_all(alloc, sections, costs)?;
+            Ok(if is_kept { Taken::Ran } else { Taken::Wrong })
+        }
+    }
+}
+
+/// How many programs were taken in each way.
+#[derive(Clone, Copy, Debug, PartialEq, Eq)]
+struct Counts {
+    refused: u32,
+    ran: u32,
+    wrong: u32,
+    // By the number of the rule.
+    rejected: [u32; 17],
+}
+
+impl Counts {
+    fn add(&mut self, taken: Taken) {
+        let count = match taken {
+            Taken::Refused => &mut self.refused,
+            Taken::Ran => &mut self.ran,
+            Taken::Wrong => &mut self.wrong,
+            Taken::Rejected(rule) => &mut self.rejected[rule as usize],
+        };
+        *count = count.saturating_add(1);
+    }
+}
+
+// How programs of a seed are taken.
+fn programs_of(alloc: Global, seed: u64, number: u32) -> Result<Counts, Fail> {
+    let mut noise = Noise::new(seed);
+    let mut counts = Counts {
+        refused: 0,
+        ran: 0,
+        wrong: 0,
+        rejected: [0; 17],
+    };
+    for _ in 0..number {
+        let sections = Sections::at_random(alloc, &mut noise)?;
+        counts.add(tried(alloc, &sections)?);
+    }
+    Ok(counts)
+}
+
+// None is wrong, one in twenty or more is accepted, and each rule of the sections rejects one.
+#[test]
+fn programs_at_random(rt: HostRuntime) -> Result<(), Fail> {
+    let counts = programs_of(rt.alloc(), 2, 5_000)?;
+    let want = Counts {
+        refused: 248,
+        ran: 1_421,
+        wrong: 0,
+        rejected: [
+            209, 65, 758, 181, 151, 115, 51, 151, 36, 35, 472, 559, 548, 0, 0, 0, 0,
+        ],
+    };
+    assert!(rt; counts.ran >= 250);
+    assert_eq!(rt; counts, want);
+    Ok(())
+}
