@@ -1,15 +1,12 @@
 -- What the answer to an event does, by a state of the machine that the runner keeps.
-use Rattle.std.proofs.Common.{◌≡◌, ℕ, cond, List, [], ◌∷◌, ℤ, Option, Some, None, Ok, Result, refl, sym, ap, ◌∙◌}
+use Rattle.std.proofs.Common.{◌≡◌, ℕ, cond, List, [], ℤ, Some, Ok, Result, sym, ap, ◌∙◌}
 use Rattle.std.specs.Prelude.{filter_map}
 use Rattle.wsm_record.specs.declared.event.Value.{Value}
-use Rattle.wsm_record.specs.Event.{Event, Record, Watermark}
+use Rattle.wsm_record.specs.Event.{Event, Record}
 use Rattle.wsm_admission.specs.declared.verdict.Admitted.{Admitted}
 use Rattle.wsm_admission.specs.declared.verdict.Admitted.TheVariants as admitted
 use Rattle.wsm_admission.specs.declared.verdict.Refusal.{Refusal}
-use Rattle.wsm_admission.specs.Admission.{answer}
-use Rattle.wsm_semantics.specs.declared.out_row.OutRow.{OutRow}
-use Rattle.wsm_semantics.specs.Query.{Query, verdict_on}
-use Rattle.wsm_semantics.specs.Query as query
+use Rattle.wsm_semantics.specs.Query.{Query}
 use Rattle.wsm_semantics.specs.Summaries.{Plan, after_record, after_watermark, fired_by_record, fired_by_watermark, at_watermark, relation_of, row_of}
 use Rattle.wsm_semantics.specs.Replay.{datum}
 use Rattle.wsm_semantics.specs.Steps.{State, panes_after, fired_by, relation_after, streamed_by, stream_rows, chosen_rows}
@@ -19,7 +16,7 @@ use Rattle.wsm_panes.specs.Held.{entries_of}
 use Rattle.wsm_firing.specs.Streams.{relation_kept}
 use Rattle.wsm_firing.specs.Firing.{rows_of}
 use Rattle.wsm_engine.specs.declared.runner.Runner.{Runner}
-use Rattle.wsm_engine.specs.Runner.{IsAt, panes_with, fired_with}
+use Rattle.wsm_engine.specs.Runner.{IsAt, last_relation, panes_with, fired_with}
 use Rattle.wsm_engine.proofs.Holding.{Panes}
 
 module _ (p : Program) (r : Runner) (m : ℤ) (s : State (List Value)) (at : IsAt m r s) (a : Result Admitted Refusal) (e : Event) where
@@ -53,12 +50,12 @@ module _ (p : Program) (r : Runner) (m : ℤ) (s : State (List Value)) (at : IsA
     pub fired_mark : fired_by_watermark (plan_of p) (query_of p) old new (entries_of r.held) ≡ fired_by (plan_of p) (query_of p) a e s
     fired_mark = ap (fired_by_watermark plan q old new) (sym at.panes) ∙ (λ i. fired_by plan q (sym is i) e s)
 
-    pub relation_mark : relation_kept p.header.form r.streams.relation (relation_of (at_watermark (plan_of p) (query_of p) old new (entries_of r.held))) ≡ relation_kept p.header.form s.relation (relation_after (plan_of p) (query_of p) a s)
+    pub relation_mark : relation_kept p.header.form (last_relation r.streams (entries_of r.held)) (relation_of (at_watermark (plan_of p) (query_of p) old new (entries_of r.held))) ≡ relation_kept p.header.form s.relation (relation_after (plan_of p) (query_of p) a s)
     relation_mark =
         (λ i. relation_kept p.header.form (sym at.relation i) (relation_of (at_watermark plan q old new (sym at.panes i))))
         ∙ (λ i. relation_kept p.header.form s.relation (relation_after plan q (sym is i) s))
 
-    pub rows_mark : chosen_rows p.header.form (filter_map (row_of (plan_of p)) (fired_by_watermark (plan_of p) (query_of p) old new (entries_of r.held))) (stream_rows p.header.form new r.streams.relation (relation_of (at_watermark (plan_of p) (query_of p) old new (entries_of r.held))))
+    pub rows_mark : chosen_rows p.header.form (filter_map (row_of (plan_of p)) (fired_by_watermark (plan_of p) (query_of p) old new (entries_of r.held))) (stream_rows p.header.form new (last_relation r.streams (entries_of r.held)) (relation_of (at_watermark (plan_of p) (query_of p) old new (entries_of r.held))))
         ≡ chosen_rows p.header.form (filter_map (row_of (plan_of p)) (fired_by (plan_of p) (query_of p) a e s)) (streamed_by (plan_of p) (query_of p) p.header.form a s)
     rows_mark =
         (λ i. chosen_rows p.header.form (filter_map (row_of plan) (fired_by_watermark plan q old new (sym at.panes i))) (stream_rows p.header.form new (sym at.relation i) (relation_of (at_watermark plan q old new (sym at.panes i)))))

@@ -1,8 +1,8 @@
 -- As an event comes to the runner of a program, what it is given can be done, and what is done is what
 -- the definitions say.
-use Rattle.std.proofs.Common.{◌≡◌, ℕ, ◌+◌, ◌*◌, ◌≤◌, ◌<◌, ◌^◌, ◌++◌, Bool, true, false, cond, List, [], ◌∷◌, length, ℤ, pos, ◌+ℤ◌, ◌-ℤ◌, ◌≤ℤ◌, Option, Some, None, Ok, Err, Result, IsTrue, SFits, w64, refl, sym, ap, subst, ◌∙◌, arith, append-nil}
+use Rattle.std.proofs.Common.{◌≡◌, ℕ, ◌+◌, ◌*◌, ◌≤◌, ◌++◌, Bool, true, cond, List, [], length, ℤ, ◌+ℤ◌, ◌-ℤ◌, Option, Some, None, Ok, Result, SFits, w64, refl, sym, ap, subst, ◌∙◌, arith, append-nil}
 use Rattle.std.proofs.lemmas.Int.{ints, fits_signed_from_abs}
-use Rattle.std.specs.Prelude.{filter_map, int_lt}
+use Rattle.std.specs.Prelude.{int_lt}
 use Rattle.std.specs.FinMap.Entries.{where_key}
 use Rattle.wsm_record.specs.declared.event.Value.{Value}
 use Rattle.wsm_record.specs.declared.words.Form.{Form}
@@ -18,12 +18,11 @@ use Rattle.wsm_admission.specs.declared.verdict.Admitted.TheVariants as admitted
 use Rattle.wsm_admission.specs.declared.verdict.Refusal.{Refusal}
 use Rattle.wsm_admission.specs.Admission.{answer}
 use Rattle.wsm_admission.proofs.Taken.{accepted_watermark}
-use Rattle.wsm_semantics.specs.declared.place.Place.{Place}
 use Rattle.wsm_semantics.specs.declared.out_row.OutRow.{OutRow}
 use Rattle.wsm_semantics.specs.Query.{Query, mark, verdict_on}
 use Rattle.wsm_semantics.specs.Panes.{place_cmp, is_live_at}
 use Rattle.wsm_semantics.specs.HeldBounds.{most_panes}
-use Rattle.wsm_semantics.specs.Summaries.{Pane, entered}
+use Rattle.wsm_semantics.specs.Summaries.{entered}
 use Rattle.wsm_semantics.specs.Replay.{datum}
 use Rattle.wsm_semantics.specs.Steps.{chosen_rows, stream_rows}
 use Rattle.wsm_semantics.proofs.Lists.{filter_same}
@@ -40,7 +39,7 @@ use Rattle.wsm_engine.specs.Runner.{IsOf, Comes, entering_cost}
 use Rattle.wsm_engine.proofs.Agreeing.{entered_same}
 use Rattle.wsm_engine.proofs.Limits.{record_stated}
 use Rattle.wsm_engine.proofs.Holding.{Panes, kept_panes, kept_within}
-use Rattle.wsm_engine.proofs.Entering.{ranged, timely, can_enter}
+use Rattle.wsm_engine.proofs.Entering.{ranged, timely, can_enter, now_within}
 use Rattle.wsm_engine.proofs.Firings.{can_by_record, can_by_watermark}
 
 none_refuses : (m : ℤ) (e : Event) (v : Option Refusal) (a : Admitted) → Ok a ≡ answer m e v → v ≡ None
@@ -94,6 +93,12 @@ module _ (p : Program) (past : List Event) (r : Runner) (of : IsOf p r) (m : ℤ
       where
         least : (a b c : ℕ) → a ≤ b → b ≤ c → a ≤ c
         least a b c h l = omega (arith, h, l)
+
+    -- there is room for the panes that it entered
+    pub few_entered : (after : Panes) → after ≡ entered (plan_of p) p.header.shape (datum 0 k t vs) (entries_of r.held) → length after ≤ most_panes (query_of p)
+    few_entered after a =
+        subst (λ xs. length xs ≤ most_panes (query_of p)) (sym (a ∙ ap (entered (plan_of p) p.header.shape (datum 0 k t vs)) comes.panes))
+        (now_within p (needed p) of.judged of.lawful past k t vs taken chosen)
 
     -- the panes that it entered can be fired
     pub can_fire : (capacity : ℕ) (session : Option Window) (after : Panes) → most_panes (query_of p) ≤ capacity → session ≡ session_entered p.header.shape (datum 0 k t []) (entries_of r.held)

@@ -9,3 +9,4 @@ pub mod Firings
 pub mod Coming
 pub mod Acting
 pub mod Spending
+pub mod Told

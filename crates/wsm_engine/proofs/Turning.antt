@@ -20,7 +20,7 @@ use Rattle.wsm_semantics.specs.Kept as kept
 use Rattle.wsm_semantics.specs.Kept.{Kept}
 use Rattle.wsm_semantics.specs.Firings.{firings}
 use Rattle.wsm_semantics.specs.Relation.{turn_rows, relation}
-use Rattle.wsm_semantics.specs.Summaries.{Plan, Pane, Fired, pane_of, row_of, summary_fired}
+use Rattle.wsm_semantics.specs.Summaries.{Plan, Pane, pane_of, row_of, summary_fired}
 use Rattle.wsm_semantics.specs.Steps as steps
 use Rattle.wsm_semantics.specs.Steps.{answer_to, panes_after, fired_by, relation_after, streamed_by, chosen_rows, step, step_fires, step_rows}
 use Rattle.wsm_semantics.proofs.Lists.{length_each}
@@ -74,14 +74,16 @@ module _ (p : Program) (s : steps.State (List Value)) (r : List (List Value)) wh
   rows_same form.Panes a fired h = refl
   rows_same form.Istream a fired h = λ i. streamed_by (plan_of p) (query_of p) form.Istream a (record s { relation = h tt i })
   rows_same form.Dstream a fired h = λ i. streamed_by (plan_of p) (query_of p) form.Dstream a (record s { relation = h tt i })
-  rows_same form.Rstream a fired h = λ i. streamed_by (plan_of p) (query_of p) form.Rstream a (record s { relation = h tt i })
+  rows_same form.Rstream (Ok admitted.Record) fired h = refl
+  rows_same form.Rstream (Ok (admitted.Watermark old new)) fired h = refl
+  rows_same form.Rstream (Err x) fired h = refl
 
   pub relation_same : (f : Form) (a : Result Admitted Refusal) (now : List (List Value)) → (KeepsRelation f → s.relation ≡ r) → relation_after (plan_of p) (query_of p) a other ≡ now →
       KeepsRelation f → relation_kept f s.relation (relation_after (plan_of p) (query_of p) a s) ≡ now
   relation_same form.Panes a now h is k = absurd k
   relation_same form.Istream a now h is k = (λ i. relation_after (plan_of p) (query_of p) a (record s { relation = h tt i })) ∙ is
   relation_same form.Dstream a now h is k = (λ i. relation_after (plan_of p) (query_of p) a (record s { relation = h tt i })) ∙ is
-  relation_same form.Rstream a now h is k = (λ i. relation_after (plan_of p) (query_of p) a (record s { relation = h tt i })) ∙ is
+  relation_same form.Rstream a now h is k = absurd k
 
 -- ---- the turn
 

@@ -5,12 +5,12 @@ use Rattle.wsm_panes.specs.Held.{entries_of}
 use Rattle.wsm_engine.specs.declared.engine.Engine.TheInside.{Inside}
 use Rattle.wsm_engine.specs.State.{State}
 use Rattle.wsm_engine.specs.Meaning.{Fits}
-use Rattle.wsm_engine.specs.Runner.{IsOf}
+use Rattle.wsm_engine.specs.Runner.{IsOf, last_relation}
 
 abbrev pub state_of : Inside → State
 state_of a = record {
   program = a.verified;
-  machine = record { admission = a.admission; panes = entries_of a.runner.held; relation = a.runner.streams.relation; fed = a.fed; fired = a.fired };
+  machine = record { admission = a.admission; panes = entries_of a.runner.held; relation = last_relation a.runner.streams (entries_of a.runner.held); fed = a.fed; fired = a.fired };
   rows = a.runner.rows.items;
 }
 

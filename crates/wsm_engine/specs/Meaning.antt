@@ -38,12 +38,13 @@ totals_of q past = record {
   panes = counter (length (firings_so_far q past));
 }
 
--- the form writes the rows of a relation, and not those of the panes that fire
+-- the form writes what a relation gains or loses
 abbrev pub KeepsRelation : Form → Type 0
-KeepsRelation form.Panes = ⊥
-KeepsRelation _ = Unit {0}
+KeepsRelation form.Istream = Unit {0}
+KeepsRelation form.Dstream = Unit {0}
+KeepsRelation _ = ⊥
 
--- what is kept is the history's; a relation is kept where its rows are written
+-- what is kept is the history's; a relation is kept where changes against it are written
 pub record Fits (s : State) (past : List Event) : Type 0 where
   pub clock : s.machine.admission.clock ≡ (query_of s.program).clock
   pub admission : admission.Fits (query_of s.program).declared s.machine.admission past

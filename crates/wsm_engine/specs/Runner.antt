@@ -12,7 +12,7 @@ use Rattle.wsm_semantics.specs.Query as query
 use Rattle.wsm_semantics.specs.Query.{verdict_on}
 use Rattle.wsm_semantics.specs.HeldBounds.{most_panes}
 use Rattle.wsm_semantics.specs.Kept.{kept}
-use Rattle.wsm_semantics.specs.Summaries.{Pane, Fired, summaries, after_record, fired_by_record}
+use Rattle.wsm_semantics.specs.Summaries.{Pane, Fired, summaries, after_record, fired_by_record, relation_of}
 use Rattle.wsm_semantics.specs.Replay.{datum}
 use Rattle.wsm_semantics.specs.Steps.{State}
 use Rattle.wsm_bytecode.specs.Program.{Program, is_program}
@@ -20,10 +20,20 @@ use Rattle.wsm_verifier.specs.Costs.{needed}
 use Rattle.wsm_verifier.specs.Rules.{judge}
 use Rattle.wsm_machine.specs.Meaning.{query_of, plan_of, selects, update_run, joins_held}
 use Rattle.wsm_panes.specs.Held.{Held, entries_of}
+use Rattle.wsm_firing.specs.Streams.{Standing, IsTold, relation_before, standing_rows}
 use Rattle.std.specs.Prelude.{IsTrue}
 use Rattle.wsm_engine.specs.declared.runner.Runner.{Runner}
 
--- the program is accepted, and there is room for as many panes and rows as it can hold
+-- the relation at the last instant, by what the streams were told since
+abbrev pub last_relation : Standing → List (Place × Pane (List Value)) → List (List Value)
+last_relation s panes = relation_before s.form s.numbers (relation_of panes)
+
+-- the streams were told of the panes, of no more rows than so many
+pub record AreTold (most : ℕ) (s : Standing) (panes : List (Place × Pane (List Value))) : Type 0 where
+  pub told : IsTold s (last_relation s panes) (standing_rows panes)
+  pub few : length (last_relation s panes) ≤ most
+
+-- the program is accepted, there is room for as many panes and rows as it can hold, and the streams were told
 pub record IsOf (p : Program) (r : Runner) : Type 0 where
   pub judged : judge p ≡ Ok (needed p)
   pub lawful : IsTrue (is_program p)
@@ -33,6 +43,7 @@ pub record IsOf (p : Program) (r : Runner) : Type 0 where
   pub form : r.streams.form ≡ p.header.form
   pub room : r.streams.room ≡ most_panes (query_of p)
   pub rows : most_panes (query_of p) ≤ vec_capacity r.rows
+  pub streams : AreTold (most_panes (query_of p)) r.streams (entries_of r.held)
 
 -- an event comes after a history, with its answer, and what is held is the history's
 pub record Comes (p : Program) (past : List Event) (h : Held) (mark : ℤ) (a : Result Admitted Refusal) (e : Event) : Type 0 where
@@ -44,7 +55,7 @@ pub record Comes (p : Program) (past : List Event) (h : Held) (mark : ℤ) (a : 
 pub record IsAt (mark : ℤ) (r : Runner) (s : State (List Value)) : Type 0 where
   pub marked : s.admission.mark ≡ mark
   pub panes : s.panes ≡ entries_of r.held
-  pub relation : s.relation ≡ r.streams.relation
+  pub relation : s.relation ≡ last_relation r.streams (entries_of r.held)
 
 -- what a record does that WHERE is asked of
 abbrev pub panes_with : Program → ℤ → ℕ → ℤ → List Value → List (Place × Pane (List Value)) → List (Place × Pane (List Value))

@@ -1,6 +1,6 @@
 -- What an event does to an engine: the step of the machine that keeps a summary for each held pane. A
--- relation is kept where its rows are written.
-use Rattle.std.specs.Prelude.{ℕ, List, map, length, sum, Option, Some, None, Result, Ok, Err}
+-- relation is kept where changes against it are written.
+use Rattle.std.specs.Prelude.{List, map, length, sum, Option, Some, None, Result, Ok, Err}
 use Rattle.wsm_record.specs.declared.event.Value.{Value}
 use Rattle.wsm_record.specs.Event.{Event}
 use Rattle.wsm_admission.specs.declared.verdict.Admitted.{Admitted}

@@ -12,12 +12,12 @@ ghost use Rattle.wsm_machine.specs.Meaning.{answer_cost, plan_of, query_of, reco
 ghost use Rattle.wsm_panes.specs.Held.{IsKept, entries_of, session_entered};
 ghost use Rattle.wsm_firing.specs.Tally.{tally_of};
 ghost use Rattle.wsm_firing.specs.Firing.{rows_of};
-ghost use Rattle.wsm_firing.specs.Streams.{relation_kept};
-ghost use Rattle.wsm_engine.specs.Runner.{Comes, IsAt, IsOf, entering_cost, fired_with, panes_with};
+ghost use Rattle.wsm_firing.specs.Streams.{AreAlike, IsTold, relation_kept, standing_rows};
+ghost use Rattle.wsm_engine.specs.Runner.{Comes, IsAt, IsOf, entering_cost, fired_with, last_relation, panes_with};
 
 use std::alloc::{AllocError, Global};
 use wsm_admission::{Admitted, Refusal};
-use wsm_firing::{Streams, Tally, fire_by_record, fire_by_watermark};
+use wsm_firing::{Streams, Tally, drop_expired, enter, fire_by_record, fire_by_watermark};
 use wsm_machine::{Inputs, Machine};
 use wsm_panes::HeldPanes;
 use wsm_record::{Event, Kind, Value};
@@ -59,7 +59,7 @@ impl Runner {
     pub fn open(alloc: Global, verified: &Verified) -> Result<Runner, AllocError>
         ensures program { IfOk result (IsOf verified.now) }
         ensures panes { IfOk result (λ r. entries_of r.held ≡ []) }
-        ensures relation { IfOk result (λ r. r.streams.relation ≡ []) }
+        ensures relation { IfOk result (λ r. last_relation r.streams (entries_of r.held) ≡ []) }
         ensures rows { IfOk result (λ r. r.rows.items ≡ []) }
     {
         let header = verified.program().header();
@@ -87,7 +87,7 @@ impl Runner {
         ensures program { IsOf verified.now self.new }
         ensures panes { (s : State (List OneValue)) → IsAt mark self.old s → entries_of self.new.held ≡ panes_after (plan_of verified.now) (query_of verified.now) answer (event_of event.now) s }
         ensures relation { (s : State (List OneValue)) → IsAt mark self.old s →
-            self.new.streams.relation ≡ relation_kept verified.now.header.form s.relation (relation_after (plan_of verified.now) (query_of verified.now) answer s) }
+            last_relation self.new.streams (entries_of self.new.held) ≡ relation_kept verified.now.header.form s.relation (relation_after (plan_of verified.now) (query_of verified.now) answer s) }
         ensures rows { (s : State (List OneValue)) → IsAt mark self.old s →
             self.new.rows.items ≡ chosen_rows verified.now.header.form (filter_map (row_of (plan_of verified.now)) (fired_by (plan_of verified.now) (query_of verified.now) answer (event_of event.now) s)) (streamed_by (plan_of verified.now) (query_of verified.now) verified.now.header.form answer s) }
         ensures cost { (s : State (List OneValue)) → IsAt mark self.old s → result.record_steps ≡ answer_cost verified.now answer (event_of event.now) s }
@@ -126,7 +126,7 @@ impl Runner {
         requires comes { (past : List AnyEvent) × Comes verified.now past self.old.held mark (Ok admitted.Record) (Record (Some key) time values.now) }
         ensures program { IsOf verified.now self.new }
         ensures panes { entries_of self.new.held ≡ panes_with verified.now mark key time values.now (entries_of self.old.held) }
-        ensures streams { self.new.streams ≡ self.old.streams }
+        ensures relation { last_relation self.new.streams (entries_of self.new.held) ≡ last_relation self.old.streams (entries_of self.old.held) }
         ensures rows { self.new.rows.items ≡ rows_of verified.now (fired_with verified.now mark key time values.now (entries_of self.old.held)) }
         ensures cost { result.record_steps ≡ record_cost_by verified.now (entries_of self.old.held) (datum 0 key time values.now) }
         ensures tally { result.tally ≡ tally_of verified.now (fired_with verified.now mark key time values.now (entries_of self.old.held)) }
@@ -143,6 +143,7 @@ impl Runner {
             verified,
             &mut self.machine,
             &mut self.held,
+            &mut self.streams,
             &mut self.rows,
             mark,
             key,
@@ -169,7 +170,8 @@ impl Runner {
         requires comes { (past : List AnyEvent) × (mark : ℤ) × Comes verified.now past self.old.held mark (Ok admitted.Record) (Record (Some key) time values.now) }
         ensures panes { entries_of self.new.held ≡ entered (plan_of verified.now) verified.now.header.shape (datum 0 key time values.now) (entries_of self.old.held) }
         ensures keeps { IsKept self.old.held self.new.held }
-        ensures streams { self.new.streams ≡ self.old.streams }
+        ensures told { (relation : List (List OneValue)) → IsTold self.old.streams relation (standing_rows (entries_of self.old.held)) → IsTold self.new.streams relation (standing_rows (entries_of self.new.held)) }
+        ensures alike { AreAlike self.old.streams self.new.streams }
         ensures rows { self.new.rows ≡ self.old.rows }
         ensures steps { result.0 ≡ entering_cost verified.now key time values.now (entries_of self.old.held) }
         ensures session { result.1 ≡ session_entered verified.now.header.shape (datum 0 key time []) (entries_of self.old.held) }
@@ -177,37 +179,45 @@ impl Runner {
         let updated = self.machine.update(verified, &record_inputs(key, values));
         let steps = updated.steps;
         let kinds = &verified.program().header().kinds;
-        let entered = self.held.enter(kinds, key, time, updated.values);
+        let entered = enter(
+            &mut self.held,
+            &mut self.streams,
+            kinds,
+            key,
+            time,
+            updated.values,
+        );
         (
             entered.windows * steps + join_steps(kinds, entered.joined),
             entered.session,
         )
     }
 
-    // Takes a watermark that was accepted: fires the panes that it comes to, goes on to the relation at
-    // it, and drops the panes that end with the lateness by then.
+    // Takes a watermark that was accepted: fires the panes that it comes to, writes the streams at it, and
+    // drops the panes that end with the lateness by then.
     fn take_watermark(&mut self, verified: &Verified, old: i64, new: i64) -> Tally
         requires program { IsOf verified.now self.old }
         requires empty { self.old.rows.items ≡ [] }
         requires comes { (past : List AnyEvent) × Comes verified.now past self.old.held old (Ok (admitted.Watermark old new)) (Watermark new) }
         ensures program { IsOf verified.now self.new }
         ensures panes { entries_of self.new.held ≡ after_watermark (plan_of verified.now) (query_of verified.now) old new (entries_of self.old.held) }
-        ensures relation { self.new.streams.relation ≡ relation_kept verified.now.header.form self.old.streams.relation (relation_of (at_watermark (plan_of verified.now) (query_of verified.now) old new (entries_of self.old.held))) }
+        ensures relation { last_relation self.new.streams (entries_of self.new.held) ≡ relation_kept verified.now.header.form (last_relation self.old.streams (entries_of self.old.held)) (relation_of (at_watermark (plan_of verified.now) (query_of verified.now) old new (entries_of self.old.held))) }
         ensures rows { self.new.rows.items ≡ chosen_rows verified.now.header.form (filter_map (row_of (plan_of verified.now)) (fired_by_watermark (plan_of verified.now) (query_of verified.now) old new (entries_of self.old.held)))
-            (stream_rows verified.now.header.form new self.old.streams.relation (relation_of (at_watermark (plan_of verified.now) (query_of verified.now) old new (entries_of self.old.held)))) }
+            (stream_rows verified.now.header.form new (last_relation self.old.streams (entries_of self.old.held)) (relation_of (at_watermark (plan_of verified.now) (query_of verified.now) old new (entries_of self.old.held)))) }
         ensures tally { result ≡ tally_of verified.now (fired_by_watermark (plan_of verified.now) (query_of verified.now) old new (entries_of self.old.held)) }
     {
         let tally = fire_by_watermark(
             verified,
             &mut self.machine,
             &mut self.held,
+            &mut self.streams,
             &mut self.rows,
             old,
             new,
         );
         let limit = new - verified.program().header().lateness;
-        self.streams.advance(&self.held, new, &mut self.rows);
-        self.held.drop_expired(limit);
+        self.streams.advance(new, &mut self.rows);
+        drop_expired(&mut self.held, &mut self.streams, limit);
         tally
     }
 }

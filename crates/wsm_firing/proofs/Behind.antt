@@ -29,7 +29,7 @@ first_less Greater next h n = absurd (cc)
 tied : (x y : ℤ) → int_cmp x y ≡ Equal → x ≡ y
 tied x y h = grind (arith, ints)
 
-ends_in_order : (p r : Place) → place_cmp p r ≡ Less → p.end ≤ℤ r.end
+pub ends_in_order : (p r : Place) → place_cmp p r ≡ Less → p.end ≤ℤ r.end
 ends_in_order p r less =
     elim (is_lt (int_cmp p.end r.end)) as (λ b. is_lt (int_cmp p.end r.end) ≡ b → p.end ≤ℤ r.end) [
       | true ↦ λ h. grind (arith, ints)

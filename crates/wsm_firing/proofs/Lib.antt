@@ -9,5 +9,7 @@ pub mod Triggered
 pub mod Headers
 pub mod Running
 pub mod Entered
-pub mod Gathering
 pub mod Streaming
+pub mod Standing
+pub mod Joining
+pub mod Past

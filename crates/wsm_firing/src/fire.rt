@@ -12,8 +12,10 @@ ghost use Rattle.wsm_panes.specs.Held.{IsKept, entries_of};
 ghost use Rattle.wsm_firing.specs.Tally.{tally_with};
 ghost use Rattle.wsm_firing.specs.Firing.{CanAdd, rows_of};
 ghost use Rattle.wsm_firing.specs.Due.{fired_by};
+ghost use Rattle.wsm_firing.specs.Streams.{CanTell, Tells};
 
 use crate::run::run;
+use crate::streams::Streams;
 use crate::tally::Tally;
 use wsm_machine::Machine;
 use wsm_panes::{HeldPanes, Pane};
@@ -33,26 +35,32 @@ pub struct Due {
     pub pane: Pane,
 }
 
-/// Fires a pane that is held. Its columns stand for it, and are written where rows are those of panes.
+/// Fires a pane that is held. Its columns stand for it, of which the streams are told, and are written
+/// where rows are those of panes.
 pub fn fire(
     verified: &Verified,
     machine: &mut Machine,
     held: &mut HeldPanes,
+    streams: &mut Streams,
     rows: &mut Vec<OutRow>,
     tally: &mut Tally,
     due: Due,
 )
+    requires tells { CanTell streams.old (entries_of held.old) }
     requires can { CanAdd verified.now (vec_capacity rows.old) (vec_len rows.old) tally.old (fired_by verified.now.header.mode due ∷ []) }
     requires held { find place_cmp due.place (entries_of held.old) ≡ Some due.pane }
     ensures panes { entries_of held.new ≡ put place_cmp due.place (fired_pane (plan_of verified.now) verified.now.header.mode due.place (Some due.kind) due.pane) (entries_of held.old) }
     ensures keeps { IsKept held.old held.new }
+    ensures tells { Tells streams.old streams.new (entries_of held.old) (entries_of held.new) }
     ensures rows { rows.new.items ≡ rows.old.items ++ rows_of verified.now (fired_by verified.now.header.mode due ∷ []) }
     ensures capacity { vec_capacity rows.new ≡ vec_capacity rows.old }
     ensures tally { tally.new ≡ tally_with verified.now tally.old (fired_by verified.now.header.mode due ∷ []) }
 {
     let header = verified.program().header();
     let answer = run(verified, machine, &due);
+    streams.lose(&due.pane);
     held.replace(due.place, due.pane.fired(header.mode, answer.columns));
+    streams.gain(&answer.columns);
     tally.count(answer.steps);
     write(header.form, rows, due.kind, due.place, answer.columns);
 }

@@ -7,11 +7,13 @@ ghost use Rattle.wsm_semantics.specs.Summaries.{all_fired, fires, kind_by_record
 ghost use Rattle.wsm_machine.specs.Meaning.{plan_of, query_of};
 ghost use Rattle.wsm_panes.specs.Held.{IsKept, entries_of};
 ghost use Rattle.wsm_firing.specs.Tally.{tally_of, tally_with};
+ghost use Rattle.wsm_firing.specs.Streams.{CanTell, Tells};
 ghost use Rattle.wsm_firing.specs.Firing.{CanAdd, CanFire, rows_of};
 ghost use Rattle.wsm_firing.specs.ByRecord.{AreInOrder, CanFireByRecord, fires_by_record, kind_at};
 
 use crate::fire::{Due, fire};
 use crate::kinds::record_kind;
+use crate::streams::Streams;
 use crate::tally::Tally;
 use wsm_machine::Machine;
 use wsm_panes::HeldPanes;
@@ -21,11 +23,12 @@ use wsm_windows::{Window, Windows, windows_of};
 
 /// Fires the panes that a selected record of a key and a time was put into and that its triggers call
 /// for, at a mark, by end, then start. A row is written for each where HAVING is true and rows are
-/// those of panes. The session is the record's, where windows are sessions.
+/// those of panes, and the streams are told. The session is the record's, where windows are sessions.
 pub fn fire_by_record(
     verified: &Verified,
     machine: &mut Machine,
     held: &mut HeldPanes,
+    streams: &mut Streams,
     rows: &mut Vec<OutRow>,
     mark: i64,
     key: u16,
@@ -33,9 +36,11 @@ pub fn fire_by_record(
     session: Option<Window>,
 ) -> Tally
     requires empty { rows.old.items ≡ [] }
+    requires tells { CanTell streams.old (entries_of held.old) }
     requires can { CanFireByRecord verified.now (vec_capacity rows.old) mark key time session (entries_of held.old) }
     ensures panes { entries_of held.new ≡ all_fired (plan_of verified.now) (query_of verified.now) (kind_by_record (query_of verified.now) mark (datum 0 key time [])) (entries_of held.old) }
     ensures keeps { IsKept held.old held.new }
+    ensures tells { Tells streams.old streams.new (entries_of held.old) (entries_of held.new) }
     ensures rows { rows.new.items ≡ rows_of verified.now (fires_by_record verified.now mark key time (entries_of held.old)) }
     ensures capacity { vec_capacity rows.new ≡ vec_capacity rows.old }
     ensures tally { result ≡ tally_of verified.now (fires_by_record verified.now mark key time (entries_of held.old)) }
@@ -48,12 +53,14 @@ pub fn fire_by_record(
         Some(window) => {
             let mut tally = Tally::none();
             let place = place_of(key, window);
-            fire_at(verified, machine, held, rows, &mut tally, mark, place);
+            fire_at(
+                verified, machine, held, streams, rows, &mut tally, mark, place,
+            );
             tally
         }
         None => {
             let windows = windows_of(header.shape, time);
-            fire_each(verified, machine, held, rows, mark, key, windows)
+            fire_each(verified, machine, held, streams, rows, mark, key, windows)
         }
     }
 }
@@ -63,16 +70,19 @@ fn fire_each(
     verified: &Verified,
     machine: &mut Machine,
     held: &mut HeldPanes,
+    streams: &mut Streams,
     rows: &mut Vec<OutRow>,
     mark: i64,
     key: u16,
     windows: Windows,
 ) -> Tally
     requires empty { rows.old.items ≡ [] }
+    requires tells { CanTell streams.old (entries_of held.old) }
     requires order { AreInOrder (map (at key) windows) }
     requires can { CanFire verified.now (vec_capacity rows.old) (fires (query_of verified.now) (kind_at (query_of verified.now) mark (map (at key) windows)) (entries_of held.old)) }
     ensures panes { entries_of held.new ≡ all_fired (plan_of verified.now) (query_of verified.now) (kind_at (query_of verified.now) mark (map (at key) windows)) (entries_of held.old) }
     ensures keeps { IsKept held.old held.new }
+    ensures tells { Tells streams.old streams.new (entries_of held.old) (entries_of held.new) }
     ensures rows { rows.new.items ≡ rows_of verified.now (fires (query_of verified.now) (kind_at (query_of verified.now) mark (map (at key) windows)) (entries_of held.old)) }
     ensures capacity { vec_capacity rows.new ≡ vec_capacity rows.old }
     ensures tally { result ≡ tally_of verified.now (fires (query_of verified.now) (kind_at (query_of verified.now) mark (map (at key) windows)) (entries_of held.old)) }
@@ -80,7 +90,9 @@ fn fire_each(
     let mut tally = Tally::none();
     for window in windows {
         let place = place_of(key, window);
-        fire_at(verified, machine, held, rows, &mut tally, mark, place);
+        fire_at(
+            verified, machine, held, streams, rows, &mut tally, mark, place,
+        );
     }
     tally
 }
@@ -90,14 +102,17 @@ fn fire_at(
     verified: &Verified,
     machine: &mut Machine,
     held: &mut HeldPanes,
+    streams: &mut Streams,
     rows: &mut Vec<OutRow>,
     tally: &mut Tally,
     mark: i64,
     place: Place,
 )
-    requires { CanAdd verified.now (vec_capacity rows.old) (vec_len rows.old) tally.old (fires (query_of verified.now) (kind_at (query_of verified.now) mark (place ∷ [])) (entries_of held.old)) }
+    requires tells { CanTell streams.old (entries_of held.old) }
+    requires can { CanAdd verified.now (vec_capacity rows.old) (vec_len rows.old) tally.old (fires (query_of verified.now) (kind_at (query_of verified.now) mark (place ∷ [])) (entries_of held.old)) }
     ensures panes { entries_of held.new ≡ all_fired (plan_of verified.now) (query_of verified.now) (kind_at (query_of verified.now) mark (place ∷ [])) (entries_of held.old) }
     ensures keeps { IsKept held.old held.new }
+    ensures tells { Tells streams.old streams.new (entries_of held.old) (entries_of held.new) }
     ensures rows { rows.new.items ≡ rows.old.items ++ rows_of verified.now (fires (query_of verified.now) (kind_at (query_of verified.now) mark (place ∷ [])) (entries_of held.old)) }
     ensures capacity { vec_capacity rows.new ≡ vec_capacity rows.old }
     ensures tally { tally.new ≡ tally_with verified.now tally.old (fires (query_of verified.now) (kind_at (query_of verified.now) mark (place ∷ [])) (entries_of held.old)) }
@@ -110,6 +125,7 @@ fn fire_at(
             verified,
             machine,
             held,
+            streams,
             rows,
             tally,
             Due { kind, place, pane },

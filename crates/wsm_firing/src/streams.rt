@@ -1,40 +1,43 @@
 //! The streams of the relation.
 
-ghost use Rattle.std.specs.Prelude.{◌≡◌, ◌≤◌, ◌+◌, ◌++◌, [], map, length, IfOk, vec_len, vec_capacity};
-ghost use Rattle.wsm_semantics.specs.Summaries.{relation_of};
+ghost use Rattle.std.specs.Prelude.{◌≡◌, ◌≤◌, ◌+◌, ◌++◌, [], ◌∷◌, List, Some, map, length, IfOk, vec_len, vec_capacity};
+ghost use Rattle.std.specs.List.{cons_option};
+ghost use Rattle.wsm_record.specs.declared.event.Value.{Value};
+ghost use Rattle.wsm_semantics.specs.Relation.{sorted_rows};
+ghost use Rattle.wsm_semantics.specs.Summaries.{standing_row};
 ghost use Rattle.wsm_semantics.specs.Steps.{stream_rows};
-ghost use Rattle.wsm_panes.specs.Held.{entries_of};
-ghost use Rattle.wsm_firing.specs.Streams.{HasRoomFor, changes_of, relation_kept, stream_row};
+ghost use Rattle.wsm_firing.specs.Streams.{AreAlike, CanAdvance, CanGain, CanLose, HasRoomFor, IsTold, relation_kept, stream_of, stream_row};
 
 use std::alloc::{AllocError, Global};
 use std::marker::Model;
-use std::mem;
-use wsm_panes::HeldPanes;
+use wsm_panes::{MAX_PANES, Pane};
 use wsm_record::Form;
-use wsm_relation::{Relation, dstream, istream, rstream};
+use wsm_relation::{Changes, Relation, rstream};
 use wsm_semantics::{Columns, MAX_COLUMNS, OutRow};
 
-/// The relation of the rows that stand for the panes that are held, at the last instant, and the
-/// streams of what it gains, of what it loses or of its rows (Arasu et al. 2006). Where rows are
-/// those of panes it is empty.
+/// The streams of the relation of the rows that stand for the panes that are held, which is told each
+/// row that it gains and each that it loses: what it gained since the last instant, what it lost, or
+/// its rows (Arasu et al. 2006). Where rows are those of panes nothing is kept.
 #[derive(Drop)]
 pub struct Streams {
     form: Form,
     room: usize,
-    before: Relation,
-    now: Relation,
-    changes: Vec<Columns>,
+    // What changed since the last instant, where that is written.
+    changes: Changes,
+    // The rows that stand, where those are written.
+    relation: Relation,
+    written: Vec<Columns>,
 }
 
 impl Model for Streams {
-    ghost use Rattle.std.specs.Prelude.{◌≡◌, [], vec_capacity};
+    ghost use Rattle.std.specs.Prelude.{◌≡◌, vec_capacity};
     ghost use Rattle.wsm_firing.specs.Streams.{Standing, IsReserved};
 
     ghost Value = { Standing };
 
-    ghost view = { λ a. record { form = a.form; room = a.room; relation = a.before.rows } };
+    ghost view = { λ a. record { form = a.form; room = a.room; numbers = a.changes.numbers; rows = a.relation.rows } };
 
-    ghost invariant = { λ a. IsReserved a.form a.room a.before a.now (vec_capacity a.changes) };
+    ghost invariant = { λ a. IsReserved a.form a.room a.changes a.relation (vec_capacity a.written) };
 }
 
 impl Streams {
@@ -44,79 +47,127 @@ impl Streams {
     ///
     /// Where there is no memory for the room.
     pub fn open(alloc: Global, form: Form, room: usize) -> Result<Streams, AllocError>
-        ensures { IfOk result (λ s. s ≡ record { form = form; room = room; relation = [] }) }
+        requires { room ≤ MAX_PANES }
+        ensures { IfOk result (λ s. s ≡ record { form = form; room = room; numbers = []; rows = [] }) }
     {
-        let reserved = match form {
+        let changed = match form {
+            Form::Istream | Form::Dstream => 2 * room,
+            Form::Panes | Form::Rstream => 0,
+        };
+        let kept = match form {
+            Form::Rstream => room,
+            Form::Panes | Form::Istream | Form::Dstream => 0,
+        };
+        let written = match form {
             Form::Panes => 0,
             Form::Istream | Form::Dstream | Form::Rstream => room,
         };
         Ok(Streams {
             form,
             room,
-            before: Relation::open(alloc, reserved, MAX_COLUMNS)?,
-            now: Relation::open(alloc, reserved, MAX_COLUMNS)?,
-            changes: Vec::with_capacity(alloc, reserved)?,
+            changes: Changes::open(alloc, changed, MAX_COLUMNS)?,
+            relation: Relation::open(alloc, kept, MAX_COLUMNS)?,
+            written: Vec::with_capacity(alloc, written)?,
         })
     }
 
-    /// The next instant, at a watermark: appends the rows of the stream to those of the turn, and
-    /// keeps the relation that the panes stand for now. Nothing changes where rows are those of panes.
-    pub fn advance(&mut self, held: &HeldPanes, mark: i64, rows: &mut Vec<OutRow>)
-        requires panes { length (entries_of held.now) ≤ self.old.room }
+    /// The form of the rows.
+    pub(crate) fn form(&self) -> Form
+        ensures { result ≡ self.now.form }
+    {
+        self.form
+    }
+
+    /// The relation loses the row that stands for a pane, if one does.
+    pub(crate) fn lose(&mut self, pane: &Pane)
+        requires { CanLose self.old (standing_row pane.now.stands) }
+        ensures told { (before now : List (List Value)) → IsTold self.old before (cons_option (standing_row pane.now.stands) now) → IsTold self.new before now }
+        ensures alike { AreAlike self.old self.new }
+    {
+        if let Form::Panes = self.form {
+            return;
+        }
+        if let Some(row) = pane.standing_row() {
+            self.lose_row(row);
+        }
+    }
+
+    /// The relation gains a row, if there is one.
+    pub(crate) fn gain(&mut self, row: &Option<Columns>)
+        requires { CanGain self.old row.now }
+        ensures told { (before now : List (List Value)) → IsTold self.old before now → IsTold self.new before (cons_option row.now now) }
+        ensures alike { AreAlike self.old self.new }
+    {
+        if let Some(row) = row {
+            self.gain_row(row);
+        }
+    }
+
+    fn lose_row(&mut self, row: Columns)
+        requires { CanLose self.old (Some row) }
+        ensures told { (before now : List (List Value)) → IsTold self.old before (row ∷ now) → IsTold self.new before now }
+        ensures alike { AreAlike self.old self.new }
+    {
+        match self.form {
+            Form::Panes => {}
+            Form::Istream | Form::Dstream => self.changes.minus(row),
+            Form::Rstream => self.relation.remove(&row),
+        }
+    }
+
+    fn gain_row(&mut self, row: &Columns)
+        requires { CanGain self.old (Some row.now) }
+        ensures told { (before now : List (List Value)) → IsTold self.old before now → IsTold self.new before (row.now ∷ now) }
+        ensures alike { AreAlike self.old self.new }
+    {
+        match self.form {
+            Form::Panes => {}
+            Form::Istream | Form::Dstream => self.changes.plus(*row),
+            Form::Rstream => self.relation.add(*row),
+        }
+    }
+
+    /// The next instant, at a watermark: appends the rows of the stream to those of the turn, and goes
+    /// on from the relation that stands now. Nothing changes where rows are those of panes.
+    pub fn advance(&mut self, mark: i64, rows: &mut Vec<OutRow>)
+        requires told { CanAdvance self.old }
         requires rows { HasRoomFor self.old.form self.old.room (vec_len rows.old) (vec_capacity rows.old) }
-        ensures relation { self.new ≡ record self.old { relation = relation_kept self.old.form self.old.relation (relation_of (entries_of held.now)) } }
-        ensures rows { rows.new.items ≡ rows.old.items ++ stream_rows self.old.form mark self.old.relation (relation_of (entries_of held.now)) }
+        ensures told { (before now : List (List Value)) → IsTold self.old before now → IsTold self.new (relation_kept self.old.form before (sorted_rows now)) now }
+        ensures alike { AreAlike self.old self.new }
+        ensures rows { (before now : List (List Value)) → IsTold self.old before now → rows.new.items ≡ rows.old.items ++ stream_rows self.old.form mark before (sorted_rows now) }
         ensures capacity { vec_capacity rows.new ≡ vec_capacity rows.old }
     {
         if let Form::Panes = self.form {
             return;
         }
-        gather(&mut self.now, held);
+        self.written.clear();
+        gather(self.form, &self.changes, &self.relation, &mut self.written);
+        write_all(self.form, mark, &self.written, rows);
         self.changes.clear();
-        compare(self.form, &self.before, &self.now, &mut self.changes);
-        write_all(self.form, mark, &self.changes, rows);
-        mem::swap(&mut self.before, &mut self.now);
     }
 }
 
-// The rows of a stream, from the relation before and the relation now.
-fn compare(form: Form, before: &Relation, now: &Relation, changes: &mut Vec<Columns>)
-    requires empty { changes.old.items ≡ [] }
-    requires before { length before.now.rows ≤ vec_capacity changes.old }
-    requires now { length now.now.rows ≤ vec_capacity changes.old }
-    ensures rows { changes.new.items ≡ changes_of form before.now.rows now.now.rows }
-    ensures capacity { vec_capacity changes.old ≤ vec_capacity changes.new }
+// The rows of a stream, from what changed or the rows that stand.
+fn gather(form: Form, changes: &Changes, relation: &Relation, written: &mut Vec<Columns>)
+    requires empty { written.old.items ≡ [] }
+    requires room { length (stream_of form changes.now.numbers relation.now.rows) ≤ vec_capacity written.old }
+    ensures rows { written.new.items ≡ stream_of form changes.now.numbers relation.now.rows }
+    ensures capacity { vec_capacity written.old ≤ vec_capacity written.new }
 {
     match form {
-        Form::Istream => istream(before, now, changes),
-        Form::Dstream => dstream(before, now, changes),
-        Form::Panes | Form::Rstream => rstream(now, changes),
-    }
-}
-
-// The rows that stand for the panes.
-fn gather(relation: &mut Relation, held: &HeldPanes)
-    requires { length (entries_of held.now) ≤ relation.old.room }
-    ensures { relation.new ≡ record relation.old { rows = relation_of (entries_of held.now) } }
-{
-    relation.clear();
-    let mut i = held.len();
-    while i > 0 {
-        i -= 1;
-        let (_, pane) = held.at(i);
-        if let Some(row) = pane.standing_row() {
-            relation.add(row);
-        }
+        Form::Istream => changes.istream(written),
+        Form::Dstream => changes.dstream(written),
+        Form::Panes | Form::Rstream => rstream(relation, written),
     }
 }
 
 // Appends rows of a stream.
-fn write_all(form: Form, mark: i64, changes: &[Columns], rows: &mut Vec<OutRow>)
-    requires { vec_len rows.old + length changes.now ≤ vec_capacity rows.old }
-    ensures rows { rows.new.items ≡ rows.old.items ++ map (stream_row form mark) changes.now }
+fn write_all(form: Form, mark: i64, written: &[Columns], rows: &mut Vec<OutRow>)
+    requires { vec_len rows.old + length written.now ≤ vec_capacity rows.old }
+    ensures rows { rows.new.items ≡ rows.old.items ++ map (stream_row form mark) written.now }
     ensures capacity { vec_capacity rows.new ≡ vec_capacity rows.old }
 {
-    for columns in changes {
+    for columns in written {
         let columns = *columns;
         rows.push_reserved(match form {
             Form::Istream => OutRow::Istream { mark, columns },

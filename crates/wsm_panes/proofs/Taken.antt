@@ -67,7 +67,7 @@ module _ {X : Type 0} (gap : ℤ) (d : Datum) (m : FinMap place_cmp X) where
     pub first_found : get m p ≡ Some v
     first_found = found_linked p both_linked.0 ∙ ap (find place_cmp p) is ∙ ap (λ b. cond b (Some v) (find place_cmp p ((r, w) ∷ []))) (tied_place p p refl)
 
-    second_in : get m r ≡ Some w
+    pub second_in : get m r ≡ Some w
     second_in =
         found_linked r both_linked.1 ∙ ap (find place_cmp r) is ∙ ap (λ b. cond b (Some v) (find place_cmp r ((r, w) ∷ []))) apart_two ∙ ap (λ b. cond b (Some w) None) (tied_place r r refl)
 

@@ -14,7 +14,8 @@ use Rattle.wsm_windows.specs.Windows.{IsTime}
 use Rattle.wsm_fold.specs.Fold.{are_of_kinds, joins}
 use Rattle.wsm_fold.specs.Accumulators.{SumsFit}
 use Rattle.wsm_semantics.specs.declared.place.Place.{Place}
-use Rattle.wsm_semantics.specs.declared.standing.Standing.TheVariants.{Row}
+use Rattle.wsm_semantics.specs.declared.standing.Standing.{Standing}
+use Rattle.wsm_semantics.specs.declared.standing.Standing.TheVariants.{Row, Unfired}
 use Rattle.wsm_semantics.specs.Query.{Datum}
 use Rattle.wsm_semantics.specs.Panes.{place_cmp, at, window_of}
 use Rattle.wsm_semantics.specs.Replay.{datum}
@@ -70,6 +71,20 @@ session_entered shape d panes = None
 abbrev pub joins_sessions : Shape → Datum → List (Place × Pane (List Value)) → Bool
 joins_sessions (Session gap) d panes = nat_lt 1 (length (linked gap d panes))
 joins_sessions shape d panes = false
+
+-- a pane fired, or a part of it did before it was joined
+abbrev pub has_fired : Standing → Bool
+has_fired Unfired = false
+has_fired _ = true
+
+abbrev pub first_two : List (Place × Pane (List Value)) → Option (Pane (List Value) × Pane (List Value))
+first_two (e ∷ f ∷ es) = Some (e.1, f.1)
+first_two _ = None
+
+-- the panes of the two sessions that a record joins, where it joins two
+abbrev pub joined_panes : Shape → Datum → List (Place × Pane (List Value)) → Option (Pane (List Value) × Pane (List Value))
+joined_panes (Session gap) d panes = first_two (linked gap d panes)
+joined_panes shape d panes = None
 
 -- the windows of a key's panes, in the order of the places
 abbrev pub windows_of_key : {X : Type 0} → ℕ → List (Place × X) → List Window

@@ -3,17 +3,17 @@
 ghost use Rattle.std.specs.Prelude.{◌≡◌, ◌*◌, ◌<◌, ◌≤◌, ◌≤ℤ◌, ℤ, pos, List, [], length, IfOk, IsSome, Some, int_lt, slice_get};
 ghost use Rattle.std.specs.FinMap as map;
 ghost use Rattle.std.specs.FinMap.Entries.{find, put, where_key};
-ghost use Rattle.wsm_windows.specs.Windows.{IsShape, greatest_span, windows_of_shape};
+ghost use Rattle.wsm_windows.specs.Windows.{IsShape, IsTime, greatest_span, windows_of_shape};
 ghost use Rattle.wsm_windows.specs.declared.window.Shape.TheVariants.{Session};
 ghost use Rattle.wsm_semantics.specs.Panes.{place_cmp};
 ghost use Rattle.wsm_semantics.specs.Replay.{datum};
-ghost use Rattle.wsm_semantics.specs.Summaries.{Pane as AnyPane};
+ghost use Rattle.wsm_semantics.specs.Summaries.{Pane as AnyPane, linked};
 ghost use Rattle.wsm_record.specs.declared.event.Value.{Value as OneValue};
-ghost use Rattle.wsm_panes.specs.Held.{CanEnter, IsKept, entries_of, joins_sessions, once_fired, room_of, session_entered, with_entered};
+ghost use Rattle.wsm_panes.specs.Held.{CanEnter, IsKept, entries_of, joined_panes, joins_sessions, once_fired, room_of, session_entered, with_entered};
 ghost use Rattle.wsm_panes.specs.OfKeys.{AreOfKeys, AreDropped};
 
 use crate::entering::enter_windows;
-use crate::joining::enter_session;
+use crate::joining::{enter_session, linked_pair};
 use crate::list::ListTable;
 use crate::pane::Pane;
 use crate::table::PaneTable;
@@ -124,6 +124,23 @@ impl HeldPanes {
                 joined: false,
                 session: None,
             },
+        }
+    }
+
+    /// The panes of the two sessions that a record of a key and a time joins, where windows are sessions
+    /// and it joins two.
+    pub fn joined(&self, key: u16, time: i64) -> Option<(Pane, Pane)>
+        requires declared { key < self.now.keys }
+        requires timely { IsTime time }
+        ensures pair { result ≡ joined_panes self.now.shape (datum 0 key time []) (entries_of self.now) }
+        ensures few { (gap : ℤ) → self.now.shape ≡ Session gap → length (linked gap (datum 0 key time []) (entries_of self.now)) ≤ 2 }
+        ensures shape { IsShape self.now.shape }
+    {
+        match self.shape {
+            Shape::Session(_) => {
+                linked_pair(&self.table, &self.sessions[key as usize], key, time)
+            }
+            Shape::Fixed(_) | Shape::Sliding(_, _) => None,
         }
     }
 

@@ -11,7 +11,7 @@ ghost use Rattle.wsm_semantics.specs.Replay.{datum};
 ghost use Rattle.wsm_semantics.specs.Sessions.{with_session};
 ghost use Rattle.wsm_semantics.specs.Summaries.{joined_all, linked, merged_session, session_with};
 ghost use Rattle.wsm_sessions.specs.Live.{Fits};
-ghost use Rattle.wsm_panes.specs.Held.{CanJoin, CanRecord, CanJoinAll, taking, windows_of_key, with_one_more};
+ghost use Rattle.wsm_panes.specs.Held.{CanJoin, CanRecord, CanJoinAll, first_two, taking, windows_of_key, with_one_more};
 
 use crate::entering::place_of;
 use crate::list::ListTable;
@@ -122,6 +122,29 @@ fn merge_linked(
     let session = sessions.enter(time);
     table.put(place_of(key, session), with_one_more(pane, kinds, values));
     (session, joined)
+}
+
+/// The panes of the two sessions that a record joins, where it joins two.
+pub(crate) fn linked_pair(
+    table: &ListTable<Pane>,
+    sessions: &Sessions,
+    key: u16,
+    time: i64,
+) -> Option<(Pane, Pane)>
+    requires time { IsTime time }
+    requires agree { windows_of_key key (map.entries table.now.panes) ≡ sessions.now.windows }
+    ensures pair { result ≡ first_two (linked sessions.now.gap (datum 0 key time []) (map.entries table.now.panes)) }
+    ensures few { length (linked sessions.now.gap (datum 0 key time []) (map.entries table.now.panes)) ≤ 2 }
+{
+    match sessions.linked(time) {
+        Linked::None => None,
+        Linked::One(_) => None,
+        Linked::Two(first, second) => {
+            let pane = table.get(place_of(key, first)).unwrap();
+            let other = table.get(place_of(key, second)).unwrap();
+            Some((pane, other))
+        }
+    }
 }
 
 // Takes the panes that a record is linked to out, and gives what they come to together, if there are

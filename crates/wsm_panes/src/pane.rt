@@ -8,7 +8,7 @@ ghost use Rattle.wsm_semantics.specs.Query.{Datum};
 ghost use Rattle.wsm_semantics.specs.Summaries.{left_folded, standing_joined, with_folded, with_record};
 ghost use Rattle.wsm_semantics.specs.Summaries as kept;
 ghost use Rattle.wsm_semantics.specs.declared.standing.Standing.TheVariants.{Row};
-ghost use Rattle.wsm_panes.specs.Held.{CanJoin, CanJoinFolds, CanRecord, CanTake, once_fired, taking};
+ghost use Rattle.wsm_panes.specs.Held.{CanJoin, CanJoinFolds, CanRecord, CanTake, has_fired, once_fired, taking};
 
 use crate::recording::TakesRecords;
 use std::marker::Model;
@@ -92,6 +92,16 @@ impl Pane {
             Standing::Row(row) => row,
             Standing::Unfired => None,
             Standing::Joined => None,
+        }
+    }
+
+    /// Whether it fired, or a part of it did before it was joined.
+    pub fn has_fired(&self) -> bool
+        ensures { result ≡ has_fired self.now.stands }
+    {
+        match self.stands {
+            Standing::Unfired => false,
+            Standing::Row(_) | Standing::Joined => true,
         }
     }
 

@@ -20,7 +20,7 @@ one_if b = cond b 1 0
 abbrev pub once : List Value → List Value → ℕ
 once q r = one_if (is_eq (row_cmp q r))
 
-count-without_one : (q r : List Value) (rows : List (List Value)) → count_of q (without_one r rows) ≡ count_of q rows - once q r
+pub count-without_one : (q r : List Value) (rows : List (List Value)) → count_of q (without_one r rows) ≡ count_of q rows - once q r
 count-without_one q r [] = omega arith
 count-without_one q r (x ∷ xs) = elim (cases_Bool (is_eq (row_cmp r x))) [
   | inl tie ↦

@@ -84,6 +84,12 @@ gains-in_order es tally = rw (← gains-part es) (part-in_order gained es tally)
 pub losses-in_order : (es : List Entry) → IsTally es → IsInOrder (losses es)
 losses-in_order es tally = rw (← losses-part es) (part-in_order lost es tally)
 
+pub count-gains : (q : List Value) (es : List Entry) → IsTally es → count_of q (gains es) ≡ gained (number_of q es)
+count-gains q es tally = ap (count_of q) (sym (gains-part es)) ∙ count-part gained refl q es tally
+
+pub count-losses : (q : List Value) (es : List Entry) → IsTally es → count_of q (losses es) ≡ lost (number_of q es)
+count-losses q es tally = ap (count_of q) (sym (losses-part es)) ∙ count-part lost refl q es tally
+
 -- ---- lists in row order with the same counts are one
 
 same_tails : (x : List Value) (xs ys : List (List Value)) → ((q : List Value) → count_of q (x ∷ xs) ≡ count_of q (x ∷ ys)) → (q : List Value) → count_of q xs ≡ count_of q ys

@@ -31,7 +31,7 @@ fire-requires-clause-can c =
     let mark : SFits w64 c.args.mark = c.ranges.mark in
     let one = with_kind (plan_of p) (query_of p) c.args.mark c.args.place (entries_of held) (map.entries_sorted held.panes) c.in-Some.pane (sym c.get.ensures ∙ c.in-Some.is) c.in-Some-record_kind.kind
     (sym (simp to_z-of_z at c.record_kind.ensures) ∙ c.in-Some-record_kind.is) in
-    subst (λ (fs : List (Fired (List Value))). CanAdd p (vec_capacity c.args.rows.now) (vec_len c.args.rows.now) c.args.tally.now fs) one.firings c.requires
+    subst (λ (fs : List (Fired (List Value))). CanAdd p (vec_capacity c.args.rows.now) (vec_len c.args.rows.now) c.args.tally.now fs) one.firings c.requires.can
 
 pub returns-in-Some-record_kind-clause-panes : goal.returns-in-Some-record_kind-clause-panes
 returns-in-Some-record_kind-clause-panes c =

@@ -60,8 +60,8 @@ returns-then-header-eq0-2-clause-tally c =
     let none = no_kinds q c.args.mark d early late es in
     c.none.ensures ∙ no_tally p nothing all (none_fires (plan_of p) q kind es none) ∙ tally_all p all
 
-pub fire_at-requires : goal.fire_at-requires
-fire_at-requires c =
+pub fire_at-requires-clause-can : goal.fire_at-requires-clause-can
+fire_at-requires-clause-can c =
     let p = c.args.verified.now in let q = query_of p in let es = entries_of c.args.held.now in let d : Datum = datum 0 c.args.key c.args.time [] in
     let mark_fits : SFits w64 c.args.mark = c.ranges.mark in let time_fits : SFits w64 c.args.time = c.ranges.time in
     let kind : Place → Pane (List Value) → _ = kind_by_record q c.args.mark d in let all : List (Fired (List Value)) = fires q kind es in

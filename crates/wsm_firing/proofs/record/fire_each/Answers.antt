@@ -14,6 +14,7 @@ use Rattle.wsm_firing.specs.declared.tally.Tally.{Tally}
 use Rattle.wsm_firing.specs.Tally.{tally_with}
 use Rattle.wsm_firing.specs.Firing.{CanAdd, rows_of}
 use Rattle.wsm_firing.specs.ByRecord.{AreInOrder, kind_at}
+use Rattle.wsm_firing.proofs.Standing.{tells_none, tells_on, can_tell_on}
 use Rattle.wsm_firing.proofs.Agreeing.{none_fires, none_fired}
 use Rattle.wsm_firing.proofs.InOrder.{later}
 use Rattle.wsm_firing.proofs.InTurn.{fired_in_turn, fires_in_turn}
@@ -31,14 +32,19 @@ loop-window-init c =
       order = subst (λ (ws : List Window). AreInOrder (map (at c.args.key) ws)) (sym same) c.requires.order;
       panes = ap (λ (ws : List Window). all_fired (plan_of p) q (kind_at q mark (map (at c.args.key) ws)) es) same;
       keeps = record { keys = refl; shape = refl; live = refl };
+      tells = tells_none c.args.streams.now es;
       capacity = refl;
       comes =
           subst (λ (ws : List Window). ComesTo p room c.none-tally.result c.args.rows.now.items (fires q (kind_at q mark (map (at c.args.key) ws)) es) all) (sym same)
           (simp to_z-of_z (first p room c.none-tally.result c.args.rows.now.items _ c.none-tally.ensures c.requires.empty c.requires.can));
     }
 
-pub fire_at-requires : goal.fire_at-requires
-fire_at-requires c =
+pub fire_at-requires-clause-tells : goal.fire_at-requires-clause-tells
+fire_at-requires-clause-tells c =
+    can_tell_on c.args.streams.now c.loop-window.streams (entries_of c.args.held.now) (entries_of c.loop-window.held) c.loop-window.invariant.tells c.requires.tells
+
+pub fire_at-requires-clause-can : goal.fire_at-requires-clause-can
+fire_at-requires-clause-can c =
     let p = c.args.verified.now in let q = query_of p in let es = entries_of c.args.held.now in
     let mark : ℤ = to_z w64 (of_z w64 c.args.mark) in let mark_fits : SFits w64 c.args.mark = c.ranges.mark in
     let all : List (Fired (List Value)) = fires q (kind_at q mark (map (at c.args.key) c.args.windows)) es in
@@ -86,6 +92,7 @@ loop-window-preserved c =
           ∙ sym (ap (λ (ws : List Window). all_fired (plan_of p) q (kind_at q mark (map (at c.args.key) ws)) now) c.in-Some.ensures.steps)
           ∙ c.loop-window.invariant.panes;
       keeps = kept_on c.args.held.now c.loop-window.held c.fire_at.new.held c.loop-window.invariant.keeps c.fire_at.ensures.keeps;
+      tells = tells_on c.args.streams.now c.loop-window.streams c.fire_at.new.streams es now (entries_of c.fire_at.new.held) c.loop-window.invariant.tells c.fire_at.ensures.tells;
       capacity = c.fire_at.ensures.capacity ∙ c.loop-window.invariant.capacity;
       comes =
           subst (λ (t : Tally). ComesTo p room t c.fire_at.new.rows.items (fires q (kind_at q mark ps) (entries_of c.fire_at.new.held)) all) (sym tally)
@@ -126,3 +133,6 @@ returns-clause-tally c =
     let still : AllByRecursion (λ e. kind [] e.0 e.1 ≡ None) now = all-any (λ e. kind [] e.0 e.1 ≡ None) (λ e. refl) now in
     let none : fires q (kind c.loop-window.window-iterator) now ≡ [] = ap (λ (ws : List Window). fires q (kind ws) now) c.in-None.ensures.steps.0 ∙ none_fires (plan_of p) q (kind []) now still in
     simp to_z-of_z at (last_tally p room c.loop-window.tally c.loop-window.rows.items _ all none c.loop-window.invariant.comes)
+
+pub returns-clause-tells : goal.returns-clause-tells
+returns-clause-tells c = c.loop-window.invariant.tells

@@ -4,6 +4,7 @@ use Rattle.wsm_semantics.specs.Summaries.{all_fired, fires}
 use Rattle.wsm_machine.specs.Meaning.{plan_of, query_of}
 use Rattle.wsm_panes.specs.Held.{IsKept, entries_of}
 use Rattle.wsm_firing.specs.ByRecord.{AreInOrder, kind_at}
+use Rattle.wsm_firing.specs.Streams.{Tells}
 use Rattle.wsm_firing.proofs.Counting.{ComesTo}
 use Rattle.wsm_firing.proofs.record.fire_each.Given as goal
 
@@ -14,6 +15,7 @@ invariant-loop-window l = record {
   panes : all_fired (plan_of l.verified) (query_of l.verified) (kind_at (query_of l.verified) l.mark (map (at l.key) l.window-iterator)) (entries_of l.held)
       ≡ all_fired (plan_of l.verified) (query_of l.verified) (kind_at (query_of l.verified) l.mark (map (at l.key) l.fn.windows)) (entries_of l.fn.held);
   keeps : IsKept l.fn.held l.held;
+  tells : Tells l.fn.streams l.streams (entries_of l.fn.held) (entries_of l.held);
   capacity : vec_capacity l.rows ≡ vec_capacity l.fn.rows;
   comes : ComesTo l.verified (vec_capacity l.fn.rows) l.tally l.rows.items
       (fires (query_of l.verified) (kind_at (query_of l.verified) l.mark (map (at l.key) l.window-iterator)) (entries_of l.held))

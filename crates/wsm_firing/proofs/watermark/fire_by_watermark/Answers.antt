@@ -19,6 +19,8 @@ use Rattle.wsm_panes.specs.Held.{Held, IsKept, entries_of}
 use Rattle.wsm_firing.specs.declared.tally.Tally.{Tally}
 use Rattle.wsm_firing.specs.Tally.{tally_with}
 use Rattle.wsm_firing.specs.Firing.{CanAdd, rows_of}
+use Rattle.wsm_firing.specs.Streams.{Standing, Tells}
+use Rattle.wsm_firing.proofs.Standing.{tells_none, tells_on, can_tell_on}
 use Rattle.wsm_firing.proofs.Agreeing.{none_fires}
 use Rattle.wsm_firing.proofs.Behind.{rest_still}
 use Rattle.wsm_firing.proofs.Walk.{holds_at, find_at, length-fired_first, as_it_was, fires_next, stays_next, fired_next, rest_stays}
@@ -36,6 +38,7 @@ loop-i-init c =
     record {
       panes = refl;
       keeps = record { keys = refl; shape = refl; live = refl };
+      tells = tells_none c.args.streams.now es;
       capacity = refl;
       comes = simp to_z-of_z (first p room c.none-tally.result c.args.rows.now.items _ c.none-tally.ensures c.requires.empty c.requires.can.can);
     }
@@ -81,6 +84,10 @@ fire-requires-clause-can c =
     subst (λ (n : ℕ). CanAdd p (vec_capacity c.loop-i.rows) n c.loop-i.tally (f ∷ [])) (sym c.loop-i.rows.ok.0)
     (subst (λ (n : ℕ). CanAdd p n (length c.loop-i.rows.items) c.loop-i.tally (f ∷ [])) (sym c.loop-i.invariant.capacity) can)
 
+pub fire-requires-clause-tells : goal.fire-requires-clause-tells
+fire-requires-clause-tells c =
+    can_tell_on c.args.streams.now c.loop-i.streams (entries_of c.args.held.now) (entries_of c.loop-i.held) c.loop-i.invariant.tells c.requires.tells
+
 pub fire-requires-clause-held : goal.fire-requires-clause-held
 fire-requires-clause-held c =
     find_at (entries_of c.loop-i.held) c.loop-i.i c.at-pane.result (map.entries_sorted c.loop-i.held.panes) c.at-pane.ensures
@@ -106,6 +113,10 @@ loop-i-preserved c =
           record {
             panes = ap entries_of w.held-is ∙ w.fire.ensures.panes ∙ fires_next (plan_of p) q kind es now i e so_far sorted at w.in-Some.kind (sym is ∙ w.in-Some.is);
             keeps = subst (λ (h : Held). IsKept c.args.held.now h) (sym w.held-is) (kept_on c.args.held.now c.loop-i.held w.fire.new.held c.loop-i.invariant.keeps w.fire.ensures.keeps);
+            tells =
+                subst (λ (h : Held). Tells c.args.streams.now c.match-watermark_kind.streams es (entries_of h)) (sym w.held-is)
+                (subst (λ (t : Standing). Tells c.args.streams.now t es (entries_of w.fire.new.held)) (sym w.streams-is)
+                (tells_on c.args.streams.now c.loop-i.streams w.fire.new.streams es now (entries_of w.fire.new.held) c.loop-i.invariant.tells w.fire.ensures.tells));
             capacity = ap vec_capacity w.rows-is ∙ w.fire.ensures.capacity ∙ c.loop-i.invariant.capacity;
             comes =
                 subst (λ (t : Tally). ComesTo p room t c.match-watermark_kind.rows.items left all) (sym tally)
@@ -117,6 +128,9 @@ loop-i-preserved c =
           record {
             panes = ap entries_of w.held-is ∙ stays_next (plan_of p) q kind es now i e so_far sorted at none;
             keeps = subst (λ (h : Held). IsKept c.args.held.now h) (sym w.held-is) c.loop-i.invariant.keeps;
+            tells =
+                subst (λ (h : Held). Tells c.args.streams.now c.match-watermark_kind.streams es (entries_of h)) (sym w.held-is)
+                (subst (λ (t : Standing). Tells c.args.streams.now t es now) (sym w.streams-is) c.loop-i.invariant.tells);
             capacity = ap vec_capacity w.rows-is ∙ c.loop-i.invariant.capacity;
             comes =
                 subst (λ (t : Tally). ComesTo p room t c.match-watermark_kind.rows.items left all) (sym w.tally-is)
@@ -208,3 +222,9 @@ returns-then-place-new-clause-tally c =
     let whole : IsTrue (is_program p) = subst (λ (p : Program). IsTrue (is_program p)) c.program.ensures.program c.header-header.ensures.lawful in
     let still = rest_still q (lawful_programs.lawful p whole).lateness.low old new es i e sorted there far in
     simp to_z-of_z at (last_tally p room c.loop-i.tally c.loop-i.rows.items _ all (none_fires (plan_of p) q kind (drop i es) still) c.loop-i.invariant.comes)
+
+pub returns-after-loop-i-clause-tells : goal.returns-after-loop-i-clause-tells
+returns-after-loop-i-clause-tells c = c.loop-i.invariant.tells
+
+pub returns-then-place-new-clause-tells : goal.returns-then-place-new-clause-tells
+returns-then-place-new-clause-tells c = c.loop-i.invariant.tells

@@ -1,9 +1,6 @@
-use Rattle.std.proofs.Common.{◌≡◌, ◌+◌, ℕ, List, ◌∷◌, length, SFits, w64, to_z, of_z, to_z-of_z, refl, sym, ap, subst, ◌∙◌, arith}
+use Rattle.std.proofs.Common.{◌≡◌, ◌+◌, ℕ, ◌∷◌, length, SFits, w64, to_z, of_z, to_z-of_z, refl, sym, ap, subst, ◌∙◌, arith}
 use Rattle.std.proofs.lemmas.Int.{ints, fits_signed_from_abs}
-use Rattle.std.specs.Prelude.{Result}
 use Rattle.wsm_record.specs.Event.{Event, event_of}
-use Rattle.wsm_admission.specs.declared.verdict.Admitted.{Admitted}
-use Rattle.wsm_admission.specs.declared.verdict.Refusal.{Refusal}
 use Rattle.wsm_admission.specs.Admission.{counter, decision}
 use Rattle.wsm_semantics.specs.Steps.{answer_to, fired_by}
 use Rattle.wsm_bytecode.specs.Program.{Program, Header}
@@ -12,8 +9,7 @@ use Rattle.wsm_machine.specs.Meaning.{query_of, plan_of}
 use Rattle.wsm_panes.specs.Held.{entries_of}
 use Rattle.wsm_engine.specs.State.{State}
 use Rattle.wsm_engine.specs.Meaning.{Fits}
-use Rattle.wsm_engine.specs.Turn.{turn}
-use Rattle.wsm_engine.specs.Runner.{IsAt}
+use Rattle.wsm_engine.specs.Runner.{IsAt, last_relation}
 use Rattle.wsm_engine.specs.Engine.{state_of}
 use Rattle.wsm_engine.proofs.Turning.{turn_fits, turned_is, comes_of, replied_is}
 use Rattle.wsm_engine.proofs.engine.Engine.turn.Goals as goal
@@ -39,7 +35,7 @@ invariant_of-self c =
     let here : IsAt (to_z w64 (of_z w64 c.mark-mark.result)) c.self.inside.runner s.machine = record { marked = sym (to_z-of_z mark ∙ c.mark-mark.ensures.mark); panes = refl; relation = refl } in
     let done = c.act-done.ensures in
     let fired : c.act-done.result.tally.fired ≡ length (fired_by (plan_of s.program) (query_of s.program) c.decide-answer.result e s.machine) = ap (λ (t : Tally). t.fired) (done.tally s.machine here) in
-    let now = turned_is s e c.decide-answer.result answered c.decide-answer.new.self (entries_of c.act-done.new.self.held) c.act-done.new.self.streams.relation c.saturating_add-self-inside.result c.saturating_add-self-inside-2.result c.act-done.new.self.rows.items
+    let now = turned_is s e c.decide-answer.result answered c.decide-answer.new.self (entries_of c.act-done.new.self.held) (last_relation c.act-done.new.self.streams (entries_of c.act-done.new.self.held)) c.saturating_add-self-inside.result c.saturating_add-self-inside-2.result c.act-done.new.self.rows.items
     c.decide-answer.ensures.state (done.panes s.machine here) (done.relation s.machine here) c.saturating_add-self-inside.ensures (c.saturating_add-self-inside-2.ensures ∙ ap (λ (n : ℕ). counter (s.machine.fired + n)) fired) (done.rows s.machine here) in
     record {
       runner = done.program;
@@ -56,7 +52,7 @@ returns-clause-state c =
     let here : IsAt (to_z w64 (of_z w64 c.mark-mark.result)) c.self.inside.runner s.machine = record { marked = sym (to_z-of_z mark ∙ c.mark-mark.ensures.mark); panes = refl; relation = refl } in
     let done = c.act-done.ensures in
     let fired : c.act-done.result.tally.fired ≡ length (fired_by (plan_of s.program) (query_of s.program) c.decide-answer.result e s.machine) = ap (λ (t : Tally). t.fired) (done.tally s.machine here) in
-    rw (← c.self.view_is) (turned_is s e c.decide-answer.result answered c.decide-answer.new.self (entries_of c.act-done.new.self.held) c.act-done.new.self.streams.relation c.saturating_add-self-inside.result c.saturating_add-self-inside-2.result c.act-done.new.self.rows.items
+    rw (← c.self.view_is) (turned_is s e c.decide-answer.result answered c.decide-answer.new.self (entries_of c.act-done.new.self.held) (last_relation c.act-done.new.self.streams (entries_of c.act-done.new.self.held)) c.saturating_add-self-inside.result c.saturating_add-self-inside-2.result c.act-done.new.self.rows.items
     c.decide-answer.ensures.state (done.panes s.machine here) (done.relation s.machine here) c.saturating_add-self-inside.ensures (c.saturating_add-self-inside-2.ensures ∙ ap (λ (n : ℕ). counter (s.machine.fired + n)) fired) (done.rows s.machine here))
 
 pub returns-clause-reply : goal.returns-clause-reply

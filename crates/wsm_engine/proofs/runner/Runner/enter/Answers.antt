@@ -1,20 +1,16 @@
-use Rattle.std.proofs.Common.{◌≡◌, ◌≤◌, ◌+◌, ◌*◌, ◌∙◌, cond, length, List, refl, SFits, w64, to_z-of_z, sym, ap, arith}
-use Rattle.wsm_record.specs.declared.event.Value.{Value}
-use Rattle.wsm_record.specs.declared.words.Kind.{Kind}
-use Rattle.wsm_bytecode.specs.declared.instr.SectionId.TheVariants.{Update}
+use Rattle.std.proofs.Common.{◌≡◌, ◌∙◌, cond, length, refl, SFits, w64, to_z-of_z, sym, ap, arith}
 use Rattle.wsm_bytecode.specs.Program.{Header}
-use Rattle.wsm_machine.specs.Inputs.{Inputs}
-use Rattle.wsm_machine.specs.Run.{run}
-use Rattle.wsm_machine.specs.Meaning.{updated, update_run}
+use Rattle.wsm_machine.specs.Meaning.{updated}
 use Rattle.wsm_machine.proofs.Telling.{updated_is}
-use Rattle.wsm_engine.specs.Runner.{entering_cost}
 use Rattle.wsm_panes.specs.Held.{entries_of}
-use Rattle.wsm_engine.proofs.Coming.{enters, entered_is, cost_is, cost_stated}
-use Rattle.wsm_engine.proofs.runner.Runner.enter.Given as given
+use Rattle.wsm_semantics.specs.HeldBounds.{most_panes}
+use Rattle.wsm_machine.specs.Meaning.{query_of}
+use Rattle.wsm_engine.proofs.Told.{can_tell, same_alike}
+use Rattle.wsm_engine.proofs.Coming.{enters, entered_is, cost_is, cost_stated, held_within}
 use Rattle.wsm_engine.proofs.runner.Runner.enter.Goals as goal
 
-pub enter-entered-requires : goal.enter-entered-requires
-enter-entered-requires c =
+pub enter-entered-requires-clause-can : goal.enter-entered-requires-clause-can
+enter-entered-requires-clause-can c =
     let p = c.args.verified.now in
     let comes = c.requires.comes in
     let time : SFits w64 c.args.time = c.ranges.time in
@@ -65,3 +61,10 @@ returns-clause-steps c =
     cost_is p comes.0 c.args.self.now c.requires.program comes.1 c.args.key c.args.time c.args.values.now comes.2 c.requires.selected
     c.enter-entered.result.windows c.update-updated.result.steps c.join_steps.result c.enter-entered.result.joined c.deref-2.result.now
     (simp to_z-of_z at c.enter-entered.ensures.windows) (rw c.record_inputs.ensures at c.update-updated.ensures.steps) (simp to_z-of_z at c.enter-entered.ensures.joined) kinds c.join_steps.ensures
+
+pub enter-entered-requires-clause-tells : goal.enter-entered-requires-clause-tells
+enter-entered-requires-clause-tells c =
+    let p = c.args.verified.now in let of = c.requires.program in let comes = c.requires.comes in
+    let s = c.args.self.now.streams in let es = entries_of c.args.self.now.held in
+    let few = held_within p comes.0 c.args.self.now of comes.1 _ _ comes.2 in
+    can_tell (most_panes (query_of p)) s s es es of.streams of.room (same_alike s) (λ relation told. told) few

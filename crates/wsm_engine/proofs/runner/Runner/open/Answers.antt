@@ -1,14 +1,12 @@
-use Rattle.std.proofs.Common.{◌≡◌, ◌≤◌, ◌*◌, ℕ, IsTrue, length, SFits, w64, to_z-of_z, refl, sym, ap, subst, ◌∙◌, arith}
+use Rattle.std.proofs.Common.{rules, ◌≡◌, [], IsTrue, SFits, w64, to_z-of_z, ap, subst, ◌∙◌, arith}
 use Rattle.std.proofs.lemmas.Int.{ints, fits_signed_from_abs}
-use Rattle.wsm_windows.specs.Life.{live_bound}
-use Rattle.wsm_windows.specs.Windows.{IsShape, IsSpan}
 use Rattle.wsm_bytecode.specs.Program.{Program, is_program}
 use Rattle.wsm_bytecode.specs.View.{header_of}
-use Rattle.wsm_verifier.specs.Costs.{needed}
-use Rattle.wsm_verifier.proofs.Lawful.{lawful, lawful_seen, span_seen}
+use Rattle.wsm_verifier.proofs.Lawful.{lawful_seen, span_seen}
 use Rattle.wsm_panes.specs.Held.{entries_of}
 use Rattle.wsm_panes.proofs.Tables.{entries_none}
 use Rattle.wsm_engine.proofs.Limits.{room_few}
+use Rattle.wsm_engine.proofs.Told.{last_is, are_told, open_is}
 use Rattle.wsm_engine.proofs.runner.Runner.open.Goals as goal
 
 pub live_bound-live-requires-clause-shape : goal.live_bound-live-requires-clause-shape
@@ -45,5 +43,35 @@ open-requires-2-clause-room c =
     let few = room_few p c.program.ensures.accepted (subst (λ (q : Program). IsTrue (is_program q)) c.program.ensures.program c.header-header.ensures.lawful) h same c.key_count-keys.result c.live_bound-live.result c.key_count-keys.ensures.count (simp to_z-of_z at c.live_bound-live.ensures.bound) in
     omega (arith, few)
 
+pub open-requires-3 : goal.open-requires-3
+open-requires-3 c =
+    let p = c.args.verified.now in
+    let h = header_of c.header-header.result.now in
+    let same = c.header-header.ensures.header ∙ ap (λ (q : Program). q.header) c.program.ensures.program in
+    let is = lawful_seen c.program.result.now h c.header-header.ensures.header c.header-header.ensures.lawful in
+    let skew : SFits w64 h.skew = fits_signed_from_abs w64 h.skew (omega (arith, ints, is.skew.low, is.skew.high)) in
+    let lateness : SFits w64 h.lateness = fits_signed_from_abs w64 h.lateness (omega (arith, ints, is.lateness.low, is.lateness.high)) in
+    let few = room_few p c.program.ensures.accepted (subst (λ (q : Program). IsTrue (is_program q)) c.program.ensures.program c.header-header.ensures.lawful) h same c.key_count-keys.result c.live_bound-live.result c.key_count-keys.ensures.count (simp to_z-of_z at c.live_bound-live.ensures.bound) in
+    omega (arith, few)
+
 pub returns-clause-panes : goal.returns-clause-panes
 returns-clause-panes c = ap entries_of c.in_ok-open.ensures ∙ entries_none
+
+pub returns-clause-relation : goal.returns-clause-relation
+returns-clause-relation c =
+    let es = entries_of c.in_ok-open.field-0 in
+    let none : es ≡ [] = ap entries_of c.in_ok-open.ensures ∙ entries_none in
+    last_is c.in_ok-open-2.field-0 es [] (open_is c.in_ok-open-2.field-0 es _ _ c.in_ok-open-2.ensures none)
+
+pub returns-clause-program : goal.returns-clause-program
+returns-clause-program c = record {
+  judged = search rules;
+  lawful = search rules;
+  keys = search rules;
+  shape = search rules;
+  live = search rules;
+  form = search rules;
+  room = search rules;
+  rows = search rules;
+  streams = are_told _ c.in_ok-open-2.field-0 (entries_of c.in_ok-open.field-0) [] (open_is c.in_ok-open-2.field-0 (entries_of c.in_ok-open.field-0) _ _ c.in_ok-open-2.ensures (ap entries_of c.in_ok-open.ensures ∙ entries_none)) (omega arith);
+}

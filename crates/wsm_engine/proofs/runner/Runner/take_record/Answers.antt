@@ -1,8 +1,6 @@
-use Rattle.std.proofs.Common.{◌≡◌, ◌≤◌, ◌+◌, ◌∙◌, Bool, true, false, not, cond, List, [], SFits, w64, to_z-of_z, refl, sym, ap, arith}
-use Rattle.wsm_record.specs.declared.event.Value.{Value}
+use Rattle.std.proofs.Common.{◌≡◌, ◌+◌, ◌∙◌, vec_capacity, Bool, true, false, not, cond, [], SFits, w64, to_z-of_z, refl, sym, ap, arith}
 use Rattle.wsm_semantics.specs.Replay.{datum}
-use Rattle.wsm_semantics.specs.Summaries.{Fired, all_fired, kind_by_record, after_record, fired_by_record, entered}
-use Rattle.wsm_semantics.specs.Steps.{chosen_rows}
+use Rattle.wsm_semantics.specs.Summaries.{all_fired, kind_by_record, after_record, fired_by_record}
 use Rattle.wsm_machine.specs.Meaning.{plan_of, query_of, selects, where_run}
 use Rattle.wsm_machine.proofs.Telling.{keeps_is}
 use Rattle.wsm_panes.specs.Held.{entries_of}
@@ -11,7 +9,11 @@ use Rattle.wsm_firing.specs.Firing.{rows_of}
 use Rattle.wsm_firing.specs.ByRecord.{fires_by_record}
 use Rattle.wsm_engine.specs.Runner.{entering_cost}
 use Rattle.wsm_engine.proofs.Holding.{Panes}
-use Rattle.wsm_engine.proofs.Coming.{can_fire, cost_stated}
+use Rattle.wsm_semantics.specs.HeldBounds.{most_panes}
+use Rattle.wsm_firing.specs.Streams.{IsTold, standing_rows}
+use Rattle.wsm_engine.specs.Runner.{last_relation}
+use Rattle.wsm_engine.proofs.Told.{last_is, are_told, can_tell, of_next, alike_on}
+use Rattle.wsm_engine.proofs.Coming.{can_fire, cost_stated, few_entered}
 use Rattle.wsm_engine.proofs.runner.Runner.take_record.Goals as goal
 
 stays : (b : Bool) → not b ≡ false → b ≡ true
@@ -81,3 +83,30 @@ returns-clause-tally c =
     (simp to_z-of_z at c.fire_by_record-tally.ensures.tally)
     ∙ ap (λ (es : Panes). tally_of p (fires_by_record p c.args.mark c.args.key c.args.time es)) (simp to_z-of_z at c.enter-steps.ensures.panes)
     ∙ ap (λ (b : Bool). tally_of p (cond b (fired_by_record (plan_of p) (query_of p) c.args.mark d (entries_of c.args.self.now.held)) [])) (sym chosen)
+
+pub fire_by_record-tally-requires-clause-tells : goal.fire_by_record-tally-requires-clause-tells
+fire_by_record-tally-requires-clause-tells c =
+    let p = c.args.verified.now in let of = c.requires.program in
+    let time : SFits w64 c.args.time = c.ranges.time in
+    let chosen : selects p c.args.key c.args.values.now ≡ true = keeps_is p c.args.key c.args.values.now c.keep-kept.result.keeps (rw c.record_inputs.ensures at c.keep-kept.ensures.done) (rw c.record_inputs.ensures at c.keep-kept.ensures.keeps) ∙ stays _ c.if-not-kept.false in
+    let s = c.args.self.now.streams in let t = c.enter-steps.new.self.streams in
+    let es = entries_of c.args.self.now.held in let fs = entries_of c.enter-steps.new.self.held in
+    let few = few_entered p c.requires.comes.0 c.args.self.now of c.args.mark c.args.key c.args.time c.args.values.now c.requires.comes.1 chosen fs (simp to_z-of_z at c.enter-steps.ensures.panes) in
+    can_tell (most_panes (query_of p)) s t es fs of.streams of.room c.enter-steps.ensures.alike c.enter-steps.ensures.told few
+
+pub returns-clause-relation : goal.returns-clause-relation
+returns-clause-relation c =
+    let t = c.enter-steps.new.self.streams in let u = c.fire_by_record-tally.new.streams in let gs = entries_of c.fire_by_record-tally.new.held in
+    let before = last_relation c.args.self.now.streams (entries_of c.args.self.now.held) in
+    last_is u gs before (c.fire_by_record-tally.ensures.tells.told before (c.enter-steps.ensures.told before c.requires.program.streams.told))
+
+pub returns-clause-program : goal.returns-clause-program
+returns-clause-program c =
+    let p = c.args.verified.now in let of = c.requires.program in
+    let s = c.args.self.now.streams in let t = c.enter-steps.new.self.streams in let u = c.fire_by_record-tally.new.streams in let gs = entries_of c.fire_by_record-tally.new.held in
+    let before = last_relation s (entries_of c.args.self.now.held) in
+    let told : IsTold u before (standing_rows gs) = c.fire_by_record-tally.ensures.tells.told before (c.enter-steps.ensures.told before of.streams.told) in
+    let one = c.enter-steps.ensures.keeps in let two = c.fire_by_record-tally.ensures.keeps in
+    of_next p c.args.self.now _ of (record { keys = two.keys ∙ one.keys; shape = two.shape ∙ one.shape; live = two.live ∙ one.live })
+    (alike_on s t u c.enter-steps.ensures.alike c.fire_by_record-tally.ensures.tells.alike) (c.fire_by_record-tally.ensures.capacity ∙ ap vec_capacity c.enter-steps.ensures.rows)
+    (are_told (most_panes (query_of p)) u gs before told of.streams.few)

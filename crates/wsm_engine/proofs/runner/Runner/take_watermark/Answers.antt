@@ -1,22 +1,25 @@
-use Rattle.std.proofs.Common.{◌≡◌, ◌≤◌, ◌++◌, ◌∙◌, List, [], length, map, ℤ, ◌-ℤ◌, Ok, SFits, w64, to_z-of_z, refl, sym, ap, subst, arith}
+use Rattle.std.proofs.Common.{◌≡◌, ◌≤◌, ◌++◌, ◌∙◌, List, [], length, ◌-ℤ◌, Ok, SFits, w64, to_z-of_z, sym, ap, subst, arith}
 use Rattle.std.proofs.lemmas.Int.{ints, fits_signed_from_abs}
 use Rattle.std.specs.Prelude.{filter_map}
+use Rattle.std.specs.List.{AllByRecursion}
 use Rattle.std.specs.FinMap.Entries.{where_key}
 use Rattle.wsm_record.specs.Event.{Watermark}
-use Rattle.wsm_record.specs.declared.words.Form.{Form}
-use Rattle.wsm_record.specs.declared.event.Value.{Value}
 use Rattle.wsm_admission.specs.declared.verdict.Admitted.TheVariants as admitted
 use Rattle.wsm_semantics.specs.declared.out_row.OutRow.{OutRow}
-use Rattle.wsm_semantics.specs.Panes.{place_cmp, is_live_at}
+use Rattle.wsm_windows.specs.Windows.{IsPlaced}
+use Rattle.wsm_semantics.specs.Panes.{place_cmp, is_live_at, window_of}
 use Rattle.wsm_semantics.specs.HeldBounds.{most_panes}
-use Rattle.wsm_semantics.specs.Summaries.{all_fired, at_watermark, kind_by_watermark, fired_pane, relation_of, row_of, fired_by_watermark}
+use Rattle.wsm_semantics.specs.Summaries.{at_watermark, kind_by_watermark, relation_of, row_of, fired_by_watermark}
 use Rattle.wsm_semantics.specs.Steps.{chosen_rows, stream_rows}
-use Rattle.wsm_semantics.proofs.Lists.{length_each}
 use Rattle.wsm_bytecode.specs.Program.{Program, Header}
 use Rattle.wsm_verifier.proofs.Lawful.{lawful}
 use Rattle.wsm_machine.specs.Meaning.{plan_of, query_of}
 use Rattle.wsm_panes.specs.Held.{entries_of}
-use Rattle.wsm_firing.specs.Streams.{relation_kept}
+use Rattle.wsm_relation.proofs.Telling.{length-sorted_rows}
+use Rattle.wsm_firing.specs.Streams.{CanTell, IsTold, relation_kept, standing_rows}
+use Rattle.wsm_firing.proofs.Standing.{can_tell_on, few_rows}
+use Rattle.wsm_engine.specs.Runner.{last_relation}
+use Rattle.wsm_engine.proofs.Told.{last_is, are_told, alike_on, can_advance, can_go_on, can_tell, few_kept, of_next, placed_fired, same_alike}
 use Rattle.wsm_engine.proofs.Holding.{Panes}
 use Rattle.wsm_engine.proofs.Coming.{can_fire_at, a_mark, held_within, rows_then, drops_are}
 use Rattle.wsm_engine.proofs.runner.Runner.take_watermark.Goals as goal
@@ -27,19 +30,36 @@ fire_by_watermark-tally-requires-clause-can c =
     let new : SFits w64 c.args.new = c.ranges.new in
     simp to_z-of_z (can_fire_at c.args.verified.now c.requires.comes.0 c.args.self.now c.requires.program c.args.old c.args.new c.requires.comes.1 _ c.requires.program.rows)
 
--- as many panes after the firings as before
-as_many : (p : Program) (old new : ℤ) (es after : Panes) → after ≡ at_watermark (plan_of p) (query_of p) old new es → length after ≡ length es
-as_many p old new es after is =
-    ap length is ∙ length_each (λ e. (e.0, fired_pane (plan_of p) p.header.mode e.0 (kind_by_watermark (query_of p) old new e.0 e.1) e.1)) es
+pub fire_by_watermark-tally-requires-clause-tells : goal.fire_by_watermark-tally-requires-clause-tells
+fire_by_watermark-tally-requires-clause-tells c =
+    let p = c.args.verified.now in let of = c.requires.program in let s = c.args.self.now.streams in let es = entries_of c.args.self.now.held in
+    let few = held_within p c.requires.comes.0 c.args.self.now of c.args.old (Ok (admitted.Watermark c.args.old c.args.new)) (Watermark c.args.new) c.requires.comes.1 in
+    can_tell (most_panes (query_of p)) s s es es of.streams of.room (same_alike s) (λ relation told. told) few
 
-pub advance-requires-clause-panes : goal.advance-requires-clause-panes
-advance-requires-clause-panes c =
+pub advance-requires-clause-told : goal.advance-requires-clause-told
+advance-requires-clause-told c =
+    let p = c.args.verified.now in let of = c.requires.program in let s = c.args.self.now.streams in let es = entries_of c.args.self.now.held in
+    let few = held_within p c.requires.comes.0 c.args.self.now of c.args.old (Ok (admitted.Watermark c.args.old c.args.new)) (Watermark c.args.new) c.requires.comes.1 in
+    can_advance c.fire_by_watermark-tally.new.streams (entries_of c.fire_by_watermark-tally.new.held)
+    (can_tell_on s c.fire_by_watermark-tally.new.streams es (entries_of c.fire_by_watermark-tally.new.held) c.fire_by_watermark-tally.ensures.tells
+    (can_tell (most_panes (query_of p)) s s es es of.streams of.room (same_alike s) (λ relation told. told) few))
+
+pub drop_expired-requires-clause-tells : goal.drop_expired-requires-clause-tells
+drop_expired-requires-clause-tells c =
+    let p = c.args.verified.now in let of = c.requires.program in let s = c.args.self.now.streams in let es = entries_of c.args.self.now.held in
+    let t = c.fire_by_watermark-tally.new.streams in let fs = entries_of c.fire_by_watermark-tally.new.held in
+    let few = held_within p c.requires.comes.0 c.args.self.now of c.args.old (Ok (admitted.Watermark c.args.old c.args.new)) (Watermark c.args.new) c.requires.comes.1 in
+    let can : CanTell t fs = can_tell_on s t es fs c.fire_by_watermark-tally.ensures.tells (can_tell (most_panes (query_of p)) s s es es of.streams of.room (same_alike s) (λ relation told. told) few) in
+    can_go_on t c.advance.new.self fs can c.advance.ensures.alike (c.advance.ensures.told can.before (standing_rows fs) can.told)
+
+pub drop_expired-requires-clause-placed : goal.drop_expired-requires-clause-placed
+drop_expired-requires-clause-placed c =
     let p = c.args.verified.now in
     let old : SFits w64 c.args.old = c.ranges.old in
     let new : SFits w64 c.args.new = c.ranges.new in
-    let few = held_within p c.requires.comes.0 c.args.self.now c.requires.program c.args.old (Ok (admitted.Watermark c.args.old c.args.new)) (Watermark c.args.new) c.requires.comes.1 in
-    let same = as_many p c.args.old c.args.new (entries_of c.args.self.now.held) (entries_of c.fire_by_watermark-tally.new.held) (simp to_z-of_z at c.fire_by_watermark-tally.ensures.panes) in
-    rw c.requires.program.room (omega (arith, few, same))
+    let panes : entries_of c.fire_by_watermark-tally.new.held ≡ at_watermark (plan_of p) (query_of p) c.args.old c.args.new (entries_of c.args.self.now.held) = simp to_z-of_z at c.fire_by_watermark-tally.ensures.panes in
+    let can = can_fire_at p c.requires.comes.0 c.args.self.now c.requires.program c.args.old c.args.new c.requires.comes.1 _ c.requires.program.rows in
+    subst (λ (es : Panes). AllByRecursion (λ e. IsPlaced (window_of e.0)) es) (sym panes) (placed_fired (plan_of p) (query_of p) (kind_by_watermark (query_of p) c.args.old c.args.new) (entries_of c.args.self.now.held) can.placed)
 
 pub overflow_sub-limit : goal.overflow_sub-limit
 overflow_sub-limit c =
@@ -72,8 +92,27 @@ returns-clause-relation c =
     let old : SFits w64 c.args.old = c.ranges.old in
     let new : SFits w64 c.args.new = c.ranges.new in
     let panes : entries_of c.fire_by_watermark-tally.new.held ≡ at_watermark (plan_of p) (query_of p) c.args.old c.args.new (entries_of c.args.self.now.held) = simp to_z-of_z at c.fire_by_watermark-tally.ensures.panes in
-    let s = c.args.self.now.streams in
-    ap (λ t. t.relation) c.advance.ensures.relation ∙ (λ i. relation_kept (c.requires.program.form i) s.relation (relation_of (panes i)))
+    let before = last_relation c.args.self.now.streams (entries_of c.args.self.now.held) in
+    let fired = c.fire_by_watermark-tally.ensures.tells in let fs = entries_of c.fire_by_watermark-tally.new.held in
+    let form : c.fire_by_watermark-tally.new.streams.form ≡ p.header.form = fired.alike.form ∙ c.requires.program.form in
+    last_is c.drop_expired.new.streams (entries_of c.drop_expired.new.held) _ (c.drop_expired.ensures.told _ (c.advance.ensures.told before (standing_rows fs) (fired.told before c.requires.program.streams.told)))
+    ∙ (λ i. relation_kept (form i) before (relation_of (panes i)))
+
+pub returns-clause-program : goal.returns-clause-program
+returns-clause-program c =
+    let p = c.args.verified.now in let of = c.requires.program in
+    let s = c.args.self.now.streams in let t = c.fire_by_watermark-tally.new.streams in let u = c.advance.new.self in let v = c.drop_expired.new.streams in
+    let es = entries_of c.args.self.now.held in let fs = entries_of c.fire_by_watermark-tally.new.held in let gs = entries_of c.drop_expired.new.held in
+    let fired = c.fire_by_watermark-tally.ensures.tells in
+    let before = last_relation s es in
+    let after = relation_kept t.form before (relation_of fs) in
+    let told : IsTold v after (standing_rows gs) = c.drop_expired.ensures.told after (c.advance.ensures.told before (standing_rows fs) (fired.told before of.streams.told)) in
+    let few = held_within p c.requires.comes.0 c.args.self.now of c.args.old (Ok (admitted.Watermark c.args.old c.args.new)) (Watermark c.args.new) c.requires.comes.1 in
+    let some : length (relation_of fs) ≤ most_panes (query_of p) = omega (arith, few, fired.as_many, length-sorted_rows (standing_rows fs), few_rows fs) in
+    let one = c.fire_by_watermark-tally.ensures.keeps in let two = c.drop_expired.ensures.keeps in
+    of_next p c.args.self.now _ of (record { keys = two.keys ∙ one.keys; shape = two.shape ∙ one.shape; live = two.live ∙ one.live })
+    (alike_on s t v fired.alike (alike_on t u v c.advance.ensures.alike c.drop_expired.ensures.alike)) (c.advance.ensures.capacity ∙ c.fire_by_watermark-tally.ensures.capacity)
+    (are_told (most_panes (query_of p)) v gs after told (few_kept t.form before (relation_of fs) (most_panes (query_of p)) of.streams.few some))
 
 pub returns-clause-rows : goal.returns-clause-rows
 returns-clause-rows c =
@@ -81,11 +120,13 @@ returns-clause-rows c =
     let old : SFits w64 c.args.old = c.ranges.old in
     let new : SFits w64 c.args.new = c.ranges.new in
     let panes : entries_of c.fire_by_watermark-tally.new.held ≡ at_watermark (plan_of p) (query_of p) c.args.old c.args.new (entries_of c.args.self.now.held) = simp to_z-of_z at c.fire_by_watermark-tally.ensures.panes in
-    let before = c.args.self.now.streams.relation in
+    let before = last_relation c.args.self.now.streams (entries_of c.args.self.now.held) in
+    let told = c.fire_by_watermark-tally.ensures.tells in
+    let form : c.fire_by_watermark-tally.new.streams.form ≡ p.header.form = told.alike.form ∙ c.requires.program.form in
     let fired : List OutRow = filter_map (row_of (plan_of p)) (fired_by_watermark (plan_of p) (query_of p) c.args.old c.args.new (entries_of c.args.self.now.held)) in
     let rows : c.fire_by_watermark-tally.new.rows.items ≡ chosen_rows p.header.form fired [] = simp to_z-of_z at c.fire_by_watermark-tally.ensures.rows in
-    (simp to_z-of_z at c.advance.ensures.rows)
-    ∙ (λ i. rows i ++ stream_rows (c.requires.program.form i) c.args.new before (relation_of (panes i)))
+    (simp to_z-of_z at (c.advance.ensures.rows before (standing_rows (entries_of c.fire_by_watermark-tally.new.held)) (told.told before c.requires.program.streams.told)))
+    ∙ (λ i. rows i ++ stream_rows (form i) c.args.new before (relation_of (panes i)))
     ∙ rows_then p.header.form fired c.args.new before (relation_of (at_watermark (plan_of p) (query_of p) c.args.old c.args.new (entries_of c.args.self.now.held)))
 
 pub returns-clause-tally : goal.returns-clause-tally

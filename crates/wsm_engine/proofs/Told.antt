@@ -1,0 +1,96 @@
+-- What the streams were told, and what the relation at the last instant is by it.
+use Rattle.std.proofs.Common.{◌≡◌, ℕ, ◌≤◌, List, [], ◌∷◌, Option, length, vec_capacity, refl, sym, subst, ◌∙◌, arith}
+use Rattle.std.specs.List.{AllByRecursion}
+use Rattle.wsm_record.specs.declared.event.Value.{Value}
+use Rattle.wsm_record.specs.declared.words.Form.{Form}
+use Rattle.wsm_record.specs.declared.words.Form.TheVariants as form
+use Rattle.wsm_windows.specs.declared.window.PaneKind.{PaneKind}
+use Rattle.wsm_windows.specs.Windows.{IsPlaced}
+use Rattle.wsm_semantics.specs.declared.place.Place.{Place}
+use Rattle.wsm_semantics.specs.Panes.{window_of}
+use Rattle.wsm_semantics.specs.Query.{Query}
+use Rattle.wsm_semantics.specs.Summaries.{Pane, Plan, all_fired, relation_of}
+use Rattle.wsm_relation.proofs.Telling.{length-sorted_rows}
+use Rattle.wsm_firing.specs.Streams.{Standing, IsTold, AreAlike, CanAdvance, CanTell, relation_kept, standing_rows}
+use Rattle.wsm_firing.proofs.Streaming.{before_is, changed_none}
+use Rattle.wsm_firing.proofs.Standing.{few_rows}
+use Rattle.wsm_semantics.specs.HeldBounds.{most_panes}
+use Rattle.wsm_bytecode.specs.Program.{Program}
+use Rattle.wsm_machine.specs.Meaning.{query_of}
+use Rattle.wsm_panes.specs.Held.{IsKept, entries_of}
+use Rattle.wsm_engine.specs.declared.runner.Runner.{Runner}
+use Rattle.wsm_engine.specs.Runner.{AreTold, IsOf, last_relation}
+use Rattle.wsm_engine.proofs.Holding.{Panes}
+
+pub last_is : (s : Standing) (es : Panes) (before : List (List Value)) → IsTold s before (standing_rows es) → last_relation s es ≡ before
+last_is s es before told = before_is s.form s.numbers s.rows before (standing_rows es) told
+
+pub are_told : (most : ℕ) (s : Standing) (es : Panes) (before : List (List Value)) → IsTold s before (standing_rows es) → length before ≤ most → AreTold most s es
+are_told most s es before told few =
+    let same : last_relation s es ≡ before = last_is s es before told in
+    record { told = subst (λ b. IsTold s b (standing_rows es)) (sym same) told; few = subst (λ b. length b ≤ most) (sym same) few }
+
+pub can_tell : (most : ℕ) (s t : Standing) (es fs : Panes) → AreTold most s es → s.room ≡ most → AreAlike s t → ((relation : List (List Value)) → IsTold s relation (standing_rows es) → IsTold t relation (standing_rows fs)) → length fs ≤ most → CanTell t fs
+can_tell most s t es fs was room alike further few = record {
+  before = last_relation s es;
+  told = further (last_relation s es) was.told;
+  few_before = omega (arith, was.few, room, alike.room);
+  few = omega (arith, few, room, alike.room);
+}
+
+pub same_alike : (s : Standing) → AreAlike s s
+same_alike s = record { form = refl; room = refl }
+
+pub can_advance : (s : Standing) (es : Panes) → CanTell s es → CanAdvance s
+can_advance s es can = record { before = can.before; now = standing_rows es; told = can.told; within = record { few_before = can.few_before; few_now = omega (arith, can.few, few_rows es) } }
+
+pub few_kept : (f : Form) (before now : List (List Value)) (n : ℕ) → length before ≤ n → length now ≤ n → length (relation_kept f before now) ≤ n
+few_kept form.Panes before now n b m = b
+few_kept form.Istream before now n b m = m
+few_kept form.Dstream before now n b m = m
+few_kept form.Rstream before now n b m = b
+
+-- and be told further at the next instant
+pub can_go_on : (s t : Standing) (es : Panes) → (can : CanTell s es) → AreAlike s t → IsTold t (relation_kept s.form can.before (relation_of es)) (standing_rows es) → CanTell t es
+can_go_on s t es can alike told = record {
+  before = relation_kept s.form can.before (relation_of es);
+  told = told;
+  few_before =
+      let some : length (relation_of es) ≤ s.room = omega (arith, can.few, length-sorted_rows (standing_rows es), few_rows es) in
+      let few = few_kept s.form can.before (relation_of es) s.room can.few_before some in
+      omega (arith, few, alike.room);
+  few = omega (arith, can.few, alike.room);
+}
+
+-- before the first event
+pub none_told : (f : Form) (room : ℕ) → IsTold (record { form = f; room = room; numbers = []; rows = [] }) [] []
+none_told form.Panes room = refl
+none_told form.Istream room = changed_none []
+none_told form.Dstream room = changed_none []
+none_told form.Rstream room = record { none = refl; ordered = tt; same = λ q. refl }
+
+pub open_is : (s : Standing) (es : Panes) (f : Form) (room : ℕ) → s ≡ record { form = f; room = room; numbers = []; rows = [] } → es ≡ [] → IsTold s [] (standing_rows es)
+open_is s es f room is none =
+    subst (λ (t : Standing). IsTold t [] (standing_rows es)) (sym is) (subst (λ (fs : Panes). IsTold (record { form = f; room = room; numbers = []; rows = [] }) [] (standing_rows fs)) (sym none) (none_told f room))
+
+-- the runner is the program's still
+pub of_next : (p : Program) (r n : Runner) → IsOf p r → IsKept r.held n.held → AreAlike r.streams n.streams → vec_capacity n.rows ≡ vec_capacity r.rows → AreTold (most_panes (query_of p)) n.streams (entries_of n.held) → IsOf p n
+of_next p r n of keeps alike rows told = record {
+  judged = of.judged;
+  lawful = of.lawful;
+  keys = keeps.keys ∙ of.keys;
+  shape = keeps.shape ∙ of.shape;
+  live = keeps.live ∙ of.live;
+  form = alike.form ∙ of.form;
+  room = alike.room ∙ of.room;
+  rows = subst (λ n. most_panes (query_of p) ≤ n) (sym rows) of.rows;
+  streams = told;
+}
+
+pub alike_on : (s t u : Standing) → AreAlike s t → AreAlike t u → AreAlike s u
+alike_on s t u a b = record { form = b.form ∙ a.form; room = b.room ∙ a.room }
+
+-- a pane that fires stays where it is
+pub placed_fired : (plan : Plan (List Value)) (q : Query) (kind : Place → Pane (List Value) → Option PaneKind) (es : Panes) → AllByRecursion (λ e. IsPlaced (window_of e.0)) es → AllByRecursion (λ e. IsPlaced (window_of e.0)) (all_fired plan q kind es)
+placed_fired plan q kind [] all = tt
+placed_fired plan q kind (e ∷ es) all = (all.0, placed_fired plan q kind es all.1)

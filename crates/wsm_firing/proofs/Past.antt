@@ -1,0 +1,37 @@
+-- The panes that a limit leaves are those from the first that ends after it on.
+use Rattle.std.proofs.Common.{◌≡◌, ℕ, zero, suc, ◌+◌, true, false, cond, T, Some, [], ◌∷◌, drop, refl, ap, ◌∙◌, arith}
+use Rattle.std.proofs.lemmas.Int.{ints}
+use Rattle.std.specs.Prelude.{ℤ, ◌≤ℤ◌, ◌<ℤ◌, int_lt, slice_get}
+use Rattle.std.specs.Ordering.{is_lt}
+use Rattle.std.specs.FinMap.Entries.{where_key, is_sorted, below_all}
+use Rattle.wsm_semantics.specs.declared.place.Place.{Place}
+use Rattle.wsm_semantics.specs.Panes.{place_cmp}
+use Rattle.wsm_semantics.specs.Summaries.{Pane}
+use Rattle.wsm_firing.proofs.AtPlace.{first_of, second_of, lesser}
+use Rattle.wsm_firing.proofs.Behind.{ends_in_order}
+use Rattle.wsm_firing.proofs.Walk.{rest_at}
+use Rattle.wsm_firing.proofs.Standing.{Folded, Panes}
+
+module _ (limit : ℤ) where
+  -- the panes that are left
+  abbrev pub left : Panes → Panes
+  left es = where_key place_cmp (λ p. int_lt limit p.end) es
+
+  all_stay : (p : Place) (es : Panes) → T (below_all place_cmp p es) → limit <ℤ p.end → left es ≡ es
+  all_stay p [] below far = refl
+  all_stay p (e ∷ es) below far =
+      let order : p.end ≤ℤ e.0.end = ends_in_order p e.0 (lesser _ (first_of (is_lt (place_cmp p e.0)) (below_all place_cmp p es) below)) in
+      let stays : int_lt limit e.0.end ≡ true = grind (arith, ints, order, far) in
+      rw stays (ap (λ (fs : Panes). e ∷ fs) (all_stay p es (second_of (is_lt (place_cmp p e.0)) (below_all place_cmp p es) below) far))
+
+  pub rest_left : (es : Panes) (i : ℕ) (e : Place × Pane Folded) → T (is_sorted place_cmp es) → slice_get es i ≡ Some e → limit <ℤ e.0.end → left (drop i es) ≡ drop i es
+  rest_left [] i e sorted at far = absurd (cc)
+  rest_left (x ∷ es) zero e sorted at far =
+      let same : x ≡ e = cc in
+      let near : limit <ℤ x.0.end = rw same far in
+      let stays : int_lt limit x.0.end ≡ true = grind (arith, ints, near) in
+      rw stays (ap (λ (fs : Panes). x ∷ fs) (all_stay x.0 es (first_of (below_all place_cmp x.0 es) (is_sorted place_cmp es) sorted) near))
+  rest_left (x ∷ es) (suc i) e sorted at far = rest_left es i e (second_of (below_all place_cmp x.0 es) (is_sorted place_cmp es) sorted) at far
+
+  pub next_goes : (es : Panes) (i : ℕ) (e : Place × Pane Folded) → slice_get es i ≡ Some e → int_lt limit e.0.end ≡ false → left (drop i es) ≡ left (drop (i + 1) es)
+  next_goes es i e at past = ap left (rest_at es i e at) ∙ ap (λ b. cond b (e ∷ left (drop (i + 1) es)) (left (drop (i + 1) es))) past

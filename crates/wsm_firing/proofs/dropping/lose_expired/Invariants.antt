@@ -1,0 +1,14 @@
+use Rattle.std.proofs.Common.{◌≡◌, drop, List}
+use Rattle.wsm_record.specs.declared.event.Value.{Value}
+use Rattle.wsm_panes.specs.Held.{entries_of}
+use Rattle.wsm_firing.specs.Streams.{AreAlike, IsTold, standing_rows}
+use Rattle.wsm_firing.proofs.Past.{left}
+use Rattle.wsm_firing.proofs.dropping.lose_expired.Given as goal
+
+-- those in front of i are past, and the streams were told of them
+abbrev pub invariant-loop-i : goal.invariant-loop-i
+invariant-loop-i l = record {
+  told : (relation : List (List Value)) → IsTold l.fn.streams relation (standing_rows (entries_of l.held)) → IsTold l.streams relation (standing_rows (drop l.i (entries_of l.held)));
+  alike : AreAlike l.fn.streams l.streams;
+  past : left l.fn.limit (entries_of l.held) ≡ left l.fn.limit (drop l.i (entries_of l.held));
+}

@@ -1,0 +1,48 @@
+//! Panes that are dropped.
+
+ghost use Rattle.std.specs.Prelude.{◌≡◌, List, int_lt};
+ghost use Rattle.std.specs.List.{AllByRecursion};
+ghost use Rattle.std.specs.FinMap.Entries.{where_key};
+ghost use Rattle.wsm_record.specs.declared.event.Value.{Value};
+ghost use Rattle.wsm_windows.specs.Windows.{IsPlaced};
+ghost use Rattle.wsm_semantics.specs.Panes.{place_cmp, window_of};
+ghost use Rattle.wsm_panes.specs.Held.{IsKept, entries_of};
+ghost use Rattle.wsm_firing.specs.Streams.{AreAlike, CanTell, IsTold, standing_rows};
+
+use crate::streams::Streams;
+use wsm_panes::HeldPanes;
+use wsm_record::Form;
+
+/// Drops the panes of windows with an end of at most the limit, which is in event time, and tells the
+/// streams the rows that stood for them.
+pub fn drop_expired(held: &mut HeldPanes, streams: &mut Streams, limit: i64)
+    requires placed { AllByRecursion (λ e. IsPlaced (window_of e.0)) (entries_of held.old) }
+    requires tells { CanTell streams.old (entries_of held.old) }
+    ensures panes { entries_of held.new ≡ where_key place_cmp (λ p. int_lt limit p.end) (entries_of held.old) }
+    ensures keeps { IsKept held.old held.new }
+    ensures told { (relation : List (List Value)) → IsTold streams.old relation (standing_rows (entries_of held.old)) → IsTold streams.new relation (standing_rows (entries_of held.new)) }
+    ensures alike { AreAlike streams.old streams.new }
+{
+    lose_expired(streams, held, limit);
+    held.drop_expired(limit);
+}
+
+// Tells the streams the rows of the panes that are past.
+fn lose_expired(streams: &mut Streams, held: &HeldPanes, limit: i64)
+    requires placed { AllByRecursion (λ e. IsPlaced (window_of e.0)) (entries_of held.now) }
+    requires tells { CanTell streams.old (entries_of held.now) }
+    ensures told { (relation : List (List Value)) → IsTold streams.old relation (standing_rows (entries_of held.now)) → IsTold streams.new relation (standing_rows (where_key place_cmp (λ p. int_lt limit p.end) (entries_of held.now))) }
+    ensures alike { AreAlike streams.old streams.new }
+{
+    if let Form::Panes = streams.form() {
+        return;
+    }
+    for i in 0..held.len() {
+        let (place, pane) = held.at(i);
+        // Neither this pane nor any behind it is past.
+        if place.end > limit {
+            break;
+        }
+        streams.lose(&pane);
+    }
+}
