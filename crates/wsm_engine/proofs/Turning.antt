@@ -1,5 +1,5 @@
 -- A turn of what an engine keeps fits the history with its event, writes its rows and answers as the
--- meaning does: the relation is read where its rows are written, and nowhere else.
+-- meaning does: the relation is read where changes against it are written, and nowhere else.
 use Rattle.std.proofs.Common.{◌≡◌, ℕ, ◌+◌, ◌≤◌, List, [], ◌∷◌, map, length, ℤ, Option, Some, None, IsTrue, refl, sym, ap, subst, ◌∙◌, arith}
 use Rattle.std.specs.Prelude.{Ok, Err, Result, IsSome, filter_map, sum}
 use Rattle.wsm_record.specs.declared.event.Value.{Value}
