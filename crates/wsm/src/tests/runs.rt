@@ -298,6 +298,52 @@ fn streams(rt: HostRuntime) -> Result<(), Fail> {
     all_write(&rt, &cases)
 }
 
+// Sessions that are joined where none, one or both of them fired.
+#[test]
+fn streams_of_joined_sessions(rt: HostRuntime) -> Result<(), Fail> {
+    let sessions = Case {
+        clock: "START 0; SKEW 100; LATENESS 100; RECORDS 1000",
+        columns: "COUNT(*)",
+        window: "SESSION 30 ACCUMULATING",
+        ..BASE
+    };
+    let cases = [
+        Case {
+            form: "RSTREAM",
+            rows: "r,a,0,1\nr,a,40,1\nr,a,20,1\nw,50\nw,70\nw,170\n",
+            want: "rstream,70,3\nrstream,170,3\nend,6,3,0,0,1\n",
+            ..sessions
+        },
+        Case {
+            form: "RSTREAM",
+            rows: "r,a,0,1\nw,30\nr,a,40,1\nr,a,20,1\nw,50\nw,70\n",
+            want: "rstream,30,1\nrstream,50,1\nrstream,70,3\nend,6,3,0,0,2\n",
+            ..sessions
+        },
+        Case {
+            columns: "COUNT(*) HAVING COUNT(*) <> 3",
+            form: "DSTREAM",
+            rows: "r,a,0,1\nw,30\nr,a,40,1\nr,a,20,1\nw,50\nw,70\n",
+            want: "dstream,70,1\nend,6,3,0,0,2\n",
+            ..sessions
+        },
+        Case {
+            columns: "COUNT(*) HAVING COUNT(*) > 1",
+            form: "DSTREAM",
+            rows: "r,a,0,1\nr,a,40,1\nr,a,41,1\nw,71\nr,a,20,1\nw,72\nw,171\n",
+            want: "dstream,72,2\nend,7,4,0,0,3\n",
+            ..sessions
+        },
+        Case {
+            form: "DSTREAM",
+            rows: "r,a,0,1\nr,a,40,1\nw,70\nr,a,20,1\nw,80\nw,170\nw,171\n",
+            want: "dstream,80,1\ndstream,80,1\ndstream,171,3\nend,7,3,0,0,3\n",
+            ..sessions
+        },
+    ];
+    all_write(&rt, &cases)
+}
+
 // The line of the judgement of a query's program.
 fn judgement(alloc: Global, text: &str) -> Result<Vec<u8>, Fail> {
     let program = compile_text(alloc, text.as_bytes())?;
