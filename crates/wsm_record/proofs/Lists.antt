@@ -1,6 +1,6 @@
 -- Tests over a list that a function was mapped over.
 use Rattle.std.proofs.Common.{◌≡◌, ◌∙◌, ◌+◌, ◌||◌, ℕ, zero, Bool, not, cond, List, [], ◌∷◌, map, length, position, refl, ap, sym, true, false, ◌<◌, ◌++◌, suc, take, drop, get_or, add-one, arith}
-use Rattle.std.specs.Prelude.{Option, Some, None, slice_get, bytes_eq}
+use Rattle.std.specs.Prelude.{Some, slice_get, bytes_eq}
 use Rattle.wsm_record.specs.Name.{is_among, repeats_after}
 use Rattle.std.proofs.lemmas.List.{length-map, take_more}
 use Rattle.std.proofs.Math.Seq.{drop-cons}
