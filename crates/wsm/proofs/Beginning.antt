@@ -1,5 +1,5 @@
 -- Runs that end before their first row.
-use Rattle.std.proofs.Common.{◌≡◌, ℕ, true, false, List, [], Option, Result, Ok, Err, inl, inr, refl}
+use Rattle.std.proofs.Common.{◌≡◌, ℕ, true, List, [], Option, Result, Ok, Err, inl, inr, refl}
 use Rattle.std.specs.Prelude.{is_ok}
 use Rattle.wsm_engine.specs.declared.reply.Totals.{Totals}
 use Rattle.wsm_verifier.specs.declared.rejection.Rejection.{Rejection}
@@ -7,7 +7,6 @@ use Rattle.wsm.specs.declared.end.Refusal.{Refusal}
 use Rattle.wsm.specs.declared.end.End.{End}
 use Rattle.wsm.specs.declared.end.End.TheVariants.{Refused, Rejected, Memory, ReadFailed, WriteFailed}
 use Rattle.wsm.specs.Asked.{Asked}
-use Rattle.wsm.specs.Ends.{hides_memory}
 use Rattle.wsm.specs.Judged.{EndsBy, RejectsBy}
 use Rattle.wsm.specs.Written.{Cells, EndsEarly, NeverBegins}
 use Rattle.wsm.proofs.Texts.{AreFirst-none, Appends-none, Keeps-same}
@@ -46,11 +45,3 @@ unverified_early judged (Rejected r) known taken a ends ok = absurd (was_rejecte
 unverified_early judged Memory known taken a ends ok = ([], record { first = AreFirst-none known; text = Appends-none a taken })
 unverified_early judged ReadFailed known taken a ends ok = absurd ends
 unverified_early judged WriteFailed known taken a ends ok = absurd ends
-
--- a run that was begun ends neither refused nor rejected
-pub begun_apart : (known : Option (List ℕ)) (a : Asked) (old new : Option (List ℕ)) (e : End) → (cells : List Cells) × EndsEarly known a cells old new e → hides_memory e ≡ false
-begun_apart known a old new (Refused r) (cells, h) = absurd h
-begun_apart known a old new (Rejected r) (cells, h) = absurd h
-begun_apart known a old new Memory (cells, h) = refl
-begun_apart known a old new ReadFailed (cells, h) = refl
-begun_apart known a old new WriteFailed (cells, h) = refl

@@ -12,7 +12,7 @@ use Rattle.wsm_csv.specs.declared.rows.ReadEnd.{ReadEnd}
 use Rattle.wsm_csv.specs.declared.rows.ReadEnd.TheVariants as read
 use Rattle.wsm_csv.specs.Cells.{event_of_cells}
 use Rattle.wsm_csv.specs.Device.{TakesPart}
-use Rattle.wsm_csv.specs.Records.{AreAll, AreFirst}
+use Rattle.wsm_csv.specs.Records.{AreFirst}
 use Rattle.wsm_csv.proofs.Written.{Appends-join, Appends-start, TakesPart-last}
 use Rattle.wsm_engine.specs.declared.reply.Totals.{Totals}
 use Rattle.wsm.specs.declared.turns.Turns.{Turns}
@@ -45,10 +45,6 @@ pub AreFirst-none : (known : Option (List ℕ)) → AreFirst known []
 unfolding Reached
 AreFirst-none None = tt
 AreFirst-none (Some bytes) = (st.StartRecord, strip_bom bytes, (refl, refl))
-
-pub AreFirst-all : (known : Option (List ℕ)) (cells : List Cells) → AreAll known cells → AreFirst known cells
-AreFirst-all None cells h = tt
-AreFirst-all (Some bytes) cells h = (h.0, h.1, h.2)
 
 pub Keeps-same : (known : Option (List ℕ)) → Keeps known known
 Keeps-same None = tt

@@ -1,12 +1,10 @@
 -- The lines of a turn, one after the other.
-use Rattle.std.proofs.Common.{◌≡◌, ◌∙◌, ◌<◌, ◌+◌, ◌++◌, ◌∷◌, ℕ, List, [], length, map, take, get_or, Some, refl, sym, ap, append_assoc, append-nil}
-use Rattle.std.proofs.lemmas.List.{map-append, take_more}
+use Rattle.std.proofs.Common.{◌≡◌, ◌∙◌, ◌+◌, ◌++◌, ◌∷◌, ℕ, List, [], Some, refl, sym, ap, append_assoc, append-nil}
 use Rattle.std.proofs.lemmas.List.Concat.{flat_map-append}
 use Rattle.std.specs.Prelude.{◌≢◌}
 use Rattle.wsm_admission.specs.declared.verdict.Refusal.{Refusal}
 use Rattle.wsm_admission.specs.declared.verdict.Refusal.TheVariants as refusal
-use Rattle.wsm_semantics.specs.declared.out_row.OutRow.{OutRow}
-use Rattle.wsm_semantics.specs.Lines.{Line, Out, Refused, refusal_lines}
+use Rattle.wsm_semantics.specs.Lines.{Line, Refused, refusal_lines}
 use Rattle.wsm_semantics.specs.Text.{Names, line_text, lines_text}
 
 -- a refusal has a line, but for a late record
@@ -30,11 +28,3 @@ pub joined_lines : (names : Names) (old mid new : List ℕ) (first second : List
 joined_lines names old mid new first second h k =
     k ∙ ap (λ t. t ++ lines_text names second) h ∙ append_assoc old (lines_text names first) (lines_text names second)
     ∙ ap (λ t. old ++ t) (sym (flat_map-append (line_text names) first second))
-
--- a row more
-pub next_rows : (names : Names) (old mid new : List ℕ) (rows : List OutRow) (i : ℕ) (row : OutRow) → i < length rows → row ≡ get_or rows i row
-    → mid ≡ old ++ lines_text names (map Out (take i rows)) → new ≡ mid ++ line_text names (Out row) → new ≡ old ++ lines_text names (map Out (take (i + 1) rows))
-next_rows names old mid new rows i row within is h k =
-    joined_lines names old mid new (map Out (take i rows)) (Out row ∷ []) h (k ∙ ap (λ t. mid ++ t) (sym (one_line names (Out row))))
-    ∙ ap (λ (ls : List Line). old ++ lines_text names ls)
-    (sym (map-append Out (take i rows) (row ∷ [])) ∙ ap (λ r. map Out (take i rows ++ r ∷ [])) is ∙ ap (map Out) (sym (take_more rows i row within)))

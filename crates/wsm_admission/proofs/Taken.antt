@@ -1,5 +1,5 @@
 -- What is known of an event that is taken, or refused.
-use Rattle.std.proofs.Common.{◌≡◌, ◌≤◌, ℕ, Bool, true, false, List, [], ◌∷◌, ℤ, pos, ◌≤ℤ◌, ◌<ℤ◌, Option, Some, None, refl, sym, arith}
+use Rattle.std.proofs.Common.{◌≡◌, ◌≤◌, ℕ, Bool, true, false, List, [], ◌∷◌, ℤ, ◌≤ℤ◌, ◌<ℤ◌, Option, Some, None, refl, sym, arith}
 use Rattle.std.proofs.lemmas.Int.{ints}
 use Rattle.std.proofs.lemmas.Bool.Decides.{nat_tests}
 use Rattle.std.specs.Prelude.{int_le, nat_le, not, if◌then◌else◌}
@@ -10,7 +10,7 @@ use Rattle.wsm_record.specs.Schema.{Declared, fit_fields}
 use Rattle.wsm_admission.specs.declared.clock.Clock.{Clock}
 use Rattle.wsm_admission.specs.declared.verdict.Refusal.{Refusal}
 use Rattle.wsm_admission.specs.declared.verdict.Refusal.TheVariants as refusal
-use Rattle.wsm_admission.specs.Clock.{IsWithinLimits, latest_time, is_key, is_time, is_too_far_ahead, is_late, record_refusal, watermark_refusal, watermark_of, verdict_at, admitted_with, admitted_count}
+use Rattle.wsm_admission.specs.Clock.{is_key, is_time, is_too_far_ahead, is_late, record_refusal, watermark_refusal, watermark_of, verdict_at, admitted_with, admitted_count}
 
 -- no rule refuses the record
 pub record IsTaken (c : Clock) (declared : Declared) (mark : ℤ) (admitted : ℕ) (key : Option ℕ) (time : ℤ) (values : List Value) : Type 0 where
@@ -77,16 +77,6 @@ rises_by mark time false = grind (arith, ints)
 pub watermark_rises : (c : Clock) (e : Event) (past : List Event) → watermark_of c past ≤ℤ watermark_of c (e ∷ past)
 watermark_rises c (Record k t vs) past = grind (arith, ints)
 watermark_rises c (Watermark t) past = rises_by (watermark_of c past) t (is_time t)
-
-within : (mark time : ℤ) (b : Bool) → b ≡ is_time time → (pos 0 ≤ℤ mark) × (mark ≤ℤ latest_time) → (pos 0 ≤ℤ (if b then int_max mark time else mark)) × ((if b then int_max mark time else mark) ≤ℤ latest_time)
-within mark time true k h = (grind (arith, ints), grind (arith, ints))
-within mark time false k h = h
-
--- the watermark is a time
-pub watermark_in_range : (c : Clock) → IsWithinLimits c → (past : List Event) → (pos 0 ≤ℤ watermark_of c past) × (watermark_of c past ≤ℤ latest_time)
-watermark_in_range c l [] = (l.start_from, l.start_to)
-watermark_in_range c l (Record k t vs ∷ past) = watermark_in_range c l past
-watermark_in_range c l (Watermark t ∷ past) = within (watermark_of c past) t (is_time t) refl (watermark_in_range c l past)
 
 one_more : (c : Clock) (declared : Declared) (mark : ℤ) (n : ℕ) (e : Event) (v : Option Refusal) → v ≡ verdict_at c declared mark n e → n ≤ c.records → admitted_with n e v ≤ c.records
 one_more c declared mark n (Record k t vs) None h l =

@@ -5,7 +5,6 @@ use Rattle.std.specs.List.{list_all}
 use Rattle.std.proofs.Math.Nat.{mul-le-mul_left}
 use Rattle.std.proofs.lemmas.Nat.{pow-add}
 use Rattle.std.proofs.lemmas.List.{take-append-drop, take_more}
-use Rattle.std.proofs.lemmas.List.Folds.{list_all_at}
 use Rattle.std.proofs.lemmas.Bool.{le-ltb, lt-ltb}
 use Rattle.wsm_record.specs.Name.{is_digit}
 use Rattle.wsm_csv.specs.Number.{digits_value, is_numeral, magnitude_of}
@@ -33,12 +32,6 @@ digits_value-take-le xs i =
 is_numeral-some : (xs : List ℕ) → 0 < length xs → is_numeral xs ≡ list_all is_digit xs
 is_numeral-some [] h = absurd (omega arith)
 is_numeral-some (x ∷ xs) h = refl
-
--- a byte that is no digit
-pub magnitude-not_digit : (xs : List ℕ) (i : ℕ) → i < length xs → is_digit (get_or xs i 0) ≡ false → magnitude_of xs ≡ None
-magnitude-not_digit xs i h e =
-    let some : 0 < length xs = omega arith in
-    rw (is_numeral-some xs some, list_all_at is_digit xs i 0 h e) refl
 
 kept_out : (b : Bool) (n : ℕ) → nat_lt n (2 ^ 64) ≡ false → (if b && nat_lt n (2 ^ 64) then Some n else None) ≡ None
 kept_out true n e = rw e refl

@@ -17,7 +17,6 @@ use Rattle.wsm_firing.specs.Streams.{relation_kept}
 use Rattle.wsm_firing.specs.Firing.{rows_of}
 use Rattle.wsm_engine.specs.declared.runner.Runner.{Runner}
 use Rattle.wsm_engine.specs.Runner.{IsAt, last_relation, panes_with, fired_with}
-use Rattle.wsm_engine.proofs.Holding.{Panes}
 
 module _ (p : Program) (r : Runner) (m : ℤ) (s : State (List Value)) (at : IsAt m r s) (a : Result Admitted Refusal) (e : Event) where
   abbrev plan : Plan (List Value)
@@ -25,9 +24,6 @@ module _ (p : Program) (r : Runner) (m : ℤ) (s : State (List Value)) (at : IsA
 
   abbrev q : Query
   q = query_of p
-
-  abbrev es : Panes
-  es = entries_of r.held
 
   module _ (k : ℕ) (t : ℤ) (vs : List Value) (is : a ≡ Ok admitted.Record) (ev : e ≡ Record (Some k) t vs) where
     pub panes_record : panes_with p m k t vs (entries_of r.held) ≡ panes_after (plan_of p) (query_of p) a e s

@@ -158,9 +158,6 @@ module _ (p : Program) (costs : Costs) (judged : judge p ≡ Ok costs) (lawful :
     abbrev q : Query
     q = query_of p
 
-    abbrev in_kept : Place × List Datum → Place × Pane (List Value)
-    in_kept x = (x.0, pane_of (plan_of p) p.header.mode x.0.key (kept_in q past x).1)
-
     -- they are those that are held with it
     pub now_held : now ≡ summaries (plan_of p) p.header.mode (map (kept_in q past) (held q (e ∷ past)))
     now_held =

@@ -17,16 +17,14 @@ use Rattle.wsm_semantics.specs.Query.{mark, verdict_on}
 use Rattle.wsm_semantics.specs.declared.place.Place.{Place}
 use Rattle.wsm_semantics.specs.Panes.{held}
 use Rattle.wsm_semantics.specs.Kept as kept
-use Rattle.wsm_semantics.specs.Kept.{Kept}
 use Rattle.wsm_semantics.specs.Firings.{firings}
 use Rattle.wsm_semantics.specs.Relation.{turn_rows, relation}
-use Rattle.wsm_semantics.specs.Summaries.{Plan, Pane, pane_of, row_of, summary_fired}
+use Rattle.wsm_semantics.specs.Summaries.{Pane, row_of, summary_fired}
 use Rattle.wsm_semantics.specs.Steps as steps
 use Rattle.wsm_semantics.specs.Steps.{answer_to, panes_after, fired_by, relation_after, streamed_by, chosen_rows, step, step_fires, step_rows}
 use Rattle.wsm_semantics.proofs.Lists.{length_each}
 use Rattle.wsm_semantics.proofs.Stepping.{decision-fits}
 use Rattle.wsm_semantics.proofs.Steps.{Fits-step, rows-step, fires-step}
-use Rattle.wsm_semantics.specs.Query.{Query}
 use Rattle.wsm_bytecode.specs.Program.{Program, is_program}
 use Rattle.wsm_verifier.proofs.Lawful.{lawful as program_lawful}
 use Rattle.wsm_machine.specs.Meaning.{query_of, plan_of, pane_cost, pane_cost_by, answer_cost}
@@ -44,12 +42,6 @@ use Rattle.wsm_engine.specs.Turn.{turn, refusal_of, reply_by}
 -- ---- with another relation
 
 module _ (p : Program) (s : steps.State (List Value)) (r : List (List Value)) where
-  abbrev plan : Plan (List Value)
-  plan = plan_of p
-
-  abbrev q : Query
-  q = query_of p
-
   -- the same state, of another relation
   abbrev pub other : steps.State (List Value)
   other = record s { relation = r }
@@ -230,13 +222,6 @@ comes_of s past fits h held m is a e answered =
       answered = answered ∙ decision-fits (query_of s.program) s.machine.admission past e fits.clock fits.admission ∙ ap (λ (n : ℤ). answer n e (verdict_on (query_of s.program) past e)) (sym here);
       panes = held ∙ fits.panes;
     }
-
--- as many panes are held as the definition says
-pub held_is : (s : State) (past : List Event) → Fits s past → length s.machine.panes ≡ length (held (query_of s.program) past)
-held_is s past fits =
-    ap length fits.panes
-    ∙ length_each (λ (e : Place × Kept). (e.0, pane_of (plan_of s.program) s.program.header.mode e.0.key e.1)) (kept.kept (query_of s.program) past)
-    ∙ length_each (kept.kept_in (query_of s.program) past) (held (query_of s.program) past)
 
 -- what is answered after an answer is the reply of the turn
 pub replied_is : (s : State) (e : Event) (a : Result Admitted Refusal) → a ≡ answer_to (plan_of s.program) (query_of s.program) s.machine e →

@@ -224,10 +224,3 @@ pub pair_is : (sh : Shape) (d : Datum) (es : Panes) (v w : Pane Folded) → ((ga
 pair_is (Fixed size) d es v w few h = absurd (cc)
 pair_is (Sliding size period) d es v w few h = absurd (cc)
 pair_is (Session gap) d es v w few h = pair_by gap d es v w (linked gap d es) refl (few gap refl) h
-
-pub length_with : (v w : Pane Folded) (rows : Rows) → length (cons_option (row_at w) rows) ≤ length (cons_option (row_at v) (cons_option (row_at w) rows))
-length_with v w rows = fewer_than (row_at v) (cons_option (row_at w) rows)
-  where
-    fewer_than : (o : Option (List Value)) (rs : Rows) → length rs ≤ length (cons_option o rs)
-    fewer_than None rs = omega arith
-    fewer_than (Some r) rs = omega arith

@@ -160,10 +160,6 @@ more_values Max o n u w a b = more_numbers Max int_max (λ x y. refl) Holds Hold
 more_values Any o n u w a b = tt
 more_values All o n u w a b = tt
 
--- of as many as the program allows
-number_ends : (f : Interval → ℤ → Type 0) (g : Interval → Interval) → ((x : Interval) (z : ℤ) → f x z → Holds (g x) z) → (x : Interval) (z : ℤ) → f x z → is_number_in (Some (g x)) (values.Int z) ≡ true
-number_ends f g h x z a = holds_true (g x) z (h x z a)
-
 in_accumulated : (m n : ℕ) (k : Kind) (o : Option Interval) (v : Value) → 1 ≤ n → n ≤ m → ValueIn k o n v → is_value_in (and_then (accumulated (pos m) k) o) k v ≡ true
 in_accumulated m n Sum None v f l h = absurd h
 in_accumulated m n Sum (Some x) (values.Int z) f l h =

@@ -1,6 +1,6 @@
 -- A test of two lists, element by element, and a loop that makes it.
 use Rattle.std.proofs.Common.{◌≡◌, ◌≢◌, ◌∙◌, ◌<◌, ◌+◌, ◌&&◌, ℕ, suc, Bool, true, false, List, [], ◌∷◌, length, drop, get_or, ap, ap₂, sym, refl, add-one}
-use Rattle.std.proofs.Math.Seq.{drop-cons, drop-length}
+use Rattle.std.proofs.Math.Seq.{drop-cons}
 
 -- two lists of one length whose elements pass a test two by two
 pub record TestsPairs {A B : Type 0} (test : A → B → Bool) (f : List A → List B → Bool) : Type 0 where
@@ -40,8 +40,3 @@ module _ {A B : Type 0} {test : A → B → Bool} {f : List A → List B → Boo
       → f (drop i xs) (drop i ys) ≡ f xs ys → f (drop (i + 1) xs) (drop (i + 1) ys) ≡ f xs ys
   passes_at xs ys i d e h k good so_far =
       sym (ap (λ (b : Bool). b && f (drop (i + 1) xs) (drop (i + 1) ys)) good) ∙ sym (next_pair xs ys i d e h k) ∙ so_far
-
-  -- all passed
-  pub passed : (xs : List A) (ys : List B) (i : ℕ) → length xs ≡ length ys → i ≡ length xs → f (drop i xs) (drop i ys) ≡ f xs ys → f xs ys ≡ true
-  passed xs ys i e h so_far =
-      sym so_far ∙ ap₂ f (ap (λ n. drop n xs) h ∙ drop-length xs) (ap (λ n. drop n ys) (h ∙ e) ∙ drop-length ys) ∙ pairs.none

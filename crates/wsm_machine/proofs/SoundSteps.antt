@@ -3,7 +3,7 @@
 use Rattle.std.proofs.Common.{◌≡◌, ℕ, ◌+◌, ◌≤◌, true, false, cond, List, [], ◌∷◌, length, ℤ, Option, Some, None, Ok, Err, IsTrue, refl, sym, subst, ◌∙◌, arith}
 use Rattle.std.proofs.lemmas.Int.{ints}
 use Rattle.std.proofs.lemmas.Bool.Decides.{nat_tests}
-use Rattle.std.specs.Prelude.{pos, ◌≤ℤ◌, nat_lt, nat_le, IfSome, unsigned_abs}
+use Rattle.std.specs.Prelude.{pos, ◌≤ℤ◌, nat_lt, nat_le, unsigned_abs}
 use Rattle.std.specs.List.{AllByRecursion}
 use Rattle.wsm_record.specs.declared.event.Value.{Value}
 use Rattle.wsm_record.specs.declared.words.Mode.{Mode}
@@ -33,13 +33,12 @@ use Rattle.wsm_semantics.proofs.Totals.{at_most_later, each_of, total-where}
 use Rattle.wsm_bytecode.specs.declared.instr.SectionId.TheVariants.{Fire}
 use Rattle.wsm_bytecode.specs.Program.{Program, is_program}
 use Rattle.wsm_verifier.specs.declared.costs.Costs.{Costs}
-use Rattle.wsm_verifier.specs.Rules.{judge, values_folded, update_visits}
+use Rattle.wsm_verifier.specs.Rules.{judge}
 use Rattle.wsm_verifier.proofs.Lawful as lawful_programs
 use Rattle.wsm_machine.specs.InRange.{in_range}
 use Rattle.wsm_machine.specs.Meaning.{pane_inputs, clock_of, query_of, plan_of}
 use Rattle.wsm_machine.specs.Sound.{AreFoldsOf, IsSoundEntry, AreSound, IsSoundState, IsDatumInRange}
-use Rattle.wsm_machine.proofs.Accumulating.{ValuesIn}
-use Rattle.wsm_machine.proofs.Sounding.{in_bounds, may_fire, parts_fit, both}
+use Rattle.wsm_machine.proofs.Sounding.{may_fire, parts_fit, both}
 use Rattle.wsm_machine.proofs.Holding.{sound_after_record, sound_after_watermark, sound_opened}
 
 module _ (p : Program) (costs : Costs) (judged : judge p ≡ Ok costs) (lawful : IsTrue (is_program p)) where
@@ -117,18 +116,6 @@ module _ (p : Program) (costs : Costs) (judged : judge p ≡ Ok costs) (lawful :
   count_least : (m : Mode) (n : ℕ) (h : Pane (List Value)) → h.unshown ≤ h.count → h.count ≤ n → fired_count m h ≤ n
   count_least Accumulating n h u l = l
   count_least Discarding n h u l = omega (arith, u, l)
-
-  -- what a pane may be said to hold, by its number of records
-  abbrev pub IsInBounds : Place × Pane (List Value) → Type 0
-  IsInBounds e = IfSome e.1.folded (λ held. ValuesIn (λ a. values_folded a (update_visits p)) 0 (fired_count p.header.mode e.1) p.header.kinds held)
-
-  pane_in_bounds : (n : ℕ) (o : Option (List Value)) → AreFoldsOf p n o → IfSome o (λ held. ValuesIn (λ a. values_folded a (update_visits p)) 0 n p.header.kinds held)
-  pane_in_bounds n None f = tt
-  pane_in_bounds n (Some held) f = in_bounds p n held f
-
-  -- each accumulator of each pane lies in the bounds for the number of records that its next firing is computed over
-  pub all_in_bounds : (n : ℕ) (panes : List (Place × Pane (List Value))) → AreSound p n panes → AllByRecursion IsInBounds panes
-  all_in_bounds n panes h = all-each (IsSoundEntry p) IsInBounds panes (λ e f. pane_in_bounds (fired_count p.header.mode e.1) e.1.folded f.pane.folds) h.each
 
   -- FIRE may read what a pane holds
   abbrev pub CanFire : Place × Pane (List Value) → Type 0

@@ -17,14 +17,14 @@ use Rattle.wsm_semantics.specs.Summaries.{with_folded, joined_folds}
 use Rattle.wsm_bytecode.specs.declared.instr.SectionId.TheVariants.{Update, Fire}
 use Rattle.wsm_bytecode.specs.Program.{Program, is_program}
 use Rattle.wsm_verifier.specs.declared.costs.Costs.{Costs}
-use Rattle.wsm_verifier.specs.Rules.{judge, values_folded, update_visits}
+use Rattle.wsm_verifier.specs.Rules.{judge}
 use Rattle.wsm_machine.specs.InRange.{in_range, is_word, are_folded_in}
 use Rattle.wsm_machine.specs.Meaning.{record_inputs, pane_inputs, update_run, updated, plan_of}
 use Rattle.wsm_machine.specs.Sound.{AreFolds, AreFoldsOf, IsDatumInRange}
-use Rattle.wsm_machine.proofs.Accumulating.{ValuesIn, accs_of_rows}
+use Rattle.wsm_machine.proofs.Accumulating.{accs_of_rows}
 use Rattle.wsm_machine.proofs.Completing.{completes}
 use Rattle.wsm_machine.proofs.Leaving.{folds, values_are}
-use Rattle.wsm_machine.proofs.Summing.{folded_rows, sums_fit}
+use Rattle.wsm_machine.proofs.Summing.{sums_fit}
 use Rattle.wsm_machine.proofs.Words.{updated_words, folds_words}
 
 pub both : (a b : Bool) → a ≡ true → b ≡ true → (a && b) ≡ true
@@ -58,10 +58,6 @@ module _ (p : Program) where
       at_least (row ∷ rows) e h = omega (arith, e)
 
   -- ---- ranges
-
-  -- each accumulator lies in the bounds for so many records
-  pub in_bounds : (n : ℕ) (held : List Value) → AreFolds p n held → ValuesIn (λ a. values_folded a (update_visits p)) 0 n p.header.kinds held
-  in_bounds n held f = subst (λ k. ValuesIn (λ a. values_folded a (update_visits p)) 0 k p.header.kinds held) f.count (folded_rows p f.rows held f.folded f.folds)
 
   few : (n : ℕ) (rows : List (List Value)) → length rows ≡ n → pos n ≤ℤ p.header.records → pos (length rows) ≤ℤ p.header.records
   few n rows e h = subst (λ k. pos k ≤ℤ p.header.records) (sym e) h

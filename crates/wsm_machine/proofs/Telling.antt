@@ -1,19 +1,16 @@
 -- What the code's answers come to: runs that ended tell the query's selection, what is folded and the
 -- row; and what a turn costs by the panes that are held is what it costs by the history.
-use Rattle.std.proofs.Common.{◌≡◌, ℕ, suc, ◌+◌, ◌*◌, ◌≤◌, Bool, true, false, ◌&&◌, cond, List, [], ◌∷◌, map, reverse, length, ℤ, Option, Some, None, Ok, IsTrue, refl, sym, ap, subst, ◌∙◌, arith}
+use Rattle.std.proofs.Common.{◌≡◌, ℕ, ◌+◌, ◌*◌, ◌≤◌, Bool, true, false, ◌&&◌, cond, List, [], ◌∷◌, map, reverse, length, ℤ, Some, None, Ok, IsTrue, refl, sym, ap, subst, ◌∙◌, arith}
 use Rattle.std.proofs.lemmas.Int.{ints}
 use Rattle.std.proofs.lemmas.List.{reverse-reverse}
 use Rattle.std.specs.Prelude.{pos, ◌≤ℤ◌, filter, nat_lt}
 use Rattle.wsm_record.specs.declared.event.Value.{Value}
-use Rattle.wsm_record.specs.declared.words.Kind.{Kind}
 use Rattle.wsm_record.specs.declared.words.Mode.{Mode}
 use Rattle.wsm_record.specs.declared.words.Mode.TheVariants.{Discarding, Accumulating}
 use Rattle.wsm_record.specs.Event.{Event, Record}
 use Rattle.wsm_windows.specs.declared.window.Shape.{Shape}
 use Rattle.wsm_windows.specs.declared.window.Shape.TheVariants.{Fixed, Sliding, Session}
 use Rattle.wsm_windows.specs.Windows.{windows_of_shape}
-use Rattle.wsm_interval.specs.declared.Interval.{Interval}
-use Rattle.wsm_fold.specs.Fold.{are_of_kinds, is_of_kind}
 use Rattle.wsm_fold.specs.Accumulators.{SumsFit}
 use Rattle.wsm_semantics.specs.declared.place.Place.{Place}
 use Rattle.wsm_semantics.specs.Query.{Query, Datum, is_taken, selected}
@@ -31,10 +28,8 @@ use Rattle.wsm_machine.specs.declared.cell.Cell.{Cell}
 use Rattle.wsm_machine.specs.declared.cell.Cell.TheVariants as cells
 use Rattle.wsm_machine.specs.declared.outcome.Outcome.TheVariants.{Done}
 use Rattle.wsm_machine.specs.Step.{value_of}
-use Rattle.wsm_machine.specs.InRange.{are_values_in, is_number_in, are_folded_in}
 use Rattle.wsm_machine.specs.Meaning.{where_run, update_run, fire_run, is_done, top_is_true, values_below, selects, updated, row, query_of, plan_of, record_steps, joins_two, joins_held, joins_kept, CountsSessions, record_cost, record_cost_by, fire_steps, pane_cost, pane_cost_by}
 use Rattle.wsm_machine.specs.Sound.{AreFoldsOf, IsSoundPane, IsDatumInRange}
-use Rattle.wsm_machine.proofs.Fitting.{and_is}
 use Rattle.wsm_machine.proofs.Leaving.{values_are}
 use Rattle.wsm_machine.proofs.Meaning.{folded_is}
 use Rattle.wsm_machine.proofs.Sounding.{record_fits}
@@ -56,21 +51,6 @@ module _ (p : Program) (key : ℕ) where
   row_is n held b columns done left =
       (λ i. cond (is_done (done i) && top_is_true (left i)) (Some (values_below (left i))) None)
       ∙ ap (λ (cs : List Cell). cond b (Some (map value_of cs)) None) (reverse-reverse columns)
-
--- what is folded has the accumulators' types
-types_of : (o : ℕ → Option Interval) (a : ℕ) (ks : List Kind) (vs : List Value) → are_values_in o a ks vs ≡ true → are_of_kinds ks vs ≡ true
-types_of o a [] [] h = refl
-types_of o a [] (v ∷ vs) h = h
-types_of o a (k ∷ ks) [] h = h
-types_of o a (k ∷ ks) (v ∷ vs) h =
-    let b = and_is (is_of_kind k v && is_number_in (o a) v) _ h in
-    λ i. (and_is (is_of_kind k v) (is_number_in (o a) v) b.0).0 i && types_of o (a + 1) ks vs (next o a ks vs b.1) i
-  where
-    next : (o : ℕ → Option Interval) (a : ℕ) (ks : List Kind) (vs : List Value) → are_values_in o (suc a) ks vs ≡ true → are_values_in o (a + 1) ks vs ≡ true
-    next o a ks vs h = subst (λ n. are_values_in o n ks vs ≡ true) (omega arith) h
-
-pub folded_types : (p : Program) (vs : List Value) → IsTrue (are_folded_in p vs) → IsTrue (are_of_kinds p.header.kinds vs)
-folded_types p vs h = types_of _ 0 p.header.kinds vs h
 
 -- a record is folded into a sound pane in 64 bits, where it has fewer records than the program allows
 pub pane_fits : (p : Program) (costs : Costs) → judge p ≡ Ok costs → IsTrue (is_program p) → (d : Datum) → IsDatumInRange p d → (n : ℕ) (h : Pane (List Value)) (held : List Value) →

@@ -53,9 +53,6 @@ module _ {P : Type 0} where
   pub pane_here : (q : Place) (v : P) → pane_of q (Some (q, v)) ≡ Some v
   pane_here q v = rw (tied_place q q refl) refl
 
-  pub pane_there : (q : Place) (e : Place × P) → e.0 ≢ q → pane_of q (Some e) ≡ None
-  pane_there q e other = rw (apart_place q e.0 (λ same. other (sym same))) refl
-
   -- a slot that tells a pane has the entry
   pub entry_of : (q : Place) (o : Option (Place × P)) (v : P) → pane_of q o ≡ Some v → o ≡ Some (q, v)
   entry_of q None v h = cc
@@ -274,11 +271,6 @@ module _ {P : Type 0} where
   free_push [] free (suc i) x at = free i x at
   free_push (o ∷ os) free zero x at = free 0 x at
   free_push (o ∷ os) free (suc i) x at = free_push os (λ j. free (suc j)) i x at
-
-  -- what a slot with an entry of a window has
-  pub started : (start : ℤ) (o : Option (Place × P)) → starts_at start o ≡ true → (e : Place × P) × (o ≡ Some e) × (e.0.start ≡ start)
-  started start None h = let bad : false ≡ true = h in absurd (cc)
-  started start (Some e) h = (e, refl, (Decides-int_eq e.0.start start).0 h)
 
   pub not_started : (start : ℤ) (o : Option (Place × P)) (e : Place × P) → starts_at start o ≡ false → o ≡ Some e → e.0.start ≢ start
   not_started start o e h is same =

@@ -44,17 +44,10 @@ slot_within r p is of = omega (arith, row_within r p.start is, of.key)
 on_grid_pos : (s : ℤ) (p : ℕ) → 0 < p → int_rem_euclid s (pos p) ≡ pos 0 → s ≡ int_div_euclid s (pos p) *ℤ pos p
 on_grid_pos s p h rem = quot_rem s p h ∙ rw rem (omega (arith, ints))
 
-rem_pos : (s : ℤ) (p : ℕ) → 0 < p → s ≡ int_div_euclid s (pos p) *ℤ pos p → int_rem_euclid s (pos p) ≡ pos 0
-rem_pos s p h is = let all = quot_rem s p h in omega (arith, ints)
-
 -- a time is on the grid where nothing remains
 pub on_grid : (s p : ℤ) → pos 1 ≤ℤ p → int_rem_euclid s p ≡ pos 0 → s ≡ int_div_euclid s p *ℤ p
 on_grid s (pos p) h rem = on_grid_pos s p (omega (arith, ints)) rem
 on_grid s (negsuc p) h rem = absurd (omega (arith, ints))
-
-pub rem_on_grid : (s p : ℤ) → pos 1 ≤ℤ p → s ≡ int_div_euclid s p *ℤ p → int_rem_euclid s p ≡ pos 0
-rem_on_grid s (pos p) h is = rem_pos s p (omega (arith, ints)) is
-rem_on_grid s (negsuc p) h is = absurd (omega (arith, ints))
 
 int_less : (x y : ℤ) → x <ℤ y → int_cmp x y ≡ Less
 int_less x y h = grind (arith, ints)

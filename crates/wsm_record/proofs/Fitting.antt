@@ -1,6 +1,6 @@
 -- Values against the types of their fields, one field after the other.
 use Rattle.std.proofs.Common.{◌≡◌, ◌≢◌, ◌∙◌, ◌<◌, ◌+◌, ◌&&◌, ℕ, suc, Bool, true, false, List, [], ◌∷◌, length, drop, get_or, ap, ap₂, sym, refl, add-one}
-use Rattle.std.proofs.Math.Seq.{drop-cons, drop-length}
+use Rattle.std.proofs.Math.Seq.{drop-cons}
 use Rattle.wsm_record.specs.declared.event.Value.{Value}
 use Rattle.wsm_record.specs.Schema.{DeclaredField, fits_type, fit_fields}
 
@@ -10,10 +10,6 @@ pub fit_fields-next : (ds : List DeclaredField) (vs : List Value) (i : ℕ) (d :
 fit_fields-next ds vs i d other h k e =
     ap₂ fit_fields (drop-cons ds i d h ∙ ap (λ x. x ∷ drop (suc i) ds) (sym e)) (drop-cons vs i other k)
     ∙ ap (λ (n : ℕ). fits_type d.type (get_or vs i other) && fit_fields (drop n ds) (drop n vs)) (sym (add-one i))
-
-pub fit_fields-end : (ds : List DeclaredField) (vs : List Value) (i : ℕ) → length ds ≡ length vs → i ≡ length ds → fit_fields (drop i ds) (drop i vs) ≡ true
-fit_fields-end ds vs i e h =
-    ap₂ fit_fields (ap (λ n. drop n ds) h ∙ drop-length ds) (ap (λ n. drop n vs) (h ∙ e) ∙ drop-length vs)
 
 -- as many values as fields are asked for
 pub fit_fields-lengths : (ds : List DeclaredField) (vs : List Value) → length ds ≢ length vs → fit_fields ds vs ≡ false

@@ -4,7 +4,7 @@ use Rattle.std.specs.Prelude.{Some, slice_get, bytes_eq}
 use Rattle.wsm_record.specs.Name.{is_among, repeats_after}
 use Rattle.std.proofs.lemmas.List.{length-map, take_more}
 use Rattle.std.proofs.Math.Seq.{drop-cons}
-use Rattle.std.proofs.lemmas.List.Folds.{list_any_at, list_any-append}
+use Rattle.std.proofs.lemmas.List.Folds.{list_any-append}
 use Rattle.std.proofs.lemmas.Slice.Eq.{bytes_eq-Decides}
 use Rattle.std.proofs.lemmas.Bool.{lt-ltb}
 use Rattle.std.specs.List.{list_any, prefix_len}
@@ -38,14 +38,6 @@ not-false a false e h = sym h ∙ e
 pub not-true : (a b : Bool) → a ≡ not b → a ≡ true → b ≡ false
 not-true a true e h = sym h ∙ e
 not-true a false e h = refl
-
--- a test that no element passes fails at each place
-pub list_any_none_at : {X : Type 0} (p : X → Bool) (xs : List X) (i : ℕ) (x : X) → list_any p xs ≡ false → i < length xs → x ≡ get_or xs i x → p x ≡ false
-list_any_none_at p xs i x none h e =
-    elim (p x) as (λ b. p x ≡ b → b ≡ false) [
-      | true ↦ λ t. sym (list_any_at p xs i x h (ap p (sym e) ∙ t)) ∙ none
-      | false ↦ λ _. refl
-    ] refl
 
 or_left : (a b : Bool) → (a || b) ≡ false → a ≡ false
 or_left true b h = h

@@ -59,14 +59,6 @@ drop_past (x ∷ xs) (suc i) h = drop_past xs i (omega arith)
 pub drop-end : (bs : List (Box (List Value))) (i : ℕ) → length bs ≤ i → drop i (rows_in bs) ≡ []
 drop-end bs i h = drop_past (rows_in bs) i (omega (arith, length-rows_in bs))
 
-pub take-end : (bs : List (Box (List Value))) (i : ℕ) → i ≡ length bs → take i (rows_in bs) ≡ rows_in bs
-take-end bs i h = take_whole (rows_in bs) i (h ∙ sym (length-rows_in bs)) where
-  take_whole : (rows : List (List Value)) (i : ℕ) → i ≡ length rows → take i rows ≡ rows
-  take_whole [] zero h = refl
-  take_whole [] (suc i) h = refl
-  take_whole (x ∷ xs) zero h = absurd (omega arith)
-  take_whole (x ∷ xs) (suc i) h = ap (λ l. x ∷ l) (take_whole xs i (omega arith))
-
 abbrev pub bag : List (List Value) → ℕ → ℕ → Bag
 bag rows room columns = record { rows = rows; room = room; columns = columns }
 
