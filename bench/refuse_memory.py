@@ -1,0 +1,105 @@
+#!/usr/bin/env python3
+"""Refuses each growth of memory in turn: refuse_memory.py PROGRAM
+
+Runs the built program (`crates/wsm_cli/out/wsm_cli`) on the examples, again and again: with the first
+growth of memory refused, with the second, and so on to the last. Each run must end with status 5, with
+the one line of want of memory and a beginning of what is written otherwise; or as if nothing had been
+refused, where a vector that may not double its room takes what it needs. It wants a C compiler, for a few
+lines that stand between the program and the C library's allocator.
+"""
+import os
+import subprocess
+import sys
+import tempfile
+from pathlib import Path
+
+TOP = Path(__file__).resolve().parent.parent
+REFUSES = """
+#define _GNU_SOURCE
+#include <dlfcn.h>
+#include <errno.h>
+#include <stdio.h>
+#include <stdlib.h>
+static long growths, refused;
+static void *(*given)(size_t);
+static void *(*grown)(void *, size_t);
+__attribute__((constructor)) static void begin(void) {
+    given = dlsym(RTLD_NEXT, "malloc");
+    grown = dlsym(RTLD_NEXT, "realloc");
+    refused = atol(getenv("REFUSED"));
+}
+__attribute__((destructor)) static void end(void) {
+    long all = growths;
+    FILE *counted = fopen(getenv("COUNTED"), "w");
+    fprintf(counted, "%ld", all);
+    fclose(counted);
+}
+static int is_refused(void) {
+    if (++growths == refused) { errno = ENOMEM; return 1; }
+    return 0;
+}
+void *malloc(size_t size) { return is_refused() ? 0 : given(size); }
+void *realloc(void *old, size_t size) { return is_refused() ? 0 : grown(old, size); }
+"""
+WANT = (5, b"wsm: out of memory\n")
+
+
+class Trial:
+    def __init__(self, program, folder):
+        self.program, self.library, self.counted = program, f"{folder}/refuses.so", f"{folder}/counted"
+        subprocess.run(["cc", "-shared", "-fPIC", "-O1", "-x", "c", "-", "-o", self.library, "-ldl"], input=REFUSES.encode(), check=True)
+
+    def run(self, words, refused):
+        """The status and what was said and written, with the growth of this number refused (0: none)."""
+        around = {**os.environ, "LD_PRELOAD": self.library, "REFUSED": str(refused), "COUNTED": self.counted}
+        ran = subprocess.run([self.program, *words], capture_output=True, env=around, stdin=subprocess.DEVNULL)
+        return ran.returncode, ran.stderr, ran.stdout
+
+    def tried(self, words):
+        """How many growths a run has, after how many of them it ended for want of memory, and how many
+        were taken wrongly."""
+        whole = self.run(words, 0)
+        growths = int(Path(self.counted).read_text())
+        ended = wrong = 0
+        for refused in range(1, growths + 1):
+            status, said, written = self.run(words, refused)
+            if (status, said) == WANT and whole[2].startswith(written):
+                ended += 1
+            elif (status, said, written) != whole:
+                print(f"wrong: {' '.join(words)}: growth {refused}: status {status}, {said!r}, {len(written)} bytes")
+                wrong += 1
+        return growths, ended, wrong
+
+
+def main():
+    if len(sys.argv) != 2:
+        sys.exit(__doc__)
+    with tempfile.TemporaryDirectory() as folder:
+        trial = Trial(str(Path(sys.argv[1]).resolve()), folder)
+        program, out = f"{folder}/program", f"{folder}/out"
+        most, cases, ends, wrong = 0, 0, 0, 0
+        for query in sorted(TOP.glob("examples/*/*.wsm")):
+            rows = next(query.parent.glob("*.csv"))
+            subprocess.run([trial.program, "compile", query, program], check=True)
+            jobs = {
+                "run": ["run", str(query), str(rows)],
+                "run --program": ["run", "--program", program, str(rows)],
+                "compile": ["compile", str(query), out],
+                "verify": ["verify", program],
+                "explain": ["explain", program],
+            }
+            told = []
+            for name, words in jobs.items():
+                growths, ended, missed = trial.tried(words)
+                told.append(f"{name} {growths}")
+                most, cases, ends, wrong = max(most, growths), cases + growths, ends + ended, wrong + missed
+            print(f"{query.relative_to(TOP)}: {', '.join(told)}")
+        for words in (["help"], ["help", "run"], ["run"], ["run", "--fast", "query"], ["verify", str(TOP / "README.md")]):
+            growths, ended, missed = trial.tried(words)
+            print(f"wsm {words[0]} {growths}")
+            most, cases, ends, wrong = max(most, growths), cases + growths, ends + ended, wrong + missed
+        print(f"{cases} growths refused, at most {most} in a run: {ends} ended for want of memory, {cases - ends - wrong} did without, {wrong} wrong")
+        sys.exit(1 if wrong else 0)
+
+
+main()
