@@ -1,7 +1,6 @@
 -- Runs that end before their first row.
 use Rattle.std.proofs.Common.{◌≡◌, ℕ, true, List, [], Option, Result, Ok, Err, inl, inr, refl}
 use Rattle.std.specs.Prelude.{is_ok}
-use Rattle.wsm_engine.specs.declared.reply.Totals.{Totals}
 use Rattle.wsm_verifier.specs.declared.rejection.Rejection.{Rejection}
 use Rattle.wsm.specs.declared.end.Refusal.{Refusal}
 use Rattle.wsm.specs.declared.end.End.{End}

@@ -1,9 +1,9 @@
 -- Queries with the same lines for every input have the same runs.
-use Rattle.std.proofs.Common.{◌≡◌, ◌∙◌, ◌++◌, ◌∷◌, ℕ, List, [], length, take, Option, Ok, refl, sym, ap, subst, inl, inr, ◌⊎◌, arith, length-append}
+use Rattle.std.proofs.Common.{◌≡◌, ◌∙◌, ◌++◌, ◌∷◌, ℕ, List, [], length, take, Option, Ok, refl, sym, ap, subst, inl, inr, arith, length-append}
 use Rattle.std.proofs.Math.Seq.{take-append_seam}
 use Rattle.std.proofs.lemmas.List.{append_cancel_left}
 use Rattle.wsm_semantics.specs.Query.{Query}
-use Rattle.wsm_semantics.specs.Lines.{Row, Line, lines_so_far, end_line, all_lines}
+use Rattle.wsm_semantics.specs.Lines.{Row, lines_so_far, end_line, all_lines}
 use Rattle.wsm_semantics.specs.Text.{Names, lines_text}
 use Rattle.wsm_engine.specs.declared.reply.Totals.{Totals}
 use Rattle.wsm_csv.specs.Device.{TakesPart}
@@ -20,7 +20,7 @@ use Rattle.wsm.specs.declared.end.End.TheVariants.{Refused, Rejected, Memory, Re
 use Rattle.wsm.specs.Asked.{Asked, asked_by_program, asked_by_query}
 use Rattle.wsm.specs.Begun.{IsAcceptedQuery}
 use Rattle.wsm.specs.Judged.{text_judged}
-use Rattle.wsm.specs.Written.{Cells, Completes, BreaksOff, BreaksWithin, BreaksLast, EndsEarly, input_text, line_of, rows_of, turns_text}
+use Rattle.wsm.specs.Written.{Cells, Completes, BreaksOff, EndsEarly, input_text, rows_of, turns_text}
 use Rattle.wsm.proofs.Judging.{judged_ok}
 
 -- lists with the same last element added are the same, and so is the element

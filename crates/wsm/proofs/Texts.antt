@@ -18,7 +18,7 @@ use Rattle.wsm_engine.specs.declared.reply.Totals.{Totals}
 use Rattle.wsm.specs.declared.turns.Turns.{Turns}
 use Rattle.wsm.specs.Asked.{Asked, asked_by_program}
 use Rattle.wsm.specs.Ends.{end_of_read}
-use Rattle.wsm.specs.Written.{Cells, EndsEarly, input_text, line_of, rows_of, turns_text}
+use Rattle.wsm.specs.Written.{Cells, EndsEarly, input_text, rows_of, turns_text}
 use Rattle.wsm.specs.Turns.{Ends, Fits, Stands, Turned}
 
 pub rows_of-more : (a : Asked) (cells : List Cells) (c : Cells) → rows_of a (cells ++ c ∷ []) ≡ event_of_cells a.query.declared c ∷ rows_of a cells

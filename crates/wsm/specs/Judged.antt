@@ -1,6 +1,5 @@
 -- How the text of a query and the bytes of a program are judged.
 use Rattle.std.specs.Prelude.{◌≡◌, ℕ, List, Option, Some, None, Result, Ok, Err}
-use Rattle.wsm_tokens.specs.declared.fault.Fault.TheVariants.{Unexpected}
 use Rattle.wsm_tokens.specs.declared.fault.ParseRefusal.{ParseRefusal}
 use Rattle.wsm_tokens.specs.declared.fault.ParseRefusal.TheVariants as parsing
 use Rattle.wsm_query.specs.Tree.{Query}

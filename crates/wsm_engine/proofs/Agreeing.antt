@@ -1,5 +1,5 @@
 -- A record is put in by what UPDATE gave of it as it is by the program's plan.
-use Rattle.std.proofs.Common.{◌≡◌, ℕ, ◌+◌, List, [], ◌∷◌, ℤ, Option, Some, None, refl, sym, ap, ◌∙◌}
+use Rattle.std.proofs.Common.{◌≡◌, ℕ, ◌+◌, List, [], ◌∷◌, ℤ, Option, Some, None, refl, ap, ◌∙◌}
 use Rattle.std.specs.Int.{int_max, int_min}
 use Rattle.std.specs.FinMap.Entries.{put, find, where_key}
 use Rattle.std.specs.Prelude.{not}

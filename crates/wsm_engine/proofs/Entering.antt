@@ -1,8 +1,7 @@
 -- A selected record can be put in: there is room, and every sum stays in 64 bits.
-use Rattle.std.proofs.Common.{◌≡◌, ℕ, suc, ◌+◌, ◌*◌, ◌≤◌, ◌<◌, ◌^◌, true, false, Bool, ◌&&◌, List, [], ◌∷◌, map, length, ℤ, pos, ◌≤ℤ◌, Option, Some, None, Ok, IsTrue, refl, sym, ap, subst, ◌∙◌, arith}
+use Rattle.std.proofs.Common.{◌≡◌, ℕ, suc, ◌+◌, ◌*◌, ◌≤◌, ◌<◌, ◌^◌, true, ◌&&◌, List, [], ◌∷◌, map, length, ℤ, pos, ◌≤ℤ◌, Option, Some, None, Ok, IsTrue, refl, sym, ap, subst, ◌∙◌, arith}
 use Rattle.std.proofs.lemmas.Int.{ints}
-use Rattle.std.proofs.lemmas.Bool.{and_parts}
-use Rattle.std.proofs.lemmas.Bool.Decides.{nat_tests}
+use Rattle.std.proofs.lemmas.Bool.{and_parts, ltb-true}
 use Rattle.std.specs.Prelude.{filter, nat_eq, nat_lt, IfSome}
 use Rattle.std.specs.List.{AllByRecursion}
 use Rattle.wsm_record.specs.declared.event.Value.{Value}
@@ -12,7 +11,6 @@ use Rattle.wsm_windows.specs.declared.window.Shape.{Shape}
 use Rattle.wsm_windows.specs.declared.window.Shape.TheVariants.{Session}
 use Rattle.wsm_windows.specs.Life.{live_bound}
 use Rattle.wsm_windows.specs.Windows.{IsTime}
-use Rattle.wsm_interval.specs.declared.Interval.{Interval}
 use Rattle.wsm_interval.specs.Interval.{interval, holds}
 use Rattle.wsm_admission.proofs.Taken.{IsTaken, taken_record}
 use Rattle.wsm_fold.specs.Fold.{are_of_kinds, is_of_kind, joins}
@@ -47,7 +45,7 @@ use Rattle.wsm_machine.proofs.Holding.{joined_all_sound}
 use Rattle.wsm_machine.proofs.SoundSteps.{record_in_range, room_for_record, all_can_fire, joins_fit}
 use Rattle.wsm_machine.proofs.Telling.{pane_fits}
 use Rattle.wsm_machine.proofs.Sounding.{row_folded, may_fire}
-use Rattle.wsm_panes.specs.Held.{Held, entries_of, room_of, taking, with_entered, CanTake, IsRoomy, CanEnter}
+use Rattle.wsm_panes.specs.Held.{Held, entries_of, taking, with_entered, CanTake, IsRoomy, CanEnter}
 use Rattle.wsm_engine.proofs.Limits.{clock_within}
 use Rattle.wsm_engine.proofs.Agreeing.{entered_same}
 use Rattle.wsm_engine.proofs.Holding.{Panes, admitted, kept_panes, kept_sound, admitted_few}
@@ -95,10 +93,7 @@ module _ (p : Program) (costs : Costs) (judged : judge p ≡ Ok costs) (lawful :
   timely = a_time t facts.in_time
 
   pub declared : k < length p.header.schema.keys
-  declared = less k (length p.header.schema.keys) facts.has_key
-    where
-      less : (k keys : ℕ) → nat_lt k keys ≡ true → k < keys
-      less k keys h = grind (arith, nat_tests)
+  declared = ltb-true k (length p.header.schema.keys) facts.has_key
 
   -- ---- sums
 

@@ -1,17 +1,12 @@
 -- What a history of a verified program says of the panes that are held.
-use Rattle.std.proofs.Common.{◌≡◌, ℕ, ◌+◌, ◌≤◌, ◌<◌, ◌^◌, true, Bool, ◌&&◌, List, [], ◌∷◌, length, ℤ, pos, ◌≤ℤ◌, Option, Some, None, Ok, IsTrue, refl, sym, ap, subst, ◌∙◌, arith}
-use Rattle.std.proofs.lemmas.Int.{ints}
-use Rattle.std.specs.Prelude.{nat_lt}
-use Rattle.std.specs.List.{AllByRecursion}
+use Rattle.std.proofs.Common.{◌≡◌, ℕ, ◌≤◌, List, length, pos, ◌≤ℤ◌, Ok, IsTrue, sym, ap, subst, ◌∙◌}
 use Rattle.wsm_record.specs.declared.event.Value.{Value}
 use Rattle.wsm_record.specs.Event.{Event}
 use Rattle.wsm_admission.specs.declared.clock.Clock.{Clock}
 use Rattle.wsm_admission.specs.Clock.{admitted_count}
 use Rattle.wsm_semantics.specs.declared.place.Place.{Place}
-use Rattle.wsm_semantics.specs.Query.{Query}
-use Rattle.wsm_semantics.specs.Panes.{held}
 use Rattle.wsm_semantics.specs.HeldBounds.{most_panes}
-use Rattle.wsm_semantics.specs.Kept.{Kept, kept, kept_in}
+use Rattle.wsm_semantics.specs.Kept.{Kept, kept}
 use Rattle.wsm_semantics.specs.Summaries.{Pane, summaries, pane_of}
 use Rattle.wsm_semantics.specs.Steps.{run}
 use Rattle.wsm_semantics.proofs.Lists.{length_each}

@@ -1,5 +1,5 @@
 -- What a program's own laws say of its clock, and of how many panes it holds.
-use Rattle.std.proofs.Common.{◌≡◌, ℕ, ◌*◌, ◌≤◌, true, length, sym, subst, ◌∙◌, ℤ, pos, ◌≤ℤ◌, Ok, IsTrue, arith}
+use Rattle.std.proofs.Common.{◌≡◌, ℕ, ◌*◌, ◌≤◌, true, length, sym, subst, ◌∙◌, pos, Ok, IsTrue, arith}
 use Rattle.std.proofs.lemmas.Bool.{and_parts}
 use Rattle.std.proofs.lemmas.Int.{ints}
 use Rattle.std.proofs.lemmas.Bool.Decides.{nat_tests}
@@ -11,7 +11,7 @@ use Rattle.wsm_bytecode.specs.Program.{Header, Program, is_within, is_schema, is
 use Rattle.wsm_verifier.specs.declared.costs.Costs.{Costs}
 use Rattle.wsm_verifier.specs.Costs.{needed}
 use Rattle.wsm_verifier.specs.Rules.{judge}
-use Rattle.wsm_verifier.proofs.Lawful.{IsLawful, lawful as program_lawful}
+use Rattle.wsm_verifier.proofs.Lawful.{IsLawful, lawful as program_lawful, within}
 use Rattle.wsm_machine.specs.Meaning.{clock_of, query_of}
 use Rattle.wsm_machine.proofs.Costing.{stated}
 
@@ -27,16 +27,13 @@ budget_lawful : (h : Header) → is_header h ≡ true → is_budget h.budget ≡
 unfolding is_header
 budget_lawful h e = (and_parts (is_row h) _ (and_parts (is_firing h) _ (and_parts (is_clock h) _ (and_parts (is_schema h.schema) _ e).1).1).1).1
 
-between : (lo hi n : ℤ) → is_within lo hi n ≡ true → (lo ≤ℤ n) × (n ≤ℤ hi)
-between lo hi n h = (grind (arith, ints), grind (arith, ints))
-
 at_most : (lo hi n : ℕ) → is_between lo hi n ≡ true → n ≤ hi
 at_most lo hi n h = grind (arith, nat_tests)
 
 -- the clock of a program is within the limits of clocks
 pub clock_within : (p : Program) → IsTrue (is_program p) → IsWithinLimits (clock_of p.header)
 clock_within p whole =
-    let start = between (pos 0) latest_time p.header.start (and_parts (is_within (pos 0) latest_time p.header.start) _ (clock_lawful p.header (header_lawful p whole))).0 in
+    let start = within (pos 0) latest_time p.header.start (and_parts (is_within (pos 0) latest_time p.header.start) _ (clock_lawful p.header (header_lawful p whole))).0 in
     let is : IsLawful p.header = program_lawful p whole in
     record {
       start_from = start.0;

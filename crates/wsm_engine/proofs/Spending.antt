@@ -1,12 +1,12 @@
 -- What the turns of an accepted program come to, over every history: its runs end, and cost what is stated.
-use Rattle.std.proofs.Common.{◌≡◌, ℕ, ◌≤◌, List, [], ◌∷◌, map, length, ℤ, Option, Some, None, Ok, IsTrue, refl, sym, ap, subst, ◌∙◌}
+use Rattle.std.proofs.Common.{◌≡◌, ℕ, ◌≤◌, List, [], ◌∷◌, map, length, ℤ, Some, None, Ok, IsTrue, sym, subst, ◌∙◌}
 use Rattle.std.specs.List.{AllByRecursion}
 use Rattle.wsm_record.specs.declared.event.Value.{Value}
 use Rattle.wsm_record.specs.Event.{Event, Record}
 use Rattle.wsm_admission.specs.Clock.{admitted_count}
 use Rattle.wsm_semantics.specs.Query.{mark, verdict_on}
 use Rattle.wsm_semantics.specs.Firings.{Firing, firings}
-use Rattle.wsm_semantics.specs.Summaries.{Fired, summary_fired}
+use Rattle.wsm_semantics.specs.Summaries.{summary_fired}
 use Rattle.wsm_semantics.specs.Replay.{datum}
 use Rattle.wsm_semantics.specs.Steps as steps
 use Rattle.wsm_semantics.specs.Steps.{run, step_fires}

@@ -16,7 +16,6 @@ use Rattle.wsm_semantics.specs.declared.out_row.OutRow.{OutRow}
 use Rattle.wsm_semantics.specs.Query.{mark, verdict_on}
 use Rattle.wsm_semantics.specs.declared.place.Place.{Place}
 use Rattle.wsm_semantics.specs.Panes.{held}
-use Rattle.wsm_semantics.specs.Kept as kept
 use Rattle.wsm_semantics.specs.Firings.{firings}
 use Rattle.wsm_semantics.specs.Relation.{turn_rows, relation}
 use Rattle.wsm_semantics.specs.Summaries.{Pane, row_of, summary_fired}

@@ -9,7 +9,7 @@ use Rattle.wsm_interval.specs.Interval.{interval, holds}
 use Rattle.wsm_semantics.proofs.Assigned.{both}
 use Rattle.wsm_bytecode.specs.declared.instr.SectionId.TheVariants.{Fire}
 use Rattle.wsm_bytecode.specs.Program.{Header, Program, is_span, is_shape, is_schema, is_clock, is_firing, is_row, is_header, is_program}
-use Rattle.wsm_verifier.proofs.Lawful.{lawful}
+use Rattle.wsm_verifier.proofs.Lawful.{lawful, lawful_span}
 use Rattle.wsm_machine.specs.InRange.{in_range, accs_in}
 use Rattle.wsm_machine.specs.Meaning.{pane_inputs}
 
@@ -18,9 +18,6 @@ pub record IsLawfulFiring (h : Header) : Type 0 where
   pub late : IsSpan h.late
   pub columns : length h.columns ≤ 16
 
-span : (n : ℤ) → is_span n ≡ true → IsSpan n
-span n h = record { low = grind (arith, ints); high = grind (arith, ints) }
-
 of_header : (h : Header) → is_header h ≡ true → IsLawfulFiring h
 unfolding is_header
 of_header h e =
@@ -28,8 +25,8 @@ of_header h e =
     let spans = (both (is_shape h.shape) _ (both (is_firing h) _ behind_clock).0).1 in
     let row = (both (is_row h) _ (both (is_firing h) _ behind_clock).1).0 in
     record {
-      early = span h.early (both (is_span h.early) _ spans).0;
-      late = span h.late (both (is_span h.late) _ (both (is_span h.early) _ spans).1).0;
+      early = lawful_span h.early (both (is_span h.early) _ spans).0;
+      late = lawful_span h.late (both (is_span h.late) _ (both (is_span h.early) _ spans).1).0;
       columns = few (length h.columns) (both _ _ (both (nat_le (length h.kinds) 16) _ row).1).0;
     }
   where

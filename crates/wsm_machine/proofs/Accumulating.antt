@@ -1,10 +1,12 @@
 -- What accumulators hold of rows that UPDATE folded is in the range that FIRE reads.
-use Rattle.std.proofs.Common.{◌≡◌, ℕ, zero, suc, ◌+◌, ◌≤◌, Bool, true, false, ◌&&◌, ◌⊎◌, inl, inr, List, [], ◌∷◌, length, Option, Some, None, refl, sym, subst, ap, ◌∙◌, arith}
+use Rattle.std.proofs.Common.{◌≡◌, ℕ, zero, suc, ◌+◌, ◌≤◌, true, ◌⊎◌, inl, inr, List, [], ◌∷◌, length, Option, Some, None, refl, sym, subst, ap, ◌∙◌, arith}
 use Rattle.std.specs.Prelude.{ℤ, pos, negsuc, ◌+ℤ◌, ◌*ℤ◌, ◌≤ℤ◌, int_le, slice_get}
 use Rattle.std.specs.Int.{int_min, int_max}
 use Rattle.std.specs.List.{list_all}
 use Rattle.std.proofs.lemmas.Int.{ints}
 use Rattle.std.proofs.Math.IntN.{suc_ℤ-*ℤ, zero-*ℤ}
+use Rattle.std.proofs.lemmas.Bool.{and_from, and_parts}
+use Rattle.std.proofs.lemmas.Option.{same_Some}
 use Rattle.wsm_interval.specs.declared.Interval.{Interval}
 use Rattle.wsm_interval.specs.Interval.{interval, Holds, holds}
 use Rattle.wsm_record.specs.declared.event.Value.{Value}
@@ -16,7 +18,7 @@ use Rattle.wsm_fold.specs.Fold.{join, joins, folds_of}
 use Rattle.wsm_bytecode.specs.Program.{Program}
 use Rattle.wsm_verifier.specs.Rules.{accumulated, and_then, values_folded, update_visits, range}
 use Rattle.wsm_machine.specs.InRange.{is_number_in, is_word, is_value_in, is_acc_in, are_values_in, are_folded_in, accs_in}
-use Rattle.wsm_machine.proofs.Fitting.{no, and_is}
+use Rattle.wsm_machine.proofs.Fitting.{no}
 use Rattle.wsm_machine.proofs.Reaching.{none≢some}
 
 -- ---- multiples
@@ -107,7 +109,7 @@ le_is : (m n : ℤ) → int_le m n ≡ true → m ≤ℤ n
 le_is m n h = grind arith
 
 holds_is : (x : Interval) (n : ℤ) → holds x n ≡ true → Holds x n
-holds_is x n h = let b = and_is (int_le x.lo n) (int_le n x.hi) h in (le_is x.lo n b.0, le_is n x.hi b.1)
+holds_is x n h = let b = and_parts (int_le x.lo n) (int_le n x.hi) h in (le_is x.lo n b.0, le_is n x.hi b.1)
 
 holds_true : (x : Interval) (n : ℤ) → Holds x n → holds x n ≡ true
 holds_true x n h = rw (le_true x.lo n h.0) (le_true n x.hi h.1)
@@ -195,7 +197,7 @@ one_row o a [] [] e = tt
 one_row o a [] (v ∷ vs) e = no e
 one_row o a (k ∷ ks) [] e = no e
 one_row o a (k ∷ ks) (v ∷ vs) e =
-    let b = and_is (is_value_in (o a) k v) (are_values_in o (suc a) ks vs) e in
+    let b = and_parts (is_value_in (o a) k v) (are_values_in o (suc a) ks vs) e in
     (one_value k (o a) v b.0, one_row o (suc a) ks vs b.1)
 
 more_rows : (o : ℕ → Option Interval) (a n : ℕ) (ks : List Kind) (us ws : List Value) → ValuesIn o a 1 ks us → ValuesIn o a n ks ws → ValuesIn o a (suc n) ks (joins ks us ws)
@@ -206,9 +208,9 @@ more_rows o a n (k ∷ ks) (u ∷ us) (w ∷ ws) h g = (more_values k (o a) n u 
 
 pub rows_in : (o : ℕ → Option Interval) (ks : List Kind) (row : List Value) (rows : List (List Value)) → list_all (are_values_in o 0 ks) (row ∷ rows) ≡ true
     → ValuesIn o 0 (length (row ∷ rows)) ks (joined_to (joins ks) row (folds_of ks rows))
-rows_in o ks row [] e = one_row o 0 ks row (and_is (are_values_in o 0 ks row) true e).0
+rows_in o ks row [] e = one_row o 0 ks row (and_parts (are_values_in o 0 ks row) true e).0
 rows_in o ks row (next ∷ rows) e =
-    let b = and_is (are_values_in o 0 ks row) (list_all (are_values_in o 0 ks) (next ∷ rows)) e in
+    let b = and_parts (are_values_in o 0 ks row) (list_all (are_values_in o 0 ks) (next ∷ rows)) e in
     more_rows o 0 (length (next ∷ rows)) ks row (joined_to (joins ks) next (folds_of ks rows)) (one_row o 0 ks row b.0) (rows_in o ks next rows b.1)
 
 -- ---- as FIRE reads them
@@ -216,21 +218,17 @@ rows_in o ks row (next ∷ rows) e =
 range_at : (p : Program) (a : ℕ) (k : Kind) → slice_get p.header.kinds a ≡ Some k → range p a ≡ and_then (accumulated p.header.records k) (values_folded a (update_visits p))
 range_at p a k h = ap (and_then (λ k. and_then (accumulated p.header.records k) (values_folded a (update_visits p)))) h
 
-both : (a b : Bool) → a ≡ true → b ≡ true → (a && b) ≡ true
-both true b e f = f
-both false b e f = e
-
 accs_from : (p : Program) (m n a : ℕ) (ks : List Kind) (vs : List Value) → p.header.records ≡ pos m → 1 ≤ n → n ≤ m → ((j : ℕ) → slice_get p.header.kinds (a + j) ≡ slice_get ks j)
     → list_all is_word vs ≡ true → ValuesIn (λ b. values_folded b (update_visits p)) a n ks vs → accs_in p a ks vs ≡ true
 accs_from p m n a [] [] r f l at w h = refl
 accs_from p m n a [] (v ∷ vs) r f l at w h = absurd h
 accs_from p m n a (k ∷ ks) [] r f l at w h = absurd h
 accs_from p m n a (k ∷ ks) (v ∷ vs) r f l at w h =
-    let words = and_is (is_word v) (list_all is_word vs) w in
+    let words = and_parts (is_word v) (list_all is_word vs) w in
     let there : range p a ≡ and_then (accumulated (pos m) k) (values_folded a (update_visits p)) =
     range_at p a k (ap (slice_get p.header.kinds) (plus_none a) ∙ at 0) ∙ ap (λ z. and_then (accumulated z k) (values_folded a (update_visits p))) r in
-    both (is_acc_in (range p a) k v) (accs_in p (suc a) ks vs)
-    (both (is_value_in (range p a) k v) (is_word v)
+    and_from (is_acc_in (range p a) k v) (accs_in p (suc a) ks vs)
+    (and_from (is_value_in (range p a) k v) (is_word v)
     (subst (λ o. is_value_in o k v ≡ true) (sym there) (in_accumulated m n k (values_folded a (update_visits p)) v f l h.0)) words.0)
     (accs_from p m n (suc a) ks vs r f l (λ j. ap (slice_get p.header.kinds) (plus_more a j) ∙ at (suc j)) words.1 h.1)
   where
@@ -252,11 +250,8 @@ accs_of_rows p [] held e few is w = none≢some is
 accs_of_rows p (row ∷ rows) held e few is w =
     let records = counted p.header.records (length (row ∷ rows)) few in
     accs_from p records.0 (length (row ∷ rows)) 0 p.header.kinds held records.1 (omega arith) records.2 (λ j. ap (slice_get p.header.kinds) (from_none j)) w
-    (subst (ValuesIn (λ b. values_folded b (update_visits p)) 0 (length (row ∷ rows)) p.header.kinds) (some_is (joined_to (joins p.header.kinds) row (folds_of p.header.kinds rows)) held is)
+    (subst (ValuesIn (λ b. values_folded b (update_visits p)) 0 (length (row ∷ rows)) p.header.kinds) (same_Some (joined_to (joins p.header.kinds) row (folds_of p.header.kinds rows)) held is)
     (rows_in (λ b. values_folded b (update_visits p)) p.header.kinds row rows e))
   where
     from_none : (j : ℕ) → 0 + j ≡ j
     from_none j = omega arith
-
-    some_is : (x y : List Value) → Some x ≡ Some y → x ≡ y
-    some_is x y e = cc

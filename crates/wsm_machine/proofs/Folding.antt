@@ -1,6 +1,8 @@
 -- What a run folds lies in the hull of what its section folds.
-use Rattle.std.proofs.Common.{◌≡◌, ℕ, zero, suc, ◌+◌, Bool, true, false, ◌&&◌, cond, ◌⊎◌, inl, inr, List, [], ◌∷◌, ◌++◌, length, map, take, Option, Some, None, refl, sym, subst, ap, ◌∙◌, arith}
-use Rattle.std.specs.Prelude.{nat_eq, slice_get, slice_set, ℤ, int_le, ◌≤ℤ◌}
+use Rattle.std.proofs.Common.{◌≡◌, ℕ, zero, suc, ◌+◌, true, cond, ◌⊎◌, inl, inr, List, [], ◌∷◌, ◌++◌, length, map, take, Option, Some, None, refl, sym, subst, ap, ◌∙◌, arith}
+use Rattle.std.specs.Prelude.{slice_get, slice_set, ℤ, int_le, ◌≤ℤ◌}
+use Rattle.std.proofs.lemmas.Bool.{and_from, not-false}
+use Rattle.std.proofs.lemmas.Option.{same_Some}
 use Rattle.wsm_interval.specs.declared.Interval.{Interval}
 use Rattle.wsm_interval.specs.Interval.{Holds, holds, hull}
 use Rattle.wsm_interval.proofs.Holding.{hull_holds_left, hull_holds_right}
@@ -21,10 +23,8 @@ use Rattle.wsm_machine.specs.Fits.{Fits, FitsAll}
 use Rattle.wsm_machine.specs.InRange.{is_number_in, is_value_in, are_values_in}
 use Rattle.wsm_machine.proofs.Runs.{goes_after, length-folds}
 use Rattle.wsm_machine.proofs.Reaching.{none≢some, StepsKeep, split_all, length-visits}
-use Rattle.wsm_machine.proofs.Fitting.{no, not_false}
-
-some_is : {A : Type 0} (a b : A) → Some a ≡ Some b → a ≡ b
-some_is a b e = cc
+use Rattle.wsm_machine.proofs.Fitting.{no}
+use Rattle.wsm_semantics.proofs.Each.{itself}
 
 -- ---- the hull holds what each place folds
 
@@ -34,19 +34,16 @@ HoldsIn o n = (x : Interval) × (o ≡ Some x) × Holds x n
 hull_left : (a b : Option Interval) (n : ℤ) → HoldsIn a n → HoldsIn (hull_options a b) n
 hull_left None b n h = none≢some h.1
 hull_left (Some x) None n h = h
-hull_left (Some x) (Some y) n h = (hull x y, refl, hull_holds_left x y n (subst (λ z. Holds z n) (sym (some_is x h.0 h.1)) h.2))
+hull_left (Some x) (Some y) n h = (hull x y, refl, hull_holds_left x y n (subst (λ z. Holds z n) (sym (same_Some x h.0 h.1)) h.2))
 
 hull_right : (a b : Option Interval) (n : ℤ) → HoldsIn b n → HoldsIn (hull_options a b) n
 hull_right None b n h = h
 hull_right (Some x) None n h = none≢some h.1
-hull_right (Some x) (Some y) n h = (hull x y, refl, hull_holds_right x y n (subst (λ z. Holds z n) (sym (some_is y h.0 h.1)) h.2))
+hull_right (Some x) (Some y) n h = (hull x y, refl, hull_holds_right x y n (subst (λ z. Holds z n) (sym (same_Some y h.0 h.1)) h.2))
 
 folded_among : (a : ℕ) (front : List Visit) (w : Visit) (rest : List Visit) (n : ℤ) → HoldsIn (value_folded a w.instr w.label) n → HoldsIn (values_folded a (front ++ w ∷ rest)) n
 folded_among a [] w rest n h = hull_left (value_folded a w.instr w.label) (values_folded a rest) n h
 folded_among a (u ∷ front) w rest n h = hull_right (value_folded a u.instr u.label) (values_folded a (front ++ w ∷ rest)) n (folded_among a front w rest n h)
-
-same : (a : ℕ) → nat_eq a a ≡ true
-same a = grind arith
 
 int_le_true : (m n : ℤ) → m ≤ℤ n → int_le m n ≡ true
 int_le_true m n h = grind arith
@@ -85,7 +82,7 @@ folds_value All (NameOf e) c o t f h = no t
 
 got_set : (xs : List (Option Value)) (a b : ℕ) (y z : Value) → slice_get (slice_set xs b (Some y)) a ≡ Some (Some z) → ((a ≡ b) × (y ≡ z)) ⊎ (slice_get xs a ≡ Some (Some z))
 got_set [] a b y z e = none≢some e
-got_set (x ∷ xs) zero zero y z e = let same : y ≡ z = cc in inl (refl, same)
+got_set (x ∷ xs) zero zero y z e = let itself : y ≡ z = cc in inl (refl, itself)
 got_set (x ∷ xs) zero (suc b) y z e = inr e
 got_set (x ∷ xs) (suc a) zero y z e = inr e
 got_set (x ∷ xs) (suc a) (suc b) y z e = elim (got_set xs a b y z e) [ inl h ↦ inl (ap suc h.0, h.1) | inr h ↦ inr h ]
@@ -105,7 +102,7 @@ module _ (v : Rules) (e : Knows) (c : Setting) where
       let before = visits e v.ranges (take p c.code) in
       let known : label_of e (length before) before ≡ Reached s = ap (λ q. label_of e q before) (length-visits e v.ranges c.code p (Fold a) here) ∙ lab in
       let folds : value_folded a (Fold a) (label_of e (length before) before) ≡ Some y =
-      ap (value_folded a (Fold a)) known ∙ ap (λ b. cond b (last_number s.stack) None) (same a) ∙ ap last_number top in
+      ap (value_folded a (Fold a)) known ∙ ap (λ b. cond b (last_number s.stack) None) (itself a) ∙ ap last_number top in
       subst (λ vs. HoldsIn (values_folded a vs) n) (sym split.1)
       (folded_among a split.0 (visit_of e v.ranges (Fold a) before) before n (y, folds, h))
 
@@ -132,7 +129,7 @@ module _ (v : Rules) (e : Knows) (c : Setting) where
   folds_fit i m t here at goes kept = record {
     places = length-folds c m i t goes ∙ kept.places;
     values = subst (λ (n : State). (a : ℕ) (x : Value) → slice_get n.folds a ≡ Some (Some x) → is_value_in (values_folded a (visits e v.ranges c.code)) (kind_of v.kinds a) x ≡ true) (sym (goes_after c m i t goes))
-        (after_fold i m.place at.knows m.stack m.folds here at.label (not_false (types_fit v.kinds v.ends i at.knows.stack) at.passes.types) at.fits.values kept.values);
+        (after_fold i m.place at.knows m.stack m.folds here at.label (not-false (types_fit v.kinds v.ends i at.knows.stack) at.passes.types) at.fits.values kept.values);
   }
 
 -- ---- as one list
@@ -142,14 +139,10 @@ are_in o a [] [] l h = refl
 are_in o a [] (x ∷ vs) l h = absurd (omega (arith, l))
 are_in o a (k ∷ ks) [] l h = absurd (omega (arith, l))
 are_in o a (k ∷ ks) (x ∷ vs) l h =
-    both (is_value_in (o a) k x) (are_values_in o (suc a) ks vs)
+    and_from (is_value_in (o a) k x) (are_values_in o (suc a) ks vs)
     (subst (λ n. is_value_in (o n) k x ≡ true) (plus_none a) (h 0 x refl))
     (are_in o (suc a) ks vs (omega (arith, l)) (λ j y g. subst (λ n. is_value_in (o n) (kind_of ks j) y ≡ true) (plus_more a j) (h (suc j) y g)))
   where
-    both : (a b : Bool) → a ≡ true → b ≡ true → (a && b) ≡ true
-    both true b e f = f
-    both false b e f = e
-
     plus_none : (a : ℕ) → a + 0 ≡ a
     plus_none a = omega arith
 

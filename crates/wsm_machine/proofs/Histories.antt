@@ -1,6 +1,6 @@
 -- Verified programs over any history: what the accumulators of a pane hold, and how many records
 -- sessions have together.
-use Rattle.std.proofs.Common.{◌≡◌, List, [], Ok, IsTrue}
+use Rattle.std.proofs.Common.{◌≡◌, List, Ok, IsTrue}
 use Rattle.wsm_record.specs.Event.{Event}
 use Rattle.wsm_semantics.specs.Steps.{Fits, run}
 use Rattle.wsm_semantics.proofs.Steps.{Fits-run}

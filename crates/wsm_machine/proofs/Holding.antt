@@ -6,6 +6,7 @@ use Rattle.std.specs.List.{AllByRecursion}
 use Rattle.std.specs.Ordering.{eq_by_cmp}
 use Rattle.std.specs.FinMap.Entries.{put, find}
 use Rattle.std.proofs.lemmas.Bool.Decides.{nat_tests}
+use Rattle.std.proofs.lemmas.Bool.{and_parts}
 use Rattle.wsm_record.specs.declared.event.Value.{Value}
 use Rattle.wsm_record.specs.declared.words.Mode.{Mode}
 use Rattle.wsm_record.specs.declared.words.Mode.TheVariants.{Discarding, Accumulating}
@@ -30,7 +31,6 @@ use Rattle.wsm_verifier.specs.Rules.{judge}
 use Rattle.wsm_verifier.proofs.Lawful as lawful_programs
 use Rattle.wsm_machine.specs.Meaning.{query_of, plan_of}
 use Rattle.wsm_machine.specs.Sound.{AreFolds, AreFoldsOf, IsSoundPane, IsSoundEntry, AreSound, IsDatumInRange}
-use Rattle.wsm_machine.proofs.Fitting.{and_is}
 use Rattle.wsm_machine.proofs.Sounding.{folds_of_parts, row_folded, folds_with}
 
 abbrev Panes : Type 0
@@ -123,7 +123,7 @@ module _ (p : Program) where
     }
 
     pub key_declared : d.key < length p.header.schema.keys
-    key_declared = let b : nat_lt d.key (length p.header.schema.keys) ≡ true = (and_is (nat_lt d.key (length p.header.schema.keys)) (fit_fields p.header.schema.fields d.values) ranged).0 in grind (arith, nat_tests)
+    key_declared = let b : nat_lt d.key (length p.header.schema.keys) ≡ true = (and_parts (nat_lt d.key (length p.header.schema.keys)) (fit_fields p.header.schema.fields d.values) ranged).0 in grind (arith, nat_tests)
 
     pub put_sound : (r : Place) → r.key ≡ d.key → (o : Option (Pane (List Value))) → IfSome o (IsSoundPane p) → (es : Panes) → AllByRecursion (IsSoundEntry p) es
         → AllByRecursion (IsSoundEntry p) (put place_cmp r (with_record (plan_of p) d o) es)

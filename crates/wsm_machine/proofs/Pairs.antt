@@ -1,6 +1,7 @@
 -- A test of two lists, element by element, and a loop that makes it.
 use Rattle.std.proofs.Common.{◌≡◌, ◌≢◌, ◌∙◌, ◌<◌, ◌+◌, ◌&&◌, ℕ, suc, Bool, true, false, List, [], ◌∷◌, length, drop, get_or, ap, ap₂, sym, refl, add-one}
 use Rattle.std.proofs.Math.Seq.{drop-cons}
+use Rattle.std.proofs.Math.Bool.{and-false}
 
 -- two lists of one length whose elements pass a test two by two
 pub record TestsPairs {A B : Type 0} (test : A → B → Bool) (f : List A → List B → Bool) : Type 0 where
@@ -9,10 +10,6 @@ pub record TestsPairs {A B : Type 0} (test : A → B → Bool) (f : List A → L
   pub too_few : (x : A) (xs : List A) → f (x ∷ xs) [] ≡ false
   pub too_many : (y : B) (ys : List B) → f [] (y ∷ ys) ≡ false
 
-and_false : (b : Bool) → (b && false) ≡ false
-and_false true = refl
-and_false false = refl
-
 module _ {A B : Type 0} {test : A → B → Bool} {f : List A → List B → Bool} (pairs : TestsPairs test f) where
   -- of two lengths
   pub unequal : (xs : List A) (ys : List B) → length xs ≢ length ys → f xs ys ≡ false
@@ -20,7 +17,7 @@ module _ {A B : Type 0} {test : A → B → Bool} {f : List A → List B → Boo
   unequal [] (y ∷ ys) h = pairs.too_many y ys
   unequal (x ∷ xs) [] h = pairs.too_few x xs
   unequal (x ∷ xs) (y ∷ ys) h =
-      pairs.more x y xs ys ∙ ap (λ (b : Bool). test x y && b) (unequal xs ys (λ e. h (ap suc e))) ∙ and_false (test x y)
+      pairs.more x y xs ys ∙ ap (λ (b : Bool). test x y && b) (unequal xs ys (λ e. h (ap suc e))) ∙ and-false (test x y)
 
   -- the pair at i, and those after it
   pub next_pair : (xs : List A) (ys : List B) (i : ℕ) (d : A) (e : B) → i < length xs → i < length ys

@@ -5,6 +5,7 @@ use Rattle.std.proofs.lemmas.Int.{ints}
 use Rattle.std.proofs.lemmas.Bool.Decides.{nat_tests}
 use Rattle.std.specs.Prelude.{pos, ◌≤ℤ◌, nat_lt, nat_le, unsigned_abs}
 use Rattle.std.specs.List.{AllByRecursion}
+use Rattle.std.proofs.lemmas.Bool.{and_from}
 use Rattle.wsm_record.specs.declared.event.Value.{Value}
 use Rattle.wsm_record.specs.declared.words.Mode.{Mode}
 use Rattle.wsm_record.specs.declared.words.Mode.TheVariants.{Discarding, Accumulating}
@@ -38,7 +39,7 @@ use Rattle.wsm_verifier.proofs.Lawful as lawful_programs
 use Rattle.wsm_machine.specs.InRange.{in_range}
 use Rattle.wsm_machine.specs.Meaning.{pane_inputs, clock_of, query_of, plan_of}
 use Rattle.wsm_machine.specs.Sound.{AreFoldsOf, IsSoundEntry, AreSound, IsSoundState, IsDatumInRange}
-use Rattle.wsm_machine.proofs.Sounding.{may_fire, parts_fit, both}
+use Rattle.wsm_machine.proofs.Sounding.{may_fire, parts_fit}
 use Rattle.wsm_machine.proofs.Holding.{sound_after_record, sound_after_watermark, sound_opened}
 
 module _ (p : Program) (costs : Costs) (judged : judge p ≡ Ok costs) (lawful : IsTrue (is_program p)) where
@@ -47,7 +48,7 @@ module _ (p : Program) (costs : Costs) (judged : judge p ≡ Ok costs) (lawful :
       IsDatumInRange p (datum turn key time values)
   record_in_range c mark n turn key time values h =
       let taken : IsTaken c p.header.schema mark n (Some key) time values = taken_record c p.header.schema mark n (Some key) time values h in
-      both (nat_lt key (length p.header.schema.keys)) (fit_fields p.header.schema.fields values) taken.has_key taken.fits
+      and_from (nat_lt key (length p.header.schema.keys)) (fit_fields p.header.schema.fields values) taken.has_key taken.fits
 
   -- and there were fewer records than the program allows
   pub room_for_record : (mark : ℤ) (n key : ℕ) (time : ℤ) (values : List Value) → verdict_at (clock_of p.header) p.header.schema mark n (Record (Some key) time values) ≡ None → pos (n + 1) ≤ℤ p.header.records

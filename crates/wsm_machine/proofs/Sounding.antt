@@ -1,11 +1,12 @@
 -- What accumulators hold of records in range: as folds of rows, in the range that FIRE reads, and with
 -- sums that stay in 64 bits where there are at most as many records as the program allows.
-use Rattle.std.proofs.Common.{◌≡◌, ℕ, ◌+◌, ◌<◌, ◌≤◌, Bool, true, false, ◌&&◌, List, [], ◌∷◌, ◌++◌, length, Option, Some, None, IsTrue, refl, sym, subst, ◌∙◌, arith, length-append}
+use Rattle.std.proofs.Common.{◌≡◌, ℕ, ◌+◌, ◌<◌, ◌≤◌, true, List, [], ◌∷◌, ◌++◌, length, Option, Some, None, IsTrue, refl, sym, subst, ◌∙◌, arith, length-append}
 use Rattle.std.proofs.lemmas.Int.{ints}
 use Rattle.std.proofs.lemmas.List.Folds.{list_all-append}
 use Rattle.std.specs.Prelude.{pos, ◌≤ℤ◌, Ok, int_le}
 use Rattle.std.specs.List.{list_all}
 use Rattle.std.proofs.lemmas.Bool.Decides.{nat_tests}
+use Rattle.std.proofs.lemmas.Bool.{and_from}
 use Rattle.wsm_record.specs.declared.event.Value.{Value}
 use Rattle.wsm_fold.specs.Fold.{joins, folds_of}
 use Rattle.wsm_fold.specs.Accumulators.{SumsFit}
@@ -27,18 +28,14 @@ use Rattle.wsm_machine.proofs.Leaving.{folds, values_are}
 use Rattle.wsm_machine.proofs.Summing.{sums_fit}
 use Rattle.wsm_machine.proofs.Words.{updated_words, folds_words}
 
-pub both : (a b : Bool) → a ≡ true → b ≡ true → (a && b) ≡ true
-both true b e f = f
-both false b e f = e
-
 module _ (p : Program) where
   -- ---- bags
 
   folds_joined : (m n : ℕ) (xs ys : List Value) → AreFolds p m xs → AreFolds p n ys → AreFolds p (m + n) (joins p.header.kinds xs ys)
   folds_joined m n xs ys f g = record {
     rows = f.rows ++ g.rows;
-    folded = list_all-append (are_folded_in p) f.rows g.rows ∙ both _ _ f.folded g.folded;
-    words = list_all-append (list_all is_word) f.rows g.rows ∙ both _ _ f.words g.words;
+    folded = list_all-append (are_folded_in p) f.rows g.rows ∙ and_from _ _ f.folded g.folded;
+    words = list_all-append (list_all is_word) f.rows g.rows ∙ and_from _ _ f.words g.words;
     count = length-append f.rows g.rows ∙ (λ i. f.count i + g.count i);
     folds = fold_by-append (joins p.header.kinds) (joins_assoc p.header.kinds) xs ys f.rows g.rows f.folds g.folds;
   }
@@ -63,13 +60,13 @@ module _ (p : Program) where
   few n rows e h = subst (λ k. pos k ≤ℤ p.header.records) (sym e) h
 
   counted_in : (n : ℕ) → 1 ≤ n → pos n ≤ℤ p.header.records → holds (interval (pos 1) p.header.records) (pos n) ≡ true
-  counted_in n l h = both (int_le (pos 1) (pos n)) (int_le (pos n) p.header.records) (grind (arith, ints)) (grind (arith, ints))
+  counted_in n l h = and_from (int_le (pos 1) (pos n)) (int_le (pos n) p.header.records) (grind (arith, ints)) (grind (arith, ints))
 
   module _ (costs : Costs) (judged : judge p ≡ Ok costs) where
     -- FIRE may read a pane's key, its number of records and what its accumulators hold
     pub may_fire : (key n : ℕ) (held : List Value) → key < length p.header.schema.keys → AreFolds p n held → pos n ≤ℤ p.header.records → IsTrue (in_range p Fire (pane_inputs key n held))
     may_fire key n held k f h =
-        both _ _ (grind (arith, nat_tests)) (both _ _ (counted_in n (some_rows n held f) h) (accs_of_rows p f.rows held f.folded (few n f.rows f.count h) f.folds (folds_words p costs judged f.rows held f.folded f.words (few n f.rows f.count h) f.folds)))
+        and_from _ _ (grind (arith, nat_tests)) (and_from _ _ (counted_in n (some_rows n held f) h) (accs_of_rows p f.rows held f.folded (few n f.rows f.count h) f.folds (folds_words p costs judged f.rows held f.folded f.words (few n f.rows f.count h) f.folds)))
 
     -- two bags are joined in 64 bits
     pub parts_fit : (m n : ℕ) (xs ys : List Value) → AreFolds p m xs → AreFolds p n ys → pos (m + n) ≤ℤ p.header.records → SumsFit p.header.kinds xs ys
@@ -85,8 +82,8 @@ module _ (p : Program) where
           let same : updated p d.key d.values ≡ left.0 = values_are ran.folds left.0 (updated p d.key d.values) left.1 refl in
           record {
             rows = updated p d.key d.values ∷ [];
-            folded = both _ true (subst (λ vs. are_folded_in p vs ≡ true) (sym same) left.2) refl;
-            words = both _ true (updated_words p d.key d.values) refl;
+            folded = and_from _ true (subst (λ vs. are_folded_in p vs ≡ true) (sym same) left.2) refl;
+            words = and_from _ true (updated_words p d.key d.values) refl;
             count = refl;
             folds = refl;
           }

@@ -1,8 +1,9 @@
 -- An instruction of which no verifier rule holds meets no trap, and leads along an edge to a state that fits what the edge carries.
 use Rattle.std.proofs.Common.{◌≡◌, ◌∙◌, ℕ, zero, suc, ◌+◌, ◌-◌, ◌<◌, Bool, true, false, not, ◌⊎◌, inl, inr, List, [], ◌∷◌, ◌++◌, length, drop, map, Option, Some, None, refl, sym, subst, ap, arith, length-drop}
-use Rattle.std.proofs.lemmas.Bool.{true≢false}
+use Rattle.std.proofs.lemmas.Bool.{true≢false, not-false}
 use Rattle.std.proofs.lemmas.List.{map-set}
 use Rattle.std.specs.Prelude.{nat_lt, is_some, is_none, option_map, slice_index_or}
+use Rattle.std.proofs.lemmas.Option.{same_Some}
 use Rattle.wsm_record.specs.declared.event.Value.{Value}
 use Rattle.wsm_record.specs.declared.words.Kind.{Kind}
 use Rattle.wsm_bytecode.specs.declared.instr.Instr.{Instr}
@@ -18,7 +19,7 @@ use Rattle.wsm_machine.specs.declared.cell.Cell.{Cell}
 use Rattle.wsm_machine.specs.Inputs.{Inputs}
 use Rattle.wsm_machine.specs.Step.{Setting, State, setting, Goes, step, taken, after, may_stand, pops, how_many, folds_twice, has_no_room, pushed, push_on, with_fold, value_of, returns_badly}
 use Rattle.wsm_machine.specs.Fits.{FitsAll, FitsState, ReadsFit, Moves, GoesOn}
-use Rattle.wsm_machine.proofs.Fitting.{no, not_false, length_fits, drop_fits}
+use Rattle.wsm_machine.proofs.Fitting.{no, length_fits, drop_fits}
 use Rattle.wsm_machine.proofs.Giving.{FitsPushed, Gives, gives}
 use Rattle.wsm_machine.proofs.Leading.{leads_on, jumps_well}
 use Rattle.wsm_machine.proofs.Returning.{returns_well}
@@ -105,12 +106,9 @@ returned p c d i s m t f h = refl
 abbrev state_with : Instr → labels.State → List Known → labels.State
 state_with i s vs = record { stack = vs ++ drop (labels.pops i) s.stack; folded = labels.folded_after i s.folded }
 
-some_is : {A : Type 0} (a b : A) → Some a ≡ Some b → a ≡ b
-some_is a b e = cc
-
 module _ (p : Program) (c : SectionId) (r : labels.Ranges) (d : Inputs) (i : Instr) (s : labels.State) (m : State) where
   given : Passes (rules.setting p c r) m.place i s → FitsState s m → ReadsFit r d i → Gives r d p.header.kinds i s.stack m.stack
-  given h f g = gives r d p.header.kinds (rules.results p c) i s.stack m.stack (not_false _ h.types) h.divides h.has_interval g f.values
+  given h f g = gives r d p.header.kinds (rules.results p c) i s.stack m.stack (not-false _ h.types) h.divides h.has_interval g f.values
 
   tall : Passes (rules.setting p c r) m.place i s → FitsState s m → nat_lt (length m.stack) (labels.pops i) ≡ false
   tall h f = ap (λ n. nat_lt n (labels.pops i)) (length_fits s.stack m.stack f.values) ∙ h.enough
@@ -119,7 +117,7 @@ module _ (p : Program) (c : SectionId) (r : labels.Ranges) (d : Inputs) (i : Ins
   pushes h f g = record {
     computes = record {
       reads = record {
-        stands = sym (same_sections c i) ∙ not_false _ h.stands;
+        stands = sym (same_sections c i) ∙ not-false _ h.stands;
         enough = ap (nat_lt (length m.stack)) (same_pops p.header.kinds i) ∙ tall h f;
         types = g.types;
       };
@@ -145,7 +143,7 @@ module _ (p : Program) (c : SectionId) (r : labels.Ranges) (d : Inputs) (i : Ins
   -- no trap holds
   pub no_trap_holds : Passes (rules.setting p c r) m.place i s → FitsState s m → ReadsFit r d i → step (setting p c d) m i ≡ taken (setting p c d) m i
   no_trap_holds h f g =
-      no_trap (setting p c d) m i (pushes h f (given h f g)) (jumps_well (section p c) m.place i m.stack h.jumps) (returned p c d i s m (not_false _ h.types) h.all_folded f)
+      no_trap (setting p c d) m i (pushes h f (given h f g)) (jumps_well (section p c) m.place i m.stack h.jumps) (returned p c d i s m (not-false _ h.types) h.all_folded f)
 
   -- the edges of the instruction carry a state
   pub has_after : Passes (rules.setting p c r) m.place i s → (t : labels.State) × (labels.after r i s ≡ Some t)
@@ -164,7 +162,7 @@ module _ (p : Program) (c : SectionId) (r : labels.Ranges) (d : Inputs) (i : Ins
         goes = no_trap_holds h f g ∙ k;
         edge = there.edge;
         inside = there.inside;
-        fits = λ t a. subst (λ u. FitsState u (after (setting p c d) m i)) (some_is (state_with i s gv.vs) t (sym (after_is gv) ∙ a)) (after_fits h f gv);
+        fits = λ t a. subst (λ u. FitsState u (after (setting p c d) m i)) (same_Some (state_with i s gv.vs) t (sym (after_is gv) ∙ a)) (after_fits h f gv);
       }
 
   -- a return ends, and any other instruction goes on to a state that fits

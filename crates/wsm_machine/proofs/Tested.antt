@@ -1,5 +1,6 @@
 -- The tests of two lists that the code makes by a loop.
 use Rattle.std.proofs.Common.{◌≡◌, ◌&&◌, Bool, true, false, List, [], ◌∷◌, ◌++◌, refl, ap, ◌∙◌}
+use Rattle.std.proofs.Math.Bool.{and-false, and-true}
 use Rattle.wsm_fold.specs.Fold.{is_of_kind, are_of_kinds}
 use Rattle.wsm_bytecode.specs.declared.instr.CellType.{CellType}
 use Rattle.wsm_machine.specs.Inputs.{is_of_field, are_of_fields}
@@ -19,21 +20,13 @@ fields_tested = record { none = refl; more = λ x y xs ys. refl; too_few = λ x 
 pub types_tested : TestsPairs is_type are_types
 types_tested = record { none = refl; more = λ x y xs ys. refl; too_few = λ x xs. refl; too_many = λ y ys. refl }
 
-pub and_true : (a : Bool) → (a && true) ≡ a
-and_true true = refl
-and_true false = refl
-
-and_false : (a : Bool) → (a && false) ≡ false
-and_false true = refl
-and_false false = refl
-
 -- the types behind the first ones
 pub are_types-snoc : (ts us : List CellType) (t u : CellType) → are_types (ts ++ t ∷ []) (us ++ u ∷ []) ≡ (are_types ts us && is_type t u)
-are_types-snoc [] [] t u = and_true (is_type t u)
-are_types-snoc [] (v ∷ []) t u = and_false (is_type t v)
-are_types-snoc [] (v ∷ (w ∷ us)) t u = and_false (is_type t v)
-are_types-snoc (s ∷ []) [] t u = and_false (is_type s u)
-are_types-snoc (s ∷ (r ∷ ts)) [] t u = and_false (is_type s u)
+are_types-snoc [] [] t u = and-true (is_type t u)
+are_types-snoc [] (v ∷ []) t u = and-false (is_type t v)
+are_types-snoc [] (v ∷ (w ∷ us)) t u = and-false (is_type t v)
+are_types-snoc (s ∷ []) [] t u = and-false (is_type s u)
+are_types-snoc (s ∷ (r ∷ ts)) [] t u = and-false (is_type s u)
 are_types-snoc (s ∷ ts) (v ∷ us) t u = ap (λ (b : Bool). is_type s v && b) (are_types-snoc ts us t u) ∙ and_assoc' (is_type s v) (are_types ts us) (is_type t u) where
   and_assoc' : (a b c : Bool) → (a && (b && c)) ≡ ((a && b) && c)
   and_assoc' true b c = refl

@@ -16,6 +16,7 @@ use Rattle.std.proofs.lemmas.Cmp.{on_total, then_total}
 use Rattle.std.proofs.lemmas.Map.Lookups.{CmpEqualImpliesEq, exact_pairs, exact_signed, exact_unsigned}
 use Rattle.wsm_semantics.specs.declared.place.Place.{Place}
 use Rattle.wsm_panes.specs.Place.{place_cmp, before}
+use Rattle.wsm_semantics.proofs.Tables.{tie_is}
 
 -- places that compare alike are one
 pub exact_places : CmpEqualImpliesEq place_cmp
@@ -83,14 +84,8 @@ Decides-eq_place p q =
     (λ same. (ap (λ x. x.end) same, (ap (λ x. x.start) same, ap (λ x. x.key) same)))
     (Decides-and _ _ (Decides-int_eq p.end q.end) (Decides-and _ _ (Decides-int_eq p.start q.start) (Decides-eqb p.key q.key)))
 
-pub tied_place : (p q : Place) → p ≡ q → eq_by_cmp place_cmp p q ≡ true
-tied_place p q same = rw same (ap is_eq (tied_itself places_total q))
-
-pub place_tied : (p q : Place) → eq_by_cmp place_cmp p q ≡ true → p ≡ q
-place_tied p q h = exact_places p q (is_equal (place_cmp p q) h)
-
 pub apart_place : (p q : Place) → p ≢ q → eq_by_cmp place_cmp p q ≡ false
 apart_place p q other = elim (cases_Bool (eq_by_cmp place_cmp p q)) [
-  | inl tie ↦ absurd (other (place_tied p q tie))
+  | inl tie ↦ absurd (other (tie_is p q tie))
   | inr apart ↦ apart
 ]

@@ -23,8 +23,10 @@ use Rattle.wsm_semantics.specs.Replay.{datum}
 use Rattle.wsm_semantics.specs.Summaries.{Plan, Pane, assigned, with_record}
 use Rattle.wsm_semantics.proofs.ManyKeys.{length-filter}
 use Rattle.wsm_panes.specs.Held.{CanEnterWindows, CanRecord, taking}
-use Rattle.wsm_panes.proofs.Entries.{places_total, apart_place}
-use Rattle.wsm_panes.proofs.Tables.{to_T, from_T}
+use Rattle.wsm_panes.proofs.Entries.{places_total}
+use Rattle.wsm_panes.proofs.Tables.{to_T}
+use Rattle.wsm_semantics.proofs.Each.{as_true}
+use Rattle.wsm_semantics.proofs.Totals.{apart}
 
 abbrev Sorted : {X : Type 0} → List (Place × X) → Type 0
 Sorted es = is_sorted place_cmp es ≡ true
@@ -38,7 +40,7 @@ module _ {X : Type 0} where
   put_grows p v es sorted = rw (length-put place_cmp places_total p v es (to_T _ sorted)) (grown (is_some (find place_cmp p es)) (length es))
 
   pub sorted_put : (p : Place) (v : X) (es : List (Place × X)) → Sorted es → Sorted (put place_cmp p v es)
-  sorted_put p v es sorted = from_T _ (is_sorted-put place_cmp places_total p v es (to_T _ sorted))
+  sorted_put p v es sorted = as_true _ (is_sorted-put place_cmp places_total p v es (to_T _ sorted))
 
   -- where there is room for the entries with one more, it is there or there is room for it
   pub finds_or_fits : (most : ℕ) (p : Place) (v : X) (es : List (Place × X)) → Sorted es → length (put place_cmp p v es) ≤ most → (is_some (find place_cmp p es) ≡ true) ⊎ (length es < most)
@@ -49,9 +51,6 @@ module _ {X : Type 0} where
 
   find_other : (p r : Place) (v : X) (es : List (Place × X)) → eq_by_cmp place_cmp p r ≡ false → find place_cmp p (put place_cmp r v es) ≡ find place_cmp p es
   find_other p r v es other = find-put place_cmp places_total p r v es ∙ ap (λ b. cond b (Some v) (find place_cmp p es)) other
-
-other_window : (key : ℕ) (w v : Window) → w.start <ℤ v.start → eq_by_cmp place_cmp (at key v) (at key w) ≡ false
-other_window key w v less = apart_place (at key v) (at key w) (λ same. let starts : v.start ≡ w.start = ap (λ (p : Place). p.start) same in omega (arith, ints))
 
 module _ {X : Type 0} (plan : Plan X) (d : Datum) where
   assigned_grows : (ws : List Window) (es : List (Place × Pane X)) → Sorted es → length es ≤ length (assigned plan d ws es)
@@ -81,7 +80,7 @@ module _ (most : ℕ) (kinds : List Kind) (values : List Value) (key : ℕ) (tim
         → AllByRecursion (λ v. IfSome (find place_cmp (at key v) (put place_cmp (at key w) (with_record (taking kinds values) (datum 0 key time []) (find place_cmp (at key w) es)) es)) (CanRecord kinds values)) vs
     others [] later takes = tt
     others (v ∷ vs) later takes = (
-      subst (λ o. IfSome o (CanRecord kinds values)) (sym (find_other (at key v) (at key w) _ es (other_window key w v (All-head (λ v. w.start <ℤ v.start) v vs later)))) takes.0,
+      subst (λ o. IfSome o (CanRecord kinds values)) (sym (find_other (at key v) (at key w) _ es (apart key w v (All-head (λ v. w.start <ℤ v.start) v vs later)))) takes.0,
       others vs (All-tail (λ v. w.start <ℤ v.start) v vs later) takes.1,
     )
 
@@ -108,7 +107,7 @@ few_windows (Session gap) ok t = omega arith
 
 module _ (room : ℕ) (kinds : List Kind) (values : List Value) (key : ℕ) (time : ℤ) (m : FinMap place_cmp (Pane (List Value))) (w : Window) (ws : List Window) (p : Place) (is : p ≡ at key w) where
   pub room_at : CanEnterWindows room kinds values key time (w ∷ ws) (entries m) → (contains_key m p ≡ true) ⊎ (len m < room)
-  room_at can = elim (window_fits room kinds values key time w ws (entries m) (from_T _ (entries_sorted m)) can) [
+  room_at can = elim (window_fits room kinds values key time w ws (entries m) (as_true _ (entries_sorted m)) can) [
     | inl there ↦ inl (ap (λ r. is_some (get m r)) is ∙ ap is_some (get-entries m (at key w)) ∙ there)
     | inr left ↦ inr (omega (arith, left, len-entries m))
   ]

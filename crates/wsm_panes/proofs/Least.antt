@@ -10,13 +10,15 @@ use Rattle.std.specs.Ordering.{is_lt, eq_by_cmp}
 use Rattle.wsm_semantics.specs.declared.place.Place.{Place}
 use Rattle.wsm_panes.specs.Place.{place_cmp}
 use Rattle.wsm_panes.specs.Walk.{following}
-use Rattle.wsm_panes.proofs.Entries.{tied_place, place_tied, apart_place}
+use Rattle.wsm_panes.proofs.Entries.{apart_place}
 use Rattle.wsm_panes.proofs.Sorted.{lesser, first_of_and, second_of_and}
+use Rattle.wsm_semantics.proofs.Tables.{tie_is}
+use Rattle.wsm_semantics.proofs.Assigned.{tied}
 
 module _ {P : Type 0} where
   -- the first entry is found, and so is what a list finds behind it
   find_head : (f : Place × P) (fs : List (Place × P)) → find place_cmp f.0 (f ∷ fs) ≡ Some f.1
-  find_head f fs = rw (tied_place f.0 f.0 refl) refl
+  find_head f fs = rw (tied f.0 f.0 refl) refl
 
   find_more : (q : Place) (f : Place × P) (fs : List (Place × P)) → find place_cmp q fs ≢ None → find place_cmp q (f ∷ fs) ≢ None
   find_more q f fs some none = elim (cases_Bool (eq_by_cmp place_cmp q f.0)) [
@@ -27,7 +29,7 @@ module _ {P : Type 0} where
   above_head : (x q : Place) (fs : List (Place × P)) → T (below_all place_cmp x fs) → find place_cmp q fs ≢ None → place_cmp x q ≡ Less
   above_head x q [] below some = absurd (some refl)
   above_head x q (f ∷ fs) below some = elim (cases_Bool (eq_by_cmp place_cmp q f.0)) [
-    | inl tie ↦ rw (place_tied q f.0 tie) (lesser (place_cmp x f.0) (first_of_and (is_lt (place_cmp x f.0)) _ below))
+    | inl tie ↦ rw (tie_is q f.0 tie) (lesser (place_cmp x f.0) (first_of_and (is_lt (place_cmp x f.0)) _ below))
     | inr apart ↦ above_head x q fs (second_of_and (is_lt (place_cmp x f.0)) _ below) (λ none. some (rw apart none))
   ]
 
@@ -39,7 +41,7 @@ module _ {P : Type 0} where
   head_is e f fs below at no_less = elim (cases_Bool (eq_by_cmp place_cmp e.0 f.0)) [
     | inl tie ↦
         let value : f.1 ≡ e.1 = same_Some _ _ (rw tie at at) in
-        let place : e.0 ≡ f.0 = place_tied e.0 f.0 tie in
+        let place : e.0 ≡ f.0 = tie_is e.0 f.0 tie in
         λ i. Some (sym place i, value i)
     | inr apart ↦ absurd (no_less (above_head f.0 e.0 fs below (some_there _ e.1 (rw apart at at))))
   ]

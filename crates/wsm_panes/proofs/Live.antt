@@ -14,7 +14,8 @@ use Rattle.wsm_semantics.specs.Panes.{window_of}
 use Rattle.wsm_panes.specs.declared.ring.Ring.{Ring}
 use Rattle.wsm_panes.specs.Place.{place_cmp}
 use Rattle.wsm_panes.specs.Ring.{IsRing, IsOfRing, RingAdmits, window_number, slot_of}
-use Rattle.wsm_panes.proofs.Rings.{quot_rem, rem_within, next_on_grid, times_more}
+use Rattle.wsm_panes.proofs.Rings.{quot_rem, next_on_grid}
+use Rattle.wsm_windows.proofs.Multiples.{rem_below, times_more}
 
 -- two numbers that leave one remainder and are less than the divisor apart are one
 rem_apart : (b : ℕ) (m n : ℤ) → 0 < b → int_rem_euclid m (pos b) ≡ int_rem_euclid n (pos b) → m ≤ℤ n → n <ℤ (m +ℤ pos b) → m ≡ n
@@ -81,8 +82,8 @@ one_start_z (negsuc p) b m n v w h k e f same le near = absurd (omega (arith, in
 -- places of one slot have one key, and numbers that leave one remainder
 one_slot : (r : Ring) (v w : Place) → IsRing r → IsOfRing r v → IsOfRing r w → slot_of r v ≡ slot_of r w → (int_rem_euclid (window_number r v.start) (pos r.bound) ≡ int_rem_euclid (window_number r w.start) (pos r.bound)) × (v.key ≡ w.key)
 one_slot r v w is a b same =
-    let m = rem_within (window_number r v.start) r.bound (omega (arith, is.bound)) in
-    let n = rem_within (window_number r w.start) r.bound (omega (arith, is.bound)) in
+    let m = rem_below (window_number r v.start) r.bound (omega (arith, is.bound)) in
+    let n = rem_below (window_number r w.start) r.bound (omega (arith, is.bound)) in
     let place : m.0 * r.keys + v.key ≡ n.0 * r.keys + w.key = rw (m.1, n.1) at same in
     let parts = same_from_place m.0 v.key n.0 w.key r.keys a.key b.key place in
     (m.1 ∙ ap pos parts.0 ∙ sym n.1, parts.1)

@@ -1,6 +1,6 @@
 -- A record put into its session: which panes are held then, and which windows each key has.
 use Rattle.std.proofs.Common.{◌≡◌, ◌<◌, ◌≤◌, ◌+◌, ℕ, suc, true, false, List, [], ◌∷◌, map, length, length-append, ◌⊎◌, ◌||◌, ℤ, pos, ◌+ℤ◌, ◌≤ℤ◌, Option, refl, sym, ap, subst, ◌∙◌, inl, inr, arith}
-use Rattle.std.proofs.lemmas.Bool.{or_left, or_right, cases_Bool}
+use Rattle.std.proofs.lemmas.Bool.{or_left, or_right, cases_Bool, lt-ltb}
 use Rattle.std.proofs.lemmas.Bool.Decides.{nat_tests}
 use Rattle.std.specs.Prelude.{not, filter, nat_eq, nat_lt}
 use Rattle.std.specs.List.{list_any}
@@ -17,12 +17,12 @@ use Rattle.wsm_semantics.specs.Replay.{datum}
 use Rattle.wsm_semantics.specs.Sessions.{links, ends_by, starts_from, session_of, sessions, with_session}
 use Rattle.wsm_semantics.specs.Summaries.{Pane, Plan, joined_all, linked, merged_session, session_with, with_record}
 use Rattle.wsm_semantics.proofs.Lists.{filter_same, length_each, none_pass}
-use Rattle.wsm_semantics.proofs.Each.{map-map}
+use Rattle.wsm_semantics.proofs.Each.{map-map, as_true}
 use Rattle.wsm_semantics.proofs.Sessions.{AreApart, sessions-more, sessions_apart}
 use Rattle.wsm_semantics.proofs.SessionOrder.{begins}
 use Rattle.wsm_panes.specs.Held.{windows_of_key}
 use Rattle.wsm_panes.proofs.Entries.{places_total}
-use Rattle.wsm_panes.proofs.Tables.{from_T, entries_kept}
+use Rattle.wsm_panes.proofs.Tables.{entries_kept}
 use Rattle.wsm_panes.proofs.InTurn.{finds_or_fits}
 use Rattle.wsm_panes.proofs.Parts.{entered_windows, linked_places, other_windows, put_other, session_is}
 
@@ -62,7 +62,7 @@ module _ {X : Type 0} (plan : Plan X) (gap : ℤ) (key : ℕ) (t : ℤ) (m : Fin
     merged_is = entries-insert places_total left p v ∙ put_is_merged
 
     pub merged_fits : (most : ℕ) → length (merged_session plan gap it (entries m)) ≤ most → (contains_key left p ≡ true) ⊎ (len left < most)
-    merged_fits most fits = elim (finds_or_fits most p v (entries left) (from_T _ (entries_sorted left)) (subst (λ es. length es ≤ most) (sym put_is_merged) fits)) [
+    merged_fits most fits = elim (finds_or_fits most p v (entries left) (as_true _ (entries_sorted left)) (subst (λ es. length es ≤ most) (sym put_is_merged) fits)) [
       | inl there ↦ inl (ap is_some (get-entries left p) ∙ there)
       | inr less ↦ inr (omega (arith, less, len-entries left))
     ]
@@ -88,7 +88,7 @@ module _ {X : Type 0} (plan : Plan X) (gap : ℤ) (key : ℕ) (t : ℤ) (m : Fin
         let v = with_record plan it (joined_all plan (linked gap it (entries m))) in
         let rest = where_key place_cmp (λ p. not (is_linked gap it p)) (entries m) in
         ap (λ p. windows_of_key key (put place_cmp p v rest)) (session_place ∙ ap (λ us. at key (session_of gap t (filter (links gap t) us))) (sym agree))
-        ∙ entered_windows gap long it v (entries m) (from_T _ (entries_sorted m)) (subst (AreApart gap) (sym agree) apart_now) (subst (λ us. AreApart gap (with_session gap t us)) (sym agree) apart_then)
+        ∙ entered_windows gap long it v (entries m) (as_true _ (entries_sorted m)) (subst (AreApart gap) (sym agree) apart_now) (subst (λ us. AreApart gap (with_session gap t us)) (sym agree) apart_then)
         ∙ ap (with_session gap t) agree
 
     -- where there is room for the key's sessions with the record, there was before, or it is linked to one
@@ -104,10 +104,7 @@ module _ {X : Type 0} (plan : Plan X) (gap : ℤ) (key : ℕ) (t : ℤ) (m : Fin
           let counted : length (windows_of_key key (merged_session plan gap it (entries m))) ≡ length (with_session gap t ws) = ap length merged_windows in
           let same : length (windows_of_key key (merged_session plan gap it (entries m))) ≡ length (filter (λ e. nat_eq e.0.key key) (merged_session plan gap it (entries m))) =
           length_each (λ e. window_of e.0) (filter (λ e. nat_eq key e.0.key) (merged_session plan gap it (entries m))) ∙ ap length (filter_same (λ e. nat_eq key e.0.key) (λ e. nat_eq e.0.key key) (λ e. either key e.0.key) (merged_session plan gap it (entries m))) in
-          or_left _ (list_any (links gap t) ws) (is_below (length ws) most (omega (arith, live, before, after, counted, same)))
+          or_left _ (list_any (links gap t) ws) (lt-ltb (length ws) most (omega (arith, live, before, after, counted, same)))
     ] where
       either : (j k : ℕ) → nat_eq j k ≡ nat_eq k j
       either j k = grind (arith, nat_tests)
-
-      is_below : (a b : ℕ) → a < b → nat_lt a b ≡ true
-      is_below a b h = grind (arith, nat_tests)

@@ -16,12 +16,13 @@ use Rattle.wsm_semantics.specs.Kept.{is_linked}
 use Rattle.wsm_semantics.specs.Sessions.{links, ends_by, starts_from, session_of, with_session}
 use Rattle.wsm_semantics.specs.Summaries.{Pane, session_with}
 use Rattle.wsm_semantics.proofs.Lists.{all-each}
-use Rattle.wsm_semantics.proofs.Each.{passed, same_key, none_of, all_of, filter-append}
+use Rattle.wsm_semantics.proofs.Each.{passed, same_key, none_of, all_of, filter-append, itself as same_number, as_true}
 use Rattle.wsm_semantics.proofs.Sessions.{AreApart, StartFrom}
 use Rattle.wsm_semantics.proofs.SessionOrder.{in_order}
 use Rattle.wsm_panes.specs.Held.{windows_of_key}
-use Rattle.wsm_panes.proofs.Entries.{places_total, exact_places, place_tied}
-use Rattle.wsm_panes.proofs.Tables.{to_T, from_T, alike}
+use Rattle.wsm_panes.proofs.Entries.{places_total, exact_places}
+use Rattle.wsm_panes.proofs.Tables.{to_T, alike}
+use Rattle.wsm_semantics.proofs.Tables.{tie_is}
 
 -- ---- the panes that a record is linked to
 
@@ -169,7 +170,7 @@ put_passes test p v passes es sorted =
   where
     swapped : (q : Place) (b : Bool) → eq_by_cmp place_cmp q p ≡ b → cond (test q) (cond (eq_by_cmp place_cmp q p) (Some v) (find place_cmp q es)) None ≡ cond (eq_by_cmp place_cmp q p) (Some v) (cond (test q) (find place_cmp q es) None)
     swapped q true h =
-        let here : test q ≡ true = ap test (place_tied q p h) ∙ passes in
+        let here : test q ≡ true = ap test (tie_is q p h) ∙ passes in
         (λ i. cond (here i) (cond (h i) (Some v) (find place_cmp q es)) None) ∙ sym (ap (λ b. cond b (Some v) (cond (test q) (find place_cmp q es) None)) h)
     swapped q false h = ap (λ b. cond (test q) (cond b (Some v) (find place_cmp q es)) None) h ∙ sym (ap (λ b. cond b (Some v) (cond (test q) (find place_cmp q es) None)) h)
 
@@ -206,12 +207,9 @@ entered_windows {X = X} gap long d v es sorted apart after =
     let ws = windows_of_key d.key es in
     let s : Window = session_of gap d.time (filter (links gap d.time) ws) in
     let rest = filter (λ e. not (is_linked gap d e.0)) es in
-    let left : is_sorted place_cmp rest ≡ true = from_T _ (is_sorted-where_key place_cmp (λ p. not (is_linked gap d p)) es (to_T _ sorted)) in
+    let left : is_sorted place_cmp rest ≡ true = as_true _ (is_sorted-where_key place_cmp (λ p. not (is_linked gap d p)) es (to_T _ sorted)) in
     ap (map (λ (e : Place × X). window_of e.0)) (put_passes (λ p. nat_eq d.key p.key) (at d.key s) v (same_number d.key) rest left)
     ∙ put_between gap long d.key s v (filter (ends_by d.time) ws) (filter (starts_from (d.time +ℤ gap)) ws) (filter (λ e. nat_eq d.key e.0.key) rest) (unlinked_windows gap d es ∙ apart_from gap d.time long ws apart) after
-  where
-    same_number : (n : ℕ) → nat_eq n n ≡ true
-    same_number n = grind arith
 
 -- ---- the session of a record
 

@@ -13,7 +13,9 @@ use Rattle.wsm_semantics.specs.declared.place.Place.{Place}
 use Rattle.wsm_panes.specs.declared.ring.Ring.{Ring}
 use Rattle.wsm_panes.specs.Place.{place_cmp, is_kept}
 use Rattle.wsm_panes.specs.Ring.{IsOfRing, RingAdmits, AreFree, AreInPlace, AreBetween, held, kept_slot, slot_at, slot_of, pane_of, starts_at}
-use Rattle.wsm_panes.proofs.Entries.{places_total, exact_places, tied_place, place_tied, apart_place}
+use Rattle.wsm_panes.proofs.Entries.{places_total, exact_places, apart_place}
+use Rattle.wsm_semantics.proofs.Tables.{tie_is}
+use Rattle.wsm_semantics.proofs.Assigned.{tied}
 
 abbrev pub panes_in : {P : Type 0} → List (Option (Place × P)) → FinMap place_cmp P
 panes_in os = from_entries (held os)
@@ -51,7 +53,7 @@ module _ {P : Type 0} where
   get_in r os placed q = get-from_entries places_total (held os) q ∙ find_held os q (slot_of r q) (λ j e at same. sym (placed j e at).1 ∙ ap (slot_of r) same)
 
   pub pane_here : (q : Place) (v : P) → pane_of q (Some (q, v)) ≡ Some v
-  pane_here q v = rw (tied_place q q refl) refl
+  pane_here q v = rw (tied q q refl) refl
 
   -- a slot that tells a pane has the entry
   pub entry_of : (q : Place) (o : Option (Place × P)) (v : P) → pane_of q o ≡ Some v → o ≡ Some (q, v)
@@ -59,7 +61,7 @@ module _ {P : Type 0} where
   entry_of q (Some e) v h = elim (cases_Bool (eq_by_cmp place_cmp q e.0)) [
     | inl tie ↦
         let value : Some e.1 ≡ Some v = rw tie at h in
-        let same : q ≡ e.0 = place_tied q e.0 tie in
+        let same : q ≡ e.0 = tie_is q e.0 tie in
         let pair : e.1 ≡ v = cc in
         λ i. Some (sym same i, pair i)
     | inr apart ↦ let bad : None ≡ Some v = rw apart at h in cc
@@ -120,7 +122,7 @@ module _ {P : Type 0} where
   panes_without r os p placed none =
       same_map places_total exact_places _ _ (λ q.
       elim (cases_Bool (eq_by_cmp place_cmp q p)) [
-        | inl tie ↦ ap (get (panes_in os)) (place_tied q p tie) ∙ get_in r os placed p ∙ none ∙ sym (ap (λ b. cond b None (get (panes_in os) q)) tie)
+        | inl tie ↦ ap (get (panes_in os)) (tie_is q p tie) ∙ get_in r os placed p ∙ none ∙ sym (ap (λ b. cond b None (get (panes_in os) q)) tie)
         | inr apart ↦ sym (ap (λ b. cond b None (get (panes_in os) q)) apart)
       ]
       ∙ sym (get-remove places_total (panes_in os) p q))
@@ -132,7 +134,7 @@ module _ {P : Type 0} where
   kept_step : (limit : ℤ) (q : Place) (o : Option (Place × P)) → pane_of q (kept_slot limit o) ≡ cond (is_kept limit q) (pane_of q o) None
   kept_step limit q None = sym (none_either (is_kept limit q) (pane_of q None) refl)
   kept_step limit q (Some e) = elim (cases_Bool (eq_by_cmp place_cmp q e.0)) [
-    | inl tie ↦ rw (place_tied q e.0 tie) (elim (is_kept limit e.0) as (λ b. pane_of e.0 (cond b (Some e) None) ≡ cond b (pane_of e.0 (Some e)) None) [ true ↦ refl | false ↦ refl ])
+    | inl tie ↦ rw (tie_is q e.0 tie) (elim (is_kept limit e.0) as (λ b. pane_of e.0 (cond b (Some e) None) ≡ cond b (pane_of e.0 (Some e)) None) [ true ↦ refl | false ↦ refl ])
     | inr apart ↦
         let no_pane : pane_of q (Some e) ≡ None = rw apart refl in
         pane_apart q (is_kept limit e.0) e no_pane ∙ sym (none_either (is_kept limit q) (pane_of q (Some e)) no_pane)
@@ -180,7 +182,7 @@ module _ {P : Type 0} where
   own_of r os p None at placed admits = inl refl
   own_of r os p (Some e) at placed admits = elim admits.1 [
     | inl there ↦ elim (cases_Bool (eq_by_cmp place_cmp p e.0)) [
-      | inl tie ↦ inr (e.1, ap (λ (x : Place). let f : Place × P = (x, e.1) in Some f) (sym (place_tied p e.0 tie)))
+      | inl tie ↦ inr (e.1, ap (λ (x : Place). let f : Place × P = (x, e.1) in Some f) (sym (tie_is p e.0 tie)))
       | inr apart ↦
           let none : get (panes_in os) p ≡ None = get_in r os placed p ∙ ap (pane_of p) at ∙ rw apart refl in
           let bad : false ≡ true = sym (ap is_some none) ∙ there in

@@ -13,7 +13,8 @@ use Rattle.wsm_semantics.proofs.Each.{all_of}
 use Rattle.wsm_semantics.proofs.Lists.{all-each}
 use Rattle.wsm_semantics.proofs.ManyKeys.{AreInOrder, Precedes, in_order}
 use Rattle.wsm_panes.specs.Place.{place_cmp, is_other}
-use Rattle.wsm_panes.proofs.Entries.{tied_place, place_tied}
+use Rattle.wsm_semantics.proofs.Tables.{tie_is}
+use Rattle.wsm_semantics.proofs.Assigned.{tied}
 
 below_apart : (o : Ordering) → is_lt o ≡ true → not (is_eq o) ≡ true
 below_apart Less h = refl
@@ -27,7 +28,7 @@ other_behind p r h = below_apart (place_cmp p r) h
 other_before : (p r : Place) → Precedes p r → is_other r p ≡ true
 other_before p r h =
     elim (eq_by_cmp place_cmp r p) as (λ b. eq_by_cmp place_cmp r p ≡ b → not b ≡ true) [
-      | true ↦ λ tie. absurd (true≢false (sym (other_behind p r h) ∙ ap not (tied_place p r (sym (place_tied r p tie)))))
+      | true ↦ λ tie. absurd (true≢false (sym (other_behind p r h) ∙ ap not (tied p r (sym (tie_is r p tie)))))
       | false ↦ λ apart. refl
     ] refl
 
@@ -43,7 +44,7 @@ module _ {X : Type 0} (place : Place) where
   out_at : (es : List (Place × X)) (i : ℕ) (d : Place × X) → AreInOrder es → i < length es → (get_or es i d).0 ≡ place → remove es i ≡ filter (λ e. is_other place e.0) es
   out_at [] i d order h is = absurd (omega (arith, h))
   out_at (e ∷ es) zero d order h is =
-      sym (ap (λ b. cond (not b) (e ∷ filter (λ e. is_other place e.0) es) (filter (λ e. is_other place e.0) es)) (tied_place place e.0 (sym is))
+      sym (ap (λ b. cond (not b) (e ∷ filter (λ e. is_other place e.0) es) (filter (λ e. is_other place e.0) es)) (tied place e.0 (sym is))
       ∙ all_of (λ e. is_other place e.0) es (all-each (λ f. Precedes e.0 f.0) (λ f. is_other place f.0 ≡ true) es (λ f before. other_behind place f.0 (subst (λ p. Precedes p f.0) is before)) order.0))
   out_at (e ∷ es) (suc i) d order h is =
       ap (λ fs. e ∷ fs) (out_at es i d order.1 (omega (arith, h)) is)

@@ -1,5 +1,5 @@
 -- Windows on the grid of a ring, and the order of their places.
-use Rattle.std.proofs.Common.{SFits, w64, rules, Option, Some, None, ◌≡◌, ◌⊎◌, ℕ, zero, suc, ◌+◌, ◌-◌, ◌*◌, ◌/◌, ◌%◌, ◌<◌, ◌≤◌, true, false, ℤ, pos, negsuc, ◌+ℤ◌, ◌-ℤ◌, ◌*ℤ◌, ◌<ℤ◌, ◌≤ℤ◌, refl, sym, ap, subst, ◌∙◌, inl, inr, arith}
+use Rattle.std.proofs.Common.{SFits, w64, rules, Option, Some, None, ◌≡◌, ℕ, suc, ◌+◌, ◌-◌, ◌*◌, ◌/◌, ◌%◌, ◌<◌, ◌≤◌, true, false, ℤ, pos, negsuc, ◌+ℤ◌, ◌*ℤ◌, ◌<ℤ◌, ◌≤ℤ◌, refl, sym, ap, subst, ◌∙◌, arith}
 use Rattle.std.specs.Int.{int_rem_euclid, int_div_euclid}
 use Rattle.std.specs.Bool.{Decides}
 use Rattle.std.specs.Option.{SomeIff, option_eq}
@@ -10,11 +10,13 @@ use Rattle.std.proofs.lemmas.Int.{ints}
 use Rattle.std.proofs.lemmas.Nat.{row_fits}
 use Rattle.std.proofs.lemmas.Bool.Decides.{nat_tests, Decides-like, Decides-int_eq}
 use Rattle.std.proofs.Math.Nat.{div-add-mod'}
-use Rattle.std.proofs.Math.IntN.{suc_ℤ-*ℤ, +ℤ-suc_ℤ, +ℤ_idr, negsuc-*ℤ-pos}
+use Rattle.std.proofs.Math.IntN.{negsuc-*ℤ-pos}
 use Rattle.wsm_semantics.specs.declared.place.Place.{Place}
 use Rattle.wsm_panes.specs.declared.ring.Ring.{Ring}
 use Rattle.wsm_panes.specs.Place.{place_cmp}
 use Rattle.wsm_panes.specs.Ring.{IsRing, IsOfRing, window_number, row_of, slot_of}
+use Rattle.wsm_windows.proofs.Multiples.{rem_below, times_more}
+use Rattle.wsm_windows.proofs.Bounds.{next_on_grid as next_multiple}
 
 below_zero : (a p : ℕ) → 0 < p → negsuc a ≡ negsuc (a / p) *ℤ pos p +ℤ pos (p - 1 - a % p)
 below_zero a p h =
@@ -28,14 +30,10 @@ pub quot_rem : (s : ℤ) (p : ℕ) → 0 < p → s ≡ int_div_euclid s (pos p) 
 quot_rem (pos a) p h = let whole : a / p * p + a % p ≡ a = div-add-mod' a p in omega (arith, ints)
 quot_rem (negsuc a) p h = below_zero a p h
 
-pub rem_within : (s : ℤ) (p : ℕ) → 0 < p → (k : ℕ) × (int_rem_euclid s (pos p) ≡ pos k) × (k < p)
-rem_within (pos a) p h = (a % p, refl, omega arith)
-rem_within (negsuc a) p h = (p - 1 - a % p, refl, omega arith)
-
 -- a row of slots ends within them
 pub row_within : (r : Ring) (start : ℤ) → IsRing r → row_of r start + r.keys ≤ r.bound * r.keys
 row_within r start is =
-    let rem = rem_within (window_number r start) r.bound (omega (arith, is.bound)) in
+    let rem = rem_below (window_number r start) r.bound (omega (arith, is.bound)) in
     rw rem.1 (row_fits rem.0 r.keys r.bound r.keys rem.2 (omega arith))
 
 pub slot_within : (r : Ring) (p : Place) → IsRing r → IsOfRing r p → slot_of r p < r.bound * r.keys
@@ -75,32 +73,6 @@ zero_rem (negsuc p) h = absurd (omega (arith, ints))
 
 pub zero_on_grid : (p : ℤ) → pos 1 ≤ℤ p → pos 0 ≡ int_div_euclid (pos 0) p *ℤ p
 zero_on_grid p h = on_grid (pos 0) p h (zero_rem p h)
-
-pub times_more : (q : ℤ) (m p : ℕ) → (q +ℤ pos m) *ℤ pos p ≡ q *ℤ pos p +ℤ pos (m * p)
-times_more q zero p = rw (+ℤ_idr q) (omega (arith, ints))
-times_more q (suc m) p =
-    let one_more : suc m * p ≡ m * p + p = omega arith in
-    rw (+ℤ-suc_ℤ q (pos m), suc_ℤ-*ℤ (q +ℤ pos m) (pos p), times_more q m p, one_more) (omega (arith, ints))
-
-above_by : (k l d : ℤ) → l ≡ k +ℤ d → ((j : ℕ) × (l ≡ k +ℤ pos j)) ⊎ ((j : ℕ) × (k ≡ l +ℤ pos j))
-above_by k l (pos j) e = inl (j, e)
-above_by k l (negsuc j) e = inr (suc j, omega (arith, ints))
-
-next_above : (p j : ℕ) (a b x y : ℤ) → a ≡ x → b ≡ y → y ≡ x +ℤ pos (j * p) → a <ℤ b → (a +ℤ pos p) ≤ℤ b
-next_above p zero a b x y e f g less = absurd (omega (arith, ints))
-next_above p (suc j) a b x y e f g less =
-    let one_more : suc j * p ≡ j * p + p = omega arith in
-    omega (arith, ints)
-
-never_below : (p j : ℕ) (a b x y : ℤ) → a ≡ x → b ≡ y → x ≡ y +ℤ pos (j * p) → a <ℤ b → ⊥
-never_below p j a b x y e f g less = omega (arith, ints)
-
-next_multiple : (p : ℕ) (k l a b : ℤ) → a ≡ k *ℤ pos p → b ≡ l *ℤ pos p → a <ℤ b → (a +ℤ pos p) ≤ℤ b
-next_multiple p k l a b e f less =
-    elim (above_by k l (l -ℤ k) (omega (arith, ints))) [
-      | inl up ↦ next_above p up.0 a b (k *ℤ pos p) (l *ℤ pos p) e f (ap (λ (z : ℤ). z *ℤ pos p) up.1 ∙ times_more k up.0 p) less
-      | inr up ↦ absurd (never_below p up.0 a b (k *ℤ pos p) (l *ℤ pos p) e f (ap (λ (z : ℤ). z *ℤ pos p) up.1 ∙ times_more l up.0 p) less)
-    ]
 
 -- of two times on the grid the later is a period or more behind the other
 pub next_on_grid : (p k l a b : ℤ) → pos 1 ≤ℤ p → a ≡ k *ℤ p → b ≡ l *ℤ p → a <ℤ b → (a +ℤ p) ≤ℤ b

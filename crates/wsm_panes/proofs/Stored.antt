@@ -12,7 +12,8 @@ use Rattle.wsm_panes.specs.Walk.{following}
 use Rattle.wsm_panes.specs.Stored.{listed, same, shown, uses, with_pane}
 use Rattle.wsm_panes.proofs.Entries.{places_total}
 use Rattle.wsm_panes.proofs.Sorted.{cases_Ordering, find_below, first_of_and, second_of_and}
-use Rattle.wsm_panes.proofs.Tables.{to_T, from_T}
+use Rattle.wsm_panes.proofs.Tables.{to_T}
+use Rattle.wsm_semantics.proofs.Each.{as_true}
 
 -- ---- slots
 
@@ -168,7 +169,7 @@ module _ {P : Type 0} (old new : List P) (k : ℕ) (v : P) (here : slice_get new
               let used = uses_found q k es some in
               let apart : same e.1 k ≡ 0 = omega (arith, once, used) in
               let rest : uses k es ≤ 1 = omega (arith, once) in
-              (λ i. with_pane e.0 ((others e.1 (λ is. apart_same e.1 k apart (sym is)) ∙ was.2) i) (shown_set q es h.1 (from_T _ (second_of_and (below_all place_cmp e.0 es) _ (to_T _ sorted))) some rest i))
+              (λ i. with_pane e.0 ((others e.1 (λ is. apart_same e.1 k apart (sym is)) ∙ was.2) i) (shown_set q es h.1 (as_true _ (second_of_and (below_all place_cmp e.0 es) _ (to_T _ sorted))) some rest i))
               ∙ sym (ap (put place_cmp q v) was.1 ∙ rw more refl)
         ]
       ]

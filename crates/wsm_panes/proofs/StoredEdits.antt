@@ -19,8 +19,9 @@ use Rattle.wsm_panes.specs.Place.{place_cmp, is_kept}
 use Rattle.wsm_panes.specs.Stored.{AreStored, listed, same, shown, unowned, uses}
 use Rattle.wsm_panes.proofs.Entries.{places_total}
 use Rattle.wsm_panes.proofs.Sorted.{cases_Ordering, lesser, first_of_and, second_of_and}
-use Rattle.wsm_panes.proofs.Tables.{to_T, from_T, put_sorted, kept_sorted, map_of, get_is, len_is}
+use Rattle.wsm_panes.proofs.Tables.{to_T, put_sorted, kept_sorted, map_of, get_is, len_is}
 use Rattle.wsm_panes.proofs.Stored.{AreIn, are_in, pane_in, same_self, shown_filter, shown_find, shown_length, shown_put, shown_set, shown_sorted, uses-append, uses_put}
+use Rattle.wsm_semantics.proofs.Each.{as_true}
 
 past_end : (s n : ℕ) → n ≤ s → cond {A = ℕ} (nat_lt s n) 0 1 ≡ 1
 past_end s n h = grind (arith, nat_tests)
@@ -140,7 +141,7 @@ pub kept_from : {X : Type 0} (limit : ℤ) (es : List (Place × X)) (i : ℕ) (d
 kept_from limit [] i d sorted h kept = absurd (omega (arith, h))
 kept_from limit (e ∷ es) zero d sorted h kept =
     rw kept (ap (λ fs. e ∷ fs) (all_kept_from limit e.0 es kept (first_of_and (below_all place_cmp e.0 es) _ (to_T _ sorted))))
-kept_from limit (e ∷ es) (suc i) d sorted h kept = kept_from limit es i d (from_T _ (second_of_and (below_all place_cmp e.0 es) _ (to_T _ sorted))) (omega (arith, h)) kept
+kept_from limit (e ∷ es) (suc i) d sorted h kept = kept_from limit es i d (as_true _ (second_of_and (below_all place_cmp e.0 es) _ (to_T _ sorted))) (omega (arith, h)) kept
 
 -- ---- parts of the entries
 

@@ -9,13 +9,10 @@ use Rattle.std.specs.FinMap.Entries.{where_key, same_entries, find-where_key, is
 use Rattle.wsm_semantics.specs.declared.place.Place.{Place}
 use Rattle.wsm_panes.specs.Place.{place_cmp, is_other}
 use Rattle.wsm_panes.proofs.Entries.{exact_places, places_total}
+use Rattle.wsm_semantics.proofs.Each.{as_true}
 
 pub to_T : (b : Bool) → b ≡ true → T b
 to_T b e = rw e tt
-
-pub from_T : (b : Bool) → T b → b ≡ true
-from_T true t = refl
-from_T false t = absurd t
 
 turned : {A : Type 0} (b : Bool) (x y : A) → cond (not b) x y ≡ cond b y x
 turned true x y = refl
@@ -38,13 +35,13 @@ module _ {P : Type 0} (es : List (Place × P)) (sorted : is_sorted place_cmp es 
   len_is = len-entries (map_of es) ∙ ap length entries_are
 
   pub put_sorted : (k : Place) (v : P) → is_sorted place_cmp (put place_cmp k v es) ≡ true
-  put_sorted k v = from_T _ (is_sorted-put place_cmp places_total k v es (to_T _ sorted))
+  put_sorted k v = as_true _ (is_sorted-put place_cmp places_total k v es (to_T _ sorted))
 
   pub put_is : (k : Place) (v : P) → map_of (put place_cmp k v es) ≡ insert (map_of es) k v
   put_is k v = same_entries_map _ _ (entries-from_sorted place_cmp _ (to_T _ (put_sorted k v)) ∙ sym (entries-insert places_total (map_of es) k v ∙ ap (put place_cmp k v) entries_are))
 
   pub kept_sorted : (p : Place → Bool) → is_sorted place_cmp (filter (λ e. p e.0) es) ≡ true
-  kept_sorted p = from_T _ (is_sorted-where_key place_cmp p es (to_T _ sorted))
+  kept_sorted p = as_true _ (is_sorted-where_key place_cmp p es (to_T _ sorted))
 
   pub kept_is : (p : Place → Bool) → map_of (filter (λ e. p e.0) es) ≡ retain_keys (map_of es) p
   kept_is p = same_map places_total exact_places _ _ (λ q.

@@ -11,9 +11,11 @@ use Rattle.wsm_semantics.specs.declared.place.Place.{Place}
 use Rattle.wsm_semantics.specs.Panes.{place_cmp}
 use Rattle.wsm_semantics.specs.Query.{Datum}
 use Rattle.wsm_semantics.specs.Kept.{is_linked}
-use Rattle.wsm_semantics.proofs.Each.{passed}
-use Rattle.wsm_panes.proofs.Entries.{places_total, exact_places, place_tied, tied_place}
-use Rattle.wsm_panes.proofs.Tables.{from_T, alike}
+use Rattle.wsm_semantics.proofs.Each.{passed, as_true}
+use Rattle.wsm_panes.proofs.Entries.{places_total, exact_places}
+use Rattle.wsm_panes.proofs.Tables.{alike}
+use Rattle.wsm_semantics.proofs.Tables.{tie_is}
+use Rattle.wsm_semantics.proofs.Assigned.{tied}
 
 module _ {X : Type 0} (gap : ℤ) (d : Datum) (m : FinMap place_cmp X) where
   abbrev far : Place → Bool
@@ -35,13 +37,13 @@ module _ {X : Type 0} (gap : ℤ) (d : Datum) (m : FinMap place_cmp X) where
     one_linked = (subst (AllByRecursion (λ (e : Place × X). is_linked gap d e.0 ≡ true)) is (passed (λ e. is_linked gap d e.0) (entries m))).0
 
     pub one_found : get m p ≡ Some v
-    one_found = found_linked p one_linked ∙ ap (find place_cmp p) is ∙ ap (λ b. cond b (Some v) None) (tied_place p p refl)
+    one_found = found_linked p one_linked ∙ ap (find place_cmp p) is ∙ ap (λ b. cond b (Some v) None) (tied p p refl)
 
     pub one_left : remove m p ≡ retain_keys m far
     one_left = same_map places_total exact_places _ _ (λ q. get-remove places_total m p q ∙ sides q (eq_by_cmp place_cmp q p) refl ∙ sym (get-retain_keys m far q (alike far q))) where
       sides : (q : Place) (b : Bool) → eq_by_cmp place_cmp q p ≡ b → cond (eq_by_cmp place_cmp q p) None (get m q) ≡ cond (far q) (get m q) None
       sides q true h =
-          let at_p : is_linked gap d q ≡ true = ap (is_linked gap d) (place_tied q p h) ∙ one_linked in
+          let at_p : is_linked gap d q ≡ true = ap (is_linked gap d) (tie_is q p h) ∙ one_linked in
           ap (λ b. cond b None (get m q)) h ∙ sym (ap (λ b. cond (not b) (get m q) None) at_p)
       sides q false h = ap (λ b. cond b None (get m q)) h ∙ unlinked (is_linked gap d q) refl where
         unlinked : (b : Bool) → is_linked gap d q ≡ b → get m q ≡ cond (far q) (get m q) None
@@ -56,20 +58,20 @@ module _ {X : Type 0} (gap : ℤ) (d : Datum) (m : FinMap place_cmp X) where
     apart_two : eq_by_cmp place_cmp r p ≡ false
     apart_two =
         let sorted = subst (λ (es : List (Place × X)). T (is_sorted place_cmp es)) is (is_sorted-where_key place_cmp (is_linked gap d) (entries m) (entries_sorted m)) in
-        first_less p r (and_parts _ _ (and_parts _ _ (from_T _ sorted)).0).0
+        first_less p r (and_parts _ _ (and_parts _ _ (as_true _ sorted)).0).0
       where
         first_less : (p r : Place) → is_lt (place_cmp p r) ≡ true → eq_by_cmp place_cmp r p ≡ false
         first_less p r h = elim (cases_Bool (eq_by_cmp place_cmp r p)) [
-          | inl tie ↦ absurd (true≢false (sym h ∙ ap (λ (q : Place). is_lt (place_cmp p q)) (place_tied r p tie) ∙ ap is_lt (tied_itself places_total p)))
+          | inl tie ↦ absurd (true≢false (sym h ∙ ap (λ (q : Place). is_lt (place_cmp p q)) (tie_is r p tie) ∙ ap is_lt (tied_itself places_total p)))
           | inr other ↦ other
         ]
 
     pub first_found : get m p ≡ Some v
-    first_found = found_linked p both_linked.0 ∙ ap (find place_cmp p) is ∙ ap (λ b. cond b (Some v) (find place_cmp p ((r, w) ∷ []))) (tied_place p p refl)
+    first_found = found_linked p both_linked.0 ∙ ap (find place_cmp p) is ∙ ap (λ b. cond b (Some v) (find place_cmp p ((r, w) ∷ []))) (tied p p refl)
 
     pub second_in : get m r ≡ Some w
     second_in =
-        found_linked r both_linked.1 ∙ ap (find place_cmp r) is ∙ ap (λ b. cond b (Some v) (find place_cmp r ((r, w) ∷ []))) apart_two ∙ ap (λ b. cond b (Some w) None) (tied_place r r refl)
+        found_linked r both_linked.1 ∙ ap (find place_cmp r) is ∙ ap (λ b. cond b (Some v) (find place_cmp r ((r, w) ∷ []))) apart_two ∙ ap (λ b. cond b (Some w) None) (tied r r refl)
 
     pub second_found : get (remove m p) r ≡ Some w
     second_found = get-remove places_total m p r ∙ ap (λ b. cond b None (get m r)) apart_two ∙ second_in
@@ -84,10 +86,10 @@ module _ {X : Type 0} (gap : ℤ) (d : Datum) (m : FinMap place_cmp X) where
         sides : (q : Place) (b c : Bool) → eq_by_cmp place_cmp q r ≡ b → eq_by_cmp place_cmp q p ≡ c
             → cond (eq_by_cmp place_cmp q r) None (cond (eq_by_cmp place_cmp q p) None (get m q)) ≡ cond (far q) (get m q) None
         sides q true c h k =
-            let at_r : is_linked gap d q ≡ true = ap (is_linked gap d) (place_tied q r h) ∙ both_linked.1 in
+            let at_r : is_linked gap d q ≡ true = ap (is_linked gap d) (tie_is q r h) ∙ both_linked.1 in
             ap (λ b. cond b None (cond (eq_by_cmp place_cmp q p) None (get m q))) h ∙ sym (ap (λ b. cond (not b) (get m q) None) at_r)
         sides q false true h k =
-            let at_p : is_linked gap d q ≡ true = ap (is_linked gap d) (place_tied q p k) ∙ both_linked.0 in
+            let at_p : is_linked gap d q ≡ true = ap (is_linked gap d) (tie_is q p k) ∙ both_linked.0 in
             (λ i. cond (h i) None (cond (k i) None (get m q))) ∙ sym (ap (λ b. cond (not b) (get m q) None) at_p)
         sides q false false h k = (λ i. cond (h i) None (cond (k i) None (get m q))) ∙ unlinked (is_linked gap d q) refl where
           unlinked : (b : Bool) → is_linked gap d q ≡ b → get m q ≡ cond (far q) (get m q) None

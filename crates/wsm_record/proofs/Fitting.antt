@@ -1,6 +1,7 @@
 -- Values against the types of their fields, one field after the other.
-use Rattle.std.proofs.Common.{◌≡◌, ◌≢◌, ◌∙◌, ◌<◌, ◌+◌, ◌&&◌, ℕ, suc, Bool, true, false, List, [], ◌∷◌, length, drop, get_or, ap, ap₂, sym, refl, add-one}
+use Rattle.std.proofs.Common.{◌≡◌, ◌≢◌, ◌∙◌, ◌<◌, ◌+◌, ◌&&◌, ℕ, suc, Bool, false, List, [], ◌∷◌, length, drop, get_or, ap, ap₂, sym, refl, add-one}
 use Rattle.std.proofs.Math.Seq.{drop-cons}
+use Rattle.std.proofs.Math.Bool.{and-false}
 use Rattle.wsm_record.specs.declared.event.Value.{Value}
 use Rattle.wsm_record.specs.Schema.{DeclaredField, fits_type, fit_fields}
 
@@ -17,7 +18,4 @@ fit_fields-lengths [] [] h = absurd (h refl)
 fit_fields-lengths [] (v ∷ vs) h = refl
 fit_fields-lengths (d ∷ ds) [] h = refl
 fit_fields-lengths (d ∷ ds) (v ∷ vs) h =
-    ap (λ (b : Bool). fits_type d.type v && b) (fit_fields-lengths ds vs (λ e. h (ap suc e))) ∙ and_false (fits_type d.type v) where
-      and_false : (b : Bool) → (b && false) ≡ false
-      and_false true = refl
-      and_false false = refl
+    ap (λ (b : Bool). fits_type d.type v && b) (fit_fields-lengths ds vs (λ e. h (ap suc e))) ∙ and-false (fits_type d.type v)

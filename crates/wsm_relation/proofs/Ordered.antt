@@ -13,6 +13,7 @@ use Rattle.std.proofs.lemmas.Map.Lookups.{exact_signed, exact_unsigned}
 use Rattle.wsm_record.specs.declared.event.Value.{Value}
 use Rattle.wsm_record.specs.declared.event.Value.TheVariants.{Int, Bool as Truth, Enum}
 use Rattle.wsm_semantics.specs.Relation.{value_cmp, row_cmp}
+use Rattle.wsm_semantics.proofs.Tables.{ordering_then_equal}
 
 -- a value as two numbers, of which the first tells the type
 abbrev code : Value → ℕ × ℤ
@@ -66,17 +67,12 @@ exact_values (Enum a) (Int b) h = absurd (cc)
 exact_values (Enum a) (Truth b) h = absurd (cc)
 exact_values (Enum a) (Enum b) h = ap Enum (exact_unsigned a b h)
 
-both_tied : (a b : Ordering) → ordering_then a b ≡ Equal → (a ≡ Equal) × (b ≡ Equal)
-both_tied Less b h = absurd (cc)
-both_tied Equal b h = (refl, h)
-both_tied Greater b h = absurd (cc)
-
 -- rows that compare alike are one
 pub exact_rows : (xs ys : List Value) → row_cmp xs ys ≡ Equal → xs ≡ ys
 exact_rows [] [] h = refl
 exact_rows [] (y ∷ ys) h = absurd (cc)
 exact_rows (x ∷ xs) [] h = absurd (cc)
-exact_rows (x ∷ xs) (y ∷ ys) h = let both = both_tied (value_cmp x y) (row_cmp xs ys) h in λ i. exact_values x y both.0 i ∷ exact_rows xs ys both.1 i
+exact_rows (x ∷ xs) (y ∷ ys) h = let both = ordering_then_equal (value_cmp x y) (row_cmp xs ys) h in λ i. exact_values x y both.0 i ∷ exact_rows xs ys both.1 i
 
 tied_of : (r : Ordering) → is_eq r ≡ true → r ≡ Equal
 tied_of Less h = absurd (cc)

@@ -18,7 +18,7 @@ use Rattle.wsm_semantics.specs.Kept.{Kept, kept_in, kept}
 pub places_total : IsTotalOrder place_cmp
 places_total = then_total (on_total (λ (p : Place). p.end) int_cmp_total) (then_total (on_total (λ (p : Place). p.start) int_cmp_total) (on_total (λ (p : Place). p.key) nat_cmp_total))
 
-ordering_then_equal : (a b : Ordering) → ordering_then a b ≡ Equal → (a ≡ Equal) × (b ≡ Equal)
+pub ordering_then_equal : (a b : Ordering) → ordering_then a b ≡ Equal → (a ≡ Equal) × (b ≡ Equal)
 ordering_then_equal Less b e = absurd (cc)
 ordering_then_equal Equal b e = (refl, e)
 ordering_then_equal Greater b e = absurd (cc)

@@ -25,7 +25,7 @@ use Rattle.wsm_semantics.proofs.Lists.{filter-all, all-each, put-all}
 use Rattle.wsm_semantics.proofs.Tables.{tie_is, places_exact, places_total}
 
 -- windows with other starts are other places
-apart : (k : ℕ) (w v : Window) → w.start <ℤ v.start → eq_by_cmp place_cmp (at k v) (at k w) ≡ false
+pub apart : (k : ℕ) (w v : Window) → w.start <ℤ v.start → eq_by_cmp place_cmp (at k v) (at k w) ≡ false
 apart k w v less =
     elim (eq_by_cmp place_cmp (at k v) (at k w)) as (λ b. eq_by_cmp place_cmp (at k v) (at k w) ≡ b → b ≡ false) [
       | true ↦ λ e. absurd (let same : v.start ≡ w.start = ap (λ (p : Place). p.start) (tie_is (at k v) (at k w) e) in omega (arith, ints))

@@ -16,7 +16,7 @@ use Rattle.wsm_bytecode.specs.declared.SectionId.TheVariants.{Where, Update, Fir
 use Rattle.wsm_bytecode.specs.Program.{Header, Program, section, is_within, is_span, is_size, is_shape, is_section, is_header, is_program, is_schema, is_name_list, is_clock, is_firing, is_row, latest_time}
 use Rattle.wsm_bytecode.proofs.Spelled.{short_section}
 
-within : (lo hi n : ℤ) → is_within lo hi n ≡ true → (lo ≤ℤ n) × (n ≤ℤ hi)
+pub within : (lo hi n : ℤ) → is_within lo hi n ≡ true → (lo ≤ℤ n) × (n ≤ℤ hi)
 within lo hi n h = (grind (arith, ints), grind (arith, ints))
 
 sized : (n : ℤ) → is_size n ≡ true → (pos 1 ≤ℤ n) × (n ≤ℤ pos 1000000000000)
@@ -30,7 +30,7 @@ lawful_shape (Sliding size period) h =
     record { period_low = v.0; period_high = v.1; size_high = w.1 }
 lawful_shape (Session gap) h = let w = sized gap h in record { period_low = w.0; period_high = omega (arith, ints); size_high = w.1 }
 
-lawful_span : (n : ℤ) → is_span n ≡ true → IsSpan n
+pub lawful_span : (n : ℤ) → is_span n ≡ true → IsSpan n
 lawful_span n h = let w = within (pos 0) (pos 1000000000000) n h in record { low = w.0; high = w.1 }
 
 -- the numbers of a header that its costs are made of

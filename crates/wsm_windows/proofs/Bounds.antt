@@ -38,16 +38,16 @@ ceil_step n q (suc r) p span h e le =
 at_most_ceil : (n span p : ℕ) → 0 < p → n * p ≤ span + p - 1 → n ≤ div_ceil span p
 at_most_ceil n span p h le = ceil_step n (span / p) (span % p) p span (omega arith) (sym (div-add-mod' span p)) le
 
-next_above : (p j : ℕ) (a b x y : ℤ) → a ≡ x → b ≡ y → y ≡ x +ℤ pos (j * p) → a <ℤ b → (a +ℤ pos p) ≤ℤ b
+pub next_above : (p j : ℕ) (a b x y : ℤ) → a ≡ x → b ≡ y → y ≡ x +ℤ pos (j * p) → a <ℤ b → (a +ℤ pos p) ≤ℤ b
 next_above p zero a b x y e f g less = absurd (omega (arith, ints))
 next_above p (suc j) a b x y e f g less =
     let one_more : suc j * p ≡ j * p + p = omega arith in
     omega (arith, ints)
 
-never_below : (p j : ℕ) (a b x y : ℤ) → a ≡ x → b ≡ y → x ≡ y +ℤ pos (j * p) → a <ℤ b → ⊥
+pub never_below : (p j : ℕ) (a b x y : ℤ) → a ≡ x → b ≡ y → x ≡ y +ℤ pos (j * p) → a <ℤ b → ⊥
 never_below p j a b x y e f g less = omega (arith, ints)
 
-next_on_grid : (p : ℕ) (k l a b : ℤ) → a ≡ k *ℤ pos p → b ≡ l *ℤ pos p → a <ℤ b → (a +ℤ pos p) ≤ℤ b
+pub next_on_grid : (p : ℕ) (k l a b : ℤ) → a ≡ k *ℤ pos p → b ≡ l *ℤ pos p → a <ℤ b → (a +ℤ pos p) ≤ℤ b
 next_on_grid p k l a b e f less =
     elim (either_above k l) [
       | inl up ↦ next_above p up.0 a b (k *ℤ pos p) (l *ℤ pos p) e f (ap (λ (z : ℤ). z *ℤ pos p) up.1 ∙ times_more k up.0 p) less

@@ -46,7 +46,7 @@ pub last_is_multiple : (t : ℤ) (p : ℕ) → 0 < p → (q : ℤ) × (last_star
 last_is_multiple (pos a) p h = (pos (a / p), let whole : a / p * p + a % p ≡ a = div-add-mod' a p in omega (arith, ints))
 last_is_multiple (negsuc a) p h = (negsuc (a / p), below_zero a p h)
 
-above_by : (k l d : ℤ) → l ≡ k +ℤ d → ((j : ℕ) × (l ≡ k +ℤ pos j)) ⊎ ((j : ℕ) × (k ≡ l +ℤ pos j))
+pub above_by : (k l d : ℤ) → l ≡ k +ℤ d → ((j : ℕ) × (l ≡ k +ℤ pos j)) ⊎ ((j : ℕ) × (k ≡ l +ℤ pos j))
 above_by k l (pos j) e = inl (j, e)
 above_by k l (negsuc j) e = inr (suc j, omega (arith, ints))
 

@@ -1,4 +1,4 @@
-use Rattle.std.proofs.Common.{◌≡◌, ◌∙◌, true, List, Err, subst, sym, ap}
+use Rattle.std.proofs.Common.{◌≡◌, true, List, Err, subst, sym}
 use Rattle.std.specs.Prelude.{IfErr, IfOk, is_ok}
 use Rattle.std.proofs.lemmas.Result.{err_from_is_err_and, IfOk-weaker, IfErr-weaker}
 use Rattle.wsm_engine.specs.declared.reply.Totals.{Totals}

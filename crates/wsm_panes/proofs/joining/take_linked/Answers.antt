@@ -1,6 +1,7 @@
-use Rattle.std.proofs.Common.{◌≡◌, Some, [], ◌∷◌, refl, sym, ap, subst, ◌∙◌, SFits, w64, to_z-of_z}
+use Rattle.std.proofs.Common.{Some, [], ◌∷◌, refl, sym, ap, subst, ◌∙◌, SFits, w64, to_z-of_z}
 use Rattle.std.specs.Prelude.{IsSome, IfSome, length, nat_lt}
 use Rattle.std.specs.FinMap as map
+use Rattle.std.proofs.lemmas.Option.{same_Some}
 use Rattle.wsm_semantics.specs.Panes.{at}
 use Rattle.wsm_semantics.specs.Replay.{datum}
 use Rattle.wsm_semantics.specs.Summaries.{joined, joined_all}
@@ -9,9 +10,6 @@ use Rattle.wsm_panes.specs.Held.{CanJoinAll, CanRecord, taking}
 use Rattle.wsm_panes.proofs.Merged.{parts_at}
 use Rattle.wsm_panes.proofs.Taken.{none_left, one_found, one_left, first_found, second_found, both_left, no_entry, one_entry, two_entries}
 use Rattle.wsm_panes.proofs.joining.take_linked.Goals as goal
-
-some_is : {A : Type 0} (a b : A) → Some a ≡ Some b → a ≡ b
-some_is a b h = cc
 
 pub returns-in-None-clause-panes : goal.returns-in-None-clause-panes
 returns-in-None-clause-panes c =
@@ -107,8 +105,8 @@ join-requires c =
     let p = at c.args.key c.in-Two.first in
     let r = at c.args.key c.in-Two.second in
     let two = two_entries _ p r (parts_at (taking [] []) gap c.args.key c.args.time m c.args.sessions.now.windows c.requires.agree (c.in-Two.first ∷ c.in-Two.second ∷ []) (ap those_linked (sym c.in-Two.is) ∙ simp to_z-of_z at c.linked.ensures)) in
-    let first = some_is _ _ (sym c.take-pane.ensures.pane ∙ ap (map.get m) c.place_of-in-Two.ensures ∙ first_found gap (datum 0 c.args.key c.args.time []) m p r two.0 two.1.0 two.1.1) in
-    let second = some_is _ _ (sym c.take-other.ensures.pane ∙ (λ i. map.get ((c.take-pane.ensures.panes ∙ ap (map.remove m) c.place_of-in-Two.ensures) i) (c.place_of-in-Two-2.ensures i)) ∙ second_found gap (datum 0 c.args.key c.args.time []) m p r two.0 two.1.0 two.1.1) in
+    let first = same_Some _ _ (sym c.take-pane.ensures.pane ∙ ap (map.get m) c.place_of-in-Two.ensures ∙ first_found gap (datum 0 c.args.key c.args.time []) m p r two.0 two.1.0 two.1.1) in
+    let second = same_Some _ _ (sym c.take-other.ensures.pane ∙ (λ i. map.get ((c.take-pane.ensures.panes ∙ ap (map.remove m) c.place_of-in-Two.ensures) i) (c.place_of-in-Two-2.ensures i)) ∙ second_found gap (datum 0 c.args.key c.args.time []) m p r two.0 two.1.0 two.1.1) in
     let can = subst (CanJoinAll c.args.kinds.now c.requires.joins.0) two.1.1 c.requires.joins.1 in
     rw (first, second) can.0
 
@@ -130,8 +128,8 @@ returns-in-Two-clause-pane c values =
     let p = at c.args.key c.in-Two.first in
     let r = at c.args.key c.in-Two.second in
     let two = two_entries _ p r (parts_at (taking [] []) gap c.args.key c.args.time m c.args.sessions.now.windows c.requires.agree (c.in-Two.first ∷ c.in-Two.second ∷ []) (ap those_linked (sym c.in-Two.is) ∙ simp to_z-of_z at c.linked.ensures)) in
-    let first = some_is _ _ (sym c.take-pane.ensures.pane ∙ ap (map.get m) c.place_of-in-Two.ensures ∙ first_found gap (datum 0 c.args.key c.args.time []) m p r two.0 two.1.0 two.1.1) in
-    let second = some_is _ _ (sym c.take-other.ensures.pane ∙ (λ i. map.get ((c.take-pane.ensures.panes ∙ ap (map.remove m) c.place_of-in-Two.ensures) i) (c.place_of-in-Two-2.ensures i)) ∙ second_found gap (datum 0 c.args.key c.args.time []) m p r two.0 two.1.0 two.1.1) in
+    let first = same_Some _ _ (sym c.take-pane.ensures.pane ∙ ap (map.get m) c.place_of-in-Two.ensures ∙ first_found gap (datum 0 c.args.key c.args.time []) m p r two.0 two.1.0 two.1.1) in
+    let second = same_Some _ _ (sym c.take-other.ensures.pane ∙ (λ i. map.get ((c.take-pane.ensures.panes ∙ ap (map.remove m) c.place_of-in-Two.ensures) i) (c.place_of-in-Two-2.ensures i)) ∙ second_found gap (datum 0 c.args.key c.args.time []) m p r two.0 two.1.0 two.1.1) in
     ap Some (c.join.ensures values ∙ λ i. joined (taking c.args.kinds.now values) (first i) (second i)) ∙ sym (ap (joined_all (taking c.args.kinds.now values)) two.1.1)
 
 pub returns-in-Two-clause-takes : goal.returns-in-Two-clause-takes
@@ -142,8 +140,8 @@ returns-in-Two-clause-takes c values can =
     let p = at c.args.key c.in-Two.first in
     let r = at c.args.key c.in-Two.second in
     let two = two_entries _ p r (parts_at (taking [] []) gap c.args.key c.args.time m c.args.sessions.now.windows c.requires.agree (c.in-Two.first ∷ c.in-Two.second ∷ []) (ap those_linked (sym c.in-Two.is) ∙ simp to_z-of_z at c.linked.ensures)) in
-    let first = some_is _ _ (sym c.take-pane.ensures.pane ∙ ap (map.get m) c.place_of-in-Two.ensures ∙ first_found gap (datum 0 c.args.key c.args.time []) m p r two.0 two.1.0 two.1.1) in
-    let second = some_is _ _ (sym c.take-other.ensures.pane ∙ (λ i. map.get ((c.take-pane.ensures.panes ∙ ap (map.remove m) c.place_of-in-Two.ensures) i) (c.place_of-in-Two-2.ensures i)) ∙ second_found gap (datum 0 c.args.key c.args.time []) m p r two.0 two.1.0 two.1.1) in
+    let first = same_Some _ _ (sym c.take-pane.ensures.pane ∙ ap (map.get m) c.place_of-in-Two.ensures ∙ first_found gap (datum 0 c.args.key c.args.time []) m p r two.0 two.1.0 two.1.1) in
+    let second = same_Some _ _ (sym c.take-other.ensures.pane ∙ (λ i. map.get ((c.take-pane.ensures.panes ∙ ap (map.remove m) c.place_of-in-Two.ensures) i) (c.place_of-in-Two-2.ensures i)) ∙ second_found gap (datum 0 c.args.key c.args.time []) m p r two.0 two.1.0 two.1.1) in
     subst (CanRecord c.args.kinds.now values) (sym (c.join.ensures values ∙ λ i. joined (taking c.args.kinds.now values) (first i) (second i))) (subst (CanJoinAll c.args.kinds.now values) two.1.1 can).1
 
 pub returns-in-Two-clause-joined : goal.returns-in-Two-clause-joined

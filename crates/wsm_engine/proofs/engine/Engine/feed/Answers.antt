@@ -1,13 +1,9 @@
-use Rattle.std.proofs.Common.{◌≡◌, ◌≤◌, ◌∷◌, ap, sym, subst, ◌∙◌, arith}
+use Rattle.std.proofs.Common.{ap, subst, ◌∙◌}
 use Rattle.wsm_record.specs.Event.{event_of}
 use Rattle.wsm_verifier.specs.Costs.{needed}
-use Rattle.wsm_semantics.specs.Relation.{turn_rows}
-use Rattle.wsm_machine.specs.Meaning.{query_of, pane_cost_by}
 use Rattle.wsm_machine.proofs.Costs.{step_cost_within}
 use Rattle.wsm_engine.specs.declared.reply.Reply.{Reply}
 use Rattle.wsm_engine.specs.State.{State}
-use Rattle.wsm_engine.specs.Meaning.{Fits, IsRefused}
-use Rattle.wsm_engine.specs.Turn.{turn, reply_by}
 use Rattle.std.specs.Prelude.{IsSome}
 use Rattle.wsm_engine.proofs.Turning.{turn_fits, turn_writes, turn_replies, refused_turn, fired_few}
 use Rattle.wsm_engine.proofs.Within.{firings_within}

@@ -1,4 +1,4 @@
-use Rattle.std.proofs.Common.{◌≡◌, [], IsTrue, refl, ap, ◌∙◌}
+use Rattle.std.proofs.Common.{[], refl, ap, ◌∙◌}
 use Rattle.wsm_admission.specs.Admission as admission
 use Rattle.wsm_bytecode.specs.Program.{Program}
 use Rattle.wsm_machine.specs.Meaning.{clock_of, query_of}

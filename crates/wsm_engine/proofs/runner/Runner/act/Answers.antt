@@ -1,5 +1,5 @@
-use Rattle.std.proofs.Common.{rules, ◌≡◌, ◌∙◌, Option, Some, None, Ok, SFits, w64, to_z-of_z, refl, sym, ap, arith}
-use Rattle.wsm_record.specs.Event.{Event, Record, Watermark, event_of}
+use Rattle.std.proofs.Common.{rules, ◌≡◌, ◌∙◌, Some, Ok, SFits, w64, to_z-of_z, ap}
+use Rattle.wsm_record.specs.Event.{Record, event_of}
 use Rattle.wsm_admission.specs.declared.verdict.Admitted.TheVariants as admitted
 use Rattle.wsm_firing.specs.Tally.{tally_of}
 use Rattle.wsm_engine.proofs.Acting.{panes_record, fired_record, rows_record, panes_mark, fired_mark, relation_mark, rows_mark}

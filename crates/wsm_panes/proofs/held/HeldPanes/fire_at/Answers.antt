@@ -4,9 +4,9 @@ use Rattle.std.specs.FinMap as map
 use Rattle.std.specs.FinMap.{entries-insert, entries_sorted, get-entries}
 use Rattle.wsm_panes.specs.Held.{once_fired, windows_of_key}
 use Rattle.wsm_panes.proofs.Entries.{places_total}
-use Rattle.wsm_panes.proofs.Tables.{from_T}
 use Rattle.wsm_panes.proofs.Enters.{keys_alike, windows_replaced}
 use Rattle.wsm_panes.proofs.held.HeldPanes.fire_at.Goals as goal
+use Rattle.wsm_semantics.proofs.Each.{as_true}
 
 pub fire-requires : goal.fire-requires
 fire-requires c = ap is_some (get-entries c.self.inside.table.panes c.args.place) ∙ (rw (← c.self.view_is) at c.requires)
@@ -22,7 +22,7 @@ invariant_of-self c =
       sessions = λ gap is.
           keys_alike gap c.self.inside.keys c.self.inside.live (map.entries m) (map.entries c.fire.new.self.panes) c.self.inside.sessions.items (c.self.invariant.sessions gap is)
           (λ k. ap (windows_of_key k) (ap map.entries e.2 ∙ entries-insert places_total m c.args.place pane)
-          ∙ windows_replaced k c.args.place pane (map.entries m) (from_T _ (entries_sorted m)) (rw (← c.self.view_is) at c.requires));
+          ∙ windows_replaced k c.args.place pane (map.entries m) (as_true _ (entries_sorted m)) (rw (← c.self.view_is) at c.requires));
     }
 
 pub returns-clause-panes : goal.returns-clause-panes

@@ -4,9 +4,9 @@ use Rattle.std.specs.FinMap as map
 use Rattle.std.specs.FinMap.{entries-insert, entries_sorted, get-entries}
 use Rattle.wsm_panes.specs.Held.{windows_of_key}
 use Rattle.wsm_panes.proofs.Entries.{places_total}
-use Rattle.wsm_panes.proofs.Tables.{from_T}
 use Rattle.wsm_panes.proofs.Enters.{keys_alike, windows_replaced}
 use Rattle.wsm_panes.proofs.held.HeldPanes.replace.Goals as goal
+use Rattle.wsm_semantics.proofs.Each.{as_true}
 
 pub put-requires : goal.put-requires
 put-requires c = inl (ap is_some (get-entries c.self.inside.table.panes c.args.place) ∙ (rw (← c.self.view_is) at c.requires))
@@ -20,7 +20,7 @@ invariant_of-self c =
       sessions = λ gap is.
           keys_alike gap c.self.inside.keys c.self.inside.live (map.entries m) (map.entries c.put.new.self.panes) c.self.inside.sessions.items (c.self.invariant.sessions gap is)
           (λ k. ap (windows_of_key k) (ap map.entries c.put.ensures.panes ∙ entries-insert places_total m c.args.place c.args.pane)
-          ∙ windows_replaced k c.args.place c.args.pane (map.entries m) (from_T _ (entries_sorted m)) (rw (← c.self.view_is) at c.requires));
+          ∙ windows_replaced k c.args.place c.args.pane (map.entries m) (as_true _ (entries_sorted m)) (rw (← c.self.view_is) at c.requires));
     }
 
 pub returns-clause-panes : goal.returns-clause-panes
