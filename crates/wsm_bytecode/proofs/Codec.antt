@@ -5,11 +5,15 @@ use Rattle.std.specs.List.{list_all, flat_map}
 use Rattle.std.specs.Int.{w8, w16}
 use Rattle.std.proofs.lemmas.Bool.{true≢false, ltb-true, leb-true, le-leb, and_parts, and_from}
 use Rattle.wsm_bytecode.specs.declared.instr.Instr.{Instr}
-use Rattle.wsm_bytecode.specs.declared.instr.Instr.TheVariants.{PushInt, PushBool, PushEnum, Field, Key, Acc, Count, Add, Sub, Mul, Div, Rem, Neg, Eq, Ne, Lt, Le, Gt, Ge, Not, Jump, JumpIfFalse, Fold, Return}
+use Rattle.wsm_bytecode.specs.declared.instr.Instr.TheVariants.{PushInt, PushBool, PushEnum, Field, Key, Acc, Count, Operate, Jump, JumpIfFalse, Fold, Return}
 use Rattle.wsm_bytecode.specs.Program.{Name, names_of_type, names_of_field, is_name_list, are_names_after, is_field_after, are_fields_after, is_field_type, Header, Program, is_name_of, is_schema, is_instr, is_section, is_header, is_clock, is_firing, is_row, is_program, enum_names, is_within, latest_time, is_span, is_size, is_shape, is_form_of, is_column, is_budget}
 use Rattle.wsm_record.specs.Schema.{FieldType, Int, Truth, Enum, DeclaredField, Declared}
 use Rattle.wsm_record.specs.Name.{is_name, is_among, is_between}
 use Rattle.wsm_bytecode.specs.Reading.{judged, number_at, signed_at, enum_number_at, push_int_at, push_bool_at, push_enum_at, index_at, target_at, plain_instr, instr_by, instr_at, code_at, several, after_magic, after_version, schema_at, shape_at, mode_at, form_at, kinds_at, columns_at, budget_at, header_at, program_at, decode}
+use Rattle.wsm_bytecode.specs.declared.operation.Operation.{Operation}
+use Rattle.wsm_bytecode.specs.declared.operation.Operation.TheVariants.{Add}
+use Rattle.wsm_bytecode.specs.Operations as operation
+use Rattle.wsm_bytecode.specs.Operations.{of_code}
 use Rattle.wsm_bytecode.specs.Spelling.{byte, number, signed, instr, code, magic, header, schema, shape, mode, form, kinds, columns, budget, spelling}
 use Rattle.wsm_bytecode.proofs.Numbers.{bytes_again, byte_again, short_again, signed_again, judged_again}
 use Rattle.wsm_bytecode.proofs.Parts.{tag_again, below, several_again, enum_number_again, enum_is_small, start_again, span_again, size_again, schema_again, shape_again, mode_again, form_again, kinds_again, columns_again, budget_again}
@@ -58,6 +62,15 @@ pub record FewParts (h : Header) : Type 0 where
 plain : (h : Header) (c : ℕ) (i : Instr) (rest : List ℕ) → c < 256 → instr_by h c rest ≡ Ok (i, rest) → instr_at h (byte c ++ rest) ≡ Ok (i, rest)
 plain h c i rest lt e = instr_step h c rest i rest lt e
 
+operation_small : (o : Operation) → operation.code o < 256
+operation_small Add = lit< tt
+operation_small o = lit< tt
+
+operation_again : (h : Header) (o : Operation) (rest : List ℕ) → instr_by h (operation.code o) rest ≡ Ok (Operate o, rest)
+unfolding instr_by plain_instr of_code
+operation_again h Add rest = refl
+operation_again h o rest = refl
+
 pub instr_again : (h : Header) → FewParts h → (i : Instr) (rest : List ℕ) → is_instr h i ≡ true → instr_at h (instr i ++ rest) ≡ Ok (i, rest)
 unfolding instr_by plain_instr instr
 instr_again h few (PushInt n) rest good = instr_step h 1 (signed n ++ rest) (PushInt n) rest (lit< tt) (push_int_step (signed n ++ rest) n rest (signed_again n rest good))
@@ -73,19 +86,7 @@ instr_again h few (Field f) rest good = instr_step h 4 (byte f ++ rest) (Field f
 instr_again h few Key rest good = plain h 5 Key rest (lit< tt) refl
 instr_again h few (Acc a) rest good = instr_step h 6 (byte a ++ rest) (Acc a) rest (lit< tt) (index_again (length h.kinds) Acc a rest (few_below _ few.kinds) good)
 instr_again h few Count rest good = plain h 7 Count rest (lit< tt) refl
-instr_again h few Add rest good = plain h 16 Add rest (lit< tt) refl
-instr_again h few Sub rest good = plain h 17 Sub rest (lit< tt) refl
-instr_again h few Mul rest good = plain h 18 Mul rest (lit< tt) refl
-instr_again h few Div rest good = plain h 19 Div rest (lit< tt) refl
-instr_again h few Rem rest good = plain h 20 Rem rest (lit< tt) refl
-instr_again h few Neg rest good = plain h 21 Neg rest (lit< tt) refl
-instr_again h few Eq rest good = plain h 32 Eq rest (lit< tt) refl
-instr_again h few Ne rest good = plain h 33 Ne rest (lit< tt) refl
-instr_again h few Lt rest good = plain h 34 Lt rest (lit< tt) refl
-instr_again h few Le rest good = plain h 35 Le rest (lit< tt) refl
-instr_again h few Gt rest good = plain h 36 Gt rest (lit< tt) refl
-instr_again h few Ge rest good = plain h 37 Ge rest (lit< tt) refl
-instr_again h few Not rest good = plain h 40 Not rest (lit< tt) refl
+instr_again h few (Operate o) rest good = plain h (operation.code o) (Operate o) rest (operation_small o) (operation_again h o rest)
 instr_again h few (Jump t) rest good = instr_step h 48 (number t ++ rest) (Jump t) rest (lit< tt) (target_again Jump t rest good)
 instr_again h few (JumpIfFalse t) rest good = instr_step h 49 (number t ++ rest) (JumpIfFalse t) rest (lit< tt) (target_again JumpIfFalse t rest good)
 instr_again h few (Fold a) rest good = instr_step h 64 (byte a ++ rest) (Fold a) rest (lit< tt) (index_again (length h.kinds) Fold a rest (few_below _ few.kinds) good)

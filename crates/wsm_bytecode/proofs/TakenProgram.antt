@@ -1,6 +1,6 @@
 -- What was read is what was spelled: instructions, sections and whole programs.
 use Rattle.std.proofs.Common.{Option, None, Some, ◌≡◌, ℕ, zero, suc, ◌≤◌, Bool, true, false, cond, ltb, List, [], ◌∷◌, ◌++◌, length, ℤ, pos, Result, Ok, Err, refl, sym, ap, subst, ◌∙◌, append-nil, arith}
-use Rattle.std.specs.Prelude.{◌==◌, bytes_eq}
+use Rattle.std.specs.Prelude.{◌==◌, bytes_eq, option_map}
 use Rattle.std.specs.List.{list_all, flat_map}
 use Rattle.std.specs.Int.{w8, w16}
 use Rattle.std.proofs.lemmas.Bool.{le-leb, eqb-true, and_parts, and_from}
@@ -13,12 +13,15 @@ use Rattle.wsm_record.specs.declared.Kind.{Kind}
 use Rattle.wsm_windows.specs.declared.Shape.{Shape}
 use Rattle.wsm_record.specs.declared.Mode.{Mode}
 use Rattle.wsm_record.specs.declared.Form.{Form}
-use Rattle.wsm_bytecode.specs.declared.instr.Instr.TheVariants.{PushInt, PushBool, PushEnum, Field, Key, Acc, Count, Add, Sub, Mul, Div, Rem, Neg, Eq, Ne, Lt, Le, Gt, Ge, Not, Jump, JumpIfFalse, Fold, Return}
+use Rattle.wsm_bytecode.specs.declared.instr.Instr.TheVariants.{PushInt, PushBool, PushEnum, Field, Key, Acc, Count, Operate, Jump, JumpIfFalse, Fold, Return}
 use Rattle.wsm_record.specs.Schema.{Declared}
 use Rattle.wsm_bytecode.specs.declared.program.Budget.{Budget}
 use Rattle.wsm_bytecode.specs.Program.{Header, Program, is_name_of, is_schema, is_instr, is_section, is_header, is_program, enum_names, is_within, latest_time, is_span, is_size, is_column}
 use Rattle.wsm_record.specs.Name.{is_between}
 use Rattle.wsm_bytecode.specs.Reading.{◌>>=◌, Read, judged, number_at, signed_at, enum_number_at, push_int_at, push_bool_at, push_enum_at, index_at, target_at, plain_instr, plain_at, instr_by, instr_at, code_at, several, after_magic, after_version, bytes_at, schema_at, shape_at, mode_at, form_at, kinds_at, columns_at, budget_at, header_at, program_at, all_read, decode}
+use Rattle.wsm_bytecode.specs.declared.operation.Operation.{Operation}
+use Rattle.wsm_bytecode.specs.Operations as operation
+use Rattle.wsm_bytecode.specs.Operations.{of_code, first_of_code, operations}
 use Rattle.wsm_bytecode.specs.Spelling.{byte, number, signed, truth, instr, code, magic, header, schema, shape, mode, form, kinds, columns, budget, spelling}
 use Rattle.wsm_bytecode.proofs.Codec.{regroup_4, regroup_15}
 use Rattle.wsm_bytecode.proofs.Taken.{IsBytes, bind_ok, test_ok, judged_ok, ok_is, Took, Exact, bytes_taken, byte_taken, number_taken, wide16, signed_taken, several_taken}
@@ -97,26 +100,22 @@ plain_here h c k i j spelled good t e =
     let same : j ≡ i = cc in
     subst (λ y. IsPlain h c y) same (record { spelled = spelled ∙ ap byte (sym (eqb-true c k t)); good = good })
 
+operation_found : (h : Header) (c : ℕ) (i : Instr) (os : List Operation) → option_map Operate (first_of_code c os) ≡ Some i → IsPlain h c i
+unfolding instr
+operation_found h c i [] e = absurd cc
+operation_found h c i (o ∷ os) e =
+    elim (c == operation.code o) as (λ b. (c == operation.code o) ≡ b → option_map Operate (cond b (Some o) (first_of_code c os)) ≡ Some i → IsPlain h c i) [
+      | true ↦ λ t r. plain_here h c (operation.code o) i (Operate o) refl refl t r
+      | false ↦ λ _ r. operation_found h c i os r
+    ] refl e
+
 plain_found : (h : Header) (c : ℕ) (i : Instr) → plain_instr c ≡ Some i → IsPlain h c i
-unfolding plain_instr instr
+unfolding plain_instr of_code instr
 plain_found h c i e0 =
     choose _ _ _ _ e0 (λ t r. plain_here h c 5 i Key refl refl t r) (λ _ e1.
     choose _ _ _ _ e1 (λ t r. plain_here h c 7 i Count refl refl t r) (λ _ e2.
-    choose _ _ _ _ e2 (λ t r. plain_here h c 16 i Add refl refl t r) (λ _ e3.
-    choose _ _ _ _ e3 (λ t r. plain_here h c 17 i Sub refl refl t r) (λ _ e4.
-    choose _ _ _ _ e4 (λ t r. plain_here h c 18 i Mul refl refl t r) (λ _ e5.
-    choose _ _ _ _ e5 (λ t r. plain_here h c 19 i Div refl refl t r) (λ _ e6.
-    choose _ _ _ _ e6 (λ t r. plain_here h c 20 i Rem refl refl t r) (λ _ e7.
-    choose _ _ _ _ e7 (λ t r. plain_here h c 21 i Neg refl refl t r) (λ _ e8.
-    choose _ _ _ _ e8 (λ t r. plain_here h c 32 i Eq refl refl t r) (λ _ e9.
-    choose _ _ _ _ e9 (λ t r. plain_here h c 33 i Ne refl refl t r) (λ _ e10.
-    choose _ _ _ _ e10 (λ t r. plain_here h c 34 i Lt refl refl t r) (λ _ e11.
-    choose _ _ _ _ e11 (λ t r. plain_here h c 35 i Le refl refl t r) (λ _ e12.
-    choose _ _ _ _ e12 (λ t r. plain_here h c 36 i Gt refl refl t r) (λ _ e13.
-    choose _ _ _ _ e13 (λ t r. plain_here h c 37 i Ge refl refl t r) (λ _ e14.
-    choose _ _ _ _ e14 (λ t r. plain_here h c 40 i Not refl refl t r) (λ _ e15.
-    choose _ _ _ _ e15 (λ t r. plain_here h c 80 i Return refl refl t r) (λ _ e16.
-    absurd cc))))))))))))))))
+    choose _ _ _ _ e2 (λ t r. plain_here h c 80 i Return refl refl t r) (λ _ e3.
+    operation_found h c i operations e3)))
 
 plain_taken : (h : Header) (c : ℕ) (o : Option Instr) (bytes : List ℕ) (x : Instr × List ℕ) → ((i : Instr) → o ≡ Some i → IsPlain h c i) → IsBytes bytes → plain_at o bytes ≡ Ok x → Took instr (is_instr h) (byte c ++ bytes) x
 plain_taken h c None bytes x found fits e = absurd cc

@@ -1,4 +1,6 @@
 pub mod Program
+pub mod Operations
+pub mod Instructions
 pub mod View
 pub mod Spelling
 pub mod Reading

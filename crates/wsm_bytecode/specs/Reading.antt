@@ -1,12 +1,12 @@
 -- Reading the bytes of a program from the left, up to the first fault.
-use Rattle.std.specs.Prelude.{◌≡◌, ℕ, zero, suc, Bool, ◌&&◌, not, List, [], ◌∷◌, ◌++◌, length, take, drop, ℤ, pos, int_le, nat_lt, is_some, Option, Some, None, Result, Ok, Err, bytes_eq, ◌==◌, if◌then◌else◌}
+use Rattle.std.specs.Prelude.{◌≡◌, ℕ, zero, suc, Bool, ◌&&◌, not, List, [], ◌∷◌, ◌++◌, length, take, drop, ℤ, pos, int_le, nat_lt, is_some, Option, Some, None, option_map, Result, Ok, Err, bytes_eq, ◌==◌, if◌then◌else◌}
 use Rattle.std.specs.Int.{Width, w8, w16, w64, byte_len, from_le_bytes, cast_signed}
 use Rattle.wsm_bytecode.specs.declared.instr.CellType.{CellType}
 use Rattle.wsm_bytecode.specs.declared.instr.CellType.TheVariants as types
 use Rattle.wsm_record.specs.declared.Kind.{Kind}
 use Rattle.wsm_record.specs.declared.Kind.TheVariants.{Sum, Min, Max, Any, All}
 use Rattle.wsm_bytecode.specs.declared.instr.Instr.{Instr}
-use Rattle.wsm_bytecode.specs.declared.instr.Instr.TheVariants.{PushInt, PushBool, PushEnum, Field, Key, Acc, Count, Add, Sub, Mul, Div, Rem, Neg, Eq, Ne, Lt, Le, Gt, Ge, Not, Jump, JumpIfFalse, Fold, Return}
+use Rattle.wsm_bytecode.specs.declared.instr.Instr.TheVariants.{PushInt, PushBool, PushEnum, Field, Key, Acc, Count, Operate, Jump, JumpIfFalse, Fold, Return}
 use Rattle.wsm_windows.specs.declared.Shape.{Shape}
 use Rattle.wsm_windows.specs.declared.Shape.TheVariants.{Fixed, Sliding, Session}
 use Rattle.wsm_record.specs.declared.Mode.{Mode}
@@ -20,6 +20,7 @@ use Rattle.wsm_record.specs.Schema.{FieldType, Int, Truth, Enum, DeclaredField, 
 use Rattle.wsm_bytecode.specs.declared.program.Budget.{Budget}
 use Rattle.wsm_record.specs.Name.{is_between, is_name, is_among}
 use Rattle.wsm_bytecode.specs.Spelling.{magic}
+use Rattle.wsm_bytecode.specs.Operations.{of_code}
 
 -- a value and the bytes after it, or the first fault
 abbrev pub Read : Type 0 → Type 0
@@ -301,21 +302,8 @@ unfoldable pub plain_instr : ℕ → Option Instr
 plain_instr c =
     if c == 5 then Some Key
     else if c == 7 then Some Count
-    else if c == 16 then Some Add
-    else if c == 17 then Some Sub
-    else if c == 18 then Some Mul
-    else if c == 19 then Some Div
-    else if c == 20 then Some Rem
-    else if c == 21 then Some Neg
-    else if c == 32 then Some Eq
-    else if c == 33 then Some Ne
-    else if c == 34 then Some Lt
-    else if c == 35 then Some Le
-    else if c == 36 then Some Gt
-    else if c == 37 then Some Ge
-    else if c == 40 then Some Not
     else if c == 80 then Some Return
-    else None
+    else option_map Operate (of_code c)
 
 -- it stands alone
 abbrev pub plain_at : Option Instr → List ℕ → Read Instr

@@ -7,7 +7,7 @@ use Rattle.wsm_bytecode.specs.declared.instr.CellType.TheVariants as types
 use Rattle.wsm_record.specs.declared.Kind.{Kind}
 use Rattle.wsm_record.specs.declared.Kind.TheVariants.{Sum, Min, Max, Any, All}
 use Rattle.wsm_bytecode.specs.declared.instr.Instr.{Instr}
-use Rattle.wsm_bytecode.specs.declared.instr.Instr.TheVariants.{PushInt, PushBool, PushEnum, Field, Key, Acc, Count, Add, Sub, Mul, Div, Rem, Neg, Eq, Ne, Lt, Le, Gt, Ge, Not, Jump, JumpIfFalse, Fold, Return}
+use Rattle.wsm_bytecode.specs.declared.instr.Instr.TheVariants.{PushInt, PushBool, PushEnum, Field, Key, Acc, Count, Operate, Jump, JumpIfFalse, Fold, Return}
 use Rattle.wsm_windows.specs.declared.Shape.{Shape}
 use Rattle.wsm_windows.specs.declared.Shape.TheVariants.{Fixed, Sliding, Session}
 use Rattle.wsm_record.specs.declared.Mode.{Mode}
@@ -17,6 +17,7 @@ use Rattle.wsm_record.specs.declared.Form.TheVariants.{Panes, Istream, Dstream, 
 use Rattle.wsm_bytecode.specs.Program.{Name, Header, Program}
 use Rattle.wsm_record.specs.Schema.{FieldType, Int, Truth, Enum, DeclaredField, Declared}
 use Rattle.wsm_bytecode.specs.declared.program.Budget.{Budget}
+use Rattle.wsm_bytecode.specs.Operations as operation
 
 abbrev pub byte : ℕ → List ℕ
 byte n = to_le_bytes w8 n
@@ -106,19 +107,7 @@ instr (Field f) = byte 4 ++ byte f
 instr Key = byte 5
 instr (Acc a) = byte 6 ++ byte a
 instr Count = byte 7
-instr Add = byte 16
-instr Sub = byte 17
-instr Mul = byte 18
-instr Div = byte 19
-instr Rem = byte 20
-instr Neg = byte 21
-instr Eq = byte 32
-instr Ne = byte 33
-instr Lt = byte 34
-instr Le = byte 35
-instr Gt = byte 36
-instr Ge = byte 37
-instr Not = byte 40
+instr (Operate o) = byte (operation.code o)
 instr (Jump t) = byte 48 ++ number t
 instr (JumpIfFalse t) = byte 49 ++ number t
 instr (Fold a) = byte 64 ++ byte a

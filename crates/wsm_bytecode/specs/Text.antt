@@ -3,11 +3,12 @@ use Rattle.std.specs.Prelude.{ℕ, suc, List, [], ◌∷◌, ◌++◌, map, ℤ,
 use Rattle.std.specs.List.{flat_map, join_with_byte}
 use Rattle.std.specs.Fmt.{signed_decimal}
 use Rattle.wsm_bytecode.specs.declared.instr.Instr.{Instr}
-use Rattle.wsm_bytecode.specs.declared.instr.Instr.TheVariants.{PushInt, PushBool, PushEnum, Field, Key, Acc, Count, Add, Sub, Mul, Div, Rem, Neg, Eq, Ne, Lt, Le, Gt, Ge, Not, Jump, JumpIfFalse, Fold, Return}
+use Rattle.wsm_bytecode.specs.declared.instr.Instr.TheVariants.{PushInt, PushBool, PushEnum, Field, Key, Acc, Count, Operate, Jump, JumpIfFalse, Fold, Return}
 use Rattle.wsm_bytecode.specs.declared.instr.SectionId.{SectionId}
 use Rattle.wsm_bytecode.specs.declared.instr.SectionId.TheVariants.{Where, Update, Fire}
 use Rattle.wsm_bytecode.specs.Program.{Program}
 use Rattle.wsm_bytecode.specs.Spelling.{truth}
+use Rattle.wsm_bytecode.specs.Operations as operation
 
 -- a word of a line: letters, or a number in decimal
 pub data Word : Type 0 where
@@ -30,19 +31,7 @@ instr_words (Field f) = with_one (codes "FIELD") f
 instr_words Key = word (codes "KEY")
 instr_words (Acc a) = with_one (codes "ACC") a
 instr_words Count = word (codes "COUNT")
-instr_words Add = word (codes "ADD")
-instr_words Sub = word (codes "SUB")
-instr_words Mul = word (codes "MUL")
-instr_words Div = word (codes "DIV")
-instr_words Rem = word (codes "REM")
-instr_words Neg = word (codes "NEG")
-instr_words Eq = word (codes "EQ")
-instr_words Ne = word (codes "NE")
-instr_words Lt = word (codes "LT")
-instr_words Le = word (codes "LE")
-instr_words Gt = word (codes "GT")
-instr_words Ge = word (codes "GE")
-instr_words Not = word (codes "NOT")
+instr_words (Operate o) = word (operation.word o)
 instr_words (Jump t) = with_one (codes "JMP") t
 instr_words (JumpIfFalse t) = with_one (codes "JF") t
 instr_words (Fold a) = with_one (codes "FOLD") a

@@ -13,6 +13,7 @@ use Rattle.wsm_bytecode.specs.declared.refusal.DecodeRefusal.TheVariants.{BadMag
 use Rattle.wsm_bytecode.specs.Program.{Program, is_schema, is_header, is_section, is_program}
 use Rattle.wsm_bytecode.specs.Spelling.{long, signed, schema, header, instr, code, spelling}
 use Rattle.wsm_bytecode.specs.Reading.{name_at, names_at, interval_at, enum_at, field_type_at, new_field_at, schema_at, fixed_at, sliding_at, session_at, shape_at, mode_at, form_at, kind_at, kinds_at, enum_number_at, enum_column_at, column_at, columns_at, budget_at, after_magic, after_version, header_at, push_int_at, push_bool_at, push_enum_at, index_at, target_at, plain_instr, instr_by, instr_at, code_at, program_at, decode}
+use Rattle.wsm_bytecode.specs.Operations.{of_code}
 use Rattle.wsm_bytecode.specs.Text.{Letters, Number, lines}
 
 -- counts the records of keys a and b in windows of 60, and sums their field n
@@ -95,7 +96,7 @@ no_such_field = refl
 
 -- byte 133 is no instruction
 no_such_code : decode (slice_set base_bytes 133 127) ≡ Err UnknownOpcode
-unfolding name_at names_at interval_at enum_at field_type_at new_field_at schema_at fixed_at sliding_at session_at shape_at mode_at form_at kind_at kinds_at enum_number_at enum_column_at column_at columns_at budget_at after_magic after_version header_at push_int_at push_bool_at push_enum_at index_at target_at plain_instr instr_by instr_at code_at program_at decode is_reserved
+unfolding name_at names_at interval_at enum_at field_type_at new_field_at schema_at fixed_at sliding_at session_at shape_at mode_at form_at kind_at kinds_at enum_number_at enum_column_at column_at columns_at budget_at after_magic after_version header_at push_int_at push_bool_at push_enum_at index_at target_at of_code plain_instr instr_by instr_at code_at program_at decode is_reserved
 no_such_code = refl
 
 one_more : decode (base_bytes ++ 0 ∷ []) ≡ Err TrailingBytes

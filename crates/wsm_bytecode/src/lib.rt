@@ -21,7 +21,7 @@
 //! assert!(rt; cut.is_err_and(|e| e == DecodeRefusal::Truncated));
 //! ```
 //!
-//! - `instr`: the instruction table
+//! - `instr`, `operation`, `table`: the instructions, and what each is
 //! - `program`: headers and programs
 //! - `refusal`: why bytes are no program
 //! - `reading`: from bytes to a program
@@ -32,6 +32,7 @@
 
 pub use instr::{CellType, Instr, SectionId};
 pub use listing::disassemble;
+pub use operation::{Operands, Operation};
 pub use program::{Budget, Header, Program, Section};
 pub use reading::decode;
 pub use refusal::DecodeRefusal;
@@ -42,9 +43,11 @@ mod instr;
 mod judging;
 mod limits;
 mod listing;
+mod operation;
 mod program;
 mod reading;
 mod refusal;
+mod table;
 #[cfg(test)]
 mod tests;
 mod writing;

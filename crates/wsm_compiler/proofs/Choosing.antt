@@ -11,7 +11,8 @@ use Rattle.wsm_bytecode.specs.declared.SectionId.TheVariants.{Where, Update, Fir
 use Rattle.wsm_verifier.specs.declared.known.Known.{Known}
 use Rattle.wsm_verifier.specs.declared.known.Known.TheVariants.{Truth}
 use Rattle.wsm_verifier.specs.Labels.{State, Label, Unreached, Reached, Visit, same_type, hull_known, agree, hull_states, hull_all, carried_to, visit, visit_of}
-use Rattle.wsm_verifier.specs.Rules.{Setting, may_stand, fold_missing, is_later, fault_of}
+use Rattle.wsm_bytecode.specs.Instructions.{is_later}
+use Rattle.wsm_verifier.specs.Rules.{Setting, fold_missing, fault_of}
 use Rattle.wsm_compiler.specs.Code.{choice}
 use Rattle.wsm_compiler.proofs.Visits.{nil_right, extended, added, extended_is, added_append, carries, carries_append, faults, faults_append, or_true}
 use Rattle.wsm_compiler.proofs.Hulls.{stack_self, types_self, flags_self, hull_with}
@@ -26,16 +27,6 @@ hulled (Some a) None = None
 hulled None b = None
 
 -- ---- the two jumps have no fault
-
-branches : (id : SectionId) (t : ℕ) → may_stand id (JumpIfFalse t) ≡ true
-branches Where t = refl
-branches Update t = refl
-branches Fire t = refl
-
-jumps : (id : SectionId) (t : ℕ) → may_stand id (Jump t) ≡ true
-jumps Where t = refl
-jumps Update t = refl
-jumps Fire t = refl
 
 missing_at_test : (id : SectionId) (t : ℕ) (fs : List Bool) → fold_missing id (JumpIfFalse t) fs ≡ false
 missing_at_test Where t fs = refl
@@ -65,13 +56,13 @@ room_at_jump n h = grind arith
 pub test_passes : (c : Setting) (k t : ℕ) (s : State) → length s.stack < 32 → k < t → t < c.n → suc k < c.n → is_some (fault_of c k (JumpIfFalse t) (Reached (with_known Truth s))) ≡ false
 test_passes c k t s room later inside more =
     tested c k (JumpIfFalse t) (with_known Truth s) false false false false false false false false false false false
-    (ap not (branches c.section t)) (has_one (length s.stack)) refl refl refl refl refl (room_at_test (length s.stack) room)
+    refl (has_one (length s.stack)) refl refl refl refl refl (room_at_test (length s.stack) room)
     (missing_at_test c.section t s.folded) (well c.n k t later inside) (not_last true k c.n more)
 
 pub jump_passes : (c : Setting) (k t : ℕ) (s : State) → length s.stack ≤ 32 → k < t → t < c.n → is_some (fault_of c k (Jump t) (Reached s)) ≡ false
 jump_passes c k t s room later inside =
     tested c k (Jump t) s false false false false false false false false false false false
-    (ap not (jumps c.section t)) (not_under (length s.stack)) refl refl refl refl refl (room_at_jump (length s.stack) room)
+    refl (not_under (length s.stack)) refl refl refl refl refl (room_at_jump (length s.stack) room)
     (missing_at_jump c.section t s.folded) (well c.n k t later inside) refl
 
 -- ---- their edges

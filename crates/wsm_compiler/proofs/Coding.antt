@@ -3,6 +3,7 @@ use Rattle.std.proofs.Common.{◌≡◌, ℕ, ◌+◌, ◌<◌, false, true, Lis
 use Rattle.std.proofs.lemmas.List.{drop_more}
 use Rattle.wsm_bytecode.specs.declared.instr.Instr.{Instr}
 use Rattle.wsm_bytecode.specs.declared.instr.Instr.TheVariants as instr
+use Rattle.wsm_bytecode.specs.declared.operation.Operation.TheVariants as operation
 use Rattle.wsm_check.specs.Terms.{Term, Number, Truth, Field, Name, Key, Count, Accumulator, If, Minus, Not, Binary, And, Or}
 use Rattle.wsm_compiler.specs.Code.{instruction, choice}
 use Rattle.wsm_check.specs.Parts.{Folding}
@@ -18,8 +19,8 @@ length-term_code k (If c x y) =
     let l = length-append (term_code k c) (choice j first (term_size x) second (term_size y)) in
     let m = length-choice j first (term_size x) second (term_size y) in
     omega (arith, l, m, length-term_code k c, length-term_code j x, length-term_code (j + term_size x + 1) y)
-length-term_code k (Minus x) = let l = length-append (term_code k x) (instr.Neg ∷ []) in omega (arith, l, length-term_code k x)
-length-term_code k (Not x) = let l = length-append (term_code k x) (instr.Not ∷ []) in omega (arith, l, length-term_code k x)
+length-term_code k (Minus x) = let l = length-append (term_code k x) (instr.Operate operation.Neg ∷ []) in omega (arith, l, length-term_code k x)
+length-term_code k (Not x) = let l = length-append (term_code k x) (instr.Operate operation.Not ∷ []) in omega (arith, l, length-term_code k x)
 length-term_code k (Binary op x y) =
     let right = term_code (k + term_size x) y in
     let l = length-append (term_code k x) (right ++ instruction op ∷ []) in

@@ -6,11 +6,10 @@ use Rattle.std.proofs.lemmas.Option.{same_Some}
 use Rattle.wsm_bytecode.specs.declared.instr.Instr.{Instr}
 use Rattle.wsm_bytecode.specs.declared.instr.Instr.TheVariants.{Return}
 use Rattle.wsm_bytecode.specs.declared.SectionId.{SectionId}
-use Rattle.wsm_bytecode.specs.declared.SectionId.TheVariants.{Where, Update, Fire}
 use Rattle.wsm_bytecode.specs.Program.{Program, section}
 use Rattle.wsm_verifier.specs.declared.known.Known.{Known}
 use Rattle.wsm_verifier.specs.Labels.{State, Ranges, Reached, Visit, same_types}
-use Rattle.wsm_verifier.specs.Rules.{Setting, may_stand, fold_missing, section_fault, setting, entry, fault_in}
+use Rattle.wsm_verifier.specs.Rules.{Setting, fold_missing, section_fault, setting, entry, fault_in}
 use Rattle.wsm_compiler.proofs.Visits.{extended, added, added_append, length-added, visits_are, faults, faults_append, or_true}
 use Rattle.wsm_compiler.proofs.Hulls.{no}
 use Rattle.wsm_compiler.proofs.Parts.{Comes, Labelled, shorter, continued, visit_is, fault_is}
@@ -50,17 +49,12 @@ follow_ends e c k n is js s (Some x) g hn hi hj first rest =
 
 -- ---- the return
 
-returns : (id : SectionId) → may_stand id Return ≡ true
-returns Where = refl
-returns Update = refl
-returns Fire = refl
-
 -- it has no fault on exactly what its section ends with
 pub return_ends : (e : State) (c : Setting) (k : ℕ) (s : State) → same_types s.stack c.ends ≡ true → fold_missing c.section Return s.folded ≡ false → length s.stack ≤ 32 → Ends e c k (Return ∷ []) s false
 return_ends e c k s types folded low vs at =
     ap (λ w. faults c (w ∷ [])) (visit_is e c.ranges Return vs k s at.long at.label) ∙ fault_is c k Return (Reached s)
     ∙ tested c k Return s false false false false false false false false false false false
-    (ap not (returns c.section)) (not_under (length s.stack)) (ap not types) refl refl refl refl (room_at_jump (length s.stack) low) folded refl refl
+    refl (not_under (length s.stack)) (ap not types) refl refl refl refl (room_at_jump (length s.stack) low) folded refl refl
 
 -- ---- a whole section
 

@@ -9,6 +9,7 @@ use Rattle.wsm_record.specs.Name.{is_among}
 use Rattle.wsm_interval.specs.declared.interval.Interval.{Interval}
 use Rattle.wsm_interval.specs.Interval.{interval, in_i64}
 use Rattle.wsm_bytecode.specs.declared.instr.Instr.TheVariants as instr
+use Rattle.wsm_bytecode.specs.declared.operation.Operation.TheVariants as operation
 use Rattle.wsm_query.specs.declared.expr.Op.{Op}
 use Rattle.wsm_query.specs.declared.expr.Op.TheVariants.{Add, Sub, Mul, Div, Rem, Eq, Ne, Lt, Le, Gt, Ge}
 use Rattle.wsm_query.specs.Tree.{Name, Ty, IntTy, BoolTy, EnumTy, Query, Expr, Number, Truth, Field, EnumName, Key, KeyName, Count, Aggregate, If, Brackets, Minus, Not, Binary, And, Or}
@@ -25,7 +26,7 @@ use Rattle.wsm_compiler.specs.Ranges.{Range, Unfit, NoNumber, Within, no_number,
 use Rattle.wsm_compiler.proofs.Hulls.{no, hull_either}
 use Rattle.wsm_compiler.proofs.Choosing.{hulled}
 use Rattle.wsm_compiler.proofs.Found.{of_instr, found}
-use Rattle.wsm_compiler.proofs.Suiting.{ok_is, err≢ok, typed_first, wanted_is, ty_is, suits, known_of, made, minus_found, minus_suits, not_found, op_typed, result_of, op_found}
+use Rattle.wsm_compiler.proofs.Suiting.{ok_is, err≢ok, typed_first, wanted_is, ty_is, suits, known_of, minus_found, minus_suits, not_found, op_typed, result_of, op_found}
 use Rattle.wsm_check.proofs.Passing.{length-accumulators_of}
 
 -- ---- types
@@ -262,13 +263,13 @@ at_type : (o : Option Known) (r : Range) (u t : ExprTy) → u ≡ t → o ≡ kn
 at_type o r u t e h = subst (λ x. o ≡ known_of x r) e h
 
 pub found_is : (c : Setting) (q : Query) (around : Around) → Reads c q around → (a : ℕ) (e : Expr) (t : ExprTy) → typed q around e ≡ Ok t → AccsIn c q around a (accumulators_of e) → found c q a e ≡ known_of t (range q e)
-found_is c q around reads a (Number n) t h accs = at_type _ (range q (Number n)) IntValue t (ok_is _ t h) (made c (instr.PushInt n) _ refl)
-found_is c q around reads a (Truth b) t h accs = at_type _ NoNumber BoolValue t (ok_is _ t h) (made c (instr.PushBool b) _ refl)
+found_is c q around reads a (Number n) t h accs = at_type _ (range q (Number n)) IntValue t (ok_is _ t h) refl
+found_is c q around reads a (Truth b) t h accs = at_type _ NoNumber BoolValue t (ok_is _ t h) refl
 found_is c q around reads a (Field x) t h accs = reads.field x t h
 found_is c q around reads a (EnumName x y) t h accs =
-    at_type _ NoNumber (EnumValue _) t (ok_is _ t (cond_ok (is_among x (field_names q.fields) && is_among y (names_of (type_of x q.fields))) _ _ t h)) (made c (instr.PushEnum _ _) _ refl)
-found_is c q around reads a Key t h accs = at_type _ NoNumber (EnumValue 0) t (ok_is _ t h) (made c instr.Key _ refl)
-found_is c q around reads a (KeyName x) t h accs = at_type _ NoNumber (EnumValue 0) t (ok_is _ t (cond_ok (is_among x q.keys) _ _ t h)) (made c (instr.PushEnum 0 _) _ refl)
+    at_type _ NoNumber (EnumValue _) t (ok_is _ t (cond_ok (is_among x (field_names q.fields) && is_among y (names_of (type_of x q.fields))) _ _ t h)) refl
+found_is c q around reads a Key t h accs = at_type _ NoNumber (EnumValue 0) t (ok_is _ t h) refl
+found_is c q around reads a (KeyName x) t h accs = at_type _ NoNumber (EnumValue 0) t (ok_is _ t (cond_ok (is_among x q.keys) _ _ t h)) refl
 found_is c q around reads a Count t h accs =
     let e = entered_is around (Ok IntValue) t h in at_type _ (range q Count) IntValue t (ok_is _ t e.1) (reads.count e.0)
 found_is c q around reads a (Aggregate kind e) t h accs =
@@ -284,10 +285,10 @@ found_is c q around reads a (If b x y) t h accs =
 found_is c q around reads a (Brackets e) t h accs = found_is c q around reads a e t h accs
 found_is c q around reads a (Minus e) t h accs =
     let u = unary_is q around e IntValue t h in
-    at_type _ (range q (Minus e)) IntValue t u.1 (ap (λ o. and_then (λ x. of_instr c instr.Neg (x ∷ [])) o) (found_is c q around reads a e IntValue u.0 accs) ∙ minus_found c (range q e) (range_suits c q around e IntValue u.0))
+    at_type _ (range q (Minus e)) IntValue t u.1 (ap (λ o. and_then (λ x. of_instr c (instr.Operate operation.Neg) (x ∷ [])) o) (found_is c q around reads a e IntValue u.0 accs) ∙ minus_found c (range q e) (range_suits c q around e IntValue u.0))
 found_is c q around reads a (Not e) t h accs =
     let u = unary_is q around e BoolValue t h in
-    at_type _ (range q (Not e)) BoolValue t u.1 (ap (λ o. and_then (λ x. of_instr c instr.Not (x ∷ [])) o) (found_is c q around reads a e BoolValue u.0 accs) ∙ not_found c (range q e) (range_suits c q around e BoolValue u.0))
+    at_type _ (range q (Not e)) BoolValue t u.1 (ap (λ o. and_then (λ x. of_instr c (instr.Operate operation.Not) (x ∷ [])) o) (found_is c q around reads a e BoolValue u.0 accs) ∙ not_found c (range q e) (range_suits c q around e BoolValue u.0))
 found_is c q around reads a (Binary op x y) t h accs =
     let p = two_types q around x y (op_ty op) t h in
     let o = op_is op p.left p.right t p.both in

@@ -10,6 +10,7 @@ use Rattle.wsm_interval.specs.declared.interval.Interval.{Interval}
 use Rattle.wsm_interval.specs.Interval.{interval, in_i64}
 use Rattle.wsm_bytecode.specs.declared.instr.Instr.{Instr}
 use Rattle.wsm_bytecode.specs.declared.instr.Instr.TheVariants as instr
+use Rattle.wsm_bytecode.specs.declared.operation.Operation.TheVariants as operation
 use Rattle.wsm_bytecode.specs.declared.program.Budget.{Budget as Stated}
 use Rattle.wsm_query.specs.declared.expr.Op.{Op}
 use Rattle.wsm_query.specs.declared.expr.Op.TheVariants.{Add, Sub, Mul, Div, Rem, Eq, Ne, Lt, Le, Gt, Ge}
@@ -95,8 +96,8 @@ code_folds_none q k a (If c x y) =
     all_both (code q k a c) (choice j first (size x) second (size y)) (code_folds_none q k a c)
     (all_both first (instr.Jump (j + size x + 1 + size y) ∷ second) (code_folds_none q j (a + aggregates c) x) (code_folds_none q (j + size x + 1) (a + (aggregates c + aggregates x)) y))
 code_folds_none q k a (Brackets e) = code_folds_none q k a e
-code_folds_none q k a (Minus e) = all_both (code q k a e) (instr.Neg ∷ []) (code_folds_none q k a e) refl
-code_folds_none q k a (Not e) = all_both (code q k a e) (instr.Not ∷ []) (code_folds_none q k a e) refl
+code_folds_none q k a (Minus e) = all_both (code q k a e) (instr.Operate operation.Neg ∷ []) (code_folds_none q k a e) refl
+code_folds_none q k a (Not e) = all_both (code q k a e) (instr.Operate operation.Not ∷ []) (code_folds_none q k a e) refl
 code_folds_none q k a (Binary op x y) =
     let right = code q (k + size x) (a + aggregates x) y in
     all_both (code q k a x) (right ++ instruction op ∷ []) (code_folds_none q k a x) (all_both right (instruction op ∷ []) (code_folds_none q (k + size x) (a + aggregates x) y) (ap (λ b. b && true) (op_folds_none op)))

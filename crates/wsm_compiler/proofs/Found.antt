@@ -4,9 +4,10 @@ use Rattle.std.specs.Prelude.{pos, ◌-ℤ◌, int_div, unsigned_abs, is_none, o
 use Rattle.std.specs.Int.{int_max}
 use Rattle.std.proofs.lemmas.Option.{same_Some}
 use Rattle.wsm_interval.specs.declared.interval.Interval.{Interval}
-use Rattle.wsm_interval.specs.Interval.{around, rem_within, div, rem}
+use Rattle.wsm_interval.specs.Interval.{interval, around, rem_within, div, rem}
 use Rattle.wsm_bytecode.specs.declared.instr.Instr.{Instr}
 use Rattle.wsm_bytecode.specs.declared.instr.Instr.TheVariants as instr
+use Rattle.wsm_bytecode.specs.declared.operation.Operation.TheVariants as operation
 use Rattle.wsm_query.specs.declared.expr.Op.{Op}
 use Rattle.wsm_query.specs.declared.expr.Op.TheVariants.{Add, Sub, Mul, Div, Rem, Eq, Ne, Lt, Le, Gt, Ge}
 use Rattle.wsm_query.specs.Tree.{Query, Expr, Number, Truth, Field, EnumName, Key, KeyName, Count, Aggregate, If, Brackets, Minus, Not, Binary, And, Or}
@@ -15,7 +16,8 @@ use Rattle.wsm_check.specs.Sizes.{aggregates}
 use Rattle.wsm_verifier.specs.declared.known.Known.{Known}
 use Rattle.wsm_verifier.specs.declared.known.Known.TheVariants as known
 use Rattle.wsm_verifier.specs.Labels.{State, pushed, of_one, of_two}
-use Rattle.wsm_verifier.specs.Rules.{Setting, may_stand, types_fit, has_zero, and_then}
+use Rattle.wsm_bytecode.specs.Instructions.{may_stand}
+use Rattle.wsm_verifier.specs.Rules.{Setting, types_fit, has_zero, and_then}
 use Rattle.wsm_compiler.specs.Code.{instruction}
 use Rattle.wsm_compiler.proofs.Hulls.{no}
 use Rattle.wsm_compiler.proofs.Parts.{none≢some, Labelled, sequence}
@@ -42,8 +44,8 @@ found c q a Count = of_instr c instr.Count []
 found c q a (Aggregate kind e) = of_instr c (instr.Acc a) []
 found c q a (If t x y) = and_then (λ b. hulled (found c q (a + aggregates t) x) (found c q (a + (aggregates t + aggregates x)) y)) (found c q a t)
 found c q a (Brackets e) = found c q a e
-found c q a (Minus e) = and_then (λ x. of_instr c instr.Neg (x ∷ [])) (found c q a e)
-found c q a (Not e) = and_then (λ x. of_instr c instr.Not (x ∷ [])) (found c q a e)
+found c q a (Minus e) = and_then (λ x. of_instr c (instr.Operate operation.Neg) (x ∷ [])) (found c q a e)
+found c q a (Not e) = and_then (λ x. of_instr c (instr.Operate operation.Not) (x ∷ [])) (found c q a e)
 found c q a (Binary op x y) = and_then (λ u. and_then (λ v. of_instr c (instruction op) (v ∷ u ∷ [])) (found c q (a + aggregates x) y)) (found c q a x)
 found c q a (And x y) = and_then (λ b. hulled (found c q (a + aggregates x) y) (Some known.Truth)) (found c q a x)
 found c q a (Or x y) = and_then (λ b. hulled (Some known.Truth) (found c q (a + aggregates x) y)) (found c q a x)
@@ -88,19 +90,19 @@ module _ (e : State) (c : Setting) (k : ℕ) (s : State) (room : length s.stack 
   Makes i ops = Labelled e c k (i ∷ []) (stacked ops s) (pushed_on s (of_instr c i ops))
 
   pub push_int : (n : _) → Makes (instr.PushInt n) []
-  push_int n = acting e c k (instr.PushInt n) [] s true _ refl refl refl refl (λ h. no h) room more
+  push_int n = acting e c k (instr.PushInt n) [] s true (Some (known.Number (interval n n))) refl refl refl refl (λ h. no h) room more
 
   pub push_bool : (b : Bool) → Makes (instr.PushBool b) []
-  push_bool b = acting e c k (instr.PushBool b) [] s true _ refl refl refl refl (λ h. no h) room more
+  push_bool b = acting e c k (instr.PushBool b) [] s true (Some known.Truth) refl refl refl refl (λ h. no h) room more
 
   pub push_enum : (d n : ℕ) → Makes (instr.PushEnum d n) []
-  push_enum d n = acting e c k (instr.PushEnum d n) [] s true _ refl refl refl refl (λ h. no h) room more
+  push_enum d n = acting e c k (instr.PushEnum d n) [] s true (Some (known.NameOf d)) refl refl refl refl (λ h. no h) room more
 
   pub push_field : (f : ℕ) → Makes (instr.Field f) []
   push_field f = acting e c k (instr.Field f) [] s true _ refl refl refl refl (λ h. no h) room more
 
   pub push_key : Makes instr.Key []
-  push_key = acting e c k instr.Key [] s true _ refl refl refl refl (λ h. no h) room more
+  push_key = acting e c k instr.Key [] s true (Some (known.NameOf 0)) refl refl refl refl (λ h. no h) room more
 
   pub push_acc : (a : ℕ) → Makes (instr.Acc a) []
   push_acc a = acting e c k (instr.Acc a) [] s true _ refl refl refl refl (λ h. no h) room more
@@ -108,24 +110,24 @@ module _ (e : State) (c : Setting) (k : ℕ) (s : State) (room : length s.stack 
   pub push_count : Makes instr.Count []
   push_count = acting e c k instr.Count [] s true _ refl refl refl refl (λ h. no h) room more
 
-  pub make_neg : (v : Known) → Makes instr.Neg (v ∷ [])
-  make_neg v = acting e c k instr.Neg (v ∷ []) s _ _ refl refl refl (one_alone _ v s.stack) (λ h. no h) room more
+  pub make_neg : (v : Known) → Makes (instr.Operate operation.Neg) (v ∷ [])
+  make_neg v = acting e c k (instr.Operate operation.Neg) (v ∷ []) s _ _ refl refl refl (one_alone _ v s.stack) (λ h. no h) room more
 
-  pub make_not : (v : Known) → Makes instr.Not (v ∷ [])
-  make_not v = acting e c k instr.Not (v ∷ []) s _ _ refl refl refl refl (λ h. no h) room more
+  pub make_not : (v : Known) → Makes (instr.Operate operation.Not) (v ∷ [])
+  make_not v = acting e c k (instr.Operate operation.Not) (v ∷ []) s _ _ refl refl refl refl (λ h. no h) room more
 
   pub make_op : (op : Op) (u v : Known) → Makes (instruction op) (v ∷ u ∷ [])
-  make_op Add u v = acting e c k instr.Add (v ∷ u ∷ []) s _ _ refl refl refl (two_alone _ v u s.stack) (λ h. no h) room more
-  make_op Sub u v = acting e c k instr.Sub (v ∷ u ∷ []) s _ _ refl refl refl (two_alone _ v u s.stack) (λ h. no h) room more
-  make_op Mul u v = acting e c k instr.Mul (v ∷ u ∷ []) s _ _ refl refl refl (two_alone _ v u s.stack) (λ h. no h) room more
-  make_op Div u v = acting e c k instr.Div (v ∷ u ∷ []) s _ _ refl refl refl (two_alone _ v u s.stack) (zero_div v u) room more
-  make_op Rem u v = acting e c k instr.Rem (v ∷ u ∷ []) s _ _ refl refl refl (two_alone _ v u s.stack) (zero_rem v u) room more
-  make_op Eq u v = acting e c k instr.Eq (v ∷ u ∷ []) s _ _ refl refl refl refl (λ h. no h) room more
-  make_op Ne u v = acting e c k instr.Ne (v ∷ u ∷ []) s _ _ refl refl refl refl (λ h. no h) room more
-  make_op Lt u v = acting e c k instr.Lt (v ∷ u ∷ []) s _ _ refl refl refl refl (λ h. no h) room more
-  make_op Le u v = acting e c k instr.Le (v ∷ u ∷ []) s _ _ refl refl refl refl (λ h. no h) room more
-  make_op Gt u v = acting e c k instr.Gt (v ∷ u ∷ []) s _ _ refl refl refl refl (λ h. no h) room more
-  make_op Ge u v = acting e c k instr.Ge (v ∷ u ∷ []) s _ _ refl refl refl refl (λ h. no h) room more
+  make_op Add u v = acting e c k (instr.Operate operation.Add) (v ∷ u ∷ []) s _ _ refl refl refl (two_alone _ v u s.stack) (λ h. no h) room more
+  make_op Sub u v = acting e c k (instr.Operate operation.Sub) (v ∷ u ∷ []) s _ _ refl refl refl (two_alone _ v u s.stack) (λ h. no h) room more
+  make_op Mul u v = acting e c k (instr.Operate operation.Mul) (v ∷ u ∷ []) s _ _ refl refl refl (two_alone _ v u s.stack) (λ h. no h) room more
+  make_op Div u v = acting e c k (instr.Operate operation.Div) (v ∷ u ∷ []) s _ _ refl refl refl (two_alone _ v u s.stack) (zero_div v u) room more
+  make_op Rem u v = acting e c k (instr.Operate operation.Rem) (v ∷ u ∷ []) s _ _ refl refl refl (two_alone _ v u s.stack) (zero_rem v u) room more
+  make_op Eq u v = acting e c k (instr.Operate operation.Eq) (v ∷ u ∷ []) s _ _ refl refl refl refl (λ h. no h) room more
+  make_op Ne u v = acting e c k (instr.Operate operation.Ne) (v ∷ u ∷ []) s _ _ refl refl refl refl (λ h. no h) room more
+  make_op Lt u v = acting e c k (instr.Operate operation.Lt) (v ∷ u ∷ []) s _ _ refl refl refl refl (λ h. no h) room more
+  make_op Le u v = acting e c k (instr.Operate operation.Le) (v ∷ u ∷ []) s _ _ refl refl refl refl (λ h. no h) room more
+  make_op Gt u v = acting e c k (instr.Operate operation.Gt) (v ∷ u ∷ []) s _ _ refl refl refl refl (λ h. no h) room more
+  make_op Ge u v = acting e c k (instr.Operate operation.Ge) (v ∷ u ∷ []) s _ _ refl refl refl refl (λ h. no h) room more
 
 -- a part of n places that pushes a value, and what follows it
 pub follow : (e : State) (c : Setting) (k n : ℕ) (is js : List Instr) (s : State) (o : Option Known) (f : Known → Option State) → length is ≡ n → 0 < length is → 0 < length js →

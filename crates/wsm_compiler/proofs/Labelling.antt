@@ -2,6 +2,7 @@
 use Rattle.std.proofs.Common.{◌≡◌, ℕ, suc, ◌+◌, ◌≤◌, ◌<◌, true, false, [], ◌∷◌, ◌++◌, length, Option, Some, None, Ok, refl, sym, ap, subst, ◌∙◌, arith, length-append}
 use Rattle.std.proofs.lemmas.Option.{same_Some}
 use Rattle.wsm_bytecode.specs.declared.instr.Instr.TheVariants as instr
+use Rattle.wsm_bytecode.specs.declared.operation.Operation.TheVariants as operation
 use Rattle.wsm_query.specs.Tree.{Query, Expr, Number, Truth, Field, EnumName, Key, KeyName, Count, Aggregate, If, Brackets, Minus, Not, Binary, And, Or}
 use Rattle.wsm_check.specs.Types.{ExprTy, IntValue, BoolValue, typed, op_ty}
 use Rattle.wsm_check.specs.declared.types.Around.{Around}
@@ -17,7 +18,7 @@ use Rattle.wsm_compiler.proofs.Tests.{with_known, pushed_on}
 use Rattle.wsm_compiler.proofs.Choosing.{hulled, choose}
 use Rattle.wsm_compiler.proofs.Sizes.{length-code, some_size, some_need, some_code}
 use Rattle.wsm_compiler.proofs.Found.{of_instr, found, push_int, push_bool, push_enum, push_field, push_key, push_acc, push_count, make_neg, make_not, make_op, follow}
-use Rattle.wsm_compiler.proofs.Suiting.{known_same, known_truth, made}
+use Rattle.wsm_compiler.proofs.Suiting.{known_same, known_truth}
 use Rattle.wsm_compiler.proofs.Finding.{two_types, if_types, logic_types, unary_is, Reads, AccsIn, in_left, in_right, three_accs, found_is}
 
 pushed_bind : (s : State) (g : Known → Option Known) (o : Option Known) → and_then (λ x. pushed_on s (g x)) o ≡ pushed_on s (and_then g o)
@@ -44,7 +45,7 @@ same_truth c q around reads a x h accs u v l e =
 
 -- a truth that an instruction pushes
 pub truth_pushed : (e : State) (c : Setting) (k : ℕ) (s : State) → length s.stack < 32 → suc k < c.n → (b : _) → Labelled e c k (instr.PushBool b ∷ []) s (pushed_on s (Some known.Truth))
-truth_pushed e c k s room more b = subst (λ o. Labelled e c k (instr.PushBool b ∷ []) s (pushed_on s o)) (made c (instr.PushBool b) (Some known.Truth) refl) (push_bool e c k s room more b)
+truth_pushed e c k s room more b = push_bool e c k s room more b
 
 module _ (e : State) (c : Setting) (q : Query) (around : Around) (reads : Reads c q around) where
   pub labelled : (k a : ℕ) (x : Expr) (t : ExprTy) (s : State) → typed q around x ≡ Ok t → AccsIn c q around a (accumulators_of x) → length s.stack + need x ≤ 32 → k + size x < c.n →
@@ -81,14 +82,14 @@ module _ (e : State) (c : Setting) (q : Query) (around : Around) (reads : Reads 
   labelled k a (Brackets x) t s h accs room more = labelled k a x t s h accs room more
   labelled k a (Minus x) t s h accs room more =
       let u = unary_is q around x IntValue t h in
-      subst (λ o. Labelled e c k (code q k a x ++ instr.Neg ∷ []) s o) (pushed_bind s (λ v. of_instr c instr.Neg (v ∷ [])) (found c q a x))
-      (follow e c k (size x) (code q k a x) (instr.Neg ∷ []) s (found c q a x) (λ v. pushed_on s (of_instr c instr.Neg (v ∷ []))) (length-code q k a x) (some_code q k a x) (omega arith)
+      subst (λ o. Labelled e c k (code q k a x ++ instr.Operate operation.Neg ∷ []) s o) (pushed_bind s (λ v. of_instr c (instr.Operate operation.Neg) (v ∷ [])) (found c q a x))
+      (follow e c k (size x) (code q k a x) (instr.Operate operation.Neg ∷ []) s (found c q a x) (λ v. pushed_on s (of_instr c (instr.Operate operation.Neg) (v ∷ []))) (length-code q k a x) (some_code q k a x) (omega arith)
       (labelled k a x IntValue s u.0 accs room (omega (arith, more)))
       (λ v ev. make_neg e c (k + size x) s (omega (arith, room, some_need x)) (omega (arith, more)) v))
   labelled k a (Not x) t s h accs room more =
       let u = unary_is q around x BoolValue t h in
-      subst (λ o. Labelled e c k (code q k a x ++ instr.Not ∷ []) s o) (pushed_bind s (λ v. of_instr c instr.Not (v ∷ [])) (found c q a x))
-      (follow e c k (size x) (code q k a x) (instr.Not ∷ []) s (found c q a x) (λ v. pushed_on s (of_instr c instr.Not (v ∷ []))) (length-code q k a x) (some_code q k a x) (omega arith)
+      subst (λ o. Labelled e c k (code q k a x ++ instr.Operate operation.Not ∷ []) s o) (pushed_bind s (λ v. of_instr c (instr.Operate operation.Not) (v ∷ [])) (found c q a x))
+      (follow e c k (size x) (code q k a x) (instr.Operate operation.Not ∷ []) s (found c q a x) (λ v. pushed_on s (of_instr c (instr.Operate operation.Not) (v ∷ []))) (length-code q k a x) (some_code q k a x) (omega arith)
       (labelled k a x BoolValue s u.0 accs room (omega (arith, more)))
       (λ v ev. make_not e c (k + size x) s (omega (arith, room, some_need x)) (omega (arith, more)) v))
   labelled k a (Binary op x y) t s h accs room more =

@@ -5,8 +5,9 @@ use Rattle.std.proofs.lemmas.Bool.{lt-ltb}
 use Rattle.std.proofs.lemmas.List.{length-map}
 use Rattle.wsm_bytecode.specs.declared.instr.Instr.{Instr}
 use Rattle.wsm_bytecode.specs.declared.instr.Instr.TheVariants as instr
+use Rattle.wsm_bytecode.specs.declared.operation.Operation.TheVariants as operation
 use Rattle.wsm_verifier.specs.Costs.{longer, longest_of, one_more, way_from, way_of, ways, longest_path, windows_of_a_record, join_steps}
-use Rattle.wsm_verifier.specs.Labels.{next}
+use Rattle.wsm_bytecode.specs.Instructions.{next}
 use Rattle.wsm_query.specs.declared.expr.Op.{Op}
 use Rattle.wsm_query.specs.declared.expr.Op.TheVariants.{Add, Sub, Mul, Div, Rem, Eq, Ne, Lt, Le, Gt, Ge}
 use Rattle.wsm_query.specs.Tree.{Query, Expr, Number, Truth, Field, EnumName, Key, KeyName, Count, Aggregate, If, Brackets, Minus, Not, Binary, And, Or}
@@ -152,8 +153,8 @@ code_takes q k a (If c x y) =
     sequence_takes k (code q k a c) (choice (i + 1) (code q (i + 1) ax x) (size x) (code q j ay y) (size y)) i (longest c) (1 + max (longest x + 1) (longest y)) (behind_code q k a c) (code_takes q k a c)
     (choice_takes i (size x) (size y) (code q (i + 1) ax x) (code q j ay y) (longest x) (longest y) (length-code q (i + 1) ax x) (length-code q j ay y) (code_takes q (i + 1) ax x) (code_takes q j ay y))
 code_takes q k a (Brackets e) = code_takes q k a e
-code_takes q k a (Minus e) = sequence_takes k (code q k a e) (instr.Neg ∷ []) (k + size e) (longest e) 1 (behind_code q k a e) (code_takes q k a e) (plain_takes (k + size e) instr.Neg refl)
-code_takes q k a (Not e) = sequence_takes k (code q k a e) (instr.Not ∷ []) (k + size e) (longest e) 1 (behind_code q k a e) (code_takes q k a e) (plain_takes (k + size e) instr.Not refl)
+code_takes q k a (Minus e) = sequence_takes k (code q k a e) (instr.Operate operation.Neg ∷ []) (k + size e) (longest e) 1 (behind_code q k a e) (code_takes q k a e) (plain_takes (k + size e) (instr.Operate operation.Neg) refl)
+code_takes q k a (Not e) = sequence_takes k (code q k a e) (instr.Operate operation.Not ∷ []) (k + size e) (longest e) 1 (behind_code q k a e) (code_takes q k a e) (plain_takes (k + size e) (instr.Operate operation.Not) refl)
 code_takes q k a (Binary op x y) =
     let i = k + size x in
     let b = a + aggregates x in

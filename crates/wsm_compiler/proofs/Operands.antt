@@ -9,6 +9,7 @@ use Rattle.wsm_record.specs.declared.words.Kind.TheVariants.{Sum, Min, Max, Any,
 use Rattle.wsm_record.specs.Name.{is_among}
 use Rattle.wsm_bytecode.specs.declared.instr.Instr.{Instr}
 use Rattle.wsm_bytecode.specs.declared.instr.Instr.TheVariants as instr
+use Rattle.wsm_bytecode.specs.declared.operation.Operation.TheVariants as operation
 use Rattle.wsm_bytecode.specs.declared.program.Budget.{Budget as Stated}
 use Rattle.wsm_bytecode.specs.Program.{Header, names_of_type, is_name_of, is_column, is_instr}
 use Rattle.wsm_query.specs.declared.expr.Op.{Op}
@@ -185,9 +186,9 @@ module _ (q : Query) (b : Stated) where
       (omega (arith, room)))
   code_fine around k a (Brackets e) t h l accs room = code_fine around k a e t h l accs room
   code_fine around k a (Minus e) t h l accs room =
-      fine_both (code q k a e) (instr.Neg ∷ []) (code_fine around k a e IntValue (unary_is q around e IntValue t h).0 l accs (omega (arith, room))) refl
+      fine_both (code q k a e) (instr.Operate operation.Neg ∷ []) (code_fine around k a e IntValue (unary_is q around e IntValue t h).0 l accs (omega (arith, room))) refl
   code_fine around k a (Not e) t h l accs room =
-      fine_both (code q k a e) (instr.Not ∷ []) (code_fine around k a e BoolValue (unary_is q around e BoolValue t h).0 l accs (omega (arith, room))) refl
+      fine_both (code q k a e) (instr.Operate operation.Not ∷ []) (code_fine around k a e BoolValue (unary_is q around e BoolValue t h).0 l accs (omega (arith, room))) refl
   code_fine around k a (Binary op x y) t h l accs room =
       let p = two_types q around x y (op_ty op) t h in
       let f = and_parts (numbers_fit x) (numbers_fit y) l in

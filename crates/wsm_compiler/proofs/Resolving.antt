@@ -3,6 +3,7 @@ use Rattle.std.proofs.Common.{◌≡◌, ℕ, ◌+◌, List, [], ◌∷◌, ◌+
 use Rattle.std.specs.Prelude.{suc, option_map}
 use Rattle.std.proofs.lemmas.Simd.{map-map}
 use Rattle.wsm_bytecode.specs.declared.instr.Instr.TheVariants as instr
+use Rattle.wsm_bytecode.specs.declared.operation.Operation.TheVariants as operation
 use Rattle.wsm_bytecode.specs.declared.program.Budget.{Budget as Stated}
 use Rattle.wsm_query.specs.Tree.{Query, Expr, Number, Truth, Field, EnumName, Key, KeyName, Count, Aggregate, If, Brackets, Minus, Not, Binary, And, Or}
 use Rattle.wsm_check.specs.Sizes.{Acc, aggregates, accumulators, size, condition_size, folds_size, columns_size}
@@ -37,8 +38,8 @@ resolved_code q k a (If c x y) =
     let j = k + size c + 1 in
     rw (resolved_size q a c, resolved_size q b x, resolved_size q d y, resolved_code q k a c, resolved_code q j b x, resolved_code q (j + size x + 1) d y) refl
 resolved_code q k a (Brackets e) = resolved_code q k a e
-resolved_code q k a (Minus e) = ap (λ is. is ++ instr.Neg ∷ []) (resolved_code q k a e)
-resolved_code q k a (Not e) = ap (λ is. is ++ instr.Not ∷ []) (resolved_code q k a e)
+resolved_code q k a (Minus e) = ap (λ is. is ++ instr.Operate operation.Neg ∷ []) (resolved_code q k a e)
+resolved_code q k a (Not e) = ap (λ is. is ++ instr.Operate operation.Not ∷ []) (resolved_code q k a e)
 resolved_code q k a (Binary op x y) =
     let b = a + aggregates x in
     rw (resolved_size q a x, resolved_code q k a x, resolved_code q (k + size x) b y) refl

@@ -9,10 +9,12 @@ use Rattle.wsm_record.specs.declared.words.Kind.TheVariants.{Sum, Min, Max, Any,
 use Rattle.wsm_record.specs.Name.{is_among}
 use Rattle.wsm_bytecode.specs.declared.instr.Instr.{Instr}
 use Rattle.wsm_bytecode.specs.declared.instr.Instr.TheVariants as instr
+use Rattle.wsm_bytecode.specs.declared.operation.Operation.TheVariants as operation
 use Rattle.wsm_machine.specs.declared.cell.Cell.{Cell}
 use Rattle.wsm_machine.specs.declared.cell.Cell.TheVariants as cells
 use Rattle.wsm_machine.specs.declared.outcome.Trap.TheVariants.{Underflow, StackFull, IntOverflow, WrongSection}
-use Rattle.wsm_machine.specs.Step.{Setting, State, Next, Goes, cell_of, may_stand, overflows, push_on, step, unless}
+use Rattle.wsm_bytecode.specs.Instructions.{may_stand}
+use Rattle.wsm_machine.specs.Step.{Setting, State, Next, Goes, cell_of, overflows, push_on, step, unless}
 use Rattle.wsm_query.specs.Tree.{Query, Ty, IntTy, BoolTy, EnumTy, Expr, Number, Truth, Field, EnumName, Key, KeyName, Count, Aggregate, If, Brackets, Minus, Not, Binary, And, Or}
 use Rattle.wsm_check.specs.Names.{place_of, field_names, field_place, type_of, names_of}
 use Rattle.wsm_check.specs.Types.{ExprTy, IntValue, BoolValue, EnumValue, declared_ty, operand_ty, op_ty, typed}
@@ -202,7 +204,7 @@ module _ (c : Setting) (q : Query) (around : Around) (s : Scene) (serves : Serve
   code_runs k a (Minus e) t h accs at inside stack folds room =
       let u = unary_is q around e IntValue t h in
       let i = k + size e in
-      let parts = split_code q c.code k a e (instr.Neg ∷ []) at in
+      let parts = split_code q c.code k a e (instr.Operate operation.Neg ∷ []) at in
       let over : i + 1 ≡ k + (size e + 1) = omega arith in
       at_place c (state k stack folds) (i + 1) (k + (size e + 1)) stack folds t (kept (minus (value a e))) over
       (at_type c (state k stack folds) (i + 1) stack folds IntValue t (kept (minus (value a e))) u.1
@@ -211,7 +213,7 @@ module _ (c : Setting) (q : Query) (around : Around) (s : Scene) (serves : Serve
   code_runs k a (Not e) t h accs at inside stack folds room =
       let u = unary_is q around e BoolValue t h in
       let i = k + size e in
-      let parts = split_code q c.code k a e (instr.Not ∷ []) at in
+      let parts = split_code q c.code k a e (instr.Operate operation.Not ∷ []) at in
       let over : i + 1 ≡ k + (size e + 1) = omega arith in
       at_place c (state k stack folds) (i + 1) (k + (size e + 1)) stack folds t (negated (value a e)) over
       (at_type c (state k stack folds) (i + 1) stack folds BoolValue t (negated (value a e)) u.1

@@ -5,6 +5,7 @@ use Rattle.wsm_query.specs.Tree.{Query, Expr, Number, Truth, Field, EnumName, Ke
 use Rattle.wsm_check.specs.Sizes.{aggregates, size, need}
 use Rattle.wsm_compiler.specs.Code.{code, choice, instruction}
 use Rattle.wsm_bytecode.specs.declared.instr.Instr.TheVariants as instr
+use Rattle.wsm_bytecode.specs.declared.operation.Operation.TheVariants as operation
 
 pub length-choice : (j : ℕ) (first : List Instr) (m : ℕ) (second : List Instr) (n : ℕ) → length (choice j first m second n) ≡ length first + length second + 2
 length-choice j first m second n = let l = length-append first (instr.Jump (j + m + 1 + n) ∷ second) in omega (arith, l)
@@ -19,8 +20,8 @@ length-code q k a (If c x y) =
     let m = length-choice j first (size x) second (size y) in
     omega (arith, l, m, length-code q k a c, length-code q j (a + aggregates c) x, length-code q (j + size x + 1) (a + (aggregates c + aggregates x)) y)
 length-code q k a (Brackets e) = length-code q k a e
-length-code q k a (Minus e) = let l = length-append (code q k a e) (instr.Neg ∷ []) in omega (arith, l, length-code q k a e)
-length-code q k a (Not e) = let l = length-append (code q k a e) (instr.Not ∷ []) in omega (arith, l, length-code q k a e)
+length-code q k a (Minus e) = let l = length-append (code q k a e) (instr.Operate operation.Neg ∷ []) in omega (arith, l, length-code q k a e)
+length-code q k a (Not e) = let l = length-append (code q k a e) (instr.Operate operation.Not ∷ []) in omega (arith, l, length-code q k a e)
 length-code q k a (Binary op x y) =
     let b = a + aggregates x in
     let right = code q (k + size x) b y in

@@ -6,15 +6,14 @@ use Rattle.wsm_interval.specs.declared.interval.Interval.{Interval}
 use Rattle.wsm_interval.specs.Interval.{add, sub, mul, div, rem, neg}
 use Rattle.wsm_bytecode.specs.declared.instr.Instr.{Instr}
 use Rattle.wsm_bytecode.specs.declared.instr.Instr.TheVariants as instr
-use Rattle.wsm_bytecode.specs.declared.SectionId.{SectionId}
-use Rattle.wsm_bytecode.specs.declared.SectionId.TheVariants.{Where, Update, Fire}
+use Rattle.wsm_bytecode.specs.declared.operation.Operation.TheVariants as operation
 use Rattle.wsm_query.specs.declared.expr.Op.{Op}
 use Rattle.wsm_query.specs.declared.expr.Op.TheVariants.{Add, Sub, Mul, Div, Rem, Eq, Ne, Lt, Le, Gt, Ge}
 use Rattle.wsm_check.specs.Types.{ExprTy, IntValue, BoolValue, EnumValue, ty_eq, Typed, wanted, if_typed}
 use Rattle.wsm_verifier.specs.declared.known.Known.{Known}
 use Rattle.wsm_verifier.specs.declared.known.Known.TheVariants as known
 use Rattle.wsm_verifier.specs.Labels.{same_type}
-use Rattle.wsm_verifier.specs.Rules.{Setting, may_stand, and_then}
+use Rattle.wsm_verifier.specs.Rules.{Setting, and_then}
 use Rattle.wsm_compiler.specs.Code.{instruction}
 use Rattle.wsm_compiler.specs.Ranges.{Range, Unfit, NoNumber, Within, within, no_number, on_intervals, of_op, of_minus}
 use Rattle.wsm_compiler.proofs.Hulls.{no, type_self}
@@ -123,38 +122,16 @@ known_truth Unfit x e = none≢some e
 known_truth NoNumber x e = ap (λ o. elim o [ None ↦ known.Truth | Some y ↦ y ]) (sym e)
 known_truth (Within i) x e = none≢some e
 
--- ---- instructions that may stand in every section
-
-abbrev anywhere : Instr → Bool
-anywhere (instr.Field f) = false
-anywhere (instr.Acc a) = false
-anywhere instr.Count = false
-anywhere (instr.Fold a) = false
-anywhere i = true
-
-stands : (id : SectionId) (i : Instr) → anywhere i ≡ true → may_stand id i ≡ true
-stands id (instr.Field f) h = no h
-stands id (instr.Acc a) h = no h
-stands id instr.Count h = no h
-stands id (instr.Fold a) h = no h
-stands Where i h = refl
-stands Update i h = refl
-stands Fire i h = refl
-
--- with operands of the right types
-pub made : (c : Setting) (i : Instr) (o : Option Known) → anywhere i ≡ true → cond (may_stand c.section i && true) o None ≡ o
-made c i o h = ap (λ b. cond (b && true) o None) (stands c.section i h)
-
 -- ---- operators
 
 within_known : (o : Option Interval) → head_of (option_map (λ z. known.Number z ∷ []) o) ≡ known_of IntValue (within o)
 within_known None = refl
 within_known (Some i) = refl
 
-pub minus_found : (c : Setting) (r : Range) → suits IntValue r ≡ true → and_then (λ x. of_instr c instr.Neg (x ∷ [])) (known_of IntValue r) ≡ known_of IntValue (of_minus r)
+pub minus_found : (c : Setting) (r : Range) → suits IntValue r ≡ true → and_then (λ x. of_instr c (instr.Operate operation.Neg) (x ∷ [])) (known_of IntValue r) ≡ known_of IntValue (of_minus r)
 minus_found c Unfit h = refl
 minus_found c NoNumber h = refl
-minus_found c (Within i) h = made c instr.Neg _ refl ∙ within_known (neg i)
+minus_found c (Within i) h = within_known (neg i)
 
 pub minus_suits : (r : Range) → suits IntValue r ≡ true → suits IntValue (of_minus r) ≡ true
 minus_suits Unfit h = refl
@@ -165,9 +142,9 @@ minus_suits (Within i) h = within_suits (neg i)
     within_suits None = refl
     within_suits (Some i) = refl
 
-pub not_found : (c : Setting) (r : Range) → suits BoolValue r ≡ true → and_then (λ x. of_instr c instr.Not (x ∷ [])) (known_of BoolValue r) ≡ known_of BoolValue r
+pub not_found : (c : Setting) (r : Range) → suits BoolValue r ≡ true → and_then (λ x. of_instr c (instr.Operate operation.Not) (x ∷ [])) (known_of BoolValue r) ≡ known_of BoolValue r
 not_found c Unfit h = refl
-not_found c NoNumber h = made c instr.Not _ refl
+not_found c NoNumber h = refl
 not_found c (Within i) h = refl
 
 abbrev Two : Setting → Instr → Option Known → Option Known → Option Known
@@ -214,11 +191,11 @@ of_numbers c i is known.Truth y h l = no (ap is_int h)
 of_numbers c i is (known.NameOf e) y h l = no (ap is_int h)
 
 -- two values of one type are compared
-of_same : (c : Setting) (i : Instr) → ((x y : Known) → of_instr c i (y ∷ x ∷ []) ≡ cond (may_stand c.section i && same_type x y) (Some known.Truth) None) → anywhere i ≡ true →
+of_same : (c : Setting) (i : Instr) → ((x y : Known) → of_instr c i (y ∷ x ∷ []) ≡ cond (same_type x y) (Some known.Truth) None) →
     (t : ExprTy) (x y : Known) → known_type x ≡ t → known_type y ≡ t → of_instr c i (y ∷ x ∷ []) ≡ Some known.Truth
-of_same c i is any t x y h l =
+of_same c i is t x y h l =
     let same : same_type x y ≡ true = sym (type_of_two x y) ∙ ap (ty_eq (known_type x)) (l ∙ sym h) ∙ type_of_two x x ∙ type_self x in
-    is x y ∙ ap (λ b. cond (may_stand c.section i && b) (Some known.Truth) None) same ∙ made c i (Some known.Truth) any
+    is x y ∙ ap (λ b. cond b (Some known.Truth) None) same
 
 abbrev pub OpFound : Setting → Op → ExprTy → ExprTy → ExprTy → Range → Range → Type 0
 OpFound c op t u w r p = (Two c (instruction op) (known_of t r) (known_of u p) ≡ known_of w (of_op op r p)) × (suits w (of_op op r p) ≡ true)
@@ -252,14 +229,14 @@ result_of op = BoolValue
 
 -- an operator on two parts whose values are told of by their ranges
 pub op_found : (c : Setting) (op : Op) (t u w : ExprTy) (r p : Range) → op_typed op t u ≡ true → result_of op ≡ w → suits t r ≡ true → suits u p ≡ true → OpFound c op t u w r p
-op_found c Add t u w r p h e l m = subst (λ x. OpFound c Add t u x r p) e (two_numbers c Add t u IntValue r p h l m (arithmetic c instr.Add add (λ x y. made c instr.Add _ refl) r p))
-op_found c Sub t u w r p h e l m = subst (λ x. OpFound c Sub t u x r p) e (two_numbers c Sub t u IntValue r p h l m (arithmetic c instr.Sub sub (λ x y. made c instr.Sub _ refl) r p))
-op_found c Mul t u w r p h e l m = subst (λ x. OpFound c Mul t u x r p) e (two_numbers c Mul t u IntValue r p h l m (arithmetic c instr.Mul mul (λ x y. made c instr.Mul _ refl) r p))
-op_found c Div t u w r p h e l m = subst (λ x. OpFound c Div t u x r p) e (two_numbers c Div t u IntValue r p h l m (arithmetic c instr.Div div (λ x y. made c instr.Div _ refl) r p))
-op_found c Rem t u w r p h e l m = subst (λ x. OpFound c Rem t u x r p) e (two_numbers c Rem t u IntValue r p h l m (arithmetic c instr.Rem rem (λ x y. made c instr.Rem _ refl) r p))
-op_found c Eq t u w r p h e l m = subst (λ x. OpFound c Eq t u x r p) e (two_alike c Eq t u BoolValue r p h l m (compared c instr.Eq t (of_same c instr.Eq (λ x y. refl) refl t) r p l))
-op_found c Ne t u w r p h e l m = subst (λ x. OpFound c Ne t u x r p) e (two_alike c Ne t u BoolValue r p h l m (compared c instr.Ne t (of_same c instr.Ne (λ x y. refl) refl t) r p l))
-op_found c Lt t u w r p h e l m = subst (λ x. OpFound c Lt t u x r p) e (two_numbers c Lt t u BoolValue r p h l m (compared c instr.Lt IntValue (of_numbers c instr.Lt (λ x y. made c instr.Lt _ refl)) r p))
-op_found c Le t u w r p h e l m = subst (λ x. OpFound c Le t u x r p) e (two_numbers c Le t u BoolValue r p h l m (compared c instr.Le IntValue (of_numbers c instr.Le (λ x y. made c instr.Le _ refl)) r p))
-op_found c Gt t u w r p h e l m = subst (λ x. OpFound c Gt t u x r p) e (two_numbers c Gt t u BoolValue r p h l m (compared c instr.Gt IntValue (of_numbers c instr.Gt (λ x y. made c instr.Gt _ refl)) r p))
-op_found c Ge t u w r p h e l m = subst (λ x. OpFound c Ge t u x r p) e (two_numbers c Ge t u BoolValue r p h l m (compared c instr.Ge IntValue (of_numbers c instr.Ge (λ x y. made c instr.Ge _ refl)) r p))
+op_found c Add t u w r p h e l m = subst (λ x. OpFound c Add t u x r p) e (two_numbers c Add t u IntValue r p h l m (arithmetic c (instr.Operate operation.Add) add (λ x y. refl) r p))
+op_found c Sub t u w r p h e l m = subst (λ x. OpFound c Sub t u x r p) e (two_numbers c Sub t u IntValue r p h l m (arithmetic c (instr.Operate operation.Sub) sub (λ x y. refl) r p))
+op_found c Mul t u w r p h e l m = subst (λ x. OpFound c Mul t u x r p) e (two_numbers c Mul t u IntValue r p h l m (arithmetic c (instr.Operate operation.Mul) mul (λ x y. refl) r p))
+op_found c Div t u w r p h e l m = subst (λ x. OpFound c Div t u x r p) e (two_numbers c Div t u IntValue r p h l m (arithmetic c (instr.Operate operation.Div) div (λ x y. refl) r p))
+op_found c Rem t u w r p h e l m = subst (λ x. OpFound c Rem t u x r p) e (two_numbers c Rem t u IntValue r p h l m (arithmetic c (instr.Operate operation.Rem) rem (λ x y. refl) r p))
+op_found c Eq t u w r p h e l m = subst (λ x. OpFound c Eq t u x r p) e (two_alike c Eq t u BoolValue r p h l m (compared c (instr.Operate operation.Eq) t (of_same c (instr.Operate operation.Eq) (λ x y. refl) t) r p l))
+op_found c Ne t u w r p h e l m = subst (λ x. OpFound c Ne t u x r p) e (two_alike c Ne t u BoolValue r p h l m (compared c (instr.Operate operation.Ne) t (of_same c (instr.Operate operation.Ne) (λ x y. refl) t) r p l))
+op_found c Lt t u w r p h e l m = subst (λ x. OpFound c Lt t u x r p) e (two_numbers c Lt t u BoolValue r p h l m (compared c (instr.Operate operation.Lt) IntValue (of_numbers c (instr.Operate operation.Lt) (λ x y. refl)) r p))
+op_found c Le t u w r p h e l m = subst (λ x. OpFound c Le t u x r p) e (two_numbers c Le t u BoolValue r p h l m (compared c (instr.Operate operation.Le) IntValue (of_numbers c (instr.Operate operation.Le) (λ x y. refl)) r p))
+op_found c Gt t u w r p h e l m = subst (λ x. OpFound c Gt t u x r p) e (two_numbers c Gt t u BoolValue r p h l m (compared c (instr.Operate operation.Gt) IntValue (of_numbers c (instr.Operate operation.Gt) (λ x y. refl)) r p))
+op_found c Ge t u w r p h e l m = subst (λ x. OpFound c Ge t u x r p) e (two_numbers c Ge t u BoolValue r p h l m (compared c (instr.Operate operation.Ge) IntValue (of_numbers c (instr.Operate operation.Ge) (λ x y. refl)) r p))

@@ -10,8 +10,9 @@ use Rattle.wsm_bytecode.specs.declared.SectionId.{SectionId}
 use Rattle.wsm_bytecode.specs.declared.SectionId.TheVariants.{Where, Update, Fire}
 use Rattle.wsm_verifier.specs.declared.rejection.Rule.{Rule}
 use Rattle.wsm_verifier.specs.declared.known.Known.{Known}
-use Rattle.wsm_verifier.specs.Labels.{State, Reached, next, pops, pushed, folded_after}
-use Rattle.wsm_verifier.specs.Rules.{Setting, may_stand, types_fit, folds_again, may_divide_by_zero, accumulator_leaves, overflows, fold_missing, bad_jump, goes_on, first_of, tests, fault_of}
+use Rattle.wsm_bytecode.specs.Instructions.{next, may_stand, bad_jump, goes_on}
+use Rattle.wsm_verifier.specs.Labels.{State, Reached, pops, pushed, folded_after}
+use Rattle.wsm_verifier.specs.Rules.{Setting, types_fit, folds_again, may_divide_by_zero, accumulator_leaves, overflows, fold_missing, first_of, tests, fault_of}
 use Rattle.wsm_compiler.proofs.Hulls.{no}
 use Rattle.wsm_compiler.proofs.Parts.{none≢some, Labelled, one}
 

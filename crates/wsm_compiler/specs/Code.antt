@@ -2,6 +2,7 @@
 use Rattle.std.specs.Prelude.{ℕ, suc, ◌+◌, true, false, List, [], ◌∷◌, ◌++◌, Option, Some, None}
 use Rattle.wsm_bytecode.specs.declared.instr.Instr.{Instr}
 use Rattle.wsm_bytecode.specs.declared.instr.Instr.TheVariants as instr
+use Rattle.wsm_bytecode.specs.declared.operation.Operation.TheVariants as operation
 use Rattle.wsm_query.specs.declared.expr.Op.{Op}
 use Rattle.wsm_query.specs.declared.expr.Op.TheVariants.{Add, Sub, Mul, Div, Rem, Eq, Ne, Lt, Le, Gt, Ge}
 use Rattle.wsm_query.specs.Tree.{Query, Expr, Number, Truth, Field, EnumName, Key, KeyName, Count, Aggregate, If, Brackets, Minus, Not, Binary, And, Or}
@@ -9,17 +10,17 @@ use Rattle.wsm_check.specs.Names.{place_of, field_place, type_of, names_of}
 use Rattle.wsm_check.specs.Sizes.{Acc, aggregates, accumulators, size}
 
 abbrev pub instruction : Op → Instr
-instruction Add = instr.Add
-instruction Sub = instr.Sub
-instruction Mul = instr.Mul
-instruction Div = instr.Div
-instruction Rem = instr.Rem
-instruction Eq = instr.Eq
-instruction Ne = instr.Ne
-instruction Lt = instr.Lt
-instruction Le = instr.Le
-instruction Gt = instr.Gt
-instruction Ge = instr.Ge
+instruction Add = instr.Operate operation.Add
+instruction Sub = instr.Operate operation.Sub
+instruction Mul = instr.Operate operation.Mul
+instruction Div = instr.Operate operation.Div
+instruction Rem = instr.Operate operation.Rem
+instruction Eq = instr.Operate operation.Eq
+instruction Ne = instr.Operate operation.Ne
+instruction Lt = instr.Operate operation.Lt
+instruction Le = instr.Operate operation.Le
+instruction Gt = instr.Operate operation.Gt
+instruction Ge = instr.Operate operation.Ge
 
 -- a test, whose jump leads past the first part, and whose first part's jump leads past the second; the first begins at place k
 abbrev pub choice : ℕ → List Instr → ℕ → List Instr → ℕ → List Instr
@@ -39,8 +40,8 @@ code q k a (If c x y) =
     let j = k + size c + 1 in
     code q k a c ++ choice j (code q j (a + aggregates c) x) (size x) (code q (j + size x + 1) (a + (aggregates c + aggregates x)) y) (size y)
 code q k a (Brackets e) = code q k a e
-code q k a (Minus e) = code q k a e ++ instr.Neg ∷ []
-code q k a (Not e) = code q k a e ++ instr.Not ∷ []
+code q k a (Minus e) = code q k a e ++ instr.Operate operation.Neg ∷ []
+code q k a (Not e) = code q k a e ++ instr.Operate operation.Not ∷ []
 code q k a (Binary op x y) = code q k a x ++ (code q (k + size x) (a + aggregates x) y ++ instruction op ∷ [])
 code q k a (And x y) =
     let j = k + size x + 1 in

@@ -9,6 +9,7 @@ use Rattle.wsm_windows.specs.declared.window.Shape.TheVariants.{Fixed, Sliding}
 use Rattle.wsm_query.specs.declared.expr.Op.TheVariants.{Add, Sub, Div, Rem, Ne, Gt, Lt}
 use Rattle.wsm_query.specs.Tree.{Query, IntTy, Expr, Number, Truth, Field, Count, Aggregate, If, Minus, Binary, And}
 use Rattle.wsm_bytecode.specs.declared.instr.Instr.TheVariants as instr
+use Rattle.wsm_bytecode.specs.declared.operation.Operation.TheVariants as operation
 use Rattle.wsm_bytecode.specs.declared.instr.SectionId.TheVariants.{Where, Update, Fire}
 use Rattle.wsm_bytecode.specs.Program.{is_schema, is_header, is_section, is_program}
 use Rattle.wsm_record.specs.Name.{is_reserved}
@@ -111,7 +112,7 @@ base_fits = refl
 abbrev guarded : Query
 guarded = record base { condition = Some (And (Binary Ne n (Number (pos 0))) (Binary Gt (Binary Div (Number (pos 10)) n) (Number (pos 1)))) }
 
-guarded_where : where_section guarded ≡ instr.Field 0 ∷ instr.PushInt (pos 0) ∷ instr.Ne ∷ instr.JumpIfFalse 10 ∷ instr.PushInt (pos 10) ∷ instr.Field 0 ∷ instr.Div ∷ instr.PushInt (pos 1) ∷ instr.Gt ∷ instr.Jump 11 ∷ instr.PushBool false ∷ instr.Return ∷ []
+guarded_where : where_section guarded ≡ instr.Field 0 ∷ instr.PushInt (pos 0) ∷ instr.Operate operation.Ne ∷ instr.JumpIfFalse 10 ∷ instr.PushInt (pos 10) ∷ instr.Field 0 ∷ instr.Operate operation.Div ∷ instr.PushInt (pos 1) ∷ instr.Operate operation.Gt ∷ instr.Jump 11 ∷ instr.PushBool false ∷ instr.Return ∷ []
 guarded_where = refl
 
 -- a test narrows nothing
@@ -123,7 +124,7 @@ guarded_run : run (program_of guarded) Where (record { key = 0; values = value.I
 guarded_run = refl
 
 -- a condition with two accumulators, numbered from the left behind those of the columns
-two_accumulators : fire_section (record base { having = Some (Binary Lt (Aggregate Min n) (Aggregate Max n)) }) ≡ instr.Count ∷ instr.Acc 0 ∷ instr.Acc 1 ∷ instr.Acc 2 ∷ instr.Lt ∷ instr.Return ∷ []
+two_accumulators : fire_section (record base { having = Some (Binary Lt (Aggregate Min n) (Aggregate Max n)) }) ≡ instr.Count ∷ instr.Acc 0 ∷ instr.Acc 1 ∷ instr.Acc 2 ∷ instr.Operate operation.Lt ∷ instr.Return ∷ []
 two_accumulators = refl
 
 -- ---- meanings

@@ -7,9 +7,8 @@ use Rattle.std.proofs.lemmas.Option.{same_Some}
 use Rattle.wsm_record.specs.declared.event.Value.{Value}
 use Rattle.wsm_record.specs.declared.words.Kind.{Kind}
 use Rattle.wsm_bytecode.specs.declared.instr.Instr.{Instr}
-use Rattle.wsm_bytecode.specs.declared.instr.Instr.TheVariants.{Neg, Field, Acc, Count, Fold, Return}
+use Rattle.wsm_bytecode.specs.declared.instr.Instr.TheVariants.{Fold, Return}
 use Rattle.wsm_bytecode.specs.declared.instr.SectionId.{SectionId}
-use Rattle.wsm_bytecode.specs.declared.instr.SectionId.TheVariants.{Where, Update, Fire}
 use Rattle.wsm_bytecode.specs.Program.{Program, section}
 use Rattle.wsm_verifier.specs.declared.known.Known.{Known}
 use Rattle.wsm_verifier.specs.Labels as labels
@@ -17,7 +16,8 @@ use Rattle.wsm_verifier.specs.Rules as rules
 use Rattle.wsm_verifier.proofs.Accepting.{Passes}
 use Rattle.wsm_machine.specs.declared.cell.Cell.{Cell}
 use Rattle.wsm_machine.specs.Inputs.{Inputs}
-use Rattle.wsm_machine.specs.Step.{Setting, State, setting, Goes, step, taken, after, may_stand, pops, how_many, folds_twice, has_no_room, pushed, push_on, with_fold, value_of, returns_badly}
+use Rattle.wsm_bytecode.specs.Instructions.{pops, how_many}
+use Rattle.wsm_machine.specs.Step.{Setting, State, setting, Goes, step, taken, after, folds_twice, has_no_room, pushed, push_on, with_fold, value_of, returns_badly}
 use Rattle.wsm_machine.specs.Fits.{FitsAll, FitsState, ReadsFit, Moves, GoesOn}
 use Rattle.wsm_machine.proofs.Fitting.{no, length_fits, drop_fits}
 use Rattle.wsm_machine.proofs.Giving.{FitsPushed, Gives, gives}
@@ -27,25 +27,8 @@ use Rattle.wsm_machine.proofs.Traps.{Pushes, no_trap}
 
 -- ---- the machine and the verifier ask the same of an instruction
 
-same_sections : (c : SectionId) (i : Instr) → rules.may_stand c i ≡ may_stand c i
-same_sections Where (Field f) = refl
-same_sections Update (Field f) = refl
-same_sections Fire (Field f) = refl
-same_sections Where (Acc a) = refl
-same_sections Update (Acc a) = refl
-same_sections Fire (Acc a) = refl
-same_sections Where Count = refl
-same_sections Update Count = refl
-same_sections Fire Count = refl
-same_sections Where (Fold a) = refl
-same_sections Update (Fold a) = refl
-same_sections Fire (Fold a) = refl
-same_sections Where i = refl
-same_sections Update i = refl
-same_sections Fire i = refl
-
 same_pops : (kinds : List Kind) (i : Instr) → how_many (pops kinds i) ≡ labels.pops i
-same_pops kinds Neg = refl
+same_pops kinds Return = refl
 same_pops kinds i = refl
 
 folded_once : (folds : List (Option Value)) (a : ℕ) → folds_twice (Fold a) folds ≡ slice_index_or (map is_some folds) a false
@@ -117,7 +100,7 @@ module _ (p : Program) (c : SectionId) (r : labels.Ranges) (d : Inputs) (i : Ins
   pushes h f g = record {
     computes = record {
       reads = record {
-        stands = sym (same_sections c i) ∙ not-false _ h.stands;
+        stands = not-false _ h.stands;
         enough = ap (nat_lt (length m.stack)) (same_pops p.header.kinds i) ∙ tall h f;
         types = g.types;
       };

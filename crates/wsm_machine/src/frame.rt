@@ -5,7 +5,8 @@ ghost use Rattle.std.specs.Option.{SomeIff};
 ghost use Rattle.std.specs.Int.{w64};
 ghost use Rattle.wsm_bytecode.specs.declared.instr.CellType.TheVariants as types;
 ghost use Rattle.wsm_machine.specs.declared.cell.Cell.TheVariants as cells;
-ghost use Rattle.wsm_machine.specs.Step.{Numbers, One, Alike, has_types};
+ghost use Rattle.wsm_bytecode.specs.Instructions.{Numbers, One, Alike};
+ghost use Rattle.wsm_machine.specs.Step.{has_types};
 ghost use Rattle.wsm_machine.specs.Steps.{operand_trap, Answers, AnswersNumber};
 
 use crate::cell::{Cell, is_type};

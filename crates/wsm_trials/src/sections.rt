@@ -3,7 +3,7 @@
 use crate::noise::Noise;
 use std::alloc::Global;
 use std::test::Fail;
-use wsm_bytecode::{Instr, SectionId};
+use wsm_bytecode::{Instr, Operation, SectionId};
 
 /// What a place of the stack holds.
 #[derive(Clone, Copy, PartialEq, Eq)]
@@ -38,23 +38,23 @@ const NUMBERS: [i64; 12] = [
 ];
 
 const ARITHMETIC: [Instr; 8] = [
-    Instr::Add,
-    Instr::Add,
-    Instr::Add,
-    Instr::Sub,
-    Instr::Sub,
-    Instr::Mul,
-    Instr::Div,
-    Instr::Rem,
+    Instr::Operate(Operation::Add),
+    Instr::Operate(Operation::Add),
+    Instr::Operate(Operation::Add),
+    Instr::Operate(Operation::Sub),
+    Instr::Operate(Operation::Sub),
+    Instr::Operate(Operation::Mul),
+    Instr::Operate(Operation::Div),
+    Instr::Operate(Operation::Rem),
 ];
 
 const COMPARISONS: [Instr; 6] = [
-    Instr::Eq,
-    Instr::Ne,
-    Instr::Lt,
-    Instr::Le,
-    Instr::Gt,
-    Instr::Ge,
+    Instr::Operate(Operation::Eq),
+    Instr::Operate(Operation::Ne),
+    Instr::Operate(Operation::Lt),
+    Instr::Operate(Operation::Le),
+    Instr::Operate(Operation::Gt),
+    Instr::Operate(Operation::Ge),
 ];
 
 // A section that is being written, and what its instructions leave on the stack.
@@ -119,8 +119,8 @@ impl Draft {
     // Another value of the type on top, in its place.
     fn turn(&mut self) -> Result<(), Fail> {
         match self.stack.last() {
-            Some(Held::Int) => self.put(Instr::Neg),
-            Some(Held::Bool) => self.put(Instr::Not),
+            Some(Held::Int) => self.put(Instr::Operate(Operation::Neg)),
+            Some(Held::Bool) => self.put(Instr::Operate(Operation::Not)),
             Some(Held::Key) | None => Ok(()),
         }
     }
@@ -136,13 +136,25 @@ impl Draft {
         };
         match (under, top) {
             (Held::Int, Held::Int) if noise.below(3) > 0 => {
-                self.push(noise.one_of(&ARITHMETIC, Instr::Add), Held::Int)
+                self.push(
+                    noise.one_of(&ARITHMETIC, Instr::Operate(Operation::Add)),
+                    Held::Int,
+                )
             }
             (Held::Int, Held::Int) => {
-                self.push(noise.one_of(&COMPARISONS, Instr::Lt), Held::Bool)
+                self.push(
+                    noise.one_of(&COMPARISONS, Instr::Operate(Operation::Lt)),
+                    Held::Bool,
+                )
             }
             (Held::Bool, Held::Bool) | (Held::Key, Held::Key) => {
-                self.push(noise.one_of(&[Instr::Eq, Instr::Ne], Instr::Eq), Held::Bool)
+                self.push(
+                    noise.one_of(
+                        &[Instr::Operate(Operation::Eq), Instr::Operate(Operation::Ne)],
+                        Instr::Operate(Operation::Eq),
+                    ),
+                    Held::Bool,
+                )
             }
             (other, top) => {
                 self.stack.push(other)?;
@@ -165,16 +177,19 @@ impl Draft {
         match (found, want) {
             (Some(Held::Int), Held::Bool) => {
                 self.put(Instr::PushInt(noise.one_of(&NUMBERS, 1)))?;
-                self.push(noise.one_of(&COMPARISONS, Instr::Lt), Held::Bool)
+                self.push(
+                    noise.one_of(&COMPARISONS, Instr::Operate(Operation::Lt)),
+                    Held::Bool,
+                )
             }
             (Some(Held::Key), Held::Bool) => {
                 self.put(Instr::Key)?;
-                self.push(Instr::Eq, Held::Bool)
+                self.push(Instr::Operate(Operation::Eq), Held::Bool)
             }
             (Some(Held::Bool), Held::Int) => self.choose(noise),
             (Some(Held::Key), Held::Int) => {
                 self.put(Instr::PushEnum(0, 0))?;
-                self.put(Instr::Ne)?;
+                self.put(Instr::Operate(Operation::Ne))?;
                 self.choose(noise)
             }
             (Some(held), _) => {
@@ -204,7 +219,7 @@ impl Draft {
     // Takes the number on top away.
     fn let_go(&mut self) -> Result<(), Fail> {
         self.put(Instr::PushInt(0))?;
-        self.put(Instr::Lt)?;
+        self.put(Instr::Operate(Operation::Lt))?;
         self.put(Instr::JumpIfFalse(self.ahead(1)))
     }
 
@@ -306,10 +321,10 @@ fn wild(noise: &mut Noise) -> Instr {
         Instr::Key,
         Instr::Acc(small),
         Instr::Count,
-        noise.one_of(&ARITHMETIC, Instr::Add),
-        Instr::Neg,
-        noise.one_of(&COMPARISONS, Instr::Lt),
-        Instr::Not,
+        noise.one_of(&ARITHMETIC, Instr::Operate(Operation::Add)),
+        Instr::Operate(Operation::Neg),
+        noise.one_of(&COMPARISONS, Instr::Operate(Operation::Lt)),
+        Instr::Operate(Operation::Not),
         Instr::Jump(place),
         Instr::JumpIfFalse(place),
         Instr::Fold(small),

@@ -10,7 +10,8 @@ use Rattle.wsm_bytecode.specs.declared.SectionId.TheVariants.{Where, Update, Fir
 use Rattle.wsm_bytecode.specs.Program.{Program}
 use Rattle.wsm_verifier.specs.Costs.{needed}
 use Rattle.wsm_verifier.specs.Labels.{State, Label, Unreached, Differing, Reached, Visit, pops, pushed}
-use Rattle.wsm_verifier.specs.Rules.{Setting, may_stand, types_fit, folds_again, may_divide_by_zero, accumulator_leaves, overflows, fold_missing, bad_jump, goes_on, first_of, tests, fault_of, fault_at, or_then, first_fault, fault_in, code_fault, fault, unless, judge, budget_fault, ranges_of_record, ranges_of_pane, update_visits}
+use Rattle.wsm_bytecode.specs.Instructions.{may_stand, goes_on, bad_jump}
+use Rattle.wsm_verifier.specs.Rules.{Setting, types_fit, folds_again, may_divide_by_zero, accumulator_leaves, overflows, fold_missing, first_of, tests, fault_of, fault_at, or_then, first_fault, fault_in, code_fault, fault, unless, judge, budget_fault, ranges_of_record, ranges_of_pane, update_visits}
 
 none≢some : {A X : Type 0} {a : A} → Some a ≡ None → X
 none≢some {A} {X} {a} e = let tag : Option A → Bool = λ o. elim o [ None ↦ true | Some x ↦ false ] in absurd (true≢false (sym (ap tag e)))

@@ -6,7 +6,8 @@ use Rattle.std.specs.List.{list_any}
 use Rattle.std.proofs.lemmas.Option.{same_Some}
 use Rattle.wsm_bytecode.specs.declared.Instr.{Instr}
 use Rattle.wsm_bytecode.specs.declared.Instr.TheVariants.{Return}
-use Rattle.wsm_verifier.specs.Labels.{leads, next}
+use Rattle.wsm_bytecode.specs.Instructions.{next}
+use Rattle.wsm_verifier.specs.Labels.{leads}
 use Rattle.wsm_verifier.specs.Costs.{Path, Ends, Goes, IsLongestPath, longer, longest_of, one_more, way_from, way_of, ways, longest_path}
 
 none≢some : {A : Type 0} (a : A) → None ≡ Some a → ⊥

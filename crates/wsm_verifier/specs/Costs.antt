@@ -8,7 +8,8 @@ use Rattle.wsm_windows.specs.declared.Shape.TheVariants.{Fixed, Sliding, Session
 use Rattle.wsm_verifier.specs.declared.costs.Costs.{Costs}
 use Rattle.wsm_windows.specs.Life.{live_bound}
 use Rattle.wsm_bytecode.specs.Program.{Program}
-use Rattle.wsm_verifier.specs.Labels.{leads, next}
+use Rattle.wsm_bytecode.specs.Instructions.{next}
+use Rattle.wsm_verifier.specs.Labels.{leads}
 
 -- a path of n places, along edges, from place p of a section to a RET
 pub data Path (is : List Instr) : ℕ → ℕ → Type 0 where

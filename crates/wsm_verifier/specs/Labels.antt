@@ -4,7 +4,11 @@ use Rattle.std.specs.List.{list_any, filter_map}
 use Rattle.std.specs.Bool.{beq}
 use Rattle.wsm_interval.specs.declared.Interval.{Interval}
 use Rattle.wsm_bytecode.specs.declared.Instr.{Instr}
-use Rattle.wsm_bytecode.specs.declared.Instr.TheVariants.{PushInt, PushBool, PushEnum, Field, Key, Acc, Count, Add, Sub, Mul, Div, Rem, Neg, Eq, Ne, Lt, Le, Gt, Ge, Not, Jump, JumpIfFalse, Fold, Return}
+use Rattle.wsm_bytecode.specs.declared.Instr.TheVariants.{PushInt, PushBool, PushEnum, Field, Key, Acc, Count, Operate, Jump, JumpIfFalse, Fold, Return}
+use Rattle.wsm_bytecode.specs.declared.Operation.{Operation}
+use Rattle.wsm_bytecode.specs.declared.Operation.TheVariants.{Add, Sub, Mul, Div, Rem, Neg, Eq, Ne, Lt, Le, Gt, Ge, Not}
+use Rattle.wsm_bytecode.specs.Instructions as table
+use Rattle.wsm_bytecode.specs.Instructions.{next}
 use Rattle.wsm_verifier.specs.declared.known.Known.{Known}
 use Rattle.wsm_verifier.specs.declared.known.Known.TheVariants.{Number, Truth, NameOf}
 use Rattle.wsm_interval.specs.Interval.{interval, add, sub, mul, div, rem, neg, hull}
@@ -20,34 +24,13 @@ pub record Ranges : Type 0 where
   pub count : Interval
   pub accumulators : List Known
 
--- the places that an instruction at p can go on to
-abbrev pub next : Instr → ℕ → List ℕ
-next (Jump t) p = t ∷ []
-next (JumpIfFalse t) p = suc p ∷ t ∷ []
-next Return p = []
-next _ p = suc p ∷ []
-
 -- there is an edge from the instruction at p to place q; edges lead forward alone
 abbrev pub leads : Instr → ℕ → ℕ → Bool
 leads i p q = nat_lt p q && list_any (nat_eq q) (next i p)
 
+-- how many values the instruction pops
 abbrev pub pops : Instr → ℕ
-pops Neg = 1
-pops Not = 1
-pops (JumpIfFalse t) = 1
-pops (Fold a) = 1
-pops Add = 2
-pops Sub = 2
-pops Mul = 2
-pops Div = 2
-pops Rem = 2
-pops Eq = 2
-pops Ne = 2
-pops Lt = 2
-pops Le = 2
-pops Gt = 2
-pops Ge = 2
-pops _ = 0
+pops i = table.how_many (table.pops [] i)
 
 -- of one number, or of two: the right one is the last on the stack
 abbrev pub of_one : (Interval → Option Interval) → List Known → Option (List Known)
@@ -58,6 +41,22 @@ abbrev pub of_two : (Interval → Interval → Option Interval) → List Known �
 of_two f (Number y ∷ Number x ∷ s) = option_map (λ z. Number z ∷ []) (f x y)
 of_two f _ = None
 
+-- what an operation answers; None where arithmetic has no interval
+abbrev pub computed : Operation → List Known → Option (List Known)
+computed Add s = of_two add s
+computed Sub s = of_two sub s
+computed Mul s = of_two mul s
+computed Div s = of_two div s
+computed Rem s = of_two rem s
+computed Neg s = of_one neg s
+computed Eq s = Some (Truth ∷ [])
+computed Ne s = Some (Truth ∷ [])
+computed Lt s = Some (Truth ∷ [])
+computed Le s = Some (Truth ∷ [])
+computed Gt s = Some (Truth ∷ [])
+computed Ge s = Some (Truth ∷ [])
+computed Not s = Some (Truth ∷ [])
+
 -- what an instruction pushes; None where arithmetic has no interval
 abbrev pub pushed : Ranges → Instr → List Known → Option (List Known)
 pushed r (PushInt n) s = Some (Number (interval n n) ∷ [])
@@ -67,19 +66,7 @@ pushed r (Field f) s = Some (slice_index_or r.fields f Truth ∷ [])
 pushed r Key s = Some (NameOf 0 ∷ [])
 pushed r (Acc a) s = Some (slice_index_or r.accumulators a Truth ∷ [])
 pushed r Count s = Some (Number r.count ∷ [])
-pushed r Add s = of_two add s
-pushed r Sub s = of_two sub s
-pushed r Mul s = of_two mul s
-pushed r Div s = of_two div s
-pushed r Rem s = of_two rem s
-pushed r Neg s = of_one neg s
-pushed r Eq s = Some (Truth ∷ [])
-pushed r Ne s = Some (Truth ∷ [])
-pushed r Lt s = Some (Truth ∷ [])
-pushed r Le s = Some (Truth ∷ [])
-pushed r Gt s = Some (Truth ∷ [])
-pushed r Ge s = Some (Truth ∷ [])
-pushed r Not s = Some (Truth ∷ [])
+pushed r (Operate o) s = computed o s
 pushed r (Jump t) s = Some []
 pushed r (JumpIfFalse t) s = Some []
 pushed r (Fold a) s = Some []

@@ -1,22 +1,22 @@
 -- What arithmetic makes of the last two numbers of a stack.
 use Rattle.std.specs.Prelude.{List, ◌∷◌, Option, None}
-use Rattle.wsm_bytecode.specs.declared.Instr.{Instr}
-use Rattle.wsm_bytecode.specs.declared.Instr.TheVariants.{Add, Sub, Mul, Div}
+use Rattle.wsm_bytecode.specs.declared.Operation.{Operation}
+use Rattle.wsm_bytecode.specs.declared.Operation.TheVariants.{Add, Sub, Mul, Div}
 use Rattle.wsm_interval.specs.declared.Interval.{Interval}
 use Rattle.wsm_interval.specs.Interval.{add, sub, mul, div, rem, neg}
 use Rattle.wsm_verifier.specs.declared.known.Known.{Known}
 use Rattle.wsm_verifier.specs.declared.known.Known.TheVariants.{Number}
 
-abbrev pub combined : Instr → Interval → Interval → Option Interval
+abbrev pub combined : Operation → Interval → Interval → Option Interval
 combined Add x y = add x y
 combined Sub x y = sub x y
 combined Mul x y = mul x y
 combined Div x y = div x y
 combined _ x y = rem x y
 
-abbrev pub of_two : Instr → List Known → Option Interval
-of_two i (Number y ∷ Number x ∷ s) = combined i x y
-of_two i _ = None
+abbrev pub of_two : Operation → List Known → Option Interval
+of_two o (Number y ∷ Number x ∷ s) = combined o x y
+of_two o _ = None
 
 abbrev pub of_one : List Known → Option Interval
 of_one (Number x ∷ s) = neg x

@@ -4,7 +4,11 @@ use Rattle.std.specs.Int.{int_min, int_max}
 use Rattle.std.specs.List.{list_all}
 use Rattle.wsm_interval.specs.declared.Interval.{Interval}
 use Rattle.wsm_bytecode.specs.declared.Instr.{Instr}
-use Rattle.wsm_bytecode.specs.declared.Instr.TheVariants.{Field, Acc, Count, Add, Sub, Mul, Div, Rem, Neg, Eq, Ne, Lt, Le, Gt, Ge, Not, Jump, JumpIfFalse, Fold, Return}
+use Rattle.wsm_bytecode.specs.declared.Instr.TheVariants.{Operate, JumpIfFalse, Fold, Return}
+use Rattle.wsm_bytecode.specs.declared.Operands.{Operands}
+use Rattle.wsm_bytecode.specs.declared.Operands.TheVariants as operands
+use Rattle.wsm_bytecode.specs.Operations as operation
+use Rattle.wsm_bytecode.specs.Instructions.{may_stand, goes_on, bad_jump}
 use Rattle.wsm_bytecode.specs.declared.SectionId.{SectionId}
 use Rattle.wsm_bytecode.specs.declared.SectionId.TheVariants.{Where, Update, Fire}
 use Rattle.wsm_record.specs.declared.Kind.{Kind}
@@ -36,17 +40,6 @@ results p Where = Truth ∷ []
 results p Update = []
 results p Fire = Truth ∷ reverse (map column_known p.header.columns)
 
--- the instruction may stand in the section
-abbrev pub may_stand : SectionId → Instr → Bool
-may_stand Fire (Field f) = false
-may_stand Where (Acc a) = false
-may_stand Update (Acc a) = false
-may_stand Where Count = false
-may_stand Update Count = false
-may_stand Where (Fold a) = false
-may_stand Fire (Fold a) = false
-may_stand _ _ = true
-
 abbrev pub is_number : Known → Bool
 is_number (Number x) = true
 is_number _ = false
@@ -74,21 +67,16 @@ numbers x y = is_number x && is_number y
 abbrev pub kind_of : List Kind → ℕ → Kind
 kind_of kinds a = slice_index_or kinds a Sum
 
+-- the last values have the types of such operands
+abbrev pub operands_fit : Operands → List Known → Bool
+operands_fit operands.Number s = last_is is_number s
+operands_fit operands.Truth s = last_is is_truth s
+operands_fit operands.Numbers s = last_two numbers s
+operands_fit operands.Alike s = last_two same_type s
+
 -- the operands have the types that the instruction takes; RET takes exactly what its section ends with
 abbrev pub types_fit : List Kind → List Known → Instr → List Known → Bool
-types_fit kinds ends Add s = last_two numbers s
-types_fit kinds ends Sub s = last_two numbers s
-types_fit kinds ends Mul s = last_two numbers s
-types_fit kinds ends Div s = last_two numbers s
-types_fit kinds ends Rem s = last_two numbers s
-types_fit kinds ends Neg s = last_is is_number s
-types_fit kinds ends Eq s = last_two same_type s
-types_fit kinds ends Ne s = last_two same_type s
-types_fit kinds ends Lt s = last_two numbers s
-types_fit kinds ends Le s = last_two numbers s
-types_fit kinds ends Gt s = last_two numbers s
-types_fit kinds ends Ge s = last_two numbers s
-types_fit kinds ends Not s = last_is is_truth s
+types_fit kinds ends (Operate o) s = operands_fit (operation.operands o) s
 types_fit kinds ends (JumpIfFalse t) s = last_is is_truth s
 types_fit kinds ends (Fold a) s = last_is (folds_into (kind_of kinds a)) s
 types_fit kinds ends Return s = same_types s ends
@@ -104,8 +92,7 @@ has_zero x _ = false
 
 -- the divisor's interval has 0 inside
 abbrev pub may_divide_by_zero : Instr → List Known → Bool
-may_divide_by_zero Div s = last_two has_zero s
-may_divide_by_zero Rem s = last_two has_zero s
+may_divide_by_zero (Operate o) s = operation.divides o && last_two has_zero s
 may_divide_by_zero _ s = false
 
 -- all records together could take a sum of such values out of 64 bits
@@ -125,20 +112,6 @@ overflows s (Some vs) popped = nat_lt (32 + popped) (length s + length vs)
 abbrev pub fold_missing : SectionId → Instr → List Bool → Bool
 fold_missing Update Return folded = not (list_all (λ b. b) folded)
 fold_missing _ _ folded = false
-
--- n is the number of instructions
-abbrev pub is_later : ℕ → ℕ → ℕ → Bool
-is_later n p target = nat_lt p target && nat_lt target n
-
-abbrev pub bad_jump : ℕ → ℕ → Instr → Bool
-bad_jump n p (Jump t) = not (is_later n p t)
-bad_jump n p (JumpIfFalse t) = not (is_later n p t)
-bad_jump n p _ = false
-
-abbrev pub goes_on : Instr → Bool
-goes_on (Jump t) = false
-goes_on Return = false
-goes_on _ = true
 
 abbrev pub first_of : List (Rule × Bool) → Option Rule
 first_of [] = None

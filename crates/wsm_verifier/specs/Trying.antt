@@ -5,7 +5,8 @@ use Rattle.wsm_verifier.specs.declared.rejection.Rule.{Rule}
 use Rattle.wsm_verifier.specs.declared.rejection.Rule.TheVariants as rule
 use Rattle.wsm_verifier.specs.declared.rules.Setting.{Setting as Held}
 use Rattle.wsm_verifier.specs.Labels.{State, pops, pushed}
-use Rattle.wsm_verifier.specs.Rules.{Setting, may_stand, types_fit, folds_again, may_divide_by_zero, accumulator_leaves, overflows, fold_missing, bad_jump, goes_on}
+use Rattle.wsm_bytecode.specs.Instructions.{may_stand, goes_on, bad_jump}
+use Rattle.wsm_verifier.specs.Rules.{Setting, types_fit, folds_again, may_divide_by_zero, accumulator_leaves, overflows, fold_missing}
 
 abbrev pub setting_of : Held → Setting
 setting_of c = record { section = c.section; kinds = c.kinds.now; records = c.records; ends = c.ends.now; ranges = c.ranges.now; n = c.length }

@@ -43,7 +43,6 @@ mod reads;
 mod rejection;
 mod rules;
 mod state;
-mod table;
 #[cfg(test)]
 mod tests;
 mod types;

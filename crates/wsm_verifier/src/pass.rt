@@ -2,6 +2,7 @@
 //! judged, and what its instruction leaves is joined to the labels of the places that come after it.
 
 ghost use Rattle.std.specs.Prelude.{◌≡◌, ℕ, suc, ◌<◌, ◌≤◌, ◌&&◌, false, None, Some, length, nat_eq, replicate, slice_index_or, slice_set, IfOk, IfErr, OnOk};
+ghost use Rattle.wsm_bytecode.specs.Instructions as table;
 ghost use Rattle.wsm_verifier.specs.Labels as spec;
 ghost use Rattle.wsm_verifier.specs.Labels.{Unreached, Reached, visits};
 ghost use Rattle.wsm_verifier.specs.Rules as rules;
@@ -16,7 +17,6 @@ use crate::ranges::Ranges;
 use crate::rejection::{Part, Rejection, Rule};
 use crate::rules::Setting;
 use crate::state::State;
-use crate::table::pops;
 use std::alloc::{AllocError, Global};
 use std::mem;
 use wsm_bytecode::{Instr, SectionId};
@@ -161,7 +161,7 @@ fn after(ranges: &Ranges, instr: Instr, mut state: State) -> Result<Option<State
     let Some(pushed) = ranges.pushed(instr, state.stack()) else {
         return Ok(None);
     };
-    state.replace(pops(instr), pushed)?;
+    state.replace(instr.pops(), pushed)?;
     if let Instr::Fold(accumulator) = instr {
         state.fold(accumulator);
     }
@@ -177,8 +177,8 @@ fn carry(
     state: State,
 ) -> Result<(), AllocError>
     requires place { place < length labels.old }
-    requires jumps { rules.bad_jump (length labels.old) place instr ≡ false }
-    requires ends { (rules.goes_on instr && nat_eq (suc place) (length labels.old)) ≡ false }
+    requires jumps { table.bad_jump (length labels.old) place instr ≡ false }
+    requires ends { (table.goes_on instr && nat_eq (suc place) (length labels.old)) ≡ false }
     ensures { OnOk result (labels.new ≡ joined_along instr place state labels.old) }
 {
     match instr {

@@ -1,13 +1,13 @@
 //! What instructions may push.
 
-ghost use Rattle.std.specs.Prelude.{◌≡◌, option_map, slice_index_or};
+ghost use Rattle.std.specs.Prelude.{◌≡◌, [], ◌∷◌, option_map, slice_index_or};
 ghost use Rattle.std.specs.Option.{option_to_list};
 ghost use Rattle.wsm_verifier.specs.Labels as spec;
 ghost use Rattle.wsm_verifier.specs.Pushing as pushing;
 
 use crate::known::Known;
 use std::marker::Model;
-use wsm_bytecode::Instr;
+use wsm_bytecode::{Instr, Operation};
 use wsm_interval::Interval;
 
 /// What is known of the values that are read: those of the fields, the number of records in a
@@ -35,17 +35,14 @@ impl Ranges {
     {
         match instr {
             Instr::PushInt(n) => Some(Some(Known::Number(Interval { lo: n, hi: n }))),
+            Instr::PushBool(_) => Some(Some(Known::Truth)),
             Instr::PushEnum(e, _) => Some(Some(Known::NameOf(e))),
             Instr::Field(field) => Some(Some(self.field(field))),
             Instr::Key => Some(Some(Known::NameOf(0))),
             Instr::Acc(accumulator) => Some(Some(self.accumulator(accumulator))),
             Instr::Count => Some(Some(Known::Number(self.count))),
-            Instr::Add | Instr::Sub | Instr::Mul | Instr::Div | Instr::Rem => {
-                Some(Some(Known::Number(of_two(instr, stack)?)))
-            }
-            Instr::Neg => Some(Some(Known::Number(negated(stack)?))),
+            Instr::Operate(operation) => Some(Some(computed(operation, stack)?)),
             Instr::Jump(_) | Instr::JumpIfFalse(_) | Instr::Fold(_) | Instr::Return => Some(None),
-            _ => Some(Some(Known::Truth)),
         }
     }
 
@@ -68,18 +65,32 @@ impl Ranges {
     }
 }
 
+// What an operation answers, or `None` where its arithmetic may leave 64 bits.
+fn computed(operation: Operation, stack: &[Known]) -> Option<Known>
+    ensures { option_map (λ k. k ∷ []) result ≡ spec.computed operation stack.now }
+{
+    match operation {
+        Operation::Add | Operation::Sub | Operation::Mul | Operation::Div | Operation::Rem => {
+            Some(Known::Number(of_two(operation, stack)?))
+        }
+        Operation::Neg => Some(Known::Number(negated(stack)?)),
+        Operation::Eq | Operation::Ne | Operation::Lt | Operation::Le => Some(Known::Truth),
+        Operation::Gt | Operation::Ge | Operation::Not => Some(Known::Truth),
+    }
+}
+
 // The interval of a result, of the last two numbers.
-fn of_two(instr: Instr, stack: &[Known]) -> Option<Interval>
-    ensures { result ≡ pushing.of_two instr stack.now }
+fn of_two(operation: Operation, stack: &[Known]) -> Option<Interval>
+    ensures { result ≡ pushing.of_two operation stack.now }
 {
     let [Known::Number(y), Known::Number(x), ..] = stack else {
         return None;
     };
-    match instr {
-        Instr::Add => x.add(*y),
-        Instr::Sub => x.sub(*y),
-        Instr::Mul => x.mul(*y),
-        Instr::Div => x.div(*y),
+    match operation {
+        Operation::Add => x.add(*y),
+        Operation::Sub => x.sub(*y),
+        Operation::Mul => x.mul(*y),
+        Operation::Div => x.div(*y),
         _ => x.rem(*y),
     }
 }

@@ -47,7 +47,6 @@ use crate::known::Known;
 use crate::ranges::Ranges;
 use crate::rejection::Rule;
 use crate::state::State;
-use crate::table::{goes_on, is_bad_jump, may_stand, pops};
 use crate::types::{fit, may_divide_by_zero, sum_may_leave};
 use wsm_bytecode::{Instr, SectionId};
 use wsm_record::Kind;
@@ -85,10 +84,10 @@ impl Setting<'_> {
         ensures { result ≡ first_of (operand_tests (setting_of self.now) instr state.now) }
     {
         let stack = state.stack();
-        if !may_stand(self.section, instr) {
+        if !instr.may_stand(self.section) {
             return Some(Rule::NotHere);
         }
-        if stack.len() < pops(instr) {
+        if stack.len() < instr.pops() {
             return Some(Rule::StackUnderflow);
         }
         if !fit(self.kinds, self.ends, instr, stack) {
@@ -114,16 +113,16 @@ impl Setting<'_> {
         if sum_may_leave(self.records, self.kinds, instr, stack) {
             return Some(Rule::AccumulatorRange);
         }
-        if overflows(stack, pushed, pops(instr)) {
+        if overflows(stack, pushed, instr.pops()) {
             return Some(Rule::StackOverflow);
         }
         if misses_fold(self.section, instr, state.folded()) {
             return Some(Rule::FoldMissing);
         }
-        if is_bad_jump(self.length, place, instr) {
+        if instr.is_bad_jump(self.length, place) {
             return Some(Rule::BadJump);
         }
-        if goes_on(instr) && is_last(self.length, place) {
+        if instr.goes_on() && is_last(self.length, place) {
             return Some(Rule::NoReturn);
         }
         None

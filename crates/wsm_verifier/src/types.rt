@@ -7,7 +7,7 @@ ghost use Rattle.wsm_verifier.specs.Labels as spec;
 ghost use Rattle.wsm_verifier.specs.Rules as rules;
 
 use crate::known::Known;
-use wsm_bytecode::Instr;
+use wsm_bytecode::{Instr, Operands};
 use wsm_record::Kind;
 
 /// Whether the values of two stacks have the same types.
@@ -55,8 +55,22 @@ pub(crate) fn may_divide_by_zero(instr: Instr, stack: &[Known]) -> bool
     ensures { result ≡ rules.may_divide_by_zero instr stack.now }
 {
     match (instr, stack) {
-        (Instr::Div | Instr::Rem, [Known::Number(divisor), _, ..]) => divisor.holds(0),
+        (Instr::Operate(operation), [Known::Number(divisor), _, ..]) => {
+            operation.divides() && divisor.holds(0)
+        }
         _ => false,
+    }
+}
+
+// Whether the last values have the types of such operands.
+fn have_types(operands: Operands, stack: &[Known]) -> bool
+    ensures { result ≡ rules.operands_fit operands stack.now }
+{
+    match operands {
+        Operands::Number => last_is_number(stack),
+        Operands::Truth => last_is_truth(stack),
+        Operands::Numbers => last_are_numbers(stack),
+        Operands::Alike => last_have_one_type(stack),
     }
 }
 
@@ -66,11 +80,8 @@ pub(crate) fn fit(kinds: &[Kind], ends: &[Known], instr: Instr, stack: &[Known])
     ensures { result ≡ rules.types_fit kinds.now ends.now instr stack.now }
 {
     match instr {
-        Instr::Add | Instr::Sub | Instr::Mul | Instr::Div | Instr::Rem => last_are_numbers(stack),
-        Instr::Lt | Instr::Le | Instr::Gt | Instr::Ge => last_are_numbers(stack),
-        Instr::Neg => last_is_number(stack),
-        Instr::Eq | Instr::Ne => last_have_one_type(stack),
-        Instr::Not | Instr::JumpIfFalse(_) => last_is_truth(stack),
+        Instr::Operate(operation) => have_types(operation.operands(), stack),
+        Instr::JumpIfFalse(_) => last_is_truth(stack),
         Instr::Fold(accumulator) => match kind_of(kinds, accumulator) {
             Kind::Any | Kind::All => last_is_truth(stack),
             _ => last_is_number(stack),

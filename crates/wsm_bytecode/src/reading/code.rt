@@ -9,6 +9,7 @@ ghost use Rattle.wsm_bytecode.specs.declared.instr.Instr.TheVariants.{Field, Acc
 use crate::enums::names;
 use crate::instr::Instr;
 use crate::limits::MAX_SECTION;
+use crate::operation::Operation;
 use crate::program::{Header, Section};
 use crate::reading::header::enum_of;
 use crate::reading::numbers::{byte_of, byte_within, i64_of, u16_of, u16_within};
@@ -85,26 +86,12 @@ fn instr_of_code<'a>(
 fn plain_instr_of(code: u8) -> Option<Instr>
     ensures { result ≡ plain_instr code }
 {
-    let instr = match code {
-        0x05 => Instr::Key,
-        0x07 => Instr::Count,
-        0x10 => Instr::Add,
-        0x11 => Instr::Sub,
-        0x12 => Instr::Mul,
-        0x13 => Instr::Div,
-        0x14 => Instr::Rem,
-        0x15 => Instr::Neg,
-        0x20 => Instr::Eq,
-        0x21 => Instr::Ne,
-        0x22 => Instr::Lt,
-        0x23 => Instr::Le,
-        0x24 => Instr::Gt,
-        0x25 => Instr::Ge,
-        0x28 => Instr::Not,
-        0x50 => Instr::Return,
-        _ => return None,
-    };
-    Some(instr)
+    match code {
+        0x05 => Some(Instr::Key),
+        0x07 => Some(Instr::Count),
+        0x50 => Some(Instr::Return),
+        _ => Some(Instr::Operate(Operation::of_code(code)?)),
+    }
 }
 
 #[tactic(auto, unfolding(crate::specs::Reading::push_int_at))]

@@ -14,12 +14,12 @@ fn divisors(rt: HostRuntime) -> Result<(), Fail> {
             Instr::PushInt(100),
             Instr::Count,
             Instr::PushInt(5),
-            Instr::Gt,
+            Instr::Operate(Operation::Gt),
             Instr::JumpIfFalse(7),
             Instr::PushInt(1),
             Instr::Jump(8),
             Instr::PushInt(k),
-            Instr::Div,
+            Instr::Operate(Operation::Div),
             Instr::PushBool(true),
             Instr::Return,
         ];
@@ -33,12 +33,16 @@ fn divisors(rt: HostRuntime) -> Result<(), Fail> {
 fn least_number(rt: HostRuntime) -> Result<(), Fail> {
     for (operation, per_pane, want) in [
         (
-            Instr::Div,
+            Instr::Operate(Operation::Div),
             5,
             refused(SectionId::Fire, 2, Rule::MayOverflow),
         ),
-        (Instr::Rem, 5, needs(5, 5)),
-        (Instr::Rem, 4, budget::refused_by(Rule::BudgetPane)),
+        (Instr::Operate(Operation::Rem), 5, needs(5, 5)),
+        (
+            Instr::Operate(Operation::Rem),
+            4,
+            budget::refused_by(Rule::BudgetPane),
+        ),
     ] {
         let fire = [
             Instr::PushInt(i64::MIN),
@@ -71,7 +75,7 @@ fn by_what_is_known(rt: HostRuntime) -> Result<(), Fail> {
         let fire = [
             Instr::PushInt(100),
             divisor,
-            Instr::Div,
+            Instr::Operate(Operation::Div),
             Instr::PushBool(true),
             Instr::Return,
         ];
@@ -95,8 +99,8 @@ fn a_sum_of_one(rt: HostRuntime) -> Result<(), Fail> {
             Instr::PushInt(1),
             Instr::Acc(0),
             Instr::PushInt(less),
-            Instr::Sub,
-            Instr::Div,
+            Instr::Operate(Operation::Sub),
+            Instr::Operate(Operation::Div),
             Instr::PushBool(true),
             Instr::Return,
         ];

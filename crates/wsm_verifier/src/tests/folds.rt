@@ -42,7 +42,7 @@ fn on_one_way(rt: HostRuntime) -> Result<(), Fail> {
         let update = [
             Instr::Field(0),
             Instr::PushInt(5),
-            Instr::Lt,
+            Instr::Operate(Operation::Lt),
             Instr::JumpIfFalse(target),
             Instr::Field(0),
             Instr::Fold(0),

@@ -44,7 +44,7 @@ fn no_way(rt: HostRuntime) -> Result<(), Fail> {
         let code = [
             Instr::PushBool(true),
             Instr::Jump(target),
-            Instr::Not,
+            Instr::Operate(Operation::Not),
             Instr::Return,
         ];
         assert_eq!(rt; judged(rt.alloc(), where_is(&code))?, want, "to {target}");

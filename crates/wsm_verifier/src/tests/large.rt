@@ -8,10 +8,10 @@ fn long(alloc: Global) -> Result<Vec<Instr>, Fail> {
     code.push(Instr::PushInt(0))?;
     for _ in 0..498 {
         code.push(Instr::PushInt(1))?;
-        code.push(Instr::Add)?;
+        code.push(Instr::Operate(Operation::Add))?;
     }
     code.push(Instr::PushInt(500))?;
-    code.push(Instr::Lt)?;
+    code.push(Instr::Operate(Operation::Lt))?;
     code.push(Instr::Return)?;
     Ok(code)
 }

@@ -4,10 +4,14 @@ use super::*;
 
 #[test]
 fn too_few_operands(rt: HostRuntime) -> Result<(), Fail> {
-    let few = [Instr::Neg, Instr::PushBool(true), Instr::Return];
+    let few = [
+        Instr::Operate(Operation::Neg),
+        Instr::PushBool(true),
+        Instr::Return,
+    ];
     let enough = [
         Instr::Count,
-        Instr::Neg,
+        Instr::Operate(Operation::Neg),
         Instr::PushBool(true),
         Instr::Return,
     ];
@@ -24,7 +28,7 @@ fn deep(alloc: Global, height: usize) -> Result<Vec<Instr>, Fail> {
         code.push(Instr::PushBool(true))?;
     }
     for _ in 1..height {
-        code.push(Instr::Eq)?;
+        code.push(Instr::Operate(Operation::Eq))?;
     }
     code.push(Instr::Return)?;
     Ok(code)

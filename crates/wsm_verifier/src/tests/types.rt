@@ -7,11 +7,21 @@ fn one_type(rt: HostRuntime) -> Result<(), Fail> {
     let alike = [
         Instr::PushInt(1),
         Instr::PushInt(2),
-        Instr::Eq,
+        Instr::Operate(Operation::Eq),
         Instr::Return,
     ];
-    let names = [Instr::Key, Instr::PushEnum(0, 1), Instr::Ne, Instr::Return];
-    let unlike = [Instr::PushInt(1), Instr::Key, Instr::Eq, Instr::Return];
+    let names = [
+        Instr::Key,
+        Instr::PushEnum(0, 1),
+        Instr::Operate(Operation::Ne),
+        Instr::Return,
+    ];
+    let unlike = [
+        Instr::PushInt(1),
+        Instr::Key,
+        Instr::Operate(Operation::Eq),
+        Instr::Return,
+    ];
     assert_eq!(rt; judged(rt.alloc(), where_is(&alike))?, needs(7, 4));
     assert_eq!(rt; judged(rt.alloc(), where_is(&names))?, needs(7, 4));
     let refusal = refused(SectionId::Where, 2, Rule::Type);
