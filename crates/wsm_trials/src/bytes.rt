@@ -4,11 +4,13 @@ use crate::given::{
     BASE, BASE_PROGRAM, BASE_ROWS, BASE_TEXT, SESSION_ROWS, SESSION_TEXT, SESSIONS, STREAM,
     STREAM_ROWS, STREAM_TEXT, is_whole, program_ran,
 };
+use crate::sides::Sides;
 use std::alloc::Global;
 use std::process::Abort;
 use std::test::Fail;
 use wsm::{DecodeRefusal, End, compile_text};
 use wsm_bytecode::{decode, encode};
+use wsm_verifier::verify;
 
 /// How bytes were taken.
 #[derive(Clone, Copy, Debug, PartialEq, Eq)]
@@ -30,6 +32,8 @@ struct Counts {
     rejected: u32,
     ran: u32,
     wrong: u32,
+    /// Runs of a section by both machines, of the programs that ran.
+    runs: u32,
 }
 
 impl Counts {
@@ -38,6 +42,7 @@ impl Counts {
         rejected: 0,
         ran: 0,
         wrong: 0,
+        runs: 0,
     };
 
     fn add(&mut self, taken: Taken) {
@@ -48,6 +53,22 @@ impl Counts {
             Taken::Wrong => &mut self.wrong,
         };
         *count = count.saturating_add(1);
+    }
+
+    // Tries bytes as a program, and where it runs both machines.
+    fn try_bytes(&mut self, alloc: Global, bytes: &[u8], rows: &[u8]) {
+        let taken = tried(alloc, bytes, rows);
+        if taken != Taken::Ran {
+            self.add(taken);
+            return;
+        }
+        match run_by_both(alloc, bytes, rows) {
+            Some(runs) => {
+                self.add(Taken::Ran);
+                self.runs = self.runs.saturating_add(runs);
+            }
+            None => self.add(Taken::Wrong),
+        }
     }
 }
 
@@ -80,6 +101,19 @@ fn tried(alloc: Global, bytes: &[u8], rows: &[u8]) -> Taken {
     }
 }
 
+// How many runs of an accepted program's sections both machines answer, on records of the rows; none
+// where they don't answer alike.
+fn run_by_both(alloc: Global, bytes: &[u8], rows: &[u8]) -> Option<u32> {
+    let program = decode(alloc, bytes).ok()?;
+    let verified = verify(alloc, program).ok()?;
+    let mut sides = Sides::open(alloc, &verified);
+    if sides.answer(rows) {
+        Some(sides.runs)
+    } else {
+        None
+    }
+}
+
 // Each other value of the byte at a place.
 fn change_byte(alloc: Global, bytes: &mut [u8], place: usize, rows: &[u8], counts: &mut Counts) {
     let Some(old) = bytes.get(place).copied() else {
@@ -88,7 +122,7 @@ fn change_byte(alloc: Global, bytes: &mut [u8], place: usize, rows: &[u8], count
     for byte in 0..=u8::MAX {
         if byte != old {
             put(bytes, place, byte);
-            counts.add(tried(alloc, bytes, rows));
+            counts.try_bytes(alloc, bytes, rows);
         }
     }
     put(bytes, place, old);
@@ -146,12 +180,16 @@ fn beginnings_of_other_programs(rt: HostRuntime) -> Result<(), Fail> {
 fn changes_of_the_base_program(rt: HostRuntime) -> Result<(), Fail> {
     let (text, _) = program_ran(rt.alloc(), &BASE_PROGRAM, BASE_ROWS);
     assert_eq!(rt; text.as_slice(), BASE_TEXT);
+    // Two records are kept, each with a run of each section.
+    let runs = run_by_both(rt.alloc(), &BASE_PROGRAM, BASE_ROWS);
+    assert_eq!(rt; runs, Some(6));
     let counts = change_bytes(rt.alloc(), &BASE_PROGRAM, BASE_ROWS)?;
     let want = Counts {
         refused: 19_892,
         rejected: 2_992,
         ran: 12_561,
         wrong: 0,
+        runs: 74_462,
     };
     assert_eq!(rt; counts, want);
     Ok(())
@@ -162,12 +200,16 @@ fn changes_of_a_program_of_sessions(rt: HostRuntime) -> Result<(), Fail> {
     let program = compile_text(rt.alloc(), SESSIONS)?;
     let (text, end) = program_ran(rt.alloc(), &program, SESSION_ROWS);
     assert_eq!(rt; text.as_slice(), SESSION_TEXT, "{end:?}");
+    // Of seven records with values in their intervals six are kept.
+    let runs = run_by_both(rt.alloc(), &program, SESSION_ROWS);
+    assert_eq!(rt; runs, Some(19));
     let counts = change_bytes(rt.alloc(), &program, SESSION_ROWS)?;
     let want = Counts {
         refused: 40_431,
         rejected: 4_398,
         ran: 19_686,
         wrong: 0,
+        runs: 369_496,
     };
     assert_eq!(rt; counts, want);
     Ok(())
@@ -178,12 +220,16 @@ fn changes_of_a_program_of_a_stream(rt: HostRuntime) -> Result<(), Fail> {
     let program = compile_text(rt.alloc(), STREAM)?;
     let (text, end) = program_ran(rt.alloc(), &program, STREAM_ROWS);
     assert_eq!(rt; text.as_slice(), STREAM_TEXT, "{end:?}");
+    // Five records are kept.
+    let runs = run_by_both(rt.alloc(), &program, STREAM_ROWS);
+    assert_eq!(rt; runs, Some(15));
     let counts = change_bytes(rt.alloc(), &program, STREAM_ROWS)?;
     let want = Counts {
         refused: 23_143,
         rejected: 4_201,
         ran: 13_456,
         wrong: 0,
+        runs: 199_580,
     };
     assert_eq!(rt; counts, want);
     Ok(())

@@ -327,13 +327,34 @@ fn levels(rt: HostRuntime) -> Result<(), Fail> {
     expect_nested(&rt, "(", "7", ")", 24, FITS)?;
     expect_nested(&rt, "(", "7", ")", 25, "P4 TooDeep at 2:32")?;
     expect_nested(&rt, "NOT ", "TRUE", "", 24, FITS)?;
-    expect_nested(&rt, "NOT ", "TRUE", "", 25, "P4 TooDeep at 2:104")
+    expect_nested(&rt, "NOT ", "TRUE", "", 25, "P4 TooDeep at 2:104")?;
+    expect_nested(&rt, "- ", "7", "", 24, FITS)?;
+    expect_nested(&rt, "- ", "7", "", 25, "P4 TooDeep at 2:56")?;
+    expect_nested(&rt, "IF TRUE THEN ", "7", " ELSE 0 END", 24, FITS)?;
+    expect_nested(
+        &rt,
+        "IF TRUE THEN ",
+        "7",
+        " ELSE 0 END",
+        25,
+        "P4 TooDeep at 2:320",
+    )?;
+    expect_nested(&rt, "(", "COUNT(*)", ")", 23, FITS)?;
+    expect_nested(&rt, "(", "COUNT(*)", ")", 24, "P4 TooDeep at 2:32")?;
+    expect_nested(&rt, "SUM(", "n", ")", 24, "C5 AggregateNested in column 1")?;
+    expect_nested(&rt, "SUM(", "n", ")", 25, "P4 TooDeep at 2:104")
 }
 
 #[test]
 fn chains(rt: HostRuntime) -> Result<(), Fail> {
     expect_nested(&rt, "", "7", " + 7", 64, FITS)?;
-    expect_nested(&rt, "", "7", " + 7", 65, "P4 TooDeep at 2:266")
+    expect_nested(&rt, "", "7", " + 7", 65, "P4 TooDeep at 2:266")?;
+    expect_nested(&rt, "", "7", " * 1", 64, FITS)?;
+    expect_nested(&rt, "", "7", " * 1", 65, "P4 TooDeep at 2:266")?;
+    expect_nested(&rt, "", "TRUE", " OR TRUE", 64, FITS)?;
+    expect_nested(&rt, "", "TRUE", " OR TRUE", 65, "P4 TooDeep at 2:525")?;
+    expect_nested(&rt, "", "TRUE", " AND TRUE", 64, FITS)?;
+    expect_nested(&rt, "", "TRUE", " AND TRUE", 65, "P4 TooDeep at 2:589")
 }
 
 // The update folds seven sums of 129 instructions, and one of 88 or 89: with its folds and its return
@@ -401,6 +422,26 @@ fn the_greatest_number_and_the_latest_time(rt: HostRuntime) -> Result<(), Fail> 
         &latest,
         b"r,a,10000000000000000,1\nr,a,10000000000000001,1\nw,10000000000000000\n",
         b"refused,2,TimeRange\nend,3,1,0,1,0\n",
+    )
+}
+
+// Both sides of a field's interval, of 64 bits, of SKEW, of LATENESS and of the latest time.
+#[test]
+fn numbers_of_rows(rt: HostRuntime) -> Result<(), Fail> {
+    expect_run(
+        &rt,
+        &BASE,
+        b"r,a,0,0\nr,a,0,-1\nr,a,0,100\nr,a,0,101\n\
+r,a,0,9223372036854775807\nr,a,0,9223372036854775808\n\
+r,a,0,-9223372036854775808\nr,a,0,-9223372036854775809\n\
+r,a,100,1\nr,a,101,1\nr,a,-1,1\nr,a,9223372036854775808,1\n\
+w,0\nw,60\nw,60\nr,a,50,1\nr,a,49,1\nw,10000000000000000\nw,10000000000000001\n",
+        b"refused,2,FieldRange\nrefused,4,FieldRange\nrefused,5,FieldRange\n\
+refused,6,BadNumber\nrefused,7,FieldRange\nrefused,8,BadNumber\n\
+refused,10,TooFarAhead\nrefused,11,TimeRange\nrefused,12,BadNumber\n\
+refused,13,NotRising\npane,on_time,a,0,60,2,100\nrefused,15,NotRising\n\
+pane,final,a,0,60,3,101\npane,on_time,a,60,120,1,1\nrefused,19,TimeRange\n\
+end,19,4,1,12,3\n",
     )
 }
 

@@ -6,6 +6,7 @@
 //! - `noise`: numbers that look random, the same ones each time
 //! - `bytes`: programs of which a byte was changed, or the end cut off
 //! - `sections`, `programs`: programs put together at random
+//! - `sides`: runs of accepted programs by both machines
 //! - `rows`: rows that are no event, or one that is refused
 //! - `texts`: queries of which a byte was changed
 //! - `devices`: readers and devices that fail
@@ -28,5 +29,7 @@ mod programs;
 mod rows;
 #[cfg(test)]
 mod sections;
+#[cfg(test)]
+mod sides;
 #[cfg(test)]
 mod texts;

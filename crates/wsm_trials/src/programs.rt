@@ -3,10 +3,12 @@
 use crate::given::{is_whole, program_ran};
 use crate::noise::Noise;
 use crate::sections::Sections;
+use crate::sides::Sides;
 use std::alloc::Global;
 use std::test::Fail;
-use wsm_bytecode::{Budget, CellType, Header, Program, SectionId, decode, encode};
-use wsm_machine::{Inputs, Outcome, run_any};
+use wsm_bytecode::{Budget, CellType, Header, Program, decode, encode};
+use wsm_interval::Interval;
+use wsm_machine::Inputs;
 use wsm_record::{Field, Form, Kind, Mode, Name, Schema, Ty, Value};
 use wsm_verifier::{Costs, Rule, Verified, verify};
 use wsm_windows::Shape;
@@ -29,8 +31,8 @@ enum Taken {
     Refused,
     /// The verifier rejects it.
     Rejected(Rule),
-    /// It was accepted and kept its promises.
-    Ran,
+    /// It was accepted and kept its promises, in so many runs of its sections by both machines.
+    Ran(u32),
     /// It broke a promise.
     Wrong,
 }
@@ -93,21 +95,8 @@ fn judged(alloc: Global, bytes: &[u8]) -> Result<Costs, Rule> {
     }
 }
 
-// How many instructions a run of a section takes to its return, on inputs that are in range.
-fn steps(alloc: Global, verified: &Verified, id: SectionId, inputs: &Inputs) -> Option<u64> {
-    let program = verified.program();
-    if !inputs.in_range(verified, id) || !inputs.fits(program) {
-        return None;
-    }
-    let ran = run_any(alloc, program, id, inputs);
-    match ran.outcome {
-        Outcome::Done => Some(ran.steps),
-        Outcome::Trap(_) => None,
-    }
-}
-
 // What a record of a key and a number costs.
-fn record_steps(alloc: Global, verified: &Verified, key: u16, number: i64) -> Option<u64> {
+fn record_steps(sides: &mut Sides, key: u16, number: i64) -> Option<u64> {
     let values = [Value::Int(number)];
     let accs = [Value::Int(0)];
     let inputs = Inputs {
@@ -116,13 +105,13 @@ fn record_steps(alloc: Global, verified: &Verified, key: u16, number: i64) -> Op
         count: 1,
         accs: &accs,
     };
-    let kept = steps(alloc, verified, SectionId::Where, &inputs)?;
-    let updated = steps(alloc, verified, SectionId::Update, &inputs)?;
+    let kept = sides.keep(&inputs)?.steps;
+    let updated = sides.update(&inputs)?.steps;
     Some(kept.saturating_add(updated))
 }
 
 // What a firing of a key, of some records and a sum costs.
-fn pane_steps(alloc: Global, verified: &Verified, key: u16, count: i64, sum: i64) -> Option<u64> {
+fn pane_steps(sides: &mut Sides, key: u16, count: i64, sum: i64) -> Option<u64> {
     let values = [Value::Int(0)];
     let accs = [Value::Int(sum)];
     let inputs = Inputs {
@@ -131,41 +120,50 @@ fn pane_steps(alloc: Global, verified: &Verified, key: u16, count: i64, sum: i64
         count,
         accs: &accs,
     };
-    steps(alloc, verified, SectionId::Fire, &inputs)
+    Some(sides.fire(&inputs)?.steps)
 }
 
 // Whether each run of a record keeps within a number of steps.
-fn records_within(alloc: Global, verified: &Verified, most: u64) -> bool {
-    let cases = [(0, 0), (1, 0), (0, 1), (1, 60), (0, 99), (0, 100), (1, 100)];
-    cases.iter().all(|(key, number)| {
-        record_steps(alloc, verified, *key, *number).is_some_and(|steps| steps <= most)
-    })
+fn records_within(sides: &mut Sides, most: u64) -> bool {
+    for (key, number) in [(0, 0), (1, 0), (0, 1), (1, 60), (0, 99), (0, 100), (1, 100)] {
+        if !record_steps(sides, key, number).is_some_and(|steps| steps <= most) {
+            return false;
+        }
+    }
+    true
 }
 
 // Whether each firing keeps within a number of steps, at both ends of the sum's range too.
-fn panes_within(alloc: Global, verified: &Verified, most: u64) -> bool {
-    let Some(range) = verified.range(0) else {
-        return false;
-    };
+fn panes_within(sides: &mut Sides, range: Interval, most: u64) -> bool {
     let cases = [
         (0, 1, range.lo),
         (1, 1, range.hi),
         (0, 1000, range.lo),
         (1, 1000, range.hi),
     ];
-    cases.iter().all(|(key, count, sum)| {
-        pane_steps(alloc, verified, *key, *count, *sum).is_some_and(|steps| steps <= most)
-    })
+    for (key, count, sum) in cases {
+        if !pane_steps(sides, key, count, sum).is_some_and(|steps| steps <= most) {
+            return false;
+        }
+    }
+    true
 }
 
-// Whether the runs of an accepted program keep within what it needs.
-fn keeps_within(alloc: Global, bytes: &[u8], costs: Costs) -> bool {
-    match verified(alloc, bytes) {
-        Ok(verified) => {
-            records_within(alloc, &verified, costs.per_record)
-                && panes_within(alloc, &verified, costs.per_pane)
-        }
-        Err(_) => false,
+// How many runs of an accepted program's sections both machines answer, within what it needs; none
+// where they don't.
+fn runs_within(alloc: Global, bytes: &[u8], costs: Costs) -> Option<u32> {
+    let verified = verified(alloc, bytes).ok()?;
+    let range = verified.range(0)?;
+    let mut sides = Sides::open(alloc, &verified);
+    if !records_within(&mut sides, costs.per_record)
+        || !panes_within(&mut sides, range, costs.per_pane)
+    {
+        return None;
+    }
+    if sides.answer(ROWS) {
+        Some(sides.runs)
+    } else {
+        None
     }
 }
 
@@ -219,17 +217,17 @@ fn needs_all(alloc: Global, sections: &Sections, costs: Costs) -> Result<bool, F
     Ok(true)
 }
 
-// Whether an accepted program of sections, which states what it needs and no more, keeps its
-// promises.
-fn keeps(alloc: Global, sections: &Sections, costs: Costs) -> Result<bool, Fail> {
+// In how many runs an accepted program of sections, which states what it needs and no more, keeps
+// its promises; none where it breaks one.
+fn keeps(alloc: Global, sections: &Sections, costs: Costs) -> Result<Option<u32>, Fail> {
     let Some(bytes) = bytes_of(alloc, sections, stated(costs))? else {
-        return Ok(false);
+        return Ok(None);
     };
-    if judged(alloc, &bytes) != Ok(costs) || !keeps_within(alloc, &bytes, costs) {
-        return Ok(false);
-    }
     let (text, end) = program_ran(alloc, &bytes, ROWS);
-    Ok(end.is_ok() && is_whole(&text))
+    if judged(alloc, &bytes) != Ok(costs) || end.is_err() || !is_whole(&text) {
+        return Ok(None);
+    }
+    Ok(runs_within(alloc, &bytes, costs))
 }
 
 fn tried(alloc: Global, sections: &Sections) -> Result<Taken, Fail> {
@@ -239,10 +237,10 @@ fn tried(alloc: Global, sections: &Sections) -> Result<Taken, Fail> {
     match judged(alloc, &bytes) {
         Err(Rule::Memory) => Ok(Taken::Wrong),
         Err(rule) => Ok(Taken::Rejected(rule)),
-        Ok(costs) => {
-            let is_kept = keeps(alloc, sections, costs)? && needs_all(alloc, sections, costs)?;
-            Ok(if is_kept { Taken::Ran } else { Taken::Wrong })
-        }
+        Ok(costs) => match keeps(alloc, sections, costs)? {
+            Some(runs) if needs_all(alloc, sections, costs)? => Ok(Taken::Ran(runs)),
+            _ => Ok(Taken::Wrong),
+        },
     }
 }
 
@@ -252,6 +250,8 @@ struct Counts {
     refused: u32,
     ran: u32,
     wrong: u32,
+    // Runs of a section by both machines, of the programs that ran.
+    runs: u32,
     // By the number of the rule.
     rejected: [u32; 17],
 }
@@ -260,7 +260,10 @@ impl Counts {
     fn add(&mut self, taken: Taken) {
         let count = match taken {
             Taken::Refused => &mut self.refused,
-            Taken::Ran => &mut self.ran,
+            Taken::Ran(runs) => {
+                self.runs = self.runs.saturating_add(runs);
+                &mut self.ran
+            }
             Taken::Wrong => &mut self.wrong,
             Taken::Rejected(rule) => &mut self.rejected[rule as usize],
         };
@@ -275,6 +278,7 @@ fn programs_of(alloc: Global, seed: u64, number: u32) -> Result<Counts, Fail> {
         refused: 0,
         ran: 0,
         wrong: 0,
+        runs: 0,
         rejected: [0; 17],
     };
     for _ in 0..number {
@@ -292,8 +296,27 @@ fn programs_at_random(rt: HostRuntime) -> Result<(), Fail> {
         refused: 248,
         ran: 1_421,
         wrong: 0,
+        runs: 43_396,
         rejected: [
             209, 65, 758, 181, 151, 115, 51, 151, 36, 35, 472, 559, 548, 0, 0, 0, 0,
+        ],
+    };
+    assert!(rt; counts.ran >= 250);
+    assert_eq!(rt; counts, want);
+    Ok(())
+}
+
+// The same of another seed.
+#[test]
+fn other_programs_at_random(rt: HostRuntime) -> Result<(), Fail> {
+    let counts = programs_of(rt.alloc(), 3, 5_000)?;
+    let want = Counts {
+        refused: 225,
+        ran: 1_483,
+        wrong: 0,
+        runs: 44_970,
+        rejected: [
+            171, 70, 749, 192, 137, 101, 60, 159, 39, 29, 450, 575, 560, 0, 0, 0, 0,
         ],
     };
     assert!(rt; counts.ran >= 250);

@@ -4,6 +4,8 @@ use crate::given::{BASE, ran};
 use std::alloc::Global;
 use std::process::Abort;
 use std::test::Fail;
+use wsm_csv::{RowRefusal, Rows, read_row};
+use wsm_record::{Name, RowFault, Schema};
 
 /// A field of each type.
 const TYPES: &[u8] = b"KEYS a, b; FIELD n INT 0..100; FIELD on BOOL; FIELD color ENUM(red, blue);
@@ -180,5 +182,16 @@ fn rows_of_any_length(rt: HostRuntime) -> Result<(), Fail> {
             expect_row(&rt, b"", cells, untagged)?;
         }
     }
+    Ok(())
+}
+
+// `csv` gives no record without cells, but whoever reads rows by other means may have one.
+#[test]
+fn a_row_without_cells(rt: HostRuntime) -> Result<(), Fail> {
+    let keys = [Name::new(b"a").ok_or("a name")?];
+    let schema = Schema::new(rt.alloc(), &keys, &[])?;
+    let rows = Rows::new(rt.alloc(), b"".as_slice());
+    let read = read_row(rt.alloc(), &schema, rows.row());
+    assert_eq!(rt; read.err(), Some(RowRefusal::Fault(RowFault::BadTag)));
     Ok(())
 }

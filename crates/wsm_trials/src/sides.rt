@@ -1,0 +1,210 @@
+//! The machine that looks for each trap, and the one of verified programs, side by side.
+
+use std::alloc::{AllocError, Global};
+use wsm_bytecode::SectionId;
+use wsm_csv::{Rows, read_row};
+use wsm_machine::{Cell, Fired, Inputs, Kept, Machine, Outcome, Ran, Updated, run_any};
+use wsm_record::{Event, Kind, Value};
+use wsm_verifier::Verified;
+
+/// More rows than any trial has.
+const MOST_ROWS: usize = 100;
+
+/// Both machines for a verified program. Each run is one of both, on inputs that are in range and fit
+/// all sections; it is answered where both come to the section's return in as many steps, with the
+/// same values.
+#[derive(Drop)]
+pub struct Sides<'a> {
+    alloc: Global,
+    verified: &'a Verified,
+    machine: Machine,
+    /// How many runs were answered.
+    pub runs: u32,
+}
+
+impl<'a> Sides<'a> {
+    pub fn open(alloc: Global, verified: &'a Verified) -> Sides<'a> {
+        Sides {
+            alloc,
+            verified,
+            machine: Machine::open(alloc),
+            runs: 0,
+        }
+    }
+
+    // A run that looks for each trap, and comes to its return.
+    fn returned(&self, section: SectionId, inputs: &Inputs) -> Option<Ran> {
+        let program = self.verified.program();
+        if !inputs.fits(program) {
+            return None;
+        }
+        let ran = run_any(self.alloc, program, section, inputs);
+        match ran.outcome {
+            Outcome::Done => Some(ran),
+            Outcome::Trap(_) => None,
+        }
+    }
+
+    /// What WHERE answers of a record.
+    pub fn keep(&mut self, inputs: &Inputs) -> Option<Kept> {
+        let ran = self.returned(SectionId::Where, inputs)?;
+        if !inputs.in_range(self.verified, SectionId::Where) {
+            return None;
+        }
+        let kept = self.machine.keep(self.verified, inputs);
+        if ran.steps != kept.steps || !leaves(&ran, &[], kept.keeps) {
+            return None;
+        }
+        self.runs = self.runs.saturating_add(1);
+        Some(kept)
+    }
+
+    /// What UPDATE answers of a record.
+    pub fn update(&mut self, inputs: &Inputs) -> Option<Updated<'_>> {
+        let ran = self.returned(SectionId::Update, inputs)?;
+        if !inputs.in_range(self.verified, SectionId::Update) {
+            return None;
+        }
+        let updated = self.machine.update(self.verified, inputs);
+        if ran.steps != updated.steps || !folds(&ran, updated.values) {
+            return None;
+        }
+        self.runs = self.runs.saturating_add(1);
+        Some(updated)
+    }
+
+    /// What FIRE answers of a pane.
+    pub fn fire(&mut self, inputs: &Inputs) -> Option<Fired<'_>> {
+        let ran = self.returned(SectionId::Fire, inputs)?;
+        if !inputs.in_range(self.verified, SectionId::Fire) {
+            return None;
+        }
+        let fired = self.machine.fire(self.verified, inputs);
+        if ran.steps != fired.steps || !leaves(&ran, fired.columns, fired.emits) {
+            return None;
+        }
+        self.runs = self.runs.saturating_add(1);
+        Some(fired)
+    }
+
+    /// Whether each record of a text is answered by WHERE, and where it is kept by UPDATE, and then
+    /// FIRE with its key and what all records that were kept so far come to. Records that aren't of
+    /// the program's types and intervals are left out, and those past RECORDS.
+    pub fn answer(&mut self, text: &[u8]) -> bool {
+        let header = self.verified.program().header();
+        let Ok(mut pane) = Pane::open(self.alloc, &header.kinds) else {
+            return false;
+        };
+        let mut rows = Rows::new(self.alloc, text);
+        for _ in 0..MOST_ROWS {
+            match rows.advance() {
+                Ok(true) => (),
+                Ok(false) => return true,
+                Err(_) => return false,
+            }
+            let Ok(
+                Event::Record {
+                    key: Some(key),
+                    values,
+                    ..
+                },
+            ) = read_row(self.alloc, &header.schema, rows.row())
+            else {
+                continue;
+            };
+            let is_taken = header.schema.fits(&values) && pane.count < header.records;
+            if is_taken && !self.answer_record(key, &values, &mut pane) {
+                return false;
+            }
+        }
+        false
+    }
+
+    fn answer_record(&mut self, key: u16, values: &[Value], pane: &mut Pane) -> bool {
+        let verified = self.verified;
+        let inputs = pane.inputs(key, values);
+        let Some(kept) = self.keep(&inputs) else {
+            return false;
+        };
+        if !kept.keeps {
+            return true;
+        }
+        let Some(updated) = self.update(&inputs) else {
+            return false;
+        };
+        pane.add(&verified.program().header().kinds, updated.values);
+        self.fire(&pane.inputs(key, values)).is_some()
+    }
+}
+
+// Whether a run leaves a row and a truth above it.
+fn leaves(ran: &Ran, row: &[Cell], truth: bool) -> bool {
+    match ran.stack.cells().split_last() {
+        Some((top, under)) => *top == Cell::Bool(truth) && under == row,
+        None => false,
+    }
+}
+
+// Whether a run folds a value into each accumulator.
+fn folds(ran: &Ran, values: &[Value]) -> bool {
+    let folded = ran.folds.values();
+    folded.len() == values.len()
+        && folded
+            .iter()
+            .zip(values.iter())
+            .all(|(fold, value)| *fold == Some(*value))
+}
+
+// What records come to.
+#[derive(Drop)]
+struct Pane {
+    count: i64,
+    accs: Vec<Value>,
+}
+
+impl Pane {
+    fn open(alloc: Global, kinds: &[Kind]) -> Result<Pane, AllocError> {
+        let mut accs = Vec::new(alloc);
+        for kind in kinds {
+            accs.push(match kind {
+                Kind::Sum | Kind::Min | Kind::Max => Value::Int(0),
+                Kind::Any | Kind::All => Value::Bool(false),
+            })?;
+        }
+        Ok(Pane { count: 0, accs })
+    }
+
+    fn inputs<'a>(&'a self, key: u16, values: &'a [Value]) -> Inputs<'a> {
+        Inputs {
+            key,
+            values,
+            count: self.count,
+            accs: &self.accs,
+        }
+    }
+
+    // Folds the values of one more record.
+    fn add(&mut self, kinds: &[Kind], values: &[Value]) {
+        for (place, acc) in self.accs.iter_mut().enumerate() {
+            if let (Some(kind), Some(value)) = (kinds.get(place), values.get(place)) {
+                *acc = if self.count == 0 {
+                    *value
+                } else {
+                    joined(*kind, *acc, *value)
+                };
+            }
+        }
+        self.count = self.count.saturating_add(1);
+    }
+}
+
+fn joined(kind: Kind, left: Value, right: Value) -> Value {
+    match (kind, left, right) {
+        (Kind::Sum, Value::Int(x), Value::Int(y)) => Value::Int(x.saturating_add(y)),
+        (Kind::Min, Value::Int(x), Value::Int(y)) => Value::Int(x.min(y)),
+        (Kind::Max, Value::Int(x), Value::Int(y)) => Value::Int(x.max(y)),
+        (Kind::Any, Value::Bool(x), Value::Bool(y)) => Value::Bool(x || y),
+        (Kind::All, Value::Bool(x), Value::Bool(y)) => Value::Bool(x && y),
+        (_, left, _) => left,
+    }
+}
