@@ -3,8 +3,8 @@ use Rattle.std.specs.Prelude.{List, [], map, unwrap_or}
 use Rattle.wsm_record.specs.Schema.{Declared}
 use Rattle.wsm_semantics.specs.Query.{Query}
 use Rattle.wsm_semantics.specs.Text.{Names}
-use Rattle.wsm_bytecode.specs.declared.instr.CellType.{CellType}
-use Rattle.wsm_bytecode.specs.declared.instr.CellType.TheVariants.{Enum}
+use Rattle.wsm_record.specs.declared.words.CellType.{CellType}
+use Rattle.wsm_record.specs.declared.words.CellType.TheVariants.{Enum}
 use Rattle.wsm_bytecode.specs.Program.{Name, Program, enum_names}
 use Rattle.wsm_machine.specs.Meaning.{query_of}
 use Rattle.wsm_query.specs.Tree as tree

@@ -8,7 +8,7 @@ use Rattle.std.proofs.lemmas.Slice.Eq.{bytes_eq-Decides}
 use Rattle.wsm_bytecode.specs.declared.refusal.DecodeRefusal.{DecodeRefusal}
 use Rattle.wsm_bytecode.specs.declared.refusal.DecodeRefusal.TheVariants.{BadMagic, Version}
 use Rattle.wsm_bytecode.specs.declared.instr.Instr.{Instr}
-use Rattle.wsm_bytecode.specs.declared.instr.CellType.{CellType}
+use Rattle.wsm_record.specs.declared.words.CellType.{CellType}
 use Rattle.wsm_record.specs.declared.Kind.{Kind}
 use Rattle.wsm_windows.specs.declared.Shape.{Shape}
 use Rattle.wsm_record.specs.declared.Mode.{Mode}

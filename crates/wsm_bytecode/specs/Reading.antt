@@ -1,8 +1,8 @@
 -- Reading the bytes of a program from the left, up to the first fault.
 use Rattle.std.specs.Prelude.{◌≡◌, ℕ, zero, suc, Bool, ◌&&◌, not, List, [], ◌∷◌, ◌++◌, length, take, drop, ℤ, pos, int_le, nat_lt, is_some, Option, Some, None, option_map, Result, Ok, Err, bytes_eq, ◌==◌, if◌then◌else◌}
 use Rattle.std.specs.Int.{Width, w8, w16, w64, byte_len, from_le_bytes, cast_signed}
-use Rattle.wsm_bytecode.specs.declared.instr.CellType.{CellType}
-use Rattle.wsm_bytecode.specs.declared.instr.CellType.TheVariants as types
+use Rattle.wsm_record.specs.declared.words.CellType.{CellType}
+use Rattle.wsm_record.specs.declared.words.CellType.TheVariants as types
 use Rattle.wsm_record.specs.declared.Kind.{Kind}
 use Rattle.wsm_record.specs.declared.Kind.TheVariants.{Sum, Min, Max, Any, All}
 use Rattle.wsm_bytecode.specs.declared.instr.Instr.{Instr}

@@ -6,7 +6,7 @@ use Rattle.wsm_record.specs.declared.Kind.TheVariants.{Sum}
 use Rattle.wsm_record.specs.declared.Mode.TheVariants.{Accumulating}
 use Rattle.wsm_record.specs.declared.Form.TheVariants.{Panes}
 use Rattle.wsm_windows.specs.declared.Shape.TheVariants.{Fixed}
-use Rattle.wsm_bytecode.specs.declared.instr.CellType.TheVariants as types
+use Rattle.wsm_record.specs.declared.words.CellType.TheVariants as types
 use Rattle.wsm_bytecode.specs.declared.instr.Instr.TheVariants.{PushBool, Field, Acc, Count, Fold, Return}
 use Rattle.wsm_bytecode.specs.declared.refusal.DecodeRefusal.{DecodeRefusal}
 use Rattle.wsm_bytecode.specs.declared.refusal.DecodeRefusal.TheVariants.{BadMagic, Version, Truncated, UnknownOpcode, Operand, TrailingBytes}

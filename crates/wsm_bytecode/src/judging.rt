@@ -8,13 +8,13 @@ ghost use Rattle.wsm_bytecode.specs.Program.{is_within, is_name_list, is_field_t
 ghost use Rattle.wsm_bytecode.specs.View.{header_of, program_of};
 
 use crate::enums::{name_count, names};
-use crate::instr::{CellType, Instr};
+use crate::instr::Instr;
 use crate::limits::{
     LATEST_TIME, LONGEST_SPAN, MAX_ACCUMULATORS, MAX_COLUMNS, MAX_FIELDS, MAX_HELD, MAX_SECTION,
     MAX_STATED,
 };
 use crate::program::{Budget, Header};
-use wsm_record::{DeclaredField, FieldType, Form, Mode, Name, Names, Schema};
+use wsm_record::{CellType, DeclaredField, FieldType, Form, Mode, Name, Names, Schema};
 use wsm_windows::Shape;
 
 /// Whether these are the parts of a program.

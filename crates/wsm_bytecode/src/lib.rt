@@ -30,13 +30,14 @@
 //! - `listing`: a line of text for each instruction
 #![tactic(auto)]
 
-pub use instr::{CellType, Instr, SectionId};
+pub use instr::{Instr, SectionId};
 pub use listing::disassemble;
 pub use operation::{Operands, Operation};
 pub use program::{Budget, Header, Program, Section};
 pub use reading::decode;
 pub use refusal::DecodeRefusal;
 pub use writing::encode;
+pub use wsm_record::CellType;
 
 mod enums;
 mod instr;

@@ -4,11 +4,11 @@ ghost use Rattle.std.specs.Prelude.{◌≡◌, ◌≤◌, length, is_ok, IfOk, I
 ghost use Rattle.wsm_bytecode.specs.Program.{section as section_of, is_budget, is_program, stating};
 ghost use Rattle.wsm_bytecode.specs.View.{header_of, program_of};
 
-use crate::instr::{CellType, Instr, SectionId};
+use crate::instr::{Instr, SectionId};
 use crate::judging::is_lawful;
 use crate::refusal::DecodeRefusal;
 use std::marker::Model;
-use wsm_record::{Form, Kind, Mode, Schema};
+use wsm_record::{CellType, Form, Kind, Mode, Schema};
 use wsm_windows::Shape;
 
 /// The instructions of a section, by their places.

@@ -3,22 +3,23 @@ use Rattle.std.proofs.Common.{◌≡◌, Bool, true, false, ◌&&◌, Ok, Err, n
 use Rattle.std.specs.Prelude.{is_ok}
 use Rattle.std.proofs.lemmas.Bool.{and_from, false≢true}
 use Rattle.wsm_query.specs.Tree.{Query, Expr, Number, Truth, Field, EnumName, Key, KeyName, Count, Aggregate, If, Brackets, Minus, Not, Binary, And, Or}
-use Rattle.wsm_check.specs.Types.{ExprTy, Around, InWhere, InColumn, InAggregate, Typed, if_typed, if_both, entered, typed}
+use Rattle.wsm_record.specs.declared.words.CellType.{CellType}
+use Rattle.wsm_check.specs.Types.{Around, InWhere, InColumn, InAggregate, Typed, if_typed, if_both, entered, typed}
 use Rattle.wsm_check.specs.Sizes.{aggregates}
 use Rattle.wsm_check.specs.Terms.{is_flat}
 
 abbrev pub HasType : Query → Around → Expr → Type 0
 HasType q around e = is_ok (typed q around e) ≡ true
 
-pub first_ok : (x : Typed) (go : ExprTy → Typed) → is_ok (if_typed x go) ≡ true → is_ok x ≡ true
+pub first_ok : (x : Typed) (go : CellType → Typed) → is_ok (if_typed x go) ≡ true → is_ok x ≡ true
 first_ok (Ok t) go h = refl
 first_ok (Err f) go h = h
 
-rest_ok : (x : Typed) (go : ExprTy → Typed) → is_ok (if_typed x go) ≡ true → (t : ExprTy) × (is_ok (go t) ≡ true)
+rest_ok : (x : Typed) (go : CellType → Typed) → is_ok (if_typed x go) ≡ true → (t : CellType) × (is_ok (go t) ≡ true)
 rest_ok (Ok t) go h = (t, h)
 rest_ok (Err f) go h = absurd (false≢true h)
 
-second_ok : (x y : Typed) (go : ExprTy → ExprTy → Typed) → is_ok (if_both x y go) ≡ true → is_ok y ≡ true
+second_ok : (x y : Typed) (go : CellType → CellType → Typed) → is_ok (if_both x y go) ≡ true → is_ok y ≡ true
 second_ok x y go h = let r = rest_ok x (λ t. if_typed y (λ u. go t u)) h in first_ok y (λ u. go r.0 u) r.1
 
 entered_ok : (around : Around) (x : Typed) → is_ok (entered around x) ≡ true → is_ok x ≡ true

@@ -6,7 +6,9 @@ use Rattle.wsm_record.specs.declared.words.Mode.{Mode}
 use Rattle.wsm_record.specs.declared.words.Form.{Form}
 use Rattle.wsm_windows.specs.declared.window.Shape.{Shape}
 use Rattle.wsm_query.specs.Tree.{Name, Declared, Budget, Query, Expr}
-use Rattle.wsm_check.specs.Types.{ExprTy, IntValue, Typed, InColumn, typed}
+use Rattle.wsm_record.specs.declared.words.CellType.{CellType}
+use Rattle.wsm_record.specs.declared.words.CellType.TheVariants as types
+use Rattle.wsm_check.specs.Types.{Typed, InColumn, typed}
 use Rattle.wsm_check.specs.Sizes.{Acc, aggregates, accumulators, in_option}
 use Rattle.wsm_check.specs.Checks.{IsChecked}
 use Rattle.wsm_check.specs.Spelt.{IsSpelt}
@@ -18,7 +20,7 @@ pub record Folding : Type 0 where
   pub operand : Term
 
 pub record Column : Type 0 where
-  pub ty : ExprTy
+  pub ty : CellType
   pub term : Term
 
 pub record Parts : Type 0 where
@@ -40,9 +42,9 @@ pub record Parts : Type 0 where
   pub having : Option Term
 
 -- a query that no check refuses has a type for each column
-abbrev pub type_or_int : Typed → ExprTy
+abbrev pub type_or_int : Typed → CellType
 type_or_int (Ok t) = t
-type_or_int (Err f) = IntValue
+type_or_int (Err f) = types.Int
 
 -- the accumulators before HAVING
 abbrev pub aggregates_of : List Expr → ℕ

@@ -8,7 +8,6 @@ use Rattle.wsm_check.specs.declared.parts.Folding.{Folding as CodeFolding}
 use Rattle.wsm_check.specs.declared.parts.Column.{Column as CodeColumn}
 use Rattle.wsm_check.specs.declared.parts.Parts.{Parts as CodeParts}
 use Rattle.wsm_check.specs.declared.parts.Terms.{Terms}
-pub use Rattle.wsm_check.specs.Types.{seen_ty}
 use Rattle.wsm_check.specs.Terms.{Term, Number, Truth, Field, Name, Key, Count, Accumulator, If, Minus, Not, Binary, And, Or}
 use Rattle.wsm_check.specs.Parts.{Folding, Column, Parts, parts_of}
 
@@ -31,7 +30,7 @@ abbrev pub seen_folding : CodeFolding → Folding
 seen_folding f = record { kind = f.kind; operand = seen_term f.operand }
 
 abbrev pub seen_column : CodeColumn → Column
-seen_column c = record { ty = seen_ty c.ty; term = seen_term c.term }
+seen_column c = record { ty = c.ty; term = seen_term c.term }
 
 abbrev pub seen_parts : CodeParts → Parts
 seen_parts p = record {

@@ -3,7 +3,7 @@
 ghost use Rattle.std.specs.Prelude.{◌≡◌, ◌≤◌, ◌+◌, ◌++◌, length, map, option_map, true, IfOk, OnOk};
 ghost use Rattle.std.specs.List.{flat_map, list_all};
 ghost use Rattle.wsm_query.specs.Seen.{seen, seen_expr};
-ghost use Rattle.wsm_check.specs.Types.{InColumn, seen_ty, typed};
+ghost use Rattle.wsm_check.specs.Types.{InColumn, typed};
 ghost use Rattle.wsm_check.specs.Sizes.{accumulators_of, fired, in_option};
 ghost use Rattle.wsm_check.specs.Spelt.{numbers_fit};
 ghost use Rattle.wsm_check.specs.Terms.{has_few_names, is_flat, resolved};
@@ -13,9 +13,10 @@ ghost use Rattle.wsm_check.specs.Seen.{AreTermsOf, seen_column, seen_folding, se
 use crate::parts::{Column, Folding, Terms};
 use crate::resolve::resolve;
 use crate::term::Term;
-use crate::types::{Around, ValueTy, type_of};
+use crate::types::{Around, type_of};
 use std::alloc::{AllocError, Global};
 use wsm_query::{Expr, Query};
+use wsm_record::CellType;
 
 /// The terms of all expressions.
 #[tactic(auto, using(crate::proofs::Resolving::all_parts))]
@@ -87,12 +88,12 @@ fn resolve_columns(
 }
 
 // The checks have passed, so a column has a type.
-fn type_of_column(query: &Query, column: &Expr) -> ValueTy
+fn type_of_column(query: &Query, column: &Expr) -> CellType
     requires { length query.now.fields.items ≤ 16 }
-    ensures { seen_ty result ≡ type_or_int (typed (seen query.now) InColumn (seen_expr column.now)) }
+    ensures { result ≡ type_or_int (typed (seen query.now) InColumn (seen_expr column.now)) }
 {
     match type_of(query, Around::InColumn, column) {
         Ok(ty) => ty,
-        Err(_) => ValueTy::Int,
+        Err(_) => CellType::Int,
     }
 }

@@ -32,7 +32,7 @@ pub use checks::check;
 pub use parts::{Column, Folding, Parts};
 pub use refusal::{CheckFault, CheckRefusal, Part};
 pub use term::Term;
-pub use types::{Around, ValueTy};
+pub use types::Around;
 
 mod assemble;
 mod checked;

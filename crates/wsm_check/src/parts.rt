@@ -1,9 +1,8 @@
 //! What a checked query has.
 
 use crate::term::Term;
-use crate::types::ValueTy;
 use wsm_query::{Budget, Declared};
-use wsm_record::{Form, Kind, Mode, Name};
+use wsm_record::{CellType, Form, Kind, Mode, Name};
 use wsm_windows::Shape;
 
 /// What an accumulator folds.
@@ -17,7 +16,7 @@ pub struct Folding {
 /// A column.
 #[derive(Debug, Drop)]
 pub struct Column {
-    pub ty: ValueTy,
+    pub ty: CellType,
     pub term: Term,
 }
 

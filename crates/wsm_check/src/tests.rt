@@ -1,10 +1,11 @@
 //! Query texts, and how they are judged. Each was worked out by hand.
 
-use crate::{Checked, ValueTy, check};
+use crate::{Checked, check};
 use std::alloc::{AllocError, Global};
 use std::process::Abort;
 use std::test::*;
 use wsm_query::parse;
+use wsm_record::CellType;
 
 const HEAD: &str =
     "KEYS a, b; FIELD n INT 0..100; FIELD c ENUM(red, blue); FIELD d ENUM(red); START 0; SKEW 100; LATENESS 10; RECORDS 1000; SELECT ";
@@ -155,8 +156,8 @@ fn parts(rt: HostRuntime) -> Result<(), Fail> {
     let parts = &checked.parts;
     assert_eq!(rt; parts.foldings.len(), 4);
     assert_eq!(rt; parts.columns.len(), 3);
-    assert_eq!(rt; parts.columns[0].ty, ValueTy::Enum(0));
-    assert_eq!(rt; parts.columns[2].ty, ValueTy::Bool);
+    assert_eq!(rt; parts.columns[0].ty, CellType::Enum(0));
+    assert_eq!(rt; parts.columns[2].ty, CellType::Bool);
     assert!(rt; parts.condition.is_some() && parts.having.is_some());
     Ok(())
 }

@@ -5,21 +5,12 @@ ghost use Rattle.wsm_record.specs.Name as name_rule;
 ghost use Rattle.wsm_query.specs.Tree.{Aggregate};
 ghost use Rattle.wsm_query.specs.Seen.{seen, seen_expr, seen_ty as seen_declared};
 ghost use Rattle.wsm_check.specs.Types as rule;
-ghost use Rattle.wsm_check.specs.Types.{IntValue, BoolValue, EnumValue, entered, enum_ty, field_ty, op_ty, seen_ty, seen_typed, typed, typed_condition, wanted};
+ghost use Rattle.wsm_check.specs.Types.{entered, enum_ty, field_ty, op_ty, typed, typed_condition, wanted};
 
 use crate::names::{find_field, is_among};
 use crate::refusal::CheckFault;
 use wsm_query::{Expr, Op, Query, Ty};
-use wsm_record::{Kind, Name};
-
-/// The type of a value.
-#[derive(Clone, Copy, Debug, PartialEq, Eq)]
-pub enum ValueTy {
-    Int,
-    Bool,
-    /// A name of an ENUM: 0 is the keys, `f + 1` the names of field `f`.
-    Enum(u8),
-}
+use wsm_record::{CellType, Kind, Name};
 
 /// Where an expression stands.
 #[derive(Clone, Copy, Debug, PartialEq, Eq)]
@@ -33,16 +24,16 @@ pub enum Around {
 /// The type of an expression, or its first fault: its parts are walked from the left, and before
 /// itself.
 #[cycle(typed)]
-pub fn type_of(query: &Query, around: Around, expr: &Expr) -> Result<ValueTy, CheckFault>
+pub fn type_of(query: &Query, around: Around, expr: &Expr) -> Result<CellType, CheckFault>
     requires { length query.now.fields.items ≤ 16 }
-    ensures { seen_typed result ≡ typed (seen query.now) around (seen_expr expr.now) }
+    ensures { result ≡ typed (seen query.now) around (seen_expr expr.now) }
 {
     match expr {
-        Expr::Number(_) => Ok(ValueTy::Int),
-        Expr::Truth(_) => Ok(ValueTy::Bool),
+        Expr::Number(_) => Ok(CellType::Int),
+        Expr::Truth(_) => Ok(CellType::Bool),
         Expr::Field(field) => type_of_field(query, around, field),
         Expr::EnumName(field, name) => type_of_name(query, field, name),
-        Expr::Key => Ok(ValueTy::Enum(0)),
+        Expr::Key => Ok(CellType::Enum(0)),
         Expr::KeyName(name) => type_of_key(query, name),
         Expr::Count => type_of_count(around),
         Expr::Aggregate(kind, operand) => type_of_aggregate(query, around, *kind, operand),
@@ -50,16 +41,16 @@ pub fn type_of(query: &Query, around: Around, expr: &Expr) -> Result<ValueTy, Ch
             let given = type_of(query, around, test)?;
             let x = type_of(query, around, first)?;
             let y = type_of(query, around, second)?;
-            want(given == ValueTy::Bool && x == y, x)
+            want(given == CellType::Bool && x == y, x)
         }
         Expr::Brackets(inner) => type_of(query, around, inner),
         Expr::Minus(operand) => {
             let given = type_of(query, around, operand)?;
-            want(given == ValueTy::Int, ValueTy::Int)
+            want(given == CellType::Int, CellType::Int)
         }
         Expr::Not(operand) => {
             let given = type_of(query, around, operand)?;
-            want(given == ValueTy::Bool, ValueTy::Bool)
+            want(given == CellType::Bool, CellType::Bool)
         }
         Expr::Binary(op, left, right) => {
             let x = type_of(query, around, left)?;
@@ -69,17 +60,17 @@ pub fn type_of(query: &Query, around: Around, expr: &Expr) -> Result<ValueTy, Ch
         Expr::And(left, right) | Expr::Or(left, right) => {
             let x = type_of(query, around, left)?;
             let y = type_of(query, around, right)?;
-            want(x == ValueTy::Bool && y == ValueTy::Bool, ValueTy::Bool)
+            want(x == CellType::Bool && y == CellType::Bool, CellType::Bool)
         }
     }
 }
 
 // COUNT(*) is an aggregate too.
-fn type_of_count(around: Around) -> Result<ValueTy, CheckFault>
-    ensures { seen_typed result ≡ entered around (Ok IntValue) }
+fn type_of_count(around: Around) -> Result<CellType, CheckFault>
+    ensures { result ≡ entered around (Ok CellType.Int) }
 {
     match around {
-        Around::InColumn => Ok(ValueTy::Int),
+        Around::InColumn => Ok(CellType::Int),
         Around::InWhere => Err(CheckFault::AggregateInWhere),
         Around::InAggregate => Err(CheckFault::AggregateNested),
     }
@@ -92,9 +83,9 @@ fn type_of_aggregate(
     around: Around,
     kind: Kind,
     operand: &Expr,
-) -> Result<ValueTy, CheckFault>
+) -> Result<CellType, CheckFault>
     requires { length query.now.fields.items ≤ 16 }
-    ensures { seen_typed result ≡ typed (seen query.now) around (Aggregate kind (seen_expr operand.now)) }
+    ensures { result ≡ typed (seen query.now) around (Aggregate kind (seen_expr operand.now)) }
 {
     match around {
         Around::InColumn => {
@@ -107,37 +98,37 @@ fn type_of_aggregate(
     }
 }
 
-fn operand_ty(kind: Kind) -> ValueTy
-    ensures { seen_ty result ≡ rule.operand_ty kind }
+fn operand_ty(kind: Kind) -> CellType
+    ensures { result ≡ rule.operand_ty kind }
 {
     match kind {
-        Kind::Sum | Kind::Min | Kind::Max => ValueTy::Int,
-        Kind::Any | Kind::All => ValueTy::Bool,
+        Kind::Sum | Kind::Min | Kind::Max => CellType::Int,
+        Kind::Any | Kind::All => CellType::Bool,
     }
 }
 
 // A type where the operands have the types that are asked for.
-fn want(holds: bool, ty: ValueTy) -> Result<ValueTy, CheckFault>
-    ensures { seen_typed result ≡ wanted holds (seen_ty ty) }
+fn want(holds: bool, ty: CellType) -> Result<CellType, CheckFault>
+    ensures { result ≡ wanted holds ty }
 {
     if holds { Ok(ty) } else { Err(CheckFault::Type) }
 }
 
-fn type_of_op(op: Op, left: ValueTy, right: ValueTy) -> Result<ValueTy, CheckFault>
-    ensures { seen_typed result ≡ op_ty op (seen_ty left) (seen_ty right) }
+fn type_of_op(op: Op, left: CellType, right: CellType) -> Result<CellType, CheckFault>
+    ensures { result ≡ op_ty op left right }
 {
-    let are_numbers = left == ValueTy::Int && right == ValueTy::Int;
+    let are_numbers = left == CellType::Int && right == CellType::Int;
     match op {
-        Op::Add | Op::Sub | Op::Mul | Op::Div | Op::Rem => want(are_numbers, ValueTy::Int),
-        Op::Eq | Op::Ne => want(left == right, ValueTy::Bool),
-        Op::Lt | Op::Le | Op::Gt | Op::Ge => want(are_numbers, ValueTy::Bool),
+        Op::Add | Op::Sub | Op::Mul | Op::Div | Op::Rem => want(are_numbers, CellType::Int),
+        Op::Eq | Op::Ne => want(left == right, CellType::Bool),
+        Op::Lt | Op::Le | Op::Gt | Op::Ge => want(are_numbers, CellType::Bool),
     }
 }
 
 // A field is read in WHERE and in an aggregate alone.
-fn type_of_field(query: &Query, around: Around, field: &Name) -> Result<ValueTy, CheckFault>
+fn type_of_field(query: &Query, around: Around, field: &Name) -> Result<CellType, CheckFault>
     requires { length query.now.fields.items ≤ 16 }
-    ensures { seen_typed result ≡ field_ty (seen query.now) around field.now }
+    ensures { result ≡ field_ty (seen query.now) around field.now }
 {
     let Some((number, ty)) = find_field(&query.fields, field) else {
         return Err(CheckFault::UnknownName);
@@ -148,33 +139,33 @@ fn type_of_field(query: &Query, around: Around, field: &Name) -> Result<ValueTy,
     }
 }
 
-fn declared_ty(number: u8, ty: &Ty) -> ValueTy
+fn declared_ty(number: u8, ty: &Ty) -> CellType
     requires { number < 16 }
-    ensures { seen_ty result ≡ rule.declared_ty number (seen_declared ty.now) }
+    ensures { result ≡ rule.declared_ty number (seen_declared ty.now) }
 {
     match ty {
-        Ty::Int { .. } => ValueTy::Int,
-        Ty::Bool => ValueTy::Bool,
-        Ty::Enum(_) => ValueTy::Enum(number + 1),
+        Ty::Int { .. } => CellType::Int,
+        Ty::Bool => CellType::Bool,
+        Ty::Enum(_) => CellType::Enum(number + 1),
     }
 }
 
 // The field must be there, an ENUM, and have the name.
-fn type_of_name(query: &Query, field: &Name, name: &Name) -> Result<ValueTy, CheckFault>
+fn type_of_name(query: &Query, field: &Name, name: &Name) -> Result<CellType, CheckFault>
     requires { length query.now.fields.items ≤ 16 }
-    ensures { seen_typed result ≡ enum_ty (seen query.now) field.now name.now }
+    ensures { result ≡ enum_ty (seen query.now) field.now name.now }
 {
     match find_field(&query.fields, field) {
-        Some((number, Ty::Enum(names))) if is_among(name, names) => Ok(ValueTy::Enum(number + 1)),
+        Some((number, Ty::Enum(names))) if is_among(name, names) => Ok(CellType::Enum(number + 1)),
         _ => Err(CheckFault::UnknownName),
     }
 }
 
-fn type_of_key(query: &Query, name: &Name) -> Result<ValueTy, CheckFault>
-    ensures { seen_typed result ≡ cond (name_rule.is_among name.now query.now.keys.items) (Ok (EnumValue 0)) (Err CheckFault.UnknownName) }
+fn type_of_key(query: &Query, name: &Name) -> Result<CellType, CheckFault>
+    ensures { result ≡ cond (name_rule.is_among name.now query.now.keys.items) (Ok (CellType.Enum 0)) (Err CheckFault.UnknownName) }
 {
     if is_among(name, &query.keys) {
-        Ok(ValueTy::Enum(0))
+        Ok(CellType::Enum(0))
     } else {
         Err(CheckFault::UnknownName)
     }
@@ -184,9 +175,9 @@ fn type_of_key(query: &Query, name: &Name) -> Result<ValueTy, CheckFault>
 pub fn judge_condition(query: &Query, around: Around, condition: &Expr) -> Result<(), CheckFault>
     requires { length query.now.fields.items ≤ 16 }
     ensures judged { IfErr result (λ f. typed_condition (seen query.now) around (seen_expr condition.now) ≡ Err f) }
-    ensures holds { IfOk result (λ _. typed_condition (seen query.now) around (seen_expr condition.now) ≡ Ok BoolValue) }
+    ensures holds { IfOk result (λ _. typed_condition (seen query.now) around (seen_expr condition.now) ≡ Ok CellType.Bool) }
 {
     let given = type_of(query, around, condition)?;
-    want(given == ValueTy::Bool, ValueTy::Bool)?;
+    want(given == CellType::Bool, CellType::Bool)?;
     Ok(())
 }

@@ -7,7 +7,9 @@ use Rattle.wsm_query.specs.Tree.{Query, Expr, Number, Truth, Field, EnumName, Ke
 use Rattle.wsm_check.specs.declared.refusal.Part.{Part}
 use Rattle.wsm_check.specs.declared.refusal.Part.TheVariants as part
 use Rattle.wsm_check.specs.Sizes.{Acc, accumulators, accumulators_of, in_option, need_of_condition, need_of_columns, need_of_folds}
-use Rattle.wsm_check.specs.Types.{ExprTy, IntValue, BoolValue, Typed, wanted, if_typed, ty_eq, operand_ty, op_ty, typed, typed_condition}
+use Rattle.wsm_record.specs.declared.words.CellType.{CellType}
+use Rattle.wsm_record.specs.declared.words.CellType.TheVariants as types
+use Rattle.wsm_check.specs.Types.{Typed, wanted, if_typed, ty_eq, operand_ty, op_ty, typed, typed_condition}
 use Rattle.wsm_check.specs.declared.types.Around.{Around}
 use Rattle.wsm_check.specs.declared.types.Around.TheVariants.{InWhere, InColumn, InAggregate}
 use Rattle.wsm_check.specs.Checks.{first, typed_refusal, condition_refusal, columns_refusal, IsChecked}
@@ -18,13 +20,13 @@ use Rattle.wsm_compiler.proofs.Conditions.{ConditionTyped, ColumnsTyped}
 use Rattle.wsm_compiler.proofs.Folding.{AccsTyped}
 use Rattle.wsm_check.proofs.Following.{passed_both}
 
-typed_none : (p : Part) (x : Typed) → typed_refusal p x ≡ None → (t : ExprTy) × (x ≡ Ok t)
+typed_none : (p : Part) (x : Typed) → typed_refusal p x ≡ None → (t : CellType) × (x ≡ Ok t)
 typed_none p (Ok t) h = (t, refl)
 typed_none p (Err f) h = no (sym (ap is_refusal h))
 
 condition_typed : (q : Query) (around : Around) (p : Part) (o : Option Expr) → condition_refusal q around p o ≡ None → ConditionTyped q around o
 condition_typed q around p None h = tt
-condition_typed q around p (Some e) h = let t = typed_none p (typed_condition q around e) h in (unary_is q around e BoolValue t.0 t.1).0
+condition_typed q around p (Some e) h = let t = typed_none p (typed_condition q around e) h in (unary_is q around e types.Bool t.0 t.1).0
 
 columns_typed : (q : Query) (i : ℕ) (es : List Expr) → columns_refusal q i es ≡ None → ColumnsTyped q es
 columns_typed q i [] h = tt
@@ -43,23 +45,23 @@ module _ (q : Query) (b : Stated) where
   accs_both [] ys h l = l
   accs_both (x ∷ xs) ys h l = (h.0, accs_both xs ys h.1 l)
 
-  pub accs_typed : (around : Around) (e : Expr) (t : ExprTy) → typed q around e ≡ Ok t → AccsTyped q b (accumulators_of e)
+  pub accs_typed : (around : Around) (e : Expr) (t : CellType) → typed q around e ≡ Ok t → AccsTyped q b (accumulators_of e)
   accs_typed around (Aggregate kind e) t h =
       let u = unary_is q InAggregate e (operand_ty kind) t (entered_is around (if_typed (typed q InAggregate e) (λ t. wanted (ty_eq t (operand_ty kind)) (operand_ty kind))) t h).1 in
       (u.0, tt)
   accs_typed around (If c x y) t h =
       let p = if_types q around c x y t h in
-      accs_both (accumulators_of c) (accumulators_of x ++ accumulators_of y) (accs_typed around c BoolValue p.test_is)
+      accs_both (accumulators_of c) (accumulators_of x ++ accumulators_of y) (accs_typed around c types.Bool p.test_is)
       (accs_both (accumulators_of x) (accumulators_of y) (accs_typed around x t p.first_is) (accs_typed around y t p.second_is))
   accs_typed around (Brackets e) t h = accs_typed around e t h
-  accs_typed around (Minus e) t h = accs_typed around e IntValue (unary_is q around e IntValue t h).0
-  accs_typed around (Not e) t h = accs_typed around e BoolValue (unary_is q around e BoolValue t h).0
+  accs_typed around (Minus e) t h = accs_typed around e types.Int (unary_is q around e types.Int t h).0
+  accs_typed around (Not e) t h = accs_typed around e types.Bool (unary_is q around e types.Bool t h).0
   accs_typed around (Binary op x y) t h =
       let p = two_types q around x y (op_ty op) t h in accs_both (accumulators_of x) (accumulators_of y) (accs_typed around x p.left p.left_is) (accs_typed around y p.right p.right_is)
   accs_typed around (And x y) t h =
-      let p = logic_types q around x y t h in accs_both (accumulators_of x) (accumulators_of y) (accs_typed around x BoolValue p.left_is) (accs_typed around y BoolValue p.right_is)
+      let p = logic_types q around x y t h in accs_both (accumulators_of x) (accumulators_of y) (accs_typed around x types.Bool p.left_is) (accs_typed around y types.Bool p.right_is)
   accs_typed around (Or x y) t h =
-      let p = logic_types q around x y t h in accs_both (accumulators_of x) (accumulators_of y) (accs_typed around x BoolValue p.left_is) (accs_typed around y BoolValue p.right_is)
+      let p = logic_types q around x y t h in accs_both (accumulators_of x) (accumulators_of y) (accs_typed around x types.Bool p.left_is) (accs_typed around y types.Bool p.right_is)
   accs_typed around (Number n) t h = tt
   accs_typed around (Truth v) t h = tt
   accs_typed around (Field x) t h = tt
@@ -74,7 +76,7 @@ module _ (q : Query) (b : Stated) where
 
   of_having : (o : Option Expr) → ConditionTyped q InColumn o → AccsTyped q b (flat_map accumulators_of (in_option o))
   of_having None h = tt
-  of_having (Some e) h = accs_both (accumulators_of e) [] (accs_typed InColumn e BoolValue h) tt
+  of_having (Some e) h = accs_both (accumulators_of e) [] (accs_typed InColumn e types.Bool h) tt
 
   -- ---- a checked query
 

@@ -6,7 +6,9 @@ use Rattle.std.proofs.lemmas.Bool.{and_parts}
 use Rattle.wsm_bytecode.specs.declared.instr.Instr.{Instr}
 use Rattle.wsm_bytecode.specs.declared.program.Budget.{Budget as Stated}
 use Rattle.wsm_query.specs.Tree.{Query, Expr}
-use Rattle.wsm_check.specs.Types.{ExprTy, IntValue, BoolValue, EnumValue, typed}
+use Rattle.wsm_record.specs.declared.words.CellType.{CellType}
+use Rattle.wsm_record.specs.declared.words.CellType.TheVariants as types
+use Rattle.wsm_check.specs.Types.{typed}
 use Rattle.wsm_check.specs.declared.types.Around.TheVariants.{InColumn}
 use Rattle.wsm_check.specs.Sizes.{accumulators_of, aggregates, size, condition_size, columns_size, fired, need, need_of_columns}
 use Rattle.wsm_verifier.specs.declared.known.Known.{Known}
@@ -33,14 +35,14 @@ use Rattle.wsm_compiler.proofs.Checked.{fine}
 use Rattle.wsm_compiler.proofs.Accepted.{accs_of_all, fired_fit, all_fit}
 use Rattle.wsm_check.proofs.Passing.{length-accumulators_of}
 
-known_is : (t : ExprTy) (r : Range) → suits t r ≡ true → fits r ≡ true → known_of t r ≡ Some (known_as t r)
+known_is : (t : CellType) (r : Range) → suits t r ≡ true → fits r ≡ true → known_of t r ≡ Some (known_as t r)
 known_is t Unfit h l = no l
-known_is IntValue NoNumber h l = no h
-known_is IntValue (Within i) h l = refl
-known_is BoolValue NoNumber h l = refl
-known_is BoolValue (Within i) h l = no h
-known_is (EnumValue e) NoNumber h l = refl
-known_is (EnumValue e) (Within i) h l = no h
+known_is types.Int NoNumber h l = no h
+known_is types.Int (Within i) h l = refl
+known_is types.Bool NoNumber h l = refl
+known_is types.Bool (Within i) h l = no h
+known_is (types.Enum e) NoNumber h l = refl
+known_is (types.Enum e) (Within i) h l = no h
 
 extended_append : (e : State) (r : Ranges) (vs : List Visit) (is js : List Instr) → extended e r vs (is ++ js) ≡ extended e r (extended e r vs is) js
 extended_append e r vs [] js = refl

@@ -9,7 +9,9 @@ use Rattle.wsm_bytecode.specs.declared.instr.Instr.TheVariants as instr
 use Rattle.wsm_bytecode.specs.declared.SectionId.TheVariants.{Where}
 use Rattle.wsm_bytecode.specs.declared.program.Budget.{Budget as Stated}
 use Rattle.wsm_query.specs.Tree.{Query, Expr}
-use Rattle.wsm_check.specs.Types.{ExprTy, IntValue, BoolValue, EnumValue, ty_eq, typed}
+use Rattle.wsm_record.specs.declared.words.CellType.{CellType}
+use Rattle.wsm_record.specs.declared.words.CellType.TheVariants as types
+use Rattle.wsm_check.specs.Types.{ty_eq, typed}
 use Rattle.wsm_check.specs.declared.types.Around.{Around}
 use Rattle.wsm_check.specs.declared.types.Around.TheVariants.{InWhere, InColumn}
 use Rattle.wsm_check.specs.Sizes.{Acc, accumulators_of, aggregates, size, condition_size, columns_size, need, need_of_condition, need_of_columns}
@@ -20,7 +22,7 @@ use Rattle.wsm_verifier.specs.Rules.{Setting, setting, entry, ranges_of_record, 
 use Rattle.wsm_compiler.specs.Code.{code, condition_code, columns_code}
 use Rattle.wsm_compiler.specs.Ranges.{Range, Unfit, NoNumber, Within, range, fits}
 use Rattle.wsm_check.specs.Parts.{type_or_int}
-use Rattle.wsm_compiler.specs.Program.{cell_type, column_type, program_stating}
+use Rattle.wsm_compiler.specs.Program.{column_type, program_stating}
 use Rattle.wsm_compiler.proofs.Hulls.{no, type_self}
 use Rattle.wsm_compiler.proofs.Tests.{with_known}
 use Rattle.wsm_compiler.proofs.Sizes.{length-code, some_size, some_need, some_code}
@@ -38,38 +40,38 @@ condition_fits q (Some e) = fits (range q e)
 
 abbrev pub ConditionTyped : Query → Around → Option Expr → Type 0
 ConditionTyped q around None = Unit {0}
-ConditionTyped q around (Some e) = typed q around e ≡ Ok BoolValue
+ConditionTyped q around (Some e) = typed q around e ≡ Ok types.Bool
 
 abbrev pub in_condition : Option Expr → List Acc
 in_condition None = []
 in_condition (Some e) = accumulators_of e
 
 -- a fault where it doesn't fit, or what comes behind
-pub fits_and : (t : ExprTy) (r : Range) (b : Bool) → suits t r ≡ true → or_behind (known_of t r) (λ x. not b) ≡ not (fits r && b)
+pub fits_and : (t : CellType) (r : Range) (b : Bool) → suits t r ≡ true → or_behind (known_of t r) (λ x. not b) ≡ not (fits r && b)
 fits_and t Unfit b h = refl
-fits_and IntValue NoNumber b h = no h
-fits_and BoolValue NoNumber b h = refl
-fits_and (EnumValue e) NoNumber b h = refl
-fits_and IntValue (Within i) b h = refl
-fits_and BoolValue (Within i) b h = no h
-fits_and (EnumValue e) (Within i) b h = no h
+fits_and types.Int NoNumber b h = no h
+fits_and types.Bool NoNumber b h = refl
+fits_and (types.Enum e) NoNumber b h = refl
+fits_and types.Int (Within i) b h = refl
+fits_and types.Bool (Within i) b h = no h
+fits_and (types.Enum e) (Within i) b h = no h
 
 -- a condition and its section's return
 pub condition_ends : (e : State) (c : Setting) (q : Query) (around : Around) → Reads c q around → (k a : ℕ) (o : Option Expr) (s : State) → ConditionTyped q around o → AccsIn c q around a (in_condition o) →
     length s.stack + need_of_condition o ≤ 32 → k + condition_size o < c.n → same_types (known.Truth ∷ s.stack) c.ends ≡ true → fold_missing c.section instr.Return s.folded ≡ false →
     Ends e c k (condition_code q k a o ++ instr.Return ∷ []) s (not (condition_fits q o))
-condition_ends e c q around reads k a None s h accs room more types folded =
+condition_ends e c q around reads k a None s h accs room more same folded =
     follow_ends e c k 1 (instr.PushBool true ∷ []) (instr.Return ∷ []) s (Some known.Truth) (λ x. false) refl (omega arith) (omega arith)
     (truth_pushed e c k s (omega (arith, room)) (omega (arith, more)) true)
-    (λ x h. subst (λ z. Ends e c (k + 1) (instr.Return ∷ []) (with_known z s) false) (same_Some known.Truth x h) (return_ends e c (k + 1) (with_known known.Truth s) types folded (omega (arith, room))))
-condition_ends e c q around reads k a (Some x) s h accs room more types folded =
+    (λ x h. subst (λ z. Ends e c (k + 1) (instr.Return ∷ []) (with_known z s) false) (same_Some known.Truth x h) (return_ends e c (k + 1) (with_known known.Truth s) same folded (omega (arith, room))))
+condition_ends e c q around reads k a (Some x) s h accs room more same folded =
     subst (λ b. Ends e c k (code q k a x ++ instr.Return ∷ []) s b)
-    (ap (λ o. or_behind o (λ y. false)) (found_is c q around reads a x BoolValue h accs) ∙ fits_and BoolValue (range q x) true (range_suits c q around x BoolValue h) ∙ ap not (and-true (fits (range q x))))
+    (ap (λ o. or_behind o (λ y. false)) (found_is c q around reads a x types.Bool h accs) ∙ fits_and types.Bool (range q x) true (range_suits c q around x types.Bool h) ∙ ap not (and-true (fits (range q x))))
     (follow_ends e c k (size x) (code q k a x) (instr.Return ∷ []) s (found c q a x) (λ y. false) (length-code q k a x) (some_code q k a x) (omega arith)
-    (labelled e c q around reads k a x BoolValue s h accs room more)
+    (labelled e c q around reads k a x types.Bool s h accs room more)
     (λ y ey.
-    let truth = known_truth (range q x) y (sym (found_is c q around reads a x BoolValue h accs) ∙ ey) in
-    subst (λ z. Ends e c (k + size x) (instr.Return ∷ []) (with_known z s) false) (sym truth) (return_ends e c (k + size x) (with_known known.Truth s) types folded (omega (arith, room, some_need x)))))
+    let truth = known_truth (range q x) y (sym (found_is c q around reads a x types.Bool h accs) ∙ ey) in
+    subst (λ z. Ends e c (k + size x) (instr.Return ∷ []) (with_known z s) false) (sym truth) (return_ends e c (k + size x) (with_known known.Truth s) same folded (omega (arith, room, some_need x)))))
 
 pub length-condition : (q : Query) (k a : ℕ) (o : Option Expr) → length (condition_code q k a o) ≡ condition_size o
 length-condition q k a None = refl
@@ -90,7 +92,7 @@ where_faults q b h room =
 
 abbrev pub ColumnsTyped : Query → List Expr → Type 0
 ColumnsTyped q [] = Unit {0}
-ColumnsTyped q (x ∷ xs) = ((t : ExprTy) × (typed q InColumn x ≡ Ok t)) × ColumnsTyped q xs
+ColumnsTyped q (x ∷ xs) = ((t : CellType) × (typed q InColumn x ≡ Ok t)) × ColumnsTyped q xs
 
 abbrev pub columns_fit : Query → List Expr → Bool
 columns_fit q xs = list_all (λ x. fits (range q x)) xs
@@ -105,15 +107,15 @@ ends_next q x es below =
     let y = column_known (column_type q x) in
     ap (λ zs. zs ++ below) (reverse-append (y ∷ []) ks) ∙ append_assoc (reverse ks) (y ∷ []) below
 
-column_has : (t : ExprTy) → known_type (column_known (cell_type t)) ≡ t
-column_has IntValue = refl
-column_has BoolValue = refl
-column_has (EnumValue e) = refl
+column_has : (t : CellType) → known_type (column_known t) ≡ t
+column_has types.Int = refl
+column_has types.Bool = refl
+column_has (types.Enum e) = refl
 
 -- a column's value has its type
-column_same : (q : Query) (x : Expr) (t : ExprTy) (y : Known) → typed q InColumn x ≡ Ok t → known_type y ≡ t → same_type y (column_known (column_type q x)) ≡ true
+column_same : (q : Query) (x : Expr) (t : CellType) (y : Known) → typed q InColumn x ≡ Ok t → known_type y ≡ t → same_type y (column_known (column_type q x)) ≡ true
 column_same q x t y h l =
-    let is : known_type (column_known (column_type q x)) ≡ known_type y = ap (λ r. known_type (column_known (cell_type (type_or_int r)))) h ∙ column_has t ∙ sym l in
+    let is : known_type (column_known (column_type q x)) ≡ known_type y = ap (λ r. known_type (column_known (type_or_int r))) h ∙ column_has t ∙ sym l in
     sym (type_of_two y (column_known (column_type q x))) ∙ ap (ty_eq (known_type y)) is ∙ type_of_two y y ∙ type_self y
 
 pub some_columns : (q : Query) (k a : ℕ) (es : List Expr) → 0 < length (columns_code q k a es)
@@ -129,9 +131,9 @@ pub columns_ends : (e : State) (c : Setting) (q : Query) → Reads c q InColumn 
     Accs c q a (flat_map accumulators_of es ++ in_condition q.having) → need_of_columns (length s.stack) q.having es ≤ 32 → k + columns_size q.having es ≤ c.n →
     same_types s.stack below ≡ true → c.ends ≡ known.Truth ∷ ends_of q es below → fold_missing c.section instr.Return s.folded ≡ false →
     Ends e c k (columns_code q k a es) s (not (columns_fit q es && condition_fits q q.having))
-columns_ends e c q reads k a [] s below h hh accs room more types ends folded =
-    condition_ends e c q InColumn reads k a q.having s hh (λ _. accs) room (omega (arith, more)) (ap (same_types (known.Truth ∷ s.stack)) ends ∙ types) folded
-columns_ends e c q reads k a (x ∷ es) s below h hh accs room more types ends folded =
+columns_ends e c q reads k a [] s below h hh accs room more same ends folded =
+    condition_ends e c q InColumn reads k a q.having s hh (λ _. accs) room (omega (arith, more)) (ap (same_types (known.Truth ∷ s.stack)) ends ∙ same) folded
+columns_ends e c q reads k a (x ∷ es) s below h hh accs room more same ends folded =
     let t = h.0.0 in
     let hx = h.0.1 in
     let j = k + size x in
@@ -147,7 +149,7 @@ columns_ends e c q reads k a (x ∷ es) s below h hh accs room more types ends f
     (labelled e c q InColumn reads k a x t s hx (λ _. here) (first_room (length s.stack) (need x) _ room) (omega (arith, more, some_columns_size q.having es)))
     (λ y ey.
     columns_ends e c q reads j b es (with_known y s) (column_known (column_type q x) ∷ below) h.1 hh behind (rest_room (length s.stack) (need x) _ room) (omega (arith, more))
-    (λ i. column_same q x t y hx (known_has t (range q x) y (sym (found_is c q InColumn reads a x t hx (λ _. here)) ∙ ey)) i && types i)
+    (λ i. column_same q x t y hx (known_has t (range q x) y (sym (found_is c q InColumn reads a x t hx (λ _. here)) ∙ ey)) i && same i)
     (ends ∙ ap (λ zs. known.Truth ∷ zs) (ends_next q x es below)) folded))
   where
     first_room : (l n m : ℕ) → max (l + n) m ≤ 32 → l + n ≤ 32

@@ -4,7 +4,9 @@ use Rattle.std.proofs.lemmas.Option.{same_Some}
 use Rattle.wsm_bytecode.specs.declared.instr.Instr.TheVariants as instr
 use Rattle.wsm_bytecode.specs.declared.operation.Operation.TheVariants as operation
 use Rattle.wsm_query.specs.Tree.{Query, Expr, Number, Truth, Field, EnumName, Key, KeyName, Count, Aggregate, If, Brackets, Minus, Not, Binary, And, Or}
-use Rattle.wsm_check.specs.Types.{ExprTy, IntValue, BoolValue, typed, op_ty}
+use Rattle.wsm_record.specs.declared.words.CellType.{CellType}
+use Rattle.wsm_record.specs.declared.words.CellType.TheVariants as types
+use Rattle.wsm_check.specs.Types.{typed, op_ty}
 use Rattle.wsm_check.specs.declared.types.Around.{Around}
 use Rattle.wsm_check.specs.Sizes.{aggregates, accumulators_of, size, need}
 use Rattle.wsm_verifier.specs.declared.known.Known.{Known}
@@ -26,20 +28,20 @@ pushed_bind s g None = refl
 pushed_bind s g (Some x) = refl
 
 -- what two expressions of one type are found to be is of one type
-same_found : (c : Setting) (q : Query) (around : Around) → Reads c q around → (a b : ℕ) (x y : Expr) (t : ExprTy) → typed q around x ≡ Ok t → typed q around y ≡ Ok t →
+same_found : (c : Setting) (q : Query) (around : Around) → Reads c q around → (a b : ℕ) (x y : Expr) (t : CellType) → typed q around x ≡ Ok t → typed q around y ≡ Ok t →
     AccsIn c q around a (accumulators_of x) → AccsIn c q around b (accumulators_of y) → (u v : Known) → found c q a x ≡ Some u → found c q b y ≡ Some v → same_type v u ≡ true
 same_found c q around reads a b x y t hx hy ax ay u v eu ev =
     known_same t (range q x) (range q y) u v (sym (found_is c q around reads a x t hx ax) ∙ eu) (sym (found_is c q around reads b y t hy ay) ∙ ev)
 
-is_truth : (c : Setting) (q : Query) (around : Around) → Reads c q around → (a : ℕ) (x : Expr) → typed q around x ≡ Ok BoolValue → AccsIn c q around a (accumulators_of x) → (u : Known) → found c q a x ≡ Some u → u ≡ known.Truth
-is_truth c q around reads a x h accs u e = known_truth (range q x) u (sym (found_is c q around reads a x BoolValue h accs) ∙ e)
+is_truth : (c : Setting) (q : Query) (around : Around) → Reads c q around → (a : ℕ) (x : Expr) → typed q around x ≡ Ok types.Bool → AccsIn c q around a (accumulators_of x) → (u : Known) → found c q a x ≡ Some u → u ≡ known.Truth
+is_truth c q around reads a x h accs u e = known_truth (range q x) u (sym (found_is c q around reads a x types.Bool h accs) ∙ e)
 
 -- a truth that an expression is found to be
-truth_same : (c : Setting) (q : Query) (around : Around) → Reads c q around → (a : ℕ) (x : Expr) → typed q around x ≡ Ok BoolValue → AccsIn c q around a (accumulators_of x) → (u v : Known) → found c q a x ≡ Some u → Some known.Truth ≡ Some v → same_type v u ≡ true
+truth_same : (c : Setting) (q : Query) (around : Around) → Reads c q around → (a : ℕ) (x : Expr) → typed q around x ≡ Ok types.Bool → AccsIn c q around a (accumulators_of x) → (u v : Known) → found c q a x ≡ Some u → Some known.Truth ≡ Some v → same_type v u ≡ true
 truth_same c q around reads a x h accs u v e l =
     ap (λ z. same_type z u) (sym (same_Some known.Truth v l)) ∙ ap (same_type known.Truth) (is_truth c q around reads a x h accs u e)
 
-same_truth : (c : Setting) (q : Query) (around : Around) → Reads c q around → (a : ℕ) (x : Expr) → typed q around x ≡ Ok BoolValue → AccsIn c q around a (accumulators_of x) → (u v : Known) → Some known.Truth ≡ Some u → found c q a x ≡ Some v → same_type v u ≡ true
+same_truth : (c : Setting) (q : Query) (around : Around) → Reads c q around → (a : ℕ) (x : Expr) → typed q around x ≡ Ok types.Bool → AccsIn c q around a (accumulators_of x) → (u v : Known) → Some known.Truth ≡ Some u → found c q a x ≡ Some v → same_type v u ≡ true
 same_truth c q around reads a x h accs u v l e =
     ap (same_type v) (sym (same_Some known.Truth u l)) ∙ ap (λ z. same_type z known.Truth) (is_truth c q around reads a x h accs v e)
 
@@ -48,7 +50,7 @@ pub truth_pushed : (e : State) (c : Setting) (k : ℕ) (s : State) → length s.
 truth_pushed e c k s room more b = push_bool e c k s room more b
 
 module _ (e : State) (c : Setting) (q : Query) (around : Around) (reads : Reads c q around) where
-  pub labelled : (k a : ℕ) (x : Expr) (t : ExprTy) (s : State) → typed q around x ≡ Ok t → AccsIn c q around a (accumulators_of x) → length s.stack + need x ≤ 32 → k + size x < c.n →
+  pub labelled : (k a : ℕ) (x : Expr) (t : CellType) (s : State) → typed q around x ≡ Ok t → AccsIn c q around a (accumulators_of x) → length s.stack + need x ≤ 32 → k + size x < c.n →
       Labelled e c k (code q k a x) s (pushed_on s (found c q a x))
   labelled k a (Number n) t s h accs room more = push_int e c k s (omega (arith, room)) (omega (arith, more)) n
   labelled k a (Truth b) t s h accs room more = push_bool e c k s (omega (arith, room)) (omega (arith, more)) b
@@ -77,20 +79,20 @@ module _ (e : State) (c : Setting) (q : Query) (around : Around) (reads : Reads 
       (labelled (i + 1 + size x + 1) ay y t s p.second_is ac.second (omega (arith, room)) (omega (arith, more))) in
       subst (λ o. Labelled e c k (code q k a b ++ js) s o) (pushed_bind s (λ u. hulled fx fy) (found c q a b))
       (follow e c k (size b) (code q k a b) js s (found c q a b) (λ u. pushed_on s (hulled fx fy)) (length-code q k a b) (some_code q k a b) (omega arith)
-      (labelled k a b BoolValue s p.test_is ac.test (omega (arith, room)) (omega (arith, more)))
+      (labelled k a b types.Bool s p.test_is ac.test (omega (arith, room)) (omega (arith, more)))
       (λ u eu. subst (λ z. Labelled e c i js (with_known z s) (pushed_on s (hulled fx fy))) (sym (is_truth c q around reads a b p.test_is ac.test u eu)) both))
   labelled k a (Brackets x) t s h accs room more = labelled k a x t s h accs room more
   labelled k a (Minus x) t s h accs room more =
-      let u = unary_is q around x IntValue t h in
+      let u = unary_is q around x types.Int t h in
       subst (λ o. Labelled e c k (code q k a x ++ instr.Operate operation.Neg ∷ []) s o) (pushed_bind s (λ v. of_instr c (instr.Operate operation.Neg) (v ∷ [])) (found c q a x))
       (follow e c k (size x) (code q k a x) (instr.Operate operation.Neg ∷ []) s (found c q a x) (λ v. pushed_on s (of_instr c (instr.Operate operation.Neg) (v ∷ []))) (length-code q k a x) (some_code q k a x) (omega arith)
-      (labelled k a x IntValue s u.0 accs room (omega (arith, more)))
+      (labelled k a x types.Int s u.0 accs room (omega (arith, more)))
       (λ v ev. make_neg e c (k + size x) s (omega (arith, room, some_need x)) (omega (arith, more)) v))
   labelled k a (Not x) t s h accs room more =
-      let u = unary_is q around x BoolValue t h in
+      let u = unary_is q around x types.Bool t h in
       subst (λ o. Labelled e c k (code q k a x ++ instr.Operate operation.Not ∷ []) s o) (pushed_bind s (λ v. of_instr c (instr.Operate operation.Not) (v ∷ [])) (found c q a x))
       (follow e c k (size x) (code q k a x) (instr.Operate operation.Not ∷ []) s (found c q a x) (λ v. pushed_on s (of_instr c (instr.Operate operation.Not) (v ∷ []))) (length-code q k a x) (some_code q k a x) (omega arith)
-      (labelled k a x BoolValue s u.0 accs room (omega (arith, more)))
+      (labelled k a x types.Bool s u.0 accs room (omega (arith, more)))
       (λ v ev. make_not e c (k + size x) s (omega (arith, room, some_need x)) (omega (arith, more)) v))
   labelled k a (Binary op x y) t s h accs room more =
       let p = two_types q around x y (op_ty op) t h in
@@ -124,11 +126,11 @@ module _ (e : State) (c : Setting) (q : Query) (around : Around) (reads : Reads 
       choose e c i (size y) 1 first second s fy (Some known.Truth) (length-code q (i + 1) b y) refl (some_size y) (omega arith)
       (omega (arith, more)) (omega (arith, room, some_need y))
       (truth_same c q around reads b y p.right_is right)
-      (labelled (i + 1) b y BoolValue s p.right_is right (omega (arith, room)) (omega (arith, more)))
+      (labelled (i + 1) b y types.Bool s p.right_is right (omega (arith, room)) (omega (arith, more)))
       (truth_pushed e c (i + 1 + size y + 1) s (omega (arith, room, some_need y)) (omega (arith, more)) false) in
       subst (λ o. Labelled e c k (code q k a x ++ js) s o) (pushed_bind s (λ u. hulled fy (Some known.Truth)) (found c q a x))
       (follow e c k (size x) (code q k a x) js s (found c q a x) (λ u. pushed_on s (hulled fy (Some known.Truth))) (length-code q k a x) (some_code q k a x) (omega arith)
-      (labelled k a x BoolValue s p.left_is left (omega (arith, room)) (omega (arith, more)))
+      (labelled k a x types.Bool s p.left_is left (omega (arith, room)) (omega (arith, more)))
       (λ u eu. subst (λ z. Labelled e c i js (with_known z s) (pushed_on s (hulled fy (Some known.Truth)))) (sym (is_truth c q around reads a x p.left_is left u eu)) both))
   labelled k a (Or x y) t s h accs room more =
       let p = logic_types q around x y t h in
@@ -145,8 +147,8 @@ module _ (e : State) (c : Setting) (q : Query) (around : Around) (reads : Reads 
       (omega (arith, more)) (omega (arith, room, some_need y))
       (same_truth c q around reads b y p.right_is right)
       (truth_pushed e c (i + 1) s (omega (arith, room, some_need y)) (omega (arith, more)) true)
-      (labelled (i + 1 + 1 + 1) b y BoolValue s p.right_is right (omega (arith, room)) (omega (arith, more))) in
+      (labelled (i + 1 + 1 + 1) b y types.Bool s p.right_is right (omega (arith, room)) (omega (arith, more))) in
       subst (λ o. Labelled e c k (code q k a x ++ js) s o) (pushed_bind s (λ u. hulled (Some known.Truth) fy) (found c q a x))
       (follow e c k (size x) (code q k a x) js s (found c q a x) (λ u. pushed_on s (hulled (Some known.Truth) fy)) (length-code q k a x) (some_code q k a x) (omega arith)
-      (labelled k a x BoolValue s p.left_is left (omega (arith, room)) (omega (arith, more)))
+      (labelled k a x types.Bool s p.left_is left (omega (arith, room)) (omega (arith, more)))
       (λ u eu. subst (λ z. Labelled e c i js (with_known z s) (pushed_on s (hulled (Some known.Truth) fy))) (sym (is_truth c q around reads a x p.left_is left u eu)) both))

@@ -16,14 +16,16 @@ use Rattle.wsm_query.specs.declared.expr.Op.{Op}
 use Rattle.wsm_query.specs.declared.expr.Op.TheVariants.{Add, Sub, Mul, Div, Rem, Eq, Ne, Lt, Le, Gt, Ge}
 use Rattle.wsm_query.specs.Tree.{Name, Ty, IntTy, BoolTy, EnumTy, Query, Expr, Number, Truth, Field, EnumName, Key, KeyName, Count, Aggregate, If, Brackets, Minus, Not, Binary, And, Or}
 use Rattle.wsm_check.specs.Names.{field_names, field_place, type_of, names_of, place_of}
-use Rattle.wsm_check.specs.Types.{ExprTy, IntValue, BoolValue, EnumValue, wanted, if_typed, ty_eq, declared_ty, operand_ty, op_ty, typed}
+use Rattle.wsm_record.specs.declared.words.CellType.{CellType}
+use Rattle.wsm_record.specs.declared.words.CellType.TheVariants as types
+use Rattle.wsm_check.specs.Types.{wanted, if_typed, ty_eq, declared_ty, operand_ty, op_ty, typed}
 use Rattle.wsm_check.specs.declared.types.Around.{Around}
 use Rattle.wsm_check.specs.declared.types.Around.TheVariants.{InColumn, InAggregate}
 use Rattle.wsm_check.specs.Sizes.{Acc, aggregates, size, condition_size, folds_size, columns_size}
 use Rattle.wsm_compiler.specs.Code.{code, choice, instruction, condition_code, folds, columns_code}
 use Rattle.wsm_check.specs.Spelt.{numbers_fit}
 use Rattle.wsm_check.specs.Parts.{type_or_int}
-use Rattle.wsm_compiler.specs.Program.{field_type, cell_type, column_type, program_stating}
+use Rattle.wsm_compiler.specs.Program.{field_type, column_type, program_stating}
 use Rattle.wsm_compiler.proofs.Hulls.{no}
 use Rattle.wsm_compiler.proofs.Suiting.{ok_is, result_of}
 use Rattle.wsm_compiler.proofs.Finding.{cond_ok, field_is, entered_is, op_is, two_types, if_types, logic_types, unary_is}
@@ -47,8 +49,8 @@ module _ (q : Query) (b : Stated) where
   abbrev pub head : Header
   head = (program_stating q b).header
 
-  abbrev Named : ExprTy → Type 0
-  Named t = is_column head.schema (cell_type t) ≡ true
+  abbrev Named : CellType → Type 0
+  Named t = is_column head.schema t ≡ true
 
   -- ---- the types of columns
 
@@ -63,12 +65,12 @@ module _ (q : Query) (b : Stated) where
   some_names (EnumTy names) y h = refl
 
   -- the name of a field, and a name of its type
-  both_declared : (around : Around) (x y : Name) (t : ExprTy) → typed q around (EnumName x y) ≡ Ok t → (is_among x (field_names q.fields) ≡ true) × (is_among y (names_of (type_of x q.fields)) ≡ true)
+  both_declared : (around : Around) (x y : Name) (t : CellType) → typed q around (EnumName x y) ≡ Ok t → (is_among x (field_names q.fields) ≡ true) × (is_among y (names_of (type_of x q.fields)) ≡ true)
   both_declared around x y t h =
       and_parts (is_among x (field_names q.fields)) (is_among y (names_of (type_of x q.fields)))
       (of_cond (is_among x (field_names q.fields) && is_among y (names_of (type_of x q.fields))) _ _ t h)
 
-  named_as : (t u : ExprTy) → t ≡ u → Named t → Named u
+  named_as : (t u : CellType) → t ≡ u → Named t → Named u
   named_as t u e h = subst Named e h
 
   operand_named : (kind : Kind) → Named (operand_ty kind)
@@ -91,35 +93,35 @@ module _ (q : Query) (b : Stated) where
   result_named Gt = refl
   result_named Ge = refl
 
-  type_named : (around : Around) (e : Expr) (t : ExprTy) → typed q around e ≡ Ok t → Named t
-  type_named around (Number n) t h = named_as IntValue t (ok_is IntValue t h) refl
-  type_named around (Truth v) t h = named_as BoolValue t (ok_is BoolValue t h) refl
+  type_named : (around : Around) (e : Expr) (t : CellType) → typed q around e ≡ Ok t → Named t
+  type_named around (Number n) t h = named_as types.Int t (ok_is types.Int t h) refl
+  type_named around (Truth v) t h = named_as types.Bool t (ok_is types.Bool t h) refl
   type_named around (Field x) t h = named_as (declared_ty (field_place q.fields x) (type_of x q.fields)) t (field_is q around x t h) (declared_named x (declared q around x t h) (type_of x q.fields) refl)
   type_named around (EnumName x y) t h =
       let p = both_declared around x y t h in
-      let u = EnumValue (suc (field_place q.fields x)) in
+      let u = types.Enum (suc (field_place q.fields x)) in
       named_as u t (ok_is u t (cond_ok (is_among x (field_names q.fields) && is_among y (names_of (type_of x q.fields))) (Ok u) _ t h))
       (ap is_some (names_there q.fields x p.0) ∙ some_names (type_of x q.fields) y p.1)
-  type_named around Key t h = named_as (EnumValue 0) t (ok_is (EnumValue 0) t h) refl
-  type_named around (KeyName x) t h = named_as (EnumValue 0) t (ok_is (EnumValue 0) t (cond_ok (is_among x q.keys) (Ok (EnumValue 0)) _ t h)) refl
-  type_named around Count t h = named_as IntValue t (ok_is IntValue t (entered_is around (Ok IntValue) t h).1) refl
+  type_named around Key t h = named_as (types.Enum 0) t (ok_is (types.Enum 0) t h) refl
+  type_named around (KeyName x) t h = named_as (types.Enum 0) t (ok_is (types.Enum 0) t (cond_ok (is_among x q.keys) (Ok (types.Enum 0)) _ t h)) refl
+  type_named around Count t h = named_as types.Int t (ok_is types.Int t (entered_is around (Ok types.Int) t h).1) refl
   type_named around (Aggregate kind e) t h =
       let inner = if_typed (typed q InAggregate e) (λ t. wanted (ty_eq t (operand_ty kind)) (operand_ty kind)) in
       named_as (operand_ty kind) t (unary_is q InAggregate e (operand_ty kind) t (entered_is around inner t h).1).1 (operand_named kind)
   type_named around (If c x y) t h = type_named around x t (if_types q around c x y t h).first_is
   type_named around (Brackets e) t h = type_named around e t h
-  type_named around (Minus e) t h = named_as IntValue t (unary_is q around e IntValue t h).1 refl
-  type_named around (Not e) t h = named_as BoolValue t (unary_is q around e BoolValue t h).1 refl
+  type_named around (Minus e) t h = named_as types.Int t (unary_is q around e types.Int t h).1 refl
+  type_named around (Not e) t h = named_as types.Bool t (unary_is q around e types.Bool t h).1 refl
   type_named around (Binary op x y) t h =
       let p = two_types q around x y (op_ty op) t h in named_as (result_of op) t (op_is op p.left p.right t p.both).1 (result_named op)
-  type_named around (And x y) t h = named_as BoolValue t (logic_types q around x y t h).is refl
-  type_named around (Or x y) t h = named_as BoolValue t (logic_types q around x y t h).is refl
+  type_named around (And x y) t h = named_as types.Bool t (logic_types q around x y t h).is refl
+  type_named around (Or x y) t h = named_as types.Bool t (logic_types q around x y t h).is refl
 
   pub columns_named : (es : List Expr) → ColumnsTyped q es → list_all (is_column head.schema) (map (column_type q) es) ≡ true
   columns_named [] h = refl
   columns_named (e ∷ es) h =
       and_from (is_column head.schema (column_type q e)) (list_all (is_column head.schema) (map (column_type q) es))
-      (ap (λ r. is_column head.schema (cell_type (type_or_int r))) h.0.1 ∙ type_named InColumn e h.0.0 h.0.1) (columns_named es h.1)
+      (ap (λ r. is_column head.schema (type_or_int r)) h.0.1 ∙ type_named InColumn e h.0.0 h.0.1) (columns_named es h.1)
 
   -- ---- instructions
 
@@ -156,7 +158,7 @@ module _ (q : Query) (b : Stated) where
   abbrev Room : Around → ℕ → Expr → Type 0
   Room around a e = around ≡ InColumn → a + aggregates e ≤ length head.kinds
 
-  code_fine : (around : Around) (k a : ℕ) (e : Expr) (t : ExprTy) → typed q around e ≡ Ok t → numbers_fit e ≡ true → Room around a e → k + size e < 65536 → AllFine (code q k a e)
+  code_fine : (around : Around) (k a : ℕ) (e : Expr) (t : CellType) → typed q around e ≡ Ok t → numbers_fit e ≡ true → Room around a e → k + size e < 65536 → AllFine (code q k a e)
   code_fine around k a (Number n) t h l accs room = fine_one (instr.PushInt n) l
   code_fine around k a (Truth v) t h l accs room = refl
   code_fine around k a (Field x) t h l accs room = fine_one (instr.Field (field_place q.fields x)) (field_below q.fields x (declared q around x t h))
@@ -179,16 +181,16 @@ module _ (q : Query) (b : Stated) where
       let j = k + size c + 1 in
       let d = a + (aggregates c + aggregates x) in
       fine_both (code q k a c) (choice j (code q j (a + aggregates c) x) (size x) (code q (j + size x + 1) d y) (size y))
-      (code_fine around k a c BoolValue p.test_is f.0 (λ e. let n = accs e in omega (arith, n)) (omega (arith, room)))
+      (code_fine around k a c types.Bool p.test_is f.0 (λ e. let n = accs e in omega (arith, n)) (omega (arith, room)))
       (choice_fine j (code q j (a + aggregates c) x) (size x) (code q (j + size x + 1) d y) (size y)
       (code_fine around j (a + aggregates c) x t p.first_is g.0 (λ e. let n = accs e in omega (arith, n)) (omega (arith, room)))
       (code_fine around (j + size x + 1) d y t p.second_is g.1 (λ e. let n = accs e in omega (arith, n)) (omega (arith, room)))
       (omega (arith, room)))
   code_fine around k a (Brackets e) t h l accs room = code_fine around k a e t h l accs room
   code_fine around k a (Minus e) t h l accs room =
-      fine_both (code q k a e) (instr.Operate operation.Neg ∷ []) (code_fine around k a e IntValue (unary_is q around e IntValue t h).0 l accs (omega (arith, room))) refl
+      fine_both (code q k a e) (instr.Operate operation.Neg ∷ []) (code_fine around k a e types.Int (unary_is q around e types.Int t h).0 l accs (omega (arith, room))) refl
   code_fine around k a (Not e) t h l accs room =
-      fine_both (code q k a e) (instr.Operate operation.Not ∷ []) (code_fine around k a e BoolValue (unary_is q around e BoolValue t h).0 l accs (omega (arith, room))) refl
+      fine_both (code q k a e) (instr.Operate operation.Not ∷ []) (code_fine around k a e types.Bool (unary_is q around e types.Bool t h).0 l accs (omega (arith, room))) refl
   code_fine around k a (Binary op x y) t h l accs room =
       let p = two_types q around x y (op_ty op) t h in
       let f = and_parts (numbers_fit x) (numbers_fit y) l in
@@ -201,22 +203,22 @@ module _ (q : Query) (b : Stated) where
       let f = and_parts (numbers_fit x) (numbers_fit y) l in
       let j = k + size x + 1 in
       let first = code q j (a + aggregates x) y in
-      fine_both (code q k a x) (choice j first (size y) (instr.PushBool false ∷ []) 1) (code_fine around k a x BoolValue p.left_is f.0 (λ e. let n = accs e in omega (arith, n)) (omega (arith, room)))
-      (choice_fine j first (size y) (instr.PushBool false ∷ []) 1 (code_fine around j (a + aggregates x) y BoolValue p.right_is f.1 (λ e. let n = accs e in omega (arith, n)) (omega (arith, room))) refl (omega (arith, room)))
+      fine_both (code q k a x) (choice j first (size y) (instr.PushBool false ∷ []) 1) (code_fine around k a x types.Bool p.left_is f.0 (λ e. let n = accs e in omega (arith, n)) (omega (arith, room)))
+      (choice_fine j first (size y) (instr.PushBool false ∷ []) 1 (code_fine around j (a + aggregates x) y types.Bool p.right_is f.1 (λ e. let n = accs e in omega (arith, n)) (omega (arith, room))) refl (omega (arith, room)))
   code_fine around k a (Or x y) t h l accs room =
       let p = logic_types q around x y t h in
       let f = and_parts (numbers_fit x) (numbers_fit y) l in
       let j = k + size x + 1 in
       let second = code q (j + 1 + 1) (a + aggregates x) y in
-      fine_both (code q k a x) (choice j (instr.PushBool true ∷ []) 1 second (size y)) (code_fine around k a x BoolValue p.left_is f.0 (λ e. let n = accs e in omega (arith, n)) (omega (arith, room)))
-      (choice_fine j (instr.PushBool true ∷ []) 1 second (size y) refl (code_fine around (j + 1 + 1) (a + aggregates x) y BoolValue p.right_is f.1 (λ e. let n = accs e in omega (arith, n)) (omega (arith, room))) (omega (arith, room)))
+      fine_both (code q k a x) (choice j (instr.PushBool true ∷ []) 1 second (size y)) (code_fine around k a x types.Bool p.left_is f.0 (λ e. let n = accs e in omega (arith, n)) (omega (arith, room)))
+      (choice_fine j (instr.PushBool true ∷ []) 1 second (size y) refl (code_fine around (j + 1 + 1) (a + aggregates x) y types.Bool p.right_is f.1 (λ e. let n = accs e in omega (arith, n)) (omega (arith, room))) (omega (arith, room)))
 
   -- ---- sections
 
   pub condition_fine : (around : Around) (k a : ℕ) (o : Option Expr) → ConditionTyped q around o → condition_numbers o ≡ true → (around ≡ InColumn → a + condition_aggregates o ≤ length head.kinds) → k + condition_size o < 65536 →
       AllFine (condition_code q k a o ++ instr.Return ∷ [])
   condition_fine around k a None h l accs room = refl
-  condition_fine around k a (Some e) h l accs room = fine_both (code q k a e) (instr.Return ∷ []) (code_fine around k a e BoolValue h l accs room) refl
+  condition_fine around k a (Some e) h l accs room = fine_both (code q k a e) (instr.Return ∷ []) (code_fine around k a e types.Bool h l accs room) refl
 
   pub folds_fine : (k a : ℕ) (accs : List Acc) → AccsTyped q b accs → operands_fit accs ≡ true → a + length accs ≤ length head.kinds → k + folds_size accs < 65536 → AllFine (folds q k a accs)
   folds_fine k a [] h l n room = refl

@@ -11,7 +11,8 @@ use Rattle.wsm_query.specs.Tree.{Name, Ty, IntTy, BoolTy, EnumTy, Declared, Quer
 use Rattle.wsm_check.specs.declared.refusal.CheckFault.{CheckFault}
 use Rattle.wsm_check.specs.declared.refusal.CheckFault.TheVariants.{UnknownName}
 use Rattle.wsm_check.specs.Names.{field_names, field_place, type_of}
-use Rattle.wsm_check.specs.Types.{ExprTy, Typed, declared_ty, read_at, field_ty}
+use Rattle.wsm_record.specs.declared.words.CellType.{CellType}
+use Rattle.wsm_check.specs.Types.{Typed, declared_ty, read_at, field_ty}
 use Rattle.wsm_check.specs.declared.types.Around.{Around}
 use Rattle.wsm_check.specs.declared.types.Around.TheVariants.{InWhere, InColumn, InAggregate}
 use Rattle.wsm_compiler.specs.Program.{field_type, program_stating}
@@ -60,15 +61,15 @@ known_at n (d ∷ ds) x h =
       | false ↦ λ e h. behind_head n d ds x e (known_at (suc n) ds x h)
     ] refl h
 
-pub of_cond : (b : Bool) (y : Typed) (f : CheckFault) (t : ExprTy) → cond b y (Err f) ≡ Ok t → b ≡ true
+pub of_cond : (b : Bool) (y : Typed) (f : CheckFault) (t : CellType) → cond b y (Err f) ≡ Ok t → b ≡ true
 of_cond true y f t h = refl
 of_cond false y f t h = err≢ok h
 
-pub declared : (q : Query) (around : Around) (x : Name) (t : ExprTy) → field_ty q around x ≡ Ok t → is_among x (field_names q.fields) ≡ true
+pub declared : (q : Query) (around : Around) (x : Name) (t : CellType) → field_ty q around x ≡ Ok t → is_among x (field_names q.fields) ≡ true
 declared q around x t h = of_cond (is_among x (field_names q.fields)) (read_at around (declared_ty (field_place q.fields x) (type_of x q.fields))) UnknownName t h
 
 -- a field that is read
-pub field_known : (q : Query) (around : Around) (x : Name) (t : ExprTy) → field_ty q around x ≡ Ok t →
+pub field_known : (q : Query) (around : Around) (x : Name) (t : CellType) → field_ty q around x ≡ Ok t →
     Some (slice_index_or (known_fields 0 (map (λ d. record { name = d.name; type = field_type d.ty }) q.fields)) (field_place q.fields x) known.Truth) ≡ known_of t (of_type (type_of x q.fields))
 field_known q around x t h =
     let first : 0 + field_place q.fields x ≡ field_place q.fields x = omega arith in
@@ -91,7 +92,7 @@ abbrev pub is_fine : Typed → Bool
 is_fine (Ok t) = true
 is_fine (Err f) = false
 
-pub not_in_column : (b : Bool) (t : ExprTy) → is_fine (cond b (read_at InColumn t) (Err UnknownName)) ≡ false
+pub not_in_column : (b : Bool) (t : CellType) → is_fine (cond b (read_at InColumn t) (Err UnknownName)) ≡ false
 not_in_column true t = refl
 not_in_column false t = refl
 

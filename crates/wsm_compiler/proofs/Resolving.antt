@@ -11,7 +11,7 @@ use Rattle.wsm_check.specs.Terms.{resolved}
 use Rattle.wsm_check.specs.Parts.{aggregates_of, folding, columns_from, parts_of}
 use Rattle.wsm_compiler.specs.Code.{code, condition_code, folds, columns_code}
 use Rattle.wsm_compiler.specs.TermCode.{term_code, term_size, ending_code, ending_size, foldings_code, foldings_size, firing_code, firing_size}
-use Rattle.wsm_compiler.specs.Program.{cell_type, column_type, program_stating}
+use Rattle.wsm_compiler.specs.Program.{column_type, program_stating}
 use Rattle.wsm_compiler.specs.Assembled.{assembled}
 
 pub resolved_size : (q : Query) (a : ℕ) (e : Expr) → term_size (resolved q a e) ≡ size e
@@ -87,7 +87,7 @@ fired_size q h a (e ∷ es) = ap₂ (λ m n. m + n) (resolved_size q a e) (fired
 
 -- ---- the program
 
-column_types : (q : Query) (a : ℕ) (es : List Expr) → map (λ c. cell_type c.ty) (columns_from q a es) ≡ map (column_type q) es
+column_types : (q : Query) (a : ℕ) (es : List Expr) → map (λ c. c.ty) (columns_from q a es) ≡ map (column_type q) es
 column_types q a [] = refl
 column_types q a (e ∷ es) = ap (λ ts. column_type q e ∷ ts) (column_types q (a + aggregates e) es)
 

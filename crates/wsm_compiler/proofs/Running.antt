@@ -17,7 +17,9 @@ use Rattle.wsm_bytecode.specs.Instructions.{may_stand}
 use Rattle.wsm_machine.specs.Step.{Setting, State, Next, Goes, cell_of, overflows, push_on, step, unless}
 use Rattle.wsm_query.specs.Tree.{Query, Ty, IntTy, BoolTy, EnumTy, Expr, Number, Truth, Field, EnumName, Key, KeyName, Count, Aggregate, If, Brackets, Minus, Not, Binary, And, Or}
 use Rattle.wsm_check.specs.Names.{place_of, field_names, field_place, type_of, names_of}
-use Rattle.wsm_check.specs.Types.{ExprTy, IntValue, BoolValue, EnumValue, declared_ty, operand_ty, op_ty, typed}
+use Rattle.wsm_record.specs.declared.words.CellType.{CellType}
+use Rattle.wsm_record.specs.declared.words.CellType.TheVariants as types
+use Rattle.wsm_check.specs.Types.{declared_ty, operand_ty, op_ty, typed}
 use Rattle.wsm_check.specs.declared.types.Around.{Around}
 use Rattle.wsm_check.specs.declared.types.Around.TheVariants.{InColumn, InAggregate}
 use Rattle.wsm_check.specs.Sizes.{accumulators_of, aggregates, size}
@@ -60,23 +62,23 @@ reads stands k stack folds o =
     unless (cond (not stands) (Some WrongSection) (cond (nat_lt (length stack) 0) (Some Underflow) (cond (overflows o) (Some IntOverflow) (cond (is_some o && nat_lt 31 (length stack)) (Some StackFull) None))))
     (Goes (state (k + 1) (push_on o stack) folds))
 
-read_gives : (c : Setting) (k : ℕ) (stack : List Cell) (folds : List (Option Value)) (room : length stack < 32) (i : Instr) (t : ExprTy) (v : Value) (b : Bool) → of_ty t (Some v) ≡ true → slice_get c.code k ≡ Some i → b ≡ true →
+read_gives : (c : Setting) (k : ℕ) (stack : List Cell) (folds : List (Option Value)) (room : length stack < 32) (i : Instr) (t : CellType) (v : Value) (b : Bool) → of_ty t (Some v) ≡ true → slice_get c.code k ≡ Some i → b ≡ true →
     step c (state k stack folds) i ≡ reads b k stack folds (Some (cell t v)) → Gives c (state k stack folds) (topped (k + 1) stack folds t (kept (Some v)))
-read_gives c k stack folds room i IntValue (Int n) b h at l e =
+read_gives c k stack folds room i types.Int (Int n) b h at l e =
     number_gives c k stack folds room (state k stack folds) i n _ at
     (e ∙ step_is b (nat_lt (length stack) 0) _ (nat_lt 31 (length stack)) (Goes (state (k + 1) (cells.Int n ∷ stack) folds)) l (not_under (length stack)) (has_room (length stack) room))
-read_gives c k stack folds room i BoolValue (Truth' v) b h at l e =
+read_gives c k stack folds room i types.Bool (Truth' v) b h at l e =
     run_goes c (state k stack folds) (state (k + 1) (cells.Bool v ∷ stack) folds) i at
     (e ∙ step_is b (nat_lt (length stack) 0) false (nat_lt 31 (length stack)) (Goes (state (k + 1) (cells.Bool v ∷ stack) folds)) l (not_under (length stack)) (has_room (length stack) room))
-read_gives c k stack folds room i (EnumValue d) (Enum n) b h at l e =
+read_gives c k stack folds room i (types.Enum d) (Enum n) b h at l e =
     run_goes c (state k stack folds) (state (k + 1) (cells.Enum d n ∷ stack) folds) i at
     (e ∙ step_is b (nat_lt (length stack) 0) false (nat_lt 31 (length stack)) (Goes (state (k + 1) (cells.Enum d n ∷ stack) folds)) l (not_under (length stack)) (has_room (length stack) room))
-read_gives c k stack folds room i IntValue (Truth' v) b h at l e = no h
-read_gives c k stack folds room i IntValue (Enum n) b h at l e = no h
-read_gives c k stack folds room i BoolValue (Int n) b h at l e = no h
-read_gives c k stack folds room i BoolValue (Enum n) b h at l e = no h
-read_gives c k stack folds room i (EnumValue d) (Int n) b h at l e = no h
-read_gives c k stack folds room i (EnumValue d) (Truth' v) b h at l e = no h
+read_gives c k stack folds room i types.Int (Truth' v) b h at l e = no h
+read_gives c k stack folds room i types.Int (Enum n) b h at l e = no h
+read_gives c k stack folds room i types.Bool (Int n) b h at l e = no h
+read_gives c k stack folds room i types.Bool (Enum n) b h at l e = no h
+read_gives c k stack folds room i (types.Enum d) (Int n) b h at l e = no h
+read_gives c k stack folds room i (types.Enum d) (Truth' v) b h at l e = no h
 
 -- a field's value as the machine holds it
 field_cell : (f : ℕ) (ty : Ty) (v : Value) → of_ty (declared_ty f ty) (Some v) ≡ true → cell_of (f + 1) v ≡ cell (declared_ty f ty) v
@@ -118,19 +120,19 @@ folded_cell kind (Enum i) h = name kind i h
     name All i h = no h
 
 -- no field is read in a column
-in_column_not : (q : Query) (around : Around) (x : List ℕ) (t : ExprTy) → around ≡ InColumn → typed q around (Field x) ≡ Ok t → ⊥
+in_column_not : (q : Query) (around : Around) (x : List ℕ) (t : CellType) → around ≡ InColumn → typed q around (Field x) ≡ Ok t → ⊥
 in_column_not q around x t e h = true≢false (sym (ap is_fine (subst (λ r. typed q r (Field x) ≡ Ok t) e h)) ∙ not_in_column (is_among x (field_names q.fields)) (declared_ty (field_place q.fields x) (type_of x q.fields)))
 
-pub has_value : (t : ExprTy) (o : Option Value) (v : Value) → of_ty t o ≡ true → o ≡ Some v → of_ty t (Some v) ≡ true
+pub has_value : (t : CellType) (o : Option Value) (v : Value) → of_ty t o ≡ true → o ≡ Some v → of_ty t (Some v) ≡ true
 has_value t o v h e = ap (of_ty t) (sym e) ∙ h
 
-jump_behind : (c : Setting) (s : State) (k t : ℕ) (stack : List Cell) (folds : List (Option Value)) (ty : ExprTy) (o : Option Value) → Gives c s (topped k stack folds ty o) → slice_get c.code k ≡ Some (instr.Jump t) → k < t → t < length c.code → Gives c s (topped t stack folds ty o)
+jump_behind : (c : Setting) (s : State) (k t : ℕ) (stack : List Cell) (folds : List (Option Value)) (ty : CellType) (o : Option Value) → Gives c s (topped k stack folds ty o) → slice_get c.code k ≡ Some (instr.Jump t) → k < t → t < length c.code → Gives c s (topped t stack folds ty o)
 jump_behind c s k t stack folds ty o h at l m = bind c s k stack folds ty (topped t stack folds ty) refl o h (λ v e. jump_goes c k t (cell ty v ∷ stack) folds at l m)
 
-at_place : (c : Setting) (s : State) (j k : ℕ) (stack : List Cell) (folds : List (Option Value)) (t : ExprTy) (o : Option Value) → j ≡ k → Gives c s (topped j stack folds t o) → Gives c s (topped k stack folds t o)
+at_place : (c : Setting) (s : State) (j k : ℕ) (stack : List Cell) (folds : List (Option Value)) (t : CellType) (o : Option Value) → j ≡ k → Gives c s (topped j stack folds t o) → Gives c s (topped k stack folds t o)
 at_place c s j k stack folds t o e h = subst (λ n. Gives c s (topped n stack folds t o)) e h
 
-at_type : (c : Setting) (s : State) (k : ℕ) (stack : List Cell) (folds : List (Option Value)) (u t : ExprTy) (o : Option Value) → u ≡ t → Gives c s (topped k stack folds u o) → Gives c s (topped k stack folds t o)
+at_type : (c : Setting) (s : State) (k : ℕ) (stack : List Cell) (folds : List (Option Value)) (u t : CellType) (o : Option Value) → u ≡ t → Gives c s (topped k stack folds u o) → Gives c s (topped k stack folds t o)
 at_type c s k stack folds u t o e h = subst (λ x. Gives c s (topped k stack folds x o)) e h
 
 module _ (c : Setting) (q : Query) (around : Around) (s : Scene) (serves : Serves c q around s) where
@@ -139,9 +141,9 @@ module _ (c : Setting) (q : Query) (around : Around) (s : Scene) (serves : Serve
 
   pub code_runs : (k a : ℕ) (e : Expr) → CodeRuns c q around s k a e
   code_runs k a (Number n) t h accs at inside stack folds room =
-      at_type c (state k stack folds) (k + 1) stack folds IntValue t (value a (Number n)) (ok_is IntValue t h) (push_int c k stack folds (omega (arith, room)) n at.0)
+      at_type c (state k stack folds) (k + 1) stack folds types.Int t (value a (Number n)) (ok_is types.Int t h) (push_int c k stack folds (omega (arith, room)) n at.0)
   code_runs k a (Truth b) t h accs at inside stack folds room =
-      at_type c (state k stack folds) (k + 1) stack folds BoolValue t (value a (Truth b)) (ok_is BoolValue t h) (push_bool c k stack folds (omega (arith, room)) b at.0)
+      at_type c (state k stack folds) (k + 1) stack folds types.Bool t (value a (Truth b)) (ok_is types.Bool t h) (push_bool c k stack folds (omega (arith, room)) b at.0)
   code_runs k a (Field x) t h accs at inside stack folds room =
       let f = field_place q.fields x in
       let v = serves.field x t h in
@@ -152,18 +154,18 @@ module _ (c : Setting) (q : Query) (around : Around) (s : Scene) (serves : Serve
       (read_gives c k stack folds (omega (arith, room)) (instr.Field f) t v.0 (may_stand c.section (instr.Field f)) v.2 at.0 (serves.fields_stand f (λ e. in_column_not q around x t e h))
       (ap (λ o. reads (may_stand c.section (instr.Field f)) k stack folds (option_map (cell_of (f + 1)) o)) v.3 ∙ ap (λ y. reads (may_stand c.section (instr.Field f)) k stack folds (Some y)) is))
   code_runs k a (EnumName x y) t h accs at inside stack folds room =
-      at_type c (state k stack folds) (k + 1) stack folds (EnumValue _) t (value a (EnumName x y)) (ok_is _ t (cond_ok (is_among x (field_names q.fields) && is_among y (names_of (type_of x q.fields))) _ _ t h))
+      at_type c (state k stack folds) (k + 1) stack folds (types.Enum _) t (value a (EnumName x y)) (ok_is _ t (cond_ok (is_among x (field_names q.fields) && is_among y (names_of (type_of x q.fields))) _ _ t h))
       (push_enum c k stack folds (omega (arith, room)) (suc (field_place q.fields x)) (place_of y (names_of (type_of x q.fields))) at.0)
   code_runs k a Key t h accs at inside stack folds room =
-      at_type c (state k stack folds) (k + 1) stack folds (EnumValue 0) t (value a Key) (ok_is _ t h)
+      at_type c (state k stack folds) (k + 1) stack folds (types.Enum 0) t (value a Key) (ok_is _ t h)
       (subst (λ n. Gives c (state k stack folds) (Some (state (k + 1) (cells.Enum 0 n ∷ stack) folds))) (sym serves.key) (push_key c k stack folds (omega (arith, room)) at.0))
   code_runs k a (KeyName x) t h accs at inside stack folds room =
-      at_type c (state k stack folds) (k + 1) stack folds (EnumValue 0) t (value a (KeyName x)) (ok_is _ t (cond_ok (is_among x q.keys) _ _ t h)) (push_enum c k stack folds (omega (arith, room)) 0 (place_of x q.keys) at.0)
+      at_type c (state k stack folds) (k + 1) stack folds (types.Enum 0) t (value a (KeyName x)) (ok_is _ t (cond_ok (is_among x q.keys) _ _ t h)) (push_enum c k stack folds (omega (arith, room)) 0 (place_of x q.keys) at.0)
   code_runs k a Count t h accs at inside stack folds room =
-      let e = entered_is around (Ok IntValue) t h in
-      at_type c (state k stack folds) (k + 1) stack folds IntValue t (value a Count) (ok_is IntValue t e.1)
-      (subst (λ o. Gives c (state k stack folds) (topped (k + 1) stack folds IntValue (kept o))) (sym (serves.count e.0))
-      (read_gives c k stack folds (omega (arith, room)) instr.Count IntValue (Int c.inputs.count) (may_stand c.section instr.Count) refl at.0 (serves.count_stands e.0) refl))
+      let e = entered_is around (Ok types.Int) t h in
+      at_type c (state k stack folds) (k + 1) stack folds types.Int t (value a Count) (ok_is types.Int t e.1)
+      (subst (λ o. Gives c (state k stack folds) (topped (k + 1) stack folds types.Int (kept o))) (sym (serves.count e.0))
+      (read_gives c k stack folds (omega (arith, room)) instr.Count types.Int (Int c.inputs.count) (may_stand c.section instr.Count) refl at.0 (serves.count_stands e.0) refl))
   code_runs k a (Aggregate kind e) t h accs at inside stack folds room =
       let i = entered_is around _ t h in
       let u = unary_is q InAggregate e (operand_ty kind) t i.1 in
@@ -195,30 +197,30 @@ module _ (c : Setting) (q : Query) (around : Around) (s : Scene) (serves : Serve
       let by = value ay y in
       let over : end ≡ k + (size b + (size x + size y) + 2) = omega arith in
       at_place c (state k stack folds) end (k + (size b + (size x + size y) + 2)) stack folds t (chosen (value a b) bx by) over
-      (bind c (state k stack folds) i stack folds BoolValue (λ o. topped end stack folds t (chosen o bx by)) refl (value a b)
-      (code_runs k a b BoolValue p.test_is sb parts.0 (omega (arith, inside)) stack folds (omega (arith, room)))
-      (λ v e. choose c i j stack folds end t bx by v (has_value BoolValue (value a b) v (value_has c q around s serves a b BoolValue p.test_is sb) e) parts.1.0 (omega arith) (omega (arith, inside, some_size y))
+      (bind c (state k stack folds) i stack folds types.Bool (λ o. topped end stack folds t (chosen o bx by)) refl (value a b)
+      (code_runs k a b types.Bool p.test_is sb parts.0 (omega (arith, inside)) stack folds (omega (arith, room)))
+      (λ v e. choose c i j stack folds end t bx by v (has_value types.Bool (value a b) v (value_has c q around s serves a b types.Bool p.test_is sb) e) parts.1.0 (omega arith) (omega (arith, inside, some_size y))
       (jump_behind c (state (i + 1) stack folds) (i + 1 + size x) end stack folds t bx (code_runs (i + 1) ax x t p.first_is sx second.0 (omega (arith, inside)) stack folds (omega (arith, room))) second.1.0 (omega (arith, some_size y)) (omega (arith, inside)))
       (code_runs j ay y t p.second_is sy second.1.1 (omega (arith, inside)) stack folds (omega (arith, room)))))
   code_runs k a (Brackets e) t h accs at inside stack folds room = code_runs k a e t h accs at inside stack folds room
   code_runs k a (Minus e) t h accs at inside stack folds room =
-      let u = unary_is q around e IntValue t h in
+      let u = unary_is q around e types.Int t h in
       let i = k + size e in
       let parts = split_code q c.code k a e (instr.Operate operation.Neg ∷ []) at in
       let over : i + 1 ≡ k + (size e + 1) = omega arith in
       at_place c (state k stack folds) (i + 1) (k + (size e + 1)) stack folds t (kept (minus (value a e))) over
-      (at_type c (state k stack folds) (i + 1) stack folds IntValue t (kept (minus (value a e))) u.1
-      (bind c (state k stack folds) i stack folds IntValue (λ o. topped (i + 1) stack folds IntValue (kept (minus o))) refl (value a e) (code_runs k a e IntValue u.0 accs parts.0 (omega (arith, inside)) stack folds room)
-      (λ v ev. neg_gives c i stack folds (omega (arith, room, some_need e)) v (has_value IntValue (value a e) v (value_has c q around s serves a e IntValue u.0 accs) ev) parts.1.0)))
+      (at_type c (state k stack folds) (i + 1) stack folds types.Int t (kept (minus (value a e))) u.1
+      (bind c (state k stack folds) i stack folds types.Int (λ o. topped (i + 1) stack folds types.Int (kept (minus o))) refl (value a e) (code_runs k a e types.Int u.0 accs parts.0 (omega (arith, inside)) stack folds room)
+      (λ v ev. neg_gives c i stack folds (omega (arith, room, some_need e)) v (has_value types.Int (value a e) v (value_has c q around s serves a e types.Int u.0 accs) ev) parts.1.0)))
   code_runs k a (Not e) t h accs at inside stack folds room =
-      let u = unary_is q around e BoolValue t h in
+      let u = unary_is q around e types.Bool t h in
       let i = k + size e in
       let parts = split_code q c.code k a e (instr.Operate operation.Not ∷ []) at in
       let over : i + 1 ≡ k + (size e + 1) = omega arith in
       at_place c (state k stack folds) (i + 1) (k + (size e + 1)) stack folds t (negated (value a e)) over
-      (at_type c (state k stack folds) (i + 1) stack folds BoolValue t (negated (value a e)) u.1
-      (bind c (state k stack folds) i stack folds BoolValue (λ o. topped (i + 1) stack folds BoolValue (negated o)) refl (value a e) (code_runs k a e BoolValue u.0 accs parts.0 (omega (arith, inside)) stack folds room)
-      (λ v ev. not_gives c i stack folds (omega (arith, room, some_need e)) v (has_value BoolValue (value a e) v (value_has c q around s serves a e BoolValue u.0 accs) ev) parts.1.0)))
+      (at_type c (state k stack folds) (i + 1) stack folds types.Bool t (negated (value a e)) u.1
+      (bind c (state k stack folds) i stack folds types.Bool (λ o. topped (i + 1) stack folds types.Bool (negated o)) refl (value a e) (code_runs k a e types.Bool u.0 accs parts.0 (omega (arith, inside)) stack folds room)
+      (λ v ev. not_gives c i stack folds (omega (arith, room, some_need e)) v (has_value types.Bool (value a e) v (value_has c q around s serves a e types.Bool u.0 accs) ev) parts.1.0)))
   code_runs k a (Binary op x y) t h accs at inside stack folds room =
       let p = two_types q around x y (op_ty op) t h in
       let o = op_is op p.left p.right t p.both in
@@ -256,11 +258,11 @@ module _ (c : Setting) (q : Query) (around : Around) (s : Scene) (serves : Serve
       let no' = Some (Truth' false) in
       let over : j + 1 ≡ k + (size x + size y + 3) = omega arith in
       at_place c (state k stack folds) (j + 1) (k + (size x + size y + 3)) stack folds t (chosen (value a x) by no') over
-      (at_type c (state k stack folds) (j + 1) stack folds BoolValue t (chosen (value a x) by no') p.is
-      (bind c (state k stack folds) i stack folds BoolValue (λ o. topped (j + 1) stack folds BoolValue (chosen o by no')) refl (value a x)
-      (code_runs k a x BoolValue p.left_is sx parts.0 (omega (arith, inside)) stack folds (omega (arith, room)))
-      (λ v e. choose c i j stack folds (j + 1) BoolValue by no' v (has_value BoolValue (value a x) v (value_has c q around s serves a x BoolValue p.left_is sx) e) parts.1.0 (omega arith) (omega (arith, inside))
-      (jump_behind c (state (i + 1) stack folds) (i + 1 + size y) (j + 1) stack folds BoolValue by (code_runs (i + 1) b y BoolValue p.right_is sy second.0 (omega (arith, inside)) stack folds (omega (arith, room))) second.1.0 (omega arith) (omega (arith, inside)))
+      (at_type c (state k stack folds) (j + 1) stack folds types.Bool t (chosen (value a x) by no') p.is
+      (bind c (state k stack folds) i stack folds types.Bool (λ o. topped (j + 1) stack folds types.Bool (chosen o by no')) refl (value a x)
+      (code_runs k a x types.Bool p.left_is sx parts.0 (omega (arith, inside)) stack folds (omega (arith, room)))
+      (λ v e. choose c i j stack folds (j + 1) types.Bool by no' v (has_value types.Bool (value a x) v (value_has c q around s serves a x types.Bool p.left_is sx) e) parts.1.0 (omega arith) (omega (arith, inside))
+      (jump_behind c (state (i + 1) stack folds) (i + 1 + size y) (j + 1) stack folds types.Bool by (code_runs (i + 1) b y types.Bool p.right_is sy second.0 (omega (arith, inside)) stack folds (omega (arith, room))) second.1.0 (omega arith) (omega (arith, inside)))
       (push_bool c j stack folds (omega (arith, room, some_need y)) false second.1.1.0))))
   code_runs k a (Or x y) t h accs at inside stack folds room =
       let p = logic_types q around x y t h in
@@ -276,9 +278,9 @@ module _ (c : Setting) (q : Query) (around : Around) (s : Scene) (serves : Serve
       let yes' = Some (Truth' true) in
       let over : end ≡ k + (size x + size y + 3) = omega arith in
       at_place c (state k stack folds) end (k + (size x + size y + 3)) stack folds t (chosen (value a x) yes' by) over
-      (at_type c (state k stack folds) end stack folds BoolValue t (chosen (value a x) yes' by) p.is
-      (bind c (state k stack folds) i stack folds BoolValue (λ o. topped end stack folds BoolValue (chosen o yes' by)) refl (value a x)
-      (code_runs k a x BoolValue p.left_is sx parts.0 (omega (arith, inside)) stack folds (omega (arith, room)))
-      (λ v e. choose c i j stack folds end BoolValue yes' by v (has_value BoolValue (value a x) v (value_has c q around s serves a x BoolValue p.left_is sx) e) parts.1.0 (omega arith) (omega (arith, inside, some_size y))
-      (jump_behind c (state (i + 1) stack folds) (i + 1 + 1) end stack folds BoolValue yes' (push_bool c (i + 1) stack folds (omega (arith, room, some_need y)) true parts.1.1.0) parts.1.1.1.0 (omega (arith, some_size y)) (omega (arith, inside)))
-      (code_runs j b y BoolValue p.right_is sy parts.1.1.1.1 (omega (arith, inside)) stack folds (omega (arith, room))))))
+      (at_type c (state k stack folds) end stack folds types.Bool t (chosen (value a x) yes' by) p.is
+      (bind c (state k stack folds) i stack folds types.Bool (λ o. topped end stack folds types.Bool (chosen o yes' by)) refl (value a x)
+      (code_runs k a x types.Bool p.left_is sx parts.0 (omega (arith, inside)) stack folds (omega (arith, room)))
+      (λ v e. choose c i j stack folds end types.Bool yes' by v (has_value types.Bool (value a x) v (value_has c q around s serves a x types.Bool p.left_is sx) e) parts.1.0 (omega arith) (omega (arith, inside, some_size y))
+      (jump_behind c (state (i + 1) stack folds) (i + 1 + 1) end stack folds types.Bool yes' (push_bool c (i + 1) stack folds (omega (arith, room, some_need y)) true parts.1.1.0) parts.1.1.1.0 (omega (arith, some_size y)) (omega (arith, inside)))
+      (code_runs j b y types.Bool p.right_is sy parts.1.1.1.1 (omega (arith, inside)) stack folds (omega (arith, room))))))

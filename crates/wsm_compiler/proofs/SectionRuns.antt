@@ -6,8 +6,8 @@ use Rattle.std.specs.List.{flat_map}
 use Rattle.std.proofs.lemmas.Bool.{and_from}
 use Rattle.wsm_record.specs.declared.event.Value.{Value}
 use Rattle.wsm_record.specs.declared.event.Value.TheVariants.{Int, Bool as Truth', Enum}
-use Rattle.wsm_bytecode.specs.declared.instr.CellType.{CellType}
-use Rattle.wsm_bytecode.specs.declared.instr.CellType.TheVariants as types
+use Rattle.wsm_record.specs.declared.words.CellType.{CellType}
+use Rattle.wsm_record.specs.declared.words.CellType.TheVariants as types
 use Rattle.wsm_bytecode.specs.declared.instr.Instr.{Instr}
 use Rattle.wsm_bytecode.specs.declared.instr.Instr.TheVariants as instr
 use Rattle.wsm_bytecode.specs.declared.instr.SectionId.TheVariants.{Where, Fire}
@@ -21,14 +21,14 @@ use Rattle.wsm_machine.specs.Step.{Setting, setting, State, Ends, step, unless, 
 use Rattle.wsm_machine.specs.Run.{run_at, act, go_on, ended}
 use Rattle.wsm_machine.proofs.Runs.{run_step}
 use Rattle.wsm_query.specs.Tree.{Query, Expr}
-use Rattle.wsm_check.specs.Types.{ExprTy, IntValue, BoolValue, EnumValue, typed}
+use Rattle.wsm_check.specs.Types.{typed}
 use Rattle.wsm_check.specs.declared.types.Around.{Around}
 use Rattle.wsm_check.specs.declared.types.Around.TheVariants.{InWhere, InColumn}
 use Rattle.wsm_check.specs.Sizes.{accumulators_of, aggregates, size, condition_size, columns_size, need, need_of_condition, need_of_columns}
 use Rattle.wsm_compiler.specs.Meaning.{Scene, on_record, on_accumulators}
 use Rattle.wsm_compiler.specs.Code.{code, condition_code, columns_code, where_section, fire_section}
 use Rattle.wsm_check.specs.Parts.{type_or_int}
-use Rattle.wsm_compiler.specs.Program.{cell_type, column_type, program_stating, stated, needed_of, program_of}
+use Rattle.wsm_compiler.specs.Program.{column_type, program_stating, stated, needed_of, program_of}
 use Rattle.wsm_compiler.specs.Runs.{of_ty, cell, Serves, ServesAccs, state, topped, Gives, StandsAt}
 use Rattle.wsm_compiler.specs.Sections.{in_bounds, condition_value, Leaves, on_stack, fired_stack, WhereRuns, FireRuns}
 use Rattle.wsm_compiler.proofs.Visits.{nil_right}
@@ -83,42 +83,42 @@ comes_to c s (Some t) stack g none some =
 -- ---- conditions
 
 module _ (c : Setting) (q : Query) (around : Around) (s : Scene) (serves : Serves c q around s) where
-  pub code_means : (k a : ℕ) (e : Expr) (t : ExprTy) → typed q around e ≡ Ok t → ServesAccs c around s a (accumulators_of e) → StandsAt c.code k (code q k a e) → k + size e < length c.code →
+  pub code_means : (k a : ℕ) (e : Expr) (t : CellType) → typed q around e ≡ Ok t → ServesAccs c around s a (accumulators_of e) → StandsAt c.code k (code q k a e) → k + size e < length c.code →
       (stack : List Cell) (folds : List (Option Value)) → length stack + need e ≤ 32 → Gives c (state k stack folds) (topped (k + size e) stack folds t (in_bounds q s a e))
   code_means k a e t h accs at inside stack folds room =
       subst (λ o. Gives c (state k stack folds) (topped (k + size e) stack folds t o)) (bounded_is q s a e) (code_runs c q around s serves k a e t h accs at inside stack folds room)
 
-  pub means_has : (a : ℕ) (e : Expr) (t : ExprTy) → typed q around e ≡ Ok t → ServesAccs c around s a (accumulators_of e) → of_ty t (in_bounds q s a e) ≡ true
+  pub means_has : (a : ℕ) (e : Expr) (t : CellType) → typed q around e ≡ Ok t → ServesAccs c around s a (accumulators_of e) → of_ty t (in_bounds q s a e) ≡ true
   means_has a e t h accs = ap (of_ty t) (sym (bounded_is q s a e)) ∙ value_has c q around s serves a e t h accs
 
   condition_gives : (k a : ℕ) (o : Option Expr) (js : List Instr) → ConditionTyped q around o → ServesAccs c around s a (in_condition o) → StandsAt c.code k (condition_code q k a o ++ js) → k + condition_size o < length c.code →
-      (stack : List Cell) (folds : List (Option Value)) → length stack + need_of_condition o ≤ 32 → Gives c (state k stack folds) (topped (k + condition_size o) stack folds BoolValue (condition_value q s a o))
+      (stack : List Cell) (folds : List (Option Value)) → length stack + need_of_condition o ≤ 32 → Gives c (state k stack folds) (topped (k + condition_size o) stack folds types.Bool (condition_value q s a o))
   condition_gives k a None js h accs at inside stack folds room = push_bool c k stack folds (omega (arith, room)) true at.0
-  condition_gives k a (Some e) js h accs at inside stack folds room = code_means k a e BoolValue h accs (split_code q c.code k a e js at).0 inside stack folds room
+  condition_gives k a (Some e) js h accs at inside stack folds room = code_means k a e types.Bool h accs (split_code q c.code k a e js at).0 inside stack folds room
 
-  condition_has : (a : ℕ) (o : Option Expr) → ConditionTyped q around o → ServesAccs c around s a (in_condition o) → of_ty BoolValue (condition_value q s a o) ≡ true
+  condition_has : (a : ℕ) (o : Option Expr) → ConditionTyped q around o → ServesAccs c around s a (in_condition o) → of_ty types.Bool (condition_value q s a o) ≡ true
   condition_has a None h accs = refl
-  condition_has a (Some e) h accs = means_has a e BoolValue h accs
+  condition_has a (Some e) h accs = means_has a e types.Bool h accs
 
   condition_stands : (k a : ℕ) (o : Option Expr) (js : List Instr) → StandsAt c.code k (condition_code q k a o ++ js) → StandsAt c.code (k + condition_size o) js
   condition_stands k a None js h = h.1
   condition_stands k a (Some e) js h = (split_code q c.code k a e js h).1
 
-truth_type : (v : Value) → of_ty BoolValue (Some v) ≡ true → type_of (cell BoolValue v) ≡ types.Bool
+truth_type : (v : Value) → of_ty types.Bool (Some v) ≡ true → type_of (cell types.Bool v) ≡ types.Bool
 truth_type (Int n) h = no h
 truth_type (Truth' b) h = refl
 truth_type (Enum i) h = no h
 
-cell_has : (t : ExprTy) (v : Value) → of_ty t (Some v) ≡ true → type_of (cell t v) ≡ cell_type t
-cell_has IntValue (Int n) h = refl
-cell_has IntValue (Truth' b) h = no h
-cell_has IntValue (Enum i) h = no h
-cell_has BoolValue (Int n) h = no h
-cell_has BoolValue (Truth' b) h = refl
-cell_has BoolValue (Enum i) h = no h
-cell_has (EnumValue e) (Int n) h = no h
-cell_has (EnumValue e) (Truth' b) h = no h
-cell_has (EnumValue e) (Enum i) h = refl
+cell_has : (t : CellType) (v : Value) → of_ty t (Some v) ≡ true → type_of (cell t v) ≡ t
+cell_has types.Int (Int n) h = refl
+cell_has types.Int (Truth' b) h = no h
+cell_has types.Int (Enum i) h = no h
+cell_has types.Bool (Int n) h = no h
+cell_has types.Bool (Truth' b) h = refl
+cell_has types.Bool (Enum i) h = no h
+cell_has (types.Enum e) (Int n) h = no h
+cell_has (types.Enum e) (Truth' b) h = no h
+cell_has (types.Enum e) (Enum i) h = refl
 
 is_its_type : (t : CellType) → is_type t t ≡ true
 is_its_type types.Int = refl
@@ -132,15 +132,15 @@ are_their_types (t ∷ ts) = and_from (is_type t t) (are_types ts ts) (is_its_ty
 -- ---- WHERE
 
 -- the state behind a condition, and what stands on its stack
-none_topped : (k : ℕ) (stack : List Cell) (folds : List (Option Value)) (o : Option Value) → topped k stack folds BoolValue o ≡ None → on_stack stack o ≡ None
+none_topped : (k : ℕ) (stack : List Cell) (folds : List (Option Value)) (o : Option Value) → topped k stack folds types.Bool o ≡ None → on_stack stack o ≡ None
 none_topped k stack folds None e = refl
 none_topped k stack folds (Some v) e = none≢some (sym e)
 
-topped_returns : (c : Setting) (k : ℕ) (stack : List Cell) (folds : List (Option Value)) (o : Option Value) → of_ty BoolValue o ≡ true → slice_get c.code k ≡ Some instr.Return →
-    ((v : Value) → type_of (cell BoolValue v) ≡ types.Bool → is_result c (state k (cell BoolValue v ∷ stack) folds) ≡ true) → (t : State) → topped k stack folds BoolValue o ≡ Some t → (on_stack stack o ≡ Some t.stack) × (run_at c t ≡ ended Done 1 t)
+topped_returns : (c : Setting) (k : ℕ) (stack : List Cell) (folds : List (Option Value)) (o : Option Value) → of_ty types.Bool o ≡ true → slice_get c.code k ≡ Some instr.Return →
+    ((v : Value) → type_of (cell types.Bool v) ≡ types.Bool → is_result c (state k (cell types.Bool v ∷ stack) folds) ≡ true) → (t : State) → topped k stack folds types.Bool o ≡ Some t → (on_stack stack o ≡ Some t.stack) × (run_at c t ≡ ended Done 1 t)
 topped_returns c k stack folds None has at good t e = none≢some e
 topped_returns c k stack folds (Some v) has at good t e =
-    let u = state k (cell BoolValue v ∷ stack) folds in
+    let u = state k (cell types.Bool v ∷ stack) folds in
     let is : u ≡ t = ap (λ o. elim o [ None ↦ u | Some z ↦ z ]) e in
     (ap (λ (z : State). Some z.stack) is, subst (λ z. run_at c z ≡ ended Done 1 z) is (return_ends c u at (good v (truth_type v has))))
 
@@ -159,7 +159,7 @@ where_runs q checked d fit =
     let value = condition_value q s 0 q.condition in
     let k = 0 + condition_size q.condition in
     let returns = condition_stands c q InWhere s serves 0 0 q.condition (instr.Return ∷ []) at in
-    comes_to c (state 0 [] folds) (topped k [] folds BoolValue value) (on_stack [] value)
+    comes_to c (state 0 [] folds) (topped k [] folds types.Bool value) (on_stack [] value)
     (condition_gives c q InWhere s serves 0 0 q.condition (instr.Return ∷ []) f.condition none at (omega (arith, l, m)) [] folds (omega (arith, f.where_need)))
     (none_topped k [] folds value)
     (topped_returns c k [] folds value (condition_has c q InWhere s serves 0 q.condition f.condition none) returns.0 (λ v h. ap (λ u. (is_type types.Bool u && true) && true) h))
@@ -188,11 +188,11 @@ module _ (q : Query) (b : Stated) (d : Inputs) where
       let value = condition_value q s a q.having in
       let j = k + condition_size q.having in
       let returns = condition_stands c q InColumn s serves k a q.having (instr.Return ∷ []) at in
-      comes_to c (state k stack folds) (topped j stack folds BoolValue value) (on_stack stack value)
+      comes_to c (state k stack folds) (topped j stack folds types.Bool value) (on_stack stack value)
       (condition_gives c q InColumn s serves k a q.having (instr.Return ∷ []) hh accs at (omega (arith, inside)) stack folds room)
       (none_topped j stack folds value)
       (topped_returns c j stack folds value (condition_has c q InColumn s serves a q.having hh accs) returns.0
-      (λ v e. ap (λ x. x && true) (fire_result c (map (column_type q) q.columns) (cell BoolValue v) stack e (sym (nil_right (reverse (map type_of stack))) ∙ types'))))
+      (λ v e. ap (λ x. x && true) (fire_result c (map (column_type q) q.columns) (cell types.Bool v) stack e (sym (nil_right (reverse (map type_of stack))) ∙ types'))))
   columns_run k a (x ∷ es) stack folds h hh accs at inside room types' =
       let serves = serves_fire q b d in
       let t = h.0.0 in
@@ -206,7 +206,7 @@ module _ (q : Query) (b : Stated) (d : Inputs) where
       (code_means c q InColumn s serves k a x t h.0.1 here parts.0 (omega (arith, inside, some_columns_size q.having es)) stack folds (first_room (length stack) (need x) _ room))
       (λ v has. columns_run j (a + aggregates x) es (cell t v ∷ stack) folds h.1 hh (serves_right c InColumn s a x (flat_map accumulators_of es ++ in_condition q.having) whole) parts.1 (omega (arith, inside)) (rest_room (length stack) (need x) _ room)
       (ap (λ zs. zs ++ map (column_type q) es) (reverse-append (type_of (cell t v) ∷ []) (map type_of stack)) ∙ append_assoc (reverse (map type_of stack)) (type_of (cell t v) ∷ []) (map (column_type q) es)
-      ∙ ap (λ z. reverse (map type_of stack) ++ z ∷ map (column_type q) es) (cell_has t v has ∙ ap cell_type (sym ty)) ∙ types'))
+      ∙ ap (λ z. reverse (map type_of stack) ++ z ∷ map (column_type q) es) (cell_has t v has ∙ sym ty) ∙ types'))
     where
       first_room : (l n m : ℕ) → max (l + n) m ≤ 32 → l + n ≤ 32
       first_room l n m h = omega (arith, h)
@@ -222,7 +222,7 @@ module _ (q : Query) (b : Stated) (d : Inputs) where
       some_columns_size o [] = omega (arith, some_condition_size o)
       some_columns_size o (x ∷ es) = omega (arith, some_size x)
 
-      one_column : (m : State) (j a : ℕ) (x : Expr) (es : List Expr) (stack : List Cell) (folds : List (Option Value)) (t : ExprTy) → type_or_int (typed q InColumn x) ≡ t → (o : Option Value) → of_ty t o ≡ true → Gives c m (topped j stack folds t o) →
+      one_column : (m : State) (j a : ℕ) (x : Expr) (es : List Expr) (stack : List Cell) (folds : List (Option Value)) (t : CellType) → type_or_int (typed q InColumn x) ≡ t → (o : Option Value) → of_ty t o ≡ true → Gives c m (topped j stack folds t o) →
           ((v : Value) → of_ty t (Some v) ≡ true → Leaves (run_at c (state j (cell t v ∷ stack) folds)) (fired_stack q s (a + aggregates x) es (cell t v ∷ stack))) →
           Leaves (run_at c m) (elim o [ None ↦ None | Some v ↦ fired_stack q s (a + aggregates x) es (cell (type_or_int (typed q InColumn x)) v ∷ stack) ])
       one_column m j a x es stack folds t ty None has g rest = g

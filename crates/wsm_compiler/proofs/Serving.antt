@@ -14,7 +14,8 @@ use Rattle.wsm_machine.specs.Inputs.{Inputs, is_of_field, are_of_fields}
 use Rattle.wsm_machine.specs.Step.{setting}
 use Rattle.wsm_query.specs.Tree.{Name, Ty, IntTy, BoolTy, EnumTy, Declared, Query}
 use Rattle.wsm_check.specs.Names.{field_names, field_place, type_of}
-use Rattle.wsm_check.specs.Types.{ExprTy, declared_ty, field_ty, operand_ty}
+use Rattle.wsm_record.specs.declared.words.CellType.{CellType}
+use Rattle.wsm_check.specs.Types.{declared_ty, field_ty, operand_ty}
 use Rattle.wsm_check.specs.declared.types.Around.{Around}
 use Rattle.wsm_check.specs.declared.types.Around.TheVariants.{InWhere, InColumn, InAggregate}
 use Rattle.wsm_check.specs.Sizes.{Acc, accumulators}
@@ -69,7 +70,7 @@ read_at (d ∷ ds) (v ∷ vs) x h l =
     next : (m : ℕ) → 1 + m ≡ suc m
     next m = omega arith
 
-pub field_read : (q : Query) (around : Around) (vs : List Value) → are_of_fields (map (λ d. record { name = d.name; type = field_type d.ty }) q.fields) vs ≡ true → (x : Name) (t : ExprTy) → field_ty q around x ≡ Ok t →
+pub field_read : (q : Query) (around : Around) (vs : List Value) → are_of_fields (map (λ d. record { name = d.name; type = field_type d.ty }) q.fields) vs ≡ true → (x : Name) (t : CellType) → field_ty q around x ≡ Ok t →
     (v : Value) × (slice_get vs (field_place q.fields x) ≡ Some v) × (of_ty t (Some v) ≡ true) × (slice_get vs (field_place q.fields x) ≡ Some v)
 field_read q around vs fit x t h =
     let r = read_at q.fields vs x (declared q around x t h) fit in

@@ -25,7 +25,7 @@ use Rattle.wsm_machine.specs.Meaning.{record_inputs, where_run, update_run, is_d
 use Rattle.wsm_machine.proofs.Completing.{completes}
 use Rattle.wsm_machine.proofs.Leaving.{folds, values_are}
 use Rattle.wsm_query.specs.Tree.{Query, Expr}
-use Rattle.wsm_check.specs.Types.{BoolValue}
+use Rattle.wsm_record.specs.declared.words.CellType.TheVariants as types
 use Rattle.wsm_check.specs.Sizes.{Acc, accumulators, in_option}
 use Rattle.wsm_compiler.specs.Meaning.{Scene, meaning, meets_i64, on_record, is_true, condition_holds, selects}
 use Rattle.wsm_compiler.specs.Program.{schema_of, program_of}
@@ -80,13 +80,13 @@ condition_has q s None v h = (tt, ap is_true h)
 condition_has q s (Some e) v h = ((has_value q s e v h, tt), ap is_true (in_bounds_is (meets_i64 q s 0 e) (meaning q s e) v h).0)
 
 -- a value on top of the stack
-top_is : (v : Value) (rest : List Cell) → top_is_true (cell BoolValue v ∷ rest) ≡ is_true (Some v)
+top_is : (v : Value) (rest : List Cell) → top_is_true (cell types.Bool v ∷ rest) ≡ is_true (Some v)
 top_is (Int n) rest = refl
 top_is (Truth' b) rest = refl
 top_is (Enum i) rest = refl
 
 -- what a section says that ends with a truth on top
-pub says : (r : Ran) (v : Value) (rest : List Cell) → r.outcome ≡ Done → r.stack ≡ cell BoolValue v ∷ rest → program.says_true r ≡ is_true (Some v)
+pub says : (r : Ran) (v : Value) (rest : List Cell) → r.outcome ≡ Done → r.stack ≡ cell types.Bool v ∷ rest → program.says_true r ≡ is_true (Some v)
 says r v rest e h = (λ i. is_done (e i) && top_is_true (h i)) ∙ top_is v rest
 
 -- ---- inputs

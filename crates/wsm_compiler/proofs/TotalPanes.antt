@@ -27,7 +27,9 @@ use Rattle.wsm_machine.specs.Meaning.{pane_inputs, fire_run, updated, updated_al
 use Rattle.wsm_machine.proofs.Sounding.{may_fire}
 use Rattle.wsm_machine.proofs.Words.{updated_words}
 use Rattle.wsm_query.specs.Tree.{Query, Expr}
-use Rattle.wsm_check.specs.Types.{ExprTy, BoolValue, typed}
+use Rattle.wsm_record.specs.declared.words.CellType.{CellType}
+use Rattle.wsm_record.specs.declared.words.CellType.TheVariants as types
+use Rattle.wsm_check.specs.Types.{typed}
 use Rattle.wsm_check.specs.declared.types.Around.TheVariants.{InColumn}
 use Rattle.wsm_check.specs.Sizes.{aggregates, accumulators, in_option, fired}
 use Rattle.wsm_compiler.specs.Meaning.{Scene, meaning, meets_i64, all_of, on_records, condition_holds, row}
@@ -51,7 +53,7 @@ use Rattle.wsm_compiler.proofs.UpdateRuns.{value_is}
 abbrev values_up : List Cell → List Value
 values_up stack = map value_of (reverse stack)
 
-values_pushed : (t : ExprTy) (v : Value) (stack : List Cell) → values_up (cell t v ∷ stack) ≡ values_up stack ++ v ∷ []
+values_pushed : (t : CellType) (v : Value) (stack : List Cell) → values_up (cell t v ∷ stack) ≡ values_up stack ++ v ∷ []
 values_pushed t v stack =
     ap (map value_of) (reverse-append (cell t v ∷ []) stack) ∙ map-append value_of (reverse stack) (cell t v ∷ []) ∙ ap (λ w. values_up stack ++ w ∷ []) (value_is t v)
 
@@ -74,7 +76,7 @@ module _ (q : Query) (key : ℕ) (records : List (List Value)) where
     top : Value
     top_is : condition_value q s 0 q.having ≡ Some top
     rest : List Cell
-    out_is : out ≡ cell BoolValue top ∷ rest
+    out_is : out ≡ cell types.Bool top ∷ rest
     rest_is : values_up rest ≡ values_up stack ++ values
 
   having_fired : (o : Option Value) (stack out : List Cell) → condition_value q s 0 q.having ≡ o → on_stack stack o ≡ Some out → Fired [] stack out
@@ -90,7 +92,7 @@ module _ (q : Query) (key : ℕ) (records : List (List Value)) where
     rest_is = sym (nil_right (values_up stack));
   }
 
-  column_fired : (e : Expr) (es : List Expr) (t : ExprTy) (stack out : List Cell) (v : Value) → in_bounds q s 0 e ≡ Some v → Fired es (cell t v ∷ stack) out → Fired (e ∷ es) stack out
+  column_fired : (e : Expr) (es : List Expr) (t : CellType) (stack out : List Cell) (v : Value) → in_bounds q s 0 e ≡ Some v → Fired es (cell t v ∷ stack) out → Fired (e ∷ es) stack out
   column_fired e es t stack out v h f =
       let is = (in_bounds_is (meets_i64 q s 0 e) (meaning q s e) v h).0 in
       record {

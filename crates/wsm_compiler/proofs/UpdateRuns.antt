@@ -7,7 +7,7 @@ use Rattle.wsm_record.specs.declared.event.Value.{Value}
 use Rattle.wsm_record.specs.declared.event.Value.TheVariants.{Int, Bool as Truth', Enum}
 use Rattle.wsm_record.specs.declared.words.Kind.{Kind}
 use Rattle.wsm_record.specs.declared.words.Kind.TheVariants.{Sum, Min, Max, Any, All}
-use Rattle.wsm_bytecode.specs.declared.instr.CellType.TheVariants as types
+use Rattle.wsm_record.specs.declared.words.CellType.TheVariants as types
 use Rattle.wsm_bytecode.specs.declared.instr.Instr.TheVariants as instr
 use Rattle.wsm_bytecode.specs.declared.instr.SectionId.TheVariants.{Update}
 use Rattle.wsm_bytecode.specs.declared.program.Budget.{Budget as Stated}
@@ -18,7 +18,8 @@ use Rattle.wsm_machine.specs.Inputs.{Inputs}
 use Rattle.wsm_machine.specs.Step.{Setting, setting, State, Goes, step, unless, type_of, value_of, is_type, folds_twice}
 use Rattle.wsm_machine.specs.Run.{run_at}
 use Rattle.wsm_query.specs.Tree.{Query}
-use Rattle.wsm_check.specs.Types.{ExprTy, operand_ty}
+use Rattle.wsm_record.specs.declared.words.CellType.{CellType}
+use Rattle.wsm_check.specs.Types.{operand_ty}
 use Rattle.wsm_check.specs.declared.types.Around.TheVariants.{InAggregate}
 use Rattle.wsm_check.specs.Sizes.{Acc, accumulators, accumulators_of, size, need, folds_size, need_of_folds}
 use Rattle.wsm_compiler.specs.Meaning.{Scene, on_record}
@@ -76,7 +77,7 @@ folds_type All (Int n) h = no h
 folds_type All (Truth' b) h = refl
 folds_type All (Enum i) h = no h
 
-pub value_is : (t : ExprTy) (v : Value) → value_of (cell t v) ≡ v
+pub value_is : (t : CellType) (v : Value) → value_of (cell t v) ≡ v
 value_is t (Int n) = refl
 value_is t (Truth' b) = refl
 value_is t (Enum i) = refl

@@ -10,7 +10,9 @@ use Rattle.wsm_query.specs.declared.expr.Op.{Op}
 use Rattle.wsm_query.specs.declared.expr.Op.TheVariants.{Add, Sub, Mul, Div, Rem, Eq, Ne, Lt, Le, Gt, Ge}
 use Rattle.wsm_query.specs.Tree.{Query, Expr, Number, Truth, Field, EnumName, Key, KeyName, Count, Aggregate, If, Brackets, Minus, Not, Binary, And, Or}
 use Rattle.wsm_check.specs.Names.{field_names, field_place, type_of, names_of}
-use Rattle.wsm_check.specs.Types.{ExprTy, IntValue, BoolValue, EnumValue, ty_eq, operand_ty, op_ty, typed}
+use Rattle.wsm_record.specs.declared.words.CellType.{CellType}
+use Rattle.wsm_record.specs.declared.words.CellType.TheVariants as types
+use Rattle.wsm_check.specs.Types.{ty_eq, operand_ty, op_ty, typed}
 use Rattle.wsm_check.specs.declared.types.Around.{Around}
 use Rattle.wsm_check.specs.declared.types.Around.TheVariants.{InAggregate}
 use Rattle.wsm_check.specs.Sizes.{Acc, accumulators_of, aggregates}
@@ -41,19 +43,19 @@ serves_right c around s a x ys h e j acc get =
 
 -- ---- operators
 
-if_kept : (n : ℤ) (b : Bool) → of_ty IntValue (cond b (Some (Int n)) None) ≡ true
+if_kept : (n : ℤ) (b : Bool) → of_ty types.Int (cond b (Some (Int n)) None) ≡ true
 if_kept n true = refl
 if_kept n false = refl
 
-kept_has : (t : ExprTy) (o : Option Value) → of_ty t o ≡ true → of_ty t (kept o) ≡ true
+kept_has : (t : CellType) (o : Option Value) → of_ty t o ≡ true → of_ty t (kept o) ≡ true
 kept_has t None h = refl
-kept_has IntValue (Some (Int n)) h = if_kept n (in_i64 n)
-kept_has BoolValue (Some (Int n)) h = no h
-kept_has (EnumValue e) (Some (Int n)) h = no h
+kept_has types.Int (Some (Int n)) h = if_kept n (in_i64 n)
+kept_has types.Bool (Some (Int n)) h = no h
+kept_has (types.Enum e) (Some (Int n)) h = no h
 kept_has t (Some (Truth' b)) h = h
 kept_has t (Some (Enum i)) h = h
 
-unless_zero : (b : Bool) (n : ℤ) → of_ty IntValue (cond b None (Some (Int n))) ≡ true
+unless_zero : (b : Bool) (n : ℤ) → of_ty types.Int (cond b None (Some (Int n))) ≡ true
 unless_zero true n = refl
 unless_zero false n = refl
 
@@ -71,27 +73,27 @@ numbers_have Gt x y = refl
 numbers_have Ge x y = refl
 
 -- an operator on values that are no numbers
-not_numbers : (op : Op) (t u : ExprTy) (b : Bool) → ty_eq t IntValue ≡ false → op_typed op t u ≡ true → of_ty (result_of op) (on_same op b) ≡ true
+not_numbers : (op : Op) (t u : CellType) (b : Bool) → ty_eq t types.Int ≡ false → op_typed op t u ≡ true → of_ty (result_of op) (on_same op b) ≡ true
 not_numbers Eq t u b n h = refl
 not_numbers Ne t u b n h = refl
-not_numbers Add t u b n h = no (sym (ap (λ x. x && ty_eq u IntValue) n) ∙ h)
-not_numbers Sub t u b n h = no (sym (ap (λ x. x && ty_eq u IntValue) n) ∙ h)
-not_numbers Mul t u b n h = no (sym (ap (λ x. x && ty_eq u IntValue) n) ∙ h)
-not_numbers Div t u b n h = no (sym (ap (λ x. x && ty_eq u IntValue) n) ∙ h)
-not_numbers Rem t u b n h = no (sym (ap (λ x. x && ty_eq u IntValue) n) ∙ h)
-not_numbers Lt t u b n h = no (sym (ap (λ x. x && ty_eq u IntValue) n) ∙ h)
-not_numbers Le t u b n h = no (sym (ap (λ x. x && ty_eq u IntValue) n) ∙ h)
-not_numbers Gt t u b n h = no (sym (ap (λ x. x && ty_eq u IntValue) n) ∙ h)
-not_numbers Ge t u b n h = no (sym (ap (λ x. x && ty_eq u IntValue) n) ∙ h)
+not_numbers Add t u b n h = no (sym (ap (λ x. x && ty_eq u types.Int) n) ∙ h)
+not_numbers Sub t u b n h = no (sym (ap (λ x. x && ty_eq u types.Int) n) ∙ h)
+not_numbers Mul t u b n h = no (sym (ap (λ x. x && ty_eq u types.Int) n) ∙ h)
+not_numbers Div t u b n h = no (sym (ap (λ x. x && ty_eq u types.Int) n) ∙ h)
+not_numbers Rem t u b n h = no (sym (ap (λ x. x && ty_eq u types.Int) n) ∙ h)
+not_numbers Lt t u b n h = no (sym (ap (λ x. x && ty_eq u types.Int) n) ∙ h)
+not_numbers Le t u b n h = no (sym (ap (λ x. x && ty_eq u types.Int) n) ∙ h)
+not_numbers Gt t u b n h = no (sym (ap (λ x. x && ty_eq u types.Int) n) ∙ h)
+not_numbers Ge t u b n h = no (sym (ap (λ x. x && ty_eq u types.Int) n) ∙ h)
 
-two_have : (op : Op) (t u : ExprTy) (v w : Value) → op_typed op t u ≡ true → of_ty t (Some v) ≡ true → of_ty u (Some w) ≡ true → of_ty (result_of op) (on_two op v w) ≡ true
+two_have : (op : Op) (t u : CellType) (v w : Value) → op_typed op t u ≡ true → of_ty t (Some v) ≡ true → of_ty u (Some w) ≡ true → of_ty (result_of op) (on_two op v w) ≡ true
 two_have op t u (Int x) (Int y) h l m = numbers_have op x y
-two_have op IntValue u (Truth' a) (Truth' b) h l m = no l
-two_have op BoolValue u (Truth' a) (Truth' b) h l m = not_numbers op BoolValue u _ refl h
-two_have op (EnumValue e) u (Truth' a) (Truth' b) h l m = no l
-two_have op IntValue u (Enum i) (Enum j) h l m = no l
-two_have op BoolValue u (Enum i) (Enum j) h l m = no l
-two_have op (EnumValue e) u (Enum i) (Enum j) h l m = not_numbers op (EnumValue e) u _ refl h
+two_have op types.Int u (Truth' a) (Truth' b) h l m = no l
+two_have op types.Bool u (Truth' a) (Truth' b) h l m = not_numbers op types.Bool u _ refl h
+two_have op (types.Enum e) u (Truth' a) (Truth' b) h l m = no l
+two_have op types.Int u (Enum i) (Enum j) h l m = no l
+two_have op types.Bool u (Enum i) (Enum j) h l m = no l
+two_have op (types.Enum e) u (Enum i) (Enum j) h l m = not_numbers op (types.Enum e) u _ refl h
 two_have op t u (Int x) (Truth' b) h l m = refl
 two_have op t u (Int x) (Enum j) h l m = refl
 two_have op t u (Truth' a) (Int y) h l m = refl
@@ -99,45 +101,45 @@ two_have op t u (Truth' a) (Enum j) h l m = refl
 two_have op t u (Enum i) (Int y) h l m = refl
 two_have op t u (Enum i) (Truth' b) h l m = refl
 
-both_have : (op : Op) (t u : ExprTy) (o p : Option Value) → op_typed op t u ≡ true → of_ty t o ≡ true → of_ty u p ≡ true → of_ty (result_of op) (kept (both (on_two op) o p)) ≡ true
+both_have : (op : Op) (t u : CellType) (o p : Option Value) → op_typed op t u ≡ true → of_ty t o ≡ true → of_ty u p ≡ true → of_ty (result_of op) (kept (both (on_two op) o p)) ≡ true
 both_have op t u None p h l m = refl
 both_have op t u (Some v) None h l m = refl
 both_have op t u (Some v) (Some w) h l m = kept_has (result_of op) (on_two op v w) (two_have op t u v w h l m)
 
-minus_has : (o : Option Value) → of_ty IntValue o ≡ true → of_ty IntValue (kept (minus o)) ≡ true
+minus_has : (o : Option Value) → of_ty types.Int o ≡ true → of_ty types.Int (kept (minus o)) ≡ true
 minus_has None h = refl
-minus_has (Some (Int n)) h = kept_has IntValue (minus (Some (Int n))) refl
+minus_has (Some (Int n)) h = kept_has types.Int (minus (Some (Int n))) refl
 minus_has (Some (Truth' b)) h = refl
 minus_has (Some (Enum i)) h = refl
 
-negated_has : (o : Option Value) → of_ty BoolValue (negated o) ≡ true
+negated_has : (o : Option Value) → of_ty types.Bool (negated o) ≡ true
 negated_has None = refl
 negated_has (Some (Int n)) = refl
 negated_has (Some (Truth' b)) = refl
 negated_has (Some (Enum i)) = refl
 
-chosen_has : (t : ExprTy) (o x y : Option Value) → of_ty t x ≡ true → of_ty t y ≡ true → of_ty t (chosen o x y) ≡ true
+chosen_has : (t : CellType) (o x y : Option Value) → of_ty t x ≡ true → of_ty t y ≡ true → of_ty t (chosen o x y) ≡ true
 chosen_has t None x y h l = refl
 chosen_has t (Some (Int n)) x y h l = refl
 chosen_has t (Some (Truth' true)) x y h l = h
 chosen_has t (Some (Truth' false)) x y h l = l
 chosen_has t (Some (Enum i)) x y h l = refl
 
-at_type : (o : Option Value) (u t : ExprTy) → u ≡ t → of_ty u o ≡ true → of_ty t o ≡ true
+at_type : (o : Option Value) (u t : CellType) → u ≡ t → of_ty u o ≡ true → of_ty t o ≡ true
 at_type o u t e h = subst (λ x. of_ty x o ≡ true) e h
 
-pub value_has : (c : Setting) (q : Query) (around : Around) (s : Scene) → Serves c q around s → (a : ℕ) (e : Expr) (t : ExprTy) → typed q around e ≡ Ok t → ServesAccs c around s a (accumulators_of e) → of_ty t (bounded_from q s a e) ≡ true
-value_has c q around s serves a (Number n) t h accs = at_type (bounded_from q s a (Number n)) IntValue t (ok_is _ t h) (if_kept n (in_i64 n))
-value_has c q around s serves a (Truth b) t h accs = at_type (bounded_from q s a (Truth b)) BoolValue t (ok_is _ t h) refl
+pub value_has : (c : Setting) (q : Query) (around : Around) (s : Scene) → Serves c q around s → (a : ℕ) (e : Expr) (t : CellType) → typed q around e ≡ Ok t → ServesAccs c around s a (accumulators_of e) → of_ty t (bounded_from q s a e) ≡ true
+value_has c q around s serves a (Number n) t h accs = at_type (bounded_from q s a (Number n)) types.Int t (ok_is _ t h) (if_kept n (in_i64 n))
+value_has c q around s serves a (Truth b) t h accs = at_type (bounded_from q s a (Truth b)) types.Bool t (ok_is _ t h) refl
 value_has c q around s serves a (Field x) t h accs =
     let f = serves.field x t h in kept_has t (s.field (field_place q.fields x)) (ap (of_ty t) f.1 ∙ f.2)
 value_has c q around s serves a (EnumName x y) t h accs =
-    at_type (bounded_from q s a (EnumName x y)) (EnumValue _) t (ok_is _ t (cond_ok (is_among x (field_names q.fields) && is_among y (names_of (type_of x q.fields))) _ _ t h)) refl
-value_has c q around s serves a Key t h accs = at_type (bounded_from q s a Key) (EnumValue 0) t (ok_is _ t h) refl
-value_has c q around s serves a (KeyName x) t h accs = at_type (bounded_from q s a (KeyName x)) (EnumValue 0) t (ok_is _ t (cond_ok (is_among x q.keys) _ _ t h)) refl
+    at_type (bounded_from q s a (EnumName x y)) (types.Enum _) t (ok_is _ t (cond_ok (is_among x (field_names q.fields) && is_among y (names_of (type_of x q.fields))) _ _ t h)) refl
+value_has c q around s serves a Key t h accs = at_type (bounded_from q s a Key) (types.Enum 0) t (ok_is _ t h) refl
+value_has c q around s serves a (KeyName x) t h accs = at_type (bounded_from q s a (KeyName x)) (types.Enum 0) t (ok_is _ t (cond_ok (is_among x q.keys) _ _ t h)) refl
 value_has c q around s serves a Count t h accs =
-    let e = entered_is around (Ok IntValue) t h in
-    at_type (bounded_from q s a Count) IntValue t (ok_is _ t e.1) (kept_has IntValue s.count (ap (of_ty IntValue) (serves.count e.0)))
+    let e = entered_is around (Ok types.Int) t h in
+    at_type (bounded_from q s a Count) types.Int t (ok_is _ t e.1) (kept_has types.Int s.count (ap (of_ty types.Int) (serves.count e.0)))
 value_has c q around s serves a (Aggregate kind e) t h accs =
     let i = entered_is around _ t h in
     let u = unary_is q InAggregate e (operand_ty kind) t i.1 in
@@ -155,8 +157,8 @@ value_has c q around s serves a (If b x y) t h accs =
     (value_has c q around s serves (a + (aggregates b + aggregates x)) y t p.second_is (subst (λ n. ServesAccs c around s n (accumulators_of y)) place second))
 value_has c q around s serves a (Brackets e) t h accs = value_has c q around s serves a e t h accs
 value_has c q around s serves a (Minus e) t h accs =
-    let u = unary_is q around e IntValue t h in at_type (bounded_from q s a (Minus e)) IntValue t u.1 (minus_has (bounded_from q s a e) (value_has c q around s serves a e IntValue u.0 accs))
-value_has c q around s serves a (Not e) t h accs = let u = unary_is q around e BoolValue t h in at_type (bounded_from q s a (Not e)) BoolValue t u.1 (negated_has (bounded_from q s a e))
+    let u = unary_is q around e types.Int t h in at_type (bounded_from q s a (Minus e)) types.Int t u.1 (minus_has (bounded_from q s a e) (value_has c q around s serves a e types.Int u.0 accs))
+value_has c q around s serves a (Not e) t h accs = let u = unary_is q around e types.Bool t h in at_type (bounded_from q s a (Not e)) types.Bool t u.1 (negated_has (bounded_from q s a e))
 value_has c q around s serves a (Binary op x y) t h accs =
     let p = two_types q around x y (op_ty op) t h in
     let o = op_is op p.left p.right t p.both in
@@ -166,9 +168,9 @@ value_has c q around s serves a (Binary op x y) t h accs =
     (value_has c q around s serves (a + aggregates x) y p.right p.right_is (serves_right c around s a x (accumulators_of y) accs)))
 value_has c q around s serves a (And x y) t h accs =
     let p = logic_types q around x y t h in
-    at_type (bounded_from q s a (And x y)) BoolValue t p.is
-    (chosen_has BoolValue (bounded_from q s a x) (bounded_from q s (a + aggregates x) y) (Some (Truth' false)) (value_has c q around s serves (a + aggregates x) y BoolValue p.right_is (serves_right c around s a x (accumulators_of y) accs)) refl)
+    at_type (bounded_from q s a (And x y)) types.Bool t p.is
+    (chosen_has types.Bool (bounded_from q s a x) (bounded_from q s (a + aggregates x) y) (Some (Truth' false)) (value_has c q around s serves (a + aggregates x) y types.Bool p.right_is (serves_right c around s a x (accumulators_of y) accs)) refl)
 value_has c q around s serves a (Or x y) t h accs =
     let p = logic_types q around x y t h in
-    at_type (bounded_from q s a (Or x y)) BoolValue t p.is
-    (chosen_has BoolValue (bounded_from q s a x) (Some (Truth' true)) (bounded_from q s (a + aggregates x) y) refl (value_has c q around s serves (a + aggregates x) y BoolValue p.right_is (serves_right c around s a x (accumulators_of y) accs)))
+    at_type (bounded_from q s a (Or x y)) types.Bool t p.is
+    (chosen_has types.Bool (bounded_from q s a x) (Some (Truth' true)) (bounded_from q s (a + aggregates x) y) refl (value_has c q around s serves (a + aggregates x) y types.Bool p.right_is (serves_right c around s a x (accumulators_of y) accs)))

@@ -5,7 +5,7 @@ use Rattle.wsm_bytecode.specs.declared.program.Budget.{Budget as Stated}
 use Rattle.wsm_bytecode.specs.Program.{Name, Header, Program}
 use Rattle.wsm_query.specs.Tree.{Declared}
 use Rattle.wsm_check.specs.Parts.{Parts}
-use Rattle.wsm_compiler.specs.Program.{field_type, cell_type, every}
+use Rattle.wsm_compiler.specs.Program.{field_type, every}
 use Rattle.wsm_compiler.specs.TermCode.{ending_code, foldings_code, firing_code}
 
 abbrev pub kept_field : Declared → DeclaredField
@@ -27,7 +27,7 @@ assembled_header p budget = record {
   late = every p.late;
   form = p.form;
   kinds = map (λ f. f.kind) p.foldings;
-  columns = map (λ c. cell_type c.ty) p.columns;
+  columns = map (λ c. c.ty) p.columns;
   budget = budget;
 }
 

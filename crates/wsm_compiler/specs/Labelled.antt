@@ -8,7 +8,9 @@ use Rattle.wsm_verifier.specs.Rules.{entry, ranges_of_pane, update_visits}
 use Rattle.wsm_query.specs.Tree.{Query, Expr}
 use Rattle.wsm_check.specs.Checks.{IsChecked}
 use Rattle.wsm_check.specs.Sizes.{size}
-use Rattle.wsm_check.specs.Types.{ExprTy, IntValue, BoolValue, EnumValue, typed}
+use Rattle.wsm_record.specs.declared.words.CellType.{CellType}
+use Rattle.wsm_record.specs.declared.words.CellType.TheVariants as types
+use Rattle.wsm_check.specs.Types.{typed}
 use Rattle.wsm_check.specs.declared.types.Around.TheVariants.{InColumn}
 use Rattle.wsm_compiler.specs.Code.{fire_section}
 use Rattle.wsm_compiler.specs.Ranges.{Range, Unfit, NoNumber, Within, range, ranges_fit}
@@ -22,10 +24,10 @@ number_as NoNumber = Number (interval (pos 0) (pos 0))
 number_as Unfit = Number (interval (pos 0) (pos 0))
 
 -- a value of a type and a range, as the verifier knows it
-abbrev pub known_as : ExprTy → Range → Known
-known_as IntValue r = number_as r
-known_as BoolValue r = Truth
-known_as (EnumValue e) r = NameOf e
+abbrev pub known_as : CellType → Range → Known
+known_as types.Int r = number_as r
+known_as types.Bool r = Truth
+known_as (types.Enum e) r = NameOf e
 
 -- behind the code of each column, from place k on, its range is known on top of what is below
 abbrev pub ColumnLabels : Query → (ℕ → Label) → ℕ → List Expr → List Known → Type 0

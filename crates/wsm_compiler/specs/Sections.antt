@@ -13,7 +13,8 @@ use Rattle.wsm_machine.specs.Inputs.{Inputs, are_of_fields}
 use Rattle.wsm_machine.specs.Run.{run}
 use Rattle.wsm_query.specs.Tree.{Query, Expr}
 use Rattle.wsm_check.specs.Checks.{IsChecked}
-use Rattle.wsm_check.specs.Types.{BoolValue, typed}
+use Rattle.wsm_record.specs.declared.words.CellType.TheVariants as types
+use Rattle.wsm_check.specs.Types.{typed}
 use Rattle.wsm_check.specs.declared.types.Around.TheVariants.{InColumn}
 use Rattle.wsm_check.specs.Sizes.{Acc, accumulators, aggregates}
 use Rattle.wsm_compiler.specs.Meaning.{Scene, meaning_from, meets_i64, all_of, on_record, on_accumulators}
@@ -47,7 +48,7 @@ Leaves r (Some stack) = (r.outcome ≡ Done) × (r.stack ≡ stack)
 
 abbrev pub on_stack : List Cell → Option Value → Option (List Cell)
 on_stack stack None = None
-on_stack stack (Some v) = Some (cell BoolValue v ∷ stack)
+on_stack stack (Some v) = Some (cell types.Bool v ∷ stack)
 
 -- the values of columns and of HAVING, the last on top, where there are all
 abbrev pub fired_stack : Query → Scene → ℕ → List Expr → List Cell → Option (List Cell)

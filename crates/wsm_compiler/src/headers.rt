@@ -6,13 +6,12 @@ ghost use Rattle.wsm_record.specs.Fields.{declared_field, declared_type};
 ghost use Rattle.wsm_bytecode.specs.View.{header_of};
 ghost use Rattle.wsm_query.specs.Seen.{seen_field, seen_ty};
 ghost use Rattle.wsm_check.specs.Seen.{seen_column, seen_folding, seen_parts};
-ghost use Rattle.wsm_check.specs.Seen as value;
 ghost use Rattle.wsm_compiler.specs.Program as spec;
 ghost use Rattle.wsm_compiler.specs.Assembled.{assembled_header, kept, kept_field};
 
 use std::alloc::{AllocError, Global};
 use wsm_bytecode::{Budget, CellType, Header};
-use wsm_check::{Column, Folding, Parts, ValueTy};
+use wsm_check::{Column, Folding, Parts};
 use wsm_query::{Declared, Ty};
 use wsm_record::{Field, Kind, Name, Schema, SchemaRefusal, Ty as FieldTy};
 
@@ -102,21 +101,11 @@ fn kinds(alloc: Global, foldings: &[Folding]) -> Result<Vec<Kind>, AllocError>
 }
 
 fn column_types(alloc: Global, columns: &[Column]) -> Result<Vec<CellType>, AllocError>
-    ensures { IfOk result (λ types. types.items ≡ map (λ c. spec.cell_type c.ty) (map seen_column columns.now)) }
+    ensures { IfOk result (λ types. types.items ≡ map (λ c. c.ty) (map seen_column columns.now)) }
 {
     let mut types = Vec::with_capacity(alloc, columns.len())?;
     for column in columns {
-        types.push(cell_type(column.ty))?;
+        types.push(column.ty)?;
     }
     Ok(types)
-}
-
-fn cell_type(ty: ValueTy) -> CellType
-    ensures { result ≡ spec.cell_type (value.seen_ty ty) }
-{
-    match ty {
-        ValueTy::Int => CellType::Int,
-        ValueTy::Bool => CellType::Bool,
-        ValueTy::Enum(list) => CellType::Enum(list),
-    }
 }

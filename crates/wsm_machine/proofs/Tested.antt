@@ -2,7 +2,7 @@
 use Rattle.std.proofs.Common.{◌≡◌, ◌&&◌, Bool, true, false, List, [], ◌∷◌, ◌++◌, refl, ap, ◌∙◌}
 use Rattle.std.proofs.Math.Bool.{and-false, and-true}
 use Rattle.wsm_fold.specs.Fold.{is_of_kind, are_of_kinds}
-use Rattle.wsm_bytecode.specs.declared.instr.CellType.{CellType}
+use Rattle.wsm_record.specs.declared.words.CellType.{CellType}
 use Rattle.wsm_machine.specs.Inputs.{is_of_field, are_of_fields}
 use Rattle.wsm_machine.specs.Step.{is_type, are_types}
 use Rattle.wsm_bytecode.specs.Program.{Program}

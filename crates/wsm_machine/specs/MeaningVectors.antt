@@ -22,7 +22,7 @@ use Rattle.wsm_semantics.specs.declared.standing.Standing.TheVariants.{Unfired, 
 use Rattle.wsm_semantics.specs.Summaries.{Pane, after_record, after_watermark, fired_by_watermark, row_of, relation_of, at_watermark, summaries}
 use Rattle.wsm_semantics.specs.Kept.{kept}
 use Rattle.wsm_semantics.specs.Steps.{step_rows, run}
-use Rattle.wsm_bytecode.specs.declared.instr.CellType.TheVariants as types
+use Rattle.wsm_record.specs.declared.words.CellType.TheVariants as types
 use Rattle.wsm_bytecode.specs.declared.instr.Instr.TheVariants.{PushInt, PushBool, Field, Acc, Count, Operate, Fold, Return}
 use Rattle.wsm_bytecode.specs.declared.operation.Operation.TheVariants.{Gt}
 use Rattle.wsm_bytecode.specs.Program.{Program}

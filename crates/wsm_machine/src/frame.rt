@@ -3,7 +3,7 @@
 ghost use Rattle.std.specs.Prelude.{◌≡◌, ◌≤◌, ◌∷◌, [], Some, None, true, length, drop, replicate, ℤ, FitsSigned, MatchResult};
 ghost use Rattle.std.specs.Option.{SomeIff};
 ghost use Rattle.std.specs.Int.{w64};
-ghost use Rattle.wsm_bytecode.specs.declared.instr.CellType.TheVariants as types;
+ghost use Rattle.wsm_record.specs.declared.words.CellType.TheVariants as types;
 ghost use Rattle.wsm_machine.specs.declared.cell.Cell.TheVariants as cells;
 ghost use Rattle.wsm_bytecode.specs.Instructions.{Numbers, One, Alike};
 ghost use Rattle.wsm_machine.specs.Step.{has_types};

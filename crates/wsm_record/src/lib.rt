@@ -10,7 +10,7 @@ pub use name::Name;
 pub use names::Names;
 pub use reserved::is_keyword;
 pub use schema::{DeclaredField, Field, FieldType, Schema, SchemaRefusal, Ty};
-pub use words::{Form, Kind, Mode};
+pub use words::{CellType, Form, Kind, Mode};
 
 mod event;
 mod name;

@@ -22,6 +22,18 @@ pub enum Form {
     Rstream,
 }
 
+/// The type of a value that is computed: of an expression, a column, an accumulator or a place of
+/// the stack.
+#[derive(Clone, Copy, Debug, PartialEq, Eq)]
+pub enum CellType {
+    /// Whole numbers of 64 bits.
+    Int,
+    /// Truths.
+    Bool,
+    /// Names: of the keys (0), or of field `e - 1` (`e` from 1 on), which is an ENUM then.
+    Enum(u8),
+}
+
 /// How an aggregate folds the values of its records.
 #[derive(Clone, Copy, Debug, PartialEq, Eq)]
 pub enum Kind {

@@ -15,8 +15,8 @@ use Rattle.wsm_record.specs.declared.Kind.{Kind}
 use Rattle.wsm_record.specs.declared.Kind.TheVariants.{Sum, Min, Max, Any, All}
 use Rattle.wsm_record.specs.Schema.{FieldType, Int, Truth as IsTruth, Enum, DeclaredField}
 use Rattle.wsm_bytecode.specs.declared.Budget.{Budget as Stated}
-use Rattle.wsm_bytecode.specs.declared.CellType.{CellType}
-use Rattle.wsm_bytecode.specs.declared.CellType.TheVariants as column
+use Rattle.wsm_record.specs.declared.words.CellType.{CellType}
+use Rattle.wsm_record.specs.declared.words.CellType.TheVariants as column
 use Rattle.wsm_verifier.specs.declared.rejection.Rule.{Rule}
 use Rattle.wsm_verifier.specs.declared.rejection.Rule.TheVariants as rule
 use Rattle.wsm_verifier.specs.declared.rejection.Part.TheVariants.{Code, Budget}

@@ -10,8 +10,8 @@ use Rattle.wsm_record.specs.Schema.{FieldType, Int, Enum}
 use Rattle.wsm_record.specs.declared.Kind.{Kind}
 use Rattle.wsm_record.specs.declared.Mode.TheVariants.{Accumulating}
 use Rattle.wsm_record.specs.declared.Form.TheVariants.{Panes}
-use Rattle.wsm_bytecode.specs.declared.CellType.{CellType}
-use Rattle.wsm_bytecode.specs.declared.CellType.TheVariants as column
+use Rattle.wsm_record.specs.declared.words.CellType.{CellType}
+use Rattle.wsm_record.specs.declared.words.CellType.TheVariants as column
 use Rattle.wsm_bytecode.specs.declared.Instr.{Instr}
 use Rattle.wsm_verifier.specs.declared.rejection.Rule.{Rule}
 use Rattle.wsm_verifier.specs.declared.rejection.Rule.TheVariants as rule

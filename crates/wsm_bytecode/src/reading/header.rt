@@ -5,7 +5,6 @@ ghost use Rattle.wsm_bytecode.specs.View.{header_of as seen};
 ghost use Rattle.wsm_bytecode.specs.Reading.{Gives, several, after_magic, after_version, enum_number_at, column_at, columns_at, header_at};
 
 use crate::enums::name_count;
-use crate::instr::CellType;
 use crate::limits::{LATEST_TIME, LONGEST_SPAN, MAGIC, MAX_COLUMNS, VERSION};
 use crate::program::Header;
 use crate::reading::numbers::{byte_of, byte_within, i64_within};
@@ -13,7 +12,7 @@ use crate::reading::schema::schema_of;
 use crate::reading::settings::{budget_of, form_of, kinds_of, mode_of, shape_of};
 use crate::refusal::DecodeRefusal;
 use std::alloc::Global;
-use wsm_record::Schema;
+use wsm_record::{CellType, Schema};
 
 #[tactic(auto, unfolding(crate::specs::Reading::header_at))]
 pub(crate) fn header_of(alloc: Global, bytes: &[u8]) -> Result<(Header, &[u8]), DecodeRefusal>

@@ -5,13 +5,12 @@ ghost use Rattle.wsm_bytecode.specs.Program.{is_header};
 ghost use Rattle.wsm_bytecode.specs.View.{header_of};
 ghost use Rattle.wsm_bytecode.specs.Spelling.{shape as shape_bytes, mode as mode_bytes, form as form_bytes, kind as kind_bytes, kinds as kinds_bytes, column as column_bytes, columns as columns_bytes, budget as budget_bytes, header as header_bytes};
 
-use crate::instr::CellType;
 use crate::limits::{MAGIC, VERSION};
 use crate::program::{Budget, Header};
 use crate::writing::numbers::{put_i64, put_two, put_u8, put_u64};
 use crate::writing::schema::put_schema;
 use std::alloc::AllocError;
-use wsm_record::{Form, Kind, Mode};
+use wsm_record::{CellType, Form, Kind, Mode};
 use wsm_windows::Shape;
 
 pub(crate) fn put_header(out: &mut Vec<u8>, header: &Header) -> Result<(), AllocError>

@@ -1,5 +1,5 @@
 use Rattle.std.proofs.Common.{Bool, ◌&&◌, ◌∙◌, sym, ap}
-use Rattle.wsm_bytecode.specs.declared.instr.CellType.TheVariants as types
+use Rattle.wsm_record.specs.declared.words.CellType.TheVariants as types
 use Rattle.wsm_machine.specs.Step.{type_of, is_type}
 use Rattle.wsm_machine.proofs.Returns.{row_tested, no_row}
 use Rattle.wsm_machine.proofs.results.are_row.Goals as goal

@@ -1,8 +1,8 @@
 use Rattle.std.proofs.Common.{◌≡◌, ◌<◌, ◌∙◌, ℕ, pos, Bool, List, length, map, get_or, false, true, ap, sym, arith}
 use Rattle.std.proofs.lemmas.List.{length-map}
 use Rattle.std.proofs.Math.ListN.{get_or-map}
-use Rattle.wsm_bytecode.specs.declared.instr.CellType.{CellType}
-use Rattle.wsm_bytecode.specs.declared.instr.CellType.TheVariants as types
+use Rattle.wsm_record.specs.declared.words.CellType.{CellType}
+use Rattle.wsm_record.specs.declared.words.CellType.TheVariants as types
 use Rattle.wsm_machine.specs.declared.cell.Cell.{Cell}
 use Rattle.wsm_machine.specs.declared.cell.Cell.TheVariants as cells
 use Rattle.wsm_machine.specs.Step.{type_of, is_type}
