@@ -5,9 +5,11 @@ use Rattle.std.proofs.lemmas.List.{length-map, map-append, take_more}
 use Rattle.std.proofs.Math.Seq.{drop-cons}
 use Rattle.std.specs.List.{list_all, list_any}
 use Rattle.wsm_record.specs.Name.{is_among}
-use Rattle.wsm_query.specs.declared.query.Declared.{Declared as CodeField}
-use Rattle.wsm_query.specs.Tree.{Name, Ty, IntTy, BoolTy, EnumTy, Declared, Query}
-use Rattle.wsm_query.specs.Seen.{seen_field, seen_ty}
+use Rattle.wsm_record.specs.declared.schema.Field.{Field as CodeField}
+use Rattle.wsm_record.specs.Schema.{FieldType, DeclaredField}
+use Rattle.wsm_record.specs.Schema as field_types
+use Rattle.wsm_query.specs.Tree.{Name, Query}
+use Rattle.wsm_record.specs.Fields.{declared_field, declared_type}
 use Rattle.wsm_check.specs.declared.refusal.CheckRefusal.{CheckRefusal}
 use Rattle.wsm_check.specs.declared.refusal.CheckFault.{CheckFault}
 use Rattle.wsm_check.specs.declared.refusal.Part.{Part}
@@ -34,10 +36,10 @@ stops r s e (inr h) = inr (stopped r s e h)
 
 pub ruleset steps = (goes_on, stops)
 
-pub counted_names : (fields : List CodeField) → length (field_names (map seen_field fields)) ≡ length fields
-counted_names fields = length-map (map seen_field fields) (λ (d : Declared). d.name) ∙ length-map fields seen_field
+pub counted_names : (fields : List CodeField) → length (field_names (map declared_field fields)) ≡ length fields
+counted_names fields = length-map (map declared_field fields) (λ (d : DeclaredField). d.name) ∙ length-map fields declared_field
 
-pub among_fields : (x : Name) (fields : List CodeField) → is_among x (field_names (map seen_field fields)) ≡ list_any (λ f. bytes_eq x f.name) fields
+pub among_fields : (x : Name) (fields : List CodeField) → is_among x (field_names (map declared_field fields)) ≡ list_any (λ f. bytes_eq x f.name) fields
 among_fields x [] = refl
 among_fields x (f ∷ fields) = ap (λ b. bytes_eq x f.name || b) (among_fields x fields)
 
@@ -53,34 +55,34 @@ three_first None (Some f) d rest = refl
 three_first (Some f) b d rest = refl
 
 abbrev names_to : ℕ → List CodeField → List Name
-names_to i fields = field_names (map seen_field (take i fields))
+names_to i fields = field_names (map declared_field (take i fields))
 
 abbrev refusal_from : ℕ → List CodeField → Option CheckRefusal
-refusal_from i fields = fields_refusal (names_to i fields) (map seen_field (drop i fields))
+refusal_from i fields = fields_refusal (names_to i fields) (map declared_field (drop i fields))
 
 -- the check of a field, and of those behind it
 fields_next : (fields : List CodeField) (i : ℕ) (f : CodeField) → i < length fields → f ≡ get_or fields i f →
-    refusal_from i fields ≡ or_else (field_refusal (names_to i fields) (seen_field f)) (refusal_from (i + 1) fields)
+    refusal_from i fields ≡ or_else (field_refusal (names_to i fields) (declared_field f)) (refusal_from (i + 1) fields)
 fields_next fields i f h e =
     let before = names_to i fields in
     let p = part.Field (suc (length before)) in
     let rest : drop i fields ≡ f ∷ drop (suc i) fields = drop-cons fields i f h ∙ ap (λ y. y ∷ drop (suc i) fields) (sym e) in
     let more : before ++ f.name ∷ [] ≡ names_to (i + 1) fields =
-    sym (map-append (λ (d : Declared). d.name) (map seen_field (take i fields)) (seen_field f ∷ []))
-    ∙ ap field_names (sym (map-append seen_field (take i fields) (f ∷ [])))
-    ∙ ap (λ y. field_names (map seen_field (take i fields ++ y ∷ []))) e ∙ ap (λ (ds : List CodeField). field_names (map seen_field ds)) (sym (take_more fields i f h)) in
-    ap (λ (ds : List CodeField). fields_refusal before (map seen_field ds)) rest
-    ∙ three_first (unless (nat_lt (length before) 16) Limit p) (unless (not (is_among f.name before)) Duplicate p) (ty_refusal p (seen_ty f.ty)) (fields_refusal (before ++ f.name ∷ []) (map seen_field (drop (suc i) fields)))
-    ∙ ap₂ (λ (names : List Name) (n : ℕ). or_else (field_refusal before (seen_field f)) (fields_refusal names (map seen_field (drop n fields)))) more (sym (add-one i))
+    sym (map-append (λ (d : DeclaredField). d.name) (map declared_field (take i fields)) (declared_field f ∷ []))
+    ∙ ap field_names (sym (map-append declared_field (take i fields) (f ∷ [])))
+    ∙ ap (λ y. field_names (map declared_field (take i fields ++ y ∷ []))) e ∙ ap (λ (ds : List CodeField). field_names (map declared_field ds)) (sym (take_more fields i f h)) in
+    ap (λ (ds : List CodeField). fields_refusal before (map declared_field ds)) rest
+    ∙ three_first (unless (nat_lt (length before) 16) Limit p) (unless (not (is_among f.name before)) Duplicate p) (ty_refusal p (declared_type f.ty)) (fields_refusal (before ++ f.name ∷ []) (map declared_field (drop (suc i) fields)))
+    ∙ ap₂ (λ (names : List Name) (n : ℕ). or_else (field_refusal before (declared_field f)) (fields_refusal names (map declared_field (drop n fields)))) more (sym (add-one i))
 
-pub next_passed : (fields : List CodeField) (i : ℕ) (f : CodeField) → i < length fields → f ≡ get_or fields i f → fields_refusal [] (map seen_field fields) ≡ refusal_from i fields →
-    field_refusal (names_to i fields) (seen_field f) ≡ None → fields_refusal [] (map seen_field fields) ≡ refusal_from (i + 1) fields
-next_passed fields i f h e before passed = before ∙ fields_next fields i f h e ∙ none_behind (field_refusal (names_to i fields) (seen_field f)) (refusal_from (i + 1) fields) passed
+pub next_passed : (fields : List CodeField) (i : ℕ) (f : CodeField) → i < length fields → f ≡ get_or fields i f → fields_refusal [] (map declared_field fields) ≡ refusal_from i fields →
+    field_refusal (names_to i fields) (declared_field f) ≡ None → fields_refusal [] (map declared_field fields) ≡ refusal_from (i + 1) fields
+next_passed fields i f h e before passed = before ∙ fields_next fields i f h e ∙ none_behind (field_refusal (names_to i fields) (declared_field f)) (refusal_from (i + 1) fields) passed
 
-pub next_refused : (fields : List CodeField) (i : ℕ) (f : CodeField) (r : CheckRefusal) → i < length fields → f ≡ get_or fields i f → fields_refusal [] (map seen_field fields) ≡ refusal_from i fields →
-    Judges (Err r) (field_refusal (names_to i fields) (seen_field f)) → Judges (Err r) (fields_refusal [] (map seen_field fields))
+pub next_refused : (fields : List CodeField) (i : ℕ) (f : CodeField) (r : CheckRefusal) → i < length fields → f ≡ get_or fields i f → fields_refusal [] (map declared_field fields) ≡ refusal_from i fields →
+    Judges (Err r) (field_refusal (names_to i fields) (declared_field f)) → Judges (Err r) (fields_refusal [] (map declared_field fields))
 next_refused fields i f r h e before (inl m) = inl m
-next_refused fields i f r h e before (inr refused) = inr (before ∙ fields_next fields i f h e ∙ stopped (field_refusal (names_to i fields) (seen_field f)) (refusal_from (i + 1) fields) r refused)
+next_refused fields i f r h e before (inr refused) = inr (before ∙ fields_next fields i f h e ∙ stopped (field_refusal (names_to i fields) (declared_field f)) (refusal_from (i + 1) fields) r refused)
 
 five_first : (a b d e f rest : Option CheckRefusal) → or_else (or_else a (or_else b (or_else d (or_else e (or_else f None))))) rest ≡ or_else a (or_else b (or_else d (or_else e (or_else f rest))))
 five_first None None None None None rest = refl
@@ -109,27 +111,27 @@ passed_both (Some f) s h = cc
 pub few_of_names : (p : Part) (xs : List Name) → names_refusal p xs ≡ None → nat_le (length xs) 1000 ≡ true
 few_of_names p xs h = (and_parts (nat_le 1 (length xs)) _ (passed_unless (nat_le 1 (length xs) && nat_le (length xs) 1000) Limit p _ h).0).1
 
-few_in_type : (p : Part) (ty : Ty) → ty_refusal p ty ≡ None → nat_le (length (names_of ty)) 1000 ≡ true
-few_in_type p (IntTy lo hi) h = refl
-few_in_type p BoolTy h = refl
-few_in_type p (EnumTy names) h = few_of_names p names h
+few_in_type : (p : Part) (ty : FieldType) → ty_refusal p ty ≡ None → nat_le (length (names_of ty)) 1000 ≡ true
+few_in_type p (field_types.Int lo hi) h = refl
+few_in_type p field_types.Truth h = refl
+few_in_type p (field_types.Enum names) h = few_of_names p names h
 
 -- fields that passed behind others
-fields_passed : (names : List Name) (ds : List Declared) → length names ≤ 16 → fields_refusal names ds ≡ None → (length names + length ds ≤ 16) × (list_all few_names ds ≡ true)
+fields_passed : (names : List Name) (ds : List DeclaredField) → length names ≤ 16 → fields_refusal names ds ≡ None → (length names + length ds ≤ 16) × (list_all few_names ds ≡ true)
 fields_passed names [] l h = (omega arith, refl)
 fields_passed names (d ∷ ds) l h =
     let p = part.Field (suc (length names)) in
     let a = passed_unless (nat_lt (length names) 16) Limit p _ h in
     let b = passed_unless (not (is_among d.name names)) Duplicate p _ a.1 in
-    let e = passed_both (ty_refusal p d.ty) _ b.1 in
+    let e = passed_both (ty_refusal p d.type) _ b.1 in
     let f = passed_both (fields_refusal (names ++ d.name ∷ []) ds) None e.1 in
     let below = ltb-true (length names) 16 a.0 in
     let more = length-append names (d.name ∷ []) in
     let there = fields_passed (names ++ d.name ∷ []) ds (omega arith) f.0 in
-    (omega (arith, there.0), and_from (few_names d) (list_all few_names ds) (few_in_type p d.ty e.0) there.1)
+    (omega (arith, there.0), and_from (few_names d) (list_all few_names ds) (few_in_type p d.type e.0) there.1)
 
-pub few_fields : (fields : List CodeField) → fields_refusal [] (map seen_field fields) ≡ None → length fields ≤ 16
-few_fields fields h = let l = length-map fields seen_field in omega (arith, (fields_passed [] (map seen_field fields) (omega arith) h).0)
+pub few_fields : (fields : List CodeField) → fields_refusal [] (map declared_field fields) ≡ None → length fields ≤ 16
+few_fields fields h = let l = length-map fields declared_field in omega (arith, (fields_passed [] (map declared_field fields) (omega arith) h).0)
 
-pub short_lists : (ds : List Declared) → fields_refusal [] ds ≡ None → list_all few_names ds ≡ true
+pub short_lists : (ds : List DeclaredField) → fields_refusal [] ds ≡ None → list_all few_names ds ≡ true
 short_lists ds h = (fields_passed [] ds (omega arith) h).1

@@ -8,7 +8,9 @@ use Rattle.wsm_record.specs.declared.words.Form.TheVariants.{Panes}
 use Rattle.wsm_windows.specs.declared.window.Shape.{Shape}
 use Rattle.wsm_windows.specs.declared.window.Shape.TheVariants.{Fixed, Sliding, Session}
 use Rattle.wsm_windows.specs.Life.{live_bound}
-use Rattle.wsm_query.specs.Tree.{Name, Ty, IntTy, BoolTy, EnumTy, Declared, Budget, Query, Expr}
+use Rattle.wsm_record.specs.Schema.{FieldType, DeclaredField}
+use Rattle.wsm_record.specs.Schema as field_types
+use Rattle.wsm_query.specs.Tree.{Name, Budget, Query, Expr}
 use Rattle.wsm_check.specs.declared.refusal.CheckFault.{CheckFault}
 use Rattle.wsm_check.specs.declared.refusal.CheckFault.TheVariants.{Duplicate, Limit, StreamNeedsAccumulating}
 use Rattle.wsm_check.specs.declared.refusal.Part.{Part}
@@ -39,23 +41,23 @@ in_range lo hi n = int_le lo n && int_le n hi
 abbrev pub names_refusal : Part → List Name → Option CheckRefusal
 names_refusal p xs = first (unless (nat_le 1 (length xs) && nat_le (length xs) 1000) Limit p ∷ unless (not (has_repeats xs)) Duplicate p ∷ [])
 
-abbrev pub ty_refusal : Part → Ty → Option CheckRefusal
-ty_refusal p (IntTy lo hi) = unless (int_le lo hi) Limit p
-ty_refusal p BoolTy = None
-ty_refusal p (EnumTy names) = names_refusal p names
+abbrev pub ty_refusal : Part → FieldType → Option CheckRefusal
+ty_refusal p (field_types.Int lo hi) = unless (int_le lo hi) Limit p
+ty_refusal p field_types.Truth = None
+ty_refusal p (field_types.Enum names) = names_refusal p names
 
 -- of a field behind those with the names: at most 16, and none of a name twice
-abbrev pub field_refusal : List Name → Declared → Option CheckRefusal
+abbrev pub field_refusal : List Name → DeclaredField → Option CheckRefusal
 field_refusal names d =
     let p = part.Field (suc (length names)) in
-    first (unless (nat_lt (length names) 16) Limit p ∷ unless (not (is_among d.name names)) Duplicate p ∷ ty_refusal p d.ty ∷ [])
+    first (unless (nat_lt (length names) 16) Limit p ∷ unless (not (is_among d.name names)) Duplicate p ∷ ty_refusal p d.type ∷ [])
 
 -- of the fields behind those with the names: at most 16, and none of a name twice
-abbrev pub fields_refusal : List Name → List Declared → Option CheckRefusal
+abbrev pub fields_refusal : List Name → List DeclaredField → Option CheckRefusal
 fields_refusal names [] = None
 fields_refusal names (d ∷ ds) =
     let p = part.Field (suc (length names)) in
-    first (unless (nat_lt (length names) 16) Limit p ∷ unless (not (is_among d.name names)) Duplicate p ∷ ty_refusal p d.ty ∷ fields_refusal (names ++ d.name ∷ []) ds ∷ [])
+    first (unless (nat_lt (length names) 16) Limit p ∷ unless (not (is_among d.name names)) Duplicate p ∷ ty_refusal p d.type ∷ fields_refusal (names ++ d.name ∷ []) ds ∷ [])
 
 abbrev pub is_time : ℤ → Bool
 is_time n = in_range (pos 0) (pos 10000000000000000) n

@@ -2,7 +2,9 @@
 use Rattle.std.specs.Prelude.{◌≡◌, ◌<◌, ℕ, Bool, true, false, ◌||◌, cond, List, [], ◌∷◌, map, length, bytes_eq}
 use Rattle.std.specs.List.{position_or_len}
 use Rattle.wsm_record.specs.Name.{is_among}
-use Rattle.wsm_query.specs.Tree.{Name, Ty, IntTy, BoolTy, EnumTy, Declared}
+use Rattle.wsm_record.specs.Schema.{FieldType, DeclaredField}
+use Rattle.wsm_record.specs.Schema as field_types
+use Rattle.wsm_query.specs.Tree.{Name}
 
 -- the number of names before it, so its number where it is among them
 abbrev pub place_of : Name → List Name → ℕ
@@ -12,33 +14,33 @@ abbrev pub has_repeats : List Name → Bool
 has_repeats [] = false
 has_repeats (x ∷ xs) = is_among x xs || has_repeats xs
 
-abbrev pub field_names : List Declared → List Name
+abbrev pub field_names : List DeclaredField → List Name
 field_names ds = map (λ d. d.name) ds
 
 -- the number of a field
-abbrev pub field_place : List Declared → Name → ℕ
+abbrev pub field_place : List DeclaredField → Name → ℕ
 field_place ds x = place_of x (field_names ds)
 
 -- the names that a type declares
-abbrev pub names_of : Ty → List Name
-names_of (IntTy lo hi) = []
-names_of BoolTy = []
-names_of (EnumTy names) = names
+abbrev pub names_of : FieldType → List Name
+names_of (field_types.Int lo hi) = []
+names_of field_types.Truth = []
+names_of (field_types.Enum names) = names
 
 -- the type of the first field of that name; a name that no field has is refused elsewhere
-abbrev pub type_of : Name → List Declared → Ty
-type_of x [] = BoolTy
-type_of x (d ∷ ds) = cond (bytes_eq x d.name) d.ty (type_of x ds)
+abbrev pub type_of : Name → List DeclaredField → FieldType
+type_of x [] = field_types.Truth
+type_of x (d ∷ ds) = cond (bytes_eq x d.name) d.type (type_of x ds)
 
 -- a field of that name is declared, one of the first 16, with this number and type
-pub record Found (ds : List Declared) (x : Name) (number : ℕ) (ty : Ty) : Type 0 where
+pub record Found (ds : List DeclaredField) (x : Name) (number : ℕ) (ty : FieldType) : Type 0 where
   pub there : is_among x (field_names ds) ≡ true
   pub few : number < 16
   pub place : number ≡ field_place ds x
   pub declared : ty ≡ type_of x ds
 
 -- no field of that name is declared
-pub record Absent (ds : List Declared) (x : Name) : Type 0 where
+pub record Absent (ds : List DeclaredField) (x : Name) : Type 0 where
   pub there : is_among x (field_names ds) ≡ false
   pub place : field_place ds x ≡ length ds
-  pub declared : type_of x ds ≡ BoolTy
+  pub declared : type_of x ds ≡ field_types.Truth

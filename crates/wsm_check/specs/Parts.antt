@@ -5,7 +5,8 @@ use Rattle.wsm_record.specs.declared.words.Kind.{Kind}
 use Rattle.wsm_record.specs.declared.words.Mode.{Mode}
 use Rattle.wsm_record.specs.declared.words.Form.{Form}
 use Rattle.wsm_windows.specs.declared.window.Shape.{Shape}
-use Rattle.wsm_query.specs.Tree.{Name, Declared, Budget, Query, Expr}
+use Rattle.wsm_record.specs.Schema.{DeclaredField}
+use Rattle.wsm_query.specs.Tree.{Name, Budget, Query, Expr}
 use Rattle.wsm_record.specs.declared.words.CellType.{CellType}
 use Rattle.wsm_record.specs.declared.words.CellType.TheVariants as types
 use Rattle.wsm_check.specs.Types.{Typed, InColumn, typed}
@@ -25,7 +26,7 @@ pub record Column : Type 0 where
 
 pub record Parts : Type 0 where
   pub keys : List Name
-  pub fields : List Declared
+  pub fields : List DeclaredField
   pub start : ℤ
   pub skew : ℤ
   pub lateness : ℤ

@@ -1,7 +1,8 @@
 -- What the code has of a checked query, without pointers.
 use Rattle.std.specs.Prelude.{◌≡◌, map, option_map}
 use Rattle.wsm_query.specs.Tree.{Query}
-use Rattle.wsm_query.specs.Seen.{seen_budget, seen_field}
+use Rattle.wsm_record.specs.Fields.{declared_field}
+use Rattle.wsm_query.specs.Seen.{seen_budget}
 use Rattle.wsm_check.specs.declared.term.Term.{Term as Code}
 use Rattle.wsm_check.specs.declared.term.Term.TheVariants as code
 use Rattle.wsm_check.specs.declared.parts.Folding.{Folding as CodeFolding}
@@ -35,7 +36,7 @@ seen_column c = record { ty = c.ty; term = seen_term c.term }
 abbrev pub seen_parts : CodeParts → Parts
 seen_parts p = record {
   keys = p.keys.items;
-  fields = map seen_field p.fields.items;
+  fields = map declared_field p.fields.items;
   start = p.start;
   skew = p.skew;
   lateness = p.lateness;

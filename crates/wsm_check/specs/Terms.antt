@@ -3,7 +3,8 @@ use Rattle.std.specs.Prelude.{ℕ, suc, ◌+◌, Bool, true, ◌&&◌, length, n
 use Rattle.std.specs.List.{list_all}
 use Rattle.wsm_query.specs.declared.expr.Op.{Op}
 use Rattle.wsm_query.specs.Tree as tree
-use Rattle.wsm_query.specs.Tree.{Declared, Query, Expr, EnumName, KeyName, Aggregate, Brackets}
+use Rattle.wsm_record.specs.Schema.{DeclaredField}
+use Rattle.wsm_query.specs.Tree.{Query, Expr, EnumName, KeyName, Aggregate, Brackets}
 use Rattle.wsm_check.specs.Names.{place_of, field_place, type_of, names_of}
 use Rattle.wsm_check.specs.Sizes.{aggregates}
 
@@ -53,8 +54,8 @@ is_flat (tree.And x y) = is_flat x && is_flat y
 is_flat (tree.Or x y) = is_flat x && is_flat y
 is_flat _ = true
 
-abbrev pub few_names : Declared → Bool
-few_names d = nat_le (length (names_of d.ty)) 1000
+abbrev pub few_names : DeclaredField → Bool
+few_names d = nat_le (length (names_of d.type)) 1000
 
 -- at most 1,000 names in each list
 abbrev pub has_few_names : Query → Bool

@@ -7,7 +7,9 @@ use Rattle.wsm_record.specs.declared.words.Kind.TheVariants.{Sum, Min, Max, Any,
 use Rattle.wsm_record.specs.Name.{is_among}
 use Rattle.wsm_query.specs.declared.expr.Op.{Op}
 use Rattle.wsm_query.specs.declared.expr.Op.TheVariants.{Add, Sub, Mul, Div, Rem, Eq, Ne, Lt, Le, Gt, Ge}
-use Rattle.wsm_query.specs.Tree.{Name, Ty, IntTy, BoolTy, EnumTy, Query, Expr, Number, Truth, Field, EnumName, Key, KeyName, Count, Aggregate, If, Brackets, Minus, Not, Binary, And, Or}
+use Rattle.wsm_record.specs.Schema.{FieldType}
+use Rattle.wsm_record.specs.Schema as field_types
+use Rattle.wsm_query.specs.Tree.{Name, Query, Expr, Number, Truth, Field, EnumName, Key, KeyName, Count, Aggregate, If, Brackets, Minus, Not, Binary, And, Or}
 use Rattle.wsm_check.specs.declared.refusal.CheckFault.{CheckFault}
 use Rattle.wsm_check.specs.declared.refusal.CheckFault.TheVariants.{UnknownName, FieldOutsideAggregate, AggregateNested, AggregateInWhere}
 use Rattle.wsm_check.specs.declared.refusal.CheckFault.TheVariants as fault
@@ -36,10 +38,10 @@ if_typed (Err f) go = Err f
 abbrev pub if_both : Typed → Typed → (CellType → CellType → Typed) → Typed
 if_both x y go = if_typed x (λ t. if_typed y (λ u. go t u))
 
-abbrev pub declared_ty : ℕ → Ty → CellType
-declared_ty f (IntTy lo hi) = types.Int
-declared_ty f BoolTy = types.Bool
-declared_ty f (EnumTy names) = types.Enum (suc f)
+abbrev pub declared_ty : ℕ → FieldType → CellType
+declared_ty f (field_types.Int lo hi) = types.Int
+declared_ty f field_types.Truth = types.Bool
+declared_ty f (field_types.Enum names) = types.Enum (suc f)
 
 -- a field is read in WHERE and in an aggregate alone
 abbrev pub read_at : Around → CellType → Typed

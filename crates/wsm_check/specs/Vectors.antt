@@ -5,7 +5,9 @@ use Rattle.wsm_record.specs.declared.words.Mode.TheVariants.{Discarding, Accumul
 use Rattle.wsm_record.specs.declared.words.Form.TheVariants.{Panes, Istream}
 use Rattle.wsm_windows.specs.declared.window.Shape.TheVariants.{Fixed, Sliding}
 use Rattle.wsm_query.specs.declared.expr.Op.TheVariants.{Add, Eq, Gt}
-use Rattle.wsm_query.specs.Tree.{Query, Ty, IntTy, BoolTy, EnumTy, Declared, Expr, Number, Truth, Field, EnumName, Key, KeyName, Count, Aggregate, If, Binary}
+use Rattle.wsm_record.specs.Schema.{FieldType, DeclaredField}
+use Rattle.wsm_record.specs.Schema as field_types
+use Rattle.wsm_query.specs.Tree.{Query, Expr, Number, Truth, Field, EnumName, Key, KeyName, Count, Aggregate, If, Binary}
 use Rattle.wsm_check.specs.declared.refusal.CheckFault.{CheckFault}
 use Rattle.wsm_check.specs.declared.refusal.CheckFault.TheVariants.{UnknownName, Duplicate, FieldOutsideAggregate, AggregateNested, AggregateInWhere, Limit, StreamNeedsAccumulating}
 use Rattle.wsm_check.specs.declared.refusal.CheckFault.TheVariants as fault
@@ -24,14 +26,14 @@ m = Field (codes "m")
 abbrev one : Expr
 one = Number (pos 1)
 
-abbrev field : List ℕ → Ty → Declared
-field name ty = record { name = name; ty = ty }
+abbrev field : List ℕ → FieldType → DeclaredField
+field name ty = record { name = name; type = ty }
 
 -- `SELECT COUNT(*), SUM(n)` in fixed windows of 60
 abbrev base : Query
 base = record {
   keys = codes "a" ∷ codes "b" ∷ [];
-  fields = field (codes "n") (IntTy (pos 0) (pos 100)) ∷ [];
+  fields = field (codes "n") (field_types.Int (pos 0) (pos 100)) ∷ [];
   start = pos 0;
   skew = pos 100;
   lateness = pos 10;
@@ -56,7 +58,7 @@ having e = refusal (record base { having = Some e })
 abbrev filtered : Expr → Option CheckRefusal
 filtered e = refusal (record base { condition = Some e })
 
-abbrev declaring : List Declared → Option CheckRefusal
+abbrev declaring : List DeclaredField → Option CheckRefusal
 declaring fields = refusal (record base { fields = fields; columns = Count ∷ [] })
 
 abbrev refused : CheckFault → Part → Option CheckRefusal
@@ -102,8 +104,8 @@ having_a_number = refl
 where_before_columns : refusal (record base { condition = Some one; columns = m ∷ [] }) ≡ refused fault.Type part.Where
 where_before_columns = refl
 
-abbrev two_colors : List Declared
-two_colors = field (codes "f") (EnumTy (codes "x" ∷ [])) ∷ field (codes "g") (EnumTy (codes "x" ∷ [])) ∷ []
+abbrev two_colors : List DeclaredField
+two_colors = field (codes "f") (field_types.Enum (codes "x" ∷ [])) ∷ field (codes "g") (field_types.Enum (codes "x" ∷ [])) ∷ []
 
 -- two fields' names are two types, also where they are the same
 names_of_two_fields : refusal (record base { fields = two_colors; columns = Count ∷ []; condition = Some (Binary Eq (Field (codes "f")) (EnumName (codes "g") (codes "x"))) }) ≡ refused fault.Type part.Where
@@ -127,16 +129,16 @@ key_twice = refl
 no_keys : refusal (record base { keys = [] }) ≡ refused Limit part.Keys
 no_keys = refl
 
-field_twice : declaring (field (codes "n") BoolTy ∷ field (codes "n") (IntTy (pos 2) (pos 1)) ∷ []) ≡ refused Duplicate (part.Field 2)
+field_twice : declaring (field (codes "n") field_types.Truth ∷ field (codes "n") (field_types.Int (pos 2) (pos 1)) ∷ []) ≡ refused Duplicate (part.Field 2)
 field_twice = refl
 
-empty_range : declaring (field (codes "n") (IntTy (pos 2) (pos 1)) ∷ []) ≡ refused Limit (part.Field 1)
+empty_range : declaring (field (codes "n") (field_types.Int (pos 2) (pos 1)) ∷ []) ≡ refused Limit (part.Field 1)
 empty_range = refl
 
-least_range : declaring (field (codes "n") (IntTy (negsuc 1) (negsuc 1)) ∷ []) ≡ None
+least_range : declaring (field (codes "n") (field_types.Int (negsuc 1) (negsuc 1)) ∷ []) ≡ None
 least_range = refl
 
-name_twice : declaring (field (codes "n") (EnumTy (codes "x" ∷ codes "y" ∷ codes "x" ∷ [])) ∷ []) ≡ refused Duplicate (part.Field 1)
+name_twice : declaring (field (codes "n") (field_types.Enum (codes "x" ∷ codes "y" ∷ codes "x" ∷ [])) ∷ []) ≡ refused Duplicate (part.Field 1)
 name_twice = refl
 
 -- numbers

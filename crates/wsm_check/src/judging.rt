@@ -1,7 +1,8 @@
 //! The checks of a query, in their order: the first that fails refuses it.
 
 ghost use Rattle.std.specs.Prelude.{◌≡◌, ◌≤◌, ◌+◌, [], length, map, option_map, true, not, OnOk};
-ghost use Rattle.wsm_query.specs.Seen.{seen, seen_expr, seen_field, seen_ty};
+ghost use Rattle.wsm_record.specs.Fields.{declared_field, declared_type};
+ghost use Rattle.wsm_query.specs.Seen.{seen, seen_expr};
 ghost use Rattle.wsm_check.specs.Names.{field_names, has_repeats};
 ghost use Rattle.wsm_check.specs.Checks.{Judges, clock_fits, columns_refusal, condition_refusal, field_refusal, fields_refusal, grouped_refusal, names_refusal, numbers_refusal, refusal, shape_fits, ty_refusal, typed_refusal, unless};
 ghost use Rattle.wsm_check.specs.Types.{InColumn, typed};
@@ -12,8 +13,8 @@ use crate::names::is_among_fields;
 use crate::refusal::{CheckFault, CheckRefusal, Part};
 use crate::types::{Around, judge_condition, type_of};
 use std::alloc::Global;
-use wsm_query::{Declared, Expr, Query, Ty};
-use wsm_record::{Name, Names, SchemaRefusal};
+use wsm_query::{Expr, Query};
+use wsm_record::{Field, Name, Names, SchemaRefusal, Ty};
 
 const MAX_NAMES: usize = 1000;
 
@@ -56,7 +57,7 @@ fn judge_repeats(alloc: Global, part: Part, names: &[Name]) -> Result<(), CheckR
 }
 
 fn judge_ty(alloc: Global, part: Part, ty: &Ty) -> Result<(), CheckRefusal>
-    ensures { Judges result (ty_refusal part (seen_ty ty.now)) }
+    ensures { Judges result (ty_refusal part (declared_type ty.now)) }
 {
     match ty {
         Ty::Int { lo, hi } => want(lo <= hi, CheckFault::Limit, part),
@@ -67,8 +68,8 @@ fn judge_ty(alloc: Global, part: Part, ty: &Ty) -> Result<(), CheckRefusal>
 
 // At most 16 fields, and none of a name twice.
 #[tactic(auto, using(crate::proofs::Following::next_passed, crate::proofs::Following::next_refused))]
-fn judge_fields(alloc: Global, fields: &[Declared]) -> Result<(), CheckRefusal>
-    ensures judged { Judges result (fields_refusal [] (map seen_field fields.now)) }
+fn judge_fields(alloc: Global, fields: &[Field]) -> Result<(), CheckRefusal>
+    ensures judged { Judges result (fields_refusal [] (map declared_field fields.now)) }
     ensures few { OnOk result (length fields.now ≤ MAX_FIELDS) }
 {
     for (i, field) in fields.iter().enumerate() {
@@ -79,8 +80,8 @@ fn judge_fields(alloc: Global, fields: &[Declared]) -> Result<(), CheckRefusal>
 
 // A field behind others.
 #[tactic(auto, using(crate::proofs::Following::steps, crate::proofs::Following::counted_names))]
-fn judge_field(alloc: Global, before: &[Declared], field: &Declared) -> Result<(), CheckRefusal>
-    ensures { Judges result (field_refusal (field_names (map seen_field before.now)) (seen_field field.now)) }
+fn judge_field(alloc: Global, before: &[Field], field: &Field) -> Result<(), CheckRefusal>
+    ensures { Judges result (field_refusal (field_names (map declared_field before.now)) (declared_field field.now)) }
 {
     let part = Part::Field(before.len() as u64 + 1);
     want(before.len() < MAX_FIELDS, CheckFault::Limit, part)?;

@@ -3,11 +3,10 @@
 ghost use Rattle.std.specs.Prelude.{◌≡◌, ◌≤◌, map, length, position, bytes_eq, MatchOption};
 ghost use Rattle.std.specs.List.{list_any};
 ghost use Rattle.wsm_record.specs.Name as rule;
-ghost use Rattle.wsm_query.specs.Seen.{seen_field, seen_ty};
+ghost use Rattle.wsm_record.specs.Fields.{declared_field, declared_type};
 ghost use Rattle.wsm_check.specs.Names.{Absent, Found, field_names, place_of};
 
-use wsm_query::{Declared, Ty};
-use wsm_record::Name;
+use wsm_record::{Field, Name, Ty};
 
 /// Whether a name is one of these.
 pub fn is_among(name: &Name, names: &[Name]) -> bool
@@ -34,11 +33,11 @@ fn find(name: &Name, names: &[Name]) -> Option<usize>
 }
 
 /// The first field of a name: its number and its type.
-pub fn find_field<'a>(fields: &'a [Declared], name: &Name) -> Option<(u8, &'a Ty)>
+pub fn find_field<'a>(fields: &'a [Field], name: &Name) -> Option<(u8, &'a Ty)>
     requires { length fields.now ≤ 16 }
     ensures { MatchOption result
-        (Absent (map seen_field fields.now) name.now)
-        (λ found. Found (map seen_field fields.now) name.now found.0 (seen_ty found.1.now)) }
+        (Absent (map declared_field fields.now) name.now)
+        (λ found. Found (map declared_field fields.now) name.now found.0 (declared_type found.1.now)) }
 {
     for (number, field) in fields.iter().enumerate() {
         if *name == field.name {
@@ -49,13 +48,13 @@ pub fn find_field<'a>(fields: &'a [Declared], name: &Name) -> Option<(u8, &'a Ty
 }
 
 /// Whether a field has the name.
-pub fn is_among_fields(name: &Name, fields: &[Declared]) -> bool
-    ensures { result ≡ rule.is_among name.now (field_names (map seen_field fields.now)) }
+pub fn is_among_fields(name: &Name, fields: &[Field]) -> bool
+    ensures { result ≡ rule.is_among name.now (field_names (map declared_field fields.now)) }
 {
     has_name(fields, name)
 }
 
-fn has_name(fields: &[Declared], name: &Name) -> bool
+fn has_name(fields: &[Field], name: &Name) -> bool
     ensures { result ≡ list_any (λ f. bytes_eq name.now f.name) fields.now }
 {
     fields.iter().any(|field| *name == field.name)

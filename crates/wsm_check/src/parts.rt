@@ -1,8 +1,8 @@
 //! What a checked query has.
 
 use crate::term::Term;
-use wsm_query::{Budget, Declared};
-use wsm_record::{CellType, Form, Kind, Mode, Name};
+use wsm_query::Budget;
+use wsm_record::{CellType, Field, Form, Kind, Mode, Name};
 use wsm_windows::Shape;
 
 /// What an accumulator folds.
@@ -25,7 +25,7 @@ pub struct Column {
 #[derive(Debug, Drop)]
 pub struct Parts {
     pub keys: Vec<Name>,
-    pub fields: Vec<Declared>,
+    pub fields: Vec<Field>,
     /// Where the watermark starts, in event time.
     pub start: i64,
     /// How far ahead of the watermark a record may be, in event time.

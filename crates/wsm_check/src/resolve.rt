@@ -2,7 +2,8 @@
 
 ghost use Rattle.std.specs.Prelude.{◌≡◌, ◌≤◌, ◌<◌, ◌+◌, ◌++◌, ◌∷◌, [], suc, map, length, true, IfOk, OnOk};
 ghost use Rattle.std.specs.List.{list_all};
-ghost use Rattle.wsm_query.specs.Seen.{seen, seen_expr, seen_field, seen_ty};
+ghost use Rattle.wsm_record.specs.Fields.{declared_field, declared_type};
+ghost use Rattle.wsm_query.specs.Seen.{seen, seen_expr};
 ghost use Rattle.wsm_check.specs.Names as name_rule;
 ghost use Rattle.wsm_check.specs.Names.{field_place, names_of, type_of};
 ghost use Rattle.wsm_check.specs.Sizes.{accumulators_of, aggregates};
@@ -15,8 +16,8 @@ use crate::names::{find_field, place_of};
 use crate::parts::Folding;
 use crate::term::Term;
 use std::alloc::{AllocError, Global};
-use wsm_query::{Declared, Expr, Query, Ty};
-use wsm_record::{Kind, Name};
+use wsm_query::{Expr, Query};
+use wsm_record::{Field, Kind, Name, Ty};
 
 /// The term of an expression. Each of its aggregates gets an accumulator behind those that are there.
 #[cycle(resolve)]
@@ -119,9 +120,9 @@ fn accumulator(
     Ok(Term::Accumulator(number))
 }
 
-fn place_of_field(field: &Name, fields: &[Declared]) -> u8
+fn place_of_field(field: &Name, fields: &[Field]) -> u8
     requires { length fields.now ≤ 16 }
-    ensures { result ≡ field_place (map seen_field fields.now) field.now }
+    ensures { result ≡ field_place (map declared_field fields.now) field.now }
 {
     match find_field(fields, field) {
         Some((number, _)) => number,
@@ -131,10 +132,10 @@ fn place_of_field(field: &Name, fields: &[Declared]) -> u8
 
 // The name of a field's ENUM.
 #[tactic(auto, using(crate::proofs::Naming::few_named))]
-fn name_of_field(fields: &[Declared], field: &Name, name: &Name) -> Term
+fn name_of_field(fields: &[Field], field: &Name, name: &Name) -> Term
     requires fields { length fields.now ≤ 16 }
-    requires names { list_all few_names (map seen_field fields.now) ≡ true }
-    ensures { seen_term result ≡ Named (suc (field_place (map seen_field fields.now) field.now)) (name_rule.place_of name.now (names_of (type_of field.now (map seen_field fields.now)))) }
+    requires names { list_all few_names (map declared_field fields.now) ≡ true }
+    ensures { seen_term result ≡ Named (suc (field_place (map declared_field fields.now) field.now)) (name_rule.place_of name.now (names_of (type_of field.now (map declared_field fields.now)))) }
 {
     match find_field(fields, field) {
         Some((number, ty)) => Term::Name(number + 1, place_in_type(name, ty)),
@@ -144,8 +145,8 @@ fn name_of_field(fields: &[Declared], field: &Name, name: &Name) -> Term
 
 // The number of a name in the list of its type.
 fn place_in_type(name: &Name, ty: &Ty) -> u16
-    requires { length (names_of (seen_ty ty.now)) ≤ 1000 }
-    ensures { result ≡ name_rule.place_of name.now (names_of (seen_ty ty.now)) }
+    requires { length (names_of (declared_type ty.now)) ≤ 1000 }
+    ensures { result ≡ name_rule.place_of name.now (names_of (declared_type ty.now)) }
 {
     match ty {
         Ty::Enum(names) => place_of(name, names) as u16,

@@ -3,11 +3,10 @@
 ghost use Rattle.std.specs.Prelude.{◌≡◌, map, true};
 ghost use Rattle.std.specs.List.{list_all};
 ghost use Rattle.wsm_record.specs.Name.{is_name};
-ghost use Rattle.wsm_query.specs.Seen.{seen_field};
+ghost use Rattle.wsm_record.specs.Fields.{declared_field};
 ghost use Rattle.wsm_check.specs.Spelt.{is_spelt_field};
 
-use wsm_query::{Declared, Ty};
-use wsm_record::Name;
+use wsm_record::{Field, Name, Ty};
 
 /// Each name is one.
 #[tactic(auto, using(crate::proofs::Spellings::all_more))]
@@ -20,23 +19,23 @@ pub fn are_names(names: &[Name])
 }
 
 /// Names and numbers of fields are in range.
-pub fn are_spelt(fields: &[Declared])
-    ensures { list_all is_spelt_field (map seen_field fields.now) ≡ true }
+pub fn are_spelt(fields: &[Field])
+    ensures { list_all is_spelt_field (map declared_field fields.now) ≡ true }
 {
     each_is_spelt(fields);
 }
 
 #[tactic(auto, using(crate::proofs::Spellings::all_more))]
-fn each_is_spelt(fields: &[Declared])
-    ensures { list_all (λ d. is_spelt_field (seen_field d)) fields.now ≡ true }
+fn each_is_spelt(fields: &[Field])
+    ensures { list_all (λ d. is_spelt_field (declared_field d)) fields.now ≡ true }
 {
     for field in fields {
         is_spelt(field);
     }
 }
 
-fn is_spelt(field: &Declared)
-    ensures { is_spelt_field (seen_field field.now) ≡ true }
+fn is_spelt(field: &Field)
+    ensures { is_spelt_field (declared_field field.now) ≡ true }
 {
     field.name.is_spelt();
     match &field.ty {

@@ -3,14 +3,15 @@
 ghost use Rattle.std.specs.Prelude.{◌≡◌, ◌≤◌, ◌<◌, cond, length, Ok, Err, IfOk, IfErr};
 ghost use Rattle.wsm_record.specs.Name as name_rule;
 ghost use Rattle.wsm_query.specs.Tree.{Aggregate};
-ghost use Rattle.wsm_query.specs.Seen.{seen, seen_expr, seen_ty as seen_declared};
+ghost use Rattle.wsm_record.specs.Fields.{declared_type};
+ghost use Rattle.wsm_query.specs.Seen.{seen, seen_expr};
 ghost use Rattle.wsm_check.specs.Types as rule;
 ghost use Rattle.wsm_check.specs.Types.{entered, enum_ty, field_ty, op_ty, typed, typed_condition, wanted};
 
 use crate::names::{find_field, is_among};
 use crate::refusal::CheckFault;
-use wsm_query::{Expr, Op, Query, Ty};
-use wsm_record::{CellType, Kind, Name};
+use wsm_query::{Expr, Op, Query};
+use wsm_record::{CellType, Kind, Name, Ty};
 
 /// Where an expression stands.
 #[derive(Clone, Copy, Debug, PartialEq, Eq)]
@@ -141,7 +142,7 @@ fn type_of_field(query: &Query, around: Around, field: &Name) -> Result<CellType
 
 fn declared_ty(number: u8, ty: &Ty) -> CellType
     requires { number < 16 }
-    ensures { result ≡ rule.declared_ty number (seen_declared ty.now) }
+    ensures { result ≡ rule.declared_ty number (declared_type ty.now) }
 {
     match ty {
         Ty::Int { .. } => CellType::Int,

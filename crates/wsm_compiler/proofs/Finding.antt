@@ -12,7 +12,9 @@ use Rattle.wsm_bytecode.specs.declared.instr.Instr.TheVariants as instr
 use Rattle.wsm_bytecode.specs.declared.operation.Operation.TheVariants as operation
 use Rattle.wsm_query.specs.declared.expr.Op.{Op}
 use Rattle.wsm_query.specs.declared.expr.Op.TheVariants.{Add, Sub, Mul, Div, Rem, Eq, Ne, Lt, Le, Gt, Ge}
-use Rattle.wsm_query.specs.Tree.{Name, Ty, IntTy, BoolTy, EnumTy, Query, Expr, Number, Truth, Field, EnumName, Key, KeyName, Count, Aggregate, If, Brackets, Minus, Not, Binary, And, Or}
+use Rattle.wsm_record.specs.Schema.{FieldType}
+use Rattle.wsm_record.specs.Schema as field_types
+use Rattle.wsm_query.specs.Tree.{Name, Query, Expr, Number, Truth, Field, EnumName, Key, KeyName, Count, Aggregate, If, Brackets, Minus, Not, Binary, And, Or}
 use Rattle.wsm_check.specs.Names.{field_names, field_place, type_of, names_of}
 use Rattle.wsm_record.specs.declared.words.CellType.{CellType}
 use Rattle.wsm_record.specs.declared.words.CellType.TheVariants as types
@@ -120,10 +122,10 @@ unary_is q around x u w e =
 suits_at : (r : Range) (u t : CellType) → u ≡ t → suits u r ≡ true → suits t r ≡ true
 suits_at r u t e h = subst (λ x. suits x r ≡ true) e h
 
-declared_suits : (f : ℕ) (ty : Ty) → suits (declared_ty f ty) (of_type ty) ≡ true
-declared_suits f (IntTy lo hi) = refl
-declared_suits f BoolTy = refl
-declared_suits f (EnumTy names) = refl
+declared_suits : (f : ℕ) (ty : FieldType) → suits (declared_ty f ty) (of_type ty) ≡ true
+declared_suits f (field_types.Int lo hi) = refl
+declared_suits f field_types.Truth = refl
+declared_suits f (field_types.Enum names) = refl
 
 sum_suits : (n : ℤ) (x : Interval) → suits types.Int (of_sum n x) ≡ true
 sum_suits n x = elim (in_i64 (n *ℤ x.lo) && in_i64 (n *ℤ x.hi)) as (λ b. suits types.Int (cond b (Within (interval (int_min x.lo (n *ℤ x.lo)) (int_max x.hi (n *ℤ x.hi)))) Unfit) ≡ true) [ true ↦ refl | false ↦ refl ]

@@ -15,7 +15,9 @@ use Rattle.wsm_interval.specs.Interval.{in_i64}
 use Rattle.wsm_bytecode.specs.declared.instr.Instr.{Instr}
 use Rattle.wsm_bytecode.specs.declared.program.Budget.{Budget as Stated}
 use Rattle.wsm_bytecode.specs.Program.{Header, is_name_list, is_field_type, is_field_after, are_fields_after, is_schema, is_span, is_size, is_within, is_shape, is_form_of, is_column, is_clock, is_firing, is_row, is_budget, is_header, is_instr, is_section, is_program}
-use Rattle.wsm_query.specs.Tree.{Name, Ty, IntTy, BoolTy, EnumTy, Declared, Query, Expr, Number, Truth, Field, EnumName, Key, KeyName, Count, Aggregate, If, Brackets, Minus, Not, Binary, And, Or}
+use Rattle.wsm_record.specs.Schema.{FieldType, DeclaredField}
+use Rattle.wsm_record.specs.Schema as field_types
+use Rattle.wsm_query.specs.Tree.{Name, Query, Expr, Number, Truth, Field, EnumName, Key, KeyName, Count, Aggregate, If, Brackets, Minus, Not, Binary, And, Or}
 use Rattle.wsm_check.specs.declared.refusal.CheckFault.TheVariants.{Duplicate, Limit}
 use Rattle.wsm_check.specs.declared.refusal.Part.{Part}
 use Rattle.wsm_check.specs.declared.refusal.Part.TheVariants as part
@@ -27,13 +29,13 @@ use Rattle.wsm_check.specs.Checks.{unless, first, ty_refusal, fields_refusal, is
 use Rattle.wsm_compiler.specs.Code.{where_section, update_section, fire_section}
 use Rattle.wsm_check.specs.Spelt.{numbers_fit, is_spelt_type, is_spelt_field, IsSpelt}
 use Rattle.wsm_compiler.specs.Lawful.{IsLawful}
-use Rattle.wsm_compiler.specs.Program.{field_type, column_type, every, stated, needed_of, program_of}
+use Rattle.wsm_compiler.specs.Program.{column_type, every, stated, needed_of, program_of}
 use Rattle.wsm_compiler.proofs.Hulls.{no}
 use Rattle.wsm_compiler.proofs.Sized.{sizes_are_lengths}
 use Rattle.wsm_compiler.proofs.Reading.{in_column}
 use Rattle.wsm_compiler.proofs.Passed.{Passed, passed, unless_none}
 use Rattle.wsm_compiler.proofs.Checked.{Fine, fine}
-use Rattle.wsm_compiler.proofs.Naming.{declared_as, length-fields, names_listed}
+use Rattle.wsm_compiler.proofs.Naming.{names_listed}
 use Rattle.wsm_compiler.proofs.Operands.{condition_numbers, condition_aggregates, columns_aggregates, operands_fit, condition_fine, folds_fine, columns_fine, columns_named}
 use Rattle.wsm_compiler.proofs.Costs.{budget_is}
 use Rattle.wsm_check.proofs.Following.{passed_both}
@@ -41,25 +43,25 @@ use Rattle.wsm_check.proofs.Passing.{length-accumulators_of}
 
 -- ---- the schema
 
-type_listed : (p : Part) (ty : Ty) → ty_refusal p ty ≡ None → is_spelt_type ty ≡ true → is_field_type (field_type ty) ≡ true
-type_listed p (IntTy lo hi) h l =
+type_listed : (p : Part) (ty : FieldType) → ty_refusal p ty ≡ None → is_spelt_type ty ≡ true → is_field_type ty ≡ true
+type_listed p (field_types.Int lo hi) h l =
     let b = and_parts (in_i64 lo) (in_i64 hi) l in
     and_from (in_i64 lo) (in_i64 hi && int_le lo hi) b.0 (and_from (in_i64 hi) (int_le lo hi) b.1 (unless_none (int_le lo hi) Limit p h))
-type_listed p BoolTy h l = refl
-type_listed p (EnumTy names) h l = names_listed p names h l
+type_listed p field_types.Truth h l = refl
+type_listed p (field_types.Enum names) h l = names_listed p names h l
 
-record FieldPassed (names : List Name) (d : Declared) (ds : List Declared) : Type 0 where
+record FieldPassed (names : List Name) (d : DeclaredField) (ds : List DeclaredField) : Type 0 where
   room : nat_lt (length names) 16 ≡ true
   apart : not (is_among d.name names) ≡ true
-  ty : ty_refusal (part.Field (suc (length names))) d.ty ≡ None
+  ty : ty_refusal (part.Field (suc (length names))) d.type ≡ None
   rest : fields_refusal (names ++ d.name ∷ []) ds ≡ None
 
-field_passed : (names : List Name) (d : Declared) (ds : List Declared) → fields_refusal names (d ∷ ds) ≡ None → FieldPassed names d ds
+field_passed : (names : List Name) (d : DeclaredField) (ds : List DeclaredField) → fields_refusal names (d ∷ ds) ≡ None → FieldPassed names d ds
 field_passed names d ds h =
     let p = part.Field (suc (length names)) in
     let r1 = unless (nat_lt (length names) 16) Limit p in
     let r2 = unless (not (is_among d.name names)) Duplicate p in
-    let r3 = ty_refusal p d.ty in
+    let r3 = ty_refusal p d.type in
     let r4 = fields_refusal (names ++ d.name ∷ []) ds in
     let h1 = passed_both r1 (first (r2 ∷ r3 ∷ r4 ∷ [])) h in
     let h2 = passed_both r2 (first (r3 ∷ r4 ∷ [])) h1.1 in
@@ -67,18 +69,18 @@ field_passed names d ds h =
     let h4 = passed_both r4 None h3.1 in
     record { room = unless_none (nat_lt (length names) 16) Limit p h1.0; apart = unless_none (not (is_among d.name names)) Duplicate p h2.0; ty = h3.0; rest = h4.0 }
 
-fields_listed : (names : List Name) (ds : List Declared) → fields_refusal names ds ≡ None → list_all is_spelt_field ds ≡ true → are_fields_after names (map declared_as ds) ≡ true
+fields_listed : (names : List Name) (ds : List DeclaredField) → fields_refusal names ds ≡ None → list_all is_spelt_field ds ≡ true → are_fields_after names ds ≡ true
 fields_listed names [] h l = refl
 fields_listed names (d ∷ ds) h l =
     let p = field_passed names d ds h in
     let s = and_parts (is_spelt_field d) (list_all is_spelt_field ds) l in
-    let t = and_parts (is_name d.name) (is_spelt_type d.ty) s.0 in
-    and_from (is_field_after names (declared_as d)) (are_fields_after (names ++ d.name ∷ []) (map declared_as ds))
-    (and_from (is_name d.name) (not (is_among d.name names) && is_field_type (field_type d.ty)) t.0
-    (and_from (not (is_among d.name names)) (is_field_type (field_type d.ty)) p.apart (type_listed (part.Field (suc (length names))) d.ty p.ty t.1)))
+    let t = and_parts (is_name d.name) (is_spelt_type d.type) s.0 in
+    and_from (is_field_after names d) (are_fields_after (names ++ d.name ∷ []) ds)
+    (and_from (is_name d.name) (not (is_among d.name names) && is_field_type d.type) t.0
+    (and_from (not (is_among d.name names)) (is_field_type d.type) p.apart (type_listed (part.Field (suc (length names))) d.type p.ty t.1)))
     (fields_listed (names ++ d.name ∷ []) ds p.rest s.1)
 
-fields_few : (names : List Name) (ds : List Declared) → fields_refusal names ds ≡ None → length names ≤ 16 → length names + length ds ≤ 16
+fields_few : (names : List Name) (ds : List DeclaredField) → fields_refusal names ds ≡ None → length names ≤ 16 → length names + length ds ≤ 16
 fields_few names [] h l = omega (arith, l)
 fields_few names (d ∷ ds) h l =
     let p = field_passed names d ds h in
@@ -87,13 +89,12 @@ fields_few names (d ∷ ds) h l =
     let rest = fields_few (names ++ d.name ∷ []) ds p.rest (omega (arith, a, room)) in
     omega (arith, a, rest)
 
-schema_is : (q : Query) → Passed q → IsSpelt q → is_schema (record { keys = q.keys; fields = map declared_as q.fields }) ≡ true
+schema_is : (q : Query) → Passed q → IsSpelt q → is_schema (record { keys = q.keys; fields = q.fields }) ≡ true
 unfolding is_schema
 schema_is q p s =
     let few = fields_few [] q.fields p.fields (omega arith) in
-    let same = length-fields q.fields in
-    and_from (is_name_list q.keys) (nat_le (length (map declared_as q.fields)) 16 && are_fields_after [] (map declared_as q.fields)) (names_listed part.Keys q.keys p.keys s.keys)
-    (and_from (nat_le (length (map declared_as q.fields)) 16) (are_fields_after [] (map declared_as q.fields)) (le-leb (length (map declared_as q.fields)) 16 (omega (arith, few, same))) (fields_listed [] q.fields p.fields s.fields))
+    and_from (is_name_list q.keys) (nat_le (length q.fields) 16 && are_fields_after [] q.fields) (names_listed part.Keys q.keys p.keys s.keys)
+    (and_from (nat_le (length q.fields) 16) (are_fields_after [] q.fields) (le-leb (length q.fields) 16 (omega (arith, few))) (fields_listed [] q.fields p.fields s.fields))
 
 -- ---- when panes fire
 

@@ -1,19 +1,20 @@
 -- Where names that are declared stand, and that names listed without repeats are listed as programs list them.
 use Rattle.std.proofs.Common.{◌≡◌, ℕ, suc, ◌+◌, Bool, true, false, ◌&&◌, ◌||◌, not, cond, List, [], ◌∷◌, ◌++◌, length, map, None, refl, sym, ap, ◌∙◌, arith}
+use Rattle.std.proofs.lemmas.List.{length-map}
 use Rattle.std.proofs.lemmas.List.Folds.{list_any-append}
 use Rattle.std.specs.Prelude.{bytes_eq, nat_le, nat_lt, slice_get}
 use Rattle.std.specs.List.{list_all}
 use Rattle.std.proofs.lemmas.Bool.{and_from, and_parts, not-true}
 use Rattle.std.proofs.Math.Bool.{or-false}
 use Rattle.wsm_record.specs.Name.{is_name, is_among}
-use Rattle.wsm_record.specs.Schema.{DeclaredField}
+use Rattle.wsm_record.specs.Schema.{DeclaredField, FieldType}
 use Rattle.wsm_bytecode.specs.Program.{names_of_type, names_of_field, is_name_of, are_names_after, is_name_list}
-use Rattle.wsm_query.specs.Tree.{Name, Ty, IntTy, BoolTy, EnumTy, Declared}
+use Rattle.wsm_record.specs.Schema as field_types
+use Rattle.wsm_query.specs.Tree.{Name}
 use Rattle.wsm_check.specs.declared.refusal.CheckFault.TheVariants.{Duplicate, Limit}
 use Rattle.wsm_check.specs.declared.refusal.Part.{Part}
 use Rattle.wsm_check.specs.Names.{place_of, has_repeats, field_names, field_place, names_of, type_of}
 use Rattle.wsm_check.specs.Checks.{unless, first, names_refusal}
-use Rattle.wsm_compiler.specs.Program.{field_type}
 use Rattle.wsm_compiler.proofs.Hulls.{no}
 use Rattle.wsm_compiler.proofs.Passed.{unless_none}
 use Rattle.wsm_check.proofs.Repeats.{same_either_way}
@@ -35,38 +36,27 @@ place_below x (y ∷ ys) h =
       | false ↦ λ h. next_below (place_of x ys) (length ys) (place_below x ys h)
     ] h
 
-abbrev pub declared_as : Declared → DeclaredField
-declared_as d = record { name = d.name; type = field_type d.ty }
-
-pub length-declared : (ds : List Declared) → length (field_names ds) ≡ length (map declared_as ds)
-length-declared [] = refl
-length-declared (d ∷ ds) = ap suc (length-declared ds)
-
-pub length-fields : (ds : List Declared) → length (map declared_as ds) ≡ length ds
-length-fields [] = refl
-length-fields (d ∷ ds) = ap suc (length-fields ds)
-
-pub field_below : (ds : List Declared) (x : Name) → is_among x (field_names ds) ≡ true → nat_lt (field_place ds x) (length (map declared_as ds)) ≡ true
-field_below ds x h = ap (nat_lt (field_place ds x)) (sym (length-declared ds)) ∙ place_below x (field_names ds) h
+pub field_below : (ds : List DeclaredField) (x : Name) → is_among x (field_names ds) ≡ true → nat_lt (field_place ds x) (length ds) ≡ true
+field_below ds x h = ap (nat_lt (field_place ds x)) (sym (length-map ds (λ d. d.name))) ∙ place_below x (field_names ds) h
 
 -- the names of the field at the place of a name are those of its type
-pub names_there : (ds : List Declared) (x : Name) → is_among x (field_names ds) ≡ true → names_of_field (slice_get (map declared_as ds) (field_place ds x)) ≡ names_of_type (field_type (type_of x ds))
+pub names_there : (ds : List DeclaredField) (x : Name) → is_among x (field_names ds) ≡ true → names_of_field (slice_get ds (field_place ds x)) ≡ names_of_type (type_of x ds)
 names_there [] x h = no h
 names_there (d ∷ ds) x h =
     elim (bytes_eq x d.name) as (λ b. (b || is_among x (field_names ds)) ≡ true →
-    names_of_field (slice_get (map declared_as (d ∷ ds)) (cond (not b) (1 + field_place ds x) 0)) ≡ names_of_type (field_type (cond b d.ty (type_of x ds)))) [
+    names_of_field (slice_get (d ∷ ds) (cond (not b) (1 + field_place ds x) 0)) ≡ names_of_type (cond b d.type (type_of x ds))) [
       | true ↦ λ h. refl
-      | false ↦ λ h. ap (λ n. names_of_field (slice_get (map declared_as (d ∷ ds)) n)) (next (field_place ds x)) ∙ names_there ds x h
+      | false ↦ λ h. ap (λ n. names_of_field (slice_get (d ∷ ds) n)) (next (field_place ds x)) ∙ names_there ds x h
     ] h
   where
     next : (m : ℕ) → 1 + m ≡ suc m
     next m = omega arith
 
 -- a name of a type is one of the names that the type declares
-pub name_there : (ty : Ty) (y : Name) → is_among y (names_of ty) ≡ true → is_name_of (names_of_type (field_type ty)) (place_of y (names_of ty)) ≡ true
-name_there (IntTy lo hi) y h = no h
-name_there BoolTy y h = no h
-name_there (EnumTy names) y h = place_below y names h
+pub name_there : (ty : FieldType) (y : Name) → is_among y (names_of ty) ≡ true → is_name_of (names_of_type ty) (place_of y (names_of ty)) ≡ true
+name_there (field_types.Int lo hi) y h = no h
+name_there field_types.Truth y h = no h
+name_there (field_types.Enum names) y h = place_below y names h
 
 -- ---- names without repeats
 

@@ -14,7 +14,9 @@ use Rattle.wsm_bytecode.specs.declared.program.Budget.{Budget as Stated}
 use Rattle.wsm_bytecode.specs.Program.{Header, names_of_type, is_name_of, is_column, is_instr}
 use Rattle.wsm_query.specs.declared.expr.Op.{Op}
 use Rattle.wsm_query.specs.declared.expr.Op.TheVariants.{Add, Sub, Mul, Div, Rem, Eq, Ne, Lt, Le, Gt, Ge}
-use Rattle.wsm_query.specs.Tree.{Name, Ty, IntTy, BoolTy, EnumTy, Query, Expr, Number, Truth, Field, EnumName, Key, KeyName, Count, Aggregate, If, Brackets, Minus, Not, Binary, And, Or}
+use Rattle.wsm_record.specs.Schema.{FieldType}
+use Rattle.wsm_record.specs.Schema as field_types
+use Rattle.wsm_query.specs.Tree.{Name, Query, Expr, Number, Truth, Field, EnumName, Key, KeyName, Count, Aggregate, If, Brackets, Minus, Not, Binary, And, Or}
 use Rattle.wsm_check.specs.Names.{field_names, field_place, type_of, names_of, place_of}
 use Rattle.wsm_record.specs.declared.words.CellType.{CellType}
 use Rattle.wsm_record.specs.declared.words.CellType.TheVariants as types
@@ -25,7 +27,7 @@ use Rattle.wsm_check.specs.Sizes.{Acc, aggregates, size, condition_size, folds_s
 use Rattle.wsm_compiler.specs.Code.{code, choice, instruction, condition_code, folds, columns_code}
 use Rattle.wsm_check.specs.Spelt.{numbers_fit}
 use Rattle.wsm_check.specs.Parts.{type_or_int}
-use Rattle.wsm_compiler.specs.Program.{field_type, column_type, program_stating}
+use Rattle.wsm_compiler.specs.Program.{column_type, program_stating}
 use Rattle.wsm_compiler.proofs.Hulls.{no}
 use Rattle.wsm_compiler.proofs.Suiting.{ok_is, result_of}
 use Rattle.wsm_compiler.proofs.Finding.{cond_ok, field_is, entered_is, op_is, two_types, if_types, logic_types, unary_is}
@@ -54,15 +56,15 @@ module _ (q : Query) (b : Stated) where
 
   -- ---- the types of columns
 
-  declared_named : (x : Name) → is_among x (field_names q.fields) ≡ true → (ty : Ty) → type_of x q.fields ≡ ty → Named (declared_ty (field_place q.fields x) ty)
-  declared_named x h (IntTy lo hi) is = refl
-  declared_named x h BoolTy is = refl
-  declared_named x h (EnumTy names) is = ap is_some (names_there q.fields x h ∙ ap (λ ty. names_of_type (field_type ty)) is)
+  declared_named : (x : Name) → is_among x (field_names q.fields) ≡ true → (ty : FieldType) → type_of x q.fields ≡ ty → Named (declared_ty (field_place q.fields x) ty)
+  declared_named x h (field_types.Int lo hi) is = refl
+  declared_named x h field_types.Truth is = refl
+  declared_named x h (field_types.Enum names) is = ap is_some (names_there q.fields x h ∙ ap names_of_type is)
 
-  some_names : (ty : Ty) (y : Name) → is_among y (names_of ty) ≡ true → is_some (names_of_type (field_type ty)) ≡ true
-  some_names (IntTy lo hi) y h = no h
-  some_names BoolTy y h = no h
-  some_names (EnumTy names) y h = refl
+  some_names : (ty : FieldType) (y : Name) → is_among y (names_of ty) ≡ true → is_some (names_of_type ty) ≡ true
+  some_names (field_types.Int lo hi) y h = no h
+  some_names field_types.Truth y h = no h
+  some_names (field_types.Enum names) y h = refl
 
   -- the name of a field, and a name of its type
   both_declared : (around : Around) (x y : Name) (t : CellType) → typed q around (EnumName x y) ≡ Ok t → (is_among x (field_names q.fields) ≡ true) × (is_among y (names_of (type_of x q.fields)) ≡ true)

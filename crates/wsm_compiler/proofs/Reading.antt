@@ -7,7 +7,9 @@ use Rattle.wsm_bytecode.specs.declared.program.Budget.{Budget as Stated}
 use Rattle.wsm_verifier.specs.declared.known.Known.{Known}
 use Rattle.wsm_verifier.specs.declared.known.Known.TheVariants as known
 use Rattle.wsm_verifier.specs.Rules.{setting, known_field, known_fields, ranges_of_record, ranges_with}
-use Rattle.wsm_query.specs.Tree.{Name, Ty, IntTy, BoolTy, EnumTy, Declared, Query}
+use Rattle.wsm_record.specs.Schema.{FieldType, DeclaredField}
+use Rattle.wsm_record.specs.Schema as field_types
+use Rattle.wsm_query.specs.Tree.{Name, Query}
 use Rattle.wsm_check.specs.declared.refusal.CheckFault.{CheckFault}
 use Rattle.wsm_check.specs.declared.refusal.CheckFault.TheVariants.{UnknownName}
 use Rattle.wsm_check.specs.Names.{field_names, field_place, type_of}
@@ -15,45 +17,45 @@ use Rattle.wsm_record.specs.declared.words.CellType.{CellType}
 use Rattle.wsm_check.specs.Types.{Typed, declared_ty, read_at, field_ty}
 use Rattle.wsm_check.specs.declared.types.Around.{Around}
 use Rattle.wsm_check.specs.declared.types.Around.TheVariants.{InWhere, InColumn, InAggregate}
-use Rattle.wsm_compiler.specs.Program.{field_type, program_stating}
+use Rattle.wsm_compiler.specs.Program.{program_stating}
 use Rattle.wsm_compiler.specs.Ranges.{of_type}
 use Rattle.wsm_compiler.proofs.Hulls.{no}
 use Rattle.wsm_compiler.proofs.Suiting.{err≢ok, known_of}
 use Rattle.wsm_compiler.proofs.Finding.{Reads, field_is}
 
-is_known : (f : ℕ) (ty : Ty) → Some (known_field f (field_type ty)) ≡ known_of (declared_ty f ty) (of_type ty)
-is_known f (IntTy lo hi) = refl
-is_known f BoolTy = refl
-is_known f (EnumTy names) = refl
+is_known : (f : ℕ) (ty : FieldType) → Some (known_field f ty) ≡ known_of (declared_ty f ty) (of_type ty)
+is_known f (field_types.Int lo hi) = refl
+is_known f field_types.Truth = refl
+is_known f (field_types.Enum names) = refl
 
-abbrev Is : ℕ → List Declared → Name → Type 0
+abbrev Is : ℕ → List DeclaredField → Name → Type 0
 Is n ds x =
-    Some (slice_index_or (known_fields n (map (λ d. record { name = d.name; type = field_type d.ty }) ds)) (field_place ds x) known.Truth)
+    Some (slice_index_or (known_fields n ds) (field_place ds x) known.Truth)
     ≡ known_of (declared_ty (n + field_place ds x) (type_of x ds)) (of_type (type_of x ds))
 
 -- at the place of the first field of a name, or behind it
-at_head : (n : ℕ) (d : Declared) (ds : List Declared) (x : Name) → bytes_eq x d.name ≡ true → Is n (d ∷ ds) x
+at_head : (n : ℕ) (d : DeclaredField) (ds : List DeclaredField) (x : Name) → bytes_eq x d.name ≡ true → Is n (d ∷ ds) x
 at_head n d ds x h =
     let place : field_place (d ∷ ds) x ≡ 0 = ap (λ b. cond (not b) (1 + field_place ds x) 0) h in
-    let ty : type_of x (d ∷ ds) ≡ d.ty = ap (λ b. cond b d.ty (type_of x ds)) h in
+    let ty : type_of x (d ∷ ds) ≡ d.type = ap (λ b. cond b d.type (type_of x ds)) h in
     let there : n ≡ n + field_place (d ∷ ds) x = omega (arith, place) in
-    ap (λ p. Some (slice_index_or (known_fields n (map (λ d. record { name = d.name; type = field_type d.ty }) (d ∷ ds))) p known.Truth)) place
-    ∙ is_known n d.ty
+    ap (λ p. Some (slice_index_or (known_fields n (d ∷ ds)) p known.Truth)) place
+    ∙ is_known n d.type
     ∙ (λ i. known_of (declared_ty (there i) (sym ty i)) (of_type (sym ty i)))
 
-behind_head : (n : ℕ) (d : Declared) (ds : List Declared) (x : Name) → bytes_eq x d.name ≡ false → Is (suc n) ds x → Is n (d ∷ ds) x
+behind_head : (n : ℕ) (d : DeclaredField) (ds : List DeclaredField) (x : Name) → bytes_eq x d.name ≡ false → Is (suc n) ds x → Is n (d ∷ ds) x
 behind_head n d ds x h rest =
     let place : field_place (d ∷ ds) x ≡ suc (field_place ds x) = ap (λ b. cond (not b) (1 + field_place ds x) 0) h ∙ next (field_place ds x) in
-    let ty : type_of x (d ∷ ds) ≡ type_of x ds = ap (λ b. cond b d.ty (type_of x ds)) h in
+    let ty : type_of x (d ∷ ds) ≡ type_of x ds = ap (λ b. cond b d.type (type_of x ds)) h in
     let there : suc n + field_place ds x ≡ n + field_place (d ∷ ds) x = omega (arith, place) in
-    ap (λ p. Some (slice_index_or (known_fields n (map (λ d. record { name = d.name; type = field_type d.ty }) (d ∷ ds))) p known.Truth)) place
+    ap (λ p. Some (slice_index_or (known_fields n (d ∷ ds)) p known.Truth)) place
     ∙ rest
     ∙ (λ i. known_of (declared_ty (there i) (sym ty i)) (of_type (sym ty i)))
   where
     next : (m : ℕ) → 1 + m ≡ suc m
     next m = omega arith
 
-known_at : (n : ℕ) (ds : List Declared) (x : Name) → is_among x (field_names ds) ≡ true → Is n ds x
+known_at : (n : ℕ) (ds : List DeclaredField) (x : Name) → is_among x (field_names ds) ≡ true → Is n ds x
 known_at n [] x h = no h
 known_at n (d ∷ ds) x h =
     elim (bytes_eq x d.name) as (λ b. bytes_eq x d.name ≡ b → (b || is_among x (field_names ds)) ≡ true → Is n (d ∷ ds) x) [
@@ -70,7 +72,7 @@ declared q around x t h = of_cond (is_among x (field_names q.fields)) (read_at a
 
 -- a field that is read
 pub field_known : (q : Query) (around : Around) (x : Name) (t : CellType) → field_ty q around x ≡ Ok t →
-    Some (slice_index_or (known_fields 0 (map (λ d. record { name = d.name; type = field_type d.ty }) q.fields)) (field_place q.fields x) known.Truth) ≡ known_of t (of_type (type_of x q.fields))
+    Some (slice_index_or (known_fields 0 q.fields) (field_place q.fields x) known.Truth) ≡ known_of t (of_type (type_of x q.fields))
 field_known q around x t h =
     let first : 0 + field_place q.fields x ≡ field_place q.fields x = omega arith in
     known_at 0 q.fields x (declared q around x t h)

@@ -15,7 +15,9 @@ use Rattle.wsm_machine.specs.declared.cell.Cell.TheVariants as cells
 use Rattle.wsm_machine.specs.declared.outcome.Trap.TheVariants.{Underflow, StackFull, IntOverflow, WrongSection}
 use Rattle.wsm_bytecode.specs.Instructions.{may_stand}
 use Rattle.wsm_machine.specs.Step.{Setting, State, Next, Goes, cell_of, overflows, push_on, step, unless}
-use Rattle.wsm_query.specs.Tree.{Query, Ty, IntTy, BoolTy, EnumTy, Expr, Number, Truth, Field, EnumName, Key, KeyName, Count, Aggregate, If, Brackets, Minus, Not, Binary, And, Or}
+use Rattle.wsm_record.specs.Schema.{FieldType}
+use Rattle.wsm_record.specs.Schema as field_types
+use Rattle.wsm_query.specs.Tree.{Query, Expr, Number, Truth, Field, EnumName, Key, KeyName, Count, Aggregate, If, Brackets, Minus, Not, Binary, And, Or}
 use Rattle.wsm_check.specs.Names.{place_of, field_names, field_place, type_of, names_of}
 use Rattle.wsm_record.specs.declared.words.CellType.{CellType}
 use Rattle.wsm_record.specs.declared.words.CellType.TheVariants as types
@@ -81,16 +83,16 @@ read_gives c k stack folds room i (types.Enum d) (Int n) b h at l e = no h
 read_gives c k stack folds room i (types.Enum d) (Truth' v) b h at l e = no h
 
 -- a field's value as the machine holds it
-field_cell : (f : ℕ) (ty : Ty) (v : Value) → of_ty (declared_ty f ty) (Some v) ≡ true → cell_of (f + 1) v ≡ cell (declared_ty f ty) v
-field_cell f (IntTy lo hi) (Int n) h = refl
-field_cell f (IntTy lo hi) (Truth' b) h = no h
-field_cell f (IntTy lo hi) (Enum i) h = no h
-field_cell f BoolTy (Int n) h = no h
-field_cell f BoolTy (Truth' b) h = refl
-field_cell f BoolTy (Enum i) h = no h
-field_cell f (EnumTy names) (Int n) h = no h
-field_cell f (EnumTy names) (Truth' b) h = no h
-field_cell f (EnumTy names) (Enum i) h = let e : f + 1 ≡ suc f = omega arith in ap (λ d. cells.Enum d i) e
+field_cell : (f : ℕ) (ty : FieldType) (v : Value) → of_ty (declared_ty f ty) (Some v) ≡ true → cell_of (f + 1) v ≡ cell (declared_ty f ty) v
+field_cell f (field_types.Int lo hi) (Int n) h = refl
+field_cell f (field_types.Int lo hi) (Truth' b) h = no h
+field_cell f (field_types.Int lo hi) (Enum i) h = no h
+field_cell f field_types.Truth (Int n) h = no h
+field_cell f field_types.Truth (Truth' b) h = refl
+field_cell f field_types.Truth (Enum i) h = no h
+field_cell f (field_types.Enum names) (Int n) h = no h
+field_cell f (field_types.Enum names) (Truth' b) h = no h
+field_cell f (field_types.Enum names) (Enum i) h = let e : f + 1 ≡ suc f = omega arith in ap (λ d. cells.Enum d i) e
 
 -- an accumulator's
 folded_cell : (kind : Kind) (v : Value) → of_ty (operand_ty kind) (Some v) ≡ true → cell_of 0 v ≡ cell (operand_ty kind) v

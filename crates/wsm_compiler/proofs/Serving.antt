@@ -12,7 +12,9 @@ use Rattle.wsm_bytecode.specs.declared.SectionId.TheVariants.{Where, Update, Fir
 use Rattle.wsm_bytecode.specs.declared.program.Budget.{Budget as Stated}
 use Rattle.wsm_machine.specs.Inputs.{Inputs, is_of_field, are_of_fields}
 use Rattle.wsm_machine.specs.Step.{setting}
-use Rattle.wsm_query.specs.Tree.{Name, Ty, IntTy, BoolTy, EnumTy, Declared, Query}
+use Rattle.wsm_record.specs.Schema.{FieldType, DeclaredField}
+use Rattle.wsm_record.specs.Schema as field_types
+use Rattle.wsm_query.specs.Tree.{Name, Query}
 use Rattle.wsm_check.specs.Names.{field_names, field_place, type_of}
 use Rattle.wsm_record.specs.declared.words.CellType.{CellType}
 use Rattle.wsm_check.specs.Types.{declared_ty, field_ty, operand_ty}
@@ -20,7 +22,7 @@ use Rattle.wsm_check.specs.declared.types.Around.{Around}
 use Rattle.wsm_check.specs.declared.types.Around.TheVariants.{InWhere, InColumn, InAggregate}
 use Rattle.wsm_check.specs.Sizes.{Acc, accumulators}
 use Rattle.wsm_compiler.specs.Meaning.{on_record, on_accumulators}
-use Rattle.wsm_compiler.specs.Program.{field_type, program_stating}
+use Rattle.wsm_compiler.specs.Program.{program_stating}
 use Rattle.wsm_compiler.specs.Runs.{of_ty, Serves, ServesAccs}
 use Rattle.wsm_compiler.specs.Sections.{record_fits, pane_fits}
 use Rattle.wsm_compiler.proofs.Hulls.{no}
@@ -30,47 +32,47 @@ use Rattle.wsm_compiler.proofs.Reading.{declared, is_fine, not_in_column, in_col
 
 -- ---- fields
 
-has_type : (n : ℕ) (ty : Ty) (v : Value) → is_of_field (field_type ty) v ≡ true → of_ty (declared_ty n ty) (Some v) ≡ true
-has_type n (IntTy lo hi) (Int x) h = refl
-has_type n (IntTy lo hi) (Truth' b) h = no h
-has_type n (IntTy lo hi) (Enum i) h = no h
-has_type n BoolTy (Int x) h = no h
-has_type n BoolTy (Truth' b) h = refl
-has_type n BoolTy (Enum i) h = no h
-has_type n (EnumTy names) (Int x) h = no h
-has_type n (EnumTy names) (Truth' b) h = no h
-has_type n (EnumTy names) (Enum i) h = refl
+has_type : (n : ℕ) (ty : FieldType) (v : Value) → is_of_field ty v ≡ true → of_ty (declared_ty n ty) (Some v) ≡ true
+has_type n (field_types.Int lo hi) (Int x) h = refl
+has_type n (field_types.Int lo hi) (Truth' b) h = no h
+has_type n (field_types.Int lo hi) (Enum i) h = no h
+has_type n field_types.Truth (Int x) h = no h
+has_type n field_types.Truth (Truth' b) h = refl
+has_type n field_types.Truth (Enum i) h = no h
+has_type n (field_types.Enum names) (Int x) h = no h
+has_type n (field_types.Enum names) (Truth' b) h = no h
+has_type n (field_types.Enum names) (Enum i) h = refl
 
 -- the value at the place of the first field of a name
-record Read (ds : List Declared) (vs : List Value) (x : Name) : Type 0 where
+record Read (ds : List DeclaredField) (vs : List Value) (x : Name) : Type 0 where
   value : Value
   is : slice_get vs (field_place ds x) ≡ Some value
   has : (n : ℕ) → of_ty (declared_ty n (type_of x ds)) (Some value) ≡ true
 
-read_at : (ds : List Declared) (vs : List Value) (x : Name) → is_among x (field_names ds) ≡ true → are_of_fields (map (λ d. record { name = d.name; type = field_type d.ty }) ds) vs ≡ true → Read ds vs x
+read_at : (ds : List DeclaredField) (vs : List Value) (x : Name) → is_among x (field_names ds) ≡ true → are_of_fields ds vs ≡ true → Read ds vs x
 read_at [] vs x h l = no h
 read_at (d ∷ ds) [] x h l = no l
 read_at (d ∷ ds) (v ∷ vs) x h l =
-    let p = and_parts (is_of_field (field_type d.ty) v) (are_of_fields (map (λ d. record { name = d.name; type = field_type d.ty }) ds) vs) l in
+    let p = and_parts (is_of_field d.type v) (are_of_fields ds vs) l in
     elim (bytes_eq x d.name) as (λ b. bytes_eq x d.name ≡ b → (b || is_among x (field_names ds)) ≡ true → Read (d ∷ ds) (v ∷ vs) x) [
       | true ↦ λ e h. record {
         value = v;
         is = ap (λ b. slice_get (v ∷ vs) (cond (not b) (1 + field_place ds x) 0)) e;
-        has = λ n. ap (λ b. of_ty (declared_ty n (cond b d.ty (type_of x ds))) (Some v)) e ∙ has_type n d.ty v p.0;
+        has = λ n. ap (λ b. of_ty (declared_ty n (cond b d.type (type_of x ds))) (Some v)) e ∙ has_type n d.type v p.0;
       }
       | false ↦ λ e h.
           let r = read_at ds vs x h p.1 in
           record {
             value = r.value;
             is = ap (λ b. slice_get (v ∷ vs) (cond (not b) (1 + field_place ds x) 0)) e ∙ ap (slice_get (v ∷ vs)) (next (field_place ds x)) ∙ r.is;
-            has = λ n. ap (λ b. of_ty (declared_ty n (cond b d.ty (type_of x ds))) (Some r.value)) e ∙ r.has n;
+            has = λ n. ap (λ b. of_ty (declared_ty n (cond b d.type (type_of x ds))) (Some r.value)) e ∙ r.has n;
           }
     ] refl h
   where
     next : (m : ℕ) → 1 + m ≡ suc m
     next m = omega arith
 
-pub field_read : (q : Query) (around : Around) (vs : List Value) → are_of_fields (map (λ d. record { name = d.name; type = field_type d.ty }) q.fields) vs ≡ true → (x : Name) (t : CellType) → field_ty q around x ≡ Ok t →
+pub field_read : (q : Query) (around : Around) (vs : List Value) → are_of_fields q.fields vs ≡ true → (x : Name) (t : CellType) → field_ty q around x ≡ Ok t →
     (v : Value) × (slice_get vs (field_place q.fields x) ≡ Some v) × (of_ty t (Some v) ≡ true) × (slice_get vs (field_place q.fields x) ≡ Some v)
 field_read q around vs fit x t h =
     let r = read_at q.fields vs x (declared q around x t h) fit in

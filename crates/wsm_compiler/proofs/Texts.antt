@@ -13,7 +13,9 @@ use Rattle.wsm_interval.specs.Interval.{in_i64}
 use Rattle.wsm_tokens.proofs.Proper.{tokens_are_proper}
 use Rattle.wsm_tokens.specs.Tokens.{Tokens, tokens}
 use Rattle.wsm_tokens.specs.Read.{Read, Rule, Took, Stopped, ◌>>=◌, give, and_then, unexpected, too_deep, begins, begins_number, behind, is_end, number, ended}
-use Rattle.wsm_query.specs.Tree.{Name, Ty, IntTy, BoolTy, EnumTy, Declared, Query, Expr, Number, Truth, Field, EnumName, Key, KeyName, Count, Aggregate, If, Brackets, Minus, Not}
+use Rattle.wsm_record.specs.Schema.{FieldType, DeclaredField}
+use Rattle.wsm_record.specs.Schema as field_types
+use Rattle.wsm_query.specs.Tree.{Name, Query, Expr, Number, Truth, Field, EnumName, Key, KeyName, Count, Aggregate, If, Brackets, Minus, Not}
 use Rattle.wsm_query.specs.Grammar as grammar
 use Rattle.wsm_query.specs.Grammar.{looked_up, kinds, Deeper, opened, aggregate, count_of, choice, brackets, pointed, leaf, atom, unary, chain, chain_limit, chained, products, sums, comparisons, ands, ors, prod, sum, compared, cmp, neg, conj, expr_in, deeper, levels, level_limit, expr, int, names, type_of, field, budget, shape, mode, form, every, query}
 use Rattle.wsm_query.specs.Parse.{query_text, outcome, parse}
@@ -227,23 +229,23 @@ pass_all : {A : Type 0} (test : A → Bool) (xs : List A) → AllByRecursion (λ
 pass_all test [] h = refl
 pass_all test (x ∷ xs) h = and_from (test x) (list_all test xs) h.0 (pass_all test xs h.1)
 
-abbrev IsSpeltType : Ty → Type 0
+abbrev IsSpeltType : FieldType → Type 0
 IsSpeltType t = is_spelt_type t ≡ true
 
 types_are : Gives IsSpeltType type_of
 unfolding type_of
 types_are =
-    eithers (codes "INT") (goes_on ints_are (λ lo h. goes_on (afters (codes "..") ints_are) (λ hi l. gives IsSpeltType (IntTy lo hi) (and_from (in_i64 lo) (in_i64 hi) h l))))
-    (eithers (codes "BOOL") (gives IsSpeltType BoolTy refl)
-    (afters (codes "ENUM") (afters (codes "(") (untils (codes ")") (goes_on name_lists (λ xs h. gives IsSpeltType (EnumTy xs) (pass_all is_name xs h)))))))
+    eithers (codes "INT") (goes_on ints_are (λ lo h. goes_on (afters (codes "..") ints_are) (λ hi l. gives IsSpeltType (field_types.Int lo hi) (and_from (in_i64 lo) (in_i64 hi) h l))))
+    (eithers (codes "BOOL") (gives IsSpeltType field_types.Truth refl)
+    (afters (codes "ENUM") (afters (codes "(") (untils (codes ")") (goes_on name_lists (λ xs h. gives IsSpeltType (field_types.Enum xs) (pass_all is_name xs h)))))))
 
-abbrev IsSpeltField : Declared → Type 0
+abbrev IsSpeltField : DeclaredField → Type 0
 IsSpeltField d = is_spelt_field d ≡ true
 
 fields_are : Gives IsSpeltField field
 unfolding field
 fields_are =
-    goes_on names_are (λ x h. goes_on types_are (λ t l. goes_on (asks (codes ";")) (λ _ _. gives IsSpeltField (record { name = x; ty = t }) (and_from (is_name x) (is_spelt_type t) h l))))
+    goes_on names_are (λ x h. goes_on types_are (λ t l. goes_on (asks (codes ";")) (λ _ _. gives IsSpeltField (record { name = x; type = t }) (and_from (is_name x) (is_spelt_type t) h l))))
 
 budgets : Gives Anything budget
 unfolding budget

@@ -1,22 +1,14 @@
 -- The program of what a checked query has, which states a given budget.
-use Rattle.std.specs.Prelude.{List, map}
-use Rattle.wsm_record.specs.Schema.{DeclaredField, Declared as Schema}
+use Rattle.std.specs.Prelude.{map}
 use Rattle.wsm_bytecode.specs.declared.program.Budget.{Budget as Stated}
-use Rattle.wsm_bytecode.specs.Program.{Name, Header, Program}
-use Rattle.wsm_query.specs.Tree.{Declared}
+use Rattle.wsm_bytecode.specs.Program.{Header, Program}
 use Rattle.wsm_check.specs.Parts.{Parts}
-use Rattle.wsm_compiler.specs.Program.{field_type, every}
+use Rattle.wsm_compiler.specs.Program.{every}
 use Rattle.wsm_compiler.specs.TermCode.{ending_code, foldings_code, firing_code}
-
-abbrev pub kept_field : Declared → DeclaredField
-kept_field d = record { name = d.name; type = field_type d.ty }
-
-abbrev pub kept : List Name → List Declared → Schema
-kept keys fields = record { keys = keys; fields = map kept_field fields }
 
 abbrev pub assembled_header : Parts → Stated → Header
 assembled_header p budget = record {
-  schema = kept p.keys p.fields;
+  schema = record { keys = p.keys; fields = p.fields };
   start = p.start;
   skew = p.skew;
   lateness = p.lateness;

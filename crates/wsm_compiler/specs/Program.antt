@@ -1,27 +1,21 @@
 -- The program of a query.
 use Rattle.std.specs.Prelude.{map, ℤ, pos, unsigned_abs, Option, Some, None}
-use Rattle.wsm_record.specs.Schema.{FieldType, Int, Truth, Enum, Declared as Schema}
+use Rattle.wsm_record.specs.Schema.{Declared as Schema}
 use Rattle.wsm_record.specs.declared.words.CellType.{CellType}
-use Rattle.wsm_record.specs.declared.words.CellType.TheVariants as types
 use Rattle.wsm_bytecode.specs.declared.program.Budget.{Budget as Stated}
 use Rattle.wsm_bytecode.specs.Program.{Program}
 use Rattle.wsm_verifier.specs.declared.costs.Costs.{Costs}
 use Rattle.wsm_verifier.specs.Costs.{needed}
-use Rattle.wsm_query.specs.Tree.{Query, Ty, IntTy, BoolTy, EnumTy, Budget, Expr}
+use Rattle.wsm_query.specs.Tree.{Query, Budget, Expr}
 use Rattle.wsm_check.specs.Types.{typed}
 use Rattle.wsm_check.specs.declared.types.Around.TheVariants.{InColumn}
 use Rattle.wsm_check.specs.Parts.{type_or_int}
 use Rattle.wsm_check.specs.Sizes.{accumulators}
 use Rattle.wsm_compiler.specs.Code.{where_section, update_section, fire_section}
 
-abbrev pub field_type : Ty → FieldType
-field_type (IntTy lo hi) = Int lo hi
-field_type BoolTy = Truth
-field_type (EnumTy names) = Enum names
-
 -- the keys and fields
 abbrev pub schema_of : Query → Schema
-schema_of q = record { keys = q.keys; fields = map (λ d. record { name = d.name; type = field_type d.ty }) q.fields }
+schema_of q = record { keys = q.keys; fields = q.fields }
 
 abbrev pub column_type : Query → Expr → CellType
 column_type q e = type_or_int (typed q InColumn e)

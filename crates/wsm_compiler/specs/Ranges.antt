@@ -8,7 +8,9 @@ use Rattle.wsm_interval.specs.declared.interval.Interval.{Interval}
 use Rattle.wsm_interval.specs.Interval.{interval, in_i64, add, sub, mul, div, rem, neg, hull}
 use Rattle.wsm_query.specs.declared.expr.Op.{Op}
 use Rattle.wsm_query.specs.declared.expr.Op.TheVariants.{Add, Sub, Mul, Div, Rem}
-use Rattle.wsm_query.specs.Tree.{Query, Ty, IntTy, BoolTy, EnumTy, Expr, Number, Field, Count, Aggregate, If, Brackets, Minus, Not, Binary, And, Or}
+use Rattle.wsm_record.specs.Schema.{FieldType}
+use Rattle.wsm_record.specs.Schema as field_types
+use Rattle.wsm_query.specs.Tree.{Query, Expr, Number, Field, Count, Aggregate, If, Brackets, Minus, Not, Binary, And, Or}
 use Rattle.wsm_check.specs.Names.{type_of}
 use Rattle.wsm_check.specs.Sizes.{in_option, fired}
 
@@ -63,10 +65,10 @@ of_aggregate n Min x = x
 of_aggregate n Max x = x
 of_aggregate n _ x = no_number x x
 
-abbrev pub of_type : Ty → Range
-of_type (IntTy lo hi) = Within (interval lo hi)
-of_type BoolTy = NoNumber
-of_type (EnumTy names) = NoNumber
+abbrev pub of_type : FieldType → Range
+of_type (field_types.Int lo hi) = Within (interval lo hi)
+of_type field_types.Truth = NoNumber
+of_type (field_types.Enum names) = NoNumber
 
 abbrev pub range : Query → Expr → Range
 range q (Number n) = Within (interval n n)

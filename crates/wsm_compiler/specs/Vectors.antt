@@ -7,7 +7,8 @@ use Rattle.wsm_record.specs.declared.words.Mode.TheVariants.{Accumulating}
 use Rattle.wsm_record.specs.declared.words.Form.TheVariants.{Panes}
 use Rattle.wsm_windows.specs.declared.window.Shape.TheVariants.{Fixed, Sliding}
 use Rattle.wsm_query.specs.declared.expr.Op.TheVariants.{Add, Sub, Div, Rem, Ne, Gt, Lt}
-use Rattle.wsm_query.specs.Tree.{Query, IntTy, Expr, Number, Truth, Field, Count, Aggregate, If, Minus, Binary, And}
+use Rattle.wsm_record.specs.Schema as field_types
+use Rattle.wsm_query.specs.Tree.{Query, Expr, Number, Truth, Field, Count, Aggregate, If, Minus, Binary, And}
 use Rattle.wsm_bytecode.specs.declared.instr.Instr.TheVariants as instr
 use Rattle.wsm_bytecode.specs.declared.operation.Operation.TheVariants as operation
 use Rattle.wsm_bytecode.specs.declared.instr.SectionId.TheVariants.{Where, Update, Fire}
@@ -36,7 +37,7 @@ n = Field (codes "n")
 abbrev base : Query
 base = record {
   keys = codes "a" ∷ codes "b" ∷ [];
-  fields = record { name = codes "n"; ty = IntTy (pos 0) (pos 100) } ∷ [];
+  fields = record { name = codes "n"; type = field_types.Int (pos 0) (pos 100) } ∷ [];
   start = pos 0;
   skew = pos 100;
   lateness = pos 10;
@@ -97,7 +98,7 @@ by_sum_unfit : ranges_fit by_sum ≡ false
 by_sum_unfit = refl
 
 abbrev wide : Query
-wide = record base { fields = record { name = codes "n"; ty = IntTy (pos 0) (pos 1000000000000) } ∷ []; records = pos 1000000000000 }
+wide = record base { fields = record { name = codes "n"; type = field_types.Int (pos 0) (pos 1000000000000) } ∷ []; records = pos 1000000000000 }
 
 wide_rejected : judge (program_of wide) ≡ Err (record { part = Code Update; place = 1; rule = AccumulatorRange })
 wide_rejected = refl

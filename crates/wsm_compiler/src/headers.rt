@@ -2,18 +2,16 @@
 
 ghost use Rattle.std.specs.Prelude.{◌≡◌, map, IfOk};
 ghost use Rattle.wsm_record.specs.Schema.{schema_refusal};
-ghost use Rattle.wsm_record.specs.Fields.{declared_field, declared_type};
+ghost use Rattle.wsm_record.specs.Fields.{declared_of};
 ghost use Rattle.wsm_bytecode.specs.View.{header_of};
-ghost use Rattle.wsm_query.specs.Seen.{seen_field, seen_ty};
 ghost use Rattle.wsm_check.specs.Seen.{seen_column, seen_folding, seen_parts};
 ghost use Rattle.wsm_compiler.specs.Program as spec;
-ghost use Rattle.wsm_compiler.specs.Assembled.{assembled_header, kept, kept_field};
+ghost use Rattle.wsm_compiler.specs.Assembled.{assembled_header};
 
 use std::alloc::{AllocError, Global};
 use wsm_bytecode::{Budget, CellType, Header};
 use wsm_check::{Column, Folding, Parts};
-use wsm_query::{Declared, Ty};
-use wsm_record::{Field, Kind, Name, Schema, SchemaRefusal, Ty as FieldTy};
+use wsm_record::{Field, Kind, Name, Schema, SchemaRefusal};
 
 /// The header of a program that states a budget.
 pub fn header(alloc: Global, parts: &Parts, budget: Budget) -> Result<Header, AllocError>
@@ -45,48 +43,15 @@ fn every(count: Option<i64>) -> i64
 }
 
 // The keys and fields as a program keeps them.
-fn schema(alloc: Global, keys: &[Name], fields: &[Declared]) -> Result<Schema, AllocError>
-    requires { schema_refusal (kept keys.now (map seen_field fields.now)) ≡ None }
-    ensures { IfOk result (λ schema. schema ≡ kept keys.now (map seen_field fields.now)) }
+fn schema(alloc: Global, keys: &[Name], fields: &[Field]) -> Result<Schema, AllocError>
+    requires { schema_refusal (declared_of keys.now fields.now) ≡ None }
+    ensures { IfOk result (λ schema. schema ≡ declared_of keys.now fields.now) }
 {
-    let fields = kept_fields(alloc, fields)?;
-    match Schema::new(alloc, keys, &fields) {
+    match Schema::new(alloc, keys, fields) {
         Ok(schema) => Ok(schema),
         Err(SchemaRefusal::Memory) => Err(AllocError),
         Err(_) => unreachable!(),
     }
-}
-
-fn kept_fields(alloc: Global, fields: &[Declared]) -> Result<Vec<Field>, AllocError>
-    ensures { IfOk result (λ kept. map declared_field kept.items ≡ map kept_field (map seen_field fields.now)) }
-{
-    let mut kept = Vec::with_capacity(alloc, fields.len())?;
-    for field in fields {
-        let name = field.name.copied();
-        let ty = kept_type(alloc, &field.ty)?;
-        kept.push(Field { name, ty })?;
-    }
-    Ok(kept)
-}
-
-fn kept_type(alloc: Global, ty: &Ty) -> Result<FieldTy, AllocError>
-    ensures { IfOk result (λ kept. declared_type kept ≡ spec.field_type (seen_ty ty.now)) }
-{
-    match ty {
-        Ty::Int { lo, hi } => Ok(FieldTy::Int { lo: *lo, hi: *hi }),
-        Ty::Bool => Ok(FieldTy::Bool),
-        Ty::Enum(names) => Ok(FieldTy::Enum(copied(alloc, names)?)),
-    }
-}
-
-fn copied(alloc: Global, names: &[Name]) -> Result<Vec<Name>, AllocError>
-    ensures { IfOk result (λ copied. copied.items ≡ names.now) }
-{
-    let mut copied = Vec::with_capacity(alloc, names.len())?;
-    for name in names {
-        copied.push(name.copied())?;
-    }
-    Ok(copied)
 }
 
 // How the accumulators fold.

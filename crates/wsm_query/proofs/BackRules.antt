@@ -13,7 +13,9 @@ use Rattle.wsm_tokens.specs.Tokens.{Token, Word, Mark, Number as Figure, Tokens,
 use Rattle.wsm_tokens.specs.Proper.{is_proper, are_proper, has_proper}
 use Rattle.wsm_tokens.specs.Read.{Read, Rule, Took, Stopped, ◌>>=◌, give, and_then, unexpected, begins, behind, spelling, ask, number, name}
 use Rattle.wsm_tokens.specs.Written.{put}
-use Rattle.wsm_query.specs.Tree.{Name, Ty, IntTy, BoolTy, EnumTy, Declared}
+use Rattle.wsm_record.specs.Schema.{FieldType, DeclaredField}
+use Rattle.wsm_record.specs.Schema as field_types
+use Rattle.wsm_query.specs.Tree.{Name}
 use Rattle.wsm_query.specs.Grammar.{after, until, clause, either, brace, list_of, int, names, type_of, field}
 use Rattle.wsm_query.specs.Print.{figures, name_tokens, ty_tokens, clause_tokens}
 use Rattle.wsm_query.proofs.Spelt.{Proper, put_append, Says, word_says, sign_says, differ, begun}
@@ -171,33 +173,33 @@ pub keys_back : ReadsBack (clause (codes "KEYS") names) (λ xs. clause_tokens (c
 keys_back = after_back (codes "KEYS") (Word (codes "KEYS")) (word_says _ refl) refl (closed_back signs.Semicolon closes_keys)
 
 -- the names of an ENUM, of which its type is made before the bracket is taken
-abbrev enum_rest : Rule Ty
-enum_rest = until (codes ")") (names >>= λ xs. give (EnumTy xs))
+abbrev enum_rest : Rule FieldType
+enum_rest = until (codes ")") (names >>= λ xs. give (field_types.Enum xs))
 
-made_of : (xs : List Name) (read : Read (Unit {0})) → and_then read (λ _. give (EnumTy xs)) ≡ and_then (and_then read (λ _. give xs)) (λ ys. give (EnumTy ys))
+made_of : (xs : List Name) (read : Read (Unit {0})) → and_then read (λ _. give (field_types.Enum xs)) ≡ and_then (and_then read (λ _. give xs)) (λ ys. give (field_types.Enum ys))
 made_of xs (Took u rest) = refl
 made_of xs (Stopped f) = refl
 
-made : (read : Read (List Name)) → and_then (and_then read (λ xs. give (EnumTy xs))) (λ t. ask (codes ")") >>= λ _. give t)
-    ≡ and_then (and_then read (λ xs. ask (codes ")") >>= λ _. give xs)) (λ xs. give (EnumTy xs))
+made : (read : Read (List Name)) → and_then (and_then read (λ xs. give (field_types.Enum xs))) (λ t. ask (codes ")") >>= λ _. give t)
+    ≡ and_then (and_then read (λ xs. ask (codes ")") >>= λ _. give xs)) (λ xs. give (field_types.Enum xs))
 made (Took xs rest) = made_of xs (ask (codes ")") rest)
 made (Stopped f) = refl
 
 enum_carries : Carries type_of (Word (codes "ENUM") ∷ []) (after (codes "(") enum_rest) ty_tokens
 enum_carries =
     carry (sign_back signs.Open refl) (λ _.
-    alike (closed signs.Close >>= λ xs. give (EnumTy xs)) (λ ts. made (names ts))
-    (carry (closed_back signs.Close closes_enum) (λ xs. carry_end (EnumTy xs) refl)))
+    alike (closed signs.Close >>= λ xs. give (field_types.Enum xs)) (λ ts. made (names ts))
+    (carry (closed_back signs.Close closes_enum) (λ xs. carry_end (field_types.Enum xs) refl)))
 
-int_carries : Carries type_of (Word (codes "INT") ∷ []) (int >>= λ lo. after (codes "..") int >>= λ hi. give (IntTy lo hi)) ty_tokens
+int_carries : Carries type_of (Word (codes "INT") ∷ []) (int >>= λ lo. after (codes "..") int >>= λ hi. give (field_types.Int lo hi)) ty_tokens
 int_carries =
-    carry int_back (λ lo. carry (after_back (codes "..") (Mark signs.DotDot) (sign_says signs.DotDot) refl int_back) (λ hi. carry_end (IntTy lo hi) refl))
+    carry int_back (λ lo. carry (after_back (codes "..") (Mark signs.DotDot) (sign_says signs.DotDot) refl int_back) (λ hi. carry_end (field_types.Int lo hi) refl))
 
-at_int : (k : Tokens) → type_of (Then (Word (codes "INT")) 0 k) ≡ (int >>= λ lo. after (codes "..") int >>= λ hi. give (IntTy lo hi)) k
+at_int : (k : Tokens) → type_of (Then (Word (codes "INT")) 0 k) ≡ (int >>= λ lo. after (codes "..") int >>= λ hi. give (field_types.Int lo hi)) k
 unfolding type_of begins behind
 at_int k = refl
 
-at_bool : (k : Tokens) → type_of (Then (Word (codes "BOOL")) 0 k) ≡ Took BoolTy k
+at_bool : (k : Tokens) → type_of (Then (Word (codes "BOOL")) 0 k) ≡ Took field_types.Truth k
 unfolding type_of begins behind
 at_bool k = refl
 
@@ -217,7 +219,7 @@ unfolding ask
 enum_backs ts p = enum_case ts p (begins (codes "ENUM") ts) refl
 
 bool_case : (ts : Tokens) → Proper ts → (c : Bool) → begins (codes "BOOL") ts ≡ c
-    → Backs type_of ty_tokens (elim c [ true ↦ Took BoolTy (behind ts) | false ↦ after (codes "ENUM") (after (codes "(") enum_rest) ts ])
+    → Backs type_of ty_tokens (elim c [ true ↦ Took field_types.Truth (behind ts) | false ↦ after (codes "ENUM") (after (codes "(") enum_rest) ts ])
 bool_case ts p true h =
     let f = begun (codes "BOOL") (Word (codes "BOOL")) (word_says _ refl) ts p h in
     record { again = at_bool; proper = refl; rest_proper = f.proper }
@@ -225,8 +227,8 @@ bool_case ts p false h = enum_backs ts p
 
 int_type_case : (ts : Tokens) → Proper ts → (c : Bool) → begins (codes "INT") ts ≡ c
     → Backs type_of ty_tokens (elim c [
-      | true ↦ (int >>= λ lo. after (codes "..") int >>= λ hi. give (IntTy lo hi)) (behind ts)
-      | false ↦ either (codes "BOOL") (give BoolTy) (after (codes "ENUM") (after (codes "(") enum_rest)) ts
+      | true ↦ (int >>= λ lo. after (codes "..") int >>= λ hi. give (field_types.Int lo hi)) (behind ts)
+      | false ↦ either (codes "BOOL") (give field_types.Truth) (after (codes "ENUM") (after (codes "(") enum_rest)) ts
     ])
 int_type_case ts p true h =
     let f = begun (codes "INT") (Word (codes "INT")) (word_says _ refl) ts p h in
@@ -241,10 +243,10 @@ type_of_back : ReadsBack type_of ty_tokens
 type_of_back = record { law = type_of_backs }
 
 -- of a field, behind FIELD
-abbrev pub field_body : Declared → List Token
-field_body d = (Word d.name ∷ ty_tokens d.ty) ++ Mark signs.Semicolon ∷ []
+abbrev pub field_body : DeclaredField → List Token
+field_body d = (Word d.name ∷ ty_tokens d.type) ++ Mark signs.Semicolon ∷ []
 
 pub field_back : ReadsBack field field_body
 unfolding field
 field_back =
-    carried (carry name_back (λ x. carry type_of_back (λ t. carry (sign_back signs.Semicolon refl) (λ _. carry_end (record { name = x; ty = t }) refl))))
+    carried (carry name_back (λ x. carry type_of_back (λ t. carry (sign_back signs.Semicolon refl) (λ _. carry_end (record { name = x; type = t }) refl))))

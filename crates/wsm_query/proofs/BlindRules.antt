@@ -6,7 +6,8 @@ use Rattle.wsm_record.specs.declared.words.Mode.TheVariants.{Discarding, Accumul
 use Rattle.wsm_record.specs.declared.words.Form.TheVariants.{Panes, Istream, Dstream, Rstream}
 use Rattle.wsm_windows.specs.declared.window.Shape.TheVariants.{Fixed, Sliding, Session}
 use Rattle.wsm_tokens.specs.Read.{Rule, Stopped, give, and_then, behind, too_deep}
-use Rattle.wsm_query.specs.Tree.{Name, IntTy, BoolTy, EnumTy, Expr, Number, Truth, Field, EnumName, Key, KeyName, Count, Aggregate, If, Brackets, Minus, Not}
+use Rattle.wsm_record.specs.Schema as field_types
+use Rattle.wsm_query.specs.Tree.{Name, Expr, Number, Truth, Field, EnumName, Key, KeyName, Count, Aggregate, If, Brackets, Minus, Not}
 use Rattle.wsm_query.specs.Grammar.{kinds, aggregate, count_of, choice, brackets, pointed, leaf, atom, unary, chain, chain_limit, chained, products, sums, comparisons, ands, ors, prod, sum, compared, cmp, neg, conj, expr_in, Deeper, deeper, levels, level_limit, expr, int, names, type_of, field, budget, shape, mode, form, every}
 use Rattle.wsm_query.proofs.Chains.{Table}
 use Rattle.wsm_query.proofs.Blind.{Blind, BlindAt, BlindIn, give_blind, bind_blind, behind_blind, deep_blind, at_blind, either_blind, numbered_blind, listed_blind, one_of_blind, ask_blind, number_blind, name_blind, after_blind, until_blind, list_of_blind, opened_blind}
@@ -151,10 +152,10 @@ int_blind = either_blind (codes "-") (bind_blind number_blind (λ n. give_blind 
 pub type_of_blind : Blind type_of
 unfolding type_of
 type_of_blind =
-    either_blind (codes "INT") (bind_blind int_blind (λ lo. bind_blind (after_blind (codes "..") int_blind) (λ hi. give_blind (IntTy lo hi))))
-    (either_blind (codes "BOOL") (give_blind BoolTy)
-    (after_blind (codes "ENUM") (after_blind (codes "(") (until_blind (codes ")") (bind_blind names_blind (λ xs. give_blind (EnumTy xs)))))))
+    either_blind (codes "INT") (bind_blind int_blind (λ lo. bind_blind (after_blind (codes "..") int_blind) (λ hi. give_blind (field_types.Int lo hi))))
+    (either_blind (codes "BOOL") (give_blind field_types.Truth)
+    (after_blind (codes "ENUM") (after_blind (codes "(") (until_blind (codes ")") (bind_blind names_blind (λ xs. give_blind (field_types.Enum xs)))))))
 
 pub field_blind : Blind field
 unfolding field
-field_blind = bind_blind name_blind (λ x. bind_blind type_of_blind (λ t. bind_blind (ask_blind (codes ";")) (λ _. give_blind (record { name = x; ty = t }))))
+field_blind = bind_blind name_blind (λ x. bind_blind type_of_blind (λ t. bind_blind (ask_blind (codes ";")) (λ _. give_blind (record { name = x; type = t }))))

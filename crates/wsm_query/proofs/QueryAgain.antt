@@ -8,7 +8,8 @@ use Rattle.wsm_tokens.specs.Tokens.{Token, Word, Tokens, Then, End, Bad}
 use Rattle.wsm_tokens.specs.Proper.{is_proper, are_proper, has_proper}
 use Rattle.wsm_tokens.specs.Read.{Read, Rule, Took, Stopped, ◌>>=◌, give, and_then, unexpected, begins, behind, number, is_end, ask, ended}
 use Rattle.wsm_tokens.specs.Written.{bare, put}
-use Rattle.wsm_query.specs.Tree.{Name, Declared, Query}
+use Rattle.wsm_record.specs.Schema.{DeclaredField}
+use Rattle.wsm_query.specs.Tree.{Name, Query}
 use Rattle.wsm_query.specs.Grammar.{clause, until, brace, names, field, query}
 use Rattle.wsm_query.specs.Parse.{query_text}
 use Rattle.wsm_query.specs.Print.{name_tokens, clause_tokens, field_tokens, query_tokens}
@@ -45,7 +46,7 @@ starts : {A B : Type 0} (go : Unit {0} → Rule A) (last : A → Rule B) (x : B)
 unfolding ask
 starts go last x rest ts p e = start_case go last x rest ts p (begins (codes "START") ts) refl e
 
-tail_starts : (keys : List Name) (fields : List Declared) (ts : Tokens) → Proper ts → (q : Query) (rest : Tokens) → behind_fields keys fields ts ≡ Took q rest → First (Word (codes "START")) ts
+tail_starts : (keys : List Name) (fields : List DeclaredField) (ts : Tokens) → Proper ts → (q : Query) (rest : Tokens) → behind_fields keys fields ts ≡ Took q rest → First (Word (codes "START")) ts
 tail_starts keys fields ts p q rest e = starts (λ _. until (codes ";") number) _ q rest ts p e
 
 no_field : (k : Tokens) → begins (codes "FIELD") (Then (Word (codes "START")) 0 k) ≡ false
@@ -63,7 +64,7 @@ Rounds (Stopped f) = Unit {0}
 abbrev keys_tokens : List Name → List Token
 keys_tokens keys = clause_tokens (codes "KEYS") (name_tokens keys)
 
-query_head : (keys : List Name) (fields : List Declared) (k : Tokens) → Again (clause (codes "KEYS") names) keys_tokens keys → AllAgain field field_body fields
+query_head : (keys : List Name) (fields : List DeclaredField) (k : Tokens) → Again (clause (codes "KEYS") names) keys_tokens keys → AllAgain field field_body fields
     → begins (codes "FIELD") k ≡ false → query (put (head_tokens keys fields) k) ≡ behind_fields keys fields k
 unfolding query
 query_head keys fields k a l none =
@@ -72,7 +73,7 @@ query_head keys fields k a l none =
     ∙ ap (λ r. and_then r (λ keys. brace (codes "FIELD") field >>= λ fields. behind_fields keys fields)) (a (put us k))
     ∙ ap (λ r. and_then r (λ fields. behind_fields keys fields)) (brace_again (codes "FIELD") field field_body (Word (codes "FIELD")) refl fields l k none)
 
-tail_rounds : (keys : List Name) (fields : List Declared) (mid : Tokens) → Again (clause (codes "KEYS") names) keys_tokens keys → AllAgain field field_body fields
+tail_rounds : (keys : List Name) (fields : List DeclaredField) (mid : Tokens) → Again (clause (codes "KEYS") names) keys_tokens keys → AllAgain field field_body fields
     → are_proper (head_tokens keys fields) ≡ true → Proper mid → (read : Read Query) → behind_fields keys fields mid ≡ read
     → Ends (put (head_tokens keys fields) (bare mid)) query_tokens read → Rounds read
 tail_rounds keys fields mid a l hp p (Took q rest) e h =
@@ -85,7 +86,7 @@ tail_rounds keys fields mid a l hp p (Took q rest) e h =
 tail_rounds keys fields mid a l hp p (Stopped f) e h = tt
 
 fields_rounds : (keys : List Name) → Again (clause (codes "KEYS") names) keys_tokens keys → are_proper (keys_tokens keys) ≡ true
-    → (read : Read (List Declared)) → AllBack field field_body (Word (codes "FIELD")) read → Rounds (and_then read (λ fields. behind_fields keys fields))
+    → (read : Read (List DeclaredField)) → AllBack field field_body (Word (codes "FIELD")) read → Rounds (and_then read (λ fields. behind_fields keys fields))
 fields_rounds keys a kp (Took fields mid) l =
     tail_rounds keys fields mid a l.all (more_proper (keys_tokens keys) (flat_map field_tokens fields) kp l.proper) l.rest_proper (behind_fields keys fields mid) refl
     ((tail_goes {b = put (head_tokens keys fields) (bare mid)} keys fields).law mid l.rest_proper refl)

@@ -4,7 +4,8 @@ use Rattle.std.specs.Prelude.{codes}
 use Rattle.std.specs.List.{flat_map}
 use Rattle.wsm_tokens.specs.Tokens.{Token, Tokens}
 use Rattle.wsm_tokens.specs.Read.{Rule, ◌>>=◌, give, number}
-use Rattle.wsm_query.specs.Tree.{Name, Declared, Query}
+use Rattle.wsm_record.specs.Schema.{DeclaredField}
+use Rattle.wsm_query.specs.Tree.{Name, Query}
 use Rattle.wsm_query.specs.Grammar.{after, clause, optional, list_of, expr, budget, shape, mode, form, every}
 use Rattle.wsm_query.specs.Print.{name_tokens, clause_tokens, field_tokens, query_tokens}
 use Rattle.wsm_query.proofs.Blind.{Blind, give_blind, bind_blind, number_blind, after_blind, until_blind, optional_blind, list_of_blind}
@@ -13,7 +14,7 @@ use Rattle.wsm_query.proofs.Spelt.{word_says, Goes, step, done}
 use Rattle.wsm_query.proofs.SpeltRules.{number_spelt, expr_spelt}
 use Rattle.wsm_query.proofs.SpeltClauses.{after_spelt, clause_spelt, list_of_spelt, budget_spelt, condition_spelt, interval_spelt, shape_spelt, mode_spelt, form_spelt}
 
-abbrev pub behind_fields : List Name → List Declared → Rule Query
+abbrev pub behind_fields : List Name → List DeclaredField → Rule Query
 behind_fields keys fields = do
   start ← clause (codes "START") number
   skew ← clause (codes "SKEW") number
@@ -49,7 +50,7 @@ behind_fields keys fields = do
 pub clause_blind : {A : Type 0} {rule : Rule A} (s : List ℕ) → Blind rule → Blind (clause s rule)
 clause_blind s r = after_blind s (until_blind (codes ";") r)
 
-pub tail_blind : (keys : List Name) (fields : List Declared) → Blind (behind_fields keys fields)
+pub tail_blind : (keys : List Name) (fields : List DeclaredField) → Blind (behind_fields keys fields)
 tail_blind keys fields =
     bind_blind (clause_blind (codes "START") number_blind) (λ start.
     bind_blind (clause_blind (codes "SKEW") number_blind) (λ skew.
@@ -66,10 +67,10 @@ tail_blind keys fields =
     bind_blind (clause_blind (codes "EMIT") form_blind) (λ form. give_blind _)))))))))))))
 
 -- the tokens of the keys and the fields
-abbrev pub head_tokens : List Name → List Declared → List Token
+abbrev pub head_tokens : List Name → List DeclaredField → List Token
 head_tokens keys fields = clause_tokens (codes "KEYS") (name_tokens keys) ++ flat_map field_tokens fields
 
-pub tail_goes : {b : Tokens} (keys : List Name) (fields : List Declared) → Goes b (head_tokens keys fields) (behind_fields keys fields) query_tokens
+pub tail_goes : {b : Tokens} (keys : List Name) (fields : List DeclaredField) → Goes b (head_tokens keys fields) (behind_fields keys fields) query_tokens
 tail_goes keys fields =
     step (clause_spelt (codes "START") (word_says _ refl) number_spelt) (λ start.
     step (clause_spelt (codes "SKEW") (word_says _ refl) number_spelt) (λ skew.

@@ -12,7 +12,9 @@ use Rattle.wsm_tokens.specs.Tokens.{Tokens}
 use Rattle.wsm_tokens.specs.Read.{Rule, Took, Stopped, ◌>>=◌, give, and_then, unexpected, too_deep, begins, begins_number, behind, count, ask, number, name}
 use Rattle.wsm_query.specs.declared.expr.Op.{Op}
 use Rattle.wsm_query.specs.declared.expr.Op.TheVariants.{Add, Sub, Mul, Div, Rem, Eq, Ne, Lt, Le, Gt, Ge}
-use Rattle.wsm_query.specs.Tree.{Name, Ty, IntTy, BoolTy, EnumTy, Declared, Budget, Query, Expr, Number, Truth, Field, EnumName, Key, KeyName, Count, Aggregate, If, Brackets, Minus, Not, Binary, And, Or}
+use Rattle.wsm_record.specs.Schema.{FieldType, DeclaredField}
+use Rattle.wsm_record.specs.Schema as field_types
+use Rattle.wsm_query.specs.Tree.{Name, Budget, Query, Expr, Number, Truth, Field, EnumName, Key, KeyName, Count, Aggregate, If, Brackets, Minus, Not, Binary, And, Or}
 
 -- what stands beside the next token in a table of words and signs
 abbrev pub looked_up : {A : Type 0} → List (List ℕ × A) → Tokens → Option A
@@ -244,19 +246,19 @@ int = either (codes "-") (number >>= λ n. give (neg_ℤ n)) number
 unfoldable pub names : Rule (List Name)
 names = list_of name
 
-unfoldable pub type_of : Rule Ty
+unfoldable pub type_of : Rule FieldType
 type_of =
-    either (codes "INT") (int >>= λ lo. after (codes "..") int >>= λ hi. give (IntTy lo hi))
-    (either (codes "BOOL") (give BoolTy)
-    (after (codes "ENUM") (after (codes "(") (until (codes ")") (names >>= λ xs. give (EnumTy xs))))))
+    either (codes "INT") (int >>= λ lo. after (codes "..") int >>= λ hi. give (field_types.Int lo hi))
+    (either (codes "BOOL") (give field_types.Truth)
+    (after (codes "ENUM") (after (codes "(") (until (codes ")") (names >>= λ xs. give (field_types.Enum xs))))))
 
 -- behind FIELD
-unfoldable pub field : Rule Declared
+unfoldable pub field : Rule DeclaredField
 field = do
   x ← name
   t ← type_of
   _ ← ask (codes ";")
-  give (record { name = x; ty = t })
+  give (record { name = x; type = t })
 
 -- behind BUDGET
 unfoldable pub budget : Rule Budget

@@ -15,7 +15,9 @@ use Rattle.wsm_tokens.specs.Tokens.{Token, Word, Mark, Number as Figure}
 use Rattle.wsm_tokens.specs.Written.{written}
 use Rattle.wsm_query.specs.declared.expr.Op.{Op}
 use Rattle.wsm_query.specs.declared.expr.Op.TheVariants.{Add, Sub, Mul, Div, Rem, Eq, Ne, Lt, Le, Gt, Ge}
-use Rattle.wsm_query.specs.Tree.{Name, Ty, IntTy, BoolTy, EnumTy, Declared, Budget, Query, Expr, Number, Truth, Field, EnumName, Key, KeyName, Count, Aggregate, If, Brackets, Minus, Not, Binary, And, Or}
+use Rattle.wsm_record.specs.Schema.{FieldType, DeclaredField}
+use Rattle.wsm_record.specs.Schema as field_types
+use Rattle.wsm_query.specs.Tree.{Name, Budget, Query, Expr, Number, Truth, Field, EnumName, Key, KeyName, Count, Aggregate, If, Brackets, Minus, Not, Binary, And, Or}
 
 -- a number, behind a minus sign where it is negative
 abbrev pub figures : ℤ → List Token
@@ -76,17 +78,17 @@ with_commas (ts ∷ us ∷ tss) = ts ++ Mark signs.Comma ∷ with_commas (us ∷
 abbrev pub name_tokens : List Name → List Token
 name_tokens xs = with_commas (map (λ x. Word x ∷ []) xs)
 
-abbrev pub ty_tokens : Ty → List Token
-ty_tokens (IntTy lo hi) = Word (codes "INT") ∷ figures lo ++ Mark signs.DotDot ∷ figures hi
-ty_tokens BoolTy = Word (codes "BOOL") ∷ []
-ty_tokens (EnumTy names) = Word (codes "ENUM") ∷ bracketed (name_tokens names)
+abbrev pub ty_tokens : FieldType → List Token
+ty_tokens (field_types.Int lo hi) = Word (codes "INT") ∷ figures lo ++ Mark signs.DotDot ∷ figures hi
+ty_tokens field_types.Truth = Word (codes "BOOL") ∷ []
+ty_tokens (field_types.Enum names) = Word (codes "ENUM") ∷ bracketed (name_tokens names)
 
 -- a word and what belongs to it, with a semicolon
 abbrev pub clause_tokens : List ℕ → List Token → List Token
 clause_tokens w ts = Word w ∷ ts ++ Mark signs.Semicolon ∷ []
 
-abbrev pub field_tokens : Declared → List Token
-field_tokens d = clause_tokens (codes "FIELD") (Word d.name ∷ ty_tokens d.ty)
+abbrev pub field_tokens : DeclaredField → List Token
+field_tokens d = clause_tokens (codes "FIELD") (Word d.name ∷ ty_tokens d.type)
 
 abbrev pub budget_tokens : Option Budget → List Token
 budget_tokens None = []

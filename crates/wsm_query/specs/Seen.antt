@@ -2,12 +2,10 @@
 use Rattle.std.specs.Prelude.{map, option_map}
 use Rattle.wsm_query.specs.declared.expr.Expr.{Expr as Code}
 use Rattle.wsm_query.specs.declared.expr.Expr.TheVariants as code
-use Rattle.wsm_query.specs.declared.query.Ty.{Ty as CodeTy}
-use Rattle.wsm_query.specs.declared.query.Ty.TheVariants as code_ty
-use Rattle.wsm_query.specs.declared.query.Declared.{Declared as CodeField}
+use Rattle.wsm_record.specs.Fields.{declared_field}
 use Rattle.wsm_query.specs.declared.query.Budget.{Budget as CodeBudget}
 use Rattle.wsm_query.specs.declared.query.Query.{Query as CodeQuery}
-use Rattle.wsm_query.specs.Tree.{Ty, IntTy, BoolTy, EnumTy, Declared, Budget, Query, Expr, Number, Truth, Field, EnumName, Key, KeyName, Count, Aggregate, If, Brackets, Minus, Not, Binary, And, Or}
+use Rattle.wsm_query.specs.Tree.{Budget, Query, Expr, Number, Truth, Field, EnumName, Key, KeyName, Count, Aggregate, If, Brackets, Minus, Not, Binary, And, Or}
 
 abbrev pub seen_expr : Code → Expr
 seen_expr (code.Number n) = Number n
@@ -26,21 +24,13 @@ seen_expr (code.Binary' op p x q y) = Binary op (seen_expr x) (seen_expr y)
 seen_expr (code.And' p x q y) = And (seen_expr x) (seen_expr y)
 seen_expr (code.Or' p x q y) = Or (seen_expr x) (seen_expr y)
 
-abbrev pub seen_ty : CodeTy → Ty
-seen_ty (code_ty.Int lo hi) = IntTy lo hi
-seen_ty code_ty.Bool = BoolTy
-seen_ty (code_ty.Enum names) = EnumTy names.items
-
-abbrev pub seen_field : CodeField → Declared
-seen_field d = record { name = d.name; ty = seen_ty d.ty }
-
 abbrev pub seen_budget : CodeBudget → Budget
 seen_budget b = record { per_record = b.per_record; per_pane = b.per_pane; held = b.held }
 
 abbrev pub seen : CodeQuery → Query
 seen q = record {
   keys = q.keys.items;
-  fields = map seen_field q.fields.items;
+  fields = map declared_field q.fields.items;
   start = q.start;
   skew = q.skew;
   lateness = q.lateness;

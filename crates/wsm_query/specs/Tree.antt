@@ -4,6 +4,7 @@ use Rattle.std.specs.Prelude.{ℕ, Bool, List, ℤ, Option}
 use Rattle.wsm_record.specs.declared.words.Kind.{Kind}
 use Rattle.wsm_record.specs.declared.words.Mode.{Mode}
 use Rattle.wsm_record.specs.declared.words.Form.{Form}
+use Rattle.wsm_record.specs.Schema.{DeclaredField}
 use Rattle.wsm_windows.specs.declared.window.Shape.{Shape}
 use Rattle.wsm_query.specs.declared.expr.Op.{Op}
 
@@ -29,16 +30,6 @@ pub data Expr : Type 0 where
   And : (left : Expr) → (right : Expr) → Expr
   Or : (left : Expr) → (right : Expr) → Expr
 
--- a field's declared type
-pub data Ty : Type 0 where
-  IntTy : (lo : ℤ) → (hi : ℤ) → Ty
-  BoolTy : Ty
-  EnumTy : (names : List Name) → Ty
-
-pub record Declared : Type 0 where
-  pub name : Name
-  pub ty : Ty
-
 pub record Budget : Type 0 where
   pub per_record : ℤ
   pub per_pane : ℤ
@@ -47,7 +38,7 @@ pub record Budget : Type 0 where
 -- a query, with a field for each clause
 pub record Query : Type 0 where
   pub keys : List Name
-  pub fields : List Declared
+  pub fields : List DeclaredField
   pub start : ℤ
   pub skew : ℤ
   pub lateness : ℤ

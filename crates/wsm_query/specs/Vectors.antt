@@ -13,7 +13,8 @@ use Rattle.wsm_tokens.specs.Place.{place_of}
 use Rattle.wsm_tokens.specs.Tokens.{tokens, tokens_from, first_of, sign_of}
 use Rattle.wsm_tokens.specs.Read.{unexpected, too_deep, begins, begins_number, is_end, behind, count, ask, number, name, ended}
 use Rattle.wsm_query.specs.declared.expr.Op.TheVariants.{Sub, Ne, Gt, Div}
-use Rattle.wsm_query.specs.Tree.{Query, IntTy, Number, Field, Count, Aggregate, Brackets, Binary, And}
+use Rattle.wsm_record.specs.Schema as field_types
+use Rattle.wsm_query.specs.Tree.{Query, Number, Field, Count, Aggregate, Brackets, Binary, And}
 use Rattle.wsm_query.specs.Grammar.{brace, list_of, aggregate, count_of, choice, brackets, pointed, leaf, atom, unary, chain, chained, prod, sum, cmp, neg, conj, expr_in, levels, expr, int, names, type_of, field, budget, shape, mode, form, every, query}
 use Rattle.wsm_query.specs.Parse.{parse, query_text}
 
@@ -36,7 +37,7 @@ ending tail = head ++ codes "COUNT(*) " ++ tail
 abbrev base : Query
 base = record {
   keys = codes "a" ∷ codes "b" ∷ [];
-  fields = record { name = codes "n"; ty = IntTy (pos 0) (pos 100) } ∷ [];
+  fields = record { name = codes "n"; type = field_types.Int (pos 0) (pos 100) } ∷ [];
   start = pos 0;
   skew = pos 100;
   lateness = pos 10;

@@ -3,13 +3,14 @@
 ghost use Rattle.std.specs.Prelude.{◌≡◌, ◌≤◌, codes, map};
 ghost use Rattle.wsm_tokens.specs.Read.{Gives, count};
 ghost use Rattle.wsm_query.specs.Grammar.{int, names, type_of, field, brace, list_of, expr, shape, mode, form, every, budget};
-ghost use Rattle.wsm_query.specs.Seen.{seen_budget, seen_expr, seen_field, seen_ty};
+ghost use Rattle.wsm_record.specs.Fields.{declared_field, declared_type};
+ghost use Rattle.wsm_query.specs.Seen.{seen_budget, seen_expr};
 
 use crate::expr::Expr;
 use crate::parse_expr::expression;
-use crate::query::{Budget, Declared, Ty};
+use crate::query::Budget;
 use std::alloc::Global;
-use wsm_record::{Form, Mode, Name};
+use wsm_record::{Field, Form, Mode, Name, Ty};
 use wsm_tokens::{Reader, Stop};
 use wsm_windows::Shape;
 
@@ -48,7 +49,7 @@ pub fn names(alloc: Global, reader: &mut Reader) -> Result<Vec<Name>, Stop>
 // type = "INT" int ".." int | "BOOL" | "ENUM" "(" names ")"
 #[tactic(auto, unfolding(crate::specs::Grammar::type_of))]
 fn type_of(alloc: Global, reader: &mut Reader) -> Result<Ty, Stop>
-    ensures gives { Gives seen_ty result reader.new (type_of reader.old) }
+    ensures gives { Gives declared_type result reader.new (type_of reader.old) }
     ensures onward { count reader.new ≤ count reader.old }
 {
     if reader.begins(b"INT") {
@@ -71,20 +72,20 @@ fn type_of(alloc: Global, reader: &mut Reader) -> Result<Ty, Stop>
 
 // name type ";", behind FIELD
 #[tactic(auto, unfolding(crate::specs::Grammar::field))]
-fn field(alloc: Global, reader: &mut Reader) -> Result<Declared, Stop>
-    ensures gives { Gives seen_field result reader.new (field reader.old) }
+fn field(alloc: Global, reader: &mut Reader) -> Result<Field, Stop>
+    ensures gives { Gives declared_field result reader.new (field reader.old) }
     ensures onward { count reader.new ≤ count reader.old }
 {
     let name = reader.name()?;
     let ty = type_of(alloc, reader)?;
     reader.ask(b";")?;
-    Ok(Declared { name, ty })
+    Ok(Field { name, ty })
 }
 
 // { "FIELD" name type ";" }
 #[tactic(auto, unfolding(crate::specs::Grammar::brace))]
-pub fn fields(alloc: Global, reader: &mut Reader) -> Result<Vec<Declared>, Stop>
-    ensures gives { Gives (λ v. map seen_field v.items) result reader.new (brace (codes "FIELD") field reader.old) }
+pub fn fields(alloc: Global, reader: &mut Reader) -> Result<Vec<Field>, Stop>
+    ensures gives { Gives (λ v. map declared_field v.items) result reader.new (brace (codes "FIELD") field reader.old) }
     ensures onward { count reader.new ≤ count reader.old }
 {
     let mut fields = Vec::new(alloc);

@@ -30,7 +30,7 @@
 
 pub use expr::{Expr, Op};
 pub use printing::print;
-pub use query::{Budget, Declared, Query, Ty};
+pub use query::{Budget, Query};
 pub use reading::parse;
 
 mod clauses;

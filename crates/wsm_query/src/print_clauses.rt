@@ -5,14 +5,15 @@ ghost use Rattle.std.specs.List.{flat_map};
 ghost use Rattle.wsm_query.specs.Adds.{adds, comma_before};
 ghost use Rattle.wsm_query.specs.Print as rule;
 ghost use Rattle.wsm_query.specs.Print.{budget_tokens, clause_tokens, condition_tokens, every_tokens, expr_tokens, field_tokens, figures, name_tokens, shape_tokens, ty_tokens, with_commas};
-ghost use Rattle.wsm_query.specs.Seen.{seen_budget, seen_expr, seen_field, seen_ty};
+ghost use Rattle.wsm_record.specs.Fields.{declared_field, declared_type};
+ghost use Rattle.wsm_query.specs.Seen.{seen_budget, seen_expr};
 
 use crate::expr::Expr;
 use crate::print_expr::expr;
 use crate::print_tokens::{number, sign, word};
-use crate::query::{Budget, Declared, Ty};
+use crate::query::Budget;
 use std::alloc::AllocError;
-use wsm_record::{Form, Mode, Name};
+use wsm_record::{Field, Form, Mode, Name, Ty};
 use wsm_tokens::Sign;
 use wsm_windows::Shape;
 
@@ -52,8 +53,8 @@ fn comma(text: &mut Vec<u8>, place: usize) -> Result<(), AllocError>
 
 /// Adds the clauses of the declared fields.
 #[tactic(auto, using(crate::proofs::Written::parts))]
-pub fn fields(text: &mut Vec<u8>, fields: &[Declared]) -> Result<(), AllocError>
-    ensures { OnOk result (text.new.items ≡ adds text.old.items (flat_map field_tokens (map seen_field fields.now))) }
+pub fn fields(text: &mut Vec<u8>, fields: &[Field]) -> Result<(), AllocError>
+    ensures { OnOk result (text.new.items ≡ adds text.old.items (flat_map field_tokens (map declared_field fields.now))) }
 {
     for declared in fields {
         field(text, declared)?;
@@ -63,8 +64,8 @@ pub fn fields(text: &mut Vec<u8>, fields: &[Declared]) -> Result<(), AllocError>
 
 // "FIELD" name type ";"
 #[tactic(auto, using(crate::proofs::Written::parts))]
-fn field(text: &mut Vec<u8>, field: &Declared) -> Result<(), AllocError>
-    ensures { OnOk result (text.new.items ≡ adds text.old.items (field_tokens (seen_field field.now))) }
+fn field(text: &mut Vec<u8>, field: &Field) -> Result<(), AllocError>
+    ensures { OnOk result (text.new.items ≡ adds text.old.items (field_tokens (declared_field field.now))) }
 {
     word(text, b"FIELD")?;
     word(text, field.name.as_bytes())?;
@@ -75,7 +76,7 @@ fn field(text: &mut Vec<u8>, field: &Declared) -> Result<(), AllocError>
 // "INT" int ".." int | "BOOL" | "ENUM" "(" names ")"
 #[tactic(auto, using(crate::proofs::Written::parts))]
 fn type_of(text: &mut Vec<u8>, ty: &Ty) -> Result<(), AllocError>
-    ensures { OnOk result (text.new.items ≡ adds text.old.items (ty_tokens (seen_ty ty.now))) }
+    ensures { OnOk result (text.new.items ≡ adds text.old.items (ty_tokens (declared_type ty.now))) }
 {
     match ty {
         Ty::Int { lo, hi } => {

@@ -1,24 +1,8 @@
 //! The tree of a query.
 
 use crate::expr::Expr;
-use wsm_record::{Form, Mode, Name};
+use wsm_record::{Field, Form, Mode, Name};
 use wsm_windows::Shape;
-
-/// The declared type of a field.
-#[derive(Debug, Drop)]
-pub enum Ty {
-    /// Whole numbers from `lo` to `hi`, both included.
-    Int { lo: i64, hi: i64 },
-    Bool,
-    Enum(Vec<Name>),
-}
-
-/// A declared field.
-#[derive(Debug, Drop)]
-pub struct Declared {
-    pub name: Name,
-    pub ty: Ty,
-}
 
 /// What a query states that it needs at most.
 #[derive(Clone, Copy, Debug, PartialEq, Eq)]
@@ -35,7 +19,7 @@ pub struct Budget {
 #[derive(Debug, Drop)]
 pub struct Query {
     pub keys: Vec<Name>,
-    pub fields: Vec<Declared>,
+    pub fields: Vec<Field>,
     /// Where the watermark starts, in event time.
     pub start: i64,
     /// How far ahead of the watermark a record may be, in event time.

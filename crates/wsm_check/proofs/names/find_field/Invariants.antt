@@ -1,8 +1,8 @@
 use Rattle.std.proofs.Common.{map, drop}
-use Rattle.wsm_query.specs.Seen.{seen_field}
+use Rattle.wsm_record.specs.Fields.{declared_field}
 use Rattle.wsm_check.proofs.Naming.{Behind}
 use Rattle.wsm_check.proofs.names.find_field.Given as goal
 
 -- no field so far has the name
 abbrev pub invariant-loop-number : goal.invariant-loop-number
-invariant-loop-number l = Behind (map seen_field l.fields) l.name l.number (map seen_field (drop l.number l.fields))
+invariant-loop-number l = Behind (map declared_field l.fields) l.name l.number (map declared_field (drop l.number l.fields))
