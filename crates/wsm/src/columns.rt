@@ -12,11 +12,9 @@ ghost use Rattle.wsm.specs.Turns.{names};
 use std::alloc::AllocError;
 use wsm_bytecode::{CellType, Header, Program};
 use wsm_csv::row_text;
+use wsm_record::limits::MAX_COLUMNS;
 use wsm_record::{FieldType, Names, Schema};
 use wsm_semantics::OutRow;
-
-/// The most columns of a program.
-const MAX_COLUMNS: usize = 16;
 
 /// Adds a line for each row.
 pub fn add_rows(program: &Program, rows: &[OutRow], lines: &mut Vec<u8>) -> Result<(), AllocError>

@@ -1,5 +1,6 @@
 -- What an admission keeps of a history, and how an event changes it.
 use Rattle.std.specs.Prelude.{◌≡◌, ℕ, ◌+◌, ◌≤◌, min, List, ℤ, pos, ◌≤ℤ◌, Option, Some, None, Result, Ok, Err}
+use Rattle.wsm_record.specs.declared.limits.TheConstants.{LATEST_TIME}
 use Rattle.wsm_record.specs.Event.{Event, Record, Watermark}
 use Rattle.wsm_record.specs.Schema.{Declared}
 use Rattle.wsm_admission.specs.declared.clock.Clock.{Clock}
@@ -7,7 +8,7 @@ use Rattle.wsm_admission.specs.declared.verdict.Admitted.{Admitted}
 use Rattle.wsm_admission.specs.declared.verdict.Admitted.TheVariants as admitted
 use Rattle.wsm_admission.specs.declared.verdict.Refusal.{Refusal}
 use Rattle.wsm_admission.specs.declared.verdict.Refusal.TheVariants as refusal
-use Rattle.wsm_admission.specs.Clock.{IsWithinLimits, latest_time, verdict, verdict_at, watermark_of, admitted_count, late_count, refused_count}
+use Rattle.wsm_admission.specs.Clock.{IsWithinLimits, verdict, verdict_at, watermark_of, admitted_count, late_count, refused_count}
 
 -- a counter of 64 bits, which stays at its greatest value
 abbrev pub counter : ℕ → ℕ
@@ -29,7 +30,7 @@ opened c = record { clock = c; mark = c.start; admitted = 0; late = 0; refused =
 pub record IsInRange (s : State) : Type 0 where
   pub limits : IsWithinLimits s.clock
   pub mark_from : pos 0 ≤ℤ s.mark
-  pub mark_to : s.mark ≤ℤ latest_time
+  pub mark_to : s.mark ≤ℤ LATEST_TIME
   pub admitted_to : s.admitted ≤ s.clock.records
 
 -- the answer to an event, where a rule refuses it or none

@@ -1,36 +1,30 @@
 -- The watermark after a history, and the verdict on an event. A history is a list of events, the
 -- newest first. The watermark, a claim of the source on what is still to come, is the Dataflow
 -- Model's (Akidau et al. 2015); the verdicts, their order and the counts are this project's own.
-use Rattle.std.specs.Prelude.{ℕ, ◌+◌, ◌≤◌, Bool, false, ◌&&◌, not, if◌then◌else◌, List, [], ◌∷◌, length, ℤ, pos, ◌+ℤ◌, ◌≤ℤ◌, int_lt, int_le, nat_lt, nat_le, Option, Some, None}
+use Rattle.std.specs.Prelude.{ℕ, ◌+◌, ◌≤◌, Bool, false, ◌&&◌, not, if◌then◌else◌, List, [], ◌∷◌, length, ℤ, pos, ◌+ℤ◌, ◌≤ℤ◌, int_lt, int_le, unsigned_abs, nat_lt, nat_le, Option, Some, None}
 use Rattle.std.specs.Int.{int_max}
 use Rattle.wsm_record.specs.declared.event.Value.{Value}
+use Rattle.wsm_record.specs.declared.limits.TheConstants.{LATEST_TIME, LONGEST_SPAN}
 use Rattle.wsm_record.specs.Event.{Event, Record, Watermark}
 use Rattle.wsm_record.specs.Schema.{Declared, fit_fields}
 use Rattle.wsm_admission.specs.declared.clock.Clock.{Clock}
 use Rattle.wsm_admission.specs.declared.verdict.Refusal.{Refusal}
 use Rattle.wsm_admission.specs.declared.verdict.Refusal.TheVariants as refusal
 
-abbrev pub latest_time : ℤ
-latest_time = pos 10000000000000000
-
--- the greatest skew and lateness, and the greatest number of records
-abbrev pub greatest_allowance : ℕ
-greatest_allowance = 1000000000000
-
 -- a clock whose numbers lie in the limits
 pub record IsWithinLimits (c : Clock) : Type 0 where
   pub start_from : pos 0 ≤ℤ c.start
-  pub start_to : c.start ≤ℤ latest_time
+  pub start_to : c.start ≤ℤ LATEST_TIME
   pub skew_from : pos 0 ≤ℤ c.skew
-  pub skew_to : c.skew ≤ℤ pos greatest_allowance
+  pub skew_to : c.skew ≤ℤ LONGEST_SPAN
   pub lateness_from : pos 0 ≤ℤ c.lateness
-  pub lateness_to : c.lateness ≤ℤ pos greatest_allowance
+  pub lateness_to : c.lateness ≤ℤ LONGEST_SPAN
   pub records_from : 1 ≤ c.records
-  pub records_to : c.records ≤ greatest_allowance
+  pub records_to : c.records ≤ unsigned_abs LONGEST_SPAN
 
 -- a time that a record or a watermark may have
 abbrev pub is_time : ℤ → Bool
-is_time t = int_le (pos 0) t && int_le t latest_time
+is_time t = int_le (pos 0) t && int_le t LATEST_TIME
 
 -- the watermark: the greatest among the start and all watermarks in range
 abbrev pub watermark_of : Clock → List Event → ℤ

@@ -3,15 +3,16 @@
 ghost use Rattle.std.specs.Prelude.{◌≡◌, ◌≤ℤ◌, IsTrue, List, [], ◌∷◌, nat_le, pos};
 ghost use Rattle.wsm_record.specs.Event.{Event as AnyEvent, event_of, Record, Watermark};
 ghost use Rattle.wsm_record.specs.Schema.{Declared};
-ghost use Rattle.wsm_admission.specs.Clock.{IsWithinLimits, latest_time, watermark_refusal};
+ghost use Rattle.wsm_admission.specs.Clock.{IsWithinLimits, watermark_refusal};
 ghost use Rattle.wsm_admission.specs.Clock.{is_key as is_declared_key, is_time as lies_in_time};
 ghost use Rattle.wsm_admission.specs.Clock.{is_too_far_ahead, is_late};
 ghost use Rattle.wsm_admission.specs.Admission.{Fits, IsInRange, opened, after};
 ghost use Rattle.wsm_admission.specs.Admission.{answer, answer_after, decision};
 
-use crate::clock::{Clock, LATEST_TIME};
+use crate::clock::Clock;
 use crate::verdict::{Admitted, Refusal};
 use std::marker::Model;
+use wsm_record::limits::LATEST_TIME;
 use wsm_record::{Event, Schema, Value};
 
 /// The watermark and the counts of the events so far.
@@ -66,7 +67,7 @@ impl Admission {
     pub fn mark(&self) -> i64
         ensures mark { result ≡ self.now.mark }
         ensures from { pos 0 ≤ℤ result }
-        ensures to { result ≤ℤ latest_time }
+        ensures to { result ≤ℤ LATEST_TIME }
     {
         self.mark
     }

@@ -1,8 +1,5 @@
 //! The numbers of a query's clock.
 
-/// The latest time of a record or a watermark, in event time. The earliest is 0.
-pub const LATEST_TIME: i64 = 10_000_000_000_000_000;
-
 /// The numbers of a query's clock, in event time but for the records.
 #[derive(Clone, Copy, Debug, PartialEq, Eq)]
 pub struct Clock {

@@ -21,7 +21,7 @@
 #![tactic(auto)]
 
 pub use admission::Admission;
-pub use clock::{Clock, LATEST_TIME};
+pub use clock::Clock;
 pub use verdict::{Admitted, Refusal};
 
 mod admission;

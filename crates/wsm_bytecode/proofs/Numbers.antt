@@ -6,7 +6,8 @@ use Rattle.std.proofs.lemmas.List.{take_at, drop_at, length-append}
 use Rattle.std.proofs.lemmas.Int.{ints, to_z-of_z}
 use Rattle.std.proofs.lemmas.Nat.{from_le_bytes-to_le_bytes_2, from_le_bytes-to_le_bytes_8}
 use Rattle.wsm_bytecode.specs.Program.{Name, is_i64}
-use Rattle.wsm_record.specs.Name.{name_limit, is_name, is_word, is_reserved, is_between}
+use Rattle.wsm_record.specs.declared.limits.TheConstants.{MAX_NAME}
+use Rattle.wsm_record.specs.Name.{is_name, is_word, is_reserved, is_between}
 use Rattle.wsm_bytecode.specs.Spelling.{byte, number, long, signed, name}
 use Rattle.wsm_bytecode.specs.Reading.{Read, bytes_at, number_at, signed_at, judged, name_at}
 
@@ -55,8 +56,8 @@ word_is_some (c ∷ cs) e = omega arith
 
 pub name_is_short : (n : Name) → is_name n ≡ true → is_between 1 32 (length n) ≡ true
 name_is_short n e =
-    let a = and_parts (is_word n) (leb (length n) name_limit && not (is_reserved n)) e in
-    let b = and_parts (leb (length n) name_limit) (not (is_reserved n)) a.1 in
+    let a = and_parts (is_word n) (leb (length n) MAX_NAME && not (is_reserved n)) e in
+    let b = and_parts (leb (length n) MAX_NAME) (not (is_reserved n)) a.1 in
     and_from _ _ (le-leb 1 (length n) (word_is_some n a.0)) b.0
 
 below_byte : (n lo hi : ℕ) → hi < 256 → is_between lo hi n ≡ true → n < 256

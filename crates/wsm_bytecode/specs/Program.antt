@@ -7,6 +7,7 @@ use Rattle.wsm_record.specs.declared.Mode.{Mode}
 use Rattle.wsm_record.specs.declared.Mode.TheVariants.{Discarding, Accumulating}
 use Rattle.wsm_record.specs.declared.Form.{Form}
 use Rattle.wsm_record.specs.declared.Form.TheVariants.{Panes}
+use Rattle.wsm_record.specs.declared.limits.TheConstants.{LATEST_TIME, LONGEST_SPAN, MAX_ACCUMULATORS, MAX_COLUMNS, MAX_FIELDS, MAX_NAMES, MAX_PANES, MAX_SECTION, MAX_STATED}
 use Rattle.wsm_record.specs.Name.{is_name, is_among, is_between}
 use Rattle.wsm_record.specs.Schema.{FieldType, Int, Truth, Enum, DeclaredField, Declared}
 use Rattle.wsm_windows.specs.declared.Shape.{Shape}
@@ -91,7 +92,7 @@ are_names_after before (n ∷ ns) = is_name n && (not (is_among n before) && are
 
 -- 1 to 1,000 of them
 abbrev pub is_name_list : List Name → Bool
-is_name_list ns = is_between 1 1000 (length ns) && are_names_after [] ns
+is_name_list ns = is_between 1 MAX_NAMES (length ns) && are_names_after [] ns
 
 abbrev pub is_field_type : FieldType → Bool
 is_field_type (Int lo hi) = is_i64 lo && (is_i64 hi && int_le lo hi)
@@ -107,13 +108,13 @@ are_fields_after before [] = true
 are_fields_after before (f ∷ fs) = is_field_after before f && are_fields_after (before ++ f.name ∷ []) fs
 
 unfoldable pub is_schema : Declared → Bool
-is_schema s = is_name_list s.keys && (nat_le (length s.fields) 16 && are_fields_after [] s.fields)
+is_schema s = is_name_list s.keys && (nat_le (length s.fields) MAX_FIELDS && are_fields_after [] s.fields)
 
 abbrev pub latest_time : ℤ
-latest_time = pos 10000000000000000
+latest_time = LATEST_TIME
 
 abbrev pub longest_span : ℤ
-longest_span = pos 1000000000000
+longest_span = LONGEST_SPAN
 
 abbrev pub is_span : ℤ → Bool
 is_span n = is_within (pos 0) longest_span n
@@ -138,10 +139,10 @@ is_column s types.Bool = true
 is_column s (types.Enum e) = is_some (enum_names s e)
 
 abbrev pub is_stated : ℕ → Bool
-is_stated n = is_between 1 1000000000000000000 n
+is_stated n = is_between 1 MAX_STATED n
 
 abbrev pub is_budget : Budget → Bool
-is_budget b = is_stated b.per_record && (is_stated b.per_pane && is_between 1 100000 b.held)
+is_budget b = is_stated b.per_record && (is_stated b.per_pane && is_between 1 MAX_PANES b.held)
 
 abbrev pub is_clock : Header → Bool
 is_clock h = is_within (pos 0) latest_time h.start && (is_span h.skew && (is_span h.lateness && is_size h.records))
@@ -152,7 +153,7 @@ is_firing h = is_shape h.shape && (is_span h.early && (is_span h.late && is_form
 
 -- what a pane keeps, and what its row has
 abbrev pub is_row : Header → Bool
-is_row h = nat_le (length h.kinds) 16 && (is_between 1 16 (length h.columns) && list_all (is_column h.schema) h.columns)
+is_row h = nat_le (length h.kinds) MAX_ACCUMULATORS && (is_between 1 MAX_COLUMNS (length h.columns) && list_all (is_column h.schema) h.columns)
 
 unfoldable pub is_header : Header → Bool
 is_header h = is_schema h.schema && (is_clock h && (is_firing h && (is_row h && is_budget h.budget)))
@@ -173,7 +174,7 @@ is_instr h (JumpIfFalse t) = nat_lt t 65536
 is_instr h _ = true
 
 unfoldable pub is_section : Header → List Instr → Bool
-is_section h code = nat_le (length code) 1000 && list_all (is_instr h) code
+is_section h code = nat_le (length code) MAX_SECTION && list_all (is_instr h) code
 
 -- what reading checks holds of each program
 unfoldable pub is_program : Program → Bool

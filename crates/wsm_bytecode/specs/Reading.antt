@@ -18,6 +18,7 @@ use Rattle.wsm_bytecode.specs.declared.refusal.DecodeRefusal.TheVariants.{BadMag
 use Rattle.wsm_bytecode.specs.Program.{Name, Header, Program, enum_names, is_name_of, is_within, latest_time, is_span, is_size, is_form_of, is_stated}
 use Rattle.wsm_record.specs.Schema.{FieldType, Int, Truth, Enum, DeclaredField, Declared}
 use Rattle.wsm_bytecode.specs.declared.program.Budget.{Budget}
+use Rattle.wsm_record.specs.declared.limits.TheConstants.{MAX_ACCUMULATORS, MAX_COLUMNS, MAX_FIELDS, MAX_NAME, MAX_NAMES, MAX_PANES, MAX_SECTION}
 use Rattle.wsm_record.specs.Name.{is_between, is_name, is_among}
 use Rattle.wsm_bytecode.specs.Spelling.{magic}
 use Rattle.wsm_bytecode.specs.Operations.{of_code}
@@ -61,7 +62,7 @@ several one (suc n) bytes = do
 -- the length is judged at its own byte
 unfoldable pub name_at : List ℕ → Read Name
 name_at bytes = do
-  n ← judged (is_between 1 32) (number_at w8 bytes)
+  n ← judged (is_between 1 MAX_NAME) (number_at w8 bytes)
   judged is_name (bytes_at n.0 n.1)
 
 -- a name that is none of those before
@@ -78,7 +79,7 @@ names_after before (suc n) bytes = do
 
 unfoldable pub names_at : List ℕ → Read (List Name)
 names_at bytes = do
-  n ← judged (is_between 1 1000) (number_at w16 bytes)
+  n ← judged (is_between 1 MAX_NAMES) (number_at w16 bytes)
   names_after [] n.0 n.1
 
 -- two numbers are judged together at the later one
@@ -120,7 +121,7 @@ fields_after before (suc n) bytes = do
 unfoldable pub schema_at : List ℕ → Read Declared
 schema_at bytes = do
   keys ← names_at bytes
-  n ← judged (is_between 0 16) (number_at w8 keys.1)
+  n ← judged (is_between 0 MAX_FIELDS) (number_at w8 keys.1)
   fields ← fields_after [] n.0 n.1
   Ok (record { keys = keys.0; fields = fields.0 }, fields.1)
 
@@ -185,7 +186,7 @@ kind_at bytes = do
 
 unfoldable pub kinds_at : List ℕ → Read (List Kind)
 kinds_at bytes = do
-  n ← judged (is_between 0 16) (number_at w8 bytes)
+  n ← judged (is_between 0 MAX_ACCUMULATORS) (number_at w8 bytes)
   several kind_at n.0 n.1
 
 -- an ENUM that there is
@@ -209,14 +210,14 @@ column_at s bytes = do
 
 unfoldable pub columns_at : Declared → List ℕ → Read (List CellType)
 columns_at s bytes = do
-  n ← judged (is_between 1 16) (number_at w8 bytes)
+  n ← judged (is_between 1 MAX_COLUMNS) (number_at w8 bytes)
   several (column_at s) n.0 n.1
 
 unfoldable pub budget_at : List ℕ → Read Budget
 budget_at bytes = do
   per_record ← judged is_stated (number_at w64 bytes)
   per_pane ← judged is_stated (number_at w64 per_record.1)
-  held ← judged (is_between 1 100000) (number_at w64 per_pane.1)
+  held ← judged (is_between 1 MAX_PANES) (number_at w64 per_pane.1)
   Ok (record { per_record = per_record.0; per_pane = per_pane.0; held = held.0 }, held.1)
 
 -- the bytes after the magic ones; fewer than four bytes are cut off, whatever they are
@@ -330,7 +331,7 @@ instr_at h bytes = do
 
 unfoldable pub code_at : Header → List ℕ → Read (List Instr)
 code_at h bytes = do
-  n ← judged (is_between 0 1000) (number_at w16 bytes)
+  n ← judged (is_between 0 MAX_SECTION) (number_at w16 bytes)
   several (instr_at h) n.0 n.1
 
 unfoldable pub program_at : List ℕ → Read Program

@@ -1,27 +1,25 @@
-//! The ranges of a program's numbers, and what its bytes begin with.
+//! What a program's bytes begin with, and its limits as the numbers that its bytes have.
+
+use wsm_record::limits;
+
+pub(crate) use wsm_record::limits::{LATEST_TIME, LONGEST_SPAN, MAX_STATED};
 
 /// The first bytes of a program.
 pub(crate) const MAGIC: &[u8] = b"WSMP";
 /// The version of the bytes.
 pub(crate) const VERSION: u8 = 1;
 
-/// The latest time, in units of event time.
-pub(crate) const LATEST_TIME: i64 = 10_000_000_000_000_000;
-/// The longest span of time, and the most records and triggers count.
-pub(crate) const LONGEST_SPAN: i64 = 1_000_000_000_000;
-/// The most instructions that a program states for a record or a pane.
-pub(crate) const MAX_STATED: u64 = 1_000_000_000_000_000_000;
 /// The most panes that a program states as held.
-pub(crate) const MAX_HELD: u64 = 100_000;
+pub(crate) const MAX_HELD: u64 = limits::MAX_PANES;
 /// The most instructions of a section.
-pub(crate) const MAX_SECTION: u16 = 1_000;
+pub(crate) const MAX_SECTION: u16 = limits::MAX_SECTION as u16;
 /// The most accumulators.
-pub(crate) const MAX_ACCUMULATORS: u8 = 16;
+pub(crate) const MAX_ACCUMULATORS: u8 = limits::MAX_ACCUMULATORS as u8;
 /// The most columns.
-pub(crate) const MAX_COLUMNS: u8 = 16;
+pub(crate) const MAX_COLUMNS: u8 = limits::MAX_COLUMNS as u8;
 /// The most fields.
-pub(crate) const MAX_FIELDS: u8 = 16;
+pub(crate) const MAX_FIELDS: u8 = limits::MAX_FIELDS as u8;
 /// The most keys, and the most names of a field.
-pub(crate) const MAX_NAMES: u16 = 1_000;
+pub(crate) const MAX_NAMES: u16 = limits::MAX_NAMES as u16;
 /// The most bytes of a name.
-pub(crate) const MAX_NAME: u8 = 32;
+pub(crate) const MAX_NAME: u8 = limits::MAX_NAME as u8;

@@ -1,5 +1,6 @@
 -- The checks of a query, in their order: the first refusal decides, and names its part.
 use Rattle.std.specs.Prelude.{◌≡◌, ℕ, suc, ◌*◌, Bool, true, false, ◌&&◌, not, cond, List, [], ◌∷◌, ◌++◌, length, ℤ, pos, int_le, nat_le, nat_lt, Option, Some, None, Result, Ok, Err, ◌⊎◌}
+use Rattle.wsm_record.specs.declared.limits.TheConstants.{LATEST_TIME, LONGEST_SPAN, MAX_ACCUMULATORS, MAX_COLUMNS, MAX_FIELDS, MAX_NAMES, MAX_PANES, MAX_SECTION, MAX_STACK, MAX_STATED}
 use Rattle.wsm_record.specs.Name.{is_among}
 use Rattle.wsm_record.specs.declared.words.Mode.{Mode}
 use Rattle.wsm_record.specs.declared.words.Mode.TheVariants.{Discarding, Accumulating}
@@ -39,7 +40,7 @@ in_range lo hi n = int_le lo n && int_le n hi
 
 -- 1 to 1,000 names, none of them twice
 abbrev pub names_refusal : Part → List Name → Option CheckRefusal
-names_refusal p xs = first (unless (nat_le 1 (length xs) && nat_le (length xs) 1000) Limit p ∷ unless (not (has_repeats xs)) Duplicate p ∷ [])
+names_refusal p xs = first (unless (nat_le 1 (length xs) && nat_le (length xs) MAX_NAMES) Limit p ∷ unless (not (has_repeats xs)) Duplicate p ∷ [])
 
 abbrev pub ty_refusal : Part → FieldType → Option CheckRefusal
 ty_refusal p (field_types.Int lo hi) = unless (int_le lo hi) Limit p
@@ -50,35 +51,35 @@ ty_refusal p (field_types.Enum names) = names_refusal p names
 abbrev pub field_refusal : List Name → DeclaredField → Option CheckRefusal
 field_refusal names d =
     let p = part.Field (suc (length names)) in
-    first (unless (nat_lt (length names) 16) Limit p ∷ unless (not (is_among d.name names)) Duplicate p ∷ ty_refusal p d.type ∷ [])
+    first (unless (nat_lt (length names) MAX_FIELDS) Limit p ∷ unless (not (is_among d.name names)) Duplicate p ∷ ty_refusal p d.type ∷ [])
 
 -- of the fields behind those with the names: at most 16, and none of a name twice
 abbrev pub fields_refusal : List Name → List DeclaredField → Option CheckRefusal
 fields_refusal names [] = None
 fields_refusal names (d ∷ ds) =
     let p = part.Field (suc (length names)) in
-    first (unless (nat_lt (length names) 16) Limit p ∷ unless (not (is_among d.name names)) Duplicate p ∷ ty_refusal p d.type ∷ fields_refusal (names ++ d.name ∷ []) ds ∷ [])
+    first (unless (nat_lt (length names) MAX_FIELDS) Limit p ∷ unless (not (is_among d.name names)) Duplicate p ∷ ty_refusal p d.type ∷ fields_refusal (names ++ d.name ∷ []) ds ∷ [])
 
 abbrev pub is_time : ℤ → Bool
-is_time n = in_range (pos 0) (pos 10000000000000000) n
+is_time n = in_range (pos 0) LATEST_TIME n
 
 -- how far a record may be ahead or behind
 abbrev pub is_span : ℤ → Bool
-is_span n = in_range (pos 0) (pos 1000000000000) n
+is_span n = in_range (pos 0) LONGEST_SPAN n
 
 -- a number of records, a size, a period or a gap
 abbrev pub is_count : ℤ → Bool
-is_count n = in_range (pos 1) (pos 1000000000000) n
+is_count n = in_range (pos 1) LONGEST_SPAN n
 
 abbrev pub clock_fits : Query → Bool
 clock_fits q = is_time q.start && (is_span q.skew && (is_span q.lateness && is_count q.records))
 
 abbrev pub is_cost : ℤ → Bool
-is_cost n = in_range (pos 1) (pos 1000000000000000000) n
+is_cost n = in_range (pos 1) (pos MAX_STATED) n
 
 abbrev pub budget_fits : Option Budget → Bool
 budget_fits None = true
-budget_fits (Some b) = is_cost b.per_record && (is_cost b.per_pane && in_range (pos 1) (pos 100000) b.held)
+budget_fits (Some b) = is_cost b.per_record && (is_cost b.per_pane && in_range (pos 1) (pos MAX_PANES) b.held)
 
 abbrev pub shape_fits : Shape → Bool
 shape_fits (Fixed s) = is_count s
@@ -108,16 +109,16 @@ abbrev pub columns_refusal : Query → ℕ → List Expr → Option CheckRefusal
 columns_refusal q i [] = unless (nat_lt 0 i) Limit (part.Column 1)
 columns_refusal q i (e ∷ es) =
     let p = part.Column (suc i) in
-    first (unless (nat_lt i 16) Limit p ∷ typed_refusal p (typed q InColumn e) ∷ columns_refusal q (suc i) es ∷ [])
+    first (unless (nat_lt i MAX_COLUMNS) Limit p ∷ typed_refusal p (typed q InColumn e) ∷ columns_refusal q (suc i) es ∷ [])
 
 -- at most 16 accumulators, 1,000 instructions in a section, 32 places on the stack, and 100,000 panes at once
 abbrev pub code_fits : Query → Bool
 code_fits q =
-    nat_le (length (accumulators q)) 16
-    && (nat_le (where_size q) 1000
-    && (nat_le (update_size q) 1000
-    && (nat_le (fire_size q) 1000
-    && (nat_le (stack_need q) 32 && nat_le (length q.keys * live_bound q.shape q.skew q.lateness) 100000))))
+    nat_le (length (accumulators q)) MAX_ACCUMULATORS
+    && (nat_le (where_size q) MAX_SECTION
+    && (nat_le (update_size q) MAX_SECTION
+    && (nat_le (fire_size q) MAX_SECTION
+    && (nat_le (stack_need q) MAX_STACK && nat_le (length q.keys * live_bound q.shape q.skew q.lateness) MAX_PANES))))
 
 -- of the clauses of numbers, and the form
 abbrev pub numbers_refusal : Query → Option CheckRefusal

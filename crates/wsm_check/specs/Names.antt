@@ -1,6 +1,7 @@
 -- Where names stand in the lists that a query declares.
 use Rattle.std.specs.Prelude.{◌≡◌, ◌<◌, ℕ, Bool, true, false, ◌||◌, cond, List, [], ◌∷◌, map, length, bytes_eq}
 use Rattle.std.specs.List.{position_or_len}
+use Rattle.wsm_record.specs.declared.limits.TheConstants.{MAX_FIELDS}
 use Rattle.wsm_record.specs.Name.{is_among}
 use Rattle.wsm_record.specs.Schema.{FieldType, DeclaredField}
 use Rattle.wsm_record.specs.Schema as field_types
@@ -35,7 +36,7 @@ type_of x (d ∷ ds) = cond (bytes_eq x d.name) d.type (type_of x ds)
 -- a field of that name is declared, one of the first 16, with this number and type
 pub record Found (ds : List DeclaredField) (x : Name) (number : ℕ) (ty : FieldType) : Type 0 where
   pub there : is_among x (field_names ds) ≡ true
-  pub few : number < 16
+  pub few : number < MAX_FIELDS
   pub place : number ≡ field_place ds x
   pub declared : ty ≡ type_of x ds
 

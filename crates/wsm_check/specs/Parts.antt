@@ -1,6 +1,7 @@
 -- What a checked query has.
 use Rattle.std.specs.Prelude.{◌≡◌, ◌≤◌, ℕ, ◌+◌, true, List, [], ◌∷◌, map, ℤ, Option, option_map, Ok, Err}
 use Rattle.std.specs.List.{list_all}
+use Rattle.wsm_record.specs.declared.limits.TheConstants.{MAX_ACCUMULATORS}
 use Rattle.wsm_record.specs.declared.words.Kind.{Kind}
 use Rattle.wsm_record.specs.declared.words.Mode.{Mode}
 use Rattle.wsm_record.specs.declared.words.Form.{Form}
@@ -88,7 +89,7 @@ pub record MayBeResolved (q : Query) : Type 0 where
   pub columns : list_all is_flat q.columns ≡ true
   pub having : list_all is_flat (in_option q.having) ≡ true
   pub tested : aggregates_of (in_option q.condition) ≡ 0
-  pub fired : aggregates_of q.columns + aggregates_of (in_option q.having) ≤ 16
+  pub fired : aggregates_of q.columns + aggregates_of (in_option q.having) ≤ MAX_ACCUMULATORS
 
 -- these are the parts of a query that no check refuses
 pub record ArePartsOfChecked (p : Parts) : Type 0 where

@@ -1,6 +1,7 @@
 -- Expressions of a checked query: names are numbers, and brackets are gone.
 use Rattle.std.specs.Prelude.{ℕ, suc, ◌+◌, Bool, true, ◌&&◌, length, nat_eq, nat_le, ℤ}
 use Rattle.std.specs.List.{list_all}
+use Rattle.wsm_record.specs.declared.limits.TheConstants.{MAX_NAMES}
 use Rattle.wsm_query.specs.declared.expr.Op.{Op}
 use Rattle.wsm_query.specs.Tree as tree
 use Rattle.wsm_record.specs.Schema.{DeclaredField}
@@ -55,8 +56,8 @@ is_flat (tree.Or x y) = is_flat x && is_flat y
 is_flat _ = true
 
 abbrev pub few_names : DeclaredField → Bool
-few_names d = nat_le (length (names_of d.type)) 1000
+few_names d = nat_le (length (names_of d.type)) MAX_NAMES
 
 -- at most 1,000 names in each list
 abbrev pub has_few_names : Query → Bool
-has_few_names q = nat_le (length q.keys) 1000 && list_all few_names q.fields
+has_few_names q = nat_le (length q.keys) MAX_NAMES && list_all few_names q.fields

@@ -16,12 +16,13 @@ use crate::term::Term;
 use crate::types::{Around, type_of};
 use std::alloc::{AllocError, Global};
 use wsm_query::{Expr, Query};
+use wsm_record::limits::{MAX_ACCUMULATORS, MAX_FIELDS};
 use wsm_record::CellType;
 
 /// The terms of all expressions.
 #[tactic(auto, using(crate::proofs::Resolving::all_parts))]
 pub fn terms_of(alloc: Global, query: &Query) -> Result<Terms, AllocError>
-    requires fields { length query.now.fields.items ≤ 16 }
+    requires fields { length query.now.fields.items ≤ MAX_FIELDS }
     requires resolved { MayBeResolved (seen query.now) }
     ensures terms { IfOk result (AreTermsOf (seen query.now)) }
     ensures spelt { let q = seen query.now in OnOk result (list_all numbers_fit (in_option q.condition ++ fired q) ≡ true) }
@@ -46,9 +47,9 @@ fn resolve_option(
     condition: &Option<Expr>,
     foldings: &mut Vec<Folding>,
 ) -> Result<Option<Term>, AllocError>
-    requires fields { length query.now.fields.items ≤ 16 }
+    requires fields { length query.now.fields.items ≤ MAX_FIELDS }
     requires names { has_few_names (seen query.now) ≡ true }
-    requires room { length foldings.old.items + aggregates_of (in_option (option_map seen_expr condition.now)) ≤ 16 }
+    requires room { length foldings.old.items + aggregates_of (in_option (option_map seen_expr condition.now)) ≤ MAX_ACCUMULATORS }
     requires flat { list_all is_flat (in_option (option_map seen_expr condition.now)) ≡ true }
     ensures term { IfOk result (λ t. option_map seen_term t ≡ option_map (resolved (seen query.now) (length foldings.old.items)) (option_map seen_expr condition.now)) }
     ensures foldings { OnOk result (map seen_folding foldings.new.items ≡ map seen_folding foldings.old.items ++ map (folding (seen query.now)) (flat_map accumulators_of (in_option (option_map seen_expr condition.now)))) }
@@ -69,9 +70,9 @@ fn resolve_columns(
     foldings: &mut Vec<Folding>,
     columns: &mut Vec<Column>,
 ) -> Result<(), AllocError>
-    requires fields { length query.now.fields.items ≤ 16 }
+    requires fields { length query.now.fields.items ≤ MAX_FIELDS }
     requires names { has_few_names (seen query.now) ≡ true }
-    requires room { length foldings.old.items + aggregates_of (map seen_expr exprs.now) ≤ 16 }
+    requires room { length foldings.old.items + aggregates_of (map seen_expr exprs.now) ≤ MAX_ACCUMULATORS }
     requires flat { list_all is_flat (map seen_expr exprs.now) ≡ true }
     ensures columns { OnOk result (map seen_column columns.new.items ≡ map seen_column columns.old.items ++ columns_from (seen query.now) (length foldings.old.items) (map seen_expr exprs.now)) }
     ensures foldings { OnOk result (map seen_folding foldings.new.items ≡ map seen_folding foldings.old.items ++ map (folding (seen query.now)) (flat_map accumulators_of (map seen_expr exprs.now))) }
@@ -89,7 +90,7 @@ fn resolve_columns(
 
 // The checks have passed, so a column has a type.
 fn type_of_column(query: &Query, column: &Expr) -> CellType
-    requires { length query.now.fields.items ≤ 16 }
+    requires { length query.now.fields.items ≤ MAX_FIELDS }
     ensures { result ≡ type_or_int (typed (seen query.now) InColumn (seen_expr column.now)) }
 {
     match type_of(query, Around::InColumn, column) {

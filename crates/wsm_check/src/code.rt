@@ -10,23 +10,13 @@ ghost use Rattle.wsm_check.specs.Sizes.{accumulators, accumulators_of, columns_s
 
 use crate::sizes::{Folds, folds_in, need, size};
 use wsm_query::{Expr, Query};
+use wsm_record::limits::{MAX_ACCUMULATORS, MAX_COLUMNS, MAX_NAMES, MAX_PANES, MAX_SECTION, MAX_STACK};
 use wsm_windows::live_bound;
-
-const MAX_ACCUMULATORS: u64 = 16;
-
-// The most instructions of a section.
-const MAX_SIZE: u64 = 1000;
-
-// The most places on the stack.
-const MAX_NEED: u64 = 32;
-
-// The most panes at once.
-const MAX_PANES: u64 = 100_000;
 
 /// Whether a program may have the code of the query, and hold its panes.
 pub fn code_fits(query: &Query) -> bool
-    requires keys { length query.now.keys.items ≤ 1000 }
-    requires columns { length query.now.columns.items ≤ 16 }
+    requires keys { length query.now.keys.items ≤ MAX_NAMES }
+    requires columns { length query.now.columns.items ≤ MAX_COLUMNS }
     requires clock { clock_fits (seen query.now) ≡ true }
     requires shape { shape_fits query.now.shape ≡ true }
     ensures { result ≡ code_fits (seen query.now) }
@@ -34,11 +24,11 @@ pub fn code_fits(query: &Query) -> bool
     let folds = folds_in_fired(&query.columns, &query.having);
     let fired_need = need_of_fired(0, &query.having, &query.columns);
     let tested_need = need_of_condition(&query.condition);
-    folds.count <= MAX_ACCUMULATORS
-        && condition_size(&query.condition) < MAX_SIZE
-        && folds.size < MAX_SIZE
-        && size_of_fired(&query.having, &query.columns) <= MAX_SIZE
-        && tested_need.max(folds.need.max(fired_need)) <= MAX_NEED
+    folds.count <= MAX_ACCUMULATORS as u64
+        && condition_size(&query.condition) < MAX_SECTION as u64
+        && folds.size < MAX_SECTION as u64
+        && size_of_fired(&query.having, &query.columns) <= MAX_SECTION as u64
+        && tested_need.max(folds.need.max(fired_need)) <= MAX_STACK as u64
         && panes_at_once(query) <= MAX_PANES
 }
 
@@ -87,7 +77,7 @@ fn size_of_fired(having: &Option<Expr>, columns: &[Expr]) -> u64
 
 // The places that columns and HAVING need, with some on the stack already.
 fn need_of_fired(taken: u64, having: &Option<Expr>, columns: &[Expr]) -> u64
-    requires { taken + length columns.now ≤ 16 }
+    requires { taken + length columns.now ≤ MAX_COLUMNS }
     ensures { result ≡ counted (need_of_columns taken (option_map seen_expr having.now) (map seen_expr columns.now)) }
 {
     match columns {

@@ -14,13 +14,8 @@ use crate::refusal::{CheckFault, CheckRefusal, Part};
 use crate::types::{Around, judge_condition, type_of};
 use std::alloc::Global;
 use wsm_query::{Expr, Query};
+use wsm_record::limits::{MAX_COLUMNS, MAX_FIELDS, MAX_NAMES};
 use wsm_record::{Field, Name, Names, SchemaRefusal, Ty};
-
-const MAX_NAMES: usize = 1000;
-
-const MAX_FIELDS: usize = 16;
-
-const MAX_COLUMNS: usize = 16;
 
 // A refusal where the condition fails.
 fn want(holds: bool, fault: CheckFault, part: Part) -> Result<(), CheckRefusal>
@@ -112,7 +107,7 @@ fn judge_option(
     part: Part,
     condition: &Option<Expr>,
 ) -> Result<(), CheckRefusal>
-    requires { length query.now.fields.items ≤ 16 }
+    requires { length query.now.fields.items ≤ MAX_FIELDS }
     ensures { Judges result (condition_refusal (seen query.now) around part (option_map seen_expr condition.now)) }
 {
     match condition {
@@ -127,7 +122,7 @@ fn judge_option(
 // The columns behind others: 1 to 16 of them.
 #[tactic(auto, using(crate::proofs::Following::steps))]
 fn judge_columns(query: &Query, passed: usize, columns: &[Expr]) -> Result<(), CheckRefusal>
-    requires fields { length query.now.fields.items ≤ 16 }
+    requires fields { length query.now.fields.items ≤ MAX_FIELDS }
     requires passed { passed ≤ MAX_COLUMNS }
     ensures judged { Judges result (columns_refusal (seen query.now) passed (map seen_expr columns.now)) }
     ensures few { OnOk result (passed + length columns.now ≤ MAX_COLUMNS) }
@@ -145,7 +140,7 @@ fn judge_columns(query: &Query, passed: usize, columns: &[Expr]) -> Result<(), C
 }
 
 fn judge_column(query: &Query, part: Part, column: &Expr) -> Result<(), CheckRefusal>
-    requires { length query.now.fields.items ≤ 16 }
+    requires { length query.now.fields.items ≤ MAX_FIELDS }
     ensures { Judges result (typed_refusal part (typed (seen query.now) InColumn (seen_expr column.now))) }
 {
     match type_of(query, Around::InColumn, column) {

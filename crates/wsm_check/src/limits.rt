@@ -5,23 +5,20 @@ ghost use Rattle.wsm_query.specs.Seen.{seen, seen_budget};
 ghost use Rattle.wsm_check.specs.Checks.{budget_fits, clock_fits, every_fits, in_range, is_cost, is_count, is_span, is_time, may_emit, shape_fits};
 
 use wsm_query::{Budget, Query};
+use wsm_record::limits::{LATEST_TIME, LONGEST_SPAN, MAX_PANES, MAX_STATED};
 use wsm_record::{Form, Mode};
 use wsm_windows::Shape;
 
-const MAX_TIME: i64 = 10_000_000_000_000_000;
+// What BUDGET may state, as numbers of a query, which have a sign.
+const MAX_COST: i64 = MAX_STATED as i64;
 
-// The greatest skew, lateness, size, period, gap and number of records.
-const MAX_NUMBER: i64 = 1_000_000_000_000;
-
-const MAX_COST: i64 = 1_000_000_000_000_000_000;
-
-const MAX_HELD: i64 = 100_000;
+const MAX_HELD: i64 = MAX_PANES as i64;
 
 /// Whether START, SKEW, LATENESS and RECORDS are in range.
 pub fn clock_fits(query: &Query) -> bool
     ensures { result ≡ clock_fits (seen query.now) }
 {
-    is_within(0, MAX_TIME, query.start)
+    is_within(0, LATEST_TIME, query.start)
         && is_span(query.skew)
         && is_span(query.lateness)
         && is_count(query.records)
@@ -73,13 +70,13 @@ pub fn may_emit(form: Form, mode: Mode) -> bool
 fn is_span(number: i64) -> bool
     ensures { result ≡ is_span number }
 {
-    is_within(0, MAX_NUMBER, number)
+    is_within(0, LONGEST_SPAN, number)
 }
 
 fn is_count(number: i64) -> bool
     ensures { result ≡ is_count number }
 {
-    is_within(1, MAX_NUMBER, number)
+    is_within(1, LONGEST_SPAN, number)
 }
 
 fn is_cost(number: i64) -> bool

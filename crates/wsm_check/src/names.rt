@@ -6,6 +6,7 @@ ghost use Rattle.wsm_record.specs.Name as rule;
 ghost use Rattle.wsm_record.specs.Fields.{declared_field, declared_type};
 ghost use Rattle.wsm_check.specs.Names.{Absent, Found, field_names, place_of};
 
+use wsm_record::limits::MAX_FIELDS;
 use wsm_record::{Field, Name, Ty};
 
 /// Whether a name is one of these.
@@ -34,7 +35,7 @@ fn find(name: &Name, names: &[Name]) -> Option<usize>
 
 /// The first field of a name: its number and its type.
 pub fn find_field<'a>(fields: &'a [Field], name: &Name) -> Option<(u8, &'a Ty)>
-    requires { length fields.now ≤ 16 }
+    requires { length fields.now ≤ MAX_FIELDS }
     ensures { MatchOption result
         (Absent (map declared_field fields.now) name.now)
         (λ found. Found (map declared_field fields.now) name.now found.0 (declared_type found.1.now)) }

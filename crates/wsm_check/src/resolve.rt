@@ -17,6 +17,7 @@ use crate::parts::Folding;
 use crate::term::Term;
 use std::alloc::{AllocError, Global};
 use wsm_query::{Expr, Query};
+use wsm_record::limits::{MAX_ACCUMULATORS, MAX_FIELDS, MAX_NAMES};
 use wsm_record::{Field, Kind, Name, Ty};
 
 /// The term of an expression. Each of its aggregates gets an accumulator behind those that are there.
@@ -28,9 +29,9 @@ pub fn resolve(
     expr: &Expr,
     foldings: &mut Vec<Folding>,
 ) -> Result<Term, AllocError>
-    requires fields { length query.now.fields.items ≤ 16 }
+    requires fields { length query.now.fields.items ≤ MAX_FIELDS }
     requires names { has_few_names (seen query.now) ≡ true }
-    requires room { length foldings.old.items + aggregates (seen_expr expr.now) ≤ 16 }
+    requires room { length foldings.old.items + aggregates (seen_expr expr.now) ≤ MAX_ACCUMULATORS }
     requires flat { is_flat (seen_expr expr.now) ≡ true }
     ensures term { IfOk result (λ t. seen_term t ≡ resolved (seen query.now) (length foldings.old.items) (seen_expr expr.now)) }
     ensures foldings { OnOk result (map seen_folding foldings.new.items ≡ map seen_folding foldings.old.items ++ map (folding (seen query.now)) (accumulators_of (seen_expr expr.now))) }
@@ -80,9 +81,9 @@ fn boxed(
     expr: &Expr,
     foldings: &mut Vec<Folding>,
 ) -> Result<Box<Term>, AllocError>
-    requires fields { length query.now.fields.items ≤ 16 }
+    requires fields { length query.now.fields.items ≤ MAX_FIELDS }
     requires names { has_few_names (seen query.now) ≡ true }
-    requires room { length foldings.old.items + aggregates (seen_expr expr.now) ≤ 16 }
+    requires room { length foldings.old.items + aggregates (seen_expr expr.now) ≤ MAX_ACCUMULATORS }
     requires flat { is_flat (seen_expr expr.now) ≡ true }
     ensures term { IfOk result (λ b. seen_term b.value ≡ resolved (seen query.now) (length foldings.old.items) (seen_expr expr.now)) }
     ensures foldings { OnOk result (map seen_folding foldings.new.items ≡ map seen_folding foldings.old.items ++ map (folding (seen query.now)) (accumulators_of (seen_expr expr.now))) }
@@ -103,9 +104,9 @@ fn accumulator(
     operand: &Expr,
     foldings: &mut Vec<Folding>,
 ) -> Result<Term, AllocError>
-    requires fields { length query.now.fields.items ≤ 16 }
+    requires fields { length query.now.fields.items ≤ MAX_FIELDS }
     requires names { has_few_names (seen query.now) ≡ true }
-    requires room { length foldings.old.items < 16 }
+    requires room { length foldings.old.items < MAX_ACCUMULATORS }
     requires plain { aggregates (seen_expr operand.now) ≡ 0 }
     requires flat { is_flat (seen_expr operand.now) ≡ true }
     ensures term { IfOk result (λ t. seen_term t ≡ Accumulator (length foldings.old.items)) }
@@ -121,7 +122,7 @@ fn accumulator(
 }
 
 fn place_of_field(field: &Name, fields: &[Field]) -> u8
-    requires { length fields.now ≤ 16 }
+    requires { length fields.now ≤ MAX_FIELDS }
     ensures { result ≡ field_place (map declared_field fields.now) field.now }
 {
     match find_field(fields, field) {
@@ -133,7 +134,7 @@ fn place_of_field(field: &Name, fields: &[Field]) -> u8
 // The name of a field's ENUM.
 #[tactic(auto, using(crate::proofs::Naming::few_named))]
 fn name_of_field(fields: &[Field], field: &Name, name: &Name) -> Term
-    requires fields { length fields.now ≤ 16 }
+    requires fields { length fields.now ≤ MAX_FIELDS }
     requires names { list_all few_names (map declared_field fields.now) ≡ true }
     ensures { seen_term result ≡ Named (suc (field_place (map declared_field fields.now) field.now)) (name_rule.place_of name.now (names_of (type_of field.now (map declared_field fields.now)))) }
 {
@@ -145,7 +146,7 @@ fn name_of_field(fields: &[Field], field: &Name, name: &Name) -> Term
 
 // The number of a name in the list of its type.
 fn place_in_type(name: &Name, ty: &Ty) -> u16
-    requires { length (names_of (declared_type ty.now)) ≤ 1000 }
+    requires { length (names_of (declared_type ty.now)) ≤ MAX_NAMES }
     ensures { result ≡ name_rule.place_of name.now (names_of (declared_type ty.now)) }
 {
     match ty {

@@ -17,7 +17,8 @@ use Rattle.wsm_record.specs.Schema.{FieldType, DeclaredField}
 use Rattle.wsm_record.specs.Schema as field_types
 use Rattle.wsm_query.specs.Tree.{Name, Query, Expr, Number, Truth, Field, EnumName, Key, KeyName, Count, Aggregate, If, Brackets, Minus, Not}
 use Rattle.wsm_query.specs.Grammar as grammar
-use Rattle.wsm_query.specs.Grammar.{looked_up, kinds, Deeper, opened, aggregate, count_of, choice, brackets, pointed, leaf, atom, unary, chain, chain_limit, chained, products, sums, comparisons, ands, ors, prod, sum, compared, cmp, neg, conj, expr_in, deeper, levels, level_limit, expr, int, names, type_of, field, budget, shape, mode, form, every, query}
+use Rattle.wsm_record.specs.declared.limits.TheConstants.{MAX_CHAIN, MAX_LEVELS}
+use Rattle.wsm_query.specs.Grammar.{looked_up, kinds, Deeper, opened, aggregate, count_of, choice, brackets, pointed, leaf, atom, unary, chain, chained, products, sums, comparisons, ands, ors, prod, sum, compared, cmp, neg, conj, expr_in, deeper, levels, expr, int, names, type_of, field, budget, shape, mode, form, every, query}
 use Rattle.wsm_query.specs.Parse.{query_text, outcome, parse}
 use Rattle.wsm_check.specs.Sizes.{in_option}
 use Rattle.wsm_check.specs.Spelt.{numbers_fit, is_spelt_type, is_spelt_field, IsSpelt}
@@ -159,7 +160,7 @@ chains (suc n) table rule x t r h = record { law = λ ts p. by_entry (λ y l. ch
 
 chained_are : (table : Table) (rule : Rule Expr) → AllKeep table → Gives Fine rule → Gives Fine (chained table rule)
 unfolding chained
-chained_are table rule t r = goes_on r (λ x h. chains chain_limit table rule x t r h)
+chained_are table rule t r = goes_on r (λ x h. chains MAX_CHAIN table rule x t r h)
 
 two : (x y : Expr) → Fine x → Fine y → (numbers_fit x && numbers_fit y) ≡ true
 two x y h l = and_from (numbers_fit x) (numbers_fit y) h l
@@ -206,7 +207,7 @@ levels_are (suc n) =
 
 exprs : Gives Fine expr
 unfolding expr
-exprs = exprs_in (levels level_limit) (levels_are level_limit)
+exprs = exprs_in (levels MAX_LEVELS) (levels_are MAX_LEVELS)
 
 -- ---- clauses
 

@@ -4,10 +4,11 @@ ghost use Rattle.std.specs.Prelude.{◌≡◌, ◌+◌, ◌≤◌, [], ◌∷◌
 ghost use Rattle.wsm_check.specs.Seen.{seen_column, seen_folding, seen_term};
 ghost use Rattle.wsm_compiler.specs.TermCode.{ending_code, ending_size, firing_code, firing_size, foldings_code, foldings_size};
 
-use crate::expressions::{MAX_SECTION, add, push};
+use crate::expressions::{add, push};
 use std::alloc::{AllocError, Global};
 use wsm_bytecode::{Instr, Section};
 use wsm_check::{Column, Folding, Term};
+use wsm_record::limits::{MAX_ACCUMULATORS, MAX_SECTION};
 
 /// The section WHERE, which selects records.
 pub fn selection(alloc: Global, condition: &Option<Term>) -> Result<Section, AllocError>
@@ -23,7 +24,7 @@ pub fn selection(alloc: Global, condition: &Option<Term>) -> Result<Section, All
 #[tactic(auto, using(crate::proofs::Coding::added))]
 pub fn update(alloc: Global, foldings: &[Folding]) -> Result<Section, AllocError>
     requires size { foldings_size (map seen_folding foldings.now) ≤ MAX_SECTION }
-    requires few { length foldings.now ≤ 16 }
+    requires few { length foldings.now ≤ MAX_ACCUMULATORS }
     ensures { IfOk result (λ code. code.items ≡ foldings_code 0 0 (map seen_folding foldings.now)) }
 {
     let mut code = Vec::new(alloc);

@@ -10,10 +10,11 @@ ghost use Rattle.wsm_firing.specs.Streams.{AreAlike, CanAdvance, CanGain, CanLos
 
 use std::alloc::{AllocError, Global};
 use std::marker::Model;
-use wsm_panes::{MAX_PANES, Pane};
+use wsm_panes::Pane;
 use wsm_record::Form;
+use wsm_record::limits::{MAX_COLUMNS, MAX_PANES};
 use wsm_relation::{Changes, Relation, rstream};
-use wsm_semantics::{Columns, MAX_COLUMNS, OutRow};
+use wsm_semantics::{Columns, OutRow};
 
 /// The streams of the relation of the rows that stand for the panes that are held, which is told each
 /// row that it gains and each that it loses: what it gained since the last instant, what it lost, or

@@ -7,10 +7,8 @@ ghost use Rattle.wsm_fold.specs.Accumulators.{SumFits, SumsFit};
 
 use crate::fold::{All, Any, Fold, Max, Min, Sum};
 use std::marker::Model;
+use wsm_record::limits::MAX_ACCUMULATORS;
 use wsm_record::{Kind, Value};
-
-/// The most accumulators of a program.
-pub const MAX_ACCUMULATORS: usize = 16;
 
 /// What the accumulators of a pane hold, inline: a value each. No call takes memory.
 ///

@@ -17,7 +17,7 @@
 //! ```
 #![tactic(auto)]
 
-pub use accumulators::{Folded, MAX_ACCUMULATORS};
+pub use accumulators::Folded;
 pub use fold::{All, Any, Fold, Max, Min, Sum};
 pub use wsm_record::Kind;
 

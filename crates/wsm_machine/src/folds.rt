@@ -5,8 +5,8 @@ ghost use Rattle.wsm_record.specs.declared.event.Value.{Value};
 ghost use Rattle.std.specs.List.{list_all};
 
 use std::marker::Model;
-use wsm_fold::MAX_ACCUMULATORS;
 use wsm_record::Value;
+use wsm_record::limits::MAX_ACCUMULATORS;
 
 /// The value that a run folds into each accumulator, held inline: none until it is folded.
 #[derive(Debug, Drop)]

@@ -13,10 +13,11 @@ use crate::cell::{Cell, is_type};
 use crate::folds::Folds;
 use crate::inputs::Inputs;
 use crate::outcome::Trap;
-use crate::stack::{PLACES, Stack};
+use crate::stack::Stack;
 use std::alloc::Global;
 use wsm_bytecode::{CellType, Instr, SectionId};
 use wsm_record::Kind;
+use wsm_record::limits::MAX_STACK;
 
 /// The section that runs, what it needs of the header, and what it reads.
 #[derive(Clone, Copy)]
@@ -115,7 +116,7 @@ impl Frame {
         requires { popped ≤ length self.old.stack }
         ensures { Answers popped cell self.old result self.new }
     {
-        if self.stack.len() - popped == PLACES {
+        if self.stack.len() - popped == MAX_STACK {
             return Err(Trap::StackFull);
         }
         self.stack.replace(popped, cell);

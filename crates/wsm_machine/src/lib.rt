@@ -17,7 +17,7 @@ pub use inputs::Inputs;
 pub use machine::{Fired, Kept, Machine, Updated};
 pub use outcome::{Outcome, Trap};
 pub use run::{Ran, run_any};
-pub use stack::{PLACES, Stack};
+pub use stack::Stack;
 
 mod cell;
 mod folds;

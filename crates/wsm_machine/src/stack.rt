@@ -6,15 +6,13 @@ use crate::cell::Cell;
 use smallvec::SmallVec;
 use std::alloc::Global;
 use std::marker::Model;
-
-/// How many values a stack holds at most.
-pub const PLACES: usize = 32;
+use wsm_record::limits::MAX_STACK;
 
 /// A stack of at most 32 values, all of them inline: it keeps an allocator and asks it for nothing.
 /// A clause sees the values with the top first.
 #[derive(Drop)]
 pub struct Stack {
-    cells: SmallVec<Cell, PLACES>,
+    cells: SmallVec<Cell, MAX_STACK>,
 }
 
 impl Model for Stack {
@@ -42,14 +40,14 @@ impl Stack {
     /// The values, the lowest first.
     pub fn cells(&self) -> &[Cell]
         ensures lowest_first { result.now ≡ reverse self.now }
-        ensures room { length result.now ≤ PLACES }
+        ensures room { length result.now ≤ MAX_STACK }
     {
         self.cells.as_slice()
     }
 
     pub(crate) fn len(&self) -> usize
         ensures len { result ≡ length self.now }
-        ensures room { result ≤ PLACES }
+        ensures room { result ≤ MAX_STACK }
     {
         self.cells.len()
     }
@@ -86,7 +84,7 @@ impl Stack {
     /// Puts a value in the place of the topmost ones.
     pub(crate) fn replace(&mut self, popped: usize, cell: Cell)
         requires operands { popped ≤ length self.old }
-        requires room { length self.old < popped + PLACES }
+        requires room { length self.old < popped + MAX_STACK }
         ensures { self.new ≡ cell ∷ drop popped self.old }
     {
         let len = self.cells.len() - popped;

@@ -19,13 +19,11 @@ use crate::pane::Pane;
 use crate::table::PaneTable;
 use std::alloc::{AllocError, Global};
 use std::marker::Model;
+use wsm_record::limits::MAX_PANES;
 use wsm_record::{Kind, Mode, Value};
 use wsm_semantics::{Columns, Place};
 use wsm_sessions::Sessions;
 use wsm_windows::{Shape, Window};
-
-/// The most panes that there can be room for.
-pub const MAX_PANES: usize = 100_000;
 
 /// What putting a record in came to.
 #[derive(Clone, Copy, Debug, PartialEq, Eq)]

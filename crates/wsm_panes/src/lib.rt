@@ -8,7 +8,7 @@
 //! window. A pane that a record comes into changes in its slot, as a [`TakesRecords`] says.
 #![tactic(auto)]
 
-pub use held::{Entered, HeldPanes, MAX_PANES};
+pub use held::{Entered, HeldPanes};
 pub use list::ListTable;
 pub use pane::Pane;
 pub use recording::TakesRecords;

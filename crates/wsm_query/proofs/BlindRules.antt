@@ -8,7 +8,8 @@ use Rattle.wsm_windows.specs.declared.window.Shape.TheVariants.{Fixed, Sliding, 
 use Rattle.wsm_tokens.specs.Read.{Rule, Stopped, give, and_then, behind, too_deep}
 use Rattle.wsm_record.specs.Schema as field_types
 use Rattle.wsm_query.specs.Tree.{Name, Expr, Number, Truth, Field, EnumName, Key, KeyName, Count, Aggregate, If, Brackets, Minus, Not}
-use Rattle.wsm_query.specs.Grammar.{kinds, aggregate, count_of, choice, brackets, pointed, leaf, atom, unary, chain, chain_limit, chained, products, sums, comparisons, ands, ors, prod, sum, compared, cmp, neg, conj, expr_in, Deeper, deeper, levels, level_limit, expr, int, names, type_of, field, budget, shape, mode, form, every}
+use Rattle.wsm_record.specs.declared.limits.TheConstants.{MAX_CHAIN, MAX_LEVELS}
+use Rattle.wsm_query.specs.Grammar.{kinds, aggregate, count_of, choice, brackets, pointed, leaf, atom, unary, chain, chained, products, sums, comparisons, ands, ors, prod, sum, compared, cmp, neg, conj, expr_in, Deeper, deeper, levels, expr, int, names, type_of, field, budget, shape, mode, form, every}
 use Rattle.wsm_query.proofs.Chains.{Table}
 use Rattle.wsm_query.proofs.Blind.{Blind, BlindAt, BlindIn, give_blind, bind_blind, behind_blind, deep_blind, at_blind, either_blind, numbered_blind, listed_blind, one_of_blind, ask_blind, number_blind, name_blind, after_blind, until_blind, list_of_blind, opened_blind}
 
@@ -70,7 +71,7 @@ chain_blind (suc n) table rule r x =
 
 chained_blind : (table : Table) (rule : Rule Expr) → Blind rule → Blind (chained table rule)
 unfolding chained
-chained_blind table rule r = bind_blind r (λ x. chain_blind chain_limit table rule r x)
+chained_blind table rule r = bind_blind r (λ x. chain_blind MAX_CHAIN table rule r x)
 
 prod_blind : (d : Option Deeper) → BlindIn d → Blind (prod d)
 unfolding prod
@@ -112,7 +113,7 @@ levels_blind (suc n) = deeper_blind (levels n) (levels_blind n)
 
 pub expr_blind : Blind expr
 unfolding expr
-expr_blind = expr_in_blind (levels level_limit) (levels_blind level_limit)
+expr_blind = expr_in_blind (levels MAX_LEVELS) (levels_blind MAX_LEVELS)
 
 pub names_blind : Blind names
 unfolding names

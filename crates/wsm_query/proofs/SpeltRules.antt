@@ -13,7 +13,8 @@ use Rattle.wsm_tokens.specs.Proper.{is_proper, has_proper}
 use Rattle.wsm_tokens.specs.Read.{Rule, Took, Stopped, ◌>>=◌, give, and_then, too_deep, unexpected, behind, ask, number, name, begins}
 use Rattle.wsm_tokens.specs.Written.{bare}
 use Rattle.wsm_query.specs.Tree.{Name, Expr, Number, Truth, Field, EnumName, Key, KeyName, Count, Aggregate, If, Brackets, Minus, Not}
-use Rattle.wsm_query.specs.Grammar.{kinds, aggregate, count_of, choice, brackets, pointed, leaf, atom, unary, chain, chain_limit, chained, products, sums, comparisons, ands, ors, prod, sum, compared, cmp, neg, conj, expr_in, Deeper, opened, deeper, levels, level_limit, expr}
+use Rattle.wsm_record.specs.declared.limits.TheConstants.{MAX_CHAIN, MAX_LEVELS}
+use Rattle.wsm_query.specs.Grammar.{kinds, aggregate, count_of, choice, brackets, pointed, leaf, atom, unary, chain, chained, products, sums, comparisons, ands, ors, prod, sum, compared, cmp, neg, conj, expr_in, Deeper, opened, deeper, levels, expr}
 use Rattle.wsm_query.specs.Print.{figures, kind_word, expr_tokens}
 use Rattle.wsm_query.proofs.Chains.{Table}
 use Rattle.wsm_query.proofs.Spelt.{Proper, Says, word_says, sign_says, differ, begun, Ends, Spelt, Goes, Opens, spelt, goes, step, done, moved, behind_opens, deep_opens, at_goes, either_goes, numbered_goes, Entry, Entries, listed_goes}
@@ -167,7 +168,7 @@ chain_goes {b = b} (suc n) table r rule s x =
 
 chained_spelt : (table : Table) → Entries Joins table → (rule : Rule Expr) → Spelt rule expr_tokens → Spelt (chained table rule) expr_tokens
 unfolding chained
-chained_spelt table r rule s = spelt (λ b. step s (λ x. chain_goes chain_limit table r rule s x))
+chained_spelt table r rule s = spelt (λ b. step s (λ x. chain_goes MAX_CHAIN table r rule s x))
 
 sign_joins : (g : Sign) (make : Expr → Expr → Expr) → Joins (Mark g) make → Entry Joins (sign_text g, make)
 sign_joins g make j = record { token = Mark g; says = sign_says g; meaning = j }
@@ -240,4 +241,4 @@ levels_spelt (suc n) = deeper_spelt (levels n) (levels_spelt n)
 
 pub expr_spelt : Spelt expr expr_tokens
 unfolding expr
-expr_spelt = expr_in_spelt (levels level_limit) (levels_spelt level_limit)
+expr_spelt = expr_in_spelt (levels MAX_LEVELS) (levels_spelt MAX_LEVELS)

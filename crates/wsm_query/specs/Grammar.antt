@@ -1,5 +1,6 @@
 -- The grammar of query texts, a rule each, over tokens. This project's own rule.
 use Rattle.std.specs.Prelude.{ℕ, zero, suc, true, false, List, [], ◌∷◌, ℤ, neg_ℤ, Option, Some, None, codes}
+use Rattle.wsm_record.specs.declared.limits.TheConstants.{MAX_CHAIN, MAX_LEVELS}
 use Rattle.wsm_record.specs.declared.words.Kind.{Kind}
 use Rattle.wsm_record.specs.declared.words.Kind.TheVariants.{Sum, Min, Max, Any, All}
 use Rattle.wsm_record.specs.declared.words.Mode.{Mode}
@@ -160,14 +161,11 @@ chain (suc n) table rule x ts =
       | Some make ↦ and_then (rule (behind ts)) (λ y. chain n table rule (make x y))
     ]
 
-abbrev pub chain_limit : ℕ
-chain_limit = 64
-
 -- an operand, and a chain
 unfoldable pub chained : List (List ℕ × (Expr → Expr → Expr)) → Rule Expr → Rule Expr
 chained table rule = do
   x ← rule
-  chain chain_limit table rule x
+  chain MAX_CHAIN table rule x
 
 abbrev pub binary : Op → Expr → Expr → Expr
 binary op x y = Binary op x y
@@ -233,11 +231,8 @@ unfoldable pub levels : ℕ → Option Deeper
 levels zero = None
 levels (suc n) = Some (deeper (levels n))
 
-abbrev pub level_limit : ℕ
-level_limit = 24
-
 unfoldable pub expr : Rule Expr
-expr = expr_in (levels level_limit)
+expr = expr_in (levels MAX_LEVELS)
 
 -- [ "-" ] num
 unfoldable pub int : Rule ℤ

@@ -1,4 +1,4 @@
-//! The limits of levels and chains.
+//! Taking tokens of which only so many may be taken: those that open levels, and operators of chains.
 
 ghost use Rattle.std.specs.Prelude.{◌≡◌, ◌+◌, ◌≤◌, IfOk};
 ghost use Rattle.wsm_tokens.specs.Read.{Gives, count};
@@ -6,12 +6,6 @@ ghost use Rattle.wsm_query.specs.Grammar.{levels, opened};
 ghost use Rattle.wsm_query.specs.Steps.{at_level, spend};
 
 use wsm_tokens::{Reader, Stop};
-
-/// How many levels of an expression may be open at one time.
-pub const MAX_LEVELS: usize = 24;
-
-/// How many operators one chain may have.
-pub const MAX_CHAIN: usize = 64;
 
 /// Takes the token in sight as one of those that are left, or stops as too deep.
 pub fn spend(reader: &mut Reader, left: usize) -> Result<usize, Stop>

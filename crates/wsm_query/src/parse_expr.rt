@@ -11,9 +11,10 @@ ghost use Rattle.wsm_query.specs.Grammar.{levels, looked_up};
 ghost use Rattle.wsm_query.specs.Seen.{seen_expr};
 
 use crate::expr::{Expr, Op};
-use crate::level::{MAX_CHAIN, MAX_LEVELS, open, spend};
+use crate::level::{open, spend};
 use std::alloc::{AllocError, Global};
 use wsm_record::Kind;
+use wsm_record::limits::{MAX_CHAIN, MAX_LEVELS};
 use wsm_tokens::{Reader, Stop};
 
 /// `expr`, with all levels left.

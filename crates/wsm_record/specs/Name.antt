@@ -1,6 +1,7 @@
 -- Which texts are names.
 use Rattle.std.specs.Prelude.{ℕ, Bool, false, ◌&&◌, ◌||◌, not, List, [], ◌∷◌, ◌++◌, length, nat_le, nat_eq, bytes_eq, codes}
 use Rattle.std.specs.List.{list_any, list_all}
+use Rattle.wsm_record.specs.declared.limits.TheConstants.{MAX_NAME}
 
 abbrev pub is_between : ℕ → ℕ → ℕ → Bool
 is_between lo hi c = nat_le lo c && nat_le c hi
@@ -13,9 +14,6 @@ is_digit c = is_between 48 57 c
 
 abbrev pub is_word_byte : ℕ → Bool
 is_word_byte c = is_letter c || (is_digit c || nat_eq c 95)
-
-abbrev pub name_limit : ℕ
-name_limit = 32
 
 abbrev pub is_among : List ℕ → List (List ℕ) → Bool
 is_among x xs = list_any (bytes_eq x) xs
@@ -38,7 +36,7 @@ is_word (c ∷ cs) = is_letter c && list_all is_word_byte cs
 
 -- a word of at most 32 bytes that isn't reserved
 abbrev pub is_name : List ℕ → Bool
-is_name word = is_word word && (nat_le (length word) name_limit && not (is_reserved word))
+is_name word = is_word word && (nat_le (length word) MAX_NAME && not (is_reserved word))
 
 -- a name stands behind those before it or behind itself
 abbrev pub repeats_after : List (List ℕ) → List (List ℕ) → Bool

@@ -1,6 +1,7 @@
 -- What a query declares of its records, and which values fit.
 use Rattle.std.specs.Prelude.{ℕ, Bool, true, false, ◌&&◌, ◌||◌, cond, List, [], ◌∷◌, ◌++◌, length, ℤ, int_le, int_lt, nat_lt, nat_eq, Option, Some, None}
 use Rattle.std.specs.List.{list_any}
+use Rattle.wsm_record.specs.declared.limits.TheConstants.{MAX_FIELDS, MAX_NAMES}
 use Rattle.wsm_record.specs.declared.schema.SchemaRefusal.{SchemaRefusal}
 use Rattle.wsm_record.specs.declared.schema.SchemaRefusal.TheVariants.{NoKeys, TooMany, DuplicateName, EmptyRange}
 use Rattle.wsm_record.specs.Name.{is_among, repeats_after}
@@ -35,19 +36,13 @@ fit_fields [] [] = true
 fit_fields (f ∷ fs) (v ∷ vs) = fits_type f.type v && fit_fields fs vs
 fit_fields _ _ = false
 
--- more keys, fields or names of a field than there may be
-abbrev pub name_limit : ℕ
-name_limit = 1000
-
-abbrev pub field_limit : ℕ
-field_limit = 16
-
 abbrev pub has_too_many_names : FieldType → Bool
-has_too_many_names (Enum names) = nat_lt name_limit (length names)
+has_too_many_names (Enum names) = nat_lt MAX_NAMES (length names)
 has_too_many_names _ = false
 
+-- more keys, fields or names of a field than there may be
 abbrev pub is_too_many : Declared → Bool
-is_too_many d = nat_lt name_limit (length d.keys) || (nat_lt field_limit (length d.fields) || list_any (λ f. has_too_many_names f.type) d.fields)
+is_too_many d = nat_lt MAX_NAMES (length d.keys) || (nat_lt MAX_FIELDS (length d.fields) || list_any (λ f. has_too_many_names f.type) d.fields)
 
 -- the fault of a type: it has no values, or a name twice
 abbrev pub type_refusal : FieldType → Option SchemaRefusal

@@ -13,6 +13,7 @@ pub use schema::{DeclaredField, Field, FieldType, Schema, SchemaRefusal, Ty};
 pub use words::{CellType, Form, Kind, Mode};
 
 mod event;
+pub mod limits;
 mod name;
 mod names;
 mod reserved;

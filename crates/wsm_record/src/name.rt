@@ -4,12 +4,10 @@ ghost use Rattle.std.specs.Prelude.{◌≡◌, IfSome, is_some, true};
 ghost use Rattle.std.specs.List.{list_all};
 ghost use Rattle.wsm_record.specs.Name.{is_name, is_word, is_word_byte};
 
+use crate::limits::MAX_NAME;
 use crate::reserved::is_keyword;
 use std::hash::{Hash, Hasher};
 use std::marker::Model;
-
-/// The most bytes of a name.
-pub const MAX_NAME: usize = 32;
 
 /// A declared name, held inline: a letter, then letters, digits and `_`, at most 32 bytes in all,
 /// and no reserved word. A clause sees its bytes.

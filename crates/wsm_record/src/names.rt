@@ -3,14 +3,12 @@
 ghost use Rattle.std.specs.Prelude.{◌≡◌, ◌<◌, ◌≤◌, ◌⊎◌, ℕ, List, length, map, position, bytes_eq, Some, false, true, slice_get, IfOk, IfErr, Err, []};
 ghost use Rattle.wsm_record.specs.Name.{repeats_after};
 
+use crate::limits::MAX_NAMES;
 use crate::name::Name;
 use crate::schema::SchemaRefusal;
 use indexmap::IndexSet;
 use std::alloc::{AllocError, Global};
 use std::marker::Model;
-
-/// The most names of one list.
-pub const MAX_NAMES: usize = 1000;
 
 /// Distinct names in their order, found by their bytes. A name's number is its place.
 #[derive(Drop)]

@@ -6,14 +6,12 @@ ghost use Rattle.std.specs.List.{list_any};
 ghost use Rattle.wsm_record.specs.Fields.{declared_type, declared_field, type_seen, field_seen, declared_of};
 
 use crate::event::Value;
+use crate::limits::{MAX_FIELDS, MAX_NAMES};
 use crate::name::Name;
-use crate::names::{MAX_NAMES, Names};
+use crate::names::Names;
 use std::alloc::{AllocError, AllocFailed, Global};
 use std::marker::Model;
 use thiserror::Error;
-
-/// The most fields of a schema.
-pub const MAX_FIELDS: usize = 16;
 
 /// What a query declares a field as.
 #[derive(Debug, Drop)]

@@ -4,9 +4,7 @@ ghost use Rattle.std.specs.Prelude.{◌≡◌, List, [], ◌∷◌, ◌++◌, le
 
 use std::marker::Model;
 use wsm_record::Value;
-
-/// The most columns of a row.
-pub const MAX_COLUMNS: usize = 16;
+use wsm_record::limits::MAX_COLUMNS;
 
 /// The columns of a row, at most [`MAX_COLUMNS`], held inline. A clause sees their values.
 #[derive(Clone, Copy, Debug)]

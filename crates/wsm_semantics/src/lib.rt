@@ -30,7 +30,7 @@
 //! ```
 #![tactic(auto)]
 
-pub use columns::{Columns, MAX_COLUMNS};
+pub use columns::Columns;
 pub use out_row::OutRow;
 pub use place::Place;
 pub use standing::Standing;

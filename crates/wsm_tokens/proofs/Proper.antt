@@ -5,7 +5,8 @@ use Rattle.std.specs.List.{prefix_len, list_all}
 use Rattle.std.proofs.lemmas.Bool.{cond_both, ltb-true, le-leb}
 use Rattle.std.proofs.Math.Dec.{ltb}
 use Rattle.std.proofs.lemmas.List.Folds.{length-prefix_len}
-use Rattle.wsm_record.specs.Name.{is_letter, is_digit, is_word_byte, name_limit}
+use Rattle.wsm_record.specs.Name.{is_letter, is_digit, is_word_byte}
+use Rattle.wsm_record.specs.declared.limits.TheConstants.{MAX_NAME}
 use Rattle.wsm_tokens.specs.declared.token.Sign.{Sign}
 use Rattle.wsm_tokens.specs.Tokens.{Word, Number, Then, Bad, First, Blank, Found, Lost, sign_of, is_blank, value_of, number_limit, first_of, first_word, first_number, first_sign, tokens_from, tokens}
 use Rattle.wsm_tokens.specs.Proper.{is_proper, has_proper}
@@ -24,8 +25,8 @@ begins_proper (Lost fault on) = true
 word_is_proper : (c : ℕ) (text : List ℕ) → is_letter c ≡ true → begins_proper (first_word c text (prefix_len is_word_byte text)) ≡ true
 word_is_proper c text e =
     let m = prefix_len is_word_byte text in
-    let long = λ (h : ltb m name_limit ≡ true). le-leb (length (c ∷ take m text)) name_limit (omega (arith, ltb-true m name_limit h, length-prefix_len is_word_byte text)) in
-    cond_both (ltb m name_limit) (Found (Word (c ∷ take m text)) m) _ (λ f. begins_proper f ≡ true) (λ h. rw (e, passing is_word_byte text, long h) refl) (λ h. refl)
+    let long = λ (h : ltb m MAX_NAME ≡ true). le-leb (length (c ∷ take m text)) MAX_NAME (omega (arith, ltb-true m MAX_NAME h, length-prefix_len is_word_byte text)) in
+    cond_both (ltb m MAX_NAME) (Found (Word (c ∷ take m text)) m) _ (λ f. begins_proper f ≡ true) (λ h. rw (e, passing is_word_byte text, long h) refl) (λ h. refl)
 
 figures_are_proper : (value more : ℕ) → begins_proper (first_number value more) ≡ true
 figures_are_proper value more = cond_both (leb value number_limit) (Found (Number (pos value)) more) _ (λ f. begins_proper f ≡ true) (λ h. h) (λ h. refl)

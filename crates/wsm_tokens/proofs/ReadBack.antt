@@ -7,7 +7,8 @@ use Rattle.std.proofs.lemmas.Bool.{and_parts, lt-ltb, leb-true}
 use Rattle.std.proofs.lemmas.Bool.Decides.{nat_tests}
 use Rattle.std.proofs.lemmas.Fmt.{decimal_nonempty}
 use Rattle.std.proofs.Math.Seq.{take-append_seam}
-use Rattle.wsm_record.specs.Name.{is_letter, is_digit, is_word_byte, name_limit}
+use Rattle.wsm_record.specs.Name.{is_letter, is_digit, is_word_byte}
+use Rattle.wsm_record.specs.declared.limits.TheConstants.{MAX_NAME}
 use Rattle.wsm_tokens.specs.declared.token.Sign.{Sign}
 use Rattle.wsm_tokens.specs.declared.token.Sign.TheVariants as signs
 use Rattle.wsm_tokens.specs.Tokens.{Token, Word, Mark, Number, Then, End, Found, sign_text, sign_of, is_blank, number_limit, first_of, tokens_from, tokens}
@@ -43,9 +44,9 @@ digit_is_no_letter c h = grind (arith, nat_tests)
 word_read : (c : ℕ) (w : List ℕ) (o : Option (List ℕ)) → is_proper (Word (c ∷ w)) ≡ true → first_of c (w ++ spaced o) ≡ Found (Word (c ∷ w)) (length w)
 unfolding first_of
 word_read c w o proper =
-    let a = and_parts (is_letter c && list_all is_word_byte w) (leb (length (c ∷ w)) name_limit) proper in
+    let a = and_parts (is_letter c && list_all is_word_byte w) (leb (length (c ∷ w)) MAX_NAME) proper in
     let b = and_parts (is_letter c) (list_all is_word_byte w) a.0 in
-    let short = lt-ltb (length w) name_limit (omega (arith, leb-true (length (c ∷ w)) name_limit a.1)) in
+    let short = lt-ltb (length w) MAX_NAME (omega (arith, leb-true (length (c ∷ w)) MAX_NAME a.1)) in
     rw (letter_is_dark c b.0, b.0, passing is_word_byte w o refl b.1, short, take-append_seam w (spaced o)) refl
 
 number_read : (n c : ℕ) (w : List ℕ) (o : Option (List ℕ)) → leb n number_limit ≡ true → Digits n (c ∷ w) → first_of c (w ++ spaced o) ≡ Found (Number (pos n)) (length w)

@@ -1,7 +1,8 @@
 -- The tokens of a text, each with the offset of its first byte. This project's own rule.
 use Rattle.std.specs.Prelude.{ℕ, zero, suc, ◌+◌, ◌-◌, ◌*◌, Bool, ◌||◌, cond, List, [], ◌∷◌, length, take, drop, nat_le, nat_lt, nat_eq, ℤ, pos, Option, Some, None, codes, fold, find}
 use Rattle.std.specs.List.{starts_with, prefix_len}
-use Rattle.wsm_record.specs.Name.{is_letter, is_digit, is_word_byte, name_limit}
+use Rattle.wsm_record.specs.Name.{is_letter, is_digit, is_word_byte}
+use Rattle.wsm_record.specs.declared.limits.TheConstants.{MAX_NAME}
 use Rattle.wsm_tokens.specs.declared.fault.Fault.{Fault}
 use Rattle.wsm_tokens.specs.declared.fault.Fault.TheVariants.{BadCharacter, NumberTooLarge}
 use Rattle.wsm_tokens.specs.declared.token.Sign.{Sign}
@@ -74,7 +75,7 @@ pub data First : Type 0 where
 
 -- a word of a first letter and so many bytes behind it
 abbrev pub first_word : ℕ → List ℕ → ℕ → First
-first_word c text more = cond (nat_lt more name_limit) (Found (Word (c ∷ take more text)) more) (Lost BadCharacter name_limit)
+first_word c text more = cond (nat_lt more MAX_NAME) (Found (Word (c ∷ take more text)) more) (Lost BadCharacter MAX_NAME)
 
 abbrev pub first_number : ℕ → ℕ → First
 first_number value more = cond (nat_le value number_limit) (Found (Number (pos value)) more) (Lost NumberTooLarge 0)

@@ -8,9 +8,10 @@ ghost use Rattle.wsm_tokens.specs.Sight.{Scans};
 
 use crate::fault::Fault;
 use crate::token::{Sign, Token};
+use wsm_record::limits::MAX_NAME;
 
 // How many bytes a word has behind its first.
-const MAX_MORE: usize = 31;
+const MAX_MORE: usize = MAX_NAME - 1;
 
 const MAX_NUMBER: u64 = 9223372036854775807;
 

@@ -50,9 +50,7 @@ use crate::state::State;
 use crate::types::{fit, may_divide_by_zero, sum_may_leave};
 use wsm_bytecode::{Instr, SectionId};
 use wsm_record::Kind;
-
-// The most values on a stack.
-const PLACES: usize = 32;
+use wsm_record::limits::MAX_STACK;
 
 /// Where rules are tried.
 #[derive(Clone, Copy)]
@@ -144,7 +142,7 @@ fn overflows(stack: &[Known], pushed: Option<Known>, taken: usize) -> bool
     requires { taken ≤ 2 }
     ensures { result ≡ rules.overflows stack.now (Some (option_to_list pushed)) taken }
 {
-    PLACES + taken < stack.len() + pushed.is_some() as usize
+    MAX_STACK + taken < stack.len() + pushed.is_some() as usize
 }
 
 // Whether the update section ends there, with an accumulator that isn't folded.

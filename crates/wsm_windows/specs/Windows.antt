@@ -2,6 +2,7 @@
 use Rattle.std.specs.Prelude.{◌≡◌, ℕ, zero, suc, ◌+◌, ◌-◌, ◌/◌, Bool, ◌&&◌, List, [], ◌∷◌, ◌++◌, All, ℤ, pos, ◌+ℤ◌, ◌-ℤ◌, ◌*ℤ◌, ◌<ℤ◌, ◌≤ℤ◌, int_lt, int_le, unsigned_abs}
 use Rattle.std.specs.Int.{int_rem_euclid}
 use Rattle.std.specs.List.{filter}
+use Rattle.wsm_record.specs.declared.limits.TheConstants.{LATEST_TIME, LONGEST_SPAN}
 use Rattle.wsm_windows.specs.declared.window.Window.{Window}
 use Rattle.wsm_windows.specs.declared.window.Shape.{Shape}
 use Rattle.wsm_windows.specs.declared.window.Shape.TheVariants.{Fixed, Sliding, Session}
@@ -68,10 +69,10 @@ IsRising (w ∷ ws) = All (λ v. w.start <ℤ v.start) ws × IsRising ws
 
 -- the greatest size, period, gap, skew and lateness
 abbrev pub greatest_span : ℤ
-greatest_span = pos 1000000000000
+greatest_span = LONGEST_SPAN
 
 abbrev pub greatest_time : ℤ
-greatest_time = pos 10000000000000000
+greatest_time = LATEST_TIME
 
 pub record IsShape (shape : Shape) : Type 0 where
   pub period_low : pos 1 ≤ℤ period_of shape
