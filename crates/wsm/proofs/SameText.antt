@@ -5,7 +5,7 @@ use Rattle.std.proofs.lemmas.List.{append_cancel_left}
 use Rattle.wsm_semantics.specs.Query.{Query}
 use Rattle.wsm_semantics.specs.Lines.{Row, lines_so_far, end_line, all_lines}
 use Rattle.wsm_semantics.specs.Text.{Names, lines_text}
-use Rattle.wsm_engine.specs.declared.reply.Totals.{Totals}
+use Rattle.wsm_semantics.specs.declared.ending.Totals.{Totals}
 use Rattle.wsm_csv.specs.Device.{TakesPart}
 use Rattle.std.specs.Io.KnownBytes.{Appends}
 use Rattle.wsm_query.specs.Tree as tree

@@ -14,7 +14,7 @@ use Rattle.wsm_csv.specs.Cells.{event_of_cells}
 use Rattle.wsm_csv.specs.Device.{TakesPart}
 use Rattle.wsm_csv.specs.Records.{AreFirst}
 use Rattle.wsm_csv.proofs.Written.{Appends-join, Appends-start, TakesPart-last}
-use Rattle.wsm_engine.specs.declared.reply.Totals.{Totals}
+use Rattle.wsm_semantics.specs.declared.ending.Totals.{Totals}
 use Rattle.wsm.specs.declared.turns.Turns.{Turns}
 use Rattle.wsm.specs.Asked.{Asked, asked_by_program}
 use Rattle.wsm.specs.Ends.{end_of_read}

@@ -10,7 +10,7 @@ use Rattle.wsm_semantics.specs.Lines.{Row, Out, Faulty, events, end_line, fault_
 use Rattle.wsm_semantics.specs.Text.{Names, line_text, lines_text}
 use Rattle.wsm_bytecode.specs.Program.{Program}
 use Rattle.wsm_machine.specs.Meaning.{query_of}
-use Rattle.wsm_engine.specs.declared.reply.Totals.{Totals}
+use Rattle.wsm_semantics.specs.declared.ending.Totals.{Totals}
 use Rattle.wsm_engine.specs.State.{State}
 use Rattle.wsm_engine.specs.Meaning as engine
 use Rattle.wsm.specs.declared.turns.Turns.{Turns}

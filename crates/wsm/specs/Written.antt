@@ -3,7 +3,7 @@ use Rattle.std.specs.Prelude.{◌≡◌, ◌⊎◌, ℕ, List, Option, Result, E
 use Rattle.std.specs.Io.KnownBytes.{Appends, Keeps}
 use Rattle.wsm_semantics.specs.Lines.{Row, Line, End, lines_so_far, end_line}
 use Rattle.wsm_semantics.specs.Text.{lines_text, text}
-use Rattle.wsm_engine.specs.declared.reply.Totals.{Totals}
+use Rattle.wsm_semantics.specs.declared.ending.Totals.{Totals}
 use Rattle.wsm_csv.specs.Cells.{event_of_cells}
 use Rattle.wsm_csv.specs.Device.{TakesPart}
 use Rattle.wsm_csv.specs.Records.{AreAll, AreFirst}

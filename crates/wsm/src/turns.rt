@@ -9,7 +9,7 @@ use csv::ByteRecord;
 use std::alloc::{AllocError, Global};
 use wsm_admission::Refusal;
 use wsm_csv::{
-    Device, DeviceFault, EndRow, RowRefusal, end_text, fault_text, read_row_with, refusal_text,
+    Device, DeviceFault, RowRefusal, end_text, fault_text, read_row_with, refusal_text,
     write_out,
 };
 use wsm_engine::{Engine, Totals};
@@ -115,7 +115,7 @@ impl Turns {
     {
         let totals = self.totals();
         self.lines.clear();
-        end_text(end_row(totals), &mut self.lines)?;
+        end_text(totals, &mut self.lines)?;
         Ok(totals)
     }
 
@@ -142,18 +142,6 @@ impl Turns {
             refused: self.faults.saturating_add(totals.refused),
             panes: totals.panes,
         }
-    }
-}
-
-fn end_row(totals: Totals) -> EndRow
-    ensures { result ≡ record { rows = totals.rows; admitted = totals.admitted; late = totals.late; refused = totals.refused; panes = totals.panes } }
-{
-    EndRow {
-        rows: totals.rows,
-        admitted: totals.admitted,
-        late: totals.late,
-        refused: totals.refused,
-        panes: totals.panes,
     }
 }
 

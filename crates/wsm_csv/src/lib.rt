@@ -10,7 +10,7 @@ pub use guarded::Guarded;
 pub use number::read_number;
 pub use row::{RowRefusal, read_row, read_row_with};
 pub use rows::{ReadEnd, Rows};
-pub use text::{EndRow, end_text, fault_text, refusal_text, row_text};
+pub use text::{end_text, fault_text, refusal_text, row_text};
 
 mod device;
 mod guarded;

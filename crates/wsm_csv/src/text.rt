@@ -14,23 +14,8 @@ use itoa::Buffer;
 use std::alloc::AllocError;
 use wsm_admission::Refusal;
 use wsm_record::{Names, RowFault, Schema, Value};
-use wsm_semantics::{Columns, OutRow};
+use wsm_semantics::{Columns, OutRow, Totals};
 use wsm_windows::{PaneKind, Window};
-
-/// The numbers of the last line.
-#[derive(Clone, Copy, Debug, PartialEq, Eq)]
-pub struct EndRow {
-    /// The rows read.
-    pub rows: u64,
-    /// The records admitted.
-    pub admitted: u64,
-    /// The records that were late.
-    pub late: u64,
-    /// The rows refused, without the late records.
-    pub refused: u64,
-    /// The panes that fired.
-    pub panes: u64,
-}
 
 /// Adds the line of a row. `columns` has for each column the names that its numbers stand for, or
 /// none; a number that stands for no name is an empty cell.
@@ -61,15 +46,15 @@ pub fn refusal_text(row: u64, why: Refusal, out: &mut Vec<u8>) -> Result<(), All
 }
 
 /// Adds the last line.
-pub fn end_text(end: EndRow, out: &mut Vec<u8>) -> Result<(), AllocError>
-    ensures { (names : text.Names) → OnOk result (out.new.items ≡ out.old.items ++ text.line_text names (End end.rows end.admitted end.late end.refused end.panes)) }
+pub fn end_text(totals: Totals, out: &mut Vec<u8>) -> Result<(), AllocError>
+    ensures { (names : text.Names) → OnOk result (out.new.items ≡ out.old.items ++ text.line_text names (End totals.rows totals.admitted totals.late totals.refused totals.panes)) }
 {
     out.extend_from_slice(b"end")?;
-    add_count(end.rows, out)?;
-    add_count(end.admitted, out)?;
-    add_count(end.late, out)?;
-    add_count(end.refused, out)?;
-    add_count(end.panes, out)?;
+    add_count(totals.rows, out)?;
+    add_count(totals.admitted, out)?;
+    add_count(totals.late, out)?;
+    add_count(totals.refused, out)?;
+    add_count(totals.panes, out)?;
     end_line(out)
 }
 

@@ -22,7 +22,7 @@ use Rattle.wsm_semantics.specs.HeldBounds.{most_panes}
 use Rattle.wsm_semantics.specs.Kept as kept
 use Rattle.wsm_semantics.specs.Kept.{Kept, kept_in, is_linked}
 use Rattle.wsm_semantics.specs.Summaries.{Pane, fired_count, linked, entered, joined, joined_folds, summaries, pane_of}
-use Rattle.wsm_semantics.specs.Totals.{AtMost, total}
+use Rattle.wsm_semantics.specs.HeldRecords.{AtMost, total}
 use Rattle.wsm_semantics.specs.Replay.{datum}
 use Rattle.wsm_semantics.proofs.Lists.{length_each, filter-all}
 use Rattle.wsm_semantics.proofs.Each.{all-both, filter-map}
@@ -31,7 +31,7 @@ use Rattle.wsm_semantics.proofs.Turnless as turnless
 use Rattle.wsm_semantics.proofs.KeptLaw.{enters}
 use Rattle.wsm_semantics.proofs.HeldBound.{held_at_key, held_bounded}
 use Rattle.wsm_semantics.proofs.SelectedRecords.{a_time}
-use Rattle.wsm_semantics.proofs.Totals.{each_of, total-where}
+use Rattle.wsm_semantics.proofs.HeldRecords.{each_of, total-where}
 use Rattle.wsm_bytecode.specs.declared.instr.SectionId.TheVariants.{Fire}
 use Rattle.wsm_bytecode.specs.Program.{Program, is_program}
 use Rattle.wsm_verifier.specs.declared.costs.Costs.{Costs}

@@ -15,7 +15,7 @@ use Rattle.wsm_bytecode.specs.Program.{Program}
 use Rattle.wsm_machine.specs.Meaning.{query_of, plan_of, record_cost, pane_cost}
 use Rattle.wsm_firing.specs.Tally.{greatest}
 use Rattle.wsm_engine.specs.declared.reply.Reply.{Reply}
-use Rattle.wsm_engine.specs.declared.reply.Totals.{Totals}
+use Rattle.wsm_semantics.specs.declared.ending.Totals.{Totals}
 use Rattle.wsm_engine.specs.State.{State}
 
 -- the reply of a program to an event after a history

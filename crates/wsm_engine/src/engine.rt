@@ -12,14 +12,14 @@ ghost use Rattle.wsm_machine.specs.Meaning.{clock_of, query_of};
 ghost use Rattle.wsm_engine.specs.Meaning.{Fits, reply_to, totals_of, IsRefused};
 ghost use Rattle.wsm_engine.specs.Turn.{turn, reply_by, refusal_of as spec_refusal_of};
 
-use crate::reply::{Reply, Totals};
+use crate::reply::Reply;
 use crate::runner::Runner;
 use std::alloc::Global;
 use std::marker::Model;
 use wsm_admission::{Admission, Admitted, Clock, Refusal};
 use wsm_bytecode::{Header, Program};
 use wsm_record::{Event, Schema};
-use wsm_semantics::OutRow;
+use wsm_semantics::{OutRow, Totals};
 use wsm_verifier::Verified;
 
 /// A verified program, what is kept of the events, and the rows of the last one.

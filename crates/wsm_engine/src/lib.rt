@@ -25,7 +25,8 @@
 #![tactic(auto)]
 
 pub use engine::{Engine, OpenRefusal};
-pub use reply::{Reply, Totals};
+pub use reply::Reply;
+pub use wsm_semantics::Totals;
 
 mod engine;
 pub mod laws;

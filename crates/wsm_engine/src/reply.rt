@@ -1,4 +1,4 @@
-//! What a turn answers, and what all turns so far come to.
+//! What a turn answers.
 
 use wsm_admission::Refusal;
 
@@ -15,19 +15,4 @@ pub struct Reply {
     pub pane_steps_max: u64,
     /// How many instructions all panes took to fire.
     pub pane_steps_total: u64,
-}
-
-/// What all turns so far come to. A number stays at the greatest `u64` once it has come to it.
-#[derive(Clone, Copy, Debug, PartialEq, Eq)]
-pub struct Totals {
-    /// The events fed.
-    pub rows: u64,
-    /// The records admitted.
-    pub admitted: u64,
-    /// The late records.
-    pub late: u64,
-    /// The other events that were refused.
-    pub refused: u64,
-    /// The panes that fired.
-    pub panes: u64,
 }

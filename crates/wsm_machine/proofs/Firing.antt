@@ -23,7 +23,7 @@ use Rattle.wsm_semantics.specs.Firings.{is_enough, kind_on_record, kind_on_water
 use Rattle.wsm_semantics.specs.Summaries.{Pane, Fired, fired_count, kind_by_record, kind_by_watermark, fired_of, fires, entered, fired_by_record}
 use Rattle.wsm_semantics.specs.Replay.{datum}
 use Rattle.wsm_semantics.specs.Steps.{State, fired_by, step_fires}
-use Rattle.wsm_semantics.proofs.Totals.{at_most-entered}
+use Rattle.wsm_semantics.proofs.HeldRecords.{at_most-entered}
 use Rattle.wsm_bytecode.specs.declared.instr.SectionId.TheVariants.{Fire}
 use Rattle.wsm_bytecode.specs.Program.{Program, is_program}
 use Rattle.wsm_verifier.specs.declared.costs.Costs.{Costs}

@@ -21,10 +21,10 @@ use Rattle.wsm_semantics.specs.Query.{Datum}
 use Rattle.wsm_semantics.specs.Panes.{place_cmp, at, is_live_at}
 use Rattle.wsm_semantics.specs.Kept.{is_linked}
 use Rattle.wsm_semantics.specs.Summaries.{Pane, fired_count, left_folded, with_folded, session_with, linked, with_record, joined, joined_with, joined_all, assigned, merged_session, entered, fired_pane, all_fired, kind_by_record, kind_by_watermark, after_record, at_watermark, after_watermark}
-use Rattle.wsm_semantics.specs.Totals.{AtMost}
+use Rattle.wsm_semantics.specs.HeldRecords.{AtMost}
 use Rattle.wsm_semantics.proofs.Lists.{filter-all, put-all}
 use Rattle.wsm_semantics.proofs.Tables.{places_exact}
-use Rattle.wsm_semantics.proofs.Totals.{at_most-after_record, at_most-fired, at_most-after_watermark}
+use Rattle.wsm_semantics.proofs.HeldRecords.{at_most-after_record, at_most-fired, at_most-after_watermark}
 use Rattle.wsm_bytecode.specs.Program.{Program, is_program}
 use Rattle.wsm_verifier.specs.declared.costs.Costs.{Costs}
 use Rattle.wsm_verifier.specs.Rules.{judge}

@@ -26,11 +26,11 @@ use Rattle.wsm_semantics.specs.declared.place.Place.{Place}
 use Rattle.wsm_semantics.specs.Query.{Datum}
 use Rattle.wsm_semantics.specs.Kept.{is_linked}
 use Rattle.wsm_semantics.specs.Summaries.{Pane, fired_count, linked, after_record}
-use Rattle.wsm_semantics.specs.Totals.{AtMost, total}
+use Rattle.wsm_semantics.specs.HeldRecords.{AtMost, total}
 use Rattle.wsm_semantics.specs.Replay.{datum}
 use Rattle.wsm_semantics.specs.Steps.{State, opened, panes_after, step, run}
 use Rattle.wsm_semantics.proofs.Lists.{all-each, filter-all}
-use Rattle.wsm_semantics.proofs.Totals.{at_most_later, each_of, total-where}
+use Rattle.wsm_semantics.proofs.HeldRecords.{at_most_later, each_of, total-where}
 use Rattle.wsm_bytecode.specs.declared.instr.SectionId.TheVariants.{Fire}
 use Rattle.wsm_bytecode.specs.Program.{Program, is_program}
 use Rattle.wsm_verifier.specs.declared.costs.Costs.{Costs}

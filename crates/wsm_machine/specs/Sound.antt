@@ -8,7 +8,7 @@ use Rattle.wsm_fold.specs.Fold.{folds_of}
 use Rattle.wsm_semantics.specs.declared.place.Place.{Place}
 use Rattle.wsm_semantics.specs.Query.{Datum}
 use Rattle.wsm_semantics.specs.Summaries.{Pane, Fired, fired_count}
-use Rattle.wsm_semantics.specs.Totals.{AtMost}
+use Rattle.wsm_semantics.specs.HeldRecords.{AtMost}
 use Rattle.wsm_semantics.specs.Steps.{State}
 use Rattle.wsm_bytecode.specs.declared.instr.SectionId.TheVariants.{Update, Fire}
 use Rattle.wsm_bytecode.specs.Program.{Program}

@@ -26,7 +26,7 @@ use Rattle.wsm_panes.specs.Held.{CanEnterWindows, CanRecord, taking}
 use Rattle.wsm_panes.proofs.Entries.{places_total}
 use Rattle.wsm_panes.proofs.Tables.{to_T}
 use Rattle.wsm_semantics.proofs.Each.{as_true}
-use Rattle.wsm_semantics.proofs.Totals.{apart}
+use Rattle.wsm_semantics.proofs.HeldRecords.{apart}
 
 abbrev Sorted : {X : Type 0} → List (Place × X) → Type 0
 Sorted es = is_sorted place_cmp es ≡ true

@@ -28,7 +28,7 @@ pub mod Summaries
 pub mod Images
 pub mod Turnless
 pub mod Steps
-pub mod Totals
+pub mod HeldRecords
 pub mod FiredOnce
 pub mod DroppedShown
 pub mod ShownOnce

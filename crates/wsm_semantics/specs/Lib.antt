@@ -8,7 +8,7 @@ pub mod Text
 pub mod Kept
 pub mod Replay
 pub mod Summaries
-pub mod Totals
+pub mod HeldRecords
 pub mod Steps
 pub mod FiringSets
 pub mod HeldBounds

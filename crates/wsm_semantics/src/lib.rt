@@ -31,11 +31,13 @@
 #![tactic(auto)]
 
 pub use columns::Columns;
+pub use ending::Totals;
 pub use out_row::OutRow;
 pub use place::Place;
 pub use standing::Standing;
 
 mod columns;
+mod ending;
 pub mod laws;
 mod out_row;
 mod place;

@@ -43,14 +43,14 @@ fn lines_follow_one_another(rt: HostRuntime) -> Result<(), Fail> {
     row_text(&schema, &[], &pane, &mut out)?;
     refusal_text(4, Refusal::UnknownKey, &mut out)?;
     fault_text(1, RowFault::BadTag, &mut out)?;
-    let end = EndRow {
+    let totals = Totals {
         rows: 3,
         admitted: 2,
         late: 0,
         refused: 0,
         panes: 1,
     };
-    end_text(end, &mut out)?;
+    end_text(totals, &mut out)?;
     let want = b"pane,on_time,a,0,60,2,10\nrefused,4,UnknownKey\nrefused,1,BadTag\nend,3,2,0,0,1\n";
     assert_eq!(rt; out.as_slice(), want.as_slice());
     Ok(())

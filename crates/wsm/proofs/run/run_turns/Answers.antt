@@ -1,6 +1,6 @@
 use Rattle.std.specs.Prelude.{Result, Ok, Err, IfErr, IfOk, List}
 use Rattle.std.proofs.lemmas.Result.{err_from_is_err_and}
-use Rattle.wsm_engine.specs.declared.reply.Totals.{Totals}
+use Rattle.wsm_semantics.specs.declared.ending.Totals.{Totals}
 use Rattle.wsm.specs.declared.end.End.{End}
 use Rattle.wsm.specs.Asked.{asked_by_program}
 use Rattle.wsm.specs.Written.{Cells, Completes, EndsEarly}

@@ -20,7 +20,7 @@ use Rattle.wsm_semantics.specs.Query.{Datum, Query}
 use Rattle.wsm_semantics.specs.Panes.{place_cmp, at, is_live_at}
 use Rattle.wsm_semantics.specs.Kept.{is_linked}
 use Rattle.wsm_semantics.specs.Summaries.{Plan, Pane, session_with, linked, with_record, joined_with, joined_all, assigned, merged_session, entered, fired_pane, all_fired, kind_by_record, kind_by_watermark, after_record, at_watermark, after_watermark}
-use Rattle.wsm_semantics.specs.Totals.{count_of, total, EachAtMost, AtMost}
+use Rattle.wsm_semantics.specs.HeldRecords.{count_of, total, EachAtMost, AtMost}
 use Rattle.wsm_semantics.proofs.Lists.{filter-all, all-each, put-all}
 use Rattle.wsm_semantics.proofs.Tables.{tie_is, places_exact, places_total}
 
