@@ -1,5 +1,6 @@
 -- A turn of a row, by what the row says.
 use Rattle.std.proofs.Common.{◌≡◌, ◌∙◌, ◌+◌, ◌++◌, ℕ, suc, List, [], ◌∷◌, length, map, Ok, Err, sym, ap, subst, arith}
+use Rattle.wsm_admission.proofs.Keeping.{counted as next_row}
 use Rattle.wsm_record.specs.declared.event.RowFault.{RowFault}
 use Rattle.wsm_record.specs.Event.{Event}
 use Rattle.wsm_admission.specs.Admission.{counter}
@@ -15,9 +16,6 @@ use Rattle.wsm.specs.Turns.{EngineFits, Fed, Fits, Refuses, Turned, names}
 use Rattle.wsm.proofs.Turning.{one_line}
 
 -- the next row's number
-next_row : (n k : ℕ) → n ≡ counter k → counter (n + 1) ≡ counter (k + 1)
-next_row n k h = omega (arith, h)
-
 one_more : (k : ℕ) → counter (k + 1) ≡ counter (suc k)
 one_more k = omega arith
 

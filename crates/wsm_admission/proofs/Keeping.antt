@@ -13,7 +13,7 @@ use Rattle.wsm_admission.specs.declared.clock.Clock.{Clock}
 use Rattle.wsm_admission.specs.Clock.{is_time, watermark_of, admitted_count, late_count, refused_count, verdict, verdict_at, admitted_with, late_with, refused_with}
 use Rattle.wsm_admission.specs.Admission.{State, Fits, counter, answer, after, decision}
 
-counted : (a n : ℕ) → a ≡ counter n → counter (a + 1) ≡ counter (n + 1)
+pub counted : (a n : ℕ) → a ≡ counter n → counter (a + 1) ≡ counter (n + 1)
 counted a n h = omega arith
 
 late-after : (s : State) (e : Event) (v : Option Refusal) (n : ℕ) → s.late ≡ counter n → (after (answer s.mark e v) s).late ≡ counter (late_with n v)

@@ -141,7 +141,7 @@ schema_again s rest h =
 
 -- ---- shape, mode, form
 
-le_through : (a b c : ℤ) → int_le a b ≡ true → int_le b c ≡ true → int_le a c ≡ true
+pub le_through : (a b c : ℤ) → int_le a b ≡ true → int_le b c ≡ true → int_le a c ≡ true
 le_through a b c p q = grind (arith, ints)
 
 pub is_i64_within : (lo hi n : ℤ) → int_le (negsuc 9223372036854775807) lo ≡ true → int_le hi (pos 9223372036854775807) ≡ true → is_within lo hi n ≡ true → is_i64 n ≡ true

@@ -13,7 +13,7 @@ use Rattle.wsm_check.specs.Types.{Typed, wanted, if_typed, ty_eq, operand_ty, op
 use Rattle.wsm_check.specs.declared.types.Around.{Around}
 use Rattle.wsm_check.specs.declared.types.Around.TheVariants.{InWhere, InColumn, InAggregate}
 use Rattle.wsm_check.specs.Checks.{first, typed_refusal, condition_refusal, columns_refusal, IsChecked}
-use Rattle.wsm_compiler.proofs.Hulls.{no}
+use Rattle.wsm_machine.proofs.Fitting.{no}
 use Rattle.wsm_compiler.proofs.Passed.{is_refusal, passed}
 use Rattle.wsm_compiler.proofs.Finding.{entered_is, unary_is, two_types, if_types, logic_types}
 use Rattle.wsm_compiler.proofs.Conditions.{ConditionTyped, ColumnsTyped}

@@ -11,7 +11,7 @@ use Rattle.wsm_verifier.specs.declared.known.Known.{Known}
 use Rattle.wsm_verifier.specs.Labels.{State, Ranges, Reached, Visit, same_types}
 use Rattle.wsm_verifier.specs.Rules.{Setting, fold_missing, section_fault, setting, entry, fault_in}
 use Rattle.wsm_compiler.proofs.Visits.{extended, added, added_append, length-added, visits_are, faults, faults_append, or_true}
-use Rattle.wsm_compiler.proofs.Hulls.{no}
+use Rattle.wsm_machine.proofs.Fitting.{no}
 use Rattle.wsm_compiler.proofs.Parts.{Comes, Labelled, shorter, continued, visit_is, fault_is}
 use Rattle.wsm_compiler.proofs.Tests.{tested, with_known, pushed_on}
 use Rattle.wsm_compiler.proofs.Choosing.{room_at_jump, not_under}

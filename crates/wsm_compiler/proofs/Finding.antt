@@ -27,7 +27,8 @@ use Rattle.wsm_verifier.specs.declared.known.Known.TheVariants as known
 use Rattle.wsm_verifier.specs.Rules.{Setting, and_then}
 use Rattle.wsm_compiler.specs.Code.{instruction}
 use Rattle.wsm_compiler.specs.Ranges.{Range, Unfit, NoNumber, Within, no_number, of_branches, if_fits, of_sum, of_aggregate, of_type, range}
-use Rattle.wsm_compiler.proofs.Hulls.{no, hull_either}
+use Rattle.wsm_machine.proofs.Fitting.{no}
+use Rattle.wsm_compiler.proofs.Hulls.{hull_either}
 use Rattle.wsm_compiler.proofs.Choosing.{hulled}
 use Rattle.wsm_compiler.proofs.Found.{of_instr, found}
 use Rattle.wsm_compiler.proofs.Suiting.{ok_is, err≢ok, typed_first, wanted_is, ty_is, suits, known_of, minus_found, minus_suits, not_found, op_typed, result_of, op_found}

@@ -21,7 +21,7 @@ use Rattle.wsm_verifier.specs.Rules.{Setting, setting, entry, and_then, accumula
 use Rattle.wsm_compiler.specs.Ranges.{Range, Unfit, NoNumber, Within, of_aggregate, range, fits}
 use Rattle.wsm_compiler.specs.Program.{column_type, program_stating}
 use Rattle.wsm_compiler.proofs.Visits.{nil_right}
-use Rattle.wsm_compiler.proofs.Hulls.{no}
+use Rattle.wsm_machine.proofs.Fitting.{no}
 use Rattle.wsm_compiler.proofs.Parts.{none≢some}
 use Rattle.wsm_compiler.proofs.Suiting.{suits, known_of}
 use Rattle.wsm_compiler.proofs.Finding.{Accs, range_suits}

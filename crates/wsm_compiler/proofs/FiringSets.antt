@@ -25,7 +25,8 @@ use Rattle.wsm_semantics.specs.Relation.{candidates, greatest_of, standing, is_w
 use Rattle.wsm_semantics.proofs.SelectedRecords.{selected_count}
 use Rattle.wsm_semantics.proofs.Lists.{filter-all, put-all}
 use Rattle.wsm_semantics.proofs.Tables.{places_exact}
-use Rattle.wsm_compiler.proofs.Hulls.{no}
+use Rattle.wsm_machine.proofs.Fitting.{no}
+use Rattle.wsm_machine.proofs.Firing.{enough_some}
 use Rattle.wsm_compiler.proofs.Parts.{none≢some}
 
 pub all_joined : {A : Type 0} (P : A → Type 0) (xs ys : List A) → AllByRecursion P xs → AllByRecursion P ys → AllByRecursion P (xs ++ ys)
@@ -148,10 +149,6 @@ module _ (m : Meant) where
   some_unshown Accumulating t all h = let l = length-filter t all in omega (arith, l, h)
   some_unshown Discarding t all h = h
 
-  enough : (k n : ℕ) → is_enough k n ≡ true → 1 ≤ n
-  enough zero n h = no h
-  enough (suc k) n h = grind arith
-
   chosen : (b : Bool) (k : PaneKind) (x : PaneKind) → cond b (Some k) None ≡ Some x → b ≡ true
   chosen true k x h = refl
   chosen false k x h = none≢some h
@@ -159,8 +156,8 @@ module _ (m : Meant) where
   on_record : (w end : ℤ) (unshown : ℕ) (k : PaneKind) → kind_on_record m w end unshown ≡ Some k → 1 ≤ unshown
   on_record w end unshown k h =
       elim (int_lt w end) as (λ b. cond b (cond (is_enough m.early unshown) (Some Early) None) (cond (is_enough m.late unshown) (Some Late) None) ≡ Some k → 1 ≤ unshown) [
-        | true ↦ λ h. enough m.early unshown (chosen (is_enough m.early unshown) Early k h)
-        | false ↦ λ h. enough m.late unshown (chosen (is_enough m.late unshown) Late k h)
+        | true ↦ λ h. enough_some m.early unshown (chosen (is_enough m.early unshown) Early k h)
+        | false ↦ λ h. enough_some m.late unshown (chosen (is_enough m.late unshown) Late k h)
       ] h
 
   on_watermark : (due final : Bool) (set unshown : ℕ) (k : PaneKind) → cond (due && nat_lt 0 set) (Some OnTime) (cond (final && nat_lt 0 unshown) (Some Final) None) ≡ Some k → (1 ≤ unshown → 1 ≤ set) → 1 ≤ set

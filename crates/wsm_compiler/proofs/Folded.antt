@@ -26,7 +26,7 @@ use Rattle.wsm_compiler.specs.Code.{code, choice, instruction, folds, update_sec
 use Rattle.wsm_compiler.specs.Ranges.{Range, Unfit, NoNumber, Within, of_aggregate, range, fits}
 use Rattle.wsm_compiler.specs.Program.{program_stating}
 use Rattle.wsm_compiler.proofs.Visits.{extended, added, added_append, visits_are}
-use Rattle.wsm_compiler.proofs.Hulls.{no}
+use Rattle.wsm_machine.proofs.Fitting.{no}
 use Rattle.wsm_compiler.proofs.Parts.{Comes, Labels, continued, shorter, visit_is}
 use Rattle.wsm_compiler.proofs.Tests.{with_known, pushed_on}
 use Rattle.wsm_compiler.proofs.Sizes.{length-code, some_code}

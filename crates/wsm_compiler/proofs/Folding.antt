@@ -20,7 +20,7 @@ use Rattle.wsm_verifier.specs.Rules.{Setting, setting, entry, ranges_of_record, 
 use Rattle.wsm_compiler.specs.Code.{code, folds, update_section}
 use Rattle.wsm_compiler.specs.Ranges.{Range, Unfit, NoNumber, Within, of_aggregate, range, fits}
 use Rattle.wsm_compiler.specs.Program.{program_stating}
-use Rattle.wsm_compiler.proofs.Hulls.{no}
+use Rattle.wsm_machine.proofs.Fitting.{no}
 use Rattle.wsm_compiler.proofs.Parts.{none≢some, Labelled, one}
 use Rattle.wsm_compiler.proofs.Tests.{tested, not_last, with_known}
 use Rattle.wsm_compiler.proofs.Sizes.{length-code, some_code}

@@ -19,7 +19,7 @@ use Rattle.wsm_verifier.specs.Labels.{State, pushed, of_one, of_two}
 use Rattle.wsm_bytecode.specs.Instructions.{may_stand}
 use Rattle.wsm_verifier.specs.Rules.{Setting, types_fit, has_zero, and_then}
 use Rattle.wsm_compiler.specs.Code.{instruction}
-use Rattle.wsm_compiler.proofs.Hulls.{no}
+use Rattle.wsm_machine.proofs.Fitting.{no}
 use Rattle.wsm_compiler.proofs.Parts.{none≢some, Labelled, sequence}
 use Rattle.wsm_compiler.proofs.Tests.{stacked, with_known, pushed_on, acting}
 use Rattle.wsm_compiler.proofs.Choosing.{hulled}

@@ -12,9 +12,8 @@ use Rattle.wsm_verifier.specs.declared.known.Known.{Known}
 use Rattle.wsm_verifier.specs.declared.known.Known.TheVariants.{Number, Truth, NameOf}
 use Rattle.wsm_verifier.specs.Labels.{State, Label, Unreached, Differing, Reached, same_type, same_types, same_flags, agree, hull_known, hull_stacks, hull_states, label_with, hull_all}
 use Rattle.wsm_semantics.proofs.Each.{itself}
-
-pub no : {X : Type 0} → false ≡ true → X
-no e = absurd (true≢false (sym e))
+use Rattle.wsm_machine.proofs.Fitting.{no}
+use Rattle.wsm_machine.proofs.Gathering.{flags_are}
 
 min_self : (a : ℤ) → int_min a a ≡ a
 min_self a = omega (arith, ints, clamps)
@@ -131,14 +130,6 @@ stack_groups (x ∷ xs) (y ∷ ys) (z ∷ zs) h l =
     let a = and_parts (same_type x y) (same_types xs ys) h in
     let b = and_parts (same_type y z) (same_types ys zs) l in
     (λ i. known_groups x y z a.0 b.0 i ∷ stack_groups xs ys zs a.1 b.1 i)
-
-flags_are : (fs gs : List Bool) → same_flags fs gs ≡ true → fs ≡ gs
-flags_are [] [] e = refl
-flags_are [] (g ∷ gs) e = no e
-flags_are (f ∷ fs) [] e = no e
-flags_are (f ∷ fs) (g ∷ gs) e =
-    let t = and_parts (beq f g) (same_flags fs gs) e in
-    (λ i. (booleans_Decides f g).0 t.0 i ∷ flags_are fs gs t.1 i)
 
 -- ---- states
 

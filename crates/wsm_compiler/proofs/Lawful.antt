@@ -30,7 +30,7 @@ use Rattle.wsm_compiler.specs.Code.{where_section, update_section, fire_section}
 use Rattle.wsm_check.specs.Spelt.{numbers_fit, is_spelt_type, is_spelt_field, IsSpelt}
 use Rattle.wsm_compiler.specs.Lawful.{IsLawful}
 use Rattle.wsm_compiler.specs.Program.{column_type, every, stated, needed_of, program_of}
-use Rattle.wsm_compiler.proofs.Hulls.{no}
+use Rattle.wsm_machine.proofs.Fitting.{no}
 use Rattle.wsm_compiler.proofs.Sized.{sizes_are_lengths}
 use Rattle.wsm_compiler.proofs.Reading.{in_column}
 use Rattle.wsm_compiler.proofs.Passed.{Passed, passed, unless_none}

@@ -15,7 +15,7 @@ use Rattle.wsm_check.specs.declared.refusal.CheckFault.TheVariants.{Duplicate, L
 use Rattle.wsm_check.specs.declared.refusal.Part.{Part}
 use Rattle.wsm_check.specs.Names.{place_of, has_repeats, field_names, field_place, names_of, type_of}
 use Rattle.wsm_check.specs.Checks.{unless, first, names_refusal}
-use Rattle.wsm_compiler.proofs.Hulls.{no}
+use Rattle.wsm_machine.proofs.Fitting.{no}
 use Rattle.wsm_compiler.proofs.Passed.{unless_none}
 use Rattle.wsm_check.proofs.Repeats.{same_either_way}
 use Rattle.wsm_check.proofs.Following.{passed_both}

@@ -28,7 +28,7 @@ use Rattle.wsm_compiler.specs.Code.{code, choice, instruction, condition_code, f
 use Rattle.wsm_check.specs.Spelt.{numbers_fit}
 use Rattle.wsm_check.specs.Parts.{type_or_int}
 use Rattle.wsm_compiler.specs.Program.{column_type, program_stating}
-use Rattle.wsm_compiler.proofs.Hulls.{no}
+use Rattle.wsm_machine.proofs.Fitting.{no}
 use Rattle.wsm_compiler.proofs.Suiting.{ok_is, result_of}
 use Rattle.wsm_compiler.proofs.Finding.{cond_ok, field_is, entered_is, op_is, two_types, if_types, logic_types, unary_is}
 use Rattle.wsm_compiler.proofs.Reading.{declared, in_column, of_cond}

@@ -19,7 +19,7 @@ use Rattle.wsm_check.specs.declared.types.Around.{Around}
 use Rattle.wsm_check.specs.declared.types.Around.TheVariants.{InWhere, InColumn, InAggregate}
 use Rattle.wsm_compiler.specs.Program.{program_stating}
 use Rattle.wsm_compiler.specs.Ranges.{of_type}
-use Rattle.wsm_compiler.proofs.Hulls.{no}
+use Rattle.wsm_machine.proofs.Fitting.{no}
 use Rattle.wsm_compiler.proofs.Suiting.{err≢ok, known_of}
 use Rattle.wsm_compiler.proofs.Finding.{Reads, field_is}
 

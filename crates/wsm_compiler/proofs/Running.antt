@@ -29,7 +29,7 @@ use Rattle.wsm_compiler.specs.Meaning.{Scene, on_two, both, minus, negated, chos
 use Rattle.wsm_compiler.specs.Bounded.{kept, bounded_from}
 use Rattle.wsm_compiler.specs.Code.{code, choice, instruction}
 use Rattle.wsm_compiler.specs.Runs.{of_ty, cell, Serves, ServesAccs, state, topped, Gives, StandsAt, CodeRuns}
-use Rattle.wsm_compiler.proofs.Hulls.{no}
+use Rattle.wsm_machine.proofs.Fitting.{no}
 use Rattle.wsm_compiler.proofs.Sizes.{length-code, some_size, some_need}
 use Rattle.wsm_compiler.proofs.Suiting.{ok_is, op_typed, result_of}
 use Rattle.wsm_compiler.proofs.Finding.{cond_ok, field_is, entered_is, op_is, two_types, if_types, logic_types, unary_is}

@@ -32,7 +32,8 @@ use Rattle.wsm_compiler.specs.Program.{column_type, program_stating, stated, nee
 use Rattle.wsm_compiler.specs.Runs.{of_ty, cell, Serves, ServesAccs, state, topped, Gives, StandsAt}
 use Rattle.wsm_compiler.specs.Sections.{in_bounds, condition_value, Leaves, on_stack, fired_stack, WhereRuns, FireRuns}
 use Rattle.wsm_compiler.proofs.Visits.{nil_right}
-use Rattle.wsm_compiler.proofs.Hulls.{no}
+use Rattle.wsm_machine.proofs.Fitting.{no}
+use Rattle.wsm_machine.proofs.Returning.{are_types-same}
 use Rattle.wsm_compiler.proofs.Parts.{none≢some}
 use Rattle.wsm_compiler.proofs.Reading.{in_column}
 use Rattle.wsm_compiler.proofs.Sizes.{some_size}
@@ -45,7 +46,6 @@ use Rattle.wsm_compiler.proofs.Machine.{push_bool}
 use Rattle.wsm_compiler.proofs.Running.{split_code, code_runs}
 use Rattle.wsm_compiler.proofs.Serving.{serves_where, serves_fire, serves_accs}
 use Rattle.wsm_compiler.proofs.Choosing.{not_under}
-use Rattle.wsm_semantics.proofs.Each.{itself}
 
 -- ---- a section stands in itself
 
@@ -120,15 +120,6 @@ cell_has (types.Enum e) (Int n) h = no h
 cell_has (types.Enum e) (Truth' b) h = no h
 cell_has (types.Enum e) (Enum i) h = refl
 
-is_its_type : (t : CellType) → is_type t t ≡ true
-is_its_type types.Int = refl
-is_its_type types.Bool = refl
-is_its_type (types.Enum e) = itself e
-
-are_their_types : (ts : List CellType) → are_types ts ts ≡ true
-are_their_types [] = refl
-are_their_types (t ∷ ts) = and_from (is_type t t) (are_types ts ts) (is_its_type t) (are_their_types ts)
-
 -- ---- WHERE
 
 -- the state behind a condition, and what stands on its stack
@@ -170,7 +161,7 @@ where_runs q checked d fit =
 fire_result : (c : Setting) (columns : List CellType) (x : Cell) (stack : List Cell) → type_of x ≡ types.Bool → reverse (map type_of stack) ≡ columns → are_types (columns ++ types.Bool ∷ []) (reverse (map type_of (x ∷ stack))) ≡ true
 fire_result c columns x stack h e =
     let is : reverse (map type_of (x ∷ stack)) ≡ columns ++ types.Bool ∷ [] = reverse-append (type_of x ∷ []) (map type_of stack) ∙ (λ i. e i ++ h i ∷ []) in
-    ap (are_types (columns ++ types.Bool ∷ [])) is ∙ are_their_types (columns ++ types.Bool ∷ [])
+    ap (are_types (columns ++ types.Bool ∷ [])) is ∙ are_types-same (columns ++ types.Bool ∷ [])
 
 module _ (q : Query) (b : Stated) (d : Inputs) where
   abbrev c : Setting

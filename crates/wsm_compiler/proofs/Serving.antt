@@ -25,7 +25,7 @@ use Rattle.wsm_compiler.specs.Meaning.{on_record, on_accumulators}
 use Rattle.wsm_compiler.specs.Program.{program_stating}
 use Rattle.wsm_compiler.specs.Runs.{of_ty, Serves, ServesAccs}
 use Rattle.wsm_compiler.specs.Sections.{record_fits, pane_fits}
-use Rattle.wsm_compiler.proofs.Hulls.{no}
+use Rattle.wsm_machine.proofs.Fitting.{no}
 use Rattle.wsm_compiler.proofs.Parts.{none≢some}
 use Rattle.wsm_compiler.proofs.Finding.{field_is}
 use Rattle.wsm_compiler.proofs.Reading.{declared, is_fine, not_in_column, in_column}

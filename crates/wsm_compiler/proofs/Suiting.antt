@@ -18,7 +18,8 @@ use Rattle.wsm_verifier.specs.Labels.{same_type}
 use Rattle.wsm_verifier.specs.Rules.{Setting, and_then}
 use Rattle.wsm_compiler.specs.Code.{instruction}
 use Rattle.wsm_compiler.specs.Ranges.{Range, Unfit, NoNumber, Within, within, no_number, on_intervals, of_op, of_minus}
-use Rattle.wsm_compiler.proofs.Hulls.{no, type_self}
+use Rattle.wsm_machine.proofs.Fitting.{no}
+use Rattle.wsm_compiler.proofs.Hulls.{type_self}
 use Rattle.wsm_compiler.proofs.Parts.{none≢some}
 use Rattle.wsm_compiler.proofs.Found.{of_instr, head_of}
 

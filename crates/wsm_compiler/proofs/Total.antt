@@ -32,7 +32,7 @@ use Rattle.wsm_compiler.specs.Program.{schema_of, program_of}
 use Rattle.wsm_compiler.specs.Runs.{cell}
 use Rattle.wsm_compiler.specs.Sections.{in_bounds, condition_value, folded_values, on_stack, Traps, Leaves, Folds, record_fits}
 use Rattle.wsm_compiler.specs.SameMeaning.{IsAccepted, record_in_range, HasValue, TotalOnRecords}
-use Rattle.wsm_compiler.proofs.Hulls.{no}
+use Rattle.wsm_machine.proofs.Fitting.{no}
 use Rattle.wsm_compiler.proofs.Parts.{none≢some}
 use Rattle.wsm_compiler.proofs.Lawful.{is_lawful}
 use Rattle.wsm_compiler.proofs.SectionRuns.{where_runs}

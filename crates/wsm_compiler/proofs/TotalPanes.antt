@@ -41,7 +41,7 @@ use Rattle.wsm_compiler.specs.Sections.{in_bounds, condition_value, on_stack, fi
 use Rattle.wsm_compiler.specs.Folded.{AreUpdates}
 use Rattle.wsm_compiler.specs.SameMeaning.{IsAccepted, record_in_range, IsPane, HasValue, UpdatesHold, TotalOnPanes, AreOfKey, StandsForMeant}
 use Rattle.wsm_compiler.proofs.Visits.{nil_right}
-use Rattle.wsm_compiler.proofs.Hulls.{no}
+use Rattle.wsm_machine.proofs.Fitting.{no}
 use Rattle.wsm_compiler.proofs.Parts.{none≢some}
 use Rattle.wsm_compiler.proofs.Aggregated.{free, fire_means}
 use Rattle.wsm_compiler.proofs.Holding.{folds_hold}

@@ -28,7 +28,7 @@ use Rattle.wsm_compiler.specs.Program.{program_stating, stated, needed_of, progr
 use Rattle.wsm_compiler.specs.Runs.{of_ty, cell, ServesAccs, state, topped, Gives, StandsAt}
 use Rattle.wsm_compiler.specs.Sections.{record_fits, in_bounds, folded_values, Folds, UpdateRuns}
 use Rattle.wsm_compiler.proofs.Visits.{nil_right}
-use Rattle.wsm_compiler.proofs.Hulls.{no}
+use Rattle.wsm_machine.proofs.Fitting.{no}
 use Rattle.wsm_compiler.proofs.Reading.{in_column}
 use Rattle.wsm_compiler.proofs.Checked.{fine}
 use Rattle.wsm_compiler.proofs.Folding.{AccsTyped, length-folds, some_folds_size}

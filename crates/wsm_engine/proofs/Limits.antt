@@ -8,6 +8,7 @@ use Rattle.wsm_admission.specs.Clock.{IsWithinLimits}
 use Rattle.wsm_semantics.specs.HeldBounds.{most_panes}
 use Rattle.wsm_record.specs.Name.{is_between}
 use Rattle.wsm_bytecode.specs.Program.{Header, Program, is_within, is_schema, is_clock, is_firing, is_row, is_budget, is_stated, is_header, is_program, latest_time}
+use Rattle.wsm_bytecode.proofs.TakenParts.{at_most}
 use Rattle.wsm_verifier.specs.declared.costs.Costs.{Costs}
 use Rattle.wsm_verifier.specs.Costs.{needed}
 use Rattle.wsm_verifier.specs.Rules.{judge}
@@ -26,9 +27,6 @@ clock_lawful h e = (and_parts (is_clock h) _ (and_parts (is_schema h.schema) _ e
 budget_lawful : (h : Header) → is_header h ≡ true → is_budget h.budget ≡ true
 unfolding is_header
 budget_lawful h e = (and_parts (is_row h) _ (and_parts (is_firing h) _ (and_parts (is_clock h) _ (and_parts (is_schema h.schema) _ e).1).1).1).1
-
-at_most : (lo hi n : ℕ) → is_between lo hi n ≡ true → n ≤ hi
-at_most lo hi n h = grind (arith, nat_tests)
 
 -- the clock of a program is within the limits of clocks
 pub clock_within : (p : Program) → IsTrue (is_program p) → IsWithinLimits (clock_of p.header)

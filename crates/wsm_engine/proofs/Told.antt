@@ -10,7 +10,7 @@ use Rattle.wsm_semantics.specs.declared.place.Place.{Place}
 use Rattle.wsm_semantics.specs.Panes.{window_of}
 use Rattle.wsm_semantics.specs.Query.{Query}
 use Rattle.wsm_semantics.specs.Summaries.{Pane, Plan, all_fired, relation_of}
-use Rattle.wsm_relation.proofs.Telling.{length-sorted_rows}
+use Rattle.wsm_semantics.proofs.RowsBound.{length-sorted_rows}
 use Rattle.wsm_firing.specs.Streams.{Standing, IsTold, AreAlike, CanAdvance, CanTell, relation_kept, standing_rows}
 use Rattle.wsm_firing.proofs.Streaming.{before_is, changed_none}
 use Rattle.wsm_firing.proofs.Standing.{few_rows}

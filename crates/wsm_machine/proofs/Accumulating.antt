@@ -102,16 +102,16 @@ ValueIn Max o n v = NumberIn Holds o v
 ValueIn Any o n v = IsTruthValue v
 ValueIn All o n v = IsTruthValue v
 
-le_true : (m n : ℤ) → m ≤ℤ n → int_le m n ≡ true
+pub le_true : (m n : ℤ) → m ≤ℤ n → int_le m n ≡ true
 le_true m n h = grind arith
 
-le_is : (m n : ℤ) → int_le m n ≡ true → m ≤ℤ n
+pub le_is : (m n : ℤ) → int_le m n ≡ true → m ≤ℤ n
 le_is m n h = grind arith
 
-holds_is : (x : Interval) (n : ℤ) → holds x n ≡ true → Holds x n
+pub holds_is : (x : Interval) (n : ℤ) → holds x n ≡ true → Holds x n
 holds_is x n h = let b = and_parts (int_le x.lo n) (int_le n x.hi) h in (le_is x.lo n b.0, le_is n x.hi b.1)
 
-holds_true : (x : Interval) (n : ℤ) → Holds x n → holds x n ≡ true
+pub holds_true : (x : Interval) (n : ℤ) → Holds x n → holds x n ≡ true
 holds_true x n h = rw (le_true x.lo n h.0) (le_true n x.hi h.1)
 
 -- of one value
@@ -215,7 +215,10 @@ rows_in o ks row (next ∷ rows) e =
 
 -- ---- as FIRE reads them
 
-range_at : (p : Program) (a : ℕ) (k : Kind) → slice_get p.header.kinds a ≡ Some k → range p a ≡ and_then (accumulated p.header.records k) (values_folded a (update_visits p))
+pub plus_more : (a j : ℕ) → suc a + j ≡ a + suc j
+plus_more a j = omega arith
+
+pub range_at : (p : Program) (a : ℕ) (k : Kind) → slice_get p.header.kinds a ≡ Some k → range p a ≡ and_then (accumulated p.header.records k) (values_folded a (update_visits p))
 range_at p a k h = ap (and_then (λ k. and_then (accumulated p.header.records k) (values_folded a (update_visits p)))) h
 
 accs_from : (p : Program) (m n a : ℕ) (ks : List Kind) (vs : List Value) → p.header.records ≡ pos m → 1 ≤ n → n ≤ m → ((j : ℕ) → slice_get p.header.kinds (a + j) ≡ slice_get ks j)
@@ -234,9 +237,6 @@ accs_from p m n a (k ∷ ks) (v ∷ vs) r f l at w h =
   where
     plus_none : (a : ℕ) → a ≡ a + 0
     plus_none a = omega arith
-
-    plus_more : (a j : ℕ) → suc a + j ≡ a + suc j
-    plus_more a j = omega arith
 
 -- the records of a program as a count
 pub counted : (z : ℤ) (n : ℕ) → pos n ≤ℤ z → (m : ℕ) × (z ≡ pos m) × (n ≤ m)

@@ -6,6 +6,7 @@ use Rattle.std.proofs.lemmas.Bool.Decides.{nat_tests}
 use Rattle.std.proofs.Math.Nat.{div-lt_iff_lt-mul, div-add-mod'}
 use Rattle.std.specs.Prelude.{◌-ℤ◌, filter, nat_lt, unsigned_abs, option_map}
 use Rattle.std.specs.Int.{div_ceil}
+use Rattle.std.proofs.lemmas.Bool.{ltb-false}
 use Rattle.wsm_record.specs.declared.event.Value.{Value}
 use Rattle.wsm_windows.specs.declared.window.Shape.{Shape}
 use Rattle.wsm_windows.specs.declared.window.Shape.TheVariants.{Fixed, Sliding, Session}
@@ -86,9 +87,6 @@ pub record States (p : Program) (n : Costs) : Type 0 where
   pub per_pane : n.per_pane ≤ p.header.budget.per_pane
   pub held : n.held ≤ p.header.budget.held
 
-at_least : (a b : ℕ) → nat_lt a b ≡ false → b ≤ a
-at_least a b h = grind (arith, nat_tests)
-
 none_first : (f : Rule → Rejection) (r s t : Rule) (a b c : Bool) → option_map f (first_of ((r, a) ∷ (s, b) ∷ (t, c) ∷ [])) ≡ None → (a ≡ false) × (b ≡ false) × (c ≡ false)
 none_first f r s t true b c h = absurd (cc)
 none_first f r s t false true c h = absurd (cc)
@@ -98,7 +96,7 @@ none_first f r s t false false false h = (refl, refl, refl)
 pub stated : (p : Program) (costs : Costs) → judge p ≡ Ok costs → States p (needed p)
 stated p costs judged =
     let none = none_first _ _ _ _ _ _ _ (accepted p costs judged).budget in
-    record { per_record = at_least _ _ none.0; per_pane = at_least _ _ none.1; held = at_least _ _ none.2 }
+    record { per_record = ltb-false _ _ none.0; per_pane = ltb-false _ _ none.1; held = ltb-false _ _ none.2 }
 
 -- ---- turns and firings
 

@@ -15,13 +15,10 @@ use Rattle.wsm_semantics.specs.Panes.{windows_among}
 use Rattle.wsm_semantics.specs.Kept.{kept}
 use Rattle.wsm_semantics.specs.Replay.{datum}
 use Rattle.wsm_semantics.proofs.OneSession.{stands_in_one, as_many_linked}
+use Rattle.wsm_semantics.proofs.KeptLaw.{accepted}
 use Rattle.wsm_bytecode.specs.Program.{Program, is_program}
 use Rattle.wsm_verifier.proofs.Lawful.{lawful}
 use Rattle.wsm_machine.specs.Meaning.{query_of, joins_two, joins_kept, CountsSessions}
-
-none_is : (o : Option Refusal) → is_none o ≡ true → o ≡ None
-none_is None h = refl
-none_is (Some r) h = absurd (true≢false (sym h))
 
 stands_once : (sh : Shape) → IsShape sh → (ds : List Datum) (d : Datum) → length (windows_among sh (d ∷ ds) d) ≡ length (windows_of_shape sh d.time)
 stands_once (Fixed size) ok ds d = refl
@@ -42,4 +39,4 @@ counts_sessions p whole = record {
   in_time : (past : List Event) (key : ℕ) (time : ℤ) (values : List Value) → is_taken (query_of p) past (Record (Some key) time values) ≡ true → is_late (query_of p).clock (mark (query_of p) past) time ≡ false
   in_time past key time values taken =
       (taken_record (query_of p).clock p.header.schema (mark (query_of p) past) (admitted_count (query_of p).clock p.header.schema past) (Some key) time values
-      (none_is (verdict_on (query_of p) past (Record (Some key) time values)) taken)).prompt
+      (accepted (verdict_on (query_of p) past (Record (Some key) time values)) taken)).prompt

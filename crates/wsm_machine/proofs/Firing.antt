@@ -41,7 +41,7 @@ use Rattle.wsm_machine.proofs.SoundSteps.{record_in_range, room_for_record, admi
 some_is : {A X : Type 0} {a : A} → None ≡ Some a → X
 some_is {A} {X} {a} h = let tag : Option A → Bool = λ o. elim o [ None ↦ true | Some x ↦ false ] in absurd (true≢false (ap tag h))
 
-enough_some : (m n : ℕ) → is_enough m n ≡ true → 1 ≤ n
+pub enough_some : (m n : ℕ) → is_enough m n ≡ true → 1 ≤ n
 enough_some zero n h = absurd (true≢false (sym h))
 enough_some (suc m) n h = grind (arith, nat_tests)
 

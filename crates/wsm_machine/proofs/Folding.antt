@@ -24,6 +24,7 @@ use Rattle.wsm_machine.specs.InRange.{is_number_in, is_value_in, are_values_in}
 use Rattle.wsm_machine.proofs.Runs.{goes_after, length-folds}
 use Rattle.wsm_machine.proofs.Reaching.{none≢some, StepsKeep, split_all, length-visits}
 use Rattle.wsm_machine.proofs.Fitting.{no}
+use Rattle.wsm_machine.proofs.Accumulating.{holds_true}
 use Rattle.wsm_semantics.proofs.Each.{itself}
 
 -- ---- the hull holds what each place folds
@@ -44,12 +45,6 @@ hull_right (Some x) (Some y) n h = (hull x y, refl, hull_holds_right x y n (subs
 folded_among : (a : ℕ) (front : List Visit) (w : Visit) (rest : List Visit) (n : ℤ) → HoldsIn (value_folded a w.instr w.label) n → HoldsIn (values_folded a (front ++ w ∷ rest)) n
 folded_among a [] w rest n h = hull_left (value_folded a w.instr w.label) (values_folded a rest) n h
 folded_among a (u ∷ front) w rest n h = hull_right (value_folded a u.instr u.label) (values_folded a (front ++ w ∷ rest)) n (folded_among a front w rest n h)
-
-int_le_true : (m n : ℤ) → m ≤ℤ n → int_le m n ≡ true
-int_le_true m n h = grind arith
-
-holds_true : (x : Interval) (n : ℤ) → Holds x n → holds x n ≡ true
-holds_true x n h = rw (int_le_true x.lo n h.0) (int_le_true n x.hi h.1)
 
 number_in : (o : Option Interval) (n : ℤ) → HoldsIn o n → is_number_in o (values.Int n) ≡ true
 number_in o n h = ap (λ x. is_number_in x (values.Int n)) h.1 ∙ holds_true h.0 n h.2

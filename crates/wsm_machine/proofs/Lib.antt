@@ -8,9 +8,9 @@ pub mod Returns
 pub mod Taken
 pub mod Operands
 pub mod Fitting
-mod Giving
+pub mod Giving
 mod Leading
-mod Returning
+pub mod Returning
 pub mod Stepping
 pub mod Gathering
 pub mod Reaching

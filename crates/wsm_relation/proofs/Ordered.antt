@@ -74,6 +74,17 @@ exact_rows [] (y ∷ ys) h = absurd (cc)
 exact_rows (x ∷ xs) [] h = absurd (cc)
 exact_rows (x ∷ xs) (y ∷ ys) h = let both = ordering_then_equal (value_cmp x y) (row_cmp xs ys) h in λ i. exact_values x y both.0 i ∷ exact_rows xs ys both.1 i
 
+-- an order's answer that is greater, or not
+pub untied : (r : Ordering) → is_gt r ≡ true → is_eq r ≡ false
+untied Less h = refl
+untied Equal h = absurd (cc)
+untied Greater h = refl
+
+pub not_greater : (r : Ordering) → (r ≡ Greater → ⊥) → is_gt r ≡ false
+not_greater Less h = refl
+not_greater Equal h = refl
+not_greater Greater h = absurd (h refl)
+
 tied_of : (r : Ordering) → is_eq r ≡ true → r ≡ Equal
 tied_of Less h = absurd (cc)
 tied_of Equal h = refl

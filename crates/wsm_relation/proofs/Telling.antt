@@ -11,7 +11,8 @@ use Rattle.wsm_record.specs.declared.event.Value.{Value}
 use Rattle.wsm_semantics.specs.Relation.{row_cmp, with_row, without_one, sorted_rows, difference}
 use Rattle.wsm_relation.specs.Rows.{IsInOrder, count_of}
 use Rattle.wsm_relation.specs.Tally.{IsTally, IsChange, number_of, shifted, gained, lost, gains, losses, undone}
-use Rattle.wsm_relation.proofs.Ordered.{rows_total}
+use Rattle.wsm_semantics.proofs.RowsBound.{length-sorted_rows}
+use Rattle.wsm_relation.proofs.Ordered.{rows_total, untied}
 use Rattle.wsm_relation.proofs.Places.{sorted_rows-in_order}
 use Rattle.wsm_relation.proofs.Bags.{once, one_if, count-difference}
 use Rattle.wsm_relation.proofs.Numbers.{Entry, number-shifted}
@@ -40,17 +41,6 @@ count-within q (x ∷ xs) = elim (is_eq (row_cmp q x)) as (λ b. cond b 1 0 + co
   | true ↦ omega (arith, count-within q xs)
   | false ↦ omega (arith, count-within q xs)
 ]
-
-pub length-with_row : (r : List Value) (rows : List (List Value)) → length (with_row r rows) ≡ suc (length rows)
-length-with_row r [] = refl
-length-with_row r (x ∷ xs) = elim (is_gt (row_cmp r x)) as (λ b. length (cond b (x ∷ with_row r xs) (r ∷ x ∷ xs)) ≡ suc (suc (length xs))) [
-  | true ↦ ap suc (length-with_row r xs)
-  | false ↦ refl
-]
-
-pub length-sorted_rows : (rows : List (List Value)) → length (sorted_rows rows) ≡ length rows
-length-sorted_rows [] = refl
-length-sorted_rows (x ∷ xs) = length-with_row x (sorted_rows xs) ∙ ap suc (length-sorted_rows xs)
 
 length-without : (r : List Value) (rows : List (List Value)) → length (without_one r rows) ≤ length rows
 length-without r [] = omega arith
@@ -115,7 +105,7 @@ pub one_number_more : (r : List Value) (d : ℤ) (es : List Entry) → IsTally e
 one_number_more r d [] tally none = refl
 one_number_more r d (e ∷ es) tally none = elim (cases_Bool (is_gt (row_cmp r e.0))) [
   | inl gt ↦
-      let apart : is_eq (row_cmp r e.0) ≡ false = untied gt in
+      let apart : is_eq (row_cmp r e.0) ≡ false = untied (row_cmp r e.0) gt in
       let rest : number_of r es ≡ pos 0 = rw apart at none in
       rw gt (ap suc (one_number_more r d es tally.2 rest))
   | inr le ↦ rw le (elim (cases_Bool (is_eq (row_cmp r e.0))) [
@@ -124,14 +114,7 @@ one_number_more r d (e ∷ es) tally none = elim (cases_Bool (is_gt (row_cmp r e
         absurd (let k : true ≡ false = sym (ap (λ z. int_eq z (pos 0)) zero) ∙ tally.1 in cc)
     | inr apart ↦ rw apart refl
   ])
-] where
-  untied : is_gt (row_cmp r e.0) ≡ true → is_eq (row_cmp r e.0) ≡ false
-  untied gt = over (row_cmp r e.0) gt
-    where
-      over : (o : Ordering) → is_gt o ≡ true → is_eq o ≡ false
-      over Less h = absurd (cc)
-      over Equal h = absurd (cc)
-      over Greater h = refl
+]
 
 -- a row is lost
 pub change_less : (r : List Value) (before rest : List (List Value)) (es : List Entry) → IsTally es → IsChange before (r ∷ rest) es → IsChange before rest (shifted r (negsuc 0) es)

@@ -25,7 +25,7 @@ use Rattle.wsm_semantics.proofs.EventTurns.{EntersPanes, kept-record, firings-re
 use Rattle.wsm_semantics.proofs.AssignedTurns.{assigned_places, enters_assigned}
 use Rattle.wsm_semantics.proofs.SessionTurns.{session_places, enters_session}
 
-accepted : (v : Option Refusal) → is_none v ≡ true → v ≡ None
+pub accepted : (v : Option Refusal) → is_none v ≡ true → v ≡ None
 accepted None h = refl
 accepted (Some r) h = absurd (true≢false (sym h))
 

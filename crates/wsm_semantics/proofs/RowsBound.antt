@@ -37,7 +37,7 @@ length-filter_map g (x ∷ xs) =
       | Some y ↦ omega (arith, length-filter_map g xs)
     ]
 
-length-with_row : (r : List Value) (rs : List (List Value)) → length (with_row r rs) ≡ suc (length rs)
+pub length-with_row : (r : List Value) (rs : List (List Value)) → length (with_row r rs) ≡ suc (length rs)
 length-with_row r [] = refl
 length-with_row r (x ∷ xs) =
     elim (is_gt (row_cmp r x)) as (λ b. length (cond b (x ∷ with_row r xs) (r ∷ x ∷ xs)) ≡ suc (suc (length xs))) [
@@ -45,7 +45,7 @@ length-with_row r (x ∷ xs) =
       | false ↦ refl
     ]
 
-length-sorted_rows : (rs : List (List Value)) → length (sorted_rows rs) ≡ length rs
+pub length-sorted_rows : (rs : List (List Value)) → length (sorted_rows rs) ≡ length rs
 length-sorted_rows [] = refl
 length-sorted_rows (r ∷ rs) = length-with_row r (sorted_rows rs) ∙ ap suc (length-sorted_rows rs)
 

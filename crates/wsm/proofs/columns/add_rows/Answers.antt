@@ -1,6 +1,6 @@
 use Rattle.std.proofs.Common.{◌≤◌, length, sym, subst}
 use Rattle.wsm_bytecode.specs.Program.{Header}
-use Rattle.wsm.proofs.FewColumns.{few_columns}
+use Rattle.wsm_machine.proofs.Operands.{few_columns}
 use Rattle.wsm.proofs.columns.add_rows.Goals as goal
 
 pub columns_of-columns-requires : goal.columns_of-columns-requires

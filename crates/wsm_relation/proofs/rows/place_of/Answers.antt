@@ -1,17 +1,12 @@
 use Rattle.std.proofs.Common.{◌≡◌, ◌+◌, ◌-◌, ◌/◌, ◌<◌, false, length, get_or, ap, ◌∙◌, refl, arith}
-use Rattle.std.specs.declared.cmp.Ordering.{Ordering}
-use Rattle.std.specs.declared.cmp.Ordering.TheVariants.{Less, Equal, Greater}
+use Rattle.std.specs.declared.cmp.Ordering.TheVariants.{Greater}
 use Rattle.std.specs.Ordering.{is_gt}
 use Rattle.wsm_semantics.specs.Relation.{row_cmp}
 use Rattle.wsm_relation.specs.Rows.{rows_in, passed}
+use Rattle.wsm_relation.proofs.Ordered.{not_greater}
 use Rattle.wsm_relation.proofs.Places.{passed-within, passes, stops}
 use Rattle.wsm_relation.proofs.Boxes.{length-rows_in, value_at}
 use Rattle.wsm_relation.proofs.rows.place_of.Goals as goal
-
-not_greater : (r : Ordering) → (r ≡ Greater → ⊥) → is_gt r ≡ false
-not_greater Less h = refl
-not_greater Equal h = refl
-not_greater Greater h = absurd (h refl)
 
 pub loop-low-init : goal.loop-low-init
 loop-low-init c = record {

@@ -15,7 +15,7 @@ use Rattle.wsm_bytecode.specs.Program.{Program, Header}
 use Rattle.wsm_verifier.proofs.Lawful.{lawful}
 use Rattle.wsm_machine.specs.Meaning.{plan_of, query_of}
 use Rattle.wsm_panes.specs.Held.{entries_of}
-use Rattle.wsm_relation.proofs.Telling.{length-sorted_rows}
+use Rattle.wsm_semantics.proofs.RowsBound.{length-sorted_rows}
 use Rattle.wsm_firing.specs.Streams.{CanTell, IsTold, relation_kept, standing_rows}
 use Rattle.wsm_firing.proofs.Standing.{can_tell_on, few_rows}
 use Rattle.wsm_engine.specs.Runner.{last_relation}
