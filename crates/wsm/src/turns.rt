@@ -9,8 +9,7 @@ use csv::ByteRecord;
 use std::alloc::{AllocError, Global};
 use wsm_admission::Refusal;
 use wsm_csv::{
-    Device, DeviceFault, RowRefusal, end_text, fault_text, read_row_with, refusal_text,
-    write_out,
+    Device, DeviceFault, RowRefusal, end_text, fault_text, read_row_with, refusal_text, write_out,
 };
 use wsm_engine::{Engine, Totals};
 use wsm_record::{Event, RowFault, Value};

@@ -2,7 +2,6 @@
 use Rattle.std.specs.Prelude.{ℕ, zero, suc, Bool, true, false, ◌&&◌, not, List, [], ◌∷◌, ◌++◌, length, ℤ, pos, negsuc, int_le, nat_le, nat_lt, Option, Some, None, is_some, slice_get}
 use Rattle.std.specs.List.{list_all}
 use Rattle.wsm_record.specs.declared.Kind.{Kind}
-use Rattle.wsm_record.specs.declared.Kind.TheVariants.{Sum, Min, Max, Any, All}
 use Rattle.wsm_record.specs.declared.Mode.{Mode}
 use Rattle.wsm_record.specs.declared.Mode.TheVariants.{Discarding, Accumulating}
 use Rattle.wsm_record.specs.declared.Form.{Form}
@@ -67,14 +66,6 @@ names_of_field (Some f) = names_of_type f.type
 abbrev pub enum_names : Declared → ℕ → Option (List Name)
 enum_names s zero = Some s.keys
 enum_names s (suc f) = names_of_field (slice_get s.fields f)
-
--- an accumulator's values are numbers (SUM, MIN, MAX) or truths (ANY, ALL)
-abbrev pub kind_type : Kind → CellType
-kind_type Sum = types.Int
-kind_type Min = types.Int
-kind_type Max = types.Int
-kind_type Any = types.Bool
-kind_type All = types.Bool
 
 -- ---- what holds of each program
 

@@ -1,7 +1,6 @@
 //! What a program's bytes begin with, and its limits as the numbers that its bytes have.
 
 use wsm_record::limits;
-
 pub(crate) use wsm_record::limits::{LATEST_TIME, LONGEST_SPAN, MAX_STATED};
 
 /// The first bytes of a program.

@@ -1,10 +1,9 @@
 -- The types of expressions: an expression is walked from the left, its parts before itself, to its type or to the first fault.
-use Rattle.std.specs.Prelude.{ℕ, suc, Bool, true, false, ◌&&◌, cond, nat_eq, Result, Ok, Err}
+use Rattle.std.specs.Prelude.{ℕ, suc, Bool, ◌&&◌, cond, Result, Ok, Err}
 use Rattle.wsm_record.specs.declared.words.CellType.{CellType}
 use Rattle.wsm_record.specs.declared.words.CellType.TheVariants as types
-use Rattle.wsm_record.specs.declared.words.Kind.{Kind}
-use Rattle.wsm_record.specs.declared.words.Kind.TheVariants.{Sum, Min, Max, Any, All}
 use Rattle.wsm_record.specs.Name.{is_among}
+use Rattle.wsm_record.specs.Types.{is_type, kind_type}
 use Rattle.wsm_query.specs.declared.expr.Op.{Op}
 use Rattle.wsm_query.specs.declared.expr.Op.TheVariants.{Add, Sub, Mul, Div, Rem, Eq, Ne, Lt, Le, Gt, Ge}
 use Rattle.wsm_record.specs.Schema.{FieldType}
@@ -16,12 +15,6 @@ use Rattle.wsm_check.specs.declared.refusal.CheckFault.TheVariants as fault
 pub use Rattle.wsm_check.specs.declared.types.Around.{Around}
 pub use Rattle.wsm_check.specs.declared.types.Around.TheVariants.{InWhere, InColumn, InAggregate}
 use Rattle.wsm_check.specs.Names.{field_names, field_place, type_of, names_of}
-
-abbrev pub ty_eq : CellType → CellType → Bool
-ty_eq types.Int types.Int = true
-ty_eq types.Bool types.Bool = true
-ty_eq (types.Enum e) (types.Enum f) = nat_eq e f
-ty_eq _ _ = false
 
 -- a type, or the first fault
 abbrev pub Typed : Type 0
@@ -58,15 +51,8 @@ abbrev pub enum_ty : Query → Name → Name → Typed
 enum_ty q x y =
     cond (is_among x (field_names q.fields) && is_among y (names_of (type_of x q.fields))) (Ok (types.Enum (suc (field_place q.fields x)))) (Err UnknownName)
 
-abbrev pub operand_ty : Kind → CellType
-operand_ty Sum = types.Int
-operand_ty Min = types.Int
-operand_ty Max = types.Int
-operand_ty Any = types.Bool
-operand_ty All = types.Bool
-
 abbrev pub two_ints : CellType → CellType → Bool
-two_ints t u = ty_eq t types.Int && ty_eq u types.Int
+two_ints t u = is_type t types.Int && is_type u types.Int
 
 abbrev pub op_ty : Op → CellType → CellType → Typed
 op_ty Add t u = wanted (two_ints t u) types.Int
@@ -74,15 +60,15 @@ op_ty Sub t u = wanted (two_ints t u) types.Int
 op_ty Mul t u = wanted (two_ints t u) types.Int
 op_ty Div t u = wanted (two_ints t u) types.Int
 op_ty Rem t u = wanted (two_ints t u) types.Int
-op_ty Eq t u = wanted (ty_eq t u) types.Bool
-op_ty Ne t u = wanted (ty_eq t u) types.Bool
+op_ty Eq t u = wanted (is_type t u) types.Bool
+op_ty Ne t u = wanted (is_type t u) types.Bool
 op_ty Lt t u = wanted (two_ints t u) types.Bool
 op_ty Le t u = wanted (two_ints t u) types.Bool
 op_ty Gt t u = wanted (two_ints t u) types.Bool
 op_ty Ge t u = wanted (two_ints t u) types.Bool
 
 abbrev pub logic_ty : CellType → CellType → Typed
-logic_ty t u = wanted (ty_eq t types.Bool && ty_eq u types.Bool) types.Bool
+logic_ty t u = wanted (is_type t types.Bool && is_type u types.Bool) types.Bool
 
 -- on the way down into an aggregate
 abbrev pub entered : Around → Typed → Typed
@@ -99,16 +85,16 @@ typed q around Key = Ok (types.Enum 0)
 typed q around (KeyName x) = cond (is_among x q.keys) (Ok (types.Enum 0)) (Err UnknownName)
 typed q around Count = entered around (Ok types.Int)
 typed q around (Aggregate kind e) =
-    entered around (if_typed (typed q InAggregate e) (λ t. wanted (ty_eq t (operand_ty kind)) (operand_ty kind)))
+    entered around (if_typed (typed q InAggregate e) (λ t. wanted (is_type t (kind_type kind)) (kind_type kind)))
 typed q around (If c x y) =
-    if_typed (typed q around c) (λ b. if_both (typed q around x) (typed q around y) (λ t u. wanted (ty_eq b types.Bool && ty_eq t u) t))
+    if_typed (typed q around c) (λ b. if_both (typed q around x) (typed q around y) (λ t u. wanted (is_type b types.Bool && is_type t u) t))
 typed q around (Brackets e) = typed q around e
-typed q around (Minus e) = if_typed (typed q around e) (λ t. wanted (ty_eq t types.Int) types.Int)
-typed q around (Not e) = if_typed (typed q around e) (λ t. wanted (ty_eq t types.Bool) types.Bool)
+typed q around (Minus e) = if_typed (typed q around e) (λ t. wanted (is_type t types.Int) types.Int)
+typed q around (Not e) = if_typed (typed q around e) (λ t. wanted (is_type t types.Bool) types.Bool)
 typed q around (Binary op x y) = if_both (typed q around x) (typed q around y) (op_ty op)
 typed q around (And x y) = if_both (typed q around x) (typed q around y) logic_ty
 typed q around (Or x y) = if_both (typed q around x) (typed q around y) logic_ty
 
 -- a condition is BOOL
 abbrev pub typed_condition : Query → Around → Expr → Typed
-typed_condition q around e = if_typed (typed q around e) (λ t. wanted (ty_eq t types.Bool) types.Bool)
+typed_condition q around e = if_typed (typed q around e) (λ t. wanted (is_type t types.Bool) types.Bool)

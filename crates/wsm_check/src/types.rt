@@ -2,6 +2,7 @@
 
 ghost use Rattle.std.specs.Prelude.{◌≡◌, ◌≤◌, ◌<◌, cond, length, Ok, Err, IfOk, IfErr};
 ghost use Rattle.wsm_record.specs.Name as name_rule;
+ghost use Rattle.wsm_record.specs.Types.{kind_type};
 ghost use Rattle.wsm_query.specs.Tree.{Aggregate};
 ghost use Rattle.wsm_record.specs.Fields.{declared_type};
 ghost use Rattle.wsm_query.specs.Seen.{seen, seen_expr};
@@ -11,6 +12,7 @@ ghost use Rattle.wsm_check.specs.Types.{entered, enum_ty, field_ty, op_ty, typed
 use crate::names::{find_field, is_among};
 use crate::refusal::CheckFault;
 use wsm_query::{Expr, Op, Query};
+use wsm_record::limits::MAX_FIELDS;
 use wsm_record::{CellType, Kind, Name, Ty};
 
 /// Where an expression stands.
@@ -26,7 +28,7 @@ pub enum Around {
 /// itself.
 #[cycle(typed)]
 pub fn type_of(query: &Query, around: Around, expr: &Expr) -> Result<CellType, CheckFault>
-    requires { length query.now.fields.items ≤ 16 }
+    requires { length query.now.fields.items ≤ MAX_FIELDS }
     ensures { result ≡ typed (seen query.now) around (seen_expr expr.now) }
 {
     match expr {
@@ -85,13 +87,13 @@ fn type_of_aggregate(
     kind: Kind,
     operand: &Expr,
 ) -> Result<CellType, CheckFault>
-    requires { length query.now.fields.items ≤ 16 }
+    requires { length query.now.fields.items ≤ MAX_FIELDS }
     ensures { result ≡ typed (seen query.now) around (Aggregate kind (seen_expr operand.now)) }
 {
     match around {
         Around::InColumn => {
             let given = type_of(query, Around::InAggregate, operand)?;
-            let wanted = operand_ty(kind);
+            let wanted = type_of_kind(kind);
             want(given == wanted, wanted)
         }
         Around::InWhere => Err(CheckFault::AggregateInWhere),
@@ -99,8 +101,8 @@ fn type_of_aggregate(
     }
 }
 
-fn operand_ty(kind: Kind) -> CellType
-    ensures { result ≡ rule.operand_ty kind }
+fn type_of_kind(kind: Kind) -> CellType
+    ensures { result ≡ kind_type kind }
 {
     match kind {
         Kind::Sum | Kind::Min | Kind::Max => CellType::Int,
@@ -128,7 +130,7 @@ fn type_of_op(op: Op, left: CellType, right: CellType) -> Result<CellType, Check
 
 // A field is read in WHERE and in an aggregate alone.
 fn type_of_field(query: &Query, around: Around, field: &Name) -> Result<CellType, CheckFault>
-    requires { length query.now.fields.items ≤ 16 }
+    requires { length query.now.fields.items ≤ MAX_FIELDS }
     ensures { result ≡ field_ty (seen query.now) around field.now }
 {
     let Some((number, ty)) = find_field(&query.fields, field) else {
@@ -141,7 +143,7 @@ fn type_of_field(query: &Query, around: Around, field: &Name) -> Result<CellType
 }
 
 fn declared_ty(number: u8, ty: &Ty) -> CellType
-    requires { number < 16 }
+    requires { number < MAX_FIELDS }
     ensures { result ≡ rule.declared_ty number (declared_type ty.now) }
 {
     match ty {
@@ -153,7 +155,7 @@ fn declared_ty(number: u8, ty: &Ty) -> CellType
 
 // The field must be there, an ENUM, and have the name.
 fn type_of_name(query: &Query, field: &Name, name: &Name) -> Result<CellType, CheckFault>
-    requires { length query.now.fields.items ≤ 16 }
+    requires { length query.now.fields.items ≤ MAX_FIELDS }
     ensures { result ≡ enum_ty (seen query.now) field.now name.now }
 {
     match find_field(&query.fields, field) {
@@ -174,7 +176,7 @@ fn type_of_key(query: &Query, name: &Name) -> Result<CellType, CheckFault>
 
 /// Whether a condition is BOOL, or its first fault.
 pub fn judge_condition(query: &Query, around: Around, condition: &Expr) -> Result<(), CheckFault>
-    requires { length query.now.fields.items ≤ 16 }
+    requires { length query.now.fields.items ≤ MAX_FIELDS }
     ensures judged { IfErr result (λ f. typed_condition (seen query.now) around (seen_expr condition.now) ≡ Err f) }
     ensures holds { IfOk result (λ _. typed_condition (seen query.now) around (seen_expr condition.now) ≡ Ok CellType.Bool) }
 {

@@ -9,7 +9,8 @@ use Rattle.wsm_check.specs.declared.refusal.Part.TheVariants as part
 use Rattle.wsm_check.specs.Sizes.{Acc, accumulators, accumulators_of, in_option, need_of_condition, need_of_columns, need_of_folds}
 use Rattle.wsm_record.specs.declared.words.CellType.{CellType}
 use Rattle.wsm_record.specs.declared.words.CellType.TheVariants as types
-use Rattle.wsm_check.specs.Types.{Typed, wanted, if_typed, ty_eq, operand_ty, op_ty, typed, typed_condition}
+use Rattle.wsm_record.specs.Types.{is_type, kind_type}
+use Rattle.wsm_check.specs.Types.{Typed, wanted, if_typed, op_ty, typed, typed_condition}
 use Rattle.wsm_check.specs.declared.types.Around.{Around}
 use Rattle.wsm_check.specs.declared.types.Around.TheVariants.{InWhere, InColumn, InAggregate}
 use Rattle.wsm_check.specs.Checks.{first, typed_refusal, condition_refusal, columns_refusal, IsChecked}
@@ -47,7 +48,7 @@ module _ (q : Query) (b : Stated) where
 
   pub accs_typed : (around : Around) (e : Expr) (t : CellType) → typed q around e ≡ Ok t → AccsTyped q b (accumulators_of e)
   accs_typed around (Aggregate kind e) t h =
-      let u = unary_is q InAggregate e (operand_ty kind) t (entered_is around (if_typed (typed q InAggregate e) (λ t. wanted (ty_eq t (operand_ty kind)) (operand_ty kind))) t h).1 in
+      let u = unary_is q InAggregate e (kind_type kind) t (entered_is around (if_typed (typed q InAggregate e) (λ t. wanted (is_type t (kind_type kind)) (kind_type kind))) t h).1 in
       (u.0, tt)
   accs_typed around (If c x y) t h =
       let p = if_types q around c x y t h in

@@ -11,7 +11,8 @@ use Rattle.wsm_bytecode.specs.declared.program.Budget.{Budget as Stated}
 use Rattle.wsm_query.specs.Tree.{Query, Expr}
 use Rattle.wsm_record.specs.declared.words.CellType.{CellType}
 use Rattle.wsm_record.specs.declared.words.CellType.TheVariants as types
-use Rattle.wsm_check.specs.Types.{ty_eq, typed}
+use Rattle.wsm_record.specs.Types.{is_type}
+use Rattle.wsm_check.specs.Types.{typed}
 use Rattle.wsm_check.specs.declared.types.Around.{Around}
 use Rattle.wsm_check.specs.declared.types.Around.TheVariants.{InWhere, InColumn}
 use Rattle.wsm_check.specs.Sizes.{Acc, accumulators_of, aggregates, size, condition_size, columns_size, need, need_of_condition, need_of_columns}
@@ -23,12 +24,13 @@ use Rattle.wsm_compiler.specs.Code.{code, condition_code, columns_code}
 use Rattle.wsm_compiler.specs.Ranges.{Range, Unfit, NoNumber, Within, range, fits}
 use Rattle.wsm_check.specs.Parts.{type_or_int}
 use Rattle.wsm_compiler.specs.Program.{column_type, program_stating}
-use Rattle.wsm_machine.proofs.Fitting.{no}
+use Rattle.wsm_machine.proofs.Fitting.{no, type_known}
+use Rattle.wsm_machine.proofs.Giving.{same_type_is}
 use Rattle.wsm_compiler.proofs.Hulls.{type_self}
 use Rattle.wsm_compiler.proofs.Tests.{with_known}
 use Rattle.wsm_compiler.proofs.Sizes.{length-code, some_size, some_need, some_code}
 use Rattle.wsm_compiler.proofs.Found.{found}
-use Rattle.wsm_compiler.proofs.Suiting.{suits, known_of, known_truth, known_has, known_type, type_of_two}
+use Rattle.wsm_compiler.proofs.Suiting.{suits, known_of, known_truth, known_has}
 use Rattle.wsm_compiler.proofs.Finding.{Reads, Accs, AccsIn, accs_left, accs_right, range_suits, found_is}
 use Rattle.wsm_compiler.proofs.Labelling.{labelled, truth_pushed}
 use Rattle.wsm_compiler.proofs.Ending.{Ends, or_behind, follow_ends, return_ends, whole_section}
@@ -108,16 +110,16 @@ ends_next q x es below =
     let y = column_known (column_type q x) in
     ap (λ zs. zs ++ below) (reverse-append (y ∷ []) ks) ∙ append_assoc (reverse ks) (y ∷ []) below
 
-column_has : (t : CellType) → known_type (column_known t) ≡ t
+column_has : (t : CellType) → type_known (column_known t) ≡ t
 column_has types.Int = refl
 column_has types.Bool = refl
 column_has (types.Enum e) = refl
 
 -- a column's value has its type
-column_same : (q : Query) (x : Expr) (t : CellType) (y : Known) → typed q InColumn x ≡ Ok t → known_type y ≡ t → same_type y (column_known (column_type q x)) ≡ true
+column_same : (q : Query) (x : Expr) (t : CellType) (y : Known) → typed q InColumn x ≡ Ok t → type_known y ≡ t → same_type y (column_known (column_type q x)) ≡ true
 column_same q x t y h l =
-    let is : known_type (column_known (column_type q x)) ≡ known_type y = ap (λ r. known_type (column_known (type_or_int r))) h ∙ column_has t ∙ sym l in
-    sym (type_of_two y (column_known (column_type q x))) ∙ ap (ty_eq (known_type y)) is ∙ type_of_two y y ∙ type_self y
+    let is : type_known (column_known (column_type q x)) ≡ type_known y = ap (λ r. type_known (column_known (type_or_int r))) h ∙ column_has t ∙ sym l in
+    sym (same_type_is y (column_known (column_type q x))) ∙ ap (is_type (type_known y)) is ∙ same_type_is y y ∙ type_self y
 
 pub some_columns : (q : Query) (k a : ℕ) (es : List Expr) → 0 < length (columns_code q k a es)
 some_columns q k a [] = let l = length-append (condition_code q k a q.having) (instr.Return ∷ []) in omega (arith, l)

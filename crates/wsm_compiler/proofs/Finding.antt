@@ -18,7 +18,8 @@ use Rattle.wsm_query.specs.Tree.{Name, Query, Expr, Number, Truth, Field, EnumNa
 use Rattle.wsm_check.specs.Names.{field_names, field_place, type_of, names_of}
 use Rattle.wsm_record.specs.declared.words.CellType.{CellType}
 use Rattle.wsm_record.specs.declared.words.CellType.TheVariants as types
-use Rattle.wsm_check.specs.Types.{ty_eq, Typed, wanted, if_typed, declared_ty, read_at, field_ty, operand_ty, op_ty, logic_ty, entered, typed}
+use Rattle.wsm_record.specs.Types.{is_type, kind_type}
+use Rattle.wsm_check.specs.Types.{Typed, wanted, if_typed, declared_ty, read_at, field_ty, op_ty, logic_ty, entered, typed}
 use Rattle.wsm_check.specs.declared.types.Around.{Around}
 use Rattle.wsm_check.specs.declared.types.Around.TheVariants.{InWhere, InColumn, InAggregate}
 use Rattle.wsm_check.specs.Sizes.{Acc, accumulators_of, aggregates}
@@ -88,10 +89,10 @@ pub record IfTypes (q : Query) (around : Around) (c x y : Expr) (w : CellType) :
 
 pub if_types : (q : Query) (around : Around) (c x y : Expr) (w : CellType) → typed q around (If c x y) ≡ Ok w → IfTypes q around c x y w
 if_types q around c x y w e =
-    let b = typed_first (typed q around c) (λ b. if_typed (typed q around x) (λ t. if_typed (typed q around y) (λ u. wanted (ty_eq b types.Bool && ty_eq t u) t))) w e in
-    let two = two_types q around x y (λ t u. wanted (ty_eq b.0 types.Bool && ty_eq t u) t) w b.2 in
-    let same = wanted_is (ty_eq b.0 types.Bool && ty_eq two.left two.right) two.left w two.both in
-    let parts = and_parts (ty_eq b.0 types.Bool) (ty_eq two.left two.right) same.0 in
+    let b = typed_first (typed q around c) (λ b. if_typed (typed q around x) (λ t. if_typed (typed q around y) (λ u. wanted (is_type b types.Bool && is_type t u) t))) w e in
+    let two = two_types q around x y (λ t u. wanted (is_type b.0 types.Bool && is_type t u) t) w b.2 in
+    let same = wanted_is (is_type b.0 types.Bool && is_type two.left two.right) two.left w two.both in
+    let parts = and_parts (is_type b.0 types.Bool) (is_type two.left two.right) same.0 in
     record {
       test_is = b.1 ∙ ap Ok (ty_is b.0 types.Bool parts.0);
       first_is = two.left_is ∙ ap Ok same.1;
@@ -107,15 +108,15 @@ pub record LogicTypes (q : Query) (around : Around) (x y : Expr) (w : CellType) 
 pub logic_types : (q : Query) (around : Around) (x y : Expr) (w : CellType) → if_typed (typed q around x) (λ t. if_typed (typed q around y) (λ u. logic_ty t u)) ≡ Ok w → LogicTypes q around x y w
 logic_types q around x y w e =
     let two = two_types q around x y logic_ty w e in
-    let same = wanted_is (ty_eq two.left types.Bool && ty_eq two.right types.Bool) types.Bool w two.both in
-    let parts = and_parts (ty_eq two.left types.Bool) (ty_eq two.right types.Bool) same.0 in
+    let same = wanted_is (is_type two.left types.Bool && is_type two.right types.Bool) types.Bool w two.both in
+    let parts = and_parts (is_type two.left types.Bool) (is_type two.right types.Bool) same.0 in
     record { left_is = two.left_is ∙ ap Ok (ty_is two.left types.Bool parts.0); right_is = two.right_is ∙ ap Ok (ty_is two.right types.Bool parts.1); is = same.1 }
 
 -- the operand of a unary operator that gives the type that it takes
-pub unary_is : (q : Query) (around : Around) (x : Expr) (u w : CellType) → if_typed (typed q around x) (λ t. wanted (ty_eq t u) u) ≡ Ok w → (typed q around x ≡ Ok u) × (u ≡ w)
+pub unary_is : (q : Query) (around : Around) (x : Expr) (u w : CellType) → if_typed (typed q around x) (λ t. wanted (is_type t u) u) ≡ Ok w → (typed q around x ≡ Ok u) × (u ≡ w)
 unary_is q around x u w e =
-    let f = typed_first (typed q around x) (λ t. wanted (ty_eq t u) u) w e in
-    let g = wanted_is (ty_eq f.0 u) u w f.2 in
+    let f = typed_first (typed q around x) (λ t. wanted (is_type t u) u) w e in
+    let g = wanted_is (is_type f.0 u) u w f.2 in
     (f.1 ∙ ap Ok (ty_is f.0 u g.0), g.1)
 
 -- ---- ranges suit types
@@ -136,7 +137,7 @@ alike_suits Unfit h = refl
 alike_suits NoNumber h = refl
 alike_suits (Within i) h = no h
 
-pub aggregate_suits : (n : ℤ) (kind : Kind) (r : Range) → suits (operand_ty kind) r ≡ true → suits (operand_ty kind) (of_aggregate n kind r) ≡ true
+pub aggregate_suits : (n : ℤ) (kind : Kind) (r : Range) → suits (kind_type kind) r ≡ true → suits (kind_type kind) (of_aggregate n kind r) ≡ true
 aggregate_suits n Sum Unfit h = refl
 aggregate_suits n Sum NoNumber h = no h
 aggregate_suits n Sum (Within x) h = sum_suits n x
@@ -190,8 +191,8 @@ range_suits c q around Key t h = suits_at NoNumber (types.Enum 0) t (ok_is _ t h
 range_suits c q around (KeyName x) t h = suits_at NoNumber (types.Enum 0) t (ok_is _ t (cond_ok (is_among x q.keys) _ _ t h)) refl
 range_suits c q around Count t h = suits_at (range q Count) types.Int t (ok_is _ t (entered_is around _ t h).1) refl
 range_suits c q around (Aggregate kind e) t h =
-    let u = unary_is q InAggregate e (operand_ty kind) t (entered_is around _ t h).1 in
-    suits_at (range q (Aggregate kind e)) (operand_ty kind) t u.1 (aggregate_suits q.records kind (range q e) (range_suits c q InAggregate e (operand_ty kind) u.0))
+    let u = unary_is q InAggregate e (kind_type kind) t (entered_is around _ t h).1 in
+    suits_at (range q (Aggregate kind e)) (kind_type kind) t u.1 (aggregate_suits q.records kind (range q e) (range_suits c q InAggregate e (kind_type kind) u.0))
 range_suits c q around (If b x y) t h =
     let p = if_types q around b x y t h in
     (chosen_is t (range q b) (range q x) (range q y) (range_suits c q around b types.Bool p.test_is) (range_suits c q around x t p.first_is) (range_suits c q around y t p.second_is)).1
@@ -219,7 +220,7 @@ pub record Reads (c : Setting) (q : Query) (around : Around) : Type 0 where
 
 -- and so is each of some accumulators, from the a-th on
 abbrev pub Accs : Setting → Query → ℕ → List Acc → Type 0
-Accs c q a accs = (j : ℕ) (acc : Acc) → slice_get accs j ≡ Some acc → of_instr c (instr.Acc (a + j)) [] ≡ known_of (operand_ty acc.kind) (of_aggregate q.records acc.kind (range q acc.operand))
+Accs c q a accs = (j : ℕ) (acc : Acc) → slice_get accs j ≡ Some acc → of_instr c (instr.Acc (a + j)) [] ≡ known_of (kind_type acc.kind) (of_aggregate q.records acc.kind (range q acc.operand))
 
 pub get_left : {A : Type 0} (xs ys : List A) (j : ℕ) (x : A) → slice_get xs j ≡ Some x → slice_get (xs ++ ys) j ≡ Some x
 get_left [] ys j x e = let tag : Option _ → Bool = λ o. elim o [ None ↦ false | Some x ↦ true ] in no (ap tag e)
@@ -279,9 +280,9 @@ found_is c q around reads a Count t h accs =
     let e = entered_is around (Ok types.Int) t h in at_type _ (range q Count) types.Int t (ok_is _ t e.1) (reads.count e.0)
 found_is c q around reads a (Aggregate kind e) t h accs =
     let i = entered_is around _ t h in
-    let u = unary_is q InAggregate e (operand_ty kind) t i.1 in
+    let u = unary_is q InAggregate e (kind_type kind) t i.1 in
     let first : a + 0 ≡ a = omega arith in
-    at_type _ (range q (Aggregate kind e)) (operand_ty kind) t u.1 (ap (λ b. of_instr c (instr.Acc b) []) (sym first) ∙ accs i.0 0 (record { kind = kind; operand = e }) refl)
+    at_type _ (range q (Aggregate kind e)) (kind_type kind) t u.1 (ap (λ b. of_instr c (instr.Acc b) []) (sym first) ∙ accs i.0 0 (record { kind = kind; operand = e }) refl)
 found_is c q around reads a (If b x y) t h accs =
     let p = if_types q around b x y t h in
     let s = three_accs c q around a b x y accs in

@@ -11,7 +11,7 @@ use Rattle.wsm_interval.specs.Interval.{interval, in_i64}
 use Rattle.wsm_bytecode.specs.declared.SectionId.TheVariants.{Fire}
 use Rattle.wsm_bytecode.specs.declared.program.Budget.{Budget as Stated}
 use Rattle.wsm_query.specs.Tree.{Query, Expr}
-use Rattle.wsm_check.specs.Types.{operand_ty}
+use Rattle.wsm_record.specs.Types.{kind_type}
 use Rattle.wsm_check.specs.declared.types.Around.TheVariants.{InColumn, InAggregate}
 use Rattle.wsm_check.specs.Sizes.{Acc, accumulators, accumulators_of, in_option, need_of_folds, need_of_columns}
 use Rattle.wsm_verifier.specs.declared.known.Known.{Known}
@@ -32,14 +32,14 @@ use Rattle.wsm_compiler.proofs.Folding.{updating, acc_fits, accs_fit, AccsTyped}
 use Rattle.wsm_compiler.proofs.Folded.{interval_of, ValuesAt, all_values}
 
 -- what ACC pushes is told of by the aggregate's range
-aggregate_known : (n : ℤ) (kind : Kind) (r : Range) → suits (operand_ty kind) r ≡ true → fits (of_aggregate n kind r) ≡ true →
-    Some (known_range (and_then (accumulated n kind) (interval_of r))) ≡ known_of (operand_ty kind) (of_aggregate n kind r)
+aggregate_known : (n : ℤ) (kind : Kind) (r : Range) → suits (kind_type kind) r ≡ true → fits (of_aggregate n kind r) ≡ true →
+    Some (known_range (and_then (accumulated n kind) (interval_of r))) ≡ known_of (kind_type kind) (of_aggregate n kind r)
 aggregate_known n Sum Unfit h l = no l
 aggregate_known n Sum NoNumber h l = no h
 aggregate_known n Sum (Within x) h l =
     elim (in_i64 (n *ℤ x.lo) && in_i64 (n *ℤ x.hi)) as
     (λ a. fits (cond a (Within (interval (int_min x.lo (n *ℤ x.lo)) (int_max x.hi (n *ℤ x.hi)))) Unfit) ≡ true →
-    Some (Number (interval (int_min x.lo (n *ℤ x.lo)) (int_max x.hi (n *ℤ x.hi)))) ≡ known_of (operand_ty Sum) (cond a (Within (interval (int_min x.lo (n *ℤ x.lo)) (int_max x.hi (n *ℤ x.hi)))) Unfit)) [
+    Some (Number (interval (int_min x.lo (n *ℤ x.lo)) (int_max x.hi (n *ℤ x.hi)))) ≡ known_of (kind_type Sum) (cond a (Within (interval (int_min x.lo (n *ℤ x.lo)) (int_max x.hi (n *ℤ x.hi)))) Unfit)) [
       | true ↦ λ l. refl
       | false ↦ λ l. no l
     ] l
@@ -70,13 +70,13 @@ module _ (q : Query) (b : Stated) where
 
   -- the j-th of the accumulators from the n-th on
   known_at : (n : ℕ) (accs : List Acc) (vs : List Visit) (j : ℕ) (acc : Acc) → AccsTyped q b accs → accs_fit q b accs ≡ true → ValuesAt q b n accs vs → slice_get accs j ≡ Some acc →
-      Some (slice_index_or (known_from n accs vs) j Truth) ≡ known_of (operand_ty acc.kind) (of_aggregate q.records acc.kind (range q acc.operand))
+      Some (slice_index_or (known_from n accs vs) j Truth) ≡ known_of (kind_type acc.kind) (of_aggregate q.records acc.kind (range q acc.operand))
   known_at n [] vs j acc h fit values e = none≢some e
   known_at n (x ∷ accs) vs zero acc h fit values e =
       let f = and_parts (acc_fits q b x) (accs_fit q b accs) fit in
       ap (λ o. Some (known_range (and_then (accumulated q.records x.kind) o))) values.0
-      ∙ aggregate_known q.records x.kind (range q x.operand) (range_suits (updating q b) q InAggregate x.operand (operand_ty x.kind) h.0) f.0
-      ∙ ap (λ z. known_of (operand_ty z.kind) (of_aggregate q.records z.kind (range q z.operand))) (same_Some x acc e)
+      ∙ aggregate_known q.records x.kind (range q x.operand) (range_suits (updating q b) q InAggregate x.operand (kind_type x.kind) h.0) f.0
+      ∙ ap (λ z. known_of (kind_type z.kind) (of_aggregate q.records z.kind (range q z.operand))) (same_Some x acc e)
   known_at n (x ∷ accs) vs (suc j) acc h fit values e = known_at (suc n) accs vs j acc h.1 (and_parts (acc_fits q b x) (accs_fit q b accs) fit).1 values.1 e
 
   abbrev pub firing : Setting

@@ -1,6 +1,6 @@
 -- What a firing's row is computed over, after any history: at least one record and at most as many as the clock allows, all of the
 -- firing's key and in range.
-use Rattle.std.proofs.Common.{◌≡◌, ℕ, zero, suc, ◌≤◌, Bool, true, false, ◌&&◌, not, cond, List, [], ◌∷◌, ◌++◌, length, ℤ, Option, Some, None, refl, arith}
+use Rattle.std.proofs.Common.{◌≡◌, ℕ, suc, ◌≤◌, Bool, true, false, ◌&&◌, not, cond, List, [], ◌∷◌, ◌++◌, length, ℤ, Option, Some, None, refl, arith}
 use Rattle.std.specs.Prelude.{◌+ℤ◌, filter, filter_map, is_none, nat_eq, nat_lt, int_le, int_lt}
 use Rattle.std.specs.Option.{IfSome}
 use Rattle.std.specs.List.{AllByRecursion, cons_option, list_all, list_any}
@@ -25,7 +25,6 @@ use Rattle.wsm_semantics.specs.Relation.{candidates, greatest_of, standing, is_w
 use Rattle.wsm_semantics.proofs.SelectedRecords.{selected_count}
 use Rattle.wsm_semantics.proofs.Lists.{filter-all, put-all}
 use Rattle.wsm_semantics.proofs.Tables.{places_exact}
-use Rattle.wsm_machine.proofs.Fitting.{no}
 use Rattle.wsm_machine.proofs.Firing.{enough_some}
 use Rattle.wsm_compiler.proofs.Parts.{none≢some}
 

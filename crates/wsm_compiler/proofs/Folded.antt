@@ -15,7 +15,7 @@ use Rattle.wsm_bytecode.specs.declared.program.Budget.{Budget as Stated}
 use Rattle.wsm_query.specs.declared.expr.Op.{Op}
 use Rattle.wsm_query.specs.declared.expr.Op.TheVariants.{Add, Sub, Mul, Div, Rem, Eq, Ne, Lt, Le, Gt, Ge}
 use Rattle.wsm_query.specs.Tree.{Query, Expr, Number, Truth, Field, EnumName, Key, KeyName, Count, Aggregate, If, Brackets, Minus, Not, Binary, And, Or}
-use Rattle.wsm_check.specs.Types.{operand_ty}
+use Rattle.wsm_record.specs.Types.{kind_type}
 use Rattle.wsm_check.specs.declared.types.Around.TheVariants.{InAggregate}
 use Rattle.wsm_check.specs.Sizes.{Acc, accumulators, accumulators_of, aggregates, size, need, folds_size, need_of_folds}
 use Rattle.wsm_verifier.specs.declared.known.Known.{Known}
@@ -129,11 +129,11 @@ interval_of (Within i) = Some i
 -- it is known, it is of the range, and its accumulator takes it
 record Value (n : ℤ) (kind : Kind) (r : Range) : Type 0 where
   value : Known
-  is : known_of (operand_ty kind) r ≡ Some value
+  is : known_of (kind_type kind) r ≡ Some value
   interval : last_number (value ∷ []) ≡ interval_of r
   taken : takes n kind value ≡ true
 
-value_of : (n : ℤ) (kind : Kind) (r : Range) → suits (operand_ty kind) r ≡ true → fits (of_aggregate n kind r) ≡ true → Value n kind r
+value_of : (n : ℤ) (kind : Kind) (r : Range) → suits (kind_type kind) r ≡ true → fits (of_aggregate n kind r) ≡ true → Value n kind r
 value_of n Sum Unfit h l = no l
 value_of n Sum NoNumber h l = no h
 value_of n Sum (Within x) h l = record {
@@ -235,13 +235,13 @@ module _ (q : Query) (b : Stated) where
       let st = folded_so a (suc (length accs)) in
       let rest = folds q (k + size y + 1) (suc a) accs in
       let f = and_parts (acc_fits q b acc) (accs_fit q b accs) fit in
-      let v = value_of q.records acc.kind (range q y) (range_suits c q InAggregate y (operand_ty acc.kind) h.0) f.0 in
-      let found' : found c q 0 y ≡ Some v.value = found_is c q InAggregate (reads_update q b) 0 y (operand_ty acc.kind) h.0 (no_accs q b 0 (accumulators_of y)) ∙ v.is in
+      let v = value_of q.records acc.kind (range q y) (range_suits c q InAggregate y (kind_type acc.kind) h.0) f.0 in
+      let found' : found c q 0 y ≡ Some v.value = found_is c q InAggregate (reads_update q b) 0 y (kind_type acc.kind) h.0 (no_accs q b 0 (accumulators_of y)) ∙ v.is in
       let lc = length-code q k 0 y in
       let la = length-append is (instr.Fold a ∷ rest) in
       let whole' : Comes e vs k st (length is + length (instr.Fold a ∷ rest)) = subst (λ m. Comes e vs k st m) la comes in
       let first : Labels e c vs k is (Some (with_known v.value st)) =
-      subst (λ o. Labels e c vs k is (pushed_on st o)) found' (labelled e c q InAggregate (reads_update q b) k 0 y (operand_ty acc.kind) st h.0 (no_accs q b 0 (accumulators_of y)) (first_room (need y) _ room) (omega (arith, more, some_folds_size q b accs)) vs (shorter e vs k st (length is) (length (instr.Fold a ∷ rest)) whole')) in
+      subst (λ o. Labels e c vs k is (pushed_on st o)) found' (labelled e c q InAggregate (reads_update q b) k 0 y (kind_type acc.kind) st h.0 (no_accs q b 0 (accumulators_of y)) (first_room (need y) _ room) (omega (arith, more, some_folds_size q b accs)) vs (shorter e vs k st (length is) (length (instr.Fold a ∷ rest)) whole')) in
       let comes1 = continued e c vs k is (length (instr.Fold a ∷ rest)) st (with_known v.value st) (some_code q k 0 y) (omega arith) whole' first in
       let ws1' = extended e c.ranges vs is in
       let k1 = k + length is in

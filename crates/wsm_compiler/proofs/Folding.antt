@@ -11,7 +11,8 @@ use Rattle.wsm_bytecode.specs.declared.instr.Instr.TheVariants.{Fold}
 use Rattle.wsm_bytecode.specs.declared.SectionId.TheVariants.{Update}
 use Rattle.wsm_bytecode.specs.declared.program.Budget.{Budget as Stated}
 use Rattle.wsm_query.specs.Tree.{Query}
-use Rattle.wsm_check.specs.Types.{operand_ty, typed}
+use Rattle.wsm_record.specs.Types.{kind_type}
+use Rattle.wsm_check.specs.Types.{typed}
 use Rattle.wsm_check.specs.declared.types.Around.TheVariants.{InAggregate}
 use Rattle.wsm_check.specs.Sizes.{Acc, accumulators, accumulators_of, size, need, folds_size, need_of_folds}
 use Rattle.wsm_verifier.specs.declared.known.Known.{Known}
@@ -99,7 +100,7 @@ module _ (q : Query) (b : Stated) where
 
   abbrev pub AccsTyped : List Acc → Type 0
   AccsTyped [] = Unit {0}
-  AccsTyped (acc ∷ accs) = (typed q InAggregate acc.operand ≡ Ok (operand_ty acc.kind)) × AccsTyped accs
+  AccsTyped (acc ∷ accs) = (typed q InAggregate acc.operand ≡ Ok (kind_type acc.kind)) × AccsTyped accs
 
   -- the accumulators from the a-th on have their kinds
   abbrev pub KindsAt : ℕ → List Acc → Type 0
@@ -107,8 +108,8 @@ module _ (q : Query) (b : Stated) where
   KindsAt a (acc ∷ accs) = (kind_of updating.kinds a ≡ acc.kind) × KindsAt (suc a) accs
 
   -- a fault in the operand, in its fold, or behind it
-  fold_fits : (kind : Kind) (r : Range) (s : State) (w : Bool) → suits (operand_ty kind) r ≡ true →
-      or_behind (known_of (operand_ty kind) r) (λ x. or_behind (if_takes (takes q.records kind x) s) (λ t. not w)) ≡ not (fits (of_aggregate q.records kind r) && w)
+  fold_fits : (kind : Kind) (r : Range) (s : State) (w : Bool) → suits (kind_type kind) r ≡ true →
+      or_behind (known_of (kind_type kind) r) (λ x. or_behind (if_takes (takes q.records kind x) s) (λ t. not w)) ≡ not (fits (of_aggregate q.records kind r) && w)
   fold_fits Sum Unfit s w h = refl
   fold_fits Sum NoNumber s w h = no h
   fold_fits Sum (Within x) s w h =
@@ -155,9 +156,9 @@ module _ (q : Query) (b : Stated) where
       subst (λ fs. Ends e updating (j + 1) rest (record { stack = []; folded = fs }) (not w)) (sym (set_next a n))
       (folds_ends e (j + 1) (suc a) accs h.1 kinds.1 (rest_room (need x) _ room) (omega (arith, more))) in
       subst (λ v. Ends e updating k (code q k 0 x ++ Fold a ∷ rest) s v)
-      (ap (λ o. or_behind o goal) (found_is updating q InAggregate (reads_update q b) 0 x (operand_ty acc.kind) h.0 (no_accs 0 (accumulators_of x))) ∙ fold_fits acc.kind (range q x) (behind_fold a s) w (range_suits updating q InAggregate x (operand_ty acc.kind) h.0))
+      (ap (λ o. or_behind o goal) (found_is updating q InAggregate (reads_update q b) 0 x (kind_type acc.kind) h.0 (no_accs 0 (accumulators_of x))) ∙ fold_fits acc.kind (range q x) (behind_fold a s) w (range_suits updating q InAggregate x (kind_type acc.kind) h.0))
       (follow_ends e updating k (size x) (code q k 0 x) (Fold a ∷ rest) s (found updating q 0 x) goal (length-code q k 0 x) (some_code q k 0 x) (omega arith)
-      (labelled e updating q InAggregate (reads_update q b) k 0 x (operand_ty acc.kind) s h.0 (no_accs 0 (accumulators_of x)) (first_room (need x) _ room) (omega (arith, more, some_folds_size accs)))
+      (labelled e updating q InAggregate (reads_update q b) k 0 x (kind_type acc.kind) s h.0 (no_accs 0 (accumulators_of x)) (first_room (need x) _ room) (omega (arith, more, some_folds_size accs)))
       (λ z ez. sequence_ends e updating j (Fold a ∷ []) rest (with_known z s) (if_takes (takes q.records acc.kind z) (behind_fold a s)) (λ t. not w) (omega arith) (some_folds (j + 1) (suc a) accs)
       (fold_one e j a z s acc.kind kinds.0 (unset a n) (omega arith) (omega (arith, more, some_folds_size accs)))
       (λ t ht. subst (λ u. Ends e updating (j + 1) rest u (not w)) (same_Some (behind_fold a s) t (taken_is (takes q.records acc.kind z) (behind_fold a s) t ht)) behind)))

@@ -20,7 +20,8 @@ use Rattle.wsm_query.specs.Tree.{Name, Query, Expr, Number, Truth, Field, EnumNa
 use Rattle.wsm_check.specs.Names.{field_names, field_place, type_of, names_of, place_of}
 use Rattle.wsm_record.specs.declared.words.CellType.{CellType}
 use Rattle.wsm_record.specs.declared.words.CellType.TheVariants as types
-use Rattle.wsm_check.specs.Types.{wanted, if_typed, ty_eq, declared_ty, operand_ty, op_ty, typed}
+use Rattle.wsm_record.specs.Types.{is_type, kind_type}
+use Rattle.wsm_check.specs.Types.{wanted, if_typed, declared_ty, op_ty, typed}
 use Rattle.wsm_check.specs.declared.types.Around.{Around}
 use Rattle.wsm_check.specs.declared.types.Around.TheVariants.{InColumn, InAggregate}
 use Rattle.wsm_check.specs.Sizes.{Acc, aggregates, size, condition_size, folds_size, columns_size}
@@ -75,7 +76,7 @@ module _ (q : Query) (b : Stated) where
   named_as : (t u : CellType) → t ≡ u → Named t → Named u
   named_as t u e h = subst Named e h
 
-  operand_named : (kind : Kind) → Named (operand_ty kind)
+  operand_named : (kind : Kind) → Named (kind_type kind)
   operand_named Sum = refl
   operand_named Min = refl
   operand_named Max = refl
@@ -108,8 +109,8 @@ module _ (q : Query) (b : Stated) where
   type_named around (KeyName x) t h = named_as (types.Enum 0) t (ok_is (types.Enum 0) t (cond_ok (is_among x q.keys) (Ok (types.Enum 0)) _ t h)) refl
   type_named around Count t h = named_as types.Int t (ok_is types.Int t (entered_is around (Ok types.Int) t h).1) refl
   type_named around (Aggregate kind e) t h =
-      let inner = if_typed (typed q InAggregate e) (λ t. wanted (ty_eq t (operand_ty kind)) (operand_ty kind)) in
-      named_as (operand_ty kind) t (unary_is q InAggregate e (operand_ty kind) t (entered_is around inner t h).1).1 (operand_named kind)
+      let inner = if_typed (typed q InAggregate e) (λ t. wanted (is_type t (kind_type kind)) (kind_type kind)) in
+      named_as (kind_type kind) t (unary_is q InAggregate e (kind_type kind) t (entered_is around inner t h).1).1 (operand_named kind)
   type_named around (If c x y) t h = type_named around x t (if_types q around c x y t h).first_is
   type_named around (Brackets e) t h = type_named around e t h
   type_named around (Minus e) t h = named_as types.Int t (unary_is q around e types.Int t h).1 refl
@@ -173,7 +174,7 @@ module _ (q : Query) (b : Stated) where
   code_fine around k a (KeyName x) t h l accs room = fine_one (instr.PushEnum 0 (place_of x q.keys)) (place_below x q.keys (of_cond (is_among x q.keys) _ _ t h))
   code_fine around k a Count t h l accs room = refl
   code_fine around k a (Aggregate kind e) t h l accs room =
-      let inner = if_typed (typed q InAggregate e) (λ t. wanted (ty_eq t (operand_ty kind)) (operand_ty kind)) in
+      let inner = if_typed (typed q InAggregate e) (λ t. wanted (is_type t (kind_type kind)) (kind_type kind)) in
       let n = accs (entered_is around inner t h).0 in
       fine_one (instr.Acc a) (lt-ltb a (length head.kinds) (omega (arith, n)))
   code_fine around k a (If c x y) t h l accs room =
@@ -228,7 +229,7 @@ module _ (q : Query) (b : Stated) where
       let e = acc.operand in
       let p = and_parts (numbers_fit e) (operands_fit accs) l in
       let rest = folds q (k + size e + 1) (suc a) accs in
-      fine_both (code q k 0 e) (instr.Fold a ∷ rest) (code_fine InAggregate k 0 e (operand_ty acc.kind) h.0 p.0 (λ e. no (ap in_column e)) (omega (arith, room)))
+      fine_both (code q k 0 e) (instr.Fold a ∷ rest) (code_fine InAggregate k 0 e (kind_type acc.kind) h.0 p.0 (λ e. no (ap in_column e)) (omega (arith, room)))
       (and_from (is_instr head (instr.Fold a)) (list_all (is_instr head) rest) (lt-ltb a (length head.kinds) (omega (arith, n))) (folds_fine (k + size e + 1) (suc a) accs h.1 p.1 (omega (arith, n)) (omega (arith, room))))
 
   abbrev pub columns_aggregates : List Expr → ℕ

@@ -21,7 +21,8 @@ use Rattle.wsm_query.specs.Tree.{Query, Expr, Number, Truth, Field, EnumName, Ke
 use Rattle.wsm_check.specs.Names.{place_of, field_names, field_place, type_of, names_of}
 use Rattle.wsm_record.specs.declared.words.CellType.{CellType}
 use Rattle.wsm_record.specs.declared.words.CellType.TheVariants as types
-use Rattle.wsm_check.specs.Types.{declared_ty, operand_ty, op_ty, typed}
+use Rattle.wsm_record.specs.Types.{kind_type}
+use Rattle.wsm_check.specs.Types.{declared_ty, op_ty, typed}
 use Rattle.wsm_check.specs.declared.types.Around.{Around}
 use Rattle.wsm_check.specs.declared.types.Around.TheVariants.{InColumn, InAggregate}
 use Rattle.wsm_check.specs.Sizes.{accumulators_of, aggregates, size}
@@ -95,10 +96,10 @@ field_cell f (field_types.Enum names) (Truth' b) h = no h
 field_cell f (field_types.Enum names) (Enum i) h = let e : f + 1 ≡ suc f = omega arith in ap (λ d. cells.Enum d i) e
 
 -- an accumulator's
-folded_cell : (kind : Kind) (v : Value) → of_ty (operand_ty kind) (Some v) ≡ true → cell_of 0 v ≡ cell (operand_ty kind) v
+folded_cell : (kind : Kind) (v : Value) → of_ty (kind_type kind) (Some v) ≡ true → cell_of 0 v ≡ cell (kind_type kind) v
 folded_cell kind (Int n) h = number kind n h
   where
-    number : (kind : Kind) (n : ℤ) → of_ty (operand_ty kind) (Some (Int n)) ≡ true → cells.Int n ≡ cell (operand_ty kind) (Int n)
+    number : (kind : Kind) (n : ℤ) → of_ty (kind_type kind) (Some (Int n)) ≡ true → cells.Int n ≡ cell (kind_type kind) (Int n)
     number Sum n h = refl
     number Min n h = refl
     number Max n h = refl
@@ -106,7 +107,7 @@ folded_cell kind (Int n) h = number kind n h
     number All n h = refl
 folded_cell kind (Truth' b) h = truth kind b h
   where
-    truth : (kind : Kind) (b : Bool) → of_ty (operand_ty kind) (Some (Truth' b)) ≡ true → cells.Bool b ≡ cell (operand_ty kind) (Truth' b)
+    truth : (kind : Kind) (b : Bool) → of_ty (kind_type kind) (Some (Truth' b)) ≡ true → cells.Bool b ≡ cell (kind_type kind) (Truth' b)
     truth Sum b h = refl
     truth Min b h = refl
     truth Max b h = refl
@@ -114,7 +115,7 @@ folded_cell kind (Truth' b) h = truth kind b h
     truth All b h = refl
 folded_cell kind (Enum i) h = name kind i h
   where
-    name : (kind : Kind) (i : ℕ) → of_ty (operand_ty kind) (Some (Enum i)) ≡ true → cells.Enum 0 i ≡ cell (operand_ty kind) (Enum i)
+    name : (kind : Kind) (i : ℕ) → of_ty (kind_type kind) (Some (Enum i)) ≡ true → cells.Enum 0 i ≡ cell (kind_type kind) (Enum i)
     name Sum i h = no h
     name Min i h = no h
     name Max i h = no h
@@ -170,14 +171,14 @@ module _ (c : Setting) (q : Query) (around : Around) (s : Scene) (serves : Serve
       (read_gives c k stack folds (omega (arith, room)) instr.Count types.Int (Int c.inputs.count) (may_stand c.section instr.Count) refl at.0 (serves.count_stands e.0) refl))
   code_runs k a (Aggregate kind e) t h accs at inside stack folds room =
       let i = entered_is around _ t h in
-      let u = unary_is q InAggregate e (operand_ty kind) t i.1 in
+      let u = unary_is q InAggregate e (kind_type kind) t i.1 in
       let first : a + 0 ≡ a = omega arith in
       let g = accs i.0 0 (record { kind = kind; operand = e }) refl in
       let there : s.aggregate a kind e ≡ Some g.0 = ap (λ n. s.aggregate n kind e) (sym first) ∙ g.1 in
       let held : slice_get c.inputs.accs a ≡ Some g.0 = ap (λ n. slice_get c.inputs.accs n) (sym first) ∙ g.3 in
-      at_type c (state k stack folds) (k + 1) stack folds (operand_ty kind) t (value a (Aggregate kind e)) u.1
-      (subst (λ o. Gives c (state k stack folds) (topped (k + 1) stack folds (operand_ty kind) (kept o))) (sym there)
-      (read_gives c k stack folds (omega (arith, room)) (instr.Acc a) (operand_ty kind) g.0 (may_stand c.section (instr.Acc a)) g.2 at.0 (serves.accs_stand a i.0)
+      at_type c (state k stack folds) (k + 1) stack folds (kind_type kind) t (value a (Aggregate kind e)) u.1
+      (subst (λ o. Gives c (state k stack folds) (topped (k + 1) stack folds (kind_type kind) (kept o))) (sym there)
+      (read_gives c k stack folds (omega (arith, room)) (instr.Acc a) (kind_type kind) g.0 (may_stand c.section (instr.Acc a)) g.2 at.0 (serves.accs_stand a i.0)
       (ap (λ o. reads (may_stand c.section (instr.Acc a)) k stack folds (option_map (cell_of 0) o)) held ∙ ap (λ y. reads (may_stand c.section (instr.Acc a)) k stack folds (Some y)) (folded_cell kind g.0 g.2))))
   code_runs k a (If b x y) t h accs at inside stack folds room =
       let p = if_types q around b x y t h in

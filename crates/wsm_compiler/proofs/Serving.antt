@@ -17,7 +17,8 @@ use Rattle.wsm_record.specs.Schema as field_types
 use Rattle.wsm_query.specs.Tree.{Name, Query}
 use Rattle.wsm_check.specs.Names.{field_names, field_place, type_of}
 use Rattle.wsm_record.specs.declared.words.CellType.{CellType}
-use Rattle.wsm_check.specs.Types.{declared_ty, field_ty, operand_ty}
+use Rattle.wsm_record.specs.Types.{kind_type}
+use Rattle.wsm_check.specs.Types.{declared_ty, field_ty}
 use Rattle.wsm_check.specs.declared.types.Around.{Around}
 use Rattle.wsm_check.specs.declared.types.Around.TheVariants.{InWhere, InColumn, InAggregate}
 use Rattle.wsm_check.specs.Sizes.{Acc, accumulators}
@@ -80,7 +81,7 @@ field_read q around vs fit x t h =
 
 -- ---- accumulators
 
-of_kind : (kind : Kind) (v : Value) → is_of_kind kind v ≡ true → of_ty (operand_ty kind) (Some v) ≡ true
+of_kind : (kind : Kind) (v : Value) → is_of_kind kind v ≡ true → of_ty (kind_type kind) (Some v) ≡ true
 of_kind Sum (Int x) h = refl
 of_kind Sum (Truth' b) h = no h
 of_kind Sum (Enum i) h = no h
@@ -97,12 +98,12 @@ of_kind All (Int x) h = no h
 of_kind All (Truth' b) h = refl
 of_kind All (Enum i) h = no h
 
-held_at : (accs : List Acc) (vs : List Value) (j : ℕ) (acc : Acc) → are_of_kinds (map (λ acc. acc.kind) accs) vs ≡ true → slice_get accs j ≡ Some acc → (v : Value) × (slice_get vs j ≡ Some v) × (of_ty (operand_ty acc.kind) (Some v) ≡ true)
+held_at : (accs : List Acc) (vs : List Value) (j : ℕ) (acc : Acc) → are_of_kinds (map (λ acc. acc.kind) accs) vs ≡ true → slice_get accs j ≡ Some acc → (v : Value) × (slice_get vs j ≡ Some v) × (of_ty (kind_type acc.kind) (Some v) ≡ true)
 held_at [] vs j acc h e = none≢some e
 held_at (x ∷ accs) [] j acc h e = no h
 held_at (x ∷ accs) (v ∷ vs) zero acc h e =
     let p = and_parts (is_of_kind x.kind v) (are_of_kinds (map (λ acc. acc.kind) accs) vs) h in
-    (v, refl, ap (λ z. of_ty (operand_ty z.kind) (Some v)) (sym (acc_is x acc e)) ∙ of_kind x.kind v p.0)
+    (v, refl, ap (λ z. of_ty (kind_type z.kind) (Some v)) (sym (acc_is x acc e)) ∙ of_kind x.kind v p.0)
   where
     acc_is : (x y : Acc) → Some x ≡ Some y → x ≡ y
     acc_is x y h = ap (λ o. elim o [ None ↦ x | Some z ↦ z ]) h

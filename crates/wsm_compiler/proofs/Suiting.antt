@@ -11,14 +11,16 @@ use Rattle.wsm_query.specs.declared.expr.Op.{Op}
 use Rattle.wsm_query.specs.declared.expr.Op.TheVariants.{Add, Sub, Mul, Div, Rem, Eq, Ne, Lt, Le, Gt, Ge}
 use Rattle.wsm_record.specs.declared.words.CellType.{CellType}
 use Rattle.wsm_record.specs.declared.words.CellType.TheVariants as types
-use Rattle.wsm_check.specs.Types.{ty_eq, Typed, wanted, if_typed}
+use Rattle.wsm_record.specs.Types.{is_type}
+use Rattle.wsm_check.specs.Types.{Typed, wanted, if_typed}
 use Rattle.wsm_verifier.specs.declared.known.Known.{Known}
 use Rattle.wsm_verifier.specs.declared.known.Known.TheVariants as known
 use Rattle.wsm_verifier.specs.Labels.{same_type}
 use Rattle.wsm_verifier.specs.Rules.{Setting, and_then}
 use Rattle.wsm_compiler.specs.Code.{instruction}
 use Rattle.wsm_compiler.specs.Ranges.{Range, Unfit, NoNumber, Within, within, no_number, on_intervals, of_op, of_minus}
-use Rattle.wsm_machine.proofs.Fitting.{no}
+use Rattle.wsm_machine.proofs.Fitting.{no, type_known}
+use Rattle.wsm_machine.proofs.Giving.{same_type_is}
 use Rattle.wsm_compiler.proofs.Hulls.{type_self}
 use Rattle.wsm_compiler.proofs.Parts.{none≢some}
 use Rattle.wsm_compiler.proofs.Found.{of_instr, head_of}
@@ -46,7 +48,7 @@ pub wanted_is : (b : Bool) (u t : CellType) → wanted b u ≡ Ok t → (b ≡ t
 wanted_is true u t e = (refl, ok_is u t e)
 wanted_is false u t e = err≢ok e
 
-pub ty_is : (t u : CellType) → ty_eq t u ≡ true → t ≡ u
+pub ty_is : (t u : CellType) → is_type t u ≡ true → t ≡ u
 ty_is types.Int types.Int h = refl
 ty_is types.Int types.Bool h = no h
 ty_is types.Int (types.Enum e) h = no h
@@ -85,16 +87,11 @@ known_of t Unfit = None
 known_of t NoNumber = plain_known t
 known_of t (Within i) = number_known t i
 
-abbrev pub known_type : Known → CellType
-known_type (known.Number x) = types.Int
-known_type known.Truth = types.Bool
-known_type (known.NameOf e) = types.Enum e
-
 abbrev type_or : CellType → Option Known → CellType
 type_or t None = t
-type_or t (Some x) = known_type x
+type_or t (Some x) = type_known x
 
-pub known_has : (t : CellType) (r : Range) (x : Known) → known_of t r ≡ Some x → known_type x ≡ t
+pub known_has : (t : CellType) (r : Range) (x : Known) → known_of t r ≡ Some x → type_known x ≡ t
 known_has t Unfit x e = none≢some e
 known_has types.Int NoNumber x e = none≢some e
 known_has types.Int (Within i) x e = sym (ap (type_or types.Int) e)
@@ -103,21 +100,10 @@ known_has types.Bool (Within i) x e = none≢some e
 known_has (types.Enum d) NoNumber x e = sym (ap (type_or (types.Enum d)) e)
 known_has (types.Enum d) (Within i) x e = none≢some e
 
-pub type_of_two : (x y : Known) → ty_eq (known_type x) (known_type y) ≡ same_type x y
-type_of_two (known.Number a) (known.Number b) = refl
-type_of_two (known.Number a) known.Truth = refl
-type_of_two (known.Number a) (known.NameOf e) = refl
-type_of_two known.Truth (known.Number b) = refl
-type_of_two known.Truth known.Truth = refl
-type_of_two known.Truth (known.NameOf e) = refl
-type_of_two (known.NameOf d) (known.Number b) = refl
-type_of_two (known.NameOf d) known.Truth = refl
-type_of_two (known.NameOf d) (known.NameOf e) = refl
-
 -- two values of one type
 pub known_same : (t : CellType) (r p : Range) (x y : Known) → known_of t r ≡ Some x → known_of t p ≡ Some y → same_type y x ≡ true
 known_same t r p x y h l =
-    sym (type_of_two y x) ∙ ap (ty_eq (known_type y)) (known_has t r x h ∙ sym (known_has t p y l)) ∙ type_of_two y y ∙ type_self y
+    sym (same_type_is y x) ∙ ap (is_type (type_known y)) (known_has t r x h ∙ sym (known_has t p y l)) ∙ same_type_is y y ∙ type_self y
 
 -- a truth
 pub known_truth : (r : Range) (x : Known) → known_of types.Bool r ≡ Some x → x ≡ known.Truth
@@ -168,7 +154,7 @@ arithmetic c i f is (Within x) (Within y) h l = (is x y ∙ within_known (f x y)
     suited (Some i) = refl
 
 -- a comparison of two values of which each is told of by its range
-compared : (c : Setting) (i : Instr) (t : CellType) → ((x y : Known) → known_type x ≡ t → known_type y ≡ t → of_instr c i (y ∷ x ∷ []) ≡ Some known.Truth) →
+compared : (c : Setting) (i : Instr) (t : CellType) → ((x y : Known) → type_known x ≡ t → type_known y ≡ t → of_instr c i (y ∷ x ∷ []) ≡ Some known.Truth) →
     (r p : Range) → suits t r ≡ true → suits t p ≡ true →
     (Two c i (known_of t r) (known_of t p) ≡ known_of types.Bool (no_number r p)) × (suits types.Bool (no_number r p) ≡ true)
 compared c i t is Unfit p h l = (refl, refl)
@@ -186,7 +172,7 @@ compared c i (types.Enum e) is NoNumber (Within y) h l = no l
 compared c i (types.Enum e) is (Within x) p h l = no h
 
 -- two numbers are compared
-of_numbers : (c : Setting) (i : Instr) → ((x y : Interval) → of_instr c i (known.Number y ∷ known.Number x ∷ []) ≡ Some known.Truth) → (x y : Known) → known_type x ≡ types.Int → known_type y ≡ types.Int → of_instr c i (y ∷ x ∷ []) ≡ Some known.Truth
+of_numbers : (c : Setting) (i : Instr) → ((x y : Interval) → of_instr c i (known.Number y ∷ known.Number x ∷ []) ≡ Some known.Truth) → (x y : Known) → type_known x ≡ types.Int → type_known y ≡ types.Int → of_instr c i (y ∷ x ∷ []) ≡ Some known.Truth
 of_numbers c i is (known.Number x) (known.Number y) h l = is x y
 of_numbers c i is (known.Number x) known.Truth h l = no (ap is_int l)
 of_numbers c i is (known.Number x) (known.NameOf e) h l = no (ap is_int l)
@@ -195,32 +181,32 @@ of_numbers c i is (known.NameOf e) y h l = no (ap is_int h)
 
 -- two values of one type are compared
 of_same : (c : Setting) (i : Instr) → ((x y : Known) → of_instr c i (y ∷ x ∷ []) ≡ cond (same_type x y) (Some known.Truth) None) →
-    (t : CellType) (x y : Known) → known_type x ≡ t → known_type y ≡ t → of_instr c i (y ∷ x ∷ []) ≡ Some known.Truth
+    (t : CellType) (x y : Known) → type_known x ≡ t → type_known y ≡ t → of_instr c i (y ∷ x ∷ []) ≡ Some known.Truth
 of_same c i is t x y h l =
-    let same : same_type x y ≡ true = sym (type_of_two x y) ∙ ap (ty_eq (known_type x)) (l ∙ sym h) ∙ type_of_two x x ∙ type_self x in
+    let same : same_type x y ≡ true = sym (same_type_is x y) ∙ ap (is_type (type_known x)) (l ∙ sym h) ∙ same_type_is x x ∙ type_self x in
     is x y ∙ ap (λ b. cond b (Some known.Truth) None) same
 
 abbrev pub OpFound : Setting → Op → CellType → CellType → CellType → Range → Range → Type 0
 OpFound c op t u w r p = (Two c (instruction op) (known_of t r) (known_of u p) ≡ known_of w (of_op op r p)) × (suits w (of_op op r p) ≡ true)
 
-two_numbers : (c : Setting) (op : Op) (t u w : CellType) (r p : Range) → (ty_eq t types.Int && ty_eq u types.Int) ≡ true → suits t r ≡ true → suits u p ≡ true →
+two_numbers : (c : Setting) (op : Op) (t u w : CellType) (r p : Range) → (is_type t types.Int && is_type u types.Int) ≡ true → suits t r ≡ true → suits u p ≡ true →
     (suits types.Int r ≡ true → suits types.Int p ≡ true → OpFound c op types.Int types.Int w r p) → OpFound c op t u w r p
 two_numbers c op t u w r p h l m go =
-    let a = and_parts (ty_eq t types.Int) (ty_eq u types.Int) h in
+    let a = and_parts (is_type t types.Int) (is_type u types.Int) h in
     let t_is = ty_is t types.Int a.0 in
     let u_is = ty_is u types.Int a.1 in
     subst (λ x. OpFound c op x u w r p) (sym t_is) (subst (λ x. OpFound c op types.Int x w r p) (sym u_is) (go (ap (λ x. suits x r) (sym t_is) ∙ l) (ap (λ x. suits x p) (sym u_is) ∙ m)))
 
-two_alike : (c : Setting) (op : Op) (t u w : CellType) (r p : Range) → ty_eq t u ≡ true → suits t r ≡ true → suits u p ≡ true → (suits t p ≡ true → OpFound c op t t w r p) → OpFound c op t u w r p
+two_alike : (c : Setting) (op : Op) (t u w : CellType) (r p : Range) → is_type t u ≡ true → suits t r ≡ true → suits u p ≡ true → (suits t p ≡ true → OpFound c op t t w r p) → OpFound c op t u w r p
 two_alike c op t u w r p h l m go =
     let is = ty_is t u h in
     subst (λ x. OpFound c op t x w r p) is (go (ap (λ x. suits x p) is ∙ m))
 
 -- the types that an operator takes, and the one that it gives
 abbrev pub op_typed : Op → CellType → CellType → Bool
-op_typed Eq t u = ty_eq t u
-op_typed Ne t u = ty_eq t u
-op_typed op t u = ty_eq t types.Int && ty_eq u types.Int
+op_typed Eq t u = is_type t u
+op_typed Ne t u = is_type t u
+op_typed op t u = is_type t types.Int && is_type u types.Int
 
 abbrev pub result_of : Op → CellType
 result_of Add = types.Int

@@ -11,7 +11,7 @@ use Rattle.wsm_record.specs.declared.words.CellType.TheVariants as types
 use Rattle.wsm_bytecode.specs.declared.instr.Instr.TheVariants as instr
 use Rattle.wsm_bytecode.specs.declared.instr.SectionId.TheVariants.{Update}
 use Rattle.wsm_bytecode.specs.declared.program.Budget.{Budget as Stated}
-use Rattle.wsm_bytecode.specs.Program.{kind_type}
+use Rattle.wsm_record.specs.Types.{kind_type}
 use Rattle.wsm_machine.specs.declared.outcome.Trap.TheVariants.{Underflow, WrongType, FoldTwice}
 use Rattle.wsm_machine.specs.declared.run.Ran.{Ran}
 use Rattle.wsm_machine.specs.Inputs.{Inputs}
@@ -19,7 +19,6 @@ use Rattle.wsm_machine.specs.Step.{Setting, setting, State, Goes, step, unless, 
 use Rattle.wsm_machine.specs.Run.{run_at}
 use Rattle.wsm_query.specs.Tree.{Query}
 use Rattle.wsm_record.specs.declared.words.CellType.{CellType}
-use Rattle.wsm_check.specs.Types.{operand_ty}
 use Rattle.wsm_check.specs.declared.types.Around.TheVariants.{InAggregate}
 use Rattle.wsm_check.specs.Sizes.{Acc, accumulators, accumulators_of, size, need, folds_size, need_of_folds}
 use Rattle.wsm_compiler.specs.Meaning.{Scene, on_record}
@@ -60,7 +59,7 @@ kind_at : (before accs : List Acc) (acc : Acc) → slice_get (map (λ acc. acc.k
 kind_at [] accs acc = refl
 kind_at (x ∷ before) accs acc = kind_at before accs acc
 
-folds_type : (kind : Kind) (v : Value) → of_ty (operand_ty kind) (Some v) ≡ true → is_type (kind_type kind) (type_of (cell (operand_ty kind) v)) ≡ true
+folds_type : (kind : Kind) (v : Value) → of_ty (kind_type kind) (Some v) ≡ true → is_type (kind_type kind) (type_of (cell (kind_type kind) v)) ≡ true
 folds_type Sum (Int n) h = refl
 folds_type Sum (Truth' b) h = no h
 folds_type Sum (Enum i) h = no h
@@ -120,18 +119,18 @@ module _ (q : Query) (b : Stated) (d : Inputs) (fit : record_fits q d ≡ true) 
   none_inside accs e = no (ap in_column e)
 
   -- a fold takes the value on top into its accumulator
-  fold_step : (k : ℕ) (vs : List Value) (n a : ℕ) (kind : Kind) (v : Value) → length vs ≡ a → of_ty (operand_ty kind) (Some v) ≡ true → slice_get c.code k ≡ Some (instr.Fold a) → slice_get c.kinds a ≡ Some kind →
-      Gives c (state k (cell (operand_ty kind) v ∷ []) (held vs (suc n))) (Some (state (k + 1) [] (held (vs ++ v ∷ []) n)))
+  fold_step : (k : ℕ) (vs : List Value) (n a : ℕ) (kind : Kind) (v : Value) → length vs ≡ a → of_ty (kind_type kind) (Some v) ≡ true → slice_get c.code k ≡ Some (instr.Fold a) → slice_get c.kinds a ≡ Some kind →
+      Gives c (state k (cell (kind_type kind) v ∷ []) (held vs (suc n))) (Some (state (k + 1) [] (held (vs ++ v ∷ []) n)))
   fold_step k vs n a kind v l has at is =
       let done = map (λ (v : Value). Some v) vs in
       let rest : List (Option Value) = replicate n None in
-      let x = cell (operand_ty kind) v in
+      let x = cell (kind_type kind) v in
       let m = state k (x ∷ []) (done ++ None ∷ rest) in
       let place : a ≡ length done = sym (length-map vs (λ (v : Value). Some v) ∙ l) in
       let set = slice_set (done ++ None ∷ rest) (length done) (Some (value_of x)) in
       let taken : is_type (unwrap_or (option_map kind_type (slice_get c.kinds (length done))) types.Int) (type_of x) ≡ true =
       ap (λ o. is_type (unwrap_or (option_map kind_type o) types.Int) (type_of x)) (subst (λ p. slice_get c.kinds p ≡ Some kind) place is) ∙ folds_type kind v has in
-      let next : set ≡ (done ++ Some v ∷ []) ++ rest = ap (λ w. slice_set (done ++ None ∷ rest) (length done) (Some w)) (value_is (operand_ty kind) v) ∙ set_at done rest v in
+      let next : set ≡ (done ++ Some v ∷ []) ++ rest = ap (λ w. slice_set (done ++ None ∷ rest) (length done) (Some w)) (value_is (kind_type kind) v) ∙ set_at done rest v in
       let goes : step c m (instr.Fold (length done)) ≡ Goes (state (k + 1) [] set) =
       (λ i. unless (cond (has_one 0 i) (Some Underflow) (cond (not (taken i)) (Some WrongType) (cond (unfolded_at done rest i) (Some FoldTwice) None))) (Goes (state (k + 1) [] set))) in
       subst (λ fs. Gives c m (Some (state (k + 1) [] fs))) (next ∙ ap (λ fs. fs ++ rest) (sym (map-append vs (v ∷ []))))
@@ -145,7 +144,7 @@ module _ (q : Query) (b : Stated) (d : Inputs) (fit : record_fits q d ≡ true) 
       (ap (λ (r : Ran). r.outcome) r, ap (λ (r : Ran). r.stack) r, ap (λ (r : Ran). r.folds) r ∙ nil_right (map (λ (v : Value). Some v) vs) ∙ ap (map (λ (v : Value). Some v)) (sym (nil_right vs)))
   folds_run k before (acc ∷ accs) vs e l h at inside room =
       let y = acc.operand in
-      let t = operand_ty acc.kind in
+      let t = kind_type acc.kind in
       let a = length before in
       let j = k + size y in
       let parts = split_code q c.code k 0 y (instr.Fold a ∷ folds q (j + 1) (suc a) accs) at in
@@ -166,15 +165,15 @@ module _ (q : Query) (b : Stated) (d : Inputs) (fit : record_fits q d ≡ true) 
       rest_room : (l m : ℕ) → max l m ≤ 32 → m ≤ 32
       rest_room l m h = omega (arith, h)
 
-      by_value : (k j : ℕ) (vs : List Value) (n : ℕ) (acc : Acc) (rest : Option (List Value)) (o : Option Value) → of_ty (operand_ty acc.kind) o ≡ true →
-          Gives c (state k [] (held vs (suc n))) (topped j [] (held vs (suc n)) (operand_ty acc.kind) o) →
-          ((v : Value) → of_ty (operand_ty acc.kind) (Some v) ≡ true →
-          Gives c (state j (cell (operand_ty acc.kind) v ∷ []) (held vs (suc n))) (Some (state (j + 1) [] (held (vs ++ v ∷ []) n))) × Folds (run_at c (state (j + 1) [] (held (vs ++ v ∷ []) n))) (with_front (vs ++ v ∷ []) rest)) →
+      by_value : (k j : ℕ) (vs : List Value) (n : ℕ) (acc : Acc) (rest : Option (List Value)) (o : Option Value) → of_ty (kind_type acc.kind) o ≡ true →
+          Gives c (state k [] (held vs (suc n))) (topped j [] (held vs (suc n)) (kind_type acc.kind) o) →
+          ((v : Value) → of_ty (kind_type acc.kind) (Some v) ≡ true →
+          Gives c (state j (cell (kind_type acc.kind) v ∷ []) (held vs (suc n))) (Some (state (j + 1) [] (held (vs ++ v ∷ []) n))) × Folds (run_at c (state (j + 1) [] (held (vs ++ v ∷ []) n))) (with_front (vs ++ v ∷ []) rest)) →
           Folds (run_at c (state k [] (held vs (suc n)))) (with_front vs (elim o [ None ↦ None | Some v ↦ elim rest [ None ↦ None | Some xs ↦ Some (v ∷ xs) ] ]))
       by_value k j vs n acc rest None has g go = g
       by_value k j vs n acc rest (Some v) has g go =
           let st = state k [] (held vs (suc n)) in
-          let m = state j (cell (operand_ty acc.kind) v ∷ []) (held vs (suc n)) in
+          let m = state j (cell (kind_type acc.kind) v ∷ []) (held vs (suc n)) in
           let u = state (j + 1) [] (held (vs ++ v ∷ []) n) in
           let p = go v has in
           folds_behind c st u (with_front vs (one_more v rest)) (gives_on c st m (Some u) g p.0) (subst (λ o. Folds (run_at c u) o) (front_moved vs v rest) p.1)

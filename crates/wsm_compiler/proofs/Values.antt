@@ -12,7 +12,8 @@ use Rattle.wsm_query.specs.Tree.{Query, Expr, Number, Truth, Field, EnumName, Ke
 use Rattle.wsm_check.specs.Names.{field_names, field_place, type_of, names_of}
 use Rattle.wsm_record.specs.declared.words.CellType.{CellType}
 use Rattle.wsm_record.specs.declared.words.CellType.TheVariants as types
-use Rattle.wsm_check.specs.Types.{ty_eq, operand_ty, op_ty, typed}
+use Rattle.wsm_record.specs.Types.{is_type, kind_type}
+use Rattle.wsm_check.specs.Types.{op_ty, typed}
 use Rattle.wsm_check.specs.declared.types.Around.{Around}
 use Rattle.wsm_check.specs.declared.types.Around.TheVariants.{InAggregate}
 use Rattle.wsm_check.specs.Sizes.{Acc, accumulators_of, aggregates}
@@ -73,18 +74,18 @@ numbers_have Gt x y = refl
 numbers_have Ge x y = refl
 
 -- an operator on values that are no numbers
-not_numbers : (op : Op) (t u : CellType) (b : Bool) → ty_eq t types.Int ≡ false → op_typed op t u ≡ true → of_ty (result_of op) (on_same op b) ≡ true
+not_numbers : (op : Op) (t u : CellType) (b : Bool) → is_type t types.Int ≡ false → op_typed op t u ≡ true → of_ty (result_of op) (on_same op b) ≡ true
 not_numbers Eq t u b n h = refl
 not_numbers Ne t u b n h = refl
-not_numbers Add t u b n h = no (sym (ap (λ x. x && ty_eq u types.Int) n) ∙ h)
-not_numbers Sub t u b n h = no (sym (ap (λ x. x && ty_eq u types.Int) n) ∙ h)
-not_numbers Mul t u b n h = no (sym (ap (λ x. x && ty_eq u types.Int) n) ∙ h)
-not_numbers Div t u b n h = no (sym (ap (λ x. x && ty_eq u types.Int) n) ∙ h)
-not_numbers Rem t u b n h = no (sym (ap (λ x. x && ty_eq u types.Int) n) ∙ h)
-not_numbers Lt t u b n h = no (sym (ap (λ x. x && ty_eq u types.Int) n) ∙ h)
-not_numbers Le t u b n h = no (sym (ap (λ x. x && ty_eq u types.Int) n) ∙ h)
-not_numbers Gt t u b n h = no (sym (ap (λ x. x && ty_eq u types.Int) n) ∙ h)
-not_numbers Ge t u b n h = no (sym (ap (λ x. x && ty_eq u types.Int) n) ∙ h)
+not_numbers Add t u b n h = no (sym (ap (λ x. x && is_type u types.Int) n) ∙ h)
+not_numbers Sub t u b n h = no (sym (ap (λ x. x && is_type u types.Int) n) ∙ h)
+not_numbers Mul t u b n h = no (sym (ap (λ x. x && is_type u types.Int) n) ∙ h)
+not_numbers Div t u b n h = no (sym (ap (λ x. x && is_type u types.Int) n) ∙ h)
+not_numbers Rem t u b n h = no (sym (ap (λ x. x && is_type u types.Int) n) ∙ h)
+not_numbers Lt t u b n h = no (sym (ap (λ x. x && is_type u types.Int) n) ∙ h)
+not_numbers Le t u b n h = no (sym (ap (λ x. x && is_type u types.Int) n) ∙ h)
+not_numbers Gt t u b n h = no (sym (ap (λ x. x && is_type u types.Int) n) ∙ h)
+not_numbers Ge t u b n h = no (sym (ap (λ x. x && is_type u types.Int) n) ∙ h)
 
 two_have : (op : Op) (t u : CellType) (v w : Value) → op_typed op t u ≡ true → of_ty t (Some v) ≡ true → of_ty u (Some w) ≡ true → of_ty (result_of op) (on_two op v w) ≡ true
 two_have op t u (Int x) (Int y) h l m = numbers_have op x y
@@ -142,11 +143,11 @@ value_has c q around s serves a Count t h accs =
     at_type (bounded_from q s a Count) types.Int t (ok_is _ t e.1) (kept_has types.Int s.count (ap (of_ty types.Int) (serves.count e.0)))
 value_has c q around s serves a (Aggregate kind e) t h accs =
     let i = entered_is around _ t h in
-    let u = unary_is q InAggregate e (operand_ty kind) t i.1 in
+    let u = unary_is q InAggregate e (kind_type kind) t i.1 in
     let first : a + 0 ≡ a = omega arith in
     let g = accs i.0 0 (record { kind = kind; operand = e }) refl in
-    at_type (bounded_from q s a (Aggregate kind e)) (operand_ty kind) t u.1
-    (kept_has (operand_ty kind) (s.aggregate a kind e) (ap (λ n. of_ty (operand_ty kind) (s.aggregate n kind e)) (sym first) ∙ ap (of_ty (operand_ty kind)) g.1 ∙ g.2))
+    at_type (bounded_from q s a (Aggregate kind e)) (kind_type kind) t u.1
+    (kept_has (kind_type kind) (s.aggregate a kind e) (ap (λ n. of_ty (kind_type kind) (s.aggregate n kind e)) (sym first) ∙ ap (of_ty (kind_type kind)) g.1 ∙ g.2))
 value_has c q around s serves a (If b x y) t h accs =
     let p = if_types q around b x y t h in
     let rest = serves_right c around s a b (accumulators_of x ++ accumulators_of y) accs in

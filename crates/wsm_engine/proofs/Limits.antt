@@ -2,11 +2,9 @@
 use Rattle.std.proofs.Common.{◌≡◌, ℕ, ◌*◌, ◌≤◌, true, length, sym, subst, ◌∙◌, pos, Ok, IsTrue, arith}
 use Rattle.std.proofs.lemmas.Bool.{and_parts}
 use Rattle.std.proofs.lemmas.Int.{ints}
-use Rattle.std.proofs.lemmas.Bool.Decides.{nat_tests}
 use Rattle.wsm_windows.specs.Life.{live_bound}
 use Rattle.wsm_admission.specs.Clock.{IsWithinLimits}
 use Rattle.wsm_semantics.specs.HeldBounds.{most_panes}
-use Rattle.wsm_record.specs.Name.{is_between}
 use Rattle.wsm_bytecode.specs.Program.{Header, Program, is_within, is_schema, is_clock, is_firing, is_row, is_budget, is_stated, is_header, is_program, latest_time}
 use Rattle.wsm_bytecode.proofs.TakenParts.{at_most}
 use Rattle.wsm_verifier.specs.declared.costs.Costs.{Costs}

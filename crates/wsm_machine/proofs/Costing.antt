@@ -2,9 +2,8 @@
 -- firing at most as many as it states for a pane.
 use Rattle.std.proofs.Common.{◌≡◌, ℕ, zero, suc, ◌+◌, ◌-◌, ◌*◌, ◌/◌, ◌%◌, ◌<◌, ◌≤◌, min, Bool, true, false, cond, List, [], ◌∷◌, length, ℤ, None, Ok, IsTrue, refl, sym, ap, subst, ◌∙◌, arith, length-append}
 use Rattle.std.proofs.lemmas.Int.{ints}
-use Rattle.std.proofs.lemmas.Bool.Decides.{nat_tests}
 use Rattle.std.proofs.Math.Nat.{div-lt_iff_lt-mul, div-add-mod'}
-use Rattle.std.specs.Prelude.{◌-ℤ◌, filter, nat_lt, unsigned_abs, option_map}
+use Rattle.std.specs.Prelude.{◌-ℤ◌, filter, unsigned_abs, option_map}
 use Rattle.std.specs.Int.{div_ceil}
 use Rattle.std.proofs.lemmas.Bool.{ltb-false}
 use Rattle.wsm_record.specs.declared.event.Value.{Value}

@@ -1,13 +1,11 @@
 -- What the cost of a record counts of sessions is what it counts of the panes that are held.
-use Rattle.std.proofs.Common.{◌≡◌, ℕ, true, false, List, ◌∷◌, length, ℤ, Option, Some, None, IsTrue, refl, sym, ap}
-use Rattle.std.proofs.lemmas.Bool.{true≢false}
-use Rattle.std.specs.Prelude.{nat_lt, is_none}
+use Rattle.std.proofs.Common.{◌≡◌, ℕ, true, false, List, ◌∷◌, length, ℤ, Some, IsTrue, refl, sym, ap}
+use Rattle.std.specs.Prelude.{nat_lt}
 use Rattle.wsm_record.specs.declared.event.Value.{Value}
 use Rattle.wsm_record.specs.Event.{Event, Record}
 use Rattle.wsm_windows.specs.declared.window.Shape.{Shape}
 use Rattle.wsm_windows.specs.declared.window.Shape.TheVariants.{Fixed, Sliding, Session}
 use Rattle.wsm_windows.specs.Windows.{IsShape, windows_of_shape}
-use Rattle.wsm_admission.specs.declared.verdict.Refusal.{Refusal}
 use Rattle.wsm_admission.specs.Clock.{admitted_count, is_late}
 use Rattle.wsm_admission.proofs.Taken.{taken_record}
 use Rattle.wsm_semantics.specs.Query.{Query, Datum, mark, verdict_on, is_taken, selected}

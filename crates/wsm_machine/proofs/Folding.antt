@@ -1,10 +1,10 @@
 -- What a run folds lies in the hull of what its section folds.
 use Rattle.std.proofs.Common.{◌≡◌, ℕ, zero, suc, ◌+◌, true, cond, ◌⊎◌, inl, inr, List, [], ◌∷◌, ◌++◌, length, map, take, Option, Some, None, refl, sym, subst, ap, ◌∙◌, arith}
-use Rattle.std.specs.Prelude.{slice_get, slice_set, ℤ, int_le, ◌≤ℤ◌}
+use Rattle.std.specs.Prelude.{slice_get, slice_set, ℤ}
 use Rattle.std.proofs.lemmas.Bool.{and_from, not-false}
 use Rattle.std.proofs.lemmas.Option.{same_Some}
 use Rattle.wsm_interval.specs.declared.Interval.{Interval}
-use Rattle.wsm_interval.specs.Interval.{Holds, holds, hull}
+use Rattle.wsm_interval.specs.Interval.{Holds, hull}
 use Rattle.wsm_interval.proofs.Holding.{hull_holds_left, hull_holds_right}
 use Rattle.wsm_record.specs.declared.event.Value.{Value}
 use Rattle.wsm_record.specs.declared.event.Value.TheVariants as values

@@ -2,3 +2,4 @@ pub mod Name
 pub mod Schema
 pub mod Event
 pub mod Fields
+pub mod Types
