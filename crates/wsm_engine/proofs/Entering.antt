@@ -1,35 +1,40 @@
 -- A selected record can be put in: there is room, and every sum stays in 64 bits.
-use Rattle.std.proofs.Common.{◌≡◌, ℕ, suc, ◌+◌, ◌*◌, ◌≤◌, ◌<◌, ◌^◌, true, ◌&&◌, List, [], ◌∷◌, map, length, ℤ, pos, ◌≤ℤ◌, Option, Some, None, Ok, IsTrue, refl, sym, ap, subst, ◌∙◌, arith}
+use Rattle.std.proofs.Common.{◌≡◌, ◌≢◌, ℕ, suc, ◌+◌, ◌*◌, ◌≤◌, ◌<◌, ◌^◌, true, ◌&&◌, List, [], ◌∷◌, map, length, ℤ, pos, ◌+ℤ◌, ◌-ℤ◌, ◌≤ℤ◌, Option, Some, None, Ok, IsTrue, refl, sym, ap, subst, ◌∙◌, arith}
 use Rattle.std.proofs.lemmas.Int.{ints}
 use Rattle.std.proofs.lemmas.Bool.{and_parts, ltb-true}
-use Rattle.std.specs.Prelude.{filter, nat_eq, nat_lt, IfSome}
+use Rattle.std.specs.Prelude.{filter, nat_eq, nat_lt, unsigned_abs, IfSome}
+use Rattle.std.specs.Int.{div_ceil}
+use Rattle.std.proofs.lemmas.Nat.{mul-le}
 use Rattle.std.specs.List.{AllByRecursion}
 use Rattle.wsm_record.specs.declared.event.Value.{Value}
 use Rattle.wsm_record.specs.declared.words.Kind.{Kind}
 use Rattle.wsm_record.specs.Event.{Event, Record}
 use Rattle.wsm_windows.specs.declared.window.Shape.{Shape}
-use Rattle.wsm_windows.specs.declared.window.Shape.TheVariants.{Session}
+use Rattle.wsm_windows.specs.declared.window.Shape.TheVariants.{Fixed, Sliding, Session}
 use Rattle.wsm_windows.specs.Life.{live_bound}
-use Rattle.wsm_windows.specs.Windows.{IsTime}
+use Rattle.wsm_windows.specs.Windows.{IsShape, IsTime, IsWindowOfShape, period_of, size_of}
 use Rattle.wsm_interval.specs.Interval.{interval, holds}
 use Rattle.wsm_admission.proofs.Taken.{IsTaken, taken_record}
 use Rattle.wsm_fold.specs.Fold.{are_of_kinds, is_of_kind, joins}
 use Rattle.wsm_fold.specs.Accumulators.{SumsFit}
 use Rattle.wsm_semantics.specs.declared.place.Place.{Place}
 use Rattle.wsm_semantics.specs.Query.{Query, Datum, mark, verdict_on}
-use Rattle.wsm_semantics.specs.Panes.{held}
+use Rattle.wsm_semantics.specs.Panes.{held, window_of}
 use Rattle.wsm_semantics.specs.HeldBounds.{most_panes}
 use Rattle.wsm_semantics.specs.Kept as kept
 use Rattle.wsm_semantics.specs.Kept.{Kept, kept_in, is_linked}
 use Rattle.wsm_semantics.specs.Summaries.{Pane, fired_count, linked, entered, joined, joined_folds, summaries, pane_of}
 use Rattle.wsm_semantics.specs.HeldRecords.{AtMost, total}
 use Rattle.wsm_semantics.specs.Replay.{datum}
-use Rattle.wsm_semantics.proofs.Lists.{length_each, filter-all}
-use Rattle.wsm_semantics.proofs.Each.{all-both, filter-map}
+use Rattle.wsm_semantics.proofs.Lists.{length_each, filter-all, all-each}
+use Rattle.wsm_semantics.proofs.Each.{all-both, filter-map, map-all}
 use Rattle.wsm_semantics.proofs.Images.{entered-summaries, where-summaries}
 use Rattle.wsm_semantics.proofs.Turnless as turnless
 use Rattle.wsm_semantics.proofs.KeptLaw.{enters}
+use Rattle.wsm_semantics.proofs.Assigned.{IsAssigned}
+use Rattle.wsm_semantics.proofs.AssignedStep.{grid_of}
 use Rattle.wsm_semantics.proofs.HeldBound.{held_at_key, held_bounded}
+use Rattle.wsm_semantics.proofs.HeldPanes.{IsHeldPane, held_panes}
 use Rattle.wsm_semantics.proofs.SelectedRecords.{a_time}
 use Rattle.wsm_semantics.proofs.HeldRecords.{each_of, total-where}
 use Rattle.wsm_bytecode.specs.declared.instr.SectionId.TheVariants.{Fire}
@@ -45,8 +50,12 @@ use Rattle.wsm_machine.proofs.Holding.{joined_all_sound}
 use Rattle.wsm_machine.proofs.SoundSteps.{record_in_range, room_for_record, all_can_fire, joins_fit}
 use Rattle.wsm_machine.proofs.Telling.{pane_fits}
 use Rattle.wsm_machine.proofs.Sounding.{row_folded, may_fire}
-use Rattle.wsm_panes.specs.Held.{Held, entries_of, taking, with_entered, CanTake, IsRoomy, CanEnter}
-use Rattle.wsm_engine.proofs.Limits.{clock_within}
+use Rattle.wsm_panes.specs.declared.ring.Ring.{Ring}
+use Rattle.wsm_panes.specs.Held.{Held, entries_of, ring_of, taking, with_entered, CanTake, IsRoomy, CanEnter}
+use Rattle.wsm_panes.specs.Ring.{IsNear, IsOfRing, IsRing, LieInRing}
+use Rattle.wsm_panes.proofs.Live.{held_near, some_live}
+use Rattle.wsm_panes.proofs.Rings.{grid_start}
+use Rattle.wsm_engine.proofs.Limits.{clock_within, panes_few}
 use Rattle.wsm_engine.proofs.Agreeing.{entered_same}
 use Rattle.wsm_engine.proofs.Holding.{Panes, admitted, kept_panes, kept_sound, admitted_few}
 
@@ -64,6 +73,24 @@ accs_types p a (k ∷ ks) (v ∷ vs) h =
 fire_types : (p : Program) (key n : ℕ) (held : List Value) → IsTrue (in_range p Fire (pane_inputs key n held)) → IsTrue (are_of_kinds p.header.kinds held)
 fire_types p key n held h =
     accs_types p 0 p.header.kinds held (and_parts (holds (interval (pos 1) p.header.records) (pos n)) _ (and_parts (nat_lt key (length p.header.schema.keys)) _ h).1).1
+
+-- ---- shapes whose windows lie on a grid
+
+is_assigned : (shape : Shape) → ((gap : ℤ) → shape ≢ Session gap) → IsAssigned shape
+is_assigned (Fixed size) grid = tt
+is_assigned (Sliding size period) grid = tt
+is_assigned (Session gap) grid = absurd (grid gap refl)
+
+grid_bound : (shape : Shape) (skew late : ℤ) → ((gap : ℤ) → shape ≢ Session gap) → live_bound shape skew late ≡ div_ceil (unsigned_abs ((skew +ℤ late) +ℤ size_of shape)) (unsigned_abs (period_of shape))
+grid_bound (Fixed size) skew late grid = refl
+grid_bound (Sliding size period) skew late grid = refl
+grid_bound (Session gap) skew late grid = absurd (grid gap refl)
+
+of_ring : (shape : Shape) → IsShape shape → ((gap : ℤ) → shape ≢ Session gap) → (keys live : ℕ) (r : Place) → r.key < keys → (u : ℤ) → IsWindowOfShape shape u (window_of r)
+    → IsOfRing (record { size = size_of shape; period = period_of shape; keys = keys; bound = live }) r
+of_ring (Fixed size) ok grid keys live r key u w = record { key = key; start = grid_start r.start w.k size ok.period_low w.start; end = w.end }
+of_ring (Sliding size period) ok grid keys live r key u w = record { key = key; start = grid_start r.start w.k period ok.period_low w.start; end = w.end }
+of_ring (Session gap) ok grid keys live r key u w = absurd (grid gap refl)
 
 module _ (p : Program) (costs : Costs) (judged : judge p ≡ Ok costs) (lawful : IsTrue (is_program p)) (past : List Event)
     (k : ℕ) (t : ℤ) (vs : List Value) (taken : verdict_on (query_of p) past (Record (Some k) t vs) ≡ None) where
@@ -180,9 +207,64 @@ module _ (p : Program) (costs : Costs) (judged : judge p ≡ Ok costs) (lawful :
         ))
         (held_at_key q (program_lawful p lawful).shape (clock_within p lawful) (e ∷ past) k)
 
+    -- ---- where windows lie on a grid
+
+    -- the ring for the windows that can be live
+    abbrev ring : Ring
+    ring = record { size = size_of p.header.shape; period = period_of p.header.shape; keys = length p.header.schema.keys; bound = live_bound p.header.shape p.header.skew p.header.lateness }
+
+    module _ (grid : (gap : ℤ) → p.header.shape ≢ Session gap) where
+      ok : IsShape p.header.shape
+      ok = (program_lawful p lawful).shape
+
+      abbrev span : ℕ
+      span = unsigned_abs ((p.header.skew +ℤ p.header.lateness) +ℤ size_of p.header.shape)
+
+      enough : ring.bound ≡ div_ceil span (unsigned_abs ring.period)
+      enough = grid_bound p.header.shape p.header.skew p.header.lateness grid
+
+      is_ring : IsRing ring
+      is_ring =
+          let is = program_lawful p lawful in
+          let live : 1 ≤ ring.bound = some_live span (unsigned_abs ring.period) ring.bound (omega (arith, ints, ok.period_low)) (omega (arith, ints, ok.period_low, ok.period_high, is.skew.low, is.lateness.low)) enough in
+          let keys : 1 ≤ ring.keys = omega (arith, declared) in
+          let all : ring.keys * ring.bound ≤ 100000 = panes_few p costs judged lawful in
+          let some : 1 * ring.bound ≤ ring.keys * ring.bound = mul-le 1 ring.bound ring.keys ring.bound keys (omega arith) in
+          record {
+            period_low = ok.period_low;
+            period_high = ok.period_high;
+            keys = keys;
+            bound = live;
+            windows = omega (arith, some, all);
+            slots = omega (arith, all);
+          }
+
+      abbrev low : ℤ
+      low = ((mark q (e ∷ past) -ℤ p.header.lateness) -ℤ size_of p.header.shape) +ℤ pos 1
+
+      near_place : (x : Place × List Datum) → IsHeldPane q (e ∷ past) x → IsNear ring low x.0
+      near_place x pane =
+          let assigned : IsAssigned q.shape = is_assigned p.header.shape grid in
+          let (u, window) = grid_of q ok assigned (e ∷ past) x.0 pane.placed in
+          held_near ring p.header.skew p.header.lateness (mark q (e ∷ past)) ok.period_low enough x.0
+          (of_ring p.header.shape ok grid ring.keys ring.bound x.0 pane.key u window)
+          (record { live = pane.live; near = pane.near })
+
+      lie_near : AllByRecursion (λ x. IsNear ring low x.0) now
+      lie_near =
+          let Near : Place × Pane (List Value) → Type 0 = λ x. IsNear ring low x.0 in
+          subst (AllByRecursion Near) (sym now_held)
+          (map-all Near _ (map (kept_in q past) (held q (e ∷ past)))
+          (map-all _ (kept_in q past) (held q (e ∷ past))
+          (all-each (IsHeldPane q (e ∷ past)) _ (held q (e ∷ past)) (λ x pane. near_place x pane) (held_panes q ok (e ∷ past)))))
+
+      pub lie_in_ring : LieInRing ring now
+      lie_in_ring = record { ring = is_ring; low = low; near = lie_near }
+
     pub can_enter : (h : Held) → h.keys ≡ length p.header.schema.keys → h.shape ≡ p.header.shape → h.live ≡ live_bound p.header.shape p.header.skew p.header.lateness → entries_of h ≡ es
         → CanEnter h p.header.kinds k t (updated p k vs)
     can_enter h keys shape live is =
+        let same_ring : ring_of h ≡ ring = λ i. record { size = size_of (shape i); period = period_of (shape i); keys = keys i; bound = live i } in
         let with : with_entered p.header.kinds k t (updated p k vs) h ≡ now = (λ i. entered (taking p.header.kinds (updated p k vs)) (shape i) (datum 0 k t []) (is i)) ∙ entered_same p k t vs p.header.shape es in
         record {
           declared = subst (λ m. k < m) (sym keys) declared;
@@ -191,6 +273,7 @@ module _ (p : Program) (costs : Costs) (judged : judge p ≡ Ok costs) (lawful :
           types = types;
           room = subst (λ xs. length xs ≤ h.keys * h.live) (sym with) (subst (λ m. length now ≤ m * h.live) (sym keys) (subst (λ m. length now ≤ length p.header.schema.keys * m) (sym live) now_within));
           live = subst (λ xs. length (filter (λ x. nat_eq x.0.key k) xs) ≤ h.live) (sym with) (subst (λ m. length (filter (λ x. nat_eq x.0.key k) now) ≤ m) (sym live) of_key);
+          apart = λ grid. subst (λ xs. LieInRing (ring_of h) xs) (sym with) (subst (λ (r : Ring). LieInRing r now) (sym same_ring) (lie_in_ring (λ gap is. grid gap (shape ∙ is))));
           panes = subst (AllByRecursion (IsRoomy p.header.kinds (updated p k vs))) (sym is) roomy;
           joins = λ gap session x y rest linked xs ys ex fy. joinable gap (sym shape ∙ session) x y rest (ap (linked_by gap) (sym is) ∙ linked) xs ys ex fy;
         }

@@ -1,4 +1,5 @@
--- Live windows of a ring never share a row of slots, so the slot of a live place is free or its own.
+-- Windows of a ring that start near one another never share a row of slots, so the slot of such a place
+-- is free or its own.
 use Rattle.std.proofs.Common.{◌≡◌, ◌≢◌, ℕ, zero, suc, ◌+◌, ◌*◌, ◌/◌, ◌%◌, ◌<◌, ◌≤◌, Option, Some, None, min, ℤ, pos, negsuc, ◌+ℤ◌, ◌-ℤ◌, ◌*ℤ◌, ◌<ℤ◌, ◌≤ℤ◌, refl, sym, ap, ◌∙◌, inl, inr, arith}
 use Rattle.std.specs.Prelude.{unsigned_abs}
 use Rattle.std.specs.Option.{is_some}
@@ -13,7 +14,8 @@ use Rattle.wsm_semantics.specs.declared.place.Place.{Place}
 use Rattle.wsm_semantics.specs.Panes.{window_of}
 use Rattle.wsm_panes.specs.declared.ring.Ring.{Ring}
 use Rattle.wsm_panes.specs.Place.{place_cmp}
-use Rattle.wsm_panes.specs.Ring.{IsRing, IsOfRing, RingAdmits, window_number, slot_of}
+use Rattle.wsm_panes.specs.Ring.{IsRing, IsNear, IsOfRing, RingAdmits, window_number, slot_of}
+use Rattle.wsm_panes.proofs.RingWalk.{same_start_key}
 use Rattle.wsm_panes.proofs.Rings.{quot_rem, next_on_grid}
 use Rattle.wsm_windows.proofs.Multiples.{rem_below, times_more}
 
@@ -66,15 +68,6 @@ one_start p b m n v w h k e f same le near =
     let number : m ≡ n = rem_apart b m n k same (rising_numbers p m n v w h e f le) (near_numbers p b m n v w e f near) in
     e ∙ ap (λ (z : ℤ). z *ℤ pos p) number ∙ sym f
 
--- the bound of live windows: as many periods as cover skew, lateness and size
-abbrev pub IsLiveBound : Ring → ℤ → ℤ → Type 0
-IsLiveBound r skew lateness = r.bound ≡ div_ceil (unsigned_abs ((skew +ℤ lateness) +ℤ r.size)) (unsigned_abs r.period)
-
-live_span : (size period skew late mark : ℤ) (b : ℕ) (v w : Place) → pos 1 ≤ℤ period → b ≡ div_ceil (unsigned_abs ((skew +ℤ late) +ℤ size)) (unsigned_abs period) → v.end ≡ v.start +ℤ size → IsHeld skew late mark (window_of v) → IsHeld skew late mark (window_of w) → w.start <ℤ (v.start +ℤ pos (b * unsigned_abs period))
-live_span size period skew late mark b v w one is end hv hw =
-    let covers : unsigned_abs ((skew +ℤ late) +ℤ size) ≤ b * unsigned_abs period = rw is (ceil_covers (unsigned_abs ((skew +ℤ late) +ℤ size)) (unsigned_abs period) (omega (arith, ints))) in
-    omega (arith, ints, covers, end, hv.live, hw.near)
-
 one_start_z : (period : ℤ) (b : ℕ) (m n v w : ℤ) → pos 1 ≤ℤ period → 0 < b → v ≡ m *ℤ period → w ≡ n *ℤ period → int_rem_euclid m (pos b) ≡ int_rem_euclid n (pos b) → v ≤ℤ w → w <ℤ (v +ℤ pos (b * unsigned_abs period)) → v ≡ w
 one_start_z (pos p) b m n v w h k e f same le near = one_start p b m n v w (omega (arith, ints)) k e f same le near
 one_start_z (negsuc p) b m n v w h k e f same le near = absurd (omega (arith, ints))
@@ -88,20 +81,15 @@ one_slot r v w is a b same =
     let parts = same_from_place m.0 v.key n.0 w.key r.keys a.key b.key place in
     (m.1 ∙ ap pos parts.0 ∙ sym n.1, parts.1)
 
-same_start : (r : Ring) (v w : Place) → IsOfRing r v → IsOfRing r w → v.start ≡ w.start → v.key ≡ w.key → v ≡ w
-same_start r v w a b start key =
-    let end : v.end ≡ w.end = a.end ∙ ap (λ (s : ℤ). s +ℤ r.size) start ∙ sym b.end in
-    λ i. record { end = end i; start = start i; key = key i }
-
--- live places never share a slot
-pub live_own : (r : Ring) (skew late mark : ℤ) → IsRing r → IsLiveBound r skew late → (v w : Place) → IsOfRing r v → IsOfRing r w → IsHeld skew late mark (window_of v) → IsHeld skew late mark (window_of w) → slot_of r v ≡ slot_of r w → v ≡ w
-live_own r skew late mark is enough v w a b hv hw same =
-    let one = one_slot r v w is a b same in
+-- places near one time never share a slot
+pub near_own : (r : Ring) (low : ℤ) → IsRing r → (v w : Place) → IsNear r low v → IsNear r low w → slot_of r v ≡ slot_of r w → v ≡ w
+near_own r low is v w a b same =
+    let one = one_slot r v w is a.of b.of same in
     let more : 0 < r.bound = omega (arith, is.bound) in
     let start : v.start ≡ w.start = by_lt_z {P = v.start ≡ w.start} w.start v.start
-    (λ less. sym (one_start_z r.period r.bound (window_number r w.start) (window_number r v.start) w.start v.start is.period_low more b.start a.start (sym one.0) (omega (arith, ints, less)) (live_span r.size r.period skew late mark r.bound w v is.period_low enough b.end hw hv)))
-    (λ le. one_start_z r.period r.bound (window_number r v.start) (window_number r w.start) v.start w.start is.period_low more a.start b.start one.0 le (live_span r.size r.period skew late mark r.bound v w is.period_low enough a.end hv hw)) in
-    same_start r v w a b start one.1
+    (λ less. sym (one_start_z r.period r.bound (window_number r w.start) (window_number r v.start) w.start v.start is.period_low more b.of.start a.of.start (sym one.0) (omega (arith, ints, less)) (omega (arith, ints, b.from, a.until))))
+    (λ le. one_start_z r.period r.bound (window_number r v.start) (window_number r w.start) v.start w.start is.period_low more a.of.start b.of.start one.0 le (omega (arith, ints, a.from, b.until))) in
+    same_start_key r v w a.of b.of start one.1
 
 admits_by : {P : Type 0} (r : Ring) (ps : map.FinMap place_cmp P) (p : Place) (o : Option P) → map.get ps p ≡ o → IsOfRing r p → ((q : Place) → slot_of r q ≡ slot_of r p → map.get ps q ≢ None → q ≡ p) → RingAdmits r ps p
 admits_by r ps p (Some v) at of own = (of, inl (ap is_some at))
@@ -110,6 +98,18 @@ admits_by r ps p None at of own = (of, inr (λ q same. none_by ps p q at (own q 
   none_by ps p q at own None is = is
   none_by ps p q at own (Some w) is = ap (map.get ps) (own (λ none. none-some w (sym none ∙ is))) ∙ at
 
--- beside live panes a live place is admitted
-pub live_admits : {P : Type 0} (r : Ring) (skew late mark : ℤ) → IsRing r → IsLiveBound r skew late → (ps : map.FinMap place_cmp P) → ((q : Place) → map.get ps q ≢ None → IsOfRing r q × IsHeld skew late mark (window_of q)) → (p : Place) → IsOfRing r p → IsHeld skew late mark (window_of p) → RingAdmits r ps p
-live_admits r skew late mark is enough ps live p of held = admits_by r ps p (map.get ps p) refl of (λ q same some. let is_live = live q some in live_own r skew late mark is enough q p is_live.0 of is_live.1 held same)
+-- beside places near a time another such place is admitted
+pub near_admits : {P : Type 0} (r : Ring) (low : ℤ) → IsRing r → (ps : map.FinMap place_cmp P) → ((q : Place) → map.get ps q ≢ None → IsNear r low q) → (p : Place) → IsNear r low p → RingAdmits r ps p
+near_admits r low is ps near p at = admits_by r ps p (map.get ps p) refl at.of (λ q same some. near_own r low is q p (near q some) at same)
+
+-- where as many windows have rows as periods cover skew, lateness and size, those that are held lie near
+-- the first time at which one can start
+pub held_near : (r : Ring) (skew late mark : ℤ) → pos 1 ≤ℤ r.period → r.bound ≡ div_ceil (unsigned_abs ((skew +ℤ late) +ℤ r.size)) (unsigned_abs r.period) → (p : Place) → IsOfRing r p → IsHeld skew late mark (window_of p) → IsNear r (((mark -ℤ late) -ℤ r.size) +ℤ pos 1) p
+held_near r skew late mark positive enough p of held =
+    let most : unsigned_abs ((skew +ℤ late) +ℤ r.size) ≤ r.bound * unsigned_abs r.period = rw enough (ceil_covers (unsigned_abs ((skew +ℤ late) +ℤ r.size)) (unsigned_abs r.period) (omega (arith, ints))) in
+    record { of = of; from = omega (arith, ints, of.end, held.live); until = omega (arith, ints, most, held.near) }
+
+-- and at least one window has a row
+pub some_live : (span p b : ℕ) → 0 < p → 1 ≤ span → b ≡ div_ceil span p → 1 ≤ b
+some_live span p zero h some is = let most : span ≤ zero * p = rw is (ceil_covers span p h) in absurd (omega (arith, most, some))
+some_live span p (suc b) h some is = omega arith

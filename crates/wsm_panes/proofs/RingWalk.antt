@@ -18,7 +18,7 @@ use Rattle.wsm_panes.proofs.Rings.{window_less, key_less}
 use Rattle.wsm_panes.proofs.Placed.{panes_in, get_in, pane_here, entry_of}
 use Rattle.wsm_panes.proofs.Least.{least_first, none_first, least_following, none_following}
 
-same_start_key : (r : Ring) (p q : Place) → IsOfRing r p → IsOfRing r q → p.start ≡ q.start → p.key ≡ q.key → p ≡ q
+pub same_start_key : (r : Ring) (p q : Place) → IsOfRing r p → IsOfRing r q → p.start ≡ q.start → p.key ≡ q.key → p ≡ q
 same_start_key r p q a b start key =
     let end : p.end ≡ q.end = a.end ∙ ap (λ (s : ℤ). s +ℤ r.size) start ∙ sym b.end in
     λ i. record { end = end i; start = start i; key = key i }
@@ -97,7 +97,9 @@ module _ {P : Type 0} (r : Ring) (os : List (Option (Place × P))) (placed : Are
       not_below r e.0 q (placed _ e found.0).0 (placed _ (q, there.0) there.1).0
       (found.2 (slot_of r q) (q, there.0) there.1 (from_behind r p q of (placed _ (q, there.0) there.1).0 less))))
 
+  -- a place with a pane has it in its slot
+  pub there_in : (p : Place) → is_some (get (panes_in os) p) ≡ true → (v : P) × (slot_at os (slot_of r p) ≡ Some (p, v))
+  there_in p there = entry_there p (get (panes_in os) p) refl (λ none. let bad : false ≡ true = sym (ap is_some none) ∙ there in cc)
+
   pub of_ring : (p : Place) → is_some (get (panes_in os) p) ≡ true → IsOfRing r p
-  of_ring p there =
-      let at = entry_there p (get (panes_in os) p) refl (λ none. let bad : false ≡ true = sym (ap is_some none) ∙ there in cc) in
-      (placed (slot_of r p) (p, at.0) at.1).0
+  of_ring p there = let at = there_in p there in (placed (slot_of r p) (p, at.0) at.1).0

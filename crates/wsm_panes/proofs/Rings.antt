@@ -6,7 +6,7 @@ use Rattle.std.specs.Option.{SomeIff, option_eq}
 use Rattle.std.specs.Ordering.{int_eq, int_cmp, nat_cmp}
 use Rattle.std.specs.declared.cmp.Ordering.TheVariants.{Less, Equal}
 use lib.Signed.{le_z}
-use Rattle.std.proofs.lemmas.Int.{ints}
+use Rattle.std.proofs.lemmas.Int.{ints, by_lt_z}
 use Rattle.std.proofs.lemmas.Nat.{row_fits}
 use Rattle.std.proofs.lemmas.Bool.Decides.{nat_tests, Decides-like, Decides-int_eq}
 use Rattle.std.proofs.Math.Nat.{div-add-mod'}
@@ -46,6 +46,22 @@ on_grid_pos s p h rem = quot_rem s p h ∙ rw rem (omega (arith, ints))
 pub on_grid : (s p : ℤ) → pos 1 ≤ℤ p → int_rem_euclid s p ≡ pos 0 → s ≡ int_div_euclid s p *ℤ p
 on_grid s (pos p) h rem = on_grid_pos s p (omega (arith, ints)) rem
 on_grid s (negsuc p) h rem = absurd (omega (arith, ints))
+
+grid_start_pos : (s k : ℤ) (p : ℕ) → 0 < p → s ≡ k *ℤ pos p → s ≡ int_div_euclid s (pos p) *ℤ pos p
+grid_start_pos s k p h is =
+    let m = rem_below s p h in
+    let x = int_div_euclid s (pos p) *ℤ pos p in
+    let y = k *ℤ pos p in
+    let whole : s ≡ x +ℤ pos m.0 = quot_rem s p h ∙ ap (λ (r : ℤ). x +ℤ r) m.1 in
+    by_lt_z {P = s ≡ x} x y
+    (λ less. let far : (x +ℤ pos p) ≤ℤ y = next_multiple p (int_div_euclid s (pos p)) k x y refl refl less in
+    absurd (omega (arith, ints, whole, is, far, m.2)))
+    (λ more. omega (arith, ints, whole, is, more))
+
+-- a multiple of the period is one by its number
+pub grid_start : (s k p : ℤ) → pos 1 ≤ℤ p → s ≡ k *ℤ p → s ≡ int_div_euclid s p *ℤ p
+grid_start s k (pos p) h is = grid_start_pos s k p (omega (arith, ints)) is
+grid_start s k (negsuc p) h is = absurd (omega (arith, ints))
 
 int_less : (x y : ℤ) → x <ℤ y → int_cmp x y ≡ Less
 int_less x y h = grind (arith, ints)

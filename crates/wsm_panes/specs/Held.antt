@@ -1,5 +1,5 @@
 -- The panes that are held, and what a record does to them.
-use Rattle.std.specs.Prelude.{◌≡◌, ℕ, ◌+◌, ◌*◌, ◌^◌, ◌≤◌, ◌<◌, Bool, true, IsTrue, List, [], ◌∷◌, length, map as map_list, filter, nat_eq, nat_lt, false, ℤ, pos, Option, Some, None, IfSome, refl}
+use Rattle.std.specs.Prelude.{◌≡◌, ◌≢◌, ℕ, ◌+◌, ◌*◌, ◌^◌, ◌≤◌, ◌<◌, Bool, true, IsTrue, List, [], ◌∷◌, length, map as map_list, filter, nat_eq, nat_lt, false, ℤ, pos, Option, Some, None, IfSome, refl}
 use Rattle.std.specs.List.{AllByRecursion}
 use Rattle.std.specs.Coded.{Coded, code_by, coded×, coded_ℕ}
 use Rattle.std.specs.FinMap as map
@@ -10,7 +10,7 @@ use Rattle.wsm_record.specs.declared.words.Mode.{Mode}
 use Rattle.wsm_windows.specs.declared.window.Window.{Window}
 use Rattle.wsm_windows.specs.declared.window.Shape.{Shape}
 use Rattle.wsm_windows.specs.declared.window.Shape.TheVariants.{Session}
-use Rattle.wsm_windows.specs.Windows.{IsTime}
+use Rattle.wsm_windows.specs.Windows.{IsTime, period_of, size_of}
 use Rattle.wsm_fold.specs.Fold.{are_of_kinds, joins}
 use Rattle.wsm_fold.specs.Accumulators.{SumsFit}
 use Rattle.wsm_semantics.specs.declared.place.Place.{Place}
@@ -20,7 +20,9 @@ use Rattle.wsm_semantics.specs.Query.{Datum}
 use Rattle.wsm_semantics.specs.Panes.{place_cmp, at, window_of}
 use Rattle.wsm_semantics.specs.Replay.{datum}
 use Rattle.wsm_semantics.specs.Summaries.{Plan, Pane, assigned, entered, joined, left_folded, linked, session_with, with_record}
+use Rattle.wsm_panes.specs.declared.ring.Ring.{Ring}
 use Rattle.wsm_panes.specs.Place.{coded_place}
+use Rattle.wsm_panes.specs.Ring.{LieInRing}
 
 -- the panes, for keys of these numbers, with room for so many live windows of each
 pub record Held : Type 0 where
@@ -39,6 +41,10 @@ entries_of h = map.entries h.panes
 
 abbrev pub room_of : Held → ℕ
 room_of h = h.keys * h.live
+
+-- the ring for windows on a grid: a row of slots for as many of them as can be live
+abbrev pub ring_of : Held → Ring
+ring_of h = record { size = size_of h.shape; period = period_of h.shape; keys = h.keys; bound = h.live }
 
 -- the keys, the shape and the room stay
 pub record IsKept (old new : Held) : Type 0 where
@@ -136,6 +142,8 @@ pub record CanEnter (h : Held) (kinds : List Kind) (key : ℕ) (time : ℤ) (val
   pub types : IsTrue (are_of_kinds kinds values)
   pub room : length (with_entered kinds key time values h) ≤ room_of h
   pub live : length (filter (λ e. nat_eq e.0.key key) (with_entered kinds key time values h)) ≤ h.live
+  -- where windows lie on a grid, no two panes that are held with the record share a slot of the ring
+  pub apart : ((gap : ℤ) → h.shape ≢ Session gap) → LieInRing (ring_of h) (with_entered kinds key time values h)
   pub panes : AllByRecursion (IsRoomy kinds values) (entries_of h)
   -- the two sessions that it joins can be joined, and what they come to can take it
   pub joins : (gap : ℤ) → h.shape ≡ Session gap → (e f : Place × Pane (List Value)) (es : List (Place × Pane (List Value))) → linked gap (datum 0 key time []) (entries_of h) ≡ e ∷ f ∷ es

@@ -2,6 +2,7 @@
 use Rattle.std.specs.Prelude.{◌≡◌, ◌≢◌, ◌⊎◌, ◌<ℤ◌, ℕ, ◌+◌, ◌*◌, ◌^◌, ◌≤◌, Bool, true, false, List, [], ◌∷◌, Option, Some, None, length, if◌then◌else◌, slice_index_or, slice_set, ◌<◌, ℤ, pos, ◌+ℤ◌, ◌*ℤ◌, ◌≤ℤ◌, unsigned_abs}
 use Rattle.std.specs.Int.{int_div_euclid, int_rem_euclid}
 use Rattle.std.specs.Ordering.{eq_by_cmp, int_eq}
+use Rattle.std.specs.List.{AllByRecursion}
 use Rattle.std.specs.FinMap as map
 use Rattle.wsm_semantics.specs.declared.place.Place.{Place}
 use Rattle.wsm_panes.specs.declared.ring.Ring.{Ring}
@@ -36,6 +37,18 @@ pub record IsOfRing (r : Ring) (p : Place) : Type 0 where
   pub key : p.key < r.keys
   pub start : p.start ≡ window_number r p.start *ℤ r.period
   pub end : p.end ≡ p.start +ℤ r.size
+
+-- the place is of the ring, and its window starts less than the ring's windows behind a time
+pub record IsNear (r : Ring) (low : ℤ) (p : Place) : Type 0 where
+  pub of : IsOfRing r p
+  pub from : low ≤ℤ p.start
+  pub until : p.start <ℤ (low +ℤ pos (r.bound * unsigned_abs r.period))
+
+-- there is such a ring, and all places lie near a time: no two of them share a slot
+pub record LieInRing {X : Type 0} (r : Ring) (es : List (Place × X)) : Type 0 where
+  pub ring : IsRing r
+  pub low : ℤ
+  pub near : AllByRecursion (λ e. IsNear r low e.0) es
 
 -- the pane is there, or its slot is free
 abbrev pub RingAdmits : {P : Type 0} → Ring → map.FinMap place_cmp P → Place → Type 0
