@@ -2,13 +2,13 @@
 use Rattle.std.proofs.Common.{◌≡◌, ◌≢◌, ◌⊎◌, ◌<◌, ◌≤◌, ◌+◌, ℕ, zero, suc, Bool, true, Option, Some, None, List, [], ◌∷◌, ◌++◌, length, refl, sym, ap, ◌∙◌, inl, inr, arith}
 use Rattle.std.proofs.lemmas.Bool.{true≢false, cases_Bool}
 use Rattle.std.proofs.lemmas.Bool.Decides.{nat_tests}
-use Rattle.std.specs.Prelude.{◌&&◌, filter, nat_lt, slice_get, slice_set}
+use Rattle.std.specs.Prelude.{◌&&◌, ℤ, filter, nat_lt, slice_get, slice_set}
 use Rattle.std.specs.Option.{is_some}
 use Rattle.std.specs.Ordering.{is_lt}
 use Rattle.std.specs.FinMap.Entries.{find, put, is_sorted, below_all}
 use Rattle.wsm_semantics.specs.declared.place.Place.{Place}
 use Rattle.wsm_panes.specs.Place.{place_cmp, before}
-use Rattle.wsm_panes.specs.Walk.{following}
+use Rattle.wsm_panes.specs.Walk.{following, place_due}
 use Rattle.wsm_panes.specs.Stored.{listed, same, shown, uses, with_pane}
 use Rattle.wsm_panes.proofs.Entries.{places_total}
 use Rattle.wsm_panes.proofs.Sorted.{cases_Ordering, find_below, first_of_and, second_of_and}
@@ -115,6 +115,18 @@ module _ {P : Type 0} (panes : List P) where
         | inl behind ↦ rw (here.2, behind) (sym (ap (entry_with e.0) here.2))
         | inr before ↦ rw (here.2, before) (shown_following q es h.1)
       ]
+
+  -- which of them are due
+  pub due_nth : (limit : ℤ) (es : List (Place × ℕ)) (i : ℕ) → AreIn panes es → place_due limit (slice_get (shown panes es) i) ≡ place_due limit (slice_get es i)
+  due_nth limit [] i h = refl
+  due_nth limit (e ∷ es) zero h = ap (λ fs. place_due limit (slice_get fs 0)) (shown_cons e es h.0).1
+  due_nth limit (e ∷ es) (suc i) h = ap (λ fs. place_due limit (slice_get fs (suc i))) (shown_cons e es h.0).1 ∙ due_nth limit es i h.1
+
+  pub due_following : (limit : ℤ) (q : Place) (es : List (Place × ℕ)) → AreIn panes es → place_due limit (following q (shown panes es)) ≡ place_due limit (following q es)
+  due_following limit q [] h = refl
+  due_following limit q (e ∷ es) h =
+      ap (λ fs. place_due limit (following q fs)) (shown_cons e es h.0).1
+      ∙ elim (cases_Bool (is_lt (place_cmp q e.0))) [ inl behind ↦ rw behind refl | inr before ↦ rw before (due_following limit q es h.1) ]
 
   pub shown_filter : (t : Place → Bool) (es : List (Place × ℕ)) → AreIn panes es → shown panes (filter (λ e. t e.0) es) ≡ filter (λ e. t e.0) (shown panes es)
   shown_filter t [] h = refl

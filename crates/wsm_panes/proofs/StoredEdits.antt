@@ -4,7 +4,7 @@ use Rattle.std.proofs.Common.{◌≡◌, ◌≢◌, ◌⊎◌, ◌<◌, ◌≤�
 use Rattle.std.proofs.lemmas.Bool.{true≢false}
 use Rattle.std.proofs.lemmas.Bool.Decides.{nat_tests}
 use Rattle.std.proofs.lemmas.Int.{ints}
-use Rattle.std.specs.Prelude.{◌≤ℤ◌, ◌<ℤ◌, filter, nat_lt, slice_get}
+use Rattle.std.specs.Prelude.{◌≤ℤ◌, ◌<ℤ◌, filter, nat_lt, option_map, slice_get}
 use Rattle.std.specs.List.{remove}
 use Rattle.std.specs.Option.{is_some}
 use Rattle.std.specs.Ordering.{is_lt, int_cmp, ordering_then, MatchOrdering}
@@ -20,7 +20,7 @@ use Rattle.wsm_panes.specs.Stored.{AreStored, listed, same, shown, unowned, uses
 use Rattle.wsm_panes.proofs.Entries.{places_total}
 use Rattle.wsm_panes.proofs.Sorted.{cases_Ordering, lesser, first_of_and, second_of_and}
 use Rattle.wsm_panes.proofs.Tables.{to_T, put_sorted, kept_sorted, map_of, get_is, len_is}
-use Rattle.wsm_panes.proofs.Stored.{AreIn, are_in, pane_in, same_self, shown_filter, shown_find, shown_length, shown_put, shown_set, shown_sorted, uses-append, uses_put}
+use Rattle.wsm_panes.proofs.Stored.{AreIn, are_in, in_list, pane_in, same_self, shown_filter, shown_find, shown_length, shown_put, shown_set, shown_sorted, uses-append, uses_put}
 use Rattle.wsm_semantics.proofs.Each.{as_true}
 
 past_end : (s n : ℕ) → n ≤ s → cond {A = ℕ} (nat_lt s n) 0 1 ≡ 1
@@ -60,6 +60,13 @@ module _ {P : Type 0} (panes : List P) (free : List ℕ) (es : List (Place × �
     by : (o : Option ℕ) → find place_cmp q es ≡ o → is_some o ≡ true
     by None is = absurd (true≢false (sym there ∙ ap is_some (find_is q ∙ ap (pane_in panes) is)))
     by (Some s) is = refl
+
+  -- a place is found where it is
+  pub found_in : (q p : Place) → option_map (λ _. p) (find place_cmp q (shown panes es)) ≡ option_map (λ _. p) (find place_cmp q es)
+  found_in q p = ap (option_map (λ _. p)) (find_is q) ∙ by (find place_cmp q es) refl where
+    by : (o : Option ℕ) → find place_cmp q es ≡ o → option_map (λ _. p) (pane_in panes o) ≡ option_map (λ _. p) o
+    by None is = refl
+    by (Some k) is = ap (option_map (λ _. p)) (in_list panes k (slot_in q k is)).1
 
   -- the place is there, or there is room for one more
   pub fits_in : (q : Place) (room : ℕ) → (contains_key (map_of (shown panes es)) q ≡ true) ⊎ (len (map_of (shown panes es)) < room) → (is_some (find place_cmp q es) ≡ true) ⊎ (length es < room)

@@ -1,6 +1,6 @@
 //! The panes that are held.
 
-ghost use Rattle.std.specs.Prelude.{◌≡◌, ◌*◌, ◌<◌, ◌≤◌, ◌≤ℤ◌, ℤ, pos, List, [], length, IfOk, IsSome, Some, int_lt, slice_get};
+ghost use Rattle.std.specs.Prelude.{◌≡◌, ◌*◌, ◌<◌, ◌≤◌, ◌≤ℤ◌, ℤ, pos, List, [], length, IfOk, IsSome, Some, int_lt, option_map, slice_get};
 ghost use Rattle.std.specs.FinMap as map;
 ghost use Rattle.std.specs.FinMap.Entries.{find, put, where_key};
 ghost use Rattle.wsm_windows.specs.Windows.{IsShape, IsTime, greatest_span, windows_of_shape};
@@ -11,11 +11,13 @@ ghost use Rattle.wsm_semantics.specs.Summaries.{Pane as AnyPane, linked};
 ghost use Rattle.wsm_record.specs.declared.event.Value.{Value as OneValue};
 ghost use Rattle.wsm_panes.specs.Held.{CanEnter, IsKept, entries_of, joined_panes, joins_sessions, once_fired, room_of, session_entered, with_entered};
 ghost use Rattle.wsm_panes.specs.OfKeys.{AreOfKeys, AreDropped};
+ghost use Rattle.wsm_panes.specs.Walk.{following, place_due, place_found};
 
 use crate::entering::enter_windows;
 use crate::joining::{enter_session, linked_pair};
 use crate::list::ListTable;
 use crate::pane::Pane;
+use crate::spot::Spot;
 use crate::table::PaneTable;
 use std::alloc::{AllocError, Global};
 use std::marker::Model;
@@ -173,14 +175,45 @@ impl HeldPanes {
         self.table.put(place, pane);
     }
 
-    /// Has the pane at a place where one is have fired: it has shown all of its records, and the row
-    /// of the firing stands.
-    pub fn fire_at(&mut self, place: Place, mode: Mode, row: Option<Columns>)
-        requires { IsSome (find place_cmp place (entries_of self.old)) }
-        ensures panes { (pane : AnyPane (List OneValue)) × (find place_cmp place (entries_of self.old) ≡ Some pane) × (entries_of self.new ≡ put place_cmp place (once_fired mode row pane) (entries_of self.old)) }
+    /// Where the pane at a place is, if one is there.
+    pub fn find(&self, place: Place) -> Option<Spot>
+        ensures { place_found result ≡ option_map (λ _. place) (find place_cmp place (entries_of self.now)) }
+    {
+        self.table.find(place)
+    }
+
+    /// Where the first pane is in the order of the places, if its window ends by a limit, which is in
+    /// event time.
+    pub fn first_due(&self, limit: i64) -> Option<Spot>
+        ensures { place_found result ≡ place_due limit (slice_get (entries_of self.now) 0) }
+    {
+        self.table.first_due(limit)
+    }
+
+    /// Where the pane behind one is, in the order of the places, if its window ends by a limit.
+    pub fn next_due(&self, spot: Spot, limit: i64) -> Option<Spot>
+        requires { IsSome (find place_cmp spot.place (entries_of self.now)) }
+        ensures { place_found result ≡ place_due limit (following spot.place (entries_of self.now)) }
+    {
+        self.table.next_due(spot, limit)
+    }
+
+    /// The pane at a spot.
+    pub fn pane(&self, spot: Spot) -> &Pane
+        requires { IsSome (find place_cmp spot.place (entries_of self.now)) }
+        ensures { find place_cmp spot.place (entries_of self.now) ≡ Some result.now }
+    {
+        self.table.pane(spot)
+    }
+
+    /// Has the pane at a spot have fired: it has shown all of its records, and the row of the firing
+    /// stands.
+    pub fn fire_at(&mut self, spot: Spot, mode: Mode, row: &Option<Columns>)
+        requires { IsSome (find place_cmp spot.place (entries_of self.old)) }
+        ensures panes { (pane : AnyPane (List OneValue)) × (find place_cmp spot.place (entries_of self.old) ≡ Some pane) × (entries_of self.new ≡ put place_cmp spot.place (once_fired mode row.now pane) (entries_of self.old)) }
         ensures keeps { IsKept self.old self.new }
     {
-        self.table.fire(place, mode, row);
+        self.table.fire(spot, mode, row);
     }
 
     /// Drops the panes of windows with an end of at most the limit, which is in event time.

@@ -14,6 +14,7 @@ pub use pane::Pane;
 pub use recording::TakesRecords;
 pub use ring::Ring;
 pub use ring_table::RingTable;
+pub use spot::Spot;
 pub use table::PaneTable;
 pub use wsm_semantics::Place;
 
@@ -26,5 +27,6 @@ mod recording;
 mod ring;
 mod ring_table;
 mod slots;
+mod spot;
 mod store;
 mod table;

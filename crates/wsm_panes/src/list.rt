@@ -1,6 +1,6 @@
 //! A table kept as a sorted list.
 
-ghost use Rattle.std.specs.Prelude.{◌≡◌, ◌⊎◌, ◌<◌, ◌≤◌, ◌+◌, ℕ, List, Some, IfOk, IfErr, IsTrue, true, not, drop, filter, take, vec_len, vec_capacity, IsSome, IfSome, length, slice_get};
+ghost use Rattle.std.specs.Prelude.{◌≡◌, ◌⊎◌, ◌<◌, ◌≤◌, ◌+◌, ℕ, List, Some, IfOk, IfErr, IsTrue, true, not, drop, filter, take, vec_len, vec_capacity, IsSome, IfSome, length, option_map, slice_get};
 ghost use Rattle.std.specs.FinMap as map;
 ghost use Rattle.wsm_fold.specs.Fold.{are_of_kinds};
 ghost use Rattle.wsm_record.specs.declared.event.Value.{Value as OneValue};
@@ -9,10 +9,11 @@ ghost use Rattle.wsm_panes.specs.Held.{once_fired};
 ghost use Rattle.wsm_panes.specs.Place.{place_cmp, is_kept, is_other};
 ghost use Rattle.wsm_panes.specs.Search.{IsAt, IsGapFor};
 ghost use Rattle.wsm_panes.specs.Stored.{AreStored, listed, shown, uses};
-ghost use Rattle.wsm_panes.specs.Walk.{following};
+ghost use Rattle.wsm_panes.specs.Walk.{following, place_due, place_found};
 
 use crate::pane::Pane;
 use crate::recording::TakesRecords;
+use crate::spot::{Spot, due};
 use crate::store::Store;
 use crate::table::PaneTable;
 use std::alloc::{AllocError, Global};
@@ -67,13 +68,13 @@ impl<P: Copy> ListTable<P> {
 }
 
 impl ListTable<Pane> {
-    /// Has the pane at a place have fired.
-    pub(crate) fn fire(&mut self, place: Place, mode: Mode, row: Option<Columns>)
-        requires { IsSome (map.get self.old.panes place) }
-        ensures panes { (pane : AnyPane (List OneValue)) × (map.get self.old.panes place ≡ Some pane) × (self.new.panes ≡ map.insert self.old.panes place (once_fired mode row pane)) }
+    /// Has the pane at a spot have fired.
+    pub(crate) fn fire(&mut self, spot: Spot, mode: Mode, row: &Option<Columns>)
+        requires { IsSome (map.get self.old.panes spot.place) }
+        ensures panes { (pane : AnyPane (List OneValue)) × (map.get self.old.panes spot.place ≡ Some pane) × (self.new.panes ≡ map.insert self.old.panes spot.place (once_fired mode row.now pane)) }
         ensures room { self.new.room ≡ self.old.room }
     {
-        fire_in(&self.entries, &mut self.store, place, mode, row);
+        fire_in(&self.entries, &mut self.store, spot, mode, row);
     }
 }
 
@@ -128,6 +129,23 @@ impl<P: TakesRecords> PaneTable<P> for ListTable<P> {
         let (place, slot) = self.entries[i];
         (place, self.store.get(slot))
     }
+
+    fn find(&self, place: Place) -> Option<Spot> {
+        spot_of(&self.entries, place)
+    }
+
+    fn pane(&self, spot: Spot) -> &P {
+        pane_in(&self.entries, &self.store, spot)
+    }
+
+    fn first_due(&self, limit: i64) -> Option<Spot> {
+        due_at(&self.entries, 0, limit)
+    }
+
+    fn next_due(&self, spot: Spot, limit: i64) -> Option<Spot> {
+        let number = number_of(&self.entries, spot);
+        due_at(&self.entries, number + 1, limit)
+    }
 }
 
 fn pane_at<P: Copy>(entries: &[Entry], store: &Store<P>, place: Place) -> Option<P>
@@ -137,6 +155,51 @@ fn pane_at<P: Copy>(entries: &[Entry], store: &Store<P>, place: Place) -> Option
     match search(entries, place) {
         Ok(i) => Some(store.get(entries[i].1)),
         Err(_) => None,
+    }
+}
+
+// Where the entry of a place is, if there is one.
+fn spot_of(entries: &[Entry], place: Place) -> Option<Spot>
+    requires { IsTrue (map.is_sorted place_cmp entries.now) }
+    ensures { place_found result ≡ option_map (λ _. place) (map.find place_cmp place entries.now) }
+{
+    match search(entries, place) {
+        Ok(at) => Some(Spot { place, at }),
+        Err(_) => None,
+    }
+}
+
+// The number of the entry at a spot.
+fn number_of(entries: &[Entry], spot: Spot) -> usize
+    requires sorted { IsTrue (map.is_sorted place_cmp entries.now) }
+    requires there { IsSome (map.find place_cmp spot.place entries.now) }
+    ensures { IsAt entries.now spot.place result }
+{
+    if spot.at < entries.len() {
+        if let Ordering::Equal = spot.place.cmp(&entries[spot.at].0) {
+            return spot.at;
+        }
+    }
+    search(entries, spot.place).unwrap()
+}
+
+// The pane at a spot, in its slot.
+fn pane_in<'a, P: Copy>(entries: &[Entry], store: &'a Store<P>, spot: Spot) -> &'a P
+    requires stored { AreStored store.now.panes.items store.now.free.items entries.now }
+    requires there { IsSome (map.find place_cmp spot.place entries.now) }
+    ensures { map.find place_cmp spot.place (shown store.now.panes.items entries.now) ≡ Some result.now }
+{
+    store.pane(entries[number_of(entries, spot)].1)
+}
+
+// Where the entry of a number is, if there is one and its window ends by a limit.
+fn due_at(entries: &[Entry], at: usize, limit: i64) -> Option<Spot>
+    ensures { place_found result ≡ place_due limit (slice_get entries.now at) }
+{
+    if at < entries.len() {
+        due(Some(entries[at]), at, limit)
+    } else {
+        None
     }
 }
 
@@ -219,21 +282,21 @@ fn enter_in<P: TakesRecords>(
     }
 }
 
-// Has the pane at a place have fired.
+// Has the pane at a spot have fired.
 fn fire_in(
     entries: &[Entry],
     store: &mut Store<Pane>,
-    place: Place,
+    spot: Spot,
     mode: Mode,
-    row: Option<Columns>,
+    row: &Option<Columns>,
 )
     requires stored { AreStored store.old.panes.items store.old.free.items entries.now }
-    requires there { IsSome (map.find place_cmp place entries.now) }
-    ensures shown { (pane : AnyPane (List OneValue)) × (map.find place_cmp place (shown store.old.panes.items entries.now) ≡ Some pane) × (shown store.new.panes.items entries.now ≡ map.put place_cmp place (once_fired mode row pane) (shown store.old.panes.items entries.now)) }
+    requires there { IsSome (map.find place_cmp spot.place entries.now) }
+    ensures shown { (pane : AnyPane (List OneValue)) × (map.find place_cmp spot.place (shown store.old.panes.items entries.now) ≡ Some pane) × (shown store.new.panes.items entries.now ≡ map.put place_cmp spot.place (once_fired mode row.now pane) (shown store.old.panes.items entries.now)) }
     ensures stored { AreStored store.new.panes.items store.new.free.items entries.now }
     ensures room { (vec_capacity store.new.panes ≡ vec_capacity store.old.panes) × (vec_capacity store.new.free ≡ vec_capacity store.old.free) }
 {
-    let i = search(entries, place).unwrap();
+    let i = number_of(entries, spot);
     store.fire(entries[i].1, mode, row);
 }
 

@@ -69,19 +69,19 @@ impl Pane {
         ensures { result ≡ record self { unshown = 0; folded = left_folded mode self.folded; stands = Row row } }
     {
         let mut pane = self;
-        pane.fire(mode, row);
+        pane.fire(mode, &row);
         pane
     }
 
     /// Has it have fired: it has shown all of its records, and the row of the firing stands.
-    pub(crate) fn fire(&mut self, mode: Mode, row: Option<Columns>)
-        ensures { self.new ≡ once_fired mode row self.old }
+    pub(crate) fn fire(&mut self, mode: Mode, row: &Option<Columns>)
+        ensures { self.new ≡ once_fired mode row.now self.old }
     {
         self.unshown = 0;
         if mode == Mode::Discarding {
             self.folded = None;
         }
-        self.stands = Standing::Row(row);
+        self.stands = Standing::Row(*row);
     }
 
     /// The row that stands for it.

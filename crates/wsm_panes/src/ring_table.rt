@@ -7,7 +7,8 @@ ghost use Rattle.wsm_panes.specs.Ring.{IsRing, RingAdmits, window_number};
 
 use crate::recording::TakesRecords;
 use crate::ring::Ring;
-use crate::slots::{Slot, clear_expired, fill, first_from, free_slots, pane_at, take_out};
+use crate::slots::{Slot, clear_expired, fill, first_from, free_slots, pane_at, pane_in, take_out};
+use crate::spot::Spot;
 use crate::table::PaneTable;
 use std::alloc::{AllocError, Global};
 use std::marker::Model;
@@ -117,6 +118,10 @@ impl<P: TakesRecords> PaneTable<P> for RingTable<P> {
     fn next(&self, place: Place) -> Option<(Place, P)> {
         let key = place.key as usize + 1;
         first_from(self.ring, &self.slots, place.start, key, self.last)
+    }
+
+    fn pane(&self, spot: Spot) -> &P {
+        pane_in(&self.slots, self.ring.slot(spot.place), spot.place).unwrap()
     }
 }
 

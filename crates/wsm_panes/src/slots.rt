@@ -1,6 +1,6 @@
 //! Entries in the slots of a ring.
 
-ghost use Rattle.std.specs.Prelude.{◌≡◌, ◌≢◌, ◌⊎◌, ◌+◌, ◌*◌, ◌≤◌, ◌<◌, ℕ, ◌≤ℤ◌, ◌<ℤ◌, Some, None, IfOk, length, slice_set};
+ghost use Rattle.std.specs.Prelude.{◌≡◌, ◌≢◌, ◌⊎◌, ◌+◌, ◌*◌, ◌≤◌, ◌<◌, ℕ, ◌≤ℤ◌, ◌<ℤ◌, Some, None, IfOk, length, option_map, slice_set};
 ghost use Rattle.wsm_panes.specs.Ring.{IsRing, IsOfRing, AreInPlace, AreBetween, AreFree, AreUntil, IsFirstFrom, IsFirstInRow, IsOnGrid, IsTakenOut, held, kept_slot, pane_of, slot_at, slot_of, row_of, window_number};
 ghost use Rattle.std.specs.Prelude.{◌*ℤ◌, ◌+ℤ◌};
 ghost use Rattle.std.specs.Int.{w64};
@@ -36,6 +36,16 @@ pub(crate) fn pane_at<P: Copy>(slots: &[Slot<P>], slot: usize, place: Place) -> 
 {
     match slots.get(slot) {
         Some(Some((other, pane))) if *other == place => Some(*pane),
+        _ => None,
+    }
+}
+
+/// The pane at a place, where it is, of what is in its slot.
+pub(crate) fn pane_in<P: Copy>(slots: &[Slot<P>], slot: usize, place: Place) -> Option<&P>
+    ensures { option_map (λ pane. pane.now) result ≡ pane_of place (slot_at slots.now slot) }
+{
+    match slots.get(slot) {
+        Some(Some((other, pane))) if *other == place => Some(pane),
         _ => None,
     }
 }

@@ -43,6 +43,14 @@ impl<P: Copy> Store<P> {
         self.panes[slot]
     }
 
+    /// The pane in a slot, where it is.
+    pub(crate) fn pane(&self, slot: usize) -> &P
+        requires { slot < length self.now.panes.items }
+        ensures { slice_get self.now.panes.items slot ≡ Some result.now }
+    {
+        &self.panes[slot]
+    }
+
     /// Sets the pane in a slot.
     pub(crate) fn set(&mut self, slot: usize, pane: P)
         requires { slot < length self.old.panes.items }
@@ -109,9 +117,9 @@ impl<P: TakesRecords> Store<P> {
 
 impl Store<Pane> {
     /// Has the pane in a slot have fired.
-    pub(crate) fn fire(&mut self, slot: usize, mode: Mode, row: Option<Columns>)
+    pub(crate) fn fire(&mut self, slot: usize, mode: Mode, row: &Option<Columns>)
         requires { slot < length self.old.panes.items }
-        ensures here { slice_get self.new.panes.items slot ≡ option_map (once_fired mode row) (slice_get self.old.panes.items slot) }
+        ensures here { slice_get self.new.panes.items slot ≡ option_map (once_fired mode row.now) (slice_get self.old.panes.items slot) }
         ensures others { (s : ℕ) → slot ≢ s → slice_get self.new.panes.items s ≡ slice_get self.old.panes.items s }
         ensures slots { length self.new.panes.items ≡ length self.old.panes.items }
         ensures free { self.new.free.items ≡ self.old.free.items }

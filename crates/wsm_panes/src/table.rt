@@ -1,13 +1,14 @@
 //! What a table of panes does.
 
-ghost use Rattle.std.specs.Prelude.{◌≡◌, ◌↔◌, ◌<◌, ◌≤◌, Some, true, IfSome, IsTrue, length, slice_get};
+ghost use Rattle.std.specs.Prelude.{◌≡◌, ◌↔◌, ◌<◌, ◌≤◌, Some, true, IfSome, IsSome, IsTrue, length, option_map, slice_get};
 ghost use Rattle.std.specs.FinMap as map;
 ghost use Rattle.wsm_panes.specs.Place.{place_cmp, is_kept};
-ghost use Rattle.wsm_panes.specs.Walk.{following};
+ghost use Rattle.wsm_panes.specs.Walk.{following, place_due, place_found};
 ghost use Rattle.wsm_fold.specs.Fold.{are_of_kinds};
 ghost use Rattle.wsm_semantics.specs.declared.place.Place.{Place as AnyPlace};
 
 use crate::recording::{TakesRecords, with_one_more};
+use crate::spot::{Spot, due};
 use wsm_record::{Kind, Value};
 use wsm_semantics::Place;
 
@@ -85,5 +86,37 @@ pub trait PaneTable<P: TakesRecords> {
             entry = self.next(entry.0).unwrap();
         }
         entry
+    }
+
+    /// Where the pane at a place is, if one is there.
+    fn find(&self, place: Place) -> Option<Spot>
+        ensures { place_found result ≡ option_map (λ _. place) (map.get (panes self.now) place) }
+    {
+        if self.get(place).is_some() {
+            Some(Spot { place, at: 0 })
+        } else {
+            None
+        }
+    }
+
+    /// The pane at a spot.
+    fn pane(&self, spot: Spot) -> &P
+        requires { IsSome (map.get (panes self.now) spot.place) }
+        ensures { map.get (panes self.now) spot.place ≡ Some result.now };
+
+    /// Where the first pane is in the order of the places, if its window ends by a limit, which is in
+    /// event time.
+    fn first_due(&self, limit: i64) -> Option<Spot>
+        ensures { place_found result ≡ place_due limit (slice_get (map.entries (panes self.now)) 0) }
+    {
+        due(self.first(), 0, limit)
+    }
+
+    /// Where the pane behind one is, in the order of the places, if its window ends by a limit.
+    fn next_due(&self, spot: Spot, limit: i64) -> Option<Spot>
+        requires { IsSome (map.get (panes self.now) spot.place) }
+        ensures { place_found result ≡ place_due limit (following spot.place (map.entries (panes self.now))) }
+    {
+        due(self.next(spot.place), 0, limit)
     }
 }

@@ -11,18 +11,16 @@ use Rattle.wsm_panes.proofs.list.fire_in.Goals as goal
 pub fire-requires : goal.fire-requires
 fire-requires c =
     let d : Place × ℕ = (record { end = pos 0; start = pos 0; key = 0 }, 0) in
-    let here = rw c.unwrap-i.ensures at c.search.ensures.found in
-    slot_in _ _ _ c.requires.stored c.args.place (get_or c.args.entries.now c.unwrap-i.result d).1 (here.finds d)
+    slot_in _ _ _ c.requires.stored c.args.spot.place (get_or c.args.entries.now c.number_of-i.result d).1 (c.number_of-i.ensures.finds d)
 
 pub returns-clause-shown : goal.returns-clause-shown
 returns-clause-shown c =
     let d : Place × ℕ = (record { end = pos 0; start = pos 0; key = 0 }, 0) in
-    let here = rw c.unwrap-i.ensures at c.search.ensures.found in
     let panes = c.args.store.now.panes.items in
-    let slot = (get_or c.args.entries.now c.unwrap-i.result d).1 in
-    let finds : map.find place_cmp c.args.place c.args.entries.now ≡ Some slot = here.finds d in
-    let there = in_list panes slot (slot_in _ _ _ c.requires.stored c.args.place slot finds) in (
+    let slot = (get_or c.args.entries.now c.number_of-i.result d).1 in
+    let finds : map.find place_cmp c.args.spot.place c.args.entries.now ≡ Some slot = c.number_of-i.ensures.finds d in
+    let there = in_list panes slot (slot_in _ _ _ c.requires.stored c.args.spot.place slot finds) in (
       there.0,
-      find_is _ _ _ c.requires.stored c.args.place ∙ ap (pane_in panes) finds ∙ there.1,
-      written_shows _ _ _ c.requires.stored c.args.place slot (once_fired c.args.mode c.args.row there.0) c.fire.new.self.panes.items finds (c.fire.ensures.here ∙ ap (option_map (once_fired c.args.mode c.args.row)) there.1) c.fire.ensures.others,
+      find_is _ _ _ c.requires.stored c.args.spot.place ∙ ap (pane_in panes) finds ∙ there.1,
+      written_shows _ _ _ c.requires.stored c.args.spot.place slot (once_fired c.args.mode c.args.row.now there.0) c.fire.new.self.panes.items finds (c.fire.ensures.here ∙ ap (option_map (once_fired c.args.mode c.args.row.now)) there.1) c.fire.ensures.others,
     )

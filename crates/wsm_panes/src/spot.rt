@@ -1,0 +1,26 @@
+//! Where panes are found.
+
+ghost use Rattle.std.specs.Prelude.{◌≡◌};
+ghost use Rattle.wsm_panes.specs.Walk.{place_due, place_found};
+
+use wsm_semantics::Place;
+
+/// A place at which a pane is held, and where its table has it, so that a walk over panes need not
+/// search for each of them.
+#[derive(Clone, Copy, Debug)]
+pub struct Spot {
+    /// The place.
+    pub place: Place,
+    // The number of its entry, if none came or went since.
+    pub(crate) at: usize,
+}
+
+/// The spot of an entry that is the one of a number, if its window ends by a limit.
+pub(crate) fn due<P: Copy>(entry: Option<(Place, P)>, at: usize, limit: i64) -> Option<Spot>
+    ensures { place_found result ≡ place_due limit entry }
+{
+    match entry {
+        Some((place, _)) if place.end <= limit => Some(Spot { place, at }),
+        _ => None,
+    }
+}
