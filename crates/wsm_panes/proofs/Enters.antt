@@ -29,7 +29,8 @@ use Rattle.wsm_semantics.specs.Summaries.{Plan, Pane, assigned, entered, joined,
 use Rattle.wsm_semantics.proofs.Lists.{filter-all}
 use Rattle.wsm_semantics.proofs.Each.{all-any, filter_swap, filter-map}
 use Rattle.wsm_sessions.specs.Live.{Live, times_left}
-use Rattle.wsm_panes.specs.Held.{CanEnter, CanEnterWindows, CanJoin, CanJoinAll, CanJoinFolds, CanRecord, CanTake, Held, IsRoomy, entries_of, room_of, taking, windows_of_key, with_one_more}
+use Rattle.wsm_panes.specs.Held.{CanEnter, CanEnterWindows, CanJoin, CanJoinAll, CanJoinFolds, CanRecord, CanTake, Held, IsRoomy, entries_of, held_in, ring_of, room_of, taking, windows_of_key, with_one_more}
+use Rattle.wsm_panes.specs.Ring.{LieInRing}
 use Rattle.wsm_panes.specs.OfKeys.{AreDropped, AreOfKeys, IsOfKey}
 use Rattle.wsm_panes.specs.Place.{is_kept}
 use Rattle.wsm_panes.proofs.Entries.{places_total}
@@ -42,6 +43,12 @@ any_datum kinds values d (Some h) = by h.folded refl where
   by : (o : Option (List Value)) → h.folded ≡ o → with_one_more kinds values (Some h) ≡ with_record (taking kinds values) d (Some h)
   by None is = rw is refl
   by (Some xs) is = rw is refl
+
+-- windows on a grid are held in the ring
+pub in_ring : {M : Type 0} (s : Shape) (list ring : M) → ((gap : ℤ) → s ≢ Session gap) → held_in s list ring ≡ ring
+in_ring (Fixed size) list ring grid = refl
+in_ring (Sliding size period) list ring grid = refl
+in_ring (Session gap) list ring grid = absurd (grid gap refl)
 
 entered_assigned : {X : Type 0} (plan : Plan X) (s : Shape) → ((gap : ℤ) → s ≢ Session gap) → (d : Datum) (es : List (Place × Pane X)) → entered plan s d es ≡ assigned plan d (windows_of_shape s d.time) es
 entered_assigned plan (Fixed size) other d es = refl
@@ -94,9 +101,9 @@ module _ (h : Held) (kinds : List Kind) (key : ℕ) (time : ℤ) (values : List 
   pub few_values : length values ≤ 16
   few_values = omega (arith, can.few, length-are_of_kinds kinds values can.types)
 
-  pub windows_can : ((gap : ℤ) → h.shape ≢ Session gap) → CanEnterWindows (room_of h) kinds values key time (windows_of_shape h.shape time) (entries_of h)
+  pub windows_can : ((gap : ℤ) → h.shape ≢ Session gap) → CanEnterWindows (ring_of h) kinds values key time (windows_of_shape h.shape time) (entries_of h)
   windows_can other = record {
-    room = subst (λ es. length es ≤ room_of h) (entered_assigned (taking kinds values) h.shape other (datum 0 key time []) (entries_of h)) can.room;
+    apart = subst (λ es. LieInRing (ring_of h) es) (entered_assigned (taking kinds values) h.shape other (datum 0 key time []) (entries_of h)) (can.apart other);
     takes = all-any (λ w. IfSome (find place_cmp (at key w) (entries_of h)) (CanRecord kinds values)) (λ w. each_found kinds values (entries_of h) can.panes (at key w)) (windows_of_shape h.shape time);
   }
 

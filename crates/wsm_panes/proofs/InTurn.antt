@@ -1,15 +1,16 @@
--- A record put into the panes of its windows one after the other: each put finds its pane as it was or
--- has room.
-use Rattle.std.proofs.Common.{◌≡◌, ◌⊎◌, ◌<◌, ◌≤◌, ◌+◌, ◌-◌, ◌/◌, ◌^◌, ℕ, zero, suc, Bool, true, false, cond, List, [], ◌∷◌, length, length-append, Some, IfSome, inl, inr, refl, sym, ap, subst, ◌∙◌, arith}
+-- A record put into the panes of its windows one after the other: each put finds its pane as it was, and
+-- a slot that is free or its own.
+use Rattle.std.proofs.Common.{◌≡◌, ◌<◌, ◌≤◌, ◌+◌, ◌-◌, ◌/◌, ◌^◌, ℕ, zero, suc, Bool, true, false, cond, List, [], ◌∷◌, length, length-append, Option, Some, None, IfSome, ◌≢◌, refl, sym, ap, subst, ◌∙◌, arith}
 use Rattle.std.proofs.lemmas.Int.{ints}
 use Rattle.std.proofs.lemmas.List.Elements.{All-head, All-tail}
 use Rattle.std.proofs.Math.Nat.{div-le_self}
 use Rattle.std.specs.Prelude.{All, ℤ, ◌<ℤ◌, ◌+ℤ◌, ◌-ℤ◌, unsigned_abs}
 use Rattle.std.specs.List.{AllByRecursion}
-use Rattle.std.specs.Option.{is_some}
 use Rattle.std.specs.Ordering.{eq_by_cmp}
-use Rattle.std.specs.FinMap.{FinMap, contains_key, entries, get, insert, len, entries-insert, get-entries, len-entries, entries_sorted}
-use Rattle.std.specs.FinMap.Entries.{put, find, find-put, length-put, is_sorted, is_sorted-put}
+use Rattle.std.specs.declared.cmp.Ordering.{Ordering}
+use Rattle.std.specs.declared.cmp.Ordering.TheVariants.{Less, Equal, Greater}
+use Rattle.std.specs.FinMap.{FinMap, entries, get, insert, entries-insert, get-entries}
+use Rattle.std.specs.FinMap.Entries.{put, find, find-put, by_order}
 use Rattle.wsm_record.specs.declared.event.Value.{Value}
 use Rattle.wsm_record.specs.declared.words.Kind.{Kind}
 use Rattle.wsm_windows.specs.declared.window.Window.{Window}
@@ -22,60 +23,53 @@ use Rattle.wsm_semantics.specs.Query.{Datum}
 use Rattle.wsm_semantics.specs.Replay.{datum}
 use Rattle.wsm_semantics.specs.Summaries.{Plan, Pane, assigned, with_record}
 use Rattle.wsm_semantics.proofs.ManyKeys.{length-filter}
+use Rattle.wsm_semantics.proofs.Tables.{tie_is}
+use Rattle.wsm_panes.specs.declared.ring.Ring.{Ring}
 use Rattle.wsm_panes.specs.Held.{CanEnterWindows, CanRecord, taking}
-use Rattle.wsm_panes.proofs.Entries.{places_total}
-use Rattle.wsm_panes.proofs.Tables.{to_T}
-use Rattle.wsm_semantics.proofs.Each.{as_true}
+use Rattle.wsm_panes.specs.Ring.{IsNear, RingAdmits}
+use Rattle.wsm_panes.proofs.Entries.{exact_places, places_total}
+use Rattle.wsm_panes.proofs.Live.{near_admits}
 use Rattle.wsm_semantics.proofs.HeldRecords.{apart}
 
-abbrev Sorted : {X : Type 0} → List (Place × X) → Type 0
-Sorted es = is_sorted place_cmp es ≡ true
+module _ {X : Type 0} (Q : Place → Type 0) where
+  put_by : (p : Place) (v : X) (e : Place × X) (es ps : List (Place × X)) → (AllByRecursion (λ x. Q x.0) ps → Q p × AllByRecursion (λ x. Q x.0) es) → (o : Ordering) → place_cmp p e.0 ≡ o
+      → AllByRecursion (λ x. Q x.0) (by_order o ((p, v) ∷ e ∷ es) ((e.0, v) ∷ es) (e ∷ ps)) → Q p × AllByRecursion (λ x. Q x.0) (e ∷ es)
+  put_by p v e es ps rest Less is all = all
+  put_by p v e es ps rest Equal is all = (subst Q (sym (exact_places p e.0 is)) all.0, all)
+  put_by p v e es ps rest Greater is all = let more = rest all.1 in (more.0, (all.0, more.1))
 
-grown : (b : Bool) (n : ℕ) → n ≤ cond b n (n + 1)
-grown true n = omega arith
-grown false n = omega arith
+  -- what is put is there, and so is what was there before
+  put_all : (p : Place) (v : X) (es : List (Place × X)) → AllByRecursion (λ e. Q e.0) (put place_cmp p v es) → Q p × AllByRecursion (λ e. Q e.0) es
+  put_all p v [] all = all
+  put_all p v (e ∷ es) all = put_by p v e es (put place_cmp p v es) (put_all p v es) (place_cmp p e.0) refl all
+
+  found_by : (p : Place) (e : Place × X) (o : Option X) → Q e.0 → (o ≢ None → Q p) → (b : Bool) → eq_by_cmp place_cmp p e.0 ≡ b → cond b (Some e.1) o ≢ None → Q p
+  found_by p e o here rest true tie some = subst Q (sym (tie_is p e.0 tie)) here
+  found_by p e o here rest false apart some = rest some
+
+  -- a place that is found is one of them
+  all_found : (p : Place) (es : List (Place × X)) → AllByRecursion (λ e. Q e.0) es → find place_cmp p es ≢ None → Q p
+  all_found p [] all some = absurd (some refl)
+  all_found p (e ∷ es) all some = found_by p e (find place_cmp p es) all.0 (all_found p es all.1) (eq_by_cmp place_cmp p e.0) refl some
+
+module _ {X : Type 0} (plan : Plan X) (d : Datum) (Q : Place → Type 0) where
+  -- what is held before the windows are put in stays
+  assigned_all : (ws : List Window) (es : List (Place × Pane X)) → AllByRecursion (λ e. Q e.0) (assigned plan d ws es) → AllByRecursion (λ e. Q e.0) es
+  assigned_all [] es all = all
+  assigned_all (w ∷ ws) es all = (put_all Q (at d.key w) _ es (assigned_all ws _ all)).1
+
+  -- and so is the first window's pane
+  first_all : (w : Window) (ws : List Window) (es : List (Place × Pane X)) → AllByRecursion (λ e. Q e.0) (assigned plan d (w ∷ ws) es) → Q (at d.key w)
+  first_all w ws es all = (put_all Q (at d.key w) (with_record plan d (find place_cmp (at d.key w) es)) es (assigned_all ws _ all)).0
 
 module _ {X : Type 0} where
-  put_grows : (p : Place) (v : X) (es : List (Place × X)) → Sorted es → length es ≤ length (put place_cmp p v es)
-  put_grows p v es sorted = rw (length-put place_cmp places_total p v es (to_T _ sorted)) (grown (is_some (find place_cmp p es)) (length es))
-
-  pub sorted_put : (p : Place) (v : X) (es : List (Place × X)) → Sorted es → Sorted (put place_cmp p v es)
-  sorted_put p v es sorted = as_true _ (is_sorted-put place_cmp places_total p v es (to_T _ sorted))
-
-  -- where there is room for the entries with one more, it is there or there is room for it
-  pub finds_or_fits : (most : ℕ) (p : Place) (v : X) (es : List (Place × X)) → Sorted es → length (put place_cmp p v es) ≤ most → (is_some (find place_cmp p es) ≡ true) ⊎ (length es < most)
-  finds_or_fits most p v es sorted h = chosen (is_some (find place_cmp p es)) (rw (length-put place_cmp places_total p v es (to_T _ sorted)) at h) where
-    chosen : (b : Bool) → cond b (length es) (length es + 1) ≤ most → (b ≡ true) ⊎ (length es < most)
-    chosen true k = inl refl
-    chosen false k = inr (omega arith)
-
   find_other : (p r : Place) (v : X) (es : List (Place × X)) → eq_by_cmp place_cmp p r ≡ false → find place_cmp p (put place_cmp r v es) ≡ find place_cmp p es
   find_other p r v es other = find-put place_cmp places_total p r v es ∙ ap (λ b. cond b (Some v) (find place_cmp p es)) other
 
-module _ {X : Type 0} (plan : Plan X) (d : Datum) where
-  assigned_grows : (ws : List Window) (es : List (Place × Pane X)) → Sorted es → length es ≤ length (assigned plan d ws es)
-  assigned_grows [] es sorted = omega arith
-  assigned_grows (w ∷ ws) es sorted =
-      let v = with_record plan d (find place_cmp (at d.key w) es) in
-      let one = put_grows (at d.key w) v es sorted in
-      let rest = assigned_grows ws (put place_cmp (at d.key w) v es) (sorted_put (at d.key w) v es sorted) in
-      omega (arith, one, rest)
-
-module _ (most : ℕ) (kinds : List Kind) (values : List Value) (key : ℕ) (time : ℤ) where
-  entry : Window → List (Place × Pane (List Value)) → Pane (List Value)
-  entry w es = with_record (taking kinds values) (datum 0 key time []) (find place_cmp (at key w) es)
-
-  pub window_fits : (w : Window) (ws : List Window) (es : List (Place × Pane (List Value))) → Sorted es → CanEnterWindows most kinds values key time (w ∷ ws) es
-      → (is_some (find place_cmp (at key w) es) ≡ true) ⊎ (length es < most)
-  unfolding entry
-  window_fits w ws es sorted can =
-      let new = put place_cmp (at key w) (entry w es) es in
-      let rest = assigned_grows (taking kinds values) (datum 0 key time []) ws new (sorted_put (at key w) (entry w es) es sorted) in
-      finds_or_fits most (at key w) (entry w es) es sorted (omega (arith, rest, can.room))
-
-  pub can_go_on : (w : Window) (ws : List Window) (es : List (Place × Pane (List Value))) → IsRising (w ∷ ws) → CanEnterWindows most kinds values key time (w ∷ ws) es
-      → CanEnterWindows most kinds values key time ws (put place_cmp (at key w) (with_record (taking kinds values) (datum 0 key time []) (find place_cmp (at key w) es)) es)
-  can_go_on w ws es rises can = record { room = can.room; takes = others ws rises.0 can.takes.1 } where
+module _ (r : Ring) (kinds : List Kind) (values : List Value) (key : ℕ) (time : ℤ) where
+  pub can_go_on : (w : Window) (ws : List Window) (es : List (Place × Pane (List Value))) → IsRising (w ∷ ws) → CanEnterWindows r kinds values key time (w ∷ ws) es
+      → CanEnterWindows r kinds values key time ws (put place_cmp (at key w) (with_record (taking kinds values) (datum 0 key time []) (find place_cmp (at key w) es)) es)
+  can_go_on w ws es rises can = record { apart = can.apart; takes = others ws rises.0 can.takes.1 } where
     others : (vs : List Window) → All (λ v. w.start <ℤ v.start) vs → AllByRecursion (λ v. IfSome (find place_cmp (at key v) es) (CanRecord kinds values)) vs
         → AllByRecursion (λ v. IfSome (find place_cmp (at key v) (put place_cmp (at key w) (with_record (taking kinds values) (datum 0 key time []) (find place_cmp (at key w) es)) es)) (CanRecord kinds values)) vs
     others [] later takes = tt
@@ -105,14 +99,17 @@ few_windows (Session gap) ok t = omega arith
 
 -- ---- the same, of a table
 
-module _ (room : ℕ) (kinds : List Kind) (values : List Value) (key : ℕ) (time : ℤ) (m : FinMap place_cmp (Pane (List Value))) (w : Window) (ws : List Window) (p : Place) (is : p ≡ at key w) where
-  pub room_at : CanEnterWindows room kinds values key time (w ∷ ws) (entries m) → (contains_key m p ≡ true) ⊎ (len m < room)
-  room_at can = elim (window_fits room kinds values key time w ws (entries m) (as_true _ (entries_sorted m)) can) [
-    | inl there ↦ inl (ap (λ r. is_some (get m r)) is ∙ ap is_some (get-entries m (at key w)) ∙ there)
-    | inr left ↦ inr (omega (arith, left, len-entries m))
-  ]
+module _ (r : Ring) (kinds : List Kind) (values : List Value) (key : ℕ) (time : ℤ) (m : FinMap place_cmp (Pane (List Value))) (w : Window) (ws : List Window) (p : Place) (is : p ≡ at key w) where
+  pub admits_at : CanEnterWindows r kinds values key time (w ∷ ws) (entries m) → RingAdmits r m p
+  admits_at can =
+      let plan = taking kinds values in
+      let d = datum 0 key time [] in
+      let near = can.apart.near in
+      near_admits r can.apart.low can.apart.ring m
+      (λ q some. all_found (IsNear r can.apart.low) q (entries m) (assigned_all plan d (IsNear r can.apart.low) (w ∷ ws) (entries m) near) (λ none. some (get-entries m q ∙ none)))
+      p (subst (IsNear r can.apart.low) (sym is) (first_all plan d (IsNear r can.apart.low) w ws (entries m) near))
 
-  pub takes_at : CanEnterWindows room kinds values key time (w ∷ ws) (entries m) → IfSome (get m p) (CanRecord kinds values)
+  pub takes_at : CanEnterWindows r kinds values key time (w ∷ ws) (entries m) → IfSome (get m p) (CanRecord kinds values)
   takes_at can = subst (λ o. IfSome o (CanRecord kinds values)) (sym (ap (get m) is ∙ get-entries m (at key w))) can.takes.0
 
   pub put_at_is : (new : FinMap place_cmp (Pane (List Value))) → new ≡ insert m p (with_record (taking kinds values) (datum 0 key time []) (get m p))

@@ -1,12 +1,12 @@
 -- A record put into its session: which panes are held then, and which windows each key has.
-use Rattle.std.proofs.Common.{◌≡◌, ◌<◌, ◌≤◌, ◌+◌, ℕ, suc, true, false, List, [], ◌∷◌, map, length, length-append, ◌⊎◌, ◌||◌, ℤ, pos, ◌+ℤ◌, ◌≤ℤ◌, Option, refl, sym, ap, subst, ◌∙◌, inl, inr, arith}
+use Rattle.std.proofs.Common.{◌≡◌, ◌<◌, ◌≤◌, ◌+◌, ℕ, suc, Bool, true, false, cond, List, [], ◌∷◌, map, length, length-append, ◌⊎◌, ◌||◌, ℤ, pos, ◌+ℤ◌, ◌≤ℤ◌, Option, refl, sym, ap, subst, ◌∙◌, inl, inr, arith}
 use Rattle.std.proofs.lemmas.Bool.{or_left, or_right, cases_Bool, lt-ltb}
 use Rattle.std.proofs.lemmas.Bool.Decides.{nat_tests}
 use Rattle.std.specs.Prelude.{not, filter, nat_eq, nat_lt}
 use Rattle.std.specs.List.{list_any}
 use Rattle.std.specs.Option.{is_some}
 use Rattle.std.specs.FinMap.{FinMap, contains_key, entries, len, len-entries, entries-insert, insert, retain_keys, get-entries, entries_sorted}
-use Rattle.std.specs.FinMap.Entries.{put, where_key}
+use Rattle.std.specs.FinMap.Entries.{put, find, where_key, is_sorted, length-put}
 use Rattle.wsm_windows.specs.declared.window.Window.{Window}
 use Rattle.wsm_windows.specs.Windows.{window}
 use Rattle.wsm_semantics.specs.declared.place.Place.{Place}
@@ -22,9 +22,15 @@ use Rattle.wsm_semantics.proofs.Sessions.{AreApart, sessions-more, sessions_apar
 use Rattle.wsm_semantics.proofs.SessionOrder.{begins}
 use Rattle.wsm_panes.specs.Held.{windows_of_key}
 use Rattle.wsm_panes.proofs.Entries.{places_total}
-use Rattle.wsm_panes.proofs.Tables.{entries_kept}
-use Rattle.wsm_panes.proofs.InTurn.{finds_or_fits}
+use Rattle.wsm_panes.proofs.Tables.{entries_kept, to_T}
 use Rattle.wsm_panes.proofs.Parts.{entered_windows, linked_places, other_windows, put_other, session_is}
+
+-- where there is room for the entries with one more, it is there or there is room for it
+finds_or_fits : {X : Type 0} (most : ℕ) (p : Place) (v : X) (es : List (Place × X)) → is_sorted place_cmp es ≡ true → length (put place_cmp p v es) ≤ most → (is_some (find place_cmp p es) ≡ true) ⊎ (length es < most)
+finds_or_fits most p v es sorted h = chosen (is_some (find place_cmp p es)) (rw (length-put place_cmp places_total p v es (to_T _ sorted)) at h) where
+  chosen : (b : Bool) → cond b (length es) (length es + 1) ≤ most → (b ≡ true) ⊎ (length es < most)
+  chosen true k = inl refl
+  chosen false k = inr (omega arith)
 
 windows_back : (k : ℕ) (ws : List Window) → map window_of (map (at k) ws) ≡ ws
 windows_back k [] = refl

@@ -2,7 +2,8 @@
 use Rattle.std.proofs.Common.{◌≡◌, ◌≢◌, ◌⊎◌, ℕ, zero, suc, ◌+◌, ◌<◌, ◌≤◌, Bool, true, false, cond, Option, Some, None, List, [], ◌∷◌, ◌++◌, length, get_or, set, refl, sym, ap, subst, ◌∙◌, inl, inr, arith}
 use Rattle.std.proofs.lemmas.Bool.{cases_Bool, cases_eq}
 use Rattle.std.proofs.lemmas.List.{get_or-set_same, get_or-set_other, get_or_default}
-use Rattle.std.specs.Option.{is_some, option_len}
+use Rattle.std.specs.Borrow.{Bor}
+use Rattle.std.specs.Option.{is_some, option_copied, option_len}
 use Rattle.std.proofs.lemmas.Option.{same_Some}
 use Rattle.std.specs.Prelude.{ℤ, ◌≤ℤ◌}
 use Rattle.std.proofs.lemmas.Int.{ints}
@@ -33,6 +34,10 @@ kept_from limit (Some x) e h = elim (cases_Bool (is_kept limit x.0)) [
 none_either : {X : Type 0} (b : Bool) (o : Option X) → o ≡ None → cond b o None ≡ None
 none_either true o h = h
 none_either false o h = refl
+
+pub some_copied : {X : Type 0} (o : Option (Bor X)) → is_some (option_copied o) ≡ is_some o
+some_copied None = refl
+some_copied (Some x) = refl
 
 module _ {P : Type 0} where
   pub find_none : (os : List (Option (Place × P))) (q : Place) → ((i : ℕ) (e : Place × P) → slot_at os i ≡ Some e → e.0 ≢ q) → find place_cmp q (held os) ≡ None
@@ -245,6 +250,10 @@ module _ {P : Type 0} where
       let whole : length (held (set os i (Some e))) + option_len (slot_at os i) ≡ length (held os) + 1 = held_set os i (Some e) within in
       let one : option_len (slot_at os i) + more ≡ 1 = ap (λ (x : Option (Place × P)). option_len x + more) at ∙ count_of o more h in
       omega (arith, whole, one)
+
+  -- an entry for another leaves as many
+  pub same_count : (os : List (Option (Place × P))) (i : ℕ) (o : Option (Place × P)) (e f : Place × P) → i < length os → o ≡ get_or os i o → o ≡ Some e → length (held (set os i (Some f))) ≡ length (held os) + 0
+  same_count os i o e f within read is = fill_count os i f o 0 within read (inr (ap (λ (x : Option (Place × P)). is_some x) is, refl))
 
   pub at_within : (os : List (Option (Place × P))) (i : ℕ) (e : Place × P) → slot_at os i ≡ Some e → i < length os
   at_within [] i e at = cc

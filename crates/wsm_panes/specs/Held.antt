@@ -46,6 +46,11 @@ room_of h = h.keys * h.live
 abbrev pub ring_of : Held → Ring
 ring_of h = record { size = size_of h.shape; period = period_of h.shape; keys = h.keys; bound = h.live }
 
+-- what is held in a list or in a ring: sessions in the list, windows on a grid in the ring
+abbrev pub held_in : {M : Type 0} → Shape → M → M → M
+held_in (Session gap) list ring = list
+held_in shape list ring = ring
+
 -- the keys, the shape and the room stay
 pub record IsKept (old new : Held) : Type 0 where
   pub keys : new.keys ≡ old.keys
@@ -119,8 +124,8 @@ pub record CanJoin (kinds : List Kind) (h g : Pane (List Value)) : Type 0 where
   pub folds : CanJoinFolds kinds h.folded g.folded
 
 -- a record can be put into the panes of these windows one after the other
-pub record CanEnterWindows (most : ℕ) (kinds : List Kind) (values : List Value) (key : ℕ) (time : ℤ) (ws : List Window) (es : List (Place × Pane (List Value))) : Type 0 where
-  pub room : length (assigned (taking kinds values) (datum 0 key time []) ws es) ≤ most
+pub record CanEnterWindows (r : Ring) (kinds : List Kind) (values : List Value) (key : ℕ) (time : ℤ) (ws : List Window) (es : List (Place × Pane (List Value))) : Type 0 where
+  pub apart : LieInRing r (assigned (taking kinds values) (datum 0 key time []) ws es)
   pub takes : AllByRecursion (λ w. IfSome (find place_cmp (at key w) es) (CanRecord kinds values)) ws
 
 -- the panes that a record is linked to can be joined, and what they come to can take it

@@ -10,8 +10,8 @@ ghost use Rattle.wsm_semantics.specs.Replay.{datum};
 ghost use Rattle.wsm_semantics.specs.Summaries.{assigned};
 ghost use Rattle.wsm_panes.specs.Held.{CanRecord, CanEnterWindows, taking};
 
-use crate::list::ListTable;
 use crate::pane::Pane;
+use crate::ring_table::RingTable;
 use crate::table::PaneTable;
 use wsm_record::{Kind, Value};
 use wsm_semantics::Place;
@@ -30,7 +30,7 @@ pub(crate) fn place_of(key: u16, window: Window) -> Place
 
 /// Puts a record into the panes of its windows, and tells how many they are.
 pub(crate) fn enter_windows(
-    table: &mut ListTable<Pane>,
+    table: &mut RingTable<Pane>,
     shape: Shape,
     kinds: &[Kind],
     key: u16,
@@ -41,9 +41,9 @@ pub(crate) fn enter_windows(
     requires time { IsTime time }
     requires few { length values.now ≤ 16 }
     requires types { IsTrue (are_of_kinds kinds.now values.now) }
-    requires can { CanEnterWindows table.old.room kinds.now values.now key time (windows_of_shape shape time) (map.entries table.old.panes) }
+    requires can { CanEnterWindows table.old.ring kinds.now values.now key time (windows_of_shape shape time) (map.entries table.old.panes) }
     ensures panes { map.entries table.new.panes ≡ assigned (taking kinds.now values.now) (datum 0 key time []) (windows_of_shape shape time) (map.entries table.old.panes) }
-    ensures room { table.new.room ≡ table.old.room }
+    ensures ring { table.new.ring ≡ table.old.ring }
     ensures count { result ≡ length (windows_of_shape shape time) }
 {
     let mut count = 0;

@@ -1,15 +1,16 @@
 //! The panes that are held.
 
-ghost use Rattle.std.specs.Prelude.{◌≡◌, ◌*◌, ◌<◌, ◌≤◌, ◌≤ℤ◌, ℤ, pos, List, [], length, IfOk, IsSome, Some, int_lt, option_map, slice_get};
+ghost use Rattle.std.specs.Prelude.{◌≡◌, ◌≢◌, ◌*◌, ◌<◌, ◌≤◌, ◌≤ℤ◌, ℤ, pos, List, [], length, IfOk, IsSome, Some, int_lt, option_map, slice_get};
 ghost use Rattle.std.specs.FinMap as map;
 ghost use Rattle.std.specs.FinMap.Entries.{find, put, where_key};
-ghost use Rattle.wsm_windows.specs.Windows.{IsShape, IsTime, greatest_span, windows_of_shape};
+ghost use Rattle.wsm_windows.specs.Windows.{IsShape, IsTime, greatest_span, period_of, size_of, windows_of_shape};
 ghost use Rattle.wsm_windows.specs.declared.window.Shape.TheVariants.{Session};
 ghost use Rattle.wsm_semantics.specs.Panes.{place_cmp};
 ghost use Rattle.wsm_semantics.specs.Replay.{datum};
 ghost use Rattle.wsm_semantics.specs.Summaries.{Pane as AnyPane, linked};
 ghost use Rattle.wsm_record.specs.declared.event.Value.{Value as OneValue};
 ghost use Rattle.wsm_panes.specs.Held.{CanEnter, IsKept, entries_of, joined_panes, joins_sessions, once_fired, room_of, session_entered, with_entered};
+ghost use Rattle.wsm_panes.specs.Ring.{IsRing};
 ghost use Rattle.wsm_panes.specs.OfKeys.{AreOfKeys, AreDropped};
 ghost use Rattle.wsm_panes.specs.Walk.{following, place_due, place_found};
 
@@ -17,6 +18,8 @@ use crate::entering::enter_windows;
 use crate::joining::{enter_session, linked_pair};
 use crate::list::ListTable;
 use crate::pane::Pane;
+use crate::ring::Ring;
+use crate::ring_table::RingTable;
 use crate::spot::Spot;
 use crate::table::PaneTable;
 use std::alloc::{AllocError, Global};
@@ -45,14 +48,17 @@ pub struct HeldPanes {
     keys: usize,
     shape: Shape,
     live: usize,
-    table: ListTable<Pane>,
+    // The panes of sessions.
+    list: ListTable<Pane>,
+    // The panes of windows on a grid.
+    ring: RingTable<Pane>,
     // Of each key, where windows are sessions.
     sessions: Vec<Sessions>,
 }
 
 impl Model for HeldPanes {
     ghost use Rattle.std.specs.Coded.{codes};
-    ghost use Rattle.wsm_panes.specs.Held.{Held, coded_held};
+    ghost use Rattle.wsm_panes.specs.Held.{Held, coded_held, held_in};
     ghost use Rattle.wsm_panes.specs.contracts.pane.Pane as one_pane;
     ghost use Rattle.wsm_windows.specs.contracts.window.Shape as one_shape;
 
@@ -60,7 +66,7 @@ impl Model for HeldPanes {
 
     ghost coded = { coded_held (Prim.hlevel (codes, one_shape.the_row.coded)) (Prim.hlevel (codes, one_pane.the_row.coded)) };
 
-    ghost view = { λ a. record { keys = a.keys; shape = a.shape; live = a.live; panes = a.table.panes } };
+    ghost view = { λ a. record { keys = a.keys; shape = a.shape; live = a.live; panes = held_in a.shape a.list.panes a.ring.panes } };
 
     ghost use Rattle.wsm_panes.specs.HeldState.{IsSound};
 
@@ -87,7 +93,8 @@ impl HeldPanes {
             keys,
             shape,
             live,
-            table: ListTable::open(alloc, keys * live)?,
+            list: ListTable::open(alloc, list_room(shape, keys * live))?,
+            ring: RingTable::open(alloc, ring_for(shape, keys, live))?,
             sessions: open_sessions(alloc, keys, shape, live)?,
         })
     }
@@ -106,7 +113,7 @@ impl HeldPanes {
             Shape::Session(_) => {
                 let sessions = &mut self.sessions[key as usize];
                 let (session, joined) = enter_session(
-                    &mut self.table,
+                    &mut self.list,
                     sessions,
                     kinds,
                     key,
@@ -120,7 +127,7 @@ impl HeldPanes {
                 }
             }
             _ => Entered {
-                windows: enter_windows(&mut self.table, self.shape, kinds, key, time, values),
+                windows: enter_windows(&mut self.ring, self.shape, kinds, key, time, values),
                 joined: false,
                 session: None,
             },
@@ -138,7 +145,7 @@ impl HeldPanes {
     {
         match self.shape {
             Shape::Session(_) => {
-                linked_pair(&self.table, &self.sessions[key as usize], key, time)
+                linked_pair(&self.list, &self.sessions[key as usize], key, time)
             }
             Shape::Fixed(_) | Shape::Sliding(_, _) => None,
         }
@@ -148,38 +155,20 @@ impl HeldPanes {
     pub fn len(&self) -> usize
         ensures { result ≡ length (entries_of self.now) }
     {
-        self.table.len()
-    }
-
-    /// The pane number `i` in the order of the places, with its place.
-    pub fn at(&self, i: usize) -> (Place, Pane)
-        requires { i < length (entries_of self.now) }
-        ensures { slice_get (entries_of self.now) i ≡ Some result }
-    {
-        self.table.at(i)
-    }
-
-    /// The pane at a place, if one is there.
-    pub fn get(&self, place: Place) -> Option<Pane>
-        ensures { result ≡ find place_cmp place (entries_of self.now) }
-    {
-        self.table.get(place)
-    }
-
-    /// Sets the pane at a place where one is.
-    pub fn replace(&mut self, place: Place, pane: Pane)
-        requires { IsSome (find place_cmp place (entries_of self.old)) }
-        ensures panes { entries_of self.new ≡ put place_cmp place pane (entries_of self.old) }
-        ensures keeps { IsKept self.old self.new }
-    {
-        self.table.put(place, pane);
+        match self.shape {
+            Shape::Session(_) => self.list.len(),
+            _ => self.ring.len(),
+        }
     }
 
     /// Where the pane at a place is, if one is there.
     pub fn find(&self, place: Place) -> Option<Spot>
         ensures { place_found result ≡ option_map (λ _. place) (find place_cmp place (entries_of self.now)) }
     {
-        self.table.find(place)
+        match self.shape {
+            Shape::Session(_) => self.list.find(place),
+            _ => self.ring.find(place),
+        }
     }
 
     /// Where the first pane is in the order of the places, if its window ends by a limit, which is in
@@ -187,7 +176,10 @@ impl HeldPanes {
     pub fn first_due(&self, limit: i64) -> Option<Spot>
         ensures { place_found result ≡ place_due limit (slice_get (entries_of self.now) 0) }
     {
-        self.table.first_due(limit)
+        match self.shape {
+            Shape::Session(_) => self.list.first_due(limit),
+            _ => self.ring.first_due(limit),
+        }
     }
 
     /// Where the pane behind one is, in the order of the places, if its window ends by a limit.
@@ -195,7 +187,10 @@ impl HeldPanes {
         requires { IsSome (find place_cmp spot.place (entries_of self.now)) }
         ensures { place_found result ≡ place_due limit (following spot.place (entries_of self.now)) }
     {
-        self.table.next_due(spot, limit)
+        match self.shape {
+            Shape::Session(_) => self.list.next_due(spot, limit),
+            _ => self.ring.next_due(spot, limit),
+        }
     }
 
     /// The pane at a spot.
@@ -203,7 +198,10 @@ impl HeldPanes {
         requires { IsSome (find place_cmp spot.place (entries_of self.now)) }
         ensures { find place_cmp spot.place (entries_of self.now) ≡ Some result.now }
     {
-        self.table.pane(spot)
+        match self.shape {
+            Shape::Session(_) => self.list.pane(spot),
+            _ => self.ring.pane(spot),
+        }
     }
 
     /// Has the pane at a spot have fired: it has shown all of its records, and the row of the firing
@@ -213,7 +211,10 @@ impl HeldPanes {
         ensures panes { (pane : AnyPane (List OneValue)) × (find place_cmp spot.place (entries_of self.old) ≡ Some pane) × (entries_of self.new ≡ put place_cmp spot.place (once_fired mode row.now pane) (entries_of self.old)) }
         ensures keeps { IsKept self.old self.new }
     {
-        self.table.fire(spot, mode, row);
+        match self.shape {
+            Shape::Session(_) => self.list.fire(spot, mode, row),
+            _ => self.ring.fire(spot, mode, row),
+        }
     }
 
     /// Drops the panes of windows with an end of at most the limit, which is in event time.
@@ -221,8 +222,58 @@ impl HeldPanes {
         ensures panes { entries_of self.new ≡ where_key place_cmp (λ p. int_lt limit p.end) (entries_of self.old) }
         ensures keeps { IsKept self.old self.new }
     {
-        self.table.drop_expired(limit);
-        drop_sessions(&mut self.sessions, limit);
+        match self.shape {
+            Shape::Session(_) => {
+                self.list.drop_expired(limit);
+                drop_sessions(&mut self.sessions, limit);
+            }
+            _ => self.ring.drop_expired(limit),
+        }
+    }
+}
+
+// How many panes there is room for in the list.
+fn list_room(shape: Shape, room: usize) -> usize
+    ensures { (gap : ℤ) → shape ≡ Session gap → result ≡ room }
+{
+    match shape {
+        Shape::Session(_) => room,
+        Shape::Fixed(_) | Shape::Sliding(_, _) => 0,
+    }
+}
+
+// The ring for the windows of a shape.
+fn ring_for(shape: Shape, keys: usize, live: usize) -> Ring
+    requires shape { IsShape shape }
+    requires room { keys * live ≤ MAX_PANES }
+    ensures ring { IsRing result }
+    ensures grid { ((gap : ℤ) → shape ≢ Session gap) → 1 ≤ keys * live → result ≡ record { size = size_of shape; period = period_of shape; keys = keys; bound = live } }
+{
+    match shape {
+        Shape::Fixed(size) => ring_of(size, size, keys, live),
+        Shape::Sliding(size, period) => ring_of(size, period, keys, live),
+        Shape::Session(gap) => ring_of(gap, gap, 0, 0),
+    }
+}
+
+// The ring for windows of a size and a period. It has a slot, also where there is room for no pane.
+fn ring_of(size: i64, period: i64, keys: usize, live: usize) -> Ring
+    requires low { pos 1 ≤ℤ period }
+    requires high { period ≤ℤ size }
+    requires room { keys * live ≤ MAX_PANES }
+    ensures ring { IsRing result }
+    ensures all { 1 ≤ keys * live → result ≡ record { size = size; period = period; keys = keys; bound = live } }
+{
+    let (keys, bound) = if keys * live == 0 {
+        (1, 1)
+    } else {
+        (keys, live)
+    };
+    Ring {
+        size,
+        period,
+        keys,
+        bound,
     }
 }
 

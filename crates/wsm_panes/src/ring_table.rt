@@ -1,18 +1,26 @@
 //! A table kept as a ring of slots.
 
-ghost use Rattle.std.specs.Prelude.{◌≡◌, ◌⊎◌, ◌<◌, ◌≤ℤ◌, IfOk};
+ghost use Rattle.std.specs.Prelude.{◌≡◌, ◌⊎◌, ◌<◌, ◌≤ℤ◌, List, IfOk, IsSome, Some};
 ghost use Rattle.std.specs.FinMap as map;
+ghost use Rattle.wsm_record.specs.declared.event.Value.{Value as OneValue};
+ghost use Rattle.wsm_semantics.specs.Summaries.{Pane as AnyPane};
+ghost use Rattle.wsm_panes.specs.Held.{once_fired};
 ghost use Rattle.wsm_panes.specs.Place.{place_cmp};
 ghost use Rattle.wsm_panes.specs.Ring.{IsRing, RingAdmits, window_number};
 
+use crate::pane::Pane;
 use crate::recording::TakesRecords;
 use crate::ring::Ring;
-use crate::slots::{Slot, clear_expired, fill, first_from, free_slots, pane_at, pane_in, take_out};
+use crate::slots::{
+    Slot, clear_expired, fill, fire_in, first_from, free_slots, pane_at, pane_in, record_in,
+    spot_due, take_out,
+};
 use crate::spot::Spot;
 use crate::table::PaneTable;
 use std::alloc::{AllocError, Global};
 use std::marker::Model;
-use wsm_semantics::Place;
+use wsm_record::{Kind, Mode, Value};
+use wsm_semantics::{Columns, Place};
 
 /// A table kept as a ring of slots: each place has one slot, which is found without a search.
 #[derive(Drop)]
@@ -61,6 +69,18 @@ impl<P: Copy> RingTable<P> {
     }
 }
 
+impl RingTable<Pane> {
+    /// Has the pane at a spot have fired.
+    pub(crate) fn fire(&mut self, spot: Spot, mode: Mode, row: &Option<Columns>)
+        requires { IsSome (map.get self.old.panes spot.place) }
+        ensures panes { (pane : AnyPane (List OneValue)) × (map.get self.old.panes spot.place ≡ Some pane) × (self.new.panes ≡ map.insert self.old.panes spot.place (once_fired mode row.now pane)) }
+        ensures ring { self.new.ring ≡ self.old.ring }
+    {
+        let slot = self.ring.slot(spot.place);
+        fire_in(&mut self.slots, slot, mode, row);
+    }
+}
+
 impl<P: TakesRecords> PaneTable<P> for RingTable<P> {
     ghost use Rattle.wsm_panes.specs.declared.ring.Ring.{Ring as AnyRing};
 
@@ -90,6 +110,12 @@ impl<P: TakesRecords> PaneTable<P> for RingTable<P> {
         self.len += fill(&mut self.slots, slot, place, pane);
     }
 
+    fn enter(&mut self, place: Place, kinds: &[Kind], values: &[Value]) {
+        let slot = self.ring.slot(place);
+        (self.first, self.last) = stretched(self.len, self.first, self.last, place.start);
+        self.len += record_in(&mut self.slots, slot, place, kinds, values);
+    }
+
     fn remove(&mut self, place: Place) {
         let slot = self.ring.slot(place);
         self.len -= take_out(&mut self.slots, slot, place);
@@ -112,12 +138,27 @@ impl<P: TakesRecords> PaneTable<P> for RingTable<P> {
     }
 
     fn first(&self) -> Option<(Place, P)> {
-        first_from(self.ring, &self.slots, self.first, 0, self.last)
+        first_from(self.ring, &self.slots, self.first, 0, self.last).copied()
     }
 
     fn next(&self, place: Place) -> Option<(Place, P)> {
         let key = place.key as usize + 1;
-        first_from(self.ring, &self.slots, place.start, key, self.last)
+        first_from(self.ring, &self.slots, place.start, key, self.last).copied()
+    }
+
+    fn first_due(&self, limit: i64) -> Option<Spot> {
+        spot_due(
+            first_from(self.ring, &self.slots, self.first, 0, self.last),
+            limit,
+        )
+    }
+
+    fn next_due(&self, spot: Spot, limit: i64) -> Option<Spot> {
+        let key = spot.place.key as usize + 1;
+        spot_due(
+            first_from(self.ring, &self.slots, spot.place.start, key, self.last),
+            limit,
+        )
     }
 
     fn pane(&self, spot: Spot) -> &P {

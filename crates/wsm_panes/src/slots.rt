@@ -1,15 +1,22 @@
 //! Entries in the slots of a ring.
 
-ghost use Rattle.std.specs.Prelude.{◌≡◌, ◌≢◌, ◌⊎◌, ◌+◌, ◌*◌, ◌≤◌, ◌<◌, ℕ, ◌≤ℤ◌, ◌<ℤ◌, Some, None, IfOk, length, option_map, slice_set};
+ghost use Rattle.std.specs.Prelude.{◌≡◌, ◌≢◌, ◌⊎◌, ◌+◌, ◌*◌, ◌≤◌, ◌<◌, ℕ, ◌≤ℤ◌, ◌<ℤ◌, Some, None, IfOk, IfSome, IsTrue, length, option_copied, option_map, slice_set};
+ghost use Rattle.wsm_fold.specs.Fold.{are_of_kinds};
+ghost use Rattle.wsm_panes.specs.Held.{once_fired};
 ghost use Rattle.wsm_panes.specs.Ring.{IsRing, IsOfRing, AreInPlace, AreBetween, AreFree, AreUntil, IsFirstFrom, IsFirstInRow, IsOnGrid, IsTakenOut, held, kept_slot, pane_of, slot_at, slot_of, row_of, window_number};
 ghost use Rattle.std.specs.Prelude.{◌*ℤ◌, ◌+ℤ◌};
 ghost use Rattle.std.specs.Int.{w64};
 ghost use Rattle.std.specs.Int.RustNames.{FitsSigned};
 ghost use Rattle.wsm_panes.specs.Ring as spec;
+ghost use Rattle.wsm_panes.specs.Walk.{place_due, place_found};
 
+use crate::pane::Pane;
+use crate::recording::TakesRecords;
 use crate::ring::Ring;
+use crate::spot::Spot;
 use std::alloc::{AllocError, Global};
-use wsm_semantics::Place;
+use wsm_record::{Kind, Mode, Value};
+use wsm_semantics::{Columns, Place};
 
 /// A place in a ring with its pane, where one is held.
 pub(crate) type Slot<P> = Option<(Place, P)>;
@@ -61,6 +68,41 @@ pub(crate) fn fill<P: Copy>(slots: &mut Vec<Slot<P>>, slot: usize, place: Place,
     more
 }
 
+/// Puts a record into the pane at a place, which its slot has, and makes a pane of it where the slot
+/// has no such pane. The record is folded by the values. Tells how many more entries there are.
+pub(crate) fn record_in<P: TakesRecords>(
+    slots: &mut Vec<Slot<P>>,
+    slot: usize,
+    place: Place,
+    kinds: &[Kind],
+    values: &[Value],
+) -> usize
+    requires slot { slot < length slots.old.items }
+    requires few { length values.now ≤ 16 }
+    requires types { IsTrue (are_of_kinds kinds.now values.now) }
+    requires takes { IfSome (pane_of place (slot_at slots.old.items slot)) (P.CanTakeRecord kinds.now values.now) }
+    ensures slots { slots.new.items ≡ slice_set slots.old.items slot (Some (place, P.with_record kinds.now values.now (pane_of place (slot_at slots.old.items slot)))) }
+    ensures len { length (held slots.new.items) ≡ length (held slots.old.items) + result }
+{
+    match &mut slots[slot] {
+        Some((other, pane)) if *other == place => {
+            pane.record(kinds, values);
+            0
+        }
+        _ => fill(slots, slot, place, P::first(values)),
+    }
+}
+
+/// Has the pane in a slot have fired, if one is there.
+pub(crate) fn fire_in(slots: &mut Vec<Slot<Pane>>, slot: usize, mode: Mode, row: &Option<Columns>)
+    requires { slot < length slots.old.items }
+    ensures { slots.new.items ≡ slice_set slots.old.items slot (option_map (λ e. (e.0, once_fired mode row.now e.1)) (slot_at slots.old.items slot)) }
+{
+    if let Some((_, pane)) = &mut slots[slot] {
+        pane.fire(mode, row);
+    }
+}
+
 /// Clears a slot where it has the pane at a place, and tells how many fewer entries there are.
 pub(crate) fn take_out<P: Copy>(slots: &mut Vec<Slot<P>>, slot: usize, place: Place) -> usize
     ensures slots { IsTakenOut place slot slots.old.items slots.new.items }
@@ -76,20 +118,20 @@ pub(crate) fn take_out<P: Copy>(slots: &mut Vec<Slot<P>>, slot: usize, place: Pl
 }
 
 /// The first entry from a window and a key on.
-pub(crate) fn first_from<P: Copy>(
+pub(crate) fn first_from<'a, P: Copy>(
     ring: Ring,
-    slots: &[Slot<P>],
+    slots: &'a [Slot<P>],
     start: i64,
     key: usize,
     last: i64,
-) -> Option<(Place, P)>
+) -> Option<&'a (Place, P)>
     requires ring { IsRing ring }
     requires slots { length slots.now ≡ ring.bound * ring.keys }
     requires placed { AreInPlace ring slots.now }
     requires before { AreUntil last slots.now }
     requires start { IsOnGrid ring start }
     requires last { FitsSigned w64 (last +ℤ ring.size) }
-    ensures { IsFirstFrom ring slots.now start key result }
+    ensures { IsFirstFrom ring slots.now start key (option_copied result) }
 {
     let mut start = start;
     let mut key = key;
@@ -104,20 +146,33 @@ pub(crate) fn first_from<P: Copy>(
     None
 }
 
+/// The spot of an entry, if its window ends by a limit.
+pub(crate) fn spot_due<P: Copy>(found: Option<&(Place, P)>, limit: i64) -> Option<Spot>
+    ensures { place_found result ≡ place_due limit (option_copied found.entry) }
+{
+    match found {
+        Some((place, _)) if place.end <= limit => Some(Spot {
+            place: *place,
+            at: 0,
+        }),
+        _ => None,
+    }
+}
+
 // The first entry of a window from a key on.
-fn first_in_row<P: Copy>(
-    slots: &[Slot<P>],
+fn first_in_row<'a, P: Copy>(
+    slots: &'a [Slot<P>],
     row: usize,
     start: i64,
     key: usize,
     keys: usize,
-) -> Option<(Place, P)>
+) -> Option<&'a (Place, P)>
     requires { row + keys ≤ length slots.now }
-    ensures { IsFirstInRow slots.now row start key keys result }
+    ensures { IsFirstInRow slots.now row start key keys (option_copied result) }
 {
     for key in key..keys {
         if starts_at(&slots[row + key], start) {
-            return slots[row + key];
+            return slots[row + key].as_ref();
         }
     }
     None

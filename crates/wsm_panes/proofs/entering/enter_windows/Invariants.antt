@@ -11,8 +11,8 @@ abbrev pub invariant-loop-window : goal.invariant-loop-window
 invariant-loop-window l = record {
   panes : assigned (taking l.kinds l.values) (datum 0 l.key l.time []) l.window-iterator (map.entries l.table.panes)
       ≡ assigned (taking l.kinds l.values) (datum 0 l.key l.time []) (windows_of_shape l.fn.shape l.time) (map.entries l.fn.table.panes);
-  can : CanEnterWindows l.table.room l.kinds l.values l.key l.time l.window-iterator (map.entries l.table.panes);
+  can : CanEnterWindows l.table.ring l.kinds l.values l.key l.time l.window-iterator (map.entries l.table.panes);
   rising : IsRising l.window-iterator;
-  room : l.table.room ≡ l.fn.table.room;
+  ring : l.table.ring ≡ l.fn.table.ring;
   count : l.count + length l.window-iterator ≡ length (windows_of_shape l.fn.shape l.time);
 }

@@ -13,8 +13,8 @@ returns-then-starts_at g c =
     let again : slot_at c.args.slots.now (c.args.row + c.loop-key.key) ≡ c.index-slots-row-then-starts_at.result = get_or_default c.args.slots.now _ None c.index-slots-row-then-starts_at.result within ∙ sym c.index-slots-row-then-starts_at.is in
     let starts : starts_at c.args.start c.index-slots-row.result ≡ true = sym (simp to_z-of_z at c.starts_at.ensures) ∙ c.if-starts_at.true in
     let none : NoneInRow c.args.slots.now c.args.row c.args.start c.args.key c.loop-key.key = simp to_z-of_z at c.loop-key.invariant in
-    row_found c.args.slots.now c.args.row c.args.start c.args.key c.loop-key.key c.args.keys c.index-slots-row-then-starts_at.result
-    c.loop-key.auto.key c.loop-key-test.true again (ap (starts_at c.args.start) (sym again ∙ at) ∙ starts) none
+    rw c.as_ref.ensures.value (row_found c.args.slots.now c.args.row c.args.start c.args.key c.loop-key.key c.args.keys c.index-slots-row-then-starts_at.result
+    c.loop-key.auto.key c.loop-key-test.true again (ap (starts_at c.args.start) (sym again ∙ at) ∙ starts) none)
 
 pub loop-key-preserved : goal.loop-key-preserved
 loop-key-preserved g c =

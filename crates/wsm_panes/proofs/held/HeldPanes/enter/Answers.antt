@@ -1,6 +1,7 @@
-use Rattle.std.proofs.Common.{◌∷◌, Some, ap, ◌∙◌, SFits, w64, to_z-of_z}
+use Rattle.std.proofs.Common.{◌∷◌, ◌≤◌, ◌*◌, Some, arith, refl, ap, ◌∙◌, SFits, w64, to_z-of_z}
+use Rattle.std.proofs.lemmas.Nat.{mul-le}
 use Rattle.std.specs.FinMap as map
-use Rattle.wsm_panes.proofs.Enters.{few_values, joins_can, room_can, live_can, windows_can, key_of, keys_written}
+use Rattle.wsm_panes.proofs.Enters.{few_values, in_ring, joins_can, room_can, live_can, windows_can, key_of, keys_written}
 use Rattle.wsm_panes.proofs.held.HeldPanes.enter.Goals as goal
 
 pub enter_session-joined-requires-clause-few : goal.enter_session-joined-requires-clause-few
@@ -9,39 +10,45 @@ enter_session-joined-requires-clause-few c = few_values _ _ _ _ _ c.requires
 pub enter_session-joined-requires-clause-joins : goal.enter_session-joined-requires-clause-joins
 enter_session-joined-requires-clause-joins c =
     let time : SFits w64 c.args.time = c.ranges.time in
-    let can = rw (← c.self.view_is) at c.requires in
-    let of = key_of c.in-Session.field-0 c.self.inside.keys c.self.inside.live c.args.key (map.entries c.self.inside.table.panes) c.self.inside.sessions.items (c.self.invariant.sessions c.in-Session.field-0 c.in-Session.is) can.declared c.index_mut-sessions.result.now c.index_mut-sessions.ensures.value in
-    simp to_z-of_z (rw of.same_gap (joins_can _ _ _ _ _ can c.in-Session.field-0 c.in-Session.is))
+    let can = rw (← c.self.view_is, c.in-Session.is) at c.requires in
+    let of = key_of c.in-Session.field-0 c.self.inside.keys c.self.inside.live c.args.key (map.entries c.self.inside.list.panes) c.self.inside.sessions.items (c.self.invariant.sessions c.in-Session.field-0 c.in-Session.is) can.declared c.index_mut-sessions.result.now c.index_mut-sessions.ensures.value in
+    simp to_z-of_z (rw of.same_gap (joins_can _ _ _ _ _ can c.in-Session.field-0 refl))
 
 pub enter_session-joined-requires-clause-room : goal.enter_session-joined-requires-clause-room
 enter_session-joined-requires-clause-room c =
     let time : SFits w64 c.args.time = c.ranges.time in
-    let can = rw (← c.self.view_is) at c.requires in
-    let of = key_of c.in-Session.field-0 c.self.inside.keys c.self.inside.live c.args.key (map.entries c.self.inside.table.panes) c.self.inside.sessions.items (c.self.invariant.sessions c.in-Session.field-0 c.in-Session.is) can.declared c.index_mut-sessions.result.now c.index_mut-sessions.ensures.value in
-    simp to_z-of_z (rw (of.same_gap, c.self.invariant.room) (room_can _ _ _ _ _ can c.in-Session.field-0 c.in-Session.is))
+    let can = rw (← c.self.view_is, c.in-Session.is) at c.requires in
+    let of = key_of c.in-Session.field-0 c.self.inside.keys c.self.inside.live c.args.key (map.entries c.self.inside.list.panes) c.self.inside.sessions.items (c.self.invariant.sessions c.in-Session.field-0 c.in-Session.is) can.declared c.index_mut-sessions.result.now c.index_mut-sessions.ensures.value in
+    simp to_z-of_z (rw (of.same_gap, c.self.invariant.list c.in-Session.field-0 c.in-Session.is) (room_can _ _ _ _ _ can c.in-Session.field-0 refl))
 
 pub enter_session-joined-requires-clause-live : goal.enter_session-joined-requires-clause-live
 enter_session-joined-requires-clause-live c =
     let time : SFits w64 c.args.time = c.ranges.time in
-    let can = rw (← c.self.view_is) at c.requires in
-    let of = key_of c.in-Session.field-0 c.self.inside.keys c.self.inside.live c.args.key (map.entries c.self.inside.table.panes) c.self.inside.sessions.items (c.self.invariant.sessions c.in-Session.field-0 c.in-Session.is) can.declared c.index_mut-sessions.result.now c.index_mut-sessions.ensures.value in
-    simp to_z-of_z (rw (of.same_gap, of.room) (live_can _ _ _ _ _ can c.in-Session.field-0 c.in-Session.is))
+    let can = rw (← c.self.view_is, c.in-Session.is) at c.requires in
+    let of = key_of c.in-Session.field-0 c.self.inside.keys c.self.inside.live c.args.key (map.entries c.self.inside.list.panes) c.self.inside.sessions.items (c.self.invariant.sessions c.in-Session.field-0 c.in-Session.is) can.declared c.index_mut-sessions.result.now c.index_mut-sessions.ensures.value in
+    simp to_z-of_z (rw (of.same_gap, of.room) (live_can _ _ _ _ _ can c.in-Session.field-0 refl))
 
 pub enter_windows-requires : goal.enter_windows-requires
 enter_windows-requires c =
+    let a = c.self.inside in
     let time : SFits w64 c.args.time = c.ranges.time in
     let can = rw (← c.self.view_is) at c.requires in
-    simp to_z-of_z (record { shape = c.self.invariant.shape; time = can.timely; few = few_values _ _ _ _ _ can; types = can.types; can = rw c.self.invariant.room (windows_can _ _ _ _ _ can c.in_default.not-Session) })
+    let grid = c.in_default.not-Session in
+    let whole = (can.apart grid).ring in
+    let some : 1 * 1 ≤ a.keys * a.live = mul-le 1 1 a.keys a.live whole.keys whole.bound in
+    let windows = rw (in_ring a.shape a.list.panes a.ring.panes grid) at (windows_can _ _ _ _ _ can grid) in
+    simp to_z-of_z (record { shape = c.self.invariant.shape; time = can.timely; few = few_values _ _ _ _ _ can; types = can.types; can = rw (c.self.invariant.ring grid (omega (arith, some))) windows })
 
 pub invariant_of-self : goal.invariant_of-self
 invariant_of-self c =
     let time : SFits w64 c.args.time = c.ranges.time in
     record {
       shape = c.self.invariant.shape;
-      room = c.enter_session-joined.ensures.room ∙ c.self.invariant.room;
+      list = λ gap is. c.enter_session-joined.ensures.room ∙ c.self.invariant.list gap is;
+      ring = c.self.invariant.ring;
       sessions = λ gap is.
-          let of = key_of gap c.self.inside.keys c.self.inside.live c.args.key (map.entries c.self.inside.table.panes) c.self.inside.sessions.items (c.self.invariant.sessions gap is) (rw (← c.self.view_is) at c.requires.declared) c.index_mut-sessions.result.now c.index_mut-sessions.ensures.value in
-          keys_written gap c.self.inside.keys c.self.inside.live c.args.key (map.entries c.self.inside.table.panes) (map.entries c.enter_session-joined.new.table.panes) c.self.inside.sessions.items c.enter_session-joined.new.sessions (c.self.invariant.sessions gap is)
+          let of = key_of gap c.self.inside.keys c.self.inside.live c.args.key (map.entries c.self.inside.list.panes) c.self.inside.sessions.items (c.self.invariant.sessions gap is) (rw (← c.self.view_is) at c.requires.declared) c.index_mut-sessions.result.now c.index_mut-sessions.ensures.value in
+          keys_written gap c.self.inside.keys c.self.inside.live c.args.key (map.entries c.self.inside.list.panes) (map.entries c.enter_session-joined.new.table.panes) c.self.inside.sessions.items c.enter_session-joined.new.sessions (c.self.invariant.sessions gap is)
           (record {
             same_gap = ap (λ s. s.gap) c.enter_session-joined.ensures.sessions ∙ of.same_gap;
             room = ap (λ s. s.room) c.enter_session-joined.ensures.sessions ∙ of.room;
@@ -54,20 +61,20 @@ invariant_of-self c =
 pub returns-in-Session-clause-panes : goal.returns-in-Session-clause-panes
 returns-in-Session-clause-panes c =
     let time : SFits w64 c.args.time = c.ranges.time in
-    let can = rw (← c.self.view_is) at c.requires in
-    let of = key_of c.in-Session.field-0 c.self.inside.keys c.self.inside.live c.args.key (map.entries c.self.inside.table.panes) c.self.inside.sessions.items (c.self.invariant.sessions c.in-Session.field-0 c.in-Session.is) can.declared c.index_mut-sessions.result.now c.index_mut-sessions.ensures.value in
+    let can = rw (← c.self.view_is, c.in-Session.is) at c.requires in
+    let of = key_of c.in-Session.field-0 c.self.inside.keys c.self.inside.live c.args.key (map.entries c.self.inside.list.panes) c.self.inside.sessions.items (c.self.invariant.sessions c.in-Session.field-0 c.in-Session.is) can.declared c.index_mut-sessions.result.now c.index_mut-sessions.ensures.value in
     rw (← c.self.view_is, c.in-Session.is) (rw of.same_gap at (simp to_z-of_z at c.enter_session-joined.ensures.panes))
 
 pub returns-in-Session-clause-joined : goal.returns-in-Session-clause-joined
 returns-in-Session-clause-joined c =
     let time : SFits w64 c.args.time = c.ranges.time in
-    let can = rw (← c.self.view_is) at c.requires in
-    let of = key_of c.in-Session.field-0 c.self.inside.keys c.self.inside.live c.args.key (map.entries c.self.inside.table.panes) c.self.inside.sessions.items (c.self.invariant.sessions c.in-Session.field-0 c.in-Session.is) can.declared c.index_mut-sessions.result.now c.index_mut-sessions.ensures.value in
+    let can = rw (← c.self.view_is, c.in-Session.is) at c.requires in
+    let of = key_of c.in-Session.field-0 c.self.inside.keys c.self.inside.live c.args.key (map.entries c.self.inside.list.panes) c.self.inside.sessions.items (c.self.invariant.sessions c.in-Session.field-0 c.in-Session.is) can.declared c.index_mut-sessions.result.now c.index_mut-sessions.ensures.value in
     rw (← c.self.view_is, c.in-Session.is) (rw of.same_gap at (simp to_z-of_z at c.enter_session-joined.ensures.joined))
 
 pub returns-in-Session-clause-session : goal.returns-in-Session-clause-session
 returns-in-Session-clause-session c =
     let time : SFits w64 c.args.time = c.ranges.time in
-    let can = rw (← c.self.view_is) at c.requires in
-    let of = key_of c.in-Session.field-0 c.self.inside.keys c.self.inside.live c.args.key (map.entries c.self.inside.table.panes) c.self.inside.sessions.items (c.self.invariant.sessions c.in-Session.field-0 c.in-Session.is) can.declared c.index_mut-sessions.result.now c.index_mut-sessions.ensures.value in
+    let can = rw (← c.self.view_is, c.in-Session.is) at c.requires in
+    let of = key_of c.in-Session.field-0 c.self.inside.keys c.self.inside.live c.args.key (map.entries c.self.inside.list.panes) c.self.inside.sessions.items (c.self.invariant.sessions c.in-Session.field-0 c.in-Session.is) can.declared c.index_mut-sessions.result.now c.index_mut-sessions.ensures.value in
     rw (← c.self.view_is, c.in-Session.is) (ap Some (rw of.same_gap at (simp to_z-of_z at c.enter_session-joined.ensures.session)))

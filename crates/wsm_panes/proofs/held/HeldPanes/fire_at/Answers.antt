@@ -4,32 +4,58 @@ use Rattle.std.specs.FinMap as map
 use Rattle.std.specs.FinMap.{entries-insert, entries_sorted, get-entries}
 use Rattle.wsm_panes.specs.Held.{once_fired, windows_of_key}
 use Rattle.wsm_panes.proofs.Entries.{places_total}
-use Rattle.wsm_panes.proofs.Enters.{keys_alike, windows_replaced}
+use Rattle.wsm_panes.proofs.Enters.{in_ring, keys_alike, windows_replaced}
 use Rattle.wsm_panes.proofs.held.HeldPanes.fire_at.Goals as goal
 use Rattle.wsm_semantics.proofs.Each.{as_true}
 
 pub fire-requires : goal.fire-requires
-fire-requires c = ap is_some (get-entries c.self.inside.table.panes c.args.spot.place) ∙ (rw (← c.self.view_is) at c.requires)
+fire-requires c = ap is_some (get-entries c.self.inside.list.panes c.args.spot.place) ∙ (rw (← c.self.view_is, c.in-Session.is) at c.requires)
 
 pub invariant_of-self : goal.invariant_of-self
 invariant_of-self c =
-    let m = c.self.inside.table.panes in
+    let m = c.self.inside.list.panes in
     let e = c.fire.ensures.panes in
     let pane = once_fired c.args.mode c.args.row.now e.0 in
     record {
       shape = c.self.invariant.shape;
-      room = c.fire.ensures.room ∙ c.self.invariant.room;
+      list = λ gap is. c.fire.ensures.room ∙ c.self.invariant.list gap is;
+      ring = c.self.invariant.ring;
       sessions = λ gap is.
           keys_alike gap c.self.inside.keys c.self.inside.live (map.entries m) (map.entries c.fire.new.self.panes) c.self.inside.sessions.items (c.self.invariant.sessions gap is)
           (λ k. ap (windows_of_key k) (ap map.entries e.2 ∙ entries-insert places_total m c.args.spot.place pane)
-          ∙ windows_replaced k c.args.spot.place pane (map.entries m) (as_true _ (entries_sorted m)) (rw (← c.self.view_is) at c.requires));
+          ∙ windows_replaced k c.args.spot.place pane (map.entries m) (as_true _ (entries_sorted m)) (rw (← c.self.view_is, c.in-Session.is) at c.requires));
     }
 
-pub returns-clause-panes : goal.returns-clause-panes
-returns-clause-panes c =
-    let m = c.self.inside.table.panes in
+pub returns-in-Session-clause-panes : goal.returns-in-Session-clause-panes
+returns-in-Session-clause-panes c =
+    let m = c.self.inside.list.panes in
     let e = c.fire.ensures.panes in (
       e.0,
-      rw (← c.self.view_is) (sym (get-entries m c.args.spot.place) ∙ e.1),
-      rw (← c.self.view_is) (ap map.entries e.2 ∙ entries-insert places_total m c.args.spot.place (once_fired c.args.mode c.args.row.now e.0)),
+      rw (← c.self.view_is, c.in-Session.is) (sym (get-entries m c.args.spot.place) ∙ e.1),
+      rw (← c.self.view_is, c.in-Session.is) (ap map.entries e.2 ∙ entries-insert places_total m c.args.spot.place (once_fired c.args.mode c.args.row.now e.0)),
+    )
+
+pub fire-requires-in_default : goal.fire-requires-in_default
+fire-requires-in_default c =
+    let a = c.self.inside in
+    ap is_some (get-entries a.ring.panes c.args.spot.place) ∙ (rw (← c.self.view_is, in_ring a.shape a.list.panes a.ring.panes c.in_default.not-Session) at c.requires)
+
+pub invariant_of-self-in_default : goal.invariant_of-self-in_default
+invariant_of-self-in_default c = record {
+  shape = c.self.invariant.shape;
+  list = c.self.invariant.list;
+  ring = λ grid some. c.fire-in_default.ensures.ring ∙ c.self.invariant.ring grid some;
+  sessions = c.self.invariant.sessions;
+}
+
+pub returns-in_default-clause-panes : goal.returns-in_default-clause-panes
+returns-in_default-clause-panes c =
+    let a = c.self.inside in
+    let m = a.ring.panes in
+    let e = c.fire-in_default.ensures.panes in
+    let old = in_ring a.shape a.list.panes m c.in_default.not-Session in
+    let new = in_ring a.shape a.list.panes c.fire-in_default.new.self.panes c.in_default.not-Session in (
+      e.0,
+      rw (← c.self.view_is, old) (sym (get-entries m c.args.spot.place) ∙ e.1),
+      rw (← c.self.view_is, old, new) (ap map.entries e.2 ∙ entries-insert places_total m c.args.spot.place (once_fired c.args.mode c.args.row.now e.0)),
     )

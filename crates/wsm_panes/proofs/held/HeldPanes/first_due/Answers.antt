@@ -1,7 +1,13 @@
 use Rattle.std.proofs.Common.{SFits, w64, to_z-of_z}
+use Rattle.wsm_panes.proofs.Enters.{in_ring}
 use Rattle.wsm_panes.proofs.held.HeldPanes.first_due.Goals as goal
 
-pub returns : goal.returns
-returns c =
+pub returns-in-Session : goal.returns-in-Session
+returns-in-Session c =
     let limit : SFits w64 c.args.limit = c.ranges.limit in
-    rw (← c.self.view_is) (simp to_z-of_z at c.first_due.ensures)
+    rw (← c.self.view_is, c.in-Session.is) (simp to_z-of_z at c.first_due.ensures)
+
+pub returns-in_default : goal.returns-in_default
+returns-in_default c =
+    let limit : SFits w64 c.args.limit = c.ranges.limit in
+    rw (← c.self.view_is, in_ring c.self.inside.shape c.self.inside.list.panes c.self.inside.ring.panes c.in_default.not-Session) (simp to_z-of_z at c.first_due-in_default.ensures)

@@ -1,5 +1,6 @@
 use Rattle.std.proofs.Common.{SFits, w64, rules, ap, ◌∙◌}
 use Rattle.std.specs.FinMap as map
+use Rattle.std.specs.Option.{option_copied}
 use Rattle.std.specs.Prelude.{slice_get}
 use Rattle.std.proofs.lemmas.Int.{to_z-of_z}
 use Rattle.wsm_panes.specs.Ring.{AreUntil, IsFirstFrom}
@@ -18,6 +19,6 @@ first_from-requires-clause-before g c =
 pub returns : goal.returns
 returns g c =
     let first : SFits w64 c.self.inside.first = search rules in
-    let found : IsFirstFrom c.self.inside.ring c.self.inside.slots.items c.self.inside.first 0 c.first_from.result = rw c.deref.ensures.value at (simp to_z-of_z at c.first_from.ensures) in
-    first_walk c.self.inside.ring c.self.inside.slots.items c.self.invariant.placed c.self.inside.first c.self.inside.last c.first_from.result c.self.invariant.between found
+    let found : IsFirstFrom c.self.inside.ring c.self.inside.slots.items c.self.inside.first 0 (option_copied c.first_from.result) = rw c.deref.ensures.value at (simp to_z-of_z at c.first_from.ensures) in
+    c.copied.ensures ∙ first_walk c.self.inside.ring c.self.inside.slots.items c.self.invariant.placed c.self.inside.first c.self.inside.last (option_copied c.first_from.result) c.self.invariant.between found
     ∙ ap (λ t. slice_get (map.entries t.panes) 0) c.self.view_is

@@ -1,5 +1,6 @@
 use Rattle.std.proofs.Common.{◌≡◌, ◌+◌, true, SFits, w64, rules, ap, ◌∙◌}
 use Rattle.std.specs.FinMap as map
+use Rattle.std.specs.Option.{option_copied}
 use Rattle.std.proofs.lemmas.Int.{to_z-of_z}
 use Rattle.wsm_panes.specs.Walk.{following}
 use Rattle.wsm_panes.specs.Ring.{AreUntil, IsFirstFrom, IsOfRing, IsOnGrid, window_number}
@@ -29,6 +30,6 @@ returns g c =
     let start : SFits w64 c.args.place.start = search rules in
     let there : map.contains_key (panes_in c.self.inside.slots.items) c.args.place ≡ true = ap (λ t. map.contains_key t.panes c.args.place) c.self.view_is ∙ c.requires in
     let of : IsOfRing c.self.inside.ring c.args.place = of_ring c.self.inside.ring c.self.inside.slots.items c.self.invariant.placed c.args.place there in
-    let found : IsFirstFrom c.self.inside.ring c.self.inside.slots.items c.args.place.start (c.args.place.key + 1) c.first_from.result = rw c.deref.ensures.value at (simp to_z-of_z at c.first_from.ensures) in
-    next_walk c.self.inside.ring c.self.inside.slots.items c.self.invariant.placed c.args.place c.first_from.result of found
+    let found : IsFirstFrom c.self.inside.ring c.self.inside.slots.items c.args.place.start (c.args.place.key + 1) (option_copied c.first_from.result) = rw c.deref.ensures.value at (simp to_z-of_z at c.first_from.ensures) in
+    c.copied.ensures ∙ next_walk c.self.inside.ring c.self.inside.slots.items c.self.invariant.placed c.args.place (option_copied c.first_from.result) of found
     ∙ ap (λ t. following c.args.place (map.entries t.panes)) c.self.view_is
