@@ -1,5 +1,5 @@
 -- No pane that ends after a watermark fires by it, nor does any behind it.
-use Rattle.std.proofs.Common.{◌≡◌, ℕ, zero, suc, Bool, true, false, ◌&&◌, cond, T, Some, None, List, [], ◌∷◌, drop, refl, ◌∙◌, arith}
+use Rattle.std.proofs.Common.{◌≡◌, ℕ, zero, suc, Bool, true, false, ◌&&◌, cond, T, Some, None, List, [], ◌∷◌, drop, refl, sym, subst, ◌∙◌, inl, inr, arith}
 use Rattle.std.proofs.lemmas.Int.{ints}
 use Rattle.std.specs.Prelude.{ℤ, pos, ◌+ℤ◌, ◌≤ℤ◌, ◌<ℤ◌, int_lt, int_le, nat_lt, slice_get}
 use Rattle.std.specs.List.{AllByRecursion}
@@ -13,7 +13,9 @@ use Rattle.wsm_semantics.specs.Query.{Query}
 use Rattle.wsm_semantics.specs.Panes.{place_cmp}
 use Rattle.wsm_semantics.specs.Firings.{kind_on_watermark}
 use Rattle.wsm_semantics.specs.Summaries.{Pane, kind_by_watermark}
+use Rattle.wsm_panes.specs.Walk.{place_due}
 use Rattle.wsm_firing.proofs.AtPlace.{first_of, second_of, lesser}
+use Rattle.wsm_firing.proofs.Walk.{rest_due}
 
 never : (a b c d : Bool) → cond ((a && false) && b) (Some OnTime) (cond ((c && false) && d) (Some Final) None) ≡ None
 never true b true d = refl
@@ -63,3 +65,10 @@ module _ {X : Type 0} (q : Query) (prompt : pos 0 ≤ℤ q.clock.lateness) (old 
       let near : new <ℤ x.0.end = rw same far in
       (ahead q prompt old new x.0 _ x.1.unshown near, all_still x.0 es (first_of (below_all place_cmp x.0 es) (is_sorted place_cmp es) sorted) near)
   rest_still (x ∷ es) (suc i) e sorted at far = rest_still es i e (second_of (below_all place_cmp x.0 es) (is_sorted place_cmp es) sorted) at far
+
+  -- where a walk comes to its end
+  pub none_due : (es : List (Place × Pane X)) (i : ℕ) → T (is_sorted place_cmp es) → place_due new (slice_get es i) ≡ None → AllByRecursion IsStill (drop i es)
+  none_due es i sorted none = elim (rest_due new es i none) [
+    | inl past ↦ subst (AllByRecursion IsStill) (sym past) tt
+    | inr e ↦ rest_still es i e.0 sorted e.1 e.2
+  ]

@@ -1,5 +1,5 @@
 -- The panes that a limit leaves are those from the first that ends after it on.
-use Rattle.std.proofs.Common.{◌≡◌, ℕ, zero, suc, ◌+◌, true, false, cond, T, Some, [], ◌∷◌, drop, refl, ap, ◌∙◌, arith}
+use Rattle.std.proofs.Common.{◌≡◌, ℕ, zero, suc, ◌+◌, true, false, cond, T, None, Some, [], ◌∷◌, drop, refl, sym, ap, ◌∙◌, inl, inr, arith}
 use Rattle.std.proofs.lemmas.Int.{ints}
 use Rattle.std.specs.Prelude.{ℤ, ◌≤ℤ◌, ◌<ℤ◌, int_lt, slice_get}
 use Rattle.std.specs.Ordering.{is_lt}
@@ -7,9 +7,10 @@ use Rattle.std.specs.FinMap.Entries.{where_key, is_sorted, below_all}
 use Rattle.wsm_semantics.specs.declared.place.Place.{Place}
 use Rattle.wsm_semantics.specs.Panes.{place_cmp}
 use Rattle.wsm_semantics.specs.Summaries.{Pane}
+use Rattle.wsm_panes.specs.Walk.{place_due}
 use Rattle.wsm_firing.proofs.AtPlace.{first_of, second_of, lesser}
 use Rattle.wsm_firing.proofs.Behind.{ends_in_order}
-use Rattle.wsm_firing.proofs.Walk.{rest_at}
+use Rattle.wsm_firing.proofs.Walk.{rest_at, rest_due}
 use Rattle.wsm_firing.proofs.Standing.{Folded, Panes}
 
 module _ (limit : ℤ) where
@@ -35,3 +36,10 @@ module _ (limit : ℤ) where
 
   pub next_goes : (es : Panes) (i : ℕ) (e : Place × Pane Folded) → slice_get es i ≡ Some e → int_lt limit e.0.end ≡ false → left (drop i es) ≡ left (drop (i + 1) es)
   next_goes es i e at past = ap left (rest_at es i e at) ∙ ap (λ b. cond b (e ∷ left (drop (i + 1) es)) (left (drop (i + 1) es))) past
+
+  -- where a walk comes to its end
+  pub none_goes : (es : Panes) (i : ℕ) → T (is_sorted place_cmp es) → place_due limit (slice_get es i) ≡ None → left (drop i es) ≡ drop i es
+  none_goes es i sorted none = elim (rest_due limit es i none) [
+    | inl past ↦ ap left past ∙ sym past
+    | inr e ↦ rest_left es i e.0 sorted e.1 e.2
+  ]

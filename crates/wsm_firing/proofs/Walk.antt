@@ -1,6 +1,8 @@
 -- A walk over panes in order that fires those that have a kind, one after another.
-use Rattle.std.proofs.Common.{◌≡◌, ℕ, zero, suc, ◌+◌, cond, T, Option, Some, None, List, [], ◌∷◌, drop, length, refl, sym, ap, subst, ◌∙◌, add-one}
-use Rattle.std.specs.Prelude.{slice_get}
+use Rattle.std.proofs.Common.{◌≡◌, ℕ, zero, suc, ◌+◌, cond, T, Option, Some, None, List, [], ◌∷◌, drop, refl, sym, ap, subst, ◌∙◌, add-one, ◌⊎◌, inl, inr, true, false, arith}
+use Rattle.std.proofs.lemmas.Int.{ints}
+use Rattle.std.specs.Prelude.{ℤ, ◌<ℤ◌, int_lt, option_map, slice_get}
+use Rattle.std.specs.Option.{is_some}
 use Rattle.std.specs.List.{AllByRecursion, cons_option}
 use Rattle.std.specs.Ordering.{is_eq, is_lt, ordering_reverse}
 use Rattle.std.specs.Cmp.{tied_itself}
@@ -15,6 +17,8 @@ use Rattle.wsm_semantics.specs.Panes.{place_cmp}
 use Rattle.wsm_semantics.specs.Summaries.{Plan, Pane, fired_of, fires, fired_pane, all_fired}
 use Rattle.wsm_semantics.proofs.Tables.{places_total}
 use Rattle.wsm_firing.proofs.Agreeing.{Entries, none_fired}
+use Rattle.wsm_panes.specs.Walk.{following, place_due}
+use Rattle.wsm_panes.proofs.Walk.{following_nth}
 use Rattle.wsm_firing.proofs.AtPlace.{first_of, second_of, lesser}
 
 pub rest_at : {A : Type 0} (xs : List A) (i : ℕ) (x : A) → slice_get xs i ≡ Some x → drop i xs ≡ x ∷ drop (i + 1) xs
@@ -22,7 +26,7 @@ rest_at xs i x at =
     let within = slice_get_within xs i x at in
     rw (drop-cons xs i x, get_or_from_slice_get xs i x x at, add-one) refl
 
-some_same : {A : Type 0} {x y : A} → Some x ≡ Some y → x ≡ y
+pub some_same : {A : Type 0} {x y : A} → Some x ≡ Some y → x ≡ y
 some_same {A} {x} {y} is = let value : Option A → A = λ o. elim o [ None ↦ x | Some z ↦ z ] in ap value is
 
 -- an entry behind another of a list in order
@@ -43,6 +47,60 @@ find_at (x ∷ es) (suc i) e sorted at =
     let less : place_cmp x.0 e.0 ≡ Less = behind x.0 es i e (first_of (below_all place_cmp x.0 es) (is_sorted place_cmp es) sorted) at in
     ap (λ o. cond (is_eq o) (Some x.1) (find place_cmp e.0 es)) (turned x.0 e.0 less) ∙ find_at es i e (second_of (below_all place_cmp x.0 es) (is_sorted place_cmp es) sorted) at
 
+-- what a look-up tells of the pane at a place
+pub none_found : {X : Type 0} (p : Place) (o : Option X) → option_map (λ _. p) o ≡ None → o ≡ None
+none_found p None is = refl
+none_found p (Some x) is = absurd (cc)
+
+pub spot_found : {X : Type 0} (p : Place) (o : Option X) (r : Place) → option_map (λ _. p) o ≡ Some r → (r ≡ p) × (is_some o ≡ true)
+spot_found p None r is = absurd (cc)
+spot_found p (Some x) r is = (sym (some_same is), refl)
+
+-- the entry of which a walk tells the place
+entry_due : {X : Type 0} (limit : ℤ) (o : Option (Place × X)) (p : Place) → place_due limit o ≡ Some p → (x : X) × (o ≡ Some (p, x)) × (int_lt limit p.end ≡ false)
+entry_due limit None p is = absurd (cc)
+entry_due {X} limit (Some e) p is =
+    elim (int_lt limit e.0.end) as (λ b. int_lt limit e.0.end ≡ b → cond {A = Option Place} b None (Some e.0) ≡ Some p → (x : X) × (Some e ≡ Some (p, x)) × (int_lt limit p.end ≡ false)) [
+      | true ↦ λ kept h. absurd (cc)
+      | false ↦ λ past h. let same : e.0 ≡ p = some_same h in (e.1, (λ i. Some (same i, e.1)), ap (λ (r : Place). int_lt limit r.end) (sym same) ∙ past)
+    ] refl is
+
+none_left : {A : Type 0} (xs : List A) (i : ℕ) → slice_get xs i ≡ None → drop i xs ≡ []
+none_left [] zero at = refl
+none_left [] (suc i) at = refl
+none_left (x ∷ xs) zero at = absurd (cc)
+none_left (x ∷ xs) (suc i) at = none_left xs i at
+
+-- where a walk comes to its end there is no entry, or one that ends after the limit
+pub rest_due : {X : Type 0} (limit : ℤ) (es : List (Place × X)) (i : ℕ) → place_due limit (slice_get es i) ≡ None → (drop i es ≡ []) ⊎ ((e : Place × X) × (slice_get es i ≡ Some e) × (limit <ℤ e.0.end))
+rest_due {X} limit es i none = by (slice_get es i) refl none where
+  by : (o : Option (Place × X)) → slice_get es i ≡ o → place_due limit o ≡ None → (drop i es ≡ []) ⊎ ((e : Place × X) × (slice_get es i ≡ Some e) × (limit <ℤ e.0.end))
+  by None at is = inl (none_left es i at)
+  by (Some e) at is =
+      elim (int_lt limit e.0.end) as (λ b. int_lt limit e.0.end ≡ b → cond {A = Option Place} b None (Some e.0) ≡ None → (drop i es ≡ []) ⊎ ((e : Place × X) × (slice_get es i ≡ Some e) × (limit <ℤ e.0.end))) [
+        | true ↦ λ kept h. inr (e, at, grind (arith, ints, kept))
+        | false ↦ λ past h. absurd (cc)
+      ] refl is
+
+module _ {X : Type 0} (limit : ℤ) (es : List (Place × X)) (i : ℕ) (p : Place) (sorted : T (is_sorted place_cmp es)) (due : place_due limit (slice_get es i) ≡ Some p) where
+  pub past_end : int_lt limit p.end ≡ false
+  past_end = (entry_due limit (slice_get es i) p due).2
+
+  found_due : find place_cmp p es ≡ Some (entry_due limit (slice_get es i) p due).0
+  found_due = find_at es i (p, (entry_due limit (slice_get es i) p due).0) sorted (entry_due limit (slice_get es i) p due).1
+
+  pub held_due : is_some (find place_cmp p es) ≡ true
+  held_due = ap is_some found_due
+
+  pub entry_found : (x : X) → find place_cmp p es ≡ Some x → slice_get es i ≡ Some (p, x)
+  entry_found x found = (entry_due limit (slice_get es i) p due).1 ∙ ap (λ (y : X). Some (p, y)) (some_same (sym found_due ∙ found))
+
+  -- behind it comes the next one
+  pub due_behind : place_due limit (following p es) ≡ place_due limit (slice_get es (i + 1))
+  due_behind =
+      ap (place_due limit) (following_nth es i (p, (entry_due limit (slice_get es i) p due).0) sorted (entry_due limit (slice_get es i) p due).1)
+      ∙ ap (λ n. place_due limit (slice_get es n)) (sym (add-one i))
+
 pub holds_at : {A : Type 0} (P : A → Type 0) (xs : List A) (i : ℕ) (x : A) → AllByRecursion P xs → slice_get xs i ≡ Some x → P x
 holds_at P [] i x all at = absurd (cc)
 holds_at P (y ∷ ys) zero x all at = subst P (some_same at) all.0
@@ -56,10 +114,21 @@ module _ {X : Type 0} (plan : Plan X) (q : Query) (kind : Place → Pane X → O
   fired_first (suc n) (e ∷ es) = (e.0, fired_pane plan q.mode e.0 (kind e.0 e.1) e.1) ∷ fired_first n es
 
   -- the next one is as it was
-  pub unfired_at : (n : ℕ) (es : Entries plan q) (e : Place × Pane X) → slice_get (fired_first n es) n ≡ Some e → slice_get es n ≡ Some e
-  unfired_at zero es e at = at
-  unfired_at (suc n) [] e at = at
-  unfired_at (suc n) (x ∷ es) e at = unfired_at n es e at
+  next_same : (n : ℕ) (es : Entries plan q) → slice_get (fired_first n es) n ≡ slice_get es n
+  next_same zero es = refl
+  next_same (suc n) [] = refl
+  next_same (suc n) (x ∷ es) = next_same n es
+
+  same_due : (limit : ℤ) (n i : ℕ) (es : Entries plan q) → place_due limit (slice_get (fired_first n es) i) ≡ place_due limit (slice_get es i)
+  same_due limit zero i es = refl
+  same_due limit (suc n) i [] = refl
+  same_due limit (suc n) zero (x ∷ es) = refl
+  same_due limit (suc n) (suc i) (x ∷ es) = same_due limit n i es
+
+  -- how many have fired is nothing to what is due
+  pub still_due : (limit : ℤ) (n m i : ℕ) (es now then : Entries plan q) → now ≡ fired_first n es → then ≡ fired_first m es → place_due limit (slice_get then i) ≡ place_due limit (slice_get now i)
+  still_due limit n m i es now then a b =
+      ap (λ fs. place_due limit (slice_get fs i)) b ∙ same_due limit m i es ∙ sym (same_due limit n i es) ∙ sym (ap (λ fs. place_due limit (slice_get fs i)) a)
 
   -- it fires, in its place
   pub next_put : (n : ℕ) (es : Entries plan q) (e : Place × Pane X) → T (is_sorted place_cmp es) → slice_get es n ≡ Some e →
@@ -93,15 +162,10 @@ module _ {X : Type 0} (plan : Plan X) (q : Query) (kind : Place → Pane X → O
   pub fires_at : (es : Entries plan q) (i : ℕ) (e : Place × Pane X) → slice_get es i ≡ Some e → fires q kind (drop i es) ≡ cons_option (fired_of q.mode e.0 e.1 (kind e.0 e.1)) (fires q kind (drop (i + 1) es))
   fires_at es i e at = ap (fires q kind) (rest_at es i e at)
 
-  pub length-fired_first : (n : ℕ) (es : Entries plan q) → length (fired_first n es) ≡ length es
-  length-fired_first zero es = refl
-  length-fired_first (suc n) [] = refl
-  length-fired_first (suc n) (e ∷ es) = ap suc (length-fired_first n es)
-
   -- a step of the walk
   module _ (es now : Entries plan q) (i : ℕ) (e : Place × Pane X) (so_far : now ≡ fired_first i es) (sorted : T (is_sorted place_cmp es)) (at : slice_get now i ≡ Some e) where
     pub as_it_was : slice_get es i ≡ Some e
-    as_it_was = unfired_at i es e (ap (λ fs. slice_get fs i) (sym so_far) ∙ at)
+    as_it_was = sym (next_same i es) ∙ ap (λ fs. slice_get fs i) (sym so_far) ∙ at
 
     one_further : fired_first (suc i) es ≡ fired_first (i + 1) es
     one_further = ap (λ n. fired_first n es) (sym (add-one i))

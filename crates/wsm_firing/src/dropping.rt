@@ -37,12 +37,12 @@ fn lose_expired(streams: &mut Streams, held: &HeldPanes, limit: i64)
     if let Form::Panes = streams.form() {
         return;
     }
-    for i in 0..held.len() {
-        let (place, pane) = held.at(i);
-        // Neither this pane nor any behind it is past.
-        if place.end > limit {
+    let mut next = held.first_due(limit);
+    for _ in 0..held.len() {
+        let Some(spot) = next else {
             break;
-        }
-        streams.lose(&pane);
+        };
+        streams.lose(held.pane(spot));
+        next = held.next_due(spot, limit);
     }
 }

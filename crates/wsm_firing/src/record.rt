@@ -117,10 +117,10 @@ fn fire_at(
     ensures capacity { vec_capacity rows.new ≡ vec_capacity rows.old }
     ensures tally { tally.new ≡ tally_with verified.now tally.old (fires (query_of verified.now) (kind_at (query_of verified.now) mark (place ∷ [])) (entries_of held.old)) }
 {
-    let Some(pane) = held.get(place) else {
+    let Some(spot) = held.find(place) else {
         return;
     };
-    if let Some(kind) = record_kind(verified, mark, place, &pane) {
+    if let Some(kind) = record_kind(verified, mark, place, held.pane(spot)) {
         fire(
             verified,
             machine,
@@ -128,7 +128,7 @@ fn fire_at(
             streams,
             rows,
             tally,
-            Due { kind, place, pane },
+            Due { kind, spot },
         );
     }
 }

@@ -24,17 +24,17 @@ pub struct Answer {
 }
 
 /// Runs FIRE on a pane that fires.
-pub fn run(verified: &Verified, machine: &mut Machine, due: &Due) -> Answer
-    requires { MayFire verified.now (fired_by verified.now.header.mode due.now) }
-    ensures columns { result.columns ≡ columns_by (plan_of verified.now) due.now.place.key (fired_count_of verified.now.header.mode due.now.pane) due.now.pane.folded }
-    ensures steps { result.steps ≡ pane_cost_by verified.now (fired_by verified.now.header.mode due.now) }
+pub fn run(verified: &Verified, machine: &mut Machine, due: Due, pane: &Pane) -> Answer
+    requires { MayFire verified.now (fired_by verified.now.header.mode due pane.now) }
+    ensures columns { result.columns ≡ columns_by (plan_of verified.now) due.spot.place.key (fired_count_of verified.now.header.mode pane.now) pane.now.folded }
+    ensures steps { result.steps ≡ pane_cost_by verified.now (fired_by verified.now.header.mode due pane.now) }
 {
     let header = verified.program().header();
     let inputs = Inputs {
-        key: due.place.key,
+        key: due.spot.place.key,
         values: &[],
-        count: fired_count(header.mode, &due.pane) as i64,
-        accs: due.pane.folded().unwrap(),
+        count: fired_count(header.mode, pane) as i64,
+        accs: pane.folded().unwrap(),
     };
     let fired = machine.fire(verified, &inputs);
     let columns = if fired.emits {

@@ -104,15 +104,15 @@ impl Streams {
         }
     }
 
-    fn lose_row(&mut self, row: Columns)
-        requires { CanLose self.old (Some row) }
-        ensures told { (before now : List (List Value)) → IsTold self.old before (row ∷ now) → IsTold self.new before now }
+    fn lose_row(&mut self, row: &Columns)
+        requires { CanLose self.old (Some row.now) }
+        ensures told { (before now : List (List Value)) → IsTold self.old before (row.now ∷ now) → IsTold self.new before now }
         ensures alike { AreAlike self.old self.new }
     {
         match self.form {
             Form::Panes => {}
-            Form::Istream | Form::Dstream => self.changes.minus(row),
-            Form::Rstream => self.relation.remove(&row),
+            Form::Istream | Form::Dstream => self.changes.minus(*row),
+            Form::Rstream => self.relation.remove(row),
         }
     }
 

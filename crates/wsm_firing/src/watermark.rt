@@ -41,13 +41,12 @@ pub fn fire_by_watermark(
 {
     let header = verified.program().header();
     let mut tally = Tally::none();
-    for i in 0..held.len() {
-        let (place, pane) = held.at(i);
-        // Neither this pane nor any behind it is due.
-        if place.end > new {
+    let mut next = held.first_due(new);
+    for _ in 0..held.len() {
+        let Some(spot) = next else {
             break;
-        }
-        if let Some(kind) = watermark_kind(header, old, new, place, &pane) {
+        };
+        if let Some(kind) = watermark_kind(header, old, new, spot.place, held.pane(spot)) {
             fire(
                 verified,
                 machine,
@@ -55,9 +54,10 @@ pub fn fire_by_watermark(
                 streams,
                 rows,
                 &mut tally,
-                Due { kind, place, pane },
+                Due { kind, spot },
             );
         }
+        next = held.next_due(spot, new);
     }
     tally
 }

@@ -1,12 +1,11 @@
 -- The entry that follows a place in a sorted list.
-use Rattle.std.proofs.Common.{◌≡◌, ◌≢◌, ℕ, zero, suc, ◌<◌, true, T, Option, Some, None, List, [], ◌∷◌, length, get_or, refl, sym, ap, ◌∙◌, inl, inr, subst, ◌+◌, arith}
+use Rattle.std.proofs.Common.{◌≡◌, ℕ, zero, suc, ◌<◌, true, T, Some, None, List, [], ◌∷◌, length, get_or, refl, sym, ap, ◌∙◌, inl, inr, subst, ◌+◌, arith}
 use Rattle.std.specs.Prelude.{slice_get}
 use Rattle.std.specs.declared.cmp.Ordering.TheVariants.{Less, Equal, Greater}
 use Rattle.std.specs.FinMap.{find, is_sorted}
 use Rattle.std.specs.FinMap.Entries.{below_all}
 use Rattle.std.specs.Ordering.{is_lt, ordering_reverse}
-use Rattle.std.proofs.lemmas.Option.{same_Some, slice_get_within, get_or_from_slice_get}
-use Rattle.std.specs.Option.{is_some}
+use Rattle.std.proofs.lemmas.Option.{same_Some}
 use Rattle.std.specs.Cmp.{tied_itself}
 use Rattle.wsm_semantics.specs.declared.place.Place.{Place}
 use Rattle.wsm_panes.specs.Place.{place_cmp, before}
@@ -51,20 +50,6 @@ following_at p (e ∷ es) d sorted within same = elim (cases_Ordering (place_cmp
   ]
 ]
 
--- an entry at the place is found
-pub found_at : {P : Type 0} (p : Place) (es : List (Place × P)) (i : ℕ) (d : Place × P) → i < length es → (get_or es i d).0 ≡ p → find place_cmp p es ≢ None
-found_at p [] i d within same none = absurd (omega arith)
-found_at p (e ∷ es) zero d within same none =
-    let tie : place_cmp p e.0 ≡ Equal = rw same (tied_itself places_total p) in
-    let bad : Some e.1 ≡ None = rw tie at none in cc
-found_at p (e ∷ es) (suc i) d within same none = elim (cases_Ordering (place_cmp p e.0)) [
-  | inl less ↦ found_at p es i d (omega arith) same (rw less at none)
-  | inr rest ↦ elim rest [
-    | inl tie ↦ let bad : Some e.1 ≡ None = rw tie at none in cc
-    | inr more ↦ found_at p es i d (omega arith) same (rw more at none)
-  ]
-]
-
 pub after_gap : {P : Type 0} (p : Place) (es : List (Place × P)) (i : ℕ) → IsGapFor es p i → following p es ≡ slice_get es i
 after_gap p es i gap = following_gap p es gap.absent ∙ ap (slice_get es) (sym gap.stops)
 
@@ -92,15 +77,3 @@ following_nth (x ∷ es) (suc i) e sorted at =
     let above : place_cmp x.0 e.0 ≡ Less = nth_above x.0 es i e (first_of_and (below_all place_cmp x.0 es) _ sorted) at in
     let back : place_cmp e.0 x.0 ≡ Greater = places_total.antisymm e.0 x.0 ∙ ap ordering_reverse above in
     rw back (following_nth es i e (second_of_and (below_all place_cmp x.0 es) _ sorted) at)
-
-pub nth_some : {P : Type 0} (es : List (Place × P)) (i : ℕ) → i < length es → is_some (slice_get es i) ≡ true
-nth_some [] i within = absurd (omega arith)
-nth_some (e ∷ es) zero within = refl
-nth_some (e ∷ es) (suc i) within = nth_some es i (omega arith)
-
-some_of : {P : Type 0} (o : Option P) → o ≢ None → is_some o ≡ true
-some_of None some = absurd (some refl)
-some_of (Some v) some = refl
-
-pub nth_there : {P : Type 0} (es : List (Place × P)) (i : ℕ) (e : Place × P) → slice_get es i ≡ Some e → is_some (find place_cmp e.0 es) ≡ true
-nth_there es i e at = some_of _ (found_at e.0 es i e (slice_get_within es i e at) (ap (λ x. x.0) (get_or_from_slice_get es i e e at)))

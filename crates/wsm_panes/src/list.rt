@@ -125,11 +125,6 @@ impl<P: TakesRecords> PaneTable<P> for ListTable<P> {
         enter_in(&mut self.entries, &mut self.store, place, kinds, values);
     }
 
-    fn at(&self, i: usize) -> (Place, P) {
-        let (place, slot) = self.entries[i];
-        (place, self.store.get(slot))
-    }
-
     fn find(&self, place: Place) -> Option<Spot> {
         spot_of(&self.entries, place)
     }

@@ -64,15 +64,6 @@ impl Pane {
         }
     }
 
-    /// The pane once it fired: it has shown all of its records, and the row of the firing stands.
-    pub fn fired(self, mode: Mode, row: Option<Columns>) -> Pane
-        ensures { result ≡ record self { unshown = 0; folded = left_folded mode self.folded; stands = Row row } }
-    {
-        let mut pane = self;
-        pane.fire(mode, &row);
-        pane
-    }
-
     /// Has it have fired: it has shown all of its records, and the row of the firing stands.
     pub(crate) fn fire(&mut self, mode: Mode, row: &Option<Columns>)
         ensures { self.new ≡ once_fired mode row.now self.old }
@@ -85,11 +76,11 @@ impl Pane {
     }
 
     /// The row that stands for it.
-    pub fn standing_row(&self) -> Option<Columns>
-        ensures { result ≡ kept.standing_row self.now.stands }
+    pub fn standing_row(&self) -> Option<&Columns>
+        ensures { option_map (λ row. row.now) result ≡ kept.standing_row self.now.stands }
     {
-        match self.stands {
-            Standing::Row(row) => row,
+        match &self.stands {
+            Standing::Row(row) => row.as_ref(),
             Standing::Unfired => None,
             Standing::Joined => None,
         }

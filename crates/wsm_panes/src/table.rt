@@ -1,6 +1,6 @@
 //! What a table of panes does.
 
-ghost use Rattle.std.specs.Prelude.{◌≡◌, ◌↔◌, ◌<◌, ◌≤◌, Some, true, IfSome, IsSome, IsTrue, length, option_map, slice_get};
+ghost use Rattle.std.specs.Prelude.{◌≡◌, ◌↔◌, ◌≤◌, Some, true, IfSome, IsSome, IsTrue, length, option_map, slice_get};
 ghost use Rattle.std.specs.FinMap as map;
 ghost use Rattle.wsm_panes.specs.Place.{place_cmp, is_kept};
 ghost use Rattle.wsm_panes.specs.Walk.{following, place_due, place_found};
@@ -74,18 +74,6 @@ pub trait PaneTable<P: TakesRecords> {
     {
         let pane = with_one_more(self.get(place), kinds, values);
         self.put(place, pane);
-    }
-
-    /// The pane number `i` in the order of the places, with its place.
-    fn at(&self, i: usize) -> (Place, P)
-        requires { i < map.len (panes self.now) }
-        ensures { slice_get (map.entries (panes self.now)) i ≡ Some result }
-    {
-        let mut entry = self.first().unwrap();
-        for _ in 0..i {
-            entry = self.next(entry.0).unwrap();
-        }
-        entry
     }
 
     /// Where the pane at a place is, if one is there.

@@ -1,28 +1,44 @@
-use Rattle.std.proofs.Common.{List, sym, ap, subst, ◌∙◌}
+use Rattle.std.proofs.Common.{◌≡◌, List, sym, ap, subst, ◌∙◌}
 use Rattle.std.specs.FinMap as map
 use Rattle.std.specs.FinMap.Entries.{put}
 use Rattle.wsm_record.specs.declared.event.Value.{Value}
 use Rattle.wsm_semantics.specs.Panes.{place_cmp}
-use Rattle.wsm_semantics.specs.declared.standing.Standing.TheVariants.{Row}
-use Rattle.wsm_semantics.specs.Summaries.{Pane, left_folded}
-use Rattle.wsm_panes.specs.Held.{entries_of}
+use Rattle.wsm_semantics.specs.Summaries.{Pane, columns, fired_count}
+use Rattle.wsm_bytecode.specs.Program.{Program, Header}
+use Rattle.wsm_machine.specs.Meaning.{plan_of}
+use Rattle.wsm_panes.specs.Held.{entries_of, once_fired}
 use Rattle.wsm_firing.specs.Streams.{Tells}
 use Rattle.wsm_firing.proofs.Standing.{Panes, can_lose, can_gain, tells_fired}
+use Rattle.wsm_firing.proofs.Walk.{some_same}
 use Rattle.wsm_firing.proofs.fire.fire.Goals as goal
+
+pub run-answer-requires : goal.run-answer-requires
+run-answer-requires c = (c.requires.can c.pane-pane.result.now c.pane-pane.ensures).each.0
 
 pub lose-requires : goal.lose-requires
 lose-requires c =
-    let held = c.args.held.now in let due = c.args.due in
-    can_lose due.place due.pane (entries_of held) (map.entries_sorted held.panes) c.requires.held c.args.streams.now c.requires.tells
+    let held = c.args.held.now in
+    can_lose c.args.due.spot.place c.pane-pane.result.now (entries_of held) (map.entries_sorted held.panes) c.pane-pane.ensures c.args.streams.now c.requires.tells
 
 pub gain-requires : goal.gain-requires
 gain-requires c =
-    let held = c.args.held.now in let due = c.args.due in
-    can_gain due.place due.pane (entries_of held) (map.entries_sorted held.panes) c.requires.held c.args.streams.now c.lose.new.self c.lose.ensures.told c.lose.ensures.alike c.run-answer.result.columns c.requires.tells
+    let held = c.args.held.now in
+    can_gain c.args.due.spot.place c.pane-pane.result.now (entries_of held) (map.entries_sorted held.panes) c.pane-pane.ensures c.args.streams.now c.lose.new.self c.lose.ensures.told c.lose.ensures.alike c.run-answer.result.columns c.requires.tells
+
+pub returns-clause-panes : goal.returns-clause-panes
+returns-clause-panes c = λ h found.
+    let held = c.args.held.now in let place = c.args.due.spot.place in let p = c.args.verified.now in
+    let mode : c.header-header.result.now.mode ≡ p.header.mode = ap (λ (h : Header). h.mode) (c.header-header.ensures.header ∙ ap (λ (p : Program). p.header) c.program.ensures.program) in
+    let e = c.fire_at.ensures.panes in
+    let was : e.0 ≡ h = some_same (sym e.1 ∙ found) in
+    let pane : c.pane-pane.result.now ≡ h = some_same (sym c.pane-pane.ensures ∙ found) in
+    let row : c.run-answer.result.columns ≡ columns (plan_of p) place.key (fired_count p.header.mode h) h.folded =
+    c.run-answer.ensures.columns ∙ ap (λ (x : Pane (List Value)). columns (plan_of p) place.key (fired_count p.header.mode x) x.folded) pane in
+    e.2 ∙ (λ i. put place_cmp place (once_fired (mode i) (row i) (was i)) (entries_of held))
 
 pub returns-clause-tells : goal.returns-clause-tells
 returns-clause-tells c =
-    let held = c.args.held.now in let due = c.args.due in
-    let v : Pane (List Value) = record (due.pane) { unshown = 0; folded = left_folded c.header-header.result.now.mode due.pane.folded; stands = Row c.run-answer.result.columns } in
-    subst (λ (es : Panes). Tells c.args.streams.now c.gain.new.self (entries_of held) es) (sym (c.replace.ensures.panes ∙ ap (λ (h : Pane (List Value)). put place_cmp due.place h (entries_of held)) c.fired.ensures))
-    (tells_fired due.place due.pane (entries_of held) (map.entries_sorted held.panes) c.requires.held c.args.streams.now c.lose.new.self c.lose.ensures.told c.gain.new.self v c.lose.ensures.alike c.gain.ensures.alike c.gain.ensures.told)
+    let held = c.args.held.now in let place = c.args.due.spot.place in
+    let e = c.fire_at.ensures.panes in
+    subst (λ (es : Panes). Tells c.args.streams.now c.gain.new.self (entries_of held) es) (sym e.2)
+    (tells_fired place c.pane-pane.result.now (entries_of held) (map.entries_sorted held.panes) c.pane-pane.ensures c.args.streams.now c.lose.new.self c.lose.ensures.told c.gain.new.self (once_fired c.header-header.result.now.mode c.run-answer.result.columns e.0) c.lose.ensures.alike c.gain.ensures.alike c.gain.ensures.told)

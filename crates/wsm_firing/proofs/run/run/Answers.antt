@@ -16,19 +16,19 @@ pub overflow_cast-inputs : goal.overflow_cast-inputs
 overflow_cast-inputs c =
     let p : Program = c.args.verified.now in
     let header : header_of c.header-header.result.now ≡ p.header = c.header-header.ensures.header ∙ ap (λ (p : Program). p.header) c.program.ensures.program in
-    let count : c.fired_count.result ≡ fired_count p.header.mode c.args.due.now.pane = c.fired_count.ensures ∙ ap (λ (h : Header). fired_count h.mode c.args.due.now.pane) header in
+    let count : c.fired_count.result ≡ fired_count p.header.mode c.args.pane.now = c.fired_count.ensures ∙ ap (λ (h : Header). fired_count h.mode c.args.pane.now) header in
     let whole : IsTrue (is_program p) = subst (λ (p : Program). IsTrue (is_program p)) c.program.ensures.program c.header-header.ensures.lawful in
-    subst (λ (n : ℕ). SFits w64 (pos n)) (sym count) (count_fits p whole c.args.due.now.place.key (fired_count p.header.mode c.args.due.now.pane) c.requires.held c.requires.ranged)
+    subst (λ (n : ℕ). SFits w64 (pos n)) (sym count) (count_fits p whole c.args.due.spot.place.key (fired_count p.header.mode c.args.pane.now) c.requires.held c.requires.ranged)
 
 pub fire-fired-requires : goal.fire-fired-requires
 fire-fired-requires c =
     let p : Program = c.args.verified.now in
-    let key : ℕ = c.args.due.now.place.key in
-    let n : ℕ = fired_count p.header.mode c.args.due.now.pane in
+    let key : ℕ = c.args.due.spot.place.key in
+    let n : ℕ = fired_count p.header.mode c.args.pane.now in
     let header : header_of c.header-header.result.now ≡ p.header = c.header-header.ensures.header ∙ ap (λ (p : Program). p.header) c.program.ensures.program in
-    let count : c.fired_count.result ≡ n = c.fired_count.ensures ∙ ap (λ (h : Header). fired_count h.mode c.args.due.now.pane) header in
+    let count : c.fired_count.result ≡ n = c.fired_count.ensures ∙ ap (λ (h : Header). fired_count h.mode c.args.pane.now) header in
     let whole : IsTrue (is_program p) = subst (λ (p : Program). IsTrue (is_program p)) c.program.ensures.program c.header-header.ensures.lawful in
-    let accs : c.unwrap.result.now ≡ c.requires.held = read (λ values. values.now) c.folded.result c.unwrap.result c.requires.held c.args.due.now.pane.folded c.unwrap.ensures c.folded.ensures c.requires.folded in
+    let accs : c.unwrap.result.now ≡ c.requires.held = read (λ values. values.now) c.folded.result c.unwrap.result c.requires.held c.args.pane.now.folded c.unwrap.ensures c.folded.ensures c.requires.folded in
     let same = same_inputs key n c.fired_count.result c.unwrap.result.now c.requires.held count accs (count_fits p whole key n c.requires.held c.requires.ranged) in
     subst (λ (i : Inputs). IsTrue (in_range p Fire i)) (sym same) c.requires.ranged
 
@@ -41,14 +41,14 @@ columns_of-requires c =
 pub returns-clause-columns : goal.returns-clause-columns
 returns-clause-columns c =
     let p : Program = c.args.verified.now in
-    let key : ℕ = c.args.due.now.place.key in
-    let n : ℕ = fired_count p.header.mode c.args.due.now.pane in
+    let key : ℕ = c.args.due.spot.place.key in
+    let n : ℕ = fired_count p.header.mode c.args.pane.now in
     let header : header_of c.header-header.result.now ≡ p.header = c.header-header.ensures.header ∙ ap (λ (p : Program). p.header) c.program.ensures.program in
-    let count : c.fired_count.result ≡ n = c.fired_count.ensures ∙ ap (λ (h : Header). fired_count h.mode c.args.due.now.pane) header in
+    let count : c.fired_count.result ≡ n = c.fired_count.ensures ∙ ap (λ (h : Header). fired_count h.mode c.args.pane.now) header in
     let whole : IsTrue (is_program p) = subst (λ (p : Program). IsTrue (is_program p)) c.program.ensures.program c.header-header.ensures.lawful in
-    let accs : c.unwrap.result.now ≡ c.requires.held = read (λ values. values.now) c.folded.result c.unwrap.result c.requires.held c.args.due.now.pane.folded c.unwrap.ensures c.folded.ensures c.requires.folded in
+    let accs : c.unwrap.result.now ≡ c.requires.held = read (λ values. values.now) c.folded.result c.unwrap.result c.requires.held c.args.pane.now.folded c.unwrap.ensures c.folded.ensures c.requires.folded in
     let same = same_inputs key n c.fired_count.result c.unwrap.result.now c.requires.held count accs (count_fits p whole key n c.requires.held c.requires.ranged) in
-    let all = columns_are p key n c.args.due.now.pane.folded c.requires.held c.requires.folded _ same c.fire-fired.result.emits c.fire-fired.result.columns.now c.fire-fired.ensures.done c.fire-fired.ensures.row in
+    let all = columns_are p key n c.args.pane.now.folded c.requires.held c.requires.folded _ same c.fire-fired.result.emits c.fire-fired.result.columns.now c.fire-fired.ensures.done c.fire-fired.ensures.row in
     elim c.if-fired.branch [
       | then-fired w ↦ w.columns-is ∙ ap Some w.columns_of.ensures ∙ rw w.if-fired.true at all
       | else-fired w ↦ w.columns-is ∙ rw w.if-fired.false at all
@@ -57,11 +57,11 @@ returns-clause-columns c =
 pub returns-clause-steps : goal.returns-clause-steps
 returns-clause-steps c =
     let p : Program = c.args.verified.now in
-    let key : ℕ = c.args.due.now.place.key in
-    let n : ℕ = fired_count p.header.mode c.args.due.now.pane in
+    let key : ℕ = c.args.due.spot.place.key in
+    let n : ℕ = fired_count p.header.mode c.args.pane.now in
     let header : header_of c.header-header.result.now ≡ p.header = c.header-header.ensures.header ∙ ap (λ (p : Program). p.header) c.program.ensures.program in
-    let count : c.fired_count.result ≡ n = c.fired_count.ensures ∙ ap (λ (h : Header). fired_count h.mode c.args.due.now.pane) header in
+    let count : c.fired_count.result ≡ n = c.fired_count.ensures ∙ ap (λ (h : Header). fired_count h.mode c.args.pane.now) header in
     let whole : IsTrue (is_program p) = subst (λ (p : Program). IsTrue (is_program p)) c.program.ensures.program c.header-header.ensures.lawful in
-    let accs : c.unwrap.result.now ≡ c.requires.held = read (λ values. values.now) c.folded.result c.unwrap.result c.requires.held c.args.due.now.pane.folded c.unwrap.ensures c.folded.ensures c.requires.folded in
+    let accs : c.unwrap.result.now ≡ c.requires.held = read (λ values. values.now) c.folded.result c.unwrap.result c.requires.held c.args.pane.now.folded c.unwrap.ensures c.folded.ensures c.requires.folded in
     let same = same_inputs key n c.fired_count.result c.unwrap.result.now c.requires.held count accs (count_fits p whole key n c.requires.held c.requires.ranged) in
-    steps_are p key n c.args.due.now.pane.folded c.requires.held c.requires.folded _ same c.fire-fired.result.steps c.fire-fired.ensures.steps
+    steps_are p key n c.args.pane.now.folded c.requires.held c.requires.folded _ same c.fire-fired.result.steps c.fire-fired.ensures.steps
