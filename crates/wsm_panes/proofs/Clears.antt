@@ -12,7 +12,7 @@ use Rattle.wsm_panes.specs.Ring.{IsOnGrid, AreInPlace, kept_slot, slot_at, row_o
 use Rattle.wsm_panes.proofs.Rings.{between_fits, next_on_grid}
 use Rattle.wsm_panes.proofs.Placed.{kept_from}
 
-is_past : (limit : ℤ) (p : Place) → limit <ℤ p.end → is_kept limit p ≡ true
+pub is_past : (limit : ℤ) (p : Place) → limit <ℤ p.end → is_kept limit p ≡ true
 is_past limit p h = grind (arith, ints)
 
 past_is : (limit : ℤ) (p : Place) → is_kept limit p ≡ true → limit <ℤ p.end

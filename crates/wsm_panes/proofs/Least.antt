@@ -17,7 +17,7 @@ use Rattle.wsm_semantics.proofs.Assigned.{tied}
 
 module _ {P : Type 0} where
   -- the first entry is found, and so is what a list finds behind it
-  find_head : (f : Place × P) (fs : List (Place × P)) → find place_cmp f.0 (f ∷ fs) ≡ Some f.1
+  pub find_head : (f : Place × P) (fs : List (Place × P)) → find place_cmp f.0 (f ∷ fs) ≡ Some f.1
   find_head f fs = rw (tied f.0 f.0 refl) refl
 
   find_more : (q : Place) (f : Place × P) (fs : List (Place × P)) → find place_cmp q fs ≢ None → find place_cmp q (f ∷ fs) ≢ None

@@ -2,10 +2,9 @@
 use Rattle.std.proofs.Common.{◌≡◌, ◌≢◌, ◌⊎◌, ℕ, zero, suc, ◌+◌, ◌<◌, ◌≤◌, Bool, true, false, cond, Option, Some, None, List, [], ◌∷◌, ◌++◌, length, get_or, set, refl, sym, ap, subst, ◌∙◌, inl, inr, arith}
 use Rattle.std.proofs.lemmas.Bool.{cases_Bool, cases_eq}
 use Rattle.std.proofs.lemmas.List.{get_or-set_same, get_or-set_other, get_or_default}
-use Rattle.std.specs.Borrow.{Bor}
-use Rattle.std.specs.Option.{is_some, option_copied, option_len}
+use Rattle.std.specs.Option.{is_some, option_len}
 use Rattle.std.proofs.lemmas.Option.{same_Some}
-use Rattle.std.specs.Prelude.{ℤ, ◌≤ℤ◌}
+use Rattle.std.specs.Prelude.{ℤ, ◌≤ℤ◌, option_map}
 use Rattle.std.proofs.lemmas.Int.{ints}
 use Rattle.std.proofs.lemmas.Bool.Decides.{Decides-int_eq}
 use Rattle.std.specs.Ordering.{eq_by_cmp}
@@ -35,9 +34,13 @@ none_either : {X : Type 0} (b : Bool) (o : Option X) → o ≡ None → cond b o
 none_either true o h = h
 none_either false o h = refl
 
-pub some_copied : {X : Type 0} (o : Option (Bor X)) → is_some (option_copied o) ≡ is_some o
-some_copied None = refl
-some_copied (Some x) = refl
+pub some_found : {X : Type 0} (p : Place) (o : Option X) → is_some o ≡ true → Some p ≡ option_map (λ _. p) o
+some_found p None some = let bad : false ≡ true = some in absurd (cc)
+some_found p (Some x) some = refl
+
+pub none_found : {X : Type 0} (p : Place) (o : Option X) → is_some o ≡ false → None ≡ option_map (λ _. p) o
+none_found p None none = refl
+none_found p (Some x) none = let bad : true ≡ false = none in absurd (cc)
 
 module _ {P : Type 0} where
   pub find_none : (os : List (Option (Place × P))) (q : Place) → ((i : ℕ) (e : Place × P) → slot_at os i ≡ Some e → e.0 ≢ q) → find place_cmp q (held os) ≡ None
@@ -71,6 +74,11 @@ module _ {P : Type 0} where
         λ i. Some (sym same i, pair i)
     | inr apart ↦ let bad : None ≡ Some v = rw apart at h in cc
   ]
+
+  -- a slot that tells a place's pane is the place's own
+  pub own_of_place : (r : Ring) (os : List (Option (Place × P))) → AreInPlace r os → (q : Place) (i : ℕ) (o : Option P) → pane_of q (slot_at os i) ≡ o → is_some o ≡ true → slot_of r q ≡ i
+  own_of_place r os placed q i None is some = let bad : false ≡ true = some in absurd (cc)
+  own_of_place r os placed q i (Some v) is some = (placed i (q, v) (entry_of q (slot_at os i) v is)).1
 
   pub placed_set : (r : Ring) (os : List (Option (Place × P))) (i : ℕ) (o : Option (Place × P)) → AreInPlace r os → i < length os → ((e : Place × P) → o ≡ Some e → IsOfRing r e.0 × (slot_of r e.0 ≡ i)) → AreInPlace r (set os i o)
   placed_set r os i o placed within new j e at = elim (cases_eq j i) [

@@ -42,7 +42,7 @@ not_below r p q a b from back = elim from [
 ]
 
 -- what is behind a place is from its next key on
-from_behind : (r : Ring) (p q : Place) → IsOfRing r p → IsOfRing r q → place_cmp p q ≡ Less → IsFromOn p.start (p.key + 1) q
+pub from_behind : (r : Ring) (p q : Place) → IsOfRing r p → IsOfRing r q → place_cmp p q ≡ Less → IsFromOn p.start (p.key + 1) q
 from_behind r p q a b less = by_lt_z {P = IsFromOn p.start (p.key + 1) q} p.start q.start
     (λ past. inl past)
     (λ more. by_lt_z {P = IsFromOn p.start (p.key + 1) q} q.start p.start

@@ -5,7 +5,7 @@ use Rattle.std.proofs.lemmas.Int.{ints, by_lt_z}
 use Rattle.std.specs.Option.{is_some}
 use Rattle.wsm_semantics.specs.declared.place.Place.{Place}
 use Rattle.wsm_panes.specs.declared.ring.Ring.{Ring}
-use Rattle.wsm_panes.specs.Ring.{IsOnGrid, AreInPlace, IsFromOn, IsFirstFrom, NoneInRow, IsFirstInRow, slot_at, row_of, starts_at, window_number}
+use Rattle.wsm_panes.specs.Ring.{IsOnGrid, AreInPlace, IsFromOn, IsFirstFrom, IsFirstUntil, AreUntil, NoneInRow, IsFirstInRow, slot_at, row_of, starts_at, window_number}
 use Rattle.wsm_panes.proofs.Rings.{next_on_grid}
 use Rattle.wsm_panes.proofs.Placed.{not_started}
 use Rattle.std.proofs.lemmas.Bool.Decides.{Decides-int_eq}
@@ -50,6 +50,16 @@ module _ {P : Type 0} (r : Ring) (os : List (Option (Place × P))) (placed : Are
         λ i f at from. behind_found start key e found.0 found.5 found.4 here i f at (left i f at from),
       )
 
+  -- and starts by the last time that its window starts by
+  pub scan_until : (start0 start last : ℤ) (key0 key : ℕ) (o : Option (Place × P)) → IsFirstFrom r os start0 key0 o → IsFirstInRow os (row_of r start) start key r.keys o → is_some o ≡ true → start ≤ℤ last → IsFirstUntil r os start0 key0 last o
+  scan_until start0 start last key0 key None first found some until = let bad : false ≡ true = some in absurd (cc)
+  scan_until start0 start last key0 key (Some e) first found some until = (first, omega (arith, ints, found.4, until))
+
+  -- where no entry starts after a last time, it is the first of all
+  pub until_from : (start last : ℤ) (key : ℕ) (o : Option (Place × P)) → AreUntil last os → IsFirstUntil r os start key last o → IsFirstFrom r os start key o
+  until_from start last key None until none = λ i e at from. absurd (omega (arith, ints, none i e at from, until i e at))
+  until_from start last key (Some e) until found = found.0
+
   -- where a row has none, all that is from there on is past the row's window
   pub scan_past : (start : ℤ) (key : ℕ) (o : Option (Place × P)) → IsFirstInRow os (row_of r start) start key r.keys o → is_some o ≡ false → (i : ℕ) (f : Place × P) → slot_at os i ≡ Some f → IsFromOn start key f.0 → start <ℤ f.0.start
   scan_past start key (Some e) none some i f at from = let bad : true ≡ false = some in absurd (cc)
@@ -64,6 +74,10 @@ module _ {P : Type 0} (r : Ring) (os : List (Option (Place × P))) (placed : Are
 
   pub from_next : (next : ℤ) (f : Place × P) → next ≤ℤ f.0.start → IsFromOn next 0 f.0
   from_next next f le = by_lt_z {P = IsFromOn next 0 f.0} next f.0.start (λ less. inl less) (λ more. inr (omega (arith, ints, le, more), omega arith))
+
+pub some_starts : {P : Type 0} (start : ℤ) (o : Option (Place × P)) → starts_at start o ≡ true → is_some o ≡ true
+some_starts start None starts = let bad : false ≡ true = starts in absurd (cc)
+some_starts start (Some e) starts = refl
 
 module _ {P : Type 0} (os : List (Option (Place × P))) (row : ℕ) (start : ℤ) (key k : ℕ) where
   -- a slot that has an entry of the window, behind those that have none

@@ -1,6 +1,7 @@
 -- A ring of slots: which slot a place has, and which panes can stand there.
-use Rattle.std.specs.Prelude.{◌≡◌, ◌≢◌, ◌⊎◌, ◌<ℤ◌, ℕ, ◌+◌, ◌*◌, ◌^◌, ◌≤◌, Bool, true, false, List, [], ◌∷◌, Option, Some, None, length, if◌then◌else◌, slice_index_or, slice_set, ◌<◌, ℤ, pos, ◌+ℤ◌, ◌*ℤ◌, ◌≤ℤ◌, unsigned_abs}
-use Rattle.std.specs.Int.{int_div_euclid, int_rem_euclid}
+use Rattle.std.specs.Prelude.{◌≡◌, ◌≢◌, ◌⊎◌, ◌<ℤ◌, ℕ, ◌+◌, ◌*◌, ◌^◌, ◌≤◌, Bool, true, false, List, [], ◌∷◌, Option, Some, None, length, if◌then◌else◌, slice_index_or, slice_set, ◌<◌, ℤ, pos, ◌+ℤ◌, ◌-ℤ◌, ◌*ℤ◌, ◌≤ℤ◌, unsigned_abs}
+use Rattle.std.specs.Int.{w64, int_div_euclid, int_min, int_rem_euclid}
+use Rattle.std.specs.Int.RustNames.{FitsSigned}
 use Rattle.std.specs.Ordering.{eq_by_cmp, int_eq}
 use Rattle.std.specs.List.{AllByRecursion}
 use Rattle.std.specs.FinMap as map
@@ -68,6 +69,11 @@ AreFree os = (i : ℕ) (x : _) → slice_index_or os i None ≢ Some x
 abbrev pub slot_at : {X : Type 0} → List (Option X) → ℕ → Option X
 slot_at os i = slice_index_or os i None
 
+-- the entry in the slot that was found, if one was
+abbrev pub at_slot : {X : Type 0} → List (Option X) → Option ℕ → Option X
+at_slot os None = None
+at_slot os (Some i) = slot_at os i
+
 -- the pane at a place, of what is in its slot
 abbrev pub pane_of : {P : Type 0} → Place → Option (Place × P) → Option P
 pane_of q None = None
@@ -102,6 +108,16 @@ IsFromOn start key p = (start <ℤ p.start) ⊎ ((p.start ≡ start) × (key ≤
 abbrev pub IsFirstFrom : {P : Type 0} → Ring → List (Option (Place × P)) → ℤ → ℕ → Option (Place × P) → Type 0
 IsFirstFrom r os start key None = (i : ℕ) (e : Place × _) → slot_at os i ≡ Some e → ¬ (IsFromOn start key e.0)
 IsFirstFrom r os start key (Some e) = (slot_at os (slot_of r e.0) ≡ Some e) × IsFromOn start key e.0 × ((i : ℕ) (f : Place × _) → slot_at os i ≡ Some f → IsFromOn start key f.0 → IsFromOn e.0.start e.0.key f.0)
+
+-- the first entry from a window and a key on, if there is one that starts by a last time
+abbrev pub IsFirstUntil : {P : Type 0} → Ring → List (Option (Place × P)) → ℤ → ℕ → ℤ → Option (Place × P) → Type 0
+IsFirstUntil r os start key last None = (i : ℕ) (e : Place × _) → slot_at os i ≡ Some e → IsFromOn start key e.0 → last <ℤ e.0.start
+IsFirstUntil r os start key last (Some e) = IsFirstFrom r os start key (Some e) × (e.0.start ≤ℤ last)
+
+-- the last start of a window that ends by a limit, of those from a first start to a last one, if one does
+abbrev pub IsLastDue : Ring → ℤ → ℤ → ℤ → Option ℤ → Type 0
+IsLastDue r first last limit None = (start : ℤ) → first ≤ℤ start → limit <ℤ (start +ℤ r.size)
+IsLastDue r first last limit (Some until) = (until ≡ int_min last (limit -ℤ r.size)) × FitsSigned w64 (until +ℤ r.size)
 
 -- whether a slot has an entry of the window that starts at a time
 abbrev pub starts_at : {P : Type 0} → ℤ → Option (Place × P) → Bool

@@ -11,5 +11,6 @@ pub record IsSound {P : Type 0} (a : Inside P) : Type 0 where
   pub placed : AreInPlace a.ring a.slots.items
   pub between : AreBetween a.first a.last a.slots.items
   pub grid : IsOnGrid a.ring a.first
+  pub first : FitsSigned w64 a.first
   pub last : FitsSigned w64 (a.last +ℤ a.ring.size)
   pub len : a.len ≡ length (held a.slots.items)

@@ -6,14 +6,15 @@ ghost use Rattle.wsm_record.specs.declared.event.Value.{Value as OneValue};
 ghost use Rattle.wsm_semantics.specs.Summaries.{Pane as AnyPane};
 ghost use Rattle.wsm_panes.specs.Held.{once_fired};
 ghost use Rattle.wsm_panes.specs.Place.{place_cmp};
-ghost use Rattle.wsm_panes.specs.Ring.{IsRing, RingAdmits, window_number};
+ghost use Rattle.wsm_panes.specs.Ring as ring;
+ghost use Rattle.wsm_panes.specs.Ring.{IsLastDue, IsRing, RingAdmits, window_number};
 
 use crate::pane::Pane;
 use crate::recording::TakesRecords;
 use crate::ring::Ring;
 use crate::slots::{
-    Slot, clear_expired, fill, fire_in, first_from, free_slots, pane_at, pane_in, record_in,
-    spot_due, take_out,
+    Slot, clear_expired, entry_in, fill, fire_in, first_until, free_slots, is_at, pane_at, pane_in,
+    record_in, spot_in, take_out,
 };
 use crate::spot::Spot;
 use crate::table::PaneTable;
@@ -67,6 +68,17 @@ impl<P: Copy> RingTable<P> {
             last: 0,
         })
     }
+
+    // The slot of a spot, which tells it where it is that of its place.
+    fn slot_of(&self, spot: Spot) -> usize
+        ensures { result ≡ ring.slot_of self.now.ring spot.place }
+    {
+        if is_at(&self.slots, spot.at, spot.place) {
+            spot.at
+        } else {
+            self.ring.slot(spot.place)
+        }
+    }
 }
 
 impl RingTable<Pane> {
@@ -76,7 +88,7 @@ impl RingTable<Pane> {
         ensures panes { (pane : AnyPane (List OneValue)) × (map.get self.old.panes spot.place ≡ Some pane) × (self.new.panes ≡ map.insert self.old.panes spot.place (once_fired mode row.now pane)) }
         ensures ring { self.new.ring ≡ self.old.ring }
     {
-        let slot = self.ring.slot(spot.place);
+        let slot = self.slot_of(spot);
         fire_in(&mut self.slots, slot, mode, row);
     }
 }
@@ -138,31 +150,54 @@ impl<P: TakesRecords> PaneTable<P> for RingTable<P> {
     }
 
     fn first(&self) -> Option<(Place, P)> {
-        first_from(self.ring, &self.slots, self.first, 0, self.last).copied()
+        let found = first_until(self.ring, &self.slots, self.first, 0, self.last);
+        entry_in(&self.slots, found)
     }
 
     fn next(&self, place: Place) -> Option<(Place, P)> {
         let key = place.key as usize + 1;
-        first_from(self.ring, &self.slots, place.start, key, self.last).copied()
+        let found = first_until(self.ring, &self.slots, place.start, key, self.last);
+        entry_in(&self.slots, found)
+    }
+
+    fn find(&self, place: Place) -> Option<Spot> {
+        let at = self.ring.slot(place);
+        if is_at(&self.slots, at, place) {
+            Some(Spot { place, at })
+        } else {
+            None
+        }
     }
 
     fn first_due(&self, limit: i64) -> Option<Spot> {
-        spot_due(
-            first_from(self.ring, &self.slots, self.first, 0, self.last),
-            limit,
-        )
+        let last = last_due(self.ring, self.first, self.last, limit)?;
+        let found = first_until(self.ring, &self.slots, self.first, 0, last);
+        spot_in(&self.slots, found)
     }
 
     fn next_due(&self, spot: Spot, limit: i64) -> Option<Spot> {
+        let last = last_due(self.ring, self.first, self.last, limit)?;
         let key = spot.place.key as usize + 1;
-        spot_due(
-            first_from(self.ring, &self.slots, spot.place.start, key, self.last),
-            limit,
-        )
+        let found = first_until(self.ring, &self.slots, spot.place.start, key, last);
+        spot_in(&self.slots, found)
     }
 
     fn pane(&self, spot: Spot) -> &P {
-        pane_in(&self.slots, self.ring.slot(spot.place), spot.place).unwrap()
+        pane_in(&self.slots, self.slot_of(spot), spot.place).unwrap()
+    }
+}
+
+// The last start of a window that ends by a limit, of those from a first start to a last one, if one
+// does.
+fn last_due(ring: Ring, first: i64, last: i64, limit: i64) -> Option<i64>
+    requires { IsRing ring }
+    ensures { IsLastDue ring first last limit result }
+{
+    let latest = limit.checked_sub(ring.size)?;
+    if latest < first {
+        None
+    } else {
+        Some(last.min(latest))
     }
 }
 

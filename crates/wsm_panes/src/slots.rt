@@ -1,14 +1,15 @@
 //! Entries in the slots of a ring.
 
-ghost use Rattle.std.specs.Prelude.{◌≡◌, ◌≢◌, ◌⊎◌, ◌+◌, ◌*◌, ◌≤◌, ◌<◌, ℕ, ◌≤ℤ◌, ◌<ℤ◌, Some, None, IfOk, IfSome, IsTrue, length, option_copied, option_map, slice_set};
+ghost use Rattle.std.specs.Prelude.{◌≡◌, ◌≢◌, ◌⊎◌, ◌+◌, ◌*◌, ◌≤◌, ◌<◌, ℕ, ◌≤ℤ◌, ◌<ℤ◌, Some, None, IfOk, IfSome, IsTrue, length, option_map, slice_set};
+ghost use Rattle.std.specs.Option.{is_some};
 ghost use Rattle.wsm_fold.specs.Fold.{are_of_kinds};
 ghost use Rattle.wsm_panes.specs.Held.{once_fired};
-ghost use Rattle.wsm_panes.specs.Ring.{IsRing, IsOfRing, AreInPlace, AreBetween, AreFree, AreUntil, IsFirstFrom, IsFirstInRow, IsOnGrid, IsTakenOut, held, kept_slot, pane_of, slot_at, slot_of, row_of, window_number};
+ghost use Rattle.wsm_panes.specs.Ring.{IsRing, IsOfRing, AreInPlace, AreBetween, AreFree, IsFirstInRow, IsFirstUntil, IsOnGrid, IsTakenOut, at_slot, held, kept_slot, pane_of, slot_at, slot_of, row_of, window_number};
 ghost use Rattle.std.specs.Prelude.{◌*ℤ◌, ◌+ℤ◌};
 ghost use Rattle.std.specs.Int.{w64};
 ghost use Rattle.std.specs.Int.RustNames.{FitsSigned};
 ghost use Rattle.wsm_panes.specs.Ring as spec;
-ghost use Rattle.wsm_panes.specs.Walk.{place_due, place_found};
+ghost use Rattle.wsm_panes.specs.Walk.{place_found};
 
 use crate::pane::Pane;
 use crate::recording::TakesRecords;
@@ -117,21 +118,21 @@ pub(crate) fn take_out<P: Copy>(slots: &mut Vec<Slot<P>>, slot: usize, place: Pl
     }
 }
 
-/// The first entry from a window and a key on.
-pub(crate) fn first_from<'a, P: Copy>(
+/// The slot of the first entry from a window and a key on, if that window starts by a last time.
+pub(crate) fn first_until<P: Copy>(
     ring: Ring,
-    slots: &'a [Slot<P>],
+    slots: &[Slot<P>],
     start: i64,
     key: usize,
     last: i64,
-) -> Option<&'a (Place, P)>
+) -> Option<usize>
     requires ring { IsRing ring }
     requires slots { length slots.now ≡ ring.bound * ring.keys }
     requires placed { AreInPlace ring slots.now }
-    requires before { AreUntil last slots.now }
     requires start { IsOnGrid ring start }
     requires last { FitsSigned w64 (last +ℤ ring.size) }
-    ensures { IsFirstFrom ring slots.now start key (option_copied result) }
+    ensures first { IsFirstUntil ring slots.now start key last (at_slot slots.now result) }
+    ensures there { is_some (at_slot slots.now result) ≡ is_some result }
 {
     let mut start = start;
     let mut key = key;
@@ -146,33 +147,63 @@ pub(crate) fn first_from<'a, P: Copy>(
     None
 }
 
-/// The spot of an entry, if its window ends by a limit.
-pub(crate) fn spot_due<P: Copy>(found: Option<&(Place, P)>, limit: i64) -> Option<Spot>
-    ensures { place_found result ≡ place_due limit (option_copied found.entry) }
+/// The entry in a slot, if one was found.
+pub(crate) fn entry_in<P: Copy>(slots: &[Slot<P>], found: Option<usize>) -> Option<(Place, P)>
+    requires { is_some (at_slot slots.now found) ≡ is_some found }
+    ensures { result ≡ at_slot slots.now found }
 {
     match found {
-        Some((place, _)) if place.end <= limit => Some(Spot {
-            place: *place,
-            at: 0,
-        }),
-        _ => None,
+        Some(at) => slots[at],
+        None => None,
     }
 }
 
-// The first entry of a window from a key on.
-fn first_in_row<'a, P: Copy>(
-    slots: &'a [Slot<P>],
+/// Where the entry in a slot is, if one was found.
+pub(crate) fn spot_in<P: Copy>(slots: &[Slot<P>], found: Option<usize>) -> Option<Spot>
+    requires { is_some (at_slot slots.now found) ≡ is_some found }
+    ensures { place_found result ≡ option_map (λ e. e.0) (at_slot slots.now found) }
+{
+    match found {
+        Some(at) => spot_at(&slots[at], at),
+        None => None,
+    }
+}
+
+// The spot of the entry in a slot, if there is one.
+fn spot_at<P: Copy>(slot: &Slot<P>, at: usize) -> Option<Spot>
+    ensures { place_found result ≡ option_map (λ e. e.0) slot.now }
+{
+    match slot {
+        Some((place, _)) => Some(Spot { place: *place, at }),
+        None => None,
+    }
+}
+
+/// Whether a slot has the pane at a place.
+pub(crate) fn is_at<P: Copy>(slots: &[Slot<P>], slot: usize, place: Place) -> bool
+    ensures { result ≡ is_some (pane_of place (slot_at slots.now slot)) }
+{
+    match slots.get(slot) {
+        Some(Some((other, _))) => *other == place,
+        _ => false,
+    }
+}
+
+// The slot of the first entry of a window from a key on.
+fn first_in_row<P: Copy>(
+    slots: &[Slot<P>],
     row: usize,
     start: i64,
     key: usize,
     keys: usize,
-) -> Option<&'a (Place, P)>
+) -> Option<usize>
     requires { row + keys ≤ length slots.now }
-    ensures { IsFirstInRow slots.now row start key keys (option_copied result) }
+    ensures first { IsFirstInRow slots.now row start key keys (at_slot slots.now result) }
+    ensures there { is_some (at_slot slots.now result) ≡ is_some result }
 {
     for key in key..keys {
         if starts_at(&slots[row + key], start) {
-            return slots[row + key].as_ref();
+            return Some(row + key);
         }
     }
     None

@@ -19,7 +19,7 @@ fire_in-requires c =
     let a = c.self.inside in
     let there = there_in a.ring a.slots.items c.self.invariant.placed c.args.spot.place (rw (← c.self.view_is) at c.requires) in
     let within : slot_of a.ring c.args.spot.place < length a.slots.items = at_within a.slots.items (slot_of a.ring c.args.spot.place) (c.args.spot.place, there.0) there.1 in
-    omega (arith, c.slot-slot.ensures, within)
+    omega (arith, rw (← c.self.view_is) at c.slot_of-slot.ensures, within)
 
 pub invariant_of-self : goal.invariant_of-self
 invariant_of-self c =
@@ -29,7 +29,7 @@ invariant_of-self c =
     let there = there_in a.ring os c.self.invariant.placed c.args.spot.place (rw (← c.self.view_is) at c.requires) in
     let entry : Place × Pane (List Value) = (c.args.spot.place, once_fired c.args.mode c.args.row.now there.0) in
     let fires : Option (Place × Pane (List Value)) → Option (Place × Pane (List Value)) = option_map (λ e. (e.0, once_fired c.args.mode c.args.row.now e.1)) in
-    let new : c.fire_in.new.slots.items ≡ set os s (Some entry) = c.fire_in.ensures ∙ ap (λ n. set os n (fires (slot_at os n))) c.slot-slot.ensures ∙ ap (λ o. set os s (fires o)) there.1 in
+    let new : c.fire_in.new.slots.items ≡ set os s (Some entry) = c.fire_in.ensures ∙ ap (λ n. set os n (fires (slot_at os n))) (rw (← c.self.view_is) at c.slot_of-slot.ensures) ∙ ap (λ o. set os s (fires o)) there.1 in
     let within : s < length os = at_within os s (c.args.spot.place, there.0) there.1 in
     let of = (c.self.invariant.placed s (c.args.spot.place, there.0) there.1).0 in
     let count : length (held (set os s (Some entry))) + option_len (slot_at os s) ≡ length (held os) + 1 = held_set os s (Some entry) within in
@@ -41,6 +41,7 @@ invariant_of-self c =
           (λ f same. subst (λ (x : Place). IsOfRing a.ring x × (slot_of a.ring x ≡ s)) (ap (λ y. y.0) (same_Some _ f same)) (of, refl)));
       between = rw new (between_put os s entry a.first a.last a.first a.last within c.self.invariant.between (λ some. (omega (arith, ints), omega (arith, ints))) (c.self.invariant.between s (c.args.spot.place, there.0) there.1));
       grid = c.self.invariant.grid;
+      first = c.self.invariant.first;
       last = c.self.invariant.last;
       len = omega (arith, ap (λ (l : List (Option (Place × Pane (List Value)))). length (held l)) new, count, one, c.self.invariant.len);
     }
@@ -53,7 +54,7 @@ returns-clause-panes c =
     let there = there_in a.ring os c.self.invariant.placed c.args.spot.place (rw (← c.self.view_is) at c.requires) in
     let entry : Place × Pane (List Value) = (c.args.spot.place, once_fired c.args.mode c.args.row.now there.0) in
     let fires : Option (Place × Pane (List Value)) → Option (Place × Pane (List Value)) = option_map (λ e. (e.0, once_fired c.args.mode c.args.row.now e.1)) in
-    let new : c.fire_in.new.slots.items ≡ set os s (Some entry) = c.fire_in.ensures ∙ ap (λ n. set os n (fires (slot_at os n))) c.slot-slot.ensures ∙ ap (λ o. set os s (fires o)) there.1 in
+    let new : c.fire_in.new.slots.items ≡ set os s (Some entry) = c.fire_in.ensures ∙ ap (λ n. set os n (fires (slot_at os n))) (rw (← c.self.view_is) at c.slot_of-slot.ensures) ∙ ap (λ o. set os s (fires o)) there.1 in
     let within : s < length os = at_within os s (c.args.spot.place, there.0) there.1 in
     let of = (c.self.invariant.placed s (c.args.spot.place, there.0) there.1).0 in (
       there.0,

@@ -16,6 +16,7 @@ invariant_of-result g c =
       placed = λ i e at. absurd (free i e at);
       between = λ i e at. absurd (free i e at);
       grid = (int_div_euclid (pos 0) c.args.ring.period, zero_on_grid c.args.ring.period c.requires.period_low);
+      first = search rules;
       last = rw sum size;
       len = sym (ap length (held_free c.in_ok-free_slots.field-0.items free));
     }

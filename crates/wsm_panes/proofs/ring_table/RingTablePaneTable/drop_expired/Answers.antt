@@ -32,6 +32,7 @@ invariant_of-self g c =
       placed = placed_kept a.ring c.args.limit a.slots.items c.clear_expired-first.new.slots.items c.self.invariant.placed kept;
       between = between;
       grid = c.clear_expired-first.ensures.first;
+      first = first;
       last = c.self.invariant.last;
       len = omega (arith, c.clear_expired-first.ensures.len, c.self.invariant.len);
     })

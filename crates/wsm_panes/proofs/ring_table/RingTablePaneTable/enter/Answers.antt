@@ -60,6 +60,7 @@ invariant_of-self g c =
       between = rw (c.record_in.ensures.slots, z0, z1) (between_put a.slots.items c.slot-slot.result (c.args.place, v) a.first a.last c.stretched.result.0 c.stretched.result.1 within c.self.invariant.between
           (λ some. wider (omega (arith, some, c.self.invariant.len))) around);
       grid = rw z0 (elim either [ inl same ↦ rw same (window_number a.ring c.args.place.start, admits.0.start) | inr same ↦ rw same c.self.invariant.grid ]);
+      first = rw z0 low;
       last = rw z1 (elim other [ inl same ↦ rw (same, ← admits.0.end) end | inr same ↦ rw same c.self.invariant.last ]);
       len = omega (arith, c.record_in.ensures.len, c.self.invariant.len);
     }

@@ -13,13 +13,13 @@ is_some_mapped f (Some x) = refl
 pub unwrap-requires : goal.unwrap-requires
 unwrap-requires g c =
     let is : option_map (λ pane. pane.now) c.pane_in.result ≡ map.get c.args.self.now.panes c.args.spot.place = rw (← c.self.view_is) (
-    c.pane_in.ensures ∙ ap (λ os. pane_of c.args.spot.place (slot_at os c.slot.result)) c.deref.ensures.value ∙ ap (λ n. pane_of c.args.spot.place (slot_at c.self.inside.slots.items n)) c.slot.ensures
+    c.pane_in.ensures ∙ ap (λ os. pane_of c.args.spot.place (slot_at os c.slot_of.result)) c.deref.ensures.value ∙ ap (λ n. pane_of c.args.spot.place (slot_at c.self.inside.slots.items n)) (rw (← c.self.view_is) at c.slot_of.ensures)
     ∙ sym (get_in c.self.inside.ring c.self.inside.slots.items c.self.invariant.placed c.args.spot.place)) in
     is_some_mapped (λ pane. pane.now) c.pane_in.result ∙ ap is_some is ∙ c.requires
 
 pub returns : goal.returns
 returns g c =
     let is : option_map (λ pane. pane.now) c.pane_in.result ≡ map.get c.args.self.now.panes c.args.spot.place = rw (← c.self.view_is) (
-    c.pane_in.ensures ∙ ap (λ os. pane_of c.args.spot.place (slot_at os c.slot.result)) c.deref.ensures.value ∙ ap (λ n. pane_of c.args.spot.place (slot_at c.self.inside.slots.items n)) c.slot.ensures
+    c.pane_in.ensures ∙ ap (λ os. pane_of c.args.spot.place (slot_at os c.slot_of.result)) c.deref.ensures.value ∙ ap (λ n. pane_of c.args.spot.place (slot_at c.self.inside.slots.items n)) (rw (← c.self.view_is) at c.slot_of.ensures)
     ∙ sym (get_in c.self.inside.ring c.self.inside.slots.items c.self.invariant.placed c.args.spot.place)) in
     sym is ∙ ap (option_map (λ pane. pane.now)) c.unwrap.ensures

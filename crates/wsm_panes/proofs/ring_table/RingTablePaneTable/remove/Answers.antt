@@ -16,6 +16,7 @@ invariant_of-self g c =
         placed = rw same.1 c.self.invariant.placed;
         between = rw same.1 c.self.invariant.between;
         grid = c.self.invariant.grid;
+        first = c.self.invariant.first;
         last = c.self.invariant.last;
         len = len;
       }
@@ -25,6 +26,7 @@ invariant_of-self g c =
         placed = rw gone.3 (placed_less a.ring a.slots.items _ c.self.invariant.placed (cleared_less a.slots.items c.slot-slot.result gone.2));
         between = rw gone.3 (between_less a.slots.items _ a.first a.last c.self.invariant.between (cleared_less a.slots.items c.slot-slot.result gone.2));
         grid = c.self.invariant.grid;
+        first = c.self.invariant.first;
         last = c.self.invariant.last;
         len = len;
       }

@@ -2,7 +2,7 @@ use Rattle.std.proofs.Common.{◌≡◌, ℕ, ◌≤◌, ◌⊎◌, ◌<ℤ◌, 
 use Rattle.wsm_panes.proofs.Scan.{left_until}
 use Rattle.wsm_semantics.specs.declared.place.Place.{Place}
 use Rattle.wsm_panes.specs.Ring.{IsFromOn, slot_at, IsOnGrid}
-use Rattle.wsm_panes.proofs.slots.first_from.Given as goal
+use Rattle.wsm_panes.proofs.slots.first_until.Given as goal
 
 -- what is from the first window on is from this one on
 abbrev pub invariant-loop-start : goal.invariant-loop-start
