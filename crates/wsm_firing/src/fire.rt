@@ -57,21 +57,22 @@ pub fn fire(
 {
     let header = verified.program().header();
     let pane = held.pane(due.spot);
-    let answer = run(verified, machine, due, pane);
+    let mut row = None;
+    let steps = run(verified, machine, due, pane, &mut row);
     streams.lose(pane);
-    held.fire_at(due.spot, header.mode, &answer.columns);
-    streams.gain(&answer.columns);
-    tally.count(answer.steps);
-    write(header.form, rows, due, &answer.columns);
+    held.fire_at(due.spot, header.mode, &row);
+    streams.gain(&row);
+    tally.count(steps);
+    write(header.form, rows, due, &row);
 }
 
 // Writes the row of a firing, where HAVING is true and rows are those of panes.
-fn write(form: Form, rows: &mut Vec<OutRow>, due: Due, columns: &Option<Columns>)
+fn write(form: Form, rows: &mut Vec<OutRow>, due: Due, row: &Option<Columns>)
     requires { vec_len rows.old < vec_capacity rows.old }
-    ensures rows { rows.new.items ≡ rows.old.items ++ chosen_rows form (cons_option (option_map (PaneRow due.kind due.spot.place.key (window_of due.spot.place)) columns.now) []) [] }
+    ensures rows { rows.new.items ≡ rows.old.items ++ chosen_rows form (cons_option (option_map (PaneRow due.kind due.spot.place.key (window_of due.spot.place)) row.now) []) [] }
     ensures capacity { vec_capacity rows.new ≡ vec_capacity rows.old }
 {
-    if let (Form::Panes, Some(columns)) = (form, columns) {
+    if let (Form::Panes, Some(columns)) = (form, row) {
         let place = due.spot.place;
         rows.push_reserved(OutRow::Pane {
             kind: due.kind,

@@ -1,6 +1,6 @@
 //! FIRE run on a pane.
 
-ghost use Rattle.std.specs.Prelude.{◌≡◌, ◌≤◌, length, map};
+ghost use Rattle.std.specs.Prelude.{◌≡◌, ◌≤◌, [], None, Some, length, map};
 ghost use Rattle.wsm_semantics.specs.Summaries.{columns as columns_by, fired_count as fired_count_of};
 ghost use Rattle.wsm_machine.specs.Meaning.{plan_of, pane_cost_by};
 ghost use Rattle.wsm_machine.specs.Sound.{MayFire};
@@ -14,20 +14,19 @@ use wsm_record::Mode;
 use wsm_semantics::Columns;
 use wsm_verifier::Verified;
 
-/// What FIRE answers of a pane.
-#[derive(Clone, Copy, Debug)]
-pub struct Answer {
-    /// The columns of its row, where HAVING is true.
-    pub columns: Option<Columns>,
-    /// How many instructions were executed.
-    pub steps: u64,
-}
-
-/// Runs FIRE on a pane that fires.
-pub fn run(verified: &Verified, machine: &mut Machine, due: Due, pane: &Pane) -> Answer
-    requires { MayFire verified.now (fired_by verified.now.header.mode due pane.now) }
-    ensures columns { result.columns ≡ columns_by (plan_of verified.now) due.spot.place.key (fired_count_of verified.now.header.mode pane.now) pane.now.folded }
-    ensures steps { result.steps ≡ pane_cost_by verified.now (fired_by verified.now.header.mode due pane.now) }
+/// Runs FIRE on a pane that fires. Sets the columns of its row, where HAVING is true, and answers how
+/// many instructions were executed.
+pub fn run(
+    verified: &Verified,
+    machine: &mut Machine,
+    due: Due,
+    pane: &Pane,
+    row: &mut Option<Columns>,
+) -> u64
+    requires fires { MayFire verified.now (fired_by verified.now.header.mode due pane.now) }
+    requires none { row.old ≡ None }
+    ensures row { row.new ≡ columns_by (plan_of verified.now) due.spot.place.key (fired_count_of verified.now.header.mode pane.now) pane.now.folded }
+    ensures steps { result ≡ pane_cost_by verified.now (fired_by verified.now.header.mode due pane.now) }
 {
     let header = verified.program().header();
     let inputs = Inputs {
@@ -37,15 +36,10 @@ pub fn run(verified: &Verified, machine: &mut Machine, due: Due, pane: &Pane) ->
         accs: pane.folded().unwrap(),
     };
     let fired = machine.fire(verified, &inputs);
-    let columns = if fired.emits {
-        Some(columns_of(fired.columns))
-    } else {
-        None
-    };
-    Answer {
-        columns,
-        steps: fired.steps,
+    if fired.emits {
+        set_row(row, fired.columns);
     }
+    fired.steps
 }
 
 // How many records the firing is computed over.
@@ -58,13 +52,23 @@ fn fired_count(mode: Mode, pane: &Pane) -> u64
     }
 }
 
-fn columns_of(cells: &[Cell]) -> Columns
+// Sets a row, whose columns are made where it is.
+fn set_row(row: &mut Option<Columns>, cells: &[Cell])
     requires { length cells.now ≤ 16 }
-    ensures { result ≡ map value_of cells.now }
+    ensures { row.new ≡ Some (map value_of cells.now) }
 {
-    let mut columns = Columns::new();
+    *row = Some(Columns::new());
+    if let Some(columns) = row {
+        add_values(columns, cells);
+    }
+}
+
+fn add_values(columns: &mut Columns, cells: &[Cell])
+    requires empty { columns.old ≡ [] }
+    requires few { length cells.now ≤ 16 }
+    ensures { columns.new ≡ map value_of cells.now }
+{
     for cell in cells {
         columns.push(cell.value());
     }
-    columns
 }

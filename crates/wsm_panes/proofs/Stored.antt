@@ -53,6 +53,13 @@ pub listed-append : (s : ℕ) (xs ys : List ℕ) → listed s (xs ++ ys) ≡ lis
 listed-append s [] ys = omega arith
 listed-append s (x ∷ xs) ys = let rest = listed-append s xs ys in omega (arith, rest)
 
+-- a slot that is free is one of the slots
+pub slot_within : {P : Type 0} (panes : List P) (free left : List ℕ) (slot : ℕ) → free ≡ left ++ slot ∷ [] → ((s : ℕ) → 0 < listed s free → s < length panes) → slot < length panes
+slot_within panes free left slot all within =
+    let one : same slot slot ≡ 1 = same_self slot in
+    let some : listed slot free ≡ listed slot left + listed slot (slot ∷ []) = ap (listed slot) all ∙ listed-append slot left (slot ∷ []) in
+    within slot (omega (arith, some, one))
+
 -- ---- what is shown
 
 module _ {P : Type 0} (panes : List P) where

@@ -1,9 +1,10 @@
 //! A table kept as a sorted list.
 
-ghost use Rattle.std.specs.Prelude.{◌≡◌, ◌⊎◌, ◌<◌, ◌≤◌, ◌+◌, ℕ, List, Some, IfOk, IfErr, IsTrue, true, not, drop, filter, take, vec_len, vec_capacity, IsSome, IfSome, length, option_map, slice_get};
+ghost use Rattle.std.specs.Prelude.{◌≡◌, ◌⊎◌, ◌<◌, ◌≤◌, ◌+◌, ℕ, List, None, Some, IfOk, IfErr, IsTrue, true, not, drop, filter, take, vec_len, vec_capacity, IsSome, IfSome, length, option_map, slice_get};
 ghost use Rattle.std.specs.FinMap as map;
 ghost use Rattle.wsm_fold.specs.Fold.{are_of_kinds};
 ghost use Rattle.wsm_record.specs.declared.event.Value.{Value as OneValue};
+ghost use Rattle.wsm_record.specs.declared.words.Kind.{Kind as OneKind};
 ghost use Rattle.wsm_semantics.specs.Summaries.{Pane as AnyPane};
 ghost use Rattle.wsm_panes.specs.Held.{once_fired};
 ghost use Rattle.wsm_panes.specs.Place.{place_cmp, is_kept, is_other};
@@ -273,7 +274,7 @@ fn enter_in<P: TakesRecords>(
 {
     match search(entries, place) {
         Ok(i) => store.record(entries[i].1, kinds, values),
-        Err(i) => add(entries, store, i, place, P::first(values)),
+        Err(i) => start_in(entries, store, i, place, values),
     }
 }
 
@@ -305,6 +306,26 @@ fn add<P: Copy>(entries: &mut Vec<Entry>, store: &mut Store<P>, i: usize, place:
     ensures room { (vec_capacity entries.new ≡ vec_capacity entries.old) × (vec_capacity store.new.panes ≡ vec_capacity store.old.panes) × (vec_capacity store.new.free ≡ vec_capacity store.old.free) }
 {
     let slot = store.put(pane);
+    entries.insert(i, (place, slot)).unwrap();
+}
+
+// Has a place that no entry is at go in front of an entry, with a pane of one record.
+fn start_in<P: TakesRecords>(
+    entries: &mut Vec<Entry>,
+    store: &mut Store<P>,
+    i: usize,
+    place: Place,
+    values: &[Value],
+)
+    requires stored { AreStored store.old.panes.items store.old.free.items entries.old.items }
+    requires gap { IsGapFor entries.old.items place i }
+    requires few { length values.now ≤ 16 }
+    requires room { (vec_len entries.old < vec_capacity entries.old) × (vec_len entries.old < vec_capacity store.old.panes) }
+    ensures shown { (kinds : List OneKind) → shown store.new.panes.items entries.new.items ≡ map.put place_cmp place (P.with_record kinds values.now None) (shown store.old.panes.items entries.old.items) }
+    ensures stored { AreStored store.new.panes.items store.new.free.items entries.new.items }
+    ensures room { (vec_capacity entries.new ≡ vec_capacity entries.old) × (vec_capacity store.new.panes ≡ vec_capacity store.old.panes) × (vec_capacity store.new.free ≡ vec_capacity store.old.free) }
+{
+    let slot = store.start(values);
     entries.insert(i, (place, slot)).unwrap();
 }
 

@@ -1,6 +1,7 @@
 //! Panes in slots that are used again.
 
-ghost use Rattle.std.specs.Prelude.{◌≡◌, ◌≢◌, ◌⊎◌, ◌+◌, ◌≤◌, ◌<◌, ℕ, [], Some, IfOk, IfSome, IsTrue, length, option_map, slice_get, vec_len, vec_capacity};
+ghost use Rattle.std.specs.Prelude.{◌≡◌, ◌≢◌, ◌⊎◌, ◌+◌, ◌≤◌, ◌<◌, ℕ, List, [], None, Some, IfOk, IfSome, IsTrue, length, option_map, slice_get, vec_len, vec_capacity};
+ghost use Rattle.wsm_record.specs.declared.words.Kind.{Kind as OneKind};
 ghost use Rattle.wsm_fold.specs.Fold.{are_of_kinds};
 ghost use Rattle.wsm_panes.specs.Held.{once_fired};
 ghost use Rattle.wsm_panes.specs.Stored.{listed, same, unowned};
@@ -99,6 +100,31 @@ impl<P: Copy> Store<P> {
 }
 
 impl<P: TakesRecords> Store<P> {
+    /// Has a slot that no other pane has hold a pane of one record, which is folded by the values, and
+    /// gives the slot.
+    pub(crate) fn start(&mut self, values: &[Value]) -> usize
+        requires few { length values.now ≤ 16 }
+        requires free { (s : ℕ) → 0 < listed s self.old.free.items → s < length self.old.panes.items }
+        requires room { (0 < vec_len self.old.free) ⊎ (vec_len self.old.panes < vec_capacity self.old.panes) }
+        ensures here { (kinds : List OneKind) → slice_get self.new.panes.items result ≡ Some (P.with_record kinds values.now None) }
+        ensures others { (s : ℕ) → result ≢ s → slice_get self.new.panes.items s ≡ slice_get self.old.panes.items s }
+        ensures owned { (s : ℕ) → unowned s self.old.free.items (length self.old.panes.items) ≡ same result s + unowned s self.new.free.items (length self.new.panes.items) }
+        ensures count { length self.new.panes.items + length self.old.free.items ≡ length self.new.free.items + length self.old.panes.items + 1 }
+        ensures room { (vec_capacity self.new.panes ≡ vec_capacity self.old.panes) × (vec_capacity self.new.free ≡ vec_capacity self.old.free) }
+    {
+        match self.free.pop() {
+            Some(slot) => {
+                self.panes[slot].start(values);
+                slot
+            }
+            None => {
+                let slot = self.panes.len();
+                self.panes.push_reserved(P::first(values));
+                slot
+            }
+        }
+    }
+
     /// Puts a record into the pane in a slot, which is folded by the values.
     pub(crate) fn record(&mut self, slot: usize, kinds: &[Kind], values: &[Value])
         requires slot { slot < length self.old.panes.items }

@@ -1,4 +1,4 @@
-use Rattle.std.proofs.Common.{◌≡◌, ℕ, ◌≤◌, pos, length, Some, sym, ap, subst, ◌∙◌, SFits, w64, IsTrue, arith}
+use Rattle.std.proofs.Common.{◌≡◌, ℕ, ◌≤◌, pos, length, sym, ap, subst, ◌∙◌, SFits, w64, IsTrue, arith}
 use Rattle.wsm_semantics.specs.Summaries.{fired_count}
 use Rattle.wsm_semantics.proofs.Lists.{length_each}
 use Rattle.wsm_bytecode.specs.declared.instr.SectionId.TheVariants.{Fire}
@@ -18,7 +18,7 @@ overflow_cast-inputs c =
     let header : header_of c.header-header.result.now ≡ p.header = c.header-header.ensures.header ∙ ap (λ (p : Program). p.header) c.program.ensures.program in
     let count : c.fired_count.result ≡ fired_count p.header.mode c.args.pane.now = c.fired_count.ensures ∙ ap (λ (h : Header). fired_count h.mode c.args.pane.now) header in
     let whole : IsTrue (is_program p) = subst (λ (p : Program). IsTrue (is_program p)) c.program.ensures.program c.header-header.ensures.lawful in
-    subst (λ (n : ℕ). SFits w64 (pos n)) (sym count) (count_fits p whole c.args.due.spot.place.key (fired_count p.header.mode c.args.pane.now) c.requires.held c.requires.ranged)
+    subst (λ (n : ℕ). SFits w64 (pos n)) (sym count) (count_fits p whole c.args.due.spot.place.key (fired_count p.header.mode c.args.pane.now) c.requires.fires.held c.requires.fires.ranged)
 
 pub fire-fired-requires : goal.fire-fired-requires
 fire-fired-requires c =
@@ -28,30 +28,30 @@ fire-fired-requires c =
     let header : header_of c.header-header.result.now ≡ p.header = c.header-header.ensures.header ∙ ap (λ (p : Program). p.header) c.program.ensures.program in
     let count : c.fired_count.result ≡ n = c.fired_count.ensures ∙ ap (λ (h : Header). fired_count h.mode c.args.pane.now) header in
     let whole : IsTrue (is_program p) = subst (λ (p : Program). IsTrue (is_program p)) c.program.ensures.program c.header-header.ensures.lawful in
-    let accs : c.unwrap.result.now ≡ c.requires.held = read (λ values. values.now) c.folded.result c.unwrap.result c.requires.held c.args.pane.now.folded c.unwrap.ensures c.folded.ensures c.requires.folded in
-    let same = same_inputs key n c.fired_count.result c.unwrap.result.now c.requires.held count accs (count_fits p whole key n c.requires.held c.requires.ranged) in
-    subst (λ (i : Inputs). IsTrue (in_range p Fire i)) (sym same) c.requires.ranged
+    let accs : c.unwrap.result.now ≡ c.requires.fires.held = read (λ values. values.now) c.folded.result c.unwrap.result c.requires.fires.held c.args.pane.now.folded c.unwrap.ensures c.folded.ensures c.requires.fires.folded in
+    let same = same_inputs key n c.fired_count.result c.unwrap.result.now c.requires.fires.held count accs (count_fits p whole key n c.requires.fires.held c.requires.fires.ranged) in
+    subst (λ (i : Inputs). IsTrue (in_range p Fire i)) (sym same) c.requires.fires.ranged
 
-pub columns_of-requires : goal.columns_of-requires
-columns_of-requires c =
+pub set_row-requires : goal.set_row-requires
+set_row-requires c =
     let columns : length c.args.verified.now.header.columns ≤ 16 = (lawful_firing c.program.result.now _ (ap (λ (p : Program). p.header) (sym c.program.ensures.program)) c.header-header.ensures.lawful).columns in
     let as_many : length c.fire-fired.result.columns.now ≡ length c.args.verified.now.header.columns = sym (length_each type_of c.fire-fired.result.columns.now) ∙ ap length c.fire-fired.ensures.types in
     omega arith
 
-pub returns-clause-columns : goal.returns-clause-columns
-returns-clause-columns c =
+pub returns-clause-row : goal.returns-clause-row
+returns-clause-row c =
     let p : Program = c.args.verified.now in
     let key : ℕ = c.args.due.spot.place.key in
     let n : ℕ = fired_count p.header.mode c.args.pane.now in
     let header : header_of c.header-header.result.now ≡ p.header = c.header-header.ensures.header ∙ ap (λ (p : Program). p.header) c.program.ensures.program in
     let count : c.fired_count.result ≡ n = c.fired_count.ensures ∙ ap (λ (h : Header). fired_count h.mode c.args.pane.now) header in
     let whole : IsTrue (is_program p) = subst (λ (p : Program). IsTrue (is_program p)) c.program.ensures.program c.header-header.ensures.lawful in
-    let accs : c.unwrap.result.now ≡ c.requires.held = read (λ values. values.now) c.folded.result c.unwrap.result c.requires.held c.args.pane.now.folded c.unwrap.ensures c.folded.ensures c.requires.folded in
-    let same = same_inputs key n c.fired_count.result c.unwrap.result.now c.requires.held count accs (count_fits p whole key n c.requires.held c.requires.ranged) in
-    let all = columns_are p key n c.args.pane.now.folded c.requires.held c.requires.folded _ same c.fire-fired.result.emits c.fire-fired.result.columns.now c.fire-fired.ensures.done c.fire-fired.ensures.row in
+    let accs : c.unwrap.result.now ≡ c.requires.fires.held = read (λ values. values.now) c.folded.result c.unwrap.result c.requires.fires.held c.args.pane.now.folded c.unwrap.ensures c.folded.ensures c.requires.fires.folded in
+    let same = same_inputs key n c.fired_count.result c.unwrap.result.now c.requires.fires.held count accs (count_fits p whole key n c.requires.fires.held c.requires.fires.ranged) in
+    let all = columns_are p key n c.args.pane.now.folded c.requires.fires.held c.requires.fires.folded _ same c.fire-fired.result.emits c.fire-fired.result.columns.now c.fire-fired.ensures.done c.fire-fired.ensures.row in
     elim c.if-fired.branch [
-      | then-fired w ↦ w.columns-is ∙ ap Some w.columns_of.ensures ∙ rw w.if-fired.true at all
-      | else-fired w ↦ w.columns-is ∙ rw w.if-fired.false at all
+      | then-fired w ↦ w.row-is ∙ w.set_row.ensures ∙ rw w.if-fired.true at all
+      | else-fired w ↦ w.row-is ∙ c.requires.none ∙ rw w.if-fired.false at all
     ]
 
 pub returns-clause-steps : goal.returns-clause-steps
@@ -62,6 +62,6 @@ returns-clause-steps c =
     let header : header_of c.header-header.result.now ≡ p.header = c.header-header.ensures.header ∙ ap (λ (p : Program). p.header) c.program.ensures.program in
     let count : c.fired_count.result ≡ n = c.fired_count.ensures ∙ ap (λ (h : Header). fired_count h.mode c.args.pane.now) header in
     let whole : IsTrue (is_program p) = subst (λ (p : Program). IsTrue (is_program p)) c.program.ensures.program c.header-header.ensures.lawful in
-    let accs : c.unwrap.result.now ≡ c.requires.held = read (λ values. values.now) c.folded.result c.unwrap.result c.requires.held c.args.pane.now.folded c.unwrap.ensures c.folded.ensures c.requires.folded in
-    let same = same_inputs key n c.fired_count.result c.unwrap.result.now c.requires.held count accs (count_fits p whole key n c.requires.held c.requires.ranged) in
-    steps_are p key n c.args.pane.now.folded c.requires.held c.requires.folded _ same c.fire-fired.result.steps c.fire-fired.ensures.steps
+    let accs : c.unwrap.result.now ≡ c.requires.fires.held = read (λ values. values.now) c.folded.result c.unwrap.result c.requires.fires.held c.args.pane.now.folded c.unwrap.ensures c.folded.ensures c.requires.fires.folded in
+    let same = same_inputs key n c.fired_count.result c.unwrap.result.now c.requires.fires.held count accs (count_fits p whole key n c.requires.fires.held c.requires.fires.ranged) in
+    steps_are p key n c.args.pane.now.folded c.requires.fires.held c.requires.fires.folded _ same c.fire-fired.result.steps c.fire-fired.ensures.steps

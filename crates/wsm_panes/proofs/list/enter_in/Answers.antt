@@ -22,8 +22,8 @@ record-requires-clause-takes g c =
     let finds : map.find place_cmp c.args.place c.args.entries.now.items ≡ Some c.index.result.now.1 = here.finds c.index.result.now ∙ ap (λ (e : Place × ℕ). Some e.1) (sym c.index.ensures) in
     subst (λ o. IfSome o (g.P.TakesRecords.CanTakeRecord c.args.kinds.now c.args.values.now)) (find_is _ _ _ c.requires.stored c.args.place ∙ ap (pane_in c.args.store.now.panes.items) finds) c.requires.takes
 
-pub add-requires-clause-room : goal.add-requires-clause-room
-add-requires-clause-room g c =
+pub start_in-requires-clause-room : goal.start_in-requires-clause-room
+start_in-requires-clause-room g c =
     let gap = rw c.deref.ensures.value at c.in-Err.ensures.absent in
     elim c.requires.room [
       | inl there ↦ absurd (true≢false (sym there ∙ ap is_some gap.absent))
@@ -44,4 +44,4 @@ returns-in-Err-clause-shown g c =
     let panes = c.args.store.now.panes.items in
     let gap = rw c.deref.ensures.value at c.in-Err.ensures.absent in
     let none = find_is _ _ _ c.requires.stored c.args.place ∙ ap (pane_in panes) gap.absent in
-    c.add.ensures.shown ∙ ap (λ p. map.put place_cmp c.args.place p (shown panes c.args.entries.now.items)) (c.first.ensures c.args.kinds.now ∙ ap (g.P.TakesRecords.with_record c.args.kinds.now c.args.values.now) (sym none))
+    c.start_in.ensures.shown c.args.kinds.now ∙ ap (λ o. map.put place_cmp c.args.place (g.P.TakesRecords.with_record c.args.kinds.now c.args.values.now o) (shown panes c.args.entries.now.items)) (sym none)

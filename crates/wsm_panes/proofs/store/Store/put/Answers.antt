@@ -1,14 +1,8 @@
-use Rattle.std.proofs.Common.{◌≡◌, ℕ, List, ◌<◌, ◌+◌, ◌++◌, ◌∷◌, [], length, set, ap, ◌∙◌, arith}
+use Rattle.std.proofs.Common.{◌≡◌, ◌∷◌, [], length, set, ap, ◌∙◌, arith}
 use Rattle.std.proofs.lemmas.List.{length-set}
-use Rattle.wsm_panes.specs.Stored.{listed, same}
-use Rattle.wsm_panes.proofs.Stored.{get_set, get_set_other, get_end, get_end_other, listed-append, same_self}
+use Rattle.wsm_panes.specs.Stored.{listed}
+use Rattle.wsm_panes.proofs.Stored.{get_set, get_set_other, get_end, get_end_other, listed-append, slot_within}
 use Rattle.wsm_panes.proofs.store.Store.put.Goals as goal
-
-slot_within : {P : Type 0} (panes : List P) (free left : List ℕ) (slot : ℕ) → free ≡ left ++ slot ∷ [] → ((s : ℕ) → 0 < listed s free → s < length panes) → slot < length panes
-slot_within panes free left slot all within =
-    let one : same slot slot ≡ 1 = same_self slot in
-    let some : listed slot free ≡ listed slot left + listed slot (slot ∷ []) = ap (listed slot) all ∙ listed-append slot left (slot ∷ []) in
-    within slot (omega (arith, some, one))
 
 pub index_mut-requires : goal.index_mut-requires
 index_mut-requires g c = omega (arith, slot_within c.args.self.now.panes.items _ _ c.in-Some.slot c.in-Some.ensures.items c.requires.free, c.args.self.now.panes.ok.0)
