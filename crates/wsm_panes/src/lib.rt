@@ -1,11 +1,12 @@
 //! The panes that are held: what is kept of each key and window.
 //!
-//! [`HeldPanes`] puts records into panes, and drops panes that expire. It keeps them in a table. A
-//! table is a [`PaneTable`]: a finite map from places, which are a window and a key, to panes, with
-//! room for a number of them that is reserved when it is opened. It is walked by end, then start,
-//! then key, so panes come in the order in which they fire and expire. [`ListTable`] keeps a sorted
-//! list of places beside slots for their panes, and [`RingTable`] a ring of slots, a row for each
-//! window. A pane that a record comes into changes in its slot, as a [`TakesRecords`] says.
+//! [`HeldPanes`] puts records into panes, and drops panes that expire. It keeps them in a table: those
+//! of sessions in a list, those of fixed and sliding windows in a ring. A table is a [`PaneTable`]: a
+//! finite map from places, which are a window and a key, to panes, with room for a number of them that
+//! is reserved when it is opened. It is walked by end, then start, then key, so panes come in the order
+//! in which they fire and expire. [`ListTable`] keeps a sorted list of places beside slots for their
+//! panes, and [`RingTable`] a ring of slots, a row for each window, where a place has its slot without
+//! a search. A pane that a record comes into changes in its slot, as a [`TakesRecords`] says.
 #![tactic(auto)]
 
 pub use held::{Entered, HeldPanes};
