@@ -2,7 +2,8 @@
 use Rattle.std.proofs.Common.{◌≡◌, ℕ, zero, suc, ◌+◌, ◌-◌, ◌*◌, ◌^◌, ◌<◌, ◌≤◌, Bool, true, false, List, [], ◌∷◌, ◌++◌, length, take, drop, get_or, Some, None, nat_lt, refl, ap, arith, length-append}
 use Rattle.std.specs.Prelude.{◌&&◌, if◌then◌else◌}
 use Rattle.std.specs.List.{list_all}
-use Rattle.std.proofs.Math.Nat.{mul-le-mul_left}
+use Rattle.std.proofs.Math.Nat.{mul-le-mul_left, pow-le-pow_right}
+use Rattle.std.proofs.lemmas.Grind.{pow_more}
 use Rattle.std.proofs.lemmas.Nat.{pow-add}
 use Rattle.std.proofs.lemmas.List.{take-append-drop, take_more}
 use Rattle.std.proofs.lemmas.Bool.{le-ltb, lt-ltb}
@@ -49,3 +50,13 @@ pub magnitude-all : (xs : List ℕ) (n : ℕ) → 0 < length xs → list_all is_
 magnitude-all xs n some e v h =
     let fits : digits_value xs < 2 ^ 64 = omega arith in
     rw (is_numeral-some xs some, e, lt-ltb (digits_value xs) (2 ^ 64) fits, v) refl
+
+-- as many digits as a short number has in front of its last stand for less than 10 to the 17
+pub below-short : (n i : ℕ) → n < 10 ^ i → i < 18 → n < 10 ^ 17
+below-short n i h few =
+    let most : 10 ^ i ≤ 10 ^ 17 = pow-le-pow_right {n = 10} (omega arith) {i = i} {j = 17} (omega (arith, few)) in
+    omega (arith, h, most)
+
+-- one digit more
+pub below-more : (n d i : ℕ) → n < 10 ^ i → d ≤ 9 → n * 10 + d < 10 ^ (i + 1)
+below-more n d i h one = rw (pow_more 10 i) (omega (arith, h, one))

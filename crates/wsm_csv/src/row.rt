@@ -107,6 +107,7 @@ fn cell_tag(cell: &[u8]) -> Option<Tag>
     }
 }
 
+#[inline(always)]
 fn read_record(
     alloc: Global,
     schema: &Schema,
@@ -139,6 +140,7 @@ fn read_watermark(row: &ByteRecord) -> Result<Event, RowFault>
 }
 
 // Reads the values of a record in place of those that are there, up to the first fault.
+#[inline(always)]
 fn read_values(
     fields: &[DeclaredField],
     row: &ByteRecord,
@@ -181,6 +183,7 @@ fn read_truth(cell: &[u8]) -> Option<bool>
     }
 }
 
+#[inline(always)]
 fn read_time(cell: &[u8]) -> Result<i64, RowFault>
     ensures { result ≡ time_of cell.now }
 {
