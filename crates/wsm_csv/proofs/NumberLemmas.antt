@@ -51,10 +51,10 @@ magnitude-all xs n some e v h =
     let fits : digits_value xs < 2 ^ 64 = omega arith in
     rw (is_numeral-some xs some, e, lt-ltb (digits_value xs) (2 ^ 64) fits, v) refl
 
--- as many digits as a short number has in front of its last stand for less than 10 to the 17
-pub below-short : (n i : ℕ) → n < 10 ^ i → i < 18 → n < 10 ^ 17
-below-short n i h few =
-    let most : 10 ^ i ≤ 10 ^ 17 = pow-le-pow_right {n = 10} (omega arith) {i = i} {j = 17} (omega (arith, few)) in
+-- more digits stand for no less
+pub below-longer : (n i k : ℕ) → n < 10 ^ i → i ≤ k → n < 10 ^ k
+below-longer n i k h few =
+    let most : 10 ^ i ≤ 10 ^ k = pow-le-pow_right {n = 10} (omega arith) {i = i} {j = k} few in
     omega (arith, h, most)
 
 -- one digit more

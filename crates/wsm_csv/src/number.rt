@@ -1,6 +1,6 @@
 //! Reading whole numbers from cells.
 
-ghost use Rattle.std.specs.Prelude.{◌≡◌, ◌≤◌, ◌-◌, length, nat_le};
+ghost use Rattle.std.specs.Prelude.{◌≡◌, ◌<◌, ◌≤◌, ◌-◌, ◌^◌, length, nat_le, IfSome};
 ghost use Rattle.wsm_record.specs.Name.{is_digit};
 ghost use Rattle.wsm_csv.specs.Number.{magnitude_of, number_of};
 
@@ -15,27 +15,17 @@ pub fn read_number(cell: &[u8]) -> Option<i64>
 {
     match cell {
         [b'-', digits @ ..] => 0i64.checked_sub_unsigned(magnitude(digits)?),
+        digits if digits.len() <= SHORT => Some(short_magnitude(digits)? as i64),
         digits => 0i64.checked_add_unsigned(magnitude(digits)?),
     }
 }
 
-// What digits alone stand for.
-#[inline(always)]
-fn magnitude(digits: &[u8]) -> Option<u64>
-    ensures { result ≡ magnitude_of digits.now }
-{
-    if digits.len() <= SHORT {
-        short_magnitude(digits)
-    } else {
-        long_magnitude(digits)
-    }
-}
-
-// What so few digits stand for: no step goes past 64 bits.
+// What so few digits stand for. No step goes past 64 bits.
 #[inline(always)]
 fn short_magnitude(digits: &[u8]) -> Option<u64>
     requires { length digits.now ≤ SHORT }
-    ensures { result ≡ magnitude_of digits.now }
+    ensures value { result ≡ magnitude_of digits.now }
+    ensures below { IfSome result (λ n. n < 10 ^ SHORT) }
 {
     if digits.is_empty() {
         return None;
@@ -60,9 +50,9 @@ fn above_zero(byte: u8) -> u64
     u64::from(byte).wrapping_sub(u64::from(b'0'))
 }
 
-// What digits stand for, of whatever length.
+// What digits alone stand for, however many.
 #[inline(never)]
-fn long_magnitude(digits: &[u8]) -> Option<u64>
+fn magnitude(digits: &[u8]) -> Option<u64>
     ensures { result ≡ magnitude_of digits.now }
 {
     if digits.is_empty() {

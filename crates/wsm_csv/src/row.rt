@@ -4,7 +4,7 @@ ghost use Rattle.std.specs.Prelude.{◌≡◌, ◌≢◌, ◌+◌, ◌<◌, ◌�
 ghost use Rattle.csv.specs.Records.{fields_of};
 ghost use Rattle.wsm_record.specs.Event.{event_of};
 ghost use Rattle.wsm_record.specs.Fields.{field_seen, type_seen};
-ghost use Rattle.wsm_csv.specs.Cells.{event_of_cells, record_of, record_tag, time_of, truth_of, value_of, values_of, watermark_of};
+ghost use Rattle.wsm_csv.specs.Cells.{Adds, event_of_cells, place_of, record_of, record_tag, time_of, truth_of, value_of, values_of, watermark_of};
 ghost use Rattle.wsm_csv.specs.Refused.{IfFault};
 ghost use Rattle.wsm_csv.specs.Tags.{row_tag, tag_of};
 
@@ -12,7 +12,7 @@ use crate::number::read_number;
 use csv::ByteRecord;
 use std::alloc::{AllocError, Global};
 use std::mem;
-use wsm_record::{DeclaredField, Event, FieldType, RowFault, Schema, Value};
+use wsm_record::{DeclaredField, Event, FieldType, Names, RowFault, Schema, Value};
 
 /// The cells of a record in front of its fields: its tag, its key and its time.
 const RECORD_HEAD: usize = 3;
@@ -154,23 +154,42 @@ fn read_values(
     values.clear();
     values.reserve(fields.len())?;
     for (place, field) in fields.iter().enumerate() {
-        let value = read_value(&field.ty, cell_at(row, RECORD_HEAD + place))?;
-        values.push_reserved(value);
+        add_value(&field.ty, cell_at(row, RECORD_HEAD + place), values)?;
     }
     Ok(())
 }
 
-fn read_value(ty: &FieldType, cell: &[u8]) -> Result<Value, RowFault>
-    ensures { result ≡ value_of (type_seen ty.now) cell.now }
+// Reads the value of a field behind those that are there. It is put there in each case by itself, so
+// that it isn't moved.
+#[inline(always)]
+fn add_value(ty: &FieldType, cell: &[u8], values: &mut Vec<Value>) -> Result<(), RowFault>
+    requires { length values.old.items < vec_capacity values.old }
+    ensures value { OnOk result (Adds (value_of (type_seen ty.now) cell.now) values.old.items values.new.items) }
+    ensures fault { IfErr result (λ f. value_of (type_seen ty.now) cell.now ≡ Err f) }
+    ensures room { vec_capacity values.new ≡ vec_capacity values.old }
 {
     match ty {
-        FieldType::Int { .. } => read_number(cell).map(Value::Int).ok_or(RowFault::BadNumber),
-        FieldType::Bool => read_truth(cell).map(Value::Bool).ok_or(RowFault::BadName),
-        FieldType::Enum(names) => names
-            .number_of(cell)
-            .map(Value::Enum)
-            .ok_or(RowFault::BadName),
+        FieldType::Int { .. } => {
+            let number = read_number(cell).ok_or(RowFault::BadNumber)?;
+            values.push_reserved(Value::Int(number));
+        }
+        FieldType::Bool => {
+            let truth = read_truth(cell).ok_or(RowFault::BadName)?;
+            values.push_reserved(Value::Bool(truth));
+        }
+        FieldType::Enum(names) => {
+            let number = name_number(names, cell).ok_or(RowFault::BadName)?;
+            values.push_reserved(Value::Enum(number));
+        }
     }
+    Ok(())
+}
+
+#[inline(never)]
+fn name_number(names: &Names, cell: &[u8]) -> Option<u16>
+    ensures { result ≡ place_of cell.now names.now }
+{
+    names.number_of(cell)
 }
 
 fn read_truth(cell: &[u8]) -> Option<bool>

@@ -3,17 +3,17 @@ use Rattle.std.specs.List.{list_all}
 use Rattle.std.proofs.lemmas.List.Folds.{list_all_more}
 use Rattle.std.proofs.lemmas.Bool.{and_from, le-leb}
 use Rattle.wsm_record.specs.Name.{is_digit}
-use Rattle.wsm_csv.proofs.NumberLemmas.{below-more, below-short, digits_value-more}
+use Rattle.wsm_csv.proofs.NumberLemmas.{below-longer, below-more, digits_value-more}
 use Rattle.wsm_csv.proofs.number.short_magnitude.Goals as goal
 
 pub overflow_mul-value : goal.overflow_mul-value
 overflow_mul-value c =
-    let below = below-short c.loop-byte.value c.loop-byte.byte-index c.loop-byte.invariant.below (omega (arith, c.requires, c.loop-byte-test.true)) in
+    let below = below-longer c.loop-byte.value c.loop-byte.byte-index 17 c.loop-byte.invariant.below (omega (arith, c.requires, c.loop-byte-test.true)) in
     omega (arith, below)
 
 pub overflow_add-value : goal.overflow_add-value
 overflow_add-value c =
-    let below = below-short c.loop-byte.value c.loop-byte.byte-index c.loop-byte.invariant.below (omega (arith, c.requires, c.loop-byte-test.true)) in
+    let below = below-longer c.loop-byte.value c.loop-byte.byte-index 17 c.loop-byte.invariant.below (omega (arith, c.requires, c.loop-byte-test.true)) in
     omega (arith, below, c.if-digit-gt9.false)
 
 pub loop-byte-preserved : goal.loop-byte-preserved
@@ -26,3 +26,6 @@ loop-byte-preserved c =
       below = below-more c.loop-byte.value c.above_zero-digit.result i c.loop-byte.invariant.below c.if-digit-gt9.false;
       value = omega (arith, more, c.loop-byte.invariant.value, digit.value c.if-digit-gt9.false);
     }
+
+pub returns-clause-below : goal.returns-clause-below
+returns-clause-below c = below-longer c.loop-byte.value c.loop-byte.byte-index 18 c.loop-byte.invariant.below (omega (arith, c.requires, c.loop-byte.auto.byte-index-end))

@@ -2,7 +2,7 @@ use Rattle.std.proofs.Common.{◌≡◌, ◌<◌, ◌^◌, take, true}
 use Rattle.std.specs.List.{list_all}
 use Rattle.wsm_record.specs.Name.{is_digit}
 use Rattle.wsm_csv.specs.Number.{digits_value}
-use Rattle.wsm_csv.proofs.number.long_magnitude.Given as goal
+use Rattle.wsm_csv.proofs.number.magnitude.Given as goal
 
 -- what the digits so far stand for
 abbrev pub invariant-loop-digit : goal.invariant-loop-digit

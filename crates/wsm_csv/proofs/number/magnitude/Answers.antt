@@ -5,7 +5,7 @@ use Rattle.std.proofs.lemmas.Bool.{and_from}
 use Rattle.wsm_record.specs.Name.{is_digit}
 use Rattle.wsm_csv.specs.Number.{digits_value}
 use Rattle.wsm_csv.proofs.NumberLemmas.{digits_value-more, magnitude-all, magnitude-too_large}
-use Rattle.wsm_csv.proofs.number.long_magnitude.Goals as goal
+use Rattle.wsm_csv.proofs.number.magnitude.Goals as goal
 
 -- the digits up to this one stand for too much
 pub returns-in_err-checked_mul : goal.returns-in_err-checked_mul
