@@ -2,14 +2,11 @@
 use Rattle.std.proofs.Common.{◌≡◌, ℕ, suc, ◌+◌, ◌<◌, List, [], ◌∷◌, ◌++◌, length, get_or, drop, pos, refl, sym, ap, ◌∙◌, append_assoc, add-one, drop-cons}
 use Rattle.std.specs.Fmt.{decimal}
 use Rattle.wsm_bytecode.specs.declared.instr.Instr.{Instr}
-use Rattle.wsm_bytecode.specs.declared.instr.Instr.TheVariants.{PushInt, PushEnum}
 use Rattle.wsm_bytecode.specs.declared.instr.SectionId.{SectionId}
 use Rattle.wsm_bytecode.specs.Text.{Letters, Number, instr_words, instr_text, section_name, section_text, line_text}
 
 -- section, place and instruction, joined by one space
 line_is : (id : SectionId) (place : ℕ) (i : Instr) → line_text (Letters (section_name id) ∷ Number (pos place) ∷ instr_words i) ≡ section_name id ++ (32 ∷ (decimal place ++ (32 ∷ instr_text i)))
-line_is id place (PushInt n) = refl
-line_is id place (PushEnum e k) = refl
 line_is id place i = refl
 
 ended : (a b c : List ℕ) → (a ++ (32 ∷ (b ++ (32 ∷ c)))) ++ 10 ∷ [] ≡ a ++ (32 ∷ (b ++ (32 ∷ (c ++ 10 ∷ []))))

@@ -32,20 +32,20 @@ first_of_code c (o ∷ os) = if c == code o then Some o else first_of_code c os
 unfoldable pub of_code : ℕ → Option Operation
 of_code c = first_of_code c operations
 
-abbrev pub word : Operation → List ℕ
-word Add = codes "ADD"
-word Sub = codes "SUB"
-word Mul = codes "MUL"
-word Div = codes "DIV"
-word Rem = codes "REM"
-word Neg = codes "NEG"
-word Eq = codes "EQ"
-word Ne = codes "NE"
-word Lt = codes "LT"
-word Le = codes "LE"
-word Gt = codes "GT"
-word Ge = codes "GE"
-word Not = codes "NOT"
+abbrev pub name : Operation → List ℕ
+name Add = codes "ADD"
+name Sub = codes "SUB"
+name Mul = codes "MUL"
+name Div = codes "DIV"
+name Rem = codes "REM"
+name Neg = codes "NEG"
+name Eq = codes "EQ"
+name Ne = codes "NE"
+name Lt = codes "LT"
+name Le = codes "LE"
+name Gt = codes "GT"
+name Ge = codes "GE"
+name Not = codes "NOT"
 
 abbrev pub operands : Operation → Operands
 operands Add = takes.Numbers

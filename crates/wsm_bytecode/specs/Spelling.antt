@@ -1,5 +1,5 @@
 -- The one spelling of a program as bytes, version 1. Numbers stand with their lowest byte first.
-use Rattle.std.specs.Prelude.{ℕ, Bool, true, false, List, ◌++◌, length, ℤ, codes}
+use Rattle.std.specs.Prelude.{ℕ, Bool, true, false, List, [], ◌++◌, length, ℤ, codes}
 use Rattle.std.specs.List.{flat_map}
 use Rattle.std.specs.Int.{w8, w16, w64, to_le_bytes, cast_unsigned}
 use Rattle.wsm_record.specs.declared.words.CellType.{CellType}
@@ -7,7 +7,8 @@ use Rattle.wsm_record.specs.declared.words.CellType.TheVariants as types
 use Rattle.wsm_record.specs.declared.Kind.{Kind}
 use Rattle.wsm_record.specs.declared.Kind.TheVariants.{Sum, Min, Max, Any, All}
 use Rattle.wsm_bytecode.specs.declared.instr.Instr.{Instr}
-use Rattle.wsm_bytecode.specs.declared.instr.Instr.TheVariants.{PushInt, PushBool, PushEnum, Field, Key, Acc, Count, Operate, Jump, JumpIfFalse, Fold, Return}
+use Rattle.wsm_bytecode.specs.declared.table.Argument.{Argument}
+use Rattle.wsm_bytecode.specs.declared.table.Argument.TheVariants as arguments
 use Rattle.wsm_windows.specs.declared.Shape.{Shape}
 use Rattle.wsm_windows.specs.declared.Shape.TheVariants.{Fixed, Sliding, Session}
 use Rattle.wsm_record.specs.declared.Mode.{Mode}
@@ -17,7 +18,7 @@ use Rattle.wsm_record.specs.declared.Form.TheVariants.{Panes, Istream, Dstream, 
 use Rattle.wsm_bytecode.specs.Program.{Name, Header, Program}
 use Rattle.wsm_record.specs.Schema.{FieldType, Int, Truth, Enum, DeclaredField, Declared}
 use Rattle.wsm_bytecode.specs.declared.program.Budget.{Budget}
-use Rattle.wsm_bytecode.specs.Operations as operation
+use Rattle.wsm_bytecode.specs.Instructions as table
 
 abbrev pub byte : ℕ → List ℕ
 byte n = to_le_bytes w8 n
@@ -98,20 +99,17 @@ abbrev pub truth : Bool → ℕ
 truth false = 0
 truth true = 1
 
--- the code of the table, and the operands
+abbrev pub argument : Argument → List ℕ
+argument arguments.Nothing = []
+argument (arguments.Number n) = signed n
+argument (arguments.Truth b) = byte (truth b)
+argument (arguments.Name e i) = byte e ++ number i
+argument (arguments.Index i) = byte i
+argument (arguments.Target t) = number t
+
+-- its code, and what stands behind it
 unfoldable pub instr : Instr → List ℕ
-instr (PushInt n) = byte 1 ++ signed n
-instr (PushBool b) = byte 2 ++ byte (truth b)
-instr (PushEnum e i) = byte 3 ++ byte e ++ number i
-instr (Field f) = byte 4 ++ byte f
-instr Key = byte 5
-instr (Acc a) = byte 6 ++ byte a
-instr Count = byte 7
-instr (Operate o) = byte (operation.code o)
-instr (Jump t) = byte 48 ++ number t
-instr (JumpIfFalse t) = byte 49 ++ number t
-instr (Fold a) = byte 64 ++ byte a
-instr Return = byte 80
+instr i = byte (table.code i) ++ argument (table.argument i)
 
 unfoldable pub code : List Instr → List ℕ
 code is = number (length is) ++ flat_map instr is

@@ -3,39 +3,30 @@ use Rattle.std.specs.Prelude.{ℕ, suc, List, [], ◌∷◌, ◌++◌, map, ℤ,
 use Rattle.std.specs.List.{flat_map, join_with_byte}
 use Rattle.std.specs.Fmt.{signed_decimal}
 use Rattle.wsm_bytecode.specs.declared.instr.Instr.{Instr}
-use Rattle.wsm_bytecode.specs.declared.instr.Instr.TheVariants.{PushInt, PushBool, PushEnum, Field, Key, Acc, Count, Operate, Jump, JumpIfFalse, Fold, Return}
+use Rattle.wsm_bytecode.specs.declared.table.Argument.{Argument}
+use Rattle.wsm_bytecode.specs.declared.table.Argument.TheVariants as arguments
 use Rattle.wsm_bytecode.specs.declared.instr.SectionId.{SectionId}
 use Rattle.wsm_bytecode.specs.declared.instr.SectionId.TheVariants.{Where, Update, Fire}
 use Rattle.wsm_bytecode.specs.Program.{Program}
 use Rattle.wsm_bytecode.specs.Spelling.{truth}
-use Rattle.wsm_bytecode.specs.Operations as operation
+use Rattle.wsm_bytecode.specs.Instructions as table
 
 -- a word of a line: letters, or a number in decimal
 pub data Word : Type 0 where
   Letters : (bytes : List ℕ) → Word
   Number : (value : ℤ) → Word
 
-abbrev word : List ℕ → List Word
-word bytes = Letters bytes ∷ []
-
--- a name and one operand that isn't negative
-abbrev with_one : List ℕ → ℕ → List Word
-with_one bytes n = Letters bytes ∷ Number (pos n) ∷ []
+abbrev argument_words : Argument → List Word
+argument_words arguments.Nothing = []
+argument_words (arguments.Number n) = Number n ∷ []
+argument_words (arguments.Truth b) = Number (pos (truth b)) ∷ []
+argument_words (arguments.Name e i) = Number (pos e) ∷ Number (pos i) ∷ []
+argument_words (arguments.Index i) = Number (pos i) ∷ []
+argument_words (arguments.Target t) = Number (pos t) ∷ []
 
 -- the name and the operands
 abbrev pub instr_words : Instr → List Word
-instr_words (PushInt n) = Letters (codes "PUSHI") ∷ Number n ∷ []
-instr_words (PushBool b) = with_one (codes "PUSHB") (truth b)
-instr_words (PushEnum e i) = Letters (codes "PUSHE") ∷ Number (pos e) ∷ Number (pos i) ∷ []
-instr_words (Field f) = with_one (codes "FIELD") f
-instr_words Key = word (codes "KEY")
-instr_words (Acc a) = with_one (codes "ACC") a
-instr_words Count = word (codes "COUNT")
-instr_words (Operate o) = word (operation.word o)
-instr_words (Jump t) = with_one (codes "JMP") t
-instr_words (JumpIfFalse t) = with_one (codes "JF") t
-instr_words (Fold a) = with_one (codes "FOLD") a
-instr_words Return = word (codes "RET")
+instr_words i = Letters (table.name i) ∷ argument_words (table.argument i)
 
 -- section, place, name, operands, for the instructions from a place on
 abbrev pub section_lines : List ℕ → ℕ → List Instr → List (List Word)

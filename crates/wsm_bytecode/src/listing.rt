@@ -5,6 +5,7 @@ ghost use Rattle.wsm_bytecode.specs.Text.{text, section_text};
 
 use crate::instr::{Instr, SectionId};
 use crate::program::Program;
+use crate::table::Argument;
 use std::alloc::{AllocError, Global};
 use std::fmt;
 
@@ -66,19 +67,14 @@ impl fmt::Display for Instr {
     ghost output = { λ instr. Some (instr_text instr) };
 
     fn fmt<W: fmt::Write>(&self, f: &mut fmt::Formatter<W>) -> fmt::Result {
-        match self {
-            Instr::PushInt(value) => write!(f, "PUSHI {value}"),
-            Instr::PushBool(truth) => write!(f, "PUSHB {}", u8::from(*truth)),
-            Instr::PushEnum(list, name) => write!(f, "PUSHE {list} {name}"),
-            Instr::Field(field) => write!(f, "FIELD {field}"),
-            Instr::Key => f.write_str("KEY"),
-            Instr::Acc(accumulator) => write!(f, "ACC {accumulator}"),
-            Instr::Count => f.write_str("COUNT"),
-            Instr::Operate(operation) => write!(f, "{operation}"),
-            Instr::Jump(target) => write!(f, "JMP {target}"),
-            Instr::JumpIfFalse(target) => write!(f, "JF {target}"),
-            Instr::Fold(accumulator) => write!(f, "FOLD {accumulator}"),
-            Instr::Return => f.write_str("RET"),
+        let name = self.name();
+        match self.argument() {
+            Argument::Nothing => f.write_str(name),
+            Argument::Number(value) => write!(f, "{name} {value}"),
+            Argument::Truth(truth) => write!(f, "{name} {}", u8::from(truth)),
+            Argument::Name(list, number) => write!(f, "{name} {list} {number}"),
+            Argument::Index(index) => write!(f, "{name} {index}"),
+            Argument::Target(target) => write!(f, "{name} {target}"),
         }
     }
 }

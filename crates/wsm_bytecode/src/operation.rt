@@ -6,8 +6,6 @@
 ghost use Rattle.std.specs.Prelude.{◌≡◌};
 ghost use Rattle.wsm_bytecode.specs.Operations as spec;
 
-use std::fmt;
-
 /// What is computed of popped values. Where two are popped, y is on top of x.
 #[derive(Clone, Copy, Debug, PartialEq, Eq)]
 pub enum Operation {
@@ -54,7 +52,7 @@ pub enum Operands {
 
 impl Operation {
     /// The code of its instruction.
-    pub fn code(self) -> u8
+    pub(crate) fn code(self) -> u8
         ensures { result ≡ spec.code self }
     {
         match self {
@@ -76,7 +74,7 @@ impl Operation {
 
     /// The operation of a code, if it has one.
     #[tactic(auto, unfolding(crate::specs::Operations::of_code))]
-    pub fn of_code(code: u8) -> Option<Operation>
+    pub(crate) fn of_code(code: u8) -> Option<Operation>
         ensures { result ≡ spec.of_code code }
     {
         let operation = match code {
@@ -96,6 +94,27 @@ impl Operation {
             _ => return None,
         };
         Some(operation)
+    }
+
+    /// The name of its instruction.
+    pub(crate) fn name(self) -> &'static str
+        ensures { result.now ≡ spec.name self }
+    {
+        match self {
+            Operation::Add => "ADD",
+            Operation::Sub => "SUB",
+            Operation::Mul => "MUL",
+            Operation::Div => "DIV",
+            Operation::Rem => "REM",
+            Operation::Neg => "NEG",
+            Operation::Eq => "EQ",
+            Operation::Ne => "NE",
+            Operation::Lt => "LT",
+            Operation::Le => "LE",
+            Operation::Gt => "GT",
+            Operation::Ge => "GE",
+            Operation::Not => "NOT",
+        }
     }
 
     /// What it takes from the stack.
@@ -121,32 +140,6 @@ impl Operation {
             Operation::Add | Operation::Sub | Operation::Mul | Operation::Neg => false,
             Operation::Eq | Operation::Ne | Operation::Lt | Operation::Le => false,
             Operation::Gt | Operation::Ge | Operation::Not => false,
-        }
-    }
-}
-
-/// The name of its instruction.
-impl fmt::Display for Operation {
-    ghost use Rattle.std.specs.Prelude.{Some};
-    ghost use Rattle.wsm_bytecode.specs.Operations.{word};
-
-    ghost output = { λ operation. Some (word operation) };
-
-    fn fmt<W: fmt::Write>(&self, f: &mut fmt::Formatter<W>) -> fmt::Result {
-        match self {
-            Operation::Add => f.write_str("ADD"),
-            Operation::Sub => f.write_str("SUB"),
-            Operation::Mul => f.write_str("MUL"),
-            Operation::Div => f.write_str("DIV"),
-            Operation::Rem => f.write_str("REM"),
-            Operation::Neg => f.write_str("NEG"),
-            Operation::Eq => f.write_str("EQ"),
-            Operation::Ne => f.write_str("NE"),
-            Operation::Lt => f.write_str("LT"),
-            Operation::Le => f.write_str("LE"),
-            Operation::Gt => f.write_str("GT"),
-            Operation::Ge => f.write_str("GE"),
-            Operation::Not => f.write_str("NOT"),
         }
     }
 }

@@ -1,4 +1,5 @@
-//! Where an instruction may stand, what it takes from the stack, and where it goes on to.
+//! The code, the name and the argument of an instruction, where it may stand, what it takes from the
+//! stack, and where it goes on to.
 
 ghost use Rattle.std.specs.Prelude.{◌≡◌, ◌≤◌, []};
 ghost use Rattle.wsm_bytecode.specs.Instructions as spec;
@@ -6,7 +7,76 @@ ghost use Rattle.wsm_bytecode.specs.Instructions as spec;
 use crate::instr::{Instr, SectionId};
 use crate::operation::Operands;
 
+/// What is written behind an instruction's code or its name.
+#[derive(Clone, Copy, Debug, PartialEq, Eq)]
+pub(crate) enum Argument {
+    Nothing,
+    Number(i64),
+    Truth(bool),
+    /// An ENUM, and the number of one of its names.
+    Name(u8, u16),
+    /// The number of a field or an accumulator.
+    Index(u8),
+    /// A place.
+    Target(u16),
+}
+
 impl Instr {
+    /// Its code.
+    pub(crate) fn code(self) -> u8
+        ensures { result ≡ spec.code self }
+    {
+        match self {
+            Instr::PushInt(_) => 0x01,
+            Instr::PushBool(_) => 0x02,
+            Instr::PushEnum(_, _) => 0x03,
+            Instr::Field(_) => 0x04,
+            Instr::Key => 0x05,
+            Instr::Acc(_) => 0x06,
+            Instr::Count => 0x07,
+            Instr::Operate(operation) => operation.code(),
+            Instr::Jump(_) => 0x30,
+            Instr::JumpIfFalse(_) => 0x31,
+            Instr::Fold(_) => 0x40,
+            Instr::Return => 0x50,
+        }
+    }
+
+    /// Its name.
+    pub(crate) fn name(self) -> &'static str
+        ensures { result.now ≡ spec.name self }
+    {
+        match self {
+            Instr::PushInt(_) => "PUSHI",
+            Instr::PushBool(_) => "PUSHB",
+            Instr::PushEnum(_, _) => "PUSHE",
+            Instr::Field(_) => "FIELD",
+            Instr::Key => "KEY",
+            Instr::Acc(_) => "ACC",
+            Instr::Count => "COUNT",
+            Instr::Operate(operation) => operation.name(),
+            Instr::Jump(_) => "JMP",
+            Instr::JumpIfFalse(_) => "JF",
+            Instr::Fold(_) => "FOLD",
+            Instr::Return => "RET",
+        }
+    }
+
+    /// What is written behind its code or its name.
+    pub(crate) fn argument(self) -> Argument
+        ensures { result ≡ spec.argument self }
+    {
+        match self {
+            Instr::PushInt(value) => Argument::Number(value),
+            Instr::PushBool(truth) => Argument::Truth(truth),
+            Instr::PushEnum(list, name) => Argument::Name(list, name),
+            Instr::Field(field) => Argument::Index(field),
+            Instr::Acc(accumulator) | Instr::Fold(accumulator) => Argument::Index(accumulator),
+            Instr::Jump(target) | Instr::JumpIfFalse(target) => Argument::Target(target),
+            Instr::Key | Instr::Count | Instr::Operate(_) | Instr::Return => Argument::Nothing,
+        }
+    }
+
     /// Whether it may stand in a section.
     pub fn may_stand(self, section: SectionId) -> bool
         ensures { result ≡ spec.may_stand section self }

@@ -101,6 +101,40 @@ fn an_undeclared_field_is_refused(rt: HostRuntime) -> Result<(), Fail> {
     Ok(())
 }
 
+// Byte 133 is the code of the first instruction of FIRE.
+#[test]
+fn operations_are_read_and_listed(rt: HostRuntime) -> Result<(), Fail> {
+    let cases = [
+        (0x10, Operation::Add, "fire 0 ADD\n"),
+        (0x11, Operation::Sub, "fire 0 SUB\n"),
+        (0x12, Operation::Mul, "fire 0 MUL\n"),
+        (0x13, Operation::Div, "fire 0 DIV\n"),
+        (0x14, Operation::Rem, "fire 0 REM\n"),
+        (0x15, Operation::Neg, "fire 0 NEG\n"),
+        (0x20, Operation::Eq, "fire 0 EQ\n"),
+        (0x21, Operation::Ne, "fire 0 NE\n"),
+        (0x22, Operation::Lt, "fire 0 LT\n"),
+        (0x23, Operation::Le, "fire 0 LE\n"),
+        (0x24, Operation::Gt, "fire 0 GT\n"),
+        (0x25, Operation::Ge, "fire 0 GE\n"),
+        (0x28, Operation::Not, "fire 0 NOT\n"),
+    ];
+    for (code, operation, line) in cases {
+        let mut bytes = BASE;
+        if let Some(changed) = bytes.get_mut(133) {
+            *changed = code;
+        }
+        let program = decode(rt.alloc(), &bytes)?;
+        let fire = program.section(SectionId::Fire);
+        assert_eq!(rt; fire.first().copied(), Some(Instr::Operate(operation)));
+        let again = encode(rt.alloc(), &program)?;
+        assert_eq!(rt; again.as_slice(), bytes.as_slice());
+        let listing = disassemble(rt.alloc(), &program)?;
+        assert!(rt; listing.as_str().contains(line), "{line}");
+    }
+    Ok(())
+}
+
 #[test]
 fn first_fault(rt: HostRuntime) {
     let cases = [

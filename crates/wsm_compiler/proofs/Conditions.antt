@@ -29,10 +29,10 @@ use Rattle.wsm_machine.proofs.Giving.{same_type_is}
 use Rattle.wsm_compiler.proofs.Hulls.{type_self}
 use Rattle.wsm_compiler.proofs.Tests.{with_known}
 use Rattle.wsm_compiler.proofs.Sizes.{length-code, some_size, some_need, some_code}
-use Rattle.wsm_compiler.proofs.Found.{found}
+use Rattle.wsm_compiler.proofs.Found.{found, push_bool}
 use Rattle.wsm_compiler.proofs.Suiting.{suits, known_of, known_truth, known_has}
 use Rattle.wsm_compiler.proofs.Finding.{Reads, Accs, AccsIn, accs_left, accs_right, range_suits, found_is}
-use Rattle.wsm_compiler.proofs.Labelling.{labelled, truth_pushed}
+use Rattle.wsm_compiler.proofs.Labelling.{labelled}
 use Rattle.wsm_compiler.proofs.Ending.{Ends, or_behind, follow_ends, return_ends, whole_section}
 use Rattle.wsm_compiler.proofs.Reading.{in_column, reads_where}
 use Rattle.wsm_check.proofs.Passing.{length-accumulators_of}
@@ -65,7 +65,7 @@ pub condition_ends : (e : State) (c : Setting) (q : Query) (around : Around) →
     Ends e c k (condition_code q k a o ++ instr.Return ∷ []) s (not (condition_fits q o))
 condition_ends e c q around reads k a None s h accs room more same folded =
     follow_ends e c k 1 (instr.PushBool true ∷ []) (instr.Return ∷ []) s (Some known.Truth) (λ x. false) refl (omega arith) (omega arith)
-    (truth_pushed e c k s (omega (arith, room)) (omega (arith, more)) true)
+    (push_bool e c k s (omega (arith, room)) (omega (arith, more)) true)
     (λ x h. subst (λ z. Ends e c (k + 1) (instr.Return ∷ []) (with_known z s) false) (same_Some known.Truth x h) (return_ends e c (k + 1) (with_known known.Truth s) same folded (omega (arith, room))))
 condition_ends e c q around reads k a (Some x) s h accs room more same folded =
     subst (λ b. Ends e c k (code q k a x ++ instr.Return ∷ []) s b)

@@ -45,10 +45,6 @@ same_truth : (c : Setting) (q : Query) (around : Around) → Reads c q around �
 same_truth c q around reads a x h accs u v l e =
     ap (same_type v) (sym (same_Some known.Truth u l)) ∙ ap (λ z. same_type z known.Truth) (is_truth c q around reads a x h accs v e)
 
--- a truth that an instruction pushes
-pub truth_pushed : (e : State) (c : Setting) (k : ℕ) (s : State) → length s.stack < 32 → suc k < c.n → (b : _) → Labelled e c k (instr.PushBool b ∷ []) s (pushed_on s (Some known.Truth))
-truth_pushed e c k s room more b = push_bool e c k s room more b
-
 module _ (e : State) (c : Setting) (q : Query) (around : Around) (reads : Reads c q around) where
   pub labelled : (k a : ℕ) (x : Expr) (t : CellType) (s : State) → typed q around x ≡ Ok t → AccsIn c q around a (accumulators_of x) → length s.stack + need x ≤ 32 → k + size x < c.n →
       Labelled e c k (code q k a x) s (pushed_on s (found c q a x))
@@ -127,7 +123,7 @@ module _ (e : State) (c : Setting) (q : Query) (around : Around) (reads : Reads 
       (omega (arith, more)) (omega (arith, room, some_need y))
       (truth_same c q around reads b y p.right_is right)
       (labelled (i + 1) b y types.Bool s p.right_is right (omega (arith, room)) (omega (arith, more)))
-      (truth_pushed e c (i + 1 + size y + 1) s (omega (arith, room, some_need y)) (omega (arith, more)) false) in
+      (push_bool e c (i + 1 + size y + 1) s (omega (arith, room, some_need y)) (omega (arith, more)) false) in
       subst (λ o. Labelled e c k (code q k a x ++ js) s o) (pushed_bind s (λ u. hulled fy (Some known.Truth)) (found c q a x))
       (follow e c k (size x) (code q k a x) js s (found c q a x) (λ u. pushed_on s (hulled fy (Some known.Truth))) (length-code q k a x) (some_code q k a x) (omega arith)
       (labelled k a x types.Bool s p.left_is left (omega (arith, room)) (omega (arith, more)))
@@ -146,7 +142,7 @@ module _ (e : State) (c : Setting) (q : Query) (around : Around) (reads : Reads 
       choose e c i 1 (size y) first second s (Some known.Truth) fy refl (length-code q (i + 1 + 1 + 1) b y) (omega arith) (some_size y)
       (omega (arith, more)) (omega (arith, room, some_need y))
       (same_truth c q around reads b y p.right_is right)
-      (truth_pushed e c (i + 1) s (omega (arith, room, some_need y)) (omega (arith, more)) true)
+      (push_bool e c (i + 1) s (omega (arith, room, some_need y)) (omega (arith, more)) true)
       (labelled (i + 1 + 1 + 1) b y types.Bool s p.right_is right (omega (arith, room)) (omega (arith, more))) in
       subst (λ o. Labelled e c k (code q k a x ++ js) s o) (pushed_bind s (λ u. hulled (Some known.Truth) fy) (found c q a x))
       (follow e c k (size x) (code q k a x) js s (found c q a x) (λ u. pushed_on s (hulled (Some known.Truth) fy)) (length-code q k a x) (some_code q k a x) (omega arith)

@@ -1,9 +1,10 @@
 //! Instructions and sections.
 
 ghost use Rattle.std.specs.Prelude.{◌≡◌, ◌<◌, ◌++◌, length, OnOk};
-ghost use Rattle.wsm_bytecode.specs.Spelling.{byte, number, signed, code as section_bytes, instr as instr_bytes};
+ghost use Rattle.wsm_bytecode.specs.Spelling.{byte, number, code as section_bytes, instr as instr_bytes, argument as argument_bytes};
 
 use crate::instr::Instr;
+use crate::table::Argument;
 use crate::writing::numbers::{put_i64, put_u8, put_u16};
 use std::alloc::AllocError;
 
@@ -24,47 +25,26 @@ pub(crate) fn put_section(out: &mut Vec<u8>, instrs: &[Instr]) -> Result<(), All
 fn put_instr(out: &mut Vec<u8>, instr: Instr) -> Result<(), AllocError>
     ensures { OnOk result (out.new.items ≡ out.old.items ++ instr_bytes instr) }
 {
-    match instr {
-        Instr::PushInt(value) => put_number(out, 0x01, value),
-        Instr::PushBool(truth) => put_operand(out, 0x02, u8::from(truth)),
-        Instr::PushEnum(number, name) => put_name_of(out, 0x03, number, name),
-        Instr::Field(field) => put_operand(out, 0x04, field),
-        Instr::Key => put_u8(out, 0x05),
-        Instr::Acc(accumulator) => put_operand(out, 0x06, accumulator),
-        Instr::Count => put_u8(out, 0x07),
-        Instr::Operate(operation) => put_u8(out, operation.code()),
-        Instr::Jump(target) => put_target(out, 0x30, target),
-        Instr::JumpIfFalse(target) => put_target(out, 0x31, target),
-        Instr::Fold(accumulator) => put_operand(out, 0x40, accumulator),
-        Instr::Return => put_u8(out, 0x50),
+    put_u8(out, instr.code())?;
+    put_argument(out, instr.argument())
+}
+
+fn put_argument(out: &mut Vec<u8>, argument: Argument) -> Result<(), AllocError>
+    ensures { OnOk result (out.new.items ≡ out.old.items ++ argument_bytes argument) }
+{
+    match argument {
+        Argument::Nothing => Ok(()),
+        Argument::Number(value) => put_i64(out, value),
+        Argument::Truth(truth) => put_u8(out, u8::from(truth)),
+        Argument::Name(list, name) => put_name_of(out, list, name),
+        Argument::Index(index) => put_u8(out, index),
+        Argument::Target(target) => put_u16(out, target),
     }
 }
 
-fn put_number(out: &mut Vec<u8>, code: u8, value: i64) -> Result<(), AllocError>
-    ensures { OnOk result (out.new.items ≡ out.old.items ++ (byte code ++ signed value)) }
+fn put_name_of(out: &mut Vec<u8>, list: u8, name: u16) -> Result<(), AllocError>
+    ensures { OnOk result (out.new.items ≡ out.old.items ++ (byte list ++ number name)) }
 {
-    put_u8(out, code)?;
-    put_i64(out, value)
-}
-
-fn put_operand(out: &mut Vec<u8>, code: u8, operand: u8) -> Result<(), AllocError>
-    ensures { OnOk result (out.new.items ≡ out.old.items ++ (byte code ++ byte operand)) }
-{
-    put_u8(out, code)?;
-    put_u8(out, operand)
-}
-
-fn put_name_of(out: &mut Vec<u8>, code: u8, list: u8, name: u16) -> Result<(), AllocError>
-    ensures { OnOk result (out.new.items ≡ out.old.items ++ (byte code ++ byte list ++ number name)) }
-{
-    put_u8(out, code)?;
     put_u8(out, list)?;
     put_u16(out, name)
-}
-
-fn put_target(out: &mut Vec<u8>, code: u8, target: u16) -> Result<(), AllocError>
-    ensures { OnOk result (out.new.items ≡ out.old.items ++ (byte code ++ number target)) }
-{
-    put_u8(out, code)?;
-    put_u16(out, target)
 }
