@@ -26,6 +26,7 @@ use Rattle.wsm_check.specs.Parts.{type_or_int}
 use Rattle.wsm_compiler.specs.Program.{column_type, program_stating}
 use Rattle.wsm_machine.proofs.Fitting.{no, type_known}
 use Rattle.wsm_machine.proofs.Giving.{same_type_is}
+use Rattle.wsm_machine.proofs.Returning.{column_is}
 use Rattle.wsm_compiler.proofs.Hulls.{type_self}
 use Rattle.wsm_compiler.proofs.Tests.{with_known}
 use Rattle.wsm_compiler.proofs.Sizes.{length-code, some_size, some_need, some_code}
@@ -110,15 +111,10 @@ ends_next q x es below =
     let y = column_known (column_type q x) in
     ap (λ zs. zs ++ below) (reverse-append (y ∷ []) ks) ∙ append_assoc (reverse ks) (y ∷ []) below
 
-column_has : (t : CellType) → type_known (column_known t) ≡ t
-column_has types.Int = refl
-column_has types.Bool = refl
-column_has (types.Enum e) = refl
-
 -- a column's value has its type
 column_same : (q : Query) (x : Expr) (t : CellType) (y : Known) → typed q InColumn x ≡ Ok t → type_known y ≡ t → same_type y (column_known (column_type q x)) ≡ true
 column_same q x t y h l =
-    let is : type_known (column_known (column_type q x)) ≡ type_known y = ap (λ r. type_known (column_known (type_or_int r))) h ∙ column_has t ∙ sym l in
+    let is : type_known (column_known (column_type q x)) ≡ type_known y = ap (λ r. type_known (column_known (type_or_int r))) h ∙ column_is t ∙ sym l in
     sym (same_type_is y (column_known (column_type q x))) ∙ ap (is_type (type_known y)) is ∙ same_type_is y y ∙ type_self y
 
 pub some_columns : (q : Query) (k a : ℕ) (es : List Expr) → 0 < length (columns_code q k a es)

@@ -42,6 +42,7 @@ use Rattle.wsm_compiler.specs.Folded.{AreUpdates}
 use Rattle.wsm_compiler.specs.SameMeaning.{IsAccepted, record_in_range, IsPane, HasValue, UpdatesHold, TotalOnPanes, AreOfKey, StandsForMeant}
 use Rattle.wsm_compiler.proofs.Visits.{nil_right}
 use Rattle.wsm_machine.proofs.Fitting.{no}
+use Rattle.wsm_machine.proofs.Accumulating.{accs_types}
 use Rattle.wsm_compiler.proofs.Parts.{none≢some}
 use Rattle.wsm_compiler.proofs.Aggregated.{free, fire_means}
 use Rattle.wsm_compiler.proofs.Holding.{folds_hold}
@@ -122,16 +123,6 @@ module _ (q : Query) (key : ℕ) (records : List (List Value)) where
 
 -- ---- what is folded
 
-kinds_of : (p : Program) (a : ℕ) (ks : List Kind) (vs : List Value) → accs_in p a ks vs ≡ true → are_of_kinds ks vs ≡ true
-kinds_of p a [] [] h = refl
-kinds_of p a [] (v ∷ vs) h = no h
-kinds_of p a (k ∷ ks) [] h = no h
-kinds_of p a (k ∷ ks) (v ∷ vs) h =
-    let r = range p a in
-    let b = and_parts (is_acc_in r k v) (accs_in p (suc a) ks vs) h in
-    let c = and_parts (is_value_in r k v) (is_word v) b.0 in
-    and_from (is_of_kind k v) (are_of_kinds ks vs) (and_parts (is_of_kind k v) (is_number_in r v) c.0).0 (kinds_of p (suc a) ks vs b.1)
-
 module _ (q : Query) (a : IsAccepted q) (key : ℕ) where
   abbrev p : Program
   p = program_of q
@@ -191,7 +182,7 @@ module _ (q : Query) (a : IsAccepted q) (key : ℕ) where
     fit : pane_fits q d ≡ true
     fit =
         let b = and_parts (nat_lt key (length q.keys)) (holds (interval (pos 1) q.records) (pos (length records)) && accs_in p 0 p.header.kinds held) ranged in
-        kinds_of p 0 p.header.kinds held (and_parts (holds (interval (pos 1) q.records) (pos (length records))) (accs_in p 0 p.header.kinds held) b.1).1
+        accs_types p 0 p.header.kinds held (and_parts (holds (interval (pos 1) q.records) (pos (length records))) (accs_in p 0 p.header.kinds held) b.1).1
 
     abbrev ran : Ran
     ran = fire_run p key (length records) held

@@ -45,6 +45,7 @@ use Rattle.wsm_verifier.proofs.Lawful.{lawful as program_lawful}
 use Rattle.wsm_machine.specs.InRange.{in_range, is_value_in, is_word, is_acc_in, is_number_in, accs_in}
 use Rattle.wsm_machine.specs.Meaning.{clock_of, query_of, plan_of, selects, updated, pane_inputs}
 use Rattle.wsm_machine.specs.Sound.{AreSound, IsSoundEntry, IsSoundPane, IsDatumInRange}
+use Rattle.wsm_machine.proofs.Accumulating.{accs_types}
 use Rattle.wsm_machine.proofs.Meaning.{plan_lawful}
 use Rattle.wsm_machine.proofs.Holding.{joined_all_sound}
 use Rattle.wsm_machine.proofs.SoundSteps.{record_in_range, room_for_record, all_can_fire, joins_fit}
@@ -58,17 +59,6 @@ use Rattle.wsm_panes.proofs.Rings.{grid_start}
 use Rattle.wsm_engine.proofs.Limits.{clock_within, panes_few}
 use Rattle.wsm_engine.proofs.Agreeing.{entered_same}
 use Rattle.wsm_engine.proofs.Holding.{Panes, admitted, kept_panes, kept_sound, admitted_few}
-
--- what FIRE may read has the accumulators' types
-accs_types : (p : Program) (a : ℕ) (ks : List Kind) (vs : List Value) → accs_in p a ks vs ≡ true → are_of_kinds ks vs ≡ true
-accs_types p a [] [] h = refl
-accs_types p a [] (v ∷ vs) h = h
-accs_types p a (k ∷ ks) [] h = h
-accs_types p a (k ∷ ks) (v ∷ vs) h =
-    let parts = and_parts (is_acc_in (range p a) k v) _ h in
-    let value = and_parts (is_value_in (range p a) k v) (is_word v) parts.0 in
-    let kind = and_parts (is_of_kind k v) (is_number_in (range p a) v) value.0 in
-    λ i. kind.0 i && accs_types p (suc a) ks vs parts.1 i
 
 fire_types : (p : Program) (key n : ℕ) (held : List Value) → IsTrue (in_range p Fire (pane_inputs key n held)) → IsTrue (are_of_kinds p.header.kinds held)
 fire_types p key n held h =

@@ -14,6 +14,7 @@ use Rattle.wsm_semantics.specs.Panes.{place_cmp}
 use Rattle.wsm_semantics.specs.Firings.{kind_on_record}
 use Rattle.wsm_semantics.specs.Summaries.{Plan, Pane, Fired, fired_count, fired_of, fires, fired_pane, all_fired}
 use Rattle.wsm_semantics.proofs.Tables.{places_total, places_exact, tie_is, find-keyed, is_sorted-keyed}
+use Rattle.wsm_panes.proofs.Sorted.{lesser}
 use Rattle.wsm_firing.specs.ByRecord.{kind_at}
 use Rattle.wsm_firing.proofs.Agreeing.{Kind, Entries, none_fires}
 
@@ -24,11 +25,6 @@ first_of false b t = absurd t
 pub second_of : (a b : Bool) → T (a && b) → T b
 second_of true b t = t
 second_of false b t = absurd t
-
-pub lesser : (r : Ordering) → T (is_lt r) → r ≡ Less
-lesser Less t = refl
-lesser Equal t = absurd t
-lesser Greater t = absurd t
 
 module _ {X : Type 0} (plan : Plan X) (q : Query) (mark : ℤ) (p : Place) where
   abbrev pub one : Kind plan q

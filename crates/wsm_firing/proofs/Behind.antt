@@ -13,8 +13,9 @@ use Rattle.wsm_semantics.specs.Query.{Query}
 use Rattle.wsm_semantics.specs.Panes.{place_cmp}
 use Rattle.wsm_semantics.specs.Firings.{kind_on_watermark}
 use Rattle.wsm_semantics.specs.Summaries.{Pane, kind_by_watermark}
+use Rattle.wsm_panes.proofs.Sorted.{lesser}
 use Rattle.wsm_panes.specs.Walk.{place_due}
-use Rattle.wsm_firing.proofs.AtPlace.{first_of, second_of, lesser}
+use Rattle.wsm_firing.proofs.AtPlace.{first_of, second_of}
 use Rattle.wsm_firing.proofs.Walk.{rest_due}
 
 never : (a b c d : Bool) → cond ((a && false) && b) (Some OnTime) (cond ((c && false) && d) (Some Final) None) ≡ None

@@ -16,6 +16,7 @@ use Rattle.wsm_semantics.specs.Panes.{place_cmp, at}
 use Rattle.wsm_semantics.proofs.Lists.{filter-all}
 use Rattle.wsm_semantics.proofs.Each.{all-append}
 use Rattle.wsm_semantics.proofs.Tables.{places_total, places_exact}
+use Rattle.wsm_panes.proofs.Rings.{int_less}
 use Rattle.wsm_firing.specs.ByRecord.{is_among, AreInOrder}
 
 -- places behind one are none of those up to it
@@ -36,11 +37,8 @@ HasSize size w = w.end ≡ w.start +ℤ size
 module _ (key : ℕ) (size : ℤ) where
   sooner : (w v : Window) → HasSize size w → HasSize size v → w.start <ℤ v.start → place_cmp (at key w) (at key v) ≡ Less
   sooner w v ends ends' less =
-      let first : int_cmp w.end v.end ≡ Less = less_ends w.end v.end (grind (arith, ints)) in
+      let first : int_cmp w.end v.end ≡ Less = int_less w.end v.end (grind (arith, ints)) in
       ap (λ (o : Ordering). ordering_then o (ordering_then (int_cmp w.start v.start) (nat_cmp key key))) first
-    where
-      less_ends : (x y : ℤ) → x <ℤ y → int_cmp x y ≡ Less
-      less_ends x y h = grind (arith, ints)
 
   all_later : (w : Window) (ws : List Window) → HasSize size w → AllByRecursion (HasSize size) ws → All (λ v. w.start <ℤ v.start) ws → AllByRecursion (λ r. place_cmp (at key w) r ≡ Less) (map (at key) ws)
   all_later w [] ends sized rising = tt

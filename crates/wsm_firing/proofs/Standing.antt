@@ -13,7 +13,8 @@ use Rattle.wsm_semantics.proofs.Tables.{places_total}
 use Rattle.wsm_relation.specs.Rows.{count_of}
 use Rattle.wsm_relation.proofs.Bags.{once}
 use Rattle.wsm_firing.specs.Streams.{Standing, IsTold, AreAlike, CanTell, CanLose, CanGain, Tells, standing_rows}
-use Rattle.wsm_firing.proofs.AtPlace.{first_of, second_of, lesser}
+use Rattle.wsm_panes.proofs.Sorted.{lesser}
+use Rattle.wsm_firing.proofs.AtPlace.{first_of, second_of}
 use Rattle.wsm_firing.proofs.Streaming.{Rows, told_same}
 
 -- how often a row is there, where there is one

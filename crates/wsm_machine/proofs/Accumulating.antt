@@ -14,7 +14,7 @@ use Rattle.wsm_record.specs.declared.event.Value.TheVariants as values
 use Rattle.wsm_record.specs.declared.words.Kind.{Kind}
 use Rattle.wsm_record.specs.declared.words.Kind.TheVariants.{Sum, Min, Max, Any, All}
 use Rattle.wsm_fold.specs.Laws.{joined_to}
-use Rattle.wsm_fold.specs.Fold.{join, joins, folds_of}
+use Rattle.wsm_fold.specs.Fold.{join, joins, folds_of, is_of_kind, are_of_kinds}
 use Rattle.wsm_bytecode.specs.Program.{Program}
 use Rattle.wsm_verifier.specs.Rules.{accumulated, and_then, values_folded, update_visits, range}
 use Rattle.wsm_machine.specs.InRange.{is_number_in, is_word, is_value_in, is_acc_in, are_values_in, are_folded_in, accs_in}
@@ -255,3 +255,14 @@ accs_of_rows p (row ∷ rows) held e few is w =
   where
     from_none : (j : ℕ) → 0 + j ≡ j
     from_none j = omega arith
+
+-- what is in range for FIRE has the accumulators' types
+pub accs_types : (p : Program) (a : ℕ) (ks : List Kind) (vs : List Value) → accs_in p a ks vs ≡ true → are_of_kinds ks vs ≡ true
+accs_types p a [] [] h = refl
+accs_types p a [] (v ∷ vs) h = no h
+accs_types p a (k ∷ ks) [] h = no h
+accs_types p a (k ∷ ks) (v ∷ vs) h =
+    let r = range p a in
+    let b = and_parts (is_acc_in r k v) (accs_in p (suc a) ks vs) h in
+    let c = and_parts (is_value_in r k v) (is_word v) b.0 in
+    and_from (is_of_kind k v) (are_of_kinds ks vs) (and_parts (is_of_kind k v) (is_number_in r v) c.0).0 (accs_types p (suc a) ks vs b.1)

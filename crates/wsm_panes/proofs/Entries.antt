@@ -68,11 +68,6 @@ pub gap_any : {P : Type 0} (es : List (Place × P)) (i : ℕ) (q : Place) → is
 gap_any [] i q sorted here less = record { within = omega (arith, here); stops = here; absent = refl; puts = λ pane. rw here refl }
 gap_any (e ∷ es) i q sorted here less = gap_here (e ∷ es) e i q sorted here (less e)
 
-is_equal : (r : Ordering) → is_eq r ≡ true → r ≡ Equal
-is_equal Less h = let bad : false ≡ true = h in cc
-is_equal Equal h = refl
-is_equal Greater h = let bad : false ≡ true = h in cc
-
 -- the test whether two places are one
 abbrev pub eq_place : Place → Place → Bool
 eq_place p q = int_eq p.end q.end && (int_eq p.start q.start && nat_eq p.key q.key)

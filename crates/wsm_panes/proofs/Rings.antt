@@ -63,7 +63,7 @@ pub grid_start : (s k p : ℤ) → pos 1 ≤ℤ p → s ≡ k *ℤ p → s ≡ i
 grid_start s k (pos p) h is = grid_start_pos s k p (omega (arith, ints)) is
 grid_start s k (negsuc p) h is = absurd (omega (arith, ints))
 
-int_less : (x y : ℤ) → x <ℤ y → int_cmp x y ≡ Less
+pub int_less : (x y : ℤ) → x <ℤ y → int_cmp x y ≡ Less
 int_less x y h = grind (arith, ints)
 
 int_same : (x y : ℤ) → x ≡ y → int_cmp x y ≡ Equal

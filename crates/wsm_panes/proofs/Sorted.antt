@@ -8,11 +8,7 @@ use Rattle.std.specs.Cmp.{IsTotalOrder, tied_itself}
 use Rattle.std.specs.FinMap.{find, put, is_sorted}
 use Rattle.std.specs.FinMap.Entries.{below_all}
 use Rattle.std.specs.Ordering.{is_lt, is_gt, ordering_reverse}
-
-pub cases_Ordering : (r : Ordering) → (r ≡ Less) ⊎ (r ≡ Equal) ⊎ (r ≡ Greater)
-cases_Ordering Less = inl refl
-cases_Ordering Equal = inr (inl refl)
-cases_Ordering Greater = inr (inr refl)
+use Rattle.wsm_semantics.proofs.Tables.{cases_Ordering}
 
 pub lesser : (r : Ordering) → T (is_lt r) → r ≡ Less
 lesser Less t = refl

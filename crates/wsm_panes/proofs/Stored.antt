@@ -11,7 +11,8 @@ use Rattle.wsm_panes.specs.Place.{place_cmp, before}
 use Rattle.wsm_panes.specs.Walk.{following, place_due}
 use Rattle.wsm_panes.specs.Stored.{listed, same, shown, uses, with_pane}
 use Rattle.wsm_panes.proofs.Entries.{places_total}
-use Rattle.wsm_panes.proofs.Sorted.{cases_Ordering, find_below, first_of_and, second_of_and}
+use Rattle.wsm_semantics.proofs.Tables.{cases_Ordering}
+use Rattle.wsm_panes.proofs.Sorted.{find_below, first_of_and, second_of_and}
 use Rattle.wsm_panes.proofs.Tables.{to_T}
 use Rattle.wsm_semantics.proofs.Each.{as_true}
 

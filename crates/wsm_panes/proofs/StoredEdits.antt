@@ -18,7 +18,8 @@ use Rattle.wsm_semantics.specs.declared.place.Place.{Place}
 use Rattle.wsm_panes.specs.Place.{place_cmp, is_kept}
 use Rattle.wsm_panes.specs.Stored.{AreStored, listed, same, shown, unowned, uses}
 use Rattle.wsm_panes.proofs.Entries.{places_total}
-use Rattle.wsm_panes.proofs.Sorted.{cases_Ordering, lesser, first_of_and, second_of_and}
+use Rattle.wsm_semantics.proofs.Tables.{cases_Ordering}
+use Rattle.wsm_panes.proofs.Sorted.{lesser, first_of_and, second_of_and}
 use Rattle.wsm_panes.proofs.Tables.{to_T, put_sorted, kept_sorted, map_of, get_is, len_is}
 use Rattle.wsm_panes.proofs.Stored.{AreIn, are_in, in_list, pane_in, same_self, shown_filter, shown_find, shown_length, shown_put, shown_set, shown_sorted, uses-append, uses_put}
 use Rattle.wsm_semantics.proofs.Each.{as_true}

@@ -12,7 +12,8 @@ use Rattle.wsm_panes.specs.Place.{place_cmp, before}
 use Rattle.wsm_panes.specs.Search.{IsAt, IsGapFor}
 use Rattle.wsm_panes.specs.Walk.{following}
 use Rattle.wsm_panes.proofs.Entries.{places_total, exact_places}
-use Rattle.wsm_panes.proofs.Sorted.{cases_Ordering, lesser, first_of_and, second_of_and}
+use Rattle.wsm_semantics.proofs.Tables.{cases_Ordering}
+use Rattle.wsm_panes.proofs.Sorted.{lesser, first_of_and, second_of_and}
 
 -- all entries are after a place that is below them
 pub following_below : {P : Type 0} (p : Place) (es : List (Place × P)) → T (below_all place_cmp p es) → following p es ≡ slice_get es 0

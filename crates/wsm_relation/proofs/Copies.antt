@@ -12,7 +12,8 @@ use Rattle.wsm_semantics.specs.Relation.{row_cmp, difference}
 use Rattle.wsm_relation.specs.Rows.{IsInOrder, count_of}
 use Rattle.wsm_relation.specs.Tally.{IsTally, IsChange, number_of, copies, gained, lost, gains, losses}
 use Rattle.wsm_relation.proofs.Ordered.{rows_total, exact_rows, same_rows}
-use Rattle.wsm_relation.proofs.Places.{each, cases_Ordering, count-none, none_before}
+use Rattle.wsm_semantics.proofs.Tables.{cases_Ordering}
+use Rattle.wsm_relation.proofs.Places.{each, count-none, none_before}
 use Rattle.wsm_relation.proofs.Bags.{once, count-difference, difference-in_order}
 use Rattle.wsm_relation.proofs.Numbers.{Entry, number-before}
 

@@ -1,18 +1,11 @@
 use Rattle.std.proofs.Common.{◌≡◌, ◌+◌, Bool, false, true, suc, refl, sym, ◌∙◌, arith, SFits, w64, to_z-of_z, ℕ, get_or, pos}
 use Rattle.std.proofs.lemmas.Bool.{true≢false}
 use Rattle.std.specs.Prelude.{not}
+use Rattle.wsm_record.proofs.Lists.{not-false, not-true}
 use Rattle.wsm_semantics.specs.declared.place.Place.{Place}
 use Rattle.wsm_panes.specs.Place.{is_kept}
 use Rattle.wsm_panes.proofs.StoredEdits.{kept_from, kept_past_one, uses_one_more}
 use Rattle.wsm_panes.proofs.list.release_expired.Goals as goal
-
-turned : (r x : Bool) → r ≡ not x → r ≡ true → x ≡ false
-turned r true is t = absurd (true≢false (sym t ∙ is))
-turned r false is t = refl
-
-unturned : (r x : Bool) → r ≡ not x → r ≡ false → x ≡ true
-unturned r true is f = refl
-unturned r false is f = absurd (true≢false (sym is ∙ f))
 
 pub loop-expired-preserved : goal.loop-expired-preserved
 loop-expired-preserved g c =
@@ -20,7 +13,7 @@ loop-expired-preserved g c =
     let es = c.args.entries.now in
     let d : Place × ℕ = (record { end = pos 0; start = pos 0; key = 0 }, 0) in
     let next : c.loop-expired.expired + 1 ≡ suc c.loop-expired.expired = omega arith in
-    let past : is_kept c.args.limit (get_or es c.loop-expired.expired d).0 ≡ false = turned c.expires.result _ (simp to_z-of_z at c.expires.ensures) c.if-expires.true in
+    let past : is_kept c.args.limit (get_or es c.loop-expired.expired d).0 ≡ false = not-true c.expires.result _ (simp to_z-of_z at c.expires.ensures) c.if-expires.true in
     record {
       within = omega arith;
       left = simp to_z-of_z (rw next (kept_past_one c.args.limit es c.loop-expired.expired d c.loop-expired-test.true past ∙ (simp to_z-of_z at c.loop-expired.invariant.left)));
@@ -39,5 +32,5 @@ pub returns-else-expires-clause-left : goal.returns-else-expires-clause-left
 returns-else-expires-clause-left g c =
     let limit : SFits w64 c.args.limit = c.ranges.limit in
     let d : Place × ℕ = (record { end = pos 0; start = pos 0; key = 0 }, 0) in
-    let kept : is_kept c.args.limit (get_or c.args.entries.now c.loop-expired.expired d).0 ≡ true = unturned c.expires.result _ (simp to_z-of_z at c.expires.ensures) c.if-expires.false in
+    let kept : is_kept c.args.limit (get_or c.args.entries.now c.loop-expired.expired d).0 ≡ true = not-false c.expires.result _ (simp to_z-of_z at c.expires.ensures) c.if-expires.false in
     sym (simp to_z-of_z at c.loop-expired.invariant.left) ∙ kept_from c.args.limit c.args.entries.now c.loop-expired.expired d c.requires.stored.sorted c.loop-expired-test.true kept
