@@ -1,8 +1,12 @@
-use crate::{End, Guarded, judge};
+use crate::{End, Guarded, judge, run_program, status_of};
 use std::alloc::Global;
 use std::io;
 use std::io::Write;
+use std::process::Abort;
 use std::test::Fail;
+use wsm_bytecode::{SectionId, decode};
+use wsm_machine::{Inputs, Outcome, Trap, run_any};
+use wsm_record::Value;
 
 // What stands before the sections of a program that sums a field in windows of 60: it states
 // 5 instructions for a record, 4 for a pane, and 6 panes.
@@ -22,6 +26,9 @@ const WHERE: &[u8] = &[2, 0, 2, 1, 0x50];
 const UPDATE: &[u8] = &[3, 0, 4, 0, 0x40, 0, 0x50];
 
 const FIRE: &[u8] = &[4, 0, 7, 6, 0, 2, 1, 0x50];
+
+// PUSHI 1, PUSHI 0, DIV, RET
+const BY_ZERO: &[u8] = b"\x04\0\x01\x01\0\0\0\0\0\0\0\x01\0\0\0\0\0\0\0\0\x13\x50";
 
 const LISTING: &str = "where 0 PUSHB 1
 where 1 RET
@@ -113,6 +120,63 @@ fn bytes_that_are_no_program_are_refused(rt: HostRuntime) -> Result<(), Fail> {
         let text = format!(in rt.alloc(); "{end}")?;
         assert_eq!(rt; text.as_str(), want);
     }
+    Ok(())
+}
+
+// A run of a program's bytes writes nothing, and ends with this text and status.
+fn does_not_run<R: Abort + AllocGlobal>(
+    rt: &R,
+    program: &[u8],
+    want: &str,
+    status: u8,
+) -> Result<(), Fail> {
+    let mut out = Guarded::new(Vec::new(rt.alloc()));
+    let rows = b"r,a,5,7\nw,60\n".as_slice();
+    let end = run_program(rt.alloc(), program, rows, &mut out);
+    let end = end.err().ok_or("it ran")?;
+    let told = format!(in rt.alloc(); "{end}")?;
+    assert_eq!(rt; told.as_str(), want);
+    assert_eq!(rt; status_of(end), status, "{want}");
+    assert!(rt; out.into_writer().is_empty(), "{want}");
+    Ok(())
+}
+
+#[test]
+fn programs_that_are_not_accepted_do_not_run(rt: HostRuntime) -> Result<(), Fail> {
+    let back: &[u8] = &[3, 0, 2, 1, 0x30, 0, 0, 0x50];
+    let nothing: &[u8] = &[1, 0, 0x50];
+    let cases = [
+        ([back, UPDATE, FIRE], "V4 BadJump in where at 1"),
+        ([WHERE, nothing, FIRE], "V10 FoldMissing in update at 0"),
+        ([WHERE, UPDATE, BY_ZERO], "V12 MayDivideByZero in fire at 2"),
+    ];
+    for (sections, want) in cases {
+        let program = program(rt.alloc(), sections)?;
+        does_not_run(&rt, &program, want, 4)?;
+    }
+    let mut program = program(rt.alloc(), [WHERE, UPDATE, FIRE])?;
+    let cut = program.len().saturating_sub(1);
+    does_not_run(&rt, &program[..cut], "B3 Truncated", 3)?;
+    assert!(rt; 111 < program.len());
+    program[111] = 5;
+    does_not_run(&rt, &program, "V16 BudgetHeld in budget at 0", 4)
+}
+
+// Without the verifier the section runs until it divides.
+#[test]
+fn a_division_by_zero_is_trapped(rt: HostRuntime) -> Result<(), Fail> {
+    let bytes = program(rt.alloc(), [WHERE, UPDATE, BY_ZERO])?;
+    let program = decode(rt.alloc(), &bytes)?;
+    let inputs = Inputs {
+        key: 0,
+        values: &[Value::Int(7)],
+        count: 1,
+        accs: &[Value::Int(7)],
+    };
+    assert!(rt; inputs.fits(&program));
+    let ran = run_any(rt.alloc(), &program, SectionId::Fire, &inputs);
+    assert_eq!(rt; ran.outcome, Outcome::Trap(Trap::ZeroDivisor));
+    assert_eq!(rt; ran.steps, 3);
     Ok(())
 }
 
