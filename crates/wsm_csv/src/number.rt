@@ -14,6 +14,7 @@ pub fn read_number(cell: &[u8]) -> Option<i64>
     ensures { result ≡ number_of cell.now }
 {
     match cell {
+        [b'-', digits @ ..] if digits.len() <= SHORT => Some(-(short_magnitude(digits)? as i64)),
         [b'-', digits @ ..] => 0i64.checked_sub_unsigned(magnitude(digits)?),
         digits if digits.len() <= SHORT => Some(short_magnitude(digits)? as i64),
         digits => 0i64.checked_add_unsigned(magnitude(digits)?),
