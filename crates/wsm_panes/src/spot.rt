@@ -11,7 +11,7 @@ use wsm_semantics::Place;
 pub struct Spot {
     /// The place.
     pub place: Place,
-    // The number of its entry, if none came or went since.
+    // The number of its entry in a list, if none came or went since, or its slot in a ring.
     pub(crate) at: usize,
 }
 
