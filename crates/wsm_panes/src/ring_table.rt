@@ -13,8 +13,8 @@ use crate::pane::Pane;
 use crate::recording::TakesRecords;
 use crate::ring::Ring;
 use crate::slots::{
-    Slot, clear_expired, entry_in, fill, fire_in, first_until, free_slots, is_at, pane_at, pane_in,
-    record_in, spot_in, take_out,
+    Slot, clear_expired, entry_in, fill, fire_in, first_on, first_until, free_slots, is_at,
+    pane_at, pane_in, record_in, spot_in, take_out,
 };
 use crate::spot::Spot;
 use crate::table::PaneTable;
@@ -177,8 +177,9 @@ impl<P: TakesRecords> PaneTable<P> for RingTable<P> {
 
     fn next_due(&self, spot: Spot, limit: i64) -> Option<Spot> {
         let last = last_due(self.ring, self.first, self.last, limit)?;
-        let key = spot.place.key as usize + 1;
-        let found = first_until(self.ring, &self.slots, spot.place.start, key, last);
+        let key = spot.place.key as usize;
+        let row = self.slot_of(spot) - key;
+        let found = first_on(self.ring, &self.slots, row, spot.place.start, key + 1, last);
         spot_in(&self.slots, found)
     }
 

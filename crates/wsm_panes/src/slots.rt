@@ -147,6 +147,33 @@ pub(crate) fn first_until<P: Copy>(
     None
 }
 
+/// The slot of the first entry from a window and a key on, if that window starts by a last time. The
+/// row is the window's.
+pub(crate) fn first_on<P: Copy>(
+    ring: Ring,
+    slots: &[Slot<P>],
+    row: usize,
+    start: i64,
+    key: usize,
+    last: i64,
+) -> Option<usize>
+    requires ring { IsRing ring }
+    requires slots { length slots.now ≡ ring.bound * ring.keys }
+    requires placed { AreInPlace ring slots.now }
+    requires row { row ≡ row_of ring start }
+    requires within { row + ring.keys ≤ length slots.now }
+    requires start { IsOnGrid ring start }
+    requires last { FitsSigned w64 (last +ℤ ring.size) }
+    ensures first { IsFirstUntil ring slots.now start key last (at_slot slots.now result) }
+    ensures there { is_some (at_slot slots.now result) ≡ is_some result }
+{
+    // Mostly the next key has a pane of the same window.
+    if start <= last && key < ring.keys && starts_at(&slots[row + key], start) {
+        return Some(row + key);
+    }
+    first_until(ring, slots, start, key, last)
+}
+
 /// The entry in a slot, if one was found.
 pub(crate) fn entry_in<P: Copy>(slots: &[Slot<P>], found: Option<usize>) -> Option<(Place, P)>
     requires { is_some (at_slot slots.now found) ≡ is_some found }

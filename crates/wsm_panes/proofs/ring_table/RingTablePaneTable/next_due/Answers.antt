@@ -1,4 +1,4 @@
-use Rattle.std.proofs.Common.{◌≡◌, ◌+◌, ◌<ℤ◌, true, None, Some, SFits, w64, rules, ap, arith, ◌∙◌}
+use Rattle.std.proofs.Common.{◌≡◌, ◌+◌, ◌*◌, ◌≤◌, ◌<ℤ◌, true, None, Some, SFits, w64, rules, ap, arith, ◌∙◌}
 use Rattle.std.specs.FinMap as map
 use Rattle.std.specs.FinMap.Entries.{find}
 use Rattle.std.specs.Option.{is_some}
@@ -6,23 +6,31 @@ use Rattle.std.specs.Prelude.{option_map}
 use Rattle.std.proofs.lemmas.Int.{ints, to_z-of_z}
 use Rattle.wsm_semantics.specs.declared.place.Place.{Place}
 use Rattle.wsm_panes.specs.Place.{place_cmp}
-use Rattle.wsm_panes.specs.Ring.{at_slot, IsFirstUntil, IsLastDue, IsOfRing, IsOnGrid, window_number}
+use Rattle.wsm_panes.specs.Ring.{at_slot, IsFirstUntil, IsLastDue, IsOfRing, IsOnGrid, row_of, slot_of, window_number}
 use Rattle.wsm_panes.specs.Walk.{following, place_due, place_found}
 use Rattle.wsm_panes.proofs.Placed.{panes_in}
 use Rattle.wsm_panes.proofs.DueWalk.{entry_at, nothing_due, next_due_walk}
 use Rattle.wsm_panes.proofs.RingWalk.{of_ring}
+use Rattle.wsm_panes.proofs.Rings.{row_within}
 use Rattle.wsm_panes.proofs.ring_table.RingTablePaneTable.next_due.Goals as goal
 
-pub first_until-found-requires-clause-placed : goal.first_until-found-requires-clause-placed
-first_until-found-requires-clause-placed g c = rw c.deref.ensures.value c.self.invariant.placed
+pub first_on-found-requires-clause-placed : goal.first_on-found-requires-clause-placed
+first_on-found-requires-clause-placed g c = rw c.deref.ensures.value c.self.invariant.placed
 
-pub first_until-found-requires-clause-start : goal.first_until-found-requires-clause-start
-first_until-found-requires-clause-start g c =
+pub first_on-found-requires-clause-start : goal.first_on-found-requires-clause-start
+first_on-found-requires-clause-start g c =
     let start : SFits w64 c.args.spot.place.start = search rules in
     let there : map.contains_key (panes_in c.self.inside.slots.items) c.args.spot.place ≡ true = ap (λ t. map.contains_key t.panes c.args.spot.place) c.self.view_is ∙ c.requires in
     let of : IsOfRing c.self.inside.ring c.args.spot.place = of_ring c.self.inside.ring c.self.inside.slots.items c.self.invariant.placed c.args.spot.place there in
     let grid : IsOnGrid c.self.inside.ring c.args.spot.place.start = (window_number c.self.inside.ring c.args.spot.place.start, of.start) in
     simp to_z-of_z grid
+
+pub first_on-found-requires-clause-within : goal.first_on-found-requires-clause-within
+first_on-found-requires-clause-within g c =
+    let a = c.self.inside in
+    let slot : c.slot_of.result ≡ slot_of a.ring c.args.spot.place = rw (← c.self.view_is) at c.slot_of.ensures in
+    let row : row_of a.ring c.args.spot.place.start + a.ring.keys ≤ a.ring.bound * a.ring.keys = row_within a.ring c.args.spot.place.start c.self.invariant.ring in
+    rw c.deref.ensures.value (rw c.self.invariant.slots (omega (arith, slot, row)))
 
 pub returns-in_err-last : goal.returns-in_err-last
 returns-in_err-last g c =
@@ -46,7 +54,7 @@ returns g c =
     let start : SFits w64 c.args.spot.place.start = search rules in
     let there : map.contains_key (panes_in a.slots.items) c.args.spot.place ≡ true = ap (λ t. map.contains_key t.panes c.args.spot.place) c.self.view_is ∙ c.requires in
     let of : IsOfRing a.ring c.args.spot.place = of_ring a.ring a.slots.items c.self.invariant.placed c.args.spot.place there in
-    let found : IsFirstUntil a.ring a.slots.items c.args.spot.place.start (c.args.spot.place.key + 1) c.in_ok-last.last (at_slot a.slots.items c.first_until-found.result) = rw c.deref.ensures.value at (simp to_z-of_z at c.first_until-found.ensures.first) in
-    c.spot_in.ensures ∙ ap (λ os. option_map (λ e. e.0) (at_slot os c.first_until-found.result)) c.deref-2.ensures.value
-    ∙ next_due_walk a.ring a.slots.items c.self.invariant.placed a.first a.last c.args.limit c.self.invariant.between c.in_ok-last.last is.0 c.args.spot.place (at_slot a.slots.items c.first_until-found.result) of found
+    let found : IsFirstUntil a.ring a.slots.items c.args.spot.place.start (c.args.spot.place.key + 1) c.in_ok-last.last (at_slot a.slots.items c.first_on-found.result) = rw c.deref.ensures.value at (simp to_z-of_z at c.first_on-found.ensures.first) in
+    c.spot_in.ensures ∙ ap (λ os. option_map (λ e. e.0) (at_slot os c.first_on-found.result)) c.deref-2.ensures.value
+    ∙ next_due_walk a.ring a.slots.items c.self.invariant.placed a.first a.last c.args.limit c.self.invariant.between c.in_ok-last.last is.0 c.args.spot.place (at_slot a.slots.items c.first_on-found.result) of found
     ∙ ap (λ t. place_due c.args.limit (following c.args.spot.place (map.entries t.panes))) c.self.view_is
