@@ -10,7 +10,8 @@ use std::process::Abort;
 use std::test::Fail;
 use wsm::{DecodeRefusal, End, compile_text};
 use wsm_bytecode::{decode, encode};
-use wsm_verifier::verify;
+use wsm_engine::Engine;
+use wsm_verifier::{Verified, verify};
 
 /// How bytes were taken.
 #[derive(Clone, Copy, Debug, PartialEq, Eq)]
@@ -101,13 +102,18 @@ fn tried(alloc: Global, bytes: &[u8], rows: &[u8]) -> Taken {
     }
 }
 
-// How many runs of an accepted program's sections both machines answer, on records of the rows; none
-// where they don't answer alike.
-fn run_by_both(alloc: Global, bytes: &[u8], rows: &[u8]) -> Option<u32> {
+fn verified(alloc: Global, bytes: &[u8]) -> Option<Verified> {
     let program = decode(alloc, bytes).ok()?;
-    let verified = verify(alloc, program).ok()?;
+    verify(alloc, program).ok()
+}
+
+// How many runs of an accepted program's sections both machines answer, on records of the rows; none
+// where they don't answer alike, or the engine counts otherwise.
+fn run_by_both(alloc: Global, bytes: &[u8], rows: &[u8]) -> Option<u32> {
+    let mut engine = Engine::open(alloc, verified(alloc, bytes)?).ok()?;
+    let verified = verified(alloc, bytes)?;
     let mut sides = Sides::open(alloc, &verified);
-    if sides.answer(rows) {
+    if sides.answer(&mut engine, rows) {
         Some(sides.runs)
     } else {
         None

@@ -7,6 +7,7 @@ use crate::sides::Sides;
 use std::alloc::Global;
 use std::test::Fail;
 use wsm_bytecode::{Budget, CellType, Header, Program, decode, encode};
+use wsm_engine::Engine;
 use wsm_interval::Interval;
 use wsm_machine::Inputs;
 use wsm_record::{Field, Form, Kind, Mode, Name, Schema, Ty, Value};
@@ -152,6 +153,7 @@ fn panes_within(sides: &mut Sides, range: Interval, most: u64) -> bool {
 // How many runs of an accepted program's sections both machines answer, within what it needs; none
 // where they don't.
 fn runs_within(alloc: Global, bytes: &[u8], costs: Costs) -> Option<u32> {
+    let mut engine = Engine::open(alloc, verified(alloc, bytes).ok()?).ok()?;
     let verified = verified(alloc, bytes).ok()?;
     let range = verified.range(0)?;
     let mut sides = Sides::open(alloc, &verified);
@@ -160,7 +162,7 @@ fn runs_within(alloc: Global, bytes: &[u8], costs: Costs) -> Option<u32> {
     {
         return None;
     }
-    if sides.answer(ROWS) {
+    if sides.answer(&mut engine, ROWS) {
         Some(sides.runs)
     } else {
         None

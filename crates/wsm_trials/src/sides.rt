@@ -1,11 +1,13 @@
 //! The machine that looks for each trap, and the one of verified programs, side by side.
 
 use std::alloc::{AllocError, Global};
-use wsm_bytecode::SectionId;
+use wsm_bytecode::{Header, SectionId};
 use wsm_csv::{Rows, read_row};
+use wsm_engine::Engine;
 use wsm_machine::{Cell, Fired, Inputs, Kept, Machine, Outcome, Ran, Updated, run_any};
 use wsm_record::{Event, Kind, Value};
 use wsm_verifier::Verified;
+use wsm_windows::Shape;
 
 /// More rows than any trial has.
 const MOST_ROWS: usize = 100;
@@ -89,8 +91,10 @@ impl<'a> Sides<'a> {
 
     /// Whether each record of a text is answered by WHERE, and where it is kept by UPDATE, and then
     /// FIRE with its key and what all records that were kept so far come to. Records that aren't of
-    /// the program's types and intervals are left out, and those past RECORDS.
-    pub fn answer(&mut self, text: &[u8]) -> bool {
+    /// the program's types and intervals are left out, and those past RECORDS. An engine that was
+    /// opened with the program is fed the rows; each record that it admits must cost what these runs
+    /// took.
+    pub fn answer(&mut self, engine: &mut Engine, text: &[u8]) -> bool {
         let header = self.verified.program().header();
         let Ok(mut pane) = Pane::open(self.alloc, &header.kinds) else {
             return false;
@@ -102,38 +106,95 @@ impl<'a> Sides<'a> {
                 Ok(false) => return true,
                 Err(_) => return false,
             }
-            let Ok(
-                Event::Record {
-                    key: Some(key),
-                    values,
-                    ..
-                },
-            ) = read_row(self.alloc, &header.schema, rows.row())
+            let Ok(event) = read_row(self.alloc, &header.schema, rows.row()) else {
+                continue;
+            };
+            let reply = engine.feed(&event);
+            let Event::Record {
+                key: Some(key),
+                time,
+                values,
+            } = event
             else {
                 continue;
             };
-            let is_taken = header.schema.fits(&values) && pane.count < header.records;
-            if is_taken && !self.answer_record(key, &values, &mut pane) {
+            if !header.schema.fits(&values) || pane.count >= header.records {
+                continue;
+            }
+            let Some(cost) = self.answer_record(key, &values, &mut pane) else {
+                return false;
+            };
+            if reply.refusal.is_none() && !cost.comes_to(header, time, reply.record_steps) {
                 return false;
             }
         }
         false
     }
 
-    fn answer_record(&mut self, key: u16, values: &[Value], pane: &mut Pane) -> bool {
+    // What WHERE and UPDATE cost for a record.
+    fn answer_record(&mut self, key: u16, values: &[Value], pane: &mut Pane) -> Option<Cost> {
         let verified = self.verified;
         let inputs = pane.inputs(key, values);
-        let Some(kept) = self.keep(&inputs) else {
-            return false;
-        };
+        let kept = self.keep(&inputs)?;
         if !kept.keeps {
-            return true;
+            return Some(Cost {
+                selection: kept.steps,
+                update: None,
+            });
         }
-        let Some(updated) = self.update(&inputs) else {
-            return false;
+        let updated = self.update(&inputs)?;
+        let cost = Cost {
+            selection: kept.steps,
+            update: Some(updated.steps),
         };
         pane.add(&verified.program().header().kinds, updated.values);
-        self.fire(&pane.inputs(key, values)).is_some()
+        self.fire(&pane.inputs(key, values))?;
+        Some(cost)
+    }
+}
+
+// What WHERE takes of a record, and UPDATE for one window where the record is kept.
+#[derive(Clone, Copy)]
+struct Cost {
+    selection: u64,
+    update: Option<u64>,
+}
+
+impl Cost {
+    // Whether a record of a time costs so many steps: UPDATE runs for each window that has the time.
+    // Where two sessions are joined, each accumulator costs a step more.
+    fn comes_to(self, header: &Header, time: i64, steps: u64) -> bool {
+        let Some(update) = self.update else {
+            return steps == self.selection;
+        };
+        let Some(windows) = windows(header.shape, time) else {
+            return false;
+        };
+        let least = self
+            .selection
+            .saturating_add(update.saturating_mul(windows));
+        match header.shape {
+            Shape::Fixed(_) | Shape::Sliding(..) => steps == least,
+            Shape::Session(_) => {
+                steps == least || steps == least.saturating_add(header.kinds.len() as u64)
+            }
+        }
+    }
+}
+
+// How many windows have a time. Those that slide start at the last multiple of the period up to the
+// time, and at each before it that is within the size.
+fn windows(shape: Shape, time: i64) -> Option<u64> {
+    match shape {
+        Shape::Fixed(_) | Shape::Session(_) => Some(1),
+        Shape::Sliding(size, period) => {
+            let left = size.checked_sub(time.checked_rem(period)?)?;
+            let windows = left
+                .checked_add(period)?
+                .checked_sub(1)?
+                .checked_div(period)?;
+            u64::try_from(windows).ok()
+        }
     }
 }
 
