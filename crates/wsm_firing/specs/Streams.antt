@@ -2,6 +2,7 @@
 use Rattle.std.specs.Prelude.{◌≡◌, ℕ, ◌+◌, ◌≤◌, Bool, false, not, ◌&&◌, List, [], ◌∷◌, length, ℤ, filter_map, Option, if◌then◌else◌}
 use Rattle.std.specs.List.{cons_option}
 use Rattle.std.specs.FinMap.Entries.{where_key}
+use Rattle.wsm_record.specs.declared.limits.TheConstants.{MAX_PANES}
 use Rattle.wsm_record.specs.declared.event.Value.{Value}
 use Rattle.wsm_record.specs.declared.words.Form.{Form}
 use Rattle.wsm_record.specs.declared.words.Form.TheVariants as form
@@ -151,7 +152,7 @@ stream_of _ numbers rows = rows
 -- ---- what is reserved
 
 pub record HasRoomOfChanges (room : ℕ) (changes : Tally) (capacity : ℕ) : Type 0 where
-  pub most : room ≤ 100000
+  pub most : room ≤ MAX_PANES
   pub twice : changes.room ≡ room + room
   pub written : room ≤ capacity
 
