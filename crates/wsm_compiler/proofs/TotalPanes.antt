@@ -7,19 +7,18 @@ use Rattle.std.specs.Prelude.{pos, nat_lt}
 use Rattle.std.specs.List.{AllByRecursion, list_all}
 use Rattle.std.proofs.lemmas.Bool.{and_from, ltb-true, and_parts}
 use Rattle.wsm_record.specs.declared.event.Value.{Value}
-use Rattle.wsm_record.specs.declared.words.Kind.{Kind}
 use Rattle.wsm_record.specs.Schema.{fit_fields}
 use Rattle.wsm_interval.specs.Interval.{interval, holds, in_i64}
 use Rattle.wsm_fold.specs.Laws.{joined_to}
-use Rattle.wsm_fold.specs.Fold.{is_of_kind, are_of_kinds, joins, folds_of}
+use Rattle.wsm_fold.specs.Fold.{joins, folds_of}
 use Rattle.wsm_bytecode.specs.declared.instr.SectionId.TheVariants.{Fire}
 use Rattle.wsm_bytecode.specs.Program.{Program}
-use Rattle.wsm_verifier.specs.Rules.{judge, range}
+use Rattle.wsm_verifier.specs.Rules.{judge}
 use Rattle.wsm_semantics.specs.Query.{Datum}
 use Rattle.wsm_machine.specs.declared.cell.Cell.{Cell}
 use Rattle.wsm_machine.specs.declared.run.Ran.{Ran}
 use Rattle.wsm_machine.specs.Inputs.{Inputs}
-use Rattle.wsm_machine.specs.InRange.{in_range, is_word, is_value_in, is_number_in, is_acc_in, are_folded_in, accs_in}
+use Rattle.wsm_machine.specs.InRange.{in_range, is_word, are_folded_in, accs_in}
 use Rattle.wsm_machine.specs.Step.{value_of}
 use Rattle.wsm_machine.specs.Sound.{AreFolds}
 use Rattle.wsm_machine.specs.Meaning as program
@@ -41,7 +40,6 @@ use Rattle.wsm_compiler.specs.Sections.{in_bounds, condition_value, on_stack, fi
 use Rattle.wsm_compiler.specs.Folded.{AreUpdates}
 use Rattle.wsm_compiler.specs.SameMeaning.{IsAccepted, record_in_range, IsPane, HasValue, UpdatesHold, TotalOnPanes, AreOfKey, StandsForMeant}
 use Rattle.wsm_compiler.proofs.Visits.{nil_right}
-use Rattle.wsm_machine.proofs.Fitting.{no}
 use Rattle.wsm_machine.proofs.Accumulating.{accs_types}
 use Rattle.wsm_compiler.proofs.Parts.{none≢some}
 use Rattle.wsm_compiler.proofs.Aggregated.{free, fire_means}
