@@ -16,8 +16,8 @@ use crate::term::Term;
 use crate::types::{Around, type_of};
 use std::alloc::{AllocError, Global};
 use wsm_query::{Expr, Query};
-use wsm_record::limits::{MAX_ACCUMULATORS, MAX_FIELDS};
 use wsm_record::CellType;
+use wsm_record::limits::{MAX_ACCUMULATORS, MAX_FIELDS};
 
 /// The terms of all expressions.
 #[tactic(auto, using(crate::proofs::Resolving::all_parts))]

@@ -10,7 +10,9 @@ ghost use Rattle.wsm_check.specs.Sizes.{accumulators, accumulators_of, columns_s
 
 use crate::sizes::{Folds, folds_in, need, size};
 use wsm_query::{Expr, Query};
-use wsm_record::limits::{MAX_ACCUMULATORS, MAX_COLUMNS, MAX_NAMES, MAX_PANES, MAX_SECTION, MAX_STACK};
+use wsm_record::limits::{
+    MAX_ACCUMULATORS, MAX_COLUMNS, MAX_NAMES, MAX_PANES, MAX_SECTION, MAX_STACK,
+};
 use wsm_windows::live_bound;
 
 /// Whether a program may have the code of the query, and hold its panes.
