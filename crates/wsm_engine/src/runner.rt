@@ -74,7 +74,7 @@ impl Runner {
         })
     }
 
-    /// Does what the answer to an event calls for. The rows of the last event are gone.
+    /// Does what the answer to an event calls for, once the rows of the last event are gone.
     pub fn act(
         &mut self,
         verified: &Verified,
@@ -83,6 +83,7 @@ impl Runner {
         event: &Event,
     ) -> Done
         requires program { IsOf verified.now self.old }
+        requires empty { self.old.rows.items ≡ [] }
         requires comes { (past : List AnyEvent) × Comes verified.now past self.old.held mark answer (event_of event.now) }
         ensures program { IsOf verified.now self.new }
         ensures panes { (s : State (List OneValue)) → IsAt mark self.old s → entries_of self.new.held ≡ panes_after (plan_of verified.now) (query_of verified.now) answer (event_of event.now) s }
@@ -93,7 +94,6 @@ impl Runner {
         ensures cost { (s : State (List OneValue)) → IsAt mark self.old s → result.record_steps ≡ answer_cost verified.now answer (event_of event.now) s }
         ensures tally { (s : State (List OneValue)) → IsAt mark self.old s → result.tally ≡ tally_of verified.now (fired_by (plan_of verified.now) (query_of verified.now) answer (event_of event.now) s) }
     {
-        self.rows.clear();
         match answer {
             Ok(Admitted::Record) => match event {
                 Event::Record {
