@@ -13,4 +13,3 @@ pub mod Streaming
 pub mod Standing
 pub mod Joining
 pub mod Past
-pub mod Jumps
