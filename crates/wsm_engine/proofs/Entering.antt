@@ -1,5 +1,5 @@
 -- A selected record can be put in: there is room, and every sum stays in 64 bits.
-use Rattle.std.proofs.Common.{◌≡◌, ◌≢◌, ℕ, suc, ◌+◌, ◌*◌, ◌≤◌, ◌<◌, ◌^◌, true, ◌&&◌, List, [], ◌∷◌, map, length, ℤ, pos, ◌+ℤ◌, ◌-ℤ◌, ◌≤ℤ◌, Option, Some, None, Ok, IsTrue, refl, sym, ap, subst, ◌∙◌, arith}
+use Rattle.std.proofs.Common.{◌≡◌, ◌≢◌, ℕ, ◌+◌, ◌*◌, ◌≤◌, ◌<◌, ◌^◌, true, List, [], ◌∷◌, map, length, ℤ, pos, ◌+ℤ◌, ◌-ℤ◌, ◌≤ℤ◌, Option, Some, None, Ok, IsTrue, refl, sym, ap, subst, ◌∙◌, arith}
 use Rattle.std.proofs.lemmas.Int.{ints}
 use Rattle.std.proofs.lemmas.Bool.{and_parts, ltb-true}
 use Rattle.std.specs.Prelude.{filter, nat_eq, nat_lt, unsigned_abs, IfSome}
@@ -7,7 +7,6 @@ use Rattle.std.specs.Int.{div_ceil}
 use Rattle.std.proofs.lemmas.Nat.{mul-le}
 use Rattle.std.specs.List.{AllByRecursion}
 use Rattle.wsm_record.specs.declared.event.Value.{Value}
-use Rattle.wsm_record.specs.declared.words.Kind.{Kind}
 use Rattle.wsm_record.specs.Event.{Event, Record}
 use Rattle.wsm_windows.specs.declared.window.Shape.{Shape}
 use Rattle.wsm_windows.specs.declared.window.Shape.TheVariants.{Fixed, Sliding, Session}
@@ -15,7 +14,7 @@ use Rattle.wsm_windows.specs.Life.{live_bound}
 use Rattle.wsm_windows.specs.Windows.{IsShape, IsTime, IsWindowOfShape, period_of, size_of}
 use Rattle.wsm_interval.specs.Interval.{interval, holds}
 use Rattle.wsm_admission.proofs.Taken.{IsTaken, taken_record}
-use Rattle.wsm_fold.specs.Fold.{are_of_kinds, is_of_kind, joins}
+use Rattle.wsm_fold.specs.Fold.{are_of_kinds, joins}
 use Rattle.wsm_fold.specs.Accumulators.{SumsFit}
 use Rattle.wsm_semantics.specs.declared.place.Place.{Place}
 use Rattle.wsm_semantics.specs.Query.{Query, Datum, mark, verdict_on}
@@ -40,9 +39,9 @@ use Rattle.wsm_semantics.proofs.HeldRecords.{each_of, total-where}
 use Rattle.wsm_bytecode.specs.declared.instr.SectionId.TheVariants.{Fire}
 use Rattle.wsm_bytecode.specs.Program.{Program, is_program}
 use Rattle.wsm_verifier.specs.declared.costs.Costs.{Costs}
-use Rattle.wsm_verifier.specs.Rules.{judge, range}
+use Rattle.wsm_verifier.specs.Rules.{judge}
 use Rattle.wsm_verifier.proofs.Lawful.{lawful as program_lawful}
-use Rattle.wsm_machine.specs.InRange.{in_range, is_value_in, is_word, is_acc_in, is_number_in, accs_in}
+use Rattle.wsm_machine.specs.InRange.{in_range}
 use Rattle.wsm_machine.specs.Meaning.{clock_of, query_of, plan_of, selects, updated, pane_inputs}
 use Rattle.wsm_machine.specs.Sound.{AreSound, IsSoundEntry, IsSoundPane, IsDatumInRange}
 use Rattle.wsm_machine.proofs.Accumulating.{accs_types}

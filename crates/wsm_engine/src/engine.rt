@@ -141,6 +141,7 @@ impl Engine {
         ensures state { self.new ≡ turn self.old (event_of event.now) }
         ensures reply { result ≡ reply_by self.old (event_of event.now) }
     {
+        self.runner.rows.clear();
         let mark = self.admission.mark();
         let schema = &self.verified.program().header().schema;
         let answer = self.admission.decide(schema, event);

@@ -74,7 +74,7 @@ impl Runner {
         })
     }
 
-    /// Does what the answer to an event calls for. The rows of the last event are gone.
+    /// Does what the answer to an event calls for, once the rows of the last event are gone.
     pub fn act(
         &mut self,
         verified: &Verified,
@@ -83,6 +83,7 @@ impl Runner {
         event: &Event,
     ) -> Done
         requires program { IsOf verified.now self.old }
+        requires empty { self.old.rows.items ≡ [] }
         requires comes { (past : List AnyEvent) × Comes verified.now past self.old.held mark answer (event_of event.now) }
         ensures program { IsOf verified.now self.new }
         ensures panes { (s : State (List OneValue)) → IsAt mark self.old s → entries_of self.new.held ≡ panes_after (plan_of verified.now) (query_of verified.now) answer (event_of event.now) s }
@@ -93,7 +94,6 @@ impl Runner {
         ensures cost { (s : State (List OneValue)) → IsAt mark self.old s → result.record_steps ≡ answer_cost verified.now answer (event_of event.now) s }
         ensures tally { (s : State (List OneValue)) → IsAt mark self.old s → result.tally ≡ tally_of verified.now (fired_by (plan_of verified.now) (query_of verified.now) answer (event_of event.now) s) }
     {
-        self.rows.clear();
         match answer {
             Ok(Admitted::Record) => match event {
                 Event::Record {
@@ -131,14 +131,20 @@ impl Runner {
         ensures cost { result.record_steps ≡ record_cost_by verified.now (entries_of self.old.held) (datum 0 key time values.now) }
         ensures tally { result.tally ≡ tally_of verified.now (fired_with verified.now mark key time values.now (entries_of self.old.held)) }
     {
-        let kept = self.machine.keep(verified, &record_inputs(key, values));
+        let inputs = Inputs {
+            key,
+            values,
+            count: 0,
+            accs: &[],
+        };
+        let kept = self.machine.keep(verified, &inputs);
         if !kept.keeps {
             return Done {
                 record_steps: kept.steps,
                 tally: NO_FIRING,
             };
         }
-        let (steps, session) = self.enter(verified, key, time, values);
+        let (steps, session) = self.enter(verified, time, &inputs);
         let tally = fire_by_record(
             verified,
             &mut self.machine,
@@ -158,32 +164,27 @@ impl Runner {
 
     // Runs UPDATE on a selected record, and puts what it gives into the record's panes. Answers the
     // steps and the record's session.
-    fn enter(
-        &mut self,
-        verified: &Verified,
-        key: u16,
-        time: i64,
-        values: &[Value],
-    ) -> (u64, Option<Window>)
+    fn enter(&mut self, verified: &Verified, time: i64, inputs: &Inputs) -> (u64, Option<Window>)
+        requires record { inputs_of inputs.now ≡ inputs_of_record inputs.now.key inputs.now.values.now }
         requires program { IsOf verified.now self.old }
-        requires selected { selects verified.now key values.now ≡ true }
-        requires comes { (past : List AnyEvent) × (mark : ℤ) × Comes verified.now past self.old.held mark (Ok admitted.Record) (Record (Some key) time values.now) }
-        ensures panes { entries_of self.new.held ≡ entered (plan_of verified.now) verified.now.header.shape (datum 0 key time values.now) (entries_of self.old.held) }
+        requires selected { selects verified.now inputs.now.key inputs.now.values.now ≡ true }
+        requires comes { (past : List AnyEvent) × (mark : ℤ) × Comes verified.now past self.old.held mark (Ok admitted.Record) (Record (Some inputs.now.key) time inputs.now.values.now) }
+        ensures panes { entries_of self.new.held ≡ entered (plan_of verified.now) verified.now.header.shape (datum 0 inputs.now.key time inputs.now.values.now) (entries_of self.old.held) }
         ensures keeps { IsKept self.old.held self.new.held }
         ensures told { (relation : List (List OneValue)) → IsTold self.old.streams relation (standing_rows (entries_of self.old.held)) → IsTold self.new.streams relation (standing_rows (entries_of self.new.held)) }
         ensures alike { AreAlike self.old.streams self.new.streams }
         ensures rows { self.new.rows ≡ self.old.rows }
-        ensures steps { result.0 ≡ entering_cost verified.now key time values.now (entries_of self.old.held) }
-        ensures session { result.1 ≡ session_entered verified.now.header.shape (datum 0 key time []) (entries_of self.old.held) }
+        ensures steps { result.0 ≡ entering_cost verified.now inputs.now.key time inputs.now.values.now (entries_of self.old.held) }
+        ensures session { result.1 ≡ session_entered verified.now.header.shape (datum 0 inputs.now.key time []) (entries_of self.old.held) }
     {
-        let updated = self.machine.update(verified, &record_inputs(key, values));
+        let updated = self.machine.update(verified, inputs);
         let steps = updated.steps;
         let kinds = &verified.program().header().kinds;
         let entered = enter(
             &mut self.held,
             &mut self.streams,
             kinds,
-            key,
+            inputs.key,
             time,
             updated.values,
         );
@@ -219,18 +220,6 @@ impl Runner {
         self.streams.advance(new, &mut self.rows);
         drop_expired(&mut self.held, &mut self.streams, limit);
         tally
-    }
-}
-
-// What WHERE and UPDATE read of a record.
-fn record_inputs<'a>(key: u16, values: &'a [Value]) -> Inputs<'a>
-    ensures { inputs_of result ≡ inputs_of_record key values.now }
-{
-    Inputs {
-        key,
-        values,
-        count: 0,
-        accs: &[],
     }
 }
 

@@ -3,9 +3,7 @@ use Rattle.std.proofs.Common.{◌≡◌, ℕ, zero, suc, Bool, true, false, ◌&
 use Rattle.std.proofs.lemmas.Int.{ints}
 use Rattle.std.specs.Prelude.{ℤ, pos, ◌+ℤ◌, ◌≤ℤ◌, ◌<ℤ◌, int_lt, int_le, nat_lt, slice_get}
 use Rattle.std.specs.List.{AllByRecursion}
-use Rattle.std.specs.Ordering.{int_cmp, is_lt, ordering_then}
-use Rattle.std.specs.declared.cmp.Ordering.{Ordering}
-use Rattle.std.specs.declared.cmp.Ordering.TheVariants.{Less, Equal, Greater}
+use Rattle.std.specs.Ordering.{is_lt}
 use Rattle.std.specs.FinMap.Entries.{is_sorted, below_all}
 use Rattle.wsm_windows.specs.declared.window.PaneKind.TheVariants.{OnTime, Final}
 use Rattle.wsm_semantics.specs.declared.place.Place.{Place}
@@ -13,6 +11,7 @@ use Rattle.wsm_semantics.specs.Query.{Query}
 use Rattle.wsm_semantics.specs.Panes.{place_cmp}
 use Rattle.wsm_semantics.specs.Firings.{kind_on_watermark}
 use Rattle.wsm_semantics.specs.Summaries.{Pane, kind_by_watermark}
+use Rattle.wsm_panes.proofs.Ended.{ends_in_order}
 use Rattle.wsm_panes.proofs.Sorted.{lesser}
 use Rattle.wsm_panes.specs.Walk.{place_due}
 use Rattle.wsm_firing.proofs.AtPlace.{first_of, second_of}
@@ -23,21 +22,6 @@ never true b true d = refl
 never true b false d = refl
 never false b true d = refl
 never false b false d = refl
-
-first_less : (o next : Ordering) → ordering_then o next ≡ Less → is_lt o ≡ false → o ≡ Equal
-first_less Less next h n = absurd (cc)
-first_less Equal next h n = refl
-first_less Greater next h n = absurd (cc)
-
-tied : (x y : ℤ) → int_cmp x y ≡ Equal → x ≡ y
-tied x y h = grind (arith, ints)
-
-pub ends_in_order : (p r : Place) → place_cmp p r ≡ Less → p.end ≤ℤ r.end
-ends_in_order p r less =
-    elim (is_lt (int_cmp p.end r.end)) as (λ b. is_lt (int_cmp p.end r.end) ≡ b → p.end ≤ℤ r.end) [
-      | true ↦ λ h. grind (arith, ints)
-      | false ↦ λ h. let same : p.end ≡ r.end = tied p.end r.end (first_less (int_cmp p.end r.end) _ less h) in omega (arith, ints)
-    ] refl
 
 module _ (q : Query) (prompt : pos 0 ≤ℤ q.clock.lateness) (old new : ℤ) where
   ahead : (p : Place) (n u : ℕ) → new <ℤ p.end → kind_on_watermark q old new p n u ≡ None

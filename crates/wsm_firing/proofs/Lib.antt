@@ -13,3 +13,4 @@ pub mod Streaming
 pub mod Standing
 pub mod Joining
 pub mod Past
+pub mod Jumps

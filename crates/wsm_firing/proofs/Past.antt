@@ -7,10 +7,10 @@ use Rattle.std.specs.FinMap.Entries.{where_key, is_sorted, below_all}
 use Rattle.wsm_semantics.specs.declared.place.Place.{Place}
 use Rattle.wsm_semantics.specs.Panes.{place_cmp}
 use Rattle.wsm_semantics.specs.Summaries.{Pane}
+use Rattle.wsm_panes.proofs.Ended.{ends_in_order}
 use Rattle.wsm_panes.proofs.Sorted.{lesser}
 use Rattle.wsm_panes.specs.Walk.{place_due}
 use Rattle.wsm_firing.proofs.AtPlace.{first_of, second_of}
-use Rattle.wsm_firing.proofs.Behind.{ends_in_order}
 use Rattle.wsm_firing.proofs.Walk.{rest_at, rest_due}
 use Rattle.wsm_firing.proofs.Standing.{Folded, Panes}
 

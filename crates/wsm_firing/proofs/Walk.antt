@@ -1,5 +1,5 @@
 -- A walk over panes in order that fires those that have a kind, one after another.
-use Rattle.std.proofs.Common.{◌≡◌, ℕ, zero, suc, ◌+◌, cond, T, Option, Some, None, List, [], ◌∷◌, drop, refl, sym, ap, subst, ◌∙◌, add-one, ◌⊎◌, inl, inr, true, false, arith}
+use Rattle.std.proofs.Common.{◌≡◌, ℕ, zero, suc, ◌+◌, ◌≤◌, cond, T, Option, Some, None, List, [], ◌∷◌, drop, refl, sym, ap, subst, ◌∙◌, add-one, ◌⊎◌, inl, inr, true, false, arith}
 use Rattle.std.proofs.lemmas.Int.{ints}
 use Rattle.std.specs.Prelude.{ℤ, ◌<ℤ◌, int_lt, option_map, slice_get}
 use Rattle.std.specs.Option.{is_some}
@@ -31,7 +31,7 @@ pub some_same : {A : Type 0} {x y : A} → Some x ≡ Some y → x ≡ y
 some_same {A} {x} {y} is = let value : Option A → A = λ o. elim o [ None ↦ x | Some z ↦ z ] in ap value is
 
 -- an entry behind another of a list in order
-behind : {X : Type 0} (p : Place) (es : List (Place × X)) (i : ℕ) (e : Place × X) → T (below_all place_cmp p es) → slice_get es i ≡ Some e → place_cmp p e.0 ≡ Less
+pub behind : {X : Type 0} (p : Place) (es : List (Place × X)) (i : ℕ) (e : Place × X) → T (below_all place_cmp p es) → slice_get es i ≡ Some e → place_cmp p e.0 ≡ Less
 behind p [] i e below at = absurd (cc)
 behind p (x ∷ es) zero e below at = subst (λ (y : Place × _). place_cmp p y.0 ≡ Less) (some_same at) (lesser _ (first_of (is_lt (place_cmp p x.0)) (below_all place_cmp p es) below))
 behind p (x ∷ es) (suc i) e below at = behind p es i e (second_of (is_lt (place_cmp p x.0)) (below_all place_cmp p es) below) at
@@ -58,7 +58,7 @@ spot_found p None r is = absurd (cc)
 spot_found p (Some x) r is = (sym (some_same is), refl)
 
 -- the entry of which a walk tells the place
-entry_due : {X : Type 0} (limit : ℤ) (o : Option (Place × X)) (p : Place) → place_due limit o ≡ Some p → (x : X) × (o ≡ Some (p, x)) × (int_lt limit p.end ≡ false)
+pub entry_due : {X : Type 0} (limit : ℤ) (o : Option (Place × X)) (p : Place) → place_due limit o ≡ Some p → (x : X) × (o ≡ Some (p, x)) × (int_lt limit p.end ≡ false)
 entry_due limit None p is = absurd (cc)
 entry_due {X} limit (Some e) p is =
     elim (int_lt limit e.0.end) as (λ b. int_lt limit e.0.end ≡ b → cond {A = Option Place} b None (Some e.0) ≡ Some p → (x : X) × (Some e ≡ Some (p, x)) × (int_lt limit p.end ≡ false)) [
@@ -83,6 +83,10 @@ rest_due {X} limit es i none = by (slice_get es i) refl none where
         | false ↦ λ past h. absurd (cc)
       ] refl is
 
+-- behind an entry comes the next one
+pub next_behind : {X : Type 0} (limit : ℤ) (es : List (Place × X)) (i : ℕ) (e : Place × X) → T (is_sorted place_cmp es) → slice_get es i ≡ Some e → place_due limit (following e.0 es) ≡ place_due limit (slice_get es (i + 1))
+next_behind limit es i e sorted at = ap (place_due limit) (following_nth es i e sorted at) ∙ ap (λ n. place_due limit (slice_get es n)) (sym (add-one i))
+
 module _ {X : Type 0} (limit : ℤ) (es : List (Place × X)) (i : ℕ) (p : Place) (sorted : T (is_sorted place_cmp es)) (due : place_due limit (slice_get es i) ≡ Some p) where
   pub past_end : int_lt limit p.end ≡ false
   past_end = (entry_due limit (slice_get es i) p due).2
@@ -98,9 +102,7 @@ module _ {X : Type 0} (limit : ℤ) (es : List (Place × X)) (i : ℕ) (p : Plac
 
   -- behind it comes the next one
   pub due_behind : place_due limit (following p es) ≡ place_due limit (slice_get es (i + 1))
-  due_behind =
-      ap (place_due limit) (following_nth es i (p, (entry_due limit (slice_get es i) p due).0) sorted (entry_due limit (slice_get es i) p due).1)
-      ∙ ap (λ n. place_due limit (slice_get es n)) (sym (add-one i))
+  due_behind = next_behind limit es i (p, (entry_due limit (slice_get es i) p due).0) sorted (entry_due limit (slice_get es i) p due).1
 
 pub holds_at : {A : Type 0} (P : A → Type 0) (xs : List A) (i : ℕ) (x : A) → AllByRecursion P xs → slice_get xs i ≡ Some x → P x
 holds_at P [] i x all at = absurd (cc)
@@ -114,11 +116,12 @@ module _ {X : Type 0} (plan : Plan X) (q : Query) (kind : Place → Pane X → O
   fired_first (suc n) [] = []
   fired_first (suc n) (e ∷ es) = (e.0, fired_pane plan q.mode e.0 (kind e.0 e.1) e.1) ∷ fired_first n es
 
-  -- the next one is as it was
-  next_same : (n : ℕ) (es : Entries plan q) → slice_get (fired_first n es) n ≡ slice_get es n
-  next_same zero es = refl
-  next_same (suc n) [] = refl
-  next_same (suc n) (x ∷ es) = next_same n es
+  -- the others are as they were
+  pub later_same : (n k : ℕ) (es : Entries plan q) → n ≤ k → slice_get (fired_first n es) k ≡ slice_get es k
+  later_same zero k es on = refl
+  later_same (suc n) k [] on = refl
+  later_same (suc n) zero (x ∷ es) on = absurd (omega (arith, on))
+  later_same (suc n) (suc k) (x ∷ es) on = later_same n k es (omega (arith, on))
 
   same_due : (limit : ℤ) (n i : ℕ) (es : Entries plan q) → place_due limit (slice_get (fired_first n es) i) ≡ place_due limit (slice_get es i)
   same_due limit zero i es = refl
@@ -166,7 +169,7 @@ module _ {X : Type 0} (plan : Plan X) (q : Query) (kind : Place → Pane X → O
   -- a step of the walk
   module _ (es now : Entries plan q) (i : ℕ) (e : Place × Pane X) (so_far : now ≡ fired_first i es) (sorted : T (is_sorted place_cmp es)) (at : slice_get now i ≡ Some e) where
     pub as_it_was : slice_get es i ≡ Some e
-    as_it_was = sym (next_same i es) ∙ ap (λ fs. slice_get fs i) (sym so_far) ∙ at
+    as_it_was = sym (later_same i i es (omega arith)) ∙ ap (λ fs. slice_get fs i) (sym so_far) ∙ at
 
     one_further : fired_first (suc i) es ≡ fired_first (i + 1) es
     one_further = ap (λ n. fired_first n es) (sym (add-one i))

@@ -1,5 +1,5 @@
 -- What fires on the turn of a watermark.
-use Rattle.std.specs.Prelude.{ℕ, ℤ, List}
+use Rattle.std.specs.Prelude.{◌≡◌, ℕ, ◌≤◌, ◌<◌, ℤ, ◌<ℤ◌, ◌≤ℤ◌, List, Option, Some, slice_get}
 use Rattle.std.specs.List.{AllByRecursion}
 use Rattle.wsm_record.specs.declared.event.Value.{Value}
 use Rattle.wsm_windows.specs.Windows.{IsPlaced}
@@ -8,6 +8,7 @@ use Rattle.wsm_semantics.specs.Panes.{window_of}
 use Rattle.wsm_semantics.specs.Summaries.{Pane, Fired, fires, kind_by_watermark}
 use Rattle.wsm_bytecode.specs.Program.{Program}
 use Rattle.wsm_machine.specs.Meaning.{query_of}
+use Rattle.wsm_panes.specs.Walk.{place_due}
 use Rattle.wsm_firing.specs.Firing.{CanFire}
 
 -- what fires on the turn of a watermark that rises from one mark to another
@@ -18,3 +19,11 @@ fires_by_watermark p old new panes = fires (query_of p) (kind_by_watermark (quer
 pub record CanFireByWatermark (p : Program) (capacity : ℕ) (old new : ℤ) (panes : List (Place × Pane (List Value))) : Type 0 where
   pub placed : AllByRecursion (λ e. IsPlaced (window_of e.0)) panes
   pub can : CanFire p capacity (fires_by_watermark p old new panes)
+
+-- the place of the first pane from a number on that can fire, if it ends by the new mark: those before
+-- it don't expire yet, and came on time by the old mark
+pub record IsNextToFire (expired old new : ℤ) (panes : List (Place × Pane (List Value))) (from : ℕ) (found : Option Place) : Type 0 where
+  pub at : ℕ
+  pub onward : from ≤ at
+  pub fired : (k : ℕ) (e : Place × Pane (List Value)) → from ≤ k → k < at → slice_get panes k ≡ Some e → (expired <ℤ e.0.end) × (e.0.end ≤ℤ old)
+  pub next : found ≡ place_due new (slice_get panes at)

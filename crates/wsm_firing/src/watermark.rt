@@ -1,20 +1,24 @@
 //! Firings on the turn of a watermark.
 
-ghost use Rattle.std.specs.Prelude.{◌≡◌, [], vec_capacity};
-ghost use Rattle.wsm_semantics.specs.Summaries.{all_fired, kind_by_watermark};
+ghost use Rattle.std.specs.Prelude.{◌≡◌, ◌≤ℤ◌, ◌+ℤ◌, ◌+◌, ℕ, pos, List, [], IsSome, Some, slice_get, vec_capacity};
+ghost use Rattle.std.specs.FinMap.Entries.{find};
+ghost use Rattle.wsm_record.specs.declared.event.Value.{Value};
+ghost use Rattle.wsm_semantics.specs.Panes.{place_cmp};
+ghost use Rattle.wsm_semantics.specs.Summaries.{Pane as AnyPane, all_fired, kind_by_watermark};
 ghost use Rattle.wsm_machine.specs.Meaning.{plan_of, query_of};
 ghost use Rattle.wsm_panes.specs.Held.{IsKept, entries_of};
+ghost use Rattle.wsm_panes.specs.Walk.{place_found};
 ghost use Rattle.wsm_firing.specs.Tally.{tally_of};
 ghost use Rattle.wsm_firing.specs.Streams.{CanTell, Tells};
 ghost use Rattle.wsm_firing.specs.Firing.{rows_of};
-ghost use Rattle.wsm_firing.specs.ByWatermark.{CanFireByWatermark, fires_by_watermark};
+ghost use Rattle.wsm_firing.specs.ByWatermark.{CanFireByWatermark, IsNextToFire, fires_by_watermark};
 
 use crate::fire::{Due, fire};
 use crate::kinds::watermark_kind;
 use crate::streams::Streams;
 use crate::tally::Tally;
 use wsm_machine::Machine;
-use wsm_panes::HeldPanes;
+use wsm_panes::{HeldPanes, Spot};
 use wsm_semantics::OutRow;
 use wsm_verifier::Verified;
 
@@ -40,8 +44,9 @@ pub fn fire_by_watermark(
     ensures tally { result ≡ tally_of verified.now (fires_by_watermark verified.now old new (entries_of held.old)) }
 {
     let header = verified.program().header();
+    let expired = last_expired(new, header.lateness);
     let mut tally = Tally::none();
-    let mut next = held.first_due(new);
+    let mut next = first_to_fire(held, expired, old, new);
     for _ in 0..held.len() {
         let Some(spot) = next else {
             break;
@@ -57,7 +62,43 @@ pub fn fire_by_watermark(
                 Due { kind, spot },
             );
         }
-        next = held.next_due(spot, new);
+        next = next_to_fire(held, spot, expired, old, new);
     }
     tally
+}
+
+// The last end of windows that expire by a mark.
+fn last_expired(mark: i64, lateness: i64) -> i64
+    requires { pos 0 ≤ℤ lateness }
+    ensures expires { mark ≤ℤ (result +ℤ lateness) }
+    ensures by { result ≤ℤ mark }
+{
+    mark.checked_sub(lateness).unwrap_or(i64::MIN)
+}
+
+// Where the first pane is that can fire as a watermark rises from one mark to another.
+fn first_to_fire(held: &HeldPanes, expired: i64, old: i64, new: i64) -> Option<Spot>
+    requires { expired ≤ℤ new }
+    ensures { IsNextToFire expired old new (entries_of held.now) 0 (place_found result) }
+{
+    match held.first_due(expired) {
+        Some(spot) => Some(spot),
+        None => held.first_due_after(old.max(expired), new),
+    }
+}
+
+// Where the pane behind one is that can fire. Between those that expire and those that come on time
+// there can be many that have fired and are still held.
+fn next_to_fire(held: &HeldPanes, spot: Spot, expired: i64, old: i64, new: i64) -> Option<Spot>
+    requires order { expired ≤ℤ new }
+    requires there { IsSome (find place_cmp spot.place (entries_of held.now)) }
+    ensures { (i : ℕ) (pane : AnyPane (List Value)) → slice_get (entries_of held.now) i ≡ Some (spot.place, pane) → IsNextToFire expired old new (entries_of held.now) (i + 1) (place_found result) }
+{
+    if spot.place.end > expired {
+        return held.next_due(spot, new);
+    }
+    match held.next_due(spot, expired) {
+        Some(next) => Some(next),
+        None => held.first_due_after(old.max(expired), new),
+    }
 }

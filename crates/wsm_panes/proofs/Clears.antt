@@ -15,7 +15,7 @@ use Rattle.wsm_panes.proofs.Placed.{kept_from}
 pub is_past : (limit : ℤ) (p : Place) → limit <ℤ p.end → is_kept limit p ≡ true
 is_past limit p h = grind (arith, ints)
 
-past_is : (limit : ℤ) (p : Place) → is_kept limit p ≡ true → limit <ℤ p.end
+pub past_is : (limit : ℤ) (p : Place) → is_kept limit p ≡ true → limit <ℤ p.end
 past_is limit p h = grind (arith, ints)
 
 in_row : (row keys i : ℕ) → ((row ≤ i) × (i < row + keys)) ⊎ ((i < row) ⊎ (row + keys ≤ i))

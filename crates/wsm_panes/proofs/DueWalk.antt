@@ -14,12 +14,12 @@ use Rattle.std.proofs.lemmas.Option.{same_Some}
 use Rattle.wsm_semantics.specs.declared.place.Place.{Place}
 use Rattle.wsm_panes.specs.declared.ring.Ring.{Ring}
 use Rattle.wsm_panes.specs.Place.{place_cmp, is_kept}
-use Rattle.wsm_panes.specs.Walk.{following, place_due}
-use Rattle.wsm_panes.specs.Ring.{IsOfRing, AreInPlace, AreBetween, IsFromOn, IsFirstUntil, slot_at, slot_of}
+use Rattle.wsm_panes.specs.Walk.{first_past, following, place_due}
+use Rattle.wsm_panes.specs.Ring.{IsOfRing, AreInPlace, AreBetween, IsFromOn, IsFirstPast, IsFirstUntil, slot_at, slot_of}
 use Rattle.wsm_panes.proofs.Clears.{is_past}
 use Rattle.wsm_panes.proofs.Least.{find_head}
 use Rattle.wsm_panes.proofs.Placed.{panes_in}
-use Rattle.wsm_panes.proofs.RingWalk.{first_walk, from_behind, next_walk, there_in}
+use Rattle.wsm_panes.proofs.RingWalk.{first_walk, from_behind, from_past, next_walk, past_walk, there_in}
 
 module _ {P : Type 0} where
   head_there : (es : List (Place × P)) (e : Place × P) → slice_get es 0 ≡ Some e → is_some (find place_cmp e.0 es) ≡ true
@@ -43,6 +43,18 @@ module _ {P : Type 0} where
   following_is : (p : Place) (es : List (Place × P)) (e : Place × P) → following p es ≡ Some e → IsBehind p es e
   following_is p [] e is = cc
   following_is p (x ∷ es) e is = behind_by p x es e (following_is p es e) (place_cmp p x.0) refl is
+
+  abbrev IsPast : ℤ → List (Place × P) → Place × P → Type 0
+  IsPast after es e = (is_some (find place_cmp e.0 es) ≡ true) × (is_kept after e.0 ≡ true)
+
+  past_by : (after : ℤ) (x : Place × P) (es : List (Place × P)) (e : Place × P) → (first_past after es ≡ Some e → IsPast after es e) → (b : Bool) → is_kept after x.0 ≡ b → cond b (Some x) (first_past after es) ≡ Some e → IsPast after (x ∷ es) e
+  past_by after x es e rest true kept is = subst (IsPast after (x ∷ es)) (same_Some x e is) (ap is_some (find_head x es), kept)
+  past_by after x es e rest false gone is = let more = rest is in (more_there (eq_by_cmp place_cmp e.0 x.0) x.1 (find place_cmp e.0 es) more.0, more.1)
+
+  -- the first that ends past a time is one of the entries, and does
+  first_past_is : (after : ℤ) (es : List (Place × P)) (e : Place × P) → first_past after es ≡ Some e → IsPast after es e
+  first_past_is after [] e is = cc
+  first_past_is after (x ∷ es) e is = past_by after x es e (first_past_is after es e) (is_kept after x.0) refl is
 
   due_by : (limit : ℤ) (e : Place × P) → e.0.end ≤ℤ limit → place_due limit (Some e) ≡ Some e.0
   due_by limit e by = let test : is_kept limit e.0 ≡ false = grind (arith, ints) in ap (λ b. cond b None (Some e.0)) test
@@ -95,9 +107,17 @@ module _ {P : Type 0} (r : Ring) (os : List (Option (Place × P))) (placed : Are
         late e p.start (p.key + 1) behind.0 (from_behind r p e.0 of (placed (slot_of r e.0) (e.0, here.0) here.1).0 behind.1) none))
     next_due_walk p (Some e) of found = due e found.0.0 found.1 ∙ ap (place_due limit) (next_walk r os placed p (Some e) of found.0)
 
+    pub past_due_walk : (after start : ℤ) (o : Option (Place × P)) → IsFirstPast r first after start → IsFirstUntil r os start 0 until o → option_map (λ e. e.0) o ≡ place_due limit (first_past after (entries (panes_in os)))
+    past_due_walk after start None past none = sym (none_due limit (first_past after (entries (panes_in os))) (λ e at.
+        let in_map = first_past_is after (entries (panes_in os)) e at in
+        let here = entry_at e in_map.0 in
+        late e start 0 in_map.0 (from_past r os placed first last after start between past (slot_of r e.0) (e.0, here.0) here.1 in_map.1) none))
+    past_due_walk after start (Some e) past found = due e found.0.0 found.1 ∙ ap (place_due limit) (sym (past_walk r os placed first last after start e between past found.0))
+
   -- where no time is so early, nothing is due
-  pub nothing_due : ((e : Place × P) → is_some (find place_cmp e.0 (entries (panes_in os))) ≡ true → limit <ℤ e.0.end) → (None ≡ place_due limit (slice_get (entries (panes_in os)) 0)) × ((p : Place) → None ≡ place_due limit (following p (entries (panes_in os))))
+  pub nothing_due : ((e : Place × P) → is_some (find place_cmp e.0 (entries (panes_in os))) ≡ true → limit <ℤ e.0.end) → (None ≡ place_due limit (slice_get (entries (panes_in os)) 0)) × ((p : Place) → None ≡ place_due limit (following p (entries (panes_in os)))) × ((after : ℤ) → None ≡ place_due limit (first_past after (entries (panes_in os))))
   nothing_due past = (
     sym (none_due limit (slice_get (entries (panes_in os)) 0) (λ e at. past e (head_there (entries (panes_in os)) e at))),
     λ p. sym (none_due limit (following p (entries (panes_in os))) (λ e at. past e (following_is p (entries (panes_in os)) e at).0)),
+    λ after. sym (none_due limit (first_past after (entries (panes_in os))) (λ e at. past e (first_past_is after (entries (panes_in os)) e at).0)),
   )

@@ -1,6 +1,6 @@
 -- The least entry behind a place, told by look-ups.
 use Rattle.std.proofs.Common.{◌≡◌, ◌≢◌, true, false, T, Option, Some, None, List, [], ◌∷◌, refl, sym, ap, ◌∙◌, inl, inr}
-use Rattle.std.specs.Prelude.{slice_get}
+use Rattle.std.specs.Prelude.{ℤ, slice_get}
 use Rattle.std.proofs.lemmas.Bool.{cases_Bool}
 use Rattle.std.proofs.lemmas.Option.{none-some, same_Some}
 use Rattle.std.specs.declared.cmp.Ordering.TheVariants.{Less}
@@ -8,8 +8,8 @@ use Rattle.std.specs.FinMap.{FinMap, find, is_sorted, get, entries, get-entries,
 use Rattle.std.specs.FinMap.Entries.{below_all}
 use Rattle.std.specs.Ordering.{is_lt, eq_by_cmp}
 use Rattle.wsm_semantics.specs.declared.place.Place.{Place}
-use Rattle.wsm_panes.specs.Place.{place_cmp}
-use Rattle.wsm_panes.specs.Walk.{following}
+use Rattle.wsm_panes.specs.Place.{place_cmp, is_kept}
+use Rattle.wsm_panes.specs.Walk.{first_past, following}
 use Rattle.wsm_panes.proofs.Entries.{apart_place}
 use Rattle.wsm_panes.proofs.Sorted.{lesser, first_of_and, second_of_and}
 use Rattle.wsm_semantics.proofs.Tables.{tie_is}
@@ -71,6 +71,16 @@ module _ {P : Type 0} where
     | inr before ↦ rw before (following_end p fs (λ q some. none q (find_more q f fs some)))
   ]
 
+  past_of : (after : ℤ) (es : List (Place × P)) (e : Place × P) → T (is_sorted place_cmp es) → find place_cmp e.0 es ≡ Some e.1 → is_kept after e.0 ≡ true → ((q : Place) → find place_cmp q es ≢ None → is_kept after q ≡ true → place_cmp q e.0 ≢ Less) → first_past after es ≡ Some e
+  past_of after [] e sorted at past least = absurd (none-some e.1 at)
+  past_of after (f ∷ fs) e sorted at past least = elim (cases_Bool (is_kept after f.0)) [
+    | inl kept ↦ rw kept (head_is e f fs (first_of_and (below_all place_cmp f.0 fs) _ sorted) at (least f.0 (some_there _ f.1 (find_head f fs)) kept))
+    | inr gone ↦
+        let other : e.0 ≢ f.0 = λ same. let bad : false ≡ true = sym gone ∙ ap (is_kept after) (sym same) ∙ past in cc in
+        let rest : find place_cmp e.0 fs ≡ Some e.1 = rw (apart_place e.0 f.0 other) at at in
+        rw gone (past_of after fs e (second_of_and (below_all place_cmp f.0 fs) _ sorted) rest past (λ q some. least q (find_more q f fs some)))
+  ]
+
   pub least_first : (m : FinMap place_cmp P) (e : Place × P) → get m e.0 ≡ Some e.1 → ((q : Place) → get m q ≢ None → place_cmp q e.0 ≢ Less) → slice_get (entries m) 0 ≡ Some e
   least_first m e at least = least_of (entries m) e (entries_sorted m) (sym (get-entries m e.0) ∙ at) (λ q some. least q (λ none. some (sym (get-entries m q) ∙ none)))
 
@@ -82,3 +92,6 @@ module _ {P : Type 0} where
 
   pub none_following : (m : FinMap place_cmp P) (p : Place) → ((q : Place) → get m q ≢ None → place_cmp p q ≢ Less) → following p (entries m) ≡ None
   none_following m p none = following_end p (entries m) (λ q some. none q (λ h. some (sym (get-entries m q) ∙ h)))
+
+  pub least_past : (m : FinMap place_cmp P) (after : ℤ) (e : Place × P) → get m e.0 ≡ Some e.1 → is_kept after e.0 ≡ true → ((q : Place) → get m q ≢ None → is_kept after q ≡ true → place_cmp q e.0 ≢ Less) → first_past after (entries m) ≡ Some e
+  least_past m after e at past least = past_of after (entries m) e (entries_sorted m) (sym (get-entries m e.0) ∙ at) past (λ q some. least q (λ none. some (sym (get-entries m q) ∙ none)))

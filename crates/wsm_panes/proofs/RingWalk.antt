@@ -1,5 +1,5 @@
 -- A walk over a ring: the first entry from a window and a key on is the next of the map.
-use Rattle.std.proofs.Common.{◌≡◌, ◌≢◌, ◌+◌, true, false, Option, Some, None, List, ℤ, ◌+ℤ◌, ◌≤ℤ◌, refl, sym, ap, subst, ◌∙◌, inl, inr, arith}
+use Rattle.std.proofs.Common.{◌≡◌, ◌≢◌, ℕ, ◌+◌, true, false, Option, Some, None, List, ℤ, ◌+ℤ◌, ◌≤ℤ◌, refl, sym, ap, subst, ◌∙◌, inl, inr, arith}
 use Rattle.std.specs.Prelude.{slice_get}
 use Rattle.std.proofs.lemmas.Bool.{cases_lt}
 use Rattle.std.proofs.lemmas.Int.{ints, by_lt_z}
@@ -10,13 +10,14 @@ use Rattle.std.specs.Option.{is_some}
 use Rattle.std.specs.FinMap.{get, entries}
 use Rattle.wsm_semantics.specs.declared.place.Place.{Place}
 use Rattle.wsm_panes.specs.declared.ring.Ring.{Ring}
-use Rattle.wsm_panes.specs.Place.{place_cmp}
-use Rattle.wsm_panes.specs.Walk.{following}
-use Rattle.wsm_panes.specs.Ring.{IsOfRing, AreInPlace, AreBetween, IsFromOn, IsFirstFrom, slot_at, slot_of, pane_of}
+use Rattle.wsm_panes.specs.Place.{place_cmp, is_kept}
+use Rattle.wsm_panes.specs.Walk.{first_past, following}
+use Rattle.wsm_panes.specs.Ring.{IsOfRing, AreInPlace, AreBetween, IsFromOn, IsFirstFrom, IsFirstPast, slot_at, slot_of, pane_of, window_number}
 use Rattle.wsm_panes.proofs.Entries.{places_total}
 use Rattle.wsm_panes.proofs.Rings.{window_less, key_less}
+use Rattle.wsm_panes.proofs.Clears.{is_past, past_is}
 use Rattle.wsm_panes.proofs.Placed.{panes_in, get_in, pane_here, entry_of}
-use Rattle.wsm_panes.proofs.Least.{least_first, none_first, least_following, none_following}
+use Rattle.wsm_panes.proofs.Least.{least_first, none_first, least_following, least_past, none_following}
 
 pub same_start_key : (r : Ring) (p q : Place) → IsOfRing r p → IsOfRing r q → p.start ≡ q.start → p.key ≡ q.key → p ≡ q
 same_start_key r p q a b start key =
@@ -96,6 +97,22 @@ module _ {P : Type 0} (r : Ring) (os : List (Option (Place × P))) (placed : Are
       let there = entry_there q (get (panes_in os) q) refl some in
       not_below r e.0 q (placed _ e found.0).0 (placed _ (q, there.0) there.1).0
       (found.2 (slot_of r q) (q, there.0) there.1 (from_behind r p q of (placed _ (q, there.0) there.1).0 less))))
+
+  -- a window that ends past a time starts from the first such start on
+  pub from_past : (first last after start : ℤ) → AreBetween first last os → IsFirstPast r first after start → (i : ℕ) (e : Place × P) → slot_at os i ≡ Some e → is_kept after e.0 ≡ true → IsFromOn start 0 e.0
+  from_past first last after start between past i e at kept =
+      let of = (placed i e at).0 in
+      let low : start ≤ℤ e.0.start = past.2 e.0.start (window_number r e.0.start, of.start) (between i e at).0 (omega (arith, ints, past_is after e.0 kept, of.end)) in
+      by_lt_z {P = IsFromOn start 0 e.0} start e.0.start (λ less. inl less) (λ more. inr (omega (arith, ints, low, more), omega arith))
+
+  pub past_walk : (first last after start : ℤ) (e : Place × P) → AreBetween first last os → IsFirstPast r first after start → IsFirstFrom r os start 0 (Some e) → first_past after (entries (panes_in os)) ≡ Some e
+  past_walk first last after start e between past found =
+      let of = (placed _ e found.0).0 in
+      let low : start ≤ℤ e.0.start = elim found.1 [ inl less ↦ omega (arith, ints, less) | inr same ↦ omega (arith, ints, same.0) ] in
+      least_past (panes_in os) after e (pane_there e found.0) (is_past after e.0 (omega (arith, ints, past.1, low, of.end))) (λ q some kept.
+      let there = entry_there q (get (panes_in os) q) refl some in
+      not_below r e.0 q of (placed _ (q, there.0) there.1).0
+      (found.2 (slot_of r q) (q, there.0) there.1 (from_past first last after start between past (slot_of r q) (q, there.0) there.1 kept)))
 
   -- a place with a pane has it in its slot
   pub there_in : (p : Place) → is_some (get (panes_in os) p) ≡ true → (v : P) × (slot_at os (slot_of r p) ≡ Some (p, v))

@@ -1,12 +1,12 @@
 -- Windows on the grid of a ring, and the order of their places.
-use Rattle.std.proofs.Common.{SFits, w64, rules, Option, Some, None, ◌≡◌, ℕ, suc, ◌+◌, ◌-◌, ◌*◌, ◌/◌, ◌%◌, ◌<◌, ◌≤◌, true, false, ℤ, pos, negsuc, ◌+ℤ◌, ◌*ℤ◌, ◌<ℤ◌, ◌≤ℤ◌, refl, sym, ap, subst, ◌∙◌, arith}
-use Rattle.std.specs.Int.{int_rem_euclid, int_div_euclid}
+use Rattle.std.proofs.Common.{SFits, w64, rules, Option, Some, None, ◌≡◌, ℕ, suc, ◌+◌, ◌-◌, ◌*◌, ◌/◌, ◌%◌, ◌<◌, ◌≤◌, true, false, ℤ, pos, negsuc, ◌+ℤ◌, ◌-ℤ◌, ◌*ℤ◌, ◌<ℤ◌, ◌≤ℤ◌, refl, sym, ap, subst, ◌∙◌, arith}
+use Rattle.std.specs.Int.{int_max, int_rem_euclid, int_div_euclid}
 use Rattle.std.specs.Bool.{Decides}
 use Rattle.std.specs.Option.{SomeIff, option_eq}
 use Rattle.std.specs.Ordering.{int_eq, int_cmp, nat_cmp}
 use Rattle.std.specs.declared.cmp.Ordering.TheVariants.{Less, Equal}
 use lib.Signed.{le_z}
-use Rattle.std.proofs.lemmas.Int.{ints, by_lt_z}
+use Rattle.std.proofs.lemmas.Int.{ints, by_lt_z, int_max_is}
 use Rattle.std.proofs.lemmas.Nat.{row_fits}
 use Rattle.std.proofs.lemmas.Bool.Decides.{nat_tests, Decides-like, Decides-int_eq}
 use Rattle.std.proofs.Math.Nat.{div-add-mod'}
@@ -14,7 +14,7 @@ use Rattle.std.proofs.Math.IntN.{negsuc-*ℤ-pos}
 use Rattle.wsm_semantics.specs.declared.place.Place.{Place}
 use Rattle.wsm_panes.specs.declared.ring.Ring.{Ring}
 use Rattle.wsm_panes.specs.Place.{place_cmp}
-use Rattle.wsm_panes.specs.Ring.{IsRing, IsOfRing, window_number, row_of, slot_of}
+use Rattle.wsm_panes.specs.Ring.{IsFirstPast, IsOnGrid, IsRing, IsOfRing, window_number, row_of, slot_of}
 use Rattle.wsm_windows.proofs.Multiples.{rem_below, times_more}
 use Rattle.wsm_windows.proofs.Bounds.{next_on_grid as next_multiple}
 
@@ -109,3 +109,34 @@ le_from x y h = grind (arith, ints)
 
 pub lt_from : (x y : ℤ) → le_z x y ≡ false → y <ℤ x
 lt_from x y h = grind (arith, ints)
+
+-- the next time on the grid behind a time
+pub record IsNextOnGrid (p before next : ℤ) : Type 0 where
+  pub grid : (k : ℤ) × (next ≡ k *ℤ p)
+  pub behind : before <ℤ next
+  pub near : next ≤ℤ (before +ℤ p)
+  pub least : (l other : ℤ) → other ≡ l *ℤ p → before <ℤ other → next ≤ℤ other
+
+pub behind_on_grid : (p before next : ℤ) → pos 1 ≤ℤ p → next ≡ before +ℤ (p -ℤ int_rem_euclid before p) → IsNextOnGrid p before next
+behind_on_grid (pos p) before next h is =
+    let m = rem_below before p (omega (arith, ints, h)) in
+    let q = int_div_euclid before (pos p) in
+    let x = q *ℤ pos p in
+    let whole : before ≡ x +ℤ pos m.0 = quot_rem before p (omega (arith, ints, h)) ∙ ap (λ (r : ℤ). x +ℤ r) m.1 in
+    let left : next ≡ before +ℤ (pos p -ℤ pos m.0) = is ∙ ap (λ (r : ℤ). before +ℤ (pos p -ℤ r)) m.1 in
+    let sum : next ≡ x +ℤ pos p = omega (arith, ints, whole, left) in
+    record {
+      grid = (q +ℤ pos 1, sum ∙ on_grid_next q (pos p) x h refl);
+      behind = omega (arith, ints, whole, left, m.2);
+      near = omega (arith, ints, left, m.2);
+      least = λ l other on past. let far : (x +ℤ pos p) ≤ℤ other = next_on_grid (pos p) q l x other h refl on (omega (arith, ints, whole, past)) in omega (arith, ints, sum, far);
+    }
+behind_on_grid (negsuc p) before next h is = absurd (omega (arith, ints))
+
+-- the later of a first start and the next one behind a time less the size
+pub later_past : (r : Ring) (first after before next start : ℤ) → IsOnGrid r first → IsNextOnGrid r.period before next → before ≡ after -ℤ r.size → start ≡ int_max first next → IsFirstPast r first after start
+later_past r first after before next start on is less most = by_lt_z {P = IsFirstPast r first after start} first next
+    (λ low. let same : start ≡ next = omega (arith, ints, most, int_max_is first next, low) in
+    rw same (is.grid, omega (arith, ints, is.behind, less), λ other grid from ends. is.least grid.0 other grid.1 (omega (arith, ints, ends, less))))
+    (λ high. let same : start ≡ first = omega (arith, ints, most, int_max_is first next, high) in
+    rw same (on, omega (arith, ints, is.behind, less, high), λ other grid from ends. from))

@@ -1,5 +1,5 @@
 -- Setting a key in a list of entries in any order: at the place where a scan stops.
-use Rattle.std.proofs.Common.{◌≡◌, ◌≢◌, ◌⊎◌, ℕ, zero, suc, ◌<◌, ◌≤◌, Bool, true, false, cond, T, Option, Some, None, List, [], ◌∷◌, length, get_or, set, refl, sym, ap, ◌∙◌, inl, inr, arith}
+use Rattle.std.proofs.Common.{◌≡◌, ◌≢◌, ℕ, zero, suc, ◌<◌, ◌≤◌, Bool, true, false, cond, T, Option, Some, None, List, [], ◌∷◌, length, get_or, set, refl, sym, ap, ◌∙◌, inl, inr, arith}
 use Rattle.std.specs.Prelude.{◌&&◌, insert}
 use Rattle.wsm_panes.specs.Place.{before}
 use Rattle.std.specs.declared.cmp.Ordering.{Ordering}
@@ -98,7 +98,7 @@ module _ {K X : Type 0} (R : K → K → Ordering) where
   ]
 
   -- an entry of those that are above a key
-  less_at : (x : K) (es : List (K × X)) (i : ℕ) (d : K × X) → T (below_all R x es) → i < length es → R x (get_or es i d).0 ≡ Less
+  pub less_at : (x : K) (es : List (K × X)) (i : ℕ) (d : K × X) → T (below_all R x es) → i < length es → R x (get_or es i d).0 ≡ Less
   less_at x [] i d below within = absurd (omega arith)
   less_at x (e ∷ es) zero d below within = lesser (R x e.0) (first_of_and (is_lt (R x e.0)) _ below)
   less_at x (e ∷ es) (suc i) d below within = less_at x es i d (second_of_and (is_lt (R x e.0)) _ below) (omega arith)

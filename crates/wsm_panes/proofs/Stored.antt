@@ -7,8 +7,8 @@ use Rattle.std.specs.Option.{is_some}
 use Rattle.std.specs.Ordering.{is_lt}
 use Rattle.std.specs.FinMap.Entries.{find, put, is_sorted, below_all}
 use Rattle.wsm_semantics.specs.declared.place.Place.{Place}
-use Rattle.wsm_panes.specs.Place.{place_cmp, before}
-use Rattle.wsm_panes.specs.Walk.{following, place_due}
+use Rattle.wsm_panes.specs.Place.{place_cmp, before, is_kept}
+use Rattle.wsm_panes.specs.Walk.{first_past, following, place_due}
 use Rattle.wsm_panes.specs.Stored.{listed, same, shown, uses, with_pane}
 use Rattle.wsm_panes.proofs.Entries.{places_total}
 use Rattle.wsm_semantics.proofs.Tables.{cases_Ordering}
@@ -102,28 +102,6 @@ module _ {P : Type 0} (panes : List P) where
       rw is (ap (λ o. slice_get (with_pane e.0 o (shown panes es)) 0) pane)
   shown_at (f ∷ es) (suc i) e p h at pane = ap (λ fs. slice_get fs (suc i)) (shown_cons f es h.0).1 ∙ shown_at es i e p h.1 at pane
 
-  abbrev entry_with : Place → Option P → Option (Place × P)
-  entry_with place None = None
-  entry_with place (Some pane) = Some (place, pane)
-
-  abbrev pub entry_of : Option (Place × ℕ) → Option (Place × P)
-  entry_of None = None
-  entry_of (Some e) = entry_with e.0 (slice_get panes e.1)
-
-  pub shown_nth : (es : List (Place × ℕ)) (i : ℕ) → AreIn panes es → slice_get (shown panes es) i ≡ entry_of (slice_get es i)
-  shown_nth [] i h = refl
-  shown_nth (e ∷ es) zero h = let here = shown_cons e es h.0 in ap (λ fs. slice_get fs 0) here.1 ∙ sym (ap (entry_with e.0) here.2)
-  shown_nth (e ∷ es) (suc i) h = ap (λ fs. slice_get fs (suc i)) (shown_cons e es h.0).1 ∙ shown_nth es i h.1
-
-  pub shown_following : (q : Place) (es : List (Place × ℕ)) → AreIn panes es → following q (shown panes es) ≡ entry_of (following q es)
-  shown_following q [] h = refl
-  shown_following q (e ∷ es) h =
-      let here = shown_cons e es h.0 in
-      elim (cases_Bool (is_lt (place_cmp q e.0))) [
-        | inl behind ↦ rw (here.2, behind) (sym (ap (entry_with e.0) here.2))
-        | inr before ↦ rw (here.2, before) (shown_following q es h.1)
-      ]
-
   -- which of them are due
   pub due_nth : (limit : ℤ) (es : List (Place × ℕ)) (i : ℕ) → AreIn panes es → place_due limit (slice_get (shown panes es) i) ≡ place_due limit (slice_get es i)
   due_nth limit [] i h = refl
@@ -135,6 +113,12 @@ module _ {P : Type 0} (panes : List P) where
   due_following limit q (e ∷ es) h =
       ap (λ fs. place_due limit (following q fs)) (shown_cons e es h.0).1
       ∙ elim (cases_Bool (is_lt (place_cmp q e.0))) [ inl behind ↦ rw behind refl | inr before ↦ rw before (due_following limit q es h.1) ]
+
+  pub due_past : (limit after : ℤ) (es : List (Place × ℕ)) → AreIn panes es → place_due limit (first_past after (shown panes es)) ≡ place_due limit (first_past after es)
+  due_past limit after [] h = refl
+  due_past limit after (e ∷ es) h =
+      ap (λ fs. place_due limit (first_past after fs)) (shown_cons e es h.0).1
+      ∙ elim (cases_Bool (is_kept after e.0)) [ inl kept ↦ rw kept refl | inr gone ↦ rw gone (due_past limit after es h.1) ]
 
   pub shown_filter : (t : Place → Bool) (es : List (Place × ℕ)) → AreIn panes es → shown panes (filter (λ e. t e.0) es) ≡ filter (λ e. t e.0) (shown panes es)
   shown_filter t [] h = refl

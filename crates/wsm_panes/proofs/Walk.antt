@@ -1,15 +1,15 @@
 -- The entry that follows a place in a sorted list.
-use Rattle.std.proofs.Common.{◌≡◌, ℕ, zero, suc, ◌<◌, true, T, Some, None, List, [], ◌∷◌, length, get_or, refl, sym, ap, ◌∙◌, inl, inr, subst, ◌+◌, arith}
+use Rattle.std.proofs.Common.{◌≡◌, ℕ, zero, suc, ◌<◌, true, T, Some, List, [], ◌∷◌, length, get_or, refl, sym, ap, ◌∙◌, inl, inr, subst, ◌+◌, arith}
 use Rattle.std.specs.Prelude.{slice_get}
 use Rattle.std.specs.declared.cmp.Ordering.TheVariants.{Less, Equal, Greater}
-use Rattle.std.specs.FinMap.{find, is_sorted}
+use Rattle.std.specs.FinMap.{is_sorted}
 use Rattle.std.specs.FinMap.Entries.{below_all}
 use Rattle.std.specs.Ordering.{is_lt, ordering_reverse}
 use Rattle.std.proofs.lemmas.Option.{same_Some}
 use Rattle.std.specs.Cmp.{tied_itself}
 use Rattle.wsm_semantics.specs.declared.place.Place.{Place}
 use Rattle.wsm_panes.specs.Place.{place_cmp, before}
-use Rattle.wsm_panes.specs.Search.{IsAt, IsGapFor}
+use Rattle.wsm_panes.specs.Search.{IsAt}
 use Rattle.wsm_panes.specs.Walk.{following}
 use Rattle.wsm_panes.proofs.Entries.{places_total, exact_places}
 use Rattle.wsm_semantics.proofs.Tables.{cases_Ordering}
@@ -19,17 +19,6 @@ use Rattle.wsm_panes.proofs.Sorted.{lesser, first_of_and, second_of_and}
 pub following_below : {P : Type 0} (p : Place) (es : List (Place × P)) → T (below_all place_cmp p es) → following p es ≡ slice_get es 0
 following_below p [] below = refl
 following_below p (e ∷ es) below = rw (lesser (place_cmp p e.0) (first_of_and (is_lt (place_cmp p e.0)) _ below)) refl
-
--- where no entry is at the place, the one where a scan stops
-pub following_gap : {P : Type 0} (p : Place) (es : List (Place × P)) → find place_cmp p es ≡ None → following p es ≡ slice_get es (before place_cmp p es)
-following_gap p [] absent = refl
-following_gap p (e ∷ es) absent = elim (cases_Ordering (place_cmp p e.0)) [
-  | inl less ↦ rw less refl
-  | inr rest ↦ elim rest [
-    | inl tie ↦ let bad : Some e.1 ≡ None = rw tie at absent in cc
-    | inr more ↦ let left : find place_cmp p es ≡ None = rw more at absent in rw more (following_gap p es left)
-  ]
-]
 
 -- where one is, the next one
 pub following_at : {P : Type 0} (p : Place) (es : List (Place × P)) (d : Place × P) → T (is_sorted place_cmp es) → before place_cmp p es < length es → (get_or es (before place_cmp p es) d).0 ≡ p → following p es ≡ slice_get es (suc (before place_cmp p es))
@@ -50,9 +39,6 @@ following_at p (e ∷ es) d sorted within same = elim (cases_Ordering (place_cmp
         rw more (following_at p es d (second_of_and (below_all place_cmp e.0 es) _ sorted) (omega arith) same')
   ]
 ]
-
-pub after_gap : {P : Type 0} (p : Place) (es : List (Place × P)) (i : ℕ) → IsGapFor es p i → following p es ≡ slice_get es i
-after_gap p es i gap = following_gap p es gap.absent ∙ ap (slice_get es) (sym gap.stops)
 
 pub after_at : {P : Type 0} (p : Place) (es : List (Place × P)) (i : ℕ) → is_sorted place_cmp es ≡ true → IsAt es p i → following p es ≡ slice_get es (i + 1)
 after_at p [] i sorted here = absurd (omega (arith, here.within))

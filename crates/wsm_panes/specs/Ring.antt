@@ -119,6 +119,10 @@ abbrev pub IsLastDue : Ring → ℤ → ℤ → ℤ → Option ℤ → Type 0
 IsLastDue r first last limit None = (start : ℤ) → first ≤ℤ start → limit <ℤ (start +ℤ r.size)
 IsLastDue r first last limit (Some until) = (until ≡ int_min last (limit -ℤ r.size)) × FitsSigned w64 (until +ℤ r.size)
 
+-- the first start on the grid, of those from a first start on, of a window that ends past a time
+abbrev pub IsFirstPast : Ring → ℤ → ℤ → ℤ → Type 0
+IsFirstPast r first after start = IsOnGrid r start × (after <ℤ (start +ℤ r.size)) × ((other : ℤ) → IsOnGrid r other → first ≤ℤ other → after <ℤ (other +ℤ r.size) → start ≤ℤ other)
+
 -- whether a slot has an entry of the window that starts at a time
 abbrev pub starts_at : {P : Type 0} → ℤ → Option (Place × P) → Bool
 starts_at start None = false

@@ -9,6 +9,11 @@ abbrev pub following : {P : Type 0} → Place → List (Place × P) → Option (
 following place [] = None
 following place (e ∷ es) = if is_lt (place_cmp place e.0) then Some e else following place es
 
+-- the first entry whose window ends past a time
+abbrev pub first_past : {P : Type 0} → ℤ → List (Place × P) → Option (Place × P)
+first_past after [] = None
+first_past after (e ∷ es) = if is_kept after e.0 then Some e else first_past after es
+
 -- the place of an entry, if there is one and its window ends by a limit
 abbrev pub place_due : {P : Type 0} → ℤ → Option (Place × P) → Option Place
 place_due limit None = None

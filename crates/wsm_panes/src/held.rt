@@ -12,7 +12,7 @@ ghost use Rattle.wsm_record.specs.declared.event.Value.{Value as OneValue};
 ghost use Rattle.wsm_panes.specs.Held.{CanEnter, IsKept, entries_of, joined_panes, joins_sessions, once_fired, room_of, session_entered, with_entered};
 ghost use Rattle.wsm_panes.specs.Ring.{IsRing};
 ghost use Rattle.wsm_panes.specs.OfKeys.{AreOfKeys, AreDropped};
-ghost use Rattle.wsm_panes.specs.Walk.{following, place_due, place_found};
+ghost use Rattle.wsm_panes.specs.Walk.{first_past, following, place_due, place_found};
 
 use crate::entering::enter_windows;
 use crate::joining::{enter_session, linked_pair};
@@ -179,6 +179,17 @@ impl HeldPanes {
         match self.shape {
             Shape::Session(_) => self.list.first_due(limit),
             _ => self.ring.first_due(limit),
+        }
+    }
+
+    /// Where the first pane is, in the order of the places, of those whose windows end past a time, if
+    /// its window ends by a limit.
+    pub fn first_due_after(&self, after: i64, limit: i64) -> Option<Spot>
+        ensures { place_found result ≡ place_due limit (first_past after (entries_of self.now)) }
+    {
+        match self.shape {
+            Shape::Session(_) => self.list.first_due_after(after, limit),
+            _ => self.ring.first_due_after(after, limit),
         }
     }
 

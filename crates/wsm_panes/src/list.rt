@@ -10,7 +10,7 @@ ghost use Rattle.wsm_panes.specs.Held.{once_fired};
 ghost use Rattle.wsm_panes.specs.Place.{place_cmp, is_kept, is_other};
 ghost use Rattle.wsm_panes.specs.Search.{IsAt, IsGapFor};
 ghost use Rattle.wsm_panes.specs.Stored.{AreStored, listed, shown, uses};
-ghost use Rattle.wsm_panes.specs.Walk.{following, place_due, place_found};
+ghost use Rattle.wsm_panes.specs.Walk.{first_past, following, place_due, place_found};
 
 use crate::pane::Pane;
 use crate::recording::TakesRecords;
@@ -114,14 +114,6 @@ impl<P: TakesRecords> PaneTable<P> for ListTable<P> {
         self.entries.len()
     }
 
-    fn first(&self) -> Option<(Place, P)> {
-        entry_at(&self.entries, &self.store, 0)
-    }
-
-    fn next(&self, place: Place) -> Option<(Place, P)> {
-        entry_at(&self.entries, &self.store, behind(&self.entries, place))
-    }
-
     fn enter(&mut self, place: Place, kinds: &[Kind], values: &[Value]) {
         enter_in(&mut self.entries, &mut self.store, place, kinds, values);
     }
@@ -136,6 +128,10 @@ impl<P: TakesRecords> PaneTable<P> for ListTable<P> {
 
     fn first_due(&self, limit: i64) -> Option<Spot> {
         due_at(&self.entries, 0, limit)
+    }
+
+    fn first_due_after(&self, after: i64, limit: i64) -> Option<Spot> {
+        due_at(&self.entries, ended(&self.entries, after), limit)
     }
 
     fn next_due(&self, spot: Spot, limit: i64) -> Option<Spot> {
@@ -199,27 +195,22 @@ fn due_at(entries: &[Entry], at: usize, limit: i64) -> Option<Spot>
     }
 }
 
-// Where the entries behind a place begin.
-fn behind(entries: &[Entry], place: Place) -> usize
+// How many entries have a window that ends by a time: the first ones.
+fn ended(entries: &[Entry], time: i64) -> usize
     requires { IsTrue (map.is_sorted place_cmp entries.now) }
-    ensures { following place entries.now ≡ slice_get entries.now result }
+    ensures { first_past time entries.now ≡ slice_get entries.now result }
 {
-    match search(entries, place) {
-        Ok(i) => i + 1,
-        Err(i) => i,
+    let mut low = 0;
+    let mut high = entries.len();
+    while low < high {
+        let middle = low + (high - low) / 2;
+        if expires(entries[middle].0, time) {
+            low = middle + 1;
+        } else {
+            high = middle;
+        }
     }
-}
-
-fn entry_at<P: Copy>(entries: &[Entry], store: &Store<P>, i: usize) -> Option<(Place, P)>
-    requires { AreStored store.now.panes.items store.now.free.items entries.now }
-    ensures { result ≡ slice_get (shown store.now.panes.items entries.now) i }
-{
-    if i < entries.len() {
-        let (place, slot) = entries[i];
-        Some((place, store.get(slot)))
-    } else {
-        None
-    }
+    low
 }
 
 // Where the place is, or where it would go.

@@ -7,14 +7,14 @@ ghost use Rattle.wsm_semantics.specs.Summaries.{Pane as AnyPane};
 ghost use Rattle.wsm_panes.specs.Held.{once_fired};
 ghost use Rattle.wsm_panes.specs.Place.{place_cmp};
 ghost use Rattle.wsm_panes.specs.Ring as ring;
-ghost use Rattle.wsm_panes.specs.Ring.{IsLastDue, IsRing, RingAdmits, window_number};
+ghost use Rattle.wsm_panes.specs.Ring.{IsFirstPast, IsLastDue, IsOnGrid, IsRing, RingAdmits, window_number};
 
 use crate::pane::Pane;
 use crate::recording::TakesRecords;
 use crate::ring::Ring;
 use crate::slots::{
-    Slot, clear_expired, entry_in, fill, fire_in, first_on, first_until, free_slots, is_at,
-    pane_at, pane_in, record_in, spot_in, take_out,
+    Slot, clear_expired, fill, fire_in, first_on, first_until, free_slots, is_at, pane_at, pane_in,
+    record_in, spot_in, take_out,
 };
 use crate::spot::Spot;
 use crate::table::PaneTable;
@@ -149,17 +149,6 @@ impl<P: TakesRecords> PaneTable<P> for RingTable<P> {
         self.len
     }
 
-    fn first(&self) -> Option<(Place, P)> {
-        let found = first_until(self.ring, &self.slots, self.first, 0, self.last);
-        entry_in(&self.slots, found)
-    }
-
-    fn next(&self, place: Place) -> Option<(Place, P)> {
-        let key = place.key as usize + 1;
-        let found = first_until(self.ring, &self.slots, place.start, key, self.last);
-        entry_in(&self.slots, found)
-    }
-
     fn find(&self, place: Place) -> Option<Spot> {
         let at = self.ring.slot(place);
         if is_at(&self.slots, at, place) {
@@ -172,6 +161,13 @@ impl<P: TakesRecords> PaneTable<P> for RingTable<P> {
     fn first_due(&self, limit: i64) -> Option<Spot> {
         let last = last_due(self.ring, self.first, self.last, limit)?;
         let found = first_until(self.ring, &self.slots, self.first, 0, last);
+        spot_in(&self.slots, found)
+    }
+
+    fn first_due_after(&self, after: i64, limit: i64) -> Option<Spot> {
+        let last = last_due(self.ring, self.first, self.last, limit)?;
+        let start = first_past(self.ring, self.first, after);
+        let found = first_until(self.ring, &self.slots, start, 0, last);
         spot_in(&self.slots, found)
     }
 
@@ -199,6 +195,22 @@ fn last_due(ring: Ring, first: i64, last: i64, limit: i64) -> Option<i64>
         None
     } else {
         Some(last.min(latest))
+    }
+}
+
+// The first start on the grid, of those from a first start on, of a window that ends past a time.
+fn first_past(ring: Ring, first: i64, after: i64) -> i64
+    requires ring { IsRing ring }
+    requires first { IsOnGrid ring first }
+    ensures { IsFirstPast ring first after result }
+{
+    match after.checked_sub(ring.size) {
+        // The next start on the grid begins a window that ends past the time.
+        Some(before) => {
+            let next = before + (ring.period - before.rem_euclid(ring.period));
+            first.max(next)
+        }
+        None => first,
     }
 }
 

@@ -174,17 +174,6 @@ pub(crate) fn first_on<P: Copy>(
     first_until(ring, slots, start, key, last)
 }
 
-/// The entry in a slot, if one was found.
-pub(crate) fn entry_in<P: Copy>(slots: &[Slot<P>], found: Option<usize>) -> Option<(Place, P)>
-    requires { is_some (at_slot slots.now found) ≡ is_some found }
-    ensures { result ≡ at_slot slots.now found }
-{
-    match found {
-        Some(at) => slots[at],
-        None => None,
-    }
-}
-
 /// Where the entry in a slot is, if one was found.
 pub(crate) fn spot_in<P: Copy>(slots: &[Slot<P>], found: Option<usize>) -> Option<Spot>
     requires { is_some (at_slot slots.now found) ≡ is_some found }

@@ -3,12 +3,12 @@
 ghost use Rattle.std.specs.Prelude.{◌≡◌, ◌↔◌, ◌≤◌, Some, true, IfSome, IsSome, IsTrue, length, option_map, slice_get};
 ghost use Rattle.std.specs.FinMap as map;
 ghost use Rattle.wsm_panes.specs.Place.{place_cmp, is_kept};
-ghost use Rattle.wsm_panes.specs.Walk.{following, place_due, place_found};
+ghost use Rattle.wsm_panes.specs.Walk.{first_past, following, place_due, place_found};
 ghost use Rattle.wsm_fold.specs.Fold.{are_of_kinds};
 ghost use Rattle.wsm_semantics.specs.declared.place.Place.{Place as AnyPlace};
 
 use crate::recording::{TakesRecords, with_one_more};
-use crate::spot::{Spot, due};
+use crate::spot::Spot;
 use wsm_record::{Kind, Value};
 use wsm_semantics::Place;
 
@@ -53,15 +53,6 @@ pub trait PaneTable<P: TakesRecords> {
     fn len(&self) -> usize
         ensures { result ≡ map.len (panes self.now) };
 
-    /// The first pane in the order of the places, with its place.
-    fn first(&self) -> Option<(Place, P)>
-        ensures { result ≡ slice_get (map.entries (panes self.now)) 0 };
-
-    /// The pane behind the one at a place, in the order of the places, with its place.
-    fn next(&self, place: Place) -> Option<(Place, P)>
-        requires { map.contains_key (panes self.now) place ≡ true }
-        ensures { result ≡ following place (map.entries (panes self.now)) };
-
     /// Puts a record into the pane at a place, and makes a pane of it where none is. The record is
     /// folded by the values.
     fn enter(&mut self, place: Place, kinds: &[Kind], values: &[Value])
@@ -95,16 +86,15 @@ pub trait PaneTable<P: TakesRecords> {
     /// Where the first pane is in the order of the places, if its window ends by a limit, which is in
     /// event time.
     fn first_due(&self, limit: i64) -> Option<Spot>
-        ensures { place_found result ≡ place_due limit (slice_get (map.entries (panes self.now)) 0) }
-    {
-        due(self.first(), 0, limit)
-    }
+        ensures { place_found result ≡ place_due limit (slice_get (map.entries (panes self.now)) 0) };
+
+    /// Where the first pane is, in the order of the places, of those whose windows end past a time, if
+    /// its window ends by a limit.
+    fn first_due_after(&self, after: i64, limit: i64) -> Option<Spot>
+        ensures { place_found result ≡ place_due limit (first_past after (map.entries (panes self.now))) };
 
     /// Where the pane behind one is, in the order of the places, if its window ends by a limit.
     fn next_due(&self, spot: Spot, limit: i64) -> Option<Spot>
         requires { IsSome (map.get (panes self.now) spot.place) }
-        ensures { place_found result ≡ place_due limit (following spot.place (map.entries (panes self.now))) }
-    {
-        due(self.next(spot.place), 0, limit)
-    }
+        ensures { place_found result ≡ place_due limit (following spot.place (map.entries (panes self.now))) };
 }

@@ -1,4 +1,5 @@
-use Rattle.std.proofs.Common.{◌≡◌, ◌+◌, ◌∷◌, [], ◌++◌, ℤ, ℕ, List, Option, Some, None, length, drop, refl, sym, ap, subst, ◌∙◌, vec_len, vec_capacity, IsTrue, SFits, w64, to_z, of_z, to_z-of_z, arith}
+use Rattle.std.proofs.Common.{◌≡◌, ◌≤◌, ◌+◌, ◌+ℤ◌, ◌≤ℤ◌, ◌∷◌, [], ◌++◌, ℤ, ℕ, List, Option, Some, None, length, drop, refl, sym, ap, subst, ◌∙◌, vec_len, vec_capacity, IsTrue, SFits, w64, to_z, of_z, to_z-of_z, rules, arith}
+use Rattle.std.proofs.lemmas.Int.{ints, fits_signed_from_abs}
 use Rattle.std.proofs.lemmas.List.{drop_all}
 use Rattle.std.specs.Prelude.{slice_get}
 use Rattle.std.specs.List.{AllByRecursion}
@@ -18,15 +19,23 @@ use Rattle.wsm_panes.specs.Held.{Held, IsKept, entries_of}
 use Rattle.wsm_panes.specs.Walk.{place_due, place_found}
 use Rattle.wsm_firing.specs.declared.tally.Tally.{Tally}
 use Rattle.wsm_firing.specs.Tally.{tally_with}
+use Rattle.wsm_firing.specs.ByWatermark.{IsNextToFire}
 use Rattle.wsm_firing.specs.Firing.{CanAdd, rows_of}
 use Rattle.wsm_firing.specs.Streams.{Standing, Tells}
 use Rattle.wsm_firing.proofs.Standing.{tells_none, tells_on, can_tell_on}
 use Rattle.wsm_firing.proofs.Agreeing.{none_fires}
 use Rattle.wsm_firing.proofs.Behind.{none_due}
-use Rattle.wsm_firing.proofs.Walk.{holds_at, some_same, fired_first, still_due, held_due, entry_found, due_behind, as_it_was, fires_next, stays_next, fired_next, rest_stays}
+use Rattle.wsm_firing.proofs.Jumps.{fired_on, fires_on}
+use Rattle.wsm_firing.proofs.Walk.{holds_at, some_same, fired_first, still_due, held_due, entry_due, entry_found, as_it_was, fires_next, stays_next, fired_next, rest_stays}
 use Rattle.wsm_firing.proofs.Counting.{ComesTo, first, can_add, next, last_tally, last_rows, kept_on}
 use Rattle.wsm_firing.proofs.watermark.fire_by_watermark.Goals as goal
 use Rattle.wsm_firing.proofs.watermark.fire_by_watermark.Goals.{in-Some-watermark_kind, in_default-watermark_kind}
+
+pub last_expired-expired-requires : goal.last_expired-expired-requires
+last_expired-expired-requires c =
+    let span : IsSpan c.header-header.result.now.lateness = subst (λ (h : Header). IsSpan h.lateness) (sym c.header-header.ensures.header) (lawful_programs.lawful c.program.result.now c.header-header.ensures.lawful).lateness in
+    let wait : SFits w64 c.header-header.result.now.lateness = fits_signed_from_abs w64 c.header-header.result.now.lateness (grind (arith, ints, span.low, span.high)) in
+    simp to_z-of_z span.low
 
 pub loop-init : goal.loop-init
 loop-init c =
@@ -35,13 +44,28 @@ loop-init c =
     let kind : Place → Pane (List Value) → Option PaneKind = kind_by_watermark q old new in let all : List (Fired (List Value)) = fires q kind es in
     let room : ℕ = vec_capacity c.args.rows.now in
     let old_fits : SFits w64 c.args.old = c.ranges.old in let new_fits : SFits w64 c.args.new = c.ranges.new in
+    let late : ℤ = to_z w64 (of_z w64 c.last_expired-expired.result) in
+    let header : header_of c.header-header.result.now ≡ p.header = c.header-header.ensures.header ∙ ap (λ (p : Program). p.header) c.program.ensures.program in
+    let late_fits : SFits w64 c.last_expired-expired.result = search rules in
+    let new_fits : SFits w64 c.args.new = c.ranges.new in
+    let span : IsSpan c.header-header.result.now.lateness = subst (λ (h : Header). IsSpan h.lateness) (sym c.header-header.ensures.header) (lawful_programs.lawful c.program.result.now c.header-header.ensures.lawful).lateness in
+    let wait : SFits w64 c.header-header.result.now.lateness = fits_signed_from_abs w64 c.header-header.result.now.lateness (grind (arith, ints, span.low, span.high)) in
+    let by : new ≤ℤ (late +ℤ c.header-header.result.now.lateness) = simp to_z-of_z (simp to_z-of_z at c.last_expired-expired.ensures.expires) in
+    let expires : new ≤ℤ (late +ℤ q.clock.lateness) = subst (λ (h : Header). new ≤ℤ (late +ℤ h.lateness)) header by in
+    let found = place_found c.first_to_fire-next.result in
+    let on : IsNextToFire late old new es 0 found = c.first_to_fire-next.ensures in
+    let comes : ComesTo p room c.none-tally.result c.args.rows.now.items all all = simp to_z-of_z (first p room c.none-tally.result c.args.rows.now.items _ c.none-tally.ensures c.requires.empty c.requires.can.can) in
     record {
-      panes = refl;
       keeps = record { keys = refl; shape = refl; live = refl };
       tells = tells_none c.args.streams.now es;
       capacity = refl;
-      next = c.first_due-next.ensures;
-      comes = simp to_z-of_z (first p room c.none-tally.result c.args.rows.now.items _ c.none-tally.ensures c.requires.empty c.requires.can.can);
+      walked = (
+        on.at,
+        omega arith,
+        fired_on (plan_of p) q late old new es es 0 found expires refl on,
+        on.next,
+        subst (λ fs. ComesTo p room c.none-tally.result c.args.rows.now.items fs all) (fires_on (plan_of p) q late old new es es 0 found expires refl on) comes,
+      );
     }
 
 pub pane-requires : goal.pane-requires
@@ -50,8 +74,8 @@ pane-requires c =
     let old : ℤ = to_z w64 (of_z w64 c.args.old) in let new : ℤ = to_z w64 (of_z w64 c.args.new) in
     let kind : Place → Pane (List Value) → Option PaneKind = kind_by_watermark q old new in let all : List (Fired (List Value)) = fires q kind es in
     let room : ℕ = vec_capacity c.args.rows.now in
-    let i = c.loop.counter in let now = entries_of c.loop.held in let so_far = c.loop.invariant.panes in let spot = c.in-Some.spot in
-    let due : place_due new (slice_get now i) ≡ Some spot.place = sym c.loop.invariant.next ∙ ap place_found c.in-Some.is in
+    let i = c.loop.invariant.walked.0 in let now = entries_of c.loop.held in let so_far = c.loop.invariant.walked.2 in let spot = c.in-Some.spot in
+    let due : place_due new (slice_get now i) ≡ Some spot.place = sym c.loop.invariant.walked.3 ∙ ap place_found c.in-Some.is in
     held_due new now i spot.place (map.entries_sorted c.loop.held.panes) due
 
 pub watermark_kind-requires-clause-lateness : goal.watermark_kind-requires-clause-lateness
@@ -64,8 +88,8 @@ watermark_kind-requires-clause-placed c =
     let old : ℤ = to_z w64 (of_z w64 c.args.old) in let new : ℤ = to_z w64 (of_z w64 c.args.new) in
     let kind : Place → Pane (List Value) → Option PaneKind = kind_by_watermark q old new in let all : List (Fired (List Value)) = fires q kind es in
     let room : ℕ = vec_capacity c.args.rows.now in
-    let i = c.loop.counter in let now = entries_of c.loop.held in let so_far = c.loop.invariant.panes in let spot = c.in-Some.spot in
-    let due : place_due new (slice_get now i) ≡ Some spot.place = sym c.loop.invariant.next ∙ ap place_found c.in-Some.is in
+    let i = c.loop.invariant.walked.0 in let now = entries_of c.loop.held in let so_far = c.loop.invariant.walked.2 in let spot = c.in-Some.spot in
+    let due : place_due new (slice_get now i) ≡ Some spot.place = sym c.loop.invariant.walked.3 ∙ ap place_found c.in-Some.is in
     let e : Place × Pane (List Value) = (spot.place, c.pane.result.now) in
     let at : slice_get now i ≡ Some e = entry_found new now i spot.place (map.entries_sorted c.loop.held.panes) due c.pane.result.now c.pane.ensures in
     let there = as_it_was (plan_of p) q kind es now i e so_far sorted at in
@@ -81,8 +105,8 @@ fire-requires-clause-held c =
     let old : ℤ = to_z w64 (of_z w64 c.args.old) in let new : ℤ = to_z w64 (of_z w64 c.args.new) in
     let kind : Place → Pane (List Value) → Option PaneKind = kind_by_watermark q old new in let all : List (Fired (List Value)) = fires q kind es in
     let room : ℕ = vec_capacity c.args.rows.now in
-    let i = c.loop.counter in let now = entries_of c.loop.held in let so_far = c.loop.invariant.panes in let spot = c.in-Some.spot in
-    let due : place_due new (slice_get now i) ≡ Some spot.place = sym c.loop.invariant.next ∙ ap place_found c.in-Some.is in
+    let i = c.loop.invariant.walked.0 in let now = entries_of c.loop.held in let so_far = c.loop.invariant.walked.2 in let spot = c.in-Some.spot in
+    let due : place_due new (slice_get now i) ≡ Some spot.place = sym c.loop.invariant.walked.3 ∙ ap place_found c.in-Some.is in
     held_due new now i spot.place (map.entries_sorted c.loop.held.panes) due
 
 pub fire-requires-clause-can : goal.fire-requires-clause-can
@@ -91,8 +115,8 @@ fire-requires-clause-can c =
     let old : ℤ = to_z w64 (of_z w64 c.args.old) in let new : ℤ = to_z w64 (of_z w64 c.args.new) in
     let kind : Place → Pane (List Value) → Option PaneKind = kind_by_watermark q old new in let all : List (Fired (List Value)) = fires q kind es in
     let room : ℕ = vec_capacity c.args.rows.now in
-    let i = c.loop.counter in let now = entries_of c.loop.held in let so_far = c.loop.invariant.panes in let spot = c.in-Some.spot in
-    let due : place_due new (slice_get now i) ≡ Some spot.place = sym c.loop.invariant.next ∙ ap place_found c.in-Some.is in
+    let i = c.loop.invariant.walked.0 in let now = entries_of c.loop.held in let so_far = c.loop.invariant.walked.2 in let spot = c.in-Some.spot in
+    let due : place_due new (slice_get now i) ≡ Some spot.place = sym c.loop.invariant.walked.3 ∙ ap place_found c.in-Some.is in
     let e : Place × Pane (List Value) = (spot.place, c.pane.result.now) in
     let at : slice_get now i ≡ Some e = entry_found new now i spot.place (map.entries_sorted c.loop.held.panes) due c.pane.result.now c.pane.ensures in
     let there = as_it_was (plan_of p) q kind es now i e so_far sorted at in
@@ -103,20 +127,20 @@ fire-requires-clause-can c =
     let same : c.pane.result.now ≡ h = some_same (sym c.pane.ensures ∙ found) in
     let f : Fired (List Value) = record { kind = c.in-Some-watermark_kind.kind; place = e.0; count = fired_count p.header.mode e.1; folded = e.1.folded } in
     let split : fires q kind (drop i es) ≡ f ∷ left = fired_next (plan_of p) q kind es now i e so_far sorted at (Some c.in-Some-watermark_kind.kind) (sym is ∙ c.in-Some-watermark_kind.is) in
-    let comes : ComesTo p room c.loop.tally c.loop.rows.items ((f ∷ []) ++ left) all = subst (λ fs. ComesTo p room c.loop.tally c.loop.rows.items fs all) split c.loop.invariant.comes in
+    let comes : ComesTo p room c.loop.tally c.loop.rows.items ((f ∷ []) ++ left) all = subst (λ fs. ComesTo p room c.loop.tally c.loop.rows.items fs all) split c.loop.invariant.walked.4 in
     let can : CanAdd p room (length c.loop.rows.items) c.loop.tally (f ∷ []) = can_add p room c.loop.tally c.loop.rows.items (f ∷ []) left all comes in
     subst (λ (h : Pane (List Value)). CanAdd p (vec_capacity c.loop.rows) (vec_len c.loop.rows) c.loop.tally (record { kind = c.in-Some-watermark_kind.kind; place = e.0; count = fired_count p.header.mode h; folded = h.folded } ∷ [])) same
     (subst (λ (n : ℕ). CanAdd p (vec_capacity c.loop.rows) n c.loop.tally (f ∷ [])) (sym c.loop.rows.ok.0)
     (subst (λ (n : ℕ). CanAdd p n (length c.loop.rows.items) c.loop.tally (f ∷ [])) (sym c.loop.invariant.capacity) can))
 
-pub next_due-next-requires : goal.next_due-next-requires
-next_due-next-requires c =
+pub next_to_fire-next-requires-clause-there : goal.next_to_fire-next-requires-clause-there
+next_to_fire-next-requires-clause-there c =
     let p = c.args.verified.now in let q = query_of p in let es = entries_of c.args.held.now in let sorted = map.entries_sorted c.args.held.now.panes in
     let old : ℤ = to_z w64 (of_z w64 c.args.old) in let new : ℤ = to_z w64 (of_z w64 c.args.new) in
     let kind : Place → Pane (List Value) → Option PaneKind = kind_by_watermark q old new in let all : List (Fired (List Value)) = fires q kind es in
     let room : ℕ = vec_capacity c.args.rows.now in
-    let i = c.loop.counter in let now = entries_of c.loop.held in let so_far = c.loop.invariant.panes in let spot = c.in-Some.spot in
-    let due : place_due new (slice_get now i) ≡ Some spot.place = sym c.loop.invariant.next ∙ ap place_found c.in-Some.is in
+    let i = c.loop.invariant.walked.0 in let now = entries_of c.loop.held in let so_far = c.loop.invariant.walked.2 in let spot = c.in-Some.spot in
+    let due : place_due new (slice_get now i) ≡ Some spot.place = sym c.loop.invariant.walked.3 ∙ ap place_found c.in-Some.is in
     let e : Place × Pane (List Value) = (spot.place, c.pane.result.now) in
     let at : slice_get now i ≡ Some e = entry_found new now i spot.place (map.entries_sorted c.loop.held.panes) due c.pane.result.now c.pane.ensures in
     let there = as_it_was (plan_of p) q kind es now i e so_far sorted at in
@@ -138,8 +162,8 @@ loop-preserved c =
     let old : ℤ = to_z w64 (of_z w64 c.args.old) in let new : ℤ = to_z w64 (of_z w64 c.args.new) in
     let kind : Place → Pane (List Value) → Option PaneKind = kind_by_watermark q old new in let all : List (Fired (List Value)) = fires q kind es in
     let room : ℕ = vec_capacity c.args.rows.now in
-    let i = c.loop.counter in let now = entries_of c.loop.held in let so_far = c.loop.invariant.panes in let spot = c.in-Some.spot in
-    let due : place_due new (slice_get now i) ≡ Some spot.place = sym c.loop.invariant.next ∙ ap place_found c.in-Some.is in
+    let i = c.loop.invariant.walked.0 in let now = entries_of c.loop.held in let so_far = c.loop.invariant.walked.2 in let spot = c.in-Some.spot in
+    let due : place_due new (slice_get now i) ≡ Some spot.place = sym c.loop.invariant.walked.3 ∙ ap place_found c.in-Some.is in
     let e : Place × Pane (List Value) = (spot.place, c.pane.result.now) in
     let at : slice_get now i ≡ Some e = entry_found new now i spot.place (map.entries_sorted c.loop.held.panes) due c.pane.result.now c.pane.ensures in
     let there = as_it_was (plan_of p) q kind es now i e so_far sorted at in
@@ -153,42 +177,63 @@ loop-preserved c =
     ] in
     let then = entries_of c.match-watermark_kind.held in let sorted_then = map.entries_sorted c.match-watermark_kind.held.panes in
     let due_then : place_due new (slice_get then i) ≡ Some spot.place = still_due (plan_of p) q kind new i (i + 1) i es now then so_far fired ∙ due in
-    let next_is : place_found c.next_due-next.result ≡ place_due new (slice_get then (i + 1)) = c.next_due-next.ensures ∙ due_behind new then i spot.place sorted_then due_then in
+    let here = entry_due new (slice_get then i) spot.place due_then in
+    let late : ℤ = to_z w64 (of_z w64 c.last_expired-expired.result) in
+    let late_fits : SFits w64 c.last_expired-expired.result = search rules in
+    let new_fits : SFits w64 c.args.new = c.ranges.new in
+    let span : IsSpan c.header-header.result.now.lateness = subst (λ (h : Header). IsSpan h.lateness) (sym c.header-header.ensures.header) (lawful_programs.lawful c.program.result.now c.header-header.ensures.lawful).lateness in
+    let wait : SFits w64 c.header-header.result.now.lateness = fits_signed_from_abs w64 c.header-header.result.now.lateness (grind (arith, ints, span.low, span.high)) in
+    let by : new ≤ℤ (late +ℤ c.header-header.result.now.lateness) = simp to_z-of_z (simp to_z-of_z at c.last_expired-expired.ensures.expires) in
+    let expires : new ≤ℤ (late +ℤ q.clock.lateness) = subst (λ (h : Header). new ≤ℤ (late +ℤ h.lateness)) header by in
+    let found = place_found c.next_to_fire-next.result in
+    let on : IsNextToFire late old new then (i + 1) found = c.next_to_fire-next.ensures i here.0 here.1 in
+    let onward : i + 1 ≤ on.at = on.onward in
+    let further : c.loop.counter + 1 ≤ on.at = omega (arith, c.loop.invariant.walked.1, onward) in
+    let fired_to = fired_on (plan_of p) q late old new es then (i + 1) found expires fired on in
+    let left_is = fires_on (plan_of p) q late old new es then (i + 1) found expires fired on in
     elim c.match-watermark_kind.branch [
       | in-Some-watermark_kind w ↦
           let f : Fired (List Value) = record { kind = w.in-Some-watermark_kind.kind; place = e.0; count = fired_count p.header.mode e.1; folded = e.1.folded } in
           let split : fires q kind (drop i es) ≡ f ∷ left = fired_next (plan_of p) q kind es now i e so_far sorted at (Some w.in-Some-watermark_kind.kind) (sym is ∙ w.in-Some-watermark_kind.is) in
-          let comes : ComesTo p room c.loop.tally c.loop.rows.items ((f ∷ []) ++ left) all = subst (λ fs. ComesTo p room c.loop.tally c.loop.rows.items fs all) split c.loop.invariant.comes in
+          let comes : ComesTo p room c.loop.tally c.loop.rows.items ((f ∷ []) ++ left) all = subst (λ fs. ComesTo p room c.loop.tally c.loop.rows.items fs all) split c.loop.invariant.walked.4 in
           let tally : c.match-watermark_kind.tally ≡ tally_with p c.loop.tally (f ∷ []) = w.tally-is ∙ w.fire.ensures.tally e.1 c.pane.ensures in
           let rows : c.match-watermark_kind.rows.items ≡ c.loop.rows.items ++ rows_of p (f ∷ []) = ap (λ v. v.items) w.rows-is ∙ w.fire.ensures.rows e.1 c.pane.ensures in
           record {
-            panes = fired;
             keeps = subst (λ (h : Held). IsKept c.args.held.now h) (sym w.held-is) (kept_on c.args.held.now c.loop.held w.fire.new.held c.loop.invariant.keeps w.fire.ensures.keeps);
             tells =
                 subst (λ (h : Held). Tells c.args.streams.now c.match-watermark_kind.streams es (entries_of h)) (sym w.held-is)
                 (subst (λ (t : Standing). Tells c.args.streams.now t es (entries_of w.fire.new.held)) (sym w.streams-is)
                 (tells_on c.args.streams.now c.loop.streams w.fire.new.streams es now (entries_of w.fire.new.held) c.loop.invariant.tells w.fire.ensures.tells));
             capacity = ap vec_capacity w.rows-is ∙ w.fire.ensures.capacity ∙ c.loop.invariant.capacity;
-            next = next_is;
-            comes =
-                subst (λ (t : Tally). ComesTo p room t c.match-watermark_kind.rows.items left all) (sym tally)
-                (subst (λ (rs : List OutRow). ComesTo p room (tally_with p c.loop.tally (f ∷ [])) rs left all) (sym rows) (next p room c.loop.tally c.loop.rows.items (f ∷ []) left all comes));
+            walked = (
+              on.at,
+              further,
+              fired_to,
+              on.next,
+              subst (λ fs. ComesTo p room c.match-watermark_kind.tally c.match-watermark_kind.rows.items fs all) left_is
+                  (subst (λ (t : Tally). ComesTo p room t c.match-watermark_kind.rows.items left all) (sym tally)
+                  (subst (λ (rs : List OutRow). ComesTo p room (tally_with p c.loop.tally (f ∷ [])) rs left all) (sym rows) (next p room c.loop.tally c.loop.rows.items (f ∷ []) left all comes))),
+            );
           }
       | in_default-watermark_kind w ↦
           let none : kind e.0 e.1 ≡ None = sym is ∙ w.in_default-watermark_kind.is in
           let split : fires q kind (drop i es) ≡ left = fired_next (plan_of p) q kind es now i e so_far sorted at None none in
           record {
-            panes = fired;
             keeps = subst (λ (h : Held). IsKept c.args.held.now h) (sym w.held-is) c.loop.invariant.keeps;
             tells =
                 subst (λ (h : Held). Tells c.args.streams.now c.match-watermark_kind.streams es (entries_of h)) (sym w.held-is)
                 (subst (λ (t : Standing). Tells c.args.streams.now t es now) (sym w.streams-is) c.loop.invariant.tells);
             capacity = ap vec_capacity w.rows-is ∙ c.loop.invariant.capacity;
-            next = next_is;
-            comes =
-                subst (λ (t : Tally). ComesTo p room t c.match-watermark_kind.rows.items left all) (sym w.tally-is)
-                (subst (λ (rs : List OutRow). ComesTo p room c.loop.tally rs left all) (sym (ap (λ v. v.items) w.rows-is))
-                (subst (λ fs. ComesTo p room c.loop.tally c.loop.rows.items fs all) split c.loop.invariant.comes));
+            walked = (
+              on.at,
+              further,
+              fired_to,
+              on.next,
+              subst (λ fs. ComesTo p room c.match-watermark_kind.tally c.match-watermark_kind.rows.items fs all) left_is
+                  (subst (λ (t : Tally). ComesTo p room t c.match-watermark_kind.rows.items left all) (sym w.tally-is)
+                  (subst (λ (rs : List OutRow). ComesTo p room c.loop.tally rs left all) (sym (ap (λ v. v.items) w.rows-is))
+                  (subst (λ fs. ComesTo p room c.loop.tally c.loop.rows.items fs all) split c.loop.invariant.walked.4))),
+            );
           }
     ]
 
@@ -199,9 +244,9 @@ returns-after-loop-clause-panes c =
     let kind : Place → Pane (List Value) → Option PaneKind = kind_by_watermark q old new in let all : List (Fired (List Value)) = fires q kind es in
     let room : ℕ = vec_capacity c.args.rows.now in
     let old_fits : SFits w64 c.args.old = c.ranges.old in let new_fits : SFits w64 c.args.new = c.ranges.new in
-    let none : drop c.loop.counter es ≡ [] = drop_all c.loop.counter es (omega arith) in
-    let still : AllByRecursion (λ e. kind e.0 e.1 ≡ None) (drop c.loop.counter es) = subst (AllByRecursion (λ e. kind e.0 e.1 ≡ None)) (sym none) tt in
-    simp to_z-of_z at (c.loop.invariant.panes ∙ rest_stays (plan_of p) q kind c.loop.counter es still)
+    let none : drop c.loop.invariant.walked.0 es ≡ [] = drop_all c.loop.invariant.walked.0 es (omega (arith, c.loop.invariant.walked.1)) in
+    let still : AllByRecursion (λ e. kind e.0 e.1 ≡ None) (drop c.loop.invariant.walked.0 es) = subst (AllByRecursion (λ e. kind e.0 e.1 ≡ None)) (sym none) tt in
+    simp to_z-of_z at (c.loop.invariant.walked.2 ∙ rest_stays (plan_of p) q kind c.loop.invariant.walked.0 es still)
 
 pub returns-after-loop-clause-rows : goal.returns-after-loop-clause-rows
 returns-after-loop-clause-rows c =
@@ -210,9 +255,9 @@ returns-after-loop-clause-rows c =
     let kind : Place → Pane (List Value) → Option PaneKind = kind_by_watermark q old new in let all : List (Fired (List Value)) = fires q kind es in
     let room : ℕ = vec_capacity c.args.rows.now in
     let old_fits : SFits w64 c.args.old = c.ranges.old in let new_fits : SFits w64 c.args.new = c.ranges.new in
-    let none : drop c.loop.counter es ≡ [] = drop_all c.loop.counter es (omega arith) in
-    let still : AllByRecursion (λ e. kind e.0 e.1 ≡ None) (drop c.loop.counter es) = subst (AllByRecursion (λ e. kind e.0 e.1 ≡ None)) (sym none) tt in
-    simp to_z-of_z at (last_rows p room c.loop.tally c.loop.rows.items _ all (none_fires (plan_of p) q kind (drop c.loop.counter es) still) c.loop.invariant.comes)
+    let none : drop c.loop.invariant.walked.0 es ≡ [] = drop_all c.loop.invariant.walked.0 es (omega (arith, c.loop.invariant.walked.1)) in
+    let still : AllByRecursion (λ e. kind e.0 e.1 ≡ None) (drop c.loop.invariant.walked.0 es) = subst (AllByRecursion (λ e. kind e.0 e.1 ≡ None)) (sym none) tt in
+    simp to_z-of_z at (last_rows p room c.loop.tally c.loop.rows.items _ all (none_fires (plan_of p) q kind (drop c.loop.invariant.walked.0 es) still) c.loop.invariant.walked.4)
 
 pub returns-after-loop-clause-tally : goal.returns-after-loop-clause-tally
 returns-after-loop-clause-tally c =
@@ -221,9 +266,9 @@ returns-after-loop-clause-tally c =
     let kind : Place → Pane (List Value) → Option PaneKind = kind_by_watermark q old new in let all : List (Fired (List Value)) = fires q kind es in
     let room : ℕ = vec_capacity c.args.rows.now in
     let old_fits : SFits w64 c.args.old = c.ranges.old in let new_fits : SFits w64 c.args.new = c.ranges.new in
-    let none : drop c.loop.counter es ≡ [] = drop_all c.loop.counter es (omega arith) in
-    let still : AllByRecursion (λ e. kind e.0 e.1 ≡ None) (drop c.loop.counter es) = subst (AllByRecursion (λ e. kind e.0 e.1 ≡ None)) (sym none) tt in
-    simp to_z-of_z at (last_tally p room c.loop.tally c.loop.rows.items _ all (none_fires (plan_of p) q kind (drop c.loop.counter es) still) c.loop.invariant.comes)
+    let none : drop c.loop.invariant.walked.0 es ≡ [] = drop_all c.loop.invariant.walked.0 es (omega (arith, c.loop.invariant.walked.1)) in
+    let still : AllByRecursion (λ e. kind e.0 e.1 ≡ None) (drop c.loop.invariant.walked.0 es) = subst (AllByRecursion (λ e. kind e.0 e.1 ≡ None)) (sym none) tt in
+    simp to_z-of_z at (last_tally p room c.loop.tally c.loop.rows.items _ all (none_fires (plan_of p) q kind (drop c.loop.invariant.walked.0 es) still) c.loop.invariant.walked.4)
 
 pub returns-after-loop-clause-tells : goal.returns-after-loop-clause-tells
 returns-after-loop-clause-tells c = c.loop.invariant.tells
@@ -235,11 +280,11 @@ returns-in_default-clause-panes c =
     let kind : Place → Pane (List Value) → Option PaneKind = kind_by_watermark q old new in let all : List (Fired (List Value)) = fires q kind es in
     let room : ℕ = vec_capacity c.args.rows.now in
     let old_fits : SFits w64 c.args.old = c.ranges.old in let new_fits : SFits w64 c.args.new = c.ranges.new in
-    let i = c.loop.counter in let now = entries_of c.loop.held in
+    let i = c.loop.invariant.walked.0 in let now = entries_of c.loop.held in
     let whole : IsTrue (is_program p) = subst (λ (p : Program). IsTrue (is_program p)) c.program.ensures.program c.header-header.ensures.lawful in
-    let none : place_due new (slice_get es i) ≡ None = still_due (plan_of p) q kind new i 0 i es now es c.loop.invariant.panes refl ∙ sym c.loop.invariant.next ∙ ap place_found c.in_default.is in
+    let none : place_due new (slice_get es i) ≡ None = still_due (plan_of p) q kind new i 0 i es now es c.loop.invariant.walked.2 refl ∙ sym c.loop.invariant.walked.3 ∙ ap place_found c.in_default.is in
     let still = none_due q (lawful_programs.lawful p whole).lateness.low old new es i sorted none in
-    simp to_z-of_z at (c.loop.invariant.panes ∙ rest_stays (plan_of p) q kind c.loop.counter es still)
+    simp to_z-of_z at (c.loop.invariant.walked.2 ∙ rest_stays (plan_of p) q kind c.loop.invariant.walked.0 es still)
 
 pub returns-in_default-clause-rows : goal.returns-in_default-clause-rows
 returns-in_default-clause-rows c =
@@ -248,11 +293,11 @@ returns-in_default-clause-rows c =
     let kind : Place → Pane (List Value) → Option PaneKind = kind_by_watermark q old new in let all : List (Fired (List Value)) = fires q kind es in
     let room : ℕ = vec_capacity c.args.rows.now in
     let old_fits : SFits w64 c.args.old = c.ranges.old in let new_fits : SFits w64 c.args.new = c.ranges.new in
-    let i = c.loop.counter in let now = entries_of c.loop.held in
+    let i = c.loop.invariant.walked.0 in let now = entries_of c.loop.held in
     let whole : IsTrue (is_program p) = subst (λ (p : Program). IsTrue (is_program p)) c.program.ensures.program c.header-header.ensures.lawful in
-    let none : place_due new (slice_get es i) ≡ None = still_due (plan_of p) q kind new i 0 i es now es c.loop.invariant.panes refl ∙ sym c.loop.invariant.next ∙ ap place_found c.in_default.is in
+    let none : place_due new (slice_get es i) ≡ None = still_due (plan_of p) q kind new i 0 i es now es c.loop.invariant.walked.2 refl ∙ sym c.loop.invariant.walked.3 ∙ ap place_found c.in_default.is in
     let still = none_due q (lawful_programs.lawful p whole).lateness.low old new es i sorted none in
-    simp to_z-of_z at (last_rows p room c.loop.tally c.loop.rows.items _ all (none_fires (plan_of p) q kind (drop c.loop.counter es) still) c.loop.invariant.comes)
+    simp to_z-of_z at (last_rows p room c.loop.tally c.loop.rows.items _ all (none_fires (plan_of p) q kind (drop c.loop.invariant.walked.0 es) still) c.loop.invariant.walked.4)
 
 pub returns-in_default-clause-tally : goal.returns-in_default-clause-tally
 returns-in_default-clause-tally c =
@@ -261,11 +306,11 @@ returns-in_default-clause-tally c =
     let kind : Place → Pane (List Value) → Option PaneKind = kind_by_watermark q old new in let all : List (Fired (List Value)) = fires q kind es in
     let room : ℕ = vec_capacity c.args.rows.now in
     let old_fits : SFits w64 c.args.old = c.ranges.old in let new_fits : SFits w64 c.args.new = c.ranges.new in
-    let i = c.loop.counter in let now = entries_of c.loop.held in
+    let i = c.loop.invariant.walked.0 in let now = entries_of c.loop.held in
     let whole : IsTrue (is_program p) = subst (λ (p : Program). IsTrue (is_program p)) c.program.ensures.program c.header-header.ensures.lawful in
-    let none : place_due new (slice_get es i) ≡ None = still_due (plan_of p) q kind new i 0 i es now es c.loop.invariant.panes refl ∙ sym c.loop.invariant.next ∙ ap place_found c.in_default.is in
+    let none : place_due new (slice_get es i) ≡ None = still_due (plan_of p) q kind new i 0 i es now es c.loop.invariant.walked.2 refl ∙ sym c.loop.invariant.walked.3 ∙ ap place_found c.in_default.is in
     let still = none_due q (lawful_programs.lawful p whole).lateness.low old new es i sorted none in
-    simp to_z-of_z at (last_tally p room c.loop.tally c.loop.rows.items _ all (none_fires (plan_of p) q kind (drop c.loop.counter es) still) c.loop.invariant.comes)
+    simp to_z-of_z at (last_tally p room c.loop.tally c.loop.rows.items _ all (none_fires (plan_of p) q kind (drop c.loop.invariant.walked.0 es) still) c.loop.invariant.walked.4)
 
 pub returns-in_default-clause-tells : goal.returns-in_default-clause-tells
 returns-in_default-clause-tells c = c.loop.invariant.tells

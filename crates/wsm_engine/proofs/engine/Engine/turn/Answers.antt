@@ -32,7 +32,7 @@ invariant_of-self c =
     let mark : SFits w64 c.mark-mark.result = fits_signed_from_abs w64 c.mark-mark.result (grind (arith, ints, c.mark-mark.ensures.from, c.mark-mark.ensures.to)) in
     let answered : c.decide-answer.result ≡ answer_to (plan_of s.program) (query_of s.program) s.machine e =
     c.decide-answer.ensures.decision ∙ ap (λ (h : Header). decision h.schema s.machine.admission e) (c.header.ensures.header ∙ ap (λ (p : Program). p.header) c.program.ensures.program) in
-    let here : IsAt (to_z w64 (of_z w64 c.mark-mark.result)) c.self.inside.runner s.machine = record { marked = sym (to_z-of_z mark ∙ c.mark-mark.ensures.mark); panes = refl; relation = refl } in
+    let here : IsAt (to_z w64 (of_z w64 c.mark-mark.result)) (record c.self.inside.runner { rows = c.clear.new.self }) s.machine = record { marked = sym (to_z-of_z mark ∙ c.mark-mark.ensures.mark); panes = refl; relation = refl } in
     let done = c.act-done.ensures in
     let fired : c.act-done.result.tally.fired ≡ length (fired_by (plan_of s.program) (query_of s.program) c.decide-answer.result e s.machine) = ap (λ (t : Tally). t.fired) (done.tally s.machine here) in
     let now = turned_is s e c.decide-answer.result answered c.decide-answer.new.self (entries_of c.act-done.new.self.held) (last_relation c.act-done.new.self.streams (entries_of c.act-done.new.self.held)) c.saturating_add-self-inside.result c.saturating_add-self-inside-2.result c.act-done.new.self.rows.items
@@ -49,7 +49,7 @@ returns-clause-state c =
     let mark : SFits w64 c.mark-mark.result = fits_signed_from_abs w64 c.mark-mark.result (grind (arith, ints, c.mark-mark.ensures.from, c.mark-mark.ensures.to)) in
     let answered : c.decide-answer.result ≡ answer_to (plan_of s.program) (query_of s.program) s.machine e =
     c.decide-answer.ensures.decision ∙ ap (λ (h : Header). decision h.schema s.machine.admission e) (c.header.ensures.header ∙ ap (λ (p : Program). p.header) c.program.ensures.program) in
-    let here : IsAt (to_z w64 (of_z w64 c.mark-mark.result)) c.self.inside.runner s.machine = record { marked = sym (to_z-of_z mark ∙ c.mark-mark.ensures.mark); panes = refl; relation = refl } in
+    let here : IsAt (to_z w64 (of_z w64 c.mark-mark.result)) (record c.self.inside.runner { rows = c.clear.new.self }) s.machine = record { marked = sym (to_z-of_z mark ∙ c.mark-mark.ensures.mark); panes = refl; relation = refl } in
     let done = c.act-done.ensures in
     let fired : c.act-done.result.tally.fired ≡ length (fired_by (plan_of s.program) (query_of s.program) c.decide-answer.result e s.machine) = ap (λ (t : Tally). t.fired) (done.tally s.machine here) in
     rw (← c.self.view_is) (turned_is s e c.decide-answer.result answered c.decide-answer.new.self (entries_of c.act-done.new.self.held) (last_relation c.act-done.new.self.streams (entries_of c.act-done.new.self.held)) c.saturating_add-self-inside.result c.saturating_add-self-inside-2.result c.act-done.new.self.rows.items
@@ -62,5 +62,5 @@ returns-clause-reply c =
     let mark : SFits w64 c.mark-mark.result = fits_signed_from_abs w64 c.mark-mark.result (grind (arith, ints, c.mark-mark.ensures.from, c.mark-mark.ensures.to)) in
     let answered : c.decide-answer.result ≡ answer_to (plan_of s.program) (query_of s.program) s.machine e =
     c.decide-answer.ensures.decision ∙ ap (λ (h : Header). decision h.schema s.machine.admission e) (c.header.ensures.header ∙ ap (λ (p : Program). p.header) c.program.ensures.program) in
-    let here : IsAt (to_z w64 (of_z w64 c.mark-mark.result)) c.self.inside.runner s.machine = record { marked = sym (to_z-of_z mark ∙ c.mark-mark.ensures.mark); panes = refl; relation = refl } in
+    let here : IsAt (to_z w64 (of_z w64 c.mark-mark.result)) (record c.self.inside.runner { rows = c.clear.new.self }) s.machine = record { marked = sym (to_z-of_z mark ∙ c.mark-mark.ensures.mark); panes = refl; relation = refl } in
     rw (← c.self.view_is) (replied_is s e c.decide-answer.result answered c.refusal_of.result c.act-done.result.record_steps c.act-done.result.tally c.refusal_of.ensures (c.act-done.ensures.cost s.machine here) (c.act-done.ensures.tally s.machine here))

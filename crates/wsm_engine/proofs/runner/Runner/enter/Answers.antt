@@ -15,8 +15,8 @@ enter-entered-requires-clause-can c =
     let comes = c.requires.comes in
     let time : SFits w64 c.args.time = c.ranges.time in
     let kinds : p.header.kinds ≡ c.deref.result.now = sym (ap (λ (h : Header). h.kinds) (c.header.ensures.header ∙ ap (λ q. q.header) c.program.ensures.program)) ∙ sym c.deref.ensures.value in
-    let values : updated p c.args.key c.args.values.now ≡ c.update-updated.result.values.now = updated_is p c.args.key c.args.values.now c.update-updated.result.values.now (rw c.record_inputs.ensures at c.update-updated.ensures.folds) in
-    simp to_z-of_z (enters p comes.0 c.args.self.now c.requires.program comes.1 c.args.key c.args.time c.args.values.now comes.2 c.requires.selected c.deref.result.now c.update-updated.result.values.now kinds values)
+    let values : updated p c.args.inputs.now.key c.args.inputs.now.values.now ≡ c.update-updated.result.values.now = updated_is p c.args.inputs.now.key c.args.inputs.now.values.now c.update-updated.result.values.now (rw c.requires.record at c.update-updated.ensures.folds) in
+    simp to_z-of_z (enters p comes.0 c.args.self.now c.requires.program comes.1 c.args.inputs.now.key c.args.time c.args.inputs.now.values.now comes.2 c.requires.selected c.deref.result.now c.update-updated.result.values.now kinds values)
 
 pub overflow_mul-result : goal.overflow_mul-result
 overflow_mul-result c =
@@ -24,10 +24,10 @@ overflow_mul-result c =
     let comes = c.requires.comes in
     let time : SFits w64 c.args.time = c.ranges.time in
     let kinds : p.header.kinds ≡ c.deref.result.now = sym (ap (λ (h : Header). h.kinds) (c.header.ensures.header ∙ ap (λ q. q.header) c.program.ensures.program)) ∙ sym c.deref.ensures.value in
-    let cost = cost_is p comes.0 c.args.self.now c.requires.program comes.1 c.args.key c.args.time c.args.values.now comes.2 c.requires.selected
+    let cost = cost_is p comes.0 c.args.self.now c.requires.program comes.1 c.args.inputs.now.key c.args.time c.args.inputs.now.values.now comes.2 c.requires.selected
     c.enter-entered.result.windows c.update-updated.result.steps (cond c.enter-entered.result.joined (length c.deref.result.now) 0) c.enter-entered.result.joined c.deref.result.now
-    (simp to_z-of_z at c.enter-entered.ensures.windows) (rw c.record_inputs.ensures at c.update-updated.ensures.steps) (simp to_z-of_z at c.enter-entered.ensures.joined) kinds refl in
-    let most = cost_stated p comes.0 c.args.self.now c.requires.program comes.1 c.args.key c.args.time c.args.values.now comes.2 c.requires.selected in
+    (simp to_z-of_z at c.enter-entered.ensures.windows) (rw c.requires.record at c.update-updated.ensures.steps) (simp to_z-of_z at c.enter-entered.ensures.joined) kinds refl in
+    let most = cost_stated p comes.0 c.args.self.now c.requires.program comes.1 c.args.inputs.now.key c.args.time c.args.inputs.now.values.now comes.2 c.requires.selected in
     omega (arith, cost, most)
 
 pub overflow_add-result : goal.overflow_add-result
@@ -36,10 +36,10 @@ overflow_add-result c =
     let comes = c.requires.comes in
     let time : SFits w64 c.args.time = c.ranges.time in
     let kinds : p.header.kinds ≡ c.deref-2.result.now = sym (ap (λ (h : Header). h.kinds) (c.header.ensures.header ∙ ap (λ q. q.header) c.program.ensures.program)) ∙ sym c.deref-2.ensures.value in
-    let cost = cost_is p comes.0 c.args.self.now c.requires.program comes.1 c.args.key c.args.time c.args.values.now comes.2 c.requires.selected
+    let cost = cost_is p comes.0 c.args.self.now c.requires.program comes.1 c.args.inputs.now.key c.args.time c.args.inputs.now.values.now comes.2 c.requires.selected
     c.enter-entered.result.windows c.update-updated.result.steps c.join_steps.result c.enter-entered.result.joined c.deref-2.result.now
-    (simp to_z-of_z at c.enter-entered.ensures.windows) (rw c.record_inputs.ensures at c.update-updated.ensures.steps) (simp to_z-of_z at c.enter-entered.ensures.joined) kinds c.join_steps.ensures in
-    let most = cost_stated p comes.0 c.args.self.now c.requires.program comes.1 c.args.key c.args.time c.args.values.now comes.2 c.requires.selected in
+    (simp to_z-of_z at c.enter-entered.ensures.windows) (rw c.requires.record at c.update-updated.ensures.steps) (simp to_z-of_z at c.enter-entered.ensures.joined) kinds c.join_steps.ensures in
+    let most = cost_stated p comes.0 c.args.self.now c.requires.program comes.1 c.args.inputs.now.key c.args.time c.args.inputs.now.values.now comes.2 c.requires.selected in
     omega (arith, cost, most)
 
 pub returns-clause-panes : goal.returns-clause-panes
@@ -48,9 +48,9 @@ returns-clause-panes c =
     let comes = c.requires.comes in
     let time : SFits w64 c.args.time = c.ranges.time in
     let kinds : p.header.kinds ≡ c.deref.result.now = sym (ap (λ (h : Header). h.kinds) (c.header.ensures.header ∙ ap (λ q. q.header) c.program.ensures.program)) ∙ sym c.deref.ensures.value in
-    let values : updated p c.args.key c.args.values.now ≡ c.update-updated.result.values.now = updated_is p c.args.key c.args.values.now c.update-updated.result.values.now (rw c.record_inputs.ensures at c.update-updated.ensures.folds) in
+    let values : updated p c.args.inputs.now.key c.args.inputs.now.values.now ≡ c.update-updated.result.values.now = updated_is p c.args.inputs.now.key c.args.inputs.now.values.now c.update-updated.result.values.now (rw c.requires.record at c.update-updated.ensures.folds) in
     (simp to_z-of_z at c.enter-entered.ensures.panes)
-    ∙ entered_is p comes.0 c.args.self.now c.requires.program comes.1 c.args.key c.args.time c.args.values.now comes.2 c.requires.selected c.deref.result.now c.update-updated.result.values.now kinds values
+    ∙ entered_is p comes.0 c.args.self.now c.requires.program comes.1 c.args.inputs.now.key c.args.time c.args.inputs.now.values.now comes.2 c.requires.selected c.deref.result.now c.update-updated.result.values.now kinds values
 
 pub returns-clause-steps : goal.returns-clause-steps
 returns-clause-steps c =
@@ -58,9 +58,9 @@ returns-clause-steps c =
     let comes = c.requires.comes in
     let time : SFits w64 c.args.time = c.ranges.time in
     let kinds : p.header.kinds ≡ c.deref-2.result.now = sym (ap (λ (h : Header). h.kinds) (c.header.ensures.header ∙ ap (λ q. q.header) c.program.ensures.program)) ∙ sym c.deref-2.ensures.value in
-    cost_is p comes.0 c.args.self.now c.requires.program comes.1 c.args.key c.args.time c.args.values.now comes.2 c.requires.selected
+    cost_is p comes.0 c.args.self.now c.requires.program comes.1 c.args.inputs.now.key c.args.time c.args.inputs.now.values.now comes.2 c.requires.selected
     c.enter-entered.result.windows c.update-updated.result.steps c.join_steps.result c.enter-entered.result.joined c.deref-2.result.now
-    (simp to_z-of_z at c.enter-entered.ensures.windows) (rw c.record_inputs.ensures at c.update-updated.ensures.steps) (simp to_z-of_z at c.enter-entered.ensures.joined) kinds c.join_steps.ensures
+    (simp to_z-of_z at c.enter-entered.ensures.windows) (rw c.requires.record at c.update-updated.ensures.steps) (simp to_z-of_z at c.enter-entered.ensures.joined) kinds c.join_steps.ensures
 
 pub enter-entered-requires-clause-tells : goal.enter-entered-requires-clause-tells
 enter-entered-requires-clause-tells c =

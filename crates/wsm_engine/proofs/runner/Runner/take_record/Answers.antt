@@ -24,7 +24,7 @@ fire_by_record-tally-requires-clause-can c =
     let comes = c.requires.comes.1 in
     let mark : SFits w64 c.args.mark = c.ranges.mark in
     let time : SFits w64 c.args.time = c.ranges.time in
-    let chosen : selects p c.args.key c.args.values.now ≡ true = keeps_is p c.args.key c.args.values.now c.keep-kept.result.keeps (rw c.record_inputs.ensures at c.keep-kept.ensures.done) (rw c.record_inputs.ensures at c.keep-kept.ensures.keeps) ∙ not-false _ c.if-not-kept.false in
+    let chosen : selects p c.args.key c.args.values.now ≡ true = keeps_is p c.args.key c.args.values.now c.keep-kept.result.keeps c.keep-kept.ensures.done c.keep-kept.ensures.keeps ∙ not-false _ c.if-not-kept.false in
     simp to_z-of_z
     (can_fire p past c.args.self.now c.requires.program c.args.mark c.args.key c.args.time c.args.values.now comes chosen _ c.enter-steps.result.1 (entries_of c.enter-steps.new.self.held)
     (rw c.enter-steps.ensures.rows c.requires.program.rows) (simp to_z-of_z at c.enter-steps.ensures.session) (simp to_z-of_z at c.enter-steps.ensures.panes))
@@ -32,10 +32,10 @@ fire_by_record-tally-requires-clause-can c =
 pub overflow_add-result : goal.overflow_add-result
 overflow_add-result c =
     let p = c.args.verified.now in
-    let chosen : selects p c.args.key c.args.values.now ≡ true = keeps_is p c.args.key c.args.values.now c.keep-kept.result.keeps (rw c.record_inputs.ensures at c.keep-kept.ensures.done) (rw c.record_inputs.ensures at c.keep-kept.ensures.keeps) ∙ not-false _ c.if-not-kept.false in
+    let chosen : selects p c.args.key c.args.values.now ≡ true = keeps_is p c.args.key c.args.values.now c.keep-kept.result.keeps c.keep-kept.ensures.done c.keep-kept.ensures.keeps ∙ not-false _ c.if-not-kept.false in
     let most = cost_stated p c.requires.comes.0 c.args.self.now c.requires.program c.args.mark c.args.key c.args.time c.args.values.now c.requires.comes.1 chosen in
     let time : SFits w64 c.args.time = c.ranges.time in
-    let kept : (where_run p c.args.key c.args.values.now).steps ≡ c.keep-kept.result.steps = rw c.record_inputs.ensures at c.keep-kept.ensures.steps in
+    let kept : (where_run p c.args.key c.args.values.now).steps ≡ c.keep-kept.result.steps = c.keep-kept.ensures.steps in
     let steps : c.enter-steps.result.0 ≡ entering_cost p c.args.key c.args.time c.args.values.now (entries_of c.args.self.now.held) = simp to_z-of_z at c.enter-steps.ensures.steps in
     omega (arith, most, kept, steps)
 
@@ -44,7 +44,7 @@ returns-clause-panes c =
     let p = c.args.verified.now in
     let mark : SFits w64 c.args.mark = c.ranges.mark in
     let time : SFits w64 c.args.time = c.ranges.time in
-    let chosen : selects p c.args.key c.args.values.now ≡ true = keeps_is p c.args.key c.args.values.now c.keep-kept.result.keeps (rw c.record_inputs.ensures at c.keep-kept.ensures.done) (rw c.record_inputs.ensures at c.keep-kept.ensures.keeps) ∙ not-false _ c.if-not-kept.false in
+    let chosen : selects p c.args.key c.args.values.now ≡ true = keeps_is p c.args.key c.args.values.now c.keep-kept.result.keeps c.keep-kept.ensures.done c.keep-kept.ensures.keeps ∙ not-false _ c.if-not-kept.false in
     let d = datum 0 c.args.key c.args.time c.args.values.now in
     (simp to_z-of_z at c.fire_by_record-tally.ensures.panes)
     ∙ ap (all_fired (plan_of p) (query_of p) (kind_by_record (query_of p) c.args.mark d)) (simp to_z-of_z at c.enter-steps.ensures.panes)
@@ -55,7 +55,7 @@ returns-clause-rows c =
     let p = c.args.verified.now in
     let mark : SFits w64 c.args.mark = c.ranges.mark in
     let time : SFits w64 c.args.time = c.ranges.time in
-    let chosen : selects p c.args.key c.args.values.now ≡ true = keeps_is p c.args.key c.args.values.now c.keep-kept.result.keeps (rw c.record_inputs.ensures at c.keep-kept.ensures.done) (rw c.record_inputs.ensures at c.keep-kept.ensures.keeps) ∙ not-false _ c.if-not-kept.false in
+    let chosen : selects p c.args.key c.args.values.now ≡ true = keeps_is p c.args.key c.args.values.now c.keep-kept.result.keeps c.keep-kept.ensures.done c.keep-kept.ensures.keeps ∙ not-false _ c.if-not-kept.false in
     let d = datum 0 c.args.key c.args.time c.args.values.now in
     (simp to_z-of_z at c.fire_by_record-tally.ensures.rows)
     ∙ ap (λ (es : Panes). rows_of p (fires_by_record p c.args.mark c.args.key c.args.time es)) (simp to_z-of_z at c.enter-steps.ensures.panes)
@@ -65,8 +65,8 @@ pub returns-clause-cost : goal.returns-clause-cost
 returns-clause-cost c =
     let p = c.args.verified.now in
     let time : SFits w64 c.args.time = c.ranges.time in
-    let chosen : selects p c.args.key c.args.values.now ≡ true = keeps_is p c.args.key c.args.values.now c.keep-kept.result.keeps (rw c.record_inputs.ensures at c.keep-kept.ensures.done) (rw c.record_inputs.ensures at c.keep-kept.ensures.keeps) ∙ not-false _ c.if-not-kept.false in
-    let kept : (where_run p c.args.key c.args.values.now).steps ≡ c.keep-kept.result.steps = rw c.record_inputs.ensures at c.keep-kept.ensures.steps in
+    let chosen : selects p c.args.key c.args.values.now ≡ true = keeps_is p c.args.key c.args.values.now c.keep-kept.result.keeps c.keep-kept.ensures.done c.keep-kept.ensures.keeps ∙ not-false _ c.if-not-kept.false in
+    let kept : (where_run p c.args.key c.args.values.now).steps ≡ c.keep-kept.result.steps = c.keep-kept.ensures.steps in
     let steps : c.enter-steps.result.0 ≡ entering_cost p c.args.key c.args.time c.args.values.now (entries_of c.args.self.now.held) = simp to_z-of_z at c.enter-steps.ensures.steps in
     λ i. sym kept i + (steps ∙ ap (λ (b : Bool). cond b (entering_cost p c.args.key c.args.time c.args.values.now (entries_of c.args.self.now.held)) 0) (sym chosen)) i
 
@@ -75,7 +75,7 @@ returns-clause-tally c =
     let p = c.args.verified.now in
     let mark : SFits w64 c.args.mark = c.ranges.mark in
     let time : SFits w64 c.args.time = c.ranges.time in
-    let chosen : selects p c.args.key c.args.values.now ≡ true = keeps_is p c.args.key c.args.values.now c.keep-kept.result.keeps (rw c.record_inputs.ensures at c.keep-kept.ensures.done) (rw c.record_inputs.ensures at c.keep-kept.ensures.keeps) ∙ not-false _ c.if-not-kept.false in
+    let chosen : selects p c.args.key c.args.values.now ≡ true = keeps_is p c.args.key c.args.values.now c.keep-kept.result.keeps c.keep-kept.ensures.done c.keep-kept.ensures.keeps ∙ not-false _ c.if-not-kept.false in
     let d = datum 0 c.args.key c.args.time c.args.values.now in
     (simp to_z-of_z at c.fire_by_record-tally.ensures.tally)
     ∙ ap (λ (es : Panes). tally_of p (fires_by_record p c.args.mark c.args.key c.args.time es)) (simp to_z-of_z at c.enter-steps.ensures.panes)
@@ -85,7 +85,7 @@ pub fire_by_record-tally-requires-clause-tells : goal.fire_by_record-tally-requi
 fire_by_record-tally-requires-clause-tells c =
     let p = c.args.verified.now in let of = c.requires.program in
     let time : SFits w64 c.args.time = c.ranges.time in
-    let chosen : selects p c.args.key c.args.values.now ≡ true = keeps_is p c.args.key c.args.values.now c.keep-kept.result.keeps (rw c.record_inputs.ensures at c.keep-kept.ensures.done) (rw c.record_inputs.ensures at c.keep-kept.ensures.keeps) ∙ not-false _ c.if-not-kept.false in
+    let chosen : selects p c.args.key c.args.values.now ≡ true = keeps_is p c.args.key c.args.values.now c.keep-kept.result.keeps c.keep-kept.ensures.done c.keep-kept.ensures.keeps ∙ not-false _ c.if-not-kept.false in
     let s = c.args.self.now.streams in let t = c.enter-steps.new.self.streams in
     let es = entries_of c.args.self.now.held in let fs = entries_of c.enter-steps.new.self.held in
     let few = few_entered p c.requires.comes.0 c.args.self.now of c.args.mark c.args.key c.args.time c.args.values.now c.requires.comes.1 chosen fs (simp to_z-of_z at c.enter-steps.ensures.panes) in
