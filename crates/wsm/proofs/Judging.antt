@@ -7,9 +7,9 @@ use Rattle.wsm_query.specs.Parse.{parse, Refuses}
 use Rattle.wsm_check.specs.declared.refusal.CheckRefusal.{CheckRefusal}
 use Rattle.wsm_check.specs.declared.refusal.CheckRefusal.TheVariants as checking
 use Rattle.wsm_check.specs.Checks.{refusal}
-use Rattle.wsm_bytecode.specs.declared.refusal.DecodeRefusal.{DecodeRefusal}
-use Rattle.wsm_bytecode.specs.declared.refusal.DecodeRefusal.TheVariants as bytes
-use Rattle.wsm_bytecode.specs.Program.{Program}
+use Rattle.wsm_program.specs.declared.refusal.DecodeRefusal.{DecodeRefusal}
+use Rattle.wsm_program.specs.declared.refusal.DecodeRefusal.TheVariants as bytes
+use Rattle.wsm_program.specs.Program.{Program}
 use Rattle.wsm_bytecode.specs.Reading.{Fails, decode}
 use Rattle.wsm.specs.Ends.{end_of_text, end_of_check, end_of_bytes}
 use Rattle.wsm.specs.Judged.{unless_refused, checked, text_judged, read_or_refused, bytes_judged, EndsBy}

@@ -9,7 +9,7 @@ use Rattle.wsm_semantics.specs.declared.ending.Totals.{Totals}
 use Rattle.wsm_csv.specs.Device.{TakesPart}
 use Rattle.std.specs.Io.KnownBytes.{Appends}
 use Rattle.wsm_query.specs.Tree as tree
-use Rattle.wsm_bytecode.specs.Program.{Program}
+use Rattle.wsm_program.specs.Program.{Program}
 use Rattle.wsm_machine.specs.Meaning.{query_of}
 use Rattle.wsm_compiler.specs.Program.{program_of}
 use Rattle.wsm_compiler.specs.Means.{meant}

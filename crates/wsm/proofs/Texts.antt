@@ -7,7 +7,7 @@ use Rattle.csv.specs.Reading.{Reached, strip_bom}
 use Rattle.csv.specs.declared.parser.State.TheVariants as st
 use Rattle.wsm_semantics.specs.Lines.{Row, lines_so_far, turn_lines, end_line}
 use Rattle.wsm_semantics.specs.Text.{line_text, lines_text}
-use Rattle.wsm_bytecode.specs.Program.{Program}
+use Rattle.wsm_program.specs.Program.{Program}
 use Rattle.wsm_csv.specs.declared.rows.ReadEnd.{ReadEnd}
 use Rattle.wsm_csv.specs.declared.rows.ReadEnd.TheVariants as read
 use Rattle.wsm_csv.specs.Cells.{event_of_cells}

@@ -5,7 +5,7 @@ use Rattle.wsm_semantics.specs.Query.{Query}
 use Rattle.wsm_semantics.specs.Text.{Names}
 use Rattle.wsm_record.specs.declared.words.CellType.{CellType}
 use Rattle.wsm_record.specs.declared.words.CellType.TheVariants.{Enum}
-use Rattle.wsm_bytecode.specs.Program.{Name, Program, enum_names}
+use Rattle.wsm_program.specs.Program.{Name, Program, enum_names}
 use Rattle.wsm_machine.specs.Meaning.{query_of}
 use Rattle.wsm_query.specs.Tree as tree
 use Rattle.wsm_compiler.specs.Program.{schema_of, column_type}

@@ -4,8 +4,8 @@ use Rattle.wsm_tokens.specs.declared.fault.ParseRefusal.{ParseRefusal}
 use Rattle.wsm_tokens.specs.declared.fault.ParseRefusal.TheVariants as parse
 use Rattle.wsm_check.specs.declared.refusal.CheckRefusal.{CheckRefusal}
 use Rattle.wsm_check.specs.declared.refusal.CheckRefusal.TheVariants as check
-use Rattle.wsm_bytecode.specs.declared.refusal.DecodeRefusal.{DecodeRefusal}
-use Rattle.wsm_bytecode.specs.declared.refusal.DecodeRefusal.TheVariants as bytes
+use Rattle.wsm_program.specs.declared.refusal.DecodeRefusal.{DecodeRefusal}
+use Rattle.wsm_program.specs.declared.refusal.DecodeRefusal.TheVariants as bytes
 use Rattle.wsm_verifier.specs.declared.rejection.Rejection.{Rejection}
 use Rattle.wsm_verifier.specs.declared.rejection.Rule.{Rule}
 use Rattle.wsm_verifier.specs.declared.rejection.Rule.TheVariants as rule

@@ -7,9 +7,9 @@ use Rattle.wsm_query.specs.Parse.{parse}
 use Rattle.wsm_check.specs.declared.refusal.CheckRefusal.{CheckRefusal}
 use Rattle.wsm_check.specs.declared.refusal.CheckRefusal.TheVariants as checking
 use Rattle.wsm_check.specs.Checks.{refusal}
-use Rattle.wsm_bytecode.specs.declared.refusal.DecodeRefusal.{DecodeRefusal}
-use Rattle.wsm_bytecode.specs.declared.refusal.DecodeRefusal.TheVariants.{Memory}
-use Rattle.wsm_bytecode.specs.Program.{Program}
+use Rattle.wsm_program.specs.declared.refusal.DecodeRefusal.{DecodeRefusal}
+use Rattle.wsm_program.specs.declared.refusal.DecodeRefusal.TheVariants.{Memory}
+use Rattle.wsm_program.specs.Program.{Program}
 use Rattle.wsm_bytecode.specs.Reading.{decode}
 use Rattle.wsm_verifier.specs.declared.rejection.Rejection.{Rejection}
 use Rattle.wsm.specs.declared.end.Refusal.{Refusal}

@@ -8,7 +8,7 @@ use Rattle.wsm_semantics.specs.Query.{verdict_on}
 use Rattle.wsm_semantics.specs.Relation.{turn_rows}
 use Rattle.wsm_semantics.specs.Lines.{Row, Out, Faulty, events, end_line, fault_count, refusal_lines, turn_lines}
 use Rattle.wsm_semantics.specs.Text.{Names, line_text, lines_text}
-use Rattle.wsm_bytecode.specs.Program.{Program}
+use Rattle.wsm_program.specs.Program.{Program}
 use Rattle.wsm_machine.specs.Meaning.{query_of}
 use Rattle.wsm_semantics.specs.declared.ending.Totals.{Totals}
 use Rattle.wsm_engine.specs.State.{State}

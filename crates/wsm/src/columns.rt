@@ -4,14 +4,14 @@ ghost use Rattle.std.specs.Prelude.{◌≡◌, ◌≤◌, ◌++◌, List, [], le
 ghost use Rattle.wsm_record.specs.Fields.{type_seen};
 ghost use Rattle.wsm_semantics.specs.Lines.{Out};
 ghost use Rattle.wsm_semantics.specs.Text.{lines_text};
-ghost use Rattle.wsm_bytecode.specs.Program.{names_of_field, names_of_type};
+ghost use Rattle.wsm_program.specs.Program.{names_of_field, names_of_type};
 ghost use Rattle.wsm_csv.specs.Lines as csv;
 ghost use Rattle.wsm.specs.Asked as asked;
 ghost use Rattle.wsm.specs.Turns.{names};
 
 use std::alloc::AllocError;
-use wsm_bytecode::{CellType, Header, Program};
 use wsm_csv::row_text;
+use wsm_program::{CellType, Header, Program};
 use wsm_record::limits::MAX_COLUMNS;
 use wsm_record::{FieldType, Names, Schema};
 use wsm_semantics::OutRow;

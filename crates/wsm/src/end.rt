@@ -5,9 +5,9 @@ ghost use Rattle.wsm.specs.Ends.{status};
 
 use std::alloc::{AllocError, AllocFailed};
 use thiserror::Error;
-use wsm_bytecode::DecodeRefusal;
 use wsm_check::{CheckFault, CheckRefusal, Part};
 use wsm_csv::{DeviceFault, ReadEnd};
+use wsm_program::DecodeRefusal;
 use wsm_tokens::{Fault, ParseRefusal, Place};
 use wsm_verifier::{Rejection, Rule};
 

@@ -46,10 +46,10 @@ pub use end::{End, Refusal, status_of};
 pub use run::{run_program, run_query};
 pub use verdict::judge;
 pub use words::{Job, WordsRefusal, command_of};
-pub use wsm_bytecode::DecodeRefusal;
 pub use wsm_check::{CheckFault, Part};
 pub use wsm_csv::{Device, DeviceFault, Guarded, write_out};
 pub use wsm_engine::Totals;
+pub use wsm_program::DecodeRefusal;
 pub use wsm_tokens::{Fault, Place};
 pub use wsm_verifier::Rejection;
 

@@ -1,7 +1,7 @@
 //! Running queries and programs over rows.
 
 ghost use Rattle.std.specs.Prelude.{◌≡◌, ℕ, List, [], Option, Ok, Err, true, false, IfErr, IfOk, OnOk, is_ok};
-ghost use Rattle.wsm_bytecode.specs.Program.{Program as Value};
+ghost use Rattle.wsm_program.specs.Program.{Program as Value};
 ghost use Rattle.wsm_verifier.specs.Rules.{judge};
 ghost use Rattle.wsm_query.specs.Tree.{Query};
 ghost use Rattle.wsm_compiler.specs.Program.{program_of};
@@ -18,9 +18,9 @@ use crate::judged::{program_of_bytes, program_of_text, verified};
 use crate::turns::Turns;
 use std::alloc::Global;
 use std::io::Read;
-use wsm_bytecode::Program;
 use wsm_csv::{Device, Rows};
 use wsm_engine::Totals;
+use wsm_program::Program;
 use wsm_verifier::{Rejection, Verified};
 
 /// Runs the query of a text over the rows of a reader. Each row is read and its turn taken, and the

@@ -35,7 +35,7 @@ impl Turns {
     ghost use Rattle.wsm_record.specs.Event.{Event as AnyEvent, event_of};
     ghost use Rattle.wsm_semantics.specs.Lines.{Row, end_line};
     ghost use Rattle.wsm_semantics.specs.Text.{line_text};
-    ghost use Rattle.wsm_bytecode.specs.Program.{Program};
+    ghost use Rattle.wsm_program.specs.Program.{Program};
     ghost use Rattle.wsm_machine.specs.Meaning.{query_of};
     ghost use Rattle.wsm_csv.specs.Cells.{event_of_cells};
     ghost use Rattle.wsm_csv.specs.Device.{TakesPart};

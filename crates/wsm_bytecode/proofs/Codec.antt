@@ -4,17 +4,18 @@ use Rattle.std.specs.Prelude.{◌==◌, slice_get}
 use Rattle.std.specs.List.{list_all, flat_map}
 use Rattle.std.specs.Int.{w8, w16}
 use Rattle.std.proofs.lemmas.Bool.{true≢false, ltb-true, leb-true, le-leb, and_parts, and_from}
-use Rattle.wsm_bytecode.specs.declared.instr.Instr.{Instr}
-use Rattle.wsm_bytecode.specs.declared.instr.Instr.TheVariants.{PushInt, PushBool, PushEnum, Field, Key, Acc, Count, Operate, Jump, JumpIfFalse, Fold, Return}
-use Rattle.wsm_bytecode.specs.Program.{Name, names_of_type, names_of_field, is_name_list, are_names_after, is_field_after, are_fields_after, is_field_type, Header, Program, is_name_of, is_schema, is_instr, is_section, is_header, is_clock, is_firing, is_row, is_program, enum_names, is_within, latest_time, is_span, is_size, is_shape, is_form_of, is_column, is_budget}
+use Rattle.wsm_program.specs.declared.instr.Instr.{Instr}
+use Rattle.wsm_program.specs.declared.instr.Instr.TheVariants.{PushInt, PushBool, PushEnum, Field, Key, Acc, Count, Operate, Jump, JumpIfFalse, Fold, Return}
+use Rattle.wsm_program.specs.Program.{Name, names_of_type, names_of_field, is_name_list, are_names_after, is_field_after, are_fields_after, is_field_type, Header, Program, is_name_of, is_schema, is_instr, is_section, is_header, is_program, enum_names, is_within, latest_time, is_span, is_size}
 use Rattle.wsm_record.specs.Schema.{FieldType, Int, Truth, Enum, DeclaredField, Declared}
 use Rattle.wsm_record.specs.Name.{is_name, is_among, is_between}
 use Rattle.wsm_bytecode.specs.Reading.{judged, number_at, signed_at, enum_number_at, push_int_at, push_bool_at, push_enum_at, index_at, target_at, plain_instr, instr_by, instr_at, code_at, several, after_magic, after_version, schema_at, shape_at, mode_at, form_at, kinds_at, columns_at, budget_at, header_at, program_at, decode}
-use Rattle.wsm_bytecode.specs.declared.operation.Operation.{Operation}
-use Rattle.wsm_bytecode.specs.declared.operation.Operation.TheVariants.{Add}
-use Rattle.wsm_bytecode.specs.Operations as operation
-use Rattle.wsm_bytecode.specs.Operations.{of_code}
+use Rattle.wsm_program.specs.declared.operation.Operation.{Operation}
+use Rattle.wsm_program.specs.declared.operation.Operation.TheVariants.{Add}
+use Rattle.wsm_program.specs.Operations as operation
+use Rattle.wsm_program.specs.Operations.{of_code}
 use Rattle.wsm_bytecode.specs.Spelling.{byte, number, signed, instr, code, magic, header, schema, shape, mode, form, kinds, columns, budget, spelling}
+use Rattle.wsm_program.proofs.Lawful.{HeaderParts, few_fields, header_parts}
 use Rattle.wsm_bytecode.proofs.Numbers.{bytes_again, byte_again, short_again, signed_again, judged_again}
 use Rattle.wsm_bytecode.proofs.Parts.{tag_again, below, several_again, enum_number_again, enum_is_small, start_again, span_again, size_again, schema_again, shape_again, mode_again, form_again, kinds_again, columns_again, budget_again}
 
@@ -146,12 +147,6 @@ names_below s (suc f) i h good =
     let a = and_parts (is_name_list s.keys) (leb (length s.fields) 16 && are_fields_after [] s.fields) h in
     fields_below [] s.fields f i (and_parts (leb (length s.fields) 16) (are_fields_after [] s.fields) a.1).1 good
 
-pub few_fields : (s : Declared) → is_schema s ≡ true → leb (length s.fields) 16 ≡ true
-unfolding is_schema
-few_fields s h =
-    let a = and_parts (is_name_list s.keys) (leb (length s.fields) 16 && are_fields_after [] s.fields) h in
-    (and_parts (leb (length s.fields) 16) (are_fields_after [] s.fields) a.1).0
-
 magic_again : (rest : List ℕ) → after_magic (magic ++ rest) ≡ Ok rest
 unfolding after_magic
 magic_again rest = rw (bytes_again 4 magic rest refl) refl
@@ -159,39 +154,6 @@ magic_again rest = rw (bytes_again 4 magic rest refl) refl
 version_again : (rest : List ℕ) → after_version (byte 1 ++ rest) ≡ Ok rest
 unfolding after_version
 version_again rest = rw (byte_again 1 rest (lit< tt)) refl
-
--- what is_header holds, part by part
-pub record HeaderParts (h : Header) : Type 0 where
-  pub schema : is_schema h.schema ≡ true
-  pub start : is_within (pos 0) latest_time h.start ≡ true
-  pub skew : is_span h.skew ≡ true
-  pub lateness : is_span h.lateness ≡ true
-  pub records : is_size h.records ≡ true
-  pub shape : is_shape h.shape ≡ true
-  pub early : is_span h.early ≡ true
-  pub late : is_span h.late ≡ true
-  pub form : is_form_of h.mode h.form ≡ true
-  pub kinds : leb (length h.kinds) 16 ≡ true
-  pub count : is_between 1 16 (length h.columns) ≡ true
-  pub columns : list_all (is_column h.schema) h.columns ≡ true
-  pub budget : is_budget h.budget ≡ true
-
-pub header_parts : (h : Header) → is_header h ≡ true → HeaderParts h
-unfolding is_header
-header_parts h e =
-    let p = and_parts (is_schema h.schema) (is_clock h && (is_firing h && (is_row h && is_budget h.budget))) e in
-    let q = and_parts (is_clock h) (is_firing h && (is_row h && is_budget h.budget)) p.1 in
-    let r = and_parts (is_firing h) (is_row h && is_budget h.budget) q.1 in
-    let s = and_parts (is_row h) (is_budget h.budget) r.1 in
-    let c1 = and_parts (is_within (pos 0) latest_time h.start) (is_span h.skew && (is_span h.lateness && is_size h.records)) q.0 in
-    let c2 = and_parts (is_span h.skew) (is_span h.lateness && is_size h.records) c1.1 in
-    let c3 = and_parts (is_span h.lateness) (is_size h.records) c2.1 in
-    let f1 = and_parts (is_shape h.shape) (is_span h.early && (is_span h.late && is_form_of h.mode h.form)) r.0 in
-    let f2 = and_parts (is_span h.early) (is_span h.late && is_form_of h.mode h.form) f1.1 in
-    let f3 = and_parts (is_span h.late) (is_form_of h.mode h.form) f2.1 in
-    let r1 = and_parts (leb (length h.kinds) 16) (is_between 1 16 (length h.columns) && list_all (is_column h.schema) h.columns) s.0 in
-    let r2 = and_parts (is_between 1 16 (length h.columns)) (list_all (is_column h.schema) h.columns) r1.1 in
-    record { schema = p.0; start = c1.0; skew = c2.0; lateness = c3.0; records = c3.1; shape = f1.0; early = f2.0; late = f3.0; form = f3.1; kinds = r1.0; count = r2.0; columns = r2.1; budget = s.1 }
 
 few_parts : (h : Header) → HeaderParts h → FewParts h
 few_parts h p = record { fields = few_fields h.schema p.schema; kinds = p.kinds; names = λ e i. names_below h.schema e i p.schema }

@@ -5,9 +5,6 @@ pub mod Taken
 pub mod TakenParts
 pub mod TakenProgram
 pub mod Loop
-pub mod NamesOf
 pub mod Reader
 pub mod Spelled
-pub mod Places
 pub mod Lines
-pub mod Stating

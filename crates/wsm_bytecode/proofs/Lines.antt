@@ -1,9 +1,10 @@
 -- The lines of a section, one behind the other.
 use Rattle.std.proofs.Common.{◌≡◌, ℕ, suc, ◌+◌, ◌<◌, List, [], ◌∷◌, ◌++◌, length, get_or, drop, pos, refl, sym, ap, ◌∙◌, append_assoc, add-one, drop-cons}
 use Rattle.std.specs.Fmt.{decimal}
-use Rattle.wsm_bytecode.specs.declared.instr.Instr.{Instr}
-use Rattle.wsm_bytecode.specs.declared.instr.SectionId.{SectionId}
-use Rattle.wsm_bytecode.specs.Text.{Letters, Number, instr_words, instr_text, section_name, section_text, line_text}
+use Rattle.wsm_program.specs.declared.instr.Instr.{Instr}
+use Rattle.wsm_program.specs.declared.instr.SectionId.{SectionId}
+use Rattle.wsm_program.specs.Text.{Letters, Number, instr_words, instr_text, section_name, line_text}
+use Rattle.wsm_bytecode.specs.Text.{section_text}
 
 -- section, place and instruction, joined by one space
 line_is : (id : SectionId) (place : ℕ) (i : Instr) → line_text (Letters (section_name id) ∷ Number (pos place) ∷ instr_words i) ≡ section_name id ++ (32 ∷ (decimal place ++ (32 ∷ instr_text i)))

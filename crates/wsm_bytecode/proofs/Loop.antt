@@ -1,13 +1,14 @@
 -- Reading one after the other, as a loop does.
-use Rattle.std.proofs.Common.{◌≡◌, ℕ, suc, ◌-◌, ◌+◌, ◌<◌, true, false, ◌||◌, map, List, [], ◌∷◌, ◌++◌, Result, Ok, Err, refl, sym, ap, subst, ◌∙◌, append_assoc, arith}
+use Rattle.std.proofs.Common.{◌≡◌, ℕ, suc, ◌-◌, ◌+◌, ◌<◌, true, false, map, List, [], ◌∷◌, ◌++◌, Result, Ok, Err, refl, sym, ap, subst, ◌∙◌, append_assoc, arith}
 use Rattle.std.specs.Prelude.{bytes_eq}
 use Rattle.std.specs.List.{list_any}
 use Rattle.wsm_record.specs.declared.schema.Field.{Field}
 use Rattle.wsm_record.specs.Name.{is_among}
 use Rattle.wsm_record.specs.Schema.{DeclaredField}
-use Rattle.wsm_bytecode.specs.declared.refusal.DecodeRefusal.{DecodeRefusal}
-use Rattle.wsm_bytecode.specs.declared.refusal.DecodeRefusal.TheVariants.{Memory, Operand}
-use Rattle.wsm_bytecode.specs.Program.{Name}
+use Rattle.wsm_program.specs.declared.refusal.DecodeRefusal.{DecodeRefusal}
+use Rattle.wsm_program.specs.declared.refusal.DecodeRefusal.TheVariants.{Memory, Operand}
+use Rattle.wsm_program.specs.Program.{Name}
+use Rattle.wsm_program.proofs.Places.{among_named}
 use Rattle.wsm_bytecode.specs.Reading.{Read, ◌>>=◌, Fails, several, name_at, field_type_at, new_name_at, names_after, new_field_at, fields_after}
 
 -- what was read before, and what is still read
@@ -76,10 +77,6 @@ pub fields_end : (e : DecodeRefusal) (front : List DeclaredField) (names : List 
 fields_end e front names count i bytes total lt h so_far =
     let whole : with_front front (fields_after names (suc (count - (i + 1))) bytes) ≡ total = ap (λ k. with_front front (fields_after names k bytes)) (sym (one_less count i lt)) ∙ so_far in
     subst (λ (r : Read (List DeclaredField)). Fails e r) whole (stops e (new_field_at names bytes) (λ x. fields_after (names ++ x.name ∷ []) (count - (i + 1))) front h)
-
-pub among_named : {X : Type 0} (g : X → Name) (n : Name) (xs : List X) → is_among n (map g xs) ≡ list_any (λ x. bytes_eq n (g x)) xs
-among_named g n [] = refl
-among_named g n (x ∷ xs) = ap (λ b. bytes_eq n (g x) || b) (among_named g n xs)
 
 among_names : (n : Name) (fs : List Field) → is_among n (map (λ f. f.name) fs) ≡ list_any (λ f. bytes_eq n f.name) fs
 among_names n fs = among_named (λ f. f.name) n fs

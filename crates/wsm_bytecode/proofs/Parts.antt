@@ -1,9 +1,8 @@
 -- What was spelled is read again: the parts of a header.
-use Rattle.std.proofs.Common.{lit<, leb, ◌≡◌, ℕ, zero, suc, ◌^◌, ◌<◌, ◌≤◌, Bool, true, ◌&&◌, not, List, [], ◌∷◌, ◌++◌, length, ℤ, pos, negsuc, is_some, Ok, refl, sym, ap, ◌∙◌, append_assoc, arith}
+use Rattle.std.proofs.Common.{lit<, leb, ◌≡◌, ℕ, zero, suc, ◌^◌, ◌<◌, ◌≤◌, Bool, true, ◌&&◌, not, List, [], ◌∷◌, ◌++◌, length, ℤ, pos, is_some, Ok, refl, sym, ap, ◌∙◌, append_assoc, arith}
 use Rattle.std.specs.Prelude.{int_le, slice_get}
 use Rattle.std.specs.List.{list_all, flat_map}
 use Rattle.std.specs.Int.{w8, w16, w64}
-use Rattle.std.proofs.lemmas.Int.{ints}
 use Rattle.std.proofs.lemmas.Bool.{true≢false, leb-true, le-leb, and_parts, and_from}
 use Rattle.wsm_record.specs.declared.words.CellType.{CellType}
 use Rattle.wsm_record.specs.declared.words.CellType.TheVariants as types
@@ -15,12 +14,13 @@ use Rattle.wsm_record.specs.declared.Mode.{Mode}
 use Rattle.wsm_record.specs.declared.Mode.TheVariants.{Discarding, Accumulating}
 use Rattle.wsm_record.specs.declared.Form.{Form}
 use Rattle.wsm_record.specs.declared.Form.TheVariants.{Panes, Istream, Dstream, Rstream}
-use Rattle.wsm_bytecode.specs.Program.{Name, is_i64, is_within, are_names_after, is_name_list, is_field_type, is_field_after, are_fields_after, is_schema, is_span, is_size, is_shape, is_form_of, is_column, is_stated, is_budget, enum_names, names_of_field, latest_time, longest_span}
+use Rattle.wsm_program.specs.Program.{Name, is_i64, is_within, are_names_after, is_name_list, is_field_type, is_field_after, are_fields_after, is_schema, is_span, is_size, is_shape, is_form_of, is_column, is_stated, is_budget, enum_names, names_of_field, latest_time, longest_span}
 use Rattle.wsm_record.specs.Schema.{FieldType, Int, Truth, Enum, DeclaredField, Declared}
-use Rattle.wsm_bytecode.specs.declared.program.Budget.{Budget}
+use Rattle.wsm_program.specs.declared.program.Budget.{Budget}
 use Rattle.wsm_record.specs.Name.{is_between, is_name, is_among}
 use Rattle.wsm_bytecode.specs.Reading.{Read, judged, number_at, signed_at, name_at, names_after, names_at, interval_at, enum_at, field_type_by, field_type_at, new_field_at, fields_after, schema_at, shape_at, fixed_at, sliding_at, session_at, shape_by, mode_at, mode_by, form_at, form_by, kind_at, kind_by, kinds_at, enum_number_at, enum_column_at, column_by, column_at, columns_at, budget_at, several}
 use Rattle.wsm_bytecode.specs.Spelling.{byte, number, long, signed, name, names, field_type, field, schema, shape, mode, form, kind, column, kinds, columns, budget}
+use Rattle.wsm_program.proofs.Within.{le_through, is_i64_within}
 use Rattle.wsm_bytecode.proofs.Numbers.{byte_again, short_again, long_again, signed_again, judged_again, name_again}
 
 pub regroup_3 : (a b c rest : List ℕ) → a ++ b ++ c ++ rest ≡ a ++ (b ++ (c ++ rest))
@@ -140,14 +140,6 @@ schema_again s rest h =
     ∙ schema_step (names s.keys ++ mid) s mid (length s.fields) others rest (names_again s.keys mid a.0) (tag_again 0 16 (length s.fields) others (lit< tt) few) (fields_after_again [] s.fields rest b.1)
 
 -- ---- shape, mode, form
-
-pub le_through : (a b c : ℤ) → int_le a b ≡ true → int_le b c ≡ true → int_le a c ≡ true
-le_through a b c p q = grind (arith, ints)
-
-pub is_i64_within : (lo hi n : ℤ) → int_le (negsuc 9223372036854775807) lo ≡ true → int_le hi (pos 9223372036854775807) ≡ true → is_within lo hi n ≡ true → is_i64 n ≡ true
-is_i64_within lo hi n p q h =
-    let a = and_parts (int_le lo n) (int_le n hi) h in
-    and_from _ _ (le_through (negsuc 9223372036854775807) lo n p a.0) (le_through n hi (pos 9223372036854775807) a.1 q)
 
 pub span_again : (n : ℤ) (rest : List ℕ) → is_span n ≡ true → judged is_span (signed_at (signed n ++ rest)) ≡ Ok (n, rest)
 span_again n rest h = judged_again is_span (signed_at (signed n ++ rest)) n rest (signed_again n rest (is_i64_within (pos 0) longest_span n refl refl h)) h

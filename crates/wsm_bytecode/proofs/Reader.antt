@@ -1,7 +1,7 @@
 -- What a decoder that answers what reading gives has found.
 use Rattle.std.proofs.Common.{◌≡◌, ℕ, true, List, Result, Ok, Err, IfOk, ap, subst, ◌∙◌}
-use Rattle.wsm_bytecode.specs.declared.refusal.DecodeRefusal.{DecodeRefusal}
-use Rattle.wsm_bytecode.specs.Program.{Program, is_program}
+use Rattle.wsm_program.specs.declared.refusal.DecodeRefusal.{DecodeRefusal}
+use Rattle.wsm_program.specs.Program.{Program, is_program}
 use Rattle.wsm_bytecode.specs.Spelling.{spelling}
 use Rattle.wsm_bytecode.specs.Reading.{Gives, decode}
 use Rattle.wsm_bytecode.proofs.Taken.{IsBytes}

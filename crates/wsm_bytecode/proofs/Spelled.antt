@@ -9,15 +9,12 @@ use Rattle.wsm_record.specs.declared.schema.DeclaredField.{DeclaredField as Kept
 use Rattle.wsm_record.specs.Name.{is_name, is_among, is_between}
 use Rattle.wsm_record.specs.Schema.{DeclaredField, Declared}
 use Rattle.wsm_record.specs.Fields.{type_seen, field_seen}
-use Rattle.wsm_bytecode.specs.Program.{Name, is_i64, latest_time, longest_span, Header, Program, are_names_after, is_name_list, is_field_type, is_field_after, are_fields_after, is_schema, is_header, is_instr, is_section, is_program, section}
-use Rattle.wsm_bytecode.specs.declared.instr.Instr.{Instr}
-use Rattle.wsm_bytecode.specs.declared.instr.SectionId.{SectionId}
-use Rattle.wsm_bytecode.specs.declared.instr.SectionId.TheVariants.{Where, Update, Fire}
+use Rattle.wsm_program.specs.Program.{Name, is_i64, latest_time, longest_span, Header, are_names_after, is_name_list, is_field_type, is_field_after, are_fields_after, is_schema, is_header}
 use Rattle.wsm_bytecode.specs.Spelling.{byte, number, signed, name, magic, schema, shape, mode, form, kinds, columns, budget, header}
 use Rattle.std.proofs.lemmas.Int.{to_z-of_z}
 use Rattle.wsm_bytecode.proofs.Numbers.{name_is_short, fits}
-use Rattle.wsm_bytecode.proofs.Parts.{is_i64_within}
-use Rattle.wsm_bytecode.proofs.Codec.{few_fields, header_parts}
+use Rattle.wsm_program.proofs.Within.{is_i64_within}
+use Rattle.wsm_program.proofs.Lawful.{few_fields, header_parts}
 
 pub short_name : (n : Name) → is_name n ≡ true → length n < 256
 short_name n h =
@@ -68,9 +65,6 @@ schema_count kept s e h =
     let le : length s.fields ≤ 16 = leb-true _ _ (few_fields s h) in
     omega (arith, ap (λ (fs : List DeclaredField). length fs) e, length-map kept field_seen)
 
-pub header_schema : (h : Header) → is_header h ≡ true → is_schema h.schema ≡ true
-header_schema h e = (header_parts h e).schema
-
 pub header_kinds : (h : Header) → is_header h ≡ true → length h.kinds < 256
 header_kinds h e =
     let le : length h.kinds ≤ 16 = leb-true _ _ (header_parts h e).kinds in
@@ -80,10 +74,6 @@ pub header_columns : (h : Header) → is_header h ≡ true → length h.columns 
 header_columns h e =
     let le : length h.columns ≤ 16 = leb-true _ _ (and_parts (leb 1 (length h.columns)) (leb (length h.columns) 16) (header_parts h e).count).1 in
     omega arith
-
-pub program_header : (p : Program) → is_program p ≡ true → is_header p.header ≡ true
-unfolding is_program
-program_header p h = (and_parts (is_header p.header) (is_section p.header p.selection && (is_section p.header p.update && is_section p.header p.fire)) h).0
 
 regrouped : (o a0 a1 a2 a3 a4 a5 a6 a7 a8 a9 a10 a11 a12 a13 a14 : List ℕ)
     → o ++ a0 ++ a1 ++ a2 ++ a3 ++ a4 ++ a5 ++ a6 ++ a7 ++ a8 ++ a9 ++ a10 ++ a11 ++ a12 ++ a13 ++ a14 ≡ o ++ (a0 ++ a1 ++ a2 ++ a3 ++ a4 ++ a5 ++ a6 ++ a7 ++ a8 ++ a9 ++ a10 ++ a11 ++ a12 ++ a13 ++ a14)
@@ -139,15 +129,3 @@ names_more o out new ns i n e so_far more =
     let next : flat_map name (take (i + 1) ns) ≡ flat_map name (take i ns) ++ name n = rw add-one (take_one ns i n e) in
     more ∙ ap (λ x. x ++ name n) so_far ∙ append_assoc o (number (length ns) ++ flat_map name (take i ns)) (name n)
     ∙ ap (λ x. o ++ x) (append_assoc (number (length ns)) (flat_map name (take i ns)) (name n) ∙ ap (λ x. number (length ns) ++ x) (sym next))
-
-pub short_section : (h : Header) (code : List Instr) → is_section h code ≡ true → length code ≤ 1000
-unfolding is_section
-short_section h code e = leb-true _ _ (and_parts (leb (length code) 1000) (list_all (is_instr h) code) e).0
-
-pub few_instrs : (p : Program) (id : SectionId) → is_program p ≡ true → length (section p id) ≤ 1000
-unfolding is_program
-few_instrs p id h =
-    let a = and_parts (is_header p.header) (is_section p.header p.selection && (is_section p.header p.update && is_section p.header p.fire)) h in
-    let b = and_parts (is_section p.header p.selection) (is_section p.header p.update && is_section p.header p.fire) a.1 in
-    let c = and_parts (is_section p.header p.update) (is_section p.header p.fire) b.1 in
-    elim id as (λ i. length (section p i) ≤ 1000) [ Where ↦ short_section p.header p.selection b.0 | Update ↦ short_section p.header p.update c.0 | Fire ↦ short_section p.header p.fire c.1 ]

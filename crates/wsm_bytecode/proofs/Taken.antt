@@ -7,9 +7,9 @@ use Rattle.std.proofs.lemmas.Bool.{cases_lt, ltb-false, lt-ltb, ltb-true, and_fr
 use Rattle.std.proofs.lemmas.List.{take-append-drop, length-take, get_or-drop, get_or-take, get_or_past}
 use Rattle.std.proofs.lemmas.Int.{of_z-to_z}
 use Rattle.std.proofs.lemmas.Nat.{le_bytes_2, le_bytes_8}
-use Rattle.wsm_bytecode.specs.declared.refusal.DecodeRefusal.{DecodeRefusal}
-use Rattle.wsm_bytecode.specs.declared.refusal.DecodeRefusal.TheVariants.{Truncated, Operand}
-use Rattle.wsm_bytecode.specs.Program.{is_i64}
+use Rattle.wsm_program.specs.declared.refusal.DecodeRefusal.{DecodeRefusal}
+use Rattle.wsm_program.specs.declared.refusal.DecodeRefusal.TheVariants.{Truncated, Operand}
+use Rattle.wsm_program.specs.Program.{is_i64}
 use Rattle.wsm_bytecode.specs.Spelling.{byte, signed}
 use Rattle.wsm_bytecode.specs.Reading.{Read, ◌>>=◌, bytes_at, number_at, signed_at, judged, several}
 

@@ -3,7 +3,7 @@ use Rattle.std.proofs.Common.{leb, ◌≡◌, ℕ, zero, suc, ◌^◌, ◌≤◌
 use Rattle.std.specs.Prelude.{int_le}
 use Rattle.std.specs.List.{list_all, flat_map}
 use Rattle.std.specs.Int.{w8, w16, w64}
-use Rattle.std.proofs.lemmas.Bool.{leb-true, le-leb, and_parts, and_from}
+use Rattle.std.proofs.lemmas.Bool.{le-leb, and_parts, and_from}
 use Rattle.wsm_record.specs.declared.words.CellType.{CellType}
 use Rattle.wsm_record.specs.declared.words.CellType.TheVariants as types
 use Rattle.wsm_record.specs.declared.Kind.{Kind}
@@ -11,12 +11,13 @@ use Rattle.wsm_windows.specs.declared.Shape.{Shape}
 use Rattle.wsm_windows.specs.declared.Shape.TheVariants.{Fixed, Sliding, Session}
 use Rattle.wsm_record.specs.declared.Mode.{Mode}
 use Rattle.wsm_record.specs.declared.Form.{Form}
-use Rattle.wsm_bytecode.specs.Program.{Name, are_names_after, is_name_list, is_field_type, is_field_after, are_fields_after, is_schema, is_size, is_within, is_shape, is_form_of, is_column, is_stated, is_budget, enum_names}
+use Rattle.wsm_program.specs.Program.{Name, are_names_after, is_name_list, is_field_type, is_field_after, are_fields_after, is_schema, is_size, is_within, is_shape, is_form_of, is_column, is_stated, is_budget, enum_names}
 use Rattle.wsm_record.specs.Schema.{FieldType, Int, Truth, Enum, DeclaredField, Declared}
-use Rattle.wsm_bytecode.specs.declared.program.Budget.{Budget}
+use Rattle.wsm_program.specs.declared.program.Budget.{Budget}
 use Rattle.wsm_record.specs.Name.{is_between, is_name, is_among}
 use Rattle.wsm_bytecode.specs.Reading.{◌>>=◌, judged, bytes_at, number_at, signed_at, name_at, names_after, names_at, interval_at, enum_at, field_type_by, field_type_at, new_field_at, fields_after, schema_at, shape_at, fixed_at, sliding_at, session_at, shape_by, mode_at, mode_by, form_at, form_by, kind_at, kind_by, kinds_at, enum_number_at, enum_column_at, column_by, column_at, columns_at, budget_at, several}
 use Rattle.wsm_bytecode.specs.Spelling.{byte, number, long, signed, name, names, field_type, field, schema, shape, mode, form, kind, column, kinds, columns, budget}
+use Rattle.wsm_program.proofs.Within.{at_most}
 use Rattle.wsm_bytecode.proofs.Parts.{regroup_3}
 use Rattle.wsm_bytecode.proofs.Taken.{IsBytes, bind_ok, judged_ok, ok_is, Took, Exact, bytes_taken, byte_taken, number_taken, wide16, wide64, signed_taken, several_taken}
 
@@ -77,9 +78,6 @@ tag_taken lo hi bytes x fits e =
     let j = judged_ok (is_between lo hi) (number_at w8 bytes) x e in
     let t = byte_taken bytes x fits j.0 in
     record { parts = t.parts; fits = t.fits; good = j.1 }
-
-pub at_most : (lo hi n : ℕ) → is_between lo hi n ≡ true → n ≤ hi
-at_most lo hi n e = leb-true n hi (and_parts (leb lo n) (leb n hi) e).1
 
 -- what stands behind a tag
 after_tag : {A : Type 0} (spell : A → List ℕ) (good : A → Bool) (bytes : List ℕ) (t : ℕ × List ℕ) (x : A × List ℕ) → bytes ≡ byte t.0 ++ t.1 → Took spell good (byte t.0 ++ t.1) x → Took spell good bytes x

@@ -5,27 +5,29 @@ use Rattle.std.specs.List.{list_all, flat_map}
 use Rattle.std.specs.Int.{w8, w16}
 use Rattle.std.proofs.lemmas.Bool.{le-leb, eqb-true, and_parts, and_from}
 use Rattle.std.proofs.lemmas.Slice.Eq.{bytes_eq-Decides}
-use Rattle.wsm_bytecode.specs.declared.refusal.DecodeRefusal.{DecodeRefusal}
-use Rattle.wsm_bytecode.specs.declared.refusal.DecodeRefusal.TheVariants.{BadMagic, Version}
-use Rattle.wsm_bytecode.specs.declared.instr.Instr.{Instr}
+use Rattle.wsm_program.specs.declared.refusal.DecodeRefusal.{DecodeRefusal}
+use Rattle.wsm_program.specs.declared.refusal.DecodeRefusal.TheVariants.{BadMagic, Version}
+use Rattle.wsm_program.specs.declared.instr.Instr.{Instr}
 use Rattle.wsm_record.specs.declared.words.CellType.{CellType}
 use Rattle.wsm_record.specs.declared.Kind.{Kind}
 use Rattle.wsm_windows.specs.declared.Shape.{Shape}
 use Rattle.wsm_record.specs.declared.Mode.{Mode}
 use Rattle.wsm_record.specs.declared.Form.{Form}
-use Rattle.wsm_bytecode.specs.declared.instr.Instr.TheVariants.{PushInt, PushBool, PushEnum, Field, Key, Acc, Count, Operate, Jump, JumpIfFalse, Fold, Return}
+use Rattle.wsm_program.specs.declared.instr.Instr.TheVariants.{PushInt, PushBool, PushEnum, Field, Key, Acc, Count, Operate, Jump, JumpIfFalse, Fold, Return}
 use Rattle.wsm_record.specs.Schema.{Declared}
-use Rattle.wsm_bytecode.specs.declared.program.Budget.{Budget}
-use Rattle.wsm_bytecode.specs.Program.{Header, Program, is_name_of, is_schema, is_instr, is_section, is_header, is_program, enum_names, is_within, latest_time, is_span, is_size, is_column}
+use Rattle.wsm_program.specs.declared.program.Budget.{Budget}
+use Rattle.wsm_program.specs.Program.{Header, Program, is_name_of, is_schema, is_instr, is_section, is_header, is_program, enum_names, is_within, latest_time, is_span, is_size, is_column}
 use Rattle.wsm_record.specs.Name.{is_between}
 use Rattle.wsm_bytecode.specs.Reading.{◌>>=◌, Read, judged, number_at, signed_at, enum_number_at, push_int_at, push_bool_at, push_enum_at, index_at, target_at, plain_instr, plain_at, instr_by, instr_at, code_at, several, after_magic, after_version, bytes_at, schema_at, shape_at, mode_at, form_at, kinds_at, columns_at, budget_at, header_at, program_at, all_read, decode}
-use Rattle.wsm_bytecode.specs.declared.operation.Operation.{Operation}
-use Rattle.wsm_bytecode.specs.Operations as operation
-use Rattle.wsm_bytecode.specs.Operations.{of_code, first_of_code, operations}
-use Rattle.wsm_bytecode.specs.Spelling.{byte, number, signed, truth, instr, code, magic, header, schema, shape, mode, form, kinds, columns, budget, spelling}
+use Rattle.wsm_program.specs.declared.operation.Operation.{Operation}
+use Rattle.wsm_program.specs.Operations as operation
+use Rattle.wsm_program.specs.Operations.{of_code, first_of_code, operations}
+use Rattle.wsm_program.specs.Instructions.{truth}
+use Rattle.wsm_bytecode.specs.Spelling.{byte, number, signed, instr, code, magic, header, schema, shape, mode, form, kinds, columns, budget, spelling}
 use Rattle.wsm_bytecode.proofs.Codec.{regroup_4, regroup_15}
 use Rattle.wsm_bytecode.proofs.Taken.{IsBytes, bind_ok, test_ok, judged_ok, ok_is, Took, Exact, bytes_taken, byte_taken, number_taken, wide16, signed_taken, several_taken}
-use Rattle.wsm_bytecode.proofs.TakenParts.{tag_taken, at_most, measure_taken, schema_taken, shape_taken, mode_taken, form_taken, kinds_taken, columns_taken, budget_taken, enum_number_taken}
+use Rattle.wsm_program.proofs.Within.{at_most}
+use Rattle.wsm_bytecode.proofs.TakenParts.{tag_taken, measure_taken, schema_taken, shape_taken, mode_taken, form_taken, kinds_taken, columns_taken, budget_taken, enum_number_taken}
 
 -- ---- instructions
 

@@ -1,7 +1,3 @@
-pub mod Program
-pub mod Operations
-pub mod Instructions
-pub mod View
 pub mod Spelling
 pub mod Reading
 pub mod Text

@@ -5,23 +5,23 @@ use Rattle.wsm_record.specs.declared.words.CellType.{CellType}
 use Rattle.wsm_record.specs.declared.words.CellType.TheVariants as types
 use Rattle.wsm_record.specs.declared.Kind.{Kind}
 use Rattle.wsm_record.specs.declared.Kind.TheVariants.{Sum, Min, Max, Any, All}
-use Rattle.wsm_bytecode.specs.declared.instr.Instr.{Instr}
-use Rattle.wsm_bytecode.specs.declared.instr.Instr.TheVariants.{PushInt, PushBool, PushEnum, Field, Key, Acc, Count, Operate, Jump, JumpIfFalse, Fold, Return}
+use Rattle.wsm_program.specs.declared.instr.Instr.{Instr}
+use Rattle.wsm_program.specs.declared.instr.Instr.TheVariants.{PushInt, PushBool, PushEnum, Field, Key, Acc, Count, Operate, Jump, JumpIfFalse, Fold, Return}
 use Rattle.wsm_windows.specs.declared.Shape.{Shape}
 use Rattle.wsm_windows.specs.declared.Shape.TheVariants.{Fixed, Sliding, Session}
 use Rattle.wsm_record.specs.declared.Mode.{Mode}
 use Rattle.wsm_record.specs.declared.Mode.TheVariants.{Discarding, Accumulating}
 use Rattle.wsm_record.specs.declared.Form.{Form}
 use Rattle.wsm_record.specs.declared.Form.TheVariants.{Panes, Istream, Dstream, Rstream}
-use Rattle.wsm_bytecode.specs.declared.refusal.DecodeRefusal.{DecodeRefusal}
-use Rattle.wsm_bytecode.specs.declared.refusal.DecodeRefusal.TheVariants.{BadMagic, Version, Truncated, UnknownOpcode, Operand, TrailingBytes, Memory}
-use Rattle.wsm_bytecode.specs.Program.{Name, Header, Program, enum_names, is_name_of, is_within, latest_time, is_span, is_size, is_form_of, is_stated}
+use Rattle.wsm_program.specs.declared.refusal.DecodeRefusal.{DecodeRefusal}
+use Rattle.wsm_program.specs.declared.refusal.DecodeRefusal.TheVariants.{BadMagic, Version, Truncated, UnknownOpcode, Operand, TrailingBytes, Memory}
+use Rattle.wsm_program.specs.Program.{Name, Header, Program, enum_names, is_name_of, is_within, latest_time, is_span, is_size, is_form_of, is_stated}
 use Rattle.wsm_record.specs.Schema.{FieldType, Int, Truth, Enum, DeclaredField, Declared}
-use Rattle.wsm_bytecode.specs.declared.program.Budget.{Budget}
+use Rattle.wsm_program.specs.declared.program.Budget.{Budget}
 use Rattle.wsm_record.specs.declared.limits.TheConstants.{MAX_ACCUMULATORS, MAX_COLUMNS, MAX_FIELDS, MAX_NAME, MAX_NAMES, MAX_PANES, MAX_SECTION}
 use Rattle.wsm_record.specs.Name.{is_between, is_name, is_among}
 use Rattle.wsm_bytecode.specs.Spelling.{magic}
-use Rattle.wsm_bytecode.specs.Operations.{of_code}
+use Rattle.wsm_program.specs.Operations.{of_code}
 
 -- a value and the bytes after it, or the first fault
 abbrev pub Read : Type 0 → Type 0

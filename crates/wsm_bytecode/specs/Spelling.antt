@@ -1,24 +1,25 @@
 -- The one spelling of a program as bytes, version 1. Numbers stand with their lowest byte first.
-use Rattle.std.specs.Prelude.{ℕ, Bool, true, false, List, [], ◌++◌, length, ℤ, codes}
+use Rattle.std.specs.Prelude.{ℕ, List, [], ◌++◌, length, ℤ, codes}
 use Rattle.std.specs.List.{flat_map}
 use Rattle.std.specs.Int.{w8, w16, w64, to_le_bytes, cast_unsigned}
 use Rattle.wsm_record.specs.declared.words.CellType.{CellType}
 use Rattle.wsm_record.specs.declared.words.CellType.TheVariants as types
 use Rattle.wsm_record.specs.declared.Kind.{Kind}
 use Rattle.wsm_record.specs.declared.Kind.TheVariants.{Sum, Min, Max, Any, All}
-use Rattle.wsm_bytecode.specs.declared.instr.Instr.{Instr}
-use Rattle.wsm_bytecode.specs.declared.table.Argument.{Argument}
-use Rattle.wsm_bytecode.specs.declared.table.Argument.TheVariants as arguments
+use Rattle.wsm_program.specs.declared.instr.Instr.{Instr}
+use Rattle.wsm_program.specs.declared.table.Argument.{Argument}
+use Rattle.wsm_program.specs.declared.table.Argument.TheVariants as arguments
 use Rattle.wsm_windows.specs.declared.Shape.{Shape}
 use Rattle.wsm_windows.specs.declared.Shape.TheVariants.{Fixed, Sliding, Session}
 use Rattle.wsm_record.specs.declared.Mode.{Mode}
 use Rattle.wsm_record.specs.declared.Mode.TheVariants.{Discarding, Accumulating}
 use Rattle.wsm_record.specs.declared.Form.{Form}
 use Rattle.wsm_record.specs.declared.Form.TheVariants.{Panes, Istream, Dstream, Rstream}
-use Rattle.wsm_bytecode.specs.Program.{Name, Header, Program}
+use Rattle.wsm_program.specs.Program.{Name, Header, Program}
 use Rattle.wsm_record.specs.Schema.{FieldType, Int, Truth, Enum, DeclaredField, Declared}
-use Rattle.wsm_bytecode.specs.declared.program.Budget.{Budget}
-use Rattle.wsm_bytecode.specs.Instructions as table
+use Rattle.wsm_program.specs.declared.program.Budget.{Budget}
+use Rattle.wsm_program.specs.Instructions as table
+use Rattle.wsm_program.specs.Instructions.{truth}
 
 abbrev pub byte : ℕ → List ℕ
 byte n = to_le_bytes w8 n
@@ -94,10 +95,6 @@ header h = magic ++ byte 1 ++ schema h.schema
     ++ signed h.start ++ signed h.skew ++ signed h.lateness ++ signed h.records
     ++ shape h.shape ++ mode h.mode ++ signed h.early ++ signed h.late ++ form h.form
     ++ kinds h.kinds ++ columns h.columns ++ budget h.budget
-
-abbrev pub truth : Bool → ℕ
-truth false = 0
-truth true = 1
 
 abbrev pub argument : Argument → List ℕ
 argument arguments.Nothing = []

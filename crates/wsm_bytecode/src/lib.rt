@@ -1,9 +1,8 @@
-//! Programs of the stream machine: their instructions, their one spelling as bytes, their listing.
+//! Programs as bytes and as text: the one spelling of a program, and its listing.
 //!
-//! A [`Program`] is a [`Header`] and three sections of instructions: `where` selects records,
-//! `update` folds a record into its pane's accumulators, and `fire` computes the row of a pane. A
-//! program always names only fields, accumulators and names that its header has, and its numbers
-//! lie in their ranges: [`Program::new`] and [`decode`] refuse anything else.
+//! [`encode`] spells a [`Program`], [`decode`] reads bytes that spell one and refuses any other, and
+//! [`disassemble`] lists its instructions. What a program is stands in `wsm_program`, whose types
+//! are handed on here.
 //!
 //! Where `bytes` is the program that counts the records of two keys in windows of 60 and sums their
 //! one field:
@@ -21,34 +20,23 @@
 //! assert!(rt; cut.is_err_and(|e| e == DecodeRefusal::Truncated));
 //! ```
 //!
-//! - `instr`, `operation`, `table`: the instructions, and what each is
-//! - `program`: headers and programs
-//! - `refusal`: why bytes are no program
 //! - `reading`: from bytes to a program
 //! - `writing`: from a program to its bytes
-//! - `judging`, `enums`, `limits`: the same checks on the parts of a program
+//! - `limits`: what the bytes begin with, and their limits
 //! - `listing`: a line of text for each instruction
 #![tactic(auto)]
 
-pub use instr::{Instr, SectionId};
 pub use listing::disassemble;
-pub use operation::{Operands, Operation};
-pub use program::{Budget, Header, Program, Section};
 pub use reading::decode;
-pub use refusal::DecodeRefusal;
 pub use writing::encode;
-pub use wsm_record::CellType;
+pub use wsm_program::{
+    Budget, CellType, DecodeRefusal, Header, Instr, Operands, Operation, Program, Section,
+    SectionId,
+};
 
-mod enums;
-mod instr;
-mod judging;
 mod limits;
 mod listing;
-mod operation;
-mod program;
 mod reading;
-mod refusal;
-mod table;
 #[cfg(test)]
 mod tests;
 mod writing;

@@ -3,11 +3,8 @@
 ghost use Rattle.std.specs.Prelude.{◌≡◌, ◌++◌, IfOk, OnOk, string_bytes};
 ghost use Rattle.wsm_bytecode.specs.Text.{text, section_text};
 
-use crate::instr::{Instr, SectionId};
-use crate::program::Program;
-use crate::table::Argument;
 use std::alloc::{AllocError, Global};
-use std::fmt;
+use wsm_program::{Instr, Program, SectionId};
 
 /// The lines of a program: section, place, name and operands in decimal, joined by one space.
 ///
@@ -42,39 +39,4 @@ fn list_section(listing: &mut String, id: SectionId, instrs: &[Instr]) -> Result
         write!(listing, "{id} {place} {instr}\n")?;
     }
     Ok(())
-}
-
-impl fmt::Display for SectionId {
-    ghost use Rattle.std.specs.Prelude.{Some};
-    ghost use Rattle.wsm_bytecode.specs.Text.{section_name};
-
-    ghost output = { λ id. Some (section_name id) };
-
-    fn fmt<W: fmt::Write>(&self, f: &mut fmt::Formatter<W>) -> fmt::Result {
-        match self {
-            SectionId::Where => f.write_str("where"),
-            SectionId::Update => f.write_str("update"),
-            SectionId::Fire => f.write_str("fire"),
-        }
-    }
-}
-
-/// The name, and the operands in decimal.
-impl fmt::Display for Instr {
-    ghost use Rattle.std.specs.Prelude.{Some};
-    ghost use Rattle.wsm_bytecode.specs.Text.{instr_text};
-
-    ghost output = { λ instr. Some (instr_text instr) };
-
-    fn fmt<W: fmt::Write>(&self, f: &mut fmt::Formatter<W>) -> fmt::Result {
-        let name = self.name();
-        match self.argument() {
-            Argument::Nothing => f.write_str(name),
-            Argument::Number(value) => write!(f, "{name} {value}"),
-            Argument::Truth(truth) => write!(f, "{name} {}", u8::from(truth)),
-            Argument::Name(list, number) => write!(f, "{name} {list} {number}"),
-            Argument::Index(index) => write!(f, "{name} {index}"),
-            Argument::Target(target) => write!(f, "{name} {target}"),
-        }
-    }
 }

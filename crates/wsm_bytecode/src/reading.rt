@@ -1,15 +1,14 @@
 //! From bytes to a program.
 
 ghost use Rattle.std.specs.Prelude.{◌≡◌, IfOk, IsTrue, Ok};
-ghost use Rattle.wsm_bytecode.specs.Program.{Program as Value, is_program};
+ghost use Rattle.wsm_program.specs.Program.{Program as Value, is_program};
 ghost use Rattle.wsm_bytecode.specs.Spelling.{spelling};
 ghost use Rattle.wsm_bytecode.specs.Reading.{Gives, program_at, decode as decoded};
 
-use crate::program::Program;
 use crate::reading::code::section_of;
 use crate::reading::header::header_of;
-use crate::refusal::DecodeRefusal;
 use std::alloc::Global;
+use wsm_program::{DecodeRefusal, Program};
 
 mod code;
 mod header;

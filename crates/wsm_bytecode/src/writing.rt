@@ -3,11 +3,10 @@
 ghost use Rattle.std.specs.Prelude.{◌≡◌, IfOk};
 ghost use Rattle.wsm_bytecode.specs.Spelling.{spelling};
 
-use crate::instr::SectionId;
-use crate::program::Program;
 use crate::writing::code::put_section;
 use crate::writing::header::put_header;
 use std::alloc::{AllocError, Global};
+use wsm_program::{Program, SectionId};
 
 mod code;
 mod header;

@@ -4,8 +4,8 @@ use Rattle.std.specs.Prelude.{is_some, is_none, is_ok, option_map, nat_lt, nat_l
 use Rattle.std.specs.List.{list_all, flat_map}
 use Rattle.std.proofs.lemmas.Bool.{and_from, and_parts}
 use Rattle.std.proofs.Math.Bool.{and-true, and_assoc}
-use Rattle.wsm_bytecode.specs.declared.SectionId.TheVariants.{Where, Update, Fire}
-use Rattle.wsm_bytecode.specs.declared.program.Budget.{Budget as Stated}
+use Rattle.wsm_program.specs.declared.SectionId.TheVariants.{Where, Update, Fire}
+use Rattle.wsm_program.specs.declared.program.Budget.{Budget as Stated}
 use Rattle.wsm_interval.specs.declared.interval.Interval.{Interval}
 use Rattle.wsm_interval.specs.Interval.{add, sub, mul, div, rem}
 use Rattle.wsm_query.specs.declared.expr.Op.{Op}

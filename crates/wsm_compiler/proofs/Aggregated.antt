@@ -11,7 +11,7 @@ use Rattle.wsm_check.specs.Types.{typed}
 use Rattle.wsm_check.specs.declared.types.Around.TheVariants.{InColumn}
 use Rattle.wsm_check.specs.Sizes.{Acc, accumulators_of, aggregates}
 use Rattle.wsm_compiler.specs.Meaning.{Scene, meaning_from, met_from, on_records, on_accumulators, on_two, both, minus, negated, chosen, chosen_numbers, number_of}
-use Rattle.wsm_bytecode.specs.declared.instr.SectionId.TheVariants.{Fire}
+use Rattle.wsm_program.specs.declared.instr.SectionId.TheVariants.{Fire}
 use Rattle.wsm_machine.specs.Run.{run}
 use Rattle.wsm_check.specs.Parts.{type_or_int}
 use Rattle.wsm_compiler.specs.Program.{stated, needed_of, program_of}

@@ -7,10 +7,10 @@ use Rattle.std.proofs.lemmas.List.{length-map}
 use Rattle.std.specs.Prelude.{◌&&◌}
 use Rattle.std.proofs.lemmas.Bool.{and_parts}
 use Rattle.wsm_record.specs.Schema.{schema_refusal}
-use Rattle.wsm_bytecode.specs.declared.instr.Instr.{Instr}
-use Rattle.wsm_bytecode.specs.declared.program.Budget.{Budget as Stated}
-use Rattle.wsm_bytecode.specs.Program.{Header, Program, is_schema, is_clock, is_firing, is_row, is_budget, is_header, is_program}
-use Rattle.wsm_bytecode.proofs.Stating.{lawful_stating}
+use Rattle.wsm_program.specs.declared.instr.Instr.{Instr}
+use Rattle.wsm_program.specs.declared.program.Budget.{Budget as Stated}
+use Rattle.wsm_program.specs.Program.{Header, Program, is_schema, is_clock, is_firing, is_row, is_budget, is_header, is_program}
+use Rattle.wsm_program.proofs.Stating.{lawful_stating}
 use Rattle.wsm_verifier.specs.Costs.{needed}
 use Rattle.wsm_query.specs.Tree.{Query}
 use Rattle.wsm_check.specs.Sizes.{accumulators}
@@ -22,7 +22,7 @@ use Rattle.wsm_compiler.proofs.Passed.{passed}
 use Rattle.wsm_compiler.proofs.Lawful.{is_lawful}
 use Rattle.wsm_compiler.proofs.Schemas.{schema_fits}
 use Rattle.wsm_compiler.proofs.Resolving.{ended_size, folded_size, fired_size, assembled_is}
-use Rattle.wsm_bytecode.proofs.Spelled.{program_header}
+use Rattle.wsm_program.proofs.Lawful.{program_header}
 
 budget_of : (p : Program) → is_program p ≡ true → is_budget p.header.budget ≡ true
 unfolding is_header

@@ -2,7 +2,7 @@
 use Rattle.std.proofs.Common.{◌≡◌, ℕ, suc, ◌≤◌, List, [], ◌∷◌, ◌++◌, Option, Some, None, Ok, Err, refl, sym, ap, arith}
 use Rattle.std.specs.Prelude.{max}
 use Rattle.std.specs.List.{flat_map}
-use Rattle.wsm_bytecode.specs.declared.program.Budget.{Budget as Stated}
+use Rattle.wsm_program.specs.declared.program.Budget.{Budget as Stated}
 use Rattle.wsm_query.specs.Tree.{Query, Expr, Number, Truth, Field, EnumName, Key, KeyName, Count, Aggregate, If, Brackets, Minus, Not, Binary, And, Or}
 use Rattle.wsm_check.specs.declared.refusal.Part.{Part}
 use Rattle.wsm_check.specs.declared.refusal.Part.TheVariants as part

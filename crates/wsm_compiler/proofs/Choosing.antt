@@ -4,14 +4,14 @@ use Rattle.std.specs.Prelude.{is_some, nat_eq, nat_lt}
 use Rattle.std.specs.List.{cons_option}
 use Rattle.std.proofs.lemmas.Bool.{and_from, lt-ltb, eq-eqb, or_right}
 use Rattle.std.proofs.Math.Bool.{and-false}
-use Rattle.wsm_bytecode.specs.declared.Instr.{Instr}
-use Rattle.wsm_bytecode.specs.declared.Instr.TheVariants.{Jump, JumpIfFalse}
-use Rattle.wsm_bytecode.specs.declared.SectionId.{SectionId}
-use Rattle.wsm_bytecode.specs.declared.SectionId.TheVariants.{Where, Update, Fire}
+use Rattle.wsm_program.specs.declared.Instr.{Instr}
+use Rattle.wsm_program.specs.declared.Instr.TheVariants.{Jump, JumpIfFalse}
+use Rattle.wsm_program.specs.declared.SectionId.{SectionId}
+use Rattle.wsm_program.specs.declared.SectionId.TheVariants.{Where, Update, Fire}
 use Rattle.wsm_verifier.specs.declared.known.Known.{Known}
 use Rattle.wsm_verifier.specs.declared.known.Known.TheVariants.{Truth}
 use Rattle.wsm_verifier.specs.Labels.{State, Label, Unreached, Reached, Visit, same_type, hull_known, agree, hull_states, hull_all, carried_to, visit, visit_of}
-use Rattle.wsm_bytecode.specs.Instructions.{is_later}
+use Rattle.wsm_program.specs.Instructions.{is_later}
 use Rattle.wsm_verifier.specs.Rules.{Setting, fold_missing, fault_of}
 use Rattle.wsm_compiler.specs.Code.{choice}
 use Rattle.wsm_compiler.proofs.Visits.{nil_right, extended, added, extended_is, added_append, carries, carries_append, faults, faults_append, or_true}

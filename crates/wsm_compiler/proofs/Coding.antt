@@ -1,9 +1,9 @@
 -- Code that is added part by part.
 use Rattle.std.proofs.Common.{◌≡◌, ℕ, ◌+◌, ◌<◌, false, true, List, [], ◌∷◌, ◌++◌, length, map, drop, get_or, refl, sym, ◌∙◌, ap, arith, add-one, append_assoc, length-append}
 use Rattle.std.proofs.lemmas.List.{drop_more}
-use Rattle.wsm_bytecode.specs.declared.instr.Instr.{Instr}
-use Rattle.wsm_bytecode.specs.declared.instr.Instr.TheVariants as instr
-use Rattle.wsm_bytecode.specs.declared.operation.Operation.TheVariants as operation
+use Rattle.wsm_program.specs.declared.instr.Instr.{Instr}
+use Rattle.wsm_program.specs.declared.instr.Instr.TheVariants as instr
+use Rattle.wsm_program.specs.declared.operation.Operation.TheVariants as operation
 use Rattle.wsm_check.specs.Terms.{Term, Number, Truth, Field, Name, Key, Count, Accumulator, If, Minus, Not, Binary, And, Or}
 use Rattle.wsm_compiler.specs.Code.{instruction, choice}
 use Rattle.wsm_check.specs.Parts.{Folding}

@@ -12,7 +12,7 @@ use Rattle.wsm_windows.specs.declared.window.Shape.TheVariants.{Fixed, Sliding, 
 use Rattle.wsm_windows.specs.Life.{live_bound}
 use Rattle.wsm_verifier.specs.declared.costs.Costs.{Costs}
 use Rattle.wsm_verifier.specs.Costs.{windows_of_a_record, join_steps}
-use Rattle.wsm_bytecode.specs.Program.{is_stated, is_budget}
+use Rattle.wsm_program.specs.Program.{is_stated, is_budget}
 use Rattle.wsm_query.specs.Tree.{Query, Budget, Expr, Number, Truth, Field, EnumName, Key, KeyName, Count, Aggregate, If, Brackets, Minus, Not, Binary, And, Or}
 use Rattle.wsm_check.specs.Checks.{in_range, is_count, is_span, is_time, is_cost, shape_fits, budget_fits}
 use Rattle.wsm_check.specs.Sizes.{Acc, accumulators, size, condition_size, folds_size, columns_size}

@@ -7,9 +7,9 @@ use Rattle.std.proofs.lemmas.Option.{same_Some}
 use Rattle.wsm_record.specs.declared.words.Kind.{Kind}
 use Rattle.wsm_record.specs.declared.words.Kind.TheVariants.{Sum, Min, Max, Any, All}
 use Rattle.wsm_interval.specs.Interval.{interval, in_i64}
-use Rattle.wsm_bytecode.specs.declared.instr.Instr.TheVariants.{Fold}
-use Rattle.wsm_bytecode.specs.declared.SectionId.TheVariants.{Update}
-use Rattle.wsm_bytecode.specs.declared.program.Budget.{Budget as Stated}
+use Rattle.wsm_program.specs.declared.instr.Instr.TheVariants.{Fold}
+use Rattle.wsm_program.specs.declared.SectionId.TheVariants.{Update}
+use Rattle.wsm_program.specs.declared.program.Budget.{Budget as Stated}
 use Rattle.wsm_query.specs.Tree.{Query}
 use Rattle.wsm_record.specs.Types.{kind_type}
 use Rattle.wsm_check.specs.Types.{typed}

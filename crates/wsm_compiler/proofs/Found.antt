@@ -5,9 +5,9 @@ use Rattle.std.specs.Int.{int_max}
 use Rattle.std.proofs.lemmas.Option.{same_Some}
 use Rattle.wsm_interval.specs.declared.interval.Interval.{Interval}
 use Rattle.wsm_interval.specs.Interval.{interval, around, rem_within, div, rem}
-use Rattle.wsm_bytecode.specs.declared.instr.Instr.{Instr}
-use Rattle.wsm_bytecode.specs.declared.instr.Instr.TheVariants as instr
-use Rattle.wsm_bytecode.specs.declared.operation.Operation.TheVariants as operation
+use Rattle.wsm_program.specs.declared.instr.Instr.{Instr}
+use Rattle.wsm_program.specs.declared.instr.Instr.TheVariants as instr
+use Rattle.wsm_program.specs.declared.operation.Operation.TheVariants as operation
 use Rattle.wsm_query.specs.declared.expr.Op.{Op}
 use Rattle.wsm_query.specs.declared.expr.Op.TheVariants.{Add, Sub, Mul, Div, Rem, Eq, Ne, Lt, Le, Gt, Ge}
 use Rattle.wsm_query.specs.Tree.{Query, Expr, Number, Truth, Field, EnumName, Key, KeyName, Count, Aggregate, If, Brackets, Minus, Not, Binary, And, Or}
@@ -16,7 +16,7 @@ use Rattle.wsm_check.specs.Sizes.{aggregates}
 use Rattle.wsm_verifier.specs.declared.known.Known.{Known}
 use Rattle.wsm_verifier.specs.declared.known.Known.TheVariants as known
 use Rattle.wsm_verifier.specs.Labels.{State, pushed, of_one, of_two}
-use Rattle.wsm_bytecode.specs.Instructions.{may_stand}
+use Rattle.wsm_program.specs.Instructions.{may_stand}
 use Rattle.wsm_verifier.specs.Rules.{Setting, types_fit, has_zero, and_then}
 use Rattle.wsm_compiler.specs.Code.{instruction}
 use Rattle.wsm_machine.proofs.Fitting.{no}

@@ -12,9 +12,9 @@ use Rattle.wsm_record.specs.Name.{is_name, is_among, is_between}
 use Rattle.wsm_windows.specs.declared.window.Shape.{Shape}
 use Rattle.wsm_windows.specs.declared.window.Shape.TheVariants.{Fixed, Sliding, Session}
 use Rattle.wsm_interval.specs.Interval.{in_i64}
-use Rattle.wsm_bytecode.specs.declared.instr.Instr.{Instr}
-use Rattle.wsm_bytecode.specs.declared.program.Budget.{Budget as Stated}
-use Rattle.wsm_bytecode.specs.Program.{Header, is_name_list, is_field_type, is_field_after, are_fields_after, is_schema, is_span, is_size, is_within, is_shape, is_form_of, is_column, is_clock, is_firing, is_row, is_budget, is_header, is_instr, is_section, is_program}
+use Rattle.wsm_program.specs.declared.instr.Instr.{Instr}
+use Rattle.wsm_program.specs.declared.program.Budget.{Budget as Stated}
+use Rattle.wsm_program.specs.Program.{Header, is_name_list, is_field_type, is_field_after, are_fields_after, is_schema, is_span, is_size, is_within, is_shape, is_form_of, is_column, is_clock, is_firing, is_row, is_budget, is_header, is_instr, is_section, is_program}
 use Rattle.wsm_record.specs.Schema.{FieldType, DeclaredField}
 use Rattle.wsm_record.specs.Schema as field_types
 use Rattle.wsm_query.specs.Tree.{Name, Query, Expr, Number, Truth, Field, EnumName, Key, KeyName, Count, Aggregate, If, Brackets, Minus, Not, Binary, And, Or}

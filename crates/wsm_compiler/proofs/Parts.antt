@@ -3,8 +3,8 @@ use Rattle.std.proofs.Common.{◌≡◌, ℕ, suc, ◌+◌, ◌<◌, Bool, true,
 use Rattle.std.specs.Prelude.{is_some, is_none, option_map, nat_eq, nat_lt}
 use Rattle.std.specs.List.{cons_option, list_any}
 use Rattle.std.proofs.Math.Bool.{or-false}
-use Rattle.wsm_bytecode.specs.declared.Instr.{Instr}
-use Rattle.wsm_bytecode.specs.Instructions.{next}
+use Rattle.wsm_program.specs.declared.Instr.{Instr}
+use Rattle.wsm_program.specs.Instructions.{next}
 use Rattle.wsm_verifier.specs.Labels.{State, Ranges, Label, Reached, Visit, after, carried_to, hull_all, gathered, label_of, visit, visit_of}
 use Rattle.wsm_verifier.specs.Rules.{Setting, fault_of, fault_at, and_then}
 use Rattle.wsm_compiler.proofs.Visits.{nil_right, both_empty, extended, added, extended_is, added_append, length-extended, carries, carries_append, label_gathered, faults, faults_append, or_true}

@@ -8,7 +8,7 @@ use Rattle.std.proofs.lemmas.Bool.{and_parts, not-true}
 use Rattle.wsm_record.specs.declared.schema.SchemaRefusal.TheVariants.{DuplicateName, EmptyRange}
 use Rattle.wsm_record.specs.Name.{is_name, is_among, is_between, repeats_after}
 use Rattle.wsm_record.specs.Schema.{FieldType, Int, Truth, Enum, DeclaredField, Declared, has_too_many_names, type_refusal, fields_refusal, or_else, schema_refusal, is_too_many}
-use Rattle.wsm_bytecode.specs.Program.{Name, is_i64, are_names_after, is_name_list, is_field_type, is_field_after, are_fields_after, is_schema}
+use Rattle.wsm_program.specs.Program.{Name, is_i64, are_names_after, is_name_list, is_field_type, is_field_after, are_fields_after, is_schema}
 use Rattle.wsm_machine.proofs.Fitting.{no}
 
 no_repeats : (before names : List Name) → are_names_after before names ≡ true → repeats_after before names ≡ false

@@ -7,10 +7,10 @@ use Rattle.wsm_record.specs.declared.event.Value.{Value}
 use Rattle.wsm_record.specs.declared.event.Value.TheVariants.{Int, Bool as Truth', Enum}
 use Rattle.wsm_record.specs.declared.words.CellType.{CellType}
 use Rattle.wsm_record.specs.declared.words.CellType.TheVariants as types
-use Rattle.wsm_bytecode.specs.declared.instr.Instr.{Instr}
-use Rattle.wsm_bytecode.specs.declared.instr.Instr.TheVariants as instr
-use Rattle.wsm_bytecode.specs.declared.instr.SectionId.TheVariants.{Where, Fire}
-use Rattle.wsm_bytecode.specs.declared.program.Budget.{Budget as Stated}
+use Rattle.wsm_program.specs.declared.instr.Instr.{Instr}
+use Rattle.wsm_program.specs.declared.instr.Instr.TheVariants as instr
+use Rattle.wsm_program.specs.declared.instr.SectionId.TheVariants.{Where, Fire}
+use Rattle.wsm_program.specs.declared.program.Budget.{Budget as Stated}
 use Rattle.wsm_machine.specs.declared.cell.Cell.{Cell}
 use Rattle.wsm_machine.specs.declared.outcome.Outcome.TheVariants.{Done}
 use Rattle.wsm_machine.specs.declared.outcome.Trap.TheVariants.{Underflow, BadReturn}

@@ -8,8 +8,8 @@ use Rattle.wsm_record.specs.declared.words.Kind.{Kind}
 use Rattle.wsm_record.specs.declared.words.Kind.TheVariants.{Sum, Min, Max, Any, All}
 use Rattle.wsm_record.specs.Name.{is_among}
 use Rattle.wsm_fold.specs.Fold.{is_of_kind, are_of_kinds}
-use Rattle.wsm_bytecode.specs.declared.SectionId.TheVariants.{Where, Update, Fire}
-use Rattle.wsm_bytecode.specs.declared.program.Budget.{Budget as Stated}
+use Rattle.wsm_program.specs.declared.SectionId.TheVariants.{Where, Update, Fire}
+use Rattle.wsm_program.specs.declared.program.Budget.{Budget as Stated}
 use Rattle.wsm_machine.specs.Inputs.{Inputs, is_of_field, are_of_fields}
 use Rattle.wsm_machine.specs.Step.{setting}
 use Rattle.wsm_record.specs.Schema.{FieldType, DeclaredField}

@@ -1,6 +1,6 @@
 -- The sizes by which a query is checked are the lengths of its sections.
 use Rattle.std.proofs.Common.{◌+◌, [], ◌∷◌, ap, ◌∙◌, length-append}
-use Rattle.wsm_bytecode.specs.declared.instr.Instr.TheVariants as instr
+use Rattle.wsm_program.specs.declared.instr.Instr.TheVariants as instr
 use Rattle.wsm_query.specs.Tree.{Query}
 use Rattle.wsm_check.specs.Sizes.{accumulators}
 use Rattle.wsm_compiler.specs.Code.{condition_code}

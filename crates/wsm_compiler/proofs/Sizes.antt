@@ -1,11 +1,11 @@
 -- Lengths of code, and that no part of it is empty.
 use Rattle.std.proofs.Common.{◌≡◌, ℕ, ◌+◌, ◌<◌, true, false, List, [], ◌∷◌, ◌++◌, length, refl, arith, length-append}
-use Rattle.wsm_bytecode.specs.declared.instr.Instr.{Instr}
+use Rattle.wsm_program.specs.declared.instr.Instr.{Instr}
 use Rattle.wsm_query.specs.Tree.{Query, Expr, Number, Truth, Field, EnumName, Key, KeyName, Count, Aggregate, If, Brackets, Minus, Not, Binary, And, Or}
 use Rattle.wsm_check.specs.Sizes.{aggregates, size, need}
 use Rattle.wsm_compiler.specs.Code.{code, choice, instruction}
-use Rattle.wsm_bytecode.specs.declared.instr.Instr.TheVariants as instr
-use Rattle.wsm_bytecode.specs.declared.operation.Operation.TheVariants as operation
+use Rattle.wsm_program.specs.declared.instr.Instr.TheVariants as instr
+use Rattle.wsm_program.specs.declared.operation.Operation.TheVariants as operation
 
 pub length-choice : (j : ℕ) (first : List Instr) (m : ℕ) (second : List Instr) (n : ℕ) → length (choice j first m second n) ≡ length first + length second + 2
 length-choice j first m second n = let l = length-append first (instr.Jump (j + m + 1 + n) ∷ second) in omega (arith, l)

@@ -4,13 +4,13 @@ use Rattle.std.specs.Prelude.{ℤ, is_some, is_none, option_map, nat_eq, nat_lt}
 use Rattle.std.specs.List.{list_any}
 use Rattle.std.proofs.Math.Bool.{and-false}
 use Rattle.wsm_record.specs.declared.Kind.{Kind}
-use Rattle.wsm_bytecode.specs.declared.Instr.{Instr}
-use Rattle.wsm_bytecode.specs.declared.Instr.TheVariants.{Jump, JumpIfFalse, Fold, Return}
-use Rattle.wsm_bytecode.specs.declared.SectionId.{SectionId}
-use Rattle.wsm_bytecode.specs.declared.SectionId.TheVariants.{Where, Update, Fire}
+use Rattle.wsm_program.specs.declared.Instr.{Instr}
+use Rattle.wsm_program.specs.declared.Instr.TheVariants.{Jump, JumpIfFalse, Fold, Return}
+use Rattle.wsm_program.specs.declared.SectionId.{SectionId}
+use Rattle.wsm_program.specs.declared.SectionId.TheVariants.{Where, Update, Fire}
 use Rattle.wsm_verifier.specs.declared.rejection.Rule.{Rule}
 use Rattle.wsm_verifier.specs.declared.known.Known.{Known}
-use Rattle.wsm_bytecode.specs.Instructions.{next, may_stand, bad_jump, goes_on}
+use Rattle.wsm_program.specs.Instructions.{next, may_stand, bad_jump, goes_on}
 use Rattle.wsm_verifier.specs.Labels.{State, Reached, pops, pushed, folded_after}
 use Rattle.wsm_verifier.specs.Rules.{Setting, types_fit, folds_again, may_divide_by_zero, accumulator_leaves, overflows, fold_missing, first_of, tests, fault_of}
 use Rattle.wsm_machine.proofs.Fitting.{no}

@@ -6,9 +6,9 @@ use Rattle.std.proofs.lemmas.Bool.{and_from, and_parts}
 use Rattle.wsm_record.specs.declared.event.Value.{Value}
 use Rattle.wsm_record.specs.declared.event.Value.TheVariants.{Int, Bool as Truth', Enum}
 use Rattle.wsm_record.specs.Schema.{FieldType, Int as Between, Truth, Enum as Names, DeclaredField, fits_type, fit_fields}
-use Rattle.wsm_bytecode.specs.declared.instr.SectionId.{SectionId}
-use Rattle.wsm_bytecode.specs.declared.instr.SectionId.TheVariants.{Where, Update}
-use Rattle.wsm_bytecode.specs.Program.{is_program}
+use Rattle.wsm_program.specs.declared.instr.SectionId.{SectionId}
+use Rattle.wsm_program.specs.declared.instr.SectionId.TheVariants.{Where, Update}
+use Rattle.wsm_program.specs.Program.{is_program}
 use Rattle.wsm_verifier.specs.declared.costs.Costs.{Costs}
 use Rattle.wsm_verifier.specs.declared.rejection.Rejection.{Rejection}
 use Rattle.wsm_verifier.specs.Rules.{judge}

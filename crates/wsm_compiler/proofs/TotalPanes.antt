@@ -11,8 +11,8 @@ use Rattle.wsm_record.specs.Schema.{fit_fields}
 use Rattle.wsm_interval.specs.Interval.{interval, holds, in_i64}
 use Rattle.wsm_fold.specs.Laws.{joined_to}
 use Rattle.wsm_fold.specs.Fold.{joins, folds_of}
-use Rattle.wsm_bytecode.specs.declared.instr.SectionId.TheVariants.{Fire}
-use Rattle.wsm_bytecode.specs.Program.{Program}
+use Rattle.wsm_program.specs.declared.instr.SectionId.TheVariants.{Fire}
+use Rattle.wsm_program.specs.Program.{Program}
 use Rattle.wsm_verifier.specs.Rules.{judge}
 use Rattle.wsm_semantics.specs.Query.{Datum}
 use Rattle.wsm_machine.specs.declared.cell.Cell.{Cell}

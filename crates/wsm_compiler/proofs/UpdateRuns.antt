@@ -8,9 +8,9 @@ use Rattle.wsm_record.specs.declared.event.Value.TheVariants.{Int, Bool as Truth
 use Rattle.wsm_record.specs.declared.words.Kind.{Kind}
 use Rattle.wsm_record.specs.declared.words.Kind.TheVariants.{Sum, Min, Max, Any, All}
 use Rattle.wsm_record.specs.declared.words.CellType.TheVariants as types
-use Rattle.wsm_bytecode.specs.declared.instr.Instr.TheVariants as instr
-use Rattle.wsm_bytecode.specs.declared.instr.SectionId.TheVariants.{Update}
-use Rattle.wsm_bytecode.specs.declared.program.Budget.{Budget as Stated}
+use Rattle.wsm_program.specs.declared.instr.Instr.TheVariants as instr
+use Rattle.wsm_program.specs.declared.instr.SectionId.TheVariants.{Update}
+use Rattle.wsm_program.specs.declared.program.Budget.{Budget as Stated}
 use Rattle.wsm_record.specs.Types.{kind_type}
 use Rattle.wsm_machine.specs.declared.outcome.Trap.TheVariants.{Underflow, WrongType, FoldTwice}
 use Rattle.wsm_machine.specs.declared.run.Ran.{Ran}

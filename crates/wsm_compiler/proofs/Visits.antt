@@ -3,7 +3,7 @@ use Rattle.std.proofs.Common.{◌≡◌, ℕ, ◌+◌, ◌<◌, Bool, true, fals
 use Rattle.std.proofs.lemmas.List.{reverse-append}
 use Rattle.std.specs.Prelude.{is_some}
 use Rattle.std.specs.List.{cons_option, filter_map}
-use Rattle.wsm_bytecode.specs.declared.Instr.{Instr}
+use Rattle.wsm_program.specs.declared.Instr.{Instr}
 use Rattle.wsm_verifier.specs.declared.rejection.Rejection.{Rejection}
 use Rattle.wsm_verifier.specs.Labels.{State, Ranges, Visit, carried_to, gathered, label_of, visit_of, visited_next, visits_back, visits}
 use Rattle.wsm_verifier.specs.Rules.{Setting, fault_at, or_then, first_fault}

@@ -1,6 +1,6 @@
 -- When the program of a checked query is accepted.
 use Rattle.std.specs.Prelude.{◌≡◌, Bool, ◌&&◌, nat_le, None, is_none, is_ok}
-use Rattle.wsm_bytecode.specs.Program.{Program}
+use Rattle.wsm_program.specs.Program.{Program}
 use Rattle.wsm_verifier.specs.Costs.{needed}
 use Rattle.wsm_verifier.specs.Rules.{code_fault, judge}
 use Rattle.wsm_query.specs.Tree.{Query}

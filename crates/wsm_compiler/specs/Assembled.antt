@@ -1,7 +1,7 @@
 -- The program of what a checked query has, which states a given budget.
 use Rattle.std.specs.Prelude.{map}
-use Rattle.wsm_bytecode.specs.declared.program.Budget.{Budget as Stated}
-use Rattle.wsm_bytecode.specs.Program.{Header, Program}
+use Rattle.wsm_program.specs.declared.program.Budget.{Budget as Stated}
+use Rattle.wsm_program.specs.Program.{Header, Program}
 use Rattle.wsm_check.specs.Parts.{Parts}
 use Rattle.wsm_compiler.specs.Program.{every}
 use Rattle.wsm_compiler.specs.TermCode.{ending_code, foldings_code, firing_code}

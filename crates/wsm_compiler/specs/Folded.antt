@@ -1,7 +1,7 @@
 -- What FIRE's expressions mean where each accumulator holds its aggregate's meaning.
 use Rattle.std.specs.Prelude.{◌≡◌, ℕ, ◌+◌, true, List, [], ◌∷◌, length, map, pos, Some, slice_get}
 use Rattle.wsm_record.specs.declared.event.Value.{Value}
-use Rattle.wsm_bytecode.specs.declared.instr.SectionId.TheVariants.{Fire}
+use Rattle.wsm_program.specs.declared.instr.SectionId.TheVariants.{Fire}
 use Rattle.wsm_fold.specs.Fold.{folds_of}
 use Rattle.wsm_machine.specs.Inputs.{Inputs}
 use Rattle.wsm_machine.specs.Run.{run}

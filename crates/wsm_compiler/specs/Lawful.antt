@@ -1,6 +1,6 @@
 -- That the program of a checked query is one that may be read: what reading program bytes asks holds of it.
 use Rattle.std.specs.Prelude.{◌≡◌, ℕ, true, List, Ok}
-use Rattle.wsm_bytecode.specs.Program.{is_program}
+use Rattle.wsm_program.specs.Program.{is_program}
 use Rattle.wsm_query.specs.Tree.{Query}
 use Rattle.wsm_query.specs.Parse.{parse}
 use Rattle.wsm_check.specs.Checks.{IsChecked}

@@ -2,8 +2,8 @@
 use Rattle.std.specs.Prelude.{map, ℤ, pos, unsigned_abs, Option, Some, None}
 use Rattle.wsm_record.specs.Schema.{Declared as Schema}
 use Rattle.wsm_record.specs.declared.words.CellType.{CellType}
-use Rattle.wsm_bytecode.specs.declared.program.Budget.{Budget as Stated}
-use Rattle.wsm_bytecode.specs.Program.{Program}
+use Rattle.wsm_program.specs.declared.program.Budget.{Budget as Stated}
+use Rattle.wsm_program.specs.Program.{Program}
 use Rattle.wsm_verifier.specs.declared.costs.Costs.{Costs}
 use Rattle.wsm_verifier.specs.Costs.{needed}
 use Rattle.wsm_query.specs.Tree.{Query, Budget, Expr}

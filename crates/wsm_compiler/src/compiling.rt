@@ -7,7 +7,7 @@ ghost use Rattle.wsm_check.specs.Checks.{IsChecked};
 ghost use Rattle.wsm_check.specs.Parts.{parts_of};
 ghost use Rattle.wsm_check.specs.Seen.{seen_parts};
 ghost use Rattle.wsm_check.specs.Spelt.{IsSpelt};
-ghost use Rattle.wsm_bytecode.specs.Program.{is_budget};
+ghost use Rattle.wsm_program.specs.Program.{is_budget};
 ghost use Rattle.wsm_verifier.specs.declared.costs.Costs.{Costs};
 ghost use Rattle.wsm_verifier.specs.Costs.{needed};
 ghost use Rattle.wsm_compiler.specs.Assembled.{assembled};
@@ -17,8 +17,8 @@ ghost use Rattle.wsm_compiler.specs.Program.{program_of};
 use crate::headers::header;
 use crate::sections::{fire, selection, update};
 use std::alloc::{AllocError, Global};
-use wsm_bytecode::{Budget, Program};
 use wsm_check::Checked;
+use wsm_program::{Budget, Program};
 use wsm_query::Budget as Clause;
 use wsm_verifier::needed;
 

@@ -3,14 +3,14 @@
 ghost use Rattle.std.specs.Prelude.{◌≡◌, map, IfOk};
 ghost use Rattle.wsm_record.specs.Schema.{schema_refusal};
 ghost use Rattle.wsm_record.specs.Fields.{declared_of};
-ghost use Rattle.wsm_bytecode.specs.View.{header_of};
+ghost use Rattle.wsm_program.specs.View.{header_of};
 ghost use Rattle.wsm_check.specs.Seen.{seen_column, seen_folding, seen_parts};
 ghost use Rattle.wsm_compiler.specs.Program as spec;
 ghost use Rattle.wsm_compiler.specs.Assembled.{assembled_header};
 
 use std::alloc::{AllocError, Global};
-use wsm_bytecode::{Budget, CellType, Header};
 use wsm_check::{Column, Folding, Parts};
+use wsm_program::{Budget, CellType, Header};
 use wsm_record::{Field, Kind, Name, Schema, SchemaRefusal};
 
 /// The header of a program that states a budget.

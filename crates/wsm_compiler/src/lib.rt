@@ -14,7 +14,7 @@
 //! the program of a pane is
 //!
 //! ```rust
-//! use wsm_bytecode::{Instr, SectionId};
+//! use wsm_program::{Instr, SectionId};
 //! use wsm_check::check;
 //! use wsm_compiler::compile;
 //! use wsm_query::parse;

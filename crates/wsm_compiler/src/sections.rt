@@ -6,8 +6,8 @@ ghost use Rattle.wsm_compiler.specs.TermCode.{ending_code, ending_size, firing_c
 
 use crate::expressions::{add, push};
 use std::alloc::{AllocError, Global};
-use wsm_bytecode::{Instr, Section};
 use wsm_check::{Column, Folding, Term};
+use wsm_program::{Instr, Section};
 use wsm_record::limits::{MAX_ACCUMULATORS, MAX_SECTION};
 
 /// The section WHERE, which selects records.

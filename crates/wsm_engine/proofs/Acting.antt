@@ -10,7 +10,7 @@ use Rattle.wsm_semantics.specs.Query.{Query}
 use Rattle.wsm_semantics.specs.Summaries.{Plan, after_record, after_watermark, fired_by_record, fired_by_watermark, at_watermark, relation_of, row_of}
 use Rattle.wsm_semantics.specs.Replay.{datum}
 use Rattle.wsm_semantics.specs.Steps.{State, panes_after, fired_by, relation_after, streamed_by, stream_rows, chosen_rows}
-use Rattle.wsm_bytecode.specs.Program.{Program}
+use Rattle.wsm_program.specs.Program.{Program}
 use Rattle.wsm_machine.specs.Meaning.{query_of, plan_of, selects}
 use Rattle.wsm_panes.specs.Held.{entries_of}
 use Rattle.wsm_firing.specs.Streams.{relation_kept}

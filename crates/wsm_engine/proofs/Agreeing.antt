@@ -14,7 +14,7 @@ use Rattle.wsm_semantics.specs.Panes.{place_cmp, at}
 use Rattle.wsm_semantics.specs.Kept.{is_linked}
 use Rattle.wsm_semantics.specs.Summaries.{Plan, Pane, linked, session_with, with_folded, with_record, joined_with, joined_all, assigned, merged_session, entered}
 use Rattle.wsm_semantics.specs.Replay.{datum}
-use Rattle.wsm_bytecode.specs.Program.{Program}
+use Rattle.wsm_program.specs.Program.{Program}
 use Rattle.wsm_panes.specs.Held.{taking}
 use Rattle.wsm_machine.specs.Meaning.{plan_of, updated}
 

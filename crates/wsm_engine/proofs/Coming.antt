@@ -27,7 +27,7 @@ use Rattle.wsm_semantics.specs.Replay.{datum}
 use Rattle.wsm_semantics.specs.Steps.{chosen_rows, stream_rows}
 use Rattle.wsm_semantics.proofs.Lists.{filter_same}
 use Rattle.wsm_semantics.proofs.SelectedRecords.{a_time}
-use Rattle.wsm_bytecode.specs.Program.{Program}
+use Rattle.wsm_program.specs.Program.{Program}
 use Rattle.wsm_verifier.specs.Costs.{needed}
 use Rattle.wsm_machine.specs.Meaning.{query_of, plan_of, selects, updated, where_run, update_run, record_cost_by, joins_held}
 use Rattle.wsm_machine.proofs.Costing.{record_cost_within}

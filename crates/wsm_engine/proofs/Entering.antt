@@ -36,8 +36,8 @@ use Rattle.wsm_semantics.proofs.HeldBound.{held_at_key, held_bounded}
 use Rattle.wsm_semantics.proofs.HeldPanes.{IsHeldPane, held_panes}
 use Rattle.wsm_semantics.proofs.SelectedRecords.{a_time}
 use Rattle.wsm_semantics.proofs.HeldRecords.{each_of, total-where}
-use Rattle.wsm_bytecode.specs.declared.instr.SectionId.TheVariants.{Fire}
-use Rattle.wsm_bytecode.specs.Program.{Program, is_program}
+use Rattle.wsm_program.specs.declared.instr.SectionId.TheVariants.{Fire}
+use Rattle.wsm_program.specs.Program.{Program, is_program}
 use Rattle.wsm_verifier.specs.declared.costs.Costs.{Costs}
 use Rattle.wsm_verifier.specs.Rules.{judge}
 use Rattle.wsm_verifier.proofs.Lawful.{lawful as program_lawful}

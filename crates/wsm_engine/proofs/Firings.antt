@@ -24,8 +24,8 @@ use Rattle.wsm_semantics.proofs.Lists.{all-each}
 use Rattle.wsm_semantics.proofs.Each.{map-all}
 use Rattle.wsm_semantics.proofs.Stepping.{decision-fits}
 use Rattle.wsm_semantics.proofs.KeptPanes as panes_kept
-use Rattle.wsm_bytecode.specs.declared.instr.SectionId.TheVariants.{Fire}
-use Rattle.wsm_bytecode.specs.Program.{Program, is_program}
+use Rattle.wsm_program.specs.declared.instr.SectionId.TheVariants.{Fire}
+use Rattle.wsm_program.specs.Program.{Program, is_program}
 use Rattle.wsm_verifier.specs.declared.costs.Costs.{Costs}
 use Rattle.wsm_verifier.specs.Rules.{judge}
 use Rattle.wsm_verifier.proofs.Lawful.{lawful as program_lawful, short}

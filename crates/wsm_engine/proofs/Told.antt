@@ -15,7 +15,7 @@ use Rattle.wsm_firing.specs.Streams.{Standing, IsTold, AreAlike, CanAdvance, Can
 use Rattle.wsm_firing.proofs.Streaming.{before_is, changed_none}
 use Rattle.wsm_firing.proofs.Standing.{few_rows}
 use Rattle.wsm_semantics.specs.HeldBounds.{most_panes}
-use Rattle.wsm_bytecode.specs.Program.{Program}
+use Rattle.wsm_program.specs.Program.{Program}
 use Rattle.wsm_machine.specs.Meaning.{query_of}
 use Rattle.wsm_panes.specs.Held.{IsKept, entries_of}
 use Rattle.wsm_engine.specs.declared.runner.Runner.{Runner}

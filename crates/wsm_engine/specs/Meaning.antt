@@ -11,7 +11,7 @@ use Rattle.wsm_semantics.specs.Firings.{firings, firings_so_far}
 use Rattle.wsm_semantics.specs.Relation.{relation}
 use Rattle.wsm_semantics.specs.Kept.{kept}
 use Rattle.wsm_semantics.specs.Summaries.{summaries}
-use Rattle.wsm_bytecode.specs.Program.{Program}
+use Rattle.wsm_program.specs.Program.{Program}
 use Rattle.wsm_machine.specs.Meaning.{query_of, plan_of, record_cost, pane_cost}
 use Rattle.wsm_firing.specs.Tally.{greatest}
 use Rattle.wsm_engine.specs.declared.reply.Reply.{Reply}

@@ -3,7 +3,7 @@ use Rattle.std.specs.Prelude.{List}
 use Rattle.wsm_record.specs.declared.event.Value.{Value}
 use Rattle.wsm_semantics.specs.declared.out_row.OutRow.{OutRow}
 use Rattle.wsm_semantics.specs.Steps as steps
-use Rattle.wsm_bytecode.specs.Program.{Program}
+use Rattle.wsm_program.specs.Program.{Program}
 
 pub record State : Type 0 where
   pub program : Program

@@ -7,7 +7,7 @@ use Rattle.wsm_admission.specs.declared.verdict.Admitted.{Admitted}
 use Rattle.wsm_admission.specs.declared.verdict.Refusal.{Refusal}
 use Rattle.wsm_semantics.specs.Steps as steps
 use Rattle.wsm_semantics.specs.Steps.{answer_to, step, step_fires, step_rows}
-use Rattle.wsm_bytecode.specs.Program.{Program}
+use Rattle.wsm_program.specs.Program.{Program}
 use Rattle.wsm_machine.specs.Meaning.{query_of, plan_of, step_cost, pane_cost_by}
 use Rattle.wsm_firing.specs.Tally.{greatest}
 use Rattle.wsm_firing.specs.Streams.{relation_kept}

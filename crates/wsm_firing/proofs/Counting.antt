@@ -9,7 +9,7 @@ use Rattle.wsm_record.specs.declared.words.Form.TheVariants as form
 use Rattle.wsm_semantics.specs.declared.out_row.OutRow.{OutRow}
 use Rattle.wsm_semantics.specs.Summaries.{Fired, row_of}
 use Rattle.wsm_semantics.specs.Steps.{chosen_rows}
-use Rattle.wsm_bytecode.specs.Program.{Program}
+use Rattle.wsm_program.specs.Program.{Program}
 use Rattle.wsm_machine.specs.Meaning.{plan_of, pane_cost_by}
 use Rattle.wsm_machine.specs.Sound.{MayFire}
 use Rattle.wsm_panes.specs.Held.{Held, IsKept}

@@ -5,8 +5,8 @@ use Rattle.std.specs.Prelude.{option_map}
 use Rattle.std.specs.Option.{option_and_then}
 use Rattle.wsm_record.specs.declared.event.Value.{Value}
 use Rattle.wsm_semantics.specs.Summaries.{columns}
-use Rattle.wsm_bytecode.specs.declared.instr.SectionId.TheVariants.{Fire}
-use Rattle.wsm_bytecode.specs.Program.{Program}
+use Rattle.wsm_program.specs.declared.instr.SectionId.TheVariants.{Fire}
+use Rattle.wsm_program.specs.Program.{Program}
 use Rattle.wsm_machine.specs.declared.cell.Cell.{Cell}
 use Rattle.wsm_machine.specs.declared.cell.Cell.TheVariants as cells
 use Rattle.wsm_machine.specs.declared.outcome.Outcome.TheVariants.{Done}

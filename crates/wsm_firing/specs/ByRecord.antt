@@ -14,7 +14,7 @@ use Rattle.wsm_semantics.specs.Panes.{place_cmp, at, is_there}
 use Rattle.wsm_semantics.specs.Firings.{kind_on_record}
 use Rattle.wsm_semantics.specs.Replay.{datum}
 use Rattle.wsm_semantics.specs.Summaries.{Pane, Fired, fires, kind_by_record}
-use Rattle.wsm_bytecode.specs.Program.{Program}
+use Rattle.wsm_program.specs.Program.{Program}
 use Rattle.wsm_machine.specs.Meaning.{query_of}
 use Rattle.wsm_firing.specs.Firing.{CanFire}
 

@@ -6,7 +6,7 @@ use Rattle.wsm_windows.specs.Windows.{IsPlaced}
 use Rattle.wsm_semantics.specs.declared.place.Place.{Place}
 use Rattle.wsm_semantics.specs.Panes.{window_of}
 use Rattle.wsm_semantics.specs.Summaries.{Pane, Fired, fires, kind_by_watermark}
-use Rattle.wsm_bytecode.specs.Program.{Program}
+use Rattle.wsm_program.specs.Program.{Program}
 use Rattle.wsm_machine.specs.Meaning.{query_of}
 use Rattle.wsm_panes.specs.Walk.{place_due}
 use Rattle.wsm_firing.specs.Firing.{CanFire}

@@ -5,7 +5,7 @@ use Rattle.wsm_record.specs.declared.event.Value.{Value}
 use Rattle.wsm_semantics.specs.declared.out_row.OutRow.{OutRow}
 use Rattle.wsm_semantics.specs.Summaries.{Fired, row_of}
 use Rattle.wsm_semantics.specs.Steps.{chosen_rows}
-use Rattle.wsm_bytecode.specs.Program.{Program}
+use Rattle.wsm_program.specs.Program.{Program}
 use Rattle.wsm_machine.specs.Meaning.{plan_of}
 use Rattle.wsm_machine.specs.Sound.{MayFire}
 use Rattle.wsm_firing.specs.declared.tally.Tally.{Tally}

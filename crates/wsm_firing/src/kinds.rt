@@ -9,8 +9,8 @@ ghost use Rattle.wsm_semantics.specs.Panes.{window_of};
 ghost use Rattle.wsm_semantics.specs.Summaries.{kind_by_watermark};
 ghost use Rattle.wsm_machine.specs.Meaning.{query_of};
 
-use wsm_bytecode::Header;
 use wsm_panes::Pane;
+use wsm_program::Header;
 use wsm_semantics::Place;
 use wsm_triggers::{Trigger, on_record, on_watermark};
 use wsm_verifier::Verified;

@@ -15,7 +15,7 @@ use Rattle.wsm_record.specs.declared.words.Kind.{Kind}
 use Rattle.wsm_record.specs.declared.words.Kind.TheVariants.{Sum, Min, Max, Any, All}
 use Rattle.wsm_fold.specs.Laws.{joined_to}
 use Rattle.wsm_fold.specs.Fold.{join, joins, folds_of, is_of_kind, are_of_kinds}
-use Rattle.wsm_bytecode.specs.Program.{Program}
+use Rattle.wsm_program.specs.Program.{Program}
 use Rattle.wsm_verifier.specs.Rules.{accumulated, and_then, values_folded, update_visits, range}
 use Rattle.wsm_machine.specs.InRange.{is_number_in, is_word, is_value_in, is_acc_in, are_values_in, are_folded_in, accs_in}
 use Rattle.wsm_machine.proofs.Fitting.{no}

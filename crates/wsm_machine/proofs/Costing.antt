@@ -13,8 +13,8 @@ use Rattle.wsm_windows.specs.Windows.{IsShape, has_inside, last_start, windows_u
 use Rattle.wsm_semantics.specs.declared.place.Place.{Place}
 use Rattle.wsm_semantics.specs.Query.{Datum}
 use Rattle.wsm_semantics.specs.Summaries.{Pane}
-use Rattle.wsm_bytecode.specs.declared.instr.SectionId.TheVariants.{Where, Update, Fire}
-use Rattle.wsm_bytecode.specs.Program.{Program, is_program}
+use Rattle.wsm_program.specs.declared.instr.SectionId.TheVariants.{Where, Update, Fire}
+use Rattle.wsm_program.specs.Program.{Program, is_program}
 use Rattle.wsm_verifier.specs.declared.costs.Costs.{Costs}
 use Rattle.wsm_verifier.specs.declared.rejection.Rejection.{Rejection}
 use Rattle.wsm_verifier.specs.declared.rejection.Rule.{Rule}

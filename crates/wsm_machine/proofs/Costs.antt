@@ -22,7 +22,7 @@ use Rattle.wsm_semantics.specs.Steps.{State, Fits, step_fires}
 use Rattle.wsm_semantics.proofs.Lists.{all-each}
 use Rattle.wsm_semantics.proofs.Stepping.{decision-fits}
 use Rattle.wsm_semantics.proofs.Steps.{fires-step}
-use Rattle.wsm_bytecode.specs.Program.{Program, is_program}
+use Rattle.wsm_program.specs.Program.{Program, is_program}
 use Rattle.wsm_verifier.specs.declared.costs.Costs.{Costs}
 use Rattle.wsm_verifier.specs.Rules.{judge}
 use Rattle.wsm_verifier.proofs.Lawful.{lawful as program_lawful}

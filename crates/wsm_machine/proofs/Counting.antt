@@ -14,7 +14,7 @@ use Rattle.wsm_semantics.specs.Kept.{kept}
 use Rattle.wsm_semantics.specs.Replay.{datum}
 use Rattle.wsm_semantics.proofs.OneSession.{stands_in_one, as_many_linked}
 use Rattle.wsm_semantics.proofs.KeptLaw.{accepted}
-use Rattle.wsm_bytecode.specs.Program.{Program, is_program}
+use Rattle.wsm_program.specs.Program.{Program, is_program}
 use Rattle.wsm_verifier.proofs.Lawful.{lawful}
 use Rattle.wsm_machine.specs.Meaning.{query_of, joins_two, joins_kept, CountsSessions}
 

@@ -24,8 +24,8 @@ use Rattle.wsm_semantics.specs.Summaries.{Pane, Fired, fired_count, kind_by_reco
 use Rattle.wsm_semantics.specs.Replay.{datum}
 use Rattle.wsm_semantics.specs.Steps.{State, fired_by, step_fires}
 use Rattle.wsm_semantics.proofs.HeldRecords.{at_most-entered}
-use Rattle.wsm_bytecode.specs.declared.instr.SectionId.TheVariants.{Fire}
-use Rattle.wsm_bytecode.specs.Program.{Program, is_program}
+use Rattle.wsm_program.specs.declared.instr.SectionId.TheVariants.{Fire}
+use Rattle.wsm_program.specs.Program.{Program, is_program}
 use Rattle.wsm_verifier.specs.declared.costs.Costs.{Costs}
 use Rattle.wsm_verifier.specs.Rules.{judge}
 use Rattle.wsm_verifier.proofs.Lawful as lawful_programs

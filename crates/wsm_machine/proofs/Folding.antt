@@ -10,8 +10,8 @@ use Rattle.wsm_record.specs.declared.event.Value.{Value}
 use Rattle.wsm_record.specs.declared.event.Value.TheVariants as values
 use Rattle.wsm_record.specs.declared.words.Kind.{Kind}
 use Rattle.wsm_record.specs.declared.words.Kind.TheVariants.{Sum, Min, Max, Any, All}
-use Rattle.wsm_bytecode.specs.declared.instr.Instr.{Instr}
-use Rattle.wsm_bytecode.specs.declared.instr.Instr.TheVariants.{Fold}
+use Rattle.wsm_program.specs.declared.instr.Instr.{Instr}
+use Rattle.wsm_program.specs.declared.instr.Instr.TheVariants.{Fold}
 use Rattle.wsm_verifier.specs.declared.known.Known.{Known}
 use Rattle.wsm_verifier.specs.declared.known.Known.TheVariants.{Number, Truth, NameOf}
 use Rattle.wsm_verifier.specs.Labels.{State as Knows, Reached, Visit, visit_of, visits, label_of, label_at}

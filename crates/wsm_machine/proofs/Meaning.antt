@@ -8,7 +8,7 @@ use Rattle.wsm_fold.specs.Fold.{joins}
 use Rattle.wsm_fold.proofs.Rows.{joins_comm, joins_assoc}
 use Rattle.wsm_semantics.specs.Query.{Datum}
 use Rattle.wsm_semantics.specs.Summaries.{IsLawful, Runs, with_folded, folded_of}
-use Rattle.wsm_bytecode.specs.Program.{Program}
+use Rattle.wsm_program.specs.Program.{Program}
 use Rattle.wsm_machine.specs.Meaning.{updated, row, folded, query_of, plan_of}
 
 pub plan_lawful : (p : Program) → IsLawful (plan_of p)

@@ -15,8 +15,8 @@ use Rattle.wsm_fold.proofs.Bags.{fold_by-append}
 use Rattle.wsm_interval.specs.Interval.{interval, holds}
 use Rattle.wsm_semantics.specs.Query.{Datum}
 use Rattle.wsm_semantics.specs.Summaries.{with_folded, joined_folds}
-use Rattle.wsm_bytecode.specs.declared.instr.SectionId.TheVariants.{Update, Fire}
-use Rattle.wsm_bytecode.specs.Program.{Program, is_program}
+use Rattle.wsm_program.specs.declared.instr.SectionId.TheVariants.{Update, Fire}
+use Rattle.wsm_program.specs.Program.{Program, is_program}
 use Rattle.wsm_verifier.specs.declared.costs.Costs.{Costs}
 use Rattle.wsm_verifier.specs.Rules.{judge}
 use Rattle.wsm_machine.specs.InRange.{in_range, is_word, are_folded_in}

@@ -6,17 +6,17 @@ use Rattle.std.specs.Prelude.{nat_lt, is_some, is_none, option_map, slice_index_
 use Rattle.std.proofs.lemmas.Option.{same_Some}
 use Rattle.wsm_record.specs.declared.event.Value.{Value}
 use Rattle.wsm_record.specs.declared.words.Kind.{Kind}
-use Rattle.wsm_bytecode.specs.declared.instr.Instr.{Instr}
-use Rattle.wsm_bytecode.specs.declared.instr.Instr.TheVariants.{Fold, Return}
-use Rattle.wsm_bytecode.specs.declared.instr.SectionId.{SectionId}
-use Rattle.wsm_bytecode.specs.Program.{Program, section}
+use Rattle.wsm_program.specs.declared.instr.Instr.{Instr}
+use Rattle.wsm_program.specs.declared.instr.Instr.TheVariants.{Fold, Return}
+use Rattle.wsm_program.specs.declared.instr.SectionId.{SectionId}
+use Rattle.wsm_program.specs.Program.{Program, section}
 use Rattle.wsm_verifier.specs.declared.known.Known.{Known}
 use Rattle.wsm_verifier.specs.Labels as labels
 use Rattle.wsm_verifier.specs.Rules as rules
 use Rattle.wsm_verifier.proofs.Accepting.{Passes}
 use Rattle.wsm_machine.specs.declared.cell.Cell.{Cell}
 use Rattle.wsm_machine.specs.Inputs.{Inputs}
-use Rattle.wsm_bytecode.specs.Instructions.{pops, how_many}
+use Rattle.wsm_program.specs.Instructions.{pops, how_many}
 use Rattle.wsm_machine.specs.Step.{Setting, State, setting, Goes, step, taken, after, folds_twice, has_no_room, pushed, push_on, with_fold, value_of, returns_badly}
 use Rattle.wsm_machine.specs.Fits.{FitsAll, FitsState, ReadsFit, Moves, GoesOn}
 use Rattle.wsm_machine.proofs.Fitting.{no, length_fits, drop_fits}

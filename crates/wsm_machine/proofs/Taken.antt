@@ -1,6 +1,6 @@
 -- What a step of the code says of the definition's, by what it answered.
 use Rattle.std.proofs.Common.{◌≡◌, ◌∙◌, ℕ, ◌+◌, Result, Ok, subst, ap}
-use Rattle.wsm_bytecode.specs.declared.instr.Instr.{Instr}
+use Rattle.wsm_program.specs.declared.instr.Instr.{Instr}
 use Rattle.wsm_machine.specs.declared.frame.Frame.{Frame}
 use Rattle.wsm_machine.specs.declared.frame.Flow.{Flow}
 use Rattle.wsm_machine.specs.declared.frame.Flow.TheVariants.{Next, To, End}

@@ -21,7 +21,7 @@ use Rattle.wsm_semantics.specs.Summaries.{Pane, fired_count, summaries, summary_
 use Rattle.wsm_semantics.specs.Replay.{datum}
 use Rattle.wsm_semantics.proofs.Lists.{length_each}
 use Rattle.wsm_semantics.proofs.Images.{where-summaries}
-use Rattle.wsm_bytecode.specs.Program.{Program, is_program}
+use Rattle.wsm_program.specs.Program.{Program, is_program}
 use Rattle.wsm_verifier.specs.declared.costs.Costs.{Costs}
 use Rattle.wsm_verifier.specs.Rules.{judge}
 use Rattle.wsm_machine.specs.declared.cell.Cell.{Cell}

@@ -5,7 +5,7 @@ use Rattle.wsm_fold.specs.Fold.{is_of_kind, are_of_kinds}
 use Rattle.wsm_record.specs.declared.words.CellType.{CellType}
 use Rattle.wsm_machine.specs.Inputs.{is_of_field, are_of_fields}
 use Rattle.wsm_machine.specs.Step.{is_type, are_types}
-use Rattle.wsm_bytecode.specs.Program.{Program}
+use Rattle.wsm_program.specs.Program.{Program}
 use Rattle.wsm_verifier.specs.Rules.{range}
 use Rattle.wsm_machine.specs.InRange.{is_acc_in, accs_in}
 use Rattle.wsm_machine.proofs.Pairs.{TestsPairs}

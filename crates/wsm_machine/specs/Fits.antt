@@ -1,10 +1,10 @@
 -- When a state of the machine is one that the verifier's label of its place tells of.
 use Rattle.std.specs.Prelude.{◌≡◌, ◌<◌, ◌+◌, ◌⊎◌, false, List, [], ◌∷◌, length, map, Option, Some, None, is_some, option_map, slice_get, slice_index_or, IsTrue}
 use Rattle.wsm_interval.specs.Interval.{Holds}
-use Rattle.wsm_bytecode.specs.declared.instr.Instr.{Instr}
-use Rattle.wsm_bytecode.specs.declared.instr.Instr.TheVariants.{PushInt, Field, Acc, Count, Return}
-use Rattle.wsm_bytecode.specs.declared.instr.SectionId.{SectionId}
-use Rattle.wsm_bytecode.specs.Program.{Program, section, is_i64}
+use Rattle.wsm_program.specs.declared.instr.Instr.{Instr}
+use Rattle.wsm_program.specs.declared.instr.Instr.TheVariants.{PushInt, Field, Acc, Count, Return}
+use Rattle.wsm_program.specs.declared.instr.SectionId.{SectionId}
+use Rattle.wsm_program.specs.Program.{Program, section, is_i64}
 use Rattle.wsm_verifier.specs.declared.known.Known.{Known}
 use Rattle.wsm_verifier.specs.declared.known.Known.TheVariants.{Number, Truth, NameOf}
 use Rattle.wsm_verifier.specs.Labels as labels

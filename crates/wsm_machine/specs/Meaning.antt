@@ -23,8 +23,8 @@ use Rattle.wsm_semantics.specs.Summaries.{Plan, Pane, Fired, linked}
 use Rattle.wsm_semantics.specs.Replay.{datum}
 use Rattle.wsm_semantics.specs.Steps.{State, answer_to}
 use Rattle.wsm_fold.specs.Fold.{joins, folds_of}
-use Rattle.wsm_bytecode.specs.declared.instr.SectionId.TheVariants.{Where, Update, Fire}
-use Rattle.wsm_bytecode.specs.Program.{Program, Header}
+use Rattle.wsm_program.specs.declared.instr.SectionId.TheVariants.{Where, Update, Fire}
+use Rattle.wsm_program.specs.Program.{Program, Header}
 use Rattle.wsm_machine.specs.declared.cell.Cell.{Cell}
 use Rattle.wsm_machine.specs.declared.cell.Cell.TheVariants as cells
 use Rattle.wsm_machine.specs.declared.outcome.Outcome.{Outcome}

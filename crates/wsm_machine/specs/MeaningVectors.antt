@@ -23,9 +23,9 @@ use Rattle.wsm_semantics.specs.Summaries.{Pane, after_record, after_watermark, f
 use Rattle.wsm_semantics.specs.Kept.{kept}
 use Rattle.wsm_semantics.specs.Steps.{step_rows, run}
 use Rattle.wsm_record.specs.declared.words.CellType.TheVariants as types
-use Rattle.wsm_bytecode.specs.declared.instr.Instr.TheVariants.{PushInt, PushBool, Field, Acc, Count, Operate, Fold, Return}
-use Rattle.wsm_bytecode.specs.declared.operation.Operation.TheVariants.{Gt}
-use Rattle.wsm_bytecode.specs.Program.{Program}
+use Rattle.wsm_program.specs.declared.instr.Instr.TheVariants.{PushInt, PushBool, Field, Acc, Count, Operate, Fold, Return}
+use Rattle.wsm_program.specs.declared.operation.Operation.TheVariants.{Gt}
+use Rattle.wsm_program.specs.Program.{Program}
 use Rattle.wsm_machine.specs.Meaning.{query_of, plan_of, record_cost, record_cost_by}
 
 -- KEYS a, b; FIELD n INT 0..100; START 0; SKEW 100; LATENESS 10; RECORDS 1000;

@@ -10,8 +10,8 @@ use Rattle.wsm_semantics.specs.Query.{Datum}
 use Rattle.wsm_semantics.specs.Summaries.{Pane, Fired, fired_count}
 use Rattle.wsm_semantics.specs.HeldRecords.{AtMost}
 use Rattle.wsm_semantics.specs.Steps.{State}
-use Rattle.wsm_bytecode.specs.declared.instr.SectionId.TheVariants.{Update, Fire}
-use Rattle.wsm_bytecode.specs.Program.{Program}
+use Rattle.wsm_program.specs.declared.instr.SectionId.TheVariants.{Update, Fire}
+use Rattle.wsm_program.specs.Program.{Program}
 use Rattle.wsm_machine.specs.InRange.{in_range, is_word, are_folded_in}
 use Rattle.wsm_machine.specs.Meaning.{record_inputs, pane_inputs, clock_of}
 

@@ -3,7 +3,7 @@
 ghost use Rattle.std.specs.Prelude.{◌≡◌, Some, false};
 ghost use Rattle.wsm_machine.specs.Step.{type_of, value_of, cell_of, is_type as is_type_of, is_same as is_same_of, overflows};
 
-use wsm_bytecode::CellType;
+use wsm_program::CellType;
 use wsm_record::Value;
 
 /// A value on the stack. A name has its ENUM's number, as in [`CellType::Enum`], before its own.

@@ -5,7 +5,7 @@ ghost use Rattle.std.specs.Option.{SomeIff};
 ghost use Rattle.std.specs.Int.{w64};
 ghost use Rattle.wsm_record.specs.declared.words.CellType.TheVariants as types;
 ghost use Rattle.wsm_machine.specs.declared.cell.Cell.TheVariants as cells;
-ghost use Rattle.wsm_bytecode.specs.Instructions.{Numbers, One, Alike};
+ghost use Rattle.wsm_program.specs.Instructions.{Numbers, One, Alike};
 ghost use Rattle.wsm_machine.specs.Step.{has_types};
 ghost use Rattle.wsm_machine.specs.Steps.{operand_trap, Answers, AnswersNumber};
 
@@ -15,7 +15,7 @@ use crate::inputs::Inputs;
 use crate::outcome::Trap;
 use crate::stack::Stack;
 use std::alloc::Global;
-use wsm_bytecode::{CellType, Instr, SectionId};
+use wsm_program::{CellType, Instr, SectionId};
 use wsm_record::Kind;
 use wsm_record::limits::MAX_STACK;
 

@@ -6,8 +6,8 @@ ghost use Rattle.wsm_fold.specs.Fold.{is_of_kind as is_of_kind_of, are_of_kinds 
 ghost use Rattle.wsm_machine.specs.Inputs.{inputs_of, inputs_fit, is_of_field as is_of_field_of, are_of_fields as are_of_fields_of};
 ghost use Rattle.wsm_machine.specs.InRange.{is_word, is_number_in as is_number_in_of, is_acc_in as is_acc_in_of, accs_in as accs_in_of, in_range as in_range_of};
 
-use wsm_bytecode::{Program, SectionId};
 use wsm_interval::Interval;
+use wsm_program::{Program, SectionId};
 use wsm_record::{DeclaredField, FieldType, Kind, Value};
 use wsm_verifier::Verified;
 

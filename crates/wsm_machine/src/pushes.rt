@@ -1,14 +1,14 @@
 //! Instructions that push what is there: what they push and trap.
 
 ghost use Rattle.std.specs.Prelude.{ℕ};
-ghost use Rattle.wsm_bytecode.specs.declared.instr.Instr.TheVariants as instr;
+ghost use Rattle.wsm_program.specs.declared.instr.Instr.TheVariants as instr;
 ghost use Rattle.wsm_machine.specs.Step.{Setting as AnySetting};
 ghost use Rattle.wsm_machine.specs.Steps.{Steps, HasOperand, setting_of};
 
 use crate::cell::Cell;
 use crate::frame::{Flow, Frame, Setting};
 use crate::outcome::Trap;
-use wsm_bytecode::SectionId;
+use wsm_program::SectionId;
 
 impl Frame {
     /// Pushes a number; `StackFull`.

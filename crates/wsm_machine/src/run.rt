@@ -1,8 +1,8 @@
 //! Runs of a section.
 
 ghost use Rattle.std.specs.Prelude.{◌≡◌, ◌≤◌, ℕ, Some, length, slice_get, IsTrue};
-ghost use Rattle.wsm_bytecode.specs.declared.instr.Instr.{Instr};
-ghost use Rattle.wsm_bytecode.specs.Program.{section as section_of};
+ghost use Rattle.wsm_program.specs.declared.instr.Instr.{Instr};
+ghost use Rattle.wsm_program.specs.Program.{section as section_of};
 ghost use Rattle.wsm_machine.specs.Inputs.{inputs_of, inputs_fit};
 ghost use Rattle.wsm_machine.specs.Run.{run, run_at, ended};
 ghost use Rattle.wsm_machine.specs.Steps.{HasOperand, setting_of, at};
@@ -13,7 +13,7 @@ use crate::inputs::Inputs;
 use crate::outcome::{Outcome, Trap};
 use crate::stack::Stack;
 use std::alloc::Global;
-use wsm_bytecode::{Program, SectionId};
+use wsm_program::{Program, SectionId};
 
 /// How a run ended, what it cost, and what it left. At a trap the stack and the folds are those that
 /// the trapping instruction found.

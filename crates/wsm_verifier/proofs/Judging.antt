@@ -4,10 +4,10 @@ use Rattle.std.specs.Prelude.{slice_get, slice_index_or}
 use Rattle.std.specs.Global.{Vec}
 use Rattle.wsm_interval.specs.declared.Interval.{Interval}
 use Rattle.wsm_record.specs.declared.Kind.{Kind}
-use Rattle.wsm_bytecode.specs.declared.Instr.{Instr}
-use Rattle.wsm_bytecode.specs.declared.SectionId.{SectionId}
-use Rattle.wsm_bytecode.specs.declared.SectionId.TheVariants.{Where, Update, Fire}
-use Rattle.wsm_bytecode.specs.Program.{Program, section}
+use Rattle.wsm_program.specs.declared.Instr.{Instr}
+use Rattle.wsm_program.specs.declared.SectionId.{SectionId}
+use Rattle.wsm_program.specs.declared.SectionId.TheVariants.{Where, Update, Fire}
+use Rattle.wsm_program.specs.Program.{Program, section}
 use Rattle.wsm_verifier.specs.declared.rejection.Rule.TheVariants.{Memory}
 use Rattle.wsm_verifier.specs.declared.rejection.Rejection.{Rejection}
 use Rattle.wsm_verifier.specs.Labels.{Ranges, Visit, visits}

@@ -10,11 +10,11 @@ use Rattle.wsm_windows.specs.declared.Shape.{Shape}
 use Rattle.wsm_windows.specs.declared.Shape.TheVariants.{Fixed, Sliding, Session}
 use Rattle.wsm_windows.specs.Windows.{IsShape, IsSpan}
 use Rattle.wsm_windows.specs.Life.{live_bound}
-use Rattle.wsm_bytecode.specs.declared.Instr.{Instr}
-use Rattle.wsm_bytecode.specs.declared.SectionId.{SectionId}
-use Rattle.wsm_bytecode.specs.declared.SectionId.TheVariants.{Where, Update, Fire}
-use Rattle.wsm_bytecode.specs.Program.{Header, Program, section, is_within, is_span, is_size, is_shape, is_section, is_header, is_program, is_schema, is_name_list, is_clock, is_firing, is_row, latest_time}
-use Rattle.wsm_bytecode.proofs.Spelled.{short_section}
+use Rattle.wsm_program.specs.declared.Instr.{Instr}
+use Rattle.wsm_program.specs.declared.SectionId.{SectionId}
+use Rattle.wsm_program.specs.declared.SectionId.TheVariants.{Where, Update, Fire}
+use Rattle.wsm_program.specs.Program.{Header, Program, section, is_within, is_span, is_size, is_shape, is_section, is_header, is_program, is_schema, is_name_list, is_clock, is_firing, is_row, latest_time}
+use Rattle.wsm_program.proofs.Lawful.{short_section}
 
 pub within : (lo hi n : ℤ) → is_within lo hi n ≡ true → (lo ≤ℤ n) × (n ≤ℤ hi)
 within lo hi n h = (grind (arith, ints), grind (arith, ints))

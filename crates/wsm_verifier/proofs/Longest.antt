@@ -4,9 +4,9 @@ use Rattle.std.proofs.lemmas.Bool.{true≢false, and_from, eqb-true, and_parts, 
 use Rattle.std.specs.Prelude.{nat_eq, nat_lt, slice_get, slice_index_or, unwrap_or}
 use Rattle.std.specs.List.{list_any}
 use Rattle.std.proofs.lemmas.Option.{same_Some}
-use Rattle.wsm_bytecode.specs.declared.Instr.{Instr}
-use Rattle.wsm_bytecode.specs.declared.Instr.TheVariants.{Return}
-use Rattle.wsm_bytecode.specs.Instructions.{next}
+use Rattle.wsm_program.specs.declared.Instr.{Instr}
+use Rattle.wsm_program.specs.declared.Instr.TheVariants.{Return}
+use Rattle.wsm_program.specs.Instructions.{next}
 use Rattle.wsm_verifier.specs.Labels.{leads}
 use Rattle.wsm_verifier.specs.Costs.{Path, Ends, Goes, IsLongestPath, longer, longest_of, one_more, way_from, way_of, ways, longest_path}
 

@@ -1,7 +1,7 @@
 -- The first of all rules, from the firsts of their halves.
 use Rattle.std.proofs.Common.{◌≡◌, ℕ, Bool, true, false, cond, List, [], ◌∷◌, ◌++◌, Option, Some, None, refl, sym, ap}
 use Rattle.std.proofs.lemmas.Bool.{true≢false}
-use Rattle.wsm_bytecode.specs.declared.Instr.{Instr}
+use Rattle.wsm_program.specs.declared.Instr.{Instr}
 use Rattle.wsm_verifier.specs.declared.rejection.Rule.{Rule}
 use Rattle.wsm_verifier.specs.Labels.{State}
 use Rattle.wsm_verifier.specs.Rules.{Setting, first_of, tests}

@@ -6,8 +6,8 @@ use Rattle.std.proofs.lemmas.Option.{slice_get_within, slice_get-get_or}
 use Rattle.std.specs.Prelude.{nat_eq, nat_lt, slice_get, slice_index_or, option_map}
 use Rattle.std.proofs.Math.Bool.{or-false}
 use Rattle.wsm_interval.specs.declared.Interval.{Interval}
-use Rattle.wsm_bytecode.specs.declared.Instr.{Instr}
-use Rattle.wsm_bytecode.specs.declared.Instr.TheVariants.{Jump, JumpIfFalse, Return}
+use Rattle.wsm_program.specs.declared.Instr.{Instr}
+use Rattle.wsm_program.specs.declared.Instr.TheVariants.{Jump, JumpIfFalse, Return}
 use Rattle.wsm_verifier.specs.declared.rejection.Rule.{Rule}
 use Rattle.wsm_verifier.specs.declared.rejection.Rejection.{Rejection}
 use Rattle.wsm_verifier.specs.declared.rejection.Part.TheVariants.{Code}

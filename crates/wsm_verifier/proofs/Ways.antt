@@ -2,7 +2,7 @@
 use Rattle.std.proofs.Common.{◌≡◌, ℕ, zero, suc, ◌+◌, ◌≤◌, ◌<◌, List, [], ◌∷◌, length, drop, get_or, set, Option, Some, None, IfSome, refl, sym, ap, ◌∙◌, add-one, subst, length-drop, arith}
 use Rattle.std.proofs.Math.Seq.{drop-cons}
 use Rattle.std.specs.Prelude.{slice_index_or, unwrap_or}
-use Rattle.wsm_bytecode.specs.declared.Instr.{Instr}
+use Rattle.wsm_program.specs.declared.Instr.{Instr}
 use Rattle.wsm_verifier.specs.Costs.{way_of, ways, longest_path}
 use Rattle.wsm_verifier.proofs.Longest.{short_way}
 

@@ -2,7 +2,7 @@
 use Rattle.std.specs.Prelude.{◌≡◌, ℕ, suc, Bool, true, not, List, [], ◌∷◌, ℤ, Option, Some, None, slice_index_or}
 use Rattle.wsm_interval.specs.declared.Interval.{Interval}
 use Rattle.wsm_record.specs.declared.Kind.{Kind}
-use Rattle.wsm_bytecode.specs.Program.{Program}
+use Rattle.wsm_program.specs.Program.{Program}
 use Rattle.wsm_verifier.specs.declared.known.Known.TheVariants.{Number}
 use Rattle.wsm_verifier.specs.Labels.{Visit}
 use Rattle.wsm_verifier.specs.Rules.{accumulated, and_then, values_folded, update_visits, sum_leaves, kind_of}

@@ -1,14 +1,14 @@
 -- The longest path of a section, and the numbers that a program needs.
 use Rattle.std.specs.Prelude.{◌≡◌, ℕ, suc, ◌+◌, ◌-◌, ◌*◌, ◌≤◌, max, cond, ◌⊎◌, List, [], ◌∷◌, length, map, unsigned_abs, nat_lt, IsTrue, Option, Some, None, unwrap_or, slice_get, slice_index_or}
 use Rattle.std.specs.Int.{div_ceil}
-use Rattle.wsm_bytecode.specs.declared.Instr.{Instr}
-use Rattle.wsm_bytecode.specs.declared.Instr.TheVariants.{Return}
+use Rattle.wsm_program.specs.declared.Instr.{Instr}
+use Rattle.wsm_program.specs.declared.Instr.TheVariants.{Return}
 use Rattle.wsm_windows.specs.declared.Shape.{Shape}
 use Rattle.wsm_windows.specs.declared.Shape.TheVariants.{Fixed, Sliding, Session}
 use Rattle.wsm_verifier.specs.declared.costs.Costs.{Costs}
 use Rattle.wsm_windows.specs.Life.{live_bound}
-use Rattle.wsm_bytecode.specs.Program.{Program}
-use Rattle.wsm_bytecode.specs.Instructions.{next}
+use Rattle.wsm_program.specs.Program.{Program}
+use Rattle.wsm_program.specs.Instructions.{next}
 use Rattle.wsm_verifier.specs.Labels.{leads}
 
 -- a path of n places, along edges, from place p of a section to a RET

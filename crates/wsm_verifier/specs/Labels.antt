@@ -3,12 +3,12 @@ use Rattle.std.specs.Prelude.{ℕ, suc, Bool, true, false, ◌&&◌, cond, List,
 use Rattle.std.specs.List.{list_any, filter_map}
 use Rattle.std.specs.Bool.{beq}
 use Rattle.wsm_interval.specs.declared.Interval.{Interval}
-use Rattle.wsm_bytecode.specs.declared.Instr.{Instr}
-use Rattle.wsm_bytecode.specs.declared.Instr.TheVariants.{PushInt, PushBool, PushEnum, Field, Key, Acc, Count, Operate, Jump, JumpIfFalse, Fold, Return}
-use Rattle.wsm_bytecode.specs.declared.Operation.{Operation}
-use Rattle.wsm_bytecode.specs.declared.Operation.TheVariants.{Add, Sub, Mul, Div, Rem, Neg, Eq, Ne, Lt, Le, Gt, Ge, Not}
-use Rattle.wsm_bytecode.specs.Instructions as table
-use Rattle.wsm_bytecode.specs.Instructions.{next}
+use Rattle.wsm_program.specs.declared.Instr.{Instr}
+use Rattle.wsm_program.specs.declared.Instr.TheVariants.{PushInt, PushBool, PushEnum, Field, Key, Acc, Count, Operate, Jump, JumpIfFalse, Fold, Return}
+use Rattle.wsm_program.specs.declared.Operation.{Operation}
+use Rattle.wsm_program.specs.declared.Operation.TheVariants.{Add, Sub, Mul, Div, Rem, Neg, Eq, Ne, Lt, Le, Gt, Ge, Not}
+use Rattle.wsm_program.specs.Instructions as table
+use Rattle.wsm_program.specs.Instructions.{next}
 use Rattle.wsm_verifier.specs.declared.known.Known.{Known}
 use Rattle.wsm_verifier.specs.declared.known.Known.TheVariants.{Number, Truth, NameOf}
 use Rattle.wsm_interval.specs.Interval.{interval, add, sub, mul, div, rem, neg, hull}

@@ -1,7 +1,7 @@
 -- What arithmetic makes of the last two numbers of a stack.
 use Rattle.std.specs.Prelude.{List, ◌∷◌, Option, None}
-use Rattle.wsm_bytecode.specs.declared.Operation.{Operation}
-use Rattle.wsm_bytecode.specs.declared.Operation.TheVariants.{Add, Sub, Mul, Div}
+use Rattle.wsm_program.specs.declared.Operation.{Operation}
+use Rattle.wsm_program.specs.declared.Operation.TheVariants.{Add, Sub, Mul, Div}
 use Rattle.wsm_interval.specs.declared.Interval.{Interval}
 use Rattle.wsm_interval.specs.Interval.{add, sub, mul, div, rem, neg}
 use Rattle.wsm_verifier.specs.declared.known.Known.{Known}

@@ -3,18 +3,18 @@ use Rattle.std.specs.Prelude.{ℕ, suc, ◌+◌, ◌*ℤ◌, Bool, true, false, 
 use Rattle.std.specs.Int.{int_min, int_max}
 use Rattle.std.specs.List.{list_all}
 use Rattle.wsm_interval.specs.declared.Interval.{Interval}
-use Rattle.wsm_bytecode.specs.declared.Instr.{Instr}
-use Rattle.wsm_bytecode.specs.declared.Instr.TheVariants.{Operate, JumpIfFalse, Fold, Return}
-use Rattle.wsm_bytecode.specs.declared.Operands.{Operands}
-use Rattle.wsm_bytecode.specs.declared.Operands.TheVariants as operands
-use Rattle.wsm_bytecode.specs.Operations as operation
-use Rattle.wsm_bytecode.specs.Instructions.{may_stand, goes_on, bad_jump}
-use Rattle.wsm_bytecode.specs.declared.SectionId.{SectionId}
-use Rattle.wsm_bytecode.specs.declared.SectionId.TheVariants.{Where, Update, Fire}
+use Rattle.wsm_program.specs.declared.Instr.{Instr}
+use Rattle.wsm_program.specs.declared.Instr.TheVariants.{Operate, JumpIfFalse, Fold, Return}
+use Rattle.wsm_program.specs.declared.Operands.{Operands}
+use Rattle.wsm_program.specs.declared.Operands.TheVariants as operands
+use Rattle.wsm_program.specs.Operations as operation
+use Rattle.wsm_program.specs.Instructions.{may_stand, goes_on, bad_jump}
+use Rattle.wsm_program.specs.declared.SectionId.{SectionId}
+use Rattle.wsm_program.specs.declared.SectionId.TheVariants.{Where, Update, Fire}
 use Rattle.wsm_record.specs.declared.Kind.{Kind}
 use Rattle.wsm_record.specs.declared.Kind.TheVariants.{Sum, Min, Max, Any, All}
 use Rattle.wsm_record.specs.Schema.{FieldType, Int, Truth as IsTruth, Enum, DeclaredField}
-use Rattle.wsm_bytecode.specs.declared.Budget.{Budget as Stated}
+use Rattle.wsm_program.specs.declared.Budget.{Budget as Stated}
 use Rattle.wsm_record.specs.declared.words.CellType.{CellType}
 use Rattle.wsm_record.specs.declared.words.CellType.TheVariants as column
 use Rattle.wsm_verifier.specs.declared.rejection.Rule.{Rule}
@@ -23,7 +23,7 @@ use Rattle.wsm_verifier.specs.declared.rejection.Part.TheVariants.{Code, Budget}
 use Rattle.wsm_verifier.specs.declared.rejection.Rejection.{Rejection}
 use Rattle.wsm_verifier.specs.declared.costs.Costs.{Costs}
 use Rattle.wsm_interval.specs.Interval.{interval, hull, holds, in_i64}
-use Rattle.wsm_bytecode.specs.Program.{Program, section}
+use Rattle.wsm_program.specs.Program.{Program, section}
 use Rattle.wsm_verifier.specs.declared.known.Known.{Known}
 use Rattle.wsm_verifier.specs.declared.known.Known.TheVariants.{Number, Truth, NameOf}
 use Rattle.wsm_verifier.specs.Labels.{State, Ranges, pops, pushed, same_type, same_types, Label, Unreached, Differing, Reached, Visit, visits}

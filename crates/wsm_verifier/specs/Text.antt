@@ -1,7 +1,7 @@
 -- What a part of a program, a rule and a rejection are printed as.
 use Rattle.std.specs.Prelude.{ℕ, List, ◌++◌, codes}
 use Rattle.std.specs.Fmt.{decimal}
-use Rattle.wsm_bytecode.specs.Text.{section_name}
+use Rattle.wsm_program.specs.Text.{section_name}
 use Rattle.wsm_verifier.specs.declared.rejection.Part.{Part}
 use Rattle.wsm_verifier.specs.declared.rejection.Part.TheVariants.{Code, Budget}
 use Rattle.wsm_verifier.specs.declared.rejection.Rule.{Rule}

@@ -1,11 +1,11 @@
 -- The rules in two halves, for a setting of the code.
 use Rattle.std.specs.Prelude.{ℕ, suc, Bool, ◌&&◌, not, List, [], ◌∷◌, length, nat_eq, nat_lt, is_none}
-use Rattle.wsm_bytecode.specs.declared.Instr.{Instr}
+use Rattle.wsm_program.specs.declared.Instr.{Instr}
 use Rattle.wsm_verifier.specs.declared.rejection.Rule.{Rule}
 use Rattle.wsm_verifier.specs.declared.rejection.Rule.TheVariants as rule
 use Rattle.wsm_verifier.specs.declared.rules.Setting.{Setting as Held}
 use Rattle.wsm_verifier.specs.Labels.{State, pops, pushed}
-use Rattle.wsm_bytecode.specs.Instructions.{may_stand, goes_on, bad_jump}
+use Rattle.wsm_program.specs.Instructions.{may_stand, goes_on, bad_jump}
 use Rattle.wsm_verifier.specs.Rules.{Setting, types_fit, folds_again, may_divide_by_zero, accumulator_leaves, overflows, fold_missing}
 
 abbrev pub setting_of : Held → Setting

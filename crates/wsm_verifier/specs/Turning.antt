@@ -1,7 +1,7 @@
 -- What one turn of the pass makes of the labels that are kept for later places.
 use Rattle.std.specs.Prelude.{ℕ, suc, false, cond, List, [], replicate, nat_eq, Option, Some, None, slice_set, slice_index_or}
-use Rattle.wsm_bytecode.specs.declared.Instr.{Instr}
-use Rattle.wsm_bytecode.specs.declared.Instr.TheVariants.{Jump, JumpIfFalse, Return}
+use Rattle.wsm_program.specs.declared.Instr.{Instr}
+use Rattle.wsm_program.specs.declared.Instr.TheVariants.{Jump, JumpIfFalse, Return}
 use Rattle.wsm_verifier.specs.declared.label.Kept.{Kept}
 use Rattle.wsm_verifier.specs.declared.label.Kept.TheVariants as kept
 use Rattle.wsm_verifier.specs.Labels.{State, Ranges, Label, Unreached, Differing, Reached, label_with, carried_from}

@@ -1,8 +1,8 @@
 -- Worked programs, computed by the definitions.
 use Rattle.std.specs.Prelude.{◌≡◌, refl, ℕ, ℤ, List, map, Result, true, false, [], ◌∷◌, pos, negsuc, Ok, Err}
-use Rattle.wsm_bytecode.specs.declared.Instr.TheVariants.{PushInt, PushBool, PushEnum, Field, Key, Acc, Count, Operate, Jump, JumpIfFalse, Fold, Return}
-use Rattle.wsm_bytecode.specs.declared.Operation.TheVariants.{Add, Sub, Div, Rem, Neg, Eq, Lt, Gt}
-use Rattle.wsm_bytecode.specs.declared.SectionId.TheVariants.{Where, Update, Fire}
+use Rattle.wsm_program.specs.declared.Instr.TheVariants.{PushInt, PushBool, PushEnum, Field, Key, Acc, Count, Operate, Jump, JumpIfFalse, Fold, Return}
+use Rattle.wsm_program.specs.declared.Operation.TheVariants.{Add, Sub, Div, Rem, Neg, Eq, Lt, Gt}
+use Rattle.wsm_program.specs.declared.SectionId.TheVariants.{Where, Update, Fire}
 use Rattle.wsm_record.specs.declared.Kind.TheVariants as kind
 use Rattle.wsm_windows.specs.declared.Shape.{Shape}
 use Rattle.wsm_windows.specs.declared.Shape.TheVariants.{Fixed, Sliding, Session}
@@ -12,14 +12,14 @@ use Rattle.wsm_record.specs.declared.Mode.TheVariants.{Accumulating}
 use Rattle.wsm_record.specs.declared.Form.TheVariants.{Panes}
 use Rattle.wsm_record.specs.declared.words.CellType.{CellType}
 use Rattle.wsm_record.specs.declared.words.CellType.TheVariants as column
-use Rattle.wsm_bytecode.specs.declared.Instr.{Instr}
+use Rattle.wsm_program.specs.declared.Instr.{Instr}
 use Rattle.wsm_verifier.specs.declared.rejection.Rule.{Rule}
 use Rattle.wsm_verifier.specs.declared.rejection.Rule.TheVariants as rule
 use Rattle.wsm_verifier.specs.declared.rejection.Part.{Part}
 use Rattle.wsm_verifier.specs.declared.rejection.Part.TheVariants.{Code, Budget}
 use Rattle.wsm_verifier.specs.declared.rejection.Rejection.{Rejection}
 use Rattle.wsm_verifier.specs.declared.costs.Costs.{Costs}
-use Rattle.wsm_bytecode.specs.Program.{Program}
+use Rattle.wsm_program.specs.Program.{Program}
 use Rattle.wsm_verifier.specs.Rules.{judge}
 
 abbrev costs : ℕ → ℕ → ℕ → Costs

@@ -2,13 +2,13 @@
 
 ghost use Rattle.std.specs.Prelude.{◌≡◌, ◌≤◌, pos, ◌≤ℤ◌, IfOk};
 ghost use Rattle.wsm_windows.specs.Windows.{IsShape};
-ghost use Rattle.wsm_bytecode.specs.Program.{section};
+ghost use Rattle.wsm_program.specs.Program.{section};
 ghost use Rattle.wsm_verifier.specs.Costs as spec;
 ghost use Rattle.wsm_verifier.specs.Costs.{IsLongestPath};
 
 use crate::paths::longest_path;
 use std::alloc::{AllocError, Global};
-use wsm_bytecode::{Program, SectionId};
+use wsm_program::{Program, SectionId};
 use wsm_windows::{Shape, live_bound};
 
 /// The numbers that a program needs.

@@ -4,8 +4,8 @@ ghost use Rattle.std.specs.Prelude.{◌≡◌};
 ghost use Rattle.wsm_verifier.specs.Labels as spec;
 ghost use Rattle.wsm_verifier.specs.Rules as rules;
 
-use wsm_bytecode::CellType;
 use wsm_interval::Interval;
+use wsm_program::CellType;
 
 /// What is known of a value on the stack.
 #[derive(Clone, Copy, Debug, PartialEq, Eq)]

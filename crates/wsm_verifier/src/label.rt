@@ -1,7 +1,7 @@
 //! What a place of a section is known to have.
 
 ghost use Rattle.std.specs.Prelude.{◌≡◌, ℕ, cond, Some, IfOk, IfErr};
-ghost use Rattle.wsm_bytecode.specs.declared.Instr.{Instr};
+ghost use Rattle.wsm_program.specs.declared.Instr.{Instr};
 ghost use Rattle.wsm_verifier.specs.Labels.{Unreached, Differing, Reached, agree, hull_states, label_with};
 ghost use Rattle.wsm_verifier.specs.Rules.{Setting, fault_of};
 ghost use Rattle.wsm_verifier.specs.Turning.{label_kept};

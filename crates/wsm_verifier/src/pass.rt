@@ -2,7 +2,7 @@
 //! judged, and what its instruction leaves is joined to the labels of the places that come after it.
 
 ghost use Rattle.std.specs.Prelude.{◌≡◌, ℕ, suc, ◌<◌, ◌≤◌, ◌&&◌, false, None, Some, length, nat_eq, replicate, slice_index_or, slice_set, IfOk, IfErr, OnOk};
-ghost use Rattle.wsm_bytecode.specs.Instructions as table;
+ghost use Rattle.wsm_program.specs.Instructions as table;
 ghost use Rattle.wsm_verifier.specs.Labels as spec;
 ghost use Rattle.wsm_verifier.specs.Labels.{Unreached, Reached, visits};
 ghost use Rattle.wsm_verifier.specs.Rules as rules;
@@ -19,8 +19,8 @@ use crate::rules::Setting;
 use crate::state::State;
 use std::alloc::{AllocError, Global};
 use std::mem;
-use wsm_bytecode::{Instr, SectionId};
 use wsm_interval::Interval;
+use wsm_program::{Instr, SectionId};
 
 /// The first fault of a section, or else the hull of the numbers that are folded into each
 /// accumulator.

@@ -5,7 +5,7 @@ ghost use Rattle.wsm_verifier.specs.Costs as spec;
 ghost use Rattle.wsm_verifier.specs.Costs.{IsLongestPath};
 
 use std::alloc::{AllocError, Global};
-use wsm_bytecode::Instr;
+use wsm_program::Instr;
 
 /// The most instructions on a way from a section's first place to its end, or 0 where there is no
 /// way. One pass from the last place back.

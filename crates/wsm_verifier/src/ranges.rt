@@ -7,8 +7,8 @@ ghost use Rattle.wsm_verifier.specs.Pushing as pushing;
 
 use crate::known::Known;
 use std::marker::Model;
-use wsm_bytecode::{Instr, Operation};
 use wsm_interval::Interval;
+use wsm_program::{Instr, Operation};
 
 /// What is known of the values that are read: those of the fields, the number of records in a
 /// firing, and the accumulators.

@@ -7,8 +7,8 @@ ghost use Rattle.wsm_verifier.specs.Rules.{column_known, known_range};
 
 use crate::known::Known;
 use std::alloc::{AllocError, Global};
-use wsm_bytecode::CellType;
 use wsm_interval::Interval;
+use wsm_program::CellType;
 use wsm_record::{DeclaredField, FieldType};
 
 /// What is known of each field.

@@ -3,7 +3,7 @@
 use std::alloc::AllocError;
 use std::error::Error;
 use std::fmt;
-use wsm_bytecode::SectionId;
+use wsm_program::SectionId;
 
 /// Why a program is refused. Its text is its name.
 #[derive(Clone, Copy, Debug, PartialEq, Eq)]

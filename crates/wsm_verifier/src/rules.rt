@@ -48,7 +48,7 @@ use crate::ranges::Ranges;
 use crate::rejection::Rule;
 use crate::state::State;
 use crate::types::{fit, may_divide_by_zero, sum_may_leave};
-use wsm_bytecode::{Instr, SectionId};
+use wsm_program::{Instr, SectionId};
 use wsm_record::Kind;
 use wsm_record::limits::MAX_STACK;
 

@@ -11,7 +11,7 @@ mod types;
 use crate::{Costs, Part, Rejection, Rule, Verified, verify};
 use std::alloc::Global;
 use std::test::Fail;
-use wsm_bytecode::{Budget, CellType, Header, Instr, Operation, Program, SectionId};
+use wsm_program::{Budget, CellType, Header, Instr, Operation, Program, SectionId};
 use wsm_record::{Field, Form, Kind, Mode, Name, Schema, Ty};
 use wsm_windows::Shape;
 

@@ -7,7 +7,7 @@ ghost use Rattle.wsm_verifier.specs.Labels as spec;
 ghost use Rattle.wsm_verifier.specs.Rules as rules;
 
 use crate::known::Known;
-use wsm_bytecode::{Instr, Operands};
+use wsm_program::{Instr, Operands};
 use wsm_record::Kind;
 
 /// Whether the values of two stacks have the same types.

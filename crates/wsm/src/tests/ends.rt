@@ -1,6 +1,6 @@
 use crate::{CheckFault, DecodeRefusal, End, Fault, Part, Place, Refusal, Rejection, status_of};
 use std::test::Fail;
-use wsm_bytecode::SectionId;
+use wsm_program::SectionId;
 use wsm_verifier::Rule;
 
 #[test]

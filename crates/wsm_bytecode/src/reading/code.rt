@@ -2,19 +2,16 @@
 
 ghost use Rattle.std.specs.Prelude.{◌≡◌, nat_lt};
 ghost use Rattle.std.specs.Int.{w8};
-ghost use Rattle.wsm_bytecode.specs.View.{header_of};
+ghost use Rattle.wsm_program.specs.View.{header_of};
 ghost use Rattle.wsm_bytecode.specs.Reading.{Gives, judged, number_at, several, push_int_at, push_bool_at, push_enum_at, index_at, target_at, plain_instr, instr_by, instr_at, code_at};
-ghost use Rattle.wsm_bytecode.specs.declared.instr.Instr.TheVariants.{Field, Acc, Fold, Jump, JumpIfFalse};
+ghost use Rattle.wsm_program.specs.declared.instr.Instr.TheVariants.{Field, Acc, Fold, Jump, JumpIfFalse};
 
-use crate::enums::names;
-use crate::instr::Instr;
 use crate::limits::MAX_SECTION;
-use crate::operation::Operation;
-use crate::program::{Header, Section};
 use crate::reading::header::enum_of;
 use crate::reading::numbers::{byte_of, byte_within, i64_of, u16_of, u16_within};
-use crate::refusal::DecodeRefusal;
 use std::alloc::Global;
+use wsm_program::enums::names;
+use wsm_program::{DecodeRefusal, Header, Instr, Operation, Section};
 use wsm_record::Schema;
 
 /// The number of instructions, and these.

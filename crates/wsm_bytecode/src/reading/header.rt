@@ -1,17 +1,16 @@
 //! The header.
 
 ghost use Rattle.std.specs.Prelude.{◌≡◌};
-ghost use Rattle.wsm_bytecode.specs.View.{header_of as seen};
+ghost use Rattle.wsm_program.specs.View.{header_of as seen};
 ghost use Rattle.wsm_bytecode.specs.Reading.{Gives, several, after_magic, after_version, enum_number_at, column_at, columns_at, header_at};
 
-use crate::enums::name_count;
 use crate::limits::{LATEST_TIME, LONGEST_SPAN, MAGIC, MAX_COLUMNS, VERSION};
-use crate::program::Header;
 use crate::reading::numbers::{byte_of, byte_within, i64_within};
 use crate::reading::schema::schema_of;
 use crate::reading::settings::{budget_of, form_of, kinds_of, mode_of, shape_of};
-use crate::refusal::DecodeRefusal;
 use std::alloc::Global;
+use wsm_program::enums::name_count;
+use wsm_program::{DecodeRefusal, Header};
 use wsm_record::{CellType, Schema};
 
 #[tactic(auto, unfolding(crate::specs::Reading::header_at))]

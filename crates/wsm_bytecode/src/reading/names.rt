@@ -6,8 +6,8 @@ ghost use Rattle.wsm_bytecode.specs.Reading.{Gives, judged, name_at, names_after
 
 use crate::limits::{MAX_NAME, MAX_NAMES};
 use crate::reading::numbers::{byte_within, u16_within};
-use crate::refusal::DecodeRefusal;
 use std::alloc::Global;
+use wsm_program::DecodeRefusal;
 use wsm_record::Name;
 
 /// A byte of length and a name. The length is judged at its own byte, the name at its last.

@@ -5,10 +5,10 @@
 ghost use Rattle.std.specs.Prelude.{◌≡◌};
 ghost use Rattle.std.specs.Int.{w8, w16, w64};
 ghost use Rattle.wsm_record.specs.Name.{is_between};
-ghost use Rattle.wsm_bytecode.specs.Program.{is_within};
+ghost use Rattle.wsm_program.specs.Program.{is_within};
 ghost use Rattle.wsm_bytecode.specs.Reading.{Gives, number_at, signed_at, judged};
 
-use crate::refusal::DecodeRefusal;
+use wsm_program::DecodeRefusal;
 
 pub(crate) fn byte_of(bytes: &[u8]) -> Result<(u8, &[u8]), DecodeRefusal>
     ensures { Gives (λ x. (x.0, x.1.now)) result (number_at w8 bytes.now) }

@@ -8,8 +8,8 @@ ghost use Rattle.wsm_bytecode.specs.Reading.{Gives, field_type_at, new_field_at,
 use crate::limits::MAX_FIELDS;
 use crate::reading::names::{name_of, names_of};
 use crate::reading::numbers::{byte_within, i64_of};
-use crate::refusal::DecodeRefusal;
 use std::alloc::Global;
+use wsm_program::DecodeRefusal;
 use wsm_record::{Field, Name, Schema, Ty};
 
 #[tactic(auto, unfolding(crate::specs::Reading::schema_at))]

@@ -4,10 +4,9 @@ ghost use Rattle.std.specs.Prelude.{◌≡◌};
 ghost use Rattle.wsm_bytecode.specs.Reading.{Gives, shape_at, mode_at, form_at, kind_at, kinds_at, several, budget_at};
 
 use crate::limits::{LONGEST_SPAN, MAX_ACCUMULATORS, MAX_HELD, MAX_STATED};
-use crate::program::Budget;
 use crate::reading::numbers::{byte_of, byte_within, i64_within, u64_within};
-use crate::refusal::DecodeRefusal;
 use std::alloc::Global;
+use wsm_program::{Budget, DecodeRefusal};
 use wsm_record::{Form, Kind, Mode};
 use wsm_windows::Shape;
 

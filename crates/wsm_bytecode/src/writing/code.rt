@@ -3,10 +3,9 @@
 ghost use Rattle.std.specs.Prelude.{◌≡◌, ◌<◌, ◌++◌, length, OnOk};
 ghost use Rattle.wsm_bytecode.specs.Spelling.{byte, number, code as section_bytes, instr as instr_bytes, argument as argument_bytes};
 
-use crate::instr::Instr;
-use crate::table::Argument;
 use crate::writing::numbers::{put_i64, put_u8, put_u16};
 use std::alloc::AllocError;
+use wsm_program::{Argument, Instr};
 
 /// The number of instructions, and these.
 #[tactic(auto, unfolding(crate::specs::Spelling::code))]

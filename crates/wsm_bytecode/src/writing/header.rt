@@ -1,15 +1,15 @@
 //! The header.
 
 ghost use Rattle.std.specs.Prelude.{◌≡◌, ◌++◌, ◌<◌, length, OnOk, IsTrue};
-ghost use Rattle.wsm_bytecode.specs.Program.{is_header};
-ghost use Rattle.wsm_bytecode.specs.View.{header_of};
+ghost use Rattle.wsm_program.specs.Program.{is_header};
+ghost use Rattle.wsm_program.specs.View.{header_of};
 ghost use Rattle.wsm_bytecode.specs.Spelling.{shape as shape_bytes, mode as mode_bytes, form as form_bytes, kind as kind_bytes, kinds as kinds_bytes, column as column_bytes, columns as columns_bytes, budget as budget_bytes, header as header_bytes};
 
 use crate::limits::{MAGIC, VERSION};
-use crate::program::{Budget, Header};
 use crate::writing::numbers::{put_i64, put_two, put_u8, put_u64};
 use crate::writing::schema::put_schema;
 use std::alloc::AllocError;
+use wsm_program::{Budget, Header};
 use wsm_record::{CellType, Form, Kind, Mode};
 use wsm_windows::Shape;
 

@@ -1,5 +1,5 @@
 use Rattle.std.proofs.Common.{◌≤◌, length, sym, subst}
-use Rattle.wsm_bytecode.specs.Program.{Header}
+use Rattle.wsm_program.specs.Program.{Header}
 use Rattle.wsm_machine.proofs.Operands.{few_columns}
 use Rattle.wsm.proofs.columns.add_rows.Goals as goal
 

@@ -2,7 +2,7 @@ use Rattle.std.proofs.Common.{List, subst}
 use Rattle.std.specs.Prelude.{IfErr, IfOk}
 use Rattle.std.proofs.lemmas.Result.{err_from_is_err_and}
 use Rattle.wsm_semantics.specs.declared.ending.Totals.{Totals}
-use Rattle.wsm_bytecode.specs.Program.{Program}
+use Rattle.wsm_program.specs.Program.{Program}
 use Rattle.wsm_verifier.specs.Rules.{judge}
 use Rattle.wsm.specs.declared.end.End.{End}
 use Rattle.wsm.specs.Asked.{asked_by_program}

@@ -1,5 +1,5 @@
 use Rattle.std.proofs.Common.{◌≡◌, List, [], false}
-use Rattle.wsm_bytecode.specs.Program.{Program}
+use Rattle.wsm_program.specs.Program.{Program}
 use Rattle.wsm_csv.specs.Rows.{Follows, turns_left}
 use Rattle.wsm.specs.Written.{Cells}
 use Rattle.wsm.specs.Turns.{Fits, Stands}

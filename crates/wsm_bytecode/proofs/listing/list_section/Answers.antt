@@ -1,5 +1,5 @@
 use Rattle.std.specs.Prelude.{pos, string_bytes}
-use Rattle.wsm_bytecode.specs.declared.instr.Instr.TheVariants.{PushInt}
+use Rattle.wsm_program.specs.declared.instr.Instr.TheVariants.{PushInt}
 use Rattle.wsm_bytecode.proofs.Lines.{lines_go_on}
 use Rattle.wsm_bytecode.proofs.listing.list_section.Goals as goal
 

@@ -1,5 +1,5 @@
 use Rattle.std.proofs.Common.{arith}
-use Rattle.wsm_bytecode.specs.View.{program_of}
+use Rattle.wsm_program.specs.View.{program_of}
 use Rattle.wsm_bytecode.proofs.Codec.{program_step}
 use Rattle.wsm_bytecode.proofs.TakenProgram.{program_taken}
 use Rattle.wsm_bytecode.proofs.reading.program_of.Goals as goal

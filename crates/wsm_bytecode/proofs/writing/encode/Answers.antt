@@ -1,4 +1,4 @@
-use Rattle.wsm_bytecode.proofs.Spelled.{program_header}
+use Rattle.wsm_program.proofs.Lawful.{program_header}
 use Rattle.wsm_bytecode.proofs.writing.encode.Goals as goal
 
 pub put_header-requires : goal.put_header-requires

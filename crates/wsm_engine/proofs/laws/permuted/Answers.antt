@@ -6,7 +6,7 @@ use Rattle.wsm_fold.proofs.Rows.{joins_assoc, joins_comm}
 use Rattle.wsm_semantics.specs.Order.{IgnoresOrder}
 use Rattle.wsm_semantics.proofs.BagRows.{ignores_order}
 use Rattle.wsm_semantics.proofs.OrderLaws.{same_in_any_order}
-use Rattle.wsm_bytecode.specs.Program.{Program}
+use Rattle.wsm_program.specs.Program.{Program}
 use Rattle.wsm_verifier.proofs.Lawful.{lawful}
 use Rattle.wsm_machine.specs.Meaning.{query_of, row, updated}
 use Rattle.wsm_engine.proofs.Limits.{clock_within}

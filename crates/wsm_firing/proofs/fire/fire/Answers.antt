@@ -4,7 +4,7 @@ use Rattle.std.specs.FinMap.Entries.{put}
 use Rattle.wsm_record.specs.declared.event.Value.{Value}
 use Rattle.wsm_semantics.specs.Panes.{place_cmp}
 use Rattle.wsm_semantics.specs.Summaries.{Pane, columns, fired_count}
-use Rattle.wsm_bytecode.specs.Program.{Program, Header}
+use Rattle.wsm_program.specs.Program.{Program, Header}
 use Rattle.wsm_machine.specs.Meaning.{plan_of}
 use Rattle.wsm_panes.specs.Held.{entries_of, once_fired}
 use Rattle.wsm_firing.specs.Streams.{Tells}

@@ -2,8 +2,8 @@ use Rattle.std.proofs.Common.{◌≡◌, sym, ap, ◌∙◌, SFits, w64, to_z-of
 use Rattle.std.proofs.lemmas.Int.{ints, fits_signed_from_abs}
 use Rattle.std.specs.Prelude.{unsigned_abs}
 use Rattle.wsm_semantics.specs.Firings.{kind_on_record}
-use Rattle.wsm_bytecode.specs.Program.{Program, Header}
-use Rattle.wsm_bytecode.specs.View.{header_of}
+use Rattle.wsm_program.specs.Program.{Program, Header}
+use Rattle.wsm_program.specs.View.{header_of}
 use Rattle.wsm_machine.specs.Meaning.{query_of}
 use Rattle.wsm_firing.proofs.Headers.{IsLawfulFiring, lawful_firing}
 use Rattle.wsm_firing.proofs.kinds.record_kind.Goals as goal

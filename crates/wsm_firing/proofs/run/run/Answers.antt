@@ -1,9 +1,9 @@
 use Rattle.std.proofs.Common.{◌≡◌, ℕ, ◌≤◌, pos, length, sym, ap, subst, ◌∙◌, SFits, w64, IsTrue, arith}
 use Rattle.wsm_semantics.specs.Summaries.{fired_count}
 use Rattle.wsm_semantics.proofs.Lists.{length_each}
-use Rattle.wsm_bytecode.specs.declared.instr.SectionId.TheVariants.{Fire}
-use Rattle.wsm_bytecode.specs.Program.{Program, Header, is_program}
-use Rattle.wsm_bytecode.specs.View.{header_of}
+use Rattle.wsm_program.specs.declared.instr.SectionId.TheVariants.{Fire}
+use Rattle.wsm_program.specs.Program.{Program, Header, is_program}
+use Rattle.wsm_program.specs.View.{header_of}
 use Rattle.wsm_machine.specs.Inputs.{Inputs}
 use Rattle.wsm_machine.specs.InRange.{in_range}
 use Rattle.wsm_machine.specs.Step.{type_of}

@@ -11,8 +11,8 @@ use Rattle.wsm_semantics.specs.declared.out_row.OutRow.{OutRow}
 use Rattle.wsm_semantics.specs.declared.place.Place.{Place}
 use Rattle.wsm_semantics.specs.Panes.{window_of}
 use Rattle.wsm_semantics.specs.Summaries.{Fired, Pane, fired_count, fires, kind_by_watermark}
-use Rattle.wsm_bytecode.specs.Program.{Program, Header, is_program}
-use Rattle.wsm_bytecode.specs.View.{header_of}
+use Rattle.wsm_program.specs.Program.{Program, Header, is_program}
+use Rattle.wsm_program.specs.View.{header_of}
 use Rattle.wsm_verifier.proofs.Lawful as lawful_programs
 use Rattle.wsm_machine.specs.Meaning.{plan_of, query_of}
 use Rattle.wsm_panes.specs.Held.{Held, IsKept, entries_of}

@@ -1,6 +1,6 @@
 use Rattle.std.proofs.Common.{◌≡◌, ◌∙◌, [], length, None, replicate, sym, ap, subst, arith}
 use Rattle.std.specs.Prelude.{slice_get}
-use Rattle.wsm_bytecode.specs.Program.{Header}
+use Rattle.wsm_program.specs.Program.{Header}
 use Rattle.wsm_machine.specs.declared.frame.Frame.{Frame}
 use Rattle.wsm_machine.specs.declared.run.Ran.{Ran}
 use Rattle.wsm_machine.specs.Inputs.{inputs_of}

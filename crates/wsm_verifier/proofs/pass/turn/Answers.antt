@@ -1,7 +1,7 @@
 use Rattle.std.proofs.Common.{suc, ◌&&◌, ap, sym, ◌∙◌, length-set}
 use Rattle.std.specs.Prelude.{nat_eq}
 use Rattle.wsm_verifier.specs.Labels.{Reached}
-use Rattle.wsm_bytecode.specs.Instructions.{goes_on}
+use Rattle.wsm_program.specs.Instructions.{goes_on}
 use Rattle.wsm_verifier.specs.Trying.{setting_of}
 use Rattle.wsm_verifier.proofs.Accepting.{passes}
 use Rattle.wsm_verifier.proofs.pass.turn.Goals as goal

@@ -1,5 +1,5 @@
 use Rattle.std.proofs.Common.{rules, ◌≡◌, None, length, map, to_z, of_z, w64, subst, sym, ap, ◌∙◌}
-use Rattle.wsm_bytecode.specs.declared.SectionId.TheVariants.{Where, Update, Fire}
+use Rattle.wsm_program.specs.declared.SectionId.TheVariants.{Where, Update, Fire}
 use Rattle.wsm_verifier.specs.Accumulated.{folded_from, ranges_of}
 use Rattle.wsm_verifier.specs.Rules.{fault_in, known_range, ranges_with, ranges_of_record, ranges_of_pane, update_visits}
 use Rattle.wsm_verifier.proofs.Accumulating.{length-folded_from, known_each}

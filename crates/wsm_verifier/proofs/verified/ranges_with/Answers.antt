@@ -1,7 +1,7 @@
 use Rattle.std.proofs.Common.{◌≡◌, length, sym, ap, ◌∙◌, arith}
 use Rattle.std.proofs.lemmas.List.{length-map}
 use Rattle.wsm_record.specs.Fields.{field_seen}
-use Rattle.wsm_bytecode.specs.View.{header_of}
+use Rattle.wsm_program.specs.View.{header_of}
 use Rattle.wsm_verifier.proofs.Lawful.{lawful_seen}
 use Rattle.wsm_verifier.proofs.verified.ranges_with.Goals as goal
 

@@ -5,7 +5,7 @@ use Rattle.wsm_semantics.specs.Relation.{turn_rows}
 use Rattle.wsm_semantics.specs.declared.out_row.OutRow.{OutRow}
 use Rattle.wsm_semantics.specs.Lines.{Out, refusal_lines}
 use Rattle.wsm_semantics.specs.Text.{lines_text}
-use Rattle.wsm_bytecode.specs.Program.{Program}
+use Rattle.wsm_program.specs.Program.{Program}
 use Rattle.wsm_machine.specs.Meaning.{query_of}
 use Rattle.wsm_engine.specs.declared.reply.Reply.{Reply}
 use Rattle.wsm_engine.specs.Meaning.{reply_to}

@@ -4,7 +4,7 @@ use Rattle.csv.specs.Records.{fields_of}
 use Rattle.wsm_record.specs.Event.{event_of}
 use Rattle.wsm_record.specs.Schema.{Declared}
 use Rattle.wsm_semantics.specs.Lines.{events}
-use Rattle.wsm_bytecode.specs.Program.{Program}
+use Rattle.wsm_program.specs.Program.{Program}
 use Rattle.wsm_csv.specs.Cells.{event_of_cells}
 use Rattle.wsm.proofs.Taking.{Counted, taken_event, taken_fault}
 use Rattle.wsm.proofs.turns.Turns.take.Goals as goal

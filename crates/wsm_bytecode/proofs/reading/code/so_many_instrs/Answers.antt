@@ -1,5 +1,5 @@
 use Rattle.std.proofs.lemmas.Result.{err_from_is_err_and}
-use Rattle.wsm_bytecode.specs.View.{header_of}
+use Rattle.wsm_program.specs.View.{header_of}
 use Rattle.wsm_bytecode.specs.Reading.{several, instr_at}
 use Rattle.wsm_bytecode.proofs.Loop.{goes_on, ends}
 use Rattle.wsm_bytecode.proofs.reading.code.so_many_instrs.Goals as goal

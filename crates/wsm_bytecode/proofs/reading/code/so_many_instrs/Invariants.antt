@@ -1,5 +1,5 @@
 use Rattle.std.proofs.Common.{◌≡◌, ◌-◌}
-use Rattle.wsm_bytecode.specs.View.{header_of}
+use Rattle.wsm_program.specs.View.{header_of}
 use Rattle.wsm_bytecode.specs.Reading.{several, instr_at}
 use Rattle.wsm_bytecode.proofs.Loop.{with_front}
 use Rattle.wsm_bytecode.proofs.reading.code.so_many_instrs.Given as goal

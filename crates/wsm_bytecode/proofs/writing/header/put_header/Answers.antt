@@ -1,6 +1,7 @@
 use Rattle.std.proofs.lemmas.Result.{on_ok_weaker}
-use Rattle.wsm_bytecode.specs.View.{header_of}
-use Rattle.wsm_bytecode.proofs.Spelled.{header_schema, header_kinds, header_columns, header_added}
+use Rattle.wsm_program.specs.View.{header_of}
+use Rattle.wsm_program.proofs.Lawful.{header_schema}
+use Rattle.wsm_bytecode.proofs.Spelled.{header_kinds, header_columns, header_added}
 use Rattle.wsm_bytecode.proofs.writing.header.put_header.Goals as goal
 
 pub put_schema-requires : goal.put_schema-requires

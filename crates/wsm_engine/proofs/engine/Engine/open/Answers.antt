@@ -1,6 +1,6 @@
 use Rattle.std.proofs.Common.{[], refl, ap, ◌∙◌}
 use Rattle.wsm_admission.specs.Admission as admission
-use Rattle.wsm_bytecode.specs.Program.{Program}
+use Rattle.wsm_program.specs.Program.{Program}
 use Rattle.wsm_machine.specs.Meaning.{clock_of, query_of}
 use Rattle.wsm_engine.proofs.Limits.{clock_within}
 use Rattle.wsm_engine.proofs.engine.Engine.open.Goals as goal

@@ -3,7 +3,7 @@ use Rattle.std.proofs.lemmas.Int.{ints, fits_signed_from_abs}
 use Rattle.wsm_record.specs.Event.{Event, event_of}
 use Rattle.wsm_admission.specs.Admission.{counter, decision}
 use Rattle.wsm_semantics.specs.Steps.{answer_to, fired_by}
-use Rattle.wsm_bytecode.specs.Program.{Program, Header}
+use Rattle.wsm_program.specs.Program.{Program, Header}
 use Rattle.wsm_firing.specs.declared.tally.Tally.{Tally}
 use Rattle.wsm_machine.specs.Meaning.{query_of, plan_of}
 use Rattle.wsm_panes.specs.Held.{entries_of}

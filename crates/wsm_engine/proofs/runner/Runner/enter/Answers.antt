@@ -1,5 +1,5 @@
 use Rattle.std.proofs.Common.{◌≡◌, ◌∙◌, cond, length, refl, SFits, w64, to_z-of_z, sym, ap, arith}
-use Rattle.wsm_bytecode.specs.Program.{Header}
+use Rattle.wsm_program.specs.Program.{Header}
 use Rattle.wsm_machine.specs.Meaning.{updated}
 use Rattle.wsm_machine.proofs.Telling.{updated_is}
 use Rattle.wsm_panes.specs.Held.{entries_of}

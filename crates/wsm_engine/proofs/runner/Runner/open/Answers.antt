@@ -1,7 +1,7 @@
 use Rattle.std.proofs.Common.{rules, ◌≡◌, [], IsTrue, SFits, w64, to_z-of_z, ap, subst, ◌∙◌, arith}
 use Rattle.std.proofs.lemmas.Int.{ints, fits_signed_from_abs}
-use Rattle.wsm_bytecode.specs.Program.{Program, is_program}
-use Rattle.wsm_bytecode.specs.View.{header_of}
+use Rattle.wsm_program.specs.Program.{Program, is_program}
+use Rattle.wsm_program.specs.View.{header_of}
 use Rattle.wsm_verifier.proofs.Lawful.{lawful_seen, span_seen}
 use Rattle.wsm_panes.specs.Held.{entries_of}
 use Rattle.wsm_panes.proofs.Tables.{entries_none}

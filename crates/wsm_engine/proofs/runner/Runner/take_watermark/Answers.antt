@@ -11,7 +11,7 @@ use Rattle.wsm_semantics.specs.Panes.{place_cmp, is_live_at, window_of}
 use Rattle.wsm_semantics.specs.HeldBounds.{most_panes}
 use Rattle.wsm_semantics.specs.Summaries.{at_watermark, kind_by_watermark, relation_of, row_of, fired_by_watermark}
 use Rattle.wsm_semantics.specs.Steps.{chosen_rows, stream_rows}
-use Rattle.wsm_bytecode.specs.Program.{Program, Header}
+use Rattle.wsm_program.specs.Program.{Program, Header}
 use Rattle.wsm_verifier.proofs.Lawful.{lawful}
 use Rattle.wsm_machine.specs.Meaning.{plan_of, query_of}
 use Rattle.wsm_panes.specs.Held.{entries_of}

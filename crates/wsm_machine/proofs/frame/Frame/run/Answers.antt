@@ -1,7 +1,7 @@
 use Rattle.std.proofs.Common.{◌≡◌, ◌+◌, ◌<◌, ◌∙◌, Some, get_or, pos, sym, ap, arith}
 use Rattle.std.specs.Prelude.{slice_get}
 use Rattle.std.proofs.lemmas.Option.{slice_get-get_or}
-use Rattle.wsm_bytecode.specs.declared.instr.Instr.TheVariants.{PushInt}
+use Rattle.wsm_program.specs.declared.instr.Instr.TheVariants.{PushInt}
 use Rattle.wsm_machine.specs.Step.{Goes, Traps, step}
 use Rattle.wsm_machine.specs.declared.frame.Frame.{Frame}
 use Rattle.wsm_machine.specs.declared.outcome.Outcome.TheVariants.{Done, Trap as Trapped}

@@ -1,5 +1,5 @@
 use Rattle.std.proofs.Common.{length, ap, arith}
-use Rattle.wsm_bytecode.specs.Program.{Header}
+use Rattle.wsm_program.specs.Program.{Header}
 use Rattle.wsm_machine.proofs.Operands.{few_kinds}
 use Rattle.wsm_machine.proofs.inputs.Inputs.in_range.Goals as goal
 

@@ -1,4 +1,4 @@
-use Rattle.wsm_bytecode.specs.Program.{section}
+use Rattle.wsm_program.specs.Program.{section}
 use Rattle.wsm_verifier.proofs.Longest.{longest_path_is}
 use Rattle.wsm_verifier.proofs.verified.Verified.costs.Goals as goal
 

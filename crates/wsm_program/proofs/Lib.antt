@@ -1,0 +1,5 @@
+pub mod NamesOf
+pub mod Places
+pub mod Within
+pub mod Lawful
+pub mod Stating

@@ -1,0 +1,5 @@
+pub mod Program
+pub mod Operations
+pub mod Instructions
+pub mod View
+pub mod Text

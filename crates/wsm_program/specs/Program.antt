@@ -1,0 +1,172 @@
+-- Programs, without where they lie in memory, and what holds of each.
+use Rattle.std.specs.Prelude.{ℕ, zero, suc, Bool, true, false, ◌&&◌, not, List, [], ◌∷◌, ◌++◌, length, ℤ, pos, negsuc, int_le, nat_le, nat_lt, Option, Some, None, is_some, slice_get}
+use Rattle.std.specs.List.{list_all}
+use Rattle.wsm_record.specs.declared.Kind.{Kind}
+use Rattle.wsm_record.specs.declared.Mode.{Mode}
+use Rattle.wsm_record.specs.declared.Mode.TheVariants.{Discarding, Accumulating}
+use Rattle.wsm_record.specs.declared.Form.{Form}
+use Rattle.wsm_record.specs.declared.Form.TheVariants.{Panes}
+use Rattle.wsm_record.specs.declared.limits.TheConstants.{LATEST_TIME, LONGEST_SPAN, MAX_ACCUMULATORS, MAX_COLUMNS, MAX_FIELDS, MAX_NAMES, MAX_PANES, MAX_SECTION, MAX_STATED}
+use Rattle.wsm_record.specs.Name.{is_name, is_among, is_between}
+use Rattle.wsm_record.specs.Schema.{FieldType, Int, Truth, Enum, DeclaredField, Declared}
+use Rattle.wsm_windows.specs.declared.Shape.{Shape}
+use Rattle.wsm_windows.specs.declared.Shape.TheVariants.{Fixed, Sliding, Session}
+use Rattle.wsm_record.specs.declared.words.CellType.{CellType}
+use Rattle.wsm_record.specs.declared.words.CellType.TheVariants as types
+use Rattle.wsm_program.specs.declared.instr.Instr.{Instr}
+use Rattle.wsm_program.specs.declared.instr.Instr.TheVariants.{PushInt, PushEnum, Field, Acc, Jump, JumpIfFalse, Fold}
+use Rattle.wsm_program.specs.declared.instr.SectionId.{SectionId}
+use Rattle.wsm_program.specs.declared.instr.SectionId.TheVariants.{Where, Update, Fire}
+use Rattle.wsm_program.specs.declared.program.Budget.{Budget}
+
+-- the bytes of a word
+abbrev pub Name : Type 0
+Name = List ℕ
+
+pub record Header : Type 0 where
+  pub schema : Declared
+  pub start : ℤ
+  pub skew : ℤ
+  pub lateness : ℤ
+  pub records : ℤ
+  pub shape : Shape
+  pub mode : Mode
+  pub early : ℤ  -- 0: none
+  pub late : ℤ
+  pub form : Form
+  pub kinds : List Kind
+  pub columns : List CellType
+  pub budget : Budget
+
+pub record Program : Type 0 where
+  pub header : Header
+  pub selection : List Instr  -- the section where
+  pub update : List Instr
+  pub fire : List Instr
+
+abbrev pub section : Program → SectionId → List Instr
+section p Where = p.selection
+section p Update = p.update
+section p Fire = p.fire
+
+-- the same program, which states another budget
+abbrev pub stating : Program → Budget → Program
+stating p budget = record p { header = record p.header { budget = budget } }
+
+-- the names of a field that is an ENUM
+abbrev pub names_of_type : FieldType → Option (List Name)
+names_of_type (Enum names) = Some names
+names_of_type _ = None
+
+abbrev pub names_of_field : Option DeclaredField → Option (List Name)
+names_of_field None = None
+names_of_field (Some f) = names_of_type f.type
+
+-- the names of ENUM e: 0 is the key, f + 1 is field f
+abbrev pub enum_names : Declared → ℕ → Option (List Name)
+enum_names s zero = Some s.keys
+enum_names s (suc f) = names_of_field (slice_get s.fields f)
+
+-- ---- what holds of each program
+
+abbrev pub is_within : ℤ → ℤ → ℤ → Bool
+is_within lo hi n = int_le lo n && int_le n hi
+
+-- from -2^63 to 2^63 - 1
+abbrev pub is_i64 : ℤ → Bool
+is_i64 n = is_within (negsuc 9223372036854775807) (pos 9223372036854775807) n
+
+-- names, none of them one of those before it
+abbrev pub are_names_after : List Name → List Name → Bool
+are_names_after before [] = true
+are_names_after before (n ∷ ns) = is_name n && (not (is_among n before) && are_names_after (before ++ n ∷ []) ns)
+
+-- 1 to 1,000 of them
+abbrev pub is_name_list : List Name → Bool
+is_name_list ns = is_between 1 MAX_NAMES (length ns) && are_names_after [] ns
+
+abbrev pub is_field_type : FieldType → Bool
+is_field_type (Int lo hi) = is_i64 lo && (is_i64 hi && int_le lo hi)
+is_field_type Truth = true
+is_field_type (Enum names) = is_name_list names
+
+-- its name is none of those before
+abbrev pub is_field_after : List Name → DeclaredField → Bool
+is_field_after before f = is_name f.name && (not (is_among f.name before) && is_field_type f.type)
+
+abbrev pub are_fields_after : List Name → List DeclaredField → Bool
+are_fields_after before [] = true
+are_fields_after before (f ∷ fs) = is_field_after before f && are_fields_after (before ++ f.name ∷ []) fs
+
+unfoldable pub is_schema : Declared → Bool
+is_schema s = is_name_list s.keys && (nat_le (length s.fields) MAX_FIELDS && are_fields_after [] s.fields)
+
+abbrev pub latest_time : ℤ
+latest_time = LATEST_TIME
+
+abbrev pub longest_span : ℤ
+longest_span = LONGEST_SPAN
+
+abbrev pub is_span : ℤ → Bool
+is_span n = is_within (pos 0) longest_span n
+
+abbrev pub is_size : ℤ → Bool
+is_size n = is_within (pos 1) longest_span n
+
+abbrev pub is_shape : Shape → Bool
+is_shape (Fixed size) = is_size size
+is_shape (Sliding size period) = is_size size && is_within (pos 1) size period
+is_shape (Session gap) = is_size gap
+
+-- a stream of changes needs accumulating panes
+abbrev pub is_form_of : Mode → Form → Bool
+is_form_of Accumulating f = true
+is_form_of Discarding Panes = true
+is_form_of Discarding f = false
+
+abbrev pub is_column : Declared → CellType → Bool
+is_column s types.Int = true
+is_column s types.Bool = true
+is_column s (types.Enum e) = is_some (enum_names s e)
+
+abbrev pub is_stated : ℕ → Bool
+is_stated n = is_between 1 MAX_STATED n
+
+abbrev pub is_budget : Budget → Bool
+is_budget b = is_stated b.per_record && (is_stated b.per_pane && is_between 1 MAX_PANES b.held)
+
+abbrev pub is_clock : Header → Bool
+is_clock h = is_within (pos 0) latest_time h.start && (is_span h.skew && (is_span h.lateness && is_size h.records))
+
+-- when panes fire, and what is written
+abbrev pub is_firing : Header → Bool
+is_firing h = is_shape h.shape && (is_span h.early && (is_span h.late && is_form_of h.mode h.form))
+
+-- what a pane keeps, and what its row has
+abbrev pub is_row : Header → Bool
+is_row h = nat_le (length h.kinds) MAX_ACCUMULATORS && (is_between 1 MAX_COLUMNS (length h.columns) && list_all (is_column h.schema) h.columns)
+
+unfoldable pub is_header : Header → Bool
+is_header h = is_schema h.schema && (is_clock h && (is_firing h && (is_row h && is_budget h.budget)))
+
+abbrev pub is_name_of : Option (List Name) → ℕ → Bool
+is_name_of None i = false
+is_name_of (Some names) i = nat_lt i (length names)
+
+-- the operands name fields, accumulators, ENUMs and names that there are; targets are free
+abbrev pub is_instr : Header → Instr → Bool
+is_instr h (PushInt n) = is_i64 n
+is_instr h (PushEnum e i) = is_name_of (enum_names h.schema e) i
+is_instr h (Field f) = nat_lt f (length h.schema.fields)
+is_instr h (Acc a) = nat_lt a (length h.kinds)
+is_instr h (Fold a) = nat_lt a (length h.kinds)
+is_instr h (Jump t) = nat_lt t 65536
+is_instr h (JumpIfFalse t) = nat_lt t 65536
+is_instr h _ = true
+
+unfoldable pub is_section : Header → List Instr → Bool
+is_section h code = nat_le (length code) MAX_SECTION && list_all (is_instr h) code
+
+-- what reading checks holds of each program
+unfoldable pub is_program : Program → Bool
+is_program p = is_header p.header && (is_section p.header p.selection && (is_section p.header p.update && is_section p.header p.fire))

@@ -1,0 +1,38 @@
+//! The names that an operand may name.
+
+ghost use Rattle.std.specs.Prelude.{◌≡◌, length};
+ghost use Rattle.std.specs.Option.{option_map};
+ghost use Rattle.wsm_record.specs.Fields.{type_seen};
+ghost use Rattle.wsm_program.specs.Program.{enum_names, names_of_type, is_name_of};
+
+use wsm_record::{FieldType, Schema};
+
+/// How many names the ENUM of a number has, if there is one: 0 is the keys, f + 1 is field f.
+pub fn name_count(schema: &Schema, number: u8) -> Option<usize>
+    ensures { result ≡ option_map length (enum_names schema.now number) }
+{
+    if number == 0 {
+        return Some(schema.key_count());
+    }
+    let field = schema.fields().get(number as usize - 1)?;
+    count_of(&field.ty)
+}
+
+fn count_of(ty: &FieldType) -> Option<usize>
+    ensures { result ≡ option_map length (names_of_type (type_seen ty.now)) }
+{
+    match ty {
+        FieldType::Enum(names) => Some(names.len()),
+        FieldType::Int { .. } | FieldType::Bool => None,
+    }
+}
+
+/// Whether the ENUM of a number has a name of a number.
+pub fn names(schema: &Schema, number: u8, name: u16) -> bool
+    ensures { result ≡ is_name_of (enum_names schema.now number) name }
+{
+    match name_count(schema, number) {
+        Some(count) => (name as usize) < count,
+        None => false,
+    }
+}

@@ -1,0 +1,47 @@
+//! Programs of the stream machine: their instructions, their header, and what holds of each.
+//!
+//! A [`Program`] is a [`Header`] and three sections of instructions: `where` selects records,
+//! `update` folds a record into its pane's accumulators, and `fire` computes the row of a pane. A
+//! program always names only fields, accumulators and names that its header has, and its numbers
+//! lie in their ranges: [`Program::new`] refuses anything else. `wsm_bytecode` has the bytes of a
+//! program and its listing.
+//!
+//! Where `header` declares one field and one accumulator:
+//!
+//! ```rust
+//! use wsm_program::{DecodeRefusal, Instr, Program, SectionId};
+//!
+//! let selection = vec![in alloc; Instr::PushBool(true), Instr::Return]?;
+//! let update = vec![in alloc; Instr::Field(0), Instr::Fold(0), Instr::Return]?;
+//! let fire = vec![in alloc; Instr::Count, Instr::Acc(1), Instr::PushBool(true), Instr::Return]?;
+//!
+//! assert!(rt; Instr::Acc(1).may_stand(SectionId::Fire)); // in no other section
+//! let program = Program::new(header, selection, update, fire);
+//! assert!(rt; program.is_err_and(|e| e == DecodeRefusal::Operand)); // accumulator 1 isn't there
+//! ```
+//!
+//! - `instr`, `operation`, `table`: the instructions, and what each is
+//! - `text`: what a section and an instruction are printed as
+//! - `program`: headers and programs
+//! - `refusal`: why bytes, or parts, are no program
+//! - `judging`: what reading asks of a program, asked of its parts
+//! - [`enums`]: the names that an operand may name
+#![tactic(auto)]
+
+pub use instr::{Instr, SectionId};
+pub use operation::{Operands, Operation};
+pub use program::{Budget, Header, Program, Section};
+pub use refusal::DecodeRefusal;
+pub use table::Argument;
+pub use wsm_record::CellType;
+
+pub mod enums;
+mod instr;
+mod judging;
+mod operation;
+mod program;
+mod refusal;
+mod table;
+#[cfg(test)]
+mod tests;
+mod text;

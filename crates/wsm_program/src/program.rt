@@ -1,0 +1,149 @@
+//! Headers and programs.
+
+ghost use Rattle.std.specs.Prelude.{◌≡◌, ◌≤◌, length, is_ok, IfOk, IfErr, IsTrue};
+ghost use Rattle.wsm_program.specs.Program.{section as section_of, is_budget, is_program, stating};
+ghost use Rattle.wsm_program.specs.View.{header_of, program_of};
+
+use crate::instr::{Instr, SectionId};
+use crate::judging::is_lawful;
+use crate::refusal::DecodeRefusal;
+use std::marker::Model;
+use wsm_record::{CellType, Form, Kind, Mode, Schema};
+use wsm_windows::Shape;
+
+/// The instructions of a section, by their places.
+pub type Section = Vec<Instr>;
+
+/// The numbers that a program states of its cost.
+#[derive(Clone, Copy, Debug, PartialEq, Eq)]
+pub struct Budget {
+    /// The most instructions for a record, from 1 to 10^18.
+    pub per_record: u64,
+    /// The most instructions for a pane that fires, from 1 to 10^18.
+    pub per_pane: u64,
+    /// The most panes that are held after a record, from 1 to 100,000.
+    pub held: u64,
+}
+
+/// What a program declares before its sections. Times and spans are in units of event time.
+#[derive(Drop)]
+pub struct Header {
+    /// The keys and the fields of a record.
+    pub schema: Schema,
+    /// Where the watermark starts, from 0 to 10^16.
+    pub start: i64,
+    /// How far a record may be ahead of the watermark, from 0 to 10^12.
+    pub skew: i64,
+    /// How far a record may be behind the watermark, from 0 to 10^12.
+    pub lateness: i64,
+    /// The most records that are admitted, from 1 to 10^12.
+    pub records: i64,
+    /// How records are put into windows.
+    pub shape: Shape,
+    /// What a firing's columns are computed over.
+    pub mode: Mode,
+    /// How many unshown records make an early firing, from 1 to 10^12, or 0 where none does.
+    pub early: i64,
+    /// How many unshown records make a late firing, from 1 to 10^12, or 0 where none does.
+    pub late: i64,
+    /// What is written.
+    pub form: Form,
+    /// How each accumulator folds, of at most 16.
+    pub kinds: Vec<Kind>,
+    /// The types of the columns, 1 to 16 of them.
+    pub columns: Vec<CellType>,
+    /// What the program states of its cost.
+    pub budget: Budget,
+}
+
+/// A header and three sections. Their numbers lie in their ranges, and each operand names a field,
+/// an accumulator or a name that there is. A jump's target may be any number.
+#[derive(Drop)]
+pub struct Program {
+    header: Header,
+    selection: Section,
+    update: Section,
+    fire: Section,
+}
+
+impl Model for Program {
+    ghost use Rattle.std.specs.Prelude.{IsTrue};
+    ghost use Rattle.wsm_program.specs.Program.{Program as ProgramValue, is_program};
+
+    ghost Value = { ProgramValue };
+
+    ghost use Rattle.wsm_program.specs.View.{program_of};
+
+    ghost view = { λ a. program_of a.header a.selection.items a.update.items a.fire.items };
+
+    ghost invariant = { λ a. IsTrue (is_program (program_of a.header a.selection.items a.update.items a.fire.items)) };
+}
+
+impl Program {
+    /// Puts a program together, or refuses its parts by [`DecodeRefusal::Operand`], where reading
+    /// its bytes would. It takes no memory.
+    pub fn new(
+        header: Header,
+        selection: Section,
+        update: Section,
+        fire: Section,
+    ) -> Result<Program, DecodeRefusal>
+        ensures made { IfOk result (λ p. p ≡ program_of header selection.items update.items fire.items) }
+        ensures lawful { is_ok result ≡ is_program (program_of header selection.items update.items fire.items) }
+        ensures refused { IfErr result (λ refusal. refusal ≡ DecodeRefusal.Operand) }
+    {
+        if !is_lawful(&header, &selection, &update, &fire) {
+            return Err(DecodeRefusal::Operand);
+        }
+        Ok(Program::of_parts(header, selection, update, fire))
+    }
+
+    /// Puts a program together of parts that were judged.
+    pub fn of_parts(header: Header, selection: Section, update: Section, fire: Section) -> Program
+        requires { IsTrue (is_program (program_of header selection.items update.items fire.items)) }
+        ensures { result ≡ program_of header selection.items update.items fire.items }
+    {
+        Program {
+            header,
+            selection,
+            update,
+            fire,
+        }
+    }
+
+    /// The same program, which states another budget. It takes no memory.
+    pub fn stating(self, budget: Budget) -> Program
+        requires { IsTrue (is_budget budget) }
+        ensures { result ≡ stating self budget }
+    {
+        let Program {
+            mut header,
+            selection,
+            update,
+            fire,
+        } = self;
+        header.budget = budget;
+        Program::of_parts(header, selection, update, fire)
+    }
+
+    /// What the program declares.
+    pub fn header(&self) -> &Header
+        ensures header { header_of result.now ≡ self.now.header }
+        ensures lawful { IsTrue (is_program self.now) }
+    {
+        &self.header
+    }
+
+    /// The instructions of a section.
+    pub fn section(&self, id: SectionId) -> &[Instr]
+        ensures instructions { result.now ≡ section_of self.now id }
+        ensures most { length result.now ≤ 1000 }
+        ensures lawful { IsTrue (is_program self.now) }
+    {
+        match id {
+            SectionId::Where => &self.selection,
+            SectionId::Update => &self.update,
+            SectionId::Fire => &self.fire,
+        }
+    }
+}
