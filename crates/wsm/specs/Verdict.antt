@@ -4,7 +4,7 @@ use Rattle.std.specs.Fmt.{decimal}
 use Rattle.std.specs.Io.KnownBytes.{Appends, Keeps}
 use Rattle.wsm_program.specs.Program.{Program}
 use Rattle.wsm_bytecode.specs.Text.{text}
-use Rattle.wsm_verifier.specs.declared.costs.Costs.{Costs}
+use Rattle.wsm_program.specs.declared.program.Costs.{Costs}
 use Rattle.wsm_verifier.specs.declared.rejection.Rejection.{Rejection}
 use Rattle.wsm_verifier.specs.Rules.{judge}
 use Rattle.wsm_verifier.specs.Text.{rejection_text}

@@ -16,7 +16,7 @@ use Rattle.wsm_record.specs.declared.Form.{Form}
 use Rattle.wsm_record.specs.declared.Form.TheVariants.{Panes, Istream, Dstream, Rstream}
 use Rattle.wsm_program.specs.Program.{Name, is_i64, is_within, are_names_after, is_name_list, is_field_type, is_field_after, are_fields_after, is_schema, is_span, is_size, is_shape, is_form_of, is_column, is_stated, is_budget, enum_names, names_of_field, latest_time, longest_span}
 use Rattle.wsm_record.specs.Schema.{FieldType, Int, Truth, Enum, DeclaredField, Declared}
-use Rattle.wsm_program.specs.declared.program.Budget.{Budget}
+use Rattle.wsm_program.specs.declared.program.Costs.{Costs}
 use Rattle.wsm_record.specs.Name.{is_between, is_name, is_among}
 use Rattle.wsm_bytecode.specs.Reading.{Read, judged, number_at, signed_at, name_at, names_after, names_at, interval_at, enum_at, field_type_by, field_type_at, new_field_at, fields_after, schema_at, shape_at, fixed_at, sliding_at, session_at, shape_by, mode_at, mode_by, form_at, form_by, kind_at, kind_by, kinds_at, enum_number_at, enum_column_at, column_by, column_at, columns_at, budget_at, several}
 use Rattle.wsm_bytecode.specs.Spelling.{byte, number, long, signed, name, names, field_type, field, schema, shape, mode, form, kind, column, kinds, columns, budget}
@@ -277,12 +277,12 @@ columns_again s ts rest few h good =
 stated_again : (n : ℕ) (rest : List ℕ) → is_stated n ≡ true → judged is_stated (number_at w64 (long n ++ rest)) ≡ Ok (n, rest)
 stated_again n rest h = judged_again is_stated (number_at w64 (long n ++ rest)) n rest (long_again n rest (below n 1 1000000000000000000 (2 ^ 64) (lit< tt) h)) h
 
-budget_step : (bytes : List ℕ) (b : Budget) (mid next rest : List ℕ) → judged is_stated (number_at w64 bytes) ≡ Ok (b.per_record, mid) → judged is_stated (number_at w64 mid) ≡ Ok (b.per_pane, next)
+budget_step : (bytes : List ℕ) (b : Costs) (mid next rest : List ℕ) → judged is_stated (number_at w64 bytes) ≡ Ok (b.per_record, mid) → judged is_stated (number_at w64 mid) ≡ Ok (b.per_pane, next)
     → judged (is_between 1 100000) (number_at w64 next) ≡ Ok (b.held, rest) → budget_at bytes ≡ Ok (b, rest)
 unfolding budget_at
 budget_step bytes b mid next rest e f g = rw (e, f, g) refl
 
-pub budget_again : (b : Budget) (rest : List ℕ) → is_budget b ≡ true → budget_at (budget b ++ rest) ≡ Ok (b, rest)
+pub budget_again : (b : Costs) (rest : List ℕ) → is_budget b ≡ true → budget_at (budget b ++ rest) ≡ Ok (b, rest)
 unfolding long
 budget_again b rest h =
     let a = and_parts (is_stated b.per_record) (is_stated b.per_pane && is_between 1 100000 b.held) h in

@@ -13,7 +13,7 @@ use Rattle.wsm_record.specs.declared.Mode.{Mode}
 use Rattle.wsm_record.specs.declared.Form.{Form}
 use Rattle.wsm_program.specs.Program.{Name, are_names_after, is_name_list, is_field_type, is_field_after, are_fields_after, is_schema, is_size, is_within, is_shape, is_form_of, is_column, is_stated, is_budget, enum_names}
 use Rattle.wsm_record.specs.Schema.{FieldType, Int, Truth, Enum, DeclaredField, Declared}
-use Rattle.wsm_program.specs.declared.program.Budget.{Budget}
+use Rattle.wsm_program.specs.declared.program.Costs.{Costs}
 use Rattle.wsm_record.specs.Name.{is_between, is_name, is_among}
 use Rattle.wsm_bytecode.specs.Reading.{◌>>=◌, judged, bytes_at, number_at, signed_at, name_at, names_after, names_at, interval_at, enum_at, field_type_by, field_type_at, new_field_at, fields_after, schema_at, shape_at, fixed_at, sliding_at, session_at, shape_by, mode_at, mode_by, form_at, form_by, kind_at, kind_by, kinds_at, enum_number_at, enum_column_at, column_by, column_at, columns_at, budget_at, several}
 use Rattle.wsm_bytecode.specs.Spelling.{byte, number, long, signed, name, names, field_type, field, schema, shape, mode, form, kind, column, kinds, columns, budget}
@@ -345,6 +345,6 @@ budget_taken bytes x fits e =
     let t = long_taken is_stated bytes a.0 fits a.1 in
     let u = long_taken is_stated a.0.1 b.0 t.fits b.1 in
     let v = long_taken (is_between 1 100000) b.0.1 c.0 u.fits c.1 in
-    let made : Budget × List ℕ = (record { per_record = a.0.0; per_pane = b.0.0; held = c.0.0 }, c.0.1) in
+    let made : Costs × List ℕ = (record { per_record = a.0.0; per_pane = b.0.0; held = c.0.0 }, c.0.1) in
     subst (λ y. Took budget is_budget bytes y) (ok_is made x c.2)
     (record { parts = t.parts ∙ ap (λ r. long a.0.0 ++ r) (u.parts ∙ ap (λ r. long b.0.0 ++ r) v.parts); fits = v.fits; good = and_from _ _ t.good (and_from _ _ u.good v.good) })

@@ -15,7 +15,7 @@ use Rattle.wsm_record.specs.declared.Mode.{Mode}
 use Rattle.wsm_record.specs.declared.Form.{Form}
 use Rattle.wsm_program.specs.declared.instr.Instr.TheVariants.{PushInt, PushBool, PushEnum, Field, Key, Acc, Count, Operate, Jump, JumpIfFalse, Fold, Return}
 use Rattle.wsm_record.specs.Schema.{Declared}
-use Rattle.wsm_program.specs.declared.program.Budget.{Budget}
+use Rattle.wsm_program.specs.declared.program.Costs.{Costs}
 use Rattle.wsm_program.specs.Program.{Header, Program, is_name_of, is_schema, is_instr, is_section, is_header, is_program, enum_names, is_within, latest_time, is_span, is_size, is_column}
 use Rattle.wsm_record.specs.Name.{is_between}
 use Rattle.wsm_bytecode.specs.Reading.{◌>>=◌, Read, judged, number_at, signed_at, enum_number_at, push_int_at, push_bool_at, push_enum_at, index_at, target_at, plain_instr, plain_at, instr_by, instr_at, code_at, several, after_magic, after_version, bytes_at, schema_at, shape_at, mode_at, form_at, kinds_at, columns_at, budget_at, header_at, program_at, all_read, decode}
@@ -217,7 +217,7 @@ header_joined h bytes r1 r2 r3 r4 r5 r6 r7 r8 r9 r10 r11 r12 r13 r14 rest e0 e1 
     let q1 : r1 ≡ s1 = e1 ∙ ap (λ r. byte 1 ++ r) q2 in
     e0 ∙ ap (λ r. magic ++ r) q1 ∙ sym (regroup_15 magic (byte 1) (schema h.schema) (signed h.start) (signed h.skew) (signed h.lateness) (signed h.records) (shape h.shape) (mode h.mode) (signed h.early) (signed h.late) (form h.form) (kinds h.kinds) (columns h.columns) (budget h.budget) rest)
 
-header_from : (bytes : List ℕ) (x : Header × List ℕ) (v_m v_version : List ℕ) (v_schema : Declared × List ℕ) (v_start : ℤ × List ℕ) (v_skew : ℤ × List ℕ) (v_lateness : ℤ × List ℕ) (v_records : ℤ × List ℕ) (v_shape : Shape × List ℕ) (v_mode : Mode × List ℕ) (v_early : ℤ × List ℕ) (v_late : ℤ × List ℕ) (v_form : Form × List ℕ) (v_kinds : List Kind × List ℕ) (v_columns : List CellType × List ℕ) (v_budget : Budget × List ℕ)
+header_from : (bytes : List ℕ) (x : Header × List ℕ) (v_m v_version : List ℕ) (v_schema : Declared × List ℕ) (v_start : ℤ × List ℕ) (v_skew : ℤ × List ℕ) (v_lateness : ℤ × List ℕ) (v_records : ℤ × List ℕ) (v_shape : Shape × List ℕ) (v_mode : Mode × List ℕ) (v_early : ℤ × List ℕ) (v_late : ℤ × List ℕ) (v_form : Form × List ℕ) (v_kinds : List Kind × List ℕ) (v_columns : List CellType × List ℕ) (v_budget : Costs × List ℕ)
     → IsBytes bytes → after_magic bytes ≡ Ok v_m → after_version v_m ≡ Ok v_version → schema_at v_version ≡ Ok v_schema → judged (is_within (pos 0) latest_time) (signed_at v_schema.1) ≡ Ok v_start → judged is_span (signed_at v_start.1) ≡ Ok v_skew → judged is_span (signed_at v_skew.1) ≡ Ok v_lateness → judged is_size (signed_at v_lateness.1) ≡ Ok v_records → shape_at v_records.1 ≡ Ok v_shape → mode_at v_shape.1 ≡ Ok v_mode → judged is_span (signed_at v_mode.1) ≡ Ok v_early → judged is_span (signed_at v_early.1) ≡ Ok v_late → form_at v_mode.0 v_late.1 ≡ Ok v_form → kinds_at v_form.1 ≡ Ok v_kinds → columns_at v_schema.0 v_kinds.1 ≡ Ok v_columns → budget_at v_columns.1 ≡ Ok v_budget
     → header_done (record { schema = v_schema.0; start = v_start.0; skew = v_skew.0; lateness = v_lateness.0; records = v_records.0; shape = v_shape.0; mode = v_mode.0; early = v_early.0; late = v_late.0; form = v_form.0; kinds = v_kinds.0; columns = v_columns.0; budget = v_budget.0 }, v_budget.1) ≡ Ok x → Took header is_header bytes x
 unfolding is_header is_schema

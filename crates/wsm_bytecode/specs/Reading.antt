@@ -17,7 +17,7 @@ use Rattle.wsm_program.specs.declared.refusal.DecodeRefusal.{DecodeRefusal}
 use Rattle.wsm_program.specs.declared.refusal.DecodeRefusal.TheVariants.{BadMagic, Version, Truncated, UnknownOpcode, Operand, TrailingBytes, Memory}
 use Rattle.wsm_program.specs.Program.{Name, Header, Program, enum_names, is_name_of, is_within, latest_time, is_span, is_size, is_form_of, is_stated}
 use Rattle.wsm_record.specs.Schema.{FieldType, Int, Truth, Enum, DeclaredField, Declared}
-use Rattle.wsm_program.specs.declared.program.Budget.{Budget}
+use Rattle.wsm_program.specs.declared.program.Costs.{Costs}
 use Rattle.wsm_record.specs.declared.limits.TheConstants.{MAX_ACCUMULATORS, MAX_COLUMNS, MAX_FIELDS, MAX_NAME, MAX_NAMES, MAX_PANES, MAX_SECTION}
 use Rattle.wsm_record.specs.Name.{is_between, is_name, is_among}
 use Rattle.wsm_bytecode.specs.Spelling.{magic}
@@ -213,7 +213,7 @@ columns_at s bytes = do
   n ← judged (is_between 1 MAX_COLUMNS) (number_at w8 bytes)
   several (column_at s) n.0 n.1
 
-unfoldable pub budget_at : List ℕ → Read Budget
+unfoldable pub budget_at : List ℕ → Read Costs
 budget_at bytes = do
   per_record ← judged is_stated (number_at w64 bytes)
   per_pane ← judged is_stated (number_at w64 per_record.1)

@@ -17,7 +17,7 @@ use Rattle.wsm_record.specs.declared.Form.{Form}
 use Rattle.wsm_record.specs.declared.Form.TheVariants.{Panes, Istream, Dstream, Rstream}
 use Rattle.wsm_program.specs.Program.{Name, Header, Program}
 use Rattle.wsm_record.specs.Schema.{FieldType, Int, Truth, Enum, DeclaredField, Declared}
-use Rattle.wsm_program.specs.declared.program.Budget.{Budget}
+use Rattle.wsm_program.specs.declared.program.Costs.{Costs}
 use Rattle.wsm_program.specs.Instructions as table
 use Rattle.wsm_program.specs.Instructions.{truth}
 
@@ -84,7 +84,7 @@ column (types.Enum e) = byte 2 ++ byte e
 abbrev pub columns : List CellType → List ℕ
 columns ts = byte (length ts) ++ flat_map column ts
 
-abbrev pub budget : Budget → List ℕ
+abbrev pub budget : Costs → List ℕ
 budget b = long b.per_record ++ long b.per_pane ++ long b.held
 
 abbrev pub magic : List ℕ

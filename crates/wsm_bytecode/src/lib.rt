@@ -30,8 +30,7 @@ pub use listing::disassemble;
 pub use reading::decode;
 pub use writing::encode;
 pub use wsm_program::{
-    Budget, CellType, DecodeRefusal, Header, Instr, Operands, Operation, Program, Section,
-    SectionId,
+    CellType, Costs, DecodeRefusal, Header, Instr, Operands, Operation, Program, Section, SectionId,
 };
 
 mod limits;

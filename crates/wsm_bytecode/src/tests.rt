@@ -60,7 +60,7 @@ fn base_header(alloc: Global) -> Result<Header, Fail> {
         form: Form::Panes,
         kinds: Vec::from_slice(alloc, &[Kind::Sum])?,
         columns: Vec::from_slice(alloc, &[CellType::Int, CellType::Int])?,
-        budget: Budget {
+        budget: Costs {
             per_record: 5,
             per_pane: 4,
             held: 6,

@@ -5,7 +5,7 @@ use Rattle.std.specs.List.{list_all, flat_map}
 use Rattle.std.proofs.lemmas.Bool.{and_from, and_parts}
 use Rattle.std.proofs.Math.Bool.{and-true, and_assoc}
 use Rattle.wsm_program.specs.declared.SectionId.TheVariants.{Where, Update, Fire}
-use Rattle.wsm_program.specs.declared.program.Budget.{Budget as Stated}
+use Rattle.wsm_program.specs.declared.program.Costs.{Costs}
 use Rattle.wsm_interval.specs.declared.interval.Interval.{Interval}
 use Rattle.wsm_interval.specs.Interval.{add, sub, mul, div, rem}
 use Rattle.wsm_query.specs.declared.expr.Op.{Op}
@@ -16,7 +16,6 @@ use Rattle.wsm_verifier.specs.declared.rejection.Rejection.{Rejection}
 use Rattle.wsm_verifier.specs.declared.rejection.Rule.{Rule}
 use Rattle.wsm_verifier.specs.declared.rejection.Rule.TheVariants.{BudgetRecord, BudgetPane, BudgetHeld}
 use Rattle.wsm_verifier.specs.declared.rejection.Part.TheVariants as part
-use Rattle.wsm_verifier.specs.declared.costs.Costs.{Costs}
 use Rattle.wsm_verifier.specs.Costs.{needed}
 use Rattle.wsm_verifier.specs.Rules.{or_then, fault_in, ranges_of_record, ranges_of_pane, update_visits, code_fault, budget_fault, fault, unless}
 use Rattle.wsm_compiler.specs.Ranges.{Range, Unfit, NoNumber, Within, no_number, on_intervals, of_op, of_minus, of_branches, if_fits, of_aggregate, range, fits, ranges_fit}
@@ -85,7 +84,7 @@ list_all-append : {A : Type 0} (f : A → Bool) (xs ys : List A) → list_all f 
 list_all-append f [] ys = refl
 list_all-append f (x ∷ xs) ys = ap (λ b. f x && b) (list_all-append f xs ys) ∙ sym (and_assoc (f x) (list_all f xs) (list_all f ys))
 
-module _ (q : Query) (b : Stated) where
+module _ (q : Query) (b : Costs) where
   fit_both : (xs ys : List Acc) → accs_fit q b xs ≡ true → accs_fit q b ys ≡ true → accs_fit q b (xs ++ ys) ≡ true
   fit_both xs ys h l = list_all-append (acc_fits q b) xs ys ∙ and_from (accs_fit q b xs) (accs_fit q b ys) h l
 
@@ -179,7 +178,7 @@ first_of_three false true z r1 r2 r3 f = refl
 first_of_three false false true r1 r2 r3 f = refl
 first_of_three false false false r1 r2 r3 f = refl
 
-stated_enough : (s : Stated) (n : Costs) → is_none (budget_fault s n) ≡ (nat_le n.per_record s.per_record && (nat_le n.per_pane s.per_pane && nat_le n.held s.held))
+stated_enough : (s : Costs) (n : Costs) → is_none (budget_fault s n) ≡ (nat_le n.per_record s.per_record && (nat_le n.per_pane s.per_pane && nat_le n.held s.held))
 stated_enough s n =
     first_of_three (nat_lt s.per_record n.per_record) (nat_lt s.per_pane n.per_pane) (nat_lt s.held n.held) BudgetRecord BudgetPane BudgetHeld (λ r. record { part = part.Budget; place = 0; rule = r })
     ∙ (λ i. not_below s.per_record n.per_record i && (not_below s.per_pane n.per_pane i && not_below s.held n.held i))

@@ -8,7 +8,7 @@ use Rattle.std.specs.Prelude.{◌&&◌}
 use Rattle.std.proofs.lemmas.Bool.{and_parts}
 use Rattle.wsm_record.specs.Schema.{schema_refusal}
 use Rattle.wsm_program.specs.declared.instr.Instr.{Instr}
-use Rattle.wsm_program.specs.declared.program.Budget.{Budget as Stated}
+use Rattle.wsm_program.specs.declared.program.Costs.{Costs}
 use Rattle.wsm_program.specs.Program.{Header, Program, is_schema, is_clock, is_firing, is_row, is_budget, is_header, is_program}
 use Rattle.wsm_program.proofs.Stating.{lawful_stating}
 use Rattle.wsm_verifier.specs.Costs.{needed}
@@ -38,7 +38,7 @@ unfolding is_header
 schema_of p h = let g = p.header in (and_parts (is_schema g.schema) (is_clock g && (is_firing g && (is_row g && is_budget g.budget))) (program_header p h)).0
 
 -- a header and sections that are those of the parts
-pub put_together : (p : Parts) (b : Stated) (header : Header) (selection update fire : List Instr) → header ≡ assembled_header p b →
+pub put_together : (p : Parts) (b : Costs) (header : Header) (selection update fire : List Instr) → header ≡ assembled_header p b →
     selection ≡ ending_code 0 p.condition → update ≡ foldings_code 0 0 p.foldings → fire ≡ firing_code 0 p.having p.columns →
     assembled p b ≡ record { header = header; selection = selection; update = update; fire = fire }
 put_together p b header selection update fire h s u f = rw (h, s, u, f) refl
@@ -56,21 +56,21 @@ module _ (p : Parts) (h : ∥ ArePartsOfChecked p ∥₁) where
   pub fire_fits : firing_size p.having p.columns ≤ 1000
   fire_fits = ∥∥₁_elim h le_prop (λ w. rw w.is (omega (arith, fired_size w.query (aggregates_of w.query.columns) 0 w.query.columns, (passed w.query w.checked).code.fire)))
 
-  pub is_program_of : (b : Stated) → is_budget b ≡ true → is_program (assembled p b) ≡ true
+  pub is_program_of : (b : Costs) → is_budget b ≡ true → is_program (assembled p b) ≡ true
   is_program_of b l =
       ∥∥₁_elim h (Bool-set _ _) (λ w. rw w.is (ap is_program (assembled_is w.query b) ∙ lawful_stating (program_of w.query) b (is_lawful w.query w.checked w.spelt) l))
 
   -- so nothing refuses its keys and fields
-  pub is_schema_of : (b : Stated) → is_budget b ≡ true → schema_refusal (assembled_header p b).schema ≡ None
+  pub is_schema_of : (b : Costs) → is_budget b ≡ true → schema_refusal (assembled_header p b).schema ≡ None
   is_schema_of b l = schema_fits (assembled_header p b).schema (schema_of (assembled p b) (is_program_of b l))
 
   -- what BUDGET states, or what the program needs, may be stated
-  pub is_budget_of : (b : Stated) → is_budget (stated (needed (assembled p b)) p.budget) ≡ true
+  pub is_budget_of : (b : Costs) → is_budget (stated (needed (assembled p b)) p.budget) ≡ true
   is_budget_of b =
       ∥∥₁_elim h (Bool-set _ _) (λ w. rw w.is (ap (λ r. is_budget (stated (needed r) w.query.budget)) (assembled_is w.query b) ∙ budget_of (program_of w.query) (is_lawful w.query w.checked w.spelt)))
 
 -- whatever a program states, it has the same need
-pub compiled : (p : Parts) (b : Stated) (q : Query) → p ≡ parts_of q → assembled p (stated (needed (assembled p b)) p.budget) ≡ program_of q
+pub compiled : (p : Parts) (b : Costs) (q : Query) → p ≡ parts_of q → assembled p (stated (needed (assembled p b)) p.budget) ≡ program_of q
 compiled p b q e =
     let same = assembled_is q b in
     rw e (ap (λ r. assembled (parts_of q) (stated (needed r) q.budget)) same ∙ assembled_is q (stated (needed_of q) q.budget))

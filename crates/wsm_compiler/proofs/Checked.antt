@@ -2,7 +2,7 @@
 use Rattle.std.proofs.Common.{◌≡◌, ℕ, suc, ◌≤◌, List, [], ◌∷◌, ◌++◌, Option, Some, None, Ok, Err, refl, sym, ap, arith}
 use Rattle.std.specs.Prelude.{max}
 use Rattle.std.specs.List.{flat_map}
-use Rattle.wsm_program.specs.declared.program.Budget.{Budget as Stated}
+use Rattle.wsm_program.specs.declared.program.Costs.{Costs}
 use Rattle.wsm_query.specs.Tree.{Query, Expr, Number, Truth, Field, EnumName, Key, KeyName, Count, Aggregate, If, Brackets, Minus, Not, Binary, And, Or}
 use Rattle.wsm_check.specs.declared.refusal.Part.{Part}
 use Rattle.wsm_check.specs.declared.refusal.Part.TheVariants as part
@@ -41,7 +41,7 @@ columns_typed q i (e ∷ es) h =
 
 -- ---- aggregates have their types
 
-module _ (q : Query) (b : Stated) where
+module _ (q : Query) (b : Costs) where
   accs_both : (xs ys : List Acc) → AccsTyped q b xs → AccsTyped q b ys → AccsTyped q b (xs ++ ys)
   accs_both [] ys h l = l
   accs_both (x ∷ xs) ys h l = (h.0, accs_both xs ys h.1 l)

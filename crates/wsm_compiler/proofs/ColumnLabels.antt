@@ -4,7 +4,7 @@ use Rattle.std.specs.Prelude.{max}
 use Rattle.std.specs.List.{flat_map}
 use Rattle.std.proofs.lemmas.Bool.{and_parts}
 use Rattle.wsm_program.specs.declared.instr.Instr.{Instr}
-use Rattle.wsm_program.specs.declared.program.Budget.{Budget as Stated}
+use Rattle.wsm_program.specs.declared.program.Costs.{Costs}
 use Rattle.wsm_query.specs.Tree.{Query, Expr}
 use Rattle.wsm_record.specs.declared.words.CellType.{CellType}
 use Rattle.wsm_record.specs.declared.words.CellType.TheVariants as types
@@ -57,7 +57,7 @@ visits_front : (e : State) (r : Ranges) (is js : List Instr) (n : ℕ) → n ≡
 visits_front e r is js n h =
     ap (λ m. visits e r (take m (is ++ js))) h ∙ ap (visits e r) (take_front is js) ∙ visits_are e r is ∙ sym (extended_is e r [] is ∙ nil_right (added e r [] is))
 
-module _ (q : Query) (b : Stated) (e : State) (c : Setting) (reads : Reads c q InColumn) where
+module _ (q : Query) (b : Costs) (e : State) (c : Setting) (reads : Reads c q InColumn) where
   columns_labelled : (front : List Instr) (k a : ℕ) (es : List Expr) (below : List Known) → length front ≡ k → ColumnsTyped q es → columns_fit q es ≡ true → Accs c q a (flat_map accumulators_of es ++ in_condition q.having) →
       need_of_columns (length below) q.having es ≤ 32 → k + columns_size q.having es ≤ c.n → e.folded ≡ (entry (program_of q)).folded →
       Comes e (extended e c.ranges [] front) k (record { stack = below; folded = e.folded }) (length (columns_code q k a es)) →

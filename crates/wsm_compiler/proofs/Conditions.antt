@@ -7,7 +7,7 @@ use Rattle.std.proofs.lemmas.Option.{same_Some}
 use Rattle.std.proofs.Math.Bool.{and-true, and_assoc}
 use Rattle.wsm_program.specs.declared.instr.Instr.TheVariants as instr
 use Rattle.wsm_program.specs.declared.SectionId.TheVariants.{Where}
-use Rattle.wsm_program.specs.declared.program.Budget.{Budget as Stated}
+use Rattle.wsm_program.specs.declared.program.Costs.{Costs}
 use Rattle.wsm_query.specs.Tree.{Query, Expr}
 use Rattle.wsm_record.specs.declared.words.CellType.{CellType}
 use Rattle.wsm_record.specs.declared.words.CellType.TheVariants as types
@@ -82,7 +82,7 @@ length-condition q k a None = refl
 length-condition q k a (Some x) = length-code q k a x
 
 -- WHERE
-pub where_faults : (q : Query) (b : Stated) → ConditionTyped q InWhere q.condition → need_of_condition q.condition ≤ 32 →
+pub where_faults : (q : Query) (b : Costs) → ConditionTyped q InWhere q.condition → need_of_condition q.condition ≤ 32 →
     is_some (fault_in (program_stating q b) Where (ranges_of_record (program_stating q b))) ≡ not (condition_fits q q.condition)
 where_faults q b h room =
     let p = program_stating q b in

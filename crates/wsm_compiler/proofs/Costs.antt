@@ -10,7 +10,7 @@ use Rattle.wsm_record.specs.Name.{is_between}
 use Rattle.wsm_windows.specs.declared.window.Shape.{Shape}
 use Rattle.wsm_windows.specs.declared.window.Shape.TheVariants.{Fixed, Sliding, Session}
 use Rattle.wsm_windows.specs.Life.{live_bound}
-use Rattle.wsm_verifier.specs.declared.costs.Costs.{Costs}
+use Rattle.wsm_program.specs.declared.program.Costs.{Costs}
 use Rattle.wsm_verifier.specs.Costs.{windows_of_a_record, join_steps}
 use Rattle.wsm_program.specs.Program.{is_stated, is_budget}
 use Rattle.wsm_query.specs.Tree.{Query, Budget, Expr, Number, Truth, Field, EnumName, Key, KeyName, Count, Aggregate, If, Brackets, Minus, Not, Binary, And, Or}

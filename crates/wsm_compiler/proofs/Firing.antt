@@ -9,7 +9,7 @@ use Rattle.wsm_record.specs.declared.words.Kind.{Kind}
 use Rattle.wsm_record.specs.declared.words.Kind.TheVariants.{Sum, Min, Max, Any, All}
 use Rattle.wsm_interval.specs.Interval.{interval, in_i64}
 use Rattle.wsm_program.specs.declared.SectionId.TheVariants.{Fire}
-use Rattle.wsm_program.specs.declared.program.Budget.{Budget as Stated}
+use Rattle.wsm_program.specs.declared.program.Costs.{Costs}
 use Rattle.wsm_query.specs.Tree.{Query, Expr}
 use Rattle.wsm_record.specs.Types.{kind_type}
 use Rattle.wsm_check.specs.declared.types.Around.TheVariants.{InColumn, InAggregate}
@@ -64,7 +64,7 @@ flat_option : (o : Option Expr) → flat_map accumulators_of (in_option o) ≡ i
 flat_option None = refl
 flat_option (Some e) = nil_right (accumulators_of e)
 
-module _ (q : Query) (b : Stated) where
+module _ (q : Query) (b : Costs) where
   abbrev known_from : ℕ → List Acc → List Visit → List Known
   known_from n accs vs = known_accumulators q.records n (map (λ acc. acc.kind) accs) vs
 

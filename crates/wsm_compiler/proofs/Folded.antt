@@ -11,7 +11,7 @@ use Rattle.wsm_interval.specs.Interval.{interval, in_i64}
 use Rattle.wsm_program.specs.declared.instr.Instr.{Instr}
 use Rattle.wsm_program.specs.declared.instr.Instr.TheVariants as instr
 use Rattle.wsm_program.specs.declared.operation.Operation.TheVariants as operation
-use Rattle.wsm_program.specs.declared.program.Budget.{Budget as Stated}
+use Rattle.wsm_program.specs.declared.program.Costs.{Costs}
 use Rattle.wsm_query.specs.declared.expr.Op.{Op}
 use Rattle.wsm_query.specs.declared.expr.Op.TheVariants.{Add, Sub, Mul, Div, Rem, Eq, Ne, Lt, Le, Gt, Ge}
 use Rattle.wsm_query.specs.Tree.{Query, Expr, Number, Truth, Field, EnumName, Key, KeyName, Count, Aggregate, If, Brackets, Minus, Not, Binary, And, Or}
@@ -158,7 +158,7 @@ value_of n All (Within x) h l = no h
 other_below : (a b : ℕ) → b < a → nat_eq b a ≡ false
 other_below a b h = grind arith
 
-module _ (q : Query) (b : Stated) where
+module _ (q : Query) (b : Costs) where
   -- into each accumulator from the a-th on its operand's value is folded
   abbrev pub ValuesAt : ℕ → List Acc → List Visit → Type 0
   ValuesAt a [] vs = Unit {0}

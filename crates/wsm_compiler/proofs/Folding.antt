@@ -9,7 +9,7 @@ use Rattle.wsm_record.specs.declared.words.Kind.TheVariants.{Sum, Min, Max, Any,
 use Rattle.wsm_interval.specs.Interval.{interval, in_i64}
 use Rattle.wsm_program.specs.declared.instr.Instr.TheVariants.{Fold}
 use Rattle.wsm_program.specs.declared.SectionId.TheVariants.{Update}
-use Rattle.wsm_program.specs.declared.program.Budget.{Budget as Stated}
+use Rattle.wsm_program.specs.declared.program.Costs.{Costs}
 use Rattle.wsm_query.specs.Tree.{Query}
 use Rattle.wsm_record.specs.Types.{kind_type}
 use Rattle.wsm_check.specs.Types.{typed}
@@ -73,7 +73,7 @@ taken_is : (b : Bool) (s t : State) → if_takes b s ≡ Some t → Some s ≡ S
 taken_is true s t h = h
 taken_is false s t h = none≢some h
 
-module _ (q : Query) (b : Stated) where
+module _ (q : Query) (b : Costs) where
   abbrev pub updating : Setting
   updating = setting (program_stating q b) Update (ranges_of_record (program_stating q b))
 

@@ -13,7 +13,7 @@ use Rattle.wsm_windows.specs.declared.window.Shape.{Shape}
 use Rattle.wsm_windows.specs.declared.window.Shape.TheVariants.{Fixed, Sliding, Session}
 use Rattle.wsm_interval.specs.Interval.{in_i64}
 use Rattle.wsm_program.specs.declared.instr.Instr.{Instr}
-use Rattle.wsm_program.specs.declared.program.Budget.{Budget as Stated}
+use Rattle.wsm_program.specs.declared.program.Costs.{Costs}
 use Rattle.wsm_program.specs.Program.{Header, is_name_list, is_field_type, is_field_after, are_fields_after, is_schema, is_span, is_size, is_within, is_shape, is_form_of, is_column, is_clock, is_firing, is_row, is_budget, is_header, is_instr, is_section, is_program}
 use Rattle.wsm_record.specs.Schema.{FieldType, DeclaredField}
 use Rattle.wsm_record.specs.Schema as field_types
@@ -173,7 +173,7 @@ condition_numbers_is : (o : Option Expr) → list_all numbers_fit (in_option o) 
 condition_numbers_is None h = refl
 condition_numbers_is (Some e) h = (and_parts (numbers_fit e) true h).0
 
-aggregates_counted : (q : Query) (b : Stated) (es : List Expr) → length (flat_map accumulators_of (es ++ in_option q.having)) ≡ columns_aggregates q b es
+aggregates_counted : (q : Query) (b : Costs) (es : List Expr) → length (flat_map accumulators_of (es ++ in_option q.having)) ≡ columns_aggregates q b es
 aggregates_counted q b [] = of_having q.having
   where
     of_having : (o : Option Expr) → length (flat_map accumulators_of (in_option o)) ≡ condition_aggregates o
@@ -191,7 +191,7 @@ section_is : (h : Header) (code : List Instr) → length code ≤ 1000 → list_
 unfolding is_section
 section_is h code l fine = and_from (nat_le (length code) 1000) (list_all (is_instr h) code) (le-leb (length code) 1000 l) fine
 
-module _ (q : Query) (passes : Passed q) (spelt : IsSpelt q) (b : Stated) (f : Fine q b) where
+module _ (q : Query) (passes : Passed q) (spelt : IsSpelt q) (b : Costs) (f : Fine q b) where
   keys_there : 0 < length q.keys
   keys_there =
       let many = nat_le 1 (length q.keys) && nat_le (length q.keys) 1000 in

@@ -10,7 +10,7 @@ use Rattle.wsm_record.specs.Name.{is_among}
 use Rattle.wsm_program.specs.declared.instr.Instr.{Instr}
 use Rattle.wsm_program.specs.declared.instr.Instr.TheVariants as instr
 use Rattle.wsm_program.specs.declared.operation.Operation.TheVariants as operation
-use Rattle.wsm_program.specs.declared.program.Budget.{Budget as Stated}
+use Rattle.wsm_program.specs.declared.program.Costs.{Costs}
 use Rattle.wsm_program.specs.Program.{Header, names_of_type, is_name_of, is_column, is_instr}
 use Rattle.wsm_query.specs.declared.expr.Op.{Op}
 use Rattle.wsm_query.specs.declared.expr.Op.TheVariants.{Add, Sub, Mul, Div, Rem, Eq, Ne, Lt, Le, Gt, Ge}
@@ -48,7 +48,7 @@ condition_aggregates (Some e) = aggregates e
 abbrev pub operands_fit : List Acc → Bool
 operands_fit accs = list_all (λ acc. numbers_fit acc.operand) accs
 
-module _ (q : Query) (b : Stated) where
+module _ (q : Query) (b : Costs) where
   abbrev pub head : Header
   head = (program_stating q b).header
 

@@ -3,7 +3,7 @@ use Rattle.std.proofs.Common.{◌≡◌, ℕ, suc, ◌+◌, Bool, true, false, �
 use Rattle.std.specs.Prelude.{slice_index_or, bytes_eq}
 use Rattle.wsm_record.specs.Name.{is_among}
 use Rattle.wsm_program.specs.declared.SectionId.TheVariants.{Where, Update, Fire}
-use Rattle.wsm_program.specs.declared.program.Budget.{Budget as Stated}
+use Rattle.wsm_program.specs.declared.program.Costs.{Costs}
 use Rattle.wsm_verifier.specs.declared.known.Known.{Known}
 use Rattle.wsm_verifier.specs.declared.known.Known.TheVariants as known
 use Rattle.wsm_verifier.specs.Rules.{setting, known_field, known_fields, ranges_of_record, ranges_with}
@@ -84,10 +84,10 @@ in_column InWhere = false
 in_column InColumn = true
 in_column InAggregate = false
 
-pub reads_where : (q : Query) (b : Stated) → Reads (setting (program_stating q b) Where (ranges_of_record (program_stating q b))) q InWhere
+pub reads_where : (q : Query) (b : Costs) → Reads (setting (program_stating q b) Where (ranges_of_record (program_stating q b))) q InWhere
 reads_where q b = record { field = λ x t h. field_known q InWhere x t h; count = λ h. no (ap in_column h) }
 
-pub reads_update : (q : Query) (b : Stated) → Reads (setting (program_stating q b) Update (ranges_of_record (program_stating q b))) q InAggregate
+pub reads_update : (q : Query) (b : Costs) → Reads (setting (program_stating q b) Update (ranges_of_record (program_stating q b))) q InAggregate
 reads_update q b = record { field = λ x t h. field_known q InAggregate x t h; count = λ h. no (ap in_column h) }
 
 abbrev pub is_fine : Typed → Bool
@@ -99,7 +99,7 @@ not_in_column true t = refl
 not_in_column false t = refl
 
 -- in FIRE, whatever is known of accumulators
-pub reads_fire : (q : Query) (b : Stated) (ks : List Known) → Reads (setting (program_stating q b) Fire (ranges_with (program_stating q b) ks)) q InColumn
+pub reads_fire : (q : Query) (b : Costs) (ks : List Known) → Reads (setting (program_stating q b) Fire (ranges_with (program_stating q b) ks)) q InColumn
 reads_fire q b ks = record {
   field = λ x t h. no (sym (not_in_column (is_among x (field_names q.fields)) (declared_ty (field_place q.fields x) (type_of x q.fields))) ∙ ap is_fine h);
   count = λ h. refl;

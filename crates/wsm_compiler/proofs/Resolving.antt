@@ -4,7 +4,7 @@ use Rattle.std.specs.Prelude.{suc, option_map}
 use Rattle.std.proofs.lemmas.Simd.{map-map}
 use Rattle.wsm_program.specs.declared.instr.Instr.TheVariants as instr
 use Rattle.wsm_program.specs.declared.operation.Operation.TheVariants as operation
-use Rattle.wsm_program.specs.declared.program.Budget.{Budget as Stated}
+use Rattle.wsm_program.specs.declared.program.Costs.{Costs}
 use Rattle.wsm_query.specs.Tree.{Query, Expr, Number, Truth, Field, EnumName, Key, KeyName, Count, Aggregate, If, Brackets, Minus, Not, Binary, And, Or}
 use Rattle.wsm_check.specs.Sizes.{Acc, aggregates, accumulators, size, condition_size, folds_size, columns_size}
 use Rattle.wsm_check.specs.Terms.{resolved}
@@ -91,7 +91,7 @@ column_types : (q : Query) (a : ℕ) (es : List Expr) → map (λ c. c.ty) (colu
 column_types q a [] = refl
 column_types q a (e ∷ es) = ap (λ ts. column_type q e ∷ ts) (column_types q (a + aggregates e) es)
 
-pub assembled_is : (q : Query) (b : Stated) → assembled (parts_of q) b ≡ program_stating q b
+pub assembled_is : (q : Query) (b : Costs) → assembled (parts_of q) b ≡ program_stating q b
 assembled_is q b =
     rw (
       map-map (λ f. f.kind) (folding q) (accumulators q),

@@ -10,7 +10,7 @@ use Rattle.wsm_record.specs.declared.words.CellType.TheVariants as types
 use Rattle.wsm_program.specs.declared.instr.Instr.{Instr}
 use Rattle.wsm_program.specs.declared.instr.Instr.TheVariants as instr
 use Rattle.wsm_program.specs.declared.instr.SectionId.TheVariants.{Where, Fire}
-use Rattle.wsm_program.specs.declared.program.Budget.{Budget as Stated}
+use Rattle.wsm_program.specs.declared.program.Costs.{Costs}
 use Rattle.wsm_machine.specs.declared.cell.Cell.{Cell}
 use Rattle.wsm_machine.specs.declared.outcome.Outcome.TheVariants.{Done}
 use Rattle.wsm_machine.specs.declared.outcome.Trap.TheVariants.{Underflow, BadReturn}
@@ -162,7 +162,7 @@ fire_result c columns x stack h e =
     let is : reverse (map type_of (x ∷ stack)) ≡ columns ++ types.Bool ∷ [] = reverse-append (type_of x ∷ []) (map type_of stack) ∙ (λ i. e i ++ h i ∷ []) in
     ap (are_types (columns ++ types.Bool ∷ [])) is ∙ are_types-same (columns ++ types.Bool ∷ [])
 
-module _ (q : Query) (b : Stated) (d : Inputs) where
+module _ (q : Query) (b : Costs) (d : Inputs) where
   abbrev c : Setting
   c = setting (program_stating q b) Fire d
 

@@ -9,7 +9,7 @@ use Rattle.wsm_record.specs.declared.words.Kind.TheVariants.{Sum, Min, Max, Any,
 use Rattle.wsm_record.specs.Name.{is_among}
 use Rattle.wsm_fold.specs.Fold.{is_of_kind, are_of_kinds}
 use Rattle.wsm_program.specs.declared.SectionId.TheVariants.{Where, Update, Fire}
-use Rattle.wsm_program.specs.declared.program.Budget.{Budget as Stated}
+use Rattle.wsm_program.specs.declared.program.Costs.{Costs}
 use Rattle.wsm_machine.specs.Inputs.{Inputs, is_of_field, are_of_fields}
 use Rattle.wsm_machine.specs.Step.{setting}
 use Rattle.wsm_record.specs.Schema.{FieldType, DeclaredField}
@@ -111,7 +111,7 @@ held_at (x ∷ accs) (v ∷ vs) (suc j) acc h e = held_at accs vs j acc (and_par
 
 -- ---- sections
 
-module _ (q : Query) (b : Stated) (d : Inputs) (fit : record_fits q d ≡ true) where
+module _ (q : Query) (b : Costs) (d : Inputs) (fit : record_fits q d ≡ true) where
   pub serves_where : Serves (setting (program_stating q b) Where d) q InWhere (on_record d.key d.values)
   serves_where = record {
     field = λ x t h. field_read q InWhere d.values fit x t h;
@@ -132,7 +132,7 @@ module _ (q : Query) (b : Stated) (d : Inputs) (fit : record_fits q d ≡ true) 
     accs_stand = λ a h. no (ap in_column h);
   }
 
-module _ (q : Query) (b : Stated) (d : Inputs) where
+module _ (q : Query) (b : Costs) (d : Inputs) where
   pub serves_fire : Serves (setting (program_stating q b) Fire d) q InColumn (on_accumulators d.key d.count d.accs)
   serves_fire = record {
     field = λ x t h. no (sym (not_in_column (is_among x (field_names q.fields)) (declared_ty (field_place q.fields x) (type_of x q.fields))) ∙ ap is_fine h);

@@ -9,7 +9,7 @@ use Rattle.wsm_record.specs.Schema.{FieldType, Int as Between, Truth, Enum as Na
 use Rattle.wsm_program.specs.declared.instr.SectionId.{SectionId}
 use Rattle.wsm_program.specs.declared.instr.SectionId.TheVariants.{Where, Update}
 use Rattle.wsm_program.specs.Program.{is_program}
-use Rattle.wsm_verifier.specs.declared.costs.Costs.{Costs}
+use Rattle.wsm_program.specs.declared.program.Costs.{Costs}
 use Rattle.wsm_verifier.specs.declared.rejection.Rejection.{Rejection}
 use Rattle.wsm_verifier.specs.Rules.{judge}
 use Rattle.wsm_machine.specs.declared.cell.Cell.{Cell}

@@ -10,7 +10,7 @@ use Rattle.wsm_record.specs.declared.words.Kind.TheVariants.{Sum, Min, Max, Any,
 use Rattle.wsm_record.specs.declared.words.CellType.TheVariants as types
 use Rattle.wsm_program.specs.declared.instr.Instr.TheVariants as instr
 use Rattle.wsm_program.specs.declared.instr.SectionId.TheVariants.{Update}
-use Rattle.wsm_program.specs.declared.program.Budget.{Budget as Stated}
+use Rattle.wsm_program.specs.declared.program.Costs.{Costs}
 use Rattle.wsm_record.specs.Types.{kind_type}
 use Rattle.wsm_machine.specs.declared.outcome.Trap.TheVariants.{Underflow, WrongType, FoldTwice}
 use Rattle.wsm_machine.specs.declared.run.Ran.{Ran}
@@ -105,7 +105,7 @@ with_none : (o : Option (List Value)) → with_front [] o ≡ o
 with_none None = refl
 with_none (Some vs) = refl
 
-module _ (q : Query) (b : Stated) (d : Inputs) (fit : record_fits q d ≡ true) where
+module _ (q : Query) (b : Costs) (d : Inputs) (fit : record_fits q d ≡ true) where
   abbrev c : Setting
   c = setting (program_stating q b) Update d
 

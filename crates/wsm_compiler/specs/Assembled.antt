@@ -1,12 +1,12 @@
 -- The program of what a checked query has, which states a given budget.
 use Rattle.std.specs.Prelude.{map}
-use Rattle.wsm_program.specs.declared.program.Budget.{Budget as Stated}
+use Rattle.wsm_program.specs.declared.program.Costs.{Costs}
 use Rattle.wsm_program.specs.Program.{Header, Program}
 use Rattle.wsm_check.specs.Parts.{Parts}
 use Rattle.wsm_compiler.specs.Program.{every}
 use Rattle.wsm_compiler.specs.TermCode.{ending_code, foldings_code, firing_code}
 
-abbrev pub assembled_header : Parts → Stated → Header
+abbrev pub assembled_header : Parts → Costs → Header
 assembled_header p budget = record {
   schema = record { keys = p.keys; fields = p.fields };
   start = p.start;
@@ -23,7 +23,7 @@ assembled_header p budget = record {
   budget = budget;
 }
 
-abbrev pub assembled : Parts → Stated → Program
+abbrev pub assembled : Parts → Costs → Program
 assembled p budget = record {
   header = assembled_header p budget;
   selection = ending_code 0 p.condition;

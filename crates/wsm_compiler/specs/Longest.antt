@@ -1,7 +1,7 @@
 -- The longest paths of generated code, by the structure of the query.
 use Rattle.std.specs.Prelude.{◌≡◌, ℕ, ◌+◌, ◌*◌, max, List, [], ◌∷◌, length, Option, Some, None}
 use Rattle.wsm_windows.specs.Life.{live_bound}
-use Rattle.wsm_verifier.specs.declared.costs.Costs.{Costs}
+use Rattle.wsm_program.specs.declared.program.Costs.{Costs}
 use Rattle.wsm_verifier.specs.Costs.{needed, windows_of_a_record, join_steps}
 use Rattle.wsm_query.specs.Tree.{Query, Expr, If, Brackets, Minus, Not, Binary, And, Or}
 use Rattle.wsm_check.specs.Sizes.{Acc, accumulators}

@@ -2,9 +2,8 @@
 use Rattle.std.specs.Prelude.{map, ℤ, pos, unsigned_abs, Option, Some, None}
 use Rattle.wsm_record.specs.Schema.{Declared as Schema}
 use Rattle.wsm_record.specs.declared.words.CellType.{CellType}
-use Rattle.wsm_program.specs.declared.program.Budget.{Budget as Stated}
+use Rattle.wsm_program.specs.declared.program.Costs.{Costs}
 use Rattle.wsm_program.specs.Program.{Program}
-use Rattle.wsm_verifier.specs.declared.costs.Costs.{Costs}
 use Rattle.wsm_verifier.specs.Costs.{needed}
 use Rattle.wsm_query.specs.Tree.{Query, Budget, Expr}
 use Rattle.wsm_check.specs.Types.{typed}
@@ -25,7 +24,7 @@ abbrev pub every : Option ℤ → ℤ
 every None = pos 0
 every (Some n) = n
 
-abbrev pub program_stating : Query → Stated → Program
+abbrev pub program_stating : Query → Costs → Program
 program_stating q stated = record {
   header = record {
     schema = schema_of q;
@@ -52,8 +51,8 @@ abbrev pub needed_of : Query → Costs
 needed_of q = needed (program_stating q (record { per_record = 0; per_pane = 0; held = 0 }))
 
 -- a query without BUDGET states what it needs
-abbrev pub stated : Costs → Option Budget → Stated
-stated need None = record { per_record = need.per_record; per_pane = need.per_pane; held = need.held }
+abbrev pub stated : Costs → Option Budget → Costs
+stated need None = need
 stated need (Some b) = record { per_record = unsigned_abs b.per_record; per_pane = unsigned_abs b.per_pane; held = unsigned_abs b.held }
 
 abbrev pub program_of : Query → Program

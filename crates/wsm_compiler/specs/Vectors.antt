@@ -16,7 +16,7 @@ use Rattle.wsm_program.specs.Program.{is_schema, is_header, is_section, is_progr
 use Rattle.wsm_record.specs.Name.{is_reserved}
 use Rattle.wsm_bytecode.specs.Spelling.{spelling, header, schema, code, instr as spelled_instr, long, signed}
 use Rattle.wsm_bytecode.specs.Vectors.{base_bytes}
-use Rattle.wsm_verifier.specs.declared.costs.Costs.{Costs}
+use Rattle.wsm_program.specs.declared.program.Costs.{Costs}
 use Rattle.wsm_verifier.specs.declared.rejection.Rejection.{Rejection}
 use Rattle.wsm_verifier.specs.declared.rejection.Rule.TheVariants.{MayDivideByZero, AccumulatorRange}
 use Rattle.wsm_verifier.specs.declared.rejection.Part.TheVariants.{Code}

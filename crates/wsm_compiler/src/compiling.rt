@@ -8,7 +8,7 @@ ghost use Rattle.wsm_check.specs.Parts.{parts_of};
 ghost use Rattle.wsm_check.specs.Seen.{seen_parts};
 ghost use Rattle.wsm_check.specs.Spelt.{IsSpelt};
 ghost use Rattle.wsm_program.specs.Program.{is_budget};
-ghost use Rattle.wsm_verifier.specs.declared.costs.Costs.{Costs};
+ghost use Rattle.wsm_program.specs.declared.program.Costs.{Costs};
 ghost use Rattle.wsm_verifier.specs.Costs.{needed};
 ghost use Rattle.wsm_compiler.specs.Assembled.{assembled};
 ghost use Rattle.wsm_compiler.specs.Program as spec;
@@ -18,12 +18,12 @@ use crate::headers::header;
 use crate::sections::{fire, selection, update};
 use std::alloc::{AllocError, Global};
 use wsm_check::Checked;
-use wsm_program::{Budget, Program};
-use wsm_query::Budget as Clause;
+use wsm_program::{Costs, Program};
+use wsm_query::Budget;
 use wsm_verifier::needed;
 
 // What a program states until its need is known.
-const LEAST: Budget = Budget {
+const LEAST: Costs = Costs {
     per_record: 1,
     per_pane: 1,
     held: 1,
@@ -46,18 +46,14 @@ fn program_with_need(alloc: Global, checked: &Checked) -> Result<Program, AllocE
 {
     let program = program(alloc, checked, LEAST)?;
     let need = needed(alloc, &program)?;
-    Ok(program.stating(Budget {
-        per_record: need.per_record,
-        per_pane: need.per_pane,
-        held: need.held,
-    }))
+    Ok(program.stating(need))
 }
 
 // What a BUDGET clause states.
-fn stated(clause: Clause) -> Budget
+fn stated(clause: Budget) -> Costs
     ensures { (need : Costs) → result ≡ spec.stated need (Some (seen_budget clause)) }
 {
-    Budget {
+    Costs {
         per_record: clause.per_record.unsigned_abs(),
         per_pane: clause.per_pane.unsigned_abs(),
         held: clause.held.unsigned_abs(),
@@ -65,7 +61,7 @@ fn stated(clause: Clause) -> Budget
 }
 
 // The program that states a budget.
-fn program(alloc: Global, checked: &Checked, budget: Budget) -> Result<Program, AllocError>
+fn program(alloc: Global, checked: &Checked, budget: Costs) -> Result<Program, AllocError>
     requires { IsTrue (is_budget budget) }
     ensures { IfOk result (λ p. p ≡ assembled (seen_parts checked.now.parts) budget) }
 {

@@ -10,11 +10,11 @@ ghost use Rattle.wsm_compiler.specs.Assembled.{assembled_header};
 
 use std::alloc::{AllocError, Global};
 use wsm_check::{Column, Folding, Parts};
-use wsm_program::{Budget, CellType, Header};
+use wsm_program::{CellType, Costs, Header};
 use wsm_record::{Field, Kind, Name, Schema, SchemaRefusal};
 
 /// The header of a program that states a budget.
-pub fn header(alloc: Global, parts: &Parts, budget: Budget) -> Result<Header, AllocError>
+pub fn header(alloc: Global, parts: &Parts, budget: Costs) -> Result<Header, AllocError>
     requires { schema_refusal (assembled_header (seen_parts parts.now) budget).schema ≡ None }
     ensures { IfOk result (λ header. header_of header ≡ assembled_header (seen_parts parts.now) budget) }
 {

@@ -38,7 +38,7 @@ use Rattle.wsm_semantics.proofs.SelectedRecords.{a_time}
 use Rattle.wsm_semantics.proofs.HeldRecords.{each_of, total-where}
 use Rattle.wsm_program.specs.declared.instr.SectionId.TheVariants.{Fire}
 use Rattle.wsm_program.specs.Program.{Program, is_program}
-use Rattle.wsm_verifier.specs.declared.costs.Costs.{Costs}
+use Rattle.wsm_program.specs.declared.program.Costs.{Costs}
 use Rattle.wsm_verifier.specs.Rules.{judge}
 use Rattle.wsm_verifier.proofs.Lawful.{lawful as program_lawful}
 use Rattle.wsm_machine.specs.InRange.{in_range}

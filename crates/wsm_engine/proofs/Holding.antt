@@ -12,7 +12,7 @@ use Rattle.wsm_semantics.specs.Steps.{run}
 use Rattle.wsm_semantics.proofs.Lists.{length_each}
 use Rattle.wsm_semantics.proofs.HeldBound.{kept_bounded}
 use Rattle.wsm_program.specs.Program.{Program, is_program}
-use Rattle.wsm_verifier.specs.declared.costs.Costs.{Costs}
+use Rattle.wsm_program.specs.declared.program.Costs.{Costs}
 use Rattle.wsm_verifier.specs.Rules.{judge}
 use Rattle.wsm_verifier.proofs.Lawful.{lawful as program_lawful}
 use Rattle.wsm_machine.specs.Meaning.{clock_of, query_of, plan_of}

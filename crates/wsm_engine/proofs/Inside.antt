@@ -30,7 +30,7 @@ use Rattle.wsm_semantics.proofs.SessionPlaces.{inside_links, is_session}
 use Rattle.wsm_semantics.proofs.SessionStep.{mine, joined_at, new_inside, places_more}
 use Rattle.wsm_semantics.proofs.HeldPanes.{IsHeldPane, held_panes}
 use Rattle.wsm_program.specs.Program.{Program, is_program}
-use Rattle.wsm_verifier.specs.declared.costs.Costs.{Costs}
+use Rattle.wsm_program.specs.declared.program.Costs.{Costs}
 use Rattle.wsm_verifier.specs.Rules.{judge}
 use Rattle.wsm_verifier.proofs.Lawful.{lawful as program_lawful}
 use Rattle.wsm_machine.specs.Meaning.{query_of, plan_of, selects}

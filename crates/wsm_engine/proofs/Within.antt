@@ -9,7 +9,7 @@ use Rattle.wsm_admission.specs.Clock.{admitted_count}
 use Rattle.wsm_semantics.specs.Summaries.{Fired}
 use Rattle.wsm_semantics.specs.Steps.{step_fires}
 use Rattle.wsm_program.specs.Program.{is_program}
-use Rattle.wsm_verifier.specs.declared.costs.Costs.{Costs}
+use Rattle.wsm_program.specs.declared.program.Costs.{Costs}
 use Rattle.wsm_verifier.specs.Rules.{judge}
 use Rattle.wsm_machine.specs.Meaning.{clock_of, query_of, plan_of, pane_cost_by}
 use Rattle.wsm_machine.specs.Sound.{AreSound, IsSoundState}

@@ -12,7 +12,7 @@ ghost use Rattle.wsm_semantics.specs.Firings.{firings};
 ghost use Rattle.wsm_semantics.specs.FiringSets.{FiresOnce};
 ghost use Rattle.wsm_semantics.specs.Order.{IsOrderFree, OrderLaw};
 ghost use Rattle.wsm_program.specs.Program.{Program, is_program};
-ghost use Rattle.wsm_verifier.specs.declared.costs.Costs.{Costs};
+ghost use Rattle.wsm_program.specs.declared.program.Costs.{Costs};
 ghost use Rattle.wsm_verifier.specs.Rules.{judge};
 ghost use Rattle.wsm_machine.specs.Meaning.{query_of, record_cost, pane_cost};
 ghost use Rattle.wsm_firing.specs.Tally.{greatest};

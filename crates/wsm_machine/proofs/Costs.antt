@@ -23,7 +23,7 @@ use Rattle.wsm_semantics.proofs.Lists.{all-each}
 use Rattle.wsm_semantics.proofs.Stepping.{decision-fits}
 use Rattle.wsm_semantics.proofs.Steps.{fires-step}
 use Rattle.wsm_program.specs.Program.{Program, is_program}
-use Rattle.wsm_verifier.specs.declared.costs.Costs.{Costs}
+use Rattle.wsm_program.specs.declared.program.Costs.{Costs}
 use Rattle.wsm_verifier.specs.Rules.{judge}
 use Rattle.wsm_verifier.proofs.Lawful.{lawful as program_lawful}
 use Rattle.wsm_machine.specs.Meaning.{query_of, plan_of, steps_among, record_steps, joins_held, CountsSessions, record_cost, record_cost_by, pane_cost, pane_cost_by, answer_cost, step_cost}

@@ -26,7 +26,7 @@ use Rattle.wsm_semantics.specs.Steps.{State, fired_by, step_fires}
 use Rattle.wsm_semantics.proofs.HeldRecords.{at_most-entered}
 use Rattle.wsm_program.specs.declared.instr.SectionId.TheVariants.{Fire}
 use Rattle.wsm_program.specs.Program.{Program, is_program}
-use Rattle.wsm_verifier.specs.declared.costs.Costs.{Costs}
+use Rattle.wsm_program.specs.declared.program.Costs.{Costs}
 use Rattle.wsm_verifier.specs.Rules.{judge}
 use Rattle.wsm_verifier.proofs.Lawful as lawful_programs
 use Rattle.wsm_machine.specs.InRange.{in_range}

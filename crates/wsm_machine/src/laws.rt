@@ -8,7 +8,7 @@ ghost use Rattle.wsm_fold.specs.Accumulators.{SumsFit};
 ghost use Rattle.wsm_fold.specs.Fold.{folds_of};
 ghost use Rattle.wsm_program.specs.declared.instr.SectionId.{SectionId};
 ghost use Rattle.wsm_program.specs.Program.{Program, section, is_program};
-ghost use Rattle.wsm_verifier.specs.declared.costs.Costs.{Costs};
+ghost use Rattle.wsm_program.specs.declared.program.Costs.{Costs};
 ghost use Rattle.wsm_verifier.specs.Costs.{longest_path};
 ghost use Rattle.wsm_verifier.specs.Rules.{judge};
 ghost use Rattle.wsm_machine.specs.declared.outcome.Outcome.TheVariants.{Done};

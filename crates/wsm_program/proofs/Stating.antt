@@ -1,14 +1,14 @@
 -- A program that states another budget is one still.
 use Rattle.std.proofs.Common.{Bool, ◌&&◌, IsTrue, arith}
 use Rattle.std.proofs.lemmas.Grind.{common_steps}
-use Rattle.wsm_program.specs.declared.program.Budget.{Budget}
+use Rattle.wsm_program.specs.declared.program.Costs.{Costs}
 use Rattle.wsm_program.specs.Program.{Program, stating, is_schema, is_clock, is_firing, is_row, is_budget, is_header, is_section, is_program}
 
 -- the last of five tests is another that holds as well
 exchanged : (a b c d e f rest : Bool) → IsTrue ((a && (b && (c && (d && e)))) && rest) → IsTrue f → IsTrue ((a && (b && (c && (d && f)))) && rest)
 exchanged a b c d e f rest h l = grind (arith, common_steps)
 
-pub lawful_stating : (p : Program) (b : Budget) → IsTrue (is_program p) → IsTrue (is_budget b) → IsTrue (is_program (stating p b))
+pub lawful_stating : (p : Program) (b : Costs) → IsTrue (is_program p) → IsTrue (is_budget b) → IsTrue (is_program (stating p b))
 unfolding is_program is_header is_section
 lawful_stating p b h l =
     let sections = is_section p.header p.selection && (is_section p.header p.update && is_section p.header p.fire) in

@@ -17,7 +17,7 @@ use Rattle.wsm_program.specs.declared.instr.Instr.{Instr}
 use Rattle.wsm_program.specs.declared.instr.Instr.TheVariants.{PushInt, PushEnum, Field, Acc, Jump, JumpIfFalse, Fold}
 use Rattle.wsm_program.specs.declared.instr.SectionId.{SectionId}
 use Rattle.wsm_program.specs.declared.instr.SectionId.TheVariants.{Where, Update, Fire}
-use Rattle.wsm_program.specs.declared.program.Budget.{Budget}
+use Rattle.wsm_program.specs.declared.program.Costs.{Costs}
 
 -- the bytes of a word
 abbrev pub Name : Type 0
@@ -36,7 +36,7 @@ pub record Header : Type 0 where
   pub form : Form
   pub kinds : List Kind
   pub columns : List CellType
-  pub budget : Budget
+  pub budget : Costs
 
 pub record Program : Type 0 where
   pub header : Header
@@ -50,7 +50,7 @@ section p Update = p.update
 section p Fire = p.fire
 
 -- the same program, which states another budget
-abbrev pub stating : Program → Budget → Program
+abbrev pub stating : Program → Costs → Program
 stating p budget = record p { header = record p.header { budget = budget } }
 
 -- the names of a field that is an ENUM
@@ -132,7 +132,7 @@ is_column s (types.Enum e) = is_some (enum_names s e)
 abbrev pub is_stated : ℕ → Bool
 is_stated n = is_between 1 MAX_STATED n
 
-abbrev pub is_budget : Budget → Bool
+abbrev pub is_budget : Costs → Bool
 is_budget b = is_stated b.per_record && (is_stated b.per_pane && is_between 1 MAX_PANES b.held)
 
 abbrev pub is_clock : Header → Bool

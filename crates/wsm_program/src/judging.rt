@@ -9,7 +9,7 @@ ghost use Rattle.wsm_program.specs.View.{header_of, program_of};
 
 use crate::enums::{name_count, names};
 use crate::instr::Instr;
-use crate::program::{Budget, Header};
+use crate::program::{Costs, Header};
 use wsm_record::limits::{
     LATEST_TIME, LONGEST_SPAN, MAX_ACCUMULATORS, MAX_COLUMNS, MAX_FIELDS, MAX_PANES, MAX_SECTION,
     MAX_STATED,
@@ -126,7 +126,7 @@ fn is_lawful_column(schema: &Schema, column: CellType) -> bool
     }
 }
 
-fn is_lawful_budget(budget: Budget) -> bool
+fn is_lawful_budget(budget: Costs) -> bool
     ensures { result ≡ is_budget budget }
 {
     is_stated(budget.per_record, MAX_STATED)

@@ -30,7 +30,7 @@
 
 pub use instr::{Instr, SectionId};
 pub use operation::{Operands, Operation};
-pub use program::{Budget, Header, Program, Section};
+pub use program::{Costs, Header, Program, Section};
 pub use refusal::DecodeRefusal;
 pub use table::Argument;
 pub use wsm_record::CellType;

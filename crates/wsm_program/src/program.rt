@@ -14,14 +14,14 @@ use wsm_windows::Shape;
 /// The instructions of a section, by their places.
 pub type Section = Vec<Instr>;
 
-/// The numbers that a program states of its cost.
+/// What a program costs: the numbers that it states, or those that it needs.
 #[derive(Clone, Copy, Debug, PartialEq, Eq)]
-pub struct Budget {
-    /// The most instructions for a record, from 1 to 10^18.
+pub struct Costs {
+    /// The most instructions for a record.
     pub per_record: u64,
-    /// The most instructions for a pane that fires, from 1 to 10^18.
+    /// The most instructions for a pane that fires.
     pub per_pane: u64,
-    /// The most panes that are held after a record, from 1 to 100,000.
+    /// The most panes that are held after a record.
     pub held: u64,
 }
 
@@ -52,8 +52,9 @@ pub struct Header {
     pub kinds: Vec<Kind>,
     /// The types of the columns, 1 to 16 of them.
     pub columns: Vec<CellType>,
-    /// What the program states of its cost.
-    pub budget: Budget,
+    /// What the program states of its cost: 1 to 10^18 instructions for a record and for a pane, and
+    /// 1 to 100,000 panes.
+    pub budget: Costs,
 }
 
 /// A header and three sections. Their numbers lie in their ranges, and each operand names a field,
@@ -112,7 +113,7 @@ impl Program {
     }
 
     /// The same program, which states another budget. It takes no memory.
-    pub fn stating(self, budget: Budget) -> Program
+    pub fn stating(self, budget: Costs) -> Program
         requires { IsTrue (is_budget budget) }
         ensures { result ≡ stating self budget }
     {

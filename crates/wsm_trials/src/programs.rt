@@ -6,12 +6,12 @@ use crate::sections::Sections;
 use crate::sides::Sides;
 use std::alloc::Global;
 use std::test::Fail;
-use wsm_bytecode::{Budget, CellType, Header, Program, decode, encode};
+use wsm_bytecode::{CellType, Costs, Header, Program, decode, encode};
 use wsm_engine::Engine;
 use wsm_interval::Interval;
 use wsm_machine::Inputs;
 use wsm_record::{Field, Form, Kind, Mode, Name, Schema, Ty, Value};
-use wsm_verifier::{Costs, Rule, Verified, verify};
+use wsm_verifier::{Rule, Verified, verify};
 use wsm_windows::Shape;
 
 /// Rows of both keys: the ends of the field's interval, an early, a late and a refused record.
@@ -19,7 +19,7 @@ const ROWS: &[u8] =
     b"r,a,5,7\nr,b,59,100\nr,a,0,0\nr,a,1,101\nw,60\nr,a,61,50\nr,b,52,1\nr,a,3,1\nw,70\nw,200\n";
 
 /// Numbers that no section put together here needs more than.
-const ROOMY: Budget = Budget {
+const ROOMY: Costs = Costs {
     per_record: 1_000,
     per_pane: 1_000,
     held: 100,
@@ -39,7 +39,7 @@ enum Taken {
 }
 
 // The header of the base program, which states a budget.
-fn header(alloc: Global, budget: Budget) -> Result<Header, Fail> {
+fn header(alloc: Global, budget: Costs) -> Result<Header, Fail> {
     let mut keys = Vec::new(alloc);
     keys.push(Name::new(b"a").ok_or("a name")?)?;
     keys.push(Name::new(b"b").ok_or("a name")?)?;
@@ -65,7 +65,7 @@ fn header(alloc: Global, budget: Budget) -> Result<Header, Fail> {
 }
 
 // The bytes of a program of sections, unless an operand names nothing.
-fn bytes_of(alloc: Global, sections: &Sections, budget: Budget) -> Result<Option<Vec<u8>>, Fail> {
+fn bytes_of(alloc: Global, sections: &Sections, budget: Costs) -> Result<Option<Vec<u8>>, Fail> {
     let made = Program::new(
         header(alloc, budget)?,
         sections.selection.to_vec(alloc)?,
@@ -170,37 +170,28 @@ fn runs_within(alloc: Global, bytes: &[u8], costs: Costs) -> Option<u32> {
 }
 
 // What is needed, less one of a number.
-fn one_less(costs: Costs) -> [(Budget, Rule); 3] {
-    let exact = stated(costs);
-    let per_record = exact.per_record.saturating_sub(1);
-    let per_pane = exact.per_pane.saturating_sub(1);
-    let held = exact.held.saturating_sub(1);
+fn one_less(costs: Costs) -> [(Costs, Rule); 3] {
+    let per_record = costs.per_record.saturating_sub(1);
+    let per_pane = costs.per_pane.saturating_sub(1);
+    let held = costs.held.saturating_sub(1);
     [
         (
-            Budget {
+            Costs {
                 per_record,
-                ..exact
+                ..costs
             },
             Rule::BudgetRecord,
         ),
-        (Budget { per_pane, ..exact }, Rule::BudgetPane),
-        (Budget { held, ..exact }, Rule::BudgetHeld),
+        (Costs { per_pane, ..costs }, Rule::BudgetPane),
+        (Costs { held, ..costs }, Rule::BudgetHeld),
     ]
-}
-
-fn stated(costs: Costs) -> Budget {
-    Budget {
-        per_record: costs.per_record,
-        per_pane: costs.per_pane,
-        held: costs.held,
-    }
 }
 
 // Whether sections are judged so, where they state a budget.
 fn is_judged(
     alloc: Global,
     sections: &Sections,
-    budget: Budget,
+    budget: Costs,
     want: Result<Costs, Rule>,
 ) -> Result<bool, Fail> {
     let Some(bytes) = bytes_of(alloc, sections, budget)? else {
@@ -222,7 +213,7 @@ fn needs_all(alloc: Global, sections: &Sections, costs: Costs) -> Result<bool, F
 // In how many runs an accepted program of sections, which states what it needs and no more, keeps
 // its promises; none where it breaks one.
 fn keeps(alloc: Global, sections: &Sections, costs: Costs) -> Result<Option<u32>, Fail> {
-    let Some(bytes) = bytes_of(alloc, sections, stated(costs))? else {
+    let Some(bytes) = bytes_of(alloc, sections, costs)? else {
         return Ok(None);
     };
     let (text, end) = program_ran(alloc, &bytes, ROWS);

@@ -5,7 +5,7 @@ use Rattle.wsm_program.specs.declared.Instr.{Instr}
 use Rattle.wsm_program.specs.declared.Instr.TheVariants.{Return}
 use Rattle.wsm_windows.specs.declared.Shape.{Shape}
 use Rattle.wsm_windows.specs.declared.Shape.TheVariants.{Fixed, Sliding, Session}
-use Rattle.wsm_verifier.specs.declared.costs.Costs.{Costs}
+use Rattle.wsm_program.specs.declared.program.Costs.{Costs}
 use Rattle.wsm_windows.specs.Life.{live_bound}
 use Rattle.wsm_program.specs.Program.{Program}
 use Rattle.wsm_program.specs.Instructions.{next}

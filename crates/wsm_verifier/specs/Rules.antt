@@ -14,14 +14,13 @@ use Rattle.wsm_program.specs.declared.SectionId.TheVariants.{Where, Update, Fire
 use Rattle.wsm_record.specs.declared.Kind.{Kind}
 use Rattle.wsm_record.specs.declared.Kind.TheVariants.{Sum, Min, Max, Any, All}
 use Rattle.wsm_record.specs.Schema.{FieldType, Int, Truth as IsTruth, Enum, DeclaredField}
-use Rattle.wsm_program.specs.declared.Budget.{Budget as Stated}
+use Rattle.wsm_program.specs.declared.program.Costs.{Costs}
 use Rattle.wsm_record.specs.declared.words.CellType.{CellType}
 use Rattle.wsm_record.specs.declared.words.CellType.TheVariants as column
 use Rattle.wsm_verifier.specs.declared.rejection.Rule.{Rule}
 use Rattle.wsm_verifier.specs.declared.rejection.Rule.TheVariants as rule
 use Rattle.wsm_verifier.specs.declared.rejection.Part.TheVariants.{Code, Budget}
 use Rattle.wsm_verifier.specs.declared.rejection.Rejection.{Rejection}
-use Rattle.wsm_verifier.specs.declared.costs.Costs.{Costs}
 use Rattle.wsm_interval.specs.Interval.{interval, hull, holds, in_i64}
 use Rattle.wsm_program.specs.Program.{Program, section}
 use Rattle.wsm_verifier.specs.declared.known.Known.{Known}
@@ -250,7 +249,7 @@ abbrev pub first_stated : List (Rule × Bool) → Option Rejection
 first_stated ts = option_map (λ r. record { part = Budget; place = 0; rule = r }) (first_of ts)
 
 -- a stated number is below the needed one
-abbrev pub budget_fault : Stated → Costs → Option Rejection
+abbrev pub budget_fault : Costs → Costs → Option Rejection
 budget_fault stated need = first_stated (
     (rule.BudgetRecord, nat_lt stated.per_record need.per_record)
     ∷ (rule.BudgetPane, nat_lt stated.per_pane need.per_pane)

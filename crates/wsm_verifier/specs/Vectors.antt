@@ -18,7 +18,7 @@ use Rattle.wsm_verifier.specs.declared.rejection.Rule.TheVariants as rule
 use Rattle.wsm_verifier.specs.declared.rejection.Part.{Part}
 use Rattle.wsm_verifier.specs.declared.rejection.Part.TheVariants.{Code, Budget}
 use Rattle.wsm_verifier.specs.declared.rejection.Rejection.{Rejection}
-use Rattle.wsm_verifier.specs.declared.costs.Costs.{Costs}
+use Rattle.wsm_program.specs.declared.program.Costs.{Costs}
 use Rattle.wsm_program.specs.Program.{Program}
 use Rattle.wsm_verifier.specs.Rules.{judge}
 

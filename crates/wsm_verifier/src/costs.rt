@@ -8,22 +8,13 @@ ghost use Rattle.wsm_verifier.specs.Costs.{IsLongestPath};
 
 use crate::paths::longest_path;
 use std::alloc::{AllocError, Global};
-use wsm_program::{Program, SectionId};
+use wsm_program::{Costs, Program, SectionId};
 use wsm_windows::{Shape, live_bound};
 
-/// The numbers that a program needs.
-#[derive(Clone, Copy, Debug, PartialEq, Eq)]
-pub struct Costs {
-    /// The most instructions for a record: those of its selection, and of its update in each window
-    /// that it enters; in sessions also one for each accumulator, for a join.
-    pub per_record: u64,
-    /// The most instructions for a pane that fires.
-    pub per_pane: u64,
-    /// The most panes that are held after a record.
-    pub held: u64,
-}
-
 /// The numbers that a program needs, also one that would be refused.
+///
+/// A record costs its selection, and its update in each window that it enters; in sessions also one
+/// instruction for each accumulator, for a join.
 pub fn needed(alloc: Global, program: &Program) -> Result<Costs, AllocError>
     ensures numbers { IfOk result (λ costs. costs ≡ spec.needed program.now) }
     // What is counted of a section is its longest path.

@@ -28,9 +28,10 @@
 //! ```
 #![tactic(auto)]
 
-pub use costs::{Costs, needed};
+pub use costs::needed;
 pub use rejection::{Part, Rejection, Rule};
 pub use verified::{Verified, verify};
+pub use wsm_program::Costs;
 
 mod accumulated;
 mod costs;

@@ -8,10 +8,10 @@ mod large;
 mod stack;
 mod types;
 
-use crate::{Costs, Part, Rejection, Rule, Verified, verify};
+use crate::{Part, Rejection, Rule, Verified, verify};
 use std::alloc::Global;
 use std::test::Fail;
-use wsm_program::{Budget, CellType, Header, Instr, Operation, Program, SectionId};
+use wsm_program::{CellType, Costs, Header, Instr, Operation, Program, SectionId};
 use wsm_record::{Field, Form, Kind, Mode, Name, Schema, Ty};
 use wsm_windows::Shape;
 
@@ -24,7 +24,7 @@ struct Draft<'a> {
     shape: Shape,
     kinds: &'a [Kind],
     columns: &'a [CellType],
-    budget: Budget,
+    budget: Costs,
     selection: &'a [Instr],
     update: &'a [Instr],
     fire: &'a [Instr],
@@ -39,7 +39,7 @@ fn base() -> Draft<'static> {
         shape: Shape::Fixed(60),
         kinds: &[Kind::Sum],
         columns: &[CellType::Int, CellType::Int],
-        budget: Budget {
+        budget: Costs {
             per_record: 2000,
             per_pane: 1000,
             held: 1000,

@@ -6,7 +6,7 @@ ghost use Rattle.wsm_bytecode.specs.Reading.{Gives, shape_at, mode_at, form_at, 
 use crate::limits::{LONGEST_SPAN, MAX_ACCUMULATORS, MAX_HELD, MAX_STATED};
 use crate::reading::numbers::{byte_of, byte_within, i64_within, u64_within};
 use std::alloc::Global;
-use wsm_program::{Budget, DecodeRefusal};
+use wsm_program::{Costs, DecodeRefusal};
 use wsm_record::{Form, Kind, Mode};
 use wsm_windows::Shape;
 
@@ -94,13 +94,13 @@ fn so_many_kinds(
 }
 
 #[tactic(auto, unfolding(crate::specs::Reading::budget_at))]
-pub(crate) fn budget_of(bytes: &[u8]) -> Result<(Budget, &[u8]), DecodeRefusal>
+pub(crate) fn budget_of(bytes: &[u8]) -> Result<(Costs, &[u8]), DecodeRefusal>
     ensures { Gives (λ x. (x.0, x.1.now)) result (budget_at bytes.now) }
 {
     let (per_record, rest) = u64_within(bytes, 1, MAX_STATED)?;
     let (per_pane, rest) = u64_within(rest, 1, MAX_STATED)?;
     let (held, rest) = u64_within(rest, 1, MAX_HELD)?;
-    let budget = Budget {
+    let budget = Costs {
         per_record,
         per_pane,
         held,

@@ -9,7 +9,7 @@ use crate::limits::{MAGIC, VERSION};
 use crate::writing::numbers::{put_i64, put_two, put_u8, put_u64};
 use crate::writing::schema::put_schema;
 use std::alloc::AllocError;
-use wsm_program::{Budget, Header};
+use wsm_program::{Costs, Header};
 use wsm_record::{CellType, Form, Kind, Mode};
 use wsm_windows::Shape;
 
@@ -120,7 +120,7 @@ fn put_column(out: &mut Vec<u8>, column: CellType) -> Result<(), AllocError>
     }
 }
 
-fn put_budget(out: &mut Vec<u8>, budget: Budget) -> Result<(), AllocError>
+fn put_budget(out: &mut Vec<u8>, budget: Costs) -> Result<(), AllocError>
     ensures { OnOk result (out.new.items ≡ out.old.items ++ budget_bytes budget) }
 {
     put_u64(out, budget.per_record)?;

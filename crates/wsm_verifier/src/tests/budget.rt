@@ -4,7 +4,7 @@ use super::*;
 
 pub(super) fn stating(draft: Draft<'_>, per_record: u64, per_pane: u64, held: u64) -> Draft<'_> {
     Draft {
-        budget: Budget {
+        budget: Costs {
             per_record,
             per_pane,
             held,
