@@ -1,5 +1,5 @@
 -- Reading one after the other, as a loop does.
-use Rattle.std.proofs.Common.{◌≡◌, ℕ, suc, ◌-◌, ◌+◌, ◌<◌, true, false, map, List, [], ◌∷◌, ◌++◌, Result, Ok, Err, refl, sym, ap, subst, ◌∙◌, append_assoc, arith}
+use Rattle.std.proofs.Common.{◌≡◌, ℕ, suc, ◌-◌, ◌+◌, ◌<◌, true, false, ◌||◌, map, List, [], ◌∷◌, ◌++◌, Result, Ok, Err, refl, sym, ap, subst, ◌∙◌, append_assoc, arith}
 use Rattle.std.specs.Prelude.{bytes_eq}
 use Rattle.std.specs.List.{list_any}
 use Rattle.wsm_record.specs.declared.schema.Field.{Field}
@@ -8,7 +8,6 @@ use Rattle.wsm_record.specs.Schema.{DeclaredField}
 use Rattle.wsm_program.specs.declared.refusal.DecodeRefusal.{DecodeRefusal}
 use Rattle.wsm_program.specs.declared.refusal.DecodeRefusal.TheVariants.{Memory, Operand}
 use Rattle.wsm_program.specs.Program.{Name}
-use Rattle.wsm_program.proofs.Places.{among_named}
 use Rattle.wsm_bytecode.specs.Reading.{Read, ◌>>=◌, Fails, several, name_at, field_type_at, new_name_at, names_after, new_field_at, fields_after}
 
 -- what was read before, and what is still read
@@ -79,7 +78,8 @@ fields_end e front names count i bytes total lt h so_far =
     subst (λ (r : Read (List DeclaredField)). Fails e r) whole (stops e (new_field_at names bytes) (λ x. fields_after (names ++ x.name ∷ []) (count - (i + 1))) front h)
 
 among_names : (n : Name) (fs : List Field) → is_among n (map (λ f. f.name) fs) ≡ list_any (λ f. bytes_eq n f.name) fs
-among_names n fs = among_named (λ f. f.name) n fs
+among_names n [] = refl
+among_names n (f ∷ fs) = ap (λ b. bytes_eq n f.name || b) (among_names n fs)
 
 -- the name of a new field, and what follows it
 pub new_field_named : (before : List Field) (bytes : List ℕ) (n : Name) (rest : List ℕ) → name_at bytes ≡ Ok (n, rest) → list_any (λ f. bytes_eq n f.name) before ≡ false

@@ -5,7 +5,8 @@ use Rattle.std.proofs.lemmas.Bool.{true≢false, le-ltb, leb-true, le-leb, and_p
 use Rattle.std.proofs.lemmas.List.{take_at, drop_at, length-append}
 use Rattle.std.proofs.lemmas.Int.{ints, to_z-of_z}
 use Rattle.std.proofs.lemmas.Nat.{from_le_bytes-to_le_bytes_2, from_le_bytes-to_le_bytes_8}
-use Rattle.wsm_program.specs.Program.{Name, is_i64}
+use Rattle.wsm_program.specs.Program.{Name}
+use Rattle.wsm_record.specs.Schema.{is_i64}
 use Rattle.wsm_record.specs.declared.limits.TheConstants.{MAX_NAME}
 use Rattle.wsm_record.specs.Name.{is_name, is_word, is_reserved, is_between}
 use Rattle.wsm_bytecode.specs.Spelling.{byte, number, long, signed, name}

@@ -7,9 +7,9 @@ use Rattle.std.proofs.lemmas.List.{append-nil, length-map}
 use Rattle.std.proofs.lemmas.List.Folds.{list_all-map}
 use Rattle.wsm_record.specs.declared.schema.DeclaredField.{DeclaredField as KeptField}
 use Rattle.wsm_record.specs.Name.{is_name, is_among, is_between}
-use Rattle.wsm_record.specs.Schema.{DeclaredField, Declared}
+use Rattle.wsm_record.specs.Schema.{DeclaredField, Declared, is_i64, are_names_after, is_name_list, is_field_type, is_field_after, are_fields_after, is_schema}
 use Rattle.wsm_record.specs.Fields.{type_seen, field_seen}
-use Rattle.wsm_program.specs.Program.{Name, is_i64, latest_time, longest_span, Header, are_names_after, is_name_list, is_field_type, is_field_after, are_fields_after, is_schema, is_header}
+use Rattle.wsm_program.specs.Program.{Name, latest_time, longest_span, Header, is_header}
 use Rattle.wsm_bytecode.specs.Spelling.{byte, number, signed, name, magic, schema, shape, mode, form, kinds, columns, budget, header}
 use Rattle.std.proofs.lemmas.Int.{to_z-of_z}
 use Rattle.wsm_bytecode.proofs.Numbers.{name_is_short, fits}

@@ -9,7 +9,7 @@ use Rattle.std.proofs.lemmas.Int.{of_z-to_z}
 use Rattle.std.proofs.lemmas.Nat.{le_bytes_2, le_bytes_8}
 use Rattle.wsm_program.specs.declared.refusal.DecodeRefusal.{DecodeRefusal}
 use Rattle.wsm_program.specs.declared.refusal.DecodeRefusal.TheVariants.{Truncated, Operand}
-use Rattle.wsm_program.specs.Program.{is_i64}
+use Rattle.wsm_record.specs.Schema.{is_i64}
 use Rattle.wsm_bytecode.specs.Spelling.{byte, signed}
 use Rattle.wsm_bytecode.specs.Reading.{Read, ◌>>=◌, bytes_at, number_at, signed_at, judged, several}
 

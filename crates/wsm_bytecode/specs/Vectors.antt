@@ -1,7 +1,7 @@
 -- Worked rows, computed by the definitions: a program, its bytes, and bytes with a fault.
 use Rattle.std.specs.Prelude.{◌≡◌, refl, ℕ, zero, suc, Bool, true, false, ◌&&◌, List, [], ◌∷◌, ◌++◌, take, length, pos, Result, Ok, Err, codes, slice_set}
 use Rattle.wsm_record.specs.Name.{is_reserved}
-use Rattle.wsm_record.specs.Schema.{Int}
+use Rattle.wsm_record.specs.Schema.{Int, is_schema}
 use Rattle.wsm_record.specs.declared.Kind.TheVariants.{Sum}
 use Rattle.wsm_record.specs.declared.Mode.TheVariants.{Accumulating}
 use Rattle.wsm_record.specs.declared.Form.TheVariants.{Panes}
@@ -10,7 +10,7 @@ use Rattle.wsm_record.specs.declared.words.CellType.TheVariants as types
 use Rattle.wsm_program.specs.declared.instr.Instr.TheVariants.{PushBool, Field, Acc, Count, Fold, Return}
 use Rattle.wsm_program.specs.declared.refusal.DecodeRefusal.{DecodeRefusal}
 use Rattle.wsm_program.specs.declared.refusal.DecodeRefusal.TheVariants.{BadMagic, Version, Truncated, UnknownOpcode, Operand, TrailingBytes}
-use Rattle.wsm_program.specs.Program.{Program, is_schema, is_header, is_section, is_program}
+use Rattle.wsm_program.specs.Program.{Program, is_header, is_section, is_program}
 use Rattle.wsm_bytecode.specs.Spelling.{long, signed, schema, header, instr, code, spelling}
 use Rattle.wsm_bytecode.specs.Reading.{name_at, names_at, interval_at, enum_at, field_type_at, new_field_at, schema_at, fixed_at, sliding_at, session_at, shape_at, mode_at, form_at, kind_at, kinds_at, enum_number_at, enum_column_at, column_at, columns_at, budget_at, after_magic, after_version, header_at, push_int_at, push_bool_at, push_enum_at, index_at, target_at, plain_instr, instr_by, instr_at, code_at, program_at, decode}
 use Rattle.wsm_program.specs.Operations.{of_code}

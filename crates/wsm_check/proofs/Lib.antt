@@ -4,5 +4,4 @@ pub mod Resolving
 pub mod Flat
 pub mod Following
 pub mod Repeats
-pub mod Spellings
 pub mod Passing

@@ -3,8 +3,7 @@ use Rattle.std.specs.Prelude.{◌≡◌, Bool, true, ◌&&◌, ◌++◌}
 use Rattle.std.specs.List.{list_all}
 use Rattle.wsm_record.specs.Name.{is_name}
 use Rattle.wsm_interval.specs.Interval.{in_i64}
-use Rattle.wsm_record.specs.Schema.{FieldType, DeclaredField}
-use Rattle.wsm_record.specs.Schema as field_types
+use Rattle.wsm_record.specs.Schema.{is_spelt_field}
 use Rattle.wsm_query.specs.Tree.{Query, Expr, Number, Aggregate, If, Brackets, Minus, Not, Binary, And, Or}
 use Rattle.wsm_check.specs.Sizes.{in_option, fired}
 
@@ -20,14 +19,6 @@ numbers_fit (Binary op x y) = numbers_fit x && numbers_fit y
 numbers_fit (And x y) = numbers_fit x && numbers_fit y
 numbers_fit (Or x y) = numbers_fit x && numbers_fit y
 numbers_fit _ = true
-
-abbrev pub is_spelt_type : FieldType → Bool
-is_spelt_type (field_types.Int lo hi) = in_i64 lo && in_i64 hi
-is_spelt_type field_types.Truth = true
-is_spelt_type (field_types.Enum names) = list_all is_name names
-
-abbrev pub is_spelt_field : DeclaredField → Bool
-is_spelt_field d = is_name d.name && is_spelt_type d.type
 
 -- each name that the query declares is a name, and each number of its types and expressions has 64 bits
 pub record IsSpelt (q : Query) : Type 0 where

@@ -12,9 +12,9 @@ use crate::checked::Checked;
 use crate::judging::judge;
 use crate::parts::{Parts, Terms};
 use crate::refusal::CheckRefusal;
-use crate::spelling::{are_names, are_spelt};
 use std::alloc::Global;
 use wsm_query::Query;
+use wsm_record::{are_names, are_spelt};
 
 /// The query as a checked one, or the first check that refuses it. A query that isn't taken is
 /// handed back.

@@ -45,7 +45,6 @@ mod parts;
 mod refusal;
 mod resolve;
 mod sizes;
-mod spelling;
 mod term;
 #[cfg(test)]
 mod tests;

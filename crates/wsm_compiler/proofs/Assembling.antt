@@ -6,10 +6,10 @@ use Rattle.std.proofs.Math.Bool.{Bool-set}
 use Rattle.std.proofs.lemmas.List.{length-map}
 use Rattle.std.specs.Prelude.{◌&&◌}
 use Rattle.std.proofs.lemmas.Bool.{and_parts}
-use Rattle.wsm_record.specs.Schema.{schema_refusal}
+use Rattle.wsm_record.specs.Schema.{schema_refusal, is_schema}
 use Rattle.wsm_program.specs.declared.instr.Instr.{Instr}
 use Rattle.wsm_program.specs.declared.program.Costs.{Costs}
-use Rattle.wsm_program.specs.Program.{Header, Program, is_schema, is_clock, is_firing, is_row, is_budget, is_header, is_program}
+use Rattle.wsm_program.specs.Program.{Header, Program, is_clock, is_firing, is_row, is_budget, is_header, is_program}
 use Rattle.wsm_program.proofs.Stating.{lawful_stating}
 use Rattle.wsm_verifier.specs.Costs.{needed}
 use Rattle.wsm_query.specs.Tree.{Query}
@@ -20,7 +20,7 @@ use Rattle.wsm_compiler.specs.Program.{stated, needed_of, program_of}
 use Rattle.wsm_compiler.specs.Assembled.{assembled, assembled_header}
 use Rattle.wsm_compiler.proofs.Passed.{passed}
 use Rattle.wsm_compiler.proofs.Lawful.{is_lawful}
-use Rattle.wsm_compiler.proofs.Schemas.{schema_fits}
+use Rattle.wsm_record.proofs.Schemas.{schema_fits}
 use Rattle.wsm_compiler.proofs.Resolving.{ended_size, folded_size, fired_size, assembled_is}
 use Rattle.wsm_program.proofs.Lawful.{program_header}
 

@@ -14,8 +14,8 @@ use Rattle.wsm_windows.specs.declared.window.Shape.TheVariants.{Fixed, Sliding, 
 use Rattle.wsm_interval.specs.Interval.{in_i64}
 use Rattle.wsm_program.specs.declared.instr.Instr.{Instr}
 use Rattle.wsm_program.specs.declared.program.Costs.{Costs}
-use Rattle.wsm_program.specs.Program.{Header, is_name_list, is_field_type, is_field_after, are_fields_after, is_schema, is_span, is_size, is_within, is_shape, is_form_of, is_column, is_clock, is_firing, is_row, is_budget, is_header, is_instr, is_section, is_program}
-use Rattle.wsm_record.specs.Schema.{FieldType, DeclaredField}
+use Rattle.wsm_program.specs.Program.{Header, is_span, is_size, is_shape, is_form_of, is_column, is_clock, is_firing, is_row, is_budget, is_header, is_instr, is_section, is_program}
+use Rattle.wsm_record.specs.Schema.{FieldType, DeclaredField, is_name_list, is_field_type, is_field_after, are_fields_after, is_schema, is_within}
 use Rattle.wsm_record.specs.Schema as field_types
 use Rattle.wsm_query.specs.Tree.{Name, Query, Expr, Number, Truth, Field, EnumName, Key, KeyName, Count, Aggregate, If, Brackets, Minus, Not, Binary, And, Or}
 use Rattle.wsm_check.specs.declared.refusal.CheckFault.TheVariants.{Duplicate, Limit}
@@ -27,7 +27,7 @@ use Rattle.wsm_check.specs.declared.types.Around.TheVariants.{InWhere, InColumn}
 use Rattle.wsm_check.specs.Sizes.{Acc, accumulators, accumulators_of, in_option, fired}
 use Rattle.wsm_check.specs.Checks.{unless, first, ty_refusal, fields_refusal, is_count, shape_fits, every_fits, may_emit, typed_refusal, columns_refusal}
 use Rattle.wsm_compiler.specs.Code.{where_section, update_section, fire_section}
-use Rattle.wsm_check.specs.Spelt.{numbers_fit, is_spelt_type, is_spelt_field, IsSpelt}
+use Rattle.wsm_check.specs.Spelt.{numbers_fit, IsSpelt}
 use Rattle.wsm_compiler.specs.Lawful.{IsLawful}
 use Rattle.wsm_compiler.specs.Program.{column_type, every, stated, needed_of, program_of}
 use Rattle.wsm_machine.proofs.Fitting.{no}

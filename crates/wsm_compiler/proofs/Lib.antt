@@ -40,6 +40,5 @@ pub mod TotalPanes
 pub mod FiringSets
 pub mod SameLines
 pub mod Rules
-pub mod Schemas
 pub mod Assembling
 pub mod Texts

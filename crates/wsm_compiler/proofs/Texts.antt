@@ -13,7 +13,7 @@ use Rattle.wsm_interval.specs.Interval.{in_i64}
 use Rattle.wsm_tokens.proofs.Proper.{tokens_are_proper}
 use Rattle.wsm_tokens.specs.Tokens.{Tokens, tokens}
 use Rattle.wsm_tokens.specs.Read.{Read, Rule, Took, Stopped, ◌>>=◌, give, and_then, unexpected, too_deep, begins, begins_number, behind, is_end, number, ended}
-use Rattle.wsm_record.specs.Schema.{FieldType, DeclaredField}
+use Rattle.wsm_record.specs.Schema.{FieldType, DeclaredField, is_spelt_type, is_spelt_field}
 use Rattle.wsm_record.specs.Schema as field_types
 use Rattle.wsm_query.specs.Tree.{Name, Query, Expr, Number, Truth, Field, EnumName, Key, KeyName, Count, Aggregate, If, Brackets, Minus, Not}
 use Rattle.wsm_query.specs.Grammar as grammar
@@ -21,7 +21,7 @@ use Rattle.wsm_record.specs.declared.limits.TheConstants.{MAX_CHAIN, MAX_LEVELS}
 use Rattle.wsm_query.specs.Grammar.{looked_up, kinds, Deeper, opened, aggregate, count_of, choice, brackets, pointed, leaf, atom, unary, chain, chained, products, sums, comparisons, ands, ors, prod, sum, compared, cmp, neg, conj, expr_in, deeper, levels, expr, int, names, type_of, field, budget, shape, mode, form, every, query}
 use Rattle.wsm_query.specs.Parse.{query_text, outcome, parse}
 use Rattle.wsm_check.specs.Sizes.{in_option}
-use Rattle.wsm_check.specs.Spelt.{numbers_fit, is_spelt_type, is_spelt_field, IsSpelt}
+use Rattle.wsm_check.specs.Spelt.{numbers_fit, IsSpelt}
 use Rattle.wsm_compiler.specs.Lawful.{ParsedIsSpelt}
 use Rattle.wsm_compiler.proofs.Suiting.{err≢ok}
 use Rattle.wsm_compiler.proofs.Rules.{Proper, Sound, Gives, Anything, behind_proper, gives, goes_on, asks, eithers, sees, afters, untils, clauses, optionals, braces, lists, words, IsName, IsNumber, names_are, numbers_are}

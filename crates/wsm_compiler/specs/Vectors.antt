@@ -12,7 +12,8 @@ use Rattle.wsm_query.specs.Tree.{Query, Expr, Number, Truth, Field, Count, Aggre
 use Rattle.wsm_program.specs.declared.instr.Instr.TheVariants as instr
 use Rattle.wsm_program.specs.declared.operation.Operation.TheVariants as operation
 use Rattle.wsm_program.specs.declared.instr.SectionId.TheVariants.{Where, Update, Fire}
-use Rattle.wsm_program.specs.Program.{is_schema, is_header, is_section, is_program}
+use Rattle.wsm_program.specs.Program.{is_header, is_section, is_program}
+use Rattle.wsm_record.specs.Schema.{is_schema}
 use Rattle.wsm_record.specs.Name.{is_reserved}
 use Rattle.wsm_bytecode.specs.Spelling.{spelling, header, schema, code, instr as spelled_instr, long, signed}
 use Rattle.wsm_bytecode.specs.Vectors.{base_bytes}

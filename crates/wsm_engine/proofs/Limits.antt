@@ -5,7 +5,8 @@ use Rattle.std.proofs.lemmas.Int.{ints}
 use Rattle.wsm_windows.specs.Life.{live_bound}
 use Rattle.wsm_admission.specs.Clock.{IsWithinLimits}
 use Rattle.wsm_semantics.specs.HeldBounds.{most_panes}
-use Rattle.wsm_program.specs.Program.{Header, Program, is_within, is_schema, is_clock, is_firing, is_row, is_budget, is_stated, is_header, is_program, latest_time}
+use Rattle.wsm_program.specs.Program.{Header, Program, is_clock, is_firing, is_row, is_budget, is_stated, is_header, is_program, latest_time}
+use Rattle.wsm_record.specs.Schema.{is_within, is_schema}
 use Rattle.wsm_program.proofs.Within.{at_most}
 use Rattle.wsm_program.specs.declared.program.Costs.{Costs}
 use Rattle.wsm_verifier.specs.Costs.{needed}

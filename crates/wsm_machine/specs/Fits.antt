@@ -4,7 +4,8 @@ use Rattle.wsm_interval.specs.Interval.{Holds}
 use Rattle.wsm_program.specs.declared.instr.Instr.{Instr}
 use Rattle.wsm_program.specs.declared.instr.Instr.TheVariants.{PushInt, Field, Acc, Count, Return}
 use Rattle.wsm_program.specs.declared.instr.SectionId.{SectionId}
-use Rattle.wsm_program.specs.Program.{Program, section, is_i64}
+use Rattle.wsm_program.specs.Program.{Program, section}
+use Rattle.wsm_record.specs.Schema.{is_i64}
 use Rattle.wsm_verifier.specs.declared.known.Known.{Known}
 use Rattle.wsm_verifier.specs.declared.known.Known.TheVariants.{Number, Truth, NameOf}
 use Rattle.wsm_verifier.specs.Labels as labels

@@ -3,8 +3,8 @@ use Rattle.std.proofs.Common.{leb, ◌≡◌, ◌≤◌, true, ◌&&◌, length,
 use Rattle.std.specs.List.{list_all}
 use Rattle.std.proofs.lemmas.Bool.{leb-true, and_parts}
 use Rattle.wsm_record.specs.Name.{is_between}
-use Rattle.wsm_record.specs.Schema.{Declared}
-use Rattle.wsm_program.specs.Program.{Header, Program, is_name_list, are_fields_after, is_within, latest_time, is_span, is_size, is_shape, is_form_of, is_column, is_schema, is_clock, is_firing, is_row, is_budget, is_header, is_instr, is_section, is_program, section}
+use Rattle.wsm_record.specs.Schema.{Declared, is_name_list, are_fields_after, is_within, is_schema}
+use Rattle.wsm_program.specs.Program.{Header, Program, latest_time, is_span, is_size, is_shape, is_form_of, is_column, is_clock, is_firing, is_row, is_budget, is_header, is_instr, is_section, is_program, section}
 use Rattle.wsm_program.specs.declared.instr.Instr.{Instr}
 use Rattle.wsm_program.specs.declared.instr.SectionId.{SectionId}
 use Rattle.wsm_program.specs.declared.instr.SectionId.TheVariants.{Where, Update, Fire}

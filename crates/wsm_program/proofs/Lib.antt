@@ -1,5 +1,4 @@
 pub mod NamesOf
-pub mod Places
 pub mod Within
 pub mod Lawful
 pub mod Stating

@@ -2,7 +2,8 @@
 use Rattle.std.proofs.Common.{Bool, ◌&&◌, IsTrue, arith}
 use Rattle.std.proofs.lemmas.Grind.{common_steps}
 use Rattle.wsm_program.specs.declared.program.Costs.{Costs}
-use Rattle.wsm_program.specs.Program.{Program, stating, is_schema, is_clock, is_firing, is_row, is_budget, is_header, is_section, is_program}
+use Rattle.wsm_program.specs.Program.{Program, stating, is_clock, is_firing, is_row, is_budget, is_header, is_section, is_program}
+use Rattle.wsm_record.specs.Schema.{is_schema}
 
 -- the last of five tests is another that holds as well
 exchanged : (a b c d e f rest : Bool) → IsTrue ((a && (b && (c && (d && e)))) && rest) → IsTrue f → IsTrue ((a && (b && (c && (d && f)))) && rest)

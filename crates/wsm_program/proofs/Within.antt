@@ -4,7 +4,7 @@ use Rattle.std.specs.Prelude.{int_le}
 use Rattle.std.proofs.lemmas.Int.{ints}
 use Rattle.std.proofs.lemmas.Bool.{leb-true, and_parts, and_from}
 use Rattle.wsm_record.specs.Name.{is_between}
-use Rattle.wsm_program.specs.Program.{is_i64, is_within}
+use Rattle.wsm_record.specs.Schema.{is_i64, is_within}
 
 pub le_through : (a b c : ℤ) → int_le a b ≡ true → int_le b c ≡ true → int_le a c ≡ true
 le_through a b c p q = grind (arith, ints)

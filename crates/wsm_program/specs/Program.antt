@@ -1,14 +1,14 @@
 -- Programs, without where they lie in memory, and what holds of each.
-use Rattle.std.specs.Prelude.{ℕ, zero, suc, Bool, true, false, ◌&&◌, not, List, [], ◌∷◌, ◌++◌, length, ℤ, pos, negsuc, int_le, nat_le, nat_lt, Option, Some, None, is_some, slice_get}
+use Rattle.std.specs.Prelude.{ℕ, zero, suc, Bool, true, false, ◌&&◌, List, length, ℤ, pos, nat_le, nat_lt, Option, Some, None, is_some, slice_get}
 use Rattle.std.specs.List.{list_all}
 use Rattle.wsm_record.specs.declared.Kind.{Kind}
 use Rattle.wsm_record.specs.declared.Mode.{Mode}
 use Rattle.wsm_record.specs.declared.Mode.TheVariants.{Discarding, Accumulating}
 use Rattle.wsm_record.specs.declared.Form.{Form}
 use Rattle.wsm_record.specs.declared.Form.TheVariants.{Panes}
-use Rattle.wsm_record.specs.declared.limits.TheConstants.{LATEST_TIME, LONGEST_SPAN, MAX_ACCUMULATORS, MAX_COLUMNS, MAX_FIELDS, MAX_NAMES, MAX_PANES, MAX_SECTION, MAX_STATED}
-use Rattle.wsm_record.specs.Name.{is_name, is_among, is_between}
-use Rattle.wsm_record.specs.Schema.{FieldType, Int, Truth, Enum, DeclaredField, Declared}
+use Rattle.wsm_record.specs.declared.limits.TheConstants.{LATEST_TIME, LONGEST_SPAN, MAX_ACCUMULATORS, MAX_COLUMNS, MAX_PANES, MAX_SECTION, MAX_STATED}
+use Rattle.wsm_record.specs.Name.{is_between}
+use Rattle.wsm_record.specs.Schema.{FieldType, Enum, DeclaredField, Declared, is_within, is_i64, is_schema}
 use Rattle.wsm_windows.specs.declared.Shape.{Shape}
 use Rattle.wsm_windows.specs.declared.Shape.TheVariants.{Fixed, Sliding, Session}
 use Rattle.wsm_record.specs.declared.words.CellType.{CellType}
@@ -68,38 +68,6 @@ enum_names s zero = Some s.keys
 enum_names s (suc f) = names_of_field (slice_get s.fields f)
 
 -- ---- what holds of each program
-
-abbrev pub is_within : ℤ → ℤ → ℤ → Bool
-is_within lo hi n = int_le lo n && int_le n hi
-
--- from -2^63 to 2^63 - 1
-abbrev pub is_i64 : ℤ → Bool
-is_i64 n = is_within (negsuc 9223372036854775807) (pos 9223372036854775807) n
-
--- names, none of them one of those before it
-abbrev pub are_names_after : List Name → List Name → Bool
-are_names_after before [] = true
-are_names_after before (n ∷ ns) = is_name n && (not (is_among n before) && are_names_after (before ++ n ∷ []) ns)
-
--- 1 to 1,000 of them
-abbrev pub is_name_list : List Name → Bool
-is_name_list ns = is_between 1 MAX_NAMES (length ns) && are_names_after [] ns
-
-abbrev pub is_field_type : FieldType → Bool
-is_field_type (Int lo hi) = is_i64 lo && (is_i64 hi && int_le lo hi)
-is_field_type Truth = true
-is_field_type (Enum names) = is_name_list names
-
--- its name is none of those before
-abbrev pub is_field_after : List Name → DeclaredField → Bool
-is_field_after before f = is_name f.name && (not (is_among f.name before) && is_field_type f.type)
-
-abbrev pub are_fields_after : List Name → List DeclaredField → Bool
-are_fields_after before [] = true
-are_fields_after before (f ∷ fs) = is_field_after before f && are_fields_after (before ++ f.name ∷ []) fs
-
-unfoldable pub is_schema : Declared → Bool
-is_schema s = is_name_list s.keys && (nat_le (length s.fields) MAX_FIELDS && are_fields_after [] s.fields)
 
 abbrev pub latest_time : ℤ
 latest_time = LATEST_TIME

@@ -1,20 +1,19 @@
 //! What reading asks of a program, asked of its parts.
 
-ghost use Rattle.std.specs.Prelude.{nat_le, ◌≡◌, ◌<◌, ◌&&◌, ℕ, List, [], length, not, take, map, slice_get, bytes_eq, Some};
-ghost use Rattle.std.specs.List.{list_all, list_any};
-ghost use Rattle.wsm_record.specs.Name.{is_name, is_among, is_between};
-ghost use Rattle.wsm_record.specs.Fields.{type_seen, field_seen};
-ghost use Rattle.wsm_program.specs.Program.{is_within, is_name_list, is_field_type, is_field_after, are_fields_after, is_schema, is_shape, is_form_of, is_column, are_names_after, is_clock, is_firing, is_row, is_budget, is_header, is_instr, is_section, is_program};
+ghost use Rattle.std.specs.Prelude.{◌≡◌};
+ghost use Rattle.std.specs.List.{list_all};
+ghost use Rattle.wsm_record.specs.Name.{is_between};
+ghost use Rattle.wsm_program.specs.Program.{is_shape, is_form_of, is_column, is_clock, is_firing, is_row, is_budget, is_header, is_instr, is_section, is_program};
+ghost use Rattle.wsm_record.specs.Schema.{is_within};
 ghost use Rattle.wsm_program.specs.View.{header_of, program_of};
 
 use crate::enums::{name_count, names};
 use crate::instr::Instr;
 use crate::program::{Costs, Header};
 use wsm_record::limits::{
-    LATEST_TIME, LONGEST_SPAN, MAX_ACCUMULATORS, MAX_COLUMNS, MAX_FIELDS, MAX_PANES, MAX_SECTION,
-    MAX_STATED,
+    LATEST_TIME, LONGEST_SPAN, MAX_ACCUMULATORS, MAX_COLUMNS, MAX_PANES, MAX_SECTION, MAX_STATED,
 };
-use wsm_record::{CellType, DeclaredField, FieldType, Form, Mode, Name, Names, Schema};
+use wsm_record::{CellType, Form, Mode, Schema};
 use wsm_windows::Shape;
 
 /// Whether these are the parts of a program.
@@ -37,8 +36,8 @@ pub(crate) fn is_lawful(
 fn is_lawful_header(header: &Header) -> bool
     ensures { result ≡ is_header (header_of header.now) }
 {
-    is_lawful_schema(&header.schema)
-        && is_lawful_clock(header)
+    header.schema.is_declared();
+    is_lawful_clock(header)
         && is_lawful_firing(header)
         && is_lawful_row(header)
         && is_lawful_budget(header.budget)
@@ -157,105 +156,5 @@ fn is_lawful_instr(header: &Header, instr: Instr) -> bool
             (accumulator as usize) < header.kinds.len()
         }
         _ => true,
-    }
-}
-
-#[tactic(auto, unfolding(crate::specs::Program::is_schema))]
-fn is_lawful_schema(schema: &Schema) -> bool
-    ensures { result ≡ is_schema schema.now }
-{
-    are_lawful_names(schema.keys()) && are_lawful_fields(schema.fields())
-}
-
-/// At most 16 fields, none of whose names stands twice.
-fn are_lawful_fields(fields: &[DeclaredField]) -> bool
-    ensures { result ≡ (nat_le (length fields.now) 16 && are_fields_after [] (map field_seen fields.now)) }
-{
-    fields.len() <= MAX_FIELDS && are_new_fields(fields)
-}
-
-fn are_new_fields(fields: &[DeclaredField]) -> bool
-    ensures { result ≡ are_fields_after [] (map field_seen fields.now) }
-{
-    for place in 0..fields.len() {
-        if !is_new_field(&fields[..place], &fields[place]) {
-            return false;
-        }
-    }
-    true
-}
-
-fn is_new_field(before: &[DeclaredField], field: &DeclaredField) -> bool
-    ensures { result ≡ is_field_after (map (λ f. f.name) before.now) (field_seen field.now) }
-{
-    is_lawful_name(field.name.as_bytes())
-        && is_new_name(&field.name, before)
-        && is_lawful_type(&field.ty)
-}
-
-fn is_lawful_name(text: &[u8]) -> bool
-    ensures { result ≡ is_name text.now }
-{
-    Name::new(text).is_some()
-}
-
-fn is_new_name(name: &Name, fields: &[DeclaredField]) -> bool
-    ensures { result ≡ not (is_among name.now (map (λ f. f.name) fields.now)) }
-{
-    !names_one_of(name, fields)
-}
-
-fn names_one_of(name: &Name, fields: &[DeclaredField]) -> bool
-    ensures { result ≡ list_any (λ f. bytes_eq name.now f.name) fields.now }
-{
-    fields.iter().any(|field| *name == field.name)
-}
-
-fn is_lawful_type(ty: &FieldType) -> bool
-    ensures { result ≡ is_field_type (type_seen ty.now) }
-{
-    match ty {
-        FieldType::Int { lo, hi } => *lo <= *hi,
-        FieldType::Bool => true,
-        FieldType::Enum(list) => are_lawful_names(list),
-    }
-}
-
-/// 1 to 1,000 names, none of them twice.
-fn are_lawful_names(list: &Names) -> bool
-    ensures { result ≡ is_name_list list.now }
-{
-    let count = list.len();
-    0 < count && are_new_names(list, count as u16)
-}
-
-fn are_new_names(list: &Names, count: u16) -> bool
-    requires { count ≡ length list.now }
-    ensures { result ≡ are_names_after [] list.now }
-{
-    for number in 0..count {
-        if !is_first_name(list, number) {
-            return false;
-        }
-    }
-    true
-}
-
-/// A name is found at its own number, if none of those before it is the same.
-fn is_first_name(list: &Names, number: u16) -> bool
-    requires { number < length list.now }
-    ensures { (name : List ℕ) → slice_get list.now number ≡ Some name → result ≡ (is_name name && not (is_among name (take number list.now))) }
-{
-    let text = list.text_of(number);
-    is_lawful_name(text) && is_first(list, text, number)
-}
-
-fn is_first(list: &Names, text: &[u8], number: u16) -> bool
-    requires { slice_get list.now number ≡ Some text.now }
-    ensures { result ≡ not (is_among text.now (take number list.now)) }
-{
-    match list.number_of(text) {
-        Some(first) => first == number,
-        None => false,
     }
 }

@@ -1,3 +1,5 @@
 pub mod Lists
 pub mod Declaring
 pub mod Fitting
+pub mod Spellings
+pub mod Schemas

@@ -39,11 +39,11 @@ pub not-true : (a b : Bool) → a ≡ not b → a ≡ true → b ≡ false
 not-true a true e h = sym h ∙ e
 not-true a false e h = refl
 
-or_left : (a b : Bool) → (a || b) ≡ false → a ≡ false
+pub or_left : (a b : Bool) → (a || b) ≡ false → a ≡ false
 or_left true b h = h
 or_left false b h = refl
 
-or_right : (a b : Bool) → (a || b) ≡ false → b ≡ false
+pub or_right : (a b : Bool) → (a || b) ≡ false → b ≡ false
 or_right true b h = cc
 or_right false b h = h
 

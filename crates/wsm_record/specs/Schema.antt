@@ -1,10 +1,10 @@
 -- What a query declares of its records, and which values fit.
-use Rattle.std.specs.Prelude.{ℕ, Bool, true, false, ◌&&◌, ◌||◌, cond, List, [], ◌∷◌, ◌++◌, length, ℤ, int_le, int_lt, nat_lt, nat_eq, Option, Some, None}
-use Rattle.std.specs.List.{list_any}
+use Rattle.std.specs.Prelude.{ℕ, Bool, true, false, ◌&&◌, ◌||◌, not, cond, List, [], ◌∷◌, ◌++◌, length, ℤ, pos, negsuc, int_le, int_lt, nat_le, nat_lt, nat_eq, Option, Some, None}
+use Rattle.std.specs.List.{list_all, list_any}
 use Rattle.wsm_record.specs.declared.limits.TheConstants.{MAX_FIELDS, MAX_NAMES}
 use Rattle.wsm_record.specs.declared.schema.SchemaRefusal.{SchemaRefusal}
 use Rattle.wsm_record.specs.declared.schema.SchemaRefusal.TheVariants.{NoKeys, TooMany, DuplicateName, EmptyRange}
-use Rattle.wsm_record.specs.Name.{is_among, repeats_after}
+use Rattle.wsm_record.specs.Name.{is_name, is_among, is_between, repeats_after}
 use Rattle.wsm_record.specs.declared.event.Value.{Value}
 use Rattle.wsm_record.specs.declared.event.Value.TheVariants as values
 
@@ -67,3 +67,47 @@ schema_refusal d =
     cond (nat_eq (length d.keys) 0) (Some NoKeys)
     (cond (is_too_many d) (Some TooMany)
     (cond (repeats_after [] d.keys) (Some DuplicateName) (fields_refusal [] d.fields)))
+
+-- ---- what holds of each schema
+
+abbrev pub is_within : ℤ → ℤ → ℤ → Bool
+is_within lo hi n = int_le lo n && int_le n hi
+
+-- from -2^63 to 2^63 - 1
+abbrev pub is_i64 : ℤ → Bool
+is_i64 n = is_within (negsuc 9223372036854775807) (pos 9223372036854775807) n
+
+-- names, none of them one of those before it
+abbrev pub are_names_after : List (List ℕ) → List (List ℕ) → Bool
+are_names_after before [] = true
+are_names_after before (n ∷ ns) = is_name n && (not (is_among n before) && are_names_after (before ++ n ∷ []) ns)
+
+-- 1 to 1,000 of them
+abbrev pub is_name_list : List (List ℕ) → Bool
+is_name_list ns = is_between 1 MAX_NAMES (length ns) && are_names_after [] ns
+
+abbrev pub is_field_type : FieldType → Bool
+is_field_type (Int lo hi) = is_i64 lo && (is_i64 hi && int_le lo hi)
+is_field_type Truth = true
+is_field_type (Enum names) = is_name_list names
+
+-- its name is none of those before
+abbrev pub is_field_after : List (List ℕ) → DeclaredField → Bool
+is_field_after before f = is_name f.name && (not (is_among f.name before) && is_field_type f.type)
+
+abbrev pub are_fields_after : List (List ℕ) → List DeclaredField → Bool
+are_fields_after before [] = true
+are_fields_after before (f ∷ fs) = is_field_after before f && are_fields_after (before ++ f.name ∷ []) fs
+
+unfoldable pub is_schema : Declared → Bool
+is_schema d = is_name_list d.keys && (nat_le (length d.fields) MAX_FIELDS && are_fields_after [] d.fields)
+
+-- ---- what the types of the code keep: names are names, and numbers have 64 bits
+
+abbrev pub is_spelt_type : FieldType → Bool
+is_spelt_type (Int lo hi) = is_i64 lo && is_i64 hi
+is_spelt_type Truth = true
+is_spelt_type (Enum names) = list_all is_name names
+
+abbrev pub is_spelt_field : DeclaredField → Bool
+is_spelt_field f = is_name f.name && is_spelt_type f.type

@@ -10,6 +10,7 @@ pub use name::Name;
 pub use names::Names;
 pub use reserved::is_keyword;
 pub use schema::{DeclaredField, Field, FieldType, Schema, SchemaRefusal, Ty};
+pub use spelling::{are_names, are_spelt};
 pub use words::{CellType, Form, Kind, Mode};
 
 mod event;
@@ -18,6 +19,7 @@ mod name;
 mod names;
 mod reserved;
 mod schema;
+mod spelling;
 #[cfg(test)]
 mod tests;
 mod words;

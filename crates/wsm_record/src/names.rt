@@ -6,6 +6,7 @@ ghost use Rattle.wsm_record.specs.Name.{repeats_after};
 use crate::limits::MAX_NAMES;
 use crate::name::Name;
 use crate::schema::SchemaRefusal;
+use crate::spelling::are_names;
 use indexmap::IndexSet;
 use std::alloc::{AllocError, Global};
 use std::marker::Model;
@@ -22,14 +23,14 @@ pub struct Names {
 }
 
 impl Model for Names {
-    ghost use Rattle.std.specs.Prelude.{◌≡◌, ◌≤◌, ℕ, List, [], length, map, false};
-    ghost use Rattle.wsm_record.specs.Name.{repeats_after};
+    ghost use Rattle.std.specs.Prelude.{◌≡◌, ◌≤◌, ℕ, List, [], length, map, true};
+    ghost use Rattle.wsm_record.specs.Schema.{are_names_after};
 
     ghost Value = { List (List ℕ) };
 
     ghost view = { λ a. map (λ v. v.items) a.texts.keys };
 
-    ghost invariant = { λ a. (length a.texts.keys ≤ 1000) × (repeats_after [] (map (λ v. v.items) a.texts.keys) ≡ false) };
+    ghost invariant = { λ a. (length a.texts.keys ≤ 1000) × (are_names_after [] (map (λ v. v.items) a.texts.keys) ≡ true) };
 }
 
 impl Names {
@@ -41,6 +42,7 @@ impl Names {
         ensures only { IfErr result (λ r. (r ≡ SchemaRefusal.Memory) ⊎ (r ≡ SchemaRefusal.DuplicateName)) }
         ensures repeated { result ≡ Err SchemaRefusal.DuplicateName → repeats_after [] names.now ≡ true }
     {
+        are_names(names);
         let mut texts = IndexSet::with_capacity(alloc, names.len())?;
         for name in names {
             if !texts.insert(name.as_bytes().to_vec(alloc)?)? {

@@ -1,7 +1,7 @@
 //! What a query declares of its records.
 
-ghost use Rattle.std.specs.Prelude.{false, ◌≡◌, ◌≢◌, ◌<◌, ◌≤◌, ◌⊎◌, ℕ, List, [], length, map, position, bytes_eq, Some, None, Ok, Err, slice_get, IfOk, IfErr};
-ghost use Rattle.wsm_record.specs.Schema.{fits_type, fit_fields, type_refusal, fields_refusal, schema_refusal, is_too_many, has_too_many_names};
+ghost use Rattle.std.specs.Prelude.{false, IsTrue, ◌≡◌, ◌≢◌, ◌<◌, ◌≤◌, ◌⊎◌, ℕ, List, [], length, map, position, bytes_eq, Some, None, Ok, Err, slice_get, IfOk, IfErr};
+ghost use Rattle.wsm_record.specs.Schema.{is_schema, fits_type, fit_fields, type_refusal, fields_refusal, schema_refusal, is_too_many, has_too_many_names};
 ghost use Rattle.std.specs.List.{list_any};
 ghost use Rattle.wsm_record.specs.Fields.{declared_type, declared_field, type_seen, field_seen, declared_of};
 
@@ -9,6 +9,7 @@ use crate::event::Value;
 use crate::limits::{MAX_FIELDS, MAX_NAMES};
 use crate::name::Name;
 use crate::names::Names;
+use crate::spelling::{are_names, are_spelt};
 use std::alloc::{AllocError, AllocFailed, Global};
 use std::marker::Model;
 use thiserror::Error;
@@ -130,15 +131,15 @@ pub struct Schema {
 }
 
 impl Model for Schema {
-    ghost use Rattle.std.specs.Prelude.{false, ◌≡◌, None, map};
-    ghost use Rattle.wsm_record.specs.Schema.{Declared, schema_refusal};
+    ghost use Rattle.std.specs.Prelude.{IsTrue, map};
+    ghost use Rattle.wsm_record.specs.Schema.{Declared, is_schema};
     ghost use Rattle.wsm_record.specs.Fields.{field_seen};
 
     ghost Value = { Declared };
 
     ghost view = { λ a. record { keys = a.keys; fields = map field_seen a.fields.items } };
 
-    ghost invariant = { λ a. schema_refusal (record { keys = a.keys; fields = map field_seen a.fields.items }) ≡ None };
+    ghost invariant = { λ a. IsTrue (is_schema (record { keys = a.keys; fields = map field_seen a.fields.items })) };
 }
 
 impl Schema {
@@ -154,9 +155,19 @@ impl Schema {
         if exceed(keys, fields) {
             return Err(SchemaRefusal::TooMany);
         }
+        are_names(keys);
+        are_spelt(fields);
         let keys = Names::collect(alloc, keys)?;
         let fields = declare(alloc, fields)?;
         Ok(Schema { keys, fields })
+    }
+
+    /// There are keys, names are names, none stands twice, and each field has a value. A call does
+    /// nothing.
+    pub fn is_declared(&self)
+        ensures { IsTrue (is_schema self.now) }
+    {
+        let _ = &self.keys;
     }
 
     /// The declared keys.

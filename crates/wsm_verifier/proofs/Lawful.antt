@@ -5,7 +5,7 @@ use Rattle.std.proofs.lemmas.Int.{ints}
 use Rattle.std.proofs.Math.Nat.{div-le_self, mul-le-mul_right, mul-le-mul_left}
 use Rattle.std.specs.Prelude.{nat_le, unsigned_abs}
 use Rattle.std.specs.Int.{div_ceil}
-use Rattle.wsm_record.specs.Schema.{Declared}
+use Rattle.wsm_record.specs.Schema.{Declared, is_within, is_schema, is_name_list}
 use Rattle.wsm_windows.specs.declared.Shape.{Shape}
 use Rattle.wsm_windows.specs.declared.Shape.TheVariants.{Fixed, Sliding, Session}
 use Rattle.wsm_windows.specs.Windows.{IsShape, IsSpan}
@@ -13,7 +13,7 @@ use Rattle.wsm_windows.specs.Life.{live_bound}
 use Rattle.wsm_program.specs.declared.Instr.{Instr}
 use Rattle.wsm_program.specs.declared.SectionId.{SectionId}
 use Rattle.wsm_program.specs.declared.SectionId.TheVariants.{Where, Update, Fire}
-use Rattle.wsm_program.specs.Program.{Header, Program, section, is_within, is_span, is_size, is_shape, is_section, is_header, is_program, is_schema, is_name_list, is_clock, is_firing, is_row, latest_time}
+use Rattle.wsm_program.specs.Program.{Header, Program, section, is_span, is_size, is_shape, is_section, is_header, is_program, is_clock, is_firing, is_row, latest_time}
 use Rattle.wsm_program.proofs.Lawful.{short_section}
 
 pub within : (lo hi n : ℤ) → is_within lo hi n ≡ true → (lo ≤ℤ n) × (n ≤ℤ hi)

@@ -5,7 +5,7 @@
 ghost use Rattle.std.specs.Prelude.{◌≡◌};
 ghost use Rattle.std.specs.Int.{w8, w16, w64};
 ghost use Rattle.wsm_record.specs.Name.{is_between};
-ghost use Rattle.wsm_program.specs.Program.{is_within};
+ghost use Rattle.wsm_record.specs.Schema.{is_within};
 ghost use Rattle.wsm_bytecode.specs.Reading.{Gives, number_at, signed_at, judged};
 
 use wsm_program::DecodeRefusal;

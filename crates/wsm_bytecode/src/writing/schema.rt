@@ -4,7 +4,7 @@ ghost use Rattle.std.specs.Prelude.{◌≡◌, ◌++◌, ◌<◌, ◌&&◌, map,
 ghost use Rattle.std.specs.List.{flat_map, list_all};
 ghost use Rattle.wsm_record.specs.Name.{is_name};
 ghost use Rattle.wsm_record.specs.Fields.{type_seen, field_seen};
-ghost use Rattle.wsm_program.specs.Program.{is_field_type, is_schema};
+ghost use Rattle.wsm_record.specs.Schema.{is_field_type, is_schema};
 ghost use Rattle.wsm_bytecode.specs.Spelling.{byte, name as name_bytes, names as names_bytes, field_type as type_bytes, field as field_bytes, schema as schema_bytes};
 
 use crate::writing::numbers::{put_two, put_u8, put_u16};

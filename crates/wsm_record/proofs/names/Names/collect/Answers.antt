@@ -1,8 +1,10 @@
-use Rattle.std.proofs.Common.{◌≡◌, ◌∙◌, ◌<◌, ◌+◌, ◌++◌, ◌||◌, ℕ, Bool, List, [], ◌∷◌, length, map, take, drop, get_or, true, false, if◌then◌else◌, bytes_eq, ap, sym, arith}
-use Rattle.std.proofs.lemmas.List.{take_more, map-append}
+use Rattle.std.proofs.Common.{◌≡◌, ◌∙◌, ◌<◌, ◌≤◌, ◌+◌, ◌++◌, ◌||◌, ℕ, Bool, List, [], ◌∷◌, length, map, take, drop, get_or, true, false, if◌then◌else◌, bytes_eq, ap, sym, arith}
+use Rattle.std.proofs.lemmas.List.{take_more, map-append, length-map, drop_all, take_all}
 use Rattle.std.specs.List.{list_any}
 use Rattle.wsm_record.specs.Name.{is_among, repeats_after}
+use Rattle.wsm_record.specs.Schema.{are_names_after}
 use Rattle.wsm_record.proofs.Lists.{list_any-map, repeats_after-next, not-false, not-true}
+use Rattle.wsm_record.proofs.Schemas.{taken_lawful}
 use Rattle.wsm_record.proofs.names.Names.collect.Goals as goal
 
 -- whether a text was taken already
@@ -41,3 +43,12 @@ loop-name-preserved c =
       taken = taken_next (λ v. v.items) c.loop-name.texts.keys c.insert.new.self.keys c.in_ok-to_vec.field-0 x names i _ c.loop-name.invariant.taken is (omega arith) c.name-item.is absent c.in_ok-insert.ensures.keys;
       repeated = sym (repeats_after-next names i x (omega arith) c.name-item.is ∙ ap (λ (b : Bool). b || repeats_after (take (i + 1) names) (drop (i + 1) names)) here) ∙ c.loop-name.invariant.repeated;
     }
+
+pub invariant_of-result : goal.invariant_of-result
+invariant_of-result c =
+    let names = c.args.names.now in
+    let i = c.loop-name.name-index in
+    let all : length names ≤ i = omega arith in
+    let taken = c.loop-name.invariant.taken ∙ take_all i names all in
+    let count : length c.loop-name.texts.keys ≡ length names = sym (length-map c.loop-name.texts.keys (λ v. v.items)) ∙ ap (λ (l : List (List ℕ)). length l) taken in
+    (omega (arith, count), ap (are_names_after []) c.loop-name.invariant.taken ∙ taken_lawful names (take i names) (drop i names) c.are_names.ensures c.loop-name.invariant.repeated (take_all i names all) (drop_all i names all))

@@ -1,14 +1,15 @@
-//! Names are names, and numbers have 64 bits: facts that the types of a query keep.
+//! Names are names, and numbers have 64 bits: facts that the types of a declaration keep.
 
 ghost use Rattle.std.specs.Prelude.{◌≡◌, map, true};
 ghost use Rattle.std.specs.List.{list_all};
 ghost use Rattle.wsm_record.specs.Name.{is_name};
 ghost use Rattle.wsm_record.specs.Fields.{declared_field};
-ghost use Rattle.wsm_check.specs.Spelt.{is_spelt_field};
+ghost use Rattle.wsm_record.specs.Schema.{is_spelt_field};
 
-use wsm_record::{Field, Name, Ty};
+use crate::name::Name;
+use crate::schema::{Field, Ty};
 
-/// Each name is one.
+/// Each name is one. A call does nothing.
 #[tactic(auto, using(crate::proofs::Spellings::all_more))]
 pub fn are_names(names: &[Name])
     ensures { list_all is_name names.now ≡ true }
@@ -18,7 +19,8 @@ pub fn are_names(names: &[Name])
     }
 }
 
-/// Names and numbers of fields are in range.
+/// Each field has a name, each of its names is one, and each of its bounds has 64 bits. A call does
+/// nothing.
 pub fn are_spelt(fields: &[Field])
     ensures { list_all is_spelt_field (map declared_field fields.now) ≡ true }
 {
