@@ -28,6 +28,13 @@ const BASE: Case = Case {
 
 const PROMPT: &str = "START 0; SKEW 100; LATENESS 0; RECORDS 1000";
 
+// A query that counts alone, and admits no record behind the watermark.
+const COUNT: Case = Case {
+    clock: PROMPT,
+    columns: "COUNT(*)",
+    ..BASE
+};
+
 const TWO_RECORDS: Case = Case {
     rows: "r,a,5,7\nr,a,59,3\nw,60\n",
     want: "pane,on_time,a,0,60,2,10\nend,3,2,0,0,1\n",
@@ -127,6 +134,23 @@ fn fixed_windows(rt: HostRuntime) -> Result<(), Fail> {
             rows: "r,b,1,red\nw,60\n",
             want: "pane,on_time,b,0,60,b,blue,false\nend,2,1,0,0,1\n",
             ..BASE
+        },
+    ];
+    all_write(&rt, &cases)
+}
+
+#[test]
+fn counts_of_each_key(rt: HostRuntime) -> Result<(), Fail> {
+    let cases = [
+        Case {
+            rows: "r,a,5,7\nr,b,59,3\nw,60\nr,a,59,1\nw,60\n",
+            want: "pane,on_time,a,0,60,1\npane,on_time,b,0,60,1\nrefused,5,NotRising\nend,5,2,1,1,2\n",
+            ..COUNT
+        },
+        Case {
+            rows: "r,a,100,1\nr,a,101,1\nx\n",
+            want: "refused,2,TooFarAhead\nrefused,3,BadTag\nend,3,1,0,2,0\n",
+            ..COUNT
         },
     ];
     all_write(&rt, &cases)
@@ -270,20 +294,16 @@ fn late_panes(rt: HostRuntime) -> Result<(), Fail> {
 fn streams(rt: HostRuntime) -> Result<(), Fail> {
     let cases = [
         Case {
-            clock: PROMPT,
-            columns: "COUNT(*)",
             form: "ISTREAM",
             rows: "r,a,1,1\nr,b,2,1\nw,60\nw,61\n",
             want: "istream,60,1\nistream,60,1\nend,4,2,0,0,2\n",
-            ..BASE
+            ..COUNT
         },
         Case {
-            clock: PROMPT,
-            columns: "COUNT(*)",
             form: "DSTREAM",
             rows: "r,a,1,1\nr,b,2,1\nw,60\nw,61\n",
             want: "dstream,61,1\ndstream,61,1\nend,4,2,0,0,2\n",
-            ..BASE
+            ..COUNT
         },
         Case {
             clock: "START 0; SKEW 100; LATENESS 100; RECORDS 1000",
@@ -368,6 +388,12 @@ fn queries_are_judged(rt: HostRuntime) -> Result<(), Fail> {
         Case {
             window: "SLIDING 60 EVERY 25 ACCUMULATING",
             want: "accepted,11,4,14\n",
+            ..BASE
+        },
+        Case {
+            clock: PROMPT,
+            window: "SESSION 30 ACCUMULATING",
+            want: "accepted,6,4,10\n",
             ..BASE
         },
         Case {
