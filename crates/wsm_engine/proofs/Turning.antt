@@ -20,7 +20,7 @@ use Rattle.wsm_semantics.specs.Firings.{firings}
 use Rattle.wsm_semantics.specs.Relation.{turn_rows, relation}
 use Rattle.wsm_semantics.specs.Summaries.{Pane, row_of, summary_fired}
 use Rattle.wsm_semantics.specs.Steps as steps
-use Rattle.wsm_semantics.specs.Steps.{answer_to, panes_after, fired_by, relation_after, streamed_by, chosen_rows, step, step_fires, step_rows}
+use Rattle.wsm_semantics.specs.Steps.{answer_to, panes_after, fired_by, relation_after, streamed_by, chosen_rows, step, step_fires}
 use Rattle.wsm_semantics.proofs.Lists.{length_each}
 use Rattle.wsm_semantics.proofs.Stepping.{decision-fits}
 use Rattle.wsm_semantics.proofs.Steps.{Fits-step, rows-step, fires-step}

@@ -5,7 +5,6 @@ ghost use Rattle.wsm_record.specs.Event.{Event as AnyEvent, event_of};
 ghost use Rattle.wsm_semantics.specs.Panes.{held};
 ghost use Rattle.wsm_semantics.specs.Relation.{turn_rows};
 ghost use Rattle.wsm_program.specs.Program.{is_program};
-ghost use Rattle.wsm_program.specs.View.{header_of};
 ghost use Rattle.wsm_verifier.specs.Costs.{needed};
 ghost use Rattle.wsm_verifier.specs.Rules.{judge};
 ghost use Rattle.wsm_machine.specs.Meaning.{clock_of, query_of};

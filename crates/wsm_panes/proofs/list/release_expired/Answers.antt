@@ -1,6 +1,4 @@
-use Rattle.std.proofs.Common.{◌≡◌, ◌+◌, Bool, false, true, suc, refl, sym, ◌∙◌, arith, SFits, w64, to_z-of_z, ℕ, get_or, pos}
-use Rattle.std.proofs.lemmas.Bool.{true≢false}
-use Rattle.std.specs.Prelude.{not}
+use Rattle.std.proofs.Common.{◌≡◌, ◌+◌, false, true, suc, sym, ◌∙◌, arith, SFits, w64, to_z-of_z, ℕ, get_or, pos}
 use Rattle.wsm_record.proofs.Lists.{not-false, not-true}
 use Rattle.wsm_semantics.specs.declared.place.Place.{Place}
 use Rattle.wsm_panes.specs.Place.{is_kept}
