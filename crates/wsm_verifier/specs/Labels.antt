@@ -1,5 +1,5 @@
 -- What is known at each place of a section: the hull of all that its incoming edges carry.
-use Rattle.std.specs.Prelude.{ℕ, suc, Bool, true, false, ◌&&◌, cond, List, [], ◌∷◌, ◌++◌, length, take, drop, reverse, nat_eq, nat_lt, Option, Some, None, option_map, slice_index_or, slice_set}
+use Rattle.std.specs.Prelude.{ℕ, Bool, true, false, ◌&&◌, cond, List, [], ◌∷◌, ◌++◌, length, take, drop, reverse, nat_eq, nat_lt, Option, Some, None, option_map, slice_index_or, slice_set}
 use Rattle.std.specs.List.{list_any, filter_map}
 use Rattle.std.specs.Bool.{beq}
 use Rattle.wsm_interval.specs.declared.Interval.{Interval}
