@@ -15,7 +15,7 @@ use Rattle.wsm_record.specs.declared.words.Kind.{Kind}
 use Rattle.wsm_windows.specs.declared.window.Window.{Window}
 use Rattle.wsm_windows.specs.declared.window.Shape.{Shape}
 use Rattle.wsm_windows.specs.declared.window.Shape.TheVariants.{Fixed, Sliding, Session}
-use Rattle.wsm_windows.specs.Windows.{windows_of_shape}
+use Rattle.wsm_windows.specs.Windows.{period_of, size_of, windows_of, windows_of_shape}
 use Rattle.wsm_fold.specs.Fold.{are_of_kinds, joins}
 use Rattle.wsm_fold.specs.Accumulators.{SumsFit}
 use Rattle.wsm_fold.proofs.Rows.{length-are_of_kinds, are_of_kinds-joins}
@@ -50,10 +50,16 @@ in_ring (Fixed size) list ring grid = refl
 in_ring (Sliding size period) list ring grid = refl
 in_ring (Session gap) list ring grid = absurd (grid gap refl)
 
-entered_assigned : {X : Type 0} (plan : Plan X) (s : Shape) → ((gap : ℤ) → s ≢ Session gap) → (d : Datum) (es : List (Place × Pane X)) → entered plan s d es ≡ assigned plan d (windows_of_shape s d.time) es
+pub entered_assigned : {X : Type 0} (plan : Plan X) (s : Shape) → ((gap : ℤ) → s ≢ Session gap) → (d : Datum) (es : List (Place × Pane X)) → entered plan s d es ≡ assigned plan d (windows_of_shape s d.time) es
 entered_assigned plan (Fixed size) other d es = refl
 entered_assigned plan (Sliding size period) other d es = refl
 entered_assigned plan (Session gap) other d es = absurd (other gap refl)
+
+-- and they are those of a size and a period
+pub windows_grid : (s : Shape) → ((gap : ℤ) → s ≢ Session gap) → (t : ℤ) → windows_of_shape s t ≡ windows_of (size_of s) (period_of s) t
+windows_grid (Fixed size) grid t = refl
+windows_grid (Sliding size period) grid t = refl
+windows_grid (Session gap) grid t = absurd (grid gap refl)
 
 module _ (kinds : List Kind) (values : List Value) where
   roomy : (e : Place × Pane (List Value)) → IsRoomy kinds values e → CanRecord kinds values e.1

@@ -55,7 +55,7 @@ near_numbers p b m n v w e f near = by_lt_z {P = n <ℤ (m +ℤ pos b)} n (m +�
     let is : w ≡ v +ℤ pos (k.0 * p) = f ∙ ap (λ (z : ℤ). z *ℤ pos p) k.1 ∙ times_more m k.0 p ∙ ap (λ (z : ℤ). z +ℤ pos (k.0 * p)) (sym e) in
     absurd (omega (arith, ints, near, is, most)))
 
-rising_numbers : (p : ℕ) (m n v w : ℤ) → 0 < p → v ≡ m *ℤ pos p → w ≡ n *ℤ pos p → v ≤ℤ w → m ≤ℤ n
+pub rising_numbers : (p : ℕ) (m n v w : ℤ) → 0 < p → v ≡ m *ℤ pos p → w ≡ n *ℤ pos p → v ≤ℤ w → m ≤ℤ n
 rising_numbers p m n v w h e f le = by_lt_z {P = m ≤ℤ n} n m (λ less.
     let k = past_by n m (omega (arith, ints, less)) in
     let some : 1 ≤ k.0 = omega (arith, ints, less, k.1) in

@@ -237,6 +237,16 @@ module _ {P : Type 0} where
         (omega (arith, ints, in_old.0, more.0), omega (arith, ints, in_old.1, more.1))
   ]
 
+  -- where no entry is new, the place's own was there, and lies between the times
+  pub held_between : (os : List (Option (Place × P))) (i : ℕ) (p : Place) (v : P) (first last : ℤ) → i < length os → AreBetween first last os → (slot_at os i ≡ None) ⊎ ((w : P) × (slot_at os i ≡ Some (p, w))) → length (held (set os i (Some (p, v)))) ≡ length (held os) → (first ≤ℤ p.start) × (p.start ≤ℤ last)
+  held_between os i p v first last within between own same = elim own [
+    | inl none ↦
+        let count : length (held (set os i (Some (p, v)))) + option_len (slot_at os i) ≡ length (held os) + 1 = held_set os i (Some (p, v)) within in
+        let zero_len : option_len (slot_at os i) ≡ 0 = ap (λ (o : Option (Place × P)). option_len o) none in
+        absurd (omega (arith, count, zero_len, same))
+    | inr there ↦ between i (p, there.0) there.1
+  ]
+
   pub between_less : (os ns : List (Option (Place × P))) (first last : ℤ) → AreBetween first last os → ((i : ℕ) (e : Place × P) → slot_at ns i ≡ Some e → slot_at os i ≡ Some e) → AreBetween first last ns
   between_less os ns first last between less i e at = between i e (less i e at)
 

@@ -5,7 +5,7 @@ use Rattle.std.specs.Bool.{Decides}
 use Rattle.std.specs.Option.{SomeIff, option_eq}
 use Rattle.std.specs.Ordering.{int_eq, int_cmp, nat_cmp}
 use Rattle.std.specs.declared.cmp.Ordering.TheVariants.{Less, Equal}
-use lib.Signed.{le_z}
+use lib.Signed.{le_z, lt_z}
 use Rattle.std.proofs.lemmas.Int.{ints, by_lt_z, int_max_is}
 use Rattle.std.proofs.lemmas.Nat.{row_fits}
 use Rattle.std.proofs.lemmas.Bool.Decides.{nat_tests, Decides-like, Decides-int_eq}
@@ -14,7 +14,7 @@ use Rattle.std.proofs.Math.IntN.{negsuc-*ℤ-pos}
 use Rattle.wsm_semantics.specs.declared.place.Place.{Place}
 use Rattle.wsm_panes.specs.declared.ring.Ring.{Ring}
 use Rattle.wsm_panes.specs.Place.{place_cmp}
-use Rattle.wsm_panes.specs.Ring.{IsFirstPast, IsOnGrid, IsRing, IsOfRing, window_number, row_of, slot_of}
+use Rattle.wsm_panes.specs.Ring.{IsFirstPast, IsNextOnGrid, IsOnGrid, IsRing, IsOfRing, window_number, row_of, slot_of}
 use Rattle.wsm_windows.proofs.Multiples.{rem_below, times_more}
 use Rattle.wsm_windows.proofs.Bounds.{next_on_grid as next_multiple}
 
@@ -107,15 +107,11 @@ between_fits a b c f g h k = search (rules, ints)
 pub le_from : (x y : ℤ) → le_z x y ≡ true → x ≤ℤ y
 le_from x y h = grind (arith, ints)
 
+pub below_from : (x y : ℤ) → lt_z x y ≡ true → x <ℤ y
+below_from x y h = grind (arith, ints)
+
 pub lt_from : (x y : ℤ) → le_z x y ≡ false → y <ℤ x
 lt_from x y h = grind (arith, ints)
-
--- the next time on the grid behind a time
-pub record IsNextOnGrid (p before next : ℤ) : Type 0 where
-  pub grid : (k : ℤ) × (next ≡ k *ℤ p)
-  pub behind : before <ℤ next
-  pub near : next ≤ℤ (before +ℤ p)
-  pub least : (l other : ℤ) → other ≡ l *ℤ p → before <ℤ other → next ≤ℤ other
 
 pub behind_on_grid : (p before next : ℤ) → pos 1 ≤ℤ p → next ≡ before +ℤ (p -ℤ int_rem_euclid before p) → IsNextOnGrid p before next
 behind_on_grid (pos p) before next h is =

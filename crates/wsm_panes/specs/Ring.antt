@@ -7,6 +7,7 @@ use Rattle.std.specs.List.{AllByRecursion}
 use Rattle.std.specs.FinMap as map
 use Rattle.wsm_semantics.specs.declared.place.Place.{Place}
 use Rattle.wsm_panes.specs.declared.ring.Ring.{Ring}
+use Rattle.wsm_panes.specs.declared.ring.Row.{Row}
 use Rattle.wsm_panes.specs.Place.{place_cmp, is_kept}
 
 -- periods of at least one and at most the size; at least one key and window; slots that can be counted
@@ -32,6 +33,11 @@ slot_of r p = row_of r p.start + p.key
 -- a window of the shape can start at the time
 abbrev pub IsOnGrid : Ring → ℤ → Type 0
 IsOnGrid r start = (k : ℤ) × (start ≡ k *ℤ r.period)
+
+-- its window can start there, and the slot is the first one of that window
+pub record IsRow (r : Ring) (row : Row) : Type 0 where
+  pub grid : IsOnGrid r row.start
+  pub slot : row.slot ≡ row_of r row.start
 
 -- its window is one of the shape, and its key one of the keys
 pub record IsOfRing (r : Ring) (p : Place) : Type 0 where
@@ -118,6 +124,13 @@ IsFirstUntil r os start key last (Some e) = IsFirstFrom r os start key (Some e) 
 abbrev pub IsLastDue : Ring → ℤ → ℤ → ℤ → Option ℤ → Type 0
 IsLastDue r first last limit None = (start : ℤ) → first ≤ℤ start → limit <ℤ (start +ℤ r.size)
 IsLastDue r first last limit (Some until) = (until ≡ int_min last (limit -ℤ r.size)) × FitsSigned w64 (until +ℤ r.size)
+
+-- the next time on the grid behind a time
+pub record IsNextOnGrid (p before next : ℤ) : Type 0 where
+  pub grid : (k : ℤ) × (next ≡ k *ℤ p)
+  pub behind : before <ℤ next
+  pub near : next ≤ℤ (before +ℤ p)
+  pub least : (l other : ℤ) → other ≡ l *ℤ p → before <ℤ other → next ≤ℤ other
 
 -- the first start on the grid, of those from a first start on, of a window that ends past a time
 abbrev pub IsFirstPast : Ring → ℤ → ℤ → ℤ → Type 0

@@ -2,9 +2,10 @@ use Rattle.std.specs.Prelude.{◌≡◌, ◌*◌, ◌+ℤ◌, length}
 use Rattle.std.specs.Int.{w64}
 use Rattle.std.specs.Int.RustNames.{FitsSigned}
 use Rattle.wsm_panes.specs.declared.ring_table.RingTable.TheInside.{Inside}
-use Rattle.wsm_panes.specs.Ring.{IsRing, AreInPlace, AreBetween, IsOnGrid, held}
+use Rattle.wsm_panes.specs.Ring.{IsRing, IsRow, AreInPlace, AreBetween, IsOnGrid, held}
 
--- each entry is in its own slot, and the windows from the first to the last have all entries
+-- each entry is in its own slot, the windows from the first to the last have all entries, and the row
+-- that is remembered is its window's
 pub record IsSound {P : Type 0} (a : Inside P) : Type 0 where
   pub ring : IsRing a.ring
   pub slots : length a.slots.items ≡ a.ring.bound * a.ring.keys
@@ -13,4 +14,5 @@ pub record IsSound {P : Type 0} (a : Inside P) : Type 0 where
   pub grid : IsOnGrid a.ring a.first
   pub first : FitsSigned w64 a.first
   pub last : FitsSigned w64 (a.last +ℤ a.ring.size)
+  pub row : IsRow a.ring a.row
   pub len : a.len ≡ length (held a.slots.items)

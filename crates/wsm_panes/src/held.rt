@@ -127,7 +127,7 @@ impl HeldPanes {
                 }
             }
             _ => Entered {
-                windows: enter_windows(&mut self.ring, self.shape, kinds, key, time, values),
+                windows: enter_windows(&mut self.ring, kinds, key, time, values),
                 joined: false,
                 session: None,
             },

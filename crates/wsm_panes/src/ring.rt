@@ -1,8 +1,13 @@
 //! Where a ring has its slots.
 
-ghost use Rattle.std.specs.Prelude.{◌≡◌, ◌↔◌, ◌+◌, ◌*◌, ◌≤◌, ◌<◌, ◌^◌, IsTrue};
+ghost use Rattle.std.specs.Prelude.{◌≡◌, ◌↔◌, ◌+◌, ◌*◌, ◌≤◌, ◌<◌, ◌^◌, ◌+ℤ◌, ◌≤ℤ◌, IsTrue};
+ghost use Rattle.std.specs.Int.{w64};
+ghost use Rattle.std.specs.Int.RustNames.{FitsSigned};
+ghost use Rattle.wsm_windows.specs.Windows.{IsTime, greatest_span, window};
+ghost use Rattle.wsm_windows.specs.Windows as windows;
+ghost use Rattle.wsm_semantics.specs.Panes.{at};
 ghost use Rattle.wsm_panes.specs.Ring as ring;
-ghost use Rattle.wsm_panes.specs.Ring.{IsRing, IsOfRing};
+ghost use Rattle.wsm_panes.specs.Ring.{IsRing, IsNextOnGrid, IsOfRing, IsRow};
 
 use wsm_semantics::Place;
 
@@ -21,6 +26,15 @@ pub struct Ring {
     pub bound: usize,
 }
 
+/// A window of a ring, and where its slots are.
+#[derive(Clone, Copy, Debug, PartialEq, Eq)]
+pub struct Row {
+    /// When the window starts.
+    pub start: i64,
+    /// The first of its slots.
+    pub slot: usize,
+}
+
 impl Ring {
     // The first slot of the window that starts at a time.
     pub(crate) fn row(self, start: i64) -> usize
@@ -30,6 +44,63 @@ impl Ring {
     {
         let number = start.div_euclid(self.period);
         number.rem_euclid(self.bound as i64) as usize * self.keys
+    }
+
+    // The first time on the grid behind a time.
+    pub(crate) fn start_past(self, time: i64) -> i64
+        requires ring { IsRing self }
+        requires next { FitsSigned w64 (time +ℤ self.period) }
+        ensures { IsNextOnGrid self.period time result }
+    {
+        time + (self.period - time.rem_euclid(self.period))
+    }
+
+    // The row of the first window that has a time inside, beside a row that is known. Records come
+    // nearly in the order of their times, so that row is mostly the one, and nothing is divided.
+    pub(crate) fn first_row(self, known: Row, time: i64) -> Row
+        requires ring { IsRing self }
+        requires size { self.size ≤ℤ greatest_span }
+        requires known { IsRow self known }
+        requires time { IsTime time }
+        ensures row { IsRow self result }
+        ensures start { result.start ≡ windows.first_start self.size self.period time }
+    {
+        let before = time - self.size;
+        if before < known.start && known.start <= before + self.period {
+            return known;
+        }
+        let start = self.start_past(before);
+        let slot = self.row(start);
+        Row { start, slot }
+    }
+
+    // The row of the window that starts a period later.
+    pub(crate) fn next_row(self, row: Row) -> Row
+        requires ring { IsRing self }
+        requires row { IsRow self row }
+        requires next { FitsSigned w64 (row.start +ℤ self.period) }
+        ensures row { IsRow self result }
+        ensures start { result.start ≡ row.start +ℤ self.period }
+    {
+        let start = row.start + self.period;
+        let slot = row.slot + self.keys;
+        if slot == self.bound * self.keys {
+            Row { start, slot: 0 }
+        } else {
+            Row { start, slot }
+        }
+    }
+
+    // The place of a key in a row.
+    pub(crate) fn place(self, row: Row, key: u16) -> Place
+        requires { FitsSigned w64 (row.start +ℤ self.size) }
+        ensures { result ≡ at key (window row.start (row.start +ℤ self.size)) }
+    {
+        Place {
+            end: row.start + self.size,
+            start: row.start,
+            key,
+        }
     }
 
     // The slot of a place.

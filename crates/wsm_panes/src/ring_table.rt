@@ -1,17 +1,19 @@
 //! A table kept as a ring of slots.
 
-ghost use Rattle.std.specs.Prelude.{◌≡◌, ◌⊎◌, ◌<◌, ◌≤ℤ◌, List, IfOk, IsSome, Some};
+ghost use Rattle.std.specs.Prelude.{◌≡◌, ◌⊎◌, ◌<◌, ◌≤◌, ◌≤ℤ◌, List, IfOk, IfSome, IsSome, IsTrue, Some, length};
 ghost use Rattle.std.specs.FinMap as map;
 ghost use Rattle.wsm_record.specs.declared.event.Value.{Value as OneValue};
+ghost use Rattle.wsm_fold.specs.Fold.{are_of_kinds};
+ghost use Rattle.wsm_windows.specs.Windows.{IsTime, first_start, greatest_span};
 ghost use Rattle.wsm_semantics.specs.Summaries.{Pane as AnyPane};
 ghost use Rattle.wsm_panes.specs.Held.{once_fired};
 ghost use Rattle.wsm_panes.specs.Place.{place_cmp};
 ghost use Rattle.wsm_panes.specs.Ring as ring;
-ghost use Rattle.wsm_panes.specs.Ring.{IsFirstPast, IsLastDue, IsOnGrid, IsRing, RingAdmits, window_number};
+ghost use Rattle.wsm_panes.specs.Ring.{IsFirstPast, IsLastDue, IsOnGrid, IsRing, IsRow, RingAdmits, slot_of, window_number};
 
 use crate::pane::Pane;
 use crate::recording::TakesRecords;
-use crate::ring::Ring;
+use crate::ring::{Ring, Row};
 use crate::slots::{
     Slot, clear_expired, fill, fire_in, first_on, first_until, free_slots, is_at, pane_at, pane_in,
     record_in, spot_in, take_out,
@@ -32,6 +34,8 @@ pub struct RingTable<P> {
     // No pane is held of a window that starts before the first start or after the last one.
     first: i64,
     last: i64,
+    // Of the first window that has the time of the last record inside.
+    row: Row,
 }
 
 impl<P> Model for RingTable<P> {
@@ -66,7 +70,27 @@ impl<P: Copy> RingTable<P> {
             len: 0,
             first: 0,
             last: 0,
+            row: Row { start: 0, slot: 0 },
         })
+    }
+
+    /// The ring that it is kept in.
+    pub(crate) fn ring(&self) -> Ring
+        ensures { result ≡ self.now.ring }
+    {
+        self.ring
+    }
+
+    /// The row of the first window that has a time inside.
+    pub(crate) fn first_row(&mut self, time: i64) -> Row
+        requires size { self.old.ring.size ≤ℤ greatest_span }
+        requires time { IsTime time }
+        ensures row { IsRow self.old.ring result }
+        ensures start { result.start ≡ first_start self.old.ring.size self.old.ring.period time }
+        ensures same { self.new ≡ self.old }
+    {
+        self.row = self.ring.first_row(self.row, time);
+        self.row
     }
 
     // The slot of a spot, which tells it where it is that of its place.
@@ -77,6 +101,26 @@ impl<P: Copy> RingTable<P> {
             spot.at
         } else {
             self.ring.slot(spot.place)
+        }
+    }
+}
+
+impl<P: TakesRecords> RingTable<P> {
+    /// Puts a record into the pane at a place, whose slot is told, and makes a pane of it where none
+    /// is. The record is folded by the values.
+    pub(crate) fn enter_at(&mut self, slot: usize, place: Place, kinds: &[Kind], values: &[Value])
+        requires slot { slot ≡ slot_of self.old.ring place }
+        requires few { length values.now ≤ 16 }
+        requires types { IsTrue (are_of_kinds kinds.now values.now) }
+        requires admits { RingAdmits self.old.ring self.old.panes place }
+        requires takes { IfSome (map.get self.old.panes place) (P.CanTakeRecord kinds.now values.now) }
+        ensures panes { self.new.panes ≡ map.insert self.old.panes place (P.with_record kinds.now values.now (map.get self.old.panes place)) }
+        ensures ring { self.new.ring ≡ self.old.ring }
+    {
+        let more = record_in(&mut self.slots, slot, place, kinds, values);
+        if more > 0 {
+            (self.first, self.last) = stretched(self.len, self.first, self.last, place.start);
+            self.len += more;
         }
     }
 }
@@ -124,8 +168,7 @@ impl<P: TakesRecords> PaneTable<P> for RingTable<P> {
 
     fn enter(&mut self, place: Place, kinds: &[Kind], values: &[Value]) {
         let slot = self.ring.slot(place);
-        (self.first, self.last) = stretched(self.len, self.first, self.last, place.start);
-        self.len += record_in(&mut self.slots, slot, place, kinds, values);
+        self.enter_at(slot, place, kinds, values);
     }
 
     fn remove(&mut self, place: Place) {
@@ -206,10 +249,7 @@ fn first_past(ring: Ring, first: i64, after: i64) -> i64
 {
     match after.checked_sub(ring.size) {
         // The next start on the grid begins a window that ends past the time.
-        Some(before) => {
-            let next = before + (ring.period - before.rem_euclid(ring.period));
-            first.max(next)
-        }
+        Some(before) => first.max(ring.start_past(before)),
         None => first,
     }
 }

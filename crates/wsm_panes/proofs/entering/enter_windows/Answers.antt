@@ -1,35 +1,149 @@
-use Rattle.std.proofs.Common.{[], ap, ◌∙◌, arith, w64, to_z, of_z}
+use Rattle.std.proofs.Common.{◌≡◌, [], ◌∷◌, Fits, SFits, w16, w64, to_z, of_z, rules, refl, ap, ◌∙◌, ◌+ℤ◌, ◌-ℤ◌, ◌<ℤ◌, ◌≤ℤ◌, arith}
 use Rattle.std.specs.FinMap as map
+use Rattle.std.proofs.lemmas.Int.{ints, to_z-of_z}
+use Rattle.wsm_windows.specs.Windows.{first_start, greatest_span, greatest_time, window, windows_of}
 use Rattle.wsm_semantics.specs.Replay.{datum}
+use Rattle.wsm_panes.specs.Ring.{IsRing}
 use Rattle.wsm_panes.proofs.Enters.{any_datum}
-use Rattle.wsm_panes.proofs.InTurn.{few_windows, admits_at, takes_at, put_at_is, can_go_on}
+use Rattle.wsm_panes.proofs.InTurn.{admits_at, can_go_on, put_at_is, takes_at}
+use Rattle.wsm_panes.proofs.Rings.{between_fits, le_from, row_within}
+use Rattle.wsm_panes.proofs.Rows.{all_on, few_on, first_on_grid, one_on, rising_on, windows_on}
+use Rattle.wsm_panes.proofs.Scan.{left_less}
 use Rattle.wsm_panes.proofs.entering.enter_windows.Goals as goal
 
-pub enter-requires-clause-admits : goal.enter-requires-clause-admits
-enter-requires-clause-admits c =
-    admits_at c.loop-window.table.ring c.args.kinds.now c.args.values.now c.args.key (to_z w64 (of_z w64 c.args.time)) c.loop-window.table.panes c.in-Some.window c.next.new.self c.place_of.result c.place_of.ensures
-    (rw c.in-Some.ensures.steps at c.loop-window.invariant.can)
+pub loop-row-init : goal.loop-row-init
+loop-row-init c =
+    let time : SFits w64 c.args.time = c.ranges.time in
+    let r = c.args.table.now.ring in
+    let z : to_z w64 (of_z w64 c.args.time) ≡ c.args.time = to_z-of_z w64 c.args.time time in
+    let ring : IsRing r = c.requires.can.apart.ring in
+    let start : c.first_row-row.result.start ≡ first_start r.size r.period c.args.time = rw z at c.first_row-row.ensures.start in
+    let all : windows_on r c.args.time c.first_row-row.result.start ≡ windows_of r.size r.period c.args.time = all_on r c.args.time c.first_row-row.result.start ring start in
+    let grid = first_on_grid r.size r.period c.args.time ring.period_low in
+    rw (z, c.ring-ring.ensures, c.first_row-row.ensures.same) (record {
+      panes = rw all refl;
+      can = rw all c.requires.can;
+      rising = rw all (rising_on r c.args.time ring c.requires.size);
+      ring = refl;
+      row = c.first_row-row.ensures.row;
+      past = omega (arith, ints, start, grid.behind);
+      near = omega (arith, ints, start, grid.near, ring.period_low, ring.period_high);
+      count = rw all (omega arith);
+    })
 
-pub enter-requires-clause-takes : goal.enter-requires-clause-takes
-enter-requires-clause-takes c =
-    takes_at c.loop-window.table.ring c.args.kinds.now c.args.values.now c.args.key (to_z w64 (of_z w64 c.args.time)) c.loop-window.table.panes c.in-Some.window c.next.new.self c.place_of.result c.place_of.ensures
-    (rw c.in-Some.ensures.steps at c.loop-window.invariant.can)
+pub overflow_add-slot : goal.overflow_add-slot
+overflow_add-slot c =
+    let r = c.ring-ring.result in
+    let ring : IsRing r = rw c.ring-ring.ensures c.requires.can.apart.ring in
+    let key : Fits w16 c.args.key = c.ranges.key in
+    omega (arith, key, c.loop-row.invariant.row.slot, row_within r c.loop-row.row.start ring, ring.slots)
+
+pub enter_at-requires-clause-admits : goal.enter_at-requires-clause-admits
+enter_at-requires-clause-admits c =
+    let time : SFits w64 c.args.time = c.ranges.time in
+    let T = to_z w64 (of_z w64 c.args.time) in
+    let z : T ≡ c.args.time = to_z-of_z w64 c.args.time time in
+    let r = c.ring-ring.result in
+    let ring : IsRing r = rw c.ring-ring.ensures c.requires.can.apart.ring in
+    let few : r.size ≤ℤ greatest_span = rw c.ring-ring.ensures c.requires.size in
+    let S = c.loop-row.row.start in
+    let start : SFits w64 S = search rules in
+    let same : to_z w64 (of_z w64 S) ≡ S = to_z-of_z w64 S start in
+    let test : S ≤ℤ T = le_from _ _ (rw same at c.loop-row-test.true) in
+    let step : windows_on r T S ≡ window S (S +ℤ r.size) ∷ windows_on r T (S +ℤ r.period) = one_on r T S (S +ℤ r.period) ring test refl in
+    admits_at c.loop-row.table.ring c.args.kinds.now c.args.values.now c.args.key T c.loop-row.table.panes (window S (S +ℤ r.size)) (windows_on r T (S +ℤ r.period)) c.place.result c.place.ensures
+    (rw step at c.loop-row.invariant.can)
+
+pub enter_at-requires-clause-takes : goal.enter_at-requires-clause-takes
+enter_at-requires-clause-takes c =
+    let time : SFits w64 c.args.time = c.ranges.time in
+    let T = to_z w64 (of_z w64 c.args.time) in
+    let z : T ≡ c.args.time = to_z-of_z w64 c.args.time time in
+    let r = c.ring-ring.result in
+    let ring : IsRing r = rw c.ring-ring.ensures c.requires.can.apart.ring in
+    let few : r.size ≤ℤ greatest_span = rw c.ring-ring.ensures c.requires.size in
+    let S = c.loop-row.row.start in
+    let start : SFits w64 S = search rules in
+    let same : to_z w64 (of_z w64 S) ≡ S = to_z-of_z w64 S start in
+    let test : S ≤ℤ T = le_from _ _ (rw same at c.loop-row-test.true) in
+    let step : windows_on r T S ≡ window S (S +ℤ r.size) ∷ windows_on r T (S +ℤ r.period) = one_on r T S (S +ℤ r.period) ring test refl in
+    takes_at c.loop-row.table.ring c.args.kinds.now c.args.values.now c.args.key T c.loop-row.table.panes (window S (S +ℤ r.size)) (windows_on r T (S +ℤ r.period)) c.place.result c.place.ensures
+    (rw step at c.loop-row.invariant.can)
+
+pub next_row-row-requires-clause-next : goal.next_row-row-requires-clause-next
+next_row-row-requires-clause-next c =
+    let time : SFits w64 c.args.time = c.ranges.time in
+    let T = to_z w64 (of_z w64 c.args.time) in
+    let z : T ≡ c.args.time = to_z-of_z w64 c.args.time time in
+    let r = c.ring-ring.result in
+    let ring : IsRing r = rw c.ring-ring.ensures c.requires.can.apart.ring in
+    let few : r.size ≤ℤ greatest_span = rw c.ring-ring.ensures c.requires.size in
+    let S = c.loop-row.row.start in
+    let start : SFits w64 S = search rules in
+    let same : to_z w64 (of_z w64 S) ≡ S = to_z-of_z w64 S start in
+    let test : S ≤ℤ T = le_from _ _ (rw same at c.loop-row-test.true) in
+    let timely : c.args.time ≤ℤ greatest_time = c.requires.time.high in
+    between_fits S (S +ℤ r.period) (greatest_time +ℤ greatest_span) start (search rules) (omega (arith, ints, ring.period_low)) (omega (arith, ints, z, test, timely, few, ring.period_high))
 
 pub overflow_add-count : goal.overflow_add-count
 overflow_add-count c =
-    let left = rw c.in-Some.ensures.steps at c.loop-window.invariant.count in
-    omega (arith, left, few_windows c.args.shape c.requires.shape (to_z w64 (of_z w64 c.args.time)))
+    let time : SFits w64 c.args.time = c.ranges.time in
+    let T = to_z w64 (of_z w64 c.args.time) in
+    let z : T ≡ c.args.time = to_z-of_z w64 c.args.time time in
+    let r = c.ring-ring.result in
+    let ring : IsRing r = rw c.ring-ring.ensures c.requires.can.apart.ring in
+    let few : r.size ≤ℤ greatest_span = rw c.ring-ring.ensures c.requires.size in
+    let S = c.loop-row.row.start in
+    let start : SFits w64 S = search rules in
+    let same : to_z w64 (of_z w64 S) ≡ S = to_z-of_z w64 S start in
+    let test : S ≤ℤ T = le_from _ _ (rw same at c.loop-row-test.true) in
+    let N = c.next_row-row.result.start in
+    let step : windows_on r T S ≡ window S (S +ℤ r.size) ∷ windows_on r T N = one_on r T S N ring test c.next_row-row.ensures.start in
+    let left = rw step at c.loop-row.invariant.count in
+    omega (arith, left, few_on r T ring few)
 
-pub loop-window-preserved : goal.loop-window-preserved
-loop-window-preserved c =
-    let new = put_at_is c.loop-window.table.ring c.args.kinds.now c.args.values.now c.args.key (to_z w64 (of_z w64 c.args.time)) c.loop-window.table.panes c.in-Some.window c.next.new.self c.place_of.result c.place_of.ensures c.enter.new.self.panes (c.enter.ensures.panes ∙ ap (map.insert c.loop-window.table.panes c.place_of.result) (any_datum c.args.kinds.now c.args.values.now (datum 0 c.args.key (to_z w64 (of_z w64 c.args.time)) []) _)) in
-    let rises = rw c.in-Some.ensures.steps at c.loop-window.invariant.rising in
-    let can = rw c.in-Some.ensures.steps at c.loop-window.invariant.can in
-    let left = rw c.in-Some.ensures.steps at c.loop-window.invariant.count in
+pub loop-row-smaller : goal.loop-row-smaller
+loop-row-smaller c =
+    let time : SFits w64 c.args.time = c.ranges.time in
+    let T = to_z w64 (of_z w64 c.args.time) in
+    let z : T ≡ c.args.time = to_z-of_z w64 c.args.time time in
+    let r = c.ring-ring.result in
+    let ring : IsRing r = rw c.ring-ring.ensures c.requires.can.apart.ring in
+    let few : r.size ≤ℤ greatest_span = rw c.ring-ring.ensures c.requires.size in
+    let S = c.loop-row.row.start in
+    let start : SFits w64 S = search rules in
+    let same : to_z w64 (of_z w64 S) ≡ S = to_z-of_z w64 S start in
+    let test : S ≤ℤ T = le_from _ _ (rw same at c.loop-row-test.true) in
+    left_less S c.next_row-row.result.start T test (omega (arith, ints, c.next_row-row.ensures.start, ring.period_low))
+
+pub loop-row-preserved : goal.loop-row-preserved
+loop-row-preserved c =
+    let time : SFits w64 c.args.time = c.ranges.time in
+    let T = to_z w64 (of_z w64 c.args.time) in
+    let z : T ≡ c.args.time = to_z-of_z w64 c.args.time time in
+    let r = c.ring-ring.result in
+    let ring : IsRing r = rw c.ring-ring.ensures c.requires.can.apart.ring in
+    let few : r.size ≤ℤ greatest_span = rw c.ring-ring.ensures c.requires.size in
+    let S = c.loop-row.row.start in
+    let start : SFits w64 S = search rules in
+    let same : to_z w64 (of_z w64 S) ≡ S = to_z-of_z w64 S start in
+    let test : S ≤ℤ T = le_from _ _ (rw same at c.loop-row-test.true) in
+    let N = c.next_row-row.result.start in
+    let step : windows_on r T S ≡ window S (S +ℤ r.size) ∷ windows_on r T N = one_on r T S N ring test c.next_row-row.ensures.start in
+    let w = window S (S +ℤ r.size) in
+    let new = put_at_is c.loop-row.table.ring c.args.kinds.now c.args.values.now c.args.key T c.loop-row.table.panes w (windows_on r T N) c.place.result c.place.ensures c.enter_at.new.self.panes
+    (c.enter_at.ensures.panes ∙ ap (map.insert c.loop-row.table.panes c.place.result) (any_datum c.args.kinds.now c.args.values.now (datum 0 c.args.key T []) _)) in
+    let rises = rw step at c.loop-row.invariant.rising in
+    let can = rw step at c.loop-row.invariant.can in
+    let left = rw step at c.loop-row.invariant.count in
+    let past : (T -ℤ r.size) <ℤ S = c.loop-row.invariant.past in
     record {
-      panes = rw new (rw c.in-Some.ensures.steps at c.loop-window.invariant.panes);
-      can = rw (c.enter.ensures.room, new) (can_go_on _ _ _ _ _ c.in-Some.window c.next.new.self _ rises can);
+      panes = rw new (rw step at c.loop-row.invariant.panes);
+      can = rw (c.enter_at.ensures.ring, new) (can_go_on _ _ _ _ _ w (windows_on r T N) _ rises can);
       rising = rises.1;
-      ring = c.enter.ensures.room ∙ c.loop-window.invariant.ring;
+      ring = c.enter_at.ensures.ring ∙ c.loop-row.invariant.ring;
+      row = c.next_row-row.ensures.row;
+      past = omega (arith, ints, past, c.next_row-row.ensures.start, ring.period_low);
+      near = omega (arith, ints, test, c.next_row-row.ensures.start);
       count = omega (arith, left);
     }

@@ -1,7 +1,12 @@
-use Rattle.std.proofs.Common.{◌∷◌, ◌≤◌, ◌*◌, Some, arith, refl, ap, ◌∙◌, SFits, w64, to_z-of_z}
+use Rattle.std.proofs.Common.{◌≡◌, [], ◌∷◌, ◌≤◌, ◌*◌, Some, arith, refl, sym, ap, ◌∙◌, length, SFits, w64, to_z-of_z}
 use Rattle.std.proofs.lemmas.Nat.{mul-le}
 use Rattle.std.specs.FinMap as map
-use Rattle.wsm_panes.proofs.Enters.{few_values, in_ring, joins_can, room_can, live_can, windows_can, key_of, keys_written}
+use Rattle.wsm_windows.specs.Windows.{windows_of, windows_of_shape}
+use Rattle.wsm_semantics.specs.Replay.{datum}
+use Rattle.wsm_semantics.specs.Summaries.{assigned, entered}
+use Rattle.wsm_panes.specs.declared.ring.Ring.{Ring}
+use Rattle.wsm_panes.specs.Held.{taking}
+use Rattle.wsm_panes.proofs.Enters.{entered_assigned, few_values, in_ring, joins_can, room_can, live_can, windows_can, windows_grid, key_of, keys_written}
 use Rattle.wsm_panes.proofs.held.HeldPanes.enter.Goals as goal
 
 pub enter_session-joined-requires-clause-few : goal.enter_session-joined-requires-clause-few
@@ -36,8 +41,9 @@ enter_windows-requires c =
     let grid = c.in_default.not-Session in
     let whole = (can.apart grid).ring in
     let some : 1 * 1 ≤ a.keys * a.live = mul-le 1 1 a.keys a.live whole.keys whole.bound in
-    let windows = rw (in_ring a.shape a.list.panes a.ring.panes grid) at (windows_can _ _ _ _ _ can grid) in
-    simp to_z-of_z (record { shape = c.self.invariant.shape; time = can.timely; few = few_values _ _ _ _ _ can; types = can.types; can = rw (c.self.invariant.ring grid (omega (arith, some))) windows })
+    let windows = rw (in_ring a.shape a.list.panes a.ring.panes grid, windows_grid a.shape grid c.args.time) at (windows_can _ _ _ _ _ can grid) in
+    let same = c.self.invariant.ring grid (omega (arith, some)) in
+    simp to_z-of_z (record { size = rw same c.self.invariant.shape.size_high; time = can.timely; few = few_values _ _ _ _ _ can; types = can.types; can = rw same windows })
 
 pub invariant_of-self : goal.invariant_of-self
 invariant_of-self c =
@@ -78,3 +84,32 @@ returns-in-Session-clause-session c =
     let can = rw (← c.self.view_is, c.in-Session.is) at c.requires in
     let of = key_of c.in-Session.field-0 c.self.inside.keys c.self.inside.live c.args.key (map.entries c.self.inside.list.panes) c.self.inside.sessions.items (c.self.invariant.sessions c.in-Session.field-0 c.in-Session.is) can.declared c.index_mut-sessions.result.now c.index_mut-sessions.ensures.value in
     rw (← c.self.view_is, c.in-Session.is) (ap Some (rw of.same_gap at (simp to_z-of_z at c.enter_session-joined.ensures.session)))
+
+pub returns-in_default-clause-panes : goal.returns-in_default-clause-panes
+returns-in_default-clause-panes c =
+    let a = c.self.inside in
+    let time : SFits w64 c.args.time = c.ranges.time in
+    let grid = c.in_default.not-Session in
+    let whole = ((rw (← c.self.view_is) at c.requires).apart grid).ring in
+    let some : 1 * 1 ≤ a.keys * a.live = mul-le 1 1 a.keys a.live whole.keys whole.bound in
+    let same = c.self.invariant.ring grid (omega (arith, some)) in
+    let windows : windows_of_shape a.shape c.args.time ≡ windows_of a.ring.ring.size a.ring.ring.period c.args.time = windows_grid a.shape grid c.args.time ∙ ap (λ (r : Ring). windows_of r.size r.period c.args.time) (sym same) in
+    let plan = taking c.args.kinds.now c.args.values.now in
+    let d = datum 0 c.args.key c.args.time [] in
+    rw (← c.self.view_is) (
+    ap map.entries (in_ring a.shape a.list.panes c.enter_windows.new.table.panes grid)
+    ∙ simp to_z-of_z at c.enter_windows.ensures.panes
+    ∙ ap (λ ws. assigned plan d ws (map.entries a.ring.panes)) (sym windows)
+    ∙ sym (entered_assigned plan a.shape grid d (map.entries a.ring.panes))
+    ∙ ap (λ m. entered plan a.shape d (map.entries m)) (sym (in_ring a.shape a.list.panes a.ring.panes grid)))
+
+pub returns-in_default-clause-windows : goal.returns-in_default-clause-windows
+returns-in_default-clause-windows c =
+    let a = c.self.inside in
+    let time : SFits w64 c.args.time = c.ranges.time in
+    let grid = c.in_default.not-Session in
+    let whole = ((rw (← c.self.view_is) at c.requires).apart grid).ring in
+    let some : 1 * 1 ≤ a.keys * a.live = mul-le 1 1 a.keys a.live whole.keys whole.bound in
+    let same = c.self.invariant.ring grid (omega (arith, some)) in
+    let windows : windows_of_shape a.shape c.args.time ≡ windows_of a.ring.ring.size a.ring.ring.period c.args.time = windows_grid a.shape grid c.args.time ∙ ap (λ (r : Ring). windows_of r.size r.period c.args.time) (sym same) in
+    rw (← c.self.view_is) (simp to_z-of_z at c.enter_windows.ensures.count ∙ ap length (sym windows))

@@ -43,6 +43,7 @@ invariant_of-self c =
       grid = c.self.invariant.grid;
       first = c.self.invariant.first;
       last = c.self.invariant.last;
+      row = c.self.invariant.row;
       len = omega (arith, ap (λ (l : List (Option (Place × Pane (List Value)))). length (held l)) new, count, one, c.self.invariant.len);
     }
 

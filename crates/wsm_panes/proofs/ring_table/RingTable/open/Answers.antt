@@ -3,6 +3,7 @@ use Rattle.std.specs.Int.{int_div_euclid}
 use Rattle.std.proofs.lemmas.Int.{ints}
 use Rattle.wsm_panes.proofs.Placed.{panes_free, held_free}
 use Rattle.wsm_panes.proofs.Rings.{zero_on_grid}
+use Rattle.wsm_panes.proofs.Rows.{zero_row}
 use Rattle.wsm_panes.proofs.ring_table.RingTable.open.Goals as goal
 
 pub invariant_of-result : goal.invariant_of-result
@@ -18,6 +19,7 @@ invariant_of-result g c =
       grid = (int_div_euclid (pos 0) c.args.ring.period, zero_on_grid c.args.ring.period c.requires.period_low);
       first = search rules;
       last = rw sum size;
+      row = record { grid = (int_div_euclid (pos 0) c.args.ring.period, zero_on_grid c.args.ring.period c.requires.period_low); slot = sym (zero_row c.args.ring c.requires) };
       len = sym (ap length (held_free c.in_ok-free_slots.field-0.items free));
     }
 

@@ -34,6 +34,7 @@ invariant_of-self g c =
       grid = c.clear_expired-first.ensures.first;
       first = first;
       last = c.self.invariant.last;
+      row = c.self.invariant.row;
       len = omega (arith, c.clear_expired-first.ensures.len, c.self.invariant.len);
     })
 

@@ -53,6 +53,7 @@ invariant_of-self g c =
       grid = rw z0 (elim either [ inl same ↦ rw same (window_number a.ring c.args.place.start, admits.0.start) | inr same ↦ rw same c.self.invariant.grid ]);
       first = rw z0 low;
       last = rw z1 (elim other [ inl same ↦ rw (same, ← admits.0.end) end | inr same ↦ rw same c.self.invariant.last ]);
+      row = c.self.invariant.row;
       len = omega (arith, c.fill.ensures.len, c.self.invariant.len);
     }
 

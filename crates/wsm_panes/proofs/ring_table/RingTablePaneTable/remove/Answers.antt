@@ -18,6 +18,7 @@ invariant_of-self g c =
         grid = c.self.invariant.grid;
         first = c.self.invariant.first;
         last = c.self.invariant.last;
+        row = c.self.invariant.row;
         len = len;
       }
       | inr gone ↦ record {
@@ -28,6 +29,7 @@ invariant_of-self g c =
         grid = c.self.invariant.grid;
         first = c.self.invariant.first;
         last = c.self.invariant.last;
+        row = c.self.invariant.row;
         len = len;
       }
     ]
