@@ -3,3 +3,4 @@ pub mod Declaring
 pub mod Fitting
 pub mod Spellings
 pub mod Schemas
+pub mod Guessing

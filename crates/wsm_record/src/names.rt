@@ -1,7 +1,8 @@
 //! Lists of distinct names, each with its number.
 
-ghost use Rattle.std.specs.Prelude.{◌≡◌, ◌+◌, ◌<◌, ◌≤◌, ◌⊎◌, ℕ, List, length, map, position, bytes_eq, Some, false, true, slice_get, IfOk, IfErr, Err, []};
+ghost use Rattle.std.specs.Prelude.{◌≡◌, ◌+◌, ◌*◌, ◌^◌, ◌<◌, ◌≤◌, ◌⊎◌, ℕ, List, length, map, position, bytes_eq, Some, false, true, slice_get, IfOk, IfErr, IfSome, Err, []};
 ghost use Rattle.wsm_record.specs.Name.{repeats_after};
+ghost use Rattle.wsm_record.specs.Guesses.{AreBytes, AreGuesses, IsGuess, spelled};
 
 use crate::limits::MAX_NAMES;
 use crate::name::Name;
@@ -18,19 +19,29 @@ const SPREAD: u64 = 0x9E37_79B9_7F4A_7C15;
 #[derive(Drop)]
 pub struct Names {
     texts: IndexSet<Vec<u8>>,
-    // At the place of a text a number to try first: a guess, which nothing rests on.
-    guesses: Vec<u16>,
+    // At the place of a text what is tried first for it.
+    guesses: Vec<Guess>,
+    // How far a spread mark is shifted to be a place.
+    shift: u32,
+}
+
+// A number to try for a text, and the word of the name that has it, or 0 where it has none.
+#[derive(Clone, Copy)]
+struct Guess {
+    word: u64,
+    number: u16,
 }
 
 impl Model for Names {
     ghost use Rattle.std.specs.Prelude.{◌≡◌, ◌≤◌, ℕ, List, [], length, map, true};
     ghost use Rattle.wsm_record.specs.Schema.{are_names_after};
+    ghost use Rattle.wsm_record.specs.Guesses.{AreGuesses};
 
     ghost Value = { List (List ℕ) };
 
     ghost view = { λ a. map (λ v. v.items) a.texts.keys };
 
-    ghost invariant = { λ a. (length a.texts.keys ≤ 1000) × (are_names_after [] (map (λ v. v.items) a.texts.keys) ≡ true) };
+    ghost invariant = { λ a. (length a.texts.keys ≤ 1000) × ((are_names_after [] (map (λ v. v.items) a.texts.keys) ≡ true) × AreGuesses (map (λ v. v.items) a.texts.keys) a.guesses.items) };
 }
 
 impl Names {
@@ -49,8 +60,12 @@ impl Names {
                 return Err(SchemaRefusal::DuplicateName);
             }
         }
-        let guesses = guesses_of(alloc, names)?;
-        Ok(Names { texts, guesses })
+        let (guesses, shift) = guesses_of(alloc, names)?;
+        Ok(Names {
+            texts,
+            guesses,
+            shift,
+        })
     }
 
     pub fn len(&self) -> usize
@@ -65,19 +80,55 @@ impl Names {
     pub fn number_of(&self, text: &[u8]) -> Option<u16>
         ensures { result ≡ position (bytes_eq text.now) self.now }
     {
-        match self.guesses.get(place_of(text, self.guesses.len())) {
-            Some(number) if self.has(*number, text) => Some(*number),
-            _ => self.search(text),
+        match self.guess(text) {
+            Some(number) => Some(number),
+            None => self.search(text),
+        }
+    }
+
+    // The number of the name with these bytes, where the first guess has it.
+    #[inline(always)]
+    fn guess(&self, text: &[u8]) -> Option<u16>
+        ensures { IfSome result (λ number. position (bytes_eq text.now) self.now ≡ Some number) }
+    {
+        match word_of(text) {
+            Some(word) => self.guess_word(word),
+            None => self.guess_long(text),
+        }
+    }
+
+    // The same of a text with this word.
+    #[inline(always)]
+    fn guess_word(&self, word: u64) -> Option<u16>
+        ensures { (text : List ℕ) → AreBytes text → spelled text ≡ word → IfSome result (λ number. position (bytes_eq text) self.now ≡ Some number) }
+    {
+        let guess = self.guesses.get(place_of(word, self.shift))?;
+        if guess.word == word {
+            Some(guess.number)
+        } else {
+            None
+        }
+    }
+
+    // The same of a text that has no word.
+    #[inline(never)]
+    fn guess_long(&self, text: &[u8]) -> Option<u16>
+        ensures { IfSome result (λ number. position (bytes_eq text.now) self.now ≡ Some number) }
+    {
+        let guess = self.guesses.get(place_of(sum_of(text), self.shift))?;
+        if self.has(guess.number, text) {
+            Some(guess.number)
+        } else {
+            None
         }
     }
 
     // Whether a name has this number and these bytes.
-    #[inline(always)]
     fn has(&self, number: u16, text: &[u8]) -> bool
         ensures { result ≡ true → slice_get self.now number ≡ Some text.now }
     {
         match self.texts.get_index(usize::from(number)) {
-            Some(name) => are_same(name.as_slice(), text),
+            Some(name) => name.as_slice() == text,
             None => false,
         }
     }
@@ -103,60 +154,102 @@ impl Names {
     }
 }
 
-// At the place of each name's text its number. Where names share a place the last one has it.
-fn guesses_of(alloc: Global, names: &[Name]) -> Result<Vec<u16>, AllocError>
+// At the place of each name's text a guess of its number, which shifts by so much give. Where names
+// share a place the last one has it.
+fn guesses_of(alloc: Global, names: &[Name]) -> Result<(Vec<Guess>, u32), AllocError>
     requires { length names.now ≤ MAX_NAMES }
+    ensures { IfOk result (λ r. AreGuesses names.now r.0.items) }
 {
     let places = (4 * names.len()).next_power_of_two();
-    let mut guesses = vec![in alloc; 0; places]?;
+    let shift = places.leading_zeros() + 1;
+    let unknown = Guess { word: 0, number: 0 };
+    let mut guesses = vec![in alloc; unknown; places]?;
     for (number, name) in names.iter().enumerate() {
-        if let Some(guess) = guesses.get_mut(place_of(name.as_bytes(), places)) {
-            *guess = number as u16;
+        let text = name.as_bytes();
+        let place = place_of(mark_of(text), shift);
+        if place < guesses.len() {
+            guesses[place] = guess_of(text, number as u16);
         }
     }
-    Ok(guesses)
+    Ok((guesses, shift))
 }
 
-// The place of a text among so many places, a power of two: few texts share one.
-#[inline(always)]
-fn place_of(text: &[u8], places: usize) -> usize {
-    let spread = sum_of(text).wrapping_mul(SPREAD) >> 32;
-    spread as usize & places.wrapping_sub(1)
+// The guess of a number for a text.
+fn guess_of(text: &[u8], number: u16) -> Guess
+    ensures { (names : List (List ℕ)) → slice_get names number ≡ Some text.now → IsGuess names result }
+{
+    match word_of(text) {
+        Some(word) => Guess { word, number },
+        None => Guess { word: 0, number },
+    }
 }
 
-// A number made of a text's length and all its bytes: those of a longer text four by four, and its
-// last four once more.
+// The place of a mark, by the first bits of what it is spread to: few marks share one.
 #[inline(always)]
+fn place_of(mark: u64, shift: u32) -> usize {
+    mark.wrapping_mul(SPREAD).wrapping_shr(shift) as usize
+}
+
+// A number made of all bytes of a text: its word where it has one.
+fn mark_of(text: &[u8]) -> u64 {
+    match word_of(text) {
+        Some(word) => word,
+        None => sum_of(text),
+    }
+}
+
+// The bytes of a text of one to seven as one number, which no other text has.
+#[inline(always)]
+fn word_of(text: &[u8]) -> Option<u64>
+    ensures { IfSome result (λ word. word ≡ spelled text.now) }
+{
+    match text {
+        [a] => Some(spell(a, 1)),
+        [a, b] => Some(spell(a, spell(b, 1))),
+        [a, b, c] => Some(spell(a, spell(b, spell(c, 1)))),
+        [a, b, c, d] => Some(spell(a, spell(b, spell(c, spell(d, 1))))),
+        [a, b, c, d, e] => Some(spell(a, spell(b, spell(c, spell(d, spell(e, 1)))))),
+        [a, b, c, d, e, f] => {
+            Some(spell(a, spell(b, spell(c, spell(d, spell(e, spell(f, 1)))))))
+        }
+        [a, b, c, d, e, f, g] => {
+            Some(spell(
+                a,
+                spell(b, spell(c, spell(d, spell(e, spell(f, spell(g, 1)))))),
+            ))
+        }
+        _ => None,
+    }
+}
+
+// A byte in front of those that a word is of.
+#[inline(always)]
+fn spell(byte: &u8, word: u64) -> u64
+    requires { word < 2 ^ 56 }
+    ensures { result ≡ byte.now + 256 * word }
+{
+    u64::from(*byte) + 256 * word
+}
+
+// A number made of a text's length and all its bytes, four by four, and its last four once more; that
+// of less than four is their count.
 fn sum_of(text: &[u8]) -> u64 {
     let len = text.len();
     if len < 4 {
-        return sum_of_few(text);
+        return len as u64;
     }
     let mut sum = len as u64;
     for word in 0..len / 4 {
         sum = sum
             .wrapping_mul(SPREAD)
-            .wrapping_add(word_at(text, 4 * word));
+            .wrapping_add(four_at(text, 4 * word));
     }
     sum.wrapping_mul(SPREAD)
-        .wrapping_add(word_at(text, len - 4))
-}
-
-// The same of less than four bytes.
-#[inline(always)]
-fn sum_of_few(text: &[u8]) -> u64
-    requires { length text.now < 4 }
-{
-    let len = text.len();
-    if len == 0 {
-        return 0;
-    }
-    let front = (len as u64) << 24 | u64::from(text[0]) << 16;
-    front | u64::from(text[len / 2]) << 8 | u64::from(text[len - 1])
+        .wrapping_add(four_at(text, len - 4))
 }
 
 #[inline(always)]
-fn word_at(text: &[u8], start: usize) -> u64
+fn four_at(text: &[u8], start: usize) -> u64
     requires { start + 4 ≤ length text.now }
 {
     u64::from(u32::from_le_bytes([
@@ -165,17 +258,4 @@ fn word_at(text: &[u8], start: usize) -> u64
         text[start + 2],
         text[start + 3],
     ]))
-}
-
-// Whether two texts have the same bytes. Those of short ones are compared without a loop.
-#[inline(always)]
-fn are_same(a: &[u8], b: &[u8]) -> bool
-    ensures { result ≡ bytes_eq a.now b.now }
-{
-    match (a, b) {
-        ([a0], [b0]) => a0 == b0,
-        ([a0, a1], [b0, b1]) => a0 == b0 && a1 == b1,
-        ([a0, a1, a2], [b0, b1, b2]) => a0 == b0 && a1 == b1 && a2 == b2,
-        _ => a == b,
-    }
 }

@@ -1,8 +1,9 @@
-use Rattle.std.proofs.Common.{◌≡◌, ◌∙◌, ◌<◌, ◌≤◌, ◌+◌, ◌++◌, ◌||◌, ℕ, Bool, List, [], ◌∷◌, length, map, take, drop, get_or, true, false, if◌then◌else◌, bytes_eq, ap, sym, arith}
+use Rattle.std.proofs.Common.{◌≡◌, ◌∙◌, ◌<◌, ◌≤◌, ◌+◌, ◌++◌, ◌||◌, ℕ, Bool, List, [], ◌∷◌, length, map, take, drop, get_or, true, false, if◌then◌else◌, bytes_eq, ap, sym, subst, arith}
 use Rattle.std.proofs.lemmas.List.{take_more, map-append, length-map, drop_all, take_all}
 use Rattle.std.specs.List.{list_any}
 use Rattle.wsm_record.specs.Name.{is_among, repeats_after}
 use Rattle.wsm_record.specs.Schema.{are_names_after}
+use Rattle.wsm_record.specs.Guesses.{AreGuesses}
 use Rattle.wsm_record.proofs.Lists.{list_any-map, repeats_after-next, not-false, not-true}
 use Rattle.wsm_record.proofs.Schemas.{taken_lawful}
 use Rattle.wsm_record.proofs.names.Names.collect.Goals as goal
@@ -51,4 +52,5 @@ invariant_of-result c =
     let all : length names ≤ i = omega arith in
     let taken = c.loop-name.invariant.taken ∙ take_all i names all in
     let count : length c.loop-name.texts.keys ≡ length names = sym (length-map c.loop-name.texts.keys (λ v. v.items)) ∙ ap (λ (l : List (List ℕ)). length l) taken in
-    (omega (arith, count), ap (are_names_after []) c.loop-name.invariant.taken ∙ taken_lawful names (take i names) (drop i names) c.are_names.ensures c.loop-name.invariant.repeated (take_all i names all) (drop_all i names all))
+    let lawful = ap (are_names_after []) c.loop-name.invariant.taken ∙ taken_lawful names (take i names) (drop i names) c.are_names.ensures c.loop-name.invariant.repeated (take_all i names all) (drop_all i names all) in
+    (omega (arith, count), (lawful, subst (λ ns. AreGuesses ns c.in_ok-guesses_of.guesses.items) (sym taken) c.in_ok-guesses_of.ensures))

@@ -1,0 +1,49 @@
+-- Words of short texts, and guesses of their numbers.
+use Rattle.std.proofs.Common.{◌≡◌, ◌∙◌, ◌<◌, ◌≤◌, ℕ, zero, suc, List, [], ◌∷◌, length, get_or, refl, sym, ap, subst, arith}
+use Rattle.std.specs.Prelude.{Some, slice_get}
+use Rattle.std.proofs.Math.ListN.{set, replicate, length-replicate}
+use Rattle.std.proofs.lemmas.List.{get_or-replicate}
+use Rattle.std.proofs.lemmas.Option.{get_or_from_slice_get, slice_get_within}
+use Rattle.wsm_record.specs.Guesses.{AreBytes, AreGuesses, IsGuess, spelled}
+use Rattle.wsm_record.specs.declared.names.Guess.{Guess}
+
+spelled_pos : (text : List ℕ) → 1 ≤ spelled text
+spelled_pos [] = omega arith
+spelled_pos (b ∷ bs) = let rest = spelled_pos bs in omega (arith, rest)
+
+-- texts with the same word are the same
+spelled_injective : (a b : List ℕ) → AreBytes a → AreBytes b → spelled a ≡ spelled b → a ≡ b
+spelled_injective [] [] f g e = refl
+spelled_injective [] (b ∷ bs) f g e = let rest = spelled_pos bs in absurd (omega (arith, rest, e))
+spelled_injective (a ∷ more) [] f g e = let rest = spelled_pos more in absurd (omega (arith, rest, e))
+spelled_injective (a ∷ more) (b ∷ bs) f g e =
+    let x : a < 256 = f 0 in
+    let y : b < 256 = g 0 in
+    let first : a ≡ b = omega (arith, x, y, e) in
+    let others : spelled more ≡ spelled bs = omega (arith, x, y, e) in
+    let rest : more ≡ bs = spelled_injective more bs (λ i. f (suc i)) (λ i. g (suc i)) others in
+    cc
+
+-- a guess for the name of a number
+pub guess_is : (names : List (List ℕ)) (name : List ℕ) (guess : Guess) → AreBytes name → slice_get names guess.number ≡ Some name → guess.word ≡ spelled name → IsGuess names guess
+guess_is names name guess f at word = λ text g e. at ∙ ap Some (spelled_injective name text f g (sym (e ∙ word)))
+
+-- guesses of which one is made anew
+pub guesses_set : (names : List (List ℕ)) (guesses : List Guess) (i : ℕ) (guess : Guess) → AreGuesses names guesses → IsGuess names guess → AreGuesses names (set guesses i guess)
+guesses_set names [] i guess all is j g e = absurd cc
+guesses_set names (x ∷ xs) zero guess all is zero g e = let same : guess ≡ g = cc in subst (IsGuess names) same is
+guesses_set names (x ∷ xs) zero guess all is (suc j) g e = all (suc j) g e
+guesses_set names (x ∷ xs) (suc i) guess all is zero g e = all zero g e
+guesses_set names (x ∷ xs) (suc i) guess all is (suc j) g e = guesses_set names xs i guess (λ k. all (suc k)) is j g e
+
+-- no text has the word 0
+pub none_guessed : (names : List (List ℕ)) (guess : Guess) → guess.word ≡ 0 → IsGuess names guess
+none_guessed names guess none = λ text f e. let some = spelled_pos text in absurd (omega (arith, some, e, none))
+
+-- the same guess again and again
+pub guesses_alike : (names : List (List ℕ)) (guesses : List Guess) (n : ℕ) (guess : Guess) → guesses ≡ replicate n guess → IsGuess names guess → AreGuesses names guesses
+guesses_alike names guesses n guess are is = λ i g e.
+    let within = slice_get_within guesses i g e in
+    let long = ap length are ∙ length-replicate n guess in
+    let same : guess ≡ g = sym (get_or-replicate n i guess guess (omega (arith, within, long))) ∙ ap (λ l. get_or l i guess) (sym are) ∙ get_or_from_slice_get guesses i g guess e in
+    subst (IsGuess names) same is
