@@ -4,18 +4,21 @@
 //! call adds one line to a buffer; after a refusal of memory the buffer has what it had, and perhaps
 //! a beginning of the line.
 
-ghost use Rattle.std.specs.Prelude.{◌≡◌, ◌++◌, ◌∷◌, [], List, codes, map, slice_index_or, OnOk};
+ghost use Rattle.std.specs.Prelude.{◌≡◌, ◌≤◌, ◌+◌, ◌++◌, ◌∷◌, [], List, codes, drop, length, map, slice_index_or, OnOk};
 ghost use Rattle.std.specs.Fmt.{decimal, signed_decimal};
 ghost use Rattle.wsm_semantics.specs.Lines.{Out, Faulty, Refused, End};
 ghost use Rattle.wsm_semantics.specs.Text as text;
 ghost use Rattle.wsm_csv.specs.Lines.{cells_text, column_names, names_of};
 
-use itoa::Buffer;
+use itoa::{Buffer, write_digits};
 use std::alloc::AllocError;
 use wsm_admission::Refusal;
 use wsm_record::{Names, RowFault, Schema, Value};
 use wsm_semantics::{Columns, OutRow, Totals};
 use wsm_windows::{PaneKind, Window};
+
+// The most bytes of a comma and a number behind it, with its sign.
+const CELL: usize = 21;
 
 /// Adds the line of a row. `columns` has for each column the names that its numbers stand for, or
 /// none; a number that stands for no name is an empty cell.
@@ -102,11 +105,19 @@ fn add_pane(
 ) -> Result<(), AllocError>
     ensures { OnOk result (out.new.items ≡ out.old.items ++ (codes "pane" ++ cells_text (text.kind_word kind ∷ text.name_at schema.now.keys key ∷ signed_decimal window.start ∷ signed_decimal window.end ∷ []))) }
 {
-    out.extend_from_slice(b"pane")?;
-    add_cell(kind_word(kind), out)?;
+    out.extend_from_slice(first_cells(kind))?;
     add_cell(name_text(Some(schema.keys()), key), out)?;
-    add_number(window.start, out)?;
-    add_number(window.end, out)
+    add_window(window, out)
+}
+
+// The cells of a window.
+fn add_window(window: Window, out: &mut Vec<u8>) -> Result<(), AllocError>
+    ensures { OnOk result (out.new.items ≡ out.old.items ++ cells_text (signed_decimal window.start ∷ signed_decimal window.end ∷ [])) }
+{
+    let mut cells = [0; 2 * CELL];
+    let end = write_cell(window.end, &mut cells, 2 * CELL);
+    let start = write_cell(window.start, &mut cells, end);
+    out.extend_from_slice(&cells[start..])
 }
 
 // The cells of a row of a stream.
@@ -162,8 +173,37 @@ fn add_value(names: Option<&Names>, value: Value, out: &mut Vec<u8>) -> Result<(
 fn add_number(number: i64, out: &mut Vec<u8>) -> Result<(), AllocError>
     ensures { OnOk result (out.new.items ≡ out.old.items ++ 44 ∷ signed_decimal number) }
 {
-    let mut digits = Buffer::new();
-    add_cell(digits.format(number).as_bytes(), out)
+    let mut cell = [0; CELL];
+    let start = write_cell(number, &mut cell, CELL);
+    out.extend_from_slice(&cell[start..])
+}
+
+// Writes a comma and a number so that they end at a place, and tells where they begin.
+fn write_cell(number: i64, cells: &mut [u8], end: usize) -> usize
+    requires room { CELL ≤ end }
+    requires within { end ≤ length cells.old }
+    ensures start { end ≤ result + CELL }
+    ensures written { drop result cells.new ≡ 44 ∷ signed_decimal number ++ drop end cells.old }
+{
+    let start = write_number(number, cells, end) - 1;
+    cells[start] = b',';
+    start
+}
+
+// Writes a number so that it ends at a place, and tells where it begins.
+fn write_number(number: i64, cells: &mut [u8], end: usize) -> usize
+    requires room { CELL ≤ end }
+    requires within { end ≤ length cells.old }
+    ensures start { end + 1 ≤ result + CELL }
+    ensures begins { result ≤ end }
+    ensures written { drop result cells.new ≡ signed_decimal number ++ drop end cells.old }
+{
+    let start = write_digits(number.unsigned_abs(), cells, end);
+    if number >= 0 {
+        return start;
+    }
+    cells[start - 1] = b'-';
+    start - 1
 }
 
 fn add_count(count: u64, out: &mut Vec<u8>) -> Result<(), AllocError>
@@ -208,14 +248,15 @@ fn name_text<'a>(names: Option<&'a Names>, number: u16) -> &'a [u8]
     }
 }
 
-fn kind_word(kind: PaneKind) -> &'static [u8]
-    ensures { result.now ≡ text.kind_word kind }
+// The first cells of the row of a pane that fires so.
+fn first_cells(kind: PaneKind) -> &'static [u8]
+    ensures { result.now ≡ codes "pane" ++ 44 ∷ text.kind_word kind }
 {
     match kind {
-        PaneKind::Early => b"early",
-        PaneKind::OnTime => b"on_time",
-        PaneKind::Late => b"late",
-        PaneKind::Final => b"final",
+        PaneKind::Early => b"pane,early",
+        PaneKind::OnTime => b"pane,on_time",
+        PaneKind::Late => b"pane,late",
+        PaneKind::Final => b"pane,final",
     }
 }
 
