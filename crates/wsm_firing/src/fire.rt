@@ -57,7 +57,7 @@ pub fn fire(
 {
     let header = verified.program().header();
     let pane = held.pane(due.spot);
-    let mut row = None;
+    let mut row = Some(Columns::new());
     let steps = run(verified, machine, due, pane, &mut row);
     streams.lose(pane);
     held.fire_at(due.spot, header.mode, &row);

@@ -1,6 +1,6 @@
 //! FIRE run on a pane.
 
-ghost use Rattle.std.specs.Prelude.{◌≡◌, ◌≤◌, [], None, Some, length, map};
+ghost use Rattle.std.specs.Prelude.{◌≡◌, ◌≤◌, [], None, Some, if◌then◌else◌, length, map};
 ghost use Rattle.wsm_semantics.specs.Summaries.{columns as columns_by, fired_count as fired_count_of};
 ghost use Rattle.wsm_machine.specs.Meaning.{plan_of, pane_cost_by};
 ghost use Rattle.wsm_machine.specs.Sound.{MayFire};
@@ -14,8 +14,8 @@ use wsm_record::Mode;
 use wsm_semantics::Columns;
 use wsm_verifier::Verified;
 
-/// Runs FIRE on a pane that fires. Sets the columns of its row, where HAVING is true, and answers how
-/// many instructions were executed.
+/// Runs FIRE on a pane that fires. Adds the columns of its row, or takes the row away where HAVING is
+/// false, and answers how many instructions were executed.
 pub fn run(
     verified: &Verified,
     machine: &mut Machine,
@@ -24,7 +24,7 @@ pub fn run(
     row: &mut Option<Columns>,
 ) -> u64
     requires fires { MayFire verified.now (fired_by verified.now.header.mode due pane.now) }
-    requires none { row.old ≡ None }
+    requires empty { row.old ≡ Some [] }
     ensures row { row.new ≡ columns_by (plan_of verified.now) due.spot.place.key (fired_count_of verified.now.header.mode pane.now) pane.now.folded }
     ensures steps { result ≡ pane_cost_by verified.now (fired_by verified.now.header.mode due pane.now) }
 {
@@ -36,9 +36,7 @@ pub fn run(
         accs: pane.folded().unwrap(),
     };
     let fired = machine.fire(verified, &inputs);
-    if fired.emits {
-        set_row(row, fired.columns);
-    }
+    set_row(row, fired.emits, fired.columns);
     fired.steps
 }
 
@@ -52,14 +50,15 @@ fn fired_count(mode: Mode, pane: &Pane) -> u64
     }
 }
 
-// Sets a row, whose columns are made where it is.
-fn set_row(row: &mut Option<Columns>, cells: &[Cell])
-    requires { length cells.now ≤ 16 }
-    ensures { row.new ≡ Some (map value_of cells.now) }
+// Adds the columns of a row that is written, and takes away one that isn't.
+fn set_row(row: &mut Option<Columns>, emits: bool, cells: &[Cell])
+    requires empty { row.old ≡ Some [] }
+    requires few { length cells.now ≤ 16 }
+    ensures { row.new ≡ (if emits then Some (map value_of cells.now) else None) }
 {
-    *row = Some(Columns::new());
-    if let Some(columns) = row {
-        add_values(columns, cells);
+    match row {
+        Some(columns) if emits => add_values(columns, cells),
+        _ => *row = None,
     }
 }
 

@@ -10,7 +10,6 @@ use Rattle.wsm_machine.specs.Step.{type_of}
 use Rattle.wsm_firing.proofs.Headers.{lawful_firing, count_fits}
 use Rattle.wsm_firing.proofs.Running.{read, same_inputs, steps_are, columns_are}
 use Rattle.wsm_firing.proofs.run.run.Goals as goal
-use Rattle.wsm_firing.proofs.run.run.Goals.{then-fired, else-fired}
 
 pub overflow_cast-inputs : goal.overflow_cast-inputs
 overflow_cast-inputs c =
@@ -32,8 +31,8 @@ fire-fired-requires c =
     let same = same_inputs key n c.fired_count.result c.unwrap.result.now c.requires.fires.held count accs (count_fits p whole key n c.requires.fires.held c.requires.fires.ranged) in
     subst (λ (i : Inputs). IsTrue (in_range p Fire i)) (sym same) c.requires.fires.ranged
 
-pub set_row-requires : goal.set_row-requires
-set_row-requires c =
+pub set_row-requires-clause-few : goal.set_row-requires-clause-few
+set_row-requires-clause-few c =
     let columns : length c.args.verified.now.header.columns ≤ 16 = (lawful_firing c.program.result.now _ (ap (λ (p : Program). p.header) (sym c.program.ensures.program)) c.header-header.ensures.lawful).columns in
     let as_many : length c.fire-fired.result.columns.now ≡ length c.args.verified.now.header.columns = sym (length_each type_of c.fire-fired.result.columns.now) ∙ ap length c.fire-fired.ensures.types in
     omega arith
@@ -49,10 +48,7 @@ returns-clause-row c =
     let accs : c.unwrap.result.now ≡ c.requires.fires.held = read (λ values. values.now) c.folded.result c.unwrap.result c.requires.fires.held c.args.pane.now.folded c.unwrap.ensures c.folded.ensures c.requires.fires.folded in
     let same = same_inputs key n c.fired_count.result c.unwrap.result.now c.requires.fires.held count accs (count_fits p whole key n c.requires.fires.held c.requires.fires.ranged) in
     let all = columns_are p key n c.args.pane.now.folded c.requires.fires.held c.requires.fires.folded _ same c.fire-fired.result.emits c.fire-fired.result.columns.now c.fire-fired.ensures.done c.fire-fired.ensures.row in
-    elim c.if-fired.branch [
-      | then-fired w ↦ w.row-is ∙ w.set_row.ensures ∙ rw w.if-fired.true at all
-      | else-fired w ↦ w.row-is ∙ c.requires.none ∙ rw w.if-fired.false at all
-    ]
+    c.set_row.ensures ∙ all
 
 pub returns-clause-steps : goal.returns-clause-steps
 returns-clause-steps c =
