@@ -97,8 +97,9 @@ fn next_to_fire(held: &HeldPanes, spot: Spot, expired: i64, old: i64, new: i64) 
     if spot.place.end > expired {
         return held.next_due(spot, new);
     }
-    match held.next_due(spot, expired) {
-        Some(next) => Some(next),
-        None => held.first_due_after(old.max(expired), new),
+    let next = held.next_due(spot, expired);
+    if next.is_some() {
+        return next;
     }
+    held.first_due_after(old.max(expired), new)
 }
