@@ -1,5 +1,5 @@
 -- The rows of windows: which is the first that has a time inside, and which is the next.
-use Rattle.std.proofs.Common.{◌≡◌, ◌≢◌, ℕ, ◌+◌, ◌*◌, ◌^◌, ◌<◌, ◌≤◌, false, List, [], ◌∷◌, length, ℤ, pos, negsuc, ◌+ℤ◌, ◌-ℤ◌, ◌*ℤ◌, ◌<ℤ◌, ◌≤ℤ◌, refl, ap, ◌∙◌, inl, inr, arith}
+use Rattle.std.proofs.Common.{◌≡◌, ◌≢◌, ◌⊎◌, ℕ, zero, suc, ◌+◌, ◌-◌, ◌*◌, ◌^◌, ◌<◌, ◌≤◌, false, List, [], ◌∷◌, length, ℤ, pos, negsuc, ◌+ℤ◌, ◌-ℤ◌, ◌*ℤ◌, ◌<ℤ◌, ◌≤ℤ◌, refl, sym, ap, ◌∙◌, inl, inr, arith}
 use Rattle.std.specs.Prelude.{int_le, unsigned_abs}
 use Rattle.std.specs.Int.{int_rem_euclid, int_div_euclid}
 use Rattle.std.proofs.lemmas.Int.{ints, by_lt_z}
@@ -89,6 +89,13 @@ not_last m b keys some apart less =
       | inr other ↦ omega (arith, other)
     ]
 
+less_one : (b keys : ℕ) → 1 ≤ b → (b - 1) * keys + keys ≡ b * keys
+less_one zero keys some = absurd (omega arith)
+less_one (suc b) keys some =
+    let same : suc b - 1 ≡ b = omega arith in
+    let one_more : suc b * keys ≡ b * keys + keys = omega arith in
+    rw (same, one_more) refl
+
 last_row : (m b keys : ℕ) → 1 ≤ keys → m * keys + keys ≡ b * keys → m < b → m + 1 ≡ b
 last_row m b keys some same less =
     elim (cases_eq (m + 1) b) [
@@ -125,6 +132,39 @@ module _ (r : Ring) (row : Row) (is : IsRing r) (of : IsRow r row) where
       let less : remains.0 + 1 < r.bound = not_last remains.0 r.bound r.keys is.keys (λ same. other (omega (arith, first_slot, same))) remains.2 in
       let rem : int_rem_euclid (window_number r (row.start +ℤ r.period)) (pos r.bound) ≡ pos (remains.0 + 1) = ap (λ (n : ℤ). int_rem_euclid n (pos r.bound)) number ∙ rem_more (window_number r row.start) r.bound remains.0 remains.1 less in
       ap (λ (z : ℤ). unsigned_abs z * r.keys) rem ∙ omega (arith, first_slot)
+
+-- a period sooner is on the grid too
+pub previous_grid : (r : Ring) (start : ℤ) → pos 1 ≤ℤ r.period → IsOnGrid r start → IsOnGrid r (start -ℤ r.period)
+previous_grid r start h on =
+    let k = on.0 -ℤ pos 1 in
+    let next : (k *ℤ r.period +ℤ r.period) ≡ (k +ℤ pos 1) *ℤ r.period = on_grid_next k r.period (k *ℤ r.period) h refl in
+    let same : k +ℤ pos 1 ≡ on.0 = omega (arith, ints) in
+    let whole : (k *ℤ r.period +ℤ r.period) ≡ start = next ∙ ap (λ (n : ℤ). n *ℤ r.period) same ∙ sym on.1 in
+    (k, omega (arith, ints, whole))
+
+module _ (r : Ring) (row : Row) (is : IsRing r) (of : IsRow r row) where
+  -- the first row is behind the last, and another behind the one before it
+  previous_either : ((row_of r (row.start -ℤ r.period) + r.keys ≡ r.bound * r.keys) × (row.slot ≡ 0)) ⊎ (row.slot ≡ row_of r (row.start -ℤ r.period) + r.keys)
+  previous_either =
+      let previous : Row = record { start = row.start -ℤ r.period; slot = row_of r (row.start -ℤ r.period) } in
+      let has : IsRow r previous = record { grid = previous_grid r row.start is.period_low of.grid; slot = refl } in
+      let same : (row.start -ℤ r.period) +ℤ r.period ≡ row.start = omega (arith, ints) in
+      let here : row.slot ≡ row_of r ((row.start -ℤ r.period) +ℤ r.period) = of.slot ∙ ap (λ (z : ℤ). row_of r z) (sym same) in
+      elim (cases_eq (previous.slot + r.keys) (r.bound * r.keys)) [
+        | inl full ↦ inl (full, here ∙ round r previous is has full)
+        | inr other ↦ inr (here ∙ next_slot r previous is has other)
+      ]
+
+  pub previous_last : row.slot ≡ 0 → row_of r (row.start -ℤ r.period) ≡ (r.bound - 1) * r.keys
+  previous_last first =
+      let one_less : (r.bound - 1) * r.keys + r.keys ≡ r.bound * r.keys = less_one r.bound r.keys is.bound in
+      elim previous_either [
+        | inl full ↦ omega (arith, one_less, full.0)
+        | inr other ↦ absurd (omega (arith, other, first, is.keys))
+      ]
+
+  pub previous_slot : row.slot ≢ 0 → row_of r (row.start -ℤ r.period) + r.keys ≡ row.slot
+  previous_slot later = elim previous_either [ inl full ↦ absurd (later full.1) | inr other ↦ sym other ]
 
 -- the window at 0 has the first row
 pub zero_row : (r : Ring) → IsRing r → row_of r (pos 0) ≡ 0

@@ -1,6 +1,6 @@
 //! Where a ring has its slots.
 
-ghost use Rattle.std.specs.Prelude.{◌≡◌, ◌↔◌, ◌+◌, ◌*◌, ◌≤◌, ◌<◌, ◌^◌, ◌+ℤ◌, ◌≤ℤ◌, IsTrue};
+ghost use Rattle.std.specs.Prelude.{◌≡◌, ◌↔◌, ◌+◌, ◌*◌, ◌≤◌, ◌<◌, ◌^◌, ◌+ℤ◌, ◌-ℤ◌, ◌≤ℤ◌, IsTrue};
 ghost use Rattle.std.specs.Int.{w64};
 ghost use Rattle.std.specs.Int.RustNames.{FitsSigned};
 ghost use Rattle.wsm_windows.specs.Windows.{IsTime, greatest_span, window};
@@ -55,8 +55,9 @@ impl Ring {
         time + (self.period - time.rem_euclid(self.period))
     }
 
-    // The row of the first window that has a time inside, beside a row that is known. Records come
-    // nearly in the order of their times, so that row is mostly the one, and nothing is divided.
+    // The row of the first window that has a time inside, where the row of another is known. Records
+    // come nearly in the order of their times, so mostly it is that row or one beside it, and nothing is
+    // divided.
     pub(crate) fn first_row(self, known: Row, time: i64) -> Row
         requires ring { IsRing self }
         requires size { self.size ≤ℤ greatest_span }
@@ -66,12 +67,29 @@ impl Ring {
         ensures start { result.start ≡ windows.first_start self.size self.period time }
     {
         let before = time - self.size;
-        if before < known.start && known.start <= before + self.period {
-            return known;
+        let near = self.nearer_row(known, before);
+        if before < near.start && near.start <= before + self.period {
+            return near;
         }
         let start = self.start_past(before);
         let slot = self.row(start);
         Row { start, slot }
+    }
+
+    // The row, or one beside it, where that starts nearer to the first start past a time.
+    fn nearer_row(self, row: Row, time: i64) -> Row
+        requires ring { IsRing self }
+        requires row { IsRow self row }
+        requires next { FitsSigned w64 (time +ℤ self.period) }
+        ensures { IsRow self result }
+    {
+        if row.start <= time {
+            self.next_row(row)
+        } else if row.start > time + self.period {
+            self.previous_row(row)
+        } else {
+            row
+        }
     }
 
     // The row of the window that starts a period later.
@@ -87,6 +105,23 @@ impl Ring {
         if slot == self.bound * self.keys {
             Row { start, slot: 0 }
         } else {
+            Row { start, slot }
+        }
+    }
+
+    // The row of the window that starts a period sooner.
+    fn previous_row(self, row: Row) -> Row
+        requires ring { IsRing self }
+        requires row { IsRow self row }
+        requires previous { FitsSigned w64 (row.start -ℤ self.period) }
+        ensures { IsRow self result }
+    {
+        let start = row.start - self.period;
+        if row.slot == 0 {
+            let slot = (self.bound - 1) * self.keys;
+            Row { start, slot }
+        } else {
+            let slot = row.slot - self.keys;
             Row { start, slot }
         }
     }

@@ -13,17 +13,17 @@ overflow_add-before c =
     let before : SFits w64 (c.args.time -ℤ c.args.self.size) = search rules in
     simp to_z-of_z (between_fits (c.args.time -ℤ c.args.self.size) ((c.args.time -ℤ c.args.self.size) +ℤ c.args.self.period) c.args.time before time (omega (arith, ints, c.requires.ring.period_low)) (omega (arith, ints, c.requires.ring.period_high)))
 
-pub returns-then-known-before-clause-start : goal.returns-then-known-before-clause-start
-returns-then-known-before-clause-start c =
+pub returns-then-near-before-clause-start : goal.returns-then-near-before-clause-start
+returns-then-near-before-clause-start c =
     let time : SFits w64 c.args.time = c.ranges.time in
     let size : SFits w64 c.args.self.size = search rules in
     let period : SFits w64 c.args.self.period = search rules in
-    let known : SFits w64 c.args.known.start = search rules in
+    let near : SFits w64 c.nearer_row-near.result.start = search rules in
     let before : SFits w64 (c.args.time -ℤ c.args.self.size) = search rules in
     let sum : SFits w64 ((c.args.time -ℤ c.args.self.size) +ℤ c.args.self.period) = between_fits (c.args.time -ℤ c.args.self.size) ((c.args.time -ℤ c.args.self.size) +ℤ c.args.self.period) c.args.time before time (omega (arith, ints, c.requires.ring.period_low)) (omega (arith, ints, c.requires.ring.period_high)) in
-    let past : (c.args.time -ℤ c.args.self.size) <ℤ c.args.known.start = below_from _ _ (simp to_z-of_z at c.if-before-known.true) in
-    let close : c.args.known.start ≤ℤ ((c.args.time -ℤ c.args.self.size) +ℤ c.args.self.period) = le_from _ _ (simp to_z-of_z at c.if-known-before.true) in
-    near_first c.args.self.size c.args.self.period c.args.time c.requires.known.grid.0 c.args.known.start c.requires.ring.period_low c.requires.known.grid.1 past close
+    let past : (c.args.time -ℤ c.args.self.size) <ℤ c.nearer_row-near.result.start = below_from _ _ (simp to_z-of_z at c.if-before-near.true) in
+    let close : c.nearer_row-near.result.start ≤ℤ ((c.args.time -ℤ c.args.self.size) +ℤ c.args.self.period) = le_from _ _ (simp to_z-of_z at c.if-near-before.true) in
+    near_first c.args.self.size c.args.self.period c.args.time c.nearer_row-near.ensures.grid.0 c.nearer_row-near.result.start c.requires.ring.period_low c.nearer_row-near.ensures.grid.1 past close
 
 pub start_past-start-requires-clause-next : goal.start_past-start-requires-clause-next
 start_past-start-requires-clause-next c =
