@@ -53,4 +53,4 @@ invariant_of-result c =
     let taken = c.loop-name.invariant.taken ∙ take_all i names all in
     let count : length c.loop-name.texts.keys ≡ length names = sym (length-map c.loop-name.texts.keys (λ v. v.items)) ∙ ap (λ (l : List (List ℕ)). length l) taken in
     let lawful = ap (are_names_after []) c.loop-name.invariant.taken ∙ taken_lawful names (take i names) (drop i names) c.are_names.ensures c.loop-name.invariant.repeated (take_all i names all) (drop_all i names all) in
-    (omega (arith, count), (lawful, subst (λ ns. AreGuesses ns c.in_ok-guesses_of.guesses.items) (sym taken) c.in_ok-guesses_of.ensures))
+    (omega (arith, count), (lawful, subst (λ ns. AreGuesses ns c.in_ok-guesses.guesses.items) (sym taken) c.in_ok-guesses.ensures))
