@@ -25,7 +25,8 @@ pub struct Names {
     shift: u32,
 }
 
-// A number to try for a text, and the word of the name that has it, or 0 where it has none.
+// A number to try for a text, and the word of the name that has it: 0, which no text has, where that
+// name is too long for one.
 #[derive(Clone, Copy)]
 struct Guess {
     word: u64,
@@ -154,8 +155,8 @@ impl Names {
     }
 }
 
-// At the place of each name's text a guess of its number, which shifts by so much give. Where names
-// share a place the last one has it.
+// The guesses for some names, each at the place of its name's text, and the shift that gives places.
+// Where names share a place the last one has it.
 fn guesses_of(alloc: Global, names: &[Name]) -> Result<(Vec<Guess>, u32), AllocError>
     requires { length names.now ≤ MAX_NAMES }
     ensures { IfOk result (λ r. AreGuesses names.now r.0.items) }
@@ -198,7 +199,7 @@ fn mark_of(text: &[u8]) -> u64 {
     }
 }
 
-// The bytes of a text of one to seven as one number, which no other text has.
+// The bytes of a text of one to seven as one number, its word, which no other text has.
 #[inline(always)]
 fn word_of(text: &[u8]) -> Option<u64>
     ensures { IfSome result (λ word. word ≡ spelled text.now) }
