@@ -80,6 +80,7 @@ impl Streams {
     }
 
     /// The relation loses the row that stands for a pane, if one does.
+    #[inline(always)]
     pub(crate) fn lose(&mut self, pane: &Pane)
         requires { CanLose self.old (standing_row pane.now.stands) }
         ensures told { (before now : List (List Value)) → IsTold self.old before (cons_option (standing_row pane.now.stands) now) → IsTold self.new before now }

@@ -194,6 +194,7 @@ impl HeldPanes {
     }
 
     /// Where the pane behind one is, in the order of the places, if its window ends by a limit.
+    #[inline(always)]
     pub fn next_due(&self, spot: Spot, limit: i64) -> Option<Spot>
         requires { IsSome (find place_cmp spot.place (entries_of self.now)) }
         ensures { place_found result ≡ place_due limit (following spot.place (entries_of self.now)) }
@@ -205,6 +206,7 @@ impl HeldPanes {
     }
 
     /// The pane at a spot.
+    #[inline(always)]
     pub fn pane(&self, spot: Spot) -> &Pane
         requires { IsSome (find place_cmp spot.place (entries_of self.now)) }
         ensures { find place_cmp spot.place (entries_of self.now) ≡ Some result.now }

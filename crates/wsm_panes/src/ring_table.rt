@@ -214,6 +214,7 @@ impl<P: TakesRecords> PaneTable<P> for RingTable<P> {
         spot_in(&self.slots, found)
     }
 
+    #[inline(always)]
     fn next_due(&self, spot: Spot, limit: i64) -> Option<Spot> {
         let last = last_due(self.ring, self.first, self.last, limit)?;
         let key = spot.place.key as usize;
@@ -222,6 +223,7 @@ impl<P: TakesRecords> PaneTable<P> for RingTable<P> {
         spot_in(&self.slots, found)
     }
 
+    #[inline(always)]
     fn pane(&self, spot: Spot) -> &P {
         pane_in(&self.slots, self.slot_of(spot), spot.place).unwrap()
     }
