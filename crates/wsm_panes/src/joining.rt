@@ -24,7 +24,8 @@ use wsm_sessions::{Linked, Sessions};
 use wsm_windows::Window;
 
 /// Puts a record into its session, which joins the panes that it is linked to. Gives the window of
-/// the session, and tells whether two were joined.
+/// the session, and tells whether two were joined. Its frame is large, so it isn't inlined.
+#[inline(never)]
 pub(crate) fn enter_session(
     table: &mut ListTable<Pane>,
     sessions: &mut Sessions,
