@@ -5,7 +5,7 @@ use Rattle.std.specs.Bool.{Decides}
 use Rattle.std.specs.Option.{SomeIff, option_eq}
 use Rattle.std.specs.Ordering.{int_eq, int_cmp, nat_cmp}
 use Rattle.std.specs.declared.cmp.Ordering.TheVariants.{Less, Equal}
-use lib.Signed.{le_z, lt_z}
+use lib.Signed.{le_z}
 use Rattle.std.proofs.lemmas.Int.{ints, by_lt_z, int_max_is}
 use Rattle.std.proofs.lemmas.Nat.{row_fits}
 use Rattle.std.proofs.lemmas.Bool.Decides.{nat_tests, Decides-like, Decides-int_eq}
@@ -106,9 +106,6 @@ between_fits a b c f g h k = search (rules, ints)
 
 pub le_from : (x y : ℤ) → le_z x y ≡ true → x ≤ℤ y
 le_from x y h = grind (arith, ints)
-
-pub below_from : (x y : ℤ) → lt_z x y ≡ true → x <ℤ y
-below_from x y h = grind (arith, ints)
 
 pub lt_from : (x y : ℤ) → le_z x y ≡ false → y <ℤ x
 lt_from x y h = grind (arith, ints)

@@ -1,6 +1,6 @@
 //! Where a ring has its slots.
 
-ghost use Rattle.std.specs.Prelude.{◌≡◌, ◌↔◌, ◌+◌, ◌*◌, ◌≤◌, ◌<◌, ◌^◌, ◌+ℤ◌, ◌-ℤ◌, ◌≤ℤ◌, IsTrue};
+ghost use Rattle.std.specs.Prelude.{◌≡◌, ◌↔◌, ◌+◌, ◌*◌, ◌≤◌, ◌<◌, ◌^◌, ◌+ℤ◌, ◌-ℤ◌, ◌<ℤ◌, ◌≤ℤ◌, IsTrue};
 ghost use Rattle.std.specs.Int.{w64};
 ghost use Rattle.std.specs.Int.RustNames.{FitsSigned};
 ghost use Rattle.wsm_windows.specs.Windows.{IsTime, greatest_span, window};
@@ -66,30 +66,35 @@ impl Ring {
         ensures row { IsRow self result }
         ensures start { result.start ≡ windows.first_start self.size self.period time }
     {
-        let before = time - self.size;
-        let near = self.nearer_row(known, before);
-        if before < near.start && near.start <= before + self.period {
-            return near;
-        }
-        let start = self.start_past(before);
-        let slot = self.row(start);
-        Row { start, slot }
+        self.row_past(known, time - self.size)
     }
 
-    // The row, or one beside it, where that starts nearer to the first start past a time.
-    fn nearer_row(self, row: Row, time: i64) -> Row
+    // The row of the first window that starts past a time, where the row of another is known.
+    fn row_past(self, known: Row, time: i64) -> Row
         requires ring { IsRing self }
-        requires row { IsRow self row }
+        requires known { IsRow self known }
         requires next { FitsSigned w64 (time +ℤ self.period) }
-        ensures { IsRow self result }
+        ensures row { IsRow self result }
+        ensures past { time <ℤ result.start }
+        ensures close { result.start ≤ℤ (time +ℤ self.period) }
     {
-        if row.start <= time {
-            self.next_row(row)
-        } else if row.start > time + self.period {
-            self.previous_row(row)
+        if known.start <= time {
+            let next = self.next_row(known);
+            if time < next.start {
+                return next;
+            }
         } else {
-            row
+            if known.start <= time + self.period {
+                return known;
+            }
+            let previous = self.previous_row(known);
+            if previous.start <= time + self.period {
+                return previous;
+            }
         }
+        let start = self.start_past(time);
+        let slot = self.row(start);
+        Row { start, slot }
     }
 
     // The row of the window that starts a period later.
@@ -114,7 +119,8 @@ impl Ring {
         requires ring { IsRing self }
         requires row { IsRow self row }
         requires previous { FitsSigned w64 (row.start -ℤ self.period) }
-        ensures { IsRow self result }
+        ensures row { IsRow self result }
+        ensures start { result.start ≡ row.start -ℤ self.period }
     {
         let start = row.start - self.period;
         if row.slot == 0 {

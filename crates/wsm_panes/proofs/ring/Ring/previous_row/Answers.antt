@@ -3,8 +3,8 @@ use Rattle.std.proofs.lemmas.Int.{to_z-of_z}
 use Rattle.wsm_panes.proofs.Rows.{previous_grid, previous_last, previous_slot}
 use Rattle.wsm_panes.proofs.ring.Ring.previous_row.Goals as goal
 
-pub returns-then-row-eq0 : goal.returns-then-row-eq0
-returns-then-row-eq0 c =
+pub returns-then-row-eq0-clause-row : goal.returns-then-row-eq0-clause-row
+returns-then-row-eq0-clause-row c =
     let start : SFits w64 c.args.row.start = search rules in
     let period : SFits w64 c.args.self.period = search rules in
     let previous = c.requires.previous in
@@ -18,8 +18,8 @@ overflow_sub-slot-else-row-eq0 c =
     let whole = previous_slot c.args.self c.args.row c.requires.ring c.requires.row (λ same. c.if-row-eq0.false same) in
     omega (arith, whole)
 
-pub returns-else-row-eq0 : goal.returns-else-row-eq0
-returns-else-row-eq0 c =
+pub returns-else-row-eq0-clause-row : goal.returns-else-row-eq0-clause-row
+returns-else-row-eq0-clause-row c =
     let start : SFits w64 c.args.row.start = search rules in
     let period : SFits w64 c.args.self.period = search rules in
     let previous = c.requires.previous in
