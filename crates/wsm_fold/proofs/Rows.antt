@@ -1,7 +1,7 @@
 -- Rows of values that are joined place by place.
-use Rattle.std.proofs.Common.{◌≡◌, ℕ, zero, suc, ◌-◌, ◌<◌, true, List, [], ◌∷◌, ◌++◌, length, get_or, set, take, drop, replicate, ◌≤◌, length-append, length-drop, length-take, refl, sym, ap, ◌∙◌, arith}
+use Rattle.std.proofs.Common.{◌≡◌, ℕ, zero, suc, ◌-◌, ◌<◌, true, List, [], ◌∷◌, ◌++◌, length, get_or, set, take, drop, replicate, ◌≤◌, length-append, length-drop, length-take, refl, sym, ap, ◌∙◌, arith, take-append-drop}
 use Rattle.std.proofs.Math.Seq.{take-nil, drop-append_seam}
-use Rattle.std.proofs.lemmas.List.{length-replicate, drop-replicate}
+use Rattle.std.proofs.lemmas.List.{append-nil, drop_all, length-replicate, drop-replicate}
 use Rattle.std.proofs.lemmas.Bool.{true≢false, and_parts}
 use Rattle.wsm_record.specs.declared.event.Value.{Value}
 use Rattle.wsm_record.specs.declared.event.Value.TheVariants.{Int, Bool as Truth}
@@ -167,3 +167,9 @@ copied_among n z xs copy e h = simp (e, length-append, length-drop, length-repli
 pub blank_behind : (n : ℕ) (z : Value) (xs copy : List Value) → copy ≡ xs → drop (length xs) (copy ++ drop (length xs) (replicate n z)) ≡ replicate (n - length xs) z
 blank_behind n z xs copy e =
     ap (λ ys. drop (length xs) (ys ++ drop (length xs) (replicate n z))) e ∙ drop-append_seam xs (drop (length xs) (replicate n z)) ∙ drop-replicate (length xs) n z
+
+-- ---- a row in all of its places
+
+pub filled_up : (n : ℕ) (old new row : List Value) → length old ≡ n → take n new ≡ row → drop n new ≡ drop n old → new ≡ row
+filled_up n old new row all front rest =
+    sym (take-append-drop n new) ∙ ap (λ xs. take n new ++ xs) (rest ∙ drop_all n old (omega (arith, all))) ∙ append-nil (take n new) ∙ front

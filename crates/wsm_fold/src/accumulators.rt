@@ -83,6 +83,16 @@ impl Folded {
     }
 }
 
+/// Folds a row of values into what accumulators of these kinds hold, a value each, where they are.
+pub fn fold_into(kinds: &[Kind], held: &mut [Value], values: &[Value])
+    requires held { IsTrue (are_of_kinds kinds.now held.old) }
+    requires types { IsTrue (are_of_kinds kinds.now values.now) }
+    requires sums { SumsFit kinds.now held.old values.now }
+    ensures { held.new ≡ joins kinds.now held.old values.now }
+{
+    join_all(kinds, held, values);
+}
+
 // Joins a row of values to those in the first places.
 fn join_all(kinds: &[Kind], places: &mut [Value], values: &[Value])
     requires kinds { length values.now ≤ length kinds.now }

@@ -3,7 +3,8 @@
 //! [`Fold`] is a join of two values with its laws: the order of a bag and the way it is put together
 //! don't matter, and a bag of so many values within bounds has its fold within bounds. [`Sum`],
 //! [`Min`], [`Max`], [`Any`] and [`All`] are the five folds, which a program names by [`Kind`].
-//! [`Folded`] holds the folds of a pane's accumulators, inline: its calls take no memory.
+//! [`Folded`] holds the folds of a pane's accumulators, inline, and [`fold_into`] folds into values that
+//! lie elsewhere: their calls take no memory.
 //!
 //! ```rust
 //! use wsm_fold::{Folded, Kind};
@@ -17,7 +18,7 @@
 //! ```
 #![tactic(auto)]
 
-pub use accumulators::Folded;
+pub use accumulators::{Folded, fold_into};
 pub use fold::{All, Any, Fold, Max, Min, Sum};
 pub use wsm_record::Kind;
 
