@@ -1,5 +1,4 @@
-use Rattle.std.proofs.Common.{◌≡◌, ◌≤◌, List, length, take, drop, arith, refl, ap, sym, ◌∙◌, take-append-drop}
-use Rattle.wsm_record.specs.declared.event.Value.{Value}
+use Rattle.std.proofs.Common.{◌≡◌, length, arith}
 use Rattle.wsm_fold.proofs.Rows.{length-are_of_kinds, filled_up}
 use Rattle.wsm_fold.proofs.accumulators.fold_into.Goals as goal
 

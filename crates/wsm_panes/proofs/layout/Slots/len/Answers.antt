@@ -1,0 +1,8 @@
+use Rattle.std.proofs.Common.{arith}
+use Rattle.wsm_panes.proofs.Laid.{length-entries}
+use Rattle.wsm_panes.proofs.layout.Slots.len.Goals as goal
+
+pub returns : goal.returns
+returns c =
+    let a = c.self.inside in
+    rw (← c.self.view_is) (omega (arith, c.len.ensures, a.heads.ok.0, length-entries a.widths.accumulators a.widths.columns a.heads.items a.folds.items a.rows.items))

@@ -1,0 +1,80 @@
+-- Slots as three lists: of each slot a head, the values that its pane is folded to, and those of the row that stands for it.
+use Rattle.std.specs.Prelude.{◌≡◌, ℕ, ◌+◌, ◌*◌, ◌≤◌, Bool, true, false, List, [], ◌∷◌, ◌++◌, ◌<◌, take, drop, length, Option, Some, None, if◌then◌else◌}
+use Rattle.wsm_record.specs.declared.event.Value.{Value}
+use Rattle.wsm_record.specs.declared.words.Kind.{Kind}
+use Rattle.wsm_record.specs.declared.words.Mode.{Mode}
+use Rattle.wsm_record.specs.declared.words.Mode.TheVariants.{Discarding, Accumulating}
+use Rattle.wsm_fold.specs.Fold.{joins}
+use Rattle.wsm_semantics.specs.declared.place.Place.{Place}
+use Rattle.wsm_semantics.specs.declared.standing.Standing.{Standing}
+use Rattle.wsm_semantics.specs.declared.standing.Standing.TheVariants as standing
+use Rattle.wsm_semantics.specs.Summaries.{Pane}
+use Rattle.wsm_panes.specs.declared.head.Head.{Head}
+use Rattle.wsm_panes.specs.declared.head.Stands.{Stands}
+use Rattle.wsm_panes.specs.declared.head.Stands.TheVariants.{Unfired, NoRow, FiredRow, Joined}
+use Rattle.wsm_panes.specs.declared.widths.Widths.{Widths}
+
+-- ---- an entry, by what its slot has
+
+abbrev pub folded_by : Bool → List Value → Option (List Value)
+folded_by is_folded folds = if is_folded then Some folds else None
+
+abbrev pub standing_by : Stands → List Value → Standing
+standing_by Unfired row = standing.Unfired
+standing_by NoRow row = standing.Row None
+standing_by FiredRow row = standing.Row (Some row)
+standing_by Joined row = standing.Joined
+
+abbrev pub entry_by : Head → List Value → List Value → Option (Place × Pane (List Value))
+entry_by h folds row =
+    if h.is_held then Some (h.place, record { count = h.count; unshown = h.unshown; folded = folded_by h.is_folded folds; stands = standing_by h.stands row }) else None
+
+-- the entries of slots whose panes have so many accumulators and so many columns
+abbrev pub entries_by : ℕ → ℕ → List Head → List Value → List Value → List (Option (Place × Pane (List Value)))
+entries_by w c [] folds rows = []
+entries_by w c (h ∷ hs) folds rows = entry_by h (take w folds) (take c rows) ∷ entries_by w c hs (drop w folds) (drop c rows)
+
+-- slots, and how wide their panes are
+pub record Slotted : Type 0 where
+  pub widths : Widths
+  pub slots : List (Option (Place × Pane (List Value)))
+
+-- there are as many values as the slots have together
+pub record IsLaidOut (w : Widths) (heads : List Head) (folds rows : List Value) : Type 0 where
+  pub few : w.columns ≤ 16
+  pub of_folds : length folds ≡ length heads * w.accumulators
+  pub of_rows : length rows ≡ length heads * w.columns
+
+-- the values of a slot, among those of slots that have so many each
+abbrev pub part_at : ℕ → ℕ → List Value → List Value
+part_at i w xs = take w (drop (i * w) xs)
+
+-- with others in their place
+abbrev pub with_part : ℕ → ℕ → List Value → List Value → List Value
+with_part i w xs ys = take (i * w) xs ++ (ys ++ drop w (drop (i * w) xs))
+
+-- a slot is one of those that there are values of
+pub record HasPart (i w : ℕ) (xs : List Value) : Type 0 where
+  pub count : ℕ
+  pub within : i < count
+  pub size : length xs ≡ count * w
+
+-- a row folded into what is folded already, if anything is
+abbrev pub folded_on : Bool → List Kind → List Value → List Value → List Value
+folded_on is_folded kinds held row = if is_folded then joins kinds held row else row
+
+-- ---- what is done to a head
+
+-- a pane of one record
+abbrev pub head_of_one : Place → Head
+head_of_one place = record { place = place; count = 1; unshown = 1; is_held = true; is_folded = true; stands = Unfired }
+
+abbrev pub head_with_one_more : Head → Head
+head_with_one_more h = record h { count = h.count + 1; unshown = h.unshown + 1; is_folded = true }
+
+abbrev pub left_by : Mode → Bool → Bool
+left_by Accumulating is_folded = is_folded
+left_by Discarding is_folded = false
+
+abbrev pub head_fired : Mode → Bool → Head → Head
+head_fired mode has_row h = record h { unshown = 0; is_folded = left_by mode h.is_folded; stands = if has_row then FiredRow else NoRow }

@@ -1,0 +1,93 @@
+//! What a slot has beside the values of its pane.
+
+ghost use Rattle.std.specs.Prelude.{◌≡◌, ◌+◌, ◌<◌, ◌^◌, true, false, pos, if◌then◌else◌};
+ghost use Rattle.wsm_panes.specs.Layout.{head_of_one, head_fired, head_with_one_more};
+
+use wsm_record::Mode;
+use wsm_semantics::Place;
+
+/// What stands for a pane. The values of a row lie beside it.
+#[derive(Clone, Copy, Debug, PartialEq, Eq)]
+pub(crate) enum Stands {
+    /// Nothing, as no part of the pane fired.
+    Unfired,
+    /// No row, as HAVING was false.
+    NoRow,
+    /// The row of a firing.
+    FiredRow,
+    /// Nothing, as two parts that fired were joined since.
+    Joined,
+}
+
+/// What a slot has of its entry, if there is one, beside the values.
+#[derive(Clone, Copy, Debug)]
+pub(crate) struct Head {
+    pub(crate) place: Place,
+    pub(crate) count: u64,
+    pub(crate) unshown: u64,
+    // Whether there is an entry.
+    pub(crate) is_held: bool,
+    // Whether there are records that the next firing is computed over.
+    pub(crate) is_folded: bool,
+    pub(crate) stands: Stands,
+}
+
+impl Head {
+    /// That of a free slot.
+    pub(crate) fn free() -> Head
+        ensures { result.is_held ≡ false }
+    {
+        Head {
+            place: Place {
+                end: 0,
+                start: 0,
+                key: 0,
+            },
+            count: 0,
+            unshown: 0,
+            is_held: false,
+            is_folded: false,
+            stands: Stands::Unfired,
+        }
+    }
+
+    /// That of a place with a pane of one record.
+    pub(crate) fn of_one(place: Place) -> Head
+        ensures { result ≡ head_of_one place }
+    {
+        Head {
+            place,
+            count: 1,
+            unshown: 1,
+            is_held: true,
+            is_folded: true,
+            stands: Stands::Unfired,
+        }
+    }
+
+    /// Counts one record more, which is folded.
+    pub(crate) fn record(&mut self)
+        requires count { self.old.count < 2 ^ 63 }
+        requires unshown { self.old.unshown < 2 ^ 63 }
+        ensures { self.new ≡ head_with_one_more self.old }
+    {
+        self.count += 1;
+        self.unshown += 1;
+        self.is_folded = true;
+    }
+
+    /// Has the pane have fired, with a row or with none.
+    pub(crate) fn fire(&mut self, mode: Mode, has_row: bool)
+        ensures { self.new ≡ head_fired mode has_row self.old }
+    {
+        self.unshown = 0;
+        if mode == Mode::Discarding {
+            self.is_folded = false;
+        }
+        self.stands = if has_row {
+            Stands::FiredRow
+        } else {
+            Stands::NoRow
+        };
+    }
+}

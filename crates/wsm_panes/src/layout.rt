@@ -1,0 +1,183 @@
+//! Panes in slots.
+
+ghost use Rattle.std.specs.Prelude.{◌≡◌, ◌<◌, ◌≤◌, ◌^◌, List, Some, None, true, IfOk, IfSome, IsTrue, length, option_map, replicate, slice_set};
+ghost use Rattle.std.specs.Option.{is_some};
+ghost use Rattle.wsm_record.specs.declared.words.Kind.{Kind as OneKind};
+ghost use Rattle.wsm_fold.specs.Fold.{are_of_kinds};
+ghost use Rattle.wsm_panes.specs.Held.{CanRecord, CanTake, once_fired, with_one_more};
+ghost use Rattle.wsm_panes.specs.Layout.{HasPart, folded_on, part_at, with_part};
+ghost use Rattle.wsm_panes.specs.Ring.{slot_at};
+
+use crate::head::Head;
+use crate::view::PaneView;
+use crate::widths::Widths;
+use std::alloc::{AllocError, Global};
+use std::marker::Model;
+use wsm_fold::fold_into;
+use wsm_record::{Kind, Mode, Value};
+use wsm_semantics::{Columns, Place};
+
+/// Slots, each of which is free or has a place with its pane. The values of all panes lie beside one
+/// another, as many for each as it has accumulators and columns. A clause sees the entries.
+#[derive(Drop)]
+pub(crate) struct Slots {
+    widths: Widths,
+    heads: Vec<Head>,
+    folds: Vec<Value>,
+    rows: Vec<Value>,
+}
+
+impl Model for Slots {
+    ghost use Rattle.wsm_panes.specs.Layout.{IsLaidOut, Slotted, entries_by};
+
+    ghost Value = { Slotted };
+
+    ghost view = { λ a. record { widths = a.widths; slots = entries_by a.widths.accumulators a.widths.columns a.heads.items a.folds.items a.rows.items } };
+
+    ghost invariant = { λ a. IsLaidOut a.widths a.heads.items a.folds.items a.rows.items };
+}
+
+impl Slots {
+    /// So many slots, each of which is free. No later call takes memory.
+    ///
+    /// # Errors
+    ///
+    /// Where there is no memory for them.
+    pub(crate) fn open(alloc: Global, widths: Widths, count: usize) -> Result<Slots, AllocError>
+        requires count { count ≤ 2 ^ 32 }
+        requires accumulators { widths.accumulators ≤ 16 }
+        requires columns { widths.columns ≤ 16 }
+        ensures { IfOk result (λ s. s ≡ record { widths = widths; slots = replicate count None }) }
+    {
+        Ok(Slots {
+            widths,
+            heads: copies(alloc, Head::free(), count)?,
+            folds: copies(alloc, Value::Int(0), count * widths.accumulators)?,
+            rows: copies(alloc, Value::Int(0), count * widths.columns)?,
+        })
+    }
+
+    /// How many slots there are.
+    pub(crate) fn len(&self) -> usize
+        ensures { result ≡ length self.now.slots }
+    {
+        self.heads.len()
+    }
+
+    /// The place of the entry in a slot, if there is one.
+    pub(crate) fn place(&self, slot: usize) -> Option<Place>
+        requires { slot < length self.now.slots }
+        ensures { result ≡ option_map (λ e. e.0) (slot_at self.now.slots slot) }
+    {
+        let head = &self.heads[slot];
+        if head.is_held {
+            Some(head.place)
+        } else {
+            None
+        }
+    }
+
+    /// The pane in a slot.
+    pub(crate) fn pane(&self, slot: usize) -> PaneView<'_>
+        requires { IsTrue (is_some (slot_at self.now.slots slot)) }
+        ensures { option_map (λ e. e.1) (slot_at self.now.slots slot) ≡ Some result }
+    {
+        let head = &self.heads[slot];
+        PaneView {
+            count: head.count,
+            unshown: head.unshown,
+            is_folded: head.is_folded,
+            stands: head.stands,
+            folds: part(&self.folds, slot, self.widths.accumulators),
+            row: part(&self.rows, slot, self.widths.columns),
+        }
+    }
+
+    /// Has a slot have a place with a pane of one record, which is folded by the values.
+    pub(crate) fn start(&mut self, slot: usize, place: Place, values: &[Value])
+        requires slot { slot < length self.old.slots }
+        requires wide { length values.now ≡ self.old.widths.accumulators }
+        ensures { (kinds : List OneKind) → self.new ≡ record self.old { slots = slice_set self.old.slots slot (Some (place, with_one_more kinds values.now None)) } }
+    {
+        self.heads[slot] = Head::of_one(place);
+        write_part(&mut self.folds, slot, values);
+    }
+
+    /// Puts a record into the pane in a slot, which is folded by the values.
+    pub(crate) fn record(&mut self, slot: usize, kinds: &[Kind], values: &[Value])
+        requires there { IsTrue (is_some (slot_at self.old.slots slot)) }
+        requires wide { length values.now ≡ self.old.widths.accumulators }
+        requires types { IsTrue (are_of_kinds kinds.now values.now) }
+        requires takes { IfSome (slot_at self.old.slots slot) (λ e. CanRecord kinds.now values.now e.1) }
+        ensures { self.new ≡ record self.old { slots = slice_set self.old.slots slot (option_map (λ e. (e.0, with_one_more kinds.now values.now (Some e.1))) (slot_at self.old.slots slot)) } }
+    {
+        fold_part(&mut self.folds, slot, self.heads[slot].is_folded, kinds, values);
+        self.heads[slot].record();
+    }
+
+    /// Has the pane in a slot, if there is one, have fired.
+    pub(crate) fn fire(&mut self, slot: usize, mode: Mode, row: &Option<Columns>)
+        requires slot { slot < length self.old.slots }
+        requires wide { IfSome row.now (λ columns. length columns ≡ self.old.widths.columns) }
+        ensures { self.new ≡ record self.old { slots = slice_set self.old.slots slot (option_map (λ e. (e.0, once_fired mode row.now e.1)) (slot_at self.old.slots slot)) } }
+    {
+        self.heads[slot].fire(mode, row.is_some());
+        if let Some(columns) = row {
+            write_part(&mut self.rows, slot, columns.as_slice());
+        }
+    }
+
+    /// Has a slot be free.
+    pub(crate) fn clear(&mut self, slot: usize)
+        requires { slot < length self.old.slots }
+        ensures { self.new ≡ record self.old { slots = slice_set self.old.slots slot None } }
+    {
+        self.heads[slot].is_held = false;
+    }
+}
+
+// The values of a slot, among those of slots that have so many each.
+fn part(values: &[Value], slot: usize, width: usize) -> &[Value]
+    requires { HasPart slot width values.now }
+    ensures { result.now ≡ part_at slot width values.now }
+{
+    let at = slot * width;
+    &values[at..at + width]
+}
+
+// Writes the values of a slot, among those of slots that have as many each.
+fn write_part(values: &mut [Value], slot: usize, part: &[Value])
+    requires { HasPart slot (length part.now) values.old }
+    ensures { values.new ≡ with_part slot (length part.now) values.old part.now }
+{
+    let at = slot * part.len();
+    values[at..at + part.len()].copy_from_slice(part);
+}
+
+// Folds a row into the values of a slot, among those of slots that have as many each, where something
+// is folded there already. Else writes it there.
+fn fold_part(values: &mut [Value], slot: usize, is_folded: bool, kinds: &[Kind], row: &[Value])
+    requires part { HasPart slot (length row.now) values.old }
+    requires types { IsTrue (are_of_kinds kinds.now row.now) }
+    requires takes { is_folded ≡ true → CanTake kinds.now row.now (part_at slot (length row.now) values.old) }
+    ensures { values.new ≡ with_part slot (length row.now) values.old (folded_on is_folded kinds.now (part_at slot (length row.now) values.old) row.now) }
+{
+    let at = slot * row.len();
+    let held = &mut values[at..at + row.len()];
+    if is_folded {
+        fold_into(kinds, held, row);
+    } else {
+        held.copy_from_slice(row);
+    }
+}
+
+// A vector of so many copies of a value.
+fn copies<T: Copy>(alloc: Global, value: T, count: usize) -> Result<Vec<T>, AllocError>
+    ensures { IfOk result (λ v. v.items ≡ replicate count value) }
+{
+    let mut values = Vec::with_capacity(alloc, count)?;
+    for _ in 0..count {
+        values.push_reserved(value);
+    }
+    Ok(values)
+}

@@ -1,0 +1,86 @@
+//! Panes as they are read.
+
+ghost use Rattle.std.specs.Prelude.{◌≡◌, ◌≤◌, [], length, option_map};
+ghost use Rattle.wsm_semantics.specs.Summaries as kept;
+
+use crate::head::Stands;
+use std::marker::Model;
+use wsm_record::Value;
+use wsm_semantics::Columns;
+
+/// A pane that is held, as it is read where it lies. A clause sees how many records it has, how many
+/// of them no firing showed yet, what those that the next firing is computed over are folded to, and
+/// what stands.
+#[derive(Drop)]
+pub struct PaneView<'a> {
+    pub(crate) count: u64,
+    pub(crate) unshown: u64,
+    pub(crate) is_folded: bool,
+    pub(crate) stands: Stands,
+    // What the records are folded to, where there are any.
+    pub(crate) folds: &'a [Value],
+    // The row that stands, where one does.
+    pub(crate) row: &'a [Value],
+}
+
+impl<'a> Model for PaneView<'a> {
+    ghost use Rattle.std.specs.Prelude.{◌≤◌, List, length};
+    ghost use Rattle.wsm_record.specs.declared.event.Value.{Value as OneValue};
+    ghost use Rattle.wsm_semantics.specs.Summaries.{Pane as AnyPane};
+    ghost use Rattle.wsm_panes.specs.Layout.{folded_by, standing_by};
+
+    ghost Value = { AnyPane (List OneValue) };
+
+    ghost view = { λ a. record { count = a.count; unshown = a.unshown; folded = folded_by a.is_folded a.folds.now; stands = standing_by a.stands a.row.now } };
+
+    ghost invariant = { λ a. length a.row.now ≤ 16 };
+}
+
+impl<'a> PaneView<'a> {
+    /// How many records it has.
+    pub fn count(&self) -> u64
+        ensures { result ≡ self.now.count }
+    {
+        self.count
+    }
+
+    /// How many of its records no firing showed yet.
+    pub fn unshown(&self) -> u64
+        ensures { result ≡ self.now.unshown }
+    {
+        self.unshown
+    }
+
+    /// What the records that the next firing is computed over are folded to, where there are any.
+    pub fn folded(&self) -> Option<&'a [Value]>
+        ensures { option_map (λ values. values.now) result ≡ self.now.folded }
+    {
+        if self.is_folded {
+            Some(self.folds)
+        } else {
+            None
+        }
+    }
+
+    /// The row that stands for it.
+    pub fn standing_row(&self) -> Option<Columns>
+        ensures { result ≡ kept.standing_row self.now.stands }
+    {
+        match self.stands {
+            Stands::FiredRow => Some(columns_of(self.row)),
+            Stands::Unfired | Stands::NoRow | Stands::Joined => None,
+        }
+    }
+}
+
+// A row of these values.
+fn columns_of(values: &[Value]) -> Columns
+    requires { length values.now ≤ 16 }
+    ensures { result ≡ values.now }
+{
+    let mut columns = Columns::new();
+    for value in values {
+        columns.push(*value);
+    }
+    columns
+}
