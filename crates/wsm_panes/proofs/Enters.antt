@@ -104,6 +104,9 @@ module _ (kinds : List Kind) (values : List Value) where
   all_can (e ∷ f ∷ gs) h types sums = two_can e f h.0 h.1.0 types (sums e f gs refl)
 
 module _ (h : Held) (kinds : List Kind) (key : ℕ) (time : ℤ) (values : List Value) (can : CanEnter h kinds key time values) where
+  pub wide_values : length values ≡ h.widths.accumulators
+  wide_values = length-are_of_kinds kinds values can.types ∙ can.wide
+
   pub few_values : length values ≤ 16
   few_values = omega (arith, can.few, length-are_of_kinds kinds values can.types)
 

@@ -1,5 +1,5 @@
 -- The map that the entries in slots stand for, where each is in its own slot.
-use Rattle.std.proofs.Common.{◌≡◌, ◌≢◌, ◌⊎◌, ℕ, zero, suc, ◌+◌, ◌<◌, ◌≤◌, Bool, true, false, cond, Option, Some, None, List, [], ◌∷◌, ◌++◌, length, get_or, set, refl, sym, ap, subst, ◌∙◌, inl, inr, arith}
+use Rattle.std.proofs.Common.{◌≡◌, ◌≢◌, ◌⊎◌, ℕ, zero, suc, ◌+◌, ◌<◌, ◌≤◌, Bool, true, false, cond, Option, Some, None, List, [], ◌∷◌, length, get_or, set, replicate, refl, sym, ap, subst, ◌∙◌, inl, inr, arith}
 use Rattle.std.proofs.lemmas.Bool.{cases_Bool, cases_eq}
 use Rattle.std.proofs.lemmas.List.{get_or-set_same, get_or-set_other, get_or_default}
 use Rattle.std.specs.Option.{is_some, option_len}
@@ -295,14 +295,28 @@ module _ {P : Type 0} where
   pub panes_free : (os : List (Option (Place × P))) → AreFree os → panes_in os ≡ empty
   panes_free os free = empty_of_len (panes_in os) (ap (λ (es : List (Place × P)). len (from_entries {R = place_cmp} es)) (held_free os free) ∙ len-empty place_cmp P)
 
-  pub free_push : (os : List (Option (Place × P))) → AreFree os → AreFree (os ++ None ∷ [])
-  free_push [] free zero x at = cc
-  free_push [] free (suc i) x at = free i x at
-  free_push (o ∷ os) free zero x at = free 0 x at
-  free_push (o ∷ os) free (suc i) x at = free_push os (λ j. free (suc j)) i x at
+  pub free_replicate : (n : ℕ) → AreFree (replicate {A = Option (Place × P)} n None)
+  free_replicate zero i x at = cc
+  free_replicate (suc n) zero x at = cc
+  free_replicate (suc n) (suc i) x at = free_replicate n i x at
 
   pub not_started : (start : ℤ) (o : Option (Place × P)) (e : Place × P) → starts_at start o ≡ false → o ≡ Some e → e.0.start ≢ start
   not_started start o e h is same =
       let test : starts_at start o ≡ true = ap (starts_at start) is ∙ (Decides-int_eq e.0.start start).1 same in
       let bad : false ≡ true = sym h ∙ test in
       cc
+
+-- ---- an entry, by its place
+
+module _ {P : Type 0} where
+  pub entry_placed : (o : Option (Place × P)) (p : Place) → option_map (λ e. e.0) o ≡ Some p → (v : P) × (o ≡ Some (p, v))
+  entry_placed None p h = absurd (cc)
+  entry_placed (Some e) p h = (e.1, let same : e.0 ≡ p = cc in λ i. Some (same i, e.1))
+
+  pub none_placed : (o : Option (Place × P)) → option_map (λ e. e.0) o ≡ None → o ≡ None
+  none_placed None h = refl
+  none_placed (Some e) h = absurd (cc)
+
+  -- an entry put into a slot that has one, or has none
+  pub count_put : (os : List (Option (Place × P))) (i : ℕ) (e : Place × P) → i < length os → length (held (set os i (Some e))) + option_len (slot_at os i) ≡ length (held os) + 1
+  count_put os i e within = held_set os i (Some e) within

@@ -21,20 +21,23 @@ use Rattle.wsm_semantics.specs.Panes.{place_cmp, at, window_of}
 use Rattle.wsm_semantics.specs.Replay.{datum}
 use Rattle.wsm_semantics.specs.Summaries.{Plan, Pane, assigned, entered, joined, left_folded, linked, session_with, with_record}
 use Rattle.wsm_panes.specs.declared.ring.Ring.{Ring}
+use Rattle.wsm_panes.specs.declared.widths.Widths.{Widths}
 use Rattle.wsm_panes.specs.Place.{coded_place}
+use Rattle.wsm_panes.specs.RingState.{coded_widths}
 use Rattle.wsm_panes.specs.Ring.{LieInRing}
 
--- the panes, for keys of these numbers, with room for so many live windows of each
+-- the panes, for keys of these numbers, with room for so many live windows of each and so many values of each pane
 pub record Held : Type 0 where
   pub keys : ℕ
   pub shape : Shape
   pub live : ℕ
+  pub widths : Widths
   pub panes : map.FinMap place_cmp (Pane (List Value))
 
 abbrev pub coded_held : Coded Shape → Coded (Pane (List Value)) → Coded Held
 coded_held shapes panes =
-    code_by (ℕ × (Shape × (ℕ × map.FinMap place_cmp (Pane (List Value))))) (coded× coded_ℕ (coded× shapes (coded× coded_ℕ (map.code coded_place panes))))
-    (λ h. (h.keys, (h.shape, (h.live, h.panes)))) (λ t. record { keys = t.0; shape = t.1.0; live = t.1.1.0; panes = t.1.1.1 }) (λ _. refl)
+    code_by (ℕ × (Shape × (ℕ × (Widths × map.FinMap place_cmp (Pane (List Value)))))) (coded× coded_ℕ (coded× shapes (coded× coded_ℕ (coded× coded_widths (map.code coded_place panes)))))
+    (λ h. (h.keys, (h.shape, (h.live, (h.widths, h.panes))))) (λ t. record { keys = t.0; shape = t.1.0; live = t.1.1.0; widths = t.1.1.1.0; panes = t.1.1.1.1 }) (λ _. refl)
 
 abbrev pub entries_of : Held → List (Place × Pane (List Value))
 entries_of h = map.entries h.panes
@@ -56,6 +59,7 @@ pub record IsKept (old new : Held) : Type 0 where
   pub keys : new.keys ≡ old.keys
   pub shape : new.shape ≡ old.shape
   pub live : new.live ≡ old.live
+  pub widths : new.widths ≡ old.widths
 
 -- how entering takes the values that a record is folded by: a plan whose WHERE and FIRE say nothing
 abbrev pub taking : List Kind → List Value → Plan (List Value)
@@ -144,6 +148,7 @@ pub record CanEnter (h : Held) (kinds : List Kind) (key : ℕ) (time : ℤ) (val
   pub declared : key < h.keys
   pub timely : IsTime time
   pub few : length kinds ≤ 16
+  pub wide : length kinds ≡ h.widths.accumulators
   pub types : IsTrue (are_of_kinds kinds values)
   pub room : length (with_entered kinds key time values h) ≤ room_of h
   pub live : length (filter (λ e. nat_eq e.0.key key) (with_entered kinds key time values h)) ≤ h.live

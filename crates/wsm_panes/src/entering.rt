@@ -9,7 +9,6 @@ ghost use Rattle.wsm_semantics.specs.Replay.{datum};
 ghost use Rattle.wsm_semantics.specs.Summaries.{assigned};
 ghost use Rattle.wsm_panes.specs.Held.{CanEnterWindows, taking};
 
-use crate::pane::Pane;
 use crate::ring_table::RingTable;
 use wsm_record::{Kind, Value};
 use wsm_semantics::Place;
@@ -28,7 +27,7 @@ pub(crate) fn place_of(key: u16, window: Window) -> Place
 
 /// Puts a record into the panes of the windows that have its time inside, and tells how many they are.
 pub(crate) fn enter_windows(
-    table: &mut RingTable<Pane>,
+    table: &mut RingTable,
     kinds: &[Kind],
     key: u16,
     time: i64,
@@ -36,11 +35,12 @@ pub(crate) fn enter_windows(
 ) -> u64
     requires size { table.old.ring.size ≤ℤ greatest_span }
     requires time { IsTime time }
-    requires few { length values.now ≤ 16 }
+    requires wide { length values.now ≡ table.old.widths.accumulators }
     requires types { IsTrue (are_of_kinds kinds.now values.now) }
     requires can { CanEnterWindows table.old.ring kinds.now values.now key time (windows_of table.old.ring.size table.old.ring.period time) (map.entries table.old.panes) }
     ensures panes { map.entries table.new.panes ≡ assigned (taking kinds.now values.now) (datum 0 key time []) (windows_of table.old.ring.size table.old.ring.period time) (map.entries table.old.panes) }
     ensures ring { table.new.ring ≡ table.old.ring }
+    ensures widths { table.new.widths ≡ table.old.widths }
     ensures count { result ≡ length (windows_of table.old.ring.size table.old.ring.period time) }
 {
     let ring = table.ring();

@@ -1,6 +1,6 @@
 //! The panes that are held.
 
-ghost use Rattle.std.specs.Prelude.{◌≡◌, ◌≢◌, ◌*◌, ◌<◌, ◌≤◌, ◌≤ℤ◌, ℤ, pos, List, [], length, IfOk, IsSome, Some, int_lt, option_map, slice_get};
+ghost use Rattle.std.specs.Prelude.{◌≡◌, ◌≢◌, ◌*◌, ◌<◌, ◌≤◌, ◌≤ℤ◌, ℤ, pos, List, [], length, IfOk, IfSome, IsSome, Some, int_lt, option_map, slice_get};
 ghost use Rattle.std.specs.FinMap as map;
 ghost use Rattle.std.specs.FinMap.Entries.{find, put, where_key};
 ghost use Rattle.wsm_windows.specs.Windows.{IsShape, IsTime, greatest_span, period_of, size_of, windows_of_shape};
@@ -22,9 +22,11 @@ use crate::ring::Ring;
 use crate::ring_table::RingTable;
 use crate::spot::Spot;
 use crate::table::PaneTable;
+use crate::view::PaneView;
+use crate::widths::Widths;
 use std::alloc::{AllocError, Global};
 use std::marker::Model;
-use wsm_record::limits::MAX_PANES;
+use wsm_record::limits::{MAX_ACCUMULATORS, MAX_COLUMNS, MAX_PANES};
 use wsm_record::{Kind, Mode, Value};
 use wsm_semantics::{Columns, Place};
 use wsm_sessions::Sessions;
@@ -51,7 +53,7 @@ pub struct HeldPanes {
     // The panes of sessions.
     list: ListTable<Pane>,
     // The panes of windows on a grid.
-    ring: RingTable<Pane>,
+    ring: RingTable,
     // Of each key, where windows are sessions.
     sessions: Vec<Sessions>,
 }
@@ -66,7 +68,7 @@ impl Model for HeldPanes {
 
     ghost coded = { coded_held (Prim.hlevel (codes, one_shape.the_row.coded)) (Prim.hlevel (codes, one_pane.the_row.coded)) };
 
-    ghost view = { λ a. record { keys = a.keys; shape = a.shape; live = a.live; panes = held_in a.shape a.list.panes a.ring.panes } };
+    ghost view = { λ a. record { keys = a.keys; shape = a.shape; live = a.live; widths = a.ring.widths; panes = held_in a.shape a.list.panes a.ring.panes } };
 
     ghost use Rattle.wsm_panes.specs.HeldState.{IsSound};
 
@@ -74,7 +76,8 @@ impl Model for HeldPanes {
 }
 
 impl HeldPanes {
-    /// No pane yet, with room for so many live windows of each key. No later call takes memory.
+    /// No pane yet, with room for so many live windows of each key, and for so many values of each pane.
+    /// No later call takes memory.
     ///
     /// # Errors
     ///
@@ -84,17 +87,20 @@ impl HeldPanes {
         keys: usize,
         shape: Shape,
         live: usize,
+        widths: Widths,
     ) -> Result<HeldPanes, AllocError>
         requires shape { IsShape shape }
         requires room { keys * live ≤ MAX_PANES }
-        ensures { IfOk result (λ h. h ≡ record { keys = keys; shape = shape; live = live; panes = map.empty }) }
+        requires accumulators { widths.accumulators ≤ MAX_ACCUMULATORS }
+        requires columns { widths.columns ≤ MAX_COLUMNS }
+        ensures { IfOk result (λ h. h ≡ record { keys = keys; shape = shape; live = live; widths = widths; panes = map.empty }) }
     {
         Ok(HeldPanes {
             keys,
             shape,
             live,
             list: ListTable::open(alloc, list_room(shape, keys * live))?,
-            ring: RingTable::open(alloc, ring_for(shape, keys, live))?,
+            ring: RingTable::open(alloc, ring_for(shape, keys, live), widths)?,
             sessions: open_sessions(alloc, keys, shape, live)?,
         })
     }
@@ -207,9 +213,9 @@ impl HeldPanes {
 
     /// The pane at a spot.
     #[inline(always)]
-    pub fn pane(&self, spot: Spot) -> &Pane
+    pub fn pane(&self, spot: Spot) -> PaneView<'_>
         requires { IsSome (find place_cmp spot.place (entries_of self.now)) }
-        ensures { find place_cmp spot.place (entries_of self.now) ≡ Some result.now }
+        ensures { find place_cmp spot.place (entries_of self.now) ≡ Some result }
     {
         match self.shape {
             Shape::Session(_) => self.list.pane(spot),
@@ -220,7 +226,8 @@ impl HeldPanes {
     /// Has the pane at a spot have fired: it has shown all of its records, and the row of the firing
     /// stands.
     pub fn fire_at(&mut self, spot: Spot, mode: Mode, row: &Option<Columns>)
-        requires { IsSome (find place_cmp spot.place (entries_of self.old)) }
+        requires there { IsSome (find place_cmp spot.place (entries_of self.old)) }
+        requires wide { IfSome row.now (λ columns. length columns ≡ self.old.widths.columns) }
         ensures panes { (pane : AnyPane (List OneValue)) × (find place_cmp spot.place (entries_of self.old) ≡ Some pane) × (entries_of self.new ≡ put place_cmp spot.place (once_fired mode row.now pane) (entries_of self.old)) }
         ensures keeps { IsKept self.old self.new }
     {

@@ -9,7 +9,7 @@ ghost use Rattle.wsm_panes.specs.Layout.{HasPart, folded_on, part_at, with_part}
 ghost use Rattle.wsm_panes.specs.Ring.{slot_at};
 
 use crate::head::Head;
-use crate::view::PaneView;
+use crate::view::{PaneView, RowView};
 use crate::widths::Widths;
 use std::alloc::{AllocError, Global};
 use std::marker::Model;
@@ -70,11 +70,7 @@ impl Slots {
         ensures { result ≡ option_map (λ e. e.0) (slot_at self.now.slots slot) }
     {
         let head = &self.heads[slot];
-        if head.is_held {
-            Some(head.place)
-        } else {
-            None
-        }
+        if head.is_held { Some(head.place) } else { None }
     }
 
     /// The pane in a slot.
@@ -89,7 +85,7 @@ impl Slots {
             is_folded: head.is_folded,
             stands: head.stands,
             folds: part(&self.folds, slot, self.widths.accumulators),
-            row: part(&self.rows, slot, self.widths.columns),
+            row: RowView::Part(part(&self.rows, slot, self.widths.columns)),
         }
     }
 
@@ -111,7 +107,13 @@ impl Slots {
         requires takes { IfSome (slot_at self.old.slots slot) (λ e. CanRecord kinds.now values.now e.1) }
         ensures { self.new ≡ record self.old { slots = slice_set self.old.slots slot (option_map (λ e. (e.0, with_one_more kinds.now values.now (Some e.1))) (slot_at self.old.slots slot)) } }
     {
-        fold_part(&mut self.folds, slot, self.heads[slot].is_folded, kinds, values);
+        fold_part(
+            &mut self.folds,
+            slot,
+            self.heads[slot].is_folded,
+            kinds,
+            values,
+        );
         self.heads[slot].record();
     }
 

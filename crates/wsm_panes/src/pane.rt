@@ -8,9 +8,14 @@ ghost use Rattle.wsm_semantics.specs.Query.{Datum};
 ghost use Rattle.wsm_semantics.specs.Summaries.{left_folded, standing_joined, with_folded, with_record};
 ghost use Rattle.wsm_semantics.specs.Summaries as kept;
 ghost use Rattle.wsm_semantics.specs.declared.standing.Standing.TheVariants.{Row};
+ghost use Rattle.std.specs.Option.{is_some};
+ghost use Rattle.wsm_panes.specs.Layout.{folded_by, standing_by};
+ghost use Rattle.wsm_panes.specs.View.{IsFew, row_seen};
 ghost use Rattle.wsm_panes.specs.Held.{CanJoin, CanJoinFolds, CanRecord, CanTake, has_fired, once_fired, taking};
 
+use crate::head::Stands;
 use crate::recording::TakesRecords;
+use crate::view::{PaneView, RowView};
 use std::marker::Model;
 use wsm_fold::Folded;
 use wsm_record::{Kind, Mode, Value};
@@ -40,27 +45,18 @@ impl Model for Pane {
 }
 
 impl Pane {
-    /// How many records it has.
-    pub fn count(&self) -> u64
-        ensures { result ≡ self.now.count }
+    /// It, as it is read.
+    pub fn view(&self) -> PaneView<'_>
+        ensures { result ≡ self.now }
     {
-        self.count
-    }
-
-    /// How many of its records no firing showed yet.
-    pub fn unshown(&self) -> u64
-        ensures { result ≡ self.now.unshown }
-    {
-        self.unshown
-    }
-
-    /// What the records that the next firing is computed over are folded to, where there are any.
-    pub fn folded(&self) -> Option<&[Value]>
-        ensures { option_map (λ values. values.now) result ≡ self.now.folded }
-    {
-        match &self.folded {
-            Some(folded) => Some(folded.values()),
-            None => None,
+        let (stands, row) = standing_parts(&self.stands);
+        PaneView {
+            count: self.count,
+            unshown: self.unshown,
+            is_folded: self.folded.is_some(),
+            stands,
+            folds: folded_values(&self.folded),
+            row,
         }
     }
 
@@ -73,17 +69,6 @@ impl Pane {
             self.folded = None;
         }
         self.stands = Standing::Row(*row);
-    }
-
-    /// The row that stands for it.
-    pub fn standing_row(&self) -> Option<&Columns>
-        ensures { option_map (λ row. row.now) result ≡ kept.standing_row self.now.stands }
-    {
-        match &self.stands {
-            Standing::Row(row) => row.as_ref(),
-            Standing::Unfired => None,
-            Standing::Joined => None,
-        }
     }
 
     /// Whether it fired, or a part of it did before it was joined.
@@ -135,6 +120,29 @@ impl TakesRecords for Pane {
         self.count += 1;
         self.unshown += 1;
         fold_in(&mut self.folded, kinds, values);
+    }
+}
+
+// What stands, and where the values of its row lie.
+fn standing_parts(standing: &Standing) -> (Stands, RowView<'_>)
+    ensures same { standing_by result.0 (row_seen result.1) ≡ standing.now }
+    ensures few { IsFew result.1 }
+{
+    match standing {
+        Standing::Unfired => (Stands::Unfired, RowView::Part(&[])),
+        Standing::Row(None) => (Stands::NoRow, RowView::Part(&[])),
+        Standing::Row(Some(columns)) => (Stands::FiredRow, RowView::Whole(columns)),
+        Standing::Joined => (Stands::Joined, RowView::Part(&[])),
+    }
+}
+
+// What records are folded to, where there are any.
+fn folded_values(folded: &Option<Folded>) -> &[Value]
+    ensures { folded_by (is_some folded.now) result.now ≡ folded.now }
+{
+    match folded {
+        Some(folded) => folded.values(),
+        None => &[],
     }
 }
 

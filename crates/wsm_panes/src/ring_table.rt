@@ -6,20 +6,19 @@ ghost use Rattle.wsm_record.specs.declared.event.Value.{Value as OneValue};
 ghost use Rattle.wsm_fold.specs.Fold.{are_of_kinds};
 ghost use Rattle.wsm_windows.specs.Windows.{IsTime, first_start, greatest_span};
 ghost use Rattle.wsm_semantics.specs.Summaries.{Pane as AnyPane};
-ghost use Rattle.wsm_panes.specs.Held.{once_fired};
+ghost use Rattle.wsm_panes.specs.Held.{CanRecord, once_fired, with_one_more};
 ghost use Rattle.wsm_panes.specs.Place.{place_cmp};
 ghost use Rattle.wsm_panes.specs.Ring as ring;
 ghost use Rattle.wsm_panes.specs.Ring.{IsFirstPast, IsLastDue, IsOnGrid, IsRing, IsRow, RingAdmits, slot_of, window_number};
 
+use crate::layout::Slots;
 use crate::pane::Pane;
-use crate::recording::TakesRecords;
 use crate::ring::{Ring, Row};
-use crate::slots::{
-    Slot, clear_expired, fill, fire_in, first_on, first_until, free_slots, is_at, pane_at, pane_in,
-    record_in, spot_in, take_out,
-};
+use crate::slots::{clear_expired, first_on, first_until, is_at, record_in, spot_in};
 use crate::spot::Spot;
 use crate::table::PaneTable;
+use crate::view::PaneView;
+use crate::widths::Widths;
 use std::alloc::{AllocError, Global};
 use std::marker::Model;
 use wsm_record::{Kind, Mode, Value};
@@ -27,9 +26,9 @@ use wsm_semantics::{Columns, Place};
 
 /// A table kept as a ring of slots: each place has one slot, which is found without a search.
 #[derive(Drop)]
-pub struct RingTable<P> {
+pub struct RingTable {
     ring: Ring,
-    slots: Vec<Slot<P>>,
+    slots: Slots,
     len: usize,
     // No pane is held of a window that starts before the first start or after the last one.
     first: i64,
@@ -38,35 +37,42 @@ pub struct RingTable<P> {
     row: Row,
 }
 
-impl<P> Model for RingTable<P> {
+impl Model for RingTable {
     ghost use Rattle.wsm_panes.specs.Ring.{held};
     ghost use Rattle.wsm_panes.specs.RingState.{RingState, coded_ring_state};
     ghost use Rattle.std.specs.FinMap as map;
+    ghost use Rattle.std.specs.Coded.{codes};
+    ghost use Rattle.std.specs.Prelude.{List};
+    ghost use Rattle.wsm_record.specs.declared.event.Value.{Value as OneValue};
+    ghost use Rattle.wsm_semantics.specs.Summaries.{Pane as AnyPane};
+    ghost use Rattle.wsm_panes.specs.contracts.pane.Pane as one_pane;
 
-    ghost Value = { RingState P };
+    ghost Value = { RingState (AnyPane (List OneValue)) };
 
-    ghost coded = { coded_ring_state P.code };
+    ghost coded = { coded_ring_state (Prim.hlevel (codes, one_pane.the_row.coded)) };
 
     ghost use Rattle.wsm_panes.specs.RingTable.{IsSound};
 
-    ghost view = { λ a. record { panes = map.from_entries (held a.slots.items); ring = a.ring } };
+    ghost view = { λ a. record { panes = map.from_entries (held a.slots.slots); ring = a.ring; widths = a.slots.widths } };
 
     ghost invariant = { λ a. IsSound a };
 }
 
-impl<P: Copy> RingTable<P> {
+impl RingTable {
     /// An empty table with the slots of a ring. No later call takes memory.
     ///
     /// # Errors
     ///
     /// Where there is no memory for the slots.
-    pub fn open(alloc: Global, ring: Ring) -> Result<Self, AllocError>
-        requires { IsRing ring }
-        ensures { IfOk result (λ t. t ≡ record { panes = map.empty; ring = ring }) }
+    pub fn open(alloc: Global, ring: Ring, widths: Widths) -> Result<Self, AllocError>
+        requires ring { IsRing ring }
+        requires accumulators { widths.accumulators ≤ 16 }
+        requires columns { widths.columns ≤ 16 }
+        ensures { IfOk result (λ t. t ≡ record { panes = map.empty; ring = ring; widths = widths }) }
     {
         Ok(RingTable {
             ring,
-            slots: free_slots(alloc, ring.bound * ring.keys)?,
+            slots: Slots::open(alloc, widths, ring.bound * ring.keys)?,
             len: 0,
             first: 0,
             last: 0,
@@ -105,17 +111,18 @@ impl<P: Copy> RingTable<P> {
     }
 }
 
-impl<P: TakesRecords> RingTable<P> {
+impl RingTable {
     /// Puts a record into the pane at a place, whose slot is told, and makes a pane of it where none
     /// is. The record is folded by the values.
     pub(crate) fn enter_at(&mut self, slot: usize, place: Place, kinds: &[Kind], values: &[Value])
         requires slot { slot ≡ slot_of self.old.ring place }
-        requires few { length values.now ≤ 16 }
+        requires wide { length values.now ≡ self.old.widths.accumulators }
         requires types { IsTrue (are_of_kinds kinds.now values.now) }
         requires admits { RingAdmits self.old.ring self.old.panes place }
-        requires takes { IfSome (map.get self.old.panes place) (P.CanTakeRecord kinds.now values.now) }
-        ensures panes { self.new.panes ≡ map.insert self.old.panes place (P.with_record kinds.now values.now (map.get self.old.panes place)) }
+        requires takes { IfSome (map.get self.old.panes place) (CanRecord kinds.now values.now) }
+        ensures panes { self.new.panes ≡ map.insert self.old.panes place (with_one_more kinds.now values.now (map.get self.old.panes place)) }
         ensures ring { self.new.ring ≡ self.old.ring }
+        ensures widths { self.new.widths ≡ self.old.widths }
     {
         let more = record_in(&mut self.slots, slot, place, kinds, values);
         if more > 0 {
@@ -125,55 +132,46 @@ impl<P: TakesRecords> RingTable<P> {
     }
 }
 
-impl RingTable<Pane> {
+impl RingTable {
     /// Has the pane at a spot have fired.
     pub(crate) fn fire(&mut self, spot: Spot, mode: Mode, row: &Option<Columns>)
-        requires { IsSome (map.get self.old.panes spot.place) }
+        requires there { IsSome (map.get self.old.panes spot.place) }
+        requires wide { IfSome row.now (λ columns. length columns ≡ self.old.widths.columns) }
         ensures panes { (pane : AnyPane (List OneValue)) × (map.get self.old.panes spot.place ≡ Some pane) × (self.new.panes ≡ map.insert self.old.panes spot.place (once_fired mode row.now pane)) }
         ensures ring { self.new.ring ≡ self.old.ring }
+        ensures widths { self.new.widths ≡ self.old.widths }
     {
         let slot = self.slot_of(spot);
-        fire_in(&mut self.slots, slot, mode, row);
+        self.slots.fire(slot, mode, row);
+    }
+
+    /// The pane at a spot.
+    #[inline(always)]
+    pub fn pane(&self, spot: Spot) -> PaneView<'_>
+        requires { IsSome (map.get self.now.panes spot.place) }
+        ensures { map.get self.now.panes spot.place ≡ Some result }
+    {
+        self.slots.pane(self.slot_of(spot))
     }
 }
 
-impl<P: TakesRecords> PaneTable<P> for RingTable<P> {
+impl PaneTable<Pane> for RingTable {
     ghost use Rattle.wsm_panes.specs.declared.ring.Ring.{Ring as AnyRing};
+    ghost use Rattle.wsm_panes.specs.declared.widths.Widths.{Widths as AnyWidths};
 
-    ghost Room = { AnyRing };
+    ghost Room = { AnyRing × AnyWidths };
 
     ghost panes = { λ t. t.panes };
 
-    ghost room = { λ t. t.ring };
+    ghost room = { λ t. (t.ring, t.widths) };
 
-    ghost Admits = { RingAdmits };
+    ghost Admits = { λ room ps place. RingAdmits room.0 ps place };
 
-    fn get(&self, place: Place) -> Option<P> {
-        pane_at(&self.slots, self.ring.slot(place), place)
-    }
-
-    fn admits(&self, place: Place) -> bool {
-        self.ring.has(place)
-            && match &self.slots[self.ring.slot(place)] {
-                Some((other, _)) => *other == place,
-                None => true,
-            }
-    }
-
-    fn put(&mut self, place: Place, pane: P) {
-        let slot = self.ring.slot(place);
-        (self.first, self.last) = stretched(self.len, self.first, self.last, place.start);
-        self.len += fill(&mut self.slots, slot, place, pane);
-    }
+    ghost Fits = { λ room values. length values ≡ room.1.accumulators };
 
     fn enter(&mut self, place: Place, kinds: &[Kind], values: &[Value]) {
         let slot = self.ring.slot(place);
         self.enter_at(slot, place, kinds, values);
-    }
-
-    fn remove(&mut self, place: Place) {
-        let slot = self.ring.slot(place);
-        self.len -= take_out(&mut self.slots, slot, place);
     }
 
     fn drop_expired(&mut self, limit: i64) {
@@ -221,11 +219,6 @@ impl<P: TakesRecords> PaneTable<P> for RingTable<P> {
         let row = self.slot_of(spot) - key;
         let found = first_on(self.ring, &self.slots, row, spot.place.start, key + 1, last);
         spot_in(&self.slots, found)
-    }
-
-    #[inline(always)]
-    fn pane(&self, spot: Spot) -> &P {
-        pane_in(&self.slots, self.slot_of(spot), spot.place).unwrap()
     }
 }
 

@@ -1,13 +1,14 @@
 //! What a table of panes does.
 
-ghost use Rattle.std.specs.Prelude.{◌≡◌, ◌↔◌, ◌≤◌, Some, true, IfSome, IsSome, IsTrue, length, option_map, slice_get};
+ghost use Rattle.std.specs.Prelude.{◌≡◌, List, IfSome, IsSome, IsTrue, option_map, slice_get};
 ghost use Rattle.std.specs.FinMap as map;
 ghost use Rattle.wsm_panes.specs.Place.{place_cmp, is_kept};
 ghost use Rattle.wsm_panes.specs.Walk.{first_past, following, place_due, place_found};
+ghost use Rattle.wsm_record.specs.declared.event.Value.{Value as OneValue};
 ghost use Rattle.wsm_fold.specs.Fold.{are_of_kinds};
 ghost use Rattle.wsm_semantics.specs.declared.place.Place.{Place as AnyPlace};
 
-use crate::recording::{TakesRecords, with_one_more};
+use crate::recording::TakesRecords;
 use crate::spot::Spot;
 use wsm_record::{Kind, Value};
 use wsm_semantics::Place;
@@ -25,24 +26,8 @@ pub trait PaneTable<P: TakesRecords> {
     // With this room and beside these panes there can be a pane at the place.
     ghost Admits: { Room → map.FinMap place_cmp P → AnyPlace → Type 0 };
 
-    /// The pane at a place, if one is there.
-    fn get(&self, place: Place) -> Option<P>
-        ensures { result ≡ map.get (panes self.now) place };
-
-    /// Whether a pane can be set at a place.
-    fn admits(&self, place: Place) -> bool
-        ensures { IsTrue result ↔ Admits (room self.now) (panes self.now) place };
-
-    /// Sets the pane at a place.
-    fn put(&mut self, place: Place, pane: P)
-        requires { Admits (room self.old) (panes self.old) place }
-        ensures panes { panes self.new ≡ map.insert (panes self.old) place pane }
-        ensures room { room self.new ≡ room self.old };
-
-    /// Removes the pane at a place, if one is there.
-    fn remove(&mut self, place: Place)
-        ensures panes { panes self.new ≡ map.remove (panes self.old) place }
-        ensures room { room self.new ≡ room self.old };
+    // There is room for these values in a pane.
+    ghost Fits: { Room → List OneValue → Type 0 };
 
     /// Removes the panes of windows with an end of at most the limit, which is in event time.
     fn drop_expired(&mut self, limit: i64)
@@ -56,32 +41,16 @@ pub trait PaneTable<P: TakesRecords> {
     /// Puts a record into the pane at a place, and makes a pane of it where none is. The record is
     /// folded by the values.
     fn enter(&mut self, place: Place, kinds: &[Kind], values: &[Value])
-        requires few { length values.now ≤ 16 }
+        requires fits { Fits (room self.old) values.now }
         requires types { IsTrue (are_of_kinds kinds.now values.now) }
         requires admits { Admits (room self.old) (panes self.old) place }
         requires takes { IfSome (map.get (panes self.old) place) (P.CanTakeRecord kinds.now values.now) }
         ensures panes { panes self.new ≡ map.insert (panes self.old) place (P.with_record kinds.now values.now (map.get (panes self.old) place)) }
-        ensures room { room self.new ≡ room self.old }
-    {
-        let pane = with_one_more(self.get(place), kinds, values);
-        self.put(place, pane);
-    }
+        ensures room { room self.new ≡ room self.old };
 
     /// Where the pane at a place is, if one is there.
     fn find(&self, place: Place) -> Option<Spot>
-        ensures { place_found result ≡ option_map (λ _. place) (map.get (panes self.now) place) }
-    {
-        if self.get(place).is_some() {
-            Some(Spot { place, at: 0 })
-        } else {
-            None
-        }
-    }
-
-    /// The pane at a spot.
-    fn pane(&self, spot: Spot) -> &P
-        requires { IsSome (map.get (panes self.now) spot.place) }
-        ensures { map.get (panes self.now) spot.place ≡ Some result.now };
+        ensures { place_found result ≡ option_map (λ _. place) (map.get (panes self.now) place) };
 
     /// Where the first pane is in the order of the places, if its window ends by a limit, which is in
     /// event time.

@@ -2,11 +2,21 @@
 
 ghost use Rattle.std.specs.Prelude.{◌≡◌, ◌≤◌, [], length, option_map};
 ghost use Rattle.wsm_semantics.specs.Summaries as kept;
+ghost use Rattle.wsm_panes.specs.View.{IsFew, row_seen};
 
 use crate::head::Stands;
 use std::marker::Model;
 use wsm_record::Value;
 use wsm_semantics::Columns;
+
+/// Where the values of a row lie.
+#[derive(Clone, Copy, Debug)]
+pub(crate) enum RowView<'a> {
+    /// In columns of their own.
+    Whole(&'a Columns),
+    /// Among those of other rows.
+    Part(&'a [Value]),
+}
 
 /// A pane that is held, as it is read where it lies. A clause sees how many records it has, how many
 /// of them no firing showed yet, what those that the next firing is computed over are folded to, and
@@ -20,20 +30,21 @@ pub struct PaneView<'a> {
     // What the records are folded to, where there are any.
     pub(crate) folds: &'a [Value],
     // The row that stands, where one does.
-    pub(crate) row: &'a [Value],
+    pub(crate) row: RowView<'a>,
 }
 
 impl<'a> Model for PaneView<'a> {
-    ghost use Rattle.std.specs.Prelude.{◌≤◌, List, length};
+    ghost use Rattle.std.specs.Prelude.{List};
     ghost use Rattle.wsm_record.specs.declared.event.Value.{Value as OneValue};
     ghost use Rattle.wsm_semantics.specs.Summaries.{Pane as AnyPane};
     ghost use Rattle.wsm_panes.specs.Layout.{folded_by, standing_by};
+    ghost use Rattle.wsm_panes.specs.View.{IsFew, row_seen};
 
     ghost Value = { AnyPane (List OneValue) };
 
-    ghost view = { λ a. record { count = a.count; unshown = a.unshown; folded = folded_by a.is_folded a.folds.now; stands = standing_by a.stands a.row.now } };
+    ghost view = { λ a. record { count = a.count; unshown = a.unshown; folded = folded_by a.is_folded a.folds.now; stands = standing_by a.stands (row_seen a.row) } };
 
-    ghost invariant = { λ a. length a.row.now ≤ 16 };
+    ghost invariant = { λ a. IsFew a.row };
 }
 
 impl<'a> PaneView<'a> {
@@ -67,9 +78,20 @@ impl<'a> PaneView<'a> {
         ensures { result ≡ kept.standing_row self.now.stands }
     {
         match self.stands {
-            Stands::FiredRow => Some(columns_of(self.row)),
+            Stands::FiredRow => Some(row_columns(&self.row)),
             Stands::Unfired | Stands::NoRow | Stands::Joined => None,
         }
+    }
+}
+
+// The columns of a row.
+fn row_columns(row: &RowView<'_>) -> Columns
+    requires { IsFew row.now }
+    ensures { result ≡ row_seen row.now }
+{
+    match row {
+        RowView::Whole(columns) => **columns,
+        RowView::Part(values) => columns_of(values),
     }
 }
 

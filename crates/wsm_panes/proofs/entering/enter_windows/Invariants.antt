@@ -17,6 +17,7 @@ invariant-loop-row l = record {
   can : CanEnterWindows l.table.ring l.kinds l.values l.key l.time (windows_on l.ring l.time l.row.start) (map.entries l.table.panes);
   rising : IsRising (windows_on l.ring l.time l.row.start);
   ring : l.table.ring ≡ l.fn.table.ring;
+  widths : l.table.widths ≡ l.fn.table.widths;
   row : IsRow l.ring l.row;
   past : (l.time -ℤ l.ring.size) <ℤ l.row.start;
   near : l.row.start ≤ℤ (l.time +ℤ l.ring.period);

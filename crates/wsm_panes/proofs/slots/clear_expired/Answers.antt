@@ -1,4 +1,4 @@
-use Rattle.std.proofs.Common.{◌≡◌, ◌⊎◌, ◌<◌, ◌≤◌, ◌+◌, ℕ, ℤ, pos, ◌+ℤ◌, ◌-ℤ◌, ◌<ℤ◌, ◌≤ℤ◌, Some, None, Fits, SFits, w64, to_z, of_z, rules, refl, inl, inr, arith, ◌∙◌}
+use Rattle.std.proofs.Common.{◌≡◌, ◌⊎◌, ◌<◌, ◌≤◌, ◌+◌, ℕ, ℤ, pos, ◌+ℤ◌, ◌-ℤ◌, ◌<ℤ◌, ◌≤ℤ◌, Some, None, SFits, w64, to_z, of_z, rules, refl, inl, inr, arith, ◌∙◌}
 use Rattle.std.specs.Int.{int_min}
 use Rattle.std.specs.Option.{SomeIff}
 use Rattle.std.proofs.lemmas.Int.{ints, to_z-of_z}
@@ -10,9 +10,10 @@ use Rattle.wsm_panes.proofs.Clears.{AreDone, AreSince, done_old, done_more, sinc
 use Rattle.wsm_panes.proofs.slots.clear_expired.Goals as goal
 
 pub loop-start-init : goal.loop-start-init
-loop-start-init g c =
+loop-start-init c =
     let z : to_z w64 (of_z w64 c.args.first) ≡ c.args.first = to_z-of_z w64 c.args.first c.ranges.first in
     rw z (record {
+      widths = refl;
       size = refl;
       grid = c.requires.first;
       done = λ i. inr refl;
@@ -21,12 +22,11 @@ loop-start-init g c =
     })
 
 pub overflow_add-cleared : goal.overflow_add-cleared
-overflow_add-cleared g c =
-    let fits : Fits w64 c.args.slots.now.len = search rules in
-    omega (arith, fits, c.loop-start.invariant.len, c.clear_row-cleared.ensures.len, held_length c.args.slots.now.items, c.args.slots.now.ok.0)
+overflow_add-cleared c =
+    omega (arith, c.requires.slots, c.requires.ring.slots, c.loop-start.invariant.len, c.clear_row-cleared.ensures.len, held_length c.args.slots.now.slots)
 
 pub overflow_add-start : goal.overflow_add-start
-overflow_add-start g c =
+overflow_add-start c =
     let S = to_z w64 c.loop-start.start-bits in
     let limit : SFits w64 c.args.limit = c.ranges.limit in
     let last : SFits w64 c.args.last = c.ranges.last in
@@ -43,7 +43,7 @@ overflow_add-start g c =
     rw z (between_fits S (S +ℤ c.args.ring.period) c.args.limit first limit (omega (arith, ints, c.requires.ring.period_low)) (omega (arith, ints, within.1, sub.1, c.requires.ring.period_high)))
 
 pub loop-start-smaller : goal.loop-start-smaller
-loop-start-smaller g c =
+loop-start-smaller c =
     let S = to_z w64 c.loop-start.start-bits in
     let limit : SFits w64 c.args.limit = c.ranges.limit in
     let last : SFits w64 c.args.last = c.ranges.last in
@@ -60,11 +60,11 @@ loop-start-smaller g c =
     simp to_z-of_z (left_less S (S +ℤ c.args.ring.period) c.min-last.result test (omega (arith, ints, c.requires.ring.period_low)))
 
 pub loop-start-preserved : goal.loop-start-preserved
-loop-start-preserved g c =
+loop-start-preserved c =
     let S = to_z w64 c.loop-start.start-bits in
-    let os = c.loop-start.slots.items in
-    let ns = c.clear_row-cleared.new.slots.items in
-    let old = c.args.slots.now.items in
+    let os = c.loop-start.slots.slots in
+    let ns = c.clear_row-cleared.new.slots.slots in
+    let old = c.args.slots.now.slots in
     let limit : SFits w64 c.args.limit = c.ranges.limit in
     let last : SFits w64 c.args.last = c.ranges.last in
     let latest : SFits w64 c.in-Some.latest = search rules in
@@ -88,6 +88,7 @@ loop-start-preserved g c =
     let inside : (i : ℕ) → row_of c.args.ring S ≤ i → i < row_of c.args.ring S + c.args.ring.keys → slot_at ns i ≡ kept_slot c.args.limit (slot_at os i) = rw (zl, c.row.ensures.row) at c.clear_row-cleared.ensures.inside in
     let outside : (i : ℕ) → (i < row_of c.args.ring S) ⊎ (row_of c.args.ring S + c.args.ring.keys ≤ i) → slot_at ns i ≡ slot_at os i = rw c.row.ensures.row at c.clear_row-cleared.ensures.outside in
     rw (z, zs, zl) (record {
+      widths = c.clear_row-cleared.ensures.widths ∙ c.loop-start.invariant.widths;
       size = c.clear_row-cleared.ensures.size ∙ c.loop-start.invariant.size;
       grid = (grid.0 +ℤ pos 1, on_grid_next grid.0 c.args.ring.period S c.requires.ring.period_low grid.1);
       done = done_more c.args.limit old os ns (row_of c.args.ring S) c.args.ring.keys done inside outside;
@@ -96,10 +97,10 @@ loop-start-preserved g c =
     })
 
 pub returns-after-loop-start-clause-kept : goal.returns-after-loop-start-clause-kept
-returns-after-loop-start-clause-kept g c =
+returns-after-loop-start-clause-kept c =
     let S = to_z w64 c.loop-start.start-bits in
-    let os = c.loop-start.slots.items in
-    let old = c.args.slots.now.items in
+    let os = c.loop-start.slots.slots in
+    let old = c.args.slots.now.slots in
     let limit : SFits w64 c.args.limit = c.ranges.limit in
     let last : SFits w64 c.args.last = c.ranges.last in
     let latest : SFits w64 c.in-Some.latest = search rules in
@@ -122,16 +123,16 @@ returns-after-loop-start-clause-kept g c =
     ])
 
 pub returns-after-loop-start-clause-between : goal.returns-after-loop-start-clause-between
-returns-after-loop-start-clause-between g c =
-    let os = c.loop-start.slots.items in
-    let old = c.args.slots.now.items in
+returns-after-loop-start-clause-between c =
+    let os = c.loop-start.slots.slots in
+    let old = c.args.slots.now.slots in
     let zl : to_z w64 (of_z w64 c.args.limit) ≡ c.args.limit = to_z-of_z w64 c.args.limit c.ranges.limit in
     let done : AreDone c.args.limit old os = rw zl at c.loop-start.invariant.done in
     λ i e at. (c.loop-start.invariant.since i e at, (c.requires.between i e (done_old c.args.limit old os done i e at)).1)
 
 pub returns-in_default-clause-kept : goal.returns-in_default-clause-kept
-returns-in_default-clause-kept g c =
-    let old = c.args.slots.now.items in
+returns-in_default-clause-kept c =
+    let old = c.args.slots.now.slots in
     let limit : SFits w64 c.args.limit = c.ranges.limit in
     let size : SFits w64 c.args.ring.size = search rules in
     let none : c.checked_sub.result ≡ None = c.in_default.is in
@@ -140,6 +141,6 @@ returns-in_default-clause-kept g c =
     none_ended c.args.limit c.args.ring.size c.args.first e.0.start e.0.end sub limit c.ranges.first (omega (arith, ints, c.requires.ring.period_low, c.requires.ring.period_high)) (c.requires.between i e at).0 (c.requires.placed i e at).0.end)
 
 pub returns-in_default-clause-between : goal.returns-in_default-clause-between
-returns-in_default-clause-between g c =
+returns-in_default-clause-between c =
     let z : to_z w64 (of_z w64 c.args.first) ≡ c.args.first = to_z-of_z w64 c.args.first c.ranges.first in
     rw z c.requires.between

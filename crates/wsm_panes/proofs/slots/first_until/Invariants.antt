@@ -6,11 +6,11 @@ use Rattle.wsm_panes.proofs.slots.first_until.Given as goal
 
 -- what is from the first window on is from this one on
 abbrev pub invariant-loop-start : goal.invariant-loop-start
-invariant-loop-start g l = record {
+invariant-loop-start l = record {
   grid : IsOnGrid l.ring l.start;
   later : (l.fn.start <ℤ l.start) ⊎ ((l.start ≡ l.fn.start) × (l.fn.key ≤ l.key));
-  left : (i : ℕ) (e : Place × _) → slot_at l.slots i ≡ Some e → IsFromOn l.fn.start l.fn.key e.0 → IsFromOn l.start l.key e.0;
+  left : (i : ℕ) (e : Place × _) → slot_at l.slots.slots i ≡ Some e → IsFromOn l.fn.start l.fn.key e.0 → IsFromOn l.start l.key e.0;
 }
 
 abbrev pub decreases-loop-start : goal.decreases-loop-start
-decreases-loop-start g l = left_until l.start l.last
+decreases-loop-start l = left_until l.start l.last

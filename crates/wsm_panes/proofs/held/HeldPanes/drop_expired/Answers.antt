@@ -29,7 +29,7 @@ pub invariant_of-self-in_default : goal.invariant_of-self-in_default
 invariant_of-self-in_default c = record {
   shape = c.self.invariant.shape;
   list = c.self.invariant.list;
-  ring = λ grid some. c.drop_expired-in_default.ensures.room ∙ c.self.invariant.ring grid some;
+  ring = λ grid some. ap (λ r. r.0) c.drop_expired-in_default.ensures.room ∙ c.self.invariant.ring grid some;
   sessions = c.self.invariant.sessions;
 }
 

@@ -6,7 +6,7 @@ use Rattle.wsm_semantics.specs.Replay.{datum}
 use Rattle.wsm_semantics.specs.Summaries.{assigned, entered}
 use Rattle.wsm_panes.specs.declared.ring.Ring.{Ring}
 use Rattle.wsm_panes.specs.Held.{taking}
-use Rattle.wsm_panes.proofs.Enters.{entered_assigned, few_values, in_ring, joins_can, room_can, live_can, windows_can, windows_grid, key_of, keys_written}
+use Rattle.wsm_panes.proofs.Enters.{entered_assigned, few_values, in_ring, joins_can, room_can, live_can, windows_can, windows_grid, wide_values, key_of, keys_written}
 use Rattle.wsm_panes.proofs.held.HeldPanes.enter.Goals as goal
 
 pub enter_session-joined-requires-clause-few : goal.enter_session-joined-requires-clause-few
@@ -43,7 +43,7 @@ enter_windows-requires c =
     let some : 1 * 1 ≤ a.keys * a.live = mul-le 1 1 a.keys a.live whole.keys whole.bound in
     let windows = rw (in_ring a.shape a.list.panes a.ring.panes grid, windows_grid a.shape grid c.args.time) at (windows_can _ _ _ _ _ can grid) in
     let same = c.self.invariant.ring grid (omega (arith, some)) in
-    simp to_z-of_z (record { size = rw same c.self.invariant.shape.size_high; time = can.timely; few = few_values _ _ _ _ _ can; types = can.types; can = rw same windows })
+    simp to_z-of_z (record { size = rw same c.self.invariant.shape.size_high; time = can.timely; wide = wide_values _ _ _ _ _ can; types = can.types; can = rw same windows })
 
 pub invariant_of-self : goal.invariant_of-self
 invariant_of-self c =

@@ -9,7 +9,7 @@ use Rattle.wsm_panes.proofs.held.HeldPanes.fire_at.Goals as goal
 use Rattle.wsm_semantics.proofs.Each.{as_true}
 
 pub fire-requires : goal.fire-requires
-fire-requires c = ap is_some (get-entries c.self.inside.list.panes c.args.spot.place) ∙ (rw (← c.self.view_is, c.in-Session.is) at c.requires)
+fire-requires c = ap is_some (get-entries c.self.inside.list.panes c.args.spot.place) ∙ (rw (← c.self.view_is, c.in-Session.is) at c.requires.there)
 
 pub invariant_of-self : goal.invariant_of-self
 invariant_of-self c =
@@ -23,7 +23,7 @@ invariant_of-self c =
       sessions = λ gap is.
           keys_alike gap c.self.inside.keys c.self.inside.live (map.entries m) (map.entries c.fire.new.self.panes) c.self.inside.sessions.items (c.self.invariant.sessions gap is)
           (λ k. ap (windows_of_key k) (ap map.entries e.2 ∙ entries-insert places_total m c.args.spot.place pane)
-          ∙ windows_replaced k c.args.spot.place pane (map.entries m) (as_true _ (entries_sorted m)) (rw (← c.self.view_is, c.in-Session.is) at c.requires));
+          ∙ windows_replaced k c.args.spot.place pane (map.entries m) (as_true _ (entries_sorted m)) (rw (← c.self.view_is, c.in-Session.is) at c.requires.there));
     }
 
 pub returns-in-Session-clause-panes : goal.returns-in-Session-clause-panes
@@ -35,10 +35,10 @@ returns-in-Session-clause-panes c =
       rw (← c.self.view_is, c.in-Session.is) (ap map.entries e.2 ∙ entries-insert places_total m c.args.spot.place (once_fired c.args.mode c.args.row.now e.0)),
     )
 
-pub fire-requires-in_default : goal.fire-requires-in_default
-fire-requires-in_default c =
+pub fire-requires-in_default-clause-there : goal.fire-requires-in_default-clause-there
+fire-requires-in_default-clause-there c =
     let a = c.self.inside in
-    ap is_some (get-entries a.ring.panes c.args.spot.place) ∙ (rw (← c.self.view_is, in_ring a.shape a.list.panes a.ring.panes c.in_default.not-Session) at c.requires)
+    ap is_some (get-entries a.ring.panes c.args.spot.place) ∙ (rw (← c.self.view_is, in_ring a.shape a.list.panes a.ring.panes c.in_default.not-Session) at c.requires.there)
 
 pub invariant_of-self-in_default : goal.invariant_of-self-in_default
 invariant_of-self-in_default c = record {

@@ -1,4 +1,4 @@
-use Rattle.std.proofs.Common.{◌≡◌, ◌<◌, length, arith, false}
+use Rattle.std.proofs.Common.{◌<◌, length, arith, false}
 use Rattle.wsm_panes.proofs.Laid.{length-entries, set_head}
 use Rattle.wsm_panes.proofs.layout.Slots.clear.Goals as goal
 

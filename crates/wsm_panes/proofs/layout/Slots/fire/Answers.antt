@@ -1,9 +1,9 @@
 use Rattle.std.proofs.Common.{◌≡◌, Some, None, length, set, true, false, arith, ap, sym, ◌∙◌}
 use Rattle.std.proofs.lemmas.List.{with_items_is}
 use Rattle.std.specs.Option.{is_some}
-use Rattle.std.specs.Prelude.{IfSome, option_map}
+use Rattle.std.specs.Prelude.{option_map}
 use Rattle.wsm_panes.specs.Held.{once_fired}
-use Rattle.wsm_panes.specs.Layout.{HasPart, entries_by, entry_by, head_fired, part_at, with_part}
+use Rattle.wsm_panes.specs.Layout.{entries_by, entry_by, head_fired, part_at, with_part}
 use Rattle.wsm_panes.proofs.Laid.{entry_read, fired_with, fired_without, has_row, length-with_part, part_ends, set_head, set_row, slot_within}
 use Rattle.wsm_panes.proofs.layout.Slots.fire.Goals as goal
 

@@ -1,4 +1,4 @@
-use Rattle.std.proofs.Common.{◌≡◌, sym, ap, ◌∙◌}
+use Rattle.std.proofs.Common.{ap, ◌∙◌}
 use Rattle.wsm_panes.specs.Layout.{entries_by}
 use Rattle.wsm_panes.proofs.Laid.{entries_free}
 use Rattle.wsm_panes.proofs.layout.Slots.open.Goals as goal

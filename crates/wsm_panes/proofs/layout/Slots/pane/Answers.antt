@@ -1,6 +1,4 @@
-use Rattle.std.proofs.Common.{◌≡◌, ◌<◌, ◌≤◌, length, arith, refl, ap, sym, ◌∙◌}
-use Rattle.std.specs.Prelude.{option_map}
-use Rattle.wsm_panes.specs.Layout.{HasPart, entry_by, part_at}
+use Rattle.std.proofs.Common.{arith, refl}
 use Rattle.wsm_panes.proofs.Laid.{entry_read, has_folds, has_row, head_held, slot_held}
 use Rattle.wsm_panes.proofs.layout.Slots.pane.Goals as goal
 

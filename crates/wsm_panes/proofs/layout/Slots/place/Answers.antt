@@ -1,5 +1,4 @@
-use Rattle.std.proofs.Common.{◌≡◌, ◌<◌, length, get_or, arith, refl, ap, sym, ◌∙◌}
-use Rattle.std.specs.Prelude.{option_map}
+use Rattle.std.proofs.Common.{◌<◌, length, arith, refl, ap, sym, ◌∙◌}
 use Rattle.wsm_panes.specs.Layout.{entry_by, part_at}
 use Rattle.wsm_panes.proofs.Laid.{length-entries, entry_at}
 use Rattle.wsm_panes.proofs.layout.Slots.place.Goals as goal

@@ -3,7 +3,7 @@ use Rattle.std.proofs.lemmas.List.{get_or_default, with_items_is}
 use Rattle.std.specs.Prelude.{IfSome, option_map}
 use Rattle.wsm_record.specs.declared.event.Value.{Value}
 use Rattle.wsm_panes.specs.Held.{CanRecord, with_one_more}
-use Rattle.wsm_panes.specs.Layout.{HasPart, entries_by, entry_by, folded_on, part_at, with_part}
+use Rattle.wsm_panes.specs.Layout.{entries_by, entry_by, folded_on, part_at, with_part}
 use Rattle.wsm_panes.specs.Ring.{slot_at}
 use Rattle.wsm_panes.proofs.Laid.{can_record, entry_read, has_folds, head_held, length-folded_on, length-part, length-with_part, part_ends, recorded, set_folds, slot_held}
 use Rattle.wsm_panes.proofs.layout.Slots.record.Goals as goal

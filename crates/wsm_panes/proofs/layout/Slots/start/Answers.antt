@@ -1,6 +1,6 @@
 use Rattle.std.proofs.Common.{◌≡◌, length, set, arith, ap, ◌∙◌}
 use Rattle.std.proofs.lemmas.List.{with_items_is}
-use Rattle.wsm_panes.specs.Layout.{HasPart, entries_by, entry_by, part_at, with_part}
+use Rattle.wsm_panes.specs.Layout.{entries_by, entry_by, part_at, with_part}
 use Rattle.wsm_panes.proofs.Laid.{has_folds, length-with_part, part_ends, set_folds, slot_within}
 use Rattle.wsm_panes.proofs.layout.Slots.start.Goals as goal
 
