@@ -161,4 +161,4 @@ module _ (p : Program) where
   last_rows capacity tally rows left all none so_far = no_rows rows left none ∙ so_far.written
 
 pub kept_on : (a b c : Held) → IsKept a b → IsKept b c → IsKept a c
-kept_on a b c h k = record { keys = k.keys ∙ h.keys; shape = k.shape ∙ h.shape; live = k.live ∙ h.live }
+kept_on a b c h k = record { keys = k.keys ∙ h.keys; shape = k.shape ∙ h.shape; live = k.live ∙ h.live; widths = k.widths ∙ h.widths }

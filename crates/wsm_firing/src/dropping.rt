@@ -42,7 +42,7 @@ fn lose_expired(streams: &mut Streams, held: &HeldPanes, limit: i64)
         let Some(spot) = next else {
             break;
         };
-        streams.lose(held.pane(spot));
+        streams.lose(&held.pane(spot));
         next = held.next_due(spot, limit);
     }
 }

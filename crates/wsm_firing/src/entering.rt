@@ -62,7 +62,7 @@ fn lose_pair(streams: &mut Streams, pair: &(Pane, Pane))
     ensures alike { AreAlike streams.old streams.new }
 {
     if pair.0.has_fired() && pair.1.has_fired() {
-        streams.lose(&pair.0);
-        streams.lose(&pair.1);
+        streams.lose(&pair.0.view());
+        streams.lose(&pair.1.view());
     }
 }

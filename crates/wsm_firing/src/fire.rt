@@ -1,6 +1,6 @@
 //! One firing.
 
-ghost use Rattle.std.specs.Prelude.{◌≡◌, ◌<◌, ◌++◌, [], ◌∷◌, List, Some, IsSome, option_map, vec_capacity, vec_len};
+ghost use Rattle.std.specs.Prelude.{◌≡◌, ◌<◌, ◌++◌, [], ◌∷◌, List, Some, IsSome, option_map, vec_capacity, vec_len, length};
 ghost use Rattle.std.specs.FinMap.Entries.{find, put};
 ghost use Rattle.std.specs.List.{cons_option};
 ghost use Rattle.wsm_record.specs.declared.event.Value.{Value};
@@ -45,6 +45,7 @@ pub fn fire(
     tally: &mut Tally,
     due: Due,
 )
+    requires wide { held.old.widths.columns ≡ length verified.now.header.columns }
     requires tells { CanTell streams.old (entries_of held.old) }
     requires held { IsSome (find place_cmp due.spot.place (entries_of held.old)) }
     requires can { (pane : Pane (List Value)) → find place_cmp due.spot.place (entries_of held.old) ≡ Some pane → CanAdd verified.now (vec_capacity rows.old) (vec_len rows.old) tally.old (fired_by verified.now.header.mode due pane ∷ []) }
@@ -58,8 +59,8 @@ pub fn fire(
     let header = verified.program().header();
     let pane = held.pane(due.spot);
     let mut row = Some(Columns::new());
-    let steps = run(verified, machine, due, pane, &mut row);
-    streams.lose(pane);
+    let steps = run(verified, machine, due, &pane, &mut row);
+    streams.lose(&pane);
     held.fire_at(due.spot, header.mode, &row);
     streams.gain(&row);
     tally.count(steps);

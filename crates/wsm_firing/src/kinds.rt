@@ -9,7 +9,7 @@ ghost use Rattle.wsm_semantics.specs.Panes.{window_of};
 ghost use Rattle.wsm_semantics.specs.Summaries.{kind_by_watermark};
 ghost use Rattle.wsm_machine.specs.Meaning.{query_of};
 
-use wsm_panes::Pane;
+use wsm_panes::PaneView;
 use wsm_program::Header;
 use wsm_semantics::Place;
 use wsm_triggers::{Trigger, on_record, on_watermark};
@@ -17,7 +17,12 @@ use wsm_verifier::Verified;
 use wsm_windows::PaneKind;
 
 /// What a pane fires as on the turn of a record in it, at a mark.
-pub fn record_kind(verified: &Verified, mark: i64, place: Place, pane: &Pane) -> Option<PaneKind>
+pub fn record_kind(
+    verified: &Verified,
+    mark: i64,
+    place: Place,
+    pane: &PaneView<'_>,
+) -> Option<PaneKind>
     requires { FitsSigned w64 place.end }
     ensures { result ≡ kind_on_record (query_of verified.now) mark place.end pane.now.unshown }
 {
@@ -35,7 +40,7 @@ pub fn watermark_kind(
     old: i64,
     new: i64,
     place: Place,
-    pane: &Pane,
+    pane: &PaneView<'_>,
 ) -> Option<PaneKind>
     requires lateness { IsSpan header.now.lateness }
     requires placed { IsPlaced (window_of place) }

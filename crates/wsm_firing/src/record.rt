@@ -1,6 +1,6 @@
 //! Firings on the turn of a record.
 
-ghost use Rattle.std.specs.Prelude.{◌≡◌, ◌++◌, [], ◌∷◌, map, vec_capacity, vec_len};
+ghost use Rattle.std.specs.Prelude.{◌≡◌, ◌++◌, [], ◌∷◌, map, vec_capacity, vec_len, length};
 ghost use Rattle.wsm_semantics.specs.Panes.{at};
 ghost use Rattle.wsm_semantics.specs.Replay.{datum};
 ghost use Rattle.wsm_semantics.specs.Summaries.{all_fired, fires, kind_by_record};
@@ -36,6 +36,7 @@ pub fn fire_by_record(
     session: Option<Window>,
 ) -> Tally
     requires empty { rows.old.items ≡ [] }
+    requires wide { held.old.widths.columns ≡ length verified.now.header.columns }
     requires tells { CanTell streams.old (entries_of held.old) }
     requires can { CanFireByRecord verified.now (vec_capacity rows.old) mark key time session (entries_of held.old) }
     ensures panes { entries_of held.new ≡ all_fired (plan_of verified.now) (query_of verified.now) (kind_by_record (query_of verified.now) mark (datum 0 key time [])) (entries_of held.old) }
@@ -77,6 +78,7 @@ fn fire_each(
     windows: Windows,
 ) -> Tally
     requires empty { rows.old.items ≡ [] }
+    requires wide { held.old.widths.columns ≡ length verified.now.header.columns }
     requires tells { CanTell streams.old (entries_of held.old) }
     requires order { AreInOrder (map (at key) windows) }
     requires can { CanFire verified.now (vec_capacity rows.old) (fires (query_of verified.now) (kind_at (query_of verified.now) mark (map (at key) windows)) (entries_of held.old)) }
@@ -108,6 +110,7 @@ fn fire_at(
     mark: i64,
     place: Place,
 )
+    requires wide { held.old.widths.columns ≡ length verified.now.header.columns }
     requires tells { CanTell streams.old (entries_of held.old) }
     requires can { CanAdd verified.now (vec_capacity rows.old) (vec_len rows.old) tally.old (fires (query_of verified.now) (kind_at (query_of verified.now) mark (place ∷ [])) (entries_of held.old)) }
     ensures panes { entries_of held.new ≡ all_fired (plan_of verified.now) (query_of verified.now) (kind_at (query_of verified.now) mark (place ∷ [])) (entries_of held.old) }
@@ -120,7 +123,7 @@ fn fire_at(
     let Some(spot) = held.find(place) else {
         return;
     };
-    if let Some(kind) = record_kind(verified, mark, place, held.pane(spot)) {
+    if let Some(kind) = record_kind(verified, mark, place, &held.pane(spot)) {
         fire(
             verified,
             machine,

@@ -1,6 +1,6 @@
 //! FIRE run on a pane.
 
-ghost use Rattle.std.specs.Prelude.{◌≡◌, ◌≤◌, [], None, Some, if◌then◌else◌, length, map};
+ghost use Rattle.std.specs.Prelude.{◌≡◌, ◌≤◌, [], None, Some, if◌then◌else◌, length, map, IfSome};
 ghost use Rattle.wsm_semantics.specs.Summaries.{columns as columns_by, fired_count as fired_count_of};
 ghost use Rattle.wsm_machine.specs.Meaning.{plan_of, pane_cost_by};
 ghost use Rattle.wsm_machine.specs.Sound.{MayFire};
@@ -9,7 +9,7 @@ ghost use Rattle.wsm_firing.specs.Due.{fired_by};
 
 use crate::fire::Due;
 use wsm_machine::{Cell, Inputs, Machine};
-use wsm_panes::Pane;
+use wsm_panes::PaneView;
 use wsm_record::Mode;
 use wsm_semantics::Columns;
 use wsm_verifier::Verified;
@@ -20,12 +20,13 @@ pub fn run(
     verified: &Verified,
     machine: &mut Machine,
     due: Due,
-    pane: &Pane,
+    pane: &PaneView<'_>,
     row: &mut Option<Columns>,
 ) -> u64
     requires fires { MayFire verified.now (fired_by verified.now.header.mode due pane.now) }
     requires empty { row.old ≡ Some [] }
     ensures row { row.new ≡ columns_by (plan_of verified.now) due.spot.place.key (fired_count_of verified.now.header.mode pane.now) pane.now.folded }
+    ensures wide { IfSome row.new (λ columns. length columns ≡ length verified.now.header.columns) }
     ensures steps { result ≡ pane_cost_by verified.now (fired_by verified.now.header.mode due pane.now) }
 {
     let header = verified.program().header();
@@ -41,7 +42,7 @@ pub fn run(
 }
 
 // How many records the firing is computed over.
-fn fired_count(mode: Mode, pane: &Pane) -> u64
+fn fired_count(mode: Mode, pane: &PaneView<'_>) -> u64
     ensures { result ≡ fired_count_of mode pane.now }
 {
     match mode {

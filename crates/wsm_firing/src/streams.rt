@@ -10,7 +10,7 @@ ghost use Rattle.wsm_firing.specs.Streams.{AreAlike, CanAdvance, CanGain, CanLos
 
 use std::alloc::{AllocError, Global};
 use std::marker::Model;
-use wsm_panes::Pane;
+use wsm_panes::PaneView;
 use wsm_record::Form;
 use wsm_record::limits::{MAX_COLUMNS, MAX_PANES};
 use wsm_relation::{Changes, Relation, rstream};
@@ -81,7 +81,7 @@ impl Streams {
 
     /// The relation loses the row that stands for a pane, if one does.
     #[inline(always)]
-    pub(crate) fn lose(&mut self, pane: &Pane)
+    pub(crate) fn lose(&mut self, pane: &PaneView<'_>)
         requires { CanLose self.old (standing_row pane.now.stands) }
         ensures told { (before now : List (List Value)) → IsTold self.old before (cons_option (standing_row pane.now.stands) now) → IsTold self.new before now }
         ensures alike { AreAlike self.old self.new }
@@ -90,7 +90,7 @@ impl Streams {
             return;
         }
         if let Some(row) = pane.standing_row() {
-            self.lose_row(row);
+            self.lose_row(&row);
         }
     }
 

@@ -1,6 +1,6 @@
 //! Firings on the turn of a watermark.
 
-ghost use Rattle.std.specs.Prelude.{◌≡◌, ◌≤ℤ◌, ◌+ℤ◌, ◌+◌, ℕ, pos, List, [], IsSome, Some, slice_get, vec_capacity};
+ghost use Rattle.std.specs.Prelude.{◌≡◌, ◌≤ℤ◌, ◌+ℤ◌, ◌+◌, ℕ, pos, List, [], IsSome, Some, slice_get, vec_capacity, length};
 ghost use Rattle.std.specs.FinMap.Entries.{find};
 ghost use Rattle.wsm_record.specs.declared.event.Value.{Value};
 ghost use Rattle.wsm_semantics.specs.Panes.{place_cmp};
@@ -34,6 +34,7 @@ pub fn fire_by_watermark(
     new: i64,
 ) -> Tally
     requires empty { rows.old.items ≡ [] }
+    requires wide { held.old.widths.columns ≡ length verified.now.header.columns }
     requires tells { CanTell streams.old (entries_of held.old) }
     requires can { CanFireByWatermark verified.now (vec_capacity rows.old) old new (entries_of held.old) }
     ensures panes { entries_of held.new ≡ all_fired (plan_of verified.now) (query_of verified.now) (kind_by_watermark (query_of verified.now) old new) (entries_of held.old) }
@@ -51,7 +52,7 @@ pub fn fire_by_watermark(
         let Some(spot) = next else {
             break;
         };
-        if let Some(kind) = watermark_kind(header, old, new, spot.place, held.pane(spot)) {
+        if let Some(kind) = watermark_kind(header, old, new, spot.place, &held.pane(spot)) {
             fire(
                 verified,
                 machine,

@@ -37,7 +37,7 @@ lose-requires c =
     let es = entries_of c.args.held.now in let i : ℕ = c.loop.counter in let sorted = map.entries_sorted c.args.held.now.panes in
     let limit : ℤ = to_z w64 (of_z w64 c.args.limit) in
     let due : place_due limit (slice_get es i) ≡ Some c.in-Some.spot.place = sym c.loop.invariant.next ∙ ap place_found c.in-Some.is in
-    let e : Place × Pane Folded = (c.in-Some.spot.place, c.pane.result.now) in
+    let e : Place × Pane Folded = (c.in-Some.spot.place, c.pane.result) in
     let at : slice_get es i ≡ Some e = entry_found limit es i e.0 sorted due e.1 c.pane.ensures in
     let split : drop i es ≡ e ∷ drop (i + 1) es = rest_at es i e at in
     let can = c.requires.tells in
@@ -58,7 +58,7 @@ loop-preserved c =
     let es = entries_of c.args.held.now in let i : ℕ = c.loop.counter in let sorted = map.entries_sorted c.args.held.now.panes in
     let limit : ℤ = to_z w64 (of_z w64 c.args.limit) in
     let due : place_due limit (slice_get es i) ≡ Some c.in-Some.spot.place = sym c.loop.invariant.next ∙ ap place_found c.in-Some.is in
-    let e : Place × Pane Folded = (c.in-Some.spot.place, c.pane.result.now) in
+    let e : Place × Pane Folded = (c.in-Some.spot.place, c.pane.result) in
     let at : slice_get es i ≡ Some e = entry_found limit es i e.0 sorted due e.1 c.pane.ensures in
     let split : drop i es ≡ e ∷ drop (i + 1) es = rest_at es i e at in
     record {

@@ -51,11 +51,11 @@ fire-requires-clause-can c =
     let p = c.args.verified.now in let held = c.args.held.now in
     let spot = spot_found c.args.place (find place_cmp c.args.place (entries_of held)) c.in-Some.spot.place (sym c.find.ensures ∙ ap place_found c.in-Some.is) in
     let mark : SFits w64 c.args.mark = c.ranges.mark in
-    let there : find place_cmp c.args.place (entries_of held) ≡ Some c.pane.result.now = ap (λ r. find place_cmp r (entries_of held)) (sym spot.0) ∙ c.pane.ensures in
+    let there : find place_cmp c.args.place (entries_of held) ≡ Some c.pane.result = ap (λ r. find place_cmp r (entries_of held)) (sym spot.0) ∙ c.pane.ensures in
     let is = sym (simp to_z-of_z at c.record_kind.ensures) in
-    let one = with_kind (plan_of p) (query_of p) c.args.mark c.args.place (entries_of held) (map.entries_sorted held.panes) c.pane.result.now there c.in-Some-record_kind.kind (is ∙ c.in-Some-record_kind.is) in
+    let one = with_kind (plan_of p) (query_of p) c.args.mark c.args.place (entries_of held) (map.entries_sorted held.panes) c.pane.result there c.in-Some-record_kind.kind (is ∙ c.in-Some-record_kind.is) in
     λ h found.
-    let same : c.pane.result.now ≡ h = some_same (sym c.pane.ensures ∙ found) in
+    let same : c.pane.result ≡ h = some_same (sym c.pane.ensures ∙ found) in
     subst (λ (x : Place × Pane (List Value)). CanAdd p (vec_capacity c.args.rows.now) (vec_len c.args.rows.now) c.args.tally.now (record { kind = c.in-Some-record_kind.kind; place = x.0; count = fired_count p.header.mode x.1; folded = x.1.folded } ∷ []))
     (λ i. (sym spot.0 i, same i))
     (subst (λ (fs : List (Fired (List Value))). CanAdd p (vec_capacity c.args.rows.now) (vec_len c.args.rows.now) c.args.tally.now fs) one.firings c.requires.can)
@@ -65,22 +65,22 @@ returns-in-Some-record_kind-clause-panes c =
     let p = c.args.verified.now in let held = c.args.held.now in
     let spot = spot_found c.args.place (find place_cmp c.args.place (entries_of held)) c.in-Some.spot.place (sym c.find.ensures ∙ ap place_found c.in-Some.is) in
     let mark : SFits w64 c.args.mark = c.ranges.mark in
-    let there : find place_cmp c.args.place (entries_of held) ≡ Some c.pane.result.now = ap (λ r. find place_cmp r (entries_of held)) (sym spot.0) ∙ c.pane.ensures in
+    let there : find place_cmp c.args.place (entries_of held) ≡ Some c.pane.result = ap (λ r. find place_cmp r (entries_of held)) (sym spot.0) ∙ c.pane.ensures in
     let is = sym (simp to_z-of_z at c.record_kind.ensures) in
-    let one = with_kind (plan_of p) (query_of p) c.args.mark c.args.place (entries_of held) (map.entries_sorted held.panes) c.pane.result.now there c.in-Some-record_kind.kind (is ∙ c.in-Some-record_kind.is) in
-    c.fire.ensures.panes c.pane.result.now c.pane.ensures
-    ∙ ap (λ (r : Place). put place_cmp r (fired_pane (plan_of p) p.header.mode r (Some c.in-Some-record_kind.kind) c.pane.result.now) (entries_of held)) spot.0 ∙ sym one.panes
+    let one = with_kind (plan_of p) (query_of p) c.args.mark c.args.place (entries_of held) (map.entries_sorted held.panes) c.pane.result there c.in-Some-record_kind.kind (is ∙ c.in-Some-record_kind.is) in
+    c.fire.ensures.panes c.pane.result c.pane.ensures
+    ∙ ap (λ (r : Place). put place_cmp r (fired_pane (plan_of p) p.header.mode r (Some c.in-Some-record_kind.kind) c.pane.result) (entries_of held)) spot.0 ∙ sym one.panes
 
 pub returns-in-Some-record_kind-clause-rows : goal.returns-in-Some-record_kind-clause-rows
 returns-in-Some-record_kind-clause-rows c =
     let p = c.args.verified.now in let held = c.args.held.now in
     let spot = spot_found c.args.place (find place_cmp c.args.place (entries_of held)) c.in-Some.spot.place (sym c.find.ensures ∙ ap place_found c.in-Some.is) in
     let mark : SFits w64 c.args.mark = c.ranges.mark in
-    let there : find place_cmp c.args.place (entries_of held) ≡ Some c.pane.result.now = ap (λ r. find place_cmp r (entries_of held)) (sym spot.0) ∙ c.pane.ensures in
+    let there : find place_cmp c.args.place (entries_of held) ≡ Some c.pane.result = ap (λ r. find place_cmp r (entries_of held)) (sym spot.0) ∙ c.pane.ensures in
     let is = sym (simp to_z-of_z at c.record_kind.ensures) in
-    let one = with_kind (plan_of p) (query_of p) c.args.mark c.args.place (entries_of held) (map.entries_sorted held.panes) c.pane.result.now there c.in-Some-record_kind.kind (is ∙ c.in-Some-record_kind.is) in
-    c.fire.ensures.rows c.pane.result.now c.pane.ensures
-    ∙ ap (λ (r : Place). c.args.rows.now.items ++ rows_of p (record { kind = c.in-Some-record_kind.kind; place = r; count = fired_count p.header.mode c.pane.result.now; folded = c.pane.result.now.folded } ∷ [])) spot.0
+    let one = with_kind (plan_of p) (query_of p) c.args.mark c.args.place (entries_of held) (map.entries_sorted held.panes) c.pane.result there c.in-Some-record_kind.kind (is ∙ c.in-Some-record_kind.is) in
+    c.fire.ensures.rows c.pane.result c.pane.ensures
+    ∙ ap (λ (r : Place). c.args.rows.now.items ++ rows_of p (record { kind = c.in-Some-record_kind.kind; place = r; count = fired_count p.header.mode c.pane.result; folded = c.pane.result.folded } ∷ [])) spot.0
     ∙ ap (λ (fs : List (Fired (List Value))). c.args.rows.now.items ++ rows_of p fs) (sym one.firings)
 
 pub returns-in-Some-record_kind-clause-tally : goal.returns-in-Some-record_kind-clause-tally
@@ -88,11 +88,11 @@ returns-in-Some-record_kind-clause-tally c =
     let p = c.args.verified.now in let held = c.args.held.now in
     let spot = spot_found c.args.place (find place_cmp c.args.place (entries_of held)) c.in-Some.spot.place (sym c.find.ensures ∙ ap place_found c.in-Some.is) in
     let mark : SFits w64 c.args.mark = c.ranges.mark in
-    let there : find place_cmp c.args.place (entries_of held) ≡ Some c.pane.result.now = ap (λ r. find place_cmp r (entries_of held)) (sym spot.0) ∙ c.pane.ensures in
+    let there : find place_cmp c.args.place (entries_of held) ≡ Some c.pane.result = ap (λ r. find place_cmp r (entries_of held)) (sym spot.0) ∙ c.pane.ensures in
     let is = sym (simp to_z-of_z at c.record_kind.ensures) in
-    let one = with_kind (plan_of p) (query_of p) c.args.mark c.args.place (entries_of held) (map.entries_sorted held.panes) c.pane.result.now there c.in-Some-record_kind.kind (is ∙ c.in-Some-record_kind.is) in
-    c.fire.ensures.tally c.pane.result.now c.pane.ensures
-    ∙ ap (λ (r : Place). tally_with p c.args.tally.now (record { kind = c.in-Some-record_kind.kind; place = r; count = fired_count p.header.mode c.pane.result.now; folded = c.pane.result.now.folded } ∷ [])) spot.0
+    let one = with_kind (plan_of p) (query_of p) c.args.mark c.args.place (entries_of held) (map.entries_sorted held.panes) c.pane.result there c.in-Some-record_kind.kind (is ∙ c.in-Some-record_kind.is) in
+    c.fire.ensures.tally c.pane.result c.pane.ensures
+    ∙ ap (λ (r : Place). tally_with p c.args.tally.now (record { kind = c.in-Some-record_kind.kind; place = r; count = fired_count p.header.mode c.pane.result; folded = c.pane.result.folded } ∷ [])) spot.0
     ∙ ap (λ (fs : List (Fired (List Value))). tally_with p c.args.tally.now fs) (sym one.firings)
 
 pub returns-in_default-record_kind-clause-panes : goal.returns-in_default-record_kind-clause-panes
@@ -100,9 +100,9 @@ returns-in_default-record_kind-clause-panes c =
     let p = c.args.verified.now in let held = c.args.held.now in
     let spot = spot_found c.args.place (find place_cmp c.args.place (entries_of held)) c.in-Some.spot.place (sym c.find.ensures ∙ ap place_found c.in-Some.is) in
     let mark : SFits w64 c.args.mark = c.ranges.mark in
-    let there : find place_cmp c.args.place (entries_of held) ≡ Some c.pane.result.now = ap (λ r. find place_cmp r (entries_of held)) (sym spot.0) ∙ c.pane.ensures in
+    let there : find place_cmp c.args.place (entries_of held) ≡ Some c.pane.result = ap (λ r. find place_cmp r (entries_of held)) (sym spot.0) ∙ c.pane.ensures in
     let is = sym (simp to_z-of_z at c.record_kind.ensures) in
-    let none = no_kind (plan_of p) (query_of p) c.args.mark c.args.place (entries_of held) (map.entries_sorted held.panes) c.pane.result.now there (is ∙ c.in_default-record_kind.is) in
+    let none = no_kind (plan_of p) (query_of p) c.args.mark c.args.place (entries_of held) (map.entries_sorted held.panes) c.pane.result there (is ∙ c.in_default-record_kind.is) in
     sym none.panes
 
 pub returns-in_default-record_kind-clause-rows : goal.returns-in_default-record_kind-clause-rows
@@ -110,9 +110,9 @@ returns-in_default-record_kind-clause-rows c =
     let p = c.args.verified.now in let held = c.args.held.now in
     let spot = spot_found c.args.place (find place_cmp c.args.place (entries_of held)) c.in-Some.spot.place (sym c.find.ensures ∙ ap place_found c.in-Some.is) in
     let mark : SFits w64 c.args.mark = c.ranges.mark in
-    let there : find place_cmp c.args.place (entries_of held) ≡ Some c.pane.result.now = ap (λ r. find place_cmp r (entries_of held)) (sym spot.0) ∙ c.pane.ensures in
+    let there : find place_cmp c.args.place (entries_of held) ≡ Some c.pane.result = ap (λ r. find place_cmp r (entries_of held)) (sym spot.0) ∙ c.pane.ensures in
     let is = sym (simp to_z-of_z at c.record_kind.ensures) in
-    let none = no_kind (plan_of p) (query_of p) c.args.mark c.args.place (entries_of held) (map.entries_sorted held.panes) c.pane.result.now there (is ∙ c.in_default-record_kind.is) in
+    let none = no_kind (plan_of p) (query_of p) c.args.mark c.args.place (entries_of held) (map.entries_sorted held.panes) c.pane.result there (is ∙ c.in_default-record_kind.is) in
     no_rows p c.args.rows.now.items _ none.firings
 
 pub returns-in_default-record_kind-clause-tally : goal.returns-in_default-record_kind-clause-tally
@@ -120,7 +120,7 @@ returns-in_default-record_kind-clause-tally c =
     let p = c.args.verified.now in let held = c.args.held.now in
     let spot = spot_found c.args.place (find place_cmp c.args.place (entries_of held)) c.in-Some.spot.place (sym c.find.ensures ∙ ap place_found c.in-Some.is) in
     let mark : SFits w64 c.args.mark = c.ranges.mark in
-    let there : find place_cmp c.args.place (entries_of held) ≡ Some c.pane.result.now = ap (λ r. find place_cmp r (entries_of held)) (sym spot.0) ∙ c.pane.ensures in
+    let there : find place_cmp c.args.place (entries_of held) ≡ Some c.pane.result = ap (λ r. find place_cmp r (entries_of held)) (sym spot.0) ∙ c.pane.ensures in
     let is = sym (simp to_z-of_z at c.record_kind.ensures) in
-    let none = no_kind (plan_of p) (query_of p) c.args.mark c.args.place (entries_of held) (map.entries_sorted held.panes) c.pane.result.now there (is ∙ c.in_default-record_kind.is) in
+    let none = no_kind (plan_of p) (query_of p) c.args.mark c.args.place (entries_of held) (map.entries_sorted held.panes) c.pane.result there (is ∙ c.in_default-record_kind.is) in
     no_tally p c.args.tally.now _ none.firings

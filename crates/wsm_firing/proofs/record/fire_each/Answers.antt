@@ -31,7 +31,7 @@ loop-window-init c =
     record {
       order = subst (λ (ws : List Window). AreInOrder (map (at c.args.key) ws)) (sym same) c.requires.order;
       panes = ap (λ (ws : List Window). all_fired (plan_of p) q (kind_at q mark (map (at c.args.key) ws)) es) same;
-      keeps = record { keys = refl; shape = refl; live = refl };
+      keeps = record { keys = refl; shape = refl; live = refl; widths = refl };
       tells = tells_none c.args.streams.now es;
       capacity = refl;
       comes =

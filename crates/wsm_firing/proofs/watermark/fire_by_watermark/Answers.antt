@@ -56,7 +56,7 @@ loop-init c =
     let on : IsNextToFire late old new es 0 found = c.first_to_fire-next.ensures in
     let comes : ComesTo p room c.none-tally.result c.args.rows.now.items all all = simp to_z-of_z (first p room c.none-tally.result c.args.rows.now.items _ c.none-tally.ensures c.requires.empty c.requires.can.can) in
     record {
-      keeps = record { keys = refl; shape = refl; live = refl };
+      keeps = record { keys = refl; shape = refl; live = refl; widths = refl };
       tells = tells_none c.args.streams.now es;
       capacity = refl;
       walked = (
@@ -90,8 +90,8 @@ watermark_kind-requires-clause-placed c =
     let room : ℕ = vec_capacity c.args.rows.now in
     let i = c.loop.invariant.walked.0 in let now = entries_of c.loop.held in let so_far = c.loop.invariant.walked.2 in let spot = c.in-Some.spot in
     let due : place_due new (slice_get now i) ≡ Some spot.place = sym c.loop.invariant.walked.3 ∙ ap place_found c.in-Some.is in
-    let e : Place × Pane (List Value) = (spot.place, c.pane.result.now) in
-    let at : slice_get now i ≡ Some e = entry_found new now i spot.place (map.entries_sorted c.loop.held.panes) due c.pane.result.now c.pane.ensures in
+    let e : Place × Pane (List Value) = (spot.place, c.pane.result) in
+    let at : slice_get now i ≡ Some e = entry_found new now i spot.place (map.entries_sorted c.loop.held.panes) due c.pane.result c.pane.ensures in
     let there = as_it_was (plan_of p) q kind es now i e so_far sorted at in
     holds_at (λ e. IsPlaced (window_of e.0)) es i e c.requires.can.placed there
 
@@ -117,14 +117,14 @@ fire-requires-clause-can c =
     let room : ℕ = vec_capacity c.args.rows.now in
     let i = c.loop.invariant.walked.0 in let now = entries_of c.loop.held in let so_far = c.loop.invariant.walked.2 in let spot = c.in-Some.spot in
     let due : place_due new (slice_get now i) ≡ Some spot.place = sym c.loop.invariant.walked.3 ∙ ap place_found c.in-Some.is in
-    let e : Place × Pane (List Value) = (spot.place, c.pane.result.now) in
-    let at : slice_get now i ≡ Some e = entry_found new now i spot.place (map.entries_sorted c.loop.held.panes) due c.pane.result.now c.pane.ensures in
+    let e : Place × Pane (List Value) = (spot.place, c.pane.result) in
+    let at : slice_get now i ≡ Some e = entry_found new now i spot.place (map.entries_sorted c.loop.held.panes) due c.pane.result c.pane.ensures in
     let there = as_it_was (plan_of p) q kind es now i e so_far sorted at in
     let header : header_of c.header-header.result.now ≡ p.header = c.header-header.ensures.header ∙ ap (λ (p : Program). p.header) c.program.ensures.program in
     let is : c.watermark_kind.result ≡ kind e.0 e.1 = c.watermark_kind.ensures q (ap (λ (h : Header). h.mode) (sym header)) (ap (λ (h : Header). h.lateness) (sym header)) in
     let left : List (Fired (List Value)) = fires q kind (drop (i + 1) es) in
     λ h found.
-    let same : c.pane.result.now ≡ h = some_same (sym c.pane.ensures ∙ found) in
+    let same : c.pane.result ≡ h = some_same (sym c.pane.ensures ∙ found) in
     let f : Fired (List Value) = record { kind = c.in-Some-watermark_kind.kind; place = e.0; count = fired_count p.header.mode e.1; folded = e.1.folded } in
     let split : fires q kind (drop i es) ≡ f ∷ left = fired_next (plan_of p) q kind es now i e so_far sorted at (Some c.in-Some-watermark_kind.kind) (sym is ∙ c.in-Some-watermark_kind.is) in
     let comes : ComesTo p room c.loop.tally c.loop.rows.items ((f ∷ []) ++ left) all = subst (λ fs. ComesTo p room c.loop.tally c.loop.rows.items fs all) split c.loop.invariant.walked.4 in
@@ -141,8 +141,8 @@ next_to_fire-next-requires-clause-there c =
     let room : ℕ = vec_capacity c.args.rows.now in
     let i = c.loop.invariant.walked.0 in let now = entries_of c.loop.held in let so_far = c.loop.invariant.walked.2 in let spot = c.in-Some.spot in
     let due : place_due new (slice_get now i) ≡ Some spot.place = sym c.loop.invariant.walked.3 ∙ ap place_found c.in-Some.is in
-    let e : Place × Pane (List Value) = (spot.place, c.pane.result.now) in
-    let at : slice_get now i ≡ Some e = entry_found new now i spot.place (map.entries_sorted c.loop.held.panes) due c.pane.result.now c.pane.ensures in
+    let e : Place × Pane (List Value) = (spot.place, c.pane.result) in
+    let at : slice_get now i ≡ Some e = entry_found new now i spot.place (map.entries_sorted c.loop.held.panes) due c.pane.result c.pane.ensures in
     let there = as_it_was (plan_of p) q kind es now i e so_far sorted at in
     let header : header_of c.header-header.result.now ≡ p.header = c.header-header.ensures.header ∙ ap (λ (p : Program). p.header) c.program.ensures.program in
     let is : c.watermark_kind.result ≡ kind e.0 e.1 = c.watermark_kind.ensures q (ap (λ (h : Header). h.mode) (sym header)) (ap (λ (h : Header). h.lateness) (sym header)) in
@@ -164,8 +164,8 @@ loop-preserved c =
     let room : ℕ = vec_capacity c.args.rows.now in
     let i = c.loop.invariant.walked.0 in let now = entries_of c.loop.held in let so_far = c.loop.invariant.walked.2 in let spot = c.in-Some.spot in
     let due : place_due new (slice_get now i) ≡ Some spot.place = sym c.loop.invariant.walked.3 ∙ ap place_found c.in-Some.is in
-    let e : Place × Pane (List Value) = (spot.place, c.pane.result.now) in
-    let at : slice_get now i ≡ Some e = entry_found new now i spot.place (map.entries_sorted c.loop.held.panes) due c.pane.result.now c.pane.ensures in
+    let e : Place × Pane (List Value) = (spot.place, c.pane.result) in
+    let at : slice_get now i ≡ Some e = entry_found new now i spot.place (map.entries_sorted c.loop.held.panes) due c.pane.result c.pane.ensures in
     let there = as_it_was (plan_of p) q kind es now i e so_far sorted at in
     let header : header_of c.header-header.result.now ≡ p.header = c.header-header.ensures.header ∙ ap (λ (p : Program). p.header) c.program.ensures.program in
     let is : c.watermark_kind.result ≡ kind e.0 e.1 = c.watermark_kind.ensures q (ap (λ (h : Header). h.mode) (sym header)) (ap (λ (h : Header). h.lateness) (sym header)) in
