@@ -66,7 +66,7 @@ module _ (p : Program) (past : List Event) (r : Runner) (of : IsOf p r) (m : ℤ
     enters kinds values same is =
         subst (λ xs. CanEnter r.held xs k t values) same
         (subst (CanEnter r.held p.header.kinds k t) is
-        (can_enter p (needed p) of.judged of.lawful past k t vs taken chosen r.held of.keys of.shape of.live comes.panes))
+        (can_enter p (needed p) of.judged of.lawful past k t vs taken chosen r.held of.keys of.shape of.live of.widths comes.panes))
 
     pub entered_is : (kinds : List Kind) (values : List Value) → p.header.kinds ≡ kinds → updated p k vs ≡ values →
         with_entered kinds k t values r.held ≡ entered (plan_of p) p.header.shape (datum 0 k t vs) (entries_of r.held)

@@ -51,10 +51,12 @@ use Rattle.wsm_machine.proofs.SoundSteps.{record_in_range, room_for_record, all_
 use Rattle.wsm_machine.proofs.Telling.{pane_fits}
 use Rattle.wsm_machine.proofs.Sounding.{row_folded, may_fire}
 use Rattle.wsm_panes.specs.declared.ring.Ring.{Ring}
+use Rattle.wsm_panes.specs.declared.widths.Widths.{Widths}
 use Rattle.wsm_panes.specs.Held.{Held, entries_of, ring_of, taking, with_entered, CanTake, IsRoomy, CanEnter}
 use Rattle.wsm_panes.specs.Ring.{IsNear, IsOfRing, IsRing, LieInRing}
 use Rattle.wsm_panes.proofs.Live.{held_near, some_live}
 use Rattle.wsm_panes.proofs.Rings.{grid_start}
+use Rattle.wsm_engine.specs.Runner.{widths_of}
 use Rattle.wsm_engine.proofs.Limits.{clock_within, panes_few}
 use Rattle.wsm_engine.proofs.Agreeing.{entered_same}
 use Rattle.wsm_engine.proofs.Holding.{Panes, admitted, kept_panes, kept_sound, admitted_few}
@@ -250,15 +252,16 @@ module _ (p : Program) (costs : Costs) (judged : judge p ≡ Ok costs) (lawful :
       pub lie_in_ring : LieInRing ring now
       lie_in_ring = record { ring = is_ring; low = low; near = lie_near }
 
-    pub can_enter : (h : Held) → h.keys ≡ length p.header.schema.keys → h.shape ≡ p.header.shape → h.live ≡ live_bound p.header.shape p.header.skew p.header.lateness → entries_of h ≡ es
+    pub can_enter : (h : Held) → h.keys ≡ length p.header.schema.keys → h.shape ≡ p.header.shape → h.live ≡ live_bound p.header.shape p.header.skew p.header.lateness → h.widths ≡ widths_of p.header → entries_of h ≡ es
         → CanEnter h p.header.kinds k t (updated p k vs)
-    can_enter h keys shape live is =
+    can_enter h keys shape live widths is =
         let same_ring : ring_of h ≡ ring = λ i. record { size = size_of (shape i); period = period_of (shape i); keys = keys i; bound = live i } in
         let with : with_entered p.header.kinds k t (updated p k vs) h ≡ now = (λ i. entered (taking p.header.kinds (updated p k vs)) (shape i) (datum 0 k t []) (is i)) ∙ entered_same p k t vs p.header.shape es in
         record {
           declared = subst (λ m. k < m) (sym keys) declared;
           timely = timely;
           few = (program_lawful p lawful).kinds;
+          wide = ap (λ (w : Widths). w.accumulators) (sym widths);
           types = types;
           room = subst (λ xs. length xs ≤ h.keys * h.live) (sym with) (subst (λ m. length now ≤ m * h.live) (sym keys) (subst (λ m. length now ≤ length p.header.schema.keys * m) (sym live) now_within));
           live = subst (λ xs. length (filter (λ x. nat_eq x.0.key k) xs) ≤ h.live) (sym with) (subst (λ m. length (filter (λ x. nat_eq x.0.key k) now) ≤ m) (sym live) of_key);

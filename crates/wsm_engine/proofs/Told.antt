@@ -81,6 +81,7 @@ of_next p r n of keeps alike rows told = record {
   keys = keeps.keys ∙ of.keys;
   shape = keeps.shape ∙ of.shape;
   live = keeps.live ∙ of.live;
+  widths = keeps.widths ∙ of.widths;
   form = alike.form ∙ of.form;
   room = alike.room ∙ of.room;
   rows = subst (λ n. most_panes (query_of p) ≤ n) (sym rows) of.rows;

@@ -15,10 +15,11 @@ use Rattle.wsm_semantics.specs.Kept.{kept}
 use Rattle.wsm_semantics.specs.Summaries.{Pane, Fired, summaries, after_record, fired_by_record, relation_of}
 use Rattle.wsm_semantics.specs.Replay.{datum}
 use Rattle.wsm_semantics.specs.Steps.{State}
-use Rattle.wsm_program.specs.Program.{Program, is_program}
+use Rattle.wsm_program.specs.Program.{Header, Program, is_program}
 use Rattle.wsm_verifier.specs.Costs.{needed}
 use Rattle.wsm_verifier.specs.Rules.{judge}
 use Rattle.wsm_machine.specs.Meaning.{query_of, plan_of, selects, update_run, joins_held}
+use Rattle.wsm_panes.specs.declared.widths.Widths.{Widths}
 use Rattle.wsm_panes.specs.Held.{Held, entries_of}
 use Rattle.wsm_firing.specs.Streams.{Standing, IsTold, relation_before, standing_rows}
 use Rattle.std.specs.Prelude.{IsTrue}
@@ -33,6 +34,10 @@ pub record AreTold (most : ℕ) (s : Standing) (panes : List (Place × Pane (Lis
   pub told : IsTold s (last_relation s panes) (standing_rows panes)
   pub few : length (last_relation s panes) ≤ most
 
+-- how wide the panes of a program are
+abbrev pub widths_of : Header → Widths
+widths_of h = record { accumulators = length h.kinds; columns = length h.columns }
+
 -- the program is accepted, there is room for as many panes and rows as it can hold, and the streams were told
 pub record IsOf (p : Program) (r : Runner) : Type 0 where
   pub judged : judge p ≡ Ok (needed p)
@@ -40,6 +45,7 @@ pub record IsOf (p : Program) (r : Runner) : Type 0 where
   pub keys : r.held.keys ≡ length p.header.schema.keys
   pub shape : r.held.shape ≡ p.header.shape
   pub live : r.held.live ≡ live_bound p.header.shape p.header.skew p.header.lateness
+  pub widths : r.held.widths ≡ widths_of p.header
   pub form : r.streams.form ≡ p.header.form
   pub room : r.streams.room ≡ most_panes (query_of p)
   pub rows : most_panes (query_of p) ≤ vec_capacity r.rows

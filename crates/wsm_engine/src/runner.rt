@@ -7,19 +7,21 @@ ghost use Rattle.wsm_admission.specs.declared.verdict.Admitted.TheVariants as ad
 ghost use Rattle.wsm_semantics.specs.Replay.{datum};
 ghost use Rattle.wsm_semantics.specs.Summaries.{after_watermark, entered, fired_by_watermark, relation_of, at_watermark, row_of};
 ghost use Rattle.wsm_semantics.specs.Steps.{State, chosen_rows, fired_by, panes_after, relation_after, stream_rows, streamed_by};
+ghost use Rattle.wsm_program.specs.View.{header_of};
 ghost use Rattle.wsm_machine.specs.Inputs.{inputs_of};
 ghost use Rattle.wsm_machine.specs.Meaning.{answer_cost, plan_of, query_of, record_cost_by, record_inputs as inputs_of_record, selects};
 ghost use Rattle.wsm_panes.specs.Held.{IsKept, entries_of, session_entered};
 ghost use Rattle.wsm_firing.specs.Tally.{tally_of};
 ghost use Rattle.wsm_firing.specs.Firing.{rows_of};
 ghost use Rattle.wsm_firing.specs.Streams.{AreAlike, IsTold, relation_kept, standing_rows};
-ghost use Rattle.wsm_engine.specs.Runner.{Comes, IsAt, IsOf, entering_cost, fired_with, last_relation, panes_with};
+ghost use Rattle.wsm_engine.specs.Runner.{Comes, IsAt, IsOf, widths_of, entering_cost, fired_with, last_relation, panes_with};
 
 use std::alloc::{AllocError, Global};
 use wsm_admission::{Admitted, Refusal};
+use wsm_program::Header;
 use wsm_firing::{Streams, Tally, drop_expired, enter, fire_by_record, fire_by_watermark};
 use wsm_machine::{Inputs, Machine};
-use wsm_panes::HeldPanes;
+use wsm_panes::{HeldPanes, Widths};
 use wsm_record::{Event, Kind, Value};
 use wsm_semantics::OutRow;
 use wsm_verifier::Verified;
@@ -68,7 +70,7 @@ impl Runner {
         let room = keys * live;
         Ok(Runner {
             machine: Machine::open(alloc),
-            held: HeldPanes::open(alloc, keys, header.shape, live)?,
+            held: HeldPanes::open(alloc, keys, header.shape, live, widths(header))?,
             streams: Streams::open(alloc, header.form, room)?,
             rows: Vec::with_capacity(alloc, room)?,
         })
@@ -220,6 +222,16 @@ impl Runner {
         self.streams.advance(new, &mut self.rows);
         drop_expired(&mut self.held, &mut self.streams, limit);
         tally
+    }
+}
+
+// How wide the panes of a program are.
+fn widths(header: &Header) -> Widths
+    ensures { result ≡ widths_of (header_of header.now) }
+{
+    Widths {
+        accumulators: header.kinds.len(),
+        columns: header.columns.len(),
     }
 }
 

@@ -3,7 +3,9 @@ use Rattle.std.proofs.lemmas.Int.{ints, fits_signed_from_abs}
 use Rattle.wsm_program.specs.Program.{Program, is_program}
 use Rattle.wsm_program.specs.View.{header_of}
 use Rattle.wsm_verifier.proofs.Lawful.{lawful_seen, span_seen}
+use Rattle.wsm_panes.specs.declared.widths.Widths.{Widths}
 use Rattle.wsm_panes.specs.Held.{entries_of}
+use Rattle.wsm_firing.proofs.Headers.{lawful_firing}
 use Rattle.wsm_panes.proofs.Tables.{entries_none}
 use Rattle.wsm_engine.proofs.Limits.{room_few}
 use Rattle.wsm_engine.proofs.Told.{last_is, are_told, open_is}
@@ -54,6 +56,16 @@ open-requires-3 c =
     let few = room_few p c.program.ensures.accepted (subst (λ (q : Program). IsTrue (is_program q)) c.program.ensures.program c.header-header.ensures.lawful) h same c.key_count-keys.result c.live_bound-live.result c.key_count-keys.ensures.count (simp to_z-of_z at c.live_bound-live.ensures.bound) in
     omega (arith, few)
 
+pub open-requires-2-clause-accumulators : goal.open-requires-2-clause-accumulators
+open-requires-2-clause-accumulators c =
+    let kinds = (lawful_seen c.program.result.now (header_of c.header-header.result.now) c.header-header.ensures.header c.header-header.ensures.lawful).kinds in
+    omega (arith, ap (λ (w : Widths). w.accumulators) c.widths.ensures, kinds)
+
+pub open-requires-2-clause-columns : goal.open-requires-2-clause-columns
+open-requires-2-clause-columns c =
+    let columns = (lawful_firing c.program.result.now (header_of c.header-header.result.now) c.header-header.ensures.header c.header-header.ensures.lawful).columns in
+    omega (arith, ap (λ (w : Widths). w.columns) c.widths.ensures, columns)
+
 pub returns-clause-panes : goal.returns-clause-panes
 returns-clause-panes c = ap entries_of c.in_ok-open.ensures ∙ entries_none
 
@@ -70,6 +82,7 @@ returns-clause-program c = record {
   keys = search rules;
   shape = search rules;
   live = search rules;
+  widths = search rules;
   form = search rules;
   room = search rules;
   rows = search rules;

@@ -104,6 +104,6 @@ returns-clause-program c =
     let before = last_relation s (entries_of c.args.self.now.held) in
     let told : IsTold u before (standing_rows gs) = c.fire_by_record-tally.ensures.tells.told before (c.enter-steps.ensures.told before of.streams.told) in
     let one = c.enter-steps.ensures.keeps in let two = c.fire_by_record-tally.ensures.keeps in
-    of_next p c.args.self.now _ of (record { keys = two.keys ∙ one.keys; shape = two.shape ∙ one.shape; live = two.live ∙ one.live })
+    of_next p c.args.self.now _ of (record { keys = two.keys ∙ one.keys; shape = two.shape ∙ one.shape; live = two.live ∙ one.live; widths = two.widths ∙ one.widths })
     (alike_on s t u c.enter-steps.ensures.alike c.fire_by_record-tally.ensures.tells.alike) (c.fire_by_record-tally.ensures.capacity ∙ ap vec_capacity c.enter-steps.ensures.rows)
     (are_told (most_panes (query_of p)) u gs before told of.streams.few)

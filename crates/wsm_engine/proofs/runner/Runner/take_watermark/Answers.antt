@@ -110,7 +110,7 @@ returns-clause-program c =
     let few = held_within p c.requires.comes.0 c.args.self.now of c.args.old (Ok (admitted.Watermark c.args.old c.args.new)) (Watermark c.args.new) c.requires.comes.1 in
     let some : length (relation_of fs) ≤ most_panes (query_of p) = omega (arith, few, fired.as_many, length-sorted_rows (standing_rows fs), few_rows fs) in
     let one = c.fire_by_watermark-tally.ensures.keeps in let two = c.drop_expired.ensures.keeps in
-    of_next p c.args.self.now _ of (record { keys = two.keys ∙ one.keys; shape = two.shape ∙ one.shape; live = two.live ∙ one.live })
+    of_next p c.args.self.now _ of (record { keys = two.keys ∙ one.keys; shape = two.shape ∙ one.shape; live = two.live ∙ one.live; widths = two.widths ∙ one.widths })
     (alike_on s t v fired.alike (alike_on t u v c.advance.ensures.alike c.drop_expired.ensures.alike)) (c.advance.ensures.capacity ∙ c.fire_by_watermark-tally.ensures.capacity)
     (are_told (most_panes (query_of p)) v gs after told (few_kept t.form before (relation_of fs) (most_panes (query_of p)) of.streams.few some))
 
