@@ -2,7 +2,7 @@
 use Rattle.std.proofs.Common.{◌≡◌, ◌≤◌, ℕ, Bool, true, false, List, [], ◌∷◌, ℤ, ◌≤ℤ◌, ◌<ℤ◌, Option, Some, None, refl, sym, arith}
 use Rattle.std.proofs.lemmas.Int.{ints}
 use Rattle.std.proofs.lemmas.Bool.Decides.{nat_tests}
-use Rattle.std.specs.Prelude.{int_le, nat_le, not, if◌then◌else◌}
+use Rattle.std.specs.Prelude.{int_le, nat_le, not, if◌then◌else◌, unsigned_abs}
 use Rattle.std.specs.Int.{int_max}
 use Rattle.wsm_record.specs.declared.event.Value.{Value}
 use Rattle.wsm_record.specs.Event.{Event, Record, Watermark}
@@ -19,7 +19,7 @@ pub record IsTaken (c : Clock) (declared : Declared) (mark : ℤ) (admitted : �
   pub in_time : is_time time ≡ true
   pub near : is_too_far_ahead c mark time ≡ false
   pub prompt : is_late c mark time ≡ false
-  pub room : nat_le c.records admitted ≡ false
+  pub room : nat_le (unsigned_abs c.records) admitted ≡ false
 
 abbrev first_of : (a b c d e f : Bool) → Option Refusal
 first_of a b c d e f =
@@ -78,7 +78,7 @@ pub watermark_rises : (c : Clock) (e : Event) (past : List Event) → watermark_
 watermark_rises c (Record k t vs) past = grind (arith, ints)
 watermark_rises c (Watermark t) past = rises_by (watermark_of c past) t (is_time t)
 
-one_more : (c : Clock) (declared : Declared) (mark : ℤ) (n : ℕ) (e : Event) (v : Option Refusal) → v ≡ verdict_at c declared mark n e → n ≤ c.records → admitted_with n e v ≤ c.records
+one_more : (c : Clock) (declared : Declared) (mark : ℤ) (n : ℕ) (e : Event) (v : Option Refusal) → v ≡ verdict_at c declared mark n e → n ≤ unsigned_abs c.records → admitted_with n e v ≤ unsigned_abs c.records
 one_more c declared mark n (Record k t vs) None h l =
     let room = (taken_record c declared mark n k t vs (sym h)).room in
     grind (arith, nat_tests)
@@ -86,6 +86,6 @@ one_more c declared mark n (Record k t vs) (Some r) h l = l
 one_more c declared mark n (Watermark t) v h l = l
 
 -- no more records are admitted than the limit
-pub admitted_count-le : (c : Clock) (declared : Declared) (past : List Event) → admitted_count c declared past ≤ c.records
+pub admitted_count-le : (c : Clock) (declared : Declared) (past : List Event) → admitted_count c declared past ≤ unsigned_abs c.records
 admitted_count-le c declared [] = omega arith
 admitted_count-le c declared (e ∷ past) = one_more c declared (watermark_of c past) (admitted_count c declared past) e _ refl (admitted_count-le c declared past)

@@ -1,5 +1,5 @@
 -- What an admission keeps of a history, and how an event changes it.
-use Rattle.std.specs.Prelude.{◌≡◌, ℕ, ◌+◌, ◌≤◌, min, List, ℤ, pos, ◌≤ℤ◌, Option, Some, None, Result, Ok, Err}
+use Rattle.std.specs.Prelude.{◌≡◌, ℕ, ◌+◌, ◌≤◌, min, List, ℤ, pos, ◌≤ℤ◌, Option, Some, None, Result, Ok, Err, unsigned_abs}
 use Rattle.wsm_record.specs.declared.limits.TheConstants.{LATEST_TIME}
 use Rattle.wsm_record.specs.Event.{Event, Record, Watermark}
 use Rattle.wsm_record.specs.Schema.{Declared}
@@ -31,7 +31,7 @@ pub record IsInRange (s : State) : Type 0 where
   pub limits : IsWithinLimits s.clock
   pub mark_from : pos 0 ≤ℤ s.mark
   pub mark_to : s.mark ≤ℤ LATEST_TIME
-  pub admitted_to : s.admitted ≤ s.clock.records
+  pub admitted_to : s.admitted ≤ unsigned_abs s.clock.records
 
 -- the answer to an event, where a rule refuses it or none
 abbrev pub answer : ℤ → Event → Option Refusal → Result Admitted Refusal

@@ -1,7 +1,7 @@
 -- The watermark after a history, and the verdict on an event. A history is a list of events, the
 -- newest first. The watermark, a claim of the source on what is still to come, is the Dataflow
 -- Model's (Akidau et al. 2015); the verdicts, their order and the counts are this project's own.
-use Rattle.std.specs.Prelude.{ℕ, ◌+◌, ◌≤◌, Bool, false, ◌&&◌, not, if◌then◌else◌, List, [], ◌∷◌, length, ℤ, pos, ◌+ℤ◌, ◌≤ℤ◌, int_lt, int_le, unsigned_abs, nat_lt, nat_le, Option, Some, None}
+use Rattle.std.specs.Prelude.{ℕ, ◌+◌, Bool, false, ◌&&◌, not, if◌then◌else◌, List, [], ◌∷◌, length, ℤ, pos, ◌+ℤ◌, ◌≤ℤ◌, int_lt, int_le, unsigned_abs, nat_lt, nat_le, Option, Some, None}
 use Rattle.std.specs.Int.{int_max}
 use Rattle.wsm_record.specs.declared.event.Value.{Value}
 use Rattle.wsm_record.specs.declared.limits.TheConstants.{LATEST_TIME, LONGEST_SPAN}
@@ -19,8 +19,8 @@ pub record IsWithinLimits (c : Clock) : Type 0 where
   pub skew_to : c.skew ≤ℤ LONGEST_SPAN
   pub lateness_from : pos 0 ≤ℤ c.lateness
   pub lateness_to : c.lateness ≤ℤ LONGEST_SPAN
-  pub records_from : 1 ≤ c.records
-  pub records_to : c.records ≤ unsigned_abs LONGEST_SPAN
+  pub records_from : pos 1 ≤ℤ c.records
+  pub records_to : c.records ≤ℤ LONGEST_SPAN
 
 -- a time that a record or a watermark may have
 abbrev pub is_time : ℤ → Bool
@@ -53,7 +53,7 @@ record_refusal c declared mark admitted key time values =
     else if not (is_time time) then Some refusal.TimeRange
     else if is_too_far_ahead c mark time then Some refusal.TooFarAhead
     else if is_late c mark time then Some refusal.Late
-    else if nat_le c.records admitted then Some refusal.RecordLimit
+    else if nat_le (unsigned_abs c.records) admitted then Some refusal.RecordLimit
     else None
 
 -- the first rule that refuses a watermark

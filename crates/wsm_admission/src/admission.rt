@@ -1,6 +1,6 @@
 //! What is kept of the events so far, and the decision on the next.
 
-ghost use Rattle.std.specs.Prelude.{◌≡◌, ◌≤ℤ◌, IsTrue, List, [], ◌∷◌, nat_le, pos};
+ghost use Rattle.std.specs.Prelude.{◌≡◌, ◌≤ℤ◌, IsTrue, List, [], ◌∷◌, nat_le, pos, unsigned_abs};
 ghost use Rattle.wsm_record.specs.Event.{Event as AnyEvent, event_of, Record, Watermark};
 ghost use Rattle.wsm_record.specs.Schema.{Declared};
 ghost use Rattle.wsm_admission.specs.Clock.{IsWithinLimits, watermark_refusal};
@@ -191,9 +191,9 @@ impl Admission {
 
     // Whether as many records as the limit were admitted.
     fn is_full(&self) -> bool
-        ensures { result ≡ nat_le self.now.clock.records self.now.admitted }
+        ensures { result ≡ nat_le (unsigned_abs self.now.clock.records) self.now.admitted }
     {
-        self.clock.records <= self.admitted
+        self.clock.records.unsigned_abs() <= self.admitted
     }
 }
 

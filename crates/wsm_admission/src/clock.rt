@@ -10,5 +10,5 @@ pub struct Clock {
     /// How far behind the watermark a record may be.
     pub lateness: i64,
     /// How many records are admitted at most.
-    pub records: u64,
+    pub records: i64,
 }

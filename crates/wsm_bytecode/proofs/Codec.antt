@@ -160,8 +160,8 @@ few_parts h p = record { fields = few_fields h.schema p.schema; kinds = p.kinds;
 
 header_step : (h : Header) (bytes r1 r2 r3 r4 r5 r6 r7 r8 r9 r10 r11 r12 r13 r14 rest : List ℕ)
     → after_magic bytes ≡ Ok r1 → after_version r1 ≡ Ok r2 → schema_at r2 ≡ Ok (h.schema, r3)
-    → judged (is_within (pos 0) latest_time) (signed_at r3) ≡ Ok (h.start, r4) → judged is_span (signed_at r4) ≡ Ok (h.skew, r5)
-    → judged is_span (signed_at r5) ≡ Ok (h.lateness, r6) → judged is_size (signed_at r6) ≡ Ok (h.records, r7)
+    → judged (is_within (pos 0) latest_time) (signed_at r3) ≡ Ok (h.clock.start, r4) → judged is_span (signed_at r4) ≡ Ok (h.clock.skew, r5)
+    → judged is_span (signed_at r5) ≡ Ok (h.clock.lateness, r6) → judged is_size (signed_at r6) ≡ Ok (h.clock.records, r7)
     → shape_at r7 ≡ Ok (h.shape, r8) → mode_at r8 ≡ Ok (h.mode, r9)
     → judged is_span (signed_at r9) ≡ Ok (h.early, r10) → judged is_span (signed_at r10) ≡ Ok (h.late, r11) → form_at h.mode r11 ≡ Ok (h.form, r12)
     → kinds_at r12 ≡ Ok (h.kinds, r13) → columns_at h.schema r13 ≡ Ok (h.columns, r14) → budget_at r14 ≡ Ok (h.budget, rest)
@@ -181,15 +181,15 @@ header_again h rest p =
     let r9 = signed h.early ++ r10 in
     let r8 = mode h.mode ++ r9 in
     let r7 = shape h.shape ++ r8 in
-    let r6 = signed h.records ++ r7 in
-    let r5 = signed h.lateness ++ r6 in
-    let r4 = signed h.skew ++ r5 in
-    let r3 = signed h.start ++ r4 in
+    let r6 = signed h.clock.records ++ r7 in
+    let r5 = signed h.clock.lateness ++ r6 in
+    let r4 = signed h.clock.skew ++ r5 in
+    let r3 = signed h.clock.start ++ r4 in
     let r2 = schema h.schema ++ r3 in
     let r1 = byte 1 ++ r2 in
-    ap header_at (regroup_15 magic (byte 1) (schema h.schema) (signed h.start) (signed h.skew) (signed h.lateness) (signed h.records) (shape h.shape) (mode h.mode) (signed h.early) (signed h.late) (form h.form) (kinds h.kinds) (columns h.columns) (budget h.budget) rest)
+    ap header_at (regroup_15 magic (byte 1) (schema h.schema) (signed h.clock.start) (signed h.clock.skew) (signed h.clock.lateness) (signed h.clock.records) (shape h.shape) (mode h.mode) (signed h.early) (signed h.late) (form h.form) (kinds h.kinds) (columns h.columns) (budget h.budget) rest)
     ∙ header_step h (magic ++ r1) r1 r2 r3 r4 r5 r6 r7 r8 r9 r10 r11 r12 r13 r14 rest
-    (magic_again r1) (version_again r2) (schema_again h.schema r3 p.schema) (start_again h.start r4 p.start) (span_again h.skew r5 p.skew) (span_again h.lateness r6 p.lateness) (size_again h.records r7 p.records)
+    (magic_again r1) (version_again r2) (schema_again h.schema r3 p.schema) (start_again h.clock.start r4 p.start) (span_again h.clock.skew r5 p.skew) (span_again h.clock.lateness r6 p.lateness) (size_again h.clock.records r7 p.records)
     (shape_again h.shape r8 p.shape) (mode_again h.mode r9) (span_again h.early r10 p.early) (span_again h.late r11 p.late) (form_again h.mode h.form r12 p.form)
     (kinds_again h.kinds r13 p.kinds) (columns_again h.schema h.columns r14 (few_fields h.schema p.schema) p.count p.columns) (budget_again h.budget rest p.budget)
 

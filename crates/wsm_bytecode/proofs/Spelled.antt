@@ -88,32 +88,32 @@ passed_same n h = to_z-of_z w64 n (fits n h)
 
 -- the parts of a header, each written behind the one before it
 pub header_added : (h : Header) → is_header h ≡ true → (o0 o1 o2 o3 o4 o5 o6 o7 o8 o9 o10 o11 o12 o13 o14 o15 : List ℕ)
-    → o1 ≡ o0 ++ magic → o2 ≡ o1 ++ byte 1 → o3 ≡ o2 ++ schema h.schema → o4 ≡ o3 ++ signed (passed h.start) → o5 ≡ o4 ++ signed (passed h.skew) → o6 ≡ o5 ++ signed (passed h.lateness) → o7 ≡ o6 ++ signed (passed h.records) → o8 ≡ o7 ++ shape h.shape → o9 ≡ o8 ++ mode h.mode → o10 ≡ o9 ++ signed (passed h.early) → o11 ≡ o10 ++ signed (passed h.late) → o12 ≡ o11 ++ form h.form → o13 ≡ o12 ++ kinds h.kinds → o14 ≡ o13 ++ columns h.columns → o15 ≡ o14 ++ budget h.budget
+    → o1 ≡ o0 ++ magic → o2 ≡ o1 ++ byte 1 → o3 ≡ o2 ++ schema h.schema → o4 ≡ o3 ++ signed (passed h.clock.start) → o5 ≡ o4 ++ signed (passed h.clock.skew) → o6 ≡ o5 ++ signed (passed h.clock.lateness) → o7 ≡ o6 ++ signed (passed h.clock.records) → o8 ≡ o7 ++ shape h.shape → o9 ≡ o8 ++ mode h.mode → o10 ≡ o9 ++ signed (passed h.early) → o11 ≡ o10 ++ signed (passed h.late) → o12 ≡ o11 ++ form h.form → o13 ≡ o12 ++ kinds h.kinds → o14 ≡ o13 ++ columns h.columns → o15 ≡ o14 ++ budget h.budget
     → o15 ≡ o0 ++ header h
 unfolding header
 header_added h good o0 o1 o2 o3 o4 o5 o6 o7 o8 o9 o10 o11 o12 o13 o14 o15 e0 e1 e2 e3 e4 e5 e6 e7 e8 e9 e10 e11 e12 e13 e14 =
     let parts = header_parts h good in
-    let q3 : o4 ≡ o3 ++ signed h.start = e3 ∙ ap (λ n. o3 ++ signed n) (passed_same h.start (is_i64_within (pos 0) latest_time h.start refl refl parts.start)) in
-    let q4 : o5 ≡ o4 ++ signed h.skew = e4 ∙ ap (λ n. o4 ++ signed n) (passed_same h.skew (is_i64_within (pos 0) longest_span h.skew refl refl parts.skew)) in
-    let q5 : o6 ≡ o5 ++ signed h.lateness = e5 ∙ ap (λ n. o5 ++ signed n) (passed_same h.lateness (is_i64_within (pos 0) longest_span h.lateness refl refl parts.lateness)) in
-    let q6 : o7 ≡ o6 ++ signed h.records = e6 ∙ ap (λ n. o6 ++ signed n) (passed_same h.records (is_i64_within (pos 1) longest_span h.records refl refl parts.records)) in
+    let q3 : o4 ≡ o3 ++ signed h.clock.start = e3 ∙ ap (λ n. o3 ++ signed n) (passed_same h.clock.start (is_i64_within (pos 0) latest_time h.clock.start refl refl parts.start)) in
+    let q4 : o5 ≡ o4 ++ signed h.clock.skew = e4 ∙ ap (λ n. o4 ++ signed n) (passed_same h.clock.skew (is_i64_within (pos 0) longest_span h.clock.skew refl refl parts.skew)) in
+    let q5 : o6 ≡ o5 ++ signed h.clock.lateness = e5 ∙ ap (λ n. o5 ++ signed n) (passed_same h.clock.lateness (is_i64_within (pos 0) longest_span h.clock.lateness refl refl parts.lateness)) in
+    let q6 : o7 ≡ o6 ++ signed h.clock.records = e6 ∙ ap (λ n. o6 ++ signed n) (passed_same h.clock.records (is_i64_within (pos 1) longest_span h.clock.records refl refl parts.records)) in
     let q9 : o10 ≡ o9 ++ signed h.early = e9 ∙ ap (λ n. o9 ++ signed n) (passed_same h.early (is_i64_within (pos 0) longest_span h.early refl refl parts.early)) in
     let q10 : o11 ≡ o10 ++ signed h.late = e10 ∙ ap (λ n. o10 ++ signed n) (passed_same h.late (is_i64_within (pos 0) longest_span h.late refl refl parts.late)) in
     let p1 : o2 ≡ o0 ++ magic ++ byte 1 = e1 ∙ ap (λ o. o ++ byte 1) e0 in
     let p2 : o3 ≡ o0 ++ magic ++ byte 1 ++ schema h.schema = e2 ∙ ap (λ o. o ++ schema h.schema) p1 in
-    let p3 : o4 ≡ o0 ++ magic ++ byte 1 ++ schema h.schema ++ signed h.start = q3 ∙ ap (λ o. o ++ signed h.start) p2 in
-    let p4 : o5 ≡ o0 ++ magic ++ byte 1 ++ schema h.schema ++ signed h.start ++ signed h.skew = q4 ∙ ap (λ o. o ++ signed h.skew) p3 in
-    let p5 : o6 ≡ o0 ++ magic ++ byte 1 ++ schema h.schema ++ signed h.start ++ signed h.skew ++ signed h.lateness = q5 ∙ ap (λ o. o ++ signed h.lateness) p4 in
-    let p6 : o7 ≡ o0 ++ magic ++ byte 1 ++ schema h.schema ++ signed h.start ++ signed h.skew ++ signed h.lateness ++ signed h.records = q6 ∙ ap (λ o. o ++ signed h.records) p5 in
-    let p7 : o8 ≡ o0 ++ magic ++ byte 1 ++ schema h.schema ++ signed h.start ++ signed h.skew ++ signed h.lateness ++ signed h.records ++ shape h.shape = e7 ∙ ap (λ o. o ++ shape h.shape) p6 in
-    let p8 : o9 ≡ o0 ++ magic ++ byte 1 ++ schema h.schema ++ signed h.start ++ signed h.skew ++ signed h.lateness ++ signed h.records ++ shape h.shape ++ mode h.mode = e8 ∙ ap (λ o. o ++ mode h.mode) p7 in
-    let p9 : o10 ≡ o0 ++ magic ++ byte 1 ++ schema h.schema ++ signed h.start ++ signed h.skew ++ signed h.lateness ++ signed h.records ++ shape h.shape ++ mode h.mode ++ signed h.early = q9 ∙ ap (λ o. o ++ signed h.early) p8 in
-    let p10 : o11 ≡ o0 ++ magic ++ byte 1 ++ schema h.schema ++ signed h.start ++ signed h.skew ++ signed h.lateness ++ signed h.records ++ shape h.shape ++ mode h.mode ++ signed h.early ++ signed h.late = q10 ∙ ap (λ o. o ++ signed h.late) p9 in
-    let p11 : o12 ≡ o0 ++ magic ++ byte 1 ++ schema h.schema ++ signed h.start ++ signed h.skew ++ signed h.lateness ++ signed h.records ++ shape h.shape ++ mode h.mode ++ signed h.early ++ signed h.late ++ form h.form = e11 ∙ ap (λ o. o ++ form h.form) p10 in
-    let p12 : o13 ≡ o0 ++ magic ++ byte 1 ++ schema h.schema ++ signed h.start ++ signed h.skew ++ signed h.lateness ++ signed h.records ++ shape h.shape ++ mode h.mode ++ signed h.early ++ signed h.late ++ form h.form ++ kinds h.kinds = e12 ∙ ap (λ o. o ++ kinds h.kinds) p11 in
-    let p13 : o14 ≡ o0 ++ magic ++ byte 1 ++ schema h.schema ++ signed h.start ++ signed h.skew ++ signed h.lateness ++ signed h.records ++ shape h.shape ++ mode h.mode ++ signed h.early ++ signed h.late ++ form h.form ++ kinds h.kinds ++ columns h.columns = e13 ∙ ap (λ o. o ++ columns h.columns) p12 in
-    let p14 : o15 ≡ o0 ++ magic ++ byte 1 ++ schema h.schema ++ signed h.start ++ signed h.skew ++ signed h.lateness ++ signed h.records ++ shape h.shape ++ mode h.mode ++ signed h.early ++ signed h.late ++ form h.form ++ kinds h.kinds ++ columns h.columns ++ budget h.budget = e14 ∙ ap (λ o. o ++ budget h.budget) p13 in
-    p14 ∙ regrouped o0 magic (byte 1) (schema h.schema) (signed h.start) (signed h.skew) (signed h.lateness) (signed h.records) (shape h.shape) (mode h.mode) (signed h.early) (signed h.late) (form h.form) (kinds h.kinds) (columns h.columns) (budget h.budget)
+    let p3 : o4 ≡ o0 ++ magic ++ byte 1 ++ schema h.schema ++ signed h.clock.start = q3 ∙ ap (λ o. o ++ signed h.clock.start) p2 in
+    let p4 : o5 ≡ o0 ++ magic ++ byte 1 ++ schema h.schema ++ signed h.clock.start ++ signed h.clock.skew = q4 ∙ ap (λ o. o ++ signed h.clock.skew) p3 in
+    let p5 : o6 ≡ o0 ++ magic ++ byte 1 ++ schema h.schema ++ signed h.clock.start ++ signed h.clock.skew ++ signed h.clock.lateness = q5 ∙ ap (λ o. o ++ signed h.clock.lateness) p4 in
+    let p6 : o7 ≡ o0 ++ magic ++ byte 1 ++ schema h.schema ++ signed h.clock.start ++ signed h.clock.skew ++ signed h.clock.lateness ++ signed h.clock.records = q6 ∙ ap (λ o. o ++ signed h.clock.records) p5 in
+    let p7 : o8 ≡ o0 ++ magic ++ byte 1 ++ schema h.schema ++ signed h.clock.start ++ signed h.clock.skew ++ signed h.clock.lateness ++ signed h.clock.records ++ shape h.shape = e7 ∙ ap (λ o. o ++ shape h.shape) p6 in
+    let p8 : o9 ≡ o0 ++ magic ++ byte 1 ++ schema h.schema ++ signed h.clock.start ++ signed h.clock.skew ++ signed h.clock.lateness ++ signed h.clock.records ++ shape h.shape ++ mode h.mode = e8 ∙ ap (λ o. o ++ mode h.mode) p7 in
+    let p9 : o10 ≡ o0 ++ magic ++ byte 1 ++ schema h.schema ++ signed h.clock.start ++ signed h.clock.skew ++ signed h.clock.lateness ++ signed h.clock.records ++ shape h.shape ++ mode h.mode ++ signed h.early = q9 ∙ ap (λ o. o ++ signed h.early) p8 in
+    let p10 : o11 ≡ o0 ++ magic ++ byte 1 ++ schema h.schema ++ signed h.clock.start ++ signed h.clock.skew ++ signed h.clock.lateness ++ signed h.clock.records ++ shape h.shape ++ mode h.mode ++ signed h.early ++ signed h.late = q10 ∙ ap (λ o. o ++ signed h.late) p9 in
+    let p11 : o12 ≡ o0 ++ magic ++ byte 1 ++ schema h.schema ++ signed h.clock.start ++ signed h.clock.skew ++ signed h.clock.lateness ++ signed h.clock.records ++ shape h.shape ++ mode h.mode ++ signed h.early ++ signed h.late ++ form h.form = e11 ∙ ap (λ o. o ++ form h.form) p10 in
+    let p12 : o13 ≡ o0 ++ magic ++ byte 1 ++ schema h.schema ++ signed h.clock.start ++ signed h.clock.skew ++ signed h.clock.lateness ++ signed h.clock.records ++ shape h.shape ++ mode h.mode ++ signed h.early ++ signed h.late ++ form h.form ++ kinds h.kinds = e12 ∙ ap (λ o. o ++ kinds h.kinds) p11 in
+    let p13 : o14 ≡ o0 ++ magic ++ byte 1 ++ schema h.schema ++ signed h.clock.start ++ signed h.clock.skew ++ signed h.clock.lateness ++ signed h.clock.records ++ shape h.shape ++ mode h.mode ++ signed h.early ++ signed h.late ++ form h.form ++ kinds h.kinds ++ columns h.columns = e13 ∙ ap (λ o. o ++ columns h.columns) p12 in
+    let p14 : o15 ≡ o0 ++ magic ++ byte 1 ++ schema h.schema ++ signed h.clock.start ++ signed h.clock.skew ++ signed h.clock.lateness ++ signed h.clock.records ++ shape h.shape ++ mode h.mode ++ signed h.early ++ signed h.late ++ form h.form ++ kinds h.kinds ++ columns h.columns ++ budget h.budget = e14 ∙ ap (λ o. o ++ budget h.budget) p13 in
+    p14 ∙ regrouped o0 magic (byte 1) (schema h.schema) (signed h.clock.start) (signed h.clock.skew) (signed h.clock.lateness) (signed h.clock.records) (shape h.shape) (mode h.mode) (signed h.early) (signed h.late) (form h.form) (kinds h.kinds) (columns h.columns) (budget h.budget)
 
 -- one more of a list
 take_one : (ns : List Name) (i : ℕ) (n : Name) → slice_get ns i ≡ Some n → flat_map name (take (suc i) ns) ≡ flat_map name (take i ns) ++ name n

@@ -182,7 +182,7 @@ abbrev header_done : Header × List ℕ → Read Header
 header_done x = Ok x
 
 header_joined : (h : Header) (bytes r1 r2 r3 r4 r5 r6 r7 r8 r9 r10 r11 r12 r13 r14 rest : List ℕ)
-    → bytes ≡ magic ++ r1 → r1 ≡ byte 1 ++ r2 → r2 ≡ schema h.schema ++ r3 → r3 ≡ signed h.start ++ r4 → r4 ≡ signed h.skew ++ r5 → r5 ≡ signed h.lateness ++ r6 → r6 ≡ signed h.records ++ r7 → r7 ≡ shape h.shape ++ r8 → r8 ≡ mode h.mode ++ r9 → r9 ≡ signed h.early ++ r10 → r10 ≡ signed h.late ++ r11 → r11 ≡ form h.form ++ r12 → r12 ≡ kinds h.kinds ++ r13 → r13 ≡ columns h.columns ++ r14 → r14 ≡ budget h.budget ++ rest
+    → bytes ≡ magic ++ r1 → r1 ≡ byte 1 ++ r2 → r2 ≡ schema h.schema ++ r3 → r3 ≡ signed h.clock.start ++ r4 → r4 ≡ signed h.clock.skew ++ r5 → r5 ≡ signed h.clock.lateness ++ r6 → r6 ≡ signed h.clock.records ++ r7 → r7 ≡ shape h.shape ++ r8 → r8 ≡ mode h.mode ++ r9 → r9 ≡ signed h.early ++ r10 → r10 ≡ signed h.late ++ r11 → r11 ≡ form h.form ++ r12 → r12 ≡ kinds h.kinds ++ r13 → r13 ≡ columns h.columns ++ r14 → r14 ≡ budget h.budget ++ rest
     → bytes ≡ header h ++ rest
 unfolding header
 header_joined h bytes r1 r2 r3 r4 r5 r6 r7 r8 r9 r10 r11 r12 r13 r14 rest e0 e1 e2 e3 e4 e5 e6 e7 e8 e9 e10 e11 e12 e13 e14 =
@@ -195,10 +195,10 @@ header_joined h bytes r1 r2 r3 r4 r5 r6 r7 r8 r9 r10 r11 r12 r13 r14 rest e0 e1 
     let s9 : List ℕ = signed h.early ++ s10 in
     let s8 : List ℕ = mode h.mode ++ s9 in
     let s7 : List ℕ = shape h.shape ++ s8 in
-    let s6 : List ℕ = signed h.records ++ s7 in
-    let s5 : List ℕ = signed h.lateness ++ s6 in
-    let s4 : List ℕ = signed h.skew ++ s5 in
-    let s3 : List ℕ = signed h.start ++ s4 in
+    let s6 : List ℕ = signed h.clock.records ++ s7 in
+    let s5 : List ℕ = signed h.clock.lateness ++ s6 in
+    let s4 : List ℕ = signed h.clock.skew ++ s5 in
+    let s3 : List ℕ = signed h.clock.start ++ s4 in
     let s2 : List ℕ = schema h.schema ++ s3 in
     let s1 : List ℕ = byte 1 ++ s2 in
     let q14 : r14 ≡ s14 = e14 in
@@ -209,17 +209,17 @@ header_joined h bytes r1 r2 r3 r4 r5 r6 r7 r8 r9 r10 r11 r12 r13 r14 rest e0 e1 
     let q9 : r9 ≡ s9 = e9 ∙ ap (λ r. signed h.early ++ r) q10 in
     let q8 : r8 ≡ s8 = e8 ∙ ap (λ r. mode h.mode ++ r) q9 in
     let q7 : r7 ≡ s7 = e7 ∙ ap (λ r. shape h.shape ++ r) q8 in
-    let q6 : r6 ≡ s6 = e6 ∙ ap (λ r. signed h.records ++ r) q7 in
-    let q5 : r5 ≡ s5 = e5 ∙ ap (λ r. signed h.lateness ++ r) q6 in
-    let q4 : r4 ≡ s4 = e4 ∙ ap (λ r. signed h.skew ++ r) q5 in
-    let q3 : r3 ≡ s3 = e3 ∙ ap (λ r. signed h.start ++ r) q4 in
+    let q6 : r6 ≡ s6 = e6 ∙ ap (λ r. signed h.clock.records ++ r) q7 in
+    let q5 : r5 ≡ s5 = e5 ∙ ap (λ r. signed h.clock.lateness ++ r) q6 in
+    let q4 : r4 ≡ s4 = e4 ∙ ap (λ r. signed h.clock.skew ++ r) q5 in
+    let q3 : r3 ≡ s3 = e3 ∙ ap (λ r. signed h.clock.start ++ r) q4 in
     let q2 : r2 ≡ s2 = e2 ∙ ap (λ r. schema h.schema ++ r) q3 in
     let q1 : r1 ≡ s1 = e1 ∙ ap (λ r. byte 1 ++ r) q2 in
-    e0 ∙ ap (λ r. magic ++ r) q1 ∙ sym (regroup_15 magic (byte 1) (schema h.schema) (signed h.start) (signed h.skew) (signed h.lateness) (signed h.records) (shape h.shape) (mode h.mode) (signed h.early) (signed h.late) (form h.form) (kinds h.kinds) (columns h.columns) (budget h.budget) rest)
+    e0 ∙ ap (λ r. magic ++ r) q1 ∙ sym (regroup_15 magic (byte 1) (schema h.schema) (signed h.clock.start) (signed h.clock.skew) (signed h.clock.lateness) (signed h.clock.records) (shape h.shape) (mode h.mode) (signed h.early) (signed h.late) (form h.form) (kinds h.kinds) (columns h.columns) (budget h.budget) rest)
 
 header_from : (bytes : List ℕ) (x : Header × List ℕ) (v_m v_version : List ℕ) (v_schema : Declared × List ℕ) (v_start : ℤ × List ℕ) (v_skew : ℤ × List ℕ) (v_lateness : ℤ × List ℕ) (v_records : ℤ × List ℕ) (v_shape : Shape × List ℕ) (v_mode : Mode × List ℕ) (v_early : ℤ × List ℕ) (v_late : ℤ × List ℕ) (v_form : Form × List ℕ) (v_kinds : List Kind × List ℕ) (v_columns : List CellType × List ℕ) (v_budget : Costs × List ℕ)
     → IsBytes bytes → after_magic bytes ≡ Ok v_m → after_version v_m ≡ Ok v_version → schema_at v_version ≡ Ok v_schema → judged (is_within (pos 0) latest_time) (signed_at v_schema.1) ≡ Ok v_start → judged is_span (signed_at v_start.1) ≡ Ok v_skew → judged is_span (signed_at v_skew.1) ≡ Ok v_lateness → judged is_size (signed_at v_lateness.1) ≡ Ok v_records → shape_at v_records.1 ≡ Ok v_shape → mode_at v_shape.1 ≡ Ok v_mode → judged is_span (signed_at v_mode.1) ≡ Ok v_early → judged is_span (signed_at v_early.1) ≡ Ok v_late → form_at v_mode.0 v_late.1 ≡ Ok v_form → kinds_at v_form.1 ≡ Ok v_kinds → columns_at v_schema.0 v_kinds.1 ≡ Ok v_columns → budget_at v_columns.1 ≡ Ok v_budget
-    → header_done (record { schema = v_schema.0; start = v_start.0; skew = v_skew.0; lateness = v_lateness.0; records = v_records.0; shape = v_shape.0; mode = v_mode.0; early = v_early.0; late = v_late.0; form = v_form.0; kinds = v_kinds.0; columns = v_columns.0; budget = v_budget.0 }, v_budget.1) ≡ Ok x → Took header is_header bytes x
+    → header_done (record { schema = v_schema.0; clock = record { start = v_start.0; skew = v_skew.0; lateness = v_lateness.0; records = v_records.0 }; shape = v_shape.0; mode = v_mode.0; early = v_early.0; late = v_late.0; form = v_form.0; kinds = v_kinds.0; columns = v_columns.0; budget = v_budget.0 }, v_budget.1) ≡ Ok x → Took header is_header bytes x
 unfolding is_header is_schema
 header_from bytes x v_m v_version v_schema v_start v_skew v_lateness v_records v_shape v_mode v_early v_late v_form v_kinds v_columns v_budget fits e0 e1 e2 e3 e4 e5 e6 e7 e8 e9 e10 e11 e12 e13 e14 last =
     let t0 = magic_taken bytes v_m fits e0 in
@@ -238,7 +238,7 @@ header_from bytes x v_m v_version v_schema v_start v_skew v_lateness v_records v
     let t13 = columns_taken v_schema.0 v_kinds.1 v_columns t12.fits e13 in
     let t14 = budget_taken v_columns.1 v_budget t13.fits e14 in
     let c = and_parts (is_between 1 16 (length v_columns.0)) (list_all (is_column v_schema.0) v_columns.0) t13.good in
-    let made : Header × List ℕ = (record { schema = v_schema.0; start = v_start.0; skew = v_skew.0; lateness = v_lateness.0; records = v_records.0; shape = v_shape.0; mode = v_mode.0; early = v_early.0; late = v_late.0; form = v_form.0; kinds = v_kinds.0; columns = v_columns.0; budget = v_budget.0 }, v_budget.1) in
+    let made : Header × List ℕ = (record { schema = v_schema.0; clock = record { start = v_start.0; skew = v_skew.0; lateness = v_lateness.0; records = v_records.0 }; shape = v_shape.0; mode = v_mode.0; early = v_early.0; late = v_late.0; form = v_form.0; kinds = v_kinds.0; columns = v_columns.0; budget = v_budget.0 }, v_budget.1) in
     subst (λ y. Took header is_header bytes y) (ok_is made x last)
     (record {
       parts = header_joined made.0 bytes v_m v_version v_schema.1 v_start.1 v_skew.1 v_lateness.1 v_records.1 v_shape.1 v_mode.1 v_early.1 v_late.1 v_form.1 v_kinds.1 v_columns.1 v_budget.1 t0.0 t1.0 t2.parts t3.parts t4.parts t5.parts t6.parts t7.parts t8.parts t9.parts t10.parts t11.parts t12.parts t13.parts t14.parts;

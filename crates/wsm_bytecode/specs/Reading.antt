@@ -251,10 +251,7 @@ header_at bytes = do
   Ok (
     record {
       schema = schema.0;
-      start = start.0;
-      skew = skew.0;
-      lateness = lateness.0;
-      records = records.0;
+      clock = record { start = start.0; skew = skew.0; lateness = lateness.0; records = records.0 };
       shape = shape.0;
       mode = mode.0;
       early = early.0;

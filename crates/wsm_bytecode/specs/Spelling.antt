@@ -92,7 +92,7 @@ magic = codes "WSMP"
 
 unfoldable pub header : Header → List ℕ
 header h = magic ++ byte 1 ++ schema h.schema
-    ++ signed h.start ++ signed h.skew ++ signed h.lateness ++ signed h.records
+    ++ signed h.clock.start ++ signed h.clock.skew ++ signed h.clock.lateness ++ signed h.clock.records
     ++ shape h.shape ++ mode h.mode ++ signed h.early ++ signed h.late ++ form h.form
     ++ kinds h.kinds ++ columns h.columns ++ budget h.budget
 

@@ -22,10 +22,7 @@ abbrev pub base : Program
 base = record {
   header = record {
     schema = record { keys = codes "a" ∷ codes "b" ∷ []; fields = record { name = codes "n"; type = Int (pos 0) (pos 100) } ∷ [] };
-    start = pos 0;
-    skew = pos 100;
-    lateness = pos 10;
-    records = pos 1000;
+    clock = record { start = pos 0; skew = pos 100; lateness = pos 10; records = pos 1000 };
     shape = Fixed (pos 60);
     mode = Accumulating;
     early = pos 0;

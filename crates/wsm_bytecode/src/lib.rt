@@ -30,7 +30,8 @@ pub use listing::disassemble;
 pub use reading::decode;
 pub use writing::encode;
 pub use wsm_program::{
-    CellType, Costs, DecodeRefusal, Header, Instr, Operands, Operation, Program, Section, SectionId,
+    CellType, Clock, Costs, DecodeRefusal, Header, Instr, Operands, Operation, Program, Section,
+    SectionId,
 };
 
 mod limits;

@@ -49,10 +49,12 @@ fn base_header(alloc: Global) -> Result<Header, Fail> {
     fields.push(Field { name, ty })?;
     Ok(Header {
         schema: Schema::new(alloc, &keys, &fields)?,
-        start: 0,
-        skew: 100,
-        lateness: 10,
-        records: 1000,
+        clock: Clock {
+            start: 0,
+            skew: 100,
+            lateness: 10,
+            records: 1000,
+        },
         shape: Shape::Fixed(60),
         mode: Mode::Accumulating,
         early: 0,

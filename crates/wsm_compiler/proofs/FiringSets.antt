@@ -1,7 +1,7 @@
 -- What a firing's row is computed over, after any history: at least one record and at most as many as the clock allows, all of the
 -- firing's key and in range.
 use Rattle.std.proofs.Common.{◌≡◌, ℕ, suc, ◌≤◌, Bool, true, false, ◌&&◌, not, cond, List, [], ◌∷◌, ◌++◌, length, ℤ, Option, Some, None, refl, arith}
-use Rattle.std.specs.Prelude.{◌+ℤ◌, filter, filter_map, is_none, nat_eq, nat_lt, int_le, int_lt}
+use Rattle.std.specs.Prelude.{◌+ℤ◌, filter, filter_map, is_none, nat_eq, nat_lt, int_le, int_lt, unsigned_abs}
 use Rattle.std.specs.Option.{IfSome}
 use Rattle.std.specs.List.{AllByRecursion, cons_option, list_all, list_any}
 use Rattle.std.proofs.lemmas.Bool.{and_from, eqb-true, and_parts}
@@ -64,7 +64,7 @@ module _ (m : Meant) where
   pub record IsFiringSet (key : ℕ) (ds : List Datum) : Type 0 where
     pub same : AllByRecursion (λ d. d.key ≡ key) ds
     pub some : 1 ≤ length ds
-    pub few : length ds ≤ m.clock.records
+    pub few : length ds ≤ unsigned_abs m.clock.records
     pub each : AllByRecursion Fits ds
 
   abbrev pub IsOfSet : Firing → Type 0
@@ -97,7 +97,7 @@ module _ (m : Meant) where
   -- records of a place
   record AreOf (p : Place) (ds : List Datum) : Type 0 where
     same : AllByRecursion (λ d. d.key ≡ p.key) ds
-    few : length ds ≤ m.clock.records
+    few : length ds ≤ unsigned_abs m.clock.records
     each : AllByRecursion Fits ds
 
   keys_there : (p : Place) (ds : List Datum) → AllByRecursion (λ d. d.key ≡ p.key) (filter (is_there p) ds)
@@ -114,7 +114,7 @@ module _ (m : Meant) where
   contents_are : (past : List Event) (p : Place) → AreOf p (contents m past p)
   contents_are past p = record {
     same = keys_there p (selected m past);
-    few = at_most (length (contents m past p)) (length (selected m past)) (admitted_count m.clock m.declared past) m.clock.records (length-filter (is_there p) (selected m past)) (selected_count m past) (admitted_count-le m.clock m.declared past);
+    few = at_most (length (contents m past p)) (length (selected m past)) (admitted_count m.clock m.declared past) (unsigned_abs m.clock.records) (length-filter (is_there p) (selected m past)) (selected_count m past) (admitted_count-le m.clock m.declared past);
     each = filter-all Fits (is_there p) (selected m past) (all_fit past);
   }
 

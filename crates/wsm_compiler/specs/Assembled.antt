@@ -9,10 +9,7 @@ use Rattle.wsm_compiler.specs.TermCode.{ending_code, foldings_code, firing_code}
 abbrev pub assembled_header : Parts → Costs → Header
 assembled_header p budget = record {
   schema = record { keys = p.keys; fields = p.fields };
-  start = p.start;
-  skew = p.skew;
-  lateness = p.lateness;
-  records = p.records;
+  clock = record { start = p.start; skew = p.skew; lateness = p.lateness; records = p.records };
   shape = p.shape;
   mode = p.mode;
   early = every p.early;

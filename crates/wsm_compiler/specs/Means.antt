@@ -7,7 +7,7 @@ use Rattle.wsm_compiler.specs.Program.{schema_of, every}
 
 abbrev pub meant : Query → Meant
 meant q = record {
-  clock = record { start = q.start; skew = q.skew; lateness = q.lateness; records = unsigned_abs q.records };
+  clock = record { start = q.start; skew = q.skew; lateness = q.lateness; records = q.records };
   declared = schema_of q;
   shape = q.shape;
   mode = q.mode;

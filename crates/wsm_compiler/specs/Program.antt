@@ -28,10 +28,7 @@ abbrev pub program_stating : Query → Costs → Program
 program_stating q stated = record {
   header = record {
     schema = schema_of q;
-    start = q.start;
-    skew = q.skew;
-    lateness = q.lateness;
-    records = q.records;
+    clock = record { start = q.start; skew = q.skew; lateness = q.lateness; records = q.records };
     shape = q.shape;
     mode = q.mode;
     early = every q.early;

@@ -10,7 +10,7 @@ ghost use Rattle.wsm_compiler.specs.Assembled.{assembled_header};
 
 use std::alloc::{AllocError, Global};
 use wsm_check::{Column, Folding, Parts};
-use wsm_program::{CellType, Costs, Header};
+use wsm_program::{CellType, Clock, Costs, Header};
 use wsm_record::{Field, Kind, Name, Schema, SchemaRefusal};
 
 /// The header of a program that states a budget.
@@ -20,10 +20,12 @@ pub fn header(alloc: Global, parts: &Parts, budget: Costs) -> Result<Header, All
 {
     Ok(Header {
         schema: schema(alloc, &parts.keys, &parts.fields)?,
-        start: parts.start,
-        skew: parts.skew,
-        lateness: parts.lateness,
-        records: parts.records,
+        clock: Clock {
+            start: parts.start,
+            skew: parts.skew,
+            lateness: parts.lateness,
+            records: parts.records,
+        },
         shape: parts.shape,
         mode: parts.mode,
         early: every(parts.early),

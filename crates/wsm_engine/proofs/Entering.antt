@@ -42,7 +42,7 @@ use Rattle.wsm_program.specs.declared.program.Costs.{Costs}
 use Rattle.wsm_verifier.specs.Rules.{judge}
 use Rattle.wsm_verifier.proofs.Lawful.{lawful as program_lawful}
 use Rattle.wsm_machine.specs.InRange.{in_range}
-use Rattle.wsm_machine.specs.Meaning.{clock_of, query_of, plan_of, selects, updated, pane_inputs}
+use Rattle.wsm_machine.specs.Meaning.{query_of, plan_of, selects, updated, pane_inputs}
 use Rattle.wsm_machine.specs.Sound.{AreSound, IsSoundEntry, IsSoundPane, IsDatumInRange}
 use Rattle.wsm_machine.proofs.Accumulating.{accs_types}
 use Rattle.wsm_machine.proofs.Meaning.{plan_lawful}
@@ -63,7 +63,7 @@ use Rattle.wsm_engine.proofs.Holding.{Panes, admitted, kept_panes, kept_sound, a
 
 fire_types : (p : Program) (key n : ℕ) (held : List Value) → IsTrue (in_range p Fire (pane_inputs key n held)) → IsTrue (are_of_kinds p.header.kinds held)
 fire_types p key n held h =
-    accs_types p 0 p.header.kinds held (and_parts (holds (interval (pos 1) p.header.records) (pos n)) _ (and_parts (nat_lt key (length p.header.schema.keys)) _ h).1).1
+    accs_types p 0 p.header.kinds held (and_parts (holds (interval (pos 1) p.header.clock.records) (pos n)) _ (and_parts (nat_lt key (length p.header.schema.keys)) _ h).1).1
 
 -- ---- shapes whose windows lie on a grid
 
@@ -97,14 +97,14 @@ module _ (p : Program) (costs : Costs) (judged : judge p ≡ Ok costs) (lawful :
   sound : AreSound p n es
   sound = kept_sound p costs judged lawful past
 
-  facts : IsTaken (clock_of p.header) p.header.schema (mark (query_of p) past) n (Some k) t vs
-  facts = taken_record (clock_of p.header) p.header.schema (mark (query_of p) past) n (Some k) t vs taken
+  facts : IsTaken p.header.clock p.header.schema (mark (query_of p) past) n (Some k) t vs
+  facts = taken_record p.header.clock p.header.schema (mark (query_of p) past) n (Some k) t vs taken
 
   -- the record is in range
   pub ranged : IsDatumInRange p d
-  ranged = record_in_range p costs judged lawful (clock_of p.header) (mark (query_of p) past) n 0 k t vs taken
+  ranged = record_in_range p costs judged lawful p.header.clock (mark (query_of p) past) n 0 k t vs taken
 
-  pub room : pos (n + 1) ≤ℤ p.header.records
+  pub room : pos (n + 1) ≤ℤ p.header.clock.records
   room = room_for_record p costs judged lawful (mark (query_of p) past) n k t vs taken
 
   pub timely : IsTime t
@@ -186,9 +186,9 @@ module _ (p : Program) (costs : Costs) (judged : judge p ≡ Ok costs) (lawful :
         subst (λ n. n ≤ most_panes q) (sym (ap length now_held ∙ length_summed _ ∙ length_each (kept_in q past) (held q (e ∷ past))))
         (held_bounded q (program_lawful p lawful).shape (clock_within p lawful) (e ∷ past))
 
-    of_key : length (filter (λ x. nat_eq x.0.key k) now) ≤ live_bound p.header.shape p.header.skew p.header.lateness
+    of_key : length (filter (λ x. nat_eq x.0.key k) now) ≤ live_bound p.header.shape p.header.clock.skew p.header.clock.lateness
     of_key =
-        subst (λ n. n ≤ live_bound p.header.shape p.header.skew p.header.lateness)
+        subst (λ n. n ≤ live_bound p.header.shape p.header.clock.skew p.header.clock.lateness)
         (sym (
         ap (λ (xs : Panes). length (filter (λ x. nat_eq x.0.key k) xs)) now_held
         ∙ ap length (where-summaries (plan_of p) p.header.mode (λ r. nat_eq r.key k) (map (kept_in q past) (held q (e ∷ past))))
@@ -202,17 +202,17 @@ module _ (p : Program) (costs : Costs) (judged : judge p ≡ Ok costs) (lawful :
 
     -- the ring for the windows that can be live
     abbrev ring : Ring
-    ring = record { size = size_of p.header.shape; period = period_of p.header.shape; keys = length p.header.schema.keys; bound = live_bound p.header.shape p.header.skew p.header.lateness }
+    ring = record { size = size_of p.header.shape; period = period_of p.header.shape; keys = length p.header.schema.keys; bound = live_bound p.header.shape p.header.clock.skew p.header.clock.lateness }
 
     module _ (grid : (gap : ℤ) → p.header.shape ≢ Session gap) where
       ok : IsShape p.header.shape
       ok = (program_lawful p lawful).shape
 
       abbrev span : ℕ
-      span = unsigned_abs ((p.header.skew +ℤ p.header.lateness) +ℤ size_of p.header.shape)
+      span = unsigned_abs ((p.header.clock.skew +ℤ p.header.clock.lateness) +ℤ size_of p.header.shape)
 
       enough : ring.bound ≡ div_ceil span (unsigned_abs ring.period)
-      enough = grid_bound p.header.shape p.header.skew p.header.lateness grid
+      enough = grid_bound p.header.shape p.header.clock.skew p.header.clock.lateness grid
 
       is_ring : IsRing ring
       is_ring =
@@ -231,13 +231,13 @@ module _ (p : Program) (costs : Costs) (judged : judge p ≡ Ok costs) (lawful :
           }
 
       abbrev low : ℤ
-      low = ((mark q (e ∷ past) -ℤ p.header.lateness) -ℤ size_of p.header.shape) +ℤ pos 1
+      low = ((mark q (e ∷ past) -ℤ p.header.clock.lateness) -ℤ size_of p.header.shape) +ℤ pos 1
 
       near_place : (x : Place × List Datum) → IsHeldPane q (e ∷ past) x → IsNear ring low x.0
       near_place x pane =
           let assigned : IsAssigned q.shape = is_assigned p.header.shape grid in
           let (u, window) = grid_of q ok assigned (e ∷ past) x.0 pane.placed in
-          held_near ring p.header.skew p.header.lateness (mark q (e ∷ past)) ok.period_low enough x.0
+          held_near ring p.header.clock.skew p.header.clock.lateness (mark q (e ∷ past)) ok.period_low enough x.0
           (of_ring p.header.shape ok grid ring.keys ring.bound x.0 pane.key u window)
           (record { live = pane.live; near = pane.near })
 
@@ -252,7 +252,7 @@ module _ (p : Program) (costs : Costs) (judged : judge p ≡ Ok costs) (lawful :
       pub lie_in_ring : LieInRing ring now
       lie_in_ring = record { ring = is_ring; low = low; near = lie_near }
 
-    pub can_enter : (h : Held) → h.keys ≡ length p.header.schema.keys → h.shape ≡ p.header.shape → h.live ≡ live_bound p.header.shape p.header.skew p.header.lateness → h.widths ≡ widths_of p.header → entries_of h ≡ es
+    pub can_enter : (h : Held) → h.keys ≡ length p.header.schema.keys → h.shape ≡ p.header.shape → h.live ≡ live_bound p.header.shape p.header.clock.skew p.header.clock.lateness → h.widths ≡ widths_of p.header → entries_of h ≡ es
         → CanEnter h p.header.kinds k t (updated p k vs)
     can_enter h keys shape live widths is =
         let same_ring : ring_of h ≡ ring = λ i. record { size = size_of (shape i); period = period_of (shape i); keys = keys i; bound = live i } in

@@ -15,7 +15,7 @@ use Rattle.wsm_program.specs.Program.{Program, is_program}
 use Rattle.wsm_program.specs.declared.program.Costs.{Costs}
 use Rattle.wsm_verifier.specs.Rules.{judge}
 use Rattle.wsm_verifier.proofs.Lawful.{lawful as program_lawful}
-use Rattle.wsm_machine.specs.Meaning.{clock_of, query_of, plan_of}
+use Rattle.wsm_machine.specs.Meaning.{query_of, plan_of}
 use Rattle.wsm_machine.specs.Sound.{AreSound, IsSoundState}
 use Rattle.wsm_machine.proofs.Histories as histories
 use Rattle.wsm_machine.proofs.SoundSteps.{admitted_within}
@@ -27,7 +27,7 @@ Panes = List (Place × Pane (List Value))
 module _ (p : Program) (costs : Costs) (judged : judge p ≡ Ok costs) (lawful : IsTrue (is_program p)) (past : List Event) where
   -- how many records were admitted
   abbrev pub admitted : ℕ
-  admitted = admitted_count (clock_of p.header) p.header.schema past
+  admitted = admitted_count p.header.clock p.header.schema past
 
   -- what a program keeps of the held panes
   abbrev pub kept_panes : Panes
@@ -49,8 +49,8 @@ module _ (p : Program) (costs : Costs) (judged : judge p ≡ Ok costs) (lawful :
       (subst (λ n. AreSound p n (run (plan_of p) (query_of p) past).panes) counted sound.panes)
 
   -- and of no more records than the program allows
-  pub admitted_few : pos admitted ≤ℤ p.header.records
-  admitted_few = subst (λ n. pos n ≤ℤ p.header.records) counted (admitted_within p costs judged lawful (run (plan_of p) (query_of p) past) (histories.sound p costs judged lawful past))
+  pub admitted_few : pos admitted ≤ℤ p.header.clock.records
+  admitted_few = subst (λ n. pos n ≤ℤ p.header.clock.records) counted (admitted_within p costs judged lawful (run (plan_of p) (query_of p) past) (histories.sound p costs judged lawful past))
 
   length_kept : length kept_panes ≡ length (kept (query_of p) past)
   length_kept = length_each (λ (e : Place × Kept). (e.0, pane_of (plan_of p) p.header.mode e.0.key e.1)) (kept (query_of p) past)

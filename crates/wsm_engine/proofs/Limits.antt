@@ -12,7 +12,7 @@ use Rattle.wsm_program.specs.declared.program.Costs.{Costs}
 use Rattle.wsm_verifier.specs.Costs.{needed}
 use Rattle.wsm_verifier.specs.Rules.{judge}
 use Rattle.wsm_verifier.proofs.Lawful.{IsLawful, lawful as program_lawful, within}
-use Rattle.wsm_machine.specs.Meaning.{clock_of, query_of}
+use Rattle.wsm_machine.specs.Meaning.{query_of}
 use Rattle.wsm_machine.proofs.Costing.{stated}
 
 header_lawful : (p : Program) → IsTrue (is_program p) → is_header p.header ≡ true
@@ -28,9 +28,9 @@ unfolding is_header
 budget_lawful h e = (and_parts (is_row h) _ (and_parts (is_firing h) _ (and_parts (is_clock h) _ (and_parts (is_schema h.schema) _ e).1).1).1).1
 
 -- the clock of a program is within the limits of clocks
-pub clock_within : (p : Program) → IsTrue (is_program p) → IsWithinLimits (clock_of p.header)
+pub clock_within : (p : Program) → IsTrue (is_program p) → IsWithinLimits p.header.clock
 clock_within p whole =
-    let start = within (pos 0) latest_time p.header.start (and_parts (is_within (pos 0) latest_time p.header.start) _ (clock_lawful p.header (header_lawful p whole))).0 in
+    let start = within (pos 0) latest_time p.header.clock.start (and_parts (is_within (pos 0) latest_time p.header.clock.start) _ (clock_lawful p.header (header_lawful p whole))).0 in
     let is : IsLawful p.header = program_lawful p whole in
     record {
       start_from = start.0;
@@ -60,6 +60,6 @@ module _ (p : Program) (costs : Costs) (judged : judge p ≡ Ok costs) where
       omega (arith, most, panes_stated)
 
 -- there are no more places for panes than that
-pub room_few : (p : Program) → judge p ≡ Ok (needed p) → IsTrue (is_program p) → (h : Header) → h ≡ p.header → (keys live : ℕ) → keys ≡ length h.schema.keys → live ≡ live_bound h.shape h.skew h.lateness → keys * live ≤ 100000
+pub room_few : (p : Program) → judge p ≡ Ok (needed p) → IsTrue (is_program p) → (h : Header) → h ≡ p.header → (keys live : ℕ) → keys ≡ length h.schema.keys → live ≡ live_bound h.shape h.clock.skew h.clock.lateness → keys * live ≤ 100000
 room_few p judged whole h is keys live k l =
-    subst (λ n. n ≤ 100000) (sym ((λ i. k i * l i) ∙ (λ i. length (is i).schema.keys * live_bound (is i).shape (is i).skew (is i).lateness))) (panes_few p (needed p) judged whole)
+    subst (λ n. n ≤ 100000) (sym ((λ i. k i * l i) ∙ (λ i. length (is i).schema.keys * live_bound (is i).shape (is i).clock.skew (is i).clock.lateness))) (panes_few p (needed p) judged whole)

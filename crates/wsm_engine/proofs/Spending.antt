@@ -17,7 +17,7 @@ use Rattle.wsm_program.specs.declared.program.Costs.{Costs}
 use Rattle.wsm_verifier.specs.Rules.{judge}
 use Rattle.wsm_verifier.proofs.Lawful.{lawful as program_lawful}
 use Rattle.wsm_firing.specs.Tally.{greatest}
-use Rattle.wsm_machine.specs.Meaning.{clock_of, query_of, plan_of, record_inputs, pane_inputs, record_cost, pane_cost, pane_cost_by}
+use Rattle.wsm_machine.specs.Meaning.{query_of, plan_of, record_inputs, pane_inputs, record_cost, pane_cost, pane_cost_by}
 use Rattle.wsm_machine.specs.Sound.{IsDatumInRange, MayFire}
 use Rattle.wsm_machine.proofs.Meaning.{plan_lawful, plan_runs, folded_is}
 use Rattle.wsm_machine.proofs.Completing.{completes}
@@ -35,7 +35,7 @@ module _ (p : Program) (costs : Costs) (judged : judge p ≡ Ok costs) (whole : 
   pub record_ends : (key : ℕ) (time : ℤ) (values : List Value) → verdict_on (query_of p) past (Record (Some key) time values) ≡ None → RecordEnds p key values
   record_ends key time values taken =
       let ranged : IsDatumInRange p (datum 0 key time values) =
-      record_in_range p costs judged whole (clock_of p.header) (mark (query_of p) past) (admitted_count (clock_of p.header) p.header.schema past) 0 key time values taken in
+      record_in_range p costs judged whole p.header.clock (mark (query_of p) past) (admitted_count p.header.clock p.header.schema past) 0 key time values taken in
       record {
         selects = (completes p costs judged whole Where (record_inputs key values) ranged).done;
         updates = (completes p costs judged whole Update (record_inputs key values) ranged).done;

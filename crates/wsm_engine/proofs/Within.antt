@@ -1,5 +1,5 @@
 -- What fits a history of a verified program is sound, so its firings cost no more than the program states.
-use Rattle.std.proofs.Common.{◌≡◌, ℕ, ◌≤◌, List, [], ◌∷◌, map, Ok, IsTrue, sym, ap, subst, ◌∙◌, arith}
+use Rattle.std.proofs.Common.{◌≡◌, ℕ, ◌≤◌, List, [], ◌∷◌, map, Ok, IsTrue, sym, ap, subst, ◌∙◌, arith, unsigned_abs}
 use Rattle.std.proofs.lemmas.Int.{ints}
 use Rattle.std.specs.List.{AllByRecursion}
 use Rattle.wsm_record.specs.declared.event.Value.{Value}
@@ -11,7 +11,7 @@ use Rattle.wsm_semantics.specs.Steps.{step_fires}
 use Rattle.wsm_program.specs.Program.{is_program}
 use Rattle.wsm_program.specs.declared.program.Costs.{Costs}
 use Rattle.wsm_verifier.specs.Rules.{judge}
-use Rattle.wsm_machine.specs.Meaning.{clock_of, query_of, plan_of, pane_cost_by}
+use Rattle.wsm_machine.specs.Meaning.{query_of, plan_of, pane_cost_by}
 use Rattle.wsm_machine.specs.Sound.{AreSound, IsSoundState}
 use Rattle.wsm_machine.proofs.Costs.{fired_costs_within}
 use Rattle.wsm_firing.specs.Tally.{greatest}
@@ -31,10 +31,10 @@ module _ (s : State) (costs : Costs) (judged : judge s.program ≡ Ok costs) (la
   sound_of : IsSoundState s.program s.machine
   sound_of = record {
     clock = fits.clock;
-    admitted = subst (λ (c : Clock). s.machine.admission.admitted ≤ c.records) (sym fits.clock) (subst (λ n. n ≤ (clock_of s.program.header).records) (sym as_many) few);
+    admitted = subst (λ (c : Clock). s.machine.admission.admitted ≤ unsigned_abs c.records) (sym fits.clock) (subst (λ n. n ≤ unsigned_abs s.program.header.clock.records) (sym as_many) few);
     panes = subst (λ n. AreSound s.program n s.machine.panes) (sym as_many) (subst (AreSound s.program (admitted s.program costs judged lawful past)) (sym fits.panes) (kept_sound s.program costs judged lawful past));
   } where
-    few : admitted s.program costs judged lawful past ≤ (clock_of s.program.header).records
+    few : admitted s.program costs judged lawful past ≤ unsigned_abs s.program.header.clock.records
     few = let h = admitted_few s.program costs judged lawful past in omega (arith, ints, h)
 
   -- the firings of a turn cost at most what is stated

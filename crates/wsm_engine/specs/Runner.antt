@@ -44,7 +44,7 @@ pub record IsOf (p : Program) (r : Runner) : Type 0 where
   pub lawful : IsTrue (is_program p)
   pub keys : r.held.keys ≡ length p.header.schema.keys
   pub shape : r.held.shape ≡ p.header.shape
-  pub live : r.held.live ≡ live_bound p.header.shape p.header.skew p.header.lateness
+  pub live : r.held.live ≡ live_bound p.header.shape p.header.clock.skew p.header.clock.lateness
   pub widths : r.held.widths ≡ widths_of p.header
   pub form : r.streams.form ≡ p.header.form
   pub room : r.streams.room ≡ most_panes (query_of p)

@@ -7,7 +7,7 @@ ghost use Rattle.wsm_semantics.specs.Relation.{turn_rows};
 ghost use Rattle.wsm_program.specs.Program.{is_program};
 ghost use Rattle.wsm_verifier.specs.Costs.{needed};
 ghost use Rattle.wsm_verifier.specs.Rules.{judge};
-ghost use Rattle.wsm_machine.specs.Meaning.{clock_of, query_of};
+ghost use Rattle.wsm_machine.specs.Meaning.{query_of};
 ghost use Rattle.wsm_engine.specs.Meaning.{Fits, reply_to, totals_of, IsRefused};
 ghost use Rattle.wsm_engine.specs.Turn.{turn, reply_by, refusal_of as spec_refusal_of};
 
@@ -159,15 +159,9 @@ impl Engine {
 
 // The clock of a program.
 fn clock(program: &Program) -> Clock
-    ensures { result ≡ clock_of program.now.header }
+    ensures { result ≡ program.now.header.clock }
 {
-    let header = program.header();
-    Clock {
-        start: header.start,
-        skew: header.skew,
-        lateness: header.lateness,
-        records: header.records.unsigned_abs(),
-    }
+    program.header().clock
 }
 
 // The refusal, if the answer is one.

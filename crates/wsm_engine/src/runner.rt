@@ -66,7 +66,7 @@ impl Runner {
     {
         let header = verified.program().header();
         let keys = header.schema.key_count();
-        let live = live_bound(header.shape, header.skew, header.lateness) as usize;
+        let live = live_bound(header.shape, header.clock.skew, header.clock.lateness) as usize;
         let room = keys * live;
         Ok(Runner {
             machine: Machine::open(alloc),
@@ -218,7 +218,7 @@ impl Runner {
             old,
             new,
         );
-        let limit = new - verified.program().header().lateness;
+        let limit = new - verified.program().header().clock.lateness;
         self.streams.advance(new, &mut self.rows);
         drop_expired(&mut self.held, &mut self.streams, limit);
         tally

@@ -45,7 +45,7 @@ lawful_firing p g e h = subst IsLawfulFiring (sym e) (of_program p h)
 pub count_fits : (p : Program) → IsTrue (is_program p) → (key n : ℕ) (held : List Value) → IsTrue (in_range p Fire (pane_inputs key n held)) → SFits w64 (pos n)
 count_fits p whole key n held ranged =
     let most = (lawful p whole).records.1 in
-    let within = (both (holds (interval (pos 1) p.header.records) (pos n)) (accs_in p 0 p.header.kinds held) (both (nat_lt key (length p.header.schema.keys)) _ ranged).1).0 in
+    let within = (both (holds (interval (pos 1) p.header.clock.records) (pos n)) (accs_in p 0 p.header.kinds held) (both (nat_lt key (length p.header.schema.keys)) _ ranged).1).0 in
     fits_signed_from_abs w64 (pos n) (grind (arith, ints, most, within))
 
 -- a count that is compared with 0

@@ -42,17 +42,17 @@ pub fn watermark_kind(
     place: Place,
     pane: &PaneView<'_>,
 ) -> Option<PaneKind>
-    requires lateness { IsSpan header.now.lateness }
+    requires lateness { IsSpan header.now.clock.lateness }
     requires placed { IsPlaced (window_of place) }
     // In each query with the header's mode and lateness.
-    ensures { (q : Query) → q.mode ≡ header.now.mode → q.clock.lateness ≡ header.now.lateness → result ≡ kind_by_watermark q old new place pane.now }
+    ensures { (q : Query) → q.mode ≡ header.now.mode → q.clock.lateness ≡ header.now.clock.lateness → result ≡ kind_by_watermark q old new place pane.now }
 {
     on_watermark(
         header.mode,
         old,
         new,
         place.end,
-        header.lateness,
+        header.clock.lateness,
         pane.count(),
         pane.unshown(),
     )

@@ -45,7 +45,7 @@ pub fn fire_by_watermark(
     ensures tally { result ≡ tally_of verified.now (fires_by_watermark verified.now old new (entries_of held.old)) }
 {
     let header = verified.program().header();
-    let expired = last_expired(new, header.lateness);
+    let expired = last_expired(new, header.clock.lateness);
     let mut tally = Tally::none();
     let mut next = first_to_fire(held, expired, old, new);
     for _ in 0..held.len() {

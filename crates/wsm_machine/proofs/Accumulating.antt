@@ -218,10 +218,10 @@ rows_in o ks row (next ∷ rows) e =
 pub plus_more : (a j : ℕ) → suc a + j ≡ a + suc j
 plus_more a j = omega arith
 
-pub range_at : (p : Program) (a : ℕ) (k : Kind) → slice_get p.header.kinds a ≡ Some k → range p a ≡ and_then (accumulated p.header.records k) (values_folded a (update_visits p))
-range_at p a k h = ap (and_then (λ k. and_then (accumulated p.header.records k) (values_folded a (update_visits p)))) h
+pub range_at : (p : Program) (a : ℕ) (k : Kind) → slice_get p.header.kinds a ≡ Some k → range p a ≡ and_then (accumulated p.header.clock.records k) (values_folded a (update_visits p))
+range_at p a k h = ap (and_then (λ k. and_then (accumulated p.header.clock.records k) (values_folded a (update_visits p)))) h
 
-accs_from : (p : Program) (m n a : ℕ) (ks : List Kind) (vs : List Value) → p.header.records ≡ pos m → 1 ≤ n → n ≤ m → ((j : ℕ) → slice_get p.header.kinds (a + j) ≡ slice_get ks j)
+accs_from : (p : Program) (m n a : ℕ) (ks : List Kind) (vs : List Value) → p.header.clock.records ≡ pos m → 1 ≤ n → n ≤ m → ((j : ℕ) → slice_get p.header.kinds (a + j) ≡ slice_get ks j)
     → list_all is_word vs ≡ true → ValuesIn (λ b. values_folded b (update_visits p)) a n ks vs → accs_in p a ks vs ≡ true
 accs_from p m n a [] [] r f l at w h = refl
 accs_from p m n a [] (v ∷ vs) r f l at w h = absurd h
@@ -244,11 +244,11 @@ counted (pos m) n h = (m, refl, omega (arith, ints, h))
 counted (negsuc m) n h = absurd (omega (arith, ints, h))
 
 -- Where UPDATE folded each row, and there are at most as many as the program allows, what the accumulators hold is what FIRE may read. Numbers are of 64 bits, as those of the code are.
-pub accs_of_rows : (p : Program) (rows : List (List Value)) (held : List Value) → list_all (are_folded_in p) rows ≡ true → pos (length rows) ≤ℤ p.header.records
+pub accs_of_rows : (p : Program) (rows : List (List Value)) (held : List Value) → list_all (are_folded_in p) rows ≡ true → pos (length rows) ≤ℤ p.header.clock.records
     → folds_of p.header.kinds rows ≡ Some held → list_all is_word held ≡ true → accs_in p 0 p.header.kinds held ≡ true
 accs_of_rows p [] held e few is w = none≢some is
 accs_of_rows p (row ∷ rows) held e few is w =
-    let records = counted p.header.records (length (row ∷ rows)) few in
+    let records = counted p.header.clock.records (length (row ∷ rows)) few in
     accs_from p records.0 (length (row ∷ rows)) 0 p.header.kinds held records.1 (omega arith) records.2 (λ j. ap (slice_get p.header.kinds) (from_none j)) w
     (subst (ValuesIn (λ b. values_folded b (update_visits p)) 0 (length (row ∷ rows)) p.header.kinds) (same_Some (joined_to (joins p.header.kinds) row (folds_of p.header.kinds rows)) held is)
     (rows_in (λ b. values_folded b (update_visits p)) p.header.kinds row rows e))

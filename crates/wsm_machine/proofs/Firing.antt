@@ -101,13 +101,13 @@ module _ (p : Program) (costs : Costs) (judged : judge p ≡ Ok costs) (lawful :
         | Some k ↦ λ is. (fired_may e.0 e.1 k e.1.folded refl (wants e.0 e.1 k h.0.pane is) h.0.pane.folds c.0, later)
       ] refl
 
-  by_watermark_may : (old new : ℤ) (n : ℕ) (es : Panes) → pos n ≤ℤ p.header.records → AreSound p n es → AllByRecursion (MayFire p) (fires (query_of p) (kind_by_watermark (query_of p) old new) es)
+  by_watermark_may : (old new : ℤ) (n : ℕ) (es : Panes) → pos n ≤ℤ p.header.clock.records → AreSound p n es → AllByRecursion (MayFire p) (fires (query_of p) (kind_by_watermark (query_of p) old new) es)
   by_watermark_may old new n es few h =
       fires_may (kind_by_watermark (query_of p) old new)
       (λ r k kind sound is. some_by_watermark (query_of p) old new r (fired_count p.header.mode k) k.unshown kind (unshown_counted p.header.mode k sound.unshown) is)
       es h.each (all_can_fire p costs judged lawful n es few h)
 
-  by_record_may : (w : ℤ) (d : Datum) (n : ℕ) (es : Panes) → IsDatumInRange p d → pos (n + 1) ≤ℤ p.header.records → AreSound p n es → AllByRecursion (MayFire p) (fired_by_record (plan_of p) (query_of p) w d es)
+  by_record_may : (w : ℤ) (d : Datum) (n : ℕ) (es : Panes) → IsDatumInRange p d → pos (n + 1) ≤ℤ p.header.clock.records → AreSound p n es → AllByRecursion (MayFire p) (fired_by_record (plan_of p) (query_of p) w d es)
   by_record_may w d n es ranged few h =
       let now : Panes = entered (plan_of p) p.header.shape d es in
       let sound : AreSound p (n + 1) now = record {

@@ -37,7 +37,7 @@ use Rattle.wsm_program.specs.declared.program.Costs.{Costs}
 use Rattle.wsm_verifier.specs.Rules.{judge}
 use Rattle.wsm_verifier.proofs.Lawful as lawful_programs
 use Rattle.wsm_machine.specs.InRange.{in_range}
-use Rattle.wsm_machine.specs.Meaning.{pane_inputs, clock_of, query_of, plan_of}
+use Rattle.wsm_machine.specs.Meaning.{pane_inputs, query_of, plan_of}
 use Rattle.wsm_machine.specs.Sound.{AreFoldsOf, IsSoundEntry, AreSound, IsSoundState, IsDatumInRange}
 use Rattle.wsm_machine.proofs.Sounding.{may_fire, parts_fit}
 use Rattle.wsm_machine.proofs.Holding.{sound_after_record, sound_after_watermark, sound_opened}
@@ -51,9 +51,9 @@ module _ (p : Program) (costs : Costs) (judged : judge p ≡ Ok costs) (lawful :
       and_from (nat_lt key (length p.header.schema.keys)) (fit_fields p.header.schema.fields values) taken.has_key taken.fits
 
   -- and there were fewer records than the program allows
-  pub room_for_record : (mark : ℤ) (n key : ℕ) (time : ℤ) (values : List Value) → verdict_at (clock_of p.header) p.header.schema mark n (Record (Some key) time values) ≡ None → pos (n + 1) ≤ℤ p.header.records
+  pub room_for_record : (mark : ℤ) (n key : ℕ) (time : ℤ) (values : List Value) → verdict_at p.header.clock p.header.schema mark n (Record (Some key) time values) ≡ None → pos (n + 1) ≤ℤ p.header.clock.records
   room_for_record mark n key time values h =
-      fits p.header.records n (lawful_programs.lawful p lawful).records.0 (taken_record (clock_of p.header) p.header.schema mark n (Some key) time values h).room
+      fits p.header.clock.records n (lawful_programs.lawful p lawful).records.0 (taken_record p.header.clock p.header.schema mark n (Some key) time values h).room
     where
       fits : (r : ℤ) (n : ℕ) → pos 1 ≤ℤ r → nat_le (unsigned_abs r) n ≡ false → pos (n + 1) ≤ℤ r
       fits r n l h = grind (arith, ints, nat_tests)
@@ -77,13 +77,13 @@ module _ (p : Program) (costs : Costs) (judged : judge p ≡ Ok costs) (lawful :
   panes_sound s sound (Watermark t) None h = sound_after_watermark p s.admission.mark t s.admission.admitted s.panes sound
   panes_sound s sound e (Some r) h = subst (λ n. AreSound p n s.panes) (sym (refused_admits s.admission r)) sound
 
-  admitted_few : (s : admission.State) (e : Event) (v : Option Refusal) → v ≡ verdict_at s.clock p.header.schema s.mark s.admitted e → s.admitted ≤ s.clock.records → (after (answer s.mark e v) s).admitted ≤ s.clock.records
+  admitted_few : (s : admission.State) (e : Event) (v : Option Refusal) → v ≡ verdict_at s.clock p.header.schema s.mark s.admitted e → s.admitted ≤ unsigned_abs s.clock.records → (after (answer s.mark e v) s).admitted ≤ unsigned_abs s.clock.records
   admitted_few s (Record (Some k) t vs) None h l =
-      let room : nat_le s.clock.records s.admitted ≡ false = (taken_record s.clock p.header.schema s.mark s.admitted (Some k) t vs (sym h)).room in
+      let room : nat_le (unsigned_abs s.clock.records) s.admitted ≡ false = (taken_record s.clock p.header.schema s.mark s.admitted (Some k) t vs (sym h)).room in
       grind (arith, nat_tests)
   admitted_few s (Record None t vs) None h l = absurd (cc)
   admitted_few s (Watermark t) None h l = l
-  admitted_few s e (Some r) h l = subst (λ n. n ≤ s.clock.records) (sym (refused_admits s r)) l
+  admitted_few s e (Some r) h l = subst (λ n. n ≤ unsigned_abs s.clock.records) (sym (refused_admits s r)) l
 
   -- an event
   pub sound_step : (s : State (List Value)) (e : Event) → IsSoundState p s → IsSoundState p (step (plan_of p) (query_of p) s e)
@@ -92,7 +92,7 @@ module _ (p : Program) (costs : Costs) (judged : judge p ≡ Ok costs) (lawful :
       let same : (after (answer s.admission.mark e v) s.admission).clock ≡ s.admission.clock = clock-after s.admission e v in
       record {
         clock = same ∙ h.clock;
-        admitted = subst (λ (c : Clock). (after (answer s.admission.mark e v) s.admission).admitted ≤ c.records) (sym same) (admitted_few s.admission e v refl h.admitted);
+        admitted = subst (λ (c : Clock). (after (answer s.admission.mark e v) s.admission).admitted ≤ unsigned_abs c.records) (sym same) (admitted_few s.admission e v refl h.admitted);
         panes = panes_sound s h.panes e v refl;
       }
 
@@ -107,9 +107,9 @@ module _ (p : Program) (costs : Costs) (judged : judge p ≡ Ok costs) (lawful :
   -- ---- what soundness gives
 
   -- as many records as were admitted are as many as the program allows
-  pub admitted_within : (s : State (List Value)) → IsSoundState p s → pos s.admission.admitted ≤ℤ p.header.records
+  pub admitted_within : (s : State (List Value)) → IsSoundState p s → pos s.admission.admitted ≤ℤ p.header.clock.records
   admitted_within s h =
-      few p.header.records s.admission.admitted (lawful_programs.lawful p lawful).records.0 (subst (λ (c : Clock). s.admission.admitted ≤ c.records) h.clock h.admitted)
+      few p.header.clock.records s.admission.admitted (lawful_programs.lawful p lawful).records.0 (subst (λ (c : Clock). s.admission.admitted ≤ unsigned_abs c.records) h.clock h.admitted)
     where
       few : (r : ℤ) (n : ℕ) → pos 1 ≤ℤ r → n ≤ unsigned_abs r → pos n ≤ℤ r
       few r n l h = grind (arith, ints)
@@ -126,7 +126,7 @@ module _ (p : Program) (costs : Costs) (judged : judge p ≡ Ok costs) (lawful :
   both_each P Q [] f g = tt
   both_each P Q (x ∷ xs) f g = ((f.0, g.0), both_each P Q xs f.1 g.1)
 
-  pub all_can_fire : (n : ℕ) (panes : List (Place × Pane (List Value))) → pos n ≤ℤ p.header.records → AreSound p n panes → AllByRecursion CanFire panes
+  pub all_can_fire : (n : ℕ) (panes : List (Place × Pane (List Value))) → pos n ≤ℤ p.header.clock.records → AreSound p n panes → AllByRecursion CanFire panes
   all_can_fire n panes few h =
       all-each (λ e. IsSoundEntry p e × (e.1.count ≤ n)) CanFire panes
       (λ e f held is.
@@ -134,12 +134,12 @@ module _ (p : Program) (costs : Costs) (judged : judge p ≡ Ok costs) (lawful :
       (least (fired_count p.header.mode e.1) (count_least p.header.mode n e.1 f.0.pane.unshown f.1)))
       (both_each (IsSoundEntry p) (λ e. e.1.count ≤ n) panes h.each (each_of p.header.shape n panes h.counts))
     where
-      least : (m : ℕ) → m ≤ n → pos m ≤ℤ p.header.records
+      least : (m : ℕ) → m ≤ n → pos m ≤ℤ p.header.clock.records
       least m l = omega (arith, ints, few, l)
 
   -- two sessions that a record joins are joined in 64 bits
   pub joins_fit : (n : ℕ) (panes : List (Place × Pane (List Value))) (gap : ℤ) (d : Datum) (e f : Place × Pane (List Value)) (es : List (Place × Pane (List Value))) (xs ys : List Value) →
-      p.header.shape ≡ Session gap → pos n ≤ℤ p.header.records → AreSound p n panes → linked gap d panes ≡ e ∷ f ∷ es → e.1.folded ≡ Some xs → f.1.folded ≡ Some ys → SumsFit p.header.kinds xs ys
+      p.header.shape ≡ Session gap → pos n ≤ℤ p.header.clock.records → AreSound p n panes → linked gap d panes ≡ e ∷ f ∷ es → e.1.folded ≡ Some xs → f.1.folded ≡ Some ys → SumsFit p.header.kinds xs ys
   joins_fit n panes gap d e f es xs ys session few h is ex fy =
       let parts : AllByRecursion (IsSoundEntry p) (e ∷ f ∷ es) = subst (AllByRecursion (IsSoundEntry p)) is (filter-all (IsSoundEntry p) (λ e. is_linked gap d e.0) panes h.each) in
       let all : total panes ≤ n = subst (λ (sh : Shape). AtMost sh n panes) session h.counts in
@@ -154,5 +154,5 @@ module _ (p : Program) (costs : Costs) (judged : judge p ≡ Ok costs) (lawful :
       through : (a b : ℕ) → a ≤ b → b ≤ n → a ≤ n
       through a b l m = omega (arith, l, m)
 
-      least : (a b : ℕ) → a ≤ e.1.count → b ≤ f.1.count → e.1.count + (f.1.count + total es) ≤ n → pos (a + b) ≤ℤ p.header.records
+      least : (a b : ℕ) → a ≤ e.1.count → b ≤ f.1.count → e.1.count + (f.1.count + total es) ≤ n → pos (a + b) ≤ℤ p.header.clock.records
       least a b l m t = omega (arith, ints, few, l, m, t)

@@ -56,22 +56,22 @@ module _ (p : Program) where
 
   -- ---- ranges
 
-  few : (n : ℕ) (rows : List (List Value)) → length rows ≡ n → pos n ≤ℤ p.header.records → pos (length rows) ≤ℤ p.header.records
-  few n rows e h = subst (λ k. pos k ≤ℤ p.header.records) (sym e) h
+  few : (n : ℕ) (rows : List (List Value)) → length rows ≡ n → pos n ≤ℤ p.header.clock.records → pos (length rows) ≤ℤ p.header.clock.records
+  few n rows e h = subst (λ k. pos k ≤ℤ p.header.clock.records) (sym e) h
 
-  counted_in : (n : ℕ) → 1 ≤ n → pos n ≤ℤ p.header.records → holds (interval (pos 1) p.header.records) (pos n) ≡ true
-  counted_in n l h = and_from (int_le (pos 1) (pos n)) (int_le (pos n) p.header.records) (grind (arith, ints)) (grind (arith, ints))
+  counted_in : (n : ℕ) → 1 ≤ n → pos n ≤ℤ p.header.clock.records → holds (interval (pos 1) p.header.clock.records) (pos n) ≡ true
+  counted_in n l h = and_from (int_le (pos 1) (pos n)) (int_le (pos n) p.header.clock.records) (grind (arith, ints)) (grind (arith, ints))
 
   module _ (costs : Costs) (judged : judge p ≡ Ok costs) where
     -- FIRE may read a pane's key, its number of records and what its accumulators hold
-    pub may_fire : (key n : ℕ) (held : List Value) → key < length p.header.schema.keys → AreFolds p n held → pos n ≤ℤ p.header.records → IsTrue (in_range p Fire (pane_inputs key n held))
+    pub may_fire : (key n : ℕ) (held : List Value) → key < length p.header.schema.keys → AreFolds p n held → pos n ≤ℤ p.header.clock.records → IsTrue (in_range p Fire (pane_inputs key n held))
     may_fire key n held k f h =
         and_from _ _ (grind (arith, nat_tests)) (and_from _ _ (counted_in n (some_rows n held f) h) (accs_of_rows p f.rows held f.folded (few n f.rows f.count h) f.folds (folds_words p costs judged f.rows held f.folded f.words (few n f.rows f.count h) f.folds)))
 
     -- two bags are joined in 64 bits
-    pub parts_fit : (m n : ℕ) (xs ys : List Value) → AreFolds p m xs → AreFolds p n ys → pos (m + n) ≤ℤ p.header.records → SumsFit p.header.kinds xs ys
+    pub parts_fit : (m n : ℕ) (xs ys : List Value) → AreFolds p m xs → AreFolds p n ys → pos (m + n) ≤ℤ p.header.clock.records → SumsFit p.header.kinds xs ys
     parts_fit m n xs ys f g h =
-        sums_fit p costs f.rows g.rows xs ys judged f.folded g.folded (subst (λ k. pos k ≤ℤ p.header.records) (λ i. sym f.count i + sym g.count i) h) f.folds g.folds
+        sums_fit p costs f.rows g.rows xs ys judged f.folded g.folded (subst (λ k. pos k ≤ℤ p.header.clock.records) (λ i. sym f.count i + sym g.count i) h) f.folds g.folds
 
     module _ (lawful : IsTrue (is_program p)) where
       -- what UPDATE gives of a record in range
@@ -94,5 +94,5 @@ module _ (p : Program) where
       folds_with n d (Some held) ranged f = folds_joined n 1 held (updated p d.key d.values) f (row_folded d ranged)
 
       -- a record is folded in 64 bits
-      pub record_fits : (n : ℕ) (held : List Value) (d : Datum) → IsDatumInRange p d → AreFolds p n held → pos (n + 1) ≤ℤ p.header.records → SumsFit p.header.kinds held (updated p d.key d.values)
+      pub record_fits : (n : ℕ) (held : List Value) (d : Datum) → IsDatumInRange p d → AreFolds p n held → pos (n + 1) ≤ℤ p.header.clock.records → SumsFit p.header.kinds held (updated p d.key d.values)
       record_fits n held d ranged f h = parts_fit n 1 held (updated p d.key d.values) f (row_folded d ranged) h

@@ -54,7 +54,7 @@ module _ (p : Program) (key : ℕ) where
 
 -- a record is folded into a sound pane in 64 bits, where it has fewer records than the program allows
 pub pane_fits : (p : Program) (costs : Costs) → judge p ≡ Ok costs → IsTrue (is_program p) → (d : Datum) → IsDatumInRange p d → (n : ℕ) (h : Pane (List Value)) (held : List Value) →
-    IsSoundPane p h → h.count ≤ n → pos (n + 1) ≤ℤ p.header.records → h.folded ≡ Some held → SumsFit p.header.kinds held (updated p d.key d.values)
+    IsSoundPane p h → h.count ≤ n → pos (n + 1) ≤ℤ p.header.clock.records → h.folded ≡ Some held → SumsFit p.header.kinds held (updated p d.key d.values)
 pane_fits p costs judged lawful d ranged n h held sound few room is =
     record_fits p costs judged lawful (fired_count p.header.mode h) held d ranged (subst (AreFoldsOf p (fired_count p.header.mode h)) is sound.folds)
     (least (fired_count p.header.mode h) (at_most p.header.mode))
@@ -63,7 +63,7 @@ pane_fits p costs judged lawful d ranged n h held sound few room is =
     at_most Accumulating = few
     at_most Discarding = omega (arith, sound.unshown, few)
 
-    least : (m : ℕ) → m ≤ n → pos (m + 1) ≤ℤ p.header.records
+    least : (m : ℕ) → m ≤ n → pos (m + 1) ≤ℤ p.header.clock.records
     least m l = omega (arith, ints, room, l)
 
 -- ---- costs

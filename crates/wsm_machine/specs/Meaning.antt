@@ -9,7 +9,6 @@ use Rattle.wsm_record.specs.Event.{Event, Record}
 use Rattle.wsm_windows.specs.declared.window.Shape.{Shape}
 use Rattle.wsm_windows.specs.declared.window.Shape.TheVariants.{Session}
 use Rattle.wsm_windows.specs.Windows.{windows_of_shape}
-use Rattle.wsm_admission.specs.declared.clock.Clock.{Clock}
 use Rattle.wsm_admission.specs.declared.verdict.Admitted.{Admitted}
 use Rattle.wsm_admission.specs.declared.verdict.Admitted.TheVariants as admitted
 use Rattle.wsm_admission.specs.declared.verdict.Refusal.{Refusal}
@@ -24,7 +23,7 @@ use Rattle.wsm_semantics.specs.Replay.{datum}
 use Rattle.wsm_semantics.specs.Steps.{State, answer_to}
 use Rattle.wsm_fold.specs.Fold.{joins, folds_of}
 use Rattle.wsm_program.specs.declared.instr.SectionId.TheVariants.{Where, Update, Fire}
-use Rattle.wsm_program.specs.Program.{Program, Header}
+use Rattle.wsm_program.specs.Program.{Program}
 use Rattle.wsm_machine.specs.declared.cell.Cell.{Cell}
 use Rattle.wsm_machine.specs.declared.cell.Cell.TheVariants as cells
 use Rattle.wsm_machine.specs.declared.outcome.Outcome.{Outcome}
@@ -96,12 +95,9 @@ folded p ds = folds_of p.header.kinds (updated_all p ds)
 
 -- ---- the query
 
-abbrev pub clock_of : Header → Clock
-clock_of h = record { start = h.start; skew = h.skew; lateness = h.lateness; records = unsigned_abs h.records }
-
 abbrev pub query_of : Program → Query
 query_of p = record {
-  clock = clock_of p.header;
+  clock = p.header.clock;
   declared = p.header.schema;
   shape = p.header.shape;
   mode = p.header.mode;

@@ -34,10 +34,7 @@ abbrev base : Shape → Mode → Program
 base shape mode = record {
   header = record {
     schema = record { keys = codes "a" ∷ codes "b" ∷ []; fields = record { name = codes "n"; type = Between (pos 0) (pos 100) } ∷ [] };
-    start = pos 0;
-    skew = pos 100;
-    lateness = pos 10;
-    records = pos 1000;
+    clock = record { start = pos 0; skew = pos 100; lateness = pos 10; records = pos 1000 };
     shape = shape;
     mode = mode;
     early = pos 0;
@@ -128,7 +125,7 @@ the_joining_record_costs_six = refl
 
 -- LATENESS 100: nothing stands for a session just joined
 abbrev lasting : Program
-lasting = record session { header = record session.header { lateness = pos 100 } }
+lasting = record session { header = record session.header { clock = record session.header.clock { lateness = pos 100 } } }
 
 abbrev both_fired : Held
 both_fired = after_watermark (plan_of lasting) (query_of lasting) (pos 0) (pos 70) (after lasting (d 40 2 ∷ d 0 1 ∷ []))

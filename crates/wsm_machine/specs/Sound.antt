@@ -1,7 +1,7 @@
 -- What is true of the panes that are held while a verified program runs: what the accumulators of
 -- each hold is the fold of as many rows, which UPDATE gave of records in range, as the next firing is
 -- computed over.
-use Rattle.std.specs.Prelude.{◌≡◌, ℕ, ◌<◌, ◌≤◌, List, length, Option, Some, None, IsTrue}
+use Rattle.std.specs.Prelude.{◌≡◌, ℕ, ◌<◌, ◌≤◌, List, length, Option, Some, None, IsTrue, unsigned_abs}
 use Rattle.std.specs.List.{AllByRecursion, list_all}
 use Rattle.wsm_record.specs.declared.event.Value.{Value}
 use Rattle.wsm_fold.specs.Fold.{folds_of}
@@ -13,7 +13,7 @@ use Rattle.wsm_semantics.specs.Steps.{State}
 use Rattle.wsm_program.specs.declared.instr.SectionId.TheVariants.{Update, Fire}
 use Rattle.wsm_program.specs.Program.{Program}
 use Rattle.wsm_machine.specs.InRange.{in_range, is_word, are_folded_in}
-use Rattle.wsm_machine.specs.Meaning.{record_inputs, pane_inputs, clock_of}
+use Rattle.wsm_machine.specs.Meaning.{record_inputs, pane_inputs}
 
 -- the folds of so many rows
 pub record AreFolds (p : Program) (n : ℕ) (held : List Value) : Type 0 where
@@ -49,8 +49,8 @@ IsDatumInRange p d = IsTrue (in_range p Update (record_inputs d.key d.values))
 
 -- what is kept of the events while the program runs
 pub record IsSoundState (p : Program) (s : State (List Value)) : Type 0 where
-  pub clock : s.admission.clock ≡ clock_of p.header
-  pub admitted : s.admission.admitted ≤ s.admission.clock.records
+  pub clock : s.admission.clock ≡ p.header.clock
+  pub admitted : s.admission.admitted ≤ unsigned_abs s.admission.clock.records
   pub panes : AreSound p s.admission.admitted s.panes
 
 -- FIRE may read what a firing is computed over

@@ -55,7 +55,7 @@ impl Inputs<'_> {
             SectionId::Fire => {
                 is_declared
                     && 1 <= self.count
-                    && self.count <= header.records
+                    && self.count <= header.clock.records
                     && accs_in(verified, &header.kinds, self.accs)
             }
         }

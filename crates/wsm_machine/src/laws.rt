@@ -29,13 +29,13 @@ pub fn runs_end()
 /// many rows as the program allows.
 pub fn sums_fit()
     ensures { (p : Program) (costs : Costs) (rows more : List (List Value)) (held new : List Value) → judge p ≡ Ok costs
-        → IsTrue (list_all (are_folded_in p) rows) → IsTrue (list_all (are_folded_in p) more) → pos (length rows + length more) ≤ℤ p.header.records
+        → IsTrue (list_all (are_folded_in p) rows) → IsTrue (list_all (are_folded_in p) more) → pos (length rows + length more) ≤ℤ p.header.clock.records
         → folds_of p.header.kinds rows ≡ Some held → folds_of p.header.kinds more ≡ Some new → SumsFit p.header.kinds held new }
 {}
 
 /// What accumulators hold of rows that UPDATE folded is in the range that FIRE reads, where there
 /// are at most as many rows as the program allows.
 pub fn held_in_range()
-    ensures { (p : Program) (rows : List (List Value)) (held : List Value) → IsTrue (list_all (are_folded_in p) rows) → pos (length rows) ≤ℤ p.header.records
+    ensures { (p : Program) (rows : List (List Value)) (held : List Value) → IsTrue (list_all (are_folded_in p) rows) → pos (length rows) ≤ℤ p.header.clock.records
         → folds_of p.header.kinds rows ≡ Some held → IsTrue (list_all is_word held) → IsTrue (accs_in p 0 p.header.kinds held) }
 {}

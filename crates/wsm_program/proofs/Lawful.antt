@@ -18,10 +18,10 @@ few_fields s h =
 -- what is_header holds, part by part
 pub record HeaderParts (h : Header) : Type 0 where
   pub schema : is_schema h.schema ≡ true
-  pub start : is_within (pos 0) latest_time h.start ≡ true
-  pub skew : is_span h.skew ≡ true
-  pub lateness : is_span h.lateness ≡ true
-  pub records : is_size h.records ≡ true
+  pub start : is_within (pos 0) latest_time h.clock.start ≡ true
+  pub skew : is_span h.clock.skew ≡ true
+  pub lateness : is_span h.clock.lateness ≡ true
+  pub records : is_size h.clock.records ≡ true
   pub shape : is_shape h.shape ≡ true
   pub early : is_span h.early ≡ true
   pub late : is_span h.late ≡ true
@@ -38,9 +38,9 @@ header_parts h e =
     let q = and_parts (is_clock h) (is_firing h && (is_row h && is_budget h.budget)) p.1 in
     let r = and_parts (is_firing h) (is_row h && is_budget h.budget) q.1 in
     let s = and_parts (is_row h) (is_budget h.budget) r.1 in
-    let c1 = and_parts (is_within (pos 0) latest_time h.start) (is_span h.skew && (is_span h.lateness && is_size h.records)) q.0 in
-    let c2 = and_parts (is_span h.skew) (is_span h.lateness && is_size h.records) c1.1 in
-    let c3 = and_parts (is_span h.lateness) (is_size h.records) c2.1 in
+    let c1 = and_parts (is_within (pos 0) latest_time h.clock.start) (is_span h.clock.skew && (is_span h.clock.lateness && is_size h.clock.records)) q.0 in
+    let c2 = and_parts (is_span h.clock.skew) (is_span h.clock.lateness && is_size h.clock.records) c1.1 in
+    let c3 = and_parts (is_span h.clock.lateness) (is_size h.clock.records) c2.1 in
     let f1 = and_parts (is_shape h.shape) (is_span h.early && (is_span h.late && is_form_of h.mode h.form)) r.0 in
     let f2 = and_parts (is_span h.early) (is_span h.late && is_form_of h.mode h.form) f1.1 in
     let f3 = and_parts (is_span h.late) (is_form_of h.mode h.form) f2.1 in

@@ -9,6 +9,7 @@ use Rattle.wsm_record.specs.declared.Form.TheVariants.{Panes}
 use Rattle.wsm_record.specs.declared.limits.TheConstants.{LATEST_TIME, LONGEST_SPAN, MAX_ACCUMULATORS, MAX_COLUMNS, MAX_PANES, MAX_SECTION, MAX_STATED}
 use Rattle.wsm_record.specs.Name.{is_between}
 use Rattle.wsm_record.specs.Schema.{FieldType, Enum, DeclaredField, Declared, is_within, is_i64, is_schema}
+use Rattle.wsm_admission.specs.declared.clock.Clock.{Clock}
 use Rattle.wsm_windows.specs.declared.Shape.{Shape}
 use Rattle.wsm_windows.specs.declared.Shape.TheVariants.{Fixed, Sliding, Session}
 use Rattle.wsm_record.specs.declared.words.CellType.{CellType}
@@ -25,10 +26,7 @@ Name = List ℕ
 
 pub record Header : Type 0 where
   pub schema : Declared
-  pub start : ℤ
-  pub skew : ℤ
-  pub lateness : ℤ
-  pub records : ℤ
+  pub clock : Clock
   pub shape : Shape
   pub mode : Mode
   pub early : ℤ  -- 0: none
@@ -104,7 +102,7 @@ abbrev pub is_budget : Costs → Bool
 is_budget b = is_stated b.per_record && (is_stated b.per_pane && is_between 1 MAX_PANES b.held)
 
 abbrev pub is_clock : Header → Bool
-is_clock h = is_within (pos 0) latest_time h.start && (is_span h.skew && (is_span h.lateness && is_size h.records))
+is_clock h = is_within (pos 0) latest_time h.clock.start && (is_span h.clock.skew && (is_span h.clock.lateness && is_size h.clock.records))
 
 -- when panes fire, and what is written
 abbrev pub is_firing : Header → Bool

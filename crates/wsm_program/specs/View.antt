@@ -7,10 +7,7 @@ use Rattle.wsm_program.specs.Program.{Header, Program}
 abbrev pub header_of : Held → Header
 header_of h = record {
   schema = h.schema;
-  start = h.start;
-  skew = h.skew;
-  lateness = h.lateness;
-  records = h.records;
+  clock = h.clock;
   shape = h.shape;
   mode = h.mode;
   early = h.early;

@@ -46,10 +46,10 @@ fn is_lawful_header(header: &Header) -> bool
 fn is_lawful_clock(header: &Header) -> bool
     ensures { result ≡ is_clock (header_of header.now) }
 {
-    is_inside(header.start, 0, LATEST_TIME)
-        && is_inside(header.skew, 0, LONGEST_SPAN)
-        && is_inside(header.lateness, 0, LONGEST_SPAN)
-        && is_inside(header.records, 1, LONGEST_SPAN)
+    is_inside(header.clock.start, 0, LATEST_TIME)
+        && is_inside(header.clock.skew, 0, LONGEST_SPAN)
+        && is_inside(header.clock.lateness, 0, LONGEST_SPAN)
+        && is_inside(header.clock.records, 1, LONGEST_SPAN)
 }
 
 fn is_lawful_firing(header: &Header) -> bool

@@ -33,6 +33,7 @@ pub use operation::{Operands, Operation};
 pub use program::{Costs, Header, Program, Section};
 pub use refusal::DecodeRefusal;
 pub use table::Argument;
+pub use wsm_admission::Clock;
 pub use wsm_record::CellType;
 
 pub mod enums;

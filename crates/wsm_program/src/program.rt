@@ -8,6 +8,7 @@ use crate::instr::{Instr, SectionId};
 use crate::judging::is_lawful;
 use crate::refusal::DecodeRefusal;
 use std::marker::Model;
+use wsm_admission::Clock;
 use wsm_record::{CellType, Form, Kind, Mode, Schema};
 use wsm_windows::Shape;
 
@@ -30,14 +31,9 @@ pub struct Costs {
 pub struct Header {
     /// The keys and the fields of a record.
     pub schema: Schema,
-    /// Where the watermark starts, from 0 to 10^16.
-    pub start: i64,
-    /// How far a record may be ahead of the watermark, from 0 to 10^12.
-    pub skew: i64,
-    /// How far a record may be behind the watermark, from 0 to 10^12.
-    pub lateness: i64,
-    /// The most records that are admitted, from 1 to 10^12.
-    pub records: i64,
+    /// Its start is from 0 to 10^16, its skew and its lateness are from 0 to 10^12, and its records
+    /// from 1 to 10^12.
+    pub clock: Clock,
     /// How records are put into windows.
     pub shape: Shape,
     /// What a firing's columns are computed over.

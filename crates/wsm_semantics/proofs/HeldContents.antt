@@ -3,7 +3,7 @@
 use Rattle.std.proofs.Common.{◌≡◌, suc, ◌+◌, ◌≤◌, Bool, true, false, ◌||◌, cond, List, [], ◌∷◌, length, ℤ, refl, sym, ap, subst, ◌∙◌, arith}
 use Rattle.std.proofs.lemmas.Bool.{true≢false, and_parts, eqb-true}
 use Rattle.std.proofs.lemmas.List.Sums.{sum_by-cons}
-use Rattle.std.specs.Prelude.{filter, nat_eq}
+use Rattle.std.specs.Prelude.{filter, nat_eq, unsigned_abs}
 use Rattle.std.specs.List.{AllByRecursion, list_any, sum_by}
 use Rattle.std.specs.Cmp.{tied_itself}
 use Rattle.std.specs.Ordering.{is_lt}
@@ -100,8 +100,8 @@ module _ (q : Query) (gap : ℤ) (is : q.shape ≡ Session gap) (ok : IsShape q.
       omega arith
 
   -- and the limit of records bounds them
-  pub contents_limited : sum_by (λ e. length e.1) (held q past) ≤ q.clock.records
+  pub contents_limited : sum_by (λ e. length e.1) (held q past) ≤ unsigned_abs q.clock.records
   contents_limited =
       let most : sum_by (λ e. length e.1) (held q past) ≤ admitted_count q.clock q.declared past = contents_bounded in
-      let limit : admitted_count q.clock q.declared past ≤ q.clock.records = admitted_count-le q.clock q.declared past in
+      let limit : admitted_count q.clock q.declared past ≤ unsigned_abs q.clock.records = admitted_count-le q.clock q.declared past in
       omega arith

@@ -1,5 +1,5 @@
 -- What is held and written is bounded, for windows of any shape, any mode, triggers and form.
-use Rattle.std.proofs.Common.{◌≤◌, length, arith}
+use Rattle.std.proofs.Common.{◌≤◌, length, arith, unsigned_abs}
 use Rattle.wsm_windows.specs.Windows.{IsShape}
 use Rattle.wsm_admission.specs.Clock.{IsWithinLimits, admitted_count}
 use Rattle.wsm_admission.proofs.Taken.{admitted_count-le}
@@ -17,8 +17,8 @@ held_bounded q ok within = record {
   of_key = λ past key. bound.held_at_key q ok within past key;
   panes = λ past. bound.held_bounded q ok within past;
   records = λ past.
-      all-each (IsHeldPane q past) (λ e. length e.1 ≤ q.clock.records) (held q past)
-      (λ e pane. let most = pane.count in let limit : admitted_count q.clock q.declared past ≤ q.clock.records = admitted_count-le q.clock q.declared past in omega arith)
+      all-each (IsHeldPane q past) (λ e. length e.1 ≤ unsigned_abs q.clock.records) (held q past)
+      (λ e pane. let most = pane.count in let limit : admitted_count q.clock q.declared past ≤ unsigned_abs q.clock.records = admitted_count-le q.clock q.declared past in omega arith)
       (held_panes q ok past);
   in_sessions = λ past gap is. contents.contents_limited q gap is ok past;
   fired = λ past e. rows.firings_bounded q ok within past e;

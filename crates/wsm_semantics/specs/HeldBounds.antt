@@ -1,6 +1,6 @@
 -- How much is held and written, whatever the shape of windows, the mode, the triggers and the form. The
 -- bounds, and that watermarks drop what they pass, are this project's own rules.
-use Rattle.std.specs.Prelude.{◌≡◌, ℕ, ◌*◌, ◌≤◌, List, length, filter, ℤ, nat_eq}
+use Rattle.std.specs.Prelude.{◌≡◌, ℕ, ◌*◌, ◌≤◌, List, length, filter, ℤ, nat_eq, unsigned_abs}
 use Rattle.std.specs.List.{AllByRecursion, sum_by}
 use Rattle.wsm_record.specs.Event.{Event}
 use Rattle.wsm_windows.specs.declared.window.Shape.TheVariants.{Session}
@@ -20,7 +20,7 @@ most_panes q = length q.declared.keys * live_bound q.shape q.clock.skew q.clock.
 pub record HeldBounded (q : Query) : Type 0 where
   pub of_key : (past : List Event) (key : ℕ) → length (filter (λ e. nat_eq e.0.key key) (held q past)) ≤ live_bound q.shape q.clock.skew q.clock.lateness
   pub panes : (past : List Event) → length (held q past) ≤ most_panes q
-  pub records : (past : List Event) → AllByRecursion (λ e. length e.1 ≤ q.clock.records) (held q past)
-  pub in_sessions : (past : List Event) (gap : ℤ) → q.shape ≡ Session gap → sum_by (λ e. length e.1) (held q past) ≤ q.clock.records
+  pub records : (past : List Event) → AllByRecursion (λ e. length e.1 ≤ unsigned_abs q.clock.records) (held q past)
+  pub in_sessions : (past : List Event) (gap : ℤ) → q.shape ≡ Session gap → sum_by (λ e. length e.1) (held q past) ≤ unsigned_abs q.clock.records
   pub fired : (past : List Event) (e : Event) → length (firings q past e) ≤ most_panes q
   pub rows : (past : List Event) (e : Event) → length (turn_rows q past e) ≤ most_panes q

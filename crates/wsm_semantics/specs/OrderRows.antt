@@ -34,7 +34,7 @@ total (d ∷ ds) = total ds +ℤ first d.values
 -- SELECT SUM(n) WINDOW FIXED 60 DISCARDING EMIT PANES;
 abbrev base : Query
 base = record {
-  clock = record { start = pos 0; skew = pos 1000; lateness = pos 100; records = 1000 };
+  clock = record { start = pos 0; skew = pos 1000; lateness = pos 100; records = pos 1000 };
   declared = record { keys = codes "a" ∷ []; fields = record { name = codes "n"; type = Between (pos 0) (pos 100) } ∷ [] };
   shape = Fixed (pos 60);
   mode = mode.Discarding;

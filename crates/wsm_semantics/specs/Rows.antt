@@ -31,7 +31,7 @@ count ds = Int (pos (length ds))
 -- SELECT COUNT(*), SUM(n) WINDOW FIXED 60 ACCUMULATING EMIT PANES;
 abbrev pub base : Query
 base = record {
-  clock = record { start = pos 0; skew = pos 100; lateness = pos 10; records = 1000 };
+  clock = record { start = pos 0; skew = pos 100; lateness = pos 10; records = pos 1000 };
   declared = record {
     keys = codes "a" ∷ codes "b" ∷ [];
     fields = record { name = codes "n"; type = Between (pos 0) (pos 100) } ∷ [];
@@ -146,7 +146,7 @@ having_false_writes_no_row :
 having_false_writes_no_row = refl
 
 the_first_rule_refuses :
-    written (record base { clock = record base.clock { records = 2 } })
+    written (record base { clock = record base.clock { records = pos 2 } })
     (a 1 1 ∷ a 2 1 ∷ a 3 1 ∷ Ok (Record None (pos 1) (ints (1 ∷ []))) ∷ a 1 101 ∷ w 5 ∷ w 5 ∷ [])
     ≡ Refused 3 refusal.RecordLimit ∷ Refused 4 refusal.UnknownKey ∷ Refused 5 refusal.FieldRange ∷ Refused 7 refusal.NotRising ∷ End 7 2 0 4 0 ∷ []
 the_first_rule_refuses = refl

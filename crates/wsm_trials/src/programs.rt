@@ -6,7 +6,7 @@ use crate::sections::Sections;
 use crate::sides::Sides;
 use std::alloc::Global;
 use std::test::Fail;
-use wsm_bytecode::{CellType, Costs, Header, Program, decode, encode};
+use wsm_bytecode::{CellType, Clock, Costs, Header, Program, decode, encode};
 use wsm_engine::Engine;
 use wsm_interval::Interval;
 use wsm_machine::Inputs;
@@ -49,10 +49,12 @@ fn header(alloc: Global, budget: Costs) -> Result<Header, Fail> {
     fields.push(Field { name, ty })?;
     Ok(Header {
         schema: Schema::new(alloc, &keys, &fields)?,
-        start: 0,
-        skew: 100,
-        lateness: 10,
-        records: 1000,
+        clock: Clock {
+            start: 0,
+            skew: 100,
+            lateness: 10,
+            records: 1000,
+        },
         shape: Shape::Fixed(60),
         mode: Mode::Accumulating,
         early: 0,

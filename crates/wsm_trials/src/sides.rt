@@ -118,7 +118,7 @@ impl<'a> Sides<'a> {
             else {
                 continue;
             };
-            if !header.schema.fits(&values) || pane.count >= header.records {
+            if !header.schema.fits(&values) || pane.count >= header.clock.records {
                 continue;
             }
             let Some(cost) = self.answer_record(key, &values, &mut pane) else {

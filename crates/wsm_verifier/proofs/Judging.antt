@@ -63,7 +63,7 @@ first_of_section c [] e = refl
 first_of_section c (v ∷ vs) e = e
 
 -- where the update has no fault, sums of all records stay
-pub sums_stay : (p : Program) → fault_in p Update (ranges_of_record p) ≡ None → (a : ℕ) → stays p.header.records (kind_of p.header.kinds a) (slice_index_or (folded_from 0 p.header.kinds (update_visits p)) a None) ≡ true
+pub sums_stay : (p : Program) → fault_in p Update (ranges_of_record p) ≡ None → (a : ℕ) → stays p.header.clock.records (kind_of p.header.kinds a) (slice_index_or (folded_from 0 p.header.kinds (update_visits p)) a None) ≡ true
 sums_stay p e a = stay_all (setting p Update (ranges_of_record p)) (update_visits p) (first_of_section (setting p Update (ranges_of_record p)) (update_visits p) e) a
 
 -- ---- ranges
@@ -71,4 +71,4 @@ sums_stay p e a = stay_all (setting p Update (ranges_of_record p)) (update_visit
 pub range_is : (p : Program) (a : ℕ) → slice_index_or (ranges_of p) a None ≡ range p a
 range_is p a =
     let first : 0 + a ≡ a = omega arith in
-    range_at p.header.records 0 p.header.kinds (update_visits p) a ∙ ap (λ n. and_then (λ k. and_then (accumulated p.header.records k) (values_folded n (update_visits p))) (slice_get p.header.kinds a)) first
+    range_at p.header.clock.records 0 p.header.kinds (update_visits p) a ∙ ap (λ n. and_then (λ k. and_then (accumulated p.header.clock.records k) (values_folded n (update_visits p))) (slice_get p.header.kinds a)) first

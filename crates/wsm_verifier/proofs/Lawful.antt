@@ -36,9 +36,9 @@ lawful_span n h = let w = within (pos 0) (pos 1000000000000) n h in record { low
 -- the numbers of a header that its costs are made of
 pub record IsLawful (h : Header) : Type 0 where
   pub shape : IsShape h.shape
-  pub skew : IsSpan h.skew
-  pub lateness : IsSpan h.lateness
-  pub records : (pos 1 ≤ℤ h.records) × (h.records ≤ℤ pos 1000000000000)
+  pub skew : IsSpan h.clock.skew
+  pub lateness : IsSpan h.clock.lateness
+  pub records : (pos 1 ≤ℤ h.clock.records) × (h.clock.records ≤ℤ pos 1000000000000)
   pub kinds : length h.kinds ≤ 16
   pub fields : length h.schema.fields ≤ 16
 
@@ -53,13 +53,13 @@ lawful_header h e =
     let behind_clock = (and_parts (is_clock h) _ parts).1 in
     let firing = (and_parts (is_firing h) _ behind_clock).0 in
     let row = (and_parts (is_row h) _ (and_parts (is_firing h) _ behind_clock).1).0 in
-    let spans = (and_parts (is_within (pos 0) latest_time h.start) _ (and_parts (is_clock h) _ parts).0).1 in
-    let behind_skew = (and_parts (is_span h.skew) _ spans).1 in
+    let spans = (and_parts (is_within (pos 0) latest_time h.clock.start) _ (and_parts (is_clock h) _ parts).0).1 in
+    let behind_skew = (and_parts (is_span h.clock.skew) _ spans).1 in
     record {
       shape = lawful_shape h.shape (and_parts (is_shape h.shape) _ firing).0;
-      skew = lawful_span h.skew (and_parts (is_span h.skew) _ spans).0;
-      lateness = lawful_span h.lateness (and_parts (is_span h.lateness) _ behind_skew).0;
-      records = sized h.records (and_parts (is_span h.lateness) _ behind_skew).1;
+      skew = lawful_span h.clock.skew (and_parts (is_span h.clock.skew) _ spans).0;
+      lateness = lawful_span h.clock.lateness (and_parts (is_span h.clock.lateness) _ behind_skew).0;
+      records = sized h.clock.records (and_parts (is_span h.clock.lateness) _ behind_skew).1;
       kinds = leb-true (length h.kinds) 16 (and_parts (nat_le (length h.kinds) 16) _ row).0;
       fields = few_fields h.schema (and_parts (is_schema h.schema) _ e).0;
     }

@@ -19,7 +19,7 @@ accumulated_each records _ _ = []
 
 -- the range of each of a program's accumulators; None where it is no accumulator of numbers
 abbrev pub ranges_of : Program → List (Option Interval)
-ranges_of p = accumulated_each p.header.records p.header.kinds (folded_from 0 p.header.kinds (update_visits p))
+ranges_of p = accumulated_each p.header.clock.records p.header.kinds (folded_from 0 p.header.kinds (update_visits p))
 
 -- a sum of all records stays in 64 bits
 abbrev pub stays : ℤ → Kind → Option Interval → Bool

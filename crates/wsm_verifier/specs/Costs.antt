@@ -67,5 +67,5 @@ abbrev pub needed : Program → Costs
 needed p = record {
   per_record = longest_path p.selection + windows_of_a_record p.header.shape * longest_path p.update + join_steps p.header.shape (length p.header.kinds);
   per_pane = longest_path p.fire;
-  held = length p.header.schema.keys * live_bound p.header.shape p.header.skew p.header.lateness;
+  held = length p.header.schema.keys * live_bound p.header.shape p.header.clock.skew p.header.clock.lateness;
 }

@@ -181,7 +181,7 @@ known_fields f (t ∷ ts) = known_field f t.type ∷ known_fields (suc f) ts
 
 -- what instructions may push, where what ACC pushes is given
 abbrev pub ranges_with : Program → List Known → Ranges
-ranges_with p accumulators = record { fields = known_fields 0 p.header.schema.fields; count = interval (pos 1) p.header.records; accumulators = accumulators }
+ranges_with p accumulators = record { fields = known_fields 0 p.header.schema.fields; count = interval (pos 1) p.header.clock.records; accumulators = accumulators }
 
 -- in WHERE and UPDATE, where ACC may not stand
 abbrev pub ranges_of_record : Program → Ranges
@@ -222,7 +222,7 @@ update_visits p = visits (entry p) (ranges_of_record p) p.update
 
 -- the range of accumulator a; None where it is no accumulator of numbers
 abbrev pub range : Program → ℕ → Option Interval
-range p a = and_then (λ k. and_then (accumulated p.header.records k) (values_folded a (update_visits p))) (slice_get p.header.kinds a)
+range p a = and_then (λ k. and_then (accumulated p.header.clock.records k) (values_folded a (update_visits p))) (slice_get p.header.kinds a)
 
 abbrev pub known_range : Option Interval → Known
 known_range None = Truth
@@ -234,10 +234,10 @@ known_accumulators records a (k ∷ ks) vs = known_range (and_then (accumulated 
 
 -- in FIRE
 abbrev pub ranges_of_pane : Program → List Visit → Ranges
-ranges_of_pane p updated = ranges_with p (known_accumulators p.header.records 0 p.header.kinds updated)
+ranges_of_pane p updated = ranges_with p (known_accumulators p.header.clock.records 0 p.header.kinds updated)
 
 abbrev pub setting : Program → SectionId → Ranges → Setting
-setting p c r = record { section = c; kinds = p.header.kinds; records = p.header.records; ends = results p c; ranges = r; n = length (section p c) }
+setting p c r = record { section = c; kinds = p.header.kinds; records = p.header.clock.records; ends = results p c; ranges = r; n = length (section p c) }
 
 abbrev pub fault_in : Program → SectionId → Ranges → Option Rejection
 fault_in p c r = section_fault (setting p c r) (visits (entry p) r (section p c))

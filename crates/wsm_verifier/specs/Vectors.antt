@@ -45,10 +45,7 @@ abbrev program : Worked → Program
 program w = record {
   header = record {
     schema = record { keys = (97 ∷ []) ∷ (98 ∷ []) ∷ []; fields = map (λ t. record { name = []; type = t }) w.fields };
-    start = pos 0;
-    skew = pos 100;
-    lateness = w.lateness;
-    records = w.records;
+    clock = record { start = pos 0; skew = pos 100; lateness = w.lateness; records = w.records };
     shape = w.shape;
     mode = Accumulating;
     early = pos 0;

@@ -25,7 +25,7 @@ pub fn needed(alloc: Global, program: &Program) -> Result<Costs, AllocError>
     let per_pane = longest_path(alloc, program.section(SectionId::Fire))?;
     let header = program.header();
     let joining = join_steps(header.shape, header.kinds.len());
-    let live = live_bound(header.shape, header.skew, header.lateness);
+    let live = live_bound(header.shape, header.clock.skew, header.clock.lateness);
     Ok(Costs {
         per_record: selection + windows_of_a_record(header.shape) * update + joining,
         per_pane,

@@ -11,7 +11,7 @@ mod types;
 use crate::{Part, Rejection, Rule, Verified, verify};
 use std::alloc::Global;
 use std::test::Fail;
-use wsm_program::{CellType, Costs, Header, Instr, Operation, Program, SectionId};
+use wsm_program::{CellType, Clock, Costs, Header, Instr, Operation, Program, SectionId};
 use wsm_record::{Field, Form, Kind, Mode, Name, Schema, Ty};
 use wsm_windows::Shape;
 
@@ -89,10 +89,12 @@ fn program(alloc: Global, draft: Draft<'_>) -> Result<Program, Fail> {
     })?;
     let header = Header {
         schema: Schema::new(alloc, &keys, &fields)?,
-        start: 0,
-        skew: 100,
-        lateness: draft.lateness,
-        records: draft.records,
+        clock: Clock {
+            start: 0,
+            skew: 100,
+            lateness: draft.lateness,
+            records: draft.records,
+        },
         shape: draft.shape,
         mode: Mode::Accumulating,
         early: 0,

@@ -10,7 +10,7 @@ use crate::reading::schema::schema_of;
 use crate::reading::settings::{budget_of, form_of, kinds_of, mode_of, shape_of};
 use std::alloc::Global;
 use wsm_program::enums::name_count;
-use wsm_program::{DecodeRefusal, Header};
+use wsm_program::{Clock, DecodeRefusal, Header};
 use wsm_record::{CellType, Schema};
 
 #[tactic(auto, unfolding(crate::specs::Reading::header_at))]
@@ -34,10 +34,12 @@ pub(crate) fn header_of(alloc: Global, bytes: &[u8]) -> Result<(Header, &[u8]), 
     let (budget, rest) = budget_of(rest)?;
     let header = Header {
         schema,
-        start,
-        skew,
-        lateness,
-        records,
+        clock: Clock {
+            start,
+            skew,
+            lateness,
+            records,
+        },
         shape,
         mode,
         early,

@@ -20,10 +20,10 @@ pub(crate) fn put_header(out: &mut Vec<u8>, header: &Header) -> Result<(), Alloc
     out.extend_from_slice(MAGIC)?;
     put_u8(out, VERSION)?;
     put_schema(out, &header.schema)?;
-    put_i64(out, header.start)?;
-    put_i64(out, header.skew)?;
-    put_i64(out, header.lateness)?;
-    put_i64(out, header.records)?;
+    put_i64(out, header.clock.start)?;
+    put_i64(out, header.clock.skew)?;
+    put_i64(out, header.clock.lateness)?;
+    put_i64(out, header.clock.records)?;
     put_shape(out, header.shape)?;
     put_mode(out, header.mode)?;
     put_i64(out, header.early)?;

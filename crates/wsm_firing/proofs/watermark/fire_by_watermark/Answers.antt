@@ -33,8 +33,8 @@ use Rattle.wsm_firing.proofs.watermark.fire_by_watermark.Goals.{in-Some-watermar
 
 pub last_expired-expired-requires : goal.last_expired-expired-requires
 last_expired-expired-requires c =
-    let span : IsSpan c.header-header.result.now.lateness = subst (λ (h : Header). IsSpan h.lateness) (sym c.header-header.ensures.header) (lawful_programs.lawful c.program.result.now c.header-header.ensures.lawful).lateness in
-    let wait : SFits w64 c.header-header.result.now.lateness = fits_signed_from_abs w64 c.header-header.result.now.lateness (grind (arith, ints, span.low, span.high)) in
+    let span : IsSpan c.header-header.result.now.clock.lateness = subst (λ (h : Header). IsSpan h.clock.lateness) (sym c.header-header.ensures.header) (lawful_programs.lawful c.program.result.now c.header-header.ensures.lawful).lateness in
+    let wait : SFits w64 c.header-header.result.now.clock.lateness = fits_signed_from_abs w64 c.header-header.result.now.clock.lateness (grind (arith, ints, span.low, span.high)) in
     simp to_z-of_z span.low
 
 pub loop-init : goal.loop-init
@@ -48,10 +48,10 @@ loop-init c =
     let header : header_of c.header-header.result.now ≡ p.header = c.header-header.ensures.header ∙ ap (λ (p : Program). p.header) c.program.ensures.program in
     let late_fits : SFits w64 c.last_expired-expired.result = search rules in
     let new_fits : SFits w64 c.args.new = c.ranges.new in
-    let span : IsSpan c.header-header.result.now.lateness = subst (λ (h : Header). IsSpan h.lateness) (sym c.header-header.ensures.header) (lawful_programs.lawful c.program.result.now c.header-header.ensures.lawful).lateness in
-    let wait : SFits w64 c.header-header.result.now.lateness = fits_signed_from_abs w64 c.header-header.result.now.lateness (grind (arith, ints, span.low, span.high)) in
-    let by : new ≤ℤ (late +ℤ c.header-header.result.now.lateness) = simp to_z-of_z (simp to_z-of_z at c.last_expired-expired.ensures.expires) in
-    let expires : new ≤ℤ (late +ℤ q.clock.lateness) = subst (λ (h : Header). new ≤ℤ (late +ℤ h.lateness)) header by in
+    let span : IsSpan c.header-header.result.now.clock.lateness = subst (λ (h : Header). IsSpan h.clock.lateness) (sym c.header-header.ensures.header) (lawful_programs.lawful c.program.result.now c.header-header.ensures.lawful).lateness in
+    let wait : SFits w64 c.header-header.result.now.clock.lateness = fits_signed_from_abs w64 c.header-header.result.now.clock.lateness (grind (arith, ints, span.low, span.high)) in
+    let by : new ≤ℤ (late +ℤ c.header-header.result.now.clock.lateness) = simp to_z-of_z (simp to_z-of_z at c.last_expired-expired.ensures.expires) in
+    let expires : new ≤ℤ (late +ℤ q.clock.lateness) = subst (λ (h : Header). new ≤ℤ (late +ℤ h.clock.lateness)) header by in
     let found = place_found c.first_to_fire-next.result in
     let on : IsNextToFire late old new es 0 found = c.first_to_fire-next.ensures in
     let comes : ComesTo p room c.none-tally.result c.args.rows.now.items all all = simp to_z-of_z (first p room c.none-tally.result c.args.rows.now.items _ c.none-tally.ensures c.requires.empty c.requires.can.can) in
@@ -80,7 +80,7 @@ pane-requires c =
 
 pub watermark_kind-requires-clause-lateness : goal.watermark_kind-requires-clause-lateness
 watermark_kind-requires-clause-lateness c =
-    subst (λ (h : Header). IsSpan h.lateness) (sym c.header-header.ensures.header) (lawful_programs.lawful c.program.result.now c.header-header.ensures.lawful).lateness
+    subst (λ (h : Header). IsSpan h.clock.lateness) (sym c.header-header.ensures.header) (lawful_programs.lawful c.program.result.now c.header-header.ensures.lawful).lateness
 
 pub watermark_kind-requires-clause-placed : goal.watermark_kind-requires-clause-placed
 watermark_kind-requires-clause-placed c =
@@ -121,7 +121,7 @@ fire-requires-clause-can c =
     let at : slice_get now i ≡ Some e = entry_found new now i spot.place (map.entries_sorted c.loop.held.panes) due c.pane.result c.pane.ensures in
     let there = as_it_was (plan_of p) q kind es now i e so_far sorted at in
     let header : header_of c.header-header.result.now ≡ p.header = c.header-header.ensures.header ∙ ap (λ (p : Program). p.header) c.program.ensures.program in
-    let is : c.watermark_kind.result ≡ kind e.0 e.1 = c.watermark_kind.ensures q (ap (λ (h : Header). h.mode) (sym header)) (ap (λ (h : Header). h.lateness) (sym header)) in
+    let is : c.watermark_kind.result ≡ kind e.0 e.1 = c.watermark_kind.ensures q (ap (λ (h : Header). h.mode) (sym header)) (ap (λ (h : Header). h.clock.lateness) (sym header)) in
     let left : List (Fired (List Value)) = fires q kind (drop (i + 1) es) in
     λ h found.
     let same : c.pane.result ≡ h = some_same (sym c.pane.ensures ∙ found) in
@@ -145,7 +145,7 @@ next_to_fire-next-requires-clause-there c =
     let at : slice_get now i ≡ Some e = entry_found new now i spot.place (map.entries_sorted c.loop.held.panes) due c.pane.result c.pane.ensures in
     let there = as_it_was (plan_of p) q kind es now i e so_far sorted at in
     let header : header_of c.header-header.result.now ≡ p.header = c.header-header.ensures.header ∙ ap (λ (p : Program). p.header) c.program.ensures.program in
-    let is : c.watermark_kind.result ≡ kind e.0 e.1 = c.watermark_kind.ensures q (ap (λ (h : Header). h.mode) (sym header)) (ap (λ (h : Header). h.lateness) (sym header)) in
+    let is : c.watermark_kind.result ≡ kind e.0 e.1 = c.watermark_kind.ensures q (ap (λ (h : Header). h.mode) (sym header)) (ap (λ (h : Header). h.clock.lateness) (sym header)) in
     let left : List (Fired (List Value)) = fires q kind (drop (i + 1) es) in
     let fired : entries_of c.match-watermark_kind.held ≡ fired_first (plan_of p) q kind (i + 1) es =
     elim c.match-watermark_kind.branch [
@@ -168,7 +168,7 @@ loop-preserved c =
     let at : slice_get now i ≡ Some e = entry_found new now i spot.place (map.entries_sorted c.loop.held.panes) due c.pane.result c.pane.ensures in
     let there = as_it_was (plan_of p) q kind es now i e so_far sorted at in
     let header : header_of c.header-header.result.now ≡ p.header = c.header-header.ensures.header ∙ ap (λ (p : Program). p.header) c.program.ensures.program in
-    let is : c.watermark_kind.result ≡ kind e.0 e.1 = c.watermark_kind.ensures q (ap (λ (h : Header). h.mode) (sym header)) (ap (λ (h : Header). h.lateness) (sym header)) in
+    let is : c.watermark_kind.result ≡ kind e.0 e.1 = c.watermark_kind.ensures q (ap (λ (h : Header). h.mode) (sym header)) (ap (λ (h : Header). h.clock.lateness) (sym header)) in
     let left : List (Fired (List Value)) = fires q kind (drop (i + 1) es) in
     let fired : entries_of c.match-watermark_kind.held ≡ fired_first (plan_of p) q kind (i + 1) es =
     elim c.match-watermark_kind.branch [
@@ -181,10 +181,10 @@ loop-preserved c =
     let late : ℤ = to_z w64 (of_z w64 c.last_expired-expired.result) in
     let late_fits : SFits w64 c.last_expired-expired.result = search rules in
     let new_fits : SFits w64 c.args.new = c.ranges.new in
-    let span : IsSpan c.header-header.result.now.lateness = subst (λ (h : Header). IsSpan h.lateness) (sym c.header-header.ensures.header) (lawful_programs.lawful c.program.result.now c.header-header.ensures.lawful).lateness in
-    let wait : SFits w64 c.header-header.result.now.lateness = fits_signed_from_abs w64 c.header-header.result.now.lateness (grind (arith, ints, span.low, span.high)) in
-    let by : new ≤ℤ (late +ℤ c.header-header.result.now.lateness) = simp to_z-of_z (simp to_z-of_z at c.last_expired-expired.ensures.expires) in
-    let expires : new ≤ℤ (late +ℤ q.clock.lateness) = subst (λ (h : Header). new ≤ℤ (late +ℤ h.lateness)) header by in
+    let span : IsSpan c.header-header.result.now.clock.lateness = subst (λ (h : Header). IsSpan h.clock.lateness) (sym c.header-header.ensures.header) (lawful_programs.lawful c.program.result.now c.header-header.ensures.lawful).lateness in
+    let wait : SFits w64 c.header-header.result.now.clock.lateness = fits_signed_from_abs w64 c.header-header.result.now.clock.lateness (grind (arith, ints, span.low, span.high)) in
+    let by : new ≤ℤ (late +ℤ c.header-header.result.now.clock.lateness) = simp to_z-of_z (simp to_z-of_z at c.last_expired-expired.ensures.expires) in
+    let expires : new ≤ℤ (late +ℤ q.clock.lateness) = subst (λ (h : Header). new ≤ℤ (late +ℤ h.clock.lateness)) header by in
     let found = place_found c.next_to_fire-next.result in
     let on : IsNextToFire late old new then (i + 1) found = c.next_to_fire-next.ensures i here.0 here.1 in
     let onward : i + 1 ≤ on.at = on.onward in

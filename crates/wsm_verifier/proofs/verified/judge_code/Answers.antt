@@ -14,7 +14,7 @@ accumulator_ranges-requires-clause-long c =
 pub accumulator_ranges-requires-clause-stay : goal.accumulator_ranges-requires-clause-stay
 accumulator_ranges-requires-clause-stay c =
     let kinds : c.deref.result.now ≡ c.args.program.now.header.kinds = search rules in
-    let records : to_z w64 (of_z w64 c.header-header.result.now.records) ≡ c.args.program.now.header.records = search rules in
+    let records : to_z w64 (of_z w64 c.header-header.result.now.clock.records) ≡ c.args.program.now.header.clock.records = search rules in
     let read : c.in_ok-of_record.of_record ≡ ranges_of_record c.args.program.now = c.in_ok-of_record.ensures ∙ ap (ranges_with c.args.program.now) c.new.ensures.items in
     let folded : c.deref-2.result.now ≡ folded_from 0 c.args.program.now.header.kinds (update_visits c.args.program.now) = search rules in
     let passed : fault_in c.args.program.now Update (ranges_of_record c.args.program.now) ≡ None = subst (λ r. fault_in c.args.program.now Update r ≡ None) read c.in_ok-folded.ensures.passed in
@@ -26,7 +26,7 @@ returns-in_err-judge_in-2-clause-refused c =
     let selected : fault_in c.args.program.now Where (ranges_of_record c.args.program.now) ≡ None = subst (λ r. fault_in c.args.program.now Where r ≡ None) read c.in_ok-judge_in.ensures.passed in
     let updated : fault_in c.args.program.now Update (ranges_of_record c.args.program.now) ≡ None = subst (λ r. fault_in c.args.program.now Update r ≡ None) read c.in_ok-folded.ensures.passed in
     let ranges : c.deref-3.result.now ≡ ranges_of c.args.program.now = search rules in
-    let known : c.in_ok-of_pane.of_pane ≡ ranges_of_pane c.args.program.now (update_visits c.args.program.now) = c.in_ok-of_pane.ensures ∙ ap (ranges_with c.args.program.now) (c.in_ok-known_ranges.ensures ∙ ap (map known_range) ranges ∙ known_each c.args.program.now.header.records 0 c.args.program.now.header.kinds (update_visits c.args.program.now)) in
+    let known : c.in_ok-of_pane.of_pane ≡ ranges_of_pane c.args.program.now (update_visits c.args.program.now) = c.in_ok-of_pane.ensures ∙ ap (ranges_with c.args.program.now) (c.in_ok-known_ranges.ensures ∙ ap (map known_range) ranges ∙ known_each c.args.program.now.header.clock.records 0 c.args.program.now.header.kinds (update_visits c.args.program.now)) in
     let same = code_passed c.args.program.now selected updated ∙ ap (fault_in c.args.program.now Fire) (sym known) in
     refused_by c.from_residual-in_err-judge_in-2.result c.in_err-judge_in-2.field-0.0 _ _ c.from_residual-in_err-judge_in-2.ensures.1 (sym same) c.in_err-judge_in-2.ensures.refused
 
@@ -36,5 +36,5 @@ returns-clause-passed c =
     let selected : fault_in c.args.program.now Where (ranges_of_record c.args.program.now) ≡ None = subst (λ r. fault_in c.args.program.now Where r ≡ None) read c.in_ok-judge_in.ensures.passed in
     let updated : fault_in c.args.program.now Update (ranges_of_record c.args.program.now) ≡ None = subst (λ r. fault_in c.args.program.now Update r ≡ None) read c.in_ok-folded.ensures.passed in
     let ranges : c.deref-3.result.now ≡ ranges_of c.args.program.now = search rules in
-    let known : c.in_ok-of_pane.of_pane ≡ ranges_of_pane c.args.program.now (update_visits c.args.program.now) = c.in_ok-of_pane.ensures ∙ ap (ranges_with c.args.program.now) (c.in_ok-known_ranges.ensures ∙ ap (map known_range) ranges ∙ known_each c.args.program.now.header.records 0 c.args.program.now.header.kinds (update_visits c.args.program.now)) in
+    let known : c.in_ok-of_pane.of_pane ≡ ranges_of_pane c.args.program.now (update_visits c.args.program.now) = c.in_ok-of_pane.ensures ∙ ap (ranges_with c.args.program.now) (c.in_ok-known_ranges.ensures ∙ ap (map known_range) ranges ∙ known_each c.args.program.now.header.clock.records 0 c.args.program.now.header.kinds (update_visits c.args.program.now)) in
     code_passed c.args.program.now selected updated ∙ subst (λ r. fault_in c.args.program.now Fire r ≡ None) known c.in_ok-judge_in-2.ensures.passed

@@ -1,7 +1,7 @@
 use Rattle.std.proofs.Common.{[], refl, ap, ◌∙◌}
 use Rattle.wsm_admission.specs.Admission as admission
 use Rattle.wsm_program.specs.Program.{Program}
-use Rattle.wsm_machine.specs.Meaning.{clock_of, query_of}
+use Rattle.wsm_machine.specs.Meaning.{query_of}
 use Rattle.wsm_engine.proofs.Limits.{clock_within}
 use Rattle.wsm_engine.proofs.engine.Engine.open.Goals as goal
 
@@ -14,7 +14,7 @@ invariant_of-result c = record {
   history = (
     [],
     record {
-      clock = ap (λ (s : admission.State). s.clock) c.new-admission.ensures.opened ∙ c.clock.ensures ∙ ap (λ (p : Program). clock_of p.header) c.program.ensures.program;
+      clock = ap (λ (s : admission.State). s.clock) c.new-admission.ensures.opened ∙ c.clock.ensures ∙ ap (λ (p : Program). p.header.clock) c.program.ensures.program;
       admission = c.new-admission.ensures.fits (query_of c.args.verified).declared;
       panes = c.in-Ok.ensures.panes;
       relation = λ _. c.in-Ok.ensures.relation;

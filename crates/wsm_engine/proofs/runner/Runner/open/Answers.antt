@@ -15,10 +15,10 @@ pub live_bound-live-requires-clause-shape : goal.live_bound-live-requires-clause
 live_bound-live-requires-clause-shape c = (lawful_seen c.program.result.now (header_of c.header-header.result.now) c.header-header.ensures.header c.header-header.ensures.lawful).shape
 
 pub live_bound-live-requires-clause-skew : goal.live_bound-live-requires-clause-skew
-live_bound-live-requires-clause-skew c = span_seen c.header-header.result.now.skew (lawful_seen c.program.result.now (header_of c.header-header.result.now) c.header-header.ensures.header c.header-header.ensures.lawful).skew
+live_bound-live-requires-clause-skew c = span_seen c.header-header.result.now.clock.skew (lawful_seen c.program.result.now (header_of c.header-header.result.now) c.header-header.ensures.header c.header-header.ensures.lawful).skew
 
 pub live_bound-live-requires-clause-lateness : goal.live_bound-live-requires-clause-lateness
-live_bound-live-requires-clause-lateness c = span_seen c.header-header.result.now.lateness (lawful_seen c.program.result.now (header_of c.header-header.result.now) c.header-header.ensures.header c.header-header.ensures.lawful).lateness
+live_bound-live-requires-clause-lateness c = span_seen c.header-header.result.now.clock.lateness (lawful_seen c.program.result.now (header_of c.header-header.result.now) c.header-header.ensures.header c.header-header.ensures.lawful).lateness
 
 pub open-requires-2-clause-shape : goal.open-requires-2-clause-shape
 open-requires-2-clause-shape c = (lawful_seen c.program.result.now (header_of c.header-header.result.now) c.header-header.ensures.header c.header-header.ensures.lawful).shape
@@ -29,8 +29,8 @@ overflow_mul-room c =
     let h = header_of c.header-header.result.now in
     let same = c.header-header.ensures.header ∙ ap (λ (q : Program). q.header) c.program.ensures.program in
     let is = lawful_seen c.program.result.now h c.header-header.ensures.header c.header-header.ensures.lawful in
-    let skew : SFits w64 h.skew = fits_signed_from_abs w64 h.skew (omega (arith, ints, is.skew.low, is.skew.high)) in
-    let lateness : SFits w64 h.lateness = fits_signed_from_abs w64 h.lateness (omega (arith, ints, is.lateness.low, is.lateness.high)) in
+    let skew : SFits w64 h.clock.skew = fits_signed_from_abs w64 h.clock.skew (omega (arith, ints, is.skew.low, is.skew.high)) in
+    let lateness : SFits w64 h.clock.lateness = fits_signed_from_abs w64 h.clock.lateness (omega (arith, ints, is.lateness.low, is.lateness.high)) in
     let few = room_few p c.program.ensures.accepted (subst (λ (q : Program). IsTrue (is_program q)) c.program.ensures.program c.header-header.ensures.lawful) h same c.key_count-keys.result c.live_bound-live.result c.key_count-keys.ensures.count (simp to_z-of_z at c.live_bound-live.ensures.bound) in
     omega (arith, few)
 
@@ -40,8 +40,8 @@ open-requires-2-clause-room c =
     let h = header_of c.header-header.result.now in
     let same = c.header-header.ensures.header ∙ ap (λ (q : Program). q.header) c.program.ensures.program in
     let is = lawful_seen c.program.result.now h c.header-header.ensures.header c.header-header.ensures.lawful in
-    let skew : SFits w64 h.skew = fits_signed_from_abs w64 h.skew (omega (arith, ints, is.skew.low, is.skew.high)) in
-    let lateness : SFits w64 h.lateness = fits_signed_from_abs w64 h.lateness (omega (arith, ints, is.lateness.low, is.lateness.high)) in
+    let skew : SFits w64 h.clock.skew = fits_signed_from_abs w64 h.clock.skew (omega (arith, ints, is.skew.low, is.skew.high)) in
+    let lateness : SFits w64 h.clock.lateness = fits_signed_from_abs w64 h.clock.lateness (omega (arith, ints, is.lateness.low, is.lateness.high)) in
     let few = room_few p c.program.ensures.accepted (subst (λ (q : Program). IsTrue (is_program q)) c.program.ensures.program c.header-header.ensures.lawful) h same c.key_count-keys.result c.live_bound-live.result c.key_count-keys.ensures.count (simp to_z-of_z at c.live_bound-live.ensures.bound) in
     omega (arith, few)
 
@@ -51,8 +51,8 @@ open-requires-3 c =
     let h = header_of c.header-header.result.now in
     let same = c.header-header.ensures.header ∙ ap (λ (q : Program). q.header) c.program.ensures.program in
     let is = lawful_seen c.program.result.now h c.header-header.ensures.header c.header-header.ensures.lawful in
-    let skew : SFits w64 h.skew = fits_signed_from_abs w64 h.skew (omega (arith, ints, is.skew.low, is.skew.high)) in
-    let lateness : SFits w64 h.lateness = fits_signed_from_abs w64 h.lateness (omega (arith, ints, is.lateness.low, is.lateness.high)) in
+    let skew : SFits w64 h.clock.skew = fits_signed_from_abs w64 h.clock.skew (omega (arith, ints, is.skew.low, is.skew.high)) in
+    let lateness : SFits w64 h.clock.lateness = fits_signed_from_abs w64 h.clock.lateness (omega (arith, ints, is.lateness.low, is.lateness.high)) in
     let few = room_few p c.program.ensures.accepted (subst (λ (q : Program). IsTrue (is_program q)) c.program.ensures.program c.header-header.ensures.lawful) h same c.key_count-keys.result c.live_bound-live.result c.key_count-keys.ensures.count (simp to_z-of_z at c.live_bound-live.ensures.bound) in
     omega (arith, few)
 

@@ -65,22 +65,22 @@ pub overflow_sub-limit : goal.overflow_sub-limit
 overflow_sub-limit c =
     let p = c.args.verified.now in
     let new : SFits w64 c.args.new = c.ranges.new in
-    let late : c.header.result.now.lateness ≡ p.header.lateness = ap (λ (h : Header). h.lateness) (c.header.ensures.header ∙ ap (λ (q : Program). q.header) c.program.ensures.program) in
+    let late : c.header.result.now.clock.lateness ≡ p.header.clock.lateness = ap (λ (h : Header). h.clock.lateness) (c.header.ensures.header ∙ ap (λ (q : Program). q.header) c.program.ensures.program) in
     let span = (lawful p c.requires.program.lawful).lateness in
     let mark = a_mark p c.requires.comes.0 c.args.self.now c.requires.program c.args.old c.args.new c.requires.comes.1 in
-    let lateness : SFits w64 c.header.result.now.lateness = fits_signed_from_abs w64 c.header.result.now.lateness (rw late (omega (arith, ints, span.low, span.high))) in
-    simp to_z-of_z (rw late (fits_signed_from_abs w64 (c.args.new -ℤ p.header.lateness) (grind (arith, ints, mark.low, mark.high, span.low, span.high))))
+    let lateness : SFits w64 c.header.result.now.clock.lateness = fits_signed_from_abs w64 c.header.result.now.clock.lateness (rw late (omega (arith, ints, span.low, span.high))) in
+    simp to_z-of_z (rw late (fits_signed_from_abs w64 (c.args.new -ℤ p.header.clock.lateness) (grind (arith, ints, mark.low, mark.high, span.low, span.high))))
 
 pub returns-clause-panes : goal.returns-clause-panes
 returns-clause-panes c =
     let p = c.args.verified.now in
     let old : SFits w64 c.args.old = c.ranges.old in
     let new : SFits w64 c.args.new = c.ranges.new in
-    let late : c.header.result.now.lateness ≡ p.header.lateness = ap (λ (h : Header). h.lateness) (c.header.ensures.header ∙ ap (λ (q : Program). q.header) c.program.ensures.program) in
+    let late : c.header.result.now.clock.lateness ≡ p.header.clock.lateness = ap (λ (h : Header). h.clock.lateness) (c.header.ensures.header ∙ ap (λ (q : Program). q.header) c.program.ensures.program) in
     let span = (lawful p c.requires.program.lawful).lateness in
     let mark = a_mark p c.requires.comes.0 c.args.self.now c.requires.program c.args.old c.args.new c.requires.comes.1 in
-    let lateness : SFits w64 p.header.lateness = fits_signed_from_abs w64 p.header.lateness (omega (arith, ints, span.low, span.high)) in
-    let limit : SFits w64 (c.args.new -ℤ p.header.lateness) = fits_signed_from_abs w64 (c.args.new -ℤ p.header.lateness) (grind (arith, ints, mark.low, mark.high, span.low, span.high)) in
+    let lateness : SFits w64 p.header.clock.lateness = fits_signed_from_abs w64 p.header.clock.lateness (omega (arith, ints, span.low, span.high)) in
+    let limit : SFits w64 (c.args.new -ℤ p.header.clock.lateness) = fits_signed_from_abs w64 (c.args.new -ℤ p.header.clock.lateness) (grind (arith, ints, mark.low, mark.high, span.low, span.high)) in
     let panes : entries_of c.fire_by_watermark-tally.new.held ≡ at_watermark (plan_of p) (query_of p) c.args.old c.args.new (entries_of c.args.self.now.held) = simp to_z-of_z at c.fire_by_watermark-tally.ensures.panes in
     (simp to_z-of_z at (rw late at c.drop_expired.ensures.panes))
     ∙ drops_are (query_of p) c.args.new (entries_of c.fire_by_watermark-tally.new.held)
