@@ -25,9 +25,12 @@ standing_by NoRow row = standing.Row None
 standing_by FiredRow row = standing.Row (Some row)
 standing_by Joined row = standing.Joined
 
+abbrev pub place_by : Head → Place
+place_by h = record { end = h.end; start = h.start; key = h.key }
+
 abbrev pub entry_by : Head → List Value → List Value → Option (Place × Pane (List Value))
 entry_by h folds row =
-    if h.is_held then Some (h.place, record { count = h.count; unshown = h.unshown; folded = folded_by h.is_folded folds; stands = standing_by h.stands row }) else None
+    if h.is_held then Some (place_by h, record { count = h.count; unshown = h.unshown; folded = folded_by h.is_folded folds; stands = standing_by h.stands row }) else None
 
 -- the entries of slots whose panes have so many accumulators and so many columns
 abbrev pub entries_by : ℕ → ℕ → List Head → List Value → List Value → List (Option (Place × Pane (List Value)))
@@ -67,7 +70,7 @@ folded_on is_folded kinds held row = if is_folded then joins kinds held row else
 
 -- a pane of one record
 abbrev pub head_of_one : Place → Head
-head_of_one place = record { place = place; count = 1; unshown = 1; is_held = true; is_folded = true; stands = Unfired }
+head_of_one place = record { end = place.end; start = place.start; count = 1; unshown = 1; key = place.key; is_held = true; is_folded = true; stands = Unfired }
 
 abbrev pub head_with_one_more : Head → Head
 head_with_one_more h = record h { count = h.count + 1; unshown = h.unshown + 1; is_folded = true }

@@ -1,7 +1,7 @@
 //! What a slot has beside the values of its pane.
 
 ghost use Rattle.std.specs.Prelude.{◌≡◌, ◌+◌, ◌<◌, ◌^◌, true, false, pos, if◌then◌else◌};
-ghost use Rattle.wsm_panes.specs.Layout.{head_of_one, head_fired, head_with_one_more};
+ghost use Rattle.wsm_panes.specs.Layout.{head_of_one, head_fired, head_with_one_more, place_by};
 
 use wsm_record::Mode;
 use wsm_semantics::Place;
@@ -22,9 +22,13 @@ pub(crate) enum Stands {
 /// What a slot has of its entry, if there is one, beside the values.
 #[derive(Clone, Copy, Debug)]
 pub(crate) struct Head {
-    pub(crate) place: Place,
+    // Of its window, in event time.
+    end: i64,
+    start: i64,
     pub(crate) count: u64,
     pub(crate) unshown: u64,
+    // The number of its key.
+    key: u16,
     // Whether there is an entry.
     pub(crate) is_held: bool,
     // Whether there are records that the next firing is computed over.
@@ -38,13 +42,11 @@ impl Head {
         ensures { result.is_held ≡ false }
     {
         Head {
-            place: Place {
-                end: 0,
-                start: 0,
-                key: 0,
-            },
+            end: 0,
+            start: 0,
             count: 0,
             unshown: 0,
+            key: 0,
             is_held: false,
             is_folded: false,
             stands: Stands::Unfired,
@@ -56,12 +58,25 @@ impl Head {
         ensures { result ≡ head_of_one place }
     {
         Head {
-            place,
+            end: place.end,
+            start: place.start,
             count: 1,
             unshown: 1,
+            key: place.key,
             is_held: true,
             is_folded: true,
             stands: Stands::Unfired,
+        }
+    }
+
+    /// The place of its entry.
+    pub(crate) fn place(&self) -> Place
+        ensures { result ≡ place_by self.now }
+    {
+        Place {
+            end: self.end,
+            start: self.start,
+            key: self.key,
         }
     }
 
@@ -91,3 +106,6 @@ impl Head {
         };
     }
 }
+
+// There may be a head for each of very many panes.
+const _: () = prove!(size_of::<Head>() == 40);

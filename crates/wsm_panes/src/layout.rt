@@ -70,7 +70,11 @@ impl Slots {
         ensures { result ≡ option_map (λ e. e.0) (slot_at self.now.slots slot) }
     {
         let head = &self.heads[slot];
-        if head.is_held { Some(head.place) } else { None }
+        if head.is_held {
+            Some(head.place())
+        } else {
+            None
+        }
     }
 
     /// The pane in a slot.
