@@ -18,10 +18,10 @@ ghost use Rattle.wsm_engine.specs.Runner.{Comes, IsAt, IsOf, widths_of, entering
 
 use std::alloc::{AllocError, Global};
 use wsm_admission::{Admitted, Refusal};
-use wsm_program::Header;
 use wsm_firing::{Streams, Tally, drop_expired, enter, fire_by_record, fire_by_watermark};
 use wsm_machine::{Inputs, Machine};
 use wsm_panes::{HeldPanes, Widths};
+use wsm_program::Header;
 use wsm_record::{Event, Kind, Value};
 use wsm_semantics::OutRow;
 use wsm_verifier::Verified;
