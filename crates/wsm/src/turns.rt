@@ -1,19 +1,18 @@
 //! The turns of a run.
 
-ghost use Rattle.std.specs.Prelude.{◌≡◌, ◌++◌, Some, OnOk, map};
-ghost use Rattle.wsm_semantics.specs.Lines.{Out, refusal_lines};
-ghost use Rattle.wsm_record.specs.Schema.{Declared};
-ghost use Rattle.wsm_semantics.specs.Text.{lines_text};
+ghost use Rattle.std.specs.Prelude.{◌≡◌, ◌++◌, Some, OnOk};
+ghost use Rattle.wsm_semantics.specs.Lines.{refusal_lines};
+ghost use Rattle.wsm_semantics.specs.Text.{Names, lines_text};
 
+use crate::columns::add_rows;
 use csv::ByteRecord;
 use std::alloc::{AllocError, Global};
 use wsm_admission::Refusal;
 use wsm_csv::{
-    Device, DeviceFault, RowRefusal, end_text, fault_text, read_row_with, refusal_text, row_text, write_out,
+    Device, DeviceFault, RowRefusal, end_text, fault_text, read_row_with, refusal_text, write_out,
 };
 use wsm_engine::{Engine, Totals};
-use wsm_record::{Event, RowFault, Schema, Value};
-use wsm_semantics::OutRow;
+use wsm_record::{Event, RowFault, Value};
 use wsm_verifier::Verified;
 
 /// What the turns so far come to: an engine, and the lines of the last turn.
@@ -96,7 +95,7 @@ impl Turns {
     {
         let reply = self.engine.feed(event);
         add_refusal(self.rows, reply.refusal, &mut self.lines)?;
-        add_rows(self.engine.schema(), self.engine.rows(), &mut self.lines)?;
+        add_rows(self.engine.program(), self.engine.rows(), &mut self.lines)?;
         Ok(())
     }
 
@@ -145,19 +144,9 @@ impl Turns {
     }
 }
 
-// Adds a line for each row.
-fn add_rows(schema: &Schema, rows: &[OutRow], lines: &mut Vec<u8>) -> Result<(), AllocError>
-    ensures { OnOk result (lines.new.items ≡ lines.old.items ++ lines_text schema.now (map Out rows.now)) }
-{
-    for row in rows {
-        row_text(schema, row, lines)?;
-    }
-    Ok(())
-}
-
 // Adds the line of a refusal, if there is one.
 fn add_refusal(row: u64, refusal: Option<Refusal>, lines: &mut Vec<u8>) -> Result<(), AllocError>
-    ensures { (declared : Declared) → OnOk result (lines.new.items ≡ lines.old.items ++ lines_text declared (refusal_lines row refusal)) }
+    ensures { (names : Names) → OnOk result (lines.new.items ≡ lines.old.items ++ lines_text names (refusal_lines row refusal)) }
 {
     match refusal {
         Some(why) => add_reason(row, why, lines),
@@ -167,7 +156,7 @@ fn add_refusal(row: u64, refusal: Option<Refusal>, lines: &mut Vec<u8>) -> Resul
 
 // Adds the line of a refusal; a late record has none.
 fn add_reason(row: u64, why: Refusal, lines: &mut Vec<u8>) -> Result<(), AllocError>
-    ensures { (declared : Declared) → OnOk result (lines.new.items ≡ lines.old.items ++ lines_text declared (refusal_lines row (Some why))) }
+    ensures { (names : Names) → OnOk result (lines.new.items ≡ lines.old.items ++ lines_text names (refusal_lines row (Some why))) }
 {
     match why {
         Refusal::Late => Ok(()),

@@ -4,48 +4,53 @@
 //! call adds one line to a buffer; after a refusal of memory the buffer has what it had, and perhaps
 //! a beginning of the line.
 
-ghost use Rattle.std.specs.Prelude.{◌≡◌, ◌≤◌, ◌+◌, ◌++◌, ◌∷◌, [], List, codes, drop, length, map, option_map, unwrap_or, OnOk};
+ghost use Rattle.std.specs.Prelude.{◌≡◌, ◌≤◌, ◌+◌, ◌++◌, ◌∷◌, [], List, codes, drop, length, map, slice_index_or, OnOk};
 ghost use Rattle.std.specs.Fmt.{decimal, signed_decimal};
-ghost use Rattle.wsm_record.specs.Schema.{Declared};
 ghost use Rattle.wsm_semantics.specs.Lines.{Out, Faulty, Refused, End};
 ghost use Rattle.wsm_semantics.specs.Text as text;
-ghost use Rattle.wsm_csv.specs.Lines.{cells_text};
+ghost use Rattle.wsm_csv.specs.Lines.{cells_text, column_names, names_of};
 
 use itoa::{Buffer, write_digits};
 use std::alloc::AllocError;
 use wsm_admission::Refusal;
-use wsm_record::{Cell, Columns, Names, RowFault, Schema};
-use wsm_semantics::{OutRow, Totals};
+use wsm_record::{Names, RowFault, Schema, Value};
+use wsm_semantics::{Columns, OutRow, Totals};
 use wsm_windows::{PaneKind, Window};
 
 // The most bytes of a comma and a number behind it, with its sign.
 const CELL: usize = 21;
 
-/// Adds the line of a row. A number that stands for no name is an empty cell.
-pub fn row_text(schema: &Schema, row: &OutRow, out: &mut Vec<u8>) -> Result<(), AllocError>
-    ensures { OnOk result (out.new.items ≡ out.old.items ++ text.line_text schema.now (Out row.now)) }
+/// Adds the line of a row. `columns` has for each column the names that its numbers stand for, or
+/// none; a number that stands for no name is an empty cell.
+pub fn row_text(
+    schema: &Schema,
+    columns: &[Option<&Names>],
+    row: &OutRow,
+    out: &mut Vec<u8>,
+) -> Result<(), AllocError>
+    ensures { OnOk result (out.new.items ≡ out.old.items ++ text.line_text (names_of schema.now columns.now) (Out row.now)) }
 {
-    add_row(schema, row, out)?;
+    add_row(schema, columns, row, out)?;
     end_line(out)
 }
 
 /// Adds the line of a row that is no event.
 pub fn fault_text(row: u64, why: RowFault, out: &mut Vec<u8>) -> Result<(), AllocError>
-    ensures { (declared : Declared) → OnOk result (out.new.items ≡ out.old.items ++ text.line_text declared (Faulty row why)) }
+    ensures { (names : text.Names) → OnOk result (out.new.items ≡ out.old.items ++ text.line_text names (Faulty row why)) }
 {
     add_refused(row, fault_word(why), out)
 }
 
 /// Adds the line of a row whose event is refused.
 pub fn refusal_text(row: u64, why: Refusal, out: &mut Vec<u8>) -> Result<(), AllocError>
-    ensures { (declared : Declared) → OnOk result (out.new.items ≡ out.old.items ++ text.line_text declared (Refused row why)) }
+    ensures { (names : text.Names) → OnOk result (out.new.items ≡ out.old.items ++ text.line_text names (Refused row why)) }
 {
     add_refused(row, refusal_word(why), out)
 }
 
 /// Adds the last line.
 pub fn end_text(totals: Totals, out: &mut Vec<u8>) -> Result<(), AllocError>
-    ensures { (declared : Declared) → OnOk result (out.new.items ≡ out.old.items ++ text.line_text declared (End totals.rows totals.admitted totals.late totals.refused totals.panes)) }
+    ensures { (names : text.Names) → OnOk result (out.new.items ≡ out.old.items ++ text.line_text names (End totals.rows totals.admitted totals.late totals.refused totals.panes)) }
 {
     out.extend_from_slice(b"end")?;
     add_count(totals.rows, out)?;
@@ -57,22 +62,36 @@ pub fn end_text(totals: Totals, out: &mut Vec<u8>) -> Result<(), AllocError>
 }
 
 // The cells of a row.
-fn add_row(schema: &Schema, row: &OutRow, out: &mut Vec<u8>) -> Result<(), AllocError>
-    ensures { OnOk result (out.new.items ≡ out.old.items ++ text.joined (text.row_cells schema.now row.now)) }
+fn add_row(
+    schema: &Schema,
+    columns: &[Option<&Names>],
+    row: &OutRow,
+    out: &mut Vec<u8>,
+) -> Result<(), AllocError>
+    ensures { OnOk result (out.new.items ≡ out.old.items ++ text.joined (text.row_cells (names_of schema.now columns.now) row.now)) }
 {
     match row {
         OutRow::Pane {
             kind,
             key,
             window,
-            columns,
+            columns: values,
         } => {
             add_pane(schema, *kind, *key, *window, out)?;
-            add_columns(schema, columns.as_slice(), out)
+            add_values(columns, values.as_slice(), out)
         }
-        OutRow::Istream { mark, columns } => add_stream(schema, b"istream", *mark, columns, out),
-        OutRow::Dstream { mark, columns } => add_stream(schema, b"dstream", *mark, columns, out),
-        OutRow::Rstream { mark, columns } => add_stream(schema, b"rstream", *mark, columns, out),
+        OutRow::Istream {
+            mark,
+            columns: values,
+        } => add_stream(b"istream", *mark, columns, values, out),
+        OutRow::Dstream {
+            mark,
+            columns: values,
+        } => add_stream(b"dstream", *mark, columns, values, out),
+        OutRow::Rstream {
+            mark,
+            columns: values,
+        } => add_stream(b"rstream", *mark, columns, values, out),
     }
 }
 
@@ -103,17 +122,17 @@ fn add_window(window: Window, out: &mut Vec<u8>) -> Result<(), AllocError>
 
 // The cells of a row of a stream.
 fn add_stream(
-    schema: &Schema,
     word: &[u8],
     mark: i64,
-    columns: &Columns,
+    columns: &[Option<&Names>],
+    values: &Columns,
     out: &mut Vec<u8>,
 ) -> Result<(), AllocError>
-    ensures { OnOk result (out.new.items ≡ out.old.items ++ (word.now ++ cells_text (signed_decimal mark ∷ map (text.cell_text schema.now) columns.now))) }
+    ensures { OnOk result (out.new.items ≡ out.old.items ++ (word.now ++ cells_text (signed_decimal mark ∷ text.value_texts (map column_names columns.now) values.now))) }
 {
     out.extend_from_slice(word)?;
     add_number(mark, out)?;
-    add_columns(schema, columns.as_slice(), out)
+    add_values(columns, values.as_slice(), out)
 }
 
 // The line of a refused row, with the word of its refusal.
@@ -126,24 +145,28 @@ fn add_refused(row: u64, word: &[u8], out: &mut Vec<u8>) -> Result<(), AllocErro
     end_line(out)
 }
 
-// The cells of columns.
-fn add_columns(schema: &Schema, columns: &[Cell], out: &mut Vec<u8>) -> Result<(), AllocError>
-    ensures { OnOk result (out.new.items ≡ out.old.items ++ cells_text (map (text.cell_text schema.now) columns.now)) }
+// A cell for each value of a row.
+fn add_values(
+    columns: &[Option<&Names>],
+    values: &[Value],
+    out: &mut Vec<u8>,
+) -> Result<(), AllocError>
+    ensures { OnOk result (out.new.items ≡ out.old.items ++ cells_text (text.value_texts (map column_names columns.now) values.now)) }
 {
-    for column in columns {
-        add_column(schema, *column, out)?;
+    for (place, value) in values.iter().enumerate() {
+        add_value(names_at(columns, place), *value, out)?;
     }
     Ok(())
 }
 
-fn add_column(schema: &Schema, column: Cell, out: &mut Vec<u8>) -> Result<(), AllocError>
-    ensures { OnOk result (out.new.items ≡ out.old.items ++ 44 ∷ text.cell_text schema.now column) }
+fn add_value(names: Option<&Names>, value: Value, out: &mut Vec<u8>) -> Result<(), AllocError>
+    ensures { OnOk result (out.new.items ≡ out.old.items ++ 44 ∷ text.value_text (column_names names.entry) value) }
 {
-    match column {
-        Cell::Int(number) => add_number(number, out),
-        Cell::Bool(true) => add_cell(b"true", out),
-        Cell::Bool(false) => add_cell(b"false", out),
-        Cell::Enum(number, name) => add_cell(name_text(schema.enum_names(number), name), out),
+    match value {
+        Value::Int(number) => add_number(number, out),
+        Value::Bool(true) => add_cell(b"true", out),
+        Value::Bool(false) => add_cell(b"false", out),
+        Value::Enum(number) => add_cell(name_text(names, number), out),
     }
 }
 
@@ -204,9 +227,20 @@ fn end_line(out: &mut Vec<u8>) -> Result<(), AllocError>
     Ok(out.push(b'\n')?)
 }
 
+// The names that the numbers of a column stand for.
+fn names_at<'a>(columns: &[Option<&'a Names>], place: usize) -> Option<&'a Names>
+    ensures { column_names result ≡ slice_index_or (map column_names columns.now) place [] }
+{
+    if place < columns.len() {
+        columns[place]
+    } else {
+        None
+    }
+}
+
 // The name that a number stands for, or no byte.
 fn name_text<'a>(names: Option<&'a Names>, number: u16) -> &'a [u8]
-    ensures { result.now ≡ text.name_at (unwrap_or (option_map (λ names. names.now) names.entry) []) number }
+    ensures { result.now ≡ text.name_at (column_names names.entry) number }
 {
     match names {
         Some(names) if (number as usize) < names.len() => names.text_of(number),

@@ -21,8 +21,7 @@ use crate::tally::Tally;
 use wsm_machine::Machine;
 use wsm_panes::{HeldPanes, Spot};
 use wsm_record::Form;
-use wsm_record::Columns;
-use wsm_semantics::OutRow;
+use wsm_semantics::{Columns, OutRow};
 use wsm_verifier::Verified;
 use wsm_windows::{PaneKind, Window};
 

@@ -11,6 +11,7 @@
 //! run executes at most as many instructions as its section has. No run takes memory.
 #![tactic(auto)]
 
+pub use cell::Cell;
 pub use folds::Folds;
 pub use inputs::Inputs;
 pub use machine::{Fired, Kept, Machine, Updated};

@@ -1,7 +1,6 @@
 -- Slots as three lists: of each slot a head, the values that its pane is folded to, and those of the row that stands for it.
 use Rattle.std.specs.Prelude.{◌≡◌, ℕ, ◌+◌, ◌*◌, ◌≤◌, Bool, true, false, List, [], ◌∷◌, ◌++◌, ◌<◌, take, drop, length, Option, Some, None, if◌then◌else◌}
 use Rattle.wsm_record.specs.declared.event.Value.{Value}
-use Rattle.wsm_record.specs.declared.cell.Cell.{Cell}
 use Rattle.wsm_record.specs.declared.words.Kind.{Kind}
 use Rattle.wsm_record.specs.declared.words.Mode.{Mode}
 use Rattle.wsm_record.specs.declared.words.Mode.TheVariants.{Discarding, Accumulating}
@@ -20,7 +19,7 @@ use Rattle.wsm_panes.specs.declared.widths.Widths.{Widths}
 abbrev pub folded_by : Bool → List Value → Option (List Value)
 folded_by is_folded folds = if is_folded then Some folds else None
 
-abbrev pub standing_by : Stands → List Cell → Standing
+abbrev pub standing_by : Stands → List Value → Standing
 standing_by Unfired row = standing.Unfired
 standing_by NoRow row = standing.Row None
 standing_by FiredRow row = standing.Row (Some row)
@@ -29,12 +28,12 @@ standing_by Joined row = standing.Joined
 abbrev pub place_by : Head → Place
 place_by h = record { end = h.end; start = h.start; key = h.key }
 
-abbrev pub entry_by : Head → List Value → List Cell → Option (Place × Pane (List Value))
+abbrev pub entry_by : Head → List Value → List Value → Option (Place × Pane (List Value))
 entry_by h folds row =
     if h.is_held then Some (place_by h, record { count = h.count; unshown = h.unshown; folded = folded_by h.is_folded folds; stands = standing_by h.stands row }) else None
 
 -- the entries of slots whose panes have so many accumulators and so many columns
-abbrev pub entries_by : ℕ → ℕ → List Head → List Value → List Cell → List (Option (Place × Pane (List Value)))
+abbrev pub entries_by : ℕ → ℕ → List Head → List Value → List Value → List (Option (Place × Pane (List Value)))
 entries_by w c [] folds rows = []
 entries_by w c (h ∷ hs) folds rows = entry_by h (take w folds) (take c rows) ∷ entries_by w c hs (drop w folds) (drop c rows)
 
@@ -44,21 +43,21 @@ pub record Slotted : Type 0 where
   pub slots : List (Option (Place × Pane (List Value)))
 
 -- there are as many values as the slots have together
-pub record IsLaidOut (w : Widths) (heads : List Head) (folds : List Value) (rows : List Cell) : Type 0 where
+pub record IsLaidOut (w : Widths) (heads : List Head) (folds rows : List Value) : Type 0 where
   pub few : w.columns ≤ 16
   pub of_folds : length folds ≡ length heads * w.accumulators
   pub of_rows : length rows ≡ length heads * w.columns
 
 -- the values of a slot, among those of slots that have so many each
-abbrev pub part_at : {A : Type 0} → ℕ → ℕ → List A → List A
+abbrev pub part_at : ℕ → ℕ → List Value → List Value
 part_at i w xs = take w (drop (i * w) xs)
 
 -- with others in their place
-abbrev pub with_part : {A : Type 0} → ℕ → ℕ → List A → List A → List A
+abbrev pub with_part : ℕ → ℕ → List Value → List Value → List Value
 with_part i w xs ys = take (i * w) xs ++ (ys ++ drop w (drop (i * w) xs))
 
 -- a slot is one of those that there are values of
-pub record HasPart {A : Type 0} (i w : ℕ) (xs : List A) : Type 0 where
+pub record HasPart (i w : ℕ) (xs : List Value) : Type 0 where
   pub count : ℕ
   pub within : i < count
   pub size : length xs ≡ count * w

@@ -1,10 +1,10 @@
 -- Where the values of a row lie that is read.
 use Rattle.std.specs.Prelude.{◌≤◌, List, length}
-use Rattle.wsm_record.specs.declared.cell.Cell.{Cell}
+use Rattle.wsm_record.specs.declared.event.Value.{Value}
 use Rattle.wsm_panes.specs.declared.view.RowView.{RowView}
 use Rattle.wsm_panes.specs.declared.view.RowView.TheVariants.{Whole, Part}
 
-abbrev pub row_seen : RowView → List Cell
+abbrev pub row_seen : RowView → List Value
 row_seen (Whole columns) = columns.now
 row_seen (Part values) = values.now
 

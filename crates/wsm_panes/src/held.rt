@@ -27,8 +27,8 @@ use crate::widths::Widths;
 use std::alloc::{AllocError, Global};
 use std::marker::Model;
 use wsm_record::limits::{MAX_ACCUMULATORS, MAX_COLUMNS, MAX_PANES};
-use wsm_record::{Columns, Kind, Mode, Value};
-use wsm_semantics::Place;
+use wsm_record::{Kind, Mode, Value};
+use wsm_semantics::{Columns, Place};
 use wsm_sessions::Sessions;
 use wsm_windows::{Shape, Window};
 

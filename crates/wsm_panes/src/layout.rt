@@ -14,8 +14,8 @@ use crate::widths::Widths;
 use std::alloc::{AllocError, Global};
 use std::marker::Model;
 use wsm_fold::fold_into;
-use wsm_record::{Cell, Columns, Kind, Mode, Value};
-use wsm_semantics::Place;
+use wsm_record::{Kind, Mode, Value};
+use wsm_semantics::{Columns, Place};
 
 /// Slots, each of which is free or has a place with its pane. The values of all panes lie beside one
 /// another, as many for each as it has accumulators and columns. A clause sees the entries.
@@ -24,7 +24,7 @@ pub(crate) struct Slots {
     widths: Widths,
     heads: Vec<Head>,
     folds: Vec<Value>,
-    rows: Vec<Cell>,
+    rows: Vec<Value>,
 }
 
 impl Model for Slots {
@@ -53,7 +53,7 @@ impl Slots {
             widths,
             heads: copies(alloc, Head::free(), count)?,
             folds: copies(alloc, Value::Int(0), count * widths.accumulators)?,
-            rows: copies(alloc, Cell::default(), count * widths.columns)?,
+            rows: copies(alloc, Value::Int(0), count * widths.columns)?,
         })
     }
 
@@ -143,7 +143,7 @@ impl Slots {
 }
 
 // The values of a slot, among those of slots that have so many each.
-fn part<T: Copy>(values: &[T], slot: usize, width: usize) -> &[T]
+fn part(values: &[Value], slot: usize, width: usize) -> &[Value]
     requires { HasPart slot width values.now }
     ensures { result.now ≡ part_at slot width values.now }
 {
@@ -152,7 +152,7 @@ fn part<T: Copy>(values: &[T], slot: usize, width: usize) -> &[T]
 }
 
 // Writes the values of a slot, among those of slots that have as many each.
-fn write_part<T: Copy>(values: &mut [T], slot: usize, part: &[T])
+fn write_part(values: &mut [Value], slot: usize, part: &[Value])
     requires { HasPart slot (length part.now) values.old }
     ensures { values.new ≡ with_part slot (length part.now) values.old part.now }
 {

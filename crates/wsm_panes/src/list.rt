@@ -21,8 +21,8 @@ use crate::view::PaneView;
 use std::alloc::{AllocError, Global};
 use std::cmp::Ordering;
 use std::marker::Model;
-use wsm_record::{Columns, Kind, Mode, Value};
-use wsm_semantics::Place;
+use wsm_record::{Kind, Mode, Value};
+use wsm_semantics::{Columns, Place};
 
 /// A table kept as a sorted list of places, each with the slot of its pane: a place is found by
 /// binary search, and a new one moves those behind it. Panes stay in their slots.

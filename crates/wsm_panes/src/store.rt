@@ -9,7 +9,8 @@ ghost use Rattle.wsm_panes.specs.Stored.{listed, same, unowned};
 use crate::pane::Pane;
 use crate::recording::TakesRecords;
 use std::alloc::{AllocError, Global};
-use wsm_record::{Columns, Kind, Mode, Value};
+use wsm_record::{Kind, Mode, Value};
+use wsm_semantics::Columns;
 
 /// Panes in slots that are numbered from 0 on. The slot of a pane that is gone is free for another.
 #[derive(Drop)]

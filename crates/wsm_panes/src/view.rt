@@ -6,7 +6,8 @@ ghost use Rattle.wsm_panes.specs.View.{IsFew, row_seen};
 
 use crate::head::Stands;
 use std::marker::Model;
-use wsm_record::{Cell, Columns, Value};
+use wsm_record::Value;
+use wsm_semantics::Columns;
 
 /// Where the values of a row lie.
 #[derive(Clone, Copy, Debug)]
@@ -14,7 +15,7 @@ pub(crate) enum RowView<'a> {
     /// In columns of their own.
     Whole(&'a Columns),
     /// Among those of other rows.
-    Part(&'a [Cell]),
+    Part(&'a [Value]),
 }
 
 /// A pane that is held, as it is read where it lies. A clause sees how many records it has, how many
@@ -90,18 +91,18 @@ fn row_columns(row: &RowView<'_>) -> Columns
 {
     match row {
         RowView::Whole(columns) => **columns,
-        RowView::Part(cells) => columns_of(cells),
+        RowView::Part(values) => columns_of(values),
     }
 }
 
 // A row of these values.
-fn columns_of(cells: &[Cell]) -> Columns
-    requires { length cells.now ≤ 16 }
-    ensures { result ≡ cells.now }
+fn columns_of(values: &[Value]) -> Columns
+    requires { length values.now ≤ 16 }
+    ensures { result ≡ values.now }
 {
     let mut columns = Columns::new();
-    for cell in cells {
-        columns.push(*cell);
+    for value in values {
+        columns.push(*value);
     }
     columns
 }

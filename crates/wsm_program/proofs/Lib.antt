@@ -1,3 +1,4 @@
+pub mod NamesOf
 pub mod Within
 pub mod Lawful
 pub mod Stating

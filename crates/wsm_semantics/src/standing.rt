@@ -1,6 +1,6 @@
 //! What stands for a pane.
 
-use wsm_record::Columns;
+use crate::columns::Columns;
 
 /// The row that stands for a pane in the relation.
 #[derive(Clone, Copy, Debug)]

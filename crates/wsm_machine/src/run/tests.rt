@@ -1,8 +1,9 @@
+use super::*;
+use crate::cell::Cell;
 use std::process::Abort;
 use std::test::Fail;
-use super::*;
 use wsm_bytecode::decode;
-use wsm_record::{Cell, Value};
+use wsm_record::Value;
 
 // The format's base program as far as its sections: keys a and b, an INT field n, one SUM, two INT
 // columns.
