@@ -4,7 +4,7 @@ use Rattle.wsm_panes.specs.Place.{place_cmp}
 use Rattle.wsm_panes.specs.Stored.{shown}
 use Rattle.wsm_panes.proofs.Tables.{get_is}
 use Rattle.wsm_panes.proofs.StoredEdits.{is_in_order}
-use Rattle.wsm_panes.proofs.list.ListTable.get.Goals as goal
+use Rattle.wsm_panes.proofs.list.ListTablePaneTable.get.Goals as goal
 
 pub returns : goal.returns
 returns g c =
