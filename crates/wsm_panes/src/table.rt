@@ -34,7 +34,8 @@ pub trait PaneTable<P: TakesRecords> {
 
     /// The pane at a place, if one is there.
     fn get(&self, place: Place) -> Option<P>
-        ensures { result ≡ map.get (panes self.now) place };
+        ensures pane { result ≡ map.get (panes self.now) place }
+        ensures holds { IfSome result (Holds (room self.now)) };
 
     /// Whether a pane can be set at a place.
     fn admits(&self, place: Place) -> bool

@@ -13,5 +13,5 @@ returns-then-len-self g c =
 pub returns-else-len-self : goal.returns-else-len-self
 returns-else-len-self g c =
     let room : c.self.inside.room ≡ c.args.self.now.room = ap (λ t. t.room) c.self.view_is in
-    let there : c.is_some.result ≡ map.contains_key c.args.self.now.panes c.args.place = c.is_some.ensures ∙ ap is_some c.get.ensures in
+    let there : c.is_some.result ≡ map.contains_key c.args.self.now.panes c.args.place = c.is_some.ensures ∙ ap is_some c.get.ensures.pane in
     (λ is. inl (sym there ∙ is), λ h. elim h [ inl is ↦ there ∙ is | inr less ↦ absurd (omega (arith, room)) ])

@@ -1,6 +1,7 @@
-use Rattle.std.proofs.Common.{Some, sym, ap, ◌∙◌}
+use Rattle.std.proofs.Common.{Some, sym, ap, subst, ◌∙◌}
 use Rattle.std.specs.Option.{is_some}
 use Rattle.std.specs.Prelude.{option_map}
+use Rattle.wsm_panes.specs.Layout.{IsAsWide}
 use Rattle.wsm_panes.specs.Ring.{pane_of, slot_at}
 use Rattle.wsm_panes.proofs.Own.{is_none_of, own_entry}
 use Rattle.wsm_panes.proofs.Placed.{get_in, pane_here}
@@ -11,8 +12,12 @@ pane-requires c =
     let os = c.self.inside.slots.slots in
     ap is_some (own_entry c.args.place (slot_at os c.slot-slot.result) (sym c.is_at.ensures ∙ c.if-is_at.true)).1
 
-pub returns-then-is_at : goal.returns-then-is_at
-returns-then-is_at c =
+pub returns-then-is_at-clause-holds : goal.returns-then-is_at-clause-holds
+returns-then-is_at-clause-holds c =
+    rw (← c.self.view_is) (subst (IsAsWide c.self.inside.slots.widths) (sym c.of_view.ensures) c.pane.ensures.wide)
+
+pub returns-then-is_at-clause-pane : goal.returns-then-is_at-clause-pane
+returns-then-is_at-clause-pane c =
     let a = c.self.inside in
     let os = a.slots.slots in
     let own = own_entry c.args.place (slot_at os c.slot-slot.result) (sym c.is_at.ensures ∙ c.if-is_at.true) in
@@ -22,8 +27,8 @@ returns-then-is_at c =
     ∙ ap (λ n. pane_of c.args.place (slot_at os n)) c.slot-slot.ensures
     ∙ sym (get_in a.ring os c.self.invariant.placed c.args.place))
 
-pub returns-else-is_at : goal.returns-else-is_at
-returns-else-is_at c =
+pub returns-else-is_at-clause-pane : goal.returns-else-is_at-clause-pane
+returns-else-is_at-clause-pane c =
     let a = c.self.inside in
     let os = a.slots.slots in
     rw (← c.self.view_is) (
