@@ -83,11 +83,12 @@ pub(crate) fn fit(kinds: &[Kind], ends: &[Known], instr: Instr, stack: &[Known])
         Instr::Operate(operation) => have_types(operation.operands(), stack),
         Instr::JumpIfFalse(_) => last_is_truth(stack),
         Instr::Fold(accumulator) => match kind_of(kinds, accumulator) {
+            Kind::Sum | Kind::Min | Kind::Max => last_is_number(stack),
             Kind::Any | Kind::All => last_is_truth(stack),
-            _ => last_is_number(stack),
         },
         Instr::Return => have_types_of(stack, ends),
-        _ => true,
+        Instr::PushInt(_) | Instr::PushBool(_) | Instr::PushEnum(..) | Instr::Field(_) => true,
+        Instr::Key | Instr::Acc(_) | Instr::Count | Instr::Jump(_) => true,
     }
 }
 
