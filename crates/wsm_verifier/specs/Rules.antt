@@ -13,7 +13,7 @@ use Rattle.wsm_program.specs.declared.SectionId.{SectionId}
 use Rattle.wsm_program.specs.declared.SectionId.TheVariants.{Where, Update, Fire}
 use Rattle.wsm_record.specs.declared.Kind.{Kind}
 use Rattle.wsm_record.specs.declared.Kind.TheVariants.{Sum, Min, Max, Any, All}
-use Rattle.wsm_record.specs.Schema.{FieldType, Int, Truth as IsTruth, Enum, DeclaredField}
+use Rattle.wsm_record.specs.Schema.{FieldType, Int, Truth as IsTruth, Enum, DeclaredField, is_i64}
 use Rattle.wsm_program.specs.declared.program.Costs.{Costs}
 use Rattle.wsm_record.specs.declared.words.CellType.{CellType}
 use Rattle.wsm_record.specs.declared.words.CellType.TheVariants as column
@@ -21,7 +21,7 @@ use Rattle.wsm_verifier.specs.declared.rejection.Rule.{Rule}
 use Rattle.wsm_verifier.specs.declared.rejection.Rule.TheVariants as rule
 use Rattle.wsm_verifier.specs.declared.rejection.Part.TheVariants.{Code, Budget}
 use Rattle.wsm_verifier.specs.declared.rejection.Rejection.{Rejection}
-use Rattle.wsm_interval.specs.Interval.{interval, hull, holds, in_i64}
+use Rattle.wsm_interval.specs.Interval.{interval, hull, holds}
 use Rattle.wsm_program.specs.Program.{Program, section}
 use Rattle.wsm_verifier.specs.declared.known.Known.{Known}
 use Rattle.wsm_verifier.specs.declared.known.Known.TheVariants.{Number, Truth, NameOf}
@@ -105,7 +105,7 @@ may_divide_by_zero _ s = false
 
 -- all records together could take a sum of such values out of 64 bits
 abbrev pub sum_leaves : ℤ → Kind → Known → Bool
-sum_leaves records Sum (Number x) = not (in_i64 (records *ℤ x.lo) && in_i64 (records *ℤ x.hi))
+sum_leaves records Sum (Number x) = not (is_i64 (records *ℤ x.lo) && is_i64 (records *ℤ x.hi))
 sum_leaves records _ x = false
 
 abbrev pub accumulator_leaves : ℤ → List Kind → Instr → List Known → Bool

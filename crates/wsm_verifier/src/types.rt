@@ -2,7 +2,7 @@
 //! of its list.
 
 ghost use Rattle.std.specs.Prelude.{◌≡◌, ◌*ℤ◌};
-ghost use Rattle.wsm_interval.specs.Interval.{in_i64};
+ghost use Rattle.wsm_record.specs.Schema.{is_i64};
 ghost use Rattle.wsm_verifier.specs.Labels as spec;
 ghost use Rattle.wsm_verifier.specs.Rules as rules;
 
@@ -127,7 +127,7 @@ fn sum_leaves(records: i64, kind: Kind, value: Known) -> bool
 
 // Whether a product has 64 bits.
 fn is_product_small(a: i64, b: i64) -> bool
-    ensures { result ≡ in_i64 (a *ℤ b) }
+    ensures { result ≡ is_i64 (a *ℤ b) }
 {
     a.checked_mul(b).is_some()
 }
