@@ -96,6 +96,8 @@ impl Slots {
     }
 
     /// Has a slot have a place with a pane of one record, which is folded by the values.
+    #[cold]
+    #[inline(never)]
     pub(crate) fn start(&mut self, slot: usize, place: Place, values: &[Value])
         requires slot { slot < length self.old.slots }
         requires wide { length values.now ≡ self.old.widths.accumulators }
