@@ -107,7 +107,7 @@ fn add_pane(schema: &Schema, kind: PaneKind, key: u16, out: &mut Vec<u8>) -> Res
     ensures { OnOk result (out.new.items ≡ out.old.items ++ (codes "pane" ++ cells_text (text.kind_word kind ∷ text.name_at schema.now.keys key ∷ []))) }
 {
     out.extend_from_slice(first_cells(kind))?;
-    add_cell(name_text(Some(schema.keys()), key), out)
+    out.extend_from_slice(name_text(Some(schema.keys()), key))
 }
 
 // The cells of a window and of the values behind it.
@@ -331,15 +331,15 @@ fn name_text<'a>(names: Option<&'a Names>, number: u16) -> &'a [u8]
     }
 }
 
-// The first cells of the row of a pane that fires so.
+// The first cells of the row of a pane that fires so, and a comma.
 fn first_cells(kind: PaneKind) -> &'static [u8]
-    ensures { result.now ≡ codes "pane" ++ 44 ∷ text.kind_word kind }
+    ensures { result.now ≡ codes "pane" ++ 44 ∷ text.kind_word kind ++ 44 ∷ [] }
 {
     match kind {
-        PaneKind::Early => b"pane,early",
-        PaneKind::OnTime => b"pane,on_time",
-        PaneKind::Late => b"pane,late",
-        PaneKind::Final => b"pane,final",
+        PaneKind::Early => b"pane,early,",
+        PaneKind::OnTime => b"pane,on_time,",
+        PaneKind::Late => b"pane,late,",
+        PaneKind::Final => b"pane,final,",
     }
 }
 
