@@ -228,6 +228,7 @@ fn add_refused(row: u64, word: &[u8], out: &mut Vec<u8>) -> Result<(), AllocErro
 }
 
 // A cell for each value of a row.
+#[inline(always)]
 fn add_values(
     columns: &[Option<&Names>],
     values: &[Value],
@@ -241,6 +242,7 @@ fn add_values(
     Ok(())
 }
 
+#[inline(never)]
 fn add_value(names: Option<&Names>, value: Value, out: &mut Vec<u8>) -> Result<(), AllocError>
     ensures { OnOk result (out.new.items ≡ out.old.items ++ 44 ∷ text.value_text (column_names names.entry) value) }
 {
