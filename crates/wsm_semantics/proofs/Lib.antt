@@ -39,6 +39,7 @@ pub mod HeldBound
 pub mod KeptPanes
 pub mod HeldContents
 pub mod RowsBound
+pub mod RecordWindows
 pub mod HeldLaw
 pub mod Bags
 pub mod PanesOrder
