@@ -2,14 +2,13 @@
 use Rattle.std.specs.Prelude.{◌≡◌, Bool, true, ◌&&◌, ◌++◌}
 use Rattle.std.specs.List.{list_all}
 use Rattle.wsm_record.specs.Name.{is_name}
-use Rattle.wsm_interval.specs.Interval.{in_i64}
-use Rattle.wsm_record.specs.Schema.{is_spelt_field}
+use Rattle.wsm_record.specs.Schema.{is_spelt_field, is_i64}
 use Rattle.wsm_query.specs.Tree.{Query, Expr, Number, Aggregate, If, Brackets, Minus, Not, Binary, And, Or}
 use Rattle.wsm_check.specs.Sizes.{in_option, fired}
 
 -- each number in an expression has 64 bits
 abbrev pub numbers_fit : Expr → Bool
-numbers_fit (Number n) = in_i64 n
+numbers_fit (Number n) = is_i64 n
 numbers_fit (Aggregate kind e) = numbers_fit e
 numbers_fit (If c x y) = numbers_fit c && (numbers_fit x && numbers_fit y)
 numbers_fit (Brackets e) = numbers_fit e

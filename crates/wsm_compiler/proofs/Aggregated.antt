@@ -4,7 +4,7 @@ use Rattle.std.specs.Prelude.{true, false, pos, slice_get}
 use Rattle.std.specs.List.{list_all, flat_map}
 use Rattle.wsm_record.specs.declared.event.Value.{Value}
 use Rattle.wsm_record.specs.declared.event.Value.TheVariants.{Bool as Truth'}
-use Rattle.wsm_interval.specs.Interval.{in_i64}
+use Rattle.wsm_record.specs.Schema.{is_i64}
 use Rattle.wsm_machine.specs.declared.cell.Cell.{Cell}
 use Rattle.wsm_query.specs.Tree.{Query, Expr, Number, Truth, Field, EnumName, Key, KeyName, Count, Aggregate, If, Brackets, Minus, Not, Binary, And, Or}
 use Rattle.wsm_check.specs.Types.{typed}
@@ -122,7 +122,7 @@ module _ (q : Query) (key : ℕ) (records : List (List Value)) (accs : List Valu
   -- ---- what FIRE leaves
 
   bounds_same : (a : ℕ) (e : Expr) → Hold q key records accs a (accumulators_of e) → in_bounds q pane a e ≡ in_bounds q all a e
-  bounds_same a e h = let s = same a e h in (λ i. cond (list_all in_i64 (s.1 i)) (s.0 i) None)
+  bounds_same a e h = let s = same a e h in (λ i. cond (list_all is_i64 (s.1 i)) (s.0 i) None)
 
   condition_same : (a : ℕ) (o : Option Expr) → Hold q key records accs a (in_condition o) → condition_value q pane a o ≡ condition_value q all a o
   condition_same a None h = refl

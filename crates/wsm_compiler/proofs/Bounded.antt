@@ -4,7 +4,7 @@ use Rattle.std.specs.List.{list_all}
 use Rattle.std.proofs.Math.Bool.{and_assoc}
 use Rattle.wsm_record.specs.declared.event.Value.{Value}
 use Rattle.wsm_record.specs.declared.event.Value.TheVariants.{Int, Bool as Truth', Enum}
-use Rattle.wsm_interval.specs.Interval.{in_i64}
+use Rattle.wsm_record.specs.Schema.{is_i64}
 use Rattle.wsm_query.specs.Tree.{Query, Expr, Number, Truth, Field, EnumName, Key, KeyName, Count, Aggregate, If, Brackets, Minus, Not, Binary, And, Or}
 use Rattle.wsm_check.specs.Sizes.{aggregates}
 use Rattle.wsm_compiler.specs.Meaning.{Scene, meaning_from, met_from, on_two, both, minus, negated, chosen, chosen_numbers, number_of}
@@ -15,11 +15,11 @@ abbrev given : Bool → Option Value → Option Value
 given b v = cond b v None
 
 abbrev fit : List ℤ → Bool
-fit ns = list_all in_i64 ns
+fit ns = list_all is_i64 ns
 
 fit-append : (ms ns : List ℤ) → fit (ms ++ ns) ≡ (fit ms && fit ns)
 fit-append [] ns = refl
-fit-append (m ∷ ms) ns = ap (λ b. in_i64 m && b) (fit-append ms ns) ∙ sym (and_assoc (in_i64 m) (fit ms) (fit ns))
+fit-append (m ∷ ms) ns = ap (λ b. is_i64 m && b) (fit-append ms ns) ∙ sym (and_assoc (is_i64 m) (fit ms) (fit ns))
 
 given_and_true : (b : Bool) (v : Option Value) → given (b && true) v ≡ given b v
 given_and_true true v = refl
@@ -28,7 +28,7 @@ given_and_true false v = refl
 -- a value alone
 kept_is : (v : Option Value) → kept v ≡ given (fit (number_of v)) v
 kept_is None = refl
-kept_is (Some (Int n)) = sym (given_and_true (in_i64 n) (Some (Int n)))
+kept_is (Some (Int n)) = sym (given_and_true (is_i64 n) (Some (Int n)))
 kept_is (Some (Truth' b)) = refl
 kept_is (Some (Enum i)) = refl
 

@@ -7,12 +7,12 @@ use Rattle.wsm_record.specs.declared.words.Kind.{Kind}
 use Rattle.wsm_record.specs.declared.words.Kind.TheVariants.{Sum, Min, Max, Any, All}
 use Rattle.wsm_record.specs.Name.{is_among}
 use Rattle.wsm_interval.specs.declared.interval.Interval.{Interval}
-use Rattle.wsm_interval.specs.Interval.{interval, in_i64}
+use Rattle.wsm_interval.specs.Interval.{interval}
 use Rattle.wsm_program.specs.declared.instr.Instr.TheVariants as instr
 use Rattle.wsm_program.specs.declared.operation.Operation.TheVariants as operation
 use Rattle.wsm_query.specs.declared.expr.Op.{Op}
 use Rattle.wsm_query.specs.declared.expr.Op.TheVariants.{Add, Sub, Mul, Div, Rem, Eq, Ne, Lt, Le, Gt, Ge}
-use Rattle.wsm_record.specs.Schema.{FieldType}
+use Rattle.wsm_record.specs.Schema.{FieldType, is_i64}
 use Rattle.wsm_record.specs.Schema as field_types
 use Rattle.wsm_query.specs.Tree.{Name, Query, Expr, Number, Truth, Field, EnumName, Key, KeyName, Count, Aggregate, If, Brackets, Minus, Not, Binary, And, Or}
 use Rattle.wsm_check.specs.Names.{field_names, field_place, type_of, names_of}
@@ -130,7 +130,7 @@ declared_suits f field_types.Truth = refl
 declared_suits f (field_types.Enum names) = refl
 
 sum_suits : (n : ℤ) (x : Interval) → suits types.Int (of_sum n x) ≡ true
-sum_suits n x = elim (in_i64 (n *ℤ x.lo) && in_i64 (n *ℤ x.hi)) as (λ b. suits types.Int (cond b (Within (interval (int_min x.lo (n *ℤ x.lo)) (int_max x.hi (n *ℤ x.hi)))) Unfit) ≡ true) [ true ↦ refl | false ↦ refl ]
+sum_suits n x = elim (is_i64 (n *ℤ x.lo) && is_i64 (n *ℤ x.hi)) as (λ b. suits types.Int (cond b (Within (interval (int_min x.lo (n *ℤ x.lo)) (int_max x.hi (n *ℤ x.hi)))) Unfit) ≡ true) [ true ↦ refl | false ↦ refl ]
 
 alike_suits : (r : Range) → suits types.Bool r ≡ true → suits types.Bool (no_number r r) ≡ true
 alike_suits Unfit h = refl

@@ -7,7 +7,8 @@ use Rattle.std.proofs.lemmas.Option.{same_Some}
 use Rattle.std.proofs.lemmas.Bool.{and_parts}
 use Rattle.wsm_record.specs.declared.words.Kind.{Kind}
 use Rattle.wsm_record.specs.declared.words.Kind.TheVariants.{Sum, Min, Max, Any, All}
-use Rattle.wsm_interval.specs.Interval.{interval, in_i64}
+use Rattle.wsm_interval.specs.Interval.{interval}
+use Rattle.wsm_record.specs.Schema.{is_i64}
 use Rattle.wsm_program.specs.declared.SectionId.TheVariants.{Fire}
 use Rattle.wsm_program.specs.declared.program.Costs.{Costs}
 use Rattle.wsm_query.specs.Tree.{Query, Expr}
@@ -37,7 +38,7 @@ aggregate_known : (n : ℤ) (kind : Kind) (r : Range) → suits (kind_type kind)
 aggregate_known n Sum Unfit h l = no l
 aggregate_known n Sum NoNumber h l = no h
 aggregate_known n Sum (Within x) h l =
-    elim (in_i64 (n *ℤ x.lo) && in_i64 (n *ℤ x.hi)) as
+    elim (is_i64 (n *ℤ x.lo) && is_i64 (n *ℤ x.hi)) as
     (λ a. fits (cond a (Within (interval (int_min x.lo (n *ℤ x.lo)) (int_max x.hi (n *ℤ x.hi)))) Unfit) ≡ true →
     Some (Number (interval (int_min x.lo (n *ℤ x.lo)) (int_max x.hi (n *ℤ x.hi)))) ≡ known_of (kind_type Sum) (cond a (Within (interval (int_min x.lo (n *ℤ x.lo)) (int_max x.hi (n *ℤ x.hi)))) Unfit)) [
       | true ↦ λ l. refl

@@ -7,7 +7,8 @@ use Rattle.std.proofs.lemmas.Bool.{and_parts}
 use Rattle.wsm_record.specs.declared.words.Kind.{Kind}
 use Rattle.wsm_record.specs.declared.words.Kind.TheVariants.{Sum, Min, Max, Any, All}
 use Rattle.wsm_interval.specs.declared.interval.Interval.{Interval}
-use Rattle.wsm_interval.specs.Interval.{interval, in_i64}
+use Rattle.wsm_interval.specs.Interval.{interval}
+use Rattle.wsm_record.specs.Schema.{is_i64}
 use Rattle.wsm_program.specs.declared.instr.Instr.{Instr}
 use Rattle.wsm_program.specs.declared.instr.Instr.TheVariants as instr
 use Rattle.wsm_program.specs.declared.operation.Operation.TheVariants as operation
@@ -140,7 +141,7 @@ value_of n Sum (Within x) h l = record {
   value = known.Number x;
   is = refl;
   interval = refl;
-  taken = elim (in_i64 (n *ℤ x.lo) && in_i64 (n *ℤ x.hi)) as (λ a. fits (cond a (Within (interval (int_min x.lo (n *ℤ x.lo)) (int_max x.hi (n *ℤ x.hi)))) Unfit) ≡ true → (true && not (not a)) ≡ true) [ true ↦ λ l. refl | false ↦ λ l. l ] l;
+  taken = elim (is_i64 (n *ℤ x.lo) && is_i64 (n *ℤ x.hi)) as (λ a. fits (cond a (Within (interval (int_min x.lo (n *ℤ x.lo)) (int_max x.hi (n *ℤ x.hi)))) Unfit) ≡ true → (true && not (not a)) ≡ true) [ true ↦ λ l. refl | false ↦ λ l. l ] l;
 }
 value_of n Min Unfit h l = no l
 value_of n Min NoNumber h l = no h

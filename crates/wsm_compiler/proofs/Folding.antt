@@ -6,7 +6,8 @@ use Rattle.std.specs.Int.{int_min, int_max}
 use Rattle.std.proofs.lemmas.Option.{same_Some}
 use Rattle.wsm_record.specs.declared.words.Kind.{Kind}
 use Rattle.wsm_record.specs.declared.words.Kind.TheVariants.{Sum, Min, Max, Any, All}
-use Rattle.wsm_interval.specs.Interval.{interval, in_i64}
+use Rattle.wsm_interval.specs.Interval.{interval}
+use Rattle.wsm_record.specs.Schema.{is_i64}
 use Rattle.wsm_program.specs.declared.instr.Instr.TheVariants.{Fold}
 use Rattle.wsm_program.specs.declared.SectionId.TheVariants.{Update}
 use Rattle.wsm_program.specs.declared.program.Costs.{Costs}
@@ -113,7 +114,7 @@ module _ (q : Query) (b : Costs) where
   fold_fits Sum Unfit s w h = refl
   fold_fits Sum NoNumber s w h = no h
   fold_fits Sum (Within x) s w h =
-      elim (in_i64 (q.records *ℤ x.lo) && in_i64 (q.records *ℤ x.hi)) as (λ a. or_behind (if_takes (true && not (not a)) s) (λ t. not w) ≡ not (fits (cond a (Within (interval (int_min x.lo (q.records *ℤ x.lo)) (int_max x.hi (q.records *ℤ x.hi)))) Unfit) && w)) [
+      elim (is_i64 (q.records *ℤ x.lo) && is_i64 (q.records *ℤ x.hi)) as (λ a. or_behind (if_takes (true && not (not a)) s) (λ t. not w) ≡ not (fits (cond a (Within (interval (int_min x.lo (q.records *ℤ x.lo)) (int_max x.hi (q.records *ℤ x.hi)))) Unfit) && w)) [
         | true ↦ refl
         | false ↦ refl
       ]

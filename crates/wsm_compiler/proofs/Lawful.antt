@@ -11,11 +11,10 @@ use Rattle.wsm_record.specs.declared.words.Form.TheVariants.{Panes, Istream, Dst
 use Rattle.wsm_record.specs.Name.{is_name, is_among, is_between}
 use Rattle.wsm_windows.specs.declared.window.Shape.{Shape}
 use Rattle.wsm_windows.specs.declared.window.Shape.TheVariants.{Fixed, Sliding, Session}
-use Rattle.wsm_interval.specs.Interval.{in_i64}
 use Rattle.wsm_program.specs.declared.instr.Instr.{Instr}
 use Rattle.wsm_program.specs.declared.program.Costs.{Costs}
 use Rattle.wsm_program.specs.Program.{Header, is_span, is_size, is_shape, is_form_of, is_column, is_clock, is_firing, is_row, is_budget, is_header, is_instr, is_section, is_program}
-use Rattle.wsm_record.specs.Schema.{FieldType, DeclaredField, is_name_list, is_field_type, is_field_after, are_fields_after, is_schema, is_within, is_spelt_type, is_spelt_field}
+use Rattle.wsm_record.specs.Schema.{FieldType, DeclaredField, is_name_list, is_field_type, is_field_after, are_fields_after, is_schema, is_within, is_i64, is_spelt_type, is_spelt_field}
 use Rattle.wsm_record.specs.Schema as field_types
 use Rattle.wsm_query.specs.Tree.{Name, Query, Expr, Number, Truth, Field, EnumName, Key, KeyName, Count, Aggregate, If, Brackets, Minus, Not, Binary, And, Or}
 use Rattle.wsm_check.specs.declared.refusal.CheckFault.TheVariants.{Duplicate, Limit}
@@ -45,8 +44,8 @@ use Rattle.wsm_check.proofs.Passing.{length-accumulators_of}
 
 type_listed : (p : Part) (ty : FieldType) → ty_refusal p ty ≡ None → is_spelt_type ty ≡ true → is_field_type ty ≡ true
 type_listed p (field_types.Int lo hi) h l =
-    let b = and_parts (in_i64 lo) (in_i64 hi) l in
-    and_from (in_i64 lo) (in_i64 hi && int_le lo hi) b.0 (and_from (in_i64 hi) (int_le lo hi) b.1 (unless_none (int_le lo hi) Limit p h))
+    let b = and_parts (is_i64 lo) (is_i64 hi) l in
+    and_from (is_i64 lo) (is_i64 hi && int_le lo hi) b.0 (and_from (is_i64 hi) (int_le lo hi) b.1 (unless_none (int_le lo hi) Limit p h))
 type_listed p field_types.Truth h l = refl
 type_listed p (field_types.Enum names) h l = names_listed p names h l
 

@@ -9,11 +9,10 @@ use Rattle.wsm_record.specs.declared.words.Kind.{Kind}
 use Rattle.wsm_record.specs.declared.words.Mode.TheVariants.{Discarding, Accumulating}
 use Rattle.wsm_record.specs.declared.words.Form.TheVariants.{Panes, Istream, Dstream, Rstream}
 use Rattle.wsm_record.specs.Name.{is_name}
-use Rattle.wsm_interval.specs.Interval.{in_i64}
 use Rattle.wsm_tokens.proofs.Proper.{tokens_are_proper}
 use Rattle.wsm_tokens.specs.Tokens.{Tokens, tokens}
 use Rattle.wsm_tokens.specs.Read.{Read, Rule, Took, Stopped, ◌>>=◌, give, and_then, unexpected, too_deep, begins, begins_number, behind, is_end, number, ended}
-use Rattle.wsm_record.specs.Schema.{FieldType, DeclaredField, is_spelt_type, is_spelt_field}
+use Rattle.wsm_record.specs.Schema.{FieldType, DeclaredField, is_spelt_type, is_spelt_field, is_i64}
 use Rattle.wsm_record.specs.Schema as field_types
 use Rattle.wsm_query.specs.Tree.{Name, Query, Expr, Number, Truth, Field, EnumName, Key, KeyName, Count, Aggregate, If, Brackets, Minus, Not}
 use Rattle.wsm_query.specs.Grammar as grammar
@@ -28,7 +27,7 @@ use Rattle.wsm_compiler.proofs.Rules.{Proper, Sound, Gives, Anything, behind_pro
 
 -- ---- numbers
 
-number_fits : (n : ℤ) → IsNumber n → in_i64 n ≡ true
+number_fits : (n : ℤ) → IsNumber n → is_i64 n ≡ true
 number_fits (pos n) h = and_from (int_le (negsuc 9223372036854775807) (pos n)) (int_le (pos n) (pos 9223372036854775807)) (above n) (below n h)
   where
     above : (n : ℕ) → int_le (negsuc 9223372036854775807) (pos n) ≡ true
@@ -38,7 +37,7 @@ number_fits (pos n) h = and_from (int_le (negsuc 9223372036854775807) (pos n)) (
     below n h = grind arith
 number_fits (negsuc n) h = absurd h
 
-minus_fits : (n : ℤ) → IsNumber n → in_i64 (neg_ℤ n) ≡ true
+minus_fits : (n : ℤ) → IsNumber n → is_i64 (neg_ℤ n) ≡ true
 minus_fits (pos zero) h = refl
 minus_fits (pos (suc n)) h = and_from (int_le (negsuc 9223372036854775807) (negsuc n)) (int_le (negsuc n) (pos 9223372036854775807)) (above n h) (below n)
   where
@@ -50,7 +49,7 @@ minus_fits (pos (suc n)) h = and_from (int_le (negsuc 9223372036854775807) (negs
 minus_fits (negsuc n) h = absurd h
 
 abbrev IsWord64 : ℤ → Type 0
-IsWord64 n = in_i64 n ≡ true
+IsWord64 n = is_i64 n ≡ true
 
 -- ---- expressions
 
@@ -236,7 +235,7 @@ IsSpeltType t = is_spelt_type t ≡ true
 types_are : Gives IsSpeltType type_of
 unfolding type_of
 types_are =
-    eithers (codes "INT") (goes_on ints_are (λ lo h. goes_on (afters (codes "..") ints_are) (λ hi l. gives IsSpeltType (field_types.Int lo hi) (and_from (in_i64 lo) (in_i64 hi) h l))))
+    eithers (codes "INT") (goes_on ints_are (λ lo h. goes_on (afters (codes "..") ints_are) (λ hi l. gives IsSpeltType (field_types.Int lo hi) (and_from (is_i64 lo) (is_i64 hi) h l))))
     (eithers (codes "BOOL") (gives IsSpeltType field_types.Truth refl)
     (afters (codes "ENUM") (afters (codes "(") (untils (codes ")") (goes_on name_lists (λ xs h. gives IsSpeltType (field_types.Enum xs) (pass_all is_name xs h)))))))
 

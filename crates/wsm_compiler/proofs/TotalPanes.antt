@@ -7,8 +7,8 @@ use Rattle.std.specs.Prelude.{pos, nat_lt}
 use Rattle.std.specs.List.{AllByRecursion, list_all}
 use Rattle.std.proofs.lemmas.Bool.{and_from, ltb-true, and_parts}
 use Rattle.wsm_record.specs.declared.event.Value.{Value}
-use Rattle.wsm_record.specs.Schema.{fit_fields}
-use Rattle.wsm_interval.specs.Interval.{interval, holds, in_i64}
+use Rattle.wsm_record.specs.Schema.{fit_fields, is_i64}
+use Rattle.wsm_interval.specs.Interval.{interval, holds}
 use Rattle.wsm_fold.specs.Laws.{joined_to}
 use Rattle.wsm_fold.specs.Fold.{joins, folds_of}
 use Rattle.wsm_program.specs.declared.instr.SectionId.TheVariants.{Fire}
@@ -61,7 +61,7 @@ module _ (q : Query) (key : ℕ) (records : List (List Value)) where
   s = on_records q key records
 
   bounds_free : (a : ℕ) (e : Expr) → in_bounds q s a e ≡ in_bounds q s 0 e
-  bounds_free a e = let f = free q key records a 0 e in (λ i. cond (list_all in_i64 (f.1 i)) (f.0 i) None)
+  bounds_free a e = let f = free q key records a 0 e in (λ i. cond (list_all is_i64 (f.1 i)) (f.0 i) None)
 
   condition_free : (a : ℕ) (o : Option Expr) → condition_value q s a o ≡ condition_value q s 0 o
   condition_free a None = refl

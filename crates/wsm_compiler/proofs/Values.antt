@@ -5,7 +5,7 @@ use Rattle.std.specs.Ordering.{int_eq}
 use Rattle.wsm_record.specs.declared.event.Value.{Value}
 use Rattle.wsm_record.specs.declared.event.Value.TheVariants.{Int, Bool as Truth', Enum}
 use Rattle.wsm_record.specs.Name.{is_among}
-use Rattle.wsm_interval.specs.Interval.{in_i64}
+use Rattle.wsm_record.specs.Schema.{is_i64}
 use Rattle.wsm_query.specs.declared.expr.Op.{Op}
 use Rattle.wsm_query.specs.declared.expr.Op.TheVariants.{Add, Sub, Mul, Div, Rem, Eq, Ne, Lt, Le, Gt, Ge}
 use Rattle.wsm_query.specs.Tree.{Query, Expr, Number, Truth, Field, EnumName, Key, KeyName, Count, Aggregate, If, Brackets, Minus, Not, Binary, And, Or}
@@ -50,7 +50,7 @@ if_kept n false = refl
 
 kept_has : (t : CellType) (o : Option Value) → of_ty t o ≡ true → of_ty t (kept o) ≡ true
 kept_has t None h = refl
-kept_has types.Int (Some (Int n)) h = if_kept n (in_i64 n)
+kept_has types.Int (Some (Int n)) h = if_kept n (is_i64 n)
 kept_has types.Bool (Some (Int n)) h = no h
 kept_has (types.Enum e) (Some (Int n)) h = no h
 kept_has t (Some (Truth' b)) h = h
@@ -130,7 +130,7 @@ at_type : (o : Option Value) (u t : CellType) → u ≡ t → of_ty u o ≡ true
 at_type o u t e h = subst (λ x. of_ty x o ≡ true) e h
 
 pub value_has : (c : Setting) (q : Query) (around : Around) (s : Scene) → Serves c q around s → (a : ℕ) (e : Expr) (t : CellType) → typed q around e ≡ Ok t → ServesAccs c around s a (accumulators_of e) → of_ty t (bounded_from q s a e) ≡ true
-value_has c q around s serves a (Number n) t h accs = at_type (bounded_from q s a (Number n)) types.Int t (ok_is _ t h) (if_kept n (in_i64 n))
+value_has c q around s serves a (Number n) t h accs = at_type (bounded_from q s a (Number n)) types.Int t (ok_is _ t h) (if_kept n (is_i64 n))
 value_has c q around s serves a (Truth b) t h accs = at_type (bounded_from q s a (Truth b)) types.Bool t (ok_is _ t h) refl
 value_has c q around s serves a (Field x) t h accs =
     let f = serves.field x t h in kept_has t (s.field (field_place q.fields x)) (ap (of_ty t) f.1 ∙ f.2)

@@ -2,7 +2,7 @@
 use Rattle.std.specs.Prelude.{◌≡◌, ℕ, ◌+◌, true, false, cond, Option, Some, None}
 use Rattle.wsm_record.specs.declared.event.Value.{Value}
 use Rattle.wsm_record.specs.declared.event.Value.TheVariants.{Int, Bool as Truth', Enum}
-use Rattle.wsm_interval.specs.Interval.{in_i64}
+use Rattle.wsm_record.specs.Schema.{is_i64}
 use Rattle.wsm_query.specs.Tree.{Query, Expr, If, Brackets, Minus, Not, Binary, And, Or}
 use Rattle.wsm_check.specs.Sizes.{aggregates}
 use Rattle.wsm_compiler.specs.Meaning.{Scene, meaning_from, meets_i64, on_two, both, minus, negated, chosen}
@@ -10,7 +10,7 @@ use Rattle.wsm_compiler.specs.Meaning.{Scene, meaning_from, meets_i64, on_two, b
 -- a value, unless it is a number outside 64 bits
 abbrev pub kept : Option Value → Option Value
 kept None = None
-kept (Some (Int n)) = cond (in_i64 n) (Some (Int n)) None
+kept (Some (Int n)) = cond (is_i64 n) (Some (Int n)) None
 kept (Some (Truth' b)) = Some (Truth' b)
 kept (Some (Enum i)) = Some (Enum i)
 

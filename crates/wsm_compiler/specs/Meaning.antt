@@ -6,7 +6,7 @@ use Rattle.std.specs.Ordering.{int_eq}
 use Rattle.wsm_record.specs.declared.event.Value.{Value}
 use Rattle.wsm_record.specs.declared.event.Value.TheVariants.{Int, Bool as Truth', Enum}
 use Rattle.wsm_record.specs.declared.words.Kind.{Kind}
-use Rattle.wsm_interval.specs.Interval.{in_i64}
+use Rattle.wsm_record.specs.Schema.{is_i64}
 use Rattle.wsm_fold.specs.Fold.{fold_of}
 use Rattle.wsm_query.specs.declared.expr.Op.{Op}
 use Rattle.wsm_query.specs.declared.expr.Op.TheVariants.{Add, Sub, Mul, Div, Rem, Eq, Ne, Lt, Le, Gt, Ge}
@@ -161,4 +161,4 @@ met_from q s a e = number_of (meaning_from q s a e)
 
 -- every number that the expression meets has 64 bits
 abbrev pub meets_i64 : Query → Scene → ℕ → Expr → Bool
-meets_i64 q s a e = list_all in_i64 (met_from q s a e)
+meets_i64 q s a e = list_all is_i64 (met_from q s a e)

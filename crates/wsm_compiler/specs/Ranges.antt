@@ -5,10 +5,10 @@ use Rattle.std.specs.Int.{int_min, int_max}
 use Rattle.wsm_record.specs.declared.words.Kind.{Kind}
 use Rattle.wsm_record.specs.declared.words.Kind.TheVariants.{Sum, Min, Max}
 use Rattle.wsm_interval.specs.declared.interval.Interval.{Interval}
-use Rattle.wsm_interval.specs.Interval.{interval, in_i64, add, sub, mul, div, rem, neg, hull}
+use Rattle.wsm_interval.specs.Interval.{interval, add, sub, mul, div, rem, neg, hull}
 use Rattle.wsm_query.specs.declared.expr.Op.{Op}
 use Rattle.wsm_query.specs.declared.expr.Op.TheVariants.{Add, Sub, Mul, Div, Rem}
-use Rattle.wsm_record.specs.Schema.{FieldType}
+use Rattle.wsm_record.specs.Schema.{FieldType, is_i64}
 use Rattle.wsm_record.specs.Schema as field_types
 use Rattle.wsm_query.specs.Tree.{Query, Expr, Number, Field, Count, Aggregate, If, Brackets, Minus, Not, Binary, And, Or}
 use Rattle.wsm_check.specs.Names.{type_of}
@@ -57,7 +57,7 @@ if_fits _ r = r
 -- the sum of at least one and at most n numbers of the interval, where n of them always stay in 64 bits
 abbrev pub of_sum : ℤ → Interval → Range
 of_sum n x =
-    cond (in_i64 (n *ℤ x.lo) && in_i64 (n *ℤ x.hi)) (Within (interval (int_min x.lo (n *ℤ x.lo)) (int_max x.hi (n *ℤ x.hi)))) Unfit
+    cond (is_i64 (n *ℤ x.lo) && is_i64 (n *ℤ x.hi)) (Within (interval (int_min x.lo (n *ℤ x.lo)) (int_max x.hi (n *ℤ x.hi)))) Unfit
 
 abbrev pub of_aggregate : ℤ → Kind → Range → Range
 of_aggregate n Sum (Within x) = of_sum n x

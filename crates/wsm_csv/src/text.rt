@@ -4,11 +4,12 @@
 //! call adds one line to a buffer; after a refusal of memory the buffer has what it had, and perhaps
 //! a beginning of the line.
 
-ghost use Rattle.std.specs.Prelude.{◌≡◌, ◌≤◌, ◌+◌, ◌++◌, ◌∷◌, [], List, codes, drop, length, map, slice_index_or, OnOk};
+ghost use Rattle.std.specs.Prelude.{◌≡◌, ◌≤◌, ◌+◌, ◌*◌, ◌++◌, ◌∷◌, [], List, true, codes, drop, length, map, slice_index_or, take, OnOk};
+ghost use Rattle.std.specs.List.{list_all};
 ghost use Rattle.std.specs.Fmt.{decimal, signed_decimal};
 ghost use Rattle.wsm_semantics.specs.Lines.{Out, Faulty, Refused, End};
 ghost use Rattle.wsm_semantics.specs.Text as text;
-ghost use Rattle.wsm_csv.specs.Lines.{cells_text, column_names, names_of};
+ghost use Rattle.wsm_csv.specs.Lines.{cells_text, column_names, is_a_number, names_of};
 
 use itoa::{Buffer, write_digits};
 use std::alloc::AllocError;
@@ -19,6 +20,12 @@ use wsm_windows::{PaneKind, Window};
 
 // The most bytes of a comma and a number behind it, with its sign.
 const CELL: usize = 21;
+
+// How many numbers of a row are written together with its window.
+const TOGETHER: usize = 4;
+
+// The most bytes of a window and those numbers.
+const CELLS: usize = (2 + TOGETHER) * CELL;
 
 /// Adds the line of a row. `columns` has for each column the names that its numbers stand for, or
 /// none; a number that stands for no name is an empty cell.
@@ -77,8 +84,8 @@ fn add_row(
             window,
             columns: values,
         } => {
-            add_pane(schema, *kind, *key, *window, out)?;
-            add_values(columns, values.as_slice(), out)
+            add_pane(schema, *kind, *key, out)?;
+            add_window(*window, columns, values.as_slice(), out)
         }
         OutRow::Istream {
             mark,
@@ -95,29 +102,104 @@ fn add_row(
     }
 }
 
-// The cells of a pane in front of its columns.
-fn add_pane(
-    schema: &Schema,
-    kind: PaneKind,
-    key: u16,
-    window: Window,
-    out: &mut Vec<u8>,
-) -> Result<(), AllocError>
-    ensures { OnOk result (out.new.items ≡ out.old.items ++ (codes "pane" ++ cells_text (text.kind_word kind ∷ text.name_at schema.now.keys key ∷ signed_decimal window.start ∷ signed_decimal window.end ∷ []))) }
+// The cells of a pane in front of its window.
+fn add_pane(schema: &Schema, kind: PaneKind, key: u16, out: &mut Vec<u8>) -> Result<(), AllocError>
+    ensures { OnOk result (out.new.items ≡ out.old.items ++ (codes "pane" ++ cells_text (text.kind_word kind ∷ text.name_at schema.now.keys key ∷ []))) }
 {
     out.extend_from_slice(first_cells(kind))?;
-    add_cell(name_text(Some(schema.keys()), key), out)?;
-    add_window(window, out)
+    out.extend_from_slice(name_text(Some(schema.keys()), key))
 }
 
-// The cells of a window.
-fn add_window(window: Window, out: &mut Vec<u8>) -> Result<(), AllocError>
-    ensures { OnOk result (out.new.items ≡ out.old.items ++ cells_text (signed_decimal window.start ∷ signed_decimal window.end ∷ [])) }
+// The cells of a window and of the values behind it.
+fn add_window(
+    window: Window,
+    columns: &[Option<&Names>],
+    values: &[Value],
+    out: &mut Vec<u8>,
+) -> Result<(), AllocError>
+    ensures { OnOk result (out.new.items ≡ out.old.items ++ cells_text (signed_decimal window.start ∷ signed_decimal window.end ∷ text.value_texts (map column_names columns.now) values.now)) }
 {
-    let mut cells = [0; 2 * CELL];
-    let end = write_cell(window.end, &mut cells, 2 * CELL);
+    let count = count_numbers(values);
+    add_numbers(window, &values[..count], out)?;
+    add_values(columns_behind(columns, count), &values[count..], out)
+}
+
+// The columns behind so many.
+fn columns_behind<'c, 'a>(columns: &'c [Option<&'a Names>], count: usize) -> &'c [Option<&'a Names>]
+    ensures { map column_names result.now ≡ drop count (map column_names columns.now) }
+{
+    if count < columns.len() {
+        &columns[count..]
+    } else {
+        &[]
+    }
+}
+
+// The cells of a window and of a few numbers behind it.
+fn add_numbers(window: Window, numbers: &[Value], out: &mut Vec<u8>) -> Result<(), AllocError>
+    requires numbers { list_all is_a_number numbers.now ≡ true }
+    requires few { length numbers.now ≤ TOGETHER }
+    ensures { OnOk result (out.new.items ≡ out.old.items ++ cells_text (signed_decimal window.start ∷ signed_decimal window.end ∷ text.value_texts [] numbers.now)) }
+{
+    let mut cells = [0; CELLS];
+    let first = write_numbers(numbers, &mut cells, CELLS);
+    let end = write_cell(window.end, &mut cells, first);
     let start = write_cell(window.start, &mut cells, end);
     out.extend_from_slice(&cells[start..])
+}
+
+// How many numbers values begin with, of those that are written together.
+#[tactic(auto, using(crate::proofs::LineLemmas::numbers_more))]
+fn count_numbers(values: &[Value]) -> usize
+    ensures few { result ≤ TOGETHER }
+    ensures within { result ≤ length values.now }
+    ensures numbers { list_all is_a_number (take result values.now) ≡ true }
+{
+    let most = values.len().min(TOGETHER);
+    for place in 0..most {
+        if !is_number(values[place]) {
+            return place;
+        }
+    }
+    most
+}
+
+fn is_number(value: Value) -> bool
+    ensures { result ≡ is_a_number value }
+{
+    matches!(value, Value::Int(_))
+}
+
+// Writes a comma and a number for each of some numbers so that they end at a place, and tells where
+// they begin.
+fn write_numbers(numbers: &[Value], cells: &mut [u8], end: usize) -> usize
+    requires numbers { list_all is_a_number numbers.now ≡ true }
+    requires room { length numbers.now * CELL ≤ end }
+    requires within { end ≤ length cells.old }
+    ensures start { end ≤ result + length numbers.now * CELL }
+    ensures begins { result ≤ end }
+    ensures written { drop result cells.new ≡ cells_text (text.value_texts [] numbers.now) ++ drop end cells.old }
+{
+    let mut start = end;
+    for place in (0..numbers.len()).rev() {
+        start = write_value(numbers[place], cells, start);
+    }
+    start
+}
+
+// Writes a comma and a number so that they end at a place, and tells where they begin.
+fn write_value(number: Value, cells: &mut [u8], end: usize) -> usize
+    requires number { is_a_number number ≡ true }
+    requires room { CELL ≤ end }
+    requires within { end ≤ length cells.old }
+    ensures start { end ≤ result + CELL }
+    ensures begins { result ≤ end }
+    ensures written { drop result cells.new ≡ 44 ∷ text.value_text [] number ++ drop end cells.old }
+{
+    match number {
+        Value::Int(number) => write_cell(number, cells, end),
+        _ => end,
+    }
 }
 
 // The cells of a row of a stream.
@@ -146,6 +228,7 @@ fn add_refused(row: u64, word: &[u8], out: &mut Vec<u8>) -> Result<(), AllocErro
 }
 
 // A cell for each value of a row.
+#[inline(always)]
 fn add_values(
     columns: &[Option<&Names>],
     values: &[Value],
@@ -159,6 +242,7 @@ fn add_values(
     Ok(())
 }
 
+#[inline(never)]
 fn add_value(names: Option<&Names>, value: Value, out: &mut Vec<u8>) -> Result<(), AllocError>
     ensures { OnOk result (out.new.items ≡ out.old.items ++ 44 ∷ text.value_text (column_names names.entry) value) }
 {
@@ -183,6 +267,7 @@ fn write_cell(number: i64, cells: &mut [u8], end: usize) -> usize
     requires room { CELL ≤ end }
     requires within { end ≤ length cells.old }
     ensures start { end ≤ result + CELL }
+    ensures begins { result ≤ end }
     ensures written { drop result cells.new ≡ 44 ∷ signed_decimal number ++ drop end cells.old }
 {
     let start = write_number(number, cells, end) - 1;
@@ -248,15 +333,15 @@ fn name_text<'a>(names: Option<&'a Names>, number: u16) -> &'a [u8]
     }
 }
 
-// The first cells of the row of a pane that fires so.
+// The first cells of the row of a pane that fires so, and a comma.
 fn first_cells(kind: PaneKind) -> &'static [u8]
-    ensures { result.now ≡ codes "pane" ++ 44 ∷ text.kind_word kind }
+    ensures { result.now ≡ codes "pane" ++ 44 ∷ text.kind_word kind ++ 44 ∷ [] }
 {
     match kind {
-        PaneKind::Early => b"pane,early",
-        PaneKind::OnTime => b"pane,on_time",
-        PaneKind::Late => b"pane,late",
-        PaneKind::Final => b"pane,final",
+        PaneKind::Early => b"pane,early,",
+        PaneKind::OnTime => b"pane,on_time,",
+        PaneKind::Late => b"pane,late,",
+        PaneKind::Final => b"pane,final,",
     }
 }
 

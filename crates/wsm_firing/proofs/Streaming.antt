@@ -113,6 +113,12 @@ module _ (f : Form) (is : (f ≡ form.Istream) ⊎ (f ≡ form.Dstream)) where
 pub room_of_rows : (f : Form) → f ≡ form.Rstream → (room : ℕ) (changes : Tally) (relation : Bag) (capacity : ℕ) → IsReserved f room changes relation capacity → HasRoomOfRows room relation capacity
 room_of_rows f is room changes relation capacity h = subst (λ (g : Form). IsReserved g room changes relation capacity) is h
 
+-- where rows are those of panes nothing is told
+pub told_of_panes : (f : Form) (es : Numbers) (rows before now next : Rows) → f ≡ form.Panes → IsToldOf f es rows before now → IsToldOf f es rows before next
+told_of_panes f es rows before now next panes told =
+    let none : before ≡ [] = subst (λ (g : Form). IsToldOf g es rows before now) panes told in
+    subst (λ (g : Form). IsToldOf g es rows before next) (sym panes) none
+
 -- the counts alone matter
 pub told_same : (f : Form) (es : Numbers) (rows before now other : Rows) → ((q : List Value) → count_of q now ≡ count_of q other) → IsToldOf f es rows before now → IsToldOf f es rows before other
 told_same form.Panes es rows before now other same h = h

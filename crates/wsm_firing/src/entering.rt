@@ -33,10 +33,10 @@ pub fn enter(
     ensures joined { result.joined ≡ joins_sessions held.old.shape (datum 0 key time []) (entries_of held.old) }
     ensures session { result.session ≡ session_entered held.old.shape (datum 0 key time []) (entries_of held.old) }
 {
-    if let Form::Panes = streams.form() {
-        return held.enter(kinds, key, time, values);
+    match streams.form() {
+        Form::Panes => {}
+        _ => lose_joined(streams, held, key, time),
     }
-    lose_joined(streams, held, key, time);
     held.enter(kinds, key, time, values)
 }
 

@@ -56,9 +56,10 @@ pub fn fire(
     ensures capacity { vec_capacity rows.new ≡ vec_capacity rows.old }
     ensures tally { (pane : Pane (List Value)) → find place_cmp due.spot.place (entries_of held.old) ≡ Some pane → tally.new ≡ tally_with verified.now tally.old (fired_by verified.now.header.mode due pane ∷ []) }
 {
+    // First, so that its places are cleared once.
+    let mut row = Some(Columns::new());
     let header = verified.program().header();
     let pane = held.pane(due.spot);
-    let mut row = Some(Columns::new());
     let steps = run(verified, machine, due, &pane, &mut row);
     streams.lose(&pane);
     held.fire_at(due.spot, header.mode, &row);

@@ -89,6 +89,16 @@ impl Streams {
         if let Form::Panes = self.form {
             return;
         }
+        self.lose_standing(pane);
+    }
+
+    // The same, with room for the row.
+    #[inline(never)]
+    fn lose_standing(&mut self, pane: &PaneView<'_>)
+        requires { CanLose self.old (standing_row pane.now.stands) }
+        ensures told { (before now : List (List Value)) → IsTold self.old before (cons_option (standing_row pane.now.stands) now) → IsTold self.new before now }
+        ensures alike { AreAlike self.old self.new }
+    {
         if let Some(row) = pane.standing_row() {
             self.lose_row(&row);
         }

@@ -94,6 +94,7 @@ pub fn fold_into(kinds: &[Kind], held: &mut [Value], values: &[Value])
 }
 
 // Joins a row of values to those in the first places.
+#[inline(always)]
 fn join_all(kinds: &[Kind], places: &mut [Value], values: &[Value])
     requires kinds { length values.now ≤ length kinds.now }
     requires places { length values.now ≤ length places.old }
@@ -102,8 +103,27 @@ fn join_all(kinds: &[Kind], places: &mut [Value], values: &[Value])
     ensures rest { drop (length values.now) places.new ≡ drop (length values.now) places.old }
 {
     for (i, value) in values.iter().enumerate() {
-        places[i] = join(kinds[i], places[i], *value);
+        join_in(kinds[i], &mut places[i], *value);
     }
+}
+
+// Joins a value to the one in a place. Of two numbers only the number is written.
+fn join_in(kind: Kind, place: &mut Value, value: Value)
+    requires { SumFits kind place.old value }
+    ensures { place.new ≡ join_of kind place.old value }
+{
+    if let Value::Int(held) = place {
+        if let Value::Int(number) = value {
+            match kind {
+                Kind::Sum => *held = Sum::join(*held, number),
+                Kind::Min => *held = Min::join(*held, number),
+                Kind::Max => *held = Max::join(*held, number),
+                Kind::Any | Kind::All => *place = join(kind, *place, value),
+            }
+            return;
+        }
+    }
+    *place = join(kind, *place, value);
 }
 
 // Two values in one.

@@ -7,11 +7,12 @@ use Rattle.std.proofs.Math.IntN.{*ℤ_comm}
 use Rattle.std.specs.Prelude.{IfSome, int_le, int_div, int_rem, unsigned_abs}
 use Rattle.std.specs.Int.{int_min, int_max}
 use Rattle.wsm_interval.specs.declared.interval.Interval.{Interval}
-use Rattle.wsm_interval.specs.Interval.{interval, Holds, holds, in_i64, within_i64, around, least, greatest, add, sub, neg, mul, div, rem, rem_within, hull}
+use Rattle.wsm_interval.specs.Interval.{interval, Holds, holds, within_i64, around, least, greatest, add, sub, neg, mul, div, rem, rem_within, hull}
+use Rattle.wsm_record.specs.Schema.{is_i64}
 
 within_holds : (lo hi n : ℤ) → lo ≤ℤ n → n ≤ℤ hi → IfSome (within_i64 lo hi) (λ z. Holds z n)
 within_holds lo hi n h k =
-    elim (in_i64 lo && in_i64 hi) as (λ b. IfSome (cond b (Some (interval lo hi)) None) (λ z. Holds z n)) [ true ↦ (h, k) | false ↦ tt ]
+    elim (is_i64 lo && is_i64 hi) as (λ b. IfSome (cond b (Some (interval lo hi)) None) (λ z. Holds z n)) [ true ↦ (h, k) | false ↦ tt ]
 
 pub add_holds : (x y : Interval) (m n : ℤ) → Holds x m → Holds y n → IfSome (add x y) (λ z. Holds z (m +ℤ n))
 add_holds x y m n h k = within_holds (x.lo +ℤ y.lo) (x.hi +ℤ y.hi) (m +ℤ n) (omega (arith, ints)) (omega (arith, ints))

@@ -1,6 +1,7 @@
 -- Interval arithmetic (Moore 1966): what arithmetic on the values of intervals can give. Ends are computed without bound.
-use Rattle.std.specs.Prelude.{Bool, ◌&&◌, cond, ℤ, pos, negsuc, neg_ℤ, ◌+ℤ◌, ◌-ℤ◌, ◌*ℤ◌, ◌≤ℤ◌, int_le, int_div, unsigned_abs, Option, Some, None}
+use Rattle.std.specs.Prelude.{Bool, ◌&&◌, cond, ℤ, pos, neg_ℤ, ◌+ℤ◌, ◌-ℤ◌, ◌*ℤ◌, ◌≤ℤ◌, int_le, int_div, unsigned_abs, Option, Some, None}
 use Rattle.std.specs.Int.{int_min, int_max}
+use Rattle.wsm_record.specs.Schema.{is_i64}
 use Rattle.wsm_interval.specs.declared.interval.Interval.{Interval}
 
 abbrev pub interval : ℤ → ℤ → Interval
@@ -14,13 +15,9 @@ Holds x n = (x.lo ≤ℤ n) × (n ≤ℤ x.hi)
 abbrev pub holds : Interval → ℤ → Bool
 holds x n = int_le x.lo n && int_le n x.hi
 
--- a number of 64 bits with a sign
-abbrev pub in_i64 : ℤ → Bool
-in_i64 n = int_le (negsuc 9223372036854775807) n && int_le n (pos 9223372036854775807)
-
 -- an interval is given only where both ends are numbers of 64 bits
 abbrev pub within_i64 : ℤ → ℤ → Option Interval
-within_i64 lo hi = cond (in_i64 lo && in_i64 hi) (Some (interval lo hi)) None
+within_i64 lo hi = cond (is_i64 lo && is_i64 hi) (Some (interval lo hi)) None
 
 abbrev pub least : ℤ → ℤ → ℤ → ℤ → ℤ
 least p q r s = int_min (int_min p q) (int_min r s)

@@ -8,9 +8,16 @@ use Rattle.std.proofs.lemmas.Option.{none-some, same_Some}
 use Rattle.wsm_semantics.specs.declared.place.Place.{Place}
 use Rattle.wsm_panes.specs.declared.ring.Ring.{Ring}
 use Rattle.wsm_panes.specs.Place.{is_kept}
-use Rattle.wsm_panes.specs.Ring.{IsOnGrid, AreInPlace, kept_slot, slot_at, row_of, window_number}
+use Rattle.wsm_panes.specs.Layout.{Slotted}
+use Rattle.wsm_panes.specs.Ring.{IsOnGrid, AreInPlace, held, kept_slot, slot_at, row_of, window_number}
 use Rattle.wsm_panes.proofs.Rings.{between_fits, next_on_grid}
 use Rattle.wsm_panes.proofs.Placed.{kept_from}
+
+-- so many entries fewer, in as many slots, which are as wide
+pub record AreCleared (old new : Slotted) (cleared : ℕ) : Type 0 where
+  pub widths : new.widths ≡ old.widths
+  pub size : length new.slots ≡ length old.slots
+  pub len : length (held new.slots) + cleared ≡ length (held old.slots)
 
 pub is_past : (limit : ℤ) (p : Place) → limit <ℤ p.end → is_kept limit p ≡ true
 is_past limit p h = grind (arith, ints)

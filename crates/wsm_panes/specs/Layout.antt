@@ -1,5 +1,6 @@
 -- Slots as three lists: of each slot a head, the values that its pane is folded to, and those of the row that stands for it.
-use Rattle.std.specs.Prelude.{◌≡◌, ℕ, ◌+◌, ◌*◌, ◌≤◌, Bool, true, false, List, [], ◌∷◌, ◌++◌, ◌<◌, take, drop, length, Option, Some, None, if◌then◌else◌}
+use Rattle.std.specs.Prelude.{◌≡◌, ℕ, ◌+◌, ◌*◌, ◌≤◌, Bool, true, false, List, [], ◌∷◌, ◌++◌, ◌<◌, take, drop, length, Option, Some, None, IfSome, if◌then◌else◌}
+use Rattle.std.specs.Option.{is_some}
 use Rattle.wsm_record.specs.declared.event.Value.{Value}
 use Rattle.wsm_record.specs.declared.words.Kind.{Kind}
 use Rattle.wsm_record.specs.declared.words.Mode.{Mode}
@@ -8,7 +9,7 @@ use Rattle.wsm_fold.specs.Fold.{joins}
 use Rattle.wsm_semantics.specs.declared.place.Place.{Place}
 use Rattle.wsm_semantics.specs.declared.standing.Standing.{Standing}
 use Rattle.wsm_semantics.specs.declared.standing.Standing.TheVariants as standing
-use Rattle.wsm_semantics.specs.Summaries.{Pane}
+use Rattle.wsm_semantics.specs.Summaries.{Pane, standing_row}
 use Rattle.wsm_panes.specs.declared.head.Head.{Head}
 use Rattle.wsm_panes.specs.declared.head.Stands.{Stands}
 use Rattle.wsm_panes.specs.declared.head.Stands.TheVariants.{Unfired, NoRow, FiredRow, Joined}
@@ -42,9 +43,14 @@ pub record Slotted : Type 0 where
   pub widths : Widths
   pub slots : List (Option (Place × Pane (List Value)))
 
--- there are as many values as the slots have together
+-- a pane has as many values as there is room for in a slot
+pub record IsAsWide (w : Widths) (pane : Pane (List Value)) : Type 0 where
+  pub folds : IfSome pane.folded (λ values. length values ≡ w.accumulators)
+  pub row : IfSome (standing_row pane.stands) (λ values. length values ≡ w.columns)
+
+-- there are as many values as the slots have together, and no more of each than a pane can have
 pub record IsLaidOut (w : Widths) (heads : List Head) (folds rows : List Value) : Type 0 where
-  pub few : w.columns ≤ 16
+  pub few : (w.accumulators ≤ 16) × (w.columns ≤ 16)
   pub of_folds : length folds ≡ length heads * w.accumulators
   pub of_rows : length rows ≡ length heads * w.columns
 
@@ -55,6 +61,11 @@ part_at i w xs = take w (drop (i * w) xs)
 -- with others in their place
 abbrev pub with_part : ℕ → ℕ → List Value → List Value → List Value
 with_part i w xs ys = take (i * w) xs ++ (ys ++ drop w (drop (i * w) xs))
+
+-- with others in their place, where there are any
+abbrev pub with_any : ℕ → List Value → Option (List Value) → List Value
+with_any i xs None = xs
+with_any i xs (Some ys) = with_part i (length ys) xs ys
 
 -- a slot is one of those that there are values of
 pub record HasPart (i w : ℕ) (xs : List Value) : Type 0 where
@@ -71,6 +82,16 @@ folded_on is_folded kinds held row = if is_folded then joins kinds held row else
 -- a pane of one record
 abbrev pub head_of_one : Place → Head
 head_of_one place = record { end = place.end; start = place.start; count = 1; unshown = 1; key = place.key; is_held = true; is_folded = true; stands = Unfired }
+
+abbrev pub stands_by : Standing → Stands
+stands_by standing.Unfired = Unfired
+stands_by (standing.Row None) = NoRow
+stands_by (standing.Row (Some row)) = FiredRow
+stands_by standing.Joined = Joined
+
+abbrev pub head_of : Place → Pane (List Value) → Head
+head_of place pane =
+    record { end = place.end; start = place.start; count = pane.count; unshown = pane.unshown; key = place.key; is_held = true; is_folded = is_some pane.folded; stands = stands_by pane.stands }
 
 abbrev pub head_with_one_more : Head → Head
 head_with_one_more h = record h { count = h.count + 1; unshown = h.unshown + 1; is_folded = true }

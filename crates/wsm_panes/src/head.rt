@@ -1,8 +1,9 @@
 //! What a slot has beside the values of its pane.
 
 ghost use Rattle.std.specs.Prelude.{◌≡◌, ◌+◌, ◌<◌, ◌^◌, true, false, pos, if◌then◌else◌};
-ghost use Rattle.wsm_panes.specs.Layout.{head_of_one, head_fired, head_with_one_more, place_by};
+ghost use Rattle.wsm_panes.specs.Layout.{head_of, head_of_one, head_fired, head_with_one_more, place_by};
 
+use crate::view::PaneView;
 use wsm_record::Mode;
 use wsm_semantics::Place;
 
@@ -66,6 +67,22 @@ impl Head {
             is_held: true,
             is_folded: true,
             stands: Stands::Unfired,
+        }
+    }
+
+    /// That of a place with a pane.
+    pub(crate) fn of_pane(place: Place, pane: &PaneView<'_>) -> Head
+        ensures { result ≡ head_of place pane.now }
+    {
+        Head {
+            end: place.end,
+            start: place.start,
+            count: pane.count,
+            unshown: pane.unshown,
+            key: place.key,
+            is_held: true,
+            is_folded: pane.is_folded,
+            stands: pane.stands,
         }
     }
 

@@ -5,7 +5,7 @@ ghost use Rattle.std.specs.Option.{is_some};
 ghost use Rattle.wsm_record.specs.declared.words.Kind.{Kind as OneKind};
 ghost use Rattle.wsm_fold.specs.Fold.{are_of_kinds};
 ghost use Rattle.wsm_panes.specs.Held.{CanRecord, CanTake, once_fired, with_one_more};
-ghost use Rattle.wsm_panes.specs.Layout.{HasPart, folded_on, part_at, with_part};
+ghost use Rattle.wsm_panes.specs.Layout.{HasPart, IsAsWide, folded_on, part_at, with_any, with_part};
 ghost use Rattle.wsm_panes.specs.Ring.{slot_at};
 
 use crate::head::Head;
@@ -80,7 +80,9 @@ impl Slots {
     /// The pane in a slot.
     pub(crate) fn pane(&self, slot: usize) -> PaneView<'_>
         requires { IsTrue (is_some (slot_at self.now.slots slot)) }
-        ensures { option_map (λ e. e.1) (slot_at self.now.slots slot) ≡ Some result }
+        ensures same { option_map (λ e. e.1) (slot_at self.now.slots slot) ≡ Some result }
+        ensures wide { IsAsWide self.now.widths result }
+        ensures few { IfSome result.folded (λ values. length values ≤ 16) }
     {
         let head = &self.heads[slot];
         PaneView {
@@ -94,6 +96,8 @@ impl Slots {
     }
 
     /// Has a slot have a place with a pane of one record, which is folded by the values.
+    #[cold]
+    #[inline(never)]
     pub(crate) fn start(&mut self, slot: usize, place: Place, values: &[Value])
         requires slot { slot < length self.old.slots }
         requires wide { length values.now ≡ self.old.widths.accumulators }
@@ -101,6 +105,17 @@ impl Slots {
     {
         self.heads[slot] = Head::of_one(place);
         write_part(&mut self.folds, slot, values);
+    }
+
+    /// Has a slot have a place with a pane.
+    pub(crate) fn put(&mut self, slot: usize, place: Place, pane: &PaneView<'_>)
+        requires slot { slot < length self.old.slots }
+        requires wide { IsAsWide self.old.widths pane.now }
+        ensures { self.new ≡ record self.old { slots = slice_set self.old.slots slot (Some (place, pane.now)) } }
+    {
+        self.heads[slot] = Head::of_pane(place, pane);
+        write_any(&mut self.folds, slot, pane.folded());
+        write_any(&mut self.rows, slot, pane.row_values());
     }
 
     /// Puts a record into the pane in a slot, which is folded by the values.
@@ -158,6 +173,16 @@ fn write_part(values: &mut [Value], slot: usize, part: &[Value])
 {
     let at = slot * part.len();
     values[at..at + part.len()].copy_from_slice(part);
+}
+
+// Writes the values of a slot, if there are any, among those of slots that have as many each.
+fn write_any(values: &mut [Value], slot: usize, part: Option<&[Value]>)
+    requires { IfSome part (λ written. HasPart slot (length written.now) values.old) }
+    ensures { values.new ≡ with_any slot values.old (option_map (λ written. written.now) part.entry) }
+{
+    if let Some(part) = part {
+        write_part(values, slot, part);
+    }
 }
 
 // Folds a row into the values of a slot, among those of slots that have as many each, where something

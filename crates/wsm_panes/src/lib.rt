@@ -6,7 +6,9 @@
 //! is reserved when it is opened. It is walked by end, then start, then key, so panes come in the order
 //! in which they fire and expire. [`ListTable`] keeps a sorted list of places beside slots for their
 //! panes, and [`RingTable`] a ring of slots, a row for each window, where a place has its slot without
-//! a search. A pane that a record comes into changes in its slot, as a [`TakesRecords`] says.
+//! a search. A pane that a record comes into changes in its slot, as a [`TakesRecords`] says. The slots
+//! of a ring are as wide as the panes of its program, which [`Widths`] tells, and a pane that is held
+//! is read through a [`PaneView`].
 #![tactic(auto)]
 
 pub use held::{Entered, HeldPanes};

@@ -69,32 +69,6 @@ impl<P: Copy> ListTable<P> {
     }
 }
 
-impl<P: Copy> ListTable<P> {
-    /// The pane at a place, if one is there.
-    pub fn get(&self, place: Place) -> Option<P>
-        ensures { result ≡ map.get self.now.panes place }
-    {
-        pane_at(&self.entries, &self.store, place)
-    }
-
-    /// Sets the pane at a place.
-    pub fn put(&mut self, place: Place, pane: P)
-        requires { (map.contains_key self.old.panes place ≡ true) ⊎ (map.len self.old.panes < self.old.room) }
-        ensures panes { self.new.panes ≡ map.insert self.old.panes place pane }
-        ensures room { self.new.room ≡ self.old.room }
-    {
-        put_in(&mut self.entries, &mut self.store, place, pane);
-    }
-
-    /// Removes the pane at a place, if one is there.
-    pub fn remove(&mut self, place: Place)
-        ensures panes { self.new.panes ≡ map.remove self.old.panes place }
-        ensures room { self.new.room ≡ self.old.room }
-    {
-        take_out(&mut self.entries, &mut self.store, place);
-    }
-}
-
 impl ListTable<Pane> {
     /// The pane at a spot.
     pub fn pane(&self, spot: Spot) -> PaneView<'_>
@@ -126,6 +100,24 @@ impl<P: TakesRecords> PaneTable<P> for ListTable<P> {
     ghost Admits = { λ room ps place. (map.contains_key ps place ≡ true) ⊎ (map.len ps < room) };
 
     ghost Fits = { λ room values. length values ≤ 16 };
+
+    ghost Holds = { λ room pane. Unit {0} };
+
+    fn get(&self, place: Place) -> Option<P> {
+        pane_at(&self.entries, &self.store, place)
+    }
+
+    fn admits(&self, place: Place) -> bool {
+        self.len() < self.room || self.get(place).is_some()
+    }
+
+    fn put(&mut self, place: Place, pane: P) {
+        put_in(&mut self.entries, &mut self.store, place, pane);
+    }
+
+    fn remove(&mut self, place: Place) {
+        take_out(&mut self.entries, &mut self.store, place);
+    }
 
     fn drop_expired(&mut self, limit: i64) {
         keep_past(&mut self.entries, &mut self.store, limit);

@@ -15,7 +15,7 @@ ghost use Rattle.wsm_panes.specs.Held.{CanJoin, CanJoinFolds, CanRecord, CanTake
 
 use crate::head::Stands;
 use crate::recording::TakesRecords;
-use crate::view::{PaneView, RowView};
+use crate::view::{PaneView, RowView, row_columns};
 use std::marker::Model;
 use wsm_fold::Folded;
 use wsm_record::{Kind, Mode, Value};
@@ -57,6 +57,19 @@ impl Pane {
             stands,
             folds: folded_values(&self.folded),
             row,
+        }
+    }
+
+    /// What is read as a pane, as one of its own.
+    pub(crate) fn of_view(view: &PaneView<'_>) -> Pane
+        requires { IfSome view.now.folded (λ values. length values ≤ 16) }
+        ensures { result ≡ view.now }
+    {
+        Pane {
+            count: view.count,
+            unshown: view.unshown,
+            folded: folded_of(view.is_folded, view.folds),
+            stands: standing_of(view.stands, &view.row),
         }
     }
 
@@ -143,6 +156,31 @@ fn folded_values(folded: &Option<Folded>) -> &[Value]
     match folded {
         Some(folded) => folded.values(),
         None => &[],
+    }
+}
+
+// What records are folded to, where there are any and they are folded to these values.
+fn folded_of(is_folded: bool, folds: &[Value]) -> Option<Folded>
+    requires { IfSome (folded_by is_folded folds.now) (λ values. length values ≤ 16) }
+    ensures { result ≡ folded_by is_folded folds.now }
+{
+    if is_folded {
+        Some(Folded::start(folds))
+    } else {
+        None
+    }
+}
+
+// What stands, where the values of its row lie there.
+fn standing_of(stands: Stands, row: &RowView<'_>) -> Standing
+    requires { IsFew row.now }
+    ensures { result ≡ standing_by stands (row_seen row.now) }
+{
+    match stands {
+        Stands::Unfired => Standing::Unfired,
+        Stands::NoRow => Standing::Row(None),
+        Stands::FiredRow => Standing::Row(Some(row_columns(row))),
+        Stands::Joined => Standing::Joined,
     }
 }
 

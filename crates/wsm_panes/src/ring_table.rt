@@ -14,7 +14,9 @@ ghost use Rattle.wsm_panes.specs.Ring.{IsFirstPast, IsLastDue, IsOnGrid, IsRing,
 use crate::layout::Slots;
 use crate::pane::Pane;
 use crate::ring::{Ring, Row};
-use crate::slots::{clear_expired, first_on, first_until, is_at, record_in, spot_in};
+use crate::slots::{
+    clear_expired, fill, first_on, first_until, is_at, record_in, spot_in, take_out,
+};
 use crate::spot::Spot;
 use crate::table::PaneTable;
 use crate::view::PaneView;
@@ -158,6 +160,7 @@ impl RingTable {
 impl PaneTable<Pane> for RingTable {
     ghost use Rattle.wsm_panes.specs.declared.ring.Ring.{Ring as AnyRing};
     ghost use Rattle.wsm_panes.specs.declared.widths.Widths.{Widths as AnyWidths};
+    ghost use Rattle.wsm_panes.specs.Layout.{IsAsWide};
 
     ghost Room = { AnyRing × AnyWidths };
 
@@ -168,6 +171,36 @@ impl PaneTable<Pane> for RingTable {
     ghost Admits = { λ room ps place. RingAdmits room.0 ps place };
 
     ghost Fits = { λ room values. length values ≡ room.1.accumulators };
+
+    ghost Holds = { λ room pane. IsAsWide room.1 pane };
+
+    fn get(&self, place: Place) -> Option<Pane> {
+        let slot = self.ring.slot(place);
+        if is_at(&self.slots, slot, place) {
+            Some(Pane::of_view(&self.slots.pane(slot)))
+        } else {
+            None
+        }
+    }
+
+    fn admits(&self, place: Place) -> bool {
+        self.ring.has(place)
+            && match self.slots.place(self.ring.slot(place)) {
+                Some(other) => other == place,
+                None => true,
+            }
+    }
+
+    fn put(&mut self, place: Place, pane: Pane) {
+        let slot = self.ring.slot(place);
+        (self.first, self.last) = stretched(self.len, self.first, self.last, place.start);
+        self.len += fill(&mut self.slots, slot, place, &pane);
+    }
+
+    fn remove(&mut self, place: Place) {
+        let slot = self.ring.slot(place);
+        self.len -= take_out(&mut self.slots, slot, place);
+    }
 
     fn enter(&mut self, place: Place, kinds: &[Kind], values: &[Value]) {
         let slot = self.ring.slot(place);

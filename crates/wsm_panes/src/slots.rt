@@ -6,11 +6,13 @@ ghost use Rattle.std.specs.Int.{w64};
 ghost use Rattle.std.specs.Int.RustNames.{FitsSigned};
 ghost use Rattle.wsm_fold.specs.Fold.{are_of_kinds};
 ghost use Rattle.wsm_panes.specs.Held.{CanRecord, with_one_more};
-ghost use Rattle.wsm_panes.specs.Ring.{IsRing, AreInPlace, AreBetween, IsFirstInRow, IsFirstUntil, IsOnGrid, at_slot, held, kept_slot, pane_of, slot_at, row_of};
+ghost use Rattle.wsm_panes.specs.Layout.{IsAsWide};
+ghost use Rattle.wsm_panes.specs.Ring.{IsRing, AreInPlace, AreBetween, IsFirstInRow, IsFirstUntil, IsOnGrid, IsTakenOut, at_slot, held, kept_slot, pane_of, slot_at, row_of};
 ghost use Rattle.wsm_panes.specs.Ring as spec;
 ghost use Rattle.wsm_panes.specs.Walk.{place_found};
 
 use crate::layout::Slots;
+use crate::pane::Pane;
 use crate::ring::Ring;
 use crate::spot::Spot;
 use wsm_record::{Kind, Value};
@@ -45,6 +47,32 @@ pub(crate) fn record_in(
             slots.start(slot, place, values);
             1
         }
+    }
+}
+
+/// Puts a pane into a slot, and tells how many more entries there are.
+pub(crate) fn fill(slots: &mut Slots, slot: usize, place: Place, pane: &Pane) -> usize
+    requires slot { slot < length slots.old.slots }
+    requires wide { IsAsWide slots.old.widths pane.now }
+    ensures slots { slots.new ≡ record slots.old { slots = slice_set slots.old.slots slot (Some (place, pane.now)) } }
+    ensures len { length (held slots.new.slots) ≡ length (held slots.old.slots) + result }
+{
+    let more = if slots.place(slot).is_none() { 1 } else { 0 };
+    slots.put(slot, place, &pane.view());
+    more
+}
+
+/// Clears a slot where it has the pane at a place, and tells how many fewer entries there are.
+pub(crate) fn take_out(slots: &mut Slots, slot: usize, place: Place) -> usize
+    ensures widths { slots.new.widths ≡ slots.old.widths }
+    ensures slots { IsTakenOut place slot slots.old.slots slots.new.slots }
+    ensures len { length (held slots.new.slots) + result ≡ length (held slots.old.slots) }
+{
+    if is_at(slots, slot, place) {
+        slots.clear(slot);
+        1
+    } else {
+        0
     }
 }
 

@@ -1,6 +1,6 @@
 //! What a table of panes does.
 
-ghost use Rattle.std.specs.Prelude.{◌≡◌, List, IfSome, IsSome, IsTrue, option_map, slice_get};
+ghost use Rattle.std.specs.Prelude.{◌≡◌, ◌↔◌, List, IfSome, IsSome, IsTrue, option_map, slice_get};
 ghost use Rattle.std.specs.FinMap as map;
 ghost use Rattle.wsm_panes.specs.Place.{place_cmp, is_kept};
 ghost use Rattle.wsm_panes.specs.Walk.{first_past, following, place_due, place_found};
@@ -28,6 +28,30 @@ pub trait PaneTable<P: TakesRecords> {
 
     // There is room for these values in a pane.
     ghost Fits: { Room → List OneValue → Type 0 };
+
+    // There is room for what a pane has.
+    ghost Holds: { Room → P → Type 0 };
+
+    /// The pane at a place, if one is there.
+    fn get(&self, place: Place) -> Option<P>
+        ensures pane { result ≡ map.get (panes self.now) place }
+        ensures holds { IfSome result (Holds (room self.now)) };
+
+    /// Whether a pane can be set at a place.
+    fn admits(&self, place: Place) -> bool
+        ensures { IsTrue result ↔ Admits (room self.now) (panes self.now) place };
+
+    /// Sets the pane at a place.
+    fn put(&mut self, place: Place, pane: P)
+        requires holds { Holds (room self.old) pane }
+        requires admits { Admits (room self.old) (panes self.old) place }
+        ensures panes { panes self.new ≡ map.insert (panes self.old) place pane }
+        ensures room { room self.new ≡ room self.old };
+
+    /// Removes the pane at a place, if one is there.
+    fn remove(&mut self, place: Place)
+        ensures panes { panes self.new ≡ map.remove (panes self.old) place }
+        ensures room { room self.new ≡ room self.old };
 
     /// Removes the panes of windows with an end of at most the limit, which is in event time.
     fn drop_expired(&mut self, limit: i64)

@@ -82,10 +82,30 @@ impl<'a> PaneView<'a> {
             Stands::Unfired | Stands::NoRow | Stands::Joined => None,
         }
     }
+
+    /// The values of the row that stands for it, where they lie.
+    pub(crate) fn row_values(&self) -> Option<&[Value]>
+        ensures { option_map (λ values. values.now) result ≡ kept.standing_row self.now.stands }
+    {
+        match self.stands {
+            Stands::FiredRow => Some(values_of(&self.row)),
+            Stands::Unfired | Stands::NoRow | Stands::Joined => None,
+        }
+    }
 }
 
-// The columns of a row.
-fn row_columns(row: &RowView<'_>) -> Columns
+// The values of a row.
+fn values_of<'a>(row: &'a RowView<'a>) -> &'a [Value]
+    ensures { result.now ≡ row_seen row.now }
+{
+    match row {
+        RowView::Whole(columns) => columns.as_slice(),
+        RowView::Part(values) => values,
+    }
+}
+
+/// The columns of a row.
+pub(crate) fn row_columns(row: &RowView<'_>) -> Columns
     requires { IsFew row.now }
     ensures { result ≡ row_seen row.now }
 {

@@ -155,6 +155,7 @@ fn is_lawful_instr(header: &Header, instr: Instr) -> bool
         Instr::Acc(accumulator) | Instr::Fold(accumulator) => {
             (accumulator as usize) < header.kinds.len()
         }
-        _ => true,
+        Instr::PushInt(_) | Instr::PushBool(_) | Instr::Key | Instr::Count => true,
+        Instr::Operate(_) | Instr::Jump(_) | Instr::JumpIfFalse(_) | Instr::Return => true,
     }
 }

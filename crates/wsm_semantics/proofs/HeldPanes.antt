@@ -157,7 +157,3 @@ module _ (q : Query) (ok : IsShape q.shape) (past : List Event) where
       let Filled : Place × List Datum → Type 0 = λ e. IsPane q past e × IsNonEmpty e.1 in
       all-passed Filled (IsHeldPane q past) (λ e. is_live_at q (mark q past) e.0) (λ e h live. one_held e h.0 h.1 live) (panes q past)
       (all-both (IsPane q past) (λ e. IsNonEmpty e.1) Filled (λ e a b. (a, b)) (panes q past) (each_pane q past) ((kept_law.places q ok).filled past))
-
-  -- where windows are assigned by a record's time alone, of each held pane: its window is one of some time
-  pub held_on_grid : (assigned : IsAssigned q.shape) → AllByRecursion (λ e. OnGrid q.shape ok assigned e.0) (held q past)
-  held_on_grid assigned = all-each (IsHeldPane q past) (λ e. OnGrid q.shape ok assigned e.0) (held q past) (λ e pane. grid_of q ok assigned past e.0 pane.placed) held_panes

@@ -39,7 +39,6 @@ pub mod HeldBound
 pub mod KeptPanes
 pub mod HeldContents
 pub mod RowsBound
-pub mod RecordWindows
 pub mod HeldLaw
 pub mod Bags
 pub mod PanesOrder

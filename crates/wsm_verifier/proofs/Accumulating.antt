@@ -6,7 +6,7 @@ use Rattle.std.proofs.lemmas.List.{append_assoc}
 use Rattle.std.specs.Prelude.{nat_eq, int_lt, slice_get, slice_index_or}
 use Rattle.std.specs.Int.{int_min, int_max}
 use Rattle.wsm_interval.specs.declared.Interval.{Interval}
-use Rattle.wsm_interval.specs.Interval.{in_i64}
+use Rattle.wsm_record.specs.Schema.{is_i64}
 use Rattle.wsm_record.specs.declared.Kind.{Kind}
 use Rattle.wsm_record.specs.declared.Kind.TheVariants.{Sum}
 use Rattle.wsm_program.specs.declared.Instr.{Instr}
@@ -63,11 +63,11 @@ range_at r b (k ∷ ks) vs (suc a) =
 
 -- ---- sums
 
-in_least : (r x y : ℤ) → in_i64 (r *ℤ x) ≡ true → in_i64 (r *ℤ y) ≡ true → in_i64 (r *ℤ int_min x y) ≡ true
-in_least r x y h l = elim (int_lt y x) as (λ b. in_i64 (r *ℤ cond b y x) ≡ true) [ true ↦ l | false ↦ h ]
+in_least : (r x y : ℤ) → is_i64 (r *ℤ x) ≡ true → is_i64 (r *ℤ y) ≡ true → is_i64 (r *ℤ int_min x y) ≡ true
+in_least r x y h l = elim (int_lt y x) as (λ b. is_i64 (r *ℤ cond b y x) ≡ true) [ true ↦ l | false ↦ h ]
 
-in_greatest : (r x y : ℤ) → in_i64 (r *ℤ x) ≡ true → in_i64 (r *ℤ y) ≡ true → in_i64 (r *ℤ int_max x y) ≡ true
-in_greatest r x y h l = elim (int_lt y x) as (λ b. in_i64 (r *ℤ cond b x y) ≡ true) [ true ↦ h | false ↦ l ]
+in_greatest : (r x y : ℤ) → is_i64 (r *ℤ x) ≡ true → is_i64 (r *ℤ y) ≡ true → is_i64 (r *ℤ int_max x y) ≡ true
+in_greatest r x y h l = elim (int_lt y x) as (λ b. is_i64 (r *ℤ cond b x y) ≡ true) [ true ↦ h | false ↦ l ]
 
 and_is : (a b : Bool) → not (not (a && b)) ≡ true → (a ≡ true) × (b ≡ true)
 and_is true true e = (refl, refl)
@@ -84,9 +84,9 @@ stay_hull : (r : ℤ) (k : Kind) (x y : Option Interval) → stays r k x ≡ tru
 stay_hull r k None y h l = l
 stay_hull r k (Some x) None h l = h
 stay_hull r Sum (Some x) (Some y) h l =
-    let low = and_is (in_i64 (r *ℤ x.lo)) (in_i64 (r *ℤ x.hi)) h in
-    let high = and_is (in_i64 (r *ℤ y.lo)) (in_i64 (r *ℤ y.hi)) l in
-    both (in_i64 (r *ℤ int_min x.lo y.lo)) (in_i64 (r *ℤ int_max x.hi y.hi)) (in_least r x.lo y.lo low.0 high.0) (in_greatest r x.hi y.hi low.1 high.1)
+    let low = and_is (is_i64 (r *ℤ x.lo)) (is_i64 (r *ℤ x.hi)) h in
+    let high = and_is (is_i64 (r *ℤ y.lo)) (is_i64 (r *ℤ y.hi)) l in
+    both (is_i64 (r *ℤ int_min x.lo y.lo)) (is_i64 (r *ℤ int_max x.hi y.hi)) (in_least r x.lo y.lo low.0 high.0) (in_greatest r x.hi y.hi low.1 high.1)
 stay_hull r _ (Some x) (Some y) h l = refl
 
 stay_last : (r : ℤ) (k : Kind) (s : List Known) → last_is (sum_leaves r k) s ≡ false → stays r k (last_number s) ≡ true

@@ -4,7 +4,7 @@ use Rattle.std.specs.Int.{int_min, int_max}
 use Rattle.std.specs.List.{list_all}
 use Rattle.wsm_interval.specs.declared.Interval.{Interval}
 use Rattle.wsm_program.specs.declared.Instr.{Instr}
-use Rattle.wsm_program.specs.declared.Instr.TheVariants.{Operate, JumpIfFalse, Fold, Return}
+use Rattle.wsm_program.specs.declared.Instr.TheVariants.{PushInt, PushBool, PushEnum, Field, Key, Acc, Count, Operate, Jump, JumpIfFalse, Fold, Return}
 use Rattle.wsm_program.specs.declared.Operands.{Operands}
 use Rattle.wsm_program.specs.declared.Operands.TheVariants as operands
 use Rattle.wsm_program.specs.Operations as operation
@@ -13,7 +13,7 @@ use Rattle.wsm_program.specs.declared.SectionId.{SectionId}
 use Rattle.wsm_program.specs.declared.SectionId.TheVariants.{Where, Update, Fire}
 use Rattle.wsm_record.specs.declared.Kind.{Kind}
 use Rattle.wsm_record.specs.declared.Kind.TheVariants.{Sum, Min, Max, Any, All}
-use Rattle.wsm_record.specs.Schema.{FieldType, Int, Truth as IsTruth, Enum, DeclaredField}
+use Rattle.wsm_record.specs.Schema.{FieldType, Int, Truth as IsTruth, Enum, DeclaredField, is_i64}
 use Rattle.wsm_program.specs.declared.program.Costs.{Costs}
 use Rattle.wsm_record.specs.declared.words.CellType.{CellType}
 use Rattle.wsm_record.specs.declared.words.CellType.TheVariants as column
@@ -21,7 +21,7 @@ use Rattle.wsm_verifier.specs.declared.rejection.Rule.{Rule}
 use Rattle.wsm_verifier.specs.declared.rejection.Rule.TheVariants as rule
 use Rattle.wsm_verifier.specs.declared.rejection.Part.TheVariants.{Code, Budget}
 use Rattle.wsm_verifier.specs.declared.rejection.Rejection.{Rejection}
-use Rattle.wsm_interval.specs.Interval.{interval, hull, holds, in_i64}
+use Rattle.wsm_interval.specs.Interval.{interval, hull, holds}
 use Rattle.wsm_program.specs.Program.{Program, section}
 use Rattle.wsm_verifier.specs.declared.known.Known.{Known}
 use Rattle.wsm_verifier.specs.declared.known.Known.TheVariants.{Number, Truth, NameOf}
@@ -50,7 +50,9 @@ is_truth _ = false
 abbrev pub folds_into : Kind → Known → Bool
 folds_into Any x = is_truth x
 folds_into All x = is_truth x
-folds_into _ x = is_number x
+folds_into Sum x = is_number x
+folds_into Min x = is_number x
+folds_into Max x = is_number x
 
 abbrev pub last_is : (Known → Bool) → List Known → Bool
 last_is f (x ∷ s) = f x
@@ -75,11 +77,18 @@ operands_fit operands.Alike s = last_two same_type s
 
 -- the operands have the types that the instruction takes; RET takes exactly what its section ends with
 abbrev pub types_fit : List Kind → List Known → Instr → List Known → Bool
+types_fit kinds ends (PushInt n) s = true
+types_fit kinds ends (PushBool b) s = true
+types_fit kinds ends (PushEnum e i) s = true
+types_fit kinds ends (Field f) s = true
+types_fit kinds ends Key s = true
+types_fit kinds ends (Acc a) s = true
+types_fit kinds ends Count s = true
 types_fit kinds ends (Operate o) s = operands_fit (operation.operands o) s
+types_fit kinds ends (Jump t) s = true
 types_fit kinds ends (JumpIfFalse t) s = last_is is_truth s
 types_fit kinds ends (Fold a) s = last_is (folds_into (kind_of kinds a)) s
 types_fit kinds ends Return s = same_types s ends
-types_fit _ _ _ _ = true
 
 abbrev pub folds_again : Instr → List Bool → Bool
 folds_again (Fold a) folded = slice_index_or folded a false
@@ -96,7 +105,7 @@ may_divide_by_zero _ s = false
 
 -- all records together could take a sum of such values out of 64 bits
 abbrev pub sum_leaves : ℤ → Kind → Known → Bool
-sum_leaves records Sum (Number x) = not (in_i64 (records *ℤ x.lo) && in_i64 (records *ℤ x.hi))
+sum_leaves records Sum (Number x) = not (is_i64 (records *ℤ x.lo) && is_i64 (records *ℤ x.hi))
 sum_leaves records _ x = false
 
 abbrev pub accumulator_leaves : ℤ → List Kind → Instr → List Known → Bool

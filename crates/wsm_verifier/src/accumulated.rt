@@ -2,7 +2,7 @@
 
 ghost use Rattle.std.specs.Prelude.{◌≡◌, ◌*ℤ◌, true, Some, length, IfOk};
 ghost use Rattle.std.specs.Int.{int_max, int_min};
-ghost use Rattle.wsm_interval.specs.Interval.{in_i64};
+ghost use Rattle.wsm_record.specs.Schema.{is_i64};
 ghost use Rattle.wsm_verifier.specs.Accumulated.{StayAll, accumulated_each, stays};
 ghost use Rattle.wsm_verifier.specs.Rules as rules;
 ghost use Rattle.wsm_verifier.specs.Rules.{and_then};
@@ -52,14 +52,14 @@ fn accumulated(records: i64, kind: Kind, values: Interval) -> Option<Interval>
 }
 
 fn least_sum(records: i64, least: i64) -> i64
-    requires { in_i64 (records *ℤ least) ≡ true }
+    requires { is_i64 (records *ℤ least) ≡ true }
     ensures { result ≡ int_min least (records *ℤ least) }
 {
     least.min(records * least)
 }
 
 fn greatest_sum(records: i64, greatest: i64) -> i64
-    requires { in_i64 (records *ℤ greatest) ≡ true }
+    requires { is_i64 (records *ℤ greatest) ≡ true }
     ensures { result ≡ int_max greatest (records *ℤ greatest) }
 {
     greatest.max(records * greatest)

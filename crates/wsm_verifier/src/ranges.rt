@@ -91,7 +91,9 @@ fn of_two(operation: Operation, stack: &[Known]) -> Option<Interval>
         Operation::Sub => x.sub(*y),
         Operation::Mul => x.mul(*y),
         Operation::Div => x.div(*y),
-        _ => x.rem(*y),
+        Operation::Rem => x.rem(*y),
+        Operation::Neg | Operation::Not | Operation::Eq | Operation::Ne => None,
+        Operation::Lt | Operation::Le | Operation::Gt | Operation::Ge => None,
     }
 }
 

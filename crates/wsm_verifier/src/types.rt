@@ -2,7 +2,7 @@
 //! of its list.
 
 ghost use Rattle.std.specs.Prelude.{◌≡◌, ◌*ℤ◌};
-ghost use Rattle.wsm_interval.specs.Interval.{in_i64};
+ghost use Rattle.wsm_record.specs.Schema.{is_i64};
 ghost use Rattle.wsm_verifier.specs.Labels as spec;
 ghost use Rattle.wsm_verifier.specs.Rules as rules;
 
@@ -83,11 +83,12 @@ pub(crate) fn fit(kinds: &[Kind], ends: &[Known], instr: Instr, stack: &[Known])
         Instr::Operate(operation) => have_types(operation.operands(), stack),
         Instr::JumpIfFalse(_) => last_is_truth(stack),
         Instr::Fold(accumulator) => match kind_of(kinds, accumulator) {
+            Kind::Sum | Kind::Min | Kind::Max => last_is_number(stack),
             Kind::Any | Kind::All => last_is_truth(stack),
-            _ => last_is_number(stack),
         },
         Instr::Return => have_types_of(stack, ends),
-        _ => true,
+        Instr::PushInt(_) | Instr::PushBool(_) | Instr::PushEnum(..) | Instr::Field(_) => true,
+        Instr::Key | Instr::Acc(_) | Instr::Count | Instr::Jump(_) => true,
     }
 }
 
@@ -126,7 +127,7 @@ fn sum_leaves(records: i64, kind: Kind, value: Known) -> bool
 
 // Whether a product has 64 bits.
 fn is_product_small(a: i64, b: i64) -> bool
-    ensures { result ≡ in_i64 (a *ℤ b) }
+    ensures { result ≡ is_i64 (a *ℤ b) }
 {
     a.checked_mul(b).is_some()
 }

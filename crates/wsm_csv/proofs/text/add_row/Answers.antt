@@ -7,13 +7,14 @@ use Rattle.wsm_csv.proofs.text.add_row.Goals as goal
 
 pub returns-in_ok-add_pane-in-Pane : goal.returns-in_ok-add_pane-in-Pane
 returns-in_ok-add_pane-in-Pane c =
-    let front : List (List ℕ) = kind_word c.in-Pane.kind ∷ name_at c.args.schema.now.keys c.in-Pane.key ∷ signed_decimal c.in-Pane.window.start ∷ signed_decimal c.in-Pane.window.end ∷ [] in
-    let back = value_texts (map column_names c.args.columns.now) c.in-Pane.values in
-    rw c.in-Pane.is (on_ok c.add_values.result
-    (c.add_values.new.out.items ≡ c.add_pane.new.out.items ++ cells_text (value_texts (map column_names c.args.columns.now) c.as_slice.result.now))
-    (c.add_values.new.out.items ≡ c.args.out.now.items ++ joined (codes "pane" ∷ (front ++ back)))
-    (λ e. joined-split c.args.out.now.items c.add_values.new.out.items (codes "pane") front back (rw (c.as_slice.ensures, (c.in_ok-add_pane-in-Pane).ensures) at e))
-    c.add_values.ensures)
+    let front : List (List ℕ) = kind_word c.in-Pane.kind ∷ name_at c.args.schema.now.keys c.in-Pane.key ∷ [] in
+    let window : List (List ℕ) = signed_decimal c.in-Pane.window.start ∷ signed_decimal c.in-Pane.window.end ∷ [] in
+    let back = window ++ value_texts (map column_names c.args.columns.now) c.in-Pane.values in
+    rw c.in-Pane.is (on_ok c.add_window.result
+    (c.add_window.new.out.items ≡ c.add_pane.new.out.items ++ cells_text (window ++ value_texts (map column_names c.args.columns.now) c.as_slice.result.now))
+    (c.add_window.new.out.items ≡ c.args.out.now.items ++ joined (codes "pane" ∷ (front ++ back)))
+    (λ e. joined-split c.args.out.now.items c.add_window.new.out.items (codes "pane") front back (rw (c.as_slice.ensures, (c.in_ok-add_pane-in-Pane).ensures) at e))
+    c.add_window.ensures)
 
 pub returns-in-Istream : goal.returns-in-Istream
 returns-in-Istream c =

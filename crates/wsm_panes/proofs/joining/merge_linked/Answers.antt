@@ -13,8 +13,8 @@ enter-session-requires-clause-admits c =
     let plan = taking c.args.kinds.now c.args.values.now in
     simp to_z-of_z (admits_it plan c.args.sessions.now.gap c.args.key c.args.time c.args.table.now.panes c.args.sessions.now.windows c.requires.agree c.requires.gap c.requires.times.0 c.requires.times.1 c.args.sessions.now.room c.requires.live)
 
-pub put-requires : goal.put-requires
-put-requires c =
+pub put-requires-clause-admits : goal.put-requires-clause-admits
+put-requires-clause-admits c =
     let time : SFits w64 c.args.time = c.ranges.time in
     let plan = taking c.args.kinds.now c.args.values.now in
     let puts : Puts plan c.args.sessions.now.gap c.args.key c.args.time c.args.table.now.panes c.args.sessions.now.windows c.requires.agree c.take_linked-pane.new.table.panes c.place_of.result c.take_linked-pane.result.0 c.with_one_more.result =

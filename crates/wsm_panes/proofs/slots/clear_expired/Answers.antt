@@ -13,17 +13,19 @@ pub loop-start-init : goal.loop-start-init
 loop-start-init c =
     let z : to_z w64 (of_z w64 c.args.first) ≡ c.args.first = to_z-of_z w64 c.args.first c.ranges.first in
     rw z (record {
-      widths = refl;
-      size = refl;
+      cleared = record {
+        widths = refl;
+        size = refl;
+        len = omega arith;
+      };
       grid = c.requires.first;
       done = λ i. inr refl;
       since = λ i e at. (c.requires.between i e at).0;
-      len = omega arith;
     })
 
 pub overflow_add-cleared : goal.overflow_add-cleared
 overflow_add-cleared c =
-    omega (arith, c.requires.slots, c.requires.ring.slots, c.loop-start.invariant.len, c.clear_row-cleared.ensures.len, held_length c.args.slots.now.slots)
+    omega (arith, c.requires.slots, c.requires.ring.slots, c.loop-start.invariant.cleared.len, c.clear_row-cleared.ensures.len, held_length c.args.slots.now.slots)
 
 pub overflow_add-start : goal.overflow_add-start
 overflow_add-start c =
@@ -88,12 +90,14 @@ loop-start-preserved c =
     let inside : (i : ℕ) → row_of c.args.ring S ≤ i → i < row_of c.args.ring S + c.args.ring.keys → slot_at ns i ≡ kept_slot c.args.limit (slot_at os i) = rw (zl, c.row.ensures.row) at c.clear_row-cleared.ensures.inside in
     let outside : (i : ℕ) → (i < row_of c.args.ring S) ⊎ (row_of c.args.ring S + c.args.ring.keys ≤ i) → slot_at ns i ≡ slot_at os i = rw c.row.ensures.row at c.clear_row-cleared.ensures.outside in
     rw (z, zs, zl) (record {
-      widths = c.clear_row-cleared.ensures.widths ∙ c.loop-start.invariant.widths;
-      size = c.clear_row-cleared.ensures.size ∙ c.loop-start.invariant.size;
+      cleared = record {
+        widths = c.clear_row-cleared.ensures.widths ∙ c.loop-start.invariant.cleared.widths;
+        size = c.clear_row-cleared.ensures.size ∙ c.loop-start.invariant.cleared.size;
+        len = omega (arith, c.loop-start.invariant.cleared.len, c.clear_row-cleared.ensures.len);
+      };
       grid = (grid.0 +ℤ pos 1, on_grid_next grid.0 c.args.ring.period S c.requires.ring.period_low grid.1);
       done = done_more c.args.limit old os ns (row_of c.args.ring S) c.args.ring.keys done inside outside;
       since = since_more c.args.ring c.args.limit S os ns c.requires.ring.period_low placed grid expires since inside outside;
-      len = omega (arith, c.loop-start.invariant.len, c.clear_row-cleared.ensures.len);
     })
 
 pub returns-after-loop-start-clause-kept : goal.returns-after-loop-start-clause-kept

@@ -1,7 +1,7 @@
 use Rattle.wsm_panes.specs.Stored.{shown}
 use Rattle.wsm_panes.proofs.Tables.{others_are}
 use Rattle.wsm_panes.proofs.StoredEdits.{is_in_order}
-use Rattle.wsm_panes.proofs.list.ListTable.remove.Goals as goal
+use Rattle.wsm_panes.proofs.list.ListTablePaneTable.remove.Goals as goal
 
 pub returns-clause-panes : goal.returns-clause-panes
 returns-clause-panes g c =
