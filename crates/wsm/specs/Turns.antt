@@ -1,12 +1,9 @@
 -- What the turns of a run keep, and how it fits the rows so far.
-use Rattle.std.specs.Prelude.{◌≡◌, ℕ, ◌+◌, List, ◌∷◌, ◌++◌, length, map, Option}
+use Rattle.std.specs.Prelude.{◌≡◌, ℕ, List, ◌∷◌, ◌++◌, Option}
 use Rattle.std.specs.Io.KnownBytes.{Appends}
-use Rattle.wsm_record.specs.declared.event.RowFault.{RowFault}
 use Rattle.wsm_record.specs.Event.{Event}
 use Rattle.wsm_admission.specs.Admission.{counter}
-use Rattle.wsm_semantics.specs.Query.{verdict_on}
-use Rattle.wsm_semantics.specs.Relation.{turn_rows}
-use Rattle.wsm_semantics.specs.Lines.{Row, Out, Faulty, events, end_line, fault_count, refusal_lines, turn_lines}
+use Rattle.wsm_semantics.specs.Lines.{Row, events, end_line, fault_count, turn_lines}
 use Rattle.wsm_semantics.specs.Text.{Names, line_text, lines_text}
 use Rattle.wsm_program.specs.Program.{Program}
 use Rattle.wsm_machine.specs.Meaning.{query_of}
@@ -25,7 +22,6 @@ pub record EngineFits (p : Program) (s : State) (past : List Event) : Type 0 whe
 -- the turns of the program, after rows
 pub record Fits (p : Program) (t : Turns) (before : List Row) : Type 0 where
   pub engine : EngineFits p t.engine (events before)
-  pub rows : t.rows ≡ counter (length before)
   pub faults : t.faults ≡ counter (fault_count before)
 
 abbrev pub names : Program → Names
@@ -36,19 +32,10 @@ pub record Turned (p : Program) (new : Turns) (before : List Row) (row : Row) : 
   pub fits : Fits p new (row ∷ before)
   pub lines : new.lines.items ≡ lines_text (names p) (turn_lines (query_of p) before row)
 
--- one event more, whose row has the number of the rows so far: its lines stand behind those that were there
-pub record Fed (p : Program) (old new : Turns) (past : List Event) (e : Event) : Type 0 where
-  pub engine : EngineFits p new.engine (e ∷ past)
-  pub lines : new.lines.items ≡ old.lines.items ++ lines_text (names p) (refusal_lines old.rows (verdict_on (query_of p) past e) ++ map Out (turn_rows (query_of p) past e))
-  pub rows : new.rows ≡ old.rows
-  pub faults : new.faults ≡ old.faults
-
--- one row more that is no event, with the number of the rows so far
-pub record Refuses (old new : Turns) (why : RowFault) : Type 0 where
-  pub engine : new.engine ≡ old.engine
-  pub lines : (names : Names) → new.lines.items ≡ old.lines.items ++ line_text names (Faulty old.rows why)
-  pub rows : new.rows ≡ old.rows
-  pub faults : new.faults ≡ counter (old.faults + 1)
+-- one turn more, whose lines stand behind those that were there
+pub record Adds (p : Program) (old new : Turns) (before : List Row) (row : Row) : Type 0 where
+  pub fits : Fits p new (row ∷ before)
+  pub lines : new.lines.items ≡ old.lines.items ++ lines_text (names p) (turn_lines (query_of p) before row)
 
 -- the turns of these rows were taken, and their text written
 pub record Stands (p : Program) (cells : List Cells) (old now : Option (List ℕ)) (t : Turns) : Type 0 where

@@ -9,7 +9,7 @@ use csv::ByteRecord;
 use std::alloc::{AllocError, Global};
 use wsm_admission::Refusal;
 use wsm_csv::{
-    Device, DeviceFault, RowRefusal, end_text, fault_text, read_row_with, refusal_text, write_out,
+    Device, DeviceFault, RowRefusal, end_text, fault_text, read_row_into, refusal_text, write_out,
 };
 use wsm_engine::{Engine, Totals};
 use wsm_record::{Event, RowFault, Value};
@@ -20,19 +20,20 @@ use wsm_verifier::Verified;
 pub struct Turns {
     engine: Engine,
     lines: Vec<u8>,
-    // The vector of the last record's values, for those of the next.
+    // The event that was read last.
+    event: Event,
+    // Room for the values of the next record, where that event is none.
     spare: Vec<Value>,
-    // The rows so far, events or not.
-    rows: u64,
     // The rows that were no event.
     faults: u64,
 }
 
 impl Turns {
-    ghost use Rattle.std.specs.Prelude.{◌≡◌, true, false, List, [], IfOk, OnErr, OnOk};
+    ghost use Rattle.std.specs.Prelude.{◌≡◌, ◌++◌, true, false, List, [], length, Ok, Err, IfOk, OnErr, OnOk};
     ghost use Rattle.std.specs.Io.KnownBytes.{Appends};
     ghost use Rattle.csv.specs.Records.{fields_of};
-    ghost use Rattle.wsm_record.specs.Event.{Event as AnyEvent, event_of};
+    ghost use Rattle.wsm_record.specs.Event.{event_of};
+    ghost use Rattle.wsm_admission.specs.Admission.{counter};
     ghost use Rattle.wsm_semantics.specs.Lines.{Row, end_line};
     ghost use Rattle.wsm_semantics.specs.Text.{line_text};
     ghost use Rattle.wsm_program.specs.Program.{Program};
@@ -40,7 +41,7 @@ impl Turns {
     ghost use Rattle.wsm_csv.specs.Cells.{event_of_cells};
     ghost use Rattle.wsm_csv.specs.Device.{TakesPart};
     ghost use Rattle.wsm.specs.Written.{line_of};
-    ghost use Rattle.wsm.specs.Turns.{EngineFits, Ends, Fed, Fits, Refuses, Turned};
+    ghost use Rattle.wsm.specs.Turns.{Adds, Ends, Fits, Turned};
 
     /// Before the first row.
     pub fn open(alloc: Global, verified: Verified) -> Result<Turns, AllocError>
@@ -52,8 +53,8 @@ impl Turns {
         Ok(Turns {
             engine,
             lines: Vec::new(alloc),
+            event: Event::Watermark(0),
             spare: Vec::new(alloc),
-            rows: 0,
             faults: 0,
         })
     }
@@ -63,49 +64,50 @@ impl Turns {
         ensures { (p : Program) (before : List Row) → Fits p self.old before → OnOk result (Turned p self.new before (event_of_cells p.header.schema (fields_of row.now))) }
     {
         self.lines.clear();
-        self.rows = self.rows.saturating_add(1);
-        match read_row_with(alloc, self.engine.schema(), row, &mut self.spare) {
-            Ok(event) => self.feed_and_keep(event),
+        let schema = self.engine.schema();
+        match read_row_into(alloc, schema, row, &mut self.event, &mut self.spare) {
+            Ok(()) => self.feed(),
             Err(RowRefusal::Fault(why)) => self.refuse(why),
             Err(RowRefusal::Memory) => Err(AllocError),
         }
     }
 
-    // The turn of an event, whose vector of values is kept for the next record.
-    fn feed_and_keep(&mut self, event: Event) -> Result<(), AllocError>
-        ensures { (p : Program) (past : List AnyEvent) → EngineFits p self.old.engine past → OnOk result (Fed p self.old self.new past (event_of event)) }
+    // The turn of the event that was read.
+    fn feed(&mut self) -> Result<(), AllocError>
+        ensures { (p : Program) (before : List Row) → Fits p self.old before → OnOk result (Adds p self.old self.new before (Ok (event_of self.old.event))) }
     {
-        self.feed(&event)?;
-        self.keep(event);
-        Ok(())
-    }
-
-    // Keeps the vector of a record's values.
-    fn keep(&mut self, event: Event)
-        ensures { self.new ≡ record self.old { spare = self.new.spare } }
-    {
-        if let Event::Record { values, .. } = event {
-            self.spare = values;
-        }
-    }
-
-    // The turn of an event.
-    fn feed(&mut self, event: &Event) -> Result<(), AllocError>
-        ensures { (p : Program) (past : List AnyEvent) → EngineFits p self.old.engine past → OnOk result (Fed p self.old self.new past (event_of event.now)) }
-    {
-        let reply = self.engine.feed(event);
-        add_refusal(self.rows, reply.refusal, &mut self.lines)?;
+        let reply = self.engine.feed(&self.event);
+        self.tell(reply.refusal)?;
         add_rows(self.engine.program(), self.engine.rows(), &mut self.lines)?;
         Ok(())
     }
 
+    // Adds the line of the last row's refusal, if there is one.
+    fn tell(&mut self, refusal: Option<Refusal>) -> Result<(), AllocError>
+        ensures lines { (p : Program) (rows : List Row) → Fits p self.old rows → (names : Names) → OnOk result (self.new.lines.items ≡ self.old.lines.items ++ lines_text names (refusal_lines (counter (length rows)) refusal)) }
+        ensures others { self.new ≡ record self.old { lines = self.new.lines } }
+    {
+        match refusal {
+            Some(why) => add_refusal(self.row_count(), why, &mut self.lines),
+            None => Ok(()),
+        }
+    }
+
     // The turn of a row that is no event.
     fn refuse(&mut self, why: RowFault) -> Result<(), AllocError>
-        ensures { OnOk result (Refuses self.old self.new why) }
+        ensures { (p : Program) (before : List Row) → Fits p self.old before → OnOk result (Adds p self.old self.new before (Err why)) }
     {
         self.faults = self.faults.saturating_add(1);
-        fault_text(self.rows, why, &mut self.lines)?;
+        fault_text(self.row_count(), why, &mut self.lines)?;
         Ok(())
+    }
+
+    // How many rows there were, events or not.
+    fn row_count(&self) -> u64
+        ensures { (p : Program) (rows : List Row) → Fits p self.now rows → result ≡ counter (length rows) }
+    {
+        let events = self.engine.totals().rows;
+        events.saturating_add(self.faults)
     }
 
     /// Ends the turns. The lines are then the last line, whose numbers are answered.
@@ -135,7 +137,7 @@ impl Turns {
     {
         let totals = self.engine.totals();
         Totals {
-            rows: self.rows,
+            rows: self.row_count(),
             admitted: totals.admitted,
             late: totals.late,
             refused: self.faults.saturating_add(totals.refused),
@@ -144,18 +146,8 @@ impl Turns {
     }
 }
 
-// Adds the line of a refusal, if there is one.
-fn add_refusal(row: u64, refusal: Option<Refusal>, lines: &mut Vec<u8>) -> Result<(), AllocError>
-    ensures { (names : Names) → OnOk result (lines.new.items ≡ lines.old.items ++ lines_text names (refusal_lines row refusal)) }
-{
-    match refusal {
-        Some(why) => add_reason(row, why, lines),
-        None => Ok(()),
-    }
-}
-
 // Adds the line of a refusal; a late record has none.
-fn add_reason(row: u64, why: Refusal, lines: &mut Vec<u8>) -> Result<(), AllocError>
+fn add_refusal(row: u64, why: Refusal, lines: &mut Vec<u8>) -> Result<(), AllocError>
     ensures { (names : Names) → OnOk result (lines.new.items ≡ lines.old.items ++ lines_text names (refusal_lines row (Some why))) }
 {
     match why {

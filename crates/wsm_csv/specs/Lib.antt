@@ -8,3 +8,4 @@ pub mod Rows
 pub mod Refused
 pub mod Tags
 pub mod Lines
+pub mod InPlace

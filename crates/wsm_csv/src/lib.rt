@@ -8,7 +8,7 @@
 pub use device::{Device, DeviceFault, write_out};
 pub use guarded::Guarded;
 pub use number::read_number;
-pub use row::{RowRefusal, read_row, read_row_with};
+pub use row::{RowRefusal, read_row, read_row_into};
 pub use rows::{ReadEnd, Rows};
 pub use text::{end_text, fault_text, refusal_text, row_text};
 

@@ -1,10 +1,11 @@
 //! Reading rows as events.
 
-ghost use Rattle.std.specs.Prelude.{◌≡◌, ◌≢◌, ◌+◌, ◌<◌, ◌≤◌, List, drop, length, map, vec_capacity, IfErr, IfOk, MatchResult, OnOk, Err, Ok, Some, slice_get};
+ghost use Rattle.std.specs.Prelude.{◌≡◌, ◌≢◌, ◌+◌, ◌<◌, ◌≤◌, List, drop, length, map, vec_capacity, IfErr, IfOk, OnOk, Err, Ok, Some, slice_get};
 ghost use Rattle.csv.specs.Records.{fields_of};
-ghost use Rattle.wsm_record.specs.Event.{event_of};
+ghost use Rattle.wsm_record.specs.Event.{Record, event_of};
 ghost use Rattle.wsm_record.specs.Fields.{field_seen, type_seen};
 ghost use Rattle.wsm_csv.specs.Cells.{Adds, event_of_cells, place_of, record_of, record_tag, time_of, truth_of, value_of, values_of, watermark_of};
+ghost use Rattle.wsm_csv.specs.InPlace.{room_in, values_in};
 ghost use Rattle.wsm_csv.specs.Refused.{IfFault};
 ghost use Rattle.wsm_csv.specs.Tags.{row_tag, tag_of};
 
@@ -67,26 +68,30 @@ pub fn read_row(alloc: Global, schema: &Schema, row: &ByteRecord) -> Result<Even
     ensures fault { IfErr result (λ r. IfFault r (λ f. event_of_cells schema.now (fields_of row.now) ≡ Err f)) }
     ensures memory { result ≡ Err RowRefusal.Memory → slice_get (fields_of row.now) 0 ≡ Some record_tag }
 {
-    read_row_with(alloc, schema, row, &mut Vec::new(alloc))
+    let mut event = Event::Watermark(0);
+    read_row_into(alloc, schema, row, &mut event, &mut Vec::new(alloc))?;
+    Ok(event)
 }
 
-/// The event of a row, as [`read_row`] reads it, with a record's values in a spare vector: what stood
-/// in it is gone, and an empty one is left in its place. Where it has room for a value of each field
-/// no memory is asked for. A row that is no record leaves the vector its room.
-pub fn read_row_with(
+/// Reads the event of a row in place of another, as [`read_row`] reads it. A record's values are read
+/// into the vector of the record that stood there, or else into the spare one, where a watermark leaves
+/// the vector that it finds: where there is room for a value of each field no memory is asked for. After
+/// a refusal any event stands there.
+pub fn read_row_into(
     alloc: Global,
     schema: &Schema,
     row: &ByteRecord,
+    event: &mut Event,
     spare: &mut Vec<Value>,
-) -> Result<Event, RowRefusal>
-    ensures event { IfOk result (λ e. event_of_cells schema.now (fields_of row.now) ≡ Ok (event_of e)) }
+) -> Result<(), RowRefusal>
+    ensures event { OnOk result (event_of_cells schema.now (fields_of row.now) ≡ Ok (event_of event.new)) }
     ensures fault { IfErr result (λ r. IfFault r (λ f. event_of_cells schema.now (fields_of row.now) ≡ Err f)) }
     ensures memory { result ≡ Err RowRefusal.Memory → slice_get (fields_of row.now) 0 ≡ Some record_tag }
-    ensures room { length schema.now.fields ≤ vec_capacity spare.old → result ≢ Err RowRefusal.Memory }
+    ensures room { length schema.now.fields ≤ room_in event.old (vec_capacity spare.old) → result ≢ Err RowRefusal.Memory }
 {
     match read_tag(row) {
-        Some(Tag::Record) => read_record(alloc, schema, row, spare),
-        Some(Tag::Watermark) => Ok(read_watermark(row)?),
+        Some(Tag::Record) => read_record(alloc, schema, row, event, spare),
+        Some(Tag::Watermark) => Ok(read_watermark(row, event, spare)?),
         None => Err(RowRefusal::Fault(RowFault::BadTag)),
     }
 }
@@ -112,11 +117,12 @@ fn read_record(
     alloc: Global,
     schema: &Schema,
     row: &ByteRecord,
+    event: &mut Event,
     spare: &mut Vec<Value>,
-) -> Result<Event, RowRefusal>
-    ensures event { IfOk result (λ e. record_of schema.now (drop 1 (fields_of row.now)) ≡ Ok (event_of e)) }
+) -> Result<(), RowRefusal>
+    ensures event { OnOk result (record_of schema.now (drop 1 (fields_of row.now)) ≡ Ok (event_of event.new)) }
     ensures fault { IfErr result (λ r. IfFault r (λ f. record_of schema.now (drop 1 (fields_of row.now)) ≡ Err f)) }
-    ensures room { length schema.now.fields ≤ vec_capacity spare.old → result ≢ Err RowRefusal.Memory }
+    ensures room { length schema.now.fields ≤ room_in event.old (vec_capacity spare.old) → result ≢ Err RowRefusal.Memory }
 {
     let fields = schema.fields();
     if row.len() != RECORD_HEAD + fields.len() {
@@ -124,19 +130,57 @@ fn read_record(
     }
     let key = schema.key_number(cell_at(row, 1));
     let time = read_time(cell_at(row, 2))?;
-    read_values(fields, row, spare)?;
-    let values = mem::replace(spare, Vec::new(alloc));
-    Ok(Event::Record { key, time, values })
+    begin_record(alloc, event, spare, key, time);
+    if let Event::Record { values, .. } = event {
+        read_values(fields, row, values)?;
+    }
+    Ok(())
 }
 
-fn read_watermark(row: &ByteRecord) -> Result<Event, RowFault>
-    ensures { MatchResult result (λ e. watermark_of (drop 1 (fields_of row.now)) ≡ Ok (event_of e)) (λ f. watermark_of (drop 1 (fields_of row.now)) ≡ Err f) }
+// Has a record of a key and a time stand there, with the vector of the record that stood there or else
+// the spare one.
+#[inline(always)]
+fn begin_record(
+    alloc: Global,
+    event: &mut Event,
+    spare: &mut Vec<Value>,
+    key: Option<u16>,
+    time: i64,
+)
+    ensures begun { event_of event.new ≡ Record key time (values_in event.new) }
+    ensures room { room_in event.new (vec_capacity spare.new) ≡ room_in event.old (vec_capacity spare.old) }
+{
+    match event {
+        Event::Record { key: place, .. } => *place = key,
+        Event::Watermark(_) => {
+            *event = Event::Record {
+                key,
+                time,
+                values: mem::replace(spare, Vec::new(alloc)),
+            };
+        }
+    }
+    if let Event::Record { time: place, .. } = event {
+        *place = time;
+    }
+}
+
+fn read_watermark(
+    row: &ByteRecord,
+    event: &mut Event,
+    spare: &mut Vec<Value>,
+) -> Result<(), RowFault>
+    ensures event { OnOk result (watermark_of (drop 1 (fields_of row.now)) ≡ Ok (event_of event.new)) }
+    ensures fault { IfErr result (λ f. watermark_of (drop 1 (fields_of row.now)) ≡ Err f) }
 {
     if row.len() != WATERMARK_CELLS {
         return Err(RowFault::CellCount);
     }
     let time = read_time(cell_at(row, 1))?;
-    Ok(Event::Watermark(time))
+    if let Event::Record { values, .. } = mem::replace(event, Event::Watermark(time)) {
+        *spare = values;
+    }
+    Ok(())
 }
 
 // Reads the values of a record in place of those that are there, up to the first fault.

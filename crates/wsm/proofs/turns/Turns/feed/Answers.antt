@@ -1,32 +1,44 @@
-use Rattle.std.proofs.Common.{◌≡◌, ◌∙◌, ◌++◌, List, map, refl, ap}
+use Rattle.std.proofs.Common.{◌≡◌, ◌∙◌, ◌++◌, ◌+◌, ◌∷◌, ℕ, List, Ok, length, map, sym, ap, subst}
 use Rattle.wsm_record.specs.Event.{event_of}
+use Rattle.wsm_admission.specs.Admission.{counter}
 use Rattle.wsm_semantics.specs.Query.{verdict_on}
 use Rattle.wsm_semantics.specs.Relation.{turn_rows}
 use Rattle.wsm_semantics.specs.declared.out_row.OutRow.{OutRow}
-use Rattle.wsm_semantics.specs.Lines.{Out, refusal_lines}
+use Rattle.wsm_semantics.specs.Lines.{Out, events, refusal_lines}
 use Rattle.wsm_semantics.specs.Text.{lines_text}
 use Rattle.wsm_program.specs.Program.{Program}
 use Rattle.wsm_machine.specs.Meaning.{query_of}
 use Rattle.wsm_engine.specs.declared.reply.Reply.{Reply}
 use Rattle.wsm_engine.specs.Meaning.{reply_to}
-use Rattle.wsm.specs.Turns.{names}
+use Rattle.wsm.specs.declared.turns.Turns.{Turns}
+use Rattle.wsm.specs.Turns.{Fits, names}
+use Rattle.wsm.proofs.Taking.{one_more}
 use Rattle.wsm.proofs.Turning.{joined_lines}
 use Rattle.wsm.proofs.turns.Turns.feed.Goals as goal
 
 pub returns : goal.returns
-returns c = λ p past fits.
-    let e = event_of c.args.event.now in
-    let program : _ ≡ p = c.feed-reply.ensures.program ∙ fits.program in
-    let printed : c.program.result.now ≡ p = c.program.ensures ∙ program in
-    let verdict : c.feed-reply.result.refusal ≡ verdict_on (query_of p) past e = ap (λ (r : Reply). r.refusal) (c.feed-reply.ensures.reply past fits.fits) ∙ ap (λ (m : Program). (reply_to m past e).refusal) fits.program in
-    let rows : c.rows.result.now ≡ turn_rows (query_of p) past e = c.rows.ensures ∙ c.feed-reply.ensures.rows past fits.fits ∙ ap (λ (m : Program). turn_rows (query_of m) past e) fits.program in
-    let first = c.in_ok-add_refusal.ensures (names p) ∙ ap (λ r. c.args.self.now.lines.items ++ lines_text (names p) (refusal_lines c.args.self.now.rows r)) verdict in
+returns c = λ p before fits.
+    let old = c.args.self.now in
+    let e = event_of old.event in
+    let past = events before in
+    let fed = fits.engine in
+    let mid = c.tell.new.self in
+    let others : mid ≡ record old { engine = c.feed-reply.new.self; lines = mid.lines } = c.tell.ensures.others in
+    let next : Fits p (record old { engine = c.feed-reply.new.self }) (Ok e ∷ before) = record {
+      engine = record { program = c.feed-reply.ensures.program ∙ fed.program; fits = c.feed-reply.ensures.fits past fed.fits };
+      faults = fits.faults;
+    } in
+    let told : Fits p mid (Ok e ∷ before) = subst (λ (t : Turns). Fits p t (Ok e ∷ before)) (sym others) (record { engine = next.engine; faults = next.faults }) in
+    let printed : c.program.result.now ≡ p = c.program.ensures ∙ told.engine.program in
+    let verdict : c.feed-reply.result.refusal ≡ verdict_on (query_of p) past e = ap (λ (r : Reply). r.refusal) (c.feed-reply.ensures.reply past fed.fits) ∙ ap (λ (m : Program). (reply_to m past e).refusal) fed.program in
+    let rows : c.rows.result.now ≡ turn_rows (query_of p) past e = c.rows.ensures ∙ ap (λ (t : Turns). t.engine.rows) others ∙ c.feed-reply.ensures.rows past fed.fits ∙ ap (λ (m : Program). turn_rows (query_of m) past e) fed.program in
+    let first = c.in_ok-tell.ensures.lines p (Ok e ∷ before) next (names p)
+    ∙ ap (λ (n : ℕ). old.lines.items ++ lines_text (names p) (refusal_lines n c.feed-reply.result.refusal)) (one_more (length before))
+    ∙ ap (λ r. old.lines.items ++ lines_text (names p) (refusal_lines (counter (length before + 1)) r)) verdict in
     let second = c.in_ok-add_rows.ensures
-    ∙ ap (λ (m : Program). c.add_refusal.new.lines.items ++ lines_text (names m) (map Out c.rows.result.now)) printed
-    ∙ ap (λ (rs : List OutRow). c.add_refusal.new.lines.items ++ lines_text (names p) (map Out rs)) rows in
+    ∙ ap (λ (m : Program). mid.lines.items ++ lines_text (names m) (map Out c.rows.result.now)) printed
+    ∙ ap (λ (rs : List OutRow). mid.lines.items ++ lines_text (names p) (map Out rs)) rows in
     record {
-      engine = record { program = program; fits = c.feed-reply.ensures.fits past fits.fits };
-      lines = joined_lines (names p) c.args.self.now.lines.items c.add_refusal.new.lines.items c.add_rows.new.lines.items (refusal_lines c.args.self.now.rows (verdict_on (query_of p) past e)) (map Out (turn_rows (query_of p) past e)) first second;
-      rows = refl;
-      faults = refl;
+      fits = record { engine = told.engine; faults = told.faults };
+      lines = joined_lines (names p) old.lines.items mid.lines.items c.add_rows.new.lines.items (refusal_lines (counter (length before + 1)) (verdict_on (query_of p) past e)) (map Out (turn_rows (query_of p) past e)) first second;
     }

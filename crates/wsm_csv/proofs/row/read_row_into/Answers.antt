@@ -6,7 +6,7 @@ use Rattle.wsm_csv.specs.declared.row.Tag.{Tag}
 use Rattle.wsm_csv.specs.declared.row.Tag.TheVariants.{Record, Watermark}
 use Rattle.wsm_csv.specs.Tags.{row_tag}
 use Rattle.wsm_csv.proofs.CellLemmas.{TagDecides, row_tag-decides}
-use Rattle.wsm_csv.proofs.row.read_row_with.Goals as goal
+use Rattle.wsm_csv.proofs.row.read_row_into.Goals as goal
 
 decides : (d : Declared) (cells : List (List ℕ)) (t k : Tag) → Some t ≡ row_tag cells → t ≡ k → TagDecides d cells (Some k)
 decides d cells t k e h = subst (TagDecides d cells) (sym e ∙ ap Some h) (row_tag-decides d cells)
@@ -16,7 +16,7 @@ pub returns-in_err-read_watermark-in-Some-Watermark-clause-fault :
 returns-in_err-read_watermark-in-Some-Watermark-clause-fault c =
     let is = decides c.args.schema.now (fields_of c.args.row.now) _ Watermark c.in-Some-Watermark.ensures c.in-Some-Watermark.field-0-is in
     let p = err_from_is_err_and c.from_residual.result c.from_residual.ensures.1 in
-    rw (p.1, p.2) (is ∙ (c.in_err-read_watermark-in-Some-Watermark).ensures)
+    rw (p.1, p.2) (is ∙ (c.in_err-read_watermark-in-Some-Watermark).ensures.fault)
 
 pub returns-in-Some-Record-clause-event : goal.returns-in-Some-Record-clause-event
 returns-in-Some-Record-clause-event c =
@@ -35,7 +35,7 @@ returns-in-Some-Record-clause-memory c refused =
 pub returns-in_ok-read_watermark-in-Some-Watermark-clause-event :
     goal.returns-in_ok-read_watermark-in-Some-Watermark-clause-event
 returns-in_ok-read_watermark-in-Some-Watermark-clause-event c =
-    decides c.args.schema.now (fields_of c.args.row.now) _ Watermark c.in-Some-Watermark.ensures c.in-Some-Watermark.field-0-is ∙ (c.in_ok-read_watermark-in-Some-Watermark).ensures
+    decides c.args.schema.now (fields_of c.args.row.now) _ Watermark c.in-Some-Watermark.ensures c.in-Some-Watermark.field-0-is ∙ (c.in_ok-read_watermark-in-Some-Watermark).ensures.event
 
 pub returns-in-None-clause-fault : goal.returns-in-None-clause-fault
 returns-in-None-clause-fault c =
