@@ -193,7 +193,7 @@ impl Admission {
     fn is_full(&self) -> bool
         ensures { result ≡ nat_le (unsigned_abs self.now.clock.records) self.now.admitted }
     {
-        self.clock.records.unsigned_abs() <= self.admitted
+        self.clock.records as u64 <= self.admitted
     }
 }
 
