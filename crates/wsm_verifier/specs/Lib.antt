@@ -7,3 +7,4 @@ pub mod Accumulated
 pub mod Turning
 pub mod Text
 pub mod Vectors
+pub mod SelectsAll
