@@ -74,4 +74,12 @@ impl Columns {
         self.values[self.len] = value;
         self.len += 1;
     }
+
+    /// Takes all columns away.
+    pub fn clear(&mut self)
+        ensures { self.new ≡ [] }
+    {
+        self.values[..self.len].fill(Value::Int(0));
+        self.len = 0;
+    }
 }
