@@ -5,7 +5,7 @@ use Rattle.std.specs.Bool.{Decides}
 use Rattle.std.specs.Option.{SomeIff, option_eq}
 use Rattle.std.specs.Ordering.{int_eq, int_cmp, nat_cmp}
 use Rattle.std.specs.declared.cmp.Ordering.TheVariants.{Less, Equal}
-use lib.Signed.{le_z}
+use lib.Signed.{le_z, lt_z}
 use Rattle.std.proofs.lemmas.Int.{ints, by_lt_z, int_max_is}
 use Rattle.std.proofs.lemmas.Nat.{row_fits}
 use Rattle.std.proofs.lemmas.Bool.Decides.{nat_tests, Decides-like, Decides-int_eq}
@@ -109,6 +109,12 @@ le_from x y h = grind (arith, ints)
 
 pub lt_from : (x y : ℤ) → le_z x y ≡ false → y <ℤ x
 lt_from x y h = grind (arith, ints)
+
+pub less_from : (x y : ℤ) → lt_z x y ≡ true → x <ℤ y
+less_from x y h = grind (arith, ints)
+
+pub not_less_from : (x y : ℤ) → lt_z x y ≡ false → y ≤ℤ x
+not_less_from x y h = grind (arith, ints)
 
 pub behind_on_grid : (p before next : ℤ) → pos 1 ≤ℤ p → next ≡ before +ℤ (p -ℤ int_rem_euclid before p) → IsNextOnGrid p before next
 behind_on_grid (pos p) before next h is =

@@ -68,6 +68,17 @@ module _ {P : Type 0} (r : Ring) (os : List (Option (Place × P))) (placed : Are
     | inr row ↦ absurd (none f.0.key f row.1 (placed i f at).0.key (at_key i start f at row.0) row.0)
   ]
 
+  -- what is first behind the keys of such a row is the first of all
+  pub first_behind : (start last : ℤ) (key : ℕ) (o : Option (Place × P)) → ((i : ℕ) (f : Place × P) → slot_at os i ≡ Some f → IsFromOn start key f.0 → start <ℤ f.0.start) → IsFirstUntil r os start r.keys last o → IsFirstUntil r os start key last o
+  first_behind start last key None past none = λ i e at from. none i e at (inl (past i e at from))
+  first_behind start last key (Some e) past found =
+      let at = found.0.0 in
+      let from : IsFromOn start key e.0 = elim found.0.1 [
+        | inl less ↦ inl less
+        | inr row ↦ absurd (omega (arith, row.1, (placed _ e at).0.key))
+      ] in
+      ((at, from, λ i f there later. found.0.2 i f there (inl (past i f there later))), found.1)
+
   -- and so from the next window on
   pub scan_next : pos 1 ≤ℤ r.period → (start : ℤ) → IsOnGrid r start → (i : ℕ) (f : Place × P) → slot_at os i ≡ Some f → start <ℤ f.0.start → (start +ℤ r.period) ≤ℤ f.0.start
   scan_next period start grid i f at less = next_on_grid r.period grid.0 (window_number r f.0.start) start f.0.start period grid.1 (placed i f at).0.start less

@@ -125,11 +125,15 @@ pub(crate) fn first_on(
     ensures first { IsFirstUntil ring slots.now.slots start key last (at_slot slots.now.slots result) }
     ensures there { is_some (at_slot slots.now.slots result) ≡ is_some result }
 {
-    // Mostly the next key has a pane of the same window.
-    if start <= last && key < ring.keys && starts_at(slots, row + key, start) {
-        return Some(row + key);
+    if last < start {
+        return None;
     }
-    first_until(ring, slots, start, key, last)
+    // Mostly one of the next keys has a pane of the same window.
+    let found = first_in_row(slots, row, start, key, ring.keys);
+    if found.is_some() {
+        return found;
+    }
+    first_until(ring, slots, start, ring.keys, last)
 }
 
 /// Where the entry in a slot is, if one was found.

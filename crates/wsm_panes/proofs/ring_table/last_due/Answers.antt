@@ -1,14 +1,10 @@
-use Rattle.std.proofs.Common.{◌≡◌, Some, None, true, refl, ℤ, ◌<ℤ◌, ◌≤ℤ◌, SFits, w64, to_z, of_z, ◌+ℤ◌, ◌-ℤ◌, rules, ◌∙◌, ap, arith}
-use lib.Signed.{lt_z}
+use Rattle.std.proofs.Common.{◌≡◌, Some, None, refl, ℤ, ◌<ℤ◌, ◌≤ℤ◌, SFits, w64, to_z, of_z, ◌+ℤ◌, ◌-ℤ◌, rules, ◌∙◌, ap, arith}
 use Rattle.std.specs.Int.{int_min}
 use Rattle.std.specs.Option.{SomeIff}
 use Rattle.std.proofs.lemmas.Int.{ints, int_min_is, to_z-of_z}
-use Rattle.wsm_panes.proofs.Rings.{between_fits}
+use Rattle.wsm_panes.proofs.Rings.{between_fits, less_from}
 use Rattle.wsm_panes.proofs.Clears.{none_ended}
 use Rattle.wsm_panes.proofs.ring_table.last_due.Goals as goal
-
-less_from : (x y : ℤ) → lt_z x y ≡ true → x <ℤ y
-less_from x y h = grind (arith, ints)
 
 pub returns-in_err-latest : goal.returns-in_err-latest
 returns-in_err-latest c =

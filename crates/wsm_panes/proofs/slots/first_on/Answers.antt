@@ -1,29 +1,39 @@
-use Rattle.std.proofs.Common.{◌≡◌, ◌+◌, ◌<◌, ◌≤ℤ◌, length, true, SFits, w64, inr, arith, refl, sym, ◌∙◌}
-use Rattle.std.proofs.lemmas.Int.{to_z-of_z}
-use Rattle.std.specs.Option.{is_some}
-use Rattle.wsm_panes.specs.Ring.{IsFirstInRow, IsFirstFrom, NoneInRow, row_of, slot_at, starts_at}
-use Rattle.wsm_panes.proofs.Rings.{le_from}
-use Rattle.wsm_panes.proofs.Scan.{row_found, scan_found, scan_until, some_starts}
+use Rattle.std.proofs.Common.{◌<ℤ◌, ◌≤ℤ◌, SFits, w64, inl, inr, arith, refl, sym, ◌∙◌}
+use Rattle.std.proofs.lemmas.Int.{ints, to_z-of_z}
+use Rattle.wsm_panes.specs.Ring.{IsFirstInRow, IsFirstFrom, IsFirstUntil, at_slot, row_of}
+use Rattle.wsm_panes.proofs.Rings.{less_from, not_less_from}
+use Rattle.wsm_panes.proofs.Scan.{first_behind, scan_found, scan_past, scan_until}
 use Rattle.wsm_panes.proofs.slots.first_on.Goals as goal
 
-pub returns-then-starts_at-clause-first : goal.returns-then-starts_at-clause-first
-returns-then-starts_at-clause-first c =
+pub returns-then-last-start-clause-first : goal.returns-then-last-start-clause-first
+returns-then-last-start-clause-first c =
+    let fits : SFits w64 c.args.start = c.ranges.start in
+    let last : SFits w64 c.args.last = c.ranges.last in
+    let test : c.args.last <ℤ c.args.start = less_from _ _ (simp to_z-of_z at c.if-last-start.true) in
+    λ i e at from. elim from [
+      | inl less ↦ omega (arith, ints, less, test)
+      | inr same ↦ omega (arith, ints, same.0, test)
+    ]
+
+pub returns-then-is_some-clause-first : goal.returns-then-is_some-clause-first
+returns-then-is_some-clause-first c =
     let fits : SFits w64 c.args.start = c.ranges.start in
     let last : SFits w64 c.args.last = c.ranges.last in
     let r = c.args.ring in let os = c.args.slots.now.slots in
-    let within : c.args.row + c.args.key < length os = omega (arith, c.requires.within, c.if-key-ring.true) in
-    let starts : starts_at c.args.start (slot_at os (c.args.row + c.args.key)) ≡ true = sym (simp to_z-of_z at c.starts_at.ensures) ∙ c.if-starts_at.true in
-    let some : is_some (slot_at os (c.args.row + c.args.key)) ≡ true = some_starts c.args.start (slot_at os (c.args.row + c.args.key)) starts in
-    let none : NoneInRow os c.args.row c.args.start c.args.key c.args.key = λ k e low high at same. absurd (omega (arith, low, high)) in
-    let row : IsFirstInRow os (row_of r c.args.start) c.args.start c.args.key r.keys (slot_at os (c.args.row + c.args.key)) =
-    rw (← c.requires.row) (row_found os c.args.row c.args.start c.args.key c.args.key r.keys (slot_at os (c.args.row + c.args.key)) (omega arith) c.if-key-ring.true refl starts none) in
-    let test : c.args.start ≤ℤ c.args.last = le_from _ _ (simp to_z-of_z at c.if-start-last.true) in
-    let first : IsFirstFrom r os c.args.start c.args.key (slot_at os (c.args.row + c.args.key)) =
-    scan_found r os c.requires.placed c.args.start c.args.start c.args.key c.args.key _ (inr (refl, omega arith)) (λ i e at from. from) row some in
-    scan_until r os c.requires.placed c.args.start c.args.start c.args.last c.args.key c.args.key _ first row some test
+    let o = at_slot os c.first_in_row-found.result in
+    let row : IsFirstInRow os (row_of r c.args.start) c.args.start c.args.key r.keys o = rw (← c.requires.row) (simp to_z-of_z at c.first_in_row-found.ensures.first) in
+    let some = c.first_in_row-found.ensures.there ∙ sym c.is_some.ensures ∙ c.if-is_some.true in
+    let test : c.args.start ≤ℤ c.args.last = not_less_from _ _ (simp to_z-of_z at c.if-last-start.false) in
+    let first : IsFirstFrom r os c.args.start c.args.key o = scan_found r os c.requires.placed c.args.start c.args.start c.args.key c.args.key o (inr (refl, omega arith)) (λ i e at from. from) row some in
+    scan_until r os c.requires.placed c.args.start c.args.start c.args.last c.args.key c.args.key o first row some test
 
 pub returns-clause-first : goal.returns-clause-first
 returns-clause-first c =
     let fits : SFits w64 c.args.start = c.ranges.start in
     let last : SFits w64 c.args.last = c.ranges.last in
-    simp to_z-of_z at c.first_until.ensures.first
+    let r = c.args.ring in let os = c.args.slots.now.slots in
+    let o = at_slot os c.first_in_row-found.result in
+    let row : IsFirstInRow os (row_of r c.args.start) c.args.start c.args.key r.keys o = rw (← c.requires.row) (simp to_z-of_z at c.first_in_row-found.ensures.first) in
+    let none = c.first_in_row-found.ensures.there ∙ sym c.is_some.ensures ∙ c.if-is_some.false in
+    let behind : IsFirstUntil r os c.args.start r.keys c.args.last (at_slot os c.first_until.result) = simp to_z-of_z at c.first_until.ensures.first in
+    first_behind r os c.requires.placed c.args.start c.args.last c.args.key _ (scan_past r os c.requires.placed c.args.start c.args.key o row none) behind
