@@ -35,7 +35,8 @@ pub struct Due {
 }
 
 /// Fires a pane that is held. Its columns stand for it, of which the streams are told, and are written
-/// where rows are those of panes.
+/// where rows are those of panes. The row is left as this firing's, in the room of the last one's.
+#[inline(always)]
 pub fn fire(
     verified: &Verified,
     machine: &mut Machine,
@@ -43,6 +44,7 @@ pub fn fire(
     streams: &mut Streams,
     rows: &mut Vec<OutRow>,
     tally: &mut Tally,
+    row: &mut Option<Columns>,
     due: Due,
 )
     requires wide { held.old.widths.columns ≡ length verified.now.header.columns }
@@ -56,16 +58,25 @@ pub fn fire(
     ensures capacity { vec_capacity rows.new ≡ vec_capacity rows.old }
     ensures tally { (pane : Pane (List Value)) → find place_cmp due.spot.place (entries_of held.old) ≡ Some pane → tally.new ≡ tally_with verified.now tally.old (fired_by verified.now.header.mode due pane ∷ []) }
 {
-    // First, so that its places are cleared once.
-    let mut row = Some(Columns::new());
+    clear(row);
     let header = verified.program().header();
     let pane = held.pane(due.spot);
-    let steps = run(verified, machine, due, &pane, &mut row);
+    let steps = run(verified, machine, due, &pane, row);
     streams.lose(&pane);
-    held.fire_at(due.spot, header.mode, &row);
-    streams.gain(&row);
+    held.fire_at(due.spot, header.mode, row);
+    streams.gain(row);
     tally.count(steps);
-    write(header.form, rows, due, &row);
+    write(header.form, rows, due, row);
+}
+
+// Has a row no columns yet. Where there is one already, only the places in use are cleared.
+fn clear(row: &mut Option<Columns>)
+    ensures { row.new ≡ Some [] }
+{
+    match row {
+        Some(columns) => columns.clear(),
+        None => *row = Some(Columns::new()),
+    }
 }
 
 // Writes the row of a firing, where HAVING is true and rows are those of panes.

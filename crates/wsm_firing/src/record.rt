@@ -131,6 +131,7 @@ fn fire_at(
             streams,
             rows,
             tally,
+            &mut None,
             Due { kind, spot },
         );
     }

@@ -24,6 +24,7 @@ use wsm_verifier::Verified;
 
 /// Fires the panes that a watermark comes to as it rises from one mark to another, by end, then
 /// start, then key. A row is written for each where HAVING is true and rows are those of panes.
+#[inline(never)]
 pub fn fire_by_watermark(
     verified: &Verified,
     machine: &mut Machine,
@@ -47,6 +48,7 @@ pub fn fire_by_watermark(
     let header = verified.program().header();
     let expired = last_expired(new, header.clock.lateness);
     let mut tally = Tally::none();
+    let mut row = None;
     let mut next = first_to_fire(held, expired, old, new);
     for _ in 0..held.len() {
         let Some(spot) = next else {
@@ -60,6 +62,7 @@ pub fn fire_by_watermark(
                 streams,
                 rows,
                 &mut tally,
+                &mut row,
                 Due { kind, spot },
             );
         }
