@@ -58,9 +58,9 @@ pub fn fire(
     ensures capacity { vec_capacity rows.new ≡ vec_capacity rows.old }
     ensures tally { (pane : Pane (List Value)) → find place_cmp due.spot.place (entries_of held.old) ≡ Some pane → tally.new ≡ tally_with verified.now tally.old (fired_by verified.now.header.mode due pane ∷ []) }
 {
-    clear(row);
     let header = verified.program().header();
     let pane = held.pane(due.spot);
+    clear(row);
     let steps = run(verified, machine, due, &pane, row);
     streams.lose(&pane);
     held.fire_at(due.spot, header.mode, row);

@@ -16,6 +16,7 @@ use wsm_verifier::Verified;
 
 /// Runs FIRE on a pane that fires. Adds the columns of its row, or takes the row away where HAVING is
 /// false, and answers how many instructions were executed.
+#[inline(always)]
 pub fn run(
     verified: &Verified,
     machine: &mut Machine,

@@ -105,7 +105,21 @@ impl Streams {
     }
 
     /// The relation gains a row, if there is one.
+    #[inline(always)]
     pub(crate) fn gain(&mut self, row: &Option<Columns>)
+        requires { CanGain self.old row.now }
+        ensures told { (before now : List (List Value)) → IsTold self.old before now → IsTold self.new before (cons_option row.now now) }
+        ensures alike { AreAlike self.old self.new }
+    {
+        if let Form::Panes = self.form {
+            return;
+        }
+        self.gain_standing(row);
+    }
+
+    // The same, where rows are those of the relation.
+    #[inline(never)]
+    fn gain_standing(&mut self, row: &Option<Columns>)
         requires { CanGain self.old row.now }
         ensures told { (before now : List (List Value)) → IsTold self.old before now → IsTold self.new before (cons_option row.now now) }
         ensures alike { AreAlike self.old self.new }

@@ -225,6 +225,7 @@ impl HeldPanes {
 
     /// Has the pane at a spot have fired: it has shown all of its records, and the row of the firing
     /// stands.
+    #[inline(always)]
     pub fn fire_at(&mut self, spot: Spot, mode: Mode, row: &Option<Columns>)
         requires there { IsSome (find place_cmp spot.place (entries_of self.old)) }
         requires wide { IfSome row.now (λ columns. length columns ≡ self.old.widths.columns) }
