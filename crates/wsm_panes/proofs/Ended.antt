@@ -1,8 +1,8 @@
 -- How many of the first entries have a window that ends by a time.
-use Rattle.std.proofs.Common.{◌≡◌, ℕ, zero, suc, ◌<◌, ◌≤◌, true, false, cond, T, List, [], ◌∷◌, length, get_or, refl, inl, inr, arith}
+use Rattle.std.proofs.Common.{◌≡◌, ℕ, zero, suc, ◌<◌, ◌≤◌, true, false, cond, T, List, [], ◌∷◌, drop, length, get_or, refl, inl, inr, ap, arith}
 use Rattle.std.proofs.lemmas.Bool.{cases_Bool}
 use Rattle.std.proofs.lemmas.Int.{ints}
-use Rattle.std.specs.Prelude.{ℤ, ◌≤ℤ◌, slice_get}
+use Rattle.std.specs.Prelude.{ℤ, ◌≤ℤ◌, filter, slice_get}
 use Rattle.std.specs.declared.cmp.Ordering.{Ordering}
 use Rattle.std.specs.declared.cmp.Ordering.TheVariants.{Less, Equal, Greater}
 use Rattle.std.specs.FinMap.{is_sorted}
@@ -11,7 +11,7 @@ use Rattle.std.specs.Ordering.{int_cmp, is_lt, ordering_then}
 use Rattle.wsm_semantics.specs.declared.place.Place.{Place}
 use Rattle.wsm_panes.specs.Place.{place_cmp, is_kept}
 use Rattle.wsm_panes.specs.Walk.{first_past}
-use Rattle.wsm_panes.proofs.Sorted.{less_at, first_of_and, second_of_and}
+use Rattle.wsm_panes.proofs.Sorted.{less_at, lesser, first_of_and, second_of_and}
 
 first_less : (o next : Ordering) → ordering_then o next ≡ Less → is_lt o ≡ false → o ≡ Equal
 first_less Less next h n = absurd (cc)
@@ -63,3 +63,21 @@ module _ {P : Type 0} (time : ℤ) where
     where
       sym_kept : (p r : Place) → is_kept time p ≡ true → p.end ≤ℤ r.end → is_kept time r ≡ false → true ≡ false
       sym_kept p r kept order gone = grind (arith, ints)
+
+  -- all that is behind one that ends past the time does too
+  all_kept : (p : Place) (es : List (Place × P)) → is_kept time p ≡ true → T (below_all place_cmp p es) → filter (λ e. is_kept time e.0) es ≡ es
+  all_kept p [] kept below = refl
+  all_kept p (e ∷ es) kept below =
+      let order : p.end ≤ℤ e.0.end = ends_in_order p e.0 (lesser (place_cmp p e.0) (first_of_and (is_lt (place_cmp p e.0)) _ below)) in
+      rw (later p e.0 kept order) (ap (λ fs. e ∷ fs) (all_kept p es kept (second_of_and (is_lt (place_cmp p e.0)) _ below)))
+    where
+      later : (p r : Place) → is_kept time p ≡ true → p.end ≤ℤ r.end → is_kept time r ≡ true
+      later p r kept order = grind (arith, ints)
+
+  -- they come first
+  pub ended_left : (es : List (Place × P)) → T (is_sorted place_cmp es) → filter (λ e. is_kept time e.0) es ≡ drop (ended es) es
+  ended_left [] sorted = refl
+  ended_left (e ∷ es) sorted = elim (cases_Bool (is_kept time e.0)) [
+    | inl kept ↦ rw kept (ap (λ fs. e ∷ fs) (all_kept e.0 es kept (first_of_and (below_all place_cmp e.0 es) _ sorted)))
+    | inr gone ↦ rw gone (ended_left es (second_of_and (below_all place_cmp e.0 es) _ sorted))
+  ]

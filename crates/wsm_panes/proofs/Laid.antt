@@ -199,7 +199,7 @@ entries_free w c (suc n) h fs rs free =
 
 -- ---- what a slot has, where it is one
 
-held_within : {X : Type 0} (os : List (Option X)) (i : ℕ) → is_some (slot_at os i) ≡ true → i < length os
+pub held_within : {X : Type 0} (os : List (Option X)) (i : ℕ) → is_some (slot_at os i) ≡ true → i < length os
 held_within [] i some = absurd (true≢false (sym some))
 held_within (o ∷ os) zero some = omega arith
 held_within (o ∷ os) (suc i) some = omega (arith, held_within os i some)

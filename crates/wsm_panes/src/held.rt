@@ -51,7 +51,7 @@ pub struct HeldPanes {
     shape: Shape,
     live: usize,
     // The panes of sessions.
-    list: ListTable<Pane>,
+    list: ListTable,
     // The panes of windows on a grid.
     ring: RingTable,
     // Of each key, where windows are sessions.
@@ -99,7 +99,7 @@ impl HeldPanes {
             keys,
             shape,
             live,
-            list: ListTable::open(alloc, list_room(shape, keys * live))?,
+            list: ListTable::open(alloc, list_room(shape, keys * live), widths)?,
             ring: RingTable::open(alloc, ring_for(shape, keys, live), widths)?,
             sessions: open_sessions(alloc, keys, shape, live)?,
         })
@@ -255,7 +255,8 @@ impl HeldPanes {
 
 // How many panes there is room for in the list.
 fn list_room(shape: Shape, room: usize) -> usize
-    ensures { (gap : ℤ) → shape ≡ Session gap → result ≡ room }
+    ensures all { (gap : ℤ) → shape ≡ Session gap → result ≡ room }
+    ensures within { result ≤ room }
 {
     match shape {
         Shape::Session(_) => room,

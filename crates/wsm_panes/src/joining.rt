@@ -12,6 +12,7 @@ ghost use Rattle.wsm_semantics.specs.Sessions.{with_session};
 ghost use Rattle.wsm_semantics.specs.Summaries.{joined_all, linked, merged_session, session_with};
 ghost use Rattle.wsm_sessions.specs.Live.{Fits};
 ghost use Rattle.wsm_panes.specs.Held.{CanJoin, CanRecord, CanJoinAll, first_two, taking, windows_of_key, with_one_more};
+ghost use Rattle.wsm_panes.specs.Layout.{IsAsWide};
 
 use crate::entering::place_of;
 use crate::list::ListTable;
@@ -27,7 +28,7 @@ use wsm_windows::Window;
 /// the session, and tells whether two were joined. Its frame is large, so it isn't inlined.
 #[inline(never)]
 pub(crate) fn enter_session(
-    table: &mut ListTable<Pane>,
+    table: &mut ListTable,
     sessions: &mut Sessions,
     kinds: &[Kind],
     key: u16,
@@ -39,12 +40,14 @@ pub(crate) fn enter_session(
     requires times { (times : List ℤ) × Fits sessions.old times }
     requires agree { windows_of_key key (map.entries table.old.panes) ≡ sessions.old.windows }
     requires few { length values.now ≤ 16 }
+    requires wide { length values.now ≡ table.old.widths.accumulators }
     requires types { IsTrue (are_of_kinds kinds.now values.now) }
     requires joins { CanJoinAll kinds.now values.now (linked sessions.old.gap (datum 0 key time []) (map.entries table.old.panes)) }
     requires room { length (merged_session (taking kinds.now values.now) sessions.old.gap (datum 0 key time []) (map.entries table.old.panes)) ≤ table.old.room }
     requires live { length (filter (λ e. nat_eq e.0.key key) (merged_session (taking kinds.now values.now) sessions.old.gap (datum 0 key time []) (map.entries table.old.panes))) ≤ sessions.old.room }
     ensures panes { map.entries table.new.panes ≡ merged_session (taking kinds.now values.now) sessions.old.gap (datum 0 key time []) (map.entries table.old.panes) }
     ensures room { table.new.room ≡ table.old.room }
+    ensures widths { table.new.widths ≡ table.old.widths }
     ensures session { result.0 ≡ window_of (session_with sessions.old.gap (datum 0 key time []) (linked sessions.old.gap (datum 0 key time []) (map.entries table.old.panes))) }
     ensures joined { result.1 ≡ nat_lt 1 (length (linked sessions.old.gap (datum 0 key time []) (map.entries table.old.panes))) }
     ensures sessions { sessions.new ≡ record sessions.old { windows = with_session sessions.old.gap time sessions.old.windows } }
@@ -69,20 +72,16 @@ pub(crate) fn enter_session(
 }
 
 // Puts a record into the pane at a place, which goes to the place of the session then.
-fn enter_moved(
-    table: &mut ListTable<Pane>,
-    from: Place,
-    to: Place,
-    kinds: &[Kind],
-    values: &[Value],
-)
+fn enter_moved(table: &mut ListTable, from: Place, to: Place, kinds: &[Kind], values: &[Value])
     requires few { length values.now ≤ 16 }
+    requires wide { length values.now ≡ table.old.widths.accumulators }
     requires types { IsTrue (are_of_kinds kinds.now values.now) }
     requires there { IsSome (map.get table.old.panes from) }
     requires takes { IfSome (map.get table.old.panes from) (CanRecord kinds.now values.now) }
     requires room { (map.contains_key (map.remove table.old.panes from) to ≡ true) ⊎ (map.len (map.remove table.old.panes from) < table.old.room) }
     ensures panes { table.new.panes ≡ map.insert (map.remove table.old.panes from) to (with_one_more kinds.now values.now (map.get table.old.panes from)) }
     ensures room { table.new.room ≡ table.old.room }
+    ensures widths { table.new.widths ≡ table.old.widths }
 {
     if from == to {
         table.enter(to, kinds, values);
@@ -94,7 +93,7 @@ fn enter_moved(
 
 // Puts a record into its session, of what the panes that it is linked to come to together.
 fn merge_linked(
-    table: &mut ListTable<Pane>,
+    table: &mut ListTable,
     sessions: &mut Sessions,
     kinds: &[Kind],
     key: u16,
@@ -106,12 +105,14 @@ fn merge_linked(
     requires times { (times : List ℤ) × Fits sessions.old times }
     requires agree { windows_of_key key (map.entries table.old.panes) ≡ sessions.old.windows }
     requires few { length values.now ≤ 16 }
+    requires wide { length values.now ≡ table.old.widths.accumulators }
     requires types { IsTrue (are_of_kinds kinds.now values.now) }
     requires joins { CanJoinAll kinds.now values.now (linked sessions.old.gap (datum 0 key time []) (map.entries table.old.panes)) }
     requires room { length (merged_session (taking kinds.now values.now) sessions.old.gap (datum 0 key time []) (map.entries table.old.panes)) ≤ table.old.room }
     requires live { length (filter (λ e. nat_eq e.0.key key) (merged_session (taking kinds.now values.now) sessions.old.gap (datum 0 key time []) (map.entries table.old.panes))) ≤ sessions.old.room }
     ensures panes { map.entries table.new.panes ≡ merged_session (taking kinds.now values.now) sessions.old.gap (datum 0 key time []) (map.entries table.old.panes) }
     ensures room { table.new.room ≡ table.old.room }
+    ensures widths { table.new.widths ≡ table.old.widths }
     ensures session { result.0 ≡ window_of (session_with sessions.old.gap (datum 0 key time []) (linked sessions.old.gap (datum 0 key time []) (map.entries table.old.panes))) }
     ensures joined { result.1 ≡ nat_lt 1 (length (linked sessions.old.gap (datum 0 key time []) (map.entries table.old.panes))) }
     ensures sessions { sessions.new ≡ record sessions.old { windows = with_session sessions.old.gap time sessions.old.windows } }
@@ -127,7 +128,7 @@ fn merge_linked(
 
 /// The panes of the two sessions that a record joins, where it joins two.
 pub(crate) fn linked_pair(
-    table: &ListTable<Pane>,
+    table: &ListTable,
     sessions: &Sessions,
     key: u16,
     time: i64,
@@ -151,7 +152,7 @@ pub(crate) fn linked_pair(
 // Takes the panes that a record is linked to out, and gives what they come to together, if there are
 // any. Tells whether they are two.
 fn take_linked(
-    table: &mut ListTable<Pane>,
+    table: &mut ListTable,
     sessions: &Sessions,
     kinds: &[Kind],
     key: u16,
@@ -162,8 +163,10 @@ fn take_linked(
     requires joins { (values : List OneValue) × CanJoinAll kinds.now values (linked sessions.now.gap (datum 0 key time []) (map.entries table.old.panes)) }
     ensures panes { table.new.panes ≡ map.retain_keys table.old.panes (λ p. not (is_linked sessions.now.gap (datum 0 key time []) p)) }
     ensures room { table.new.room ≡ table.old.room }
+    ensures widths { table.new.widths ≡ table.old.widths }
     ensures pane { (values : List OneValue) → result.0 ≡ joined_all (taking kinds.now values) (linked sessions.now.gap (datum 0 key time []) (map.entries table.old.panes)) }
     ensures takes { (values : List OneValue) → CanJoinAll kinds.now values (linked sessions.now.gap (datum 0 key time []) (map.entries table.old.panes)) → IfSome result.0 (CanRecord kinds.now values) }
+    ensures wide { IfSome result.0 (IsAsWide table.old.widths) }
     ensures joined { result.1 ≡ nat_lt 1 (length (linked sessions.now.gap (datum 0 key time []) (map.entries table.old.panes))) }
 {
     match sessions.linked(time) {
@@ -179,11 +182,13 @@ fn take_linked(
 }
 
 // Takes the pane at a place out.
-fn take(table: &mut ListTable<Pane>, place: Place) -> Pane
+fn take(table: &mut ListTable, place: Place) -> Pane
     requires { IsSome (map.get table.old.panes place) }
     ensures pane { map.get table.old.panes place ≡ Some result }
+    ensures wide { IsAsWide table.old.widths result }
     ensures panes { table.new.panes ≡ map.remove table.old.panes place }
     ensures room { table.new.room ≡ table.old.room }
+    ensures widths { table.new.widths ≡ table.old.widths }
 {
     let pane = table.get(place).unwrap();
     table.remove(place);

@@ -77,6 +77,14 @@ impl Slots {
         }
     }
 
+    /// The place of the entry in a slot.
+    pub(crate) fn held_place(&self, slot: usize) -> Place
+        requires { IsTrue (is_some (slot_at self.now.slots slot)) }
+        ensures { option_map (λ e. e.0) (slot_at self.now.slots slot) ≡ Some result }
+    {
+        self.heads[slot].place()
+    }
+
     /// The pane in a slot.
     pub(crate) fn pane(&self, slot: usize) -> PaneView<'_>
         requires { IsTrue (is_some (slot_at self.now.slots slot)) }

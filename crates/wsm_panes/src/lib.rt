@@ -4,11 +4,11 @@
 //! of sessions in a list, those of fixed and sliding windows in a ring. A table is a [`PaneTable`]: a
 //! finite map from places, which are a window and a key, to panes, with room for a number of them that
 //! is reserved when it is opened. It is walked by end, then start, then key, so panes come in the order
-//! in which they fire and expire. [`ListTable`] keeps a sorted list of places beside slots for their
-//! panes, and [`RingTable`] a ring of slots, a row for each window, where a place has its slot without
-//! a search. A pane that a record comes into changes in its slot, as a [`TakesRecords`] says. The slots
-//! of a ring are as wide as the panes of its program, which [`Widths`] tells, and a pane that is held
-//! is read through a [`PaneView`].
+//! in which they fire and expire. [`ListTable`] keeps its slots in a row, in the order of the places of
+//! their panes, and [`RingTable`] in a ring, a row for each window, where a place has its slot without
+//! a search. A pane that a record comes into changes in its slot, as a [`TakesRecords`] says. Slots are
+//! as wide as the panes of their program, which [`Widths`] tells, and a pane that is held is read
+//! through a [`PaneView`].
 #![tactic(auto)]
 
 pub use held::{Entered, HeldPanes};
@@ -33,9 +33,9 @@ mod pane;
 mod recording;
 mod ring;
 mod ring_table;
+mod slot_row;
 mod slots;
 mod spot;
-mod store;
 mod table;
 mod view;
 mod widths;

@@ -1,380 +1,234 @@
 //! A table kept as a sorted list.
 
-ghost use Rattle.std.specs.Prelude.{◌≡◌, ◌⊎◌, ◌<◌, ◌≤◌, ◌+◌, ℕ, List, None, Some, IfOk, IfErr, IsTrue, true, not, drop, filter, take, vec_len, vec_capacity, IsSome, IfSome, length, option_map, slice_get};
+ghost use Rattle.std.specs.Prelude.{◌≡◌, ◌⊎◌, ◌<◌, ◌≤◌, ◌^◌, List, None, Some, IfOk, IfErr, IfSome, IsSome, IsTrue, drop, filter, length, not, option_map, slice_get};
 ghost use Rattle.std.specs.FinMap as map;
 ghost use Rattle.wsm_fold.specs.Fold.{are_of_kinds};
 ghost use Rattle.wsm_record.specs.declared.event.Value.{Value as OneValue};
 ghost use Rattle.wsm_record.specs.declared.words.Kind.{Kind as OneKind};
 ghost use Rattle.wsm_semantics.specs.Summaries.{Pane as AnyPane};
-ghost use Rattle.wsm_panes.specs.Held.{once_fired};
+ghost use Rattle.wsm_panes.specs.Held.{CanRecord, once_fired, with_one_more};
+ghost use Rattle.wsm_panes.specs.Layout.{IsAsWide};
 ghost use Rattle.wsm_panes.specs.Place.{place_cmp, is_kept, is_other};
 ghost use Rattle.wsm_panes.specs.Search.{IsAt, IsGapFor};
-ghost use Rattle.wsm_panes.specs.Stored.{AreStored, listed, shown, uses};
-ghost use Rattle.wsm_panes.specs.Walk.{first_past, following, place_due, place_found};
+ghost use Rattle.wsm_panes.specs.Stored.{AreIn, AreStored, shown};
+ghost use Rattle.wsm_panes.specs.Walk.{first_past, place_due, place_found};
 
+use crate::layout::Slots;
 use crate::pane::Pane;
-use crate::recording::TakesRecords;
+use crate::slot_row::SlotRow;
 use crate::spot::{Spot, due};
-use crate::store::Store;
 use crate::table::PaneTable;
 use crate::view::PaneView;
+use crate::widths::Widths;
 use std::alloc::{AllocError, Global};
 use std::cmp::Ordering;
 use std::marker::Model;
 use wsm_record::{Kind, Mode, Value};
 use wsm_semantics::{Columns, Place};
 
-/// A table kept as a sorted list of places, each with the slot of its pane: a place is found by
-/// binary search, and a new one moves those behind it. Panes stay in their slots.
+/// A table kept as a sorted list: a row of slots, in the order of the places of their panes. A place
+/// is found by binary search, and the slot of a new one moves those behind it in the row. Panes stay
+/// in their slots.
 #[derive(Drop)]
-pub struct ListTable<P> {
-    entries: Vec<Entry>,
-    store: Store<P>,
-    room: usize,
+pub struct ListTable {
+    slots: Slots,
+    row: SlotRow,
 }
 
-// A place, and the slot of its pane.
-type Entry = (Place, usize);
-
-impl<P> Model for ListTable<P> {
-    ghost use Rattle.wsm_panes.specs.Table.{Table, coded_table};
-    ghost use Rattle.wsm_panes.specs.Stored.{shown};
+impl Model for ListTable {
+    ghost use Rattle.std.specs.Coded.{codes};
     ghost use Rattle.std.specs.FinMap as map;
+    ghost use Rattle.std.specs.Prelude.{List};
+    ghost use Rattle.wsm_record.specs.declared.event.Value.{Value as OneValue};
+    ghost use Rattle.wsm_semantics.specs.Summaries.{Pane as AnyPane};
+    ghost use Rattle.wsm_panes.specs.Stored.{shown};
+    ghost use Rattle.wsm_panes.specs.Table.{Table, coded_table};
+    ghost use Rattle.wsm_panes.specs.contracts.pane.Pane as one_pane;
 
-    ghost Value = { Table P };
+    ghost Value = { Table (AnyPane (List OneValue)) };
 
-    ghost coded = { coded_table P.code };
+    ghost coded = { coded_table (Prim.hlevel (codes, one_pane.the_row.coded)) };
 
-    ghost view = { λ a. record { panes = map.from_sorted (shown a.store.panes.items a.entries.items); room = a.room } };
+    ghost view = { λ a. record { panes = map.from_sorted (shown a.slots.slots a.row.row); room = a.row.room; widths = a.slots.widths } };
 
     ghost use Rattle.wsm_panes.specs.ListState.{IsSound};
 
     ghost invariant = { λ a. IsSound a };
 }
 
-impl<P: Copy> ListTable<P> {
+impl ListTable {
     /// An empty table, with room for so many panes. No later call takes memory.
     ///
     /// # Errors
     ///
     /// Where there is no memory for the room.
-    pub fn open(alloc: Global, room: usize) -> Result<Self, AllocError>
-        ensures { IfOk result (λ t. t ≡ record { panes = map.empty; room = room }) }
+    pub fn open(alloc: Global, room: usize, widths: Widths) -> Result<Self, AllocError>
+        requires room { room ≤ 2 ^ 32 }
+        requires accumulators { widths.accumulators ≤ 16 }
+        requires columns { widths.columns ≤ 16 }
+        ensures { IfOk result (λ t. t ≡ record { panes = map.empty; room = room; widths = widths }) }
     {
         Ok(ListTable {
-            entries: Vec::with_capacity(alloc, room)?,
-            store: Store::open(alloc, room)?,
-            room,
+            slots: Slots::open(alloc, widths, room)?,
+            row: SlotRow::open(alloc, room)?,
         })
     }
-}
 
-impl ListTable<Pane> {
     /// The pane at a spot.
     pub fn pane(&self, spot: Spot) -> PaneView<'_>
         requires { IsSome (map.get self.now.panes spot.place) }
         ensures { map.get self.now.panes spot.place ≡ Some result }
     {
-        pane_in(&self.entries, &self.store, spot).view()
+        let at = number_of(&self.row, &self.slots, spot);
+        self.slots.pane(self.row.get(at))
     }
 
     /// Has the pane at a spot have fired.
     pub(crate) fn fire(&mut self, spot: Spot, mode: Mode, row: &Option<Columns>)
-        requires { IsSome (map.get self.old.panes spot.place) }
+        requires there { IsSome (map.get self.old.panes spot.place) }
+        requires wide { IfSome row.now (λ columns. length columns ≡ self.old.widths.columns) }
         ensures panes { (pane : AnyPane (List OneValue)) × (map.get self.old.panes spot.place ≡ Some pane) × (self.new.panes ≡ map.insert self.old.panes spot.place (once_fired mode row.now pane)) }
         ensures room { self.new.room ≡ self.old.room }
+        ensures widths { self.new.widths ≡ self.old.widths }
     {
-        fire_in(&self.entries, &mut self.store, spot, mode, row);
+        let at = number_of(&self.row, &self.slots, spot);
+        self.slots.fire(self.row.get(at), mode, row);
     }
 }
 
-impl<P: TakesRecords> PaneTable<P> for ListTable<P> {
-    ghost use Rattle.std.specs.Prelude.{ℕ};
+impl PaneTable<Pane> for ListTable {
+    ghost use Rattle.std.specs.Prelude.{ℕ, true};
+    ghost use Rattle.wsm_panes.specs.declared.widths.Widths.{Widths as AnyWidths};
 
-    ghost Room = { ℕ };
+    ghost Room = { ℕ × AnyWidths };
 
     ghost panes = { λ t. t.panes };
 
-    ghost room = { λ t. t.room };
+    ghost room = { λ t. (t.room, t.widths) };
 
-    ghost Admits = { λ room ps place. (map.contains_key ps place ≡ true) ⊎ (map.len ps < room) };
+    ghost Admits = { λ room ps place. (map.contains_key ps place ≡ true) ⊎ (map.len ps < room.0) };
 
-    ghost Fits = { λ room values. length values ≤ 16 };
+    ghost Fits = { λ room values. length values ≡ room.1.accumulators };
 
-    ghost Holds = { λ room pane. Unit {0} };
+    ghost Holds = { λ room pane. IsAsWide room.1 pane };
 
-    fn get(&self, place: Place) -> Option<P> {
-        pane_at(&self.entries, &self.store, place)
+    fn get(&self, place: Place) -> Option<Pane> {
+        pane_at(&self.row, &self.slots, place)
     }
 
     fn admits(&self, place: Place) -> bool {
-        self.len() < self.room || self.get(place).is_some()
+        self.row.len() < self.row.room() || self.find(place).is_some()
     }
 
-    fn put(&mut self, place: Place, pane: P) {
-        put_in(&mut self.entries, &mut self.store, place, pane);
+    fn put(&mut self, place: Place, pane: Pane) {
+        put_in(&mut self.row, &mut self.slots, place, &pane);
     }
 
     fn remove(&mut self, place: Place) {
-        take_out(&mut self.entries, &mut self.store, place);
+        take_out(&mut self.row, &self.slots, place);
     }
 
     fn drop_expired(&mut self, limit: i64) {
-        keep_past(&mut self.entries, &mut self.store, limit);
+        self.row.drop_first(ended(&self.row, &self.slots, limit));
     }
 
     fn len(&self) -> usize {
-        self.entries.len()
+        self.row.len()
     }
 
     fn enter(&mut self, place: Place, kinds: &[Kind], values: &[Value]) {
-        enter_in(&mut self.entries, &mut self.store, place, kinds, values);
+        enter_in(&mut self.row, &mut self.slots, place, kinds, values);
     }
 
     fn find(&self, place: Place) -> Option<Spot> {
-        spot_of(&self.entries, place)
+        match search(&self.row, &self.slots, place) {
+            Ok(at) => Some(Spot { place, at }),
+            Err(_) => None,
+        }
     }
 
     fn first_due(&self, limit: i64) -> Option<Spot> {
-        due_at(&self.entries, 0, limit)
+        due_at(&self.row, &self.slots, 0, limit)
     }
 
     fn first_due_after(&self, after: i64, limit: i64) -> Option<Spot> {
-        due_at(&self.entries, ended(&self.entries, after), limit)
+        let at = ended(&self.row, &self.slots, after);
+        due_at(&self.row, &self.slots, at, limit)
     }
 
     fn next_due(&self, spot: Spot, limit: i64) -> Option<Spot> {
-        let number = number_of(&self.entries, spot);
-        due_at(&self.entries, number + 1, limit)
+        let at = number_of(&self.row, &self.slots, spot);
+        due_at(&self.row, &self.slots, at + 1, limit)
     }
 }
 
-fn pane_at<P: Copy>(entries: &[Entry], store: &Store<P>, place: Place) -> Option<P>
-    requires { AreStored store.now.panes.items store.now.free.items entries.now }
-    ensures { result ≡ map.find place_cmp place (shown store.now.panes.items entries.now) }
+// The pane at a place, if one is there.
+fn pane_at(row: &SlotRow, slots: &Slots, place: Place) -> Option<Pane>
+    requires { AreStored slots.now.slots row.now.row }
+    ensures pane { result ≡ map.find place_cmp place (shown slots.now.slots row.now.row) }
+    ensures wide { IfSome result (IsAsWide slots.now.widths) }
 {
-    match search(entries, place) {
-        Ok(i) => Some(store.get(entries[i].1)),
+    match search(row, slots, place) {
+        Ok(i) => Some(Pane::of_view(&slots.pane(row.get(i)))),
         Err(_) => None,
     }
 }
 
-// Where the entry of a place is, if there is one.
-fn spot_of(entries: &[Entry], place: Place) -> Option<Spot>
-    requires { IsTrue (map.is_sorted place_cmp entries.now) }
-    ensures { place_found result ≡ option_map (λ _. place) (map.find place_cmp place entries.now) }
+// The place of the entry of a number.
+fn place_at(row: &SlotRow, slots: &Slots, at: usize) -> Place
+    requires stored { AreStored slots.now.slots row.now.row }
+    requires within { at < length row.now.row }
+    ensures { option_map (λ e. e.0) (slice_get (shown slots.now.slots row.now.row) at) ≡ Some result }
 {
-    match search(entries, place) {
-        Ok(at) => Some(Spot { place, at }),
-        Err(_) => None,
-    }
+    slots.held_place(row.get(at))
 }
 
 // The number of the entry at a spot.
-fn number_of(entries: &[Entry], spot: Spot) -> usize
-    requires sorted { IsTrue (map.is_sorted place_cmp entries.now) }
-    requires there { IsSome (map.find place_cmp spot.place entries.now) }
-    ensures { IsAt entries.now spot.place result }
+fn number_of(row: &SlotRow, slots: &Slots, spot: Spot) -> usize
+    requires stored { AreStored slots.now.slots row.now.row }
+    requires there { IsSome (map.find place_cmp spot.place (shown slots.now.slots row.now.row)) }
+    ensures at { IsAt (shown slots.now.slots row.now.row) spot.place result }
+    ensures within { result < length row.now.row }
+    ensures countable { length row.now.row < 2 ^ 64 }
 {
-    if spot.at < entries.len() {
-        if let Ordering::Equal = spot.place.cmp(&entries[spot.at].0) {
+    if spot.at < row.len() {
+        if let Ordering::Equal = spot.place.cmp(&place_at(row, slots, spot.at)) {
             return spot.at;
         }
     }
-    search(entries, spot.place).unwrap()
-}
-
-// The pane at a spot, in its slot.
-fn pane_in<'a, P: Copy>(entries: &[Entry], store: &'a Store<P>, spot: Spot) -> &'a P
-    requires stored { AreStored store.now.panes.items store.now.free.items entries.now }
-    requires there { IsSome (map.find place_cmp spot.place entries.now) }
-    ensures { map.find place_cmp spot.place (shown store.now.panes.items entries.now) ≡ Some result.now }
-{
-    store.pane(entries[number_of(entries, spot)].1)
+    search(row, slots, spot.place).unwrap()
 }
 
 // Where the entry of a number is, if there is one and its window ends by a limit.
-fn due_at(entries: &[Entry], at: usize, limit: i64) -> Option<Spot>
-    ensures { place_found result ≡ place_due limit (slice_get entries.now at) }
+fn due_at(row: &SlotRow, slots: &Slots, at: usize, limit: i64) -> Option<Spot>
+    requires { AreStored slots.now.slots row.now.row }
+    ensures { place_found result ≡ place_due limit (slice_get (shown slots.now.slots row.now.row) at) }
 {
-    if at < entries.len() {
-        due(Some(entries[at]), at, limit)
+    if at < row.len() {
+        due(place_at(row, slots, at), at, limit)
     } else {
         None
     }
 }
 
 // How many entries have a window that ends by a time: the first ones.
-fn ended(entries: &[Entry], time: i64) -> usize
-    requires { IsTrue (map.is_sorted place_cmp entries.now) }
-    ensures { first_past time entries.now ≡ slice_get entries.now result }
+fn ended(row: &SlotRow, slots: &Slots, time: i64) -> usize
+    requires { AreStored slots.now.slots row.now.row }
+    ensures within { result ≤ length row.now.row }
+    ensures next { first_past time (shown slots.now.slots row.now.row) ≡ slice_get (shown slots.now.slots row.now.row) result }
+    ensures left { filter (λ e. is_kept time e.0) (shown slots.now.slots row.now.row) ≡ drop result (shown slots.now.slots row.now.row) }
 {
     let mut low = 0;
-    let mut high = entries.len();
+    let mut high = row.len();
     while low < high {
         let middle = low + (high - low) / 2;
-        if expires(entries[middle].0, time) {
+        if expires(place_at(row, slots, middle), time) {
             low = middle + 1;
         } else {
             high = middle;
         }
     }
     low
-}
-
-// Where the place is, or where it would go.
-fn search(entries: &[Entry], place: Place) -> Result<usize, usize>
-    requires { IsTrue (map.is_sorted place_cmp entries.now) }
-    ensures found { IfOk result (IsAt entries.now place) }
-    ensures absent { IfErr result (IsGapFor entries.now place) }
-{
-    let mut low = 0;
-    let mut high = entries.len();
-    while low < high {
-        let middle = low + (high - low) / 2;
-        match place.cmp(&entries[middle].0) {
-            Ordering::Less => high = middle,
-            Ordering::Equal => return Ok(middle),
-            Ordering::Greater => low = middle + 1,
-        }
-    }
-    Err(low)
-}
-
-// Sets the pane at a place.
-fn put_in<P: Copy>(entries: &mut Vec<Entry>, store: &mut Store<P>, place: Place, pane: P)
-    requires stored { AreStored store.old.panes.items store.old.free.items entries.old.items }
-    requires room { (IsSome (map.find place_cmp place entries.old.items)) ⊎ ((vec_len entries.old < vec_capacity entries.old) × (vec_len entries.old < vec_capacity store.old.panes)) }
-    ensures shown { shown store.new.panes.items entries.new.items ≡ map.put place_cmp place pane (shown store.old.panes.items entries.old.items) }
-    ensures stored { AreStored store.new.panes.items store.new.free.items entries.new.items }
-    ensures room { (vec_capacity entries.new ≡ vec_capacity entries.old) × (vec_capacity store.new.panes ≡ vec_capacity store.old.panes) × (vec_capacity store.new.free ≡ vec_capacity store.old.free) }
-{
-    match search(entries, place) {
-        Ok(i) => store.set(entries[i].1, pane),
-        Err(i) => add(entries, store, i, place, pane),
-    }
-}
-
-// Puts a record into the pane at a place, and makes a pane of it where none is.
-fn enter_in<P: TakesRecords>(
-    entries: &mut Vec<Entry>,
-    store: &mut Store<P>,
-    place: Place,
-    kinds: &[Kind],
-    values: &[Value],
-)
-    requires stored { AreStored store.old.panes.items store.old.free.items entries.old.items }
-    requires few { length values.now ≤ 16 }
-    requires types { IsTrue (are_of_kinds kinds.now values.now) }
-    requires room { (IsSome (map.find place_cmp place entries.old.items)) ⊎ ((vec_len entries.old < vec_capacity entries.old) × (vec_len entries.old < vec_capacity store.old.panes)) }
-    requires takes { IfSome (map.find place_cmp place (shown store.old.panes.items entries.old.items)) (P.CanTakeRecord kinds.now values.now) }
-    ensures shown { shown store.new.panes.items entries.new.items ≡ map.put place_cmp place (P.with_record kinds.now values.now (map.find place_cmp place (shown store.old.panes.items entries.old.items))) (shown store.old.panes.items entries.old.items) }
-    ensures stored { AreStored store.new.panes.items store.new.free.items entries.new.items }
-    ensures room { (vec_capacity entries.new ≡ vec_capacity entries.old) × (vec_capacity store.new.panes ≡ vec_capacity store.old.panes) × (vec_capacity store.new.free ≡ vec_capacity store.old.free) }
-{
-    match search(entries, place) {
-        Ok(i) => store.record(entries[i].1, kinds, values),
-        Err(i) => start_in(entries, store, i, place, values),
-    }
-}
-
-// Has the pane at a spot have fired.
-fn fire_in(
-    entries: &[Entry],
-    store: &mut Store<Pane>,
-    spot: Spot,
-    mode: Mode,
-    row: &Option<Columns>,
-)
-    requires stored { AreStored store.old.panes.items store.old.free.items entries.now }
-    requires there { IsSome (map.find place_cmp spot.place entries.now) }
-    ensures shown { (pane : AnyPane (List OneValue)) × (map.find place_cmp spot.place (shown store.old.panes.items entries.now) ≡ Some pane) × (shown store.new.panes.items entries.now ≡ map.put place_cmp spot.place (once_fired mode row.now pane) (shown store.old.panes.items entries.now)) }
-    ensures stored { AreStored store.new.panes.items store.new.free.items entries.now }
-    ensures room { (vec_capacity store.new.panes ≡ vec_capacity store.old.panes) × (vec_capacity store.new.free ≡ vec_capacity store.old.free) }
-{
-    let i = number_of(entries, spot);
-    store.fire(entries[i].1, mode, row);
-}
-
-// Has a place that no entry is at go in front of an entry, with a pane.
-fn add<P: Copy>(entries: &mut Vec<Entry>, store: &mut Store<P>, i: usize, place: Place, pane: P)
-    requires stored { AreStored store.old.panes.items store.old.free.items entries.old.items }
-    requires gap { IsGapFor entries.old.items place i }
-    requires room { (vec_len entries.old < vec_capacity entries.old) × (vec_len entries.old < vec_capacity store.old.panes) }
-    ensures shown { shown store.new.panes.items entries.new.items ≡ map.put place_cmp place pane (shown store.old.panes.items entries.old.items) }
-    ensures stored { AreStored store.new.panes.items store.new.free.items entries.new.items }
-    ensures room { (vec_capacity entries.new ≡ vec_capacity entries.old) × (vec_capacity store.new.panes ≡ vec_capacity store.old.panes) × (vec_capacity store.new.free ≡ vec_capacity store.old.free) }
-{
-    let slot = store.put(pane);
-    entries.insert(i, (place, slot)).unwrap();
-}
-
-// Has a place that no entry is at go in front of an entry, with a pane of one record.
-fn start_in<P: TakesRecords>(
-    entries: &mut Vec<Entry>,
-    store: &mut Store<P>,
-    i: usize,
-    place: Place,
-    values: &[Value],
-)
-    requires stored { AreStored store.old.panes.items store.old.free.items entries.old.items }
-    requires gap { IsGapFor entries.old.items place i }
-    requires few { length values.now ≤ 16 }
-    requires room { (vec_len entries.old < vec_capacity entries.old) × (vec_len entries.old < vec_capacity store.old.panes) }
-    ensures shown { (kinds : List OneKind) → shown store.new.panes.items entries.new.items ≡ map.put place_cmp place (P.with_record kinds values.now None) (shown store.old.panes.items entries.old.items) }
-    ensures stored { AreStored store.new.panes.items store.new.free.items entries.new.items }
-    ensures room { (vec_capacity entries.new ≡ vec_capacity entries.old) × (vec_capacity store.new.panes ≡ vec_capacity store.old.panes) × (vec_capacity store.new.free ≡ vec_capacity store.old.free) }
-{
-    let slot = store.start(values);
-    entries.insert(i, (place, slot)).unwrap();
-}
-
-fn take_out<P: Copy>(entries: &mut Vec<Entry>, store: &mut Store<P>, place: Place)
-    requires stored { AreStored store.old.panes.items store.old.free.items entries.old.items }
-    requires room { length store.old.panes.items ≤ vec_capacity store.old.free }
-    ensures shown { shown store.new.panes.items entries.new.items ≡ filter (λ e. is_other place e.0) (shown store.old.panes.items entries.old.items) }
-    ensures stored { AreStored store.new.panes.items store.new.free.items entries.new.items }
-    ensures room { (vec_capacity entries.new ≡ vec_capacity entries.old) × (vec_capacity store.new.panes ≡ vec_capacity store.old.panes) × (vec_capacity store.new.free ≡ vec_capacity store.old.free) }
-{
-    match search(entries, place) {
-        Ok(i) => {
-            let entry = entries.remove(i);
-            store.release(entry.1);
-        }
-        Err(_) => {}
-    }
-}
-
-fn keep_past<P: Copy>(entries: &mut Vec<Entry>, store: &mut Store<P>, limit: i64)
-    requires stored { AreStored store.old.panes.items store.old.free.items entries.old.items }
-    requires room { length store.old.panes.items ≤ vec_capacity store.old.free }
-    ensures shown { shown store.new.panes.items entries.new.items ≡ filter (λ e. is_kept limit e.0) (shown store.old.panes.items entries.old.items) }
-    ensures stored { AreStored store.new.panes.items store.new.free.items entries.new.items }
-    ensures room { (vec_capacity entries.new ≡ vec_capacity entries.old) × (vec_capacity store.new.panes ≡ vec_capacity store.old.panes) × (vec_capacity store.new.free ≡ vec_capacity store.old.free) }
-{
-    let expired = release_expired(entries, store, limit);
-    if expired > 0 {
-        drop_first(entries, expired);
-    }
-}
-
-// Has the slots of the entries that expire be free, and tells how many they are: the first ones.
-fn release_expired<P: Copy>(entries: &[Entry], store: &mut Store<P>, limit: i64) -> usize
-    requires stored { AreStored store.old.panes.items store.old.free.items entries.now }
-    requires room { length store.old.panes.items ≤ vec_capacity store.old.free }
-    ensures within { result ≤ length entries.now }
-    ensures left { filter (λ e. is_kept limit e.0) entries.now ≡ drop result entries.now }
-    ensures panes { store.new.panes.items ≡ store.old.panes.items }
-    ensures free { (s : ℕ) → listed s store.new.free.items ≡ uses s (take result entries.now) + listed s store.old.free.items }
-    ensures count { length store.new.free.items ≡ length store.old.free.items + result }
-    ensures room { (vec_capacity store.new.panes ≡ vec_capacity store.old.panes) × (vec_capacity store.new.free ≡ vec_capacity store.old.free) }
-{
-    let mut expired = 0;
-    while expired < entries.len() && expires(entries[expired].0, limit) {
-        store.release(entries[expired].1);
-        expired += 1;
-    }
-    expired
 }
 
 // Whether a place has a window with an end of at most the limit.
@@ -384,13 +238,72 @@ fn expires(place: Place, limit: i64) -> bool
     place.end <= limit
 }
 
-// Drops the first entries, so many.
-fn drop_first(entries: &mut Vec<Entry>, count: usize)
-    requires { count ≤ length entries.old.items }
-    ensures items { entries.new.items ≡ drop count entries.old.items }
-    ensures capacity { vec_capacity entries.new ≡ vec_capacity entries.old }
+// Where the place is, or where it would go.
+fn search(row: &SlotRow, slots: &Slots, place: Place) -> Result<usize, usize>
+    requires { AreStored slots.now.slots row.now.row }
+    ensures found { IfOk result (IsAt (shown slots.now.slots row.now.row) place) }
+    ensures absent { IfErr result (IsGapFor (shown slots.now.slots row.now.row) place) }
+    ensures within { IfOk result (λ i. i < length row.now.row) }
+    ensures until { IfErr result (λ i. i ≤ length row.now.row) }
 {
-    let left = entries.len() - count;
-    entries.copy_within(count.., 0);
-    entries.truncate(left);
+    let mut low = 0;
+    let mut high = row.len();
+    while low < high {
+        let middle = low + (high - low) / 2;
+        let other = place_at(row, slots, middle);
+        match place.cmp(&other) {
+            Ordering::Less => high = middle,
+            Ordering::Equal => return Ok(middle),
+            Ordering::Greater => low = middle + 1,
+        }
+    }
+    Err(low)
+}
+
+// Sets the pane at a place.
+fn put_in(row: &mut SlotRow, slots: &mut Slots, place: Place, pane: &Pane)
+    requires stored { AreStored slots.old.slots row.old.row }
+    requires numbers { row.old.room ≡ length slots.old.slots }
+    requires room { (IsSome (map.find place_cmp place (shown slots.old.slots row.old.row))) ⊎ (length row.old.row < row.old.room) }
+    requires wide { IsAsWide slots.old.widths pane.now }
+    ensures shown { shown slots.new.slots row.new.row ≡ map.put place_cmp place pane.now (shown slots.old.slots row.old.row) }
+    ensures stored { AreStored slots.new.slots row.new.row }
+    ensures room { (row.new.room ≡ row.old.room) × (length slots.new.slots ≡ length slots.old.slots) }
+    ensures widths { slots.new.widths ≡ slots.old.widths }
+{
+    match search(row, slots, place) {
+        Ok(i) => slots.put(row.get(i), place, &pane.view()),
+        Err(i) => slots.put(row.insert(i), place, &pane.view()),
+    }
+}
+
+// Puts a record into the pane at a place, and makes a pane of it where none is.
+fn enter_in(row: &mut SlotRow, slots: &mut Slots, place: Place, kinds: &[Kind], values: &[Value])
+    requires stored { AreStored slots.old.slots row.old.row }
+    requires numbers { row.old.room ≡ length slots.old.slots }
+    requires room { (IsSome (map.find place_cmp place (shown slots.old.slots row.old.row))) ⊎ (length row.old.row < row.old.room) }
+    requires wide { length values.now ≡ slots.old.widths.accumulators }
+    requires types { IsTrue (are_of_kinds kinds.now values.now) }
+    requires takes { IfSome (map.find place_cmp place (shown slots.old.slots row.old.row)) (CanRecord kinds.now values.now) }
+    ensures shown { shown slots.new.slots row.new.row ≡ map.put place_cmp place (with_one_more kinds.now values.now (map.find place_cmp place (shown slots.old.slots row.old.row))) (shown slots.old.slots row.old.row) }
+    ensures stored { AreStored slots.new.slots row.new.row }
+    ensures room { (row.new.room ≡ row.old.room) × (length slots.new.slots ≡ length slots.old.slots) }
+    ensures widths { slots.new.widths ≡ slots.old.widths }
+{
+    match search(row, slots, place) {
+        Ok(i) => slots.record(row.get(i), kinds, values),
+        Err(i) => slots.start(row.insert(i), place, values),
+    }
+}
+
+// Takes the slot of a place out of the row, if one is there.
+fn take_out(row: &mut SlotRow, slots: &Slots, place: Place)
+    requires { AreStored slots.now.slots row.old.row }
+    ensures shown { shown slots.now.slots row.new.row ≡ filter (λ e. is_other place e.0) (shown slots.now.slots row.old.row) }
+    ensures stored { AreStored slots.now.slots row.new.row }
+    ensures room { row.new.room ≡ row.old.room }
+{
+    if let Ok(i) = search(row, slots, place) {
+        row.remove(i);
+    }
 }

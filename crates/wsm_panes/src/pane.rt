@@ -122,13 +122,6 @@ impl TakesRecords for Pane {
         }
     }
 
-    fn start(&mut self, values: &[Value]) {
-        self.count = 1;
-        self.unshown = 1;
-        self.folded = Some(Folded::start(values));
-        self.stands = Standing::Unfired;
-    }
-
     fn record(&mut self, kinds: &[Kind], values: &[Value]) {
         self.count += 1;
         self.unshown += 1;

@@ -20,11 +20,6 @@ pub trait TakesRecords: Copy {
         requires { length values.now ≤ 16 }
         ensures { (kinds : List OneKind) → result ≡ with_record kinds values.now None };
 
-    /// Has it be a pane of one record, which is folded by these values.
-    fn start(&mut self, values: &[Value])
-        requires { length values.now ≤ 16 }
-        ensures { (kinds : List OneKind) → self.new ≡ with_record kinds values.now None };
-
     /// Puts a record in, which is folded by these values.
     fn record(&mut self, kinds: &[Kind], values: &[Value])
         requires few { length values.now ≤ 16 }

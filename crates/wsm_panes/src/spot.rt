@@ -1,7 +1,8 @@
 //! Where panes are found.
 
-ghost use Rattle.std.specs.Prelude.{◌≡◌};
-ghost use Rattle.wsm_panes.specs.Walk.{place_due, place_found};
+ghost use Rattle.std.specs.Prelude.{◌≡◌, None, Some, if◌then◌else◌};
+ghost use Rattle.wsm_panes.specs.Place.{is_kept};
+ghost use Rattle.wsm_panes.specs.Walk.{place_found};
 
 use wsm_semantics::Place;
 
@@ -15,12 +16,13 @@ pub struct Spot {
     pub(crate) at: usize,
 }
 
-/// The spot of an entry that is the one of a number, if its window ends by a limit.
-pub(crate) fn due<P: Copy>(entry: Option<(Place, P)>, at: usize, limit: i64) -> Option<Spot>
-    ensures { place_found result ≡ place_due limit entry }
+/// The spot of an entry at a place that is the one of a number, if its window ends by a limit.
+pub(crate) fn due(place: Place, at: usize, limit: i64) -> Option<Spot>
+    ensures { place_found result ≡ (if is_kept limit place then None else Some place) }
 {
-    match entry {
-        Some((place, _)) if place.end <= limit => Some(Spot { place, at }),
-        _ => None,
+    if place.end <= limit {
+        Some(Spot { place, at })
+    } else {
+        None
     }
 }

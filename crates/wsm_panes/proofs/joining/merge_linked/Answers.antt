@@ -5,6 +5,7 @@ use Rattle.wsm_semantics.specs.Replay.{datum}
 use Rattle.wsm_panes.specs.Held.{taking, windows_of_key}
 use Rattle.wsm_panes.proofs.Enters.{any_datum}
 use Rattle.wsm_panes.proofs.Merged.{Puts, admits_it, merged_fits, merged_is, merged_others, merged_windows, session_place}
+use Rattle.wsm_panes.proofs.Wide.{more_wide}
 use Rattle.wsm_panes.proofs.joining.merge_linked.Goals as goal
 
 pub enter-session-requires-clause-admits : goal.enter-session-requires-clause-admits
@@ -25,6 +26,13 @@ put-requires-clause-admits c =
       value_is = c.with_one_more.ensures ∙ any_datum c.args.kinds.now c.args.values.now (datum 0 c.args.key c.args.time []) c.take_linked-pane.result.0;
     } in
     rw c.take_linked-pane.ensures.room (merged_fits plan c.args.sessions.now.gap c.args.key c.args.time c.args.table.now.panes c.args.sessions.now.windows c.requires.agree c.take_linked-pane.new.table.panes c.place_of.result c.take_linked-pane.result.0 c.with_one_more.result puts c.args.table.now.room c.requires.room)
+
+pub put-requires-clause-holds : goal.put-requires-clause-holds
+put-requires-clause-holds c =
+    let kinds = c.args.kinds.now in
+    let values = c.args.values.now in
+    let widths = c.args.table.now.widths in
+    rw (c.take_linked-pane.ensures.widths, c.with_one_more.ensures) (more_wide kinds values widths c.requires.types c.requires.wide c.take_linked-pane.result.0 c.take_linked-pane.ensures.wide)
 
 pub returns-clause-panes : goal.returns-clause-panes
 returns-clause-panes c =

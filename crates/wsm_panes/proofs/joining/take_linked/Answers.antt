@@ -6,9 +6,10 @@ use Rattle.wsm_semantics.specs.Panes.{at}
 use Rattle.wsm_semantics.specs.Replay.{datum}
 use Rattle.wsm_semantics.specs.Summaries.{joined, joined_all}
 use Rattle.wsm_sessions.specs.Placing.{those_linked}
-use Rattle.wsm_panes.specs.Held.{CanJoinAll, CanRecord, taking}
+use Rattle.wsm_panes.specs.Held.{CanJoin, CanJoinAll, CanRecord, taking}
 use Rattle.wsm_panes.proofs.Merged.{parts_at}
 use Rattle.wsm_panes.proofs.Taken.{none_left, one_found, one_left, first_found, second_found, both_left, no_entry, one_entry, two_entries}
+use Rattle.wsm_panes.proofs.Wide.{joined_wide}
 use Rattle.wsm_panes.proofs.joining.take_linked.Goals as goal
 
 pub returns-in-None-clause-panes : goal.returns-in-None-clause-panes
@@ -109,6 +110,21 @@ join-requires c =
     let second = same_Some _ _ (sym c.take-other.ensures.pane ∙ (λ i. map.get ((c.take-pane.ensures.panes ∙ ap (map.remove m) c.place_of-in-Two.ensures) i) (c.place_of-in-Two-2.ensures i)) ∙ second_found gap (datum 0 c.args.key c.args.time []) m p r two.0 two.1.0 two.1.1) in
     let can = subst (CanJoinAll c.args.kinds.now c.requires.joins.0) two.1.1 c.requires.joins.1 in
     rw (first, second) can.0
+
+pub returns-in-Two-clause-wide : goal.returns-in-Two-clause-wide
+returns-in-Two-clause-wide c =
+    let time : SFits w64 c.args.time = c.ranges.time in
+    let gap = c.args.sessions.now.gap in
+    let m = c.args.table.now.panes in
+    let p = at c.args.key c.in-Two.first in
+    let r = at c.args.key c.in-Two.second in
+    let two = two_entries _ p r (parts_at (taking [] []) gap c.args.key c.args.time m c.args.sessions.now.windows c.requires.agree (c.in-Two.first ∷ c.in-Two.second ∷ []) (ap those_linked (sym c.in-Two.is) ∙ simp to_z-of_z at c.linked.ensures)) in
+    let first = same_Some _ _ (sym c.take-pane.ensures.pane ∙ ap (map.get m) c.place_of-in-Two.ensures ∙ first_found gap (datum 0 c.args.key c.args.time []) m p r two.0 two.1.0 two.1.1) in
+    let second = same_Some _ _ (sym c.take-other.ensures.pane ∙ (λ i. map.get ((c.take-pane.ensures.panes ∙ ap (map.remove m) c.place_of-in-Two.ensures) i) (c.place_of-in-Two-2.ensures i)) ∙ second_found gap (datum 0 c.args.key c.args.time []) m p r two.0 two.1.0 two.1.1) in
+    let can = subst (CanJoinAll c.args.kinds.now c.requires.joins.0) two.1.1 c.requires.joins.1 in
+    let both : CanJoin c.args.kinds.now c.take-pane.result c.take-other.result = rw (first, second) can.0 in
+    let other = rw c.take-pane.ensures.widths at c.take-other.ensures.wide in
+    rw (c.join.ensures []) (joined_wide c.args.kinds.now [] c.args.table.now.widths c.take-pane.result c.take-other.result both c.take-pane.ensures.wide other)
 
 pub returns-in-Two-clause-panes : goal.returns-in-Two-clause-panes
 returns-in-Two-clause-panes c =

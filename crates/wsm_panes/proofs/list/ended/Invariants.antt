@@ -1,13 +1,14 @@
 use Rattle.std.proofs.Common.{◌≤◌, ◌-◌, length}
+use Rattle.wsm_panes.specs.Stored.{shown}
 use Rattle.wsm_panes.proofs.Ended.{ended}
 use Rattle.wsm_panes.proofs.list.ended.Given as goal
 
 -- the entries below `low` end by the time, and those from `high` on past it
 abbrev pub invariant-loop-low : goal.invariant-loop-low
 invariant-loop-low l = record {
-  low : l.low ≤ ended l.time l.entries;
-  high : ended l.time l.entries ≤ l.high;
-  within : l.high ≤ length l.entries;
+  low : l.low ≤ ended l.time (shown l.slots.slots l.row.row);
+  high : ended l.time (shown l.slots.slots l.row.row) ≤ l.high;
+  within : l.high ≤ length l.row.row;
 }
 
 abbrev pub decreases-loop-low : goal.decreases-loop-low

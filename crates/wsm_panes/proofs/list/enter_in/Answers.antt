@@ -1,47 +1,87 @@
-use Rattle.std.proofs.Common.{◌≡◌, ◌∙◌, ℕ, Some, sym, ap, subst, inl, inr}
+use Rattle.std.proofs.Common.{◌≡◌, ◌<◌, ◌∙◌, List, Some, None, ap, subst, sym, inl, inr, arith, set, length}
 use Rattle.std.proofs.lemmas.Bool.{true≢false}
-use Rattle.std.specs.Prelude.{IfSome, slice_get}
+use Rattle.std.proofs.lemmas.List.{length-set}
 use Rattle.std.specs.Option.{is_some}
-use Rattle.std.specs.FinMap as map
+use Rattle.std.specs.Prelude.{IfSome, Option, option_map}
+use Rattle.std.specs.FinMap.Entries.{put}
+use Rattle.wsm_record.specs.declared.event.Value.{Value}
 use Rattle.wsm_semantics.specs.declared.place.Place.{Place}
+use Rattle.wsm_semantics.specs.Summaries.{Pane}
+use Rattle.wsm_panes.specs.Held.{CanRecord, with_one_more}
 use Rattle.wsm_panes.specs.Place.{place_cmp}
 use Rattle.wsm_panes.specs.Stored.{shown}
-use Rattle.wsm_panes.proofs.Stored.{pane_in}
-use Rattle.wsm_panes.proofs.StoredEdits.{find_is, slot_in, written_shows}
+use Rattle.wsm_panes.proofs.StoredEdits.{added_shows, added_stored, has_entry, own_entry, set_shows, set_stored, slot_there}
 use Rattle.wsm_panes.proofs.list.enter_in.Goals as goal
 
-pub record-requires-clause-slot : goal.record-requires-clause-slot
-record-requires-clause-slot g c =
-    let here = rw c.deref.ensures.value at c.in-Ok.ensures.found in
-    let finds : map.find place_cmp c.args.place c.args.entries.now.items ≡ Some c.index.result.now.1 = here.finds c.index.result.now ∙ ap (λ (e : Place × ℕ). Some e.1) (sym c.index.ensures) in
-    slot_in _ _ _ c.requires.stored c.args.place c.index.result.now.1 finds
+pub record-requires-clause-there : goal.record-requires-clause-there
+record-requires-clause-there c = has_entry _ _ c.requires.stored c.in-Ok.i c.get.result c.get.ensures.here
 
 pub record-requires-clause-takes : goal.record-requires-clause-takes
-record-requires-clause-takes g c =
-    let here = rw c.deref.ensures.value at c.in-Ok.ensures.found in
-    let finds : map.find place_cmp c.args.place c.args.entries.now.items ≡ Some c.index.result.now.1 = here.finds c.index.result.now ∙ ap (λ (e : Place × ℕ). Some e.1) (sym c.index.ensures) in
-    subst (λ o. IfSome o (g.P.TakesRecords.CanTakeRecord c.args.kinds.now c.args.values.now)) (find_is _ _ _ c.requires.stored c.args.place ∙ ap (pane_in c.args.store.now.panes.items) finds) c.requires.takes
+record-requires-clause-takes c =
+    let own = own_entry _ _ c.requires.stored c.in-Ok.i c.get.result c.get.ensures.here c.args.place c.in-Ok.ensures.found in
+    let can : CanRecord c.args.kinds.now c.args.values.now own.0 = subst (λ o. IfSome o (CanRecord c.args.kinds.now c.args.values.now)) own.1.1 c.requires.takes in
+    subst (λ o. IfSome o (λ e. CanRecord c.args.kinds.now c.args.values.now e.1)) (sym own.1.0) can
 
-pub start_in-requires-clause-room : goal.start_in-requires-clause-room
-start_in-requires-clause-room g c =
-    let gap = rw c.deref.ensures.value at c.in-Err.ensures.absent in
-    elim c.requires.room [
-      | inl there ↦ absurd (true≢false (sym there ∙ ap is_some gap.absent))
-      | inr room ↦ room
-    ]
+pub insert-requires-clause-room : goal.insert-requires-clause-room
+insert-requires-clause-room c = elim c.requires.room [
+  | inl there ↦ absurd (true≢false (sym there ∙ ap is_some c.in-Err.ensures.absent.absent))
+  | inr room ↦ room
+]
 
 pub returns-in-Ok-clause-shown : goal.returns-in-Ok-clause-shown
-returns-in-Ok-clause-shown g c =
-    let here = rw c.deref.ensures.value at c.in-Ok.ensures.found in
-    let finds : map.find place_cmp c.args.place c.args.entries.now.items ≡ Some c.index.result.now.1 = here.finds c.index.result.now ∙ ap (λ (e : Place × ℕ). Some e.1) (sym c.index.ensures) in
-    let panes = c.args.store.now.panes.items in
-    let found = find_is _ _ _ c.requires.stored c.args.place ∙ ap (pane_in panes) finds in
-    written_shows _ _ _ c.requires.stored c.args.place c.index.result.now.1 (g.P.TakesRecords.with_record c.args.kinds.now c.args.values.now (slice_get panes c.index.result.now.1)) c.record.new.self.panes.items finds c.record.ensures.here c.record.ensures.others
-    ∙ ap (λ o. map.put place_cmp c.args.place (g.P.TakesRecords.with_record c.args.kinds.now c.args.values.now o) (shown panes c.args.entries.now.items)) (sym found)
+returns-in-Ok-clause-shown c =
+    let os = c.args.slots.now.slots in
+    let stored = c.requires.stored in
+    let i = c.in-Ok.i in
+    let k = c.get.result in
+    let at = c.get.ensures.here in
+    let own = own_entry _ _ stored i k at c.args.place c.in-Ok.ensures.found in
+    let more : Option (Place × Pane (List Value)) → Option (Place × Pane (List Value)) = option_map (λ e. (e.0, with_one_more c.args.kinds.now c.args.values.now (Some e.1))) in
+    let v = with_one_more c.args.kinds.now c.args.values.now (Some own.0) in
+    let new : c.record.new.self.slots ≡ set os k (Some (c.args.place, v)) = ap (λ s. s.slots) c.record.ensures ∙ ap (λ o. set os k (more o)) own.1.0 in
+    rw new (set_shows _ _ stored i k at c.args.place c.in-Ok.ensures.found v (slot_there _ _ stored i k at) c.get.ensures.once)
+    ∙ ap (λ o. put place_cmp c.args.place (with_one_more c.args.kinds.now c.args.values.now o) (shown os c.args.row.now.row)) (sym own.1.1)
+
+pub returns-in-Ok-clause-stored : goal.returns-in-Ok-clause-stored
+returns-in-Ok-clause-stored c =
+    let os = c.args.slots.now.slots in
+    let stored = c.requires.stored in
+    let i = c.in-Ok.i in
+    let k = c.get.result in
+    let at = c.get.ensures.here in
+    let own = own_entry _ _ stored i k at c.args.place c.in-Ok.ensures.found in
+    let more : Option (Place × Pane (List Value)) → Option (Place × Pane (List Value)) = option_map (λ e. (e.0, with_one_more c.args.kinds.now c.args.values.now (Some e.1))) in
+    let v = with_one_more c.args.kinds.now c.args.values.now (Some own.0) in
+    let new : c.record.new.self.slots ≡ set os k (Some (c.args.place, v)) = ap (λ s. s.slots) c.record.ensures ∙ ap (λ o. set os k (more o)) own.1.0 in
+    rw new (set_stored _ _ stored i k at c.args.place c.in-Ok.ensures.found v (slot_there _ _ stored i k at) c.get.ensures.once)
 
 pub returns-in-Err-clause-shown : goal.returns-in-Err-clause-shown
-returns-in-Err-clause-shown g c =
-    let panes = c.args.store.now.panes.items in
-    let gap = rw c.deref.ensures.value at c.in-Err.ensures.absent in
-    let none = find_is _ _ _ c.requires.stored c.args.place ∙ ap (pane_in panes) gap.absent in
-    c.start_in.ensures.shown c.args.kinds.now ∙ ap (λ o. map.put place_cmp c.args.place (g.P.TakesRecords.with_record c.args.kinds.now c.args.values.now o) (shown panes c.args.entries.now.items)) (sym none)
+returns-in-Err-clause-shown c =
+    let os = c.args.slots.now.slots in
+    let k = c.insert.result in
+    let within : k < length os = omega (arith, c.insert.ensures.within, c.requires.numbers) in
+    let v = with_one_more c.args.kinds.now c.args.values.now None in
+    let new : c.start.new.self.slots ≡ set os k (Some (c.args.place, v)) = ap (λ s. s.slots) (c.start.ensures c.args.kinds.now) in
+    rw (new, c.insert.ensures.row) (added_shows _ _ c.requires.stored c.in-Err.i k c.args.place c.in-Err.ensures.absent v within c.in-Err.ensures.until c.insert.ensures.fresh)
+    ∙ ap (λ o. put place_cmp c.args.place (with_one_more c.args.kinds.now c.args.values.now o) (shown os c.args.row.now.row)) (sym c.in-Err.ensures.absent.absent)
+
+pub returns-in-Err-clause-stored : goal.returns-in-Err-clause-stored
+returns-in-Err-clause-stored c =
+    let os = c.args.slots.now.slots in
+    let k = c.insert.result in
+    let within : k < length os = omega (arith, c.insert.ensures.within, c.requires.numbers) in
+    let v = with_one_more c.args.kinds.now c.args.values.now None in
+    let new : c.start.new.self.slots ≡ set os k (Some (c.args.place, v)) = ap (λ s. s.slots) (c.start.ensures c.args.kinds.now) in
+    rw (new, c.insert.ensures.row) (added_stored _ _ c.requires.stored c.in-Err.i k c.args.place c.in-Err.ensures.absent v within c.in-Err.ensures.until c.insert.ensures.fresh)
+
+pub returns-in-Err-clause-room : goal.returns-in-Err-clause-room
+returns-in-Err-clause-room c =
+    let os = c.args.slots.now.slots in
+    let k = c.insert.result in
+    let within : k < length os = omega (arith, c.insert.ensures.within, c.requires.numbers) in
+    let v = with_one_more c.args.kinds.now c.args.values.now None in
+    let new : c.start.new.self.slots ≡ set os k (Some (c.args.place, v)) = ap (λ s. s.slots) (c.start.ensures c.args.kinds.now) in
+    (c.insert.ensures.room, ap length new ∙ length-set os k (Some (c.args.place, v)))
+
+pub returns-in-Err-clause-widths : goal.returns-in-Err-clause-widths
+returns-in-Err-clause-widths c = ap (λ s. s.widths) (c.start.ensures c.args.kinds.now)

@@ -1,13 +1,19 @@
-use Rattle.std.proofs.Common.{◌∙◌, sym, ap}
-use Rattle.wsm_panes.proofs.Stored.{pane_in}
-use Rattle.wsm_panes.proofs.StoredEdits.{find_is, slot_in}
+use Rattle.std.proofs.Common.{Some, ap, subst, sym, ◌∙◌}
+use Rattle.std.specs.Prelude.{option_map}
+use Rattle.wsm_panes.specs.Layout.{IsAsWide}
+use Rattle.wsm_panes.proofs.StoredEdits.{has_entry, own_entry}
 use Rattle.wsm_panes.proofs.list.pane_at.Goals as goal
 
-pub get-requires : goal.get-requires
-get-requires g c = slot_in _ _ _ c.requires c.args.place _ (c.in-Ok.ensures.found.finds _)
+pub pane-requires : goal.pane-requires
+pane-requires c = has_entry _ _ c.requires c.in-Ok.i c.get.result c.get.ensures.here
 
-pub returns-in-Ok : goal.returns-in-Ok
-returns-in-Ok g c = sym (find_is _ _ _ c.requires c.args.place ∙ ap (pane_in c.args.store.now.panes.items) (c.in-Ok.ensures.found.finds _) ∙ c.get.ensures)
+pub returns-in-Ok-clause-pane : goal.returns-in-Ok-clause-pane
+returns-in-Ok-clause-pane c =
+    let own = own_entry _ _ c.requires c.in-Ok.i c.get.result c.get.ensures.here c.args.place c.in-Ok.ensures.found in
+    ap Some c.of_view.ensures ∙ sym c.pane.ensures.same ∙ ap (option_map (λ e. e.1)) own.1.0 ∙ sym own.1.1
 
-pub returns-in-Err : goal.returns-in-Err
-returns-in-Err g c = sym (find_is _ _ _ c.requires c.args.place ∙ ap (pane_in c.args.store.now.panes.items) c.in-Err.ensures.absent.absent)
+pub returns-in-Ok-clause-wide : goal.returns-in-Ok-clause-wide
+returns-in-Ok-clause-wide c = subst (IsAsWide c.args.slots.now.widths) (sym c.of_view.ensures) c.pane.ensures.wide
+
+pub returns-in-Err-clause-pane : goal.returns-in-Err-clause-pane
+returns-in-Err-clause-pane c = sym c.in-Err.ensures.absent.absent

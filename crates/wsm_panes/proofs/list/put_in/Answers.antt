@@ -1,28 +1,50 @@
-use Rattle.std.proofs.Common.{◌≡◌, ◌∙◌, ℕ, Some, sym, ap, inl, inr}
+use Rattle.std.proofs.Common.{◌≡◌, ◌<◌, ◌∙◌, Some, ap, sym, inl, inr, arith, set, length}
 use Rattle.std.proofs.lemmas.Bool.{true≢false}
 use Rattle.std.specs.Option.{is_some}
-use Rattle.std.specs.FinMap as map
-use Rattle.wsm_semantics.specs.declared.place.Place.{Place}
-use Rattle.wsm_panes.specs.Place.{place_cmp}
-use Rattle.wsm_panes.proofs.StoredEdits.{slot_in, written_shows}
+use Rattle.wsm_panes.proofs.StoredEdits.{added_shows, added_stored, set_shows, set_stored, slot_there}
 use Rattle.wsm_panes.proofs.list.put_in.Goals as goal
 
-pub set-requires : goal.set-requires
-set-requires g c =
-    let here = rw c.deref.ensures.value at c.in-Ok.ensures.found in
-    let finds : map.find place_cmp c.args.place c.args.entries.now.items ≡ Some c.index.result.now.1 = here.finds c.index.result.now ∙ ap (λ (e : Place × ℕ). Some e.1) (sym c.index.ensures) in
-    slot_in _ _ _ c.requires.stored c.args.place c.index.result.now.1 finds
+pub put-requires-clause-slot : goal.put-requires-clause-slot
+put-requires-clause-slot c = slot_there _ _ c.requires.stored c.in-Ok.i c.get.result c.get.ensures.here
 
-pub add-requires-clause-room : goal.add-requires-clause-room
-add-requires-clause-room g c =
-    let gap = rw c.deref.ensures.value at c.in-Err.ensures.absent in
-    elim c.requires.room [
-      | inl there ↦ absurd (true≢false (sym there ∙ ap is_some gap.absent))
-      | inr room ↦ room
-    ]
+pub insert-requires-clause-room : goal.insert-requires-clause-room
+insert-requires-clause-room c = elim c.requires.room [
+  | inl there ↦ absurd (true≢false (sym there ∙ ap is_some c.in-Err.ensures.absent.absent))
+  | inr room ↦ room
+]
 
 pub returns-in-Ok-clause-shown : goal.returns-in-Ok-clause-shown
-returns-in-Ok-clause-shown g c =
-    let here = rw c.deref.ensures.value at c.in-Ok.ensures.found in
-    let finds : map.find place_cmp c.args.place c.args.entries.now.items ≡ Some c.index.result.now.1 = here.finds c.index.result.now ∙ ap (λ (e : Place × ℕ). Some e.1) (sym c.index.ensures) in
-    written_shows _ _ _ c.requires.stored c.args.place c.index.result.now.1 c.args.pane c.set.new.self.panes.items finds c.set.ensures.here c.set.ensures.others
+returns-in-Ok-clause-shown c =
+    let os = c.args.slots.now.slots in
+    let stored = c.requires.stored in
+    let i = c.in-Ok.i in
+    let k = c.get.result in
+    let at = c.get.ensures.here in
+    let new : c.put.new.self.slots ≡ set os k (Some (c.args.place, c.args.pane.now)) = ap (λ s. s.slots) c.put.ensures ∙ ap (λ v. set os k (Some (c.args.place, v))) c.view.ensures in
+    rw new (set_shows _ _ stored i k at c.args.place c.in-Ok.ensures.found c.args.pane.now (slot_there _ _ stored i k at) c.get.ensures.once)
+
+pub returns-in-Ok-clause-stored : goal.returns-in-Ok-clause-stored
+returns-in-Ok-clause-stored c =
+    let os = c.args.slots.now.slots in
+    let stored = c.requires.stored in
+    let i = c.in-Ok.i in
+    let k = c.get.result in
+    let at = c.get.ensures.here in
+    let new : c.put.new.self.slots ≡ set os k (Some (c.args.place, c.args.pane.now)) = ap (λ s. s.slots) c.put.ensures ∙ ap (λ v. set os k (Some (c.args.place, v))) c.view.ensures in
+    rw new (set_stored _ _ stored i k at c.args.place c.in-Ok.ensures.found c.args.pane.now (slot_there _ _ stored i k at) c.get.ensures.once)
+
+pub returns-in-Err-clause-shown : goal.returns-in-Err-clause-shown
+returns-in-Err-clause-shown c =
+    let os = c.args.slots.now.slots in
+    let k = c.insert.result in
+    let within : k < length os = omega (arith, c.insert.ensures.within, c.requires.numbers) in
+    let new : c.put-in-Err.new.self.slots ≡ set os k (Some (c.args.place, c.args.pane.now)) = ap (λ s. s.slots) c.put-in-Err.ensures ∙ ap (λ v. set os k (Some (c.args.place, v))) c.view-in-Err.ensures in
+    rw (new, c.insert.ensures.row) (added_shows _ _ c.requires.stored c.in-Err.i k c.args.place c.in-Err.ensures.absent c.args.pane.now within c.in-Err.ensures.until c.insert.ensures.fresh)
+
+pub returns-in-Err-clause-stored : goal.returns-in-Err-clause-stored
+returns-in-Err-clause-stored c =
+    let os = c.args.slots.now.slots in
+    let k = c.insert.result in
+    let within : k < length os = omega (arith, c.insert.ensures.within, c.requires.numbers) in
+    let new : c.put-in-Err.new.self.slots ≡ set os k (Some (c.args.place, c.args.pane.now)) = ap (λ s. s.slots) c.put-in-Err.ensures ∙ ap (λ v. set os k (Some (c.args.place, v))) c.view-in-Err.ensures in
+    rw (new, c.insert.ensures.row) (added_stored _ _ c.requires.stored c.in-Err.i k c.args.place c.in-Err.ensures.absent c.args.pane.now within c.in-Err.ensures.until c.insert.ensures.fresh)

@@ -13,7 +13,8 @@ invariant_of-self c =
     let left = ap map.entries (simp to_z-of_z at c.drop_expired.ensures.panes) ∙ entries_kept m (is_kept c.args.limit) in
     record {
       shape = c.self.invariant.shape;
-      list = λ gap is. c.drop_expired.ensures.room ∙ c.self.invariant.list gap is;
+      list = λ gap is. ap (λ r. r.0) c.drop_expired.ensures.room ∙ c.self.invariant.list gap is;
+      widths = ap (λ r. r.1) c.drop_expired.ensures.room ∙ c.self.invariant.widths;
       ring = c.self.invariant.ring;
       sessions = λ gap is.
           subst (λ es. AreOfKeys gap c.self.inside.keys c.self.inside.live es c.drop_sessions.new.sessions.items) (sym left)
@@ -29,6 +30,7 @@ pub invariant_of-self-in_default : goal.invariant_of-self-in_default
 invariant_of-self-in_default c = record {
   shape = c.self.invariant.shape;
   list = c.self.invariant.list;
+  widths = c.self.invariant.widths ∙ sym (ap (λ r. r.1) c.drop_expired-in_default.ensures.room);
   ring = λ grid some. ap (λ r. r.0) c.drop_expired-in_default.ensures.room ∙ c.self.invariant.ring grid some;
   sessions = c.self.invariant.sessions;
 }

@@ -12,6 +12,9 @@ use Rattle.wsm_panes.proofs.held.HeldPanes.enter.Goals as goal
 pub enter_session-joined-requires-clause-few : goal.enter_session-joined-requires-clause-few
 enter_session-joined-requires-clause-few c = few_values _ _ _ _ _ c.requires
 
+pub enter_session-joined-requires-clause-wide : goal.enter_session-joined-requires-clause-wide
+enter_session-joined-requires-clause-wide c = wide_values _ _ _ _ _ (rw (← c.self.view_is) at c.requires) ∙ sym (ap (λ w. w.accumulators) c.self.invariant.widths)
+
 pub enter_session-joined-requires-clause-joins : goal.enter_session-joined-requires-clause-joins
 enter_session-joined-requires-clause-joins c =
     let time : SFits w64 c.args.time = c.ranges.time in
@@ -51,6 +54,7 @@ invariant_of-self c =
     record {
       shape = c.self.invariant.shape;
       list = λ gap is. c.enter_session-joined.ensures.room ∙ c.self.invariant.list gap is;
+      widths = c.enter_session-joined.ensures.widths ∙ c.self.invariant.widths;
       ring = c.self.invariant.ring;
       sessions = λ gap is.
           let of = key_of gap c.self.inside.keys c.self.inside.live c.args.key (map.entries c.self.inside.list.panes) c.self.inside.sessions.items (c.self.invariant.sessions gap is) (rw (← c.self.view_is) at c.requires.declared) c.index_mut-sessions.result.now c.index_mut-sessions.ensures.value in

@@ -8,8 +8,11 @@ use Rattle.wsm_panes.proofs.Enters.{in_ring, keys_alike, windows_replaced}
 use Rattle.wsm_panes.proofs.held.HeldPanes.fire_at.Goals as goal
 use Rattle.wsm_semantics.proofs.Each.{as_true}
 
-pub fire-requires : goal.fire-requires
-fire-requires c = ap is_some (get-entries c.self.inside.list.panes c.args.spot.place) ∙ (rw (← c.self.view_is, c.in-Session.is) at c.requires.there)
+pub fire-requires-clause-there : goal.fire-requires-clause-there
+fire-requires-clause-there c = ap is_some (get-entries c.self.inside.list.panes c.args.spot.place) ∙ (rw (← c.self.view_is, c.in-Session.is) at c.requires.there)
+
+pub fire-requires-clause-wide : goal.fire-requires-clause-wide
+fire-requires-clause-wide c = rw c.self.invariant.widths (rw (← c.self.view_is) at c.requires.wide)
 
 pub invariant_of-self : goal.invariant_of-self
 invariant_of-self c =
@@ -19,6 +22,7 @@ invariant_of-self c =
     record {
       shape = c.self.invariant.shape;
       list = λ gap is. c.fire.ensures.room ∙ c.self.invariant.list gap is;
+      widths = c.fire.ensures.widths ∙ c.self.invariant.widths;
       ring = c.self.invariant.ring;
       sessions = λ gap is.
           keys_alike gap c.self.inside.keys c.self.inside.live (map.entries m) (map.entries c.fire.new.self.panes) c.self.inside.sessions.items (c.self.invariant.sessions gap is)
@@ -44,6 +48,7 @@ pub invariant_of-self-in_default : goal.invariant_of-self-in_default
 invariant_of-self-in_default c = record {
   shape = c.self.invariant.shape;
   list = c.self.invariant.list;
+  widths = c.self.invariant.widths ∙ sym c.fire-in_default.ensures.widths;
   ring = λ grid some. c.fire-in_default.ensures.ring ∙ c.self.invariant.ring grid some;
   sessions = c.self.invariant.sessions;
 }

@@ -1,8 +1,10 @@
-use Rattle.std.proofs.Common.{ap, ◌∙◌}
+use Rattle.std.proofs.Common.{◌∙◌}
 use Rattle.wsm_panes.specs.Stored.{shown}
-use Rattle.wsm_panes.specs.Table.{table_of}
 use Rattle.wsm_panes.proofs.Tables.{map_of, map_of-nil}
 use Rattle.wsm_panes.proofs.list.ListTable.open.Goals as goal
 
 pub returns : goal.returns
-returns g c = ap (λ es. table_of c.args.room (map_of (shown c.in_ok-open.field-0.panes.items es))) c.in_ok-with_capacity.ensures.items ∙ ap (table_of c.args.room) map_of-nil
+returns c =
+    let slots = c.in_ok-open.ensures in
+    let row = c.in_ok-open-2.ensures in
+    (λ i. record { panes = map_of (shown (slots i).slots (row i).row); room = (row i).room; widths = (slots i).widths }) ∙ λ i. record { panes = map_of-nil i; room = c.args.room; widths = c.args.widths }

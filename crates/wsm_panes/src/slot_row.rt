@@ -1,0 +1,138 @@
+//! Slots in a row, and those that are free.
+
+ghost use Rattle.std.specs.Prelude.{◌≡◌, ◌+◌, ◌++◌, ◌<◌, ◌≤◌, ◌^◌, ℕ, [], Some, IfOk, if◌then◌else◌, drop, insert, length, nat_lt, slice_get, take, vec_len, vec_capacity};
+ghost use Rattle.std.specs.List.{remove};
+ghost use Rattle.wsm_panes.specs.Stored.{listed};
+
+use std::alloc::{AllocError, Global};
+use std::marker::Model;
+
+/// Numbers of slots, from 0 on. Some slots stand in a row, and the others are free. A clause sees the
+/// row, and how many slots there are.
+#[derive(Drop)]
+pub(crate) struct SlotRow {
+    row: Vec<u32>,
+    free: Vec<u32>,
+}
+
+impl Model for SlotRow {
+    ghost use Rattle.std.specs.Prelude.{◌≡◌, vec_capacity};
+    ghost use Rattle.wsm_panes.specs.Stored.{AreApart, Taken};
+
+    ghost Value = { Taken };
+
+    ghost view = { λ a. record { row = a.row.items; room = vec_capacity a.row } };
+
+    ghost invariant = { λ a. AreApart (vec_capacity a.row) a.row.items a.free.items × (vec_capacity a.free ≡ vec_capacity a.row) };
+}
+
+impl SlotRow {
+    /// So many slots, each of which is free. No later call takes memory.
+    ///
+    /// # Errors
+    ///
+    /// Where there is no memory for the numbers.
+    pub(crate) fn open(alloc: Global, room: usize) -> Result<SlotRow, AllocError>
+        requires { room ≤ 2 ^ 32 }
+        ensures { IfOk result (λ r. r ≡ record { row = []; room = room }) }
+    {
+        Ok(SlotRow {
+            row: Vec::with_capacity(alloc, room)?,
+            free: numbers(alloc, room)?,
+        })
+    }
+
+    /// How many slots stand in the row.
+    pub(crate) fn len(&self) -> usize
+        ensures { result ≡ length self.now.row }
+    {
+        self.row.len()
+    }
+
+    /// How many slots there are.
+    pub(crate) fn room(&self) -> usize
+        ensures { result ≡ self.now.room }
+    {
+        self.row.capacity()
+    }
+
+    /// The slot that stands at a number.
+    pub(crate) fn get(&self, at: usize) -> usize
+        requires { at < length self.now.row }
+        ensures here { slice_get self.now.row at ≡ Some result }
+        ensures once { listed result self.now.row ≡ 1 }
+    {
+        self.row[at] as usize
+    }
+
+    /// Has a free slot stand at a number, in front of those from there on, and gives it.
+    pub(crate) fn insert(&mut self, at: usize) -> usize
+        requires at { at ≤ length self.old.row }
+        requires room { length self.old.row < self.old.room }
+        ensures row { self.new.row ≡ insert self.old.row at result }
+        ensures fresh { listed result self.old.row ≡ 0 }
+        ensures within { result < self.old.room }
+        ensures room { self.new.room ≡ self.old.room }
+    {
+        let slot = self.free.pop().unwrap();
+        self.row.insert(at, slot).unwrap();
+        slot as usize
+    }
+
+    /// Has the slot at a number be free.
+    pub(crate) fn remove(&mut self, at: usize)
+        requires { at < length self.old.row }
+        ensures { self.new ≡ record self.old { row = remove self.old.row at } }
+    {
+        let slot = self.row.remove(at);
+        self.free.push_reserved(slot);
+    }
+
+    /// Has the first slots of the row be free, so many.
+    pub(crate) fn drop_first(&mut self, count: usize)
+        requires { count ≤ length self.old.row }
+        ensures { self.new ≡ record self.old { row = drop count self.old.row } }
+    {
+        if count > 0 {
+            add_first(&mut self.free, &self.row, count);
+            drop_items(&mut self.row, count);
+        }
+    }
+}
+
+// The numbers below a count.
+fn numbers(alloc: Global, count: usize) -> Result<Vec<u32>, AllocError>
+    requires { count ≤ 2 ^ 32 }
+    ensures once { IfOk result (λ v. (s : ℕ) → listed s v.items ≡ (if nat_lt s count then 1 else 0)) }
+    ensures count { IfOk result (λ v. length v.items ≡ count) }
+    ensures room { IfOk result (λ v. vec_capacity v ≡ count) }
+{
+    let mut numbers = Vec::with_capacity(alloc, count)?;
+    for number in 0..count {
+        numbers.push_reserved(number as u32);
+    }
+    Ok(numbers)
+}
+
+// Adds the first numbers of others, so many.
+fn add_first(numbers: &mut Vec<u32>, others: &[u32], count: usize)
+    requires within { count ≤ length others.now }
+    requires room { vec_len numbers.old + count ≤ vec_capacity numbers.old }
+    ensures items { numbers.new.items ≡ numbers.old.items ++ take count others.now }
+    ensures capacity { vec_capacity numbers.new ≡ vec_capacity numbers.old }
+{
+    for i in 0..count {
+        numbers.push_reserved(others[i]);
+    }
+}
+
+// Drops the first numbers, so many.
+fn drop_items(numbers: &mut Vec<u32>, count: usize)
+    requires { count ≤ length numbers.old.items }
+    ensures items { numbers.new.items ≡ drop count numbers.old.items }
+    ensures capacity { vec_capacity numbers.new ≡ vec_capacity numbers.old }
+{
+    let left = numbers.len() - count;
+    numbers.copy_within(count.., 0);
+    numbers.truncate(left);
+}
