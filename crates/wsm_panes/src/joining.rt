@@ -17,7 +17,7 @@ ghost use Rattle.wsm_panes.specs.Layout.{IsAsWide};
 use crate::entering::place_of;
 use crate::list::ListTable;
 use crate::pane::Pane;
-use crate::recording::with_one_more;
+use crate::recording::{TakesRecords, with_one_more};
 use crate::table::PaneTable;
 use wsm_record::{Kind, Value};
 use wsm_semantics::Place;
@@ -86,8 +86,9 @@ fn enter_moved(table: &mut ListTable, from: Place, to: Place, kinds: &[Kind], va
     if from == to {
         table.enter(to, kinds, values);
     } else {
-        let pane = take(table, from);
-        table.put(to, with_one_more(Some(pane), kinds, values));
+        let mut pane = take(table, from);
+        pane.record(kinds, values);
+        table.put(to, pane);
     }
 }
 

@@ -18,4 +18,4 @@ put-requires-clause-holds c =
     let kinds = c.args.kinds.now in
     let values = c.args.values.now in
     let widths = c.args.table.now.widths in
-    rw (c.take-pane.ensures.widths, c.with_one_more.ensures) (more_wide kinds values widths c.requires.types c.requires.wide (Some c.take-pane.result) c.take-pane.ensures.wide)
+    rw (c.take-pane.ensures.widths, c.record.ensures) (more_wide kinds values widths c.requires.types c.requires.wide (Some c.take-pane.result) c.take-pane.ensures.wide)
