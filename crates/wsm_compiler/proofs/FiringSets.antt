@@ -14,17 +14,18 @@ use Rattle.wsm_windows.specs.declared.window.PaneKind.{PaneKind}
 use Rattle.wsm_windows.specs.declared.window.PaneKind.TheVariants.{Early, OnTime, Late, Final}
 use Rattle.wsm_windows.specs.Life.{is_due}
 use Rattle.wsm_windows.specs.Windows.{has_inside}
+use Rattle.wsm_windows.specs.declared.place.Place.{Place}
+use Rattle.wsm_windows.specs.Places.{place_cmp, window_of}
+use Rattle.wsm_windows.proofs.Places.{places_exact}
 use Rattle.wsm_admission.specs.declared.verdict.Refusal.{Refusal}
 use Rattle.wsm_admission.specs.Clock.{admitted_count}
 use Rattle.wsm_admission.proofs.Taken.{taken_record, admitted_count-le}
-use Rattle.wsm_semantics.specs.declared.place.Place.{Place}
 use Rattle.wsm_semantics.specs.Query.{Query as Meant, Datum, mark, verdict_on, is_taken, selection_of, selected}
-use Rattle.wsm_semantics.specs.Panes.{place_cmp, window_of, is_there, contents, places, with_contents, panes}
+use Rattle.wsm_semantics.specs.Panes.{is_there, contents, places, with_contents, panes}
 use Rattle.wsm_semantics.specs.Firings.{Firing, firing_set, is_enough, kind_on_record, kind_on_watermark, firing_of, fire, is_shown, firings, firings_so_far}
 use Rattle.wsm_semantics.specs.Relation.{candidates, greatest_of, standing, is_within}
 use Rattle.wsm_semantics.proofs.SelectedRecords.{selected_count}
 use Rattle.wsm_semantics.proofs.Lists.{filter-all, put-all}
-use Rattle.wsm_semantics.proofs.Tables.{places_exact}
 use Rattle.wsm_machine.proofs.Firing.{enough_some}
 use Rattle.wsm_compiler.proofs.Parts.{none≢some}
 

@@ -8,9 +8,9 @@ use Rattle.wsm_windows.specs.declared.window.Window.{Window}
 use Rattle.wsm_windows.specs.declared.window.Shape.{Shape}
 use Rattle.wsm_windows.specs.declared.window.Shape.TheVariants.{Fixed, Sliding, Session}
 use Rattle.wsm_windows.specs.Windows.{window, windows_of}
-use Rattle.wsm_semantics.specs.declared.place.Place.{Place}
+use Rattle.wsm_windows.specs.declared.place.Place.{Place}
+use Rattle.wsm_windows.specs.Places.{place_cmp, at}
 use Rattle.wsm_semantics.specs.Query.{Datum}
-use Rattle.wsm_semantics.specs.Panes.{place_cmp, at}
 use Rattle.wsm_semantics.specs.Kept.{is_linked}
 use Rattle.wsm_semantics.specs.Summaries.{Plan, Pane, linked, session_with, with_folded, with_record, joined_with, joined_all, assigned, merged_session, entered}
 use Rattle.wsm_semantics.specs.Replay.{datum}

@@ -13,6 +13,7 @@ use Rattle.wsm_windows.specs.declared.window.Window.{Window}
 use Rattle.wsm_windows.specs.declared.window.Shape.{Shape}
 use Rattle.wsm_windows.specs.declared.window.Shape.TheVariants.{Fixed, Sliding, Session}
 use Rattle.wsm_windows.specs.Windows.{IsTime, windows_of_shape}
+use Rattle.wsm_windows.specs.Places.{place_cmp}
 use Rattle.wsm_admission.specs.declared.verdict.Admitted.{Admitted}
 use Rattle.wsm_admission.specs.declared.verdict.Admitted.TheVariants as admitted
 use Rattle.wsm_admission.specs.declared.verdict.Refusal.{Refusal}
@@ -20,7 +21,7 @@ use Rattle.wsm_admission.specs.Admission.{answer}
 use Rattle.wsm_admission.proofs.Taken.{accepted_watermark}
 use Rattle.wsm_semantics.specs.declared.out_row.OutRow.{OutRow}
 use Rattle.wsm_semantics.specs.Query.{Query, mark, verdict_on}
-use Rattle.wsm_semantics.specs.Panes.{place_cmp, is_live_at}
+use Rattle.wsm_semantics.specs.Panes.{is_live_at}
 use Rattle.wsm_semantics.specs.HeldBounds.{most_panes}
 use Rattle.wsm_semantics.specs.Summaries.{entered}
 use Rattle.wsm_semantics.specs.Replay.{datum}

@@ -12,13 +12,14 @@ use Rattle.wsm_windows.specs.declared.window.Shape.{Shape}
 use Rattle.wsm_windows.specs.declared.window.Shape.TheVariants.{Fixed, Sliding, Session}
 use Rattle.wsm_windows.specs.Life.{live_bound}
 use Rattle.wsm_windows.specs.Windows.{IsShape, IsTime, IsWindowOfShape, period_of, size_of}
+use Rattle.wsm_windows.specs.declared.place.Place.{Place}
+use Rattle.wsm_windows.specs.Places.{window_of}
 use Rattle.wsm_interval.specs.Interval.{interval, holds}
 use Rattle.wsm_admission.proofs.Taken.{IsTaken, taken_record}
 use Rattle.wsm_fold.specs.Fold.{are_of_kinds, joins}
 use Rattle.wsm_fold.specs.Accumulators.{SumsFit}
-use Rattle.wsm_semantics.specs.declared.place.Place.{Place}
 use Rattle.wsm_semantics.specs.Query.{Query, Datum, mark, verdict_on}
-use Rattle.wsm_semantics.specs.Panes.{held, window_of}
+use Rattle.wsm_semantics.specs.Panes.{held}
 use Rattle.wsm_semantics.specs.HeldBounds.{most_panes}
 use Rattle.wsm_semantics.specs.Kept as kept
 use Rattle.wsm_semantics.specs.Kept.{Kept, kept_in, is_linked}

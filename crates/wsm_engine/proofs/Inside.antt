@@ -11,15 +11,17 @@ use Rattle.wsm_windows.specs.declared.window.Window.{Window}
 use Rattle.wsm_windows.specs.declared.window.Shape.{Shape}
 use Rattle.wsm_windows.specs.declared.window.Shape.TheVariants.{Fixed, Sliding, Session}
 use Rattle.wsm_windows.specs.Windows.{window, IsShape, windows_of_shape}
-use Rattle.wsm_semantics.specs.declared.place.Place.{Place}
+use Rattle.wsm_windows.specs.declared.place.Place.{Place}
+use Rattle.wsm_windows.specs.Places.{place_cmp, at, window_of}
+use Rattle.wsm_windows.proofs.Places.{tie_is}
 use Rattle.wsm_semantics.specs.Query.{Query, Datum, verdict_on, selected}
-use Rattle.wsm_semantics.specs.Panes.{place_cmp, at, window_of, is_there, places, held}
+use Rattle.wsm_semantics.specs.Panes.{is_there, places, held}
 use Rattle.wsm_semantics.specs.Kept as kept
 use Rattle.wsm_semantics.specs.Kept.{Kept, kept_in, is_linked}
 use Rattle.wsm_semantics.specs.Summaries.{Pane, linked, session_with, summaries}
 use Rattle.wsm_semantics.specs.Replay.{datum}
 use Rattle.wsm_semantics.proofs.Lists.{all-each}
-use Rattle.wsm_semantics.proofs.Tables.{among, tie_is}
+use Rattle.wsm_semantics.proofs.Tables.{among}
 use Rattle.wsm_semantics.proofs.Assigned.{IsAssigned, own}
 use Rattle.wsm_semantics.proofs.AssignedStep.{grid_of}
 use Rattle.wsm_semantics.proofs.Each.{map-all}

@@ -7,7 +7,6 @@ use Rattle.wsm_windows.specs.Windows.{windows_of_shape}
 use Rattle.wsm_admission.specs.declared.verdict.Admitted.{Admitted}
 use Rattle.wsm_admission.specs.declared.verdict.Refusal.{Refusal}
 use Rattle.wsm_admission.specs.Admission.{answer}
-use Rattle.wsm_semantics.specs.declared.place.Place.{Place}
 use Rattle.wsm_semantics.specs.Query as query
 use Rattle.wsm_semantics.specs.Query.{verdict_on}
 use Rattle.wsm_semantics.specs.HeldBounds.{most_panes}
@@ -23,6 +22,7 @@ use Rattle.wsm_panes.specs.declared.widths.Widths.{Widths}
 use Rattle.wsm_panes.specs.Held.{Held, entries_of}
 use Rattle.wsm_firing.specs.Streams.{Standing, IsTold, relation_before, standing_rows}
 use Rattle.std.specs.Prelude.{IsTrue}
+use Rattle.wsm_windows.specs.declared.place.Place.{Place}
 use Rattle.wsm_engine.specs.declared.runner.Runner.{Runner}
 
 -- the relation at the last instant, by what the streams were told since

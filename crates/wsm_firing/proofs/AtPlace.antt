@@ -8,12 +8,13 @@ use Rattle.std.specs.declared.cmp.Ordering.{Ordering}
 use Rattle.std.specs.declared.cmp.Ordering.TheVariants.{Less, Equal, Greater}
 use Rattle.std.specs.FinMap.Entries.{put, find, is_sorted, below_all, find-put, is_sorted-put, same_entries}
 use Rattle.wsm_windows.specs.declared.window.PaneKind.{PaneKind}
-use Rattle.wsm_semantics.specs.declared.place.Place.{Place}
+use Rattle.wsm_windows.specs.declared.place.Place.{Place}
+use Rattle.wsm_windows.specs.Places.{place_cmp}
+use Rattle.wsm_windows.proofs.Places.{places_total, places_exact, tie_is}
 use Rattle.wsm_semantics.specs.Query.{Query}
-use Rattle.wsm_semantics.specs.Panes.{place_cmp}
 use Rattle.wsm_semantics.specs.Firings.{kind_on_record}
 use Rattle.wsm_semantics.specs.Summaries.{Plan, Pane, Fired, fired_count, fired_of, fires, fired_pane, all_fired}
-use Rattle.wsm_semantics.proofs.Tables.{places_total, places_exact, tie_is, find-keyed, is_sorted-keyed}
+use Rattle.wsm_semantics.proofs.Tables.{find-keyed, is_sorted-keyed}
 use Rattle.wsm_panes.proofs.Sorted.{lesser}
 use Rattle.wsm_firing.specs.ByRecord.{kind_at}
 use Rattle.wsm_firing.proofs.Agreeing.{Kind, Entries, none_fires}

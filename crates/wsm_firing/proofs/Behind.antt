@@ -6,9 +6,9 @@ use Rattle.std.specs.List.{AllByRecursion}
 use Rattle.std.specs.Ordering.{is_lt}
 use Rattle.std.specs.FinMap.Entries.{is_sorted, below_all}
 use Rattle.wsm_windows.specs.declared.window.PaneKind.TheVariants.{OnTime, Final}
-use Rattle.wsm_semantics.specs.declared.place.Place.{Place}
+use Rattle.wsm_windows.specs.declared.place.Place.{Place}
+use Rattle.wsm_windows.specs.Places.{place_cmp}
 use Rattle.wsm_semantics.specs.Query.{Query}
-use Rattle.wsm_semantics.specs.Panes.{place_cmp}
 use Rattle.wsm_semantics.specs.Firings.{kind_on_watermark}
 use Rattle.wsm_semantics.specs.Summaries.{Pane, kind_by_watermark}
 use Rattle.wsm_panes.proofs.Ended.{ends_in_order}

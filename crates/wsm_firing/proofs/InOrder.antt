@@ -11,11 +11,11 @@ use Rattle.wsm_windows.specs.declared.window.Window.{Window}
 use Rattle.wsm_windows.specs.declared.window.Shape.{Shape}
 use Rattle.wsm_windows.specs.declared.window.Shape.TheVariants.{Fixed, Sliding, Session}
 use Rattle.wsm_windows.specs.Windows.{window, has_inside, last_start, windows_up_to, windows_of, windows_of_shape, size_of, IsRising}
-use Rattle.wsm_semantics.specs.declared.place.Place.{Place}
-use Rattle.wsm_semantics.specs.Panes.{place_cmp, at}
+use Rattle.wsm_windows.specs.declared.place.Place.{Place}
+use Rattle.wsm_windows.specs.Places.{place_cmp, at}
+use Rattle.wsm_windows.proofs.Places.{places_total, places_exact}
 use Rattle.wsm_semantics.proofs.Lists.{filter-all}
 use Rattle.wsm_semantics.proofs.Each.{all-append}
-use Rattle.wsm_semantics.proofs.Tables.{places_total, places_exact}
 use Rattle.wsm_panes.proofs.Rings.{int_less}
 use Rattle.wsm_firing.specs.ByRecord.{is_among, AreInOrder}
 

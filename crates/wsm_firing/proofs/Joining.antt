@@ -11,14 +11,14 @@ use Rattle.wsm_windows.specs.declared.window.Shape.{Shape}
 use Rattle.wsm_windows.specs.declared.window.Shape.TheVariants.{Fixed, Sliding, Session}
 use Rattle.wsm_windows.specs.declared.window.Window.{Window}
 use Rattle.wsm_windows.specs.Windows.{IsShape, windows_of}
-use Rattle.wsm_semantics.specs.declared.place.Place.{Place}
+use Rattle.wsm_windows.specs.declared.place.Place.{Place}
+use Rattle.wsm_windows.specs.Places.{place_cmp, at}
+use Rattle.wsm_windows.proofs.Places.{places_total, places_exact}
 use Rattle.wsm_semantics.specs.declared.standing.Standing.{Standing as PaneStanding}
 use Rattle.wsm_semantics.specs.declared.standing.Standing.TheVariants.{Unfired, Row, Joined}
 use Rattle.wsm_semantics.specs.Query.{Datum}
-use Rattle.wsm_semantics.specs.Panes.{place_cmp, at}
 use Rattle.wsm_semantics.specs.Kept.{is_linked}
 use Rattle.wsm_semantics.specs.Summaries.{Plan, Pane, assigned, entered, joined_all, linked, merged_session, session_with, standing_joined, standing_row, with_record}
-use Rattle.wsm_semantics.proofs.Tables.{places_total, places_exact}
 use Rattle.wsm_panes.specs.Held.{first_two, has_fired, joined_panes}
 use Rattle.wsm_relation.specs.Rows.{count_of}
 use Rattle.wsm_firing.specs.Streams.{are_both_fired, rows_and, rows_with, standing_rows}

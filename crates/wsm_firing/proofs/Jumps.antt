@@ -9,9 +9,9 @@ use Rattle.std.specs.FinMap.Entries.{is_sorted, below_all}
 use Rattle.wsm_record.specs.declared.event.Value.{Value}
 use Rattle.wsm_windows.specs.declared.window.PaneKind.{PaneKind}
 use Rattle.wsm_windows.specs.declared.window.PaneKind.TheVariants.{OnTime, Final}
-use Rattle.wsm_semantics.specs.declared.place.Place.{Place}
+use Rattle.wsm_windows.specs.declared.place.Place.{Place}
+use Rattle.wsm_windows.specs.Places.{place_cmp}
 use Rattle.wsm_semantics.specs.Query.{Query}
-use Rattle.wsm_semantics.specs.Panes.{place_cmp}
 use Rattle.wsm_semantics.specs.Summaries.{Plan, Pane, fired_count, fired_of, fired_pane, fires, kind_by_watermark}
 use Rattle.wsm_panes.specs.Place.{is_kept}
 use Rattle.wsm_panes.specs.Walk.{first_past, place_due}

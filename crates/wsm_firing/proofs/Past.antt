@@ -4,8 +4,8 @@ use Rattle.std.proofs.lemmas.Int.{ints}
 use Rattle.std.specs.Prelude.{ℤ, ◌≤ℤ◌, ◌<ℤ◌, int_lt, slice_get}
 use Rattle.std.specs.Ordering.{is_lt}
 use Rattle.std.specs.FinMap.Entries.{where_key, is_sorted, below_all}
-use Rattle.wsm_semantics.specs.declared.place.Place.{Place}
-use Rattle.wsm_semantics.specs.Panes.{place_cmp}
+use Rattle.wsm_windows.specs.declared.place.Place.{Place}
+use Rattle.wsm_windows.specs.Places.{place_cmp}
 use Rattle.wsm_semantics.specs.Summaries.{Pane}
 use Rattle.wsm_panes.proofs.Ended.{ends_in_order}
 use Rattle.wsm_panes.proofs.Sorted.{lesser}

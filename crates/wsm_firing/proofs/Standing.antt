@@ -6,10 +6,10 @@ use Rattle.std.specs.declared.cmp.Ordering.{Ordering}
 use Rattle.std.specs.declared.cmp.Ordering.TheVariants.{Less, Equal, Greater}
 use Rattle.std.specs.FinMap.Entries.{put, find, is_sorted, below_all, by_order}
 use Rattle.wsm_record.specs.declared.event.Value.{Value}
-use Rattle.wsm_semantics.specs.declared.place.Place.{Place}
-use Rattle.wsm_semantics.specs.Panes.{place_cmp}
+use Rattle.wsm_windows.specs.declared.place.Place.{Place}
+use Rattle.wsm_windows.specs.Places.{place_cmp}
+use Rattle.wsm_windows.proofs.Places.{places_total}
 use Rattle.wsm_semantics.specs.Summaries.{Pane, standing_row}
-use Rattle.wsm_semantics.proofs.Tables.{places_total}
 use Rattle.wsm_relation.specs.Rows.{count_of}
 use Rattle.wsm_relation.proofs.Bags.{once}
 use Rattle.wsm_firing.specs.Streams.{Standing, IsTold, AreAlike, CanTell, CanLose, CanGain, Tells, standing_rows}

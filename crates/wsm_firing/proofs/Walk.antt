@@ -11,11 +11,11 @@ use Rattle.std.specs.FinMap.Entries.{put, find, is_sorted, below_all, by_order}
 use Rattle.std.proofs.Math.Seq.{drop-cons}
 use Rattle.std.proofs.lemmas.Option.{slice_get_within, get_or_from_slice_get}
 use Rattle.wsm_windows.specs.declared.window.PaneKind.{PaneKind}
-use Rattle.wsm_semantics.specs.declared.place.Place.{Place}
+use Rattle.wsm_windows.specs.declared.place.Place.{Place}
+use Rattle.wsm_windows.specs.Places.{place_cmp}
+use Rattle.wsm_windows.proofs.Places.{places_total}
 use Rattle.wsm_semantics.specs.Query.{Query}
-use Rattle.wsm_semantics.specs.Panes.{place_cmp}
 use Rattle.wsm_semantics.specs.Summaries.{Plan, Pane, fired_of, fires, fired_pane, all_fired}
-use Rattle.wsm_semantics.proofs.Tables.{places_total}
 use Rattle.wsm_firing.proofs.Agreeing.{Entries, none_fired}
 use Rattle.wsm_panes.proofs.Sorted.{lesser}
 use Rattle.wsm_panes.specs.Walk.{following, place_due}

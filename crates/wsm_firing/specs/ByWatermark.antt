@@ -3,8 +3,8 @@ use Rattle.std.specs.Prelude.{◌≡◌, ℕ, ◌≤◌, ◌<◌, ℤ, ◌<ℤ�
 use Rattle.std.specs.List.{AllByRecursion}
 use Rattle.wsm_record.specs.declared.event.Value.{Value}
 use Rattle.wsm_windows.specs.Windows.{IsPlaced}
-use Rattle.wsm_semantics.specs.declared.place.Place.{Place}
-use Rattle.wsm_semantics.specs.Panes.{window_of}
+use Rattle.wsm_windows.specs.declared.place.Place.{Place}
+use Rattle.wsm_windows.specs.Places.{window_of}
 use Rattle.wsm_semantics.specs.Summaries.{Pane, Fired, fires, kind_by_watermark}
 use Rattle.wsm_program.specs.Program.{Program}
 use Rattle.wsm_machine.specs.Meaning.{query_of}

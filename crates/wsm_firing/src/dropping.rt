@@ -5,7 +5,7 @@ ghost use Rattle.std.specs.List.{AllByRecursion};
 ghost use Rattle.std.specs.FinMap.Entries.{where_key};
 ghost use Rattle.wsm_record.specs.declared.event.Value.{Value};
 ghost use Rattle.wsm_windows.specs.Windows.{IsPlaced};
-ghost use Rattle.wsm_semantics.specs.Panes.{place_cmp, window_of};
+ghost use Rattle.wsm_windows.specs.Places.{place_cmp, window_of};
 ghost use Rattle.wsm_panes.specs.Held.{IsKept, entries_of};
 ghost use Rattle.wsm_firing.specs.Streams.{AreAlike, CanTell, IsTold, standing_rows};
 

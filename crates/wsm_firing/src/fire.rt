@@ -4,7 +4,7 @@ ghost use Rattle.std.specs.Prelude.{◌≡◌, ◌<◌, ◌++◌, [], ◌∷◌,
 ghost use Rattle.std.specs.FinMap.Entries.{find, put};
 ghost use Rattle.std.specs.List.{cons_option};
 ghost use Rattle.wsm_record.specs.declared.event.Value.{Value};
-ghost use Rattle.wsm_semantics.specs.Panes.{place_cmp, window_of};
+ghost use Rattle.wsm_windows.specs.Places.{place_cmp, window_of};
 ghost use Rattle.wsm_semantics.specs.declared.out_row.OutRow.TheVariants.{Pane as PaneRow};
 ghost use Rattle.wsm_semantics.specs.Steps.{chosen_rows};
 ghost use Rattle.wsm_semantics.specs.Summaries.{Pane, fired_pane};

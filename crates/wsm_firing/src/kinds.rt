@@ -3,18 +3,17 @@
 ghost use Rattle.std.specs.Prelude.{◌≡◌, FitsSigned};
 ghost use Rattle.std.specs.Int.{w64};
 ghost use Rattle.wsm_windows.specs.Windows.{IsPlaced, IsSpan};
+ghost use Rattle.wsm_windows.specs.Places.{window_of};
 ghost use Rattle.wsm_semantics.specs.Query.{Query};
 ghost use Rattle.wsm_semantics.specs.Firings.{kind_on_record};
-ghost use Rattle.wsm_semantics.specs.Panes.{window_of};
 ghost use Rattle.wsm_semantics.specs.Summaries.{kind_by_watermark};
 ghost use Rattle.wsm_machine.specs.Meaning.{query_of};
 
 use wsm_panes::PaneView;
 use wsm_program::Header;
-use wsm_semantics::Place;
 use wsm_triggers::{Trigger, on_record, on_watermark};
 use wsm_verifier::Verified;
-use wsm_windows::PaneKind;
+use wsm_windows::{PaneKind, Place};
 
 /// What a pane fires as on the turn of a record in it, at a mark.
 pub fn record_kind(

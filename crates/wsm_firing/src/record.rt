@@ -1,7 +1,7 @@
 //! Firings on the turn of a record.
 
 ghost use Rattle.std.specs.Prelude.{◌≡◌, ◌++◌, [], ◌∷◌, map, vec_capacity, vec_len, length};
-ghost use Rattle.wsm_semantics.specs.Panes.{at};
+ghost use Rattle.wsm_windows.specs.Places.{at};
 ghost use Rattle.wsm_semantics.specs.Replay.{datum};
 ghost use Rattle.wsm_semantics.specs.Summaries.{all_fired, fires, kind_by_record};
 ghost use Rattle.wsm_machine.specs.Meaning.{plan_of, query_of};
@@ -17,9 +17,9 @@ use crate::streams::Streams;
 use crate::tally::Tally;
 use wsm_machine::Machine;
 use wsm_panes::HeldPanes;
-use wsm_semantics::{OutRow, Place};
+use wsm_semantics::OutRow;
 use wsm_verifier::Verified;
-use wsm_windows::{Window, Windows, windows_of};
+use wsm_windows::{Place, Window, Windows, windows_of};
 
 /// Fires the panes that a selected record of a key and a time was put into and that its triggers call
 /// for, at a mark, by end, then start. A row is written for each where HAVING is true and rows are

@@ -3,7 +3,7 @@
 ghost use Rattle.std.specs.Prelude.{◌≡◌, ◌≤ℤ◌, ◌+ℤ◌, ◌+◌, ℕ, pos, List, [], IsSome, Some, slice_get, vec_capacity, length};
 ghost use Rattle.std.specs.FinMap.Entries.{find};
 ghost use Rattle.wsm_record.specs.declared.event.Value.{Value};
-ghost use Rattle.wsm_semantics.specs.Panes.{place_cmp};
+ghost use Rattle.wsm_windows.specs.Places.{place_cmp};
 ghost use Rattle.wsm_semantics.specs.Summaries.{Pane as AnyPane, all_fired, kind_by_watermark};
 ghost use Rattle.wsm_machine.specs.Meaning.{plan_of, query_of};
 ghost use Rattle.wsm_panes.specs.Held.{IsKept, entries_of};

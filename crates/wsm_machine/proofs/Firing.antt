@@ -12,13 +12,14 @@ use Rattle.wsm_record.specs.Event.{Event, Record, Watermark}
 use Rattle.wsm_windows.specs.declared.window.PaneKind.{PaneKind}
 use Rattle.wsm_windows.specs.declared.window.PaneKind.TheVariants.{Early, OnTime, Late, Final}
 use Rattle.wsm_windows.specs.Life.{is_due}
+use Rattle.wsm_windows.specs.declared.place.Place.{Place}
+use Rattle.wsm_windows.specs.Places.{window_of}
 use Rattle.wsm_admission.specs.declared.clock.Clock.{Clock}
 use Rattle.wsm_admission.specs.declared.verdict.Refusal.{Refusal}
 use Rattle.wsm_admission.specs.Clock.{verdict_at}
 use Rattle.wsm_admission.specs.Admission.{answer}
-use Rattle.wsm_semantics.specs.declared.place.Place.{Place}
 use Rattle.wsm_semantics.specs.Query.{Query, Datum}
-use Rattle.wsm_semantics.specs.Panes.{window_of, is_there}
+use Rattle.wsm_semantics.specs.Panes.{is_there}
 use Rattle.wsm_semantics.specs.Firings.{is_enough, kind_on_record, kind_on_watermark}
 use Rattle.wsm_semantics.specs.Summaries.{Pane, Fired, fired_count, kind_by_record, kind_by_watermark, fired_of, fires, entered, fired_by_record}
 use Rattle.wsm_semantics.specs.Replay.{datum}

@@ -16,14 +16,15 @@ use Rattle.wsm_windows.specs.declared.window.Window.{Window}
 use Rattle.wsm_windows.specs.declared.window.Shape.{Shape}
 use Rattle.wsm_windows.specs.declared.window.Shape.TheVariants.{Fixed, Sliding, Session}
 use Rattle.wsm_windows.specs.Windows.{windows_of_shape}
-use Rattle.wsm_semantics.specs.declared.place.Place.{Place}
+use Rattle.wsm_windows.specs.declared.place.Place.{Place}
+use Rattle.wsm_windows.specs.Places.{place_cmp, at}
+use Rattle.wsm_windows.proofs.Places.{places_exact}
 use Rattle.wsm_semantics.specs.Query.{Datum}
-use Rattle.wsm_semantics.specs.Panes.{place_cmp, at, is_live_at}
+use Rattle.wsm_semantics.specs.Panes.{is_live_at}
 use Rattle.wsm_semantics.specs.Kept.{is_linked}
 use Rattle.wsm_semantics.specs.Summaries.{Pane, fired_count, left_folded, with_folded, session_with, linked, with_record, joined, joined_with, joined_all, assigned, merged_session, entered, fired_pane, all_fired, kind_by_record, kind_by_watermark, after_record, at_watermark, after_watermark}
 use Rattle.wsm_semantics.specs.HeldRecords.{AtMost}
 use Rattle.wsm_semantics.proofs.Lists.{filter-all, put-all}
-use Rattle.wsm_semantics.proofs.Tables.{places_exact}
 use Rattle.wsm_semantics.proofs.HeldRecords.{at_most-after_record, at_most-fired, at_most-after_watermark}
 use Rattle.wsm_program.specs.Program.{Program, is_program}
 use Rattle.wsm_program.specs.declared.program.Costs.{Costs}

@@ -9,13 +9,14 @@ use Rattle.wsm_record.specs.Event.{Event, Record}
 use Rattle.wsm_windows.specs.declared.window.Shape.{Shape}
 use Rattle.wsm_windows.specs.declared.window.Shape.TheVariants.{Session}
 use Rattle.wsm_windows.specs.Windows.{windows_of_shape}
+use Rattle.wsm_windows.specs.declared.place.Place.{Place}
+use Rattle.wsm_windows.specs.Places.{at}
 use Rattle.wsm_admission.specs.declared.verdict.Admitted.{Admitted}
 use Rattle.wsm_admission.specs.declared.verdict.Admitted.TheVariants as admitted
 use Rattle.wsm_admission.specs.declared.verdict.Refusal.{Refusal}
-use Rattle.wsm_semantics.specs.declared.place.Place.{Place}
 use Rattle.wsm_semantics.specs.Query.{Query, Datum, is_taken, selected}
 use Rattle.wsm_semantics.specs.Sessions.{sessions}
-use Rattle.wsm_semantics.specs.Panes.{at, of_key, windows_among}
+use Rattle.wsm_semantics.specs.Panes.{of_key, windows_among}
 use Rattle.wsm_semantics.specs.Firings.{Firing}
 use Rattle.wsm_semantics.specs.Kept.{Kept, kept, is_linked}
 use Rattle.wsm_semantics.specs.Summaries.{Plan, Pane, Fired, linked}

@@ -13,7 +13,6 @@ use Rattle.wsm_windows.specs.declared.window.PaneKind.TheVariants.{Early, OnTime
 use Rattle.wsm_windows.specs.declared.window.Shape.{Shape}
 use Rattle.wsm_windows.specs.declared.window.Shape.TheVariants.{Fixed, Sliding, Session}
 use Rattle.wsm_windows.specs.Windows.{window}
-use Rattle.wsm_semantics.specs.declared.place.Place.{Place}
 use Rattle.wsm_semantics.specs.declared.out_row.OutRow.{OutRow}
 use Rattle.wsm_semantics.specs.declared.out_row.OutRow.TheVariants as rows
 use Rattle.wsm_semantics.specs.Query.{Datum}
@@ -23,6 +22,7 @@ use Rattle.wsm_semantics.specs.Summaries.{Pane, after_record, after_watermark, f
 use Rattle.wsm_semantics.specs.Kept.{kept}
 use Rattle.wsm_semantics.specs.Steps.{step_rows, run}
 use Rattle.wsm_record.specs.declared.words.CellType.TheVariants as types
+use Rattle.wsm_windows.specs.declared.place.Place.{Place}
 use Rattle.wsm_program.specs.declared.instr.Instr.TheVariants.{PushInt, PushBool, Field, Acc, Count, Operate, Fold, Return}
 use Rattle.wsm_program.specs.declared.operation.Operation.TheVariants.{Gt}
 use Rattle.wsm_program.specs.Program.{Program}

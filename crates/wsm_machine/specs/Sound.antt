@@ -4,8 +4,8 @@
 use Rattle.std.specs.Prelude.{◌≡◌, ℕ, ◌<◌, ◌≤◌, List, length, Option, Some, None, IsTrue, unsigned_abs}
 use Rattle.std.specs.List.{AllByRecursion, list_all}
 use Rattle.wsm_record.specs.declared.event.Value.{Value}
+use Rattle.wsm_windows.specs.declared.place.Place.{Place}
 use Rattle.wsm_fold.specs.Fold.{folds_of}
-use Rattle.wsm_semantics.specs.declared.place.Place.{Place}
 use Rattle.wsm_semantics.specs.Query.{Datum}
 use Rattle.wsm_semantics.specs.Summaries.{Pane, Fired, fired_count}
 use Rattle.wsm_semantics.specs.HeldRecords.{AtMost}

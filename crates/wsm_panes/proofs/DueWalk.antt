@@ -11,9 +11,10 @@ use Rattle.std.specs.FinMap.{entries, get-entries}
 use Rattle.std.specs.FinMap.Entries.{find}
 use Rattle.std.proofs.lemmas.Int.{ints, by_lt_z, int_min_is}
 use Rattle.std.proofs.lemmas.Option.{same_Some}
-use Rattle.wsm_semantics.specs.declared.place.Place.{Place}
+use Rattle.wsm_windows.specs.declared.place.Place.{Place}
+use Rattle.wsm_windows.specs.Places.{place_cmp}
 use Rattle.wsm_panes.specs.declared.ring.Ring.{Ring}
-use Rattle.wsm_panes.specs.Place.{place_cmp, is_kept}
+use Rattle.wsm_panes.specs.Place.{is_kept}
 use Rattle.wsm_panes.specs.Walk.{first_past, following, place_due}
 use Rattle.wsm_panes.specs.Ring.{IsOfRing, AreInPlace, AreBetween, IsFromOn, IsFirstPast, IsFirstUntil, slot_at, slot_of}
 use Rattle.wsm_panes.proofs.Clears.{is_past}

@@ -8,8 +8,9 @@ use Rattle.std.specs.declared.cmp.Ordering.TheVariants.{Less, Equal, Greater}
 use Rattle.std.specs.FinMap.{is_sorted}
 use Rattle.std.specs.FinMap.Entries.{below_all}
 use Rattle.std.specs.Ordering.{int_cmp, is_lt, ordering_then}
-use Rattle.wsm_semantics.specs.declared.place.Place.{Place}
-use Rattle.wsm_panes.specs.Place.{place_cmp, is_kept}
+use Rattle.wsm_windows.specs.declared.place.Place.{Place}
+use Rattle.wsm_windows.specs.Places.{place_cmp}
+use Rattle.wsm_panes.specs.Place.{is_kept}
 use Rattle.wsm_panes.specs.Walk.{first_past}
 use Rattle.wsm_panes.proofs.Sorted.{less_at, lesser, first_of_and, second_of_and}
 

@@ -16,11 +16,12 @@ use Rattle.wsm_windows.specs.declared.window.Window.{Window}
 use Rattle.wsm_windows.specs.declared.window.Shape.{Shape}
 use Rattle.wsm_windows.specs.declared.window.Shape.TheVariants.{Fixed, Sliding, Session}
 use Rattle.wsm_windows.specs.Windows.{period_of, size_of, windows_of, windows_of_shape}
+use Rattle.wsm_windows.specs.declared.place.Place.{Place}
+use Rattle.wsm_windows.specs.Places.{place_cmp, at, window_of}
+use Rattle.wsm_windows.proofs.Places.{places_total}
 use Rattle.wsm_fold.specs.Fold.{are_of_kinds, joins}
 use Rattle.wsm_fold.specs.Accumulators.{SumsFit}
 use Rattle.wsm_fold.proofs.Rows.{length-are_of_kinds, are_of_kinds-joins}
-use Rattle.wsm_semantics.specs.declared.place.Place.{Place}
-use Rattle.wsm_semantics.specs.Panes.{place_cmp, at, window_of}
 use Rattle.wsm_semantics.specs.Query.{Datum}
 use Rattle.wsm_semantics.specs.Kept.{is_linked}
 use Rattle.wsm_semantics.specs.Replay.{datum}
@@ -33,7 +34,6 @@ use Rattle.wsm_panes.specs.Held.{CanEnter, CanEnterWindows, CanJoin, CanJoinAll,
 use Rattle.wsm_panes.specs.Ring.{LieInRing}
 use Rattle.wsm_panes.specs.OfKeys.{AreDropped, AreOfKeys, IsOfKey}
 use Rattle.wsm_panes.specs.Place.{is_kept}
-use Rattle.wsm_panes.proofs.Entries.{places_total}
 use Rattle.wsm_panes.proofs.Tables.{to_T}
 
 -- which record it is doesn't matter, beside the values

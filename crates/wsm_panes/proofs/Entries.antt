@@ -14,18 +14,10 @@ use Rattle.std.proofs.lemmas.Bool.{cases_Bool}
 use Rattle.std.proofs.lemmas.Bool.Decides.{Decides-int_eq, Decides-eqb, Decides-and, Decides-like}
 use Rattle.std.proofs.lemmas.Cmp.{on_total, then_total}
 use Rattle.std.proofs.lemmas.Map.Lookups.{CmpEqualImpliesEq, exact_pairs, exact_signed, exact_unsigned}
-use Rattle.wsm_semantics.specs.declared.place.Place.{Place}
-use Rattle.wsm_panes.specs.Place.{place_cmp, before}
-use Rattle.wsm_semantics.proofs.Tables.{tie_is}
-
--- places that compare alike are one
-pub exact_places : CmpEqualImpliesEq place_cmp
-exact_places a b h =
-    ap (λ (p : _). let q : Place = record { end = p.0; start = p.1.0; key = p.1.1 } in q)
-    (exact_pairs int_cmp _ exact_signed (exact_pairs int_cmp nat_cmp exact_signed exact_unsigned) (a.end, (a.start, a.key)) (b.end, (b.start, b.key)) h)
-
-pub places_total : IsTotalOrder place_cmp
-places_total = then_total (on_total (λ p. p.end) int_cmp_total) (then_total (on_total (λ p. p.start) int_cmp_total) (on_total (λ p. p.key) nat_cmp_total))
+use Rattle.wsm_panes.specs.Place.{before}
+use Rattle.wsm_windows.proofs.Places.{places_total, places_exact, tie_is}
+use Rattle.wsm_windows.specs.declared.place.Place.{Place}
+use Rattle.wsm_windows.specs.Places.{place_cmp}
 
 apart : (p q : Place) → place_cmp p q ≡ Less → q ≢ p
 apart p q less same = let tie : Less ≡ Equal = sym less ∙ rw same (tied_itself places_total p) in cc
@@ -38,7 +30,7 @@ no_gt Greater h = absurd (h refl)
 -- the entry at the place
 pub at_here : {P : Type 0} (es : List (Place × P)) (i : ℕ) (d : Place × P) (q : Place) → is_sorted place_cmp es ≡ true → i < length es → place_cmp q (get_or es i d).0 ≡ Equal → IsAt es q i
 at_here es i d q sorted within tie =
-    let same : (get_or es i d).0 ≡ q = sym (exact_places q _ tie) in
+    let same : (get_or es i d).0 ≡ q = sym (places_exact q _ tie) in
     let stop : before place_cmp q es ≤ i = stops place_cmp es i d q within (no_gt _ (λ e. let bad : Equal ≡ Greater = sym tie ∙ e in cc)) in
     let come : i ≤ before place_cmp q es = reaches place_cmp places_total es i d q (rw sorted tt) within tie in
     let here : i ≡ before place_cmp q es = omega arith in
@@ -60,8 +52,8 @@ gap_here es d i q sorted here less =
     record {
       within = omega (arith, before_within place_cmp es q);
       stops = here;
-      absent = find_absent place_cmp places_total exact_places es d q (rw sorted tt) other;
-      puts = λ pane. sym (rw here (put_between place_cmp places_total exact_places es d q pane other));
+      absent = find_absent place_cmp places_total places_exact es d q (rw sorted tt) other;
+      puts = λ pane. sym (rw here (put_between place_cmp places_total places_exact es d q pane other));
     }
 
 pub gap_any : {P : Type 0} (es : List (Place × P)) (i : ℕ) (q : Place) → is_sorted place_cmp es ≡ true → i ≡ before place_cmp q es → ((d : Place × P) → i < length es → place_cmp q (get_or es i d).0 ≡ Less) → IsGapFor es q i

@@ -17,17 +17,16 @@ use Rattle.wsm_windows.specs.declared.window.Window.{Window}
 use Rattle.wsm_windows.specs.declared.window.Shape.{Shape}
 use Rattle.wsm_windows.specs.declared.window.Shape.TheVariants.{Fixed, Sliding, Session}
 use Rattle.wsm_windows.specs.Windows.{IsRising, IsShape, has_inside, last_start, window, windows_of, windows_of_shape, windows_up_to}
-use Rattle.wsm_semantics.specs.declared.place.Place.{Place}
-use Rattle.wsm_semantics.specs.Panes.{place_cmp, at}
+use Rattle.wsm_windows.specs.declared.place.Place.{Place}
+use Rattle.wsm_windows.specs.Places.{place_cmp, at}
+use Rattle.wsm_windows.proofs.Places.{tie_is, places_exact, places_total}
 use Rattle.wsm_semantics.specs.Query.{Datum}
 use Rattle.wsm_semantics.specs.Replay.{datum}
 use Rattle.wsm_semantics.specs.Summaries.{Plan, Pane, assigned, with_record}
 use Rattle.wsm_semantics.proofs.ManyKeys.{length-filter}
-use Rattle.wsm_semantics.proofs.Tables.{tie_is}
 use Rattle.wsm_panes.specs.declared.ring.Ring.{Ring}
 use Rattle.wsm_panes.specs.Held.{CanEnterWindows, CanRecord, taking}
 use Rattle.wsm_panes.specs.Ring.{IsNear, RingAdmits}
-use Rattle.wsm_panes.proofs.Entries.{exact_places, places_total}
 use Rattle.wsm_panes.proofs.Live.{near_admits}
 use Rattle.wsm_semantics.proofs.HeldRecords.{apart}
 
@@ -35,7 +34,7 @@ module _ {X : Type 0} (Q : Place → Type 0) where
   put_by : (p : Place) (v : X) (e : Place × X) (es ps : List (Place × X)) → (AllByRecursion (λ x. Q x.0) ps → Q p × AllByRecursion (λ x. Q x.0) es) → (o : Ordering) → place_cmp p e.0 ≡ o
       → AllByRecursion (λ x. Q x.0) (by_order o ((p, v) ∷ e ∷ es) ((e.0, v) ∷ es) (e ∷ ps)) → Q p × AllByRecursion (λ x. Q x.0) (e ∷ es)
   put_by p v e es ps rest Less is all = all
-  put_by p v e es ps rest Equal is all = (subst Q (sym (exact_places p e.0 is)) all.0, all)
+  put_by p v e es ps rest Equal is all = (subst Q (sym (places_exact p e.0 is)) all.0, all)
   put_by p v e es ps rest Greater is all = let more = rest all.1 in (more.0, (all.0, more.1))
 
   -- what is put is there, and so is what was there before

@@ -9,9 +9,9 @@ use Rattle.wsm_record.specs.declared.event.Value.{Value}
 use Rattle.wsm_record.specs.declared.words.Kind.{Kind}
 use Rattle.wsm_record.specs.declared.words.Mode.{Mode}
 use Rattle.wsm_record.specs.declared.words.Mode.TheVariants.{Accumulating, Discarding}
+use Rattle.wsm_windows.specs.declared.place.Place.{Place}
 use Rattle.wsm_fold.proofs.Rows.{length-are_of_kinds}
 use Rattle.wsm_fold.specs.Fold.{are_of_kinds, joins}
-use Rattle.wsm_semantics.specs.declared.place.Place.{Place}
 use Rattle.wsm_semantics.specs.Summaries.{Pane, left_folded}
 use Rattle.wsm_panes.specs.declared.head.Head.{Head}
 use Rattle.wsm_panes.specs.declared.widths.Widths.{Widths}

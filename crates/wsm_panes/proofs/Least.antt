@@ -7,12 +7,13 @@ use Rattle.std.specs.declared.cmp.Ordering.TheVariants.{Less}
 use Rattle.std.specs.FinMap.{FinMap, find, is_sorted, get, entries, get-entries, entries_sorted}
 use Rattle.std.specs.FinMap.Entries.{below_all}
 use Rattle.std.specs.Ordering.{is_lt, eq_by_cmp}
-use Rattle.wsm_semantics.specs.declared.place.Place.{Place}
-use Rattle.wsm_panes.specs.Place.{place_cmp, is_kept}
+use Rattle.wsm_windows.specs.declared.place.Place.{Place}
+use Rattle.wsm_windows.specs.Places.{place_cmp}
+use Rattle.wsm_windows.proofs.Places.{tie_is}
+use Rattle.wsm_panes.specs.Place.{is_kept}
 use Rattle.wsm_panes.specs.Walk.{first_past, following}
 use Rattle.wsm_panes.proofs.Entries.{apart_place}
 use Rattle.wsm_panes.proofs.Sorted.{lesser, first_of_and, second_of_and}
-use Rattle.wsm_semantics.proofs.Tables.{tie_is}
 use Rattle.wsm_semantics.proofs.Assigned.{tied}
 
 module _ {P : Type 0} where

@@ -10,14 +10,13 @@ use Rattle.std.proofs.lemmas.Option.{none-some}
 use Rattle.std.proofs.lemmas.Nat.{mul-le, same_from_place}
 use Rattle.std.proofs.Math.Nat.{div-add-mod'}
 use Rattle.wsm_windows.specs.Life.{IsHeld}
-use Rattle.wsm_semantics.specs.declared.place.Place.{Place}
-use Rattle.wsm_semantics.specs.Panes.{window_of}
 use Rattle.wsm_panes.specs.declared.ring.Ring.{Ring}
-use Rattle.wsm_panes.specs.Place.{place_cmp}
 use Rattle.wsm_panes.specs.Ring.{IsRing, IsNear, IsOfRing, RingAdmits, window_number, slot_of}
 use Rattle.wsm_panes.proofs.RingWalk.{same_start_key}
 use Rattle.wsm_panes.proofs.Rings.{quot_rem, next_on_grid}
 use Rattle.wsm_windows.proofs.Multiples.{rem_below, times_more}
+use Rattle.wsm_windows.specs.declared.place.Place.{Place}
+use Rattle.wsm_windows.specs.Places.{window_of, place_cmp}
 
 -- two numbers that leave one remainder and are less than the divisor apart are one
 rem_apart : (b : ℕ) (m n : ℤ) → 0 < b → int_rem_euclid m (pos b) ≡ int_rem_euclid n (pos b) → m ≤ℤ n → n <ℤ (m +ℤ pos b) → m ≡ n

@@ -9,8 +9,9 @@ use Rattle.std.specs.FinMap.{FinMap, contains_key, entries, len, len-entries, en
 use Rattle.std.specs.FinMap.Entries.{put, find, where_key, is_sorted, length-put}
 use Rattle.wsm_windows.specs.declared.window.Window.{Window}
 use Rattle.wsm_windows.specs.Windows.{window}
-use Rattle.wsm_semantics.specs.declared.place.Place.{Place}
-use Rattle.wsm_semantics.specs.Panes.{place_cmp, at, window_of}
+use Rattle.wsm_windows.specs.declared.place.Place.{Place}
+use Rattle.wsm_windows.specs.Places.{place_cmp, at, window_of}
+use Rattle.wsm_windows.proofs.Places.{places_total}
 use Rattle.wsm_semantics.specs.Query.{Datum}
 use Rattle.wsm_semantics.specs.Kept.{is_linked}
 use Rattle.wsm_semantics.specs.Replay.{datum}
@@ -21,7 +22,6 @@ use Rattle.wsm_semantics.proofs.Each.{map-map, as_true}
 use Rattle.wsm_semantics.proofs.Sessions.{AreApart, sessions-more, sessions_apart}
 use Rattle.wsm_semantics.proofs.SessionOrder.{begins}
 use Rattle.wsm_panes.specs.Held.{windows_of_key}
-use Rattle.wsm_panes.proofs.Entries.{places_total}
 use Rattle.wsm_panes.proofs.Tables.{entries_kept, to_T}
 use Rattle.wsm_panes.proofs.Parts.{entered_windows, linked_places, other_windows, put_other, session_is}
 

@@ -6,21 +6,21 @@ use Rattle.std.specs.FinMap.{FinMap, entries, get, insert, remove, get-insert, g
 use Rattle.wsm_record.specs.declared.event.Value.{Value}
 use Rattle.wsm_record.specs.declared.words.Kind.{Kind}
 use Rattle.wsm_windows.specs.declared.window.Window.{Window}
-use Rattle.wsm_semantics.specs.declared.place.Place.{Place}
-use Rattle.wsm_semantics.specs.Panes.{place_cmp, at}
+use Rattle.wsm_windows.specs.declared.place.Place.{Place}
+use Rattle.wsm_windows.specs.Places.{place_cmp, at}
+use Rattle.wsm_windows.proofs.Places.{places_total, places_exact}
 use Rattle.wsm_semantics.specs.Query.{Datum}
 use Rattle.wsm_semantics.specs.Replay.{datum}
 use Rattle.wsm_semantics.specs.Sessions.{links, session_of}
 use Rattle.wsm_semantics.specs.Summaries.{Pane, joined_all, linked}
 use Rattle.wsm_panes.specs.Held.{CanJoinAll, CanRecord, taking, windows_of_key, with_one_more}
-use Rattle.wsm_panes.proofs.Entries.{places_total, exact_places}
 use Rattle.wsm_panes.proofs.Enters.{any_datum}
 use Rattle.wsm_panes.proofs.Merged.{Puts, parts_at}
 use Rattle.wsm_panes.proofs.Taken.{one_entry, one_found, one_left}
 
 -- what was at a place doesn't matter where another is put there
 pub insert_over : {X : Type 0} (m : FinMap place_cmp X) (p : Place) (v : X) → insert m p v ≡ insert (remove m p) p v
-insert_over m p v = same_map places_total exact_places _ _ (λ q.
+insert_over m p v = same_map places_total places_exact _ _ (λ q.
     get-insert places_total m p v q ∙ either q (eq_by_cmp place_cmp q p) refl
     ∙ sym (get-insert places_total (remove m p) p v q ∙ ap (cond (eq_by_cmp place_cmp q p) (Some v)) (get-remove places_total m p q)))
   where

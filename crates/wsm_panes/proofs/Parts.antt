@@ -9,8 +9,9 @@ use Rattle.std.specs.declared.cmp.Ordering.TheVariants.{Less, Equal, Greater}
 use Rattle.std.specs.FinMap.Entries.{put, find, by_order, find-put, find-where_key, same_entries, is_sorted, is_sorted-put, is_sorted-where_key}
 use Rattle.wsm_windows.specs.declared.window.Window.{Window}
 use Rattle.wsm_windows.specs.Windows.{window}
-use Rattle.wsm_semantics.specs.declared.place.Place.{Place}
-use Rattle.wsm_semantics.specs.Panes.{place_cmp, at, window_of}
+use Rattle.wsm_windows.specs.declared.place.Place.{Place}
+use Rattle.wsm_windows.specs.Places.{place_cmp, at, window_of}
+use Rattle.wsm_windows.proofs.Places.{places_total, places_exact, tie_is}
 use Rattle.wsm_semantics.specs.Query.{Datum}
 use Rattle.wsm_semantics.specs.Kept.{is_linked}
 use Rattle.wsm_semantics.specs.Sessions.{links, ends_by, starts_from, session_of, with_session}
@@ -20,9 +21,7 @@ use Rattle.wsm_semantics.proofs.Each.{passed, same_key, none_of, all_of, filter-
 use Rattle.wsm_semantics.proofs.Sessions.{AreApart, StartFrom}
 use Rattle.wsm_semantics.proofs.SessionOrder.{in_order}
 use Rattle.wsm_panes.specs.Held.{windows_of_key}
-use Rattle.wsm_panes.proofs.Entries.{places_total, exact_places}
 use Rattle.wsm_panes.proofs.Tables.{to_T, alike}
-use Rattle.wsm_semantics.proofs.Tables.{tie_is}
 
 -- ---- the panes that a record is linked to
 
@@ -159,7 +158,7 @@ module _ {X : Type 0} (gap : ℤ) (long : pos 1 ≤ℤ gap) (k : ℕ) (s : Windo
 -- a put and a test that passes its place can change places
 put_passes : {X : Type 0} (test : Place → Bool) (p : Place) (v : X) → test p ≡ true → (es : List (Place × X)) → is_sorted place_cmp es ≡ true → filter (λ e. test e.0) (put place_cmp p v es) ≡ put place_cmp p v (filter (λ e. test e.0) es)
 put_passes test p v passes es sorted =
-    same_entries place_cmp places_total exact_places _ _
+    same_entries place_cmp places_total places_exact _ _
     (is_sorted-where_key place_cmp test (put place_cmp p v es) (is_sorted-put place_cmp places_total p v es (to_T _ sorted)))
     (is_sorted-put place_cmp places_total p v _ (is_sorted-where_key place_cmp test es (to_T _ sorted)))
     (λ q.

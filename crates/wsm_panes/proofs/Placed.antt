@@ -9,12 +9,13 @@ use Rattle.std.proofs.lemmas.Int.{ints}
 use Rattle.std.proofs.lemmas.Bool.Decides.{Decides-int_eq}
 use Rattle.std.specs.Ordering.{eq_by_cmp}
 use Rattle.std.specs.FinMap.{FinMap, empty, empty_of_len, find, get, insert, remove, retain_keys, len, from_entries, get-from_entries, get-insert, get-remove, get-retain_keys, len-insert, len-empty, same_map}
-use Rattle.wsm_semantics.specs.declared.place.Place.{Place}
+use Rattle.wsm_windows.specs.declared.place.Place.{Place}
+use Rattle.wsm_windows.specs.Places.{place_cmp}
+use Rattle.wsm_windows.proofs.Places.{places_total, places_exact, tie_is}
 use Rattle.wsm_panes.specs.declared.ring.Ring.{Ring}
-use Rattle.wsm_panes.specs.Place.{place_cmp, is_kept}
+use Rattle.wsm_panes.specs.Place.{is_kept}
 use Rattle.wsm_panes.specs.Ring.{IsOfRing, RingAdmits, AreFree, AreInPlace, AreBetween, held, kept_slot, slot_at, slot_of, pane_of, starts_at}
-use Rattle.wsm_panes.proofs.Entries.{places_total, exact_places, apart_place}
-use Rattle.wsm_semantics.proofs.Tables.{tie_is}
+use Rattle.wsm_panes.proofs.Entries.{apart_place}
 use Rattle.wsm_semantics.proofs.Assigned.{tied}
 
 abbrev pub panes_in : {P : Type 0} → List (Option (Place × P)) → FinMap place_cmp P
@@ -107,7 +108,7 @@ module _ {P : Type 0} where
   pub panes_put : (r : Ring) (os : List (Option (Place × P))) (p : Place) (v : P) → AreInPlace r os → IsOfRing r p → slot_of r p < length os → (slot_at os (slot_of r p) ≡ None) ⊎ ((w : P) × (slot_at os (slot_of r p) ≡ Some (p, w))) → panes_in (set os (slot_of r p) (Some (p, v))) ≡ insert (panes_in os) p v
   panes_put r os p v placed of within own =
       let new : AreInPlace r (set os (slot_of r p) (Some (p, v))) = placed_set r os (slot_of r p) (Some (p, v)) placed within (λ e is. subst (λ (x : Place). IsOfRing r x × (slot_of r x ≡ slot_of r p)) (ap (λ (y : Place × P). y.0) (same_Some _ _ is)) (of, refl)) in
-      same_map places_total exact_places _ _ (λ q.
+      same_map places_total places_exact _ _ (λ q.
       get_in r _ new q
       ∙ elim (at_set r os p q (Some (p, v)) within) [
         | inl here ↦ ap (pane_of q) here.1 ∙ put_step q p v _ own ∙ ap (λ n. cond (eq_by_cmp place_cmp q p) (Some v) (pane_of q (slot_at os n))) (sym here.0)
@@ -122,7 +123,7 @@ module _ {P : Type 0} where
   pub panes_clear : (r : Ring) (os : List (Option (Place × P))) (p : Place) (w : P) → AreInPlace r os → slot_of r p < length os → slot_at os (slot_of r p) ≡ Some (p, w) → panes_in (set os (slot_of r p) None) ≡ remove (panes_in os) p
   panes_clear r os p w placed within own =
       let new : AreInPlace r (set os (slot_of r p) None) = placed_set r os (slot_of r p) None placed within (λ e is. absurd (cc)) in
-      same_map places_total exact_places _ _ (λ q.
+      same_map places_total places_exact _ _ (λ q.
       get_in r _ new q
       ∙ elim (at_set r os p q None within) [
         | inl here ↦ ap (pane_of q) here.1 ∙ clear_step q p w ∙ ap (λ o. cond (eq_by_cmp place_cmp q p) None (pane_of q o)) (sym (ap (slot_at os) here.0 ∙ own))
@@ -133,7 +134,7 @@ module _ {P : Type 0} where
   -- where no slot has the place, there is nothing to remove
   pub panes_without : (r : Ring) (os : List (Option (Place × P))) (p : Place) → AreInPlace r os → pane_of p (slot_at os (slot_of r p)) ≡ None → panes_in os ≡ remove (panes_in os) p
   panes_without r os p placed none =
-      same_map places_total exact_places _ _ (λ q.
+      same_map places_total places_exact _ _ (λ q.
       elim (cases_Bool (eq_by_cmp place_cmp q p)) [
         | inl tie ↦ ap (get (panes_in os)) (tie_is q p tie) ∙ get_in r os placed p ∙ none ∙ sym (ap (λ b. cond b None (get (panes_in os) q)) tie)
         | inr apart ↦ sym (ap (λ b. cond b None (get (panes_in os) q)) apart)
@@ -158,10 +159,10 @@ module _ {P : Type 0} where
 
   -- to keep in each slot what is past the limit is to keep those panes
   pub panes_kept : (r : Ring) (limit : ℤ) (os ns : List (Option (Place × P))) → AreInPlace r os → ((i : ℕ) → slot_at ns i ≡ kept_slot limit (slot_at os i)) → panes_in ns ≡ retain_keys (panes_in os) (is_kept limit)
-  panes_kept r limit os ns placed each = same_map places_total exact_places _ _ (λ q.
+  panes_kept r limit os ns placed each = same_map places_total places_exact _ _ (λ q.
       get_in r ns (placed_kept r limit os ns placed each) q ∙ ap (pane_of q) (each (slot_of r q)) ∙ kept_step limit q (slot_at os (slot_of r q))
       ∙ ap (λ o. cond (is_kept limit q) o None) (sym (get_in r os placed q))
-      ∙ sym (get-retain_keys (panes_in os) (is_kept limit) q (λ x tie. ap (is_kept limit) (sym (exact_places q x tie)))))
+      ∙ sym (get-retain_keys (panes_in os) (is_kept limit) q (λ x tie. ap (is_kept limit) (sym (places_exact q x tie)))))
 
   -- how many entries there are
   pub held_set : (os : List (Option (Place × P))) (i : ℕ) (o : Option (Place × P)) → i < length os → length (held (set os i o)) + option_len (slot_at os i) ≡ length (held os) + option_len o

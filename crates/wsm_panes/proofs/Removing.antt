@@ -8,12 +8,13 @@ use Rattle.std.specs.Ordering.{eq_by_cmp, is_eq, is_lt}
 use Rattle.std.specs.declared.cmp.Ordering.{Ordering}
 use Rattle.std.specs.declared.cmp.Ordering.TheVariants.{Less, Equal, Greater}
 use Rattle.std.specs.FinMap.Entries.{find, is_sorted}
-use Rattle.wsm_semantics.specs.declared.place.Place.{Place}
+use Rattle.wsm_windows.specs.declared.place.Place.{Place}
+use Rattle.wsm_windows.specs.Places.{place_cmp}
+use Rattle.wsm_windows.proofs.Places.{tie_is}
 use Rattle.wsm_semantics.proofs.Each.{all_of}
 use Rattle.wsm_semantics.proofs.Lists.{all-each}
 use Rattle.wsm_semantics.proofs.ManyKeys.{AreInOrder, Precedes, in_order}
-use Rattle.wsm_panes.specs.Place.{place_cmp, is_other}
-use Rattle.wsm_semantics.proofs.Tables.{tie_is}
+use Rattle.wsm_panes.specs.Place.{is_other}
 use Rattle.wsm_semantics.proofs.Assigned.{tied}
 
 below_apart : (o : Ordering) → is_lt o ≡ true → not (is_eq o) ≡ true

@@ -8,12 +8,13 @@ use Rattle.std.specs.declared.cmp.Ordering.TheVariants.{Less, Greater}
 use Rattle.std.specs.Ordering.{ordering_reverse}
 use Rattle.std.specs.Option.{is_some}
 use Rattle.std.specs.FinMap.{get, entries}
-use Rattle.wsm_semantics.specs.declared.place.Place.{Place}
+use Rattle.wsm_windows.specs.declared.place.Place.{Place}
+use Rattle.wsm_windows.specs.Places.{place_cmp}
+use Rattle.wsm_windows.proofs.Places.{places_total}
 use Rattle.wsm_panes.specs.declared.ring.Ring.{Ring}
-use Rattle.wsm_panes.specs.Place.{place_cmp, is_kept}
+use Rattle.wsm_panes.specs.Place.{is_kept}
 use Rattle.wsm_panes.specs.Walk.{first_past, following}
 use Rattle.wsm_panes.specs.Ring.{IsOfRing, AreInPlace, AreBetween, IsFromOn, IsFirstFrom, IsFirstPast, slot_at, slot_of, pane_of, window_number}
-use Rattle.wsm_panes.proofs.Entries.{places_total}
 use Rattle.wsm_panes.proofs.Rings.{window_less, key_less}
 use Rattle.wsm_panes.proofs.Clears.{is_past, past_is}
 use Rattle.wsm_panes.proofs.Placed.{panes_in, get_in, pane_here, entry_of}

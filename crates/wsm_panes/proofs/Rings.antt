@@ -11,12 +11,12 @@ use Rattle.std.proofs.lemmas.Nat.{row_fits}
 use Rattle.std.proofs.lemmas.Bool.Decides.{nat_tests, Decides-like, Decides-int_eq}
 use Rattle.std.proofs.Math.Nat.{div-add-mod'}
 use Rattle.std.proofs.Math.IntN.{negsuc-*ℤ-pos}
-use Rattle.wsm_semantics.specs.declared.place.Place.{Place}
 use Rattle.wsm_panes.specs.declared.ring.Ring.{Ring}
-use Rattle.wsm_panes.specs.Place.{place_cmp}
 use Rattle.wsm_panes.specs.Ring.{IsFirstPast, IsNextOnGrid, IsOnGrid, IsRing, IsOfRing, window_number, row_of, slot_of}
 use Rattle.wsm_windows.proofs.Multiples.{rem_below, times_more}
 use Rattle.wsm_windows.proofs.Bounds.{next_on_grid as next_multiple}
+use Rattle.wsm_windows.specs.declared.place.Place.{Place}
+use Rattle.wsm_windows.specs.Places.{place_cmp}
 
 below_zero : (a p : ℕ) → 0 < p → negsuc a ≡ negsuc (a / p) *ℤ pos p +ℤ pos (p - 1 - a % p)
 below_zero a p h =

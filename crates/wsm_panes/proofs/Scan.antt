@@ -3,13 +3,13 @@ use Rattle.std.proofs.Common.{suc, cond, ◌-ℤ◌, ◌≡◌, ◌⊎◌, ℕ, 
 use Rattle.std.proofs.lemmas.Bool.{cases_lt}
 use Rattle.std.proofs.lemmas.Int.{ints, by_lt_z}
 use Rattle.std.specs.Option.{is_some}
-use Rattle.wsm_semantics.specs.declared.place.Place.{Place}
 use Rattle.wsm_panes.specs.declared.ring.Ring.{Ring}
 use Rattle.wsm_panes.specs.Ring.{IsOnGrid, AreInPlace, IsFromOn, IsFirstFrom, IsFirstUntil, AreUntil, NoneInRow, IsFirstInRow, slot_at, row_of, starts_at, window_number}
 use Rattle.wsm_panes.proofs.Rings.{next_on_grid}
 use Rattle.wsm_panes.proofs.Placed.{not_started}
 use Rattle.std.proofs.lemmas.Bool.Decides.{Decides-int_eq}
 use Rattle.std.specs.Prelude.{int_le, unsigned_abs}
+use Rattle.wsm_windows.specs.declared.place.Place.{Place}
 
 module _ {P : Type 0} (r : Ring) (os : List (Option (Place × P))) (placed : AreInPlace r os) where
   -- the key of an entry of a window is how far it stands in the window's row

@@ -8,12 +8,13 @@ use Rattle.std.specs.List.{remove}
 use Rattle.std.specs.Option.{is_some}
 use Rattle.std.specs.FinMap.{contains_key, len}
 use Rattle.std.specs.FinMap.Entries.{find, put, is_sorted}
-use Rattle.wsm_semantics.specs.declared.place.Place.{Place}
-use Rattle.wsm_panes.specs.Place.{place_cmp, is_kept, is_other}
+use Rattle.wsm_panes.specs.Place.{is_kept, is_other}
 use Rattle.wsm_panes.specs.Ring.{slot_at}
 use Rattle.wsm_panes.specs.Search.{IsAt, IsGapFor}
 use Rattle.wsm_panes.specs.Stored.{AreStored, listed, shown}
 use Rattle.std.specs.declared.cmp.Ordering.TheVariants.{Equal}
+use Rattle.wsm_windows.specs.declared.place.Place.{Place}
+use Rattle.wsm_windows.specs.Places.{place_cmp}
 use Rattle.wsm_panes.proofs.Entries.{at_here}
 use Rattle.wsm_panes.specs.Walk.{place_due}
 use Rattle.wsm_panes.proofs.Laid.{held_within}

@@ -7,14 +7,13 @@ use Rattle.std.specs.Ordering.{eq_by_cmp, is_lt}
 use Rattle.std.specs.Cmp.{tied_itself}
 use Rattle.std.specs.FinMap.{FinMap, entries, get, remove, retain_keys, get-remove, get-retain_keys, get-entries, entries_sorted, same_map}
 use Rattle.std.specs.FinMap.Entries.{find, find-where_key, is_sorted, is_sorted-where_key}
-use Rattle.wsm_semantics.specs.declared.place.Place.{Place}
-use Rattle.wsm_semantics.specs.Panes.{place_cmp}
+use Rattle.wsm_windows.specs.declared.place.Place.{Place}
+use Rattle.wsm_windows.specs.Places.{place_cmp}
+use Rattle.wsm_windows.proofs.Places.{places_total, places_exact, tie_is}
 use Rattle.wsm_semantics.specs.Query.{Datum}
 use Rattle.wsm_semantics.specs.Kept.{is_linked}
 use Rattle.wsm_semantics.proofs.Each.{passed, as_true}
-use Rattle.wsm_panes.proofs.Entries.{places_total, exact_places}
 use Rattle.wsm_panes.proofs.Tables.{alike}
-use Rattle.wsm_semantics.proofs.Tables.{tie_is}
 use Rattle.wsm_semantics.proofs.Assigned.{tied}
 
 module _ {X : Type 0} (gap : ℤ) (d : Datum) (m : FinMap place_cmp X) where
@@ -27,7 +26,7 @@ module _ {X : Type 0} (gap : ℤ) (d : Datum) (m : FinMap place_cmp X) where
       get-entries m q ∙ sym (find-where_key place_cmp (is_linked gap d) q (alike (is_linked gap d) q) (entries m) ∙ ap (λ b. cond b (find place_cmp q (entries m)) None) h)
 
   pub none_left : filter (λ e. is_linked gap d e.0) (entries m) ≡ [] → m ≡ retain_keys m far
-  none_left none = same_map places_total exact_places _ _ (λ q. sym (get-retain_keys m far q (alike far q) ∙ stays q (is_linked gap d q) refl)) where
+  none_left none = same_map places_total places_exact _ _ (λ q. sym (get-retain_keys m far q (alike far q) ∙ stays q (is_linked gap d q) refl)) where
     stays : (q : Place) (b : Bool) → is_linked gap d q ≡ b → cond (far q) (get m q) None ≡ get m q
     stays q true h = ap (λ b. cond (not b) (get m q) None) h ∙ sym (found_linked q h ∙ ap (find place_cmp q) none)
     stays q false h = ap (λ b. cond (not b) (get m q) None) h
@@ -40,7 +39,7 @@ module _ {X : Type 0} (gap : ℤ) (d : Datum) (m : FinMap place_cmp X) where
     one_found = found_linked p one_linked ∙ ap (find place_cmp p) is ∙ ap (λ b. cond b (Some v) None) (tied p p refl)
 
     pub one_left : remove m p ≡ retain_keys m far
-    one_left = same_map places_total exact_places _ _ (λ q. get-remove places_total m p q ∙ sides q (eq_by_cmp place_cmp q p) refl ∙ sym (get-retain_keys m far q (alike far q))) where
+    one_left = same_map places_total places_exact _ _ (λ q. get-remove places_total m p q ∙ sides q (eq_by_cmp place_cmp q p) refl ∙ sym (get-retain_keys m far q (alike far q))) where
       sides : (q : Place) (b : Bool) → eq_by_cmp place_cmp q p ≡ b → cond (eq_by_cmp place_cmp q p) None (get m q) ≡ cond (far q) (get m q) None
       sides q true h =
           let at_p : is_linked gap d q ≡ true = ap (is_linked gap d) (tie_is q p h) ∙ one_linked in
@@ -77,7 +76,7 @@ module _ {X : Type 0} (gap : ℤ) (d : Datum) (m : FinMap place_cmp X) where
     second_found = get-remove places_total m p r ∙ ap (λ b. cond b None (get m r)) apart_two ∙ second_in
 
     pub both_left : remove (remove m p) r ≡ retain_keys m far
-    both_left = same_map places_total exact_places _ _ (λ q.
+    both_left = same_map places_total places_exact _ _ (λ q.
         get-remove places_total (remove m p) r q
         ∙ ap (λ o. cond (eq_by_cmp place_cmp q r) None o) (get-remove places_total m p q)
         ∙ sides q (eq_by_cmp place_cmp q r) (eq_by_cmp place_cmp q p) refl refl

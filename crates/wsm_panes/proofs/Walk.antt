@@ -7,11 +7,12 @@ use Rattle.std.specs.FinMap.Entries.{below_all}
 use Rattle.std.specs.Ordering.{is_lt, ordering_reverse}
 use Rattle.std.proofs.lemmas.Option.{same_Some}
 use Rattle.std.specs.Cmp.{tied_itself}
-use Rattle.wsm_semantics.specs.declared.place.Place.{Place}
-use Rattle.wsm_panes.specs.Place.{place_cmp, before}
+use Rattle.wsm_windows.specs.declared.place.Place.{Place}
+use Rattle.wsm_windows.specs.Places.{place_cmp}
+use Rattle.wsm_windows.proofs.Places.{places_total, places_exact}
+use Rattle.wsm_panes.specs.Place.{before}
 use Rattle.wsm_panes.specs.Search.{IsAt}
 use Rattle.wsm_panes.specs.Walk.{following}
-use Rattle.wsm_panes.proofs.Entries.{places_total, exact_places}
 use Rattle.wsm_semantics.proofs.Tables.{cases_Ordering}
 use Rattle.wsm_panes.proofs.Sorted.{lesser, first_of_and, second_of_and}
 
@@ -30,7 +31,7 @@ following_at p (e ∷ es) d sorted within same = elim (cases_Ordering (place_cmp
       absurd (cc)
   | inr rest ↦ elim rest [
     | inl tie ↦
-        let here : e.0 ≡ p = sym (exact_places p e.0 tie) in
+        let here : e.0 ≡ p = sym (places_exact p e.0 tie) in
         let below : T (below_all place_cmp p es) = subst (λ q. T (below_all place_cmp q es)) here (first_of_and (below_all place_cmp e.0 es) _ sorted) in
         rw tie (following_below p es below)
     | inr more ↦

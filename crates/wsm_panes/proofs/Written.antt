@@ -3,7 +3,7 @@ use Rattle.std.proofs.Common.{◌≡◌, Bool, true, false, ℕ, ◌+◌, ◌*�
 use Rattle.std.specs.Option.{is_some}
 use Rattle.std.specs.Prelude.{IfSome, option_map}
 use Rattle.wsm_record.specs.declared.event.Value.{Value}
-use Rattle.wsm_semantics.specs.declared.place.Place.{Place}
+use Rattle.wsm_windows.specs.declared.place.Place.{Place}
 use Rattle.wsm_semantics.specs.declared.standing.Standing.{Standing}
 use Rattle.wsm_semantics.specs.declared.standing.Standing.TheVariants as standing
 use Rattle.wsm_semantics.specs.Summaries.{Pane, standing_row}

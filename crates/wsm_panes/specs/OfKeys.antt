@@ -1,7 +1,7 @@
 -- The sessions that are kept of each key beside the panes.
 use Rattle.std.specs.Prelude.{◌≡◌, ℕ, List, length, filter, ℤ, Some, slice_get}
 use Rattle.wsm_record.specs.declared.event.Value.{Value}
-use Rattle.wsm_semantics.specs.declared.place.Place.{Place}
+use Rattle.wsm_windows.specs.declared.place.Place.{Place}
 use Rattle.wsm_semantics.specs.Sessions.{ends_after}
 use Rattle.wsm_semantics.specs.Summaries.{Pane}
 use Rattle.wsm_sessions.specs.Live.{Live, Fits, times_left}

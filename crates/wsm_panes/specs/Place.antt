@@ -2,8 +2,8 @@ use Rattle.std.specs.Prelude.{ℕ, suc, ℤ, Bool, List, [], ◌∷◌, if◌the
 use Rattle.std.specs.declared.cmp.Ordering.{Ordering}
 use Rattle.std.specs.Ordering.{is_gt, eq_by_cmp}
 use Rattle.std.specs.Coded.{Coded, code_by, coded×, coded_ℕ, coded_ℤ}
-use Rattle.wsm_semantics.specs.declared.place.Place.{Place}
-pub use Rattle.wsm_semantics.specs.Panes.{place_cmp}
+use Rattle.wsm_windows.specs.Places.{place_cmp}
+use Rattle.wsm_windows.specs.declared.place.Place.{Place}
 
 -- how many entries a scan for a key passes, in an order
 abbrev pub before : {K X : Type 0} → (K → K → Ordering) → K → List (K × X) → ℕ

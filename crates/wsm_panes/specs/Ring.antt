@@ -5,10 +5,11 @@ use Rattle.std.specs.Int.RustNames.{FitsSigned}
 use Rattle.std.specs.Ordering.{eq_by_cmp, int_eq}
 use Rattle.std.specs.List.{AllByRecursion}
 use Rattle.std.specs.FinMap as map
-use Rattle.wsm_semantics.specs.declared.place.Place.{Place}
+use Rattle.wsm_windows.specs.declared.place.Place.{Place}
+use Rattle.wsm_windows.specs.Places.{place_cmp}
 use Rattle.wsm_panes.specs.declared.ring.Ring.{Ring}
 use Rattle.wsm_panes.specs.declared.ring.Row.{Row}
-use Rattle.wsm_panes.specs.Place.{place_cmp, is_kept}
+use Rattle.wsm_panes.specs.Place.{is_kept}
 
 -- periods of at least one and at most the size; at least one key and window; slots that can be counted
 pub record IsRing (r : Ring) : Type 0 where

@@ -1,9 +1,10 @@
 use Rattle.std.specs.Prelude.{ℕ, ℤ, refl}
 use Rattle.std.specs.FinMap as map
 use Rattle.std.specs.Coded.{Coded, code_by, coded×, coded_ℕ, coded_ℤ}
+use Rattle.wsm_windows.specs.Places.{place_cmp}
 use Rattle.wsm_panes.specs.declared.ring.Ring.{Ring}
 use Rattle.wsm_panes.specs.declared.widths.Widths.{Widths}
-use Rattle.wsm_panes.specs.Place.{place_cmp, coded_place}
+use Rattle.wsm_panes.specs.Place.{coded_place}
 
 -- panes by their places, the ring that they are kept in, and how wide they are
 pub record RingState (P : Type 0) : Type 0 where

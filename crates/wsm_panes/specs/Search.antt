@@ -1,7 +1,8 @@
 use Rattle.std.specs.Prelude.{◌≡◌, ℕ, ◌<◌, ◌≤◌, List, length, None, Some, slice_index_or, slice_set, insert}
 use Rattle.std.specs.FinMap.{find, put}
-use Rattle.wsm_semantics.specs.declared.place.Place.{Place}
-use Rattle.wsm_panes.specs.Place.{place_cmp, before}
+use Rattle.wsm_windows.specs.declared.place.Place.{Place}
+use Rattle.wsm_windows.specs.Places.{place_cmp}
+use Rattle.wsm_panes.specs.Place.{before}
 
 -- the entry at i is at the place: a look-up finds its pane, and setting the place writes over it
 pub record IsAt {P : Type 0} (es : List (Place × P)) (place : Place) (i : ℕ) : Type 0 where

@@ -2,8 +2,8 @@
 use Rattle.std.specs.Prelude.{◌≡◌, ℕ, ◌+◌, List, [], ◌∷◌, length, true, Option, Some, None, if◌then◌else◌, nat_eq, nat_lt}
 use Rattle.std.specs.FinMap as map
 use Rattle.std.specs.Option.{is_some}
-use Rattle.wsm_semantics.specs.declared.place.Place.{Place}
-use Rattle.wsm_panes.specs.Place.{place_cmp}
+use Rattle.wsm_windows.specs.declared.place.Place.{Place}
+use Rattle.wsm_windows.specs.Places.{place_cmp}
 use Rattle.wsm_panes.specs.Ring.{slot_at}
 
 abbrev pub with_entry : {X : Type 0} → Option X → List X → List X

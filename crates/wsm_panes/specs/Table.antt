@@ -1,8 +1,9 @@
 use Rattle.std.specs.Prelude.{ℕ, refl}
 use Rattle.std.specs.FinMap as map
 use Rattle.std.specs.Coded.{Coded, code_by, coded×, coded_ℕ}
+use Rattle.wsm_windows.specs.Places.{place_cmp}
 use Rattle.wsm_panes.specs.declared.widths.Widths.{Widths}
-use Rattle.wsm_panes.specs.Place.{place_cmp, coded_place}
+use Rattle.wsm_panes.specs.Place.{coded_place}
 use Rattle.wsm_panes.specs.RingState.{coded_widths}
 
 -- panes by their places, for how many there is room, and how wide they are

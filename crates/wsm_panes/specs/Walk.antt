@@ -1,8 +1,9 @@
 use Rattle.std.specs.Prelude.{if◌then◌else◌, ℤ, List, [], ◌∷◌, Option, Some, None, option_map}
 use Rattle.std.specs.Ordering.{is_lt}
-use Rattle.wsm_semantics.specs.declared.place.Place.{Place}
+use Rattle.wsm_windows.specs.declared.place.Place.{Place}
+use Rattle.wsm_windows.specs.Places.{place_cmp}
 use Rattle.wsm_panes.specs.declared.spot.Spot.{Spot}
-use Rattle.wsm_panes.specs.Place.{place_cmp, is_kept}
+use Rattle.wsm_panes.specs.Place.{is_kept}
 
 -- the first entry behind a place
 abbrev pub following : {P : Type 0} → Place → List (Place × P) → Option (Place × P)

@@ -3,16 +3,15 @@
 ghost use Rattle.std.specs.Prelude.{◌≡◌, ◌≤◌, ◌≤ℤ◌, [], length, IsTrue};
 ghost use Rattle.std.specs.FinMap as map;
 ghost use Rattle.wsm_windows.specs.Windows.{IsTime, greatest_span, windows_of};
+ghost use Rattle.wsm_windows.specs.Places.{at};
 ghost use Rattle.wsm_fold.specs.Fold.{are_of_kinds};
-ghost use Rattle.wsm_semantics.specs.Panes.{at};
 ghost use Rattle.wsm_semantics.specs.Replay.{datum};
 ghost use Rattle.wsm_semantics.specs.Summaries.{assigned};
 ghost use Rattle.wsm_panes.specs.Held.{CanEnterWindows, taking};
 
 use crate::ring_table::RingTable;
 use wsm_record::{Kind, Value};
-use wsm_semantics::Place;
-use wsm_windows::Window;
+use wsm_windows::{Place, Window};
 
 /// The place of a key and a window.
 pub(crate) fn place_of(key: u16, window: Window) -> Place

@@ -5,7 +5,7 @@ ghost use Rattle.wsm_panes.specs.Layout.{head_of, head_of_one, head_fired, head_
 
 use crate::view::PaneView;
 use wsm_record::Mode;
-use wsm_semantics::Place;
+use wsm_windows::Place;
 
 /// What stands for a pane. The values of a row lie beside it.
 #[derive(Clone, Copy, Debug, PartialEq, Eq)]

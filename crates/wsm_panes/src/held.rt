@@ -5,10 +5,10 @@ ghost use Rattle.std.specs.FinMap as map;
 ghost use Rattle.std.specs.FinMap.Entries.{find, put, where_key};
 ghost use Rattle.wsm_windows.specs.Windows.{IsShape, IsTime, greatest_span, period_of, size_of, windows_of_shape};
 ghost use Rattle.wsm_windows.specs.declared.window.Shape.TheVariants.{Session};
-ghost use Rattle.wsm_semantics.specs.Panes.{place_cmp};
 ghost use Rattle.wsm_semantics.specs.Replay.{datum};
 ghost use Rattle.wsm_semantics.specs.Summaries.{Pane as AnyPane, linked};
 ghost use Rattle.wsm_record.specs.declared.event.Value.{Value as OneValue};
+ghost use Rattle.wsm_windows.specs.Places.{place_cmp};
 ghost use Rattle.wsm_panes.specs.Held.{CanEnter, IsKept, entries_of, joined_panes, joins_sessions, once_fired, room_of, session_entered, with_entered};
 ghost use Rattle.wsm_panes.specs.Ring.{IsRing};
 ghost use Rattle.wsm_panes.specs.OfKeys.{AreOfKeys, AreDropped};
@@ -28,9 +28,9 @@ use std::alloc::{AllocError, Global};
 use std::marker::Model;
 use wsm_record::limits::{MAX_ACCUMULATORS, MAX_COLUMNS, MAX_PANES};
 use wsm_record::{Kind, Mode, Value};
-use wsm_semantics::{Columns, Place};
+use wsm_semantics::Columns;
 use wsm_sessions::Sessions;
-use wsm_windows::{Shape, Window};
+use wsm_windows::{Place, Shape, Window};
 
 /// What putting a record in came to.
 #[derive(Clone, Copy, Debug, PartialEq, Eq)]

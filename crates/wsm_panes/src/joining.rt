@@ -4,8 +4,8 @@ ghost use Rattle.std.specs.Prelude.{◌≡◌, ◌⊎◌, ◌<◌, ◌≤◌, �
 ghost use Rattle.std.specs.FinMap as map;
 ghost use Rattle.wsm_record.specs.declared.event.Value.{Value as OneValue};
 ghost use Rattle.wsm_windows.specs.Windows.{IsTime};
+ghost use Rattle.wsm_windows.specs.Places.{window_of};
 ghost use Rattle.wsm_fold.specs.Fold.{are_of_kinds};
-ghost use Rattle.wsm_semantics.specs.Panes.{window_of};
 ghost use Rattle.wsm_semantics.specs.Kept.{is_linked};
 ghost use Rattle.wsm_semantics.specs.Replay.{datum};
 ghost use Rattle.wsm_semantics.specs.Sessions.{with_session};
@@ -20,9 +20,8 @@ use crate::pane::Pane;
 use crate::recording::{TakesRecords, with_one_more};
 use crate::table::PaneTable;
 use wsm_record::{Kind, Value};
-use wsm_semantics::Place;
 use wsm_sessions::{Linked, Sessions};
-use wsm_windows::Window;
+use wsm_windows::{Place, Window};
 
 /// Puts a record into its session, which joins the panes that it is linked to. Gives the window of
 /// the session, and tells whether two were joined. Its frame is large, so it isn't inlined.

@@ -15,7 +15,8 @@ use std::alloc::{AllocError, Global};
 use std::marker::Model;
 use wsm_fold::fold_into;
 use wsm_record::{Kind, Mode, Value};
-use wsm_semantics::{Columns, Place};
+use wsm_semantics::Columns;
+use wsm_windows::Place;
 
 /// Slots, each of which is free or has a place with its pane. The values of all panes lie beside one
 /// another, as many for each as it has accumulators and columns. A clause sees the entries.

@@ -21,7 +21,7 @@ pub use spot::Spot;
 pub use table::PaneTable;
 pub use view::PaneView;
 pub use widths::Widths;
-pub use wsm_semantics::Place;
+pub use wsm_windows::Place;
 
 mod entering;
 mod head;

@@ -5,10 +5,11 @@ ghost use Rattle.std.specs.FinMap as map;
 ghost use Rattle.wsm_fold.specs.Fold.{are_of_kinds};
 ghost use Rattle.wsm_record.specs.declared.event.Value.{Value as OneValue};
 ghost use Rattle.wsm_record.specs.declared.words.Kind.{Kind as OneKind};
+ghost use Rattle.wsm_windows.specs.Places.{place_cmp};
 ghost use Rattle.wsm_semantics.specs.Summaries.{Pane as AnyPane};
 ghost use Rattle.wsm_panes.specs.Held.{CanRecord, once_fired, with_one_more};
 ghost use Rattle.wsm_panes.specs.Layout.{IsAsWide};
-ghost use Rattle.wsm_panes.specs.Place.{place_cmp, is_kept, is_other};
+ghost use Rattle.wsm_panes.specs.Place.{is_kept, is_other};
 ghost use Rattle.wsm_panes.specs.Search.{IsAt, IsGapFor};
 ghost use Rattle.wsm_panes.specs.Stored.{AreIn, AreStored, shown};
 ghost use Rattle.wsm_panes.specs.Walk.{first_past, place_due, place_found};
@@ -24,7 +25,8 @@ use std::alloc::{AllocError, Global};
 use std::cmp::Ordering;
 use std::marker::Model;
 use wsm_record::{Kind, Mode, Value};
-use wsm_semantics::{Columns, Place};
+use wsm_semantics::Columns;
+use wsm_windows::Place;
 
 /// A table kept as a sorted list: a row of slots, in the order of the places of their panes. A place
 /// is found by binary search, and the slot of a new one moves those behind it in the row. Panes stay

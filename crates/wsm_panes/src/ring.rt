@@ -5,11 +5,11 @@ ghost use Rattle.std.specs.Int.{w64};
 ghost use Rattle.std.specs.Int.RustNames.{FitsSigned};
 ghost use Rattle.wsm_windows.specs.Windows.{IsTime, greatest_span, window};
 ghost use Rattle.wsm_windows.specs.Windows as windows;
-ghost use Rattle.wsm_semantics.specs.Panes.{at};
+ghost use Rattle.wsm_windows.specs.Places.{at};
 ghost use Rattle.wsm_panes.specs.Ring as ring;
 ghost use Rattle.wsm_panes.specs.Ring.{IsRing, IsNextOnGrid, IsOfRing, IsRow};
 
-use wsm_semantics::Place;
+use wsm_windows::Place;
 
 /// A ring of slots for the windows of a size, one beginning at each multiple of a period. A window
 /// has a row of slots, one for each key, and shares it with the windows that are a multiple of the

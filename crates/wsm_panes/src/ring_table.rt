@@ -5,9 +5,9 @@ ghost use Rattle.std.specs.FinMap as map;
 ghost use Rattle.wsm_record.specs.declared.event.Value.{Value as OneValue};
 ghost use Rattle.wsm_fold.specs.Fold.{are_of_kinds};
 ghost use Rattle.wsm_windows.specs.Windows.{IsTime, first_start, greatest_span};
+ghost use Rattle.wsm_windows.specs.Places.{place_cmp};
 ghost use Rattle.wsm_semantics.specs.Summaries.{Pane as AnyPane};
 ghost use Rattle.wsm_panes.specs.Held.{CanRecord, once_fired, with_one_more};
-ghost use Rattle.wsm_panes.specs.Place.{place_cmp};
 ghost use Rattle.wsm_panes.specs.Ring as ring;
 ghost use Rattle.wsm_panes.specs.Ring.{IsFirstPast, IsLastDue, IsOnGrid, IsRing, IsRow, RingAdmits, slot_of, window_number};
 
@@ -24,7 +24,8 @@ use crate::widths::Widths;
 use std::alloc::{AllocError, Global};
 use std::marker::Model;
 use wsm_record::{Kind, Mode, Value};
-use wsm_semantics::{Columns, Place};
+use wsm_semantics::Columns;
+use wsm_windows::Place;
 
 /// A table kept as a ring of slots: each place has one slot, which is found without a search.
 #[derive(Drop)]

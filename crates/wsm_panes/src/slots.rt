@@ -16,7 +16,7 @@ use crate::pane::Pane;
 use crate::ring::Ring;
 use crate::spot::Spot;
 use wsm_record::{Kind, Value};
-use wsm_semantics::Place;
+use wsm_windows::Place;
 
 /// Puts a record into the pane at a place, which its slot has, and makes a pane of it where the slot
 /// has no such pane. The record is folded by the values. Tells how many more entries there are.

@@ -4,7 +4,7 @@ ghost use Rattle.std.specs.Prelude.{◌≡◌, None, Some, if◌then◌else◌};
 ghost use Rattle.wsm_panes.specs.Place.{is_kept};
 ghost use Rattle.wsm_panes.specs.Walk.{place_found};
 
-use wsm_semantics::Place;
+use wsm_windows::Place;
 
 /// A place at which a pane is held, and where its table has it, so that a walk over panes need not
 /// search for each of them.

@@ -2,16 +2,17 @@
 
 ghost use Rattle.std.specs.Prelude.{◌≡◌, ◌↔◌, List, IfSome, IsSome, IsTrue, option_map, slice_get};
 ghost use Rattle.std.specs.FinMap as map;
-ghost use Rattle.wsm_panes.specs.Place.{place_cmp, is_kept};
+ghost use Rattle.wsm_panes.specs.Place.{is_kept};
 ghost use Rattle.wsm_panes.specs.Walk.{first_past, following, place_due, place_found};
 ghost use Rattle.wsm_record.specs.declared.event.Value.{Value as OneValue};
+ghost use Rattle.wsm_windows.specs.Places.{place_cmp};
+ghost use Rattle.wsm_windows.specs.declared.place.Place.{Place as AnyPlace};
 ghost use Rattle.wsm_fold.specs.Fold.{are_of_kinds};
-ghost use Rattle.wsm_semantics.specs.declared.place.Place.{Place as AnyPlace};
 
 use crate::recording::TakesRecords;
 use crate::spot::Spot;
 use wsm_record::{Kind, Value};
-use wsm_semantics::Place;
+use wsm_windows::Place;
 
 /// A finite map from places to panes, with room for some of them.
 ///

@@ -12,10 +12,12 @@ use Rattle.wsm_windows.specs.declared.window.Shape.{Shape}
 use Rattle.wsm_windows.specs.declared.window.Shape.TheVariants.{Fixed, Sliding, Session}
 use Rattle.wsm_windows.specs.Windows.{has_inside, windows_of_shape, IsWindowOf, IsWindowOfShape, IsShape}
 use Rattle.wsm_windows.proofs.Members.{exactly}
-use Rattle.wsm_semantics.specs.declared.place.Place.{Place}
+use Rattle.wsm_windows.specs.declared.place.Place.{Place}
+use Rattle.wsm_windows.specs.Places.{place_cmp, at, window_of}
+use Rattle.wsm_windows.proofs.Places.{tie_is, places_total}
 use Rattle.wsm_semantics.specs.Query.{Datum}
-use Rattle.wsm_semantics.specs.Panes.{place_cmp, at, window_of, windows_among, is_there}
-use Rattle.wsm_semantics.proofs.Tables.{among, tie_is, places_total}
+use Rattle.wsm_semantics.specs.Panes.{windows_among, is_there}
+use Rattle.wsm_semantics.proofs.Tables.{among}
 use Rattle.wsm_semantics.proofs.Each.{itself, list_any-append, same_answers}
 -- what both of two tests say
 pub use Rattle.std.proofs.lemmas.Bool.{and_parts as both}

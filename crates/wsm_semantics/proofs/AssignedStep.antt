@@ -10,12 +10,14 @@ use Rattle.std.specs.FinMap.Entries.{put, find, is_sorted, find-put, is_sorted-p
 use Rattle.wsm_record.specs.Event.{Event}
 use Rattle.wsm_windows.specs.declared.window.Window.{Window}
 use Rattle.wsm_windows.specs.Windows.{IsShape, IsRising}
-use Rattle.wsm_semantics.specs.declared.place.Place.{Place}
+use Rattle.wsm_windows.specs.declared.place.Place.{Place}
+use Rattle.wsm_windows.specs.Places.{place_cmp, at}
+use Rattle.wsm_windows.proofs.Places.{tie_is, places_total}
 use Rattle.wsm_semantics.specs.Query.{Query, Datum, mark, selected}
-use Rattle.wsm_semantics.specs.Panes.{place_cmp, at, windows_among, places, is_there, panes}
+use Rattle.wsm_semantics.specs.Panes.{windows_among, places, is_there, panes}
 use Rattle.wsm_semantics.specs.Kept.{Kept, with_record, assigned}
 use Rattle.wsm_semantics.proofs.Lists.{IsNonEmpty, some_pass, all-each}
-use Rattle.wsm_semantics.proofs.Tables.{among, tie_is, places_total}
+use Rattle.wsm_semantics.proofs.Tables.{among}
 use Rattle.wsm_semantics.proofs.Assigned.{IsAssigned, OnGrid, stands, windows_assigned, among_all, on_grid_all}
 use Rattle.wsm_semantics.proofs.Showing.{IsPane, each_pane}
 

@@ -11,14 +11,16 @@ use Rattle.wsm_windows.specs.declared.window.Shape.{Shape}
 use Rattle.wsm_windows.specs.declared.window.Shape.TheVariants.{Fixed, Sliding, Session}
 use Rattle.wsm_windows.specs.Windows.{windows_of_shape, IsShape}
 use Rattle.wsm_windows.proofs.Members.{rising}
-use Rattle.wsm_semantics.specs.declared.place.Place.{Place}
+use Rattle.wsm_windows.specs.declared.place.Place.{Place}
+use Rattle.wsm_windows.specs.Places.{place_cmp, at}
+use Rattle.wsm_windows.proofs.Places.{tie_is, places_total, places_exact}
 use Rattle.wsm_semantics.specs.Query.{Query, Datum, mark, selected, selection_of}
-use Rattle.wsm_semantics.specs.Panes.{place_cmp, at, places, is_there, contents, held, is_live_at}
+use Rattle.wsm_semantics.specs.Panes.{places, is_there, contents, held, is_live_at}
 use Rattle.wsm_semantics.specs.Firings.{is_shown, shows}
 use Rattle.wsm_semantics.specs.Kept.{Kept, Unfired, alone, with_record, assigned, entered, stands_in, kept}
 use Rattle.wsm_semantics.specs.Replay.{datum}
 use Rattle.wsm_semantics.proofs.Lists.{none_pass}
-use Rattle.wsm_semantics.proofs.Tables.{among, tie_is, places_total, places_exact, keyed, find-keyed, is_sorted-keyed, kept_of, find-kept, is_sorted-kept, find-held, is_sorted-held}
+use Rattle.wsm_semantics.proofs.Tables.{among, keyed, find-keyed, is_sorted-keyed, kept_of, find-kept, is_sorted-kept, find-held, is_sorted-held}
 use Rattle.wsm_semantics.proofs.Assigned.{IsAssigned, stands, on_grid, own, tied}
 use Rattle.wsm_semantics.proofs.AssignedStep.{panes_filled, places-assigned, among_places, grid_of, kept_live, find-entered, is_sorted-entered}
 use Rattle.wsm_semantics.proofs.Each.{list_any-append}

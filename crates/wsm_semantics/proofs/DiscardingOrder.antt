@@ -12,9 +12,9 @@ use Rattle.wsm_record.specs.Event.{Event, Record, Watermark}
 use Rattle.wsm_windows.specs.declared.window.PaneKind.{PaneKind}
 use Rattle.wsm_windows.specs.declared.window.PaneKind.TheVariants.{Early, OnTime, Late, Final}
 use Rattle.wsm_windows.specs.Windows.{IsShape}
+use Rattle.wsm_windows.specs.declared.place.Place.{Place}
 use Rattle.wsm_admission.specs.Clock.{is_time}
 use Rattle.wsm_admission.proofs.Taken.{accepted_watermark}
-use Rattle.wsm_semantics.specs.declared.place.Place.{Place}
 use Rattle.wsm_semantics.specs.Query.{Datum, Query, mark, verdict_on, selected}
 use Rattle.wsm_semantics.specs.Panes.{contents, panes}
 use Rattle.wsm_semantics.specs.Firings.{firings, firing_set, is_enough, is_shown, shows, holds, kind_on_watermark}

@@ -15,10 +15,11 @@ use Rattle.wsm_windows.specs.declared.window.PaneKind.TheVariants.{Early, Late}
 use Rattle.wsm_windows.specs.declared.window.Shape.{Shape}
 use Rattle.wsm_windows.specs.declared.window.Shape.TheVariants.{Session}
 use Rattle.wsm_windows.specs.Windows.{window, has_inside, IsShape}
+use Rattle.wsm_windows.specs.declared.place.Place.{Place}
+use Rattle.wsm_windows.specs.Places.{at, window_of}
 use Rattle.wsm_admission.specs.declared.verdict.Refusal.{Refusal}
-use Rattle.wsm_semantics.specs.declared.place.Place.{Place}
 use Rattle.wsm_semantics.specs.Query.{Datum, Query, mark, verdict_on, selected, selection_of}
-use Rattle.wsm_semantics.specs.Panes.{at, window_of, is_there, contents, panes}
+use Rattle.wsm_semantics.specs.Panes.{is_there, contents, panes}
 use Rattle.wsm_semantics.specs.Firings.{firings, firings_by, firing_set, is_enough, is_shown, shows, holds, kind_on_watermark}
 use Rattle.wsm_semantics.specs.Order.{Judged, judged, is_accepted, Reordered, Done, Next, Swap, Then, Permuted}
 use Rattle.wsm_semantics.proofs.Lists.{all-each, filter_same}

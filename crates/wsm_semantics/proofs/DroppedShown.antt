@@ -9,12 +9,13 @@ use Rattle.wsm_record.specs.declared.event.Value.{Value}
 use Rattle.wsm_record.specs.Event.{Event, Record, Watermark}
 use Rattle.wsm_windows.specs.declared.window.PaneKind.TheVariants.{OnTime, Final}
 use Rattle.wsm_windows.specs.Life.{is_due}
+use Rattle.wsm_windows.specs.declared.place.Place.{Place}
+use Rattle.wsm_windows.specs.Places.{at, window_of}
 use Rattle.wsm_admission.specs.declared.verdict.Refusal.{Refusal}
 use Rattle.wsm_admission.specs.Clock.{is_late}
 use Rattle.wsm_admission.proofs.Taken.{accepted_watermark}
-use Rattle.wsm_semantics.specs.declared.place.Place.{Place}
 use Rattle.wsm_semantics.specs.Query.{Query, Datum, mark, verdict_on, selected, selection_of}
-use Rattle.wsm_semantics.specs.Panes.{at, window_of, windows_among, places, is_there, contents, is_live_at}
+use Rattle.wsm_semantics.specs.Panes.{windows_among, places, is_there, contents, is_live_at}
 use Rattle.wsm_semantics.specs.Firings.{firing_set, is_shown, kind_on_watermark}
 use Rattle.wsm_semantics.specs.Replay.{datum}
 use Rattle.wsm_semantics.proofs.Lists.{all-each}

@@ -12,11 +12,12 @@ use Rattle.wsm_windows.specs.declared.window.PaneKind.{PaneKind}
 use Rattle.wsm_windows.specs.declared.window.PaneKind.TheVariants.{OnTime, Final}
 use Rattle.wsm_windows.specs.declared.window.Window.{Window}
 use Rattle.wsm_windows.specs.Windows.{has_inside}
+use Rattle.wsm_windows.specs.declared.place.Place.{Place}
+use Rattle.wsm_windows.specs.Places.{window_of}
 use Rattle.wsm_admission.specs.declared.verdict.Refusal.{Refusal}
 use Rattle.wsm_admission.proofs.Taken.{accepted_watermark}
-use Rattle.wsm_semantics.specs.declared.place.Place.{Place}
 use Rattle.wsm_semantics.specs.Query.{Query, Datum, mark, verdict_on, selected}
-use Rattle.wsm_semantics.specs.Panes.{window_of, is_there, contents, panes, held, is_live_at}
+use Rattle.wsm_semantics.specs.Panes.{is_there, contents, panes, held, is_live_at}
 use Rattle.wsm_semantics.specs.Firings.{Firing, firings, firings_so_far, firing_set, kind_on_record, shows}
 use Rattle.wsm_semantics.specs.Relation.{is_within, candidates, greatest_of, standing, sorted_rows, relation_at}
 use Rattle.wsm_semantics.specs.Kept.{Kept, kept, kept_in, entered, fires, all_fired, stands_by, stands_in, kind_by_record, kind_by_watermark, kept_at_watermark, kept_after_record, fired_by_record, kept_after_watermark, fired_by_watermark, standing_row, relation_of}

@@ -12,12 +12,14 @@ use Rattle.std.proofs.Math.Bool.{and-false}
 use Rattle.wsm_record.specs.declared.words.Mode.{Mode}
 use Rattle.wsm_record.specs.declared.words.Mode.TheVariants.{Discarding}
 use Rattle.wsm_record.specs.Event.{Event}
-use Rattle.wsm_semantics.specs.declared.place.Place.{Place}
+use Rattle.wsm_windows.specs.declared.place.Place.{Place}
+use Rattle.wsm_windows.specs.Places.{place_cmp}
+use Rattle.wsm_windows.proofs.Places.{tie_is, places_total}
 use Rattle.wsm_semantics.specs.Query.{Query, Datum}
-use Rattle.wsm_semantics.specs.Panes.{place_cmp, places, contents, panes}
+use Rattle.wsm_semantics.specs.Panes.{places, contents, panes}
 use Rattle.wsm_semantics.specs.Firings.{Firing, firing_of, firing_set, firings, firings_by, firings_so_far, holds, is_shown, shows}
 use Rattle.wsm_semantics.specs.FiringSets.{has_in_set, times_fired}
-use Rattle.wsm_semantics.proofs.Tables.{tie_is, places_total, is_sorted-with_contents}
+use Rattle.wsm_semantics.proofs.Tables.{is_sorted-with_contents}
 use Rattle.wsm_semantics.proofs.Each.{all-any, as_true, filter-append, filter-each, none_of, same_answers, some_of}
 use Rattle.wsm_semantics.proofs.StandsTurn.{AreDistinct}
 use Rattle.wsm_semantics.proofs.Showing.{IsPane, ShowsOwn, each_pane, does, firings_are, kind_of, unshown_of, shown_now}

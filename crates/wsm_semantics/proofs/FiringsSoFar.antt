@@ -14,12 +14,14 @@ use Rattle.wsm_record.specs.Event.{Event}
 use Rattle.wsm_windows.specs.declared.window.PaneKind.{PaneKind}
 use Rattle.wsm_windows.specs.declared.window.Shape.{Shape}
 use Rattle.wsm_windows.specs.declared.window.Shape.TheVariants.{Fixed, Sliding, Session}
-use Rattle.wsm_semantics.specs.declared.place.Place.{Place}
+use Rattle.wsm_windows.specs.declared.place.Place.{Place}
+use Rattle.wsm_windows.specs.Places.{place_cmp}
+use Rattle.wsm_windows.proofs.Places.{tie_is}
 use Rattle.wsm_semantics.specs.Query.{Query, Datum, selected, selection_of}
-use Rattle.wsm_semantics.specs.Panes.{place_cmp, places, is_there, contents, panes}
+use Rattle.wsm_semantics.specs.Panes.{places, is_there, contents, panes}
 use Rattle.wsm_semantics.specs.Firings.{Firing, holds, shows, firing_of, firing_set, is_shown, firings, firings_so_far}
 use Rattle.wsm_semantics.proofs.Lists.{IsNonEmpty, filter-all, all-each}
-use Rattle.wsm_semantics.proofs.Tables.{tie_is, among}
+use Rattle.wsm_semantics.proofs.Tables.{among}
 use Rattle.wsm_semantics.proofs.Assigned.{tied}
 use Rattle.wsm_semantics.proofs.Each.{itself, same_answers, passed, all-swap, all-both, all-append, filter_map-all, list_any-append}
 use Rattle.wsm_semantics.proofs.Merging.{selected_falls, holds-filter}

@@ -13,10 +13,11 @@ use Rattle.wsm_windows.specs.declared.window.Shape.TheVariants.{Fixed, Sliding, 
 use Rattle.wsm_windows.specs.Windows.{IsShape, IsRising, IsWindowOf, IsWindowOfShape}
 use Rattle.wsm_windows.specs.Life.{live_bound, AreOfOneKey, IsHeld, IsOnGrid}
 use Rattle.wsm_windows.proofs.Bounds.{enough}
+use Rattle.wsm_windows.specs.declared.place.Place.{Place}
+use Rattle.wsm_windows.specs.Places.{at, window_of}
 use Rattle.wsm_admission.specs.Clock.{IsWithinLimits}
-use Rattle.wsm_semantics.specs.declared.place.Place.{Place}
 use Rattle.wsm_semantics.specs.Query.{Query, Datum, mark, verdict_on, selected}
-use Rattle.wsm_semantics.specs.Panes.{at, window_of, places, held}
+use Rattle.wsm_semantics.specs.Panes.{places, held}
 use Rattle.wsm_semantics.specs.HeldBounds.{most_panes}
 use Rattle.wsm_semantics.specs.Kept.{kept, kept_in, entered}
 use Rattle.wsm_semantics.specs.Replay.{datum}

@@ -11,14 +11,16 @@ use Rattle.wsm_record.specs.Event.{Event}
 use Rattle.wsm_windows.specs.declared.window.Shape.{Shape}
 use Rattle.wsm_windows.specs.declared.window.Shape.TheVariants.{Session}
 use Rattle.wsm_windows.specs.Windows.{IsShape}
+use Rattle.wsm_windows.specs.declared.place.Place.{Place}
+use Rattle.wsm_windows.specs.Places.{place_cmp}
+use Rattle.wsm_windows.proofs.Places.{places_total}
 use Rattle.wsm_admission.specs.Clock.{admitted_count}
 use Rattle.wsm_admission.proofs.Taken.{admitted_count-le}
-use Rattle.wsm_semantics.specs.declared.place.Place.{Place}
 use Rattle.wsm_semantics.specs.Query.{Query, Datum, selected}
-use Rattle.wsm_semantics.specs.Panes.{place_cmp, places, is_there, held}
+use Rattle.wsm_semantics.specs.Panes.{places, is_there, held}
 use Rattle.wsm_semantics.specs.Firings.{shows}
 use Rattle.wsm_semantics.proofs.Lists.{all-each}
-use Rattle.wsm_semantics.proofs.Tables.{among, places_total, is_sorted-held}
+use Rattle.wsm_semantics.proofs.Tables.{among, is_sorted-held}
 use Rattle.wsm_semantics.proofs.Each.{as_true, itself}
 use Rattle.wsm_semantics.proofs.KeptLaw as kept_law
 use Rattle.wsm_semantics.proofs.SelectedRecords.{selected_count}

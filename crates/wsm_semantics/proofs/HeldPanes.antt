@@ -12,11 +12,12 @@ use Rattle.wsm_windows.specs.declared.window.Window.{Window}
 use Rattle.wsm_windows.specs.declared.window.Shape.{Shape}
 use Rattle.wsm_windows.specs.declared.window.Shape.TheVariants.{Fixed, Sliding, Session}
 use Rattle.wsm_windows.specs.Windows.{window, greatest_span, greatest_time, size_of, IsShape, IsTime, IsPlaced, IsWindowOf, IsWindowOfShape}
+use Rattle.wsm_windows.specs.declared.place.Place.{Place}
+use Rattle.wsm_windows.specs.Places.{window_of}
 use Rattle.wsm_admission.specs.Clock.{admitted_count}
-use Rattle.wsm_semantics.specs.declared.place.Place.{Place}
 use Rattle.wsm_semantics.specs.Query.{Query, Datum, mark, selected}
 use Rattle.wsm_semantics.specs.Sessions.{sessions, ends_by, starts_from, links, session_of}
-use Rattle.wsm_semantics.specs.Panes.{window_of, of_key, places, is_there, contents, panes, held, is_live_at}
+use Rattle.wsm_semantics.specs.Panes.{of_key, places, is_there, contents, panes, held, is_live_at}
 use Rattle.wsm_semantics.proofs.Lists.{IsNonEmpty, filter-all, all-each}
 use Rattle.wsm_semantics.proofs.Tables.{among}
 use Rattle.wsm_semantics.proofs.Assigned.{IsAssigned, OnGrid}

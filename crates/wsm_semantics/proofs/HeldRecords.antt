@@ -15,14 +15,15 @@ use Rattle.wsm_windows.specs.declared.window.Shape.{Shape}
 use Rattle.wsm_windows.specs.declared.window.Shape.TheVariants.{Fixed, Sliding, Session}
 use Rattle.wsm_windows.specs.Windows.{windows_of_shape, IsShape, IsRising}
 use Rattle.wsm_windows.proofs.Members.{rising}
-use Rattle.wsm_semantics.specs.declared.place.Place.{Place}
+use Rattle.wsm_windows.specs.declared.place.Place.{Place}
+use Rattle.wsm_windows.specs.Places.{place_cmp, at}
+use Rattle.wsm_windows.proofs.Places.{tie_is, places_exact, places_total}
 use Rattle.wsm_semantics.specs.Query.{Datum, Query}
-use Rattle.wsm_semantics.specs.Panes.{place_cmp, at, is_live_at}
+use Rattle.wsm_semantics.specs.Panes.{is_live_at}
 use Rattle.wsm_semantics.specs.Kept.{is_linked}
 use Rattle.wsm_semantics.specs.Summaries.{Plan, Pane, session_with, linked, with_record, joined_with, joined_all, assigned, merged_session, entered, fired_pane, all_fired, kind_by_record, kind_by_watermark, after_record, at_watermark, after_watermark}
 use Rattle.wsm_semantics.specs.HeldRecords.{count_of, total, EachAtMost, AtMost}
 use Rattle.wsm_semantics.proofs.Lists.{filter-all, all-each, put-all}
-use Rattle.wsm_semantics.proofs.Tables.{tie_is, places_exact, places_total}
 
 -- windows with other starts are other places
 pub apart : (k : ℕ) (w v : Window) → w.start <ℤ v.start → eq_by_cmp place_cmp (at k v) (at k w) ≡ false

@@ -14,10 +14,12 @@ use Rattle.wsm_windows.specs.declared.window.Window.{Window}
 use Rattle.wsm_windows.specs.declared.window.Shape.{Shape}
 use Rattle.wsm_windows.specs.declared.window.Shape.TheVariants.{Fixed, Sliding, Session}
 use Rattle.wsm_windows.specs.Windows.{window, windows_of}
-use Rattle.wsm_semantics.specs.declared.place.Place.{Place}
+use Rattle.wsm_windows.specs.declared.place.Place.{Place}
+use Rattle.wsm_windows.specs.Places.{place_cmp, at, window_of}
+use Rattle.wsm_windows.proofs.Places.{places_exact}
 use Rattle.wsm_semantics.specs.declared.out_row.OutRow.TheVariants as rows
 use Rattle.wsm_semantics.specs.Query.{Datum, Query}
-use Rattle.wsm_semantics.specs.Panes.{place_cmp, at, window_of, is_live_at}
+use Rattle.wsm_semantics.specs.Panes.{is_live_at}
 use Rattle.wsm_semantics.specs.Firings.{Firing, firing_set, firing_of, kind_on_watermark}
 use Rattle.wsm_semantics.specs.Firings as firings
 use Rattle.wsm_semantics.specs.Relation.{sorted_rows}
@@ -26,7 +28,7 @@ use Rattle.wsm_semantics.specs.Kept.{Kept, Stands, is_linked, joined_to}
 use Rattle.wsm_semantics.specs.Summaries.{Plan, IsLawful, Runs, Pane, session_with, linked, kind_by_record, kind_by_watermark, fired_of, fires, standing_row, relation_of, with_record, joined_with, joined_all, assigned, merged_session, entered, fired_pane, all_fired, after_record, fired_by_record, at_watermark, fired_by_watermark, after_watermark, row_of, standing_of, pane_of, summaries, summary_fired}
 use Rattle.wsm_semantics.proofs.Lists.{all-each}
 use Rattle.wsm_semantics.proofs.Each.{passed}
-use Rattle.wsm_semantics.proofs.Tables.{find-keyed, places_exact}
+use Rattle.wsm_semantics.proofs.Tables.{find-keyed}
 use Rattle.wsm_semantics.proofs.Summaries.{pane-with_record, pane-joined, pane-fired, fired-of, counted-fired}
 
 -- ---- tables

@@ -9,11 +9,12 @@ use Rattle.wsm_record.specs.declared.words.Mode.TheVariants.{Accumulating}
 use Rattle.wsm_windows.specs.declared.window.PaneKind.TheVariants.{OnTime, Final}
 use Rattle.wsm_windows.specs.Life.{is_due}
 use Rattle.wsm_windows.specs.Windows.{IsShape}
+use Rattle.wsm_windows.specs.declared.place.Place.{Place}
+use Rattle.wsm_windows.specs.Places.{window_of}
 use Rattle.wsm_admission.specs.Clock.{watermark_refusal}
-use Rattle.wsm_semantics.specs.declared.place.Place.{Place}
 use Rattle.wsm_semantics.specs.declared.out_row.OutRow.TheVariants.{Pane}
 use Rattle.wsm_semantics.specs.Query.{Datum, Query, mark, is_taken, selected}
-use Rattle.wsm_semantics.specs.Panes.{window_of, contents, panes}
+use Rattle.wsm_semantics.specs.Panes.{contents, panes}
 use Rattle.wsm_semantics.specs.Firings.{Firing, firing_of, firing_set, row_of}
 use Rattle.wsm_semantics.specs.Order.{judged, Permuted, IgnoresOrder, is_on_time, on_time, accepted, InPairs, SameFiring, SameOnTime, OrderLaw}
 use Rattle.wsm_semantics.proofs.Lists.{all-each}

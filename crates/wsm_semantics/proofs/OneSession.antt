@@ -5,10 +5,11 @@ use Rattle.wsm_record.specs.Event.{Event}
 use Rattle.wsm_windows.specs.declared.window.Window.{Window}
 use Rattle.wsm_windows.specs.declared.window.Shape.TheVariants.{Session}
 use Rattle.wsm_windows.specs.Windows.{has_inside}
+use Rattle.wsm_windows.specs.Places.{at}
 use Rattle.wsm_admission.specs.Clock.{is_late}
 use Rattle.wsm_semantics.specs.Query.{Query, Datum, mark, selected}
 use Rattle.wsm_semantics.specs.Sessions.{sessions, links}
-use Rattle.wsm_semantics.specs.Panes.{at, of_key, contents}
+use Rattle.wsm_semantics.specs.Panes.{of_key, contents}
 use Rattle.wsm_semantics.specs.Kept.{kept, kept_in, is_linked}
 use Rattle.wsm_semantics.proofs.Lists.{filter_same, length_each}
 use Rattle.wsm_semantics.proofs.Each.{itself}

@@ -6,11 +6,13 @@ use Rattle.std.specs.FinMap.Entries.{same_entries}
 use Rattle.wsm_windows.specs.declared.window.Shape.{Shape}
 use Rattle.wsm_windows.specs.declared.window.Shape.TheVariants.{Fixed, Sliding, Session}
 use Rattle.wsm_windows.specs.Windows.{has_inside, windows_of, IsShape}
-use Rattle.wsm_semantics.specs.declared.place.Place.{Place}
+use Rattle.wsm_windows.specs.declared.place.Place.{Place}
+use Rattle.wsm_windows.specs.Places.{place_cmp, at, window_of}
+use Rattle.wsm_windows.proofs.Places.{places_total, places_exact}
 use Rattle.wsm_semantics.specs.Query.{Datum}
 use Rattle.wsm_semantics.specs.Sessions.{with_time, rising, sessions_of_rising}
-use Rattle.wsm_semantics.specs.Panes.{place_cmp, at, window_of, of_key, is_there, windows_among, with_contents}
-use Rattle.wsm_semantics.proofs.Tables.{among, places_total, places_exact, find-with_contents, is_sorted-with_contents, keyed, find-keyed, is_sorted-keyed}
+use Rattle.wsm_semantics.specs.Panes.{of_key, is_there, windows_among, with_contents}
+use Rattle.wsm_semantics.proofs.Tables.{among, find-with_contents, is_sorted-with_contents, keyed, find-keyed, is_sorted-keyed}
 use Rattle.wsm_semantics.proofs.Each.{list_any-append}
 use Rattle.wsm_semantics.proofs.SessionPlaces.{places-sessions}
 use Rattle.wsm_semantics.proofs.Bags.{Shuffled, Empty, With, Swapped, Through, AgreeOn, same_filter}

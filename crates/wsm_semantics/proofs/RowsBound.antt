@@ -9,11 +9,11 @@ use Rattle.wsm_record.specs.declared.words.Form.{Form}
 use Rattle.wsm_record.specs.declared.words.Form.TheVariants as form
 use Rattle.wsm_record.specs.Event.{Event, Record, Watermark}
 use Rattle.wsm_windows.specs.Windows.{IsShape}
+use Rattle.wsm_windows.specs.declared.place.Place.{Place}
 use Rattle.wsm_admission.specs.declared.verdict.Refusal.{Refusal}
 use Rattle.wsm_admission.specs.declared.verdict.Refusal.TheVariants as refusal
 use Rattle.wsm_admission.specs.Clock.{IsWithinLimits}
 use Rattle.wsm_semantics.specs.declared.out_row.OutRow.TheVariants.{Istream, Dstream, Rstream}
-use Rattle.wsm_semantics.specs.declared.place.Place.{Place}
 use Rattle.wsm_semantics.specs.Query.{Query, Datum, mark, verdict_on, is_taken}
 use Rattle.wsm_semantics.specs.Panes.{held}
 use Rattle.wsm_semantics.specs.Firings.{Firing, firings, row_of}

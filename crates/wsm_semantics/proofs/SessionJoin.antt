@@ -15,14 +15,16 @@ use Rattle.wsm_windows.specs.declared.window.Window.{Window}
 use Rattle.wsm_windows.specs.declared.window.Shape.{Shape}
 use Rattle.wsm_windows.specs.declared.window.Shape.TheVariants.{Session}
 use Rattle.wsm_windows.specs.Windows.{window, has_inside}
-use Rattle.wsm_semantics.specs.declared.place.Place.{Place}
+use Rattle.wsm_windows.specs.declared.place.Place.{Place}
+use Rattle.wsm_windows.specs.Places.{place_cmp, at}
+use Rattle.wsm_windows.proofs.Places.{tie_is}
 use Rattle.wsm_semantics.specs.Query.{Query, Datum, selected}
 use Rattle.wsm_semantics.specs.Sessions.{sessions, links, session_of}
-use Rattle.wsm_semantics.specs.Panes.{place_cmp, at, of_key, is_there, contents}
+use Rattle.wsm_semantics.specs.Panes.{of_key, is_there, contents}
 use Rattle.wsm_semantics.specs.Firings.{firings_by, holds, is_shown, shows}
 use Rattle.wsm_semantics.specs.Kept.{Kept, kept_in, merged, session_with, joined_to, joined_all, with_record}
 use Rattle.wsm_semantics.proofs.Lists.{all-each, filter_same}
-use Rattle.wsm_semantics.proofs.Tables.{tie_is, among}
+use Rattle.wsm_semantics.proofs.Tables.{among}
 use Rattle.wsm_semantics.proofs.Each.{all-any, filter-each, filter-filter, none_of}
 use Rattle.wsm_semantics.proofs.Merging.{selected_falls, merged-filter}
 use Rattle.wsm_semantics.proofs.Sessions.{StartFrom, AreApart}

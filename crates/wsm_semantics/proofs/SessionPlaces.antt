@@ -11,12 +11,14 @@ use Rattle.std.specs.Ordering.{eq_by_cmp}
 use Rattle.wsm_record.proofs.Lists.{list_any-map}
 use Rattle.wsm_windows.specs.declared.window.Window.{Window}
 use Rattle.wsm_windows.specs.Windows.{has_inside}
-use Rattle.wsm_semantics.specs.declared.place.Place.{Place}
+use Rattle.wsm_windows.specs.declared.place.Place.{Place}
+use Rattle.wsm_windows.specs.Places.{place_cmp, at, window_of}
+use Rattle.wsm_windows.proofs.Places.{tie_is}
 use Rattle.wsm_semantics.specs.Query.{Datum}
 use Rattle.wsm_semantics.specs.Sessions.{sessions, ends_by, starts_from, links, session_of}
-use Rattle.wsm_semantics.specs.Panes.{place_cmp, at, window_of, of_key, is_there}
+use Rattle.wsm_semantics.specs.Panes.{of_key, is_there}
 use Rattle.wsm_semantics.specs.Kept.{is_linked}
-use Rattle.wsm_semantics.proofs.Tables.{tie_is, among}
+use Rattle.wsm_semantics.proofs.Tables.{among}
 use Rattle.wsm_semantics.proofs.Each.{list_any-append, and_of, list_any-filter, itself}
 use Rattle.wsm_semantics.proofs.Sessions.{sessions-more}
 use Rattle.wsm_semantics.proofs.SessionTimes.{IsOneOf, of-all, owned}

@@ -10,14 +10,16 @@ use Rattle.wsm_record.specs.Event.{Event}
 use Rattle.wsm_windows.specs.declared.window.Window.{Window}
 use Rattle.wsm_windows.specs.declared.window.Shape.{Shape}
 use Rattle.wsm_windows.specs.declared.window.Shape.TheVariants.{Session}
+use Rattle.wsm_windows.specs.declared.place.Place.{Place}
+use Rattle.wsm_windows.specs.Places.{place_cmp, at, window_of}
+use Rattle.wsm_windows.proofs.Places.{tie_is, places_total, places_exact}
 use Rattle.wsm_admission.specs.Clock.{is_late}
-use Rattle.wsm_semantics.specs.declared.place.Place.{Place}
 use Rattle.wsm_semantics.specs.Query.{Query, Datum, mark, selected, selection_of}
 use Rattle.wsm_semantics.specs.Sessions.{links}
-use Rattle.wsm_semantics.specs.Panes.{place_cmp, at, window_of, windows_among, places, is_there, contents, held, is_live_at}
+use Rattle.wsm_semantics.specs.Panes.{windows_among, places, is_there, contents, held, is_live_at}
 use Rattle.wsm_semantics.specs.Firings.{is_shown}
 use Rattle.wsm_semantics.specs.Kept.{Kept, kept, kept_in, is_linked, session_with, joined_all, with_record, merged_session}
-use Rattle.wsm_semantics.proofs.Tables.{tie_is, among, places_total, places_exact, find-keyed, is_sorted-keyed, kept_of, find-kept, is_sorted-kept, find-held, is_sorted-held}
+use Rattle.wsm_semantics.proofs.Tables.{among, find-keyed, is_sorted-keyed, kept_of, find-kept, is_sorted-kept, find-held, is_sorted-held}
 use Rattle.wsm_semantics.proofs.Each.{filter-map, filter-filter, itself}
 use Rattle.wsm_semantics.proofs.Sessions.{holds_time, sessions_apart}
 use Rattle.wsm_semantics.proofs.SessionTimes.{apart-filter}

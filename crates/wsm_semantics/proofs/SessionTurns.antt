@@ -12,10 +12,11 @@ use Rattle.wsm_windows.specs.declared.window.Window.{Window}
 use Rattle.wsm_windows.specs.declared.window.Shape.{Shape}
 use Rattle.wsm_windows.specs.declared.window.Shape.TheVariants.{Session}
 use Rattle.wsm_windows.specs.Windows.{has_inside}
+use Rattle.wsm_windows.specs.declared.place.Place.{Place}
+use Rattle.wsm_windows.specs.Places.{place_cmp, at, window_of}
 use Rattle.wsm_admission.specs.declared.verdict.Refusal.{Refusal}
-use Rattle.wsm_semantics.specs.declared.place.Place.{Place}
 use Rattle.wsm_semantics.specs.Query.{Query, Datum, verdict_on, selected, selection_of}
-use Rattle.wsm_semantics.specs.Panes.{place_cmp, at, window_of, windows_among, places, is_there, contents, panes, held}
+use Rattle.wsm_semantics.specs.Panes.{windows_among, places, is_there, contents, panes, held}
 use Rattle.wsm_semantics.specs.Firings.{shows}
 use Rattle.wsm_semantics.specs.Kept.{Kept, kept, kept_in, entered, is_linked, joined_to, joined_all, stands_in, stands_joined, with_record}
 use Rattle.wsm_semantics.specs.Replay.{datum}

@@ -11,12 +11,14 @@ use Rattle.std.proofs.lemmas.Bool.{or_right}
 use Rattle.wsm_record.proofs.Lists.{list_any-map}
 use Rattle.wsm_record.specs.Event.{Event, Record, Watermark}
 use Rattle.wsm_windows.specs.declared.window.PaneKind.{PaneKind}
-use Rattle.wsm_semantics.specs.declared.place.Place.{Place}
+use Rattle.wsm_windows.specs.declared.place.Place.{Place}
+use Rattle.wsm_windows.specs.Places.{place_cmp}
+use Rattle.wsm_windows.proofs.Places.{tie_is, places_exact}
 use Rattle.wsm_semantics.specs.Query.{Query, Datum, mark, is_taken, selected}
-use Rattle.wsm_semantics.specs.Panes.{place_cmp, is_there, places, contents, panes, with_contents}
+use Rattle.wsm_semantics.specs.Panes.{is_there, places, contents, panes, with_contents}
 use Rattle.wsm_semantics.specs.Firings.{Firing, firings, fire, firing_of, firing_set, holds, is_shown, kind_on_record, kind_on_watermark, shows}
 use Rattle.wsm_semantics.proofs.Lists.{filter-all, all-each, filter_same, put-all}
-use Rattle.wsm_semantics.proofs.Tables.{among, tie_is, places_exact, find-with_contents}
+use Rattle.wsm_semantics.proofs.Tables.{among, find-with_contents}
 use Rattle.wsm_semantics.proofs.Assigned.{tied}
 use Rattle.wsm_semantics.proofs.Each.{all-any, filter-each, filter_map-each, none_of, list_any-each, list_any-and, list_any-none}
 use Rattle.wsm_semantics.proofs.Merging.{Below, selected_below}

@@ -14,14 +14,16 @@ use Rattle.wsm_windows.specs.declared.window.Window.{Window}
 use Rattle.wsm_windows.specs.declared.window.Shape.{Shape}
 use Rattle.wsm_windows.specs.declared.window.Shape.TheVariants.{Fixed, Sliding, Session}
 use Rattle.wsm_windows.specs.Windows.{has_inside, IsShape}
+use Rattle.wsm_windows.specs.declared.place.Place.{Place}
+use Rattle.wsm_windows.specs.Places.{place_cmp, at}
+use Rattle.wsm_windows.proofs.Places.{tie_is}
 use Rattle.wsm_admission.specs.Clock.{is_late}
-use Rattle.wsm_semantics.specs.declared.place.Place.{Place}
 use Rattle.wsm_semantics.specs.Query.{Query, Datum, mark, selected, selection_of}
-use Rattle.wsm_semantics.specs.Panes.{place_cmp, at, windows_among, places, is_there}
+use Rattle.wsm_semantics.specs.Panes.{windows_among, places, is_there}
 use Rattle.wsm_semantics.specs.Firings.{is_shown}
 use Rattle.wsm_semantics.specs.Replay.{datum}
 use Rattle.wsm_semantics.specs.FiringSets.{StandsIn, IsDropped, FiresOnce}
-use Rattle.wsm_semantics.proofs.Tables.{among, tie_is}
+use Rattle.wsm_semantics.proofs.Tables.{among}
 use Rattle.wsm_semantics.proofs.Assigned.{IsAssigned, contains_among, stands, on_grid, own}
 use Rattle.wsm_semantics.proofs.AssignedStep.{places-assigned}
 use Rattle.wsm_semantics.proofs.Each.{itself, list_any-append}

@@ -14,14 +14,16 @@ use Rattle.wsm_record.specs.Event.{Event, Record, Watermark}
 use Rattle.wsm_windows.specs.declared.window.PaneKind.{PaneKind}
 use Rattle.wsm_windows.specs.declared.window.PaneKind.TheVariants.{Early, Late, OnTime, Final}
 use Rattle.wsm_windows.specs.Life.{is_due}
-use Rattle.wsm_semantics.specs.declared.place.Place.{Place}
+use Rattle.wsm_windows.specs.declared.place.Place.{Place}
+use Rattle.wsm_windows.specs.Places.{place_cmp, window_of}
+use Rattle.wsm_windows.proofs.Places.{tie_is}
 use Rattle.wsm_semantics.specs.Query.{Query, Datum, mark, is_taken, selected, selection_of}
-use Rattle.wsm_semantics.specs.Panes.{place_cmp, window_of, places, is_there, contents, panes}
+use Rattle.wsm_semantics.specs.Panes.{places, is_there, contents, panes}
 use Rattle.wsm_semantics.specs.Firings.{Firing, holds, shows, firing_of, firing_set, is_shown, is_enough, kind_on_record, kind_on_watermark, firings, firings_so_far}
 use Rattle.wsm_semantics.specs.Relation.{is_within}
 use Rattle.wsm_semantics.specs.Kept.{Firing as Stood, stands_in, fired_kept}
 use Rattle.wsm_semantics.proofs.Lists.{IsNonEmpty, all-each}
-use Rattle.wsm_semantics.proofs.Tables.{tie_is, among, find-with_contents, kept_of}
+use Rattle.wsm_semantics.proofs.Tables.{among, find-with_contents, kept_of}
 use Rattle.wsm_semantics.proofs.Each.{itself, same_answers, none_of, all-append, all-after, all-both, all-passed, each_fails, filter-append, filter-each, filter_map-all, list_any-append, list_any-filter, list_any-more, some_of}
 use Rattle.wsm_semantics.proofs.Merging.{holds-filter, selected_falls}
 use Rattle.wsm_semantics.proofs.Within.{Within, IsPart, within, is_within_by, itself_within, same_part, part_stays, one_held}

@@ -8,10 +8,10 @@ use Rattle.wsm_record.specs.Event.{Event, Record, Watermark}
 use Rattle.wsm_admission.specs.declared.verdict.Admitted.{Admitted}
 use Rattle.wsm_admission.specs.declared.verdict.Refusal.{Refusal}
 use Rattle.wsm_windows.specs.Windows.{IsShape}
+use Rattle.wsm_windows.specs.declared.place.Place.{Place}
 use Rattle.wsm_admission.specs.Clock.{verdict_at}
 use Rattle.wsm_admission.specs.Admission.{answer}
 use Rattle.wsm_admission.proofs.Keeping.{Fits-after, clock-after}
-use Rattle.wsm_semantics.specs.declared.place.Place.{Place}
 use Rattle.wsm_semantics.specs.declared.out_row.OutRow.{OutRow}
 use Rattle.wsm_semantics.specs.Query.{Query, mark, verdict_on, is_taken}
 use Rattle.wsm_semantics.specs.Firings as firings

@@ -1,18 +1,17 @@
--- The order of places, and what a look-up in a table of panes finds, and in what is kept of them.
+-- What a look-up in a table of panes finds, and in what is kept of them.
 use Rattle.std.proofs.Common.{◌≡◌, ◌⊎◌, inl, inr, Bool, true, false, ◌&&◌, ◌||◌, cond, List, [], ◌∷◌, map, T, Option, Some, None, refl, sym, ap, subst, ◌∙◌}
 use Rattle.std.specs.Prelude.{option_map}
 use Rattle.std.specs.List.{list_any}
 use Rattle.std.specs.Ordering.{eq_by_cmp, ordering_then, is_lt}
-use Rattle.std.specs.Cmp.{IsTotalOrder, Equal-is}
 use Rattle.std.specs.declared.cmp.Ordering.{Ordering}
 use Rattle.std.specs.declared.cmp.Ordering.TheVariants.{Less, Equal, Greater}
-use Rattle.std.specs.FinMap.{IsAntisymmetric, int_cmp-IsAntisymmetric, nat_cmp-IsAntisymmetric}
 use Rattle.std.specs.FinMap.Entries.{find, is_sorted, below_all, find-put, find-where_key, is_sorted-put, is_sorted-where_key}
-use Rattle.std.proofs.lemmas.Cmp.{on_total, then_total, int_cmp_total, nat_cmp_total}
 use Rattle.wsm_record.specs.Event.{Event}
-use Rattle.wsm_semantics.specs.declared.place.Place.{Place}
 use Rattle.wsm_semantics.specs.Query.{Query, Datum, mark}
-use Rattle.wsm_semantics.specs.Panes.{place_cmp, places, contents, panes, held, is_live_at, with_contents}
+use Rattle.wsm_windows.proofs.Places.{places_total, places_exact, tie_is}
+use Rattle.wsm_windows.specs.declared.place.Place.{Place}
+use Rattle.wsm_windows.specs.Places.{place_cmp}
+use Rattle.wsm_semantics.specs.Panes.{places, contents, panes, held, is_live_at, with_contents}
 use Rattle.wsm_semantics.specs.Kept.{Kept, kept_in, kept}
 
 pub cases_Ordering : (r : Ordering) → (r ≡ Less) ⊎ (r ≡ Equal) ⊎ (r ≡ Greater)
@@ -20,27 +19,10 @@ cases_Ordering Less = inl refl
 cases_Ordering Equal = inr (inl refl)
 cases_Ordering Greater = inr (inr refl)
 
-pub places_total : IsTotalOrder place_cmp
-places_total = then_total (on_total (λ (p : Place). p.end) int_cmp_total) (then_total (on_total (λ (p : Place). p.start) int_cmp_total) (on_total (λ (p : Place). p.key) nat_cmp_total))
-
 pub ordering_then_equal : (a b : Ordering) → ordering_then a b ≡ Equal → (a ≡ Equal) × (b ≡ Equal)
 ordering_then_equal Less b e = absurd (cc)
 ordering_then_equal Equal b e = (refl, e)
 ordering_then_equal Greater b e = absurd (cc)
-
-place_is : (a b : Place) → a.end ≡ b.end → a.start ≡ b.start → a.key ≡ b.key → a ≡ b
-place_is a b e s k i = record { end = e i; start = s i; key = k i }
-
--- only equal places tie
-pub places_exact : IsAntisymmetric place_cmp
-places_exact a b h =
-    let e = ordering_then_equal _ _ h in
-    let s = ordering_then_equal _ _ e.1 in
-    place_is a b (int_cmp-IsAntisymmetric _ _ e.0) (int_cmp-IsAntisymmetric _ _ s.0) (nat_cmp-IsAntisymmetric _ _ s.1)
-
--- a place that ties is that place
-pub tie_is : (p r : Place) → eq_by_cmp place_cmp p r ≡ true → p ≡ r
-tie_is p r h = places_exact p r ((Equal-is _).0 h)
 
 abbrev pub among : Place → List Place → Bool
 among p ps = list_any (eq_by_cmp place_cmp p) ps

@@ -3,11 +3,12 @@
 use Rattle.std.proofs.Common.{◌≡◌, ◌&&◌, cond, List, [], ◌∷◌, ◌++◌, map, length, ℤ, Option, Some, None, refl, ap}
 use Rattle.std.specs.Prelude.{not, filter, flat_map, is_none}
 use Rattle.wsm_record.specs.Event.{Event, Record, Watermark}
+use Rattle.wsm_windows.specs.declared.place.Place.{Place}
+use Rattle.wsm_windows.specs.Places.{at}
 use Rattle.wsm_admission.specs.declared.verdict.Refusal.{Refusal}
 use Rattle.wsm_admission.proofs.Taken.{refused_watermark}
-use Rattle.wsm_semantics.specs.declared.place.Place.{Place}
 use Rattle.wsm_semantics.specs.Query.{Query, Datum, mark, verdict_on, selected, selection_of}
-use Rattle.wsm_semantics.specs.Panes.{at, is_there, panes, held, is_live_at, windows_among, with_contents}
+use Rattle.wsm_semantics.specs.Panes.{is_there, panes, held, is_live_at, windows_among, with_contents}
 use Rattle.wsm_semantics.specs.Firings.{firings, fire, firing_of, firing_set, is_shown, kind_on_watermark}
 use Rattle.wsm_semantics.proofs.Lists.{filter_map_none}
 

@@ -4,9 +4,10 @@
 use Rattle.std.specs.Prelude.{◌≡◌, ℕ, ◌≤◌, Bool, ◌&&◌, List, length, filter, Contains, ◌+ℤ◌, ◌≤ℤ◌, if◌then◌else◌}
 use Rattle.wsm_record.specs.Event.{Event}
 use Rattle.wsm_windows.specs.declared.window.Window.{Window}
-use Rattle.wsm_semantics.specs.declared.place.Place.{Place}
+use Rattle.wsm_windows.specs.declared.place.Place.{Place}
+use Rattle.wsm_windows.specs.Places.{at}
 use Rattle.wsm_semantics.specs.Query.{Datum, Query, mark, selected}
-use Rattle.wsm_semantics.specs.Panes.{at, windows_among}
+use Rattle.wsm_semantics.specs.Panes.{windows_among}
 use Rattle.wsm_semantics.specs.Firings.{Firing, holds, shows, is_shown, firings_so_far}
 
 -- a firing of the place, for sessions of its key, that has the record in its firing set

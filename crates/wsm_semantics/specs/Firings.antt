@@ -12,11 +12,12 @@ use Rattle.wsm_windows.specs.declared.window.PaneKind.TheVariants.{Early, OnTime
 use Rattle.wsm_windows.specs.declared.window.Shape.{Shape}
 use Rattle.wsm_windows.specs.declared.window.Shape.TheVariants.{Fixed, Sliding, Session}
 use Rattle.wsm_windows.specs.Life.{is_due}
-use Rattle.wsm_semantics.specs.declared.place.Place.{Place}
+use Rattle.wsm_windows.specs.declared.place.Place.{Place}
+use Rattle.wsm_windows.specs.Places.{place_cmp, window_of}
 use Rattle.wsm_semantics.specs.declared.out_row.OutRow.{OutRow}
 use Rattle.wsm_semantics.specs.declared.out_row.OutRow.TheVariants.{Pane}
 use Rattle.wsm_semantics.specs.Query.{Datum, Query, mark, is_taken}
-use Rattle.wsm_semantics.specs.Panes.{place_cmp, window_of, panes}
+use Rattle.wsm_semantics.specs.Panes.{panes}
 
 pub record Firing : Type 0 where
   pub kind : PaneKind

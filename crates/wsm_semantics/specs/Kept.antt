@@ -13,10 +13,11 @@ use Rattle.wsm_windows.specs.declared.window.Window.{Window}
 use Rattle.wsm_windows.specs.declared.window.Shape.{Shape}
 use Rattle.wsm_windows.specs.declared.window.Shape.TheVariants.{Fixed, Sliding, Session}
 use Rattle.wsm_windows.specs.Windows.{window, windows_of}
-use Rattle.wsm_semantics.specs.declared.place.Place.{Place}
+use Rattle.wsm_windows.specs.declared.place.Place.{Place}
+use Rattle.wsm_windows.specs.Places.{place_cmp, at, window_of}
 use Rattle.wsm_semantics.specs.Query.{Datum, Query}
 use Rattle.wsm_semantics.specs.Sessions.{links}
-use Rattle.wsm_semantics.specs.Panes.{place_cmp, at, window_of, is_there, is_live_at, held}
+use Rattle.wsm_semantics.specs.Panes.{is_there, is_live_at, held}
 use Rattle.wsm_semantics.specs.Firings as Firings
 use Rattle.wsm_semantics.specs.Firings.{firing_set, firing_of, kind_on_record, kind_on_watermark, is_shown, firings_so_far}
 use Rattle.wsm_semantics.specs.Relation.{candidates, greatest_of, sorted_rows}

@@ -1,28 +1,17 @@
 -- Panes: each key and window that has contents, with these. Windows are assigned to a record and
 -- merged at its key (Akidau et al. 2015); how long a pane is held is this project's own rule.
 use Rattle.std.specs.Prelude.{ℕ, Bool, ◌&&◌, List, [], ◌∷◌, map, filter, flat_map, ℤ, nat_eq}
-use Rattle.std.specs.Ordering.{int_cmp, nat_cmp, ordering_then}
 use Rattle.std.specs.FinMap.Entries.{put, where_key}
-use Rattle.std.specs.declared.cmp.Ordering.{Ordering}
 use Rattle.wsm_record.specs.Event.{Event}
 use Rattle.wsm_windows.specs.declared.window.Window.{Window}
 use Rattle.wsm_windows.specs.declared.window.Shape.{Shape}
 use Rattle.wsm_windows.specs.declared.window.Shape.TheVariants.{Fixed, Sliding, Session}
-use Rattle.wsm_windows.specs.Windows.{window, windows_of, has_inside}
+use Rattle.wsm_windows.specs.Windows.{windows_of, has_inside}
+use Rattle.wsm_windows.specs.Places.{place_cmp, at, window_of}
 use Rattle.wsm_windows.specs.Life.{is_live}
-use Rattle.wsm_semantics.specs.declared.place.Place.{Place}
+use Rattle.wsm_windows.specs.declared.place.Place.{Place}
 use Rattle.wsm_semantics.specs.Query.{Datum, Query, mark, selected}
 use Rattle.wsm_semantics.specs.Sessions.{sessions}
-
--- by end, then start, then key
-abbrev pub place_cmp : Place → Place → Ordering
-place_cmp a b = ordering_then (int_cmp a.end b.end) (ordering_then (int_cmp a.start b.start) (nat_cmp a.key b.key))
-
-abbrev pub at : ℕ → Window → Place
-at key w = record { end = w.end; start = w.start; key = key }
-
-abbrev pub window_of : Place → Window
-window_of p = window p.start p.end
 
 abbrev pub of_key : ℕ → List Datum → List Datum
 of_key key ds = filter (λ d. nat_eq d.key key) ds

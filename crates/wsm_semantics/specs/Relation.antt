@@ -11,7 +11,7 @@ use Rattle.wsm_record.specs.declared.event.Value.TheVariants.{Int, Bool as Truth
 use Rattle.wsm_record.specs.declared.words.Form.{Form}
 use Rattle.wsm_record.specs.declared.words.Form.TheVariants as form
 use Rattle.wsm_record.specs.Event.{Event, Record, Watermark}
-use Rattle.wsm_semantics.specs.declared.place.Place.{Place}
+use Rattle.wsm_windows.specs.declared.place.Place.{Place}
 use Rattle.wsm_semantics.specs.declared.out_row.OutRow.{OutRow}
 use Rattle.wsm_semantics.specs.declared.out_row.OutRow.TheVariants.{Istream, Dstream, Rstream}
 use Rattle.wsm_semantics.specs.Query.{Datum, Query, is_taken}

@@ -14,13 +14,14 @@ use Rattle.wsm_windows.specs.declared.window.Window.{Window}
 use Rattle.wsm_windows.specs.declared.window.Shape.{Shape}
 use Rattle.wsm_windows.specs.declared.window.Shape.TheVariants.{Fixed, Sliding, Session}
 use Rattle.wsm_windows.specs.Windows.{window, windows_of}
-use Rattle.wsm_semantics.specs.declared.place.Place.{Place}
+use Rattle.wsm_windows.specs.declared.place.Place.{Place}
+use Rattle.wsm_windows.specs.Places.{place_cmp, at, window_of}
 use Rattle.wsm_semantics.specs.declared.out_row.OutRow.{OutRow}
 use Rattle.wsm_semantics.specs.declared.out_row.OutRow.TheVariants as rows
 pub use Rattle.wsm_semantics.specs.declared.standing.Standing.{Standing}
 pub use Rattle.wsm_semantics.specs.declared.standing.Standing.TheVariants.{Unfired, Row, Joined}
 use Rattle.wsm_semantics.specs.Query.{Datum, Query}
-use Rattle.wsm_semantics.specs.Panes.{place_cmp, at, window_of, is_there, is_live_at}
+use Rattle.wsm_semantics.specs.Panes.{is_there, is_live_at}
 use Rattle.wsm_semantics.specs.Firings.{Firing, firing_set, kind_on_record, kind_on_watermark}
 use Rattle.wsm_semantics.specs.Relation.{sorted_rows}
 use Rattle.wsm_semantics.specs.Kept as kept

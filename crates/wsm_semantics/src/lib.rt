@@ -33,12 +33,10 @@
 pub use columns::Columns;
 pub use ending::Totals;
 pub use out_row::OutRow;
-pub use place::Place;
 pub use standing::Standing;
 
 mod columns;
 mod ending;
 pub mod laws;
 mod out_row;
-mod place;
 mod standing;

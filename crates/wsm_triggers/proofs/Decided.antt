@@ -4,7 +4,7 @@ use Rattle.std.specs.Prelude.{int_lt, int_le, nat_lt}
 use Rattle.wsm_record.specs.declared.words.Mode.{Mode}
 use Rattle.wsm_record.specs.declared.words.Mode.TheVariants.{Discarding, Accumulating}
 use Rattle.wsm_windows.specs.declared.window.PaneKind.TheVariants.{OnTime, Final}
-use Rattle.wsm_semantics.specs.declared.place.Place.{Place}
+use Rattle.wsm_windows.specs.declared.place.Place.{Place}
 use Rattle.wsm_semantics.specs.Query.{Datum, Query}
 use Rattle.wsm_semantics.specs.Firings.{firing_set, kind_on_watermark}
 use Rattle.wsm_triggers.specs.Triggers.{EndsIn, fired_count}

@@ -2,7 +2,7 @@
 
 ghost use Rattle.std.specs.Prelude.{◌≡◌, List, length, Some, None, ◌&&◌, int_lt, int_le, nat_lt, if◌then◌else◌};
 ghost use Rattle.wsm_windows.specs.Windows.{IsSpan};
-ghost use Rattle.wsm_semantics.specs.declared.place.Place.{Place};
+ghost use Rattle.wsm_windows.specs.declared.place.Place.{Place};
 ghost use Rattle.wsm_semantics.specs.Query.{Datum, Query};
 ghost use Rattle.wsm_semantics.specs.Firings.{kind_on_record, kind_on_watermark, firing_set, is_enough};
 ghost use Rattle.wsm_triggers.specs.Triggers.{IsEnd, IsTriggerOf, EndsIn, fired_count};

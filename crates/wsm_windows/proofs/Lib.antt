@@ -3,4 +3,4 @@ pub mod Lists
 pub mod Laws
 pub mod Members
 pub mod Bounds
-pub mod Fixed
+pub mod Places

@@ -1,4 +1,5 @@
 pub mod Windows
+pub mod Places
 pub mod Life
 pub mod Left
 pub mod Vectors

@@ -21,10 +21,12 @@
 
 pub use assignment::{Windows, windows_of};
 pub use life::{is_due, is_live, live_bound};
+pub use place::Place;
 pub use window::{PaneKind, Shape, Window};
 
 mod assignment;
 mod life;
+mod place;
 #[cfg(test)]
 mod tests;
 mod window;

@@ -2,7 +2,7 @@ use Rattle.std.proofs.Common.{◌≡◌, List, sym, ap, subst, ◌∙◌}
 use Rattle.std.specs.FinMap as map
 use Rattle.std.specs.FinMap.Entries.{put}
 use Rattle.wsm_record.specs.declared.event.Value.{Value}
-use Rattle.wsm_semantics.specs.Panes.{place_cmp}
+use Rattle.wsm_windows.specs.Places.{place_cmp}
 use Rattle.wsm_semantics.specs.Summaries.{Pane, columns, fired_count}
 use Rattle.wsm_program.specs.Program.{Program, Header}
 use Rattle.wsm_machine.specs.Meaning.{plan_of}

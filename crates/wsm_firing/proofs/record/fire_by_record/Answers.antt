@@ -4,9 +4,10 @@ use Rattle.std.specs.List.{AllByRecursion}
 use Rattle.wsm_record.specs.declared.event.Value.{Value}
 use Rattle.wsm_windows.specs.declared.window.Window.{Window}
 use Rattle.wsm_windows.specs.Windows.{IsShape, windows_of_shape}
-use Rattle.wsm_semantics.specs.declared.place.Place.{Place}
+use Rattle.wsm_windows.specs.declared.place.Place.{Place}
+use Rattle.wsm_windows.specs.Places.{at}
 use Rattle.wsm_semantics.specs.Query.{Datum}
-use Rattle.wsm_semantics.specs.Panes.{at, is_there}
+use Rattle.wsm_semantics.specs.Panes.{is_there}
 use Rattle.wsm_semantics.specs.Replay.{datum}
 use Rattle.wsm_semantics.specs.Summaries.{Fired, Pane, all_fired, fires, kind_by_record}
 use Rattle.wsm_program.specs.Program.{Program, Header}

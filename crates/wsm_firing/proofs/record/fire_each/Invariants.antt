@@ -1,5 +1,5 @@
 use Rattle.std.proofs.Common.{◌≡◌, map, vec_capacity}
-use Rattle.wsm_semantics.specs.Panes.{at}
+use Rattle.wsm_windows.specs.Places.{at}
 use Rattle.wsm_semantics.specs.Summaries.{all_fired, fires}
 use Rattle.wsm_machine.specs.Meaning.{plan_of, query_of}
 use Rattle.wsm_panes.specs.Held.{IsKept, entries_of}

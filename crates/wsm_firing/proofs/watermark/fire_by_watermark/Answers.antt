@@ -7,9 +7,9 @@ use Rattle.std.specs.FinMap as map
 use Rattle.wsm_record.specs.declared.event.Value.{Value}
 use Rattle.wsm_windows.specs.declared.window.PaneKind.{PaneKind}
 use Rattle.wsm_windows.specs.Windows.{IsPlaced, IsSpan}
+use Rattle.wsm_windows.specs.declared.place.Place.{Place}
+use Rattle.wsm_windows.specs.Places.{window_of}
 use Rattle.wsm_semantics.specs.declared.out_row.OutRow.{OutRow}
-use Rattle.wsm_semantics.specs.declared.place.Place.{Place}
-use Rattle.wsm_semantics.specs.Panes.{window_of}
 use Rattle.wsm_semantics.specs.Summaries.{Fired, Pane, fired_count, fires, kind_by_watermark}
 use Rattle.wsm_program.specs.Program.{Program, Header, is_program}
 use Rattle.wsm_program.specs.View.{header_of}

@@ -5,10 +5,10 @@ use Rattle.std.specs.Int.{int_max}
 use Rattle.std.specs.Prelude.{slice_get}
 use Rattle.std.specs.Option.{is_some}
 use Rattle.wsm_record.specs.declared.event.Value.{Value}
-use Rattle.wsm_semantics.specs.declared.place.Place.{Place}
 use Rattle.wsm_semantics.specs.Summaries.{Pane}
 use Rattle.wsm_panes.specs.declared.spot.Spot.{Spot}
 use Rattle.std.specs.FinMap as map
+use Rattle.wsm_windows.specs.declared.place.Place.{Place}
 use Rattle.wsm_panes.specs.Held.{entries_of}
 use Rattle.wsm_panes.specs.Walk.{first_past, place_due, place_found}
 use Rattle.wsm_firing.proofs.Walk.{next_behind}

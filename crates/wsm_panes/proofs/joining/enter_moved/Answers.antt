@@ -1,6 +1,6 @@
 use Rattle.std.proofs.Common.{◌≡◌, Some, sym, subst, ◌∙◌}
 use Rattle.std.specs.FinMap as map
-use Rattle.wsm_semantics.specs.declared.place.Place.{Place}
+use Rattle.wsm_windows.specs.declared.place.Place.{Place}
 use Rattle.wsm_panes.specs.Held.{with_one_more}
 use Rattle.wsm_panes.proofs.Entries.{Decides-eq_place}
 use Rattle.wsm_panes.proofs.Moved.{insert_over}

@@ -1,7 +1,7 @@
 use Rattle.std.proofs.Common.{◌≡◌, [], ◌∷◌, sym, ap, ◌∙◌, SFits, w64, to_z-of_z}
 use Rattle.std.specs.Prelude.{filter, length, nat_lt}
 use Rattle.std.specs.FinMap as map
-use Rattle.wsm_semantics.specs.Panes.{at, window_of}
+use Rattle.wsm_windows.specs.Places.{at, window_of}
 use Rattle.wsm_semantics.specs.Sessions.{links}
 use Rattle.wsm_sessions.specs.Placing.{those_linked}
 use Rattle.wsm_panes.specs.Held.{taking, windows_of_key, with_one_more}

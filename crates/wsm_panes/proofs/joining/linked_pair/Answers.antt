@@ -1,7 +1,7 @@
 use Rattle.std.proofs.Common.{◌≡◌, Some, [], ◌∷◌, refl, sym, ap, subst, ◌∙◌, SFits, w64, to_z-of_z, arith}
 use Rattle.std.specs.Prelude.{IsSome, length}
 use Rattle.std.specs.FinMap as map
-use Rattle.wsm_semantics.specs.Panes.{at}
+use Rattle.wsm_windows.specs.Places.{at}
 use Rattle.wsm_semantics.specs.Replay.{datum}
 use Rattle.wsm_sessions.specs.Placing.{those_linked}
 use Rattle.wsm_panes.specs.Held.{first_two, taking}

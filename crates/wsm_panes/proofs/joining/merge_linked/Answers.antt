@@ -1,6 +1,6 @@
 use Rattle.std.proofs.Common.{[], sym, ap, ◌∙◌, SFits, w64, to_z-of_z}
 use Rattle.std.specs.FinMap as map
-use Rattle.wsm_semantics.specs.Panes.{at, window_of}
+use Rattle.wsm_windows.specs.Places.{at, window_of}
 use Rattle.wsm_semantics.specs.Replay.{datum}
 use Rattle.wsm_panes.specs.Held.{taking, windows_of_key}
 use Rattle.wsm_panes.proofs.Enters.{any_datum}

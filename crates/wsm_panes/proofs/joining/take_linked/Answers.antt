@@ -2,7 +2,7 @@ use Rattle.std.proofs.Common.{Some, [], ◌∷◌, refl, sym, ap, subst, ◌∙�
 use Rattle.std.specs.Prelude.{IsSome, IfSome, length, nat_lt}
 use Rattle.std.specs.FinMap as map
 use Rattle.std.proofs.lemmas.Option.{same_Some}
-use Rattle.wsm_semantics.specs.Panes.{at}
+use Rattle.wsm_windows.specs.Places.{at}
 use Rattle.wsm_semantics.specs.Replay.{datum}
 use Rattle.wsm_semantics.specs.Summaries.{joined, joined_all}
 use Rattle.wsm_sessions.specs.Placing.{those_linked}

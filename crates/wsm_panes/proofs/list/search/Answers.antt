@@ -1,9 +1,11 @@
 use Rattle.std.proofs.Common.{◌≡◌, ◌<◌, ◌+◌, ◌-◌, ◌/◌, length, sym, ap, ◌∙◌, arith}
 use Rattle.std.specs.Ordering.{is_gt}
-use Rattle.wsm_panes.specs.Place.{place_cmp, before}
+use Rattle.wsm_windows.specs.Places.{place_cmp}
+use Rattle.wsm_windows.proofs.Places.{places_total}
+use Rattle.wsm_panes.specs.Place.{before}
 use Rattle.wsm_panes.specs.Stored.{shown}
 use Rattle.wsm_panes.proofs.Sorted.{passes, stops, before_within}
-use Rattle.wsm_panes.proofs.Entries.{gap_any, places_total}
+use Rattle.wsm_panes.proofs.Entries.{gap_any}
 use Rattle.wsm_panes.proofs.StoredEdits.{at_place, entry_there, length_is, place_there}
 use Rattle.wsm_panes.proofs.list.search.Goals as goal
 

@@ -1,7 +1,8 @@
 use Rattle.std.proofs.Common.{◌≡◌, ◌<◌, ◌≤◌, ◌-◌, length, get_or}
 use Rattle.std.specs.declared.cmp.Ordering.TheVariants.{Less}
-use Rattle.wsm_semantics.specs.declared.place.Place.{Place}
-use Rattle.wsm_panes.specs.Place.{before, place_cmp}
+use Rattle.wsm_windows.specs.declared.place.Place.{Place}
+use Rattle.wsm_windows.specs.Places.{place_cmp}
+use Rattle.wsm_panes.specs.Place.{before}
 use Rattle.wsm_panes.specs.Stored.{shown}
 use Rattle.wsm_panes.proofs.list.search.Given as goal
 

@@ -2,7 +2,7 @@ use Rattle.std.proofs.Common.{◌≡◌, List, Some, length, set, ap, inl, inr, 
 use Rattle.std.specs.Option.{is_some}
 use Rattle.std.specs.Prelude.{not}
 use Rattle.wsm_record.specs.declared.event.Value.{Value}
-use Rattle.wsm_semantics.specs.declared.place.Place.{Place}
+use Rattle.wsm_windows.specs.declared.place.Place.{Place}
 use Rattle.wsm_semantics.specs.Summaries.{Pane}
 use Rattle.wsm_panes.specs.Ring.{held, slot_at}
 use Rattle.wsm_panes.proofs.Own.{count_more, is_some_placed}

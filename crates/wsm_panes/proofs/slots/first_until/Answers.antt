@@ -1,6 +1,6 @@
 use Rattle.std.proofs.Common.{◌≡◌, ◌≤◌, ◌⊎◌, ℕ, pos, ◌+ℤ◌, ◌<ℤ◌, ◌≤ℤ◌, to_z, of_z, Some, SFits, w64, rules, inl, inr, arith, sym, ◌∙◌}
 use Rattle.std.proofs.lemmas.Int.{ints, to_z-of_z}
-use Rattle.wsm_semantics.specs.declared.place.Place.{Place}
+use Rattle.wsm_windows.specs.declared.place.Place.{Place}
 use Rattle.wsm_panes.specs.Ring.{IsFirstInRow, IsFirstUntil, IsFromOn, IsOnGrid, at_slot, slot_at, row_of}
 use Rattle.wsm_panes.proofs.Rings.{between_fits, le_from, lt_from, on_grid_next}
 use Rattle.wsm_panes.proofs.Scan.{scan_found, scan_past, scan_until, scan_next, from_next, left_less}

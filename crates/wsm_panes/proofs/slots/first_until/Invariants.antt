@@ -1,6 +1,6 @@
 use Rattle.std.proofs.Common.{◌≡◌, ℕ, ◌≤◌, ◌⊎◌, ◌<ℤ◌, Some}
+use Rattle.wsm_windows.specs.declared.place.Place.{Place}
 use Rattle.wsm_panes.proofs.Scan.{left_until}
-use Rattle.wsm_semantics.specs.declared.place.Place.{Place}
 use Rattle.wsm_panes.specs.Ring.{IsFromOn, slot_at, IsOnGrid}
 use Rattle.wsm_panes.proofs.slots.first_until.Given as goal
 

@@ -3,7 +3,7 @@ use Rattle.std.specs.Option.{is_some, option_len}
 use Rattle.std.specs.Prelude.{IfSome, option_map}
 use Rattle.std.proofs.lemmas.Bool.{true≢false}
 use Rattle.wsm_record.specs.declared.event.Value.{Value}
-use Rattle.wsm_semantics.specs.declared.place.Place.{Place}
+use Rattle.wsm_windows.specs.declared.place.Place.{Place}
 use Rattle.wsm_semantics.specs.Summaries.{Pane}
 use Rattle.wsm_panes.specs.Held.{CanRecord, with_one_more}
 use Rattle.wsm_panes.specs.Layout.{Slotted}

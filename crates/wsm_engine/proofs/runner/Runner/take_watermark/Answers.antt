@@ -7,7 +7,8 @@ use Rattle.wsm_record.specs.Event.{Watermark}
 use Rattle.wsm_admission.specs.declared.verdict.Admitted.TheVariants as admitted
 use Rattle.wsm_semantics.specs.declared.out_row.OutRow.{OutRow}
 use Rattle.wsm_windows.specs.Windows.{IsPlaced}
-use Rattle.wsm_semantics.specs.Panes.{place_cmp, is_live_at, window_of}
+use Rattle.wsm_windows.specs.Places.{place_cmp, window_of}
+use Rattle.wsm_semantics.specs.Panes.{is_live_at}
 use Rattle.wsm_semantics.specs.HeldBounds.{most_panes}
 use Rattle.wsm_semantics.specs.Summaries.{at_watermark, kind_by_watermark, relation_of, row_of, fired_by_watermark}
 use Rattle.wsm_semantics.specs.Steps.{chosen_rows, stream_rows}

@@ -2,8 +2,8 @@ use Rattle.std.proofs.Common.{ap, sym, ◌∙◌}
 use Rattle.std.specs.Option.{is_some}
 use Rattle.std.specs.FinMap as map
 use Rattle.std.specs.FinMap.{entries-insert, entries_sorted, get-entries}
+use Rattle.wsm_windows.proofs.Places.{places_total}
 use Rattle.wsm_panes.specs.Held.{once_fired, windows_of_key}
-use Rattle.wsm_panes.proofs.Entries.{places_total}
 use Rattle.wsm_panes.proofs.Enters.{in_ring, keys_alike, windows_replaced}
 use Rattle.wsm_panes.proofs.held.HeldPanes.fire_at.Goals as goal
 use Rattle.wsm_semantics.proofs.Each.{as_true}

@@ -4,7 +4,7 @@ use Rattle.std.specs.Prelude.{IfSome, ◌≤ℤ◌}
 use Rattle.std.proofs.lemmas.Int.{ints, to_z-of_z}
 use Rattle.std.proofs.lemmas.List.{length-set}
 use Rattle.std.proofs.lemmas.Option.{same_Some}
-use Rattle.wsm_semantics.specs.declared.place.Place.{Place}
+use Rattle.wsm_windows.specs.declared.place.Place.{Place}
 use Rattle.wsm_panes.specs.Held.{CanRecord, with_one_more}
 use Rattle.wsm_panes.specs.Ring.{RingAdmits, IsOfRing, held, pane_of, slot_at, slot_of, window_number}
 use Rattle.wsm_panes.proofs.Placed.{get_in, panes_in, panes_put, own_slot, placed_set, between_put, held_between, held_length}

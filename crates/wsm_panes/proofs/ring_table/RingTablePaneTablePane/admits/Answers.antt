@@ -1,6 +1,6 @@
 use Rattle.std.proofs.Common.{Some, ap, arith, inl, inr, refl, sym, ◌∙◌}
 use Rattle.std.proofs.lemmas.Option.{none-some, same_Some}
-use Rattle.wsm_semantics.specs.declared.place.Place.{Place}
+use Rattle.wsm_windows.specs.declared.place.Place.{Place}
 use Rattle.wsm_panes.specs.Ring.{IsOfRing, slot_at}
 use Rattle.wsm_panes.proofs.Entries.{Decides-eq_place}
 use Rattle.wsm_panes.proofs.Placed.{own_slot, admits_free, admits_own, entry_placed, none_placed}

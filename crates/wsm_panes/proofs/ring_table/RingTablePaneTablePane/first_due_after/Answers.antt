@@ -3,8 +3,8 @@ use Rattle.std.specs.FinMap as map
 use Rattle.std.specs.FinMap.Entries.{find}
 use Rattle.std.specs.Option.{is_some}
 use Rattle.std.proofs.lemmas.Int.{ints, to_z-of_z}
-use Rattle.wsm_semantics.specs.declared.place.Place.{Place}
-use Rattle.wsm_panes.specs.Place.{place_cmp}
+use Rattle.wsm_windows.specs.declared.place.Place.{Place}
+use Rattle.wsm_windows.specs.Places.{place_cmp}
 use Rattle.wsm_panes.specs.Ring.{at_slot, IsFirstPast, IsFirstUntil, IsLastDue}
 use Rattle.wsm_panes.specs.Walk.{first_past, place_due, place_found}
 use Rattle.wsm_panes.proofs.Placed.{panes_in}

@@ -4,7 +4,7 @@ use Rattle.std.specs.Prelude.{◌≤ℤ◌}
 use Rattle.std.proofs.lemmas.Int.{to_z-of_z}
 use Rattle.std.proofs.lemmas.List.{length-set}
 use Rattle.std.proofs.lemmas.Option.{same_Some}
-use Rattle.wsm_semantics.specs.declared.place.Place.{Place}
+use Rattle.wsm_windows.specs.declared.place.Place.{Place}
 use Rattle.wsm_panes.specs.Ring.{RingAdmits, IsOfRing, slot_of, window_number}
 use Rattle.wsm_panes.proofs.Placed.{panes_in, panes_put, own_slot, placed_set, between_put, held_length}
 use Rattle.wsm_panes.proofs.Rings.{slot_within}
