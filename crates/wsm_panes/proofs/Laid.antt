@@ -122,23 +122,6 @@ module _ (w : Widths) (hs : List Head) (fs rs : List Value) (laid : IsLaidOut w 
       rw (same_part i w.accumulators fs) at
       (entries_set w.accumulators w.columns hs fs rs i x (part_at i w.accumulators fs) r h folds_end row_ends (length-part i w.accumulators fs folds_end) long)
 
-  pub laid_head : (x : Head) → IsLaidOut w (set hs i x) fs rs
-  laid_head x = record { few = laid.few; of_folds = rw (length-set hs i x) laid.of_folds; of_rows = rw (length-set hs i x) laid.of_rows }
-
-  pub laid_folds : (x : Head) (f : List Value) → length f ≡ w.accumulators → IsLaidOut w (set hs i x) (with_part i w.accumulators fs f) rs
-  laid_folds x f long = record {
-    few = laid.few;
-    of_folds = length-with_part i w.accumulators fs f folds_end long ∙ (laid_head x).of_folds;
-    of_rows = (laid_head x).of_rows;
-  }
-
-  pub laid_row : (x : Head) (r : List Value) → length r ≡ w.columns → IsLaidOut w (set hs i x) fs (with_part i w.columns rs r)
-  laid_row x r long = record {
-    few = laid.few;
-    of_folds = (laid_head x).of_folds;
-    of_rows = length-with_part i w.columns rs r row_ends long ∙ (laid_head x).of_rows;
-  }
-
 -- ---- an entry
 
 none_is : (o : Option (Place × Pane (List Value))) → o ≡ None → is_some o ≡ true → ⊥

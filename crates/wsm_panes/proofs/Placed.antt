@@ -270,10 +270,6 @@ module _ {P : Type 0} where
       let one : option_len (slot_at os i) + more ≡ 1 = ap (λ (x : Option (Place × P)). option_len x + more) at ∙ count_of o more h in
       omega (arith, whole, one)
 
-  -- an entry for another leaves as many
-  pub same_count : (os : List (Option (Place × P))) (i : ℕ) (o : Option (Place × P)) (e f : Place × P) → i < length os → o ≡ get_or os i o → o ≡ Some e → length (held (set os i (Some f))) ≡ length (held os) + 0
-  same_count os i o e f within read is = fill_count os i f o 0 within read (inr (ap (λ (x : Option (Place × P)). is_some x) is, refl))
-
   pub at_within : (os : List (Option (Place × P))) (i : ℕ) (e : Place × P) → slot_at os i ≡ Some e → i < length os
   at_within [] i e at = cc
   at_within (o ∷ os) zero e at = omega arith

@@ -191,10 +191,6 @@ all_on r time start is first = from_first_start r.size r.period time start is.pe
 pub one_on : (r : Ring) (time start next : ℤ) → IsRing r → start ≤ℤ time → next ≡ start +ℤ r.period → windows_on r time start ≡ window start (start +ℤ r.size) ∷ windows_on r time next
 one_on r time start next is inside more = next_left r.period r.size start time start (start +ℤ r.size) next is.period_low inside refl refl more
 
--- and none from a start past the time
-pub none_on : (r : Ring) (time start : ℤ) → time <ℤ start → windows_on r time start ≡ []
-none_on r time start past = let gone : int_le start time ≡ false = grind (arith, ints) in rw gone refl
-
 pub rising_on : (r : Ring) (time : ℤ) → IsRing r → r.size ≤ℤ greatest_span → IsRising (windows_of r.size r.period time)
 rising_on r time is few = rising (Sliding r.size r.period) time (windows_of r.size r.period time) (record { period_low = is.period_low; period_high = is.period_high; size_high = few }) refl
 

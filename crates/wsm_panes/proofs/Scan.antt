@@ -55,11 +55,6 @@ module _ {P : Type 0} (r : Ring) (os : List (Option (Place × P))) (placed : Are
   scan_until start0 start last key0 key None first found some until = let bad : false ≡ true = some in absurd (cc)
   scan_until start0 start last key0 key (Some e) first found some until = (first, omega (arith, ints, found.4, until))
 
-  -- where no entry starts after a last time, it is the first of all
-  pub until_from : (start last : ℤ) (key : ℕ) (o : Option (Place × P)) → AreUntil last os → IsFirstUntil r os start key last o → IsFirstFrom r os start key o
-  until_from start last key None until none = λ i e at from. absurd (omega (arith, ints, none i e at from, until i e at))
-  until_from start last key (Some e) until found = found.0
-
   -- where a row has none, all that is from there on is past the row's window
   pub scan_past : (start : ℤ) (key : ℕ) (o : Option (Place × P)) → IsFirstInRow os (row_of r start) start key r.keys o → is_some o ≡ false → (i : ℕ) (f : Place × P) → slot_at os i ≡ Some f → IsFromOn start key f.0 → start <ℤ f.0.start
   scan_past start key (Some e) none some i f at from = let bad : true ≡ false = some in absurd (cc)

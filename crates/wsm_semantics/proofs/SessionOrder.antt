@@ -54,24 +54,9 @@ with_time-swap t u (x ∷ xs) =
       ] refl
     ] refl
 
-pub rising-anywhere : (t : ℤ) (ts us : List ℤ) → rising (ts ++ t ∷ us) ≡ rising (t ∷ ts ++ us)
-rising-anywhere t [] us = refl
-rising-anywhere t (s ∷ ts) us = ap (with_time s) (rising-anywhere t ts us) ∙ with_time-swap s t (rising (ts ++ us))
-
 -- ---- sessions that lie apart
 
-pub are_sessions : (gap : ℤ) (ws : List Window) → AreApart gap ws → AreSessions gap ws
-are_sessions gap [] a = tt
-are_sessions gap (w ∷ ws) a = (a.0, All-from_recursion (λ v. w.end ≤ℤ v.start) ws a.1, are_sessions gap ws a.2)
-
 module _ (gap : ℤ) (long : pos 1 ≤ℤ gap) where
-  -- the sessions with one time more, wherever it stands
-  pub sessions-anywhere : (t : ℤ) (ts us : List ℤ) → sessions gap (ts ++ t ∷ us) ≡ with_session gap t (sessions gap (ts ++ us))
-  sessions-anywhere t ts us = ap (sessions_of_rising gap) (rising-anywhere t ts us) ∙ sessions-more gap long t (ts ++ us)
-
-  -- the sessions of times, live or all, lie apart and rise, each a gap long or more
-  pub sessions-are : (p : Window → Bool) (ts : List ℤ) → AreSessions gap (filter p (sessions gap ts))
-  sessions-are p ts = are_sessions gap (filter p (sessions gap ts)) (apart-filter gap p (sessions gap ts) (sessions_apart gap long ts))
 
   -- first those that ended by a time, then those that it is linked to, then those a gap after it
   pub in_order : (t : ℤ) (ws : List Window) → AreApart gap ws → ws ≡ filter (ends_by t) ws ++ (filter (links gap t) ws ++ filter (starts_from (t +ℤ gap)) ws)
@@ -152,32 +137,3 @@ module _ (gap : ℤ) (long : pos 1 ≤ℤ gap) where
         end w v two both = greatest w v t two.1.0 two.2.0 (both_linked gap long t w both.0).1
 
   -- ---- sessions that were dropped
-
-  -- a record that isn't late is linked to no dropped session
-  pub dropped_apart : (mark t lateness : ℤ) (w : Window) → int_lt (t +ℤ lateness) mark ≡ false → is_live w lateness mark ≡ false → links gap t w ≡ false
-  dropped_apart mark t lateness w prompt dead = grind (arith, ints)
-
-  -- a time is put into the live sessions as into all: none that ended before it is linked to it
-  pub live-more : (limit t : ℤ) → limit ≤ℤ t → (ws : List Window) → filter (ends_after limit) (with_session gap t ws) ≡ with_session gap t (filter (ends_after limit) ws)
-  live-more limit t h ws =
-      let E : Window → Bool = ends_after limit in
-      let L : List Window = filter (links gap t) ws in
-      let v : Window = session_of gap t L in
-      let end : (t +ℤ gap) ≤ℤ v.end = (holds_time gap long t L).1 in
-      let lives : int_lt limit v.end ≡ true = grind (arith, ints) in
-      filter-append E (filter (ends_by t) ws) (v ∷ filter (starts_from (t +ℤ gap)) ws)
-      ∙ (λ i. filter_swap E (ends_by t) ws i ++ cond (lives i) (v ∷ filter_swap E (starts_from (t +ℤ gap)) ws i) (filter E (filter (starts_from (t +ℤ gap)) ws)))
-      ∙ ap (λ (ls : List Window). filter (ends_by t) (filter E ws) ++ session_of gap t ls ∷ filter (starts_from (t +ℤ gap)) (filter E ws)) (sym (filter_within (links gap t) E (λ w k. linked_lives limit t w h k) ws))
-    where
-      linked_lives : (limit t : ℤ) (w : Window) → limit ≤ℤ t → links gap t w ≡ true → int_lt limit w.end ≡ true
-      linked_lives limit t w h k = grind (arith, ints)
-
-  -- the live sessions of the times placed, with one time more
-  pub live_sessions-more : (limit t : ℤ) (ts : List ℤ) → limit ≤ℤ t → filter (ends_after limit) (sessions gap (t ∷ ts)) ≡ with_session gap t (filter (ends_after limit) (sessions gap ts))
-  live_sessions-more limit t ts h = ap (filter (ends_after limit)) (sessions-more gap long t ts) ∙ live-more limit t h (sessions gap ts)
-
--- a later limit drops those that end by it, and no other
-pub live-dropped : (old limit : ℤ) → old ≤ℤ limit → (ws : List Window) → filter (ends_after limit) (filter (ends_after old) ws) ≡ filter (ends_after limit) ws
-live-dropped old limit h ws = filter_within (ends_after limit) (ends_after old) (λ w k. still old limit w h k) ws where
-  still : (old limit : ℤ) (w : Window) → old ≤ℤ limit → int_lt limit w.end ≡ true → int_lt old w.end ≡ true
-  still old limit w h k = grind (arith, ints)
