@@ -5,7 +5,7 @@ use Rattle.wsm_verifier.specs.declared.rejection.Rejection.{Rejection}
 use Rattle.wsm.specs.declared.end.Refusal.{Refusal}
 use Rattle.wsm.specs.declared.end.End.{End}
 use Rattle.wsm.specs.declared.end.End.TheVariants.{Refused, Rejected, Memory, ReadFailed, WriteFailed}
-use Rattle.wsm.specs.Asked.{Asked}
+use Rattle.wsm_semantics.specs.Query.{Query as Meant}
 use Rattle.wsm.specs.Judged.{EndsBy, RejectsBy}
 use Rattle.wsm.specs.Written.{Cells, EndsEarly, NeverBegins}
 use Rattle.wsm.proofs.Texts.{AreFirst-none, Appends-none, Keeps-same}
@@ -27,7 +27,7 @@ rejected_by judged ReadFailed why known ends is = absurd ends
 rejected_by judged WriteFailed why known ends is = absurd ends
 
 -- want of memory for an input that is neither
-pub unread_early : {A : Type 0} (judged : Result A Refusal) (x : A) (e : End) (known taken : Option (List ℕ)) (a : Asked) → EndsBy judged e → judged ≡ Ok x → (cells : List Cells) × EndsEarly known a cells taken taken e
+pub unread_early : {A : Type 0} (judged : Result A Refusal) (x : A) (e : End) (known taken : Option (List ℕ)) (a : Meant) → EndsBy judged e → judged ≡ Ok x → (cells : List Cells) × EndsEarly known a cells taken taken e
 unread_early judged x (Refused r) known taken a ends is = cc
 unread_early judged x (Rejected r) known taken a ends is = absurd ends
 unread_early judged x Memory known taken a ends is = ([], record { first = AreFirst-none known; text = Appends-none a taken })
@@ -38,7 +38,7 @@ was_rejected : {A : Type 0} (judged : Result A Rejection) (r : Rejection) → ju
 was_rejected (Ok x) r is ok = cc
 was_rejected (Err s) r is ok = cc
 
-pub unverified_early : {A : Type 0} (judged : Result A Rejection) (e : End) (known taken : Option (List ℕ)) (a : Asked) → RejectsBy judged e → is_ok judged ≡ true → (cells : List Cells) × EndsEarly known a cells taken taken e
+pub unverified_early : {A : Type 0} (judged : Result A Rejection) (e : End) (known taken : Option (List ℕ)) (a : Meant) → RejectsBy judged e → is_ok judged ≡ true → (cells : List Cells) × EndsEarly known a cells taken taken e
 unverified_early judged (Refused r) known taken a ends ok = absurd ends
 unverified_early judged (Rejected r) known taken a ends ok = absurd (was_rejected judged r ends ok)
 unverified_early judged Memory known taken a ends ok = ([], record { first = AreFirst-none known; text = Appends-none a taken })

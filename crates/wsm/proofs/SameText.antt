@@ -4,7 +4,7 @@ use Rattle.std.proofs.Math.Seq.{take-append_seam}
 use Rattle.std.proofs.lemmas.List.{append_cancel_left}
 use Rattle.wsm_semantics.specs.Query.{Query}
 use Rattle.wsm_semantics.specs.Lines.{Row, lines_so_far, end_line, all_lines}
-use Rattle.wsm_semantics.specs.Text.{Names, lines_text}
+use Rattle.wsm_semantics.specs.Text.{lines_text}
 use Rattle.wsm_semantics.specs.declared.ending.Totals.{Totals}
 use Rattle.wsm_csv.specs.Device.{TakesPart}
 use Rattle.std.specs.Io.KnownBytes.{Appends}
@@ -17,7 +17,6 @@ use Rattle.wsm_compiler.proofs.SameLines.{same_lines}
 use Rattle.wsm_compiler.proofs.Texts.{parsed_is_spelt}
 use Rattle.wsm.specs.declared.end.End.{End}
 use Rattle.wsm.specs.declared.end.End.TheVariants.{Refused, Rejected, Memory, ReadFailed, WriteFailed}
-use Rattle.wsm.specs.Asked.{Asked, asked_by_program, asked_by_query}
 use Rattle.wsm.specs.Begun.{IsAcceptedQuery}
 use Rattle.wsm.specs.Judged.{text_judged}
 use Rattle.wsm.specs.Written.{Cells, Completes, BreaksOff, EndsEarly, input_text, rows_of, turns_text}
@@ -36,39 +35,33 @@ same_last xs ys x y e =
     cc
 
 -- queries with the same lines for every input
-module _ (names : Names) (q m : Query) (declared : q.declared ≡ m.declared) (lines : (rows : List Row) → all_lines q rows ≡ all_lines m rows) where
-  abbrev one : Asked
-  one = record { query = q; names = names }
-
-  abbrev other : Asked
-  other = record { query = m; names = names }
-
+module _ (q m : Query) (declared : q.declared ≡ m.declared) (lines : (rows : List Row) → all_lines q rows ≡ all_lines m rows) where
   so_far_same : (rows : List Row) → lines_so_far q rows ≡ lines_so_far m rows
   so_far_same rows = same_front (lines_so_far q rows) (lines_so_far m rows) (end_line q rows) (end_line m rows) (lines rows)
 
-  rows_same : (cells : List Cells) → rows_of one cells ≡ rows_of other cells
-  rows_same cells = ap (λ d. rows_of (record one { query = record q { declared = d } }) cells) declared
+  rows_same : (cells : List Cells) → rows_of q cells ≡ rows_of m cells
+  rows_same cells = ap (λ d. rows_of (record q { declared = d }) cells) declared
 
-  turns_same : (cells : List Cells) → turns_text one cells ≡ turns_text other cells
+  turns_same : (cells : List Cells) → turns_text q cells ≡ turns_text m cells
   unfolding turns_text
-  turns_same cells = ap (lines_text names) (so_far_same (rows_of one cells) ∙ ap (lines_so_far m) (rows_same cells))
+  turns_same cells = (λ i. lines_text (declared i) (so_far_same (rows_of q cells) i)) ∙ ap (λ rows. lines_text m.declared (lines_so_far m rows)) (rows_same cells)
 
-  input_same : (cells : List Cells) → input_text one cells ≡ input_text other cells
+  input_same : (cells : List Cells) → input_text q cells ≡ input_text m cells
   unfolding input_text
-  input_same cells = ap (lines_text names) (lines (rows_of one cells) ∙ ap (all_lines m) (rows_same cells))
+  input_same cells = (λ i. lines_text (declared i) (lines (rows_of q cells) i)) ∙ ap (λ rows. lines_text m.declared (all_lines m rows)) (rows_same cells)
 
-  end_same : (cells : List Cells) → end_line q (rows_of one cells) ≡ end_line m (rows_of other cells)
+  end_same : (cells : List Cells) → end_line q (rows_of q cells) ≡ end_line m (rows_of m cells)
   end_same cells =
-      let rows = rows_of one cells in
+      let rows = rows_of q cells in
       same_last (lines_so_far q rows) (lines_so_far m rows) (end_line q rows) (end_line m rows) (lines rows) ∙ ap (end_line m) (rows_same cells)
 
-  Completes-same : (known : Option (List ℕ)) (cells : List Cells) (old new : Option (List ℕ)) (totals : Totals) → Completes known one cells old new totals → Completes known other cells old new totals
+  Completes-same : (known : Option (List ℕ)) (cells : List Cells) (old new : Option (List ℕ)) (totals : Totals) → Completes known q cells old new totals → Completes known m cells old new totals
   Completes-same known cells old new totals h = record { all = h.all; text = subst (Appends old new) (input_same cells) h.text; numbers = h.numbers ∙ end_same cells }
 
-  BreaksOff-same : (known : Option (List ℕ)) (cells : List Cells) (old new : Option (List ℕ)) → BreaksOff known one cells old new → BreaksOff known other cells old new
+  BreaksOff-same : (known : Option (List ℕ)) (cells : List Cells) (old new : Option (List ℕ)) → BreaksOff known q cells old new → BreaksOff known m cells old new
   BreaksOff-same known cells old new h = record { first = h.first; text = subst (Appends old new) (turns_same cells) h.text }
 
-  EndsEarly-same : (known : Option (List ℕ)) (cells : List Cells) (old new : Option (List ℕ)) (end : End) → EndsEarly known one cells old new end → EndsEarly known other cells old new end
+  EndsEarly-same : (known : Option (List ℕ)) (cells : List Cells) (old new : Option (List ℕ)) (end : End) → EndsEarly known q cells old new end → EndsEarly known m cells old new end
   EndsEarly-same known cells old new (Refused why) h = absurd h
   EndsEarly-same known cells old new (Rejected why) h = absurd h
   EndsEarly-same known cells old new Memory h = BreaksOff-same known cells old new h
@@ -83,14 +76,14 @@ text_lines text q a =
     same_lines q (record { checked = checked; spelt = parsed_is_spelt text q read; accepted = a.accepted })
 
 pub text_completes : (text : List ℕ) (q : tree.Query) → IsAcceptedQuery text q → (known : Option (List ℕ)) (old new : Option (List ℕ)) (totals : Totals)
-    → (cells : List Cells) × Completes known (asked_by_program (program_of q)) cells old new totals → (cells : List Cells) × Completes known (asked_by_query q) cells old new totals
+    → (cells : List Cells) × Completes known (query_of (program_of q)) cells old new totals → (cells : List Cells) × Completes known (meant q) cells old new totals
 text_completes text q a known old new totals (cells, h) =
-    (cells, Completes-same (asked_by_query q).names (query_of (program_of q)) (meant q) refl (text_lines text q a) known cells old new totals h)
+    (cells, Completes-same (query_of (program_of q)) (meant q) refl (text_lines text q a) known cells old new totals h)
 
 pub text_ends_early : (text : List ℕ) (q : tree.Query) → IsAcceptedQuery text q → (known : Option (List ℕ)) (old new : Option (List ℕ)) (end : End)
-    → (cells : List Cells) × EndsEarly known (asked_by_program (program_of q)) cells old new end → (cells : List Cells) × EndsEarly known (asked_by_query q) cells old new end
+    → (cells : List Cells) × EndsEarly known (query_of (program_of q)) cells old new end → (cells : List Cells) × EndsEarly known (meant q) cells old new end
 text_ends_early text q a known old new end (cells, h) =
-    (cells, EndsEarly-same (asked_by_query q).names (query_of (program_of q)) (meant q) refl (text_lines text q a) known cells old new end h)
+    (cells, EndsEarly-same (query_of (program_of q)) (meant q) refl (text_lines text q a) known cells old new end h)
 
 -- a text is of one query, and so of one program
 pub same_program : (text : List ℕ) (q : tree.Query) (p : Program) → text_judged text ≡ Ok q → (x : tree.Query) × (text_judged text ≡ Ok x) × (p ≡ program_of x) → p ≡ program_of q

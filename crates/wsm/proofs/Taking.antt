@@ -6,7 +6,7 @@ use Rattle.wsm_semantics.specs.Text.{lines_text}
 use Rattle.wsm_program.specs.Program.{Program}
 use Rattle.wsm_machine.specs.Meaning.{query_of}
 use Rattle.wsm.specs.declared.turns.Turns.{Turns}
-use Rattle.wsm.specs.Turns.{Adds, Turned, names}
+use Rattle.wsm.specs.Turns.{Adds, Turned}
 
 -- the number of the next row
 pub one_more : (k : ℕ) → counter (suc k) ≡ counter (k + 1)
@@ -26,5 +26,5 @@ rows_counted rows fed faults h k = let all = events_and_faults rows in omega ari
 pub turned : (p : Program) (mid new : Turns) (before : List Row) (row : Row) → mid.lines.items ≡ [] → Adds p mid new before row → Turned p new before row
 turned p mid new before row none adds = record {
   fits = adds.fits;
-  lines = adds.lines ∙ ap (λ (l : List ℕ). l ++ lines_text (names p) (turn_lines (query_of p) before row)) none;
+  lines = adds.lines ∙ ap (λ (l : List ℕ). l ++ lines_text p.header.schema (turn_lines (query_of p) before row)) none;
 }

@@ -5,7 +5,8 @@ use Rattle.std.specs.Prelude.{◌≢◌}
 use Rattle.wsm_admission.specs.declared.verdict.Refusal.{Refusal}
 use Rattle.wsm_admission.specs.declared.verdict.Refusal.TheVariants as refusal
 use Rattle.wsm_semantics.specs.Lines.{Line, Refused, refusal_lines}
-use Rattle.wsm_semantics.specs.Text.{Names, line_text, lines_text}
+use Rattle.wsm_record.specs.Schema.{Declared}
+use Rattle.wsm_semantics.specs.Text.{line_text, lines_text}
 
 -- a refusal has a line, but for a late record
 told : (row : ℕ) (why : Refusal) → why ≢ refusal.Late → refusal_lines row (Some why) ≡ Refused row why ∷ []
@@ -17,14 +18,14 @@ told row refusal.TooFarAhead h = refl
 told row refusal.RecordLimit h = refl
 told row refusal.NotRising h = refl
 
-pub one_line : (names : Names) (line : Line) → lines_text names (line ∷ []) ≡ line_text names line
-one_line names line = append-nil (line_text names line)
+pub one_line : (declared : Declared) (line : Line) → lines_text declared (line ∷ []) ≡ line_text declared line
+one_line declared line = append-nil (line_text declared line)
 
-pub told_text : (names : Names) (row : ℕ) (why : Refusal) → why ≢ refusal.Late → line_text names (Refused row why) ≡ lines_text names (refusal_lines row (Some why))
-told_text names row why h = sym (one_line names (Refused row why)) ∙ ap (lines_text names) (sym (told row why h))
+pub told_text : (declared : Declared) (row : ℕ) (why : Refusal) → why ≢ refusal.Late → line_text declared (Refused row why) ≡ lines_text declared (refusal_lines row (Some why))
+told_text declared row why h = sym (one_line declared (Refused row why)) ∙ ap (lines_text declared) (sym (told row why h))
 
 -- lines behind lines
-pub joined_lines : (names : Names) (old mid new : List ℕ) (first second : List Line) → mid ≡ old ++ lines_text names first → new ≡ mid ++ lines_text names second → new ≡ old ++ lines_text names (first ++ second)
-joined_lines names old mid new first second h k =
-    k ∙ ap (λ t. t ++ lines_text names second) h ∙ append_assoc old (lines_text names first) (lines_text names second)
-    ∙ ap (λ t. old ++ t) (sym (flat_map-append (line_text names) first second))
+pub joined_lines : (declared : Declared) (old mid new : List ℕ) (first second : List Line) → mid ≡ old ++ lines_text declared first → new ≡ mid ++ lines_text declared second → new ≡ old ++ lines_text declared (first ++ second)
+joined_lines declared old mid new first second h k =
+    k ∙ ap (λ t. t ++ lines_text declared second) h ∙ append_assoc old (lines_text declared first) (lines_text declared second)
+    ∙ ap (λ t. old ++ t) (sym (flat_map-append (line_text declared) first second))

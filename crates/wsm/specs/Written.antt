@@ -9,56 +9,56 @@ use Rattle.wsm_csv.specs.Device.{TakesPart}
 use Rattle.wsm_csv.specs.Records.{AreAll, AreFirst}
 use Rattle.wsm.specs.declared.end.End.{End as Ending}
 use Rattle.wsm.specs.declared.end.End.TheVariants as ends
-use Rattle.wsm.specs.Asked.{Asked}
+use Rattle.wsm_semantics.specs.Query.{Query as Meant}
 
 -- the cells of a row
 abbrev pub Cells : Type 0
 Cells = List (List ℕ)
 
 -- the rows that were read, the newest first
-abbrev pub rows_of : Asked → List Cells → List Row
-rows_of asked cells = reverse (map (event_of_cells asked.query.declared) cells)
+abbrev pub rows_of : Meant → List Cells → List Row
+rows_of q cells = reverse (map (event_of_cells q.declared) cells)
 
 -- the bytes of the turns of these rows
-unfoldable pub turns_text : Asked → List Cells → List ℕ
-turns_text asked cells = lines_text asked.names (lines_so_far asked.query (rows_of asked cells))
+unfoldable pub turns_text : Meant → List Cells → List ℕ
+turns_text q cells = lines_text q.declared (lines_so_far q (rows_of q cells))
 
 -- the bytes that are written for an input of these rows
-unfoldable pub input_text : Asked → List Cells → List ℕ
-input_text asked cells = text asked.names asked.query (rows_of asked cells)
+unfoldable pub input_text : Meant → List Cells → List ℕ
+input_text q cells = text q (rows_of q cells)
 
 -- the last line, with these totals
 abbrev pub line_of : Totals → Line
 line_of t = End t.rows t.admitted t.late t.refused t.panes
 
 -- a run that ends well: it read all rows, and wrote their text
-pub record Completes (known : Option (List ℕ)) (asked : Asked) (cells : List Cells) (old new : Option (List ℕ)) (totals : Totals) : Type 0 where
+pub record Completes (known : Option (List ℕ)) (q : Meant) (cells : List Cells) (old new : Option (List ℕ)) (totals : Totals) : Type 0 where
   pub all : AreAll known cells
-  pub text : Appends old new (input_text asked cells)
-  pub numbers : line_of totals ≡ end_line asked.query (rows_of asked cells)
+  pub text : Appends old new (input_text q cells)
+  pub numbers : line_of totals ≡ end_line q (rows_of q cells)
 
 -- a run that ends between two turns: it wrote the turns of the first rows, each whole
-pub record BreaksOff (known : Option (List ℕ)) (asked : Asked) (cells : List Cells) (old new : Option (List ℕ)) : Type 0 where
+pub record BreaksOff (known : Option (List ℕ)) (q : Meant) (cells : List Cells) (old new : Option (List ℕ)) : Type 0 where
   pub first : AreFirst known cells
-  pub text : Appends old new (turns_text asked cells)
+  pub text : Appends old new (turns_text q cells)
 
 -- a run that ends within a turn: it wrote a beginning of the turns of the rows that it read
-pub record BreaksWithin (known : Option (List ℕ)) (asked : Asked) (cells : List Cells) (old new : Option (List ℕ)) : Type 0 where
+pub record BreaksWithin (known : Option (List ℕ)) (q : Meant) (cells : List Cells) (old new : Option (List ℕ)) : Type 0 where
   pub first : AreFirst known cells
-  pub part : TakesPart old new (turns_text asked cells)
+  pub part : TakesPart old new (turns_text q cells)
 
 -- a run that ends in its last line: it read all rows, and wrote a beginning of their text
-pub record BreaksLast (known : Option (List ℕ)) (asked : Asked) (cells : List Cells) (old new : Option (List ℕ)) : Type 0 where
+pub record BreaksLast (known : Option (List ℕ)) (q : Meant) (cells : List Cells) (old new : Option (List ℕ)) : Type 0 where
   pub all : AreAll known cells
-  pub part : TakesPart old new (input_text asked cells)
+  pub part : TakesPart old new (input_text q cells)
 
 -- how a run that was begun ends early: want of memory and of rows comes between turns, a failed device anywhere
-abbrev pub EndsEarly : Option (List ℕ) → Asked → List Cells → Option (List ℕ) → Option (List ℕ) → Ending → Type 0
-EndsEarly known asked cells old new (ends.Refused why) = ⊥
-EndsEarly known asked cells old new (ends.Rejected why) = ⊥
-EndsEarly known asked cells old new ends.Memory = BreaksOff known asked cells old new
-EndsEarly known asked cells old new ends.ReadFailed = BreaksOff known asked cells old new
-EndsEarly known asked cells old new ends.WriteFailed = BreaksWithin known asked cells old new ⊎ BreaksLast known asked cells old new
+abbrev pub EndsEarly : Option (List ℕ) → Meant → List Cells → Option (List ℕ) → Option (List ℕ) → Ending → Type 0
+EndsEarly known q cells old new (ends.Refused why) = ⊥
+EndsEarly known q cells old new (ends.Rejected why) = ⊥
+EndsEarly known q cells old new ends.Memory = BreaksOff known q cells old new
+EndsEarly known q cells old new ends.ReadFailed = BreaksOff known q cells old new
+EndsEarly known q cells old new ends.WriteFailed = BreaksWithin known q cells old new ⊎ BreaksLast known q cells old new
 
 -- a run that isn't begun: it ends so, or for want of memory, and nothing was written
 pub record NeverBegins (why : Ending) (old new : Option (List ℕ)) (result : Result Totals Ending) : Type 0 where

@@ -37,7 +37,7 @@
 //!
 //! [`compile_text`] gives the bytes of a query's program, and [`judge`] writes what the verifier says
 //! of a program. `judged` goes from texts and bytes to verified programs, `turns` keeps what the rows
-//! so far come to, `columns` has the lines of a turn's rows, `run` goes from the reader to the device,
+//! so far come to, `run` goes from the reader to the device,
 //! and `words` reads the words of the program with the texts of `help`.
 #![tactic(auto)]
 
@@ -53,7 +53,6 @@ pub use wsm_program::DecodeRefusal;
 pub use wsm_tokens::{Fault, Place};
 pub use wsm_verifier::Rejection;
 
-mod columns;
 mod compile;
 mod end;
 mod help;

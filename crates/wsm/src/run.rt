@@ -6,7 +6,8 @@ ghost use Rattle.wsm_verifier.specs.Rules.{judge};
 ghost use Rattle.wsm_query.specs.Tree.{Query};
 ghost use Rattle.wsm_compiler.specs.Program.{program_of};
 ghost use Rattle.wsm_csv.specs.Records.{AreAll};
-ghost use Rattle.wsm.specs.Asked.{asked_by_program, asked_by_query};
+ghost use Rattle.wsm_machine.specs.Meaning.{query_of};
+ghost use Rattle.wsm_compiler.specs.Means.{meant};
 ghost use Rattle.wsm.specs.Begun.{IsAcceptedProgram, IsAcceptedQuery};
 ghost use Rattle.wsm.specs.Ends.{hides_memory};
 ghost use Rattle.wsm.specs.Judged.{bytes_judged, text_judged};
@@ -45,10 +46,10 @@ pub fn run_query<R: Read + Drop, D: Device>(
     // So does a query whose program is rejected.
     ensures rejected { (q : Query) (why : Rejection) → text_judged text.now ≡ Ok q → judge (program_of q) ≡ Err why → NeverBegins (End.Rejected why) (D.taken out.old) (D.taken out.new) result }
     // The run of any other ends well where it read all rows and wrote what the query means for them,
-    ensures completes { (q : Query) → IsAcceptedQuery text.now q → IfOk result (λ totals. (cells : List Cells) × Completes (R.remaining rows) (asked_by_query q) cells (D.taken out.old) (D.taken out.new) totals) }
+    ensures completes { (q : Query) → IsAcceptedQuery text.now q → IfOk result (λ totals. (cells : List Cells) × Completes (R.remaining rows) (meant q) cells (D.taken out.old) (D.taken out.new) totals) }
     ensures flushed { OnOk result (D.is_flushed out.new ≡ true) }
     // and else for want of memory, of rows or of a device that works, with a beginning of this written.
-    ensures ends_early { (q : Query) → IsAcceptedQuery text.now q → IfErr result (λ end. (cells : List Cells) × EndsEarly (R.remaining rows) (asked_by_query q) cells (D.taken out.old) (D.taken out.new) end) }
+    ensures ends_early { (q : Query) → IsAcceptedQuery text.now q → IfErr result (λ end. (cells : List Cells) × EndsEarly (R.remaining rows) (meant q) cells (D.taken out.old) (D.taken out.new) end) }
     ensures write_failed { result ≡ Err End.WriteFailed → D.has_failed out.new ≡ true }
     ensures memory_apart { IfErr result (λ end. hides_memory end ≡ false) }
 {
@@ -73,10 +74,10 @@ pub fn run_program<R: Read + Drop, D: Device>(
     // So does a program that is rejected.
     ensures rejected { (p : Value) (why : Rejection) → bytes_judged program.now ≡ Ok p → judge p ≡ Err why → NeverBegins (End.Rejected why) (D.taken out.old) (D.taken out.new) result }
     // The run of any other ends well where it read all rows and wrote what the program means for them,
-    ensures completes { (p : Value) → IsAcceptedProgram program.now p → IfOk result (λ totals. (cells : List Cells) × Completes (R.remaining rows) (asked_by_program p) cells (D.taken out.old) (D.taken out.new) totals) }
+    ensures completes { (p : Value) → IsAcceptedProgram program.now p → IfOk result (λ totals. (cells : List Cells) × Completes (R.remaining rows) (query_of p) cells (D.taken out.old) (D.taken out.new) totals) }
     ensures flushed { OnOk result (D.is_flushed out.new ≡ true) }
     // and else for want of memory, of rows or of a device that works, with a beginning of this written.
-    ensures ends_early { (p : Value) → IsAcceptedProgram program.now p → IfErr result (λ end. (cells : List Cells) × EndsEarly (R.remaining rows) (asked_by_program p) cells (D.taken out.old) (D.taken out.new) end) }
+    ensures ends_early { (p : Value) → IsAcceptedProgram program.now p → IfErr result (λ end. (cells : List Cells) × EndsEarly (R.remaining rows) (query_of p) cells (D.taken out.old) (D.taken out.new) end) }
     ensures write_failed { result ≡ Err End.WriteFailed → D.has_failed out.new ≡ true }
     ensures memory_apart { IfErr result (λ end. hides_memory end ≡ false) }
 {
@@ -93,9 +94,9 @@ fn run_judged<R: Read + Drop, D: Device>(
 ) -> Result<Totals, End>
     requires { D.has_failed out.old ≡ false }
     ensures rejected { (why : Rejection) → judge program ≡ Err why → NeverBegins (End.Rejected why) (D.taken out.old) (D.taken out.new) result }
-    ensures completes { IfOk result (λ totals. (cells : List Cells) × Completes (R.remaining rows) (asked_by_program program) cells (D.taken out.old) (D.taken out.new) totals) }
+    ensures completes { IfOk result (λ totals. (cells : List Cells) × Completes (R.remaining rows) (query_of program) cells (D.taken out.old) (D.taken out.new) totals) }
     ensures flushed { OnOk result (D.is_flushed out.new ≡ true) }
-    ensures ends_early { is_ok (judge program) ≡ true → IfErr result (λ end. (cells : List Cells) × EndsEarly (R.remaining rows) (asked_by_program program) cells (D.taken out.old) (D.taken out.new) end) }
+    ensures ends_early { is_ok (judge program) ≡ true → IfErr result (λ end. (cells : List Cells) × EndsEarly (R.remaining rows) (query_of program) cells (D.taken out.old) (D.taken out.new) end) }
     ensures write_failed { result ≡ Err End.WriteFailed → D.has_failed out.new ≡ true }
     ensures memory_apart { IfErr result (λ end. hides_memory end ≡ false) }
 {
@@ -111,9 +112,9 @@ fn run_verified<R: Read + Drop, D: Device>(
     out: &mut D,
 ) -> Result<Totals, End>
     requires { D.has_failed out.old ≡ false }
-    ensures completes { IfOk result (λ totals. (cells : List Cells) × Completes (R.remaining rows) (asked_by_program verified) cells (D.taken out.old) (D.taken out.new) totals) }
+    ensures completes { IfOk result (λ totals. (cells : List Cells) × Completes (R.remaining rows) (query_of verified) cells (D.taken out.old) (D.taken out.new) totals) }
     ensures flushed { OnOk result (D.is_flushed out.new ≡ true) }
-    ensures ends_early { IfErr result (λ end. (cells : List Cells) × EndsEarly (R.remaining rows) (asked_by_program verified) cells (D.taken out.old) (D.taken out.new) end) }
+    ensures ends_early { IfErr result (λ end. (cells : List Cells) × EndsEarly (R.remaining rows) (query_of verified) cells (D.taken out.old) (D.taken out.new) end) }
     ensures write_failed { result ≡ Err End.WriteFailed → D.has_failed out.new ≡ true }
 {
     let mut turns = Turns::open(alloc, verified)?;
@@ -128,9 +129,9 @@ fn run_turns<R: Read + Drop, D: Device>(
     out: &mut D,
 ) -> Result<Totals, End>
     requires { D.has_failed out.old ≡ false }
-    ensures completes { (p : Value) → Fits p turns.old [] → IfOk result (λ totals. (cells : List Cells) × Completes (R.remaining rows) (asked_by_program p) cells (D.taken out.old) (D.taken out.new) totals) }
+    ensures completes { (p : Value) → Fits p turns.old [] → IfOk result (λ totals. (cells : List Cells) × Completes (R.remaining rows) (query_of p) cells (D.taken out.old) (D.taken out.new) totals) }
     ensures flushed { OnOk result (D.is_flushed out.new ≡ true) }
-    ensures ends_early { (p : Value) → Fits p turns.old [] → IfErr result (λ end. (cells : List Cells) × EndsEarly (R.remaining rows) (asked_by_program p) cells (D.taken out.old) (D.taken out.new) end) }
+    ensures ends_early { (p : Value) → Fits p turns.old [] → IfErr result (λ end. (cells : List Cells) × EndsEarly (R.remaining rows) (query_of p) cells (D.taken out.old) (D.taken out.new) end) }
     ensures write_failed { result ≡ Err End.WriteFailed → D.has_failed out.new ≡ true }
 {
     take_rows(alloc, turns, rows, out)?;
@@ -146,7 +147,7 @@ fn take_rows<R: Read + Drop, D: Device>(
 ) -> Result<(), End>
     requires { D.has_failed out.old ≡ false }
     ensures taken { (p : Value) → Fits p turns.old [] → IfOk result (λ _. (cells : List Cells) × AreAll (R.remaining reader) cells × Stands p cells (D.taken out.old) (D.taken out.new) turns.new) }
-    ensures ends_early { (p : Value) → Fits p turns.old [] → IfErr result (λ end. (cells : List Cells) × EndsEarly (R.remaining reader) (asked_by_program p) cells (D.taken out.old) (D.taken out.new) end) }
+    ensures ends_early { (p : Value) → Fits p turns.old [] → IfErr result (λ end. (cells : List Cells) × EndsEarly (R.remaining reader) (query_of p) cells (D.taken out.old) (D.taken out.new) end) }
     ensures works { OnOk result (D.has_failed out.new ≡ false) }
     ensures write_failed { result ≡ Err End.WriteFailed → D.has_failed out.new ≡ true }
 {
@@ -162,10 +163,10 @@ fn take_rows<R: Read + Drop, D: Device>(
 fn finish<D: Device>(turns: &mut Turns, out: &mut D) -> Result<Totals, End>
     requires { D.has_failed out.old ≡ false }
     ensures completes { (known : Option (List ℕ)) (p : Value) (cells : List Cells) (old : Option (List ℕ)) → AreAll known cells → Stands p cells old (D.taken out.old) turns.old →
-        IfOk result (λ totals. Completes known (asked_by_program p) cells old (D.taken out.new) totals) }
+        IfOk result (λ totals. Completes known (query_of p) cells old (D.taken out.new) totals) }
     ensures flushed { OnOk result (D.is_flushed out.new ≡ true) }
     ensures ends_early { (known : Option (List ℕ)) (p : Value) (cells : List Cells) (old : Option (List ℕ)) → AreAll known cells → Stands p cells old (D.taken out.old) turns.old →
-        IfErr result (λ end. EndsEarly known (asked_by_program p) cells old (D.taken out.new) end) }
+        IfErr result (λ end. EndsEarly known (query_of p) cells old (D.taken out.new) end) }
     ensures write_failed { result ≡ Err End.WriteFailed → D.has_failed out.new ≡ true }
 {
     let totals = turns.end()?;

@@ -1,18 +1,20 @@
 //! The turns of a run.
 
-ghost use Rattle.std.specs.Prelude.{◌≡◌, ◌++◌, Some, OnOk};
-ghost use Rattle.wsm_semantics.specs.Lines.{refusal_lines};
-ghost use Rattle.wsm_semantics.specs.Text.{Names, lines_text};
+ghost use Rattle.std.specs.Prelude.{◌≡◌, ◌++◌, Some, OnOk, map};
+ghost use Rattle.wsm_semantics.specs.Lines.{Out, refusal_lines};
+ghost use Rattle.wsm_record.specs.Schema.{Declared};
+ghost use Rattle.wsm_semantics.specs.Text.{lines_text};
 
-use crate::columns::add_rows;
 use csv::ByteRecord;
 use std::alloc::{AllocError, Global};
 use wsm_admission::Refusal;
 use wsm_csv::{
-    Device, DeviceFault, RowRefusal, end_text, fault_text, read_row_into, refusal_text, write_out,
+    Device, DeviceFault, RowRefusal, end_text, fault_text, read_row_into, refusal_text, row_text,
+    write_out,
 };
 use wsm_engine::{Engine, Totals};
-use wsm_record::{Event, RowFault, Value};
+use wsm_record::{Event, RowFault, Schema, Value};
+use wsm_semantics::OutRow;
 use wsm_verifier::Verified;
 
 /// What the turns so far come to: an engine, and the lines of the last turn.
@@ -78,13 +80,13 @@ impl Turns {
     {
         let reply = self.engine.feed(&self.event);
         self.tell(reply.refusal)?;
-        add_rows(self.engine.program(), self.engine.rows(), &mut self.lines)?;
+        add_rows(self.engine.schema(), self.engine.rows(), &mut self.lines)?;
         Ok(())
     }
 
     // Adds the line of the last row's refusal, if there is one.
     fn tell(&mut self, refusal: Option<Refusal>) -> Result<(), AllocError>
-        ensures lines { (p : Program) (rows : List Row) → Fits p self.old rows → (names : Names) → OnOk result (self.new.lines.items ≡ self.old.lines.items ++ lines_text names (refusal_lines (counter (length rows)) refusal)) }
+        ensures lines { (p : Program) (rows : List Row) → Fits p self.old rows → (declared : Declared) → OnOk result (self.new.lines.items ≡ self.old.lines.items ++ lines_text declared (refusal_lines (counter (length rows)) refusal)) }
         ensures others { self.new ≡ record self.old { lines = self.new.lines } }
     {
         match refusal {
@@ -146,9 +148,19 @@ impl Turns {
     }
 }
 
+// Adds a line for each row.
+fn add_rows(schema: &Schema, rows: &[OutRow], lines: &mut Vec<u8>) -> Result<(), AllocError>
+    ensures { OnOk result (lines.new.items ≡ lines.old.items ++ lines_text schema.now (map Out rows.now)) }
+{
+    for row in rows {
+        row_text(schema, row, lines)?;
+    }
+    Ok(())
+}
+
 // Adds the line of a refusal; a late record has none.
 fn add_refusal(row: u64, why: Refusal, lines: &mut Vec<u8>) -> Result<(), AllocError>
-    ensures { (names : Names) → OnOk result (lines.new.items ≡ lines.old.items ++ lines_text names (refusal_lines row (Some why))) }
+    ensures { (declared : Declared) → OnOk result (lines.new.items ≡ lines.old.items ++ lines_text declared (refusal_lines row (Some why))) }
 {
     match why {
         Refusal::Late => Ok(()),

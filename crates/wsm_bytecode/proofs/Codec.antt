@@ -6,8 +6,8 @@ use Rattle.std.specs.Int.{w8, w16}
 use Rattle.std.proofs.lemmas.Bool.{true≢false, ltb-true, leb-true, le-leb, and_parts, and_from}
 use Rattle.wsm_program.specs.declared.instr.Instr.{Instr}
 use Rattle.wsm_program.specs.declared.instr.Instr.TheVariants.{PushInt, PushBool, PushEnum, Field, Key, Acc, Count, Operate, Jump, JumpIfFalse, Fold, Return}
-use Rattle.wsm_program.specs.Program.{Name, names_of_type, names_of_field, Header, Program, is_name_of, is_instr, is_section, is_header, is_program, enum_names, latest_time, is_span, is_size}
-use Rattle.wsm_record.specs.Schema.{FieldType, Int, Truth, Enum, DeclaredField, Declared, is_name_list, are_names_after, is_field_after, are_fields_after, is_field_type, is_schema, is_within}
+use Rattle.wsm_program.specs.Program.{Name, Header, Program, is_name_of, is_instr, is_section, is_header, is_program, latest_time, is_span, is_size}
+use Rattle.wsm_record.specs.Schema.{FieldType, Int, Truth, Enum, DeclaredField, Declared, is_name_list, are_names_after, is_field_after, are_fields_after, is_field_type, is_schema, is_within, names_of_type, names_of_field, enum_names}
 use Rattle.wsm_record.specs.Name.{is_name, is_among, is_between}
 use Rattle.wsm_bytecode.specs.Reading.{judged, number_at, signed_at, enum_number_at, push_int_at, push_bool_at, push_enum_at, index_at, target_at, plain_instr, instr_by, instr_at, code_at, several, after_magic, after_version, schema_at, shape_at, mode_at, form_at, kinds_at, columns_at, budget_at, header_at, program_at, decode}
 use Rattle.wsm_program.specs.declared.operation.Operation.{Operation}

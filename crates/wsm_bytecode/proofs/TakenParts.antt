@@ -11,8 +11,8 @@ use Rattle.wsm_windows.specs.declared.Shape.{Shape}
 use Rattle.wsm_windows.specs.declared.Shape.TheVariants.{Fixed, Sliding, Session}
 use Rattle.wsm_record.specs.declared.Mode.{Mode}
 use Rattle.wsm_record.specs.declared.Form.{Form}
-use Rattle.wsm_program.specs.Program.{Name, is_size, is_shape, is_form_of, is_column, is_stated, is_budget, enum_names}
-use Rattle.wsm_record.specs.Schema.{FieldType, Int, Truth, Enum, DeclaredField, Declared, are_names_after, is_name_list, is_field_type, is_field_after, are_fields_after, is_schema, is_within}
+use Rattle.wsm_program.specs.Program.{Name, is_size, is_shape, is_form_of, is_column, is_stated, is_budget}
+use Rattle.wsm_record.specs.Schema.{FieldType, Int, Truth, Enum, DeclaredField, Declared, are_names_after, is_name_list, is_field_type, is_field_after, are_fields_after, is_schema, is_within, enum_names}
 use Rattle.wsm_program.specs.declared.program.Costs.{Costs}
 use Rattle.wsm_record.specs.Name.{is_between, is_name, is_among}
 use Rattle.wsm_bytecode.specs.Reading.{◌>>=◌, judged, bytes_at, number_at, signed_at, name_at, names_after, names_at, interval_at, enum_at, field_type_by, field_type_at, new_field_at, fields_after, schema_at, shape_at, fixed_at, sliding_at, session_at, shape_by, mode_at, mode_by, form_at, form_by, kind_at, kind_by, kinds_at, enum_number_at, enum_column_at, column_by, column_at, columns_at, budget_at, several}

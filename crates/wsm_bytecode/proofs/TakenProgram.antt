@@ -14,9 +14,9 @@ use Rattle.wsm_windows.specs.declared.Shape.{Shape}
 use Rattle.wsm_record.specs.declared.Mode.{Mode}
 use Rattle.wsm_record.specs.declared.Form.{Form}
 use Rattle.wsm_program.specs.declared.instr.Instr.TheVariants.{PushInt, PushBool, PushEnum, Field, Key, Acc, Count, Operate, Jump, JumpIfFalse, Fold, Return}
-use Rattle.wsm_record.specs.Schema.{Declared, is_schema, is_within}
+use Rattle.wsm_record.specs.Schema.{Declared, is_schema, is_within, enum_names}
 use Rattle.wsm_program.specs.declared.program.Costs.{Costs}
-use Rattle.wsm_program.specs.Program.{Header, Program, is_name_of, is_instr, is_section, is_header, is_program, enum_names, latest_time, is_span, is_size, is_column}
+use Rattle.wsm_program.specs.Program.{Header, Program, is_name_of, is_instr, is_section, is_header, is_program, latest_time, is_span, is_size, is_column}
 use Rattle.wsm_record.specs.Name.{is_between}
 use Rattle.wsm_bytecode.specs.Reading.{◌>>=◌, Read, judged, number_at, signed_at, enum_number_at, push_int_at, push_bool_at, push_enum_at, index_at, target_at, plain_instr, plain_at, instr_by, instr_at, code_at, several, after_magic, after_version, bytes_at, schema_at, shape_at, mode_at, form_at, kinds_at, columns_at, budget_at, header_at, program_at, all_read, decode}
 use Rattle.wsm_program.specs.declared.operation.Operation.{Operation}

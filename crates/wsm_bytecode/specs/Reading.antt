@@ -15,8 +15,8 @@ use Rattle.wsm_record.specs.declared.Form.{Form}
 use Rattle.wsm_record.specs.declared.Form.TheVariants.{Panes, Istream, Dstream, Rstream}
 use Rattle.wsm_program.specs.declared.refusal.DecodeRefusal.{DecodeRefusal}
 use Rattle.wsm_program.specs.declared.refusal.DecodeRefusal.TheVariants.{BadMagic, Version, Truncated, UnknownOpcode, Operand, TrailingBytes, Memory}
-use Rattle.wsm_program.specs.Program.{Name, Header, Program, enum_names, is_name_of, latest_time, is_span, is_size, is_form_of, is_stated}
-use Rattle.wsm_record.specs.Schema.{FieldType, Int, Truth, Enum, DeclaredField, Declared, is_within}
+use Rattle.wsm_program.specs.Program.{Name, Header, Program, is_name_of, latest_time, is_span, is_size, is_form_of, is_stated}
+use Rattle.wsm_record.specs.Schema.{FieldType, Int, Truth, Enum, DeclaredField, Declared, is_within, enum_names}
 use Rattle.wsm_program.specs.declared.program.Costs.{Costs}
 use Rattle.wsm_record.specs.declared.limits.TheConstants.{MAX_ACCUMULATORS, MAX_COLUMNS, MAX_FIELDS, MAX_NAME, MAX_NAMES, MAX_PANES, MAX_SECTION}
 use Rattle.wsm_record.specs.Name.{is_between, is_name, is_among}

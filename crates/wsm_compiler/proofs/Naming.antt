@@ -7,8 +7,8 @@ use Rattle.std.specs.List.{list_all}
 use Rattle.std.proofs.lemmas.Bool.{and_from, and_parts, not-true}
 use Rattle.std.proofs.Math.Bool.{or-false}
 use Rattle.wsm_record.specs.Name.{is_name, is_among}
-use Rattle.wsm_record.specs.Schema.{DeclaredField, FieldType, are_names_after, is_name_list}
-use Rattle.wsm_program.specs.Program.{names_of_type, names_of_field, is_name_of}
+use Rattle.wsm_record.specs.Schema.{DeclaredField, FieldType, are_names_after, is_name_list, names_of_type, names_of_field}
+use Rattle.wsm_program.specs.Program.{is_name_of}
 use Rattle.wsm_record.specs.Schema as field_types
 use Rattle.wsm_query.specs.Tree.{Name}
 use Rattle.wsm_check.specs.declared.refusal.CheckFault.TheVariants.{Duplicate, Limit}

@@ -7,6 +7,7 @@ use Rattle.std.specs.List.{AllByRecursion, cons_option, list_all, list_any}
 use Rattle.std.specs.FinMap.Entries.{where_key}
 use Rattle.std.proofs.lemmas.Bool.{and_from, and_parts}
 use Rattle.wsm_record.specs.declared.event.Value.{Value}
+use Rattle.wsm_record.specs.declared.cell.Cell.{Cell}
 use Rattle.wsm_record.specs.declared.words.Form.{Form}
 use Rattle.wsm_record.specs.declared.words.Form.TheVariants as form
 use Rattle.wsm_record.specs.Event.{Event, Record, Watermark}
@@ -46,7 +47,7 @@ each : {A : Type 0} (P Q : A → Type 0) → ((x : A) → P x → Q x) → (xs :
 each P Q f [] h = tt
 each P Q f (x ∷ xs) h = (f x h.0, each P Q f xs h.1)
 
-module _ (m : Meant) (sel : ℕ → List Value → Bool) (row : ℕ → List Datum → Option (List Value)) where
+module _ (m : Meant) (sel : ℕ → List Value → Bool) (row : ℕ → List Datum → Option (List Cell)) where
   -- the clauses of the first, with other meanings of WHERE and of rows
   abbrev other : Meant
   other = record m { selects = sel; row = row }
@@ -109,10 +110,10 @@ module _ (m : Meant) (sel : ℕ → List Value → Bool) (row : ℕ → List Dat
     standing_row None h = refl
     standing_row (Some f) h = agree.rows f.place.key f.fired h
 
-    abbrev standing_in : List Firing → Place × List Datum → Option (List Value)
+    abbrev standing_in : List Firing → Place × List Datum → Option (List Cell)
     standing_in fs p = option_and_then (λ f. m.row f.place.key f.fired) (standing m fs p.0 p.1)
 
-    abbrev other_standing_in : List Firing → Place × List Datum → Option (List Value)
+    abbrev other_standing_in : List Firing → Place × List Datum → Option (List Cell)
     other_standing_in fs p = option_and_then (λ f. row f.place.key f.fired) (standing m fs p.0 p.1)
 
     all_standing : (fs : List Firing) → AllByRecursion (IsOfSet m) fs → (ps : List (Place × List Datum)) → AllByRecursion (λ p. standing_in fs p ≡ other_standing_in fs p) ps

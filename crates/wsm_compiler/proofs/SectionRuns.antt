@@ -11,7 +11,7 @@ use Rattle.wsm_program.specs.declared.instr.Instr.{Instr}
 use Rattle.wsm_program.specs.declared.instr.Instr.TheVariants as instr
 use Rattle.wsm_program.specs.declared.instr.SectionId.TheVariants.{Where, Fire}
 use Rattle.wsm_program.specs.declared.program.Costs.{Costs}
-use Rattle.wsm_machine.specs.declared.cell.Cell.{Cell}
+use Rattle.wsm_record.specs.declared.cell.Cell.{Cell}
 use Rattle.wsm_machine.specs.declared.outcome.Outcome.TheVariants.{Done}
 use Rattle.wsm_machine.specs.declared.outcome.Trap.TheVariants.{Underflow, BadReturn}
 use Rattle.wsm_machine.specs.declared.run.Ran.{Ran}

@@ -12,7 +12,7 @@ use Rattle.wsm_program.specs.Program.{is_program}
 use Rattle.wsm_program.specs.declared.program.Costs.{Costs}
 use Rattle.wsm_verifier.specs.declared.rejection.Rejection.{Rejection}
 use Rattle.wsm_verifier.specs.Rules.{judge}
-use Rattle.wsm_machine.specs.declared.cell.Cell.{Cell}
+use Rattle.wsm_record.specs.declared.cell.Cell.{Cell}
 use Rattle.wsm_machine.specs.declared.outcome.Outcome.{Outcome}
 use Rattle.wsm_machine.specs.declared.outcome.Outcome.TheVariants.{Done, Trap as Trapped}
 use Rattle.wsm_machine.specs.declared.outcome.Trap.{Trap}

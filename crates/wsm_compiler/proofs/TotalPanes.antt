@@ -1,9 +1,9 @@
 -- FIRE of an accepted query ends on each pane in range, on what UPDATE's values of its records are folded to; so its row is what the
 -- query's columns and HAVING mean there.
 use Rattle.std.proofs.Common.{◌≡◌, ℕ, suc, ◌+◌, ◌≤◌, ◌<◌, true, ◌&&◌, cond, List, [], ◌∷◌, ◌++◌, length, map, reverse, Option, Some, None, refl, sym, ap, ◌∙◌, arith, append_assoc}
-use Rattle.std.proofs.lemmas.List.{reverse-append, map-append}
+use Rattle.std.proofs.lemmas.List.{reverse-append}
 use Rattle.std.specs.Option.{option_and_then}
-use Rattle.std.specs.Prelude.{pos, nat_lt}
+use Rattle.std.specs.Prelude.{pos, nat_lt, option_map}
 use Rattle.std.specs.List.{AllByRecursion, list_all}
 use Rattle.std.proofs.lemmas.Bool.{and_from, ltb-true, and_parts}
 use Rattle.wsm_record.specs.declared.event.Value.{Value}
@@ -15,26 +15,21 @@ use Rattle.wsm_program.specs.declared.instr.SectionId.TheVariants.{Fire}
 use Rattle.wsm_program.specs.Program.{Program}
 use Rattle.wsm_verifier.specs.Rules.{judge}
 use Rattle.wsm_semantics.specs.Query.{Datum}
-use Rattle.wsm_machine.specs.declared.cell.Cell.{Cell}
+use Rattle.wsm_record.specs.declared.cell.Cell.{Cell}
 use Rattle.wsm_machine.specs.declared.run.Ran.{Ran}
 use Rattle.wsm_machine.specs.Inputs.{Inputs}
 use Rattle.wsm_machine.specs.InRange.{in_range, is_word, are_folded_in, accs_in}
-use Rattle.wsm_machine.specs.Step.{value_of}
 use Rattle.wsm_machine.specs.Sound.{AreFolds}
 use Rattle.wsm_machine.specs.Meaning as program
 use Rattle.wsm_machine.specs.Meaning.{pane_inputs, fire_run, updated, updated_all}
 use Rattle.wsm_machine.proofs.Sounding.{may_fire}
 use Rattle.wsm_machine.proofs.Words.{updated_words}
 use Rattle.wsm_query.specs.Tree.{Query, Expr}
-use Rattle.wsm_record.specs.declared.words.CellType.{CellType}
 use Rattle.wsm_record.specs.declared.words.CellType.TheVariants as types
-use Rattle.wsm_check.specs.Types.{typed}
-use Rattle.wsm_check.specs.declared.types.Around.TheVariants.{InColumn}
 use Rattle.wsm_check.specs.Sizes.{aggregates, accumulators, in_option, fired}
-use Rattle.wsm_compiler.specs.Meaning.{Scene, meaning, meets_i64, all_of, on_records, condition_holds, row}
+use Rattle.wsm_compiler.specs.Meaning.{Scene, meaning, meets_i64, all_of, on_records, condition_holds, column, row}
 use Rattle.wsm_compiler.specs.Means.{meant}
-use Rattle.wsm_check.specs.Parts.{type_or_int}
-use Rattle.wsm_compiler.specs.Program.{schema_of, program_of}
+use Rattle.wsm_compiler.specs.Program.{column_type, schema_of, program_of}
 use Rattle.wsm_compiler.specs.Runs.{cell}
 use Rattle.wsm_compiler.specs.Sections.{in_bounds, condition_value, on_stack, fired_stack, pane_fits}
 use Rattle.wsm_compiler.specs.Folded.{AreUpdates}
@@ -45,16 +40,8 @@ use Rattle.wsm_compiler.proofs.Parts.{none≢some}
 use Rattle.wsm_compiler.proofs.Aggregated.{free, fire_means}
 use Rattle.wsm_compiler.proofs.Holding.{folds_hold}
 use Rattle.wsm_compiler.proofs.Total.{costs_of, ends, left, has_value, in_bounds_is, condition_has, says, selects_same, updated_is, updated_in}
-use Rattle.wsm_compiler.proofs.UpdateRuns.{value_is}
 
 -- ---- the stack that FIRE leaves
-
-abbrev values_up : List Cell → List Value
-values_up stack = map value_of (reverse stack)
-
-values_pushed : (t : CellType) (v : Value) (stack : List Cell) → values_up (cell t v ∷ stack) ≡ values_up stack ++ v ∷ []
-values_pushed t v stack =
-    ap (map value_of) (reverse-append (cell t v ∷ []) stack) ∙ map-append value_of (reverse stack) (cell t v ∷ []) ∙ ap (λ w. values_up stack ++ w ∷ []) (value_is t v)
 
 module _ (q : Query) (key : ℕ) (records : List (List Value)) where
   abbrev s : Scene
@@ -69,40 +56,41 @@ module _ (q : Query) (key : ℕ) (records : List (List Value)) where
 
   -- columns from one on have values, which are pushed, and then HAVING
   record Fired (es : List Expr) (stack out : List Cell) : Type 0 where
-    values : List Value
-    values_are : all_of (map (meaning q s) es) ≡ Some values
+    cells : List Cell
+    cells_are : all_of (map (column q s) es) ≡ Some cells
     columns : AllByRecursion (HasValue q s) es
     top : Value
     top_is : condition_value q s 0 q.having ≡ Some top
     rest : List Cell
     out_is : out ≡ cell types.Bool top ∷ rest
-    rest_is : values_up rest ≡ values_up stack ++ values
+    rest_is : reverse rest ≡ reverse stack ++ cells
 
   having_fired : (o : Option Value) (stack out : List Cell) → condition_value q s 0 q.having ≡ o → on_stack stack o ≡ Some out → Fired [] stack out
   having_fired None stack out is e = none≢some e
   having_fired (Some v) stack out is e = record {
-    values = [];
-    values_are = refl;
+    cells = [];
+    cells_are = refl;
     columns = tt;
     top = v;
     top_is = is;
     rest = stack;
     out_is = ap (λ (o : Option (List Cell)). elim o [ None ↦ [] | Some c ↦ c ]) (sym e);
-    rest_is = sym (nil_right (values_up stack));
+    rest_is = sym (nil_right (reverse stack));
   }
 
-  column_fired : (e : Expr) (es : List Expr) (t : CellType) (stack out : List Cell) (v : Value) → in_bounds q s 0 e ≡ Some v → Fired es (cell t v ∷ stack) out → Fired (e ∷ es) stack out
-  column_fired e es t stack out v h f =
-      let is = (in_bounds_is (meets_i64 q s 0 e) (meaning q s e) v h).0 in
+  column_fired : (e : Expr) (es : List Expr) (stack out : List Cell) (v : Value) → in_bounds q s 0 e ≡ Some v → Fired es (cell (column_type q e) v ∷ stack) out → Fired (e ∷ es) stack out
+  column_fired e es stack out v h f =
+      let it : Cell = cell (column_type q e) v in
+      let is : column q s e ≡ Some it = ap (option_map (cell (column_type q e))) (in_bounds_is (meets_i64 q s 0 e) (meaning q s e) v h).0 in
       record {
-        values = v ∷ f.values;
-        values_are = (λ i. elim (is i) as (λ x. Option (List Value)) [ None ↦ None | Some x ↦ elim (f.values_are i) as (λ y. Option (List Value)) [ None ↦ None | Some xs ↦ Some (x ∷ xs) ] ]);
+        cells = it ∷ f.cells;
+        cells_are = (λ i. elim (is i) as (λ x. Option (List Cell)) [ None ↦ None | Some x ↦ elim (f.cells_are i) as (λ y. Option (List Cell)) [ None ↦ None | Some xs ↦ Some (x ∷ xs) ] ]);
         columns = (has_value q s e v h, f.columns);
         top = f.top;
         top_is = f.top_is;
         rest = f.rest;
         out_is = f.out_is;
-        rest_is = f.rest_is ∙ ap (λ (vs : List Value). vs ++ f.values) (values_pushed t v stack) ∙ append_assoc (values_up stack) (v ∷ []) f.values;
+        rest_is = f.rest_is ∙ ap (λ (cs : List Cell). cs ++ f.cells) (reverse-append (it ∷ []) stack) ∙ append_assoc (reverse stack) (it ∷ []) f.cells;
       }
 
   fired_is : (a : ℕ) (es : List Expr) (stack out : List Cell) → fired_stack q s a es stack ≡ Some out → Fired es stack out
@@ -110,10 +98,9 @@ module _ (q : Query) (key : ℕ) (records : List (List Value)) where
   fired_is a (x ∷ es) stack out e = by_value (λ stack e. fired_is (a + aggregates x) es stack out e) (in_bounds q s a x) refl e
     where
       by_value : ((stack : List Cell) → fired_stack q s (a + aggregates x) es stack ≡ Some out → Fired es stack out) → (o : Option Value) → in_bounds q s a x ≡ o →
-          elim o as (λ y. Option (List Cell)) [ None ↦ None | Some v ↦ fired_stack q s (a + aggregates x) es (cell (type_or_int (typed q InColumn x)) v ∷ stack) ] ≡ Some out → Fired (x ∷ es) stack out
+          elim o as (λ y. Option (List Cell)) [ None ↦ None | Some v ↦ fired_stack q s (a + aggregates x) es (cell (column_type q x) v ∷ stack) ] ≡ Some out → Fired (x ∷ es) stack out
       by_value go None h e = none≢some e
-      by_value go (Some v) h e =
-          let t = type_or_int (typed q InColumn x) in column_fired x es t stack out v (sym (bounds_free a x) ∙ h) (go (cell t v ∷ stack) e)
+      by_value go (Some v) h e = column_fired x es stack out v (sym (bounds_free a x) ∙ h) (go (cell (column_type q x) v ∷ stack) e)
 
   fired_total : (es : List Expr) (o : Option Expr) → AllByRecursion (HasValue q s) es → AllByRecursion (HasValue q s) (in_option o) → AllByRecursion (HasValue q s) (es ++ in_option o)
   fired_total [] o h l = l
@@ -199,8 +186,8 @@ module _ (q : Query) (a : IsAccepted q) (key : ℕ) where
         let f = result in
         let says_top : program.says_true ran ≡ condition_holds q (on_records q key records) q.having =
         says ran f.top f.rest (ends q a Fire d ranged) f.out_is ∙ sym (condition_has q (on_records q key records) q.having f.top f.top_is).1 in
-        let columns : Some (program.values_below ran.stack) ≡ all_of (map (meaning q (on_records q key records)) q.columns) =
-        ap (λ (c : List Cell). Some (program.values_below c)) f.out_is ∙ ap (λ (vs : List Value). Some vs) f.rest_is ∙ sym f.values_are in
+        let columns : Some (program.cells_below ran.stack) ≡ all_of (map (column q (on_records q key records)) q.columns) =
+        ap (λ (cs : List Cell). Some (program.cells_below cs)) f.out_is ∙ ap (λ (cs : List Cell). Some cs) f.rest_is ∙ sym f.cells_are in
         (λ i. cond (says_top i) (columns i) None)
 
     pub row_is : option_and_then (program.row p key (length records)) (folds_of p.header.kinds (rows records)) ≡ row q key records

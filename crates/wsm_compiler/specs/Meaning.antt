@@ -1,9 +1,11 @@
 -- What an expression means, in whole numbers without bound: no stack, no jumps, no width. It is partial, and AND, OR and IF
 -- evaluate only what they need.
-use Rattle.std.specs.Prelude.{ℕ, ◌+◌, Bool, true, false, not, cond, List, [], ◌∷◌, ◌++◌, length, map, ℤ, pos, ◌+ℤ◌, ◌-ℤ◌, ◌*ℤ◌, neg_ℤ, int_lt, int_le, int_div, int_rem, nat_eq, Option, Some, None, slice_get}
+use Rattle.std.specs.Prelude.{ℕ, ◌+◌, Bool, true, false, not, cond, List, [], ◌∷◌, ◌++◌, length, map, ℤ, pos, ◌+ℤ◌, ◌-ℤ◌, ◌*ℤ◌, neg_ℤ, int_lt, int_le, int_div, int_rem, nat_eq, Option, Some, None, option_map, slice_get}
 use Rattle.std.specs.List.{list_all}
 use Rattle.std.specs.Ordering.{int_eq}
 use Rattle.wsm_record.specs.declared.event.Value.{Value}
+use Rattle.wsm_record.specs.declared.cell.Cell.{Cell}
+use Rattle.wsm_record.specs.Types.{cell}
 use Rattle.wsm_record.specs.declared.event.Value.TheVariants.{Int, Bool as Truth', Enum}
 use Rattle.wsm_record.specs.declared.words.Kind.{Kind}
 use Rattle.wsm_record.specs.Schema.{is_i64}
@@ -13,6 +15,7 @@ use Rattle.wsm_query.specs.declared.expr.Op.TheVariants.{Add, Sub, Mul, Div, Rem
 use Rattle.wsm_query.specs.Tree.{Query, Expr, Number, Truth, Field, EnumName, Key, KeyName, Count, Aggregate, If, Brackets, Minus, Not, Binary, And, Or}
 use Rattle.wsm_check.specs.Names.{place_of, field_place, type_of, names_of}
 use Rattle.wsm_check.specs.Sizes.{aggregates}
+use Rattle.wsm_compiler.specs.Program.{column_type}
 
 -- an operator on two numbers, with no value at a zero divisor
 abbrev pub on_numbers : Op → ℤ → ℤ → Option Value
@@ -97,7 +100,7 @@ abbrev pub on_record : ℕ → List Value → Scene
 on_record key values = record { field = λ f. slice_get values f; key = key; count = None; aggregate = λ a kind e. None }
 
 -- all values, where there are all
-abbrev pub all_of : List (Option Value) → Option (List Value)
+abbrev pub all_of : {A : Type 0} → List (Option A) → Option (List A)
 all_of [] = Some []
 all_of (v ∷ vs) = elim v [ None ↦ None | Some x ↦ elim (all_of vs) [ None ↦ None | Some xs ↦ Some (x ∷ xs) ] ]
 
@@ -131,9 +134,13 @@ condition_holds q s (Some e) = is_true (meaning q s e)
 abbrev pub selects : Query → ℕ → List Value → Bool
 selects q key values = condition_holds q (on_record key values) q.condition
 
+-- a column, with its type
+abbrev pub column : Query → Scene → Expr → Option Cell
+column q s e = option_map (cell (column_type q e)) (meaning q s e)
+
 -- the columns over a key and its records, where HAVING is true
-abbrev pub row : Query → ℕ → List (List Value) → Option (List Value)
-row q key records = let s = on_records q key records in cond (condition_holds q s q.having) (all_of (map (meaning q s) q.columns)) None
+abbrev pub row : Query → ℕ → List (List Value) → Option (List Cell)
+row q key records = let s = on_records q key records in cond (condition_holds q s q.having) (all_of (map (column q s) q.columns)) None
 
 -- ---- the numbers that an expression meets
 

@@ -22,7 +22,7 @@ use Rattle.wsm_verifier.specs.declared.rejection.Rejection.{Rejection}
 use Rattle.wsm_verifier.specs.declared.rejection.Rule.TheVariants.{MayDivideByZero, AccumulatorRange}
 use Rattle.wsm_verifier.specs.declared.rejection.Part.TheVariants.{Code}
 use Rattle.wsm_verifier.specs.Rules.{judge}
-use Rattle.wsm_machine.specs.declared.cell.Cell.TheVariants as cells
+use Rattle.wsm_record.specs.declared.cell.Cell.TheVariants as cells
 use Rattle.wsm_machine.specs.declared.outcome.Outcome.TheVariants.{Done}
 use Rattle.wsm_machine.specs.Run.{run}
 use Rattle.wsm_compiler.specs.Meaning.{on_record, meaning, meets_i64, selects, row}
@@ -132,7 +132,7 @@ two_accumulators = refl
 -- ---- meanings
 
 -- a count and a sum of two records
-base_row : row base 0 ((value.Int (pos 7) ∷ []) ∷ (value.Int (pos 3) ∷ []) ∷ []) ≡ Some (value.Int (pos 2) ∷ value.Int (pos 10) ∷ [])
+base_row : row base 0 ((value.Int (pos 7) ∷ []) ∷ (value.Int (pos 3) ∷ []) ∷ []) ≡ Some (cells.Int (pos 2) ∷ cells.Int (pos 10) ∷ [])
 base_row = refl
 
 -- no row where HAVING is false

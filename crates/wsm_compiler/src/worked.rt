@@ -4,9 +4,9 @@ use std::process::Abort;
 use std::test::Fail;
 use wsm_bytecode::{Program, SectionId, encode};
 use wsm_check::check;
-use wsm_machine::{Cell, Inputs, Outcome, Ran, run_any};
+use wsm_machine::{Inputs, Outcome, Ran, run_any};
 use wsm_query::parse;
-use wsm_record::Value;
+use wsm_record::{Cell, Value};
 use wsm_verifier::{Part, Rejection, Rule, verify};
 
 // Counts the records of keys a and b in windows of 60, and sums their field n.

@@ -1,13 +1,15 @@
 -- Lines, cell by cell.
-use Rattle.std.proofs.Common.{◌≡◌, ℕ, zero, suc, ◌+◌, ◌-◌, ◌<◌, true, subst, length, length-drop, get_or, List, [], ◌∷◌, ◌++◌, take, drop, refl, sym, ap, ◌∙◌, append_assoc, append-nil}
+use Rattle.std.proofs.Common.{◌≡◌, ℕ, zero, suc, ◌+◌, ◌-◌, ◌<◌, true, subst, length, length-drop, get_or, map, List, [], ◌∷◌, ◌++◌, take, drop, refl, sym, ap, ◌∙◌, append_assoc, append-nil}
 use Rattle.std.proofs.Math.Seq.{take-length}
 use Rattle.std.specs.Prelude.{OnOk, Result, Ok, Err}
 use Rattle.std.specs.List.{list_all}
-use Rattle.wsm_record.specs.declared.event.Value.{Value}
-use Rattle.wsm_record.specs.declared.event.Value.TheVariants.{Int, Bool as Truth, Enum}
+use Rattle.std.specs.Fmt.{signed_decimal}
+use Rattle.wsm_record.specs.declared.cell.Cell.{Cell}
+use Rattle.wsm_record.specs.declared.cell.Cell.TheVariants.{Int, Bool as Truth, Enum}
+use Rattle.wsm_record.specs.Schema.{Declared}
 use Rattle.wsm_record.proofs.Spellings.{all_more}
-use Rattle.wsm_semantics.specs.Text.{joined, value_text, value_texts}
-use Rattle.wsm_csv.specs.Lines.{cells_text, is_a_number}
+use Rattle.wsm_semantics.specs.Text.{joined, cell_text}
+use Rattle.wsm_csv.specs.Lines.{cells_text, is_a_number, number_text}
 
 -- cells with commas between them are the first, and the others with a comma in front
 pub joined-cells : (cell : List ℕ) (cells : List (List ℕ)) → joined (cell ∷ cells) ≡ cell ++ cells_text cells
@@ -32,21 +34,13 @@ pub on_ok : {T E : Type 0} (r : Result T E) (P Q : Type 0) → (P → Q) → OnO
 on_ok (Ok t) P Q f h = f h
 on_ok (Err e) P Q f h = tt
 
-drop_none : (n : ℕ) → drop {A = List (List ℕ)} n [] ≡ []
-drop_none zero = refl
-drop_none (suc n) = refl
-
--- the cells of a row are those of the numbers in front, and those behind
-pub value_texts-split : (names : List (List (List ℕ))) (vs : List Value) (n : ℕ) → list_all is_a_number (take n vs) ≡ true → value_texts names vs ≡ value_texts [] (take n vs) ++ value_texts (drop n names) (drop n vs)
-value_texts-split names vs zero h = refl
-value_texts-split names [] (suc n) h = refl
-value_texts-split [] (Int k ∷ vs) (suc n) h =
-    ap (λ cells. value_text [] (Int k) ∷ cells) (value_texts-split [] vs n h ∙ ap (λ names. value_texts [] (take n vs) ++ value_texts names (drop n vs)) (drop_none n))
-value_texts-split (ns ∷ names) (Int k ∷ vs) (suc n) h = ap (λ cells. value_text ns (Int k) ∷ cells) (value_texts-split names vs n h)
-value_texts-split [] (Truth b ∷ vs) (suc n) h = cc
-value_texts-split [] (Enum i ∷ vs) (suc n) h = cc
-value_texts-split (ns ∷ names) (Truth b ∷ vs) (suc n) h = cc
-value_texts-split (ns ∷ names) (Enum i ∷ vs) (suc n) h = cc
+-- the cells of columns are those of the numbers in front, and those behind
+pub cell_texts-split : (s : Declared) (cs : List Cell) (n : ℕ) → list_all is_a_number (take n cs) ≡ true → map (cell_text s) cs ≡ map number_text (take n cs) ++ map (cell_text s) (drop n cs)
+cell_texts-split s cs zero h = refl
+cell_texts-split s [] (suc n) h = refl
+cell_texts-split s (Int k ∷ cs) (suc n) h = ap (λ cells. signed_decimal k ∷ cells) (cell_texts-split s cs n h)
+cell_texts-split s (Truth b ∷ cs) (suc n) h = cc
+cell_texts-split s (Enum e i ∷ cs) (suc n) h = cc
 
 -- cells behind those that were added
 pub cells_text-behind : (old mid line : List ℕ) (front back cells : List (List ℕ)) → cells ≡ front ++ back → mid ≡ old ++ cells_text front → line ≡ mid ++ cells_text back → line ≡ old ++ cells_text cells
@@ -58,5 +52,5 @@ pub take_behind : {X : Type 0} (n : ℕ) (xs : List X) → take (length xs - n) 
 take_behind n xs = subst (λ (m : ℕ). take m (drop n xs) ≡ drop n xs) (length-drop n xs) (take-length (drop n xs))
 
 -- one number more
-pub numbers_more : (vs : List Value) (i : ℕ) (v : Value) → i < length vs → v ≡ get_or vs i v → list_all is_a_number (take i vs) ≡ true → is_a_number v ≡ true → list_all is_a_number (take (i + 1) vs) ≡ true
+pub numbers_more : (cs : List Cell) (i : ℕ) (c : Cell) → i < length cs → c ≡ get_or cs i c → list_all is_a_number (take i cs) ≡ true → is_a_number c ≡ true → list_all is_a_number (take (i + 1) cs) ≡ true
 numbers_more = all_more is_a_number

@@ -4,18 +4,19 @@
 //! call adds one line to a buffer; after a refusal of memory the buffer has what it had, and perhaps
 //! a beginning of the line.
 
-ghost use Rattle.std.specs.Prelude.{◌≡◌, ◌≤◌, ◌+◌, ◌*◌, ◌++◌, ◌∷◌, [], List, true, codes, drop, length, map, slice_index_or, take, OnOk};
+ghost use Rattle.std.specs.Prelude.{◌≡◌, ◌≤◌, ◌+◌, ◌*◌, ◌++◌, ◌∷◌, [], List, true, codes, drop, length, map, option_map, take, unwrap_or, OnOk};
 ghost use Rattle.std.specs.List.{list_all};
 ghost use Rattle.std.specs.Fmt.{decimal, signed_decimal};
+ghost use Rattle.wsm_record.specs.Schema.{Declared};
 ghost use Rattle.wsm_semantics.specs.Lines.{Out, Faulty, Refused, End};
 ghost use Rattle.wsm_semantics.specs.Text as text;
-ghost use Rattle.wsm_csv.specs.Lines.{cells_text, column_names, is_a_number, names_of};
+ghost use Rattle.wsm_csv.specs.Lines.{cells_text, is_a_number, number_text};
 
 use itoa::{Buffer, write_digits};
 use std::alloc::AllocError;
 use wsm_admission::Refusal;
-use wsm_record::{Names, RowFault, Schema, Value};
-use wsm_semantics::{Columns, OutRow, Totals};
+use wsm_record::{Cell, Columns, Names, RowFault, Schema};
+use wsm_semantics::{OutRow, Totals};
 use wsm_windows::{PaneKind, Window};
 
 // The most bytes of a comma and a number behind it, with its sign.
@@ -27,37 +28,31 @@ const TOGETHER: usize = 4;
 // The most bytes of a window and those numbers.
 const CELLS: usize = (2 + TOGETHER) * CELL;
 
-/// Adds the line of a row. `columns` has for each column the names that its numbers stand for, or
-/// none; a number that stands for no name is an empty cell.
-pub fn row_text(
-    schema: &Schema,
-    columns: &[Option<&Names>],
-    row: &OutRow,
-    out: &mut Vec<u8>,
-) -> Result<(), AllocError>
-    ensures { OnOk result (out.new.items ≡ out.old.items ++ text.line_text (names_of schema.now columns.now) (Out row.now)) }
+/// Adds the line of a row. A number that stands for no name is an empty cell.
+pub fn row_text(schema: &Schema, row: &OutRow, out: &mut Vec<u8>) -> Result<(), AllocError>
+    ensures { OnOk result (out.new.items ≡ out.old.items ++ text.line_text schema.now (Out row.now)) }
 {
-    add_row(schema, columns, row, out)?;
+    add_row(schema, row, out)?;
     end_line(out)
 }
 
 /// Adds the line of a row that is no event.
 pub fn fault_text(row: u64, why: RowFault, out: &mut Vec<u8>) -> Result<(), AllocError>
-    ensures { (names : text.Names) → OnOk result (out.new.items ≡ out.old.items ++ text.line_text names (Faulty row why)) }
+    ensures { (declared : Declared) → OnOk result (out.new.items ≡ out.old.items ++ text.line_text declared (Faulty row why)) }
 {
     add_refused(row, fault_word(why), out)
 }
 
 /// Adds the line of a row whose event is refused.
 pub fn refusal_text(row: u64, why: Refusal, out: &mut Vec<u8>) -> Result<(), AllocError>
-    ensures { (names : text.Names) → OnOk result (out.new.items ≡ out.old.items ++ text.line_text names (Refused row why)) }
+    ensures { (declared : Declared) → OnOk result (out.new.items ≡ out.old.items ++ text.line_text declared (Refused row why)) }
 {
     add_refused(row, refusal_word(why), out)
 }
 
 /// Adds the last line.
 pub fn end_text(totals: Totals, out: &mut Vec<u8>) -> Result<(), AllocError>
-    ensures { (names : text.Names) → OnOk result (out.new.items ≡ out.old.items ++ text.line_text names (End totals.rows totals.admitted totals.late totals.refused totals.panes)) }
+    ensures { (declared : Declared) → OnOk result (out.new.items ≡ out.old.items ++ text.line_text declared (End totals.rows totals.admitted totals.late totals.refused totals.panes)) }
 {
     out.extend_from_slice(b"end")?;
     add_count(totals.rows, out)?;
@@ -69,36 +64,22 @@ pub fn end_text(totals: Totals, out: &mut Vec<u8>) -> Result<(), AllocError>
 }
 
 // The cells of a row.
-fn add_row(
-    schema: &Schema,
-    columns: &[Option<&Names>],
-    row: &OutRow,
-    out: &mut Vec<u8>,
-) -> Result<(), AllocError>
-    ensures { OnOk result (out.new.items ≡ out.old.items ++ text.joined (text.row_cells (names_of schema.now columns.now) row.now)) }
+fn add_row(schema: &Schema, row: &OutRow, out: &mut Vec<u8>) -> Result<(), AllocError>
+    ensures { OnOk result (out.new.items ≡ out.old.items ++ text.joined (text.row_cells schema.now row.now)) }
 {
     match row {
         OutRow::Pane {
             kind,
             key,
             window,
-            columns: values,
+            columns,
         } => {
             add_pane(schema, *kind, *key, out)?;
-            add_window(*window, columns, values.as_slice(), out)
+            add_window(schema, *window, columns.as_slice(), out)
         }
-        OutRow::Istream {
-            mark,
-            columns: values,
-        } => add_stream(b"istream", *mark, columns, values, out),
-        OutRow::Dstream {
-            mark,
-            columns: values,
-        } => add_stream(b"dstream", *mark, columns, values, out),
-        OutRow::Rstream {
-            mark,
-            columns: values,
-        } => add_stream(b"rstream", *mark, columns, values, out),
+        OutRow::Istream { mark, columns } => add_stream(schema, b"istream", *mark, columns, out),
+        OutRow::Dstream { mark, columns } => add_stream(schema, b"dstream", *mark, columns, out),
+        OutRow::Rstream { mark, columns } => add_stream(schema, b"rstream", *mark, columns, out),
     }
 }
 
@@ -110,36 +91,25 @@ fn add_pane(schema: &Schema, kind: PaneKind, key: u16, out: &mut Vec<u8>) -> Res
     out.extend_from_slice(name_text(Some(schema.keys()), key))
 }
 
-// The cells of a window and of the values behind it.
+// The cells of a window and of the columns behind it.
 fn add_window(
+    schema: &Schema,
     window: Window,
-    columns: &[Option<&Names>],
-    values: &[Value],
+    columns: &[Cell],
     out: &mut Vec<u8>,
 ) -> Result<(), AllocError>
-    ensures { OnOk result (out.new.items ≡ out.old.items ++ cells_text (signed_decimal window.start ∷ signed_decimal window.end ∷ text.value_texts (map column_names columns.now) values.now)) }
+    ensures { OnOk result (out.new.items ≡ out.old.items ++ cells_text (signed_decimal window.start ∷ signed_decimal window.end ∷ map (text.cell_text schema.now) columns.now)) }
 {
-    let count = count_numbers(values);
-    add_numbers(window, &values[..count], out)?;
-    add_values(columns_behind(columns, count), &values[count..], out)
-}
-
-// The columns behind so many.
-fn columns_behind<'c, 'a>(columns: &'c [Option<&'a Names>], count: usize) -> &'c [Option<&'a Names>]
-    ensures { map column_names result.now ≡ drop count (map column_names columns.now) }
-{
-    if count < columns.len() {
-        &columns[count..]
-    } else {
-        &[]
-    }
+    let count = count_numbers(columns);
+    add_numbers(window, &columns[..count], out)?;
+    add_columns(schema, &columns[count..], out)
 }
 
 // The cells of a window and of a few numbers behind it.
-fn add_numbers(window: Window, numbers: &[Value], out: &mut Vec<u8>) -> Result<(), AllocError>
+fn add_numbers(window: Window, numbers: &[Cell], out: &mut Vec<u8>) -> Result<(), AllocError>
     requires numbers { list_all is_a_number numbers.now ≡ true }
     requires few { length numbers.now ≤ TOGETHER }
-    ensures { OnOk result (out.new.items ≡ out.old.items ++ cells_text (signed_decimal window.start ∷ signed_decimal window.end ∷ text.value_texts [] numbers.now)) }
+    ensures { OnOk result (out.new.items ≡ out.old.items ++ cells_text (signed_decimal window.start ∷ signed_decimal window.end ∷ map number_text numbers.now)) }
 {
     let mut cells = [0; CELLS];
     let first = write_numbers(numbers, &mut cells, CELLS);
@@ -148,73 +118,73 @@ fn add_numbers(window: Window, numbers: &[Value], out: &mut Vec<u8>) -> Result<(
     out.extend_from_slice(&cells[start..])
 }
 
-// How many numbers values begin with, of those that are written together.
+// How many numbers columns begin with, of those that are written together.
 #[tactic(auto, using(crate::proofs::LineLemmas::numbers_more))]
-fn count_numbers(values: &[Value]) -> usize
+fn count_numbers(columns: &[Cell]) -> usize
     ensures few { result ≤ TOGETHER }
-    ensures within { result ≤ length values.now }
-    ensures numbers { list_all is_a_number (take result values.now) ≡ true }
+    ensures within { result ≤ length columns.now }
+    ensures numbers { list_all is_a_number (take result columns.now) ≡ true }
 {
-    let most = values.len().min(TOGETHER);
+    let most = columns.len().min(TOGETHER);
     for place in 0..most {
-        if !is_number(values[place]) {
+        if !is_number(columns[place]) {
             return place;
         }
     }
     most
 }
 
-fn is_number(value: Value) -> bool
-    ensures { result ≡ is_a_number value }
+fn is_number(column: Cell) -> bool
+    ensures { result ≡ is_a_number column }
 {
-    matches!(value, Value::Int(_))
+    matches!(column, Cell::Int(_))
 }
 
 // Writes a comma and a number for each of some numbers so that they end at a place, and tells where
 // they begin.
-fn write_numbers(numbers: &[Value], cells: &mut [u8], end: usize) -> usize
+fn write_numbers(numbers: &[Cell], cells: &mut [u8], end: usize) -> usize
     requires numbers { list_all is_a_number numbers.now ≡ true }
     requires room { length numbers.now * CELL ≤ end }
     requires within { end ≤ length cells.old }
     ensures start { end ≤ result + length numbers.now * CELL }
     ensures begins { result ≤ end }
-    ensures written { drop result cells.new ≡ cells_text (text.value_texts [] numbers.now) ++ drop end cells.old }
+    ensures written { drop result cells.new ≡ cells_text (map number_text numbers.now) ++ drop end cells.old }
 {
     let mut start = end;
     for place in (0..numbers.len()).rev() {
-        start = write_value(numbers[place], cells, start);
+        start = write_column(numbers[place], cells, start);
     }
     start
 }
 
 // Writes a comma and a number so that they end at a place, and tells where they begin.
-fn write_value(number: Value, cells: &mut [u8], end: usize) -> usize
+fn write_column(number: Cell, cells: &mut [u8], end: usize) -> usize
     requires number { is_a_number number ≡ true }
     requires room { CELL ≤ end }
     requires within { end ≤ length cells.old }
     ensures start { end ≤ result + CELL }
     ensures begins { result ≤ end }
-    ensures written { drop result cells.new ≡ 44 ∷ text.value_text [] number ++ drop end cells.old }
+    ensures written { drop result cells.new ≡ 44 ∷ number_text number ++ drop end cells.old }
 {
     match number {
-        Value::Int(number) => write_cell(number, cells, end),
+        Cell::Int(number) => write_cell(number, cells, end),
         _ => end,
     }
 }
 
 // The cells of a row of a stream.
 fn add_stream(
+    schema: &Schema,
     word: &[u8],
     mark: i64,
-    columns: &[Option<&Names>],
-    values: &Columns,
+    columns: &Columns,
     out: &mut Vec<u8>,
 ) -> Result<(), AllocError>
-    ensures { OnOk result (out.new.items ≡ out.old.items ++ (word.now ++ cells_text (signed_decimal mark ∷ text.value_texts (map column_names columns.now) values.now))) }
+    ensures { OnOk result (out.new.items ≡ out.old.items ++ (word.now ++ cells_text (signed_decimal mark ∷ map (text.cell_text schema.now) columns.now))) }
 {
     out.extend_from_slice(word)?;
     add_number(mark, out)?;
-    add_values(columns, values.as_slice(), out)
+    add_columns(schema, columns.as_slice(), out)
 }
 
 // The line of a refused row, with the word of its refusal.
@@ -227,30 +197,26 @@ fn add_refused(row: u64, word: &[u8], out: &mut Vec<u8>) -> Result<(), AllocErro
     end_line(out)
 }
 
-// A cell for each value of a row.
+// The cells of columns.
 #[inline(always)]
-fn add_values(
-    columns: &[Option<&Names>],
-    values: &[Value],
-    out: &mut Vec<u8>,
-) -> Result<(), AllocError>
-    ensures { OnOk result (out.new.items ≡ out.old.items ++ cells_text (text.value_texts (map column_names columns.now) values.now)) }
+fn add_columns(schema: &Schema, columns: &[Cell], out: &mut Vec<u8>) -> Result<(), AllocError>
+    ensures { OnOk result (out.new.items ≡ out.old.items ++ cells_text (map (text.cell_text schema.now) columns.now)) }
 {
-    for (place, value) in values.iter().enumerate() {
-        add_value(names_at(columns, place), *value, out)?;
+    for column in columns {
+        add_column(schema, *column, out)?;
     }
     Ok(())
 }
 
 #[inline(never)]
-fn add_value(names: Option<&Names>, value: Value, out: &mut Vec<u8>) -> Result<(), AllocError>
-    ensures { OnOk result (out.new.items ≡ out.old.items ++ 44 ∷ text.value_text (column_names names.entry) value) }
+fn add_column(schema: &Schema, column: Cell, out: &mut Vec<u8>) -> Result<(), AllocError>
+    ensures { OnOk result (out.new.items ≡ out.old.items ++ 44 ∷ text.cell_text schema.now column) }
 {
-    match value {
-        Value::Int(number) => add_number(number, out),
-        Value::Bool(true) => add_cell(b"true", out),
-        Value::Bool(false) => add_cell(b"false", out),
-        Value::Enum(number) => add_cell(name_text(names, number), out),
+    match column {
+        Cell::Int(number) => add_number(number, out),
+        Cell::Bool(true) => add_cell(b"true", out),
+        Cell::Bool(false) => add_cell(b"false", out),
+        Cell::Enum(number, name) => add_cell(name_text(schema.enum_names(number), name), out),
     }
 }
 
@@ -312,20 +278,9 @@ fn end_line(out: &mut Vec<u8>) -> Result<(), AllocError>
     Ok(out.push(b'\n')?)
 }
 
-// The names that the numbers of a column stand for.
-fn names_at<'a>(columns: &[Option<&'a Names>], place: usize) -> Option<&'a Names>
-    ensures { column_names result ≡ slice_index_or (map column_names columns.now) place [] }
-{
-    if place < columns.len() {
-        columns[place]
-    } else {
-        None
-    }
-}
-
 // The name that a number stands for, or no byte.
 fn name_text<'a>(names: Option<&'a Names>, number: u16) -> &'a [u8]
-    ensures { result.now ≡ text.name_at (column_names names.entry) number }
+    ensures { result.now ≡ text.name_at (unwrap_or (option_map (λ names. names.now) names.entry) []) number }
 {
     match names {
         Some(names) if (number as usize) < names.len() => names.text_of(number),

@@ -5,6 +5,7 @@ use Rattle.std.proofs.lemmas.Int.{ints, fits_signed_from_abs}
 use Rattle.std.specs.Prelude.{int_lt}
 use Rattle.std.specs.FinMap.Entries.{where_key}
 use Rattle.wsm_record.specs.declared.event.Value.{Value}
+use Rattle.wsm_record.specs.declared.cell.Cell.{Cell}
 use Rattle.wsm_record.specs.declared.words.Form.{Form}
 use Rattle.wsm_record.specs.declared.words.Form.TheVariants as form
 use Rattle.wsm_record.specs.declared.words.Kind.{Kind}
@@ -177,7 +178,7 @@ mark_fits p past r m a e comes of old new is = fits new (a_mark p past r of old 
 -- ---- rows and drops of a watermark
 
 -- the rows of what fires, and then those of a stream, are those of the form
-pub rows_then : (f : Form) (fired : List OutRow) (m : ℤ) (before now : List (List Value)) → chosen_rows f fired [] ++ stream_rows f m before now ≡ chosen_rows f fired (stream_rows f m before now)
+pub rows_then : (f : Form) (fired : List OutRow) (m : ℤ) (before now : List (List Cell)) → chosen_rows f fired [] ++ stream_rows f m before now ≡ chosen_rows f fired (stream_rows f m before now)
 rows_then form.Panes fired m before now = append-nil fired
 rows_then form.Istream fired m before now = refl
 rows_then form.Dstream fired m before now = refl

@@ -2,6 +2,7 @@
 use Rattle.std.proofs.Common.{◌≡◌, ℕ, ◌≤◌, List, [], ◌∷◌, Option, length, vec_capacity, refl, sym, subst, ◌∙◌, arith}
 use Rattle.std.specs.List.{AllByRecursion}
 use Rattle.wsm_record.specs.declared.event.Value.{Value}
+use Rattle.wsm_record.specs.declared.cell.Cell.{Cell}
 use Rattle.wsm_record.specs.declared.words.Form.{Form}
 use Rattle.wsm_record.specs.declared.words.Form.TheVariants as form
 use Rattle.wsm_windows.specs.declared.window.PaneKind.{PaneKind}
@@ -22,15 +23,15 @@ use Rattle.wsm_engine.specs.declared.runner.Runner.{Runner}
 use Rattle.wsm_engine.specs.Runner.{AreTold, IsOf, last_relation}
 use Rattle.wsm_engine.proofs.Holding.{Panes}
 
-pub last_is : (s : Standing) (es : Panes) (before : List (List Value)) → IsTold s before (standing_rows es) → last_relation s es ≡ before
+pub last_is : (s : Standing) (es : Panes) (before : List (List Cell)) → IsTold s before (standing_rows es) → last_relation s es ≡ before
 last_is s es before told = before_is s.form s.numbers s.rows before (standing_rows es) told
 
-pub are_told : (most : ℕ) (s : Standing) (es : Panes) (before : List (List Value)) → IsTold s before (standing_rows es) → length before ≤ most → AreTold most s es
+pub are_told : (most : ℕ) (s : Standing) (es : Panes) (before : List (List Cell)) → IsTold s before (standing_rows es) → length before ≤ most → AreTold most s es
 are_told most s es before told few =
     let same : last_relation s es ≡ before = last_is s es before told in
     record { told = subst (λ b. IsTold s b (standing_rows es)) (sym same) told; few = subst (λ b. length b ≤ most) (sym same) few }
 
-pub can_tell : (most : ℕ) (s t : Standing) (es fs : Panes) → AreTold most s es → s.room ≡ most → AreAlike s t → ((relation : List (List Value)) → IsTold s relation (standing_rows es) → IsTold t relation (standing_rows fs)) → length fs ≤ most → CanTell t fs
+pub can_tell : (most : ℕ) (s t : Standing) (es fs : Panes) → AreTold most s es → s.room ≡ most → AreAlike s t → ((relation : List (List Cell)) → IsTold s relation (standing_rows es) → IsTold t relation (standing_rows fs)) → length fs ≤ most → CanTell t fs
 can_tell most s t es fs was room alike further few = record {
   before = last_relation s es;
   told = further (last_relation s es) was.told;
@@ -44,7 +45,7 @@ same_alike s = record { form = refl; room = refl }
 pub can_advance : (s : Standing) (es : Panes) → CanTell s es → CanAdvance s
 can_advance s es can = record { before = can.before; now = standing_rows es; told = can.told; within = record { few_before = can.few_before; few_now = omega (arith, can.few, few_rows es) } }
 
-pub few_kept : (f : Form) (before now : List (List Value)) (n : ℕ) → length before ≤ n → length now ≤ n → length (relation_kept f before now) ≤ n
+pub few_kept : (f : Form) (before now : List (List Cell)) (n : ℕ) → length before ≤ n → length now ≤ n → length (relation_kept f before now) ≤ n
 few_kept form.Panes before now n b m = b
 few_kept form.Istream before now n b m = m
 few_kept form.Dstream before now n b m = m

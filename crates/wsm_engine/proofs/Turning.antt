@@ -3,6 +3,7 @@
 use Rattle.std.proofs.Common.{◌≡◌, ℕ, ◌+◌, ◌≤◌, List, [], ◌∷◌, map, length, ℤ, Option, Some, None, IsTrue, refl, sym, ap, subst, ◌∙◌, arith}
 use Rattle.std.specs.Prelude.{Ok, Err, Result, IsSome, filter_map, sum}
 use Rattle.wsm_record.specs.declared.event.Value.{Value}
+use Rattle.wsm_record.specs.declared.cell.Cell.{Cell}
 use Rattle.wsm_record.specs.declared.words.Form.{Form}
 use Rattle.wsm_record.specs.declared.words.Form.TheVariants as form
 use Rattle.wsm_record.specs.Event.{Event, Record, Watermark}
@@ -40,7 +41,7 @@ use Rattle.wsm_engine.specs.Turn.{turn, refusal_of, reply_by}
 
 -- ---- with another relation
 
-module _ (p : Program) (s : steps.State (List Value)) (r : List (List Value)) where
+module _ (p : Program) (s : steps.State (List Value)) (r : List (List Cell)) where
   -- the same state, of another relation
   abbrev pub other : steps.State (List Value)
   other = record s { relation = r }
@@ -69,7 +70,7 @@ module _ (p : Program) (s : steps.State (List Value)) (r : List (List Value)) wh
   rows_same form.Rstream (Ok (admitted.Watermark old new)) fired h = refl
   rows_same form.Rstream (Err x) fired h = refl
 
-  pub relation_same : (f : Form) (a : Result Admitted Refusal) (now : List (List Value)) → (KeepsRelation f → s.relation ≡ r) → relation_after (plan_of p) (query_of p) a other ≡ now →
+  pub relation_same : (f : Form) (a : Result Admitted Refusal) (now : List (List Cell)) → (KeepsRelation f → s.relation ≡ r) → relation_after (plan_of p) (query_of p) a other ≡ now →
       KeepsRelation f → relation_kept f s.relation (relation_after (plan_of p) (query_of p) a s) ≡ now
   relation_same form.Panes a now h is k = absurd k
   relation_same form.Istream a now h is k = (λ i. relation_after (plan_of p) (query_of p) a (record s { relation = h tt i })) ∙ is
@@ -79,7 +80,7 @@ module _ (p : Program) (s : steps.State (List Value)) (r : List (List Value)) wh
 -- ---- the turn
 
 module _ (s : State) (whole : IsTrue (is_program s.program)) (past : List Event) (fits : Fits s past) where
-  abbrev was : List (List Value)
+  abbrev was : List (List Cell)
   was = relation (query_of s.program) past
 
   abbrev told : steps.State (List Value)
@@ -163,7 +164,7 @@ no_rows p s r e form.Istream = refl
 no_rows p s r e form.Dstream = refl
 no_rows p s r e form.Rstream = refl
 
-as_before : (f : Form) (r : List (List Value)) → relation_kept f r r ≡ r
+as_before : (f : Form) (r : List (List Cell)) → relation_kept f r r ≡ r
 as_before form.Panes r = refl
 as_before form.Istream r = refl
 as_before form.Dstream r = refl
@@ -191,7 +192,7 @@ refused_turn s few e some = by_answer (answer_to (plan_of s.program) (query_of s
 
 -- what is kept after an answer is what is kept after the turn
 pub turned_is : (s : State) (e : Event) (a : Result Admitted Refusal) → a ≡ answer_to (plan_of s.program) (query_of s.program) s.machine e →
-    (kept : admission.State) (panes : List (Place × Pane (List Value))) (related : List (List Value)) (fed fired : ℕ) (rows : List OutRow) →
+    (kept : admission.State) (panes : List (Place × Pane (List Value))) (related : List (List Cell)) (fed fired : ℕ) (rows : List OutRow) →
     kept ≡ after a s.machine.admission → panes ≡ panes_after (plan_of s.program) (query_of s.program) a e s.machine
     → related ≡ relation_kept s.program.header.form s.machine.relation (relation_after (plan_of s.program) (query_of s.program) a s.machine)
     → fed ≡ admission.counter (s.machine.fed + 1) → fired ≡ admission.counter (s.machine.fired + length (fired_by (plan_of s.program) (query_of s.program) a e s.machine))

@@ -1,6 +1,7 @@
 -- The runner of a program: for what it has room, and what it keeps as an event comes.
 use Rattle.std.specs.Prelude.{◌≡◌, ℕ, ◌*◌, ◌+◌, ◌≤◌, List, [], length, ℤ, Result, Ok, vec_capacity, if◌then◌else◌}
 use Rattle.wsm_record.specs.declared.event.Value.{Value}
+use Rattle.wsm_record.specs.declared.cell.Cell.{Cell}
 use Rattle.wsm_record.specs.Event.{Event}
 use Rattle.wsm_windows.specs.Life.{live_bound}
 use Rattle.wsm_windows.specs.Windows.{windows_of_shape}
@@ -26,7 +27,7 @@ use Rattle.wsm_windows.specs.declared.place.Place.{Place}
 use Rattle.wsm_engine.specs.declared.runner.Runner.{Runner}
 
 -- the relation at the last instant, by what the streams were told since
-abbrev pub last_relation : Standing → List (Place × Pane (List Value)) → List (List Value)
+abbrev pub last_relation : Standing → List (Place × Pane (List Value)) → List (List Cell)
 last_relation s panes = relation_before s.form s.numbers (relation_of panes)
 
 -- the streams were told of the panes, of no more rows than so many

@@ -1,6 +1,7 @@
 //! What an event does to the panes that are held, by a program's sections.
 
 ghost use Rattle.std.specs.Prelude.{◌≡◌, ℤ, List, [], length, Ok, Some, true, filter_map, if◌then◌else◌, IfOk};
+ghost use Rattle.wsm_record.specs.declared.cell.Cell.{Cell};
 ghost use Rattle.wsm_record.specs.declared.event.Value.{Value as OneValue};
 ghost use Rattle.wsm_record.specs.Event.{Event as AnyEvent, Record, Watermark, event_of};
 ghost use Rattle.wsm_admission.specs.declared.verdict.Admitted.TheVariants as admitted;
@@ -173,7 +174,7 @@ impl Runner {
         requires comes { (past : List AnyEvent) × (mark : ℤ) × Comes verified.now past self.old.held mark (Ok admitted.Record) (Record (Some inputs.now.key) time inputs.now.values.now) }
         ensures panes { entries_of self.new.held ≡ entered (plan_of verified.now) verified.now.header.shape (datum 0 inputs.now.key time inputs.now.values.now) (entries_of self.old.held) }
         ensures keeps { IsKept self.old.held self.new.held }
-        ensures told { (relation : List (List OneValue)) → IsTold self.old.streams relation (standing_rows (entries_of self.old.held)) → IsTold self.new.streams relation (standing_rows (entries_of self.new.held)) }
+        ensures told { (relation : List (List Cell)) → IsTold self.old.streams relation (standing_rows (entries_of self.old.held)) → IsTold self.new.streams relation (standing_rows (entries_of self.new.held)) }
         ensures alike { AreAlike self.old.streams self.new.streams }
         ensures rows { self.new.rows ≡ self.old.rows }
         ensures steps { result.0 ≡ entering_cost verified.now inputs.now.key time inputs.now.values.now (entries_of self.old.held) }

@@ -7,6 +7,7 @@ use Rattle.std.specs.List.{cons_option}
 use Rattle.std.specs.Ordering.{is_eq}
 use Rattle.std.specs.FinMap.Entries.{put, find, where_key, is_sorted, is_sorted-put, is_sorted-where_key, find-where_key}
 use Rattle.wsm_record.specs.declared.event.Value.{Value}
+use Rattle.wsm_record.specs.declared.cell.Cell.{Cell}
 use Rattle.wsm_windows.specs.declared.window.Shape.{Shape}
 use Rattle.wsm_windows.specs.declared.window.Shape.TheVariants.{Fixed, Sliding, Session}
 use Rattle.wsm_windows.specs.declared.window.Window.{Window}
@@ -31,13 +32,13 @@ module _ (plan : Plan (List Value)) (d : Datum) where
   row_kept (Some h) = refl
 
   -- a record in the panes of its windows changes no row
-  pub count_assigned : (q : List Value) (ws : List Window) (es : Panes) → T (is_sorted place_cmp es) → count_of q (standing_rows (assigned plan d ws es)) ≡ count_of q (standing_rows es)
+  pub count_assigned : (q : List Cell) (ws : List Window) (es : Panes) → T (is_sorted place_cmp es) → count_of q (standing_rows (assigned plan d ws es)) ≡ count_of q (standing_rows es)
   count_assigned q [] es sorted = refl
   count_assigned q (w ∷ ws) es sorted =
       let p : Place = at d.key w in let o : Option (Pane Folded) = find place_cmp p es in let h : Pane Folded = with_record plan d o in
       count_assigned q ws (put place_cmp p h es) (is_sorted-put place_cmp places_total p h es sorted)
       ∙ count_put q p h es sorted
-      ∙ ap (λ (r : Option (List Value)). count_in q r + count_of q (standing_rows (without p es))) (row_kept o)
+      ∙ ap (λ (r : Option (List Cell)). count_in q r + count_of q (standing_rows (without p es))) (row_kept o)
       ∙ sym (count_found q p es)
 
 -- ---- sessions
@@ -80,7 +81,7 @@ module _ (gap : ℤ) (d : Datum) where
   far p = not (is_linked gap d p)
 
   -- the rows are those of the panes that a record is linked to and of the others
-  count_parts : (q : List Value) (es : Panes) → count_of q (standing_rows es) ≡ count_of q (standing_rows (linked gap d es)) + count_of q (standing_rows (where_key place_cmp far es))
+  count_parts : (q : List Cell) (es : Panes) → count_of q (standing_rows es) ≡ count_of q (standing_rows (linked gap d es)) + count_of q (standing_rows (where_key place_cmp far es))
   count_parts q [] = refl
   count_parts q (e ∷ es) =
       let rest = count_parts q es in
@@ -108,7 +109,7 @@ joined_none Joined Unfired h = absurd (cc)
 joined_none Joined (Row u) h = refl
 joined_none Joined Joined h = refl
 
-joined_row : (q : List Value) (s t : PaneStanding) → has_fired s && has_fired t ≡ false → count_in q (standing_row (standing_joined s t)) ≡ count_in q (standing_row s) + count_in q (standing_row t)
+joined_row : (q : List Cell) (s t : PaneStanding) → has_fired s && has_fired t ≡ false → count_in q (standing_row (standing_joined s t)) ≡ count_in q (standing_row s) + count_in q (standing_row t)
 joined_row q Unfired t h = omega arith
 joined_row q (Row r) Unfired h = omega arith
 joined_row q (Row r) (Row u) h = absurd (cc)
@@ -132,13 +133,13 @@ module _ (plan : Plan (List Value)) (gap : ℤ) (some : pos 1 ≤ℤ gap) (d : D
       find-where_key place_cmp (λ p. not (is_linked gap d p)) place (λ x tie. ap (λ (p : Place). not (is_linked gap d p)) (sym (places_exact place x tie))) es
       ∙ ap (λ b. cond (not b) (find place_cmp place es) None) (linked_itself gap d place some (holds gap d (linked gap d es))))
 
-  count_put_in : (q : List Value) → count_of q (standing_rows (merged_session plan gap d es)) ≡ count_in q (row_at pane) + count_of q (standing_rows others)
+  count_put_in : (q : List Cell) → count_of q (standing_rows (merged_session plan gap d es)) ≡ count_in q (row_at pane) + count_of q (standing_rows others)
   count_put_in q =
       count_put q place pane others (is_sorted-where_key place_cmp (λ p. not (is_linked gap d p)) es sorted)
       ∙ ap (λ (fs : Panes). count_in q (row_at pane) + count_of q (standing_rows fs)) not_there
 
   -- by the panes that it is linked to
-  by_parts : (q : List Value) (parts : Panes) → linked gap d es ≡ parts → length parts ≤ 2 →
+  by_parts : (q : List Cell) (parts : Panes) → linked gap d es ≡ parts → length parts ≤ 2 →
       count_in q (row_at (with_record plan d (joined_all plan parts))) + count_of q (standing_rows others) ≡ count_of q (cond (are_both_fired parts) (standing_rows others) (standing_rows es))
   by_parts q [] is few = let all = count_parts gap d q es in let none : count_of q (standing_rows (linked gap d es)) ≡ 0 = ap (λ (ps : Panes). count_of q (standing_rows ps)) is in omega (arith, all, none)
   by_parts q (e ∷ []) is few =
@@ -154,12 +155,12 @@ module _ (plan : Plan (List Value)) (gap : ℤ) (some : pos 1 ≤ℤ gap) (d : D
       ] refl
   by_parts q (e ∷ f ∷ g ∷ ps) is few = absurd (omega (arith, few))
 
-  pub count_merged : length (linked gap d es) ≤ 2 → (q : List Value) → count_of q (standing_rows (merged_session plan gap d es)) ≡ count_of q (rows_with (Session gap) d es)
+  pub count_merged : length (linked gap d es) ≤ 2 → (q : List Cell) → count_of q (standing_rows (merged_session plan gap d es)) ≡ count_of q (rows_with (Session gap) d es)
   count_merged few q = count_put_in q ∙ by_parts q (linked gap d es) refl few
 
 -- ---- all shapes
 
-pub count_entered : (plan : Plan (List Value)) (sh : Shape) (d : Datum) (es : Panes) → IsShape sh → T (is_sorted place_cmp es) → ((gap : ℤ) → sh ≡ Session gap → length (linked gap d es) ≤ 2) → (q : List Value) →
+pub count_entered : (plan : Plan (List Value)) (sh : Shape) (d : Datum) (es : Panes) → IsShape sh → T (is_sorted place_cmp es) → ((gap : ℤ) → sh ≡ Session gap → length (linked gap d es) ≤ 2) → (q : List Cell) →
     count_of q (standing_rows (entered plan sh d es)) ≡ count_of q (rows_with sh d es)
 count_entered plan (Fixed size) d es is sorted few q = count_assigned plan d q (windows_of size size d.time) es sorted
 count_entered plan (Sliding size period) d es is sorted few q = count_assigned plan d q (windows_of size period d.time) es sorted
@@ -181,7 +182,7 @@ rows_alone (Session gap) d es none = by_parts (linked gap d es) none
 
 -- the two that are joined
 pub record ArePair (sh : Shape) (d : Datum) (es : Panes) (v w : Pane Folded) : Type 0 where
-  pub counts : (q : List Value) → count_of q (standing_rows es) ≡ count_of q (rows_and v w (rows_with sh d es))
+  pub counts : (q : List Cell) → count_of q (standing_rows es) ≡ count_of q (rows_and v w (rows_with sh d es))
   pub few : length (rows_and v w (rows_with sh d es)) ≤ length es
 
 module _ (gap : ℤ) (d : Datum) (es : Panes) (v w : Pane Folded) where
@@ -204,8 +205,8 @@ module _ (gap : ℤ) (d : Datum) (es : Panes) (v w : Pane Folded) where
         | true ↦ λ yes.
             let left : with_parts (linked gap d es) ≡ standing_rows rest_of = shown ∙ ap (λ b. cond b (standing_rows rest_of) (standing_rows es)) yes in
             let both : rows_and v w (with_parts (linked gap d es)) ≡ cons_option (row_at v) (cons_option (row_at w) (standing_rows rest_of)) = (λ i. cond (yes i) (cons_option (row_at v) (cons_option (row_at w) (left i))) (left i)) in
-            let two : (q : List Value) → count_of q (standing_rows (linked gap d es)) ≡ count_of q (cons_option (row_at v) (cons_option (row_at w) [])) = λ q. ap (λ (ps : Panes). count_of q (standing_rows ps)) is ∙ (λ i. count_of q (cons_option (row_at (first i)) (cons_option (row_at (second i)) []))) in
-            let counts : (q : List Value) → count_of q (standing_rows es) ≡ count_of q (cons_option (row_at v) (cons_option (row_at w) (standing_rows rest_of))) = λ q.
+            let two : (q : List Cell) → count_of q (standing_rows (linked gap d es)) ≡ count_of q (cons_option (row_at v) (cons_option (row_at w) [])) = λ q. ap (λ (ps : Panes). count_of q (standing_rows ps)) is ∙ (λ i. count_of q (cons_option (row_at (first i)) (cons_option (row_at (second i)) []))) in
+            let counts : (q : List Cell) → count_of q (standing_rows es) ≡ count_of q (cons_option (row_at v) (cons_option (row_at w) (standing_rows rest_of))) = λ q.
             omega (arith, all q es, two q, count_cons q (row_at v) (cons_option (row_at w) []), count_cons q (row_at w) [], count_cons q (row_at v) (cons_option (row_at w) (standing_rows rest_of)), count_cons q (row_at w) (standing_rows rest_of)) in
             let many : length es ≡ length (linked gap d es) + length rest_of = length_parts gap d es in
             let pair : length (linked gap d es) ≡ 2 = ap length is in

@@ -1,17 +1,16 @@
 -- FIRE run on a pane's numbers gives the columns and the instructions of its firing.
-use Rattle.std.proofs.Common.{◌≡◌, ℕ, ◌<◌, ◌^◌, Bool, cond, List, [], ◌∷◌, map, reverse, Option, Some, None, pos, sym, ap, ◌∙◌, SFits, w64, to_z, arith}
+use Rattle.std.proofs.Common.{◌≡◌, ℕ, ◌<◌, ◌^◌, Bool, cond, List, [], ◌∷◌, reverse, Option, Some, None, pos, sym, ap, ◌∙◌, SFits, w64, to_z, arith}
 use Rattle.std.proofs.lemmas.Int.{ints, to_z_pos}
 use Rattle.std.specs.Prelude.{option_map}
 use Rattle.std.specs.Option.{option_and_then}
 use Rattle.wsm_record.specs.declared.event.Value.{Value}
+use Rattle.wsm_record.specs.declared.cell.Cell.{Cell}
+use Rattle.wsm_record.specs.declared.cell.Cell.TheVariants as cells
 use Rattle.wsm_semantics.specs.Summaries.{columns}
 use Rattle.wsm_program.specs.declared.instr.SectionId.TheVariants.{Fire}
 use Rattle.wsm_program.specs.Program.{Program}
-use Rattle.wsm_machine.specs.declared.cell.Cell.{Cell}
-use Rattle.wsm_machine.specs.declared.cell.Cell.TheVariants as cells
 use Rattle.wsm_machine.specs.declared.outcome.Outcome.TheVariants.{Done}
 use Rattle.wsm_machine.specs.Inputs.{Inputs}
-use Rattle.wsm_machine.specs.Step.{value_of}
 use Rattle.wsm_machine.specs.Run.{run}
 use Rattle.wsm_machine.specs.Meaning.{pane_inputs, row, plan_of, fire_steps}
 use Rattle.wsm_machine.proofs.Telling.{row_is}
@@ -34,7 +33,7 @@ module _ (p : Program) (key n : ℕ) (o : Option (List Value)) (held : List Valu
   steps_are s is = sym is ∙ ap (λ j. (run p Fire j).steps) same ∙ ap (fire_steps p key n) (sym there)
 
   pub columns_are : (b : Bool) (columns_run : List Cell) → (run p Fire i).outcome ≡ Done → (run p Fire i).stack ≡ cells.Bool b ∷ reverse columns_run →
-      cond b (Some (map value_of columns_run)) None ≡ columns (plan_of p) key n o
+      cond b (Some columns_run) None ≡ columns (plan_of p) key n o
   columns_are b columns_run done left =
       sym (row_is p key n held b columns_run (ap (λ j. (run p Fire j).outcome) (sym same) ∙ done) (ap (λ j. (run p Fire j).stack) (sym same) ∙ left))
       ∙ ap (option_and_then (row p key n)) (sym there)

@@ -6,6 +6,7 @@ use Rattle.std.specs.declared.cmp.Ordering.{Ordering}
 use Rattle.std.specs.declared.cmp.Ordering.TheVariants.{Less, Equal, Greater}
 use Rattle.std.specs.FinMap.Entries.{put, find, is_sorted, below_all, by_order}
 use Rattle.wsm_record.specs.declared.event.Value.{Value}
+use Rattle.wsm_record.specs.declared.cell.Cell.{Cell}
 use Rattle.wsm_windows.specs.declared.place.Place.{Place}
 use Rattle.wsm_windows.specs.Places.{place_cmp}
 use Rattle.wsm_windows.proofs.Places.{places_total}
@@ -18,15 +19,15 @@ use Rattle.wsm_firing.proofs.AtPlace.{first_of, second_of}
 use Rattle.wsm_firing.proofs.Streaming.{Rows, told_same}
 
 -- how often a row is there, where there is one
-abbrev pub count_in : List Value → Option (List Value) → ℕ
+abbrev pub count_in : List Cell → Option (List Cell) → ℕ
 count_in q None = 0
 count_in q (Some r) = once q r
 
-pub count_cons : (q : List Value) (o : Option (List Value)) (rows : Rows) → count_of q (cons_option o rows) ≡ count_in q o + count_of q rows
+pub count_cons : (q : List Cell) (o : Option (List Cell)) (rows : Rows) → count_of q (cons_option o rows) ≡ count_in q o + count_of q rows
 count_cons q None rows = omega arith
 count_cons q (Some r) rows = refl
 
-pub length_cons : (o : Option (List Value)) (rows : Rows) → length (cons_option o rows) ≤ suc (length rows)
+pub length_cons : (o : Option (List Cell)) (rows : Rows) → length (cons_option o rows) ≤ suc (length rows)
 length_cons None rows = omega arith
 length_cons (Some r) rows = omega arith
 
@@ -37,11 +38,11 @@ Folded = List Value
 abbrev pub Panes : Type 0
 Panes = List (Place × Pane Folded)
 
-abbrev pub row_at : Pane Folded → Option (List Value)
+abbrev pub row_at : Pane Folded → Option (List Cell)
 row_at h = standing_row h.stands
 
 -- the row at a place, if one stands there
-abbrev pub row_found : Option (Pane Folded) → Option (List Value)
+abbrev pub row_found : Option (Pane Folded) → Option (List Cell)
 row_found None = None
 row_found (Some h) = standing_row h.stands
 
@@ -54,13 +55,13 @@ pub few_rows : (es : Panes) → length (standing_rows es) ≤ length es
 few_rows [] = omega arith
 few_rows (e ∷ es) = omega (arith, few_rows es, length_cons (row_at e.1) (standing_rows es))
 
-count_here : (q : List Value) (b : Bool) (e : Place × Pane Folded) (es rest : Panes) (o : Option (Pane Folded)) → count_of q (standing_rows es) ≡ count_in q (row_found o) + count_of q (standing_rows rest) →
+count_here : (q : List Cell) (b : Bool) (e : Place × Pane Folded) (es rest : Panes) (o : Option (Pane Folded)) → count_of q (standing_rows es) ≡ count_in q (row_found o) + count_of q (standing_rows rest) →
     count_of q (standing_rows (e ∷ es)) ≡ count_in q (row_found (cond b (Some e.1) o)) + count_of q (standing_rows (cond b es (e ∷ rest)))
 count_here q true e es rest o h = count_cons q (row_at e.1) (standing_rows es)
 count_here q false e es rest o h = omega (arith, h, count_cons q (row_at e.1) (standing_rows es), count_cons q (row_at e.1) (standing_rows rest))
 
 -- the rows are that at the place and those of the others
-pub count_found : (q : List Value) (p : Place) (es : Panes) → count_of q (standing_rows es) ≡ count_in q (row_found (find place_cmp p es)) + count_of q (standing_rows (without p es))
+pub count_found : (q : List Cell) (p : Place) (es : Panes) → count_of q (standing_rows es) ≡ count_in q (row_found (find place_cmp p es)) + count_of q (standing_rows (without p es))
 count_found q p [] = refl
 count_found q p (e ∷ es) = count_here q (is_eq (place_cmp p e.0)) e es (without p es) (find place_cmp p es) (count_found q p es)
 
@@ -71,7 +72,7 @@ further p x (e ∷ es) less below =
     rw next (ap (λ (fs : Panes). e ∷ fs) (further p x es less (second_of (is_lt (place_cmp x e.0)) (below_all place_cmp x es) below)))
 
 -- once a pane is put there, its row and those of the others
-pub count_put : (q : List Value) (p : Place) (h : Pane Folded) (es : Panes) → T (is_sorted place_cmp es) → count_of q (standing_rows (put place_cmp p h es)) ≡ count_in q (row_at h) + count_of q (standing_rows (without p es))
+pub count_put : (q : List Cell) (p : Place) (h : Pane Folded) (es : Panes) → T (is_sorted place_cmp es) → count_of q (standing_rows (put place_cmp p h es)) ≡ count_in q (row_at h) + count_of q (standing_rows (without p es))
 count_put q p h [] sorted = count_cons q (row_at h) []
 count_put q p h (e ∷ es) sorted =
     let rest = count_put q p h es (second_of (below_all place_cmp e.0 es) (is_sorted place_cmp es) sorted) in
@@ -116,10 +117,10 @@ module _ (p : Place) (h : Pane Folded) (es : Panes) (sorted : T (is_sorted place
   abbrev rest : Rows
   rest = standing_rows (without p es)
 
-  count_there : (q : List Value) → count_of q (standing_rows es) ≡ count_of q (cons_option (row_at h) rest)
+  count_there : (q : List Cell) → count_of q (standing_rows es) ≡ count_of q (cons_option (row_at h) rest)
   count_there q = count_found q p es ∙ ap (λ (o : Option (Pane Folded)). count_in q (row_found o) + count_of q rest) there ∙ sym (count_cons q (row_at h) rest)
 
-  few_rest : (o : Option (List Value)) → length (cons_option o rest) ≤ length es
+  few_rest : (o : Option (List Cell)) → length (cons_option o rest) ≤ length es
   few_rest o = omega (arith, length_cons o rest, few_rows (without p es), fewer p h es there)
 
   pub can_lose : (s : Standing) → CanTell s es → CanLose s (row_at h)
@@ -134,7 +135,7 @@ module _ (p : Place) (h : Pane Folded) (es : Panes) (sorted : T (is_sorted place
     told_lost : (before : Rows) → IsTold s before (standing_rows es) → IsTold t before rest
     told_lost before told = lost before rest (told_same s.form s.numbers s.rows before (standing_rows es) (cons_option (row_at h) rest) count_there told)
 
-    pub can_gain : AreAlike s t → (o : Option (List Value)) → CanTell s es → CanGain t o
+    pub can_gain : AreAlike s t → (o : Option (List Cell)) → CanTell s es → CanGain t o
     can_gain alike o can = record {
       before = can.before;
       now = rest;

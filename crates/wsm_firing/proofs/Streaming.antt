@@ -4,7 +4,7 @@ use Rattle.std.specs.Prelude.{ℤ, pos, negsuc, ◌-ℤ◌, ◌<ℤ◌}
 use Rattle.std.specs.Ordering.{int_eq}
 use Rattle.std.proofs.lemmas.Bool.{cases_Bool}
 use Rattle.std.proofs.lemmas.Int.{ints}
-use Rattle.wsm_record.specs.declared.event.Value.{Value}
+use Rattle.wsm_record.specs.declared.cell.Cell.{Cell}
 use Rattle.wsm_record.specs.declared.words.Form.{Form}
 use Rattle.wsm_record.specs.declared.words.Form.TheVariants as form
 use Rattle.wsm_semantics.specs.Relation.{with_row, without_one, sorted_rows, difference}
@@ -21,20 +21,20 @@ use Rattle.wsm_relation.proofs.Telling.{count-with_row, count-sorted_rows, lengt
 use Rattle.wsm_firing.specs.Streams.{AreWithin, HasChanged, HasKept, HasRoomFor, HasRoomOfChanges, HasRoomOfRows, IsReserved, IsToldOf, relation_before, relation_kept, stream_of, stream_row}
 
 abbrev pub Rows : Type 0
-Rows = List (List Value)
+Rows = List (List Cell)
 
 abbrev pub Numbers : Type 0
-Numbers = List (List Value × ℤ)
+Numbers = List (List Cell × ℤ)
 
 -- ---- changes
 
-pub changed_less : (r : List Value) (es : Numbers) (before rest : Rows) → HasChanged es before (r ∷ rest) → HasChanged (shifted r (negsuc 0) es) before rest
+pub changed_less : (r : List Cell) (es : Numbers) (before rest : Rows) → HasChanged es before (r ∷ rest) → HasChanged (shifted r (negsuc 0) es) before rest
 changed_less r es before rest h = record { ordered = h.ordered; tally = shifted-tally r (negsuc 0) es refl h.tally; change = change_less r before rest es h.tally h.change }
 
-pub changed_more : (r : List Value) (es : Numbers) (before rest : Rows) → HasChanged es before rest → HasChanged (shifted r (pos 1) es) before (r ∷ rest)
+pub changed_more : (r : List Cell) (es : Numbers) (before rest : Rows) → HasChanged es before rest → HasChanged (shifted r (pos 1) es) before (r ∷ rest)
 changed_more r es before rest h = record { ordered = h.ordered; tally = shifted-tally r (pos 1) es refl h.tally; change = change_more r before rest es h.tally h.change }
 
-module _ (r : List Value) (es : Numbers) (before rest : Rows) (room most : ℕ) (within : AreWithin room before (r ∷ rest)) (twice : most ≡ room + room) where
+module _ (r : List Cell) (es : Numbers) (before rest : Rows) (room most : ℕ) (within : AreWithin room before (r ∷ rest)) (twice : most ≡ room + room) where
   room_at : (n : ℕ) → (number_of r es ≡ pos 0 → n < most) → (number_of r es ≢ pos 0) ⊎ (n < most)
   room_at n less = elim (cases_Bool (int_eq (number_of r es) (pos 0))) [
     | inl zero ↦ inr (less (is_zero (number_of r es) zero))
@@ -66,14 +66,14 @@ changed_none now = record {
 
 -- ---- the rows that stand
 
-pub kept_less : (r : List Value) (rows before rest : Rows) → HasKept rows before (r ∷ rest) → HasKept (without_one r rows) before rest
+pub kept_less : (r : List Cell) (rows before rest : Rows) → HasKept rows before (r ∷ rest) → HasKept (without_one r rows) before rest
 kept_less r rows before rest h = record {
   none = h.none;
   ordered = without_one-in_order r rows h.ordered;
   same = λ q. let was : count_of q rows ≡ once q r + count_of q rest = h.same q in omega (arith, count-without_one q r rows, was);
 }
 
-pub kept_more : (r : List Value) (rows before rest : Rows) → HasKept rows before rest → HasKept (with_row r rows) before (r ∷ rest)
+pub kept_more : (r : List Cell) (rows before rest : Rows) → HasKept rows before rest → HasKept (with_row r rows) before (r ∷ rest)
 kept_more r rows before rest h = record {
   none = h.none;
   ordered = with_row-in_order r rows h.ordered;
@@ -83,7 +83,7 @@ kept_more r rows before rest h = record {
 pub kept_is : (rows before now : Rows) → HasKept rows before now → rows ≡ sorted_rows now
 kept_is rows before now h = one_list rows (sorted_rows now) h.ordered (sorted_rows-in_order now) (λ q. h.same q ∙ sym (count-sorted_rows q now))
 
-pub kept_there : (r : List Value) (rows before rest : Rows) → HasKept rows before (r ∷ rest) → 0 < count_of r rows
+pub kept_there : (r : List Cell) (rows before rest : Rows) → HasKept rows before (r ∷ rest) → 0 < count_of r rows
 kept_there r rows before rest h = let was : count_of r rows ≡ once r r + count_of r rest = h.same r in omega (arith, once_itself r, was)
 
 pub kept_few : (rows before now : Rows) → HasKept rows before now → length rows ≡ length now
@@ -120,7 +120,7 @@ told_of_panes f es rows before now next panes told =
     subst (λ (g : Form). IsToldOf g es rows before next) (sym panes) none
 
 -- the counts alone matter
-pub told_same : (f : Form) (es : Numbers) (rows before now other : Rows) → ((q : List Value) → count_of q now ≡ count_of q other) → IsToldOf f es rows before now → IsToldOf f es rows before other
+pub told_same : (f : Form) (es : Numbers) (rows before now other : Rows) → ((q : List Cell) → count_of q now ≡ count_of q other) → IsToldOf f es rows before now → IsToldOf f es rows before other
 told_same form.Panes es rows before now other same h = h
 told_same form.Istream es rows before now other same h = record { ordered = h.ordered; tally = h.tally; change = λ q. h.change q ∙ ap (λ n. pos n -ℤ pos (count_of q before)) (same q) }
 told_same form.Dstream es rows before now other same h = record { ordered = h.ordered; tally = h.tally; change = λ q. h.change q ∙ ap (λ n. pos n -ℤ pos (count_of q before)) (same q) }

@@ -4,6 +4,7 @@ use Rattle.std.specs.List.{cons_option}
 use Rattle.std.specs.FinMap.Entries.{where_key}
 use Rattle.wsm_record.specs.declared.limits.TheConstants.{MAX_PANES}
 use Rattle.wsm_record.specs.declared.event.Value.{Value}
+use Rattle.wsm_record.specs.declared.cell.Cell.{Cell}
 use Rattle.wsm_record.specs.declared.words.Form.{Form}
 use Rattle.wsm_record.specs.declared.words.Form.TheVariants as form
 use Rattle.wsm_windows.specs.declared.window.Shape.{Shape}
@@ -25,11 +26,11 @@ use Rattle.wsm_relation.specs.Tally.{Tally, IsTally, IsChange, gains, losses, un
 pub record Standing : Type 0 where
   pub form : Form
   pub room : ℕ
-  pub numbers : List (List Value × ℤ)
-  pub rows : List (List Value)
+  pub numbers : List (List Cell × ℤ)
+  pub rows : List (List Cell)
 
 -- the rows that stand for panes
-abbrev pub standing_rows : {X : Type 0} → List (Place × Pane X) → List (List Value)
+abbrev pub standing_rows : {X : Type 0} → List (Place × Pane X) → List (List Cell)
 standing_rows panes = filter_map (λ e. standing_row e.1.stands) panes
 
 -- whether a record joins two sessions that both fired
@@ -38,77 +39,77 @@ are_both_fired (e ∷ f ∷ es) = has_fired e.1.stands && has_fired f.1.stands
 are_both_fired _ = false
 
 -- the rows that stand once a record is put in: two sessions that both fired and are joined stand for nothing
-abbrev pub rows_with : Shape → Datum → List (Place × Pane (List Value)) → List (List Value)
+abbrev pub rows_with : Shape → Datum → List (Place × Pane (List Value)) → List (List Cell)
 rows_with (Session gap) d panes = if are_both_fired (linked gap d panes) then standing_rows (where_key place_cmp (λ p. not (is_linked gap d p)) panes) else standing_rows panes
 rows_with shape d panes = standing_rows panes
 
 -- ---- what was told of the relation at the last instant and of the one now
 
-pub record HasChanged (numbers : List (List Value × ℤ)) (before now : List (List Value)) : Type 0 where
+pub record HasChanged (numbers : List (List Cell × ℤ)) (before now : List (List Cell)) : Type 0 where
   pub ordered : IsInOrder before
   pub tally : IsTally numbers
   pub change : IsChange before now numbers
 
-pub record HasKept (rows before now : List (List Value)) : Type 0 where
+pub record HasKept (rows before now : List (List Cell)) : Type 0 where
   pub none : before ≡ []
   pub ordered : IsInOrder rows
-  pub same : (q : List Value) → count_of q rows ≡ count_of q now
+  pub same : (q : List Cell) → count_of q rows ≡ count_of q now
 
-abbrev pub IsToldOf : Form → List (List Value × ℤ) → List (List Value) → List (List Value) → List (List Value) → Type 0
+abbrev pub IsToldOf : Form → List (List Cell × ℤ) → List (List Cell) → List (List Cell) → List (List Cell) → Type 0
 IsToldOf form.Panes numbers rows before now = before ≡ []
 IsToldOf form.Istream numbers rows before now = HasChanged numbers before now
 IsToldOf form.Dstream numbers rows before now = HasChanged numbers before now
 IsToldOf form.Rstream numbers rows before now = HasKept rows before now
 
-abbrev pub IsTold : Standing → List (List Value) → List (List Value) → Type 0
+abbrev pub IsTold : Standing → List (List Cell) → List (List Cell) → Type 0
 IsTold s before now = IsToldOf s.form s.numbers s.rows before now
 
 -- the relation at the last instant, from the one now: it is kept where changes against it are written
-abbrev pub relation_before : Form → List (List Value × ℤ) → List (List Value) → List (List Value)
+abbrev pub relation_before : Form → List (List Cell × ℤ) → List (List Cell) → List (List Cell)
 relation_before form.Istream numbers now = undone numbers now
 relation_before form.Dstream numbers now = undone numbers now
 relation_before _ numbers now = []
 
 -- no more rows than there is room for
-pub record AreWithin (room : ℕ) (before now : List (List Value)) : Type 0 where
+pub record AreWithin (room : ℕ) (before now : List (List Cell)) : Type 0 where
   pub few_before : length before ≤ room
   pub few_now : length now ≤ room
 
 -- what was told, of no more rows than there is room for, before the relation loses a row, if there is one
-pub record CanLose (s : Standing) (row : Option (List Value)) : Type 0 where
-  pub before : List (List Value)
-  pub rest : List (List Value)
+pub record CanLose (s : Standing) (row : Option (List Cell)) : Type 0 where
+  pub before : List (List Cell)
+  pub rest : List (List Cell)
   pub told : IsTold s before (cons_option row rest)
   pub within : AreWithin s.room before (cons_option row rest)
 
 -- some rows and those of two panes, where both fired
-abbrev pub rows_and : Pane (List Value) → Pane (List Value) → List (List Value) → List (List Value)
+abbrev pub rows_and : Pane (List Value) → Pane (List Value) → List (List Cell) → List (List Cell)
 rows_and v w rows = if has_fired v.stands && has_fired w.stands then cons_option (standing_row v.stands) (cons_option (standing_row w.stands) rows) else rows
 
 -- before it loses those of two panes
 pub record CanLosePair (s : Standing) (v w : Pane (List Value)) : Type 0 where
-  pub before : List (List Value)
-  pub rest : List (List Value)
+  pub before : List (List Cell)
+  pub rest : List (List Cell)
   pub told : IsTold s before (rows_and v w rest)
   pub within : AreWithin s.room before (rows_and v w rest)
 
 -- before it gains one
-pub record CanGain (s : Standing) (row : Option (List Value)) : Type 0 where
-  pub before : List (List Value)
-  pub now : List (List Value)
+pub record CanGain (s : Standing) (row : Option (List Cell)) : Type 0 where
+  pub before : List (List Cell)
+  pub now : List (List Cell)
   pub told : IsTold s before now
   pub within : AreWithin s.room before (cons_option row now)
 
 -- before it is written
 pub record CanAdvance (s : Standing) : Type 0 where
-  pub before : List (List Value)
-  pub now : List (List Value)
+  pub before : List (List Cell)
+  pub now : List (List Cell)
   pub told : IsTold s before now
   pub within : AreWithin s.room before now
 
 -- what was told of these panes, of which there are no more than there is room for
 pub record CanTell {X : Type 0} (s : Standing) (panes : List (Place × Pane X)) : Type 0 where
-  pub before : List (List Value)
+  pub before : List (List Cell)
   pub told : IsTold s before (standing_rows panes)
   pub few_before : length before ≤ s.room
   pub few : length panes ≤ s.room
@@ -120,7 +121,7 @@ pub record AreAlike (old new : Standing) : Type 0 where
 
 -- what was told of some panes is told of those that they became, as many
 pub record Tells {X : Type 0} (old new : Standing) (before after : List (Place × Pane X)) : Type 0 where
-  pub told : (relation : List (List Value)) → IsTold old relation (standing_rows before) → IsTold new relation (standing_rows after)
+  pub told : (relation : List (List Cell)) → IsTold old relation (standing_rows before) → IsTold new relation (standing_rows after)
   pub alike : AreAlike old new
   pub as_many : length after ≡ length before
 
@@ -132,19 +133,19 @@ HasRoomFor form.Panes n rows capacity = Unit {0}
 HasRoomFor _ n rows capacity = rows + n ≤ capacity
 
 -- the relation that is kept after an instant, from the one before and the one that panes stand for
-abbrev pub relation_kept : Form → List (List Value) → List (List Value) → List (List Value)
+abbrev pub relation_kept : Form → List (List Cell) → List (List Cell) → List (List Cell)
 relation_kept form.Istream old now = now
 relation_kept form.Dstream old now = now
 relation_kept _ old now = old
 
 -- a row of a stream
-abbrev pub stream_row : Form → ℤ → List Value → OutRow
+abbrev pub stream_row : Form → ℤ → List Cell → OutRow
 stream_row form.Istream mark row = Istream mark row
 stream_row form.Dstream mark row = Dstream mark row
 stream_row _ mark row = Rstream mark row
 
 -- the rows of a stream
-abbrev pub stream_of : Form → List (List Value × ℤ) → List (List Value) → List (List Value)
+abbrev pub stream_of : Form → List (List Cell × ℤ) → List (List Cell) → List (List Cell)
 stream_of form.Istream numbers rows = gains numbers
 stream_of form.Dstream numbers rows = losses numbers
 stream_of _ numbers rows = rows

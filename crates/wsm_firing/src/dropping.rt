@@ -3,7 +3,7 @@
 ghost use Rattle.std.specs.Prelude.{◌≡◌, List, int_lt};
 ghost use Rattle.std.specs.List.{AllByRecursion};
 ghost use Rattle.std.specs.FinMap.Entries.{where_key};
-ghost use Rattle.wsm_record.specs.declared.event.Value.{Value};
+ghost use Rattle.wsm_record.specs.declared.cell.Cell.{Cell};
 ghost use Rattle.wsm_windows.specs.Windows.{IsPlaced};
 ghost use Rattle.wsm_windows.specs.Places.{place_cmp, window_of};
 ghost use Rattle.wsm_panes.specs.Held.{IsKept, entries_of};
@@ -20,7 +20,7 @@ pub fn drop_expired(held: &mut HeldPanes, streams: &mut Streams, limit: i64)
     requires tells { CanTell streams.old (entries_of held.old) }
     ensures panes { entries_of held.new ≡ where_key place_cmp (λ p. int_lt limit p.end) (entries_of held.old) }
     ensures keeps { IsKept held.old held.new }
-    ensures told { (relation : List (List Value)) → IsTold streams.old relation (standing_rows (entries_of held.old)) → IsTold streams.new relation (standing_rows (entries_of held.new)) }
+    ensures told { (relation : List (List Cell)) → IsTold streams.old relation (standing_rows (entries_of held.old)) → IsTold streams.new relation (standing_rows (entries_of held.new)) }
     ensures alike { AreAlike streams.old streams.new }
 {
     lose_expired(streams, held, limit);
@@ -31,7 +31,7 @@ pub fn drop_expired(held: &mut HeldPanes, streams: &mut Streams, limit: i64)
 fn lose_expired(streams: &mut Streams, held: &HeldPanes, limit: i64)
     requires placed { AllByRecursion (λ e. IsPlaced (window_of e.0)) (entries_of held.now) }
     requires tells { CanTell streams.old (entries_of held.now) }
-    ensures told { (relation : List (List Value)) → IsTold streams.old relation (standing_rows (entries_of held.now)) → IsTold streams.new relation (standing_rows (where_key place_cmp (λ p. int_lt limit p.end) (entries_of held.now))) }
+    ensures told { (relation : List (List Cell)) → IsTold streams.old relation (standing_rows (entries_of held.now)) → IsTold streams.new relation (standing_rows (where_key place_cmp (λ p. int_lt limit p.end) (entries_of held.now))) }
     ensures alike { AreAlike streams.old streams.new }
 {
     if let Form::Panes = streams.form() {

@@ -1,7 +1,7 @@
 //! A record put into its panes.
 
 ghost use Rattle.std.specs.Prelude.{◌≡◌, ◌<◌, ◌≤◌, ℤ, List, [], length};
-ghost use Rattle.wsm_record.specs.declared.event.Value.{Value as OneValue};
+ghost use Rattle.wsm_record.specs.declared.cell.Cell.{Cell};
 ghost use Rattle.wsm_windows.specs.Windows.{IsShape, IsTime, windows_of_shape};
 ghost use Rattle.wsm_windows.specs.declared.window.Shape.TheVariants.{Session};
 ghost use Rattle.wsm_semantics.specs.Replay.{datum};
@@ -27,7 +27,7 @@ pub fn enter(
     requires tells { CanTell streams.old (entries_of held.old) }
     ensures panes { entries_of held.new ≡ with_entered kinds.now key time values.now held.old }
     ensures keeps { IsKept held.old held.new }
-    ensures told { (relation : List (List OneValue)) → IsTold streams.old relation (standing_rows (entries_of held.old)) → IsTold streams.new relation (standing_rows (entries_of held.new)) }
+    ensures told { (relation : List (List Cell)) → IsTold streams.old relation (standing_rows (entries_of held.old)) → IsTold streams.new relation (standing_rows (entries_of held.new)) }
     ensures alike { AreAlike streams.old streams.new }
     ensures windows { result.windows ≡ length (windows_of_shape held.old.shape time) }
     ensures joined { result.joined ≡ joins_sessions held.old.shape (datum 0 key time []) (entries_of held.old) }
@@ -45,7 +45,7 @@ fn lose_joined(streams: &mut Streams, held: &HeldPanes, key: u16, time: i64)
     requires declared { key < held.now.keys }
     requires timely { IsTime time }
     requires tells { CanTell streams.old (entries_of held.now) }
-    ensures told { (relation : List (List OneValue)) → IsTold streams.old relation (standing_rows (entries_of held.now)) → IsTold streams.new relation (rows_with held.now.shape (datum 0 key time []) (entries_of held.now)) }
+    ensures told { (relation : List (List Cell)) → IsTold streams.old relation (standing_rows (entries_of held.now)) → IsTold streams.new relation (rows_with held.now.shape (datum 0 key time []) (entries_of held.now)) }
     ensures alike { AreAlike streams.old streams.new }
     ensures few { (gap : ℤ) → held.now.shape ≡ Session gap → length (linked gap (datum 0 key time []) (entries_of held.now)) ≤ 2 }
     ensures shape { IsShape held.now.shape }
@@ -58,7 +58,7 @@ fn lose_joined(streams: &mut Streams, held: &HeldPanes, key: u16, time: i64)
 // Tells the streams the rows of two panes that are joined, where both fired.
 fn lose_pair(streams: &mut Streams, pair: &(Pane, Pane))
     requires { CanLosePair streams.old pair.now.0 pair.now.1 }
-    ensures told { (relation now : List (List OneValue)) → IsTold streams.old relation (rows_and pair.now.0 pair.now.1 now) → IsTold streams.new relation now }
+    ensures told { (relation now : List (List Cell)) → IsTold streams.old relation (rows_and pair.now.0 pair.now.1 now) → IsTold streams.new relation now }
     ensures alike { AreAlike streams.old streams.new }
 {
     if pair.0.has_fired() && pair.1.has_fired() {

@@ -20,8 +20,8 @@ use crate::streams::Streams;
 use crate::tally::Tally;
 use wsm_machine::Machine;
 use wsm_panes::{HeldPanes, Spot};
-use wsm_record::Form;
-use wsm_semantics::{Columns, OutRow};
+use wsm_record::{Columns, Form};
+use wsm_semantics::OutRow;
 use wsm_verifier::Verified;
 use wsm_windows::{PaneKind, Window};
 

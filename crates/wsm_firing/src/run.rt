@@ -1,17 +1,15 @@
 //! FIRE run on a pane.
 
-ghost use Rattle.std.specs.Prelude.{◌≡◌, ◌≤◌, [], None, Some, if◌then◌else◌, length, map, IfSome};
+ghost use Rattle.std.specs.Prelude.{◌≡◌, ◌≤◌, [], None, Some, if◌then◌else◌, length, IfSome};
 ghost use Rattle.wsm_semantics.specs.Summaries.{columns as columns_by, fired_count as fired_count_of};
 ghost use Rattle.wsm_machine.specs.Meaning.{plan_of, pane_cost_by};
 ghost use Rattle.wsm_machine.specs.Sound.{MayFire};
-ghost use Rattle.wsm_machine.specs.Step.{value_of};
 ghost use Rattle.wsm_firing.specs.Due.{fired_by};
 
 use crate::fire::Due;
-use wsm_machine::{Cell, Inputs, Machine};
+use wsm_machine::{Inputs, Machine};
 use wsm_panes::PaneView;
-use wsm_record::Mode;
-use wsm_semantics::Columns;
+use wsm_record::{Cell, Columns, Mode};
 use wsm_verifier::Verified;
 
 /// Runs FIRE on a pane that fires. Adds the columns of its row, or takes the row away where HAVING is
@@ -56,20 +54,20 @@ fn fired_count(mode: Mode, pane: &PaneView<'_>) -> u64
 fn set_row(row: &mut Option<Columns>, emits: bool, cells: &[Cell])
     requires empty { row.old ≡ Some [] }
     requires few { length cells.now ≤ 16 }
-    ensures { row.new ≡ (if emits then Some (map value_of cells.now) else None) }
+    ensures { row.new ≡ (if emits then Some cells.now else None) }
 {
     match row {
-        Some(columns) if emits => add_values(columns, cells),
+        Some(columns) if emits => add_cells(columns, cells),
         _ => *row = None,
     }
 }
 
-fn add_values(columns: &mut Columns, cells: &[Cell])
+fn add_cells(columns: &mut Columns, cells: &[Cell])
     requires empty { columns.old ≡ [] }
     requires few { length cells.now ≤ 16 }
-    ensures { columns.new ≡ map value_of cells.now }
+    ensures { columns.new ≡ cells.now }
 {
     for cell in cells {
-        columns.push(cell.value());
+        columns.push(*cell);
     }
 }

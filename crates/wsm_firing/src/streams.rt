@@ -2,7 +2,7 @@
 
 ghost use Rattle.std.specs.Prelude.{◌≡◌, ◌≤◌, ◌+◌, ◌++◌, [], ◌∷◌, List, Some, map, length, IfOk, vec_len, vec_capacity};
 ghost use Rattle.std.specs.List.{cons_option};
-ghost use Rattle.wsm_record.specs.declared.event.Value.{Value};
+ghost use Rattle.wsm_record.specs.declared.cell.Cell.{Cell};
 ghost use Rattle.wsm_semantics.specs.Relation.{sorted_rows};
 ghost use Rattle.wsm_semantics.specs.Summaries.{standing_row};
 ghost use Rattle.wsm_semantics.specs.Steps.{stream_rows};
@@ -11,10 +11,10 @@ ghost use Rattle.wsm_firing.specs.Streams.{AreAlike, CanAdvance, CanGain, CanLos
 use std::alloc::{AllocError, Global};
 use std::marker::Model;
 use wsm_panes::PaneView;
-use wsm_record::Form;
 use wsm_record::limits::{MAX_COLUMNS, MAX_PANES};
+use wsm_record::{Columns, Form};
 use wsm_relation::{Changes, Relation, rstream};
-use wsm_semantics::{Columns, OutRow};
+use wsm_semantics::OutRow;
 
 /// The streams of the relation of the rows that stand for the panes that are held, which is told each
 /// row that it gains and each that it loses: what it gained since the last instant, what it lost, or
@@ -83,7 +83,7 @@ impl Streams {
     #[inline(always)]
     pub(crate) fn lose(&mut self, pane: &PaneView<'_>)
         requires { CanLose self.old (standing_row pane.now.stands) }
-        ensures told { (before now : List (List Value)) → IsTold self.old before (cons_option (standing_row pane.now.stands) now) → IsTold self.new before now }
+        ensures told { (before now : List (List Cell)) → IsTold self.old before (cons_option (standing_row pane.now.stands) now) → IsTold self.new before now }
         ensures alike { AreAlike self.old self.new }
     {
         if let Form::Panes = self.form {
@@ -96,7 +96,7 @@ impl Streams {
     #[inline(never)]
     fn lose_standing(&mut self, pane: &PaneView<'_>)
         requires { CanLose self.old (standing_row pane.now.stands) }
-        ensures told { (before now : List (List Value)) → IsTold self.old before (cons_option (standing_row pane.now.stands) now) → IsTold self.new before now }
+        ensures told { (before now : List (List Cell)) → IsTold self.old before (cons_option (standing_row pane.now.stands) now) → IsTold self.new before now }
         ensures alike { AreAlike self.old self.new }
     {
         if let Some(row) = pane.standing_row() {
@@ -108,7 +108,7 @@ impl Streams {
     #[inline(always)]
     pub(crate) fn gain(&mut self, row: &Option<Columns>)
         requires { CanGain self.old row.now }
-        ensures told { (before now : List (List Value)) → IsTold self.old before now → IsTold self.new before (cons_option row.now now) }
+        ensures told { (before now : List (List Cell)) → IsTold self.old before now → IsTold self.new before (cons_option row.now now) }
         ensures alike { AreAlike self.old self.new }
     {
         if let Form::Panes = self.form {
@@ -121,7 +121,7 @@ impl Streams {
     #[inline(never)]
     fn gain_standing(&mut self, row: &Option<Columns>)
         requires { CanGain self.old row.now }
-        ensures told { (before now : List (List Value)) → IsTold self.old before now → IsTold self.new before (cons_option row.now now) }
+        ensures told { (before now : List (List Cell)) → IsTold self.old before now → IsTold self.new before (cons_option row.now now) }
         ensures alike { AreAlike self.old self.new }
     {
         if let Some(row) = row {
@@ -131,7 +131,7 @@ impl Streams {
 
     fn lose_row(&mut self, row: &Columns)
         requires { CanLose self.old (Some row.now) }
-        ensures told { (before now : List (List Value)) → IsTold self.old before (row.now ∷ now) → IsTold self.new before now }
+        ensures told { (before now : List (List Cell)) → IsTold self.old before (row.now ∷ now) → IsTold self.new before now }
         ensures alike { AreAlike self.old self.new }
     {
         match self.form {
@@ -143,7 +143,7 @@ impl Streams {
 
     fn gain_row(&mut self, row: &Columns)
         requires { CanGain self.old (Some row.now) }
-        ensures told { (before now : List (List Value)) → IsTold self.old before now → IsTold self.new before (row.now ∷ now) }
+        ensures told { (before now : List (List Cell)) → IsTold self.old before now → IsTold self.new before (row.now ∷ now) }
         ensures alike { AreAlike self.old self.new }
     {
         match self.form {
@@ -158,9 +158,9 @@ impl Streams {
     pub fn advance(&mut self, mark: i64, rows: &mut Vec<OutRow>)
         requires told { CanAdvance self.old }
         requires rows { HasRoomFor self.old.form self.old.room (vec_len rows.old) (vec_capacity rows.old) }
-        ensures told { (before now : List (List Value)) → IsTold self.old before now → IsTold self.new (relation_kept self.old.form before (sorted_rows now)) now }
+        ensures told { (before now : List (List Cell)) → IsTold self.old before now → IsTold self.new (relation_kept self.old.form before (sorted_rows now)) now }
         ensures alike { AreAlike self.old self.new }
-        ensures rows { (before now : List (List Value)) → IsTold self.old before now → rows.new.items ≡ rows.old.items ++ stream_rows self.old.form mark before (sorted_rows now) }
+        ensures rows { (before now : List (List Cell)) → IsTold self.old before now → rows.new.items ≡ rows.old.items ++ stream_rows self.old.form mark before (sorted_rows now) }
         ensures capacity { vec_capacity rows.new ≡ vec_capacity rows.old }
     {
         if let Form::Panes = self.form {

@@ -16,8 +16,8 @@ use Rattle.wsm_verifier.specs.declared.known.Known.{Known}
 use Rattle.wsm_verifier.specs.declared.known.Known.TheVariants.{Number, Truth, NameOf}
 use Rattle.wsm_verifier.specs.Labels.{State as Knows, Reached, Visit, visit_of, visits, label_of, label_at}
 use Rattle.wsm_verifier.specs.Rules.{Setting as Rules, kind_of, folds_into, types_fit, last_number, hull_options, value_folded, values_folded}
-use Rattle.wsm_machine.specs.declared.cell.Cell.{Cell}
-use Rattle.wsm_machine.specs.declared.cell.Cell.TheVariants as cell
+use Rattle.wsm_record.specs.declared.cell.Cell.{Cell}
+use Rattle.wsm_record.specs.declared.cell.Cell.TheVariants as cell
 use Rattle.wsm_machine.specs.Step.{Setting, State, with_fold, value_of}
 use Rattle.wsm_machine.specs.Fits.{Fits, FitsAll}
 use Rattle.wsm_machine.specs.InRange.{is_number_in, is_value_in, are_values_in}

@@ -14,7 +14,7 @@ use Rattle.wsm_verifier.specs.declared.known.Known.{Known}
 use Rattle.wsm_verifier.specs.Labels as labels
 use Rattle.wsm_verifier.specs.Rules as rules
 use Rattle.wsm_verifier.proofs.Accepting.{Passes}
-use Rattle.wsm_machine.specs.declared.cell.Cell.{Cell}
+use Rattle.wsm_record.specs.declared.cell.Cell.{Cell}
 use Rattle.wsm_machine.specs.Inputs.{Inputs}
 use Rattle.wsm_program.specs.Instructions.{pops, how_many}
 use Rattle.wsm_machine.specs.Step.{Setting, State, setting, Goes, step, taken, after, folds_twice, has_no_room, pushed, push_on, with_fold, value_of, returns_badly}

@@ -11,7 +11,6 @@ use Rattle.wsm_record.specs.Event.{Event, Record}
 use Rattle.wsm_windows.specs.declared.window.Shape.{Shape}
 use Rattle.wsm_windows.specs.declared.window.Shape.TheVariants.{Fixed, Sliding, Session}
 use Rattle.wsm_windows.specs.Windows.{windows_of_shape}
-use Rattle.wsm_windows.specs.declared.place.Place.{Place}
 use Rattle.wsm_fold.specs.Accumulators.{SumsFit}
 use Rattle.wsm_semantics.specs.Query.{Query, Datum, is_taken, selected}
 use Rattle.wsm_semantics.specs.Panes.{windows_among}
@@ -24,11 +23,11 @@ use Rattle.wsm_semantics.proofs.Images.{where-summaries}
 use Rattle.wsm_program.specs.Program.{Program, is_program}
 use Rattle.wsm_program.specs.declared.program.Costs.{Costs}
 use Rattle.wsm_verifier.specs.Rules.{judge}
-use Rattle.wsm_machine.specs.declared.cell.Cell.{Cell}
-use Rattle.wsm_machine.specs.declared.cell.Cell.TheVariants as cells
+use Rattle.wsm_record.specs.declared.cell.Cell.{Cell}
+use Rattle.wsm_record.specs.declared.cell.Cell.TheVariants as cells
+use Rattle.wsm_windows.specs.declared.place.Place.{Place}
 use Rattle.wsm_machine.specs.declared.outcome.Outcome.TheVariants.{Done}
-use Rattle.wsm_machine.specs.Step.{value_of}
-use Rattle.wsm_machine.specs.Meaning.{where_run, update_run, fire_run, is_done, top_is_true, values_below, selects, updated, row, query_of, plan_of, record_steps, joins_two, joins_held, joins_kept, CountsSessions, record_cost, record_cost_by, fire_steps, pane_cost, pane_cost_by}
+use Rattle.wsm_machine.specs.Meaning.{where_run, update_run, fire_run, is_done, top_is_true, cells_below, selects, updated, row, query_of, plan_of, record_steps, joins_two, joins_held, joins_kept, CountsSessions, record_cost, record_cost_by, fire_steps, pane_cost, pane_cost_by}
 use Rattle.wsm_machine.specs.Sound.{AreFoldsOf, IsSoundPane, IsDatumInRange}
 use Rattle.wsm_machine.proofs.Leaving.{values_are}
 use Rattle.wsm_machine.proofs.Meaning.{folded_is}
@@ -47,10 +46,10 @@ module _ (p : Program) (key : ℕ) where
 
   -- FIRE left a row and a truth
   pub row_is : (n : ℕ) (held : List Value) (b : Bool) (columns : List Cell) → (fire_run p key n held).outcome ≡ Done → (fire_run p key n held).stack ≡ cells.Bool b ∷ reverse columns
-      → row p key n held ≡ cond b (Some (map value_of columns)) None
+      → row p key n held ≡ cond b (Some columns) None
   row_is n held b columns done left =
-      (λ i. cond (is_done (done i) && top_is_true (left i)) (Some (values_below (left i))) None)
-      ∙ ap (λ (cs : List Cell). cond b (Some (map value_of cs)) None) (reverse-reverse columns)
+      (λ i. cond (is_done (done i) && top_is_true (left i)) (Some (cells_below (left i))) None)
+      ∙ ap (λ (cs : List Cell). cond b (Some cs) None) (reverse-reverse columns)
 
 -- a record is folded into a sound pane in 64 bits, where it has fewer records than the program allows
 pub pane_fits : (p : Program) (costs : Costs) → judge p ≡ Ok costs → IsTrue (is_program p) → (d : Datum) → IsDatumInRange p d → (n : ℕ) (h : Pane (List Value)) (held : List Value) →

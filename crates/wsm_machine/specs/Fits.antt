@@ -9,8 +9,8 @@ use Rattle.wsm_record.specs.Schema.{is_i64}
 use Rattle.wsm_verifier.specs.declared.known.Known.{Known}
 use Rattle.wsm_verifier.specs.declared.known.Known.TheVariants.{Number, Truth, NameOf}
 use Rattle.wsm_verifier.specs.Labels as labels
-use Rattle.wsm_machine.specs.declared.cell.Cell.{Cell}
-use Rattle.wsm_machine.specs.declared.cell.Cell.TheVariants.{Int, Bool, Enum}
+use Rattle.wsm_record.specs.declared.cell.Cell.{Cell}
+use Rattle.wsm_record.specs.declared.cell.Cell.TheVariants.{Int, Bool, Enum}
 use Rattle.wsm_machine.specs.Inputs.{Inputs}
 use Rattle.wsm_machine.specs.Step.{State, setting, cell_of, overflows, Goes, Ends, step}
 

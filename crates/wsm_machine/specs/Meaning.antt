@@ -9,8 +9,6 @@ use Rattle.wsm_record.specs.Event.{Event, Record}
 use Rattle.wsm_windows.specs.declared.window.Shape.{Shape}
 use Rattle.wsm_windows.specs.declared.window.Shape.TheVariants.{Session}
 use Rattle.wsm_windows.specs.Windows.{windows_of_shape}
-use Rattle.wsm_windows.specs.declared.place.Place.{Place}
-use Rattle.wsm_windows.specs.Places.{at}
 use Rattle.wsm_admission.specs.declared.verdict.Admitted.{Admitted}
 use Rattle.wsm_admission.specs.declared.verdict.Admitted.TheVariants as admitted
 use Rattle.wsm_admission.specs.declared.verdict.Refusal.{Refusal}
@@ -25,14 +23,15 @@ use Rattle.wsm_semantics.specs.Steps.{State, answer_to}
 use Rattle.wsm_fold.specs.Fold.{joins, folds_of}
 use Rattle.wsm_program.specs.declared.instr.SectionId.TheVariants.{Where, Update, Fire}
 use Rattle.wsm_program.specs.Program.{Program}
-use Rattle.wsm_machine.specs.declared.cell.Cell.{Cell}
-use Rattle.wsm_machine.specs.declared.cell.Cell.TheVariants as cells
+use Rattle.wsm_record.specs.declared.cell.Cell.{Cell}
+use Rattle.wsm_record.specs.declared.cell.Cell.TheVariants as cells
+use Rattle.wsm_windows.specs.declared.place.Place.{Place}
+use Rattle.wsm_windows.specs.Places.{at}
 use Rattle.wsm_machine.specs.declared.outcome.Outcome.{Outcome}
 use Rattle.wsm_machine.specs.declared.outcome.Outcome.TheVariants.{Done}
 use Rattle.wsm_machine.specs.declared.run.Ran.{Ran}
 use Rattle.wsm_machine.specs.Inputs.{Inputs}
 use Rattle.wsm_machine.specs.InRange.{folded_value}
-use Rattle.wsm_machine.specs.Step.{value_of}
 use Rattle.wsm_machine.specs.Run.{run}
 
 -- ---- runs
@@ -64,10 +63,10 @@ abbrev pub top_is_true : List Cell → Bool
 top_is_true (cells.Bool b ∷ rest) = b
 top_is_true _ = false
 
--- the values below the top, the lowest first
-abbrev pub values_below : List Cell → List Value
-values_below [] = []
-values_below (top ∷ rest) = map value_of (reverse rest)
+-- what is below the top, the lowest first
+abbrev pub cells_below : List Cell → List Cell
+cells_below [] = []
+cells_below (top ∷ rest) = reverse rest
 
 -- the run ended with a truth on top, which is true
 abbrev pub says_true : Ran → Bool
@@ -81,10 +80,10 @@ abbrev pub updated : Program → ℕ → List Value → List Value
 updated p key values = map folded_value (update_run p key values).folds
 
 -- the columns, where HAVING is true
-abbrev pub columns_of : Ran → Option (List Value)
-columns_of r = if says_true r then Some (values_below r.stack) else None
+abbrev pub columns_of : Ran → Option (List Cell)
+columns_of r = if says_true r then Some (cells_below r.stack) else None
 
-abbrev pub row : Program → ℕ → ℕ → List Value → Option (List Value)
+abbrev pub row : Program → ℕ → ℕ → List Value → Option (List Cell)
 row p key count accs = columns_of (fire_run p key count accs)
 
 -- what UPDATE gives of some records, and what these are folded to

@@ -2,6 +2,8 @@
 use Rattle.std.specs.Prelude.{◌≡◌, refl, ℕ, true, List, [], ◌∷◌, ◌++◌, reverse, map, filter_map, ℤ, pos, Some, None, Ok, codes}
 use Rattle.wsm_record.specs.declared.event.Value.{Value}
 use Rattle.wsm_record.specs.declared.event.Value.TheVariants.{Int}
+use Rattle.wsm_record.specs.declared.cell.Cell.{Cell}
+use Rattle.wsm_record.specs.declared.cell.Cell.TheVariants as cells
 use Rattle.wsm_record.specs.declared.words.Kind.TheVariants.{Sum}
 use Rattle.wsm_record.specs.declared.words.Mode.{Mode}
 use Rattle.wsm_record.specs.declared.words.Mode.TheVariants.{Discarding, Accumulating}
@@ -58,8 +60,8 @@ session = base (Session (pos 30)) Accumulating
 abbrev a : ℕ → ℕ → Event
 a time n = Record (Some 0) (pos time) (Int (pos n) ∷ [])
 
-abbrev ints : List ℕ → List Value
-ints ns = map (λ n. Int (pos n)) ns
+abbrev ints : List ℕ → List Cell
+ints ns = map (λ n. cells.Int (pos n)) ns
 
 -- ---- by the meaning
 
@@ -108,7 +110,7 @@ fired_at p new held = map Out (filter_map (row_of (plan_of p)) (fired_by_waterma
 
 two_records_are_kept :
     after fixed (d 59 3 ∷ d 5 7 ∷ [])
-    ≡ (record { end = pos 60; start = pos 0; key = 0 }, record { count = 2; unshown = 2; folded = Some (ints (10 ∷ [])); stands = Unfired }) ∷ []
+    ≡ (record { end = pos 60; start = pos 0; key = 0 }, record { count = 2; unshown = 2; folded = Some (Int (pos 10) ∷ []); stands = Unfired }) ∷ []
 two_records_are_kept = refl
 
 two_records_fire :
@@ -117,7 +119,7 @@ two_records_fire = refl
 
 a_record_joins_two_sessions :
     after session (d 20 4 ∷ d 40 2 ∷ d 0 1 ∷ [])
-    ≡ (record { end = pos 70; start = pos 0; key = 0 }, record { count = 3; unshown = 3; folded = Some (ints (7 ∷ [])); stands = Unfired }) ∷ []
+    ≡ (record { end = pos 70; start = pos 0; key = 0 }, record { count = 3; unshown = 3; folded = Some (Int (pos 7) ∷ []); stands = Unfired }) ∷ []
 a_record_joins_two_sessions = refl
 
 the_joining_record_costs_six : record_cost_by session (after session (d 40 2 ∷ d 0 1 ∷ [])) (d 20 4) ≡ 6

@@ -1,60 +1,16 @@
-//! Values on the stack.
+//! Values on the stack, and their types.
 
 ghost use Rattle.std.specs.Prelude.{◌≡◌, Some, false};
-ghost use Rattle.wsm_machine.specs.Step.{type_of, value_of, cell_of, is_type as is_type_of, is_same as is_same_of, overflows};
+ghost use Rattle.wsm_machine.specs.Step.{cell_of as the_cell, is_type as is_type_of, is_same as is_same_of, overflows};
 
-use wsm_program::CellType;
-use wsm_record::Value;
+use wsm_record::{Cell, CellType, Value};
 
-/// A value on the stack. A name has its ENUM's number, as in [`CellType::Enum`], before its own.
-#[derive(Clone, Copy, Debug, PartialEq, Eq)]
-pub enum Cell {
-    Int(i64),
-    Bool(bool),
-    Enum(u8, u16),
-}
-
-// What fills the places that hold no value.
-impl Default for Cell {
-    fn default() -> Self {
-        Cell::Bool(false)
-    }
-}
-
-impl Cell {
-    /// A value, which belongs to this ENUM where it is a name.
-    pub(crate) fn new(number: u8, value: Value) -> Self
-        ensures cell { result ≡ cell_of number value }
-        ensures fits { overflows (Some result) ≡ false }
-    {
-        match value {
-            Value::Int(n) => Cell::Int(n),
-            Value::Bool(b) => Cell::Bool(b),
-            Value::Enum(i) => Cell::Enum(number, i),
-        }
-    }
-
-    /// The type of the value.
-    pub fn ty(self) -> CellType
-        ensures { result ≡ type_of self }
-    {
-        match self {
-            Cell::Int(_) => CellType::Int,
-            Cell::Bool(_) => CellType::Bool,
-            Cell::Enum(number, _) => CellType::Enum(number),
-        }
-    }
-
-    /// The value without its ENUM.
-    pub fn value(self) -> Value
-        ensures { result ≡ value_of self }
-    {
-        match self {
-            Cell::Int(n) => Value::Int(n),
-            Cell::Bool(b) => Value::Bool(b),
-            Cell::Enum(_, i) => Value::Enum(i),
-        }
-    }
+/// A value, which belongs to this ENUM where it is a name.
+pub(crate) fn cell_of(number: u8, value: Value) -> Cell
+    ensures cell { result ≡ the_cell number value }
+    ensures fits { overflows (Some result) ≡ false }
+{
+    Cell::new(number, value)
 }
 
 /// Whether two types are the same.

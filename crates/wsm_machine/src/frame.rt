@@ -4,20 +4,20 @@ ghost use Rattle.std.specs.Prelude.{◌≡◌, ◌≤◌, ◌∷◌, [], Some, N
 ghost use Rattle.std.specs.Option.{SomeIff};
 ghost use Rattle.std.specs.Int.{w64};
 ghost use Rattle.wsm_record.specs.declared.words.CellType.TheVariants as types;
-ghost use Rattle.wsm_machine.specs.declared.cell.Cell.TheVariants as cells;
+ghost use Rattle.wsm_record.specs.declared.cell.Cell.TheVariants as cells;
 ghost use Rattle.wsm_program.specs.Instructions.{Numbers, One, Alike};
 ghost use Rattle.wsm_machine.specs.Step.{has_types};
 ghost use Rattle.wsm_machine.specs.Steps.{operand_trap, Answers, AnswersNumber};
 
-use crate::cell::{Cell, is_type};
+use crate::cell::is_type;
 use crate::folds::Folds;
 use crate::inputs::Inputs;
 use crate::outcome::Trap;
 use crate::stack::Stack;
 use std::alloc::Global;
 use wsm_program::{CellType, Instr, SectionId};
-use wsm_record::Kind;
 use wsm_record::limits::MAX_STACK;
+use wsm_record::{Cell, Kind};
 
 /// The section that runs, what it needs of the header, and what it reads.
 #[derive(Clone, Copy)]

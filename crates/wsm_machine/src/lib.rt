@@ -11,7 +11,6 @@
 //! run executes at most as many instructions as its section has. No run takes memory.
 #![tactic(auto)]
 
-pub use cell::Cell;
 pub use folds::Folds;
 pub use inputs::Inputs;
 pub use machine::{Fired, Kept, Machine, Updated};

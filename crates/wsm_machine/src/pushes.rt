@@ -5,10 +5,11 @@ ghost use Rattle.wsm_program.specs.declared.instr.Instr.TheVariants as instr;
 ghost use Rattle.wsm_machine.specs.Step.{Setting as AnySetting};
 ghost use Rattle.wsm_machine.specs.Steps.{Steps, HasOperand, setting_of};
 
-use crate::cell::Cell;
+use crate::cell::cell_of;
 use crate::frame::{Flow, Frame, Setting};
 use crate::outcome::Trap;
 use wsm_program::SectionId;
+use wsm_record::Cell;
 
 impl Frame {
     /// Pushes a number; `StackFull`.
@@ -41,7 +42,7 @@ impl Frame {
             return Err(Trap::WrongSection);
         }
         let values = setting.inputs.values;
-        self.answer(0, Cell::new(f + 1, values[f as usize]))
+        self.answer(0, cell_of(f + 1, values[f as usize]))
     }
 
     /// Pushes the key, which is of ENUM 0; `StackFull`.
@@ -60,7 +61,7 @@ impl Frame {
             return Err(Trap::WrongSection);
         }
         let accs = setting.inputs.accs;
-        self.answer(0, Cell::new(0, accs[a as usize]))
+        self.answer(0, cell_of(0, accs[a as usize]))
     }
 
     /// Pushes the number of records in the firing; `WrongSection` outside FIRE, `StackFull`.

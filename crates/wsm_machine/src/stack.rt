@@ -2,10 +2,10 @@
 
 ghost use Rattle.std.specs.Prelude.{◌≡◌, ◌<◌, ◌≤◌, ◌+◌, List, [], ◌∷◌, length, reverse, drop, MatchOption};
 
-use crate::cell::Cell;
 use smallvec::SmallVec;
 use std::alloc::Global;
 use std::marker::Model;
+use wsm_record::Cell;
 use wsm_record::limits::MAX_STACK;
 
 /// A stack of at most 32 values, all of them inline: it keeps an allocator and asks it for nothing.
@@ -17,7 +17,7 @@ pub struct Stack {
 
 impl Model for Stack {
     ghost use Rattle.std.specs.Prelude.{◌≡◌, ◌≤◌, List, length, reverse};
-    ghost use Rattle.wsm_machine.specs.declared.cell.Cell.{Cell as OneCell};
+    ghost use Rattle.wsm_record.specs.declared.cell.Cell.{Cell as OneCell};
 
     ghost Value = { List OneCell };
 

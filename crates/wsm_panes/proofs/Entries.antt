@@ -4,16 +4,14 @@ use Rattle.std.specs.Prelude.{◌&&◌, nat_eq}
 use Rattle.std.specs.Bool.{Decides}
 use Rattle.std.specs.declared.cmp.Ordering.{Ordering}
 use Rattle.std.specs.declared.cmp.Ordering.TheVariants.{Less, Equal, Greater}
-use Rattle.std.specs.Ordering.{int_cmp, int_eq, nat_cmp, is_gt, eq_by_cmp}
-use Rattle.std.specs.Cmp.{IsTotalOrder, int_cmp_total, nat_cmp_total, tied_itself}
+use Rattle.std.specs.Ordering.{int_eq, is_gt, eq_by_cmp}
+use Rattle.std.specs.Cmp.{tied_itself}
 use Rattle.std.specs.FinMap.{find, is_sorted}
 use Rattle.std.proofs.lemmas.List.{get_or_default}
 use Rattle.wsm_panes.specs.Search.{IsAt, IsGapFor}
 use Rattle.wsm_panes.proofs.Sorted.{find_absent, find_over, put_over, put_between, reaches, stops, before_within}
 use Rattle.std.proofs.lemmas.Bool.{cases_Bool}
 use Rattle.std.proofs.lemmas.Bool.Decides.{Decides-int_eq, Decides-eqb, Decides-and, Decides-like}
-use Rattle.std.proofs.lemmas.Cmp.{on_total, then_total}
-use Rattle.std.proofs.lemmas.Map.Lookups.{CmpEqualImpliesEq, exact_pairs, exact_signed, exact_unsigned}
 use Rattle.wsm_panes.specs.Place.{before}
 use Rattle.wsm_windows.proofs.Places.{places_total, places_exact, tie_is}
 use Rattle.wsm_windows.specs.declared.place.Place.{Place}

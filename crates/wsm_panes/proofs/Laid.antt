@@ -6,6 +6,7 @@ use Rattle.std.proofs.lemmas.Bool.{cases_Bool, true≢false}
 use Rattle.std.specs.Option.{is_some}
 use Rattle.std.specs.Prelude.{IfSome, IsTrue, option_map}
 use Rattle.wsm_record.specs.declared.event.Value.{Value}
+use Rattle.wsm_record.specs.declared.cell.Cell.{Cell}
 use Rattle.wsm_record.specs.declared.words.Kind.{Kind}
 use Rattle.wsm_record.specs.declared.words.Mode.{Mode}
 use Rattle.wsm_record.specs.declared.words.Mode.TheVariants.{Accumulating, Discarding}
@@ -27,38 +28,38 @@ more_parts i w = omega (arith, suc-mul i w)
 pub part_within : (i w count : ℕ) → i < count → i * w + w ≤ count * w
 part_within i w count h = omega (arith, suc-mul i w, mul-le-mul_right {m = suc i} {n = count} w (omega (arith, h)))
 
-pub part_ends : (i w : ℕ) (xs : List Value) → HasPart i w xs → i * w + w ≤ length xs
+pub part_ends : {A : Type 0} (i w : ℕ) (xs : List A) → HasPart i w xs → i * w + w ≤ length xs
 part_ends i w xs has = omega (arith, has.size, part_within i w has.count has.within)
 
-pub length-part : (i w : ℕ) (xs : List Value) → i * w + w ≤ length xs → length (part_at i w xs) ≡ w
+pub length-part : {A : Type 0} (i w : ℕ) (xs : List A) → i * w + w ≤ length xs → length (part_at i w xs) ≡ w
 length-part i w xs h = length-take-le w (drop (i * w) xs) (omega (arith, length-drop (i * w) xs, h))
 
-pub length-with_part : (i w : ℕ) (xs ys : List Value) → i * w + w ≤ length xs → length ys ≡ w → length (with_part i w xs ys) ≡ length xs
+pub length-with_part : {A : Type 0} (i w : ℕ) (xs ys : List A) → i * w + w ≤ length xs → length ys ≡ w → length (with_part i w xs ys) ≡ length xs
 length-with_part i w xs ys h long =
     omega (arith, length-append (take (i * w) xs) (ys ++ drop w (drop (i * w) xs)), length-append ys (drop w (drop (i * w) xs)), length-take-le (i * w) xs (omega (arith, h)), length-drop w (drop (i * w) xs), length-drop (i * w) xs, long, h)
 
-pub same_part : (i w : ℕ) (xs : List Value) → with_part i w xs (part_at i w xs) ≡ xs
+pub same_part : {A : Type 0} (i w : ℕ) (xs : List A) → with_part i w xs (part_at i w xs) ≡ xs
 same_part i w xs = ap (λ ys. take (i * w) xs ++ ys) (take-append-drop w (drop (i * w) xs)) ∙ take-append-drop (i * w) xs
 
-part_first : (w : ℕ) (xs : List Value) → part_at 0 w xs ≡ take w xs
+part_first : {A : Type 0} (w : ℕ) (xs : List A) → part_at 0 w xs ≡ take w xs
 part_first w xs = let none : 0 * w ≡ 0 = omega arith in ap (λ n. take w (drop n xs)) none
 
-part_next : (i w : ℕ) (xs : List Value) → part_at (suc i) w xs ≡ part_at i w (drop w xs)
+part_next : {A : Type 0} (i w : ℕ) (xs : List A) → part_at (suc i) w xs ≡ part_at i w (drop w xs)
 part_next i w xs = ap (λ n. take w (drop n xs)) (more_parts i w) ∙ ap (take w) (sym (drop-drop (i * w) w xs))
 
-with_first : (w : ℕ) (xs ys : List Value) → with_part 0 w xs ys ≡ ys ++ drop w xs
+with_first : {A : Type 0} (w : ℕ) (xs ys : List A) → with_part 0 w xs ys ≡ ys ++ drop w xs
 with_first w xs ys = let none : 0 * w ≡ 0 = omega arith in ap (λ n. take n xs ++ (ys ++ drop w (drop n xs))) none
 
-with_next : (i w : ℕ) (xs ys : List Value) → with_part (suc i) w xs ys ≡ take (w + i * w) xs ++ (ys ++ drop w (drop (w + i * w) xs))
+with_next : {A : Type 0} (i w : ℕ) (xs ys : List A) → with_part (suc i) w xs ys ≡ take (w + i * w) xs ++ (ys ++ drop w (drop (w + i * w) xs))
 with_next i w xs ys = ap (λ n. take n xs ++ (ys ++ drop w (drop n xs))) (more_parts i w)
 
-with_next_front : (i w : ℕ) (xs ys : List Value) → w + i * w ≤ length xs → take w (with_part (suc i) w xs ys) ≡ take w xs
+with_next_front : {A : Type 0} (i w : ℕ) (xs ys : List A) → w + i * w ≤ length xs → take w (with_part (suc i) w xs ys) ≡ take w xs
 with_next_front i w xs ys h =
     ap (take w) (with_next i w xs ys)
     ∙ take-append-le w (take (w + i * w) xs) (ys ++ drop w (drop (w + i * w) xs)) (omega (arith, length-take-le (w + i * w) xs h))
     ∙ take-take w (w + i * w) xs (omega arith)
 
-with_next_back : (i w : ℕ) (xs ys : List Value) → w + i * w ≤ length xs → drop w (with_part (suc i) w xs ys) ≡ with_part i w (drop w xs) ys
+with_next_back : {A : Type 0} (i w : ℕ) (xs ys : List A) → w + i * w ≤ length xs → drop w (with_part (suc i) w xs ys) ≡ with_part i w (drop w xs) ys
 with_next_back i w xs ys h =
     ap (drop w) (with_next i w xs ys)
     ∙ drop-append-le w (take (w + i * w) xs) (ys ++ drop w (drop (w + i * w) xs)) (omega (arith, length-take-le (w + i * w) xs h))
@@ -68,18 +69,18 @@ with_next_back i w xs ys h =
 -- ---- the entries
 
 module _ (w c : ℕ) where
-  pub length-entries : (hs : List Head) (fs rs : List Value) → length (entries_by w c hs fs rs) ≡ length hs
+  pub length-entries : (hs : List Head) (fs : List Value) (rs : List Cell) → length (entries_by w c hs fs rs) ≡ length hs
   length-entries [] fs rs = refl
   length-entries (h ∷ hs) fs rs = ap suc (length-entries hs (drop w fs) (drop c rs))
 
   -- what a slot has
-  pub entry_at : (hs : List Head) (fs rs : List Value) (i : ℕ) (d : Head) → i < length hs → slot_at (entries_by w c hs fs rs) i ≡ entry_by (get_or hs i d) (part_at i w fs) (part_at i c rs)
+  pub entry_at : (hs : List Head) (fs : List Value) (rs : List Cell) (i : ℕ) (d : Head) → i < length hs → slot_at (entries_by w c hs fs rs) i ≡ entry_by (get_or hs i d) (part_at i w fs) (part_at i c rs)
   entry_at [] fs rs i d h = absurd (omega (arith, h))
   entry_at (x ∷ hs) fs rs zero d h = rw (part_first w fs, part_first c rs) refl
   entry_at (x ∷ hs) fs rs (suc i) d h = rw (part_next i w fs, part_next i c rs) (entry_at hs (drop w fs) (drop c rs) i d (omega (arith, h)))
 
   -- to write a slot is to set its entry
-  pub entries_set : (hs : List Head) (fs rs : List Value) (i : ℕ) (x : Head) (f r : List Value) → i < length hs → i * w + w ≤ length fs → i * c + c ≤ length rs → length f ≡ w → length r ≡ c
+  pub entries_set : (hs : List Head) (fs : List Value) (rs : List Cell) (i : ℕ) (x : Head) (f : List Value) (r : List Cell) → i < length hs → i * w + w ≤ length fs → i * c + c ≤ length rs → length f ≡ w → length r ≡ c
       → entries_by w c (set hs i x) (with_part i w fs f) (with_part i c rs r) ≡ set (entries_by w c hs fs rs) i (entry_by x f r)
   entries_set [] fs rs i x f r h p q lf lr = absurd (omega (arith, h))
   entries_set (y ∷ hs) fs rs zero x f r h p q lf lr =
@@ -91,7 +92,7 @@ module _ (w c : ℕ) where
       (ap (λ es. entry_by y (take w fs) (take c rs) ∷ es)
       (entries_set hs (drop w fs) (drop c rs) i x f r (omega (arith, h)) (omega (arith, pw, length-drop w fs)) (omega (arith, qc, length-drop c rs)) lf lr))
 
-module _ (w : Widths) (hs : List Head) (fs rs : List Value) (laid : IsLaidOut w hs fs rs) (i : ℕ) (h : i < length hs) where
+module _ (w : Widths) (hs : List Head) (fs : List Value) (rs : List Cell) (laid : IsLaidOut w hs fs rs) (i : ℕ) (h : i < length hs) where
   pub has_folds : HasPart i w.accumulators fs
   has_folds = record { count = length hs; within = h; size = laid.of_folds }
 
@@ -116,7 +117,7 @@ module _ (w : Widths) (hs : List Head) (fs rs : List Value) (laid : IsLaidOut w 
       rw (same_part i w.columns rs) at
       (entries_set w.accumulators w.columns hs fs rs i x f (part_at i w.columns rs) h folds_end row_ends long (length-part i w.columns rs row_ends))
 
-  pub set_row : (x : Head) (r : List Value) → length r ≡ w.columns
+  pub set_row : (x : Head) (r : List Cell) → length r ≡ w.columns
       → entries_by w.accumulators w.columns (set hs i x) fs (with_part i w.columns rs r) ≡ set (entries_by w.accumulators w.columns hs fs rs) i (entry_by x (part_at i w.accumulators fs) r)
   set_row x r long =
       rw (same_part i w.accumulators fs) at
@@ -129,7 +130,7 @@ none_is None e some = true≢false (sym some)
 none_is (Some x) e some = cc
 
 -- a slot that has an entry holds it
-pub is_there : (h : Head) (f r : List Value) → is_some (entry_by h f r) ≡ true → h.is_held ≡ true
+pub is_there : (h : Head) (f : List Value) (r : List Cell) → is_some (entry_by h f r) ≡ true → h.is_held ≡ true
 is_there h f r some = elim (cases_Bool h.is_held) [
   | inl there ↦ there
   | inr free ↦ absurd (none_is (entry_by h f r) (rw free refl) some)
@@ -142,7 +143,7 @@ length-joins (k ∷ ks) xs [] p q = absurd (omega (arith, p))
 length-joins (k ∷ ks) [] (y ∷ ys) p q = absurd (omega (arith, q))
 length-joins (k ∷ ks) (x ∷ xs) (y ∷ ys) p q = ap suc (length-joins ks xs ys (omega (arith, p)) (omega (arith, q)))
 
-module _ (kinds : List Kind) (values : List Value) (h : Head) (f r : List Value) where
+module _ (kinds : List Kind) (values : List Value) (h : Head) (f : List Value) (r : List Cell) where
   abbrev more : Option (Place × Pane (List Value)) → Option (Place × Pane (List Value))
   more = option_map (λ e. (e.0, with_one_more kinds values (Some e.1)))
 
@@ -156,11 +157,11 @@ left_is : (mode : Mode) (b : Bool) (f : List Value) → folded_by (left_by mode 
 left_is Accumulating b f = refl
 left_is Discarding b f = refl
 
-module _ (mode : Mode) (h : Head) (f r : List Value) where
-  abbrev fires : Option (List Value) → Option (Place × Pane (List Value)) → Option (Place × Pane (List Value))
+module _ (mode : Mode) (h : Head) (f : List Value) (r : List Cell) where
+  abbrev fires : Option (List Cell) → Option (Place × Pane (List Value)) → Option (Place × Pane (List Value))
   fires row = option_map (λ e. (e.0, once_fired mode row e.1))
 
-  pub fired_with : (row : List Value) → entry_by (head_fired mode true h) f row ≡ fires (Some row) (entry_by h f r)
+  pub fired_with : (row : List Cell) → entry_by (head_fired mode true h) f row ≡ fires (Some row) (entry_by h f r)
   fired_with row = elim (cases_Bool h.is_held) [
     | inl there ↦ rw (there, left_is mode h.is_folded f) refl
     | inr free ↦ rw free refl
@@ -174,7 +175,7 @@ module _ (mode : Mode) (h : Head) (f r : List Value) where
 
 -- ---- free slots
 
-pub entries_free : (w c n : ℕ) (h : Head) (fs rs : List Value) → h.is_held ≡ false → entries_by w c (replicate n h) fs rs ≡ replicate n None
+pub entries_free : (w c n : ℕ) (h : Head) (fs : List Value) (rs : List Cell) → h.is_held ≡ false → entries_by w c (replicate n h) fs rs ≡ replicate n None
 entries_free w c zero h fs rs free = refl
 entries_free w c (suc n) h fs rs free =
     let here : entry_by h (take w fs) (take c rs) ≡ None = rw free refl in
@@ -187,7 +188,7 @@ held_within [] i some = absurd (true≢false (sym some))
 held_within (o ∷ os) zero some = omega arith
 held_within (o ∷ os) (suc i) some = omega (arith, held_within os i some)
 
-module _ (w c : ℕ) (hs : List Head) (fs rs : List Value) (i : ℕ) where
+module _ (w c : ℕ) (hs : List Head) (fs : List Value) (rs : List Cell) (i : ℕ) where
   pub slot_within : i < length (entries_by w c hs fs rs) → i < length hs
   slot_within h = omega (arith, h, length-entries w c hs fs rs)
 
@@ -202,7 +203,7 @@ module _ (w c : ℕ) (hs : List Head) (fs rs : List Value) (i : ℕ) where
   head_held h some read = is_there h (part_at i w fs) (part_at i c rs) (ap is_some (sym (entry_read h (slot_held some) read)) ∙ some)
 
 -- what can be recorded in a slot's pane
-pub can_record : (kinds : List Kind) (values : List Value) (h : Head) (f r : List Value) → h.is_held ≡ true → IfSome (entry_by h f r) (λ e. CanRecord kinds values e.1)
+pub can_record : (kinds : List Kind) (values : List Value) (h : Head) (f : List Value) (r : List Cell) → h.is_held ≡ true → IfSome (entry_by h f r) (λ e. CanRecord kinds values e.1)
     → (h.count < 2 ^ 63) × (h.unshown < 2 ^ 63) × (h.is_folded ≡ true → CanTake kinds values f)
 can_record kinds values h f r there can =
     let this : CanRecord kinds values (record { count = h.count; unshown = h.unshown; folded = folded_by h.is_folded f; stands = standing_by h.stands r }) = rw there at can in

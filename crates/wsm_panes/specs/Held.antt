@@ -5,6 +5,7 @@ use Rattle.std.specs.Coded.{Coded, code_by, coded×, coded_ℕ}
 use Rattle.std.specs.FinMap as map
 use Rattle.std.specs.FinMap.Entries.{find}
 use Rattle.wsm_record.specs.declared.event.Value.{Value}
+use Rattle.wsm_record.specs.declared.cell.Cell.{Cell}
 use Rattle.wsm_record.specs.declared.words.Kind.{Kind}
 use Rattle.wsm_record.specs.declared.words.Mode.{Mode}
 use Rattle.wsm_windows.specs.declared.window.Window.{Window}
@@ -70,7 +71,7 @@ abbrev pub with_one_more : List Kind → List Value → Option (Pane (List Value
 with_one_more kinds values pane = with_record (taking kinds values) (datum 0 0 (pos 0) []) pane
 
 -- a pane that fired: it has shown all of its records, and the row of the firing stands
-abbrev pub once_fired : Mode → Option (List Value) → Pane (List Value) → Pane (List Value)
+abbrev pub once_fired : Mode → Option (List Cell) → Pane (List Value) → Pane (List Value)
 once_fired mode row h = record h { unshown = 0; folded = left_folded mode h.folded; stands = Row row }
 
 -- what is held with a record of a key and a time, that is folded by these values

@@ -2,6 +2,7 @@
 use Rattle.std.specs.Prelude.{◌≡◌, ℕ, ◌+◌, ◌*◌, ◌≤◌, Bool, true, false, List, [], ◌∷◌, ◌++◌, ◌<◌, take, drop, length, Option, Some, None, IfSome, if◌then◌else◌}
 use Rattle.std.specs.Option.{is_some}
 use Rattle.wsm_record.specs.declared.event.Value.{Value}
+use Rattle.wsm_record.specs.declared.cell.Cell.{Cell}
 use Rattle.wsm_record.specs.declared.words.Kind.{Kind}
 use Rattle.wsm_record.specs.declared.words.Mode.{Mode}
 use Rattle.wsm_record.specs.declared.words.Mode.TheVariants.{Discarding, Accumulating}
@@ -20,7 +21,7 @@ use Rattle.wsm_panes.specs.declared.widths.Widths.{Widths}
 abbrev pub folded_by : Bool → List Value → Option (List Value)
 folded_by is_folded folds = if is_folded then Some folds else None
 
-abbrev pub standing_by : Stands → List Value → Standing
+abbrev pub standing_by : Stands → List Cell → Standing
 standing_by Unfired row = standing.Unfired
 standing_by NoRow row = standing.Row None
 standing_by FiredRow row = standing.Row (Some row)
@@ -29,12 +30,12 @@ standing_by Joined row = standing.Joined
 abbrev pub place_by : Head → Place
 place_by h = record { end = h.end; start = h.start; key = h.key }
 
-abbrev pub entry_by : Head → List Value → List Value → Option (Place × Pane (List Value))
+abbrev pub entry_by : Head → List Value → List Cell → Option (Place × Pane (List Value))
 entry_by h folds row =
     if h.is_held then Some (place_by h, record { count = h.count; unshown = h.unshown; folded = folded_by h.is_folded folds; stands = standing_by h.stands row }) else None
 
 -- the entries of slots whose panes have so many accumulators and so many columns
-abbrev pub entries_by : ℕ → ℕ → List Head → List Value → List Value → List (Option (Place × Pane (List Value)))
+abbrev pub entries_by : ℕ → ℕ → List Head → List Value → List Cell → List (Option (Place × Pane (List Value)))
 entries_by w c [] folds rows = []
 entries_by w c (h ∷ hs) folds rows = entry_by h (take w folds) (take c rows) ∷ entries_by w c hs (drop w folds) (drop c rows)
 
@@ -49,26 +50,26 @@ pub record IsAsWide (w : Widths) (pane : Pane (List Value)) : Type 0 where
   pub row : IfSome (standing_row pane.stands) (λ values. length values ≡ w.columns)
 
 -- there are as many values as the slots have together, and no more of each than a pane can have
-pub record IsLaidOut (w : Widths) (heads : List Head) (folds rows : List Value) : Type 0 where
+pub record IsLaidOut (w : Widths) (heads : List Head) (folds : List Value) (rows : List Cell) : Type 0 where
   pub few : (w.accumulators ≤ 16) × (w.columns ≤ 16)
   pub of_folds : length folds ≡ length heads * w.accumulators
   pub of_rows : length rows ≡ length heads * w.columns
 
 -- the values of a slot, among those of slots that have so many each
-abbrev pub part_at : ℕ → ℕ → List Value → List Value
+abbrev pub part_at : {A : Type 0} → ℕ → ℕ → List A → List A
 part_at i w xs = take w (drop (i * w) xs)
 
 -- with others in their place
-abbrev pub with_part : ℕ → ℕ → List Value → List Value → List Value
+abbrev pub with_part : {A : Type 0} → ℕ → ℕ → List A → List A → List A
 with_part i w xs ys = take (i * w) xs ++ (ys ++ drop w (drop (i * w) xs))
 
 -- with others in their place, where there are any
-abbrev pub with_any : ℕ → List Value → Option (List Value) → List Value
+abbrev pub with_any : {A : Type 0} → ℕ → List A → Option (List A) → List A
 with_any i xs None = xs
 with_any i xs (Some ys) = with_part i (length ys) xs ys
 
 -- a slot is one of those that there are values of
-pub record HasPart (i w : ℕ) (xs : List Value) : Type 0 where
+pub record HasPart {A : Type 0} (i w : ℕ) (xs : List A) : Type 0 where
   pub count : ℕ
   pub within : i < count
   pub size : length xs ≡ count * w

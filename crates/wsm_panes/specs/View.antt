@@ -1,14 +1,14 @@
--- Where the values of a row lie that is read.
+-- Where the cells of a row lie that is read.
 use Rattle.std.specs.Prelude.{◌≤◌, List, length}
-use Rattle.wsm_record.specs.declared.event.Value.{Value}
+use Rattle.wsm_record.specs.declared.cell.Cell.{Cell}
 use Rattle.wsm_panes.specs.declared.view.RowView.{RowView}
 use Rattle.wsm_panes.specs.declared.view.RowView.TheVariants.{Whole, Part}
 
-abbrev pub row_seen : RowView → List Value
+abbrev pub row_seen : RowView → List Cell
 row_seen (Whole columns) = columns.now
-row_seen (Part values) = values.now
+row_seen (Part cells) = cells.now
 
 -- there are no more than a row can have
 abbrev pub IsFew : RowView → Type 0
 IsFew (Whole columns) = Unit {0}
-IsFew (Part values) = length values.now ≤ 16
+IsFew (Part cells) = length cells.now ≤ 16

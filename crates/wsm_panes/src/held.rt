@@ -27,8 +27,7 @@ use crate::widths::Widths;
 use std::alloc::{AllocError, Global};
 use std::marker::Model;
 use wsm_record::limits::{MAX_ACCUMULATORS, MAX_COLUMNS, MAX_PANES};
-use wsm_record::{Kind, Mode, Value};
-use wsm_semantics::Columns;
+use wsm_record::{Columns, Kind, Mode, Value};
 use wsm_sessions::Sessions;
 use wsm_windows::{Place, Shape, Window};
 

@@ -14,8 +14,7 @@ use crate::widths::Widths;
 use std::alloc::{AllocError, Global};
 use std::marker::Model;
 use wsm_fold::fold_into;
-use wsm_record::{Kind, Mode, Value};
-use wsm_semantics::Columns;
+use wsm_record::{Cell, Columns, Kind, Mode, Value};
 use wsm_windows::Place;
 
 /// Slots, each of which is free or has a place with its pane. The values of all panes lie beside one
@@ -25,7 +24,7 @@ pub(crate) struct Slots {
     widths: Widths,
     heads: Vec<Head>,
     folds: Vec<Value>,
-    rows: Vec<Value>,
+    rows: Vec<Cell>,
 }
 
 impl Model for Slots {
@@ -54,7 +53,7 @@ impl Slots {
             widths,
             heads: copies(alloc, Head::free(), count)?,
             folds: copies(alloc, Value::Int(0), count * widths.accumulators)?,
-            rows: copies(alloc, Value::Int(0), count * widths.columns)?,
+            rows: copies(alloc, Cell::default(), count * widths.columns)?,
         })
     }
 
@@ -124,7 +123,7 @@ impl Slots {
     {
         self.heads[slot] = Head::of_pane(place, pane);
         write_any(&mut self.folds, slot, pane.folded());
-        write_any(&mut self.rows, slot, pane.row_values());
+        write_any(&mut self.rows, slot, pane.row_cells());
     }
 
     /// Puts a record into the pane in a slot, which is folded by the values.
@@ -167,7 +166,7 @@ impl Slots {
 }
 
 // The values of a slot, among those of slots that have so many each.
-fn part(values: &[Value], slot: usize, width: usize) -> &[Value]
+fn part<T: Copy>(values: &[T], slot: usize, width: usize) -> &[T]
     requires { HasPart slot width values.now }
     ensures { result.now ≡ part_at slot width values.now }
 {
@@ -176,7 +175,7 @@ fn part(values: &[Value], slot: usize, width: usize) -> &[Value]
 }
 
 // Writes the values of a slot, among those of slots that have as many each.
-fn write_part(values: &mut [Value], slot: usize, part: &[Value])
+fn write_part<T: Copy>(values: &mut [T], slot: usize, part: &[T])
     requires { HasPart slot (length part.now) values.old }
     ensures { values.new ≡ with_part slot (length part.now) values.old part.now }
 {
@@ -185,7 +184,7 @@ fn write_part(values: &mut [Value], slot: usize, part: &[Value])
 }
 
 // Writes the values of a slot, if there are any, among those of slots that have as many each.
-fn write_any(values: &mut [Value], slot: usize, part: Option<&[Value]>)
+fn write_any<T: Copy>(values: &mut [T], slot: usize, part: Option<&[T]>)
     requires { IfSome part (λ written. HasPart slot (length written.now) values.old) }
     ensures { values.new ≡ with_any slot values.old (option_map (λ written. written.now) part.entry) }
 {

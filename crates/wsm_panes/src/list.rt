@@ -24,8 +24,7 @@ use crate::widths::Widths;
 use std::alloc::{AllocError, Global};
 use std::cmp::Ordering;
 use std::marker::Model;
-use wsm_record::{Kind, Mode, Value};
-use wsm_semantics::Columns;
+use wsm_record::{Columns, Kind, Mode, Value};
 use wsm_windows::Place;
 
 /// A table kept as a sorted list: a row of slots, in the order of the places of their panes. A place

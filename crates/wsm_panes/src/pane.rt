@@ -18,8 +18,8 @@ use crate::recording::TakesRecords;
 use crate::view::{PaneView, RowView, row_columns};
 use std::marker::Model;
 use wsm_fold::Folded;
-use wsm_record::{Kind, Mode, Value};
-use wsm_semantics::{Columns, Standing};
+use wsm_record::{Columns, Kind, Mode, Value};
+use wsm_semantics::Standing;
 
 /// What is kept of the records of a key in a window: a pane of the Dataflow Model (Akidau et al.
 /// 2015), without its records. A clause sees how many records it has, how many of them no firing

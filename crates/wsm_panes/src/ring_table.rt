@@ -23,8 +23,7 @@ use crate::view::PaneView;
 use crate::widths::Widths;
 use std::alloc::{AllocError, Global};
 use std::marker::Model;
-use wsm_record::{Kind, Mode, Value};
-use wsm_semantics::Columns;
+use wsm_record::{Columns, Kind, Mode, Value};
 use wsm_windows::Place;
 
 /// A table kept as a ring of slots: each place has one slot, which is found without a search.

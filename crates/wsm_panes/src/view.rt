@@ -6,16 +6,15 @@ ghost use Rattle.wsm_panes.specs.View.{IsFew, row_seen};
 
 use crate::head::Stands;
 use std::marker::Model;
-use wsm_record::Value;
-use wsm_semantics::Columns;
+use wsm_record::{Cell, Columns, Value};
 
-/// Where the values of a row lie.
+/// Where the cells of a row lie.
 #[derive(Clone, Copy, Debug)]
 pub(crate) enum RowView<'a> {
     /// In columns of their own.
     Whole(&'a Columns),
     /// Among those of other rows.
-    Part(&'a [Value]),
+    Part(&'a [Cell]),
 }
 
 /// A pane that is held, as it is read where it lies. A clause sees how many records it has, how many
@@ -83,24 +82,24 @@ impl<'a> PaneView<'a> {
         }
     }
 
-    /// The values of the row that stands for it, where they lie.
-    pub(crate) fn row_values(&self) -> Option<&[Value]>
-        ensures { option_map (λ values. values.now) result ≡ kept.standing_row self.now.stands }
+    /// The cells of the row that stands for it, where they lie.
+    pub(crate) fn row_cells(&self) -> Option<&[Cell]>
+        ensures { option_map (λ cells. cells.now) result ≡ kept.standing_row self.now.stands }
     {
         match self.stands {
-            Stands::FiredRow => Some(values_of(&self.row)),
+            Stands::FiredRow => Some(cells_of(&self.row)),
             Stands::Unfired | Stands::NoRow | Stands::Joined => None,
         }
     }
 }
 
-// The values of a row.
-fn values_of<'a>(row: &'a RowView<'a>) -> &'a [Value]
+// The cells of a row.
+fn cells_of<'a>(row: &'a RowView<'a>) -> &'a [Cell]
     ensures { result.now ≡ row_seen row.now }
 {
     match row {
         RowView::Whole(columns) => columns.as_slice(),
-        RowView::Part(values) => values,
+        RowView::Part(cells) => cells,
     }
 }
 
@@ -111,18 +110,18 @@ pub(crate) fn row_columns(row: &RowView<'_>) -> Columns
 {
     match row {
         RowView::Whole(columns) => **columns,
-        RowView::Part(values) => columns_of(values),
+        RowView::Part(cells) => columns_of(cells),
     }
 }
 
-// A row of these values.
-fn columns_of(values: &[Value]) -> Columns
-    requires { length values.now ≤ 16 }
-    ensures { result ≡ values.now }
+// A row of these cells.
+fn columns_of(cells: &[Cell]) -> Columns
+    requires { length cells.now ≤ 16 }
+    ensures { result ≡ cells.now }
 {
     let mut columns = Columns::new();
-    for value in values {
-        columns.push(*value);
+    for cell in cells {
+        columns.push(*cell);
     }
     columns
 }

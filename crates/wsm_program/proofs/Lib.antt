@@ -1,4 +1,3 @@
-pub mod NamesOf
 pub mod Within
 pub mod Lawful
 pub mod Stating

@@ -1,5 +1,5 @@
 -- Programs, without where they lie in memory, and what holds of each.
-use Rattle.std.specs.Prelude.{ℕ, zero, suc, Bool, true, false, ◌&&◌, List, length, ℤ, pos, nat_le, nat_lt, Option, Some, None, is_some, slice_get}
+use Rattle.std.specs.Prelude.{ℕ, Bool, true, false, ◌&&◌, List, length, ℤ, pos, nat_le, nat_lt, Option, Some, None, is_some}
 use Rattle.std.specs.List.{list_all}
 use Rattle.wsm_record.specs.declared.Kind.{Kind}
 use Rattle.wsm_record.specs.declared.Mode.{Mode}
@@ -8,7 +8,7 @@ use Rattle.wsm_record.specs.declared.Form.{Form}
 use Rattle.wsm_record.specs.declared.Form.TheVariants.{Panes}
 use Rattle.wsm_record.specs.declared.limits.TheConstants.{LATEST_TIME, LONGEST_SPAN, MAX_ACCUMULATORS, MAX_COLUMNS, MAX_PANES, MAX_SECTION, MAX_STATED}
 use Rattle.wsm_record.specs.Name.{is_between}
-use Rattle.wsm_record.specs.Schema.{FieldType, Enum, DeclaredField, Declared, is_within, is_i64, is_schema}
+use Rattle.wsm_record.specs.Schema.{Declared, enum_names, is_within, is_i64, is_schema}
 use Rattle.wsm_admission.specs.declared.clock.Clock.{Clock}
 use Rattle.wsm_windows.specs.declared.Shape.{Shape}
 use Rattle.wsm_windows.specs.declared.Shape.TheVariants.{Fixed, Sliding, Session}
@@ -50,20 +50,6 @@ section p Fire = p.fire
 -- the same program, which states another budget
 abbrev pub stating : Program → Costs → Program
 stating p budget = record p { header = record p.header { budget = budget } }
-
--- the names of a field that is an ENUM
-abbrev pub names_of_type : FieldType → Option (List Name)
-names_of_type (Enum names) = Some names
-names_of_type _ = None
-
-abbrev pub names_of_field : Option DeclaredField → Option (List Name)
-names_of_field None = None
-names_of_field (Some f) = names_of_type f.type
-
--- the names of ENUM e: 0 is the key, f + 1 is field f
-abbrev pub enum_names : Declared → ℕ → Option (List Name)
-enum_names s zero = Some s.keys
-enum_names s (suc f) = names_of_field (slice_get s.fields f)
 
 -- ---- what holds of each program
 

@@ -3,7 +3,8 @@
 ghost use Rattle.std.specs.Prelude.{◌≡◌, length};
 ghost use Rattle.std.specs.Option.{option_map};
 ghost use Rattle.wsm_record.specs.Fields.{type_seen};
-ghost use Rattle.wsm_program.specs.Program.{enum_names, names_of_type, is_name_of};
+ghost use Rattle.wsm_program.specs.Program.{is_name_of};
+ghost use Rattle.wsm_record.specs.Schema.{enum_names, names_of_type};
 
 use wsm_record::{FieldType, Schema};
 

@@ -4,3 +4,4 @@ pub mod Fitting
 pub mod Spellings
 pub mod Schemas
 pub mod Guessing
+pub mod NamesOf

@@ -1,5 +1,5 @@
 -- What a query declares of its records, and which values fit.
-use Rattle.std.specs.Prelude.{ℕ, Bool, true, false, ◌&&◌, ◌||◌, not, cond, List, [], ◌∷◌, ◌++◌, length, ℤ, pos, negsuc, int_le, int_lt, nat_le, nat_lt, nat_eq, Option, Some, None}
+use Rattle.std.specs.Prelude.{ℕ, zero, suc, Bool, true, false, ◌&&◌, ◌||◌, not, cond, List, [], ◌∷◌, ◌++◌, length, ℤ, pos, negsuc, int_le, int_lt, nat_le, nat_lt, nat_eq, Option, Some, None, slice_get}
 use Rattle.std.specs.List.{list_all, list_any}
 use Rattle.wsm_record.specs.declared.limits.TheConstants.{MAX_FIELDS, MAX_NAMES}
 use Rattle.wsm_record.specs.declared.schema.SchemaRefusal.{SchemaRefusal}
@@ -22,6 +22,20 @@ pub record DeclaredField : Type 0 where
 pub record Declared : Type 0 where
   pub keys : List (List ℕ)
   pub fields : List DeclaredField
+
+-- the names of a field that is an ENUM
+abbrev pub names_of_type : FieldType → Option (List (List ℕ))
+names_of_type (Enum names) = Some names
+names_of_type _ = None
+
+abbrev pub names_of_field : Option DeclaredField → Option (List (List ℕ))
+names_of_field None = None
+names_of_field (Some f) = names_of_type f.type
+
+-- the names of ENUM e: 0 is the key, f + 1 is field f
+abbrev pub enum_names : Declared → ℕ → Option (List (List ℕ))
+enum_names s zero = Some s.keys
+enum_names s (suc f) = names_of_field (slice_get s.fields f)
 
 -- a value of the type: in its interval, or the number of one of its names
 abbrev pub fits_type : FieldType → Value → Bool

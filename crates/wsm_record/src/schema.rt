@@ -1,7 +1,7 @@
 //! What a query declares of its records.
 
-ghost use Rattle.std.specs.Prelude.{false, IsTrue, ◌≡◌, ◌≢◌, ◌<◌, ◌≤◌, ◌⊎◌, ℕ, List, [], length, map, position, bytes_eq, Some, None, Ok, Err, slice_get, IfOk, IfErr};
-ghost use Rattle.wsm_record.specs.Schema.{is_schema, fits_type, fit_fields, type_refusal, fields_refusal, schema_refusal, is_too_many, has_too_many_names};
+ghost use Rattle.std.specs.Prelude.{false, IsTrue, ◌≡◌, ◌≢◌, ◌<◌, ◌≤◌, ◌⊎◌, ℕ, List, [], length, map, option_map, position, bytes_eq, Some, None, Ok, Err, slice_get, IfOk, IfErr};
+ghost use Rattle.wsm_record.specs.Schema.{is_schema, enum_names, names_of_type, fits_type, fit_fields, type_refusal, fields_refusal, schema_refusal, is_too_many, has_too_many_names};
 ghost use Rattle.std.specs.List.{list_any};
 ghost use Rattle.wsm_record.specs.Fields.{declared_type, declared_field, type_seen, field_seen, declared_of};
 
@@ -208,6 +208,17 @@ impl Schema {
         &self.fields
     }
 
+    /// The names of the ENUM of a number, as in a `CellType`: those of the keys, or of a field.
+    pub fn enum_names(&self, number: u8) -> Option<&Names>
+        ensures { option_map (λ names. names.now) result ≡ enum_names self.now number }
+    {
+        if number == 0 {
+            return Some(&self.keys);
+        }
+        let field = self.fields().get(number as usize - 1)?;
+        type_names(&field.ty)
+    }
+
     /// Whether there is one value for each field, of its type.
     pub fn fits(&self, values: &[Value]) -> bool
         ensures { result ≡ fit_fields self.now.fields values.now }
@@ -281,4 +292,14 @@ fn has_field(fields: &[DeclaredField], name: &Name) -> bool
     ensures { result ≡ list_any (λ f. bytes_eq name.now f.name) fields.now }
 {
     fields.iter().any(|field| *name == field.name)
+}
+
+// The names of a type, if it is of names.
+fn type_names(ty: &FieldType) -> Option<&Names>
+    ensures { option_map (λ names. names.now) result ≡ names_of_type (type_seen ty.now) }
+{
+    match ty {
+        FieldType::Enum(names) => Some(names),
+        FieldType::Int { .. } | FieldType::Bool => None,
+    }
 }

@@ -5,7 +5,7 @@ use Rattle.std.specs.declared.cmp.Ordering.TheVariants.{Less, Equal, Greater}
 use Rattle.std.specs.Ordering.{is_eq}
 use Rattle.std.specs.Cmp.{tied_itself, tied_back}
 use Rattle.std.proofs.lemmas.Bool.{cases_Bool}
-use Rattle.wsm_record.specs.declared.event.Value.{Value}
+use Rattle.wsm_record.specs.declared.cell.Cell.{Cell}
 use Rattle.wsm_semantics.specs.Relation.{row_cmp, without_one, difference}
 use Rattle.wsm_relation.specs.Rows.{IsInOrder, IsExcess, count_of}
 use Rattle.wsm_relation.proofs.Ordered.{rows_total, same_rows}
@@ -17,10 +17,10 @@ abbrev pub one_if : Bool → ℕ
 one_if b = cond b 1 0
 
 -- 1 where the rows are one, else 0
-abbrev pub once : List Value → List Value → ℕ
+abbrev pub once : List Cell → List Cell → ℕ
 once q r = one_if (is_eq (row_cmp q r))
 
-pub count-without_one : (q r : List Value) (rows : List (List Value)) → count_of q (without_one r rows) ≡ count_of q rows - once q r
+pub count-without_one : (q r : List Cell) (rows : List (List Cell)) → count_of q (without_one r rows) ≡ count_of q rows - once q r
 count-without_one q r [] = omega arith
 count-without_one q r (x ∷ xs) = elim (cases_Bool (is_eq (row_cmp r x))) [
   | inl tie ↦
@@ -28,7 +28,7 @@ count-without_one q r (x ∷ xs) = elim (cases_Bool (is_eq (row_cmp r x))) [
       rw tie (omega arith)
   | inr apart ↦ rw apart (elim (cases_Bool (is_eq (row_cmp q r))) [
     | inl tie ↦
-        let none : once q x ≡ 0 = ap (λ (y : List Value). once y x) (same_rows q r tie) ∙ ap (λ b. one_if b) apart in
+        let none : once q x ≡ 0 = ap (λ (y : List Cell). once y x) (same_rows q r tie) ∙ ap (λ b. one_if b) apart in
         let one : once q r ≡ 1 = ap (λ b. one_if b) tie in
         let rest : count_of q (without_one r xs) ≡ count_of q xs - once q r = count-without_one q r xs in
         omega arith
@@ -39,59 +39,59 @@ count-without_one q r (x ∷ xs) = elim (cases_Bool (is_eq (row_cmp r x))) [
   ])
 ]
 
-pub count-difference : (q : List Value) (rows others : List (List Value)) → count_of q (difference rows others) ≡ count_of q rows - count_of q others
+pub count-difference : (q : List Cell) (rows others : List (List Cell)) → count_of q (difference rows others) ≡ count_of q rows - count_of q others
 count-difference q rows [] = omega arith
 count-difference q rows (x ∷ xs) =
     let rest : count_of q (difference (without_one x rows) xs) ≡ count_of q (without_one x rows) - count_of q xs = count-difference q (without_one x rows) xs in
     let first : count_of q (without_one x rows) ≡ count_of q rows - once q x = count-without_one q x rows in
     omega arith
 
-pub difference-in_order : (rows others : List (List Value)) → IsInOrder rows → IsInOrder (difference rows others)
+pub difference-in_order : (rows others : List (List Cell)) → IsInOrder rows → IsInOrder (difference rows others)
 difference-in_order rows [] sorted = sorted
 difference-in_order rows (x ∷ xs) sorted = difference-in_order (without_one x rows) xs (without_one-in_order x rows sorted)
 
-pub excess : (rows others : List (List Value)) → IsInOrder rows → IsExcess rows others (difference rows others)
+pub excess : (rows others : List (List Cell)) → IsInOrder rows → IsExcess rows others (difference rows others)
 excess rows others sorted = record { counts = λ q. count-difference q rows others; in_order = difference-in_order rows others sorted }
 
 -- ---- a walk
 
-pub difference-nil : (others : List (List Value)) → difference [] others ≡ []
+pub difference-nil : (others : List (List Cell)) → difference [] others ≡ []
 difference-nil [] = refl
 difference-nil (x ∷ xs) = difference-nil xs
 
-difference-apart : (x : List Value) (xs ys : List (List Value)) → AllByRecursion (λ y. is_eq (row_cmp y x) ≡ false) ys → difference (x ∷ xs) ys ≡ x ∷ difference xs ys
+difference-apart : (x : List Cell) (xs ys : List (List Cell)) → AllByRecursion (λ y. is_eq (row_cmp y x) ≡ false) ys → difference (x ∷ xs) ys ≡ x ∷ difference xs ys
 difference-apart x xs [] apart = refl
 difference-apart x xs (y ∷ ys) apart = ap (λ b. difference (cond b xs (x ∷ without_one y xs)) ys) apart.0 ∙ difference-apart x (without_one y xs) ys apart.1
 
-without-absent : (r : List Value) (rows : List (List Value)) → AllByRecursion (λ y. is_eq (row_cmp r y) ≡ false) rows → without_one r rows ≡ rows
+without-absent : (r : List Cell) (rows : List (List Cell)) → AllByRecursion (λ y. is_eq (row_cmp r y) ≡ false) rows → without_one r rows ≡ rows
 without-absent r [] absent = refl
 without-absent r (x ∷ xs) absent = ap (λ b. cond b xs (x ∷ without_one r xs)) absent.0 ∙ ap (λ l. x ∷ l) (without-absent r xs absent.1)
 
-turned_back : (x y : List Value) → is_eq (row_cmp x y) ≡ false → is_eq (row_cmp y x) ≡ false
+turned_back : (x y : List Cell) → is_eq (row_cmp x y) ≡ false → is_eq (row_cmp y x) ≡ false
 turned_back x y h = elim (cases_Bool (is_eq (row_cmp y x))) [
   | inl tie ↦
       let same : y ≡ x = same_rows y x tie in
-      let bad : is_eq (row_cmp x x) ≡ false = ap (λ (z : List Value). is_eq (row_cmp x z)) (sym same) ∙ h in
+      let bad : is_eq (row_cmp x x) ≡ false = ap (λ (z : List Cell). is_eq (row_cmp x z)) (sym same) ∙ h in
       absurd (let k : true ≡ false = sym (ap is_eq (tied_itself rows_total x)) ∙ bad in cc)
   | inr stays ↦ stays
 ]
 
 -- a row before all the others stays
-pub difference-before : (x y : List Value) (xs ys : List (List Value)) → IsInOrder (y ∷ ys) → row_cmp x y ≡ Less → difference (x ∷ xs) (y ∷ ys) ≡ x ∷ difference xs (y ∷ ys)
+pub difference-before : (x y : List Cell) (xs ys : List (List Cell)) → IsInOrder (y ∷ ys) → row_cmp x y ≡ Less → difference (x ∷ xs) (y ∷ ys) ≡ x ∷ difference xs (y ∷ ys)
 difference-before x y xs ys sorted less =
     difference-apart x xs (y ∷ ys) (each (λ z. is_eq (row_cmp x z) ≡ false) (λ z. is_eq (row_cmp z x) ≡ false) (λ z h. turned_back x z h) (y ∷ ys) (none_before x y ys sorted less))
 
 -- one that is among them goes, with that one
-pub difference-tied : (x y : List Value) (xs ys : List (List Value)) → row_cmp x y ≡ Equal → difference (x ∷ xs) (y ∷ ys) ≡ difference xs ys
+pub difference-tied : (x y : List Cell) (xs ys : List (List Cell)) → row_cmp x y ≡ Equal → difference (x ∷ xs) (y ∷ ys) ≡ difference xs ys
 difference-tied x y xs ys tie = ap (λ r. difference (cond (is_eq r) xs (x ∷ without_one y xs)) ys) (tied_back rows_total x y tie)
 
 -- one of the others before all the rows takes none away
-pub difference-behind : (x y : List Value) (xs ys : List (List Value)) → IsInOrder (x ∷ xs) → row_cmp x y ≡ Greater → difference (x ∷ xs) (y ∷ ys) ≡ difference (x ∷ xs) ys
+pub difference-behind : (x y : List Cell) (xs ys : List (List Cell)) → IsInOrder (x ∷ xs) → row_cmp x y ≡ Greater → difference (x ∷ xs) (y ∷ ys) ≡ difference (x ∷ xs) ys
 difference-behind x y xs ys sorted more =
     let less : row_cmp y x ≡ Less = rw (rows_total.antisymm y x, more) refl in
     ap (λ l. difference l ys) (without-absent y (x ∷ xs) (none_before y x xs sorted less))
 
-pub drop-in_order : (rows : List (List Value)) (i : ℕ) → IsInOrder rows → IsInOrder (drop i rows)
+pub drop-in_order : (rows : List (List Cell)) (i : ℕ) → IsInOrder rows → IsInOrder (drop i rows)
 drop-in_order rows zero sorted = sorted
 drop-in_order [] (suc i) sorted = tt
 drop-in_order (x ∷ xs) (suc i) sorted = drop-in_order xs i sorted.1

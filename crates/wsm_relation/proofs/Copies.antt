@@ -7,7 +7,7 @@ use Rattle.std.specs.Ordering.{is_gt, is_eq}
 use Rattle.std.specs.Cmp.{tied_itself}
 use Rattle.std.proofs.lemmas.Bool.{cases_Bool}
 use Rattle.std.proofs.lemmas.Int.{ints}
-use Rattle.wsm_record.specs.declared.event.Value.{Value}
+use Rattle.wsm_record.specs.declared.cell.Cell.{Cell}
 use Rattle.wsm_semantics.specs.Relation.{row_cmp, difference}
 use Rattle.wsm_relation.specs.Rows.{IsInOrder, count_of}
 use Rattle.wsm_relation.specs.Tally.{IsTally, IsChange, number_of, copies, gained, lost, gains, losses}
@@ -17,27 +17,27 @@ use Rattle.wsm_relation.proofs.Places.{each, count-none, none_before}
 use Rattle.wsm_relation.proofs.Bags.{once, count-difference, difference-in_order}
 use Rattle.wsm_relation.proofs.Numbers.{Entry, number-before}
 
-pub copies-append : (n : ℕ) (r : List Value) (rows : List (List Value)) → copies n r rows ≡ copies n r [] ++ rows
+pub copies-append : (n : ℕ) (r : List Cell) (rows : List (List Cell)) → copies n r rows ≡ copies n r [] ++ rows
 copies-append zero r rows = refl
 copies-append (suc n) r rows = ap (λ l. r ∷ l) (copies-append n r rows)
 
-pub copies-next : (n : ℕ) (r : List Value) → copies (suc n) r [] ≡ copies n r [] ++ r ∷ []
+pub copies-next : (n : ℕ) (r : List Cell) → copies (suc n) r [] ≡ copies n r [] ++ r ∷ []
 copies-next zero r = refl
 copies-next (suc n) r = ap (λ l. r ∷ l) (copies-next n r)
 
-pub length-copies : (n : ℕ) (r : List Value) (rows : List (List Value)) → length (copies n r rows) ≡ n + length rows
+pub length-copies : (n : ℕ) (r : List Cell) (rows : List (List Cell)) → length (copies n r rows) ≡ n + length rows
 length-copies zero r rows = omega arith
 length-copies (suc n) r rows = omega (arith, length-copies n r rows)
 
-all_copies : (P : List Value → Type 0) (n : ℕ) (r : List Value) (rows : List (List Value)) → P r → AllByRecursion P rows → AllByRecursion P (copies n r rows)
+all_copies : (P : List Cell → Type 0) (n : ℕ) (r : List Cell) (rows : List (List Cell)) → P r → AllByRecursion P rows → AllByRecursion P (copies n r rows)
 all_copies P zero r rows p all = all
 all_copies P (suc n) r rows p all = (p, all_copies P n r rows p all)
 
-copies-in_order : (n : ℕ) (r : List Value) (rows : List (List Value)) → AllByRecursion (λ y. is_gt (row_cmp r y) ≡ false) rows → IsInOrder rows → IsInOrder (copies n r rows)
+copies-in_order : (n : ℕ) (r : List Cell) (rows : List (List Cell)) → AllByRecursion (λ y. is_gt (row_cmp r y) ≡ false) rows → IsInOrder rows → IsInOrder (copies n r rows)
 copies-in_order zero r rows all sorted = sorted
 copies-in_order (suc n) r rows all sorted = (all_copies (λ y. is_gt (row_cmp r y) ≡ false) n r rows (ap is_gt (tied_itself rows_total r)) all, copies-in_order n r rows all sorted)
 
-count-copies : (q r : List Value) (n : ℕ) (rows : List (List Value)) → count_of q (copies n r rows) ≡ cond (is_eq (row_cmp q r)) n 0 + count_of q rows
+count-copies : (q r : List Cell) (n : ℕ) (rows : List (List Cell)) → count_of q (copies n r rows) ≡ cond (is_eq (row_cmp q r)) n 0 + count_of q rows
 count-copies q r n rows = elim (cases_Bool (is_eq (row_cmp q r))) [ inl tie ↦ rw tie (all_tied tie n) | inr apart ↦ rw apart (none_tied apart n) ] where
   all_tied : is_eq (row_cmp q r) ≡ true → (n : ℕ) → count_of q (copies n r rows) ≡ n + count_of q rows
   all_tied tie zero = omega arith
@@ -49,11 +49,11 @@ count-copies q r n rows = elim (cases_Bool (is_eq (row_cmp q r))) [ inl tie ↦ 
 
 -- ---- rows with their numbers, each as often as a part of its number says
 
-abbrev part : (ℤ → ℕ) → List Entry → List (List Value)
+abbrev part : (ℤ → ℕ) → List Entry → List (List Cell)
 part f [] = []
 part f (e ∷ es) = copies (f e.1) e.0 (part f es)
 
-all_part : (f : ℤ → ℕ) (P : List Value → Type 0) (es : List Entry) → AllByRecursion (λ e. P e.0) es → AllByRecursion P (part f es)
+all_part : (f : ℤ → ℕ) (P : List Cell → Type 0) (es : List Entry) → AllByRecursion (λ e. P e.0) es → AllByRecursion P (part f es)
 all_part f P [] all = tt
 all_part f P (e ∷ es) all = all_copies P (f e.1) e.0 (part f es) all.0 (all_part f P es all.1)
 
@@ -61,11 +61,11 @@ part-in_order : (f : ℤ → ℕ) (es : List Entry) → IsTally es → IsInOrder
 part-in_order f [] tally = tt
 part-in_order f (e ∷ es) tally = copies-in_order (f e.1) e.0 (part f es) (all_part f (λ y. is_gt (row_cmp e.0 y) ≡ false) es (each (λ g. row_cmp e.0 g.0 ≡ Less) (λ g. is_gt (row_cmp e.0 g.0) ≡ false) (λ g h. ap is_gt h) es tally.0)) (part-in_order f es tally.2)
 
-count-part : (f : ℤ → ℕ) → f (pos 0) ≡ 0 → (q : List Value) (es : List Entry) → IsTally es → count_of q (part f es) ≡ f (number_of q es)
+count-part : (f : ℤ → ℕ) → f (pos 0) ≡ 0 → (q : List Cell) (es : List Entry) → IsTally es → count_of q (part f es) ≡ f (number_of q es)
 count-part f none q [] tally = sym none
 count-part f none q (e ∷ es) tally = elim (cases_Bool (is_eq (row_cmp q e.0))) [
   | inl here ↦
-      let before : number_of q es ≡ pos 0 = number-before q es (each (λ g. row_cmp e.0 g.0 ≡ Less) (λ g. row_cmp q g.0 ≡ Less) (λ g h. ap (λ (x : List Value). row_cmp x g.0) (same_rows q e.0 here) ∙ h) es tally.0) in
+      let before : number_of q es ≡ pos 0 = number-before q es (each (λ g. row_cmp e.0 g.0 ≡ Less) (λ g. row_cmp q g.0 ≡ Less) (λ g h. ap (λ (x : List Cell). row_cmp x g.0) (same_rows q e.0 here) ∙ h) es tally.0) in
       let rest : count_of q (part f es) ≡ 0 = count-part f none q es tally.2 ∙ ap f before ∙ none in
       count-copies q e.0 (f e.1) (part f es) ∙ rw here (omega arith)
   | inr other ↦ count-copies q e.0 (f e.1) (part f es) ∙ rw other (let rest : count_of q (part f es) ≡ f (number_of q es) = count-part f none q es tally.2 in omega arith)
@@ -85,21 +85,21 @@ gains-in_order es tally = rw (← gains-part es) (part-in_order gained es tally)
 pub losses-in_order : (es : List Entry) → IsTally es → IsInOrder (losses es)
 losses-in_order es tally = rw (← losses-part es) (part-in_order lost es tally)
 
-pub count-gains : (q : List Value) (es : List Entry) → IsTally es → count_of q (gains es) ≡ gained (number_of q es)
+pub count-gains : (q : List Cell) (es : List Entry) → IsTally es → count_of q (gains es) ≡ gained (number_of q es)
 count-gains q es tally = ap (count_of q) (sym (gains-part es)) ∙ count-part gained refl q es tally
 
-pub count-losses : (q : List Value) (es : List Entry) → IsTally es → count_of q (losses es) ≡ lost (number_of q es)
+pub count-losses : (q : List Cell) (es : List Entry) → IsTally es → count_of q (losses es) ≡ lost (number_of q es)
 count-losses q es tally = ap (count_of q) (sym (losses-part es)) ∙ count-part lost refl q es tally
 
 -- ---- lists in row order with the same counts are one
 
-same_tails : (x : List Value) (xs ys : List (List Value)) → ((q : List Value) → count_of q (x ∷ xs) ≡ count_of q (x ∷ ys)) → (q : List Value) → count_of q xs ≡ count_of q ys
+same_tails : (x : List Cell) (xs ys : List (List Cell)) → ((q : List Cell) → count_of q (x ∷ xs) ≡ count_of q (x ∷ ys)) → (q : List Cell) → count_of q xs ≡ count_of q ys
 same_tails x xs ys same q = let h : once q x + count_of q xs ≡ once q x + count_of q ys = same q in omega arith
 
-count-first : (x : List Value) (xs : List (List Value)) → 0 < count_of x (x ∷ xs)
+count-first : (x : List Cell) (xs : List (List Cell)) → 0 < count_of x (x ∷ xs)
 count-first x xs = rw (tied_itself rows_total x) (omega arith)
 
-pub one_list : (xs ys : List (List Value)) → IsInOrder xs → IsInOrder ys → ((q : List Value) → count_of q xs ≡ count_of q ys) → xs ≡ ys
+pub one_list : (xs ys : List (List Cell)) → IsInOrder xs → IsInOrder ys → ((q : List Cell) → count_of q xs ≡ count_of q ys) → xs ≡ ys
 one_list [] [] sorted others same = refl
 one_list [] (y ∷ ys) sorted others same = absurd (let h : 0 ≡ count_of y (y ∷ ys) = same y in let k = count-first y ys in omega arith)
 one_list (x ∷ xs) [] sorted others same = absurd (let h : count_of x (x ∷ xs) ≡ 0 = same x in let k = count-first x xs in omega arith)
@@ -112,7 +112,7 @@ one_list (x ∷ xs) (y ∷ ys) sorted others same = elim (cases_Ordering (row_cm
   | inr rest ↦ elim rest [
     | inl tie ↦
         let head : x ≡ y = exact_rows x y tie in
-        let tails : xs ≡ ys = one_list xs ys sorted.1 others.1 (same_tails x xs ys (λ q. same q ∙ ap (λ (z : List Value). count_of q (z ∷ ys)) (sym head))) in
+        let tails : xs ≡ ys = one_list xs ys sorted.1 others.1 (same_tails x xs ys (λ q. same q ∙ ap (λ (z : List Cell). count_of q (z ∷ ys)) (sym head))) in
         λ i. head i ∷ tails i
     | inr more ↦ absurd (
         let less : row_cmp y x ≡ Less = rw (rows_total.antisymm y x, more) refl in
@@ -147,7 +147,7 @@ pub lost-none : (z : ℤ) → int_lt z (pos 0) ≡ false → lost z ≡ 0
 lost-none (pos n) h = refl
 lost-none (negsuc n) h = absurd (cc)
 
-module _ (before now : List (List Value)) (es : List Entry) (tally : IsTally es) (change : IsChange before now es) where
+module _ (before now : List (List Cell)) (es : List Entry) (tally : IsTally es) (change : IsChange before now es) where
   -- the positive part is what is there more often than before
   pub gains-difference : IsInOrder now → gains es ≡ difference now before
   gains-difference sorted = one_list (gains es) (difference now before) (gains-in_order es tally) (difference-in_order now before sorted) (λ q.

@@ -5,7 +5,7 @@ use Rattle.std.specs.Ordering.{is_gt, is_eq, int_eq}
 use Rattle.std.specs.Cmp.{tied_itself}
 use Rattle.std.proofs.lemmas.Bool.{cases_Bool}
 use Rattle.std.proofs.lemmas.Int.{ints}
-use Rattle.wsm_record.specs.declared.event.Value.{Value}
+use Rattle.wsm_record.specs.declared.cell.Cell.{Cell}
 use Rattle.wsm_semantics.specs.Relation.{row_cmp, with_row, without_one, sorted_rows, difference}
 use Rattle.wsm_relation.specs.Rows.{IsInOrder, count_of}
 use Rattle.wsm_relation.specs.Tally.{IsTally, IsChange, number_of, shifted, gained, lost, gains, losses, undone}
@@ -18,40 +18,40 @@ use Rattle.wsm_relation.proofs.Copies.{count-gains, count-losses, length-copies,
 
 -- ---- counts
 
-pub count-with_row : (q r : List Value) (rows : List (List Value)) → count_of q (with_row r rows) ≡ once q r + count_of q rows
+pub count-with_row : (q r : List Cell) (rows : List (List Cell)) → count_of q (with_row r rows) ≡ once q r + count_of q rows
 count-with_row q r [] = refl
 count-with_row q r (x ∷ xs) = elim (is_gt (row_cmp r x)) as (λ b. count_of q (cond b (x ∷ with_row r xs) (r ∷ x ∷ xs)) ≡ once q r + count_of q (x ∷ xs)) [
   | true ↦ omega (arith, count-with_row q r xs)
   | false ↦ refl
 ]
 
-pub count-sorted_rows : (q : List Value) (rows : List (List Value)) → count_of q (sorted_rows rows) ≡ count_of q rows
+pub count-sorted_rows : (q : List Cell) (rows : List (List Cell)) → count_of q (sorted_rows rows) ≡ count_of q rows
 count-sorted_rows q [] = refl
 count-sorted_rows q (x ∷ xs) = omega (arith, count-with_row q x (sorted_rows xs), count-sorted_rows q xs)
 
-pub count-append : (q : List Value) (xs ys : List (List Value)) → count_of q (xs ++ ys) ≡ count_of q xs + count_of q ys
+pub count-append : (q : List Cell) (xs ys : List (List Cell)) → count_of q (xs ++ ys) ≡ count_of q xs + count_of q ys
 count-append q [] ys = omega arith
 count-append q (x ∷ xs) ys = omega (arith, count-append q xs ys)
 
-pub count-within : (q : List Value) (rows : List (List Value)) → count_of q rows ≤ length rows
+pub count-within : (q : List Cell) (rows : List (List Cell)) → count_of q rows ≤ length rows
 count-within q [] = omega arith
 count-within q (x ∷ xs) = elim (is_eq (row_cmp q x)) as (λ b. cond b 1 0 + count_of q xs ≤ suc (length xs)) [
   | true ↦ omega (arith, count-within q xs)
   | false ↦ omega (arith, count-within q xs)
 ]
 
-length-without : (r : List Value) (rows : List (List Value)) → length (without_one r rows) ≤ length rows
+length-without : (r : List Cell) (rows : List (List Cell)) → length (without_one r rows) ≤ length rows
 length-without r [] = omega arith
 length-without r (x ∷ xs) = elim (is_eq (row_cmp r x)) as (λ b. length (cond b xs (x ∷ without_one r xs)) ≤ suc (length xs)) [
   | true ↦ omega arith
   | false ↦ omega (arith, length-without r xs)
 ]
 
-pub length-difference : (rows others : List (List Value)) → length (difference rows others) ≤ length rows
+pub length-difference : (rows others : List (List Cell)) → length (difference rows others) ≤ length rows
 length-difference rows [] = omega arith
 length-difference rows (x ∷ xs) = omega (arith, length-difference (without_one x rows) xs, length-without x rows)
 
-pub once_itself : (r : List Value) → once r r ≡ 1
+pub once_itself : (r : List Cell) → once r r ≡ 1
 once_itself r = ap (λ o. one_if (is_eq o)) (tied_itself rows_total r)
 
 -- ---- how many rows have a number
@@ -66,7 +66,7 @@ length-parts [] tally = omega arith
 length-parts (e ∷ es) tally =
     omega (arith, length-parts es tally.2, some_copies e.1 tally.1, length-copies (gained e.1) e.0 (gains es), length-copies (lost e.1) e.0 (losses es))
 
-module _ (before now : List (List Value)) (es : List Entry) (tally : IsTally es) (change : IsChange before now es) where
+module _ (before now : List (List Cell)) (es : List Entry) (tally : IsTally es) (change : IsChange before now es) where
   -- no more than the rows before and now
   pub few_numbers : length es ≤ length before + length now
   few_numbers =
@@ -92,14 +92,14 @@ module _ (before now : List (List Value)) (es : List Entry) (tally : IsTally es)
       back (negsuc k) n b g l r u h i j m e = omega (arith, ints)
 
   -- a number is no more than the rows
-  pub number_high : (q : List Value) (most : ℕ) → length now ≤ most → number_of q es ≤ℤ pos most
+  pub number_high : (q : List Cell) (most : ℕ) → length now ≤ most → number_of q es ≤ℤ pos most
   number_high q most few = let c = count-within q now in let h = change q in omega (arith, ints)
 
-  pub number_low : (q : List Value) (most : ℕ) → length before ≤ most → (pos 0 -ℤ pos most) ≤ℤ number_of q es
+  pub number_low : (q : List Cell) (most : ℕ) → length before ≤ most → (pos 0 -ℤ pos most) ≤ℤ number_of q es
   number_low q most few = let c = count-within q before in let h = change q in omega (arith, ints)
 
 -- a row that had no number has one
-pub one_number_more : (r : List Value) (d : ℤ) (es : List Entry) → IsTally es → number_of r es ≡ pos 0 → length (shifted r d es) ≡ suc (length es)
+pub one_number_more : (r : List Cell) (d : ℤ) (es : List Entry) → IsTally es → number_of r es ≡ pos 0 → length (shifted r d es) ≡ suc (length es)
 one_number_more r d [] tally none = refl
 one_number_more r d (e ∷ es) tally none = elim (cases_Bool (is_gt (row_cmp r e.0))) [
   | inl gt ↦
@@ -115,7 +115,7 @@ one_number_more r d (e ∷ es) tally none = elim (cases_Bool (is_gt (row_cmp r e
 ]
 
 -- a row is lost
-pub change_less : (r : List Value) (before rest : List (List Value)) (es : List Entry) → IsTally es → IsChange before (r ∷ rest) es → IsChange before rest (shifted r (negsuc 0) es)
+pub change_less : (r : List Cell) (before rest : List (List Cell)) (es : List Entry) → IsTally es → IsChange before (r ∷ rest) es → IsChange before rest (shifted r (negsuc 0) es)
 change_less r before rest es tally change q =
     let was : number_of q es ≡ pos (once q r + count_of q rest) -ℤ pos (count_of q before) = change q in
     number-shifted q r (negsuc 0) es tally ∙ by (is_eq (row_cmp q r)) (number_of q es) was
@@ -125,7 +125,7 @@ change_less r before rest es tally change q =
     by false z h = omega (arith, ints)
 
 -- a row is gained
-pub change_more : (r : List Value) (before rest : List (List Value)) (es : List Entry) → IsTally es → IsChange before rest es → IsChange before (r ∷ rest) (shifted r (pos 1) es)
+pub change_more : (r : List Cell) (before rest : List (List Cell)) (es : List Entry) → IsTally es → IsChange before rest es → IsChange before (r ∷ rest) (shifted r (pos 1) es)
 change_more r before rest es tally change q =
     number-shifted q r (pos 1) es tally ∙ by (is_eq (row_cmp q r)) (number_of q es) (change q)
   where

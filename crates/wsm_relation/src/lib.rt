@@ -7,7 +7,7 @@
 //! Where `row(n)` is a row of the one column n:
 //!
 //! ```rust
-//! use wsm_record::Value::Int;
+//! use wsm_record::Cell::Int;
 //! use wsm_relation::{Relation, istream};
 //!
 //! let mut before = Relation::open(alloc, 2, 1)?; // at most two rows of one column

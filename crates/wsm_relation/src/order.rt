@@ -1,18 +1,18 @@
 //! The order of rows.
 
 ghost use Rattle.std.specs.Prelude.{◌≡◌};
-ghost use Rattle.wsm_semantics.specs.Relation.{value_cmp, row_cmp};
+ghost use Rattle.wsm_semantics.specs.Relation.{cell_cmp, row_cmp};
 
 use std::cmp::Ordering;
-use wsm_record::Value;
+use wsm_record::Cell;
 
 /// How two rows compare: by their columns from the left.
-pub fn row_order(row: &[Value], other: &[Value]) -> Ordering
+pub fn row_order(row: &[Cell], other: &[Cell]) -> Ordering
     ensures { result ≡ row_cmp row.now other.now }
 {
     let mut i = 0;
     while i < row.len() && i < other.len() {
-        match value_order(row[i], other[i]) {
+        match cell_order(row[i], other[i]) {
             Ordering::Equal => i += 1,
             order => return order,
         }
@@ -20,15 +20,18 @@ pub fn row_order(row: &[Value], other: &[Value]) -> Ordering
     row.len().cmp(&other.len())
 }
 
-// Numbers by value, false before true, names by their number.
-fn value_order(value: Value, other: Value) -> Ordering
-    ensures { result ≡ value_cmp value other }
+// Numbers by value, false before true, names by the numbers of their ENUM and their own.
+fn cell_order(cell: Cell, other: Cell) -> Ordering
+    ensures { result ≡ cell_cmp cell other }
 {
-    match (value, other) {
-        (Value::Int(a), Value::Int(b)) => a.cmp(&b),
-        (Value::Bool(a), Value::Bool(b)) => a.cmp(&b),
-        (Value::Enum(a), Value::Enum(b)) => a.cmp(&b),
-        (Value::Int(_), _) | (Value::Bool(_), Value::Enum(_)) => Ordering::Less,
-        (Value::Bool(_), _) | (Value::Enum(_), _) => Ordering::Greater,
+    match (cell, other) {
+        (Cell::Int(a), Cell::Int(b)) => a.cmp(&b),
+        (Cell::Bool(a), Cell::Bool(b)) => a.cmp(&b),
+        (Cell::Enum(d, a), Cell::Enum(e, b)) => match d.cmp(&e) {
+            Ordering::Equal => a.cmp(&b),
+            order => order,
+        },
+        (Cell::Int(_), _) | (Cell::Bool(_), Cell::Enum(..)) => Ordering::Less,
+        (Cell::Bool(_), _) | (Cell::Enum(..), _) => Ordering::Greater,
     }
 }

@@ -7,7 +7,7 @@ ghost use Rattle.wsm_relation.specs.Rows.{IsInOrder, IsExcess, count_of};
 use crate::rows::{append_all, append_difference, place_of};
 use std::alloc::{AllocError, Global};
 use std::marker::Model;
-use wsm_semantics::Columns;
+use wsm_record::Columns;
 
 /// A bag of rows, in row order, with room for a number of them. The rows are held in places that
 /// were reserved when it was opened, and only the places' addresses are moved.

@@ -6,7 +6,7 @@ ghost use Rattle.wsm_relation.specs.Rows.{rows_in, IsInOrder, passed};
 
 use crate::order::row_order;
 use std::cmp::Ordering;
-use wsm_semantics::Columns;
+use wsm_record::Columns;
 
 /// How many of the rows stand before a row.
 pub fn place_of(rows: &[Box<Columns>], row: &Columns) -> usize

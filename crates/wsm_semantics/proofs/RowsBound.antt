@@ -5,6 +5,7 @@ use Rattle.std.specs.Prelude.{filter_map}
 use Rattle.std.specs.List.{cons_option}
 use Rattle.std.specs.Ordering.{is_gt, is_eq}
 use Rattle.wsm_record.specs.declared.event.Value.{Value}
+use Rattle.wsm_record.specs.declared.cell.Cell.{Cell}
 use Rattle.wsm_record.specs.declared.words.Form.{Form}
 use Rattle.wsm_record.specs.declared.words.Form.TheVariants as form
 use Rattle.wsm_record.specs.Event.{Event, Record, Watermark}
@@ -37,7 +38,7 @@ length-filter_map g (x ∷ xs) =
       | Some y ↦ omega (arith, length-filter_map g xs)
     ]
 
-pub length-with_row : (r : List Value) (rs : List (List Value)) → length (with_row r rs) ≡ suc (length rs)
+pub length-with_row : (r : List Cell) (rs : List (List Cell)) → length (with_row r rs) ≡ suc (length rs)
 length-with_row r [] = refl
 length-with_row r (x ∷ xs) =
     elim (is_gt (row_cmp r x)) as (λ b. length (cond b (x ∷ with_row r xs) (r ∷ x ∷ xs)) ≡ suc (suc (length xs))) [
@@ -45,11 +46,11 @@ length-with_row r (x ∷ xs) =
       | false ↦ refl
     ]
 
-pub length-sorted_rows : (rs : List (List Value)) → length (sorted_rows rs) ≡ length rs
+pub length-sorted_rows : (rs : List (List Cell)) → length (sorted_rows rs) ≡ length rs
 length-sorted_rows [] = refl
 length-sorted_rows (r ∷ rs) = length-with_row r (sorted_rows rs) ∙ ap suc (length-sorted_rows rs)
 
-length-without_one : (r : List Value) (rs : List (List Value)) → length (without_one r rs) ≤ length rs
+length-without_one : (r : List Cell) (rs : List (List Cell)) → length (without_one r rs) ≤ length rs
 length-without_one r [] = omega arith
 length-without_one r (x ∷ xs) =
     elim (is_eq (row_cmp r x)) as (λ b. length (cond b xs (x ∷ without_one r xs)) ≤ suc (length xs)) [
@@ -57,7 +58,7 @@ length-without_one r (x ∷ xs) =
       | false ↦ omega (arith, length-without_one r xs)
     ]
 
-length-difference : (rows xs : List (List Value)) → length (difference rows xs) ≤ length rows
+length-difference : (rows xs : List (List Cell)) → length (difference rows xs) ≤ length rows
 length-difference rows [] = omega arith
 length-difference rows (x ∷ xs) =
     let rest : length (difference (without_one x rows) xs) ≤ length (without_one x rows) = length-difference (without_one x rows) xs in
@@ -102,7 +103,7 @@ module _ (q : Query) (ok : IsShape q.shape) (within : IsWithinLimits q.clock) wh
   relation_at_bounded past e =
       subst (λ (n : ℕ). n ≤ most_panes q) (sym (length-sorted_rows _)) (fewer _)
     where
-      fewer : (g : Place × List Datum → Option (List Value)) → length (filter_map g (held q past)) ≤ most_panes q
+      fewer : (g : Place × List Datum → Option (List Cell)) → length (filter_map g (held q past)) ≤ most_panes q
       fewer g = let less = length-filter_map g (held q past) in let all : length (held q past) ≤ most_panes q = held_bounded q ok within past in omega arith
 
   -- no more rows stand in the relation than panes can be held
@@ -120,7 +121,7 @@ module _ (q : Query) (ok : IsShape q.shape) (within : IsWithinLimits q.clock) wh
   mapped : {A B : Type 0} (f : A → B) (xs : List A) → length xs ≤ most_panes q → length (map f xs) ≤ most_panes q
   mapped f xs h = subst (λ (n : ℕ). n ≤ most_panes q) (sym (length_each f xs)) h
 
-  difference_bounded : (rows xs : List (List Value)) → length rows ≤ most_panes q → length (difference rows xs) ≤ most_panes q
+  difference_bounded : (rows xs : List (List Cell)) → length rows ≤ most_panes q → length (difference rows xs) ≤ most_panes q
   difference_bounded rows xs h = let less = length-difference rows xs in omega arith
 
   of_form : (f : Form) (past : List Event) (e : Event) → length (rows_of f q past e) ≤ most_panes q

@@ -57,7 +57,6 @@ with_time-swap t u (x ∷ xs) =
 -- ---- sessions that lie apart
 
 module _ (gap : ℤ) (long : pos 1 ≤ℤ gap) where
-
   -- first those that ended by a time, then those that it is linked to, then those a gap after it
   pub in_order : (t : ℤ) (ws : List Window) → AreApart gap ws → ws ≡ filter (ends_by t) ws ++ (filter (links gap t) ws ++ filter (starts_from (t +ℤ gap)) ws)
   in_order t [] a = refl
@@ -135,5 +134,3 @@ module _ (gap : ℤ) (long : pos 1 ≤ℤ gap) where
 
         end : (w v : Window) → AreApart gap (w ∷ v ∷ []) → AllByRecursion (λ x. links gap t x ≡ true) (w ∷ v ∷ []) → int_max w.end (int_max v.end (t +ℤ gap)) ≡ v.end
         end w v two both = greatest w v t two.1.0 two.2.0 (both_linked gap long t w both.0).1
-
-  -- ---- sessions that were dropped

@@ -5,7 +5,7 @@
 use Rattle.std.specs.Prelude.{Bool, ◌&&◌, not, List, [], ◌∷◌, map, length, filter, filter_map, ℤ, ◌+ℤ◌, nat_lt, nat_eq, Option, Some, None, if◌then◌else◌}
 use Rattle.std.specs.Int.{int_max, int_min}
 use Rattle.std.specs.FinMap.Entries.{put, find, where_key}
-use Rattle.wsm_record.specs.declared.event.Value.{Value}
+use Rattle.wsm_record.specs.declared.cell.Cell.{Cell}
 use Rattle.wsm_record.specs.declared.words.Mode.{Mode}
 use Rattle.wsm_record.specs.Event.{Event}
 use Rattle.wsm_windows.specs.declared.window.PaneKind.{PaneKind}
@@ -154,11 +154,11 @@ abbrev pub kept_after_watermark : Query → ℤ → ℤ → List (Place × Kept)
 kept_after_watermark q old new panes = where_key place_cmp (is_live_at q new) (kept_at_watermark q old new panes)
 
 -- the row that stands for a pane
-abbrev pub standing_row : Query → Place → Stands → Option (List Value)
+abbrev pub standing_row : Query → Place → Stands → Option (List Cell)
 standing_row q p Unfired = None
 standing_row q p (Firing fired) = q.row p.key fired
 standing_row q p Joined = None
 
 -- the relation that panes stand for
-abbrev pub relation_of : Query → List (Place × Kept) → List (List Value)
+abbrev pub relation_of : Query → List (Place × Kept) → List (List Cell)
 relation_of q panes = sorted_rows (filter_map (λ e. standing_row q e.0 e.1.stands) panes)

@@ -2,7 +2,7 @@
 -- keeps, fires and writes what the definitions say. Inputs are written as they are read, the oldest
 -- row first.
 use Rattle.std.specs.Prelude.{◌≡◌, refl, List, [], ◌∷◌, reverse, nat_eq, pos, int_lt, Some, None, if◌then◌else◌}
-use Rattle.wsm_record.specs.declared.event.Value.TheVariants.{Int}
+use Rattle.wsm_record.specs.declared.cell.Cell.TheVariants as cells
 use Rattle.wsm_record.specs.declared.words.Form.TheVariants as form
 use Rattle.wsm_record.specs.declared.words.Mode.TheVariants as mode
 use Rattle.wsm_record.specs.Event.{Event}
@@ -58,7 +58,7 @@ abbrev having : Query
 having = with_lateness 100 (record base {
   early = 2;
   late = 2;
-  row = λ key ds. if int_lt (pos 1) (total ds) then Some (count ds ∷ Int (total ds) ∷ []) else None;
+  row = λ key ds. if int_lt (pos 1) (total ds) then Some (count ds ∷ cells.Int (total ds) ∷ []) else None;
 })
 
 abbrev two_windows : List Row

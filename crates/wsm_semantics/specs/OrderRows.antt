@@ -3,6 +3,7 @@
 use Rattle.std.specs.Prelude.{◌≡◌, refl, ℕ, true, List, [], ◌∷◌, filter_map, reverse, ℤ, pos, ◌+ℤ◌, Some, codes}
 use Rattle.wsm_record.specs.declared.event.Value.{Value}
 use Rattle.wsm_record.specs.declared.event.Value.TheVariants.{Int}
+use Rattle.wsm_record.specs.declared.cell.Cell.TheVariants as cells
 use Rattle.wsm_record.specs.declared.words.Form.TheVariants as form
 use Rattle.wsm_record.specs.declared.words.Mode.TheVariants as mode
 use Rattle.wsm_record.specs.Event.{Event, Record, Watermark}
@@ -42,7 +43,7 @@ base = record {
   late = 0;
   form = form.Panes;
   selects = λ key values. true;
-  row = λ key ds. Some (Int (total ds) ∷ []);
+  row = λ key ds. Some (cells.Int (total ds) ∷ []);
 }
 
 abbrev sessions : Query
@@ -54,7 +55,7 @@ rows q past time = filter_map (row_of q) (on_time q (reverse past) (pos time))
 
 -- a row on time of the window from start to end, with its sum
 abbrev sums : ℕ → ℕ → ℕ → List OutRow
-sums start end sum = Pane OnTime 0 (window (pos start) (pos end)) (Int (pos sum) ∷ []) ∷ []
+sums start end sum = Pane OnTime 0 (window (pos start) (pos end)) (cells.Int (pos sum) ∷ []) ∷ []
 
 -- the second record moves to the front, past a watermark that is refused and the first record
 a_record_comes_sooner : Permuted base (reverse (a 5 1 ∷ w 0 ∷ a 7 2 ∷ w 60 ∷ [])) (reverse (a 7 2 ∷ a 5 1 ∷ w 0 ∷ w 60 ∷ []))

@@ -2,6 +2,7 @@
 -- first; nothing is kept beside it. The clauses of a query are this project's own.
 use Rattle.std.specs.Prelude.{ℕ, Bool, ◌&&◌, List, [], ◌∷◌, ◌++◌, length, ℤ, Option, Some, None, is_none, if◌then◌else◌}
 use Rattle.wsm_record.specs.declared.event.Value.{Value}
+use Rattle.wsm_record.specs.declared.cell.Cell.{Cell}
 use Rattle.wsm_record.specs.declared.words.Form.{Form}
 use Rattle.wsm_record.specs.declared.words.Mode.{Mode}
 use Rattle.wsm_record.specs.Event.{Event, Record, Watermark}
@@ -28,7 +29,7 @@ pub record Query : Type 0 where
   pub late : ℕ  -- the count of LATE EVERY, or 0 for none
   pub form : Form
   pub selects : ℕ → List Value → Bool  -- whether WHERE is true of a key and values
-  pub row : ℕ → List Datum → Option (List Value)  -- the columns of a key and records, where HAVING is true
+  pub row : ℕ → List Datum → Option (List Cell)  -- the columns of a key and records, where HAVING is true
 
 -- the watermark after a history
 abbrev pub mark : Query → List Event → ℤ

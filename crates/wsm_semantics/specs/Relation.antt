@@ -6,8 +6,8 @@ use Rattle.std.specs.List.{list_all}
 use Rattle.std.specs.Ordering.{int_cmp, nat_cmp, bool_cmp, ordering_then, is_eq, is_gt}
 use Rattle.std.specs.declared.cmp.Ordering.{Ordering}
 use Rattle.std.specs.declared.cmp.Ordering.TheVariants.{Less, Equal, Greater}
-use Rattle.wsm_record.specs.declared.event.Value.{Value}
-use Rattle.wsm_record.specs.declared.event.Value.TheVariants.{Int, Bool as Truth, Enum}
+use Rattle.wsm_record.specs.declared.cell.Cell.{Cell}
+use Rattle.wsm_record.specs.declared.cell.Cell.TheVariants.{Int, Bool as Truth, Enum}
 use Rattle.wsm_record.specs.declared.words.Form.{Form}
 use Rattle.wsm_record.specs.declared.words.Form.TheVariants as form
 use Rattle.wsm_record.specs.Event.{Event, Record, Watermark}
@@ -35,53 +35,53 @@ greatest_of all (f ∷ fs) = if list_all (λ g. is_within g.contents f.contents)
 abbrev pub standing : Query → List Firing → Place → List Datum → Option Firing
 standing q fs p all = let cs = candidates q p all fs in greatest_of cs cs
 
--- values of one type by value; no column has values of two types
-abbrev pub value_cmp : Value → Value → Ordering
-value_cmp (Int a) (Int b) = int_cmp a b
-value_cmp (Int a) (Truth b) = Less
-value_cmp (Int a) (Enum b) = Less
-value_cmp (Truth a) (Int b) = Greater
-value_cmp (Truth a) (Truth b) = bool_cmp a b
-value_cmp (Truth a) (Enum b) = Less
-value_cmp (Enum a) (Int b) = Greater
-value_cmp (Enum a) (Truth b) = Greater
-value_cmp (Enum a) (Enum b) = nat_cmp a b
+-- cells of one type by value; no column has cells of two types
+abbrev pub cell_cmp : Cell → Cell → Ordering
+cell_cmp (Int a) (Int b) = int_cmp a b
+cell_cmp (Int a) (Truth b) = Less
+cell_cmp (Int a) (Enum e j) = Less
+cell_cmp (Truth a) (Int b) = Greater
+cell_cmp (Truth a) (Truth b) = bool_cmp a b
+cell_cmp (Truth a) (Enum e j) = Less
+cell_cmp (Enum d i) (Int b) = Greater
+cell_cmp (Enum d i) (Truth b) = Greater
+cell_cmp (Enum d i) (Enum e j) = ordering_then (nat_cmp d e) (nat_cmp i j)
 
 -- by columns from the left
-abbrev pub row_cmp : List Value → List Value → Ordering
+abbrev pub row_cmp : List Cell → List Cell → Ordering
 row_cmp [] [] = Equal
 row_cmp [] (y ∷ ys) = Less
 row_cmp (x ∷ xs) [] = Greater
-row_cmp (x ∷ xs) (y ∷ ys) = ordering_then (value_cmp x y) (row_cmp xs ys)
+row_cmp (x ∷ xs) (y ∷ ys) = ordering_then (cell_cmp x y) (row_cmp xs ys)
 
-abbrev pub with_row : List Value → List (List Value) → List (List Value)
+abbrev pub with_row : List Cell → List (List Cell) → List (List Cell)
 with_row r [] = r ∷ []
 with_row r (x ∷ xs) = if is_gt (row_cmp r x) then x ∷ with_row r xs else r ∷ x ∷ xs
 
 -- a bag as the list of its rows in order, each as often as it stands there
-abbrev pub sorted_rows : List (List Value) → List (List Value)
+abbrev pub sorted_rows : List (List Cell) → List (List Cell)
 sorted_rows [] = []
 sorted_rows (r ∷ rs) = with_row r (sorted_rows rs)
 
 -- the relation at a watermark that is accepted after a history: after its firings, before its drops
-abbrev pub relation_at : Query → List Event → Event → List (List Value)
+abbrev pub relation_at : Query → List Event → Event → List (List Cell)
 relation_at q past e =
     let fs = firings_so_far q (e ∷ past) in
     sorted_rows (filter_map (λ p. option_and_then (λ f. q.row f.place.key f.fired) (standing q fs p.0 p.1)) (held q past))
 
 -- the relation at the last accepted watermark of a history, empty before the first
-abbrev pub relation : Query → List Event → List (List Value)
+abbrev pub relation : Query → List Event → List (List Cell)
 relation q [] = []
 relation q (Record key time values ∷ past) = relation q past
 relation q (Watermark time ∷ past) =
     if is_taken q past (Watermark time) then relation_at q past (Watermark time) else relation q past
 
-abbrev pub without_one : List Value → List (List Value) → List (List Value)
+abbrev pub without_one : List Cell → List (List Cell) → List (List Cell)
 without_one r [] = []
 without_one r (x ∷ xs) = if is_eq (row_cmp r x) then xs else x ∷ without_one r xs
 
 -- the difference of bags
-abbrev pub difference : List (List Value) → List (List Value) → List (List Value)
+abbrev pub difference : List (List Cell) → List (List Cell) → List (List Cell)
 difference rows [] = rows
 difference rows (x ∷ xs) = difference (without_one x rows) xs
 

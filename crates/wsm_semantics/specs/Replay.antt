@@ -3,6 +3,7 @@
 -- one of the three streams (Arasu et al. 2006). The mark and the verdicts are those of the history.
 use Rattle.std.specs.Prelude.{ℕ, ◌&&◌, List, [], ◌∷◌, length, map, filter_map, ℤ, Some, None, if◌then◌else◌}
 use Rattle.wsm_record.specs.declared.event.Value.{Value}
+use Rattle.wsm_record.specs.declared.cell.Cell.{Cell}
 use Rattle.wsm_record.specs.declared.words.Form.{Form}
 use Rattle.wsm_record.specs.declared.words.Form.TheVariants as form
 use Rattle.wsm_record.specs.Event.{Event, Record, Watermark}
@@ -37,7 +38,7 @@ fired_by q past (Record (Some key) time values) panes =
 fired_by q past (Watermark time) panes = if is_taken q past (Watermark time) then fired_by_watermark q (mark q past) time panes else []
 
 -- the relation at an accepted watermark: after its firings, before its drops
-abbrev pub relation_by : Query → List Event → ℤ → List (Place × Kept) → List (List Value)
+abbrev pub relation_by : Query → List Event → ℤ → List (Place × Kept) → List (List Cell)
 relation_by q past time panes = relation_of q (kept_at_watermark q (mark q past) time panes)
 
 -- ---- with the relation
@@ -45,9 +46,9 @@ relation_by q past time panes = relation_of q (kept_at_watermark q (mark q past)
 -- what is kept of each held pane, and the relation at the last accepted watermark
 pub record State : Type 0 where
   pub panes : List (Place × Kept)
-  pub relation : List (List Value)
+  pub relation : List (List Cell)
 
-abbrev pub relation_after : Query → List Event → Event → State → List (List Value)
+abbrev pub relation_after : Query → List Event → Event → State → List (List Cell)
 relation_after q past (Record key time values) s = s.relation
 relation_after q past (Watermark time) s = if is_taken q past (Watermark time) then relation_by q past time s.panes else s.relation
 

@@ -2,6 +2,8 @@
 use Rattle.std.specs.Prelude.{◌≡◌, refl, ℕ, true, List, [], ◌∷◌, reverse, map, length, ℤ, pos, negsuc, ◌+ℤ◌, int_lt, Some, None, Ok, Err, codes, if◌then◌else◌}
 use Rattle.wsm_record.specs.declared.event.Value.{Value}
 use Rattle.wsm_record.specs.declared.event.Value.TheVariants.{Int}
+use Rattle.wsm_record.specs.declared.cell.Cell.{Cell}
+use Rattle.wsm_record.specs.declared.cell.Cell.TheVariants as cells
 use Rattle.wsm_record.specs.declared.event.RowFault.TheVariants.{BadTag, CellCount, BadNumber}
 use Rattle.wsm_record.specs.declared.words.Form.TheVariants as form
 use Rattle.wsm_record.specs.declared.words.Mode.TheVariants as mode
@@ -24,8 +26,8 @@ abbrev pub total : List Datum → ℤ
 total [] = pos 0
 total (d ∷ ds) = total ds +ℤ first_value d.values
 
-abbrev pub count : List Datum → Value
-count ds = Int (pos (length ds))
+abbrev pub count : List Datum → Cell
+count ds = cells.Int (pos (length ds))
 
 -- KEYS a, b; FIELD n INT 0..100; START 0; SKEW 100; LATENESS 10; RECORDS 1000;
 -- SELECT COUNT(*), SUM(n) WINDOW FIXED 60 ACCUMULATING EMIT PANES;
@@ -42,7 +44,7 @@ base = record {
   late = 0;
   form = form.Panes;
   selects = λ key values. true;
-  row = λ key ds. Some (count ds ∷ Int (total ds) ∷ []);
+  row = λ key ds. Some (count ds ∷ cells.Int (total ds) ∷ []);
 }
 
 abbrev pub with_lateness : ℕ → Query → Query
@@ -62,8 +64,8 @@ b time n = Ok (Record (Some 1) (pos time) (Int (pos n) ∷ []))
 abbrev pub w : ℕ → Row
 w time = Ok (Watermark (pos time))
 
-abbrev ints : List ℕ → List Value
-ints ns = map (λ n. Int (pos n)) ns
+abbrev ints : List ℕ → List Cell
+ints ns = map (λ n. cells.Int (pos n)) ns
 
 abbrev pane : PaneKind → ℕ → ℕ → ℕ → List ℕ → Line
 pane kind key start end columns = Out (Pane kind key (window (pos start) (pos end)) (ints columns))
@@ -147,7 +149,7 @@ having_false_writes_no_row = refl
 
 the_first_rule_refuses :
     written (record base { clock = record base.clock { records = pos 2 } })
-    (a 1 1 ∷ a 2 1 ∷ a 3 1 ∷ Ok (Record None (pos 1) (ints (1 ∷ []))) ∷ a 1 101 ∷ w 5 ∷ w 5 ∷ [])
+    (a 1 1 ∷ a 2 1 ∷ a 3 1 ∷ Ok (Record None (pos 1) (Int (pos 1) ∷ [])) ∷ a 1 101 ∷ w 5 ∷ w 5 ∷ [])
     ≡ Refused 3 refusal.RecordLimit ∷ Refused 4 refusal.UnknownKey ∷ Refused 5 refusal.FieldRange ∷ Refused 7 refusal.NotRising ∷ End 7 2 0 4 0 ∷ []
 the_first_rule_refuses = refl
 

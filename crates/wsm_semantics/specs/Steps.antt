@@ -1,7 +1,7 @@
 -- A machine that keeps a summary for each held pane in place of the history, event by event: for all
 -- shapes, modes, triggers and forms.
 use Rattle.std.specs.Prelude.{◌≡◌, ℕ, ◌+◌, List, [], ◌∷◌, map, length, filter_map, ℤ, Some, Result, Ok, if◌then◌else◌}
-use Rattle.wsm_record.specs.declared.event.Value.{Value}
+use Rattle.wsm_record.specs.declared.cell.Cell.{Cell}
 use Rattle.wsm_record.specs.declared.words.Form.{Form}
 use Rattle.wsm_record.specs.declared.words.Form.TheVariants as form
 use Rattle.wsm_record.specs.Event.{Event, Record}
@@ -24,12 +24,12 @@ use Rattle.wsm_semantics.specs.Summaries.{Plan, Pane, Fired, summaries, row_of}
 pub record State (X : Type 0) : Type 0 where
   pub admission : admission.State
   pub panes : List (Place × Pane X)
-  pub relation : List (List Value)  -- at the last accepted watermark
+  pub relation : List (List Cell)  -- at the last accepted watermark
   pub fed : ℕ
   pub fired : ℕ
 
 -- the rows of the streams, from the relation before and the relation now
-abbrev pub stream_rows : Form → ℤ → List (List Value) → List (List Value) → List OutRow
+abbrev pub stream_rows : Form → ℤ → List (List Cell) → List (List Cell) → List OutRow
 stream_rows form.Panes mark before now = []
 stream_rows form.Istream mark before now = map (Istream mark) (difference now before)
 stream_rows form.Dstream mark before now = map (Dstream mark) (difference before now)
@@ -58,7 +58,7 @@ module _ {X : Type 0} (plan : Plan X) (q : Query) where
   fired_by (Ok (admitted.Watermark old new)) e s = panes.fired_by_watermark plan q old new s.panes
   fired_by answer e s = []
 
-  abbrev pub relation_after : Result Admitted Refusal → State X → List (List Value)
+  abbrev pub relation_after : Result Admitted Refusal → State X → List (List Cell)
   relation_after (Ok (admitted.Watermark old new)) s = panes.relation_of (panes.at_watermark plan q old new s.panes)
   relation_after answer s = s.relation
 

@@ -7,6 +7,7 @@ use Rattle.std.specs.Option.{option_and_then}
 use Rattle.std.specs.Int.{int_max, int_min}
 use Rattle.std.specs.FinMap.Entries.{put, find, where_key}
 use Rattle.wsm_record.specs.declared.event.Value.{Value}
+use Rattle.wsm_record.specs.declared.cell.Cell.{Cell}
 use Rattle.wsm_record.specs.declared.words.Mode.{Mode}
 use Rattle.wsm_record.specs.declared.words.Mode.TheVariants.{Discarding, Accumulating}
 use Rattle.wsm_windows.specs.declared.window.PaneKind.{PaneKind}
@@ -33,7 +34,7 @@ pub record Plan (X : Type 0) : Type 0 where
   pub first : ℕ → List Value → X  -- one record, by its key and values
   pub more : X → ℕ → List Value → X  -- a record more
   pub join : X → X → X  -- two bags of records in one
-  pub row : ℕ → ℕ → X → Option (List Value)  -- the columns of a key, a number of records and what they are folded to, where HAVING is true
+  pub row : ℕ → ℕ → X → Option (List Cell)  -- the columns of a key, a number of records and what they are folded to, where HAVING is true
 
 -- records are folded in any order and in any groups
 pub record IsLawful {X : Type 0} (plan : Plan X) : Type 0 where
@@ -94,13 +95,13 @@ fired_of mode p h (Some kind) = Some (record { kind = kind; place = p; count = f
 abbrev pub fires : {X : Type 0} → Query → (Place → Pane X → Option PaneKind) → List (Place × Pane X) → List (Fired X)
 fires q kind panes = filter_map (λ e. fired_of q.mode e.0 e.1 (kind e.0 e.1)) panes
 
-abbrev pub standing_row : Standing → Option (List Value)
+abbrev pub standing_row : Standing → Option (List Cell)
 standing_row Unfired = None
 standing_row (Row columns) = columns
 standing_row Joined = None
 
 -- the relation that panes stand for
-abbrev pub relation_of : {X : Type 0} → List (Place × Pane X) → List (List Value)
+abbrev pub relation_of : {X : Type 0} → List (Place × Pane X) → List (List Cell)
 relation_of panes = sorted_rows (filter_map (λ e. standing_row e.1.stands) panes)
 
 module _ {X : Type 0} (plan : Plan X) where
@@ -114,7 +115,7 @@ module _ {X : Type 0} (plan : Plan X) where
   joined_folds (Some x) (Some y) = Some (plan.join x y)
 
   -- the columns of a key and so many records, where there are any and HAVING is true
-  abbrev pub columns : ℕ → ℕ → Option X → Option (List Value)
+  abbrev pub columns : ℕ → ℕ → Option X → Option (List Cell)
   columns key n x = option_and_then (plan.row key n) x
 
   abbrev pub with_record : Datum → Option (Pane X) → Pane X

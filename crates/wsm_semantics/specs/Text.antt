@@ -1,10 +1,11 @@
 -- The bytes of the lines that are written: cells joined by commas, each line ended by a line feed.
-use Rattle.std.specs.Prelude.{ℕ, true, false, List, [], ◌∷◌, ◌++◌, flat_map, slice_index_or, codes}
+use Rattle.std.specs.Prelude.{ℕ, true, false, List, [], ◌∷◌, ◌++◌, map, flat_map, slice_index_or, unwrap_or, codes}
 use Rattle.std.specs.Fmt.{decimal, signed_decimal}
-use Rattle.wsm_record.specs.declared.event.Value.{Value}
-use Rattle.wsm_record.specs.declared.event.Value.TheVariants.{Int, Bool as Truth, Enum}
+use Rattle.wsm_record.specs.declared.cell.Cell.{Cell}
+use Rattle.wsm_record.specs.declared.cell.Cell.TheVariants.{Int, Bool as Truth, Enum}
 use Rattle.wsm_record.specs.declared.event.RowFault.{RowFault}
 use Rattle.wsm_record.specs.declared.event.RowFault.TheVariants.{BadTag, CellCount, BadNumber, BadName}
+use Rattle.wsm_record.specs.Schema.{Declared, enum_names}
 use Rattle.wsm_windows.specs.declared.window.PaneKind.{PaneKind}
 use Rattle.wsm_windows.specs.declared.window.PaneKind.TheVariants as kind
 use Rattle.wsm_admission.specs.declared.verdict.Refusal.{Refusal}
@@ -13,11 +14,6 @@ use Rattle.wsm_semantics.specs.declared.out_row.OutRow.{OutRow}
 use Rattle.wsm_semantics.specs.declared.out_row.OutRow.TheVariants.{Pane, Istream, Dstream, Rstream}
 use Rattle.wsm_semantics.specs.Query.{Query}
 use Rattle.wsm_semantics.specs.Lines.{Row, Line, Out, Faulty, Refused, End, all_lines}
-
--- the names of the keys, and for each column those that its numbers stand for
-pub record Names : Type 0 where
-  pub keys : List (List ℕ)
-  pub columns : List (List (List ℕ))
 
 abbrev pub name_at : List (List ℕ) → ℕ → List ℕ
 name_at names i = slice_index_or names i []
@@ -28,17 +24,12 @@ joined [] = []
 joined (cell ∷ []) = cell
 joined (cell ∷ cells) = cell ++ 44 ∷ [] ++ joined cells
 
-abbrev pub value_text : List (List ℕ) → Value → List ℕ
-value_text names (Int n) = signed_decimal n
-value_text names (Truth true) = codes "true"
-value_text names (Truth false) = codes "false"
-value_text names (Enum i) = name_at names i
-
--- a cell for each value; a column without names has no ENUM
-abbrev pub value_texts : List (List (List ℕ)) → List Value → List (List ℕ)
-value_texts names [] = []
-value_texts [] (v ∷ vs) = value_text [] v ∷ value_texts [] vs
-value_texts (ns ∷ names) (v ∷ vs) = value_text ns v ∷ value_texts names vs
+-- a number that stands for no name has no byte
+abbrev pub cell_text : Declared → Cell → List ℕ
+cell_text s (Int n) = signed_decimal n
+cell_text s (Truth true) = codes "true"
+cell_text s (Truth false) = codes "false"
+cell_text s (Enum e i) = name_at (unwrap_or (enum_names s e) []) i
 
 abbrev pub kind_word : PaneKind → List ℕ
 kind_word kind.Early = codes "early"
@@ -61,27 +52,27 @@ refusal_word Late = codes "Late"
 refusal_word RecordLimit = codes "RecordLimit"
 refusal_word NotRising = codes "NotRising"
 
-abbrev pub row_cells : Names → OutRow → List (List ℕ)
-row_cells names (Pane kind key window columns) =
-    codes "pane" ∷ kind_word kind ∷ name_at names.keys key ∷ signed_decimal window.start ∷ signed_decimal window.end ∷ value_texts names.columns columns
-row_cells names (Istream mark columns) = codes "istream" ∷ signed_decimal mark ∷ value_texts names.columns columns
-row_cells names (Dstream mark columns) = codes "dstream" ∷ signed_decimal mark ∷ value_texts names.columns columns
-row_cells names (Rstream mark columns) = codes "rstream" ∷ signed_decimal mark ∷ value_texts names.columns columns
+abbrev pub row_cells : Declared → OutRow → List (List ℕ)
+row_cells s (Pane kind key window columns) =
+    codes "pane" ∷ kind_word kind ∷ name_at s.keys key ∷ signed_decimal window.start ∷ signed_decimal window.end ∷ map (cell_text s) columns
+row_cells s (Istream mark columns) = codes "istream" ∷ signed_decimal mark ∷ map (cell_text s) columns
+row_cells s (Dstream mark columns) = codes "dstream" ∷ signed_decimal mark ∷ map (cell_text s) columns
+row_cells s (Rstream mark columns) = codes "rstream" ∷ signed_decimal mark ∷ map (cell_text s) columns
 
-abbrev pub line_cells : Names → Line → List (List ℕ)
-line_cells names (Out row) = row_cells names row
-line_cells names (Faulty row why) = codes "refused" ∷ decimal row ∷ fault_word why ∷ []
-line_cells names (Refused row why) = codes "refused" ∷ decimal row ∷ refusal_word why ∷ []
-line_cells names (End rows admitted late refused panes) = codes "end" ∷ decimal rows ∷ decimal admitted ∷ decimal late ∷ decimal refused ∷ decimal panes ∷ []
+abbrev pub line_cells : Declared → Line → List (List ℕ)
+line_cells s (Out row) = row_cells s row
+line_cells s (Faulty row why) = codes "refused" ∷ decimal row ∷ fault_word why ∷ []
+line_cells s (Refused row why) = codes "refused" ∷ decimal row ∷ refusal_word why ∷ []
+line_cells s (End rows admitted late refused panes) = codes "end" ∷ decimal rows ∷ decimal admitted ∷ decimal late ∷ decimal refused ∷ decimal panes ∷ []
 
 -- the bytes of a line
-abbrev pub line_text : Names → Line → List ℕ
-line_text names line = joined (line_cells names line) ++ 10 ∷ []
+abbrev pub line_text : Declared → Line → List ℕ
+line_text s line = joined (line_cells s line) ++ 10 ∷ []
 
 -- the bytes of a list of lines
-abbrev pub lines_text : Names → List Line → List ℕ
-lines_text names lines = flat_map (line_text names) lines
+abbrev pub lines_text : Declared → List Line → List ℕ
+lines_text s lines = flat_map (line_text s) lines
 
 -- the bytes that are written for an input
-abbrev pub text : Names → Query → List Row → List ℕ
-text names q rows = lines_text names (all_lines q rows)
+abbrev pub text : Query → List Row → List ℕ
+text q rows = lines_text q.declared (all_lines q rows)

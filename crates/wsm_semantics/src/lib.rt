@@ -4,7 +4,7 @@
 //! instant and which rows are written, all taken anew from the whole history. Panes, triggers and
 //! accumulation are those of the Dataflow Model (Akidau et al. 2015), the relation and its streams
 //! those of CQL (Arasu et al. 2006). The code here is what the definitions speak of and no crate
-//! below has: a [`Place`], what [`Standing`] a pane has, and [`OutRow`], with its [`Columns`] inline.
+//! below has: a [`Place`], what [`Standing`] a pane has, and [`OutRow`].
 //!
 //! What each turn writes is said by `all_lines` of `specs/Lines.antt`. `specs/Rows.antt` has worked
 //! rows of it, as of the query `base`, which counts and sums in windows of 60: two records of key
@@ -18,24 +18,22 @@
 //! In code that pane is
 //!
 //! ```rust
-//! use wsm_record::Value;
-//! use wsm_semantics::{Columns, OutRow};
+//! use wsm_record::{Cell, Columns};
+//! use wsm_semantics::OutRow;
 //! use wsm_windows::{PaneKind, Window};
 //!
 //! let mut columns = Columns::new();
-//! columns.push(Value::Int(2));
-//! columns.push(Value::Int(10));
+//! columns.push(Cell::Int(2));
+//! columns.push(Cell::Int(10));
 //! let window = Window { start: 0, end: 60 };
 //! let row = OutRow::Pane { kind: PaneKind::OnTime, key: 0, window, columns };
 //! ```
 #![tactic(auto)]
 
-pub use columns::Columns;
 pub use ending::Totals;
 pub use out_row::OutRow;
 pub use standing::Standing;
 
-mod columns;
 mod ending;
 pub mod laws;
 mod out_row;

@@ -1,6 +1,6 @@
 //! Rows that a turn writes.
 
-use crate::columns::Columns;
+use wsm_record::Columns;
 use wsm_windows::{PaneKind, Window};
 
 /// A row that a turn writes: a pane that fired, or a row of one of the streams of the relation.

@@ -1,6 +1,6 @@
 //! What stands for a pane.
 
-use crate::columns::Columns;
+use wsm_record::Columns;
 
 /// The row that stands for a pane in the relation.
 #[derive(Clone, Copy, Debug)]

@@ -4,8 +4,8 @@ use std::alloc::{AllocError, Global};
 use wsm_bytecode::{Header, SectionId};
 use wsm_csv::{Rows, read_row};
 use wsm_engine::Engine;
-use wsm_machine::{Cell, Fired, Inputs, Kept, Machine, Outcome, Ran, Updated, run_any};
-use wsm_record::{Event, Kind, Value};
+use wsm_machine::{Fired, Inputs, Kept, Machine, Outcome, Ran, Updated, run_any};
+use wsm_record::{Cell, Event, Kind, Value};
 use wsm_verifier::Verified;
 use wsm_windows::Shape;
 

@@ -20,11 +20,11 @@ fn shop(alloc: Global) -> Result<Schema, Fail> {
     Ok(Schema::new(alloc, &keys, &fields)?)
 }
 
-fn columns_of(values: &[Value]) -> Columns {
+fn columns_of(cells: &[Cell]) -> Columns {
     let mut columns = Columns::new();
-    for value in values {
+    for cell in cells {
         if columns.len() < 16 {
-            columns.push(*value);
+            columns.push(*cell);
         }
     }
     columns
@@ -38,9 +38,9 @@ fn lines_follow_one_another(rt: HostRuntime) -> Result<(), Fail> {
         kind: PaneKind::OnTime,
         key: 0,
         window: Window { start: 0, end: 60 },
-        columns: columns_of(&[Value::Int(2), Value::Int(10)]),
+        columns: columns_of(&[Cell::Int(2), Cell::Int(10)]),
     };
-    row_text(&schema, &[], &pane, &mut out)?;
+    row_text(&schema, &pane, &mut out)?;
     refusal_text(4, Refusal::UnknownKey, &mut out)?;
     fault_text(1, RowFault::BadTag, &mut out)?;
     let totals = Totals {
@@ -60,13 +60,9 @@ fn lines_follow_one_another(rt: HostRuntime) -> Result<(), Fail> {
 fn a_column_is_written_by_its_type(rt: HostRuntime) -> Result<(), Fail> {
     let schema = shop(rt.alloc())?;
     let mut out = Vec::new(rt.alloc());
-    let keys = Some(schema.keys());
-    let values = columns_of(&[Value::Int(i64::MIN), Value::Bool(false), Value::Enum(1)]);
-    let row = OutRow::Dstream {
-        mark: 61,
-        columns: values,
-    };
-    row_text(&schema, &[None, None, keys], &row, &mut out)?;
+    let columns = columns_of(&[Cell::Int(i64::MIN), Cell::Bool(false), Cell::Enum(0, 1)]);
+    let row = OutRow::Dstream { mark: 61, columns };
+    row_text(&schema, &row, &mut out)?;
     assert_eq!(rt;
         out.as_slice(),
         b"dstream,61,-9223372036854775808,false,b\n".as_slice()

@@ -1,9 +1,8 @@
 use super::*;
-use crate::cell::Cell;
 use std::process::Abort;
 use std::test::Fail;
 use wsm_bytecode::decode;
-use wsm_record::Value;
+use wsm_record::{Cell, Value};
 
 // The format's base program as far as its sections: keys a and b, an INT field n, one SUM, two INT
 // columns.

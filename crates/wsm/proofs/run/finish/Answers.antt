@@ -3,7 +3,7 @@ use Rattle.std.proofs.lemmas.Result.{err_from_is_err_and}
 use Rattle.std.specs.Io.KnownBytes.{Appends}
 use Rattle.wsm_csv.specs.Device.{TakesPart}
 use Rattle.wsm_csv.proofs.Written.{Appends-join, Keeps-Appends, TakesPart-all, TakesPart-last}
-use Rattle.wsm.specs.Asked.{asked_by_program}
+use Rattle.wsm_machine.specs.Meaning.{query_of}
 use Rattle.wsm.specs.Written.{rows_of, turns_text}
 use Rattle.wsm.proofs.Texts.{last_text}
 use Rattle.wsm.proofs.run.finish.Goals as goal
@@ -13,7 +13,7 @@ pub returns-in_err-write-clause-ends_early : goal.returns-in_err-write-clause-en
 returns-in_err-write-clause-ends_early g c =
     let e = err_from_is_err_and c.from_residual-in_err-write.result c.from_residual-in_err-write.ensures.1 in
     rw (e.1, e.2) (λ known p cells old all stands.
-    let a = asked_by_program p in
+    let a = query_of p in
     let mid = g.D.Device.taken c.args.out.now in
     let new = g.D.Device.taken c.write.new.out in
     let part = c.in_err-write.ensures.part in
@@ -27,7 +27,7 @@ pub returns-in_err-flush-clause-ends_early : goal.returns-in_err-flush-clause-en
 returns-in_err-flush-clause-ends_early g c =
     let e = err_from_is_err_and c.from_residual-in_err-flush.result c.from_residual-in_err-flush.ensures.1 in
     rw (e.1, e.2) (λ known p cells old all stands.
-    let a = asked_by_program p in
+    let a = query_of p in
     let mid = g.D.Device.taken c.args.out.now in
     let new = g.D.Device.taken c.write.new.out in
     let end = g.D.Device.taken c.flush.new.self in
@@ -39,7 +39,7 @@ returns-in_err-flush-clause-ends_early g c =
 
 pub returns-clause-completes : goal.returns-clause-completes
 returns-clause-completes g c = λ known p cells old all stands.
-    let a = asked_by_program p in
+    let a = query_of p in
     let mid = g.D.Device.taken c.args.out.now in
     let new = g.D.Device.taken c.write.new.out in
     let end = g.D.Device.taken c.flush.new.self in

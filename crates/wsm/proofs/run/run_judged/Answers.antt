@@ -5,7 +5,7 @@ use Rattle.wsm_semantics.specs.declared.ending.Totals.{Totals}
 use Rattle.wsm_program.specs.Program.{Program}
 use Rattle.wsm_verifier.specs.Rules.{judge}
 use Rattle.wsm.specs.declared.end.End.{End}
-use Rattle.wsm.specs.Asked.{asked_by_program}
+use Rattle.wsm_machine.specs.Meaning.{query_of}
 use Rattle.wsm.specs.Written.{Cells, Completes, EndsEarly}
 use Rattle.wsm.proofs.Beginning.{rejected_by, unverified_early}
 use Rattle.wsm.proofs.run.run_judged.Goals as goal
@@ -18,14 +18,14 @@ returns-in_err-verified-clause-rejected g c =
 pub returns-in_err-verified-clause-ends_early : goal.returns-in_err-verified-clause-ends_early
 returns-in_err-verified-clause-ends_early g c =
     let e = err_from_is_err_and c.from_residual.result c.from_residual.ensures.1 in
-    rw (e.1, e.2) (λ ok. unverified_early (judge c.args.program) c.in_err-verified.field-0.0 (g.R.Read.remaining c.args.rows) (g.D.Device.taken c.args.out.now) (asked_by_program c.args.program) c.in_err-verified.ensures.rejected ok)
+    rw (e.1, e.2) (λ ok. unverified_early (judge c.args.program) c.in_err-verified.field-0.0 (g.R.Read.remaining c.args.rows) (g.D.Device.taken c.args.out.now) (query_of c.args.program) c.in_err-verified.ensures.rejected ok)
 
 pub returns-clause-completes : goal.returns-clause-completes
 returns-clause-completes g c =
-    subst (λ (p : Program). IfOk c.run_verified.result (λ (totals : Totals). (cells : List Cells) × Completes (g.R.Read.remaining c.args.rows) (asked_by_program p) cells (g.D.Device.taken c.args.out.now) (g.D.Device.taken c.run_verified.new.out) totals))
+    subst (λ (p : Program). IfOk c.run_verified.result (λ (totals : Totals). (cells : List Cells) × Completes (g.R.Read.remaining c.args.rows) (query_of p) cells (g.D.Device.taken c.args.out.now) (g.D.Device.taken c.run_verified.new.out) totals))
     c.in_ok-verified.ensures.kept c.run_verified.ensures.completes
 
 pub returns-clause-ends_early : goal.returns-clause-ends_early
 returns-clause-ends_early g c = λ ok.
-    subst (λ (p : Program). IfErr c.run_verified.result (λ (end : End). (cells : List Cells) × EndsEarly (g.R.Read.remaining c.args.rows) (asked_by_program p) cells (g.D.Device.taken c.args.out.now) (g.D.Device.taken c.run_verified.new.out) end))
+    subst (λ (p : Program). IfErr c.run_verified.result (λ (end : End). (cells : List Cells) × EndsEarly (g.R.Read.remaining c.args.rows) (query_of p) cells (g.D.Device.taken c.args.out.now) (g.D.Device.taken c.run_verified.new.out) end))
     c.in_ok-verified.ensures.kept c.run_verified.ensures.ends_early

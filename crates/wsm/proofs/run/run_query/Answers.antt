@@ -6,7 +6,9 @@ use Rattle.wsm_program.specs.Program.{Program}
 use Rattle.wsm_verifier.specs.Rules.{judge}
 use Rattle.wsm_compiler.specs.Program.{program_of}
 use Rattle.wsm.specs.declared.end.End.{End}
-use Rattle.wsm.specs.Asked.{Asked, asked_by_program, asked_by_query}
+use Rattle.wsm_machine.specs.Meaning.{query_of}
+use Rattle.wsm_compiler.specs.Means.{meant}
+use Rattle.wsm_semantics.specs.Query.{Query as Meant}
 use Rattle.wsm.specs.Judged.{text_judged}
 use Rattle.wsm.specs.Written.{Cells, Completes, EndsEarly}
 use Rattle.wsm.proofs.Beginning.{refused_by, unread_early}
@@ -21,7 +23,7 @@ returns-in_err-program-clause-refused g c =
 pub returns-in_err-program-clause-ends_early : goal.returns-in_err-program-clause-ends_early
 returns-in_err-program-clause-ends_early g c =
     let e = err_from_is_err_and c.from_residual.result c.from_residual.ensures.1 in
-    rw (e.1, e.2) (λ q accepted. unread_early (text_judged c.args.text.now) q c.in_err-program.field-0.0 (g.R.Read.remaining c.args.rows) (g.D.Device.taken c.args.out.now) (asked_by_query q) c.in_err-program.ensures.refused accepted.judged)
+    rw (e.1, e.2) (λ q accepted. unread_early (text_judged c.args.text.now) q c.in_err-program.field-0.0 (g.R.Read.remaining c.args.rows) (g.D.Device.taken c.args.out.now) (meant q) c.in_err-program.ensures.refused accepted.judged)
 
 pub returns-clause-rejected : goal.returns-clause-rejected
 returns-clause-rejected g c = λ q why judged rejected.
@@ -32,16 +34,16 @@ returns-clause-completes g c = λ q accepted.
     let known = g.R.Read.remaining c.args.rows in
     let old = g.D.Device.taken c.args.out.now in
     let new = g.D.Device.taken c.run_judged.new.out in
-    let Whole : Asked → Totals → Type 0 = λ a totals. (cells : List Cells) × Completes known a cells old new totals in
-    IfOk-weaker c.run_judged.result (Whole (asked_by_program (program_of q))) (Whole (asked_by_query q)) (λ totals h. text_completes c.args.text.now q accepted known old new totals h)
-    (subst (λ (p : Program). IfOk c.run_judged.result (Whole (asked_by_program p))) (same_program c.args.text.now q c.in_ok-program.program accepted.judged c.in_ok-program.ensures.compiled) c.run_judged.ensures.completes)
+    let Whole : Meant → Totals → Type 0 = λ a totals. (cells : List Cells) × Completes known a cells old new totals in
+    IfOk-weaker c.run_judged.result (Whole (query_of (program_of q))) (Whole (meant q)) (λ totals h. text_completes c.args.text.now q accepted known old new totals h)
+    (subst (λ (p : Program). IfOk c.run_judged.result (Whole (query_of p))) (same_program c.args.text.now q c.in_ok-program.program accepted.judged c.in_ok-program.ensures.compiled) c.run_judged.ensures.completes)
 
 pub returns-clause-ends_early : goal.returns-clause-ends_early
 returns-clause-ends_early g c = λ q accepted.
     let known = g.R.Read.remaining c.args.rows in
     let old = g.D.Device.taken c.args.out.now in
     let new = g.D.Device.taken c.run_judged.new.out in
-    let Part : Asked → End → Type 0 = λ a end. (cells : List Cells) × EndsEarly known a cells old new end in
+    let Part : Meant → End → Type 0 = λ a end. (cells : List Cells) × EndsEarly known a cells old new end in
     let same = same_program c.args.text.now q c.in_ok-program.program accepted.judged c.in_ok-program.ensures.compiled in
-    IfErr-weaker c.run_judged.result (Part (asked_by_program (program_of q))) (Part (asked_by_query q)) (λ end h. text_ends_early c.args.text.now q accepted known old new end h)
-    (subst (λ (p : Program). IfErr c.run_judged.result (Part (asked_by_program p))) same (c.run_judged.ensures.ends_early (subst (λ (p : Program). is_ok (judge p) ≡ true) (sym same) accepted.accepted)))
+    IfErr-weaker c.run_judged.result (Part (query_of (program_of q))) (Part (meant q)) (λ end h. text_ends_early c.args.text.now q accepted known old new end h)
+    (subst (λ (p : Program). IfErr c.run_judged.result (Part (query_of p))) same (c.run_judged.ensures.ends_early (subst (λ (p : Program). is_ok (judge p) ≡ true) (sym same) accepted.accepted)))

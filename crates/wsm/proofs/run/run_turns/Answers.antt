@@ -2,7 +2,7 @@ use Rattle.std.specs.Prelude.{Result, Ok, Err, IfErr, IfOk, List}
 use Rattle.std.proofs.lemmas.Result.{err_from_is_err_and}
 use Rattle.wsm_semantics.specs.declared.ending.Totals.{Totals}
 use Rattle.wsm.specs.declared.end.End.{End}
-use Rattle.wsm.specs.Asked.{asked_by_program}
+use Rattle.wsm_machine.specs.Meaning.{query_of}
 use Rattle.wsm.specs.Written.{Cells, Completes, EndsEarly}
 use Rattle.wsm.proofs.run.run_turns.Goals as goal
 
@@ -24,12 +24,12 @@ pub returns-clause-completes : goal.returns-clause-completes
 returns-clause-completes g c = λ p fits.
     let t = c.in_ok-take_rows.ensures.taken p fits in
     let old = g.D.Device.taken c.args.out.now in
-    cells_of_totals (λ totals cells. Completes (g.R.Read.remaining c.args.rows) (asked_by_program p) cells old (g.D.Device.taken c.finish.new.out) totals) c.finish.result t.0
+    cells_of_totals (λ totals cells. Completes (g.R.Read.remaining c.args.rows) (query_of p) cells old (g.D.Device.taken c.finish.new.out) totals) c.finish.result t.0
     (c.finish.ensures.completes (g.R.Read.remaining c.args.rows) p t.0 old t.1 t.2)
 
 pub returns-clause-ends_early : goal.returns-clause-ends_early
 returns-clause-ends_early g c = λ p fits.
     let t = c.in_ok-take_rows.ensures.taken p fits in
     let old = g.D.Device.taken c.args.out.now in
-    cells_of_end (λ end cells. EndsEarly (g.R.Read.remaining c.args.rows) (asked_by_program p) cells old (g.D.Device.taken c.finish.new.out) end) c.finish.result t.0
+    cells_of_end (λ end cells. EndsEarly (g.R.Read.remaining c.args.rows) (query_of p) cells old (g.D.Device.taken c.finish.new.out) end) c.finish.result t.0
     (c.finish.ensures.ends_early (g.R.Read.remaining c.args.rows) p t.0 old t.1 t.2)

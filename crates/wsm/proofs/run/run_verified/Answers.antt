@@ -1,13 +1,13 @@
 use Rattle.std.proofs.Common.{[]}
 use Rattle.std.proofs.lemmas.Result.{err_from_is_err_and}
-use Rattle.wsm.specs.Asked.{asked_by_program}
+use Rattle.wsm_machine.specs.Meaning.{query_of}
 use Rattle.wsm.proofs.Texts.{AreFirst-none, Appends-none}
 use Rattle.wsm.proofs.run.run_verified.Goals as goal
 
 pub returns-in_err-turns-clause-ends_early : goal.returns-in_err-turns-clause-ends_early
 returns-in_err-turns-clause-ends_early g c =
     let e = err_from_is_err_and c.from_residual.result c.from_residual.ensures.1 in
-    rw (e.1, e.2) ([], record { first = AreFirst-none (g.R.Read.remaining c.args.rows); text = Appends-none (asked_by_program c.args.verified) (g.D.Device.taken c.args.out.now) })
+    rw (e.1, e.2) ([], record { first = AreFirst-none (g.R.Read.remaining c.args.rows); text = Appends-none (query_of c.args.verified) (g.D.Device.taken c.args.out.now) })
 
 pub returns-clause-completes : goal.returns-clause-completes
 returns-clause-completes g c = c.run_turns.ensures.completes c.args.verified c.in_ok-turns.ensures

@@ -3,7 +3,7 @@ use Rattle.std.proofs.lemmas.Result.{err_from_is_err_and}
 use Rattle.wsm_csv.specs.Cells.{event_of_cells}
 use Rattle.wsm_csv.specs.Rows.{cells_of}
 use Rattle.wsm_csv.proofs.RowsLemmas.{Follows-first}
-use Rattle.wsm.specs.Asked.{asked_by_program}
+use Rattle.wsm_machine.specs.Meaning.{query_of}
 use Rattle.wsm.specs.Written.{Cells, rows_of}
 use Rattle.wsm.specs.Turns.{Turned}
 use Rattle.wsm.proofs.Texts.{Stands-start, Stands-next, TakesPart-next, EndsEarly-read}
@@ -21,7 +21,7 @@ returns-in_err-advance-clause-ends_early g c =
     rw (e.1, e.2) (λ p fits.
     let (cells, follows, stands) = c.loop-rows.invariant.turns p fits in
     let read = c.in_err-advance.ensures.advances (g.R.Read.remaining c.args.reader) cells follows in
-    (cells, EndsEarly-read (g.R.Read.remaining c.args.reader) (asked_by_program p) cells (g.D.Device.taken c.args.out.now) (g.D.Device.taken c.loop-rows.out) c.in_err-advance.field-0.0 read.0 stands.text))
+    (cells, EndsEarly-read (g.R.Read.remaining c.args.reader) (query_of p) cells (g.D.Device.taken c.args.out.now) (g.D.Device.taken c.loop-rows.out) c.in_err-advance.field-0.0 read.0 stands.text))
 
 pub returns-in_err-take-clause-ends_early : goal.returns-in_err-take-clause-ends_early
 returns-in_err-take-clause-ends_early g c =
@@ -37,7 +37,7 @@ loop-rows-preserved g c = record {
       let (cells, follows, stands) = c.loop-rows.invariant.turns p fits in
       let row = cells_of c.advance.new.self in
       let follows' = rw c.if-branch.true at (c.in_ok-advance.ensures.advances (g.R.Read.remaining c.args.reader) cells follows) in
-      let turned = subst (λ (f : Cells). Turned p c.take.new.self (rows_of (asked_by_program p) cells) (event_of_cells p.header.schema f)) c.row.ensures (c.in_ok-take.ensures p (rows_of (asked_by_program p) cells) stands.fits) in
+      let turned = subst (λ (f : Cells). Turned p c.take.new.self (rows_of (query_of p) cells) (event_of_cells p.header.schema f)) c.row.ensures (c.in_ok-take.ensures p (rows_of (query_of p) cells) stands.fits) in
       let taken = c.in_ok-write.ensures.all in
       (cells ++ row ∷ [], follows', Stands-next p cells row (g.D.Device.taken c.args.out.now) (g.D.Device.taken c.loop-rows.out) (g.D.Device.taken c.write.new.out) c.loop-rows.turns c.take.new.self stands turned taken);
 }
@@ -49,7 +49,7 @@ returns-in_err-write-clause-ends_early g c =
     let (cells, follows, stands) = c.loop-rows.invariant.turns p fits in
     let row = cells_of c.advance.new.self in
     let follows' = rw c.if-branch.true at (c.in_ok-advance.ensures.advances (g.R.Read.remaining c.args.reader) cells follows) in
-    let turned = subst (λ (f : Cells). Turned p c.take.new.self (rows_of (asked_by_program p) cells) (event_of_cells p.header.schema f)) c.row.ensures (c.in_ok-take.ensures p (rows_of (asked_by_program p) cells) stands.fits) in
+    let turned = subst (λ (f : Cells). Turned p c.take.new.self (rows_of (query_of p) cells) (event_of_cells p.header.schema f)) c.row.ensures (c.in_ok-take.ensures p (rows_of (query_of p) cells) stands.fits) in
     let part = c.in_err-write.ensures.part in (
       cells ++ row ∷ [],
       inl (record {

@@ -1,7 +1,7 @@
 use Rattle.std.proofs.Common.{rules, to_z-of_z, w64, SFits, ◌≡◌, ◌++◌, ◌∷◌, [], List, ℕ, codes, map}
 use Rattle.std.specs.Fmt.{signed_decimal}
-use Rattle.wsm_semantics.specs.Text.{joined, kind_word, name_at, value_texts}
-use Rattle.wsm_csv.specs.Lines.{cells_text, column_names}
+use Rattle.wsm_semantics.specs.Text.{cell_text, joined, kind_word, name_at}
+use Rattle.wsm_csv.specs.Lines.{cells_text}
 use Rattle.wsm_csv.proofs.LineLemmas.{joined-split, joined-word, on_ok}
 use Rattle.wsm_csv.proofs.text.add_row.Goals as goal
 
@@ -9,9 +9,9 @@ pub returns-in_ok-add_pane-in-Pane : goal.returns-in_ok-add_pane-in-Pane
 returns-in_ok-add_pane-in-Pane c =
     let front : List (List ℕ) = kind_word c.in-Pane.kind ∷ name_at c.args.schema.now.keys c.in-Pane.key ∷ [] in
     let window : List (List ℕ) = signed_decimal c.in-Pane.window.start ∷ signed_decimal c.in-Pane.window.end ∷ [] in
-    let back = window ++ value_texts (map column_names c.args.columns.now) c.in-Pane.values in
+    let back = window ++ map (cell_text c.args.schema.now) c.in-Pane.columns in
     rw c.in-Pane.is (on_ok c.add_window.result
-    (c.add_window.new.out.items ≡ c.add_pane.new.out.items ++ cells_text (window ++ value_texts (map column_names c.args.columns.now) c.as_slice.result.now))
+    (c.add_window.new.out.items ≡ c.add_pane.new.out.items ++ cells_text (window ++ map (cell_text c.args.schema.now) c.as_slice.result.now))
     (c.add_window.new.out.items ≡ c.args.out.now.items ++ joined (codes "pane" ∷ (front ++ back)))
     (λ e. joined-split c.args.out.now.items c.add_window.new.out.items (codes "pane") front back (rw (c.as_slice.ensures, (c.in_ok-add_pane-in-Pane).ensures) at e))
     c.add_window.ensures)
@@ -19,20 +19,20 @@ returns-in_ok-add_pane-in-Pane c =
 pub returns-in-Istream : goal.returns-in-Istream
 returns-in-Istream c =
     let fits : SFits w64 c.in-Istream.mark = search rules in
-    let cells : List (List ℕ) = signed_decimal c.in-Istream.mark ∷ value_texts (map column_names c.args.columns.now) c.in-Istream.values in
+    let cells : List (List ℕ) = signed_decimal c.in-Istream.mark ∷ map (cell_text c.args.schema.now) c.in-Istream.columns in
     rw c.in-Istream.is (on_ok c.add_stream.result (c.add_stream.new.out.items ≡ c.args.out.now.items ++ (codes "istream" ++ cells_text cells)) (c.add_stream.new.out.items ≡ c.args.out.now.items ++ joined (codes "istream" ∷ cells))
     (joined-word c.args.out.now.items c.add_stream.new.out.items (codes "istream") cells) (simp to_z-of_z at c.add_stream.ensures))
 
 pub returns-in-Dstream : goal.returns-in-Dstream
 returns-in-Dstream c =
     let fits : SFits w64 c.in-Dstream.mark = search rules in
-    let cells : List (List ℕ) = signed_decimal c.in-Dstream.mark ∷ value_texts (map column_names c.args.columns.now) c.in-Dstream.values in
+    let cells : List (List ℕ) = signed_decimal c.in-Dstream.mark ∷ map (cell_text c.args.schema.now) c.in-Dstream.columns in
     rw c.in-Dstream.is (on_ok c.add_stream-in-Dstream.result (c.add_stream-in-Dstream.new.out.items ≡ c.args.out.now.items ++ (codes "dstream" ++ cells_text cells)) (c.add_stream-in-Dstream.new.out.items ≡ c.args.out.now.items ++ joined (codes "dstream" ∷ cells))
     (joined-word c.args.out.now.items c.add_stream-in-Dstream.new.out.items (codes "dstream") cells) (simp to_z-of_z at c.add_stream-in-Dstream.ensures))
 
 pub returns-in-Rstream : goal.returns-in-Rstream
 returns-in-Rstream c =
     let fits : SFits w64 c.in-Rstream.mark = search rules in
-    let cells : List (List ℕ) = signed_decimal c.in-Rstream.mark ∷ value_texts (map column_names c.args.columns.now) c.in-Rstream.values in
+    let cells : List (List ℕ) = signed_decimal c.in-Rstream.mark ∷ map (cell_text c.args.schema.now) c.in-Rstream.columns in
     rw c.in-Rstream.is (on_ok c.add_stream-in-Rstream.result (c.add_stream-in-Rstream.new.out.items ≡ c.args.out.now.items ++ (codes "rstream" ++ cells_text cells)) (c.add_stream-in-Rstream.new.out.items ≡ c.args.out.now.items ++ joined (codes "rstream" ∷ cells))
     (joined-word c.args.out.now.items c.add_stream-in-Rstream.new.out.items (codes "rstream") cells) (simp to_z-of_z at c.add_stream-in-Rstream.ensures))

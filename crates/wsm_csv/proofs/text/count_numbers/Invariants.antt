@@ -4,4 +4,4 @@ use Rattle.wsm_csv.specs.Lines.{is_a_number}
 use Rattle.wsm_csv.proofs.text.count_numbers.Given as goal
 
 abbrev pub invariant-loop-place : goal.invariant-loop-place
-invariant-loop-place l = list_all is_a_number (take l.place l.values) ≡ true
+invariant-loop-place l = list_all is_a_number (take l.place l.columns) ≡ true

@@ -1,6 +1,5 @@
-use Rattle.std.proofs.Common.{◌≡◌, ◌+◌, ◌-◌, ◌*◌, ◌≤◌, ◌++◌, [], length, drop}
-use Rattle.wsm_semantics.specs.Text.{value_texts}
-use Rattle.wsm_csv.specs.Lines.{cells_text}
+use Rattle.std.proofs.Common.{◌≡◌, ◌+◌, ◌-◌, ◌*◌, ◌≤◌, ◌++◌, length, map, drop}
+use Rattle.wsm_csv.specs.Lines.{cells_text, number_text}
 use Rattle.wsm_csv.proofs.text.write_numbers.Given as goal
 
 -- those behind were written
@@ -9,5 +8,5 @@ invariant-loop-place l = record {
   same : length l.cells ≡ length l.fn.cells;
   room : l.end ≤ l.start + (length l.numbers - l.place) * 21;
   begins : l.start ≤ l.end;
-  written : drop l.start l.cells ≡ cells_text (value_texts [] (drop l.place l.numbers)) ++ drop l.end l.fn.cells;
+  written : drop l.start l.cells ≡ cells_text (map number_text (drop l.place l.numbers)) ++ drop l.end l.fn.cells;
 }

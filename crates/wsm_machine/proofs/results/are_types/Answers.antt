@@ -3,8 +3,8 @@ use Rattle.std.proofs.lemmas.List.{length-map}
 use Rattle.std.proofs.Math.ListN.{get_or-map}
 use Rattle.wsm_record.specs.declared.words.CellType.{CellType}
 use Rattle.wsm_record.specs.declared.words.CellType.TheVariants as types
-use Rattle.wsm_machine.specs.declared.cell.Cell.{Cell}
-use Rattle.wsm_machine.specs.declared.cell.Cell.TheVariants as cells
+use Rattle.wsm_record.specs.declared.cell.Cell.{Cell}
+use Rattle.wsm_record.specs.declared.cell.Cell.TheVariants as cells
 use Rattle.wsm_machine.specs.Step.{type_of, is_type}
 use Rattle.wsm_machine.proofs.Pairs.{unequal, fails_at, passes_at}
 use Rattle.wsm_machine.proofs.Tested.{types_tested}

@@ -1,4 +1,4 @@
-use Rattle.wsm_program.proofs.NamesOf.{names_there}
+use Rattle.wsm_record.proofs.NamesOf.{names_there}
 use Rattle.wsm_program.proofs.enums.name_count.Goals as goal
 
 pub returns : goal.returns

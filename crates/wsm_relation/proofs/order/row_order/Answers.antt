@@ -1,7 +1,7 @@
 use Rattle.std.proofs.Common.{◌≡◌, ◌⊎◌, ℕ, zero, suc, ◌≤◌, List, [], ◌∷◌, length, drop, sym, ◌∙◌, inl, inr, refl, arith}
 use Rattle.std.specs.Ordering.{nat_cmp}
 use Rattle.std.proofs.lemmas.Bool.Decides.{nat_tests}
-use Rattle.wsm_record.specs.declared.event.Value.{Value}
+use Rattle.wsm_record.specs.declared.cell.Cell.{Cell}
 use Rattle.wsm_semantics.specs.Relation.{row_cmp}
 use Rattle.wsm_relation.proofs.order.row_order.Goals as goal
 use Rattle.wsm_relation.proofs.order.row_order.Goals.{then-loop-i-test+else-i-other, else-loop-i-test}
@@ -10,7 +10,7 @@ nat_cmp-suc : (m n : ℕ) → nat_cmp (suc m) (suc n) ≡ nat_cmp m n
 nat_cmp-suc m n = grind (arith, nat_tests)
 
 -- where one row has ended, their lengths tell
-row_cmp-end : (i : ℕ) (xs ys : List Value) → i ≤ length xs → i ≤ length ys → (length xs ≤ i) ⊎ (length ys ≤ i) → nat_cmp (length xs) (length ys) ≡ row_cmp (drop i xs) (drop i ys)
+row_cmp-end : (i : ℕ) (xs ys : List Cell) → i ≤ length xs → i ≤ length ys → (length xs ≤ i) ⊎ (length ys ≤ i) → nat_cmp (length xs) (length ys) ≡ row_cmp (drop i xs) (drop i ys)
 row_cmp-end zero [] [] h k end = refl
 row_cmp-end zero [] (y ∷ ys) h k end = grind (arith, nat_tests)
 row_cmp-end zero (x ∷ xs) [] h k end = grind (arith, nat_tests)

@@ -1,5 +1,6 @@
 use Rattle.std.proofs.Common.{◌≡◌, ◌∙◌, ◌++◌, ◌+◌, ◌∷◌, ℕ, List, Ok, length, map, sym, ap, subst}
 use Rattle.wsm_record.specs.Event.{event_of}
+use Rattle.wsm_record.specs.Schema.{Declared}
 use Rattle.wsm_admission.specs.Admission.{counter}
 use Rattle.wsm_semantics.specs.Query.{verdict_on}
 use Rattle.wsm_semantics.specs.Relation.{turn_rows}
@@ -11,7 +12,7 @@ use Rattle.wsm_machine.specs.Meaning.{query_of}
 use Rattle.wsm_engine.specs.declared.reply.Reply.{Reply}
 use Rattle.wsm_engine.specs.Meaning.{reply_to}
 use Rattle.wsm.specs.declared.turns.Turns.{Turns}
-use Rattle.wsm.specs.Turns.{Fits, names}
+use Rattle.wsm.specs.Turns.{Fits}
 use Rattle.wsm.proofs.Taking.{one_more}
 use Rattle.wsm.proofs.Turning.{joined_lines}
 use Rattle.wsm.proofs.turns.Turns.feed.Goals as goal
@@ -29,16 +30,16 @@ returns c = λ p before fits.
       faults = fits.faults;
     } in
     let told : Fits p mid (Ok e ∷ before) = subst (λ (t : Turns). Fits p t (Ok e ∷ before)) (sym others) (record { engine = next.engine; faults = next.faults }) in
-    let printed : c.program.result.now ≡ p = c.program.ensures ∙ told.engine.program in
+    let declared : c.schema.result.now ≡ p.header.schema = c.schema.ensures ∙ ap (λ (m : Program). m.header.schema) told.engine.program in
     let verdict : c.feed-reply.result.refusal ≡ verdict_on (query_of p) past e = ap (λ (r : Reply). r.refusal) (c.feed-reply.ensures.reply past fed.fits) ∙ ap (λ (m : Program). (reply_to m past e).refusal) fed.program in
     let rows : c.rows.result.now ≡ turn_rows (query_of p) past e = c.rows.ensures ∙ ap (λ (t : Turns). t.engine.rows) others ∙ c.feed-reply.ensures.rows past fed.fits ∙ ap (λ (m : Program). turn_rows (query_of m) past e) fed.program in
-    let first = c.in_ok-tell.ensures.lines p (Ok e ∷ before) next (names p)
-    ∙ ap (λ (n : ℕ). old.lines.items ++ lines_text (names p) (refusal_lines n c.feed-reply.result.refusal)) (one_more (length before))
-    ∙ ap (λ r. old.lines.items ++ lines_text (names p) (refusal_lines (counter (length before + 1)) r)) verdict in
+    let first = c.in_ok-tell.ensures.lines p (Ok e ∷ before) next p.header.schema
+    ∙ ap (λ (n : ℕ). old.lines.items ++ lines_text p.header.schema (refusal_lines n c.feed-reply.result.refusal)) (one_more (length before))
+    ∙ ap (λ r. old.lines.items ++ lines_text p.header.schema (refusal_lines (counter (length before + 1)) r)) verdict in
     let second = c.in_ok-add_rows.ensures
-    ∙ ap (λ (m : Program). mid.lines.items ++ lines_text (names m) (map Out c.rows.result.now)) printed
-    ∙ ap (λ (rs : List OutRow). mid.lines.items ++ lines_text (names p) (map Out rs)) rows in
+    ∙ ap (λ (d : Declared). mid.lines.items ++ lines_text d (map Out c.rows.result.now)) declared
+    ∙ ap (λ (rs : List OutRow). mid.lines.items ++ lines_text p.header.schema (map Out rs)) rows in
     record {
       fits = record { engine = told.engine; faults = told.faults };
-      lines = joined_lines (names p) old.lines.items mid.lines.items c.add_rows.new.lines.items (refusal_lines (counter (length before + 1)) (verdict_on (query_of p) past e)) (map Out (turn_rows (query_of p) past e)) first second;
+      lines = joined_lines p.header.schema old.lines.items mid.lines.items c.add_rows.new.lines.items (refusal_lines (counter (length before + 1)) (verdict_on (query_of p) past e)) (map Out (turn_rows (query_of p) past e)) first second;
     }

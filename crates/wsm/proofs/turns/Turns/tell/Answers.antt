@@ -4,5 +4,5 @@ use Rattle.wsm_semantics.specs.Text.{lines_text}
 use Rattle.wsm.proofs.turns.Turns.tell.Goals as goal
 
 pub returns-in-Some-clause-lines : goal.returns-in-Some-clause-lines
-returns-in-Some-clause-lines c = λ p rows fits names.
-    rw c.in-Some.is (subst (λ (n : ℕ). OnOk c.add_refusal.result (c.add_refusal.new.lines.items ≡ c.args.self.now.lines.items ++ lines_text names (refusal_lines n (Some c.in-Some.why)))) (c.row_count.ensures p rows fits) (c.add_refusal.ensures names))
+returns-in-Some-clause-lines c = λ p rows fits declared.
+    rw c.in-Some.is (subst (λ (n : ℕ). OnOk c.add_refusal.result (c.add_refusal.new.lines.items ≡ c.args.self.now.lines.items ++ lines_text declared (refusal_lines n (Some c.in-Some.why)))) (c.row_count.ensures p rows fits) (c.add_refusal.ensures declared))

@@ -1,5 +1,5 @@
 use Rattle.std.proofs.Common.{◌≡◌, ◌++◌, List, length, map, sym, ap, subst, ◌∙◌, vec_len, vec_capacity, arith, to_z-of_z, SFits, w64}
-use Rattle.wsm_record.specs.declared.event.Value.{Value}
+use Rattle.wsm_record.specs.declared.cell.Cell.{Cell}
 use Rattle.wsm_semantics.specs.Relation.{sorted_rows}
 use Rattle.wsm_relation.specs.Tally.{Tally}
 use Rattle.wsm_firing.specs.Streams.{Standing, IsTold, IsToldOf, CanAdvance, HasRoomFor, relation_kept, stream_of, stream_row}
@@ -36,7 +36,7 @@ returns-clause-rows c = λ before now told.
     let mark : SFits w64 c.args.mark = c.ranges.mark in
     let was : IsToldOf a.form a.changes.numbers a.relation.rows before now = subst (λ (s : Standing). IsTold s before now) (sym c.self.view_is) told in
     (simp to_z-of_z at c.write_all.ensures.rows)
-    ∙ ap (λ (rs : List (List Value)). c.args.rows.now.items ++ map (stream_row a.form c.args.mark) rs) (c.deref.ensures.value ∙ c.gather.ensures.rows)
+    ∙ ap (λ (rs : List (List Cell)). c.args.rows.now.items ++ map (stream_row a.form c.args.mark) rs) (c.deref.ensures.value ∙ c.gather.ensures.rows)
     ∙ rw (← c.self.view_is) (ap (λ rs. c.args.rows.now.items ++ rs) (stream_is a.form a.changes.numbers a.relation.rows before now c.args.mark c.in_default.not-Panes was))
 
 pub invariant_of-self : goal.invariant_of-self

@@ -32,7 +32,7 @@ write_any-requires-2 c =
     let within = slot_within a.widths.accumulators n hs fs rs i (rw (← c.self.view_is) at c.requires.slot) in
     let wide : IsAsWide a.widths pane = rw (← c.self.view_is) at c.requires.wide in
     let has = has_any i n rs (standing_row pane.stands) (has_row a.widths hs fs rs c.self.invariant i within) wide.row in
-    rw c.deref_mut-2.ensures.value (if_mapped (λ x. x.now) (λ ys. HasPart i (length ys) rs) c.row_values.result (subst (λ o. IfSome o (λ ys. HasPart i (length ys) rs)) (sym c.row_values.ensures) has))
+    rw c.deref_mut-2.ensures.value (if_mapped (λ x. x.now) (λ ys. HasPart i (length ys) rs) c.row_cells.result (subst (λ o. IfSome o (λ ys. HasPart i (length ys) rs)) (sym c.row_cells.ensures) has))
 
 pub returns : goal.returns
 returns c =
@@ -47,7 +47,7 @@ returns c =
     let folds : c.write_any.new.values ≡ with_any i fs pane.folded =
     c.write_any.ensures ∙ ap (λ xs. with_any i xs (option_map (λ x. x.now) c.folded.result)) c.deref_mut.ensures.value ∙ ap (with_any i fs) c.folded.ensures in
     let row : c.write_any-2.new.values ≡ with_any i rs (standing_row pane.stands) =
-    c.write_any-2.ensures ∙ ap (λ xs. with_any i xs (option_map (λ x. x.now) c.row_values.result)) c.deref_mut-2.ensures.value ∙ ap (with_any i rs) c.row_values.ensures in
+    c.write_any-2.ensures ∙ ap (λ xs. with_any i xs (option_map (λ x. x.now) c.row_cells.result)) c.deref_mut-2.ensures.value ∙ ap (with_any i rs) c.row_cells.ensures in
     let fold_items = with_items_is a.folds c.write_any.new.values (omega (arith, ap length folds, length-with_any i w fs pane.folded fold_ends wide.folds, a.folds.ok.0)) ∙ folds in
     let row_items = with_items_is a.rows c.write_any-2.new.values (omega (arith, ap length row, length-with_any i n rs (standing_row pane.stands) row_ends wide.row, a.rows.ok.0)) ∙ row in
     let slots = put_is a.widths hs fs rs c.self.invariant i within c.args.place pane wide c.of_pane.result _ _ c.of_pane.ensures fold_items row_items in

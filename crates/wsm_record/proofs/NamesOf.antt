@@ -4,9 +4,8 @@ use Rattle.std.specs.Prelude.{slice_get}
 use Rattle.std.specs.Option.{option_map}
 use Rattle.std.proofs.lemmas.Option.{slice_get-map, slice_get_read}
 use Rattle.wsm_record.specs.declared.schema.DeclaredField.{DeclaredField as KeptField}
-use Rattle.wsm_record.specs.Schema.{DeclaredField, Declared}
+use Rattle.wsm_record.specs.Schema.{DeclaredField, Declared, enum_names, names_of_type, names_of_field}
 use Rattle.wsm_record.specs.Fields.{type_seen, field_seen}
-use Rattle.wsm_program.specs.Program.{enum_names, names_of_type, names_of_field}
 
 one_more : (s : Declared) (n : ℕ) → (n ≡ 0 → ⊥) → enum_names s n ≡ names_of_field (slice_get s.fields (n - 1))
 one_more s zero some = absurd (some refl)

@@ -2,35 +2,35 @@
 
 ghost use Rattle.std.specs.Prelude.{◌≡◌, List, [], ◌∷◌, ◌++◌, length, nat_eq, ◌<◌};
 
+use crate::cell::Cell;
+use crate::limits::MAX_COLUMNS;
 use std::marker::Model;
-use wsm_record::Value;
-use wsm_record::limits::MAX_COLUMNS;
 
-/// The columns of a row, at most [`MAX_COLUMNS`], held inline. A clause sees their values.
+/// The columns of a row, at most [`MAX_COLUMNS`], held inline. A clause sees their cells.
 #[derive(Clone, Copy, Debug)]
 pub struct Columns {
-    values: [Value; MAX_COLUMNS],
+    cells: [Cell; MAX_COLUMNS],
     len: usize,
 }
 
 impl Model for Columns {
     ghost use Rattle.std.specs.Prelude.{◌≡◌, ◌≤◌, ◌-◌, ◌++◌, List, length, take, drop, replicate, pos};
     ghost use Rattle.std.proofs.Common.{arith, sym, ap, ◌∙◌, take-append-drop, length-take-le};
-    ghost use Rattle.wsm_record.specs.declared.event.Value.{Value as OneValue};
-    ghost use Rattle.wsm_record.specs.declared.event.Value.TheVariants.{Int};
+    ghost use Rattle.wsm_record.specs.declared.cell.Cell.{Cell as OneCell};
+    ghost use Rattle.wsm_record.specs.declared.cell.Cell.TheVariants.{Int};
 
-    ghost Value = { List OneValue };
+    ghost Value = { List OneCell };
 
-    ghost view = { λ c. take c.len c.values };
+    ghost view = { λ c. take c.len c.cells };
 
     // The places behind the columns hold 0, so that equal columns are equal bit by bit.
-    ghost invariant = { λ c. (c.len ≤ 16) × (length c.values ≡ 16) × (drop c.len c.values ≡ replicate (16 - c.len) (Int (pos 0))) };
+    ghost invariant = { λ c. (c.len ≤ 16) × (length c.cells ≡ 16) × (drop c.len c.cells ≡ replicate (16 - c.len) (Int (pos 0))) };
 
-    ghost inverse = { λ xs. record { values = xs ++ replicate (16 - length xs) (Int (pos 0)); len = length xs } };
+    ghost inverse = { λ xs. record { cells = xs ++ replicate (16 - length xs) (Int (pos 0)); len = length xs } };
 
     ghost inverse_ok = { λ c h i. record {
-      values = (ap (λ n. take c.len c.values ++ replicate (16 - n) (Int (pos 0))) (length-take-le c.len c.values (omega (arith, h.0, h.1))) ∙ ap (λ rest. take c.len c.values ++ rest) (sym h.2) ∙ take-append-drop c.len c.values) i;
-      len = length-take-le c.len c.values (omega (arith, h.0, h.1)) i;
+      cells = (ap (λ n. take c.len c.cells ++ replicate (16 - n) (Int (pos 0))) (length-take-le c.len c.cells (omega (arith, h.0, h.1))) ∙ ap (λ rest. take c.len c.cells ++ rest) (sym h.2) ∙ take-append-drop c.len c.cells) i;
+      len = length-take-le c.len c.cells (omega (arith, h.0, h.1)) i;
     } };
 }
 
@@ -40,7 +40,7 @@ impl Columns {
         ensures { result ≡ [] }
     {
         Columns {
-            values: [Value::Int(0); MAX_COLUMNS],
+            cells: [Cell::Int(0); MAX_COLUMNS],
             len: 0,
         }
     }
@@ -59,19 +59,19 @@ impl Columns {
         self.len == 0
     }
 
-    /// The values, from the left.
-    pub fn as_slice(&self) -> &[Value]
+    /// The cells, from the left.
+    pub fn as_slice(&self) -> &[Cell]
         ensures { result.now ≡ self.now }
     {
-        &self.values[..self.len]
+        &self.cells[..self.len]
     }
 
     /// Adds a column on the right.
-    pub fn push(&mut self, value: Value)
+    pub fn push(&mut self, cell: Cell)
         requires { length self.old < MAX_COLUMNS }
-        ensures { self.new ≡ self.old ++ value ∷ [] }
+        ensures { self.new ≡ self.old ++ cell ∷ [] }
     {
-        self.values[self.len] = value;
+        self.cells[self.len] = cell;
         self.len += 1;
     }
 
@@ -79,7 +79,7 @@ impl Columns {
     pub fn clear(&mut self)
         ensures { self.new ≡ [] }
     {
-        self.values[..self.len].fill(Value::Int(0));
+        self.cells[..self.len].fill(Cell::Int(0));
         self.len = 0;
     }
 }
