@@ -3,6 +3,7 @@
 ghost use Rattle.std.specs.Prelude.{◌≡◌, ◌⊎◌, ◌<◌, ◌≤◌, ◌≤ℤ◌, ℕ, ℤ, pos, Bool, true, false, [], ◌∷◌, List, length, not, filter, nat_eq, nat_lt, Some, IsSome, IfSome, IsTrue};
 ghost use Rattle.std.specs.FinMap as map;
 ghost use Rattle.wsm_record.specs.declared.event.Value.{Value as OneValue};
+ghost use Rattle.wsm_record.specs.declared.limits.TheConstants.{MAX_ACCUMULATORS};
 ghost use Rattle.wsm_windows.specs.Windows.{IsTime};
 ghost use Rattle.wsm_windows.specs.Places.{window_of};
 ghost use Rattle.wsm_fold.specs.Fold.{are_of_kinds};
@@ -38,7 +39,7 @@ pub(crate) fn enter_session(
     requires gap { pos 1 ≤ℤ sessions.old.gap }
     requires times { (times : List ℤ) × Fits sessions.old times }
     requires agree { windows_of_key key (map.entries table.old.panes) ≡ sessions.old.windows }
-    requires few { length values.now ≤ 16 }
+    requires few { length values.now ≤ MAX_ACCUMULATORS }
     requires wide { length values.now ≡ table.old.widths.accumulators }
     requires types { IsTrue (are_of_kinds kinds.now values.now) }
     requires joins { CanJoinAll kinds.now values.now (linked sessions.old.gap (datum 0 key time []) (map.entries table.old.panes)) }
@@ -72,7 +73,7 @@ pub(crate) fn enter_session(
 
 // Puts a record into the pane at a place, which goes to the place of the session then.
 fn enter_moved(table: &mut ListTable, from: Place, to: Place, kinds: &[Kind], values: &[Value])
-    requires few { length values.now ≤ 16 }
+    requires few { length values.now ≤ MAX_ACCUMULATORS }
     requires wide { length values.now ≡ table.old.widths.accumulators }
     requires types { IsTrue (are_of_kinds kinds.now values.now) }
     requires there { IsSome (map.get table.old.panes from) }
@@ -104,7 +105,7 @@ fn merge_linked(
     requires gap { pos 1 ≤ℤ sessions.old.gap }
     requires times { (times : List ℤ) × Fits sessions.old times }
     requires agree { windows_of_key key (map.entries table.old.panes) ≡ sessions.old.windows }
-    requires few { length values.now ≤ 16 }
+    requires few { length values.now ≤ MAX_ACCUMULATORS }
     requires wide { length values.now ≡ table.old.widths.accumulators }
     requires types { IsTrue (are_of_kinds kinds.now values.now) }
     requires joins { CanJoinAll kinds.now values.now (linked sessions.old.gap (datum 0 key time []) (map.entries table.old.panes)) }
