@@ -15,7 +15,6 @@ ghost use Rattle.wsm_sessions.specs.Live.{Fits};
 ghost use Rattle.wsm_panes.specs.Held.{CanJoin, CanRecord, CanJoinAll, first_two, taking, windows_of_key, with_one_more};
 ghost use Rattle.wsm_panes.specs.Layout.{IsAsWide};
 
-use crate::entering::place_of;
 use crate::list::ListTable;
 use crate::pane::Pane;
 use crate::recording::{TakesRecords, with_one_more};
@@ -60,8 +59,8 @@ pub(crate) fn enter_session(
             let session = sessions.enter(time);
             enter_moved(
                 table,
-                place_of(key, window),
-                place_of(key, session),
+                Place::at(key, window),
+                Place::at(key, session),
                 kinds,
                 values,
             );
@@ -123,7 +122,7 @@ fn merge_linked(
 {
     let (pane, joined) = take_linked(table, sessions, kinds, key, time);
     let session = sessions.enter(time);
-    table.put(place_of(key, session), with_one_more(pane, kinds, values));
+    table.put(Place::at(key, session), with_one_more(pane, kinds, values));
     (session, joined)
 }
 
@@ -143,8 +142,8 @@ pub(crate) fn linked_pair(
         Linked::None => None,
         Linked::One(_) => None,
         Linked::Two(first, second) => {
-            let pane = table.get(place_of(key, first)).unwrap();
-            let other = table.get(place_of(key, second)).unwrap();
+            let pane = table.get(Place::at(key, first)).unwrap();
+            let other = table.get(Place::at(key, second)).unwrap();
             Some((pane, other))
         }
     }
@@ -172,10 +171,10 @@ fn take_linked(
 {
     match sessions.linked(time) {
         Linked::None => (None, false),
-        Linked::One(window) => (Some(take(table, place_of(key, window))), false),
+        Linked::One(window) => (Some(take(table, Place::at(key, window))), false),
         Linked::Two(first, second) => {
-            let mut pane = take(table, place_of(key, first));
-            let other = take(table, place_of(key, second));
+            let mut pane = take(table, Place::at(key, first));
+            let other = take(table, Place::at(key, second));
             pane.join(kinds, &other);
             (Some(pane), true)
         }
