@@ -15,6 +15,7 @@ ghost use Rattle.wsm_csv.specs.Lines.{cells_text, is_a_number, number_text};
 use itoa::{Buffer, write_digits};
 use std::alloc::AllocError;
 use wsm_admission::Refusal;
+use wsm_record::limits::MAX_NAME;
 use wsm_record::{Cell, Columns, Names, RowFault, Schema};
 use wsm_semantics::{OutRow, Totals};
 use wsm_windows::{PaneKind, Window};
@@ -28,10 +29,29 @@ const TOGETHER: usize = 4;
 // The most bytes of a window and those numbers.
 const CELLS: usize = (2 + TOGETHER) * CELL;
 
+// The most bytes of the first cells of a pane's row, with a comma.
+const FIRST: usize = 13;
+
+// The most bytes of the line of a pane whose columns are a few numbers.
+const LINE: usize = FIRST + MAX_NAME + CELLS + 1;
+
 /// Adds the line of a row. A number that stands for no name is an empty cell.
 pub fn row_text(schema: &Schema, row: &OutRow, out: &mut Vec<u8>) -> Result<(), AllocError>
     ensures { OnOk result (out.new.items ≡ out.old.items ++ text.line_text schema.now (Out row.now)) }
 {
+    if let OutRow::Pane {
+        kind,
+        key,
+        window,
+        columns,
+    } = row
+    {
+        let name = name_text(Some(schema.keys()), *key);
+        let columns = columns.as_slice();
+        if name.len() <= MAX_NAME && are_few_numbers(columns) {
+            return add_short_line(*kind, name, *window, columns, out);
+        }
+    }
     add_row(schema, row, out)?;
     end_line(out)
 }
@@ -61,6 +81,28 @@ pub fn end_text(totals: Totals, out: &mut Vec<u8>) -> Result<(), AllocError>
     add_count(totals.refused, out)?;
     add_count(totals.panes, out)?;
     end_line(out)
+}
+
+// The line of a pane whose columns are a few numbers, in one piece.
+fn add_short_line(
+    kind: PaneKind,
+    name: &[u8],
+    window: Window,
+    numbers: &[Cell],
+    out: &mut Vec<u8>,
+) -> Result<(), AllocError>
+    requires name { length name.now ≤ MAX_NAME }
+    requires numbers { list_all is_a_number numbers.now ≡ true }
+    requires few { length numbers.now ≤ TOGETHER }
+    ensures { OnOk result (out.new.items ≡ out.old.items ++ ((codes "pane" ++ 44 ∷ text.kind_word kind ++ 44 ∷ []) ++ (name.now ++ (cells_text (signed_decimal window.start ∷ signed_decimal window.end ∷ map number_text numbers.now) ++ 10 ∷ [])))) }
+{
+    let mut line = [b'\n'; LINE];
+    let columns = write_numbers(numbers, &mut line, LINE - 1);
+    let end = write_cell(window.end, &mut line, columns);
+    let start = write_cell(window.start, &mut line, end);
+    let key = write_text(name, &mut line, start);
+    let first = write_text(first_cells(kind), &mut line, key);
+    out.extend_from_slice(&line[first..])
 }
 
 // The cells of a row.
@@ -132,6 +174,14 @@ fn count_numbers(columns: &[Cell]) -> usize
         }
     }
     most
+}
+
+// Whether columns are numbers, and no more than are written together.
+fn are_few_numbers(columns: &[Cell]) -> bool
+    ensures few { result ≡ true → length columns.now ≤ TOGETHER }
+    ensures numbers { result ≡ true → list_all is_a_number columns.now ≡ true }
+{
+    count_numbers(columns) == columns.len()
 }
 
 fn is_number(column: Cell) -> bool
@@ -257,6 +307,19 @@ fn write_number(number: i64, cells: &mut [u8], end: usize) -> usize
     start - 1
 }
 
+// Writes a text so that it ends at a place, and tells where it begins.
+#[inline(always)]
+fn write_text(text: &[u8], cells: &mut [u8], end: usize) -> usize
+    requires room { length text.now ≤ end }
+    requires within { end ≤ length cells.old }
+    ensures start { result + length text.now ≡ end }
+    ensures written { drop result cells.new ≡ text.now ++ drop end cells.old }
+{
+    let start = end - text.len();
+    cells[start..end].copy_from_slice(text);
+    start
+}
+
 fn add_count(count: u64, out: &mut Vec<u8>) -> Result<(), AllocError>
     ensures { OnOk result (out.new.items ≡ out.old.items ++ 44 ∷ decimal count) }
 {
@@ -290,7 +353,8 @@ fn name_text<'a>(names: Option<&'a Names>, number: u16) -> &'a [u8]
 
 // The first cells of the row of a pane that fires so, and a comma.
 fn first_cells(kind: PaneKind) -> &'static [u8]
-    ensures { result.now ≡ codes "pane" ++ 44 ∷ text.kind_word kind ++ 44 ∷ [] }
+    ensures first { result.now ≡ codes "pane" ++ 44 ∷ text.kind_word kind ++ 44 ∷ [] }
+    ensures few { length result.now ≤ FIRST }
 {
     match kind {
         PaneKind::Early => b"pane,early,",

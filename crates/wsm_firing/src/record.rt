@@ -53,7 +53,7 @@ pub fn fire_by_record(
     match session {
         Some(window) => {
             let mut tally = Tally::none();
-            let place = place_of(key, window);
+            let place = Place::at(key, window);
             fire_at(
                 verified, machine, held, streams, rows, &mut tally, mark, place,
             );
@@ -91,7 +91,7 @@ fn fire_each(
 {
     let mut tally = Tally::none();
     for window in windows {
-        let place = place_of(key, window);
+        let place = Place::at(key, window);
         fire_at(
             verified, machine, held, streams, rows, &mut tally, mark, place,
         );
@@ -134,15 +134,5 @@ fn fire_at(
             &mut None,
             Due { kind, spot },
         );
-    }
-}
-
-fn place_of(key: u16, window: Window) -> Place
-    ensures { result ≡ at key window }
-{
-    Place {
-        end: window.end,
-        start: window.start,
-        key,
     }
 }

@@ -1,6 +1,7 @@
 //! FIRE run on a pane.
 
 ghost use Rattle.std.specs.Prelude.{◌≡◌, ◌≤◌, [], None, Some, if◌then◌else◌, length, IfSome};
+ghost use Rattle.wsm_record.specs.declared.limits.TheConstants.{MAX_COLUMNS};
 ghost use Rattle.wsm_semantics.specs.Summaries.{columns as columns_by, fired_count as fired_count_of};
 ghost use Rattle.wsm_machine.specs.Meaning.{plan_of, pane_cost_by};
 ghost use Rattle.wsm_machine.specs.Sound.{MayFire};
@@ -53,7 +54,7 @@ fn fired_count(mode: Mode, pane: &PaneView<'_>) -> u64
 // Adds the columns of a row that is written, and takes away one that isn't.
 fn set_row(row: &mut Option<Columns>, emits: bool, cells: &[Cell])
     requires empty { row.old ≡ Some [] }
-    requires few { length cells.now ≤ 16 }
+    requires few { length cells.now ≤ MAX_COLUMNS }
     ensures { row.new ≡ (if emits then Some cells.now else None) }
 {
     match row {
@@ -64,7 +65,7 @@ fn set_row(row: &mut Option<Columns>, emits: bool, cells: &[Cell])
 
 fn add_cells(columns: &mut Columns, cells: &[Cell])
     requires empty { columns.old ≡ [] }
-    requires few { length cells.now ≤ 16 }
+    requires few { length cells.now ≤ MAX_COLUMNS }
     ensures { columns.new ≡ cells.now }
 {
     for cell in cells {

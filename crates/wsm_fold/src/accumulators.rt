@@ -25,18 +25,19 @@ impl Model for Folded {
     ghost use Rattle.std.proofs.Common.{arith, sym, ap, ◌∙◌, take-append-drop, length-take-le};
     ghost use Rattle.wsm_record.specs.declared.event.Value.{Value as OneValue};
     ghost use Rattle.wsm_record.specs.declared.event.Value.TheVariants.{Int};
+    ghost use Rattle.wsm_record.specs.declared.limits.TheConstants.{MAX_ACCUMULATORS};
 
     ghost Value = { List OneValue };
 
     ghost view = { λ f. take f.len f.values };
 
     // The places behind the values hold 0, so that equal values are equal bit by bit.
-    ghost invariant = { λ f. (f.len ≤ 16) × (length f.values ≡ 16) × (drop f.len f.values ≡ replicate (16 - f.len) (Int (pos 0))) };
+    ghost invariant = { λ f. (f.len ≤ MAX_ACCUMULATORS) × (length f.values ≡ MAX_ACCUMULATORS) × (drop f.len f.values ≡ replicate (MAX_ACCUMULATORS - f.len) (Int (pos 0))) };
 
-    ghost inverse = { λ xs. record { values = xs ++ replicate (16 - length xs) (Int (pos 0)); len = length xs } };
+    ghost inverse = { λ xs. record { values = xs ++ replicate (MAX_ACCUMULATORS - length xs) (Int (pos 0)); len = length xs } };
 
     ghost inverse_ok = { λ f h i. record {
-      values = (ap (λ n. take f.len f.values ++ replicate (16 - n) (Int (pos 0))) (length-take-le f.len f.values (omega (arith, h.0, h.1))) ∙ ap (λ rest. take f.len f.values ++ rest) (sym h.2) ∙ take-append-drop f.len f.values) i;
+      values = (ap (λ n. take f.len f.values ++ replicate (MAX_ACCUMULATORS - n) (Int (pos 0))) (length-take-le f.len f.values (omega (arith, h.0, h.1))) ∙ ap (λ rest. take f.len f.values ++ rest) (sym h.2) ∙ take-append-drop f.len f.values) i;
       len = length-take-le f.len f.values (omega (arith, h.0, h.1)) i;
     } };
 }

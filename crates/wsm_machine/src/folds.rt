@@ -18,12 +18,13 @@ pub struct Folds {
 impl Model for Folds {
     ghost use Rattle.std.specs.Prelude.{List, Option, take, ◌≤◌};
     ghost use Rattle.wsm_record.specs.declared.event.Value.{Value as OneValue};
+    ghost use Rattle.wsm_record.specs.declared.limits.TheConstants.{MAX_ACCUMULATORS};
 
     ghost Value = { List (Option OneValue) };
 
     ghost view = { λ a. take a.len a.places };
 
-    ghost invariant = { λ a. a.len ≤ 16 };
+    ghost invariant = { λ a. a.len ≤ MAX_ACCUMULATORS };
 }
 
 impl Folds {

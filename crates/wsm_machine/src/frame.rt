@@ -5,6 +5,7 @@ ghost use Rattle.std.specs.Option.{SomeIff};
 ghost use Rattle.std.specs.Int.{w64};
 ghost use Rattle.wsm_record.specs.declared.words.CellType.TheVariants as types;
 ghost use Rattle.wsm_record.specs.declared.cell.Cell.TheVariants as cells;
+ghost use Rattle.wsm_record.specs.declared.limits.TheConstants.{MAX_ACCUMULATORS};
 ghost use Rattle.wsm_program.specs.Instructions.{Numbers, One, Alike};
 ghost use Rattle.wsm_machine.specs.Step.{has_types};
 ghost use Rattle.wsm_machine.specs.Steps.{operand_trap, Answers, AnswersNumber};
@@ -50,7 +51,7 @@ pub struct Frame {
 impl Frame {
     /// A run over so many accumulators, before its first instruction.
     pub fn open(alloc: Global, accumulators: usize) -> Self
-        requires { accumulators ≤ 16 }
+        requires { accumulators ≤ MAX_ACCUMULATORS }
         ensures { result ≡ record { stack = []; folds = replicate accumulators None } }
     {
         Frame {

@@ -1,6 +1,7 @@
 //! What a section is run on.
 
 ghost use Rattle.std.specs.Prelude.{◌≡◌, ◌≤◌, map, length, IsTrue};
+ghost use Rattle.wsm_record.specs.declared.limits.TheConstants.{MAX_ACCUMULATORS};
 ghost use Rattle.wsm_record.specs.Fields.{field_seen, type_seen};
 ghost use Rattle.wsm_fold.specs.Fold.{is_of_kind as is_of_kind_of, are_of_kinds as are_of_kinds_of};
 ghost use Rattle.wsm_machine.specs.Inputs.{inputs_of, inputs_fit, is_of_field as is_of_field_of, are_of_fields as are_of_fields_of};
@@ -106,7 +107,7 @@ fn are_of_kinds(kinds: &[Kind], values: &[Value]) -> bool
 
 // One value for each accumulator, of its type and in its range.
 fn accs_in(verified: &Verified, kinds: &[Kind], accs: &[Value]) -> bool
-    requires { length kinds.now ≤ 16 }
+    requires { length kinds.now ≤ MAX_ACCUMULATORS }
     ensures { result ≡ accs_in_of verified.now 0 kinds.now accs.now }
 {
     if kinds.len() != accs.len() {

@@ -18,13 +18,14 @@ pub struct Stack {
 impl Model for Stack {
     ghost use Rattle.std.specs.Prelude.{◌≡◌, ◌≤◌, List, length, reverse};
     ghost use Rattle.wsm_record.specs.declared.cell.Cell.{Cell as OneCell};
+    ghost use Rattle.wsm_record.specs.declared.limits.TheConstants.{MAX_STACK};
 
     ghost Value = { List OneCell };
 
     ghost view = { λ a. reverse a.cells.items };
 
     // No value lies in an allocation.
-    ghost invariant = { λ a. (a.cells.capacity ≡ 32) × (length a.cells.items ≤ 32) };
+    ghost invariant = { λ a. (a.cells.capacity ≡ MAX_STACK) × (length a.cells.items ≤ MAX_STACK) };
 }
 
 impl Stack {

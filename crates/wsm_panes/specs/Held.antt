@@ -8,6 +8,7 @@ use Rattle.wsm_record.specs.declared.event.Value.{Value}
 use Rattle.wsm_record.specs.declared.cell.Cell.{Cell}
 use Rattle.wsm_record.specs.declared.words.Kind.{Kind}
 use Rattle.wsm_record.specs.declared.words.Mode.{Mode}
+use Rattle.wsm_record.specs.declared.limits.TheConstants.{MAX_ACCUMULATORS}
 use Rattle.wsm_windows.specs.declared.window.Window.{Window}
 use Rattle.wsm_windows.specs.declared.window.Shape.{Shape}
 use Rattle.wsm_windows.specs.declared.window.Shape.TheVariants.{Session}
@@ -148,7 +149,7 @@ pub record IsRoomy (kinds : List Kind) (values : List Value) (e : Place × Pane 
 pub record CanEnter (h : Held) (kinds : List Kind) (key : ℕ) (time : ℤ) (values : List Value) : Type 0 where
   pub declared : key < h.keys
   pub timely : IsTime time
-  pub few : length kinds ≤ 16
+  pub few : length kinds ≤ MAX_ACCUMULATORS
   pub wide : length kinds ≡ h.widths.accumulators
   pub types : IsTrue (are_of_kinds kinds values)
   pub room : length (with_entered kinds key time values h) ≤ room_of h

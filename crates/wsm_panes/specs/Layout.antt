@@ -3,6 +3,7 @@ use Rattle.std.specs.Prelude.{◌≡◌, ℕ, ◌+◌, ◌*◌, ◌≤◌, Bool,
 use Rattle.std.specs.Option.{is_some}
 use Rattle.wsm_record.specs.declared.event.Value.{Value}
 use Rattle.wsm_record.specs.declared.cell.Cell.{Cell}
+use Rattle.wsm_record.specs.declared.limits.TheConstants.{MAX_ACCUMULATORS, MAX_COLUMNS}
 use Rattle.wsm_record.specs.declared.words.Kind.{Kind}
 use Rattle.wsm_record.specs.declared.words.Mode.{Mode}
 use Rattle.wsm_record.specs.declared.words.Mode.TheVariants.{Discarding, Accumulating}
@@ -51,7 +52,7 @@ pub record IsAsWide (w : Widths) (pane : Pane (List Value)) : Type 0 where
 
 -- there are as many values as the slots have together, and no more of each than a pane can have
 pub record IsLaidOut (w : Widths) (heads : List Head) (folds : List Value) (rows : List Cell) : Type 0 where
-  pub few : (w.accumulators ≤ 16) × (w.columns ≤ 16)
+  pub few : (w.accumulators ≤ MAX_ACCUMULATORS) × (w.columns ≤ MAX_COLUMNS)
   pub of_folds : length folds ≡ length heads * w.accumulators
   pub of_rows : length rows ≡ length heads * w.columns
 

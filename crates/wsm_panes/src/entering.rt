@@ -3,7 +3,6 @@
 ghost use Rattle.std.specs.Prelude.{◌≡◌, ◌≤◌, ◌≤ℤ◌, [], length, IsTrue};
 ghost use Rattle.std.specs.FinMap as map;
 ghost use Rattle.wsm_windows.specs.Windows.{IsTime, greatest_span, windows_of};
-ghost use Rattle.wsm_windows.specs.Places.{at};
 ghost use Rattle.wsm_fold.specs.Fold.{are_of_kinds};
 ghost use Rattle.wsm_semantics.specs.Replay.{datum};
 ghost use Rattle.wsm_semantics.specs.Summaries.{assigned};
@@ -11,18 +10,6 @@ ghost use Rattle.wsm_panes.specs.Held.{CanEnterWindows, taking};
 
 use crate::ring_table::RingTable;
 use wsm_record::{Kind, Value};
-use wsm_windows::{Place, Window};
-
-/// The place of a key and a window.
-pub(crate) fn place_of(key: u16, window: Window) -> Place
-    ensures { result ≡ at key window }
-{
-    Place {
-        end: window.end,
-        start: window.start,
-        key,
-    }
-}
 
 /// Puts a record into the panes of the windows that have its time inside, and tells how many they are.
 pub(crate) fn enter_windows(

@@ -3,6 +3,7 @@
 ghost use Rattle.std.specs.Prelude.{◌≡◌, ◌⊎◌, ◌<◌, ◌≤◌, ◌≤ℤ◌, ℕ, ℤ, pos, Bool, true, false, [], ◌∷◌, List, length, not, filter, nat_eq, nat_lt, Some, IsSome, IfSome, IsTrue};
 ghost use Rattle.std.specs.FinMap as map;
 ghost use Rattle.wsm_record.specs.declared.event.Value.{Value as OneValue};
+ghost use Rattle.wsm_record.specs.declared.limits.TheConstants.{MAX_ACCUMULATORS};
 ghost use Rattle.wsm_windows.specs.Windows.{IsTime};
 ghost use Rattle.wsm_windows.specs.Places.{window_of};
 ghost use Rattle.wsm_fold.specs.Fold.{are_of_kinds};
@@ -14,7 +15,6 @@ ghost use Rattle.wsm_sessions.specs.Live.{Fits};
 ghost use Rattle.wsm_panes.specs.Held.{CanJoin, CanRecord, CanJoinAll, first_two, taking, windows_of_key, with_one_more};
 ghost use Rattle.wsm_panes.specs.Layout.{IsAsWide};
 
-use crate::entering::place_of;
 use crate::list::ListTable;
 use crate::pane::Pane;
 use crate::recording::{TakesRecords, with_one_more};
@@ -38,7 +38,7 @@ pub(crate) fn enter_session(
     requires gap { pos 1 ≤ℤ sessions.old.gap }
     requires times { (times : List ℤ) × Fits sessions.old times }
     requires agree { windows_of_key key (map.entries table.old.panes) ≡ sessions.old.windows }
-    requires few { length values.now ≤ 16 }
+    requires few { length values.now ≤ MAX_ACCUMULATORS }
     requires wide { length values.now ≡ table.old.widths.accumulators }
     requires types { IsTrue (are_of_kinds kinds.now values.now) }
     requires joins { CanJoinAll kinds.now values.now (linked sessions.old.gap (datum 0 key time []) (map.entries table.old.panes)) }
@@ -59,8 +59,8 @@ pub(crate) fn enter_session(
             let session = sessions.enter(time);
             enter_moved(
                 table,
-                place_of(key, window),
-                place_of(key, session),
+                Place::at(key, window),
+                Place::at(key, session),
                 kinds,
                 values,
             );
@@ -72,7 +72,7 @@ pub(crate) fn enter_session(
 
 // Puts a record into the pane at a place, which goes to the place of the session then.
 fn enter_moved(table: &mut ListTable, from: Place, to: Place, kinds: &[Kind], values: &[Value])
-    requires few { length values.now ≤ 16 }
+    requires few { length values.now ≤ MAX_ACCUMULATORS }
     requires wide { length values.now ≡ table.old.widths.accumulators }
     requires types { IsTrue (are_of_kinds kinds.now values.now) }
     requires there { IsSome (map.get table.old.panes from) }
@@ -104,7 +104,7 @@ fn merge_linked(
     requires gap { pos 1 ≤ℤ sessions.old.gap }
     requires times { (times : List ℤ) × Fits sessions.old times }
     requires agree { windows_of_key key (map.entries table.old.panes) ≡ sessions.old.windows }
-    requires few { length values.now ≤ 16 }
+    requires few { length values.now ≤ MAX_ACCUMULATORS }
     requires wide { length values.now ≡ table.old.widths.accumulators }
     requires types { IsTrue (are_of_kinds kinds.now values.now) }
     requires joins { CanJoinAll kinds.now values.now (linked sessions.old.gap (datum 0 key time []) (map.entries table.old.panes)) }
@@ -122,7 +122,7 @@ fn merge_linked(
 {
     let (pane, joined) = take_linked(table, sessions, kinds, key, time);
     let session = sessions.enter(time);
-    table.put(place_of(key, session), with_one_more(pane, kinds, values));
+    table.put(Place::at(key, session), with_one_more(pane, kinds, values));
     (session, joined)
 }
 
@@ -142,8 +142,8 @@ pub(crate) fn linked_pair(
         Linked::None => None,
         Linked::One(_) => None,
         Linked::Two(first, second) => {
-            let pane = table.get(place_of(key, first)).unwrap();
-            let other = table.get(place_of(key, second)).unwrap();
+            let pane = table.get(Place::at(key, first)).unwrap();
+            let other = table.get(Place::at(key, second)).unwrap();
             Some((pane, other))
         }
     }
@@ -171,10 +171,10 @@ fn take_linked(
 {
     match sessions.linked(time) {
         Linked::None => (None, false),
-        Linked::One(window) => (Some(take(table, place_of(key, window))), false),
+        Linked::One(window) => (Some(take(table, Place::at(key, window))), false),
         Linked::Two(first, second) => {
-            let mut pane = take(table, place_of(key, first));
-            let other = take(table, place_of(key, second));
+            let mut pane = take(table, Place::at(key, first));
+            let other = take(table, Place::at(key, second));
             pane.join(kinds, &other);
             (Some(pane), true)
         }

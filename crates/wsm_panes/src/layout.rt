@@ -3,6 +3,7 @@
 ghost use Rattle.std.specs.Prelude.{◌≡◌, ◌<◌, ◌≤◌, ◌^◌, List, Some, None, true, IfOk, IfSome, IsTrue, length, option_map, replicate, slice_set};
 ghost use Rattle.std.specs.Option.{is_some};
 ghost use Rattle.wsm_record.specs.declared.words.Kind.{Kind as OneKind};
+ghost use Rattle.wsm_record.specs.declared.limits.TheConstants.{MAX_ACCUMULATORS, MAX_COLUMNS};
 ghost use Rattle.wsm_fold.specs.Fold.{are_of_kinds};
 ghost use Rattle.wsm_panes.specs.Held.{CanRecord, CanTake, once_fired, with_one_more};
 ghost use Rattle.wsm_panes.specs.Layout.{HasPart, IsAsWide, folded_on, part_at, with_any, with_part};
@@ -45,8 +46,8 @@ impl Slots {
     /// Where there is no memory for them.
     pub(crate) fn open(alloc: Global, widths: Widths, count: usize) -> Result<Slots, AllocError>
         requires count { count ≤ 2 ^ 32 }
-        requires accumulators { widths.accumulators ≤ 16 }
-        requires columns { widths.columns ≤ 16 }
+        requires accumulators { widths.accumulators ≤ MAX_ACCUMULATORS }
+        requires columns { widths.columns ≤ MAX_COLUMNS }
         ensures { IfOk result (λ s. s ≡ record { widths = widths; slots = replicate count None }) }
     {
         Ok(Slots {
@@ -90,7 +91,7 @@ impl Slots {
         requires { IsTrue (is_some (slot_at self.now.slots slot)) }
         ensures same { option_map (λ e. e.1) (slot_at self.now.slots slot) ≡ Some result }
         ensures wide { IsAsWide self.now.widths result }
-        ensures few { IfSome result.folded (λ values. length values ≤ 16) }
+        ensures few { IfSome result.folded (λ values. length values ≤ MAX_ACCUMULATORS) }
     {
         let head = &self.heads[slot];
         PaneView {

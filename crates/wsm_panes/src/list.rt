@@ -4,6 +4,7 @@ ghost use Rattle.std.specs.Prelude.{◌≡◌, ◌⊎◌, ◌<◌, ◌≤◌, �
 ghost use Rattle.std.specs.FinMap as map;
 ghost use Rattle.wsm_fold.specs.Fold.{are_of_kinds};
 ghost use Rattle.wsm_record.specs.declared.event.Value.{Value as OneValue};
+ghost use Rattle.wsm_record.specs.declared.limits.TheConstants.{MAX_ACCUMULATORS, MAX_COLUMNS};
 ghost use Rattle.wsm_record.specs.declared.words.Kind.{Kind as OneKind};
 ghost use Rattle.wsm_windows.specs.Places.{place_cmp};
 ghost use Rattle.wsm_semantics.specs.Summaries.{Pane as AnyPane};
@@ -65,8 +66,8 @@ impl ListTable {
     /// Where there is no memory for the room.
     pub fn open(alloc: Global, room: usize, widths: Widths) -> Result<Self, AllocError>
         requires room { room ≤ 2 ^ 32 }
-        requires accumulators { widths.accumulators ≤ 16 }
-        requires columns { widths.columns ≤ 16 }
+        requires accumulators { widths.accumulators ≤ MAX_ACCUMULATORS }
+        requires columns { widths.columns ≤ MAX_COLUMNS }
         ensures { IfOk result (λ t. t ≡ record { panes = map.empty; room = room; widths = widths }) }
     {
         Ok(ListTable {

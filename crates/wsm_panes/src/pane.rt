@@ -2,6 +2,7 @@
 
 ghost use Rattle.std.specs.Prelude.{◌≡◌, ◌≤◌, List, [], length, None, Some, IfSome, IsTrue, option_map};
 ghost use Rattle.wsm_record.specs.declared.event.Value.{Value as OneValue};
+ghost use Rattle.wsm_record.specs.declared.limits.TheConstants.{MAX_ACCUMULATORS};
 ghost use Rattle.wsm_fold.specs.Fold.{are_of_kinds, joins};
 ghost use Rattle.wsm_fold.specs.Accumulators.{SumsFit};
 ghost use Rattle.wsm_semantics.specs.Query.{Datum};
@@ -62,7 +63,7 @@ impl Pane {
 
     /// What is read as a pane, as one of its own.
     pub(crate) fn of_view(view: &PaneView<'_>) -> Pane
-        requires { IfSome view.now.folded (λ values. length values ≤ 16) }
+        requires { IfSome view.now.folded (λ values. length values ≤ MAX_ACCUMULATORS) }
         ensures { result ≡ view.now }
     {
         Pane {
@@ -154,7 +155,7 @@ fn folded_values(folded: &Option<Folded>) -> &[Value]
 
 // What records are folded to, where there are any and they are folded to these values.
 fn folded_of(is_folded: bool, folds: &[Value]) -> Option<Folded>
-    requires { IfSome (folded_by is_folded folds.now) (λ values. length values ≤ 16) }
+    requires { IfSome (folded_by is_folded folds.now) (λ values. length values ≤ MAX_ACCUMULATORS) }
     ensures { result ≡ folded_by is_folded folds.now }
 {
     if is_folded {
@@ -179,7 +180,7 @@ fn standing_of(stands: Stands, row: &RowView<'_>) -> Standing
 
 // Folds values into what is held, if anything is.
 fn fold_in(folded: &mut Option<Folded>, kinds: &[Kind], values: &[Value])
-    requires few { length values.now ≤ 16 }
+    requires few { length values.now ≤ MAX_ACCUMULATORS }
     requires types { IsTrue (are_of_kinds kinds.now values.now) }
     requires takes { IfSome folded.old (CanTake kinds.now values.now) }
     ensures { (d : Datum) → folded.new ≡ Some (with_folded (taking kinds.now values.now) d folded.old) }

@@ -2,6 +2,7 @@
 
 ghost use Rattle.std.specs.Prelude.{◌≡◌, ◌≤◌, List, length, Option, None, Some, IfSome, IsTrue};
 ghost use Rattle.wsm_record.specs.declared.event.Value.{Value as OneValue};
+ghost use Rattle.wsm_record.specs.declared.limits.TheConstants.{MAX_ACCUMULATORS};
 ghost use Rattle.wsm_record.specs.declared.words.Kind.{Kind as OneKind};
 ghost use Rattle.wsm_fold.specs.Fold.{are_of_kinds};
 
@@ -17,12 +18,12 @@ pub trait TakesRecords: Copy {
 
     /// A pane of one record, which is folded by these values.
     fn first(values: &[Value]) -> Self
-        requires { length values.now ≤ 16 }
+        requires { length values.now ≤ MAX_ACCUMULATORS }
         ensures { (kinds : List OneKind) → result ≡ with_record kinds values.now None };
 
     /// Puts a record in, which is folded by these values.
     fn record(&mut self, kinds: &[Kind], values: &[Value])
-        requires few { length values.now ≤ 16 }
+        requires few { length values.now ≤ MAX_ACCUMULATORS }
         requires types { IsTrue (are_of_kinds kinds.now values.now) }
         requires room { CanTakeRecord kinds.now values.now self.old }
         ensures { self.new ≡ with_record kinds.now values.now (Some self.old) };
@@ -30,7 +31,7 @@ pub trait TakesRecords: Copy {
 
 /// A pane, if there is one, with one record more.
 pub(crate) fn with_one_more<P: TakesRecords>(pane: Option<P>, kinds: &[Kind], values: &[Value]) -> P
-    requires few { length values.now ≤ 16 }
+    requires few { length values.now ≤ MAX_ACCUMULATORS }
     requires types { IsTrue (are_of_kinds kinds.now values.now) }
     requires takes { IfSome pane (P.CanTakeRecord kinds.now values.now) }
     ensures { result ≡ P.with_record kinds.now values.now pane }

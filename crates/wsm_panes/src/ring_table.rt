@@ -3,6 +3,7 @@
 ghost use Rattle.std.specs.Prelude.{◌≡◌, ◌⊎◌, ◌<◌, ◌≤◌, ◌≤ℤ◌, List, IfOk, IfSome, IsSome, IsTrue, Some, length};
 ghost use Rattle.std.specs.FinMap as map;
 ghost use Rattle.wsm_record.specs.declared.event.Value.{Value as OneValue};
+ghost use Rattle.wsm_record.specs.declared.limits.TheConstants.{MAX_ACCUMULATORS, MAX_COLUMNS};
 ghost use Rattle.wsm_fold.specs.Fold.{are_of_kinds};
 ghost use Rattle.wsm_windows.specs.Windows.{IsTime, first_start, greatest_span};
 ghost use Rattle.wsm_windows.specs.Places.{place_cmp};
@@ -68,8 +69,8 @@ impl RingTable {
     /// Where there is no memory for the slots.
     pub fn open(alloc: Global, ring: Ring, widths: Widths) -> Result<Self, AllocError>
         requires ring { IsRing ring }
-        requires accumulators { widths.accumulators ≤ 16 }
-        requires columns { widths.columns ≤ 16 }
+        requires accumulators { widths.accumulators ≤ MAX_ACCUMULATORS }
+        requires columns { widths.columns ≤ MAX_COLUMNS }
         ensures { IfOk result (λ t. t ≡ record { panes = map.empty; ring = ring; widths = widths }) }
     {
         Ok(RingTable {

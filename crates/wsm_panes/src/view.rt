@@ -1,6 +1,7 @@
 //! Panes as they are read.
 
 ghost use Rattle.std.specs.Prelude.{◌≡◌, ◌≤◌, [], length, option_map};
+ghost use Rattle.wsm_record.specs.declared.limits.TheConstants.{MAX_COLUMNS};
 ghost use Rattle.wsm_semantics.specs.Summaries as kept;
 ghost use Rattle.wsm_panes.specs.View.{IsFew, row_seen};
 
@@ -116,7 +117,7 @@ pub(crate) fn row_columns(row: &RowView<'_>) -> Columns
 
 // A row of these cells.
 fn columns_of(cells: &[Cell]) -> Columns
-    requires { length cells.now ≤ 16 }
+    requires { length cells.now ≤ MAX_COLUMNS }
     ensures { result ≡ cells.now }
 {
     let mut columns = Columns::new();

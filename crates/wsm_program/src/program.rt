@@ -1,6 +1,7 @@
 //! Headers and programs.
 
 ghost use Rattle.std.specs.Prelude.{◌≡◌, ◌≤◌, length, is_ok, IfOk, IfErr, IsTrue};
+ghost use Rattle.wsm_record.specs.declared.limits.TheConstants.{MAX_SECTION};
 ghost use Rattle.wsm_program.specs.Program.{section as section_of, is_budget, is_program, stating};
 ghost use Rattle.wsm_program.specs.View.{header_of, program_of};
 
@@ -134,7 +135,7 @@ impl Program {
     /// The instructions of a section.
     pub fn section(&self, id: SectionId) -> &[Instr]
         ensures instructions { result.now ≡ section_of self.now id }
-        ensures most { length result.now ≤ 1000 }
+        ensures most { length result.now ≤ MAX_SECTION }
         ensures lawful { IsTrue (is_program self.now) }
     {
         match id {

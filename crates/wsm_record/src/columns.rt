@@ -18,18 +18,19 @@ impl Model for Columns {
     ghost use Rattle.std.proofs.Common.{arith, sym, ap, ◌∙◌, take-append-drop, length-take-le};
     ghost use Rattle.wsm_record.specs.declared.cell.Cell.{Cell as OneCell};
     ghost use Rattle.wsm_record.specs.declared.cell.Cell.TheVariants.{Int};
+    ghost use Rattle.wsm_record.specs.declared.limits.TheConstants.{MAX_COLUMNS};
 
     ghost Value = { List OneCell };
 
     ghost view = { λ c. take c.len c.cells };
 
     // The places behind the columns hold 0, so that equal columns are equal bit by bit.
-    ghost invariant = { λ c. (c.len ≤ 16) × (length c.cells ≡ 16) × (drop c.len c.cells ≡ replicate (16 - c.len) (Int (pos 0))) };
+    ghost invariant = { λ c. (c.len ≤ MAX_COLUMNS) × (length c.cells ≡ MAX_COLUMNS) × (drop c.len c.cells ≡ replicate (MAX_COLUMNS - c.len) (Int (pos 0))) };
 
-    ghost inverse = { λ xs. record { cells = xs ++ replicate (16 - length xs) (Int (pos 0)); len = length xs } };
+    ghost inverse = { λ xs. record { cells = xs ++ replicate (MAX_COLUMNS - length xs) (Int (pos 0)); len = length xs } };
 
     ghost inverse_ok = { λ c h i. record {
-      cells = (ap (λ n. take c.len c.cells ++ replicate (16 - n) (Int (pos 0))) (length-take-le c.len c.cells (omega (arith, h.0, h.1))) ∙ ap (λ rest. take c.len c.cells ++ rest) (sym h.2) ∙ take-append-drop c.len c.cells) i;
+      cells = (ap (λ n. take c.len c.cells ++ replicate (MAX_COLUMNS - n) (Int (pos 0))) (length-take-le c.len c.cells (omega (arith, h.0, h.1))) ∙ ap (λ rest. take c.len c.cells ++ rest) (sym h.2) ∙ take-append-drop c.len c.cells) i;
       len = length-take-le c.len c.cells (omega (arith, h.0, h.1)) i;
     } };
 }

@@ -20,12 +20,13 @@ pub struct Name {
 impl Model for Name {
     ghost use Rattle.std.specs.Prelude.{◌≡◌, ◌≤◌, ℕ, List, take, true};
     ghost use Rattle.wsm_record.specs.Name.{is_name};
+    ghost use Rattle.wsm_record.specs.declared.limits.TheConstants.{MAX_NAME};
 
     ghost Value = { List ℕ };
 
     ghost view = { λ a. take a.len a.bytes };
 
-    ghost invariant = { λ a. (is_name (take a.len a.bytes) ≡ true) × (a.len ≤ 32) };
+    ghost invariant = { λ a. (is_name (take a.len a.bytes) ≡ true) × (a.len ≤ MAX_NAME) };
 }
 
 impl Name {

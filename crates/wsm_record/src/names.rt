@@ -37,12 +37,13 @@ impl Model for Names {
     ghost use Rattle.std.specs.Prelude.{◌≡◌, ◌≤◌, ℕ, List, [], length, map, true};
     ghost use Rattle.wsm_record.specs.Schema.{are_names_after};
     ghost use Rattle.wsm_record.specs.Guesses.{AreGuesses};
+    ghost use Rattle.wsm_record.specs.declared.limits.TheConstants.{MAX_NAMES};
 
     ghost Value = { List (List ℕ) };
 
     ghost view = { λ a. map (λ v. v.items) a.texts.keys };
 
-    ghost invariant = { λ a. (length a.texts.keys ≤ 1000) × ((are_names_after [] (map (λ v. v.items) a.texts.keys) ≡ true) × AreGuesses (map (λ v. v.items) a.texts.keys) a.guesses.items) };
+    ghost invariant = { λ a. (length a.texts.keys ≤ MAX_NAMES) × ((are_names_after [] (map (λ v. v.items) a.texts.keys) ≡ true) × AreGuesses (map (λ v. v.items) a.texts.keys) a.guesses.items) };
 }
 
 impl Names {

@@ -12,6 +12,7 @@ use Rattle.wsm_program.specs.Instructions.{may_stand, goes_on, bad_jump}
 use Rattle.wsm_program.specs.declared.SectionId.{SectionId}
 use Rattle.wsm_program.specs.declared.SectionId.TheVariants.{Where, Update, Fire}
 use Rattle.wsm_record.specs.declared.Kind.{Kind}
+use Rattle.wsm_record.specs.declared.limits.TheConstants.{MAX_STACK}
 use Rattle.wsm_record.specs.declared.Kind.TheVariants.{Sum, Min, Max, Any, All}
 use Rattle.wsm_record.specs.Schema.{FieldType, Int, Truth as IsTruth, Enum, DeclaredField, is_i64}
 use Rattle.wsm_program.specs.declared.program.Costs.{Costs}
@@ -112,10 +113,10 @@ abbrev pub accumulator_leaves : ℤ → List Kind → Instr → List Known → B
 accumulator_leaves records kinds (Fold a) s = last_is (sum_leaves records (kind_of kinds a)) s
 accumulator_leaves records kinds _ s = false
 
--- a 33rd value
+-- a value more than a stack can have
 abbrev pub overflows : List Known → Option (List Known) → ℕ → Bool
 overflows s None popped = false
-overflows s (Some vs) popped = nat_lt (32 + popped) (length s + length vs)
+overflows s (Some vs) popped = nat_lt (MAX_STACK + popped) (length s + length vs)
 
 abbrev pub fold_missing : SectionId → Instr → List Bool → Bool
 fold_missing Update Return folded = not (list_all (λ b. b) folded)

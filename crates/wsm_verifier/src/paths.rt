@@ -1,6 +1,7 @@
 //! The longest path of a section.
 
 ghost use Rattle.std.specs.Prelude.{◌≡◌, ◌+◌, ◌<◌, ◌≤◌, length, drop, All, IfSome, IfOk};
+ghost use Rattle.wsm_record.specs.declared.limits.TheConstants.{MAX_SECTION};
 ghost use Rattle.wsm_verifier.specs.Costs as spec;
 ghost use Rattle.wsm_verifier.specs.Costs.{IsLongestPath};
 
@@ -10,10 +11,10 @@ use wsm_program::Instr;
 /// The most instructions on a way from a section's first place to its end, or 0 where there is no
 /// way. One pass from the last place back.
 pub(crate) fn longest_path(alloc: Global, code: &[Instr]) -> Result<u64, AllocError>
-    requires { length code.now ≤ 1000 }
+    requires { length code.now ≤ MAX_SECTION }
     ensures path { IfOk result (λ n. n ≡ spec.longest_path code.now) }
     ensures longest { IfOk result (λ n. IsLongestPath code.now n) }
-    ensures short { IfOk result (λ n. n ≤ 1000) }
+    ensures short { IfOk result (λ n. n ≤ MAX_SECTION) }
 {
     let mut ways = vec![in alloc; None; code.len()]?;
     for place in (0..code.len()).rev() {
@@ -25,7 +26,7 @@ pub(crate) fn longest_path(alloc: Global, code: &[Instr]) -> Result<u64, AllocEr
 // The longest way from an instruction, where those of later places are known.
 fn way_of(ways: &[Option<u64>], place: usize, instr: Instr) -> Option<u64>
     requires within { place < length ways.now }
-    requires short { All (λ way. IfSome way (λ n. n ≤ 1000)) ways.now }
+    requires short { All (λ way. IfSome way (λ n. n ≤ MAX_SECTION)) ways.now }
     ensures { result ≡ spec.way_of place instr (drop (place + 1) ways.now) }
 {
     let longest = match instr {
@@ -42,9 +43,9 @@ fn way_of(ways: &[Option<u64>], place: usize, instr: Instr) -> Option<u64>
 
 // The longest way from a target, if it is a later place.
 fn way_from(ways: &[Option<u64>], place: usize, target: usize) -> Option<u64>
-    requires { All (λ way. IfSome way (λ n. n ≤ 1000)) ways.now }
+    requires { All (λ way. IfSome way (λ n. n ≤ MAX_SECTION)) ways.now }
     ensures way { result ≡ spec.way_from place (drop (place + 1) ways.now) target }
-    ensures short { IfSome result (λ n. n ≤ 1000) }
+    ensures short { IfSome result (λ n. n ≤ MAX_SECTION) }
 {
     if place < target {
         *ways.get(target)?
@@ -55,7 +56,7 @@ fn way_from(ways: &[Option<u64>], place: usize, target: usize) -> Option<u64>
 
 fn longer(a: Option<u64>, b: Option<u64>) -> Option<u64>
     ensures longer { result ≡ spec.longer a b }
-    ensures one { IfSome a (λ n. n ≤ 1000) → IfSome b (λ n. n ≤ 1000) → IfSome result (λ n. n ≤ 1000) }
+    ensures one { IfSome a (λ n. n ≤ MAX_SECTION) → IfSome b (λ n. n ≤ MAX_SECTION) → IfSome result (λ n. n ≤ MAX_SECTION) }
 {
     match (a, b) {
         (Some(a), Some(b)) => Some(a.max(b)),

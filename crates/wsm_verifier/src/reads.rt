@@ -1,6 +1,7 @@
 //! What sections read, and what they end with.
 
 ghost use Rattle.std.specs.Prelude.{◌≡◌, ◌∷◌, ◌≤◌, length, map, reverse, suc, IfOk};
+ghost use Rattle.wsm_record.specs.declared.limits.TheConstants.{MAX_FIELDS};
 ghost use Rattle.wsm_record.specs.Fields.{field_seen, type_seen};
 ghost use Rattle.wsm_verifier.specs.Rules as rules;
 ghost use Rattle.wsm_verifier.specs.Rules.{column_known, known_range};
@@ -16,7 +17,7 @@ pub(crate) fn known_fields(
     alloc: Global,
     fields: &[DeclaredField],
 ) -> Result<Vec<Known>, AllocError>
-    requires { length fields.now ≤ 16 }
+    requires { length fields.now ≤ MAX_FIELDS }
     ensures { IfOk result (λ known. known.items ≡ rules.known_fields 0 (map field_seen fields.now)) }
 {
     let mut known = Vec::with_capacity(alloc, fields.len())?;
@@ -28,7 +29,7 @@ pub(crate) fn known_fields(
 
 // What is known of a field. ENUM `f + 1` is field `f`.
 fn known_field(place: u8, ty: &FieldType) -> Known
-    requires { place ≤ 15 }
+    requires { place < MAX_FIELDS }
     ensures { result ≡ rules.known_field place (type_seen ty.now) }
 {
     match ty {

@@ -1,5 +1,10 @@
 //! Where a pane stands.
 
+ghost use Rattle.std.specs.Prelude.{◌≡◌};
+ghost use Rattle.wsm_windows.specs.Places.{at};
+
+use crate::window::Window;
+
 /// Where a pane stands: a window and a key. Places are ordered as panes fire, by end, then start,
 /// then key.
 #[derive(Clone, Copy, Debug, PartialEq, Eq, PartialOrd, Ord)]
@@ -10,4 +15,17 @@ pub struct Place {
     pub start: i64,
     /// The number of the key.
     pub key: u16,
+}
+
+impl Place {
+    /// The place of a key and a window.
+    pub fn at(key: u16, window: Window) -> Place
+        ensures { result ≡ at key window }
+    {
+        Place {
+            end: window.end,
+            start: window.start,
+            key,
+        }
+    }
 }

@@ -70,7 +70,7 @@ fire_at-requires-clause-can c =
     let place : Place = at c.args.key c.in-Some.window in
     let same = same_kinds q c.args.mark d (place ∷ []) es (subst (λ (s : Option Window). AllByRecursion (λ e. is_there e.0 d ≡ is_among (places_entered p.header.shape c.args.key c.args.time s) e.0) es) c.in-Some.is c.requires.can.entered) in
     let some : fires q (kind_at q c.args.mark (place ∷ [])) es ≡ all = fires_same (plan_of p) q (kind_at q c.args.mark (place ∷ [])) kind es same in
-    let there : fires q (kind_at q c.args.mark (c.place_of-place.result ∷ [])) es ≡ all = ap (λ (r : Place). fires q (kind_at q c.args.mark (r ∷ [])) es) c.place_of-place.ensures ∙ some in
+    let there : fires q (kind_at q c.args.mark (c.at-place.result ∷ [])) es ≡ all = ap (λ (r : Place). fires q (kind_at q c.args.mark (r ∷ [])) es) c.at-place.ensures ∙ some in
     let can : CanAdd p (vec_capacity c.args.rows.now) (vec_len c.args.rows.now) c.none-tally.result all =
     can_start p (vec_capacity c.args.rows.now) (vec_len c.args.rows.now) c.none-tally.result all c.none-tally.ensures (c.args.rows.now.ok.0 ∙ ap length c.requires.empty) c.requires.can.can in
     simp to_z-of_z (subst (λ fs. CanAdd p (vec_capacity c.args.rows.now) (vec_len c.args.rows.now) c.none-tally.result fs) (sym there) can)
@@ -84,9 +84,9 @@ returns-in-Some-clause-panes c =
     let place : Place = at c.args.key c.in-Some.window in
     let same = same_kinds q c.args.mark d (place ∷ []) es (subst (λ (s : Option Window). AllByRecursion (λ e. is_there e.0 d ≡ is_among (places_entered p.header.shape c.args.key c.args.time s) e.0) es) c.in-Some.is c.requires.can.entered) in
     let some : fires q (kind_at q c.args.mark (place ∷ [])) es ≡ all = fires_same (plan_of p) q (kind_at q c.args.mark (place ∷ [])) kind es same in
-    let there : fires q (kind_at q c.args.mark (c.place_of-place.result ∷ [])) es ≡ all = ap (λ (r : Place). fires q (kind_at q c.args.mark (r ∷ [])) es) c.place_of-place.ensures ∙ some in
+    let there : fires q (kind_at q c.args.mark (c.at-place.result ∷ [])) es ≡ all = ap (λ (r : Place). fires q (kind_at q c.args.mark (r ∷ [])) es) c.at-place.ensures ∙ some in
     simp to_z-of_z at c.fire_at.ensures.panes
-    ∙ ap (λ (r : Place). all_fired (plan_of p) q (kind_at q c.args.mark (r ∷ [])) es) c.place_of-place.ensures
+    ∙ ap (λ (r : Place). all_fired (plan_of p) q (kind_at q c.args.mark (r ∷ [])) es) c.at-place.ensures
     ∙ fired_same (plan_of p) q (kind_at q c.args.mark (place ∷ [])) kind es same
 
 pub returns-in-Some-clause-rows : goal.returns-in-Some-clause-rows
@@ -98,7 +98,7 @@ returns-in-Some-clause-rows c =
     let place : Place = at c.args.key c.in-Some.window in
     let same = same_kinds q c.args.mark d (place ∷ []) es (subst (λ (s : Option Window). AllByRecursion (λ e. is_there e.0 d ≡ is_among (places_entered p.header.shape c.args.key c.args.time s) e.0) es) c.in-Some.is c.requires.can.entered) in
     let some : fires q (kind_at q c.args.mark (place ∷ [])) es ≡ all = fires_same (plan_of p) q (kind_at q c.args.mark (place ∷ [])) kind es same in
-    let there : fires q (kind_at q c.args.mark (c.place_of-place.result ∷ [])) es ≡ all = ap (λ (r : Place). fires q (kind_at q c.args.mark (r ∷ [])) es) c.place_of-place.ensures ∙ some in
+    let there : fires q (kind_at q c.args.mark (c.at-place.result ∷ [])) es ≡ all = ap (λ (r : Place). fires q (kind_at q c.args.mark (r ∷ [])) es) c.at-place.ensures ∙ some in
     simp to_z-of_z at c.fire_at.ensures.rows ∙ (λ i. c.requires.empty i ++ rows_of p (there i))
 
 pub returns-in-Some-clause-tally : goal.returns-in-Some-clause-tally
@@ -110,7 +110,7 @@ returns-in-Some-clause-tally c =
     let place : Place = at c.args.key c.in-Some.window in
     let same = same_kinds q c.args.mark d (place ∷ []) es (subst (λ (s : Option Window). AllByRecursion (λ e. is_there e.0 d ≡ is_among (places_entered p.header.shape c.args.key c.args.time s) e.0) es) c.in-Some.is c.requires.can.entered) in
     let some : fires q (kind_at q c.args.mark (place ∷ [])) es ≡ all = fires_same (plan_of p) q (kind_at q c.args.mark (place ∷ [])) kind es same in
-    let there : fires q (kind_at q c.args.mark (c.place_of-place.result ∷ [])) es ≡ all = ap (λ (r : Place). fires q (kind_at q c.args.mark (r ∷ [])) es) c.place_of-place.ensures ∙ some in
+    let there : fires q (kind_at q c.args.mark (c.at-place.result ∷ [])) es ≡ all = ap (λ (r : Place). fires q (kind_at q c.args.mark (r ∷ [])) es) c.at-place.ensures ∙ some in
     simp to_z-of_z at c.fire_at.ensures.tally ∙ (λ i. tally_with p (c.none-tally.ensures i) (there i)) ∙ tally_all p all
 
 pub windows_of-windows-requires-clause-shape : goal.windows_of-windows-requires-clause-shape

@@ -59,7 +59,7 @@ fire_at-requires-clause-can c =
     subst (λ fs. ComesTo p room c.loop-window.tally c.loop-window.rows.items fs all)
     (ap (λ (ws : List Window). fires q (kind_at q mark (map (at c.args.key) ws)) now) c.in-Some.ensures.steps ∙ fires_in_turn (plan_of p) q mark place ps behind now sorted) c.loop-window.invariant.comes in
     let can : CanAdd p room (length c.loop-window.rows.items) c.loop-window.tally some = can_add p room c.loop-window.tally c.loop-window.rows.items some left all comes in
-    subst (λ (r : Place). CanAdd p (vec_capacity c.loop-window.rows) (vec_len c.loop-window.rows) c.loop-window.tally (fires q (kind_at q mark (r ∷ [])) now)) (sym c.place_of-place.ensures)
+    subst (λ (r : Place). CanAdd p (vec_capacity c.loop-window.rows) (vec_len c.loop-window.rows) c.loop-window.tally (fires q (kind_at q mark (r ∷ [])) now)) (sym c.at-place.ensures)
     (subst (λ (n : ℕ). CanAdd p (vec_capacity c.loop-window.rows) n c.loop-window.tally some) (sym c.loop-window.rows.ok.0)
     (subst (λ (n : ℕ). CanAdd p n (length c.loop-window.rows.items) c.loop-window.tally some) (sym c.loop-window.invariant.capacity) can))
 
@@ -79,11 +79,11 @@ loop-window-preserved c =
     subst (λ fs. ComesTo p room c.loop-window.tally c.loop-window.rows.items fs all)
     (ap (λ (ws : List Window). fires q (kind_at q mark (map (at c.args.key) ws)) now) c.in-Some.ensures.steps ∙ fires_in_turn (plan_of p) q mark place ps behind now sorted) c.loop-window.invariant.comes in
     let fired : entries_of c.fire_at.new.held ≡ all_fired (plan_of p) q (kind_at q mark (place ∷ [])) now =
-    c.fire_at.ensures.panes ∙ ap (λ (r : Place). all_fired (plan_of p) q (kind_at q mark (r ∷ [])) now) c.place_of-place.ensures in
+    c.fire_at.ensures.panes ∙ ap (λ (r : Place). all_fired (plan_of p) q (kind_at q mark (r ∷ [])) now) c.at-place.ensures in
     let tally : c.fire_at.new.tally ≡ tally_with p c.loop-window.tally some =
-    c.fire_at.ensures.tally ∙ ap (λ (r : Place). tally_with p c.loop-window.tally (fires q (kind_at q mark (r ∷ [])) now)) c.place_of-place.ensures in
+    c.fire_at.ensures.tally ∙ ap (λ (r : Place). tally_with p c.loop-window.tally (fires q (kind_at q mark (r ∷ [])) now)) c.at-place.ensures in
     let rows : c.fire_at.new.rows.items ≡ c.loop-window.rows.items ++ rows_of p some =
-    c.fire_at.ensures.rows ∙ ap (λ (r : Place). c.loop-window.rows.items ++ rows_of p (fires q (kind_at q mark (r ∷ [])) now)) c.place_of-place.ensures in
+    c.fire_at.ensures.rows ∙ ap (λ (r : Place). c.loop-window.rows.items ++ rows_of p (fires q (kind_at q mark (r ∷ [])) now)) c.at-place.ensures in
     record {
       order = order.1;
       panes =

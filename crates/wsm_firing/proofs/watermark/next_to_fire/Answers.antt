@@ -1,6 +1,4 @@
-use Rattle.std.proofs.Common.{◌≡◌, ◌+◌, ◌≤ℤ◌, None, Some, Option, List, true, false, true≢false, refl, sym, ap, ◌∙◌, ℤ, SFits, w64, rules, to_z-of_z, arith}
-use lib.Signed.{lt_z}
-use Rattle.std.proofs.lemmas.Int.{ints}
+use Rattle.std.proofs.Common.{◌≡◌, ◌+◌, ◌≤ℤ◌, None, Some, Option, List, true, false, true≢false, refl, sym, ap, ◌∙◌, ℤ, SFits, w64, rules, to_z-of_z}
 use Rattle.std.specs.Int.{int_max}
 use Rattle.std.specs.Prelude.{slice_get}
 use Rattle.std.specs.Option.{is_some}
@@ -11,12 +9,10 @@ use Rattle.std.specs.FinMap as map
 use Rattle.wsm_windows.specs.declared.place.Place.{Place}
 use Rattle.wsm_panes.specs.Held.{entries_of}
 use Rattle.wsm_panes.specs.Walk.{first_past, place_due, place_found}
+use Rattle.wsm_panes.proofs.Rings.{not_less_from}
 use Rattle.wsm_firing.proofs.Walk.{next_behind}
 use Rattle.wsm_firing.proofs.Jumps.{due_later, expires_before, goes_next, goes_past}
 use Rattle.wsm_firing.proofs.watermark.next_to_fire.Goals as goal
-
-not_less : (x y : ℤ) → lt_z x y ≡ false → y ≤ℤ x
-not_less x y h = grind (arith, ints)
 
 -- a place that is found by a limit is found by a later one
 still : (expired new : ℤ) (e : Option (Place × Pane (List Value))) (r : Option Spot) → expired ≤ℤ new → is_some r ≡ true → place_found r ≡ place_due expired e → place_found r ≡ place_due new e
@@ -53,7 +49,7 @@ returns c = λ i pane at.
     let new : SFits w64 c.args.new = c.ranges.new in
     let end : SFits w64 c.args.spot.place.end = search rules in
     let most : SFits w64 c.max.result = search rules in
-    let by : c.args.spot.place.end ≤ℤ c.args.expired = not_less _ _ (simp to_z-of_z at c.if-spot-expired.false) in
+    let by : c.args.spot.place.end ≤ℤ c.args.expired = not_less_from _ _ (simp to_z-of_z at c.if-spot-expired.false) in
     let max_is : c.max.result ≡ int_max c.args.old c.args.expired = simp to_z-of_z at c.max.ensures.value in
     let is : place_found c.next_due-next.result ≡ place_due c.args.expired (slice_get es (i + 1)) = (simp to_z-of_z at c.next_due-next.ensures) ∙ next_behind c.args.expired es i (c.args.spot.place, pane) sorted at in
     let none : place_due c.args.expired (slice_get es (i + 1)) ≡ None = sym is ∙ nothing c.next_due-next.result (sym c.is_some.ensures ∙ c.if-is_some.false) in

@@ -17,7 +17,7 @@ unwrap-pane-requires c =
     let p = at c.args.key c.in-Two.first in
     let r = at c.args.key c.in-Two.second in
     let two = two_entries _ p r (parts_at (taking [] []) gap c.args.key c.args.time m c.args.sessions.now.windows c.requires.agree (c.in-Two.first ∷ c.in-Two.second ∷ []) (ap those_linked (sym c.in-Two.is) ∙ simp to_z-of_z at c.linked.ensures)) in
-    subst IsSome (sym (c.get.ensures.pane ∙ ap (map.get m) c.place_of.ensures ∙ first_found gap (datum 0 c.args.key c.args.time []) m p r two.0 two.1.0 two.1.1)) refl
+    subst IsSome (sym (c.get.ensures.pane ∙ ap (map.get m) c.at.ensures ∙ first_found gap (datum 0 c.args.key c.args.time []) m p r two.0 two.1.0 two.1.1)) refl
 
 pub unwrap-other-requires : goal.unwrap-other-requires
 unwrap-other-requires c =
@@ -27,7 +27,7 @@ unwrap-other-requires c =
     let p = at c.args.key c.in-Two.first in
     let r = at c.args.key c.in-Two.second in
     let two = two_entries _ p r (parts_at (taking [] []) gap c.args.key c.args.time m c.args.sessions.now.windows c.requires.agree (c.in-Two.first ∷ c.in-Two.second ∷ []) (ap those_linked (sym c.in-Two.is) ∙ simp to_z-of_z at c.linked.ensures)) in
-    subst IsSome (sym (c.get-in-Two.ensures.pane ∙ ap (map.get m) c.place_of-in-Two.ensures ∙ second_in gap (datum 0 c.args.key c.args.time []) m p r two.0 two.1.0 two.1.1)) refl
+    subst IsSome (sym (c.get-in-Two.ensures.pane ∙ ap (map.get m) c.at-in-Two.ensures ∙ second_in gap (datum 0 c.args.key c.args.time []) m p r two.0 two.1.0 two.1.1)) refl
 
 pub returns-in-None-clause-pair : goal.returns-in-None-clause-pair
 returns-in-None-clause-pair c =
@@ -68,8 +68,8 @@ returns-in-Two-clause-pair c =
     let p = at c.args.key c.in-Two.first in
     let r = at c.args.key c.in-Two.second in
     let two = two_entries _ p r (parts_at (taking [] []) gap c.args.key c.args.time m c.args.sessions.now.windows c.requires.agree (c.in-Two.first ∷ c.in-Two.second ∷ []) (ap those_linked (sym c.in-Two.is) ∙ simp to_z-of_z at c.linked.ensures)) in
-    let first = some_is _ _ (sym c.unwrap-pane.ensures ∙ c.get.ensures.pane ∙ ap (map.get m) c.place_of.ensures ∙ first_found gap (datum 0 c.args.key c.args.time []) m p r two.0 two.1.0 two.1.1) in
-    let second = some_is _ _ (sym c.unwrap-other.ensures ∙ c.get-in-Two.ensures.pane ∙ ap (map.get m) c.place_of-in-Two.ensures ∙ second_in gap (datum 0 c.args.key c.args.time []) m p r two.0 two.1.0 two.1.1) in
+    let first = some_is _ _ (sym c.unwrap-pane.ensures ∙ c.get.ensures.pane ∙ ap (map.get m) c.at.ensures ∙ first_found gap (datum 0 c.args.key c.args.time []) m p r two.0 two.1.0 two.1.1) in
+    let second = some_is _ _ (sym c.unwrap-other.ensures ∙ c.get-in-Two.ensures.pane ∙ ap (map.get m) c.at-in-Two.ensures ∙ second_in gap (datum 0 c.args.key c.args.time []) m p r two.0 two.1.0 two.1.1) in
     (λ i. Some (first i, second i)) ∙ sym (ap first_two two.1.1)
 
 pub returns-in-Two-clause-few : goal.returns-in-Two-clause-few

@@ -18,14 +18,14 @@ pub put-requires-clause-admits : goal.put-requires-clause-admits
 put-requires-clause-admits c =
     let time : SFits w64 c.args.time = c.ranges.time in
     let plan = taking c.args.kinds.now c.args.values.now in
-    let puts : Puts plan c.args.sessions.now.gap c.args.key c.args.time c.args.table.now.panes c.args.sessions.now.windows c.requires.agree c.take_linked-pane.new.table.panes c.place_of.result c.take_linked-pane.result.0 c.with_one_more.result =
+    let puts : Puts plan c.args.sessions.now.gap c.args.key c.args.time c.args.table.now.panes c.args.sessions.now.windows c.requires.agree c.take_linked-pane.new.table.panes c.at.result c.take_linked-pane.result.0 c.with_one_more.result =
     record {
       left_is = simp to_z-of_z at c.take_linked-pane.ensures.panes;
-      place_is = c.place_of.ensures ∙ ap (at c.args.key) (simp to_z-of_z at c.enter-session.ensures.session);
+      place_is = c.at.ensures ∙ ap (at c.args.key) (simp to_z-of_z at c.enter-session.ensures.session);
       pane_is = simp to_z-of_z at c.take_linked-pane.ensures.pane c.args.values.now;
       value_is = c.with_one_more.ensures ∙ any_datum c.args.kinds.now c.args.values.now (datum 0 c.args.key c.args.time []) c.take_linked-pane.result.0;
     } in
-    rw c.take_linked-pane.ensures.room (merged_fits plan c.args.sessions.now.gap c.args.key c.args.time c.args.table.now.panes c.args.sessions.now.windows c.requires.agree c.take_linked-pane.new.table.panes c.place_of.result c.take_linked-pane.result.0 c.with_one_more.result puts c.args.table.now.room c.requires.room)
+    rw c.take_linked-pane.ensures.room (merged_fits plan c.args.sessions.now.gap c.args.key c.args.time c.args.table.now.panes c.args.sessions.now.windows c.requires.agree c.take_linked-pane.new.table.panes c.at.result c.take_linked-pane.result.0 c.with_one_more.result puts c.args.table.now.room c.requires.room)
 
 pub put-requires-clause-holds : goal.put-requires-clause-holds
 put-requires-clause-holds c =
@@ -38,14 +38,14 @@ pub returns-clause-panes : goal.returns-clause-panes
 returns-clause-panes c =
     let time : SFits w64 c.args.time = c.ranges.time in
     let plan = taking c.args.kinds.now c.args.values.now in
-    let puts : Puts plan c.args.sessions.now.gap c.args.key c.args.time c.args.table.now.panes c.args.sessions.now.windows c.requires.agree c.take_linked-pane.new.table.panes c.place_of.result c.take_linked-pane.result.0 c.with_one_more.result =
+    let puts : Puts plan c.args.sessions.now.gap c.args.key c.args.time c.args.table.now.panes c.args.sessions.now.windows c.requires.agree c.take_linked-pane.new.table.panes c.at.result c.take_linked-pane.result.0 c.with_one_more.result =
     record {
       left_is = simp to_z-of_z at c.take_linked-pane.ensures.panes;
-      place_is = c.place_of.ensures ∙ ap (at c.args.key) (simp to_z-of_z at c.enter-session.ensures.session);
+      place_is = c.at.ensures ∙ ap (at c.args.key) (simp to_z-of_z at c.enter-session.ensures.session);
       pane_is = simp to_z-of_z at c.take_linked-pane.ensures.pane c.args.values.now;
       value_is = c.with_one_more.ensures ∙ any_datum c.args.kinds.now c.args.values.now (datum 0 c.args.key c.args.time []) c.take_linked-pane.result.0;
     } in
-    ap map.entries c.put.ensures.panes ∙ merged_is plan c.args.sessions.now.gap c.args.key c.args.time c.args.table.now.panes c.args.sessions.now.windows c.requires.agree c.take_linked-pane.new.table.panes c.place_of.result c.take_linked-pane.result.0 c.with_one_more.result puts
+    ap map.entries c.put.ensures.panes ∙ merged_is plan c.args.sessions.now.gap c.args.key c.args.time c.args.table.now.panes c.args.sessions.now.windows c.requires.agree c.take_linked-pane.new.table.panes c.at.result c.take_linked-pane.result.0 c.with_one_more.result puts
 
 pub returns-clause-session : goal.returns-clause-session
 returns-clause-session c =
@@ -57,14 +57,14 @@ pub returns-clause-agree : goal.returns-clause-agree
 returns-clause-agree c =
     let time : SFits w64 c.args.time = c.ranges.time in
     let plan = taking c.args.kinds.now c.args.values.now in
-    let puts : Puts plan c.args.sessions.now.gap c.args.key c.args.time c.args.table.now.panes c.args.sessions.now.windows c.requires.agree c.take_linked-pane.new.table.panes c.place_of.result c.take_linked-pane.result.0 c.with_one_more.result =
+    let puts : Puts plan c.args.sessions.now.gap c.args.key c.args.time c.args.table.now.panes c.args.sessions.now.windows c.requires.agree c.take_linked-pane.new.table.panes c.at.result c.take_linked-pane.result.0 c.with_one_more.result =
     record {
       left_is = simp to_z-of_z at c.take_linked-pane.ensures.panes;
-      place_is = c.place_of.ensures ∙ ap (at c.args.key) (simp to_z-of_z at c.enter-session.ensures.session);
+      place_is = c.at.ensures ∙ ap (at c.args.key) (simp to_z-of_z at c.enter-session.ensures.session);
       pane_is = simp to_z-of_z at c.take_linked-pane.ensures.pane c.args.values.now;
       value_is = c.with_one_more.ensures ∙ any_datum c.args.kinds.now c.args.values.now (datum 0 c.args.key c.args.time []) c.take_linked-pane.result.0;
     } in
-    ap (windows_of_key c.args.key) (ap map.entries c.put.ensures.panes ∙ merged_is plan c.args.sessions.now.gap c.args.key c.args.time c.args.table.now.panes c.args.sessions.now.windows c.requires.agree c.take_linked-pane.new.table.panes c.place_of.result c.take_linked-pane.result.0 c.with_one_more.result puts)
+    ap (windows_of_key c.args.key) (ap map.entries c.put.ensures.panes ∙ merged_is plan c.args.sessions.now.gap c.args.key c.args.time c.args.table.now.panes c.args.sessions.now.windows c.requires.agree c.take_linked-pane.new.table.panes c.at.result c.take_linked-pane.result.0 c.with_one_more.result puts)
     ∙ merged_windows plan c.args.sessions.now.gap c.args.key c.args.time c.args.table.now.panes c.args.sessions.now.windows c.requires.agree c.requires.gap c.requires.times.0 c.requires.times.1
     ∙ sym (ap (λ s. s.windows) (simp to_z-of_z at c.enter-session.ensures.windows))
 
@@ -72,11 +72,11 @@ pub returns-clause-others : goal.returns-clause-others
 returns-clause-others c k other =
     let time : SFits w64 c.args.time = c.ranges.time in
     let plan = taking c.args.kinds.now c.args.values.now in
-    let puts : Puts plan c.args.sessions.now.gap c.args.key c.args.time c.args.table.now.panes c.args.sessions.now.windows c.requires.agree c.take_linked-pane.new.table.panes c.place_of.result c.take_linked-pane.result.0 c.with_one_more.result =
+    let puts : Puts plan c.args.sessions.now.gap c.args.key c.args.time c.args.table.now.panes c.args.sessions.now.windows c.requires.agree c.take_linked-pane.new.table.panes c.at.result c.take_linked-pane.result.0 c.with_one_more.result =
     record {
       left_is = simp to_z-of_z at c.take_linked-pane.ensures.panes;
-      place_is = c.place_of.ensures ∙ ap (at c.args.key) (simp to_z-of_z at c.enter-session.ensures.session);
+      place_is = c.at.ensures ∙ ap (at c.args.key) (simp to_z-of_z at c.enter-session.ensures.session);
       pane_is = simp to_z-of_z at c.take_linked-pane.ensures.pane c.args.values.now;
       value_is = c.with_one_more.ensures ∙ any_datum c.args.kinds.now c.args.values.now (datum 0 c.args.key c.args.time []) c.take_linked-pane.result.0;
     } in
-    ap (windows_of_key k) (ap map.entries c.put.ensures.panes ∙ merged_is plan c.args.sessions.now.gap c.args.key c.args.time c.args.table.now.panes c.args.sessions.now.windows c.requires.agree c.take_linked-pane.new.table.panes c.place_of.result c.take_linked-pane.result.0 c.with_one_more.result puts) ∙ merged_others plan c.args.sessions.now.gap c.args.key c.args.time c.args.table.now.panes c.args.sessions.now.windows c.requires.agree k other
+    ap (windows_of_key k) (ap map.entries c.put.ensures.panes ∙ merged_is plan c.args.sessions.now.gap c.args.key c.args.time c.args.table.now.panes c.args.sessions.now.windows c.requires.agree c.take_linked-pane.new.table.panes c.at.result c.take_linked-pane.result.0 c.with_one_more.result puts) ∙ merged_others plan c.args.sessions.now.gap c.args.key c.args.time c.args.table.now.panes c.args.sessions.now.windows c.requires.agree k other

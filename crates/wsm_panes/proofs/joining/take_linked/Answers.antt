@@ -41,7 +41,7 @@ take-requires c =
     let gap = c.args.sessions.now.gap in
     let m = c.args.table.now.panes in
     let one = one_entry _ (at c.args.key c.in-One.window) (parts_at (taking [] []) gap c.args.key c.args.time m c.args.sessions.now.windows c.requires.agree (c.in-One.window ∷ []) (ap those_linked (sym c.in-One.is) ∙ simp to_z-of_z at c.linked.ensures)) in
-    subst IsSome (sym (ap (map.get m) c.place_of.ensures ∙ one_found gap (datum 0 c.args.key c.args.time []) m (at c.args.key c.in-One.window) one.0 one.1)) refl
+    subst IsSome (sym (ap (map.get m) c.at.ensures ∙ one_found gap (datum 0 c.args.key c.args.time []) m (at c.args.key c.in-One.window) one.0 one.1)) refl
 
 pub returns-in-One-clause-panes : goal.returns-in-One-clause-panes
 returns-in-One-clause-panes c =
@@ -49,7 +49,7 @@ returns-in-One-clause-panes c =
     let gap = c.args.sessions.now.gap in
     let m = c.args.table.now.panes in
     let one = one_entry _ (at c.args.key c.in-One.window) (parts_at (taking [] []) gap c.args.key c.args.time m c.args.sessions.now.windows c.requires.agree (c.in-One.window ∷ []) (ap those_linked (sym c.in-One.is) ∙ simp to_z-of_z at c.linked.ensures)) in
-    c.take.ensures.panes ∙ ap (map.remove m) c.place_of.ensures ∙ one_left gap (datum 0 c.args.key c.args.time []) m (at c.args.key c.in-One.window) one.0 one.1
+    c.take.ensures.panes ∙ ap (map.remove m) c.at.ensures ∙ one_left gap (datum 0 c.args.key c.args.time []) m (at c.args.key c.in-One.window) one.0 one.1
 
 pub returns-in-One-clause-pane : goal.returns-in-One-clause-pane
 returns-in-One-clause-pane c values =
@@ -57,7 +57,7 @@ returns-in-One-clause-pane c values =
     let gap = c.args.sessions.now.gap in
     let m = c.args.table.now.panes in
     let one = one_entry _ (at c.args.key c.in-One.window) (parts_at (taking [] []) gap c.args.key c.args.time m c.args.sessions.now.windows c.requires.agree (c.in-One.window ∷ []) (ap those_linked (sym c.in-One.is) ∙ simp to_z-of_z at c.linked.ensures)) in
-    sym c.take.ensures.pane ∙ ap (map.get m) c.place_of.ensures ∙ one_found gap (datum 0 c.args.key c.args.time []) m (at c.args.key c.in-One.window) one.0 one.1 ∙ sym (ap (joined_all (taking c.args.kinds.now values)) one.1)
+    sym c.take.ensures.pane ∙ ap (map.get m) c.at.ensures ∙ one_found gap (datum 0 c.args.key c.args.time []) m (at c.args.key c.in-One.window) one.0 one.1 ∙ sym (ap (joined_all (taking c.args.kinds.now values)) one.1)
 
 pub returns-in-One-clause-takes : goal.returns-in-One-clause-takes
 returns-in-One-clause-takes c values can =
@@ -65,7 +65,7 @@ returns-in-One-clause-takes c values can =
     let gap = c.args.sessions.now.gap in
     let m = c.args.table.now.panes in
     let one = one_entry _ (at c.args.key c.in-One.window) (parts_at (taking [] []) gap c.args.key c.args.time m c.args.sessions.now.windows c.requires.agree (c.in-One.window ∷ []) (ap those_linked (sym c.in-One.is) ∙ simp to_z-of_z at c.linked.ensures)) in
-    let same = sym c.take.ensures.pane ∙ ap (map.get m) c.place_of.ensures ∙ one_found gap (datum 0 c.args.key c.args.time []) m (at c.args.key c.in-One.window) one.0 one.1 in
+    let same = sym c.take.ensures.pane ∙ ap (map.get m) c.at.ensures ∙ one_found gap (datum 0 c.args.key c.args.time []) m (at c.args.key c.in-One.window) one.0 one.1 in
     subst (λ o. IfSome o (CanRecord c.args.kinds.now values)) (sym same) (subst (CanJoinAll c.args.kinds.now values) one.1 can)
 
 pub returns-in-One-clause-joined : goal.returns-in-One-clause-joined
@@ -86,7 +86,7 @@ take-pane-requires c =
     let p = at c.args.key c.in-Two.first in
     let r = at c.args.key c.in-Two.second in
     let two = two_entries _ p r (parts_at (taking [] []) gap c.args.key c.args.time m c.args.sessions.now.windows c.requires.agree (c.in-Two.first ∷ c.in-Two.second ∷ []) (ap those_linked (sym c.in-Two.is) ∙ simp to_z-of_z at c.linked.ensures)) in
-    subst IsSome (sym (ap (map.get m) c.place_of-in-Two.ensures ∙ first_found gap (datum 0 c.args.key c.args.time []) m p r two.0 two.1.0 two.1.1)) refl
+    subst IsSome (sym (ap (map.get m) c.at-in-Two.ensures ∙ first_found gap (datum 0 c.args.key c.args.time []) m p r two.0 two.1.0 two.1.1)) refl
 
 pub take-other-requires : goal.take-other-requires
 take-other-requires c =
@@ -96,7 +96,7 @@ take-other-requires c =
     let p = at c.args.key c.in-Two.first in
     let r = at c.args.key c.in-Two.second in
     let two = two_entries _ p r (parts_at (taking [] []) gap c.args.key c.args.time m c.args.sessions.now.windows c.requires.agree (c.in-Two.first ∷ c.in-Two.second ∷ []) (ap those_linked (sym c.in-Two.is) ∙ simp to_z-of_z at c.linked.ensures)) in
-    subst IsSome (sym ((λ i. map.get ((c.take-pane.ensures.panes ∙ ap (map.remove m) c.place_of-in-Two.ensures) i) (c.place_of-in-Two-2.ensures i)) ∙ second_found gap (datum 0 c.args.key c.args.time []) m p r two.0 two.1.0 two.1.1)) refl
+    subst IsSome (sym ((λ i. map.get ((c.take-pane.ensures.panes ∙ ap (map.remove m) c.at-in-Two.ensures) i) (c.at-in-Two-2.ensures i)) ∙ second_found gap (datum 0 c.args.key c.args.time []) m p r two.0 two.1.0 two.1.1)) refl
 
 pub join-requires : goal.join-requires
 join-requires c =
@@ -106,8 +106,8 @@ join-requires c =
     let p = at c.args.key c.in-Two.first in
     let r = at c.args.key c.in-Two.second in
     let two = two_entries _ p r (parts_at (taking [] []) gap c.args.key c.args.time m c.args.sessions.now.windows c.requires.agree (c.in-Two.first ∷ c.in-Two.second ∷ []) (ap those_linked (sym c.in-Two.is) ∙ simp to_z-of_z at c.linked.ensures)) in
-    let first = same_Some _ _ (sym c.take-pane.ensures.pane ∙ ap (map.get m) c.place_of-in-Two.ensures ∙ first_found gap (datum 0 c.args.key c.args.time []) m p r two.0 two.1.0 two.1.1) in
-    let second = same_Some _ _ (sym c.take-other.ensures.pane ∙ (λ i. map.get ((c.take-pane.ensures.panes ∙ ap (map.remove m) c.place_of-in-Two.ensures) i) (c.place_of-in-Two-2.ensures i)) ∙ second_found gap (datum 0 c.args.key c.args.time []) m p r two.0 two.1.0 two.1.1) in
+    let first = same_Some _ _ (sym c.take-pane.ensures.pane ∙ ap (map.get m) c.at-in-Two.ensures ∙ first_found gap (datum 0 c.args.key c.args.time []) m p r two.0 two.1.0 two.1.1) in
+    let second = same_Some _ _ (sym c.take-other.ensures.pane ∙ (λ i. map.get ((c.take-pane.ensures.panes ∙ ap (map.remove m) c.at-in-Two.ensures) i) (c.at-in-Two-2.ensures i)) ∙ second_found gap (datum 0 c.args.key c.args.time []) m p r two.0 two.1.0 two.1.1) in
     let can = subst (CanJoinAll c.args.kinds.now c.requires.joins.0) two.1.1 c.requires.joins.1 in
     rw (first, second) can.0
 
@@ -119,8 +119,8 @@ returns-in-Two-clause-wide c =
     let p = at c.args.key c.in-Two.first in
     let r = at c.args.key c.in-Two.second in
     let two = two_entries _ p r (parts_at (taking [] []) gap c.args.key c.args.time m c.args.sessions.now.windows c.requires.agree (c.in-Two.first ∷ c.in-Two.second ∷ []) (ap those_linked (sym c.in-Two.is) ∙ simp to_z-of_z at c.linked.ensures)) in
-    let first = same_Some _ _ (sym c.take-pane.ensures.pane ∙ ap (map.get m) c.place_of-in-Two.ensures ∙ first_found gap (datum 0 c.args.key c.args.time []) m p r two.0 two.1.0 two.1.1) in
-    let second = same_Some _ _ (sym c.take-other.ensures.pane ∙ (λ i. map.get ((c.take-pane.ensures.panes ∙ ap (map.remove m) c.place_of-in-Two.ensures) i) (c.place_of-in-Two-2.ensures i)) ∙ second_found gap (datum 0 c.args.key c.args.time []) m p r two.0 two.1.0 two.1.1) in
+    let first = same_Some _ _ (sym c.take-pane.ensures.pane ∙ ap (map.get m) c.at-in-Two.ensures ∙ first_found gap (datum 0 c.args.key c.args.time []) m p r two.0 two.1.0 two.1.1) in
+    let second = same_Some _ _ (sym c.take-other.ensures.pane ∙ (λ i. map.get ((c.take-pane.ensures.panes ∙ ap (map.remove m) c.at-in-Two.ensures) i) (c.at-in-Two-2.ensures i)) ∙ second_found gap (datum 0 c.args.key c.args.time []) m p r two.0 two.1.0 two.1.1) in
     let can = subst (CanJoinAll c.args.kinds.now c.requires.joins.0) two.1.1 c.requires.joins.1 in
     let both : CanJoin c.args.kinds.now c.take-pane.result c.take-other.result = rw (first, second) can.0 in
     let other = rw c.take-pane.ensures.widths at c.take-other.ensures.wide in
@@ -134,7 +134,7 @@ returns-in-Two-clause-panes c =
     let p = at c.args.key c.in-Two.first in
     let r = at c.args.key c.in-Two.second in
     let two = two_entries _ p r (parts_at (taking [] []) gap c.args.key c.args.time m c.args.sessions.now.windows c.requires.agree (c.in-Two.first ∷ c.in-Two.second ∷ []) (ap those_linked (sym c.in-Two.is) ∙ simp to_z-of_z at c.linked.ensures)) in
-    c.take-other.ensures.panes ∙ (λ i. map.remove ((c.take-pane.ensures.panes ∙ ap (map.remove m) c.place_of-in-Two.ensures) i) (c.place_of-in-Two-2.ensures i)) ∙ both_left gap (datum 0 c.args.key c.args.time []) m p r two.0 two.1.0 two.1.1
+    c.take-other.ensures.panes ∙ (λ i. map.remove ((c.take-pane.ensures.panes ∙ ap (map.remove m) c.at-in-Two.ensures) i) (c.at-in-Two-2.ensures i)) ∙ both_left gap (datum 0 c.args.key c.args.time []) m p r two.0 two.1.0 two.1.1
 
 pub returns-in-Two-clause-pane : goal.returns-in-Two-clause-pane
 returns-in-Two-clause-pane c values =
@@ -144,8 +144,8 @@ returns-in-Two-clause-pane c values =
     let p = at c.args.key c.in-Two.first in
     let r = at c.args.key c.in-Two.second in
     let two = two_entries _ p r (parts_at (taking [] []) gap c.args.key c.args.time m c.args.sessions.now.windows c.requires.agree (c.in-Two.first ∷ c.in-Two.second ∷ []) (ap those_linked (sym c.in-Two.is) ∙ simp to_z-of_z at c.linked.ensures)) in
-    let first = same_Some _ _ (sym c.take-pane.ensures.pane ∙ ap (map.get m) c.place_of-in-Two.ensures ∙ first_found gap (datum 0 c.args.key c.args.time []) m p r two.0 two.1.0 two.1.1) in
-    let second = same_Some _ _ (sym c.take-other.ensures.pane ∙ (λ i. map.get ((c.take-pane.ensures.panes ∙ ap (map.remove m) c.place_of-in-Two.ensures) i) (c.place_of-in-Two-2.ensures i)) ∙ second_found gap (datum 0 c.args.key c.args.time []) m p r two.0 two.1.0 two.1.1) in
+    let first = same_Some _ _ (sym c.take-pane.ensures.pane ∙ ap (map.get m) c.at-in-Two.ensures ∙ first_found gap (datum 0 c.args.key c.args.time []) m p r two.0 two.1.0 two.1.1) in
+    let second = same_Some _ _ (sym c.take-other.ensures.pane ∙ (λ i. map.get ((c.take-pane.ensures.panes ∙ ap (map.remove m) c.at-in-Two.ensures) i) (c.at-in-Two-2.ensures i)) ∙ second_found gap (datum 0 c.args.key c.args.time []) m p r two.0 two.1.0 two.1.1) in
     ap Some (c.join.ensures values ∙ λ i. joined (taking c.args.kinds.now values) (first i) (second i)) ∙ sym (ap (joined_all (taking c.args.kinds.now values)) two.1.1)
 
 pub returns-in-Two-clause-takes : goal.returns-in-Two-clause-takes
@@ -156,8 +156,8 @@ returns-in-Two-clause-takes c values can =
     let p = at c.args.key c.in-Two.first in
     let r = at c.args.key c.in-Two.second in
     let two = two_entries _ p r (parts_at (taking [] []) gap c.args.key c.args.time m c.args.sessions.now.windows c.requires.agree (c.in-Two.first ∷ c.in-Two.second ∷ []) (ap those_linked (sym c.in-Two.is) ∙ simp to_z-of_z at c.linked.ensures)) in
-    let first = same_Some _ _ (sym c.take-pane.ensures.pane ∙ ap (map.get m) c.place_of-in-Two.ensures ∙ first_found gap (datum 0 c.args.key c.args.time []) m p r two.0 two.1.0 two.1.1) in
-    let second = same_Some _ _ (sym c.take-other.ensures.pane ∙ (λ i. map.get ((c.take-pane.ensures.panes ∙ ap (map.remove m) c.place_of-in-Two.ensures) i) (c.place_of-in-Two-2.ensures i)) ∙ second_found gap (datum 0 c.args.key c.args.time []) m p r two.0 two.1.0 two.1.1) in
+    let first = same_Some _ _ (sym c.take-pane.ensures.pane ∙ ap (map.get m) c.at-in-Two.ensures ∙ first_found gap (datum 0 c.args.key c.args.time []) m p r two.0 two.1.0 two.1.1) in
+    let second = same_Some _ _ (sym c.take-other.ensures.pane ∙ (λ i. map.get ((c.take-pane.ensures.panes ∙ ap (map.remove m) c.at-in-Two.ensures) i) (c.at-in-Two-2.ensures i)) ∙ second_found gap (datum 0 c.args.key c.args.time []) m p r two.0 two.1.0 two.1.1) in
     subst (CanRecord c.args.kinds.now values) (sym (c.join.ensures values ∙ λ i. joined (taking c.args.kinds.now values) (first i) (second i))) (subst (CanJoinAll c.args.kinds.now values) two.1.1 can).1
 
 pub returns-in-Two-clause-joined : goal.returns-in-Two-clause-joined
