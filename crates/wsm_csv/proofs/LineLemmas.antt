@@ -1,7 +1,7 @@
 -- Lines, cell by cell.
 use Rattle.std.proofs.Common.{◌≡◌, ℕ, zero, suc, ◌+◌, ◌-◌, ◌<◌, true, subst, length, length-drop, get_or, map, List, [], ◌∷◌, ◌++◌, take, drop, refl, sym, ap, ◌∙◌, append_assoc, append-nil}
 use Rattle.std.proofs.Math.Seq.{take-length}
-use Rattle.std.specs.Prelude.{OnOk, Result, Ok, Err}
+use Rattle.std.specs.Prelude.{OnOk, Result, Ok, Err, is_ok, if◌then◌else◌}
 use Rattle.std.specs.List.{list_all}
 use Rattle.std.specs.Fmt.{signed_decimal}
 use Rattle.wsm_record.specs.declared.cell.Cell.{Cell}
@@ -50,6 +50,17 @@ cells_text-behind old mid line front back cells e h k =
 -- what stands behind some, as a slice has it
 pub take_behind : {X : Type 0} (n : ℕ) (xs : List X) → take (length xs - n) (drop n xs) ≡ drop n xs
 take_behind n xs = subst (λ (m : ℕ). take m (drop n xs) ≡ drop n xs) (length-drop n xs) (take-length (drop n xs))
+
+-- a line that was written from its end on
+pub line_from_end : (first name start end : List ℕ) (numbers : List (List ℕ)) (from_numbers from_end from_start from_name line : List ℕ)
+    → from_numbers ≡ cells_text numbers ++ 10 ∷ [] → from_end ≡ 44 ∷ (end ++ from_numbers) → from_start ≡ 44 ∷ (start ++ from_end) → from_name ≡ name ++ from_start → line ≡ first ++ from_name
+    → line ≡ first ++ (name ++ (cells_text (start ∷ end ∷ numbers) ++ 10 ∷ []))
+line_from_end first name start end numbers from_numbers from_end from_start from_name line e f g h k = rw (k, h, g, f, e) (simp append_assoc)
+
+-- what a call adds where it succeeds
+pub appended : {T E : Type 0} (r : Result T E) (old new part line : List ℕ) → new ≡ (if is_ok r then old ++ part else old) → part ≡ line → OnOk r (new ≡ old ++ line)
+appended (Ok t) old new part line e f = e ∙ ap (λ text. old ++ text) f
+appended (Err x) old new part line e f = tt
 
 -- one number more
 pub numbers_more : (cs : List Cell) (i : ℕ) (c : Cell) → i < length cs → c ≡ get_or cs i c → list_all is_a_number (take i cs) ≡ true → is_a_number c ≡ true → list_all is_a_number (take (i + 1) cs) ≡ true
