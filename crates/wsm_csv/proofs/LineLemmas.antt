@@ -1,6 +1,6 @@
 -- Lines, cell by cell.
 use Rattle.std.proofs.Common.{◌≡◌, ℕ, zero, suc, ◌+◌, ◌-◌, ◌<◌, true, subst, length, length-drop, get_or, map, List, [], ◌∷◌, ◌++◌, take, drop, refl, sym, ap, ◌∙◌, append_assoc, append-nil}
-use Rattle.std.proofs.Math.Seq.{take-length}
+use Rattle.std.proofs.Math.Seq.{drop-length, take-length}
 use Rattle.std.specs.Prelude.{OnOk, Result, Ok, Err, is_ok, if◌then◌else◌}
 use Rattle.std.specs.List.{list_all}
 use Rattle.std.specs.Fmt.{signed_decimal}
@@ -29,6 +29,10 @@ joined-split old line cell front back e =
 pub joined-word : (old line : List ℕ) (word : List ℕ) (cells : List (List ℕ)) → line ≡ old ++ (word ++ cells_text cells) → line ≡ old ++ joined (word ∷ cells)
 joined-word old line word cells e = e ∙ ap (λ t. old ++ t) (sym (joined-cells word cells))
 
+-- a line, from its first cells with a comma behind, a name and the other cells
+pub joined-line : (tag kind name : List ℕ) (cells : List (List ℕ)) → (tag ++ 44 ∷ kind ++ 44 ∷ []) ++ (name ++ (cells_text cells ++ 10 ∷ [])) ≡ joined (tag ∷ kind ∷ name ∷ cells) ++ 10 ∷ []
+joined-line tag kind name cells = rw (joined-cells tag (kind ∷ name ∷ cells)) (simp append_assoc)
+
 -- a fact on success, led on to another
 pub on_ok : {T E : Type 0} (r : Result T E) (P Q : Type 0) → (P → Q) → OnOk r P → OnOk r Q
 on_ok (Ok t) P Q f h = f h
@@ -41,6 +45,10 @@ cell_texts-split s [] (suc n) h = refl
 cell_texts-split s (Int k ∷ cs) (suc n) h = ap (λ cells. signed_decimal k ∷ cells) (cell_texts-split s cs n h)
 cell_texts-split s (Truth b ∷ cs) (suc n) h = cc
 cell_texts-split s (Enum e i ∷ cs) (suc n) h = cc
+
+-- the cells of columns that are all numbers
+pub number_texts : (s : Declared) (cs : List Cell) → list_all is_a_number cs ≡ true → map number_text cs ≡ map (cell_text s) cs
+number_texts s cs h = sym (rw (take-length, drop-length, append-nil) at (cell_texts-split s cs (length cs) (rw take-length h)))
 
 -- cells behind those that were added
 pub cells_text-behind : (old mid line : List ℕ) (front back cells : List (List ℕ)) → cells ≡ front ++ back → mid ≡ old ++ cells_text front → line ≡ mid ++ cells_text back → line ≡ old ++ cells_text cells
