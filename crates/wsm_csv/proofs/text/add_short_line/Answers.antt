@@ -14,10 +14,10 @@ returns c =
     let end = c.write_cell-end in
     let start = c.write_cell-start in
     let key = c.write_text-key in
-    let first = c.write_text-first in
+    let first = c.write_first-first in
     let front = codes "pane" ++ 44 ∷ kind_word c.args.kind ++ 44 ∷ [] in
     let written = line_from_end front c.args.name.now (signed_decimal c.args.window.start) (signed_decimal c.args.window.end) (map number_text c.args.numbers.now)
     (drop numbers.result numbers.new.cells) (drop end.result end.new.cells) (drop start.result start.new.cells) (drop key.result key.new.cells) (drop first.result first.new.cells)
-    numbers.ensures.written (simp to_z-of_z at end.ensures.written) (simp to_z-of_z at start.ensures.written) key.ensures.written (rw c.first_cells.ensures.first at first.ensures.written) in
+    numbers.ensures.written (simp to_z-of_z at end.ensures.written) (simp to_z-of_z at start.ensures.written) key.ensures.written first.ensures.written in
     let long : length first.new.cells ≤ 172 = omega (arith, numbers.auto.cells, end.auto.cells, start.auto.cells, key.auto.cells, first.auto.cells) in
     appended c.extend_from_slice.result c.args.out.now.items c.extend_from_slice.new.self.items _ _ c.extend_from_slice.ensures.items (rw (between_to_end first.new.cells first.result 172 long) written)
