@@ -1,7 +1,7 @@
 -- Lines, cell by cell.
 use Rattle.std.proofs.Common.{◌≡◌, ℕ, zero, suc, ◌+◌, ◌-◌, ◌<◌, true, subst, length, length-drop, get_or, map, List, [], ◌∷◌, ◌++◌, take, drop, refl, sym, ap, ◌∙◌, append_assoc, append-nil}
-use Rattle.std.proofs.Math.Seq.{take-length}
-use Rattle.std.specs.Prelude.{OnOk, Result, Ok, Err}
+use Rattle.std.proofs.Math.Seq.{drop-length, take-length}
+use Rattle.std.specs.Prelude.{OnOk, Result, Ok, Err, is_ok, if◌then◌else◌}
 use Rattle.std.specs.List.{list_all}
 use Rattle.std.specs.Fmt.{signed_decimal}
 use Rattle.wsm_record.specs.declared.cell.Cell.{Cell}
@@ -29,6 +29,10 @@ joined-split old line cell front back e =
 pub joined-word : (old line : List ℕ) (word : List ℕ) (cells : List (List ℕ)) → line ≡ old ++ (word ++ cells_text cells) → line ≡ old ++ joined (word ∷ cells)
 joined-word old line word cells e = e ∙ ap (λ t. old ++ t) (sym (joined-cells word cells))
 
+-- a line, from its first cells with a comma behind, a name and the other cells
+pub joined-line : (tag kind name : List ℕ) (cells : List (List ℕ)) → (tag ++ 44 ∷ kind ++ 44 ∷ []) ++ (name ++ (cells_text cells ++ 10 ∷ [])) ≡ joined (tag ∷ kind ∷ name ∷ cells) ++ 10 ∷ []
+joined-line tag kind name cells = rw (joined-cells tag (kind ∷ name ∷ cells)) (simp append_assoc)
+
 -- a fact on success, led on to another
 pub on_ok : {T E : Type 0} (r : Result T E) (P Q : Type 0) → (P → Q) → OnOk r P → OnOk r Q
 on_ok (Ok t) P Q f h = f h
@@ -42,6 +46,10 @@ cell_texts-split s (Int k ∷ cs) (suc n) h = ap (λ cells. signed_decimal k ∷
 cell_texts-split s (Truth b ∷ cs) (suc n) h = cc
 cell_texts-split s (Enum e i ∷ cs) (suc n) h = cc
 
+-- the cells of columns that are all numbers
+pub number_texts : (s : Declared) (cs : List Cell) → list_all is_a_number cs ≡ true → map number_text cs ≡ map (cell_text s) cs
+number_texts s cs h = sym (rw (take-length, drop-length, append-nil) at (cell_texts-split s cs (length cs) (rw take-length h)))
+
 -- cells behind those that were added
 pub cells_text-behind : (old mid line : List ℕ) (front back cells : List (List ℕ)) → cells ≡ front ++ back → mid ≡ old ++ cells_text front → line ≡ mid ++ cells_text back → line ≡ old ++ cells_text cells
 cells_text-behind old mid line front back cells e h k =
@@ -50,6 +58,17 @@ cells_text-behind old mid line front back cells e h k =
 -- what stands behind some, as a slice has it
 pub take_behind : {X : Type 0} (n : ℕ) (xs : List X) → take (length xs - n) (drop n xs) ≡ drop n xs
 take_behind n xs = subst (λ (m : ℕ). take m (drop n xs) ≡ drop n xs) (length-drop n xs) (take-length (drop n xs))
+
+-- a line that was written from its end on
+pub line_from_end : (first name start end : List ℕ) (numbers : List (List ℕ)) (from_numbers from_end from_start from_name line : List ℕ)
+    → from_numbers ≡ cells_text numbers ++ 10 ∷ [] → from_end ≡ 44 ∷ (end ++ from_numbers) → from_start ≡ 44 ∷ (start ++ from_end) → from_name ≡ name ++ from_start → line ≡ first ++ from_name
+    → line ≡ first ++ (name ++ (cells_text (start ∷ end ∷ numbers) ++ 10 ∷ []))
+line_from_end first name start end numbers from_numbers from_end from_start from_name line e f g h k = rw (k, h, g, f, e) (simp append_assoc)
+
+-- what a call adds where it succeeds
+pub appended : {T E : Type 0} (r : Result T E) (old new part line : List ℕ) → new ≡ (if is_ok r then old ++ part else old) → part ≡ line → OnOk r (new ≡ old ++ line)
+appended (Ok t) old new part line e f = e ∙ ap (λ text. old ++ text) f
+appended (Err x) old new part line e f = tt
 
 -- one number more
 pub numbers_more : (cs : List Cell) (i : ℕ) (c : Cell) → i < length cs → c ≡ get_or cs i c → list_all is_a_number (take i cs) ≡ true → is_a_number c ≡ true → list_all is_a_number (take (i + 1) cs) ≡ true

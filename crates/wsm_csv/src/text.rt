@@ -101,7 +101,7 @@ fn add_short_line(
     let end = write_cell(window.end, &mut line, columns);
     let start = write_cell(window.start, &mut line, end);
     let key = write_text(name, &mut line, start);
-    let first = write_text(first_cells(kind), &mut line, key);
+    let first = write_first(kind, &mut line, key);
     out.extend_from_slice(&line[first..])
 }
 
@@ -129,7 +129,9 @@ fn add_row(schema: &Schema, row: &OutRow, out: &mut Vec<u8>) -> Result<(), Alloc
 fn add_pane(schema: &Schema, kind: PaneKind, key: u16, out: &mut Vec<u8>) -> Result<(), AllocError>
     ensures { OnOk result (out.new.items ≡ out.old.items ++ (codes "pane" ++ cells_text (text.kind_word kind ∷ text.name_at schema.now.keys key ∷ []))) }
 {
-    out.extend_from_slice(first_cells(kind))?;
+    let mut first = [0; FIRST];
+    let start = write_first(kind, &mut first, FIRST);
+    out.extend_from_slice(&first[start..])?;
     out.extend_from_slice(name_text(Some(schema.keys()), key))
 }
 
@@ -279,6 +281,7 @@ fn add_number(number: i64, out: &mut Vec<u8>) -> Result<(), AllocError>
 }
 
 // Writes a comma and a number so that they end at a place, and tells where they begin.
+#[inline(always)]
 fn write_cell(number: i64, cells: &mut [u8], end: usize) -> usize
     requires room { CELL ≤ end }
     requires within { end ≤ length cells.old }
@@ -305,6 +308,23 @@ fn write_number(number: i64, cells: &mut [u8], end: usize) -> usize
     }
     cells[start - 1] = b'-';
     start - 1
+}
+
+// Writes the first cells of the row of a pane that fires so, and a comma, so that they end at a
+// place, and tells where they begin. Each text has a length of its own that the compiler knows.
+#[inline(always)]
+fn write_first(kind: PaneKind, cells: &mut [u8], end: usize) -> usize
+    requires room { FIRST ≤ end }
+    requires within { end ≤ length cells.old }
+    ensures begins { result ≤ end }
+    ensures written { drop result cells.new ≡ (codes "pane" ++ 44 ∷ text.kind_word kind ++ 44 ∷ []) ++ drop end cells.old }
+{
+    match kind {
+        PaneKind::Early => write_text(b"pane,early,", cells, end),
+        PaneKind::OnTime => write_text(b"pane,on_time,", cells, end),
+        PaneKind::Late => write_text(b"pane,late,", cells, end),
+        PaneKind::Final => write_text(b"pane,final,", cells, end),
+    }
 }
 
 // Writes a text so that it ends at a place, and tells where it begins.
@@ -348,19 +368,6 @@ fn name_text<'a>(names: Option<&'a Names>, number: u16) -> &'a [u8]
     match names {
         Some(names) if (number as usize) < names.len() => names.text_of(number),
         _ => b"",
-    }
-}
-
-// The first cells of the row of a pane that fires so, and a comma.
-fn first_cells(kind: PaneKind) -> &'static [u8]
-    ensures first { result.now ≡ codes "pane" ++ 44 ∷ text.kind_word kind ++ 44 ∷ [] }
-    ensures few { length result.now ≤ FIRST }
-{
-    match kind {
-        PaneKind::Early => b"pane,early,",
-        PaneKind::OnTime => b"pane,on_time,",
-        PaneKind::Late => b"pane,late,",
-        PaneKind::Final => b"pane,final,",
     }
 }
 
