@@ -1,6 +1,6 @@
 //! What sections read, and what they end with.
 
-ghost use Rattle.std.specs.Prelude.{◌≡◌, ◌∷◌, ◌≤◌, length, map, reverse, suc, IfOk};
+ghost use Rattle.std.specs.Prelude.{◌≡◌, ◌∷◌, ◌<◌, ◌≤◌, length, map, reverse, suc, IfOk};
 ghost use Rattle.wsm_record.specs.declared.limits.TheConstants.{MAX_FIELDS};
 ghost use Rattle.wsm_record.specs.Fields.{field_seen, type_seen};
 ghost use Rattle.wsm_verifier.specs.Rules as rules;
