@@ -1,7 +1,7 @@
 -- FIRE run on a pane's numbers gives the columns and the instructions of its firing.
-use Rattle.std.proofs.Common.{◌≡◌, ℕ, ◌<◌, ◌^◌, Bool, cond, List, [], ◌∷◌, reverse, Option, Some, None, pos, sym, ap, ◌∙◌, SFits, w64, to_z, arith}
+use Rattle.std.proofs.Common.{◌≡◌, ℕ, ◌<◌, ◌^◌, Bool, true, false, cond, List, [], ◌∷◌, reverse, Option, Some, None, pos, sym, ap, subst, ◌∙◌, SFits, w64, to_z, arith}
 use Rattle.std.proofs.lemmas.Int.{ints, to_z_pos}
-use Rattle.std.specs.Prelude.{option_map}
+use Rattle.std.specs.Prelude.{IfSome, option_map}
 use Rattle.std.specs.Option.{option_and_then}
 use Rattle.wsm_record.specs.declared.event.Value.{Value}
 use Rattle.wsm_record.specs.declared.cell.Cell.{Cell}
@@ -13,6 +13,7 @@ use Rattle.wsm_machine.specs.declared.outcome.Outcome.TheVariants.{Done}
 use Rattle.wsm_machine.specs.Inputs.{Inputs}
 use Rattle.wsm_machine.specs.Run.{run}
 use Rattle.wsm_machine.specs.Meaning.{pane_inputs, row, plan_of, fire_steps}
+use Rattle.wsm_panes.proofs.Written.{if_mapped}
 use Rattle.wsm_machine.proofs.Telling.{row_is}
 
 -- what an option that is read holds
@@ -20,6 +21,14 @@ pub read : {A B : Type 0} (f : A → B) (o : Option A) (x : A) (y : B) (p : Opti
 read {A} {B} f o x y p is maps there =
     let value : Option B → B = λ o. elim o [ None ↦ y | Some z ↦ z ] in
     ap value (ap (option_map f) (sym is) ∙ maps ∙ there)
+
+if_some : (P : List Cell → Type 0) (b : Bool) (cells : List Cell) → P cells → IfSome (cond b (Some cells) None) P
+if_some P true cells h = h
+if_some P false cells h = tt
+
+-- what holds of a row's cells holds of them where the row is written
+pub if_row : {A : Type 0} (f : A → List Cell) (P : List Cell → Type 0) (b : Bool) (cells : List Cell) (o : Option A) → option_map f o ≡ cond b (Some cells) None → P cells → IfSome o (λ x. P (f x))
+if_row f P b cells o is h = if_mapped f P o (subst (λ (r : Option (List Cell)). IfSome r P) (sym is) (if_some P b cells h))
 
 pub same_inputs : (key n m : ℕ) (accs held : List Value) → m ≡ n → accs ≡ held → SFits w64 (pos n) →
     (let i : Inputs = record { key = key; values = []; count = to_z w64 m; accs = accs } in i) ≡ pane_inputs key n held

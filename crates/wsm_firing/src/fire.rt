@@ -1,9 +1,10 @@
 //! One firing.
 
-ghost use Rattle.std.specs.Prelude.{◌≡◌, ◌<◌, ◌++◌, [], ◌∷◌, List, Some, IsSome, option_map, vec_capacity, vec_len, length};
+ghost use Rattle.std.specs.Prelude.{◌≡◌, ◌<◌, ◌≤◌, ◌++◌, [], ◌∷◌, List, Some, IfSome, IsSome, option_map, vec_capacity, vec_len, length};
 ghost use Rattle.std.specs.FinMap.Entries.{find, put};
 ghost use Rattle.std.specs.List.{cons_option};
 ghost use Rattle.wsm_record.specs.declared.event.Value.{Value};
+ghost use Rattle.wsm_record.specs.declared.limits.TheConstants.{MAX_COLUMNS};
 ghost use Rattle.wsm_windows.specs.Places.{place_cmp, window_of};
 ghost use Rattle.wsm_semantics.specs.declared.out_row.OutRow.TheVariants.{Pane as PaneRow};
 ghost use Rattle.wsm_semantics.specs.Steps.{chosen_rows};
@@ -20,7 +21,7 @@ use crate::streams::Streams;
 use crate::tally::Tally;
 use wsm_machine::Machine;
 use wsm_panes::{HeldPanes, Spot};
-use wsm_record::{Columns, Form};
+use wsm_record::{Cell, Columns, Form};
 use wsm_semantics::OutRow;
 use wsm_verifier::Verified;
 use wsm_windows::{PaneKind, Window};
@@ -35,7 +36,7 @@ pub struct Due {
 }
 
 /// Fires a pane that is held. Its columns stand for it, of which the streams are told, and are written
-/// where rows are those of panes. The row is left as this firing's, in the room of the last one's.
+/// where rows are those of panes.
 #[inline(always)]
 pub fn fire(
     verified: &Verified,
@@ -44,7 +45,6 @@ pub fn fire(
     streams: &mut Streams,
     rows: &mut Vec<OutRow>,
     tally: &mut Tally,
-    row: &mut Option<Columns>,
     due: Due,
 )
     requires wide { held.old.widths.columns ≡ length verified.now.header.columns }
@@ -60,32 +60,23 @@ pub fn fire(
 {
     let header = verified.program().header();
     let pane = held.pane(due.spot);
-    clear(row);
-    let steps = run(verified, machine, due, &pane, row);
+    let ran = run(verified, machine, due, &pane);
     streams.lose(&pane);
-    held.fire_at(due.spot, header.mode, row);
-    streams.gain(row);
-    tally.count(steps);
-    write(header.form, rows, due, row);
-}
-
-// Has a row no columns yet. Where there is one already, only the places in use are cleared.
-fn clear(row: &mut Option<Columns>)
-    ensures { row.new ≡ Some [] }
-{
-    match row {
-        Some(columns) => columns.clear(),
-        None => *row = Some(Columns::new()),
-    }
+    held.fire_at(due.spot, header.mode, ran.row);
+    streams.gain(ran.row);
+    tally.count(ran.steps);
+    write(header.form, rows, due, ran.row);
 }
 
 // Writes the row of a firing, where HAVING is true and rows are those of panes.
-fn write(form: Form, rows: &mut Vec<OutRow>, due: Due, row: &Option<Columns>)
-    requires { vec_len rows.old < vec_capacity rows.old }
-    ensures rows { rows.new.items ≡ rows.old.items ++ chosen_rows form (cons_option (option_map (PaneRow due.kind due.spot.place.key (window_of due.spot.place)) row.now) []) [] }
+#[inline(always)]
+fn write(form: Form, rows: &mut Vec<OutRow>, due: Due, row: Option<&[Cell]>)
+    requires room { vec_len rows.old < vec_capacity rows.old }
+    requires few { IfSome row (λ cells. length cells.now ≤ MAX_COLUMNS) }
+    ensures rows { rows.new.items ≡ rows.old.items ++ chosen_rows form (cons_option (option_map (PaneRow due.kind due.spot.place.key (window_of due.spot.place)) (option_map (λ cells. cells.now) row.entry)) []) [] }
     ensures capacity { vec_capacity rows.new ≡ vec_capacity rows.old }
 {
-    if let (Form::Panes, Some(columns)) = (form, row) {
+    if let (Form::Panes, Some(cells)) = (form, row) {
         let place = due.spot.place;
         rows.push_reserved(OutRow::Pane {
             kind: due.kind,
@@ -94,7 +85,7 @@ fn write(form: Form, rows: &mut Vec<OutRow>, due: Due, row: &Option<Columns>)
                 start: place.start,
                 end: place.end,
             },
-            columns: *columns,
+            columns: Columns::of(cells),
         });
     }
 }

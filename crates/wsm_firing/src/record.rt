@@ -131,7 +131,6 @@ fn fire_at(
             streams,
             rows,
             tally,
-            &mut None,
             Due { kind, spot },
         );
     }

@@ -1,6 +1,6 @@
 //! FIRE run on a pane.
 
-ghost use Rattle.std.specs.Prelude.{◌≡◌, ◌≤◌, [], None, Some, if◌then◌else◌, length, IfSome};
+ghost use Rattle.std.specs.Prelude.{◌≡◌, ◌≤◌, None, Some, if◌then◌else◌, length, option_map, IfSome};
 ghost use Rattle.wsm_record.specs.declared.limits.TheConstants.{MAX_COLUMNS};
 ghost use Rattle.wsm_semantics.specs.Summaries.{columns as columns_by, fired_count as fired_count_of};
 ghost use Rattle.wsm_machine.specs.Meaning.{plan_of, pane_cost_by};
@@ -10,24 +10,31 @@ ghost use Rattle.wsm_firing.specs.Due.{fired_by};
 use crate::fire::Due;
 use wsm_machine::{Inputs, Machine};
 use wsm_panes::PaneView;
-use wsm_record::{Cell, Columns, Mode};
+use wsm_record::{Cell, Mode};
 use wsm_verifier::Verified;
 
-/// Runs FIRE on a pane that fires. Adds the columns of its row, or takes the row away where HAVING is
-/// false, and answers how many instructions were executed.
+/// What FIRE comes to on a pane.
+#[derive(Clone, Copy, Debug)]
+pub struct Ran<'a> {
+    /// The cells of its row, where they lie, if HAVING is true.
+    pub row: Option<&'a [Cell]>,
+    /// How many instructions were executed.
+    pub steps: u64,
+}
+
+/// Runs FIRE on a pane that fires. Its row lies in the machine until that runs again.
 #[inline(always)]
-pub fn run(
+pub fn run<'a>(
     verified: &Verified,
-    machine: &mut Machine,
+    machine: &'a mut Machine,
     due: Due,
     pane: &PaneView<'_>,
-    row: &mut Option<Columns>,
-) -> u64
-    requires fires { MayFire verified.now (fired_by verified.now.header.mode due pane.now) }
-    requires empty { row.old ≡ Some [] }
-    ensures row { row.new ≡ columns_by (plan_of verified.now) due.spot.place.key (fired_count_of verified.now.header.mode pane.now) pane.now.folded }
-    ensures wide { IfSome row.new (λ columns. length columns ≡ length verified.now.header.columns) }
-    ensures steps { result ≡ pane_cost_by verified.now (fired_by verified.now.header.mode due pane.now) }
+) -> Ran<'a>
+    requires { MayFire verified.now (fired_by verified.now.header.mode due pane.now) }
+    ensures row { option_map (λ cells. cells.now) result.row ≡ columns_by (plan_of verified.now) due.spot.place.key (fired_count_of verified.now.header.mode pane.now) pane.now.folded }
+    ensures wide { IfSome result.row (λ cells. length cells.now ≡ length verified.now.header.columns) }
+    ensures few { IfSome result.row (λ cells. length cells.now ≤ MAX_COLUMNS) }
+    ensures steps { result.steps ≡ pane_cost_by verified.now (fired_by verified.now.header.mode due pane.now) }
 {
     let header = verified.program().header();
     let inputs = Inputs {
@@ -37,8 +44,10 @@ pub fn run(
         accs: pane.folded().unwrap(),
     };
     let fired = machine.fire(verified, &inputs);
-    set_row(row, fired.emits, fired.columns);
-    fired.steps
+    Ran {
+        row: written(fired.emits, fired.columns),
+        steps: fired.steps,
+    }
 }
 
 // How many records the firing is computed over.
@@ -51,24 +60,10 @@ fn fired_count(mode: Mode, pane: &PaneView<'_>) -> u64
     }
 }
 
-// Adds the columns of a row that is written, and takes away one that isn't.
-fn set_row(row: &mut Option<Columns>, emits: bool, cells: &[Cell])
-    requires empty { row.old ≡ Some [] }
-    requires few { length cells.now ≤ MAX_COLUMNS }
-    ensures { row.new ≡ (if emits then Some cells.now else None) }
+// The cells of a row, if it is written.
+#[inline(always)]
+fn written(emits: bool, cells: &[Cell]) -> Option<&[Cell]>
+    ensures { option_map (λ cells. cells.now) result ≡ (if emits then Some cells.now else None) }
 {
-    match row {
-        Some(columns) if emits => add_cells(columns, cells),
-        _ => *row = None,
-    }
-}
-
-fn add_cells(columns: &mut Columns, cells: &[Cell])
-    requires empty { columns.old ≡ [] }
-    requires few { length cells.now ≤ MAX_COLUMNS }
-    ensures { columns.new ≡ cells.now }
-{
-    for cell in cells {
-        columns.push(*cell);
-    }
+    if emits { Some(cells) } else { None }
 }

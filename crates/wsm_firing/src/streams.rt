@@ -1,8 +1,9 @@
 //! The streams of the relation.
 
-ghost use Rattle.std.specs.Prelude.{◌≡◌, ◌≤◌, ◌+◌, ◌++◌, [], ◌∷◌, List, Some, map, length, IfOk, vec_len, vec_capacity};
+ghost use Rattle.std.specs.Prelude.{◌≡◌, ◌≤◌, ◌+◌, ◌++◌, [], ◌∷◌, List, Some, map, length, option_map, IfOk, IfSome, vec_len, vec_capacity};
 ghost use Rattle.std.specs.List.{cons_option};
 ghost use Rattle.wsm_record.specs.declared.cell.Cell.{Cell};
+ghost use Rattle.wsm_record.specs.declared.limits.TheConstants.{MAX_COLUMNS};
 ghost use Rattle.wsm_semantics.specs.Relation.{sorted_rows};
 ghost use Rattle.wsm_semantics.specs.Summaries.{standing_row};
 ghost use Rattle.wsm_semantics.specs.Steps.{stream_rows};
@@ -12,7 +13,7 @@ use std::alloc::{AllocError, Global};
 use std::marker::Model;
 use wsm_panes::PaneView;
 use wsm_record::limits::{MAX_COLUMNS, MAX_PANES};
-use wsm_record::{Columns, Form};
+use wsm_record::{Cell, Columns, Form};
 use wsm_relation::{Changes, Relation, rstream};
 use wsm_semantics::OutRow;
 
@@ -106,9 +107,10 @@ impl Streams {
 
     /// The relation gains a row, if there is one.
     #[inline(always)]
-    pub(crate) fn gain(&mut self, row: &Option<Columns>)
-        requires { CanGain self.old row.now }
-        ensures told { (before now : List (List Cell)) → IsTold self.old before now → IsTold self.new before (cons_option row.now now) }
+    pub(crate) fn gain(&mut self, row: Option<&[Cell]>)
+        requires few { IfSome row (λ cells. length cells.now ≤ MAX_COLUMNS) }
+        requires can { CanGain self.old (option_map (λ cells. cells.now) row) }
+        ensures told { (before now : List (List Cell)) → IsTold self.old before now → IsTold self.new before (cons_option (option_map (λ cells. cells.now) row.entry) now) }
         ensures alike { AreAlike self.old self.new }
     {
         if let Form::Panes = self.form {
@@ -119,13 +121,14 @@ impl Streams {
 
     // The same, where rows are those of the relation.
     #[inline(never)]
-    fn gain_standing(&mut self, row: &Option<Columns>)
-        requires { CanGain self.old row.now }
-        ensures told { (before now : List (List Cell)) → IsTold self.old before now → IsTold self.new before (cons_option row.now now) }
+    fn gain_standing(&mut self, row: Option<&[Cell]>)
+        requires few { IfSome row (λ cells. length cells.now ≤ MAX_COLUMNS) }
+        requires can { CanGain self.old (option_map (λ cells. cells.now) row) }
+        ensures told { (before now : List (List Cell)) → IsTold self.old before now → IsTold self.new before (cons_option (option_map (λ cells. cells.now) row.entry) now) }
         ensures alike { AreAlike self.old self.new }
     {
-        if let Some(row) = row {
-            self.gain_row(row);
+        if let Some(cells) = row {
+            self.gain_row(&Columns::of(cells));
         }
     }
 

@@ -48,7 +48,6 @@ pub fn fire_by_watermark(
     let header = verified.program().header();
     let expired = last_expired(new, header.clock.lateness);
     let mut tally = Tally::none();
-    let mut row = None;
     let mut next = first_to_fire(held, expired, old, new);
     for _ in 0..held.len() {
         let Some(spot) = next else {
@@ -62,7 +61,6 @@ pub fn fire_by_watermark(
                 streams,
                 rows,
                 &mut tally,
-                &mut row,
                 Due { kind, spot },
             );
         }

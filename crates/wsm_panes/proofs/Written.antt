@@ -4,6 +4,7 @@ use Rattle.std.specs.Option.{is_some}
 use Rattle.std.specs.Prelude.{IfSome, option_map}
 use Rattle.wsm_record.specs.declared.event.Value.{Value}
 use Rattle.wsm_record.specs.declared.cell.Cell.{Cell}
+use Rattle.wsm_record.specs.declared.words.Mode.{Mode}
 use Rattle.wsm_windows.specs.declared.place.Place.{Place}
 use Rattle.wsm_semantics.specs.declared.standing.Standing.{Standing}
 use Rattle.wsm_semantics.specs.declared.standing.Standing.TheVariants as standing
@@ -12,8 +13,9 @@ use Rattle.wsm_panes.specs.declared.head.Head.{Head}
 use Rattle.wsm_panes.specs.declared.head.Stands.{Stands}
 use Rattle.wsm_panes.specs.declared.head.Stands.TheVariants.{Unfired, NoRow, FiredRow, Joined}
 use Rattle.wsm_panes.specs.declared.widths.Widths.{Widths}
-use Rattle.wsm_panes.specs.Layout.{HasPart, IsAsWide, IsLaidOut, entries_by, entry_by, folded_by, head_of, part_at, standing_by, stands_by, with_any, with_part}
-use Rattle.wsm_panes.proofs.Laid.{entries_set, has_folds, has_row, length-part, length-with_part, part_ends, same_part}
+use Rattle.wsm_panes.specs.Layout.{HasPart, IsAsWide, IsLaidOut, entries_by, entry_by, folded_by, head_fired, head_of, part_at, standing_by, stands_by, with_any, with_part}
+use Rattle.wsm_panes.specs.Held.{once_fired}
+use Rattle.wsm_panes.proofs.Laid.{entries_set, fired_with, fired_without, has_folds, has_row, length-part, length-with_part, part_ends, same_part, set_head, set_row}
 
 abbrev any_or : {A : Type 0} → Option (List A) → List A → List A
 any_or None ys = ys
@@ -61,6 +63,14 @@ pub if_mapped : {X Y : Type 0} (f : X → Y) (F : Y → Type 0) (o : Option X) �
 if_mapped f F None h = h
 if_mapped f F (Some x) h = h
 
+pub of_mapped : {X Y : Type 0} (f : X → Y) (F : Y → Type 0) (o : Option X) → IfSome o (λ x. F (f x)) → IfSome (option_map f o) F
+of_mapped f F None h = h
+of_mapped f F (Some x) h = h
+
+pub some_mapped : {X Y : Type 0} (f : X → Y) (o : Option X) → is_some o ≡ is_some (option_map f o)
+some_mapped f None = refl
+some_mapped f (Some x) = refl
+
 -- the part of a slot, where there are values of its width
 pub has_any : {A : Type 0} (i w : ℕ) (xs : List A) (o : Option (List A)) → HasPart i w xs → IfSome o (λ ys. length ys ≡ w) → IfSome o (λ ys. HasPart i (length ys) xs)
 has_any i w xs None has wide = wide
@@ -84,3 +94,14 @@ module _ (w : Widths) (hs : List Head) (fs : List Value) (rs : List Cell) (laid 
       ∙ ap (λ zs. entries_by w.accumulators w.columns (set hs i (head_of place pane)) zs ys) folds
       ∙ ap (λ zs. entries_by w.accumulators w.columns (set hs i (head_of place pane)) (with_any i fs pane.folded) zs) row
       ∙ set_pane
+
+module _ (w : Widths) (hs : List Head) (fs : List Value) (rs : List Cell) (laid : IsLaidOut w hs fs rs) (i : ℕ) (h : i < length hs) (mode : Mode) (x : Head) where
+  -- to write a head that fired, and the row if there is one, is to have the entry have fired
+  pub set_fired : (row : Option (List Cell)) → IfSome row (λ ys. length ys ≡ w.columns)
+      → entries_by w.accumulators w.columns (set hs i (head_fired mode (is_some row) x)) fs (with_any i rs row)
+      ≡ set (entries_by w.accumulators w.columns hs fs rs) i (option_map (λ e. (e.0, once_fired mode row e.1)) (entry_by x (part_at i w.accumulators fs) (part_at i w.columns rs)))
+  set_fired None wide = set_head w hs fs rs laid i h (head_fired mode false x) ∙ ap (set (entries_by w.accumulators w.columns hs fs rs) i) (fired_without mode x (part_at i w.accumulators fs) (part_at i w.columns rs))
+  set_fired (Some row) wide =
+      ap (λ n. entries_by w.accumulators w.columns (set hs i (head_fired mode true x)) fs (with_part i n rs row)) wide
+      ∙ set_row w hs fs rs laid i h (head_fired mode true x) row wide
+      ∙ ap (set (entries_by w.accumulators w.columns hs fs rs) i) (fired_with mode x (part_at i w.accumulators fs) (part_at i w.columns rs) row)

@@ -27,7 +27,7 @@ use crate::widths::Widths;
 use std::alloc::{AllocError, Global};
 use std::marker::Model;
 use wsm_record::limits::{MAX_ACCUMULATORS, MAX_COLUMNS, MAX_PANES};
-use wsm_record::{Columns, Kind, Mode, Value};
+use wsm_record::{Cell, Kind, Mode, Value};
 use wsm_sessions::Sessions;
 use wsm_windows::{Place, Shape, Window};
 
@@ -225,10 +225,10 @@ impl HeldPanes {
     /// Has the pane at a spot have fired: it has shown all of its records, and the row of the firing
     /// stands.
     #[inline(always)]
-    pub fn fire_at(&mut self, spot: Spot, mode: Mode, row: &Option<Columns>)
+    pub fn fire_at(&mut self, spot: Spot, mode: Mode, row: Option<&[Cell]>)
         requires there { IsSome (find place_cmp spot.place (entries_of self.old)) }
-        requires wide { IfSome row.now (λ columns. length columns ≡ self.old.widths.columns) }
-        ensures panes { (pane : AnyPane (List OneValue)) × (find place_cmp spot.place (entries_of self.old) ≡ Some pane) × (entries_of self.new ≡ put place_cmp spot.place (once_fired mode row.now pane) (entries_of self.old)) }
+        requires wide { IfSome row (λ cells. length cells.now ≡ self.old.widths.columns) }
+        ensures panes { (pane : AnyPane (List OneValue)) × (find place_cmp spot.place (entries_of self.old) ≡ Some pane) × (entries_of self.new ≡ put place_cmp spot.place (once_fired mode (option_map (λ cells. cells.now) row.entry) pane) (entries_of self.old)) }
         ensures keeps { IsKept self.old self.new }
     {
         match self.shape {

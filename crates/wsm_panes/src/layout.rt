@@ -15,7 +15,7 @@ use crate::widths::Widths;
 use std::alloc::{AllocError, Global};
 use std::marker::Model;
 use wsm_fold::fold_into;
-use wsm_record::{Cell, Columns, Kind, Mode, Value};
+use wsm_record::{Cell, Kind, Mode, Value};
 use wsm_windows::Place;
 
 /// Slots, each of which is free or has a place with its pane. The values of all panes lie beside one
@@ -146,15 +146,13 @@ impl Slots {
     }
 
     /// Has the pane in a slot, if there is one, have fired.
-    pub(crate) fn fire(&mut self, slot: usize, mode: Mode, row: &Option<Columns>)
+    pub(crate) fn fire(&mut self, slot: usize, mode: Mode, row: Option<&[Cell]>)
         requires slot { slot < length self.old.slots }
-        requires wide { IfSome row.now (λ columns. length columns ≡ self.old.widths.columns) }
-        ensures { self.new ≡ record self.old { slots = slice_set self.old.slots slot (option_map (λ e. (e.0, once_fired mode row.now e.1)) (slot_at self.old.slots slot)) } }
+        requires wide { IfSome row (λ cells. length cells.now ≡ self.old.widths.columns) }
+        ensures { self.new ≡ record self.old { slots = slice_set self.old.slots slot (option_map (λ e. (e.0, once_fired mode (option_map (λ cells. cells.now) row.entry) e.1)) (slot_at self.old.slots slot)) } }
     {
         self.heads[slot].fire(mode, row.is_some());
-        if let Some(columns) = row {
-            write_part(&mut self.rows, slot, columns.as_slice());
-        }
+        write_any(&mut self.rows, slot, row);
     }
 
     /// Has a slot be free.

@@ -25,7 +25,7 @@ use crate::widths::Widths;
 use std::alloc::{AllocError, Global};
 use std::cmp::Ordering;
 use std::marker::Model;
-use wsm_record::{Columns, Kind, Mode, Value};
+use wsm_record::{Cell, Kind, Mode, Value};
 use wsm_windows::Place;
 
 /// A table kept as a sorted list: a row of slots, in the order of the places of their panes. A place
@@ -86,10 +86,10 @@ impl ListTable {
     }
 
     /// Has the pane at a spot have fired.
-    pub(crate) fn fire(&mut self, spot: Spot, mode: Mode, row: &Option<Columns>)
+    pub(crate) fn fire(&mut self, spot: Spot, mode: Mode, row: Option<&[Cell]>)
         requires there { IsSome (map.get self.old.panes spot.place) }
-        requires wide { IfSome row.now (λ columns. length columns ≡ self.old.widths.columns) }
-        ensures panes { (pane : AnyPane (List OneValue)) × (map.get self.old.panes spot.place ≡ Some pane) × (self.new.panes ≡ map.insert self.old.panes spot.place (once_fired mode row.now pane)) }
+        requires wide { IfSome row (λ cells. length cells.now ≡ self.old.widths.columns) }
+        ensures panes { (pane : AnyPane (List OneValue)) × (map.get self.old.panes spot.place ≡ Some pane) × (self.new.panes ≡ map.insert self.old.panes spot.place (once_fired mode (option_map (λ cells. cells.now) row.entry) pane)) }
         ensures room { self.new.room ≡ self.old.room }
         ensures widths { self.new.widths ≡ self.old.widths }
     {

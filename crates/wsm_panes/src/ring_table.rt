@@ -1,6 +1,6 @@
 //! A table kept as a ring of slots.
 
-ghost use Rattle.std.specs.Prelude.{◌≡◌, ◌⊎◌, ◌<◌, ◌≤◌, ◌≤ℤ◌, List, IfOk, IfSome, IsSome, IsTrue, Some, length};
+ghost use Rattle.std.specs.Prelude.{◌≡◌, ◌⊎◌, ◌<◌, ◌≤◌, ◌≤ℤ◌, List, IfOk, IfSome, IsSome, IsTrue, Some, length, option_map};
 ghost use Rattle.std.specs.FinMap as map;
 ghost use Rattle.wsm_record.specs.declared.event.Value.{Value as OneValue};
 ghost use Rattle.wsm_record.specs.declared.limits.TheConstants.{MAX_ACCUMULATORS, MAX_COLUMNS};
@@ -24,7 +24,7 @@ use crate::view::PaneView;
 use crate::widths::Widths;
 use std::alloc::{AllocError, Global};
 use std::marker::Model;
-use wsm_record::{Columns, Kind, Mode, Value};
+use wsm_record::{Cell, Kind, Mode, Value};
 use wsm_windows::Place;
 
 /// A table kept as a ring of slots: each place has one slot, which is found without a search.
@@ -137,10 +137,10 @@ impl RingTable {
 
 impl RingTable {
     /// Has the pane at a spot have fired.
-    pub(crate) fn fire(&mut self, spot: Spot, mode: Mode, row: &Option<Columns>)
+    pub(crate) fn fire(&mut self, spot: Spot, mode: Mode, row: Option<&[Cell]>)
         requires there { IsSome (map.get self.old.panes spot.place) }
-        requires wide { IfSome row.now (λ columns. length columns ≡ self.old.widths.columns) }
-        ensures panes { (pane : AnyPane (List OneValue)) × (map.get self.old.panes spot.place ≡ Some pane) × (self.new.panes ≡ map.insert self.old.panes spot.place (once_fired mode row.now pane)) }
+        requires wide { IfSome row (λ cells. length cells.now ≡ self.old.widths.columns) }
+        ensures panes { (pane : AnyPane (List OneValue)) × (map.get self.old.panes spot.place ≡ Some pane) × (self.new.panes ≡ map.insert self.old.panes spot.place (once_fired mode (option_map (λ cells. cells.now) row.entry) pane)) }
         ensures ring { self.new.ring ≡ self.old.ring }
         ensures widths { self.new.widths ≡ self.old.widths }
     {

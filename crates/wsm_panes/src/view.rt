@@ -1,7 +1,6 @@
 //! Panes as they are read.
 
-ghost use Rattle.std.specs.Prelude.{◌≡◌, ◌≤◌, [], length, option_map};
-ghost use Rattle.wsm_record.specs.declared.limits.TheConstants.{MAX_COLUMNS};
+ghost use Rattle.std.specs.Prelude.{◌≡◌, option_map};
 ghost use Rattle.wsm_semantics.specs.Summaries as kept;
 ghost use Rattle.wsm_panes.specs.View.{IsFew, row_seen};
 
@@ -111,18 +110,6 @@ pub(crate) fn row_columns(row: &RowView<'_>) -> Columns
 {
     match row {
         RowView::Whole(columns) => **columns,
-        RowView::Part(cells) => columns_of(cells),
+        RowView::Part(cells) => Columns::of(cells),
     }
-}
-
-// A row of these cells.
-fn columns_of(cells: &[Cell]) -> Columns
-    requires { length cells.now ≤ MAX_COLUMNS }
-    ensures { result ≡ cells.now }
-{
-    let mut columns = Columns::new();
-    for cell in cells {
-        columns.push(*cell);
-    }
-    columns
 }

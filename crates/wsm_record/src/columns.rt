@@ -1,6 +1,6 @@
 //! The columns of a row, inline.
 
-ghost use Rattle.std.specs.Prelude.{◌≡◌, List, [], ◌∷◌, ◌++◌, length, nat_eq, ◌<◌};
+ghost use Rattle.std.specs.Prelude.{◌≡◌, List, [], ◌∷◌, ◌++◌, length, nat_eq, ◌<◌, ◌≤◌};
 
 use crate::cell::Cell;
 use crate::limits::MAX_COLUMNS;
@@ -44,6 +44,18 @@ impl Columns {
             cells: [Cell::Int(0); MAX_COLUMNS],
             len: 0,
         }
+    }
+
+    /// Columns of these cells.
+    pub fn of(cells: &[Cell]) -> Columns
+        requires { length cells.now ≤ MAX_COLUMNS }
+        ensures { result ≡ cells.now }
+    {
+        let mut columns = Columns::new();
+        for cell in cells {
+            columns.push(*cell);
+        }
+        columns
     }
 
     /// The number of columns.

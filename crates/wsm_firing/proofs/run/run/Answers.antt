@@ -8,7 +8,7 @@ use Rattle.wsm_machine.specs.Inputs.{Inputs}
 use Rattle.wsm_machine.specs.InRange.{in_range}
 use Rattle.wsm_machine.specs.Step.{type_of}
 use Rattle.wsm_firing.proofs.Headers.{lawful_firing, count_fits}
-use Rattle.wsm_firing.proofs.Running.{read, same_inputs, steps_are, columns_are}
+use Rattle.wsm_firing.proofs.Running.{read, same_inputs, steps_are, columns_are, if_row}
 use Rattle.wsm_firing.proofs.run.run.Goals as goal
 
 pub overflow_cast-inputs : goal.overflow_cast-inputs
@@ -17,7 +17,7 @@ overflow_cast-inputs c =
     let header : header_of c.header-header.result.now ≡ p.header = c.header-header.ensures.header ∙ ap (λ (p : Program). p.header) c.program.ensures.program in
     let count : c.fired_count.result ≡ fired_count p.header.mode c.args.pane.now = c.fired_count.ensures ∙ ap (λ (h : Header). fired_count h.mode c.args.pane.now) header in
     let whole : IsTrue (is_program p) = subst (λ (p : Program). IsTrue (is_program p)) c.program.ensures.program c.header-header.ensures.lawful in
-    subst (λ (n : ℕ). SFits w64 (pos n)) (sym count) (count_fits p whole c.args.due.spot.place.key (fired_count p.header.mode c.args.pane.now) c.requires.fires.held c.requires.fires.ranged)
+    subst (λ (n : ℕ). SFits w64 (pos n)) (sym count) (count_fits p whole c.args.due.spot.place.key (fired_count p.header.mode c.args.pane.now) c.requires.held c.requires.ranged)
 
 pub fire-fired-requires : goal.fire-fired-requires
 fire-fired-requires c =
@@ -27,15 +27,21 @@ fire-fired-requires c =
     let header : header_of c.header-header.result.now ≡ p.header = c.header-header.ensures.header ∙ ap (λ (p : Program). p.header) c.program.ensures.program in
     let count : c.fired_count.result ≡ n = c.fired_count.ensures ∙ ap (λ (h : Header). fired_count h.mode c.args.pane.now) header in
     let whole : IsTrue (is_program p) = subst (λ (p : Program). IsTrue (is_program p)) c.program.ensures.program c.header-header.ensures.lawful in
-    let accs : c.unwrap.result.now ≡ c.requires.fires.held = read (λ values. values.now) c.folded.result c.unwrap.result c.requires.fires.held c.args.pane.now.folded c.unwrap.ensures c.folded.ensures c.requires.fires.folded in
-    let same = same_inputs key n c.fired_count.result c.unwrap.result.now c.requires.fires.held count accs (count_fits p whole key n c.requires.fires.held c.requires.fires.ranged) in
-    subst (λ (i : Inputs). IsTrue (in_range p Fire i)) (sym same) c.requires.fires.ranged
+    let accs : c.unwrap.result.now ≡ c.requires.held = read (λ values. values.now) c.folded.result c.unwrap.result c.requires.held c.args.pane.now.folded c.unwrap.ensures c.folded.ensures c.requires.folded in
+    let same = same_inputs key n c.fired_count.result c.unwrap.result.now c.requires.held count accs (count_fits p whole key n c.requires.held c.requires.ranged) in
+    subst (λ (i : Inputs). IsTrue (in_range p Fire i)) (sym same) c.requires.ranged
 
-pub set_row-requires-clause-few : goal.set_row-requires-clause-few
-set_row-requires-clause-few c =
+pub returns-clause-wide : goal.returns-clause-wide
+returns-clause-wide c =
+    let n = length c.args.verified.now.header.columns in
+    let wide : length c.fire-fired.result.columns.now ≡ n = sym (length_each type_of c.fire-fired.result.columns.now) ∙ ap length c.fire-fired.ensures.types in
+    if_row (λ cells. cells.now) (λ cells. length cells ≡ n) c.fire-fired.result.emits c.fire-fired.result.columns.now c.written.result c.written.ensures wide
+
+pub returns-clause-few : goal.returns-clause-few
+returns-clause-few c =
     let columns : length c.args.verified.now.header.columns ≤ 16 = (lawful_firing c.program.result.now _ (ap (λ (p : Program). p.header) (sym c.program.ensures.program)) c.header-header.ensures.lawful).columns in
-    let as_many : length c.fire-fired.result.columns.now ≡ length c.args.verified.now.header.columns = sym (length_each type_of c.fire-fired.result.columns.now) ∙ ap length c.fire-fired.ensures.types in
-    omega arith
+    let wide : length c.fire-fired.result.columns.now ≡ length c.args.verified.now.header.columns = sym (length_each type_of c.fire-fired.result.columns.now) ∙ ap length c.fire-fired.ensures.types in
+    if_row (λ cells. cells.now) (λ cells. length cells ≤ 16) c.fire-fired.result.emits c.fire-fired.result.columns.now c.written.result c.written.ensures (omega arith)
 
 pub returns-clause-row : goal.returns-clause-row
 returns-clause-row c =
@@ -45,10 +51,10 @@ returns-clause-row c =
     let header : header_of c.header-header.result.now ≡ p.header = c.header-header.ensures.header ∙ ap (λ (p : Program). p.header) c.program.ensures.program in
     let count : c.fired_count.result ≡ n = c.fired_count.ensures ∙ ap (λ (h : Header). fired_count h.mode c.args.pane.now) header in
     let whole : IsTrue (is_program p) = subst (λ (p : Program). IsTrue (is_program p)) c.program.ensures.program c.header-header.ensures.lawful in
-    let accs : c.unwrap.result.now ≡ c.requires.fires.held = read (λ values. values.now) c.folded.result c.unwrap.result c.requires.fires.held c.args.pane.now.folded c.unwrap.ensures c.folded.ensures c.requires.fires.folded in
-    let same = same_inputs key n c.fired_count.result c.unwrap.result.now c.requires.fires.held count accs (count_fits p whole key n c.requires.fires.held c.requires.fires.ranged) in
-    let all = columns_are p key n c.args.pane.now.folded c.requires.fires.held c.requires.fires.folded _ same c.fire-fired.result.emits c.fire-fired.result.columns.now c.fire-fired.ensures.done c.fire-fired.ensures.row in
-    c.set_row.ensures ∙ all
+    let accs : c.unwrap.result.now ≡ c.requires.held = read (λ values. values.now) c.folded.result c.unwrap.result c.requires.held c.args.pane.now.folded c.unwrap.ensures c.folded.ensures c.requires.folded in
+    let same = same_inputs key n c.fired_count.result c.unwrap.result.now c.requires.held count accs (count_fits p whole key n c.requires.held c.requires.ranged) in
+    let all = columns_are p key n c.args.pane.now.folded c.requires.held c.requires.folded _ same c.fire-fired.result.emits c.fire-fired.result.columns.now c.fire-fired.ensures.done c.fire-fired.ensures.row in
+    c.written.ensures ∙ all
 
 pub returns-clause-steps : goal.returns-clause-steps
 returns-clause-steps c =
@@ -58,6 +64,6 @@ returns-clause-steps c =
     let header : header_of c.header-header.result.now ≡ p.header = c.header-header.ensures.header ∙ ap (λ (p : Program). p.header) c.program.ensures.program in
     let count : c.fired_count.result ≡ n = c.fired_count.ensures ∙ ap (λ (h : Header). fired_count h.mode c.args.pane.now) header in
     let whole : IsTrue (is_program p) = subst (λ (p : Program). IsTrue (is_program p)) c.program.ensures.program c.header-header.ensures.lawful in
-    let accs : c.unwrap.result.now ≡ c.requires.fires.held = read (λ values. values.now) c.folded.result c.unwrap.result c.requires.fires.held c.args.pane.now.folded c.unwrap.ensures c.folded.ensures c.requires.fires.folded in
-    let same = same_inputs key n c.fired_count.result c.unwrap.result.now c.requires.fires.held count accs (count_fits p whole key n c.requires.fires.held c.requires.fires.ranged) in
-    steps_are p key n c.args.pane.now.folded c.requires.fires.held c.requires.fires.folded _ same c.fire-fired.result.steps c.fire-fired.ensures.steps
+    let accs : c.unwrap.result.now ≡ c.requires.held = read (λ values. values.now) c.folded.result c.unwrap.result c.requires.held c.args.pane.now.folded c.unwrap.ensures c.folded.ensures c.requires.folded in
+    let same = same_inputs key n c.fired_count.result c.unwrap.result.now c.requires.held count accs (count_fits p whole key n c.requires.held c.requires.ranged) in
+    steps_are p key n c.args.pane.now.folded c.requires.held c.requires.folded _ same c.fire-fired.result.steps c.fire-fired.ensures.steps
