@@ -4,7 +4,7 @@
 //! call adds one line to a buffer; after a refusal of memory the buffer has what it had, and perhaps
 //! a beginning of the line.
 
-ghost use Rattle.std.specs.Prelude.{◌≡◌, ◌≤◌, ◌+◌, ◌*◌, ◌++◌, ◌∷◌, [], List, true, codes, drop, length, map, option_map, take, unwrap_or, OnOk};
+ghost use Rattle.std.specs.Prelude.{◌≡◌, ◌≤◌, ◌<ℤ◌, ◌+◌, ◌*◌, ◌++◌, ◌∷◌, [], List, true, codes, drop, length, map, option_map, take, unwrap_or, OnOk, pos};
 ghost use Rattle.std.specs.List.{list_all};
 ghost use Rattle.std.specs.Fmt.{decimal, signed_decimal};
 ghost use Rattle.wsm_record.specs.Schema.{Declared};
@@ -194,6 +194,7 @@ fn is_number(column: Cell) -> bool
 
 // Writes a comma and a number for each of some numbers so that they end at a place, and tells where
 // they begin.
+#[inline(always)]
 fn write_numbers(numbers: &[Cell], cells: &mut [u8], end: usize) -> usize
     requires numbers { list_all is_a_number numbers.now ≡ true }
     requires room { length numbers.now * CELL ≤ end }
@@ -210,6 +211,7 @@ fn write_numbers(numbers: &[Cell], cells: &mut [u8], end: usize) -> usize
 }
 
 // Writes a comma and a number so that they end at a place, and tells where they begin.
+#[inline(always)]
 fn write_column(number: Cell, cells: &mut [u8], end: usize) -> usize
     requires number { is_a_number number ≡ true }
     requires room { CELL ≤ end }
@@ -295,6 +297,7 @@ fn write_cell(number: i64, cells: &mut [u8], end: usize) -> usize
 }
 
 // Writes a number so that it ends at a place, and tells where it begins.
+#[inline(always)]
 fn write_number(number: i64, cells: &mut [u8], end: usize) -> usize
     requires room { CELL ≤ end }
     requires within { end ≤ length cells.old }
@@ -302,12 +305,26 @@ fn write_number(number: i64, cells: &mut [u8], end: usize) -> usize
     ensures begins { result ≤ end }
     ensures written { drop result cells.new ≡ signed_decimal number ++ drop end cells.old }
 {
-    let start = write_digits(number.unsigned_abs(), cells, end);
-    if number >= 0 {
-        return start;
+    if number < 0 {
+        return write_negative(number, cells, end);
     }
-    cells[start - 1] = b'-';
-    start - 1
+    write_digits(number.unsigned_abs(), cells, end)
+}
+
+// Writes a minus and the digits of a number below 0 so that they end at a place, and tells where
+// they begin. Few numbers are below 0, so this stands by itself.
+#[inline(never)]
+fn write_negative(number: i64, cells: &mut [u8], end: usize) -> usize
+    requires negative { number <ℤ pos 0 }
+    requires room { CELL ≤ end }
+    requires within { end ≤ length cells.old }
+    ensures start { end + 1 ≤ result + CELL }
+    ensures begins { result ≤ end }
+    ensures written { drop result cells.new ≡ signed_decimal number ++ drop end cells.old }
+{
+    let start = write_digits(number.unsigned_abs(), cells, end) - 1;
+    cells[start] = b'-';
+    start
 }
 
 // Writes the first cells of the row of a pane that fires so, and a comma, so that they end at a
