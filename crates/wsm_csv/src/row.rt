@@ -196,7 +196,9 @@ fn read_values(
     ensures room { length fields.now ≤ vec_capacity values.old → result ≢ Err RowRefusal.Memory }
 {
     values.clear();
-    values.reserve(fields.len())?;
+    if values.capacity() < fields.len() {
+        values.reserve(fields.len())?;
+    }
     for (place, field) in fields.iter().enumerate() {
         add_value(&field.ty, cell_at(row, RECORD_HEAD + place), values)?;
     }
