@@ -47,6 +47,7 @@ impl Columns {
     }
 
     /// Columns of these cells.
+    #[inline(always)]
     pub fn of(cells: &[Cell]) -> Columns
         requires { length cells.now ≤ MAX_COLUMNS }
         ensures { result ≡ cells.now }
@@ -80,6 +81,7 @@ impl Columns {
     }
 
     /// Adds a column on the right.
+    #[inline(always)]
     pub fn push(&mut self, cell: Cell)
         requires { length self.old < MAX_COLUMNS }
         ensures { self.new ≡ self.old ++ cell ∷ [] }
