@@ -53,10 +53,20 @@ impl Columns {
         ensures { result ≡ cells.now }
     {
         let mut columns = Columns::new();
-        for cell in cells {
-            columns.push(*cell);
-        }
+        columns.fill(cells);
         columns
+    }
+
+    /// Has columns of these cells where there are none.
+    #[inline(always)]
+    pub fn fill(&mut self, cells: &[Cell])
+        requires empty { self.old ≡ [] }
+        requires few { length cells.now ≤ MAX_COLUMNS }
+        ensures { self.new ≡ cells.now }
+    {
+        for cell in cells {
+            self.push(*cell);
+        }
     }
 
     /// The number of columns.
