@@ -78,6 +78,7 @@ fn write(form: Form, rows: &mut Vec<OutRow>, due: Due, row: Option<&[Cell]>)
 {
     if let (Form::Panes, Some(cells)) = (form, row) {
         let place = due.spot.place;
+        let last = rows.len();
         rows.push_reserved(OutRow::Pane {
             kind: due.kind,
             key: place.key,
@@ -85,7 +86,11 @@ fn write(form: Form, rows: &mut Vec<OutRow>, due: Due, row: Option<&[Cell]>)
                 start: place.start,
                 end: place.end,
             },
-            columns: Columns::of(cells),
+            columns: Columns::new(),
         });
+        // The cells are written where the row lies, so that it is copied nowhere.
+        if let OutRow::Pane { columns, .. } = &mut rows[last] {
+            columns.fill(cells);
+        }
     }
 }

@@ -16,6 +16,7 @@ use wsm_verifier::Verified;
 use wsm_windows::{PaneKind, Place};
 
 /// What a pane fires as on the turn of a record in it, at a mark.
+#[inline(always)]
 pub fn record_kind(
     verified: &Verified,
     mark: i64,
@@ -34,6 +35,7 @@ pub fn record_kind(
 }
 
 /// What a pane fires as on the turn of a watermark that rises from one mark to another.
+#[inline(always)]
 pub fn watermark_kind(
     header: &Header,
     old: i64,

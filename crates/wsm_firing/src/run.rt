@@ -51,6 +51,7 @@ pub fn run<'a>(
 }
 
 // How many records the firing is computed over.
+#[inline(always)]
 fn fired_count(mode: Mode, pane: &PaneView<'_>) -> u64
     ensures { result ≡ fired_count_of mode pane.now }
 {

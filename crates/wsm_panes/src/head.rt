@@ -109,6 +109,7 @@ impl Head {
     }
 
     /// Has the pane have fired, with a row or with none.
+    #[inline(always)]
     pub(crate) fn fire(&mut self, mode: Mode, has_row: bool)
         ensures { self.new ≡ head_fired mode has_row self.old }
     {

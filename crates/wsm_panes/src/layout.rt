@@ -66,6 +66,7 @@ impl Slots {
     }
 
     /// The place of the entry in a slot, if there is one.
+    #[inline(always)]
     pub(crate) fn place(&self, slot: usize) -> Option<Place>
         requires { slot < length self.now.slots }
         ensures { result ≡ option_map (λ e. e.0) (slot_at self.now.slots slot) }
@@ -87,6 +88,7 @@ impl Slots {
     }
 
     /// The pane in a slot.
+    #[inline(always)]
     pub(crate) fn pane(&self, slot: usize) -> PaneView<'_>
         requires { IsTrue (is_some (slot_at self.now.slots slot)) }
         ensures same { option_map (λ e. e.1) (slot_at self.now.slots slot) ≡ Some result }
@@ -146,6 +148,7 @@ impl Slots {
     }
 
     /// Has the pane in a slot, if there is one, have fired.
+    #[inline(always)]
     pub(crate) fn fire(&mut self, slot: usize, mode: Mode, row: Option<&[Cell]>)
         requires slot { slot < length self.old.slots }
         requires wide { IfSome row (λ cells. length cells.now ≡ self.old.widths.columns) }
@@ -165,6 +168,7 @@ impl Slots {
 }
 
 // The values of a slot, among those of slots that have so many each.
+#[inline(always)]
 fn part<T: Copy>(values: &[T], slot: usize, width: usize) -> &[T]
     requires { HasPart slot width values.now }
     ensures { result.now ≡ part_at slot width values.now }

@@ -103,6 +103,7 @@ impl RingTable {
     }
 
     // The slot of a spot, which tells it where it is that of its place.
+    #[inline(always)]
     fn slot_of(&self, spot: Spot) -> usize
         ensures { result ≡ ring.slot_of self.now.ring spot.place }
     {
@@ -137,6 +138,7 @@ impl RingTable {
 
 impl RingTable {
     /// Has the pane at a spot have fired.
+    #[inline(always)]
     pub(crate) fn fire(&mut self, spot: Spot, mode: Mode, row: Option<&[Cell]>)
         requires there { IsSome (map.get self.old.panes spot.place) }
         requires wide { IfSome row (λ cells. length cells.now ≡ self.old.widths.columns) }

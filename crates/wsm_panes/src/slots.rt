@@ -107,6 +107,7 @@ pub(crate) fn first_until(
 
 /// The slot of the first entry from a window and a key on, if that window starts by a last time. The
 /// row is the window's.
+#[inline(always)]
 pub(crate) fn first_on(
     ring: Ring,
     slots: &Slots,
@@ -137,6 +138,7 @@ pub(crate) fn first_on(
 }
 
 /// Where the entry in a slot is, if one was found.
+#[inline(always)]
 pub(crate) fn spot_in(slots: &Slots, found: Option<usize>) -> Option<Spot>
     requires { is_some (at_slot slots.now.slots found) ≡ is_some found }
     ensures { place_found result ≡ option_map (λ e. e.0) (at_slot slots.now.slots found) }
@@ -159,6 +161,7 @@ fn spot_at(slots: &Slots, at: usize) -> Option<Spot>
 }
 
 /// Whether a slot has the pane at a place.
+#[inline(always)]
 pub(crate) fn is_at(slots: &Slots, slot: usize, place: Place) -> bool
     ensures { result ≡ is_some (pane_of place (slot_at slots.now.slots slot)) }
 {
@@ -173,6 +176,7 @@ pub(crate) fn is_at(slots: &Slots, slot: usize, place: Place) -> bool
 }
 
 // The slot of the first entry of a window from a key on.
+#[inline(always)]
 fn first_in_row(slots: &Slots, row: usize, start: i64, key: usize, keys: usize) -> Option<usize>
     requires within { row + keys ≤ length slots.now.slots }
     requires few { length slots.now.slots ≤ 2 ^ 32 }

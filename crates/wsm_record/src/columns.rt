@@ -47,15 +47,26 @@ impl Columns {
     }
 
     /// Columns of these cells.
+    #[inline(always)]
     pub fn of(cells: &[Cell]) -> Columns
         requires { length cells.now ≤ MAX_COLUMNS }
         ensures { result ≡ cells.now }
     {
         let mut columns = Columns::new();
-        for cell in cells {
-            columns.push(*cell);
-        }
+        columns.fill(cells);
         columns
+    }
+
+    /// Has columns of these cells where there are none.
+    #[inline(always)]
+    pub fn fill(&mut self, cells: &[Cell])
+        requires empty { self.old ≡ [] }
+        requires few { length cells.now ≤ MAX_COLUMNS }
+        ensures { self.new ≡ cells.now }
+    {
+        for cell in cells {
+            self.push(*cell);
+        }
     }
 
     /// The number of columns.
@@ -80,6 +91,7 @@ impl Columns {
     }
 
     /// Adds a column on the right.
+    #[inline(always)]
     pub fn push(&mut self, cell: Cell)
         requires { length self.old < MAX_COLUMNS }
         ensures { self.new ≡ self.old ++ cell ∷ [] }

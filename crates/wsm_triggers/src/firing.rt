@@ -35,6 +35,7 @@ pub fn on_record(trigger: Trigger, mark: i64, end: i64, unshown: u64) -> Option<
 /// What fires on the turn of a watermark that rises from one mark to another, for a live window with
 /// this end: with so many records in the pane, and so many of them unshown. It is `OnTime`, `Final`
 /// or nothing.
+#[inline(always)]
 pub fn on_watermark(
     mode: Mode,
     old: i64,
