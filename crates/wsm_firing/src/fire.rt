@@ -61,7 +61,7 @@ pub fn fire(
     let header = verified.program().header();
     let pane = held.pane(due.spot);
     let ran = run(verified, machine, due, &pane);
-    streams.lose(&pane);
+    streams.lose_held(held, due.spot);
     held.fire_at(due.spot, header.mode, ran.row);
     streams.gain(ran.row);
     tally.count(ran.steps);

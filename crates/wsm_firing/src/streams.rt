@@ -1,17 +1,21 @@
 //! The streams of the relation.
 
-ghost use Rattle.std.specs.Prelude.{◌≡◌, ◌≤◌, ◌+◌, ◌++◌, [], ◌∷◌, List, Some, map, length, option_map, IfOk, IfSome, vec_len, vec_capacity};
+ghost use Rattle.std.specs.FinMap.Entries.{find};
+ghost use Rattle.wsm_windows.specs.Places.{place_cmp};
+ghost use Rattle.wsm_record.specs.declared.event.Value.{Value};
+ghost use Rattle.wsm_panes.specs.Held.{entries_of};
+ghost use Rattle.std.specs.Prelude.{◌≡◌, ◌≤◌, ◌+◌, ◌++◌, [], ◌∷◌, List, IsSome, Some, map, length, option_map, IfOk, IfSome, vec_len, vec_capacity};
 ghost use Rattle.std.specs.List.{cons_option};
 ghost use Rattle.wsm_record.specs.declared.cell.Cell.{Cell};
 ghost use Rattle.wsm_record.specs.declared.limits.TheConstants.{MAX_COLUMNS};
 ghost use Rattle.wsm_semantics.specs.Relation.{sorted_rows};
-ghost use Rattle.wsm_semantics.specs.Summaries.{standing_row};
+ghost use Rattle.wsm_semantics.specs.Summaries.{Pane, standing_row};
 ghost use Rattle.wsm_semantics.specs.Steps.{stream_rows};
 ghost use Rattle.wsm_firing.specs.Streams.{AreAlike, CanAdvance, CanGain, CanLose, HasRoomFor, IsTold, relation_kept, stream_of, stream_row};
 
 use std::alloc::{AllocError, Global};
 use std::marker::Model;
-use wsm_panes::PaneView;
+use wsm_panes::{HeldPanes, PaneView, Spot};
 use wsm_record::limits::{MAX_COLUMNS, MAX_PANES};
 use wsm_record::{Cell, Columns, Form};
 use wsm_relation::{Changes, Relation, rstream};
@@ -91,6 +95,20 @@ impl Streams {
             return;
         }
         self.lose_standing(pane);
+    }
+
+    /// The same of a pane that is held, which is read only where rows are those of the relation.
+    #[inline(always)]
+    pub(crate) fn lose_held(&mut self, held: &HeldPanes, spot: Spot)
+        requires there { IsSome (find place_cmp spot.place (entries_of held.now)) }
+        requires can { (pane : Pane (List Value)) → find place_cmp spot.place (entries_of held.now) ≡ Some pane → CanLose self.old (standing_row pane.stands) }
+        ensures told { (pane : Pane (List Value)) → find place_cmp spot.place (entries_of held.now) ≡ Some pane → (before now : List (List Cell)) → IsTold self.old before (cons_option (standing_row pane.stands) now) → IsTold self.new before now }
+        ensures alike { AreAlike self.old self.new }
+    {
+        if let Form::Panes = self.form {
+            return;
+        }
+        self.lose_standing(&held.pane(spot));
     }
 
     // The same, with room for the row.

@@ -16,15 +16,15 @@ use Rattle.wsm_firing.proofs.fire.fire.Goals as goal
 pub run-ran-requires : goal.run-ran-requires
 run-ran-requires c = (c.requires.can c.pane-pane.result c.pane-pane.ensures).each.0
 
-pub lose-requires : goal.lose-requires
-lose-requires c =
+pub lose_held-requires-clause-can : goal.lose_held-requires-clause-can
+lose_held-requires-clause-can c = λ pane found.
     let held = c.args.held.now in
-    can_lose c.args.due.spot.place c.pane-pane.result (entries_of held) (map.entries_sorted held.panes) c.pane-pane.ensures c.args.streams.now c.requires.tells
+    can_lose c.args.due.spot.place pane (entries_of held) (map.entries_sorted held.panes) found c.args.streams.now c.requires.tells
 
 pub gain-requires-clause-can : goal.gain-requires-clause-can
 gain-requires-clause-can c =
     let held = c.args.held.now in
-    can_gain c.args.due.spot.place c.pane-pane.result (entries_of held) (map.entries_sorted held.panes) c.pane-pane.ensures c.args.streams.now c.lose.new.self c.lose.ensures.told c.lose.ensures.alike (option_map (λ cells. cells.now) c.run-ran.result.row) c.requires.tells
+    can_gain c.args.due.spot.place c.pane-pane.result (entries_of held) (map.entries_sorted held.panes) c.pane-pane.ensures c.args.streams.now c.lose_held.new.self (c.lose_held.ensures.told c.pane-pane.result c.pane-pane.ensures) c.lose_held.ensures.alike (option_map (λ cells. cells.now) c.run-ran.result.row) c.requires.tells
 
 pub returns-clause-panes : goal.returns-clause-panes
 returns-clause-panes c = λ h found.
@@ -42,4 +42,4 @@ returns-clause-tells c =
     let held = c.args.held.now in let place = c.args.due.spot.place in
     let e = c.fire_at.ensures.panes in
     subst (λ (es : Panes). Tells c.args.streams.now c.gain.new.self (entries_of held) es) (sym e.2)
-    (tells_fired place c.pane-pane.result (entries_of held) (map.entries_sorted held.panes) c.pane-pane.ensures c.args.streams.now c.lose.new.self c.lose.ensures.told c.gain.new.self (once_fired c.header-header.result.now.mode (option_map (λ cells. cells.now) c.run-ran.result.row) e.0) c.lose.ensures.alike c.gain.ensures.alike c.gain.ensures.told)
+    (tells_fired place c.pane-pane.result (entries_of held) (map.entries_sorted held.panes) c.pane-pane.ensures c.args.streams.now c.lose_held.new.self (c.lose_held.ensures.told c.pane-pane.result c.pane-pane.ensures) c.gain.new.self (once_fired c.header-header.result.now.mode (option_map (λ cells. cells.now) c.run-ran.result.row) e.0) c.lose_held.ensures.alike c.gain.ensures.alike c.gain.ensures.told)
