@@ -55,7 +55,7 @@ impl<R: Read + Drop> Rows<R> {
         self.left -= 1;
         match self.reader.read_byte_record(&mut self.row) {
             Ok(found) => Ok(found),
-            Err(ref error) => Err(end_of(error)),
+            Err(error) => Err(end_of(&error)),
         }
     }
 

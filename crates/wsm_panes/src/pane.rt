@@ -8,18 +8,17 @@ ghost use Rattle.wsm_fold.specs.Accumulators.{SumsFit};
 ghost use Rattle.wsm_semantics.specs.Query.{Datum};
 ghost use Rattle.wsm_semantics.specs.Summaries.{left_folded, standing_joined, with_folded, with_record};
 ghost use Rattle.wsm_semantics.specs.Summaries as kept;
-ghost use Rattle.wsm_semantics.specs.declared.standing.Standing.TheVariants.{Row};
 ghost use Rattle.std.specs.Option.{is_some};
 ghost use Rattle.wsm_panes.specs.Layout.{folded_by, standing_by};
 ghost use Rattle.wsm_panes.specs.View.{IsFew, row_seen};
-ghost use Rattle.wsm_panes.specs.Held.{CanJoin, CanJoinFolds, CanRecord, CanTake, has_fired, once_fired, taking};
+ghost use Rattle.wsm_panes.specs.Held.{CanJoin, CanJoinFolds, CanRecord, CanTake, has_fired, taking};
 
 use crate::head::Stands;
 use crate::recording::TakesRecords;
 use crate::view::{PaneView, RowView, row_columns};
 use std::marker::Model;
 use wsm_fold::Folded;
-use wsm_record::{Columns, Kind, Mode, Value};
+use wsm_record::{Kind, Value};
 use wsm_semantics::Standing;
 
 /// What is kept of the records of a key in a window: a pane of the Dataflow Model (Akidau et al.
@@ -72,17 +71,6 @@ impl Pane {
             folded: folded_of(view.is_folded, view.folds),
             stands: standing_of(view.stands, &view.row),
         }
-    }
-
-    /// Has it have fired: it has shown all of its records, and the row of the firing stands.
-    pub(crate) fn fire(&mut self, mode: Mode, row: &Option<Columns>)
-        ensures { self.new ≡ once_fired mode row.now self.old }
-    {
-        self.unshown = 0;
-        if mode == Mode::Discarding {
-            self.folded = None;
-        }
-        self.stands = Standing::Row(*row);
     }
 
     /// Whether it fired, or a part of it did before it was joined.

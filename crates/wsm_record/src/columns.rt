@@ -99,12 +99,4 @@ impl Columns {
         self.cells[self.len] = cell;
         self.len += 1;
     }
-
-    /// Takes all columns away.
-    pub fn clear(&mut self)
-        ensures { self.new ≡ [] }
-    {
-        self.cells[..self.len].fill(Cell::Int(0));
-        self.len = 0;
-    }
 }
