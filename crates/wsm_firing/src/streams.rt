@@ -108,17 +108,6 @@ impl Streams {
         if let Form::Panes = self.form {
             return;
         }
-        self.lose_there(held, spot);
-    }
-
-    // The same, with room for what is read of the pane.
-    #[inline(never)]
-    fn lose_there(&mut self, held: &HeldPanes, spot: Spot)
-        requires there { IsSome (find place_cmp spot.place (entries_of held.now)) }
-        requires can { (pane : Pane (List Value)) → find place_cmp spot.place (entries_of held.now) ≡ Some pane → CanLose self.old (standing_row pane.stands) }
-        ensures told { (pane : Pane (List Value)) → find place_cmp spot.place (entries_of held.now) ≡ Some pane → (before now : List (List Cell)) → IsTold self.old before (cons_option (standing_row pane.stands) now) → IsTold self.new before now }
-        ensures alike { AreAlike self.old self.new }
-    {
         self.lose_standing(&held.pane(spot));
     }
 
