@@ -1,5 +1,6 @@
 -- Lines, cell by cell.
-use Rattle.std.proofs.Common.{◌≡◌, ℕ, zero, suc, ◌+◌, ◌-◌, ◌<◌, true, subst, length, length-drop, get_or, map, List, [], ◌∷◌, ◌++◌, take, drop, refl, sym, ap, ◌∙◌, append_assoc, append-nil}
+use Rattle.std.proofs.Common.{◌≡◌, ℕ, zero, suc, ◌+◌, ◌-◌, ◌<◌, ◌≤◌, true, subst, length, length-drop, get_or, map, List, [], ◌∷◌, ◌++◌, take, drop, refl, sym, ap, ◌∙◌, append_assoc, append-nil}
+use Rattle.std.proofs.lemmas.List.{drop-append-le, drop-drop}
 use Rattle.std.proofs.Math.Seq.{drop-length, take-length}
 use Rattle.std.specs.Prelude.{OnOk, Result, Ok, Err, is_ok, if◌then◌else◌}
 use Rattle.std.specs.List.{list_all}
@@ -60,10 +61,14 @@ pub take_behind : {X : Type 0} (n : ℕ) (xs : List X) → take (length xs - n) 
 take_behind n xs = subst (λ (m : ℕ). take m (drop n xs) ≡ drop n xs) (length-drop n xs) (take-length (drop n xs))
 
 -- a line that was written from its end on
-pub line_from_end : (first name start end : List ℕ) (numbers : List (List ℕ)) (from_numbers from_end from_start from_name line : List ℕ)
-    → from_numbers ≡ cells_text numbers ++ 10 ∷ [] → from_end ≡ 44 ∷ (end ++ from_numbers) → from_start ≡ 44 ∷ (start ++ from_end) → from_name ≡ name ++ from_start → line ≡ first ++ from_name
-    → line ≡ first ++ (name ++ (cells_text (start ∷ end ∷ numbers) ++ 10 ∷ []))
-line_from_end first name start end numbers from_numbers from_end from_start from_name line e f g h k = rw (k, h, g, f, e) (simp append_assoc)
+pub line_from_end : (first name : List ℕ) (window numbers : List (List ℕ)) (from_numbers from_window from_name line : List ℕ)
+    → from_numbers ≡ cells_text numbers ++ 10 ∷ [] → from_window ≡ cells_text window ++ from_numbers → from_name ≡ name ++ from_window → line ≡ first ++ from_name
+    → line ≡ first ++ (name ++ (cells_text (window ++ numbers) ++ 10 ∷ []))
+line_from_end first name window numbers from_numbers from_window from_name line e f g h = rw (h, g, f, e, cells_text-append window numbers) (simp append_assoc)
+
+-- what lies behind a place, some further on
+pub drop_behind : (n m : ℕ) (xs ys zs : List ℕ) → drop n xs ≡ ys ++ zs → m ≤ length ys → drop (n + m) xs ≡ drop m ys ++ zs
+drop_behind n m xs ys zs e h = sym (drop-drop m n xs) ∙ ap (drop m) e ∙ drop-append-le m ys zs h
 
 -- what a call adds where it succeeds
 pub appended : {T E : Type 0} (r : Result T E) (old new part line : List ℕ) → new ≡ (if is_ok r then old ++ part else old) → part ≡ line → OnOk r (new ≡ old ++ line)

@@ -10,11 +10,13 @@ pub use guarded::Guarded;
 pub use number::read_number;
 pub use row::{RowRefusal, read_row, read_row_into};
 pub use rows::{ReadEnd, Rows};
-pub use text::{end_text, fault_text, refusal_text, row_text};
+pub use text::{end_text, fault_text, refusal_text, row_text, rows_text};
 
 mod device;
+mod from_end;
 mod guarded;
 mod number;
 mod row;
 mod rows;
 mod text;
+mod window_text;

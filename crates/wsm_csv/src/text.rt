@@ -4,7 +4,7 @@
 //! call adds one line to a buffer; after a refusal of memory the buffer has what it had, and perhaps
 //! a beginning of the line.
 
-ghost use Rattle.std.specs.Prelude.{◌≡◌, ◌≤◌, ◌<ℤ◌, ◌+◌, ◌*◌, ◌++◌, ◌∷◌, [], List, true, codes, drop, length, map, option_map, take, unwrap_or, OnOk, pos};
+ghost use Rattle.std.specs.Prelude.{◌≡◌, ◌≤◌, ◌+◌, ◌*◌, ◌++◌, ◌∷◌, [], List, true, codes, drop, length, map, option_map, take, unwrap_or, OnOk};
 ghost use Rattle.std.specs.List.{list_all};
 ghost use Rattle.std.specs.Fmt.{decimal, signed_decimal};
 ghost use Rattle.wsm_record.specs.Schema.{Declared};
@@ -12,16 +12,15 @@ ghost use Rattle.wsm_semantics.specs.Lines.{Out, Faulty, Refused, End};
 ghost use Rattle.wsm_semantics.specs.Text as text;
 ghost use Rattle.wsm_csv.specs.Lines.{cells_text, is_a_number, number_text};
 
-use itoa::{Buffer, write_digits};
+use crate::from_end::{CELL, write_cell, write_text};
+use crate::window_text::WindowText;
+use itoa::Buffer;
 use std::alloc::AllocError;
 use wsm_admission::Refusal;
 use wsm_record::limits::MAX_NAME;
 use wsm_record::{Cell, Columns, Names, RowFault, Schema};
 use wsm_semantics::{OutRow, Totals};
 use wsm_windows::{PaneKind, Window};
-
-// The most bytes of a comma and a number behind it, with its sign.
-const CELL: usize = 21;
 
 // How many numbers of a row are written together with its window.
 const TOGETHER: usize = 4;
@@ -35,25 +34,24 @@ const FIRST: usize = 13;
 // The most bytes of the line of a pane whose columns are a few numbers.
 const LINE: usize = FIRST + MAX_NAME + CELLS + 1;
 
+/// Adds the lines of rows, in their order. A number that stands for no name is an empty cell.
+#[inline(always)]
+pub fn rows_text(schema: &Schema, rows: &[OutRow], out: &mut Vec<u8>) -> Result<(), AllocError>
+    ensures { OnOk result (out.new.items ≡ out.old.items ++ text.lines_text schema.now (map Out rows.now)) }
+{
+    // Most turns have no rows.
+    if rows.is_empty() {
+        return Ok(());
+    }
+    add_rows(schema, rows, out)
+}
+
 /// Adds the line of a row. A number that stands for no name is an empty cell.
 pub fn row_text(schema: &Schema, row: &OutRow, out: &mut Vec<u8>) -> Result<(), AllocError>
     ensures { OnOk result (out.new.items ≡ out.old.items ++ text.line_text schema.now (Out row.now)) }
 {
-    if let OutRow::Pane {
-        kind,
-        key,
-        window,
-        columns,
-    } = row
-    {
-        let name = name_text(Some(schema.keys()), *key);
-        let columns = columns.as_slice();
-        if name.len() <= MAX_NAME && are_few_numbers(columns) {
-            return add_short_line(*kind, name, *window, columns, out);
-        }
-    }
-    add_row(schema, row, out)?;
-    end_line(out)
+    let mut last = no_window();
+    add_line(schema, row, &mut last, out)
 }
 
 /// Adds the line of a row that is no event.
@@ -83,23 +81,66 @@ pub fn end_text(totals: Totals, out: &mut Vec<u8>) -> Result<(), AllocError>
     end_line(out)
 }
 
+// The lines of rows.
+fn add_rows(schema: &Schema, rows: &[OutRow], out: &mut Vec<u8>) -> Result<(), AllocError>
+    ensures { OnOk result (out.new.items ≡ out.old.items ++ text.lines_text schema.now (map Out rows.now)) }
+{
+    let mut last = no_window();
+    for row in rows {
+        add_line(schema, row, &mut last, out)?;
+    }
+    Ok(())
+}
+
+// The text of a window before any is written.
+fn no_window() -> WindowText {
+    WindowText::of(Window { start: 0, end: 0 })
+}
+
+// The line of a row. The text is that of the window that was written last.
+#[inline(always)]
+fn add_line(
+    schema: &Schema,
+    row: &OutRow,
+    last: &mut WindowText,
+    out: &mut Vec<u8>,
+) -> Result<(), AllocError>
+    ensures { OnOk result (out.new.items ≡ out.old.items ++ text.line_text schema.now (Out row.now)) }
+{
+    if let OutRow::Pane {
+        kind,
+        key,
+        window,
+        columns,
+    } = row
+    {
+        let name = name_text(Some(schema.keys()), *key);
+        let columns = columns.as_slice();
+        if name.len() <= MAX_NAME && are_few_numbers(columns) {
+            last.set(*window);
+            return add_short_line(*kind, name, last, columns, out);
+        }
+    }
+    add_row(schema, row, out)?;
+    end_line(out)
+}
+
 // The line of a pane whose columns are a few numbers, in one piece.
 fn add_short_line(
     kind: PaneKind,
     name: &[u8],
-    window: Window,
+    window: &WindowText,
     numbers: &[Cell],
     out: &mut Vec<u8>,
 ) -> Result<(), AllocError>
     requires name { length name.now ≤ MAX_NAME }
     requires numbers { list_all is_a_number numbers.now ≡ true }
     requires few { length numbers.now ≤ TOGETHER }
-    ensures { OnOk result (out.new.items ≡ out.old.items ++ ((codes "pane" ++ 44 ∷ text.kind_word kind ++ 44 ∷ []) ++ (name.now ++ (cells_text (signed_decimal window.start ∷ signed_decimal window.end ∷ map number_text numbers.now) ++ 10 ∷ [])))) }
+    ensures { OnOk result (out.new.items ≡ out.old.items ++ ((codes "pane" ++ 44 ∷ text.kind_word kind ++ 44 ∷ []) ++ (name.now ++ (cells_text (signed_decimal window.now.start ∷ signed_decimal window.now.end ∷ map number_text numbers.now) ++ 10 ∷ [])))) }
 {
     let mut line = [b'\n'; LINE];
     let columns = write_numbers(numbers, &mut line, LINE - 1);
-    let end = write_cell(window.end, &mut line, columns);
-    let start = write_cell(window.start, &mut line, end);
+    let start = window.write(&mut line, columns);
     let key = write_text(name, &mut line, start);
     let first = write_first(kind, &mut line, key);
     out.extend_from_slice(&line[first..])
@@ -282,51 +323,6 @@ fn add_number(number: i64, out: &mut Vec<u8>) -> Result<(), AllocError>
     out.extend_from_slice(&cell[start..])
 }
 
-// Writes a comma and a number so that they end at a place, and tells where they begin.
-#[inline(always)]
-fn write_cell(number: i64, cells: &mut [u8], end: usize) -> usize
-    requires room { CELL ≤ end }
-    requires within { end ≤ length cells.old }
-    ensures start { end ≤ result + CELL }
-    ensures begins { result ≤ end }
-    ensures written { drop result cells.new ≡ 44 ∷ signed_decimal number ++ drop end cells.old }
-{
-    let start = write_number(number, cells, end) - 1;
-    cells[start] = b',';
-    start
-}
-
-// Writes a number so that it ends at a place, and tells where it begins.
-#[inline(always)]
-fn write_number(number: i64, cells: &mut [u8], end: usize) -> usize
-    requires room { CELL ≤ end }
-    requires within { end ≤ length cells.old }
-    ensures start { end + 1 ≤ result + CELL }
-    ensures begins { result ≤ end }
-    ensures written { drop result cells.new ≡ signed_decimal number ++ drop end cells.old }
-{
-    if number < 0 {
-        return write_negative(number, cells, end);
-    }
-    write_digits(number.unsigned_abs(), cells, end)
-}
-
-// Writes a minus and the digits of a number below 0 so that they end at a place, and tells where
-// they begin. Few numbers are below 0, so this stands by itself.
-#[inline(never)]
-fn write_negative(number: i64, cells: &mut [u8], end: usize) -> usize
-    requires negative { number <ℤ pos 0 }
-    requires room { CELL ≤ end }
-    requires within { end ≤ length cells.old }
-    ensures start { end + 1 ≤ result + CELL }
-    ensures begins { result ≤ end }
-    ensures written { drop result cells.new ≡ signed_decimal number ++ drop end cells.old }
-{
-    let start = write_digits(number.unsigned_abs(), cells, end) - 1;
-    cells[start] = b'-';
-    start
-}
-
 // Writes the first cells of the row of a pane that fires so, and a comma, so that they end at a
 // place, and tells where they begin. Each text has a length of its own that the compiler knows.
 #[inline(always)]
@@ -342,19 +338,6 @@ fn write_first(kind: PaneKind, cells: &mut [u8], end: usize) -> usize
         PaneKind::Late => write_text(b"pane,late,", cells, end),
         PaneKind::Final => write_text(b"pane,final,", cells, end),
     }
-}
-
-// Writes a text so that it ends at a place, and tells where it begins.
-#[inline(always)]
-fn write_text(text: &[u8], cells: &mut [u8], end: usize) -> usize
-    requires room { length text.now ≤ end }
-    requires within { end ≤ length cells.old }
-    ensures start { result + length text.now ≡ end }
-    ensures written { drop result cells.new ≡ text.now ++ drop end cells.old }
-{
-    let start = end - text.len();
-    cells[start..end].copy_from_slice(text);
-    start
 }
 
 fn add_count(count: u64, out: &mut Vec<u8>) -> Result<(), AllocError>

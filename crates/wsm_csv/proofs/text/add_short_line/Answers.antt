@@ -1,4 +1,4 @@
-use Rattle.std.proofs.Common.{rules, to_z-of_z, w64, SFits, ◌≤◌, ◌++◌, drop, length, map, codes, ◌∷◌, [], arith}
+use Rattle.std.proofs.Common.{◌≤◌, ◌++◌, drop, length, map, codes, ◌∷◌, [], List, ℕ, arith}
 use Rattle.std.proofs.lemmas.Slice.{between_to_end}
 use Rattle.std.specs.Fmt.{signed_decimal}
 use Rattle.wsm_semantics.specs.Text.{kind_word}
@@ -8,16 +8,14 @@ use Rattle.wsm_csv.proofs.text.add_short_line.Goals as goal
 
 pub returns : goal.returns
 returns c =
-    let end_fits : SFits w64 c.args.window.end = search rules in
-    let start_fits : SFits w64 c.args.window.start = search rules in
     let numbers = c.write_numbers-columns in
-    let end = c.write_cell-end in
-    let start = c.write_cell-start in
+    let start = c.write-start in
     let key = c.write_text-key in
     let first = c.write_first-first in
     let front = codes "pane" ++ 44 ∷ kind_word c.args.kind ++ 44 ∷ [] in
-    let written = line_from_end front c.args.name.now (signed_decimal c.args.window.start) (signed_decimal c.args.window.end) (map number_text c.args.numbers.now)
-    (drop numbers.result numbers.new.cells) (drop end.result end.new.cells) (drop start.result start.new.cells) (drop key.result key.new.cells) (drop first.result first.new.cells)
-    numbers.ensures.written (simp to_z-of_z at end.ensures.written) (simp to_z-of_z at start.ensures.written) key.ensures.written first.ensures.written in
-    let long : length first.new.cells ≤ 172 = omega (arith, numbers.auto.cells, end.auto.cells, start.auto.cells, key.auto.cells, first.auto.cells) in
+    let window : List (List ℕ) = signed_decimal c.args.window.now.start ∷ signed_decimal c.args.window.now.end ∷ [] in
+    let written = line_from_end front c.args.name.now window (map number_text c.args.numbers.now)
+    (drop numbers.result numbers.new.cells) (drop start.result start.new.cells) (drop key.result key.new.cells) (drop first.result first.new.cells)
+    numbers.ensures.written start.ensures.written key.ensures.written first.ensures.written in
+    let long : length first.new.cells ≤ 172 = omega (arith, numbers.auto.cells, start.auto.cells, key.auto.cells, first.auto.cells) in
     appended c.extend_from_slice.result c.args.out.now.items c.extend_from_slice.new.self.items _ _ c.extend_from_slice.ensures.items (rw (between_to_end first.new.cells first.result 172 long) written)

@@ -1,6 +1,6 @@
 use Rattle.std.proofs.Common.{arith}
 use Rattle.std.proofs.lemmas.Fmt.{length-decimal-le}
-use Rattle.wsm_csv.proofs.text.write_number.Goals as goal
+use Rattle.wsm_csv.proofs.from_end.write_number.Goals as goal
 
 pub write_digits-requires : goal.write_digits-requires
 write_digits-requires c = (omega (arith, length-decimal-le 19 c.unsigned_abs.result (omega arith) (omega arith) (omega arith), c.requires.room), c.requires.within)

@@ -1,6 +1,6 @@
 use Rattle.std.proofs.Common.{◌≡◌, ◌+◌, ◌-◌, ◌<◌, length, arith, refl, to_z-of_z}
 use Rattle.std.proofs.lemmas.List.{drop-set}
-use Rattle.wsm_csv.proofs.text.write_cell.Goals as goal
+use Rattle.wsm_csv.proofs.from_end.write_cell.Goals as goal
 
 pub bounds-cells-start : goal.bounds-cells-start
 bounds-cells-start c = omega (arith, c.requires.within, c.requires.room, c.write_number-start.ensures.start, c.write_number-start.auto.cells, c.write_number-start.ensures.begins)

@@ -4,7 +4,7 @@ use Rattle.std.proofs.lemmas.List.{drop-set}
 use Rattle.std.proofs.lemmas.Int.{ints}
 use Rattle.std.specs.Prelude.{ℤ, pos, negsuc, ◌<ℤ◌, ◌∷◌, unsigned_abs, refl}
 use Rattle.std.specs.Fmt.{decimal, signed_decimal}
-use Rattle.wsm_csv.proofs.text.write_negative.Goals as goal
+use Rattle.wsm_csv.proofs.from_end.write_negative.Goals as goal
 
 -- a minus stands in front of the digits
 minus_first : (z : ℤ) → z <ℤ pos 0 → 45 ∷ decimal (unsigned_abs z) ≡ signed_decimal z
