@@ -1,7 +1,7 @@
 //! The turns of a run.
 
-ghost use Rattle.std.specs.Prelude.{◌≡◌, ◌++◌, Some, OnOk, map};
-ghost use Rattle.wsm_semantics.specs.Lines.{Out, refusal_lines};
+ghost use Rattle.std.specs.Prelude.{◌≡◌, ◌++◌, Some, OnOk};
+ghost use Rattle.wsm_semantics.specs.Lines.{refusal_lines};
 ghost use Rattle.wsm_record.specs.Schema.{Declared};
 ghost use Rattle.wsm_semantics.specs.Text.{lines_text};
 
@@ -9,12 +9,11 @@ use csv::ByteRecord;
 use std::alloc::{AllocError, Global};
 use wsm_admission::Refusal;
 use wsm_csv::{
-    Device, DeviceFault, RowRefusal, end_text, fault_text, read_row_into, refusal_text, row_text,
+    Device, DeviceFault, RowRefusal, end_text, fault_text, read_row_into, refusal_text, rows_text,
     write_out,
 };
 use wsm_engine::{Engine, Totals};
-use wsm_record::{Event, RowFault, Schema, Value};
-use wsm_semantics::OutRow;
+use wsm_record::{Event, RowFault, Value};
 use wsm_verifier::Verified;
 
 /// What the turns so far come to: an engine, and the lines of the last turn.
@@ -80,7 +79,7 @@ impl Turns {
     {
         let reply = self.engine.feed(&self.event);
         self.tell(reply.refusal)?;
-        add_rows(self.engine.schema(), self.engine.rows(), &mut self.lines)?;
+        rows_text(self.engine.schema(), self.engine.rows(), &mut self.lines)?;
         Ok(())
     }
 
@@ -146,16 +145,6 @@ impl Turns {
             panes: totals.panes,
         }
     }
-}
-
-// Adds a line for each row.
-fn add_rows(schema: &Schema, rows: &[OutRow], lines: &mut Vec<u8>) -> Result<(), AllocError>
-    ensures { OnOk result (lines.new.items ≡ lines.old.items ++ lines_text schema.now (map Out rows.now)) }
-{
-    for row in rows {
-        row_text(schema, row, lines)?;
-    }
-    Ok(())
 }
 
 // Adds the line of a refusal; a late record has none.

@@ -36,10 +36,10 @@ returns c = λ p before fits.
     let first = c.in_ok-tell.ensures.lines p (Ok e ∷ before) next p.header.schema
     ∙ ap (λ (n : ℕ). old.lines.items ++ lines_text p.header.schema (refusal_lines n c.feed-reply.result.refusal)) (one_more (length before))
     ∙ ap (λ r. old.lines.items ++ lines_text p.header.schema (refusal_lines (counter (length before + 1)) r)) verdict in
-    let second = c.in_ok-add_rows.ensures
+    let second = c.in_ok-rows_text.ensures
     ∙ ap (λ (d : Declared). mid.lines.items ++ lines_text d (map Out c.rows.result.now)) declared
     ∙ ap (λ (rs : List OutRow). mid.lines.items ++ lines_text p.header.schema (map Out rs)) rows in
     record {
       fits = record { engine = told.engine; faults = told.faults };
-      lines = joined_lines p.header.schema old.lines.items mid.lines.items c.add_rows.new.lines.items (refusal_lines (counter (length before + 1)) (verdict_on (query_of p) past e)) (map Out (turn_rows (query_of p) past e)) first second;
+      lines = joined_lines p.header.schema old.lines.items mid.lines.items c.rows_text.new.out.items (refusal_lines (counter (length before + 1)) (verdict_on (query_of p) past e)) (map Out (turn_rows (query_of p) past e)) first second;
     }
