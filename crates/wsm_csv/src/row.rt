@@ -196,9 +196,7 @@ fn read_values(
     ensures room { length fields.now ≤ vec_capacity values.old → result ≢ Err RowRefusal.Memory }
 {
     values.clear();
-    if values.capacity() < fields.len() {
-        values.reserve(fields.len())?;
-    }
+    values.reserve(fields.len())?;
     for (place, field) in fields.iter().enumerate() {
         add_value(&field.ty, cell_at(row, RECORD_HEAD + place), values)?;
     }

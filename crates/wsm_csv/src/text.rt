@@ -10,7 +10,7 @@ ghost use Rattle.std.specs.Fmt.{decimal, signed_decimal};
 ghost use Rattle.wsm_record.specs.Schema.{Declared};
 ghost use Rattle.wsm_semantics.specs.Lines.{Out, Faulty, Refused, End};
 ghost use Rattle.wsm_semantics.specs.Text as text;
-ghost use Rattle.wsm_csv.specs.Lines.{cells_text, is_a_number, number_text};
+ghost use Rattle.wsm_csv.specs.Lines.{cells_text, is_a_number, number_text, window_cells};
 
 use crate::from_end::{CELL, write_cell, write_text};
 use crate::window_text::WindowText;
@@ -136,7 +136,7 @@ fn add_short_line(
     requires name { length name.now ≤ MAX_NAME }
     requires numbers { list_all is_a_number numbers.now ≡ true }
     requires few { length numbers.now ≤ TOGETHER }
-    ensures { OnOk result (out.new.items ≡ out.old.items ++ ((codes "pane" ++ 44 ∷ text.kind_word kind ++ 44 ∷ []) ++ (name.now ++ (cells_text (signed_decimal window.now.start ∷ signed_decimal window.now.end ∷ map number_text numbers.now) ++ 10 ∷ [])))) }
+    ensures { OnOk result (out.new.items ≡ out.old.items ++ ((codes "pane" ++ 44 ∷ text.kind_word kind ++ 44 ∷ []) ++ (name.now ++ (cells_text (window_cells window.now ++ map number_text numbers.now) ++ 10 ∷ [])))) }
 {
     let mut line = [b'\n'; LINE];
     let columns = write_numbers(numbers, &mut line, LINE - 1);

@@ -24,12 +24,13 @@ impl Model for WindowText {
     ghost use Rattle.std.specs.Prelude.{◌≡◌, ◌≤◌, drop, length};
     ghost use Rattle.wsm_windows.specs.declared.window.Window.{Window as OneWindow};
     ghost use Rattle.wsm_csv.specs.Lines.{cells_text, window_cells};
+    ghost use Rattle.wsm_csv.specs.declared.window_text.TheConstants.{WINDOW};
 
     ghost Value = { OneWindow };
 
     ghost view = { λ a. a.window };
 
-    ghost invariant = { λ a. (a.start ≤ 42) × (length a.cells ≡ 42) × (drop a.start a.cells ≡ cells_text (window_cells a.window)) };
+    ghost invariant = { λ a. (a.start ≤ WINDOW) × (length a.cells ≡ WINDOW) × (drop a.start a.cells ≡ cells_text (window_cells a.window)) };
 }
 
 impl WindowText {
