@@ -8,18 +8,17 @@ ghost use Rattle.wsm_record.specs.declared.limits.TheConstants.{MAX_COLUMNS};
 ghost use Rattle.wsm_windows.specs.Places.{place_cmp, window_of};
 ghost use Rattle.wsm_semantics.specs.declared.out_row.OutRow.TheVariants.{Pane as PaneRow};
 ghost use Rattle.wsm_semantics.specs.Steps.{chosen_rows};
-ghost use Rattle.wsm_semantics.specs.Summaries.{Pane, fired_pane};
-ghost use Rattle.wsm_machine.specs.Meaning.{plan_of};
+ghost use Rattle.wsm_semantics.specs.Summaries.{Pane, columns as columns_by, fired_count, fired_pane};
+ghost use Rattle.wsm_machine.specs.Meaning.{plan_of, pane_cost_by};
 ghost use Rattle.wsm_panes.specs.Held.{IsKept, entries_of};
 ghost use Rattle.wsm_firing.specs.Tally.{tally_with};
 ghost use Rattle.wsm_firing.specs.Firing.{CanAdd, rows_of};
 ghost use Rattle.wsm_firing.specs.Due.{fired_by};
 ghost use Rattle.wsm_firing.specs.Streams.{CanTell, Tells};
 
-use crate::run::run;
+use crate::run::Ran;
 use crate::streams::Streams;
 use crate::tally::Tally;
-use wsm_machine::Machine;
 use wsm_panes::{HeldPanes, Spot};
 use wsm_record::{Cell, Columns, Form};
 use wsm_semantics::OutRow;
@@ -35,22 +34,26 @@ pub struct Due {
     pub spot: Spot,
 }
 
-/// Fires a pane that is held. Its columns stand for it, of which the streams are told, and are written
-/// where rows are those of panes.
+/// Fires a pane that is held, on which FIRE came to what is told. Its columns stand for it, of which
+/// the streams are told, and are written where rows are those of panes.
 #[inline(always)]
 pub fn fire(
     verified: &Verified,
-    machine: &mut Machine,
     held: &mut HeldPanes,
     streams: &mut Streams,
     rows: &mut Vec<OutRow>,
     tally: &mut Tally,
     due: Due,
+    ran: Ran<'_>,
 )
     requires wide { held.old.widths.columns ≡ length verified.now.header.columns }
     requires tells { CanTell streams.old (entries_of held.old) }
     requires held { IsSome (find place_cmp due.spot.place (entries_of held.old)) }
     requires can { (pane : Pane (List Value)) → find place_cmp due.spot.place (entries_of held.old) ≡ Some pane → CanAdd verified.now (vec_capacity rows.old) (vec_len rows.old) tally.old (fired_by verified.now.header.mode due pane ∷ []) }
+    requires row { (pane : Pane (List Value)) → find place_cmp due.spot.place (entries_of held.old) ≡ Some pane → option_map (λ cells. cells.now) ran.row ≡ columns_by (plan_of verified.now) due.spot.place.key (fired_count verified.now.header.mode pane) pane.folded }
+    requires as_wide { IfSome ran.row (λ cells. length cells.now ≡ length verified.now.header.columns) }
+    requires few { IfSome ran.row (λ cells. length cells.now ≤ MAX_COLUMNS) }
+    requires steps { (pane : Pane (List Value)) → find place_cmp due.spot.place (entries_of held.old) ≡ Some pane → ran.steps ≡ pane_cost_by verified.now (fired_by verified.now.header.mode due pane) }
     ensures panes { (pane : Pane (List Value)) → find place_cmp due.spot.place (entries_of held.old) ≡ Some pane → entries_of held.new ≡ put place_cmp due.spot.place (fired_pane (plan_of verified.now) verified.now.header.mode due.spot.place (Some due.kind) pane) (entries_of held.old) }
     ensures keeps { IsKept held.old held.new }
     ensures tells { Tells streams.old streams.new (entries_of held.old) (entries_of held.new) }
@@ -59,8 +62,6 @@ pub fn fire(
     ensures tally { (pane : Pane (List Value)) → find place_cmp due.spot.place (entries_of held.old) ≡ Some pane → tally.new ≡ tally_with verified.now tally.old (fired_by verified.now.header.mode due pane ∷ []) }
 {
     let header = verified.program().header();
-    let pane = held.pane(due.spot);
-    let ran = run(verified, machine, due, &pane);
     streams.lose_held(held, due.spot);
     held.fire_at(due.spot, header.mode, ran.row);
     streams.gain(ran.row);

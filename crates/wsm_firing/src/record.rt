@@ -13,6 +13,7 @@ ghost use Rattle.wsm_firing.specs.ByRecord.{AreInOrder, CanFireByRecord, fires_b
 
 use crate::fire::{Due, fire};
 use crate::kinds::record_kind;
+use crate::run::run;
 use crate::streams::Streams;
 use crate::tally::Tally;
 use wsm_machine::Machine;
@@ -123,15 +124,10 @@ fn fire_at(
     let Some(spot) = held.find(place) else {
         return;
     };
-    if let Some(kind) = record_kind(verified, mark, place, &held.pane(spot)) {
-        fire(
-            verified,
-            machine,
-            held,
-            streams,
-            rows,
-            tally,
-            Due { kind, spot },
-        );
+    let pane = held.pane(spot);
+    if let Some(kind) = record_kind(verified, mark, place, &pane) {
+        let due = Due { kind, spot };
+        let ran = run(verified, machine, due, &pane);
+        fire(verified, held, streams, rows, tally, due, ran);
     }
 }

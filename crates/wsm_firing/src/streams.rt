@@ -108,11 +108,21 @@ impl Streams {
         if let Form::Panes = self.form {
             return;
         }
+        self.lose_at(held, spot);
+    }
+
+    // The same, where rows are those of the relation.
+    #[inline(never)]
+    fn lose_at(&mut self, held: &HeldPanes, spot: Spot)
+        requires there { IsSome (find place_cmp spot.place (entries_of held.now)) }
+        requires can { (pane : Pane (List Value)) → find place_cmp spot.place (entries_of held.now) ≡ Some pane → CanLose self.old (standing_row pane.stands) }
+        ensures told { (pane : Pane (List Value)) → find place_cmp spot.place (entries_of held.now) ≡ Some pane → (before now : List (List Cell)) → IsTold self.old before (cons_option (standing_row pane.stands) now) → IsTold self.new before now }
+        ensures alike { AreAlike self.old self.new }
+    {
         self.lose_standing(&held.pane(spot));
     }
 
-    // The same, with room for the row.
-    #[inline(never)]
+    // The relation loses the row that stands for a pane, if one does, with room for it.
     fn lose_standing(&mut self, pane: &PaneView<'_>)
         requires { CanLose self.old (standing_row pane.now.stands) }
         ensures told { (before now : List (List Cell)) → IsTold self.old before (cons_option (standing_row pane.now.stands) now) → IsTold self.new before now }

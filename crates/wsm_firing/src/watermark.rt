@@ -15,6 +15,7 @@ ghost use Rattle.wsm_firing.specs.ByWatermark.{CanFireByWatermark, IsNextToFire,
 
 use crate::fire::{Due, fire};
 use crate::kinds::watermark_kind;
+use crate::run::run;
 use crate::streams::Streams;
 use crate::tally::Tally;
 use wsm_machine::Machine;
@@ -53,16 +54,11 @@ pub fn fire_by_watermark(
         let Some(spot) = next else {
             break;
         };
-        if let Some(kind) = watermark_kind(header, old, new, spot.place, &held.pane(spot)) {
-            fire(
-                verified,
-                machine,
-                held,
-                streams,
-                rows,
-                &mut tally,
-                Due { kind, spot },
-            );
+        let pane = held.pane(spot);
+        if let Some(kind) = watermark_kind(header, old, new, spot.place, &pane) {
+            let due = Due { kind, spot };
+            let ran = run(verified, machine, due, &pane);
+            fire(verified, held, streams, rows, &mut tally, due, ran);
         }
         next = next_to_fire(held, spot, expired, old, new);
     }

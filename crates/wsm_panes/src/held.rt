@@ -205,7 +205,7 @@ impl HeldPanes {
         ensures { place_found result ≡ place_due limit (following spot.place (entries_of self.now)) }
     {
         match self.shape {
-            Shape::Session(_) => self.list.next_due(spot, limit),
+            Shape::Session(_) => self.list.next_due(spot.rebuilt(), limit),
             _ => self.ring.next_due(spot, limit),
         }
     }
@@ -217,7 +217,7 @@ impl HeldPanes {
         ensures { find place_cmp spot.place (entries_of self.now) ≡ Some result }
     {
         match self.shape {
-            Shape::Session(_) => self.list.pane(spot),
+            Shape::Session(_) => self.list.pane(spot.rebuilt()),
             _ => self.ring.pane(spot),
         }
     }
@@ -232,7 +232,7 @@ impl HeldPanes {
         ensures keeps { IsKept self.old self.new }
     {
         match self.shape {
-            Shape::Session(_) => self.list.fire(spot, mode, row),
+            Shape::Session(_) => self.list.fire(spot.rebuilt(), mode, row),
             _ => self.ring.fire(spot, mode, row),
         }
     }

@@ -145,6 +145,7 @@ impl Ring {
     }
 
     // The slot of a place.
+    #[inline(always)]
     pub(crate) fn slot(self, place: Place) -> usize
         requires { IsRing self }
         ensures { result ≡ ring.slot_of self place }

@@ -16,6 +16,18 @@ pub struct Spot {
     pub(crate) at: usize,
 }
 
+impl Spot {
+    /// The same, put together anew from its fields. A copy would carry along the bytes between them.
+    #[inline(always)]
+    pub(crate) fn rebuilt(self) -> Spot
+        ensures { result ≡ self }
+    {
+        let Place { end, start, key } = self.place;
+        let place = Place { end, start, key };
+        Spot { place, at: self.at }
+    }
+}
+
 /// The spot of an entry at a place that is the one of a number, if its window ends by a limit.
 pub(crate) fn due(place: Place, at: usize, limit: i64) -> Option<Spot>
     ensures { place_found result ≡ (if is_kept limit place then None else Some place) }

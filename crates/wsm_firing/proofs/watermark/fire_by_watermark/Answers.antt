@@ -10,17 +10,18 @@ use Rattle.wsm_windows.specs.Windows.{IsPlaced, IsSpan}
 use Rattle.wsm_windows.specs.declared.place.Place.{Place}
 use Rattle.wsm_windows.specs.Places.{window_of}
 use Rattle.wsm_semantics.specs.declared.out_row.OutRow.{OutRow}
-use Rattle.wsm_semantics.specs.Summaries.{Fired, Pane, fired_count, fires, kind_by_watermark}
+use Rattle.wsm_semantics.specs.Summaries.{Fired, Pane, columns, fired_count, fires, kind_by_watermark}
 use Rattle.wsm_program.specs.Program.{Program, Header, is_program}
 use Rattle.wsm_program.specs.View.{header_of}
 use Rattle.wsm_verifier.proofs.Lawful as lawful_programs
-use Rattle.wsm_machine.specs.Meaning.{plan_of, query_of}
+use Rattle.wsm_machine.specs.Meaning.{pane_cost_by, plan_of, query_of}
 use Rattle.wsm_panes.specs.Held.{Held, IsKept, entries_of}
 use Rattle.wsm_panes.specs.Walk.{place_due, place_found}
 use Rattle.wsm_firing.specs.declared.tally.Tally.{Tally}
 use Rattle.wsm_firing.specs.Tally.{tally_with}
 use Rattle.wsm_firing.specs.ByWatermark.{IsNextToFire}
 use Rattle.wsm_firing.specs.Firing.{CanAdd, rows_of}
+use Rattle.wsm_firing.specs.Due.{fired_by}
 use Rattle.wsm_firing.specs.Streams.{Standing, Tells}
 use Rattle.wsm_firing.proofs.Standing.{tells_none, tells_on, can_tell_on}
 use Rattle.wsm_firing.proofs.Agreeing.{none_fires}
@@ -68,8 +69,8 @@ loop-init c =
       );
     }
 
-pub pane-requires : goal.pane-requires
-pane-requires c =
+pub pane-pane-requires : goal.pane-pane-requires
+pane-pane-requires c =
     let p = c.args.verified.now in let q = query_of p in let es = entries_of c.args.held.now in let sorted = map.entries_sorted c.args.held.now.panes in
     let old : ℤ = to_z w64 (of_z w64 c.args.old) in let new : ℤ = to_z w64 (of_z w64 c.args.new) in
     let kind : Place → Pane (List Value) → Option PaneKind = kind_by_watermark q old new in let all : List (Fired (List Value)) = fires q kind es in
@@ -90,8 +91,8 @@ watermark_kind-requires-clause-placed c =
     let room : ℕ = vec_capacity c.args.rows.now in
     let i = c.loop.invariant.walked.0 in let now = entries_of c.loop.held in let so_far = c.loop.invariant.walked.2 in let spot = c.in-Some.spot in
     let due : place_due new (slice_get now i) ≡ Some spot.place = sym c.loop.invariant.walked.3 ∙ ap place_found c.in-Some.is in
-    let e : Place × Pane (List Value) = (spot.place, c.pane.result) in
-    let at : slice_get now i ≡ Some e = entry_found new now i spot.place (map.entries_sorted c.loop.held.panes) due c.pane.result c.pane.ensures in
+    let e : Place × Pane (List Value) = (spot.place, c.pane-pane.result) in
+    let at : slice_get now i ≡ Some e = entry_found new now i spot.place (map.entries_sorted c.loop.held.panes) due c.pane-pane.result c.pane-pane.ensures in
     let there = as_it_was (plan_of p) q kind es now i e so_far sorted at in
     holds_at (λ e. IsPlaced (window_of e.0)) es i e c.requires.can.placed there
 
@@ -109,6 +110,36 @@ fire-requires-clause-held c =
     let due : place_due new (slice_get now i) ≡ Some spot.place = sym c.loop.invariant.walked.3 ∙ ap place_found c.in-Some.is in
     held_due new now i spot.place (map.entries_sorted c.loop.held.panes) due
 
+pub run-ran-requires : goal.run-ran-requires
+run-ran-requires c =
+    let p = c.args.verified.now in let q = query_of p in let es = entries_of c.args.held.now in let sorted = map.entries_sorted c.args.held.now.panes in
+    let old : ℤ = to_z w64 (of_z w64 c.args.old) in let new : ℤ = to_z w64 (of_z w64 c.args.new) in
+    let kind : Place → Pane (List Value) → Option PaneKind = kind_by_watermark q old new in let all : List (Fired (List Value)) = fires q kind es in
+    let room : ℕ = vec_capacity c.args.rows.now in
+    let i = c.loop.invariant.walked.0 in let now = entries_of c.loop.held in let so_far = c.loop.invariant.walked.2 in let spot = c.in-Some.spot in
+    let due : place_due new (slice_get now i) ≡ Some spot.place = sym c.loop.invariant.walked.3 ∙ ap place_found c.in-Some.is in
+    let e : Place × Pane (List Value) = (spot.place, c.pane-pane.result) in
+    let at : slice_get now i ≡ Some e = entry_found new now i spot.place (map.entries_sorted c.loop.held.panes) due c.pane-pane.result c.pane-pane.ensures in
+    let there = as_it_was (plan_of p) q kind es now i e so_far sorted at in
+    let header : header_of c.header-header.result.now ≡ p.header = c.header-header.ensures.header ∙ ap (λ (p : Program). p.header) c.program.ensures.program in
+    let is : c.watermark_kind.result ≡ kind e.0 e.1 = c.watermark_kind.ensures q (ap (λ (h : Header). h.mode) (sym header)) (ap (λ (h : Header). h.clock.lateness) (sym header)) in
+    let left : List (Fired (List Value)) = fires q kind (drop (i + 1) es) in
+    let f : Fired (List Value) = record { kind = c.in-Some-watermark_kind.kind; place = e.0; count = fired_count p.header.mode e.1; folded = e.1.folded } in
+    let split : fires q kind (drop i es) ≡ f ∷ left = fired_next (plan_of p) q kind es now i e so_far sorted at (Some c.in-Some-watermark_kind.kind) (sym is ∙ c.in-Some-watermark_kind.is) in
+    let comes : ComesTo p room c.loop.tally c.loop.rows.items ((f ∷ []) ++ left) all = subst (λ fs. ComesTo p room c.loop.tally c.loop.rows.items fs all) split c.loop.invariant.walked.4 in
+    let can : CanAdd p room (length c.loop.rows.items) c.loop.tally (f ∷ []) = can_add p room c.loop.tally c.loop.rows.items (f ∷ []) left all comes in
+    can.each.0
+
+pub fire-requires-clause-row : goal.fire-requires-clause-row
+fire-requires-clause-row c = λ h found.
+    let p = c.args.verified.now in
+    c.run-ran.ensures.row ∙ ap (λ (x : Pane (List Value)). columns (plan_of p) c.in-Some.spot.place.key (fired_count p.header.mode x) x.folded) (some_same (sym c.pane-pane.ensures ∙ found))
+
+pub fire-requires-clause-steps : goal.fire-requires-clause-steps
+fire-requires-clause-steps c = λ h found.
+    let p = c.args.verified.now in
+    c.run-ran.ensures.steps ∙ ap (λ (x : Pane (List Value)). pane_cost_by p (fired_by p.header.mode (record { kind = c.in-Some-watermark_kind.kind; spot = c.in-Some.spot }) x)) (some_same (sym c.pane-pane.ensures ∙ found))
+
 pub fire-requires-clause-can : goal.fire-requires-clause-can
 fire-requires-clause-can c =
     let p = c.args.verified.now in let q = query_of p in let es = entries_of c.args.held.now in let sorted = map.entries_sorted c.args.held.now.panes in
@@ -117,14 +148,14 @@ fire-requires-clause-can c =
     let room : ℕ = vec_capacity c.args.rows.now in
     let i = c.loop.invariant.walked.0 in let now = entries_of c.loop.held in let so_far = c.loop.invariant.walked.2 in let spot = c.in-Some.spot in
     let due : place_due new (slice_get now i) ≡ Some spot.place = sym c.loop.invariant.walked.3 ∙ ap place_found c.in-Some.is in
-    let e : Place × Pane (List Value) = (spot.place, c.pane.result) in
-    let at : slice_get now i ≡ Some e = entry_found new now i spot.place (map.entries_sorted c.loop.held.panes) due c.pane.result c.pane.ensures in
+    let e : Place × Pane (List Value) = (spot.place, c.pane-pane.result) in
+    let at : slice_get now i ≡ Some e = entry_found new now i spot.place (map.entries_sorted c.loop.held.panes) due c.pane-pane.result c.pane-pane.ensures in
     let there = as_it_was (plan_of p) q kind es now i e so_far sorted at in
     let header : header_of c.header-header.result.now ≡ p.header = c.header-header.ensures.header ∙ ap (λ (p : Program). p.header) c.program.ensures.program in
     let is : c.watermark_kind.result ≡ kind e.0 e.1 = c.watermark_kind.ensures q (ap (λ (h : Header). h.mode) (sym header)) (ap (λ (h : Header). h.clock.lateness) (sym header)) in
     let left : List (Fired (List Value)) = fires q kind (drop (i + 1) es) in
     λ h found.
-    let same : c.pane.result ≡ h = some_same (sym c.pane.ensures ∙ found) in
+    let same : c.pane-pane.result ≡ h = some_same (sym c.pane-pane.ensures ∙ found) in
     let f : Fired (List Value) = record { kind = c.in-Some-watermark_kind.kind; place = e.0; count = fired_count p.header.mode e.1; folded = e.1.folded } in
     let split : fires q kind (drop i es) ≡ f ∷ left = fired_next (plan_of p) q kind es now i e so_far sorted at (Some c.in-Some-watermark_kind.kind) (sym is ∙ c.in-Some-watermark_kind.is) in
     let comes : ComesTo p room c.loop.tally c.loop.rows.items ((f ∷ []) ++ left) all = subst (λ fs. ComesTo p room c.loop.tally c.loop.rows.items fs all) split c.loop.invariant.walked.4 in
@@ -141,15 +172,15 @@ next_to_fire-next-requires-clause-there c =
     let room : ℕ = vec_capacity c.args.rows.now in
     let i = c.loop.invariant.walked.0 in let now = entries_of c.loop.held in let so_far = c.loop.invariant.walked.2 in let spot = c.in-Some.spot in
     let due : place_due new (slice_get now i) ≡ Some spot.place = sym c.loop.invariant.walked.3 ∙ ap place_found c.in-Some.is in
-    let e : Place × Pane (List Value) = (spot.place, c.pane.result) in
-    let at : slice_get now i ≡ Some e = entry_found new now i spot.place (map.entries_sorted c.loop.held.panes) due c.pane.result c.pane.ensures in
+    let e : Place × Pane (List Value) = (spot.place, c.pane-pane.result) in
+    let at : slice_get now i ≡ Some e = entry_found new now i spot.place (map.entries_sorted c.loop.held.panes) due c.pane-pane.result c.pane-pane.ensures in
     let there = as_it_was (plan_of p) q kind es now i e so_far sorted at in
     let header : header_of c.header-header.result.now ≡ p.header = c.header-header.ensures.header ∙ ap (λ (p : Program). p.header) c.program.ensures.program in
     let is : c.watermark_kind.result ≡ kind e.0 e.1 = c.watermark_kind.ensures q (ap (λ (h : Header). h.mode) (sym header)) (ap (λ (h : Header). h.clock.lateness) (sym header)) in
     let left : List (Fired (List Value)) = fires q kind (drop (i + 1) es) in
     let fired : entries_of c.match-watermark_kind.held ≡ fired_first (plan_of p) q kind (i + 1) es =
     elim c.match-watermark_kind.branch [
-      | in-Some-watermark_kind w ↦ ap entries_of w.held-is ∙ w.fire.ensures.panes e.1 c.pane.ensures ∙ fires_next (plan_of p) q kind es now i e so_far sorted at w.in-Some-watermark_kind.kind (sym is ∙ w.in-Some-watermark_kind.is)
+      | in-Some-watermark_kind w ↦ ap entries_of w.held-is ∙ w.fire.ensures.panes e.1 c.pane-pane.ensures ∙ fires_next (plan_of p) q kind es now i e so_far sorted at w.in-Some-watermark_kind.kind (sym is ∙ w.in-Some-watermark_kind.is)
       | in_default-watermark_kind w ↦ ap entries_of w.held-is ∙ stays_next (plan_of p) q kind es now i e so_far sorted at (sym is ∙ w.in_default-watermark_kind.is)
     ] in
     let then = entries_of c.match-watermark_kind.held in let sorted_then = map.entries_sorted c.match-watermark_kind.held.panes in
@@ -164,15 +195,15 @@ loop-preserved c =
     let room : ℕ = vec_capacity c.args.rows.now in
     let i = c.loop.invariant.walked.0 in let now = entries_of c.loop.held in let so_far = c.loop.invariant.walked.2 in let spot = c.in-Some.spot in
     let due : place_due new (slice_get now i) ≡ Some spot.place = sym c.loop.invariant.walked.3 ∙ ap place_found c.in-Some.is in
-    let e : Place × Pane (List Value) = (spot.place, c.pane.result) in
-    let at : slice_get now i ≡ Some e = entry_found new now i spot.place (map.entries_sorted c.loop.held.panes) due c.pane.result c.pane.ensures in
+    let e : Place × Pane (List Value) = (spot.place, c.pane-pane.result) in
+    let at : slice_get now i ≡ Some e = entry_found new now i spot.place (map.entries_sorted c.loop.held.panes) due c.pane-pane.result c.pane-pane.ensures in
     let there = as_it_was (plan_of p) q kind es now i e so_far sorted at in
     let header : header_of c.header-header.result.now ≡ p.header = c.header-header.ensures.header ∙ ap (λ (p : Program). p.header) c.program.ensures.program in
     let is : c.watermark_kind.result ≡ kind e.0 e.1 = c.watermark_kind.ensures q (ap (λ (h : Header). h.mode) (sym header)) (ap (λ (h : Header). h.clock.lateness) (sym header)) in
     let left : List (Fired (List Value)) = fires q kind (drop (i + 1) es) in
     let fired : entries_of c.match-watermark_kind.held ≡ fired_first (plan_of p) q kind (i + 1) es =
     elim c.match-watermark_kind.branch [
-      | in-Some-watermark_kind w ↦ ap entries_of w.held-is ∙ w.fire.ensures.panes e.1 c.pane.ensures ∙ fires_next (plan_of p) q kind es now i e so_far sorted at w.in-Some-watermark_kind.kind (sym is ∙ w.in-Some-watermark_kind.is)
+      | in-Some-watermark_kind w ↦ ap entries_of w.held-is ∙ w.fire.ensures.panes e.1 c.pane-pane.ensures ∙ fires_next (plan_of p) q kind es now i e so_far sorted at w.in-Some-watermark_kind.kind (sym is ∙ w.in-Some-watermark_kind.is)
       | in_default-watermark_kind w ↦ ap entries_of w.held-is ∙ stays_next (plan_of p) q kind es now i e so_far sorted at (sym is ∙ w.in_default-watermark_kind.is)
     ] in
     let then = entries_of c.match-watermark_kind.held in let sorted_then = map.entries_sorted c.match-watermark_kind.held.panes in
@@ -196,8 +227,8 @@ loop-preserved c =
           let f : Fired (List Value) = record { kind = w.in-Some-watermark_kind.kind; place = e.0; count = fired_count p.header.mode e.1; folded = e.1.folded } in
           let split : fires q kind (drop i es) ≡ f ∷ left = fired_next (plan_of p) q kind es now i e so_far sorted at (Some w.in-Some-watermark_kind.kind) (sym is ∙ w.in-Some-watermark_kind.is) in
           let comes : ComesTo p room c.loop.tally c.loop.rows.items ((f ∷ []) ++ left) all = subst (λ fs. ComesTo p room c.loop.tally c.loop.rows.items fs all) split c.loop.invariant.walked.4 in
-          let tally : c.match-watermark_kind.tally ≡ tally_with p c.loop.tally (f ∷ []) = w.tally-is ∙ w.fire.ensures.tally e.1 c.pane.ensures in
-          let rows : c.match-watermark_kind.rows.items ≡ c.loop.rows.items ++ rows_of p (f ∷ []) = ap (λ v. v.items) w.rows-is ∙ w.fire.ensures.rows e.1 c.pane.ensures in
+          let tally : c.match-watermark_kind.tally ≡ tally_with p c.loop.tally (f ∷ []) = w.tally-is ∙ w.fire.ensures.tally e.1 c.pane-pane.ensures in
+          let rows : c.match-watermark_kind.rows.items ≡ c.loop.rows.items ++ rows_of p (f ∷ []) = ap (λ v. v.items) w.rows-is ∙ w.fire.ensures.rows e.1 c.pane-pane.ensures in
           record {
             keeps = subst (λ (h : Held). IsKept c.args.held.now h) (sym w.held-is) (kept_on c.args.held.now c.loop.held w.fire.new.held c.loop.invariant.keeps w.fire.ensures.keeps);
             tells =

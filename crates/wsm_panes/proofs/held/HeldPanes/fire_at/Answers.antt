@@ -10,7 +10,7 @@ use Rattle.wsm_panes.proofs.held.HeldPanes.fire_at.Goals as goal
 use Rattle.wsm_semantics.proofs.Each.{as_true}
 
 pub fire-requires-clause-there : goal.fire-requires-clause-there
-fire-requires-clause-there c = ap is_some (get-entries c.self.inside.list.panes c.args.spot.place) ∙ (rw (← c.self.view_is, c.in-Session.is) at c.requires.there)
+fire-requires-clause-there c = rw c.rebuilt.ensures (ap is_some (get-entries c.self.inside.list.panes c.args.spot.place) ∙ (rw (← c.self.view_is, c.in-Session.is) at c.requires.there))
 
 pub fire-requires-clause-wide : goal.fire-requires-clause-wide
 fire-requires-clause-wide c = rw c.self.invariant.widths (rw (← c.self.view_is) at c.requires.wide)
@@ -18,7 +18,7 @@ fire-requires-clause-wide c = rw c.self.invariant.widths (rw (← c.self.view_is
 pub invariant_of-self : goal.invariant_of-self
 invariant_of-self c =
     let m = c.self.inside.list.panes in
-    let e = c.fire.ensures.panes in
+    let e = rw c.rebuilt.ensures at c.fire.ensures.panes in
     let pane = once_fired c.args.mode (option_map (λ cells. cells.now) c.args.row) e.0 in
     record {
       shape = c.self.invariant.shape;
@@ -34,7 +34,7 @@ invariant_of-self c =
 pub returns-in-Session-clause-panes : goal.returns-in-Session-clause-panes
 returns-in-Session-clause-panes c =
     let m = c.self.inside.list.panes in
-    let e = c.fire.ensures.panes in (
+    let e = rw c.rebuilt.ensures at c.fire.ensures.panes in (
       e.0,
       rw (← c.self.view_is, c.in-Session.is) (sym (get-entries m c.args.spot.place) ∙ e.1),
       rw (← c.self.view_is, c.in-Session.is) (ap map.entries e.2 ∙ entries-insert places_total m c.args.spot.place (once_fired c.args.mode (option_map (λ cells. cells.now) c.args.row) e.0)),

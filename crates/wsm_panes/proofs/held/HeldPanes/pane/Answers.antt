@@ -5,13 +5,13 @@ use Rattle.wsm_panes.proofs.Enters.{in_ring}
 use Rattle.wsm_panes.proofs.held.HeldPanes.pane.Goals as goal
 
 pub pane-requires : goal.pane-requires
-pane-requires c = ap is_some (get-entries c.self.inside.list.panes c.args.spot.place) ∙ (rw (← c.self.view_is, c.in-Session.is) at c.requires)
+pane-requires c = rw c.rebuilt.ensures (ap is_some (get-entries c.self.inside.list.panes c.args.spot.place) ∙ (rw (← c.self.view_is, c.in-Session.is) at c.requires))
 
 pub pane-requires-in_default : goal.pane-requires-in_default
 pane-requires-in_default c = ap is_some (get-entries c.self.inside.ring.panes c.args.spot.place) ∙ (rw (← c.self.view_is, in_ring c.self.inside.shape c.self.inside.list.panes c.self.inside.ring.panes c.in_default.not-Session) at c.requires)
 
 pub returns-in-Session : goal.returns-in-Session
-returns-in-Session c = rw (← c.self.view_is, c.in-Session.is) (sym (get-entries c.self.inside.list.panes c.args.spot.place) ∙ c.pane.ensures)
+returns-in-Session c = rw (← c.self.view_is, c.in-Session.is) (sym (get-entries c.self.inside.list.panes c.args.spot.place) ∙ (rw c.rebuilt.ensures at c.pane.ensures))
 
 pub returns-in_default : goal.returns-in_default
 returns-in_default c = rw (← c.self.view_is, in_ring c.self.inside.shape c.self.inside.list.panes c.self.inside.ring.panes c.in_default.not-Session) (sym (get-entries c.self.inside.ring.panes c.args.spot.place) ∙ c.pane-in_default.ensures)
