@@ -58,8 +58,6 @@ mod end;
 mod help;
 mod judged;
 mod run;
-#[cfg(test)]
-mod tests;
 mod turns;
 mod verdict;
 mod words;

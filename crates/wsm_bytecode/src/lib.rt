@@ -37,6 +37,4 @@ pub use wsm_program::{
 mod limits;
 mod listing;
 mod reading;
-#[cfg(test)]
-mod tests;
 mod writing;

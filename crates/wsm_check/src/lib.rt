@@ -46,6 +46,4 @@ mod refusal;
 mod resolve;
 mod sizes;
 mod term;
-#[cfg(test)]
-mod tests;
 mod types;

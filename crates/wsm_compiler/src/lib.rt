@@ -40,5 +40,3 @@ mod expressions;
 mod headers;
 pub mod laws;
 mod sections;
-#[cfg(test)]
-mod worked;

@@ -77,6 +77,3 @@ impl<W: Write> Device for Guarded<W> {
         self.failed
     }
 }
-
-#[cfg(test)]
-mod tests;

@@ -260,6 +260,3 @@ fn cell_at(row: &ByteRecord, place: usize) -> &[u8]
 {
     row.get(place).unwrap()
 }
-
-#[cfg(test)]
-mod tests;

@@ -75,6 +75,3 @@ fn end_of(error: &Error) -> ReadEnd {
         ReadEnd::Memory
     }
 }
-
-#[cfg(test)]
-mod tests;

@@ -395,6 +395,3 @@ fn refusal_word(why: Refusal) -> &'static [u8]
         Refusal::NotRising => b"NotRising",
     }
 }
-
-#[cfg(test)]
-mod tests;

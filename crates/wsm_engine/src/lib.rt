@@ -32,5 +32,3 @@ mod engine;
 pub mod laws;
 mod reply;
 mod runner;
-#[cfg(test)]
-mod tests;

@@ -108,7 +108,7 @@ impl Streams {
         if let Form::Panes = self.form {
             return;
         }
-        self.lose_at(held, spot);
+        self.lose_at(held, spot.rebuilt());
     }
 
     // The same, where rows are those of the relation.

@@ -76,6 +76,3 @@ impl Frame {
         (Outcome::Trap(Trap::BadJump), steps)
     }
 }
-
-#[cfg(test)]
-mod tests;

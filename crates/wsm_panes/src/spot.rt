@@ -19,7 +19,7 @@ pub struct Spot {
 impl Spot {
     /// The same, put together anew from its fields. A copy would carry along the bytes between them.
     #[inline(always)]
-    pub(crate) fn rebuilt(self) -> Spot
+    pub fn rebuilt(self) -> Spot
         ensures { result ≡ self }
     {
         let Place { end, start, key } = self.place;

@@ -43,6 +43,4 @@ mod operation;
 mod program;
 mod refusal;
 mod table;
-#[cfg(test)]
-mod tests;
 mod text;

@@ -43,5 +43,3 @@ mod print_tokens;
 mod printing;
 mod query;
 mod reading;
-#[cfg(test)]
-mod tests;

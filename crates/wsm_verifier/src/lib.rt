@@ -44,7 +44,5 @@ mod reads;
 mod rejection;
 mod rules;
 mod state;
-#[cfg(test)]
-mod tests;
 mod types;
 mod verified;

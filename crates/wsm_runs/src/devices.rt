@@ -1,0 +1,183 @@
+//! Runs whose reader or device fails.
+
+use std::alloc::{AllocError, Global};
+use std::cell::Cell;
+use std::io;
+use std::io::{Read, Write};
+use std::test::Fail;
+use wsm::{End, Guarded, run_query};
+
+const QUERY: &[u8] = b"KEYS a, b; FIELD n INT 0..100;
+START 0; SKEW 100; LATENESS 10; RECORDS 1000;
+SELECT COUNT(*), SUM(n) WINDOW FIXED 60 ACCUMULATING EMIT PANES;";
+
+const ROWS: &[u8] = b"r,a,5,7\nr,a,59,3\nw,60\n";
+
+const WRITTEN: &[u8] = b"pane,on_time,a,0,60,2,10\nend,3,2,0,0,1\n";
+
+fn failure() -> io::Error {
+    io::Error::from(io::ErrorKind::Other)
+}
+
+// Takes a number of bytes, one at a time, and then fails, where it is flushed too.
+#[derive(Drop)]
+struct TakesFew {
+    taken: Vec<u8>,
+    left: usize,
+}
+
+impl Write for TakesFew {
+    fn write(&mut self, buf: &[u8]) -> io::Result<usize> {
+        if self.left == 0 || buf.is_empty() {
+            return Err(failure());
+        }
+        self.taken.push(buf[0])?;
+        self.left -= 1;
+        Ok(1)
+    }
+
+    fn flush(&mut self) -> io::Result<()> {
+        if self.left == 0 {
+            return Err(failure());
+        }
+        Ok(())
+    }
+}
+
+#[test]
+fn a_failed_device_took_a_beginning(rt: HostRuntime) -> Result<(), Fail> {
+    // The last one takes all of it, and fails where it is flushed.
+    for left in 0..WRITTEN.len() + 1 {
+        let taken = Vec::new(rt.alloc());
+        let mut out = Guarded::new(TakesFew { taken, left });
+        let end = run_query(rt.alloc(), QUERY, ROWS, &mut out);
+        assert_eq!(rt; end, Err(End::WriteFailed), "at {left}");
+        let taken = out.into_writer().taken;
+        assert_eq!(rt; Some(taken.as_slice()), WRITTEN.get(..left), "at {left}");
+    }
+    Ok(())
+}
+
+// Two records stand in 2,000 windows each, which fire at once.
+const MANY_WINDOWS: &[u8] = b"KEYS a, b; START 0; SKEW 0; LATENESS 0; RECORDS 2; SELECT COUNT(*)
+WINDOW SLIDING 2000 EVERY 1 ACCUMULATING EMIT PANES;";
+
+// The lines of their panes.
+fn panes(alloc: Global) -> Result<String, AllocError> {
+    let mut lines = String::new(alloc);
+    for (start, end) in (-1999..1).zip(1..2001) {
+        write!(
+            lines,
+            "pane,on_time,a,{start},{end},1\npane,on_time,b,{start},{end},1\n"
+        )?;
+    }
+    Ok(lines)
+}
+
+#[test]
+fn a_device_fails_in_a_turn_of_many_lines(rt: HostRuntime) -> Result<(), Fail> {
+    let taken = Vec::new(rt.alloc());
+    let mut out = Guarded::new(TakesFew {
+        taken,
+        left: 70_000,
+    });
+    let rows = b"r,a,0\nr,b,0\nw,2000\n".as_slice();
+    let end = run_query(rt.alloc(), MANY_WINDOWS, rows, &mut out);
+    assert_eq!(rt; end, Err(End::WriteFailed));
+    let panes = panes(rt.alloc())?;
+    assert!(rt; panes.len() > 70_000);
+    assert_eq!(rt;
+        Some(out.into_writer().taken.as_slice()),
+        panes.as_bytes().get(..70_000)
+    );
+    Ok(())
+}
+
+// Gives a text byte by byte, and fails where it is asked for more.
+#[derive(Drop)]
+struct FailsBehind<'a>(&'a [u8]);
+
+impl Read for FailsBehind<'_> {
+    fn read(&mut self, buf: &mut [u8]) -> io::Result<usize> {
+        let Some((first, rest)) = self.0.split_first() else {
+            return Err(failure());
+        };
+        if buf.is_empty() {
+            return Ok(0);
+        }
+        buf[0] = *first;
+        self.0 = rest;
+        Ok(1)
+    }
+}
+
+#[test]
+fn a_failed_read_ends_a_run_between_turns(rt: HostRuntime) -> Result<(), Fail> {
+    let cases = [
+        (b"".as_slice(), b"".as_slice()),
+        (b"r,a,5,7", b""),
+        (b"r,a,5,7\nr,a,59,3\nw,60", b""),
+        (ROWS, b"pane,on_time,a,0,60,2,10\n"),
+    ];
+    for (rows, want) in cases {
+        let mut out = Guarded::new(Vec::new(rt.alloc()));
+        let end = run_query(rt.alloc(), QUERY, FailsBehind(rows), &mut out);
+        assert_eq!(rt; end, Err(End::ReadFailed));
+        assert_eq!(rt; out.into_writer().as_slice(), want);
+    }
+    Ok(())
+}
+
+// Gives a row a call, a thousand of them, and notes how many lines were written at the last.
+#[derive(Drop)]
+struct GivesRows<'a> {
+    given: usize,
+    lines: &'a Cell<usize>,
+    noted: &'a Cell<usize>,
+}
+
+impl Read for GivesRows<'_> {
+    fn read(&mut self, buf: &mut [u8]) -> io::Result<usize> {
+        if self.given >= 1_000 || buf.len() < 2 {
+            return Ok(0);
+        }
+        self.noted.set(self.lines.get());
+        self.given += 1;
+        buf[0] = b'x';
+        buf[1] = b'\n';
+        Ok(2)
+    }
+}
+
+// Counts the lines that it takes.
+#[derive(Drop)]
+struct CountsLines<'a>(&'a Cell<usize>);
+
+impl Write for CountsLines<'_> {
+    fn write(&mut self, buf: &[u8]) -> io::Result<usize> {
+        let lines = buf.iter().filter(|byte| **byte == b'\n').count();
+        self.0.set(self.0.get().saturating_add(lines));
+        Ok(buf.len())
+    }
+
+    fn flush(&mut self) -> io::Result<()> {
+        Ok(())
+    }
+}
+
+#[test]
+fn a_turn_is_written_before_the_next_row_is_read(rt: HostRuntime) -> Result<(), Fail> {
+    let lines = Cell::new(0);
+    let noted = Cell::new(0);
+    let rows = GivesRows {
+        given: 0,
+        lines: &lines,
+        noted: &noted,
+    };
+    let mut out = Guarded::new(CountsLines(&lines));
+    let totals = run_query(rt.alloc(), QUERY, rows, &mut out)?;
+    assert_eq!(rt; totals.refused, 1_000);
+    assert_eq!(rt; noted.get(), 999);
+    assert_eq!(rt; lines.get(), 1_001);
+    Ok(())
+}

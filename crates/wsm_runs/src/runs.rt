@@ -1,0 +1,495 @@
+//! Rows through queries, by their texts and by their programs.
+
+use std::alloc::Global;
+use std::process::Abort;
+use std::test::Fail;
+use wsm::{End, Guarded, Totals, compile_text, judge, run_program, run_query};
+
+// The clauses of a query over keys a and b, rows for it, and what is written.
+#[derive(Clone, Copy)]
+struct Case {
+    field: &'static str,
+    clock: &'static str,
+    columns: &'static str,
+    window: &'static str,
+    form: &'static str,
+    rows: &'static str,
+    want: &'static str,
+}
+
+// A query that counts and sums; the cases change some of its clauses.
+const BASE: Case = Case {
+    field: "n INT 0..100",
+    clock: "START 0; SKEW 100; LATENESS 10; RECORDS 1000",
+    columns: "COUNT(*), SUM(n)",
+    window: "FIXED 60 ACCUMULATING",
+    form: "PANES",
+    rows: "",
+    want: "end,0,0,0,0,0\n",
+};
+
+const PROMPT: &str = "START 0; SKEW 100; LATENESS 0; RECORDS 1000";
+
+// A query that counts alone, and admits no record behind the watermark.
+const COUNT: Case = Case {
+    clock: PROMPT,
+    columns: "COUNT(*)",
+    ..BASE
+};
+
+const TWO_RECORDS: Case = Case {
+    rows: "r,a,5,7\nr,a,59,3\nw,60\n",
+    want: "pane,on_time,a,0,60,2,10\nend,3,2,0,0,1\n",
+    ..BASE
+};
+
+const TWO_SESSIONS: Case = Case {
+    window: "SESSION 30 ACCUMULATING",
+    rows: "r,a,10,1\nr,a,40,2\nw,100\n",
+    want: "pane,on_time,a,10,40,1,1\npane,on_time,a,40,70,1,2\nend,3,2,0,0,2\n",
+    ..BASE
+};
+
+const JOINED_SESSIONS: Case = Case {
+    window: "SESSION 30 ACCUMULATING",
+    rows: "r,a,0,1\nr,a,40,2\nr,a,20,4\nw,70\n",
+    want: "pane,on_time,a,0,70,3,7\nend,4,3,0,0,1\n",
+    ..BASE
+};
+
+const SLIDING: Case = Case {
+    window: "SLIDING 60 EVERY 25 ACCUMULATING",
+    rows: "r,a,5,1\nw,35\n",
+    want: "pane,on_time,a,-50,10,1,1\npane,on_time,a,-25,35,1,1\nend,2,1,0,0,2\n",
+    ..BASE
+};
+
+fn text_of(alloc: Global, case: &Case) -> Result<String, Fail> {
+    let (field, clock, columns) = (case.field, case.clock, case.columns);
+    let (window, form) = (case.window, case.form);
+    Ok(format!(in alloc;
+        "KEYS a, b; FIELD {field}; {clock}; SELECT {columns} WINDOW {window} EMIT {form};"
+    )?)
+}
+
+// What the query of a text writes for rows, and how it ends.
+fn ran(alloc: Global, text: &str, rows: &str) -> (Vec<u8>, Result<Totals, End>) {
+    let mut out = Guarded::new(Vec::new(alloc));
+    let end = run_query(alloc, text.as_bytes(), rows.as_bytes(), &mut out);
+    (out.into_writer(), end)
+}
+
+// What its program writes for them.
+fn program_ran(alloc: Global, text: &str, rows: &str) -> Result<Vec<u8>, Fail> {
+    let program = compile_text(alloc, text.as_bytes())?;
+    let mut out = Guarded::new(Vec::new(alloc));
+    run_program(alloc, &program, rows.as_bytes(), &mut out)?;
+    Ok(out.into_writer())
+}
+
+// Each query writes what is wanted, and so does its program.
+fn all_write<R: Abort + AllocGlobal>(rt: &R, cases: &[Case]) -> Result<(), Fail> {
+    for case in cases {
+        let text = text_of(rt.alloc(), case)?;
+        let (written, end) = ran(rt.alloc(), text.as_str(), case.rows);
+        assert_eq!(rt; written.as_slice(), case.want.as_bytes(), "{text}: {end:?}");
+        assert!(rt; end.is_ok(), "{text}");
+        let written = program_ran(rt.alloc(), text.as_str(), case.rows)?;
+        assert_eq!(rt;
+            written.as_slice(),
+            case.want.as_bytes(),
+            "the program of {text}"
+        );
+    }
+    Ok(())
+}
+
+#[test]
+fn fixed_windows(rt: HostRuntime) -> Result<(), Fail> {
+    let cases = [
+        BASE,
+        TWO_RECORDS,
+        Case {
+            rows: "r,a,60,1\nw,60\n",
+            want: "end,2,1,0,0,0\n",
+            ..BASE
+        },
+        Case {
+            rows: "w,60\nr,a,49,4\nr,a,50,6\nw,70\n",
+            want: "pane,final,a,0,60,1,6\nend,4,1,1,0,1\n",
+            ..BASE
+        },
+        Case {
+            rows: "r,a,5,1\nr,a,65,2\nw,20\nr,a,120,4\nw,1000\n",
+            want: "pane,on_time,a,0,60,1,1\npane,on_time,a,60,120,1,2\npane,on_time,a,120,180,1,4\nend,5,3,0,0,3\n",
+            ..BASE
+        },
+        Case {
+            columns: "COUNT(*) HAVING SUM(n) > 5",
+            rows: "r,a,1,5\nr,b,1,6\nw,60\n",
+            want: "pane,on_time,b,0,60,1\nend,3,2,0,0,2\n",
+            ..BASE
+        },
+        Case {
+            field: "color ENUM(red, blue)",
+            columns: "KEY, color.blue, COUNT(*) > 1",
+            rows: "r,b,1,red\nw,60\n",
+            want: "pane,on_time,b,0,60,b,blue,false\nend,2,1,0,0,1\n",
+            ..BASE
+        },
+    ];
+    all_write(&rt, &cases)
+}
+
+#[test]
+fn counts_of_each_key(rt: HostRuntime) -> Result<(), Fail> {
+    let cases = [
+        Case {
+            rows: "r,a,5,7\nr,b,59,3\nw,60\nr,a,59,1\nw,60\n",
+            want: "pane,on_time,a,0,60,1\npane,on_time,b,0,60,1\nrefused,5,NotRising\nend,5,2,1,1,2\n",
+            ..COUNT
+        },
+        Case {
+            rows: "r,a,100,1\nr,a,101,1\nx\n",
+            want: "refused,2,TooFarAhead\nrefused,3,BadTag\nend,3,1,0,2,0\n",
+            ..COUNT
+        },
+    ];
+    all_write(&rt, &cases)
+}
+
+#[test]
+fn refused_rows(rt: HostRuntime) -> Result<(), Fail> {
+    let cases = [
+        Case {
+            rows: "r,a,100,1\nr,a,101,1\n",
+            want: "refused,2,TooFarAhead\nend,2,1,0,1,0\n",
+            ..BASE
+        },
+        Case {
+            clock: "START 0; SKEW 100; LATENESS 10; RECORDS 2",
+            rows: "r,a,1,1\nr,a,2,1\nr,a,3,1\nr,c,1,1\nr,a,1,101\nw,5\nw,5\n",
+            want: "refused,3,RecordLimit\nrefused,4,UnknownKey\nrefused,5,FieldRange\nrefused,7,NotRising\nend,7,2,0,4,0\n",
+            ..BASE
+        },
+        Case {
+            rows: "x,1\nr,a,5\nr,a,5x,1\n",
+            want: "refused,1,BadTag\nrefused,2,CellCount\nrefused,3,BadNumber\nend,3,0,0,3,0\n",
+            ..BASE
+        },
+    ];
+    all_write(&rt, &cases)
+}
+
+#[test]
+fn sessions_and_sliding_windows(rt: HostRuntime) -> Result<(), Fail> {
+    let cases = [
+        TWO_SESSIONS,
+        Case {
+            clock: PROMPT,
+            window: "SESSION 30 ACCUMULATING",
+            rows: "r,a,10,1\nw,40\nr,a,39,2\nr,a,40,3\nw,70\n",
+            want: "pane,on_time,a,10,40,1,1\npane,on_time,a,40,70,1,3\nend,5,2,1,0,2\n",
+            ..BASE
+        },
+        JOINED_SESSIONS,
+        Case {
+            window: "SESSION 30 ACCUMULATING EARLY EVERY 4",
+            rows: "r,a,0,1\nr,a,1,1\nr,a,40,1\nr,a,41,1\nr,a,20,1\n",
+            want: "pane,early,a,0,71,5,5\nend,5,5,0,0,1\n",
+            ..BASE
+        },
+        SLIDING,
+    ];
+    all_write(&rt, &cases)
+}
+
+// Where nothing comes late, the lateness changes nothing.
+#[test]
+fn without_lateness(rt: HostRuntime) -> Result<(), Fail> {
+    let cases = [
+        Case {
+            clock: PROMPT,
+            ..TWO_RECORDS
+        },
+        Case {
+            clock: PROMPT,
+            ..TWO_SESSIONS
+        },
+        Case {
+            clock: PROMPT,
+            ..JOINED_SESSIONS
+        },
+        Case {
+            clock: PROMPT,
+            ..SLIDING
+        },
+    ];
+    all_write(&rt, &cases)
+}
+
+#[test]
+fn greatest_numbers(rt: HostRuntime) -> Result<(), Fail> {
+    let cases = [
+        Case {
+            field: "n INT 0..9223372036854775807",
+            clock: "START 0; SKEW 100; LATENESS 10; RECORDS 1",
+            rows: "r,a,5,9223372036854775807\nw,60\n",
+            want: "pane,on_time,a,0,60,1,9223372036854775807\nend,2,1,0,0,1\n",
+            ..BASE
+        },
+        Case {
+            clock: "START 9999999999999940; SKEW 100; LATENESS 10; RECORDS 1000",
+            rows: "r,a,10000000000000000,1\nr,a,10000000000000001,1\nw,10000000000000000\n",
+            want: "refused,2,TimeRange\nend,3,1,0,1,0\n",
+            ..BASE
+        },
+    ];
+    all_write(&rt, &cases)
+}
+
+#[test]
+fn early_panes(rt: HostRuntime) -> Result<(), Fail> {
+    let cases = [
+        Case {
+            window: "FIXED 60 DISCARDING EARLY EVERY 2",
+            rows: "r,a,1,2\nr,a,2,3\nw,60\n",
+            want: "pane,early,a,0,60,2,5\nend,3,2,0,0,1\n",
+            ..BASE
+        },
+        Case {
+            window: "FIXED 60 ACCUMULATING EARLY EVERY 2",
+            rows: "r,a,1,2\nr,a,2,3\nw,60\n",
+            want: "pane,early,a,0,60,2,5\npane,on_time,a,0,60,2,5\nend,3,2,0,0,2\n",
+            ..BASE
+        },
+    ];
+    all_write(&rt, &cases)
+}
+
+#[test]
+fn late_panes(rt: HostRuntime) -> Result<(), Fail> {
+    let late = "r,a,55,1\nw,60\nr,a,56,2\nr,a,57,3\nr,a,58,4\nw,70\n";
+    let cases = [
+        Case {
+            window: "FIXED 60 ACCUMULATING LATE EVERY 2",
+            rows: late,
+            want: "pane,on_time,a,0,60,1,1\npane,late,a,0,60,3,6\npane,final,a,0,60,4,10\nend,6,4,0,0,3\n",
+            ..BASE
+        },
+        Case {
+            window: "FIXED 60 DISCARDING LATE EVERY 2",
+            rows: late,
+            want: "pane,on_time,a,0,60,1,1\npane,late,a,0,60,2,5\npane,final,a,0,60,1,4\nend,6,4,0,0,3\n",
+            ..BASE
+        },
+        Case {
+            rows: "r,a,5,1\nw,80\nr,a,180,2\nw,250\n",
+            want: "pane,on_time,a,0,60,1,1\npane,on_time,a,180,240,1,2\nend,4,2,0,0,2\n",
+            ..BASE
+        },
+    ];
+    all_write(&rt, &cases)
+}
+
+#[test]
+fn streams(rt: HostRuntime) -> Result<(), Fail> {
+    let cases = [
+        Case {
+            form: "ISTREAM",
+            rows: "r,a,1,1\nr,b,2,1\nw,60\nw,61\n",
+            want: "istream,60,1\nistream,60,1\nend,4,2,0,0,2\n",
+            ..COUNT
+        },
+        Case {
+            form: "DSTREAM",
+            rows: "r,a,1,1\nr,b,2,1\nw,60\nw,61\n",
+            want: "dstream,61,1\ndstream,61,1\nend,4,2,0,0,2\n",
+            ..COUNT
+        },
+        Case {
+            clock: "START 0; SKEW 100; LATENESS 100; RECORDS 1000",
+            columns: "COUNT(*)",
+            window: "SESSION 30 ACCUMULATING",
+            form: "RSTREAM",
+            rows: "r,a,0,1\nr,a,40,1\nw,70\nr,a,20,1\nw,80\nw,170\n",
+            want: "rstream,70,1\nrstream,70,1\nrstream,170,3\nend,6,3,0,0,3\n",
+            ..BASE
+        },
+    ];
+    all_write(&rt, &cases)
+}
+
+// Sessions that are joined where none, one or both of them fired.
+#[test]
+fn streams_of_joined_sessions(rt: HostRuntime) -> Result<(), Fail> {
+    let sessions = Case {
+        clock: "START 0; SKEW 100; LATENESS 100; RECORDS 1000",
+        columns: "COUNT(*)",
+        window: "SESSION 30 ACCUMULATING",
+        ..BASE
+    };
+    let cases = [
+        Case {
+            form: "RSTREAM",
+            rows: "r,a,0,1\nr,a,40,1\nr,a,20,1\nw,50\nw,70\nw,170\n",
+            want: "rstream,70,3\nrstream,170,3\nend,6,3,0,0,1\n",
+            ..sessions
+        },
+        Case {
+            form: "RSTREAM",
+            rows: "r,a,0,1\nw,30\nr,a,40,1\nr,a,20,1\nw,50\nw,70\n",
+            want: "rstream,30,1\nrstream,50,1\nrstream,70,3\nend,6,3,0,0,2\n",
+            ..sessions
+        },
+        Case {
+            columns: "COUNT(*) HAVING COUNT(*) <> 3",
+            form: "DSTREAM",
+            rows: "r,a,0,1\nw,30\nr,a,40,1\nr,a,20,1\nw,50\nw,70\n",
+            want: "dstream,70,1\nend,6,3,0,0,2\n",
+            ..sessions
+        },
+        Case {
+            columns: "COUNT(*) HAVING COUNT(*) > 1",
+            form: "DSTREAM",
+            rows: "r,a,0,1\nr,a,40,1\nr,a,41,1\nw,71\nr,a,20,1\nw,72\nw,171\n",
+            want: "dstream,72,2\nend,7,4,0,0,3\n",
+            ..sessions
+        },
+        Case {
+            form: "DSTREAM",
+            rows: "r,a,0,1\nr,a,40,1\nw,70\nr,a,20,1\nw,80\nw,170\nw,171\n",
+            want: "dstream,80,1\ndstream,80,1\ndstream,171,3\nend,7,3,0,0,3\n",
+            ..sessions
+        },
+    ];
+    all_write(&rt, &cases)
+}
+
+// The line of the judgement of a query's program.
+fn judgement(alloc: Global, text: &str) -> Result<Vec<u8>, Fail> {
+    let program = compile_text(alloc, text.as_bytes())?;
+    let mut out = Guarded::new(Vec::new(alloc));
+    judge(alloc, &program, false, &mut out)?;
+    Ok(out.into_writer())
+}
+
+// Here `want` is the line of the judgement.
+#[test]
+fn queries_are_judged(rt: HostRuntime) -> Result<(), Fail> {
+    let cases = [
+        Case {
+            want: "accepted,5,4,6\n",
+            ..BASE
+        },
+        Case {
+            columns: "SUM(n) / COUNT(*)",
+            want: "accepted,5,5,6\n",
+            ..BASE
+        },
+        Case {
+            window: "SLIDING 60 EVERY 25 ACCUMULATING",
+            want: "accepted,11,4,14\n",
+            ..BASE
+        },
+        Case {
+            clock: PROMPT,
+            window: "SESSION 30 ACCUMULATING",
+            want: "accepted,6,4,10\n",
+            ..BASE
+        },
+        Case {
+            columns: "100 / SUM(n)",
+            want: "rejected,fire,2,MayDivideByZero\n",
+            ..BASE
+        },
+        Case {
+            columns: "COUNT(*) WHERE n <> 0 AND 10 / n > 1",
+            want: "rejected,where,6,MayDivideByZero\n",
+            ..BASE
+        },
+        Case {
+            field: "n INT 0..1000000000000",
+            clock: "START 0; SKEW 100; LATENESS 10; RECORDS 1000000000000",
+            want: "rejected,update,1,AccumulatorRange\n",
+            ..BASE
+        },
+    ];
+    for case in &cases {
+        let text = text_of(rt.alloc(), case)?;
+        let line = judgement(rt.alloc(), text.as_str())?;
+        assert_eq!(rt; line.as_slice(), case.want.as_bytes(), "{text}");
+    }
+    Ok(())
+}
+
+// A text ends with a refusal, and nothing is written.
+fn does_not_run<R: Abort + AllocGlobal>(rt: &R, text: &str, want: &str) -> Result<(), Fail> {
+    let (written, end) = ran(rt.alloc(), text, "r,a,1,1\nw,60\n");
+    assert!(rt; written.is_empty(), "{text}");
+    let why = format!(in rt.alloc(); "{}", end.err().ok_or("it ran")?)?;
+    assert_eq!(rt; why.as_str(), want, "{text}");
+    Ok(())
+}
+
+// Here `want` is the text of the end.
+#[test]
+fn some_queries_do_not_run(rt: HostRuntime) -> Result<(), Fail> {
+    let cases = [
+        Case {
+            columns: "100 / SUM(n)",
+            want: "V12 MayDivideByZero in fire at 2",
+            ..BASE
+        },
+        Case {
+            clock: "START 0; SKEW 100; LATENESS 10; RECORDS 1000; BUDGET RECORD 5 PANE 4 HELD 5",
+            want: "V16 BudgetHeld in budget at 0",
+            ..BASE
+        },
+        Case {
+            columns: "COUNT(*), SUM(n > 1)",
+            want: "C2 Type in column 2",
+            ..BASE
+        },
+        Case {
+            window: "FIXED 60 DISCARDING",
+            form: "ISTREAM",
+            want: "C8 StreamNeedsAccumulating in emit",
+            ..BASE
+        },
+    ];
+    for case in &cases {
+        let text = text_of(rt.alloc(), case)?;
+        does_not_run(&rt, text.as_str(), case.want)?;
+    }
+    Ok(())
+}
+
+#[test]
+fn texts_that_are_no_queries(rt: HostRuntime) -> Result<(), Fail> {
+    let cases = [
+        ("", "P2 Unexpected at 1:1"),
+        ("KEYS a b;", "P2 Unexpected at 1:8"),
+        ("KEYS a;\n\n  @", "P1 BadCharacter at 3:3"),
+    ];
+    for (text, want) in cases {
+        does_not_run(&rt, text, want)?;
+    }
+    Ok(())
+}
+
+#[test]
+fn bytes_that_are_no_program(rt: HostRuntime) -> Result<(), Fail> {
+    let text = text_of(rt.alloc(), &BASE)?;
+    let program = compile_text(rt.alloc(), text.as_bytes())?;
+    assert_eq!(rt; program.len(), 139);
+    let Some((_, cut)) = program.split_last() else {
+        return Err(Fail::from("no bytes"));
+    };
+    let mut out = Guarded::new(Vec::new(rt.alloc()));
+    let end = run_program(rt.alloc(), cut, b"".as_slice(), &mut out);
+    let why = format!(in rt.alloc(); "{}", end.err().ok_or("it ran")?)?;
+    assert_eq!(rt; why.as_str(), "B3 Truncated");
+    assert!(rt; out.into_writer().is_empty());
+    Ok(())
+}

@@ -1,0 +1,120 @@
+//! What no clause says: that an engine is opened where memory is ample, and what it writes.
+
+use crate::given::BASE_PROGRAM;
+use std::alloc::Global;
+use std::process::Abort;
+use std::test::Fail;
+use wsm_bytecode::decode;
+use wsm_engine::{Engine, Reply};
+use wsm_record::{Event, Value};
+use wsm_verifier::{Verified, verify};
+
+// Places of bytes in it: its start, its lateness, its shape and the shape's first number, and the stated numbers
+// for a record and for panes.
+const START: usize = 31;
+
+const LATENESS: usize = 47;
+
+const SHAPE: usize = 63;
+
+const SPAN: usize = 64;
+
+const PER_RECORD: usize = 95;
+
+const HELD: usize = 111;
+
+// The base program with other bytes at some places.
+fn verified(alloc: Global, changes: &[(usize, u8)]) -> Result<Verified, Fail> {
+    let mut bytes = BASE_PROGRAM;
+    for (place, byte) in changes {
+        if let Some(changed) = bytes.get_mut(*place) {
+            *changed = *byte;
+        }
+    }
+    let program = decode(alloc, &bytes)?;
+    Ok(verify(alloc, program).map_err(|(_, rejection)| rejection)?)
+}
+
+fn opened(alloc: Global, changes: &[(usize, u8)]) -> Result<Engine, Fail> {
+    let verified = verified(alloc, changes)?;
+    Ok(Engine::open(alloc, verified).map_err(|_| "no memory")?)
+}
+
+// Feeds a record of a key, whose number is 1.
+fn fed(alloc: Global, engine: &mut Engine, key: u16, time: i64) -> Result<Reply, Fail> {
+    let values = [Value::Int(1)].to_vec(alloc)?;
+    Ok(engine.feed(&Event::Record {
+        key: Some(key),
+        time,
+        values,
+    }))
+}
+
+// Feeds records of the first key at some times, of which each takes so many instructions.
+fn records_take(
+    rt: &impl Abort,
+    alloc: Global,
+    engine: &mut Engine,
+    cases: &[(i64, u64)],
+) -> Result<(), Fail> {
+    for (time, steps) in cases {
+        let reply = fed(alloc, engine, 0, *time)?;
+        assert_eq!(rt; reply.record_steps, *steps, "at {time}");
+        assert_eq!(rt; reply.fired, 0, "at {time}");
+    }
+    Ok(())
+}
+
+// Feeds a watermark at which one pane fires, of 4 instructions.
+fn a_pane_takes_four(rt: &impl Abort, engine: &mut Engine, mark: i64) {
+    let reply = engine.feed(&Event::Watermark(mark));
+    assert_eq!(rt; reply.fired, 1);
+    assert_eq!(rt; reply.pane_steps_max, 4);
+    assert_eq!(rt; reply.pane_steps_total, 4);
+    assert_eq!(rt; engine.rows().len(), 1);
+}
+
+#[test]
+fn records_and_panes_take_steps(rt: HostRuntime) -> Result<(), Fail> {
+    let mut engine = opened(rt.alloc(), &[(LATENESS, 0)])?;
+    records_take(&rt, rt.alloc(), &mut engine, &[(5, 5), (59, 5)])?;
+    a_pane_takes_four(&rt, &mut engine, 60);
+    Ok(())
+}
+
+// The third record joins the sessions of the others, at a step for the sum.
+#[test]
+fn joined_sessions_take_a_step_more(rt: HostRuntime) -> Result<(), Fail> {
+    let sessions = [(SHAPE, 2), (SPAN, 30), (PER_RECORD, 6), (HELD, 10)];
+    let mut engine = opened(rt.alloc(), &sessions)?;
+    let records = [(0, 5), (40, 5), (20, 6)];
+    records_take(&rt, rt.alloc(), &mut engine, &records)?;
+    a_pane_takes_four(&rt, &mut engine, 70);
+    Ok(())
+}
+
+// Feeds records of both keys at some times, and tells how many panes are held.
+fn held(alloc: Global, engine: &mut Engine, times: &[i64]) -> Result<usize, Fail> {
+    for time in times {
+        fed(alloc, engine, 0, *time)?;
+        fed(alloc, engine, 1, *time)?;
+    }
+    Ok(engine.held())
+}
+
+#[test]
+fn a_window_of_a_key_is_held_once(rt: HostRuntime) -> Result<(), Fail> {
+    let mut engine = opened(rt.alloc(), &[])?;
+    assert_eq!(rt; held(rt.alloc(), &mut engine, &[0, 60, 100])?, 4);
+    assert_eq!(rt; engine.totals().admitted, 6);
+    Ok(())
+}
+
+// As many as the program states: a window that is about to be dropped, and one as far ahead as the
+// skew allows.
+#[test]
+fn as_many_panes_as_stated_are_held(rt: HostRuntime) -> Result<(), Fail> {
+    let mut engine = opened(rt.alloc(), &[(START, 59)])?;
+    assert_eq!(rt; held(rt.alloc(), &mut engine, &[49, 119, 159])?, 6);
+    Ok(())
+}
