@@ -1,14 +1,11 @@
 //! Programs and their bytes.
 
-use crate::given::BASE_PROGRAM;
+use crate::given::{BASE_PROGRAM, base_header};
 use std::alloc::Global;
 use std::test::Fail;
 use wsm_bytecode::{
-    CellType, Clock, Costs, DecodeRefusal, Header, Instr, Operation, Program, SectionId, decode,
-    disassemble, encode,
+    DecodeRefusal, Instr, Operation, Program, SectionId, decode, disassemble, encode,
 };
-use wsm_record::{Field, Form, Kind, Mode, Name, Schema, Ty};
-use wsm_windows::Shape;
 
 const LINES: &str = "where 0 PUSHB 1
 where 1 RET
@@ -31,39 +28,7 @@ fn bytes_are_read_and_written_again(rt: HostRuntime) -> Result<(), Fail> {
     Ok(())
 }
 
-// The header of the same program.
-fn base_header(alloc: Global) -> Result<Header, Fail> {
-    let mut keys = Vec::new(alloc);
-    keys.push(Name::new(b"a").ok_or("a name")?)?;
-    keys.push(Name::new(b"b").ok_or("a name")?)?;
-    let name = Name::new(b"n").ok_or("a name")?;
-    let ty = Ty::Int { lo: 0, hi: 100 };
-    let mut fields = Vec::new(alloc);
-    fields.push(Field { name, ty })?;
-    Ok(Header {
-        schema: Schema::new(alloc, &keys, &fields)?,
-        clock: Clock {
-            start: 0,
-            skew: 100,
-            lateness: 10,
-            records: 1000,
-        },
-        shape: Shape::Fixed(60),
-        mode: Mode::Accumulating,
-        early: 0,
-        late: 0,
-        form: Form::Panes,
-        kinds: Vec::from_slice(alloc, &[Kind::Sum])?,
-        columns: Vec::from_slice(alloc, &[CellType::Int, CellType::Int])?,
-        budget: Costs {
-            per_record: 5,
-            per_pane: 4,
-            held: 6,
-        },
-    })
-}
-
-// Its sections put together, where UPDATE folds a field.
+// The base program put together, where UPDATE folds a field.
 fn put_together(alloc: Global, field: u8) -> Result<Result<Program, DecodeRefusal>, Fail> {
     let selection = [Instr::PushBool(true), Instr::Return];
     let update = [Instr::Field(field), Instr::Fold(0), Instr::Return];

@@ -5,8 +5,7 @@
 //! - `given`: what the examples start from
 //! - `queries`, `checking`, `compiling`: texts of queries, what they are judged as, and their programs
 //! - `bytes`, `refusals`: programs and their bytes, and the names of what refuses them
-//! - `verifying`: programs that are accepted or refused by a rule
-//! - `sections`, `machine`: sections run with tests, and accepted ones without
+//! - `verifying`: programs that are accepted, and such that state too little
 //! - `engine`: what records and watermarks cost, and what is held
 //! - `rows`, `events`, `lines`, `devices`: rows read, the events that they are, what is written, and
 //!   what takes it
@@ -29,14 +28,10 @@ mod given;
 #[cfg(test)]
 mod lines;
 #[cfg(test)]
-mod machine;
-#[cfg(test)]
 mod queries;
 #[cfg(test)]
 mod refusals;
 #[cfg(test)]
 mod rows;
-#[cfg(test)]
-mod sections;
 #[cfg(test)]
 mod verifying;

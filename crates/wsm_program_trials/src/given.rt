@@ -1,0 +1,88 @@
+//! The programs and rows that the trials start from.
+
+use std::alloc::Global;
+use wsm::{End, Guarded, Totals, run_program};
+
+/// Counts the records of two keys in windows of 60, and sums a number.
+pub const BASE: &[u8] = b"KEYS a, b;
+FIELD n INT 0..100;
+START 0; SKEW 100; LATENESS 10; RECORDS 1000;
+SELECT COUNT(*), SUM(n)
+WINDOW FIXED 60 ACCUMULATING
+EMIT PANES;";
+
+/// The program of that query, byte by byte.
+pub const BASE_PROGRAM: [u8; 139] = [
+    0x57, 0x53, 0x4d, 0x50, 0x01, 0x02, 0x00, 0x01, 0x61, 0x01, 0x62, 0x01, 0x01, 0x6e, 0x00, 0x00,
+    0x00, 0x00, 0x00, 0x00, 0x00, 0x00, 0x00, 0x64, 0x00, 0x00, 0x00, 0x00, 0x00, 0x00, 0x00, 0x00,
+    0x00, 0x00, 0x00, 0x00, 0x00, 0x00, 0x00, 0x64, 0x00, 0x00, 0x00, 0x00, 0x00, 0x00, 0x00, 0x0a,
+    0x00, 0x00, 0x00, 0x00, 0x00, 0x00, 0x00, 0xe8, 0x03, 0x00, 0x00, 0x00, 0x00, 0x00, 0x00, 0x00,
+    0x3c, 0x00, 0x00, 0x00, 0x00, 0x00, 0x00, 0x00, 0x01, 0x00, 0x00, 0x00, 0x00, 0x00, 0x00, 0x00,
+    0x00, 0x00, 0x00, 0x00, 0x00, 0x00, 0x00, 0x00, 0x00, 0x00, 0x01, 0x00, 0x02, 0x00, 0x00, 0x05,
+    0x00, 0x00, 0x00, 0x00, 0x00, 0x00, 0x00, 0x04, 0x00, 0x00, 0x00, 0x00, 0x00, 0x00, 0x00, 0x06,
+    0x00, 0x00, 0x00, 0x00, 0x00, 0x00, 0x00, 0x02, 0x00, 0x02, 0x01, 0x50, 0x03, 0x00, 0x04, 0x00,
+    0x40, 0x00, 0x50, 0x04, 0x00, 0x07, 0x06, 0x00, 0x02, 0x01, 0x50,
+];
+
+/// Two records and a watermark that fires their pane.
+pub const BASE_ROWS: &[u8] = b"r,a,5,7\nr,a,59,3\nw,60\n";
+
+/// What the base query writes for those rows.
+pub const BASE_TEXT: &[u8] = b"pane,on_time,a,0,60,2,10\nend,3,2,0,0,1\n";
+
+/// Sessions, both triggers, two ENUM fields and an accumulator of each kind.
+pub const SESSIONS: &[u8] = b"KEYS a, b;
+FIELD n INT -5..100; FIELD on BOOL; FIELD color ENUM(red, blue); FIELD size ENUM(big, small);
+START 0; SKEW 100; LATENESS 40; RECORDS 1000;
+SELECT COUNT(*), SUM(n), MIN(n), MAX(n), ANY(on), ALL(color = color.red), KEY
+WHERE n <> 50 AND size = size.big HAVING COUNT(*) > 0
+WINDOW SESSION 30 DISCARDING EARLY EVERY 2 LATE EVERY 1
+EMIT PANES;";
+
+/// Rows of sessions that are joined, fire early, on time and late, and of values that aren't taken.
+pub const SESSION_ROWS: &[u8] = b"r,a,5,7,true,red,big\nr,b,5,-5,false,blue,big\n\
+r,a,50,3,false,red,big\nr,a,30,100,true,blue,big\nr,a,31,50,true,blue,small\nw,70\n\
+r,a,65,1,true,red,big\nr,a,66,200,true,red,big\nw,75\nr,b,80,1,true,green,big\nw,200\n\
+r,b,160,2,false,red,big\n";
+
+/// What the query of sessions writes for those rows.
+pub const SESSION_TEXT: &[u8] = b"pane,early,a,5,80,3,110,3,100,true,false,a\n\
+pane,on_time,b,5,35,1,-5,-5,-5,false,false,b\nrefused,8,FieldRange\nrefused,10,BadName\n\
+pane,on_time,a,5,95,1,1,1,1,true,true,a\npane,late,b,160,190,1,2,2,2,false,true,b\n\
+end,12,7,0,2,4\n";
+
+/// A stream of the differences between instants.
+pub const STREAM: &[u8] = b"KEYS a, b;
+FIELD n INT 0..100;
+START 0; SKEW 100; LATENESS 10; RECORDS 1000;
+SELECT COUNT(*), SUM(n) > 5, KEY
+WINDOW SLIDING 60 EVERY 25 ACCUMULATING EARLY EVERY 2
+EMIT ISTREAM;";
+
+/// Rows of both keys, with instants at which panes come to stand, change and are dropped.
+pub const STREAM_ROWS: &[u8] =
+    b"r,a,5,7\nr,b,30,3\nw,35\nr,a,34,0\nr,b,61,100\nw,60\nw,61\nr,a,90,1\nw,160\nw,300\n";
+
+/// What the query of a stream writes for those rows.
+pub const STREAM_TEXT: &[u8] = b"istream,35,1,false,b\nistream,35,1,true,a\nistream,35,1,true,a\n\
+istream,60,1,false,b\nistream,60,2,true,a\nistream,60,2,true,a\nistream,60,2,true,b\n\
+istream,160,1,false,a\nistream,160,1,false,a\nistream,160,1,false,a\nistream,160,1,true,b\n\
+end,10,5,0,0,13\n";
+
+/// What a program writes for rows, and how it ends.
+pub fn program_ran(alloc: Global, program: &[u8], rows: &[u8]) -> (Vec<u8>, Result<Totals, End>) {
+    let mut out = Guarded::new(Vec::new(alloc));
+    let end = run_program(alloc, program, rows, &mut out);
+    (out.into_writer(), end)
+}
+
+/// Whether a text is that of a whole run: its last line is an end row.
+pub fn is_whole(text: &[u8]) -> bool {
+    let Some(lines) = text.strip_suffix(b"\n") else {
+        return false;
+    };
+    match lines.rsplit(|byte| *byte == b'\n').next() {
+        Some(last) => last.starts_with(b"end,"),
+        None => false,
+    }
+}
