@@ -107,13 +107,22 @@ fn verified(alloc: Global, bytes: &[u8]) -> Option<Verified> {
     verify(alloc, program).ok()
 }
 
+fn opened(alloc: Global, bytes: &[u8]) -> Option<Engine> {
+    Engine::open(alloc, verified(alloc, bytes)?).ok()
+}
+
 // How many runs of an accepted program's sections both machines answer, on records of the rows; none
 // where they don't answer alike, or the engine counts otherwise.
 fn run_by_both(alloc: Global, bytes: &[u8], rows: &[u8]) -> Option<u32> {
-    let mut engine = Engine::open(alloc, verified(alloc, bytes)?).ok()?;
     let verified = verified(alloc, bytes)?;
-    let mut sides = Sides::open(alloc, &verified);
-    if sides.answer(&mut engine, rows) {
+    let mut engine = opened(alloc, bytes)?;
+    runs_of(alloc, &verified, &mut engine, rows)
+}
+
+// The same of a program and an engine of it.
+fn runs_of(alloc: Global, verified: &Verified, engine: &mut Engine, rows: &[u8]) -> Option<u32> {
+    let mut sides = Sides::open(alloc, verified);
+    if sides.answer(engine, rows) {
         Some(sides.runs)
     } else {
         None

@@ -74,12 +74,24 @@ fn a_pane_takes_four(rt: &impl Abort, engine: &mut Engine, mark: i64) {
     assert_eq!(rt; engine.rows().len(), 1);
 }
 
+// Feeds such records, and a watermark at which their one pane fires. What makes an engine does nothing
+// else, since each way out of it drops the engine's parts.
+fn pane_of_records(
+    rt: &impl Abort,
+    alloc: Global,
+    engine: &mut Engine,
+    cases: &[(i64, u64)],
+    mark: i64,
+) -> Result<(), Fail> {
+    records_take(rt, alloc, engine, cases)?;
+    a_pane_takes_four(rt, engine, mark);
+    Ok(())
+}
+
 #[test]
 fn records_and_panes_take_steps(rt: HostRuntime) -> Result<(), Fail> {
     let mut engine = opened(rt.alloc(), &[(LATENESS, 0)])?;
-    records_take(&rt, rt.alloc(), &mut engine, &[(5, 5), (59, 5)])?;
-    a_pane_takes_four(&rt, &mut engine, 60);
-    Ok(())
+    pane_of_records(&rt, rt.alloc(), &mut engine, &[(5, 5), (59, 5)], 60)
 }
 
 // The third record joins the sessions of the others, at a step for the sum.
@@ -88,26 +100,30 @@ fn joined_sessions_take_a_step_more(rt: HostRuntime) -> Result<(), Fail> {
     let sessions = [(SHAPE, 2), (SPAN, 30), (PER_RECORD, 6), (HELD, 10)];
     let mut engine = opened(rt.alloc(), &sessions)?;
     let records = [(0, 5), (40, 5), (20, 6)];
-    records_take(&rt, rt.alloc(), &mut engine, &records)?;
-    a_pane_takes_four(&rt, &mut engine, 70);
-    Ok(())
+    pane_of_records(&rt, rt.alloc(), &mut engine, &records, 70)
 }
 
-// Feeds records of both keys at some times, and tells how many panes are held.
-fn held(alloc: Global, engine: &mut Engine, times: &[i64]) -> Result<usize, Fail> {
+// Feeds records of both keys at some times, after which so many panes are held.
+fn are_held(
+    rt: &impl Abort,
+    alloc: Global,
+    engine: &mut Engine,
+    times: &[i64],
+    panes: usize,
+) -> Result<(), Fail> {
     for time in times {
         fed(alloc, engine, 0, *time)?;
         fed(alloc, engine, 1, *time)?;
     }
-    Ok(engine.held())
+    assert_eq!(rt; engine.held(), panes);
+    assert_eq!(rt; engine.totals().admitted, 6);
+    Ok(())
 }
 
 #[test]
 fn a_window_of_a_key_is_held_once(rt: HostRuntime) -> Result<(), Fail> {
     let mut engine = opened(rt.alloc(), &[])?;
-    assert_eq!(rt; held(rt.alloc(), &mut engine, &[0, 60, 100])?, 4);
-    assert_eq!(rt; engine.totals().admitted, 6);
-    Ok(())
+    are_held(&rt, rt.alloc(), &mut engine, &[0, 60, 100], 4)
 }
 
 // As many as the program states: a window that is about to be dropped, and one as far ahead as the
@@ -115,6 +131,5 @@ fn a_window_of_a_key_is_held_once(rt: HostRuntime) -> Result<(), Fail> {
 #[test]
 fn as_many_panes_as_stated_are_held(rt: HostRuntime) -> Result<(), Fail> {
     let mut engine = opened(rt.alloc(), &[(START, 59)])?;
-    assert_eq!(rt; held(rt.alloc(), &mut engine, &[49, 119, 159])?, 6);
-    Ok(())
+    are_held(&rt, rt.alloc(), &mut engine, &[49, 119, 159], 6)
 }
