@@ -152,19 +152,25 @@ fn panes_within(sides: &mut Sides, range: Interval, most: u64) -> bool {
     true
 }
 
+fn opened(alloc: Global, bytes: &[u8]) -> Option<Engine> {
+    Engine::open(alloc, verified(alloc, bytes).ok()?).ok()
+}
+
 // How many runs of an accepted program's sections both machines answer, within what it needs; none
 // where they don't.
 fn runs_within(alloc: Global, bytes: &[u8], costs: Costs) -> Option<u32> {
-    let mut engine = Engine::open(alloc, verified(alloc, bytes).ok()?).ok()?;
     let verified = verified(alloc, bytes).ok()?;
+    let mut engine = opened(alloc, bytes)?;
+    runs_of(alloc, &verified, &mut engine, costs)
+}
+
+// The same of a program and an engine of it.
+fn runs_of(alloc: Global, verified: &Verified, engine: &mut Engine, costs: Costs) -> Option<u32> {
     let range = verified.range(0)?;
-    let mut sides = Sides::open(alloc, &verified);
-    if !records_within(&mut sides, costs.per_record)
-        || !panes_within(&mut sides, range, costs.per_pane)
-    {
-        return None;
-    }
-    if sides.answer(&mut engine, ROWS) {
+    let mut sides = Sides::open(alloc, verified);
+    let is_within = records_within(&mut sides, costs.per_record)
+        && panes_within(&mut sides, range, costs.per_pane);
+    if is_within && sides.answer(engine, ROWS) {
         Some(sides.runs)
     } else {
         None
