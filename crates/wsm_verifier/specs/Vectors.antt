@@ -1,5 +1,5 @@
 -- Worked programs, computed by the definitions.
-use Rattle.std.specs.Prelude.{◌≡◌, refl, ℕ, ℤ, List, map, Result, true, false, [], ◌∷◌, pos, negsuc, Ok, Err}
+use Rattle.std.specs.Prelude.{◌≡◌, refl, ℕ, ℤ, List, map, Result, true, false, [], ◌∷◌, pos, negsuc, Ok, Err, None, Some}
 use Rattle.wsm_program.specs.declared.Instr.TheVariants.{PushInt, PushBool, PushEnum, Field, Key, Acc, Count, Operate, Jump, JumpIfFalse, Fold, Return}
 use Rattle.wsm_program.specs.declared.Operation.TheVariants.{Add, Sub, Div, Rem, Neg, Eq, Lt, Gt}
 use Rattle.wsm_program.specs.declared.SectionId.TheVariants.{Where, Update, Fire}
@@ -20,7 +20,8 @@ use Rattle.wsm_verifier.specs.declared.rejection.Part.TheVariants.{Code, Budget}
 use Rattle.wsm_verifier.specs.declared.rejection.Rejection.{Rejection}
 use Rattle.wsm_program.specs.declared.program.Costs.{Costs}
 use Rattle.wsm_program.specs.Program.{Program}
-use Rattle.wsm_verifier.specs.Rules.{judge}
+use Rattle.wsm_interval.specs.Interval.{interval}
+use Rattle.wsm_verifier.specs.Rules.{judge, range}
 
 abbrev costs : ℕ → ℕ → ℕ → Costs
 costs record_steps pane_steps held = record { per_record = record_steps; per_pane = pane_steps; held = held }
@@ -250,6 +251,15 @@ two_names = refl
 one_name : judged (record base { selection = (Key ∷ PushEnum 0 1 ∷ Operate Eq ∷ Return ∷ []) }) ≡ Ok (costs 7 4 6)
 one_name = refl
 
+columns_in_order : judged (record base { columns = (column.Int ∷ column.Enum 0 ∷ []); fire = (Count ∷ Key ∷ PushBool true ∷ Return ∷ []) }) ≡ Ok (costs 5 4 6)
+columns_in_order = refl
+
+columns_turned : judged (record base { columns = (column.Enum 0 ∷ column.Int ∷ []); fire = (Count ∷ Key ∷ PushBool true ∷ Return ∷ []) }) ≡ Err (refused (Code Fire) 3 rule.Type)
+columns_turned = refl
+
+count_in_fire : judged (record base { columns = (column.Int ∷ []); fire = (Count ∷ PushBool true ∷ Return ∷ []) }) ≡ Ok (costs 5 3 6)
+count_in_fire = refl
+
 -- edges that disagree, a place that no edge leads to
 
 heights : judged (record base { selection = (PushBool true ∷ JumpIfFalse 3 ∷ PushBool true ∷ PushBool false ∷ Return ∷ []) }) ≡ Err (refused (Code Where) 3 rule.Join)
@@ -303,3 +313,20 @@ where_before_update = refl
 
 code_before_budget : judged (record base { fire = (Return ∷ []); budget = costs 1 1 1 }) ≡ Err (refused (Code Fire) 0 rule.Type)
 code_before_budget = refl
+
+-- ranges of accumulators, over 1 to 1,000 records of -5 to 9
+
+abbrev three_kinds : Worked
+three_kinds = record base { fields = (Int (negsuc 4) (pos 9) ∷ []); kinds = (kind.Sum ∷ kind.Max ∷ kind.Any ∷ []); update = (Field 0 ∷ Fold 0 ∷ Field 0 ∷ Fold 1 ∷ PushBool true ∷ Fold 2 ∷ Return ∷ []) }
+
+range_of_sum : range (program three_kinds) 0 ≡ Some (interval (negsuc 4999) (pos 9000))
+range_of_sum = refl
+
+range_of_max : range (program three_kinds) 1 ≡ Some (interval (negsuc 4) (pos 9))
+range_of_max = refl
+
+range_of_any : range (program three_kinds) 2 ≡ None
+range_of_any = refl
+
+range_of_none : range (program three_kinds) 3 ≡ None
+range_of_none = refl

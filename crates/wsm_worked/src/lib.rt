@@ -6,6 +6,7 @@
 //! - `queries`, `checking`, `compiling`: texts of queries, what they are judged as, and their programs
 //! - `bytes`, `refusals`: programs and their bytes, and the names of what refuses them
 //! - `verifying`: programs that are accepted, and such that state too little
+//! - `machine`: accepted sections on words
 //! - `engine`: what records and watermarks cost, and what is held
 //! - `rows`, `events`, `lines`, `devices`: rows read, the events that they are, what is written, and
 //!   what takes it
@@ -27,6 +28,8 @@ mod events;
 mod given;
 #[cfg(test)]
 mod lines;
+#[cfg(test)]
+mod machine;
 #[cfg(test)]
 mod queries;
 #[cfg(test)]
