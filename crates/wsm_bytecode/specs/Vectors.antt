@@ -1,5 +1,5 @@
 -- Worked rows, computed by the definitions: a program, its bytes, and bytes with a fault.
-use Rattle.std.specs.Prelude.{◌≡◌, refl, ℕ, zero, suc, Bool, true, false, ◌&&◌, List, [], ◌∷◌, ◌++◌, take, length, pos, Result, Ok, Err, codes, slice_set}
+use Rattle.std.specs.Prelude.{◌≡◌, refl, ℕ, zero, suc, Bool, true, false, ◌&&◌, List, [], ◌∷◌, ◌++◌, take, length, map, pos, Result, Ok, Err, codes, slice_set}
 use Rattle.wsm_record.specs.Name.{is_reserved}
 use Rattle.wsm_record.specs.Schema.{Int, is_schema}
 use Rattle.wsm_record.specs.declared.Kind.TheVariants.{Sum}
@@ -7,15 +7,17 @@ use Rattle.wsm_record.specs.declared.Mode.TheVariants.{Accumulating}
 use Rattle.wsm_record.specs.declared.Form.TheVariants.{Panes}
 use Rattle.wsm_windows.specs.declared.Shape.TheVariants.{Fixed}
 use Rattle.wsm_record.specs.declared.words.CellType.TheVariants as types
-use Rattle.wsm_program.specs.declared.instr.Instr.TheVariants.{PushBool, Field, Acc, Count, Fold, Return}
+use Rattle.wsm_program.specs.declared.instr.Instr.{Instr}
+use Rattle.wsm_program.specs.declared.instr.Instr.TheVariants.{PushBool, Field, Acc, Count, Operate, Fold, Return}
+use Rattle.wsm_program.specs.declared.operation.Operation.TheVariants.{Add, Sub, Mul, Div, Rem, Neg, Eq, Ne, Lt, Le, Gt, Ge, Not}
 use Rattle.wsm_program.specs.declared.refusal.DecodeRefusal.{DecodeRefusal}
 use Rattle.wsm_program.specs.declared.refusal.DecodeRefusal.TheVariants.{BadMagic, Version, Truncated, UnknownOpcode, Operand, TrailingBytes}
 use Rattle.wsm_program.specs.Program.{Program, is_header, is_section, is_program}
 use Rattle.wsm_bytecode.specs.Spelling.{long, signed, schema, header, instr, code, spelling}
 use Rattle.wsm_bytecode.specs.Reading.{name_at, names_at, interval_at, enum_at, field_type_at, new_field_at, schema_at, fixed_at, sliding_at, session_at, shape_at, mode_at, form_at, kind_at, kinds_at, enum_number_at, enum_column_at, column_at, columns_at, budget_at, after_magic, after_version, header_at, push_int_at, push_bool_at, push_enum_at, index_at, target_at, plain_instr, instr_by, instr_at, code_at, program_at, decode}
 use Rattle.wsm_program.specs.Operations.{of_code}
-use Rattle.wsm_program.specs.Text.{Letters, Number}
-use Rattle.wsm_bytecode.specs.Text.{lines}
+use Rattle.wsm_program.specs.Text.{Word, Letters, Number}
+use Rattle.wsm_bytecode.specs.Text.{section_lines, lines}
 
 -- counts the records of keys a and b in windows of 60, and sums their field n
 abbrev pub base : Program
@@ -140,3 +142,18 @@ nine_lines : lines base
     ∷ (Letters (codes "fire") ∷ Number (pos 3) ∷ Letters (codes "RET") ∷ [])
     ∷ [])
 nine_lines = refl
+
+-- every operation, its code and its name
+
+abbrev operations : List Instr
+operations = map Operate (Add ∷ Sub ∷ Mul ∷ Div ∷ Rem ∷ Neg ∷ Eq ∷ Ne ∷ Lt ∷ Le ∷ Gt ∷ Ge ∷ Not ∷ [])
+
+operations_spelled : code operations ≡ 13 ∷ 0 ∷ 16 ∷ 17 ∷ 18 ∷ 19 ∷ 20 ∷ 21 ∷ 32 ∷ 33 ∷ 34 ∷ 35 ∷ 36 ∷ 37 ∷ 40 ∷ []
+unfolding code instr
+operations_spelled = refl
+
+abbrev line : ℕ → List ℕ → List Word
+line place name = Letters (codes "fire") ∷ Number (pos place) ∷ Letters name ∷ []
+
+operations_listed : section_lines (codes "fire") 0 operations ≡ line 0 (codes "ADD") ∷ line 1 (codes "SUB") ∷ line 2 (codes "MUL") ∷ line 3 (codes "DIV") ∷ line 4 (codes "REM") ∷ line 5 (codes "NEG") ∷ line 6 (codes "EQ") ∷ line 7 (codes "NE") ∷ line 8 (codes "LT") ∷ line 9 (codes "LE") ∷ line 10 (codes "GT") ∷ line 11 (codes "GE") ∷ line 12 (codes "NOT") ∷ []
+operations_listed = refl

@@ -2,8 +2,8 @@
 use Rattle.std.specs.Prelude.{◌≡◌, refl, ℕ, zero, suc, true, List, [], ◌∷◌, ◌++◌, replicate, pos, negsuc, Option, Some, None, codes}
 use Rattle.wsm_record.specs.declared.words.Kind.TheVariants.{Sum, Any}
 use Rattle.wsm_record.specs.declared.words.Mode.TheVariants.{Discarding, Accumulating}
-use Rattle.wsm_record.specs.declared.words.Form.TheVariants.{Panes, Istream}
-use Rattle.wsm_windows.specs.declared.window.Shape.TheVariants.{Fixed, Sliding}
+use Rattle.wsm_record.specs.declared.words.Form.TheVariants.{Panes, Istream, Dstream}
+use Rattle.wsm_windows.specs.declared.window.Shape.TheVariants.{Fixed, Sliding, Session}
 use Rattle.wsm_query.specs.declared.expr.Op.TheVariants.{Add, Eq, Gt}
 use Rattle.wsm_record.specs.Schema.{FieldType, DeclaredField}
 use Rattle.wsm_record.specs.Schema as field_types
@@ -95,6 +95,9 @@ name_before_type = refl
 unknown_key : selecting (Count ∷ Binary Eq Key (KeyName (codes "c")) ∷ []) ≡ refused UnknownName (part.Column 2)
 unknown_key = refl
 
+key_in_a_column : selecting (Key ∷ []) ≡ None
+key_in_a_column = refl
+
 known_key : having (Binary Eq Key (KeyName (codes "b"))) ≡ None
 known_key = refl
 
@@ -113,6 +116,9 @@ names_of_two_fields = refl
 
 names_of_one_field : refusal (record base { fields = two_colors; columns = Count ∷ []; condition = Some (Binary Eq (Field (codes "g")) (EnumName (codes "g") (codes "x"))) }) ≡ None
 names_of_one_field = refl
+
+unknown_name_of_a_field : refusal (record base { fields = two_colors; columns = Count ∷ []; condition = Some (Binary Eq (Field (codes "f")) (EnumName (codes "f") (codes "y"))) }) ≡ refused UnknownName part.Where
+unknown_name_of_a_field = refl
 
 -- a name of a field is no field
 name_in_a_column : refusal (record base { fields = two_colors; columns = EnumName (codes "g") (codes "x") ∷ [] }) ≡ None
@@ -152,11 +158,20 @@ no_steps = refl
 period_past_size : refusal (record base { shape = Sliding (pos 2) (pos 3) }) ≡ refused Limit part.Window
 period_past_size = refl
 
+period_of_size : refusal (record base { shape = Sliding (pos 60) (pos 60) }) ≡ None
+period_of_size = refl
+
 no_count : refusal (record base { early = Some (pos 0) }) ≡ refused Limit part.Trigger
 no_count = refl
 
 stream_of_discarding : refusal (record base { mode = Discarding; form = Istream }) ≡ refused StreamNeedsAccumulating part.Emit
 stream_of_discarding = refl
+
+stream_of_discarding_sessions : refusal (record base { shape = Session (pos 60); mode = Discarding; form = Dstream }) ≡ refused StreamNeedsAccumulating part.Emit
+stream_of_discarding_sessions = refl
+
+stream_of_sessions : refusal (record base { shape = Session (pos 60); form = Dstream }) ≡ None
+stream_of_sessions = refl
 
 no_column : selecting [] ≡ refused Limit (part.Column 1)
 no_column = refl

@@ -1,5 +1,5 @@
 -- Texts with their trees, or their first faults, computed by the definitions.
-use Rattle.std.specs.Prelude.{◌≡◌, refl, ℕ, zero, suc, List, [], ◌∷◌, ◌++◌, replicate, pos, Some, None, Result, Ok, Err, codes}
+use Rattle.std.specs.Prelude.{◌≡◌, refl, ℕ, zero, suc, List, [], ◌∷◌, ◌++◌, replicate, map, pos, Some, None, Result, Ok, Err, codes}
 use Rattle.wsm_record.specs.Name.{is_reserved}
 use Rattle.wsm_record.specs.declared.words.Kind.TheVariants.{Sum}
 use Rattle.wsm_record.specs.declared.words.Mode.TheVariants.{Accumulating}
@@ -173,3 +173,32 @@ to_the_left = refl
 brackets_stay : parse (selecting (codes "7-(2-1)")) ≡ Ok (record base { columns = Binary Sub (Number (pos 7)) (Brackets (Binary Sub (Number (pos 2)) (Number (pos 1)))) ∷ [] })
 unfolding parse query_text tokens tokens_from first_of sign_of place_of is_reserved unexpected too_deep begins begins_number is_end behind count ask number name ended brace list_of aggregate count_of choice brackets pointed leaf atom unary chain chained prod sum cmp neg conj expr_in levels expr int names type_of field budget shape mode form every query
 brackets_stay = refl
+
+-- texts beside their neighbours
+
+abbrev answers : List (List ℕ) → List Answer
+answers texts = map (λ columns. answer (selecting columns)) texts
+
+operators_beside_their_neighbours : answers (codes "7 - 2 - 1" ∷ codes "7 - 2 -" ∷ codes "n <> 0 AND 10 / n > 1" ∷ codes "n <> 0 AND AND 1" ∷ codes "1 <= 2" ∷ codes "1 < = 2" ∷ codes "1 >= 2" ∷ codes "1 > = 2" ∷ codes "1 <> 2" ∷ codes "1 < > 2" ∷ codes "(1 < 2) = TRUE" ∷ codes "1 < 2 < 3" ∷ []) ≡ Taken ∷ Unread Unexpected 5 1 ∷ Taken ∷ Unread Unexpected 4 19 ∷ Taken ∷ Unread Unexpected 4 12 ∷ Taken ∷ Unread Unexpected 4 12 ∷ Taken ∷ Unread Unexpected 4 12 ∷ Taken ∷ Unread Unexpected 4 14 ∷ []
+unfolding parse query_text tokens tokens_from first_of sign_of place_of is_reserved unexpected too_deep begins begins_number is_end behind count ask number name ended brace list_of aggregate count_of choice brackets pointed leaf atom unary chain chained prod sum cmp neg conj expr_in levels expr int names type_of field budget shape mode form every query
+operators_beside_their_neighbours = refl
+
+names_beside_their_neighbours : answers (codes "KEY = KEY.a" ∷ codes "KEY = KEY.1" ∷ codes "color.red" ∷ codes "color.RECORD" ∷ codes "color..red" ∷ codes "records" ∷ codes "RECORDS" ∷ codes "FROM" ∷ []) ≡ Taken ∷ Unread Unexpected 4 18 ∷ Taken ∷ Unread Unexpected 4 14 ∷ Unread Unexpected 4 13 ∷ Taken ∷ Unread Unexpected 4 8 ∷ Unread Unexpected 4 8 ∷ []
+unfolding parse query_text tokens tokens_from first_of sign_of place_of is_reserved unexpected too_deep begins begins_number is_end behind count ask number name ended brace list_of aggregate count_of choice brackets pointed leaf atom unary chain chained prod sum cmp neg conj expr_in levels expr int names type_of field budget shape mode form every query
+names_beside_their_neighbours = refl
+
+forms_beside_their_neighbours : answers (codes "COUNT(*), SUM(n)" ∷ codes "COUNT(*) SUM(n)" ∷ codes "IF n > 1 THEN 1 ELSE 2 END" ∷ codes "IF n > 1 THEN 1 END" ∷ codes "MIN(n) + MAX(n)" ∷ codes "MIN n" ∷ codes "ANY(TRUE) OR ALL(FALSE)" ∷ codes "ANY()" ∷ codes "COUNT(*) * 2 / 3 % 4" ∷ codes "COUNT(n)" ∷ codes "COUNT(*) ! 1" ∷ []) ≡ Taken ∷ Unread Unexpected 4 17 ∷ Taken ∷ Unread Unexpected 4 24 ∷ Taken ∷ Unread Unexpected 4 12 ∷ Taken ∷ Unread Unexpected 4 12 ∷ Taken ∷ Unread Unexpected 4 14 ∷ Unread BadCharacter 4 17 ∷ []
+unfolding parse query_text tokens tokens_from first_of sign_of place_of is_reserved unexpected too_deep begins begins_number is_end behind count ask number name ended brace list_of aggregate count_of choice brackets pointed leaf atom unary chain chained prod sum cmp neg conj expr_in levels expr int names type_of field budget shape mode form every query
+forms_beside_their_neighbours = refl
+
+numbers_beside_their_neighbours : answers (codes "5x" ∷ codes "1.5" ∷ codes "9223372036854775807" ∷ codes "9223372036854775808" ∷ codes "0009223372036854775807" ∷ []) ≡ Unread Unexpected 4 9 ∷ Unread Unexpected 4 9 ∷ Taken ∷ Unread NumberTooLarge 4 8 ∷ Taken ∷ []
+unfolding parse query_text tokens tokens_from first_of sign_of place_of is_reserved unexpected too_deep begins begins_number is_end behind count ask number name ended brace list_of aggregate count_of choice brackets pointed leaf atom unary chain chained prod sum cmp neg conj expr_in levels expr int names type_of field budget shape mode form every query
+numbers_beside_their_neighbours = refl
+
+conditions_beside_their_neighbours : answers (codes "1 WHERE n > 1 HAVING COUNT(*) > 1" ∷ codes "1 HAVING COUNT(*) > 1 WHERE n > 1" ∷ []) ≡ Taken ∷ Unread Unexpected 4 30 ∷ []
+unfolding parse query_text tokens tokens_from first_of sign_of place_of is_reserved unexpected too_deep begins begins_number is_end behind count ask number name ended brace list_of aggregate count_of choice brackets pointed leaf atom unary chain chained prod sum cmp neg conj expr_in levels expr int names type_of field budget shape mode form every query
+conditions_beside_their_neighbours = refl
+
+whole_texts_beside_their_neighbours : map answer ((codes "KEYS a;  " ++ 9 ∷ 32 ∷ []) ∷ (codes "KEYS " ++ 195 ∷ 169 ∷ codes ";") ∷ (codes "KEYS a_1; " ++ 34 ∷ []) ∷ codes "keys a;" ∷ codes "KEYS _a;" ∷ codes "KEYS a, KEY;" ∷ codes "KEYS a; FIELD n INT -2..-1; FIELD c ENUM(x, y); FIELD b BOOL; START 0; SKEW 0; LATENESS 0; RECORDS 1; BUDGET RECORD 1 PANE 2 HELD 3; SELECT 1 WINDOW SLIDING 6 EVERY 2 DISCARDING EARLY EVERY 1 LATE EVERY 2 EMIT RSTREAM;" ∷ codes "KEYS a; FIELD n INT -2.-1; START 0;" ∷ codes "KEYS a; FIELD c ENUM(); START 0;" ∷ codes "KEYS a; FIELD b BOOL START 0;" ∷ codes "KEYS a; START 0; SKEW 0; LATENESS 0; RECORDS 1; BUDGET RECORD 1 HELD 3;" ∷ codes "KEYS a; START 0; SKEW 0; LATENESS 0; RECORDS 1; SELECT 1 WINDOW SESSION 6 ACCUMULATING EMIT PANES;" ∷ codes "KEYS a; START 0; SKEW 0; LATENESS 0; RECORDS 1; SELECT 1 WINDOW SESSION 6 RETRACTING EMIT PANES;" ∷ codes "KEYS a; START 0; SKEW 0; LATENESS 0; RECORDS 1; SELECT 1 WINDOW FIXED 6 ACCUMULATING LATE EVERY 1 EARLY EVERY 1 EMIT PANES;" ∷ codes "KEYS a; START 0; SKEW 0; LATENESS 0; RECORDS 1; SELECT 1 WINDOW FIXED 6 ACCUMULATING EMIT ISTREAM; ;" ∷ []) ≡ Unread Unexpected 1 12 ∷ Unread BadCharacter 1 6 ∷ Unread BadCharacter 1 11 ∷ Unread Unexpected 1 1 ∷ Unread BadCharacter 1 6 ∷ Unread Unexpected 1 9 ∷ Taken ∷ Unread Unexpected 1 23 ∷ Unread Unexpected 1 22 ∷ Unread Unexpected 1 22 ∷ Unread Unexpected 1 65 ∷ Taken ∷ Unread Unexpected 1 75 ∷ Unread Unexpected 1 99 ∷ Unread Unexpected 1 100 ∷ []
+unfolding parse query_text tokens tokens_from first_of sign_of place_of is_reserved unexpected too_deep begins begins_number is_end behind count ask number name ended brace list_of aggregate count_of choice brackets pointed leaf atom unary chain chained prod sum cmp neg conj expr_in levels expr int names type_of field budget shape mode form every query
+whole_texts_beside_their_neighbours = refl

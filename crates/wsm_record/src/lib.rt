@@ -24,6 +24,4 @@ mod names;
 mod reserved;
 mod schema;
 mod spelling;
-#[cfg(test)]
-mod tests;
 mod words;

@@ -24,5 +24,3 @@ pub use sessions::Sessions;
 mod edits;
 mod placed;
 mod sessions;
-#[cfg(test)]
-mod tests;

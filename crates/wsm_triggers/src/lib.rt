@@ -23,5 +23,3 @@
 pub use firing::{Trigger, on_record, on_watermark};
 
 mod firing;
-#[cfg(test)]
-mod tests;

@@ -30,6 +30,4 @@ pub use window::{PaneKind, Shape, Window};
 mod assignment;
 mod life;
 mod place;
-#[cfg(test)]
-mod tests;
 mod window;

@@ -32,7 +32,7 @@ fn compiled(alloc: Global, text: &[u8]) -> Result<Program, Fail> {
 fn a_text_is_compiled_to_its_bytes(rt: HostRuntime) -> Result<(), Fail> {
     let program = compiled(rt.alloc(), BASE)?;
     let bytes = encode(rt.alloc(), &program)?;
-    assert_eq!(rt; bytes.as_slice(), BASE_PROGRAM.as_slice());
+    assert_eq!(rt; bytes.as_slice(), BASE_PROGRAM);
     Ok(())
 }
 

@@ -25,7 +25,7 @@ const HELD: usize = 111;
 
 // The base program with other bytes at some places.
 fn verified(alloc: Global, changes: &[(usize, u8)]) -> Result<Verified, Fail> {
-    let mut bytes = BASE_PROGRAM;
+    let mut bytes = BASE_PROGRAM.to_vec(alloc)?;
     for (place, byte) in changes {
         if let Some(changed) = bytes.get_mut(*place) {
             *changed = *byte;

@@ -3,7 +3,9 @@
 //! the format. There are tests alone, in one crate, since the tests of a crate prove it once more.
 //!
 //! - `given`: what the examples start from
-//! - `queries`, `checking`, `compiling`: texts of queries, what they are judged as, and their programs
+//! - `windows`: windows and sessions of times, and when a pane fires
+//! - `queries`, `checking`, `compiling`: queries as they are printed, what is kept of a checked one, and
+//!   its program
 //! - `bytes`, `refusals`: programs and their bytes, and the names of what refuses them
 //! - `verifying`: programs that are accepted, and such that state too little
 //! - `machine`: accepted sections on words
@@ -38,3 +40,5 @@ mod refusals;
 mod rows;
 #[cfg(test)]
 mod verifying;
+#[cfg(test)]
+mod windows;
