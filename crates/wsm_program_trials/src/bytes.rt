@@ -177,8 +177,8 @@ fn is_truncated(alloc: Global, bytes: &[u8]) -> bool {
 #[test]
 fn beginnings_of_the_base_program(rt: HostRuntime) -> Result<(), Fail> {
     let compiled = compile_text(rt.alloc(), BASE)?;
-    assert_eq!(rt; compiled.as_slice(), BASE_PROGRAM.as_slice());
-    assert_eq!(rt; cut_off(rt.alloc(), &BASE_PROGRAM), 139);
+    assert_eq!(rt; compiled.as_slice(), BASE_PROGRAM);
+    assert_eq!(rt; cut_off(rt.alloc(), BASE_PROGRAM), 139);
     Ok(())
 }
 
@@ -193,12 +193,12 @@ fn beginnings_of_other_programs(rt: HostRuntime) -> Result<(), Fail> {
 
 #[test]
 fn changes_of_the_base_program(rt: HostRuntime) -> Result<(), Fail> {
-    let (text, _) = program_ran(rt.alloc(), &BASE_PROGRAM, BASE_ROWS);
+    let (text, _) = program_ran(rt.alloc(), BASE_PROGRAM, BASE_ROWS);
     assert_eq!(rt; text.as_slice(), BASE_TEXT);
     // Two records are kept, each with a run of each section.
-    let runs = run_by_both(rt.alloc(), &BASE_PROGRAM, BASE_ROWS);
+    let runs = run_by_both(rt.alloc(), BASE_PROGRAM, BASE_ROWS);
     assert_eq!(rt; runs, Some(6));
-    let counts = change_bytes(rt.alloc(), &BASE_PROGRAM, BASE_ROWS)?;
+    let counts = change_bytes(rt.alloc(), BASE_PROGRAM, BASE_ROWS)?;
     let want = Counts {
         refused: 19_892,
         rejected: 2_992,

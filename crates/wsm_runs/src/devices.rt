@@ -1,4 +1,4 @@
-//! Runs whose reader or device fails.
+//! Runs whose device fails, and when a run writes.
 
 use std::alloc::{AllocError, Global};
 use std::cell::Cell;
@@ -11,25 +11,17 @@ const QUERY: &[u8] = b"KEYS a, b; FIELD n INT 0..100;
 START 0; SKEW 100; LATENESS 10; RECORDS 1000;
 SELECT COUNT(*), SUM(n) WINDOW FIXED 60 ACCUMULATING EMIT PANES;";
 
-const ROWS: &[u8] = b"r,a,5,7\nr,a,59,3\nw,60\n";
-
-const WRITTEN: &[u8] = b"pane,on_time,a,0,60,2,10\nend,3,2,0,0,1\n";
-
-fn failure() -> io::Error {
-    io::Error::from(io::ErrorKind::Other)
-}
-
-// Takes a number of bytes, one at a time, and then fails, where it is flushed too.
+/// Takes a number of bytes, one at a time, and then fails.
 #[derive(Drop)]
-struct TakesFew {
-    taken: Vec<u8>,
-    left: usize,
+pub struct TakesFew {
+    pub taken: Vec<u8>,
+    pub left: usize,
 }
 
 impl Write for TakesFew {
     fn write(&mut self, buf: &[u8]) -> io::Result<usize> {
         if self.left == 0 || buf.is_empty() {
-            return Err(failure());
+            return Err(io::Error::from(io::ErrorKind::Other));
         }
         self.taken.push(buf[0])?;
         self.left -= 1;
@@ -37,25 +29,8 @@ impl Write for TakesFew {
     }
 
     fn flush(&mut self) -> io::Result<()> {
-        if self.left == 0 {
-            return Err(failure());
-        }
         Ok(())
     }
-}
-
-#[test]
-fn a_failed_device_took_a_beginning(rt: HostRuntime) -> Result<(), Fail> {
-    // The last one takes all of it, and fails where it is flushed.
-    for left in 0..WRITTEN.len() + 1 {
-        let taken = Vec::new(rt.alloc());
-        let mut out = Guarded::new(TakesFew { taken, left });
-        let end = run_query(rt.alloc(), QUERY, ROWS, &mut out);
-        assert_eq!(rt; end, Err(End::WriteFailed), "at {left}");
-        let taken = out.into_writer().taken;
-        assert_eq!(rt; Some(taken.as_slice()), WRITTEN.get(..left), "at {left}");
-    }
-    Ok(())
 }
 
 // Two records stand in 2,000 windows each, which fire at once.
@@ -90,41 +65,6 @@ fn a_device_fails_in_a_turn_of_many_lines(rt: HostRuntime) -> Result<(), Fail> {
         Some(out.into_writer().taken.as_slice()),
         panes.as_bytes().get(..70_000)
     );
-    Ok(())
-}
-
-// Gives a text byte by byte, and fails where it is asked for more.
-#[derive(Drop)]
-struct FailsBehind<'a>(&'a [u8]);
-
-impl Read for FailsBehind<'_> {
-    fn read(&mut self, buf: &mut [u8]) -> io::Result<usize> {
-        let Some((first, rest)) = self.0.split_first() else {
-            return Err(failure());
-        };
-        if buf.is_empty() {
-            return Ok(0);
-        }
-        buf[0] = *first;
-        self.0 = rest;
-        Ok(1)
-    }
-}
-
-#[test]
-fn a_failed_read_ends_a_run_between_turns(rt: HostRuntime) -> Result<(), Fail> {
-    let cases = [
-        (b"".as_slice(), b"".as_slice()),
-        (b"r,a,5,7", b""),
-        (b"r,a,5,7\nr,a,59,3\nw,60", b""),
-        (ROWS, b"pane,on_time,a,0,60,2,10\n"),
-    ];
-    for (rows, want) in cases {
-        let mut out = Guarded::new(Vec::new(rt.alloc()));
-        let end = run_query(rt.alloc(), QUERY, FailsBehind(rows), &mut out);
-        assert_eq!(rt; end, Err(End::ReadFailed));
-        assert_eq!(rt; out.into_writer().as_slice(), want);
-    }
     Ok(())
 }
 

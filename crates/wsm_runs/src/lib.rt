@@ -3,7 +3,7 @@
 //!
 //! - `runs`: rows through queries of each shape, mode and form, by their texts and by their programs
 //! - `judging`: what is said of programs
-//! - `devices`: what has been written where a reader or a device fails
+//! - `devices`: what has been written where a device fails, or a row is read
 //! - `ends`: the line and the status of each end
 //! - `words`: the words of a command, and what refuses them
 #![tactic(auto)]

@@ -104,266 +104,257 @@ fn all_write<R: Abort + AllocGlobal>(rt: &R, cases: &[Case]) -> Result<(), Fail>
     Ok(())
 }
 
+const FIXED: [Case; 7] = [
+    BASE,
+    TWO_RECORDS,
+    Case {
+        rows: "r,a,60,1\nw,60\n",
+        want: "end,2,1,0,0,0\n",
+        ..BASE
+    },
+    Case {
+        rows: "w,60\nr,a,49,4\nr,a,50,6\nw,70\n",
+        want: "pane,final,a,0,60,1,6\nend,4,1,1,0,1\n",
+        ..BASE
+    },
+    Case {
+        rows: "r,a,5,1\nr,a,65,2\nw,20\nr,a,120,4\nw,1000\n",
+        want: "pane,on_time,a,0,60,1,1\npane,on_time,a,60,120,1,2\npane,on_time,a,120,180,1,4\nend,5,3,0,0,3\n",
+        ..BASE
+    },
+    Case {
+        columns: "COUNT(*) HAVING SUM(n) > 5",
+        rows: "r,a,1,5\nr,b,1,6\nw,60\n",
+        want: "pane,on_time,b,0,60,1\nend,3,2,0,0,2\n",
+        ..BASE
+    },
+    Case {
+        field: "color ENUM(red, blue)",
+        columns: "KEY, color.blue, COUNT(*) > 1",
+        rows: "r,b,1,red\nw,60\n",
+        want: "pane,on_time,b,0,60,b,blue,false\nend,2,1,0,0,1\n",
+        ..BASE
+    },
+];
+
 #[test]
 fn fixed_windows(rt: HostRuntime) -> Result<(), Fail> {
-    let cases = [
-        BASE,
-        TWO_RECORDS,
-        Case {
-            rows: "r,a,60,1\nw,60\n",
-            want: "end,2,1,0,0,0\n",
-            ..BASE
-        },
-        Case {
-            rows: "w,60\nr,a,49,4\nr,a,50,6\nw,70\n",
-            want: "pane,final,a,0,60,1,6\nend,4,1,1,0,1\n",
-            ..BASE
-        },
-        Case {
-            rows: "r,a,5,1\nr,a,65,2\nw,20\nr,a,120,4\nw,1000\n",
-            want: "pane,on_time,a,0,60,1,1\npane,on_time,a,60,120,1,2\npane,on_time,a,120,180,1,4\nend,5,3,0,0,3\n",
-            ..BASE
-        },
-        Case {
-            columns: "COUNT(*) HAVING SUM(n) > 5",
-            rows: "r,a,1,5\nr,b,1,6\nw,60\n",
-            want: "pane,on_time,b,0,60,1\nend,3,2,0,0,2\n",
-            ..BASE
-        },
-        Case {
-            field: "color ENUM(red, blue)",
-            columns: "KEY, color.blue, COUNT(*) > 1",
-            rows: "r,b,1,red\nw,60\n",
-            want: "pane,on_time,b,0,60,b,blue,false\nend,2,1,0,0,1\n",
-            ..BASE
-        },
-    ];
-    all_write(&rt, &cases)
+    all_write(&rt, &FIXED)
 }
+
+const COUNTS: [Case; 2] = [
+    Case {
+        rows: "r,a,5,7\nr,b,59,3\nw,60\nr,a,59,1\nw,60\n",
+        want: "pane,on_time,a,0,60,1\npane,on_time,b,0,60,1\nrefused,5,NotRising\nend,5,2,1,1,2\n",
+        ..COUNT
+    },
+    Case {
+        rows: "r,a,100,1\nr,a,101,1\nx\n",
+        want: "refused,2,TooFarAhead\nrefused,3,BadTag\nend,3,1,0,2,0\n",
+        ..COUNT
+    },
+];
 
 #[test]
 fn counts_of_each_key(rt: HostRuntime) -> Result<(), Fail> {
-    let cases = [
-        Case {
-            rows: "r,a,5,7\nr,b,59,3\nw,60\nr,a,59,1\nw,60\n",
-            want: "pane,on_time,a,0,60,1\npane,on_time,b,0,60,1\nrefused,5,NotRising\nend,5,2,1,1,2\n",
-            ..COUNT
-        },
-        Case {
-            rows: "r,a,100,1\nr,a,101,1\nx\n",
-            want: "refused,2,TooFarAhead\nrefused,3,BadTag\nend,3,1,0,2,0\n",
-            ..COUNT
-        },
-    ];
-    all_write(&rt, &cases)
+    all_write(&rt, &COUNTS)
 }
+
+const REFUSED: [Case; 3] = [
+    Case {
+        rows: "r,a,100,1\nr,a,101,1\n",
+        want: "refused,2,TooFarAhead\nend,2,1,0,1,0\n",
+        ..BASE
+    },
+    Case {
+        clock: "START 0; SKEW 100; LATENESS 10; RECORDS 2",
+        rows: "r,a,1,1\nr,a,2,1\nr,a,3,1\nr,c,1,1\nr,a,1,101\nw,5\nw,5\n",
+        want: "refused,3,RecordLimit\nrefused,4,UnknownKey\nrefused,5,FieldRange\nrefused,7,NotRising\nend,7,2,0,4,0\n",
+        ..BASE
+    },
+    Case {
+        rows: "x,1\nr,a,5\nr,a,5x,1\n",
+        want: "refused,1,BadTag\nrefused,2,CellCount\nrefused,3,BadNumber\nend,3,0,0,3,0\n",
+        ..BASE
+    },
+];
 
 #[test]
 fn refused_rows(rt: HostRuntime) -> Result<(), Fail> {
-    let cases = [
-        Case {
-            rows: "r,a,100,1\nr,a,101,1\n",
-            want: "refused,2,TooFarAhead\nend,2,1,0,1,0\n",
-            ..BASE
-        },
-        Case {
-            clock: "START 0; SKEW 100; LATENESS 10; RECORDS 2",
-            rows: "r,a,1,1\nr,a,2,1\nr,a,3,1\nr,c,1,1\nr,a,1,101\nw,5\nw,5\n",
-            want: "refused,3,RecordLimit\nrefused,4,UnknownKey\nrefused,5,FieldRange\nrefused,7,NotRising\nend,7,2,0,4,0\n",
-            ..BASE
-        },
-        Case {
-            rows: "x,1\nr,a,5\nr,a,5x,1\n",
-            want: "refused,1,BadTag\nrefused,2,CellCount\nrefused,3,BadNumber\nend,3,0,0,3,0\n",
-            ..BASE
-        },
-    ];
-    all_write(&rt, &cases)
+    all_write(&rt, &REFUSED)
 }
+
+const SESSIONS_AND_SLIDING: [Case; 5] = [
+    TWO_SESSIONS,
+    Case {
+        clock: PROMPT,
+        window: "SESSION 30 ACCUMULATING",
+        rows: "r,a,10,1\nw,40\nr,a,39,2\nr,a,40,3\nw,70\n",
+        want: "pane,on_time,a,10,40,1,1\npane,on_time,a,40,70,1,3\nend,5,2,1,0,2\n",
+        ..BASE
+    },
+    JOINED_SESSIONS,
+    Case {
+        window: "SESSION 30 ACCUMULATING EARLY EVERY 4",
+        rows: "r,a,0,1\nr,a,1,1\nr,a,40,1\nr,a,41,1\nr,a,20,1\n",
+        want: "pane,early,a,0,71,5,5\nend,5,5,0,0,1\n",
+        ..BASE
+    },
+    SLIDING,
+];
 
 #[test]
 fn sessions_and_sliding_windows(rt: HostRuntime) -> Result<(), Fail> {
-    let cases = [
-        TWO_SESSIONS,
-        Case {
-            clock: PROMPT,
-            window: "SESSION 30 ACCUMULATING",
-            rows: "r,a,10,1\nw,40\nr,a,39,2\nr,a,40,3\nw,70\n",
-            want: "pane,on_time,a,10,40,1,1\npane,on_time,a,40,70,1,3\nend,5,2,1,0,2\n",
-            ..BASE
-        },
-        JOINED_SESSIONS,
-        Case {
-            window: "SESSION 30 ACCUMULATING EARLY EVERY 4",
-            rows: "r,a,0,1\nr,a,1,1\nr,a,40,1\nr,a,41,1\nr,a,20,1\n",
-            want: "pane,early,a,0,71,5,5\nend,5,5,0,0,1\n",
-            ..BASE
-        },
-        SLIDING,
-    ];
-    all_write(&rt, &cases)
+    all_write(&rt, &SESSIONS_AND_SLIDING)
 }
+
+const WITHOUT_LATENESS: [Case; 4] = [
+    Case {
+        clock: PROMPT,
+        ..TWO_RECORDS
+    },
+    Case {
+        clock: PROMPT,
+        ..TWO_SESSIONS
+    },
+    Case {
+        clock: PROMPT,
+        ..JOINED_SESSIONS
+    },
+    Case {
+        clock: PROMPT,
+        ..SLIDING
+    },
+];
 
 // Where nothing comes late, the lateness changes nothing.
 #[test]
 fn without_lateness(rt: HostRuntime) -> Result<(), Fail> {
-    let cases = [
-        Case {
-            clock: PROMPT,
-            ..TWO_RECORDS
-        },
-        Case {
-            clock: PROMPT,
-            ..TWO_SESSIONS
-        },
-        Case {
-            clock: PROMPT,
-            ..JOINED_SESSIONS
-        },
-        Case {
-            clock: PROMPT,
-            ..SLIDING
-        },
-    ];
-    all_write(&rt, &cases)
+    all_write(&rt, &WITHOUT_LATENESS)
 }
 
-#[test]
-fn greatest_numbers(rt: HostRuntime) -> Result<(), Fail> {
-    let cases = [
-        Case {
-            field: "n INT 0..9223372036854775807",
-            clock: "START 0; SKEW 100; LATENESS 10; RECORDS 1",
-            rows: "r,a,5,9223372036854775807\nw,60\n",
-            want: "pane,on_time,a,0,60,1,9223372036854775807\nend,2,1,0,0,1\n",
-            ..BASE
-        },
-        Case {
-            clock: "START 9999999999999940; SKEW 100; LATENESS 10; RECORDS 1000",
-            rows: "r,a,10000000000000000,1\nr,a,10000000000000001,1\nw,10000000000000000\n",
-            want: "refused,2,TimeRange\nend,3,1,0,1,0\n",
-            ..BASE
-        },
-    ];
-    all_write(&rt, &cases)
-}
+const EARLY: [Case; 2] = [
+    Case {
+        window: "FIXED 60 DISCARDING EARLY EVERY 2",
+        rows: "r,a,1,2\nr,a,2,3\nw,60\n",
+        want: "pane,early,a,0,60,2,5\nend,3,2,0,0,1\n",
+        ..BASE
+    },
+    Case {
+        window: "FIXED 60 ACCUMULATING EARLY EVERY 2",
+        rows: "r,a,1,2\nr,a,2,3\nw,60\n",
+        want: "pane,early,a,0,60,2,5\npane,on_time,a,0,60,2,5\nend,3,2,0,0,2\n",
+        ..BASE
+    },
+];
 
 #[test]
 fn early_panes(rt: HostRuntime) -> Result<(), Fail> {
-    let cases = [
-        Case {
-            window: "FIXED 60 DISCARDING EARLY EVERY 2",
-            rows: "r,a,1,2\nr,a,2,3\nw,60\n",
-            want: "pane,early,a,0,60,2,5\nend,3,2,0,0,1\n",
-            ..BASE
-        },
-        Case {
-            window: "FIXED 60 ACCUMULATING EARLY EVERY 2",
-            rows: "r,a,1,2\nr,a,2,3\nw,60\n",
-            want: "pane,early,a,0,60,2,5\npane,on_time,a,0,60,2,5\nend,3,2,0,0,2\n",
-            ..BASE
-        },
-    ];
-    all_write(&rt, &cases)
+    all_write(&rt, &EARLY)
 }
+
+const LATE_ROWS: &str = "r,a,55,1\nw,60\nr,a,56,2\nr,a,57,3\nr,a,58,4\nw,70\n";
+
+const LATE: [Case; 3] = [
+    Case {
+        window: "FIXED 60 ACCUMULATING LATE EVERY 2",
+        rows: LATE_ROWS,
+        want: "pane,on_time,a,0,60,1,1\npane,late,a,0,60,3,6\npane,final,a,0,60,4,10\nend,6,4,0,0,3\n",
+        ..BASE
+    },
+    Case {
+        window: "FIXED 60 DISCARDING LATE EVERY 2",
+        rows: LATE_ROWS,
+        want: "pane,on_time,a,0,60,1,1\npane,late,a,0,60,2,5\npane,final,a,0,60,1,4\nend,6,4,0,0,3\n",
+        ..BASE
+    },
+    Case {
+        rows: "r,a,5,1\nw,80\nr,a,180,2\nw,250\n",
+        want: "pane,on_time,a,0,60,1,1\npane,on_time,a,180,240,1,2\nend,4,2,0,0,2\n",
+        ..BASE
+    },
+];
 
 #[test]
 fn late_panes(rt: HostRuntime) -> Result<(), Fail> {
-    let late = "r,a,55,1\nw,60\nr,a,56,2\nr,a,57,3\nr,a,58,4\nw,70\n";
-    let cases = [
-        Case {
-            window: "FIXED 60 ACCUMULATING LATE EVERY 2",
-            rows: late,
-            want: "pane,on_time,a,0,60,1,1\npane,late,a,0,60,3,6\npane,final,a,0,60,4,10\nend,6,4,0,0,3\n",
-            ..BASE
-        },
-        Case {
-            window: "FIXED 60 DISCARDING LATE EVERY 2",
-            rows: late,
-            want: "pane,on_time,a,0,60,1,1\npane,late,a,0,60,2,5\npane,final,a,0,60,1,4\nend,6,4,0,0,3\n",
-            ..BASE
-        },
-        Case {
-            rows: "r,a,5,1\nw,80\nr,a,180,2\nw,250\n",
-            want: "pane,on_time,a,0,60,1,1\npane,on_time,a,180,240,1,2\nend,4,2,0,0,2\n",
-            ..BASE
-        },
-    ];
-    all_write(&rt, &cases)
+    all_write(&rt, &LATE)
 }
+
+const STREAMS: [Case; 3] = [
+    Case {
+        form: "ISTREAM",
+        rows: "r,a,1,1\nr,b,2,1\nw,60\nw,61\n",
+        want: "istream,60,1\nistream,60,1\nend,4,2,0,0,2\n",
+        ..COUNT
+    },
+    Case {
+        form: "DSTREAM",
+        rows: "r,a,1,1\nr,b,2,1\nw,60\nw,61\n",
+        want: "dstream,61,1\ndstream,61,1\nend,4,2,0,0,2\n",
+        ..COUNT
+    },
+    Case {
+        clock: "START 0; SKEW 100; LATENESS 100; RECORDS 1000",
+        columns: "COUNT(*)",
+        window: "SESSION 30 ACCUMULATING",
+        form: "RSTREAM",
+        rows: "r,a,0,1\nr,a,40,1\nw,70\nr,a,20,1\nw,80\nw,170\n",
+        want: "rstream,70,1\nrstream,70,1\nrstream,170,3\nend,6,3,0,0,3\n",
+        ..BASE
+    },
+];
 
 #[test]
 fn streams(rt: HostRuntime) -> Result<(), Fail> {
-    let cases = [
-        Case {
-            form: "ISTREAM",
-            rows: "r,a,1,1\nr,b,2,1\nw,60\nw,61\n",
-            want: "istream,60,1\nistream,60,1\nend,4,2,0,0,2\n",
-            ..COUNT
-        },
-        Case {
-            form: "DSTREAM",
-            rows: "r,a,1,1\nr,b,2,1\nw,60\nw,61\n",
-            want: "dstream,61,1\ndstream,61,1\nend,4,2,0,0,2\n",
-            ..COUNT
-        },
-        Case {
-            clock: "START 0; SKEW 100; LATENESS 100; RECORDS 1000",
-            columns: "COUNT(*)",
-            window: "SESSION 30 ACCUMULATING",
-            form: "RSTREAM",
-            rows: "r,a,0,1\nr,a,40,1\nw,70\nr,a,20,1\nw,80\nw,170\n",
-            want: "rstream,70,1\nrstream,70,1\nrstream,170,3\nend,6,3,0,0,3\n",
-            ..BASE
-        },
-    ];
-    all_write(&rt, &cases)
+    all_write(&rt, &STREAMS)
 }
+
+const LATE_SESSIONS: Case = Case {
+    clock: "START 0; SKEW 100; LATENESS 100; RECORDS 1000",
+    columns: "COUNT(*)",
+    window: "SESSION 30 ACCUMULATING",
+    ..BASE
+};
+
+const JOINED_STREAMS: [Case; 5] = [
+    Case {
+        form: "RSTREAM",
+        rows: "r,a,0,1\nr,a,40,1\nr,a,20,1\nw,50\nw,70\nw,170\n",
+        want: "rstream,70,3\nrstream,170,3\nend,6,3,0,0,1\n",
+        ..LATE_SESSIONS
+    },
+    Case {
+        form: "RSTREAM",
+        rows: "r,a,0,1\nw,30\nr,a,40,1\nr,a,20,1\nw,50\nw,70\n",
+        want: "rstream,30,1\nrstream,50,1\nrstream,70,3\nend,6,3,0,0,2\n",
+        ..LATE_SESSIONS
+    },
+    Case {
+        columns: "COUNT(*) HAVING COUNT(*) <> 3",
+        form: "DSTREAM",
+        rows: "r,a,0,1\nw,30\nr,a,40,1\nr,a,20,1\nw,50\nw,70\n",
+        want: "dstream,70,1\nend,6,3,0,0,2\n",
+        ..LATE_SESSIONS
+    },
+    Case {
+        columns: "COUNT(*) HAVING COUNT(*) > 1",
+        form: "DSTREAM",
+        rows: "r,a,0,1\nr,a,40,1\nr,a,41,1\nw,71\nr,a,20,1\nw,72\nw,171\n",
+        want: "dstream,72,2\nend,7,4,0,0,3\n",
+        ..LATE_SESSIONS
+    },
+    Case {
+        form: "DSTREAM",
+        rows: "r,a,0,1\nr,a,40,1\nw,70\nr,a,20,1\nw,80\nw,170\nw,171\n",
+        want: "dstream,80,1\ndstream,80,1\ndstream,171,3\nend,7,3,0,0,3\n",
+        ..LATE_SESSIONS
+    },
+];
 
 // Sessions that are joined where none, one or both of them fired.
 #[test]
 fn streams_of_joined_sessions(rt: HostRuntime) -> Result<(), Fail> {
-    let sessions = Case {
-        clock: "START 0; SKEW 100; LATENESS 100; RECORDS 1000",
-        columns: "COUNT(*)",
-        window: "SESSION 30 ACCUMULATING",
-        ..BASE
-    };
-    let cases = [
-        Case {
-            form: "RSTREAM",
-            rows: "r,a,0,1\nr,a,40,1\nr,a,20,1\nw,50\nw,70\nw,170\n",
-            want: "rstream,70,3\nrstream,170,3\nend,6,3,0,0,1\n",
-            ..sessions
-        },
-        Case {
-            form: "RSTREAM",
-            rows: "r,a,0,1\nw,30\nr,a,40,1\nr,a,20,1\nw,50\nw,70\n",
-            want: "rstream,30,1\nrstream,50,1\nrstream,70,3\nend,6,3,0,0,2\n",
-            ..sessions
-        },
-        Case {
-            columns: "COUNT(*) HAVING COUNT(*) <> 3",
-            form: "DSTREAM",
-            rows: "r,a,0,1\nw,30\nr,a,40,1\nr,a,20,1\nw,50\nw,70\n",
-            want: "dstream,70,1\nend,6,3,0,0,2\n",
-            ..sessions
-        },
-        Case {
-            columns: "COUNT(*) HAVING COUNT(*) > 1",
-            form: "DSTREAM",
-            rows: "r,a,0,1\nr,a,40,1\nr,a,41,1\nw,71\nr,a,20,1\nw,72\nw,171\n",
-            want: "dstream,72,2\nend,7,4,0,0,3\n",
-            ..sessions
-        },
-        Case {
-            form: "DSTREAM",
-            rows: "r,a,0,1\nr,a,40,1\nw,70\nr,a,20,1\nw,80\nw,170\nw,171\n",
-            want: "dstream,80,1\ndstream,80,1\ndstream,171,3\nend,7,3,0,0,3\n",
-            ..sessions
-        },
-    ];
-    all_write(&rt, &cases)
+    all_write(&rt, &JOINED_STREAMS)
 }
 
 // The line of the judgement of a query's program.
@@ -374,48 +365,49 @@ fn judgement(alloc: Global, text: &str) -> Result<Vec<u8>, Fail> {
     Ok(out.into_writer())
 }
 
+const JUDGED: [Case; 7] = [
+    Case {
+        want: "accepted,5,4,6\n",
+        ..BASE
+    },
+    Case {
+        columns: "SUM(n) / COUNT(*)",
+        want: "accepted,5,5,6\n",
+        ..BASE
+    },
+    Case {
+        window: "SLIDING 60 EVERY 25 ACCUMULATING",
+        want: "accepted,11,4,14\n",
+        ..BASE
+    },
+    Case {
+        clock: PROMPT,
+        window: "SESSION 30 ACCUMULATING",
+        want: "accepted,6,4,10\n",
+        ..BASE
+    },
+    Case {
+        columns: "100 / SUM(n)",
+        want: "rejected,fire,2,MayDivideByZero\n",
+        ..BASE
+    },
+    Case {
+        columns: "COUNT(*) WHERE n <> 0 AND 10 / n > 1",
+        want: "rejected,where,6,MayDivideByZero\n",
+        ..BASE
+    },
+    Case {
+        field: "n INT 0..1000000000000",
+        clock: "START 0; SKEW 100; LATENESS 10; RECORDS 1000000000000",
+        want: "rejected,update,1,AccumulatorRange\n",
+        ..BASE
+    },
+];
+
 // Here `want` is the line of the judgement.
 #[test]
 fn queries_are_judged(rt: HostRuntime) -> Result<(), Fail> {
-    let cases = [
-        Case {
-            want: "accepted,5,4,6\n",
-            ..BASE
-        },
-        Case {
-            columns: "SUM(n) / COUNT(*)",
-            want: "accepted,5,5,6\n",
-            ..BASE
-        },
-        Case {
-            window: "SLIDING 60 EVERY 25 ACCUMULATING",
-            want: "accepted,11,4,14\n",
-            ..BASE
-        },
-        Case {
-            clock: PROMPT,
-            window: "SESSION 30 ACCUMULATING",
-            want: "accepted,6,4,10\n",
-            ..BASE
-        },
-        Case {
-            columns: "100 / SUM(n)",
-            want: "rejected,fire,2,MayDivideByZero\n",
-            ..BASE
-        },
-        Case {
-            columns: "COUNT(*) WHERE n <> 0 AND 10 / n > 1",
-            want: "rejected,where,6,MayDivideByZero\n",
-            ..BASE
-        },
-        Case {
-            field: "n INT 0..1000000000000",
-            clock: "START 0; SKEW 100; LATENESS 10; RECORDS 1000000000000",
-            want: "rejected,update,1,AccumulatorRange\n",
-            ..BASE
-        },
-    ];
-    for case in &cases {
+    for case in &JUDGED {
         let text = text_of(rt.alloc(), case)?;
         let line = judgement(rt.alloc(), text.as_str())?;
         assert_eq!(rt; line.as_slice(), case.want.as_bytes(), "{text}");
@@ -432,64 +424,36 @@ fn does_not_run<R: Abort + AllocGlobal>(rt: &R, text: &str, want: &str) -> Resul
     Ok(())
 }
 
+const DO_NOT_RUN: [Case; 4] = [
+    Case {
+        columns: "100 / SUM(n)",
+        want: "V12 MayDivideByZero in fire at 2",
+        ..BASE
+    },
+    Case {
+        clock: "START 0; SKEW 100; LATENESS 10; RECORDS 1000; BUDGET RECORD 5 PANE 4 HELD 5",
+        want: "V16 BudgetHeld in budget at 0",
+        ..BASE
+    },
+    Case {
+        columns: "COUNT(*), SUM(n > 1)",
+        want: "C2 Type in column 2",
+        ..BASE
+    },
+    Case {
+        window: "FIXED 60 DISCARDING",
+        form: "ISTREAM",
+        want: "C8 StreamNeedsAccumulating in emit",
+        ..BASE
+    },
+];
+
 // Here `want` is the text of the end.
 #[test]
 fn some_queries_do_not_run(rt: HostRuntime) -> Result<(), Fail> {
-    let cases = [
-        Case {
-            columns: "100 / SUM(n)",
-            want: "V12 MayDivideByZero in fire at 2",
-            ..BASE
-        },
-        Case {
-            clock: "START 0; SKEW 100; LATENESS 10; RECORDS 1000; BUDGET RECORD 5 PANE 4 HELD 5",
-            want: "V16 BudgetHeld in budget at 0",
-            ..BASE
-        },
-        Case {
-            columns: "COUNT(*), SUM(n > 1)",
-            want: "C2 Type in column 2",
-            ..BASE
-        },
-        Case {
-            window: "FIXED 60 DISCARDING",
-            form: "ISTREAM",
-            want: "C8 StreamNeedsAccumulating in emit",
-            ..BASE
-        },
-    ];
-    for case in &cases {
+    for case in &DO_NOT_RUN {
         let text = text_of(rt.alloc(), case)?;
         does_not_run(&rt, text.as_str(), case.want)?;
     }
-    Ok(())
-}
-
-#[test]
-fn texts_that_are_no_queries(rt: HostRuntime) -> Result<(), Fail> {
-    let cases = [
-        ("", "P2 Unexpected at 1:1"),
-        ("KEYS a b;", "P2 Unexpected at 1:8"),
-        ("KEYS a;\n\n  @", "P1 BadCharacter at 3:3"),
-    ];
-    for (text, want) in cases {
-        does_not_run(&rt, text, want)?;
-    }
-    Ok(())
-}
-
-#[test]
-fn bytes_that_are_no_program(rt: HostRuntime) -> Result<(), Fail> {
-    let text = text_of(rt.alloc(), &BASE)?;
-    let program = compile_text(rt.alloc(), text.as_bytes())?;
-    assert_eq!(rt; program.len(), 139);
-    let Some((_, cut)) = program.split_last() else {
-        return Err(Fail::from("no bytes"));
-    };
-    let mut out = Guarded::new(Vec::new(rt.alloc()));
-    let end = run_program(rt.alloc(), cut, b"".as_slice(), &mut out);
-    let why = format!(in rt.alloc(); "{}", end.err().ok_or("it ran")?)?;
-    assert_eq!(rt; why.as_str(), "B3 Truncated");
-    assert!(rt; out.into_writer().is_empty());
     Ok(())
 }

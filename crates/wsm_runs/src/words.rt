@@ -22,76 +22,78 @@ fn refusal(alloc: Global, words: &[&str]) -> Result<(String, i32), Fail> {
     }
 }
 
+const JOBS: [(&[&str], &str); 8] = [
+    (
+        &["wsm", "run", "q"],
+        "Run { program: false, query: \"q\", rows: None }",
+    ),
+    (
+        &["wsm", "run", "q", "r"],
+        "Run { program: false, query: \"q\", rows: Some(\"r\") }",
+    ),
+    (
+        &["wsm", "run", "--program", "p"],
+        "Run { program: true, query: \"p\", rows: None }",
+    ),
+    (
+        &["wsm", "run", "p", "r", "--program"],
+        "Run { program: true, query: \"p\", rows: Some(\"r\") }",
+    ),
+    (
+        &["wsm", "run", "--", "--program"],
+        "Run { program: false, query: \"--program\", rows: None }",
+    ),
+    (
+        &["wsm", "compile", "q", "o"],
+        "Compile { query: \"q\", out: \"o\" }",
+    ),
+    (&["wsm", "verify", "p"], "Verify { program: \"p\" }"),
+    (&["wsm", "explain", "p"], "Explain { program: \"p\" }"),
+];
+
 #[test]
 fn words_ask_for_jobs(rt: HostRuntime) -> Result<(), Fail> {
-    let cases = [
-        (
-            ["wsm", "run", "q"].as_slice(),
-            "Run { program: false, query: \"q\", rows: None }",
-        ),
-        (
-            &["wsm", "run", "q", "r"],
-            "Run { program: false, query: \"q\", rows: Some(\"r\") }",
-        ),
-        (
-            &["wsm", "run", "--program", "p"],
-            "Run { program: true, query: \"p\", rows: None }",
-        ),
-        (
-            &["wsm", "run", "p", "r", "--program"],
-            "Run { program: true, query: \"p\", rows: Some(\"r\") }",
-        ),
-        (
-            &["wsm", "run", "--", "--program"],
-            "Run { program: false, query: \"--program\", rows: None }",
-        ),
-        (
-            &["wsm", "compile", "q", "o"],
-            "Compile { query: \"q\", out: \"o\" }",
-        ),
-        (&["wsm", "verify", "p"], "Verify { program: \"p\" }"),
-        (&["wsm", "explain", "p"], "Explain { program: \"p\" }"),
-    ];
-    for (words, want) in cases {
+    for &(words, want) in &JOBS {
         let job = job(rt.alloc(), words)?;
         assert_eq!(rt; job.as_str(), want);
     }
     Ok(())
 }
 
+const REFUSED: [(&[&str], &str); 10] = [
+    (&["wsm"], "requires a subcommand"),
+    (&["wsm", "walk"], "unrecognized subcommand"),
+    (
+        &["wsm", "run"],
+        "required arguments were not provided:\n  <QUERY>",
+    ),
+    (&["wsm", "run", "a", "b", "c"], "unexpected argument 'c'"),
+    (
+        &["wsm", "run", "--rows", "a"],
+        "unexpected argument '--rows'",
+    ),
+    (
+        &["wsm", "compile", "a"],
+        "required arguments were not provided:\n  <OUT>",
+    ),
+    (
+        &["wsm", "compile", "a", "b", "c"],
+        "unexpected argument 'c'",
+    ),
+    (
+        &["wsm", "verify"],
+        "required arguments were not provided:\n  <PROGRAM>",
+    ),
+    (
+        &["wsm", "verify", "--program", "a"],
+        "unexpected argument '--program'",
+    ),
+    (&["wsm", "explain", "a", "b"], "unexpected argument 'b'"),
+];
+
 #[test]
 fn other_words_are_refused(rt: HostRuntime) -> Result<(), Fail> {
-    let cases = [
-        (["wsm"].as_slice(), "requires a subcommand"),
-        (&["wsm", "walk"], "unrecognized subcommand"),
-        (
-            &["wsm", "run"],
-            "required arguments were not provided:\n  <QUERY>",
-        ),
-        (&["wsm", "run", "a", "b", "c"], "unexpected argument 'c'"),
-        (
-            &["wsm", "run", "--rows", "a"],
-            "unexpected argument '--rows'",
-        ),
-        (
-            &["wsm", "compile", "a"],
-            "required arguments were not provided:\n  <OUT>",
-        ),
-        (
-            &["wsm", "compile", "a", "b", "c"],
-            "unexpected argument 'c'",
-        ),
-        (
-            &["wsm", "verify"],
-            "required arguments were not provided:\n  <PROGRAM>",
-        ),
-        (
-            &["wsm", "verify", "--program", "a"],
-            "unexpected argument '--program'",
-        ),
-        (&["wsm", "explain", "a", "b"], "unexpected argument 'b'"),
-    ];
-    for (words, want) in cases {
+    for &(words, want) in &REFUSED {
         let (text, status) = refusal(rt.alloc(), words)?;
         assert!(rt; text.as_str().contains(want), "{text}");
         assert_eq!(rt; status, 2);
@@ -99,34 +101,35 @@ fn other_words_are_refused(rt: HostRuntime) -> Result<(), Fail> {
     Ok(())
 }
 
+const HELP: [(&[&str], &str); 11] = [
+    (&["wsm_cli", "--help"], "Usage: wsm <COMMAND>"),
+    (&["wsm", "-h"], "| wsm run sums.wsm\n"),
+    (
+        &["wsm", "run", "--help"],
+        "Usage: wsm run [OPTIONS] <QUERY> [ROWS]",
+    ),
+    (&["wsm", "run", "-h"], "  wsm run sums.wsm rows.csv\n"),
+    (
+        &["wsm", "compile", "--help"],
+        "Usage: wsm compile <QUERY> <OUT>",
+    ),
+    (
+        &["wsm", "compile", "-h"],
+        "  wsm compile sums.wsm sums.bin\n",
+    ),
+    (&["wsm", "verify", "--help"], "Usage: wsm verify <PROGRAM>"),
+    (&["wsm", "verify", "-h"], "  wsm verify sums.bin\n"),
+    (
+        &["wsm", "explain", "--help"],
+        "Usage: wsm explain <PROGRAM>",
+    ),
+    (&["wsm", "explain", "-h"], "  wsm explain sums.bin\n"),
+    (&["wsm", "help", "explain"], "  fire 1 ACC 0\n"),
+];
+
 #[test]
 fn help_is_no_fault(rt: HostRuntime) -> Result<(), Fail> {
-    let cases = [
-        (["wsm_cli", "--help"].as_slice(), "Usage: wsm <COMMAND>"),
-        (&["wsm", "-h"], "| wsm run sums.wsm\n"),
-        (
-            &["wsm", "run", "--help"],
-            "Usage: wsm run [OPTIONS] <QUERY> [ROWS]",
-        ),
-        (&["wsm", "run", "-h"], "  wsm run sums.wsm rows.csv\n"),
-        (
-            &["wsm", "compile", "--help"],
-            "Usage: wsm compile <QUERY> <OUT>",
-        ),
-        (
-            &["wsm", "compile", "-h"],
-            "  wsm compile sums.wsm sums.bin\n",
-        ),
-        (&["wsm", "verify", "--help"], "Usage: wsm verify <PROGRAM>"),
-        (&["wsm", "verify", "-h"], "  wsm verify sums.bin\n"),
-        (
-            &["wsm", "explain", "--help"],
-            "Usage: wsm explain <PROGRAM>",
-        ),
-        (&["wsm", "explain", "-h"], "  wsm explain sums.bin\n"),
-        (&["wsm", "help", "explain"], "  fire 1 ACC 0\n"),
-    ];
-    for (words, want) in cases {
+    for &(words, want) in &HELP {
         let (text, status) = refusal(rt.alloc(), words)?;
         assert!(rt; text.as_str().contains(want), "{text}");
         assert_eq!(rt; status, 0);

@@ -63,46 +63,43 @@ fn expect<R: Abort + AllocGlobal>(rt: &R, clauses: &Clauses, want: &str) -> Resu
     Ok(())
 }
 
-fn expect_all<R: Abort + AllocGlobal>(rt: &R, cases: &[(Clauses, &str)]) -> Result<(), Fail> {
-    for (clauses, want) in cases {
-        expect(rt, clauses, want)?;
-    }
-    Ok(())
-}
-
 const FITS: &str = "compiled";
 
 const CLOCK: &str = "C7 Limit in clock";
 
+const STARTS: [(&str, &str); 2] = [("10000000000000000", FITS), ("10000000000000001", CLOCK)];
+
 #[test]
 fn starts(rt: HostRuntime) -> Result<(), Fail> {
-    for (start, want) in [("10000000000000000", FITS), ("10000000000000001", CLOCK)] {
+    for &(start, want) in &STARTS {
         expect(&rt, &Clauses { start, ..BASE }, want)?;
     }
     Ok(())
 }
 
+const SKEWS: [(&str, &str); 3] = [
+    ("0", FITS),
+    ("1000000000000", FITS),
+    ("1000000000001", CLOCK),
+];
+
 #[test]
 fn skews(rt: HostRuntime) -> Result<(), Fail> {
-    let cases = [
-        ("0", FITS),
-        ("1000000000000", FITS),
-        ("1000000000001", CLOCK),
-    ];
-    for (skew, want) in cases {
+    for &(skew, want) in &SKEWS {
         expect(&rt, &Clauses { skew, ..LONGEST }, want)?;
     }
     Ok(())
 }
 
+const LATENESSES: [(&str, &str); 3] = [
+    ("0", FITS),
+    ("1000000000000", FITS),
+    ("1000000000001", CLOCK),
+];
+
 #[test]
 fn latenesses(rt: HostRuntime) -> Result<(), Fail> {
-    let cases = [
-        ("0", FITS),
-        ("1000000000000", FITS),
-        ("1000000000001", CLOCK),
-    ];
-    for (lateness, want) in cases {
+    for &(lateness, want) in &LATENESSES {
         expect(
             &rt,
             &Clauses {
@@ -115,116 +112,125 @@ fn latenesses(rt: HostRuntime) -> Result<(), Fail> {
     Ok(())
 }
 
+const RECORDS: [(&str, &str); 4] = [
+    ("0", CLOCK),
+    ("1", FITS),
+    ("1000000000000", FITS),
+    ("1000000000001", CLOCK),
+];
+
 #[test]
 fn numbers_of_records(rt: HostRuntime) -> Result<(), Fail> {
-    let cases = [
-        ("0", CLOCK),
-        ("1", FITS),
-        ("1000000000000", FITS),
-        ("1000000000001", CLOCK),
-    ];
-    for (records, want) in cases {
+    for &(records, want) in &RECORDS {
         expect(&rt, &Clauses { records, ..BASE }, want)?;
     }
     Ok(())
 }
 
+const WINDOW: &str = "C7 Limit in window";
+
+const WINDOWS: [(&str, &str); 14] = [
+    ("FIXED 0 ACCUMULATING", WINDOW),
+    ("FIXED 1 ACCUMULATING", FITS),
+    ("FIXED 1000000000000 ACCUMULATING", FITS),
+    ("FIXED 1000000000001 ACCUMULATING", WINDOW),
+    ("SLIDING 60 EVERY 0 ACCUMULATING", WINDOW),
+    ("SLIDING 60 EVERY 1 ACCUMULATING", FITS),
+    ("SLIDING 60 EVERY 60 ACCUMULATING", FITS),
+    ("SLIDING 60 EVERY 61 ACCUMULATING", WINDOW),
+    ("SESSION 0 ACCUMULATING", WINDOW),
+    ("SESSION 1 ACCUMULATING", FITS),
+    ("SESSION 1000000000000 ACCUMULATING", FITS),
+    ("SESSION 1000000000001 ACCUMULATING", WINDOW),
+    // Two keys of 50,000 windows that are live at once, and of 50,001.
+    ("SLIDING 49890 EVERY 1 ACCUMULATING", FITS),
+    ("SLIDING 49891 EVERY 1 ACCUMULATING", "C7 Limit in code"),
+];
+
 #[test]
 fn windows(rt: HostRuntime) -> Result<(), Fail> {
-    let refused = "C7 Limit in window";
-    let cases = [
-        ("FIXED 0 ACCUMULATING", refused),
-        ("FIXED 1 ACCUMULATING", FITS),
-        ("FIXED 1000000000000 ACCUMULATING", FITS),
-        ("FIXED 1000000000001 ACCUMULATING", refused),
-        ("SLIDING 60 EVERY 0 ACCUMULATING", refused),
-        ("SLIDING 60 EVERY 1 ACCUMULATING", FITS),
-        ("SLIDING 60 EVERY 60 ACCUMULATING", FITS),
-        ("SLIDING 60 EVERY 61 ACCUMULATING", refused),
-        ("SESSION 0 ACCUMULATING", refused),
-        ("SESSION 1 ACCUMULATING", FITS),
-        ("SESSION 1000000000000 ACCUMULATING", FITS),
-        ("SESSION 1000000000001 ACCUMULATING", refused),
-        // Two keys of 50,000 windows that are live at once, and of 50,001.
-        ("SLIDING 49890 EVERY 1 ACCUMULATING", FITS),
-        ("SLIDING 49891 EVERY 1 ACCUMULATING", "C7 Limit in code"),
-    ];
-    for (window, want) in cases {
+    for &(window, want) in &WINDOWS {
         expect(&rt, &Clauses { window, ..BASE }, want)?;
     }
     Ok(())
 }
+
+const TRIGGER: &str = "C7 Limit in trigger";
+
+const TRIGGERS: [(&str, &str); 8] = [
+    ("FIXED 60 ACCUMULATING EARLY EVERY 0", TRIGGER),
+    ("FIXED 60 ACCUMULATING EARLY EVERY 1", FITS),
+    ("FIXED 60 ACCUMULATING EARLY EVERY 1000000000000", FITS),
+    ("FIXED 60 ACCUMULATING EARLY EVERY 1000000000001", TRIGGER),
+    ("FIXED 60 ACCUMULATING LATE EVERY 0", TRIGGER),
+    ("FIXED 60 ACCUMULATING LATE EVERY 1", FITS),
+    ("FIXED 60 ACCUMULATING LATE EVERY 1000000000000", FITS),
+    ("FIXED 60 ACCUMULATING LATE EVERY 1000000000001", TRIGGER),
+];
 
 #[test]
 fn triggers(rt: HostRuntime) -> Result<(), Fail> {
-    let refused = "C7 Limit in trigger";
-    let cases = [
-        ("FIXED 60 ACCUMULATING EARLY EVERY 0", refused),
-        ("FIXED 60 ACCUMULATING EARLY EVERY 1", FITS),
-        ("FIXED 60 ACCUMULATING EARLY EVERY 1000000000000", FITS),
-        ("FIXED 60 ACCUMULATING EARLY EVERY 1000000000001", refused),
-        ("FIXED 60 ACCUMULATING LATE EVERY 0", refused),
-        ("FIXED 60 ACCUMULATING LATE EVERY 1", FITS),
-        ("FIXED 60 ACCUMULATING LATE EVERY 1000000000000", FITS),
-        ("FIXED 60 ACCUMULATING LATE EVERY 1000000000001", refused),
-    ];
-    for (window, want) in cases {
+    for &(window, want) in &TRIGGERS {
         expect(&rt, &Clauses { window, ..BASE }, want)?;
     }
     Ok(())
 }
 
+const BUDGET: &str = "C7 Limit in budget";
+
+const BUDGETS: [(&str, &str); 10] = [
+    ("BUDGET RECORD 0 PANE 1 HELD 1;", BUDGET),
+    ("BUDGET RECORD 1 PANE 0 HELD 1;", BUDGET),
+    ("BUDGET RECORD 1 PANE 1 HELD 0;", BUDGET),
+    ("BUDGET RECORD 1 PANE 1 HELD 1;", FITS),
+    ("BUDGET RECORD 1000000000000000000 PANE 1 HELD 1;", FITS),
+    ("BUDGET RECORD 1000000000000000001 PANE 1 HELD 1;", BUDGET),
+    ("BUDGET RECORD 1 PANE 1000000000000000000 HELD 1;", FITS),
+    ("BUDGET RECORD 1 PANE 1000000000000000001 HELD 1;", BUDGET),
+    ("BUDGET RECORD 1 PANE 1 HELD 100000;", FITS),
+    ("BUDGET RECORD 1 PANE 1 HELD 100001;", BUDGET),
+];
+
 #[test]
 fn budgets(rt: HostRuntime) -> Result<(), Fail> {
-    let refused = "C7 Limit in budget";
-    let cases = [
-        ("BUDGET RECORD 0 PANE 1 HELD 1;", refused),
-        ("BUDGET RECORD 1 PANE 0 HELD 1;", refused),
-        ("BUDGET RECORD 1 PANE 1 HELD 0;", refused),
-        ("BUDGET RECORD 1 PANE 1 HELD 1;", FITS),
-        ("BUDGET RECORD 1000000000000000000 PANE 1 HELD 1;", FITS),
-        ("BUDGET RECORD 1000000000000000001 PANE 1 HELD 1;", refused),
-        ("BUDGET RECORD 1 PANE 1000000000000000000 HELD 1;", FITS),
-        ("BUDGET RECORD 1 PANE 1000000000000000001 HELD 1;", refused),
-        ("BUDGET RECORD 1 PANE 1 HELD 100000;", FITS),
-        ("BUDGET RECORD 1 PANE 1 HELD 100001;", refused),
-    ];
-    for (budget, want) in cases {
+    for &(budget, want) in &BUDGETS {
         expect(&rt, &Clauses { budget, ..BASE }, want)?;
     }
     Ok(())
 }
 
+const NUMBERS: [(&str, &str); 6] = [
+    ("FIELD n INT 5..5;", FITS),
+    ("FIELD n INT 5..4;", "C7 Limit in field 1"),
+    (
+        "FIELD n INT -9223372036854775807..9223372036854775807;",
+        FITS,
+    ),
+    (
+        "FIELD n INT 0..9223372036854775808;",
+        "P3 NumberTooLarge at 1:27",
+    ),
+    (
+        "FIELD n INT -9223372036854775808..0;",
+        "P3 NumberTooLarge at 1:25",
+    ),
+    ("FIELD n INT 0..00000000000000000000000000007;", FITS),
+];
+
+const NAMES: [(&str, &str); 2] = [
+    ("abcdefghijklmnopqrstuvwxyz_01234", FITS),
+    (
+        "abcdefghijklmnopqrstuvwxyz_012345",
+        "P1 BadCharacter at 1:38",
+    ),
+];
+
 #[test]
 fn numbers_and_names(rt: HostRuntime) -> Result<(), Fail> {
-    let cases = [
-        ("FIELD n INT 5..5;", FITS),
-        ("FIELD n INT 5..4;", "C7 Limit in field 1"),
-        (
-            "FIELD n INT -9223372036854775807..9223372036854775807;",
-            FITS,
-        ),
-        (
-            "FIELD n INT 0..9223372036854775808;",
-            "P3 NumberTooLarge at 1:27",
-        ),
-        (
-            "FIELD n INT -9223372036854775808..0;",
-            "P3 NumberTooLarge at 1:25",
-        ),
-        ("FIELD n INT 0..00000000000000000000000000007;", FITS),
-    ];
-    for (fields, want) in cases {
+    for &(fields, want) in &NUMBERS {
         expect(&rt, &Clauses { fields, ..BASE }, want)?;
     }
-    let cases = [
-        ("abcdefghijklmnopqrstuvwxyz_01234", FITS),
-        (
-            "abcdefghijklmnopqrstuvwxyz_012345",
-            "P1 BadCharacter at 1:38",
-        ),
-    ];
-    for (keys, want) in cases {
+    for &(keys, want) in &NAMES {
         expect(&rt, &Clauses { keys, ..BASE }, want)?;
     }
     Ok(())
@@ -289,72 +295,101 @@ fn counts_of_names(rt: HostRuntime) -> Result<(), Fail> {
     Ok(())
 }
 
+fn counts(alloc: Global, more: usize) -> Result<String, Fail> {
+    let more = times(alloc, ", COUNT(*)", more)?;
+    Ok(format!(in alloc; "COUNT(*){more}")?)
+}
+
 #[test]
-fn counts_of_columns_and_accumulators(rt: HostRuntime) -> Result<(), Fail> {
+fn numbers_of_columns(rt: HostRuntime) -> Result<(), Fail> {
     for (more, want) in [(15, FITS), (16, "C7 Limit in column 17")] {
-        let more = times(rt.alloc(), ", COUNT(*)", more)?;
-        let columns = format!(in rt.alloc(); "COUNT(*){more}")?;
-        let columns = columns.as_str();
-        expect(&rt, &Clauses { columns, ..BASE }, want)?;
-    }
-    for (more, want) in [(15, FITS), (16, "C7 Limit in code")] {
-        let more = times(rt.alloc(), " + SUM(n)", more)?;
-        let columns = format!(in rt.alloc(); "MAX(n){more}")?;
+        let columns = counts(rt.alloc(), more)?;
         let columns = columns.as_str();
         expect(&rt, &Clauses { columns, ..BASE }, want)?;
     }
     Ok(())
 }
 
-// A column of a text between so many of two others.
-fn expect_nested<R: Abort + AllocGlobal>(
-    rt: &R,
-    open: &str,
-    inside: &str,
-    close: &str,
-    count: usize,
-    want: &str,
-) -> Result<(), Fail> {
-    let open = times(rt.alloc(), open, count)?;
-    let close = times(rt.alloc(), close, count)?;
-    let columns = format!(in rt.alloc(); "{open}{inside}{close}")?;
-    let columns = columns.as_str();
-    expect(rt, &Clauses { columns, ..BASE }, want)
+fn sums(alloc: Global, more: usize) -> Result<String, Fail> {
+    let more = times(alloc, " + SUM(n)", more)?;
+    Ok(format!(in alloc; "MAX(n){more}")?)
 }
 
 #[test]
-fn levels(rt: HostRuntime) -> Result<(), Fail> {
-    expect_nested(&rt, "(", "7", ")", 24, FITS)?;
-    expect_nested(&rt, "(", "7", ")", 25, "P4 TooDeep at 2:32")?;
-    expect_nested(&rt, "NOT ", "TRUE", "", 24, FITS)?;
-    expect_nested(&rt, "NOT ", "TRUE", "", 25, "P4 TooDeep at 2:104")?;
-    expect_nested(&rt, "- ", "7", "", 24, FITS)?;
-    expect_nested(&rt, "- ", "7", "", 25, "P4 TooDeep at 2:56")?;
-    expect_nested(&rt, "IF TRUE THEN ", "7", " ELSE 0 END", 24, FITS)?;
-    expect_nested(
-        &rt,
+fn numbers_of_accumulators(rt: HostRuntime) -> Result<(), Fail> {
+    for (more, want) in [(15, FITS), (16, "C7 Limit in code")] {
+        let columns = sums(rt.alloc(), more)?;
+        let columns = columns.as_str();
+        expect(&rt, &Clauses { columns, ..BASE }, want)?;
+    }
+    Ok(())
+}
+
+// What opens a column so often, what is inside, what closes it as often, and how often; and the answer.
+type Nested = (
+    &'static str,
+    &'static str,
+    &'static str,
+    usize,
+    &'static str,
+);
+
+fn nested(alloc: Global, case: &Nested) -> Result<String, Fail> {
+    let (open, inside, close, count, _) = *case;
+    let open = times(alloc, open, count)?;
+    let close = times(alloc, close, count)?;
+    Ok(format!(in alloc; "{open}{inside}{close}")?)
+}
+
+fn all_nested<R: Abort + AllocGlobal>(rt: &R, cases: &[Nested]) -> Result<(), Fail> {
+    for case in cases {
+        let columns = nested(rt.alloc(), case)?;
+        let columns = columns.as_str();
+        expect(rt, &Clauses { columns, ..BASE }, case.4)?;
+    }
+    Ok(())
+}
+
+const LEVELS: [Nested; 12] = [
+    ("(", "7", ")", 24, FITS),
+    ("(", "7", ")", 25, "P4 TooDeep at 2:32"),
+    ("NOT ", "TRUE", "", 24, FITS),
+    ("NOT ", "TRUE", "", 25, "P4 TooDeep at 2:104"),
+    ("- ", "7", "", 24, FITS),
+    ("- ", "7", "", 25, "P4 TooDeep at 2:56"),
+    ("IF TRUE THEN ", "7", " ELSE 0 END", 24, FITS),
+    (
         "IF TRUE THEN ",
         "7",
         " ELSE 0 END",
         25,
         "P4 TooDeep at 2:320",
-    )?;
-    expect_nested(&rt, "(", "COUNT(*)", ")", 23, FITS)?;
-    expect_nested(&rt, "(", "COUNT(*)", ")", 24, "P4 TooDeep at 2:32")?;
-    expect_nested(&rt, "SUM(", "n", ")", 24, "C5 AggregateNested in column 1")?;
-    expect_nested(&rt, "SUM(", "n", ")", 25, "P4 TooDeep at 2:104")
+    ),
+    ("(", "COUNT(*)", ")", 23, FITS),
+    ("(", "COUNT(*)", ")", 24, "P4 TooDeep at 2:32"),
+    ("SUM(", "n", ")", 24, "C5 AggregateNested in column 1"),
+    ("SUM(", "n", ")", 25, "P4 TooDeep at 2:104"),
+];
+
+#[test]
+fn levels(rt: HostRuntime) -> Result<(), Fail> {
+    all_nested(&rt, &LEVELS)
 }
+
+const CHAINS: [Nested; 8] = [
+    ("", "7", " + 7", 64, FITS),
+    ("", "7", " + 7", 65, "P4 TooDeep at 2:266"),
+    ("", "7", " * 1", 64, FITS),
+    ("", "7", " * 1", 65, "P4 TooDeep at 2:266"),
+    ("", "TRUE", " OR TRUE", 64, FITS),
+    ("", "TRUE", " OR TRUE", 65, "P4 TooDeep at 2:525"),
+    ("", "TRUE", " AND TRUE", 64, FITS),
+    ("", "TRUE", " AND TRUE", 65, "P4 TooDeep at 2:589"),
+];
 
 #[test]
 fn chains(rt: HostRuntime) -> Result<(), Fail> {
-    expect_nested(&rt, "", "7", " + 7", 64, FITS)?;
-    expect_nested(&rt, "", "7", " + 7", 65, "P4 TooDeep at 2:266")?;
-    expect_nested(&rt, "", "7", " * 1", 64, FITS)?;
-    expect_nested(&rt, "", "7", " * 1", 65, "P4 TooDeep at 2:266")?;
-    expect_nested(&rt, "", "TRUE", " OR TRUE", 64, FITS)?;
-    expect_nested(&rt, "", "TRUE", " OR TRUE", 65, "P4 TooDeep at 2:525")?;
-    expect_nested(&rt, "", "TRUE", " AND TRUE", 64, FITS)?;
-    expect_nested(&rt, "", "TRUE", " AND TRUE", 65, "P4 TooDeep at 2:589")
+    all_nested(&rt, &CHAINS)
 }
 
 // The update folds seven sums of 129 instructions, and one of 88 or 89: with its folds and its return
