@@ -155,5 +155,19 @@ operations_spelled = refl
 abbrev line : ℕ → List ℕ → List Word
 line place name = Letters (codes "fire") ∷ Number (pos place) ∷ Letters name ∷ []
 
-operations_listed : section_lines (codes "fire") 0 operations ≡ line 0 (codes "ADD") ∷ line 1 (codes "SUB") ∷ line 2 (codes "MUL") ∷ line 3 (codes "DIV") ∷ line 4 (codes "REM") ∷ line 5 (codes "NEG") ∷ line 6 (codes "EQ") ∷ line 7 (codes "NE") ∷ line 8 (codes "LT") ∷ line 9 (codes "LE") ∷ line 10 (codes "GT") ∷ line 11 (codes "GE") ∷ line 12 (codes "NOT") ∷ []
+operations_listed : section_lines (codes "fire") 0 operations
+    ≡ line 0 (codes "ADD")
+    ∷ line 1 (codes "SUB")
+    ∷ line 2 (codes "MUL")
+    ∷ line 3 (codes "DIV")
+    ∷ line 4 (codes "REM")
+    ∷ line 5 (codes "NEG")
+    ∷ line 6 (codes "EQ")
+    ∷ line 7 (codes "NE")
+    ∷ line 8 (codes "LT")
+    ∷ line 9 (codes "LE")
+    ∷ line 10 (codes "GT")
+    ∷ line 11 (codes "GE")
+    ∷ line 12 (codes "NOT")
+    ∷ []
 operations_listed = refl

@@ -176,29 +176,115 @@ brackets_stay = refl
 
 -- texts beside their neighbours
 
-abbrev answers : List (List ℕ) → List Answer
-answers texts = map (λ columns. answer (selecting columns)) texts
+-- a text, and what it comes to
+pub data Told : Type 0 where
+  Says : (text : List ℕ) → (answer : Answer) → Told
 
-operators_beside_their_neighbours : answers (codes "7 - 2 - 1" ∷ codes "7 - 2 -" ∷ codes "n <> 0 AND 10 / n > 1" ∷ codes "n <> 0 AND AND 1" ∷ codes "1 <= 2" ∷ codes "1 < = 2" ∷ codes "1 >= 2" ∷ codes "1 > = 2" ∷ codes "1 <> 2" ∷ codes "1 < > 2" ∷ codes "(1 < 2) = TRUE" ∷ codes "1 < 2 < 3" ∷ []) ≡ Taken ∷ Unread Unexpected 5 1 ∷ Taken ∷ Unread Unexpected 4 19 ∷ Taken ∷ Unread Unexpected 4 12 ∷ Taken ∷ Unread Unexpected 4 12 ∷ Taken ∷ Unread Unexpected 4 12 ∷ Taken ∷ Unread Unexpected 4 14 ∷ []
-unfolding parse query_text tokens tokens_from first_of sign_of place_of is_reserved unexpected too_deep begins begins_number is_end behind count ask number name ended brace list_of aggregate count_of choice brackets pointed leaf atom unary chain chained prod sum cmp neg conj expr_in levels expr int names type_of field budget shape mode form every query
-operators_beside_their_neighbours = refl
+-- columns of the base query, answered anew
+abbrev columns_told : Told → Told
+columns_told (Says columns _) = Says columns (answer (selecting columns))
 
-names_beside_their_neighbours : answers (codes "KEY = KEY.a" ∷ codes "KEY = KEY.1" ∷ codes "color.red" ∷ codes "color.RECORD" ∷ codes "color..red" ∷ codes "records" ∷ codes "RECORDS" ∷ codes "FROM" ∷ []) ≡ Taken ∷ Unread Unexpected 4 18 ∷ Taken ∷ Unread Unexpected 4 14 ∷ Unread Unexpected 4 13 ∷ Taken ∷ Unread Unexpected 4 8 ∷ Unread Unexpected 4 8 ∷ []
-unfolding parse query_text tokens tokens_from first_of sign_of place_of is_reserved unexpected too_deep begins begins_number is_end behind count ask number name ended brace list_of aggregate count_of choice brackets pointed leaf atom unary chain chained prod sum cmp neg conj expr_in levels expr int names type_of field budget shape mode form every query
-names_beside_their_neighbours = refl
+-- a whole text, answered anew
+abbrev text_told : Told → Told
+text_told (Says text _) = Says text (answer text)
 
-forms_beside_their_neighbours : answers (codes "COUNT(*), SUM(n)" ∷ codes "COUNT(*) SUM(n)" ∷ codes "IF n > 1 THEN 1 ELSE 2 END" ∷ codes "IF n > 1 THEN 1 END" ∷ codes "MIN(n) + MAX(n)" ∷ codes "MIN n" ∷ codes "ANY(TRUE) OR ALL(FALSE)" ∷ codes "ANY()" ∷ codes "COUNT(*) * 2 / 3 % 4" ∷ codes "COUNT(n)" ∷ codes "COUNT(*) ! 1" ∷ []) ≡ Taken ∷ Unread Unexpected 4 17 ∷ Taken ∷ Unread Unexpected 4 24 ∷ Taken ∷ Unread Unexpected 4 12 ∷ Taken ∷ Unread Unexpected 4 12 ∷ Taken ∷ Unread Unexpected 4 14 ∷ Unread BadCharacter 4 17 ∷ []
-unfolding parse query_text tokens tokens_from first_of sign_of place_of is_reserved unexpected too_deep begins begins_number is_end behind count ask number name ended brace list_of aggregate count_of choice brackets pointed leaf atom unary chain chained prod sum cmp neg conj expr_in levels expr int names type_of field budget shape mode form every query
-forms_beside_their_neighbours = refl
+abbrev operators_beside : List Told
+operators_beside =
+    Says (codes "7 - 2 - 1") Taken
+    ∷ Says (codes "7 - 2 -") (Unread Unexpected 5 1)
+    ∷ Says (codes "n <> 0 AND 10 / n > 1") Taken
+    ∷ Says (codes "n <> 0 AND AND 1") (Unread Unexpected 4 19)
+    ∷ Says (codes "1 <= 2") Taken
+    ∷ Says (codes "1 < = 2") (Unread Unexpected 4 12)
+    ∷ Says (codes "1 >= 2") Taken
+    ∷ Says (codes "1 > = 2") (Unread Unexpected 4 12)
+    ∷ Says (codes "1 <> 2") Taken
+    ∷ Says (codes "1 < > 2") (Unread Unexpected 4 12)
+    ∷ Says (codes "(1 < 2) = TRUE") Taken
+    ∷ Says (codes "1 < 2 < 3") (Unread Unexpected 4 14)
+    ∷ []
 
-numbers_beside_their_neighbours : answers (codes "5x" ∷ codes "1.5" ∷ codes "9223372036854775807" ∷ codes "9223372036854775808" ∷ codes "0009223372036854775807" ∷ []) ≡ Unread Unexpected 4 9 ∷ Unread Unexpected 4 9 ∷ Taken ∷ Unread NumberTooLarge 4 8 ∷ Taken ∷ []
+operators_answered : map columns_told operators_beside ≡ operators_beside
 unfolding parse query_text tokens tokens_from first_of sign_of place_of is_reserved unexpected too_deep begins begins_number is_end behind count ask number name ended brace list_of aggregate count_of choice brackets pointed leaf atom unary chain chained prod sum cmp neg conj expr_in levels expr int names type_of field budget shape mode form every query
-numbers_beside_their_neighbours = refl
+operators_answered = refl
 
-conditions_beside_their_neighbours : answers (codes "1 WHERE n > 1 HAVING COUNT(*) > 1" ∷ codes "1 HAVING COUNT(*) > 1 WHERE n > 1" ∷ []) ≡ Taken ∷ Unread Unexpected 4 30 ∷ []
-unfolding parse query_text tokens tokens_from first_of sign_of place_of is_reserved unexpected too_deep begins begins_number is_end behind count ask number name ended brace list_of aggregate count_of choice brackets pointed leaf atom unary chain chained prod sum cmp neg conj expr_in levels expr int names type_of field budget shape mode form every query
-conditions_beside_their_neighbours = refl
+abbrev names_beside : List Told
+names_beside =
+    Says (codes "KEY = KEY.a") Taken
+    ∷ Says (codes "KEY = KEY.1") (Unread Unexpected 4 18)
+    ∷ Says (codes "color.red") Taken
+    ∷ Says (codes "color.RECORD") (Unread Unexpected 4 14)
+    ∷ Says (codes "color..red") (Unread Unexpected 4 13)
+    ∷ Says (codes "records") Taken
+    ∷ Says (codes "RECORDS") (Unread Unexpected 4 8)
+    ∷ Says (codes "FROM") (Unread Unexpected 4 8)
+    ∷ []
 
-whole_texts_beside_their_neighbours : map answer ((codes "KEYS a;  " ++ 9 ∷ 32 ∷ []) ∷ (codes "KEYS " ++ 195 ∷ 169 ∷ codes ";") ∷ (codes "KEYS a_1; " ++ 34 ∷ []) ∷ codes "keys a;" ∷ codes "KEYS _a;" ∷ codes "KEYS a, KEY;" ∷ codes "KEYS a; FIELD n INT -2..-1; FIELD c ENUM(x, y); FIELD b BOOL; START 0; SKEW 0; LATENESS 0; RECORDS 1; BUDGET RECORD 1 PANE 2 HELD 3; SELECT 1 WINDOW SLIDING 6 EVERY 2 DISCARDING EARLY EVERY 1 LATE EVERY 2 EMIT RSTREAM;" ∷ codes "KEYS a; FIELD n INT -2.-1; START 0;" ∷ codes "KEYS a; FIELD c ENUM(); START 0;" ∷ codes "KEYS a; FIELD b BOOL START 0;" ∷ codes "KEYS a; START 0; SKEW 0; LATENESS 0; RECORDS 1; BUDGET RECORD 1 HELD 3;" ∷ codes "KEYS a; START 0; SKEW 0; LATENESS 0; RECORDS 1; SELECT 1 WINDOW SESSION 6 ACCUMULATING EMIT PANES;" ∷ codes "KEYS a; START 0; SKEW 0; LATENESS 0; RECORDS 1; SELECT 1 WINDOW SESSION 6 RETRACTING EMIT PANES;" ∷ codes "KEYS a; START 0; SKEW 0; LATENESS 0; RECORDS 1; SELECT 1 WINDOW FIXED 6 ACCUMULATING LATE EVERY 1 EARLY EVERY 1 EMIT PANES;" ∷ codes "KEYS a; START 0; SKEW 0; LATENESS 0; RECORDS 1; SELECT 1 WINDOW FIXED 6 ACCUMULATING EMIT ISTREAM; ;" ∷ []) ≡ Unread Unexpected 1 12 ∷ Unread BadCharacter 1 6 ∷ Unread BadCharacter 1 11 ∷ Unread Unexpected 1 1 ∷ Unread BadCharacter 1 6 ∷ Unread Unexpected 1 9 ∷ Taken ∷ Unread Unexpected 1 23 ∷ Unread Unexpected 1 22 ∷ Unread Unexpected 1 22 ∷ Unread Unexpected 1 65 ∷ Taken ∷ Unread Unexpected 1 75 ∷ Unread Unexpected 1 99 ∷ Unread Unexpected 1 100 ∷ []
+names_answered : map columns_told names_beside ≡ names_beside
 unfolding parse query_text tokens tokens_from first_of sign_of place_of is_reserved unexpected too_deep begins begins_number is_end behind count ask number name ended brace list_of aggregate count_of choice brackets pointed leaf atom unary chain chained prod sum cmp neg conj expr_in levels expr int names type_of field budget shape mode form every query
-whole_texts_beside_their_neighbours = refl
+names_answered = refl
+
+abbrev forms_beside : List Told
+forms_beside =
+    Says (codes "COUNT(*), SUM(n)") Taken
+    ∷ Says (codes "COUNT(*) SUM(n)") (Unread Unexpected 4 17)
+    ∷ Says (codes "IF n > 1 THEN 1 ELSE 2 END") Taken
+    ∷ Says (codes "IF n > 1 THEN 1 END") (Unread Unexpected 4 24)
+    ∷ Says (codes "MIN(n) + MAX(n)") Taken
+    ∷ Says (codes "MIN n") (Unread Unexpected 4 12)
+    ∷ Says (codes "ANY(TRUE) OR ALL(FALSE)") Taken
+    ∷ Says (codes "ANY()") (Unread Unexpected 4 12)
+    ∷ Says (codes "COUNT(*) * 2 / 3 % 4") Taken
+    ∷ Says (codes "COUNT(n)") (Unread Unexpected 4 14)
+    ∷ Says (codes "COUNT(*) ! 1") (Unread BadCharacter 4 17)
+    ∷ []
+
+forms_answered : map columns_told forms_beside ≡ forms_beside
+unfolding parse query_text tokens tokens_from first_of sign_of place_of is_reserved unexpected too_deep begins begins_number is_end behind count ask number name ended brace list_of aggregate count_of choice brackets pointed leaf atom unary chain chained prod sum cmp neg conj expr_in levels expr int names type_of field budget shape mode form every query
+forms_answered = refl
+
+abbrev numbers_beside : List Told
+numbers_beside =
+    Says (codes "5x") (Unread Unexpected 4 9)
+    ∷ Says (codes "1.5") (Unread Unexpected 4 9)
+    ∷ Says (codes "9223372036854775807") Taken
+    ∷ Says (codes "9223372036854775808") (Unread NumberTooLarge 4 8)
+    ∷ Says (codes "0009223372036854775807") Taken
+    ∷ []
+
+numbers_answered : map columns_told numbers_beside ≡ numbers_beside
+unfolding parse query_text tokens tokens_from first_of sign_of place_of is_reserved unexpected too_deep begins begins_number is_end behind count ask number name ended brace list_of aggregate count_of choice brackets pointed leaf atom unary chain chained prod sum cmp neg conj expr_in levels expr int names type_of field budget shape mode form every query
+numbers_answered = refl
+
+abbrev conditions_beside : List Told
+conditions_beside =
+    Says (codes "1 WHERE n > 1 HAVING COUNT(*) > 1") Taken
+    ∷ Says (codes "1 HAVING COUNT(*) > 1 WHERE n > 1") (Unread Unexpected 4 30)
+    ∷ []
+
+conditions_answered : map columns_told conditions_beside ≡ conditions_beside
+unfolding parse query_text tokens tokens_from first_of sign_of place_of is_reserved unexpected too_deep begins begins_number is_end behind count ask number name ended brace list_of aggregate count_of choice brackets pointed leaf atom unary chain chained prod sum cmp neg conj expr_in levels expr int names type_of field budget shape mode form every query
+conditions_answered = refl
+
+abbrev whole_texts_beside : List Told
+whole_texts_beside =
+    Says (codes "KEYS a;  " ++ 9 ∷ 32 ∷ []) (Unread Unexpected 1 12)
+    ∷ Says (codes "KEYS " ++ 195 ∷ 169 ∷ codes ";") (Unread BadCharacter 1 6)
+    ∷ Says (codes "KEYS a_1; " ++ 34 ∷ []) (Unread BadCharacter 1 11)
+    ∷ Says (codes "keys a;") (Unread Unexpected 1 1)
+    ∷ Says (codes "KEYS _a;") (Unread BadCharacter 1 6)
+    ∷ Says (codes "KEYS a, KEY;") (Unread Unexpected 1 9)
+    ∷ Says (codes "KEYS a; FIELD n INT -2..-1; FIELD c ENUM(x, y); FIELD b BOOL; START 0; SKEW 0; LATENESS 0; RECORDS 1; BUDGET RECORD 1 PANE 2 HELD 3; SELECT 1 WINDOW SLIDING 6 EVERY 2 DISCARDING EARLY EVERY 1 LATE EVERY 2 EMIT RSTREAM;") Taken
+    ∷ Says (codes "KEYS a; FIELD n INT -2.-1; START 0;") (Unread Unexpected 1 23)
+    ∷ Says (codes "KEYS a; FIELD c ENUM(); START 0;") (Unread Unexpected 1 22)
+    ∷ Says (codes "KEYS a; FIELD b BOOL START 0;") (Unread Unexpected 1 22)
+    ∷ Says (codes "KEYS a; START 0; SKEW 0; LATENESS 0; RECORDS 1; BUDGET RECORD 1 HELD 3;") (Unread Unexpected 1 65)
+    ∷ Says (codes "KEYS a; START 0; SKEW 0; LATENESS 0; RECORDS 1; SELECT 1 WINDOW SESSION 6 ACCUMULATING EMIT PANES;") Taken
+    ∷ Says (codes "KEYS a; START 0; SKEW 0; LATENESS 0; RECORDS 1; SELECT 1 WINDOW SESSION 6 RETRACTING EMIT PANES;") (Unread Unexpected 1 75)
+    ∷ Says (codes "KEYS a; START 0; SKEW 0; LATENESS 0; RECORDS 1; SELECT 1 WINDOW FIXED 6 ACCUMULATING LATE EVERY 1 EARLY EVERY 1 EMIT PANES;") (Unread Unexpected 1 99)
+    ∷ Says (codes "KEYS a; START 0; SKEW 0; LATENESS 0; RECORDS 1; SELECT 1 WINDOW FIXED 6 ACCUMULATING EMIT ISTREAM; ;") (Unread Unexpected 1 100)
+    ∷ []
+
+whole_texts_answered : map text_told whole_texts_beside ≡ whole_texts_beside
+unfolding parse query_text tokens tokens_from first_of sign_of place_of is_reserved unexpected too_deep begins begins_number is_end behind count ask number name ended brace list_of aggregate count_of choice brackets pointed leaf atom unary chain chained prod sum cmp neg conj expr_in levels expr int names type_of field budget shape mode form every query
+whole_texts_answered = refl
