@@ -132,6 +132,15 @@ level_of_minus : answer (selecting (replicate 23 40 ++ codes "- - 1")) ≡ Unrea
 unfolding parse query_text tokens tokens_from first_of sign_of place_of is_reserved unexpected too_deep begins begins_number is_end behind count ask number name ended brace list_of aggregate count_of choice brackets pointed leaf atom unary chain chained prod sum cmp neg conj expr_in levels expr int names type_of field budget shape mode form every query
 level_of_minus = refl
 
+-- an IF in a condition opens a level
+conditions_24 : answer (selecting (times 24 (codes "IF ") ++ codes "TRUE" ++ times 24 (codes " THEN 1 ELSE 2 END"))) ≡ Taken
+unfolding parse query_text tokens tokens_from first_of sign_of place_of is_reserved unexpected too_deep begins begins_number is_end behind count ask number name ended brace list_of aggregate count_of choice brackets pointed leaf atom unary chain chained prod sum cmp neg conj expr_in levels expr int names type_of field budget shape mode form every query
+conditions_24 = refl
+
+conditions_25 : answer (selecting (times 25 (codes "IF ") ++ codes "TRUE")) ≡ Unread TooDeep 4 80
+unfolding parse query_text tokens tokens_from first_of sign_of place_of is_reserved unexpected too_deep begins begins_number is_end behind count ask number name ended brace list_of aggregate count_of choice brackets pointed leaf atom unary chain chained prod sum cmp neg conj expr_in levels expr int names type_of field budget shape mode form every query
+conditions_25 = refl
+
 chain_64 : answer (selecting (codes "1" ++ times 32 (codes " + 1 - 1"))) ≡ Taken
 unfolding parse query_text tokens tokens_from first_of sign_of place_of is_reserved unexpected too_deep begins begins_number is_end behind count ask number name ended brace list_of aggregate count_of choice brackets pointed leaf atom unary chain chained prod sum cmp neg conj expr_in levels expr int names type_of field budget shape mode form every query
 chain_64 = refl
@@ -140,6 +149,11 @@ chain_64 = refl
 chain_65 : answer (selecting (codes "1" ++ times 32 (codes "+1-1") ++ codes "+ @")) ≡ Unread TooDeep 4 137
 unfolding parse query_text tokens tokens_from first_of sign_of place_of is_reserved unexpected too_deep begins begins_number is_end behind count ask number name ended brace list_of aggregate count_of choice brackets pointed leaf atom unary chain chained prod sum cmp neg conj expr_in levels expr int names type_of field budget shape mode form every query
 chain_65 = refl
+
+-- and so are `*` and `/`
+chain_65_of_products : answer (selecting (codes "1" ++ times 64 (codes "*1") ++ codes "/ @")) ≡ Unread TooDeep 4 137
+unfolding parse query_text tokens tokens_from first_of sign_of place_of is_reserved unexpected too_deep begins begins_number is_end behind count ask number name ended brace list_of aggregate count_of choice brackets pointed leaf atom unary chain chained prod sum cmp neg conj expr_in levels expr int names type_of field budget shape mode form every query
+chain_65_of_products = refl
 
 chains_apart : answer (selecting (codes "1" ++ times 64 (codes "*1") ++ codes "+1" ++ times 64 (codes "*1"))) ≡ Taken
 unfolding parse query_text tokens tokens_from first_of sign_of place_of is_reserved unexpected too_deep begins begins_number is_end behind count ask number name ended brace list_of aggregate count_of choice brackets pointed leaf atom unary chain chained prod sum cmp neg conj expr_in levels expr int names type_of field budget shape mode form every query
@@ -274,6 +288,7 @@ whole_texts_beside =
     ∷ Says (codes "keys a;") (Unread Unexpected 1 1)
     ∷ Says (codes "KEYS _a;") (Unread BadCharacter 1 6)
     ∷ Says (codes "KEYS a, KEY;") (Unread Unexpected 1 9)
+    ∷ Says (codes "KEYS a;" ++ 10 ∷ 10 ∷ codes "  @") (Unread BadCharacter 3 3)
     ∷ Says (codes "KEYS a; FIELD n INT -2..-1; FIELD c ENUM(x, y); FIELD b BOOL; START 0; SKEW 0; LATENESS 0; RECORDS 1; BUDGET RECORD 1 PANE 2 HELD 3; SELECT 1 WINDOW SLIDING 6 EVERY 2 DISCARDING EARLY EVERY 1 LATE EVERY 2 EMIT RSTREAM;") Taken
     ∷ Says (codes "KEYS a; FIELD n INT -2.-1; START 0;") (Unread Unexpected 1 23)
     ∷ Says (codes "KEYS a; FIELD c ENUM(); START 0;") (Unread Unexpected 1 22)
