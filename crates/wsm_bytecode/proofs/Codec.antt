@@ -4,12 +4,13 @@ use Rattle.std.specs.Prelude.{◌==◌, slice_get}
 use Rattle.std.specs.List.{list_all, flat_map}
 use Rattle.std.specs.Int.{w8, w16}
 use Rattle.std.proofs.lemmas.Bool.{true≢false, ltb-true, leb-true, le-leb, and_parts, and_from}
+use Rattle.wsm_admission.specs.declared.clock.Clock.{Clock}
 use Rattle.wsm_program.specs.declared.instr.Instr.{Instr}
 use Rattle.wsm_program.specs.declared.instr.Instr.TheVariants.{PushInt, PushBool, PushEnum, Field, Key, Acc, Count, Operate, Jump, JumpIfFalse, Fold, Return}
 use Rattle.wsm_program.specs.Program.{Name, Header, Program, is_name_of, is_instr, is_section, is_header, is_program, latest_time, is_span, is_size}
 use Rattle.wsm_record.specs.Schema.{FieldType, Int, Truth, Enum, DeclaredField, Declared, is_name_list, are_names_after, is_field_after, are_fields_after, is_field_type, is_schema, is_within, names_of_type, names_of_field, enum_names}
 use Rattle.wsm_record.specs.Name.{is_name, is_among, is_between}
-use Rattle.wsm_bytecode.specs.Reading.{judged, number_at, signed_at, enum_number_at, push_int_at, push_bool_at, push_enum_at, index_at, target_at, plain_instr, instr_by, instr_at, code_at, several, after_magic, after_version, schema_at, shape_at, mode_at, form_at, kinds_at, columns_at, budget_at, header_at, program_at, decode}
+use Rattle.wsm_bytecode.specs.Reading.{judged, number_at, signed_at, enum_number_at, push_int_at, push_bool_at, push_enum_at, index_at, target_at, plain_instr, instr_by, instr_at, code_at, several, after_magic, after_version, schema_at, clock_at, shape_at, mode_at, triggers_at, form_at, kinds_at, columns_at, budget_at, header_at, program_at, decode}
 use Rattle.wsm_program.specs.declared.operation.Operation.{Operation}
 use Rattle.wsm_program.specs.declared.operation.Operation.TheVariants.{Add}
 use Rattle.wsm_program.specs.Operations as operation
@@ -158,17 +159,26 @@ version_again rest = rw (byte_again 1 rest (lit< tt)) refl
 few_parts : (h : Header) → HeaderParts h → FewParts h
 few_parts h p = record { fields = few_fields h.schema p.schema; kinds = p.kinds; names = λ e i. names_below h.schema e i p.schema }
 
-header_step : (h : Header) (bytes r1 r2 r3 r4 r5 r6 r7 r8 r9 r10 r11 r12 r13 r14 rest : List ℕ)
-    → after_magic bytes ≡ Ok r1 → after_version r1 ≡ Ok r2 → schema_at r2 ≡ Ok (h.schema, r3)
-    → judged (is_within (pos 0) latest_time) (signed_at r3) ≡ Ok (h.clock.start, r4) → judged is_span (signed_at r4) ≡ Ok (h.clock.skew, r5)
-    → judged is_span (signed_at r5) ≡ Ok (h.clock.lateness, r6) → judged is_size (signed_at r6) ≡ Ok (h.clock.records, r7)
-    → shape_at r7 ≡ Ok (h.shape, r8) → mode_at r8 ≡ Ok (h.mode, r9)
-    → judged is_span (signed_at r9) ≡ Ok (h.early, r10) → judged is_span (signed_at r10) ≡ Ok (h.late, r11) → form_at h.mode r11 ≡ Ok (h.form, r12)
-    → kinds_at r12 ≡ Ok (h.kinds, r13) → columns_at h.schema r13 ≡ Ok (h.columns, r14) → budget_at r14 ≡ Ok (h.budget, rest)
+clock_step : (c : Clock) (bytes r1 r2 r3 rest : List ℕ)
+    → judged (is_within (pos 0) latest_time) (signed_at bytes) ≡ Ok (c.start, r1) → judged is_span (signed_at r1) ≡ Ok (c.skew, r2)
+    → judged is_span (signed_at r2) ≡ Ok (c.lateness, r3) → judged is_size (signed_at r3) ≡ Ok (c.records, rest)
+    → clock_at bytes ≡ Ok (c, rest)
+unfolding clock_at
+clock_step c bytes r1 r2 r3 rest e1 e2 e3 e4 = rw (e1, e2, e3, e4) refl
+
+triggers_step : (early late : ℤ) (bytes mid rest : List ℕ) → judged is_span (signed_at bytes) ≡ Ok (early, mid) → judged is_span (signed_at mid) ≡ Ok (late, rest)
+    → triggers_at bytes ≡ Ok ((early, late), rest)
+unfolding triggers_at
+triggers_step early late bytes mid rest e f = rw (e, f) refl
+
+header_step : (h : Header) (bytes r1 r2 r3 r4 r5 r6 r7 r8 r9 r10 rest : List ℕ)
+    → after_magic bytes ≡ Ok r1 → after_version r1 ≡ Ok r2 → schema_at r2 ≡ Ok (h.schema, r3) → clock_at r3 ≡ Ok (h.clock, r4)
+    → shape_at r4 ≡ Ok (h.shape, r5) → mode_at r5 ≡ Ok (h.mode, r6) → triggers_at r6 ≡ Ok ((h.early, h.late), r7) → form_at h.mode r7 ≡ Ok (h.form, r8)
+    → kinds_at r8 ≡ Ok (h.kinds, r9) → columns_at h.schema r9 ≡ Ok (h.columns, r10) → budget_at r10 ≡ Ok (h.budget, rest)
     → header_at bytes ≡ Ok (h, rest)
 unfolding header_at
-header_step h bytes r1 r2 r3 r4 r5 r6 r7 r8 r9 r10 r11 r12 r13 r14 rest e1 e2 e3 e4 e5 e6 e7 e8 e9 e10 e11 e12 e13 e14 e15 =
-    rw (e1, e2, e3, e4, e5, e6, e7, e8, e9, e10, e11, e12, e13, e14, e15) refl
+header_step h bytes r1 r2 r3 r4 r5 r6 r7 r8 r9 r10 rest e1 e2 e3 e4 e5 e6 e7 e8 e9 e10 e11 =
+    rw (e1, e2, e3, e4, e5, e6, e7, e8, e9, e10, e11) refl
 
 pub header_again : (h : Header) (rest : List ℕ) → HeaderParts h → header_at (header h ++ rest) ≡ Ok (h, rest)
 unfolding header
@@ -188,9 +198,11 @@ header_again h rest p =
     let r2 = schema h.schema ++ r3 in
     let r1 = byte 1 ++ r2 in
     ap header_at (regroup_15 magic (byte 1) (schema h.schema) (signed h.clock.start) (signed h.clock.skew) (signed h.clock.lateness) (signed h.clock.records) (shape h.shape) (mode h.mode) (signed h.early) (signed h.late) (form h.form) (kinds h.kinds) (columns h.columns) (budget h.budget) rest)
-    ∙ header_step h (magic ++ r1) r1 r2 r3 r4 r5 r6 r7 r8 r9 r10 r11 r12 r13 r14 rest
-    (magic_again r1) (version_again r2) (schema_again h.schema r3 p.schema) (start_again h.clock.start r4 p.start) (span_again h.clock.skew r5 p.skew) (span_again h.clock.lateness r6 p.lateness) (size_again h.clock.records r7 p.records)
-    (shape_again h.shape r8 p.shape) (mode_again h.mode r9) (span_again h.early r10 p.early) (span_again h.late r11 p.late) (form_again h.mode h.form r12 p.form)
+    ∙ header_step h (magic ++ r1) r1 r2 r3 r7 r8 r9 r11 r12 r13 r14 rest
+    (magic_again r1) (version_again r2) (schema_again h.schema r3 p.schema)
+    (clock_step h.clock r3 r4 r5 r6 r7 (start_again h.clock.start r4 p.start) (span_again h.clock.skew r5 p.skew) (span_again h.clock.lateness r6 p.lateness) (size_again h.clock.records r7 p.records))
+    (shape_again h.shape r8 p.shape) (mode_again h.mode r9)
+    (triggers_step h.early h.late r9 r10 r11 (span_again h.early r10 p.early) (span_again h.late r11 p.late)) (form_again h.mode h.form r12 p.form)
     (kinds_again h.kinds r13 p.kinds) (columns_again h.schema h.columns r14 (few_fields h.schema p.schema) p.count p.columns) (budget_again h.budget rest p.budget)
 
 -- ---- the program

@@ -1,5 +1,5 @@
 -- What was read is what was spelled: instructions, sections and whole programs.
-use Rattle.std.proofs.Common.{Option, None, Some, ◌≡◌, ℕ, zero, suc, ◌≤◌, Bool, true, false, cond, ltb, List, [], ◌∷◌, ◌++◌, length, ℤ, pos, Result, Ok, Err, refl, sym, ap, subst, ◌∙◌, append-nil, arith}
+use Rattle.std.proofs.Common.{Option, None, Some, ◌≡◌, ℕ, zero, suc, ◌≤◌, Bool, true, false, cond, ltb, ◌&&◌, List, [], ◌∷◌, ◌++◌, length, ℤ, pos, Result, Ok, Err, refl, sym, ap, subst, ◌∙◌, append_assoc, append-nil, arith}
 use Rattle.std.specs.Prelude.{◌==◌, bytes_eq, option_map}
 use Rattle.std.specs.List.{list_all, flat_map}
 use Rattle.std.specs.Int.{w8, w16}
@@ -15,10 +15,11 @@ use Rattle.wsm_record.specs.declared.Mode.{Mode}
 use Rattle.wsm_record.specs.declared.Form.{Form}
 use Rattle.wsm_program.specs.declared.instr.Instr.TheVariants.{PushInt, PushBool, PushEnum, Field, Key, Acc, Count, Operate, Jump, JumpIfFalse, Fold, Return}
 use Rattle.wsm_record.specs.Schema.{Declared, is_schema, is_within, enum_names}
+use Rattle.wsm_admission.specs.declared.clock.Clock.{Clock}
 use Rattle.wsm_program.specs.declared.program.Costs.{Costs}
 use Rattle.wsm_program.specs.Program.{Header, Program, is_name_of, is_instr, is_section, is_header, is_program, latest_time, is_span, is_size, is_column}
 use Rattle.wsm_record.specs.Name.{is_between}
-use Rattle.wsm_bytecode.specs.Reading.{◌>>=◌, Read, judged, number_at, signed_at, enum_number_at, push_int_at, push_bool_at, push_enum_at, index_at, target_at, plain_instr, plain_at, instr_by, instr_at, code_at, several, after_magic, after_version, bytes_at, schema_at, shape_at, mode_at, form_at, kinds_at, columns_at, budget_at, header_at, program_at, all_read, decode}
+use Rattle.wsm_bytecode.specs.Reading.{◌>>=◌, Read, judged, number_at, signed_at, enum_number_at, push_int_at, push_bool_at, push_enum_at, index_at, target_at, plain_instr, plain_at, instr_by, instr_at, code_at, several, after_magic, after_version, bytes_at, schema_at, clock_at, shape_at, mode_at, triggers_at, form_at, kinds_at, columns_at, budget_at, header_at, program_at, all_read, decode}
 use Rattle.wsm_program.specs.declared.operation.Operation.{Operation}
 use Rattle.wsm_program.specs.Operations as operation
 use Rattle.wsm_program.specs.Operations.{of_code, first_of_code, operations}
@@ -178,14 +179,60 @@ version_taken bytes rest fits e =
     let t = byte_taken bytes b.0 fits b.1 in
     subst (λ y. (bytes ≡ byte 1 ++ y) × IsBytes y) g.1 (t.parts ∙ ap (λ n. byte n ++ b.0.1) (eqb-true b.0.0 1 g.0), t.fits)
 
+bind_then : {A B P : Type 0} (r : Result A DecodeRefusal) (f : A → Result B DecodeRefusal) (y : B) → (r >>= f) ≡ Ok y → ((x : A) → r ≡ Ok x → f x ≡ Ok y → P) → P
+bind_then (Ok x) f y e go = go x refl e
+bind_then (Err d) f y e go = absurd cc
+
 abbrev header_done : Header × List ℕ → Read Header
 header_done x = Ok x
 
-header_joined : (h : Header) (bytes r1 r2 r3 r4 r5 r6 r7 r8 r9 r10 r11 r12 r13 r14 rest : List ℕ)
-    → bytes ≡ magic ++ r1 → r1 ≡ byte 1 ++ r2 → r2 ≡ schema h.schema ++ r3 → r3 ≡ signed h.clock.start ++ r4 → r4 ≡ signed h.clock.skew ++ r5 → r5 ≡ signed h.clock.lateness ++ r6 → r6 ≡ signed h.clock.records ++ r7 → r7 ≡ shape h.shape ++ r8 → r8 ≡ mode h.mode ++ r9 → r9 ≡ signed h.early ++ r10 → r10 ≡ signed h.late ++ r11 → r11 ≡ form h.form ++ r12 → r12 ≡ kinds h.kinds ++ r13 → r13 ≡ columns h.columns ++ r14 → r14 ≡ budget h.budget ++ rest
+abbrev clock_bytes : Clock → List ℕ
+clock_bytes c = signed c.start ++ signed c.skew ++ signed c.lateness ++ signed c.records
+
+abbrev is_time : Clock → Bool
+is_time c = is_within (pos 0) latest_time c.start && (is_span c.skew && (is_span c.lateness && is_size c.records))
+
+clock_taken : Exact clock_at clock_bytes is_time
+unfolding clock_at
+clock_taken bytes x fits e =
+    bind_then _ _ x e (λ start e0 l0.
+    bind_then _ _ x l0 (λ skew e1 l1.
+    bind_then _ _ x l1 (λ lateness e2 l2.
+    bind_then _ _ x l2 (λ records e3 l3.
+    let t = measure_taken (is_within (pos 0) latest_time) bytes start fits e0 in
+    let u = measure_taken is_span start.1 skew t.fits e1 in
+    let v = measure_taken is_span skew.1 lateness u.fits e2 in
+    let w = measure_taken is_size lateness.1 records v.fits e3 in
+    let made : Clock × List ℕ = (record { start = start.0; skew = skew.0; lateness = lateness.0; records = records.0 }, records.1) in
+    subst (λ y. Took clock_bytes is_time bytes y) (ok_is made x l3)
+    (record {
+      parts = t.parts ∙ ap (λ r. signed start.0 ++ r) (u.parts ∙ ap (λ r. signed skew.0 ++ r) (v.parts ∙ ap (λ r. signed lateness.0 ++ r) w.parts)) ∙ sym (regroup_4 (signed start.0) (signed skew.0) (signed lateness.0) (signed records.0) records.1);
+      fits = w.fits;
+      good = and_from _ _ t.good (and_from _ _ u.good (and_from _ _ v.good w.good));
+    })))))
+
+abbrev triggers_bytes : ℤ × ℤ → List ℕ
+triggers_bytes t = signed t.0 ++ signed t.1
+
+abbrev are_spans : ℤ × ℤ → Bool
+are_spans t = is_span t.0 && is_span t.1
+
+triggers_taken : Exact triggers_at triggers_bytes are_spans
+unfolding triggers_at
+triggers_taken bytes x fits e =
+    bind_then _ _ x e (λ early e0 l0.
+    bind_then _ _ x l0 (λ late e1 l1.
+    let t = measure_taken is_span bytes early fits e0 in
+    let u = measure_taken is_span early.1 late t.fits e1 in
+    let made : (ℤ × ℤ) × List ℕ = ((early.0, late.0), late.1) in
+    subst (λ y. Took triggers_bytes are_spans bytes y) (ok_is made x l1)
+    (record { parts = t.parts ∙ ap (λ r. signed early.0 ++ r) u.parts ∙ sym (append_assoc (signed early.0) (signed late.0) late.1); fits = u.fits; good = and_from _ _ t.good u.good })))
+
+header_joined : (h : Header) (bytes r1 r2 r3 r7 r8 r9 r11 r12 r13 r14 rest : List ℕ)
+    → bytes ≡ magic ++ r1 → r1 ≡ byte 1 ++ r2 → r2 ≡ schema h.schema ++ r3 → r3 ≡ clock_bytes h.clock ++ r7 → r7 ≡ shape h.shape ++ r8 → r8 ≡ mode h.mode ++ r9 → r9 ≡ triggers_bytes (h.early, h.late) ++ r11 → r11 ≡ form h.form ++ r12 → r12 ≡ kinds h.kinds ++ r13 → r13 ≡ columns h.columns ++ r14 → r14 ≡ budget h.budget ++ rest
     → bytes ≡ header h ++ rest
 unfolding header
-header_joined h bytes r1 r2 r3 r4 r5 r6 r7 r8 r9 r10 r11 r12 r13 r14 rest e0 e1 e2 e3 e4 e5 e6 e7 e8 e9 e10 e11 e12 e13 e14 =
+header_joined h bytes r1 r2 r3 r7 r8 r9 r11 r12 r13 r14 rest e0 e1 e2 e3 e7 e8 e9 e11 e12 e13 e14 =
     let s15 : List ℕ = rest in
     let s14 : List ℕ = budget h.budget ++ s15 in
     let s13 : List ℕ = columns h.columns ++ s14 in
@@ -205,53 +252,43 @@ header_joined h bytes r1 r2 r3 r4 r5 r6 r7 r8 r9 r10 r11 r12 r13 r14 rest e0 e1 
     let q13 : r13 ≡ s13 = e13 ∙ ap (λ r. columns h.columns ++ r) q14 in
     let q12 : r12 ≡ s12 = e12 ∙ ap (λ r. kinds h.kinds ++ r) q13 in
     let q11 : r11 ≡ s11 = e11 ∙ ap (λ r. form h.form ++ r) q12 in
-    let q10 : r10 ≡ s10 = e10 ∙ ap (λ r. signed h.late ++ r) q11 in
-    let q9 : r9 ≡ s9 = e9 ∙ ap (λ r. signed h.early ++ r) q10 in
+    let q9 : r9 ≡ s9 = e9 ∙ append_assoc (signed h.early) (signed h.late) r11 ∙ ap (λ r. signed h.early ++ (signed h.late ++ r)) q11 in
     let q8 : r8 ≡ s8 = e8 ∙ ap (λ r. mode h.mode ++ r) q9 in
     let q7 : r7 ≡ s7 = e7 ∙ ap (λ r. shape h.shape ++ r) q8 in
-    let q6 : r6 ≡ s6 = e6 ∙ ap (λ r. signed h.clock.records ++ r) q7 in
-    let q5 : r5 ≡ s5 = e5 ∙ ap (λ r. signed h.clock.lateness ++ r) q6 in
-    let q4 : r4 ≡ s4 = e4 ∙ ap (λ r. signed h.clock.skew ++ r) q5 in
-    let q3 : r3 ≡ s3 = e3 ∙ ap (λ r. signed h.clock.start ++ r) q4 in
+    let c : List ℕ → List ℕ = λ r. signed h.clock.start ++ (signed h.clock.skew ++ (signed h.clock.lateness ++ (signed h.clock.records ++ r))) in
+    let q3 : r3 ≡ s3 = e3 ∙ regroup_4 (signed h.clock.start) (signed h.clock.skew) (signed h.clock.lateness) (signed h.clock.records) r7 ∙ ap c q7 in
     let q2 : r2 ≡ s2 = e2 ∙ ap (λ r. schema h.schema ++ r) q3 in
     let q1 : r1 ≡ s1 = e1 ∙ ap (λ r. byte 1 ++ r) q2 in
     e0 ∙ ap (λ r. magic ++ r) q1 ∙ sym (regroup_15 magic (byte 1) (schema h.schema) (signed h.clock.start) (signed h.clock.skew) (signed h.clock.lateness) (signed h.clock.records) (shape h.shape) (mode h.mode) (signed h.early) (signed h.late) (form h.form) (kinds h.kinds) (columns h.columns) (budget h.budget) rest)
 
-header_from : (bytes : List ℕ) (x : Header × List ℕ) (v_m v_version : List ℕ) (v_schema : Declared × List ℕ) (v_start : ℤ × List ℕ) (v_skew : ℤ × List ℕ) (v_lateness : ℤ × List ℕ) (v_records : ℤ × List ℕ) (v_shape : Shape × List ℕ) (v_mode : Mode × List ℕ) (v_early : ℤ × List ℕ) (v_late : ℤ × List ℕ) (v_form : Form × List ℕ) (v_kinds : List Kind × List ℕ) (v_columns : List CellType × List ℕ) (v_budget : Costs × List ℕ)
-    → IsBytes bytes → after_magic bytes ≡ Ok v_m → after_version v_m ≡ Ok v_version → schema_at v_version ≡ Ok v_schema → judged (is_within (pos 0) latest_time) (signed_at v_schema.1) ≡ Ok v_start → judged is_span (signed_at v_start.1) ≡ Ok v_skew → judged is_span (signed_at v_skew.1) ≡ Ok v_lateness → judged is_size (signed_at v_lateness.1) ≡ Ok v_records → shape_at v_records.1 ≡ Ok v_shape → mode_at v_shape.1 ≡ Ok v_mode → judged is_span (signed_at v_mode.1) ≡ Ok v_early → judged is_span (signed_at v_early.1) ≡ Ok v_late → form_at v_mode.0 v_late.1 ≡ Ok v_form → kinds_at v_form.1 ≡ Ok v_kinds → columns_at v_schema.0 v_kinds.1 ≡ Ok v_columns → budget_at v_columns.1 ≡ Ok v_budget
-    → header_done (record { schema = v_schema.0; clock = record { start = v_start.0; skew = v_skew.0; lateness = v_lateness.0; records = v_records.0 }; shape = v_shape.0; mode = v_mode.0; early = v_early.0; late = v_late.0; form = v_form.0; kinds = v_kinds.0; columns = v_columns.0; budget = v_budget.0 }, v_budget.1) ≡ Ok x → Took header is_header bytes x
+header_from : (bytes : List ℕ) (x : Header × List ℕ) (v_m v_version : List ℕ) (v_schema : Declared × List ℕ) (v_clock : Clock × List ℕ) (v_shape : Shape × List ℕ) (v_mode : Mode × List ℕ) (v_triggers : (ℤ × ℤ) × List ℕ) (v_form : Form × List ℕ) (v_kinds : List Kind × List ℕ) (v_columns : List CellType × List ℕ) (v_budget : Costs × List ℕ)
+    → IsBytes bytes → after_magic bytes ≡ Ok v_m → after_version v_m ≡ Ok v_version → schema_at v_version ≡ Ok v_schema → clock_at v_schema.1 ≡ Ok v_clock → shape_at v_clock.1 ≡ Ok v_shape → mode_at v_shape.1 ≡ Ok v_mode → triggers_at v_mode.1 ≡ Ok v_triggers → form_at v_mode.0 v_triggers.1 ≡ Ok v_form → kinds_at v_form.1 ≡ Ok v_kinds → columns_at v_schema.0 v_kinds.1 ≡ Ok v_columns → budget_at v_columns.1 ≡ Ok v_budget
+    → header_done (record { schema = v_schema.0; clock = v_clock.0; shape = v_shape.0; mode = v_mode.0; early = v_triggers.0.0; late = v_triggers.0.1; form = v_form.0; kinds = v_kinds.0; columns = v_columns.0; budget = v_budget.0 }, v_budget.1) ≡ Ok x → Took header is_header bytes x
 unfolding is_header is_schema
-header_from bytes x v_m v_version v_schema v_start v_skew v_lateness v_records v_shape v_mode v_early v_late v_form v_kinds v_columns v_budget fits e0 e1 e2 e3 e4 e5 e6 e7 e8 e9 e10 e11 e12 e13 e14 last =
+header_from bytes x v_m v_version v_schema v_clock v_shape v_mode v_triggers v_form v_kinds v_columns v_budget fits e0 e1 e2 e3 e4 e5 e6 e7 e8 e9 e10 last =
     let t0 = magic_taken bytes v_m fits e0 in
     let t1 = version_taken v_m v_version t0.1 e1 in
     let t2 = schema_taken v_version v_schema t1.1 e2 in
-    let t3 = measure_taken (is_within (pos 0) latest_time) v_schema.1 v_start t2.fits e3 in
-    let t4 = measure_taken is_span v_start.1 v_skew t3.fits e4 in
-    let t5 = measure_taken is_span v_skew.1 v_lateness t4.fits e5 in
-    let t6 = measure_taken is_size v_lateness.1 v_records t5.fits e6 in
-    let t7 = shape_taken v_records.1 v_shape t6.fits e7 in
-    let t8 = mode_taken v_shape.1 v_mode t7.fits e8 in
-    let t9 = measure_taken is_span v_mode.1 v_early t8.fits e9 in
-    let t10 = measure_taken is_span v_early.1 v_late t9.fits e10 in
-    let t11 = form_taken v_mode.0 v_late.1 v_form t10.fits e11 in
-    let t12 = kinds_taken v_form.1 v_kinds t11.fits e12 in
-    let t13 = columns_taken v_schema.0 v_kinds.1 v_columns t12.fits e13 in
-    let t14 = budget_taken v_columns.1 v_budget t13.fits e14 in
-    let c = and_parts (is_between 1 16 (length v_columns.0)) (list_all (is_column v_schema.0) v_columns.0) t13.good in
-    let made : Header × List ℕ = (record { schema = v_schema.0; clock = record { start = v_start.0; skew = v_skew.0; lateness = v_lateness.0; records = v_records.0 }; shape = v_shape.0; mode = v_mode.0; early = v_early.0; late = v_late.0; form = v_form.0; kinds = v_kinds.0; columns = v_columns.0; budget = v_budget.0 }, v_budget.1) in
+    let t3 = clock_taken v_schema.1 v_clock t2.fits e3 in
+    let t4 = shape_taken v_clock.1 v_shape t3.fits e4 in
+    let t5 = mode_taken v_shape.1 v_mode t4.fits e5 in
+    let t6 = triggers_taken v_mode.1 v_triggers t5.fits e6 in
+    let t7 = form_taken v_mode.0 v_triggers.1 v_form t6.fits e7 in
+    let t8 = kinds_taken v_form.1 v_kinds t7.fits e8 in
+    let t9 = columns_taken v_schema.0 v_kinds.1 v_columns t8.fits e9 in
+    let t10 = budget_taken v_columns.1 v_budget t9.fits e10 in
+    let c = and_parts (is_between 1 16 (length v_columns.0)) (list_all (is_column v_schema.0) v_columns.0) t9.good in
+    let d = and_parts (is_span v_triggers.0.0) (is_span v_triggers.0.1) t6.good in
+    let made : Header × List ℕ = (record { schema = v_schema.0; clock = v_clock.0; shape = v_shape.0; mode = v_mode.0; early = v_triggers.0.0; late = v_triggers.0.1; form = v_form.0; kinds = v_kinds.0; columns = v_columns.0; budget = v_budget.0 }, v_budget.1) in
     subst (λ y. Took header is_header bytes y) (ok_is made x last)
     (record {
-      parts = header_joined made.0 bytes v_m v_version v_schema.1 v_start.1 v_skew.1 v_lateness.1 v_records.1 v_shape.1 v_mode.1 v_early.1 v_late.1 v_form.1 v_kinds.1 v_columns.1 v_budget.1 t0.0 t1.0 t2.parts t3.parts t4.parts t5.parts t6.parts t7.parts t8.parts t9.parts t10.parts t11.parts t12.parts t13.parts t14.parts;
-      fits = t14.fits;
+      parts = header_joined made.0 bytes v_m v_version v_schema.1 v_clock.1 v_shape.1 v_mode.1 v_triggers.1 v_form.1 v_kinds.1 v_columns.1 v_budget.1 t0.0 t1.0 t2.parts t3.parts t4.parts t5.parts t6.parts t7.parts t8.parts t9.parts t10.parts;
+      fits = t10.fits;
       good = and_from _ _ t2.good
-          (and_from _ _ (and_from _ _ t3.good (and_from _ _ t4.good (and_from _ _ t5.good t6.good)))
-          (and_from _ _ (and_from _ _ t7.good (and_from _ _ t9.good (and_from _ _ t10.good t11.good)))
-          (and_from _ _ (and_from _ _ t12.good (and_from _ _ c.0 c.1)) t14.good)));
+          (and_from _ _ t3.good
+          (and_from _ _ (and_from _ _ t4.good (and_from _ _ d.0 (and_from _ _ d.1 t7.good)))
+          (and_from _ _ (and_from _ _ t8.good (and_from _ _ c.0 c.1)) t10.good)));
     })
-
-bind_then : {A B P : Type 0} (r : Result A DecodeRefusal) (f : A → Result B DecodeRefusal) (y : B) → (r >>= f) ≡ Ok y → ((x : A) → r ≡ Ok x → f x ≡ Ok y → P) → P
-bind_then (Ok x) f y e go = go x refl e
-bind_then (Err d) f y e go = absurd cc
 
 pub header_taken : Exact header_at header is_header
 unfolding header_at
@@ -259,19 +296,15 @@ header_taken bytes x fits l0 =
     bind_then _ _ x l0 (λ v_m e0 l1.
     bind_then _ _ x l1 (λ v_version e1 l2.
     bind_then _ _ x l2 (λ v_schema e2 l3.
-    bind_then _ _ x l3 (λ v_start e3 l4.
-    bind_then _ _ x l4 (λ v_skew e4 l5.
-    bind_then _ _ x l5 (λ v_lateness e5 l6.
-    bind_then _ _ x l6 (λ v_records e6 l7.
-    bind_then _ _ x l7 (λ v_shape e7 l8.
-    bind_then _ _ x l8 (λ v_mode e8 l9.
-    bind_then _ _ x l9 (λ v_early e9 l10.
-    bind_then _ _ x l10 (λ v_late e10 l11.
-    bind_then _ _ x l11 (λ v_form e11 l12.
-    bind_then _ _ x l12 (λ v_kinds e12 l13.
-    bind_then _ _ x l13 (λ v_columns e13 l14.
-    bind_then _ _ x l14 (λ v_budget e14 l15.
-    header_from bytes x v_m v_version v_schema v_start v_skew v_lateness v_records v_shape v_mode v_early v_late v_form v_kinds v_columns v_budget fits e0 e1 e2 e3 e4 e5 e6 e7 e8 e9 e10 e11 e12 e13 e14 l15)))))))))))))))
+    bind_then _ _ x l3 (λ v_clock e3 l4.
+    bind_then _ _ x l4 (λ v_shape e4 l5.
+    bind_then _ _ x l5 (λ v_mode e5 l6.
+    bind_then _ _ x l6 (λ v_triggers e6 l7.
+    bind_then _ _ x l7 (λ v_form e7 l8.
+    bind_then _ _ x l8 (λ v_kinds e8 l9.
+    bind_then _ _ x l9 (λ v_columns e9 l10.
+    bind_then _ _ x l10 (λ v_budget e10 l11.
+    header_from bytes x v_m v_version v_schema v_clock v_shape v_mode v_triggers v_form v_kinds v_columns v_budget fits e0 e1 e2 e3 e4 e5 e6 e7 e8 e9 e10 l11)))))))))))
 
 -- ---- the program
 

@@ -17,6 +17,7 @@ use Rattle.wsm_program.specs.declared.refusal.DecodeRefusal.{DecodeRefusal}
 use Rattle.wsm_program.specs.declared.refusal.DecodeRefusal.TheVariants.{BadMagic, Version, Truncated, UnknownOpcode, Operand, TrailingBytes, Memory}
 use Rattle.wsm_program.specs.Program.{Name, Header, Program, is_name_of, latest_time, is_span, is_size, is_form_of, is_stated}
 use Rattle.wsm_record.specs.Schema.{FieldType, Int, Truth, Enum, DeclaredField, Declared, is_within, enum_names}
+use Rattle.wsm_admission.specs.declared.clock.Clock.{Clock}
 use Rattle.wsm_program.specs.declared.program.Costs.{Costs}
 use Rattle.wsm_record.specs.declared.limits.TheConstants.{MAX_ACCUMULATORS, MAX_COLUMNS, MAX_FIELDS, MAX_NAME, MAX_NAMES, MAX_PANES, MAX_SECTION}
 use Rattle.wsm_record.specs.Name.{is_between, is_name, is_among}
@@ -146,6 +147,14 @@ shape_by zero bytes = fixed_at bytes
 shape_by (suc zero) bytes = sliding_at bytes
 shape_by _ bytes = session_at bytes
 
+unfoldable pub clock_at : List ℕ → Read Clock
+clock_at bytes = do
+  start ← judged (is_within (pos 0) latest_time) (signed_at bytes)
+  skew ← judged is_span (signed_at start.1)
+  lateness ← judged is_span (signed_at skew.1)
+  records ← judged is_size (signed_at lateness.1)
+  Ok (record { start = start.0; skew = skew.0; lateness = lateness.0; records = records.0 }, records.1)
+
 unfoldable pub shape_at : List ℕ → Read Shape
 shape_at bytes = do
   tag ← judged (is_between 0 2) (number_at w8 bytes)
@@ -165,6 +174,13 @@ form_by zero = Panes
 form_by (suc zero) = Istream
 form_by (suc (suc zero)) = Dstream
 form_by _ = Rstream
+
+-- EARLY, then LATE
+unfoldable pub triggers_at : List ℕ → Read (ℤ × ℤ)
+triggers_at bytes = do
+  early ← judged is_span (signed_at bytes)
+  late ← judged is_span (signed_at early.1)
+  Ok ((early.0, late.0), late.1)
 
 -- judged beside the mode
 unfoldable pub form_at : Mode → List ℕ → Read Form
@@ -236,26 +252,22 @@ header_at bytes = do
   numbered ← after_magic bytes
   declared ← after_version numbered
   schema ← schema_at declared
-  start ← judged (is_within (pos 0) latest_time) (signed_at schema.1)
-  skew ← judged is_span (signed_at start.1)
-  lateness ← judged is_span (signed_at skew.1)
-  records ← judged is_size (signed_at lateness.1)
-  shape ← shape_at records.1
+  clock ← clock_at schema.1
+  shape ← shape_at clock.1
   mode ← mode_at shape.1
-  early ← judged is_span (signed_at mode.1)
-  late ← judged is_span (signed_at early.1)
-  form ← form_at mode.0 late.1
+  triggers ← triggers_at mode.1
+  form ← form_at mode.0 triggers.1
   kinds ← kinds_at form.1
   columns ← columns_at schema.0 kinds.1
   budget ← budget_at columns.1
   Ok (
     record {
       schema = schema.0;
-      clock = record { start = start.0; skew = skew.0; lateness = lateness.0; records = records.0 };
+      clock = clock.0;
       shape = shape.0;
       mode = mode.0;
-      early = early.0;
-      late = late.0;
+      early = triggers.0.0;
+      late = triggers.0.1;
       form = form.0;
       kinds = kinds.0;
       columns = columns.0;

@@ -193,11 +193,7 @@ fn choice(alloc: Global, reader: &mut Reader, room: usize) -> Result<Expr, Stop>
     reader.ask(b"ELSE")?;
     let second = expr(alloc, reader, room)?;
     reader.ask(b"END")?;
-    Ok(Expr::If(
-        Box::new(alloc, test)?,
-        Box::new(alloc, first)?,
-        Box::new(alloc, second)?,
-    ))
+    Ok(conditional(alloc, test, first, second)?)
 }
 
 // "(" expr ")"
@@ -343,6 +339,16 @@ fn and(alloc: Global, left: Expr, right: Expr) -> Result<Expr, AllocError>
     ensures { IfOk result (λ e. seen_expr e ≡ tree.And (seen_expr left) (seen_expr right)) }
 {
     Ok(Expr::And(Box::new(alloc, left)?, Box::new(alloc, right)?))
+}
+
+fn conditional(alloc: Global, test: Expr, first: Expr, second: Expr) -> Result<Expr, AllocError>
+    ensures { IfOk result (λ e. seen_expr e ≡ tree.If (seen_expr test) (seen_expr first) (seen_expr second)) }
+{
+    Ok(Expr::If(
+        Box::new(alloc, test)?,
+        Box::new(alloc, first)?,
+        Box::new(alloc, second)?,
+    ))
 }
 
 fn binary(alloc: Global, op: Op, left: Expr, right: Expr) -> Result<Expr, AllocError>

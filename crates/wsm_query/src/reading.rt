@@ -1,6 +1,6 @@
 //! The rule of a whole query, and the reading of a text.
 
-ghost use Rattle.std.specs.Prelude.{◌≡◌, Ok, IfOk, codes, option_map};
+ghost use Rattle.std.specs.Prelude.{◌≡◌, Ok, IfOk, codes, map, option_map};
 ghost use Rattle.wsm_tokens.specs.Read.{Gives, number};
 ghost use Rattle.wsm_query.specs.Grammar as rule;
 ghost use Rattle.wsm_query.specs.Parse.{Parses, parse, query_text};
@@ -12,7 +12,9 @@ use crate::expr::Expr;
 use crate::parse_expr::expression;
 use crate::query::{Budget, Query};
 use std::alloc::Global;
+use wsm_record::{Form, Name};
 use wsm_tokens::{ParseRefusal, Reader, Stop, refusal_of};
+use wsm_windows::Shape;
 
 /// The tree of a query text, or the first fault from the left with its place. The text that a query is printed as has
 /// that query's tree.
@@ -47,27 +49,21 @@ fn query_text(alloc: Global, reader: &mut Reader) -> Result<Query, Stop>
 fn query(alloc: Global, reader: &mut Reader) -> Result<Query, Stop>
     ensures { Gives seen result reader.new (rule.query reader.old) }
 {
-    reader.ask(b"KEYS")?;
-    let keys = names(alloc, reader)?;
-    reader.ask(b";")?;
+    let keys = keys(alloc, reader)?;
     let fields = fields(alloc, reader)?;
     let start = clause(reader, b"START")?;
     let skew = clause(reader, b"SKEW")?;
     let lateness = clause(reader, b"LATENESS")?;
     let records = clause(reader, b"RECORDS")?;
     let budget = optional_budget(reader)?;
-    reader.ask(b"SELECT")?;
-    let columns = columns(alloc, reader)?;
+    let columns = selected(alloc, reader)?;
     let condition = optional_expr(alloc, reader, b"WHERE")?;
     let having = optional_expr(alloc, reader, b"HAVING")?;
-    reader.ask(b"WINDOW")?;
-    let shape = shape(reader)?;
+    let shape = window(reader)?;
     let mode = mode(reader)?;
     let early = optional_every(reader, b"EARLY")?;
     let late = optional_every(reader, b"LATE")?;
-    reader.ask(b"EMIT")?;
-    let form = form(reader)?;
-    reader.ask(b";")?;
+    let form = emitted(reader)?;
     Ok(Query {
         keys,
         fields,
@@ -85,6 +81,42 @@ fn query(alloc: Global, reader: &mut Reader) -> Result<Query, Stop>
         late,
         form,
     })
+}
+
+// "KEYS" names ";"
+fn keys(alloc: Global, reader: &mut Reader) -> Result<Vec<Name>, Stop>
+    ensures { Gives (λ v. v.items) result reader.new (rule.clause (codes "KEYS") rule.names reader.old) }
+{
+    reader.ask(b"KEYS")?;
+    let keys = names(alloc, reader)?;
+    reader.ask(b";")?;
+    Ok(keys)
+}
+
+// "SELECT" expr { "," expr }
+fn selected(alloc: Global, reader: &mut Reader) -> Result<Vec<Expr>, Stop>
+    ensures { Gives (λ v. map seen_expr v.items) result reader.new (rule.after (codes "SELECT") (rule.list_of rule.expr) reader.old) }
+{
+    reader.ask(b"SELECT")?;
+    columns(alloc, reader)
+}
+
+// "WINDOW" shape
+fn window(reader: &mut Reader) -> Result<Shape, Stop>
+    ensures { Gives (λ s. s) result reader.new (rule.after (codes "WINDOW") rule.shape reader.old) }
+{
+    reader.ask(b"WINDOW")?;
+    shape(reader)
+}
+
+// "EMIT" form ";"
+fn emitted(reader: &mut Reader) -> Result<Form, Stop>
+    ensures { Gives (λ f. f) result reader.new (rule.clause (codes "EMIT") rule.form reader.old) }
+{
+    reader.ask(b"EMIT")?;
+    let form = form(reader)?;
+    reader.ask(b";")?;
+    Ok(form)
 }
 
 // A word, a number and a semicolon.

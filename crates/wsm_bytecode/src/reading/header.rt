@@ -4,13 +4,15 @@ ghost use Rattle.std.specs.Prelude.{◌≡◌};
 ghost use Rattle.wsm_program.specs.View.{header_of as seen};
 ghost use Rattle.wsm_bytecode.specs.Reading.{Gives, several, after_magic, after_version, enum_number_at, column_at, columns_at, header_at};
 
-use crate::limits::{LATEST_TIME, LONGEST_SPAN, MAGIC, MAX_COLUMNS, VERSION};
-use crate::reading::numbers::{byte_of, byte_within, i64_within};
+use crate::limits::{MAGIC, MAX_COLUMNS, VERSION};
+use crate::reading::numbers::{byte_of, byte_within};
 use crate::reading::schema::schema_of;
-use crate::reading::settings::{budget_of, form_of, kinds_of, mode_of, shape_of};
+use crate::reading::settings::{
+    budget_of, clock_of, form_of, kinds_of, mode_of, shape_of, triggers_of,
+};
 use std::alloc::Global;
 use wsm_program::enums::name_count;
-use wsm_program::{Clock, DecodeRefusal, Header};
+use wsm_program::{DecodeRefusal, Header};
 use wsm_record::{CellType, Schema};
 
 #[tactic(auto, unfolding(crate::specs::Reading::header_at))]
@@ -20,26 +22,17 @@ pub(crate) fn header_of(alloc: Global, bytes: &[u8]) -> Result<(Header, &[u8]), 
     let rest = skip_magic(bytes)?;
     let rest = skip_version(rest)?;
     let (schema, rest) = schema_of(alloc, rest)?;
-    let (start, rest) = i64_within(rest, 0, LATEST_TIME)?;
-    let (skew, rest) = i64_within(rest, 0, LONGEST_SPAN)?;
-    let (lateness, rest) = i64_within(rest, 0, LONGEST_SPAN)?;
-    let (records, rest) = i64_within(rest, 1, LONGEST_SPAN)?;
+    let (clock, rest) = clock_of(rest)?;
     let (shape, rest) = shape_of(rest)?;
     let (mode, rest) = mode_of(rest)?;
-    let (early, rest) = i64_within(rest, 0, LONGEST_SPAN)?;
-    let (late, rest) = i64_within(rest, 0, LONGEST_SPAN)?;
+    let ((early, late), rest) = triggers_of(rest)?;
     let (form, rest) = form_of(rest, mode)?;
     let (kinds, rest) = kinds_of(alloc, rest)?;
     let (columns, rest) = columns_of(alloc, &schema, rest)?;
     let (budget, rest) = budget_of(rest)?;
     let header = Header {
         schema,
-        clock: Clock {
-            start,
-            skew,
-            lateness,
-            records,
-        },
+        clock,
         shape,
         mode,
         early,

@@ -1,14 +1,31 @@
 //! The parts of a header behind its schema.
 
 ghost use Rattle.std.specs.Prelude.{◌≡◌};
-ghost use Rattle.wsm_bytecode.specs.Reading.{Gives, shape_at, mode_at, form_at, kind_at, kinds_at, several, budget_at};
+ghost use Rattle.wsm_bytecode.specs.Reading.{Gives, clock_at, shape_at, mode_at, triggers_at, form_at, kind_at, kinds_at, several, budget_at};
 
-use crate::limits::{LONGEST_SPAN, MAX_ACCUMULATORS, MAX_HELD, MAX_STATED};
+use crate::limits::{LATEST_TIME, LONGEST_SPAN, MAX_ACCUMULATORS, MAX_HELD, MAX_STATED};
 use crate::reading::numbers::{byte_of, byte_within, i64_within, u64_within};
 use std::alloc::Global;
-use wsm_program::{Costs, DecodeRefusal};
+use wsm_program::{Clock, Costs, DecodeRefusal};
 use wsm_record::{Form, Kind, Mode};
 use wsm_windows::Shape;
+
+#[tactic(auto, unfolding(crate::specs::Reading::clock_at))]
+pub(crate) fn clock_of(bytes: &[u8]) -> Result<(Clock, &[u8]), DecodeRefusal>
+    ensures { Gives (λ x. (x.0, x.1.now)) result (clock_at bytes.now) }
+{
+    let (start, rest) = i64_within(bytes, 0, LATEST_TIME)?;
+    let (skew, rest) = i64_within(rest, 0, LONGEST_SPAN)?;
+    let (lateness, rest) = i64_within(rest, 0, LONGEST_SPAN)?;
+    let (records, rest) = i64_within(rest, 1, LONGEST_SPAN)?;
+    let clock = Clock {
+        start,
+        skew,
+        lateness,
+        records,
+    };
+    Ok((clock, rest))
+}
 
 #[tactic(auto, unfolding(crate::specs::Reading::shape_at, crate::specs::Reading::fixed_at, crate::specs::Reading::sliding_at, crate::specs::Reading::session_at))]
 pub(crate) fn shape_of(bytes: &[u8]) -> Result<(Shape, &[u8]), DecodeRefusal>
@@ -35,6 +52,16 @@ pub(crate) fn mode_of(bytes: &[u8]) -> Result<(Mode, &[u8]), DecodeRefusal>
         0 => Ok((Mode::Discarding, rest)),
         _ => Ok((Mode::Accumulating, rest)),
     }
+}
+
+/// The intervals of EARLY and of LATE, 0 for none.
+#[tactic(auto, unfolding(crate::specs::Reading::triggers_at))]
+pub(crate) fn triggers_of(bytes: &[u8]) -> Result<((i64, i64), &[u8]), DecodeRefusal>
+    ensures { Gives (λ x. (x.0, x.1.now)) result (triggers_at bytes.now) }
+{
+    let (early, rest) = i64_within(bytes, 0, LONGEST_SPAN)?;
+    let (late, rest) = i64_within(rest, 0, LONGEST_SPAN)?;
+    Ok(((early, late), rest))
 }
 
 /// A stream of changes is a form of accumulating programs alone.
