@@ -115,11 +115,16 @@ fn opened(alloc: Global, bytes: &[u8]) -> Option<Engine> {
 // where they don't answer alike, or the engine counts otherwise.
 fn run_by_both(alloc: Global, bytes: &[u8], rows: &[u8]) -> Option<u32> {
     let verified = verified(alloc, bytes)?;
-    let mut engine = opened(alloc, bytes)?;
-    runs_of(alloc, &verified, &mut engine, rows)
+    run_beside(alloc, &verified, bytes, rows)
 }
 
-// The same of a program and an engine of it.
+// The same of the program that the bytes are.
+fn run_beside(alloc: Global, verified: &Verified, bytes: &[u8], rows: &[u8]) -> Option<u32> {
+    let mut engine = opened(alloc, bytes)?;
+    runs_of(alloc, verified, &mut engine, rows)
+}
+
+// The same with an engine of it.
 fn runs_of(alloc: Global, verified: &Verified, engine: &mut Engine, rows: &[u8]) -> Option<u32> {
     let mut sides = Sides::open(alloc, verified);
     if sides.answer(engine, rows) {
@@ -191,10 +196,15 @@ fn beginnings_of_other_programs(rt: HostRuntime) -> Result<(), Fail> {
     Ok(())
 }
 
+// Undamaged, the program writes so much for the rows.
+fn writes<R: Abort + AllocGlobal>(rt: &R, program: &[u8], rows: &[u8], want: &[u8]) {
+    let (text, end) = program_ran(rt.alloc(), program, rows);
+    assert_eq!(rt; text.as_slice(), want, "{end:?}");
+}
+
 #[test]
 fn changes_of_the_base_program(rt: HostRuntime) -> Result<(), Fail> {
-    let (text, _) = program_ran(rt.alloc(), BASE_PROGRAM, BASE_ROWS);
-    assert_eq!(rt; text.as_slice(), BASE_TEXT);
+    writes(&rt, BASE_PROGRAM, BASE_ROWS, BASE_TEXT);
     // Two records are kept, each with a run of each section.
     let runs = run_by_both(rt.alloc(), BASE_PROGRAM, BASE_ROWS);
     assert_eq!(rt; runs, Some(6));
@@ -213,8 +223,7 @@ fn changes_of_the_base_program(rt: HostRuntime) -> Result<(), Fail> {
 #[test]
 fn changes_of_a_program_of_sessions(rt: HostRuntime) -> Result<(), Fail> {
     let program = compile_text(rt.alloc(), SESSIONS)?;
-    let (text, end) = program_ran(rt.alloc(), &program, SESSION_ROWS);
-    assert_eq!(rt; text.as_slice(), SESSION_TEXT, "{end:?}");
+    writes(&rt, &program, SESSION_ROWS, SESSION_TEXT);
     // Of seven records with values in their intervals six are kept.
     let runs = run_by_both(rt.alloc(), &program, SESSION_ROWS);
     assert_eq!(rt; runs, Some(19));
@@ -233,8 +242,7 @@ fn changes_of_a_program_of_sessions(rt: HostRuntime) -> Result<(), Fail> {
 #[test]
 fn changes_of_a_program_of_a_stream(rt: HostRuntime) -> Result<(), Fail> {
     let program = compile_text(rt.alloc(), STREAM)?;
-    let (text, end) = program_ran(rt.alloc(), &program, STREAM_ROWS);
-    assert_eq!(rt; text.as_slice(), STREAM_TEXT, "{end:?}");
+    writes(&rt, &program, STREAM_ROWS, STREAM_TEXT);
     // Five records are kept.
     let runs = run_by_both(rt.alloc(), &program, STREAM_ROWS);
     assert_eq!(rt; runs, Some(15));

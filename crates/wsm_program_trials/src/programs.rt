@@ -38,17 +38,32 @@ enum Taken {
     Wrong,
 }
 
+fn name(text: &[u8]) -> Result<Name, Fail> {
+    Ok(Name::new(text).ok_or("no name")?)
+}
+
+// Keys a and b.
+fn keys(alloc: Global) -> Result<Vec<Name>, Fail> {
+    Ok(vec![in alloc; name(b"a")?, name(b"b")?]?)
+}
+
+// A number n of 0 to 100.
+fn fields(alloc: Global) -> Result<Vec<Field>, Fail> {
+    let name = name(b"n")?;
+    let ty = Ty::Int { lo: 0, hi: 100 };
+    Ok(vec![in alloc; Field { name, ty }]?)
+}
+
+fn schema(alloc: Global) -> Result<Schema, Fail> {
+    let keys = keys(alloc)?;
+    let fields = fields(alloc)?;
+    Ok(Schema::new(alloc, &keys, &fields)?)
+}
+
 // The header of the base program, which states a budget.
 fn header(alloc: Global, budget: Costs) -> Result<Header, Fail> {
-    let mut keys = Vec::new(alloc);
-    keys.push(Name::new(b"a").ok_or("a name")?)?;
-    keys.push(Name::new(b"b").ok_or("a name")?)?;
-    let name = Name::new(b"n").ok_or("a name")?;
-    let ty = Ty::Int { lo: 0, hi: 100 };
-    let mut fields = Vec::new(alloc);
-    fields.push(Field { name, ty })?;
     Ok(Header {
-        schema: Schema::new(alloc, &keys, &fields)?,
+        schema: schema(alloc)?,
         clock: Clock {
             start: 0,
             skew: 100,
@@ -66,17 +81,19 @@ fn header(alloc: Global, budget: Costs) -> Result<Header, Fail> {
     })
 }
 
-// The bytes of a program of sections, unless an operand names nothing.
+// A program of sections, unless an operand names nothing.
+fn program_of(alloc: Global, sections: &Sections, budget: Costs) -> Result<Option<Program>, Fail> {
+    let selection = sections.selection.to_vec(alloc)?;
+    let update = sections.update.to_vec(alloc)?;
+    let fire = sections.fire.to_vec(alloc)?;
+    Ok(Program::new(header(alloc, budget)?, selection, update, fire).ok())
+}
+
+// Its bytes.
 fn bytes_of(alloc: Global, sections: &Sections, budget: Costs) -> Result<Option<Vec<u8>>, Fail> {
-    let made = Program::new(
-        header(alloc, budget)?,
-        sections.selection.to_vec(alloc)?,
-        sections.update.to_vec(alloc)?,
-        sections.fire.to_vec(alloc)?,
-    );
-    match made {
-        Ok(program) => Ok(Some(encode(alloc, &program)?)),
-        Err(_) => Ok(None),
+    match program_of(alloc, sections, budget)? {
+        Some(program) => Ok(Some(encode(alloc, &program)?)),
+        None => Ok(None),
     }
 }
 
@@ -160,11 +177,16 @@ fn opened(alloc: Global, bytes: &[u8]) -> Option<Engine> {
 // where they don't.
 fn runs_within(alloc: Global, bytes: &[u8], costs: Costs) -> Option<u32> {
     let verified = verified(alloc, bytes).ok()?;
-    let mut engine = opened(alloc, bytes)?;
-    runs_of(alloc, &verified, &mut engine, costs)
+    runs_beside(alloc, &verified, bytes, costs)
 }
 
-// The same of a program and an engine of it.
+// The same of the program that the bytes are.
+fn runs_beside(alloc: Global, verified: &Verified, bytes: &[u8], costs: Costs) -> Option<u32> {
+    let mut engine = opened(alloc, bytes)?;
+    runs_of(alloc, verified, &mut engine, costs)
+}
+
+// The same with an engine of it.
 fn runs_of(alloc: Global, verified: &Verified, engine: &mut Engine, costs: Costs) -> Option<u32> {
     let range = verified.range(0)?;
     let mut sides = Sides::open(alloc, verified);

@@ -109,26 +109,32 @@ impl<'a> Sides<'a> {
             let Ok(event) = read_row(self.alloc, &header.schema, rows.row()) else {
                 continue;
             };
-            let reply = engine.feed(&event);
-            let Event::Record {
-                key: Some(key),
-                time,
-                values,
-            } = event
-            else {
-                continue;
-            };
-            if !header.schema.fits(&values) || pane.count >= header.clock.records {
-                continue;
-            }
-            let Some(cost) = self.answer_record(key, &values, &mut pane) else {
-                return false;
-            };
-            if reply.refusal.is_none() && !cost.comes_to(header, time, reply.record_steps) {
+            if !self.answer_event(engine, &event, &mut pane) {
                 return false;
             }
         }
         false
+    }
+
+    // The same of one row's event.
+    fn answer_event(&mut self, engine: &mut Engine, event: &Event, pane: &mut Pane) -> bool {
+        let header = self.verified.program().header();
+        let reply = engine.feed(event);
+        let Event::Record {
+            key: Some(key),
+            time,
+            values,
+        } = event
+        else {
+            return true;
+        };
+        if !header.schema.fits(values) || pane.count >= header.clock.records {
+            return true;
+        }
+        let Some(cost) = self.answer_record(*key, values, pane) else {
+            return false;
+        };
+        reply.refusal.is_some() || cost.comes_to(header, *time, reply.record_steps)
     }
 
     // What WHERE and UPDATE cost for a record.

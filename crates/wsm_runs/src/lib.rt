@@ -4,14 +4,11 @@
 //! - `runs`: rows through queries of each shape, mode and form, by their texts and by their programs
 //! - `judging`: what is said of programs
 //! - `devices`: what has been written where a device fails, or a row is read
-//! - `ends`: the line and the status of each end
-//! - `words`: the words of a command, and what refuses them
+//! - `words`: the words of a command
 #![tactic(auto)]
 
 #[cfg(test)]
 mod devices;
-#[cfg(test)]
-mod ends;
 #[cfg(test)]
 mod judging;
 #[cfg(test)]

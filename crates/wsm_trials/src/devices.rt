@@ -51,15 +51,26 @@ fn read_until(alloc: Global, len: usize, most: usize) -> (Vec<u8>, Option<End>) 
     (text, end.err())
 }
 
+// The text is that of the turns of a beginning of the rows.
+fn are_turns<R: Abort + AllocGlobal>(
+    rt: &R,
+    len: usize,
+    most: usize,
+    text: &[u8],
+) -> Result<(), Fail> {
+    assert!(rt; STREAM_TEXT.starts_with(text));
+    let turns = turns_of(rt.alloc(), STREAM_ROWS.get(..len).unwrap_or(STREAM_ROWS))?;
+    assert_eq!(rt; text, turns.as_slice(), "{len} bytes by {most}");
+    Ok(())
+}
+
 #[test]
 fn each_read_fails(rt: HostRuntime) -> Result<(), Fail> {
     for most in [1, 2, 3, 7, 64, 1_000] {
         for len in 0..=STREAM_ROWS.len() {
             let (text, end) = read_until(rt.alloc(), len, most);
             assert_eq!(rt; end, Some(End::ReadFailed), "{len} bytes by {most}");
-            let turns = turns_of(rt.alloc(), &STREAM_ROWS[..len])?;
-            assert_eq!(rt; text, turns, "{len} bytes by {most}");
-            assert!(rt; STREAM_TEXT.starts_with(&text));
+            are_turns(&rt, len, most, &text)?;
         }
     }
     Ok(())
@@ -137,6 +148,13 @@ fn written_by_calls(
     written(alloc, writer)
 }
 
+// So much was taken where a write failed.
+fn is_beginning(rt: &impl Abort, text: &[u8], end: Option<End>, calls: usize, most: usize) {
+    assert_eq!(rt; end, Some(End::WriteFailed), "{calls} calls of {most}");
+    assert!(rt; STREAM_TEXT.starts_with(text), "{calls} calls of {most}");
+    assert!(rt; calls <= text.len(), "{calls} calls of {most}");
+}
+
 // Each write of a number of bytes fails in turn, until all that is written was taken. Answers how
 // many writes failed.
 fn writes_fail<R: Abort + AllocGlobal>(rt: &R, most: usize, takes_nothing: bool) -> usize {
@@ -146,9 +164,7 @@ fn writes_fail<R: Abort + AllocGlobal>(rt: &R, most: usize, takes_nothing: bool)
             assert_eq!(rt; text.as_slice(), STREAM_TEXT, "{calls} calls of {most}");
             return calls;
         }
-        assert_eq!(rt; end, Some(End::WriteFailed), "{calls} calls of {most}");
-        assert!(rt; STREAM_TEXT.starts_with(&text), "{calls} calls of {most}");
-        assert!(rt; calls <= text.len(), "{calls} calls of {most}");
+        is_beginning(rt, &text, end, calls, most);
     }
     STREAM_TEXT.len()
 }

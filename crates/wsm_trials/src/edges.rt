@@ -226,10 +226,15 @@ const NAMES: [(&str, &str); 2] = [
 ];
 
 #[test]
-fn numbers_and_names(rt: HostRuntime) -> Result<(), Fail> {
+fn numbers(rt: HostRuntime) -> Result<(), Fail> {
     for &(fields, want) in &NUMBERS {
         expect(&rt, &Clauses { fields, ..BASE }, want)?;
     }
+    Ok(())
+}
+
+#[test]
+fn lengths_of_names(rt: HostRuntime) -> Result<(), Fail> {
     for &(keys, want) in &NAMES {
         expect(&rt, &Clauses { keys, ..BASE }, want)?;
     }
@@ -249,50 +254,59 @@ fn times(alloc: Global, text: &str, count: usize) -> Result<String, Fail> {
 fn names(alloc: Global, count: usize) -> Result<String, Fail> {
     let mut all = String::from_str(alloc, "n0")?;
     for number in 1..count {
-        let more = format!(in alloc; ", n{number}")?;
-        all.push_str(more.as_str())?;
+        write!(all, ", n{number}")?;
     }
     Ok(all)
 }
 
-// So many fields, from n0 on.
+// So many fields, from n on.
 fn fields(alloc: Global, count: usize) -> Result<String, Fail> {
     let mut all = String::from_str(alloc, "FIELD n BOOL; ")?;
     for number in 1..count {
-        let more = format!(in alloc; "FIELD n{number} INT 0..1; ")?;
-        all.push_str(more.as_str())?;
+        write!(all, "FIELD n{number} INT 0..1; ")?;
     }
     Ok(all)
 }
 
+fn expect_keys<R: Abort + AllocGlobal>(rt: &R, count: usize, want: &str) -> Result<(), Fail> {
+    let keys = names(rt.alloc(), count)?;
+    let keys = keys.as_str();
+    expect(rt, &Clauses { keys, ..BASE }, want)
+}
+
 #[test]
-fn counts_of_names(rt: HostRuntime) -> Result<(), Fail> {
-    for (count, want) in [(1_000, FITS), (1_001, "C7 Limit in keys")] {
-        let keys = names(rt.alloc(), count)?;
-        let keys = keys.as_str();
-        expect(&rt, &Clauses { keys, ..BASE }, want)?;
-    }
-    for (count, want) in [(1_000, FITS), (1_001, "C7 Limit in field 2")] {
-        let names = names(rt.alloc(), count)?;
-        let fields = format!(in rt.alloc(); "FIELD n INT 0..1; FIELD e ENUM({names});")?;
-        let fields = fields.as_str();
-        expect(&rt, &Clauses { fields, ..BASE }, want)?;
-    }
-    for (count, want) in [(16, FITS), (17, "C7 Limit in field 17")] {
-        let fields = fields(rt.alloc(), count)?;
-        let fields = fields.as_str();
-        let columns = "ANY(n)";
-        expect(
-            &rt,
-            &Clauses {
-                fields,
-                columns,
-                ..BASE
-            },
-            want,
-        )?;
-    }
-    Ok(())
+fn numbers_of_keys(rt: HostRuntime) -> Result<(), Fail> {
+    expect_keys(&rt, 1_000, FITS)?;
+    expect_keys(&rt, 1_001, "C7 Limit in keys")
+}
+
+fn expect_enum<R: Abort + AllocGlobal>(rt: &R, count: usize, want: &str) -> Result<(), Fail> {
+    let names = names(rt.alloc(), count)?;
+    let fields = format!(in rt.alloc(); "FIELD n INT 0..1; FIELD e ENUM({names});")?;
+    let fields = fields.as_str();
+    expect(rt, &Clauses { fields, ..BASE }, want)
+}
+
+#[test]
+fn numbers_of_names(rt: HostRuntime) -> Result<(), Fail> {
+    expect_enum(&rt, 1_000, FITS)?;
+    expect_enum(&rt, 1_001, "C7 Limit in field 2")
+}
+
+fn expect_fields<R: Abort + AllocGlobal>(rt: &R, count: usize, want: &str) -> Result<(), Fail> {
+    let fields = fields(rt.alloc(), count)?;
+    let clauses = Clauses {
+        fields: fields.as_str(),
+        columns: "ANY(n)",
+        ..BASE
+    };
+    expect(rt, &clauses, want)
+}
+
+#[test]
+fn numbers_of_fields(rt: HostRuntime) -> Result<(), Fail> {
+    expect_fields(&rt, 16, FITS)?;
+    expect_fields(&rt, 17, "C7 Limit in field 17")
 }
 
 fn counts(alloc: Global, more: usize) -> Result<String, Fail> {
@@ -392,34 +406,55 @@ fn chains(rt: HostRuntime) -> Result<(), Fail> {
     all_nested(&rt, &CHAINS)
 }
 
-// The update folds seven sums of 129 instructions, and one of 88 or 89: with its folds and its return
-// it has 1,000 instructions, or one more.
-#[test]
-fn instructions_of_a_section(rt: HostRuntime) -> Result<(), Fail> {
-    let long = times(rt.alloc(), " + n", 64)?;
-    let long = format!(in rt.alloc(); "SUM(n{long}), ")?;
-    let longs = times(rt.alloc(), long.as_str(), 7)?;
-    for (first, more, want) in [("-n", 43, FITS), ("n", 44, "C7 Limit in code")] {
-        let more = times(rt.alloc(), " + n", more)?;
-        let columns = format!(in rt.alloc(); "{longs}SUM({first}{more})")?;
-        let columns = columns.as_str();
-        expect(&rt, &Clauses { columns, ..BASE }, want)?;
-    }
-    Ok(())
+// Seven sums, each of 129 instructions with its fold.
+fn long_sums(alloc: Global) -> Result<String, Fail> {
+    let more = times(alloc, " + n", 64)?;
+    let sum = format!(in alloc; "SUM(n{more}), ")?;
+    times(alloc, sum.as_str(), 7)
 }
 
-// Behind as many columns, a column that needs 24 places of the stack.
+// Behind them a sum of a number and of so many more.
+fn expect_sums<R: Abort + AllocGlobal>(
+    rt: &R,
+    first: &str,
+    more: usize,
+    want: &str,
+) -> Result<(), Fail> {
+    let long = long_sums(rt.alloc())?;
+    let more = times(rt.alloc(), " + n", more)?;
+    let columns = format!(in rt.alloc(); "{long}SUM({first}{more})")?;
+    let columns = columns.as_str();
+    expect(rt, &Clauses { columns, ..BASE }, want)
+}
+
+// The last sum has 88 instructions, or 89: with all folds and its return the update has 1,000, or one
+// more.
+#[test]
+fn instructions_of_a_section(rt: HostRuntime) -> Result<(), Fail> {
+    expect_sums(&rt, "-n", 43, FITS)?;
+    expect_sums(&rt, "n", 44, "C7 Limit in code")
+}
+
+// A column that needs 24 places of the stack.
+fn deep_column(alloc: Global) -> Result<String, Fail> {
+    let open = times(alloc, "7 + (", 23)?;
+    let close = times(alloc, ")", 23)?;
+    Ok(format!(in alloc; "{open}7{close}")?)
+}
+
+// Behind so many columns.
+fn expect_deep<R: Abort + AllocGlobal>(rt: &R, before: usize, want: &str) -> Result<(), Fail> {
+    let before = times(rt.alloc(), "COUNT(*), ", before)?;
+    let deep = deep_column(rt.alloc())?;
+    let columns = format!(in rt.alloc(); "{before}{deep}")?;
+    let columns = columns.as_str();
+    expect(rt, &Clauses { columns, ..BASE }, want)
+}
+
 #[test]
 fn places_of_the_stack(rt: HostRuntime) -> Result<(), Fail> {
-    let open = times(rt.alloc(), "7 + (", 23)?;
-    let close = times(rt.alloc(), ")", 23)?;
-    for (before, want) in [(8, FITS), (9, "C7 Limit in code")] {
-        let before = times(rt.alloc(), "COUNT(*), ", before)?;
-        let columns = format!(in rt.alloc(); "{before}{open}7{close}")?;
-        let columns = columns.as_str();
-        expect(&rt, &Clauses { columns, ..BASE }, want)?;
-    }
-    Ok(())
+    expect_deep(&rt, 8, FITS)?;
+    expect_deep(&rt, 9, "C7 Limit in code")
 }
 
 fn expect_run<R: Abort + AllocGlobal>(
@@ -480,21 +515,24 @@ end,19,4,1,12,3\n",
     )
 }
 
+// A record of each of a thousand keys, and one of a key more.
+fn rows_of_keys(alloc: Global) -> Result<String, Fail> {
+    let mut rows = String::new(alloc);
+    for number in 0..1_001 {
+        write!(rows, "r,n{number},5,1\n")?;
+    }
+    Ok(rows)
+}
+
 // The panes that the greatest number of keys can hold at once.
 #[test]
 fn a_record_of_each_of_a_thousand_keys(rt: HostRuntime) -> Result<(), Fail> {
     let keys = names(rt.alloc(), 1_000)?;
-    let mut rows = String::new(rt.alloc());
-    for number in 0..1_000 {
-        let row = format!(in rt.alloc(); "r,n{number},5,1\n")?;
-        rows.push_str(row.as_str())?;
-    }
-    rows.push_str("r,n1000,5,1\n")?;
-    let keys = keys.as_str();
-    expect_run(
-        &rt,
-        &Clauses { keys, ..BASE },
-        rows.as_bytes(),
-        b"refused,1001,UnknownKey\nend,1001,1000,0,1,0\n",
-    )
+    let rows = rows_of_keys(rt.alloc())?;
+    let clauses = Clauses {
+        keys: keys.as_str(),
+        ..BASE
+    };
+    let want = b"refused,1001,UnknownKey\nend,1001,1000,0,1,0\n";
+    expect_run(&rt, &clauses, rows.as_bytes(), want)
 }

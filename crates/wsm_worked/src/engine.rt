@@ -88,12 +88,6 @@ fn pane_of_records(
     Ok(())
 }
 
-#[test]
-fn records_and_panes_take_steps(rt: HostRuntime) -> Result<(), Fail> {
-    let mut engine = opened(rt.alloc(), &[(LATENESS, 0)])?;
-    pane_of_records(&rt, rt.alloc(), &mut engine, &[(5, 5), (59, 5)], 60)
-}
-
 // The third record joins the sessions of the others, at a step for the sum.
 #[test]
 fn joined_sessions_take_a_step_more(rt: HostRuntime) -> Result<(), Fail> {

@@ -1,10 +1,7 @@
 //! What the examples start from.
 
-use std::alloc::Global;
 use std::test::Fail;
-use wsm_bytecode::{CellType, Clock, Costs, Header};
-use wsm_record::{Field, Form, Kind, Mode, Name, Schema, Ty};
-use wsm_windows::Shape;
+use wsm_record::Name;
 
 /// The base program of the format: keys a and b, a number n of 0 to 100, windows of 60 with a lateness
 /// of 10, and of each firing how many records there are and the sum of their n. The lines are its magic
@@ -28,37 +25,4 @@ pub const SECTIONS: usize = 119;
 /// A name, where the text is one.
 pub fn name(text: &[u8]) -> Result<Name, Fail> {
     Ok(Name::new(text).ok_or("no name")?)
-}
-
-/// The header of the base program.
-pub fn base_header(alloc: Global) -> Result<Header, Fail> {
-    let keys = vec![in alloc; name(b"a")?, name(b"b")?]?;
-    let ty = Ty::Int { lo: 0, hi: 100 };
-    let fields = vec![in alloc;
-        Field {
-            name: name(b"n")?,
-            ty
-        },
-    ]?;
-    Ok(Header {
-        schema: Schema::new(alloc, &keys, &fields)?,
-        clock: Clock {
-            start: 0,
-            skew: 100,
-            lateness: 10,
-            records: 1000,
-        },
-        shape: Shape::Fixed(60),
-        mode: Mode::Accumulating,
-        early: 0,
-        late: 0,
-        form: Form::Panes,
-        kinds: Vec::from_slice(alloc, &[Kind::Sum])?,
-        columns: Vec::from_slice(alloc, &[CellType::Int, CellType::Int])?,
-        budget: Costs {
-            per_record: 5,
-            per_pane: 4,
-            held: 6,
-        },
-    })
 }

@@ -1,31 +1,19 @@
-//! Examples of what no clause of the libraries says: that they answer where memory is ample, what
-//! their texts look like, and how they meet devices. Each answer was worked out by hand or stands in
-//! the format. There are tests alone, in one crate, since the tests of a crate prove it once more.
+//! Examples of what no clause of the libraries says: that they answer where memory is ample, and what
+//! their texts look like. Each answer was worked out by hand or stands in the format. There are tests
+//! alone, in one crate, since the tests of a crate prove it once more.
 //!
 //! - `given`: what the examples start from
-//! - `windows`: windows and sessions of times, and when a pane fires
-//! - `queries`, `checking`, `compiling`: queries as they are printed, what is kept of a checked one, and
-//!   its program
-//! - `bytes`, `refusals`: programs and their bytes, and the names of what refuses them
-//! - `verifying`: programs that are accepted, and such that state too little
+//! - `queries`, `compiling`: queries as they are printed, and what is evaluated of a compiled one
+//! - `refusals`: the names of what refuses a schema
 //! - `machine`: accepted sections on words
 //! - `engine`: what records and watermarks cost, and what is held
-//! - `rows`, `events`, `lines`, `devices`: rows read, the events that they are, what is written, and
-//!   what takes it
+//! - `rows`, `lines`: rows read, and what is written
 #![tactic(auto)]
 
 #[cfg(test)]
-mod bytes;
-#[cfg(test)]
-mod checking;
-#[cfg(test)]
 mod compiling;
 #[cfg(test)]
-mod devices;
-#[cfg(test)]
 mod engine;
-#[cfg(test)]
-mod events;
 #[cfg(test)]
 mod given;
 #[cfg(test)]
@@ -38,7 +26,3 @@ mod queries;
 mod refusals;
 #[cfg(test)]
 mod rows;
-#[cfg(test)]
-mod verifying;
-#[cfg(test)]
-mod windows;

@@ -1,25 +1,16 @@
-//! Lines of what is written.
+//! A line of what is written.
 
 use crate::given::name;
 use std::alloc::Global;
 use std::test::Fail;
-use wsm_admission::Refusal;
-use wsm_csv::{end_text, fault_text, refusal_text, row_text};
-use wsm_record::{Cell, Columns, Field, RowFault, Schema, Ty};
-use wsm_semantics::{OutRow, Totals};
-use wsm_windows::{PaneKind, Window};
+use wsm_csv::row_text;
+use wsm_record::{Cell, Columns, Schema};
+use wsm_semantics::OutRow;
 
-// Keys a and b; a colour c.
+// Keys a and b.
 fn shop(alloc: Global) -> Result<Schema, Fail> {
     let keys = vec![in alloc; name(b"a")?, name(b"b")?]?;
-    let colours = vec![in alloc; name(b"red")?, name(b"blue")?]?;
-    let fields = vec![in alloc;
-        Field {
-            name: name(b"c")?,
-            ty: Ty::Enum(colours)
-        },
-    ]?;
-    Ok(Schema::new(alloc, &keys, &fields)?)
+    Ok(Schema::new(alloc, &keys, &[])?)
 }
 
 fn columns_of(cells: &[Cell]) -> Columns {
@@ -30,32 +21,6 @@ fn columns_of(cells: &[Cell]) -> Columns {
         }
     }
     columns
-}
-
-#[test]
-fn lines_follow_one_another(rt: HostRuntime) -> Result<(), Fail> {
-    let schema = shop(rt.alloc())?;
-    let mut out = Vec::new(rt.alloc());
-    let pane = OutRow::Pane {
-        kind: PaneKind::OnTime,
-        key: 0,
-        window: Window { start: 0, end: 60 },
-        columns: columns_of(&[Cell::Int(2), Cell::Int(10)]),
-    };
-    row_text(&schema, &pane, &mut out)?;
-    refusal_text(4, Refusal::UnknownKey, &mut out)?;
-    fault_text(1, RowFault::BadTag, &mut out)?;
-    let totals = Totals {
-        rows: 3,
-        admitted: 2,
-        late: 0,
-        refused: 0,
-        panes: 1,
-    };
-    end_text(totals, &mut out)?;
-    let want = b"pane,on_time,a,0,60,2,10\nrefused,4,UnknownKey\nrefused,1,BadTag\nend,3,2,0,0,1\n";
-    assert_eq!(rt; out.as_slice(), want.as_slice());
-    Ok(())
 }
 
 #[test]

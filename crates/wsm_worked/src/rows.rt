@@ -46,21 +46,6 @@ fn count<R: Read + Drop>(rows: &mut Rows<R>) -> Result<(usize, usize), ReadEnd> 
 const TEXT: &[u8] = b"r,a,5,7\nw,60\r\n\n\"r\",b,6";
 
 #[test]
-fn rows_are_read_one_by_one(rt: HostRuntime) {
-    let whole = OneByte {
-        text: TEXT,
-        calls: 0,
-        fails_at: None,
-    };
-    assert_eq!(rt; count(&mut Rows::new(rt.alloc(), whole)), Ok((3, 9)));
-    assert_eq!(rt; count(&mut Rows::new(rt.alloc(), TEXT)), Ok((3, 9)));
-    assert_eq!(rt;
-        count(&mut Rows::new(rt.alloc(), b"".as_slice())),
-        Ok((0, 0))
-    );
-}
-
-#[test]
 fn a_row_has_its_cells_as_they_stand(rt: HostRuntime) -> Result<(), Fail> {
     let mut rows = Rows::new(rt.alloc(), b" r,\"a,b\", 5\n".as_slice());
     assert_eq!(rt; rows.advance(), Ok(true));
