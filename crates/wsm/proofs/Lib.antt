@@ -4,3 +4,4 @@ pub mod Taking
 pub mod Texts
 pub mod SameText
 pub mod Beginning
+mod Plain

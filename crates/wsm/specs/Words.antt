@@ -39,8 +39,12 @@ explain_app = with_rule (new_app (codes "explain")) (file_rule (codes "program")
 abbrev pub required_app : App
 required_app = let a = new_app (codes "wsm") in record a { top = record a.top { subcommand_required = true } }
 
+-- with the subcommands that take a query
+abbrev pub query_app : App
+query_app = with_subcommand (with_subcommand required_app run_app.top) compile_app.top
+
 abbrev pub the_app : App
-the_app = with_subcommand (with_subcommand (with_subcommand (with_subcommand required_app run_app.top) compile_app.top) verify_app.top) explain_app.top
+the_app = with_subcommand (with_subcommand query_app verify_app.top) explain_app.top
 
 -- what a flag's text says: one of these, or there is none
 abbrev pub SaysFlag : Option Text → Bool → Type 0

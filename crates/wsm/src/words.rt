@@ -2,7 +2,7 @@
 
 ghost use Rattle.std.specs.Prelude.{◌≡◌, true, false, IfOk, IfErr, codes, map, option_map, string_bytes};
 ghost use Rattle.clap.specs.Words.{app_of, found_of, first_of, rows_of, rule_of, subcommand_of, subcommand_rows_of, takes};
-ghost use Rattle.wsm.specs.Words.{the_app, required_app, run_app, compile_app, verify_app, explain_app, file_rule, program_flag, IsJob, IsJobOf, IsMemory, Names};
+ghost use Rattle.wsm.specs.Words.{the_app, query_app, required_app, run_app, compile_app, verify_app, explain_app, file_rule, program_flag, IsJob, IsJobOf, IsMemory, Names};
 
 use crate::help;
 use clap::error::ErrorKind;
@@ -90,11 +90,19 @@ pub fn command_of(alloc: Global, words: &[&str]) -> Result<Job, WordsRefusal>
 fn wsm_command<'a>(alloc: Global) -> Result<Command<'a>, AllocError>
     ensures { IfOk result (λ c. app_of c ≡ the_app) }
 {
-    let wsm = required_command(alloc)?
-        .subcommand(run_command(alloc)?)?
-        .subcommand(compile_command(alloc)?)?
+    let wsm = query_command(alloc)?
         .subcommand(verify_command(alloc)?)?
         .subcommand(explain_command(alloc)?)?;
+    Ok(wsm)
+}
+
+// The program's command, with the subcommands that take a query.
+fn query_command<'a>(alloc: Global) -> Result<Command<'a>, AllocError>
+    ensures { IfOk result (λ c. app_of c ≡ query_app) }
+{
+    let wsm = required_command(alloc)?
+        .subcommand(run_command(alloc)?)?
+        .subcommand(compile_command(alloc)?)?;
     Ok(wsm)
 }
 
