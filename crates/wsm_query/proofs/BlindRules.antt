@@ -1,5 +1,5 @@
 -- Each rule of the grammar is blind to places.
-use Rattle.std.proofs.Common.{ℕ, zero, suc, true, false, [], ◌∷◌, neg_ℤ}
+use Rattle.std.proofs.Common.{ℕ, zero, suc, true, false, List, [], ◌∷◌, neg_ℤ}
 use Rattle.std.specs.Prelude.{Option, codes}
 use Rattle.wsm_record.specs.declared.words.Kind.{Kind}
 use Rattle.wsm_record.specs.declared.words.Mode.TheVariants.{Discarding, Accumulating}
@@ -9,9 +9,9 @@ use Rattle.wsm_tokens.specs.Read.{Rule, Stopped, give, and_then, behind, too_dee
 use Rattle.wsm_record.specs.Schema as field_types
 use Rattle.wsm_query.specs.Tree.{Name, Expr, Number, Truth, Field, EnumName, Key, KeyName, Count, Aggregate, If, Brackets, Minus, Not}
 use Rattle.wsm_record.specs.declared.limits.TheConstants.{MAX_CHAIN, MAX_LEVELS}
-use Rattle.wsm_query.specs.Grammar.{kinds, aggregate, count_of, choice, brackets, pointed, leaf, atom, unary, chain, chained, products, sums, comparisons, ands, ors, prod, sum, compared, cmp, neg, conj, expr_in, Deeper, deeper, levels, expr, int, names, type_of, field, budget, shape, mode, form, every}
+use Rattle.wsm_query.specs.Grammar.{clause, kinds, aggregate, count_of, choice, brackets, pointed, leaf, atom, unary, chain, chained, products, sums, comparisons, ands, ors, prod, sum, compared, cmp, neg, conj, expr_in, Deeper, deeper, levels, expr, int, names, type_of, field, budget, clock, selection, output, shape, mode, form, every}
 use Rattle.wsm_query.proofs.Chains.{Table}
-use Rattle.wsm_query.proofs.Blind.{Blind, BlindAt, BlindIn, give_blind, bind_blind, behind_blind, deep_blind, at_blind, either_blind, numbered_blind, listed_blind, one_of_blind, ask_blind, number_blind, name_blind, after_blind, until_blind, list_of_blind, opened_blind}
+use Rattle.wsm_query.proofs.Blind.{Blind, BlindAt, BlindIn, give_blind, bind_blind, behind_blind, deep_blind, at_blind, either_blind, numbered_blind, listed_blind, one_of_blind, ask_blind, number_blind, name_blind, after_blind, until_blind, optional_blind, list_of_blind, opened_blind}
 
 aggregate_blind : (d : Option Deeper) → BlindIn d → (kind : Kind) → Blind (aggregate d kind)
 unfolding aggregate
@@ -28,11 +28,9 @@ unfolding choice
 choice_blind d k =
     opened_blind d k (λ e h.
     bind_blind h.expr (λ c.
-    bind_blind (ask_blind (codes "THEN")) (λ _.
-    bind_blind h.expr (λ x.
-    bind_blind (ask_blind (codes "ELSE")) (λ _.
-    bind_blind h.expr (λ y.
-    bind_blind (ask_blind (codes "END")) (λ _. give_blind (If c x y))))))))
+    bind_blind (after_blind (codes "THEN") h.expr) (λ x.
+    bind_blind (after_blind (codes "ELSE") h.expr) (λ y.
+    bind_blind (ask_blind (codes "END")) (λ _. give_blind (If c x y))))))
 
 brackets_blind : (d : Option Deeper) → BlindIn d → Blind (brackets d)
 unfolding brackets
@@ -145,6 +143,36 @@ form_blind = one_of_blind ((codes "PANES", Panes) ∷ (codes "ISTREAM", Istream)
 pub every_blind : Blind every
 unfolding every
 every_blind = after_blind (codes "EVERY") number_blind
+
+pub clause_blind : {A : Type 0} {rule : Rule A} (s : List ℕ) → Blind rule → Blind (clause s rule)
+clause_blind s r = after_blind s (until_blind (codes ";") r)
+
+pub clock_blind : Blind clock
+unfolding clock
+clock_blind =
+    bind_blind (clause_blind (codes "START") number_blind) (λ start.
+    bind_blind (clause_blind (codes "SKEW") number_blind) (λ skew.
+    bind_blind (clause_blind (codes "LATENESS") number_blind) (λ lateness.
+    bind_blind (clause_blind (codes "RECORDS") number_blind) (λ records.
+    give_blind (record { start = start; skew = skew; lateness = lateness; records = records })))))
+
+pub selection_blind : Blind selection
+unfolding selection
+selection_blind =
+    bind_blind (after_blind (codes "SELECT") (list_of_blind expr_blind)) (λ columns.
+    bind_blind (optional_blind (codes "WHERE") expr_blind) (λ condition.
+    bind_blind (optional_blind (codes "HAVING") expr_blind) (λ having.
+    give_blind (record { columns = columns; condition = condition; having = having }))))
+
+pub output_blind : Blind output
+unfolding output
+output_blind =
+    bind_blind (after_blind (codes "WINDOW") shape_blind) (λ shape.
+    bind_blind mode_blind (λ mode.
+    bind_blind (optional_blind (codes "EARLY") every_blind) (λ early.
+    bind_blind (optional_blind (codes "LATE") every_blind) (λ late.
+    bind_blind (clause_blind (codes "EMIT") form_blind) (λ form.
+    give_blind (record { shape = shape; mode = mode; early = early; late = late; form = form }))))))
 
 pub int_blind : Blind int
 unfolding int

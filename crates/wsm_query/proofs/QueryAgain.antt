@@ -10,7 +10,7 @@ use Rattle.wsm_tokens.specs.Read.{Read, Rule, Took, Stopped, ◌>>=◌, give, an
 use Rattle.wsm_tokens.specs.Written.{bare, put}
 use Rattle.wsm_record.specs.Schema.{DeclaredField}
 use Rattle.wsm_query.specs.Tree.{Name, Query}
-use Rattle.wsm_query.specs.Grammar.{clause, until, brace, names, field, query}
+use Rattle.wsm_query.specs.Grammar.{clause, until, brace, clock, names, field, query}
 use Rattle.wsm_query.specs.Parse.{query_text}
 use Rattle.wsm_query.specs.Print.{name_tokens, clause_tokens, field_tokens, query_tokens}
 use Rattle.wsm_query.proofs.Blind.{bare_read}
@@ -36,18 +36,19 @@ proper_front [] k p = refl
 proper_front (u ∷ us) k p = let q = and_parts (is_proper u) (has_proper (put us k)) p in both_true q.0 (proper_front us k q.1)
 
 -- the first word of what was taken
-start_case : {A B : Type 0} (go : Unit {0} → Rule A) (last : A → Rule B) (x : B) (rest ts : Tokens) → Proper ts → (c : Bool) → begins (codes "START") ts ≡ c
-    → and_then (and_then (elim c [ true ↦ Took tt (behind ts) | false ↦ Stopped (unexpected ts) ]) go) last ≡ Took x rest → First (Word (codes "START")) ts
-start_case go last x rest ts p true h e = begun (codes "START") (Word (codes "START")) (word_says _ refl) ts p h
-start_case go last x rest ts p false h e = cc
+start_case : {A B C : Type 0} (go : Unit {0} → Rule A) (next : A → Rule B) (last : B → Rule C) (x : C) (rest ts : Tokens) → Proper ts → (c : Bool) → begins (codes "START") ts ≡ c
+    → and_then (and_then (and_then (elim c [ true ↦ Took tt (behind ts) | false ↦ Stopped (unexpected ts) ]) go) next) last ≡ Took x rest → First (Word (codes "START")) ts
+start_case go next last x rest ts p true h e = begun (codes "START") (Word (codes "START")) (word_says _ refl) ts p h
+start_case go next last x rest ts p false h e = cc
 
-starts : {A B : Type 0} (go : Unit {0} → Rule A) (last : A → Rule B) (x : B) (rest ts : Tokens) → Proper ts
-    → and_then (and_then (ask (codes "START") ts) go) last ≡ Took x rest → First (Word (codes "START")) ts
+starts : {A B C : Type 0} (go : Unit {0} → Rule A) (next : A → Rule B) (last : B → Rule C) (x : C) (rest ts : Tokens) → Proper ts
+    → and_then (and_then (and_then (ask (codes "START") ts) go) next) last ≡ Took x rest → First (Word (codes "START")) ts
 unfolding ask
-starts go last x rest ts p e = start_case go last x rest ts p (begins (codes "START") ts) refl e
+starts go next last x rest ts p e = start_case go next last x rest ts p (begins (codes "START") ts) refl e
 
 tail_starts : (keys : List Name) (fields : List DeclaredField) (ts : Tokens) → Proper ts → (q : Query) (rest : Tokens) → behind_fields keys fields ts ≡ Took q rest → First (Word (codes "START")) ts
-tail_starts keys fields ts p q rest e = starts (λ _. until (codes ";") number) _ q rest ts p e
+unfolding clock
+tail_starts keys fields ts p q rest e = starts (λ _. until (codes ";") number) _ _ q rest ts p e
 
 no_field : (k : Tokens) → begins (codes "FIELD") (Then (Word (codes "START")) 0 k) ≡ false
 unfolding begins

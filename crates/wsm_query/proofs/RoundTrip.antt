@@ -11,9 +11,9 @@ use Rattle.wsm_query.specs.Grammar.{query}
 use Rattle.wsm_query.specs.Parse.{query_text, outcome, parse}
 use Rattle.wsm_query.specs.Print.{query_tokens, print}
 use Rattle.wsm_query.proofs.Blind.{Blind, bare_read, give_blind, bind_blind, brace_blind, ended_blind}
-use Rattle.wsm_query.proofs.BlindRules.{names_blind, field_blind}
+use Rattle.wsm_query.proofs.BlindRules.{names_blind, clause_blind, field_blind}
 use Rattle.wsm_query.proofs.Spelt.{Proper}
-use Rattle.wsm_query.proofs.Tail.{clause_blind, tail_blind}
+use Rattle.wsm_query.proofs.Tail.{tail_blind}
 use Rattle.wsm_query.proofs.QueryAgain.{Whole, text_again}
 
 query_blind : Blind query

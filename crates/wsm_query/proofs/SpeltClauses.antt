@@ -5,17 +5,16 @@ use Rattle.std.specs.List.{flat_map}
 use Rattle.wsm_record.specs.declared.words.Mode.TheVariants.{Discarding, Accumulating}
 use Rattle.wsm_record.specs.declared.words.Form.TheVariants.{Panes, Istream, Dstream, Rstream}
 use Rattle.wsm_windows.specs.declared.window.Shape.TheVariants.{Fixed, Sliding, Session}
+use Rattle.wsm_admission.specs.declared.clock.Clock.{Clock}
 use Rattle.wsm_tokens.specs.declared.token.Sign.TheVariants as signs
 use Rattle.wsm_tokens.specs.Tokens.{Token, Word, Mark}
 use Rattle.wsm_tokens.specs.Read.{Rule, Took, count, behind}
-use Rattle.wsm_query.specs.Tree.{Budget}
-use Rattle.wsm_query.specs.Grammar.{one_of, after, clause, optional, turns, brace, list_of, expr, budget, shape, mode, form, every}
-use Rattle.wsm_query.specs.Print.{figures, with_commas, clause_tokens, budget_tokens, condition_tokens, shape_tokens, mode_word, every_tokens, form_word}
-use Rattle.wsm_query.proofs.Spelt.{Says, word_says, sign_says, Spelt, spelt, last_goes, step, done, behind_opens, lost_goes, either_goes, Entry, Entries, listed_goes}
-use Rattle.wsm_query.proofs.SpeltRules.{word_spelt, sign_spelt, number_spelt, expr_spelt}
-
-pub after_spelt : {A : Type 0} {rule : Rule A} {toks : A → List Token} (s : List ℕ) → Says s (Word s) → Spelt rule toks → Spelt (after s rule) (λ x. Word s ∷ toks x)
-after_spelt s k r = spelt (λ b. step (word_spelt s k) (λ _. last_goes r (λ x. refl)))
+use Rattle.wsm_query.specs.declared.reading.Written.{Written}
+use Rattle.wsm_query.specs.Tree.{Budget, Selection}
+use Rattle.wsm_query.specs.Grammar.{one_of, clause, optional, turns, brace, list_of, expr, budget, clock, selection, output, shape, mode, form, every}
+use Rattle.wsm_query.specs.Print.{figures, expr_tokens, with_commas, clause_tokens, budget_tokens, condition_tokens, shape_tokens, mode_word, every_tokens, form_word}
+use Rattle.wsm_query.proofs.Spelt.{Says, word_says, sign_says, Spelt, spelt, step, done, behind_opens, lost_goes, either_goes, Entry, Entries, listed_goes}
+use Rattle.wsm_query.proofs.SpeltRules.{word_spelt, sign_spelt, after_spelt, number_spelt, expr_spelt}
 
 pub clause_spelt : {A : Type 0} {rule : Rule A} {toks : A → List Token} (s : List ℕ) → Says s (Word s) → Spelt rule toks → Spelt (clause s rule) (λ x. clause_tokens s (toks x))
 clause_spelt s k r = spelt (λ b. step (word_spelt s k) (λ _. step r (λ x. step (sign_spelt signs.Semicolon) (λ _. done x refl))))
@@ -68,6 +67,24 @@ every_spelt = after_spelt (codes "EVERY") (word_says _ refl) number_spelt
 pub interval_spelt : (s : List ℕ) → Says s (Word s) → Spelt (optional s every) (every_tokens s)
 interval_spelt s k = optional_spelt s k (every_tokens s) refl (λ x. refl) every_spelt
 
+-- what a clock is printed as
+abbrev pub clock_tokens : Clock → List Token
+clock_tokens c =
+    clause_tokens (codes "START") (figures c.start)
+    ++ clause_tokens (codes "SKEW") (figures c.skew)
+    ++ clause_tokens (codes "LATENESS") (figures c.lateness)
+    ++ clause_tokens (codes "RECORDS") (figures c.records)
+
+pub clock_spelt : Spelt clock clock_tokens
+unfolding clock
+clock_spelt =
+    spelt (λ b.
+    step (clause_spelt (codes "START") (word_says _ refl) number_spelt) (λ start.
+    step (clause_spelt (codes "SKEW") (word_says _ refl) number_spelt) (λ skew.
+    step (clause_spelt (codes "LATENESS") (word_says _ refl) number_spelt) (λ lateness.
+    step (clause_spelt (codes "RECORDS") (word_says _ refl) number_spelt) (λ records.
+    done (record { start = start; skew = skew; lateness = lateness; records = records }) (simp append_assoc))))))
+
 pub shape_spelt : Spelt shape shape_tokens
 unfolding shape
 shape_spelt =
@@ -99,3 +116,34 @@ unfolding form
 form_spelt =
     one_of_spelt form_word ((codes "PANES", Panes) ∷ (codes "ISTREAM", Istream) ∷ (codes "DSTREAM", Dstream) ∷ (codes "RSTREAM", Rstream) ∷ [])
     (entry form_word Panes (word_says _ refl), (entry form_word Istream (word_says _ refl), (entry form_word Dstream (word_says _ refl), (entry form_word Rstream (word_says _ refl), tt))))
+
+-- what is selected, as it is printed
+abbrev pub selection_tokens : Selection → List Token
+selection_tokens s =
+    Word (codes "SELECT") ∷ with_commas (map expr_tokens s.columns) ++ condition_tokens (codes "WHERE") s.condition ++ condition_tokens (codes "HAVING") s.having
+
+pub selection_spelt : Spelt selection selection_tokens
+unfolding selection
+selection_spelt =
+    spelt (λ b.
+    step (after_spelt (codes "SELECT") (word_says _ refl) (list_of_spelt expr_spelt)) (λ columns.
+    step (condition_spelt (codes "WHERE") (word_says _ refl)) (λ condition.
+    step (condition_spelt (codes "HAVING") (word_says _ refl)) (λ having.
+    done (record { columns = columns; condition = condition; having = having }) refl))))
+
+-- what is written, as it is printed
+abbrev pub output_tokens : Written → List Token
+output_tokens o =
+    Word (codes "WINDOW") ∷ shape_tokens o.shape ++ Word (mode_word o.mode) ∷ every_tokens (codes "EARLY") o.early ++ every_tokens (codes "LATE") o.late
+    ++ clause_tokens (codes "EMIT") (Word (form_word o.form) ∷ [])
+
+pub output_spelt : Spelt output output_tokens
+unfolding output
+output_spelt =
+    spelt (λ b.
+    step (after_spelt (codes "WINDOW") (word_says _ refl) shape_spelt) (λ shape.
+    step mode_spelt (λ mode.
+    step (interval_spelt (codes "EARLY") (word_says _ refl)) (λ early.
+    step (interval_spelt (codes "LATE") (word_says _ refl)) (λ late.
+    step (clause_spelt (codes "EMIT") (word_says _ refl) form_spelt) (λ form.
+    done (record { shape = shape; mode = mode; early = early; late = late; form = form }) (simp append_assoc)))))))

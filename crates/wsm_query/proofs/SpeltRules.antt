@@ -14,10 +14,10 @@ use Rattle.wsm_tokens.specs.Read.{Rule, Took, Stopped, ◌>>=◌, give, and_then
 use Rattle.wsm_tokens.specs.Written.{bare}
 use Rattle.wsm_query.specs.Tree.{Name, Expr, Number, Truth, Field, EnumName, Key, KeyName, Count, Aggregate, If, Brackets, Minus, Not}
 use Rattle.wsm_record.specs.declared.limits.TheConstants.{MAX_CHAIN, MAX_LEVELS}
-use Rattle.wsm_query.specs.Grammar.{kinds, aggregate, count_of, choice, brackets, pointed, leaf, atom, unary, chain, chained, products, sums, comparisons, ands, ors, prod, sum, compared, cmp, neg, conj, expr_in, Deeper, opened, deeper, levels, expr}
+use Rattle.wsm_query.specs.Grammar.{after, kinds, aggregate, count_of, choice, brackets, pointed, leaf, atom, unary, chain, chained, products, sums, comparisons, ands, ors, prod, sum, compared, cmp, neg, conj, expr_in, Deeper, opened, deeper, levels, expr}
 use Rattle.wsm_query.specs.Print.{figures, kind_word, expr_tokens}
 use Rattle.wsm_query.proofs.Chains.{Table}
-use Rattle.wsm_query.proofs.Spelt.{Proper, Says, word_says, sign_says, differ, begun, Ends, Spelt, Goes, Opens, spelt, goes, step, done, moved, behind_opens, deep_opens, at_goes, either_goes, numbered_goes, Entry, Entries, listed_goes}
+use Rattle.wsm_query.proofs.Spelt.{Proper, Says, word_says, sign_says, differ, begun, Ends, Spelt, Goes, Opens, spelt, goes, last_goes, step, done, moved, behind_opens, deep_opens, at_goes, either_goes, numbered_goes, Entry, Entries, listed_goes}
 
 ask_ends : (s : List ℕ) (t : Token) → Says s t → (ts : Tokens) → Proper ts → (c : Bool) → begins s ts ≡ c
     → Ends (bare ts) (λ (u : Unit {0}). t ∷ []) (elim c [ true ↦ Took tt (behind ts) | false ↦ Stopped (unexpected ts) ])
@@ -33,6 +33,9 @@ word_spelt s k = ask_spelt s (Word s) k
 
 pub sign_spelt : (g : Sign) → Spelt (ask (sign_text g)) (λ _. Mark g ∷ [])
 sign_spelt g = ask_spelt (sign_text g) (Mark g) (sign_says g)
+
+pub after_spelt : {A : Type 0} {rule : Rule A} {toks : A → List Token} (s : List ℕ) → Says s (Word s) → Spelt rule toks → Spelt (after s rule) (λ x. Word s ∷ toks x)
+after_spelt s k r = spelt (λ b. step (word_spelt s k) (λ _. last_goes r (λ x. refl)))
 
 number_ends : (ts : Tokens) → Proper ts → Ends (bare ts) figures (number ts)
 unfolding number bare has_proper
@@ -98,11 +101,9 @@ unfolding choice
 choice_opens d k =
     opened_goes d k (λ e h.
     step h.expr (λ c.
-    step (word_spelt (codes "THEN") (word_says _ refl)) (λ _.
-    step h.expr (λ x.
-    step (word_spelt (codes "ELSE") (word_says _ refl)) (λ _.
-    step h.expr (λ y.
-    step (word_spelt (codes "END") (word_says _ refl)) (λ _. done (If c x y) (simp append_assoc))))))))
+    step (after_spelt (codes "THEN") (word_says _ refl) h.expr) (λ x.
+    step (after_spelt (codes "ELSE") (word_says _ refl) h.expr) (λ y.
+    step (word_spelt (codes "END") (word_says _ refl)) (λ _. done (If c x y) (simp append_assoc))))))
 
 brackets_opens : {b : Tokens} (d : Option Deeper) → SpeltIn d → Opens b (Mark signs.Open ∷ []) (brackets d) expr_tokens
 unfolding brackets

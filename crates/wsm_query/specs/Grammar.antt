@@ -8,14 +8,16 @@ use Rattle.wsm_record.specs.declared.words.Mode.TheVariants.{Discarding, Accumul
 use Rattle.wsm_record.specs.declared.words.Form.{Form}
 use Rattle.wsm_record.specs.declared.words.Form.TheVariants.{Panes, Istream, Dstream, Rstream}
 use Rattle.wsm_windows.specs.declared.window.Shape.{Shape}
+use Rattle.wsm_admission.specs.declared.clock.Clock.{Clock}
 use Rattle.wsm_windows.specs.declared.window.Shape.TheVariants.{Fixed, Sliding, Session}
 use Rattle.wsm_tokens.specs.Tokens.{Tokens}
 use Rattle.wsm_tokens.specs.Read.{Rule, Took, Stopped, ◌>>=◌, give, and_then, unexpected, too_deep, begins, begins_number, behind, count, ask, number, name}
 use Rattle.wsm_query.specs.declared.expr.Op.{Op}
+use Rattle.wsm_query.specs.declared.reading.Written.{Written}
 use Rattle.wsm_query.specs.declared.expr.Op.TheVariants.{Add, Sub, Mul, Div, Rem, Eq, Ne, Lt, Le, Gt, Ge}
 use Rattle.wsm_record.specs.Schema.{FieldType, DeclaredField}
 use Rattle.wsm_record.specs.Schema as field_types
-use Rattle.wsm_query.specs.Tree.{Name, Budget, Query, Expr, Number, Truth, Field, EnumName, Key, KeyName, Count, Aggregate, If, Brackets, Minus, Not, Binary, And, Or}
+use Rattle.wsm_query.specs.Tree.{Name, Budget, Query, Selection, Expr, Number, Truth, Field, EnumName, Key, KeyName, Count, Aggregate, If, Brackets, Minus, Not, Binary, And, Or}
 
 -- what stands beside the next token in a table of words and signs
 abbrev pub looked_up : {A : Type 0} → List (List ℕ × A) → Tokens → Option A
@@ -104,10 +106,8 @@ unfoldable pub choice : Option Deeper → Rule Expr
 choice d = do
   d ← opened d
   c ← d.expr
-  _ ← ask (codes "THEN")
-  x ← d.expr
-  _ ← ask (codes "ELSE")
-  y ← d.expr
+  x ← after (codes "THEN") d.expr
+  y ← after (codes "ELSE") d.expr
   _ ← ask (codes "END")
   give (If c x y)
 
@@ -280,37 +280,55 @@ form = one_of ((codes "PANES", Panes) ∷ (codes "ISTREAM", Istream) ∷ (codes 
 unfoldable pub every : Rule ℤ
 every = after (codes "EVERY") number
 
-unfoldable pub query : Rule Query
-query = do
-  keys ← clause (codes "KEYS") names
-  fields ← brace (codes "FIELD") field
+-- START to RECORDS
+unfoldable pub clock : Rule Clock
+clock = do
   start ← clause (codes "START") number
   skew ← clause (codes "SKEW") number
   lateness ← clause (codes "LATENESS") number
   records ← clause (codes "RECORDS") number
-  budget ← optional (codes "BUDGET") budget
+  give (record { start = start; skew = skew; lateness = lateness; records = records })
+
+-- SELECT to HAVING
+unfoldable pub selection : Rule Selection
+selection = do
   columns ← after (codes "SELECT") (list_of expr)
   condition ← optional (codes "WHERE") expr
   having ← optional (codes "HAVING") expr
+  give (record { columns = columns; condition = condition; having = having })
+
+-- WINDOW to EMIT
+unfoldable pub output : Rule Written
+output = do
   shape ← after (codes "WINDOW") shape
   mode ← mode
   early ← optional (codes "EARLY") every
   late ← optional (codes "LATE") every
   form ← clause (codes "EMIT") form
+  give (record { shape = shape; mode = mode; early = early; late = late; form = form })
+
+unfoldable pub query : Rule Query
+query = do
+  keys ← clause (codes "KEYS") names
+  fields ← brace (codes "FIELD") field
+  clock ← clock
+  budget ← optional (codes "BUDGET") budget
+  selection ← selection
+  output ← output
   give (record {
     keys = keys;
     fields = fields;
-    start = start;
-    skew = skew;
-    lateness = lateness;
-    records = records;
+    start = clock.start;
+    skew = clock.skew;
+    lateness = clock.lateness;
+    records = clock.records;
     budget = budget;
-    columns = columns;
-    condition = condition;
-    having = having;
-    shape = shape;
-    mode = mode;
-    early = early;
-    late = late;
-    form = form;
+    columns = selection.columns;
+    condition = selection.condition;
+    having = selection.having;
+    shape = output.shape;
+    mode = output.mode;
+    early = output.early;
+    late = output.late;
+    form = output.form;
   })

@@ -5,7 +5,8 @@ use Rattle.wsm_query.specs.declared.expr.Expr.TheVariants as code
 use Rattle.wsm_record.specs.Fields.{declared_field}
 use Rattle.wsm_query.specs.declared.query.Budget.{Budget as CodeBudget}
 use Rattle.wsm_query.specs.declared.query.Query.{Query as CodeQuery}
-use Rattle.wsm_query.specs.Tree.{Budget, Query, Expr, Number, Truth, Field, EnumName, Key, KeyName, Count, Aggregate, If, Brackets, Minus, Not, Binary, And, Or}
+use Rattle.wsm_query.specs.declared.reading.Selected.{Selected}
+use Rattle.wsm_query.specs.Tree.{Budget, Query, Selection, Expr, Number, Truth, Field, EnumName, Key, KeyName, Count, Aggregate, If, Brackets, Minus, Not, Binary, And, Or}
 
 abbrev pub seen_expr : Code → Expr
 seen_expr (code.Number n) = Number n
@@ -26,6 +27,9 @@ seen_expr (code.Or' p x q y) = Or (seen_expr x) (seen_expr y)
 
 abbrev pub seen_budget : CodeBudget → Budget
 seen_budget b = record { per_record = b.per_record; per_pane = b.per_pane; held = b.held }
+
+abbrev pub seen_selection : Selected → Selection
+seen_selection s = record { columns = map seen_expr s.columns.items; condition = option_map seen_expr s.condition; having = option_map seen_expr s.having }
 
 abbrev pub seen : CodeQuery → Query
 seen q = record {

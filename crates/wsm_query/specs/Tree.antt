@@ -35,6 +35,12 @@ pub record Budget : Type 0 where
   pub per_pane : ℤ
   pub held : ℤ
 
+-- what is selected, and of which records and panes
+pub record Selection : Type 0 where
+  pub columns : List Expr
+  pub condition : Option Expr  -- WHERE
+  pub having : Option Expr
+
 -- a query, with a field for each clause
 pub record Query : Type 0 where
   pub keys : List Name

@@ -15,7 +15,7 @@ use Rattle.wsm_tokens.specs.Read.{unexpected, too_deep, begins, begins_number, i
 use Rattle.wsm_query.specs.declared.expr.Op.TheVariants.{Sub, Ne, Gt, Div}
 use Rattle.wsm_record.specs.Schema as field_types
 use Rattle.wsm_query.specs.Tree.{Query, Number, Field, Count, Aggregate, Brackets, Binary, And}
-use Rattle.wsm_query.specs.Grammar.{brace, list_of, aggregate, count_of, choice, brackets, pointed, leaf, atom, unary, chain, chained, prod, sum, cmp, neg, conj, expr_in, levels, expr, int, names, type_of, field, budget, shape, mode, form, every, query}
+use Rattle.wsm_query.specs.Grammar.{brace, list_of, aggregate, count_of, choice, brackets, pointed, leaf, atom, unary, chain, chained, prod, sum, cmp, neg, conj, expr_in, levels, expr, int, names, type_of, field, budget, clock, selection, output, shape, mode, form, every, query}
 use Rattle.wsm_query.specs.Parse.{parse, query_text}
 
 -- the base query with other parts
@@ -27,12 +27,6 @@ tail = codes "\nWINDOW FIXED 60 ACCUMULATING\nEMIT PANES;\n"
 
 abbrev selecting : List ℕ → List ℕ
 selecting columns = head ++ columns ++ tail
-
-abbrev declaring : List ℕ → List ℕ
-declaring fields = codes "KEYS a, b; " ++ fields ++ codes " START 0; SKEW 100; LATENESS 10; RECORDS 1000; SELECT COUNT(*) WINDOW FIXED 60 ACCUMULATING EMIT PANES;"
-
-abbrev ending : List ℕ → List ℕ
-ending tail = head ++ codes "COUNT(*) " ++ tail
 
 abbrev base : Query
 base = record {
@@ -71,124 +65,22 @@ abbrev times : ℕ → List ℕ → List ℕ
 times zero bytes = []
 times (suc n) bytes = bytes ++ times n bytes
 
-base_parses : parse (selecting (codes "COUNT(*), SUM(n)")) ≡ Ok base
-unfolding parse query_text tokens tokens_from first_of sign_of place_of is_reserved unexpected too_deep begins begins_number is_end behind count ask number name ended brace list_of aggregate count_of choice brackets pointed leaf atom unary chain chained prod sum cmp neg conj expr_in levels expr int names type_of field budget shape mode form every query
-base_parses = refl
-
-two_keys_without_comma : answer (codes "KEYS a b;") ≡ Unread Unexpected 1 8
-unfolding parse query_text tokens tokens_from first_of sign_of place_of is_reserved unexpected too_deep begins begins_number is_end behind count ask number name ended brace list_of aggregate count_of choice brackets pointed leaf atom unary chain chained prod sum cmp neg conj expr_in levels expr int names type_of field budget shape mode form every query
-two_keys_without_comma = refl
-
-empty_text : answer [] ≡ Unread Unexpected 1 1
-unfolding parse query_text tokens tokens_from first_of sign_of place_of is_reserved unexpected too_deep begins begins_number is_end behind count ask number name ended brace list_of aggregate count_of choice brackets pointed leaf atom unary chain chained prod sum cmp neg conj expr_in levels expr int names type_of field budget shape mode form every query
-empty_text = refl
-
--- the end is just past the last byte, blanks too
-end_behind_a_line : answer (codes "KEYS a;\n") ≡ Unread Unexpected 2 1
-unfolding parse query_text tokens tokens_from first_of sign_of place_of is_reserved unexpected too_deep begins begins_number is_end behind count ask number name ended brace list_of aggregate count_of choice brackets pointed leaf atom unary chain chained prod sum cmp neg conj expr_in levels expr int names type_of field budget shape mode form every query
-end_behind_a_line = refl
-
-no_token : answer (selecting (codes "COUNT(*) ! 1")) ≡ Unread BadCharacter 4 17
-unfolding parse query_text tokens tokens_from first_of sign_of place_of is_reserved unexpected too_deep begins begins_number is_end behind count ask number name ended brace list_of aggregate count_of choice brackets pointed leaf atom unary chain chained prod sum cmp neg conj expr_in levels expr int names type_of field budget shape mode form every query
-no_token = refl
-
--- the 33rd byte of a word
-long_word : answer (codes "KEYS " ++ replicate 33 97) ≡ Unread BadCharacter 1 38
-unfolding parse query_text tokens tokens_from first_of sign_of place_of is_reserved unexpected too_deep begins begins_number is_end behind count ask number name ended brace list_of aggregate count_of choice brackets pointed leaf atom unary chain chained prod sum cmp neg conj expr_in levels expr int names type_of field budget shape mode form every query
-long_word = refl
-
--- also where no word would be taken
-long_word_for_a_sign : answer (codes "KEYS a " ++ replicate 33 97) ≡ Unread BadCharacter 1 40
-unfolding parse query_text tokens tokens_from first_of sign_of place_of is_reserved unexpected too_deep begins begins_number is_end behind count ask number name ended brace list_of aggregate count_of choice brackets pointed leaf atom unary chain chained prod sum cmp neg conj expr_in levels expr int names type_of field budget shape mode form every query
-long_word_for_a_sign = refl
-
-longest_word : answer (codes "KEYS " ++ replicate 32 97) ≡ Unread Unexpected 1 38
-unfolding parse query_text tokens tokens_from first_of sign_of place_of is_reserved unexpected too_deep begins begins_number is_end behind count ask number name ended brace list_of aggregate count_of choice brackets pointed leaf atom unary chain chained prod sum cmp neg conj expr_in levels expr int names type_of field budget shape mode form every query
-longest_word = refl
-
-great_number : answer (selecting (codes "9223372036854775808")) ≡ Unread NumberTooLarge 4 8
-unfolding parse query_text tokens tokens_from first_of sign_of place_of is_reserved unexpected too_deep begins begins_number is_end behind count ask number name ended brace list_of aggregate count_of choice brackets pointed leaf atom unary chain chained prod sum cmp neg conj expr_in levels expr int names type_of field budget shape mode form every query
-great_number = refl
-
-greatest_number : answer (selecting (codes "0009223372036854775807")) ≡ Taken
-unfolding parse query_text tokens tokens_from first_of sign_of place_of is_reserved unexpected too_deep begins begins_number is_end behind count ask number name ended brace list_of aggregate count_of choice brackets pointed leaf atom unary chain chained prod sum cmp neg conj expr_in levels expr int names type_of field budget shape mode form every query
-greatest_number = refl
-
-levels_24 : answer (selecting (replicate 24 40 ++ codes "1" ++ replicate 24 41)) ≡ Taken
-unfolding parse query_text tokens tokens_from first_of sign_of place_of is_reserved unexpected too_deep begins begins_number is_end behind count ask number name ended brace list_of aggregate count_of choice brackets pointed leaf atom unary chain chained prod sum cmp neg conj expr_in levels expr int names type_of field budget shape mode form every query
-levels_24 = refl
-
--- at the bracket, whatever follows it
-levels_25 : answer (selecting (replicate 25 40 ++ codes "@")) ≡ Unread TooDeep 4 32
-unfolding parse query_text tokens tokens_from first_of sign_of place_of is_reserved unexpected too_deep begins begins_number is_end behind count ask number name ended brace list_of aggregate count_of choice brackets pointed leaf atom unary chain chained prod sum cmp neg conj expr_in levels expr int names type_of field budget shape mode form every query
-levels_25 = refl
-
--- COUNT opens a level, before its bracket is asked for
-level_of_count : answer (selecting (replicate 24 40 ++ codes "COUNT;")) ≡ Unread TooDeep 4 32
-unfolding parse query_text tokens tokens_from first_of sign_of place_of is_reserved unexpected too_deep begins begins_number is_end behind count ask number name ended brace list_of aggregate count_of choice brackets pointed leaf atom unary chain chained prod sum cmp neg conj expr_in levels expr int names type_of field budget shape mode form every query
-level_of_count = refl
-
-level_of_minus : answer (selecting (replicate 23 40 ++ codes "- - 1")) ≡ Unread TooDeep 4 33
-unfolding parse query_text tokens tokens_from first_of sign_of place_of is_reserved unexpected too_deep begins begins_number is_end behind count ask number name ended brace list_of aggregate count_of choice brackets pointed leaf atom unary chain chained prod sum cmp neg conj expr_in levels expr int names type_of field budget shape mode form every query
-level_of_minus = refl
-
--- an IF in a condition opens a level
-conditions_24 : answer (selecting (times 24 (codes "IF ") ++ codes "TRUE" ++ times 24 (codes " THEN 1 ELSE 2 END"))) ≡ Taken
-unfolding parse query_text tokens tokens_from first_of sign_of place_of is_reserved unexpected too_deep begins begins_number is_end behind count ask number name ended brace list_of aggregate count_of choice brackets pointed leaf atom unary chain chained prod sum cmp neg conj expr_in levels expr int names type_of field budget shape mode form every query
-conditions_24 = refl
-
-conditions_25 : answer (selecting (times 25 (codes "IF ") ++ codes "TRUE")) ≡ Unread TooDeep 4 80
-unfolding parse query_text tokens tokens_from first_of sign_of place_of is_reserved unexpected too_deep begins begins_number is_end behind count ask number name ended brace list_of aggregate count_of choice brackets pointed leaf atom unary chain chained prod sum cmp neg conj expr_in levels expr int names type_of field budget shape mode form every query
-conditions_25 = refl
-
-chain_64 : answer (selecting (codes "1" ++ times 32 (codes " + 1 - 1"))) ≡ Taken
-unfolding parse query_text tokens tokens_from first_of sign_of place_of is_reserved unexpected too_deep begins begins_number is_end behind count ask number name ended brace list_of aggregate count_of choice brackets pointed leaf atom unary chain chained prod sum cmp neg conj expr_in levels expr int names type_of field budget shape mode form every query
-chain_64 = refl
-
--- `+` and `-` are one chain
-chain_65 : answer (selecting (codes "1" ++ times 32 (codes "+1-1") ++ codes "+ @")) ≡ Unread TooDeep 4 137
-unfolding parse query_text tokens tokens_from first_of sign_of place_of is_reserved unexpected too_deep begins begins_number is_end behind count ask number name ended brace list_of aggregate count_of choice brackets pointed leaf atom unary chain chained prod sum cmp neg conj expr_in levels expr int names type_of field budget shape mode form every query
-chain_65 = refl
-
--- and so are `*` and `/`
-chain_65_of_products : answer (selecting (codes "1" ++ times 64 (codes "*1") ++ codes "/ @")) ≡ Unread TooDeep 4 137
-unfolding parse query_text tokens tokens_from first_of sign_of place_of is_reserved unexpected too_deep begins begins_number is_end behind count ask number name ended brace list_of aggregate count_of choice brackets pointed leaf atom unary chain chained prod sum cmp neg conj expr_in levels expr int names type_of field budget shape mode form every query
-chain_65_of_products = refl
-
-chains_apart : answer (selecting (codes "1" ++ times 64 (codes "*1") ++ codes "+1" ++ times 64 (codes "*1"))) ≡ Taken
-unfolding parse query_text tokens tokens_from first_of sign_of place_of is_reserved unexpected too_deep begins begins_number is_end behind count ask number name ended brace list_of aggregate count_of choice brackets pointed leaf atom unary chain chained prod sum cmp neg conj expr_in levels expr int names type_of field budget shape mode form every query
-chains_apart = refl
-
-comparison_twice : answer (selecting (codes "1 < 2 < 3")) ≡ Unread Unexpected 4 14
-unfolding parse query_text tokens tokens_from first_of sign_of place_of is_reserved unexpected too_deep begins begins_number is_end behind count ask number name ended brace list_of aggregate count_of choice brackets pointed leaf atom unary chain chained prod sum cmp neg conj expr_in levels expr int names type_of field budget shape mode form every query
-comparison_twice = refl
-
-reserved_name : answer (selecting (codes "FROM")) ≡ Unread Unexpected 4 8
-unfolding parse query_text tokens tokens_from first_of sign_of place_of is_reserved unexpected too_deep begins begins_number is_end behind count ask number name ended brace list_of aggregate count_of choice brackets pointed leaf atom unary chain chained prod sum cmp neg conj expr_in levels expr int names type_of field budget shape mode form every query
-reserved_name = refl
-
-behind_the_end : answer (selecting (codes "1") ++ codes ";") ≡ Unread Unexpected 7 1
-unfolding parse query_text tokens tokens_from first_of sign_of place_of is_reserved unexpected too_deep begins begins_number is_end behind count ask number name ended brace list_of aggregate count_of choice brackets pointed leaf atom unary chain chained prod sum cmp neg conj expr_in levels expr int names type_of field budget shape mode form every query
-behind_the_end = refl
-
 -- `n <> 0 AND 10 / n > 1`
 abbrev guarded : Query
 guarded = record base { condition = Some (And (Binary Ne (Field (codes "n")) (Number (pos 0))) (Binary Gt (Binary Div (Number (pos 10)) (Field (codes "n"))) (Number (pos 1)))) }
 
-guarded_parses : parse (selecting (codes "COUNT(*), SUM(n) WHERE n <> 0 AND 10 / n > 1")) ≡ Ok guarded
-unfolding parse query_text tokens tokens_from first_of sign_of place_of is_reserved unexpected too_deep begins begins_number is_end behind count ask number name ended brace list_of aggregate count_of choice brackets pointed leaf atom unary chain chained prod sum cmp neg conj expr_in levels expr int names type_of field budget shape mode form every query
-guarded_parses = refl
+-- columns of the base query, and its tree with them
+abbrev trees : List (List ℕ × Result Query ParseRefusal)
+trees =
+    (codes "COUNT(*), SUM(n)", Ok base)
+    ∷ (codes "COUNT(*), SUM(n) WHERE n <> 0 AND 10 / n > 1", Ok guarded)
+    ∷ (codes "7 - 2 - 1", Ok (record base { columns = Binary Sub (Binary Sub (Number (pos 7)) (Number (pos 2))) (Number (pos 1)) ∷ [] }))
+    ∷ (codes "7-(2-1)", Ok (record base { columns = Binary Sub (Number (pos 7)) (Brackets (Binary Sub (Number (pos 2)) (Number (pos 1)))) ∷ [] }))
+    ∷ []
 
--- chains lean to the left
-to_the_left : parse (selecting (codes "7 - 2 - 1")) ≡ Ok (record base { columns = Binary Sub (Binary Sub (Number (pos 7)) (Number (pos 2))) (Number (pos 1)) ∷ [] })
-unfolding parse query_text tokens tokens_from first_of sign_of place_of is_reserved unexpected too_deep begins begins_number is_end behind count ask number name ended brace list_of aggregate count_of choice brackets pointed leaf atom unary chain chained prod sum cmp neg conj expr_in levels expr int names type_of field budget shape mode form every query
-to_the_left = refl
-
-brackets_stay : parse (selecting (codes "7-(2-1)")) ≡ Ok (record base { columns = Binary Sub (Number (pos 7)) (Brackets (Binary Sub (Number (pos 2)) (Number (pos 1)))) ∷ [] })
-unfolding parse query_text tokens tokens_from first_of sign_of place_of is_reserved unexpected too_deep begins begins_number is_end behind count ask number name ended brace list_of aggregate count_of choice brackets pointed leaf atom unary chain chained prod sum cmp neg conj expr_in levels expr int names type_of field budget shape mode form every query
-brackets_stay = refl
-
--- texts beside their neighbours
+trees_read : map (λ t. (t.0, parse (selecting t.0))) trees ≡ trees
+unfolding parse query_text tokens tokens_from first_of sign_of place_of is_reserved unexpected too_deep begins begins_number is_end behind count ask number name ended brace list_of aggregate count_of choice brackets pointed leaf atom unary chain chained prod sum cmp neg conj expr_in levels expr int names type_of field budget clock selection output shape mode form every query
+trees_read = refl
 
 -- a text, and what it comes to
 pub data Told : Type 0 where
@@ -202,8 +94,10 @@ columns_told (Says columns _) = Says columns (answer (selecting columns))
 abbrev text_told : Told → Told
 text_told (Says text _) = Says text (answer text)
 
-abbrev operators_beside : List Told
-operators_beside =
+-- texts beside their neighbours
+
+abbrev operators : List Told
+operators =
     Says (codes "7 - 2 - 1") Taken
     ∷ Says (codes "7 - 2 -") (Unread Unexpected 5 1)
     ∷ Says (codes "n <> 0 AND 10 / n > 1") Taken
@@ -218,12 +112,8 @@ operators_beside =
     ∷ Says (codes "1 < 2 < 3") (Unread Unexpected 4 14)
     ∷ []
 
-operators_answered : map columns_told operators_beside ≡ operators_beside
-unfolding parse query_text tokens tokens_from first_of sign_of place_of is_reserved unexpected too_deep begins begins_number is_end behind count ask number name ended brace list_of aggregate count_of choice brackets pointed leaf atom unary chain chained prod sum cmp neg conj expr_in levels expr int names type_of field budget shape mode form every query
-operators_answered = refl
-
-abbrev names_beside : List Told
-names_beside =
+abbrev words : List Told
+words =
     Says (codes "KEY = KEY.a") Taken
     ∷ Says (codes "KEY = KEY.1") (Unread Unexpected 4 18)
     ∷ Says (codes "color.red") Taken
@@ -234,12 +124,8 @@ names_beside =
     ∷ Says (codes "FROM") (Unread Unexpected 4 8)
     ∷ []
 
-names_answered : map columns_told names_beside ≡ names_beside
-unfolding parse query_text tokens tokens_from first_of sign_of place_of is_reserved unexpected too_deep begins begins_number is_end behind count ask number name ended brace list_of aggregate count_of choice brackets pointed leaf atom unary chain chained prod sum cmp neg conj expr_in levels expr int names type_of field budget shape mode form every query
-names_answered = refl
-
-abbrev forms_beside : List Told
-forms_beside =
+abbrev atoms : List Told
+atoms =
     Says (codes "COUNT(*), SUM(n)") Taken
     ∷ Says (codes "COUNT(*) SUM(n)") (Unread Unexpected 4 17)
     ∷ Says (codes "IF n > 1 THEN 1 ELSE 2 END") Taken
@@ -253,12 +139,8 @@ forms_beside =
     ∷ Says (codes "COUNT(*) ! 1") (Unread BadCharacter 4 17)
     ∷ []
 
-forms_answered : map columns_told forms_beside ≡ forms_beside
-unfolding parse query_text tokens tokens_from first_of sign_of place_of is_reserved unexpected too_deep begins begins_number is_end behind count ask number name ended brace list_of aggregate count_of choice brackets pointed leaf atom unary chain chained prod sum cmp neg conj expr_in levels expr int names type_of field budget shape mode form every query
-forms_answered = refl
-
-abbrev numbers_beside : List Told
-numbers_beside =
+abbrev numbers : List Told
+numbers =
     Says (codes "5x") (Unread Unexpected 4 9)
     ∷ Says (codes "1.5") (Unread Unexpected 4 9)
     ∷ Says (codes "9223372036854775807") Taken
@@ -266,23 +148,50 @@ numbers_beside =
     ∷ Says (codes "0009223372036854775807") Taken
     ∷ []
 
-numbers_answered : map columns_told numbers_beside ≡ numbers_beside
-unfolding parse query_text tokens tokens_from first_of sign_of place_of is_reserved unexpected too_deep begins begins_number is_end behind count ask number name ended brace list_of aggregate count_of choice brackets pointed leaf atom unary chain chained prod sum cmp neg conj expr_in levels expr int names type_of field budget shape mode form every query
-numbers_answered = refl
-
-abbrev conditions_beside : List Told
-conditions_beside =
+abbrev conditions : List Told
+conditions =
     Says (codes "1 WHERE n > 1 HAVING COUNT(*) > 1") Taken
     ∷ Says (codes "1 HAVING COUNT(*) > 1 WHERE n > 1") (Unread Unexpected 4 30)
     ∷ []
 
-conditions_answered : map columns_told conditions_beside ≡ conditions_beside
-unfolding parse query_text tokens tokens_from first_of sign_of place_of is_reserved unexpected too_deep begins begins_number is_end behind count ask number name ended brace list_of aggregate count_of choice brackets pointed leaf atom unary chain chained prod sum cmp neg conj expr_in levels expr int names type_of field budget shape mode form every query
-conditions_answered = refl
+-- brackets, aggregates, COUNT, `-` and IF open a level each, at their own token, whatever follows it
+abbrev levels_open : List Told
+levels_open =
+    Says (replicate 24 40 ++ codes "1" ++ replicate 24 41) Taken
+    ∷ Says (replicate 25 40 ++ codes "@") (Unread TooDeep 4 32)
+    ∷ Says (replicate 24 40 ++ codes "COUNT;") (Unread TooDeep 4 32)
+    ∷ Says (replicate 23 40 ++ codes "- - 1") (Unread TooDeep 4 33)
+    ∷ Says (times 24 (codes "IF ") ++ codes "TRUE" ++ times 24 (codes " THEN 1 ELSE 2 END")) Taken
+    ∷ Says (times 25 (codes "IF ") ++ codes "TRUE") (Unread TooDeep 4 80)
+    ∷ []
 
-abbrev whole_texts_beside : List Told
-whole_texts_beside =
-    Says (codes "KEYS a;  " ++ 9 ∷ 32 ∷ []) (Unread Unexpected 1 12)
+-- `+` and `-` are one chain, and so are `*` and `/`
+abbrev chains : List Told
+chains =
+    Says (codes "1" ++ times 32 (codes " + 1 - 1")) Taken
+    ∷ Says (codes "1" ++ times 32 (codes "+1-1") ++ codes "+ @") (Unread TooDeep 4 137)
+    ∷ Says (codes "1" ++ times 64 (codes "*1") ++ codes "/ @") (Unread TooDeep 4 137)
+    ∷ Says (codes "1" ++ times 64 (codes "*1") ++ codes "+1" ++ times 64 (codes "*1")) Taken
+    ∷ []
+
+abbrev all_columns : List Told
+all_columns = operators ++ words ++ atoms ++ numbers ++ conditions ++ levels_open ++ chains
+
+columns_answered : map columns_told all_columns ≡ all_columns
+unfolding parse query_text tokens tokens_from first_of sign_of place_of is_reserved unexpected too_deep begins begins_number is_end behind count ask number name ended brace list_of aggregate count_of choice brackets pointed leaf atom unary chain chained prod sum cmp neg conj expr_in levels expr int names type_of field budget clock selection output shape mode form every query
+columns_answered = refl
+
+-- the end is just past the last byte, blanks too; the 33rd byte of a word is no byte of it, also where no word would be taken
+abbrev texts : List Told
+texts =
+    Says [] (Unread Unexpected 1 1)
+    ∷ Says (codes "KEYS a b;") (Unread Unexpected 1 8)
+    ∷ Says (codes "KEYS a;\n") (Unread Unexpected 2 1)
+    ∷ Says (codes "KEYS " ++ replicate 32 97) (Unread Unexpected 1 38)
+    ∷ Says (codes "KEYS " ++ replicate 33 97) (Unread BadCharacter 1 38)
+    ∷ Says (codes "KEYS a " ++ replicate 33 97) (Unread BadCharacter 1 40)
+    ∷ Says (selecting (codes "1") ++ codes ";") (Unread Unexpected 7 1)
+    ∷ Says (codes "KEYS a;  " ++ 9 ∷ 32 ∷ []) (Unread Unexpected 1 12)
     ∷ Says (codes "KEYS " ++ 195 ∷ 169 ∷ codes ";") (Unread BadCharacter 1 6)
     ∷ Says (codes "KEYS a_1; " ++ 34 ∷ []) (Unread BadCharacter 1 11)
     ∷ Says (codes "keys a;") (Unread Unexpected 1 1)
@@ -300,6 +209,6 @@ whole_texts_beside =
     ∷ Says (codes "KEYS a; START 0; SKEW 0; LATENESS 0; RECORDS 1; SELECT 1 WINDOW FIXED 6 ACCUMULATING EMIT ISTREAM; ;") (Unread Unexpected 1 100)
     ∷ []
 
-whole_texts_answered : map text_told whole_texts_beside ≡ whole_texts_beside
-unfolding parse query_text tokens tokens_from first_of sign_of place_of is_reserved unexpected too_deep begins begins_number is_end behind count ask number name ended brace list_of aggregate count_of choice brackets pointed leaf atom unary chain chained prod sum cmp neg conj expr_in levels expr int names type_of field budget shape mode form every query
-whole_texts_answered = refl
+texts_answered : map text_told texts ≡ texts
+unfolding parse query_text tokens tokens_from first_of sign_of place_of is_reserved unexpected too_deep begins begins_number is_end behind count ask number name ended brace list_of aggregate count_of choice brackets pointed leaf atom unary chain chained prod sum cmp neg conj expr_in levels expr int names type_of field budget clock selection output shape mode form every query
+texts_answered = refl

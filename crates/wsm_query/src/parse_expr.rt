@@ -188,12 +188,20 @@ fn choice(alloc: Global, reader: &mut Reader, room: usize) -> Result<Expr, Stop>
 {
     let room = open(reader, room)?;
     let test = expr(alloc, reader, room)?;
-    reader.ask(b"THEN")?;
-    let first = expr(alloc, reader, room)?;
-    reader.ask(b"ELSE")?;
-    let second = expr(alloc, reader, room)?;
+    let first = branch(alloc, reader, room, b"THEN")?;
+    let second = branch(alloc, reader, room, b"ELSE")?;
     reader.ask(b"END")?;
     Ok(conditional(alloc, test, first, second)?)
+}
+
+// a word and an expr
+#[cycle(expr)]
+fn branch(alloc: Global, reader: &mut Reader, room: usize, word: &[u8]) -> Result<Expr, Stop>
+    ensures gives { Gives seen_expr result reader.new (rule.after word.now (rule.expr_in (levels room)) reader.old) }
+    ensures onward { count reader.new ≤ count reader.old }
+{
+    reader.ask(word)?;
+    expr(alloc, reader, room)
 }
 
 // "(" expr ")"

@@ -5,16 +5,35 @@ ghost use Rattle.wsm_tokens.specs.Read.{Gives, number};
 ghost use Rattle.wsm_query.specs.Grammar as rule;
 ghost use Rattle.wsm_query.specs.Parse.{Parses, parse, query_text};
 ghost use Rattle.wsm_query.specs.Print.{print};
-ghost use Rattle.wsm_query.specs.Seen.{seen, seen_budget, seen_expr};
+ghost use Rattle.wsm_query.specs.Seen.{seen, seen_budget, seen_expr, seen_selection};
 
 use crate::clauses::{budget, columns, every, fields, form, mode, names, shape};
 use crate::expr::Expr;
 use crate::parse_expr::expression;
 use crate::query::{Budget, Query};
 use std::alloc::Global;
-use wsm_record::{Form, Name};
+use wsm_admission::Clock;
+use wsm_record::{Form, Mode, Name};
 use wsm_tokens::{ParseRefusal, Reader, Stop, refusal_of};
 use wsm_windows::Shape;
+
+// What is selected, and of which records and panes.
+#[derive(Drop)]
+struct Selected {
+    columns: Vec<Expr>,
+    condition: Option<Expr>,
+    having: Option<Expr>,
+}
+
+// The windows, when they fire, and what is written of them.
+#[derive(Clone, Copy)]
+struct Written {
+    shape: Shape,
+    mode: Mode,
+    early: Option<i64>,
+    late: Option<i64>,
+    form: Form,
+}
 
 /// The tree of a query text, or the first fault from the left with its place. The text that a query is printed as has
 /// that query's tree.
@@ -51,35 +70,26 @@ fn query(alloc: Global, reader: &mut Reader) -> Result<Query, Stop>
 {
     let keys = keys(alloc, reader)?;
     let fields = fields(alloc, reader)?;
-    let start = clause(reader, b"START")?;
-    let skew = clause(reader, b"SKEW")?;
-    let lateness = clause(reader, b"LATENESS")?;
-    let records = clause(reader, b"RECORDS")?;
+    let clock = clock(reader)?;
     let budget = optional_budget(reader)?;
-    let columns = selected(alloc, reader)?;
-    let condition = optional_expr(alloc, reader, b"WHERE")?;
-    let having = optional_expr(alloc, reader, b"HAVING")?;
-    let shape = window(reader)?;
-    let mode = mode(reader)?;
-    let early = optional_every(reader, b"EARLY")?;
-    let late = optional_every(reader, b"LATE")?;
-    let form = emitted(reader)?;
+    let selection = selection(alloc, reader)?;
+    let output = output(reader)?;
     Ok(Query {
         keys,
         fields,
-        start,
-        skew,
-        lateness,
-        records,
+        start: clock.start,
+        skew: clock.skew,
+        lateness: clock.lateness,
+        records: clock.records,
         budget,
-        columns,
-        condition,
-        having,
-        shape,
-        mode,
-        early,
-        late,
-        form,
+        columns: selection.columns,
+        condition: selection.condition,
+        having: selection.having,
+        shape: output.shape,
+        mode: output.mode,
+        early: output.early,
+        late: output.late,
+        form: output.form,
     })
 }
 
@@ -93,12 +103,63 @@ fn keys(alloc: Global, reader: &mut Reader) -> Result<Vec<Name>, Stop>
     Ok(keys)
 }
 
+// "START" num ";" "SKEW" num ";" "LATENESS" num ";" "RECORDS" num ";"
+#[tactic(auto, unfolding(crate::specs::Grammar::clock))]
+fn clock(reader: &mut Reader) -> Result<Clock, Stop>
+    ensures { Gives (λ c. c) result reader.new (rule.clock reader.old) }
+{
+    let start = clause(reader, b"START")?;
+    let skew = clause(reader, b"SKEW")?;
+    let lateness = clause(reader, b"LATENESS")?;
+    let records = clause(reader, b"RECORDS")?;
+    Ok(Clock {
+        start,
+        skew,
+        lateness,
+        records,
+    })
+}
+
+// "SELECT" expr { "," expr } [ "WHERE" expr ] [ "HAVING" expr ]
+#[tactic(auto, unfolding(crate::specs::Grammar::selection))]
+fn selection(alloc: Global, reader: &mut Reader) -> Result<Selected, Stop>
+    ensures { Gives seen_selection result reader.new (rule.selection reader.old) }
+{
+    let columns = select(alloc, reader)?;
+    let condition = optional_expr(alloc, reader, b"WHERE")?;
+    let having = optional_expr(alloc, reader, b"HAVING")?;
+    Ok(Selected {
+        columns,
+        condition,
+        having,
+    })
+}
+
 // "SELECT" expr { "," expr }
-fn selected(alloc: Global, reader: &mut Reader) -> Result<Vec<Expr>, Stop>
+fn select(alloc: Global, reader: &mut Reader) -> Result<Vec<Expr>, Stop>
     ensures { Gives (λ v. map seen_expr v.items) result reader.new (rule.after (codes "SELECT") (rule.list_of rule.expr) reader.old) }
 {
     reader.ask(b"SELECT")?;
     columns(alloc, reader)
+}
+
+// "WINDOW" shape mode [ "EARLY" "EVERY" num ] [ "LATE" "EVERY" num ] "EMIT" form ";"
+#[tactic(auto, unfolding(crate::specs::Grammar::output))]
+fn output(reader: &mut Reader) -> Result<Written, Stop>
+    ensures { Gives (λ o. o) result reader.new (rule.output reader.old) }
+{
+    let shape = window(reader)?;
+    let mode = mode(reader)?;
+    let early = optional_every(reader, b"EARLY")?;
+    let late = optional_every(reader, b"LATE")?;
+    let form = emitted(reader)?;
+    Ok(Written {
+        shape,
+        mode,
+        early,
+        late,
+        form,
+    })
 }
 
 // "WINDOW" shape

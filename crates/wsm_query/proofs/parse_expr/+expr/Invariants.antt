@@ -13,6 +13,9 @@ decreases-aggregate l = 16 * l.room + 0
 abbrev pub decreases-choice : goal.decreases-choice
 decreases-choice l = 16 * l.room + 0
 
+abbrev pub decreases-branch : goal.decreases-branch
+decreases-branch l = 16 * l.room + 9
+
 abbrev pub decreases-brackets : goal.decreases-brackets
 decreases-brackets l = 16 * l.room + 0
 
