@@ -4,4 +4,3 @@ pub mod Taking
 pub mod Texts
 pub mod SameText
 pub mod Beginning
-mod Plain

@@ -37,27 +37,25 @@
 //!
 //! [`compile_text`] gives the bytes of a query's program, and [`judge`] writes what the verifier says
 //! of a program. `judged` goes from texts and bytes to verified programs, `turns` keeps what the rows
-//! so far come to, `run` goes from the reader to the device,
-//! and `words` reads the words of the program with the texts of `help`.
+//! so far come to, and `run` goes from the reader to the device. [`command_of`] reads the words of the
+//! program's command.
 #![tactic(auto)]
 
 pub use compile::compile_text;
 pub use end::{End, Refusal, status_of};
 pub use run::{run_program, run_query};
 pub use verdict::judge;
-pub use words::{Job, WordsRefusal, command_of};
 pub use wsm_check::{CheckFault, Part};
 pub use wsm_csv::{Device, DeviceFault, Guarded, write_out};
 pub use wsm_engine::Totals;
 pub use wsm_program::DecodeRefusal;
 pub use wsm_tokens::{Fault, Place};
 pub use wsm_verifier::Rejection;
+pub use wsm_words::{Job, WordsRefusal, command_of};
 
 mod compile;
 mod end;
-mod help;
 mod judged;
 mod run;
 mod turns;
 mod verdict;
-mod words;

@@ -114,16 +114,22 @@ fn are_held(
     Ok(())
 }
 
-#[test]
-fn a_window_of_a_key_is_held_once(rt: HostRuntime) -> Result<(), Fail> {
-    let mut engine = opened(rt.alloc(), &[])?;
-    are_held(&rt, rt.alloc(), &mut engine, &[0, 60, 100], 4)
+// Opens an engine, feeds such records to it, and asks how many panes it holds.
+fn holds(
+    rt: &impl Abort,
+    alloc: Global,
+    changes: &[(usize, u8)],
+    times: &[i64],
+    panes: usize,
+) -> Result<(), Fail> {
+    let mut engine = opened(alloc, changes)?;
+    are_held(rt, alloc, &mut engine, times, panes)
 }
 
-// As many as the program states: a window that is about to be dropped, and one as far ahead as the
-// skew allows.
+// A window of a key is held once. No more are held than the program states: a window that is about to
+// be dropped, and one as far ahead as the skew allows.
 #[test]
 fn as_many_panes_as_stated_are_held(rt: HostRuntime) -> Result<(), Fail> {
-    let mut engine = opened(rt.alloc(), &[(START, 59)])?;
-    are_held(&rt, rt.alloc(), &mut engine, &[49, 119, 159], 6)
+    holds(&rt, rt.alloc(), &[], &[0, 60, 100], 4)?;
+    holds(&rt, rt.alloc(), &[(START, 59)], &[49, 119, 159], 6)
 }

@@ -33,51 +33,38 @@ fn expect_printed(rt: &impl Abort, alloc: Global, text: &str, want: &str) -> Res
     Ok(())
 }
 
-#[test]
-fn tokens_are_printed_with_one_space(rt: HostRuntime) -> Result<(), Fail> {
-    let alloc = rt.alloc();
-    expect_printed(
-        &rt,
-        alloc,
-        "KEYS a,b;FIELD n INT 0..100;START 0;SKEW 100;LATENESS 10;RECORDS 1000;\nSELECT COUNT(*),SUM(n)\nWINDOW FIXED 60 ACCUMULATING\nEMIT PANES;\n",
-        "KEYS a , b ; FIELD n INT 0 .. 100 ; START 0 ; SKEW 100 ; LATENESS 10 ; RECORDS 1000 ; SELECT COUNT ( * ) , SUM ( n ) WINDOW FIXED 60 ACCUMULATING EMIT PANES ;",
-    )?;
-    expect_printed(
-        &rt,
-        alloc,
-        "KEYS a; FIELD n INT -2..-1; FIELD c ENUM(x, y); FIELD b BOOL; START 0; SKEW 0; LATENESS 0; RECORDS 1; BUDGET RECORD 1 PANE 2 HELD 3; SELECT 1 WHERE b HAVING ALL(b) WINDOW SLIDING 6 EVERY 2 DISCARDING EARLY EVERY 1 LATE EVERY 2 EMIT RSTREAM;",
-        "KEYS a ; FIELD n INT - 2 .. - 1 ; FIELD c ENUM ( x , y ) ; FIELD b BOOL ; START 0 ; SKEW 0 ; LATENESS 0 ; RECORDS 1 ; BUDGET RECORD 1 PANE 2 HELD 3 ; SELECT 1 WHERE b HAVING ALL ( b ) WINDOW SLIDING 6 EVERY 2 DISCARDING EARLY EVERY 1 LATE EVERY 2 EMIT RSTREAM ;",
-    )?;
-    expect_printed(
-        &rt,
-        alloc,
-        "KEYS a; START 0; SKEW 0; LATENESS 0; RECORDS 1; SELECT 1 WINDOW SESSION 6 ACCUMULATING EMIT ISTREAM;",
-        "KEYS a ; START 0 ; SKEW 0 ; LATENESS 0 ; RECORDS 1 ; SELECT 1 WINDOW SESSION 6 ACCUMULATING EMIT ISTREAM ;",
-    )
-}
+// A query with each clause, and how it is printed.
+const WHOLE: (&str, &str) = (
+    "KEYS a; FIELD n INT -2..-1; FIELD c ENUM(x, y); FIELD b BOOL; START 0; SKEW 0; LATENESS 0; RECORDS 1; BUDGET RECORD 1 PANE 2 HELD 3; SELECT 1 WHERE b HAVING ALL(b) WINDOW SLIDING 6 EVERY 2 DISCARDING EARLY EVERY 1 LATE EVERY 2 EMIT RSTREAM;",
+    "KEYS a ; FIELD n INT - 2 .. - 1 ; FIELD c ENUM ( x , y ) ; FIELD b BOOL ; START 0 ; SKEW 0 ; LATENESS 0 ; RECORDS 1 ; BUDGET RECORD 1 PANE 2 HELD 3 ; SELECT 1 WHERE b HAVING ALL ( b ) WINDOW SLIDING 6 EVERY 2 DISCARDING EARLY EVERY 1 LATE EVERY 2 EMIT RSTREAM ;",
+);
+
+// Columns, and how they are printed.
+const FORMS: [(&str, &str); 11] = [
+    ("COUNT(*),SUM(n)", "COUNT ( * ) , SUM ( n )"),
+    ("7-(2-1)", "7 - ( 2 - 1 )"),
+    ("007", "7"),
+    ("1+2*3/4%5", "1 + 2 * 3 / 4 % 5"),
+    ("NOT TRUE OR 1<=2 AND FALSE", "NOT TRUE OR 1 <= 2 AND FALSE"),
+    ("(1=2)<>(3<4)", "( 1 = 2 ) <> ( 3 < 4 )"),
+    ("(1>2)=(3>=4)", "( 1 > 2 ) = ( 3 >= 4 )"),
+    ("color.red=color.blue", "color . red = color . blue"),
+    (
+        "IF KEY=KEY.a THEN -n ELSE --n END",
+        "IF KEY = KEY . a THEN - n ELSE - - n END",
+    ),
+    (
+        "MIN(n)+MAX(n)+SUM(-n)",
+        "MIN ( n ) + MAX ( n ) + SUM ( - n )",
+    ),
+    ("ANY(n>1)OR ALL(TRUE)", "ANY ( n > 1 ) OR ALL ( TRUE )"),
+];
 
 #[test]
 fn each_form_is_printed(rt: HostRuntime) -> Result<(), Fail> {
-    let cases = [
-        ("7-(2-1)", "7 - ( 2 - 1 )"),
-        ("007", "7"),
-        ("1+2*3/4%5", "1 + 2 * 3 / 4 % 5"),
-        ("NOT TRUE OR 1<=2 AND FALSE", "NOT TRUE OR 1 <= 2 AND FALSE"),
-        ("(1=2)<>(3<4)", "( 1 = 2 ) <> ( 3 < 4 )"),
-        ("(1>2)=(3>=4)", "( 1 > 2 ) = ( 3 >= 4 )"),
-        ("color.red=color.blue", "color . red = color . blue"),
-        (
-            "IF KEY=KEY.a THEN -n ELSE --n END",
-            "IF KEY = KEY . a THEN - n ELSE - - n END",
-        ),
-        (
-            "MIN(n)+MAX(n)+SUM(-n)",
-            "MIN ( n ) + MAX ( n ) + SUM ( - n )",
-        ),
-        ("ANY(n>1)OR ALL(TRUE)", "ANY ( n > 1 ) OR ALL ( TRUE )"),
-    ];
     let alloc = rt.alloc();
-    for (columns, want) in cases {
+    expect_printed(&rt, alloc, WHOLE.0, WHOLE.1)?;
+    for (columns, want) in &FORMS {
         let text = selecting(alloc, columns)?;
         let want = format!(in alloc; "{PRINTED_HEAD}{want}{PRINTED_TAIL}")?;
         expect_printed(&rt, alloc, text.as_str(), want.as_str())?;

@@ -1,7 +1,7 @@
 use Rattle.std.proofs.Common.{◌∙◌, ap, ap₂}
 use Rattle.clap.specs.Words.{App, with_subcommand}
-use Rattle.wsm.proofs.Plain.{third_fails}
-use Rattle.wsm.proofs.words.wsm_command.Goals as goal
+use Rattle.wsm_words.proofs.Plain.{third_fails}
+use Rattle.wsm_words.proofs.words.wsm_command.Goals as goal
 
 pub returns : goal.returns
 returns c =

@@ -2,10 +2,10 @@
 use Rattle.std.specs.Prelude.{◌≡◌, List, Bool, true, false, Option, Some, None, String, codes, option_map, string_bytes}
 use Rattle.clap.specs.Words.{App, Row, Rule, Text, first_of, one_of, new_app, new_rule, with_rule, with_subcommand}
 use Rattle.clap.specs.declared.builder.ArgAction.TheVariants.{SetTrue}
-use Rattle.wsm.specs.declared.words.Job.{Job}
-use Rattle.wsm.specs.declared.words.Job.TheVariants.{Run, Compile, Verify, Explain}
-use Rattle.wsm.specs.declared.words.WordsRefusal.{WordsRefusal}
-use Rattle.wsm.specs.declared.words.WordsRefusal.TheVariants.{Words, Memory}
+use Rattle.wsm_words.specs.declared.words.Job.{Job}
+use Rattle.wsm_words.specs.declared.words.Job.TheVariants.{Run, Compile, Verify, Explain}
+use Rattle.wsm_words.specs.declared.words.WordsRefusal.{WordsRefusal}
+use Rattle.wsm_words.specs.declared.words.WordsRefusal.TheVariants.{Words, Memory}
 
 -- a file that has to be named
 abbrev pub file_rule : Text → Rule

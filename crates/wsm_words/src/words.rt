@@ -2,7 +2,7 @@
 
 ghost use Rattle.std.specs.Prelude.{◌≡◌, true, false, IfOk, IfErr, codes, map, option_map, string_bytes};
 ghost use Rattle.clap.specs.Words.{app_of, found_of, first_of, rows_of, rule_of, subcommand_of, subcommand_rows_of, takes};
-ghost use Rattle.wsm.specs.Words.{the_app, query_app, required_app, run_app, compile_app, verify_app, explain_app, file_rule, program_flag, IsJob, IsJobOf, IsMemory, Names};
+ghost use Rattle.wsm_words.specs.Words.{the_app, query_app, required_app, run_app, compile_app, verify_app, explain_app, file_rule, program_flag, IsJob, IsJobOf, IsMemory, Names};
 
 use crate::help;
 use clap::error::ErrorKind;
@@ -50,7 +50,7 @@ pub enum WordsRefusal {
 }
 
 impl From<AllocError> for WordsRefusal {
-    ghost use Rattle.wsm.specs.Words.{IsMemory};
+    ghost use Rattle.wsm_words.specs.Words.{IsMemory};
 
     ghost from_gives = { λ _ e. IsMemory e };
 
@@ -63,7 +63,7 @@ impl From<clap::Error> for WordsRefusal {
     ghost use Rattle.std.specs.Prelude.{◌≡◌};
     ghost use Rattle.clap.specs.Words.{kind_of};
     ghost use Rattle.clap.specs.declared.error.kind.ErrorKind.TheVariants.{OutOfMemory};
-    ghost use Rattle.wsm.specs.Words.{IsMemory};
+    ghost use Rattle.wsm_words.specs.Words.{IsMemory};
 
     ghost from_gives = { λ e refusal. kind_of e ≡ OutOfMemory → IsMemory refusal };
 

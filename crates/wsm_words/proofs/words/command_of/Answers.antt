@@ -2,8 +2,8 @@ use Rattle.std.proofs.lemmas.Result.{err_from_is_err_and}
 use Rattle.std.proofs.Common.{◌≡◌, ◌∙◌, subst, ap, refl, true, map, List, Option, IfOk}
 use Rattle.clap.specs.Words.{App, Row, Text, is_simple, subcommand_of, takes}
 use Rattle.clap.proofs.OnLiterals.{clap_on_literals}
-use Rattle.wsm.specs.Words.{the_app, IsJobOf}
-use Rattle.wsm.proofs.words.command_of.Goals as goal
+use Rattle.wsm_words.specs.Words.{the_app, IsJobOf}
+use Rattle.wsm_words.proofs.words.command_of.Goals as goal
 
 simple : is_simple the_app ≡ true
 unfolding clap_on_literals

@@ -1,8 +1,8 @@
 use Rattle.std.proofs.Common.{rules, ◌≡◌, ◌∙◌, ap, ap₂, codes}
 use Rattle.clap.specs.Words.{app_of, new_app, rule_of, with_rule}
 use Rattle.clap.specs.Simple.{app_of_fields}
-use Rattle.wsm.specs.Words.{rows_rule}
-use Rattle.wsm.proofs.words.run_command.Goals as goal
+use Rattle.wsm_words.specs.Words.{rows_rule}
+use Rattle.wsm_words.proofs.words.run_command.Goals as goal
 
 -- texts for help change no rule
 pub returns : goal.returns

@@ -1,7 +1,7 @@
 use Rattle.std.proofs.Common.{◌∙◌, refl, codes}
 use Rattle.clap.specs.Words.{found_of}
 use Rattle.clap.proofs.WalkLemmas.{first_value-rows, one_text-rows}
-use Rattle.wsm.proofs.words.run_job.Goals as goal
+use Rattle.wsm_words.proofs.words.run_job.Goals as goal
 
 pub returns-clause-job : goal.returns-clause-job
 returns-clause-job c =

@@ -1,0 +1,21 @@
+//! The words of the program's command, and its help.
+//!
+//! [`command_of`] reads the words as `clap` means them, and answers the [`Job`] that they ask for, or
+//! why they ask for none: they are wrong or ask for help, and `clap`'s error has the text to print, or
+//! memory ran out.
+//!
+//! ```rust
+//! use wsm_words::{Job, command_of};
+//!
+//! let job = command_of(alloc, &["wsm", "compile", "sums.wsm", "sums.bin"])?;
+//! if let Job::Compile { query, out } = job {
+//!     assert_eq!(rt; query.as_str(), "sums.wsm");
+//!     assert_eq!(rt; out.as_str(), "sums.bin");
+//! }
+//! ```
+#![tactic(auto)]
+
+pub use words::{Job, WordsRefusal, command_of};
+
+mod help;
+mod words;
