@@ -2,7 +2,6 @@
 
 ghost use Rattle.std.specs.Prelude.{◌≡◌, ◌≤◌, ◌<◌, cond, length, Ok, Err, IfOk, IfErr};
 ghost use Rattle.wsm_record.specs.Name as name_rule;
-ghost use Rattle.wsm_record.specs.Types.{kind_type};
 ghost use Rattle.wsm_query.specs.Tree.{Aggregate};
 ghost use Rattle.wsm_record.specs.Fields.{declared_type};
 ghost use Rattle.wsm_query.specs.Seen.{seen, seen_expr};
@@ -93,20 +92,11 @@ fn type_of_aggregate(
     match around {
         Around::InColumn => {
             let given = type_of(query, Around::InAggregate, operand)?;
-            let wanted = type_of_kind(kind);
+            let wanted = kind.ty();
             want(given == wanted, wanted)
         }
         Around::InWhere => Err(CheckFault::AggregateInWhere),
         Around::InAggregate => Err(CheckFault::AggregateNested),
-    }
-}
-
-fn type_of_kind(kind: Kind) -> CellType
-    ensures { result ≡ kind_type kind }
-{
-    match kind {
-        Kind::Sum | Kind::Min | Kind::Max => CellType::Int,
-        Kind::Any | Kind::All => CellType::Bool,
     }
 }
 

@@ -9,6 +9,22 @@
 //! [`run_any`] runs a section of any program, verified or not, on [`Inputs`] of the header's types.
 //! Every run ends: in its result, or in the first [`Trap`] that holds. Each jump leads forward, so a
 //! run executes at most as many instructions as its section has. No run takes memory.
+//!
+//! Where `verified` is a program that counts the records of a pane and sums their one field:
+//!
+//! ```rust
+//! use wsm_machine::{Inputs, Machine};
+//! use wsm_program::SectionId;
+//! use wsm_record::{Cell, Value};
+//!
+//! let inputs = Inputs { key: 0, values: &[], count: 2, accs: &[Value::Int(10)] };
+//! assert!(rt; inputs.in_range(&verified, SectionId::Fire));
+//! let mut machine = Machine::open(alloc);
+//! let fired = machine.fire(&verified, &inputs); // COUNT, ACC 0, PUSHB 1, RET
+//! assert!(rt; fired.emits);
+//! assert_eq!(rt; fired.columns, [Cell::Int(2), Cell::Int(10)].as_slice());
+//! assert_eq!(rt; fired.steps, 4);
+//! ```
 #![tactic(auto)]
 
 pub use folds::Folds;

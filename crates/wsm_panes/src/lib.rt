@@ -9,6 +9,26 @@
 //! a search. A pane that a record comes into changes in its slot, as a [`TakesRecords`] says. Slots are
 //! as wide as the panes of their program, which [`Widths`] tells, and a pane that is held is read
 //! through a [`PaneView`].
+//!
+//! Two records of one key in windows of 60, of which one number is summed:
+//!
+//! ```rust
+//! use wsm_panes::{HeldPanes, Widths};
+//! use wsm_record::{Kind, Value};
+//! use wsm_windows::Shape;
+//!
+//! let widths = Widths { accumulators: 1, columns: 2 };
+//! let mut held = HeldPanes::open(alloc, 2, Shape::Fixed(60), 3, widths)?; // three windows of two keys
+//! held.enter(&[Kind::Sum], 0, 5, &[Value::Int(7)]);
+//! held.enter(&[Kind::Sum], 0, 59, &[Value::Int(3)]);
+//! assert_eq!(rt; held.len(), 1);
+//! assert!(rt; held.first_due(59).is_none()); // none ends by 59
+//! if let Some(spot) = held.first_due(60) {
+//!     assert_eq!(rt; held.pane(spot).count(), 2);
+//! }
+//! held.drop_expired(60);
+//! assert_eq!(rt; held.len(), 0);
+//! ```
 #![tactic(auto)]
 
 pub use held::{Entered, HeldPanes};

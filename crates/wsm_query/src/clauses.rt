@@ -29,7 +29,7 @@ fn int(reader: &mut Reader) -> Result<i64, Stop>
     }
 }
 
-// names = name { "," name }
+/// `names = name { "," name }`
 #[tactic(auto, unfolding(crate::specs::Grammar::names, crate::specs::Grammar::list_of, crate::specs::Grammar::brace))]
 pub fn names(alloc: Global, reader: &mut Reader) -> Result<Vec<Name>, Stop>
     ensures gives { Gives (λ v. v.items) result reader.new (names reader.old) }
@@ -82,7 +82,7 @@ fn field(alloc: Global, reader: &mut Reader) -> Result<Field, Stop>
     Ok(Field { name, ty })
 }
 
-// { "FIELD" name type ";" }
+/// `{ "FIELD" name type ";" }`
 #[tactic(auto, unfolding(crate::specs::Grammar::brace))]
 pub fn fields(alloc: Global, reader: &mut Reader) -> Result<Vec<Field>, Stop>
     ensures gives { Gives (λ v. map declared_field v.items) result reader.new (brace (codes "FIELD") field reader.old) }
@@ -97,7 +97,7 @@ pub fn fields(alloc: Global, reader: &mut Reader) -> Result<Vec<Field>, Stop>
     Ok(fields)
 }
 
-// expr { "," expr }
+/// `expr { "," expr }`
 #[tactic(auto, unfolding(crate::specs::Grammar::list_of, crate::specs::Grammar::brace))]
 pub fn columns(alloc: Global, reader: &mut Reader) -> Result<Vec<Expr>, Stop>
     ensures gives { Gives (λ v. map seen_expr v.items) result reader.new (list_of expr reader.old) }
@@ -114,7 +114,7 @@ pub fn columns(alloc: Global, reader: &mut Reader) -> Result<Vec<Expr>, Stop>
     Ok(columns)
 }
 
-// shape = "FIXED" num | "SLIDING" num "EVERY" num | "SESSION" num
+/// `shape = "FIXED" num | "SLIDING" num "EVERY" num | "SESSION" num`
 #[tactic(auto, unfolding(crate::specs::Grammar::shape))]
 pub fn shape(reader: &mut Reader) -> Result<Shape, Stop>
     ensures gives { Gives (λ s. s) result reader.new (shape reader.old) }
@@ -134,7 +134,7 @@ pub fn shape(reader: &mut Reader) -> Result<Shape, Stop>
     Ok(Shape::Session(reader.number()?))
 }
 
-// mode = "ACCUMULATING" | "DISCARDING"
+/// `mode = "ACCUMULATING" | "DISCARDING"`
 #[tactic(auto, unfolding(crate::specs::Grammar::mode))]
 pub fn mode(reader: &mut Reader) -> Result<Mode, Stop>
     ensures gives { Gives (λ m. m) result reader.new (mode reader.old) }
@@ -151,7 +151,7 @@ pub fn mode(reader: &mut Reader) -> Result<Mode, Stop>
     Ok(mode)
 }
 
-// form = "PANES" | "ISTREAM" | "DSTREAM" | "RSTREAM"
+/// `form = "PANES" | "ISTREAM" | "DSTREAM" | "RSTREAM"`
 #[tactic(auto, unfolding(crate::specs::Grammar::form))]
 pub fn form(reader: &mut Reader) -> Result<Form, Stop>
     ensures gives { Gives (λ f. f) result reader.new (form reader.old) }
@@ -172,7 +172,7 @@ pub fn form(reader: &mut Reader) -> Result<Form, Stop>
     Ok(form)
 }
 
-// "EVERY" num, behind EARLY or LATE
+/// `"EVERY" num`, behind EARLY or LATE
 #[tactic(auto, unfolding(crate::specs::Grammar::every))]
 pub fn every(reader: &mut Reader) -> Result<i64, Stop>
     ensures gives { Gives (λ n. n) result reader.new (every reader.old) }
@@ -182,7 +182,7 @@ pub fn every(reader: &mut Reader) -> Result<i64, Stop>
     reader.number()
 }
 
-// "RECORD" num "PANE" num "HELD" num ";", behind BUDGET
+/// `"RECORD" num "PANE" num "HELD" num ";"`, behind BUDGET
 #[tactic(auto, unfolding(crate::specs::Grammar::budget))]
 pub fn budget(reader: &mut Reader) -> Result<Budget, Stop>
     ensures gives { Gives seen_budget result reader.new (budget reader.old) }

@@ -3,6 +3,20 @@
 //! A [`Schema`] is the declared keys and fields of a query. A row of the input is an [`Event`]: a
 //! record of one key, with a time and a [`Value`] for each field, or a watermark. Times are whole
 //! numbers in the query's own unit of event time.
+//!
+//! Where `keys` are the names a and b, and `n` is a name:
+//!
+//! ```rust
+//! use wsm_record::{Field, Name, Schema, Ty, Value};
+//!
+//! let field = Field { name: n, ty: Ty::Int { lo: 0, hi: 100 } };
+//! let schema = Schema::new(alloc, &keys, &[field])?;
+//! assert_eq!(rt; schema.key_number(b"b"), Some(1));
+//! assert_eq!(rt; schema.key_number(b"c"), None);
+//! assert!(rt; schema.fits(&[Value::Int(100)]));
+//! assert!(rt; !schema.fits(&[Value::Int(101)])); // above the field's interval
+//! assert!(rt; Name::new(b"FIELD").is_none()); // a reserved word
+//! ```
 #![tactic(auto)]
 
 pub use cell::Cell;

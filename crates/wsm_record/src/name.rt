@@ -44,6 +44,7 @@ impl Name {
         Some(Name { bytes, len })
     }
 
+    /// Its bytes.
     pub fn as_bytes(&self) -> &[u8]
         ensures { result.now ≡ self.now }
     {

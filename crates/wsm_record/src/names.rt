@@ -70,6 +70,7 @@ impl Names {
         })
     }
 
+    /// How many names there are.
     pub fn len(&self) -> usize
         ensures len { result ≡ length self.now }
         ensures most { result ≤ MAX_NAMES }

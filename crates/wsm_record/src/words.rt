@@ -1,5 +1,8 @@
 //! The words that query texts, programs and their meaning share.
 
+ghost use Rattle.std.specs.Prelude.{◌≡◌};
+ghost use Rattle.wsm_record.specs.Types.{kind_type};
+
 /// What a firing's columns are computed over (Akidau et al. 2015, "refinement").
 #[derive(Clone, Copy, Debug, PartialEq, Eq)]
 pub enum Mode {
@@ -47,4 +50,16 @@ pub enum Kind {
     Any,
     /// Whether all are true.
     All,
+}
+
+impl Kind {
+    /// The type of the values, and of what they come to.
+    pub fn ty(self) -> CellType
+        ensures { result ≡ kind_type self }
+    {
+        match self {
+            Kind::Sum | Kind::Min | Kind::Max => CellType::Int,
+            Kind::Any | Kind::All => CellType::Bool,
+        }
+    }
 }

@@ -45,6 +45,7 @@ pub enum Seen<'a> {
     Fault(Fault, usize),
 }
 
+/// Whether a byte is a blank: a space, a tab, or one that ends a line.
 pub fn is_blank(byte: u8) -> bool
     ensures { result ≡ is_blank byte }
 {
