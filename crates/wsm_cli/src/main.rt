@@ -6,8 +6,6 @@
 #![tactic(auto)]
 
 mod jobs;
-#[cfg(test)]
-mod tests;
 
 use crate::jobs::done;
 use std::env;

@@ -3,7 +3,7 @@
 use std::alloc::{AllocError, Global};
 use std::process::Abort;
 use std::test::*;
-use wsm_query::{Expr, parse, print};
+use wsm_query::{parse, print};
 
 const HEAD: &str =
     "KEYS a, b;\nFIELD n INT 0..100;\nSTART 0; SKEW 100; LATENESS 10; RECORDS 1000;\nSELECT ";
@@ -69,23 +69,5 @@ fn each_form_is_printed(rt: HostRuntime) -> Result<(), Fail> {
         let want = format!(in alloc; "{PRINTED_HEAD}{want}{PRINTED_TAIL}")?;
         expect_printed(&rt, alloc, text.as_str(), want.as_str())?;
     }
-    Ok(())
-}
-
-// No text has such a number as one token.
-#[test]
-fn negative_numbers_are_printed_behind_a_minus(rt: HostRuntime) -> Result<(), Fail> {
-    let alloc = rt.alloc();
-    let text = selecting(alloc, "1")?;
-    let mut query = parse(alloc, text.as_bytes())?;
-    query.start = i64::MIN;
-    query.skew = -1;
-    query.columns.clear();
-    query.columns.push(Expr::Number(i64::MAX))?;
-    let printed = print(alloc, &query)?;
-    let want = format!(in alloc;
-        "KEYS a , b ; FIELD n INT 0 .. 100 ; START - 9223372036854775808 ; SKEW - 1 ; LATENESS 10 ; RECORDS 1000 ; SELECT 9223372036854775807{PRINTED_TAIL}"
-    )?;
-    assert_eq!(rt; printed.as_slice(), want.as_bytes());
     Ok(())
 }
