@@ -10,7 +10,8 @@ use Rattle.wsm_program.specs.declared.instr.Instr.TheVariants.{PushInt, PushBool
 use Rattle.wsm_program.specs.Program.{Name, Header, Program, is_name_of, is_instr, is_section, is_header, is_program, latest_time, is_span, is_size}
 use Rattle.wsm_record.specs.Schema.{FieldType, Int, Truth, Enum, DeclaredField, Declared, is_name_list, are_names_after, is_field_after, are_fields_after, is_field_type, is_schema, is_within, names_of_type, names_of_field, enum_names}
 use Rattle.wsm_record.specs.Name.{is_name, is_among, is_between}
-use Rattle.wsm_bytecode.specs.Reading.{judged, number_at, signed_at, enum_number_at, push_int_at, push_bool_at, push_enum_at, index_at, target_at, plain_instr, instr_by, instr_at, code_at, several, after_magic, after_version, schema_at, clock_at, shape_at, mode_at, triggers_at, form_at, kinds_at, columns_at, budget_at, header_at, program_at, decode}
+use Rattle.wsm_bytecode.specs.declared.reading.settings.Settings.{Settings}
+use Rattle.wsm_bytecode.specs.Reading.{judged, number_at, signed_at, enum_number_at, push_int_at, push_bool_at, push_enum_at, index_at, target_at, plain_instr, instr_by, instr_at, code_at, several, after_magic, after_version, schema_at, clock_at, shape_at, mode_at, triggers_at, form_at, settings_at, kinds_at, columns_at, budget_at, body_at, header_at, program_at, decode}
 use Rattle.wsm_program.specs.declared.operation.Operation.{Operation}
 use Rattle.wsm_program.specs.declared.operation.Operation.TheVariants.{Add}
 use Rattle.wsm_program.specs.Operations as operation
@@ -110,7 +111,7 @@ code_again h few is rest good =
 
 -- ---- the header
 
-pub regroup_15 : (a0 a1 a2 a3 a4 a5 a6 a7 a8 a9 a10 a11 a12 a13 a14 rest : List ℕ)
+regroup_15 : (a0 a1 a2 a3 a4 a5 a6 a7 a8 a9 a10 a11 a12 a13 a14 rest : List ℕ)
     → a0 ++ a1 ++ a2 ++ a3 ++ a4 ++ a5 ++ a6 ++ a7 ++ a8 ++ a9 ++ a10 ++ a11 ++ a12 ++ a13 ++ a14 ++ rest
     ≡ a0 ++ (a1 ++ (a2 ++ (a3 ++ (a4 ++ (a5 ++ (a6 ++ (a7 ++ (a8 ++ (a9 ++ (a10 ++ (a11 ++ (a12 ++ (a13 ++ (a14 ++ rest))))))))))))))
 regroup_15 a0 a1 a2 a3 a4 a5 a6 a7 a8 a9 a10 a11 a12 a13 a14 rest = simp append_assoc refl
@@ -171,14 +172,24 @@ triggers_step : (early late : ℤ) (bytes mid rest : List ℕ) → judged is_spa
 unfolding triggers_at
 triggers_step early late bytes mid rest e f = rw (e, f) refl
 
-header_step : (h : Header) (bytes r1 r2 r3 r4 r5 r6 r7 r8 r9 r10 rest : List ℕ)
-    → after_magic bytes ≡ Ok r1 → after_version r1 ≡ Ok r2 → schema_at r2 ≡ Ok (h.schema, r3) → clock_at r3 ≡ Ok (h.clock, r4)
-    → shape_at r4 ≡ Ok (h.shape, r5) → mode_at r5 ≡ Ok (h.mode, r6) → triggers_at r6 ≡ Ok ((h.early, h.late), r7) → form_at h.mode r7 ≡ Ok (h.form, r8)
-    → kinds_at r8 ≡ Ok (h.kinds, r9) → columns_at h.schema r9 ≡ Ok (h.columns, r10) → budget_at r10 ≡ Ok (h.budget, rest)
+body_step : (bytes mid rest : List ℕ) → after_magic bytes ≡ Ok mid → after_version mid ≡ Ok rest → body_at bytes ≡ Ok rest
+unfolding body_at
+body_step bytes mid rest e f = rw (e, f) refl
+
+settings_step : (s : Settings) (bytes r1 r2 r3 r4 rest : List ℕ) → clock_at bytes ≡ Ok (s.clock, r1) → shape_at r1 ≡ Ok (s.shape, r2) → mode_at r2 ≡ Ok (s.mode, r3)
+    → triggers_at r3 ≡ Ok ((s.early, s.late), r4) → form_at s.mode r4 ≡ Ok (s.form, rest) → settings_at bytes ≡ Ok (s, rest)
+unfolding settings_at
+settings_step s bytes r1 r2 r3 r4 rest e1 e2 e3 e4 e5 = rw (e1, e2, e3, e4, e5) refl
+
+abbrev pub settings_in : Header → Settings
+settings_in h = record { clock = h.clock; shape = h.shape; mode = h.mode; early = h.early; late = h.late; form = h.form }
+
+header_step : (h : Header) (bytes r1 r2 r3 r4 r5 rest : List ℕ)
+    → body_at bytes ≡ Ok r1 → schema_at r1 ≡ Ok (h.schema, r2) → settings_at r2 ≡ Ok (settings_in h, r3)
+    → kinds_at r3 ≡ Ok (h.kinds, r4) → columns_at h.schema r4 ≡ Ok (h.columns, r5) → budget_at r5 ≡ Ok (h.budget, rest)
     → header_at bytes ≡ Ok (h, rest)
 unfolding header_at
-header_step h bytes r1 r2 r3 r4 r5 r6 r7 r8 r9 r10 rest e1 e2 e3 e4 e5 e6 e7 e8 e9 e10 e11 =
-    rw (e1, e2, e3, e4, e5, e6, e7, e8, e9, e10, e11) refl
+header_step h bytes r1 r2 r3 r4 r5 rest e1 e2 e3 e4 e5 e6 = rw (e1, e2, e3, e4, e5, e6) refl
 
 pub header_again : (h : Header) (rest : List ℕ) → HeaderParts h → header_at (header h ++ rest) ≡ Ok (h, rest)
 unfolding header
@@ -198,11 +209,12 @@ header_again h rest p =
     let r2 = schema h.schema ++ r3 in
     let r1 = byte 1 ++ r2 in
     ap header_at (regroup_15 magic (byte 1) (schema h.schema) (signed h.clock.start) (signed h.clock.skew) (signed h.clock.lateness) (signed h.clock.records) (shape h.shape) (mode h.mode) (signed h.early) (signed h.late) (form h.form) (kinds h.kinds) (columns h.columns) (budget h.budget) rest)
-    ∙ header_step h (magic ++ r1) r1 r2 r3 r7 r8 r9 r11 r12 r13 r14 rest
-    (magic_again r1) (version_again r2) (schema_again h.schema r3 p.schema)
+    ∙ header_step h (magic ++ r1) r2 r3 r12 r13 r14 rest
+    (body_step (magic ++ r1) r1 r2 (magic_again r1) (version_again r2)) (schema_again h.schema r3 p.schema)
+    (settings_step (settings_in h) r3 r7 r8 r9 r11 r12
     (clock_step h.clock r3 r4 r5 r6 r7 (start_again h.clock.start r4 p.start) (span_again h.clock.skew r5 p.skew) (span_again h.clock.lateness r6 p.lateness) (size_again h.clock.records r7 p.records))
     (shape_again h.shape r8 p.shape) (mode_again h.mode r9)
-    (triggers_step h.early h.late r9 r10 r11 (span_again h.early r10 p.early) (span_again h.late r11 p.late)) (form_again h.mode h.form r12 p.form)
+    (triggers_step h.early h.late r9 r10 r11 (span_again h.early r10 p.early) (span_again h.late r11 p.late)) (form_again h.mode h.form r12 p.form))
     (kinds_again h.kinds r13 p.kinds) (columns_again h.schema h.columns r14 (few_fields h.schema p.schema) p.count p.columns) (budget_again h.budget rest p.budget)
 
 -- ---- the program

@@ -10,22 +10,20 @@ use Rattle.wsm_program.specs.declared.refusal.DecodeRefusal.TheVariants.{BadMagi
 use Rattle.wsm_program.specs.declared.instr.Instr.{Instr}
 use Rattle.wsm_record.specs.declared.words.CellType.{CellType}
 use Rattle.wsm_record.specs.declared.Kind.{Kind}
-use Rattle.wsm_windows.specs.declared.Shape.{Shape}
-use Rattle.wsm_record.specs.declared.Mode.{Mode}
-use Rattle.wsm_record.specs.declared.Form.{Form}
 use Rattle.wsm_program.specs.declared.instr.Instr.TheVariants.{PushInt, PushBool, PushEnum, Field, Key, Acc, Count, Operate, Jump, JumpIfFalse, Fold, Return}
 use Rattle.wsm_record.specs.Schema.{Declared, is_schema, is_within, enum_names}
 use Rattle.wsm_admission.specs.declared.clock.Clock.{Clock}
 use Rattle.wsm_program.specs.declared.program.Costs.{Costs}
-use Rattle.wsm_program.specs.Program.{Header, Program, is_name_of, is_instr, is_section, is_header, is_program, latest_time, is_span, is_size, is_column}
+use Rattle.wsm_program.specs.Program.{Header, Program, is_name_of, is_instr, is_section, is_header, is_program, latest_time, is_span, is_size, is_shape, is_form_of, is_column}
 use Rattle.wsm_record.specs.Name.{is_between}
-use Rattle.wsm_bytecode.specs.Reading.{◌>>=◌, Read, judged, number_at, signed_at, enum_number_at, push_int_at, push_bool_at, push_enum_at, index_at, target_at, plain_instr, plain_at, instr_by, instr_at, code_at, several, after_magic, after_version, bytes_at, schema_at, clock_at, shape_at, mode_at, triggers_at, form_at, kinds_at, columns_at, budget_at, header_at, program_at, all_read, decode}
+use Rattle.wsm_bytecode.specs.declared.reading.settings.Settings.{Settings}
+use Rattle.wsm_bytecode.specs.Reading.{◌>>=◌, Read, judged, number_at, signed_at, enum_number_at, push_int_at, push_bool_at, push_enum_at, index_at, target_at, plain_instr, plain_at, instr_by, instr_at, code_at, several, after_magic, after_version, bytes_at, schema_at, clock_at, triggers_at, settings_at, kinds_at, columns_at, budget_at, body_at, header_at, program_at, all_read, decode}
 use Rattle.wsm_program.specs.declared.operation.Operation.{Operation}
 use Rattle.wsm_program.specs.Operations as operation
 use Rattle.wsm_program.specs.Operations.{of_code, first_of_code, operations}
 use Rattle.wsm_program.specs.Instructions.{truth}
 use Rattle.wsm_bytecode.specs.Spelling.{byte, number, signed, instr, code, magic, header, schema, shape, mode, form, kinds, columns, budget, spelling}
-use Rattle.wsm_bytecode.proofs.Codec.{regroup_4, regroup_15}
+use Rattle.wsm_bytecode.proofs.Codec.{regroup_4, settings_in}
 use Rattle.wsm_bytecode.proofs.Taken.{IsBytes, bind_ok, test_ok, judged_ok, ok_is, Took, Exact, bytes_taken, byte_taken, number_taken, wide16, signed_taken, several_taken}
 use Rattle.wsm_program.proofs.Within.{at_most}
 use Rattle.wsm_bytecode.proofs.TakenParts.{tag_taken, measure_taken, schema_taken, shape_taken, mode_taken, form_taken, kinds_taken, columns_taken, budget_taken, enum_number_taken}
@@ -228,83 +226,103 @@ triggers_taken bytes x fits e =
     subst (λ y. Took triggers_bytes are_spans bytes y) (ok_is made x l1)
     (record { parts = t.parts ∙ ap (λ r. signed early.0 ++ r) u.parts ∙ sym (append_assoc (signed early.0) (signed late.0) late.1); fits = u.fits; good = and_from _ _ t.good u.good })))
 
-header_joined : (h : Header) (bytes r1 r2 r3 r7 r8 r9 r11 r12 r13 r14 rest : List ℕ)
-    → bytes ≡ magic ++ r1 → r1 ≡ byte 1 ++ r2 → r2 ≡ schema h.schema ++ r3 → r3 ≡ clock_bytes h.clock ++ r7 → r7 ≡ shape h.shape ++ r8 → r8 ≡ mode h.mode ++ r9 → r9 ≡ triggers_bytes (h.early, h.late) ++ r11 → r11 ≡ form h.form ++ r12 → r12 ≡ kinds h.kinds ++ r13 → r13 ≡ columns h.columns ++ r14 → r14 ≡ budget h.budget ++ rest
+abbrev settings_bytes : Settings → List ℕ
+settings_bytes s = clock_bytes s.clock ++ shape s.shape ++ mode s.mode ++ triggers_bytes (s.early, s.late) ++ form s.form
+
+abbrev fires : Settings → Bool
+fires s = is_shape s.shape && (is_span s.early && (is_span s.late && is_form_of s.mode s.form))
+
+abbrev are_settings : Settings → Bool
+are_settings s = is_time s.clock && fires s
+
+regroup_5 : (a b c d e rest : List ℕ) → a ++ b ++ c ++ d ++ e ++ rest ≡ a ++ (b ++ (c ++ (d ++ (e ++ rest))))
+regroup_5 a b c d e rest = simp append_assoc refl
+
+settings_taken : Exact settings_at settings_bytes are_settings
+unfolding settings_at
+settings_taken bytes x fits e =
+    bind_then _ _ x e (λ clock e0 l0.
+    bind_then _ _ x l0 (λ v_shape e1 l1.
+    bind_then _ _ x l1 (λ v_mode e2 l2.
+    bind_then _ _ x l2 (λ triggers e3 l3.
+    bind_then _ _ x l3 (λ v_form e4 l4.
+    let t = clock_taken bytes clock fits e0 in
+    let u = shape_taken clock.1 v_shape t.fits e1 in
+    let v = mode_taken v_shape.1 v_mode u.fits e2 in
+    let w = triggers_taken v_mode.1 triggers v.fits e3 in
+    let z = form_taken v_mode.0 triggers.1 v_form w.fits e4 in
+    let d = and_parts (is_span triggers.0.0) (is_span triggers.0.1) w.good in
+    let made : Settings × List ℕ = (record { clock = clock.0; shape = v_shape.0; mode = v_mode.0; early = triggers.0.0; late = triggers.0.1; form = v_form.0 }, v_form.1) in
+    subst (λ y. Took settings_bytes are_settings bytes y) (ok_is made x l4)
+    (record {
+      parts = t.parts ∙ ap (λ r. clock_bytes clock.0 ++ r) (u.parts ∙ ap (λ r. shape v_shape.0 ++ r) (v.parts ∙ ap (λ r. mode v_mode.0 ++ r) (w.parts ∙ ap (λ r. triggers_bytes triggers.0 ++ r) z.parts)))
+          ∙ sym (regroup_5 (clock_bytes clock.0) (shape v_shape.0) (mode v_mode.0) (triggers_bytes triggers.0) (form v_form.0) v_form.1);
+      fits = z.fits;
+      good = and_from _ _ t.good (and_from _ _ u.good (and_from _ _ d.0 (and_from _ _ d.1 z.good)));
+    }))))))
+
+body_taken : (bytes rest : List ℕ) → IsBytes bytes → body_at bytes ≡ Ok rest → (bytes ≡ magic ++ (byte 1 ++ rest)) × IsBytes rest
+unfolding body_at
+body_taken bytes rest fits e =
+    bind_then _ _ rest e (λ numbered e0 l0.
+    let t = magic_taken bytes numbered fits e0 in
+    let u = version_taken numbered rest t.1 l0 in
+    (t.0 ∙ ap (λ r. magic ++ r) u.0, u.1))
+
+regroup_header : (a0 a1 a2 a3 a4 a5 a6 a7 a8 a9 a10 a11 a12 a13 a14 rest : List ℕ)
+    → a0 ++ (a1 ++ (a2 ++ ((a3 ++ a4 ++ a5 ++ a6 ++ a7 ++ a8 ++ (a9 ++ a10) ++ a11) ++ (a12 ++ (a13 ++ (a14 ++ rest))))))
+    ≡ a0 ++ a1 ++ a2 ++ a3 ++ a4 ++ a5 ++ a6 ++ a7 ++ a8 ++ a9 ++ a10 ++ a11 ++ a12 ++ a13 ++ a14 ++ rest
+regroup_header a0 a1 a2 a3 a4 a5 a6 a7 a8 a9 a10 a11 a12 a13 a14 rest = simp append_assoc refl
+
+header_joined : (h : Header) (bytes r1 r2 r3 r4 r5 rest : List ℕ)
+    → bytes ≡ magic ++ (byte 1 ++ r1) → r1 ≡ schema h.schema ++ r2 → r2 ≡ settings_bytes (settings_in h) ++ r3 → r3 ≡ kinds h.kinds ++ r4 → r4 ≡ columns h.columns ++ r5 → r5 ≡ budget h.budget ++ rest
     → bytes ≡ header h ++ rest
 unfolding header
-header_joined h bytes r1 r2 r3 r7 r8 r9 r11 r12 r13 r14 rest e0 e1 e2 e3 e7 e8 e9 e11 e12 e13 e14 =
-    let s15 : List ℕ = rest in
-    let s14 : List ℕ = budget h.budget ++ s15 in
-    let s13 : List ℕ = columns h.columns ++ s14 in
-    let s12 : List ℕ = kinds h.kinds ++ s13 in
-    let s11 : List ℕ = form h.form ++ s12 in
-    let s10 : List ℕ = signed h.late ++ s11 in
-    let s9 : List ℕ = signed h.early ++ s10 in
-    let s8 : List ℕ = mode h.mode ++ s9 in
-    let s7 : List ℕ = shape h.shape ++ s8 in
-    let s6 : List ℕ = signed h.clock.records ++ s7 in
-    let s5 : List ℕ = signed h.clock.lateness ++ s6 in
-    let s4 : List ℕ = signed h.clock.skew ++ s5 in
-    let s3 : List ℕ = signed h.clock.start ++ s4 in
-    let s2 : List ℕ = schema h.schema ++ s3 in
-    let s1 : List ℕ = byte 1 ++ s2 in
-    let q14 : r14 ≡ s14 = e14 in
-    let q13 : r13 ≡ s13 = e13 ∙ ap (λ r. columns h.columns ++ r) q14 in
-    let q12 : r12 ≡ s12 = e12 ∙ ap (λ r. kinds h.kinds ++ r) q13 in
-    let q11 : r11 ≡ s11 = e11 ∙ ap (λ r. form h.form ++ r) q12 in
-    let q9 : r9 ≡ s9 = e9 ∙ append_assoc (signed h.early) (signed h.late) r11 ∙ ap (λ r. signed h.early ++ (signed h.late ++ r)) q11 in
-    let q8 : r8 ≡ s8 = e8 ∙ ap (λ r. mode h.mode ++ r) q9 in
-    let q7 : r7 ≡ s7 = e7 ∙ ap (λ r. shape h.shape ++ r) q8 in
-    let c : List ℕ → List ℕ = λ r. signed h.clock.start ++ (signed h.clock.skew ++ (signed h.clock.lateness ++ (signed h.clock.records ++ r))) in
-    let q3 : r3 ≡ s3 = e3 ∙ regroup_4 (signed h.clock.start) (signed h.clock.skew) (signed h.clock.lateness) (signed h.clock.records) r7 ∙ ap c q7 in
-    let q2 : r2 ≡ s2 = e2 ∙ ap (λ r. schema h.schema ++ r) q3 in
-    let q1 : r1 ≡ s1 = e1 ∙ ap (λ r. byte 1 ++ r) q2 in
-    e0 ∙ ap (λ r. magic ++ r) q1 ∙ sym (regroup_15 magic (byte 1) (schema h.schema) (signed h.clock.start) (signed h.clock.skew) (signed h.clock.lateness) (signed h.clock.records) (shape h.shape) (mode h.mode) (signed h.early) (signed h.late) (form h.form) (kinds h.kinds) (columns h.columns) (budget h.budget) rest)
+header_joined h bytes r1 r2 r3 r4 r5 rest e0 e1 e2 e3 e4 e5 =
+    let q4 = e4 ∙ ap (λ r. columns h.columns ++ r) e5 in
+    let q3 = e3 ∙ ap (λ r. kinds h.kinds ++ r) q4 in
+    let q2 = e2 ∙ ap (λ r. settings_bytes (settings_in h) ++ r) q3 in
+    let q1 = e1 ∙ ap (λ r. schema h.schema ++ r) q2 in
+    e0 ∙ ap (λ r. magic ++ (byte 1 ++ r)) q1
+    ∙ regroup_header magic (byte 1) (schema h.schema) (signed h.clock.start) (signed h.clock.skew) (signed h.clock.lateness) (signed h.clock.records) (shape h.shape) (mode h.mode) (signed h.early) (signed h.late) (form h.form) (kinds h.kinds) (columns h.columns) (budget h.budget) rest
 
-header_from : (bytes : List ℕ) (x : Header × List ℕ) (v_m v_version : List ℕ) (v_schema : Declared × List ℕ) (v_clock : Clock × List ℕ) (v_shape : Shape × List ℕ) (v_mode : Mode × List ℕ) (v_triggers : (ℤ × ℤ) × List ℕ) (v_form : Form × List ℕ) (v_kinds : List Kind × List ℕ) (v_columns : List CellType × List ℕ) (v_budget : Costs × List ℕ)
-    → IsBytes bytes → after_magic bytes ≡ Ok v_m → after_version v_m ≡ Ok v_version → schema_at v_version ≡ Ok v_schema → clock_at v_schema.1 ≡ Ok v_clock → shape_at v_clock.1 ≡ Ok v_shape → mode_at v_shape.1 ≡ Ok v_mode → triggers_at v_mode.1 ≡ Ok v_triggers → form_at v_mode.0 v_triggers.1 ≡ Ok v_form → kinds_at v_form.1 ≡ Ok v_kinds → columns_at v_schema.0 v_kinds.1 ≡ Ok v_columns → budget_at v_columns.1 ≡ Ok v_budget
-    → header_done (record { schema = v_schema.0; clock = v_clock.0; shape = v_shape.0; mode = v_mode.0; early = v_triggers.0.0; late = v_triggers.0.1; form = v_form.0; kinds = v_kinds.0; columns = v_columns.0; budget = v_budget.0 }, v_budget.1) ≡ Ok x → Took header is_header bytes x
+abbrev made_of : Declared → Settings → List Kind → List CellType → Costs → Header
+made_of d s ks ts b = record { schema = d; clock = s.clock; shape = s.shape; mode = s.mode; early = s.early; late = s.late; form = s.form; kinds = ks; columns = ts; budget = b }
+
+header_from : (bytes : List ℕ) (x : Header × List ℕ) (v_body : List ℕ) (v_schema : Declared × List ℕ) (v_settings : Settings × List ℕ) (v_kinds : List Kind × List ℕ) (v_columns : List CellType × List ℕ) (v_budget : Costs × List ℕ)
+    → IsBytes bytes → body_at bytes ≡ Ok v_body → schema_at v_body ≡ Ok v_schema → settings_at v_schema.1 ≡ Ok v_settings → kinds_at v_settings.1 ≡ Ok v_kinds → columns_at v_schema.0 v_kinds.1 ≡ Ok v_columns → budget_at v_columns.1 ≡ Ok v_budget
+    → header_done (made_of v_schema.0 v_settings.0 v_kinds.0 v_columns.0 v_budget.0, v_budget.1) ≡ Ok x → Took header is_header bytes x
 unfolding is_header is_schema
-header_from bytes x v_m v_version v_schema v_clock v_shape v_mode v_triggers v_form v_kinds v_columns v_budget fits e0 e1 e2 e3 e4 e5 e6 e7 e8 e9 e10 last =
-    let t0 = magic_taken bytes v_m fits e0 in
-    let t1 = version_taken v_m v_version t0.1 e1 in
-    let t2 = schema_taken v_version v_schema t1.1 e2 in
-    let t3 = clock_taken v_schema.1 v_clock t2.fits e3 in
-    let t4 = shape_taken v_clock.1 v_shape t3.fits e4 in
-    let t5 = mode_taken v_shape.1 v_mode t4.fits e5 in
-    let t6 = triggers_taken v_mode.1 v_triggers t5.fits e6 in
-    let t7 = form_taken v_mode.0 v_triggers.1 v_form t6.fits e7 in
-    let t8 = kinds_taken v_form.1 v_kinds t7.fits e8 in
-    let t9 = columns_taken v_schema.0 v_kinds.1 v_columns t8.fits e9 in
-    let t10 = budget_taken v_columns.1 v_budget t9.fits e10 in
-    let c = and_parts (is_between 1 16 (length v_columns.0)) (list_all (is_column v_schema.0) v_columns.0) t9.good in
-    let d = and_parts (is_span v_triggers.0.0) (is_span v_triggers.0.1) t6.good in
-    let made : Header × List ℕ = (record { schema = v_schema.0; clock = v_clock.0; shape = v_shape.0; mode = v_mode.0; early = v_triggers.0.0; late = v_triggers.0.1; form = v_form.0; kinds = v_kinds.0; columns = v_columns.0; budget = v_budget.0 }, v_budget.1) in
+header_from bytes x v_body v_schema v_settings v_kinds v_columns v_budget fits e0 e1 e2 e3 e4 e5 last =
+    let t0 = body_taken bytes v_body fits e0 in
+    let t1 = schema_taken v_body v_schema t0.1 e1 in
+    let t2 = settings_taken v_schema.1 v_settings t1.fits e2 in
+    let t3 = kinds_taken v_settings.1 v_kinds t2.fits e3 in
+    let t4 = columns_taken v_schema.0 v_kinds.1 v_columns t3.fits e4 in
+    let t5 = budget_taken v_columns.1 v_budget t4.fits e5 in
+    let c = and_parts (is_between 1 16 (length v_columns.0)) (list_all (is_column v_schema.0) v_columns.0) t4.good in
+    let d = and_parts (is_time v_settings.0.clock) (fires v_settings.0) t2.good in
+    let made : Header × List ℕ = (made_of v_schema.0 v_settings.0 v_kinds.0 v_columns.0 v_budget.0, v_budget.1) in
     subst (λ y. Took header is_header bytes y) (ok_is made x last)
     (record {
-      parts = header_joined made.0 bytes v_m v_version v_schema.1 v_clock.1 v_shape.1 v_mode.1 v_triggers.1 v_form.1 v_kinds.1 v_columns.1 v_budget.1 t0.0 t1.0 t2.parts t3.parts t4.parts t5.parts t6.parts t7.parts t8.parts t9.parts t10.parts;
-      fits = t10.fits;
-      good = and_from _ _ t2.good
-          (and_from _ _ t3.good
-          (and_from _ _ (and_from _ _ t4.good (and_from _ _ d.0 (and_from _ _ d.1 t7.good)))
-          (and_from _ _ (and_from _ _ t8.good (and_from _ _ c.0 c.1)) t10.good)));
+      parts = header_joined made.0 bytes v_body v_schema.1 v_settings.1 v_kinds.1 v_columns.1 v_budget.1 t0.0 t1.parts t2.parts t3.parts t4.parts t5.parts;
+      fits = t5.fits;
+      good = and_from _ _ t1.good
+          (and_from _ _ d.0
+          (and_from _ _ d.1
+          (and_from _ _ (and_from _ _ t3.good (and_from _ _ c.0 c.1)) t5.good)));
     })
 
 pub header_taken : Exact header_at header is_header
 unfolding header_at
 header_taken bytes x fits l0 =
-    bind_then _ _ x l0 (λ v_m e0 l1.
-    bind_then _ _ x l1 (λ v_version e1 l2.
-    bind_then _ _ x l2 (λ v_schema e2 l3.
-    bind_then _ _ x l3 (λ v_clock e3 l4.
-    bind_then _ _ x l4 (λ v_shape e4 l5.
-    bind_then _ _ x l5 (λ v_mode e5 l6.
-    bind_then _ _ x l6 (λ v_triggers e6 l7.
-    bind_then _ _ x l7 (λ v_form e7 l8.
-    bind_then _ _ x l8 (λ v_kinds e8 l9.
-    bind_then _ _ x l9 (λ v_columns e9 l10.
-    bind_then _ _ x l10 (λ v_budget e10 l11.
-    header_from bytes x v_m v_version v_schema v_clock v_shape v_mode v_triggers v_form v_kinds v_columns v_budget fits e0 e1 e2 e3 e4 e5 e6 e7 e8 e9 e10 l11)))))))))))
+    bind_then _ _ x l0 (λ v_body e0 l1.
+    bind_then _ _ x l1 (λ v_schema e1 l2.
+    bind_then _ _ x l2 (λ v_settings e2 l3.
+    bind_then _ _ x l3 (λ v_kinds e3 l4.
+    bind_then _ _ x l4 (λ v_columns e4 l5.
+    bind_then _ _ x l5 (λ v_budget e5 l6.
+    header_from bytes x v_body v_schema v_settings v_kinds v_columns v_budget fits e0 e1 e2 e3 e4 e5 l6))))))
 
 -- ---- the program
 

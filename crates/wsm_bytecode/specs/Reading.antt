@@ -22,6 +22,7 @@ use Rattle.wsm_program.specs.declared.program.Costs.{Costs}
 use Rattle.wsm_record.specs.declared.limits.TheConstants.{MAX_ACCUMULATORS, MAX_COLUMNS, MAX_FIELDS, MAX_NAME, MAX_NAMES, MAX_PANES, MAX_SECTION}
 use Rattle.wsm_record.specs.Name.{is_between, is_name, is_among}
 use Rattle.wsm_bytecode.specs.Spelling.{magic}
+use Rattle.wsm_bytecode.specs.declared.reading.settings.Settings.{Settings}
 use Rattle.wsm_program.specs.Operations.{of_code}
 
 -- a value and the bytes after it, or the first fault
@@ -188,6 +189,19 @@ form_at m bytes = do
   tag ← judged (λ n. is_between 0 3 n && is_form_of m (form_by n)) (number_at w8 bytes)
   Ok (form_by tag.0, tag.1)
 
+-- behind the schema, in front of the accumulators
+unfoldable pub settings_at : List ℕ → Read Settings
+settings_at bytes = do
+  clock ← clock_at bytes
+  shape ← shape_at clock.1
+  mode ← mode_at shape.1
+  triggers ← triggers_at mode.1
+  form ← form_at mode.0 triggers.1
+  Ok (
+    record { clock = clock.0; shape = shape.0; mode = mode.0; early = triggers.0.0; late = triggers.0.1; form = form.0 },
+    form.1,
+  )
+
 abbrev pub kind_by : ℕ → Kind
 kind_by zero = Sum
 kind_by (suc zero) = Min
@@ -247,28 +261,29 @@ after_version bytes = do
   v ← number_at w8 bytes
   if v.0 == 1 then Ok v.1 else Err Version
 
+-- the bytes after the magic ones and the version
+unfoldable pub body_at : List ℕ → Result (List ℕ) DecodeRefusal
+body_at bytes = do
+  numbered ← after_magic bytes
+  after_version numbered
+
 unfoldable pub header_at : List ℕ → Read Header
 header_at bytes = do
-  numbered ← after_magic bytes
-  declared ← after_version numbered
-  schema ← schema_at declared
-  clock ← clock_at schema.1
-  shape ← shape_at clock.1
-  mode ← mode_at shape.1
-  triggers ← triggers_at mode.1
-  form ← form_at mode.0 triggers.1
-  kinds ← kinds_at form.1
+  body ← body_at bytes
+  schema ← schema_at body
+  settings ← settings_at schema.1
+  kinds ← kinds_at settings.1
   columns ← columns_at schema.0 kinds.1
   budget ← budget_at columns.1
   Ok (
     record {
       schema = schema.0;
-      clock = clock.0;
-      shape = shape.0;
-      mode = mode.0;
-      early = triggers.0.0;
-      late = triggers.0.1;
-      form = form.0;
+      clock = settings.0.clock;
+      shape = settings.0.shape;
+      mode = settings.0.mode;
+      early = settings.0.early;
+      late = settings.0.late;
+      form = settings.0.form;
       kinds = kinds.0;
       columns = columns.0;
       budget = budget.0;

@@ -14,7 +14,7 @@ use Rattle.wsm_program.specs.declared.refusal.DecodeRefusal.{DecodeRefusal}
 use Rattle.wsm_program.specs.declared.refusal.DecodeRefusal.TheVariants.{BadMagic, Version, Truncated, UnknownOpcode, Operand, TrailingBytes}
 use Rattle.wsm_program.specs.Program.{Program, is_header, is_section, is_program}
 use Rattle.wsm_bytecode.specs.Spelling.{long, signed, schema, header, instr, code, spelling}
-use Rattle.wsm_bytecode.specs.Reading.{name_at, names_at, interval_at, enum_at, field_type_at, new_field_at, schema_at, fixed_at, sliding_at, session_at, clock_at, shape_at, mode_at, triggers_at, form_at, kind_at, kinds_at, enum_number_at, enum_column_at, column_at, columns_at, budget_at, after_magic, after_version, header_at, push_int_at, push_bool_at, push_enum_at, index_at, target_at, plain_instr, instr_by, instr_at, code_at, program_at, decode}
+use Rattle.wsm_bytecode.specs.Reading.{name_at, names_at, interval_at, enum_at, field_type_at, new_field_at, schema_at, fixed_at, sliding_at, session_at, clock_at, shape_at, mode_at, triggers_at, form_at, settings_at, kind_at, kinds_at, enum_number_at, enum_column_at, column_at, columns_at, budget_at, after_magic, after_version, body_at, header_at, push_int_at, push_bool_at, push_enum_at, index_at, target_at, plain_instr, instr_by, instr_at, code_at, program_at, decode}
 use Rattle.wsm_program.specs.Operations.{of_code}
 use Rattle.wsm_program.specs.Text.{Word, Letters, Number}
 use Rattle.wsm_bytecode.specs.Text.{section_lines, lines}
@@ -72,36 +72,34 @@ base_spelled : spelling base ≡ base_bytes
 unfolding spelling header schema code instr long signed
 base_spelled = refl
 
-base_read : decode base_bytes ≡ Ok base
-unfolding name_at names_at interval_at enum_at field_type_at new_field_at schema_at fixed_at sliding_at session_at clock_at shape_at mode_at triggers_at form_at kind_at kinds_at enum_number_at enum_column_at column_at columns_at budget_at after_magic after_version header_at push_int_at push_bool_at push_enum_at index_at target_at plain_instr instr_by instr_at code_at program_at decode is_reserved
-base_read = refl
-
 base_allowed : is_program base ≡ true
 unfolding is_program is_header is_section is_schema is_reserved
 base_allowed = refl
 
-other_version : decode (slice_set base_bytes 4 7) ≡ Err Version
-unfolding name_at names_at interval_at enum_at field_type_at new_field_at schema_at fixed_at sliding_at session_at clock_at shape_at mode_at triggers_at form_at kind_at kinds_at enum_number_at enum_column_at column_at columns_at budget_at after_magic after_version header_at push_int_at push_bool_at push_enum_at index_at target_at plain_instr instr_by instr_at code_at program_at decode is_reserved
-other_version = refl
+-- bytes, and the program that they spell or their first fault
+abbrev readings : List (List ℕ × Result Program DecodeRefusal)
+readings =
+    (base_bytes, Ok base)
+    -- another version
+    ∷ (slice_set base_bytes 4 7, Err Version)
+    -- byte 10 is that of the first key
+    ∷ (slice_set base_bytes 10 97, Err Operand)
+    -- byte 127 names a second field
+    ∷ (slice_set base_bytes 127 1, Err Operand)
+    -- byte 133 is no instruction
+    ∷ (slice_set base_bytes 133 127, Err UnknownOpcode)
+    -- one byte more
+    ∷ (base_bytes ++ 0 ∷ [], Err TrailingBytes)
+    ∷ (codes "WSMQ", Err BadMagic)
+    -- fewer than four bytes, whatever they are
+    ∷ (codes "XY", Err Truncated)
+    -- a value is judged once its last byte was read, so the repeated key comes before the cut
+    ∷ (take 11 (slice_set base_bytes 10 97), Err Operand)
+    ∷ []
 
--- byte 10 is that of the first key
-repeated_key : decode (slice_set base_bytes 10 97) ≡ Err Operand
-unfolding name_at names_at interval_at enum_at field_type_at new_field_at schema_at fixed_at sliding_at session_at clock_at shape_at mode_at triggers_at form_at kind_at kinds_at enum_number_at enum_column_at column_at columns_at budget_at after_magic after_version header_at push_int_at push_bool_at push_enum_at index_at target_at plain_instr instr_by instr_at code_at program_at decode is_reserved
-repeated_key = refl
-
--- byte 127 names a second field
-no_such_field : decode (slice_set base_bytes 127 1) ≡ Err Operand
-unfolding name_at names_at interval_at enum_at field_type_at new_field_at schema_at fixed_at sliding_at session_at clock_at shape_at mode_at triggers_at form_at kind_at kinds_at enum_number_at enum_column_at column_at columns_at budget_at after_magic after_version header_at push_int_at push_bool_at push_enum_at index_at target_at plain_instr instr_by instr_at code_at program_at decode is_reserved
-no_such_field = refl
-
--- byte 133 is no instruction
-no_such_code : decode (slice_set base_bytes 133 127) ≡ Err UnknownOpcode
-unfolding name_at names_at interval_at enum_at field_type_at new_field_at schema_at fixed_at sliding_at session_at clock_at shape_at mode_at triggers_at form_at kind_at kinds_at enum_number_at enum_column_at column_at columns_at budget_at after_magic after_version header_at push_int_at push_bool_at push_enum_at index_at target_at of_code plain_instr instr_by instr_at code_at program_at decode is_reserved
-no_such_code = refl
-
-one_more : decode (base_bytes ++ 0 ∷ []) ≡ Err TrailingBytes
-unfolding name_at names_at interval_at enum_at field_type_at new_field_at schema_at fixed_at sliding_at session_at clock_at shape_at mode_at triggers_at form_at kind_at kinds_at enum_number_at enum_column_at column_at columns_at budget_at after_magic after_version header_at push_int_at push_bool_at push_enum_at index_at target_at plain_instr instr_by instr_at code_at program_at decode is_reserved
-one_more = refl
+readings_read : map (λ t. (t.0, decode t.0)) readings ≡ readings
+unfolding name_at names_at interval_at enum_at field_type_at new_field_at schema_at fixed_at sliding_at session_at clock_at shape_at mode_at triggers_at form_at settings_at kind_at kinds_at enum_number_at enum_column_at column_at columns_at budget_at after_magic after_version body_at header_at push_int_at push_bool_at push_enum_at index_at target_at of_code plain_instr instr_by instr_at code_at program_at decode is_reserved
+readings_read = refl
 
 abbrev is_truncated : Result Program DecodeRefusal → Bool
 is_truncated (Err Truncated) = true
@@ -113,22 +111,8 @@ beginnings_truncated zero = true
 beginnings_truncated (suc n) = is_truncated (decode (take n base_bytes)) && beginnings_truncated n
 
 each_beginning : beginnings_truncated 139 ≡ true
-unfolding name_at names_at interval_at enum_at field_type_at new_field_at schema_at fixed_at sliding_at session_at clock_at shape_at mode_at triggers_at form_at kind_at kinds_at enum_number_at enum_column_at column_at columns_at budget_at after_magic after_version header_at push_int_at push_bool_at push_enum_at index_at target_at plain_instr instr_by instr_at code_at program_at decode is_reserved
+unfolding name_at names_at interval_at enum_at field_type_at new_field_at schema_at fixed_at sliding_at session_at clock_at shape_at mode_at triggers_at form_at settings_at kind_at kinds_at enum_number_at enum_column_at column_at columns_at budget_at after_magic after_version body_at header_at push_int_at push_bool_at push_enum_at index_at target_at plain_instr instr_by instr_at code_at program_at decode is_reserved
 each_beginning = refl
-
-other_magic : decode (codes "WSMQ") ≡ Err BadMagic
-unfolding name_at names_at interval_at enum_at field_type_at new_field_at schema_at fixed_at sliding_at session_at clock_at shape_at mode_at triggers_at form_at kind_at kinds_at enum_number_at enum_column_at column_at columns_at budget_at after_magic after_version header_at push_int_at push_bool_at push_enum_at index_at target_at plain_instr instr_by instr_at code_at program_at decode is_reserved
-other_magic = refl
-
--- fewer than four bytes, whatever they are
-short_and_other : decode (codes "XY") ≡ Err Truncated
-unfolding name_at names_at interval_at enum_at field_type_at new_field_at schema_at fixed_at sliding_at session_at clock_at shape_at mode_at triggers_at form_at kind_at kinds_at enum_number_at enum_column_at column_at columns_at budget_at after_magic after_version header_at push_int_at push_bool_at push_enum_at index_at target_at plain_instr instr_by instr_at code_at program_at decode is_reserved
-short_and_other = refl
-
--- a value is judged once its last byte was read, so the repeated key comes before the cut
-cut_after_repeated_key : decode (take 11 (slice_set base_bytes 10 97)) ≡ Err Operand
-unfolding name_at names_at interval_at enum_at field_type_at new_field_at schema_at fixed_at sliding_at session_at clock_at shape_at mode_at triggers_at form_at kind_at kinds_at enum_number_at enum_column_at column_at columns_at budget_at after_magic after_version header_at push_int_at push_bool_at push_enum_at index_at target_at plain_instr instr_by instr_at code_at program_at decode is_reserved
-cut_after_repeated_key = refl
 
 nine_lines : lines base
     ≡ ((Letters (codes "where") ∷ Number (pos 0) ∷ Letters (codes "PUSHB") ∷ Number (pos 1) ∷ [])

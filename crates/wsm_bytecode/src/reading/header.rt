@@ -2,14 +2,12 @@
 
 ghost use Rattle.std.specs.Prelude.{◌≡◌};
 ghost use Rattle.wsm_program.specs.View.{header_of as seen};
-ghost use Rattle.wsm_bytecode.specs.Reading.{Gives, several, after_magic, after_version, enum_number_at, column_at, columns_at, header_at};
+ghost use Rattle.wsm_bytecode.specs.Reading.{Gives, several, after_magic, after_version, body_at, enum_number_at, column_at, columns_at, header_at};
 
 use crate::limits::{MAGIC, MAX_COLUMNS, VERSION};
 use crate::reading::numbers::{byte_of, byte_within};
 use crate::reading::schema::schema_of;
-use crate::reading::settings::{
-    budget_of, clock_of, form_of, kinds_of, mode_of, shape_of, triggers_of,
-};
+use crate::reading::settings::{budget_of, kinds_of, settings_of};
 use std::alloc::Global;
 use wsm_program::enums::name_count;
 use wsm_program::{DecodeRefusal, Header};
@@ -19,30 +17,34 @@ use wsm_record::{CellType, Schema};
 pub(crate) fn header_of(alloc: Global, bytes: &[u8]) -> Result<(Header, &[u8]), DecodeRefusal>
     ensures { Gives (λ x. (seen x.0, x.1.now)) result (header_at bytes.now) }
 {
-    let rest = skip_magic(bytes)?;
-    let rest = skip_version(rest)?;
+    let rest = skip_front(bytes)?;
     let (schema, rest) = schema_of(alloc, rest)?;
-    let (clock, rest) = clock_of(rest)?;
-    let (shape, rest) = shape_of(rest)?;
-    let (mode, rest) = mode_of(rest)?;
-    let ((early, late), rest) = triggers_of(rest)?;
-    let (form, rest) = form_of(rest, mode)?;
+    let (settings, rest) = settings_of(rest)?;
     let (kinds, rest) = kinds_of(alloc, rest)?;
     let (columns, rest) = columns_of(alloc, &schema, rest)?;
     let (budget, rest) = budget_of(rest)?;
     let header = Header {
         schema,
-        clock,
-        shape,
-        mode,
-        early,
-        late,
-        form,
+        clock: settings.clock,
+        shape: settings.shape,
+        mode: settings.mode,
+        early: settings.early,
+        late: settings.late,
+        form: settings.form,
         kinds,
         columns,
         budget,
     };
     Ok((header, rest))
+}
+
+/// The bytes after `WSMP` and the version.
+#[tactic(auto, unfolding(crate::specs::Reading::body_at))]
+fn skip_front(bytes: &[u8]) -> Result<&[u8], DecodeRefusal>
+    ensures { Gives (λ x. x.now) result (body_at bytes.now) }
+{
+    let rest = skip_magic(bytes)?;
+    skip_version(rest)
 }
 
 /// The bytes after `WSMP`.

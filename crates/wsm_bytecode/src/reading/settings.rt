@@ -1,7 +1,7 @@
 //! The parts of a header behind its schema.
 
 ghost use Rattle.std.specs.Prelude.{◌≡◌};
-ghost use Rattle.wsm_bytecode.specs.Reading.{Gives, clock_at, shape_at, mode_at, triggers_at, form_at, kind_at, kinds_at, several, budget_at};
+ghost use Rattle.wsm_bytecode.specs.Reading.{Gives, clock_at, shape_at, mode_at, triggers_at, form_at, settings_at, kind_at, kinds_at, several, budget_at};
 
 use crate::limits::{LATEST_TIME, LONGEST_SPAN, MAX_ACCUMULATORS, MAX_HELD, MAX_STATED};
 use crate::reading::numbers::{byte_of, byte_within, i64_within, u64_within};
@@ -10,8 +10,39 @@ use wsm_program::{Clock, Costs, DecodeRefusal};
 use wsm_record::{Form, Kind, Mode};
 use wsm_windows::Shape;
 
+/// What a header has behind its schema and in front of its accumulators.
+#[derive(Clone, Copy)]
+pub(crate) struct Settings {
+    pub(crate) clock: Clock,
+    pub(crate) shape: Shape,
+    pub(crate) mode: Mode,
+    pub(crate) early: i64,
+    pub(crate) late: i64,
+    pub(crate) form: Form,
+}
+
+#[tactic(auto, unfolding(crate::specs::Reading::settings_at))]
+pub(crate) fn settings_of(bytes: &[u8]) -> Result<(Settings, &[u8]), DecodeRefusal>
+    ensures { Gives (λ x. (x.0, x.1.now)) result (settings_at bytes.now) }
+{
+    let (clock, rest) = clock_of(bytes)?;
+    let (shape, rest) = shape_of(rest)?;
+    let (mode, rest) = mode_of(rest)?;
+    let ((early, late), rest) = triggers_of(rest)?;
+    let (form, rest) = form_of(rest, mode)?;
+    let settings = Settings {
+        clock,
+        shape,
+        mode,
+        early,
+        late,
+        form,
+    };
+    Ok((settings, rest))
+}
+
 #[tactic(auto, unfolding(crate::specs::Reading::clock_at))]
-pub(crate) fn clock_of(bytes: &[u8]) -> Result<(Clock, &[u8]), DecodeRefusal>
+fn clock_of(bytes: &[u8]) -> Result<(Clock, &[u8]), DecodeRefusal>
     ensures { Gives (λ x. (x.0, x.1.now)) result (clock_at bytes.now) }
 {
     let (start, rest) = i64_within(bytes, 0, LATEST_TIME)?;
@@ -28,7 +59,7 @@ pub(crate) fn clock_of(bytes: &[u8]) -> Result<(Clock, &[u8]), DecodeRefusal>
 }
 
 #[tactic(auto, unfolding(crate::specs::Reading::shape_at, crate::specs::Reading::fixed_at, crate::specs::Reading::sliding_at, crate::specs::Reading::session_at))]
-pub(crate) fn shape_of(bytes: &[u8]) -> Result<(Shape, &[u8]), DecodeRefusal>
+fn shape_of(bytes: &[u8]) -> Result<(Shape, &[u8]), DecodeRefusal>
     ensures { Gives (λ x. (x.0, x.1.now)) result (shape_at bytes.now) }
 {
     let (tag, rest) = byte_within(bytes, 0, 2)?;
@@ -44,7 +75,7 @@ pub(crate) fn shape_of(bytes: &[u8]) -> Result<(Shape, &[u8]), DecodeRefusal>
 }
 
 #[tactic(auto, unfolding(crate::specs::Reading::mode_at))]
-pub(crate) fn mode_of(bytes: &[u8]) -> Result<(Mode, &[u8]), DecodeRefusal>
+fn mode_of(bytes: &[u8]) -> Result<(Mode, &[u8]), DecodeRefusal>
     ensures { Gives (λ x. (x.0, x.1.now)) result (mode_at bytes.now) }
 {
     let (tag, rest) = byte_within(bytes, 0, 1)?;
@@ -56,7 +87,7 @@ pub(crate) fn mode_of(bytes: &[u8]) -> Result<(Mode, &[u8]), DecodeRefusal>
 
 /// The intervals of EARLY and of LATE, 0 for none.
 #[tactic(auto, unfolding(crate::specs::Reading::triggers_at))]
-pub(crate) fn triggers_of(bytes: &[u8]) -> Result<((i64, i64), &[u8]), DecodeRefusal>
+fn triggers_of(bytes: &[u8]) -> Result<((i64, i64), &[u8]), DecodeRefusal>
     ensures { Gives (λ x. (x.0, x.1.now)) result (triggers_at bytes.now) }
 {
     let (early, rest) = i64_within(bytes, 0, LONGEST_SPAN)?;
@@ -66,7 +97,7 @@ pub(crate) fn triggers_of(bytes: &[u8]) -> Result<((i64, i64), &[u8]), DecodeRef
 
 /// A stream of changes is a form of accumulating programs alone.
 #[tactic(auto, unfolding(crate::specs::Reading::form_at))]
-pub(crate) fn form_of(bytes: &[u8], mode: Mode) -> Result<(Form, &[u8]), DecodeRefusal>
+fn form_of(bytes: &[u8], mode: Mode) -> Result<(Form, &[u8]), DecodeRefusal>
     ensures { Gives (λ x. (x.0, x.1.now)) result (form_at mode bytes.now) }
 {
     let (tag, rest) = byte_of(bytes)?;
