@@ -14,10 +14,10 @@ use Rattle.wsm_tokens.specs.Tokens.{Tokens, tokens}
 use Rattle.wsm_tokens.specs.Read.{Read, Rule, Took, Stopped, ◌>>=◌, give, and_then, unexpected, too_deep, begins, begins_number, behind, is_end, number, ended}
 use Rattle.wsm_record.specs.Schema.{FieldType, DeclaredField, is_spelt_type, is_spelt_field, is_i64}
 use Rattle.wsm_record.specs.Schema as field_types
-use Rattle.wsm_query.specs.Tree.{Name, Query, Expr, Number, Truth, Field, EnumName, Key, KeyName, Count, Aggregate, If, Brackets, Minus, Not}
+use Rattle.wsm_query.specs.Tree.{Name, Query, Selection, Expr, Number, Truth, Field, EnumName, Key, KeyName, Count, Aggregate, If, Brackets, Minus, Not}
 use Rattle.wsm_query.specs.Grammar as grammar
 use Rattle.wsm_record.specs.declared.limits.TheConstants.{MAX_CHAIN, MAX_LEVELS}
-use Rattle.wsm_query.specs.Grammar.{looked_up, kinds, Deeper, opened, aggregate, count_of, choice, brackets, pointed, leaf, atom, unary, chain, chained, products, sums, comparisons, ands, ors, prod, sum, compared, cmp, neg, conj, expr_in, deeper, levels, expr, int, names, type_of, field, budget, shape, mode, form, every, query}
+use Rattle.wsm_query.specs.Grammar.{looked_up, kinds, Deeper, opened, aggregate, count_of, choice, brackets, pointed, leaf, atom, unary, chain, chained, products, sums, comparisons, ands, ors, prod, sum, compared, cmp, neg, conj, expr_in, deeper, levels, expr, int, names, type_of, field, budget, clock, selection, output, shape, mode, form, every, query}
 use Rattle.wsm_query.specs.Parse.{query_text, outcome, parse}
 use Rattle.wsm_check.specs.Sizes.{in_option}
 use Rattle.wsm_check.specs.Spelt.{numbers_fit, IsSpelt}
@@ -77,8 +77,8 @@ choices : (d : Option Deeper) → IfSome d AreFine → Gives Fine (choice d)
 unfolding choice
 choices d h =
     goes_on (opens d h)
-    (λ d f. goes_on f.expr (λ c hc. goes_on (asks (codes "THEN")) (λ _ _. goes_on f.expr (λ x hx. goes_on (asks (codes "ELSE")) (λ _ _. goes_on f.expr (λ y hy. goes_on (asks (codes "END"))
-    (λ _ _. gives Fine (If c x y) (and_from (numbers_fit c) (numbers_fit x && numbers_fit y) hc (and_from (numbers_fit x) (numbers_fit y) hx hy)))))))))
+    (λ d f. goes_on f.expr (λ c hc. goes_on (afters (codes "THEN") f.expr) (λ x hx. goes_on (afters (codes "ELSE") f.expr) (λ y hy. goes_on (asks (codes "END"))
+    (λ _ _. gives Fine (If c x y) (and_from (numbers_fit c) (numbers_fit x && numbers_fit y) hc (and_from (numbers_fit x) (numbers_fit y) hx hy)))))))
 
 in_brackets : (d : Option Deeper) → IfSome d AreFine → Gives Fine (brackets d)
 unfolding brackets
@@ -283,32 +283,52 @@ option_fine : (o : Option Expr) → IfSome o Fine → list_all numbers_fit (in_o
 option_fine None h = refl
 option_fine (Some e) h = and_from (numbers_fit e) true h refl
 
+clocks : Gives Anything clock
+unfolding clock
+clocks =
+    goes_on (clauses (codes "START") (codes ";") numbers_are) (λ start _.
+    goes_on (clauses (codes "SKEW") (codes ";") numbers_are) (λ skew _.
+    goes_on (clauses (codes "LATENESS") (codes ";") numbers_are) (λ lateness _.
+    goes_on (clauses (codes "RECORDS") (codes ";") numbers_are) (λ records _. gives Anything _ tt))))
+
+record IsFineIn (s : Selection) : Type 0 where
+  columns : AllByRecursion Fine s.columns
+  condition : IfSome s.condition Fine
+  having : IfSome s.having Fine
+
+selections : Gives IsFineIn selection
+unfolding selection
+selections =
+    goes_on (afters (codes "SELECT") (lists exprs)) (λ columns hc.
+    goes_on (optionals (codes "WHERE") exprs) (λ condition hw.
+    goes_on (optionals (codes "HAVING") exprs) (λ having hh. gives IsFineIn _ (record { columns = hc; condition = hw; having = hh }))))
+
+outputs : Gives Anything output
+unfolding output
+outputs =
+    goes_on (afters (codes "WINDOW") shapes) (λ shape _.
+    goes_on modes (λ mode _.
+    goes_on (optionals (codes "EARLY") everies) (λ early _.
+    goes_on (optionals (codes "LATE") everies) (λ late _.
+    goes_on (clauses (codes "EMIT") (codes ";") forms) (λ form _. gives Anything _ tt)))))
+
 queries : Gives IsSpelt query
 unfolding query
 queries =
     goes_on (clauses (codes "KEYS") (codes ";") name_lists) (λ keys hk.
     goes_on (braces (codes "FIELD") fields_are) (λ fields hf.
-    goes_on (clauses (codes "START") (codes ";") numbers_are) (λ start _.
-    goes_on (clauses (codes "SKEW") (codes ";") numbers_are) (λ skew _.
-    goes_on (clauses (codes "LATENESS") (codes ";") numbers_are) (λ lateness _.
-    goes_on (clauses (codes "RECORDS") (codes ";") numbers_are) (λ records _.
+    goes_on clocks (λ clock _.
     goes_on (optionals (codes "BUDGET") budgets) (λ budget _.
-    goes_on (afters (codes "SELECT") (lists exprs)) (λ columns hc.
-    goes_on (optionals (codes "WHERE") exprs) (λ condition hw.
-    goes_on (optionals (codes "HAVING") exprs) (λ having hh.
-    goes_on (afters (codes "WINDOW") shapes) (λ shape _.
-    goes_on modes (λ mode _.
-    goes_on (optionals (codes "EARLY") everies) (λ early _.
-    goes_on (optionals (codes "LATE") everies) (λ late _.
-    goes_on (clauses (codes "EMIT") (codes ";") forms) (λ form _.
+    goes_on selections (λ s hs.
+    goes_on outputs (λ output _.
     gives IsSpelt _ (record {
       keys = pass_all is_name keys hk;
       fields = pass_all is_spelt_field fields hf;
       numbers =
-          list_all-append numbers_fit (in_option condition) (columns ++ in_option having)
-          ∙ and_from (list_all numbers_fit (in_option condition)) (list_all numbers_fit (columns ++ in_option having)) (option_fine condition hw)
-          (list_all-append numbers_fit columns (in_option having) ∙ and_from (list_all numbers_fit columns) (list_all numbers_fit (in_option having)) (pass_all numbers_fit columns hc) (option_fine having hh));
-    }))))))))))))))))
+          list_all-append numbers_fit (in_option s.condition) (s.columns ++ in_option s.having)
+          ∙ and_from (list_all numbers_fit (in_option s.condition)) (list_all numbers_fit (s.columns ++ in_option s.having)) (option_fine s.condition hs.condition)
+          (list_all-append numbers_fit s.columns (in_option s.having) ∙ and_from (list_all numbers_fit s.columns) (list_all numbers_fit (in_option s.having)) (pass_all numbers_fit s.columns hs.columns) (option_fine s.having hs.having));
+    })))))))
 
 -- ---- texts
 
