@@ -1,11 +1,13 @@
 #!/usr/bin/env python3
-"""Refuses each growth of memory in turn: refuse_memory.py PROGRAM
+"""Refuses each growth of memory in turn: refuse_memory.py PROGRAM [TESTS]
 
 Runs the built program (`crates/wsm_cli/out/wsm_cli`) on the examples, again and again: with the first
 growth of memory refused, with the second, and so on to the last. Each run must end with status 5, with
 the one line of want of memory and a beginning of what is written otherwise; or as if nothing had been
-refused, where a vector that may not double its room takes what it needs. It wants a C compiler, for a few
-lines that stand between the program and the C library's allocator.
+refused, where a vector that may not double its room takes what it needs. TESTS are the built tests of the
+libraries (`crates/wsm_worked/out/wsm_worked_tests`): each of them is run so too, and must end with a call's
+refusal for memory, or as if nothing had been refused. It wants a C compiler, for a few lines that stand
+between the program and the C library's allocator.
 """
 import os
 import subprocess
@@ -42,6 +44,8 @@ void *malloc(size_t size) { return is_refused() ? 0 : given(size); }
 void *realloc(void *old, size_t size) { return is_refused() ? 0 : grown(old, size); }
 """
 WANT = (5, b"wsm: out of memory\n")
+# What a test tells where a call has refused for memory.
+TOLD = (b"AllocError", b"AllocFailed", b"Memory", b"no memory")
 
 
 class Trial:
@@ -70,9 +74,29 @@ class Trial:
                 wrong += 1
         return growths, ended, wrong
 
+    def tests_tried(self, tests):
+        """The same of each test of a program of tests, which ends with a call's refusal."""
+        listed = subprocess.run([tests, "--list"], capture_output=True, text=True, check=True).stdout
+        cases = ends = wrong = 0
+        for name in (line.removesuffix(": test") for line in listed.splitlines() if line.endswith(": test")):
+            trial = Trial(tests, os.path.dirname(self.library))
+            whole = trial.run([name], 0)
+            growths = int(Path(self.counted).read_text())
+            for refused in range(1, growths + 1):
+                ended = trial.run([name], refused)
+                if ended[0] != 0 and any(told in ended[1] for told in TOLD):
+                    ends += 1
+                elif ended != whole:
+                    print(f"wrong: {name}: growth {refused}: status {ended[0]}, {ended[1]!r}")
+                    wrong += 1
+            print(f"{name} {growths}")
+            cases += growths
+        print(f"{cases} growths refused in tests: {ends} ended for want of memory, {cases - ends - wrong} did without, {wrong} wrong")
+        return wrong
+
 
 def main():
-    if len(sys.argv) != 2:
+    if len(sys.argv) not in (2, 3):
         sys.exit(__doc__)
     with tempfile.TemporaryDirectory() as folder:
         trial = Trial(str(Path(sys.argv[1]).resolve()), folder)
@@ -99,6 +123,8 @@ def main():
             print(f"wsm {words[0]} {growths}")
             most, cases, ends, wrong = max(most, growths), cases + growths, ends + ended, wrong + missed
         print(f"{cases} growths refused, at most {most} in a run: {ends} ended for want of memory, {cases - ends - wrong} did without, {wrong} wrong")
+        if len(sys.argv) == 3:
+            wrong += trial.tests_tried(str(Path(sys.argv[2]).resolve()))
         sys.exit(1 if wrong else 0)
 
 
