@@ -7,8 +7,8 @@ use Rattle.wsm_record.specs.declared.words.CellType.TheVariants as types
 use Rattle.wsm_record.specs.declared.Kind.{Kind}
 use Rattle.wsm_record.specs.declared.Kind.TheVariants.{Sum, Min, Max, Any, All}
 use Rattle.wsm_program.specs.declared.instr.Instr.{Instr}
-use Rattle.wsm_program.specs.declared.table.Argument.{Argument}
-use Rattle.wsm_program.specs.declared.table.Argument.TheVariants as arguments
+use Rattle.wsm_program.specs.declared.instr.Argument.{Argument}
+use Rattle.wsm_program.specs.declared.instr.Argument.TheVariants as arguments
 use Rattle.wsm_windows.specs.declared.Shape.{Shape}
 use Rattle.wsm_windows.specs.declared.Shape.TheVariants.{Fixed, Sliding, Session}
 use Rattle.wsm_record.specs.declared.Mode.{Mode}

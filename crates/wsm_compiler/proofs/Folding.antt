@@ -9,6 +9,7 @@ use Rattle.wsm_record.specs.declared.words.Kind.TheVariants.{Sum, Min, Max, Any,
 use Rattle.wsm_interval.specs.Interval.{interval}
 use Rattle.wsm_record.specs.Schema.{is_i64}
 use Rattle.wsm_program.specs.declared.instr.Instr.TheVariants.{Fold}
+use Rattle.wsm_program.specs.Instructions.{kind_of}
 use Rattle.wsm_program.specs.declared.SectionId.TheVariants.{Update}
 use Rattle.wsm_program.specs.declared.program.Costs.{Costs}
 use Rattle.wsm_query.specs.Tree.{Query}
@@ -18,7 +19,7 @@ use Rattle.wsm_check.specs.declared.types.Around.TheVariants.{InAggregate}
 use Rattle.wsm_check.specs.Sizes.{Acc, accumulators, accumulators_of, size, need, folds_size, need_of_folds}
 use Rattle.wsm_verifier.specs.declared.known.Known.{Known}
 use Rattle.wsm_verifier.specs.Labels.{State}
-use Rattle.wsm_verifier.specs.Rules.{Setting, setting, entry, ranges_of_record, kind_of, folds_into, sum_leaves, fault_in}
+use Rattle.wsm_verifier.specs.Rules.{Setting, setting, entry, ranges_of_record, has_type, sum_leaves, fault_in}
 use Rattle.wsm_compiler.specs.Code.{code, folds, update_section}
 use Rattle.wsm_compiler.specs.Ranges.{Range, Unfit, NoNumber, Within, of_aggregate, range, fits}
 use Rattle.wsm_compiler.specs.Program.{program_stating}
@@ -59,7 +60,7 @@ folded_so a n = record { stack = []; folded = flags a n }
 
 -- the value has the accumulator's type, and all records together stay in 64 bits
 abbrev pub takes : ℤ → Kind → Known → Bool
-takes n kind x = folds_into kind x && not (sum_leaves n kind x)
+takes n kind x = has_type (kind_type kind) x && not (sum_leaves n kind x)
 
 abbrev pub if_takes : Bool → State → Option State
 if_takes b s = cond b (Some s) None
@@ -86,9 +87,9 @@ module _ (q : Query) (b : Costs) where
       Labelled e updating k (Fold a ∷ []) (with_known x s) (if_takes (takes q.records kind x) (behind_fold a s))
   fold_one e k a x s kind is once room more =
       one e updating k (Fold a) (with_known x s) (if_takes (takes q.records kind x) (behind_fold a s)) refl
-      (tested updating k (Fold a) (with_known x s) false false (not (folds_into kind x)) false false false (sum_leaves q.records kind x) false false false false
-      refl (has_one (length s.stack)) (ap (λ z. not (folds_into z x)) is) once refl refl (ap (λ z. sum_leaves q.records z x) is) (room_at_test (length s.stack) room) refl refl (not_last true k updating.n more)
-      ∙ fold_verdict (folds_into kind x) (sum_leaves q.records kind x) (behind_fold a s))
+      (tested updating k (Fold a) (with_known x s) false false (not (has_type (kind_type kind) x)) false false false (sum_leaves q.records kind x) false false false false
+      refl (has_one (length s.stack)) (ap (λ z. not (has_type (kind_type z) x)) is) once refl refl (ap (λ z. sum_leaves q.records z x) is) (room_at_test (length s.stack) room) refl refl (not_last true k updating.n more)
+      ∙ fold_verdict (has_type (kind_type kind) x) (sum_leaves q.records kind x) (behind_fold a s))
       (λ t h. taken_is (takes q.records kind x) (behind_fold a s) t h)
 
   -- ---- all of them

@@ -10,12 +10,14 @@ use Rattle.wsm_record.specs.declared.event.Value.{Value}
 use Rattle.wsm_record.specs.declared.event.Value.TheVariants as values
 use Rattle.wsm_record.specs.declared.words.Kind.{Kind}
 use Rattle.wsm_record.specs.declared.words.Kind.TheVariants.{Sum, Min, Max, Any, All}
+use Rattle.wsm_record.specs.Types.{kind_type}
 use Rattle.wsm_program.specs.declared.instr.Instr.{Instr}
 use Rattle.wsm_program.specs.declared.instr.Instr.TheVariants.{Fold}
+use Rattle.wsm_program.specs.Instructions.{kind_of}
 use Rattle.wsm_verifier.specs.declared.known.Known.{Known}
 use Rattle.wsm_verifier.specs.declared.known.Known.TheVariants.{Number, Truth, NameOf}
 use Rattle.wsm_verifier.specs.Labels.{State as Knows, Reached, Visit, visit_of, visits, label_of, label_at}
-use Rattle.wsm_verifier.specs.Rules.{Setting as Rules, kind_of, folds_into, types_fit, last_number, hull_options, value_folded, values_folded}
+use Rattle.wsm_verifier.specs.Rules.{Setting as Rules, has_type, types_fit, last_number, hull_options, value_folded, values_folded}
 use Rattle.wsm_record.specs.declared.cell.Cell.{Cell}
 use Rattle.wsm_record.specs.declared.cell.Cell.TheVariants as cell
 use Rattle.wsm_machine.specs.Step.{Setting, State, with_fold, value_of}
@@ -52,7 +54,7 @@ number_in o n h = ap (λ x. is_number_in x (values.Int n)) h.1 ∙ holds_true h.
 -- ---- what a FOLD folds
 
 -- the value is of the accumulator's kind, and its number, if it is one, is that of the known interval
-folds_value : (k : Kind) (x : Known) (c : Cell) (o : Option Interval) → folds_into k x ≡ true → Fits x c → ((y : Interval) (n : ℤ) → x ≡ Number y → Holds y n → HoldsIn o n) → is_value_in o k (value_of c) ≡ true
+folds_value : (k : Kind) (x : Known) (c : Cell) (o : Option Interval) → has_type (kind_type k) x ≡ true → Fits x c → ((y : Interval) (n : ℤ) → x ≡ Number y → Holds y n → HoldsIn o n) → is_value_in o k (value_of c) ≡ true
 folds_value Sum (Number y) (cell.Int n) o t f h = number_in o n (h y n refl f)
 folds_value Min (Number y) (cell.Int n) o t f h = number_in o n (h y n refl f)
 folds_value Max (Number y) (cell.Int n) o t f h = number_in o n (h y n refl f)

@@ -42,7 +42,6 @@ pub mod laws;
 mod machine;
 mod operations;
 mod outcome;
-mod pushes;
 mod results;
 mod run;
 mod stack;

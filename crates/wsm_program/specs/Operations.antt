@@ -2,6 +2,7 @@
 use Rattle.std.specs.Prelude.{ℕ, Bool, true, false, List, [], ◌∷◌, Option, Some, None, codes, ◌==◌, if◌then◌else◌}
 use Rattle.wsm_program.specs.declared.operation.Operation.{Operation}
 use Rattle.wsm_program.specs.declared.operation.Operation.TheVariants.{Add, Sub, Mul, Div, Rem, Neg, Eq, Ne, Lt, Le, Gt, Ge, Not}
+use Rattle.wsm_record.specs.declared.words.CellType.TheVariants as types
 use Rattle.wsm_program.specs.declared.operation.Operands.{Operands}
 use Rattle.wsm_program.specs.declared.operation.Operands.TheVariants as takes
 
@@ -53,14 +54,14 @@ operands Sub = takes.Numbers
 operands Mul = takes.Numbers
 operands Div = takes.Numbers
 operands Rem = takes.Numbers
-operands Neg = takes.Number
+operands Neg = takes.One types.Int
 operands Eq = takes.Alike
 operands Ne = takes.Alike
 operands Lt = takes.Numbers
 operands Le = takes.Numbers
 operands Gt = takes.Numbers
 operands Ge = takes.Numbers
-operands Not = takes.Truth
+operands Not = takes.One types.Bool
 
 -- the right operand must not be 0
 abbrev pub divides : Operation → Bool

@@ -5,8 +5,8 @@ use Rattle.std.specs.Fmt.{signed_decimal}
 use Rattle.wsm_program.specs.declared.instr.Instr.{Instr}
 use Rattle.wsm_program.specs.declared.instr.SectionId.{SectionId}
 use Rattle.wsm_program.specs.declared.instr.SectionId.TheVariants.{Where, Update, Fire}
-use Rattle.wsm_program.specs.declared.table.Argument.{Argument}
-use Rattle.wsm_program.specs.declared.table.Argument.TheVariants as arguments
+use Rattle.wsm_program.specs.declared.instr.Argument.{Argument}
+use Rattle.wsm_program.specs.declared.instr.Argument.TheVariants as arguments
 use Rattle.wsm_program.specs.Instructions as table
 use Rattle.wsm_program.specs.Instructions.{truth}
 

@@ -20,7 +20,7 @@
 //! assert!(rt; program.is_err_and(|e| e == DecodeRefusal::Operand)); // accumulator 1 isn't there
 //! ```
 //!
-//! - `instr`, `operation`, `table`: the instructions, and what each is
+//! - `instr`, `operation`: the instructions, and what each is
 //! - `text`: what a section and an instruction are printed as
 //! - `program`: headers and programs
 //! - `refusal`: why bytes, or parts, are no program
@@ -28,11 +28,10 @@
 //! - [`enums`]: the names that an operand may name
 #![tactic(auto)]
 
-pub use instr::{Instr, SectionId};
+pub use instr::{Argument, Instr, SectionId, kind_of};
 pub use operation::{Operands, Operation};
 pub use program::{Costs, Header, Program, Section};
 pub use refusal::DecodeRefusal;
-pub use table::Argument;
 pub use wsm_admission::Clock;
 pub use wsm_record::CellType;
 
@@ -42,5 +41,4 @@ mod judging;
 mod operation;
 mod program;
 mod refusal;
-mod table;
 mod text;

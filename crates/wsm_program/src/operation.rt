@@ -6,6 +6,8 @@
 ghost use Rattle.std.specs.Prelude.{◌≡◌};
 ghost use Rattle.wsm_program.specs.Operations as spec;
 
+use wsm_record::CellType;
+
 /// What is computed of popped values. Where two are popped, y is on top of x.
 #[derive(Clone, Copy, Debug, PartialEq, Eq)]
 pub enum Operation {
@@ -37,13 +39,13 @@ pub enum Operation {
     Not,
 }
 
-/// What an operation takes from the stack.
+/// What an instruction takes from the stack.
 #[derive(Clone, Copy, Debug, PartialEq, Eq)]
 pub enum Operands {
-    /// A number.
-    Number,
-    /// A truth.
-    Truth,
+    /// Nothing.
+    Nothing,
+    /// A value of a type.
+    One(CellType),
     /// Two numbers.
     Numbers,
     /// Two values of one type.
@@ -125,9 +127,9 @@ impl Operation {
             Operation::Add | Operation::Sub | Operation::Mul => Operands::Numbers,
             Operation::Div | Operation::Rem => Operands::Numbers,
             Operation::Lt | Operation::Le | Operation::Gt | Operation::Ge => Operands::Numbers,
-            Operation::Neg => Operands::Number,
+            Operation::Neg => Operands::One(CellType::Int),
             Operation::Eq | Operation::Ne => Operands::Alike,
-            Operation::Not => Operands::Truth,
+            Operation::Not => Operands::One(CellType::Bool),
         }
     }
 

@@ -1,7 +1,6 @@
 //! What a section and an instruction are printed as.
 
-use crate::instr::{Instr, SectionId};
-use crate::table::Argument;
+use crate::instr::{Argument, Instr, SectionId};
 use std::fmt;
 
 impl fmt::Display for SectionId {

@@ -11,10 +11,11 @@ use Rattle.wsm_record.specs.declared.Kind.{Kind}
 use Rattle.wsm_record.specs.declared.Kind.TheVariants.{Sum}
 use Rattle.wsm_program.specs.declared.Instr.{Instr}
 use Rattle.wsm_program.specs.declared.Instr.TheVariants.{Fold}
+use Rattle.wsm_program.specs.Instructions.{kind_of}
 use Rattle.wsm_verifier.specs.declared.known.Known.{Known}
 use Rattle.wsm_verifier.specs.declared.known.Known.TheVariants.{Number}
 use Rattle.wsm_verifier.specs.Labels.{State, Reached, Visit}
-use Rattle.wsm_verifier.specs.Rules.{Setting, kind_of, sum_leaves, last_is, last_number, value_folded, values_folded, hull_options, accumulated, and_then, known_range, known_accumulators, fault_of, first_fault, accumulator_leaves}
+use Rattle.wsm_verifier.specs.Rules.{Setting, sum_leaves, last_is, last_number, value_folded, values_folded, hull_options, accumulated, and_then, known_range, known_accumulators, fault_of, first_fault, accumulator_leaves}
 use Rattle.wsm_verifier.specs.Accumulated.{folded_from, accumulated_each, stays}
 use Rattle.wsm_verifier.proofs.Accepting.{Each, each_passes, passes}
 

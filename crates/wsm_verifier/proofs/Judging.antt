@@ -7,11 +7,12 @@ use Rattle.wsm_record.specs.declared.Kind.{Kind}
 use Rattle.wsm_program.specs.declared.Instr.{Instr}
 use Rattle.wsm_program.specs.declared.SectionId.{SectionId}
 use Rattle.wsm_program.specs.declared.SectionId.TheVariants.{Where, Update, Fire}
+use Rattle.wsm_program.specs.Instructions.{kind_of}
 use Rattle.wsm_program.specs.Program.{Program, section}
 use Rattle.wsm_verifier.specs.declared.rejection.Rule.TheVariants.{Memory}
 use Rattle.wsm_verifier.specs.declared.rejection.Rejection.{Rejection}
 use Rattle.wsm_verifier.specs.Labels.{Ranges, Visit, visits}
-use Rattle.wsm_verifier.specs.Rules.{Setting, setting, entry, kind_of, first_fault, section_fault, or_then, fault_in, code_fault, ranges_of_record, ranges_of_pane, update_visits, values_folded, and_then, accumulated, range}
+use Rattle.wsm_verifier.specs.Rules.{Setting, setting, entry, first_fault, section_fault, or_then, fault_in, code_fault, ranges_of_record, ranges_of_pane, update_visits, values_folded, and_then, accumulated, range}
 use Rattle.wsm_verifier.specs.Accumulated.{folded_from, ranges_of, stays}
 use Rattle.wsm_verifier.specs.Turning.{unfolded}
 use Rattle.wsm_verifier.proofs.Accumulating.{folded_is, range_at, stay_all}

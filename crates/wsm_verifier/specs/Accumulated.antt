@@ -2,10 +2,11 @@
 use Rattle.std.specs.Prelude.{◌≡◌, ℕ, suc, Bool, true, not, List, [], ◌∷◌, ℤ, Option, Some, None, slice_index_or}
 use Rattle.wsm_interval.specs.declared.Interval.{Interval}
 use Rattle.wsm_record.specs.declared.Kind.{Kind}
+use Rattle.wsm_program.specs.Instructions.{kind_of}
 use Rattle.wsm_program.specs.Program.{Program}
 use Rattle.wsm_verifier.specs.declared.known.Known.TheVariants.{Number}
 use Rattle.wsm_verifier.specs.Labels.{Visit}
-use Rattle.wsm_verifier.specs.Rules.{accumulated, and_then, values_folded, update_visits, sum_leaves, kind_of}
+use Rattle.wsm_verifier.specs.Rules.{accumulated, and_then, values_folded, update_visits, sum_leaves}
 
 -- what is folded into each accumulator, from accumulator a on
 abbrev pub folded_from : ℕ → List Kind → List Visit → List (Option Interval)

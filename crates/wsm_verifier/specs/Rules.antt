@@ -4,11 +4,12 @@ use Rattle.std.specs.Int.{int_min, int_max}
 use Rattle.std.specs.List.{list_all}
 use Rattle.wsm_interval.specs.declared.Interval.{Interval}
 use Rattle.wsm_program.specs.declared.Instr.{Instr}
-use Rattle.wsm_program.specs.declared.Instr.TheVariants.{PushInt, PushBool, PushEnum, Field, Key, Acc, Count, Operate, Jump, JumpIfFalse, Fold, Return}
+use Rattle.wsm_program.specs.declared.Instr.TheVariants.{Operate, Fold, Return}
 use Rattle.wsm_program.specs.declared.Operands.{Operands}
 use Rattle.wsm_program.specs.declared.Operands.TheVariants as operands
 use Rattle.wsm_program.specs.Operations as operation
-use Rattle.wsm_program.specs.Instructions.{may_stand, goes_on, bad_jump}
+use Rattle.wsm_program.specs.Instructions as table
+use Rattle.wsm_program.specs.Instructions.{may_stand, goes_on, bad_jump, kind_of}
 use Rattle.wsm_program.specs.declared.SectionId.{SectionId}
 use Rattle.wsm_program.specs.declared.SectionId.TheVariants.{Where, Update, Fire}
 use Rattle.wsm_record.specs.declared.Kind.{Kind}
@@ -48,12 +49,14 @@ abbrev pub is_truth : Known → Bool
 is_truth Truth = true
 is_truth _ = false
 
-abbrev pub folds_into : Kind → Known → Bool
-folds_into Any x = is_truth x
-folds_into All x = is_truth x
-folds_into Sum x = is_number x
-folds_into Min x = is_number x
-folds_into Max x = is_number x
+abbrev pub is_name_of : ℕ → Known → Bool
+is_name_of e (NameOf f) = nat_eq e f
+is_name_of e _ = false
+
+abbrev pub has_type : CellType → Known → Bool
+has_type column.Int x = is_number x
+has_type column.Bool x = is_truth x
+has_type (column.Enum e) x = is_name_of e x
 
 abbrev pub last_is : (Known → Bool) → List Known → Bool
 last_is f (x ∷ s) = f x
@@ -66,30 +69,17 @@ last_two f _ = false
 abbrev pub numbers : Known → Known → Bool
 numbers x y = is_number x && is_number y
 
-abbrev pub kind_of : List Kind → ℕ → Kind
-kind_of kinds a = slice_index_or kinds a Sum
-
 -- the last values have the types of such operands
 abbrev pub operands_fit : Operands → List Known → Bool
-operands_fit operands.Number s = last_is is_number s
-operands_fit operands.Truth s = last_is is_truth s
+operands_fit operands.Nothing s = true
+operands_fit (operands.One t) s = last_is (has_type t) s
 operands_fit operands.Numbers s = last_two numbers s
 operands_fit operands.Alike s = last_two same_type s
 
 -- the operands have the types that the instruction takes; RET takes exactly what its section ends with
 abbrev pub types_fit : List Kind → List Known → Instr → List Known → Bool
-types_fit kinds ends (PushInt n) s = true
-types_fit kinds ends (PushBool b) s = true
-types_fit kinds ends (PushEnum e i) s = true
-types_fit kinds ends (Field f) s = true
-types_fit kinds ends Key s = true
-types_fit kinds ends (Acc a) s = true
-types_fit kinds ends Count s = true
-types_fit kinds ends (Operate o) s = operands_fit (operation.operands o) s
-types_fit kinds ends (Jump t) s = true
-types_fit kinds ends (JumpIfFalse t) s = last_is is_truth s
-types_fit kinds ends (Fold a) s = last_is (folds_into (kind_of kinds a)) s
 types_fit kinds ends Return s = same_types s ends
+types_fit kinds ends i s = operands_fit (table.pops kinds i) s
 
 abbrev pub folds_again : Instr → List Bool → Bool
 folds_again (Fold a) folded = slice_index_or folded a false

@@ -42,6 +42,17 @@ impl Known {
         matches!(self, Known::Truth)
     }
 
+    /// Whether it is a value of a type.
+    pub(crate) fn is_of(self, ty: CellType) -> bool
+        ensures { result ≡ rules.has_type ty self }
+    {
+        match (ty, self) {
+            (CellType::Int, Known::Number(_)) | (CellType::Bool, Known::Truth) => true,
+            (CellType::Enum(e), Known::NameOf(f)) => e == f,
+            _ => false,
+        }
+    }
+
     /// Whether both are numbers, truths, or names of one ENUM.
     pub(crate) fn has_type_of(self, other: Known) -> bool
         ensures { result ≡ spec.same_type self other }

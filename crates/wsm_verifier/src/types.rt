@@ -7,7 +7,7 @@ ghost use Rattle.wsm_verifier.specs.Labels as spec;
 ghost use Rattle.wsm_verifier.specs.Rules as rules;
 
 use crate::known::Known;
-use wsm_program::{Instr, Operands};
+use wsm_program::{CellType, Instr, Operands, kind_of};
 use wsm_record::Kind;
 
 /// Whether the values of two stacks have the same types.
@@ -23,16 +23,13 @@ pub(crate) fn have_types_of(stack: &[Known], other: &[Known]) -> bool
     x.has_type_of(*y) && have_types_of(xs, ys)
 }
 
-fn last_is_number(stack: &[Known]) -> bool
-    ensures { result ≡ rules.last_is rules.is_number stack.now }
+fn last_has_type(ty: CellType, stack: &[Known]) -> bool
+    ensures { result ≡ rules.last_is (rules.has_type ty) stack.now }
 {
-    matches!(stack, [Known::Number(_), ..])
-}
-
-fn last_is_truth(stack: &[Known]) -> bool
-    ensures { result ≡ rules.last_is rules.is_truth stack.now }
-{
-    matches!(stack, [Known::Truth, ..])
+    match stack {
+        [x, ..] => x.is_of(ty),
+        [] => false,
+    }
 }
 
 fn last_are_numbers(stack: &[Known]) -> bool
@@ -67,8 +64,8 @@ fn have_types(operands: Operands, stack: &[Known]) -> bool
     ensures { result ≡ rules.operands_fit operands stack.now }
 {
     match operands {
-        Operands::Number => last_is_number(stack),
-        Operands::Truth => last_is_truth(stack),
+        Operands::Nothing => true,
+        Operands::One(ty) => last_has_type(ty, stack),
         Operands::Numbers => last_are_numbers(stack),
         Operands::Alike => last_have_one_type(stack),
     }
@@ -80,26 +77,9 @@ pub(crate) fn fit(kinds: &[Kind], ends: &[Known], instr: Instr, stack: &[Known])
     ensures { result ≡ rules.types_fit kinds.now ends.now instr stack.now }
 {
     match instr {
-        Instr::Operate(operation) => have_types(operation.operands(), stack),
-        Instr::JumpIfFalse(_) => last_is_truth(stack),
-        Instr::Fold(accumulator) => match kind_of(kinds, accumulator) {
-            Kind::Sum | Kind::Min | Kind::Max => last_is_number(stack),
-            Kind::Any | Kind::All => last_is_truth(stack),
-        },
         Instr::Return => have_types_of(stack, ends),
-        Instr::PushInt(_) | Instr::PushBool(_) | Instr::PushEnum(..) | Instr::Field(_) => true,
-        Instr::Key | Instr::Acc(_) | Instr::Count | Instr::Jump(_) => true,
+        _ => have_types(instr.operands(kinds), stack),
     }
-}
-
-/// How an accumulator folds. One that there isn't counts as a sum.
-pub(crate) fn kind_of(kinds: &[Kind], accumulator: u8) -> Kind
-    ensures { result ≡ rules.kind_of kinds.now accumulator }
-{
-    kinds
-        .get(accumulator as usize)
-        .copied()
-        .unwrap_or(Kind::Sum)
 }
 
 /// Whether all records together could take a sum out of 64 bits, by what an instruction folds.

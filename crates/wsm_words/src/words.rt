@@ -1,7 +1,7 @@
 //! The program's words.
 
 ghost use Rattle.std.specs.Prelude.{◌≡◌, true, false, IfOk, IfErr, codes, map, option_map, string_bytes};
-ghost use Rattle.clap.specs.Words.{app_of, found_of, first_of, rows_of, rule_of, subcommand_of, subcommand_rows_of, takes};
+ghost use Rattle.clap.specs.Words.{app_of, new_app, found_of, first_of, rows_of, rule_of, subcommand_of, subcommand_rows_of, takes};
 ghost use Rattle.wsm_words.specs.Words.{the_app, query_app, required_app, run_app, compile_app, verify_app, explain_app, file_rule, program_flag, IsJob, IsJobOf, IsMemory, Names};
 
 use crate::help;
@@ -110,12 +110,9 @@ fn query_command<'a>(alloc: Global) -> Result<Command<'a>, AllocError>
 fn required_command<'a>(alloc: Global) -> Result<Command<'a>, AllocError>
     ensures { IfOk result (λ c. app_of c ≡ required_app) }
 {
-    let wsm = Command::new(alloc, "wsm")
-        .bin_name("wsm")?
-        .about(help::ABOUT)
-        .after_help(help::EXAMPLE)
-        .subcommand_required(true);
-    Ok(wsm)
+    command(alloc, "wsm", help::ABOUT, help::EXAMPLE)
+        .subcommand_required(true)
+        .bin_name("wsm")
 }
 
 // `run [--program] QUERY [ROWS]`
@@ -123,9 +120,7 @@ fn run_command<'a>(alloc: Global) -> Result<Command<'a>, AllocError>
     ensures { IfOk result (λ c. app_of c ≡ run_app) }
 {
     let rows = Arg::new(alloc, "rows").value_name("ROWS").help(help::ROWS);
-    let run = Command::new(alloc, "run")
-        .about(help::RUN)
-        .after_help(help::RUN_EXAMPLE)
+    let run = command(alloc, "run", help::RUN, help::RUN_EXAMPLE)
         .arg(program_flag(alloc))?
         .arg(file(alloc, "query", "QUERY", help::QUERY_OR_PROGRAM))?
         .arg(rows)?;
@@ -136,9 +131,7 @@ fn run_command<'a>(alloc: Global) -> Result<Command<'a>, AllocError>
 fn compile_command<'a>(alloc: Global) -> Result<Command<'a>, AllocError>
     ensures { IfOk result (λ c. app_of c ≡ compile_app) }
 {
-    let compile = Command::new(alloc, "compile")
-        .about(help::COMPILE)
-        .after_help(help::COMPILE_EXAMPLE)
+    let compile = command(alloc, "compile", help::COMPILE, help::COMPILE_EXAMPLE)
         .arg(file(alloc, "query", "QUERY", help::QUERY))?
         .arg(file(alloc, "out", "OUT", help::OUT))?;
     Ok(compile)
@@ -148,22 +141,31 @@ fn compile_command<'a>(alloc: Global) -> Result<Command<'a>, AllocError>
 fn verify_command<'a>(alloc: Global) -> Result<Command<'a>, AllocError>
     ensures { IfOk result (λ c. app_of c ≡ verify_app) }
 {
-    let verify = Command::new(alloc, "verify")
-        .about(help::VERIFY)
-        .after_help(help::VERIFY_EXAMPLE)
-        .arg(file(alloc, "program", "PROGRAM", help::PROGRAM))?;
-    Ok(verify)
+    command(alloc, "verify", help::VERIFY, help::VERIFY_EXAMPLE).arg(file(
+        alloc,
+        "program",
+        "PROGRAM",
+        help::PROGRAM,
+    ))
 }
 
 // `explain PROGRAM`
 fn explain_command<'a>(alloc: Global) -> Result<Command<'a>, AllocError>
     ensures { IfOk result (λ c. app_of c ≡ explain_app) }
 {
-    let explain = Command::new(alloc, "explain")
-        .about(help::EXPLAIN)
-        .after_help(help::EXPLAIN_EXAMPLE)
-        .arg(file(alloc, "program", "PROGRAM", help::PROGRAM))?;
-    Ok(explain)
+    command(alloc, "explain", help::EXPLAIN, help::EXPLAIN_EXAMPLE).arg(file(
+        alloc,
+        "program",
+        "PROGRAM",
+        help::PROGRAM,
+    ))
+}
+
+// A command with the texts of its help.
+fn command<'a>(alloc: Global, name: &'a str, about: &'a str, example: &'a str) -> Command<'a>
+    ensures { app_of result ≡ new_app name.entry.now }
+{
+    Command::new(alloc, name).about(about).after_help(example)
 }
 
 // `--program`
