@@ -1,15 +1,16 @@
 -- A run of UPDATE folds the meaning of each aggregate's operand, or traps where one has none.
 use Rattle.std.proofs.Common.{◌≡◌, inl, inr, ℕ, suc, ◌+◌, ◌≤◌, true, false, not, cond, List, [], ◌∷◌, ◌++◌, length, map, replicate, Option, Some, None, refl, sym, ap, subst, ◌∙◌, arith, append_assoc, length-append}
-use Rattle.std.specs.Prelude.{max, is_some, unwrap_or, option_map, slice_get, slice_set}
+use Rattle.std.specs.Prelude.{max, is_some, slice_get, slice_set}
 use Rattle.std.specs.List.{list_all}
 use Rattle.std.proofs.lemmas.List.{length-map}
+use Rattle.std.proofs.lemmas.Option.{get_or_from_slice_get}
 use Rattle.wsm_record.specs.declared.event.Value.{Value}
 use Rattle.wsm_record.specs.declared.event.Value.TheVariants.{Int, Bool as Truth', Enum}
 use Rattle.wsm_record.specs.declared.words.Kind.{Kind}
 use Rattle.wsm_record.specs.declared.words.Kind.TheVariants.{Sum, Min, Max, Any, All}
-use Rattle.wsm_record.specs.declared.words.CellType.TheVariants as types
 use Rattle.wsm_program.specs.declared.instr.Instr.TheVariants as instr
 use Rattle.wsm_program.specs.declared.instr.SectionId.TheVariants.{Update}
+use Rattle.wsm_program.specs.Instructions.{acc_type}
 use Rattle.wsm_program.specs.declared.program.Costs.{Costs}
 use Rattle.wsm_record.specs.Types.{kind_type}
 use Rattle.wsm_machine.specs.declared.outcome.Trap.TheVariants.{Underflow, WrongType, FoldTwice}
@@ -128,8 +129,8 @@ module _ (q : Query) (b : Costs) (d : Inputs) (fit : record_fits q d ≡ true) w
       let m = state k (x ∷ []) (done ++ None ∷ rest) in
       let place : a ≡ length done = sym (length-map vs (λ (v : Value). Some v) ∙ l) in
       let set = slice_set (done ++ None ∷ rest) (length done) (Some (value_of x)) in
-      let taken : is_type (unwrap_or (option_map kind_type (slice_get c.kinds (length done))) types.Int) (type_of x) ≡ true =
-      ap (λ o. is_type (unwrap_or (option_map kind_type o) types.Int) (type_of x)) (subst (λ p. slice_get c.kinds p ≡ Some kind) place is) ∙ folds_type kind v has in
+      let taken : is_type (acc_type c.kinds (length done)) (type_of x) ≡ true =
+      ap (λ k. is_type (kind_type k) (type_of x)) (get_or_from_slice_get c.kinds (length done) kind Sum (subst (λ p. slice_get c.kinds p ≡ Some kind) place is)) ∙ folds_type kind v has in
       let next : set ≡ (done ++ Some v ∷ []) ++ rest = ap (λ w. slice_set (done ++ None ∷ rest) (length done) (Some w)) (value_is (kind_type kind) v) ∙ set_at done rest v in
       let goes : step c m (instr.Fold (length done)) ≡ Goes (state (k + 1) [] set) =
       (λ i. unless (cond (has_one 0 i) (Some Underflow) (cond (not (taken i)) (Some WrongType) (cond (unfolded_at done rest i) (Some FoldTwice) None))) (Goes (state (k + 1) [] set))) in

@@ -6,47 +6,21 @@ use std::process::Abort;
 use std::test::Fail;
 use wsm::compile_text;
 
-// The clauses of a query.
-#[derive(Clone, Copy)]
-struct Clauses<'a> {
-    keys: &'a str,
-    fields: &'a str,
-    start: &'a str,
-    skew: &'a str,
-    lateness: &'a str,
-    records: &'a str,
-    budget: &'a str,
-    columns: &'a str,
-    window: &'a str,
-}
+// A query of which the trials exchange a part.
+const BASE: &str =
+    "KEYS a, b; FIELD n INT 0..100; START 0; SKEW 100; LATENESS 10; RECORDS 1000; \nSELECT COUNT(*), SUM(n) WINDOW FIXED 60 ACCUMULATING EMIT PANES;";
 
-const BASE: Clauses<'static> = Clauses {
-    keys: "a, b",
-    fields: "FIELD n INT 0..100;",
-    start: "0",
-    skew: "100",
-    lateness: "10",
-    records: "1000",
-    budget: "",
-    columns: "COUNT(*), SUM(n)",
-    window: "FIXED 60 ACCUMULATING",
-};
+// One with a window that is as long as a window may be.
+const LONGEST: &str =
+    "KEYS a, b; FIELD n INT 0..100; START 0; SKEW 100; LATENESS 10; RECORDS 1000; \nSELECT COUNT(*), SUM(n) WINDOW FIXED 1000000000000 ACCUMULATING EMIT PANES;";
 
-// A window that is as long as a window may be.
-const LONGEST: Clauses<'static> = Clauses {
-    window: "FIXED 1000000000000 ACCUMULATING",
-    ..BASE
-};
+const KEYS: &str = "a, b";
 
-fn text_of(alloc: Global, clauses: &Clauses) -> Result<String, Fail> {
-    let (keys, fields, columns) = (clauses.keys, clauses.fields, clauses.columns);
-    let (start, skew) = (clauses.start, clauses.skew);
-    let (lateness, records) = (clauses.lateness, clauses.records);
-    let (budget, window) = (clauses.budget, clauses.window);
-    Ok(format!(in alloc;
-        "KEYS {keys}; {fields} START {start}; SKEW {skew}; LATENESS {lateness}; RECORDS {records}; {budget}\nSELECT {columns} WINDOW {window} EMIT PANES;"
-    )?)
-}
+const FIELD: &str = "FIELD n INT 0..100;";
+
+const COLUMNS: &str = "COUNT(*), SUM(n)";
+
+const SHAPE: &str = "FIXED 60 ACCUMULATING";
 
 // Why a query is refused, or "compiled".
 fn answer(alloc: Global, text: &str) -> Result<String, Fail> {
@@ -56,10 +30,34 @@ fn answer(alloc: Global, text: &str) -> Result<String, Fail> {
     }
 }
 
-fn expect<R: Abort + AllocGlobal>(rt: &R, clauses: &Clauses, want: &str) -> Result<(), Fail> {
-    let text = text_of(rt.alloc(), clauses)?;
-    let answer = answer(rt.alloc(), text.as_str())?;
+fn expect<R: Abort + AllocGlobal>(rt: &R, text: &str, want: &str) -> Result<(), Fail> {
+    let answer = answer(rt.alloc(), text)?;
     assert_eq!(rt; answer.as_str(), want, "{text}");
+    Ok(())
+}
+
+// The answer to a query in which a part is another.
+fn expect_with<R: Abort + AllocGlobal>(
+    rt: &R,
+    text: &str,
+    part: &str,
+    other: &str,
+    want: &str,
+) -> Result<(), Fail> {
+    let text = text.replacen(rt.alloc(), part, other, 1)?;
+    expect(rt, text.as_str(), want)
+}
+
+// The same for each of some parts.
+fn expect_each<R: Abort + AllocGlobal>(
+    rt: &R,
+    text: &str,
+    part: &str,
+    cases: &[(&str, &str)],
+) -> Result<(), Fail> {
+    for &(other, want) in cases {
+        expect_with(rt, text, part, other, want)?;
+    }
     Ok(())
 }
 
@@ -67,64 +65,48 @@ const FITS: &str = "compiled";
 
 const CLOCK: &str = "C7 Limit in clock";
 
-const STARTS: [(&str, &str); 2] = [("10000000000000000", FITS), ("10000000000000001", CLOCK)];
+const STARTS: [(&str, &str); 2] = [
+    ("START 10000000000000000", FITS),
+    ("START 10000000000000001", CLOCK),
+];
 
 #[test]
 fn starts(rt: HostRuntime) -> Result<(), Fail> {
-    for &(start, want) in &STARTS {
-        expect(&rt, &Clauses { start, ..BASE }, want)?;
-    }
-    Ok(())
+    expect_each(&rt, BASE, "START 0", &STARTS)
 }
 
 const SKEWS: [(&str, &str); 3] = [
-    ("0", FITS),
-    ("1000000000000", FITS),
-    ("1000000000001", CLOCK),
+    ("SKEW 0", FITS),
+    ("SKEW 1000000000000", FITS),
+    ("SKEW 1000000000001", CLOCK),
 ];
 
 #[test]
 fn skews(rt: HostRuntime) -> Result<(), Fail> {
-    for &(skew, want) in &SKEWS {
-        expect(&rt, &Clauses { skew, ..LONGEST }, want)?;
-    }
-    Ok(())
+    expect_each(&rt, LONGEST, "SKEW 100", &SKEWS)
 }
 
 const LATENESSES: [(&str, &str); 3] = [
-    ("0", FITS),
-    ("1000000000000", FITS),
-    ("1000000000001", CLOCK),
+    ("LATENESS 0", FITS),
+    ("LATENESS 1000000000000", FITS),
+    ("LATENESS 1000000000001", CLOCK),
 ];
 
 #[test]
 fn latenesses(rt: HostRuntime) -> Result<(), Fail> {
-    for &(lateness, want) in &LATENESSES {
-        expect(
-            &rt,
-            &Clauses {
-                lateness,
-                ..LONGEST
-            },
-            want,
-        )?;
-    }
-    Ok(())
+    expect_each(&rt, LONGEST, "LATENESS 10", &LATENESSES)
 }
 
 const RECORDS: [(&str, &str); 4] = [
-    ("0", CLOCK),
-    ("1", FITS),
-    ("1000000000000", FITS),
-    ("1000000000001", CLOCK),
+    ("RECORDS 0", CLOCK),
+    ("RECORDS 1", FITS),
+    ("RECORDS 1000000000000", FITS),
+    ("RECORDS 1000000000001", CLOCK),
 ];
 
 #[test]
 fn numbers_of_records(rt: HostRuntime) -> Result<(), Fail> {
-    for &(records, want) in &RECORDS {
-        expect(&rt, &Clauses { records, ..BASE }, want)?;
-    }
-    Ok(())
+    expect_each(&rt, BASE, "RECORDS 1000", &RECORDS)
 }
 
 const WINDOW: &str = "C7 Limit in window";
@@ -149,10 +131,7 @@ const WINDOWS: [(&str, &str); 14] = [
 
 #[test]
 fn windows(rt: HostRuntime) -> Result<(), Fail> {
-    for &(window, want) in &WINDOWS {
-        expect(&rt, &Clauses { window, ..BASE }, want)?;
-    }
-    Ok(())
+    expect_each(&rt, BASE, SHAPE, &WINDOWS)
 }
 
 const TRIGGER: &str = "C7 Limit in trigger";
@@ -170,33 +149,27 @@ const TRIGGERS: [(&str, &str); 8] = [
 
 #[test]
 fn triggers(rt: HostRuntime) -> Result<(), Fail> {
-    for &(window, want) in &TRIGGERS {
-        expect(&rt, &Clauses { window, ..BASE }, want)?;
-    }
-    Ok(())
+    expect_each(&rt, BASE, SHAPE, &TRIGGERS)
 }
 
 const BUDGET: &str = "C7 Limit in budget";
 
 const BUDGETS: [(&str, &str); 10] = [
-    ("BUDGET RECORD 0 PANE 1 HELD 1;", BUDGET),
-    ("BUDGET RECORD 1 PANE 0 HELD 1;", BUDGET),
-    ("BUDGET RECORD 1 PANE 1 HELD 0;", BUDGET),
-    ("BUDGET RECORD 1 PANE 1 HELD 1;", FITS),
-    ("BUDGET RECORD 1000000000000000000 PANE 1 HELD 1;", FITS),
-    ("BUDGET RECORD 1000000000000000001 PANE 1 HELD 1;", BUDGET),
-    ("BUDGET RECORD 1 PANE 1000000000000000000 HELD 1;", FITS),
-    ("BUDGET RECORD 1 PANE 1000000000000000001 HELD 1;", BUDGET),
-    ("BUDGET RECORD 1 PANE 1 HELD 100000;", FITS),
-    ("BUDGET RECORD 1 PANE 1 HELD 100001;", BUDGET),
+    ("BUDGET RECORD 0 PANE 1 HELD 1;\n", BUDGET),
+    ("BUDGET RECORD 1 PANE 0 HELD 1;\n", BUDGET),
+    ("BUDGET RECORD 1 PANE 1 HELD 0;\n", BUDGET),
+    ("BUDGET RECORD 1 PANE 1 HELD 1;\n", FITS),
+    ("BUDGET RECORD 1000000000000000000 PANE 1 HELD 1;\n", FITS),
+    ("BUDGET RECORD 1000000000000000001 PANE 1 HELD 1;\n", BUDGET),
+    ("BUDGET RECORD 1 PANE 1000000000000000000 HELD 1;\n", FITS),
+    ("BUDGET RECORD 1 PANE 1000000000000000001 HELD 1;\n", BUDGET),
+    ("BUDGET RECORD 1 PANE 1 HELD 100000;\n", FITS),
+    ("BUDGET RECORD 1 PANE 1 HELD 100001;\n", BUDGET),
 ];
 
 #[test]
 fn budgets(rt: HostRuntime) -> Result<(), Fail> {
-    for &(budget, want) in &BUDGETS {
-        expect(&rt, &Clauses { budget, ..BASE }, want)?;
-    }
-    Ok(())
+    expect_each(&rt, BASE, "\n", &BUDGETS)
 }
 
 const NUMBERS: [(&str, &str); 6] = [
@@ -227,18 +200,12 @@ const NAMES: [(&str, &str); 2] = [
 
 #[test]
 fn numbers(rt: HostRuntime) -> Result<(), Fail> {
-    for &(fields, want) in &NUMBERS {
-        expect(&rt, &Clauses { fields, ..BASE }, want)?;
-    }
-    Ok(())
+    expect_each(&rt, BASE, FIELD, &NUMBERS)
 }
 
 #[test]
 fn lengths_of_names(rt: HostRuntime) -> Result<(), Fail> {
-    for &(keys, want) in &NAMES {
-        expect(&rt, &Clauses { keys, ..BASE }, want)?;
-    }
-    Ok(())
+    expect_each(&rt, BASE, KEYS, &NAMES)
 }
 
 // A text, so many times.
@@ -270,8 +237,7 @@ fn fields(alloc: Global, count: usize) -> Result<String, Fail> {
 
 fn expect_keys<R: Abort + AllocGlobal>(rt: &R, count: usize, want: &str) -> Result<(), Fail> {
     let keys = names(rt.alloc(), count)?;
-    let keys = keys.as_str();
-    expect(rt, &Clauses { keys, ..BASE }, want)
+    expect_with(rt, BASE, KEYS, keys.as_str(), want)
 }
 
 #[test]
@@ -283,8 +249,7 @@ fn numbers_of_keys(rt: HostRuntime) -> Result<(), Fail> {
 fn expect_enum<R: Abort + AllocGlobal>(rt: &R, count: usize, want: &str) -> Result<(), Fail> {
     let names = names(rt.alloc(), count)?;
     let fields = format!(in rt.alloc(); "FIELD n INT 0..1; FIELD e ENUM({names});")?;
-    let fields = fields.as_str();
-    expect(rt, &Clauses { fields, ..BASE }, want)
+    expect_with(rt, BASE, FIELD, fields.as_str(), want)
 }
 
 #[test]
@@ -295,12 +260,8 @@ fn numbers_of_names(rt: HostRuntime) -> Result<(), Fail> {
 
 fn expect_fields<R: Abort + AllocGlobal>(rt: &R, count: usize, want: &str) -> Result<(), Fail> {
     let fields = fields(rt.alloc(), count)?;
-    let clauses = Clauses {
-        fields: fields.as_str(),
-        columns: "ANY(n)",
-        ..BASE
-    };
-    expect(rt, &clauses, want)
+    let text = BASE.replacen(rt.alloc(), FIELD, fields.as_str(), 1)?;
+    expect_with(rt, text.as_str(), COLUMNS, "ANY(n)", want)
 }
 
 #[test]
@@ -318,8 +279,7 @@ fn counts(alloc: Global, more: usize) -> Result<String, Fail> {
 fn numbers_of_columns(rt: HostRuntime) -> Result<(), Fail> {
     for (more, want) in [(15, FITS), (16, "C7 Limit in column 17")] {
         let columns = counts(rt.alloc(), more)?;
-        let columns = columns.as_str();
-        expect(&rt, &Clauses { columns, ..BASE }, want)?;
+        expect_with(&rt, BASE, COLUMNS, columns.as_str(), want)?;
     }
     Ok(())
 }
@@ -333,8 +293,7 @@ fn sums(alloc: Global, more: usize) -> Result<String, Fail> {
 fn numbers_of_accumulators(rt: HostRuntime) -> Result<(), Fail> {
     for (more, want) in [(15, FITS), (16, "C7 Limit in code")] {
         let columns = sums(rt.alloc(), more)?;
-        let columns = columns.as_str();
-        expect(&rt, &Clauses { columns, ..BASE }, want)?;
+        expect_with(&rt, BASE, COLUMNS, columns.as_str(), want)?;
     }
     Ok(())
 }
@@ -358,8 +317,7 @@ fn nested(alloc: Global, case: &Nested) -> Result<String, Fail> {
 fn all_nested<R: Abort + AllocGlobal>(rt: &R, cases: &[Nested]) -> Result<(), Fail> {
     for case in cases {
         let columns = nested(rt.alloc(), case)?;
-        let columns = columns.as_str();
-        expect(rt, &Clauses { columns, ..BASE }, case.4)?;
+        expect_with(rt, BASE, COLUMNS, columns.as_str(), case.4)?;
     }
     Ok(())
 }
@@ -423,8 +381,7 @@ fn expect_sums<R: Abort + AllocGlobal>(
     let long = long_sums(rt.alloc())?;
     let more = times(rt.alloc(), " + n", more)?;
     let columns = format!(in rt.alloc(); "{long}SUM({first}{more})")?;
-    let columns = columns.as_str();
-    expect(rt, &Clauses { columns, ..BASE }, want)
+    expect_with(rt, BASE, COLUMNS, columns.as_str(), want)
 }
 
 // The last sum has 88 instructions, or 89: with all folds and its return the update has 1,000, or one
@@ -447,8 +404,7 @@ fn expect_deep<R: Abort + AllocGlobal>(rt: &R, before: usize, want: &str) -> Res
     let before = times(rt.alloc(), "COUNT(*), ", before)?;
     let deep = deep_column(rt.alloc())?;
     let columns = format!(in rt.alloc(); "{before}{deep}")?;
-    let columns = columns.as_str();
-    expect(rt, &Clauses { columns, ..BASE }, want)
+    expect_with(rt, BASE, COLUMNS, columns.as_str(), want)
 }
 
 #[test]
@@ -459,37 +415,33 @@ fn places_of_the_stack(rt: HostRuntime) -> Result<(), Fail> {
 
 fn expect_run<R: Abort + AllocGlobal>(
     rt: &R,
-    clauses: &Clauses,
+    text: &str,
     rows: &[u8],
     want: &[u8],
 ) -> Result<(), Fail> {
-    let text = text_of(rt.alloc(), clauses)?;
     let (written, end) = ran(rt.alloc(), text.as_bytes(), rows);
     assert_eq!(rt; written.as_slice(), want, "{text}: {end:?}");
     assert!(rt; end.is_ok(), "{text}");
     Ok(())
 }
 
+const GREATEST: &str =
+    "KEYS a, b; FIELD n INT 0..9223372036854775807; START 0; SKEW 100; LATENESS 10; RECORDS 1; \nSELECT COUNT(*), SUM(n) WINDOW FIXED 60 ACCUMULATING EMIT PANES;";
+
+const LATEST: &str =
+    "KEYS a, b; FIELD n INT 0..100; START 9999999999999940; SKEW 100; LATENESS 10; RECORDS 1000; \nSELECT COUNT(*), SUM(n) WINDOW FIXED 60 ACCUMULATING EMIT PANES;";
+
 #[test]
 fn the_greatest_number_and_the_latest_time(rt: HostRuntime) -> Result<(), Fail> {
-    let greatest = Clauses {
-        fields: "FIELD n INT 0..9223372036854775807;",
-        records: "1",
-        ..BASE
-    };
     expect_run(
         &rt,
-        &greatest,
+        GREATEST,
         b"r,a,5,9223372036854775807\nw,60\n",
         b"pane,on_time,a,0,60,1,9223372036854775807\nend,2,1,0,0,1\n",
     )?;
-    let latest = Clauses {
-        start: "9999999999999940",
-        ..BASE
-    };
     expect_run(
         &rt,
-        &latest,
+        LATEST,
         b"r,a,10000000000000000,1\nr,a,10000000000000001,1\nw,10000000000000000\n",
         b"refused,2,TimeRange\nend,3,1,0,1,0\n",
     )
@@ -500,7 +452,7 @@ fn the_greatest_number_and_the_latest_time(rt: HostRuntime) -> Result<(), Fail> 
 fn numbers_of_rows(rt: HostRuntime) -> Result<(), Fail> {
     expect_run(
         &rt,
-        &BASE,
+        BASE,
         b"r,a,0,0\nr,a,0,-1\nr,a,0,100\nr,a,0,101\n\
 r,a,0,9223372036854775807\nr,a,0,9223372036854775808\n\
 r,a,0,-9223372036854775808\nr,a,0,-9223372036854775809\n\
@@ -529,10 +481,7 @@ fn rows_of_keys(alloc: Global) -> Result<String, Fail> {
 fn a_record_of_each_of_a_thousand_keys(rt: HostRuntime) -> Result<(), Fail> {
     let keys = names(rt.alloc(), 1_000)?;
     let rows = rows_of_keys(rt.alloc())?;
-    let clauses = Clauses {
-        keys: keys.as_str(),
-        ..BASE
-    };
+    let text = BASE.replacen(rt.alloc(), KEYS, keys.as_str(), 1)?;
     let want = b"refused,1001,UnknownKey\nend,1001,1000,0,1,0\n";
-    expect_run(&rt, &clauses, rows.as_bytes(), want)
+    expect_run(&rt, text.as_str(), rows.as_bytes(), want)
 }

@@ -14,7 +14,7 @@ use Rattle.wsm_program.specs.declared.SectionId.{SectionId}
 use Rattle.wsm_program.specs.declared.SectionId.TheVariants.{Where, Update, Fire}
 use Rattle.wsm_record.specs.declared.Kind.{Kind}
 use Rattle.wsm_record.specs.declared.limits.TheConstants.{MAX_STACK}
-use Rattle.wsm_record.specs.declared.Kind.TheVariants.{Sum, Min, Max, Any, All}
+use Rattle.wsm_record.specs.declared.Kind.TheVariants.{Sum, Min, Max}
 use Rattle.wsm_record.specs.Schema.{FieldType, Int, Truth as IsTruth, Enum, DeclaredField, is_i64}
 use Rattle.wsm_program.specs.declared.program.Costs.{Costs}
 use Rattle.wsm_record.specs.declared.words.CellType.{CellType}
