@@ -1,18 +1,30 @@
 -- What a value of `Rows` stands for.
-use Rattle.std.specs.Prelude.{◌≡◌, ◌||◌, ◌==◌, ℕ, Bool, true, ◌++◌, List, [], ◌∷◌, Option, Some, None, Result, MatchResult, ⊤}
+use Rattle.std.specs.Prelude.{◌≡◌, ◌||◌, ◌==◌, ℕ, Bool, true, cond, ◌++◌, List, [], ◌∷◌, Option, Some, None, Result, MatchResult, ⊤}
 use Rattle.std.specs.Bool.{MatchBool}
 use Rattle.csv.specs.Reading.{Reached, Ready, default_config, has_failed, is_flexible, reader_config, reader_state, reader_trim, source_of, strip_bom}
 use Rattle.csv.specs.Records.{fields_of}
+use Rattle.csv.specs.Reading.{error_kind, is_io}
+use Rattle.csv.specs.declared.error.Error.{Error}
 use Rattle.csv.specs.declared.reader.Reader.{Reader}
 use Rattle.csv.specs.declared.reader.Trim.TheVariants as trim
 use Rattle.csv.specs.declared.parser.State.TheVariants as st
 use Rattle.wsm_csv.specs.Records.{AreAll, AreFirst}
 use Rattle.wsm_csv.specs.declared.rows.Rows.{Rows}
 use Rattle.wsm_csv.specs.declared.rows.ReadEnd.{ReadEnd}
+use Rattle.wsm_csv.specs.declared.rows.ReadEnd.TheVariants as ends
 
 -- the cells of the row that was read last
 abbrev pub cells_of : {R : Type 0} → Rows R → List (List ℕ)
 cells_of r = fields_of r.row
+
+-- what csv said where it ended the rows
+abbrev pub error_of : {R : Type 0} → Rows R → Option Error
+error_of r = r.error
+
+-- a read failed where csv says so; else there was no memory, or no turn was left
+abbrev pub read_end : Option Error → ReadEnd
+read_end None = ends.Memory
+read_end (Some e) = cond (is_io (error_kind e)) ends.Failed ends.Memory
 
 -- for how many more rows there are turns
 abbrev pub turns_left : {R : Type 0} → Rows R → ℕ

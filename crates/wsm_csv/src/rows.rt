@@ -1,7 +1,8 @@
 //! The rows of a reader, one at a time.
 
-ghost use Rattle.std.specs.Prelude.{◌≡◌, ◌≢◌, ◌<◌, ℕ, List, [], Option, Ok, true};
+ghost use Rattle.std.specs.Prelude.{◌≡◌, ◌≢◌, ◌<◌, ℕ, List, [], Option, Some, Ok, IfErr, option_map, true};
 ghost use Rattle.csv.specs.Records.{fields_of};
+ghost use Rattle.wsm_csv.specs.Rows.{read_end};
 
 use csv::{ByteRecord, Error, Reader, ReaderBuilder};
 use std::alloc::Global;
@@ -24,10 +25,11 @@ pub struct Rows<R> {
     reader: Reader<R>,
     row: ByteRecord,
     left: u64,
+    error: Option<Error>,
 }
 
 impl<R: Read + Drop> Rows<R> {
-    ghost use Rattle.wsm_csv.specs.Rows.{Advances, Follows, cells_of, has_ended, turns_left};
+    ghost use Rattle.wsm_csv.specs.Rows.{Advances, Follows, cells_of, error_of, has_ended, turns_left};
 
     /// The rows of the bytes that the reader has. None is read.
     pub fn new(alloc: Global, reader: R) -> Rows<R>
@@ -40,23 +42,38 @@ impl<R: Read + Drop> Rows<R> {
                 .from_reader(alloc, reader),
             row: ByteRecord::new(alloc),
             left: u64::MAX,
+            error: None,
         }
     }
 
-    /// Reads the next row, and answers whether there was one. After an error there is none.
+    /// Reads the next row, and answers whether there was one. After an error there is none, and what
+    /// `csv` said is kept: a failed read is told where it said so, and nowhere else.
     pub fn advance(&mut self) -> Result<bool, ReadEnd>
         ensures advances { (known : Option (List ℕ)) (rows : List (List (List ℕ))) → Follows R.remaining known rows self.old → Advances R.remaining known rows self.new result }
         ensures counts { result ≡ Ok true → turns_left self.new < turns_left self.old }
         ensures ended { has_ended self.old ≡ true → result ≢ Ok true }
+        ensures told { IfErr result (λ end. end ≡ read_end (error_of self.new)) }
     {
         if self.left == 0 {
+            self.error = None;
             return Err(ReadEnd::Memory);
         }
         self.left -= 1;
         match self.reader.read_byte_record(&mut self.row) {
             Ok(found) => Ok(found),
-            Err(error) => Err(end_of(&error)),
+            Err(error) => {
+                let end = end_of(&error);
+                self.error = Some(error);
+                Err(end)
+            }
         }
+    }
+
+    /// What `csv` said where it ended the rows.
+    pub fn error(&self) -> Option<&Error>
+        ensures { option_map (λ e. e.now) result ≡ error_of self.now }
+    {
+        self.error.as_ref()
     }
 
     /// The row that was read last.
@@ -68,7 +85,9 @@ impl<R: Read + Drop> Rows<R> {
 }
 
 // A read that failed, or want of memory.
-fn end_of(error: &Error) -> ReadEnd {
+fn end_of(error: &Error) -> ReadEnd
+    ensures { result ≡ read_end (Some error.now) }
+{
     if error.is_io_error() {
         ReadEnd::Failed
     } else {

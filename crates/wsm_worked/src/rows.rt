@@ -66,6 +66,7 @@ fn a_failed_read_ends_the_rows(rt: HostRuntime) {
         };
         let mut rows = Rows::new(rt.alloc(), failing);
         assert_eq!(rt; count(&mut rows), Err(ReadEnd::Failed), "at {call}");
+        assert!(rt; rows.error().is_some(), "at {call}");
         assert_eq!(rt; rows.advance(), Ok(false), "after {call}");
     }
 }
