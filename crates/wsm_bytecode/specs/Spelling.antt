@@ -101,7 +101,8 @@ argument arguments.Nothing = []
 argument (arguments.Number n) = signed n
 argument (arguments.Truth b) = byte (truth b)
 argument (arguments.Name e i) = byte e ++ number i
-argument (arguments.Index i) = byte i
+argument (arguments.Field f) = byte f
+argument (arguments.Accumulator a) = byte a
 argument (arguments.Target t) = number t
 
 -- its code, and what stands behind it

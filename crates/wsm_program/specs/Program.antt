@@ -15,7 +15,9 @@ use Rattle.wsm_windows.specs.declared.Shape.TheVariants.{Fixed, Sliding, Session
 use Rattle.wsm_record.specs.declared.words.CellType.{CellType}
 use Rattle.wsm_record.specs.declared.words.CellType.TheVariants as types
 use Rattle.wsm_program.specs.declared.instr.Instr.{Instr}
-use Rattle.wsm_program.specs.declared.instr.Instr.TheVariants.{PushInt, PushBool, PushEnum, Field, Key, Acc, Count, Operate, Jump, JumpIfFalse, Fold, Return}
+use Rattle.wsm_program.specs.declared.instr.Argument.{Argument}
+use Rattle.wsm_program.specs.declared.instr.Argument.TheVariants as arguments
+use Rattle.wsm_program.specs.Instructions.{argument}
 use Rattle.wsm_program.specs.declared.instr.SectionId.{SectionId}
 use Rattle.wsm_program.specs.declared.instr.SectionId.TheVariants.{Where, Update, Fire}
 use Rattle.wsm_program.specs.declared.program.Costs.{Costs}
@@ -105,20 +107,18 @@ abbrev pub is_name_of : Option (List Name) → ℕ → Bool
 is_name_of None i = false
 is_name_of (Some names) i = nat_lt i (length names)
 
--- the operands name fields, accumulators, ENUMs and names that there are; targets are free
+-- what an argument names is there; targets are free
+abbrev pub is_argument : Header → Argument → Bool
+is_argument h arguments.Nothing = true
+is_argument h (arguments.Number n) = is_i64 n
+is_argument h (arguments.Truth b) = true
+is_argument h (arguments.Name e i) = is_name_of (enum_names h.schema e) i
+is_argument h (arguments.Field f) = nat_lt f (length h.schema.fields)
+is_argument h (arguments.Accumulator a) = nat_lt a (length h.kinds)
+is_argument h (arguments.Target t) = nat_lt t 65536
+
 abbrev pub is_instr : Header → Instr → Bool
-is_instr h (PushInt n) = is_i64 n
-is_instr h (PushBool b) = true
-is_instr h (PushEnum e i) = is_name_of (enum_names h.schema e) i
-is_instr h (Field f) = nat_lt f (length h.schema.fields)
-is_instr h Key = true
-is_instr h (Acc a) = nat_lt a (length h.kinds)
-is_instr h Count = true
-is_instr h (Operate o) = true
-is_instr h (Jump t) = nat_lt t 65536
-is_instr h (JumpIfFalse t) = nat_lt t 65536
-is_instr h (Fold a) = nat_lt a (length h.kinds)
-is_instr h Return = true
+is_instr h i = is_argument h (argument i)
 
 unfoldable pub is_section : Header → List Instr → Bool
 is_section h code = nat_le (length code) MAX_SECTION && list_all (is_instr h) code

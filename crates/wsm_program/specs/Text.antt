@@ -25,7 +25,8 @@ argument_words arguments.Nothing = []
 argument_words (arguments.Number n) = Number n ∷ []
 argument_words (arguments.Truth b) = Number (pos (truth b)) ∷ []
 argument_words (arguments.Name e i) = Number (pos e) ∷ Number (pos i) ∷ []
-argument_words (arguments.Index i) = Number (pos i) ∷ []
+argument_words (arguments.Field f) = Number (pos f) ∷ []
+argument_words (arguments.Accumulator a) = Number (pos a) ∷ []
 argument_words (arguments.Target t) = Number (pos t) ∷ []
 
 -- the name and the operands

@@ -8,7 +8,7 @@ ghost use Rattle.wsm_record.specs.Schema.{is_within};
 ghost use Rattle.wsm_program.specs.View.{header_of, program_of};
 
 use crate::enums::{name_count, names};
-use crate::instr::Instr;
+use crate::instr::{Argument, Instr};
 use crate::program::{Costs, Header};
 use wsm_record::limits::{
     LATEST_TIME, LONGEST_SPAN, MAX_ACCUMULATORS, MAX_COLUMNS, MAX_PANES, MAX_SECTION, MAX_STATED,
@@ -149,13 +149,10 @@ fn are_lawful_instrs(header: &Header, instrs: &[Instr]) -> bool
 fn is_lawful_instr(header: &Header, instr: Instr) -> bool
     ensures { result ≡ is_instr (header_of header.now) instr }
 {
-    match instr {
-        Instr::PushEnum(number, name) => names(&header.schema, number, name),
-        Instr::Field(field) => (field as usize) < header.schema.fields().len(),
-        Instr::Acc(accumulator) | Instr::Fold(accumulator) => {
-            (accumulator as usize) < header.kinds.len()
-        }
-        Instr::PushInt(_) | Instr::PushBool(_) | Instr::Key | Instr::Count => true,
-        Instr::Operate(_) | Instr::Jump(_) | Instr::JumpIfFalse(_) | Instr::Return => true,
+    match instr.argument() {
+        Argument::Name(list, name) => names(&header.schema, list, name),
+        Argument::Field(field) => (field as usize) < header.schema.fields().len(),
+        Argument::Accumulator(accumulator) => (accumulator as usize) < header.kinds.len(),
+        Argument::Nothing | Argument::Number(_) | Argument::Truth(_) | Argument::Target(_) => true,
     }
 }

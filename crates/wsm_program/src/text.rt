@@ -32,7 +32,7 @@ impl fmt::Display for Instr {
             Argument::Number(value) => write!(f, "{name} {value}"),
             Argument::Truth(truth) => write!(f, "{name} {}", u8::from(truth)),
             Argument::Name(list, number) => write!(f, "{name} {list} {number}"),
-            Argument::Index(index) => write!(f, "{name} {index}"),
+            Argument::Field(index) | Argument::Accumulator(index) => write!(f, "{name} {index}"),
             Argument::Target(target) => write!(f, "{name} {target}"),
         }
     }

@@ -36,7 +36,7 @@ fn put_argument(out: &mut Vec<u8>, argument: Argument) -> Result<(), AllocError>
         Argument::Number(value) => put_i64(out, value),
         Argument::Truth(truth) => put_u8(out, u8::from(truth)),
         Argument::Name(list, name) => put_name_of(out, list, name),
-        Argument::Index(index) => put_u8(out, index),
+        Argument::Field(index) | Argument::Accumulator(index) => put_u8(out, index),
         Argument::Target(target) => put_u16(out, target),
     }
 }
