@@ -1,9 +1,7 @@
 -- As an event comes to the runner of a program, what it is given can be done, and what is done is what
 -- the definitions say.
-use Rattle.std.proofs.Common.{◌≡◌, ℕ, ◌+◌, ◌*◌, ◌≤◌, ◌++◌, Bool, true, cond, List, [], length, ℤ, ◌+ℤ◌, ◌-ℤ◌, Option, Some, None, Ok, Result, SFits, w64, refl, sym, ap, subst, ◌∙◌, arith, append-nil}
+use Rattle.std.proofs.Common.{◌≡◌, ℕ, ◌+◌, ◌*◌, ◌≤◌, ◌++◌, Bool, true, cond, List, [], length, ℤ, Option, Some, None, Ok, Result, SFits, w64, refl, sym, ap, subst, ◌∙◌, arith, append-nil}
 use Rattle.std.proofs.lemmas.Int.{ints, fits_signed_from_abs}
-use Rattle.std.specs.Prelude.{int_lt}
-use Rattle.std.specs.FinMap.Entries.{where_key}
 use Rattle.wsm_record.specs.declared.event.Value.{Value}
 use Rattle.wsm_record.specs.declared.cell.Cell.{Cell}
 use Rattle.wsm_record.specs.declared.words.Form.{Form}
@@ -14,20 +12,17 @@ use Rattle.wsm_windows.specs.declared.window.Window.{Window}
 use Rattle.wsm_windows.specs.declared.window.Shape.{Shape}
 use Rattle.wsm_windows.specs.declared.window.Shape.TheVariants.{Fixed, Sliding, Session}
 use Rattle.wsm_windows.specs.Windows.{IsTime, windows_of_shape}
-use Rattle.wsm_windows.specs.Places.{place_cmp}
 use Rattle.wsm_admission.specs.declared.verdict.Admitted.{Admitted}
 use Rattle.wsm_admission.specs.declared.verdict.Admitted.TheVariants as admitted
 use Rattle.wsm_admission.specs.declared.verdict.Refusal.{Refusal}
 use Rattle.wsm_admission.specs.Admission.{answer}
 use Rattle.wsm_admission.proofs.Taken.{accepted_watermark}
 use Rattle.wsm_semantics.specs.declared.out_row.OutRow.{OutRow}
-use Rattle.wsm_semantics.specs.Query.{Query, mark, verdict_on}
-use Rattle.wsm_semantics.specs.Panes.{is_live_at}
+use Rattle.wsm_semantics.specs.Query.{mark, verdict_on}
 use Rattle.wsm_semantics.specs.HeldBounds.{most_panes}
 use Rattle.wsm_semantics.specs.Summaries.{entered}
 use Rattle.wsm_semantics.specs.Replay.{datum}
 use Rattle.wsm_semantics.specs.Steps.{chosen_rows, stream_rows}
-use Rattle.wsm_semantics.proofs.Lists.{filter_same}
 use Rattle.wsm_semantics.proofs.SelectedRecords.{a_time}
 use Rattle.wsm_program.specs.Program.{Program}
 use Rattle.wsm_verifier.specs.Costs.{needed}
@@ -175,7 +170,7 @@ module _ (p : Program) (past : List Event) (h : Held) (m : ℤ) (a : Result Admi
 pub mark_fits : (p : Program) (past : List Event) (r : Runner) (m : ℤ) (a : Result Admitted Refusal) (e : Event) → Comes p past r.held m a e → IsOf p r → (old new : ℤ) → a ≡ Ok (admitted.Watermark old new) → SFits w64 new
 mark_fits p past r m a e comes of old new is = fits new (a_mark p past r of old new (comes_at p past r.held m a e comes old new is))
 
--- ---- rows and drops of a watermark
+-- ---- rows of a watermark
 
 -- the rows of what fires, and then those of a stream, are those of the form
 pub rows_then : (f : Form) (fired : List OutRow) (m : ℤ) (before now : List (List Cell)) → chosen_rows f fired [] ++ stream_rows f m before now ≡ chosen_rows f fired (stream_rows f m before now)
@@ -183,10 +178,3 @@ rows_then form.Panes fired m before now = append-nil fired
 rows_then form.Istream fired m before now = refl
 rows_then form.Dstream fired m before now = refl
 rows_then form.Rstream fired m before now = refl
-
--- a pane lives where its end is past the watermark less the lateness
-pub drops_are : (q : Query) (new : ℤ) (es : Panes) → where_key place_cmp (λ p. int_lt (new -ℤ q.clock.lateness) p.end) es ≡ where_key place_cmp (is_live_at q new) es
-drops_are q new es = filter_same _ _ (λ e. past_limit new q.clock.lateness e.0.end) es
-  where
-    past_limit : (new l end : ℤ) → int_lt (new -ℤ l) end ≡ int_lt new (end +ℤ l)
-    past_limit new l end = grind (arith, ints)

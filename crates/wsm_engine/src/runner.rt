@@ -198,7 +198,7 @@ impl Runner {
     }
 
     // Takes a watermark that was accepted: fires the panes that it comes to, writes the streams at it, and
-    // drops the panes that end with the lateness by then.
+    // drops the panes that aren't live any more.
     fn take_watermark(&mut self, verified: &Verified, old: i64, new: i64) -> Tally
         requires program { IsOf verified.now self.old }
         requires empty { self.old.rows.items ≡ [] }
@@ -219,9 +219,9 @@ impl Runner {
             old,
             new,
         );
-        let limit = new - verified.program().header().clock.lateness;
+        let lateness = verified.program().header().clock.lateness;
         self.streams.advance(new, &mut self.rows);
-        drop_expired(&mut self.held, &mut self.streams, limit);
+        drop_expired(&mut self.held, &mut self.streams, new, lateness);
         tally
     }
 }

@@ -1,11 +1,15 @@
--- The panes that a limit leaves are those from the first that ends after it on.
+-- The panes that a limit leaves are those from the first that ends after it on, and those that are live.
 use Rattle.std.proofs.Common.{◌≡◌, ℕ, zero, suc, ◌+◌, true, false, cond, T, None, Some, [], ◌∷◌, drop, refl, sym, ap, ◌∙◌, inl, inr, arith}
 use Rattle.std.proofs.lemmas.Int.{ints}
 use Rattle.std.specs.Prelude.{ℤ, ◌≤ℤ◌, ◌<ℤ◌, int_lt, slice_get}
+use Rattle.std.specs.List.{AllByRecursion}
 use Rattle.std.specs.Ordering.{is_lt}
 use Rattle.std.specs.FinMap.Entries.{where_key, is_sorted, below_all}
 use Rattle.wsm_windows.specs.declared.place.Place.{Place}
-use Rattle.wsm_windows.specs.Places.{place_cmp}
+use Rattle.wsm_windows.specs.declared.window.Window.{Window}
+use Rattle.wsm_windows.specs.Life.{is_live}
+use Rattle.wsm_windows.specs.Places.{place_cmp, window_of}
+use Rattle.wsm_windows.specs.Windows.{IsPlaced}
 use Rattle.wsm_semantics.specs.Summaries.{Pane}
 use Rattle.wsm_panes.proofs.Ended.{ends_in_order}
 use Rattle.wsm_panes.proofs.Sorted.{lesser}
@@ -44,3 +48,8 @@ module _ (limit : ℤ) where
     | inl past ↦ ap left past ∙ sym past
     | inr e ↦ rest_left es i e.0 sorted e.1 e.2
   ]
+
+  -- where those are live whose end is past the limit
+  pub live_left : (lateness mark : ℤ) → ((w : Window) → IsPlaced w → int_lt limit w.end ≡ is_live w lateness mark) → (es : Panes) → AllByRecursion (λ e. IsPlaced (window_of e.0)) es → left es ≡ where_key place_cmp (λ p. is_live (window_of p) lateness mark) es
+  live_left lateness mark same [] placed = refl
+  live_left lateness mark same (e ∷ es) placed = λ i. cond (same (window_of e.0) placed.0 i) (e ∷ live_left lateness mark same es placed.1 i) (live_left lateness mark same es placed.1 i)

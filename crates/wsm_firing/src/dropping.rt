@@ -4,7 +4,8 @@ ghost use Rattle.std.specs.Prelude.{◌≡◌, List, int_lt};
 ghost use Rattle.std.specs.List.{AllByRecursion};
 ghost use Rattle.std.specs.FinMap.Entries.{where_key};
 ghost use Rattle.wsm_record.specs.declared.cell.Cell.{Cell};
-ghost use Rattle.wsm_windows.specs.Windows.{IsPlaced};
+ghost use Rattle.wsm_windows.specs.Life.{is_live};
+ghost use Rattle.wsm_windows.specs.Windows.{IsPlaced, IsSpan};
 ghost use Rattle.wsm_windows.specs.Places.{place_cmp, window_of};
 ghost use Rattle.wsm_panes.specs.Held.{IsKept, entries_of};
 ghost use Rattle.wsm_firing.specs.Streams.{AreAlike, CanTell, IsTold, standing_rows};
@@ -12,22 +13,25 @@ ghost use Rattle.wsm_firing.specs.Streams.{AreAlike, CanTell, IsTold, standing_r
 use crate::streams::Streams;
 use wsm_panes::HeldPanes;
 use wsm_record::Form;
+use wsm_windows::last_expired;
 
-/// Drops the panes of windows with an end of at most the limit, which is in event time, and tells the
-/// streams the rows that stood for them.
-pub fn drop_expired(held: &mut HeldPanes, streams: &mut Streams, limit: i64)
+/// Drops the panes of windows that aren't live at a mark, and tells the streams the rows that stood for
+/// them. The lateness is in event time.
+pub fn drop_expired(held: &mut HeldPanes, streams: &mut Streams, mark: i64, lateness: i64)
+    requires lateness { IsSpan lateness }
     requires placed { AllByRecursion (λ e. IsPlaced (window_of e.0)) (entries_of held.old) }
     requires tells { CanTell streams.old (entries_of held.old) }
-    ensures panes { entries_of held.new ≡ where_key place_cmp (λ p. int_lt limit p.end) (entries_of held.old) }
+    ensures panes { entries_of held.new ≡ where_key place_cmp (λ p. is_live (window_of p) lateness mark) (entries_of held.old) }
     ensures keeps { IsKept held.old held.new }
     ensures told { (relation : List (List Cell)) → IsTold streams.old relation (standing_rows (entries_of held.old)) → IsTold streams.new relation (standing_rows (entries_of held.new)) }
     ensures alike { AreAlike streams.old streams.new }
 {
+    let limit = last_expired(mark, lateness);
     lose_expired(streams, held, limit);
     held.drop_expired(limit);
 }
 
-// Tells the streams the rows of the panes that are past.
+// Tells the streams the rows of the panes of windows with an end of at most the limit.
 fn lose_expired(streams: &mut Streams, held: &HeldPanes, limit: i64)
     requires placed { AllByRecursion (λ e. IsPlaced (window_of e.0)) (entries_of held.now) }
     requires tells { CanTell streams.old (entries_of held.now) }

@@ -18,7 +18,7 @@
 //! let tally = fire_by_watermark(&verified, &mut machine, &mut held, &mut streams, &mut rows, 0, 60);
 //! assert_eq!(rt; (tally.fired, tally.steps_max), (1, 4));
 //! assert_eq!(rt; rows.len(), 1); // on time, from 0 to 60, with 1 and 7
-//! drop_expired(&mut held, &mut streams, 60 - 10);
+//! drop_expired(&mut held, &mut streams, 60, 10);
 //! assert_eq!(rt; held.len(), 1); // it is held until the watermark comes to 70
 //! ```
 #![tactic(auto)]

@@ -1,6 +1,6 @@
 //! Firings on the turn of a watermark.
 
-ghost use Rattle.std.specs.Prelude.{◌≡◌, ◌≤ℤ◌, ◌+ℤ◌, ◌+◌, ℕ, pos, List, [], IsSome, Some, slice_get, vec_capacity, length};
+ghost use Rattle.std.specs.Prelude.{◌≡◌, ◌≤ℤ◌, ◌+◌, ℕ, List, [], IsSome, Some, slice_get, vec_capacity, length};
 ghost use Rattle.std.specs.FinMap.Entries.{find};
 ghost use Rattle.wsm_record.specs.declared.event.Value.{Value};
 ghost use Rattle.wsm_windows.specs.Places.{place_cmp};
@@ -22,6 +22,7 @@ use wsm_machine::Machine;
 use wsm_panes::{HeldPanes, Spot};
 use wsm_semantics::OutRow;
 use wsm_verifier::Verified;
+use wsm_windows::last_expired;
 
 /// Fires the panes that a watermark comes to as it rises from one mark to another, by end, then
 /// start, then key. A row is written for each where HAVING is true and rows are those of panes.
@@ -63,15 +64,6 @@ pub fn fire_by_watermark(
         next = next_to_fire(held, spot, expired, old, new);
     }
     tally
-}
-
-// The last end of windows that expire by a mark.
-fn last_expired(mark: i64, lateness: i64) -> i64
-    requires { pos 0 ≤ℤ lateness }
-    ensures expires { mark ≤ℤ (result +ℤ lateness) }
-    ensures by { result ≤ℤ mark }
-{
-    mark.checked_sub(lateness).unwrap_or(i64::MIN)
 }
 
 // Where the first pane is that can fire as a watermark rises from one mark to another.

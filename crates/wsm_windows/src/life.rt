@@ -1,6 +1,6 @@
 //! How long a window is held.
 
-ghost use Rattle.std.specs.Prelude.{◌≡◌, ◌≤◌, ◌+◌, List, ℤ, pos, ◌+ℤ◌, ◌≤ℤ◌, All, length, unsigned_abs};
+ghost use Rattle.std.specs.Prelude.{◌≡◌, ◌≤◌, ◌+◌, List, ℤ, pos, ◌+ℤ◌, ◌≤ℤ◌, int_lt, All, length, unsigned_abs};
 ghost use Rattle.std.specs.Int.{div_ceil};
 ghost use Rattle.wsm_windows.specs.Windows.{IsShape, IsTime, IsSpan, IsPlaced, greatest_span};
 ghost use Rattle.wsm_windows.specs.Life.{AreOfOneKey, IsHeld};
@@ -15,7 +15,18 @@ pub fn is_live(window: Window, lateness: i64, mark: i64) -> bool
     requires mark { IsTime mark }
     ensures { result ≡ life.is_live window lateness mark }
 {
-    window.end + lateness > mark
+    window.end > last_expired(mark, lateness)
+}
+
+/// The last end, in event time, of windows that aren't live at a mark: those with an end past it are.
+pub fn last_expired(mark: i64, lateness: i64) -> i64
+    requires lateness { IsSpan lateness }
+    ensures live { (window : Window) → IsPlaced window → int_lt result window.end ≡ life.is_live window lateness mark }
+    ensures by { result ≤ℤ mark }
+    ensures late { mark ≤ℤ (result +ℤ lateness) }
+{
+    // No window ends as early as the least number.
+    mark.checked_sub(lateness).unwrap_or(i64::MIN)
 }
 
 /// Whether a watermark that goes from one mark to another comes to a window's end.

@@ -36,7 +36,7 @@ pub last_expired-expired-requires : goal.last_expired-expired-requires
 last_expired-expired-requires c =
     let span : IsSpan c.header-header.result.now.clock.lateness = subst (λ (h : Header). IsSpan h.clock.lateness) (sym c.header-header.ensures.header) (lawful_programs.lawful c.program.result.now c.header-header.ensures.lawful).lateness in
     let wait : SFits w64 c.header-header.result.now.clock.lateness = fits_signed_from_abs w64 c.header-header.result.now.clock.lateness (grind (arith, ints, span.low, span.high)) in
-    simp to_z-of_z span.low
+    simp to_z-of_z (record { lateness = span })
 
 pub loop-init : goal.loop-init
 loop-init c =
@@ -51,7 +51,7 @@ loop-init c =
     let new_fits : SFits w64 c.args.new = c.ranges.new in
     let span : IsSpan c.header-header.result.now.clock.lateness = subst (λ (h : Header). IsSpan h.clock.lateness) (sym c.header-header.ensures.header) (lawful_programs.lawful c.program.result.now c.header-header.ensures.lawful).lateness in
     let wait : SFits w64 c.header-header.result.now.clock.lateness = fits_signed_from_abs w64 c.header-header.result.now.clock.lateness (grind (arith, ints, span.low, span.high)) in
-    let by : new ≤ℤ (late +ℤ c.header-header.result.now.clock.lateness) = simp to_z-of_z (simp to_z-of_z at c.last_expired-expired.ensures.expires) in
+    let by : new ≤ℤ (late +ℤ c.header-header.result.now.clock.lateness) = simp to_z-of_z (simp to_z-of_z at c.last_expired-expired.ensures.late) in
     let expires : new ≤ℤ (late +ℤ q.clock.lateness) = subst (λ (h : Header). new ≤ℤ (late +ℤ h.clock.lateness)) header by in
     let found = place_found c.first_to_fire-next.result in
     let on : IsNextToFire late old new es 0 found = c.first_to_fire-next.ensures in
@@ -214,7 +214,7 @@ loop-preserved c =
     let new_fits : SFits w64 c.args.new = c.ranges.new in
     let span : IsSpan c.header-header.result.now.clock.lateness = subst (λ (h : Header). IsSpan h.clock.lateness) (sym c.header-header.ensures.header) (lawful_programs.lawful c.program.result.now c.header-header.ensures.lawful).lateness in
     let wait : SFits w64 c.header-header.result.now.clock.lateness = fits_signed_from_abs w64 c.header-header.result.now.clock.lateness (grind (arith, ints, span.low, span.high)) in
-    let by : new ≤ℤ (late +ℤ c.header-header.result.now.clock.lateness) = simp to_z-of_z (simp to_z-of_z at c.last_expired-expired.ensures.expires) in
+    let by : new ≤ℤ (late +ℤ c.header-header.result.now.clock.lateness) = simp to_z-of_z (simp to_z-of_z at c.last_expired-expired.ensures.late) in
     let expires : new ≤ℤ (late +ℤ q.clock.lateness) = subst (λ (h : Header). new ≤ℤ (late +ℤ h.clock.lateness)) header by in
     let found = place_found c.next_to_fire-next.result in
     let on : IsNextToFire late old new then (i + 1) found = c.next_to_fire-next.ensures i here.0 here.1 in

@@ -1,4 +1,4 @@
-use Rattle.std.proofs.Common.{◌≡◌, ◌≤◌, ◌++◌, ◌∙◌, List, [], length, ◌-ℤ◌, Ok, SFits, w64, to_z-of_z, sym, ap, subst, arith}
+use Rattle.std.proofs.Common.{◌≡◌, ◌≤◌, ◌++◌, ◌∙◌, List, [], length, Ok, SFits, w64, to_z-of_z, sym, ap, subst, arith}
 use Rattle.std.proofs.lemmas.Int.{ints, fits_signed_from_abs}
 use Rattle.std.specs.Prelude.{filter_map}
 use Rattle.std.specs.List.{AllByRecursion}
@@ -22,7 +22,7 @@ use Rattle.wsm_firing.proofs.Standing.{can_tell_on, few_rows}
 use Rattle.wsm_engine.specs.Runner.{last_relation}
 use Rattle.wsm_engine.proofs.Told.{last_is, are_told, alike_on, can_advance, can_go_on, can_tell, few_kept, of_next, placed_fired, same_alike}
 use Rattle.wsm_engine.proofs.Holding.{Panes}
-use Rattle.wsm_engine.proofs.Coming.{can_fire_at, a_mark, held_within, rows_then, drops_are}
+use Rattle.wsm_engine.proofs.Coming.{can_fire_at, held_within, rows_then}
 use Rattle.wsm_engine.proofs.runner.Runner.take_watermark.Goals as goal
 
 pub fire_by_watermark-tally-requires-clause-can : goal.fire_by_watermark-tally-requires-clause-can
@@ -62,15 +62,13 @@ drop_expired-requires-clause-placed c =
     let can = can_fire_at p c.requires.comes.0 c.args.self.now c.requires.program c.args.old c.args.new c.requires.comes.1 _ c.requires.program.rows in
     subst (λ (es : Panes). AllByRecursion (λ e. IsPlaced (window_of e.0)) es) (sym panes) (placed_fired (plan_of p) (query_of p) (kind_by_watermark (query_of p) c.args.old c.args.new) (entries_of c.args.self.now.held) can.placed)
 
-pub overflow_sub-limit : goal.overflow_sub-limit
-overflow_sub-limit c =
+pub drop_expired-requires-clause-lateness : goal.drop_expired-requires-clause-lateness
+drop_expired-requires-clause-lateness c =
     let p = c.args.verified.now in
-    let new : SFits w64 c.args.new = c.ranges.new in
     let late : c.header.result.now.clock.lateness ≡ p.header.clock.lateness = ap (λ (h : Header). h.clock.lateness) (c.header.ensures.header ∙ ap (λ (q : Program). q.header) c.program.ensures.program) in
     let span = (lawful p c.requires.program.lawful).lateness in
-    let mark = a_mark p c.requires.comes.0 c.args.self.now c.requires.program c.args.old c.args.new c.requires.comes.1 in
-    let lateness : SFits w64 c.header.result.now.clock.lateness = fits_signed_from_abs w64 c.header.result.now.clock.lateness (rw late (omega (arith, ints, span.low, span.high))) in
-    simp to_z-of_z (rw late (fits_signed_from_abs w64 (c.args.new -ℤ p.header.clock.lateness) (grind (arith, ints, mark.low, mark.high, span.low, span.high))))
+    let lateness : SFits w64 p.header.clock.lateness = fits_signed_from_abs w64 p.header.clock.lateness (omega (arith, ints, span.low, span.high)) in
+    rw late (simp to_z-of_z span)
 
 pub returns-clause-panes : goal.returns-clause-panes
 returns-clause-panes c =
@@ -79,12 +77,9 @@ returns-clause-panes c =
     let new : SFits w64 c.args.new = c.ranges.new in
     let late : c.header.result.now.clock.lateness ≡ p.header.clock.lateness = ap (λ (h : Header). h.clock.lateness) (c.header.ensures.header ∙ ap (λ (q : Program). q.header) c.program.ensures.program) in
     let span = (lawful p c.requires.program.lawful).lateness in
-    let mark = a_mark p c.requires.comes.0 c.args.self.now c.requires.program c.args.old c.args.new c.requires.comes.1 in
     let lateness : SFits w64 p.header.clock.lateness = fits_signed_from_abs w64 p.header.clock.lateness (omega (arith, ints, span.low, span.high)) in
-    let limit : SFits w64 (c.args.new -ℤ p.header.clock.lateness) = fits_signed_from_abs w64 (c.args.new -ℤ p.header.clock.lateness) (grind (arith, ints, mark.low, mark.high, span.low, span.high)) in
     let panes : entries_of c.fire_by_watermark-tally.new.held ≡ at_watermark (plan_of p) (query_of p) c.args.old c.args.new (entries_of c.args.self.now.held) = simp to_z-of_z at c.fire_by_watermark-tally.ensures.panes in
     (simp to_z-of_z at (rw late at c.drop_expired.ensures.panes))
-    ∙ drops_are (query_of p) c.args.new (entries_of c.fire_by_watermark-tally.new.held)
     ∙ ap (where_key place_cmp (is_live_at (query_of p) c.args.new)) panes
 
 pub returns-clause-relation : goal.returns-clause-relation
