@@ -6,7 +6,7 @@ use wsm_record::{CellType, Field, Form, Kind, Mode, Name};
 use wsm_windows::Shape;
 
 /// What an accumulator folds.
-#[derive(Debug, Drop)]
+#[derive(Drop)]
 pub struct Folding {
     pub kind: Kind,
     /// The value that a record adds.
@@ -14,7 +14,7 @@ pub struct Folding {
 }
 
 /// A column.
-#[derive(Debug, Drop)]
+#[derive(Drop)]
 pub struct Column {
     pub ty: CellType,
     pub term: Term,
@@ -22,7 +22,7 @@ pub struct Column {
 
 /// What a checked query has: names are numbers in its expressions, and each aggregate has an
 /// accumulator of its own.
-#[derive(Debug, Drop)]
+#[derive(Drop)]
 pub struct Parts {
     pub keys: Vec<Name>,
     pub fields: Vec<Field>,
@@ -51,7 +51,7 @@ pub struct Parts {
 }
 
 /// What the expressions of a checked query are.
-#[derive(Debug, Drop)]
+#[derive(Drop)]
 pub struct Terms {
     /// WHERE
     pub condition: Option<Term>,

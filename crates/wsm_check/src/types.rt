@@ -15,7 +15,7 @@ use wsm_record::limits::MAX_FIELDS;
 use wsm_record::{CellType, Kind, Name, Ty};
 
 /// Where an expression stands.
-#[derive(Clone, Copy, Debug, PartialEq, Eq)]
+#[derive(Clone, Copy)]
 pub enum Around {
     InWhere,
     /// In a column or in HAVING.

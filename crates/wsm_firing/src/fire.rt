@@ -26,7 +26,7 @@ use wsm_verifier::Verified;
 use wsm_windows::{PaneKind, Window};
 
 /// A pane that fires.
-#[derive(Clone, Copy, Debug)]
+#[derive(Clone, Copy)]
 pub struct Due {
     /// Which firing of the window it is.
     pub kind: PaneKind,

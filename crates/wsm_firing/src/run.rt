@@ -14,7 +14,7 @@ use wsm_record::{Cell, Mode};
 use wsm_verifier::Verified;
 
 /// What FIRE comes to on a pane.
-#[derive(Clone, Copy, Debug)]
+#[derive(Clone, Copy)]
 pub struct Ran<'a> {
     /// The cells of its row, where they lie, if HAVING is true.
     pub row: Option<&'a [Cell]>,

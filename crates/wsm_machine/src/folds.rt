@@ -9,7 +9,7 @@ use wsm_record::Value;
 use wsm_record::limits::MAX_ACCUMULATORS;
 
 /// The value that a run folds into each accumulator, held inline: none until it is folded.
-#[derive(Debug, Drop)]
+#[derive(Drop)]
 pub struct Folds {
     places: [Option<Value>; MAX_ACCUMULATORS],
     len: usize,

@@ -31,7 +31,7 @@ pub struct Setting<'a> {
 }
 
 /// Where a run goes after an instruction.
-#[derive(Clone, Copy, Debug, PartialEq, Eq)]
+#[derive(Clone, Copy)]
 pub enum Flow {
     /// To the next place.
     Next,

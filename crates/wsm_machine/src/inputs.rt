@@ -14,7 +14,7 @@ use wsm_verifier::Verified;
 
 /// What a section may read. WHERE and UPDATE read the key and the values of a record; FIRE reads
 /// the key of a pane, the number of records in its firing, and what its accumulators hold.
-#[derive(Clone, Copy, Debug)]
+#[derive(Clone, Copy)]
 pub struct Inputs<'a> {
     /// The number of the key.
     pub key: u16,

@@ -8,7 +8,7 @@ use wsm_record::Mode;
 use wsm_windows::Place;
 
 /// What stands for a pane. The values of a row lie beside it.
-#[derive(Clone, Copy, Debug, PartialEq, Eq)]
+#[derive(Clone, Copy)]
 pub(crate) enum Stands {
     /// Nothing, as no part of the pane fired.
     Unfired,
@@ -21,7 +21,7 @@ pub(crate) enum Stands {
 }
 
 /// What a slot has of its entry, if there is one, beside the values.
-#[derive(Clone, Copy, Debug)]
+#[derive(Clone, Copy)]
 pub(crate) struct Head {
     // Of its window, in event time.
     end: i64,

@@ -27,7 +27,7 @@ pub struct Ring {
 }
 
 /// A window of a ring, and where its slots are.
-#[derive(Clone, Copy, Debug, PartialEq, Eq)]
+#[derive(Clone, Copy)]
 pub struct Row {
     /// When the window starts.
     pub start: i64,

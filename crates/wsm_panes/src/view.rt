@@ -9,7 +9,7 @@ use std::marker::Model;
 use wsm_record::{Cell, Columns, Value};
 
 /// Where the cells of a row lie.
-#[derive(Clone, Copy, Debug)]
+#[derive(Clone, Copy)]
 pub(crate) enum RowView<'a> {
     /// In columns of their own.
     Whole(&'a Columns),

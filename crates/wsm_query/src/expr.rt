@@ -19,7 +19,7 @@ pub enum Op {
 }
 
 /// An expression, with a case for each form of the grammar, brackets too.
-#[derive(Debug, Drop)]
+#[derive(Drop)]
 pub enum Expr {
     Number(i64),
     Truth(bool),

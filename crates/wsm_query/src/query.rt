@@ -16,7 +16,7 @@ pub struct Budget {
 }
 
 /// A query, with a field for each clause.
-#[derive(Debug, Drop)]
+#[derive(Drop)]
 pub struct Query {
     pub keys: Vec<Name>,
     pub fields: Vec<Field>,

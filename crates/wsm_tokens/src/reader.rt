@@ -14,7 +14,7 @@ use wsm_record::Name;
 /// A place between the tokens of a text. A clause sees the tokens behind it.
 ///
 /// The token in sight was scanned already; a fault there is told only where a rule looks at it.
-#[derive(Debug, Drop)]
+#[derive(Drop)]
 pub struct Reader<'a> {
     text: &'a [u8],
     /// Where the token in sight begins, in bytes.
@@ -23,7 +23,7 @@ pub struct Reader<'a> {
 }
 
 /// What stands at an offset of a text.
-#[derive(Clone, Copy, Debug)]
+#[derive(Clone, Copy)]
 pub enum Sight<'a> {
     /// A token, and the offset behind it.
     Token(Token<'a>, usize),

@@ -37,7 +37,7 @@ const SIGNS: [Sign; 17] = [
 ];
 
 /// What a text begins with, where that is no blank.
-#[derive(Clone, Copy, Debug)]
+#[derive(Clone, Copy)]
 pub enum Seen<'a> {
     /// A token, and how many bytes it has behind its first.
     Token(Token<'a>, usize),
