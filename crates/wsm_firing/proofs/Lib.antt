@@ -14,3 +14,4 @@ pub mod Standing
 pub mod Joining
 pub mod Past
 pub mod Jumps
+pub mod WatermarkWalk

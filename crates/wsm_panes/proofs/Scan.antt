@@ -4,7 +4,7 @@ use Rattle.std.proofs.lemmas.Bool.{cases_lt}
 use Rattle.std.proofs.lemmas.Int.{ints, by_lt_z}
 use Rattle.std.specs.Option.{is_some}
 use Rattle.wsm_panes.specs.declared.ring.Ring.{Ring}
-use Rattle.wsm_panes.specs.Ring.{IsOnGrid, AreInPlace, IsFromOn, IsFirstFrom, IsFirstUntil, AreUntil, NoneInRow, IsFirstInRow, slot_at, row_of, starts_at, window_number}
+use Rattle.wsm_panes.specs.Ring.{IsOnGrid, AreInPlace, IsFromOn, IsFirstFrom, IsFirstUntil, NoneInRow, IsFirstInRow, slot_at, row_of, starts_at, window_number}
 use Rattle.wsm_panes.proofs.Rings.{next_on_grid}
 use Rattle.wsm_panes.proofs.Placed.{not_started}
 use Rattle.std.proofs.lemmas.Bool.Decides.{Decides-int_eq}

@@ -101,38 +101,22 @@ loop-window-preserved c =
           (next p room c.loop-window.tally c.loop-window.rows.items some left all comes)));
     }
 
-pub returns-clause-panes : goal.returns-clause-panes
-returns-clause-panes c =
-    let p = c.args.verified.now in let q = query_of p in let es = entries_of c.args.held.now in
+pub returns : goal.returns
+returns c =
+    let p = c.args.verified.now in let q = query_of p in
     let mark : ℤ = to_z w64 (of_z w64 c.args.mark) in let mark_fits : SFits w64 c.args.mark = c.ranges.mark in
-    let all : List (Fired (List Value)) = fires q (kind_at q mark (map (at c.args.key) c.args.windows)) es in
-    let room : ℕ = vec_capacity c.args.rows.now in
     let now = entries_of c.loop-window.held in let kind : List Window → Place → Pane (List Value) → _ = λ ws. kind_at q mark (map (at c.args.key) ws) in
-    let still : AllByRecursion (λ e. kind [] e.0 e.1 ≡ None) now = all-any (λ e. kind [] e.0 e.1 ≡ None) (λ e. refl) now in
-    simp to_z-of_z at
-    (sym (none_fired (plan_of p) q (kind []) now still) ∙ sym (ap (λ (ws : List Window). all_fired (plan_of p) q (kind ws) now) c.in-None.ensures.steps.0) ∙ c.loop-window.invariant.panes)
-
-pub returns-clause-rows : goal.returns-clause-rows
-returns-clause-rows c =
-    let p = c.args.verified.now in let q = query_of p in let es = entries_of c.args.held.now in
-    let mark : ℤ = to_z w64 (of_z w64 c.args.mark) in let mark_fits : SFits w64 c.args.mark = c.ranges.mark in
-    let all : List (Fired (List Value)) = fires q (kind_at q mark (map (at c.args.key) c.args.windows)) es in
+    let all : List (Fired (List Value)) = fires q (kind c.args.windows) (entries_of c.args.held.now) in
     let room : ℕ = vec_capacity c.args.rows.now in
-    let now = entries_of c.loop-window.held in let kind : List Window → Place → Pane (List Value) → _ = λ ws. kind_at q mark (map (at c.args.key) ws) in
     let still : AllByRecursion (λ e. kind [] e.0 e.1 ≡ None) now = all-any (λ e. kind [] e.0 e.1 ≡ None) (λ e. refl) now in
     let none : fires q (kind c.loop-window.window-iterator) now ≡ [] = ap (λ (ws : List Window). fires q (kind ws) now) c.in-None.ensures.steps.0 ∙ none_fires (plan_of p) q (kind []) now still in
-    simp to_z-of_z at (last_rows p room c.loop-window.tally c.loop-window.rows.items _ all none c.loop-window.invariant.comes)
-
-pub returns-clause-tally : goal.returns-clause-tally
-returns-clause-tally c =
-    let p = c.args.verified.now in let q = query_of p in let es = entries_of c.args.held.now in
-    let mark : ℤ = to_z w64 (of_z w64 c.args.mark) in let mark_fits : SFits w64 c.args.mark = c.ranges.mark in
-    let all : List (Fired (List Value)) = fires q (kind_at q mark (map (at c.args.key) c.args.windows)) es in
-    let room : ℕ = vec_capacity c.args.rows.now in
-    let now = entries_of c.loop-window.held in let kind : List Window → Place → Pane (List Value) → _ = λ ws. kind_at q mark (map (at c.args.key) ws) in
-    let still : AllByRecursion (λ e. kind [] e.0 e.1 ≡ None) now = all-any (λ e. kind [] e.0 e.1 ≡ None) (λ e. refl) now in
-    let none : fires q (kind c.loop-window.window-iterator) now ≡ [] = ap (λ (ws : List Window). fires q (kind ws) now) c.in-None.ensures.steps.0 ∙ none_fires (plan_of p) q (kind []) now still in
-    simp to_z-of_z at (last_tally p room c.loop-window.tally c.loop-window.rows.items _ all none c.loop-window.invariant.comes)
-
-pub returns-clause-tells : goal.returns-clause-tells
-returns-clause-tells c = c.loop-window.invariant.tells
+    record {
+      panes =
+          simp to_z-of_z at
+          (sym (none_fired (plan_of p) q (kind []) now still) ∙ sym (ap (λ (ws : List Window). all_fired (plan_of p) q (kind ws) now) c.in-None.ensures.steps.0) ∙ c.loop-window.invariant.panes);
+      keeps = c.loop-window.invariant.keeps;
+      tells = c.loop-window.invariant.tells;
+      rows = simp to_z-of_z at (last_rows p room c.loop-window.tally c.loop-window.rows.items _ all none c.loop-window.invariant.comes);
+      capacity = c.loop-window.invariant.capacity;
+      tally = simp to_z-of_z at (last_tally p room c.loop-window.tally c.loop-window.rows.items _ all none c.loop-window.invariant.comes);
+    }

@@ -31,20 +31,8 @@ fire-fired-requires c =
     let same = same_inputs key n c.fired_count.result c.unwrap.result.now c.requires.held count accs (count_fits p whole key n c.requires.held c.requires.ranged) in
     subst (λ (i : Inputs). IsTrue (in_range p Fire i)) (sym same) c.requires.ranged
 
-pub returns-clause-wide : goal.returns-clause-wide
-returns-clause-wide c =
-    let n = length c.args.verified.now.header.columns in
-    let wide : length c.fire-fired.result.columns.now ≡ n = sym (length_each type_of c.fire-fired.result.columns.now) ∙ ap length c.fire-fired.ensures.types in
-    if_row (λ cells. cells.now) (λ cells. length cells ≡ n) c.fire-fired.result.emits c.fire-fired.result.columns.now c.written.result c.written.ensures wide
-
-pub returns-clause-few : goal.returns-clause-few
-returns-clause-few c =
-    let columns : length c.args.verified.now.header.columns ≤ 16 = (lawful_firing c.program.result.now _ (ap (λ (p : Program). p.header) (sym c.program.ensures.program)) c.header-header.ensures.lawful).columns in
-    let wide : length c.fire-fired.result.columns.now ≡ length c.args.verified.now.header.columns = sym (length_each type_of c.fire-fired.result.columns.now) ∙ ap length c.fire-fired.ensures.types in
-    if_row (λ cells. cells.now) (λ cells. length cells ≤ 16) c.fire-fired.result.emits c.fire-fired.result.columns.now c.written.result c.written.ensures (omega arith)
-
-pub returns-clause-row : goal.returns-clause-row
-returns-clause-row c =
+pub returns : goal.returns
+returns c =
     let p : Program = c.args.verified.now in
     let key : ℕ = c.args.due.spot.place.key in
     let n : ℕ = fired_count p.header.mode c.args.pane.now in
@@ -53,17 +41,12 @@ returns-clause-row c =
     let whole : IsTrue (is_program p) = subst (λ (p : Program). IsTrue (is_program p)) c.program.ensures.program c.header-header.ensures.lawful in
     let accs : c.unwrap.result.now ≡ c.requires.held = read (λ values. values.now) c.folded.result c.unwrap.result c.requires.held c.args.pane.now.folded c.unwrap.ensures c.folded.ensures c.requires.folded in
     let same = same_inputs key n c.fired_count.result c.unwrap.result.now c.requires.held count accs (count_fits p whole key n c.requires.held c.requires.ranged) in
-    let all = columns_are p key n c.args.pane.now.folded c.requires.held c.requires.folded _ same c.fire-fired.result.emits c.fire-fired.result.columns.now c.fire-fired.ensures.done c.fire-fired.ensures.row in
-    c.written.ensures ∙ all
-
-pub returns-clause-steps : goal.returns-clause-steps
-returns-clause-steps c =
-    let p : Program = c.args.verified.now in
-    let key : ℕ = c.args.due.spot.place.key in
-    let n : ℕ = fired_count p.header.mode c.args.pane.now in
-    let header : header_of c.header-header.result.now ≡ p.header = c.header-header.ensures.header ∙ ap (λ (p : Program). p.header) c.program.ensures.program in
-    let count : c.fired_count.result ≡ n = c.fired_count.ensures ∙ ap (λ (h : Header). fired_count h.mode c.args.pane.now) header in
-    let whole : IsTrue (is_program p) = subst (λ (p : Program). IsTrue (is_program p)) c.program.ensures.program c.header-header.ensures.lawful in
-    let accs : c.unwrap.result.now ≡ c.requires.held = read (λ values. values.now) c.folded.result c.unwrap.result c.requires.held c.args.pane.now.folded c.unwrap.ensures c.folded.ensures c.requires.folded in
-    let same = same_inputs key n c.fired_count.result c.unwrap.result.now c.requires.held count accs (count_fits p whole key n c.requires.held c.requires.ranged) in
-    steps_are p key n c.args.pane.now.folded c.requires.held c.requires.folded _ same c.fire-fired.result.steps c.fire-fired.ensures.steps
+    let emits = c.fire-fired.result.emits in let columns = c.fire-fired.result.columns.now in
+    let most : length p.header.columns ≤ 16 = (lawful_firing c.program.result.now _ (ap (λ (p : Program). p.header) (sym c.program.ensures.program)) c.header-header.ensures.lawful).columns in
+    let wide : length columns ≡ length p.header.columns = sym (length_each type_of columns) ∙ ap length c.fire-fired.ensures.types in
+    record {
+      row = c.written.ensures ∙ columns_are p key n c.args.pane.now.folded c.requires.held c.requires.folded _ same emits columns c.fire-fired.ensures.done c.fire-fired.ensures.row;
+      wide = if_row (λ cells. cells.now) (λ cells. length cells ≡ length p.header.columns) emits columns c.written.result c.written.ensures wide;
+      few = if_row (λ cells. cells.now) (λ cells. length cells ≤ 16) emits columns c.written.result c.written.ensures (omega (arith, most, wide));
+      steps = steps_are p key n c.args.pane.now.folded c.requires.held c.requires.folded _ same c.fire-fired.result.steps c.fire-fired.ensures.steps;
+    }

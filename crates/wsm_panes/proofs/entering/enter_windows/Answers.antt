@@ -1,8 +1,9 @@
-use Rattle.std.proofs.Common.{◌≡◌, [], ◌∷◌, Fits, SFits, w16, w64, to_z, of_z, rules, refl, ap, ◌∙◌, ◌+ℤ◌, ◌-ℤ◌, ◌<ℤ◌, ◌≤ℤ◌, arith}
+use Rattle.std.proofs.Common.{◌≡◌, ℤ, [], ◌∷◌, Fits, SFits, w16, w64, to_z, of_z, rules, refl, ap, ◌∙◌, ◌+ℤ◌, ◌-ℤ◌, ◌<ℤ◌, ◌≤ℤ◌, arith}
 use Rattle.std.specs.FinMap as map
 use Rattle.std.proofs.lemmas.Int.{ints, to_z-of_z}
 use Rattle.wsm_windows.specs.Windows.{first_start, greatest_span, greatest_time, window, windows_of}
 use Rattle.wsm_semantics.specs.Replay.{datum}
+use Rattle.wsm_panes.specs.declared.ring.Ring.{Ring}
 use Rattle.wsm_panes.specs.Ring.{IsRing}
 use Rattle.wsm_panes.proofs.Enters.{any_datum}
 use Rattle.wsm_panes.proofs.InTurn.{admits_at, can_go_on, put_at_is, takes_at}
@@ -10,6 +11,7 @@ use Rattle.wsm_panes.proofs.Rings.{between_fits, le_from, row_within}
 use Rattle.wsm_panes.proofs.Rows.{all_on, few_on, first_on_grid, one_on, rising_on, windows_on}
 use Rattle.wsm_panes.proofs.Scan.{left_less}
 use Rattle.wsm_panes.proofs.entering.enter_windows.Goals as goal
+use Rattle.wsm_panes.proofs.entering.enter_windows.Goals.{In-loop-row}
 
 pub loop-row-init : goal.loop-row-init
 loop-row-init c =
@@ -32,105 +34,72 @@ loop-row-init c =
       count = rw all (omega arith);
     })
 
+-- the ring, and the row of a turn, whose window has the time inside
+record IsInRow (r : Ring) (time start : ℤ) : Type 0 where
+  ring : IsRing r
+  few : r.size ≤ℤ greatest_span
+  fits : SFits w64 start
+  inside : start ≤ℤ time
+
+in_row : (c : In-loop-row) → IsInRow c.ring-ring.result (to_z w64 (of_z w64 c.args.time)) c.loop-row.row.start
+in_row c =
+    let start : SFits w64 c.loop-row.row.start = search rules in
+    let same : to_z w64 (of_z w64 c.loop-row.row.start) ≡ c.loop-row.row.start = to_z-of_z w64 c.loop-row.row.start start in
+    record {
+      ring = rw c.ring-ring.ensures c.requires.can.apart.ring;
+      few = rw c.ring-ring.ensures c.requires.size;
+      fits = start;
+      inside = le_from _ _ (rw same at c.loop-row-test.true);
+    }
+
 pub overflow_add-slot : goal.overflow_add-slot
 overflow_add-slot c =
-    let r = c.ring-ring.result in
-    let ring : IsRing r = rw c.ring-ring.ensures c.requires.can.apart.ring in
     let key : Fits w16 c.args.key = c.ranges.key in
-    omega (arith, key, c.loop-row.invariant.row.slot, row_within r c.loop-row.row.start ring, ring.slots)
+    let ring = (in_row (goal.at.overflow_add-slot c).In-loop-row).ring in
+    omega (arith, key, c.loop-row.invariant.row.slot, row_within c.ring-ring.result c.loop-row.row.start ring, ring.slots)
 
-pub enter_at-requires-clause-admits : goal.enter_at-requires-clause-admits
-enter_at-requires-clause-admits c =
+pub enter_at-requires : goal.enter_at-requires
+enter_at-requires c =
     let time : SFits w64 c.args.time = c.ranges.time in
-    let T = to_z w64 (of_z w64 c.args.time) in
-    let z : T ≡ c.args.time = to_z-of_z w64 c.args.time time in
-    let r = c.ring-ring.result in
-    let ring : IsRing r = rw c.ring-ring.ensures c.requires.can.apart.ring in
-    let few : r.size ≤ℤ greatest_span = rw c.ring-ring.ensures c.requires.size in
-    let S = c.loop-row.row.start in
-    let start : SFits w64 S = search rules in
-    let same : to_z w64 (of_z w64 S) ≡ S = to_z-of_z w64 S start in
-    let test : S ≤ℤ T = le_from _ _ (rw same at c.loop-row-test.true) in
-    let step : windows_on r T S ≡ window S (S +ℤ r.size) ∷ windows_on r T (S +ℤ r.period) = one_on r T S (S +ℤ r.period) ring test refl in
-    admits_at c.loop-row.table.ring c.args.kinds.now c.args.values.now c.args.key T c.loop-row.table.panes (window S (S +ℤ r.size)) (windows_on r T (S +ℤ r.period)) c.place.result c.place.ensures
-    (rw step at c.loop-row.invariant.can)
-
-pub enter_at-requires-clause-takes : goal.enter_at-requires-clause-takes
-enter_at-requires-clause-takes c =
-    let time : SFits w64 c.args.time = c.ranges.time in
-    let T = to_z w64 (of_z w64 c.args.time) in
-    let z : T ≡ c.args.time = to_z-of_z w64 c.args.time time in
-    let r = c.ring-ring.result in
-    let ring : IsRing r = rw c.ring-ring.ensures c.requires.can.apart.ring in
-    let few : r.size ≤ℤ greatest_span = rw c.ring-ring.ensures c.requires.size in
-    let S = c.loop-row.row.start in
-    let start : SFits w64 S = search rules in
-    let same : to_z w64 (of_z w64 S) ≡ S = to_z-of_z w64 S start in
-    let test : S ≤ℤ T = le_from _ _ (rw same at c.loop-row-test.true) in
-    let step : windows_on r T S ≡ window S (S +ℤ r.size) ∷ windows_on r T (S +ℤ r.period) = one_on r T S (S +ℤ r.period) ring test refl in
-    takes_at c.loop-row.table.ring c.args.kinds.now c.args.values.now c.args.key T c.loop-row.table.panes (window S (S +ℤ r.size)) (windows_on r T (S +ℤ r.period)) c.place.result c.place.ensures
-    (rw step at c.loop-row.invariant.can)
+    let T = to_z w64 (of_z w64 c.args.time) in let r = c.ring-ring.result in let S = c.loop-row.row.start in
+    let row = in_row (goal.at.enter_at-requires c).In-loop-row in
+    let step : windows_on r T S ≡ window S (S +ℤ r.size) ∷ windows_on r T (S +ℤ r.period) = one_on r T S (S +ℤ r.period) row.ring row.inside refl in
+    let can = rw step at c.loop-row.invariant.can in
+    record {
+      slot = search rules;
+      wide = search rules;
+      types = search rules;
+      admits = admits_at c.loop-row.table.ring c.args.kinds.now c.args.values.now c.args.key T c.loop-row.table.panes (window S (S +ℤ r.size)) (windows_on r T (S +ℤ r.period)) c.place.result c.place.ensures can;
+      takes = takes_at c.loop-row.table.ring c.args.kinds.now c.args.values.now c.args.key T c.loop-row.table.panes (window S (S +ℤ r.size)) (windows_on r T (S +ℤ r.period)) c.place.result c.place.ensures can;
+    }
 
 pub next_row-row-requires-clause-next : goal.next_row-row-requires-clause-next
 next_row-row-requires-clause-next c =
     let time : SFits w64 c.args.time = c.ranges.time in
-    let T = to_z w64 (of_z w64 c.args.time) in
-    let z : T ≡ c.args.time = to_z-of_z w64 c.args.time time in
-    let r = c.ring-ring.result in
-    let ring : IsRing r = rw c.ring-ring.ensures c.requires.can.apart.ring in
-    let few : r.size ≤ℤ greatest_span = rw c.ring-ring.ensures c.requires.size in
-    let S = c.loop-row.row.start in
-    let start : SFits w64 S = search rules in
-    let same : to_z w64 (of_z w64 S) ≡ S = to_z-of_z w64 S start in
-    let test : S ≤ℤ T = le_from _ _ (rw same at c.loop-row-test.true) in
+    let z : to_z w64 (of_z w64 c.args.time) ≡ c.args.time = to_z-of_z w64 c.args.time time in
+    let r = c.ring-ring.result in let S = c.loop-row.row.start in
+    let row = in_row (goal.at.next_row-row-requires-clause-next c).In-loop-row in
     let timely : c.args.time ≤ℤ greatest_time = c.requires.time.high in
-    between_fits S (S +ℤ r.period) (greatest_time +ℤ greatest_span) start (search rules) (omega (arith, ints, ring.period_low)) (omega (arith, ints, z, test, timely, few, ring.period_high))
+    between_fits S (S +ℤ r.period) (greatest_time +ℤ greatest_span) row.fits (search rules) (omega (arith, ints, row.ring.period_low)) (omega (arith, ints, z, row.inside, timely, row.few, row.ring.period_high))
 
 pub overflow_add-count : goal.overflow_add-count
 overflow_add-count c =
-    let time : SFits w64 c.args.time = c.ranges.time in
-    let T = to_z w64 (of_z w64 c.args.time) in
-    let z : T ≡ c.args.time = to_z-of_z w64 c.args.time time in
-    let r = c.ring-ring.result in
-    let ring : IsRing r = rw c.ring-ring.ensures c.requires.can.apart.ring in
-    let few : r.size ≤ℤ greatest_span = rw c.ring-ring.ensures c.requires.size in
-    let S = c.loop-row.row.start in
-    let start : SFits w64 S = search rules in
-    let same : to_z w64 (of_z w64 S) ≡ S = to_z-of_z w64 S start in
-    let test : S ≤ℤ T = le_from _ _ (rw same at c.loop-row-test.true) in
-    let N = c.next_row-row.result.start in
-    let step : windows_on r T S ≡ window S (S +ℤ r.size) ∷ windows_on r T N = one_on r T S N ring test c.next_row-row.ensures.start in
+    let T = to_z w64 (of_z w64 c.args.time) in let r = c.ring-ring.result in let S = c.loop-row.row.start in let N = c.next_row-row.result.start in
+    let row = in_row (goal.at.overflow_add-count c).In-loop-row in
+    let step : windows_on r T S ≡ window S (S +ℤ r.size) ∷ windows_on r T N = one_on r T S N row.ring row.inside c.next_row-row.ensures.start in
     let left = rw step at c.loop-row.invariant.count in
-    omega (arith, left, few_on r T ring few)
+    omega (arith, left, few_on r T row.ring row.few)
 
 pub loop-row-smaller : goal.loop-row-smaller
 loop-row-smaller c =
-    let time : SFits w64 c.args.time = c.ranges.time in
-    let T = to_z w64 (of_z w64 c.args.time) in
-    let z : T ≡ c.args.time = to_z-of_z w64 c.args.time time in
-    let r = c.ring-ring.result in
-    let ring : IsRing r = rw c.ring-ring.ensures c.requires.can.apart.ring in
-    let few : r.size ≤ℤ greatest_span = rw c.ring-ring.ensures c.requires.size in
-    let S = c.loop-row.row.start in
-    let start : SFits w64 S = search rules in
-    let same : to_z w64 (of_z w64 S) ≡ S = to_z-of_z w64 S start in
-    let test : S ≤ℤ T = le_from _ _ (rw same at c.loop-row-test.true) in
-    left_less S c.next_row-row.result.start T test (omega (arith, ints, c.next_row-row.ensures.start, ring.period_low))
+    let row = in_row (goal.at.loop-row-smaller c).In-loop-row in
+    left_less c.loop-row.row.start c.next_row-row.result.start (to_z w64 (of_z w64 c.args.time)) row.inside (omega (arith, ints, c.next_row-row.ensures.start, row.ring.period_low))
 
 pub loop-row-preserved : goal.loop-row-preserved
 loop-row-preserved c =
-    let time : SFits w64 c.args.time = c.ranges.time in
-    let T = to_z w64 (of_z w64 c.args.time) in
-    let z : T ≡ c.args.time = to_z-of_z w64 c.args.time time in
-    let r = c.ring-ring.result in
-    let ring : IsRing r = rw c.ring-ring.ensures c.requires.can.apart.ring in
-    let few : r.size ≤ℤ greatest_span = rw c.ring-ring.ensures c.requires.size in
-    let S = c.loop-row.row.start in
-    let start : SFits w64 S = search rules in
-    let same : to_z w64 (of_z w64 S) ≡ S = to_z-of_z w64 S start in
-    let test : S ≤ℤ T = le_from _ _ (rw same at c.loop-row-test.true) in
-    let N = c.next_row-row.result.start in
-    let step : windows_on r T S ≡ window S (S +ℤ r.size) ∷ windows_on r T N = one_on r T S N ring test c.next_row-row.ensures.start in
+    let T = to_z w64 (of_z w64 c.args.time) in let r = c.ring-ring.result in let S = c.loop-row.row.start in let N = c.next_row-row.result.start in
+    let row = in_row (goal.at.loop-row-preserved c).In-loop-row in
+    let step : windows_on r T S ≡ window S (S +ℤ r.size) ∷ windows_on r T N = one_on r T S N row.ring row.inside c.next_row-row.ensures.start in
     let w = window S (S +ℤ r.size) in
     let new = put_at_is c.loop-row.table.ring c.args.kinds.now c.args.values.now c.args.key T c.loop-row.table.panes w (windows_on r T N) c.place.result c.place.ensures c.enter_at.new.self.panes
     (c.enter_at.ensures.panes ∙ ap (map.insert c.loop-row.table.panes c.place.result) (any_datum c.args.kinds.now c.args.values.now (datum 0 c.args.key T []) _)) in
@@ -145,7 +114,7 @@ loop-row-preserved c =
       ring = c.enter_at.ensures.ring ∙ c.loop-row.invariant.ring;
       widths = c.enter_at.ensures.widths ∙ c.loop-row.invariant.widths;
       row = c.next_row-row.ensures.row;
-      past = omega (arith, ints, past, c.next_row-row.ensures.start, ring.period_low);
-      near = omega (arith, ints, test, c.next_row-row.ensures.start);
+      past = omega (arith, ints, past, c.next_row-row.ensures.start, row.ring.period_low);
+      near = omega (arith, ints, row.inside, c.next_row-row.ensures.start);
       count = omega (arith, left);
     }

@@ -1,82 +1,66 @@
-use Rattle.std.proofs.Common.{◌≡◌, Some, [], ◌∷◌, refl, sym, ap, subst, ◌∙◌, SFits, w64, to_z-of_z, arith}
+use Rattle.std.proofs.Common.{◌≡◌, List, Some, [], ◌∷◌, refl, sym, ap, subst, ◌∙◌, SFits, w64, to_z-of_z, arith}
 use Rattle.std.specs.Prelude.{IsSome, length}
 use Rattle.std.specs.FinMap as map
+use Rattle.wsm_record.specs.declared.event.Value.{Value}
 use Rattle.wsm_windows.specs.Places.{at}
 use Rattle.wsm_semantics.specs.Replay.{datum}
+use Rattle.wsm_semantics.specs.Summaries.{Pane, linked}
 use Rattle.wsm_sessions.specs.Placing.{those_linked}
 use Rattle.wsm_panes.specs.Held.{first_two, taking}
 use Rattle.wsm_panes.proofs.Merged.{parts_at}
 use Rattle.wsm_panes.proofs.Taken.{first_found, second_in, no_entry, one_entry, two_entries}
 use Rattle.wsm_panes.proofs.joining.linked_pair.Goals as goal
+use Rattle.wsm_panes.proofs.joining.linked_pair.Goals.{In-Two}
+
+pub returns-in-None : goal.returns-in-None
+returns-in-None c =
+    let time : SFits w64 c.args.time = c.ranges.time in
+    let m = c.args.table.now.panes in
+    let ls = no_entry _ (parts_at (taking [] []) c.args.sessions.now.gap c.args.key c.args.time m c.args.sessions.now.windows c.requires.agree [] (ap those_linked (sym c.in-None.is) ∙ simp to_z-of_z at c.linked.ensures)) in
+    record {
+      pair = sym (ap first_two ls);
+      few = omega (arith, ap length ls);
+    }
+
+pub returns-in-One : goal.returns-in-One
+returns-in-One c =
+    let time : SFits w64 c.args.time = c.ranges.time in
+    let m = c.args.table.now.panes in
+    let one = one_entry _ (at c.args.key c.in-One.field-0) (parts_at (taking [] []) c.args.sessions.now.gap c.args.key c.args.time m c.args.sessions.now.windows c.requires.agree (c.in-One.field-0 ∷ []) (ap those_linked (sym c.in-One.is) ∙ simp to_z-of_z at c.linked.ensures)) in
+    record {
+      pair = sym (ap first_two one.1);
+      few = omega (arith, ap length one.1);
+    }
+
+linked_two : (c : In-Two) → (v : Pane (List Value)) × ((w : Pane (List Value)) × (linked c.args.sessions.now.gap (datum 0 c.args.key c.args.time []) (map.entries c.args.table.now.panes) ≡ (at c.args.key c.in-Two.first, v) ∷ (at c.args.key c.in-Two.second, w) ∷ []))
+linked_two c =
+    let time : SFits w64 c.args.time = c.ranges.time in
+    two_entries _ (at c.args.key c.in-Two.first) (at c.args.key c.in-Two.second)
+    (parts_at (taking [] []) c.args.sessions.now.gap c.args.key c.args.time c.args.table.now.panes c.args.sessions.now.windows c.requires.agree (c.in-Two.first ∷ c.in-Two.second ∷ []) (ap those_linked (sym c.in-Two.is) ∙ simp to_z-of_z at c.linked.ensures))
 
 pub unwrap-pane-requires : goal.unwrap-pane-requires
 unwrap-pane-requires c =
-    let time : SFits w64 c.args.time = c.ranges.time in
-    let gap = c.args.sessions.now.gap in
     let m = c.args.table.now.panes in
-    let p = at c.args.key c.in-Two.first in
-    let r = at c.args.key c.in-Two.second in
-    let two = two_entries _ p r (parts_at (taking [] []) gap c.args.key c.args.time m c.args.sessions.now.windows c.requires.agree (c.in-Two.first ∷ c.in-Two.second ∷ []) (ap those_linked (sym c.in-Two.is) ∙ simp to_z-of_z at c.linked.ensures)) in
-    subst IsSome (sym (c.get.ensures.pane ∙ ap (map.get m) c.at.ensures ∙ first_found gap (datum 0 c.args.key c.args.time []) m p r two.0 two.1.0 two.1.1)) refl
+    let two = linked_two (goal.at.unwrap-pane-requires c).In-Two in
+    subst IsSome (sym (c.get.ensures.pane ∙ ap (map.get m) c.at.ensures ∙ first_found c.args.sessions.now.gap (datum 0 c.args.key c.args.time []) m (at c.args.key c.in-Two.first) (at c.args.key c.in-Two.second) two.0 two.1.0 two.1.1)) refl
 
 pub unwrap-other-requires : goal.unwrap-other-requires
 unwrap-other-requires c =
-    let time : SFits w64 c.args.time = c.ranges.time in
-    let gap = c.args.sessions.now.gap in
     let m = c.args.table.now.panes in
-    let p = at c.args.key c.in-Two.first in
-    let r = at c.args.key c.in-Two.second in
-    let two = two_entries _ p r (parts_at (taking [] []) gap c.args.key c.args.time m c.args.sessions.now.windows c.requires.agree (c.in-Two.first ∷ c.in-Two.second ∷ []) (ap those_linked (sym c.in-Two.is) ∙ simp to_z-of_z at c.linked.ensures)) in
-    subst IsSome (sym (c.get-in-Two.ensures.pane ∙ ap (map.get m) c.at-in-Two.ensures ∙ second_in gap (datum 0 c.args.key c.args.time []) m p r two.0 two.1.0 two.1.1)) refl
-
-pub returns-in-None-clause-pair : goal.returns-in-None-clause-pair
-returns-in-None-clause-pair c =
-    let time : SFits w64 c.args.time = c.ranges.time in
-    let m = c.args.table.now.panes in
-    let ls = no_entry _ (parts_at (taking [] []) c.args.sessions.now.gap c.args.key c.args.time m c.args.sessions.now.windows c.requires.agree [] (ap those_linked (sym c.in-None.is) ∙ simp to_z-of_z at c.linked.ensures)) in
-    sym (ap first_two ls)
-
-pub returns-in-None-clause-few : goal.returns-in-None-clause-few
-returns-in-None-clause-few c =
-    let time : SFits w64 c.args.time = c.ranges.time in
-    let m = c.args.table.now.panes in
-    let ls = no_entry _ (parts_at (taking [] []) c.args.sessions.now.gap c.args.key c.args.time m c.args.sessions.now.windows c.requires.agree [] (ap those_linked (sym c.in-None.is) ∙ simp to_z-of_z at c.linked.ensures)) in
-    omega (arith, ap length ls)
-
-pub returns-in-One-clause-pair : goal.returns-in-One-clause-pair
-returns-in-One-clause-pair c =
-    let time : SFits w64 c.args.time = c.ranges.time in
-    let m = c.args.table.now.panes in
-    let one = one_entry _ (at c.args.key c.in-One.field-0) (parts_at (taking [] []) c.args.sessions.now.gap c.args.key c.args.time m c.args.sessions.now.windows c.requires.agree (c.in-One.field-0 ∷ []) (ap those_linked (sym c.in-One.is) ∙ simp to_z-of_z at c.linked.ensures)) in
-    sym (ap first_two one.1)
-
-pub returns-in-One-clause-few : goal.returns-in-One-clause-few
-returns-in-One-clause-few c =
-    let time : SFits w64 c.args.time = c.ranges.time in
-    let m = c.args.table.now.panes in
-    let one = one_entry _ (at c.args.key c.in-One.field-0) (parts_at (taking [] []) c.args.sessions.now.gap c.args.key c.args.time m c.args.sessions.now.windows c.requires.agree (c.in-One.field-0 ∷ []) (ap those_linked (sym c.in-One.is) ∙ simp to_z-of_z at c.linked.ensures)) in
-    omega (arith, ap length one.1)
+    let two = linked_two (goal.at.unwrap-other-requires c).In-Two in
+    subst IsSome (sym (c.get-in-Two.ensures.pane ∙ ap (map.get m) c.at-in-Two.ensures ∙ second_in c.args.sessions.now.gap (datum 0 c.args.key c.args.time []) m (at c.args.key c.in-Two.first) (at c.args.key c.in-Two.second) two.0 two.1.0 two.1.1)) refl
 
 some_is : {A : Type 0} (a b : A) → Some a ≡ Some b → a ≡ b
 some_is a b h = cc
 
-pub returns-in-Two-clause-pair : goal.returns-in-Two-clause-pair
-returns-in-Two-clause-pair c =
-    let time : SFits w64 c.args.time = c.ranges.time in
-    let gap = c.args.sessions.now.gap in
-    let m = c.args.table.now.panes in
-    let p = at c.args.key c.in-Two.first in
-    let r = at c.args.key c.in-Two.second in
-    let two = two_entries _ p r (parts_at (taking [] []) gap c.args.key c.args.time m c.args.sessions.now.windows c.requires.agree (c.in-Two.first ∷ c.in-Two.second ∷ []) (ap those_linked (sym c.in-Two.is) ∙ simp to_z-of_z at c.linked.ensures)) in
+pub returns-in-Two : goal.returns-in-Two
+returns-in-Two c =
+    let gap = c.args.sessions.now.gap in let m = c.args.table.now.panes in
+    let p = at c.args.key c.in-Two.first in let r = at c.args.key c.in-Two.second in
+    let two = linked_two (goal.at.returns-in-Two c).In-Two in
     let first = some_is _ _ (sym c.unwrap-pane.ensures ∙ c.get.ensures.pane ∙ ap (map.get m) c.at.ensures ∙ first_found gap (datum 0 c.args.key c.args.time []) m p r two.0 two.1.0 two.1.1) in
     let second = some_is _ _ (sym c.unwrap-other.ensures ∙ c.get-in-Two.ensures.pane ∙ ap (map.get m) c.at-in-Two.ensures ∙ second_in gap (datum 0 c.args.key c.args.time []) m p r two.0 two.1.0 two.1.1) in
-    (λ i. Some (first i, second i)) ∙ sym (ap first_two two.1.1)
-
-pub returns-in-Two-clause-few : goal.returns-in-Two-clause-few
-returns-in-Two-clause-few c =
-    let time : SFits w64 c.args.time = c.ranges.time in
-    let m = c.args.table.now.panes in
-    let p = at c.args.key c.in-Two.first in
-    let r = at c.args.key c.in-Two.second in
-    let two = two_entries _ p r (parts_at (taking [] []) c.args.sessions.now.gap c.args.key c.args.time m c.args.sessions.now.windows c.requires.agree (c.in-Two.first ∷ c.in-Two.second ∷ []) (ap those_linked (sym c.in-Two.is) ∙ simp to_z-of_z at c.linked.ensures)) in
-    omega (arith, ap length two.1.1)
+    record {
+      pair = (λ i. Some (first i, second i)) ∙ sym (ap first_two two.1.1);
+      few = omega (arith, ap length two.1.1);
+    }

@@ -34,20 +34,15 @@ loop-low-preserved c =
     let kept : is_kept c.args.time (get_or es middle e).0 ≡ true = ap (is_kept c.args.time) (place_there _ _ c.requires middle _ e within c.place_at.ensures) ∙ not-false c.expires.result _ (simp to_z-of_z at c.expires.ensures) c.if-expires.false in
     simp to_z-of_z (record { low = simp to_z-of_z at c.loop-low.invariant.low; high = ended_stops c.args.time es middle e (omega (arith, within, length_is _ _ c.requires)) kept; within = omega (arith, within) })
 
-pub returns-clause-next : goal.returns-clause-next
-returns-clause-next c =
+pub returns : goal.returns
+returns c =
     let time : SFits w64 c.args.time = c.ranges.time in
     let es = shown c.args.slots.now.slots c.args.row.now.row in
     let low : c.loop-low.low ≤ ended c.args.time es = simp to_z-of_z at c.loop-low.invariant.low in
     let high : ended c.args.time es ≤ c.loop-low.high = simp to_z-of_z at c.loop-low.invariant.high in
     let here : ended c.args.time es ≡ c.loop-low.low = omega (arith, low, high) in
-    past_nth c.args.time es ∙ ap (slice_get es) here
-
-pub returns-clause-left : goal.returns-clause-left
-returns-clause-left c =
-    let time : SFits w64 c.args.time = c.ranges.time in
-    let es = shown c.args.slots.now.slots c.args.row.now.row in
-    let low : c.loop-low.low ≤ ended c.args.time es = simp to_z-of_z at c.loop-low.invariant.low in
-    let high : ended c.args.time es ≤ c.loop-low.high = simp to_z-of_z at c.loop-low.invariant.high in
-    let here : ended c.args.time es ≡ c.loop-low.low = omega (arith, low, high) in
-    ended_left c.args.time es (rw c.requires.sorted tt) ∙ ap (λ n. drop n es) here
+    record {
+      within = omega (arith, c.loop-low.invariant.within);
+      next = past_nth c.args.time es ∙ ap (slice_get es) here;
+      left = ended_left c.args.time es (rw c.requires.sorted tt) ∙ ap (λ n. drop n es) here;
+    }

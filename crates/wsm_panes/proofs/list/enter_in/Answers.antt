@@ -1,4 +1,4 @@
-use Rattle.std.proofs.Common.{◌≡◌, ◌<◌, ◌∙◌, List, Some, None, ap, subst, sym, inl, inr, arith, set, length}
+use Rattle.std.proofs.Common.{◌≡◌, ◌<◌, ◌∙◌, List, Some, None, ap, subst, refl, sym, inl, inr, arith, set, length}
 use Rattle.std.proofs.lemmas.Bool.{true≢false}
 use Rattle.std.proofs.lemmas.List.{length-set}
 use Rattle.std.specs.Option.{is_some}
@@ -28,8 +28,8 @@ insert-requires-clause-room c = elim c.requires.room [
   | inr room ↦ room
 ]
 
-pub returns-in-Ok-clause-shown : goal.returns-in-Ok-clause-shown
-returns-in-Ok-clause-shown c =
+pub returns-in-Ok : goal.returns-in-Ok
+returns-in-Ok c =
     let os = c.args.slots.now.slots in
     let stored = c.requires.stored in
     let i = c.in-Ok.i in
@@ -39,49 +39,27 @@ returns-in-Ok-clause-shown c =
     let more : Option (Place × Pane (List Value)) → Option (Place × Pane (List Value)) = option_map (λ e. (e.0, with_one_more c.args.kinds.now c.args.values.now (Some e.1))) in
     let v = with_one_more c.args.kinds.now c.args.values.now (Some own.0) in
     let new : c.record.new.self.slots ≡ set os k (Some (c.args.place, v)) = ap (λ s. s.slots) c.record.ensures ∙ ap (λ o. set os k (more o)) own.1.0 in
-    rw new (set_shows _ _ stored i k at c.args.place c.in-Ok.ensures.found v (slot_there _ _ stored i k at) c.get.ensures.once)
-    ∙ ap (λ o. put place_cmp c.args.place (with_one_more c.args.kinds.now c.args.values.now o) (shown os c.args.row.now.row)) (sym own.1.1)
+    record {
+      shown =
+          rw new (set_shows _ _ stored i k at c.args.place c.in-Ok.ensures.found v (slot_there _ _ stored i k at) c.get.ensures.once)
+          ∙ ap (λ o. put place_cmp c.args.place (with_one_more c.args.kinds.now c.args.values.now o) (shown os c.args.row.now.row)) (sym own.1.1);
+      stored = rw new (set_stored _ _ stored i k at c.args.place c.in-Ok.ensures.found v (slot_there _ _ stored i k at) c.get.ensures.once);
+      room = (refl, ap length new ∙ length-set os k (Some (c.args.place, v)));
+      widths = ap (λ s. s.widths) c.record.ensures;
+    }
 
-pub returns-in-Ok-clause-stored : goal.returns-in-Ok-clause-stored
-returns-in-Ok-clause-stored c =
-    let os = c.args.slots.now.slots in
-    let stored = c.requires.stored in
-    let i = c.in-Ok.i in
-    let k = c.get.result in
-    let at = c.get.ensures.here in
-    let own = own_entry _ _ stored i k at c.args.place c.in-Ok.ensures.found in
-    let more : Option (Place × Pane (List Value)) → Option (Place × Pane (List Value)) = option_map (λ e. (e.0, with_one_more c.args.kinds.now c.args.values.now (Some e.1))) in
-    let v = with_one_more c.args.kinds.now c.args.values.now (Some own.0) in
-    let new : c.record.new.self.slots ≡ set os k (Some (c.args.place, v)) = ap (λ s. s.slots) c.record.ensures ∙ ap (λ o. set os k (more o)) own.1.0 in
-    rw new (set_stored _ _ stored i k at c.args.place c.in-Ok.ensures.found v (slot_there _ _ stored i k at) c.get.ensures.once)
-
-pub returns-in-Err-clause-shown : goal.returns-in-Err-clause-shown
-returns-in-Err-clause-shown c =
+pub returns-in-Err : goal.returns-in-Err
+returns-in-Err c =
     let os = c.args.slots.now.slots in
     let k = c.insert.result in
     let within : k < length os = omega (arith, c.insert.ensures.within, c.requires.numbers) in
     let v = with_one_more c.args.kinds.now c.args.values.now None in
     let new : c.start.new.self.slots ≡ set os k (Some (c.args.place, v)) = ap (λ s. s.slots) (c.start.ensures c.args.kinds.now) in
-    rw (new, c.insert.ensures.row) (added_shows _ _ c.requires.stored c.in-Err.i k c.args.place c.in-Err.ensures.absent v within c.in-Err.ensures.until c.insert.ensures.fresh)
-    ∙ ap (λ o. put place_cmp c.args.place (with_one_more c.args.kinds.now c.args.values.now o) (shown os c.args.row.now.row)) (sym c.in-Err.ensures.absent.absent)
-
-pub returns-in-Err-clause-stored : goal.returns-in-Err-clause-stored
-returns-in-Err-clause-stored c =
-    let os = c.args.slots.now.slots in
-    let k = c.insert.result in
-    let within : k < length os = omega (arith, c.insert.ensures.within, c.requires.numbers) in
-    let v = with_one_more c.args.kinds.now c.args.values.now None in
-    let new : c.start.new.self.slots ≡ set os k (Some (c.args.place, v)) = ap (λ s. s.slots) (c.start.ensures c.args.kinds.now) in
-    rw (new, c.insert.ensures.row) (added_stored _ _ c.requires.stored c.in-Err.i k c.args.place c.in-Err.ensures.absent v within c.in-Err.ensures.until c.insert.ensures.fresh)
-
-pub returns-in-Err-clause-room : goal.returns-in-Err-clause-room
-returns-in-Err-clause-room c =
-    let os = c.args.slots.now.slots in
-    let k = c.insert.result in
-    let within : k < length os = omega (arith, c.insert.ensures.within, c.requires.numbers) in
-    let v = with_one_more c.args.kinds.now c.args.values.now None in
-    let new : c.start.new.self.slots ≡ set os k (Some (c.args.place, v)) = ap (λ s. s.slots) (c.start.ensures c.args.kinds.now) in
-    (c.insert.ensures.room, ap length new ∙ length-set os k (Some (c.args.place, v)))
-
-pub returns-in-Err-clause-widths : goal.returns-in-Err-clause-widths
-returns-in-Err-clause-widths c = ap (λ s. s.widths) (c.start.ensures c.args.kinds.now)
+    record {
+      shown =
+          rw (new, c.insert.ensures.row) (added_shows _ _ c.requires.stored c.in-Err.i k c.args.place c.in-Err.ensures.absent v within c.in-Err.ensures.until c.insert.ensures.fresh)
+          ∙ ap (λ o. put place_cmp c.args.place (with_one_more c.args.kinds.now c.args.values.now o) (shown os c.args.row.now.row)) (sym c.in-Err.ensures.absent.absent);
+      stored = rw (new, c.insert.ensures.row) (added_stored _ _ c.requires.stored c.in-Err.i k c.args.place c.in-Err.ensures.absent v within c.in-Err.ensures.until c.insert.ensures.fresh);
+      room = (c.insert.ensures.room, ap length new ∙ length-set os k (Some (c.args.place, v)));
+      widths = ap (λ s. s.widths) (c.start.ensures c.args.kinds.now);
+    }

@@ -2,12 +2,14 @@ use Rattle.std.proofs.Common.{◌≡◌, ◌⊎◌, ◌<◌, ◌≤◌, ◌+◌,
 use Rattle.std.specs.Int.{int_min}
 use Rattle.std.specs.Option.{SomeIff}
 use Rattle.std.proofs.lemmas.Int.{ints, to_z-of_z}
+use Rattle.wsm_panes.specs.declared.ring.Ring.{Ring}
 use Rattle.wsm_panes.specs.Ring.{kept_slot, slot_at, row_of, AreInPlace, IsOnGrid}
 use Rattle.wsm_panes.proofs.Placed.{held_length, placed_less}
 use Rattle.wsm_panes.proofs.Rings.{between_fits, le_from, lt_from, on_grid_next}
 use Rattle.wsm_panes.proofs.Scan.{left_less}
 use Rattle.wsm_panes.proofs.Clears.{AreDone, AreSince, done_old, done_more, since_more, all_done, past_either, min_within, none_ended}
 use Rattle.wsm_panes.proofs.slots.clear_expired.Goals as goal
+use Rattle.wsm_panes.proofs.slots.clear_expired.Goals.{In-loop-start}
 
 pub loop-start-init : goal.loop-start-init
 loop-start-init c =
@@ -27,39 +29,48 @@ pub overflow_add-cleared : goal.overflow_add-cleared
 overflow_add-cleared c =
     omega (arith, c.requires.slots, c.requires.ring.slots, c.loop-start.invariant.cleared.len, c.clear_row-cleared.ensures.len, held_length c.args.slots.now.slots)
 
-pub overflow_add-start : goal.overflow_add-start
-overflow_add-start c =
+-- the windows of the row of a turn end by the limit, so the next row's start fits
+record Expires (r : Ring) (limit least start : ℤ) : Type 0 where
+  fits : SFits w64 start
+  from : start ≤ℤ least
+  ends : (start +ℤ r.size) ≤ℤ limit
+  next : SFits w64 (start +ℤ r.period)
+
+expires : (c : In-loop-start) → Expires c.args.ring c.args.limit c.min-last.result (to_z w64 c.loop-start.start-bits)
+expires c =
     let S = to_z w64 c.loop-start.start-bits in
     let limit : SFits w64 c.args.limit = c.ranges.limit in
     let last : SFits w64 c.args.last = c.ranges.last in
     let latest : SFits w64 c.in-Some.latest = search rules in
     let least : SFits w64 c.min-last.result = search rules in
-    let period : SFits w64 c.args.ring.period = search rules in
     let size : SFits w64 c.args.ring.size = search rules in
     let first : SFits w64 S = search rules in
     let value : c.min-last.result ≡ int_min c.args.last c.in-Some.latest = simp to_z-of_z at c.min-last.ensures.value in
     let test : S ≤ℤ c.min-last.result = le_from _ _ (simp to_z-of_z at c.loop-start-test.true) in
     let within = min_within c.args.last c.in-Some.latest S (rw (← value) test) in
     let sub : SomeIff (Some c.in-Some.latest) (SFits w64 (c.args.limit -ℤ c.args.ring.size)) (c.args.limit -ℤ c.args.ring.size) = rw c.in-Some.is at (simp to_z-of_z at c.checked_sub.ensures) in
+    record {
+      fits = first;
+      from = test;
+      ends = omega (arith, ints, within.1, sub.1);
+      next = between_fits S (S +ℤ c.args.ring.period) c.args.limit first limit (omega (arith, ints, c.requires.ring.period_low)) (omega (arith, ints, within.1, sub.1, c.requires.ring.period_high));
+    }
+
+pub overflow_add-start : goal.overflow_add-start
+overflow_add-start c =
+    let period : SFits w64 c.args.ring.period = search rules in
     let z : to_z w64 (of_z w64 c.args.ring.period) ≡ c.args.ring.period = to_z-of_z w64 c.args.ring.period period in
-    rw z (between_fits S (S +ℤ c.args.ring.period) c.args.limit first limit (omega (arith, ints, c.requires.ring.period_low)) (omega (arith, ints, within.1, sub.1, c.requires.ring.period_high)))
+    rw z (expires (goal.at.overflow_add-start c).In-loop-start).next
 
 pub loop-start-smaller : goal.loop-start-smaller
 loop-start-smaller c =
     let S = to_z w64 c.loop-start.start-bits in
-    let limit : SFits w64 c.args.limit = c.ranges.limit in
-    let last : SFits w64 c.args.last = c.ranges.last in
-    let latest : SFits w64 c.in-Some.latest = search rules in
+    let row = expires (goal.at.loop-start-smaller c).In-loop-start in
     let least : SFits w64 c.min-last.result = search rules in
     let period : SFits w64 c.args.ring.period = search rules in
-    let size : SFits w64 c.args.ring.size = search rules in
-    let first : SFits w64 S = search rules in
-    let value : c.min-last.result ≡ int_min c.args.last c.in-Some.latest = simp to_z-of_z at c.min-last.ensures.value in
-    let test : S ≤ℤ c.min-last.result = le_from _ _ (simp to_z-of_z at c.loop-start-test.true) in
-    let within = min_within c.args.last c.in-Some.latest S (rw (← value) test) in
-    let sub : SomeIff (Some c.in-Some.latest) (SFits w64 (c.args.limit -ℤ c.args.ring.size)) (c.args.limit -ℤ c.args.ring.size) = rw c.in-Some.is at (simp to_z-of_z at c.checked_sub.ensures) in
-    let sum : SFits w64 (S +ℤ c.args.ring.period) = between_fits S (S +ℤ c.args.ring.period) c.args.limit first limit (omega (arith, ints, c.requires.ring.period_low)) (omega (arith, ints, within.1, sub.1, c.requires.ring.period_high)) in
-    simp to_z-of_z (left_less S (S +ℤ c.args.ring.period) c.min-last.result test (omega (arith, ints, c.requires.ring.period_low)))
+    let first : SFits w64 S = row.fits in
+    let sum : SFits w64 (S +ℤ c.args.ring.period) = row.next in
+    simp to_z-of_z (left_less S (S +ℤ c.args.ring.period) c.min-last.result row.from (omega (arith, ints, c.requires.ring.period_low)))
 
 pub loop-start-preserved : goal.loop-start-preserved
 loop-start-preserved c =
@@ -67,22 +78,12 @@ loop-start-preserved c =
     let os = c.loop-start.slots.slots in
     let ns = c.clear_row-cleared.new.slots.slots in
     let old = c.args.slots.now.slots in
+    let row = expires (goal.at.loop-start-preserved c).In-loop-start in
     let limit : SFits w64 c.args.limit = c.ranges.limit in
-    let last : SFits w64 c.args.last = c.ranges.last in
-    let latest : SFits w64 c.in-Some.latest = search rules in
-    let least : SFits w64 c.min-last.result = search rules in
     let period : SFits w64 c.args.ring.period = search rules in
-    let size : SFits w64 c.args.ring.size = search rules in
-    let first : SFits w64 S = search rules in
-    let value : c.min-last.result ≡ int_min c.args.last c.in-Some.latest = simp to_z-of_z at c.min-last.ensures.value in
-    let test : S ≤ℤ c.min-last.result = le_from _ _ (simp to_z-of_z at c.loop-start-test.true) in
-    let within = min_within c.args.last c.in-Some.latest S (rw (← value) test) in
-    let sub : SomeIff (Some c.in-Some.latest) (SFits w64 (c.args.limit -ℤ c.args.ring.size)) (c.args.limit -ℤ c.args.ring.size) = rw c.in-Some.is at (simp to_z-of_z at c.checked_sub.ensures) in
-    let expires : (S +ℤ c.args.ring.size) ≤ℤ c.args.limit = omega (arith, ints, within.1, sub.1) in
-    let sum : SFits w64 (S +ℤ c.args.ring.period) = between_fits S (S +ℤ c.args.ring.period) c.args.limit first limit (omega (arith, ints, c.requires.ring.period_low)) (omega (arith, ints, within.1, sub.1, c.requires.ring.period_high)) in
     let z : to_z w64 (of_z w64 c.args.ring.period) ≡ c.args.ring.period = to_z-of_z w64 c.args.ring.period period in
     let zl : to_z w64 (of_z w64 c.args.limit) ≡ c.args.limit = to_z-of_z w64 c.args.limit limit in
-    let zs : to_z w64 (of_z w64 (S +ℤ c.args.ring.period)) ≡ S +ℤ c.args.ring.period = to_z-of_z w64 (S +ℤ c.args.ring.period) sum in
+    let zs : to_z w64 (of_z w64 (S +ℤ c.args.ring.period)) ≡ S +ℤ c.args.ring.period = to_z-of_z w64 (S +ℤ c.args.ring.period) row.next in
     let grid : IsOnGrid c.args.ring S = c.loop-start.invariant.grid in
     let done : AreDone c.args.limit old os = rw zl at c.loop-start.invariant.done in
     let since : AreSince S os = c.loop-start.invariant.since in
@@ -97,7 +98,7 @@ loop-start-preserved c =
       };
       grid = (grid.0 +ℤ pos 1, on_grid_next grid.0 c.args.ring.period S c.requires.ring.period_low grid.1);
       done = done_more c.args.limit old os ns (row_of c.args.ring S) c.args.ring.keys done inside outside;
-      since = since_more c.args.ring c.args.limit S os ns c.requires.ring.period_low placed grid expires since inside outside;
+      since = since_more c.args.ring c.args.limit S os ns c.requires.ring.period_low placed grid row.ends since inside outside;
     })
 
 pub returns-after-loop-start-clause-kept : goal.returns-after-loop-start-clause-kept

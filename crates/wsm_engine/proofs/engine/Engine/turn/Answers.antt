@@ -13,26 +13,34 @@ use Rattle.wsm_engine.specs.Runner.{IsAt, last_relation}
 use Rattle.wsm_engine.specs.Engine.{state_of}
 use Rattle.wsm_engine.proofs.Turning.{turn_fits, turned_is, comes_of, replied_is}
 use Rattle.wsm_engine.proofs.engine.Engine.turn.Goals as goal
+use Rattle.wsm_engine.proofs.engine.Engine.turn.Goals.{After-decide-answer, After-act-done}
+
+-- the answer is the definition's
+answered : (c : After-decide-answer) → c.decide-answer.result ≡ answer_to (plan_of (state_of c.self.inside).program) (query_of (state_of c.self.inside).program) (state_of c.self.inside).machine (event_of c.args.event.now)
+answered c =
+    c.decide-answer.ensures.decision
+    ∙ ap (λ (h : Header). decision h.schema (state_of c.self.inside).machine.admission (event_of c.args.event.now)) (c.header.ensures.header ∙ ap (λ (p : Program). p.header) c.program.ensures.program)
+
+-- the runner is at the mark, once the rows of the last turn are gone
+marked : (c : After-act-done) → IsAt (to_z w64 (of_z w64 c.mark-mark.result)) (record c.self.inside.runner { rows = c.clear.new.self }) (state_of c.self.inside).machine
+marked c =
+    let mark : SFits w64 c.mark-mark.result = fits_signed_from_abs w64 c.mark-mark.result (grind (arith, ints, c.mark-mark.ensures.from, c.mark-mark.ensures.to)) in
+    record { marked = sym (to_z-of_z mark ∙ c.mark-mark.ensures.mark); panes = refl; relation = refl }
 
 pub act-done-requires-clause-comes : goal.act-done-requires-clause-comes
 act-done-requires-clause-comes c =
-    let s : State = state_of c.self.inside in
-    let e : Event = event_of c.args.event.now in
     let history = c.self.invariant.history in
     let mark : SFits w64 c.mark-mark.result = fits_signed_from_abs w64 c.mark-mark.result (grind (arith, ints, c.mark-mark.ensures.from, c.mark-mark.ensures.to)) in
-    let answered : c.decide-answer.result ≡ answer_to (plan_of s.program) (query_of s.program) s.machine e =
-    c.decide-answer.ensures.decision ∙ ap (λ (h : Header). decision h.schema s.machine.admission e) (c.header.ensures.header ∙ ap (λ (p : Program). p.header) c.program.ensures.program) in
-    (history.0, simp to_z-of_z (comes_of s history.0 history.1 c.self.inside.runner.held refl c.mark-mark.result c.mark-mark.ensures.mark c.decide-answer.result e answered))
+    let answered = answered (goal.at.act-done-requires-clause-comes c).After-decide-answer in
+    (history.0, simp to_z-of_z (comes_of (state_of c.self.inside) history.0 history.1 c.self.inside.runner.held refl c.mark-mark.result c.mark-mark.ensures.mark c.decide-answer.result (event_of c.args.event.now) answered))
 
 pub invariant_of-self : goal.invariant_of-self
 invariant_of-self c =
     let s : State = state_of c.self.inside in
     let e : Event = event_of c.args.event.now in
     let history = c.self.invariant.history in
-    let mark : SFits w64 c.mark-mark.result = fits_signed_from_abs w64 c.mark-mark.result (grind (arith, ints, c.mark-mark.ensures.from, c.mark-mark.ensures.to)) in
-    let answered : c.decide-answer.result ≡ answer_to (plan_of s.program) (query_of s.program) s.machine e =
-    c.decide-answer.ensures.decision ∙ ap (λ (h : Header). decision h.schema s.machine.admission e) (c.header.ensures.header ∙ ap (λ (p : Program). p.header) c.program.ensures.program) in
-    let here : IsAt (to_z w64 (of_z w64 c.mark-mark.result)) (record c.self.inside.runner { rows = c.clear.new.self }) s.machine = record { marked = sym (to_z-of_z mark ∙ c.mark-mark.ensures.mark); panes = refl; relation = refl } in
+    let answered = answered (goal.at.invariant_of-self c).After-decide-answer in
+    let here = marked (goal.at.invariant_of-self c).After-act-done in
     let done = c.act-done.ensures in
     let fired : c.act-done.result.tally.fired ≡ length (fired_by (plan_of s.program) (query_of s.program) c.decide-answer.result e s.machine) = ap (λ (t : Tally). t.fired) (done.tally s.machine here) in
     let now = turned_is s e c.decide-answer.result answered c.decide-answer.new.self (entries_of c.act-done.new.self.held) (last_relation c.act-done.new.self.streams (entries_of c.act-done.new.self.held)) c.saturating_add-self-inside.result c.saturating_add-self-inside-2.result c.act-done.new.self.rows.items
@@ -46,10 +54,8 @@ pub returns-clause-state : goal.returns-clause-state
 returns-clause-state c =
     let s : State = state_of c.self.inside in
     let e : Event = event_of c.args.event.now in
-    let mark : SFits w64 c.mark-mark.result = fits_signed_from_abs w64 c.mark-mark.result (grind (arith, ints, c.mark-mark.ensures.from, c.mark-mark.ensures.to)) in
-    let answered : c.decide-answer.result ≡ answer_to (plan_of s.program) (query_of s.program) s.machine e =
-    c.decide-answer.ensures.decision ∙ ap (λ (h : Header). decision h.schema s.machine.admission e) (c.header.ensures.header ∙ ap (λ (p : Program). p.header) c.program.ensures.program) in
-    let here : IsAt (to_z w64 (of_z w64 c.mark-mark.result)) (record c.self.inside.runner { rows = c.clear.new.self }) s.machine = record { marked = sym (to_z-of_z mark ∙ c.mark-mark.ensures.mark); panes = refl; relation = refl } in
+    let answered = answered (goal.at.returns-clause-state c).After-decide-answer in
+    let here = marked (goal.at.returns-clause-state c).After-act-done in
     let done = c.act-done.ensures in
     let fired : c.act-done.result.tally.fired ≡ length (fired_by (plan_of s.program) (query_of s.program) c.decide-answer.result e s.machine) = ap (λ (t : Tally). t.fired) (done.tally s.machine here) in
     rw (← c.self.view_is) (turned_is s e c.decide-answer.result answered c.decide-answer.new.self (entries_of c.act-done.new.self.held) (last_relation c.act-done.new.self.streams (entries_of c.act-done.new.self.held)) c.saturating_add-self-inside.result c.saturating_add-self-inside-2.result c.act-done.new.self.rows.items
@@ -59,8 +65,7 @@ pub returns-clause-reply : goal.returns-clause-reply
 returns-clause-reply c =
     let s : State = state_of c.self.inside in
     let e : Event = event_of c.args.event.now in
-    let mark : SFits w64 c.mark-mark.result = fits_signed_from_abs w64 c.mark-mark.result (grind (arith, ints, c.mark-mark.ensures.from, c.mark-mark.ensures.to)) in
-    let answered : c.decide-answer.result ≡ answer_to (plan_of s.program) (query_of s.program) s.machine e =
-    c.decide-answer.ensures.decision ∙ ap (λ (h : Header). decision h.schema s.machine.admission e) (c.header.ensures.header ∙ ap (λ (p : Program). p.header) c.program.ensures.program) in
-    let here : IsAt (to_z w64 (of_z w64 c.mark-mark.result)) (record c.self.inside.runner { rows = c.clear.new.self }) s.machine = record { marked = sym (to_z-of_z mark ∙ c.mark-mark.ensures.mark); panes = refl; relation = refl } in
-    rw (← c.self.view_is) (replied_is s e c.decide-answer.result answered c.refusal_of.result c.act-done.result.record_steps c.act-done.result.tally c.refusal_of.ensures (c.act-done.ensures.cost s.machine here) (c.act-done.ensures.tally s.machine here))
+    let answered = answered (goal.at.returns-clause-reply c).After-decide-answer in
+    let here = marked (goal.at.returns-clause-reply c).After-act-done in
+    let done = c.act-done.ensures in
+    rw (← c.self.view_is) (replied_is s e c.decide-answer.result answered c.refusal_of.result c.act-done.result.record_steps c.act-done.result.tally c.refusal_of.ensures (done.cost s.machine here) (done.tally s.machine here))

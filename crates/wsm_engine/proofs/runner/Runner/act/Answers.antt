@@ -26,71 +26,37 @@ take_watermark-requires-clause-comes c =
     let old : SFits w64 h.old = old_fits p c.requires.comes.0 c.args.self.now.held c.args.mark c.args.answer (event_of c.args.event.now) c.requires.comes.1 h.old h.new is c.ranges.mark in
     (c.requires.comes.0, simp to_z-of_z all)
 
-pub returns-in-Record-Some-default-default-clause-panes : goal.returns-in-Record-Some-default-default-clause-panes
-returns-in-Record-Some-default-default-clause-panes c = λ s at.
+pub returns-in-Record-Some-default-default : goal.returns-in-Record-Some-default-default
+returns-in-Record-Some-default-default c =
     let h = c.in-Record-Some-default-default in
     let p = c.args.verified.now in
-    let is : c.args.answer ≡ Ok admitted.Record = search rules in
-    let ev : event_of c.args.event.now ≡ Record (Some h.key) h.time h.values.items = search rules in
+    let answer = c.args.answer in let event = event_of c.args.event.now in
+    let is : answer ≡ Ok admitted.Record = search rules in
+    let ev : event ≡ Record (Some h.key) h.time h.values.items = search rules in
     let mark : SFits w64 c.args.mark = c.ranges.mark in
-    let time : SFits w64 h.time = time_fits p c.requires.comes.0 c.args.self.now c.requires.program c.args.mark h.key h.time h.values.items c.args.answer (event_of c.args.event.now) c.requires.comes.1 is ev in
-    (simp to_z-of_z at (rw c.deref.ensures.value at c.take_record.ensures.panes))
-    ∙ panes_record p c.args.self.now c.args.mark s at c.args.answer (event_of c.args.event.now) h.key h.time h.values.items is ev
+    let time : SFits w64 h.time = time_fits p c.requires.comes.0 c.args.self.now c.requires.program c.args.mark h.key h.time h.values.items answer event c.requires.comes.1 is ev in
+    record {
+      program = c.take_record.ensures.program;
+      panes = λ s at. (simp to_z-of_z at (rw c.deref.ensures.value at c.take_record.ensures.panes)) ∙ panes_record p c.args.self.now c.args.mark s at answer event h.key h.time h.values.items is ev;
+      relation = λ s at. search rules;
+      rows = λ s at. (simp to_z-of_z at (rw c.deref.ensures.value at c.take_record.ensures.rows)) ∙ rows_record p c.args.self.now c.args.mark s at answer event h.key h.time h.values.items is ev;
+      cost = λ s at. search rules;
+      tally = λ s at. (simp to_z-of_z at (rw c.deref.ensures.value at c.take_record.ensures.tally)) ∙ ap (tally_of p) (fired_record p c.args.self.now c.args.mark s at answer event h.key h.time h.values.items is ev);
+    }
 
-pub returns-in-Record-Some-default-default-clause-rows : goal.returns-in-Record-Some-default-default-clause-rows
-returns-in-Record-Some-default-default-clause-rows c = λ s at.
-    let h = c.in-Record-Some-default-default in
-    let p = c.args.verified.now in
-    let is : c.args.answer ≡ Ok admitted.Record = search rules in
-    let ev : event_of c.args.event.now ≡ Record (Some h.key) h.time h.values.items = search rules in
-    let mark : SFits w64 c.args.mark = c.ranges.mark in
-    let time : SFits w64 h.time = time_fits p c.requires.comes.0 c.args.self.now c.requires.program c.args.mark h.key h.time h.values.items c.args.answer (event_of c.args.event.now) c.requires.comes.1 is ev in
-    (simp to_z-of_z at (rw c.deref.ensures.value at c.take_record.ensures.rows))
-    ∙ rows_record p c.args.self.now c.args.mark s at c.args.answer (event_of c.args.event.now) h.key h.time h.values.items is ev
-
-pub returns-in-Record-Some-default-default-clause-tally : goal.returns-in-Record-Some-default-default-clause-tally
-returns-in-Record-Some-default-default-clause-tally c = λ s at.
-    let h = c.in-Record-Some-default-default in
-    let p = c.args.verified.now in
-    let is : c.args.answer ≡ Ok admitted.Record = search rules in
-    let ev : event_of c.args.event.now ≡ Record (Some h.key) h.time h.values.items = search rules in
-    let mark : SFits w64 c.args.mark = c.ranges.mark in
-    let time : SFits w64 h.time = time_fits p c.requires.comes.0 c.args.self.now c.requires.program c.args.mark h.key h.time h.values.items c.args.answer (event_of c.args.event.now) c.requires.comes.1 is ev in
-    (simp to_z-of_z at (rw c.deref.ensures.value at c.take_record.ensures.tally))
-    ∙ ap (tally_of p) (fired_record p c.args.self.now c.args.mark s at c.args.answer (event_of c.args.event.now) h.key h.time h.values.items is ev)
-
-pub returns-in-Ok-Watermark-clause-panes : goal.returns-in-Ok-Watermark-clause-panes
-returns-in-Ok-Watermark-clause-panes c = λ s at.
+pub returns-in-Ok-Watermark : goal.returns-in-Ok-Watermark
+returns-in-Ok-Watermark c =
     let h = c.in-Ok-Watermark in
     let p = c.args.verified.now in
-    let is : c.args.answer ≡ Ok (admitted.Watermark h.old h.new) = search rules in
-    let new : SFits w64 h.new = mark_fits p c.requires.comes.0 c.args.self.now c.args.mark c.args.answer (event_of c.args.event.now) c.requires.comes.1 c.requires.program h.old h.new is in
-    let old : SFits w64 h.old = old_fits p c.requires.comes.0 c.args.self.now.held c.args.mark c.args.answer (event_of c.args.event.now) c.requires.comes.1 h.old h.new is c.ranges.mark in
-    (simp to_z-of_z at c.take_watermark.ensures.panes) ∙ panes_mark p c.args.self.now c.args.mark s at c.args.answer (event_of c.args.event.now) h.old h.new is
-
-pub returns-in-Ok-Watermark-clause-relation : goal.returns-in-Ok-Watermark-clause-relation
-returns-in-Ok-Watermark-clause-relation c = λ s at.
-    let h = c.in-Ok-Watermark in
-    let p = c.args.verified.now in
-    let is : c.args.answer ≡ Ok (admitted.Watermark h.old h.new) = search rules in
-    let new : SFits w64 h.new = mark_fits p c.requires.comes.0 c.args.self.now c.args.mark c.args.answer (event_of c.args.event.now) c.requires.comes.1 c.requires.program h.old h.new is in
-    let old : SFits w64 h.old = old_fits p c.requires.comes.0 c.args.self.now.held c.args.mark c.args.answer (event_of c.args.event.now) c.requires.comes.1 h.old h.new is c.ranges.mark in
-    (simp to_z-of_z at c.take_watermark.ensures.relation) ∙ relation_mark p c.args.self.now c.args.mark s at c.args.answer (event_of c.args.event.now) h.old h.new is
-
-pub returns-in-Ok-Watermark-clause-rows : goal.returns-in-Ok-Watermark-clause-rows
-returns-in-Ok-Watermark-clause-rows c = λ s at.
-    let h = c.in-Ok-Watermark in
-    let p = c.args.verified.now in
-    let is : c.args.answer ≡ Ok (admitted.Watermark h.old h.new) = search rules in
-    let new : SFits w64 h.new = mark_fits p c.requires.comes.0 c.args.self.now c.args.mark c.args.answer (event_of c.args.event.now) c.requires.comes.1 c.requires.program h.old h.new is in
-    let old : SFits w64 h.old = old_fits p c.requires.comes.0 c.args.self.now.held c.args.mark c.args.answer (event_of c.args.event.now) c.requires.comes.1 h.old h.new is c.ranges.mark in
-    (simp to_z-of_z at c.take_watermark.ensures.rows) ∙ rows_mark p c.args.self.now c.args.mark s at c.args.answer (event_of c.args.event.now) h.old h.new is
-
-pub returns-in-Ok-Watermark-clause-tally : goal.returns-in-Ok-Watermark-clause-tally
-returns-in-Ok-Watermark-clause-tally c = λ s at.
-    let h = c.in-Ok-Watermark in
-    let p = c.args.verified.now in
-    let is : c.args.answer ≡ Ok (admitted.Watermark h.old h.new) = search rules in
-    let new : SFits w64 h.new = mark_fits p c.requires.comes.0 c.args.self.now c.args.mark c.args.answer (event_of c.args.event.now) c.requires.comes.1 c.requires.program h.old h.new is in
-    let old : SFits w64 h.old = old_fits p c.requires.comes.0 c.args.self.now.held c.args.mark c.args.answer (event_of c.args.event.now) c.requires.comes.1 h.old h.new is c.ranges.mark in
-    (simp to_z-of_z at c.take_watermark.ensures.tally) ∙ ap (tally_of p) (fired_mark p c.args.self.now c.args.mark s at c.args.answer (event_of c.args.event.now) h.old h.new is)
+    let answer = c.args.answer in let event = event_of c.args.event.now in
+    let is : answer ≡ Ok (admitted.Watermark h.old h.new) = search rules in
+    let new : SFits w64 h.new = mark_fits p c.requires.comes.0 c.args.self.now c.args.mark answer event c.requires.comes.1 c.requires.program h.old h.new is in
+    let old : SFits w64 h.old = old_fits p c.requires.comes.0 c.args.self.now.held c.args.mark answer event c.requires.comes.1 h.old h.new is c.ranges.mark in
+    record {
+      program = c.take_watermark.ensures.program;
+      panes = λ s at. (simp to_z-of_z at c.take_watermark.ensures.panes) ∙ panes_mark p c.args.self.now c.args.mark s at answer event h.old h.new is;
+      relation = λ s at. (simp to_z-of_z at c.take_watermark.ensures.relation) ∙ relation_mark p c.args.self.now c.args.mark s at answer event h.old h.new is;
+      rows = λ s at. (simp to_z-of_z at c.take_watermark.ensures.rows) ∙ rows_mark p c.args.self.now c.args.mark s at answer event h.old h.new is;
+      cost = λ s at. search rules;
+      tally = λ s at. (simp to_z-of_z at c.take_watermark.ensures.tally) ∙ ap (tally_of p) (fired_mark p c.args.self.now c.args.mark s at answer event h.old h.new is);
+    }

@@ -39,48 +39,6 @@ overflow_add-result c =
     let steps : c.enter-steps.result.0 ≡ entering_cost p c.args.key c.args.time c.args.values.now (entries_of c.args.self.now.held) = simp to_z-of_z at c.enter-steps.ensures.steps in
     omega (arith, most, kept, steps)
 
-pub returns-clause-panes : goal.returns-clause-panes
-returns-clause-panes c =
-    let p = c.args.verified.now in
-    let mark : SFits w64 c.args.mark = c.ranges.mark in
-    let time : SFits w64 c.args.time = c.ranges.time in
-    let chosen : selects p c.args.key c.args.values.now ≡ true = keeps_is p c.args.key c.args.values.now c.keep-kept.result.keeps c.keep-kept.ensures.done c.keep-kept.ensures.keeps ∙ not-false _ c.if-not-kept.false in
-    let d = datum 0 c.args.key c.args.time c.args.values.now in
-    (simp to_z-of_z at c.fire_by_record-tally.ensures.panes)
-    ∙ ap (all_fired (plan_of p) (query_of p) (kind_by_record (query_of p) c.args.mark d)) (simp to_z-of_z at c.enter-steps.ensures.panes)
-    ∙ ap (λ (b : Bool). cond b (after_record (plan_of p) (query_of p) c.args.mark d (entries_of c.args.self.now.held)) (entries_of c.args.self.now.held)) (sym chosen)
-
-pub returns-clause-rows : goal.returns-clause-rows
-returns-clause-rows c =
-    let p = c.args.verified.now in
-    let mark : SFits w64 c.args.mark = c.ranges.mark in
-    let time : SFits w64 c.args.time = c.ranges.time in
-    let chosen : selects p c.args.key c.args.values.now ≡ true = keeps_is p c.args.key c.args.values.now c.keep-kept.result.keeps c.keep-kept.ensures.done c.keep-kept.ensures.keeps ∙ not-false _ c.if-not-kept.false in
-    let d = datum 0 c.args.key c.args.time c.args.values.now in
-    (simp to_z-of_z at c.fire_by_record-tally.ensures.rows)
-    ∙ ap (λ (es : Panes). rows_of p (fires_by_record p c.args.mark c.args.key c.args.time es)) (simp to_z-of_z at c.enter-steps.ensures.panes)
-    ∙ ap (λ (b : Bool). rows_of p (cond b (fired_by_record (plan_of p) (query_of p) c.args.mark d (entries_of c.args.self.now.held)) [])) (sym chosen)
-
-pub returns-clause-cost : goal.returns-clause-cost
-returns-clause-cost c =
-    let p = c.args.verified.now in
-    let time : SFits w64 c.args.time = c.ranges.time in
-    let chosen : selects p c.args.key c.args.values.now ≡ true = keeps_is p c.args.key c.args.values.now c.keep-kept.result.keeps c.keep-kept.ensures.done c.keep-kept.ensures.keeps ∙ not-false _ c.if-not-kept.false in
-    let kept : (where_run p c.args.key c.args.values.now).steps ≡ c.keep-kept.result.steps = c.keep-kept.ensures.steps in
-    let steps : c.enter-steps.result.0 ≡ entering_cost p c.args.key c.args.time c.args.values.now (entries_of c.args.self.now.held) = simp to_z-of_z at c.enter-steps.ensures.steps in
-    λ i. sym kept i + (steps ∙ ap (λ (b : Bool). cond b (entering_cost p c.args.key c.args.time c.args.values.now (entries_of c.args.self.now.held)) 0) (sym chosen)) i
-
-pub returns-clause-tally : goal.returns-clause-tally
-returns-clause-tally c =
-    let p = c.args.verified.now in
-    let mark : SFits w64 c.args.mark = c.ranges.mark in
-    let time : SFits w64 c.args.time = c.ranges.time in
-    let chosen : selects p c.args.key c.args.values.now ≡ true = keeps_is p c.args.key c.args.values.now c.keep-kept.result.keeps c.keep-kept.ensures.done c.keep-kept.ensures.keeps ∙ not-false _ c.if-not-kept.false in
-    let d = datum 0 c.args.key c.args.time c.args.values.now in
-    (simp to_z-of_z at c.fire_by_record-tally.ensures.tally)
-    ∙ ap (λ (es : Panes). tally_of p (fires_by_record p c.args.mark c.args.key c.args.time es)) (simp to_z-of_z at c.enter-steps.ensures.panes)
-    ∙ ap (λ (b : Bool). tally_of p (cond b (fired_by_record (plan_of p) (query_of p) c.args.mark d (entries_of c.args.self.now.held)) [])) (sym chosen)
-
 pub fire_by_record-tally-requires-clause-tells : goal.fire_by_record-tally-requires-clause-tells
 fire_by_record-tally-requires-clause-tells c =
     let p = c.args.verified.now in let of = c.requires.program in
@@ -91,19 +49,37 @@ fire_by_record-tally-requires-clause-tells c =
     let few = few_entered p c.requires.comes.0 c.args.self.now of c.args.mark c.args.key c.args.time c.args.values.now c.requires.comes.1 chosen fs (simp to_z-of_z at c.enter-steps.ensures.panes) in
     can_tell (most_panes (query_of p)) s t es fs of.streams of.room c.enter-steps.ensures.alike c.enter-steps.ensures.told few
 
-pub returns-clause-relation : goal.returns-clause-relation
-returns-clause-relation c =
-    let t = c.enter-steps.new.self.streams in let u = c.fire_by_record-tally.new.streams in let gs = entries_of c.fire_by_record-tally.new.held in
-    let before = last_relation c.args.self.now.streams (entries_of c.args.self.now.held) in
-    last_is u gs before (c.fire_by_record-tally.ensures.tells.told before (c.enter-steps.ensures.told before c.requires.program.streams.told))
-
-pub returns-clause-program : goal.returns-clause-program
-returns-clause-program c =
-    let p = c.args.verified.now in let of = c.requires.program in
+pub returns : goal.returns
+returns c =
+    let p = c.args.verified.now in
+    let mark : SFits w64 c.args.mark = c.ranges.mark in
+    let time : SFits w64 c.args.time = c.ranges.time in
+    let chosen : selects p c.args.key c.args.values.now ≡ true = keeps_is p c.args.key c.args.values.now c.keep-kept.result.keeps c.keep-kept.ensures.done c.keep-kept.ensures.keeps ∙ not-false _ c.if-not-kept.false in
+    let d = datum 0 c.args.key c.args.time c.args.values.now in
+    let kept : (where_run p c.args.key c.args.values.now).steps ≡ c.keep-kept.result.steps = c.keep-kept.ensures.steps in
+    let steps : c.enter-steps.result.0 ≡ entering_cost p c.args.key c.args.time c.args.values.now (entries_of c.args.self.now.held) = simp to_z-of_z at c.enter-steps.ensures.steps in
+    let of = c.requires.program in
     let s = c.args.self.now.streams in let t = c.enter-steps.new.self.streams in let u = c.fire_by_record-tally.new.streams in let gs = entries_of c.fire_by_record-tally.new.held in
     let before = last_relation s (entries_of c.args.self.now.held) in
     let told : IsTold u before (standing_rows gs) = c.fire_by_record-tally.ensures.tells.told before (c.enter-steps.ensures.told before of.streams.told) in
     let one = c.enter-steps.ensures.keeps in let two = c.fire_by_record-tally.ensures.keeps in
-    of_next p c.args.self.now _ of (record { keys = two.keys ∙ one.keys; shape = two.shape ∙ one.shape; live = two.live ∙ one.live; widths = two.widths ∙ one.widths })
-    (alike_on s t u c.enter-steps.ensures.alike c.fire_by_record-tally.ensures.tells.alike) (c.fire_by_record-tally.ensures.capacity ∙ ap vec_capacity c.enter-steps.ensures.rows)
-    (are_told (most_panes (query_of p)) u gs before told of.streams.few)
+    record {
+      program =
+          of_next p c.args.self.now _ of (record { keys = two.keys ∙ one.keys; shape = two.shape ∙ one.shape; live = two.live ∙ one.live; widths = two.widths ∙ one.widths })
+          (alike_on s t u c.enter-steps.ensures.alike c.fire_by_record-tally.ensures.tells.alike) (c.fire_by_record-tally.ensures.capacity ∙ ap vec_capacity c.enter-steps.ensures.rows)
+          (are_told (most_panes (query_of p)) u gs before told of.streams.few);
+      panes =
+          (simp to_z-of_z at c.fire_by_record-tally.ensures.panes)
+          ∙ ap (all_fired (plan_of p) (query_of p) (kind_by_record (query_of p) c.args.mark d)) (simp to_z-of_z at c.enter-steps.ensures.panes)
+          ∙ ap (λ (b : Bool). cond b (after_record (plan_of p) (query_of p) c.args.mark d (entries_of c.args.self.now.held)) (entries_of c.args.self.now.held)) (sym chosen);
+      relation = last_is u gs before told;
+      rows =
+          (simp to_z-of_z at c.fire_by_record-tally.ensures.rows)
+          ∙ ap (λ (es : Panes). rows_of p (fires_by_record p c.args.mark c.args.key c.args.time es)) (simp to_z-of_z at c.enter-steps.ensures.panes)
+          ∙ ap (λ (b : Bool). rows_of p (cond b (fired_by_record (plan_of p) (query_of p) c.args.mark d (entries_of c.args.self.now.held)) [])) (sym chosen);
+      cost = λ i. sym kept i + (steps ∙ ap (λ (b : Bool). cond b (entering_cost p c.args.key c.args.time c.args.values.now (entries_of c.args.self.now.held)) 0) (sym chosen)) i;
+      tally =
+          (simp to_z-of_z at c.fire_by_record-tally.ensures.tally)
+          ∙ ap (λ (es : Panes). tally_of p (fires_by_record p c.args.mark c.args.key c.args.time es)) (simp to_z-of_z at c.enter-steps.ensures.panes)
+          ∙ ap (λ (b : Bool). tally_of p (cond b (fired_by_record (plan_of p) (query_of p) c.args.mark d (entries_of c.args.self.now.held)) [])) (sym chosen);
+    }

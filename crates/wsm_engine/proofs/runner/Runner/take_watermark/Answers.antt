@@ -70,63 +70,38 @@ drop_expired-requires-clause-lateness c =
     let lateness : SFits w64 p.header.clock.lateness = fits_signed_from_abs w64 p.header.clock.lateness (omega (arith, ints, span.low, span.high)) in
     rw late (simp to_z-of_z span)
 
-pub returns-clause-panes : goal.returns-clause-panes
-returns-clause-panes c =
-    let p = c.args.verified.now in
+pub returns : goal.returns
+returns c =
+    let p = c.args.verified.now in let of = c.requires.program in
     let old : SFits w64 c.args.old = c.ranges.old in
     let new : SFits w64 c.args.new = c.ranges.new in
     let late : c.header.result.now.clock.lateness ≡ p.header.clock.lateness = ap (λ (h : Header). h.clock.lateness) (c.header.ensures.header ∙ ap (λ (q : Program). q.header) c.program.ensures.program) in
-    let span = (lawful p c.requires.program.lawful).lateness in
+    let span = (lawful p of.lawful).lateness in
     let lateness : SFits w64 p.header.clock.lateness = fits_signed_from_abs w64 p.header.clock.lateness (omega (arith, ints, span.low, span.high)) in
-    let panes : entries_of c.fire_by_watermark-tally.new.held ≡ at_watermark (plan_of p) (query_of p) c.args.old c.args.new (entries_of c.args.self.now.held) = simp to_z-of_z at c.fire_by_watermark-tally.ensures.panes in
-    (simp to_z-of_z at (rw late at c.drop_expired.ensures.panes))
-    ∙ ap (where_key place_cmp (is_live_at (query_of p) c.args.new)) panes
-
-pub returns-clause-relation : goal.returns-clause-relation
-returns-clause-relation c =
-    let p = c.args.verified.now in
-    let old : SFits w64 c.args.old = c.ranges.old in
-    let new : SFits w64 c.args.new = c.ranges.new in
-    let panes : entries_of c.fire_by_watermark-tally.new.held ≡ at_watermark (plan_of p) (query_of p) c.args.old c.args.new (entries_of c.args.self.now.held) = simp to_z-of_z at c.fire_by_watermark-tally.ensures.panes in
-    let before = last_relation c.args.self.now.streams (entries_of c.args.self.now.held) in
-    let fired = c.fire_by_watermark-tally.ensures.tells in let fs = entries_of c.fire_by_watermark-tally.new.held in
-    let form : c.fire_by_watermark-tally.new.streams.form ≡ p.header.form = fired.alike.form ∙ c.requires.program.form in
-    last_is c.drop_expired.new.streams (entries_of c.drop_expired.new.held) _ (c.drop_expired.ensures.told _ (c.advance.ensures.told before (standing_rows fs) (fired.told before c.requires.program.streams.told)))
-    ∙ (λ i. relation_kept (form i) before (relation_of (panes i)))
-
-pub returns-clause-program : goal.returns-clause-program
-returns-clause-program c =
-    let p = c.args.verified.now in let of = c.requires.program in
     let s = c.args.self.now.streams in let t = c.fire_by_watermark-tally.new.streams in let u = c.advance.new.self in let v = c.drop_expired.new.streams in
     let es = entries_of c.args.self.now.held in let fs = entries_of c.fire_by_watermark-tally.new.held in let gs = entries_of c.drop_expired.new.held in
-    let fired = c.fire_by_watermark-tally.ensures.tells in
+    let tells = c.fire_by_watermark-tally.ensures.tells in
+    let panes : fs ≡ at_watermark (plan_of p) (query_of p) c.args.old c.args.new es = simp to_z-of_z at c.fire_by_watermark-tally.ensures.panes in
+    let form : t.form ≡ p.header.form = tells.alike.form ∙ of.form in
     let before = last_relation s es in
     let after = relation_kept t.form before (relation_of fs) in
-    let told : IsTold v after (standing_rows gs) = c.drop_expired.ensures.told after (c.advance.ensures.told before (standing_rows fs) (fired.told before of.streams.told)) in
+    let told_before : IsTold t before (standing_rows fs) = tells.told before of.streams.told in
+    let told_after : IsTold v after (standing_rows gs) = c.drop_expired.ensures.told after (c.advance.ensures.told before (standing_rows fs) told_before) in
     let few = held_within p c.requires.comes.0 c.args.self.now of c.args.old (Ok (admitted.Watermark c.args.old c.args.new)) (Watermark c.args.new) c.requires.comes.1 in
-    let some : length (relation_of fs) ≤ most_panes (query_of p) = omega (arith, few, fired.as_many, length-sorted_rows (standing_rows fs), few_rows fs) in
+    let some : length (relation_of fs) ≤ most_panes (query_of p) = omega (arith, few, tells.as_many, length-sorted_rows (standing_rows fs), few_rows fs) in
     let one = c.fire_by_watermark-tally.ensures.keeps in let two = c.drop_expired.ensures.keeps in
-    of_next p c.args.self.now _ of (record { keys = two.keys ∙ one.keys; shape = two.shape ∙ one.shape; live = two.live ∙ one.live; widths = two.widths ∙ one.widths })
-    (alike_on s t v fired.alike (alike_on t u v c.advance.ensures.alike c.drop_expired.ensures.alike)) (c.advance.ensures.capacity ∙ c.fire_by_watermark-tally.ensures.capacity)
-    (are_told (most_panes (query_of p)) v gs after told (few_kept t.form before (relation_of fs) (most_panes (query_of p)) of.streams.few some))
-
-pub returns-clause-rows : goal.returns-clause-rows
-returns-clause-rows c =
-    let p = c.args.verified.now in
-    let old : SFits w64 c.args.old = c.ranges.old in
-    let new : SFits w64 c.args.new = c.ranges.new in
-    let panes : entries_of c.fire_by_watermark-tally.new.held ≡ at_watermark (plan_of p) (query_of p) c.args.old c.args.new (entries_of c.args.self.now.held) = simp to_z-of_z at c.fire_by_watermark-tally.ensures.panes in
-    let before = last_relation c.args.self.now.streams (entries_of c.args.self.now.held) in
-    let told = c.fire_by_watermark-tally.ensures.tells in
-    let form : c.fire_by_watermark-tally.new.streams.form ≡ p.header.form = told.alike.form ∙ c.requires.program.form in
-    let fired : List OutRow = filter_map (row_of (plan_of p)) (fired_by_watermark (plan_of p) (query_of p) c.args.old c.args.new (entries_of c.args.self.now.held)) in
+    let fired : List OutRow = filter_map (row_of (plan_of p)) (fired_by_watermark (plan_of p) (query_of p) c.args.old c.args.new es) in
     let rows : c.fire_by_watermark-tally.new.rows.items ≡ chosen_rows p.header.form fired [] = simp to_z-of_z at c.fire_by_watermark-tally.ensures.rows in
-    (simp to_z-of_z at (c.advance.ensures.rows before (standing_rows (entries_of c.fire_by_watermark-tally.new.held)) (told.told before c.requires.program.streams.told)))
-    ∙ (λ i. rows i ++ stream_rows (form i) c.args.new before (relation_of (panes i)))
-    ∙ rows_then p.header.form fired c.args.new before (relation_of (at_watermark (plan_of p) (query_of p) c.args.old c.args.new (entries_of c.args.self.now.held)))
-
-pub returns-clause-tally : goal.returns-clause-tally
-returns-clause-tally c =
-    let old : SFits w64 c.args.old = c.ranges.old in
-    let new : SFits w64 c.args.new = c.ranges.new in
-    simp to_z-of_z at c.fire_by_watermark-tally.ensures.tally
+    record {
+      program =
+          of_next p c.args.self.now _ of (record { keys = two.keys ∙ one.keys; shape = two.shape ∙ one.shape; live = two.live ∙ one.live; widths = two.widths ∙ one.widths })
+          (alike_on s t v tells.alike (alike_on t u v c.advance.ensures.alike c.drop_expired.ensures.alike)) (c.advance.ensures.capacity ∙ c.fire_by_watermark-tally.ensures.capacity)
+          (are_told (most_panes (query_of p)) v gs after told_after (few_kept t.form before (relation_of fs) (most_panes (query_of p)) of.streams.few some));
+      panes = (simp to_z-of_z at (rw late at c.drop_expired.ensures.panes)) ∙ ap (where_key place_cmp (is_live_at (query_of p) c.args.new)) panes;
+      relation = last_is v gs after told_after ∙ (λ i. relation_kept (form i) before (relation_of (panes i)));
+      rows =
+          (simp to_z-of_z at (c.advance.ensures.rows before (standing_rows fs) told_before))
+          ∙ (λ i. rows i ++ stream_rows (form i) c.args.new before (relation_of (panes i)))
+          ∙ rows_then p.header.form fired c.args.new before (relation_of (at_watermark (plan_of p) (query_of p) c.args.old c.args.new es));
+      tally = simp to_z-of_z at c.fire_by_watermark-tally.ensures.tally;
+    }

@@ -1,4 +1,4 @@
-use Rattle.std.proofs.Common.{◌≡◌, [], ◌∷◌, ◌≤◌, ◌*◌, Some, arith, refl, sym, ap, ◌∙◌, length, SFits, w64, to_z-of_z}
+use Rattle.std.proofs.Common.{rules, ◌≡◌, [], ◌∷◌, ◌≤◌, ◌*◌, Some, arith, refl, sym, ap, ◌∙◌, length, SFits, w64, to_z-of_z}
 use Rattle.std.proofs.lemmas.Nat.{mul-le}
 use Rattle.std.specs.FinMap as map
 use Rattle.wsm_windows.specs.Windows.{windows_of, windows_of_shape}
@@ -68,29 +68,21 @@ invariant_of-self c =
           c.enter_session-joined.ensures.others;
     }
 
-pub returns-in-Session-clause-panes : goal.returns-in-Session-clause-panes
-returns-in-Session-clause-panes c =
+pub returns-in-Session : goal.returns-in-Session
+returns-in-Session c =
     let time : SFits w64 c.args.time = c.ranges.time in
     let can = rw (← c.self.view_is, c.in-Session.is) at c.requires in
     let of = key_of c.in-Session.field-0 c.self.inside.keys c.self.inside.live c.args.key (map.entries c.self.inside.list.panes) c.self.inside.sessions.items (c.self.invariant.sessions c.in-Session.field-0 c.in-Session.is) can.declared c.index_mut-sessions.result.now c.index_mut-sessions.ensures.value in
-    rw (← c.self.view_is, c.in-Session.is) (rw of.same_gap at (simp to_z-of_z at c.enter_session-joined.ensures.panes))
+    record {
+      panes = rw (← c.self.view_is, c.in-Session.is) (rw of.same_gap at (simp to_z-of_z at c.enter_session-joined.ensures.panes));
+      keeps = search rules;
+      windows = search rules;
+      joined = rw (← c.self.view_is, c.in-Session.is) (rw of.same_gap at (simp to_z-of_z at c.enter_session-joined.ensures.joined));
+      session = rw (← c.self.view_is, c.in-Session.is) (ap Some (rw of.same_gap at (simp to_z-of_z at c.enter_session-joined.ensures.session)));
+    }
 
-pub returns-in-Session-clause-joined : goal.returns-in-Session-clause-joined
-returns-in-Session-clause-joined c =
-    let time : SFits w64 c.args.time = c.ranges.time in
-    let can = rw (← c.self.view_is, c.in-Session.is) at c.requires in
-    let of = key_of c.in-Session.field-0 c.self.inside.keys c.self.inside.live c.args.key (map.entries c.self.inside.list.panes) c.self.inside.sessions.items (c.self.invariant.sessions c.in-Session.field-0 c.in-Session.is) can.declared c.index_mut-sessions.result.now c.index_mut-sessions.ensures.value in
-    rw (← c.self.view_is, c.in-Session.is) (rw of.same_gap at (simp to_z-of_z at c.enter_session-joined.ensures.joined))
-
-pub returns-in-Session-clause-session : goal.returns-in-Session-clause-session
-returns-in-Session-clause-session c =
-    let time : SFits w64 c.args.time = c.ranges.time in
-    let can = rw (← c.self.view_is, c.in-Session.is) at c.requires in
-    let of = key_of c.in-Session.field-0 c.self.inside.keys c.self.inside.live c.args.key (map.entries c.self.inside.list.panes) c.self.inside.sessions.items (c.self.invariant.sessions c.in-Session.field-0 c.in-Session.is) can.declared c.index_mut-sessions.result.now c.index_mut-sessions.ensures.value in
-    rw (← c.self.view_is, c.in-Session.is) (ap Some (rw of.same_gap at (simp to_z-of_z at c.enter_session-joined.ensures.session)))
-
-pub returns-in_default-clause-panes : goal.returns-in_default-clause-panes
-returns-in_default-clause-panes c =
+pub returns-in_default : goal.returns-in_default
+returns-in_default c =
     let a = c.self.inside in
     let time : SFits w64 c.args.time = c.ranges.time in
     let grid = c.in_default.not-Session in
@@ -100,20 +92,16 @@ returns-in_default-clause-panes c =
     let windows : windows_of_shape a.shape c.args.time ≡ windows_of a.ring.ring.size a.ring.ring.period c.args.time = windows_grid a.shape grid c.args.time ∙ ap (λ (r : Ring). windows_of r.size r.period c.args.time) (sym same) in
     let plan = taking c.args.kinds.now c.args.values.now in
     let d = datum 0 c.args.key c.args.time [] in
-    rw (← c.self.view_is) (
-    ap map.entries (in_ring a.shape a.list.panes c.enter_windows.new.table.panes grid)
-    ∙ simp to_z-of_z at c.enter_windows.ensures.panes
-    ∙ ap (λ ws. assigned plan d ws (map.entries a.ring.panes)) (sym windows)
-    ∙ sym (entered_assigned plan a.shape grid d (map.entries a.ring.panes))
-    ∙ ap (λ m. entered plan a.shape d (map.entries m)) (sym (in_ring a.shape a.list.panes a.ring.panes grid)))
-
-pub returns-in_default-clause-windows : goal.returns-in_default-clause-windows
-returns-in_default-clause-windows c =
-    let a = c.self.inside in
-    let time : SFits w64 c.args.time = c.ranges.time in
-    let grid = c.in_default.not-Session in
-    let whole = ((rw (← c.self.view_is) at c.requires).apart grid).ring in
-    let some : 1 * 1 ≤ a.keys * a.live = mul-le 1 1 a.keys a.live whole.keys whole.bound in
-    let same = c.self.invariant.ring grid (omega (arith, some)) in
-    let windows : windows_of_shape a.shape c.args.time ≡ windows_of a.ring.ring.size a.ring.ring.period c.args.time = windows_grid a.shape grid c.args.time ∙ ap (λ (r : Ring). windows_of r.size r.period c.args.time) (sym same) in
-    rw (← c.self.view_is) (simp to_z-of_z at c.enter_windows.ensures.count ∙ ap length (sym windows))
+    record {
+      panes =
+          rw (← c.self.view_is) (
+          ap map.entries (in_ring a.shape a.list.panes c.enter_windows.new.table.panes grid)
+          ∙ simp to_z-of_z at c.enter_windows.ensures.panes
+          ∙ ap (λ ws. assigned plan d ws (map.entries a.ring.panes)) (sym windows)
+          ∙ sym (entered_assigned plan a.shape grid d (map.entries a.ring.panes))
+          ∙ ap (λ m. entered plan a.shape d (map.entries m)) (sym (in_ring a.shape a.list.panes a.ring.panes grid)));
+      keeps = search rules;
+      windows = rw (← c.self.view_is) (simp to_z-of_z at c.enter_windows.ensures.count ∙ ap length (sym windows));
+      joined = search rules;
+      session = search rules;
+    }

@@ -19,33 +19,20 @@ part-requires-2 c =
     let a = c.self.inside in
     rw c.deref-2.ensures.value (has_row a.widths a.heads.items a.folds.items a.rows.items c.self.invariant c.args.slot (slot_held a.widths.accumulators a.widths.columns a.heads.items a.folds.items a.rows.items c.args.slot (rw (← c.self.view_is) at c.requires)))
 
-pub returns-clause-wide : goal.returns-clause-wide
-returns-clause-wide c =
+pub returns : goal.returns
+returns c =
     let a = c.self.inside in
     let w = a.widths.accumulators in let n = a.widths.columns in
     let hs = a.heads.items in let fs = a.folds.items in let rs = a.rows.items in
     let i = c.args.slot in let h = c.index-head.result.now in
-    let within = slot_held w n hs fs rs i (rw (← c.self.view_is) at c.requires) in
+    let some = rw (← c.self.view_is) at c.requires in
+    let within = slot_held w n hs fs rs i some in
+    let there = head_held w n hs fs rs i h some c.index-head.ensures in
+    let at = entry_read w n hs fs rs i h within c.index-head.ensures in
     let folds : length c.part.result.now ≡ w = ap length (c.part.ensures ∙ ap (part_at i w) c.deref.ensures.value) ∙ length-part i w fs (part_ends i w fs (has_folds a.widths hs fs rs c.self.invariant i within)) in
     let row : length c.part-2.result.now ≡ n = ap length (c.part-2.ensures ∙ ap (part_at i n) c.deref-2.ensures.value) ∙ length-part i n rs (part_ends i n rs (has_row a.widths hs fs rs c.self.invariant i within)) in
-    rw (← c.self.view_is) (record { folds = folded_wide h.is_folded c.part.result.now w folds; row = standing_wide h.stands c.part-2.result.now n row })
-
-pub returns-clause-few : goal.returns-clause-few
-returns-clause-few c =
-    let a = c.self.inside in
-    let w = a.widths.accumulators in
-    let hs = a.heads.items in let fs = a.folds.items in let rs = a.rows.items in
-    let i = c.args.slot in let h = c.index-head.result.now in
-    let within = slot_held w a.widths.columns hs fs rs i (rw (← c.self.view_is) at c.requires) in
-    let folds : length c.part.result.now ≡ w = ap length (c.part.ensures ∙ ap (part_at i w) c.deref.ensures.value) ∙ length-part i w fs (part_ends i w fs (has_folds a.widths hs fs rs c.self.invariant i within)) in
-    folded_few h.is_folded c.part.result.now (omega (arith, folds, c.self.invariant.few.0))
-
-pub returns-clause-same : goal.returns-clause-same
-returns-clause-same c =
-    let a = c.self.inside in
-    let w = a.widths.accumulators in let n = a.widths.columns in
-    let some = rw (← c.self.view_is) at c.requires in
-    let h = c.index-head.result.now in
-    let there = head_held w n a.heads.items a.folds.items a.rows.items c.args.slot h some c.index-head.ensures in
-    let at = entry_read w n a.heads.items a.folds.items a.rows.items c.args.slot h (slot_held w n a.heads.items a.folds.items a.rows.items c.args.slot some) c.index-head.ensures in
-    rw (← c.self.view_is) (rw (at, there, c.part.ensures, c.part-2.ensures, c.deref.ensures.value, c.deref-2.ensures.value) refl)
+    record {
+      same = rw (← c.self.view_is) (rw (at, there, c.part.ensures, c.part-2.ensures, c.deref.ensures.value, c.deref-2.ensures.value) refl);
+      wide = rw (← c.self.view_is) (record { folds = folded_wide h.is_folded c.part.result.now w folds; row = standing_wide h.stands c.part-2.result.now n row });
+      few = folded_few h.is_folded c.part.result.now (omega (arith, folds, c.self.invariant.few.0));
+    }
