@@ -1,8 +1,8 @@
-use Rattle.std.proofs.Common.{rules, ◌≡◌, [], IsTrue, SFits, w64, to_z-of_z, ap, subst, ◌∙◌, arith}
+use Rattle.std.proofs.Common.{rules, ◌≡◌, ◌≤◌, ◌*◌, [], IsTrue, SFits, w64, to_z-of_z, ap, subst, ◌∙◌, arith}
 use Rattle.std.proofs.lemmas.Int.{ints, fits_signed_from_abs}
 use Rattle.wsm_program.specs.Program.{Program, is_program}
 use Rattle.wsm_program.specs.View.{header_of}
-use Rattle.wsm_verifier.proofs.Lawful.{lawful_seen, span_seen}
+use Rattle.wsm_verifier.proofs.Lawful.{IsLawful, lawful_seen, span_seen}
 use Rattle.wsm_panes.specs.declared.widths.Widths.{Widths}
 use Rattle.wsm_panes.specs.Held.{entries_of}
 use Rattle.wsm_firing.proofs.Headers.{lawful_firing}
@@ -10,55 +10,52 @@ use Rattle.wsm_panes.proofs.Tables.{entries_none}
 use Rattle.wsm_engine.proofs.Limits.{room_few}
 use Rattle.wsm_engine.proofs.Told.{last_is, are_told, open_is}
 use Rattle.wsm_engine.proofs.runner.Runner.open.Goals as goal
+use Rattle.wsm_engine.proofs.runner.Runner.open.Goals.{After-header-header, After-live_bound-live}
 
-pub live_bound-live-requires-clause-shape : goal.live_bound-live-requires-clause-shape
-live_bound-live-requires-clause-shape c = (lawful_seen c.program.result.now (header_of c.header-header.result.now) c.header-header.ensures.header c.header-header.ensures.lawful).shape
+declared : (c : After-header-header) → IsLawful (header_of c.header-header.result.now)
+declared c = lawful_seen c.program.result.now (header_of c.header-header.result.now) c.header-header.ensures.header c.header-header.ensures.lawful
 
-pub live_bound-live-requires-clause-skew : goal.live_bound-live-requires-clause-skew
-live_bound-live-requires-clause-skew c = span_seen c.header-header.result.now.clock.skew (lawful_seen c.program.result.now (header_of c.header-header.result.now) c.header-header.ensures.header c.header-header.ensures.lawful).skew
-
-pub live_bound-live-requires-clause-lateness : goal.live_bound-live-requires-clause-lateness
-live_bound-live-requires-clause-lateness c = span_seen c.header-header.result.now.clock.lateness (lawful_seen c.program.result.now (header_of c.header-header.result.now) c.header-header.ensures.header c.header-header.ensures.lawful).lateness
-
-pub open-requires-2-clause-shape : goal.open-requires-2-clause-shape
-open-requires-2-clause-shape c = (lawful_seen c.program.result.now (header_of c.header-header.result.now) c.header-header.ensures.header c.header-header.ensures.lawful).shape
-
-pub overflow_mul-room : goal.overflow_mul-room
-overflow_mul-room c =
+-- the panes that there can be
+few : (c : After-live_bound-live) → c.key_count-keys.result * c.live_bound-live.result ≤ 100000
+few c =
     let p = c.args.verified.now in
     let h = header_of c.header-header.result.now in
     let same = c.header-header.ensures.header ∙ ap (λ (q : Program). q.header) c.program.ensures.program in
     let is = lawful_seen c.program.result.now h c.header-header.ensures.header c.header-header.ensures.lawful in
     let skew : SFits w64 h.clock.skew = fits_signed_from_abs w64 h.clock.skew (omega (arith, ints, is.skew.low, is.skew.high)) in
     let lateness : SFits w64 h.clock.lateness = fits_signed_from_abs w64 h.clock.lateness (omega (arith, ints, is.lateness.low, is.lateness.high)) in
-    let few = room_few p c.program.ensures.accepted (subst (λ (q : Program). IsTrue (is_program q)) c.program.ensures.program c.header-header.ensures.lawful) h same c.key_count-keys.result c.live_bound-live.result c.key_count-keys.ensures.count (simp to_z-of_z at c.live_bound-live.ensures.bound) in
+    room_few p c.program.ensures.accepted (subst (λ (q : Program). IsTrue (is_program q)) c.program.ensures.program c.header-header.ensures.lawful) h same c.key_count-keys.result c.live_bound-live.result c.key_count-keys.ensures.count (simp to_z-of_z at c.live_bound-live.ensures.bound)
+
+pub live_bound-live-requires-clause-shape : goal.live_bound-live-requires-clause-shape
+live_bound-live-requires-clause-shape c = (declared (goal.at.live_bound-live-requires-clause-shape c).After-header-header).shape
+
+pub live_bound-live-requires-clause-skew : goal.live_bound-live-requires-clause-skew
+live_bound-live-requires-clause-skew c = span_seen c.header-header.result.now.clock.skew (declared (goal.at.live_bound-live-requires-clause-skew c).After-header-header).skew
+
+pub live_bound-live-requires-clause-lateness : goal.live_bound-live-requires-clause-lateness
+live_bound-live-requires-clause-lateness c = span_seen c.header-header.result.now.clock.lateness (declared (goal.at.live_bound-live-requires-clause-lateness c).After-header-header).lateness
+
+pub open-requires-2-clause-shape : goal.open-requires-2-clause-shape
+open-requires-2-clause-shape c = (declared (goal.at.open-requires-2-clause-shape c).After-header-header).shape
+
+pub overflow_mul-room : goal.overflow_mul-room
+overflow_mul-room c =
+    let few = few (goal.at.overflow_mul-room c).After-live_bound-live in
     omega (arith, few)
 
 pub open-requires-2-clause-room : goal.open-requires-2-clause-room
 open-requires-2-clause-room c =
-    let p = c.args.verified.now in
-    let h = header_of c.header-header.result.now in
-    let same = c.header-header.ensures.header ∙ ap (λ (q : Program). q.header) c.program.ensures.program in
-    let is = lawful_seen c.program.result.now h c.header-header.ensures.header c.header-header.ensures.lawful in
-    let skew : SFits w64 h.clock.skew = fits_signed_from_abs w64 h.clock.skew (omega (arith, ints, is.skew.low, is.skew.high)) in
-    let lateness : SFits w64 h.clock.lateness = fits_signed_from_abs w64 h.clock.lateness (omega (arith, ints, is.lateness.low, is.lateness.high)) in
-    let few = room_few p c.program.ensures.accepted (subst (λ (q : Program). IsTrue (is_program q)) c.program.ensures.program c.header-header.ensures.lawful) h same c.key_count-keys.result c.live_bound-live.result c.key_count-keys.ensures.count (simp to_z-of_z at c.live_bound-live.ensures.bound) in
+    let few = few (goal.at.open-requires-2-clause-room c).After-live_bound-live in
     omega (arith, few)
 
 pub open-requires-3 : goal.open-requires-3
 open-requires-3 c =
-    let p = c.args.verified.now in
-    let h = header_of c.header-header.result.now in
-    let same = c.header-header.ensures.header ∙ ap (λ (q : Program). q.header) c.program.ensures.program in
-    let is = lawful_seen c.program.result.now h c.header-header.ensures.header c.header-header.ensures.lawful in
-    let skew : SFits w64 h.clock.skew = fits_signed_from_abs w64 h.clock.skew (omega (arith, ints, is.skew.low, is.skew.high)) in
-    let lateness : SFits w64 h.clock.lateness = fits_signed_from_abs w64 h.clock.lateness (omega (arith, ints, is.lateness.low, is.lateness.high)) in
-    let few = room_few p c.program.ensures.accepted (subst (λ (q : Program). IsTrue (is_program q)) c.program.ensures.program c.header-header.ensures.lawful) h same c.key_count-keys.result c.live_bound-live.result c.key_count-keys.ensures.count (simp to_z-of_z at c.live_bound-live.ensures.bound) in
+    let few = few (goal.at.open-requires-3 c).After-live_bound-live in
     omega (arith, few)
 
 pub open-requires-2-clause-accumulators : goal.open-requires-2-clause-accumulators
 open-requires-2-clause-accumulators c =
-    let kinds = (lawful_seen c.program.result.now (header_of c.header-header.result.now) c.header-header.ensures.header c.header-header.ensures.lawful).kinds in
+    let kinds = (declared (goal.at.open-requires-2-clause-accumulators c).After-header-header).kinds in
     omega (arith, ap (λ (w : Widths). w.accumulators) c.widths.ensures, kinds)
 
 pub open-requires-2-clause-columns : goal.open-requires-2-clause-columns
