@@ -1,6 +1,6 @@
-pub mod Judging
-pub mod Turning
-pub mod Taking
+pub mod Judgements
+pub mod TurnLines
+pub mod RowTurns
 pub mod Texts
 pub mod SameText
-pub mod Beginning
+pub mod RunsBeforeRows

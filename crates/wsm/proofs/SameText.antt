@@ -20,7 +20,7 @@ use Rattle.wsm.specs.declared.end.End.TheVariants.{Refused, Rejected, Memory, Re
 use Rattle.wsm.specs.Begun.{IsAcceptedQuery}
 use Rattle.wsm.specs.Judged.{text_judged}
 use Rattle.wsm.specs.Written.{Cells, Completes, BreaksOff, EndsEarly, input_text, rows_of, turns_text}
-use Rattle.wsm.proofs.Judging.{judged_ok}
+use Rattle.wsm.proofs.Judgements.{judged_ok}
 
 -- lists with the same last element added are the same, and so is the element
 same_length : {A : Type 0} (xs ys : List A) (x y : A) → xs ++ x ∷ [] ≡ ys ++ y ∷ [] → length xs ≡ length ys

@@ -1,7 +1,7 @@
-pub mod Naming
-pub mod Counting
-pub mod Resolving
+pub mod NamedFields
+pub mod CappedNumbers
+pub mod ResolvedTerms
 pub mod Flat
-pub mod Following
+pub mod ChecksInOrder
 pub mod Repeats
-pub mod Passing
+pub mod PassedChecks

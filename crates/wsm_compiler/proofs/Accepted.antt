@@ -21,10 +21,10 @@ use Rattle.wsm_verifier.specs.Rules.{or_then, fault_in, ranges_of_record, ranges
 use Rattle.wsm_compiler.specs.Ranges.{Range, Unfit, NoNumber, Within, no_number, on_intervals, of_op, of_minus, of_branches, if_fits, of_aggregate, range, fits, ranges_fit}
 use Rattle.wsm_compiler.specs.Program.{program_stating, stated, needed_of, program_of}
 use Rattle.wsm_compiler.specs.Accepted.{states_enough, FaultlessExactly, AcceptedExactly, AcceptedWithoutBudget}
-use Rattle.wsm_machine.proofs.Fitting.{no}
+use Rattle.wsm_machine.proofs.FittingStacks.{no}
 use Rattle.wsm_compiler.proofs.Conditions.{condition_fits, columns_fit, where_faults}
-use Rattle.wsm_compiler.proofs.Folding.{acc_fits, accs_fit, update_faults}
-use Rattle.wsm_compiler.proofs.Firing.{fire_faults}
+use Rattle.wsm_compiler.proofs.UpdateFaults.{acc_fits, accs_fit, update_faults}
+use Rattle.wsm_compiler.proofs.FireFaults.{fire_faults}
 use Rattle.wsm_compiler.proofs.Checked.{Fine, fine}
 use Rattle.wsm_compiler.proofs.Visits.{some_or}
 

@@ -18,11 +18,11 @@ use Rattle.wsm_compiler.specs.Program.{stated, needed_of, program_of}
 use Rattle.wsm_compiler.specs.Runs.{cell}
 use Rattle.wsm_compiler.specs.Sections.{Leaves, in_bounds, condition_value, on_stack, fired_stack}
 use Rattle.wsm_compiler.specs.Folded.{Hold, MeansTheSame, FireMeans}
-use Rattle.wsm_compiler.proofs.Finding.{get_left, get_right}
+use Rattle.wsm_compiler.proofs.ExpressionRanges.{get_left, get_right}
 use Rattle.wsm_compiler.proofs.Conditions.{in_condition}
-use Rattle.wsm_compiler.proofs.Firing.{accs_are}
+use Rattle.wsm_compiler.proofs.FireFaults.{accs_are}
 use Rattle.wsm_compiler.proofs.SectionRuns.{fire_runs}
-use Rattle.wsm_check.proofs.Passing.{length-accumulators_of}
+use Rattle.wsm_check.proofs.PassedChecks.{length-accumulators_of}
 
 -- on records an aggregate's number doesn't matter
 pub free : (q : Query) (key : ℕ) (records : List (List Value)) (a b : ℕ) (e : Expr) →

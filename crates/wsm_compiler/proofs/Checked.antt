@@ -14,12 +14,12 @@ use Rattle.wsm_check.specs.Types.{Typed, wanted, if_typed, op_ty, typed, typed_c
 use Rattle.wsm_check.specs.declared.types.Around.{Around}
 use Rattle.wsm_check.specs.declared.types.Around.TheVariants.{InWhere, InColumn, InAggregate}
 use Rattle.wsm_check.specs.Checks.{first, typed_refusal, condition_refusal, columns_refusal, IsChecked}
-use Rattle.wsm_machine.proofs.Fitting.{no}
+use Rattle.wsm_machine.proofs.FittingStacks.{no}
 use Rattle.wsm_compiler.proofs.Passed.{is_refusal, passed}
-use Rattle.wsm_compiler.proofs.Finding.{entered_is, unary_is, two_types, if_types, logic_types}
+use Rattle.wsm_compiler.proofs.ExpressionRanges.{entered_is, unary_is, two_types, if_types, logic_types}
 use Rattle.wsm_compiler.proofs.Conditions.{ConditionTyped, ColumnsTyped}
-use Rattle.wsm_compiler.proofs.Folding.{AccsTyped}
-use Rattle.wsm_check.proofs.Following.{passed_both}
+use Rattle.wsm_compiler.proofs.UpdateFaults.{AccsTyped}
+use Rattle.wsm_check.proofs.ChecksInOrder.{passed_both}
 
 typed_none : (p : Part) (x : Typed) → typed_refusal p x ≡ None → (t : CellType) × (x ≡ Ok t)
 typed_none p (Ok t) h = (t, refl)

@@ -20,20 +20,20 @@ use Rattle.wsm_check.specs.Parts.{type_or_int}
 use Rattle.wsm_compiler.specs.Program.{program_stating, program_of, stated, needed_of}
 use Rattle.wsm_compiler.specs.Labelled.{known_as, ColumnLabels, LabelsAreRanges}
 use Rattle.wsm_compiler.proofs.Visits.{nil_right, extended, added, extended_is, visits_are}
-use Rattle.wsm_machine.proofs.Fitting.{no}
+use Rattle.wsm_machine.proofs.FittingStacks.{no}
 use Rattle.wsm_compiler.proofs.Parts.{Comes, Labels, shorter, continued}
 use Rattle.wsm_compiler.proofs.Tests.{with_known, pushed_on}
 use Rattle.wsm_compiler.proofs.Sizes.{length-code, some_size, some_code}
-use Rattle.wsm_compiler.proofs.Suiting.{suits, known_of}
-use Rattle.wsm_compiler.proofs.Finding.{Reads, Accs, accs_left, accs_right, range_suits, found_is}
-use Rattle.wsm_compiler.proofs.Labelling.{labelled}
-use Rattle.wsm_compiler.proofs.Reading.{reads_fire}
+use Rattle.wsm_compiler.proofs.FoundRanges.{suits, known_of}
+use Rattle.wsm_compiler.proofs.ExpressionRanges.{Reads, Accs, accs_left, accs_right, range_suits, found_is}
+use Rattle.wsm_compiler.proofs.CodeLabels.{labelled}
+use Rattle.wsm_compiler.proofs.KnownFields.{reads_fire}
 use Rattle.wsm_compiler.proofs.Conditions.{in_condition, condition_fits, ColumnsTyped, columns_fit, some_columns, length-columns}
 use Rattle.wsm_compiler.proofs.Folded.{all_values}
-use Rattle.wsm_compiler.proofs.Firing.{firing, accs_known, accs_are}
+use Rattle.wsm_compiler.proofs.FireFaults.{firing, accs_known, accs_are}
 use Rattle.wsm_compiler.proofs.Checked.{fine}
 use Rattle.wsm_compiler.proofs.Accepted.{accs_of_all, fired_fit, all_fit}
-use Rattle.wsm_check.proofs.Passing.{length-accumulators_of}
+use Rattle.wsm_check.proofs.PassedChecks.{length-accumulators_of}
 
 known_is : (t : CellType) (r : Range) → suits t r ≡ true → fits r ≡ true → known_of t r ≡ Some (known_as t r)
 known_is t Unfit h l = no l

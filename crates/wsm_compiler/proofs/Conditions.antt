@@ -24,19 +24,19 @@ use Rattle.wsm_compiler.specs.Code.{code, condition_code, columns_code}
 use Rattle.wsm_compiler.specs.Ranges.{Range, Unfit, NoNumber, Within, range, fits}
 use Rattle.wsm_check.specs.Parts.{type_or_int}
 use Rattle.wsm_compiler.specs.Program.{column_type, program_stating}
-use Rattle.wsm_machine.proofs.Fitting.{no, type_known}
-use Rattle.wsm_machine.proofs.Giving.{same_type_is}
-use Rattle.wsm_machine.proofs.Returning.{column_is}
+use Rattle.wsm_machine.proofs.FittingStacks.{no, type_known}
+use Rattle.wsm_machine.proofs.PushedValues.{same_type_is}
+use Rattle.wsm_machine.proofs.ReturnedStacks.{column_is}
 use Rattle.wsm_compiler.proofs.Hulls.{type_self}
 use Rattle.wsm_compiler.proofs.Tests.{with_known}
 use Rattle.wsm_compiler.proofs.Sizes.{length-code, some_size, some_need, some_code}
 use Rattle.wsm_compiler.proofs.Found.{found, push_bool}
-use Rattle.wsm_compiler.proofs.Suiting.{suits, known_of, known_truth, known_has}
-use Rattle.wsm_compiler.proofs.Finding.{Reads, Accs, AccsIn, accs_left, accs_right, range_suits, found_is}
-use Rattle.wsm_compiler.proofs.Labelling.{labelled}
-use Rattle.wsm_compiler.proofs.Ending.{Ends, or_behind, follow_ends, return_ends, whole_section}
-use Rattle.wsm_compiler.proofs.Reading.{in_column, reads_where}
-use Rattle.wsm_check.proofs.Passing.{length-accumulators_of}
+use Rattle.wsm_compiler.proofs.FoundRanges.{suits, known_of, known_truth, known_has}
+use Rattle.wsm_compiler.proofs.ExpressionRanges.{Reads, Accs, AccsIn, accs_left, accs_right, range_suits, found_is}
+use Rattle.wsm_compiler.proofs.CodeLabels.{labelled}
+use Rattle.wsm_compiler.proofs.SectionEnds.{Ends, or_behind, follow_ends, return_ends, whole_section}
+use Rattle.wsm_compiler.proofs.KnownFields.{in_column, reads_where}
+use Rattle.wsm_check.proofs.PassedChecks.{length-accumulators_of}
 
 abbrev pub condition_fits : Query → Option Expr → Bool
 condition_fits q None = true

@@ -18,7 +18,7 @@ use Rattle.wsm_check.specs.Checks.{in_range, is_count, is_span, is_time, is_cost
 use Rattle.wsm_check.specs.Sizes.{Acc, accumulators, size, condition_size, folds_size, columns_size}
 use Rattle.wsm_compiler.specs.Longest.{longest, longest_condition, longest_folds, longest_columns, needed_by_structure}
 use Rattle.wsm_compiler.specs.Program.{needed_of, stated}
-use Rattle.wsm_machine.proofs.Fitting.{no}
+use Rattle.wsm_machine.proofs.FittingStacks.{no}
 use Rattle.wsm_compiler.proofs.Longest.{needed_is}
 use Rattle.wsm_compiler.proofs.Passed.{Passed}
 

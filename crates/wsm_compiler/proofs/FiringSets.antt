@@ -26,7 +26,7 @@ use Rattle.wsm_semantics.specs.Firings.{Firing, firing_set, is_enough, kind_on_r
 use Rattle.wsm_semantics.specs.Relation.{candidates, greatest_of, standing, is_within}
 use Rattle.wsm_semantics.proofs.SelectedRecords.{selected_count}
 use Rattle.wsm_semantics.proofs.Lists.{filter-all, put-all}
-use Rattle.wsm_machine.proofs.Firing.{enough_some}
+use Rattle.wsm_machine.proofs.SoundFirings.{enough_some}
 use Rattle.wsm_compiler.proofs.Parts.{none≢some}
 
 pub all_joined : {A : Type 0} (P : A → Type 0) (xs ys : List A) → AllByRecursion P xs → AllByRecursion P ys → AllByRecursion P (xs ++ ys)

@@ -27,17 +27,17 @@ use Rattle.wsm_compiler.specs.Code.{code, choice, instruction, folds, update_sec
 use Rattle.wsm_compiler.specs.Ranges.{Range, Unfit, NoNumber, Within, of_aggregate, range, fits}
 use Rattle.wsm_compiler.specs.Program.{program_stating}
 use Rattle.wsm_compiler.proofs.Visits.{extended, added, added_append, visits_are}
-use Rattle.wsm_machine.proofs.Fitting.{no}
+use Rattle.wsm_machine.proofs.FittingStacks.{no}
 use Rattle.wsm_compiler.proofs.Parts.{Comes, Labels, continued, shorter, visit_is}
 use Rattle.wsm_compiler.proofs.Tests.{with_known, pushed_on}
 use Rattle.wsm_compiler.proofs.Sizes.{length-code, some_code}
 use Rattle.wsm_compiler.proofs.Found.{found}
-use Rattle.wsm_compiler.proofs.Suiting.{suits, known_of}
-use Rattle.wsm_compiler.proofs.Finding.{range_suits, found_is}
-use Rattle.wsm_compiler.proofs.Labelling.{labelled}
-use Rattle.wsm_compiler.proofs.Reading.{reads_update}
-use Rattle.wsm_compiler.proofs.Folding.{folded_so, set_next, unset, takes, if_takes, updating, behind_fold, fold_one, acc_fits, accs_fit, AccsTyped, KindsAt, no_accs, some_folds, some_folds_size, length-folds, entry_is, all_kinds}
-use Rattle.wsm_semantics.proofs.Merging.{unlike_newer}
+use Rattle.wsm_compiler.proofs.FoundRanges.{suits, known_of}
+use Rattle.wsm_compiler.proofs.ExpressionRanges.{range_suits, found_is}
+use Rattle.wsm_compiler.proofs.CodeLabels.{labelled}
+use Rattle.wsm_compiler.proofs.KnownFields.{reads_update}
+use Rattle.wsm_compiler.proofs.UpdateFaults.{folded_so, set_next, unset, takes, if_takes, updating, behind_fold, fold_one, acc_fits, accs_fit, AccsTyped, KindsAt, no_accs, some_folds, some_folds_size, length-folds, entry_is, all_kinds}
+use Rattle.wsm_semantics.proofs.MergedRecords.{unlike_newer}
 use Rattle.wsm_semantics.proofs.Each.{itself}
 
 -- ---- only folds fold

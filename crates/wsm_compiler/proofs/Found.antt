@@ -19,10 +19,10 @@ use Rattle.wsm_verifier.specs.Labels.{State, pushed, of_one, of_two}
 use Rattle.wsm_program.specs.Instructions.{may_stand}
 use Rattle.wsm_verifier.specs.Rules.{Setting, types_fit, has_zero, and_then}
 use Rattle.wsm_compiler.specs.Code.{instruction}
-use Rattle.wsm_machine.proofs.Fitting.{no}
+use Rattle.wsm_machine.proofs.FittingStacks.{no}
 use Rattle.wsm_compiler.proofs.Parts.{none≢some, Labelled, sequence}
 use Rattle.wsm_compiler.proofs.Tests.{stacked, with_known, pushed_on, acting}
-use Rattle.wsm_compiler.proofs.Choosing.{hulled}
+use Rattle.wsm_compiler.proofs.Choices.{hulled}
 
 abbrev pub head_of : Option (List Known) → Option Known
 head_of None = None

@@ -10,8 +10,8 @@ use Rattle.wsm_verifier.specs.declared.known.Known.{Known}
 use Rattle.wsm_verifier.specs.declared.known.Known.TheVariants.{Number, Truth, NameOf}
 use Rattle.wsm_verifier.specs.Labels.{State, Label, Unreached, Differing, Reached, same_type, same_types, same_flags, agree, hull_known, hull_stacks, hull_states, label_with, hull_all}
 use Rattle.wsm_semantics.proofs.Each.{itself}
-use Rattle.wsm_machine.proofs.Fitting.{no}
-use Rattle.wsm_machine.proofs.Gathering.{flags_are}
+use Rattle.wsm_machine.proofs.FittingStacks.{no}
+use Rattle.wsm_machine.proofs.EdgeLabels.{flags_are}
 
 min_self : (a : ℤ) → int_min a a ≡ a
 min_self a = omega (arith, ints, clamps)

@@ -29,16 +29,16 @@ use Rattle.wsm_compiler.specs.Code.{where_section, update_section, fire_section}
 use Rattle.wsm_check.specs.Spelt.{numbers_fit, IsSpelt}
 use Rattle.wsm_compiler.specs.Lawful.{IsLawful}
 use Rattle.wsm_compiler.specs.Program.{column_type, every, stated, needed_of, program_of}
-use Rattle.wsm_machine.proofs.Fitting.{no}
+use Rattle.wsm_machine.proofs.FittingStacks.{no}
 use Rattle.wsm_compiler.proofs.Sized.{sizes_are_lengths}
-use Rattle.wsm_compiler.proofs.Reading.{in_column}
+use Rattle.wsm_compiler.proofs.KnownFields.{in_column}
 use Rattle.wsm_compiler.proofs.Passed.{Passed, passed, unless_none}
 use Rattle.wsm_compiler.proofs.Checked.{Fine, fine}
-use Rattle.wsm_compiler.proofs.Naming.{names_listed}
+use Rattle.wsm_compiler.proofs.DeclaredNames.{names_listed}
 use Rattle.wsm_compiler.proofs.Operands.{condition_numbers, condition_aggregates, columns_aggregates, operands_fit, condition_fine, folds_fine, columns_fine, columns_named}
 use Rattle.wsm_compiler.proofs.Costs.{budget_is}
-use Rattle.wsm_check.proofs.Following.{passed_both}
-use Rattle.wsm_check.proofs.Passing.{length-accumulators_of}
+use Rattle.wsm_check.proofs.ChecksInOrder.{passed_both}
+use Rattle.wsm_check.proofs.PassedChecks.{length-accumulators_of}
 
 -- ---- the schema
 

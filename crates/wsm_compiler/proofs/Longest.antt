@@ -15,7 +15,7 @@ use Rattle.wsm_check.specs.Names.{place_of, field_place, type_of, names_of}
 use Rattle.wsm_check.specs.Sizes.{Acc, accumulators, aggregates, size}
 use Rattle.wsm_compiler.specs.Code.{instruction, choice, code, condition_code, where_section, folds, update_section, columns_code, fire_section}
 use Rattle.wsm_compiler.specs.Longest.{longest, longest_condition, longest_where, longest_folds, longest_columns, needed_by_structure, NeededByStructure}
-use Rattle.wsm_machine.proofs.Fitting.{no}
+use Rattle.wsm_machine.proofs.FittingStacks.{no}
 use Rattle.wsm_compiler.proofs.Tests.{plain, plain_next}
 use Rattle.wsm_compiler.proofs.Sizes.{length-code}
 

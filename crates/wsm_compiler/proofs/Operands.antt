@@ -29,13 +29,13 @@ use Rattle.wsm_compiler.specs.Code.{code, choice, instruction, condition_code, f
 use Rattle.wsm_check.specs.Spelt.{numbers_fit}
 use Rattle.wsm_check.specs.Parts.{type_or_int}
 use Rattle.wsm_compiler.specs.Program.{column_type, program_stating}
-use Rattle.wsm_machine.proofs.Fitting.{no}
-use Rattle.wsm_compiler.proofs.Suiting.{ok_is, result_of}
-use Rattle.wsm_compiler.proofs.Finding.{cond_ok, field_is, entered_is, op_is, two_types, if_types, logic_types, unary_is}
-use Rattle.wsm_compiler.proofs.Reading.{declared, in_column, of_cond}
+use Rattle.wsm_machine.proofs.FittingStacks.{no}
+use Rattle.wsm_compiler.proofs.FoundRanges.{ok_is, result_of}
+use Rattle.wsm_compiler.proofs.ExpressionRanges.{cond_ok, field_is, entered_is, op_is, two_types, if_types, logic_types, unary_is}
+use Rattle.wsm_compiler.proofs.KnownFields.{declared, in_column, of_cond}
 use Rattle.wsm_compiler.proofs.Conditions.{ConditionTyped, ColumnsTyped}
-use Rattle.wsm_compiler.proofs.Folding.{AccsTyped}
-use Rattle.wsm_compiler.proofs.Naming.{place_below, field_below, names_there, name_there}
+use Rattle.wsm_compiler.proofs.UpdateFaults.{AccsTyped}
+use Rattle.wsm_compiler.proofs.DeclaredNames.{place_below, field_below, names_there, name_there}
 
 abbrev pub condition_numbers : Option Expr → Bool
 condition_numbers None = true

@@ -8,7 +8,7 @@ use Rattle.wsm_program.specs.Instructions.{next}
 use Rattle.wsm_verifier.specs.Labels.{State, Ranges, Label, Reached, Visit, after, carried_to, hull_all, gathered, label_of, visit, visit_of}
 use Rattle.wsm_verifier.specs.Rules.{Setting, fault_of, fault_at, and_then}
 use Rattle.wsm_compiler.proofs.Visits.{nil_right, both_empty, extended, added, extended_is, added_append, length-extended, carries, carries_append, label_gathered, faults, faults_append, or_true}
-use Rattle.wsm_machine.proofs.Fitting.{no}
+use Rattle.wsm_machine.proofs.FittingStacks.{no}
 
 pub none≢some : {A X : Type 0} {a : A} → None ≡ Some a → X
 none≢some {A} {X} {a} e = let tag : Option A → Bool = λ o. elim o [ None ↦ false | Some x ↦ true ] in no (ap tag e)

@@ -12,8 +12,8 @@ use Rattle.wsm_check.specs.declared.refusal.CheckRefusal.{CheckRefusal}
 use Rattle.wsm_check.specs.Sizes.{accumulators, where_size, update_size, fire_size, stack_need}
 use Rattle.wsm_check.specs.declared.types.Around.TheVariants.{InWhere, InColumn}
 use Rattle.wsm_check.specs.Checks.{unless, first, names_refusal, fields_refusal, clock_fits, budget_fits, shape_fits, every_fits, may_emit, condition_refusal, columns_refusal, code_fits, IsChecked}
-use Rattle.wsm_machine.proofs.Fitting.{no}
-use Rattle.wsm_check.proofs.Following.{passed_both}
+use Rattle.wsm_machine.proofs.FittingStacks.{no}
+use Rattle.wsm_check.proofs.ChecksInOrder.{passed_both}
 
 abbrev pub is_refusal : Option CheckRefusal → Bool
 is_refusal None = false

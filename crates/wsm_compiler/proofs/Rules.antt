@@ -9,7 +9,7 @@ use Rattle.wsm_tokens.specs.Tokens.{Word, Mark, Number, Tokens, Then, End, Bad, 
 use Rattle.wsm_tokens.specs.Proper.{is_proper, has_proper}
 use Rattle.wsm_tokens.specs.Read.{Read, Rule, Took, Stopped, ◌>>=◌, give, and_then, unexpected, begins, behind, count, ask, number, name}
 use Rattle.wsm_query.specs.Grammar.{looked_up, one_of, either, at, after, until, optional, turns, brace, list_of}
-use Rattle.wsm_machine.proofs.Fitting.{no}
+use Rattle.wsm_machine.proofs.FittingStacks.{no}
 
 abbrev pub Proper : Tokens → Type 0
 Proper ts = has_proper ts ≡ true

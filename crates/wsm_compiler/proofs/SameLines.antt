@@ -32,7 +32,7 @@ use Rattle.wsm_compiler.specs.SameMeaning.{record_in_range, IsPane, IsAccepted}
 use Rattle.wsm_compiler.specs.Accepted.{states_enough}
 use Rattle.wsm_compiler.specs.Ranges.{ranges_fit}
 use Rattle.wsm_compiler.specs.SameLines.{SameLines, TextMeans}
-use Rattle.wsm_machine.proofs.Fitting.{no}
+use Rattle.wsm_machine.proofs.FittingStacks.{no}
 use Rattle.wsm_compiler.proofs.Accepted.{accepted_exactly}
 use Rattle.wsm_compiler.proofs.Texts.{parsed_is_spelt}
 use Rattle.wsm_compiler.proofs.Passed.{passed}

@@ -31,20 +31,20 @@ use Rattle.wsm_compiler.specs.Program.{column_type, program_stating, stated, nee
 use Rattle.wsm_compiler.specs.Runs.{of_ty, cell, Serves, ServesAccs, state, topped, Gives, StandsAt}
 use Rattle.wsm_compiler.specs.Sections.{in_bounds, condition_value, Leaves, on_stack, fired_stack, WhereRuns, FireRuns}
 use Rattle.wsm_compiler.proofs.Visits.{nil_right}
-use Rattle.wsm_machine.proofs.Fitting.{no}
-use Rattle.wsm_machine.proofs.Returning.{are_types-same}
+use Rattle.wsm_machine.proofs.FittingStacks.{no}
+use Rattle.wsm_machine.proofs.ReturnedStacks.{are_types-same}
 use Rattle.wsm_compiler.proofs.Parts.{none≢some}
-use Rattle.wsm_compiler.proofs.Reading.{in_column}
+use Rattle.wsm_compiler.proofs.KnownFields.{in_column}
 use Rattle.wsm_compiler.proofs.Sizes.{some_size}
 use Rattle.wsm_compiler.proofs.Conditions.{ConditionTyped, ColumnsTyped, in_condition, length-condition, length-columns}
 use Rattle.wsm_compiler.proofs.Checked.{fine}
-use Rattle.wsm_compiler.proofs.Firing.{accs_are}
+use Rattle.wsm_compiler.proofs.FireFaults.{accs_are}
 use Rattle.wsm_compiler.proofs.Bounded.{bounded_is}
 use Rattle.wsm_compiler.proofs.Values.{value_has, serves_left, serves_right}
 use Rattle.wsm_compiler.proofs.Machine.{push_bool}
-use Rattle.wsm_compiler.proofs.Running.{split_code, code_runs}
-use Rattle.wsm_compiler.proofs.Serving.{serves_where, serves_fire, serves_accs}
-use Rattle.wsm_compiler.proofs.Choosing.{not_under}
+use Rattle.wsm_compiler.proofs.ExpressionRuns.{split_code, code_runs}
+use Rattle.wsm_compiler.proofs.InputMeanings.{serves_where, serves_fire, serves_accs}
+use Rattle.wsm_compiler.proofs.Choices.{not_under}
 
 -- ---- a section stands in itself
 

@@ -7,7 +7,7 @@ use Rattle.wsm_compiler.specs.Code.{condition_code}
 use Rattle.wsm_compiler.specs.Program.{stated, needed_of}
 use Rattle.wsm_compiler.specs.Sized.{SizesAreLengths}
 use Rattle.wsm_compiler.proofs.Conditions.{length-condition, length-columns}
-use Rattle.wsm_compiler.proofs.Folding.{length-folds}
+use Rattle.wsm_compiler.proofs.UpdateFaults.{length-folds}
 
 pub sizes_are_lengths : (q : Query) → SizesAreLengths q
 sizes_are_lengths q = (

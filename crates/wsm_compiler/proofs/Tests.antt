@@ -13,7 +13,7 @@ use Rattle.wsm_verifier.specs.declared.known.Known.{Known}
 use Rattle.wsm_program.specs.Instructions.{next, may_stand, bad_jump, goes_on}
 use Rattle.wsm_verifier.specs.Labels.{State, Reached, pops, pushed, folded_after}
 use Rattle.wsm_verifier.specs.Rules.{Setting, types_fit, folds_again, may_divide_by_zero, accumulator_leaves, overflows, fold_missing, first_of, tests, fault_of}
-use Rattle.wsm_machine.proofs.Fitting.{no}
+use Rattle.wsm_machine.proofs.FittingStacks.{no}
 use Rattle.wsm_compiler.proofs.Parts.{none≢some, Labelled, one}
 
 any_test : (ts : List (Rule × Bool)) → is_some (first_of ts) ≡ list_any (λ t. t.1) ts

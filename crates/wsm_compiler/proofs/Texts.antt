@@ -22,7 +22,7 @@ use Rattle.wsm_query.specs.Parse.{query_text, outcome, parse}
 use Rattle.wsm_check.specs.Sizes.{in_option}
 use Rattle.wsm_check.specs.Spelt.{numbers_fit, IsSpelt}
 use Rattle.wsm_compiler.specs.Lawful.{ParsedIsSpelt}
-use Rattle.wsm_compiler.proofs.Suiting.{err≢ok}
+use Rattle.wsm_compiler.proofs.FoundRanges.{err≢ok}
 use Rattle.wsm_compiler.proofs.Rules.{Proper, Sound, Gives, Anything, behind_proper, gives, goes_on, asks, eithers, sees, afters, untils, clauses, optionals, braces, lists, words, IsName, IsNumber, names_are, numbers_are}
 
 -- ---- numbers

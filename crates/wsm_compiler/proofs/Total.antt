@@ -22,8 +22,8 @@ use Rattle.wsm_machine.specs.InRange.{in_range, are_folded_in}
 use Rattle.wsm_machine.specs.Run.{run}
 use Rattle.wsm_machine.specs.Meaning as program
 use Rattle.wsm_machine.specs.Meaning.{record_inputs, where_run, update_run, is_done, top_is_true, updated}
-use Rattle.wsm_machine.proofs.Completing.{completes}
-use Rattle.wsm_machine.proofs.Leaving.{folds, values_are}
+use Rattle.wsm_machine.proofs.CompleteRuns.{completes}
+use Rattle.wsm_machine.proofs.EndedRuns.{folds, values_are}
 use Rattle.wsm_query.specs.Tree.{Query, Expr}
 use Rattle.wsm_record.specs.declared.words.CellType.TheVariants as types
 use Rattle.wsm_check.specs.Sizes.{Acc, accumulators, in_option}
@@ -32,7 +32,7 @@ use Rattle.wsm_compiler.specs.Program.{schema_of, program_of}
 use Rattle.wsm_compiler.specs.Runs.{cell}
 use Rattle.wsm_compiler.specs.Sections.{in_bounds, condition_value, folded_values, on_stack, Traps, Leaves, Folds, record_fits}
 use Rattle.wsm_compiler.specs.SameMeaning.{IsAccepted, record_in_range, HasValue, TotalOnRecords}
-use Rattle.wsm_machine.proofs.Fitting.{no}
+use Rattle.wsm_machine.proofs.FittingStacks.{no}
 use Rattle.wsm_compiler.proofs.Parts.{none≢some}
 use Rattle.wsm_compiler.proofs.Lawful.{is_lawful}
 use Rattle.wsm_compiler.proofs.SectionRuns.{where_runs}

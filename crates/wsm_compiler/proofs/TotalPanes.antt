@@ -22,7 +22,7 @@ use Rattle.wsm_machine.specs.InRange.{in_range, is_word, are_folded_in, accs_in}
 use Rattle.wsm_machine.specs.Sound.{AreFolds}
 use Rattle.wsm_machine.specs.Meaning as program
 use Rattle.wsm_machine.specs.Meaning.{pane_inputs, fire_run, updated, updated_all}
-use Rattle.wsm_machine.proofs.Sounding.{may_fire}
+use Rattle.wsm_machine.proofs.SoundAccumulators.{may_fire}
 use Rattle.wsm_machine.proofs.Words.{updated_words}
 use Rattle.wsm_query.specs.Tree.{Query, Expr}
 use Rattle.wsm_record.specs.declared.words.CellType.TheVariants as types
@@ -35,10 +35,10 @@ use Rattle.wsm_compiler.specs.Sections.{in_bounds, condition_value, on_stack, fi
 use Rattle.wsm_compiler.specs.Folded.{AreUpdates}
 use Rattle.wsm_compiler.specs.SameMeaning.{IsAccepted, record_in_range, IsPane, HasValue, UpdatesHold, TotalOnPanes, AreOfKey, StandsForMeant}
 use Rattle.wsm_compiler.proofs.Visits.{nil_right}
-use Rattle.wsm_machine.proofs.Accumulating.{accs_types}
+use Rattle.wsm_machine.proofs.AccumulatorRanges.{accs_types}
 use Rattle.wsm_compiler.proofs.Parts.{none≢some}
 use Rattle.wsm_compiler.proofs.Aggregated.{free, fire_means}
-use Rattle.wsm_compiler.proofs.Holding.{folds_hold}
+use Rattle.wsm_compiler.proofs.ColumnFolds.{folds_hold}
 use Rattle.wsm_compiler.proofs.Total.{costs_of, ends, left, has_value, in_bounds_is, condition_has, says, selects_same, updated_is, updated_in}
 
 -- ---- the stack that FIRE leaves

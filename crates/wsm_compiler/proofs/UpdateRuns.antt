@@ -28,15 +28,15 @@ use Rattle.wsm_compiler.specs.Program.{program_stating, stated, needed_of, progr
 use Rattle.wsm_compiler.specs.Runs.{of_ty, cell, ServesAccs, state, topped, Gives, StandsAt}
 use Rattle.wsm_compiler.specs.Sections.{record_fits, in_bounds, folded_values, Folds, UpdateRuns}
 use Rattle.wsm_compiler.proofs.Visits.{nil_right}
-use Rattle.wsm_machine.proofs.Fitting.{no}
-use Rattle.wsm_compiler.proofs.Reading.{in_column}
+use Rattle.wsm_machine.proofs.FittingStacks.{no}
+use Rattle.wsm_compiler.proofs.KnownFields.{in_column}
 use Rattle.wsm_compiler.proofs.Checked.{fine}
-use Rattle.wsm_compiler.proofs.Folding.{AccsTyped, length-folds, some_folds_size}
+use Rattle.wsm_compiler.proofs.UpdateFaults.{AccsTyped, length-folds, some_folds_size}
 use Rattle.wsm_compiler.proofs.Machine.{run_goes, gives_on}
-use Rattle.wsm_compiler.proofs.Running.{split_code}
-use Rattle.wsm_compiler.proofs.Serving.{serves_update}
+use Rattle.wsm_compiler.proofs.ExpressionRuns.{split_code}
+use Rattle.wsm_compiler.proofs.InputMeanings.{serves_update}
 use Rattle.wsm_compiler.proofs.SectionRuns.{stands_all, return_ends, code_means, means_has}
-use Rattle.wsm_compiler.proofs.Choosing.{has_one}
+use Rattle.wsm_compiler.proofs.Choices.{has_one}
 
 -- ---- accumulators, of which the first are folded
 

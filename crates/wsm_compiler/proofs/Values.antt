@@ -21,10 +21,10 @@ use Rattle.wsm_machine.specs.Step.{Setting}
 use Rattle.wsm_compiler.specs.Meaning.{Scene, on_numbers, on_same, on_two, both, minus, negated, chosen}
 use Rattle.wsm_compiler.specs.Bounded.{kept, bounded_from}
 use Rattle.wsm_compiler.specs.Runs.{of_ty, Serves, ServesAccs}
-use Rattle.wsm_machine.proofs.Fitting.{no}
-use Rattle.wsm_compiler.proofs.Suiting.{ok_is, op_typed, result_of}
-use Rattle.wsm_compiler.proofs.Finding.{cond_ok, entered_is, op_is, two_types, if_types, logic_types, unary_is, get_left, get_right}
-use Rattle.wsm_check.proofs.Passing.{length-accumulators_of}
+use Rattle.wsm_machine.proofs.FittingStacks.{no}
+use Rattle.wsm_compiler.proofs.FoundRanges.{ok_is, op_typed, result_of}
+use Rattle.wsm_compiler.proofs.ExpressionRanges.{cond_ok, entered_is, op_is, two_types, if_types, logic_types, unary_is, get_left, get_right}
+use Rattle.wsm_check.proofs.PassedChecks.{length-accumulators_of}
 
 -- ---- accumulators of parts
 

@@ -22,7 +22,7 @@ use Rattle.wsm_semantics.specs.Steps as steps
 use Rattle.wsm_semantics.specs.Steps.{answer_to, fired_by, run, step_fires}
 use Rattle.wsm_semantics.proofs.Lists.{all-each}
 use Rattle.wsm_semantics.proofs.Each.{map-all}
-use Rattle.wsm_semantics.proofs.Stepping.{decision-fits}
+use Rattle.wsm_semantics.proofs.MachineSteps.{decision-fits}
 use Rattle.wsm_semantics.proofs.KeptPanes as panes_kept
 use Rattle.wsm_program.specs.declared.instr.SectionId.TheVariants.{Fire}
 use Rattle.wsm_program.specs.Program.{Program, is_program}
@@ -33,15 +33,15 @@ use Rattle.wsm_machine.specs.Meaning.{query_of, plan_of, selects, pane_inputs, f
 use Rattle.wsm_machine.specs.Sound.{MayFire}
 use Rattle.wsm_machine.specs.Step.{setting}
 use Rattle.wsm_machine.proofs.Runs.{steps_at_most}
-use Rattle.wsm_machine.proofs.Firing.{step_fires_may}
+use Rattle.wsm_machine.proofs.SoundFirings.{step_fires_may}
 use Rattle.wsm_machine.proofs.Histories as histories
 use Rattle.wsm_firing.specs.Firing.{CanFire}
 use Rattle.wsm_firing.specs.ByRecord.{CanFireByRecord, fires_by_record}
 use Rattle.wsm_firing.specs.ByWatermark.{CanFireByWatermark, fires_by_watermark}
 use Rattle.wsm_panes.specs.Held.{session_entered}
 use Rattle.wsm_engine.proofs.Limits.{panes_few}
-use Rattle.wsm_engine.proofs.Holding.{Panes, kept_panes, kept_within}
-use Rattle.wsm_engine.proofs.Entering.{now, now_within, timely}
+use Rattle.wsm_engine.proofs.HeldByHistory.{Panes, kept_panes, kept_within}
+use Rattle.wsm_engine.proofs.RecordRoom.{now, now_within, timely}
 use Rattle.wsm_engine.proofs.Inside.{inside_is}
 
 -- no more fire than there are panes

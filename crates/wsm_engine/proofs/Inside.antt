@@ -38,8 +38,8 @@ use Rattle.wsm_verifier.proofs.Lawful.{lawful as program_lawful}
 use Rattle.wsm_machine.specs.Meaning.{query_of, plan_of, selects}
 use Rattle.wsm_panes.specs.Held.{session_entered}
 use Rattle.wsm_firing.specs.ByRecord.{is_among, places_entered}
-use Rattle.wsm_engine.proofs.Holding.{Panes, kept_panes}
-use Rattle.wsm_engine.proofs.Entering.{now, now_held}
+use Rattle.wsm_engine.proofs.HeldByHistory.{Panes, kept_panes}
+use Rattle.wsm_engine.proofs.RecordRoom.{now, now_held}
 
 -- where a session takes a record in, it is the session
 one_session : (same there linked : Bool) → (same ≡ true → there ≡ true) → (there ≡ true → linked ≡ true) → (old : Bool) → (same || (not linked && old)) ≡ true → there ≡ (same || false)

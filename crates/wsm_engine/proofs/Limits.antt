@@ -13,7 +13,7 @@ use Rattle.wsm_verifier.specs.Costs.{needed}
 use Rattle.wsm_verifier.specs.Rules.{judge}
 use Rattle.wsm_verifier.proofs.Lawful.{IsLawful, lawful as program_lawful, within}
 use Rattle.wsm_machine.specs.Meaning.{query_of}
-use Rattle.wsm_machine.proofs.Costing.{stated}
+use Rattle.wsm_machine.proofs.TurnCosts.{stated}
 
 header_lawful : (p : Program) → IsTrue (is_program p) → is_header p.header ≡ true
 unfolding is_program

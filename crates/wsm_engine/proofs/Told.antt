@@ -13,15 +13,15 @@ use Rattle.wsm_semantics.specs.Query.{Query}
 use Rattle.wsm_semantics.specs.Summaries.{Pane, Plan, all_fired, relation_of}
 use Rattle.wsm_semantics.proofs.RowsBound.{length-sorted_rows}
 use Rattle.wsm_firing.specs.Streams.{Standing, IsTold, AreAlike, CanAdvance, CanTell, relation_kept, standing_rows}
-use Rattle.wsm_firing.proofs.Streaming.{before_is, changed_none}
-use Rattle.wsm_firing.proofs.Standing.{few_rows}
+use Rattle.wsm_firing.proofs.StreamRows.{before_is, changed_none}
+use Rattle.wsm_firing.proofs.StandingRows.{few_rows}
 use Rattle.wsm_semantics.specs.HeldBounds.{most_panes}
 use Rattle.wsm_program.specs.Program.{Program}
 use Rattle.wsm_machine.specs.Meaning.{query_of}
 use Rattle.wsm_panes.specs.Held.{IsKept, entries_of}
 use Rattle.wsm_engine.specs.declared.runner.Runner.{Runner}
 use Rattle.wsm_engine.specs.Runner.{AreTold, IsOf, last_relation}
-use Rattle.wsm_engine.proofs.Holding.{Panes}
+use Rattle.wsm_engine.proofs.HeldByHistory.{Panes}
 
 pub last_is : (s : Standing) (es : Panes) (before : List (List Cell)) → IsTold s before (standing_rows es) → last_relation s es ≡ before
 last_is s es before told = before_is s.form s.numbers s.rows before (standing_rows es) told

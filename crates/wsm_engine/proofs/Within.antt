@@ -17,7 +17,7 @@ use Rattle.wsm_machine.proofs.Costs.{fired_costs_within}
 use Rattle.wsm_firing.specs.Tally.{greatest}
 use Rattle.wsm_engine.specs.State.{State}
 use Rattle.wsm_engine.specs.Meaning.{Fits}
-use Rattle.wsm_engine.proofs.Holding.{admitted, kept_sound, admitted_few}
+use Rattle.wsm_engine.proofs.HeldByHistory.{admitted, kept_sound, admitted_few}
 
 -- the greatest of some costs is at most their bound
 pub greatest_within : (f : Fired (List Value) → ℕ) (most : ℕ) (fs : List (Fired (List Value))) → AllByRecursion (λ x. f x ≤ most) fs → greatest (map f fs) ≤ most

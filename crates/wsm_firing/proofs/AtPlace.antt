@@ -17,7 +17,7 @@ use Rattle.wsm_semantics.specs.Summaries.{Plan, Pane, Fired, fired_count, fired_
 use Rattle.wsm_semantics.proofs.Tables.{find-keyed, is_sorted-keyed}
 use Rattle.wsm_panes.proofs.Sorted.{lesser}
 use Rattle.wsm_firing.specs.ByRecord.{kind_at}
-use Rattle.wsm_firing.proofs.Agreeing.{Kind, Entries, none_fires}
+use Rattle.wsm_firing.proofs.SameKinds.{Kind, Entries, none_fires}
 
 pub first_of : (a b : Bool) → T (a && b) → T a
 first_of true b t = tt

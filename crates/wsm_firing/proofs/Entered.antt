@@ -9,7 +9,7 @@ use Rattle.wsm_semantics.specs.Panes.{is_there}
 use Rattle.wsm_semantics.specs.Firings.{is_enough, kind_on_record}
 use Rattle.wsm_semantics.specs.Summaries.{Pane, Plan, all_fired, fires, kind_by_record}
 use Rattle.wsm_firing.specs.ByRecord.{is_among, kind_at}
-use Rattle.wsm_firing.proofs.Agreeing.{fires_same, fired_same}
+use Rattle.wsm_firing.proofs.SameKinds.{fires_same, fired_same}
 
 none_at_all : (a b : Bool) → cond a (cond b (cond false (Some Early) None) (cond false (Some Late) None)) None ≡ None
 none_at_all true true = refl

@@ -15,7 +15,7 @@ use Rattle.wsm_semantics.specs.Query.{Query}
 use Rattle.wsm_semantics.specs.Firings.{kind_on_record}
 use Rattle.wsm_semantics.specs.Summaries.{Plan, Pane, Fired, fired_of, fires, fired_pane, all_fired}
 use Rattle.wsm_firing.specs.ByRecord.{kind_at}
-use Rattle.wsm_firing.proofs.Agreeing.{Kind, Entries, none_fires}
+use Rattle.wsm_firing.proofs.SameKinds.{Kind, Entries, none_fires}
 use Rattle.wsm_firing.proofs.AtPlace.{first_of, second_of, one, none_behind}
 
 module _ {X : Type 0} (plan : Plan X) (q : Query) where

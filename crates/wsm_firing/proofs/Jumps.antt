@@ -17,7 +17,7 @@ use Rattle.wsm_panes.specs.Place.{is_kept}
 use Rattle.wsm_panes.specs.Walk.{first_past, place_due}
 use Rattle.wsm_panes.proofs.Ended.{ended, ended_passes, ends_in_order, past_nth}
 use Rattle.wsm_firing.specs.ByWatermark.{IsNextToFire}
-use Rattle.wsm_firing.proofs.Agreeing.{Entries}
+use Rattle.wsm_firing.proofs.SameKinds.{Entries}
 use Rattle.wsm_firing.proofs.AtPlace.{first_of, second_of}
 use Rattle.wsm_firing.proofs.Walk.{behind, fired_first, later_same, some_same}
 

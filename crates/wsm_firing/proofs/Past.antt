@@ -16,7 +16,7 @@ use Rattle.wsm_panes.proofs.Sorted.{lesser}
 use Rattle.wsm_panes.specs.Walk.{place_due}
 use Rattle.wsm_firing.proofs.AtPlace.{first_of, second_of}
 use Rattle.wsm_firing.proofs.Walk.{rest_at, rest_due}
-use Rattle.wsm_firing.proofs.Standing.{Folded, Panes}
+use Rattle.wsm_firing.proofs.StandingRows.{Folded, Panes}
 
 module _ (limit : ℤ) where
   -- the panes that are left

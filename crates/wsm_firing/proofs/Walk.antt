@@ -16,7 +16,7 @@ use Rattle.wsm_windows.specs.Places.{place_cmp}
 use Rattle.wsm_windows.proofs.Places.{places_total}
 use Rattle.wsm_semantics.specs.Query.{Query}
 use Rattle.wsm_semantics.specs.Summaries.{Plan, Pane, fired_of, fires, fired_pane, all_fired}
-use Rattle.wsm_firing.proofs.Agreeing.{Entries, none_fired}
+use Rattle.wsm_firing.proofs.SameKinds.{Entries, none_fired}
 use Rattle.wsm_panes.proofs.Sorted.{lesser}
 use Rattle.wsm_panes.specs.Walk.{following, place_due}
 use Rattle.wsm_panes.proofs.Walk.{following_nth}

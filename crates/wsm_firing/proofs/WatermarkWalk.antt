@@ -19,12 +19,12 @@ use Rattle.wsm_firing.specs.declared.tally.Tally.{Tally}
 use Rattle.wsm_firing.specs.Tally.{tally_of, tally_with}
 use Rattle.wsm_firing.specs.ByWatermark.{IsNextToFire, fires_by_watermark}
 use Rattle.wsm_firing.specs.Firing.{CanAdd, rows_of}
-use Rattle.wsm_firing.proofs.Agreeing.{none_fires}
+use Rattle.wsm_firing.proofs.SameKinds.{none_fires}
 use Rattle.wsm_firing.proofs.Behind as behind
-use Rattle.wsm_firing.proofs.Counting as counting
-use Rattle.wsm_firing.proofs.Counting.{ComesTo}
+use Rattle.wsm_firing.proofs.LeftToFire as counting
+use Rattle.wsm_firing.proofs.LeftToFire.{ComesTo}
 use Rattle.wsm_firing.proofs.Jumps.{fired_on, fires_on}
-use Rattle.wsm_firing.proofs.Standing.{Panes}
+use Rattle.wsm_firing.proofs.StandingRows.{Panes}
 use Rattle.wsm_firing.proofs.Walk as walk
 use Rattle.wsm_firing.proofs.Walk.{fired_first}
 

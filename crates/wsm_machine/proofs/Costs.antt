@@ -20,7 +20,7 @@ use Rattle.wsm_semantics.specs.Summaries.{Pane, summaries, summary_fired}
 use Rattle.wsm_semantics.specs.Replay.{datum}
 use Rattle.wsm_semantics.specs.Steps.{State, Fits, step_fires}
 use Rattle.wsm_semantics.proofs.Lists.{all-each}
-use Rattle.wsm_semantics.proofs.Stepping.{decision-fits}
+use Rattle.wsm_semantics.proofs.MachineSteps.{decision-fits}
 use Rattle.wsm_semantics.proofs.Steps.{fires-step}
 use Rattle.wsm_program.specs.Program.{Program, is_program}
 use Rattle.wsm_program.specs.declared.program.Costs.{Costs}
@@ -28,12 +28,12 @@ use Rattle.wsm_verifier.specs.Rules.{judge}
 use Rattle.wsm_verifier.proofs.Lawful.{lawful as program_lawful}
 use Rattle.wsm_machine.specs.Meaning.{query_of, plan_of, steps_among, record_steps, joins_held, CountsSessions, record_cost, record_cost_by, pane_cost, pane_cost_by, answer_cost, step_cost}
 use Rattle.wsm_machine.specs.Sound.{IsSoundState, MayFire}
-use Rattle.wsm_machine.proofs.Meaning.{plan_lawful, plan_runs}
+use Rattle.wsm_machine.proofs.QueryFolds.{plan_lawful, plan_runs}
 use Rattle.wsm_machine.proofs.SoundSteps.{record_in_range}
-use Rattle.wsm_machine.proofs.Costing.{record_cost_within}
-use Rattle.wsm_machine.proofs.Firing.{step_fires_may, fired_within}
-use Rattle.wsm_machine.proofs.Counting.{counts_sessions}
-use Rattle.wsm_machine.proofs.Telling.{cost_is, fired_cost_is}
+use Rattle.wsm_machine.proofs.TurnCosts.{record_cost_within}
+use Rattle.wsm_machine.proofs.SoundFirings.{step_fires_may, fired_within}
+use Rattle.wsm_machine.proofs.CountedSessions.{counts_sessions}
+use Rattle.wsm_machine.proofs.RunAnswers.{cost_is, fired_cost_is}
 
 -- no number of a turn is counted
 joins_turnless : (sh : Shape) (m n key : ℕ) (time : ℤ) (values : List Value) (panes : List (Place × Pane (List Value))) → joins_held sh (datum m key time values) panes ≡ joins_held sh (datum n key time values) panes

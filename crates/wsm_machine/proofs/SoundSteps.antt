@@ -20,7 +20,7 @@ use Rattle.wsm_admission.specs.declared.verdict.Refusal.TheVariants as refusal
 use Rattle.wsm_admission.specs.Clock.{verdict_at}
 use Rattle.wsm_admission.specs.Admission as admission
 use Rattle.wsm_admission.specs.Admission.{after, answer}
-use Rattle.wsm_admission.proofs.Keeping.{clock-after}
+use Rattle.wsm_admission.proofs.FittedHistory.{clock-after}
 use Rattle.wsm_admission.proofs.Taken.{IsTaken, taken_record}
 use Rattle.wsm_fold.specs.Accumulators.{SumsFit}
 use Rattle.wsm_semantics.specs.Query.{Datum}
@@ -39,8 +39,8 @@ use Rattle.wsm_verifier.proofs.Lawful as lawful_programs
 use Rattle.wsm_machine.specs.InRange.{in_range}
 use Rattle.wsm_machine.specs.Meaning.{pane_inputs, query_of, plan_of}
 use Rattle.wsm_machine.specs.Sound.{AreFoldsOf, IsSoundEntry, AreSound, IsSoundState, IsDatumInRange}
-use Rattle.wsm_machine.proofs.Sounding.{may_fire, parts_fit}
-use Rattle.wsm_machine.proofs.Holding.{sound_after_record, sound_after_watermark, sound_opened}
+use Rattle.wsm_machine.proofs.SoundAccumulators.{may_fire, parts_fit}
+use Rattle.wsm_machine.proofs.SoundPanes.{sound_after_record, sound_after_watermark, sound_opened}
 
 module _ (p : Program) (costs : Costs) (judged : judge p ≡ Ok costs) (lawful : IsTrue (is_program p)) where
   -- an admitted record is in range

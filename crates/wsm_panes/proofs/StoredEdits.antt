@@ -18,7 +18,7 @@ use Rattle.wsm_windows.specs.Places.{place_cmp}
 use Rattle.wsm_panes.proofs.Entries.{at_here}
 use Rattle.wsm_panes.specs.Walk.{place_due}
 use Rattle.wsm_panes.proofs.Laid.{held_within}
-use Rattle.wsm_panes.proofs.Removing.{one_out}
+use Rattle.wsm_panes.proofs.RemovedEntries.{one_out}
 use Rattle.wsm_panes.proofs.Stored.{in_drop, in_insert, in_remove, in_row, in_written, shown_at, shown_drop, shown_insert, shown_length, shown_remove, shown_set}
 use Rattle.wsm_panes.proofs.Tables.{get_is, kept_sorted, len_is, map_of, put_sorted}
 

@@ -1,3 +1,3 @@
 pub mod Within
 pub mod Lawful
-pub mod Stating
+pub mod StatedBudget

@@ -1,7 +1,7 @@
 pub mod Lists
-pub mod Declaring
-pub mod Fitting
+pub mod DeclaredFields
+pub mod FittingValues
 pub mod Spellings
 pub mod Schemas
-pub mod Guessing
+pub mod NameGuesses
 pub mod NamesOf

@@ -7,4 +7,4 @@ pub mod Numbers
 pub mod Copies
 pub mod Entries
 pub mod Shifts
-pub mod Telling
+pub mod ToldChanges

@@ -19,7 +19,7 @@ use Rattle.wsm_semantics.specs.Kept.{Kept, with_record, assigned}
 use Rattle.wsm_semantics.proofs.Lists.{IsNonEmpty, some_pass, all-each}
 use Rattle.wsm_semantics.proofs.Tables.{among}
 use Rattle.wsm_semantics.proofs.Assigned.{IsAssigned, OnGrid, stands, windows_assigned, among_all, on_grid_all}
-use Rattle.wsm_semantics.proofs.Showing.{IsPane, each_pane}
+use Rattle.wsm_semantics.proofs.ShownPanes.{IsPane, each_pane}
 
 module _ (d : Datum) where
   pub is_sorted-entered : (ws : List Window) (es : List (Place × Kept)) → T (is_sorted place_cmp es) → T (is_sorted place_cmp (assigned d ws es))

@@ -25,7 +25,7 @@ use Rattle.wsm_semantics.proofs.Assigned.{IsAssigned, stands, on_grid, own, tied
 use Rattle.wsm_semantics.proofs.AssignedStep.{panes_filled, places-assigned, among_places, grid_of, kept_live, find-entered, is_sorted-entered}
 use Rattle.wsm_semantics.proofs.Each.{list_any-append}
 use Rattle.wsm_semantics.proofs.Within.{wider}
-use Rattle.wsm_semantics.proofs.Showing.{not_shown_yet}
+use Rattle.wsm_semantics.proofs.ShownPanes.{not_shown_yet}
 use Rattle.wsm_semantics.proofs.FiringsSoFar.{PlacesLaw, shows_itself}
 use Rattle.wsm_semantics.proofs.StandingFirings.{joined_unfired}
 use Rattle.wsm_semantics.proofs.StandsTurn.{stands-taken}

@@ -6,7 +6,7 @@ use Rattle.std.proofs.lemmas.List.Sorted.{IsPermutation-keeps}
 use Rattle.std.specs.Prelude.{IsPermutation}
 use Rattle.std.specs.List.{AllByRecursion}
 use Rattle.wsm_semantics.specs.Order.{Judged, is_accepted, Reordered, Next, Swap, Then}
-use Rattle.wsm_semantics.proofs.Reordering.{reordered-itself}
+use Rattle.wsm_semantics.proofs.ReorderedHistories.{reordered-itself}
 
 -- none is an accepted watermark
 abbrev pub NoneAccepted : List Judged → Type 0

@@ -22,9 +22,9 @@ use Rattle.wsm_semantics.specs.Order.{Permuted}
 use Rattle.wsm_semantics.proofs.Assigned.{IsAssigned}
 use Rattle.wsm_semantics.proofs.Each.{all_of, all-any, list_any-none}
 use Rattle.wsm_semantics.proofs.AssignedTurns.{same_shown}
-use Rattle.wsm_semantics.proofs.Showing.{unshown_of, kind_of, shown_now}
+use Rattle.wsm_semantics.proofs.ShownPanes.{unshown_of, kind_of, shown_now}
 use Rattle.wsm_semantics.proofs.PanesOrder.{same_contents}
-use Rattle.wsm_semantics.proofs.Reordering.{same_mark}
+use Rattle.wsm_semantics.proofs.ReorderedHistories.{same_mark}
 use Rattle.wsm_semantics.proofs.OnTimeOrder.{FiresSame, same_selected}
 use Rattle.wsm_semantics.proofs.Bags.{Shuffled}
 

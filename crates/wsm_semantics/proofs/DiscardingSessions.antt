@@ -25,11 +25,11 @@ use Rattle.wsm_semantics.specs.Order.{Judged, judged, is_accepted, Reordered, Do
 use Rattle.wsm_semantics.proofs.Lists.{all-each, filter_same}
 use Rattle.wsm_semantics.proofs.Each.{all_of, all-any, all-swap, filter-append, filter-each, filter-filter, list_any-each, list_any-none}
 use Rattle.wsm_semantics.proofs.Within.{new_turn}
-use Rattle.wsm_semantics.proofs.Merging.{selected_falls, holds-filter}
-use Rattle.wsm_semantics.proofs.Showing.{IsPane, each_pane, unshown_of, kind_of, shown_now, not_shown_yet}
+use Rattle.wsm_semantics.proofs.MergedRecords.{selected_falls, holds-filter}
+use Rattle.wsm_semantics.proofs.ShownPanes.{IsPane, each_pane, unshown_of, kind_of, shown_now, not_shown_yet}
 use Rattle.wsm_semantics.proofs.Bags.{Shuffled, Empty, Through, shuffled-sym, same_length, same_filter, same_append, same_after}
 use Rattle.wsm_semantics.proofs.PanesOrder.{contents_of, panes_of, same_contents, there_agrees, same_panes}
-use Rattle.wsm_semantics.proofs.Reordering.{mark_by, mark_reordered, mark_is, said, said_all, said_reordered, swapped_said, selected_said, selection_said}
+use Rattle.wsm_semantics.proofs.ReorderedHistories.{mark_by, mark_reordered, mark_is, said, said_all, said_reordered, swapped_said, selected_said, selection_said}
 use Rattle.wsm_semantics.proofs.OnTimeOrder.{FiresSame}
 
 -- some pane of a bag of records passes

@@ -23,7 +23,7 @@ use Rattle.wsm_semantics.proofs.Tables.{among}
 use Rattle.wsm_semantics.proofs.AssignedStep.{kept_live}
 use Rattle.wsm_semantics.proofs.Turns.{refused_stays}
 use Rattle.wsm_semantics.proofs.KeptTurns.{comes_in_time, selects_one}
-use Rattle.wsm_semantics.proofs.Showing.{ShowsOwn, unshown_of, unshown_by, unshown-after}
+use Rattle.wsm_semantics.proofs.ShownPanes.{ShowsOwn, unshown_of, unshown_by, unshown-after}
 
 -- a place that is new with a selected record has it
 abbrev pub NewHaveRecord : Query → Type 0

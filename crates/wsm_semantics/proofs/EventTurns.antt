@@ -24,7 +24,7 @@ use Rattle.wsm_semantics.specs.Kept.{Kept, kept, kept_in, entered, fires, all_fi
 use Rattle.wsm_semantics.specs.Replay.{datum}
 use Rattle.wsm_semantics.proofs.Lists.{filter-all, filter_within, all-each}
 use Rattle.wsm_semantics.proofs.Each.{all-any, filter-map, filter_map-each, filter_map-map, itself, passed}
-use Rattle.wsm_semantics.proofs.Showing.{IsPane, each_pane, contents_below, kind_of, unshown_of}
+use Rattle.wsm_semantics.proofs.ShownPanes.{IsPane, each_pane, contents_below, kind_of, unshown_of}
 use Rattle.wsm_semantics.proofs.FiringsSoFar.{PlacesLaw, shows_key}
 use Rattle.wsm_semantics.proofs.KeptTurns.{kept_by_turn, firings_by_turn, none_of_turn, comes_in_time, selects_one}
 

@@ -22,7 +22,7 @@ use Rattle.wsm_semantics.specs.FiringSets.{has_in_set, times_fired}
 use Rattle.wsm_semantics.proofs.Tables.{is_sorted-with_contents}
 use Rattle.wsm_semantics.proofs.Each.{all-any, as_true, filter-append, filter-each, none_of, same_answers, some_of}
 use Rattle.wsm_semantics.proofs.StandsTurn.{AreDistinct}
-use Rattle.wsm_semantics.proofs.Showing.{IsPane, ShowsOwn, each_pane, does, firings_are, kind_of, unshown_of, shown_now}
+use Rattle.wsm_semantics.proofs.ShownPanes.{IsPane, ShowsOwn, each_pane, does, firings_are, kind_of, unshown_of, shown_now}
 use Rattle.wsm_semantics.proofs.FiringsSoFar.{shows_back, shows_on}
 
 -- once or not at all

@@ -24,9 +24,9 @@ use Rattle.wsm_semantics.proofs.Lists.{IsNonEmpty, filter-all, all-each}
 use Rattle.wsm_semantics.proofs.Tables.{among}
 use Rattle.wsm_semantics.proofs.Assigned.{tied}
 use Rattle.wsm_semantics.proofs.Each.{itself, same_answers, passed, all-swap, all-both, all-append, filter_map-all, list_any-append}
-use Rattle.wsm_semantics.proofs.Merging.{selected_falls, holds-filter}
+use Rattle.wsm_semantics.proofs.MergedRecords.{selected_falls, holds-filter}
 use Rattle.wsm_semantics.proofs.Within.{Within, IsPart, filter_part, part_stays, wider, one_held}
-use Rattle.wsm_semantics.proofs.Showing.{IsPane, ShowsOwn, each_pane, does, firings_are, kind_of, unshown_of}
+use Rattle.wsm_semantics.proofs.ShownPanes.{IsPane, ShowsOwn, each_pane, does, firings_are, kind_of, unshown_of}
 
 -- ---- which places show one another's records
 

@@ -23,7 +23,7 @@ use Rattle.wsm_semantics.proofs.Tables.{among}
 use Rattle.wsm_semantics.proofs.Assigned.{IsAssigned, OnGrid}
 use Rattle.wsm_semantics.proofs.AssignedStep.{grid_of}
 use Rattle.wsm_semantics.proofs.Each.{passed, all-append, all-both, all-passed, map-all}
-use Rattle.wsm_semantics.proofs.Showing.{IsPane, each_pane}
+use Rattle.wsm_semantics.proofs.ShownPanes.{IsPane, each_pane}
 use Rattle.wsm_semantics.proofs.Sessions.{sessions-more}
 use Rattle.wsm_semantics.proofs.SessionTimes.{IsOneOf, of-all, inside_is}
 use Rattle.wsm_semantics.proofs.SessionPlaces.{one_of, times_of, sessions_of}

@@ -21,9 +21,9 @@ use Rattle.wsm_semantics.specs.Replay.{datum}
 use Rattle.wsm_semantics.proofs.Lists.{filter-all, all-each, filter_same, filter_map_none}
 use Rattle.wsm_semantics.proofs.Tables.{among, kept_of}
 use Rattle.wsm_semantics.proofs.Each.{all-any, map-each, map-map, filter_map-each, filter_map-filter, filter_map-map, list_any-none}
-use Rattle.wsm_semantics.proofs.Merging.{Below, unlike, selected_below}
+use Rattle.wsm_semantics.proofs.MergedRecords.{Below, unlike, selected_below}
 use Rattle.wsm_semantics.proofs.Turns.{held-same, refused_selects, refused_stays, firings-refused}
-use Rattle.wsm_semantics.proofs.Showing.{IsPane, each_pane, does, firings_are, kind_of, unshown_of, unshown_by, unshown-after}
+use Rattle.wsm_semantics.proofs.ShownPanes.{IsPane, each_pane, does, firings_are, kind_of, unshown_of, unshown_by, unshown-after}
 use Rattle.wsm_semantics.proofs.FiringsSoFar.{PlacesLaw, shows_own}
 use Rattle.wsm_semantics.proofs.StandsTurn.{stands-after}
 

@@ -3,11 +3,11 @@ pub mod Tables
 pub mod Turns
 pub mod Assigned
 pub mod AssignedStep
-pub mod Stepping
+pub mod MachineSteps
 pub mod Each
-pub mod Merging
+pub mod MergedRecords
 pub mod Within
-pub mod Showing
+pub mod ShownPanes
 pub mod FiringsSoFar
 pub mod StandingFirings
 pub mod StandsTurn
@@ -42,7 +42,7 @@ pub mod RowsBound
 pub mod HeldLaw
 pub mod Bags
 pub mod PanesOrder
-pub mod Reordering
+pub mod ReorderedHistories
 pub mod OnTimeOrder
 pub mod DiscardingOrder
 pub mod DiscardingSessions

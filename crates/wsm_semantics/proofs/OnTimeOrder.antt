@@ -19,10 +19,10 @@ use Rattle.wsm_semantics.specs.Firings.{Firing, firing_of, firing_set, row_of}
 use Rattle.wsm_semantics.specs.Order.{judged, Permuted, IgnoresOrder, is_on_time, on_time, accepted, InPairs, SameFiring, SameOnTime, OrderLaw}
 use Rattle.wsm_semantics.proofs.Lists.{all-each}
 use Rattle.wsm_semantics.proofs.Each.{filter_map-map}
-use Rattle.wsm_semantics.proofs.Showing.{IsPane, each_pane, unshown_of, does, firings_are}
+use Rattle.wsm_semantics.proofs.ShownPanes.{IsPane, each_pane, unshown_of, does, firings_are}
 use Rattle.wsm_semantics.proofs.Bags.{Shuffled, Through, shuffled-sym, same_length, same_bag}
 use Rattle.wsm_semantics.proofs.PanesOrder.{same_contents, same_panes}
-use Rattle.wsm_semantics.proofs.Reordering.{same_mark, said_all, said_reordered, selected_said, SameAccepted, same_accepted, pairs_each}
+use Rattle.wsm_semantics.proofs.ReorderedHistories.{same_mark, said_all, said_reordered, selected_said, SameAccepted, same_accepted, pairs_each}
 
 -- ---- lists of what is given
 

@@ -26,7 +26,7 @@ use Rattle.wsm_semantics.specs.Kept.{Kept, kept_in, merged, session_with, joined
 use Rattle.wsm_semantics.proofs.Lists.{all-each, filter_same}
 use Rattle.wsm_semantics.proofs.Tables.{among}
 use Rattle.wsm_semantics.proofs.Each.{all-any, filter-each, filter-filter, none_of}
-use Rattle.wsm_semantics.proofs.Merging.{selected_falls, merged-filter}
+use Rattle.wsm_semantics.proofs.MergedRecords.{selected_falls, merged-filter}
 use Rattle.wsm_semantics.proofs.Sessions.{StartFrom, AreApart}
 use Rattle.wsm_semantics.proofs.SessionTimes.{covered, inside_is, inside_of_joined, none_after}
 use Rattle.wsm_semantics.proofs.SessionPlaces.{times_of, sessions_of}

@@ -25,7 +25,7 @@ use Rattle.wsm_semantics.proofs.Sessions.{holds_time, sessions_apart}
 use Rattle.wsm_semantics.proofs.SessionTimes.{apart-filter}
 use Rattle.wsm_semantics.proofs.SessionPlaces.{other_key, among-passing, times_of, sessions_of, is_session, places-sessions, joined_place, session_after, inside_links}
 use Rattle.wsm_semantics.proofs.SessionJoin.{at_each, find-at_each, is_sorted-at_each, is_in_any, kept_at, all_panes_with, session_with-is, joined_contents}
-use Rattle.wsm_semantics.proofs.Showing.{unshown_of, not_shown_yet}
+use Rattle.wsm_semantics.proofs.ShownPanes.{unshown_of, not_shown_yet}
 
 abbrev pub Records : Type 0
 Records = List Datum × List Datum

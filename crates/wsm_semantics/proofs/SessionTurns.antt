@@ -29,7 +29,7 @@ use Rattle.wsm_semantics.proofs.Sessions.{AreApart, sessions_apart}
 use Rattle.wsm_semantics.proofs.SessionTimes.{IsOneOf, apart-filter, inside_of_joined, one_inside}
 use Rattle.wsm_semantics.proofs.SessionPlaces.{one_of, times_of, sessions_of, has_record, inside_links}
 use Rattle.wsm_semantics.proofs.SessionStep.{among_places, among_linked, ws, mine, linked, kept_linked, records_at, new_inside, put_records, contents_more, places_more, merged-kept}
-use Rattle.wsm_semantics.proofs.Showing.{IsPane, each_among, each_pane}
+use Rattle.wsm_semantics.proofs.ShownPanes.{IsPane, each_among, each_pane}
 use Rattle.wsm_semantics.proofs.FiringsSoFar.{PlacesLaw, StaysIn, shows_itself, shows_key}
 use Rattle.wsm_semantics.proofs.StandingFirings.{joined_unfired, joined_stands}
 use Rattle.wsm_semantics.proofs.StandsTurn.{AreDistinct, IsTakenIn, TakesIn, stands-taken}

@@ -28,7 +28,7 @@ use Rattle.wsm_semantics.proofs.Assigned.{IsAssigned, contains_among, stands, on
 use Rattle.wsm_semantics.proofs.AssignedStep.{places-assigned}
 use Rattle.wsm_semantics.proofs.Each.{itself, list_any-append}
 use Rattle.wsm_semantics.proofs.SessionStep.{among_places, mine, new_inside, places_more}
-use Rattle.wsm_semantics.proofs.Showing.{ShowsOwn}
+use Rattle.wsm_semantics.proofs.ShownPanes.{ShowsOwn}
 use Rattle.wsm_semantics.proofs.FiringsSoFar.{shows_own}
 use Rattle.wsm_semantics.proofs.KeptTurns.{comes_in_time, selects_one}
 use Rattle.wsm_semantics.proofs.KeptLaw as kept_law

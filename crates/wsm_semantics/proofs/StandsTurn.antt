@@ -25,9 +25,9 @@ use Rattle.wsm_semantics.specs.Kept.{Firing as Stood, stands_in, fired_kept}
 use Rattle.wsm_semantics.proofs.Lists.{IsNonEmpty, all-each}
 use Rattle.wsm_semantics.proofs.Tables.{among, find-with_contents, kept_of}
 use Rattle.wsm_semantics.proofs.Each.{itself, same_answers, none_of, all-append, all-after, all-both, all-passed, each_fails, filter-append, filter-each, filter_map-all, list_any-append, list_any-filter, list_any-more, some_of}
-use Rattle.wsm_semantics.proofs.Merging.{holds-filter, selected_falls}
+use Rattle.wsm_semantics.proofs.MergedRecords.{holds-filter, selected_falls}
 use Rattle.wsm_semantics.proofs.Within.{Within, IsPart, within, is_within_by, itself_within, same_part, part_stays, one_held}
-use Rattle.wsm_semantics.proofs.Showing.{does, firings_are, kind_of, unshown_of}
+use Rattle.wsm_semantics.proofs.ShownPanes.{does, firings_are, kind_of, unshown_of}
 use Rattle.wsm_semantics.proofs.StandingFirings.{stands_of, stands-fired, AreApart, EachApart, stands-parts, joined_stands}
 use Rattle.wsm_semantics.proofs.FiringsSoFar.{PlacesLaw, IsOf, IsFiring, IsFilled, fires_as, not_some, shows_itself, shows_back, shows_on, shown_so_far, one_home, contents_part, each_filled, each_firing}
 

@@ -11,7 +11,7 @@ use Rattle.wsm_windows.specs.Windows.{IsShape}
 use Rattle.wsm_windows.specs.declared.place.Place.{Place}
 use Rattle.wsm_admission.specs.Clock.{verdict_at}
 use Rattle.wsm_admission.specs.Admission.{answer}
-use Rattle.wsm_admission.proofs.Keeping.{Fits-after, clock-after}
+use Rattle.wsm_admission.proofs.FittedHistory.{Fits-after, clock-after}
 use Rattle.wsm_semantics.specs.declared.out_row.OutRow.{OutRow}
 use Rattle.wsm_semantics.specs.Query.{Query, mark, verdict_on, is_taken}
 use Rattle.wsm_semantics.specs.Firings as firings
@@ -25,7 +25,7 @@ use Rattle.wsm_semantics.proofs.Lists.{length_each}
 use Rattle.wsm_semantics.proofs.KeptTurns.{kept-refused, firings-refused_event, kept-not_selected, firings-not_selected}
 use Rattle.wsm_semantics.proofs.EventTurns.{kept-record, firings-record, kept-watermark, firings-watermark, relation-watermark}
 use Rattle.wsm_semantics.proofs.KeptLaw.{places, enters}
-use Rattle.wsm_semantics.proofs.Stepping.{decision-fits, some_fired, one_fed}
+use Rattle.wsm_semantics.proofs.MachineSteps.{decision-fits, some_fired, one_fed}
 use Rattle.wsm_semantics.proofs.Images.{after_record-summaries, fired_by_record-summaries, at_watermark-summaries, fired_by_watermark-summaries, after_watermark-summaries, rows-summaries, relation-summaries}
 use Rattle.wsm_semantics.proofs.Turnless.{after_record-turnless, fired_by_record-turnless}
 

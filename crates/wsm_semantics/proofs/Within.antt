@@ -11,7 +11,7 @@ use Rattle.wsm_semantics.specs.Relation.{is_within}
 use Rattle.wsm_semantics.specs.Replay.{datum}
 use Rattle.wsm_semantics.proofs.Lists.{IsNonEmpty, filter-all, filter_same, all-each}
 use Rattle.wsm_semantics.proofs.Each.{itself, same_answers, filter-each}
-use Rattle.wsm_semantics.proofs.Merging.{AreFalling, Below, none_held, holds-filter, selected_below}
+use Rattle.wsm_semantics.proofs.MergedRecords.{AreFalling, Below, none_held, holds-filter, selected_below}
 
 -- each record that the first holds, the second holds
 abbrev pub Within : List Datum → List Datum → Type 0

@@ -1,3 +1,3 @@
 pub mod Seams
-pub mod Placing
+pub mod SessionEdits
 pub mod Classes

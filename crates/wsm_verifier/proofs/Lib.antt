@@ -1,10 +1,10 @@
-pub mod Passing
+pub mod LabelPass
 pub mod Longest
-pub mod Accepting
+pub mod AcceptedPlaces
 pub mod Lawful
 mod Ways
-mod Widening
-mod Turning
-mod Trying
-mod Accumulating
-mod Judging
+mod WidenedStacks
+mod PassKept
+mod FirstRules
+mod FoldedRanges
+mod Judgements

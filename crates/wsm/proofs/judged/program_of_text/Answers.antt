@@ -1,6 +1,6 @@
 use Rattle.std.proofs.lemmas.Result.{err_from_is_err_and}
 use Rattle.wsm_query.specs.Seen.{seen}
-use Rattle.wsm.proofs.Judging.{text_ends, check_ends, text_passes}
+use Rattle.wsm.proofs.Judgements.{text_ends, check_ends, text_passes}
 use Rattle.wsm.proofs.judged.program_of_text.Goals as goal
 
 pub returns-in_err-query-clause-refused : goal.returns-in_err-query-clause-refused

@@ -7,7 +7,7 @@ use Rattle.wsm_verifier.specs.Rules.{judge}
 use Rattle.wsm.specs.declared.end.End.{End}
 use Rattle.wsm_machine.specs.Meaning.{query_of}
 use Rattle.wsm.specs.Written.{Cells, Completes, EndsEarly}
-use Rattle.wsm.proofs.Beginning.{rejected_by, unverified_early}
+use Rattle.wsm.proofs.RunsBeforeRows.{rejected_by, unverified_early}
 use Rattle.wsm.proofs.run.run_judged.Goals as goal
 
 pub returns-in_err-verified-clause-rejected : goal.returns-in_err-verified-clause-rejected

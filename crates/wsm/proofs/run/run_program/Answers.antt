@@ -8,7 +8,7 @@ use Rattle.wsm.specs.declared.end.End.{End}
 use Rattle.wsm_machine.specs.Meaning.{query_of}
 use Rattle.wsm.specs.Judged.{bytes_judged}
 use Rattle.wsm.specs.Written.{Cells, Completes, EndsEarly}
-use Rattle.wsm.proofs.Beginning.{refused_by, unread_early}
+use Rattle.wsm.proofs.RunsBeforeRows.{refused_by, unread_early}
 use Rattle.wsm.proofs.run.run_program.Goals as goal
 
 pub returns-in_err-program-clause-refused : goal.returns-in_err-program-clause-refused

@@ -11,7 +11,7 @@ use Rattle.wsm_compiler.specs.Means.{meant}
 use Rattle.wsm_semantics.specs.Query.{Query as Meant}
 use Rattle.wsm.specs.Judged.{text_judged}
 use Rattle.wsm.specs.Written.{Cells, Completes, EndsEarly}
-use Rattle.wsm.proofs.Beginning.{refused_by, unread_early}
+use Rattle.wsm.proofs.RunsBeforeRows.{refused_by, unread_early}
 use Rattle.wsm.proofs.SameText.{same_program, text_completes, text_ends_early}
 use Rattle.wsm.proofs.run.run_query.Goals as goal
 

@@ -1,5 +1,5 @@
 use Rattle.std.proofs.Common.{◌≡◌, ◌++◌, List, ℕ, OnOk, subst}
-use Rattle.wsm.proofs.Turning.{told_text}
+use Rattle.wsm.proofs.TurnLines.{told_text}
 use Rattle.wsm.proofs.turns.add_refusal.Goals as goal
 
 pub returns-in_default : goal.returns-in_default

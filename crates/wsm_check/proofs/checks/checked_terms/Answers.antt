@@ -1,6 +1,6 @@
 use Rattle.wsm_query.specs.Seen.{seen}
-use Rattle.wsm_check.proofs.Following.{few_fields}
-use Rattle.wsm_check.proofs.Passing.{passed}
+use Rattle.wsm_check.proofs.ChecksInOrder.{few_fields}
+use Rattle.wsm_check.proofs.PassedChecks.{passed}
 use Rattle.wsm_check.proofs.checks.checked_terms.Goals as goal
 
 pub terms_of-requires-clause-fields : goal.terms_of-requires-clause-fields

@@ -1,7 +1,7 @@
 use Rattle.std.proofs.Common.{◌∙◌, ap₂, option_map}
 use Rattle.wsm_query.specs.Seen.{seen_expr}
 use Rattle.wsm_check.specs.Sizes.{in_option, joined}
-use Rattle.wsm_check.proofs.Counting.{fired_more}
+use Rattle.wsm_check.proofs.CappedNumbers.{fired_more}
 use Rattle.wsm_check.proofs.code.+folds_in_fired.Goals as goal
 
 pub returns-in-len1-up : goal.returns-in-len1-up

@@ -1,7 +1,7 @@
 use Rattle.std.proofs.Common.{subst}
 use Rattle.wsm_query.specs.Seen.{seen}
 use Rattle.wsm_check.specs.Checks.{Judges}
-use Rattle.wsm_check.proofs.Following.{in_groups}
+use Rattle.wsm_check.proofs.ChecksInOrder.{in_groups}
 use Rattle.wsm_check.proofs.judging.judge.Goals as goal
 
 pub returns : goal.returns

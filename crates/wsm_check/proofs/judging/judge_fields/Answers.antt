@@ -4,7 +4,7 @@ use Rattle.wsm_record.specs.declared.schema.Field.{Field}
 use Rattle.wsm_record.specs.Fields.{declared_field}
 use Rattle.wsm_check.specs.Names.{field_names}
 use Rattle.wsm_check.specs.Checks.{fields_refusal}
-use Rattle.wsm_check.proofs.Following.{few_fields}
+use Rattle.wsm_check.proofs.ChecksInOrder.{few_fields}
 use Rattle.wsm_check.proofs.judging.judge_fields.Goals as goal
 
 pub returns-clause-few : goal.returns-clause-few

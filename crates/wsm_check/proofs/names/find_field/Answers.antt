@@ -1,4 +1,4 @@
-use Rattle.wsm_check.proofs.Naming.{behind_all}
+use Rattle.wsm_check.proofs.NamedFields.{behind_all}
 use Rattle.wsm_check.proofs.names.find_field.Goals as goal
 
 pub returns : goal.returns

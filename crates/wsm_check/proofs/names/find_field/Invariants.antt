@@ -1,6 +1,6 @@
 use Rattle.std.proofs.Common.{map, drop}
 use Rattle.wsm_record.specs.Fields.{declared_field}
-use Rattle.wsm_check.proofs.Naming.{Behind}
+use Rattle.wsm_check.proofs.NamedFields.{Behind}
 use Rattle.wsm_check.proofs.names.find_field.Given as goal
 
 -- no field so far has the name

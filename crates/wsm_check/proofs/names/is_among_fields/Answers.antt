@@ -1,5 +1,5 @@
 use Rattle.std.proofs.Common.{◌∙◌, sym}
-use Rattle.wsm_check.proofs.Following.{among_fields}
+use Rattle.wsm_check.proofs.ChecksInOrder.{among_fields}
 use Rattle.wsm_check.proofs.names.is_among_fields.Goals as goal
 
 pub returns : goal.returns

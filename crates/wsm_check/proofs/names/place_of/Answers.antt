@@ -1,7 +1,7 @@
 use Rattle.std.proofs.Common.{None, Some, bytes_eq, length, not, ◌∙◌, sym}
 use Rattle.std.specs.List.{position_or_len}
 use Rattle.std.proofs.lemmas.List.Sums.{prefix_len-le-length}
-use Rattle.wsm_check.proofs.Naming.{place_from}
+use Rattle.wsm_check.proofs.NamedFields.{place_from}
 use Rattle.wsm_check.proofs.names.place_of.Goals as goal
 
 pub returns-in-Some-clause-place : goal.returns-in-Some-clause-place

@@ -2,7 +2,7 @@ use Rattle.std.proofs.Common.{sym, ◌∙◌, ap, arith}
 use Rattle.std.proofs.lemmas.List.{length-map}
 use Rattle.wsm_program.specs.Program.{is_program}
 use Rattle.wsm_check.specs.Seen.{seen_folding, seen_parts}
-use Rattle.wsm_compiler.proofs.Assembling.{selection_fits, update_fits, few_foldings, fire_fits, is_program_of, is_schema_of, put_together}
+use Rattle.wsm_compiler.proofs.AssembledProgram.{selection_fits, update_fits, few_foldings, fire_fits, is_program_of, is_schema_of, put_together}
 use Rattle.wsm_compiler.proofs.compiling.program.Goals as goal
 
 pub header-requires : goal.header-requires

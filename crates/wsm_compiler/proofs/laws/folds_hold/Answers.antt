@@ -1,4 +1,4 @@
-use Rattle.wsm_compiler.proofs.Holding.{folds_hold}
+use Rattle.wsm_compiler.proofs.ColumnFolds.{folds_hold}
 use Rattle.wsm_compiler.proofs.TotalPanes.{updates_hold}
 use Rattle.wsm_compiler.proofs.laws.folds_hold.Goals as goal
 

@@ -2,7 +2,7 @@ use Rattle.std.proofs.Common.{sym, ◌∙◌, ap, ◌+◌, ◌++◌, length, map
 use Rattle.std.specs.Prelude.{option_map}
 use Rattle.wsm_check.specs.Seen.{seen_column, seen_term}
 use Rattle.wsm_compiler.specs.TermCode.{firing_code, firing_size}
-use Rattle.wsm_compiler.proofs.Coding.{seen_rest, computed}
+use Rattle.wsm_compiler.proofs.CodeParts.{seen_rest, computed}
 use Rattle.wsm_compiler.proofs.sections.fire.Goals as goal
 
 pub loop-column-preserved : goal.loop-column-preserved

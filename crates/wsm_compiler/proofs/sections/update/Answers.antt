@@ -1,7 +1,7 @@
 use Rattle.std.proofs.Common.{sym, ◌∙◌, ap, ◌+◌, ◌++◌, length, map, drop, arith}
 use Rattle.wsm_check.specs.Seen.{seen_folding}
 use Rattle.wsm_compiler.specs.TermCode.{foldings_code, foldings_size}
-use Rattle.wsm_compiler.proofs.Coding.{seen_rest, folded}
+use Rattle.wsm_compiler.proofs.CodeParts.{seen_rest, folded}
 use Rattle.wsm_compiler.proofs.sections.update.Goals as goal
 
 pub loop-number-preserved : goal.loop-number-preserved

@@ -1,4 +1,4 @@
-use Rattle.wsm_engine.proofs.Spending.{record_ends, firings_end}
+use Rattle.wsm_engine.proofs.StatedCosts.{record_ends, firings_end}
 use Rattle.wsm_engine.proofs.laws.never_traps.Goals as goal
 
 pub returns-clause-records : goal.returns-clause-records

@@ -1,4 +1,4 @@
-use Rattle.wsm_engine.proofs.Spending.{record_spends, panes_spend}
+use Rattle.wsm_engine.proofs.StatedCosts.{record_spends, panes_spend}
 use Rattle.wsm_engine.proofs.laws.spends_within.Goals as goal
 
 pub returns-clause-records : goal.returns-clause-records

@@ -5,7 +5,7 @@ use Rattle.wsm_windows.specs.Life.{is_live}
 use Rattle.wsm_windows.specs.Windows.{IsPlaced}
 use Rattle.wsm_panes.specs.Held.{entries_of}
 use Rattle.wsm_firing.specs.Streams.{IsTold, standing_rows}
-use Rattle.wsm_firing.proofs.Standing.{Panes}
+use Rattle.wsm_firing.proofs.StandingRows.{Panes}
 use Rattle.wsm_firing.proofs.Past.{live_left}
 use Rattle.wsm_firing.proofs.dropping.drop_expired.Goals as goal
 

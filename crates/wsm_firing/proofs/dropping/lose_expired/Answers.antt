@@ -12,7 +12,7 @@ use Rattle.wsm_panes.specs.Walk.{place_due, place_found}
 use Rattle.wsm_semantics.specs.Summaries.{Pane}
 use Rattle.wsm_firing.specs.Streams.{IsTold, standing_rows}
 use Rattle.wsm_firing.proofs.Past.{left, none_goes, next_goes}
-use Rattle.wsm_firing.proofs.Standing.{Folded, Panes, row_at, few_rows}
+use Rattle.wsm_firing.proofs.StandingRows.{Folded, Panes, row_at, few_rows}
 use Rattle.wsm_firing.proofs.Walk.{rest_at, held_due, entry_found, due_behind, past_end}
 use Rattle.wsm_firing.proofs.dropping.lose_expired.Goals as goal
 use Rattle.wsm_firing.proofs.dropping.lose_expired.Goals.{In-Some, After-pane}

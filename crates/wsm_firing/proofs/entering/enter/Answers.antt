@@ -4,9 +4,9 @@ use Rattle.wsm_semantics.specs.Replay.{datum}
 use Rattle.wsm_semantics.specs.Summaries.{entered}
 use Rattle.wsm_panes.specs.Held.{entries_of, taking}
 use Rattle.wsm_firing.specs.Streams.{IsTold, Standing, rows_with, standing_rows}
-use Rattle.wsm_firing.proofs.Streaming.{told_same, told_of_panes}
-use Rattle.wsm_firing.proofs.Standing.{Panes}
-use Rattle.wsm_firing.proofs.Joining.{count_entered}
+use Rattle.wsm_firing.proofs.StreamRows.{told_same, told_of_panes}
+use Rattle.wsm_firing.proofs.StandingRows.{Panes}
+use Rattle.wsm_firing.proofs.RowsAfterRecord.{count_entered}
 use Rattle.wsm_firing.proofs.entering.enter.Goals as goal
 use Rattle.wsm_firing.proofs.entering.enter.Goals.{in-Panes, in_default}
 

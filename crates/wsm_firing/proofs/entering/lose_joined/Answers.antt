@@ -2,8 +2,8 @@ use Rattle.std.proofs.Common.{[], sym, ◌∙◌, SFits, w64, to_z-of_z, arith, 
 use Rattle.wsm_semantics.specs.Replay.{datum}
 use Rattle.wsm_panes.specs.Held.{entries_of}
 use Rattle.wsm_firing.specs.Streams.{IsTold, rows_and, rows_with, standing_rows}
-use Rattle.wsm_firing.proofs.Streaming.{Rows, told_same}
-use Rattle.wsm_firing.proofs.Joining.{ArePair, pair_is, rows_alone}
+use Rattle.wsm_firing.proofs.StreamRows.{Rows, told_same}
+use Rattle.wsm_firing.proofs.RowsAfterRecord.{ArePair, pair_is, rows_alone}
 use Rattle.wsm_firing.proofs.entering.lose_joined.Goals as goal
 
 pub lose_pair-requires : goal.lose_pair-requires

@@ -9,7 +9,7 @@ use Rattle.wsm_semantics.specs.Steps.{chosen_rows}
 use Rattle.wsm_program.specs.Program.{Program, Header}
 use Rattle.wsm_panes.specs.Held.{entries_of, once_fired}
 use Rattle.wsm_firing.specs.Streams.{Tells}
-use Rattle.wsm_firing.proofs.Standing.{Panes, can_lose, can_gain, tells_fired}
+use Rattle.wsm_firing.proofs.StandingRows.{Panes, can_lose, can_gain, tells_fired}
 use Rattle.wsm_firing.proofs.Walk.{some_same}
 use Rattle.wsm_firing.proofs.fire.fire.Goals as goal
 

@@ -16,9 +16,9 @@ use Rattle.wsm_panes.specs.Walk.{place_found}
 use Rattle.wsm_firing.specs.Tally.{tally_with}
 use Rattle.wsm_firing.specs.Firing.{CanAdd, rows_of}
 use Rattle.wsm_firing.specs.Due.{fired_by}
-use Rattle.wsm_firing.proofs.Standing.{tells_none}
+use Rattle.wsm_firing.proofs.StandingRows.{tells_none}
 use Rattle.wsm_firing.proofs.AtPlace.{Fires, none_there, no_kind, with_kind}
-use Rattle.wsm_firing.proofs.Counting.{no_rows, no_tally}
+use Rattle.wsm_firing.proofs.LeftToFire.{no_rows, no_tally}
 use Rattle.wsm_firing.proofs.Walk.{none_found, spot_found, some_same}
 use Rattle.wsm_firing.proofs.record.fire_at.Goals as goal
 use Rattle.wsm_firing.proofs.record.fire_at.Goals.{In-Some, After-record_kind, In-Some-record_kind}

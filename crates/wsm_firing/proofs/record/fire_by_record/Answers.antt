@@ -18,12 +18,12 @@ use Rattle.wsm_panes.specs.Held.{entries_of}
 use Rattle.wsm_firing.specs.Tally.{tally_of, tally_with}
 use Rattle.wsm_firing.specs.Firing.{CanAdd, CanFire, rows_of}
 use Rattle.wsm_firing.specs.ByRecord.{is_among, places_entered}
-use Rattle.wsm_firing.proofs.Standing.{tells_none}
-use Rattle.wsm_firing.proofs.Agreeing.{none_fires, none_fired}
+use Rattle.wsm_firing.proofs.StandingRows.{tells_none}
+use Rattle.wsm_firing.proofs.SameKinds.{none_fires, none_fired}
 use Rattle.wsm_firing.proofs.Entered.{FiresAlike, fires_alike, no_kinds}
 use Rattle.wsm_firing.proofs.Headers.{IsLawfulFiring, lawful_firing, zero_count}
 use Rattle.wsm_firing.proofs.InOrder.{windows_in_order}
-use Rattle.wsm_firing.proofs.Counting.{nothing, can_start, tally_all, no_rows, no_tally}
+use Rattle.wsm_firing.proofs.LeftToFire.{nothing, can_start, tally_all, no_rows, no_tally}
 use Rattle.wsm_firing.proofs.record.fire_by_record.Goals as goal
 use Rattle.wsm_firing.proofs.record.fire_by_record.Goals.{After-at-place, After-windows_of-windows}
 

@@ -14,11 +14,11 @@ use Rattle.wsm_firing.specs.declared.tally.Tally.{Tally}
 use Rattle.wsm_firing.specs.Tally.{tally_with}
 use Rattle.wsm_firing.specs.Firing.{CanAdd, rows_of}
 use Rattle.wsm_firing.specs.ByRecord.{AreInOrder, kind_at}
-use Rattle.wsm_firing.proofs.Standing.{tells_none, tells_on, can_tell_on}
-use Rattle.wsm_firing.proofs.Agreeing.{none_fires, none_fired}
+use Rattle.wsm_firing.proofs.StandingRows.{tells_none, tells_on, can_tell_on}
+use Rattle.wsm_firing.proofs.SameKinds.{none_fires, none_fired}
 use Rattle.wsm_firing.proofs.InOrder.{later}
 use Rattle.wsm_firing.proofs.InTurn.{fired_in_turn, fires_in_turn}
-use Rattle.wsm_firing.proofs.Counting.{ComesTo, first, can_add, next, last_tally, last_rows, kept_on}
+use Rattle.wsm_firing.proofs.LeftToFire.{ComesTo, first, can_add, next, last_tally, last_rows, kept_on}
 use Rattle.wsm_firing.proofs.record.fire_each.Goals as goal
 
 pub loop-window-init : goal.loop-window-init

@@ -5,7 +5,7 @@ use Rattle.wsm_machine.specs.Meaning.{plan_of, query_of}
 use Rattle.wsm_panes.specs.Held.{IsKept, entries_of}
 use Rattle.wsm_firing.specs.ByRecord.{AreInOrder, kind_at}
 use Rattle.wsm_firing.specs.Streams.{Tells}
-use Rattle.wsm_firing.proofs.Counting.{ComesTo}
+use Rattle.wsm_firing.proofs.LeftToFire.{ComesTo}
 use Rattle.wsm_firing.proofs.record.fire_each.Given as goal
 
 -- to fire at the windows that are left comes to firing at all

@@ -8,7 +8,7 @@ use Rattle.wsm_machine.specs.Inputs.{Inputs}
 use Rattle.wsm_machine.specs.InRange.{in_range}
 use Rattle.wsm_machine.specs.Step.{type_of}
 use Rattle.wsm_firing.proofs.Headers.{lawful_firing, count_fits}
-use Rattle.wsm_firing.proofs.Running.{read, same_inputs, steps_are, columns_are, if_row}
+use Rattle.wsm_firing.proofs.FireRuns.{read, same_inputs, steps_are, columns_are, if_row}
 use Rattle.wsm_firing.proofs.run.run.Goals as goal
 
 pub overflow_cast-inputs : goal.overflow_cast-inputs

@@ -14,9 +14,9 @@ use Rattle.wsm_firing.specs.ByWatermark.{fires_by_watermark}
 use Rattle.wsm_firing.specs.Firing.{CanAdd}
 use Rattle.wsm_firing.specs.Due.{fired_by}
 use Rattle.wsm_firing.specs.Streams.{Standing, Tells}
-use Rattle.wsm_firing.proofs.Standing.{tells_none, tells_on, can_tell_on}
+use Rattle.wsm_firing.proofs.StandingRows.{tells_none, tells_on, can_tell_on}
 use Rattle.wsm_firing.proofs.Walk.{fired_first, some_same}
-use Rattle.wsm_firing.proofs.Counting.{ComesTo, first, kept_on}
+use Rattle.wsm_firing.proofs.LeftToFire.{ComesTo, first, kept_on}
 use Rattle.wsm_firing.proofs.WatermarkWalk.{kind, HasPassed, as_passed, walks_on, ends_behind_all, ends_at_none, is_held, is_still_held, still_there, is_placed, stays, can_fire, has_fired}
 use Rattle.wsm_firing.proofs.watermark.fire_by_watermark.Goals as goal
 use Rattle.wsm_firing.proofs.watermark.fire_by_watermark.Goals.{in-Some-watermark_kind, in_default-watermark_kind, After-last_expired-expired, After-watermark_kind}

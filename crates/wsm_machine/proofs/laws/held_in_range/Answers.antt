@@ -1,4 +1,4 @@
-use Rattle.wsm_machine.proofs.Accumulating.{accs_of_rows}
+use Rattle.wsm_machine.proofs.AccumulatorRanges.{accs_of_rows}
 use Rattle.wsm_machine.proofs.laws.held_in_range.Goals as goal
 
 pub returns : goal.returns

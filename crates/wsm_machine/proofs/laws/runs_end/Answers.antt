@@ -1,4 +1,4 @@
-use Rattle.wsm_machine.proofs.Completing.{completes, steps_within}
+use Rattle.wsm_machine.proofs.CompleteRuns.{completes, steps_within}
 use Rattle.wsm_machine.proofs.laws.runs_end.Goals as goal
 
 pub returns-clause-done : goal.returns-clause-done

@@ -1,4 +1,4 @@
-use Rattle.wsm_machine.proofs.Summing.{sums_fit}
+use Rattle.wsm_machine.proofs.FittingSums.{sums_fit}
 use Rattle.wsm_machine.proofs.laws.sums_fit.Goals as goal
 
 pub returns : goal.returns

@@ -1,6 +1,6 @@
 use Rattle.std.proofs.Common.{◌∙◌, ap, subst, sym}
 use Rattle.wsm_panes.specs.Stored.{AreStored, Taken, shown}
-use Rattle.wsm_panes.proofs.Removing.{none_out}
+use Rattle.wsm_panes.proofs.RemovedEntries.{none_out}
 use Rattle.wsm_panes.proofs.StoredEdits.{removed_shows, removed_stored}
 use Rattle.wsm_panes.proofs.list.take_out.Goals as goal
 

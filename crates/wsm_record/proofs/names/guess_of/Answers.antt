@@ -1,6 +1,6 @@
 use Rattle.std.proofs.Common.{refl}
 use Rattle.wsm_record.specs.declared.names.Guess.{Guess}
-use Rattle.wsm_record.proofs.Guessing.{guess_is, none_guessed}
+use Rattle.wsm_record.proofs.NameGuesses.{guess_is, none_guessed}
 use Rattle.wsm_record.proofs.names.guess_of.Goals as goal
 
 pub returns-in-Some : goal.returns-in-Some

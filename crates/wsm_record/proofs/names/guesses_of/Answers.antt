@@ -2,7 +2,7 @@ use Rattle.std.proofs.Common.{◌≡◌, ◌∙◌, List, length, refl, sym, ap,
 use Rattle.std.proofs.lemmas.Option.{slice_get_read}
 use Rattle.wsm_record.specs.declared.names.Guess.{Guess}
 use Rattle.wsm_record.specs.Guesses.{AreGuesses, IsGuess}
-use Rattle.wsm_record.proofs.Guessing.{guesses_alike, guesses_set, none_guessed}
+use Rattle.wsm_record.proofs.NameGuesses.{guesses_alike, guesses_set, none_guessed}
 use Rattle.wsm_record.proofs.names.guesses_of.Goals as goal
 use Rattle.wsm_record.proofs.names.guesses_of.Goals.{then-place-len, else-place-len}
 

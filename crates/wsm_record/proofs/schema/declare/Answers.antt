@@ -7,7 +7,7 @@ use Rattle.wsm_record.specs.declared.schema.DeclaredField.{DeclaredField as Kept
 use Rattle.wsm_record.specs.Name.{is_among}
 use Rattle.wsm_record.specs.Schema.{DeclaredField, type_refusal, fields_refusal, or_else}
 use Rattle.wsm_record.specs.Fields.{declared_field, declared_type, field_seen}
-use Rattle.wsm_record.proofs.Declaring.{name_of, fields_refusal-next, among_kept, next_declared, next_within, kept_next}
+use Rattle.wsm_record.proofs.DeclaredFields.{name_of, fields_refusal-next, among_kept, next_declared, next_within, kept_next}
 use Rattle.wsm_record.proofs.schema.declare.Goals as goal
 
 pub returns-then-has_field-clause-refused : goal.returns-then-has_field-clause-refused

@@ -1,7 +1,7 @@
 use Rattle.std.proofs.Common.{◌≡◌, map, take, drop, []}
 use Rattle.wsm_record.specs.Schema.{fields_refusal}
 use Rattle.wsm_record.specs.Fields.{declared_field, field_seen}
-use Rattle.wsm_record.proofs.Declaring.{name_of}
+use Rattle.wsm_record.proofs.DeclaredFields.{name_of}
 use Rattle.wsm_record.proofs.schema.declare.Given as goal
 
 -- the fields so far are kept, and the first fault is still to come

@@ -1,5 +1,5 @@
 use Rattle.std.proofs.Common.{◌∙◌}
-use Rattle.wsm_record.proofs.Declaring.{too_many_names}
+use Rattle.wsm_record.proofs.DeclaredFields.{too_many_names}
 use Rattle.wsm_record.proofs.schema.exceed.Goals as goal
 
 pub returns : goal.returns

@@ -5,7 +5,7 @@ use Rattle.wsm_record.specs.declared.event.Value.TheVariants.{Int}
 use Rattle.wsm_record.specs.declared.schema.DeclaredField.{DeclaredField as KeptField}
 use Rattle.wsm_record.specs.Schema.{DeclaredField, fits_type, fit_fields}
 use Rattle.wsm_record.specs.Fields.{field_seen, type_seen}
-use Rattle.wsm_record.proofs.Fitting.{fit_fields-next, fit_fields-lengths}
+use Rattle.wsm_record.proofs.FittingValues.{fit_fields-next, fit_fields-lengths}
 use Rattle.wsm_record.proofs.schema.fit.Goals as goal
 
 seen_at : (fields : List KeptField) (i : ℕ) (f : KeptField) → f ≡ get_or fields i f → field_seen f ≡ get_or (map field_seen fields) i (field_seen f)

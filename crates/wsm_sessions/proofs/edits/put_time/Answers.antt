@@ -6,7 +6,7 @@ use Rattle.wsm_windows.specs.declared.window.Window.{Window}
 use Rattle.wsm_windows.specs.Windows.{window}
 use Rattle.wsm_semantics.proofs.Sessions.{AreApart}
 use Rattle.wsm_sessions.specs.Placing.{placed}
-use Rattle.wsm_sessions.proofs.Placing.{apart_of, begun, extended, joined}
+use Rattle.wsm_sessions.proofs.SessionEdits.{apart_of, begun, extended, joined}
 use Rattle.wsm_sessions.proofs.edits.put_time.Goals as goal
 use Rattle.wsm_sessions.proofs.edits.put_time.Goals.{After-find-found}
 

@@ -1,6 +1,6 @@
 use Rattle.std.proofs.Common.{◌∙◌, SFits, w64, to_z-of_z, nat_lt, ◌≡◌, length, false, arith}
 use Rattle.std.proofs.lemmas.Bool.Decides.{nat_tests}
-use Rattle.wsm_sessions.proofs.Placing.{before_at, before_past}
+use Rattle.wsm_sessions.proofs.SessionEdits.{before_at, before_past}
 use Rattle.wsm_sessions.proofs.edits.starts_before.Goals as goal
 
 pub returns-then-i-windows : goal.returns-then-i-windows

@@ -1,7 +1,7 @@
 use Rattle.std.proofs.Common.{Some, sym, ap, ◌∙◌, arith}
 use Rattle.wsm_verifier.specs.Trying.{setting_of}
 use Rattle.wsm_verifier.specs.Turning.{unfolded}
-use Rattle.wsm_verifier.proofs.Turning.{stands_passed, stands_turned, stands_refused, written}
+use Rattle.wsm_verifier.proofs.PassKept.{stands_passed, stands_turned, stands_refused, written}
 use Rattle.wsm_verifier.proofs.pass.judge_section.Goals as goal
 
 pub returns-in-Some-clause-refused : goal.returns-in-Some-clause-refused

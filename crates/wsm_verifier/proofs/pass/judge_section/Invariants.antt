@@ -1,6 +1,6 @@
 use Rattle.wsm_verifier.specs.Trying.{setting_of}
 use Rattle.wsm_verifier.specs.Turning.{unfolded}
-use Rattle.wsm_verifier.proofs.Turning.{Stands}
+use Rattle.wsm_verifier.proofs.PassKept.{Stands}
 use Rattle.wsm_verifier.proofs.pass.judge_section.Given as goal
 
 -- what is kept is what the visits so far come to

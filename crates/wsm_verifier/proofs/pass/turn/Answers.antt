@@ -3,7 +3,7 @@ use Rattle.std.specs.Prelude.{nat_eq}
 use Rattle.wsm_verifier.specs.Labels.{Reached}
 use Rattle.wsm_program.specs.Instructions.{goes_on}
 use Rattle.wsm_verifier.specs.Trying.{setting_of}
-use Rattle.wsm_verifier.proofs.Accepting.{passes}
+use Rattle.wsm_verifier.proofs.AcceptedPlaces.{passes}
 use Rattle.wsm_verifier.proofs.pass.turn.Goals as goal
 
 -- the last instruction goes on to no next place

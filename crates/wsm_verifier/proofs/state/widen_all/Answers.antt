@@ -1,5 +1,5 @@
 use Rattle.std.proofs.Common.{◌≡◌, length, ap, ◌∙◌, arith}
-use Rattle.wsm_verifier.proofs.Widening.{widened, widened_step, widened_all}
+use Rattle.wsm_verifier.proofs.WidenedStacks.{widened, widened_step, widened_all}
 use Rattle.wsm_verifier.proofs.state.widen_all.Goals as goal
 
 pub loop-place-preserved : goal.loop-place-preserved

@@ -1,5 +1,5 @@
 use Rattle.std.proofs.Common.{◌≡◌}
-use Rattle.wsm_verifier.proofs.Widening.{widened}
+use Rattle.wsm_verifier.proofs.WidenedStacks.{widened}
 use Rattle.wsm_verifier.proofs.state.widen_all.Given as goal
 
 -- the values so far are widened

@@ -2,8 +2,8 @@ use Rattle.std.proofs.Common.{rules, ◌≡◌, None, length, map, to_z, of_z, w
 use Rattle.wsm_program.specs.declared.SectionId.TheVariants.{Where, Update, Fire}
 use Rattle.wsm_verifier.specs.Accumulated.{folded_from, ranges_of}
 use Rattle.wsm_verifier.specs.Rules.{fault_in, known_range, ranges_with, ranges_of_record, ranges_of_pane, update_visits}
-use Rattle.wsm_verifier.proofs.Accumulating.{length-folded_from, known_each}
-use Rattle.wsm_verifier.proofs.Judging.{sums_stay, code_passed, refused_by}
+use Rattle.wsm_verifier.proofs.FoldedRanges.{length-folded_from, known_each}
+use Rattle.wsm_verifier.proofs.Judgements.{sums_stay, code_passed, refused_by}
 use Rattle.wsm_verifier.proofs.verified.judge_code.Goals as goal
 
 pub accumulator_ranges-requires-clause-long : goal.accumulator_ranges-requires-clause-long

@@ -1,5 +1,5 @@
 use Rattle.std.proofs.Common.{Ok, ap, ◌∙◌}
-use Rattle.wsm_verifier.proofs.Accepting.{accepted}
+use Rattle.wsm_verifier.proofs.AcceptedPlaces.{accepted}
 use Rattle.wsm_verifier.proofs.verified.verify.Goals as goal
 
 pub returns-in-Ok-clause-accepted : goal.returns-in-Ok-clause-accepted

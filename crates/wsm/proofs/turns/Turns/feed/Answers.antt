@@ -13,8 +13,8 @@ use Rattle.wsm_engine.specs.declared.reply.Reply.{Reply}
 use Rattle.wsm_engine.specs.Meaning.{reply_to}
 use Rattle.wsm.specs.declared.turns.Turns.{Turns}
 use Rattle.wsm.specs.Turns.{Fits}
-use Rattle.wsm.proofs.Taking.{one_more}
-use Rattle.wsm.proofs.Turning.{joined_lines}
+use Rattle.wsm.proofs.RowTurns.{one_more}
+use Rattle.wsm.proofs.TurnLines.{joined_lines}
 use Rattle.wsm.proofs.turns.Turns.feed.Goals as goal
 
 pub returns : goal.returns

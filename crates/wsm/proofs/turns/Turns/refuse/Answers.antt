@@ -1,10 +1,10 @@
 use Rattle.std.proofs.Common.{◌∙◌, ◌++◌, ◌∷◌, ℕ, Err, length, sym, ap}
-use Rattle.wsm_admission.proofs.Keeping.{counted}
+use Rattle.wsm_admission.proofs.FittedHistory.{counted}
 use Rattle.wsm_semantics.specs.Lines.{Faulty, fault_count}
 use Rattle.wsm_semantics.specs.Text.{line_text}
 use Rattle.wsm.specs.Turns.{Fits}
-use Rattle.wsm.proofs.Taking.{one_more}
-use Rattle.wsm.proofs.Turning.{one_line}
+use Rattle.wsm.proofs.RowTurns.{one_more}
+use Rattle.wsm.proofs.TurnLines.{one_line}
 use Rattle.wsm.proofs.turns.Turns.refuse.Goals as goal
 
 pub returns : goal.returns

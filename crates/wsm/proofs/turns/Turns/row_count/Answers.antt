@@ -1,7 +1,7 @@
 use Rattle.std.proofs.Common.{◌∙◌, ap}
 use Rattle.wsm_semantics.specs.declared.ending.Totals.{Totals}
 use Rattle.wsm_semantics.specs.Lines.{events}
-use Rattle.wsm.proofs.Taking.{rows_counted}
+use Rattle.wsm.proofs.RowTurns.{rows_counted}
 use Rattle.wsm.proofs.turns.Turns.row_count.Goals as goal
 
 pub returns : goal.returns

@@ -6,7 +6,7 @@ use Rattle.wsm_record.specs.Schema.{Declared}
 use Rattle.wsm_program.specs.Program.{Program}
 use Rattle.wsm_csv.specs.Cells.{event_of_cells}
 use Rattle.wsm.specs.Turns.{Fits, Turned}
-use Rattle.wsm.proofs.Taking.{turned}
+use Rattle.wsm.proofs.RowTurns.{turned}
 use Rattle.wsm.proofs.turns.Turns.take.Goals as goal
 
 pub returns-in-Ok : goal.returns-in-Ok

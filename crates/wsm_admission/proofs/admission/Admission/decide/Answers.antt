@@ -1,6 +1,6 @@
 use Rattle.std.proofs.Common.{Err, sym, ◌∙◌}
 use Rattle.wsm_record.specs.Event.{event_of}
-use Rattle.wsm_admission.proofs.Keeping.{Fits-kept}
+use Rattle.wsm_admission.proofs.FittedHistory.{Fits-kept}
 use Rattle.wsm_admission.proofs.admission.Admission.decide.Goals as goal
 
 pub returns-in-Err-clause-fits : goal.returns-in-Err-clause-fits

@@ -5,7 +5,7 @@ use Rattle.wsm_machine.proofs.Costs.{step_cost_within}
 use Rattle.wsm_engine.specs.declared.reply.Reply.{Reply}
 use Rattle.wsm_engine.specs.State.{State}
 use Rattle.std.specs.Prelude.{IsSome}
-use Rattle.wsm_engine.proofs.Turning.{turn_fits, turn_writes, turn_replies, refused_turn, fired_few}
+use Rattle.wsm_engine.proofs.EngineTurns.{turn_fits, turn_writes, turn_replies, refused_turn, fired_few}
 use Rattle.wsm_engine.proofs.Within.{firings_within}
 use Rattle.wsm_engine.proofs.engine.Engine.feed.Goals as goal
 

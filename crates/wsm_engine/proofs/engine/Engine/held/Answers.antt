@@ -3,7 +3,7 @@ use Rattle.wsm_verifier.specs.Costs.{needed}
 use Rattle.wsm_engine.specs.State.{State}
 use Rattle.wsm_engine.specs.Engine.{state_of}
 use Rattle.wsm_engine.proofs.Limits.{panes_stated}
-use Rattle.wsm_engine.proofs.Holding.{kept_within}
+use Rattle.wsm_engine.proofs.HeldByHistory.{kept_within}
 use Rattle.wsm_engine.proofs.engine.Engine.held.Goals as goal
 
 pub returns-clause-within : goal.returns-clause-within

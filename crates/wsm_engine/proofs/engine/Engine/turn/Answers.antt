@@ -11,7 +11,7 @@ use Rattle.wsm_engine.specs.State.{State}
 use Rattle.wsm_engine.specs.Meaning.{Fits}
 use Rattle.wsm_engine.specs.Runner.{IsAt, last_relation}
 use Rattle.wsm_engine.specs.Engine.{state_of}
-use Rattle.wsm_engine.proofs.Turning.{turn_fits, turned_is, comes_of, replied_is}
+use Rattle.wsm_engine.proofs.EngineTurns.{turn_fits, turned_is, comes_of, replied_is}
 use Rattle.wsm_engine.proofs.engine.Engine.turn.Goals as goal
 use Rattle.wsm_engine.proofs.engine.Engine.turn.Goals.{After-decide-answer, After-act-done}
 

@@ -2,8 +2,8 @@ use Rattle.std.proofs.Common.{rules, ◌≡◌, ◌∙◌, Some, Ok, SFits, w64,
 use Rattle.wsm_record.specs.Event.{Record, event_of}
 use Rattle.wsm_admission.specs.declared.verdict.Admitted.TheVariants as admitted
 use Rattle.wsm_firing.specs.Tally.{tally_of}
-use Rattle.wsm_engine.proofs.Acting.{panes_record, fired_record, rows_record, panes_mark, fired_mark, relation_mark, rows_mark}
-use Rattle.wsm_engine.proofs.Coming.{time_fits, mark_fits, old_fits, comes_with, comes_at}
+use Rattle.wsm_engine.proofs.Actions.{panes_record, fired_record, rows_record, panes_mark, fired_mark, relation_mark, rows_mark}
+use Rattle.wsm_engine.proofs.RunnerEvents.{time_fits, mark_fits, old_fits, comes_with, comes_at}
 use Rattle.wsm_engine.proofs.runner.Runner.act.Goals as goal
 
 pub take_record-requires-clause-comes : goal.take_record-requires-clause-comes

@@ -1,12 +1,12 @@
 use Rattle.std.proofs.Common.{◌≡◌, ◌∙◌, cond, length, refl, SFits, w64, to_z-of_z, sym, ap, arith}
 use Rattle.wsm_program.specs.Program.{Header}
 use Rattle.wsm_machine.specs.Meaning.{updated}
-use Rattle.wsm_machine.proofs.Telling.{updated_is}
+use Rattle.wsm_machine.proofs.RunAnswers.{updated_is}
 use Rattle.wsm_panes.specs.Held.{entries_of}
 use Rattle.wsm_semantics.specs.HeldBounds.{most_panes}
 use Rattle.wsm_machine.specs.Meaning.{query_of}
 use Rattle.wsm_engine.proofs.Told.{can_tell, same_alike}
-use Rattle.wsm_engine.proofs.Coming.{enters, entered_is, cost_is, cost_stated, held_within}
+use Rattle.wsm_engine.proofs.RunnerEvents.{enters, entered_is, cost_is, cost_stated, held_within}
 use Rattle.wsm_engine.proofs.runner.Runner.enter.Goals as goal
 
 pub enter-entered-requires-clause-can : goal.enter-entered-requires-clause-can

@@ -3,18 +3,18 @@ use Rattle.std.proofs.lemmas.Bool.{not-false}
 use Rattle.wsm_semantics.specs.Replay.{datum}
 use Rattle.wsm_semantics.specs.Summaries.{all_fired, kind_by_record, after_record, fired_by_record}
 use Rattle.wsm_machine.specs.Meaning.{plan_of, query_of, selects, where_run}
-use Rattle.wsm_machine.proofs.Telling.{keeps_is}
+use Rattle.wsm_machine.proofs.RunAnswers.{keeps_is}
 use Rattle.wsm_panes.specs.Held.{entries_of}
 use Rattle.wsm_firing.specs.Tally.{tally_of}
 use Rattle.wsm_firing.specs.Firing.{rows_of}
 use Rattle.wsm_firing.specs.ByRecord.{fires_by_record}
 use Rattle.wsm_engine.specs.Runner.{entering_cost}
-use Rattle.wsm_engine.proofs.Holding.{Panes}
+use Rattle.wsm_engine.proofs.HeldByHistory.{Panes}
 use Rattle.wsm_semantics.specs.HeldBounds.{most_panes}
 use Rattle.wsm_firing.specs.Streams.{IsTold, standing_rows}
 use Rattle.wsm_engine.specs.Runner.{last_relation}
 use Rattle.wsm_engine.proofs.Told.{last_is, are_told, can_tell, of_next, alike_on}
-use Rattle.wsm_engine.proofs.Coming.{can_fire, cost_stated, few_entered}
+use Rattle.wsm_engine.proofs.RunnerEvents.{can_fire, cost_stated, few_entered}
 use Rattle.wsm_engine.proofs.runner.Runner.take_record.Goals as goal
 
 pub fire_by_record-tally-requires-clause-can : goal.fire_by_record-tally-requires-clause-can

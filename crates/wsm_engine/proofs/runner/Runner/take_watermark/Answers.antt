@@ -18,11 +18,11 @@ use Rattle.wsm_machine.specs.Meaning.{plan_of, query_of}
 use Rattle.wsm_panes.specs.Held.{entries_of}
 use Rattle.wsm_semantics.proofs.RowsBound.{length-sorted_rows}
 use Rattle.wsm_firing.specs.Streams.{CanTell, IsTold, relation_kept, standing_rows}
-use Rattle.wsm_firing.proofs.Standing.{can_tell_on, few_rows}
+use Rattle.wsm_firing.proofs.StandingRows.{can_tell_on, few_rows}
 use Rattle.wsm_engine.specs.Runner.{last_relation}
 use Rattle.wsm_engine.proofs.Told.{last_is, are_told, alike_on, can_advance, can_go_on, can_tell, few_kept, of_next, placed_fired, same_alike}
-use Rattle.wsm_engine.proofs.Holding.{Panes}
-use Rattle.wsm_engine.proofs.Coming.{can_fire_at, held_within, rows_then}
+use Rattle.wsm_engine.proofs.HeldByHistory.{Panes}
+use Rattle.wsm_engine.proofs.RunnerEvents.{can_fire_at, held_within, rows_then}
 use Rattle.wsm_engine.proofs.runner.Runner.take_watermark.Goals as goal
 
 pub fire_by_watermark-tally-requires-clause-can : goal.fire_by_watermark-tally-requires-clause-can

@@ -3,7 +3,7 @@ use Rattle.wsm_record.specs.declared.cell.Cell.{Cell}
 use Rattle.wsm_semantics.specs.Relation.{sorted_rows}
 use Rattle.wsm_relation.specs.Tally.{Tally}
 use Rattle.wsm_firing.specs.Streams.{Standing, IsTold, IsToldOf, CanAdvance, HasRoomFor, relation_kept, stream_of, stream_row}
-use Rattle.wsm_firing.proofs.Streaming.{stream_is, stream_few, told_on, room_for, room_written, still_reserved}
+use Rattle.wsm_firing.proofs.StreamRows.{stream_is, stream_few, told_on, room_for, room_written, still_reserved}
 use Rattle.wsm_firing.proofs.streams.Streams.advance.Goals as goal
 
 pub gather-requires : goal.gather-requires

@@ -4,7 +4,7 @@ use Rattle.wsm_record.specs.declared.words.Form.{Form}
 use Rattle.wsm_relation.specs.Bag.{Bag}
 use Rattle.wsm_relation.specs.Tally.{Tally, shifted}
 use Rattle.wsm_firing.specs.Streams.{Standing, IsTold, IsToldOf, HasChanged, HasKept, CanGain}
-use Rattle.wsm_firing.proofs.Streaming.{changed_more, kept_more, kept_few, room_more, fits_more, as_changed, as_told, room_of_changes, room_of_rows}
+use Rattle.wsm_firing.proofs.StreamRows.{changed_more, kept_more, kept_few, room_more, fits_more, as_changed, as_told, room_of_changes, room_of_rows}
 use Rattle.wsm_firing.proofs.streams.Streams.gain_row.Goals as goal
 
 pub plus-requires-clause-room : goal.plus-requires-clause-room

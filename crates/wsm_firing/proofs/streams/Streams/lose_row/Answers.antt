@@ -4,7 +4,7 @@ use Rattle.wsm_record.specs.declared.words.Form.{Form}
 use Rattle.wsm_relation.specs.Bag.{Bag}
 use Rattle.wsm_relation.specs.Tally.{Tally, shifted}
 use Rattle.wsm_firing.specs.Streams.{Standing, IsTold, IsToldOf, HasChanged, HasKept, CanLose}
-use Rattle.wsm_firing.proofs.Streaming.{changed_less, kept_less, kept_there, room_less, fits_less, as_changed, as_told, room_of_changes}
+use Rattle.wsm_firing.proofs.StreamRows.{changed_less, kept_less, kept_there, room_less, fits_less, as_changed, as_told, room_of_changes}
 use Rattle.wsm_firing.proofs.streams.Streams.lose_row.Goals as goal
 
 pub minus-requires-clause-room : goal.minus-requires-clause-room

@@ -1,5 +1,5 @@
 use Rattle.std.proofs.Common.{rules, SFits, w64}
-use Rattle.wsm_interval.proofs.Holding.{add_holds}
+use Rattle.wsm_interval.proofs.SoundOperations.{add_holds}
 use Rattle.wsm_interval.proofs.Wide.{within_is, sum_is, some_of}
 use Rattle.wsm_interval.proofs.interval.Interval.add.Goals as goal
 

@@ -1,6 +1,6 @@
 use Rattle.std.proofs.Common.{rules, SFits, w64, sym, ◌∙◌, pos}
 use Rattle.wsm_interval.specs.Interval.{holds}
-use Rattle.wsm_interval.proofs.Holding.{div_holds}
+use Rattle.wsm_interval.proofs.SoundOperations.{div_holds}
 use Rattle.wsm_interval.proofs.Wide.{around_is, quotient_seen, some_of, unless}
 use Rattle.wsm_interval.proofs.interval.Interval.div.Goals as goal
 

@@ -1,5 +1,5 @@
 use Rattle.std.proofs.Common.{rules, SFits, w64}
-use Rattle.wsm_interval.proofs.Holding.{mul_holds}
+use Rattle.wsm_interval.proofs.SoundOperations.{mul_holds}
 use Rattle.wsm_interval.proofs.Wide.{around_is, product_is, some_of}
 use Rattle.wsm_interval.proofs.interval.Interval.mul.Goals as goal
 

@@ -1,5 +1,5 @@
 use Rattle.std.proofs.Common.{rules, SFits, w64}
-use Rattle.wsm_interval.proofs.Holding.{neg_holds}
+use Rattle.wsm_interval.proofs.SoundOperations.{neg_holds}
 use Rattle.wsm_interval.proofs.Wide.{within_is, negation_is, some_of}
 use Rattle.wsm_interval.proofs.interval.Interval.neg.Goals as goal
 

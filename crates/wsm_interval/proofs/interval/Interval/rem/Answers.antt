@@ -2,7 +2,7 @@ use Rattle.std.proofs.Common.{rules, arith, sym, ◌∙◌, refl, SFits, w64, po
 use Rattle.std.specs.Int.{w128}
 use Rattle.std.proofs.lemmas.Int.{ints}
 use Rattle.wsm_interval.specs.Interval.{holds}
-use Rattle.wsm_interval.proofs.Holding.{rem_holds}
+use Rattle.wsm_interval.proofs.SoundOperations.{rem_holds}
 use Rattle.wsm_interval.proofs.Wide.{less_one, less_one_negated, unless, within_is, min_is, some_of, abs_is, end_is, max_is, wide_is, most_fits}
 use Rattle.wsm_interval.proofs.interval.Interval.rem.Goals as goal
 

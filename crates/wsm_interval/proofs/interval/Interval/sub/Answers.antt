@@ -1,5 +1,5 @@
 use Rattle.std.proofs.Common.{rules, SFits, w64}
-use Rattle.wsm_interval.proofs.Holding.{sub_holds}
+use Rattle.wsm_interval.proofs.SoundOperations.{sub_holds}
 use Rattle.wsm_interval.proofs.Wide.{within_is, difference_is, some_of}
 use Rattle.wsm_interval.proofs.interval.Interval.sub.Goals as goal
 

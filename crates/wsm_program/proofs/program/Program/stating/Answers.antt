@@ -1,4 +1,4 @@
-use Rattle.wsm_program.proofs.Stating.{lawful_stating}
+use Rattle.wsm_program.proofs.StatedBudget.{lawful_stating}
 use Rattle.wsm_program.proofs.program.Program.stating.Goals as goal
 
 pub of_parts-requires : goal.of_parts-requires

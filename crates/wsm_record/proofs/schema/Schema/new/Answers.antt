@@ -2,7 +2,7 @@ use Rattle.std.proofs.Common.{◌≡◌, ◌∙◌, false, map, length, sym, ap,
 use Rattle.std.specs.Prelude.{nat_eq}
 use Rattle.wsm_record.specs.Schema.{is_schema}
 use Rattle.wsm_record.specs.Fields.{declared_of, field_seen}
-use Rattle.wsm_record.proofs.Declaring.{few_names}
+use Rattle.wsm_record.proofs.DeclaredFields.{few_names}
 use Rattle.wsm_record.proofs.Schemas.{not_refused, schema_lawful}
 use Rattle.wsm_record.proofs.schema.Schema.new.Goals as goal
 

@@ -2,7 +2,7 @@ use Rattle.std.proofs.Common.{◌≡◌, ℕ, List, Some, ap, ◌∙◌, SFits, 
 use Rattle.std.specs.Prelude.{slice_get}
 use Rattle.wsm_windows.specs.declared.window.Window.{Window}
 use Rattle.wsm_sessions.specs.Placing.{place_of}
-use Rattle.wsm_sessions.proofs.Placing.{session_at}
+use Rattle.wsm_sessions.proofs.SessionEdits.{session_at}
 use Rattle.wsm_sessions.proofs.sessions.Sessions.enter.Goals as goal
 
 read_alike : (vs ws : List Window) (i j : ℕ) (v w : Window) → vs ≡ ws → i ≡ j → slice_get vs i ≡ Some v → slice_get ws j ≡ Some w → v ≡ w

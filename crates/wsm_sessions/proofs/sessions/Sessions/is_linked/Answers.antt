@@ -1,6 +1,6 @@
 use Rattle.std.proofs.Common.{List, ◌∙◌, sym, rules, SFits, w64, to_z-of_z}
 use Rattle.wsm_windows.specs.declared.window.Window.{Window}
-use Rattle.wsm_sessions.proofs.Placing.{apart_of, begun, extends_linked, joins_linked}
+use Rattle.wsm_sessions.proofs.SessionEdits.{apart_of, begun, extends_linked, joins_linked}
 use Rattle.wsm_sessions.proofs.sessions.Sessions.is_linked.Goals as goal
 
 pub returns-in-New : goal.returns-in-New

@@ -2,7 +2,7 @@ use Rattle.std.proofs.Common.{◌≡◌, ◌+◌, ◌<◌, length, List, [], ◌
 use Rattle.wsm_windows.specs.declared.window.Window.{Window}
 use Rattle.wsm_sessions.specs.declared.placed.Placed.TheVariants.{Extends, Joins}
 use Rattle.wsm_sessions.specs.Placing.{placed}
-use Rattle.wsm_sessions.proofs.Placing.{apart_of, extended, joined, linked_one, linked_two}
+use Rattle.wsm_sessions.proofs.SessionEdits.{apart_of, extended, joined, linked_one, linked_two}
 use Rattle.wsm_sessions.proofs.sessions.Sessions.linked.Goals as goal
 use Rattle.wsm_sessions.proofs.sessions.Sessions.linked.Goals.{In-Extends, In-Joins}
 

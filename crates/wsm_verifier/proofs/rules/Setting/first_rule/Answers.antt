@@ -1,6 +1,6 @@
 use Rattle.std.proofs.Common.{sym, ◌∙◌}
 use Rattle.wsm_verifier.specs.Trying.{setting_of}
-use Rattle.wsm_verifier.proofs.Trying.{by_operands, by_results}
+use Rattle.wsm_verifier.proofs.FirstRules.{by_operands, by_results}
 use Rattle.wsm_verifier.proofs.rules.Setting.first_rule.Goals as goal
 
 pub returns-in-Some : goal.returns-in-Some

@@ -1,5 +1,5 @@
 use Rattle.std.proofs.Common.{◌≡◌, length, ap}
-use Rattle.wsm_verifier.proofs.Widening.{same_height_and}
+use Rattle.wsm_verifier.proofs.WidenedStacks.{same_height_and}
 use Rattle.wsm_verifier.proofs.state.State.widen.Goals as goal
 
 -- stacks that agree have the same height

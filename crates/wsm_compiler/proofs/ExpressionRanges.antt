@@ -1,0 +1,312 @@
+-- An expression of a type is found by the verifier as its range, in its type.
+use Rattle.std.proofs.Common.{◌≡◌, ℕ, zero, suc, ◌+◌, Bool, true, false, ◌&&◌, cond, List, [], ◌∷◌, ◌++◌, length, Option, Some, None, Ok, Err, refl, sym, ap, subst, ◌∙◌, arith}
+use Rattle.std.specs.Prelude.{ℤ, pos, ◌*ℤ◌, slice_get}
+use Rattle.std.specs.Int.{int_min, int_max}
+use Rattle.std.proofs.lemmas.Bool.{and_parts}
+use Rattle.wsm_record.specs.declared.words.Kind.{Kind}
+use Rattle.wsm_record.specs.declared.words.Kind.TheVariants.{Sum, Min, Max, Any, All}
+use Rattle.wsm_record.specs.Name.{is_among}
+use Rattle.wsm_interval.specs.declared.interval.Interval.{Interval}
+use Rattle.wsm_interval.specs.Interval.{interval}
+use Rattle.wsm_program.specs.declared.instr.Instr.TheVariants as instr
+use Rattle.wsm_program.specs.declared.operation.Operation.TheVariants as operation
+use Rattle.wsm_query.specs.declared.expr.Op.{Op}
+use Rattle.wsm_query.specs.declared.expr.Op.TheVariants.{Add, Sub, Mul, Div, Rem, Eq, Ne, Lt, Le, Gt, Ge}
+use Rattle.wsm_record.specs.Schema.{FieldType, is_i64}
+use Rattle.wsm_record.specs.Schema as field_types
+use Rattle.wsm_query.specs.Tree.{Name, Query, Expr, Number, Truth, Field, EnumName, Key, KeyName, Count, Aggregate, If, Brackets, Minus, Not, Binary, And, Or}
+use Rattle.wsm_check.specs.Names.{field_names, field_place, type_of, names_of}
+use Rattle.wsm_record.specs.declared.words.CellType.{CellType}
+use Rattle.wsm_record.specs.declared.words.CellType.TheVariants as types
+use Rattle.wsm_record.specs.Types.{is_type, kind_type}
+use Rattle.wsm_check.specs.Types.{Typed, wanted, if_typed, declared_ty, read_at, field_ty, op_ty, logic_ty, entered, typed}
+use Rattle.wsm_check.specs.declared.types.Around.{Around}
+use Rattle.wsm_check.specs.declared.types.Around.TheVariants.{InWhere, InColumn, InAggregate}
+use Rattle.wsm_check.specs.Sizes.{Acc, accumulators_of, aggregates}
+use Rattle.wsm_verifier.specs.declared.known.Known.{Known}
+use Rattle.wsm_verifier.specs.declared.known.Known.TheVariants as known
+use Rattle.wsm_verifier.specs.Rules.{Setting, and_then}
+use Rattle.wsm_compiler.specs.Code.{instruction}
+use Rattle.wsm_compiler.specs.Ranges.{Range, Unfit, NoNumber, Within, no_number, of_branches, if_fits, of_sum, of_aggregate, of_type, range}
+use Rattle.wsm_machine.proofs.FittingStacks.{no}
+use Rattle.wsm_compiler.proofs.Hulls.{hull_either}
+use Rattle.wsm_compiler.proofs.Choices.{hulled}
+use Rattle.wsm_compiler.proofs.Found.{of_instr, found}
+use Rattle.wsm_compiler.proofs.FoundRanges.{ok_is, err≢ok, typed_first, wanted_is, ty_is, suits, known_of, minus_found, minus_suits, not_found, op_typed, result_of, op_found}
+use Rattle.wsm_check.proofs.PassedChecks.{length-accumulators_of}
+
+-- ---- types
+
+pub cond_ok : (b : Bool) (x : Typed) (f : _) (t : CellType) → cond b x (Err f) ≡ Ok t → x ≡ Ok t
+cond_ok true x f t e = e
+cond_ok false x f t e = err≢ok e
+
+read_is : (around : Around) (u t : CellType) → read_at around u ≡ Ok t → u ≡ t
+read_is InWhere u t e = ok_is u t e
+read_is InColumn u t e = err≢ok e
+read_is InAggregate u t e = ok_is u t e
+
+pub field_is : (q : Query) (around : Around) (x : Name) (t : CellType) → field_ty q around x ≡ Ok t → declared_ty (field_place q.fields x) (type_of x q.fields) ≡ t
+field_is q around x t e = read_is around _ t (cond_ok (is_among x (field_names q.fields)) _ _ t e)
+
+pub entered_is : (around : Around) (x : Typed) (t : CellType) → entered around x ≡ Ok t → (around ≡ InColumn) × (x ≡ Ok t)
+entered_is InWhere x t e = err≢ok e
+entered_is InAggregate x t e = err≢ok e
+entered_is InColumn x t e = (refl, e)
+
+pub op_is : (op : Op) (t u w : CellType) → op_ty op t u ≡ Ok w → (op_typed op t u ≡ true) × (result_of op ≡ w)
+op_is Add t u w e = wanted_is _ types.Int w e
+op_is Sub t u w e = wanted_is _ types.Int w e
+op_is Mul t u w e = wanted_is _ types.Int w e
+op_is Div t u w e = wanted_is _ types.Int w e
+op_is Rem t u w e = wanted_is _ types.Int w e
+op_is Eq t u w e = wanted_is _ types.Bool w e
+op_is Ne t u w e = wanted_is _ types.Bool w e
+op_is Lt t u w e = wanted_is _ types.Bool w e
+op_is Le t u w e = wanted_is _ types.Bool w e
+op_is Gt t u w e = wanted_is _ types.Bool w e
+op_is Ge t u w e = wanted_is _ types.Bool w e
+
+-- the types of both operands of an operator
+pub record TwoTypes (q : Query) (around : Around) (x y : Expr) (go : CellType → CellType → Typed) (w : CellType) : Type 0 where
+  pub left : CellType
+  pub right : CellType
+  pub left_is : typed q around x ≡ Ok left
+  pub right_is : typed q around y ≡ Ok right
+  pub both : go left right ≡ Ok w
+
+pub two_types : (q : Query) (around : Around) (x y : Expr) (go : CellType → CellType → Typed) (w : CellType) → if_typed (typed q around x) (λ t. if_typed (typed q around y) (λ u. go t u)) ≡ Ok w → TwoTypes q around x y go w
+two_types q around x y go w e =
+    let l = typed_first (typed q around x) (λ t. if_typed (typed q around y) (λ u. go t u)) w e in
+    let r = typed_first (typed q around y) (λ u. go l.0 u) w l.2 in
+    record { left = l.0; right = r.0; left_is = l.1; right_is = r.1; both = r.2 }
+
+-- the parts of IF: a truth, and two of one type
+pub record IfTypes (q : Query) (around : Around) (c x y : Expr) (w : CellType) : Type 0 where
+  pub test_is : typed q around c ≡ Ok types.Bool
+  pub first_is : typed q around x ≡ Ok w
+  pub second_is : typed q around y ≡ Ok w
+
+pub if_types : (q : Query) (around : Around) (c x y : Expr) (w : CellType) → typed q around (If c x y) ≡ Ok w → IfTypes q around c x y w
+if_types q around c x y w e =
+    let b = typed_first (typed q around c) (λ b. if_typed (typed q around x) (λ t. if_typed (typed q around y) (λ u. wanted (is_type b types.Bool && is_type t u) t))) w e in
+    let two = two_types q around x y (λ t u. wanted (is_type b.0 types.Bool && is_type t u) t) w b.2 in
+    let same = wanted_is (is_type b.0 types.Bool && is_type two.left two.right) two.left w two.both in
+    let parts = and_parts (is_type b.0 types.Bool) (is_type two.left two.right) same.0 in
+    record {
+      test_is = b.1 ∙ ap Ok (ty_is b.0 types.Bool parts.0);
+      first_is = two.left_is ∙ ap Ok same.1;
+      second_is = two.right_is ∙ ap Ok (sym (ty_is two.left two.right parts.1) ∙ same.1);
+    }
+
+-- the parts of AND and OR
+pub record LogicTypes (q : Query) (around : Around) (x y : Expr) (w : CellType) : Type 0 where
+  pub left_is : typed q around x ≡ Ok types.Bool
+  pub right_is : typed q around y ≡ Ok types.Bool
+  pub is : types.Bool ≡ w
+
+pub logic_types : (q : Query) (around : Around) (x y : Expr) (w : CellType) → if_typed (typed q around x) (λ t. if_typed (typed q around y) (λ u. logic_ty t u)) ≡ Ok w → LogicTypes q around x y w
+logic_types q around x y w e =
+    let two = two_types q around x y logic_ty w e in
+    let same = wanted_is (is_type two.left types.Bool && is_type two.right types.Bool) types.Bool w two.both in
+    let parts = and_parts (is_type two.left types.Bool) (is_type two.right types.Bool) same.0 in
+    record { left_is = two.left_is ∙ ap Ok (ty_is two.left types.Bool parts.0); right_is = two.right_is ∙ ap Ok (ty_is two.right types.Bool parts.1); is = same.1 }
+
+-- the operand of a unary operator that gives the type that it takes
+pub unary_is : (q : Query) (around : Around) (x : Expr) (u w : CellType) → if_typed (typed q around x) (λ t. wanted (is_type t u) u) ≡ Ok w → (typed q around x ≡ Ok u) × (u ≡ w)
+unary_is q around x u w e =
+    let f = typed_first (typed q around x) (λ t. wanted (is_type t u) u) w e in
+    let g = wanted_is (is_type f.0 u) u w f.2 in
+    (f.1 ∙ ap Ok (ty_is f.0 u g.0), g.1)
+
+-- ---- ranges suit types
+
+suits_at : (r : Range) (u t : CellType) → u ≡ t → suits u r ≡ true → suits t r ≡ true
+suits_at r u t e h = subst (λ x. suits x r ≡ true) e h
+
+declared_suits : (f : ℕ) (ty : FieldType) → suits (declared_ty f ty) (of_type ty) ≡ true
+declared_suits f (field_types.Int lo hi) = refl
+declared_suits f field_types.Truth = refl
+declared_suits f (field_types.Enum names) = refl
+
+sum_suits : (n : ℤ) (x : Interval) → suits types.Int (of_sum n x) ≡ true
+sum_suits n x = elim (is_i64 (n *ℤ x.lo) && is_i64 (n *ℤ x.hi)) as (λ b. suits types.Int (cond b (Within (interval (int_min x.lo (n *ℤ x.lo)) (int_max x.hi (n *ℤ x.hi)))) Unfit) ≡ true) [ true ↦ refl | false ↦ refl ]
+
+alike_suits : (r : Range) → suits types.Bool r ≡ true → suits types.Bool (no_number r r) ≡ true
+alike_suits Unfit h = refl
+alike_suits NoNumber h = refl
+alike_suits (Within i) h = no h
+
+pub aggregate_suits : (n : ℤ) (kind : Kind) (r : Range) → suits (kind_type kind) r ≡ true → suits (kind_type kind) (of_aggregate n kind r) ≡ true
+aggregate_suits n Sum Unfit h = refl
+aggregate_suits n Sum NoNumber h = no h
+aggregate_suits n Sum (Within x) h = sum_suits n x
+aggregate_suits n Min r h = h
+aggregate_suits n Max r h = h
+aggregate_suits n Any r h = alike_suits r h
+aggregate_suits n All r h = alike_suits r h
+
+-- a choice between two values of one type
+abbrev Chosen : CellType → Range → Range → Range → Type 0
+Chosen t b r p = (and_then (λ x. hulled (known_of t r) (known_of t p)) (known_of types.Bool b) ≡ known_of t (if_fits b (of_branches r p))) × (suits t (if_fits b (of_branches r p)) ≡ true)
+
+chosen_is : (t : CellType) (b r p : Range) → suits types.Bool b ≡ true → suits t r ≡ true → suits t p ≡ true → Chosen t b r p
+chosen_is t Unfit r p h l m = (refl, refl)
+chosen_is t (Within i) r p h l m = no h
+chosen_is t NoNumber Unfit p h l m = (refl, refl)
+chosen_is types.Int NoNumber NoNumber p h l m = no l
+chosen_is types.Int NoNumber (Within x) Unfit h l m = (refl, refl)
+chosen_is types.Int NoNumber (Within x) NoNumber h l m = no m
+chosen_is types.Int NoNumber (Within x) (Within y) h l m = (ap (λ z. Some (known.Number z)) (hull_either y x), refl)
+chosen_is types.Bool NoNumber NoNumber Unfit h l m = (refl, refl)
+chosen_is types.Bool NoNumber NoNumber NoNumber h l m = (refl, refl)
+chosen_is types.Bool NoNumber NoNumber (Within y) h l m = no m
+chosen_is types.Bool NoNumber (Within x) p h l m = no l
+chosen_is (types.Enum e) NoNumber NoNumber Unfit h l m = (refl, refl)
+chosen_is (types.Enum e) NoNumber NoNumber NoNumber h l m = (refl, refl)
+chosen_is (types.Enum e) NoNumber NoNumber (Within y) h l m = no m
+chosen_is (types.Enum e) NoNumber (Within x) p h l m = no l
+
+-- two truths, of which the second is evaluated by the first
+abbrev Logic : Range → Range → Type 0
+Logic r p =
+    (and_then (λ x. hulled (known_of types.Bool p) (Some known.Truth)) (known_of types.Bool r) ≡ known_of types.Bool (no_number r p))
+    × (and_then (λ x. hulled (Some known.Truth) (known_of types.Bool p)) (known_of types.Bool r) ≡ known_of types.Bool (no_number r p))
+    × (suits types.Bool (no_number r p) ≡ true)
+
+logic_is : (r p : Range) → suits types.Bool r ≡ true → suits types.Bool p ≡ true → Logic r p
+logic_is Unfit p h l = (refl, refl, refl)
+logic_is (Within x) p h l = no h
+logic_is NoNumber Unfit h l = (refl, refl, refl)
+logic_is NoNumber NoNumber h l = (refl, refl, refl)
+logic_is NoNumber (Within y) h l = no l
+
+-- a number has an interval, and another value none
+pub range_suits : (c : Setting) (q : Query) (around : Around) (e : Expr) (t : CellType) → typed q around e ≡ Ok t → suits t (range q e) ≡ true
+range_suits c q around (Number n) t h = suits_at (range q (Number n)) types.Int t (ok_is types.Int t h) refl
+range_suits c q around (Truth b) t h = suits_at (range q (Truth b)) types.Bool t (ok_is types.Bool t h) refl
+range_suits c q around (Field x) t h = suits_at (range q (Field x)) _ t (field_is q around x t h) (declared_suits (field_place q.fields x) (type_of x q.fields))
+range_suits c q around (EnumName x y) t h = suits_at NoNumber (types.Enum _) t (ok_is _ t (cond_ok (is_among x (field_names q.fields) && is_among y (names_of (type_of x q.fields))) _ _ t h)) refl
+range_suits c q around Key t h = suits_at NoNumber (types.Enum 0) t (ok_is _ t h) refl
+range_suits c q around (KeyName x) t h = suits_at NoNumber (types.Enum 0) t (ok_is _ t (cond_ok (is_among x q.keys) _ _ t h)) refl
+range_suits c q around Count t h = suits_at (range q Count) types.Int t (ok_is _ t (entered_is around _ t h).1) refl
+range_suits c q around (Aggregate kind e) t h =
+    let u = unary_is q InAggregate e (kind_type kind) t (entered_is around _ t h).1 in
+    suits_at (range q (Aggregate kind e)) (kind_type kind) t u.1 (aggregate_suits q.records kind (range q e) (range_suits c q InAggregate e (kind_type kind) u.0))
+range_suits c q around (If b x y) t h =
+    let p = if_types q around b x y t h in
+    (chosen_is t (range q b) (range q x) (range q y) (range_suits c q around b types.Bool p.test_is) (range_suits c q around x t p.first_is) (range_suits c q around y t p.second_is)).1
+range_suits c q around (Brackets e) t h = range_suits c q around e t h
+range_suits c q around (Minus e) t h =
+    let u = unary_is q around e types.Int t h in suits_at (range q (Minus e)) types.Int t u.1 (minus_suits (range q e) (range_suits c q around e types.Int u.0))
+range_suits c q around (Not e) t h = let u = unary_is q around e types.Bool t h in suits_at (range q (Not e)) types.Bool t u.1 (range_suits c q around e types.Bool u.0)
+range_suits c q around (Binary op x y) t h =
+    let p = two_types q around x y (op_ty op) t h in
+    let o = op_is op p.left p.right t p.both in
+    (op_found c op p.left p.right t (range q x) (range q y) o.0 o.1 (range_suits c q around x p.left p.left_is) (range_suits c q around y p.right p.right_is)).1
+range_suits c q around (And x y) t h =
+    let p = logic_types q around x y t h in
+    suits_at (range q (And x y)) types.Bool t p.is (logic_is (range q x) (range q y) (range_suits c q around x types.Bool p.left_is) (range_suits c q around y types.Bool p.right_is)).2
+range_suits c q around (Or x y) t h =
+    let p = logic_types q around x y t h in
+    suits_at (range q (Or x y)) types.Bool t p.is (logic_is (range q x) (range q y) (range_suits c q around x types.Bool p.left_is) (range_suits c q around y types.Bool p.right_is)).2
+
+-- ---- what is found
+
+-- what is read of records and panes is known by its range
+pub record Reads (c : Setting) (q : Query) (around : Around) : Type 0 where
+  pub field : (x : Name) (t : CellType) → field_ty q around x ≡ Ok t → of_instr c (instr.Field (field_place q.fields x)) [] ≡ known_of t (of_type (type_of x q.fields))
+  pub count : around ≡ InColumn → of_instr c instr.Count [] ≡ Some (known.Number (interval (pos 1) q.records))
+
+-- and so is each of some accumulators, from the a-th on
+abbrev pub Accs : Setting → Query → ℕ → List Acc → Type 0
+Accs c q a accs = (j : ℕ) (acc : Acc) → slice_get accs j ≡ Some acc → of_instr c (instr.Acc (a + j)) [] ≡ known_of (kind_type acc.kind) (of_aggregate q.records acc.kind (range q acc.operand))
+
+pub get_left : {A : Type 0} (xs ys : List A) (j : ℕ) (x : A) → slice_get xs j ≡ Some x → slice_get (xs ++ ys) j ≡ Some x
+get_left [] ys j x e = let tag : Option _ → Bool = λ o. elim o [ None ↦ false | Some x ↦ true ] in no (ap tag e)
+get_left (y ∷ xs) ys zero x e = e
+get_left (y ∷ xs) ys (suc j) x e = get_left xs ys j x e
+
+pub get_right : {A : Type 0} (xs ys : List A) (j : ℕ) → slice_get (xs ++ ys) (length xs + j) ≡ slice_get ys j
+get_right [] ys j = let e : 0 + j ≡ j = omega arith in ap (slice_get ys) e
+get_right (x ∷ xs) ys j = let e : suc (length xs) + j ≡ suc (length xs + j) = omega arith in ap (slice_get (x ∷ (xs ++ ys))) e ∙ get_right xs ys j
+
+pub accs_left : (c : Setting) (q : Query) (a : ℕ) (xs ys : List Acc) → Accs c q a (xs ++ ys) → Accs c q a xs
+accs_left c q a xs ys h j acc e = h j acc (get_left xs ys j acc e)
+
+pub accs_right : (c : Setting) (q : Query) (a n : ℕ) (xs ys : List Acc) → length xs ≡ n → Accs c q a (xs ++ ys) → Accs c q (a + n) ys
+accs_right c q a n xs ys l h j acc e =
+    let there : a + (length xs + j) ≡ a + n + j = omega (arith, l) in
+    ap (λ b. of_instr c (instr.Acc b) []) (sym there) ∙ h (length xs + j) acc (get_right xs ys j ∙ e)
+
+-- where an aggregate may stand
+abbrev pub AccsIn : Setting → Query → Around → ℕ → List Acc → Type 0
+AccsIn c q around a accs = around ≡ InColumn → Accs c q a accs
+
+pub in_left : (c : Setting) (q : Query) (around : Around) (a : ℕ) (x y : Expr) → AccsIn c q around a (accumulators_of x ++ accumulators_of y) → AccsIn c q around a (accumulators_of x)
+in_left c q around a x y h e = accs_left c q a (accumulators_of x) (accumulators_of y) (h e)
+
+pub in_right : (c : Setting) (q : Query) (around : Around) (a : ℕ) (x y : Expr) → AccsIn c q around a (accumulators_of x ++ accumulators_of y) → AccsIn c q around (a + aggregates x) (accumulators_of y)
+in_right c q around a x y h e = accs_right c q a (aggregates x) (accumulators_of x) (accumulators_of y) (length-accumulators_of x) (h e)
+
+-- the three parts of IF
+pub record ThreeAccs (c : Setting) (q : Query) (around : Around) (a : ℕ) (b x y : Expr) : Type 0 where
+  pub test : AccsIn c q around a (accumulators_of b)
+  pub first : AccsIn c q around (a + aggregates b) (accumulators_of x)
+  pub second : AccsIn c q around (a + (aggregates b + aggregates x)) (accumulators_of y)
+
+pub three_accs : (c : Setting) (q : Query) (around : Around) (a : ℕ) (b x y : Expr) → AccsIn c q around a (accumulators_of (If b x y)) → ThreeAccs c q around a b x y
+three_accs c q around a b x y h =
+    let rest : AccsIn c q around (a + aggregates b) (accumulators_of x ++ accumulators_of y) = λ e. accs_right c q a (aggregates b) (accumulators_of b) (accumulators_of x ++ accumulators_of y) (length-accumulators_of b) (h e) in
+    let place : a + aggregates b + aggregates x ≡ a + (aggregates b + aggregates x) = omega arith in
+    record {
+      test = λ e. accs_left c q a (accumulators_of b) (accumulators_of x ++ accumulators_of y) (h e);
+      first = λ e. accs_left c q (a + aggregates b) (accumulators_of x) (accumulators_of y) (rest e);
+      second = λ e. subst (λ n. Accs c q n (accumulators_of y)) place (accs_right c q (a + aggregates b) (aggregates x) (accumulators_of x) (accumulators_of y) (length-accumulators_of x) (rest e));
+    }
+
+at_type : (o : Option Known) (r : Range) (u t : CellType) → u ≡ t → o ≡ known_of u r → o ≡ known_of t r
+at_type o r u t e h = subst (λ x. o ≡ known_of x r) e h
+
+pub found_is : (c : Setting) (q : Query) (around : Around) → Reads c q around → (a : ℕ) (e : Expr) (t : CellType) → typed q around e ≡ Ok t → AccsIn c q around a (accumulators_of e) → found c q a e ≡ known_of t (range q e)
+found_is c q around reads a (Number n) t h accs = at_type _ (range q (Number n)) types.Int t (ok_is _ t h) refl
+found_is c q around reads a (Truth b) t h accs = at_type _ NoNumber types.Bool t (ok_is _ t h) refl
+found_is c q around reads a (Field x) t h accs = reads.field x t h
+found_is c q around reads a (EnumName x y) t h accs =
+    at_type _ NoNumber (types.Enum _) t (ok_is _ t (cond_ok (is_among x (field_names q.fields) && is_among y (names_of (type_of x q.fields))) _ _ t h)) refl
+found_is c q around reads a Key t h accs = at_type _ NoNumber (types.Enum 0) t (ok_is _ t h) refl
+found_is c q around reads a (KeyName x) t h accs = at_type _ NoNumber (types.Enum 0) t (ok_is _ t (cond_ok (is_among x q.keys) _ _ t h)) refl
+found_is c q around reads a Count t h accs =
+    let e = entered_is around (Ok types.Int) t h in at_type _ (range q Count) types.Int t (ok_is _ t e.1) (reads.count e.0)
+found_is c q around reads a (Aggregate kind e) t h accs =
+    let i = entered_is around _ t h in
+    let u = unary_is q InAggregate e (kind_type kind) t i.1 in
+    let first : a + 0 ≡ a = omega arith in
+    at_type _ (range q (Aggregate kind e)) (kind_type kind) t u.1 (ap (λ b. of_instr c (instr.Acc b) []) (sym first) ∙ accs i.0 0 (record { kind = kind; operand = e }) refl)
+found_is c q around reads a (If b x y) t h accs =
+    let p = if_types q around b x y t h in
+    let s = three_accs c q around a b x y accs in
+    (λ i. and_then (λ v. hulled (found_is c q around reads (a + aggregates b) x t p.first_is s.first i) (found_is c q around reads (a + (aggregates b + aggregates x)) y t p.second_is s.second i)) (found_is c q around reads a b types.Bool p.test_is s.test i))
+    ∙ (chosen_is t (range q b) (range q x) (range q y) (range_suits c q around b types.Bool p.test_is) (range_suits c q around x t p.first_is) (range_suits c q around y t p.second_is)).0
+found_is c q around reads a (Brackets e) t h accs = found_is c q around reads a e t h accs
+found_is c q around reads a (Minus e) t h accs =
+    let u = unary_is q around e types.Int t h in
+    at_type _ (range q (Minus e)) types.Int t u.1 (ap (λ o. and_then (λ x. of_instr c (instr.Operate operation.Neg) (x ∷ [])) o) (found_is c q around reads a e types.Int u.0 accs) ∙ minus_found c (range q e) (range_suits c q around e types.Int u.0))
+found_is c q around reads a (Not e) t h accs =
+    let u = unary_is q around e types.Bool t h in
+    at_type _ (range q (Not e)) types.Bool t u.1 (ap (λ o. and_then (λ x. of_instr c (instr.Operate operation.Not) (x ∷ [])) o) (found_is c q around reads a e types.Bool u.0 accs) ∙ not_found c (range q e) (range_suits c q around e types.Bool u.0))
+found_is c q around reads a (Binary op x y) t h accs =
+    let p = two_types q around x y (op_ty op) t h in
+    let o = op_is op p.left p.right t p.both in
+    (λ i. and_then (λ u. and_then (λ v. of_instr c (instruction op) (v ∷ u ∷ [])) (found_is c q around reads (a + aggregates x) y p.right p.right_is (in_right c q around a x y accs) i)) (found_is c q around reads a x p.left p.left_is (in_left c q around a x y accs) i))
+    ∙ (op_found c op p.left p.right t (range q x) (range q y) o.0 o.1 (range_suits c q around x p.left p.left_is) (range_suits c q around y p.right p.right_is)).0
+found_is c q around reads a (And x y) t h accs =
+    let p = logic_types q around x y t h in
+    at_type _ (range q (And x y)) types.Bool t p.is
+    ((λ i. and_then (λ v. hulled (found_is c q around reads (a + aggregates x) y types.Bool p.right_is (in_right c q around a x y accs) i) (Some known.Truth)) (found_is c q around reads a x types.Bool p.left_is (in_left c q around a x y accs) i))
+    ∙ (logic_is (range q x) (range q y) (range_suits c q around x types.Bool p.left_is) (range_suits c q around y types.Bool p.right_is)).0)
+found_is c q around reads a (Or x y) t h accs =
+    let p = logic_types q around x y t h in
+    at_type _ (range q (Or x y)) types.Bool t p.is
+    ((λ i. and_then (λ v. hulled (Some known.Truth) (found_is c q around reads (a + aggregates x) y types.Bool p.right_is (in_right c q around a x y accs) i)) (found_is c q around reads a x types.Bool p.left_is (in_left c q around a x y accs) i))
+    ∙ (logic_is (range q x) (range q y) (range_suits c q around x types.Bool p.left_is) (range_suits c q around y types.Bool p.right_is)).1)

@@ -1,0 +1,242 @@
+-- A turn of what an engine keeps fits the history with its event, writes its rows and answers as the
+-- meaning does: the relation is read where changes against it are written, and nowhere else.
+use Rattle.std.proofs.Common.{◌≡◌, ℕ, ◌+◌, ◌≤◌, List, [], ◌∷◌, map, length, ℤ, Option, Some, None, IsTrue, refl, sym, ap, subst, ◌∙◌, arith}
+use Rattle.std.specs.Prelude.{Ok, Err, Result, IsSome, filter_map, sum}
+use Rattle.wsm_record.specs.declared.event.Value.{Value}
+use Rattle.wsm_record.specs.declared.cell.Cell.{Cell}
+use Rattle.wsm_record.specs.declared.words.Form.{Form}
+use Rattle.wsm_record.specs.declared.words.Form.TheVariants as form
+use Rattle.wsm_record.specs.Event.{Event, Record, Watermark}
+use Rattle.wsm_windows.specs.declared.place.Place.{Place}
+use Rattle.wsm_admission.specs.declared.verdict.Admitted.{Admitted}
+use Rattle.wsm_admission.specs.declared.verdict.Admitted.TheVariants as admitted
+use Rattle.wsm_admission.specs.declared.verdict.Refusal.{Refusal}
+use Rattle.wsm_admission.specs.declared.verdict.Refusal.TheVariants as refusal
+use Rattle.wsm_admission.specs.Admission as admission
+use Rattle.wsm_admission.specs.Admission.{answer, after}
+use Rattle.wsm_semantics.specs.declared.out_row.OutRow.{OutRow}
+use Rattle.wsm_semantics.specs.Query.{mark, verdict_on}
+use Rattle.wsm_semantics.specs.Panes.{held}
+use Rattle.wsm_semantics.specs.Firings.{firings}
+use Rattle.wsm_semantics.specs.Relation.{turn_rows, relation}
+use Rattle.wsm_semantics.specs.Summaries.{Pane, row_of, summary_fired}
+use Rattle.wsm_semantics.specs.Steps as steps
+use Rattle.wsm_semantics.specs.Steps.{answer_to, panes_after, fired_by, relation_after, streamed_by, chosen_rows, step, step_fires}
+use Rattle.wsm_semantics.proofs.Lists.{length_each}
+use Rattle.wsm_semantics.proofs.MachineSteps.{decision-fits}
+use Rattle.wsm_semantics.proofs.Steps.{Fits-step, rows-step, fires-step}
+use Rattle.wsm_program.specs.Program.{Program, is_program}
+use Rattle.wsm_verifier.proofs.Lawful.{lawful as program_lawful}
+use Rattle.wsm_machine.specs.Meaning.{query_of, plan_of, pane_cost, pane_cost_by, answer_cost}
+use Rattle.wsm_machine.proofs.QueryFolds.{plan_lawful, plan_runs}
+use Rattle.wsm_machine.proofs.Costs.{step_cost_is, fired_costs_are}
+use Rattle.wsm_panes.specs.Held.{Held, entries_of}
+use Rattle.wsm_engine.specs.Runner.{Comes}
+use Rattle.wsm_engine.specs.State.{State}
+use Rattle.wsm_firing.specs.declared.tally.Tally.{Tally}
+use Rattle.wsm_firing.specs.Tally.{greatest, tally_of}
+use Rattle.wsm_firing.specs.Streams.{relation_kept}
+use Rattle.wsm_engine.specs.Meaning.{reply_to, Fits, IsRefused, KeepsRelation}
+use Rattle.wsm_engine.specs.Turn.{turn, refusal_of, reply_by}
+
+-- ---- with another relation
+
+module _ (p : Program) (s : steps.State (List Value)) (r : List (List Cell)) where
+  -- the same state, of another relation
+  abbrev pub other : steps.State (List Value)
+  other = record s { relation = r }
+
+  pub panes_same : (a : Result Admitted Refusal) (e : Event) → panes_after (plan_of p) (query_of p) a e other ≡ panes_after (plan_of p) (query_of p) a e s
+  panes_same (Ok admitted.Record) (Record (Some k) t vs) = refl
+  panes_same (Ok admitted.Record) (Record None t vs) = refl
+  panes_same (Ok admitted.Record) (Watermark t) = refl
+  panes_same (Ok (admitted.Watermark old new)) e = refl
+  panes_same (Err x) e = refl
+
+  pub fired_same : (a : Result Admitted Refusal) (e : Event) → fired_by (plan_of p) (query_of p) a e other ≡ fired_by (plan_of p) (query_of p) a e s
+  fired_same (Ok admitted.Record) (Record (Some k) t vs) = refl
+  fired_same (Ok admitted.Record) (Record None t vs) = refl
+  fired_same (Ok admitted.Record) (Watermark t) = refl
+  fired_same (Ok (admitted.Watermark old new)) e = refl
+  fired_same (Err x) e = refl
+
+  -- the rows of a form, where its relation is the one that is kept
+  pub rows_same : (f : Form) (a : Result Admitted Refusal) (fired : List OutRow) → (KeepsRelation f → s.relation ≡ r) →
+      chosen_rows f fired (streamed_by (plan_of p) (query_of p) f a s) ≡ chosen_rows f fired (streamed_by (plan_of p) (query_of p) f a other)
+  rows_same form.Panes a fired h = refl
+  rows_same form.Istream a fired h = λ i. streamed_by (plan_of p) (query_of p) form.Istream a (record s { relation = h tt i })
+  rows_same form.Dstream a fired h = λ i. streamed_by (plan_of p) (query_of p) form.Dstream a (record s { relation = h tt i })
+  rows_same form.Rstream (Ok admitted.Record) fired h = refl
+  rows_same form.Rstream (Ok (admitted.Watermark old new)) fired h = refl
+  rows_same form.Rstream (Err x) fired h = refl
+
+  pub relation_same : (f : Form) (a : Result Admitted Refusal) (now : List (List Cell)) → (KeepsRelation f → s.relation ≡ r) → relation_after (plan_of p) (query_of p) a other ≡ now →
+      KeepsRelation f → relation_kept f s.relation (relation_after (plan_of p) (query_of p) a s) ≡ now
+  relation_same form.Panes a now h is k = absurd k
+  relation_same form.Istream a now h is k = (λ i. relation_after (plan_of p) (query_of p) a (record s { relation = h tt i })) ∙ is
+  relation_same form.Dstream a now h is k = (λ i. relation_after (plan_of p) (query_of p) a (record s { relation = h tt i })) ∙ is
+  relation_same form.Rstream a now h is k = absurd k
+
+-- ---- the turn
+
+module _ (s : State) (whole : IsTrue (is_program s.program)) (past : List Event) (fits : Fits s past) where
+  abbrev was : List (List Cell)
+  was = relation (query_of s.program) past
+
+  abbrev told : steps.State (List Value)
+  told = record s.machine { relation = relation (query_of s.program) past }
+
+  -- what is kept, with the relation of the history
+  pub told_fits : steps.Fits (plan_of s.program) (query_of s.program) told past
+  told_fits = record { clock = fits.clock; admission = fits.admission; panes = fits.panes; relation = refl; fed = fits.fed; fired = fits.fired }
+
+  module _ (e : Event) where
+    abbrev answered : Result Admitted Refusal
+    answered = answer_to (plan_of s.program) (query_of s.program) s.machine e
+
+    next : steps.Fits (plan_of s.program) (query_of s.program) (step (plan_of s.program) (query_of s.program) told e) (e ∷ past)
+    next = let is = program_lawful s.program whole in Fits-step (plan_of s.program) (plan_lawful s.program) (query_of s.program) (plan_runs s.program) is.shape is.lateness.low told e past told_fits
+
+    pub turn_fits : Fits (turn s e) (e ∷ past)
+    turn_fits = record {
+      clock = next.clock;
+      admission = next.admission;
+      panes = sym (panes_same s.program s.machine was answered e) ∙ next.panes;
+      relation = relation_same s.program s.machine was s.program.header.form answered (relation (query_of s.program) (e ∷ past)) fits.relation next.relation;
+      fed = next.fed;
+      fired = (λ i. admission.counter (s.machine.fired + length (sym (fired_same s.program s.machine was answered e) i))) ∙ next.fired;
+    }
+
+    pub turn_writes : (turn s e).rows ≡ turn_rows (query_of s.program) past e
+    turn_writes =
+        (λ i. chosen_rows s.program.header.form (filter_map (row_of (plan_of s.program)) (sym (fired_same s.program s.machine was answered e) i)) (streamed_by (plan_of s.program) (query_of s.program) s.program.header.form answered s.machine))
+        ∙ rows_same s.program s.machine was s.program.header.form answered _ fits.relation
+        ∙ (let is = program_lawful s.program whole in rows-step (plan_of s.program) (plan_lawful s.program) (query_of s.program) (plan_runs s.program) is.shape is.lateness.low told e past told_fits)
+
+    told_reply : (m : ℤ) (e : Event) (v : Option Refusal) → refusal_of (answer m e v) ≡ v
+    told_reply m (Record key time values) None = refl
+    told_reply m (Watermark time) None = refl
+    told_reply m e (Some r) = refl
+
+    turn_refuses : (reply_by s e).refusal ≡ verdict_on (query_of s.program) past e
+    turn_refuses =
+        ap refusal_of (decision-fits (query_of s.program) s.machine.admission past e fits.clock fits.admission)
+        ∙ told_reply (mark (query_of s.program) past) e (verdict_on (query_of s.program) past e)
+
+    -- its firings with their costs
+    same_firings : step_fires (plan_of s.program) (query_of s.program) s.machine e ≡ step_fires (plan_of s.program) (query_of s.program) told e
+    same_firings = sym (fired_same s.program s.machine was answered e)
+
+    turn_fires : (reply_by s e).fired ≡ length (firings (query_of s.program) past e)
+    turn_fires =
+        let is = program_lawful s.program whole in
+        ap length (same_firings ∙ fires-step (plan_of s.program) (plan_lawful s.program) (query_of s.program) (plan_runs s.program) is.shape is.lateness.low told e past told_fits)
+        ∙ length_each (summary_fired (plan_of s.program)) (firings (query_of s.program) past e)
+
+    turn_costs : map (pane_cost_by s.program) (step_fires (plan_of s.program) (query_of s.program) s.machine e) ≡ map (pane_cost s.program) (firings (query_of s.program) past e)
+    turn_costs = ap (map (pane_cost_by s.program)) same_firings ∙ fired_costs_are s.program whole told e past told_fits
+
+    same_cost : (a : Result Admitted Refusal) (e : Event) → answer_cost s.program a e s.machine ≡ answer_cost s.program a e told
+    same_cost (Ok admitted.Record) (Record (Some k) t vs) = refl
+    same_cost (Ok admitted.Record) (Record None t vs) = refl
+    same_cost (Ok admitted.Record) (Watermark t) = refl
+    same_cost (Ok (admitted.Watermark old new)) e = refl
+    same_cost (Err x) e = refl
+
+    pub turn_replies : reply_by s e ≡ reply_to s.program past e
+    turn_replies = λ i. record {
+      refusal = turn_refuses i;
+      record_steps = (same_cost answered e ∙ step_cost_is s.program whole told e past told_fits) i;
+      fired = turn_fires i;
+      pane_steps_max = greatest (turn_costs i);
+      pane_steps_total = sum (turn_costs i);
+    }
+
+-- ---- a refused event changes counters alone
+
+refused_after : (s : admission.State) (r : Refusal) → ((after (Err r) s).mark ≡ s.mark) × ((after (Err r) s).admitted ≡ s.admitted)
+refused_after s refusal.Late = (refl, refl)
+refused_after s _ = (refl, refl)
+
+no_rows : (p : Program) (s : steps.State (List Value)) (r : Refusal) (e : Event) (f : Form) → chosen_rows f [] (streamed_by (plan_of p) (query_of p) f (Err r) s) ≡ []
+no_rows p s r e form.Panes = refl
+no_rows p s r e form.Istream = refl
+no_rows p s r e form.Dstream = refl
+no_rows p s r e form.Rstream = refl
+
+as_before : (f : Form) (r : List (List Cell)) → relation_kept f r r ≡ r
+as_before form.Panes r = refl
+as_before form.Istream r = refl
+as_before form.Dstream r = refl
+as_before form.Rstream r = refl
+
+stays : (n : ℕ) → n ≤ 18446744073709551615 → admission.counter (n + 0) ≡ n
+stays n h = omega (arith, h)
+
+pub refused_turn : (s : State) → s.machine.fired ≤ 18446744073709551615 → (e : Event) → IsSome (reply_by s e).refusal → IsRefused s (turn s e)
+refused_turn s few e some = by_answer (answer_to (plan_of s.program) (query_of s.program) s.machine e) refl some
+  where
+    by_answer : (a : Result Admitted Refusal) → a ≡ answer_to (plan_of s.program) (query_of s.program) s.machine e → IsSome (refusal_of a) → IsRefused s (turn s e)
+    by_answer (Ok a) is some = absurd (cc)
+    by_answer (Err r) is some = record {
+      panes = λ i. panes_after (plan_of s.program) (query_of s.program) (sym is i) e s.machine;
+      relation = (λ i. relation_kept s.program.header.form s.machine.relation (relation_after (plan_of s.program) (query_of s.program) (sym is i) s.machine)) ∙ as_before s.program.header.form s.machine.relation;
+      rows = (λ i. chosen_rows s.program.header.form (filter_map (row_of (plan_of s.program)) (fired_by (plan_of s.program) (query_of s.program) (sym is i) e s.machine)) (streamed_by (plan_of s.program) (query_of s.program) s.program.header.form (sym is i) s.machine))
+          ∙ no_rows s.program s.machine r e s.program.header.form;
+      mark = (λ i. (after (sym is i) s.machine.admission).mark) ∙ (refused_after s.machine.admission r).0;
+      admitted = (λ i. (after (sym is i) s.machine.admission).admitted) ∙ (refused_after s.machine.admission r).1;
+      fired = (λ i. admission.counter (s.machine.fired + length (fired_by (plan_of s.program) (query_of s.program) (sym is i) e s.machine))) ∙ stays s.machine.fired few;
+    }
+
+-- ---- the turn by the answer
+
+-- what is kept after an answer is what is kept after the turn
+pub turned_is : (s : State) (e : Event) (a : Result Admitted Refusal) → a ≡ answer_to (plan_of s.program) (query_of s.program) s.machine e →
+    (kept : admission.State) (panes : List (Place × Pane (List Value))) (related : List (List Cell)) (fed fired : ℕ) (rows : List OutRow) →
+    kept ≡ after a s.machine.admission → panes ≡ panes_after (plan_of s.program) (query_of s.program) a e s.machine
+    → related ≡ relation_kept s.program.header.form s.machine.relation (relation_after (plan_of s.program) (query_of s.program) a s.machine)
+    → fed ≡ admission.counter (s.machine.fed + 1) → fired ≡ admission.counter (s.machine.fired + length (fired_by (plan_of s.program) (query_of s.program) a e s.machine))
+    → rows ≡ chosen_rows s.program.header.form (filter_map (row_of (plan_of s.program)) (fired_by (plan_of s.program) (query_of s.program) a e s.machine)) (streamed_by (plan_of s.program) (query_of s.program) s.program.header.form a s.machine)
+    → record { program = s.program; machine = record { admission = kept; panes = panes; relation = related; fed = fed; fired = fired }; rows = rows } ≡ turn s e
+turned_is s e a is kept panes related fed fired rows hk hp hr hf hn ho =
+    (λ i. record { program = s.program; machine = record { admission = hk i; panes = hp i; relation = hr i; fed = hf i; fired = hn i }; rows = ho i })
+    ∙ (λ i. record {
+      program = s.program;
+      machine = record {
+        admission = after (is i) s.machine.admission;
+        panes = panes_after (plan_of s.program) (query_of s.program) (is i) e s.machine;
+        relation = relation_kept s.program.header.form s.machine.relation (relation_after (plan_of s.program) (query_of s.program) (is i) s.machine);
+        fed = admission.counter (s.machine.fed + 1);
+        fired = admission.counter (s.machine.fired + length (fired_by (plan_of s.program) (query_of s.program) (is i) e s.machine));
+      };
+      rows = chosen_rows s.program.header.form (filter_map (row_of (plan_of s.program)) (fired_by (plan_of s.program) (query_of s.program) (is i) e s.machine)) (streamed_by (plan_of s.program) (query_of s.program) s.program.header.form (is i) s.machine);
+    })
+
+-- an event comes to the runner of an engine that fits a history
+pub comes_of : (s : State) (past : List Event) → Fits s past → (h : Held) → entries_of h ≡ s.machine.panes → (m : ℤ) → m ≡ s.machine.admission.mark → (a : Result Admitted Refusal) (e : Event)
+    → a ≡ answer_to (plan_of s.program) (query_of s.program) s.machine e → Comes s.program past h m a e
+comes_of s past fits h held m is a e answered =
+    let here : m ≡ mark (query_of s.program) past = is ∙ fits.admission.mark ∙ ap (λ c. mark (record (query_of s.program) { clock = c }) past) fits.clock in
+    record {
+      marked = here;
+      answered = answered ∙ decision-fits (query_of s.program) s.machine.admission past e fits.clock fits.admission ∙ ap (λ (n : ℤ). answer n e (verdict_on (query_of s.program) past e)) (sym here);
+      panes = held ∙ fits.panes;
+    }
+
+-- what is answered after an answer is the reply of the turn
+pub replied_is : (s : State) (e : Event) (a : Result Admitted Refusal) → a ≡ answer_to (plan_of s.program) (query_of s.program) s.machine e →
+    (refused : Option Refusal) (cost : ℕ) (t : Tally) → refused ≡ refusal_of a → cost ≡ answer_cost s.program a e s.machine → t ≡ tally_of s.program (fired_by (plan_of s.program) (query_of s.program) a e s.machine)
+    → record { refusal = refused; record_steps = cost; fired = t.fired; pane_steps_max = t.steps_max; pane_steps_total = t.steps_total } ≡ reply_by s e
+replied_is s e a is refused cost t hr hc ht =
+    (λ i. record { refusal = hr i; record_steps = hc i; fired = (ht i).fired; pane_steps_max = (ht i).steps_max; pane_steps_total = (ht i).steps_total })
+    ∙ (λ i. let fs = fired_by (plan_of s.program) (query_of s.program) (is i) e s.machine in record {
+      refusal = refusal_of (is i);
+      record_steps = answer_cost s.program (is i) e s.machine;
+      fired = length fs;
+      pane_steps_max = greatest (map (pane_cost_by s.program) fs);
+      pane_steps_total = sum (map (pane_cost_by s.program) fs);
+    })
+
+-- the count of firings has 64 bits
+pub fired_few : (s : State) (past : List Event) → Fits s past → s.machine.fired ≤ 18446744073709551615
+fired_few s past fits = subst (λ n. n ≤ 18446744073709551615) (sym fits.fired) (omega arith)
