@@ -20,7 +20,7 @@ use wsm_record::CellType;
 use wsm_record::limits::{MAX_ACCUMULATORS, MAX_FIELDS};
 
 /// The terms of all expressions.
-#[tactic(auto, using(crate::proofs::Resolving::all_parts))]
+#[tactic(auto, using(crate::proofs::ResolvedTerms::all_parts))]
 pub fn terms_of(alloc: Global, query: &Query) -> Result<Terms, AllocError>
     requires fields { length query.now.fields.items ≤ MAX_FIELDS }
     requires resolved { MayBeResolved (seen query.now) }
@@ -62,7 +62,7 @@ fn resolve_option(
 }
 
 // Adds the columns, and their accumulators, behind those that are there.
-#[tactic(auto, using(crate::proofs::Resolving::parts))]
+#[tactic(auto, using(crate::proofs::ResolvedTerms::parts))]
 fn resolve_columns(
     alloc: Global,
     query: &Query,

@@ -35,7 +35,7 @@ pub fn code_fits(query: &Query) -> bool
 }
 
 // What the aggregates of the columns and of HAVING take.
-#[tactic(auto, using(crate::proofs::Counting::folds_join, crate::proofs::Counting::fired_accumulators))]
+#[tactic(auto, using(crate::proofs::CappedNumbers::folds_join, crate::proofs::CappedNumbers::fired_accumulators))]
 fn folds_in_fired(columns: &[Expr], having: &Option<Expr>) -> Folds
     ensures { result ≡ folds_of (flat_map accumulators_of (map seen_expr columns.now ++ in_option (option_map seen_expr having.now))) }
 {

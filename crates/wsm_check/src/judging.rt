@@ -30,7 +30,7 @@ fn want(holds: bool, fault: CheckFault, part: Part) -> Result<(), CheckRefusal>
 }
 
 // 1 to 1,000 names, none of them twice.
-#[tactic(auto, using(crate::proofs::Following::steps))]
+#[tactic(auto, using(crate::proofs::ChecksInOrder::steps))]
 fn judge_names(alloc: Global, part: Part, names: &[Name]) -> Result<(), CheckRefusal>
     ensures { Judges result (names_refusal part names.now) }
 {
@@ -62,7 +62,7 @@ fn judge_ty(alloc: Global, part: Part, ty: &Ty) -> Result<(), CheckRefusal>
 }
 
 // At most 16 fields, and none of a name twice.
-#[tactic(auto, using(crate::proofs::Following::next_passed, crate::proofs::Following::next_refused))]
+#[tactic(auto, using(crate::proofs::ChecksInOrder::next_passed, crate::proofs::ChecksInOrder::next_refused))]
 fn judge_fields(alloc: Global, fields: &[Field]) -> Result<(), CheckRefusal>
     ensures judged { Judges result (fields_refusal [] (map declared_field fields.now)) }
     ensures few { OnOk result (length fields.now ≤ MAX_FIELDS) }
@@ -74,7 +74,7 @@ fn judge_fields(alloc: Global, fields: &[Field]) -> Result<(), CheckRefusal>
 }
 
 // A field behind others.
-#[tactic(auto, using(crate::proofs::Following::steps, crate::proofs::Following::counted_names))]
+#[tactic(auto, using(crate::proofs::ChecksInOrder::steps, crate::proofs::ChecksInOrder::counted_names))]
 fn judge_field(alloc: Global, before: &[Field], field: &Field) -> Result<(), CheckRefusal>
     ensures { Judges result (field_refusal (field_names (map declared_field before.now)) (declared_field field.now)) }
 {
@@ -86,7 +86,7 @@ fn judge_field(alloc: Global, before: &[Field], field: &Field) -> Result<(), Che
 }
 
 // The clauses of numbers, and the form.
-#[tactic(auto, using(crate::proofs::Following::steps))]
+#[tactic(auto, using(crate::proofs::ChecksInOrder::steps))]
 fn judge_numbers(query: &Query) -> Result<(), CheckRefusal>
     ensures judged { Judges result (numbers_refusal (seen query.now)) }
     ensures clock { OnOk result (clock_fits (seen query.now) ≡ true) }
@@ -120,7 +120,7 @@ fn judge_option(
 }
 
 // The columns behind others: 1 to 16 of them.
-#[tactic(auto, using(crate::proofs::Following::steps))]
+#[tactic(auto, using(crate::proofs::ChecksInOrder::steps))]
 fn judge_columns(query: &Query, passed: usize, columns: &[Expr]) -> Result<(), CheckRefusal>
     requires fields { length query.now.fields.items ≤ MAX_FIELDS }
     requires passed { passed ≤ MAX_COLUMNS }
@@ -156,7 +156,7 @@ pub fn judge(alloc: Global, query: &Query) -> Result<(), CheckRefusal>
     judge_in_groups(alloc, query)
 }
 
-#[tactic(auto, using(crate::proofs::Following::steps))]
+#[tactic(auto, using(crate::proofs::ChecksInOrder::steps))]
 fn judge_in_groups(alloc: Global, query: &Query) -> Result<(), CheckRefusal>
     ensures { Judges result (grouped_refusal (seen query.now)) }
 {

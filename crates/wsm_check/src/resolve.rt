@@ -22,7 +22,7 @@ use wsm_record::{Field, Kind, Name, Ty};
 
 /// The term of an expression. Each of its aggregates gets an accumulator behind those that are there.
 #[cycle(resolve)]
-#[tactic(auto, using(crate::proofs::Resolving::parts))]
+#[tactic(auto, using(crate::proofs::ResolvedTerms::parts))]
 pub fn resolve(
     alloc: Global,
     query: &Query,
@@ -96,7 +96,7 @@ fn boxed(
 
 // The accumulator of an aggregate, whose operand has none.
 #[cycle(resolve)]
-#[tactic(auto, using(crate::proofs::Resolving::parts))]
+#[tactic(auto, using(crate::proofs::ResolvedTerms::parts))]
 fn accumulator(
     alloc: Global,
     query: &Query,
@@ -132,7 +132,7 @@ fn place_of_field(field: &Name, fields: &[Field]) -> u8
 }
 
 // The name of a field's ENUM.
-#[tactic(auto, using(crate::proofs::Naming::few_named))]
+#[tactic(auto, using(crate::proofs::NamedFields::few_named))]
 fn name_of_field(fields: &[Field], field: &Name, name: &Name) -> Term
     requires fields { length fields.now ≤ MAX_FIELDS }
     requires names { list_all few_names (map declared_field fields.now) ≡ true }

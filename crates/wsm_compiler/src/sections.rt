@@ -21,7 +21,7 @@ pub fn selection(alloc: Global, condition: &Option<Term>) -> Result<Section, All
 }
 
 /// The section UPDATE, which folds a record into each accumulator.
-#[tactic(auto, using(crate::proofs::Coding::added))]
+#[tactic(auto, using(crate::proofs::CodeParts::added))]
 pub fn update(alloc: Global, foldings: &[Folding]) -> Result<Section, AllocError>
     requires size { foldings_size (map seen_folding foldings.now) ≤ MAX_SECTION }
     requires few { length foldings.now ≤ MAX_ACCUMULATORS }
@@ -37,7 +37,7 @@ pub fn update(alloc: Global, foldings: &[Folding]) -> Result<Section, AllocError
 }
 
 /// The section FIRE, which computes the columns of a pane, and whether they are a row.
-#[tactic(auto, using(crate::proofs::Coding::added))]
+#[tactic(auto, using(crate::proofs::CodeParts::added))]
 pub fn fire(alloc: Global, columns: &[Column], having: &Option<Term>) -> Result<Section, AllocError>
     requires { firing_size (option_map seen_term having.now) (map seen_column columns.now) ≤ MAX_SECTION }
     ensures { IfOk result (λ code. code.items ≡ firing_code 0 (option_map seen_term having.now) (map seen_column columns.now)) }
@@ -51,7 +51,7 @@ pub fn fire(alloc: Global, columns: &[Column], having: &Option<Term>) -> Result<
 }
 
 // Adds a condition, which is true where there is none, and the end of the section.
-#[tactic(auto, using(crate::proofs::Coding::added))]
+#[tactic(auto, using(crate::proofs::CodeParts::added))]
 fn end_by(code: &mut Section, condition: &Option<Term>) -> Result<(), AllocError>
     requires { length code.old.items + ending_size (option_map seen_term condition.now) ≤ MAX_SECTION }
     ensures { OnOk result (code.new.items ≡ code.old.items ++ ending_code (length code.old.items) (option_map seen_term condition.now)) }
