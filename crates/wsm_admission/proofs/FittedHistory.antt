@@ -1,89 +1,185 @@
 -- What an event leaves of a history that is fitted.
-use Rattle.std.proofs.Common.{◌≡◌, ℕ, ◌+◌, Bool, true, false, List, ◌∷◌, ℤ, Option, Some, None, Result, refl, sym, ap, ◌∙◌, arith}
-use Rattle.std.proofs.lemmas.Int.{ints}
-use Rattle.std.specs.Prelude.{int_le, not, if◌then◌else◌}
-use Rattle.std.specs.Int.{int_max}
-use Rattle.wsm_record.specs.declared.event.Value.{Value}
+use Rattle.std.proofs.Common.{◌≡◌, ◌≤◌, ◌<◌, ℕ, ◌+◌, Bool, true, false, List, [], ◌∷◌, length, replicate, inl, inr, subst, ℤ, Option, Some, None, Result, refl, sym, ap, ◌∙◌, arith}
+use Rattle.std.proofs.lemmas.Int.{ints, fold-int_min_reached}
+use Rattle.std.proofs.lemmas.List.{length-replicate, length-set}
+use Rattle.std.proofs.lemmas.List.Elements.{All-replicate, All-head, All-tail, All-contains, All-set}
+use Rattle.std.proofs.lemmas.Option.{slice_get_cases}
+use Rattle.std.proofs.lemmas.Bool.Decides.{nat_tests}
+use Rattle.std.specs.Prelude.{All, not, if◌then◌else◌, slice_get, slice_set, unsigned_abs}
 use Rattle.wsm_record.specs.Event.{Event, Record, Watermark}
 use Rattle.wsm_record.specs.Schema.{Declared}
 use Rattle.wsm_admission.specs.declared.verdict.Admitted.{Admitted}
 use Rattle.wsm_admission.specs.declared.verdict.Refusal.{Refusal}
 use Rattle.wsm_admission.specs.declared.verdict.Refusal.TheVariants as refusal
 use Rattle.wsm_admission.specs.declared.clock.Clock.{Clock}
-use Rattle.wsm_admission.specs.Clock.{is_time, watermark_of, admitted_count, late_count, refused_count, verdict, verdict_at, admitted_with, late_with, refused_with}
-use Rattle.wsm_admission.specs.Admission.{State, Fits, counter, answer, after, decision}
+use Rattle.wsm_admission.specs.Clock.{IsWithinLimits, IsMark, is_time, watermark_refusal, marks_of, least, watermark_of, admitted_count, late_count, refused_count, verdict, verdict_at, admitted_with, late_with, refused_with}
+use Rattle.wsm_admission.specs.Admission.{State, Fits, IsInRange, MayTake, opened, counter, answer, answer_after, after, decision, marks_with}
+use Rattle.wsm_admission.proofs.SourceMarks.{accepted_marks, all_start, least_alike}
+use Rattle.wsm_admission.proofs.Taken.{refused_keeps, taken_record}
 
 pub counted : (a n : ℕ) → a ≡ counter n → counter (a + 1) ≡ counter (n + 1)
 counted a n h = omega arith
 
-late-after : (s : State) (e : Event) (v : Option Refusal) (n : ℕ) → s.late ≡ counter n → (after (answer s.mark e v) s).late ≡ counter (late_with n v)
-late-after s (Record k t vs) None n h = h
-late-after s (Watermark t) None n h = h
-late-after s e (Some refusal.Late) n h = counted s.late n h
-late-after s e (Some _) n h = h
+module _ (old new : ℤ) (s : State) where
+  late-after : (e : Event) (v : Option Refusal) (n : ℕ) → s.late ≡ counter n → (after (answer old new e v) e s).late ≡ counter (late_with n v)
+  late-after (Record k t vs) None n h = h
+  late-after (Watermark source t) None n h = h
+  late-after e (Some refusal.Late) n h = counted s.late n h
+  late-after e (Some _) n h = h
 
-refused-after : (s : State) (e : Event) (v : Option Refusal) (n : ℕ) → s.refused ≡ counter n → (after (answer s.mark e v) s).refused ≡ counter (refused_with n v)
-refused-after s (Record k t vs) None n h = h
-refused-after s (Watermark t) None n h = h
-refused-after s e (Some refusal.Late) n h = h
-refused-after s e (Some _) n h = counted s.refused n h
+  refused-after : (e : Event) (v : Option Refusal) (n : ℕ) → s.refused ≡ counter n → (after (answer old new e v) e s).refused ≡ counter (refused_with n v)
+  refused-after (Record k t vs) None n h = h
+  refused-after (Watermark source t) None n h = h
+  refused-after e (Some refusal.Late) n h = h
+  refused-after e (Some _) n h = counted s.refused n h
 
-admitted-after : (s : State) (e : Event) (v : Option Refusal) → (after (answer s.mark e v) s).admitted ≡ admitted_with s.admitted e v
-admitted-after s (Record k t vs) None = refl
-admitted-after s (Record k t vs) (Some refusal.Late) = refl
-admitted-after s (Record k t vs) (Some _) = refl
-admitted-after s (Watermark t) None = refl
-admitted-after s (Watermark t) (Some refusal.Late) = refl
-admitted-after s (Watermark t) (Some _) = refl
+  admitted-after : (e : Event) (v : Option Refusal) → (after (answer old new e v) e s).admitted ≡ admitted_with s.admitted e v
+  admitted-after (Record k t vs) None = refl
+  admitted-after (Record k t vs) (Some refusal.Late) = refl
+  admitted-after (Record k t vs) (Some _) = refl
+  admitted-after (Watermark source t) None = refl
+  admitted-after (Watermark source t) (Some refusal.Late) = refl
+  admitted-after (Watermark source t) (Some _) = refl
 
-pub clock-after : (s : State) (e : Event) (v : Option Refusal) → (after (answer s.mark e v) s).clock ≡ s.clock
-clock-after s (Record k t vs) None = refl
-clock-after s (Watermark t) None = refl
-clock-after s e (Some refusal.Late) = refl
-clock-after s e (Some _) = refl
+  pub clock-after : (e : Event) (v : Option Refusal) → (after (answer old new e v) e s).clock ≡ s.clock
+  clock-after (Record k t vs) None = refl
+  clock-after (Watermark source t) None = refl
+  clock-after e (Some refusal.Late) = refl
+  clock-after e (Some _) = refl
 
-record_keeps : (s : State) (k : Option ℕ) (t : ℤ) (vs : List Value) (v : Option Refusal) → (after (answer s.mark (Record k t vs) v) s).mark ≡ s.mark
-record_keeps s k t vs None = refl
-record_keeps s k t vs (Some refusal.Late) = refl
-record_keeps s k t vs (Some _) = refl
+  -- a refusal leaves the marks
+  marks-refused : (e : Event) (r : Refusal) → ((after (answer old new e (Some r)) e s).marks ≡ s.marks) × ((after (answer old new e (Some r)) e s).mark ≡ s.mark)
+  marks-refused e refusal.Late = (refl, refl)
+  marks-refused e _ = (refl, refl)
 
--- the greater of the two, or the old one
-rises : (s : State) (t : ℤ) (in_time low : Bool) → in_time ≡ is_time t → low ≡ int_le t s.mark →
-    (after (answer s.mark (Watermark t) (if not in_time then Some refusal.TimeRange else if low then Some refusal.NotRising else None)) s).mark ≡ (if in_time then int_max s.mark t else s.mark)
-rises s t false low h k = refl
-rises s t true true h k = grind (arith, ints)
-rises s t true false h k = grind (arith, ints)
+module _ (declared : Declared) (s : State) (past : List Event) (h : Fits declared s past) where
+  abbrev new_mark : Event → ℤ
+  new_mark e = least (marks_with s.marks e)
 
-mark-after : (declared : Declared) (s : State) (e : Event) (past : List Event) → s.mark ≡ watermark_of s.clock past → (after (decision declared s e) s).mark ≡ watermark_of s.clock (e ∷ past)
-mark-after declared s (Record k t vs) past h = record_keeps s k t vs (verdict_at s.clock declared s.mark s.admitted (Record k t vs)) ∙ h
-mark-after declared s (Watermark t) past h = rises s t (is_time t) (int_le t s.mark) refl refl ∙ ap (λ (m : ℤ). if is_time t then int_max m t else m) h
+  -- by what is kept an event has the verdict that it has by the history
+  verdict_kept : (e : Event) → verdict_at s.clock declared s.marks s.admitted e ≡ verdict s.clock declared past e
+  verdict_kept e = λ i. verdict_at s.clock declared (h.marks i) (h.admitted i) e
 
--- by what is kept an event has the verdict that it has by the history
-verdict_kept : (declared : Declared) (s : State) (e : Event) (past : List Event) → Fits declared s past → verdict_at s.clock declared s.mark s.admitted e ≡ verdict s.clock declared past e
-verdict_kept declared s e past h = λ i. verdict_at s.clock declared (h.mark i) (h.admitted i) e
+  -- what is taken leaves the marks of the history with it
+  taken_marks : (e : Event) → verdict s.clock declared past e ≡ None → marks_with s.marks e ≡ marks_of s.clock (e ∷ past)
+  taken_marks (Record k t vs) taken = h.marks
+  taken_marks (Watermark source t) taken = ap (λ (ms : List ℤ). marks_with ms (Watermark source t)) h.marks ∙ sym (accepted_marks s.clock past source t taken)
 
--- what is kept after an event is the history's with that event
-pub Fits-after : (declared : Declared) (s : State) (e : Event) (past : List Event) → Fits declared s past → Fits declared (after (decision declared s e) s) (e ∷ past)
-Fits-after declared s e past h =
-    let v : Option Refusal = verdict_at s.clock declared s.mark s.admitted e in
-    let same : s.clock ≡ (after (decision declared s e) s).clock = sym (clock-after s e v) in
-    let by_history : v ≡ verdict s.clock declared past e = verdict_kept declared s e past h in
-    record {
-      mark = mark-after declared s e past h.mark ∙ ap (λ (c : Clock). watermark_of c (e ∷ past)) same;
-      admitted =
-          admitted-after s e v
-          ∙ (λ i. admitted_with (h.admitted i) e (by_history i))
-          ∙ ap (λ (c : Clock). admitted_count c declared (e ∷ past)) same;
-      late =
-          late-after s e v (late_count s.clock declared past) h.late
-          ∙ ap (λ (v : Option Refusal). counter (late_with (late_count s.clock declared past) v)) by_history
-          ∙ ap (λ (c : Clock). counter (late_count c declared (e ∷ past))) same;
-      refused =
-          refused-after s e v (refused_count s.clock declared past) h.refused
-          ∙ ap (λ (v : Option Refusal). counter (refused_with (refused_count s.clock declared past) v)) by_history
-          ∙ ap (λ (c : Clock). counter (refused_count c declared (e ∷ past))) same;
-    }
+  -- the answer is that of the history
+  pub answer-fits : (e : Event) → decision declared s e ≡ answer_after s.clock declared past e
+  answer-fits e =
+      ap (answer s.mark (new_mark e) e) (verdict_kept e)
+      ∙ elim (verdict s.clock declared past e) as (λ v. verdict s.clock declared past e ≡ v → answer s.mark (new_mark e) e v ≡ answer (watermark_of s.clock past) (watermark_of s.clock (e ∷ past)) e v) [
+        | None ↦ λ taken. λ i. answer (h.mark i) (least (taken_marks e taken i)) e None
+        | Some r ↦ λ refused. refl
+      ] refl
 
--- the same, said of what was answered and kept
-pub Fits-kept : (declared : Declared) (s kept : State) (e : Event) (past : List Event) (r : Result Admitted Refusal) → r ≡ decision declared s e → kept ≡ after r s → Fits declared s past → Fits declared kept (e ∷ past)
-Fits-kept declared s kept e past r answered is h = rw (is, answered) (Fits-after declared s e past h)
+  marks-after : (e : Event) (v : Option Refusal) → v ≡ verdict s.clock declared past e →
+      ((after (answer s.mark (new_mark e) e v) e s).marks ≡ marks_of s.clock (e ∷ past)) × ((after (answer s.mark (new_mark e) e v) e s).mark ≡ watermark_of s.clock (e ∷ past))
+  marks-after (Record k t vs) None is = (h.marks, h.mark)
+  marks-after (Watermark source t) None is = let marks = taken_marks (Watermark source t) (sym is) in (marks, ap least marks)
+  marks-after e (Some r) is =
+      let kept = marks-refused s.mark (new_mark e) s e r in
+      let same = refused_keeps s.clock declared (admitted_count s.clock declared past) past e r (sym is) in
+      (kept.0 ∙ h.marks ∙ sym same, kept.1 ∙ h.mark ∙ sym (ap least same))
+
+  -- what is kept after an event is the history's with that event
+  pub Fits-after : (e : Event) → Fits declared (after (decision declared s e) e s) (e ∷ past)
+  Fits-after e =
+      let v : Option Refusal = verdict_at s.clock declared s.marks s.admitted e in
+      let same : s.clock ≡ (after (decision declared s e) e s).clock = sym (clock-after s.mark (new_mark e) s e v) in
+      let by_history : v ≡ verdict s.clock declared past e = verdict_kept e in
+      let marks = marks-after e v by_history in
+      record {
+        marks = marks.0 ∙ ap (λ (c : Clock). marks_of c (e ∷ past)) same;
+        mark = marks.1 ∙ ap (λ (c : Clock). watermark_of c (e ∷ past)) same;
+        admitted =
+            admitted-after s.mark (new_mark e) s e v
+            ∙ (λ i. admitted_with (h.admitted i) e (by_history i))
+            ∙ ap (λ (c : Clock). admitted_count c declared (e ∷ past)) same;
+        late =
+            late-after s.mark (new_mark e) s e v (late_count s.clock declared past) h.late
+            ∙ ap (λ (v : Option Refusal). counter (late_with (late_count s.clock declared past) v)) by_history
+            ∙ ap (λ (c : Clock). counter (late_count c declared (e ∷ past))) same;
+        refused =
+            refused-after s.mark (new_mark e) s e v (refused_count s.clock declared past) h.refused
+            ∙ ap (λ (v : Option Refusal). counter (refused_with (refused_count s.clock declared past) v)) by_history
+            ∙ ap (λ (c : Clock). counter (refused_count c declared (e ∷ past))) same;
+      }
+
+  -- the same, said of what was answered and kept
+  pub Fits-kept : (kept : State) (e : Event) (r : Result Admitted Refusal) → r ≡ decision declared s e → kept ≡ after r e s → Fits declared kept (e ∷ past)
+  Fits-kept kept e r answered is = rw (is, answered) (Fits-after e)
+
+-- ---- before the first event
+
+pub opened_fits : (c : Clock) (declared : Declared) → 1 ≤ c.sources → Fits declared (opened c) []
+opened_fits c declared some =
+    let marks : replicate c.sources c.start ≡ marks_of c [] = sym (all_start c.start 0 c.sources) in
+    record { marks = marks; mark = sym (least_alike c.start c.sources some) ∙ ap least marks; admitted = refl; late = refl; refused = refl }
+
+pub opened_range : (c : Clock) → IsWithinLimits c → IsInRange (opened c)
+opened_range c in_limits = record {
+  limits = in_limits;
+  count = length-replicate c.sources c.start;
+  marks = All-replicate IsMark c.sources c.start (record { from = in_limits.start_from; to = in_limits.start_to });
+  least = sym (least_alike c.start c.sources in_limits.sources_from);
+  mark_from = in_limits.start_from;
+  mark_to = in_limits.start_to;
+  admitted_to = omega arith;
+}
+
+-- ---- what may be taken, and what lies in range
+
+in_time : (t : ℤ) → is_time t ≡ true → IsMark t
+in_time t h = record { from = grind (arith, ints); to = grind (arith, ints) }
+
+-- an event that no rule refuses
+pub may_take : (declared : Declared) (s : State) (e : Event) → verdict_at s.clock declared s.marks s.admitted e ≡ None → MayTake s e
+may_take declared s (Record k t vs) h = let room = (taken_record s.clock declared (least s.marks) s.admitted k t vs h).room in grind (arith, nat_tests)
+may_take declared s (Watermark None t) h = absurd cc
+may_take declared s (Watermark (Some n) t) h =
+    elim (slice_get_cases s.marks n).1 [
+      | inl is ↦ (is.1, in_time t (timely is.0 (ap (λ (m : Option ℤ). watermark_refusal m t) (sym is.2) ∙ h)))
+      | inr none ↦ let unknown : watermark_refusal (slice_get s.marks n) t ≡ Some refusal.UnknownSource = ap (λ (m : Option ℤ). watermark_refusal m t) none.1 in absurd cc
+    ]
+  where
+    by_time : (b : Bool) (o : Option Refusal) → (if not b then Some refusal.TimeRange else o) ≡ None → b ≡ true
+    by_time true o k = refl
+    by_time false o k = absurd cc
+
+    timely : (m : ℤ) → watermark_refusal (Some m) t ≡ None → is_time t ≡ true
+    timely m k = by_time (is_time t) _ k
+
+least_in_range : (marks : List ℤ) → 1 ≤ length marks → All IsMark marks → IsMark (least marks)
+least_in_range [] some all = absurd (omega arith)
+least_in_range (m ∷ ms) some all =
+    elim (fold-int_min_reached m ms (least (m ∷ ms)) refl) [
+      | inl first ↦ subst IsMark (sym first) (All-head IsMark m ms all)
+      | inr other ↦ All-contains IsMark ms (least (m ∷ ms)) (All-tail IsMark m ms all) other
+    ]
+
+marks_in_range : (marks : List ℤ) (n : ℕ) (t : ℤ) → IsMark t → All IsMark marks → All IsMark (slice_set marks n t)
+marks_in_range marks n t h all = All-set IsMark marks n t h all
+
+-- the state with another mark of a source
+pub range_raised : (s : State) (n : ℕ) (t : ℤ) → IsInRange s → IsMark t → IsInRange (record s { marks = slice_set s.marks n t; mark = least (slice_set s.marks n t) })
+range_raised s n t r h =
+    let all = marks_in_range s.marks n t h r.marks in
+    let long : length (slice_set s.marks n t) ≡ s.clock.sources = length-set s.marks n t ∙ r.count in
+    let low = least_in_range (slice_set s.marks n t) (omega (arith, long, r.limits.sources_from)) all in
+    record { limits = r.limits; count = long; marks = all; least = refl; mark_from = low.from; mark_to = low.to; admitted_to = r.admitted_to }
+
+-- what is kept after an answer lies in range
+pub range_after : (declared : Declared) (s : State) (e : Event) → IsInRange s → IsInRange (after (decision declared s e) e s)
+range_after declared s e r = by e (verdict_at s.clock declared s.marks s.admitted e) refl where
+  by : (e : Event) (v : Option Refusal) → verdict_at s.clock declared s.marks s.admitted e ≡ v → IsInRange (after (answer s.mark (least (marks_with s.marks e)) e v) e s)
+  by (Record k t vs) None h = let room : s.admitted < unsigned_abs s.clock.records = may_take declared s (Record k t vs) h in
+      record { limits = r.limits; count = r.count; marks = r.marks; least = r.least; mark_from = r.mark_from; mark_to = r.mark_to; admitted_to = omega arith }
+  by (Watermark None t) None h = absurd (may_take declared s (Watermark None t) h)
+  by (Watermark (Some n) t) None h = range_raised s n t r (may_take declared s (Watermark (Some n) t) h).1
+  by e (Some refusal.Late) h = record { limits = r.limits; count = r.count; marks = r.marks; least = r.least; mark_from = r.mark_from; mark_to = r.mark_to; admitted_to = r.admitted_to }
+  by e (Some _) h = record { limits = r.limits; count = r.count; marks = r.marks; least = r.least; mark_from = r.mark_from; mark_to = r.mark_to; admitted_to = r.admitted_to }
+
+pub range_kept : (declared : Declared) (s kept : State) (e : Event) (r : Result Admitted Refusal) → r ≡ decision declared s e → kept ≡ after r e s → IsInRange s → IsInRange kept
+range_kept declared s kept e r answered is range = rw (is, answered) (range_after declared s e range)

@@ -1,2 +1,3 @@
+pub mod SourceMarks
 pub mod FittedHistory
 pub mod Taken

@@ -1,15 +1,27 @@
 -- The watermark after a history, and the verdict on an event. A history is a list of events, the
--- newest first. The watermark, a claim of the source on what is still to come, is the Dataflow
--- Model's (Akidau et al. 2015); the verdicts, their order and the counts are this project's own.
-use Rattle.std.specs.Prelude.{ℕ, ◌+◌, Bool, false, ◌&&◌, not, if◌then◌else◌, List, [], ◌∷◌, length, ℤ, pos, ◌+ℤ◌, ◌≤ℤ◌, int_lt, int_le, unsigned_abs, nat_lt, nat_le, Option, Some, None}
-use Rattle.std.specs.Int.{int_max}
+-- newest first. The watermark, a claim of the sources on what is still to come, is the Dataflow
+-- Model's (Akidau et al. 2015): the least of those of the sources. The verdicts, their order and the
+-- counts are this project's own.
+use Rattle.std.specs.Prelude.{◌≢◌, ℕ, ◌+◌, ◌≤◌, Bool, false, ◌&&◌, not, if◌then◌else◌, List, [], ◌∷◌, length, map, ℤ, pos, ◌+ℤ◌, ◌≤ℤ◌, int_lt, int_le, unsigned_abs, nat_eq, nat_lt, nat_le, Option, Some, None, slice_get}
+use Rattle.std.specs.List.{fold, list_any, range_with_len}
+use Rattle.std.specs.Int.{int_max, int_min}
 use Rattle.wsm_record.specs.declared.event.Value.{Value}
-use Rattle.wsm_record.specs.declared.limits.TheConstants.{LATEST_TIME, LONGEST_SPAN}
+use Rattle.wsm_record.specs.declared.limits.TheConstants.{LATEST_TIME, LONGEST_SPAN, MAX_SOURCES}
 use Rattle.wsm_record.specs.Event.{Event, Record, Watermark}
 use Rattle.wsm_record.specs.Schema.{Declared, fit_fields}
+use Rattle.wsm_windows.specs.declared.window.Shape.TheVariants.{Session}
+use Rattle.wsm_windows.specs.Windows.{IsShape, windows_of_shape}
+use Rattle.wsm_windows.specs.Life.{is_live}
 use Rattle.wsm_admission.specs.declared.clock.Clock.{Clock}
+use Rattle.wsm_admission.specs.declared.clock.LateBy.{LateBy}
+use Rattle.wsm_admission.specs.declared.clock.LateBy.TheVariants as late_by
 use Rattle.wsm_admission.specs.declared.verdict.Refusal.{Refusal}
 use Rattle.wsm_admission.specs.declared.verdict.Refusal.TheVariants as refusal
+
+-- lateness is counted from a record's own time, or from the ends of windows that don't move
+abbrev pub IsLateBy : LateBy → Type 0
+IsLateBy late_by.Event = Unit {0}
+IsLateBy (late_by.Window shape) = IsShape shape × ((gap : ℤ) → shape ≢ Session gap)
 
 -- a clock whose numbers lie in the limits
 pub record IsWithinLimits (c : Clock) : Type 0 where
@@ -19,26 +31,61 @@ pub record IsWithinLimits (c : Clock) : Type 0 where
   pub skew_to : c.skew ≤ℤ LONGEST_SPAN
   pub lateness_from : pos 0 ≤ℤ c.lateness
   pub lateness_to : c.lateness ≤ℤ LONGEST_SPAN
+  pub late : IsLateBy c.late
   pub records_from : pos 1 ≤ℤ c.records
   pub records_to : c.records ≤ℤ LONGEST_SPAN
+  pub sources_from : 1 ≤ c.sources
+  pub sources_to : c.sources ≤ MAX_SOURCES
 
 -- a time that a record or a watermark may have
 abbrev pub is_time : ℤ → Bool
 is_time t = int_le (pos 0) t && int_le t LATEST_TIME
 
--- the watermark: the greatest among the start and all watermarks in range
+-- a mark in range
+pub record IsMark (m : ℤ) : Type 0 where
+  pub from : pos 0 ≤ℤ m
+  pub to : m ≤ℤ LATEST_TIME
+
+-- the number is that of a source
+abbrev pub is_source : ℕ → Option ℕ → Bool
+is_source s None = false
+is_source s (Some n) = nat_eq n s
+
+-- the mark of a source: the greatest among the start and all its watermarks in range
+abbrev pub source_mark : Clock → ℕ → List Event → ℤ
+source_mark c s [] = c.start
+source_mark c s (Record key time values ∷ past) = source_mark c s past
+source_mark c s (Watermark source time ∷ past) = let mark = source_mark c s past in if is_source s source && is_time time then int_max mark time else mark
+
+-- the marks of all sources
+abbrev pub marks_of : Clock → List Event → List ℤ
+marks_of c past = map (λ s. source_mark c s past) (range_with_len 0 c.sources)
+
+-- the least of some marks
+abbrev pub least : List ℤ → ℤ
+least [] = pos 0
+least (m ∷ ms) = fold int_min m ms
+
+-- the watermark: the least of the marks
 abbrev pub watermark_of : Clock → List Event → ℤ
-watermark_of c [] = c.start
-watermark_of c (Record key time values ∷ past) = watermark_of c past
-watermark_of c (Watermark time ∷ past) = let mark = watermark_of c past in if is_time time then int_max mark time else mark
+watermark_of c past = least (marks_of c past)
+
+-- an event raises the watermark
+abbrev pub rises : Clock → List Event → Event → Bool
+rises c past e = int_lt (watermark_of c past) (watermark_of c (e ∷ past))
 
 -- further ahead of the watermark than the skew
 abbrev pub is_too_far_ahead : Clock → ℤ → ℤ → Bool
 is_too_far_ahead c mark time = int_lt (mark +ℤ c.skew) time
 
--- further behind the watermark than the lateness
+-- the time is further behind a mark than the lateness, or none of its windows is live
+abbrev pub is_late_by : LateBy → ℤ → ℤ → ℤ → Bool
+is_late_by late_by.Event lateness mark time = int_lt (time +ℤ lateness) mark
+is_late_by (late_by.Window shape) lateness mark time = not (list_any (λ w. is_live w lateness mark) (windows_of_shape shape time))
+
+-- late, at the watermark
 abbrev pub is_late : Clock → ℤ → ℤ → Bool
-is_late c mark time = int_lt (time +ℤ c.lateness) mark
+is_late c mark time = is_late_by c.late c.lateness mark time
 
 -- the number of a declared key
 abbrev pub is_key : Declared → Option ℕ → Bool
@@ -56,17 +103,24 @@ record_refusal c declared mark admitted key time values =
     else if nat_le (unsigned_abs c.records) admitted then Some refusal.RecordLimit
     else None
 
--- the first rule that refuses a watermark
-abbrev pub watermark_refusal : ℤ → ℤ → Option Refusal
-watermark_refusal mark time =
+-- the mark of a source, if it is one
+abbrev pub mark_at : List ℤ → Option ℕ → Option ℤ
+mark_at marks None = None
+mark_at marks (Some s) = slice_get marks s
+
+-- the first rule that refuses a watermark, where its source has a mark, or none
+abbrev pub watermark_refusal : Option ℤ → ℤ → Option Refusal
+watermark_refusal None time = Some refusal.UnknownSource
+watermark_refusal (Some mark) time =
     if not (is_time time) then Some refusal.TimeRange
     else if int_le time mark then Some refusal.NotRising
     else None
 
--- the first rule that refuses an event, or none
-abbrev pub verdict_at : Clock → Declared → ℤ → ℕ → Event → Option Refusal
-verdict_at c declared mark admitted (Record key time values) = record_refusal c declared mark admitted key time values
-verdict_at c declared mark admitted (Watermark time) = watermark_refusal mark time
+-- the first rule that refuses an event, or none, at the marks of the sources and after a number of
+-- admitted records
+abbrev pub verdict_at : Clock → Declared → List ℤ → ℕ → Event → Option Refusal
+verdict_at c declared marks admitted (Record key time values) = record_refusal c declared (least marks) admitted key time values
+verdict_at c declared marks admitted (Watermark source time) = watermark_refusal (mark_at marks source) time
 
 abbrev pub admitted_with : ℕ → Event → Option Refusal → ℕ
 admitted_with before (Record key time values) None = before + 1
@@ -76,11 +130,11 @@ admitted_with before e refused = before
 abbrev pub admitted_count : Clock → Declared → List Event → ℕ
 admitted_count c declared [] = 0
 admitted_count c declared (e ∷ past) = let before = admitted_count c declared past in
-    admitted_with before e (verdict_at c declared (watermark_of c past) before e)
+    admitted_with before e (verdict_at c declared (marks_of c past) before e)
 
 -- the verdict on an event after a history
 abbrev pub verdict : Clock → Declared → List Event → Event → Option Refusal
-verdict c declared past e = verdict_at c declared (watermark_of c past) (admitted_count c declared past) e
+verdict c declared past e = verdict_at c declared (marks_of c past) (admitted_count c declared past) e
 
 abbrev pub late_with : ℕ → Option Refusal → ℕ
 late_with before (Some refusal.Late) = before + 1

@@ -1,24 +1,29 @@
 //! What is kept of the events so far, and the decision on the next.
 
-ghost use Rattle.std.specs.Prelude.{◌≡◌, ◌≤ℤ◌, IsTrue, List, [], ◌∷◌, nat_le, pos, unsigned_abs};
-ghost use Rattle.wsm_record.specs.Event.{Event as AnyEvent, event_of, Record, Watermark};
+ghost use Rattle.std.specs.Prelude.{◌≡◌, ◌≤ℤ◌, IsTrue, List, [], ◌∷◌, false, Ok, Err, None, nat_le, pos, unsigned_abs, length, slice_set, ◌<◌};
+ghost use Rattle.wsm_record.specs.Event.{Event as AnyEvent, event_of};
 ghost use Rattle.wsm_record.specs.Schema.{Declared};
-ghost use Rattle.wsm_admission.specs.Clock.{IsWithinLimits, watermark_refusal};
+ghost use Rattle.wsm_admission.specs.Clock.{IsWithinLimits, record_refusal, watermark_refusal, verdict_at, least, IsMark};
 ghost use Rattle.wsm_admission.specs.Clock.{is_key as is_declared_key, is_time as lies_in_time};
 ghost use Rattle.wsm_admission.specs.Clock.{is_too_far_ahead, is_late};
 ghost use Rattle.wsm_admission.specs.Admission.{Fits, IsInRange, opened, after};
-ghost use Rattle.wsm_admission.specs.Admission.{answer, answer_after, decision};
+ghost use Rattle.wsm_admission.specs.Admission.{answer, answer_after, decision, marks_with, MayTake};
 
-use crate::clock::Clock;
+use crate::clock::{Clock, LateBy};
+use crate::marks::Marks;
 use crate::verdict::{Admitted, Refusal};
 use std::marker::Model;
 use wsm_record::limits::LATEST_TIME;
 use wsm_record::{Event, Schema, Value};
+use wsm_windows::live_windows_of;
 
-/// The watermark and the counts of the events so far.
+/// The watermarks and the counts of the events so far.
 #[derive(Debug, Drop)]
 pub struct Admission {
     clock: Clock,
+    // Of each source.
+    marks: Marks,
+    // The least of them.
     mark: i64,
     admitted: u64,
     late: u64,
@@ -32,6 +37,7 @@ impl Model for Admission {
 
     ghost view = { λ a. record {
       clock = a.clock;
+      marks = a.marks;
       mark = a.mark;
       admitted = a.admitted;
       late = a.late;
@@ -40,6 +46,7 @@ impl Model for Admission {
 
     ghost invariant = { λ a. IsInRange (record {
       clock = a.clock;
+      marks = a.marks;
       mark = a.mark;
       admitted = a.admitted;
       late = a.late;
@@ -56,6 +63,7 @@ impl Admission {
     {
         Admission {
             clock,
+            marks: Marks::new(clock.start, clock.sources),
             mark: clock.start,
             admitted: 0,
             late: 0,
@@ -63,7 +71,7 @@ impl Admission {
         }
     }
 
-    /// The watermark, in event time.
+    /// The watermark, in event time: the least of those of the sources.
     pub fn mark(&self) -> i64
         ensures mark { result ≡ self.now.mark }
         ensures from { pos 0 ≤ℤ result }
@@ -97,25 +105,27 @@ impl Admission {
     /// refusal changes one counter alone: that of the late records, or that of all others refused.
     pub fn decide(&mut self, schema: &Schema, event: &Event) -> Result<Admitted, Refusal>
         ensures decision { result ≡ decision schema.now self.old (event_of event.now) }
-        ensures state { self.new ≡ after result self.old }
+        ensures state { self.new ≡ after result (event_of event.now) self.old }
         ensures range { IsInRange self.new }
         ensures verdict { (past : List AnyEvent) → Fits schema.now self.old past →
             result ≡ answer_after self.old.clock schema.now past (event_of event.now) }
         ensures fits { (past : List AnyEvent) → Fits schema.now self.old past →
             Fits schema.now self.new (event_of event.now ∷ past) }
     {
-        let decision = self.decision(schema, event);
-        match decision {
-            Ok(Admitted::Record) => self.admitted += 1,
-            Ok(Admitted::Watermark { new, .. }) => self.mark = new,
-            Err(refusal) => self.count(refusal),
+        // The clock is within its limits: the rules lean on that.
+        let _ = &self.clock;
+        match self.refusal(schema, event) {
+            None => Ok(self.take(event)),
+            Some(refusal) => {
+                self.count(refusal);
+                Err(refusal)
+            }
         }
-        decision
     }
 
     // Counts a refusal.
     fn count(&mut self, refusal: Refusal)
-        ensures { self.new ≡ after (Err refusal) self.old }
+        ensures { (e : AnyEvent) → self.new ≡ after (Err refusal) e self.old }
     {
         match refusal {
             Refusal::Late => self.late = self.late.saturating_add(1),
@@ -123,13 +133,47 @@ impl Admission {
         }
     }
 
-    // The first rule that refuses the event, or what it does to the clock.
-    fn decision(&self, schema: &Schema, event: &Event) -> Result<Admitted, Refusal>
-        ensures { result ≡ decision schema.now self.now (event_of event.now) }
+    // Takes an event that no rule refuses.
+    fn take(&mut self, event: &Event) -> Admitted
+        requires { MayTake self.old (event_of event.now) }
+        ensures answer { Ok result ≡ answer self.old.mark (least (marks_with self.old.marks (event_of event.now))) (event_of event.now) None }
+        ensures state { self.new ≡ after (Ok result) (event_of event.now) self.old }
+    {
+        match event {
+            Event::Record { .. } => {
+                self.admitted += 1;
+                Admitted::Record
+            }
+            Event::Watermark {
+                source: Some(source),
+                time,
+            } => self.raise(*source, *time),
+            // No rule lets it pass.
+            Event::Watermark { source: None, .. } => Admitted::Record,
+        }
+    }
+
+    // Sets the watermark of a source.
+    fn raise(&mut self, source: u16, time: i64) -> Admitted
+        requires source { source < length self.old.marks }
+        requires time { IsMark time }
+        ensures answer { result ≡ Admitted.Watermark self.old.mark (least (slice_set self.old.marks source time)) }
+        ensures state { self.new ≡ record self.old { marks = slice_set self.old.marks source time; mark = least (slice_set self.old.marks source time) } }
+    {
+        let old = self.mark;
+        self.marks.set(source, time);
+        self.mark = self.marks.least();
+        let new = self.mark;
+        Admitted::Watermark { old, new }
+    }
+
+    // The first rule that refuses the event, or none.
+    fn refusal(&self, schema: &Schema, event: &Event) -> Option<Refusal>
+        ensures { result ≡ verdict_at self.now.clock schema.now self.now.marks self.now.admitted (event_of event.now) }
     {
         match event {
             Event::Record { key, time, values } => self.try_record(schema, *key, *time, values),
-            Event::Watermark(time) => self.try_watermark(*time),
+            Event::Watermark { source, time } => try_watermark(self.marks.of(*source), *time),
         }
     }
 
@@ -139,38 +183,23 @@ impl Admission {
         key: Option<u16>,
         time: i64,
         values: &[Value],
-    ) -> Result<Admitted, Refusal>
-        ensures { result ≡ decision schema.now self.now (Record key time values.now) }
+    ) -> Option<Refusal>
+        ensures { result ≡ record_refusal self.now.clock schema.now self.now.mark self.now.admitted key time values.now }
     {
         if !is_key(schema, key) {
-            Err(Refusal::UnknownKey)
+            Some(Refusal::UnknownKey)
         } else if !schema.fits(values) {
-            Err(Refusal::FieldRange)
+            Some(Refusal::FieldRange)
         } else if !is_time(time) {
-            Err(Refusal::TimeRange)
+            Some(Refusal::TimeRange)
         } else if self.is_too_far_ahead(time) {
-            Err(Refusal::TooFarAhead)
+            Some(Refusal::TooFarAhead)
         } else if self.is_late(time) {
-            Err(Refusal::Late)
+            Some(Refusal::Late)
         } else if self.is_full() {
-            Err(Refusal::RecordLimit)
+            Some(Refusal::RecordLimit)
         } else {
-            Ok(Admitted::Record)
-        }
-    }
-
-    fn try_watermark(&self, time: i64) -> Result<Admitted, Refusal>
-        ensures { result ≡ answer self.now.mark (Watermark time) (watermark_refusal self.now.mark time) }
-    {
-        if !is_time(time) {
-            Err(Refusal::TimeRange)
-        } else if time <= self.mark {
-            Err(Refusal::NotRising)
-        } else {
-            Ok(Admitted::Watermark {
-                old: self.mark,
-                new: time,
-            })
+            None
         }
     }
 
@@ -181,12 +210,18 @@ impl Admission {
         time > self.mark + self.clock.skew
     }
 
-    // Whether a record is further behind the watermark than the lateness.
+    // Whether a record is late.
     fn is_late(&self, time: i64) -> bool
         requires { IsTrue (lies_in_time time) }
         ensures { result ≡ is_late self.now.clock self.now.mark time }
     {
-        time + self.clock.lateness < self.mark
+        let lateness = self.clock.lateness;
+        match self.clock.late {
+            LateBy::Event => time + lateness < self.mark,
+            LateBy::Window(shape) => live_windows_of(shape, time, lateness, self.mark)
+                .next()
+                .is_none(),
+        }
     }
 
     // Whether as many records as the limit were admitted.
@@ -194,6 +229,22 @@ impl Admission {
         ensures { result ≡ nat_le (unsigned_abs self.now.clock.records) self.now.admitted }
     {
         self.clock.records as u64 <= self.admitted
+    }
+}
+
+// The first rule that refuses a watermark, where its source has a mark, or none.
+fn try_watermark(mark: Option<i64>, time: i64) -> Option<Refusal>
+    ensures { result ≡ watermark_refusal mark time }
+{
+    let Some(mark) = mark else {
+        return Some(Refusal::UnknownSource);
+    };
+    if !is_time(time) {
+        Some(Refusal::TimeRange)
+    } else if time <= mark {
+        Some(Refusal::NotRising)
+    } else {
+        None
     }
 }
 

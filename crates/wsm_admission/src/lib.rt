@@ -1,29 +1,45 @@
 //! The clock of a query and the verdict on each event.
 //!
-//! [`Admission`] keeps the watermark (Akidau et al. 2015) and four counters, and decides on one
-//! event after the other. Which events are refused, in which order the rules are tried and what is
-//! counted are this project's own rules. No call takes memory.
-//!
-//! With a schema of one key and no fields:
+//! [`Admission`] keeps the watermark of each source, the least of them (Akidau et al. 2015) and three
+//! counters, and decides on one event after the other. Which events are refused, in which order the
+//! rules are tried and what is counted are this project's own rules. No call takes memory.
 //!
 //! ```rust
-//! use wsm_admission::{Admission, Admitted, Clock, Refusal};
-//! use wsm_record::Event;
+//! use wsm_admission::{Admission, Admitted, Clock, LateBy, Refusal};
+//! use wsm_record::{Event, Name, Schema};
 //!
-//! let mut admission = Admission::new(Clock { start: 0, skew: 100, lateness: 10, records: 1000 });
-//! let verdict = admission.decide(&schema, &Event::Watermark(60));
-//! assert_eq!(rt; verdict, Ok(Admitted::Watermark { old: 0, new: 60 }));
+//! fn main(rt: HostRuntime) {
+//!     let Some(key) = Name::new(b"a") else {
+//!         return;
+//!     };
+//!     let Ok(schema) = Schema::new(rt.alloc(), &[key], &[], &[]) else {
+//!         return;
+//!     };
+//!     let clock = Clock {
+//!         start: 0,
+//!         skew: 100,
+//!         lateness: 10,
+//!         late: LateBy::Event,
+//!         records: 1000,
+//!         sources: 1,
+//!     };
+//!     let mut admission = Admission::new(clock);
+//!     let verdict = admission.decide(&schema, &Event::Watermark { source: Some(0), time: 60 });
+//!     assert_eq!(rt; verdict, Ok(Admitted::Watermark { old: 0, new: 60 }));
 //!
-//! let record = Event::Record { key: Some(0), time: 49, values: Vec::new(alloc) };
-//! assert_eq!(rt; admission.decide(&schema, &record), Err(Refusal::Late)); // 49 + 10 is before 60
-//! assert_eq!(rt; admission.late(), 1);
+//!     let record = Event::Record { key: Some(0), time: 49, values: Vec::new(rt.alloc()) };
+//!     let verdict = admission.decide(&schema, &record);
+//!     assert_eq!(rt; verdict, Err(Refusal::Late)); // 49 + 10 is before 60
+//!     assert_eq!(rt; admission.late(), 1);
+//! }
 //! ```
 #![tactic(auto)]
 
 pub use admission::Admission;
-pub use clock::Clock;
+pub use clock::{Clock, LateBy};
 pub use verdict::{Admitted, Refusal};
 
 mod admission;
 mod clock;
+mod marks;
 mod verdict;

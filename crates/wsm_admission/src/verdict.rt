@@ -11,12 +11,14 @@ pub enum Refusal {
     TimeRange,
     /// The record is further ahead of the watermark than the skew.
     TooFarAhead,
-    /// The record is further behind the watermark than the lateness.
+    /// The record, or the end of its last window, is further behind the watermark than the lateness.
     Late,
     /// As many records as the limit were admitted already.
     RecordLimit,
-    /// The watermark isn't past the one that holds.
+    /// The watermark isn't past the last one of its source.
     NotRising,
+    /// The watermark's source isn't declared.
+    UnknownSource,
 }
 
 /// What an event that is taken does to the clock.
@@ -24,11 +26,11 @@ pub enum Refusal {
 pub enum Admitted {
     /// A record: the watermark stays.
     Record,
-    /// A watermark, which replaces the old one.
+    /// A watermark, which replaces the last one of its source.
     Watermark {
-        /// The watermark before.
+        /// The least watermark of all sources before.
         old: i64,
-        /// The watermark from now on.
+        /// The least watermark of all sources from now on: the same, where others hold it back.
         new: i64,
     },
 }

@@ -1,5 +1,5 @@
 -- The faults of declared fields, one field after the other.
-use Rattle.std.proofs.Common.{◌≡◌, ◌∙◌, ◌<◌, ◌≤◌, ◌+◌, ◌++◌, ◌||◌, ℕ, suc, Bool, true, false, cond, List, [], ◌∷◌, length, map, take, drop, get_or, Some, nat_lt, bytes_eq, ap, ap₂, sym, arith, add-one}
+use Rattle.std.proofs.Common.{◌≡◌, ◌∙◌, ◌<◌, ◌≤◌, ◌+◌, ◌++◌, ◌||◌, not, ℕ, suc, Bool, true, false, cond, List, [], ◌∷◌, length, map, take, drop, get_or, Some, nat_lt, bytes_eq, ap, ap₂, sym, arith, add-one}
 use Rattle.std.proofs.lemmas.Bool.{true≢false}
 use Rattle.std.proofs.lemmas.Bool.Decides.{nat_tests}
 use Rattle.std.proofs.lemmas.List.{length-map, map-append, take_more}
@@ -10,7 +10,7 @@ use Rattle.wsm_record.specs.declared.schema.SchemaRefusal.TheVariants.{Duplicate
 use Rattle.wsm_record.specs.declared.schema.Field.{Field}
 use Rattle.wsm_record.specs.declared.schema.DeclaredField.{DeclaredField as KeptField}
 use Rattle.wsm_record.specs.Name.{is_among}
-use Rattle.wsm_record.specs.Schema.{DeclaredField, type_refusal, fields_refusal, or_else, is_too_many, has_too_many_names}
+use Rattle.wsm_record.specs.Schema.{DeclaredField, type_refusal, fields_refusal, or_else, is_too_many, is_source_count, has_too_many_names}
 use Rattle.wsm_record.specs.Fields.{declared_field, declared_type, declared_of, field_seen}
 use Rattle.wsm_record.proofs.Lists.{list_any-map}
 
@@ -35,16 +35,17 @@ pub among_kept : (kept : List KeptField) (ds : List DeclaredField) (i : ℕ) (x 
 among_kept kept ds i x e =
     ap (λ ys. is_among x (map name_of ys)) (sym e) ∙ list_any-map (bytes_eq x) name_of (map field_seen kept) ∙ list_any-map (λ (d : DeclaredField). bytes_eq x d.name) field_seen kept
 
--- with few keys and fields, only a field's names can be too many
-pub too_many_names : (keys : List (List ℕ)) (fields : List Field) → length keys ≤ 1000 → length fields ≤ 16 →
-    list_any (λ f. has_too_many_names (declared_type f.ty)) fields ≡ is_too_many (declared_of keys fields)
-too_many_names keys fields k f =
+-- with few keys and fields, and so many sources as there may be, only a field's names can be too many
+pub too_many_names : (keys : List (List ℕ)) (fields : List Field) (sources : List (List ℕ)) → length keys ≤ 1000 → length fields ≤ 16 → is_source_count (length sources) ≡ true →
+    list_any (λ f. has_too_many_names (declared_type f.ty)) fields ≡ is_too_many (declared_of keys fields sources)
+too_many_names keys fields sources k f so_many =
     let few_keys : nat_lt 1000 (length keys) ≡ false = grind (arith, nat_tests) in
     let few_fields : nat_lt 16 (length fields) ≡ false = grind (arith, nat_tests) in
     let wide : Bool = list_any (λ f. has_too_many_names f.type) (map declared_field fields) in
     sym (
-    ap (λ (b : Bool). b || (nat_lt 16 (length (map declared_field fields)) || wide)) few_keys
-    ∙ ap (λ (n : ℕ). nat_lt 16 n || wide) (length-map fields declared_field) ∙ ap (λ (b : Bool). b || wide) few_fields
+    ap (λ (b : Bool). b || (nat_lt 16 (length (map declared_field fields)) || (not (is_source_count (length sources)) || wide))) few_keys
+    ∙ ap (λ (n : ℕ). nat_lt 16 n || (not (is_source_count (length sources)) || wide)) (length-map fields declared_field) ∙ ap (λ (b : Bool). b || (not (is_source_count (length sources)) || wide)) few_fields
+    ∙ ap (λ (b : Bool). not b || wide) so_many
     ∙ list_any-map (λ (d : DeclaredField). has_too_many_names d.type) declared_field fields
     )
 
@@ -60,14 +61,15 @@ pub kept_next : (kept : List KeptField) (k : KeptField) (ds : List DeclaredField
 kept_next kept k ds i d taken is h e =
     map-append field_seen kept (k ∷ []) ∙ ap (λ ys. ys ++ field_seen k ∷ []) taken ∙ ap (λ y. take i ds ++ y ∷ []) (is ∙ e) ∙ sym (take_more ds i d h)
 
-last_of_three : (a b c : Bool) → (a || (b || c)) ≡ false → c ≡ false
-last_of_three true b c h = absurd (true≢false h)
-last_of_three false true c h = absurd (true≢false h)
-last_of_three false false c h = h
+last_of_four : (a b c d : Bool) → (a || (b || (c || d))) ≡ false → d ≡ false
+last_of_four true b c d h = absurd (true≢false h)
+last_of_four false true c d h = absurd (true≢false h)
+last_of_four false false true d h = absurd (true≢false h)
+last_of_four false false false d h = h
 
 -- no field has too many names
-pub few_names : (keys : List (List ℕ)) (fields : List Field) → is_too_many (declared_of keys fields) ≡ false →
+pub few_names : (keys : List (List ℕ)) (fields : List Field) (sources : List (List ℕ)) → is_too_many (declared_of keys fields sources) ≡ false →
     list_any (λ f. has_too_many_names (declared_type f.ty)) fields ≡ false
-few_names keys fields h =
+few_names keys fields sources h =
     sym (list_any-map (λ (d : DeclaredField). has_too_many_names d.type) declared_field fields)
-    ∙ last_of_three (nat_lt 1000 (length keys)) (nat_lt 16 (length (map declared_field fields))) _ h
+    ∙ last_of_four (nat_lt 1000 (length keys)) (nat_lt 16 (length (map declared_field fields))) (not (is_source_count (length sources))) _ h

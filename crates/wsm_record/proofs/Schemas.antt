@@ -1,5 +1,5 @@
 -- A schema is lawful where no fault refuses it.
-use Rattle.std.proofs.Common.{◌≡◌, ◌<◌, ℕ, suc, Bool, true, false, ◌&&◌, ◌||◌, not, cond, List, [], ◌∷◌, ◌++◌, length, Option, None, Some, refl, sym, ap, ap₂, ◌∙◌, arith}
+use Rattle.std.proofs.Common.{◌≡◌, ◌<◌, ◌≤◌, ℕ, suc, Bool, true, false, ◌&&◌, ◌||◌, not, cond, List, [], ◌∷◌, ◌++◌, length, Option, None, Some, refl, sym, ap, ap₂, ◌∙◌, arith}
 use Rattle.std.specs.Prelude.{nat_le, nat_lt, nat_eq, int_le, int_lt, ℤ}
 use Rattle.std.specs.List.{list_all, list_any}
 use Rattle.std.proofs.lemmas.Bool.Decides.{nat_tests}
@@ -8,7 +8,7 @@ use Rattle.std.proofs.lemmas.Bool.{true≢false, and_parts, and_from, not-true}
 use Rattle.wsm_record.specs.declared.schema.SchemaRefusal.{SchemaRefusal}
 use Rattle.wsm_record.specs.declared.schema.SchemaRefusal.TheVariants.{NoKeys, TooMany, DuplicateName, EmptyRange}
 use Rattle.wsm_record.specs.Name.{is_name, is_among, is_between, repeats_after}
-use Rattle.wsm_record.specs.Schema.{FieldType, Int, Truth, Enum, DeclaredField, Declared, has_too_many_names, type_refusal, fields_refusal, or_else, schema_refusal, is_too_many, is_i64, are_names_after, is_name_list, is_field_type, is_field_after, are_fields_after, is_schema, is_spelt_type, is_spelt_field}
+use Rattle.wsm_record.specs.Schema.{FieldType, Int, Truth, Enum, DeclaredField, Declared, has_too_many_names, type_refusal, fields_refusal, sources_refusal, or_else, schema_refusal, is_too_many, is_source_count, is_i64, are_names_after, are_sources, is_name_list, is_field_type, is_field_after, are_fields_after, is_schema, is_spelt_type, is_spelt_field}
 use Rattle.wsm_record.proofs.Lists.{or_left, or_right}
 
 abbrev Name : Type 0
@@ -53,14 +53,16 @@ fields_fit before (f ∷ fs) h =
 pub schema_fits : (s : Declared) → is_schema s ≡ true → schema_refusal s ≡ None
 unfolding is_schema
 schema_fits s h =
-    let a = and_parts (is_name_list s.keys) (nat_le (length s.fields) 16 && are_fields_after [] s.fields) h in
-    let b = and_parts (nat_le (length s.fields) 16) (are_fields_after [] s.fields) a.1 in
+    let a = and_parts (is_name_list s.keys) (nat_le (length s.fields) 16 && (are_fields_after [] s.fields && are_sources s.sources)) h in
+    let b = and_parts (nat_le (length s.fields) 16) (are_fields_after [] s.fields && are_sources s.sources) a.1 in
+    let d = and_parts (are_fields_after [] s.fields) (are_sources s.sources) b.1 in
+    let e = and_parts (is_source_count (length s.sources)) (are_names_after [] s.sources) d.1 in
     let k = and_parts (is_between 1 1000 (length s.keys)) (are_names_after [] s.keys) a.0 in
     let n = counted (length s.keys) k.0 in
-    let f = fields_fit [] s.fields b.1 in
+    let f = fields_fit [] s.fields d.0 in
     let few : nat_lt 16 (length s.fields) ≡ false = below (length s.fields) b.0 in
-    let many : is_too_many s ≡ false = ap₂ (λ c d. c || d) n.1 (ap₂ (λ c d. c || d) few f.1) in
-    rw (n.0, many, no_repeats [] s.keys k.1) f.0
+    let many : is_too_many s ≡ false = ap₂ (λ c d. c || d) n.1 (ap₂ (λ c d. c || d) few (ap₂ (λ c d. not c || d) e.0 f.1)) in
+    rw (n.0, many, no_repeats [] s.keys k.1) (ap₂ (λ (o : _) (b : Bool). or_else o (cond b (Some DuplicateName) None)) f.0 (no_repeats [] s.sources e.1))
   where
     below : (n : ℕ) → nat_le n 16 ≡ true → nat_lt 16 n ≡ false
     below n h = grind (arith, nat_tests)
@@ -127,33 +129,55 @@ fields_lawful before (f ∷ fs) h few n =
     (fields_lawful rest fs b.1 wider s.1)
 
 -- a schema without each of the faults
-pub not_refused : (s : Declared) → nat_eq (length s.keys) 0 ≡ false → is_too_many s ≡ false → repeats_after [] s.keys ≡ false → fields_refusal [] s.fields ≡ None → schema_refusal s ≡ None
-not_refused s some few distinct fields = rw (some, few, distinct) fields
+pub not_refused : (s : Declared) → nat_eq (length s.keys) 0 ≡ false → is_too_many s ≡ false → repeats_after [] s.keys ≡ false → fields_refusal [] s.fields ≡ None → repeats_after [] s.sources ≡ false → schema_refusal s ≡ None
+not_refused s some few distinct fields apart = rw (some, few, distinct, fields, apart) refl
 
-pub schema_lawful : (s : Declared) → schema_refusal s ≡ None → list_all is_name s.keys ≡ true → list_all is_spelt_field s.fields ≡ true → is_schema s ≡ true
+pub schema_lawful : (s : Declared) → schema_refusal s ≡ None → list_all is_name s.keys ≡ true → list_all is_spelt_field s.fields ≡ true → list_all is_name s.sources ≡ true → is_schema s ≡ true
 unfolding is_schema
-schema_lawful s h k n =
+schema_lawful s h k n m =
     let a = passed (nat_eq (length s.keys) 0) NoKeys _ h in
     let b = passed (is_too_many s) TooMany _ a.1 in
     let c = passed (repeats_after [] s.keys) DuplicateName _ b.1 in
-    let many_keys = or_left (nat_lt 1000 (length s.keys)) (nat_lt 16 (length s.fields) || list_any (λ f. has_too_many_names f.type) s.fields) b.0 in
-    let others = or_right (nat_lt 1000 (length s.keys)) (nat_lt 16 (length s.fields) || list_any (λ f. has_too_many_names f.type) s.fields) b.0 in
-    let many_fields = or_left (nat_lt 16 (length s.fields)) (list_any (λ f. has_too_many_names f.type) s.fields) others in
-    let wide = or_right (nat_lt 16 (length s.fields)) (list_any (λ f. has_too_many_names f.type) s.fields) others in
-    and_from (is_name_list s.keys) (nat_le (length s.fields) 16 && are_fields_after [] s.fields)
+    let d = neither (fields_refusal [] s.fields) (sources_refusal s.sources) c.1 in
+    let wider : Bool = list_any (λ f. has_too_many_names f.type) s.fields in
+    let off : Bool = not (is_source_count (length s.sources)) in
+    let many_keys = or_left (nat_lt 1000 (length s.keys)) (nat_lt 16 (length s.fields) || (off || wider)) b.0 in
+    let others = or_right (nat_lt 1000 (length s.keys)) (nat_lt 16 (length s.fields) || (off || wider)) b.0 in
+    let many_fields = or_left (nat_lt 16 (length s.fields)) (off || wider) others in
+    let more = or_right (nat_lt 16 (length s.fields)) (off || wider) others in
+    let wide = or_right off wider more in
+    and_from (is_name_list s.keys) (nat_le (length s.fields) 16 && (are_fields_after [] s.fields && are_sources s.sources))
     (and_from (is_between 1 1000 (length s.keys)) (are_names_after [] s.keys) (some_names (length s.keys) a.0 many_keys) (are_distinct s.keys k c.0))
-    (and_from (nat_le (length s.fields) 16) (are_fields_after [] s.fields) (few (length s.fields) many_fields) (fields_lawful [] s.fields c.1 wide n))
+    (and_from (nat_le (length s.fields) 16) (are_fields_after [] s.fields && are_sources s.sources) (few (length s.fields) many_fields)
+    (and_from (are_fields_after [] s.fields) (are_sources s.sources) (fields_lawful [] s.fields d.0 wide n)
+    (and_from (is_source_count (length s.sources)) (are_names_after [] s.sources) (counts (is_source_count (length s.sources)) (or_left off wider more)) (are_distinct s.sources m (passed (repeats_after [] s.sources) DuplicateName None d.1).0))))
   where
     few : (n : ℕ) → nat_lt 16 n ≡ false → nat_le n 16 ≡ true
     few n h = grind (arith, nat_tests)
+
+    counts : (b : Bool) → not b ≡ false → b ≡ true
+    counts true h = refl
+    counts false h = absurd (true≢false h)
 
 -- it has a key
 pub has_keys : (s : Declared) → is_schema s ≡ true → 0 < length s.keys
 unfolding is_schema
 has_keys s h =
-    let a = and_parts (is_name_list s.keys) (nat_le (length s.fields) 16 && are_fields_after [] s.fields) h in
+    let a = and_parts (is_name_list s.keys) (nat_le (length s.fields) 16 && (are_fields_after [] s.fields && are_sources s.sources)) h in
     let b = and_parts (is_between 1 1000 (length s.keys)) (are_names_after [] s.keys) a.0 in
     some (length s.keys) (and_parts (nat_le 1 (length s.keys)) (nat_le (length s.keys) 1000) b.0).0
   where
     some : (n : ℕ) → nat_le 1 n ≡ true → 0 < n
     some n e = grind (arith, nat_tests)
+
+-- at most 16 sources
+pub few_sources : (s : Declared) → is_schema s ≡ true → length s.sources ≤ 16
+unfolding is_schema
+few_sources s h =
+    let a = and_parts (is_name_list s.keys) (nat_le (length s.fields) 16 && (are_fields_after [] s.fields && are_sources s.sources)) h in
+    let b = and_parts (nat_le (length s.fields) 16) (are_fields_after [] s.fields && are_sources s.sources) a.1 in
+    let d = and_parts (are_fields_after [] s.fields) (are_sources s.sources) b.1 in
+    few (length s.sources) (and_parts (is_source_count (length s.sources)) (are_names_after [] s.sources) d.1).0
+  where
+    few : (n : ℕ) → is_source_count n ≡ true → n ≤ 16
+    few n e = grind (arith, nat_tests)

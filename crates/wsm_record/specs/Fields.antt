@@ -17,8 +17,8 @@ declared_type (ty.Enum names) = Enum names.items
 abbrev pub declared_field : Field → DeclaredField
 declared_field f = record { name = f.name; type = declared_type f.ty }
 
-abbrev pub declared_of : List (List ℕ) → List Field → Declared
-declared_of keys fields = record { keys = keys; fields = map declared_field fields }
+abbrev pub declared_of : List (List ℕ) → List Field → List (List ℕ) → Declared
+declared_of keys fields sources = record { keys = keys; fields = map declared_field fields; sources = sources }
 
 -- a type as it is kept
 abbrev pub type_seen : Kept → FieldType

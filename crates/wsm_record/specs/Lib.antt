@@ -4,3 +4,4 @@ pub mod Event
 pub mod Fields
 pub mod Guesses
 pub mod Types
+pub mod Modes

@@ -1,7 +1,7 @@
 -- What a query declares of its records, and which values fit.
 use Rattle.std.specs.Prelude.{ℕ, zero, suc, Bool, true, false, ◌&&◌, ◌||◌, not, cond, List, [], ◌∷◌, ◌++◌, length, ℤ, pos, negsuc, int_le, int_lt, nat_le, nat_lt, nat_eq, Option, Some, None, slice_get}
 use Rattle.std.specs.List.{list_all, list_any}
-use Rattle.wsm_record.specs.declared.limits.TheConstants.{MAX_FIELDS, MAX_NAMES}
+use Rattle.wsm_record.specs.declared.limits.TheConstants.{MAX_FIELDS, MAX_NAMES, MAX_SOURCES}
 use Rattle.wsm_record.specs.declared.schema.SchemaRefusal.{SchemaRefusal}
 use Rattle.wsm_record.specs.declared.schema.SchemaRefusal.TheVariants.{NoKeys, TooMany, DuplicateName, EmptyRange}
 use Rattle.wsm_record.specs.Name.{is_name, is_among, is_between, repeats_after}
@@ -18,10 +18,11 @@ pub record DeclaredField : Type 0 where
   pub name : List ℕ
   pub type : FieldType
 
--- keys and names are their bytes; a key's number, a field's and a name's is its place
+-- keys and names are their bytes; a key's number, a field's, a name's and a source's is its place
 pub record Declared : Type 0 where
   pub keys : List (List ℕ)
   pub fields : List DeclaredField
+  pub sources : List (List ℕ)  -- none where all watermarks are of one source, which has no name
 
 -- the names of a field that is an ENUM
 abbrev pub names_of_type : FieldType → Option (List (List ℕ))
@@ -54,9 +55,13 @@ abbrev pub has_too_many_names : FieldType → Bool
 has_too_many_names (Enum names) = nat_lt MAX_NAMES (length names)
 has_too_many_names _ = false
 
--- more keys, fields or names of a field than there may be
+-- none, or 2 to 16
+abbrev pub is_source_count : ℕ → Bool
+is_source_count n = nat_eq n 0 || is_between 2 MAX_SOURCES n
+
+-- more keys, fields or names of a field than there may be, or not so many sources as there may be
 abbrev pub is_too_many : Declared → Bool
-is_too_many d = nat_lt MAX_NAMES (length d.keys) || (nat_lt MAX_FIELDS (length d.fields) || list_any (λ f. has_too_many_names f.type) d.fields)
+is_too_many d = nat_lt MAX_NAMES (length d.keys) || (nat_lt MAX_FIELDS (length d.fields) || (not (is_source_count (length d.sources)) || list_any (λ f. has_too_many_names f.type) d.fields))
 
 -- the fault of a type: it has no values, or a name twice
 abbrev pub type_refusal : FieldType → Option SchemaRefusal
@@ -75,12 +80,16 @@ abbrev pub fields_refusal : List (List ℕ) → List DeclaredField → Option Sc
 fields_refusal before [] = None
 fields_refusal before (f ∷ fs) = cond (is_among f.name before) (Some DuplicateName) (or_else (type_refusal f.type) (fields_refusal (before ++ f.name ∷ []) fs))
 
--- the first fault of keys and fields
+-- a name stands twice
+abbrev pub sources_refusal : List (List ℕ) → Option SchemaRefusal
+sources_refusal names = cond (repeats_after [] names) (Some DuplicateName) None
+
+-- the first fault of keys, fields and sources
 abbrev pub schema_refusal : Declared → Option SchemaRefusal
 schema_refusal d =
     cond (nat_eq (length d.keys) 0) (Some NoKeys)
     (cond (is_too_many d) (Some TooMany)
-    (cond (repeats_after [] d.keys) (Some DuplicateName) (fields_refusal [] d.fields)))
+    (cond (repeats_after [] d.keys) (Some DuplicateName) (or_else (fields_refusal [] d.fields) (sources_refusal d.sources))))
 
 -- ---- what holds of each schema
 
@@ -113,8 +122,15 @@ abbrev pub are_fields_after : List (List ℕ) → List DeclaredField → Bool
 are_fields_after before [] = true
 are_fields_after before (f ∷ fs) = is_field_after before f && are_fields_after (before ++ f.name ∷ []) fs
 
+abbrev pub are_sources : List (List ℕ) → Bool
+are_sources ns = is_source_count (length ns) && are_names_after [] ns
+
 unfoldable pub is_schema : Declared → Bool
-is_schema d = is_name_list d.keys && (nat_le (length d.fields) MAX_FIELDS && are_fields_after [] d.fields)
+is_schema d = is_name_list d.keys && (nat_le (length d.fields) MAX_FIELDS && (are_fields_after [] d.fields && are_sources d.sources))
+
+-- how many sources watermarks have
+abbrev pub source_count : Declared → ℕ
+source_count d = cond (nat_eq (length d.sources) 0) 1 (length d.sources)
 
 -- ---- what the types of the code keep: names are names, and numbers have 64 bits
 

@@ -23,8 +23,13 @@ pub enum Event {
         /// Its values, in the order of the declared fields.
         values: Vec<Value>,
     },
-    /// The claim of the source that no record with an earlier time is to come, but late ones.
-    Watermark(i64),
+    /// The claim of a source that it sends no record with an earlier time any more, but late ones.
+    Watermark {
+        /// The number of the source, 0 where none are declared, or none where it isn't declared.
+        source: Option<u16>,
+        /// The time that it came to, in event time.
+        time: i64,
+    },
 }
 
 /// Why a row is no event.

@@ -1,21 +1,28 @@
 //! What a query declares and what a row says: names, types, schemas, values, cells and events.
 //!
-//! A [`Schema`] is the declared keys and fields of a query. A row of the input is an [`Event`]: a
-//! record of one key, with a time and a [`Value`] for each field, or a watermark. Times are whole
-//! numbers in the query's own unit of event time.
-//!
-//! Where `keys` are the names a and b, and `n` is a name:
+//! A [`Schema`] is the declared keys, fields and sources of a query. A row of the input is an [`Event`]:
+//! a record of one key, with a time and a [`Value`] for each field, or a watermark of one source. Times
+//! are whole numbers in the query's own unit of event time.
 //!
 //! ```rust
 //! use wsm_record::{Field, Name, Schema, Ty, Value};
 //!
-//! let field = Field { name: n, ty: Ty::Int { lo: 0, hi: 100 } };
-//! let schema = Schema::new(alloc, &keys, &[field])?;
-//! assert_eq!(rt; schema.key_number(b"b"), Some(1));
-//! assert_eq!(rt; schema.key_number(b"c"), None);
-//! assert!(rt; schema.fits(&[Value::Int(100)]));
-//! assert!(rt; !schema.fits(&[Value::Int(101)])); // above the field's interval
-//! assert!(rt; Name::new(b"FIELD").is_none()); // a reserved word
+//! fn main(rt: HostRuntime) {
+//!     let (Some(a), Some(b)) = (Name::new(b"a"), Name::new(b"b")) else {
+//!         return;
+//!     };
+//!     let Some(n) = Name::new(b"n") else {
+//!         return;
+//!     };
+//!     let field = Field { name: n, ty: Ty::Int { lo: 0, hi: 100 } };
+//!     if let Ok(schema) = Schema::new(rt.alloc(), &[a, b], &[field], &[]) {
+//!         assert_eq!(rt; schema.key_number(b"b"), Some(1));
+//!         assert_eq!(rt; schema.key_number(b"c"), None);
+//!         assert!(rt; schema.fits(&[Value::Int(100)]));
+//!         assert!(rt; !schema.fits(&[Value::Int(101)])); // above the field's interval
+//!     }
+//!     assert!(rt; Name::new(b"FIELD").is_none()); // a reserved word
+//! }
 //! ```
 #![tactic(auto)]
 

@@ -23,6 +23,9 @@ pub const MAX_NAME: usize = 32;
 /// The most fields of a record.
 pub const MAX_FIELDS: usize = 16;
 
+/// The most sources of watermarks. The fewest that are declared are 2.
+pub const MAX_SOURCES: usize = 16;
+
 /// The most columns of a row.
 pub const MAX_COLUMNS: usize = 16;
 

@@ -1,12 +1,12 @@
 //! What a query declares of its records.
 
 ghost use Rattle.std.specs.Prelude.{false, IsTrue, ◌≡◌, ◌≢◌, ◌<◌, ◌≤◌, ◌⊎◌, ℕ, List, [], length, map, option_map, position, bytes_eq, Some, None, Ok, Err, slice_get, IfOk, IfErr};
-ghost use Rattle.wsm_record.specs.Schema.{is_schema, enum_names, names_of_type, fits_type, fit_fields, type_refusal, fields_refusal, schema_refusal, is_too_many, has_too_many_names};
+ghost use Rattle.wsm_record.specs.Schema.{is_schema, enum_names, names_of_type, fits_type, fit_fields, type_refusal, fields_refusal, schema_refusal, is_too_many, is_source_count, has_too_many_names, source_count};
 ghost use Rattle.std.specs.List.{list_any};
 ghost use Rattle.wsm_record.specs.Fields.{declared_type, declared_field, type_seen, field_seen, declared_of};
 
 use crate::event::Value;
-use crate::limits::{MAX_FIELDS, MAX_NAMES};
+use crate::limits::{MAX_FIELDS, MAX_NAMES, MAX_SOURCES};
 use crate::name::Name;
 use crate::names::Names;
 use crate::spelling::{are_names, are_spelt};
@@ -32,16 +32,16 @@ pub struct Field {
     pub ty: Ty,
 }
 
-/// Why keys and fields make no schema. The order is that in which faults are found.
+/// Why keys, fields and sources make no schema. The order is that in which faults are found.
 #[derive(Clone, Copy, Debug, PartialEq, Eq, Error)]
 pub enum SchemaRefusal {
     /// There is no key.
     #[error("S4 NoKeys")]
     NoKeys,
-    /// There are more than 1,000 keys, 16 fields, or 1,000 names of a field.
+    /// There are more than 1,000 keys, 16 fields, 1,000 names of a field or 16 sources, or one source.
     #[error("S3 TooMany")]
     TooMany,
-    /// A name stands twice among the keys, the fields, or the names of a field.
+    /// A name stands twice among the keys, the fields, the names of a field, or the sources.
     #[error("S1 DuplicateName")]
     DuplicateName,
     /// A field has no value: its interval is empty, or it has no names.
@@ -122,12 +122,14 @@ pub struct DeclaredField {
     pub ty: FieldType,
 }
 
-/// The declared keys and fields. A key's number is its place among the keys, a field's its place
-/// among the fields. A clause sees the names as their bytes.
+/// The declared keys, fields and sources. A key's number is its place among the keys, a field's its
+/// place among the fields, a source's its place among the sources. A clause sees the names as their
+/// bytes.
 #[derive(Drop)]
 pub struct Schema {
     keys: Names,
     fields: Vec<DeclaredField>,
+    sources: Names,
 }
 
 impl Model for Schema {
@@ -137,33 +139,45 @@ impl Model for Schema {
 
     ghost Value = { Declared };
 
-    ghost view = { λ a. record { keys = a.keys; fields = map field_seen a.fields.items } };
+    ghost view = { λ a. record { keys = a.keys; fields = map field_seen a.fields.items; sources = a.sources } };
 
-    ghost invariant = { λ a. IsTrue (is_schema (record { keys = a.keys; fields = map field_seen a.fields.items })) };
+    ghost invariant = { λ a. IsTrue (is_schema (record { keys = a.keys; fields = map field_seen a.fields.items; sources = a.sources })) };
 }
 
 impl Schema {
-    /// The schema of these keys and fields, or the first fault.
-    pub fn new(alloc: Global, keys: &[Name], fields: &[Field]) -> Result<Schema, SchemaRefusal>
-        ensures declared { IfOk result (λ s. s ≡ declared_of keys.now fields.now) }
-        ensures accepted { IfOk result (λ _. schema_refusal (declared_of keys.now fields.now) ≡ None) }
-        ensures refused { IfErr result (λ r. (r ≡ SchemaRefusal.Memory) ⊎ (schema_refusal (declared_of keys.now fields.now) ≡ Some r)) }
+    /// The schema of these keys, fields and sources, or the first fault. No source is handed in where
+    /// watermarks name none.
+    pub fn new(
+        alloc: Global,
+        keys: &[Name],
+        fields: &[Field],
+        sources: &[Name],
+    ) -> Result<Schema, SchemaRefusal>
+        ensures declared { IfOk result (λ s. s ≡ declared_of keys.now fields.now sources.now) }
+        ensures accepted { IfOk result (λ _. schema_refusal (declared_of keys.now fields.now sources.now) ≡ None) }
+        ensures refused { IfErr result (λ r. (r ≡ SchemaRefusal.Memory) ⊎ (schema_refusal (declared_of keys.now fields.now sources.now) ≡ Some r)) }
     {
         if keys.is_empty() {
             return Err(SchemaRefusal::NoKeys);
         }
-        if exceed(keys, fields) {
+        if exceed(keys, fields, sources) {
             return Err(SchemaRefusal::TooMany);
         }
         are_names(keys);
         are_spelt(fields);
+        are_names(sources);
         let keys = Names::collect(alloc, keys)?;
         let fields = declare(alloc, fields)?;
-        Ok(Schema { keys, fields })
+        let sources = Names::collect(alloc, sources)?;
+        Ok(Schema {
+            keys,
+            fields,
+            sources,
+        })
     }
 
-    /// There are keys, names are names, none stands twice, and each field has a value. A call does
-    /// nothing.
+    /// There are keys, names are names, none stands twice, each field has a value, and there are no
+    /// sources or 2 to 16. A call does nothing.
     pub fn is_declared(&self)
         ensures { IsTrue (is_schema self.now) }
     {
@@ -208,6 +222,26 @@ impl Schema {
         &self.fields
     }
 
+    /// The declared sources, in their order: none where all watermarks are of one source.
+    pub fn sources(&self) -> &Names
+        ensures { result.now ≡ self.now.sources }
+    {
+        &self.sources
+    }
+
+    /// How many sources watermarks have: 1 where none are declared, else 2 to 16.
+    pub fn source_count(&self) -> usize
+        ensures count { result ≡ source_count self.now }
+        ensures some { 1 ≤ result }
+        ensures most { result ≤ MAX_SOURCES }
+    {
+        if self.sources.len() == 0 {
+            1
+        } else {
+            self.sources.len()
+        }
+    }
+
     /// The names of the ENUM of a number, as in a `CellType`: those of the keys, or of a field.
     pub fn enum_names(&self, number: u8) -> Option<&Names>
         ensures { option_map (λ names. names.now) result ≡ enum_names self.now number }
@@ -241,9 +275,9 @@ fn fit(fields: &[DeclaredField], values: &[Value]) -> bool
     true
 }
 
-// Whether there are more keys, fields or names than there may be.
-fn exceed(keys: &[Name], fields: &[Field]) -> bool
-    ensures { result ≡ is_too_many (declared_of keys.now fields.now) }
+// Whether there are more keys, fields or names than there may be, or not so many sources as there may be.
+fn exceed(keys: &[Name], fields: &[Field], sources: &[Name]) -> bool
+    ensures { result ≡ is_too_many (declared_of keys.now fields.now sources.now) }
 {
     if keys.len() > MAX_NAMES {
         return true;
@@ -251,7 +285,17 @@ fn exceed(keys: &[Name], fields: &[Field]) -> bool
     if fields.len() > MAX_FIELDS {
         return true;
     }
+    if !is_source_count(sources.len()) {
+        return true;
+    }
     has_wide_field(fields)
+}
+
+// None, or 2 to 16.
+fn is_source_count(count: usize) -> bool
+    ensures { result ≡ is_source_count count }
+{
+    count == 0 || 2 <= count && count <= MAX_SOURCES
 }
 
 fn has_wide_field(fields: &[Field]) -> bool

@@ -1,6 +1,7 @@
 //! The words that query texts, programs and their meaning share.
 
 ghost use Rattle.std.specs.Prelude.{◌≡◌};
+ghost use Rattle.wsm_record.specs.Modes.{is_over_all, may_write, retracts};
 ghost use Rattle.wsm_record.specs.Types.{kind_type};
 
 /// What a firing's columns are computed over (Akidau et al. 2015, "refinement").
@@ -10,6 +11,45 @@ pub enum Mode {
     Discarding,
     /// All records of the pane.
     Accumulating,
+    /// All records of the pane; what stood for it before is withdrawn.
+    Retracting,
+}
+
+impl Mode {
+    /// Whether a firing is computed over all records of its pane, and not over those alone that no
+    /// earlier firing showed.
+    #[inline(always)]
+    pub fn is_over_all(self) -> bool
+        ensures { result ≡ is_over_all self }
+    {
+        match self {
+            Mode::Accumulating | Mode::Retracting => true,
+            Mode::Discarding => false,
+        }
+    }
+
+    /// Whether what stood for a pane is withdrawn.
+    #[inline(always)]
+    pub fn retracts(self) -> bool
+        ensures { result ≡ retracts self }
+    {
+        match self {
+            Mode::Retracting => true,
+            Mode::Accumulating | Mode::Discarding => false,
+        }
+    }
+
+    /// Whether a query of this mode may write this form: a stream of changes is of accumulating panes
+    /// alone.
+    pub fn may_write(self, form: Form) -> bool
+        ensures { result ≡ may_write self form }
+    {
+        match (self, form) {
+            (Mode::Accumulating, _) | (Mode::Discarding | Mode::Retracting, Form::Panes) => true,
+            (Mode::Discarding | Mode::Retracting, Form::Istream | Form::Dstream | Form::Rstream) =>
+                false,
+        }
+    }
 }
 
 /// What a query writes: its panes, or one of the streams of a relation (Arasu et al. 2006).

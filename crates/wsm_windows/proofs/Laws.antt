@@ -14,7 +14,7 @@ use Rattle.wsm_windows.proofs.Lists.{from_up_to, last_inside}
 one_fewer : (p e : ℕ) → 0 < p → p ≤ e → e / p ≡ suc ((e - p) / p)
 one_fewer p e h le = div-eq-sub-div h le ∙ omega arith
 
-starts_step : (p : ℕ) (start time : ℤ) → 0 < p → start ≤ℤ time → starts_left (pos p) start time ≡ suc (starts_left (pos p) (start +ℤ pos p) time)
+pub starts_step : (p : ℕ) (start time : ℤ) → 0 < p → start ≤ℤ time → starts_left (pos p) start time ≡ suc (starts_left (pos p) (start +ℤ pos p) time)
 starts_step p start time h le =
     by_lt_z {P = starts_left (pos p) start time ≡ suc (starts_left (pos p) (start +ℤ pos p) time)} time (start +ℤ pos p)
     (λ short. let here : int_le start time ≡ true = grind (arith, ints) in
@@ -47,7 +47,7 @@ from_rem : (s p e : ℕ) (t : ℤ) → 0 < p → first_start (pos s) (pos p) t +
 from_rem s p e t h is = ap (λ (u : ℤ). int_rem_euclid u (pos p)) (sym is) ∙ rem_after (t -ℤ pos s) p e h
 
 -- how far a time is past its first start
-past_first : (s p : ℕ) (t : ℤ) → 0 < p → p ≤ s → (e : ℕ) × (e < s) × (s ≤ e + p) × (first_start (pos s) (pos p) t +ℤ pos e ≡ t)
+pub past_first : (s p : ℕ) (t : ℤ) → 0 < p → p ≤ s → (e : ℕ) × (e < s) × (s ≤ e + p) × (first_start (pos s) (pos p) t +ℤ pos e ≡ t)
 past_first s p t h le =
     let r = rem_below (t -ℤ pos s) p h in
     (s + r.0 - p, omega (arith, r.2), omega (arith, r.2), rw r.1 (omega (arith, ints, r.2)))

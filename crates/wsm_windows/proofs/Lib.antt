@@ -4,3 +4,4 @@ pub mod Laws
 pub mod Members
 pub mod Bounds
 pub mod Places
+pub mod LiveWindows

@@ -45,7 +45,7 @@ module _ {X : Type 0} (p : X → Bool) where
   kept_of false x y xs e (inl same) passes = let both : true ≡ false = sym passes ∙ (ap p (sym same) ∙ e) in cc
   kept_of false x y xs e (inr there) passes = there
 
-  kept : (xs : List X) (x : X) → Contains xs x → p x ≡ true → Contains (filter p xs) x
+  pub kept : (xs : List X) (x : X) → Contains xs x → p x ≡ true → Contains (filter p xs) x
   kept [] x h passes = absurd (omega (arith, h.1))
   kept (y ∷ xs) x h passes =
       elim (first_or_rest x y xs h) [
@@ -134,7 +134,7 @@ exactly_alone : (a w : Window) → Contains (a ∷ []) w ↔ (w ≡ a)
 exactly_alone a w =
     (λ h. elim (first_or_rest w a [] h) [ inl same ↦ sym same | inr none ↦ absurd (omega (arith, none.1)) ], λ same. Contains-first w a [] (sym same))
 
-exactly_shape : (shape : Shape) (t : ℤ) (w : Window) → IsShape shape → Contains (windows_of_shape shape t) w ↔ IsWindowOfShape shape t w
+pub exactly_shape : (shape : Shape) (t : ℤ) (w : Window) → IsShape shape → Contains (windows_of_shape shape t) w ↔ IsWindowOfShape shape t w
 exactly_shape (Fixed size) t w s = exactly_grid size size t w s.period_low s.period_high
 exactly_shape (Sliding size period) t w s = exactly_grid size period t w s.period_low s.period_high
 exactly_shape (Session gap) t w s = exactly_alone (window t (t +ℤ gap)) w
@@ -159,7 +159,7 @@ rising_grid : (size period t : ℤ) → pos 1 ≤ℤ period → period ≤ℤ si
 rising_grid size period t h le =
     subst IsRising (from_first_start size period t (first_start size period t) h le refl) (rising_from (starts_left period (first_start size period t) t) size period (first_start size period t) h)
 
-rising_shape : (shape : Shape) (t : ℤ) → IsShape shape → IsRising (windows_of_shape shape t)
+pub rising_shape : (shape : Shape) (t : ℤ) → IsShape shape → IsRising (windows_of_shape shape t)
 rising_shape (Fixed size) t s = rising_grid size size t s.period_low s.period_high
 rising_shape (Sliding size period) t s = rising_grid size period t s.period_low s.period_high
 rising_shape (Session gap) t s = (All-nil (λ (v : Window). t <ℤ v.start), tt)

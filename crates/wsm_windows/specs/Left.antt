@@ -23,5 +23,5 @@ pub record IsInRange (a : Inside) : Type 0 where
   pub period_low : pos 1 ≤ℤ a.period
   pub period_high : a.period ≤ℤ greatest_span
   pub start_low : (pos 0 -ℤ greatest_span) ≤ℤ a.start
-  pub start_high : a.start ≤ℤ (a.time +ℤ a.period)
+  pub start_high : a.start ≤ℤ (greatest_time +ℤ greatest_span)
   pub time_high : a.time ≤ℤ greatest_time

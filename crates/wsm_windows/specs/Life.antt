@@ -1,14 +1,23 @@
 -- How long a window is held, and how many of one key are held at once: this project's own rule.
-use Rattle.std.specs.Prelude.{◌≡◌, ℕ, ◌+◌, Bool, ◌&&◌, List, [], ◌∷◌, All, ℤ, ◌+ℤ◌, ◌*ℤ◌, ◌<ℤ◌, ◌≤ℤ◌, int_lt, int_le, unsigned_abs}
+use Rattle.std.specs.Prelude.{◌≡◌, ℕ, ◌+◌, Bool, ◌&&◌, List, [], ◌∷◌, filter, All, ℤ, ◌+ℤ◌, ◌*ℤ◌, ◌<ℤ◌, ◌≤ℤ◌, int_lt, int_le, unsigned_abs}
 use Rattle.std.specs.Int.{div_ceil}
 use Rattle.wsm_windows.specs.declared.window.Window.{Window}
 use Rattle.wsm_windows.specs.declared.window.Shape.{Shape}
 use Rattle.wsm_windows.specs.declared.window.Shape.TheVariants.{Fixed, Sliding, Session}
-use Rattle.wsm_windows.specs.Windows.{IsRising}
+use Rattle.wsm_windows.specs.Windows.{IsRising, IsWindowOfShape, windows_of_shape}
 
 -- its end and the lateness aren't behind the mark
 abbrev pub is_live : Window → ℤ → ℤ → Bool
 is_live w lateness mark = int_lt mark (w.end +ℤ lateness)
+
+-- of the windows of a time those that are live, by rising start
+abbrev pub live_windows_of : Shape → ℤ → ℤ → ℤ → List Window
+live_windows_of shape time lateness mark = filter (λ w. is_live w lateness mark) (windows_of_shape shape time)
+
+-- the window is one of a time, and live
+pub record IsLiveWindowOf (shape : Shape) (time lateness mark : ℤ) (w : Window) : Type 0 where
+  pub of_time : IsWindowOfShape shape time w
+  pub live : mark <ℤ (w.end +ℤ lateness)
 
 -- the mark has come to its end, on the step from old to new
 abbrev pub is_due : Window → ℤ → ℤ → Bool

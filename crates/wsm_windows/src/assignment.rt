@@ -1,9 +1,12 @@
 //! The windows that a time is assigned to.
 
-ghost use Rattle.std.specs.Prelude.{◌≡◌, ◌↔◌, Contains, pos, [], ◌∷◌, ◌≤ℤ◌, ◌<ℤ◌, ◌+ℤ◌, ◌-ℤ◌};
+ghost use Rattle.std.specs.Prelude.{◌≡◌, ◌≢◌, ◌↔◌, Contains, ℤ, pos, [], ◌∷◌, filter, ◌≤ℤ◌, ◌<ℤ◌, ◌+ℤ◌, ◌-ℤ◌, int_lt};
 ghost use Rattle.wsm_windows.specs.Windows as spec;
-ghost use Rattle.wsm_windows.specs.Windows.{IsShape, IsTime, IsWindowOfShape, IsRising, windows_of_shape, greatest_span};
+ghost use Rattle.wsm_windows.specs.Windows.{IsShape, IsTime, IsSpan, IsWindowOfShape, IsRising, windows_of_shape, greatest_span};
+ghost use Rattle.wsm_windows.specs.Life as life;
+ghost use Rattle.wsm_windows.specs.Life.{IsLiveWindowOf};
 
+use crate::life::last_expired;
 use crate::window::{Shape, Window};
 use std::marker::Model;
 
@@ -64,6 +67,56 @@ pub fn windows_of(shape: Shape, time: i64) -> Windows
         Shape::Fixed(size) => on_grid(size, size, time),
         Shape::Sliding(size, period) => on_grid(size, period, time),
         Shape::Session(gap) => alone(gap, time),
+    }
+}
+
+/// Of the windows of a time those that are live at a mark, by rising start.
+pub fn live_windows_of(shape: Shape, time: i64, lateness: i64, mark: i64) -> Windows
+    requires shape { IsShape shape }
+    requires grid { (gap : ℤ) → shape ≢ Shape.Session gap }
+    requires time { IsTime time }
+    requires lateness { IsSpan lateness }
+    requires mark { IsTime mark }
+    ensures list { result ≡ life.live_windows_of shape time lateness mark }
+    ensures each { (w : Window) → (Contains result w ↔ IsLiveWindowOf shape time lateness mark w) }
+    ensures rising { IsRising result }
+{
+    let past = live_past(time, lateness, mark);
+    match shape {
+        Shape::Fixed(size) => ending_past(size, size, time, past),
+        Shape::Sliding(size, period) => ending_past(size, period, time, past),
+        Shape::Session(gap) => alone(gap, time),
+    }
+}
+
+/// The time past which the live windows of a time end: of all its windows those that do are live.
+pub fn live_past(time: i64, lateness: i64, mark: i64) -> i64
+    requires time { IsTime time }
+    requires lateness { IsSpan lateness }
+    requires mark { IsTime mark }
+    ensures time { IsTime result }
+    ensures after { time ≤ℤ result }
+    ensures live { (size period : ℤ) → pos 1 ≤ℤ size → size ≤ℤ greatest_span →
+        filter (λ w. int_lt result w.end) (spec.windows_of size period time) ≡ filter (λ w. life.is_live w lateness mark) (spec.windows_of size period time) }
+{
+    time.max(last_expired(mark, lateness))
+}
+
+// Of the windows of a time those that end past it and past another time.
+fn ending_past(size: i64, period: i64, time: i64, past: i64) -> Windows
+    requires period_low { pos 1 ≤ℤ period }
+    requires period_high { period ≤ℤ size }
+    requires size_high { size ≤ℤ greatest_span }
+    requires time { IsTime time }
+    requires past { IsTime past }
+    requires after { time ≤ℤ past }
+    ensures { result ≡ filter (λ w. int_lt past w.end) (spec.windows_of size period time) }
+{
+    Windows {
+        start: first_start(size, period, past),
+        size,
+        period,
+        time,
     }
 }
 

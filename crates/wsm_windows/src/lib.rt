@@ -23,7 +23,7 @@
 //! ```
 #![tactic(auto)]
 
-pub use assignment::{Windows, windows_of};
+pub use assignment::{Windows, live_past, live_windows_of, windows_of};
 pub use life::{is_due, is_live, last_expired, live_bound};
 pub use place::Place;
 pub use window::{PaneKind, Shape, Window};

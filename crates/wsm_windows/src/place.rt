@@ -1,7 +1,7 @@
 //! Where a pane stands.
 
 ghost use Rattle.std.specs.Prelude.{◌≡◌};
-ghost use Rattle.wsm_windows.specs.Places.{at};
+ghost use Rattle.wsm_windows.specs.Places.{at, window_of};
 
 use crate::window::Window;
 
@@ -26,6 +26,16 @@ impl Place {
             end: window.end,
             start: window.start,
             key,
+        }
+    }
+
+    /// Its window.
+    pub fn window(self) -> Window
+        ensures { result ≡ window_of self }
+    {
+        Window {
+            start: self.start,
+            end: self.end,
         }
     }
 }

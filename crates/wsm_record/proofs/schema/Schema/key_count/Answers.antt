@@ -5,5 +5,5 @@ use Rattle.wsm_record.proofs.schema.Schema.key_count.Goals as goal
 
 pub returns-clause-some : goal.returns-clause-some
 returns-clause-some c =
-    let some = has_keys (record { keys = c.self.inside.keys; fields = map field_seen c.self.inside.fields.items }) c.self.invariant in
+    let some = has_keys (record { keys = c.self.inside.keys; fields = map field_seen c.self.inside.fields.items; sources = c.self.inside.sources }) c.self.invariant in
     omega (arith, some, c.len.ensures.len)
