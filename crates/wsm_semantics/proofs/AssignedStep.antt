@@ -1,9 +1,9 @@
 -- Windows assigned by a record's time alone: each pane has records, and a record is put into the
 -- panes of its windows.
-use Rattle.std.proofs.Common.{◌≡◌, Bool, true, false, ◌&&◌, ◌||◌, cond, List, [], ◌∷◌, ◌++◌, map, ℤ, ◌+ℤ◌, ◌<ℤ◌, T, Option, Some, refl, sym, ap, subst, ◌∙◌, arith}
+use Rattle.std.proofs.Common.{◌≡◌, Bool, true, false, ◌||◌, cond, List, [], ◌∷◌, ◌++◌, map, ◌<ℤ◌, T, Option, Some, refl, sym, ap, subst, ◌∙◌, arith}
 use Rattle.std.proofs.lemmas.Int.{ints}
 use Rattle.std.proofs.lemmas.List.Elements.{All-head, All-tail}
-use Rattle.std.specs.Prelude.{All, flat_map, int_le, int_lt}
+use Rattle.std.specs.Prelude.{All, flat_map}
 use Rattle.std.specs.List.{AllByRecursion, list_any}
 use Rattle.std.specs.Ordering.{eq_by_cmp}
 use Rattle.std.specs.FinMap.Entries.{put, find, is_sorted, find-put, is_sorted-put}
@@ -13,7 +13,7 @@ use Rattle.wsm_windows.specs.Windows.{IsShape, IsRising}
 use Rattle.wsm_windows.specs.declared.place.Place.{Place}
 use Rattle.wsm_windows.specs.Places.{place_cmp, at}
 use Rattle.wsm_windows.proofs.Places.{tie_is, places_total}
-use Rattle.wsm_semantics.specs.Query.{Query, Datum, mark, selected}
+use Rattle.wsm_semantics.specs.Query.{Query, Datum, selected}
 use Rattle.wsm_semantics.specs.Panes.{windows_among, places, is_there, panes}
 use Rattle.wsm_semantics.specs.Kept.{Kept, with_record, assigned}
 use Rattle.wsm_semantics.proofs.Lists.{IsNonEmpty, some_pass, all-each}
@@ -60,26 +60,23 @@ module _ (d : Datum) where
         ap (λ (r : Place). find place_cmp r es) (sym same),
       ))
 
-pub kept_live : (mark t l start end : ℤ) → int_lt (t +ℤ l) mark ≡ false → (int_le start t && int_lt t end) ≡ true → int_lt mark (end +ℤ l) ≡ true
-kept_live mark t l start end prompt inside = grind (arith, ints)
-
 module _ (q : Query) (ok : IsShape q.shape) (assigned : IsAssigned q.shape) (past : List Event) where
-  places_flat : (ds xs : List Datum) → flat_map (λ d. map (at d.key) (windows_among q.shape ds d)) xs ≡ flat_map (stands q.shape ok assigned) xs
+  places_flat : (ds xs : List Datum) → flat_map (λ d. map (at d.key) (windows_among q.shape q.clock.lateness ds d)) xs ≡ flat_map (stands q.shape q.clock.lateness ok assigned) xs
   places_flat ds [] = refl
-  places_flat ds (x ∷ xs) = λ i. map (at x.key) (windows_assigned q.shape assigned ds x i) ++ places_flat ds xs i
+  places_flat ds (x ∷ xs) = λ i. map (at x.key) (windows_assigned q.shape q.clock.lateness assigned ds x i) ++ places_flat ds xs i
 
-  pub places-assigned : places q past ≡ flat_map (stands q.shape ok assigned) (selected q past)
+  pub places-assigned : places q past ≡ flat_map (stands q.shape q.clock.lateness ok assigned) (selected q past)
   places-assigned = places_flat (selected q past) (selected q past)
 
-  pub among_places : (p : Place) → OnGrid q.shape ok assigned p → among p (places q past) ≡ list_any (is_there p) (selected q past)
-  among_places p grid = ap (among p) places-assigned ∙ among_all q.shape ok assigned p grid (selected q past)
+  pub among_places : (p : Place) → OnGrid q.shape q.clock.lateness ok assigned p → among p (places q past) ≡ list_any (is_there q p) (selected q past)
+  among_places p grid = ap (among p) places-assigned ∙ among_all q.shape q.clock.lateness ok assigned p grid (selected q past)
 
-  pub grid_of : (p : Place) → among p (places q past) ≡ true → OnGrid q.shape ok assigned p
-  grid_of p h = on_grid_all q.shape ok assigned p (selected q past) (ap (among p) (sym places-assigned) ∙ h)
+  pub grid_of : (p : Place) → among p (places q past) ≡ true → OnGrid q.shape q.clock.lateness ok assigned p
+  grid_of p h = on_grid_all q.shape q.clock.lateness ok assigned p (selected q past) (ap (among p) (sym places-assigned) ∙ h)
 
   -- each pane has records
   pub panes_filled : AllByRecursion (λ e. IsNonEmpty e.1) (panes q past)
   panes_filled =
       all-each (IsPane q past) (λ e. IsNonEmpty e.1) (panes q past)
-      (λ e pane. subst IsNonEmpty (sym pane.0) (some_pass (is_there e.0) (selected q past) (sym (among_places e.0 (grid_of e.0 pane.1)) ∙ pane.1)))
+      (λ e pane. subst IsNonEmpty (sym pane.0) (some_pass (is_there q e.0) (selected q past) (sym (among_places e.0 (grid_of e.0 pane.1)) ∙ pane.1)))
       (each_pane q past)

@@ -1,9 +1,8 @@
 -- Windows assigned by a record's time alone, where panes discard what they showed and none fires early:
 -- until a pane's end nothing shows its records, so that it fires all of them on time.
-use Rattle.std.proofs.Common.{◌≡◌, ℕ, Bool, true, false, ◌&&◌, ◌||◌, cond, not, List, [], ◌∷◌, length, ℤ, pos, ◌+ℤ◌, ◌≤ℤ◌, Option, Some, None, is_none, is_some, refl, sym, ap, subst, ◌∙◌, arith}
-use Rattle.std.proofs.lemmas.Int.{ints, clamps}
+use Rattle.std.proofs.Common.{◌≡◌, ℕ, Bool, true, false, ◌&&◌, ◌||◌, cond, not, List, [], ◌∷◌, length, ℤ, pos, ◌+ℤ◌, ◌≤ℤ◌, Option, Some, None, is_some, refl, sym, ap, subst, ◌∙◌, arith}
+use Rattle.std.proofs.lemmas.Int.{ints}
 use Rattle.std.specs.Prelude.{int_lt, int_le, nat_eq, nat_lt}
-use Rattle.std.specs.Int.{int_max}
 use Rattle.std.specs.List.{list_any}
 use Rattle.std.proofs.Math.Bool.{and-false}
 use Rattle.wsm_record.specs.declared.words.Mode.{Mode}
@@ -13,11 +12,10 @@ use Rattle.wsm_windows.specs.declared.window.PaneKind.{PaneKind}
 use Rattle.wsm_windows.specs.declared.window.PaneKind.TheVariants.{Early, OnTime, Late, Final}
 use Rattle.wsm_windows.specs.Windows.{IsShape}
 use Rattle.wsm_windows.specs.declared.place.Place.{Place}
-use Rattle.wsm_admission.specs.Clock.{is_time}
-use Rattle.wsm_admission.proofs.Taken.{accepted_watermark}
-use Rattle.wsm_semantics.specs.Query.{Datum, Query, mark, verdict_on, selected}
+use Rattle.wsm_admission.proofs.SourceMarks.{watermark_rises}
+use Rattle.wsm_semantics.specs.Query.{Datum, Query, mark, selected}
 use Rattle.wsm_semantics.specs.Panes.{contents, panes}
-use Rattle.wsm_semantics.specs.Firings.{firings, firing_set, is_enough, is_shown, shows, holds, kind_on_watermark}
+use Rattle.wsm_semantics.specs.Firings.{firings, firing_set, is_enough, is_shown, shows, holds}
 use Rattle.wsm_semantics.specs.Order.{Permuted}
 use Rattle.wsm_semantics.proofs.Assigned.{IsAssigned}
 use Rattle.wsm_semantics.proofs.Each.{all_of, all-any, list_any-none}
@@ -28,9 +26,8 @@ use Rattle.wsm_semantics.proofs.ReorderedHistories.{same_mark}
 use Rattle.wsm_semantics.proofs.OnTimeOrder.{FiresSame, same_selected}
 use Rattle.wsm_semantics.proofs.Bags.{Shuffled}
 
-risen : (mark t : ℤ) (in_time : Bool) (end : ℤ) → int_lt (cond in_time (int_max mark t) mark) end ≡ true → int_lt mark end ≡ true
-risen mark t true end h = grind (arith, ints, clamps)
-risen mark t false end h = h
+sooner : (old new end : ℤ) → old ≤ℤ new → int_lt new end ≡ true → int_lt old end ≡ true
+sooner old new end h k = grind (arith, ints)
 
 ended_later : (t end : ℤ) → int_lt t end ≡ true → int_le end t ≡ false
 ended_later t end h = grind (arith, ints)
@@ -52,20 +49,14 @@ module _ (q : Query) (low : pos 0 ≤ℤ q.clock.lateness) (none : q.early ≡ 0
   idle past (Record k t vs) p all h =
       ap (λ (o : Option PaneKind). cond (list_any (λ d. nat_eq d.turn (length past)) all) o None) (none_on_record q.early q.late (length (unshown_of q past p all)) (int_lt (mark q past) p.end) h none)
       ∙ elim (list_any (λ d. nat_eq d.turn (length past)) all) as (λ b. cond {A = Option PaneKind} b None None ≡ None) [ true ↦ refl | false ↦ refl ]
-  idle past (Watermark t) p all h =
+  idle past (Watermark o t) p all h =
       let unshown : List Datum = unshown_of q past p all in
-      let kind : Option PaneKind = kind_on_watermark q (mark q past) t p (length (firing_set q.mode all unshown)) (length unshown) in
-      elim (verdict_on q past (Watermark t)) as (λ o. verdict_on q past (Watermark t) ≡ o → cond (is_none o) kind None ≡ None) [
-        | None ↦ λ taken.
-            let before : int_lt t p.end ≡ true = subst (λ (w : ℤ). int_lt w p.end ≡ true) (accepted_watermark (mark q past) t taken).0 h in
-            gates (int_lt (mark q past) p.end) (int_le p.end t) (int_lt (mark q past) (p.end +ℤ q.clock.lateness)) (int_le (p.end +ℤ q.clock.lateness) t)
-            (ended_later t p.end before) (dropped_later t p.end q.clock.lateness low before) (nat_lt 0 (length (firing_set q.mode all unshown))) (nat_lt 0 (length unshown))
-        | Some why ↦ λ _. refl
-      ] refl
+      let new : ℤ = mark q (Watermark o t ∷ past) in
+      gates (int_lt (mark q past) p.end) (int_le p.end new) (int_lt (mark q past) (p.end +ℤ q.clock.lateness)) (int_le (p.end +ℤ q.clock.lateness) new)
+      (ended_later new p.end h) (dropped_later new p.end q.clock.lateness low h) (nat_lt 0 (length (firing_set q.mode all unshown))) (nat_lt 0 (length unshown))
 
   before_it : (past : List Event) (e : Event) (end : ℤ) → int_lt (mark q (e ∷ past)) end ≡ true → int_lt (mark q past) end ≡ true
-  before_it past (Record k t vs) end h = h
-  before_it past (Watermark t) end h = risen (mark q past) t (is_time t) end h
+  before_it past e end h = sooner (mark q past) (mark q (e ∷ past)) end (watermark_rises q.clock past e) h
 
   module _ (assigned : IsAssigned q.shape) where
     -- until the watermark comes to its end, nothing shows a pane's records
@@ -94,4 +85,4 @@ module _ (q : Query) (low : pos 0 ≤ℤ q.clock.lateness) (none : q.early ≡ 0
         subst (λ (m : Mode). Shuffled (firing_set m (contents q past p) (unshown_of q past p (contents q past p))) (firing_set m (contents q other p) (unshown_of q other p (contents q other p)))) (sym discarding)
         (subst (λ (ds : List Datum). Shuffled ds (unshown_of q other p (contents q other p))) (sym (all_unshown past p (contents q past p) h))
         (subst (Shuffled (contents q past p)) (sym (all_unshown other p (contents q other p) h_other))
-        (same_contents p (selected q past) (selected q other) (same_selected q ok past other r))))
+        (same_contents q p (selected q past) (selected q other) (same_selected q ok past other r))))

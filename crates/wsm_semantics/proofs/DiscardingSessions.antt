@@ -1,6 +1,6 @@
 -- Sessions that discard what they showed, where only watermarks fire: which records are unshown, as a
--- bag, goes by the events and their verdicts, and not by their order between accepted watermarks.
-use Rattle.std.proofs.Common.{◌≡◌, ℕ, Bool, true, false, ◌&&◌, ◌||◌, cond, not, List, [], ◌∷◌, ◌++◌, length, ℤ, pos, Option, Some, None, is_none, is_some, refl, sym, ap, subst, ◌∙◌, arith}
+-- bag, goes by the events and their verdicts, and not by their order between rises of the watermark.
+use Rattle.std.proofs.Common.{◌≡◌, ℕ, Bool, true, false, ◌&&◌, ◌||◌, cond, not, List, [], ◌∷◌, ◌++◌, length, ℤ, pos, Option, Some, None, is_some, refl, sym, ap, subst, ◌∙◌, arith}
 use Rattle.std.specs.Prelude.{filter, nat_eq, int_lt}
 use Rattle.std.specs.List.{list_any}
 use Rattle.std.proofs.lemmas.Bool.{eqb-true}
@@ -14,14 +14,14 @@ use Rattle.wsm_windows.specs.declared.window.PaneKind.{PaneKind}
 use Rattle.wsm_windows.specs.declared.window.PaneKind.TheVariants.{Early, Late}
 use Rattle.wsm_windows.specs.declared.window.Shape.{Shape}
 use Rattle.wsm_windows.specs.declared.window.Shape.TheVariants.{Session}
-use Rattle.wsm_windows.specs.Windows.{window, has_inside, IsShape}
+use Rattle.wsm_windows.specs.Windows.{window, IsShape}
 use Rattle.wsm_windows.specs.declared.place.Place.{Place}
 use Rattle.wsm_windows.specs.Places.{at, window_of}
-use Rattle.wsm_admission.specs.declared.verdict.Refusal.{Refusal}
-use Rattle.wsm_semantics.specs.Query.{Datum, Query, mark, verdict_on, selected, selection_of}
-use Rattle.wsm_semantics.specs.Panes.{is_there, contents, panes}
+use Rattle.wsm_admission.proofs.SourceMarks.{watermark_rises}
+use Rattle.wsm_semantics.specs.Query.{Datum, Query, mark, raises, verdict_on, selected, selection_of}
+use Rattle.wsm_semantics.specs.Panes.{is_there, stands_in, contents, panes}
 use Rattle.wsm_semantics.specs.Firings.{firings, firings_by, firing_set, is_enough, is_shown, shows, holds, kind_on_watermark}
-use Rattle.wsm_semantics.specs.Order.{Judged, judged, is_accepted, Reordered, Done, Next, Swap, Then, Permuted}
+use Rattle.wsm_semantics.specs.Order.{Judged, judged, is_rise, Reordered, Done, Next, Swap, Then, Permuted}
 use Rattle.wsm_semantics.proofs.Lists.{all-each, filter_same}
 use Rattle.wsm_semantics.proofs.Each.{all_of, all-any, all-swap, filter-append, filter-each, filter-filter, list_any-each, list_any-none}
 use Rattle.wsm_semantics.proofs.Within.{new_turn}
@@ -29,35 +29,36 @@ use Rattle.wsm_semantics.proofs.MergedRecords.{selected_falls, holds-filter}
 use Rattle.wsm_semantics.proofs.ShownPanes.{IsPane, each_pane, unshown_of, kind_of, shown_now, not_shown_yet}
 use Rattle.wsm_semantics.proofs.Bags.{Shuffled, Empty, Through, shuffled-sym, same_length, same_filter, same_append, same_after}
 use Rattle.wsm_semantics.proofs.PanesOrder.{contents_of, panes_of, same_contents, there_agrees, same_panes}
-use Rattle.wsm_semantics.proofs.ReorderedHistories.{mark_by, mark_reordered, mark_is, said, said_all, said_reordered, swapped_said, selected_said, selection_said}
+use Rattle.wsm_semantics.proofs.ReorderedHistories.{AreTold, events_of, events_judged, judged_told, reordered_told, mark_by, mark_reordered, mark_is, stays_where, said, said_all, said_reordered, swapped_at, selected_said, selection_by}
+use Rattle.wsm_semantics.proofs.Turns.{idle}
 use Rattle.wsm_semantics.proofs.OnTimeOrder.{FiresSame}
 
 -- some pane of a bag of records passes
-any_same : (shape : Shape) → IsShape shape → (f g : Place → Bool) → ((p : Place) → f p ≡ g p) → (ds es : List Datum) → Shuffled ds es →
-    list_any (λ x. f x.0) (panes_of shape ds) ≡ list_any (λ x. g x.0) (panes_of shape es)
-any_same shape ok f g agree ds es h =
-    list_any-each (λ x. f x.0) (λ x. g x.0) (panes_of shape ds) (all-any (λ x. f x.0 ≡ g x.0) (λ x. agree x.0) (panes_of shape ds))
-    ∙ sym (list_any-map {Y = Place × List Datum} (λ x. g x.0) (λ x. (x.0, contents_of es x.0)) (panes_of shape ds))
-    ∙ ap (list_any (λ x. g x.0)) (sym (same_panes shape ok ds es h))
+any_same : (q : Query) → IsShape q.shape → (f g : Place → Bool) → ((p : Place) → f p ≡ g p) → (ds es : List Datum) → Shuffled ds es →
+    list_any (λ x. f x.0) (panes_of q ds) ≡ list_any (λ x. g x.0) (panes_of q es)
+any_same q ok f g agree ds es h =
+    list_any-each (λ x. f x.0) (λ x. g x.0) (panes_of q ds) (all-any (λ x. f x.0 ≡ g x.0) (λ x. agree x.0) (panes_of q ds))
+    ∙ sym (list_any-map {Y = Place × List Datum} (λ x. g x.0) (λ x. (x.0, contents_of q es x.0)) (panes_of q ds))
+    ∙ ap (list_any (λ x. g x.0)) (sym (same_panes q ok ds es h))
 
 -- ---- by the verdicts
 
 module _ (q : Query) (ok : IsShape q.shape) where
   -- a place fires, where these records are unshown
   abbrev fires_of : ℤ → ℤ → List Datum → Place → Bool
-  fires_of old t us p = is_some (kind_on_watermark q old t p (length (contents_of us p)) (length (contents_of us p)))
+  fires_of old t us p = is_some (kind_on_watermark q old t p (length (contents_of q us p)) (length (contents_of q us p)))
 
   -- a pane that fires has the record
   abbrev is_fired : ℤ → ℤ → List Datum → List Datum → Datum → Bool
-  is_fired old t ds us d = list_any (λ x. fires_of old t us x.0 && is_there x.0 d) (panes_of q.shape ds)
+  is_fired old t ds us d = list_any (λ x. fires_of old t us x.0 && is_there q x.0 d) (panes_of q ds)
 
   -- what is left unshown by a watermark
   abbrev left_at : ℤ → ℤ → List Datum → List Datum → List Datum
   left_at old t ds us = filter (λ d. not (is_fired old t ds us d)) us
 
   abbrev left_with : Judged → List Judged → List Datum → List Datum
-  left_with (Record k t vs, why) xs us = said q (Record k t vs, why) ++ us
-  left_with (Watermark t, why) xs us = cond (is_none why) (left_at (mark_by q.clock.start xs) t (said_all q xs) us) us
+  left_with (Record k t vs, why, up) xs us = said q (mark_by q xs) (Record k t vs, why, up) ++ us
+  left_with (Watermark o t, why, up) xs us = cond up (left_at (mark_by q xs) (mark_by q ((Watermark o t, why, up) ∷ xs)) (said_all q xs) us) us
 
   -- the unshown records
   abbrev left_by : List Judged → List Datum
@@ -67,36 +68,40 @@ module _ (q : Query) (ok : IsShape q.shape) where
   same_left_at : (old t : ℤ) (ds es us vs : List Datum) → Shuffled ds es → Shuffled us vs → Shuffled (left_at old t ds us) (left_at old t es vs)
   same_left_at old t ds es us vs h k =
       same_filter (λ d. not (is_fired old t ds us d)) (λ d. not (is_fired old t es vs d))
-      (λ d e key time values.
-      ap not (any_same q.shape ok (λ p. fires_of old t us p && is_there p d) (λ p. fires_of old t vs p && is_there p e)
-      (λ p i. is_some (kind_on_watermark q old t p (lengths p i) (lengths p i)) && there_agrees p d e key time values i) ds es h))
+      (λ d e key mark time values.
+      ap not (any_same q ok (λ p. fires_of old t us p && is_there q p d) (λ p. fires_of old t vs p && is_there q p e)
+      (λ p i. is_some (kind_on_watermark q old t p (lengths p i) (lengths p i)) && there_agrees q p d e key mark time values i) ds es h))
       us vs k
     where
-      lengths : (p : Place) → length (contents_of us p) ≡ length (contents_of vs p)
-      lengths p = same_length (contents_of us p) (contents_of vs p) (same_contents p us vs k)
+      lengths : (p : Place) → length (contents_of q us p) ≡ length (contents_of q vs p)
+      lengths p = same_length (contents_of q us p) (contents_of q vs p) (same_contents q p us vs k)
 
-  left_plain : (x : Judged) (xs : List Judged) (us : List Datum) → is_accepted x ≡ false → left_with x xs us ≡ said q x ++ us
-  left_plain (Record k t vs, why) xs us h = refl
-  left_plain (Watermark t, why) xs us h = ap (λ (b : Bool). cond b (left_at (mark_by q.clock.start xs) t (said_all q xs) us) us) h
+  left_plain : (x : Judged) (xs : List Judged) (us : List Datum) → is_rise x ≡ false → left_with x xs us ≡ said q (mark_by q xs) x ++ us
+  left_plain (Record k t vs, why, up) xs us h = refl
+  left_plain (Watermark o t, why, up) xs us h = ap (λ (b : Bool). cond b (left_at (mark_by q xs) (mark_by q ((Watermark o t, why, up) ∷ xs)) (said_all q xs) us) us) h
 
-  left_next : (x : Judged) (xs ys : List Judged) → Reordered xs ys → Shuffled (left_by xs) (left_by ys) → Shuffled (left_with x xs (left_by xs)) (left_with x ys (left_by ys))
-  left_next (Record k t vs, why) xs ys r h = same_after (said q (Record k t vs, why)) (left_by xs) (left_by ys) h
-  left_next (Watermark t, why) xs ys r h =
-      elim (is_none why) as (λ b. Shuffled (cond b (left_at (mark_by q.clock.start xs) t (said_all q xs) (left_by xs)) (left_by xs)) (cond b (left_at (mark_by q.clock.start ys) t (said_all q ys) (left_by ys)) (left_by ys))) [
-        | true ↦ subst (λ (w : ℤ). Shuffled (left_at (mark_by q.clock.start xs) t (said_all q xs) (left_by xs)) (left_at w t (said_all q ys) (left_by ys))) (mark_reordered q.clock.start xs ys r)
-            (same_left_at (mark_by q.clock.start xs) t (said_all q xs) (said_all q ys) (left_by xs) (left_by ys) (said_reordered q xs ys r) h)
+  left_next : (x : Judged) (xs ys : List Judged) → Reordered xs ys → AreTold q xs → Shuffled (left_by xs) (left_by ys) → Shuffled (left_with x xs (left_by xs)) (left_with x ys (left_by ys))
+  left_next (Record k t vs, why, up) xs ys r told h =
+      let x : Judged = (Record k t vs, why, up) in
+      subst (λ (m : ℤ). Shuffled (said q (mark_by q xs) x ++ left_by xs) (said q m x ++ left_by ys)) (mark_reordered q xs ys r) (same_after (said q (mark_by q xs) x) (left_by xs) (left_by ys) h)
+  left_next (Watermark o t, why, up) xs ys r told h =
+      let x : Judged = (Watermark o t, why, up) in
+      elim up as (λ b. Shuffled (cond b (left_at (mark_by q xs) (mark_by q (x ∷ xs)) (said_all q xs) (left_by xs)) (left_by xs)) (cond b (left_at (mark_by q ys) (mark_by q (x ∷ ys)) (said_all q ys) (left_by ys)) (left_by ys))) [
+        | true ↦ subst (λ (ms : ℤ × ℤ). Shuffled (left_at (mark_by q xs) (mark_by q (x ∷ xs)) (said_all q xs) (left_by xs)) (left_at ms.0 ms.1 (said_all q ys) (left_by ys)))
+            (λ i. (mark_reordered q xs ys r i, mark_reordered q (x ∷ xs) (x ∷ ys) (Next x xs ys r) i))
+            (same_left_at (mark_by q xs) (mark_by q (x ∷ xs)) (said_all q xs) (said_all q ys) (left_by xs) (left_by ys) (said_reordered q xs ys r told) h)
         | false ↦ h
       ]
 
-  left_reordered : (xs ys : List Judged) → Reordered xs ys → Shuffled (left_by xs) (left_by ys)
-  left_reordered _ _ Done = Empty
-  left_reordered _ _ (Next e xs ys r) = left_next e xs ys r (left_reordered xs ys r)
-  left_reordered _ _ (Swap a b xs h k) =
+  left_reordered : (xs ys : List Judged) → Reordered xs ys → AreTold q xs → Shuffled (left_by xs) (left_by ys)
+  left_reordered _ _ Done told = Empty
+  left_reordered _ _ (Next e xs ys r) told = left_next e xs ys r told.1 (left_reordered xs ys r told.1)
+  left_reordered _ _ (Swap a b xs h k) told =
       let us : List Datum = left_by xs in
-      let one : left_by (a ∷ b ∷ xs) ≡ said q a ++ (said q b ++ us) = left_plain a (b ∷ xs) (left_by (b ∷ xs)) h ∙ ap (λ (ds : List Datum). said q a ++ ds) (left_plain b xs us k) in
-      let two : left_by (b ∷ a ∷ xs) ≡ said q b ++ (said q a ++ us) = left_plain b (a ∷ xs) (left_by (a ∷ xs)) k ∙ ap (λ (ds : List Datum). said q b ++ ds) (left_plain a xs us h) in
-      subst (λ (ds : List Datum). Shuffled ds (left_by (b ∷ a ∷ xs))) (sym one) (subst (Shuffled (said q a ++ (said q b ++ us))) (sym two) (swapped_said q a b us))
-  left_reordered _ _ (Then xs ys zs r s) = Through (left_by xs) (left_by ys) (left_by zs) (left_reordered xs ys r) (left_reordered ys zs s)
+      let one : left_by (a ∷ b ∷ xs) ≡ said q (mark_by q (b ∷ xs)) a ++ (said q (mark_by q xs) b ++ us) = left_plain a (b ∷ xs) (left_by (b ∷ xs)) h ∙ ap (λ (ds : List Datum). said q (mark_by q (b ∷ xs)) a ++ ds) (left_plain b xs us k) in
+      let two : left_by (b ∷ a ∷ xs) ≡ said q (mark_by q (a ∷ xs)) b ++ (said q (mark_by q xs) a ++ us) = left_plain b (a ∷ xs) (left_by (a ∷ xs)) k ∙ ap (λ (ds : List Datum). said q (mark_by q (a ∷ xs)) b ++ ds) (left_plain a xs us h) in
+      subst (λ (ds : List Datum). Shuffled ds (left_by (b ∷ a ∷ xs))) (sym one) (subst (Shuffled (said q (mark_by q (b ∷ xs)) a ++ (said q (mark_by q xs) b ++ us))) (sym two) (swapped_at q a b xs us h k told))
+  left_reordered _ _ (Then xs ys zs r s) told = Through (left_by xs) (left_by ys) (left_by zs) (left_reordered xs ys r told) (left_reordered ys zs s (reordered_told q xs ys r told))
 
   -- ---- of a history
 
@@ -115,18 +120,18 @@ module _ (q : Query) (ok : IsShape q.shape) where
         || list_any (λ f. (ap (λ (s : Shape). shows s p f.place) shape ∙ ap (λ (k : ℕ). nat_eq k f.place.key) key ∙ sym (ap (λ (s : Shape). shows s r f.place) shape)) i && holds d f.contents) (firings_by (is_shown q past) q past e)
 
     -- the unshown records of a pane
-    unshown_left : (past : List Event) (p : Place) → unshown_of q past p (contents q past p) ≡ contents_of (left_of past) p
+    unshown_left : (past : List Event) (p : Place) → unshown_of q past p (contents q past p) ≡ contents_of q (left_of past) p
     unshown_left past p =
-        filter-filter (λ d. not (is_shown q past p d)) (is_there p) (selected q past)
-        ∙ filter_same (λ d. is_there p d && not (is_shown q past p d)) (λ d. not (is_shown q past (its d) d) && is_there p d) alike (selected q past)
-        ∙ sym (filter-filter (is_there p) (λ d. not (is_shown q past (its d) d)) (selected q past))
+        filter-filter (λ d. not (is_shown q past p d)) (is_there q p) (selected q past)
+        ∙ filter_same (λ d. is_there q p d && not (is_shown q past p d)) (λ d. not (is_shown q past (its d) d) && is_there q p d) alike (selected q past)
+        ∙ sym (filter-filter (is_there q p) (λ d. not (is_shown q past (its d) d)) (selected q past))
       where
-        alike : (d : Datum) → (is_there p d && not (is_shown q past p d)) ≡ (not (is_shown q past (its d) d) && is_there p d)
+        alike : (d : Datum) → (is_there q p d && not (is_shown q past p d)) ≡ (not (is_shown q past (its d) d) && is_there q p d)
         alike d =
-            elim (nat_eq d.key p.key) as (λ b. nat_eq d.key p.key ≡ b → ((b && has_inside d.time (window_of p)) && not (is_shown q past p d)) ≡ (not (is_shown q past (its d) d) && (b && has_inside d.time (window_of p)))) [
+            elim (nat_eq d.key p.key) as (λ b. nat_eq d.key p.key ≡ b → ((b && stands_in q.shape q.clock.lateness (window_of p) d) && not (is_shown q past p d)) ≡ (not (is_shown q past (its d) d) && (b && stands_in q.shape q.clock.lateness (window_of p) d))) [
               | true ↦ λ k.
-                  ap (λ (b : Bool). has_inside d.time (window_of p) && not b) (shown_by_key past p (its d) d (sym (eqb-true d.key p.key k)))
-                  ∙ and_comm (has_inside d.time (window_of p)) (not (is_shown q past (its d) d))
+                  ap (λ (b : Bool). stands_in q.shape q.clock.lateness (window_of p) d && not b) (shown_by_key past p (its d) d (sym (eqb-true d.key p.key k)))
+                  ∙ and_comm (stands_in q.shape q.clock.lateness (window_of p) d) (not (is_shown q past (its d) d))
               | false ↦ λ k. sym (and-false (not (is_shown q past (its d) d)))
             ] refl
 
@@ -161,65 +166,79 @@ module _ (q : Query) (ok : IsShape q.shape) where
         none_either true = refl
         none_either false = refl
 
-    -- what a place does at an accepted watermark, by the unshown records
-    risen_kind : (past : List Event) (t : ℤ) → verdict_on q past (Watermark t) ≡ None → (p : Place) →
-        is_some (kind_of q past (Watermark t) p (contents q past p)) ≡ fires_of (mark q past) t (left_of past) p
-    risen_kind past t taken p =
-        let all : List Datum = contents q past p in
-        let unshown : List Datum = unshown_of q past p all in
-        ap (λ (v : Option Refusal). is_some (cond (is_none v) (kind_on_watermark q (mark q past) t p (length (firing_set q.mode all unshown)) (length unshown)) None)) taken
-        ∙ ap (λ (m : Mode). is_some (kind_on_watermark q (mark q past) t p (length (firing_set m all unshown)) (length unshown))) discarding
-        ∙ ap (λ (us : List Datum). is_some (kind_on_watermark q (mark q past) t p (length us) (length us))) (unshown_left past p)
+    module _ (past : List Event) (o : Option ℕ) (t : ℤ) where
+      abbrev w : Event
+      w = Watermark o t
 
-    -- a record is shown by an accepted watermark where a pane that fires has it
-    shown_at : (past : List Event) (t : ℤ) → verdict_on q past (Watermark t) ≡ None → (d : Datum) → ((r : Place) → holds d (contents q past r) ≡ is_there r d) →
-        list_any (λ f. shows q.shape (its d) f.place && holds d f.contents) (firings q past (Watermark t)) ≡ is_fired (mark q past) t (selected q past) (left_of past) d
-    shown_at past t taken d held_by =
-        shown_now q past (Watermark t) (its d) d
-        ∙ list_any-each (λ x. is_some (kind_of q past (Watermark t) x.0 x.1) && (shows q.shape (its d) x.0 && holds d x.1)) (λ x. fires_of (mark q past) t (left_of past) x.0 && is_there x.0 d) (panes q past)
-        (all-each (IsPane q past) (λ x. (is_some (kind_of q past (Watermark t) x.0 x.1) && (shows q.shape (its d) x.0 && holds d x.1)) ≡ (fires_of (mark q past) t (left_of past) x.0 && is_there x.0 d)) (panes q past)
-        (λ x pane.
-        ap (λ (all : List Datum). is_some (kind_of q past (Watermark t) x.0 all) && (shows q.shape (its d) x.0 && holds d all)) pane.0
-        ∙ (λ i. risen_kind past t taken x.0 i && (shows (shape i) (its d) x.0 && held_by x.0 i))
-        ∙ ap (λ (b : Bool). fires_of (mark q past) t (left_of past) x.0 && b) (once (nat_eq d.key x.0.key) (has_inside d.time (window_of x.0))))
-        (each_pane q past))
-      where
-        once : (a b : Bool) → (a && (a && b)) ≡ (a && b)
-        once true b = refl
-        once false b = refl
+      abbrev old : ℤ
+      old = mark q past
 
-    left_risen : (past : List Event) (t : ℤ) → verdict_on q past (Watermark t) ≡ None → left_of (Watermark t ∷ past) ≡ left_at (mark q past) t (selected q past) (left_of past)
-    left_risen past t taken =
-        filter-each (λ d. not (is_shown q (Watermark t ∷ past) (its d) d)) (λ d. not (is_shown q past (its d) d) && not (is_fired (mark q past) t (selected q past) (left_of past) d)) (selected q past)
-        (all-each (λ d. (r : Place) → holds d (contents q past r) ≡ is_there r d)
-        (λ d. not (is_shown q (Watermark t ∷ past) (its d) d) ≡ (not (is_shown q past (its d) d) && not (is_fired (mark q past) t (selected q past) (left_of past) d)))
-        (selected q past)
-        (λ d held_by. ap (λ (b : Bool). not (is_shown q past (its d) d || b)) (shown_at past t taken d held_by) ∙ neither (is_shown q past (its d) d) (is_fired (mark q past) t (selected q past) (left_of past) d))
-        (all-swap (λ r d. holds d (contents q past r) ≡ is_there r d) (selected q past) (λ r. holds-filter (is_there r) (selected q past) (selected_falls q past))))
-        ∙ sym (filter-filter (λ d. not (is_fired (mark q past) t (selected q past) (left_of past) d)) (λ d. not (is_shown q past (its d) d)) (selected q past))
-      where
-        neither : (a b : Bool) → not (a || b) ≡ (not a && not b)
-        neither true b = refl
-        neither false b = refl
+      abbrev new : ℤ
+      new = mark q (w ∷ past)
 
-    -- the unshown records of a history are those by its verdicts
+      -- what a place does at a watermark, by the unshown records
+      risen_kind : (p : Place) → is_some (kind_of q past w p (contents q past p)) ≡ fires_of old new (left_of past) p
+      risen_kind p =
+          let all : List Datum = contents q past p in
+          let unshown : List Datum = unshown_of q past p all in
+          ap (λ (m : Mode). is_some (kind_on_watermark q old new p (length (firing_set m all unshown)) (length unshown))) discarding
+          ∙ ap (λ (us : List Datum). is_some (kind_on_watermark q old new p (length us) (length us))) (unshown_left past p)
+
+      -- a record is shown by it where a pane that fires has it
+      shown_at : (d : Datum) → ((r : Place) → holds d (contents q past r) ≡ is_there q r d) →
+          list_any (λ f. shows q.shape (its d) f.place && holds d f.contents) (firings q past w) ≡ is_fired old new (selected q past) (left_of past) d
+      shown_at d held_by =
+          shown_now q past w (its d) d
+          ∙ list_any-each (λ x. is_some (kind_of q past w x.0 x.1) && (shows q.shape (its d) x.0 && holds d x.1)) (λ x. fires_of old new (left_of past) x.0 && is_there q x.0 d) (panes q past)
+          (all-each (IsPane q past) (λ x. (is_some (kind_of q past w x.0 x.1) && (shows q.shape (its d) x.0 && holds d x.1)) ≡ (fires_of old new (left_of past) x.0 && is_there q x.0 d)) (panes q past)
+          (λ x pane.
+          ap (λ (all : List Datum). is_some (kind_of q past w x.0 all) && (shows q.shape (its d) x.0 && holds d all)) pane.0
+          ∙ (λ i. risen_kind x.0 i && (shows (shape i) (its d) x.0 && held_by x.0 i))
+          ∙ ap (λ (b : Bool). fires_of old new (left_of past) x.0 && b) (once (nat_eq d.key x.0.key) (stands_in q.shape q.clock.lateness (window_of x.0) d)))
+          (each_pane q past))
+        where
+          once : (a b : Bool) → (a && (a && b)) ≡ (a && b)
+          once true b = refl
+          once false b = refl
+
+      left_risen : left_of (w ∷ past) ≡ left_at old new (selected q past) (left_of past)
+      left_risen =
+          filter-each (λ d. not (is_shown q (w ∷ past) (its d) d)) (λ d. not (is_shown q past (its d) d) && not (is_fired old new (selected q past) (left_of past) d)) (selected q past)
+          (all-each (λ d. (r : Place) → holds d (contents q past r) ≡ is_there q r d)
+          (λ d. not (is_shown q (w ∷ past) (its d) d) ≡ (not (is_shown q past (its d) d) && not (is_fired old new (selected q past) (left_of past) d)))
+          (selected q past)
+          (λ d held_by. ap (λ (b : Bool). not (is_shown q past (its d) d || b)) (shown_at d held_by) ∙ neither (is_shown q past (its d) d) (is_fired old new (selected q past) (left_of past) d))
+          (all-swap (λ r d. holds d (contents q past r) ≡ is_there q r d) (selected q past) (λ r. holds-filter (is_there q r) (selected q past) (selected_falls q past))))
+          ∙ sym (filter-filter (λ d. not (is_fired old new (selected q past) (left_of past) d)) (λ d. not (is_shown q past (its d) d)) (selected q past))
+        where
+          neither : (a b : Bool) → not (a || b) ≡ (not a && not b)
+          neither true b = refl
+          neither false b = refl
+
+    -- the unshown records of a history are those as it is told
     left_is : (past : List Event) → Shuffled (left_of past) (left_by (judged q past))
     left_is [] = Empty
     left_is (Record k t vs ∷ past) =
         let e : Event = Record k t vs in
         subst (λ (ds : List Datum). Shuffled ds (left_by (judged q (e ∷ past)))) (sym (left_more past e (idle_record past k t vs)))
-        (same_append (selection_of q past e) (said q (e, verdict_on q past e)) (left_of past) (left_by (judged q past)) (selection_said q past e) (left_is past))
-    left_is (Watermark t ∷ past) =
-        let kept : List Datum = left_by (judged q past) in
-        let w : ℤ = mark_by q.clock.start (judged q past) in
-        elim (verdict_on q past (Watermark t)) as (λ o. verdict_on q past (Watermark t) ≡ o → Shuffled (left_of (Watermark t ∷ past)) (cond (is_none o) (left_at w t (said_all q (judged q past)) kept) kept)) [
-          | None ↦ λ taken.
-              subst (λ (ds : List Datum). Shuffled ds (left_at w t (said_all q (judged q past)) kept)) (sym (left_risen past t taken))
-              (subst (λ (v : ℤ). Shuffled (left_at (mark q past) t (selected q past) (left_of past)) (left_at v t (said_all q (judged q past)) kept)) (mark_is q past)
-              (same_left_at (mark q past) t (selected q past) (said_all q (judged q past)) (left_of past) kept (selected_said q past) (left_is past)))
-          | Some why ↦ λ refused.
+        (same_append (selection_of q past e) (said q (mark_by q (judged q past)) (e, verdict_on q past e, raises q past e)) (left_of past) (left_by (judged q past)) (selection_by q past e (raises q past e)) (left_is past))
+    left_is (Watermark o t ∷ past) =
+        let w : Event = Watermark o t in
+        let js : List Judged = judged q past in
+        let kept : List Datum = left_by js in
+        let new : ℤ = mark q (w ∷ past) in
+        let new_by : ℤ = mark q (w ∷ events_of js) in
+        elim (raises q past w) as (λ b. raises q past w ≡ b → Shuffled (left_of (w ∷ past)) (cond b (left_at (mark_by q js) new_by (said_all q js) kept) kept)) [
+          | true ↦ λ up.
+              subst (λ (ds : List Datum). Shuffled ds (left_at (mark_by q js) new_by (said_all q js) kept)) (sym (left_risen past o t))
+              (subst (λ (ms : ℤ × ℤ). Shuffled (left_at (mark q past) new (selected q past) (left_of past)) (left_at ms.0 ms.1 (said_all q js) kept)) (λ i. (mark_is q past i, mark q (w ∷ sym (events_judged q past) i)))
+              (same_left_at (mark q past) new (selected q past) (said_all q js) (left_of past) kept (selected_said q past) (left_is past)))
+          | false ↦ λ down.
               subst (λ (ds : List Datum). Shuffled ds kept)
-              (sym (left_more past (Watermark t) (λ p all. ap (λ (v : Option Refusal). cond (is_none v) (kind_on_watermark q (mark q past) t p (length (firing_set q.mode all (unshown_of q past p all))) (length (unshown_of q past p all))) None) refused)))
+              (sym (left_more past w (λ p all.
+              let us : List Datum = unshown_of q past p all in
+              ap (λ (m : ℤ). kind_on_watermark q (mark q past) m p (length (firing_set q.mode all us)) (length us)) (stays_where (mark q past) new (watermark_rises q.clock past w) down)
+              ∙ idle q past (mark q past) p (length (firing_set q.mode all us)) (length us))))
               (left_is past)
         ] refl
 
@@ -227,11 +246,11 @@ module _ (q : Query) (ok : IsShape q.shape) where
     same_left : (past other : List Event) → Permuted q past other → Shuffled (left_of past) (left_of other)
     same_left past other r =
         Through (left_of past) (left_by (judged q past)) (left_of other) (left_is past)
-        (Through (left_by (judged q past)) (left_by (judged q other)) (left_of other) (left_reordered (judged q past) (judged q other) r) (shuffled-sym (left_of other) (left_by (judged q other)) (left_is other)))
+        (Through (left_by (judged q past)) (left_by (judged q other)) (left_of other) (left_reordered (judged q past) (judged q other) r (judged_told q past)) (shuffled-sym (left_of other) (left_by (judged q other)) (left_is other)))
 
     pub sessions_fire_unshown : (past other : List Event) → Permuted q past other → FiresSame q ok past other
     sessions_fire_unshown past other r p _ =
         subst (λ (m : Mode). Shuffled (firing_set m (contents q past p) (unshown_of q past p (contents q past p))) (firing_set m (contents q other p) (unshown_of q other p (contents q other p)))) (sym discarding)
         (subst (λ (ds : List Datum). Shuffled ds (unshown_of q other p (contents q other p))) (sym (unshown_left past p))
-        (subst (Shuffled (contents_of (left_of past) p)) (sym (unshown_left other p))
-        (same_contents p (left_of past) (left_of other) (same_left past other r))))
+        (subst (Shuffled (contents_of q (left_of past) p)) (sym (unshown_left other p))
+        (same_contents q p (left_of past) (left_of other) (same_left past other r))))

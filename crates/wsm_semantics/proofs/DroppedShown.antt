@@ -2,7 +2,7 @@
 -- fired when it was dropped, on time or as the final firing. For any mode.
 use Rattle.std.proofs.Common.{◌≡◌, ℕ, suc, Bool, true, false, ◌&&◌, cond, not, List, [], ◌∷◌, ◌++◌, map, length, ℤ, ◌+ℤ◌, Option, Some, None, is_none, refl, sym, ap, subst, ◌∙◌, arith}
 use Rattle.std.proofs.lemmas.Int.{ints}
-use Rattle.std.proofs.lemmas.Bool.{true≢false, or_left, and_parts, lt-ltb}
+use Rattle.std.proofs.lemmas.Bool.{true≢false, or_left, lt-ltb}
 use Rattle.std.specs.Prelude.{filter, flat_map, int_le, int_lt, nat_lt}
 use Rattle.std.specs.List.{AllByRecursion}
 use Rattle.wsm_record.specs.declared.event.Value.{Value}
@@ -12,23 +12,19 @@ use Rattle.wsm_windows.specs.Life.{is_due}
 use Rattle.wsm_windows.specs.declared.place.Place.{Place}
 use Rattle.wsm_windows.specs.Places.{at, window_of}
 use Rattle.wsm_admission.specs.declared.verdict.Refusal.{Refusal}
-use Rattle.wsm_admission.specs.Clock.{is_late}
-use Rattle.wsm_admission.proofs.Taken.{accepted_watermark}
-use Rattle.wsm_semantics.specs.Query.{Query, Datum, mark, verdict_on, selected, selection_of}
+use Rattle.wsm_semantics.specs.Query.{Query, Datum, SessionsByEvent, mark, verdict_on, selected, selection_of}
 use Rattle.wsm_semantics.specs.Panes.{windows_among, places, is_there, contents, is_live_at}
 use Rattle.wsm_semantics.specs.Firings.{firing_set, is_shown, kind_on_watermark}
 use Rattle.wsm_semantics.specs.Replay.{datum}
 use Rattle.wsm_semantics.proofs.Lists.{all-each}
 use Rattle.wsm_semantics.proofs.Tables.{among}
-use Rattle.wsm_semantics.proofs.AssignedStep.{kept_live}
-use Rattle.wsm_semantics.proofs.Turns.{refused_stays}
-use Rattle.wsm_semantics.proofs.KeptTurns.{comes_in_time, selects_one}
+use Rattle.wsm_semantics.proofs.KeptTurns.{lives_there, selects_one}
 use Rattle.wsm_semantics.proofs.ShownPanes.{ShowsOwn, unshown_of, unshown_by, unshown-after}
 
 -- a place that is new with a selected record has it
 abbrev pub NewHaveRecord : Query → Type 0
 NewHaveRecord q = (past : List Event) (k : ℕ) (t : ℤ) (vs : List Value) → verdict_on q past (Record (Some k) t vs) ≡ None → q.selects k vs ≡ true → (p : Place) →
-    among p (places q (Record (Some k) t vs ∷ past)) ≡ true → is_there p (datum (length past) k t vs) ≡ false → among p (places q past) ≡ true
+    among p (places q (Record (Some k) t vs ∷ past)) ≡ true → is_there q p (datum (length past) (mark q past) k t vs) ≡ false → among p (places q past) ≡ true
 
 -- all records of the place were shown
 abbrev pub AllShown : Query → List Event → Place → Type 0
@@ -62,7 +58,7 @@ last_fires q old t p n (x ∷ xs) live dead =
       | false ↦ ap (λ (b : Bool). unshown_by (cond b (Some Final) None) (x ∷ xs)) fires
     ]
 
-module _ (q : Query) (own : (past : List Event) → ShowsOwn q past) (new : NewHaveRecord q) where
+module _ (q : Query) (timely : SessionsByEvent q) (own : (past : List Event) → ShowsOwn q past) (new : NewHaveRecord q) where
   module _ (past : List Event) (before : DropsShown q past) where
     -- what was shown is shown later
     later : (e : Event) (p : Place) → contents q (e ∷ past) p ≡ contents q past p → AllShown q past p → AllShown q (e ∷ past) p
@@ -73,38 +69,35 @@ module _ (q : Query) (own : (past : List Event) → ShowsOwn q past) (new : NewH
     -- an event that selects nothing and leaves the watermark
     still : (e : Event) → selection_of q past e ≡ [] → mark q (e ∷ past) ≡ mark q past → DropsShown q (e ∷ past)
     still e none same p placed dead =
-        later e p (ap (λ (ds : List Datum). filter (is_there p) (ds ++ selected q past)) none)
+        later e p (ap (λ (ds : List Datum). filter (is_there q p) (ds ++ selected q past)) none)
         (before p
-        (ap (among p) (ap (λ (ds : List Datum). flat_map (λ d. map (at d.key) (windows_among q.shape (ds ++ selected q past) d)) (ds ++ selected q past)) (sym none)) ∙ placed)
+        (ap (among p) (ap (λ (ds : List Datum). flat_map (λ d. map (at d.key) (windows_among q.shape q.clock.lateness (ds ++ selected q past) d)) (ds ++ selected q past)) (sym none)) ∙ placed)
         (ap (λ (w : ℤ). is_live_at q w p) (sym same) ∙ dead))
 
     -- a selected record comes into no place that isn't held
     recorded : (k : ℕ) (t : ℤ) (vs : List Value) → verdict_on q past (Record (Some k) t vs) ≡ None → q.selects k vs ≡ true → DropsShown q (Record (Some k) t vs ∷ past)
     recorded k t vs taken selects p placed dead =
         let e : Event = Record (Some k) t vs in
-        let d : Datum = datum (length past) k t vs in
-        let prompt : is_late q.clock (mark q past) t ≡ false = comes_in_time q past k t vs taken in
-        let away : is_there p d ≡ false = elim (is_there p d) as (λ b. is_there p d ≡ b → b ≡ false) [
-          | true ↦ λ there. sym (kept_live (mark q past) t q.clock.lateness p.start p.end prompt (and_parts _ _ there).1) ∙ dead
+        let d : Datum = datum (length past) (mark q past) k t vs in
+        let away : is_there q p d ≡ false = elim (is_there q p d) as (λ b. is_there q p d ≡ b → b ≡ false) [
+          | true ↦ λ there. sym (lives_there q past timely k t vs taken p there) ∙ dead
           | false ↦ λ _. refl
         ] refl in
         let selection : selection_of q past e ≡ d ∷ [] = selects_one q past k t vs taken selects in
         later e p
-        (ap (λ (ds : List Datum). filter (is_there p) (ds ++ selected q past)) selection ∙ ap (λ (b : Bool). cond b (d ∷ contents q past p) (contents q past p)) away)
+        (ap (λ (ds : List Datum). filter (is_there q p) (ds ++ selected q past)) selection ∙ ap (λ (b : Bool). cond b (d ∷ contents q past p) (contents q past p)) away)
         (before p (new past k t vs taken selects p placed away) dead)
 
-    -- an accepted watermark drops a place once it has shown all
-    risen : (t : ℤ) → verdict_on q past (Watermark t) ≡ None → DropsShown q (Watermark t ∷ past)
-    risen t taken p placed dead =
-        let e : Event = Watermark t in
+    -- a watermark drops a place once it has shown all
+    risen : (o : Option ℕ) (t : ℤ) → DropsShown q (Watermark o t ∷ past)
+    risen o t p placed dead =
+        let e : Event = Watermark o t in
         let all : List Datum = contents q past p in
         let left : List Datum = unshown_of q past p all in
-        let dead_at : is_live_at q t p ≡ false = ap (λ (w : ℤ). is_live_at q w p) (sym (accepted_watermark (mark q past) t taken).0) ∙ dead in
         elim (is_live_at q (mark q past) p) as (λ b. is_live_at q (mark q past) p ≡ b → AllShown q (e ∷ past) p) [
           | true ↦ λ live. passed_all (is_shown q (e ∷ past) p) all
               (unshown-after q past e (own (e ∷ past)) p placed
-              ∙ ap (λ (v : Option Refusal). unshown_by (cond (is_none v) (kind_on_watermark q (mark q past) t p (length (firing_set q.mode all left)) (length left)) None) left) taken
-              ∙ last_fires q (mark q past) t p (length (firing_set q.mode all left)) left live dead_at)
+              ∙ last_fires q (mark q past) (mark q (e ∷ past)) p (length (firing_set q.mode all left)) left live dead)
           | false ↦ λ before_it. later e p refl (before p placed before_it)
         ] refl
 
@@ -113,12 +106,9 @@ module _ (q : Query) (own : (past : List Event) → ShowsOwn q past) (new : NewH
     after (Record (Some k) t vs) = by_verdict (verdict_on q past (Record (Some k) t vs)) (q.selects k vs) refl refl where
       by_verdict : (v : Option Refusal) (b : Bool) → verdict_on q past (Record (Some k) t vs) ≡ v → q.selects k vs ≡ b → DropsShown q (Record (Some k) t vs ∷ past)
       by_verdict None true taken selects = recorded k t vs taken selects
-      by_verdict None false taken other = still (Record (Some k) t vs) (λ i. cond (is_none (taken i) && other i) (datum (length past) k t vs ∷ []) []) refl
-      by_verdict (Some r) b refused other = still (Record (Some k) t vs) (ap (λ (v : Option Refusal). cond (is_none v && q.selects k vs) (datum (length past) k t vs ∷ []) []) refused) refl
-    after (Watermark t) = by_verdict (verdict_on q past (Watermark t)) refl where
-      by_verdict : (v : Option Refusal) → verdict_on q past (Watermark t) ≡ v → DropsShown q (Watermark t ∷ past)
-      by_verdict None taken = risen t taken
-      by_verdict (Some r) refused = still (Watermark t) refl (refused_stays q past (Watermark t) r refused)
+      by_verdict None false taken other = still (Record (Some k) t vs) (λ i. cond (is_none (taken i) && other i) (datum (length past) (mark q past) k t vs ∷ []) []) refl
+      by_verdict (Some r) b refused other = still (Record (Some k) t vs) (ap (λ (v : Option Refusal). cond (is_none v && q.selects k vs) (datum (length past) (mark q past) k t vs ∷ []) []) refused) refl
+    after (Watermark o t) = risen o t
 
   pub dropped_shown : (past : List Event) → DropsShown q past
   dropped_shown [] = λ p placed dead. absurd (true≢false (sym placed))

@@ -1,6 +1,6 @@
 -- Tests that agree, and lists whose elements agree: filters and maps that give the same.
 use Rattle.std.proofs.Common.{◌≡◌, ℕ, Bool, true, false, ◌&&◌, ◌||◌, cond, List, [], ◌∷◌, ◌++◌, map, T, Option, Some, None, refl, sym, ap, ◌∙◌, ⊎_elim, arith}
-use Rattle.std.proofs.lemmas.Bool.{true≢false, and_from, and_parts, or_cases, or_left, or_right}
+use Rattle.std.proofs.lemmas.Bool.{true≢false, and_from, or_cases, or_left, or_right}
 use Rattle.std.proofs.lemmas.Bool.Decides.{nat_tests}
 use Rattle.std.specs.Prelude.{filter, filter_map, nat_eq}
 use Rattle.std.specs.List.{AllByRecursion, cons_option, list_all, list_any}
@@ -148,10 +148,6 @@ module _ {A : Type 0} where
   pub list_all-from : (P : A → Type 0) (t : A → Bool) → ((x : A) → P x → t x ≡ true) → (xs : List A) → AllByRecursion P xs → list_all t xs ≡ true
   list_all-from P t f [] h = refl
   list_all-from P t f (x ∷ xs) h = and_from _ _ (f x h.0) (list_all-from P t f xs h.1)
-
-  pub each_passes : (t : A → Bool) (xs : List A) → list_all t xs ≡ true → AllByRecursion (λ x. t x ≡ true) xs
-  each_passes t [] h = tt
-  each_passes t (x ∷ xs) h = let parts = and_parts _ _ h in (parts.0, each_passes t xs parts.1)
 
 module _ {A B : Type 0} where
   pub map-all : (P : B → Type 0) (f : A → B) (xs : List A) → AllByRecursion (λ x. P (f x)) xs → AllByRecursion P (map f xs)

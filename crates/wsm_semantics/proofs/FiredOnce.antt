@@ -75,7 +75,7 @@ below_differs p (e ∷ es) h =
     )
 
 -- the places of a table are distinct
-sorted_distinct : {A : Type 0} (es : List (Place × A)) → is_sorted place_cmp es ≡ true → AreDistinct (map (λ e. e.0) es)
+pub sorted_distinct : {A : Type 0} (es : List (Place × A)) → is_sorted place_cmp es ≡ true → AreDistinct (map (λ e. e.0) es)
 sorted_distinct [] h = tt
 sorted_distinct (e ∷ es) h = let parts = and_parts _ _ h in (below_differs e.0 es parts.0, sorted_distinct es parts.1)
 
@@ -126,11 +126,11 @@ module _ (q : Query) (discarding : q.mode ≡ Discarding) (own : (past : List Ev
         let sets : List Firing = filter (has_in_set q p d) (filter_map (does q past e) xs) in
         let rest : List (Place × List Datum) = filter (λ y. fires y && (shows q.shape p y.0 && holds d (unshown_of q past y.0 y.1))) xs in
         elim (kind_of q past e x.0 x.1) as (λ o.
-        length (filter (has_in_set q p d) (cons_option (firing_of x.0 x.1 (firing_set q.mode x.1 left) o) (filter_map (does q past e) xs)))
+        length (filter (has_in_set q p d) (cons_option (firing_of (length past) x.0 x.1 (firing_set q.mode x.1 left) o) (filter_map (does q past e) xs)))
         ≡ length (cond (is_some o && (shows q.shape p x.0 && holds d left)) (x ∷ rest) rest)) [
           | None ↦ counted xs
           | Some kind ↦
-              let firing : Firing = record { kind = kind; place = x.0; contents = x.1; fired = firing_set q.mode x.1 left } in
+              let firing : Firing = record { turn = length past; kind = kind; place = x.0; contents = x.1; fired = firing_set q.mode x.1 left } in
               ap (λ (m : Mode). length (cond (shows q.shape p x.0 && holds d (firing_set m x.1 left)) (firing ∷ sets) sets)) discarding
               ∙ elim (shows q.shape p x.0 && holds d left) as (λ b. length (cond b (firing ∷ sets) sets) ≡ length (cond b (x ∷ rest) rest)) [
                 | true ↦ ap suc (counted xs)

@@ -1,15 +1,13 @@
 -- All firings of a history: the contents of each are within those of one pane of now, which it shows;
 -- and a record is shown by those that have it.
-use Rattle.std.proofs.Common.{◌≡◌, ℕ, Bool, true, ◌&&◌, ◌||◌, List, [], ◌∷◌, Option, Some, None, refl, sym, ap, subst, ◌∙◌, arith}
+use Rattle.std.proofs.Common.{◌≡◌, ℕ, suc, ◌<◌, Bool, true, false, ◌&&◌, cond, List, [], ◌∷◌, length, Option, Some, None, refl, sym, ap, subst, ◌∙◌, arith}
 use Rattle.std.proofs.lemmas.Bool.{true≢false, and_parts, eqb-true}
 use Rattle.std.proofs.lemmas.Bool.Decides.{nat_tests}
-use Rattle.std.specs.Prelude.{nat_eq}
+use Rattle.std.specs.Prelude.{nat_eq, nat_lt}
 use Rattle.std.specs.Option.{is_some}
-use Rattle.std.specs.List.{AllByRecursion, list_any}
+use Rattle.std.specs.List.{AllByRecursion}
 use Rattle.std.specs.Ordering.{eq_by_cmp}
 use Rattle.std.proofs.lemmas.Option.{same_Some}
-use Rattle.wsm_record.specs.declared.words.Mode.{Mode}
-use Rattle.wsm_record.specs.declared.words.Mode.TheVariants.{Accumulating}
 use Rattle.wsm_record.specs.Event.{Event}
 use Rattle.wsm_windows.specs.declared.window.PaneKind.{PaneKind}
 use Rattle.wsm_windows.specs.declared.window.Shape.{Shape}
@@ -19,11 +17,11 @@ use Rattle.wsm_windows.specs.Places.{place_cmp}
 use Rattle.wsm_windows.proofs.Places.{tie_is}
 use Rattle.wsm_semantics.specs.Query.{Query, Datum, selected, selection_of}
 use Rattle.wsm_semantics.specs.Panes.{places, is_there, contents, panes}
-use Rattle.wsm_semantics.specs.Firings.{Firing, holds, shows, firing_of, firing_set, is_shown, firings, firings_so_far}
+use Rattle.wsm_semantics.specs.Firings.{Firing, holds, shows, firing_of, firing_set, firings, firings_so_far}
 use Rattle.wsm_semantics.proofs.Lists.{IsNonEmpty, filter-all, all-each}
 use Rattle.wsm_semantics.proofs.Tables.{among}
 use Rattle.wsm_semantics.proofs.Assigned.{tied}
-use Rattle.wsm_semantics.proofs.Each.{itself, same_answers, passed, all-swap, all-both, all-append, filter_map-all, list_any-append}
+use Rattle.wsm_semantics.proofs.Each.{itself, same_answers, passed, all-swap, all-both, all-append, filter_map-all}
 use Rattle.wsm_semantics.proofs.MergedRecords.{selected_falls, holds-filter}
 use Rattle.wsm_semantics.proofs.Within.{Within, IsPart, filter_part, part_stays, wider, one_held}
 use Rattle.wsm_semantics.proofs.ShownPanes.{IsPane, ShowsOwn, each_pane, does, firings_are, kind_of, unshown_of}
@@ -58,19 +56,20 @@ shows_key (Session gap) p r h = eqb-true p.key r.key h
 
 -- a place of after an event has the records of a place
 abbrev pub StaysIn : Query → List Event → Event → Place → Type 0
-StaysIn q past e p = (r : Place) × (among r (places q (e ∷ past)) ≡ true) × (shows q.shape r p ≡ true) × ((d : Datum) → is_there p d ≡ true → is_there r d ≡ true)
+StaysIn q past e p = (r : Place) × (among r (places q (e ∷ past)) ≡ true) × (shows q.shape r p ≡ true) × ((d : Datum) → is_there q p d ≡ true → is_there q r d ≡ true)
 
 -- where panes are: each has records; of those that show one another's records no two have one in
 -- common; and the records of one stay together
 pub record PlacesLaw (q : Query) : Type 0 where
   pub filled : (past : List Event) → AllByRecursion (λ e. IsNonEmpty e.1) (panes q past)
-  pub apart : (past : List Event) (p r : Place) → among p (places q past) ≡ true → among r (places q past) ≡ true → shows q.shape p r ≡ true → (d : Datum) → is_there p d ≡ true → is_there r d ≡ true → p ≡ r
+  pub apart : (past : List Event) (p r : Place) → among p (places q past) ≡ true → among r (places q past) ≡ true → shows q.shape p r ≡ true → (d : Datum) → is_there q p d ≡ true → is_there q r d ≡ true → p ≡ r
   pub stays : (past : List Event) (e : Event) (p : Place) → among p (places q past) ≡ true → StaysIn q past e p
 
 -- ---- what a pane fires as
 
 -- the firing of a place with its contents
 pub record IsOf (q : Query) (past : List Event) (p : Place) (all : List Datum) (f : Firing) : Type 0 where
+  pub turn : f.turn ≡ length past
   pub place : f.place ≡ p
   pub contents : f.contents ≡ all
   pub fired : f.fired ≡ firing_set q.mode all (unshown_of q past p all)
@@ -80,26 +79,31 @@ not_some x h = true≢false (ap is_some h)
 
 pub fires_as : (q : Query) (past : List Event) (e : Event) (p : Place) (all : List Datum) (f : Firing) → does q past e (p, all) ≡ Some f → IsOf q past p all f
 fires_as q past e p all f h = of_kind (kind_of q past e p all) h where
-  of_kind : (k : Option PaneKind) → firing_of p all (firing_set q.mode all (unshown_of q past p all)) k ≡ Some f → IsOf q past p all f
+  of_kind : (k : Option PaneKind) → firing_of (length past) p all (firing_set q.mode all (unshown_of q past p all)) k ≡ Some f → IsOf q past p all f
   of_kind None h = absurd (not_some f (sym h))
   of_kind (Some kind) h =
-      let is : record { kind = kind; place = p; contents = all; fired = firing_set q.mode all (unshown_of q past p all) } ≡ f = same_Some _ f h in
-      record { place = ap (λ (g : Firing). g.place) (sym is); contents = ap (λ (g : Firing). g.contents) (sym is); fired = ap (λ (g : Firing). g.fired) (sym is) }
-
--- a record is shown where a firing so far that shows the place has it
-pub shown_so_far : (q : Query) (past : List Event) (p : Place) (d : Datum) → is_shown q past p d ≡ list_any (λ f. shows q.shape p f.place && holds d f.contents) (firings_so_far q past)
-shown_so_far q [] p d = refl
-shown_so_far q (e ∷ past) p d =
-    ap (λ (b : Bool). b || list_any (λ f. shows q.shape p f.place && holds d f.contents) (firings q past e)) (shown_so_far q past p d)
-    ∙ sym (list_any-append (λ f. shows q.shape p f.place && holds d f.contents) (firings_so_far q past) (firings q past e))
+      let is : record { turn = length past; kind = kind; place = p; contents = all; fired = firing_set q.mode all (unshown_of q past p all) } ≡ f = same_Some _ f h in
+      record { turn = ap (λ (g : Firing). g.turn) (sym is); place = ap (λ (g : Firing). g.place) (sym is); contents = ap (λ (g : Firing). g.contents) (sym is); fired = ap (λ (g : Firing). g.fired) (sym is) }
 
 -- ---- all firings so far
+
+before_next : (m n : ℕ) → m < n → nat_lt (suc m) (suc n) ≡ true
+before_next m n h = grind (arith, nat_tests)
+
+of_this : (m n : ℕ) → m ≡ n → nat_lt (suc m) (suc n) ≡ false
+of_this m n h = grind (arith, nat_tests)
+
+-- the first events of a history, so many
+abbrev pub first_of : ℕ → List Event → List Event
+first_of n [] = []
+first_of n (e ∷ past) = cond (nat_lt n (suc (length past))) (first_of n past) (e ∷ past)
 
 -- a firing of a history
 pub record IsFiring (q : Query) (past : List Event) (f : Firing) : Type 0 where
   pub filled : IsNonEmpty f.contents
   pub part : IsPart (selected q past) f.contents
-  pub fired : q.mode ≡ Accumulating → f.fired ≡ f.contents
+  pub came : f.turn < length past
+  pub whole : f.contents ≡ contents q (first_of (suc f.turn) past) f.place
   pub home : Place
   pub placed : among home (places q past) ≡ true
   pub shown : shows q.shape home f.place ≡ true
@@ -111,48 +115,49 @@ IsFilled q past x = IsPane q past x × IsNonEmpty x.1
 
 -- a record that is told by its turn where it stands
 abbrev IsTold : Query → List Event → Place → Place → Datum → Type 0
-IsTold q past p r x = (holds x (contents q past p) ≡ is_there p x) × (holds x (contents q past r) ≡ is_there r x)
+IsTold q past p r x = (holds x (contents q past p) ≡ is_there q p x) × (holds x (contents q past r) ≡ is_there q r x)
 
 pub contents_part : (q : Query) (past : List Event) (p : Place) → IsPart (selected q past) (contents q past p)
-contents_part q past p = filter_part (is_there p) (selected q past) (selected_falls q past)
+contents_part q past p = filter_part (is_there q p) (selected q past) (selected_falls q past)
 
 module _ (q : Query) (law : PlacesLaw q) where
   -- a record of a pane is shown by the firings of this pane alone
   pub shows_own : (past : List Event) → ShowsOwn q past
   shows_own past p there =
       let ds : List Datum = selected q past in
-      all-both (λ d. is_there p d ≡ true) (λ d. (r : Place) → holds d (contents q past r) ≡ is_there r d)
+      all-both (λ d. is_there q p d ≡ true) (λ d. (r : Place) → holds d (contents q past r) ≡ is_there q r d)
       (λ d. (r : Place) → among r (places q past) ≡ true → (shows q.shape p r && holds d (contents q past r)) ≡ eq_by_cmp place_cmp p r)
       (λ d inside held_by r r_there.
       ap (λ (b : Bool). shows q.shape p r && b) (held_by r)
       ∙ same_answers _ _
       (λ h. let (s, i) = and_parts _ _ h in tied p r (law.apart past p r there r_there s d inside i))
-      (λ t. ap (λ (x : Place). shows q.shape p x && is_there x d) (sym (tie_is p r t)) ∙ (λ i. shows_itself q.shape p i && inside i)))
+      (λ t. ap (λ (x : Place). shows q.shape p x && is_there q x d) (sym (tie_is p r t)) ∙ (λ i. shows_itself q.shape p i && inside i)))
       (contents q past p)
-      (passed (is_there p) ds)
-      (filter-all (λ d. (r : Place) → holds d (contents q past r) ≡ is_there r d) (is_there p) ds (all-swap (λ r d. holds d (contents q past r) ≡ is_there r d) ds (λ r. holds-filter (is_there r) ds (selected_falls q past))))
+      (passed (is_there q p) ds)
+      (filter-all (λ d. (r : Place) → holds d (contents q past r) ≡ is_there q r d) (is_there q p) ds (all-swap (λ r d. holds d (contents q past r) ≡ is_there q r d) ds (λ r. holds-filter (is_there q r) ds (selected_falls q past))))
 
   -- panes that show one another's records and have some in common are one
   pub one_home : (past : List Event) (p r : Place) → among p (places q past) ≡ true → among r (places q past) ≡ true → shows q.shape p r ≡ true →
       (xs : List Datum) → IsNonEmpty xs → IsPart (selected q past) xs → Within xs (contents q past p) → Within xs (contents q past r) → p ≡ r
   one_home past p r placed_p placed_r shown xs some part in_p in_r =
       let told : AllByRecursion (IsTold q past p r) (selected q past) =
-      all-both _ _ (IsTold q past p r) (λ x a b. (a, b)) (selected q past) (holds-filter (is_there p) (selected q past) (selected_falls q past)) (holds-filter (is_there r) (selected q past) (selected_falls q past)) in
+      all-both _ _ (IsTold q past p r) (λ x a b. (a, b)) (selected q past) (holds-filter (is_there q p) (selected q past) (selected_falls q past)) (holds-filter (is_there q r) (selected q past) (selected_falls q past)) in
       let (x, tells, held) = one_held (IsTold q past p r) (selected q past) xs told part some in
       law.apart past p r placed_p placed_r shown x (sym tells.0 ∙ in_p x held) (sym tells.1 ∙ in_r x held)
 
   -- a firing's records stay in one pane
-  stays_firing : (past : List Event) (e : Event) (f : Firing) → IsFiring q past f → IsFiring q (e ∷ past) f
+  pub stays_firing : (past : List Event) (e : Event) (f : Firing) → IsFiring q past f → IsFiring q (e ∷ past) f
   stays_firing past e f h =
       let (r, placed, shown, inside) = law.stays past e h.home h.placed in
       record {
         filled = h.filled;
         part = part_stays q past e f.contents h.part;
-        fired = h.fired;
+        came = let came : f.turn < length past = h.came in omega arith;
+        whole = h.whole ∙ sym (ap (λ (b : Bool). contents q (cond b (first_of (suc f.turn) past) (e ∷ past)) f.place) (before_next f.turn (length past) h.came));
         home = r;
         placed = placed;
         shown = shows_on q.shape r h.home f.place shown h.shown;
-        inside = λ d k. wider (is_there h.home) (is_there r) inside (selection_of q past e) (selected q past) d (h.inside d k);
+        inside = λ d k. wider (is_there q h.home) (is_there q r) inside (selection_of q past e) (selected q past) d (h.inside d k);
       }
 
   pub each_filled : (past : List Event) → AllByRecursion (IsFilled q past) (panes q past)
@@ -165,7 +170,9 @@ module _ (q : Query) (law : PlacesLaw q) where
       record {
         filled = subst IsNonEmpty (sym of_x.contents) h.1;
         part = subst (IsPart (selected q (e ∷ past))) (sym whole) (contents_part q (e ∷ past) x.0);
-        fired = λ accumulating. of_x.fired ∙ ap (λ (m : Mode). firing_set m x.1 (unshown_of q past x.0 x.1)) accumulating ∙ sym of_x.contents;
+        came = let now : f.turn ≡ length past = of_x.turn in omega arith;
+        whole = whole ∙ (λ i. contents q (e ∷ past) (sym of_x.place i))
+            ∙ sym (ap (λ (b : Bool). contents q (cond b (first_of (suc f.turn) past) (e ∷ past)) f.place) (of_this (f.turn) (length past) of_x.turn));
         home = x.0;
         placed = h.0.1;
         shown = ap (shows q.shape x.0) of_x.place ∙ shows_itself q.shape x.0;

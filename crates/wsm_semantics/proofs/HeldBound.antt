@@ -16,7 +16,7 @@ use Rattle.wsm_windows.proofs.Bounds.{enough}
 use Rattle.wsm_windows.specs.declared.place.Place.{Place}
 use Rattle.wsm_windows.specs.Places.{at, window_of}
 use Rattle.wsm_admission.specs.Clock.{IsWithinLimits}
-use Rattle.wsm_semantics.specs.Query.{Query, Datum, mark, verdict_on, selected}
+use Rattle.wsm_semantics.specs.Query.{Query, SessionsByEvent, Datum, mark, verdict_on, selected}
 use Rattle.wsm_semantics.specs.Panes.{places, held}
 use Rattle.wsm_semantics.specs.HeldBounds.{most_panes}
 use Rattle.wsm_semantics.specs.Kept.{kept, kept_in, entered}
@@ -34,7 +34,7 @@ use Rattle.wsm_semantics.proofs.KeptLaw.{gap_is_long, enters}
 use Rattle.wsm_semantics.proofs.ManyKeys.{all-is, at_key, windows_at, AreInOrder, in_order, in_order-filter, length_by_keys, rising_windows, apart_windows}
 use Rattle.wsm_semantics.proofs.HeldPanes.{IsHeldPane, held_panes}
 
-module _ (q : Query) (ok : IsShape q.shape) (within : IsWithinLimits q.clock) (past : List Event) where
+module _ (q : Query) (ok : IsShape q.shape) (timely : SessionsByEvent q) (within : IsWithinLimits q.clock) (past : List Event) where
   -- the held panes of a key
   abbrev of_one : ℕ → List (Place × List Datum)
   of_one k = at_key k (held q past)
@@ -43,7 +43,7 @@ module _ (q : Query) (ok : IsShape q.shape) (within : IsWithinLimits q.clock) (p
   of_key_all k =
       all-both (λ e. nat_eq e.0.key k ≡ true) (IsHeldPane q past) (λ e. (e.0.key ≡ k) × IsHeldPane q past e) (λ e key pane. (eqb-true e.0.key k key, pane)) (of_one k)
       (passed (λ e. nat_eq e.0.key k) (held q past))
-      (filter-all (IsHeldPane q past) (λ e. nat_eq e.0.key k) (held q past) (held_panes q ok past))
+      (filter-all (IsHeldPane q past) (λ e. nat_eq e.0.key k) (held q past) (held_panes q ok timely past))
 
   ordered : (k : ℕ) → AreInOrder (of_one k)
   ordered k = in_order-filter (λ e. nat_eq e.0.key k) (held q past) (in_order (held q past) (as_true _ (is_sorted-held q past)))
@@ -94,7 +94,7 @@ module _ (q : Query) (ok : IsShape q.shape) (within : IsWithinLimits q.clock) (p
   pub held_bounded : length (held q past) ≤ most_panes q
   held_bounded =
       length_by_keys (length q.declared.keys) (live_bound q.shape q.clock.skew q.clock.lateness) (held q past)
-      (all-each (IsHeldPane q past) (λ e. e.0.key < length q.declared.keys) (held q past) (λ e pane. pane.key) (held_panes q ok past))
+      (all-each (IsHeldPane q past) (λ e. e.0.key < length q.declared.keys) (held q past) (λ e pane. pane.key) (held_panes q ok timely past))
       held_at_key
 
   pub kept_bounded : length (kept q past) ≤ most_panes q
@@ -102,11 +102,11 @@ module _ (q : Query) (ok : IsShape q.shape) (within : IsWithinLimits q.clock) (p
 
 -- ---- a record that is put in
 
-module _ (q : Query) (ok : IsShape q.shape) (within : IsWithinLimits q.clock) (past : List Event) (k : ℕ) (t : ℤ) (vs : List Value) (taken : verdict_on q past (Record (Some k) t vs) ≡ None) (selects : q.selects k vs ≡ true) where
+module _ (q : Query) (ok : IsShape q.shape) (timely : SessionsByEvent q) (within : IsWithinLimits q.clock) (past : List Event) (k : ℕ) (t : ℤ) (vs : List Value) (taken : verdict_on q past (Record (Some k) t vs) ≡ None) (selects : q.selects k vs ≡ true) where
   -- as many panes as are held with it
-  pub length_entered : length (entered q.shape (datum (length past) k t vs) (kept q past)) ≡ length (held q (Record (Some k) t vs ∷ past))
-  length_entered = ap length (enters q ok past k t vs taken selects) ∙ length_each (kept_in q past) (held q (Record (Some k) t vs ∷ past))
+  pub length_entered : length (entered q.shape q.clock.lateness (datum (length past) (mark q past) k t vs) (kept q past)) ≡ length (held q (Record (Some k) t vs ∷ past))
+  length_entered = ap length (enters q ok timely past k t vs taken selects) ∙ length_each (kept_in q past) (held q (Record (Some k) t vs ∷ past))
 
   -- right after a record is put in, before anything fires
-  pub entered_bounded : length (entered q.shape (datum (length past) k t vs) (kept q past)) ≤ most_panes q
-  entered_bounded = subst (λ (n : ℕ). n ≤ most_panes q) (sym length_entered) (held_bounded q ok within (Record (Some k) t vs ∷ past))
+  pub entered_bounded : length (entered q.shape q.clock.lateness (datum (length past) (mark q past) k t vs) (kept q past)) ≤ most_panes q
+  entered_bounded = subst (λ (n : ℕ). n ≤ most_panes q) (sym length_entered) (held_bounded q ok timely within (Record (Some k) t vs ∷ past))

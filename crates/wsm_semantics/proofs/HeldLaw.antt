@@ -3,7 +3,7 @@ use Rattle.std.proofs.Common.{◌≤◌, length, arith, unsigned_abs}
 use Rattle.wsm_windows.specs.Windows.{IsShape}
 use Rattle.wsm_admission.specs.Clock.{IsWithinLimits, admitted_count}
 use Rattle.wsm_admission.proofs.Taken.{admitted_count-le}
-use Rattle.wsm_semantics.specs.Query.{Query}
+use Rattle.wsm_semantics.specs.Query.{Query, SessionsByEvent}
 use Rattle.wsm_semantics.specs.Panes.{held}
 use Rattle.wsm_semantics.specs.HeldBounds.{HeldBounded}
 use Rattle.wsm_semantics.proofs.Lists.{all-each}
@@ -12,15 +12,15 @@ use Rattle.wsm_semantics.proofs.HeldBound as bound
 use Rattle.wsm_semantics.proofs.HeldContents as contents
 use Rattle.wsm_semantics.proofs.RowsBound as rows
 
-pub held_bounded : (q : Query) → IsShape q.shape → IsWithinLimits q.clock → HeldBounded q
-held_bounded q ok within = record {
-  of_key = λ past key. bound.held_at_key q ok within past key;
-  panes = λ past. bound.held_bounded q ok within past;
+pub held_bounded : (q : Query) → IsShape q.shape → SessionsByEvent q → IsWithinLimits q.clock → HeldBounded q
+held_bounded q ok timely within = record {
+  of_key = λ past key. bound.held_at_key q ok timely within past key;
+  panes = λ past. bound.held_bounded q ok timely within past;
   records = λ past.
       all-each (IsHeldPane q past) (λ e. length e.1 ≤ unsigned_abs q.clock.records) (held q past)
       (λ e pane. let most = pane.count in let limit : admitted_count q.clock q.declared past ≤ unsigned_abs q.clock.records = admitted_count-le q.clock q.declared past in omega arith)
-      (held_panes q ok past);
-  in_sessions = λ past gap is. contents.contents_limited q gap is ok past;
-  fired = λ past e. rows.firings_bounded q ok within past e;
-  rows = λ past e. rows.rows_bounded q ok within past e;
+      (held_panes q ok timely past);
+  in_sessions = λ past gap is. contents.contents_limited q gap is ok timely past;
+  fired = λ past e. rows.firings_bounded q ok timely within past e;
+  rows = λ past e. rows.rows_bounded q ok timely within past e;
 }

@@ -15,12 +15,13 @@ use Rattle.wsm_windows.specs.Windows.{window, greatest_span, greatest_time, size
 use Rattle.wsm_windows.specs.declared.place.Place.{Place}
 use Rattle.wsm_windows.specs.Places.{window_of}
 use Rattle.wsm_admission.specs.Clock.{admitted_count}
-use Rattle.wsm_semantics.specs.Query.{Query, Datum, mark, selected}
+use Rattle.wsm_semantics.specs.Query.{Query, SessionsByEvent, Datum, mark, selected}
 use Rattle.wsm_semantics.specs.Sessions.{sessions, ends_by, starts_from, links, session_of}
 use Rattle.wsm_semantics.specs.Panes.{of_key, places, is_there, contents, panes, held, is_live_at}
 use Rattle.wsm_semantics.proofs.Lists.{IsNonEmpty, filter-all, all-each}
+use Rattle.wsm_semantics.proofs.Turns.{inside_there}
 use Rattle.wsm_semantics.proofs.Tables.{among}
-use Rattle.wsm_semantics.proofs.Assigned.{IsAssigned, OnGrid}
+use Rattle.wsm_semantics.proofs.Assigned.{IsAssigned}
 use Rattle.wsm_semantics.proofs.AssignedStep.{grid_of}
 use Rattle.wsm_semantics.proofs.Each.{passed, all-append, all-both, all-passed, map-all}
 use Rattle.wsm_semantics.proofs.ShownPanes.{IsPane, each_pane}
@@ -93,7 +94,7 @@ pub record IsHeldPane (q : Query) (past : List Event) (e : Place × List Datum) 
   pub filled : 1 ≤ length e.1
   pub count : length e.1 ≤ admitted_count q.clock q.declared past
   pub records : AllByRecursion (IsSelected q (mark q past)) e.1
-  pub there : AllByRecursion (λ d. is_there e.0 d ≡ true) e.1
+  pub there : AllByRecursion (λ d. is_there q e.0 d ≡ true) e.1
 
 lives : (mark l end : ℤ) → int_lt mark (end +ℤ l) ≡ true → mark <ℤ (end +ℤ l)
 lives mark l end h = grind (arith, ints)
@@ -101,7 +102,7 @@ lives mark l end h = grind (arith, ints)
 no_later : (start t most : ℤ) → start ≤ℤ t → t ≤ℤ most → start ≤ℤ most
 no_later start t most h k = omega (arith, ints)
 
-module _ (q : Query) (ok : IsShape q.shape) (past : List Event) where
+module _ (q : Query) (ok : IsShape q.shape) (timely : SessionsByEvent q) (past : List Event) where
   -- the times of a key's selected records
   times_in_range : (gap : ℤ) (k : ℕ) (ds : List Datum) → AllByRecursion (IsSelected q (mark q past)) ds → AllByRecursion (λ t. (pos 0 ≤ℤ t) × (t ≤ℤ greatest_time)) (times_of gap ds k)
   times_in_range gap k ds h =
@@ -133,12 +134,12 @@ module _ (q : Query) (ok : IsShape q.shape) (past : List Event) where
   one_held : (e : Place × List Datum) → IsPane q past e → IsNonEmpty e.1 → is_live_at q (mark q past) e.0 ≡ true → IsHeldPane q past e
   one_held e pane (d, rest, is) live =
       let Selected : Datum → Type 0 = IsSelected q (mark q past) in
-      let here : AllByRecursion (λ x. is_there e.0 x ≡ true) e.1 = subst (AllByRecursion (λ x. is_there e.0 x ≡ true)) (sym pane.0) (passed (is_there e.0) (selected q past)) in
-      let chosen : AllByRecursion Selected e.1 = subst (AllByRecursion Selected) (sym pane.0) (filter-all Selected (is_there e.0) (selected q past) (each_selected q past)) in
-      let first : is_there e.0 d ≡ true = (subst (AllByRecursion (λ x. is_there e.0 x ≡ true)) is here).0 in
+      let here : AllByRecursion (λ x. is_there q e.0 x ≡ true) e.1 = subst (AllByRecursion (λ x. is_there q e.0 x ≡ true)) (sym pane.0) (passed (is_there q e.0) (selected q past)) in
+      let chosen : AllByRecursion Selected e.1 = subst (AllByRecursion Selected) (sym pane.0) (filter-all Selected (is_there q e.0) (selected q past) (each_selected q past)) in
+      let first : is_there q e.0 d ≡ true = (subst (AllByRecursion (λ x. is_there q e.0 x ≡ true)) is here).0 in
       let known : Selected d = (subst (AllByRecursion Selected) is chosen).0 in
       let parts = and_parts _ _ first in
-      let inside : (e.0.start ≤ℤ d.time) × (d.time <ℤ e.0.end) = inside_is d.time (window_of e.0) parts.1 in
+      let inside : (e.0.start ≤ℤ d.time) × (d.time <ℤ e.0.end) = inside_is d.time (window_of e.0) (inside_there q e.0 d first) in
       record {
         key = subst (λ (k : ℕ). k < length q.declared.keys) (eqb-true d.key e.0.key parts.0) known.key;
         place = in_range e.0 pane.1 d.time known.time inside.0 inside.1;
@@ -147,7 +148,7 @@ module _ (q : Query) (ok : IsShape q.shape) (past : List Event) where
         placed = pane.1;
         has = pane.0;
         filled = subst (λ (ds : List Datum). 1 ≤ length ds) (sym is) (omega arith);
-        count = let most = selected_count q past in let less = length-filter (is_there e.0) (selected q past) in subst (λ (ds : List Datum). length ds ≤ admitted_count q.clock q.declared past) (sym pane.0) (omega arith);
+        count = let most = selected_count q past in let less = length-filter (is_there q e.0) (selected q past) in subst (λ (ds : List Datum). length ds ≤ admitted_count q.clock q.declared past) (sym pane.0) (omega arith);
         records = chosen;
         there = here;
       }
@@ -157,4 +158,4 @@ module _ (q : Query) (ok : IsShape q.shape) (past : List Event) where
   held_panes =
       let Filled : Place × List Datum → Type 0 = λ e. IsPane q past e × IsNonEmpty e.1 in
       all-passed Filled (IsHeldPane q past) (λ e. is_live_at q (mark q past) e.0) (λ e h live. one_held e h.0 h.1 live) (panes q past)
-      (all-both (IsPane q past) (λ e. IsNonEmpty e.1) Filled (λ e a b. (a, b)) (panes q past) (each_pane q past) ((kept_law.places q ok).filled past))
+      (all-both (IsPane q past) (λ e. IsNonEmpty e.1) Filled (λ e a b. (a, b)) (panes q past) (each_pane q past) ((kept_law.places q ok timely).filled past))

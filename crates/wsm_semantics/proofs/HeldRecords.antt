@@ -13,8 +13,9 @@ use Rattle.wsm_windows.specs.declared.window.PaneKind.{PaneKind}
 use Rattle.wsm_windows.specs.declared.window.Window.{Window}
 use Rattle.wsm_windows.specs.declared.window.Shape.{Shape}
 use Rattle.wsm_windows.specs.declared.window.Shape.TheVariants.{Fixed, Sliding, Session}
-use Rattle.wsm_windows.specs.Windows.{windows_of_shape, IsShape, IsRising}
-use Rattle.wsm_windows.proofs.Members.{rising}
+use Rattle.wsm_windows.specs.Windows.{IsShape, IsRising}
+use Rattle.wsm_windows.proofs.LiveWindows.{rising_live}
+use Rattle.wsm_windows.specs.Life.{live_windows_of}
 use Rattle.wsm_windows.specs.declared.place.Place.{Place}
 use Rattle.wsm_windows.specs.Places.{place_cmp, at}
 use Rattle.wsm_windows.proofs.Places.{tie_is, places_exact, places_total}
@@ -137,12 +138,12 @@ module _ {X : Type 0} (plan : Plan X) where
       (still_room n d.key w v ws es r.0 room.1)
 
   -- a selected record
-  pub at_most-entered : (sh : Shape) → IsShape sh → (n : ℕ) (d : Datum) (es : List (Place × Pane X)) → AtMost sh n es → AtMost sh (n + 1) (entered plan sh d es)
-  at_most-entered (Fixed size) ok n d es h =
-      each-assigned n d (windows_of_shape (Fixed size) d.time) (rising (Fixed size) d.time (windows_of_shape (Fixed size) d.time) ok refl) es (each_later n (n + 1) (omega arith) es h) (have_room n d.key (windows_of_shape (Fixed size) d.time) es h)
-  at_most-entered (Sliding size period) ok n d es h =
-      each-assigned n d (windows_of_shape (Sliding size period) d.time) (rising (Sliding size period) d.time (windows_of_shape (Sliding size period) d.time) ok refl) es (each_later n (n + 1) (omega arith) es h) (have_room n d.key (windows_of_shape (Sliding size period) d.time) es h)
-  at_most-entered (Session gap) ok n d es h = omega (arith, total-merged gap d es, h)
+  pub at_most-entered : (sh : Shape) (l : ℤ) → IsShape sh → (n : ℕ) (d : Datum) (es : List (Place × Pane X)) → AtMost sh n es → AtMost sh (n + 1) (entered plan sh l d es)
+  at_most-entered (Fixed size) l ok n d es h =
+      each-assigned n d (live_windows_of (Fixed size) d.time l d.mark) (rising_live (Fixed size) d.time l d.mark (live_windows_of (Fixed size) d.time l d.mark) ok refl) es (each_later n (n + 1) (omega arith) es h) (have_room n d.key (live_windows_of (Fixed size) d.time l d.mark) es h)
+  at_most-entered (Sliding size period) l ok n d es h =
+      each-assigned n d (live_windows_of (Sliding size period) d.time l d.mark) (rising_live (Sliding size period) d.time l d.mark (live_windows_of (Sliding size period) d.time l d.mark) ok refl) es (each_later n (n + 1) (omega arith) es h) (have_room n d.key (live_windows_of (Sliding size period) d.time l d.mark) es h)
+  at_most-entered (Session gap) l ok n d es h = omega (arith, total-merged gap d es, h)
 
   -- ---- firings and drops
 
@@ -172,7 +173,7 @@ module _ {X : Type 0} (plan : Plan X) where
   -- ---- turns
 
   pub at_most-after_record : (q : Query) → IsShape q.shape → (w : ℤ) (d : Datum) (n : ℕ) (es : List (Place × Pane X)) → AtMost q.shape n es → AtMost q.shape (n + 1) (after_record plan q w d es)
-  at_most-after_record q ok w d n es h = at_most-fired q (kind_by_record q w d) q.shape (n + 1) (entered plan q.shape d es) (at_most-entered q.shape ok n d es h)
+  at_most-after_record q ok w d n es h = at_most-fired q (kind_by_record q w d) q.shape (n + 1) (entered plan q.shape q.clock.lateness d es) (at_most-entered q.shape q.clock.lateness ok n d es h)
 
   pub at_most-after_watermark : (q : Query) (old new : ℤ) (n : ℕ) (es : List (Place × Pane X)) → AtMost q.shape n es → AtMost q.shape n (after_watermark plan q old new es)
   at_most-after_watermark q old new n es h =

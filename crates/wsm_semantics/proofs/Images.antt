@@ -13,7 +13,8 @@ use Rattle.wsm_windows.specs.declared.window.PaneKind.{PaneKind}
 use Rattle.wsm_windows.specs.declared.window.Window.{Window}
 use Rattle.wsm_windows.specs.declared.window.Shape.{Shape}
 use Rattle.wsm_windows.specs.declared.window.Shape.TheVariants.{Fixed, Sliding, Session}
-use Rattle.wsm_windows.specs.Windows.{window, windows_of}
+use Rattle.wsm_windows.specs.Windows.{window}
+use Rattle.wsm_windows.specs.Life.{live_windows_of}
 use Rattle.wsm_windows.specs.declared.place.Place.{Place}
 use Rattle.wsm_windows.specs.Places.{place_cmp, at, window_of}
 use Rattle.wsm_windows.proofs.Places.{places_exact}
@@ -84,7 +85,7 @@ module _ {X : Type 0} (plan : Plan X) (m : Mode) where
     joined-pane k h None = refl
     joined-pane k h (Some g) = pane-joined plan lawful m k h g
 
-    joined-summaries : (k : ℕ) (es : List (Place × Kept)) → OfKey k es → joined_all plan (summaries plan m es) ≡ option_map (pane_of plan m k) (kept.joined_all es)
+    pub joined-summaries : (k : ℕ) (es : List (Place × Kept)) → OfKey k es → joined_all plan (summaries plan m es) ≡ option_map (pane_of plan m k) (kept.joined_all es)
     joined-summaries k [] own = refl
     joined-summaries k (e ∷ es) own = ap Some (
         (λ i. joined_with plan (pane_of plan m (own.0 i) e.1) (joined-summaries k es own.1 i))
@@ -100,7 +101,7 @@ module _ {X : Type 0} (plan : Plan X) (m : Mode) where
               | false ↦ λ _ f. absurd (true≢false (sym f))
             ] refl h
 
-    linked_own : (gap : ℤ) (d : Datum) (es : List (Place × Kept)) → OfKey d.key (filter (λ e. is_linked gap d e.0) es)
+    pub linked_own : (gap : ℤ) (d : Datum) (es : List (Place × Kept)) → OfKey d.key (filter (λ e. is_linked gap d e.0) es)
     linked_own gap d es =
         all-each (λ e. is_linked gap d e.0 ≡ true) (λ e. e.0.key ≡ d.key) (filter (λ e. is_linked gap d e.0) es) (λ e h. own_key gap d e.0 h) (passed (λ e. is_linked gap d e.0) es)
 
@@ -121,10 +122,10 @@ module _ {X : Type 0} (plan : Plan X) (m : Mode) where
         ∙ (λ i. put place_cmp (place i) (pane i) (summaries plan m others))
         ∙ put-summaries p h others
 
-    pub entered-summaries : (sh : Shape) (d : Datum) (es : List (Place × Kept)) → entered plan sh d (summaries plan m es) ≡ summaries plan m (kept.entered sh d es)
-    entered-summaries (Fixed size) d es = assigned-summaries d (windows_of size size d.time) es
-    entered-summaries (Sliding size period) d es = assigned-summaries d (windows_of size period d.time) es
-    entered-summaries (Session gap) d es = merged-summaries gap d es
+    pub entered-summaries : (sh : Shape) (l : ℤ) (d : Datum) (es : List (Place × Kept)) → entered plan sh l d (summaries plan m es) ≡ summaries plan m (kept.entered sh l d es)
+    entered-summaries (Fixed size) l d es = assigned-summaries d (live_windows_of (Fixed size) d.time l d.mark) es
+    entered-summaries (Sliding size period) l d es = assigned-summaries d (live_windows_of (Sliding size period) d.time l d.mark) es
+    entered-summaries (Session gap) l d es = merged-summaries gap d es
 
 -- ---- firings
 
@@ -134,11 +135,11 @@ map-cons_option f (Some x) xs = refl
 
 module _ {X : Type 0} (plan : Plan X) (q : Query) (kind : Place → Pane X → Option PaneKind) (kind_of : Place → Kept → Option PaneKind)
     (same : (p : Place) (h : Kept) → kind p (pane_of plan q.mode p.key h) ≡ kind_of p h) where
-  fires-summaries : (es : List (Place × Kept)) → fires q kind (summaries plan q.mode es) ≡ map (summary_fired plan) (kept.fires q kind_of es)
-  fires-summaries [] = refl
-  fires-summaries (e ∷ es) =
-      (λ i. cons_option (((ap (fired_of q.mode e.0 (pane_of plan q.mode e.0.key e.1)) (same e.0 e.1)) ∙ fired-of plan q.mode e.0 (kind_of e.0 e.1) e.1) i) (fires-summaries es i))
-      ∙ sym (map-cons_option (summary_fired plan) (firing_of e.0 e.1.all (firing_set q.mode e.1.all e.1.unshown) (kind_of e.0 e.1)) (kept.fires q kind_of es))
+  fires-summaries : (n : ℕ) (es : List (Place × Kept)) → fires q kind (summaries plan q.mode es) ≡ map (summary_fired plan) (kept.fires q n kind_of es)
+  fires-summaries n [] = refl
+  fires-summaries n (e ∷ es) =
+      (λ i. cons_option (((ap (fired_of q.mode e.0 (pane_of plan q.mode e.0.key e.1)) (same e.0 e.1)) ∙ fired-of plan n q.mode e.0 (kind_of e.0 e.1) e.1) i) (fires-summaries n es i))
+      ∙ sym (map-cons_option (summary_fired plan) (firing_of n e.0 e.1.all (firing_set q.mode e.1.all e.1.unshown) (kind_of e.0 e.1)) (kept.fires q n kind_of es))
 
   fired-summaries : (es : List (Place × Kept)) → all_fired plan q kind (summaries plan q.mode es) ≡ summaries plan q.mode (kept.all_fired q kind_of es)
   fired-summaries [] = refl
@@ -151,24 +152,24 @@ module _ {X : Type 0} (plan : Plan X) (lawful : IsLawful plan) (q : Query) (w : 
   -- a selected record
   pub after_record-summaries : after_record plan q w d (summaries plan q.mode panes) ≡ summaries plan q.mode (kept.kept_after_record q w d panes)
   after_record-summaries =
-      ap (all_fired plan q (kind_by_record q w d)) (entered-summaries plan q.mode lawful q.shape d panes)
-      ∙ fired-summaries plan q (kind_by_record q w d) (kept.kind_by_record q w d) (λ p h. refl) (kept.entered q.shape d panes)
+      ap (all_fired plan q (kind_by_record q w d)) (entered-summaries plan q.mode lawful q.shape q.clock.lateness d panes)
+      ∙ fired-summaries plan q (kind_by_record q w d) (kept.kind_by_record q w d) (λ p h. refl) (kept.entered q.shape q.clock.lateness d panes)
 
   pub fired_by_record-summaries : fired_by_record plan q w d (summaries plan q.mode panes) ≡ map (summary_fired plan) (kept.fired_by_record q w d panes)
   fired_by_record-summaries =
-      ap (fires q (kind_by_record q w d)) (entered-summaries plan q.mode lawful q.shape d panes)
-      ∙ fires-summaries plan q (kind_by_record q w d) (kept.kind_by_record q w d) (λ p h. refl) (kept.entered q.shape d panes)
+      ap (fires q (kind_by_record q w d)) (entered-summaries plan q.mode lawful q.shape q.clock.lateness d panes)
+      ∙ fires-summaries plan q (kind_by_record q w d) (kept.kind_by_record q w d) (λ p h. refl) d.turn (kept.entered q.shape q.clock.lateness d panes)
 
 module _ {X : Type 0} (plan : Plan X) (q : Query) (old new : ℤ) (panes : List (Place × Kept)) where
-  same_kind : (p : Place) (h : Kept) → kind_by_watermark q old new p (pane_of plan q.mode p.key h) ≡ kept.kind_by_watermark q old new p h
+  pub same_kind : (p : Place) (h : Kept) → kind_by_watermark q old new p (pane_of plan q.mode p.key h) ≡ kept.kind_by_watermark q old new p h
   same_kind p h = ap (λ (n : ℕ). kind_on_watermark q old new p n (length h.unshown)) (counted-fired plan q.mode p.key h)
 
-  -- an accepted watermark
+  -- a watermark
   pub at_watermark-summaries : at_watermark plan q old new (summaries plan q.mode panes) ≡ summaries plan q.mode (kept.kept_at_watermark q old new panes)
   at_watermark-summaries = fired-summaries plan q (kind_by_watermark q old new) (kept.kind_by_watermark q old new) same_kind panes
 
-  pub fired_by_watermark-summaries : fired_by_watermark plan q old new (summaries plan q.mode panes) ≡ map (summary_fired plan) (kept.fired_by_watermark q old new panes)
-  fired_by_watermark-summaries = fires-summaries plan q (kind_by_watermark q old new) (kept.kind_by_watermark q old new) same_kind panes
+  pub fired_by_watermark-summaries : (n : ℕ) → fired_by_watermark plan q old new (summaries plan q.mode panes) ≡ map (summary_fired plan) (kept.fired_by_watermark q n old new panes)
+  fired_by_watermark-summaries n = fires-summaries plan q (kind_by_watermark q old new) (kept.kind_by_watermark q old new) same_kind n panes
 
   pub after_watermark-summaries : after_watermark plan q old new (summaries plan q.mode panes) ≡ summaries plan q.mode (kept.kept_after_watermark q old new panes)
   after_watermark-summaries =
@@ -184,9 +185,9 @@ module _ {X : Type 0} (plan : Plan X) (q : Query) (runs : Runs plan q) where
   rows-summaries (f ∷ fs) =
       λ i. cons_option (option_map (rows.Pane f.kind f.place.key (window_of f.place)) (runs.row f.place.key f.fired i)) (rows-summaries fs i)
 
-  stands_alike : (p : Place) (s : Stands) → standing_row (standing_of plan p.key s) ≡ kept.standing_row q p s
+  stands_alike : (p : Place) (s : Stands) → standing_row (standing_of plan q.mode p.key s) ≡ kept.standing_row q p s
   stands_alike p kept.Unfired = refl
-  stands_alike p (kept.Firing fired) = runs.row p.key fired
+  stands_alike p (kept.Firing window fired) = runs.row p.key fired
   stands_alike p kept.Joined = refl
 
   all_stand_alike : (es : List (Place × Kept)) → filter_map (λ e. standing_row e.1.stands) (summaries plan q.mode es) ≡ filter_map (λ e. kept.standing_row q e.0 e.1.stands) es

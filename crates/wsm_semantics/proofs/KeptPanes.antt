@@ -6,7 +6,7 @@ use Rattle.std.specs.List.{AllByRecursion}
 use Rattle.wsm_record.specs.Event.{Event}
 use Rattle.wsm_windows.specs.Windows.{IsShape}
 use Rattle.wsm_windows.specs.declared.place.Place.{Place}
-use Rattle.wsm_semantics.specs.Query.{Query, mark}
+use Rattle.wsm_semantics.specs.Query.{Query, SessionsByEvent, mark}
 use Rattle.wsm_semantics.specs.Panes.{held}
 use Rattle.wsm_semantics.specs.Firings.{is_shown}
 use Rattle.wsm_semantics.specs.Kept.{Kept, kept, kept_in}
@@ -22,7 +22,7 @@ pub record IsKeptPane (q : Query) (past : List Event) (e : Place × Kept) : Type
   pub fewer : length e.1.unshown ≤ length e.1.all
   pub unshown : AllByRecursion (IsSelected q (mark q past)) e.1.unshown
 
-module _ (q : Query) (ok : IsShape q.shape) where
+module _ (q : Query) (ok : IsShape q.shape) (timely : SessionsByEvent q) where
   -- of each pane that is kept
   pub kept_panes : (past : List Event) → AllByRecursion (IsKeptPane q past) (kept q past)
   kept_panes past =
@@ -33,4 +33,4 @@ module _ (q : Query) (ok : IsShape q.shape) where
         fewer = length-filter (λ d. not (is_shown q past x.0 d)) x.1;
         unshown = filter-all (IsSelected q (mark q past)) (λ d. not (is_shown q past x.0 d)) x.1 pane.records;
       })
-      (held_panes q ok past))
+      (held_panes q ok timely past))

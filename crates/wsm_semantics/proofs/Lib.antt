@@ -33,6 +33,7 @@ pub mod FiredOnce
 pub mod DroppedShown
 pub mod ShownOnce
 pub mod SelectedRecords
+pub mod LiveRecords
 pub mod ManyKeys
 pub mod HeldPanes
 pub mod HeldBound
@@ -49,3 +50,11 @@ pub mod DiscardingSessions
 pub mod OrderLaws
 pub mod BagRows
 pub mod Blocks
+mod StandsStill
+mod Withdrawn
+mod WithdrawnSessions
+mod WithdrawnAssigned
+mod WithdrawnImages
+mod LastingBags
+pub mod LastingLaw
+pub mod LastingOnce

@@ -6,7 +6,7 @@ use Rattle.std.specs.Prelude.{filter, nat_eq, nat_lt}
 use Rattle.std.specs.List.{AllByRecursion}
 use Rattle.std.proofs.lemmas.Bool.{lt-ltb}
 use Rattle.wsm_record.specs.Event.{Event, Record, Watermark}
-use Rattle.wsm_semantics.specs.Query.{Query, Datum, is_taken, selected, selection_of}
+use Rattle.wsm_semantics.specs.Query.{Query, Datum, mark, is_taken, selected, selection_of}
 use Rattle.wsm_semantics.specs.Firings.{holds}
 use Rattle.wsm_semantics.specs.Kept.{with_datum, merged}
 use Rattle.wsm_semantics.proofs.Lists.{filter-all, all-each}
@@ -25,12 +25,12 @@ AreFalling (d ∷ ds) = Below d.turn ds × AreFalling ds
 pub one_or_none : (q : Query) (past : List Event) (e : Event) → (selection_of q past e ≡ []) ⊎ ((d : Datum) × (d.turn ≡ length past) × (selection_of q past e ≡ d ∷ []))
 one_or_none q past (Record None t vs) = inl refl
 one_or_none q past (Record (Some k) t vs) =
-    let d : Datum = record { turn = length past; key = k; time = t; values = vs } in
+    let d : Datum = record { turn = length past; mark = mark q past; key = k; time = t; values = vs } in
     elim (is_taken q past (Record (Some k) t vs) && q.selects k vs) as (λ b. (cond b (d ∷ []) [] ≡ []) ⊎ ((x : Datum) × (x.turn ≡ length past) × (cond b (d ∷ []) [] ≡ x ∷ []))) [
       | true ↦ inr (d, refl, refl)
       | false ↦ inl refl
     ]
-one_or_none q past (Watermark t) = inl refl
+one_or_none q past (Watermark o t) = inl refl
 
 later : (n : ℕ) (ds : List Datum) → Below n ds → Below (suc n) ds
 later n ds h = all-each (λ x. x.turn < n) (λ x. x.turn < suc n) ds (λ x k. omega arith) h

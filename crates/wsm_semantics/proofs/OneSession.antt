@@ -1,12 +1,11 @@
 -- How many sessions a record stands in, and how many it is linked to.
-use Rattle.std.proofs.Common.{◌≡◌, false, ◌&&◌, cond, List, ◌∷◌, map, length, ℤ, pos, ◌≤ℤ◌, sym, ap, ◌∙◌}
-use Rattle.std.specs.Prelude.{Bool, filter}
+use Rattle.std.proofs.Common.{◌≡◌, false, ◌&&◌, cond, List, ◌∷◌, map, length, ℤ, pos, ◌+ℤ◌, ◌≤ℤ◌, sym, ap, ◌∙◌}
+use Rattle.std.specs.Prelude.{Bool, filter, int_lt}
 use Rattle.wsm_record.specs.Event.{Event}
 use Rattle.wsm_windows.specs.declared.window.Window.{Window}
 use Rattle.wsm_windows.specs.declared.window.Shape.TheVariants.{Session}
 use Rattle.wsm_windows.specs.Windows.{has_inside}
 use Rattle.wsm_windows.specs.Places.{at}
-use Rattle.wsm_admission.specs.Clock.{is_late}
 use Rattle.wsm_semantics.specs.Query.{Query, Datum, mark, selected}
 use Rattle.wsm_semantics.specs.Sessions.{sessions, links}
 use Rattle.wsm_semantics.specs.Panes.{of_key, contents}
@@ -26,7 +25,7 @@ module _ (gap : ℤ) (long : pos 1 ≤ℤ gap) where
       ∙ (exactly_one gap long (d.time ∷ map (λ x. x.time) (of_key d.key ds))).0
 
 -- as many panes that are held are linked to a record as sessions
-pub as_many_linked : (q : Query) (gap : ℤ) → pos 1 ≤ℤ gap → q.shape ≡ Session gap → (past : List Event) (d : Datum) → is_late q.clock (mark q past) d.time ≡ false →
+pub as_many_linked : (q : Query) (gap : ℤ) → pos 1 ≤ℤ gap → q.shape ≡ Session gap → (past : List Event) (d : Datum) → int_lt (d.time +ℤ q.clock.lateness) (mark q past) ≡ false →
     length (filter (λ e. is_linked gap d e.0) (kept q past)) ≡ length (filter (λ w. is_linked gap d (at d.key w)) (sessions gap (map (λ x. x.time) (of_key d.key (selected q past)))))
 as_many_linked q gap long is past d prompt =
     let on : List Window = ws q gap is long past d prompt in

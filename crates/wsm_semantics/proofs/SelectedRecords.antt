@@ -11,7 +11,8 @@ use Rattle.wsm_record.specs.Schema.{fit_fields}
 use Rattle.wsm_windows.specs.Windows.{IsTime}
 use Rattle.wsm_admission.specs.declared.verdict.Refusal.{Refusal}
 use Rattle.wsm_admission.specs.Clock.{admitted_count, admitted_with, is_time}
-use Rattle.wsm_admission.proofs.Taken.{taken_record, watermark_rises}
+use Rattle.wsm_admission.proofs.Taken.{taken_record}
+use Rattle.wsm_admission.proofs.SourceMarks.{watermark_rises}
 use Rattle.wsm_semantics.specs.Query.{Query, Datum, mark, verdict_on, selected, selection_of}
 use Rattle.wsm_semantics.specs.Replay.{datum}
 use Rattle.wsm_semantics.proofs.Lists.{all-each}
@@ -42,10 +43,10 @@ module _ (q : Query) where
   selects_one : (e : Event) (past : List Event) → AllByRecursion (IsSelected q (mark q (e ∷ past))) (selection_of q past e)
   selects_one (Record None t vs) past = tt
   selects_one (Record (Some k) t vs) past = pick (verdict_on q past (Record (Some k) t vs)) refl where
-    pick : (v : Option Refusal) → v ≡ verdict_on q past (Record (Some k) t vs) → AllByRecursion (IsSelected q (mark q past)) (cond (is_none v && q.selects k vs) (datum (length past) k t vs ∷ []) [])
+    pick : (v : Option Refusal) → v ≡ verdict_on q past (Record (Some k) t vs) → AllByRecursion (IsSelected q (mark q past)) (cond (is_none v && q.selects k vs) (datum (length past) (mark q past) k t vs ∷ []) [])
     pick None h =
         let taken = taken_record q.clock q.declared (mark q past) (admitted_count q.clock q.declared past) (Some k) t vs (sym h) in
-        elim (q.selects k vs) as (λ b. q.selects k vs ≡ b → AllByRecursion (IsSelected q (mark q past)) (cond b (datum (length past) k t vs ∷ []) [])) [
+        elim (q.selects k vs) as (λ b. q.selects k vs ≡ b → AllByRecursion (IsSelected q (mark q past)) (cond b (datum (length past) (mark q past) k t vs ∷ []) [])) [
           | true ↦ λ is. (
             record {
               key = ltb-true k (length q.declared.keys) taken.has_key;
@@ -59,7 +60,7 @@ module _ (q : Query) where
           | false ↦ λ is. tt
         ] refl
     pick (Some r) h = tt
-  selects_one (Watermark t) past = tt
+  selects_one (Watermark o t) past = tt
 
   -- of each selected record
   pub each_selected : (past : List Event) → AllByRecursion (IsSelected q (mark q past)) (selected q past)
@@ -67,15 +68,15 @@ module _ (q : Query) where
   each_selected (e ∷ past) =
       all-append (IsSelected q (mark q (e ∷ past))) (selection_of q past e) (selected q past)
       (selects_one e past)
-      (all-each (IsSelected q (mark q past)) (IsSelected q (mark q (e ∷ past))) (selected q past) (ahead (mark q past) (mark q (e ∷ past)) (watermark_rises q.clock e past)) (each_selected past))
+      (all-each (IsSelected q (mark q past)) (IsSelected q (mark q (e ∷ past))) (selected q past) (ahead (mark q past) (mark q (e ∷ past)) (watermark_rises q.clock past e)) (each_selected past))
 
   one_selected : (e : Event) (past : List Event) (n : ℕ) → length (selection_of q past e) + n ≤ admitted_with n e (verdict_on q past e)
   one_selected (Record None t vs) past n = omega arith
   one_selected (Record (Some k) t vs) past n = pick (verdict_on q past (Record (Some k) t vs)) where
-    pick : (v : Option Refusal) → length (cond (is_none v && q.selects k vs) (datum (length past) k t vs ∷ []) []) + n ≤ admitted_with n (Record (Some k) t vs) v
-    pick None = elim (q.selects k vs) as (λ b. length (cond b (datum (length past) k t vs ∷ []) []) + n ≤ n + 1) [ true ↦ omega arith | false ↦ omega arith ]
+    pick : (v : Option Refusal) → length (cond (is_none v && q.selects k vs) (datum (length past) (mark q past) k t vs ∷ []) []) + n ≤ admitted_with n (Record (Some k) t vs) v
+    pick None = elim (q.selects k vs) as (λ b. length (cond b (datum (length past) (mark q past) k t vs ∷ []) []) + n ≤ n + 1) [ true ↦ omega arith | false ↦ omega arith ]
     pick (Some r) = omega arith
-  one_selected (Watermark t) past n = omega arith
+  one_selected (Watermark o t) past n = omega arith
 
   both_grow : (sel old n all : ℕ) → old ≤ n → sel + n ≤ all → sel + old ≤ all
   both_grow sel old n all h k = omega arith

@@ -29,7 +29,7 @@ use Rattle.wsm_semantics.proofs.Each.{all-any, filter-each, filter-filter, none_
 use Rattle.wsm_semantics.proofs.MergedRecords.{selected_falls, merged-filter}
 use Rattle.wsm_semantics.proofs.Sessions.{StartFrom, AreApart}
 use Rattle.wsm_semantics.proofs.SessionTimes.{covered, inside_is, inside_of_joined, none_after}
-use Rattle.wsm_semantics.proofs.SessionPlaces.{times_of, sessions_of}
+use Rattle.wsm_semantics.proofs.SessionPlaces.{there_is, times_of, sessions_of}
 
 -- a table of some windows of a key
 abbrev pub at_each : (Place → List Datum) → ℕ → List Window → List (Place × List Datum)
@@ -103,10 +103,10 @@ module _ (q : Query) (gap : ℤ) (is : q.shape ≡ Session gap) (long : pos 1 �
 
   one_pane : (w : Window) → KeepsOf (kept_in q past (at k w, contents q past (at k w))).1 (w ∷ [])
   one_pane w =
-      let same : (x : Datum) → is_there (at k w) x ≡ is_in_any k (w ∷ []) x = λ x. ap (λ (b : Bool). nat_eq x.key k && b) (sym (or-false (has_inside x.time w))) in
+      let same : (x : Datum) → is_there q (at k w) x ≡ is_in_any k (w ∷ []) x = λ x. there_is q gap is (at k w) x ∙ ap (λ (b : Bool). nat_eq x.key k && b) (sym (or-false (has_inside x.time w))) in
       record {
         all = filter_same _ _ same ds;
-        unshown = filter-filter (λ x. not (is_shown q past (at k w) x)) (is_there (at k w)) ds
+        unshown = filter-filter (λ x. not (is_shown q past (at k w) x)) (is_there q (at k w)) ds
             ∙ filter_same _ _ (λ x i. same x i && not (shown_by_key q gap is past (at k w) p x key i)) ds;
       }
 
@@ -162,13 +162,13 @@ module _ (q : Query) (gap : ℤ) (is : q.shape ≡ Session gap) (long : pos 1 �
 
   -- the records of the joined session are those of the sessions that it joins
   pub joined_contents : (t : ℤ) →
-      filter (is_there (at k (session_of gap t (filter (links gap t) (sessions_of gap ds k))))) ds ≡ filter (is_in_any k (filter (links gap t) (sessions_of gap ds k))) ds
+      filter (is_there q (at k (session_of gap t (filter (links gap t) (sessions_of gap ds k))))) ds ≡ filter (is_in_any k (filter (links gap t) (sessions_of gap ds k))) ds
   joined_contents t =
       let times : List ℤ = times_of gap ds k in
       let ws : List Window = filter (links gap t) (sessions gap times) in
-      filter-each (is_there (at k (session_of gap t ws))) (is_in_any k ws) ds
-      (all-each (λ x. nat_eq x.key k ≡ true → list_any (has_inside x.time) (sessions gap times) ≡ true) (λ x. is_there (at k (session_of gap t ws)) x ≡ is_in_any k ws x) ds
-      (λ x h. elim (nat_eq x.key k) as (λ b. nat_eq x.key k ≡ b → (b && has_inside x.time (session_of gap t ws)) ≡ (b && list_any (has_inside x.time) ws)) [
+      filter-each (is_there q (at k (session_of gap t ws))) (is_in_any k ws) ds
+      (all-each (λ x. nat_eq x.key k ≡ true → list_any (has_inside x.time) (sessions gap times) ≡ true) (λ x. is_there q (at k (session_of gap t ws)) x ≡ is_in_any k ws x) ds
+      (λ x h. there_is q gap is (at k (session_of gap t ws)) x ∙ elim (nat_eq x.key k) as (λ b. nat_eq x.key k ≡ b → (b && has_inside x.time (session_of gap t ws)) ≡ (b && list_any (has_inside x.time) ws)) [
         | true ↦ λ e. inside_of_joined gap long t x.time times (h e)
         | false ↦ λ e. refl
       ] refl)

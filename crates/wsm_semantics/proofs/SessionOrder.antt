@@ -2,17 +2,13 @@
 -- linked to, in what place, and what is left where sessions are dropped.
 use Rattle.std.proofs.Common.{◌≡◌, Bool, true, false, ◌&&◌, cond, List, [], ◌∷◌, ◌++◌, ℤ, pos, ◌+ℤ◌, ◌≤ℤ◌, ◌<ℤ◌, refl, sym, subst, ap, ◌∙◌, arith}
 use Rattle.std.proofs.lemmas.Int.{ints, clamps}
-use Rattle.std.proofs.lemmas.List.Elements.{All-from_recursion, filter-append}
 use Rattle.std.specs.Prelude.{filter, int_le, int_lt}
 use Rattle.std.specs.Int.{int_max, int_min}
 use Rattle.std.specs.List.{AllByRecursion}
 use Rattle.wsm_windows.specs.declared.window.Window.{Window}
 use Rattle.wsm_windows.specs.Windows.{window}
-use Rattle.wsm_windows.specs.Life.{AreSessions, is_live}
-use Rattle.wsm_semantics.specs.Sessions.{with_time, rising, sessions_of_rising, sessions, ends_by, ends_after, starts_from, links, session_of, with_session}
-use Rattle.wsm_semantics.proofs.Lists.{filter_within}
-use Rattle.wsm_semantics.proofs.Each.{filter_swap}
-use Rattle.wsm_semantics.proofs.Sessions.{StartFrom, AreApart, sooner, holds_time, none_ends_by, none_linked, all_later, sessions-more, sessions_apart}
+use Rattle.wsm_semantics.specs.Sessions.{with_time, ends_by, starts_from, links, session_of, with_session}
+use Rattle.wsm_semantics.proofs.Sessions.{StartFrom, AreApart, sooner, none_ends_by, none_linked, all_later}
 use Rattle.wsm_semantics.proofs.SessionTimes.{apart-filter, both_linked, linked_all}
 
 -- ---- a time may stand anywhere among the times

@@ -14,9 +14,10 @@ use Rattle.wsm_windows.specs.Windows.{has_inside}
 use Rattle.wsm_windows.specs.declared.place.Place.{Place}
 use Rattle.wsm_windows.specs.Places.{place_cmp, at, window_of}
 use Rattle.wsm_windows.proofs.Places.{tie_is}
-use Rattle.wsm_semantics.specs.Query.{Datum}
+use Rattle.wsm_windows.specs.declared.window.Shape.TheVariants.{Session}
+use Rattle.wsm_semantics.specs.Query.{Query, Datum}
 use Rattle.wsm_semantics.specs.Sessions.{sessions, ends_by, starts_from, links, session_of}
-use Rattle.wsm_semantics.specs.Panes.{of_key, is_there}
+use Rattle.wsm_semantics.specs.Panes.{of_key, is_there, stands_in}
 use Rattle.wsm_semantics.specs.Kept.{is_linked}
 use Rattle.wsm_semantics.proofs.Tables.{among}
 use Rattle.wsm_semantics.proofs.Each.{list_any-append, and_of, list_any-filter, itself}
@@ -57,6 +58,14 @@ both_or true false true = refl
 both_or true false false = refl
 both_or false b c = refl
 
+-- of the key, and inside the window
+abbrev pub in_window : Place → Datum → Bool
+in_window p d = nat_eq d.key p.key && has_inside d.time (window_of p)
+
+-- a session has no other condition
+pub there_is : (q : Query) (gap : ℤ) → q.shape ≡ Session gap → (p : Place) (d : Datum) → is_there q p d ≡ in_window p d
+there_is q gap is p d = λ i. nat_eq d.key p.key && stands_in (is i) q.clock.lateness (window_of p) d
+
 module _ (gap : ℤ) (ds : List Datum) where
   abbrev pub times_of : ℕ → List ℤ
   times_of k = map (λ x. x.time) (of_key k ds)
@@ -72,7 +81,7 @@ module _ (gap : ℤ) (ds : List Datum) where
   abbrev pub is_session : Place → Bool
   is_session p = among p (map (at p.key) (sessions_of p.key))
 
-  among_one : (p : Place) (d : Datum) → among p (stands d) ≡ (is_there p d && is_session p)
+  among_one : (p : Place) (d : Datum) → among p (stands d) ≡ (in_window p d && is_session p)
   among_one p d =
       elim (nat_eq d.key p.key) as (λ b. nat_eq d.key p.key ≡ b → among p (stands d) ≡ ((b && has_inside d.time (window_of p)) && is_session p)) [
         | true ↦ λ e.
@@ -81,16 +90,16 @@ module _ (gap : ℤ) (ds : List Datum) where
         | false ↦ λ e. other_key p d.key (filter (has_inside d.time) (sessions_of d.key)) e
       ] refl
 
-  among_some : (p : Place) (xs : List Datum) → among p (flat_map stands xs) ≡ (list_any (is_there p) xs && is_session p)
+  among_some : (p : Place) (xs : List Datum) → among p (flat_map stands xs) ≡ (list_any (in_window p) xs && is_session p)
   among_some p [] = refl
   among_some p (x ∷ xs) =
       list_any-append (eq_by_cmp place_cmp p) (stands x) (flat_map stands xs)
       ∙ (λ i. among_one p x i || among_some p xs i)
-      ∙ both_or (is_there p x) (list_any (is_there p) xs) (is_session p)
+      ∙ both_or (in_window p x) (list_any (in_window p) xs) (is_session p)
 
   module _ (long : pos 1 ≤ℤ gap) where
     -- each session has a record
-    pub has_record : (p : Place) → is_session p ≡ true → list_any (is_there p) ds ≡ true
+    pub has_record : (p : Place) → is_session p ≡ true → list_any (in_window p) ds ≡ true
     has_record p h =
         sym (list_any-filter (λ x. has_inside x.time (window_of p)) (λ x. nat_eq x.key p.key) ds)
         ∙ sym (list_any-map (λ t. has_inside t (window_of p)) (λ x. x.time) (of_key p.key ds))
@@ -98,7 +107,7 @@ module _ (gap : ℤ) (ds : List Datum) where
 
     -- the places of records are the sessions
     pub places-sessions : (p : Place) → among p (flat_map stands ds) ≡ is_session p
-    places-sessions p = among_some p ds ∙ and_of (list_any (is_there p) ds) (is_session p) (has_record p)
+    places-sessions p = among_some p ds ∙ and_of (list_any (in_window p) ds) (is_session p) (has_record p)
 
 module _ (gap : ℤ) (long : pos 1 ≤ℤ gap) (ds : List Datum) (d : Datum) where
   -- the session that a record comes into
@@ -139,7 +148,7 @@ module _ (gap : ℤ) (long : pos 1 ≤ℤ gap) (ds : List Datum) (d : Datum) whe
       ] refl
 
   -- a record inside a session is linked to it
-  pub inside_links : (p : Place) → is_there p d ≡ true → is_linked gap d p ≡ true
+  pub inside_links : (p : Place) → in_window p d ≡ true → is_linked gap d p ≡ true
   inside_links p h = elim (nat_eq d.key p.key) as (λ b. (b && has_inside d.time (window_of p)) ≡ true → (b && links gap d.time (window_of p)) ≡ true) [
     | true ↦ λ k. wider d.time (window_of p) k
     | false ↦ λ k. k

@@ -13,7 +13,6 @@ use Rattle.wsm_windows.specs.declared.window.Shape.TheVariants.{Session}
 use Rattle.wsm_windows.specs.declared.place.Place.{Place}
 use Rattle.wsm_windows.specs.Places.{place_cmp, at, window_of}
 use Rattle.wsm_windows.proofs.Places.{tie_is, places_total, places_exact}
-use Rattle.wsm_admission.specs.Clock.{is_late}
 use Rattle.wsm_semantics.specs.Query.{Query, Datum, mark, selected, selection_of}
 use Rattle.wsm_semantics.specs.Sessions.{links}
 use Rattle.wsm_semantics.specs.Panes.{windows_among, places, is_there, contents, held, is_live_at}
@@ -23,7 +22,7 @@ use Rattle.wsm_semantics.proofs.Tables.{among, find-keyed, is_sorted-keyed, kept
 use Rattle.wsm_semantics.proofs.Each.{filter-map, filter-filter, itself}
 use Rattle.wsm_semantics.proofs.Sessions.{holds_time, sessions_apart}
 use Rattle.wsm_semantics.proofs.SessionTimes.{apart-filter}
-use Rattle.wsm_semantics.proofs.SessionPlaces.{other_key, among-passing, times_of, sessions_of, is_session, places-sessions, joined_place, session_after, inside_links}
+use Rattle.wsm_semantics.proofs.SessionPlaces.{there_is, other_key, among-passing, times_of, sessions_of, is_session, places-sessions, joined_place, session_after, inside_links}
 use Rattle.wsm_semantics.proofs.SessionJoin.{at_each, find-at_each, is_sorted-at_each, is_in_any, kept_at, all_panes_with, session_with-is, joined_contents}
 use Rattle.wsm_semantics.proofs.ShownPanes.{unshown_of, not_shown_yet}
 
@@ -67,10 +66,10 @@ module _ (q : Query) (gap : ℤ) (is : q.shape ≡ Session gap) (long : pos 1 �
   -- the places with records are the sessions of each key
   pub among_places : (past : List Event) (p : Place) → among p (places q past) ≡ is_session gap (selected q past) p
   among_places past p =
-      ap (λ (s : Shape). among p (flat_map (λ d. map (at d.key) (windows_among s (selected q past) d)) (selected q past))) is
+      ap (λ (s : Shape). among p (flat_map (λ d. map (at d.key) (windows_among s q.clock.lateness (selected q past) d)) (selected q past))) is
       ∙ places-sessions gap (selected q past) long p
 
-  module _ (past : List Event) (d : Datum) (prompt : is_late q.clock (mark q past) d.time ≡ false) where
+  module _ (past : List Event) (d : Datum) (prompt : int_lt (d.time +ℤ q.clock.lateness) (mark q past) ≡ false) where
     abbrev pub ds : List Datum
     ds = selected q past
 
@@ -124,17 +123,17 @@ module _ (q : Query) (gap : ℤ) (is : q.shape ≡ Session gap) (long : pos 1 �
       bounds : ((mine.start ≤ℤ d.time) × ((d.time +ℤ gap) ≤ℤ mine.end))
       bounds = holds_time gap long d.time ws
 
-      pub new_inside : is_there mine d ≡ true
-      new_inside = λ i. itself d.key i && itself_inside d.time gap mine.start mine.end long bounds.0 bounds.1 i
+      pub new_inside : is_there q mine d ≡ true
+      new_inside = there_is q gap is mine d ∙ (λ i. itself d.key i && itself_inside d.time gap mine.start mine.end long bounds.0 bounds.1 i)
 
-      mine_live : live mine ≡ true
+      pub mine_live : live mine ≡ true
       mine_live = ends_after (mark q past) d.time q.clock.lateness gap mine.end long prompt bounds.1
 
       -- what is put there are the records of the session
-      pub put_records : records (with_record d (joined_all linked)) ≡ records_at q past mine (cond (is_there mine d) (d ∷ contents q past mine) (contents q past mine))
+      pub put_records : records (with_record d (joined_all linked)) ≡ records_at q past mine (cond (is_there q mine d) (d ∷ contents q past mine) (contents q past mine))
       put_records =
           let h = all_panes_with q gap is long past d.key mine refl d ws (apart-filter gap (links gap d.time) (sessions_of gap ds d.key) (sessions_apart gap long (times_of gap ds d.key))) in
-          let joined : filter (is_there mine) ds ≡ filter (is_in_any d.key ws) ds = joined_contents q gap is long past d.key mine refl d.time in
+          let joined : filter (is_there q mine) ds ≡ filter (is_in_any d.key ws) ds = joined_contents q gap is long past d.key mine refl d.time in
           let new : Datum → Bool = λ x. not (is_shown q past mine x) in
           let fresh : new d ≡ true = ap not (not_shown_yet q past mine d turn) in
           ap (λ (es : List (Place × Kept)). records (with_record d (joined_all es))) kept_linked
@@ -147,8 +146,8 @@ module _ (q : Query) (gap : ℤ) (is : q.shape ≡ Session gap) (long : pos 1 �
           )
 
       module _ (e : Event) (same : mark q (e ∷ past) ≡ mark q past) (selects : selection_of q past e ≡ d ∷ []) where
-        pub contents_more : (p : Place) → contents q (e ∷ past) p ≡ cond (is_there p d) (d ∷ contents q past p) (contents q past p)
-        contents_more p = ap (λ (sel : List Datum). filter (is_there p) (sel ++ ds)) selects
+        pub contents_more : (p : Place) → contents q (e ∷ past) p ≡ cond (is_there q p d) (d ∷ contents q past p) (contents q past p)
+        contents_more p = ap (λ (sel : List Datum). filter (is_there q p) (sel ++ ds)) selects
 
         pub places_more : (p : Place) → among p (places q (e ∷ past)) ≡ (eq_by_cmp place_cmp p mine || (not (is_linked gap d p) && is_session gap ds p))
         places_more p =
@@ -170,8 +169,8 @@ module _ (q : Query) (gap : ℤ) (is : q.shape ≡ Session gap) (long : pos 1 �
             ∙ ap (λ (o : Option Kept). cond (eq_by_cmp place_cmp p mine) (Some put_in) o)
             (find-where_key place_cmp stay p (λ x tie. ap stay (sym (places_exact p x tie))) (kept q past)
             ∙ ap (λ (o : Option Kept). cond (stay p) o None) (find-kept q past p ∙ ap (λ (b : Bool). cond (live p) (cond b (Some (kept_of q past p (contents q past p))) None) None) (among_places past p)))
-            ∙ settled (eq_by_cmp place_cmp p mine) (is_linked gap d p) (live p) (is_session gap ds p) (is_there p d) put_in (kept_of q past p) d (contents q past p)
-            (λ t. let r : mine ≡ p = sym (tie_is p mine t) in (ap live (sym r) ∙ mine_live, whole ∙ ap (kept_of q past mine) (contents_more mine) ∙ ap (λ (x : Place). kept_of q past x (cond (is_there x d) (d ∷ contents q past x) (contents q past x))) r))
+            ∙ settled (eq_by_cmp place_cmp p mine) (is_linked gap d p) (live p) (is_session gap ds p) (is_there q p d) put_in (kept_of q past p) d (contents q past p)
+            (λ t. let r : mine ≡ p = sym (tie_is p mine t) in (ap live (sym r) ∙ mine_live, whole ∙ ap (kept_of q past mine) (contents_more mine) ∙ ap (λ (x : Place). kept_of q past x (cond (is_there q x d) (d ∷ contents q past x) (contents q past x))) r))
             (λ there apart. outside p apart)
             ∙ sym (
             find-keyed (kept_of q past) p (held q (e ∷ past))
@@ -181,8 +180,8 @@ module _ (q : Query) (gap : ℤ) (is : q.shape ≡ Session gap) (long : pos 1 �
             )
             ))
           where
-            outside : (p : Place) → is_linked gap d p ≡ false → is_there p d ≡ false
-            outside p apart = elim (is_there p d) as (λ b. is_there p d ≡ b → b ≡ false) [
-              | true ↦ λ h. sym (inside_links gap long ds d p h) ∙ apart
+            outside : (p : Place) → is_linked gap d p ≡ false → is_there q p d ≡ false
+            outside p apart = elim (is_there q p d) as (λ b. is_there q p d ≡ b → b ≡ false) [
+              | true ↦ λ h. sym (inside_links gap long ds d p (sym (there_is q gap is p d) ∙ h)) ∙ apart
               | false ↦ λ h. refl
             ] refl

@@ -14,7 +14,7 @@ use Rattle.wsm_windows.specs.declared.window.PaneKind.{PaneKind}
 use Rattle.wsm_windows.specs.declared.place.Place.{Place}
 use Rattle.wsm_windows.specs.Places.{place_cmp}
 use Rattle.wsm_windows.proofs.Places.{tie_is, places_exact}
-use Rattle.wsm_semantics.specs.Query.{Query, Datum, mark, is_taken, selected}
+use Rattle.wsm_semantics.specs.Query.{Query, Datum, mark, selected}
 use Rattle.wsm_semantics.specs.Panes.{is_there, places, contents, panes, with_contents}
 use Rattle.wsm_semantics.specs.Firings.{Firing, firings, fire, firing_of, firing_set, holds, is_shown, kind_on_record, kind_on_watermark, shows}
 use Rattle.wsm_semantics.proofs.Lists.{filter-all, all-each, filter_same, put-all}
@@ -43,7 +43,7 @@ each_pane q past = filled (places q past) (each_among (places q past) (places q 
   filled (p ∷ ps) h = put-all place_cmp places_exact (IsPane q past) p (contents q past p) (with_contents (contents q past) ps) (refl, h.0) (filled ps h.1)
 
 -- a place with records is found among the panes
-found : (q : Query) (past : List Event) (p : Place) → among p (places q past) ≡ true → list_any (λ x. eq_by_cmp place_cmp p x.0) (panes q past) ≡ true
+pub found : (q : Query) (past : List Event) (p : Place) → among p (places q past) ≡ true → list_any (λ x. eq_by_cmp place_cmp p x.0) (panes q past) ≡ true
 found q past p h =
     sym (list_any-map (eq_by_cmp place_cmp p) (λ x. x.0) (panes q past))
     ∙ sym (is_some-find place_cmp p (panes q past))
@@ -51,7 +51,7 @@ found q past p h =
     ∙ ap (λ (b : Bool). is_some (cond b (Some (contents q past p)) None)) h
 
 pub contents_below : (q : Query) (past : List Event) (p : Place) → Below (length past) (contents q past p)
-contents_below q past p = filter-all (λ x. x.turn < length past) (is_there p) (selected q past) (selected_below q past)
+contents_below q past p = filter-all (λ x. x.turn < length past) (is_there q p) (selected q past) (selected_below q past)
 
 -- ---- what fires
 
@@ -63,20 +63,20 @@ unshown_of q past p all = filter (λ d. not (is_shown q past p d)) all
 abbrev pub kind_of : Query → List Event → Event → Place → List Datum → Option PaneKind
 kind_of q past (Record key t vs) p all =
     cond (list_any (λ d. nat_eq d.turn (length past)) all) (kind_on_record q (mark q past) p.end (length (unshown_of q past p all))) None
-kind_of q past (Watermark t) p all =
-    cond (is_taken q past (Watermark t)) (kind_on_watermark q (mark q past) t p (length (firing_set q.mode all (unshown_of q past p all))) (length (unshown_of q past p all))) None
+kind_of q past (Watermark o t) p all =
+    kind_on_watermark q (mark q past) (mark q (Watermark o t ∷ past)) p (length (firing_set q.mode all (unshown_of q past p all))) (length (unshown_of q past p all))
 
 -- what a pane does on a turn
 abbrev pub does : Query → List Event → Event → Place × List Datum → Option Firing
-does q past e x = firing_of x.0 x.1 (firing_set q.mode x.1 (unshown_of q past x.0 x.1)) (kind_of q past e x.0 x.1)
+does q past e x = firing_of (length past) x.0 x.1 (firing_set q.mode x.1 (unshown_of q past x.0 x.1)) (kind_of q past e x.0 x.1)
 
-gated : (b : Bool) (p : Place) (all fired : List Datum) (k : Option PaneKind) → cond b (firing_of p all fired k) None ≡ firing_of p all fired (cond b k None)
-gated true p all fired k = refl
-gated false p all fired k = refl
+gated : (b : Bool) (n : ℕ) (p : Place) (all fired : List Datum) (k : Option PaneKind) → cond b (firing_of n p all fired k) None ≡ firing_of n p all fired (cond b k None)
+gated true n p all fired k = refl
+gated false n p all fired k = refl
 
 fire_is : (q : Query) (past : List Event) (e : Event) (x : Place × List Datum) → fire (is_shown q past x.0) q past e x.0 x.1 ≡ does q past e x
-fire_is q past (Record key t vs) x = gated (list_any (λ d. nat_eq d.turn (length past)) x.1) x.0 x.1 _ _
-fire_is q past (Watermark t) x = gated (is_taken q past (Watermark t)) x.0 x.1 _ _
+fire_is q past (Record key t vs) x = gated (list_any (λ d. nat_eq d.turn (length past)) x.1) (length past) x.0 x.1 _ _
+fire_is q past (Watermark o t) x = refl
 
 pub firings_are : (q : Query) (past : List Event) (e : Event) → firings q past e ≡ filter_map (does q past e) (panes q (e ∷ past))
 firings_are q past e =
@@ -89,7 +89,7 @@ showing : (q : Query) (past : List Event) (e : Event) (p : Place) (d : Datum) (x
 showing q past e p d [] = refl
 showing q past e p d (x ∷ xs) =
     elim (kind_of q past e x.0 x.1) as (λ o.
-    list_any (λ f. shows q.shape p f.place && holds d f.contents) (cons_option (firing_of x.0 x.1 (firing_set q.mode x.1 (unshown_of q past x.0 x.1)) o) (filter_map (does q past e) xs))
+    list_any (λ f. shows q.shape p f.place && holds d f.contents) (cons_option (firing_of (length past) x.0 x.1 (firing_set q.mode x.1 (unshown_of q past x.0 x.1)) o) (filter_map (does q past e) xs))
     ≡ ((is_some o && (shows q.shape p x.0 && holds d x.1)) || list_any (λ y. is_some (kind_of q past e y.0 y.1) && (shows q.shape p y.0 && holds d y.1)) xs)) [
       | None ↦ showing q past e p d xs
       | Some k ↦ ap (λ (b : Bool). (shows q.shape p x.0 && holds d x.1) || b) (showing q past e p d xs)

@@ -1,35 +1,30 @@
 -- What stands for a pane after an event: what it fires over, where it fires; else what stood for the
 -- panes that it took in, joined.
-use Rattle.std.proofs.Common.{◌≡◌, Bool, true, false, ◌&&◌, cond, not, List, [], ◌∷◌, ◌++◌, map, length, ℤ, Option, Some, None, refl, sym, ap, subst, ◌∙◌, append-nil, arith}
-use Rattle.std.proofs.lemmas.Bool.{true≢false, and_parts, and_from, or_left, false_from_ne_true, or_right, not-true}
-use Rattle.std.proofs.lemmas.Bool.Decides.{nat_tests}
-use Rattle.std.specs.Prelude.{ℕ, zero, suc, nat_eq, nat_le, filter, filter_map, int_lt, int_le, ◌+ℤ◌}
+use Rattle.std.proofs.Common.{◌≡◌, Bool, true, false, ◌&&◌, cond, List, [], ◌∷◌, ◌++◌, map, length, Option, Some, None, refl, sym, ap, subst, ◌∙◌, append-nil}
+use Rattle.std.proofs.lemmas.Bool.{and_parts, and_from, or_left, false_from_ne_true, or_right}
+use Rattle.std.specs.Prelude.{filter, filter_map}
 use Rattle.std.specs.List.{AllByRecursion, list_any, cons_option}
 use Rattle.std.specs.Ordering.{eq_by_cmp}
 use Rattle.std.specs.FinMap.Entries.{find}
 use Rattle.std.proofs.lemmas.Option.{same_Some}
-use Rattle.wsm_record.specs.declared.words.Mode.{Mode}
-use Rattle.wsm_record.specs.declared.words.Mode.TheVariants.{Discarding, Accumulating}
-use Rattle.wsm_record.specs.Event.{Event, Record, Watermark}
+use Rattle.wsm_record.specs.Event.{Event}
 use Rattle.wsm_windows.specs.declared.window.PaneKind.{PaneKind}
-use Rattle.wsm_windows.specs.declared.window.PaneKind.TheVariants.{Early, Late, OnTime, Final}
-use Rattle.wsm_windows.specs.Life.{is_due}
 use Rattle.wsm_windows.specs.declared.place.Place.{Place}
 use Rattle.wsm_windows.specs.Places.{place_cmp, window_of}
 use Rattle.wsm_windows.proofs.Places.{tie_is}
-use Rattle.wsm_semantics.specs.Query.{Query, Datum, mark, is_taken, selected, selection_of}
+use Rattle.wsm_semantics.specs.Query.{Query, Datum, selected, selection_of}
 use Rattle.wsm_semantics.specs.Panes.{places, is_there, contents, panes}
-use Rattle.wsm_semantics.specs.Firings.{Firing, holds, shows, firing_of, firing_set, is_shown, is_enough, kind_on_record, kind_on_watermark, firings, firings_so_far}
-use Rattle.wsm_semantics.specs.Relation.{is_within}
-use Rattle.wsm_semantics.specs.Kept.{Firing as Stood, stands_in, fired_kept}
-use Rattle.wsm_semantics.proofs.Lists.{IsNonEmpty, all-each}
+use Rattle.wsm_semantics.specs.Firings.{Firing, holds, shows, firing_of, firing_set, firings, firings_so_far}
+use Rattle.wsm_semantics.specs.StandingFirings.{is_within, candidates, greatest_of, standing}
+use Rattle.wsm_semantics.specs.Kept.{Firing as Stood, stands_by, stands_in, fired_kept}
+use Rattle.wsm_semantics.proofs.Lists.{IsNonEmpty, all-each, some_pass}
 use Rattle.wsm_semantics.proofs.Tables.{among, find-with_contents, kept_of}
-use Rattle.wsm_semantics.proofs.Each.{itself, same_answers, none_of, all-append, all-after, all-both, all-passed, each_fails, filter-append, filter-each, filter_map-all, list_any-append, list_any-filter, list_any-more, some_of}
+use Rattle.wsm_semantics.proofs.Each.{passed, all-any, map-each, map-map, same_answers, none_of, all-append, all-after, all-both, all-passed, filter-append, filter-each, filter_map-all, list_any-more, some_of}
 use Rattle.wsm_semantics.proofs.MergedRecords.{holds-filter, selected_falls}
-use Rattle.wsm_semantics.proofs.Within.{Within, IsPart, within, is_within_by, itself_within, same_part, part_stays, one_held}
+use Rattle.wsm_semantics.proofs.Within.{Within, IsPart, within, is_within_by, itself_within, one_held}
 use Rattle.wsm_semantics.proofs.ShownPanes.{does, firings_are, kind_of, unshown_of}
-use Rattle.wsm_semantics.proofs.StandingFirings.{stands_of, stands-fired, AreApart, EachApart, stands-parts, joined_stands}
-use Rattle.wsm_semantics.proofs.FiringsSoFar.{PlacesLaw, IsOf, IsFiring, IsFilled, fires_as, not_some, shows_itself, shows_back, shows_on, shown_so_far, one_home, contents_part, each_filled, each_firing}
+use Rattle.wsm_semantics.proofs.StandingFirings.{Status, status_of, stands_as, stands-status, greatest-fired, some_stands, AreApart, EachApart, status-parts, joined_stands, joined_statuses, stands-joined_all}
+use Rattle.wsm_semantics.proofs.FiringsSoFar.{PlacesLaw, IsOf, IsFiring, IsFilled, fires_as, not_some, shows_itself, shows_back, shows_on, one_home, contents_part, each_filled, each_firing}
 
 -- what an entry that is found gives is among what all give
 module _ {A B : Type 0} (g : Place × A → Option B) (t : B → Bool) (p : Place) (v : A) (y : B) (gives : g (p, v) ≡ Some y) (passes : t y ≡ true) where
@@ -37,7 +32,7 @@ module _ {A B : Type 0} (g : Place × A → Option B) (t : B → Bool) (p : Plac
   skip_one None ys h = h
   skip_one (Some z) ys h = or_right (t z) (list_any t ys) h
 
-  found_gives : (es : List (Place × A)) → find place_cmp p es ≡ Some v → list_any t (filter_map g es) ≡ true
+  pub found_gives : (es : List (Place × A)) → find place_cmp p es ≡ Some v → list_any t (filter_map g es) ≡ true
   found_gives [] h = absurd (not_some v (sym h))
   found_gives (e ∷ es) h =
       elim (eq_by_cmp place_cmp p e.0) as (λ b. eq_by_cmp place_cmp p e.0 ≡ b → cond b (Some e.1) (find place_cmp p es) ≡ Some v → list_any t (filter_map g (e ∷ es)) ≡ true) [
@@ -49,52 +44,12 @@ module _ {A B : Type 0} (g : Place × A → Option B) (t : B → Bool) (p : Plac
         | false ↦ λ other is. skip_one (g e) (filter_map g es) (found_gives es is)
       ] refl h
 
--- ---- a discarding pane that fires has records that weren't shown
+-- what the firings so far come to for a place with its contents
+abbrev pub status_in : Query → List Event → Place → List Datum → Status
+status_in q past p all = status_of (candidates q p all (firings_so_far q past))
 
-more_than_none : (m : ℕ) → nat_le (suc m) 0 ≡ false
-more_than_none m = grind (arith, nat_tests)
-
-none_enough : (m : ℕ) → is_enough m 0 ≡ false
-none_enough zero = refl
-none_enough (suc m) = more_than_none m
-
-none_by_record : (q : Query) (w end : ℤ) → kind_on_record q w end 0 ≡ None
-none_by_record q w end =
-    (λ i. cond (int_lt w end) (cond (none_enough q.early i) (Some Early) None) (cond (none_enough q.late i) (Some Late) None))
-    ∙ elim (int_lt w end) as (λ b. cond {A = Option PaneKind} b None None ≡ None) [ true ↦ refl | false ↦ refl ]
-
-none_by_watermark : (q : Query) (old new : ℤ) (p : Place) → kind_on_watermark q old new p 0 0 ≡ None
-none_by_watermark q old new p =
-    let due : Bool = is_due (window_of p) old new in
-    let last : Bool = int_lt old (p.end +ℤ q.clock.lateness) && int_le (p.end +ℤ q.clock.lateness) new in
-    neither due last
-  where
-    neither : (due last : Bool) → cond (due && false) (Some OnTime) (cond (last && false) (Some Final) None) ≡ None
-    neither true true = refl
-    neither true false = refl
-    neither false true = refl
-    neither false false = refl
-
-none_new : (q : Query) (past : List Event) (e : Event) (p : Place) (all : List Datum) → q.mode ≡ Discarding → unshown_of q past p all ≡ [] → kind_of q past e p all ≡ None
-none_new q past (Record k t vs) p all discarding none =
-    let entered : Bool = list_any (λ d. nat_eq d.turn (length past)) all in
-    ap (λ (us : List Datum). cond entered (kind_on_record q (mark q past) p.end (length us)) None) none
-    ∙ ap (λ (o : Option PaneKind). cond entered o None) (none_by_record q (mark q past) p.end)
-    ∙ elim entered as (λ b. cond {A = Option PaneKind} b None None ≡ None) [ true ↦ refl | false ↦ refl ]
-none_new q past (Watermark t) p all discarding none =
-    let taken : Bool = is_taken q past (Watermark t) in
-    (λ i. cond taken (kind_on_watermark q (mark q past) t p (length (firing_set (discarding i) all (none i))) (length (none i))) None)
-    ∙ ap (λ (o : Option PaneKind). cond taken o None) (none_by_watermark q (mark q past) t p)
-    ∙ elim taken as (λ b. cond {A = Option PaneKind} b None None ≡ None) [ true ↦ refl | false ↦ refl ]
-
--- a record that passes is one of all
-one_passes : (t : Datum → Bool) (xs : List Datum) → IsNonEmpty (filter t xs) → (d : Datum) × (t d ≡ true) × (holds d xs ≡ true)
-one_passes t [] (d, rest, is) = absurd (cc)
-one_passes t (x ∷ xs) h =
-    elim (t x) as (λ b. t x ≡ b → IsNonEmpty (cond b (x ∷ filter t xs) (filter t xs)) → (d : Datum) × (t d ≡ true) × (holds d (x ∷ xs) ≡ true)) [
-      | true ↦ λ e h. (x, e, or_left _ _ (itself x.turn))
-      | false ↦ λ e h. let (d, ok, held) = one_passes t xs h in (d, ok, or_right _ _ held)
-    ] refl h
+pub stands_as_status : (q : Query) (past : List Event) (p : Place) (all : List Datum) → stands_in q past p all ≡ stands_as (status_in q past p all)
+stands_as_status q past p all = let cs : List Firing = candidates q p all (firings_so_far q past) in stands-status cs (greatest_of cs)
 
 -- ---- on the turn of an event
 
@@ -110,7 +65,7 @@ IsTakenIn q past e p r = (among r (places q past) ≡ true) × (shows q.shape p 
 pub record TakesIn (q : Query) (past : List Event) (e : Event) (p : Place) (rs : List Place) : Type 0 where
   pub each : AllByRecursion (IsTakenIn q past e p) rs
   pub distinct : AreDistinct rs
-  pub whole : (r : Place) → among r (places q past) ≡ true → shows q.shape p r ≡ true → (d : Datum) → is_there r d ≡ true → is_there p d ≡ true → among r rs ≡ true
+  pub whole : (r : Place) → among r (places q past) ≡ true → shows q.shape p r ≡ true → (d : Datum) → is_there q r d ≡ true → is_there q p d ≡ true → among r rs ≡ true
 
 module _ (q : Query) (law : PlacesLaw q) (past : List Event) (e : Event) (p : Place) (placed : among p (places q (e ∷ past)) ≡ true) where
   abbrev all : List Datum
@@ -143,71 +98,56 @@ module _ (q : Query) (law : PlacesLaw q) (past : List Event) (e : Event) (p : Pl
       (λ i. does q past e (same i, contents q (e ∷ past) (same i))) ∙ ap (λ (c : List Datum). does q past e (r.0, c)) (sym h.0.0) ∙ is)
       (panes q (e ∷ past)) (each_filled q law (e ∷ past)))
 
-  its_own : (f : Firing) → IsOf q past p all f → (may_stand f && is_within all f.contents) ≡ true
-  its_own f of_p =
-      and_from _ _
-      (and_from _ _ (ap (shows q.shape p) of_p.place ∙ shows_itself q.shape p) (ap (λ (xs : List Datum). is_within xs all) of_p.contents ∙ itself_within all))
-      (ap (is_within all) of_p.contents ∙ itself_within all)
+  its_own : (f : Firing) → IsOf q past p all f → may_stand f ≡ true
+  its_own f of_p = and_from _ _ (ap (shows q.shape p) of_p.place ∙ shows_itself q.shape p) (ap (λ (xs : List Datum). is_within xs all) of_p.contents ∙ itself_within all)
 
-  -- a firing of before with all of its records is over the same
-  abbrev IsAlike : Firing → Type 0
-  IsAlike g = may_stand g ≡ true → is_within all g.contents ≡ true → g.fired ≡ set
+  -- its firing, of a kind
+  abbrev pub firing_as : PaneKind → Firing
+  firing_as k = record { turn = length past; kind = k; place = p; contents = all; fired = set }
 
-  alike_accumulating : q.mode ≡ Accumulating → AllByRecursion IsAlike (firings_so_far q past)
-  alike_accumulating is =
-      all-each (IsFiring q past) IsAlike (firings_so_far q past)
-      (λ g of_g k most.
-      of_g.fired is
-      ∙ same_part (selected q (e ∷ past)) g.contents all (part_stays q past e g.contents of_g.part) (contents_part q (e ∷ past) p) (within g.contents all (and_parts _ _ k).1) (within all g.contents most)
-      ∙ sym (ap (λ (m : Mode). firing_set m all (unshown_of q past p all)) is))
-      (each_firing q law past)
-
-  alike_discarding : q.mode ≡ Discarding → (k : PaneKind) → kind ≡ Some k → (us : List Datum) → unshown_of q past p all ≡ us → AllByRecursion IsAlike (firings_so_far q past)
-  alike_discarding is k fires [] none = absurd (not_some k (sym fires ∙ none_new q past e p all is none))
-  alike_discarding is k fires (u ∷ us) some =
-      let (d, hidden, held) = one_passes (λ d. not (is_shown q past p d)) all (u, us, some) in
-      all-each (λ g. (shows q.shape p g.place && holds d g.contents) ≡ false) IsAlike (firings_so_far q past)
-      (λ g misses may most. absurd (true≢false (sym (and_from _ _ (and_parts _ _ may).0 (within all g.contents most d held)) ∙ misses)))
-      (each_fails (λ g. shows q.shape p g.place && holds d g.contents) (firings_so_far q past) (sym (shown_so_far q past p d) ∙ not-true _ hidden))
-
-  -- where it fires, what it fires over stands for it
-  stands-firing : (k : PaneKind) → kind ≡ Some k → stands_in q (e ∷ past) p all ≡ Stood set
-  stands-firing k is =
-      let before : List Firing = firings_so_far q past in
-      let now : List Firing = firings q past e in
-      let f : Firing = record { kind = k; place = p; contents = all; fired = set } in
-      let fires : does q past e (p, all) ≡ Some f = ap (firing_of p all set) is in
-      stands-fired all set (filter may_stand (before ++ now))
-      (all-passed IsAlike (λ g. Within g.contents all × (is_within all g.contents ≡ true → g.fired ≡ set)) may_stand
-      (λ g alike may. (within g.contents all (and_parts _ _ may).1, alike may))
-      (before ++ now)
-      (all-append IsAlike before now (by_mode q.mode refl)
-      (all-each (λ g. may_stand g ≡ true → does q past e (p, all) ≡ Some g) IsAlike now (λ g own may most. (fires_as q past e p all g (own may)).fired) own_firings)))
-      (list_any-filter (λ g. is_within all g.contents) may_stand (before ++ now)
-      ∙ list_any-append (λ g. may_stand g && is_within all g.contents) before now
-      ∙ or_right _ _
-      (ap (list_any (λ g. may_stand g && is_within all g.contents)) (firings_are q past e)
-      ∙ found_gives (does q past e) (λ g. may_stand g && is_within all g.contents) p all f fires (its_own f (fires_as q past e p all f fires)) (panes q (e ∷ past))
+  -- where it fires, this firing stands for it
+  pub stands-now : (k : PaneKind) → kind ≡ Some k → standing q (firings_so_far q (e ∷ past)) p all ≡ Some (firing_as k)
+  stands-now k is =
+      let before : List Firing = filter may_stand (firings_so_far q past) in
+      let now : List Firing = filter may_stand (firings q past e) in
+      let f : Firing = firing_as k in
+      let fires : does q past e (p, all) ≡ Some f = ap (firing_of (length past) p all set) is in
+      ap greatest_of (filter-append may_stand (firings_so_far q past) (firings q past e))
+      ∙ greatest-fired f before now
+      (all-passed (λ g. may_stand g ≡ true → does q past e (p, all) ≡ Some g) (λ g. g ≡ f) may_stand (λ g own may. same_Some g f (sym (own may) ∙ fires)) (firings q past e) own_firings)
+      (some_pass may_stand (firings q past e)
+      (ap (list_any may_stand) (firings_are q past e)
+      ∙ found_gives (does q past e) may_stand p all f fires (its_own f (fires_as q past e p all f fires)) (panes q (e ∷ past))
       (find-with_contents (contents q (e ∷ past)) p (places q (e ∷ past)) ∙ ap (λ (b : Bool). cond b (Some all) None) placed)))
+      (all-append (λ g. is_within g.contents all ≡ true) before now (each_inside (firings_so_far q past)) (each_inside (firings q past e)))
     where
-      by_mode : (m : Mode) → q.mode ≡ m → AllByRecursion IsAlike (firings_so_far q past)
-      by_mode Accumulating mode = alike_accumulating mode
-      by_mode Discarding mode = alike_discarding mode k is (unshown_of q past p all) refl
+      each_inside : (fs : List Firing) → AllByRecursion (λ g. is_within g.contents all ≡ true) (filter may_stand fs)
+      each_inside fs = all-each (λ g. may_stand g ≡ true) (λ g. is_within g.contents all ≡ true) (filter may_stand fs) (λ g may. (and_parts (shows q.shape p g.place) (is_within g.contents all) may).1) (passed may_stand fs)
 
-  -- where it doesn't, what stood for it stands
-  stands-quiet : kind ≡ None → stands_in q (e ∷ past) p all ≡ stands_in q past p all
-  stands-quiet none =
-      ap stands_of (
+  stands-firing : (k : PaneKind) → kind ≡ Some k → stands_in q (e ∷ past) p all ≡ Stood (window_of p) set
+  stands-firing k is =
+      let cs : List Firing = filter may_stand (firings_so_far q (e ∷ past)) in
+      stands-status cs (greatest_of cs) ∙ ap stands_as (some_stands cs (firing_as k) (stands-now k is))
+
+  -- where it doesn't, those that may stand for it are those that could
+  same_candidates : kind ≡ None → filter may_stand (firings_so_far q (e ∷ past)) ≡ filter may_stand (firings_so_far q past)
+  same_candidates none =
       filter-append may_stand (firings_so_far q past) (firings q past e)
       ∙ ap (λ (cs : List Firing). filter may_stand (firings_so_far q past) ++ cs) (none_of may_stand (firings q past e)
       (all-each (λ f. may_stand f ≡ true → does q past e (p, all) ≡ Some f) (λ f. may_stand f ≡ false) (firings q past e)
-      (λ f own. false_from_ne_true (may_stand f) (λ k. not_some f (sym (own k) ∙ ap (firing_of p all set) none))) own_firings))
-      ∙ append-nil _)
+      (λ f own. false_from_ne_true (may_stand f) (λ k. not_some f (sym (own k) ∙ ap (firing_of (length past) p all set) none))) own_firings))
+      ∙ append-nil _
+
+  stands-quiet : kind ≡ None → stands_in q (e ∷ past) p all ≡ stands_in q past p all
+  stands-quiet none = ap (λ (cs : List Firing). stands_by cs (greatest_of cs)) (same_candidates none)
+
+  pub stands-still : kind ≡ None → standing q (firings_so_far q (e ∷ past)) p all ≡ standing q (firings_so_far q past) p all
+  stands-still none = ap greatest_of (same_candidates none)
 
   -- what stands for it afterwards
-  pub stands-after : (fired_kept q.mode kind (kept_of q past p all)).stands ≡ stands_in q (e ∷ past) p all
+  pub stands-after : (fired_kept q.mode p kind (kept_of q past p all)).stands ≡ stands_in q (e ∷ past) p all
   stands-after = pick kind refl where
-    pick : (k : Option PaneKind) → kind ≡ k → (fired_kept q.mode k (kept_of q past p all)).stands ≡ stands_in q (e ∷ past) p all
+    pick : (k : Option PaneKind) → kind ≡ k → (fired_kept q.mode p k (kept_of q past p all)).stands ≡ stands_in q (e ∷ past) p all
     pick None is = sym (stands-quiet is)
     pick (Some k) is = sym (stands-firing k is)
 
@@ -218,13 +158,13 @@ module _ (q : Query) (law : PlacesLaw q) (past : List Event) (e : Event) (p : Pl
 
     -- a record that is told by its turn where it stood and where it stands
     abbrev IsTold : Place → Datum → Type 0
-    IsTold r x = (holds x (contents q past r) ≡ is_there r x) × (holds x all ≡ is_there p x)
+    IsTold r x = (holds x (contents q past r) ≡ is_there q r x) × (holds x all ≡ is_there q p x)
 
-    in_common : (r : Place) (xs : List Datum) → IsNonEmpty xs → IsPart (selected q past) xs → Within xs (contents q past r) → Within xs all → (x : Datum) × (is_there r x ≡ true) × (is_there p x ≡ true)
+    in_common : (r : Place) (xs : List Datum) → IsNonEmpty xs → IsPart (selected q past) xs → Within xs (contents q past r) → Within xs all → (x : Datum) × (is_there q r x ≡ true) × (is_there q p x ≡ true)
     in_common r xs some part in_r in_p =
         let (x, tells, held) = one_held (IsTold r) (selected q past) xs
-        (all-both _ _ (IsTold r) (λ x a b. (a, b)) (selected q past) (holds-filter (is_there r) (selected q past) (selected_falls q past))
-        (all-after (λ x. holds x all ≡ is_there p x) (selection_of q past e) (selected q past) (holds-filter (is_there p) (selected q (e ∷ past)) (selected_falls q (e ∷ past)))))
+        (all-both _ _ (IsTold r) (λ x a b. (a, b)) (selected q past) (holds-filter (is_there q r) (selected q past) (selected_falls q past))
+        (all-after (λ x. holds x all ≡ is_there q p x) (selection_of q past e) (selected q past) (holds-filter (is_there q p) (selected q (e ∷ past)) (selected_falls q (e ∷ past)))))
         part some in
         (x, sym tells.0 ∙ in_r x held, sym tells.1 ∙ in_p x held)
 
@@ -262,8 +202,17 @@ module _ (q : Query) (law : PlacesLaw q) (past : List Event) (e : Event) (p : Pl
     )
 
     -- what stood for those that it took in stood for it, joined
+    pub status-taken : status_in q past p all ≡ joined_statuses (map (λ r. status_in q past r (contents q past r)) rs)
+    status-taken =
+        ap status_of (filter-each may_stand (λ f. list_any (λ r. could_stand r f) rs) (firings_so_far q past)
+        (all-each (IsFiring q past) (λ f. may_stand f ≡ list_any (λ r. could_stand r f) rs) (firings_so_far q past) taken_firings (each_firing q law past)))
+        ∙ status-parts (IsFiring q past) (firings_so_far q past) (each_firing q law past) could_stand rs (each_apart rs takes.each takes.distinct)
+
     pub stands-taken : stands_in q past p all ≡ joined_stands (map (λ r. stands_in q past r (contents q past r)) rs)
     stands-taken =
-        ap stands_of (filter-each may_stand (λ f. list_any (λ r. could_stand r f) rs) (firings_so_far q past)
-        (all-each (IsFiring q past) (λ f. may_stand f ≡ list_any (λ r. could_stand r f) rs) (firings_so_far q past) taken_firings (each_firing q law past)))
-        ∙ stands-parts (IsFiring q past) (firings_so_far q past) (each_firing q law past) could_stand rs (each_apart rs takes.each takes.distinct)
+        stands_as_status q past p all
+        ∙ ap stands_as status-taken
+        ∙ stands-joined_all (map (λ r. status_in q past r (contents q past r)) rs)
+        ∙ ap joined_stands (map-map stands_as (λ r. status_in q past r (contents q past r)) rs
+        ∙ map-each (λ r. stands_as (status_in q past r (contents q past r))) (λ r. stands_in q past r (contents q past r)) rs
+        (all-any (λ r. stands_as (status_in q past r (contents q past r)) ≡ stands_in q past r (contents q past r)) (λ r. sym (stands_as_status q past r (contents q past r))) rs))

@@ -3,14 +3,15 @@
 use Rattle.std.proofs.Common.{◌≡◌, ℕ, suc, ◌+◌, true, false, cond, List, [], ◌∷◌, length, Option, Some, None, refl, sym, ap, ◌∙◌, arith}
 use Rattle.std.specs.Prelude.{nat_lt, option_map}
 use Rattle.wsm_record.specs.declared.words.Mode.{Mode}
-use Rattle.wsm_record.specs.declared.words.Mode.TheVariants.{Discarding, Accumulating}
+use Rattle.wsm_record.specs.declared.words.Mode.TheVariants.{Discarding, Accumulating, Retracting}
 use Rattle.wsm_windows.specs.declared.window.PaneKind.{PaneKind}
 use Rattle.wsm_windows.specs.declared.place.Place.{Place}
+use Rattle.wsm_windows.specs.Places.{window_of}
 use Rattle.wsm_semantics.specs.Query.{Datum}
 use Rattle.wsm_semantics.specs.Firings.{firing_set, firing_of}
 use Rattle.wsm_semantics.specs.Kept as kept
 use Rattle.wsm_semantics.specs.Kept.{Kept, Stands, with_datum, merged, stands_joined, fired_kept}
-use Rattle.wsm_semantics.specs.Summaries.{Plan, IsLawful, Row, Pane, standing_joined, fired_count, left_folded, fired_of, with_folded, joined_folds, columns, with_record, joined, fired_pane, folded_of, standing_of, pane_of, summary_fired}
+use Rattle.wsm_semantics.specs.Summaries.{Plan, IsLawful, Row, Pane, standing_joined, fired_count, left_folded, kept_window, fired_of, with_folded, joined_folds, columns, with_record, joined, fired_pane, folded_of, standing_of, pane_of, summary_fired}
 
 pub length-with_datum : (d : Datum) (ds : List Datum) → length (with_datum d ds) ≡ suc (length ds)
 length-with_datum d [] = refl
@@ -76,23 +77,25 @@ module _ {X : Type 0} (plan : Plan X) (lawful : IsLawful plan) where
       ∙ more_in_first x (folded_of plan xs) (folded_of plan ys)
 
 module _ {X : Type 0} (plan : Plan X) where
-  standing-joined : (k : ℕ) (s t : Stands) → standing_joined (standing_of plan k s) (standing_of plan k t) ≡ standing_of plan k (stands_joined s t)
-  standing-joined k kept.Unfired t = refl
-  standing-joined k (kept.Firing f) kept.Unfired = refl
-  standing-joined k (kept.Firing f) (kept.Firing g) = refl
-  standing-joined k (kept.Firing f) kept.Joined = refl
-  standing-joined k kept.Joined kept.Unfired = refl
-  standing-joined k kept.Joined (kept.Firing g) = refl
-  standing-joined k kept.Joined kept.Joined = refl
+  standing-joined : (m : Mode) (k : ℕ) (s t : Stands) → standing_joined (standing_of plan m k s) (standing_of plan m k t) ≡ standing_of plan m k (stands_joined s t)
+  standing-joined m k kept.Unfired t = refl
+  standing-joined m k (kept.Firing w f) kept.Unfired = refl
+  standing-joined m k (kept.Firing w f) (kept.Firing v g) = refl
+  standing-joined m k (kept.Firing w f) kept.Joined = refl
+  standing-joined m k kept.Joined kept.Unfired = refl
+  standing-joined m k kept.Joined (kept.Firing v g) = refl
+  standing-joined m k kept.Joined kept.Joined = refl
 
   first_set : (m : Mode) (d : Datum) → Some (plan.first d.key d.values) ≡ folded_of plan (firing_set m (d ∷ []) (d ∷ []))
   first_set Accumulating d = refl
   first_set Discarding d = refl
+  first_set Retracting d = refl
 
   more_set : (m : Mode) (d : Datum) (all unshown : List Datum) →
       Some (with_folded plan d (folded_of plan (firing_set m all unshown))) ≡ folded_of plan (firing_set m (d ∷ all) (d ∷ unshown))
   more_set Accumulating d all unshown = refl
   more_set Discarding d all unshown = refl
+  more_set Retracting d all unshown = refl
 
   -- a record in a pane
   pub pane-with_record : (m : Mode) (k : ℕ) (d : Datum) (o : Option Kept) → with_record plan d (option_map (pane_of plan m k) o) ≡ pane_of plan m k (kept.with_record d o)
@@ -103,21 +106,23 @@ module _ {X : Type 0} (plan : Plan X) where
   pub counted-fired : (m : Mode) (k : ℕ) (h : Kept) → fired_count m (pane_of plan m k h) ≡ length (firing_set m h.all h.unshown)
   counted-fired Accumulating k h = refl
   counted-fired Discarding k h = refl
+  counted-fired Retracting k h = refl
 
   left_set : (m : Mode) (all unshown : List Datum) → left_folded m (folded_of plan (firing_set m all unshown)) ≡ folded_of plan (firing_set m all [])
   left_set Accumulating all unshown = refl
   left_set Discarding all unshown = refl
+  left_set Retracting all unshown = refl
 
-  pub pane-fired : (m : Mode) (p : Place) (kind : Option PaneKind) (h : Kept) → fired_pane plan m p kind (pane_of plan m p.key h) ≡ pane_of plan m p.key (fired_kept m kind h)
+  pub pane-fired : (m : Mode) (p : Place) (kind : Option PaneKind) (h : Kept) → fired_pane plan m p kind (pane_of plan m p.key h) ≡ pane_of plan m p.key (fired_kept m p kind h)
   pane-fired m p None h = refl
   pane-fired m p (Some kind) h =
       let set : List Datum = firing_set m h.all h.unshown in
-      pane_is _ _ refl refl (left_set m h.all h.unshown) (ap (λ (n : ℕ). Row (columns plan p.key n (folded_of plan set))) (counted-fired m p.key h))
+      pane_is _ _ refl refl (left_set m h.all h.unshown) (ap (λ (n : ℕ). Row (kept_window m (window_of p)) (columns plan p.key n (folded_of plan set))) (counted-fired m p.key h))
 
-  pub fired-of : (m : Mode) (p : Place) (kind : Option PaneKind) (h : Kept) →
-      fired_of m p (pane_of plan m p.key h) kind ≡ option_map (summary_fired plan) (firing_of p h.all (firing_set m h.all h.unshown) kind)
-  fired-of m p None h = refl
-  fired-of m p (Some kind) h = λ i. Some (record { kind = kind; place = p; count = counted-fired m p.key h i; folded = folded_of plan (firing_set m h.all h.unshown) })
+  pub fired-of : (n : ℕ) (m : Mode) (p : Place) (kind : Option PaneKind) (h : Kept) →
+      fired_of m p (pane_of plan m p.key h) kind ≡ option_map (summary_fired plan) (firing_of n p h.all (firing_set m h.all h.unshown) kind)
+  fired-of n m p None h = refl
+  fired-of n m p (Some kind) h = λ i. Some (record { kind = kind; place = p; count = counted-fired m p.key h i; folded = folded_of plan (firing_set m h.all h.unshown) })
 
   module _ (lawful : IsLawful plan) where
     merged_set : (m : Mode) (a b : Kept) →
@@ -125,8 +130,9 @@ module _ {X : Type 0} (plan : Plan X) where
         ≡ folded_of plan (firing_set m (merged a.all b.all) (merged a.unshown b.unshown))
     merged_set Accumulating a b = sym (folded-merged plan lawful a.all b.all)
     merged_set Discarding a b = sym (folded-merged plan lawful a.unshown b.unshown)
+    merged_set Retracting a b = sym (folded-merged plan lawful a.all b.all)
 
     -- two parts in one
     pub pane-joined : (m : Mode) (k : ℕ) (a b : Kept) → joined plan (pane_of plan m k a) (pane_of plan m k b) ≡ pane_of plan m k (kept.joined a b)
     pane-joined m k a b =
-        pane_is _ _ (sym (length-merged a.all b.all)) (sym (length-merged a.unshown b.unshown)) (merged_set m a b) (standing-joined k a.stands b.stands)
+        pane_is _ _ (sym (length-merged a.all b.all)) (sym (length-merged a.unshown b.unshown)) (merged_set m a b) (standing-joined m k a.stands b.stands)

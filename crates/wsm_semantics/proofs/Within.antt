@@ -5,12 +5,12 @@ use Rattle.std.proofs.lemmas.Bool.{true≢false, and_parts, and_from, or_cases, 
 use Rattle.std.specs.Prelude.{filter}
 use Rattle.std.specs.List.{AllByRecursion}
 use Rattle.wsm_record.specs.Event.{Event, Record, Watermark}
-use Rattle.wsm_semantics.specs.Query.{Datum, Query, is_taken, selected, selection_of}
+use Rattle.wsm_semantics.specs.Query.{Datum, Query, mark, is_taken, selected, selection_of}
 use Rattle.wsm_semantics.specs.Firings.{holds}
-use Rattle.wsm_semantics.specs.Relation.{is_within}
+use Rattle.wsm_semantics.specs.StandingFirings.{is_within}
 use Rattle.wsm_semantics.specs.Replay.{datum}
-use Rattle.wsm_semantics.proofs.Lists.{IsNonEmpty, filter-all, filter_same, all-each}
-use Rattle.wsm_semantics.proofs.Each.{itself, same_answers, filter-each}
+use Rattle.wsm_semantics.proofs.Lists.{IsNonEmpty, filter-all, all-each}
+use Rattle.wsm_semantics.proofs.Each.{itself, filter-each}
 use Rattle.wsm_semantics.proofs.MergedRecords.{AreFalling, Below, none_held, holds-filter, selected_below}
 
 -- each record that the first holds, the second holds
@@ -36,10 +36,6 @@ is_within_by (x ∷ xs) ys h = and_from _ _ (h x (or_left _ _ (itself x.turn))) 
 
 pub itself_within : (xs : List Datum) → is_within xs xs ≡ true
 itself_within xs = is_within_by xs xs (λ d k. k)
-
--- parts of the same records that hold one another's are the same
-pub same_part : (sel xs ys : List Datum) → IsPart sel xs → IsPart sel ys → Within xs ys → Within ys xs → xs ≡ ys
-same_part sel xs ys a b f g = a ∙ filter_same _ _ (λ d. same_answers (holds d xs) (holds d ys) (f d) (g d)) sel ∙ sym b
 
 pub filter_part : (t : Datum → Bool) (sel : List Datum) → AreFalling sel → IsPart sel (filter t sel)
 filter_part t sel h = filter-each t (λ d. holds d (filter t sel)) sel (all-each (λ d. holds d (filter t sel) ≡ t d) (λ d. t d ≡ holds d (filter t sel)) sel (λ d is. sym is) (holds-filter t sel h))
@@ -75,8 +71,8 @@ one_held P sel xs all part (x, rest, is) =
 pub new_turn : (q : Query) (past : List Event) (e : Event) → AllByRecursion (λ d. d.turn ≡ length past) (selection_of q past e)
 new_turn q past (Record None t vs) = tt
 new_turn q past (Record (Some k) t vs) =
-    elim (is_taken q past (Record (Some k) t vs) && q.selects k vs) as (λ b. AllByRecursion (λ d. d.turn ≡ length past) (cond b (datum (length past) k t vs ∷ []) [])) [ true ↦ (refl, tt) | false ↦ tt ]
-new_turn q past (Watermark t) = tt
+    elim (is_taken q past (Record (Some k) t vs) && q.selects k vs) as (λ b. AllByRecursion (λ d. d.turn ≡ length past) (cond b (datum (length past) (mark q past) k t vs ∷ []) [])) [ true ↦ (refl, tt) | false ↦ tt ]
+new_turn q past (Watermark o t) = tt
 
 -- what was a part of the selected records is one still
 pub part_stays : (q : Query) (past : List Event) (e : Event) (xs : List Datum) → IsPart (selected q past) xs → IsPart (selected q (e ∷ past)) xs

@@ -21,7 +21,7 @@ times_fired q past p d = length (filter (has_in_set q p d) (firings_so_far q pas
 -- the window is one that a selected record stands in
 pub record StandsIn (q : Query) (past : List Event) (d : Datum) (w : Window) : Type 0 where
   pub is_selected : Contains (selected q past) d
-  pub is_among : Contains (windows_among q.shape (selected q past) d) w
+  pub is_among : Contains (windows_among q.shape q.clock.lateness (selected q past) d) w
 
 -- the watermark came to the window's end and the lateness
 abbrev pub IsDropped : Query → List Event → Window → Type 0

@@ -1,11 +1,11 @@
--- What fires on a turn, and the rows of panes. Triggers early, on time and late, discarding and
--- accumulating are those of the Dataflow Model (Akidau et al. 2015); their exact conditions, the
+-- What fires on a turn, and the rows of panes. Triggers early, on time and late, discarding,
+-- accumulating and retracting are those of the Dataflow Model (Akidau et al. 2015); their exact conditions, the
 -- final firing and what counts as shown are this project's own rules.
 use Rattle.std.specs.Prelude.{ℕ, zero, suc, Bool, false, ◌&&◌, ◌||◌, not, List, [], ◌∷◌, ◌++◌, length, filter, filter_map, ℤ, ◌+ℤ◌, int_lt, int_le, nat_lt, nat_le, nat_eq, Option, Some, None, option_map, if◌then◌else◌}
 use Rattle.std.specs.List.{list_any}
 use Rattle.std.specs.Ordering.{eq_by_cmp}
 use Rattle.wsm_record.specs.declared.words.Mode.{Mode}
-use Rattle.wsm_record.specs.declared.words.Mode.TheVariants.{Discarding, Accumulating}
+use Rattle.wsm_record.specs.Modes.{is_over_all}
 use Rattle.wsm_record.specs.Event.{Event, Record, Watermark}
 use Rattle.wsm_windows.specs.declared.window.PaneKind.{PaneKind}
 use Rattle.wsm_windows.specs.declared.window.PaneKind.TheVariants.{Early, OnTime, Late, Final}
@@ -16,10 +16,11 @@ use Rattle.wsm_windows.specs.declared.place.Place.{Place}
 use Rattle.wsm_windows.specs.Places.{place_cmp, window_of}
 use Rattle.wsm_semantics.specs.declared.out_row.OutRow.{OutRow}
 use Rattle.wsm_semantics.specs.declared.out_row.OutRow.TheVariants.{Pane}
-use Rattle.wsm_semantics.specs.Query.{Datum, Query, mark, is_taken}
+use Rattle.wsm_semantics.specs.Query.{Datum, Query, mark}
 use Rattle.wsm_semantics.specs.Panes.{panes}
 
 pub record Firing : Type 0 where
+  pub turn : ℕ  -- how many events came before its own
   pub kind : PaneKind
   pub place : Place
   pub contents : List Datum
@@ -34,9 +35,9 @@ shows (Fixed size) p fired = eq_by_cmp place_cmp p fired
 shows (Sliding size period) p fired = eq_by_cmp place_cmp p fired
 shows (Session gap) p fired = nat_eq p.key fired.key
 
+-- what a firing is computed over
 abbrev pub firing_set : Mode → List Datum → List Datum → List Datum
-firing_set Accumulating all unshown = all
-firing_set Discarding all unshown = unshown
+firing_set mode all unshown = if is_over_all mode then all else unshown
 
 -- a count that is declared is reached
 abbrev pub is_enough : ℕ → ℕ → Bool
@@ -50,30 +51,28 @@ kind_on_record q w end unshown =
     then (if is_enough q.early unshown then Some Early else None)
     else (if is_enough q.late unshown then Some Late else None)
 
--- the kind of a firing on the turn of a watermark that rises from old to new
+-- the kind of a firing where the watermark goes from old to new: none where it stays
 abbrev pub kind_on_watermark : Query → ℤ → ℤ → Place → ℕ → ℕ → Option PaneKind
 kind_on_watermark q old new p fired unshown =
     if is_due (window_of p) old new && nat_lt 0 fired then Some OnTime
     else if (int_lt old (p.end +ℤ q.clock.lateness) && int_le (p.end +ℤ q.clock.lateness) new) && nat_lt 0 unshown then Some Final
     else None
 
-abbrev pub firing_of : Place → List Datum → List Datum → Option PaneKind → Option Firing
-firing_of p all fired None = None
-firing_of p all fired (Some kind) = Some (record { kind = kind; place = p; contents = all; fired = fired })
+abbrev pub firing_of : ℕ → Place → List Datum → List Datum → Option PaneKind → Option Firing
+firing_of turn p all fired None = None
+firing_of turn p all fired (Some kind) = Some (record { turn = turn; kind = kind; place = p; contents = all; fired = fired })
 
 -- what a place with its contents does on the turn of an event, where it is told which records were shown before
 abbrev pub fire : (Datum → Bool) → Query → List Event → Event → Place → List Datum → Option Firing
 fire shown q past (Record key time values) p all =
     let unshown = filter (λ d. not (shown d)) all in
     if list_any (λ d. nat_eq d.turn (length past)) all
-    then firing_of p all (firing_set q.mode all unshown) (kind_on_record q (mark q past) p.end (length unshown))
+    then firing_of (length past) p all (firing_set q.mode all unshown) (kind_on_record q (mark q past) p.end (length unshown))
     else None
-fire shown q past (Watermark time) p all =
+fire shown q past (Watermark source time) p all =
     let unshown = filter (λ d. not (shown d)) all in
     let set = firing_set q.mode all unshown in
-    if is_taken q past (Watermark time)
-    then firing_of p all set (kind_on_watermark q (mark q past) time p (length set) (length unshown))
-    else None
+    firing_of (length past) p all set (kind_on_watermark q (mark q past) (mark q (Watermark source time ∷ past)) p (length set) (length unshown))
 
 -- what fires on a turn, where it is told which records of a place were shown before
 abbrev pub firings_by : (Place → Datum → Bool) → Query → List Event → Event → List Firing

@@ -13,7 +13,7 @@ use Rattle.wsm_semantics.specs.Firings.{Firing, firings}
 use Rattle.wsm_semantics.specs.Relation.{turn_rows}
 use Rattle.wsm_semantics.specs.Lines.{Row, events}
 use Rattle.wsm_semantics.specs.Replay.{State, after, fired_by, turn_rows_by, state}
-use Rattle.wsm_semantics.specs.Rows.{total, count, base, with_lateness, a, b, w}
+use Rattle.wsm_semantics.specs.Rows.{total, count, base, with_lateness, from_window, two_sources, a, b, w, w_of}
 
 -- what is kept after an event, what it fired and the rows of its turn
 abbrev Stage : Type 0
@@ -118,3 +118,34 @@ joined_parts_are_lost = refl
 
 joined_parts_fire_early : Agree (record having { shape = Session (pos 30); late = 0 }) (a 0 1 ∷ a 1 1 ∷ a 40 1 ∷ a 41 1 ∷ a 20 1 ∷ a 21 1 ∷ w 71 ∷ [])
 joined_parts_fire_early = refl
+
+-- ---- lateness from a window's end, and two sources
+
+live_windows_alone : Agree (from_window 10 (record base { shape = Sliding (pos 60) (pos 25); early = 1; late = 1 })) (a 30 1 ∷ w 45 ∷ a 5 1 ∷ a 5 2 ∷ w 69 ∷ b 20 1 ∷ a 10 1 ∷ w 70 ∷ a 10 1 ∷ w 200 ∷ [])
+live_windows_alone = refl
+
+held_back_by_a_source : Agree (two_sources (record base { late = 1 })) (a 5 7 ∷ w_of 0 90 ∷ a 50 3 ∷ w_of 1 60 ∷ a 51 1 ∷ w_of 1 60 ∷ w_of 1 80 ∷ w_of 0 130 ∷ b 75 1 ∷ w_of 1 140 ∷ [])
+held_back_by_a_source = refl
+
+gained_at_a_rise : Agree (two_sources (record having { form = form.Istream; early = 1 })) (a 5 7 ∷ w_of 0 90 ∷ a 50 3 ∷ w_of 1 60 ∷ b 55 4 ∷ w_of 0 95 ∷ w_of 1 80 ∷ w_of 1 200 ∷ w_of 0 300 ∷ [])
+gained_at_a_rise = refl
+
+-- ---- RETRACTING
+
+retracting : Agree (record having { mode = mode.Retracting }) two_windows
+retracting = refl
+
+retracting_early : Agree (record having { mode = mode.Retracting; early = 1; late = 1 }) (a 5 1 ∷ a 6 2 ∷ w 60 ∷ a 7 3 ∷ w 160 ∷ [])
+retracting_early = refl
+
+retracting_sessions : Agree (record having { shape = Session (pos 30); mode = mode.Retracting; late = 0 }) (a 0 2 ∷ a 40 2 ∷ b 5 2 ∷ w 70 ∷ a 20 4 ∷ w 170 ∷ [])
+retracting_sessions = refl
+
+retracting_parts : Agree (record having { shape = Session (pos 30); mode = mode.Retracting; early = 1; late = 1 }) (a 0 2 ∷ a 40 2 ∷ a 20 4 ∷ w 75 ∷ [])
+retracting_parts = refl
+
+retracting_live_windows : Agree (from_window 10 (record base { shape = Sliding (pos 60) (pos 25); mode = mode.Retracting; late = 1 })) (w 45 ∷ a 5 1 ∷ w 60 ∷ a 30 2 ∷ w 70 ∷ [])
+retracting_live_windows = refl
+
+retracting_at_a_rise : Agree (two_sources (record base { mode = mode.Retracting })) (a 5 7 ∷ w_of 0 90 ∷ w_of 1 60 ∷ a 55 1 ∷ w_of 0 95 ∷ w_of 1 75 ∷ [])
+retracting_at_a_rise = refl

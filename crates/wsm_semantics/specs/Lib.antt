@@ -1,7 +1,10 @@
 pub mod Query
 pub mod Sessions
 pub mod Panes
+pub mod LiveRecords
 pub mod Firings
+pub mod StandingFirings
+pub mod Retractions
 pub mod Relation
 pub mod Lines
 pub mod Text
@@ -12,6 +15,7 @@ pub mod HeldRecords
 pub mod Steps
 pub mod FiringSets
 pub mod HeldBounds
+pub mod LastingRows
 pub mod Order
 pub mod Rows
 pub mod KeptRows

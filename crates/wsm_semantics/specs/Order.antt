@@ -1,46 +1,43 @@
--- The law of order: where the events before the first accepted watermark, or between two, come in
--- another order, each with its verdict, each watermark fires the same on time, with the same rows. That
--- rows don't depend on the order of arrival is the Dataflow Model's aim (Akidau et al. 2015); the
--- verdicts, the triggers and so the conditions are this project's own.
-use Rattle.std.specs.Prelude.{◌≡◌, ℕ, Bool, true, false, ◌&&◌, List, [], ◌∷◌, filter, filter_map, map, ℤ, IsPermutation, Option, is_none, if◌then◌else◌}
+-- The law of order: where the events before the first rise of the watermark, or between two, come in
+-- another order, each with its verdict, each rise fires the same on time, with the same rows. These
+-- events are records, and watermarks that other sources hold back. That rows don't depend on the order
+-- of arrival is the Dataflow Model's aim (Akidau et al. 2015); the verdicts, the triggers and so the
+-- conditions are this project's own.
+use Rattle.std.specs.Prelude.{◌≡◌, ℕ, Bool, true, false, List, [], ◌∷◌, filter, filter_map, map, ℤ, IsPermutation, Option, if◌then◌else◌}
 use Rattle.wsm_record.specs.declared.event.Value.{Value}
 use Rattle.wsm_record.specs.declared.words.Mode.{Mode}
-use Rattle.wsm_record.specs.declared.words.Mode.TheVariants.{Discarding, Accumulating}
-use Rattle.wsm_record.specs.Event.{Event, Record, Watermark}
+use Rattle.wsm_record.specs.declared.words.Mode.TheVariants.{Discarding, Accumulating, Retracting}
+use Rattle.wsm_record.specs.Event.{Event}
 use Rattle.wsm_windows.specs.declared.window.PaneKind.{PaneKind}
 use Rattle.wsm_windows.specs.declared.window.PaneKind.TheVariants.{Early, OnTime, Late, Final}
 use Rattle.wsm_windows.specs.declared.window.Shape.{Shape}
 use Rattle.wsm_windows.specs.declared.window.Shape.TheVariants.{Fixed, Sliding, Session}
 use Rattle.wsm_admission.specs.declared.verdict.Refusal.{Refusal}
-use Rattle.wsm_semantics.specs.Query.{Datum, Query, verdict_on, is_taken}
+use Rattle.wsm_semantics.specs.Query.{Datum, Query, mark, raises, verdict_on}
 use Rattle.wsm_semantics.specs.Firings.{Firing, firings, row_of}
 
 -- ---- histories in another order
 
--- an event and its verdict
+-- an event, its verdict, and whether it raises the watermark
 abbrev pub Judged : Type 0
-Judged = Event × Option Refusal
+Judged = Event × Option Refusal × Bool
 
 abbrev pub judged : Query → List Event → List Judged
 judged q [] = []
-judged q (e ∷ past) = (e, verdict_on q past e) ∷ judged q past
+judged q (e ∷ past) = (e, verdict_on q past e, raises q past e) ∷ judged q past
 
-abbrev pub is_watermark : Event → Bool
-is_watermark (Record key time values) = false
-is_watermark (Watermark time) = true
+-- it raises the watermark
+abbrev pub is_rise : Judged → Bool
+is_rise e = e.2
 
--- an accepted watermark
-abbrev pub is_accepted : Judged → Bool
-is_accepted e = is_watermark e.0 && is_none e.1
-
--- the same events with the same verdicts, where none crosses an accepted watermark
+-- the same events with the same verdicts, where none crosses a rise of the watermark
 pub data Reordered : List Judged → List Judged → Type 0 where
   Done : Reordered [] []
   Next : (e : Judged) → (xs ys : List Judged) → Reordered xs ys → Reordered (e ∷ xs) (e ∷ ys)
-  Swap : (a b : Judged) → (xs : List Judged) → is_accepted a ≡ false → is_accepted b ≡ false → Reordered (a ∷ b ∷ xs) (b ∷ a ∷ xs)
+  Swap : (a b : Judged) → (xs : List Judged) → is_rise a ≡ false → is_rise b ≡ false → Reordered (a ∷ b ∷ xs) (b ∷ a ∷ xs)
   Then : (xs ys zs : List Judged) → Reordered xs ys → Reordered ys zs → Reordered xs zs
 
--- two histories of the same events, in another order between accepted watermarks, each with its verdict
+-- two histories of the same events, in another order between rises, each with its verdict
 abbrev pub Permuted : Query → List Event → List Event → Type 0
 Permuted q past other = Reordered (judged q past) (judged q other)
 
@@ -66,15 +63,14 @@ is_on_time OnTime = true
 is_on_time Late = false
 is_on_time Final = false
 
--- the on-time firings of a watermark after a history
-abbrev pub on_time : Query → List Event → ℤ → List Firing
-on_time q past time = filter (λ f. is_on_time f.kind) (firings q past (Watermark time))
+-- the on-time firings of an event after a history
+abbrev pub on_time : Query → List Event → Event → List Firing
+on_time q past e = filter (λ f. is_on_time f.kind) (firings q past e)
 
--- the accepted watermarks of a history, each with the events before it, the newest first
-abbrev pub accepted : Query → List Event → List (List Event × ℤ)
-accepted q [] = []
-accepted q (Record key time values ∷ past) = accepted q past
-accepted q (Watermark time ∷ past) = if is_taken q past (Watermark time) then (past, time) ∷ accepted q past else accepted q past
+-- the events of a history that raise the watermark, each with those before it, the newest first
+abbrev pub all_rises : Query → List Event → List (List Event × Event)
+all_rises q [] = []
+all_rises q (e ∷ past) = if raises q past e then (past, e) ∷ all_rises q past else all_rises q past
 
 -- two lists that are related pair by pair
 abbrev pub InPairs : {A B : Type 0} → (A → B → Type 0) → List A → List B → Type 0
@@ -90,22 +86,24 @@ pub record SameFiring (f g : Firing) : Type 0 where
   pub contents : SameBag f.contents g.contents
   pub fired : SameBag f.fired g.fired
 
--- two accepted watermarks of one time that fire the same on time, with the same rows
-pub record SameOnTime (q : Query) (a b : List Event × ℤ) : Type 0 where
-  pub time : a.1 ≡ b.1
+-- two rises by one event to one mark that fire the same on time, with the same rows
+pub record SameOnTime (q : Query) (a b : List Event × Event) : Type 0 where
+  pub event : a.1 ≡ b.1
+  pub mark : mark q (a.1 ∷ a.0) ≡ mark q (b.1 ∷ b.0)
   pub firings : InPairs SameFiring (on_time q a.0 a.1) (on_time q b.0 b.1)
   pub rows : filter_map (row_of q) (on_time q a.0 a.1) ≡ filter_map (row_of q) (on_time q b.0 b.1)
 
 -- ---- the law
 
--- triggers that leave what fires on time free of the order: accumulating, any; discarding, none early,
--- and for sessions none late either
+-- triggers that leave what fires on time free of the order: accumulating and retracting, any;
+-- discarding, none early, and for sessions none late either
 abbrev pub IsOrderFree : Mode → Shape → ℕ → ℕ → Type 0
 IsOrderFree Accumulating shape early late = Unit {0}
+IsOrderFree Retracting shape early late = Unit {0}
 IsOrderFree Discarding (Fixed size) early late = early ≡ 0
 IsOrderFree Discarding (Sliding size period) early late = early ≡ 0
 IsOrderFree Discarding (Session gap) early late = (early ≡ 0) × (late ≡ 0)
 
--- in another order, each accepted watermark fires the same on time, with the same rows
+-- in another order, each rise fires the same on time, with the same rows
 abbrev pub OrderLaw : Query → Type 0
-OrderLaw q = (past other : List Event) → Permuted q past other → InPairs (SameOnTime q) (accepted q past) (accepted q other)
+OrderLaw q = (past other : List Event) → Permuted q past other → InPairs (SameOnTime q) (all_rises q past) (all_rises q other)

@@ -11,6 +11,7 @@ use Rattle.wsm_record.specs.Schema.{Int as Between}
 use Rattle.wsm_windows.specs.declared.window.PaneKind.TheVariants.{OnTime}
 use Rattle.wsm_windows.specs.declared.window.Shape.TheVariants.{Fixed, Session}
 use Rattle.wsm_windows.specs.Windows.{window}
+use Rattle.wsm_admission.specs.declared.clock.LateBy.TheVariants as late_by
 use Rattle.wsm_semantics.specs.declared.out_row.OutRow.{OutRow}
 use Rattle.wsm_semantics.specs.declared.out_row.OutRow.TheVariants.{Pane}
 use Rattle.wsm_semantics.specs.Query.{Datum, Query}
@@ -21,7 +22,7 @@ abbrev a : ℕ → ℕ → Event
 a time n = Record (Some 0) (pos time) (Int (pos n) ∷ [])
 
 abbrev w : ℕ → Event
-w time = Watermark (pos time)
+w time = Watermark (Some 0) (pos time)
 
 abbrev total : List Datum → ℤ
 total [] = pos 0
@@ -35,8 +36,8 @@ total (d ∷ ds) = total ds +ℤ first d.values
 -- SELECT SUM(n) WINDOW FIXED 60 DISCARDING EMIT PANES;
 abbrev base : Query
 base = record {
-  clock = record { start = pos 0; skew = pos 1000; lateness = pos 100; records = pos 1000 };
-  declared = record { keys = codes "a" ∷ []; fields = record { name = codes "n"; type = Between (pos 0) (pos 100) } ∷ [] };
+  clock = record { start = pos 0; skew = pos 1000; lateness = pos 100; late = late_by.Event; records = pos 1000; sources = 1 };
+  declared = record { keys = codes "a" ∷ []; fields = record { name = codes "n"; type = Between (pos 0) (pos 100) } ∷ []; sources = [] };
   shape = Fixed (pos 60);
   mode = mode.Discarding;
   early = 0;
@@ -51,7 +52,7 @@ sessions = record base { shape = Session (pos 30) }
 
 -- the rows on time of a watermark after a history
 abbrev rows : Query → List Event → ℕ → List OutRow
-rows q past time = filter_map (row_of q) (on_time q (reverse past) (pos time))
+rows q past time = filter_map (row_of q) (on_time q (reverse past) (w time))
 
 -- a row on time of the window from start to end, with its sum
 abbrev sums : ℕ → ℕ → ℕ → List OutRow
@@ -86,3 +87,18 @@ without_late_the_same = refl
 accumulating_the_same : rows (record sessions { mode = mode.Accumulating; early = 1; late = 1 }) (w 40 ∷ a 0 1 ∷ a 20 2 ∷ []) 60
     ≡ rows (record sessions { mode = mode.Accumulating; early = 1; late = 1 }) (w 40 ∷ a 20 2 ∷ a 0 1 ∷ []) 60
 accumulating_the_same = refl
+
+-- ---- two sources
+
+abbrev w_of : ℕ → ℕ → Event
+w_of source time = Watermark (Some source) (pos time)
+
+abbrev two : Query
+two = record base { clock = record base.clock { sources = 2 }; declared = record base.declared { sources = codes "x" ∷ codes "y" ∷ [] } }
+
+-- a watermark that the other source holds back moves before a record
+a_watermark_comes_sooner : Permuted two (reverse (a 5 1 ∷ w_of 0 90 ∷ w_of 1 60 ∷ [])) (reverse (w_of 0 90 ∷ a 5 1 ∷ w_of 1 60 ∷ []))
+a_watermark_comes_sooner = Next _ _ _ (Swap _ _ _ refl refl)
+
+it_fires_the_same : filter_map (row_of two) (on_time two (reverse (a 5 1 ∷ w_of 0 90 ∷ [])) (w_of 1 60)) ≡ sums 0 60 1
+it_fires_the_same = refl

@@ -1,6 +1,6 @@
 -- What a query means, and which records it selects. A history is a list of events, the newest
 -- first; nothing is kept beside it. The clauses of a query are this project's own.
-use Rattle.std.specs.Prelude.{ℕ, Bool, ◌&&◌, List, [], ◌∷◌, ◌++◌, length, ℤ, Option, Some, None, is_none, if◌then◌else◌}
+use Rattle.std.specs.Prelude.{◌≡◌, ℕ, Bool, ◌&&◌, List, [], ◌∷◌, ◌++◌, length, ℤ, Option, Some, None, is_none, if◌then◌else◌}
 use Rattle.wsm_record.specs.declared.event.Value.{Value}
 use Rattle.wsm_record.specs.declared.cell.Cell.{Cell}
 use Rattle.wsm_record.specs.declared.words.Form.{Form}
@@ -8,13 +8,16 @@ use Rattle.wsm_record.specs.declared.words.Mode.{Mode}
 use Rattle.wsm_record.specs.Event.{Event, Record, Watermark}
 use Rattle.wsm_record.specs.Schema.{Declared}
 use Rattle.wsm_windows.specs.declared.window.Shape.{Shape}
+use Rattle.wsm_windows.specs.declared.window.Shape.TheVariants.{Session}
 use Rattle.wsm_admission.specs.declared.clock.Clock.{Clock}
+use Rattle.wsm_admission.specs.declared.clock.LateBy.TheVariants as late_by
 use Rattle.wsm_admission.specs.declared.verdict.Refusal.{Refusal}
-use Rattle.wsm_admission.specs.Clock.{watermark_of, verdict}
+use Rattle.wsm_admission.specs.Clock.{watermark_of, rises, verdict}
 
--- a selected record: how many events came before it, and what it says
+-- a selected record: how many events came before it, the watermark then, and what it says
 pub record Datum : Type 0 where
   pub turn : ℕ
+  pub mark : ℤ
   pub key : ℕ
   pub time : ℤ
   pub values : List Value
@@ -31,9 +34,17 @@ pub record Query : Type 0 where
   pub selects : ℕ → List Value → Bool  -- whether WHERE is true of a key and values
   pub row : ℕ → List Datum → Option (List Cell)  -- the columns of a key and records, where HAVING is true
 
+-- a record of a session is late by its own time: a session's end moves
+abbrev pub SessionsByEvent : Query → Type 0
+SessionsByEvent q = (gap : ℤ) → q.shape ≡ Session gap → q.clock.late ≡ late_by.Event
+
 -- the watermark after a history
 abbrev pub mark : Query → List Event → ℤ
 mark q past = watermark_of q.clock past
+
+-- an event after a history raises the watermark
+abbrev pub raises : Query → List Event → Event → Bool
+raises q past e = rises q.clock past e
 
 -- the verdict on an event after a history
 abbrev pub verdict_on : Query → List Event → Event → Option Refusal
@@ -47,9 +58,9 @@ abbrev pub selection_of : Query → List Event → Event → List Datum
 selection_of q past (Record None time values) = []
 selection_of q past (Record (Some key) time values) =
     if is_taken q past (Record (Some key) time values) && q.selects key values
-    then record { turn = length past; key = key; time = time; values = values } ∷ []
+    then record { turn = length past; mark = mark q past; key = key; time = time; values = values } ∷ []
     else []
-selection_of q past (Watermark time) = []
+selection_of q past (Watermark source time) = []
 
 -- the selected records of a history, the newest first
 abbrev pub selected : Query → List Event → List Datum

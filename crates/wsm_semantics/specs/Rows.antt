@@ -13,8 +13,9 @@ use Rattle.wsm_windows.specs.declared.window.PaneKind.{PaneKind}
 use Rattle.wsm_windows.specs.declared.window.PaneKind.TheVariants.{Early, OnTime, Late, Final}
 use Rattle.wsm_windows.specs.declared.window.Shape.TheVariants.{Fixed, Sliding, Session}
 use Rattle.wsm_windows.specs.Windows.{window}
+use Rattle.wsm_admission.specs.declared.clock.LateBy.TheVariants as late_by
 use Rattle.wsm_admission.specs.declared.verdict.Refusal.TheVariants as refusal
-use Rattle.wsm_semantics.specs.declared.out_row.OutRow.TheVariants.{Pane, Istream, Dstream, Rstream}
+use Rattle.wsm_semantics.specs.declared.out_row.OutRow.TheVariants.{Pane, Retract, Istream, Dstream, Rstream}
 use Rattle.wsm_semantics.specs.Query.{Datum, Query}
 use Rattle.wsm_semantics.specs.Lines.{Row, Line, Out, Faulty, Refused, End, all_lines}
 
@@ -33,10 +34,11 @@ count ds = cells.Int (pos (length ds))
 -- SELECT COUNT(*), SUM(n) WINDOW FIXED 60 ACCUMULATING EMIT PANES;
 abbrev pub base : Query
 base = record {
-  clock = record { start = pos 0; skew = pos 100; lateness = pos 10; records = pos 1000 };
+  clock = record { start = pos 0; skew = pos 100; lateness = pos 10; late = late_by.Event; records = pos 1000; sources = 1 };
   declared = record {
     keys = codes "a" ∷ codes "b" ∷ [];
     fields = record { name = codes "n"; type = Between (pos 0) (pos 100) } ∷ [];
+    sources = [];
   };
   shape = Fixed (pos 60);
   mode = mode.Accumulating;
@@ -61,14 +63,20 @@ a time n = Ok (Record (Some 0) (pos time) (Int (pos n) ∷ []))
 abbrev pub b : ℕ → ℕ → Row
 b time n = Ok (Record (Some 1) (pos time) (Int (pos n) ∷ []))
 
+abbrev pub w_of : ℕ → ℕ → Row
+w_of source time = Ok (Watermark (Some source) (pos time))
+
 abbrev pub w : ℕ → Row
-w time = Ok (Watermark (pos time))
+w time = w_of 0 time
 
 abbrev ints : List ℕ → List Cell
 ints ns = map (λ n. cells.Int (pos n)) ns
 
 abbrev pane : PaneKind → ℕ → ℕ → ℕ → List ℕ → Line
 pane kind key start end columns = Out (Pane kind key (window (pos start) (pos end)) (ints columns))
+
+abbrev retract : ℕ → ℕ → ℕ → List ℕ → Line
+retract key start end columns = Out (Retract key (window (pos start) (pos end)) (ints columns))
 
 abbrev written : Query → List Row → List Line
 written q rows = all_lines q (reverse rows)
@@ -167,6 +175,82 @@ late_and_final_panes_of_unshown_records :
     ≡ pane OnTime 0 0 60 (1 ∷ 1 ∷ []) ∷ pane Late 0 0 60 (2 ∷ 5 ∷ []) ∷ pane Final 0 0 60 (1 ∷ 4 ∷ []) ∷ End 6 4 0 0 3 ∷ []
 late_and_final_panes_of_unshown_records = refl
 
+a_later_firing_withdraws_an_earlier :
+    written (record base { mode = mode.Retracting; early = 2 }) (a 1 2 ∷ a 2 3 ∷ w 60 ∷ [])
+    ≡ pane Early 0 0 60 (2 ∷ 5 ∷ []) ∷ retract 0 0 60 (2 ∷ 5 ∷ []) ∷ pane OnTime 0 0 60 (2 ∷ 5 ∷ []) ∷ End 3 2 0 0 2 ∷ []
+a_later_firing_withdraws_an_earlier = refl
+
+a_join_withdraws_what_stood_for_both :
+    written (with_lateness 100 (record counting { shape = Session (pos 30); mode = mode.Retracting })) (a 0 1 ∷ a 40 1 ∷ w 70 ∷ a 20 1 ∷ w 170 ∷ [])
+    ≡ pane OnTime 0 0 30 (1 ∷ []) ∷ pane OnTime 0 40 70 (1 ∷ []) ∷ retract 0 0 30 (1 ∷ []) ∷ retract 0 40 70 (1 ∷ []) ∷ pane Final 0 0 70 (3 ∷ []) ∷ End 5 3 0 0 3 ∷ []
+a_join_withdraws_what_stood_for_both = refl
+
+-- SELECT COUNT(*) HAVING SUM(n) < 5
+having_false_withdraws_too :
+    written (record base { mode = mode.Retracting; early = 1; row = λ key ds. if int_lt (total ds) (pos 5) then Some (count ds ∷ []) else None }) (a 1 2 ∷ a 2 3 ∷ w 60 ∷ [])
+    ≡ pane Early 0 0 60 (1 ∷ []) ∷ retract 0 0 60 (1 ∷ []) ∷ End 3 2 0 0 3 ∷ []
+having_false_withdraws_too = refl
+
+a_pane_is_withdrawn_as_it_is_dropped :
+    written (record base { mode = mode.Retracting }) (a 5 1 ∷ w 60 ∷ a 55 2 ∷ w 70 ∷ w 80 ∷ [])
+    ≡ pane OnTime 0 0 60 (1 ∷ 1 ∷ []) ∷ retract 0 0 60 (1 ∷ 1 ∷ []) ∷ pane Final 0 0 60 (2 ∷ 3 ∷ []) ∷ End 5 2 0 0 2 ∷ []
+a_pane_is_withdrawn_as_it_is_dropped = refl
+
+what_stood_for_one_part_stands :
+    written (with_lateness 100 (record counting { shape = Session (pos 30); mode = mode.Retracting })) (a 0 1 ∷ w 30 ∷ a 40 1 ∷ a 20 1 ∷ w 70 ∷ [])
+    ≡ pane OnTime 0 0 30 (1 ∷ []) ∷ retract 0 0 30 (1 ∷ []) ∷ pane OnTime 0 0 70 (3 ∷ []) ∷ End 5 3 0 0 2 ∷ []
+what_stood_for_one_part_stands = refl
+
+a_joined_session_fires_at_once :
+    written (with_lateness 100 (record counting { shape = Session (pos 30); mode = mode.Retracting; late = 1 })) (a 0 1 ∷ a 40 1 ∷ w 70 ∷ a 20 1 ∷ [])
+    ≡ pane OnTime 0 0 30 (1 ∷ []) ∷ pane OnTime 0 40 70 (1 ∷ []) ∷ retract 0 0 30 (1 ∷ []) ∷ retract 0 40 70 (1 ∷ []) ∷ pane Late 0 0 70 (3 ∷ []) ∷ End 4 3 0 0 3 ∷ []
+a_joined_session_fires_at_once = refl
+
 windows_far_apart :
     written base (a 5 1 ∷ w 80 ∷ a 180 2 ∷ w 250 ∷ []) ≡ pane OnTime 0 0 60 (1 ∷ 1 ∷ []) ∷ pane OnTime 0 180 240 (1 ∷ 2 ∷ []) ∷ End 4 2 0 0 2 ∷ []
 windows_far_apart = refl
+
+-- ---- lateness from a window's end
+
+-- LATENESS l FROM WINDOW
+abbrev pub from_window : ℕ → Query → Query
+from_window l q = record q { clock = record q.clock { lateness = pos l; late = late_by.Window q.shape } }
+
+a_record_is_late_once_its_window_is_dropped :
+    written (from_window 10 base) (w 65 ∷ a 5 4 ∷ w 70 ∷ a 6 1 ∷ []) ≡ pane Final 0 0 60 (1 ∷ 4 ∷ []) ∷ End 4 1 1 0 1 ∷ []
+a_record_is_late_once_its_window_is_dropped = refl
+
+a_record_enters_its_live_windows_alone :
+    written (from_window 10 (record base { shape = Sliding (pos 60) (pos 25) })) (w 45 ∷ a 5 1 ∷ w 70 ∷ []) ≡ pane OnTime 0 0 60 (1 ∷ 1 ∷ []) ∷ End 3 1 0 0 1 ∷ []
+a_record_enters_its_live_windows_alone = refl
+
+-- ---- two sources
+
+-- SOURCES x, y
+abbrev pub two_sources : Query → Query
+two_sources q = record q { clock = record q.clock { sources = 2 }; declared = record q.declared { sources = codes "x" ∷ codes "y" ∷ [] } }
+
+the_least_watermark_holds :
+    written (two_sources base) (a 5 7 ∷ w_of 0 90 ∷ a 50 3 ∷ w_of 1 60 ∷ Ok (Watermark None (pos 70)) ∷ w_of 1 60 ∷ w_of 1 80 ∷ [])
+    ≡ pane OnTime 0 0 60 (2 ∷ 10 ∷ []) ∷ Refused 5 refusal.UnknownSource ∷ Refused 6 refusal.NotRising ∷ End 7 2 0 2 1 ∷ []
+the_least_watermark_holds = refl
+
+-- the rows of a stream have the new mark, which isn't that of the row
+streams_write_where_the_watermark_rises :
+    written (with_lateness 0 (two_sources (record counting { form = form.Istream }))) (a 1 1 ∷ w_of 1 60 ∷ b 2 1 ∷ w_of 0 70 ∷ w_of 0 80 ∷ w_of 1 75 ∷ [])
+    ≡ Out (Istream (pos 60) (ints (1 ∷ []))) ∷ Out (Istream (pos 60) (ints (1 ∷ []))) ∷ End 6 2 0 0 2 ∷ []
+streams_write_where_the_watermark_rises = refl
+
+-- ---- retracting panes, with lateness from a window's end and with two sources
+
+-- a record is too late for one of its windows, and what stood for another is withdrawn
+a_record_withdraws_in_its_live_windows_alone :
+    written (from_window 10 (record base { shape = Sliding (pos 60) (pos 25); mode = mode.Retracting })) (w 45 ∷ a 5 1 ∷ w 60 ∷ a 30 2 ∷ w 70 ∷ [])
+    ≡ pane OnTime 0 0 60 (1 ∷ 1 ∷ []) ∷ retract 0 0 60 (1 ∷ 1 ∷ []) ∷ pane Final 0 0 60 (2 ∷ 3 ∷ []) ∷ End 5 2 0 0 2 ∷ []
+a_record_withdraws_in_its_live_windows_alone = refl
+
+-- a watermark that the other source holds back withdraws nothing
+panes_are_withdrawn_where_the_watermark_rises :
+    written (two_sources (record base { mode = mode.Retracting })) (a 5 7 ∷ w_of 0 90 ∷ w_of 1 60 ∷ a 55 1 ∷ w_of 0 95 ∷ w_of 1 75 ∷ [])
+    ≡ pane OnTime 0 0 60 (1 ∷ 7 ∷ []) ∷ retract 0 0 60 (1 ∷ 7 ∷ []) ∷ pane Final 0 0 60 (2 ∷ 8 ∷ []) ∷ End 6 2 0 0 2 ∷ []
+panes_are_withdrawn_where_the_watermark_rises = refl

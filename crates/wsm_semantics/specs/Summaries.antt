@@ -2,19 +2,20 @@
 -- yet, what those that its next firing is computed over are folded to, and the row that stands for
 -- it. A plan runs a query's clauses on what is folded. Windows are assigned to a record and merged at
 -- its key (Akidau et al. 2015); which row stands is this project's own rule.
-use Rattle.std.specs.Prelude.{◌≡◌, ℕ, ◌+◌, Bool, not, List, [], ◌∷◌, map, length, filter, filter_map, ℤ, ◌+ℤ◌, Option, Some, None, option_map, if◌then◌else◌}
+use Rattle.std.specs.Prelude.{◌≡◌, ℕ, ◌+◌, Bool, not, List, [], ◌∷◌, ◌++◌, map, length, filter, filter_map, ℤ, ◌+ℤ◌, Option, Some, None, is_some, option_map, if◌then◌else◌}
 use Rattle.std.specs.Option.{option_and_then}
 use Rattle.std.specs.Int.{int_max, int_min}
 use Rattle.std.specs.FinMap.Entries.{put, find, where_key}
 use Rattle.wsm_record.specs.declared.event.Value.{Value}
 use Rattle.wsm_record.specs.declared.cell.Cell.{Cell}
 use Rattle.wsm_record.specs.declared.words.Mode.{Mode}
-use Rattle.wsm_record.specs.declared.words.Mode.TheVariants.{Discarding, Accumulating}
+use Rattle.wsm_record.specs.Modes.{is_over_all, retracts}
 use Rattle.wsm_windows.specs.declared.window.PaneKind.{PaneKind}
 use Rattle.wsm_windows.specs.declared.window.Window.{Window}
 use Rattle.wsm_windows.specs.declared.window.Shape.{Shape}
 use Rattle.wsm_windows.specs.declared.window.Shape.TheVariants.{Fixed, Sliding, Session}
-use Rattle.wsm_windows.specs.Windows.{window, windows_of}
+use Rattle.wsm_windows.specs.Windows.{window}
+use Rattle.wsm_windows.specs.Life.{live_windows_of}
 use Rattle.wsm_windows.specs.declared.place.Place.{Place}
 use Rattle.wsm_windows.specs.Places.{place_cmp, at, window_of}
 use Rattle.wsm_semantics.specs.declared.out_row.OutRow.{OutRow}
@@ -64,13 +65,11 @@ standing_joined _ _ = Joined
 
 -- the number of records that the next firing is computed over
 abbrev pub fired_count : {X : Type 0} → Mode → Pane X → ℕ
-fired_count Accumulating h = h.count
-fired_count Discarding h = h.unshown
+fired_count mode h = if is_over_all mode then h.count else h.unshown
 
 -- what a firing leaves of what was folded
 abbrev pub left_folded : {X : Type 0} → Mode → Option X → Option X
-left_folded Accumulating x = x
-left_folded Discarding x = None
+left_folded mode x = if is_over_all mode then x else None
 
 -- the session of a record and of those that it is linked to
 abbrev pub session_with : {X : Type 0} → ℤ → Datum → List (Place × Pane X) → Place
@@ -83,7 +82,7 @@ linked gap d panes = filter (λ e. is_linked gap d e.0) panes
 
 -- what a pane fires as, by a record that is in it or not, and by a watermark
 abbrev pub kind_by_record : {X : Type 0} → Query → ℤ → Datum → Place → Pane X → Option PaneKind
-kind_by_record q w d p h = if is_there p d then kind_on_record q w p.end h.unshown else None
+kind_by_record q w d p h = if is_there q p d then kind_on_record q w p.end h.unshown else None
 
 abbrev pub kind_by_watermark : {X : Type 0} → Query → ℤ → ℤ → Place → Pane X → Option PaneKind
 kind_by_watermark q old new p h = kind_on_watermark q old new p (fired_count q.mode h) h.unshown
@@ -97,12 +96,39 @@ fires q kind panes = filter_map (λ e. fired_of q.mode e.0 e.1 (kind e.0 e.1)) p
 
 abbrev pub standing_row : Standing → Option (List Cell)
 standing_row Unfired = None
-standing_row (Row columns) = columns
+standing_row (Row window columns) = columns
 standing_row Joined = None
 
 -- the relation that panes stand for
 abbrev pub relation_of : {X : Type 0} → List (Place × Pane X) → List (List Cell)
 relation_of panes = sorted_rows (filter_map (λ e. standing_row e.1.stands) panes)
+
+-- the window of a firing is kept where panes retract alone, as it is to be withdrawn by it
+abbrev pub kept_window : Mode → Window → Option Window
+kept_window mode w = if retracts mode then Some w else None
+
+-- what was written of the firing that stands for a pane, where its window is kept
+abbrev pub written_by : Place → Standing → Option (Place × List Cell)
+written_by p Unfired = None
+written_by p (Row (Some window) columns) = option_map (λ cells. (at p.key window, cells)) columns
+written_by p (Row None columns) = None
+written_by p Joined = None
+
+-- a join withdraws what stood for its parts where nothing stands for them joined
+abbrev pub parted : {X : Type 0} → Standing → List (Place × Pane X) → List (Place × List Cell)
+parted Joined parts = filter_map (λ e. written_by e.0 e.1.stands) parts
+parted _ parts = []
+
+abbrev pub parted_by : {X : Type 0} → List (Place × Pane X) → Option (Pane X) → List (Place × List Cell)
+parted_by parts None = []
+parted_by parts (Some h) = parted h.stands parts
+
+-- what panes withdraw as they fire
+abbrev pub withdrawn_firing : {X : Type 0} → (Place → Pane X → Option PaneKind) → List (Place × Pane X) → List (Place × List Cell)
+withdrawn_firing kind panes = filter_map (λ e. if is_some (kind e.0 e.1) then written_by e.0 e.1.stands else None) panes
+
+abbrev pub withdrawn_by_watermark : {X : Type 0} → Query → ℤ → ℤ → List (Place × Pane X) → List (Place × List Cell)
+withdrawn_by_watermark q old new panes = withdrawn_firing (kind_by_watermark q old new) panes
 
 module _ {X : Type 0} (plan : Plan X) where
   abbrev pub with_folded : Datum → Option X → X
@@ -149,26 +175,36 @@ module _ {X : Type 0} (plan : Plan X) where
       let parts = linked gap d panes in
       put place_cmp (session_with gap d parts) (with_record d (joined_all parts)) (where_key place_cmp (λ p. not (is_linked gap d p)) panes)
 
-  abbrev pub entered : Shape → Datum → List (Place × Pane X) → List (Place × Pane X)
-  entered (Fixed size) d panes = assigned d (windows_of size size d.time) panes
-  entered (Sliding size period) d panes = assigned d (windows_of size period d.time) panes
-  entered (Session gap) d panes = merged_session gap d panes
+  -- a record put into the panes of its windows that are live, or into its session
+  abbrev pub entered : Shape → ℤ → Datum → List (Place × Pane X) → List (Place × Pane X)
+  entered (Fixed size) lateness d panes = assigned d (live_windows_of (Fixed size) d.time lateness d.mark) panes
+  entered (Sliding size period) lateness d panes = assigned d (live_windows_of (Sliding size period) d.time lateness d.mark) panes
+  entered (Session gap) lateness d panes = merged_session gap d panes
 
   -- a pane that fires has shown all of its records, and its row stands
   abbrev pub fired_pane : Mode → Place → Option PaneKind → Pane X → Pane X
   fired_pane mode p None h = h
   fired_pane mode p (Some kind) h =
-      record h { unshown = 0; folded = left_folded mode h.folded; stands = Row (columns p.key (fired_count mode h) h.folded) }
+      record h { unshown = 0; folded = left_folded mode h.folded; stands = Row (kept_window mode (window_of p)) (columns p.key (fired_count mode h) h.folded) }
 
   abbrev pub all_fired : Query → (Place → Pane X → Option PaneKind) → List (Place × Pane X) → List (Place × Pane X)
   all_fired q kind panes = map (λ e. (e.0, fired_pane q.mode e.0 (kind e.0 e.1) e.1)) panes
 
-  -- what is kept after a selected record, and after an accepted watermark, at a mark
+  -- what is kept after a selected record, and after a watermark that goes from old to new
   abbrev pub after_record : Query → ℤ → Datum → List (Place × Pane X) → List (Place × Pane X)
-  after_record q w d panes = all_fired q (kind_by_record q w d) (entered q.shape d panes)
+  after_record q w d panes = all_fired q (kind_by_record q w d) (entered q.shape q.clock.lateness d panes)
 
   abbrev pub fired_by_record : Query → ℤ → Datum → List (Place × Pane X) → List (Fired X)
-  fired_by_record q w d panes = fires q (kind_by_record q w d) (entered q.shape d panes)
+  fired_by_record q w d panes = fires q (kind_by_record q w d) (entered q.shape q.clock.lateness d panes)
+
+  -- what a record withdraws as it enters: in sessions, by joining those that it is linked to
+  abbrev pub withdrawn_entering : Shape → Datum → List (Place × Pane X) → List (Place × List Cell)
+  withdrawn_entering (Fixed size) d panes = []
+  withdrawn_entering (Sliding size period) d panes = []
+  withdrawn_entering (Session gap) d panes = let parts = linked gap d panes in parted_by parts (joined_all parts)
+
+  abbrev pub withdrawn_by_record : Query → ℤ → Datum → List (Place × Pane X) → List (Place × List Cell)
+  withdrawn_by_record q w d panes = withdrawn_entering q.shape d panes ++ withdrawn_firing (kind_by_record q w d) (entered q.shape q.clock.lateness d panes)
 
   -- before the drops
   abbrev pub at_watermark : Query → ℤ → ℤ → List (Place × Pane X) → List (Place × Pane X)
@@ -191,17 +227,17 @@ module _ {X : Type 0} (plan : Plan X) where
   folded_of [] = None
   folded_of (d ∷ ds) = Some (with_folded d (folded_of ds))
 
-  abbrev pub standing_of : ℕ → Stands → Standing
-  standing_of key kept.Unfired = Unfired
-  standing_of key (kept.Firing fired) = Row (columns key (length fired) (folded_of fired))
-  standing_of key kept.Joined = Joined
+  abbrev pub standing_of : Mode → ℕ → Stands → Standing
+  standing_of mode key kept.Unfired = Unfired
+  standing_of mode key (kept.Firing window fired) = Row (kept_window mode window) (columns key (length fired) (folded_of fired))
+  standing_of mode key kept.Joined = Joined
 
   abbrev pub pane_of : Mode → ℕ → Kept → Pane X
   pane_of mode key h = record {
     count = length h.all;
     unshown = length h.unshown;
     folded = folded_of (firing_set mode h.all h.unshown);
-    stands = standing_of key h.stands;
+    stands = standing_of mode key h.stands;
   }
 
   -- each held pane with what is kept of its records

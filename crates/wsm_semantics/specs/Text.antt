@@ -9,9 +9,9 @@ use Rattle.wsm_record.specs.Schema.{Declared, enum_names}
 use Rattle.wsm_windows.specs.declared.window.PaneKind.{PaneKind}
 use Rattle.wsm_windows.specs.declared.window.PaneKind.TheVariants as kind
 use Rattle.wsm_admission.specs.declared.verdict.Refusal.{Refusal}
-use Rattle.wsm_admission.specs.declared.verdict.Refusal.TheVariants.{UnknownKey, FieldRange, TimeRange, TooFarAhead, Late, RecordLimit, NotRising}
+use Rattle.wsm_admission.specs.declared.verdict.Refusal.TheVariants.{UnknownKey, FieldRange, TimeRange, TooFarAhead, Late, RecordLimit, NotRising, UnknownSource}
 use Rattle.wsm_semantics.specs.declared.out_row.OutRow.{OutRow}
-use Rattle.wsm_semantics.specs.declared.out_row.OutRow.TheVariants.{Pane, Istream, Dstream, Rstream}
+use Rattle.wsm_semantics.specs.declared.out_row.OutRow.TheVariants.{Pane, Retract, Istream, Dstream, Rstream}
 use Rattle.wsm_semantics.specs.Query.{Query}
 use Rattle.wsm_semantics.specs.Lines.{Row, Line, Out, Faulty, Refused, End, all_lines}
 
@@ -51,10 +51,12 @@ refusal_word TooFarAhead = codes "TooFarAhead"
 refusal_word Late = codes "Late"
 refusal_word RecordLimit = codes "RecordLimit"
 refusal_word NotRising = codes "NotRising"
+refusal_word UnknownSource = codes "UnknownSource"
 
 abbrev pub row_cells : Declared → OutRow → List (List ℕ)
 row_cells s (Pane kind key window columns) =
     codes "pane" ∷ kind_word kind ∷ name_at s.keys key ∷ signed_decimal window.start ∷ signed_decimal window.end ∷ map (cell_text s) columns
+row_cells s (Retract key window columns) = codes "retract" ∷ name_at s.keys key ∷ signed_decimal window.start ∷ signed_decimal window.end ∷ map (cell_text s) columns
 row_cells s (Istream mark columns) = codes "istream" ∷ signed_decimal mark ∷ map (cell_text s) columns
 row_cells s (Dstream mark columns) = codes "dstream" ∷ signed_decimal mark ∷ map (cell_text s) columns
 row_cells s (Rstream mark columns) = codes "rstream" ∷ signed_decimal mark ∷ map (cell_text s) columns

@@ -3,50 +3,67 @@
 
 ghost use Rattle.std.specs.Prelude.{◌≡◌, false, List, ◌++◌, pos, ◌≤ℤ◌, IsPermutation};
 ghost use Rattle.std.specs.List.{AllByRecursion};
-ghost use Rattle.wsm_record.specs.declared.words.Mode.TheVariants.{Discarding};
+ghost use Rattle.wsm_record.specs.declared.words.Mode.TheVariants.{Discarding, Retracting};
+ghost use Rattle.wsm_record.specs.declared.words.Form.TheVariants.{Panes};
 ghost use Rattle.wsm_record.specs.Event.{Event};
 ghost use Rattle.wsm_windows.specs.Windows.{IsShape};
+ghost use Rattle.wsm_admission.specs.declared.clock.LateBy.TheVariants as late_by;
 ghost use Rattle.wsm_admission.specs.Clock.{IsWithinLimits};
-ghost use Rattle.wsm_semantics.specs.Query.{Query};
+ghost use Rattle.wsm_semantics.specs.Query.{Query, SessionsByEvent};
+ghost use Rattle.wsm_semantics.specs.LiveRecords.{AllLive};
 ghost use Rattle.wsm_semantics.specs.Relation.{turn_rows};
 ghost use Rattle.wsm_semantics.specs.Replay.{replayed, state, turn_rows_by};
 ghost use Rattle.wsm_semantics.specs.FiringSets.{FiresOnce};
+ghost use Rattle.wsm_semantics.specs.LastingRows.{AddsUp};
 ghost use Rattle.wsm_semantics.specs.HeldBounds.{HeldBounded};
-ghost use Rattle.wsm_semantics.specs.Order.{Judged, is_accepted, Reordered, IgnoresOrder, IsOrderFree, OrderLaw};
+ghost use Rattle.wsm_semantics.specs.Order.{Judged, is_rise, Reordered, IgnoresOrder, IsOrderFree, OrderLaw};
 
 /// A replay that goes by what it keeps of the held panes alone, event by event, keeps what the history
-/// says of them, and the relation at the last accepted watermark.
+/// says of them, and the relation at the last rise of the watermark.
 pub fn kept_alone()
-    ensures { (q : Query) → IsShape q.shape → pos 0 ≤ℤ q.clock.lateness → (past : List Event) → replayed q past ≡ state q past }
+    ensures { (q : Query) → IsShape q.shape → SessionsByEvent q → pos 0 ≤ℤ q.clock.lateness → (past : List Event) → replayed q past ≡ state q past }
 {}
 
 /// The rows of each turn, of panes or of one of the three streams, are written by what that replay
 /// keeps alone.
 pub fn rows_alone()
-    ensures { (q : Query) → IsShape q.shape → pos 0 ≤ℤ q.clock.lateness → (past : List Event) (e : Event) → turn_rows q past e ≡ turn_rows_by q past e (replayed q past) }
+    ensures { (q : Query) → IsShape q.shape → SessionsByEvent q → pos 0 ≤ℤ q.clock.lateness → (past : List Event) (e : Event) → turn_rows q past e ≡ turn_rows_by q past e (replayed q past) }
+{}
+
+/// Where lateness is counted from a record's own time, a selected record stands in every window of its
+/// time: each was live before its turn.
+pub fn every_window_live()
+    ensures { (q : Query) → q.clock.late ≡ late_by.Event → AllLive q }
 {}
 
 /// Where panes discard what they showed, a selected record is in one firing set where a firing shows
 /// it and in none where none does, and for each of its windows that was dropped in exactly one.
 pub fn fires_once()
-    ensures { (q : Query) → IsShape q.shape → q.mode ≡ Discarding → FiresOnce q }
+    ensures { (q : Query) → IsShape q.shape → SessionsByEvent q → q.mode ≡ Discarding → FiresOnce q }
+{}
+
+/// Where panes retract, what was written of them and not withdrawn is one row for each firing that
+/// stands, or stood when its window was dropped, and whose HAVING is true.
+pub fn adds_up()
+    ensures { (q : Query) → IsShape q.shape → SessionsByEvent q → pos 0 ≤ℤ q.clock.lateness → q.mode ≡ Retracting → q.form ≡ Panes → (past : List Event) → AddsUp q past }
 {}
 
 /// Of each declared key no more panes are held than windows can be live at once, each has no more
-/// records than may be admitted, and no turn fires more panes or writes more rows than can be held.
+/// records than may be admitted, and no turn fires more panes than can be held, nor writes more rows
+/// than these may.
 pub fn held_bounded()
-    ensures { (q : Query) → IsShape q.shape → IsWithinLimits q.clock → HeldBounded q }
+    ensures { (q : Query) → IsShape q.shape → SessionsByEvent q → IsWithinLimits q.clock → HeldBounded q }
 {}
 
-/// Events between two accepted watermarks may come in another order, each with its verdict: each
-/// watermark fires the same on time, with the same rows. Where panes discard what they showed, none
+/// Events between two rises of the watermark may come in another order, each with its verdict: each
+/// rise fires the same on time, with the same rows. Where panes discard what they showed, none
 /// fires early, and sessions don't fire late either.
 pub fn in_any_order()
     ensures { (q : Query) → IsShape q.shape → IsWithinLimits q.clock → IgnoresOrder q → IsOrderFree q.mode q.shape q.early q.late → OrderLaw q }
 {}
 
-/// Each permutation of some events of a history of which none is an accepted watermark, each with its
+/// Each permutation of some events of a history of which none raises the watermark, each with its
 /// verdict, is such another order.
 pub fn each_permutation()
-    ensures { (newer xs ys older : List Judged) → AllByRecursion (λ e. is_accepted e ≡ false) xs → IsPermutation xs ys → Reordered (newer ++ (xs ++ older)) (newer ++ (ys ++ older)) }
+    ensures { (newer xs ys older : List Judged) → AllByRecursion (λ e. is_rise e ≡ false) xs → IsPermutation xs ys → Reordered (newer ++ (xs ++ older)) (newer ++ (ys ++ older)) }
 {}

@@ -3,7 +3,8 @@
 use wsm_record::Columns;
 use wsm_windows::{PaneKind, Window};
 
-/// A row that a turn writes: a pane that fired, or a row of one of the streams of the relation.
+/// A row that a turn writes: a pane that fired or that is withdrawn, or a row of one of the streams
+/// of the relation.
 #[derive(Debug, Drop)]
 pub enum OutRow {
     /// A pane that fired (Akidau et al. 2015).
@@ -15,6 +16,15 @@ pub enum OutRow {
         /// Its window, in event time.
         window: Window,
         /// Its columns.
+        columns: Columns,
+    },
+    /// A pane row that no longer stands (Akidau et al. 2015).
+    Retract {
+        /// The number of its key.
+        key: u16,
+        /// Its window as the pane row had it, in event time.
+        window: Window,
+        /// Its columns as the pane row had them.
         columns: Columns,
     },
     /// A row that the relation gained since the last instant (Arasu et al. 2006).

@@ -1,14 +1,20 @@
 //! What stands for a pane.
 
 use wsm_record::Columns;
+use wsm_windows::Window;
 
-/// The row that stands for a pane in the relation.
+/// The firing that stands for a pane.
 #[derive(Clone, Copy, Debug)]
 pub enum Standing {
     /// None, as no part of the pane fired.
     Unfired,
-    /// That of a firing, or none where its HAVING was false.
-    Row(Option<Columns>),
+    /// One of the pane or of a part of it.
+    Row {
+        /// Where panes retract its window as it was when it fired, in event time, and otherwise none.
+        window: Option<Window>,
+        /// Its row, or none where its HAVING was false.
+        columns: Option<Columns>,
+    },
     /// None, as two parts that fired were joined since.
     Joined,
 }

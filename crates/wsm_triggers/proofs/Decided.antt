@@ -1,8 +1,8 @@
 -- What a query does on a watermark, in the trigger's numbers.
-use Rattle.std.proofs.Common.{◌≡◌, ℕ, Bool, ◌&&◌, cond, List, length, ℤ, ◌+ℤ◌, Some, None, refl, ap, ◌∙◌}
+use Rattle.std.proofs.Common.{◌≡◌, ℕ, Bool, true, false, ◌&&◌, cond, List, length, ℤ, ◌+ℤ◌, Some, None, refl, ap, ◌∙◌}
 use Rattle.std.specs.Prelude.{int_lt, int_le, nat_lt}
 use Rattle.wsm_record.specs.declared.words.Mode.{Mode}
-use Rattle.wsm_record.specs.declared.words.Mode.TheVariants.{Discarding, Accumulating}
+use Rattle.wsm_record.specs.Modes.{is_over_all}
 use Rattle.wsm_windows.specs.declared.window.PaneKind.TheVariants.{OnTime, Final}
 use Rattle.wsm_windows.specs.declared.place.Place.{Place}
 use Rattle.wsm_semantics.specs.Query.{Datum, Query}
@@ -10,8 +10,7 @@ use Rattle.wsm_semantics.specs.Firings.{firing_set, kind_on_watermark}
 use Rattle.wsm_triggers.specs.Triggers.{EndsIn, fired_count}
 
 set_size : (mode : Mode) (all missed : List Datum) → length (firing_set mode all missed) ≡ fired_count mode (length all) (length missed)
-set_size Accumulating all missed = refl
-set_size Discarding all missed = refl
+set_size mode all missed = elim (is_over_all mode) as (λ b. length (cond b all missed) ≡ cond b (length all) (length missed)) [ true ↦ refl | false ↦ refl ]
 
 abbrev pub comes : ℤ → ℤ → ℤ → ℕ → Bool
 comes time old new records = (int_lt old time && int_le time new) && nat_lt 0 records

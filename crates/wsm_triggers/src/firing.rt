@@ -81,8 +81,5 @@ fn comes_with(time: i64, old: i64, new: i64, records: u64) -> bool
 fn fired(mode: Mode, count: u64, unshown: u64) -> u64
     ensures { result ≡ fired_count mode count unshown }
 {
-    match mode {
-        Mode::Accumulating => count,
-        Mode::Discarding => unshown,
-    }
+    if mode.is_over_all() { count } else { unshown }
 }
