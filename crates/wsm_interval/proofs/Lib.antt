@@ -1,2 +1,3 @@
 pub mod SoundOperations
+pub mod SoundNarrowing
 mod Wide

@@ -1,5 +1,5 @@
 -- What is computed in 128 bits is what whole numbers give.
-use Rattle.std.proofs.Common.{rules, ◌≡◌, ℕ, zero, suc, ◌/◌, ◌^◌, ◌≤◌, lit<, ℤ, pos, negsuc, neg_ℤ, ◌+ℤ◌, ◌-ℤ◌, ◌*ℤ◌, SFits, to_z, of_z, w64, Option, refl, ◌∙◌, arith}
+use Rattle.std.proofs.Common.{rules, ◌≡◌, ℕ, zero, suc, ◌/◌, ◌^◌, ◌≤◌, lit<, ℤ, pos, negsuc, neg_ℤ, ◌+ℤ◌, ◌-ℤ◌, ◌*ℤ◌, ◌≤ℤ◌, SFits, to_z, of_z, w64, Option, refl, ◌∙◌, arith}
 use Rattle.std.specs.Int.{w128}
 use Rattle.std.proofs.lemmas.Int.{ints, clamps, to_z-of_z, fits_signed_mul, fits_signed_from_abs}
 use Rattle.std.proofs.Math.Nat.{div-le_self}
@@ -7,6 +7,7 @@ use Rattle.std.specs.Prelude.{Bool, true, false, cond, None, int_div, unsigned_a
 use Rattle.std.specs.Int.{int_min, int_max}
 use Rattle.wsm_interval.specs.declared.interval.Interval.{Interval}
 use Rattle.wsm_interval.specs.Interval.{Holds, within_i64, around}
+use Rattle.wsm_interval.specs.Narrowing.{part, above, below}
 
 pub wider : (z : ℤ) → SFits w64 z → SFits w128 z
 wider z h = search rules
@@ -84,3 +85,24 @@ pub quotient_seen : (r a c x y : ℤ) → r ≡ int_div (to_z w128 (of_z w128 a)
 quotient_seen r a c x y e f g h k =
     let same : r ≡ int_div x y = e ∙ rw (end_is a x h f, end_is c y k g) refl in
     rw same (to_z-of_z w128 (int_div x y) (quotient_fits x y h))
+
+-- ---- narrowing
+
+pub part_is : (r x : Interval) (a b lo hi : ℤ) → r ≡ part x a b → a ≡ lo → b ≡ hi → r ≡ part x lo hi
+part_is r x a b lo hi e f g = rw (← f, ← g) e
+
+pub above_is : (r a d lo c : ℤ) → r ≡ above a d → a ≡ lo → d ≡ c → r ≡ above lo c
+above_is r a d lo c e f g = rw (← f, ← g) e
+
+pub below_is : (r a d hi c : ℤ) → r ≡ below a d → a ≡ hi → d ≡ c → r ≡ below hi c
+below_is r a d hi c e f g = rw (← f, ← g) e
+
+pub one_less : (a c : ℤ) → unsigned_abs c ≤ 2 ^ 63 → a ≡ c → to_z w128 (of_z w128 (a -ℤ pos 1)) ≡ c -ℤ pos 1
+one_less a c h e = omega (arith, ints)
+
+pub one_more : (a c : ℤ) → unsigned_abs c ≤ 2 ^ 63 → a ≡ c → to_z w128 (of_z w128 (a +ℤ pos 1)) ≡ c +ℤ pos 1
+one_more a c h e = omega (arith, ints)
+
+-- an end between those of an interval is a number of 64 bits
+pub end_of_part : (x r lo hi : ℤ) → SFits w64 lo → SFits w64 hi → lo ≤ℤ r → r ≤ℤ hi → r ≡ x → to_z w64 (of_z w64 (to_z w128 (of_z w128 r))) ≡ x
+end_of_part x r lo hi f g h k e = omega (arith, ints)

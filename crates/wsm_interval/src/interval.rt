@@ -1,8 +1,13 @@
 //! Intervals and their arithmetic.
 
 ghost use Rattle.std.specs.Prelude.{◌≡◌, ◌≤◌, ℤ, pos, neg_ℤ, ◌+ℤ◌, ◌-ℤ◌, ◌*ℤ◌, ◌≤ℤ◌, int_div, int_rem, unsigned_abs, IfSome};
+ghost use Rattle.std.specs.Prelude.{true};
+ghost use Rattle.wsm_interval.specs.Comparison.{is_true, opposite};
 ghost use Rattle.wsm_interval.specs.Interval as spec;
 ghost use Rattle.wsm_interval.specs.Interval.{Holds};
+ghost use Rattle.wsm_interval.specs.Narrowing as narrowing;
+
+use crate::comparison::Comparison;
 
 /// The whole numbers from one end to the other, both of them inside.
 #[derive(Clone, Copy, Debug, PartialEq, Eq)]
@@ -106,6 +111,50 @@ impl Interval {
         }
     }
 
+    /// What is left where a number inside, compared with another, is true. Where nothing would be
+    /// left, all of it is.
+    pub fn narrow(self, comparison: Comparison, c: i64) -> Interval
+        ensures formula { result ≡ narrowing.narrow comparison c self }
+        ensures kept { (n : ℤ) → Holds self n → is_true comparison n c ≡ true → Holds result n }
+        // What this and the opposite comparison leave is all of it.
+        ensures whole { spec.hull result (narrowing.narrow (opposite comparison) c self) ≡ self }
+    {
+        self.left_by(comparison, c as i128)
+    }
+
+    // The same, with room for the numbers beside c.
+    fn left_by(self, comparison: Comparison, c: i128) -> Interval
+        requires { unsigned_abs c ≤ 9223372036854775808 }
+        ensures { result ≡ narrowing.narrow comparison c self }
+    {
+        let (lo, hi) = self.ends();
+        match comparison {
+            Comparison::Eq => self.part(c, c),
+            Comparison::Ne => self.part(above(lo, c), below(hi, c)),
+            Comparison::Lt => self.part(lo, c - 1),
+            Comparison::Le => self.part(lo, c),
+            Comparison::Gt => self.part(c + 1, hi),
+            Comparison::Ge => self.part(c, hi),
+        }
+    }
+
+    // What lies from one number to another, or all of it where nothing does.
+    fn part(self, lo: i128, hi: i128) -> Interval
+        ensures { result ≡ narrowing.part self lo hi }
+    {
+        let (a, b) = self.ends();
+        let lo = a.max(lo);
+        let hi = b.min(hi);
+        if lo <= hi {
+            Interval {
+                lo: lo as i64,
+                hi: hi as i64,
+            }
+        } else {
+            self
+        }
+    }
+
     // Both ends, with room for their products.
     fn ends(self) -> (i128, i128)
         ensures low { result.0 ≡ self.lo }
@@ -129,6 +178,22 @@ fn around(p: i128, q: i128, r: i128, s: i128) -> Option<Interval>
     ensures { result ≡ spec.around p q r s }
 {
     within(p.min(q).min(r.min(s)), p.max(q).max(r.max(s)))
+}
+
+// A lower end, without a number.
+fn above(lo: i128, c: i128) -> i128
+    requires { unsigned_abs c ≤ 9223372036854775808 }
+    ensures { result ≡ narrowing.above lo c }
+{
+    if lo == c { c + 1 } else { lo }
+}
+
+// An upper end, without a number.
+fn below(hi: i128, c: i128) -> i128
+    requires { unsigned_abs c ≤ 9223372036854775808 }
+    ensures { result ≡ narrowing.below hi c }
+{
+    if hi == c { c - 1 } else { hi }
 }
 
 // A quotient, rounded towards zero. Over 0 it is 0: no interval that is in order asks for it.

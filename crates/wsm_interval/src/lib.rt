@@ -16,6 +16,8 @@
 //! ```
 #![tactic(auto)]
 
+pub use comparison::Comparison;
 pub use interval::Interval;
 
+mod comparison;
 mod interval;

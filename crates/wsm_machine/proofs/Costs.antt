@@ -7,12 +7,12 @@ use Rattle.wsm_record.specs.declared.event.Value.{Value}
 use Rattle.wsm_record.specs.Event.{Event, Record, Watermark}
 use Rattle.wsm_windows.specs.declared.window.Shape.{Shape}
 use Rattle.wsm_windows.specs.declared.window.Shape.TheVariants.{Fixed, Sliding, Session}
-use Rattle.wsm_windows.specs.Windows.{windows_of_shape}
+use Rattle.wsm_admission.specs.declared.clock.Clock.{Clock}
 use Rattle.wsm_windows.specs.declared.place.Place.{Place}
 use Rattle.wsm_admission.specs.declared.verdict.Admitted.{Admitted}
 use Rattle.wsm_admission.specs.declared.verdict.Refusal.{Refusal}
-use Rattle.wsm_admission.specs.Clock.{verdict_at}
-use Rattle.wsm_admission.specs.Admission.{answer}
+use Rattle.wsm_admission.specs.Clock.{verdict_at, least, watermark_of}
+use Rattle.wsm_admission.specs.Admission.{answer, marks_with}
 use Rattle.wsm_semantics.specs.Query.{mark, verdict_on, selected}
 use Rattle.wsm_semantics.specs.Firings.{Firing, firings}
 use Rattle.wsm_semantics.specs.Kept.{kept}
@@ -26,42 +26,49 @@ use Rattle.wsm_program.specs.Program.{Program, is_program}
 use Rattle.wsm_program.specs.declared.program.Costs.{Costs}
 use Rattle.wsm_verifier.specs.Rules.{judge}
 use Rattle.wsm_verifier.proofs.Lawful.{lawful as program_lawful}
-use Rattle.wsm_machine.specs.Meaning.{query_of, plan_of, steps_among, record_steps, joins_held, CountsSessions, record_cost, record_cost_by, pane_cost, pane_cost_by, answer_cost, step_cost}
+use Rattle.wsm_machine.specs.Meaning.{query_of, plan_of, steps_among, record_steps, joins_held, windows_entered, CountsSessions, record_cost, record_cost_by, pane_cost, pane_cost_by, answer_cost, step_cost}
 use Rattle.wsm_machine.specs.Sound.{IsSoundState, MayFire}
 use Rattle.wsm_machine.proofs.QueryFolds.{plan_lawful, plan_runs}
 use Rattle.wsm_machine.proofs.SoundSteps.{record_in_range}
 use Rattle.wsm_machine.proofs.TurnCosts.{record_cost_within}
 use Rattle.wsm_machine.proofs.SoundFirings.{step_fires_may, fired_within}
-use Rattle.wsm_machine.proofs.CountedSessions.{counts_sessions}
+use Rattle.wsm_machine.proofs.CountedSessions.{counts_sessions, sessions_by_event}
 use Rattle.wsm_machine.proofs.RunAnswers.{cost_is, fired_cost_is}
 
 -- no number of a turn is counted
-joins_turnless : (sh : Shape) (m n key : ℕ) (time : ℤ) (values : List Value) (panes : List (Place × Pane (List Value))) → joins_held sh (datum m key time values) panes ≡ joins_held sh (datum n key time values) panes
-joins_turnless (Fixed size) m n key time values panes = refl
-joins_turnless (Sliding size period) m n key time values panes = refl
-joins_turnless (Session gap) m n key time values panes = refl
+joins_turnless : (sh : Shape) (m n : ℕ) (mark : ℤ) (key : ℕ) (time : ℤ) (values : List Value) (panes : List (Place × Pane (List Value))) → joins_held sh (datum m mark key time values) panes ≡ joins_held sh (datum n mark key time values) panes
+joins_turnless (Fixed size) m n mark key time values panes = refl
+joins_turnless (Sliding size period) m n mark key time values panes = refl
+joins_turnless (Session gap) m n mark key time values panes = refl
 
 module _ (p : Program) where
-  cost_turnless : (m n key : ℕ) (time : ℤ) (values : List Value) (panes : List (Place × Pane (List Value))) → record_cost_by p panes (datum m key time values) ≡ record_cost_by p panes (datum n key time values)
-  cost_turnless m n key time values panes = ap (record_steps p key values (length (windows_of_shape p.header.shape time))) (joins_turnless p.header.shape m n key time values panes)
+  cost_turnless : (m n : ℕ) (mark : ℤ) (key : ℕ) (time : ℤ) (values : List Value) (panes : List (Place × Pane (List Value))) → record_cost_by p panes (datum m mark key time values) ≡ record_cost_by p panes (datum n mark key time values)
+  cost_turnless m n mark key time values panes i =
+      record_steps p key values (entered_turnless p.header.shape i) (joins_turnless p.header.shape m n mark key time values panes i)
+    where
+      entered_turnless : (sh : Shape) → windows_entered sh p.header.clock.lateness (datum m mark key time values) ≡ windows_entered sh p.header.clock.lateness (datum n mark key time values)
+      entered_turnless (Fixed size) = refl
+      entered_turnless (Sliding size period) = refl
+      entered_turnless (Session gap) = refl
 
-  module _ (counts : CountsSessions (query_of p)) (s : State (List Value)) (past : List Event) (is : s.panes ≡ summaries (plan_of p) p.header.mode (kept (query_of p) past)) where
-    answer_cost_is : (e : Event) (v : Option Refusal) → v ≡ verdict_on (query_of p) past e → answer_cost p (answer (mark (query_of p) past) e v) e s ≡ record_cost p past e
-    answer_cost_is (Record (Some k) t vs) None h =
-        cost_turnless 0 (length past) k t vs s.panes
-        ∙ ap (λ (ps : List (Place × Pane (List Value))). record_cost_by p ps (datum (length past) k t vs)) is
+  module _ (counts : CountsSessions (query_of p)) (s : State (List Value)) (past : List Event) (marked : s.admission.mark ≡ mark (query_of p) past) (is : s.panes ≡ summaries (plan_of p) p.header.mode (kept (query_of p) past)) where
+    answer_cost_is : (new : ℤ) (e : Event) (v : Option Refusal) → v ≡ verdict_on (query_of p) past e → answer_cost p (answer (mark (query_of p) past) new e v) e s ≡ record_cost p past e
+    answer_cost_is new (Record (Some k) t vs) None h =
+        ap (λ (m : ℤ). record_cost_by p s.panes (datum 0 m k t vs)) marked
+        ∙ cost_turnless 0 (length past) (mark (query_of p) past) k t vs s.panes
+        ∙ ap (λ (ps : List (Place × Pane (List Value))). record_cost_by p ps (datum (length past) (mark (query_of p) past) k t vs)) is
         ∙ cost_is p counts past k t vs (ap is_none (sym h))
-    answer_cost_is (Record (Some k) t vs) (Some r) h = λ i. cond (is_none (h i)) (steps_among p (selected (query_of p) past) (datum (length past) k t vs)) 0
-    answer_cost_is (Record None t vs) None h = refl
-    answer_cost_is (Record None t vs) (Some r) h = refl
-    answer_cost_is (Watermark t) None h = refl
-    answer_cost_is (Watermark t) (Some r) h = refl
+    answer_cost_is new (Record (Some k) t vs) (Some r) h = λ i. cond (is_none (h i)) (steps_among p (selected (query_of p) past) (datum (length past) (mark (query_of p) past) k t vs)) 0
+    answer_cost_is new (Record None t vs) None h = refl
+    answer_cost_is new (Record None t vs) (Some r) h = refl
+    answer_cost_is new (Watermark o t) None h = refl
+    answer_cost_is new (Watermark o t) (Some r) h = refl
 
   -- a turn costs as much as by the history
   pub step_cost_is : IsTrue (is_program p) → (s : State (List Value)) (e : Event) (past : List Event) → Fits (plan_of p) (query_of p) s past → step_cost p s e ≡ record_cost p past e
   step_cost_is lawful s e past fits =
       ap (λ (r : Result Admitted Refusal). answer_cost p r e s) (decision-fits (query_of p) s.admission past e fits.clock fits.admission)
-      ∙ answer_cost_is (counts_sessions p lawful) s past fits.panes e (verdict_on (query_of p) past e) refl
+      ∙ answer_cost_is (counts_sessions p lawful) s past (fits.admission.mark ∙ ap (λ (c : Clock). watermark_of c past) fits.clock) fits.panes (mark (query_of p) (e ∷ past)) e (verdict_on (query_of p) past e) refl
 
   each_cost : (fs : List Firing) → map (pane_cost_by p) (map (summary_fired (plan_of p)) fs) ≡ map (pane_cost p) fs
   each_cost [] = refl
@@ -72,22 +79,22 @@ module _ (p : Program) where
       map (pane_cost_by p) (step_fires (plan_of p) (query_of p) s e) ≡ map (pane_cost p) (firings (query_of p) past e)
   fired_costs_are whole s e past fits =
       let is = program_lawful p whole in
-      ap (map (pane_cost_by p)) (fires-step (plan_of p) (plan_lawful p) (query_of p) (plan_runs p) is.shape is.lateness.low s e past fits) ∙ each_cost (firings (query_of p) past e)
+      ap (map (pane_cost_by p)) (fires-step (plan_of p) (plan_lawful p) (query_of p) (plan_runs p) is.shape (sessions_by_event p whole) is.lateness.low s e past fits) ∙ each_cost (firings (query_of p) past e)
 
   module _ (costs : Costs) (judged : judge p ≡ Ok costs) (lawful : IsTrue (is_program p)) where
-    answer_within : (s : State (List Value)) (e : Event) (v : Option Refusal) → v ≡ verdict_at s.admission.clock p.header.schema s.admission.mark s.admission.admitted e →
-        answer_cost p (answer s.admission.mark e v) e s ≤ p.header.budget.per_record
-    answer_within s (Record (Some k) t vs) None h =
-        record_cost_within p costs judged lawful (datum 0 k t vs) (record_in_range p costs judged lawful s.admission.clock s.admission.mark s.admission.admitted 0 k t vs (sym h)) s.panes
-    answer_within s (Record (Some k) t vs) (Some r) h = omega arith
-    answer_within s (Record None t vs) None h = omega arith
-    answer_within s (Record None t vs) (Some r) h = omega arith
-    answer_within s (Watermark t) None h = omega arith
-    answer_within s (Watermark t) (Some r) h = omega arith
+    answer_within : (s : State (List Value)) (new : ℤ) (e : Event) (v : Option Refusal) → v ≡ verdict_at s.admission.clock p.header.schema s.admission.marks s.admission.admitted e →
+        answer_cost p (answer s.admission.mark new e v) e s ≤ p.header.budget.per_record
+    answer_within s new (Record (Some k) t vs) None h =
+        record_cost_within p costs judged lawful (datum 0 s.admission.mark k t vs) (record_in_range p costs judged lawful s.admission.clock s.admission.marks s.admission.admitted 0 s.admission.mark k t vs (sym h)) s.panes
+    answer_within s new (Record (Some k) t vs) (Some r) h = omega arith
+    answer_within s new (Record None t vs) None h = omega arith
+    answer_within s new (Record None t vs) (Some r) h = omega arith
+    answer_within s new (Watermark o t) None h = omega arith
+    answer_within s new (Watermark o t) (Some r) h = omega arith
 
     -- a turn costs at most what is stated for a record
     pub step_cost_within : (s : State (List Value)) (e : Event) → step_cost p s e ≤ p.header.budget.per_record
-    step_cost_within s e = answer_within s e (verdict_at s.admission.clock p.header.schema s.admission.mark s.admission.admitted e) refl
+    step_cost_within s e = answer_within s (least (marks_with s.admission.marks e)) e (verdict_at s.admission.clock p.header.schema s.admission.marks s.admission.admitted e) refl
 
     -- and each of its firings what is stated for a pane
     pub fired_costs_within : (s : State (List Value)) → IsSoundState p s → (e : Event) → AllByRecursion (λ f. pane_cost_by p f ≤ p.header.budget.per_pane) (step_fires (plan_of p) (query_of p) s e)

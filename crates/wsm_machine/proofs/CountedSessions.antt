@@ -1,38 +1,67 @@
 -- What the cost of a record counts of sessions is what it counts of the panes that are held.
-use Rattle.std.proofs.Common.{◌≡◌, ℕ, true, false, List, ◌∷◌, length, ℤ, Some, IsTrue, refl, sym, ap}
-use Rattle.std.specs.Prelude.{nat_lt}
+use Rattle.std.proofs.Common.{◌≡◌, ℕ, zero, suc, ◌≤◌, cond, true, false, List, ◌∷◌, length, ℤ, Option, Some, None, IsTrue, refl, sym, ap, ◌∙◌, arith}
+use Rattle.std.specs.Prelude.{is_none, nat_eq, nat_lt}
 use Rattle.wsm_record.specs.declared.event.Value.{Value}
 use Rattle.wsm_record.specs.Event.{Event, Record}
 use Rattle.wsm_windows.specs.declared.window.Shape.{Shape}
 use Rattle.wsm_windows.specs.declared.window.Shape.TheVariants.{Fixed, Sliding, Session}
-use Rattle.wsm_windows.specs.Windows.{IsShape, windows_of_shape}
-use Rattle.wsm_admission.specs.Clock.{admitted_count, is_late}
+use Rattle.wsm_windows.specs.Windows.{IsShape}
+use Rattle.wsm_admission.specs.Clock.{admitted_count, is_late, is_late_by}
 use Rattle.wsm_admission.proofs.Taken.{taken_record}
-use Rattle.wsm_semantics.specs.Query.{Query, Datum, mark, verdict_on, is_taken, selected}
+use Rattle.wsm_semantics.specs.Query.{Query, Datum, SessionsByEvent, mark, verdict_on, is_taken, selected}
 use Rattle.wsm_semantics.specs.Panes.{windows_among}
 use Rattle.wsm_semantics.specs.Kept.{kept}
 use Rattle.wsm_semantics.specs.Replay.{datum}
 use Rattle.wsm_semantics.proofs.OneSession.{stands_in_one, as_many_linked}
-use Rattle.wsm_semantics.proofs.KeptLaw.{accepted}
-use Rattle.wsm_program.specs.Program.{Program, is_program}
+use Rattle.wsm_admission.specs.declared.clock.LateBy.{LateBy}
+use Rattle.wsm_admission.specs.declared.verdict.Refusal.{Refusal}
+use Rattle.wsm_admission.specs.declared.clock.LateBy.TheVariants as late_by
+use Rattle.wsm_program.specs.Program.{Program, is_program, is_late_by as is_late_by_own}
+use Rattle.wsm_program.proofs.Lawful.{header_parts, program_header}
+use Rattle.std.proofs.lemmas.Bool.{and_parts}
+use Rattle.std.proofs.lemmas.Bool.Decides.{nat_tests}
 use Rattle.wsm_verifier.proofs.Lawful.{lawful}
-use Rattle.wsm_machine.specs.Meaning.{query_of, joins_two, joins_kept, CountsSessions}
+use Rattle.wsm_machine.specs.Meaning.{query_of, joins_two, joins_kept, windows_entered, CountsSessions}
 
-stands_once : (sh : Shape) → IsShape sh → (ds : List Datum) (d : Datum) → length (windows_among sh (d ∷ ds) d) ≡ length (windows_of_shape sh d.time)
-stands_once (Fixed size) ok ds d = refl
-stands_once (Sliding size period) ok ds d = refl
-stands_once (Session gap) ok ds d = stands_in_one gap ok.period_low d ds
+accepted : (v : Option Refusal) → is_none v ≡ true → v ≡ None
+accepted None h = refl
+accepted (Some r) h = absurd (cc)
 
-joins_alike : (q : Query) (sh : Shape) → q.shape ≡ sh → IsShape sh → (past : List Event) (d : Datum) → is_late q.clock (mark q past) d.time ≡ false → joins_two sh (selected q past) d ≡ joins_kept sh d (kept q past)
-joins_alike q (Fixed size) is ok past d prompt = refl
-joins_alike q (Sliding size period) is ok past d prompt = refl
-joins_alike q (Session gap) is ok past d prompt =
-    ap (λ (n : ℕ). nat_lt 1 n) (sym (as_many_linked q gap ok.period_low is past d prompt))
+stands_once : (sh : Shape) → IsShape sh → (lateness : ℤ) (ds : List Datum) (d : Datum) → length (windows_among sh lateness (d ∷ ds) d) ≡ windows_entered sh lateness d
+stands_once (Fixed size) ok lateness ds d = refl
+stands_once (Sliding size period) ok lateness ds d = refl
+stands_once (Session gap) ok lateness ds d = stands_in_one gap ok.period_low d ds
+
+joins_alike : (q : Query) → SessionsByEvent q → (sh : Shape) → q.shape ≡ sh → IsShape sh → (past : List Event) (d : Datum) → is_late q.clock (mark q past) d.time ≡ false → joins_two sh (selected q past) d ≡ joins_kept sh d (kept q past)
+joins_alike q timely (Fixed size) is ok past d prompt = refl
+joins_alike q timely (Sliding size period) is ok past d prompt = refl
+joins_alike q timely (Session gap) is ok past d prompt =
+    ap (λ (n : ℕ). nat_lt 1 n) (sym (as_many_linked q gap ok.period_low is past d (ap (λ (by : LateBy). is_late_by by q.clock.lateness (mark q past) d.time) (sym (timely gap is)) ∙ prompt)))
+
+-- a program's sessions are late by the record's time
+pub sessions_by_event : (p : Program) → IsTrue (is_program p) → SessionsByEvent (query_of p)
+sessions_by_event p whole gap is =
+    by_event p.header.shape p.header.clock.late is (and_parts (is_late_by_own p.header.shape p.header.clock.late) _ (header_parts p.header (program_header p whole)).sourced).0
+  where
+    by_event : (sh : Shape) (l : LateBy) → sh ≡ Session gap → is_late_by_own sh l ≡ true → l ≡ late_by.Event
+    by_event sh late_by.Event same own = refl
+    by_event (Fixed size) (late_by.Window other) same own = absurd (cc)
+    by_event (Sliding size period) (late_by.Window other) same own = absurd (cc)
+    by_event (Session g) (late_by.Window other) same own = absurd (cc)
+
+-- and it has a source
+pub has_sources : (p : Program) → IsTrue (is_program p) → 1 ≤ p.header.clock.sources
+has_sources p whole =
+    some (length p.header.schema.sources) p.header.clock.sources (and_parts (is_late_by_own p.header.shape p.header.clock.late) _ (header_parts p.header (program_header p whole)).sourced).1
+  where
+    some : (n m : ℕ) → nat_eq m (cond (nat_eq n 0) 1 n) ≡ true → 1 ≤ m
+    some zero m h = grind (arith, nat_tests)
+    some (suc n) m h = grind (arith, nat_tests)
 
 pub counts_sessions : (p : Program) → IsTrue (is_program p) → CountsSessions (query_of p)
 counts_sessions p whole = record {
-  stands_in = λ past key time values taken selects. stands_once p.header.shape (lawful p whole).shape (selected (query_of p) past) (datum (length past) key time values);
-  joins_them = λ past key time values taken selects. joins_alike (query_of p) p.header.shape refl (lawful p whole).shape past (datum (length past) key time values) (in_time past key time values taken);
+  stands_in = λ past key time values taken selects. stands_once p.header.shape (lawful p whole).shape p.header.clock.lateness (selected (query_of p) past) (datum (length past) (mark (query_of p) past) key time values);
+  joins_them = λ past key time values taken selects. joins_alike (query_of p) (sessions_by_event p whole) p.header.shape refl (lawful p whole).shape past (datum (length past) (mark (query_of p) past) key time values) (in_time past key time values taken);
 } where
   in_time : (past : List Event) (key : ℕ) (time : ℤ) (values : List Value) → is_taken (query_of p) past (Record (Some key) time values) ≡ true → is_late (query_of p).clock (mark (query_of p) past) time ≡ false
   in_time past key time values taken =

@@ -13,6 +13,7 @@ mod NextPlaces
 pub mod ReturnedStacks
 pub mod SafeSteps
 pub mod EdgeLabels
+pub mod NarrowedFields
 pub mod RunsToReturn
 pub mod FoldHulls
 pub mod Ranged

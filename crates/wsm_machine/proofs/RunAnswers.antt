@@ -6,13 +6,12 @@ use Rattle.std.proofs.lemmas.List.{reverse-reverse}
 use Rattle.std.specs.Prelude.{pos, ◌≤ℤ◌, filter, nat_lt}
 use Rattle.wsm_record.specs.declared.event.Value.{Value}
 use Rattle.wsm_record.specs.declared.words.Mode.{Mode}
-use Rattle.wsm_record.specs.declared.words.Mode.TheVariants.{Discarding, Accumulating}
+use Rattle.wsm_record.specs.declared.words.Mode.TheVariants.{Discarding, Accumulating, Retracting}
 use Rattle.wsm_record.specs.Event.{Event, Record}
 use Rattle.wsm_windows.specs.declared.window.Shape.{Shape}
 use Rattle.wsm_windows.specs.declared.window.Shape.TheVariants.{Fixed, Sliding, Session}
-use Rattle.wsm_windows.specs.Windows.{windows_of_shape}
 use Rattle.wsm_fold.specs.Accumulators.{SumsFit}
-use Rattle.wsm_semantics.specs.Query.{Query, Datum, is_taken, selected}
+use Rattle.wsm_semantics.specs.Query.{Query, Datum, mark, is_taken, selected}
 use Rattle.wsm_semantics.specs.Panes.{windows_among}
 use Rattle.wsm_semantics.specs.Firings.{Firing}
 use Rattle.wsm_semantics.specs.Kept.{Kept, kept, is_linked}
@@ -27,7 +26,7 @@ use Rattle.wsm_record.specs.declared.cell.Cell.{Cell}
 use Rattle.wsm_record.specs.declared.cell.Cell.TheVariants as cells
 use Rattle.wsm_windows.specs.declared.place.Place.{Place}
 use Rattle.wsm_machine.specs.declared.outcome.Outcome.TheVariants.{Done}
-use Rattle.wsm_machine.specs.Meaning.{where_run, update_run, fire_run, is_done, top_is_true, cells_below, selects, updated, row, query_of, plan_of, record_steps, joins_two, joins_held, joins_kept, CountsSessions, record_cost, record_cost_by, fire_steps, pane_cost, pane_cost_by}
+use Rattle.wsm_machine.specs.Meaning.{where_run, update_run, fire_run, is_done, top_is_true, cells_below, selects, updated, row, query_of, plan_of, record_steps, joins_two, joins_held, joins_kept, CountsSessions, record_cost, record_cost_by, fire_steps, pane_cost, pane_cost_by, windows_entered}
 use Rattle.wsm_machine.specs.Sound.{AreFoldsOf, IsSoundPane, IsDatumInRange}
 use Rattle.wsm_machine.proofs.EndedRuns.{values_are}
 use Rattle.wsm_machine.proofs.QueryFolds.{folded_is}
@@ -61,6 +60,7 @@ pane_fits p costs judged lawful d ranged n h held sound few room is =
     at_most : (m : Mode) → fired_count m h ≤ n
     at_most Accumulating = few
     at_most Discarding = omega (arith, sound.unshown, few)
+    at_most Retracting = few
 
     least : (m : ℕ) → m ≤ n → pos (m + 1) ≤ℤ p.header.clock.records
     least m l = omega (arith, ints, room, l)
@@ -77,19 +77,19 @@ linked_as_kept p (Session gap) d es =
 
 -- an admitted record costs as much by the panes that are held as by the history
 pub cost_is : (p : Program) (counts : CountsSessions (query_of p)) (past : List Event) (key : ℕ) (time : ℤ) (values : List Value) → is_taken (query_of p) past (Record (Some key) time values) ≡ true →
-    record_cost_by p (summaries (plan_of p) p.header.mode (kept (query_of p) past)) (datum (length past) key time values) ≡ record_cost p past (Record (Some key) time values)
+    record_cost_by p (summaries (plan_of p) p.header.mode (kept (query_of p) past)) (datum (length past) (mark (query_of p) past) key time values) ≡ record_cost p past (Record (Some key) time values)
 cost_is p counts past key time values taken =
     let q : Query = query_of p in
-    let d : Datum = datum (length past) key time values in
+    let d : Datum = datum (length past) (mark q past) key time values in
     let first : ℕ = (where_run p key values).steps in
     elim (selects p key values) as (λ b. selects p key values ≡ b →
-    first + cond b (length (windows_of_shape p.header.shape time) * (update_run p key values).steps + cond (joins_held p.header.shape d (summaries (plan_of p) p.header.mode (kept q past))) (length p.header.kinds) 0) 0
-    ≡ first + cond b (length (windows_among p.header.shape (d ∷ selected q past) d) * (update_run p key values).steps + cond (joins_two p.header.shape (selected q past) d) (length p.header.kinds) 0) 0) [
+    first + cond b (windows_entered p.header.shape p.header.clock.lateness d * (update_run p key values).steps + cond (joins_held p.header.shape d (summaries (plan_of p) p.header.mode (kept q past))) (length p.header.kinds) 0) 0
+    ≡ first + cond b (length (windows_among p.header.shape p.header.clock.lateness (d ∷ selected q past) d) * (update_run p key values).steps + cond (joins_two p.header.shape (selected q past) d) (length p.header.kinds) 0) 0) [
       | true ↦ λ selects. λ i. first + ((sym (counts.stands_in past key time values taken selects)) i * (update_run p key values).steps
           + cond ((linked_as_kept p p.header.shape d (kept q past) ∙ sym (counts.joins_them past key time values taken selects)) i) (length p.header.kinds) 0)
       | false ↦ λ other. refl
     ] refl
-    ∙ (λ i. cond (sym taken i) (record_steps p key values (length (windows_among p.header.shape (d ∷ selected q past) d)) (joins_two p.header.shape (selected q past) d)) 0)
+    ∙ (λ i. cond (sym taken i) (record_steps p key values (length (windows_among p.header.shape p.header.clock.lateness (d ∷ selected q past) d)) (joins_two p.header.shape (selected q past) d)) 0)
 
 -- a firing costs as much
 pub fired_cost_is : (p : Program) (f : Firing) → pane_cost_by p (summary_fired (plan_of p) f) ≡ pane_cost p f

@@ -22,6 +22,7 @@ use Rattle.wsm_machine.specs.Fits.{FitsAll, FitsState, ReadsFit, Moves, GoesOn}
 use Rattle.wsm_machine.proofs.FittingStacks.{no, length_fits, drop_fits}
 use Rattle.wsm_machine.proofs.PushedValues.{FitsPushed, Gives, gives}
 use Rattle.wsm_machine.proofs.NextPlaces.{leads_on, jumps_well}
+use Rattle.wsm_machine.proofs.NarrowedFields.{along_fits}
 use Rattle.wsm_machine.proofs.ReturnedStacks.{returns_well}
 use Rattle.wsm_machine.proofs.Traps.{Pushes, no_trap}
 
@@ -80,23 +81,23 @@ return_or Return = inl refl
 return_or i = inr ((λ e. no (ap returns e)), (λ x m. refl))
 
 returned : (p : Program) (c : SectionId) (d : Inputs) (i : Instr) (s : labels.State) (m : State) → rules.types_fit p.header.kinds (rules.results p c) i s.stack ≡ true → rules.fold_missing c i s.folded ≡ false
-    → FitsState s m → returns_badly (setting p c d) i m ≡ false
+    → FitsState c d s m → returns_badly (setting p c d) i m ≡ false
 returned p c d Return s m t f h = ap not (returns_well p c d s m t f h)
 returned p c d i s m t f h = refl
 
 -- ---- the step
 
 abbrev state_with : Instr → labels.State → List Known → labels.State
-state_with i s vs = record { stack = vs ++ drop (labels.pops i) s.stack; folded = labels.folded_after i s.folded }
+state_with i s vs = record s { stack = vs ++ drop (labels.pops i) s.stack; folded = labels.folded_after i s.folded }
 
 module _ (p : Program) (c : SectionId) (r : labels.Ranges) (d : Inputs) (i : Instr) (s : labels.State) (m : State) where
-  given : Passes (rules.setting p c r) m.place i s → FitsState s m → ReadsFit r d i → Gives r d p.header.kinds i s.stack m.stack
-  given h f g = gives r d p.header.kinds (rules.results p c) i s.stack m.stack (not-false _ h.types) h.divides h.has_interval g f.values
+  given : Passes (rules.setting p c r) m.place i s → FitsState c d s m → ReadsFit r s.fields d i → Gives r d p.header.kinds s i s.stack m.stack
+  given h f g = gives r d p.header.kinds s (rules.results p c) i s.stack m.stack (not-false _ h.types) h.divides h.has_interval g f.values
 
-  tall : Passes (rules.setting p c r) m.place i s → FitsState s m → nat_lt (length m.stack) (labels.pops i) ≡ false
+  tall : Passes (rules.setting p c r) m.place i s → FitsState c d s m → nat_lt (length m.stack) (labels.pops i) ≡ false
   tall h f = ap (λ n. nat_lt n (labels.pops i)) (length_fits s.stack m.stack f.values) ∙ h.enough
 
-  pushes : Passes (rules.setting p c r) m.place i s → FitsState s m → Gives r d p.header.kinds i s.stack m.stack → Pushes (setting p c d) m i
+  pushes : Passes (rules.setting p c r) m.place i s → FitsState c d s m → Gives r d p.header.kinds s i s.stack m.stack → Pushes (setting p c d) m i
   pushes h f g = record {
     computes = record {
       reads = record {
@@ -113,43 +114,45 @@ module _ (p : Program) (c : SectionId) (r : labels.Ranges) (d : Inputs) (i : Ins
         (ap (λ o. rules.overflows s.stack o (labels.pops i)) (sym g.known) ∙ h.has_room);
   }
 
-  after_is : (g : Gives r d p.header.kinds i s.stack m.stack) → labels.after r i s ≡ Some (state_with i s g.vs)
+  after_is : (g : Gives r d p.header.kinds s i s.stack m.stack) → labels.after r i s ≡ Some (state_with i s g.vs)
   after_is g = ap (option_map (state_with i s)) g.known
 
-  after_fits : Passes (rules.setting p c r) m.place i s → FitsState s m → (g : Gives r d p.header.kinds i s.stack m.stack) → FitsState (state_with i s g.vs) (after (setting p c d) m i)
+  after_fits : Passes (rules.setting p c r) m.place i s → FitsState c d s m → (g : Gives r d p.header.kinds s i s.stack m.stack) → FitsState c d (state_with i s g.vs) (after (setting p c d) m i)
   after_fits h f g = record {
     values = subst (λ n. FitsAll (g.vs ++ drop (labels.pops i) s.stack) (push_on (pushed d i m.stack) (drop n m.stack))) (sym (same_pops p.header.kinds i))
         (push_fits g.vs (pushed d i m.stack) (drop (labels.pops i) s.stack) (drop (labels.pops i) m.stack) g.values (drop_fits (labels.pops i) s.stack m.stack f.values));
     flags = ap (labels.folded_after i) f.flags ∙ flags_after i m.stack m.folds (tall h f);
+    fields = f.fields;
   }
 
   -- no trap holds
-  pub no_trap_holds : Passes (rules.setting p c r) m.place i s → FitsState s m → ReadsFit r d i → step (setting p c d) m i ≡ taken (setting p c d) m i
+  pub no_trap_holds : Passes (rules.setting p c r) m.place i s → FitsState c d s m → ReadsFit r s.fields d i → step (setting p c d) m i ≡ taken (setting p c d) m i
   no_trap_holds h f g =
-      no_trap (setting p c d) m i (pushes h f (given h f g)) (jumps_well (section p c) m.place i m.stack h.jumps) (returned p c d i s m (not-false _ h.types) h.all_folded f)
+      no_trap (setting p c d) m i (pushes h f (given h f g)) (jumps_well d (section p c) m.place i m.stack h.jumps) (returned p c d i s m (not-false _ h.types) h.all_folded f)
 
   -- the edges of the instruction carry a state
   pub has_after : Passes (rules.setting p c r) m.place i s → (t : labels.State) × (labels.after r i s ≡ Some t)
-  has_after h = carried (labels.pushed r i s.stack) refl h.has_interval
+  has_after h = carried (labels.pushed r i s) refl h.has_interval
     where
-      carried : (o : Option (List Known)) → labels.pushed r i s.stack ≡ o → is_none o ≡ false → (t : labels.State) × (labels.after r i s ≡ Some t)
+      carried : (o : Option (List Known)) → labels.pushed r i s ≡ o → is_none o ≡ false → (t : labels.State) × (labels.after r i s ≡ Some t)
       carried None e n = absurd (true≢false n)
       carried (Some vs) e n = (state_with i s vs, ap (option_map (state_with i s)) e)
 
-  goes_on : m.place < length (section p c) → Passes (rules.setting p c r) m.place i s → FitsState s m → ReadsFit r d i → (i ≡ Return → ⊥)
+  goes_on : m.place < length (section p c) → Passes (rules.setting p c r) m.place i s → FitsState c d s m → ReadsFit r s.fields d i → (i ≡ Return → ⊥)
       → taken (setting p c d) m i ≡ Goes (after (setting p c d) m i) → GoesOn p c r d i s m (after (setting p c d) m i)
   goes_on l h f g e k =
-      let there = leads_on (length (section p c)) m.place i m.stack l h.jumps h.ends e in
+      let there = leads_on d (length (section p c)) m.place i m.stack l h.jumps h.ends e in
       let gv = given h f g in
       record {
         goes = no_trap_holds h f g ∙ k;
         edge = there.edge;
         inside = there.inside;
-        fits = λ t a. subst (λ u. FitsState u (after (setting p c d) m i)) (same_Some (state_with i s gv.vs) t (sym (after_is gv) ∙ a)) (after_fits h f gv);
+        fits = λ t a. along_fits c d i m.stack m.place t (after (setting p c d) m i) refl
+            (subst (λ u. FitsState c d u (after (setting p c d) m i)) (same_Some (state_with i s gv.vs) t (sym (after_is gv) ∙ a)) (after_fits h f gv));
       }
 
   -- a return ends, and any other instruction goes on to a state that fits
-  pub step_fits : m.place < length (section p c) → Passes (rules.setting p c r) m.place i s → FitsState s m → ReadsFit r d i → Moves p c r d i s m
+  pub step_fits : m.place < length (section p c) → Passes (rules.setting p c r) m.place i s → FitsState c d s m → ReadsFit r s.fields d i → Moves p c r d i s m
   step_fits l h f g =
       elim (return_or i) [
         | inl e ↦ inl (e, no_trap_holds h f g ∙ ap (taken (setting p c d) m) e)

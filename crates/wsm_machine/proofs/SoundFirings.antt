@@ -7,7 +7,7 @@ use Rattle.std.specs.Prelude.{pos, ◌≤ℤ◌, ◌+ℤ◌, int_lt, int_le, nat
 use Rattle.std.specs.List.{AllByRecursion, cons_option}
 use Rattle.wsm_record.specs.declared.event.Value.{Value}
 use Rattle.wsm_record.specs.declared.words.Mode.{Mode}
-use Rattle.wsm_record.specs.declared.words.Mode.TheVariants.{Discarding, Accumulating}
+use Rattle.wsm_record.specs.declared.words.Mode.TheVariants.{Discarding, Accumulating, Retracting}
 use Rattle.wsm_record.specs.Event.{Event, Record, Watermark}
 use Rattle.wsm_windows.specs.declared.window.PaneKind.{PaneKind}
 use Rattle.wsm_windows.specs.declared.window.PaneKind.TheVariants.{Early, OnTime, Late, Final}
@@ -16,8 +16,8 @@ use Rattle.wsm_windows.specs.declared.place.Place.{Place}
 use Rattle.wsm_windows.specs.Places.{window_of}
 use Rattle.wsm_admission.specs.declared.clock.Clock.{Clock}
 use Rattle.wsm_admission.specs.declared.verdict.Refusal.{Refusal}
-use Rattle.wsm_admission.specs.Clock.{verdict_at}
-use Rattle.wsm_admission.specs.Admission.{answer}
+use Rattle.wsm_admission.specs.Clock.{verdict_at, least as least_mark}
+use Rattle.wsm_admission.specs.Admission.{answer, marks_with}
 use Rattle.wsm_semantics.specs.Query.{Query, Datum}
 use Rattle.wsm_semantics.specs.Panes.{is_there}
 use Rattle.wsm_semantics.specs.Firings.{is_enough, kind_on_record, kind_on_watermark}
@@ -53,7 +53,7 @@ chosen_enough m n kind k h =
 -- by a record: one that isn't shown yet
 some_by_record : {X : Type 0} (q : Query) (w : ℤ) (d : Datum) (p : Place) (h : Pane X) (k : PaneKind) → kind_by_record q w d p h ≡ Some k → 1 ≤ h.unshown
 some_by_record q w d p h k e =
-    elim (is_there p d) as (λ b. cond b (kind_on_record q w p.end h.unshown) None ≡ Some k → 1 ≤ h.unshown) [
+    elim (is_there q p d) as (λ b. cond b (kind_on_record q w p.end h.unshown) None ≡ Some k → 1 ≤ h.unshown) [
       | true ↦ λ g. elim (int_lt w p.end) as (λ b. cond b (cond (is_enough q.early h.unshown) (Some Early) None) (cond (is_enough q.late h.unshown) (Some Late) None) ≡ Some k → 1 ≤ h.unshown) [
         | true ↦ chosen_enough q.early h.unshown Early k
         | false ↦ chosen_enough q.late h.unshown Late k
@@ -78,6 +78,7 @@ some_by_watermark q old new p n u k l e =
 unshown_counted : {X : Type 0} (m : Mode) (h : Pane X) → h.unshown ≤ h.count → h.unshown ≤ fired_count m h
 unshown_counted Accumulating h l = l
 unshown_counted Discarding h l = omega arith
+unshown_counted Retracting h l = l
 
 module _ (p : Program) (costs : Costs) (judged : judge p ≡ Ok costs) (lawful : IsTrue (is_program p)) where
   abbrev Panes : Type 0
@@ -110,10 +111,10 @@ module _ (p : Program) (costs : Costs) (judged : judge p ≡ Ok costs) (lawful :
 
   by_record_may : (w : ℤ) (d : Datum) (n : ℕ) (es : Panes) → IsDatumInRange p d → pos (n + 1) ≤ℤ p.header.clock.records → AreSound p n es → AllByRecursion (MayFire p) (fired_by_record (plan_of p) (query_of p) w d es)
   by_record_may w d n es ranged few h =
-      let now : Panes = entered (plan_of p) p.header.shape d es in
+      let now : Panes = entered (plan_of p) p.header.shape p.header.clock.lateness d es in
       let sound : AreSound p (n + 1) now = record {
-        each = entered_sound p costs judged lawful d ranged p.header.shape es h.each;
-        counts = at_most-entered (plan_of p) p.header.shape (lawful_programs.lawful p lawful).shape n d es h.counts;
+        each = entered_sound p costs judged lawful d ranged p.header.shape p.header.clock.lateness es h.each;
+        counts = at_most-entered (plan_of p) p.header.shape p.header.clock.lateness (lawful_programs.lawful p lawful).shape n d es h.counts;
       } in
       fires_may (kind_by_record (query_of p) w d)
       (λ r k kind f is. least k.unshown (fired_count p.header.mode k) (some_by_record (query_of p) w d r k kind is) (unshown_counted p.header.mode k f.unshown))
@@ -122,24 +123,24 @@ module _ (p : Program) (costs : Costs) (judged : judge p ≡ Ok costs) (lawful :
       least : (a b : ℕ) → 1 ≤ a → a ≤ b → 1 ≤ b
       least a b l m = omega (arith, l, m)
 
-  answered_may : (s : State (List Value)) → IsSoundState p s → (e : Event) (v : Option Refusal) → v ≡ verdict_at s.admission.clock p.header.schema s.admission.mark s.admission.admitted e →
-      AllByRecursion (MayFire p) (fired_by (plan_of p) (query_of p) (answer s.admission.mark e v) e s)
-  answered_may s h (Record (Some k) t vs) None is =
-      elim ((plan_of p).selects k vs) as (λ b. AllByRecursion (MayFire p) (cond b (fired_by_record (plan_of p) (query_of p) s.admission.mark (datum 0 k t vs) s.panes) [])) [
-        | true ↦ by_record_may s.admission.mark (datum 0 k t vs) s.admission.admitted s.panes
-            (record_in_range p costs judged lawful s.admission.clock s.admission.mark s.admission.admitted 0 k t vs (sym is))
-            (room_for_record p costs judged lawful s.admission.mark s.admission.admitted k t vs
-            (ap (λ (c : Clock). verdict_at c p.header.schema s.admission.mark s.admission.admitted (Record (Some k) t vs)) (sym h.clock) ∙ sym is))
+  answered_may : (s : State (List Value)) → IsSoundState p s → (new : ℤ) (e : Event) (v : Option Refusal) → v ≡ verdict_at s.admission.clock p.header.schema s.admission.marks s.admission.admitted e →
+      AllByRecursion (MayFire p) (fired_by (plan_of p) (query_of p) (answer s.admission.mark new e v) e s)
+  answered_may s h new (Record (Some k) t vs) None is =
+      elim ((plan_of p).selects k vs) as (λ b. AllByRecursion (MayFire p) (cond b (fired_by_record (plan_of p) (query_of p) s.admission.mark (datum 0 s.admission.mark k t vs) s.panes) [])) [
+        | true ↦ by_record_may s.admission.mark (datum 0 s.admission.mark k t vs) s.admission.admitted s.panes
+            (record_in_range p costs judged lawful s.admission.clock s.admission.marks s.admission.admitted 0 s.admission.mark k t vs (sym is))
+            (room_for_record p costs judged lawful s.admission.marks s.admission.admitted k t vs
+            (ap (λ (c : Clock). verdict_at c p.header.schema s.admission.marks s.admission.admitted (Record (Some k) t vs)) (sym h.clock) ∙ sym is))
             h.panes
         | false ↦ tt
       ]
-  answered_may s h (Record None t vs) None is = absurd (cc)
-  answered_may s h (Watermark t) None is = by_watermark_may s.admission.mark t s.admission.admitted s.panes (admitted_within p costs judged lawful s h) h.panes
-  answered_may s h e (Some r) is = tt
+  answered_may s h new (Record None t vs) None is = absurd (cc)
+  answered_may s h new (Watermark o t) None is = by_watermark_may s.admission.mark new s.admission.admitted s.panes (admitted_within p costs judged lawful s h) h.panes
+  answered_may s h new e (Some r) is = tt
 
   -- each firing of an event's turn has records, and FIRE may read what they are folded to
   pub step_fires_may : (s : State (List Value)) → IsSoundState p s → (e : Event) → AllByRecursion (MayFire p) (step_fires (plan_of p) (query_of p) s e)
-  step_fires_may s h e = answered_may s h e (verdict_at s.admission.clock p.header.schema s.admission.mark s.admission.admitted e) refl
+  step_fires_may s h e = answered_may s h (least_mark (marks_with s.admission.marks e)) e (verdict_at s.admission.clock p.header.schema s.admission.marks s.admission.admitted e) refl
 
   -- a firing costs at most what is stated
   pub fired_within : (f : Fired (List Value)) → MayFire p f → pane_cost_by p f ≤ p.header.budget.per_pane

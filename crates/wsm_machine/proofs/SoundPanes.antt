@@ -9,13 +9,13 @@ use Rattle.std.proofs.lemmas.Bool.Decides.{nat_tests}
 use Rattle.std.proofs.lemmas.Bool.{and_parts}
 use Rattle.wsm_record.specs.declared.event.Value.{Value}
 use Rattle.wsm_record.specs.declared.words.Mode.{Mode}
-use Rattle.wsm_record.specs.declared.words.Mode.TheVariants.{Discarding, Accumulating}
+use Rattle.wsm_record.specs.declared.words.Mode.TheVariants.{Discarding, Accumulating, Retracting}
 use Rattle.wsm_record.specs.Schema.{fit_fields}
 use Rattle.wsm_windows.specs.declared.window.PaneKind.{PaneKind}
 use Rattle.wsm_windows.specs.declared.window.Window.{Window}
 use Rattle.wsm_windows.specs.declared.window.Shape.{Shape}
 use Rattle.wsm_windows.specs.declared.window.Shape.TheVariants.{Fixed, Sliding, Session}
-use Rattle.wsm_windows.specs.Windows.{windows_of_shape}
+use Rattle.wsm_windows.specs.Life.{live_windows_of}
 use Rattle.wsm_windows.specs.declared.place.Place.{Place}
 use Rattle.wsm_windows.specs.Places.{place_cmp, at}
 use Rattle.wsm_windows.proofs.Places.{places_exact}
@@ -43,14 +43,17 @@ module _ {X : Type 0} where
   counted-joined : (m : Mode) (a b h : Pane X) → h.count ≡ a.count + b.count → h.unshown ≡ a.unshown + b.unshown → fired_count m a + fired_count m b ≡ fired_count m h
   counted-joined Accumulating a b h c u = sym c
   counted-joined Discarding a b h c u = sym u
+  counted-joined Retracting a b h c u = sym c
 
   counted-alone : (m : Mode) (h : Pane X) → h.count ≡ 1 → h.unshown ≡ 1 → 1 ≡ fired_count m h
   counted-alone Accumulating h c u = sym c
   counted-alone Discarding h c u = sym u
+  counted-alone Retracting h c u = sym c
 
   counted-more : (m : Mode) (a h : Pane X) → h.count ≡ a.count + 1 → h.unshown ≡ a.unshown + 1 → fired_count m a + 1 ≡ fired_count m h
   counted-more Accumulating a h c u = sym c
   counted-more Discarding a h c u = sym u
+  counted-more Retracting a h c u = sym c
 
 module _ (p : Program) where
   joined_sound : (a b : Pane (List Value)) → IsSoundPane p a → IsSoundPane p b → IsSoundPane p (joined (plan_of p) a b)
@@ -80,6 +83,7 @@ module _ (p : Program) where
       → AreFoldsOf p (fired_count m h) h.folded → AreFoldsOf p (fired_count m k) k.folded
   left_sound Accumulating h k c u l f = subst (AreFoldsOf p k.count) (sym l) (subst (λ n. AreFoldsOf p n h.folded) (sym c) f)
   left_sound Discarding h k c u l f = subst (AreFoldsOf p k.unshown) (sym l) u
+  left_sound Retracting h k c u l f = subst (AreFoldsOf p k.count) (sym l) (subst (λ n. AreFoldsOf p n h.folded) (sym c) f)
 
   fired_sound : (r : Place) (kind : Option PaneKind) (h : Pane (List Value)) → IsSoundPane p h → IsSoundPane p (fired_pane (plan_of p) p.header.mode r kind h)
   fired_sound r None h f = f
@@ -145,15 +149,15 @@ module _ (p : Program) where
         (joined_all_sound parts (filter-all (IsSoundEntry p) (λ e. is_linked gap d e.0) es h))
         (filter (λ e. not (is_linked gap d e.0)) es) (filter-all (IsSoundEntry p) (λ e. not (is_linked gap d e.0)) es h)
 
-    pub entered_sound : (sh : Shape) (es : Panes) → AllByRecursion (IsSoundEntry p) es → AllByRecursion (IsSoundEntry p) (entered (plan_of p) sh d es)
-    entered_sound (Fixed size) es h = assigned_sound (windows_of_shape (Fixed size) d.time) es h
-    entered_sound (Sliding size period) es h = assigned_sound (windows_of_shape (Sliding size period) d.time) es h
-    entered_sound (Session gap) es h = merged_sound gap es h
+    pub entered_sound : (sh : Shape) (lateness : ℤ) (es : Panes) → AllByRecursion (IsSoundEntry p) es → AllByRecursion (IsSoundEntry p) (entered (plan_of p) sh lateness d es)
+    entered_sound (Fixed size) lateness es h = assigned_sound (live_windows_of (Fixed size) d.time lateness d.mark) es h
+    entered_sound (Sliding size period) lateness es h = assigned_sound (live_windows_of (Sliding size period) d.time lateness d.mark) es h
+    entered_sound (Session gap) lateness es h = merged_sound gap es h
 
     -- a selected record
     pub sound_after_record : (w : ℤ) (n : ℕ) (es : Panes) → AreSound p n es → AreSound p (n + 1) (after_record (plan_of p) (query_of p) w d es)
     sound_after_record w n es h = record {
-      each = all_fired_sound (kind_by_record (query_of p) w d) (entered (plan_of p) p.header.shape d es) (entered_sound p.header.shape es h.each);
+      each = all_fired_sound (kind_by_record (query_of p) w d) (entered (plan_of p) p.header.shape p.header.clock.lateness d es) (entered_sound p.header.shape p.header.clock.lateness es h.each);
       counts = at_most-after_record (plan_of p) (query_of p) (lawful_programs.lawful p lawful).shape w d n es h.counts;
     }
 

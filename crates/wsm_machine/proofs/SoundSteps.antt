@@ -8,7 +8,7 @@ use Rattle.std.specs.List.{AllByRecursion}
 use Rattle.std.proofs.lemmas.Bool.{and_from}
 use Rattle.wsm_record.specs.declared.event.Value.{Value}
 use Rattle.wsm_record.specs.declared.words.Mode.{Mode}
-use Rattle.wsm_record.specs.declared.words.Mode.TheVariants.{Discarding, Accumulating}
+use Rattle.wsm_record.specs.declared.words.Mode.TheVariants.{Discarding, Accumulating, Retracting}
 use Rattle.wsm_record.specs.Event.{Event, Record, Watermark}
 use Rattle.wsm_record.specs.Schema.{fit_fields}
 use Rattle.wsm_windows.specs.declared.window.Shape.{Shape}
@@ -17,9 +17,9 @@ use Rattle.wsm_windows.specs.declared.place.Place.{Place}
 use Rattle.wsm_admission.specs.declared.clock.Clock.{Clock}
 use Rattle.wsm_admission.specs.declared.verdict.Refusal.{Refusal}
 use Rattle.wsm_admission.specs.declared.verdict.Refusal.TheVariants as refusal
-use Rattle.wsm_admission.specs.Clock.{verdict_at}
+use Rattle.wsm_admission.specs.Clock.{verdict_at, least as least_mark}
 use Rattle.wsm_admission.specs.Admission as admission
-use Rattle.wsm_admission.specs.Admission.{after, answer}
+use Rattle.wsm_admission.specs.Admission.{after, answer, marks_with}
 use Rattle.wsm_admission.proofs.FittedHistory.{clock-after}
 use Rattle.wsm_admission.proofs.Taken.{IsTaken, taken_record}
 use Rattle.wsm_fold.specs.Accumulators.{SumsFit}
@@ -44,16 +44,16 @@ use Rattle.wsm_machine.proofs.SoundPanes.{sound_after_record, sound_after_waterm
 
 module _ (p : Program) (costs : Costs) (judged : judge p ≡ Ok costs) (lawful : IsTrue (is_program p)) where
   -- an admitted record is in range
-  pub record_in_range : (c : Clock) (mark : ℤ) (n turn key : ℕ) (time : ℤ) (values : List Value) → verdict_at c p.header.schema mark n (Record (Some key) time values) ≡ None →
-      IsDatumInRange p (datum turn key time values)
-  record_in_range c mark n turn key time values h =
-      let taken : IsTaken c p.header.schema mark n (Some key) time values = taken_record c p.header.schema mark n (Some key) time values h in
+  pub record_in_range : (c : Clock) (marks : List ℤ) (n turn : ℕ) (mark : ℤ) (key : ℕ) (time : ℤ) (values : List Value) → verdict_at c p.header.schema marks n (Record (Some key) time values) ≡ None →
+      IsDatumInRange p (datum turn mark key time values)
+  record_in_range c marks n turn mark key time values h =
+      let taken : IsTaken c p.header.schema (least_mark marks) n (Some key) time values = taken_record c p.header.schema (least_mark marks) n (Some key) time values h in
       and_from (nat_lt key (length p.header.schema.keys)) (fit_fields p.header.schema.fields values) taken.has_key taken.fits
 
   -- and there were fewer records than the program allows
-  pub room_for_record : (mark : ℤ) (n key : ℕ) (time : ℤ) (values : List Value) → verdict_at p.header.clock p.header.schema mark n (Record (Some key) time values) ≡ None → pos (n + 1) ≤ℤ p.header.clock.records
-  room_for_record mark n key time values h =
-      fits p.header.clock.records n (lawful_programs.lawful p lawful).records.0 (taken_record p.header.clock p.header.schema mark n (Some key) time values h).room
+  pub room_for_record : (marks : List ℤ) (n key : ℕ) (time : ℤ) (values : List Value) → verdict_at p.header.clock p.header.schema marks n (Record (Some key) time values) ≡ None → pos (n + 1) ≤ℤ p.header.clock.records
+  room_for_record marks n key time values h =
+      fits p.header.clock.records n (lawful_programs.lawful p lawful).records.0 (taken_record p.header.clock p.header.schema (least_mark marks) n (Some key) time values h).room
     where
       fits : (r : ℤ) (n : ℕ) → pos 1 ≤ℤ r → nat_le (unsigned_abs r) n ≡ false → pos (n + 1) ≤ℤ r
       fits r n l h = grind (arith, ints, nat_tests)
@@ -61,39 +61,40 @@ module _ (p : Program) (costs : Costs) (judged : judge p ≡ Ok costs) (lawful :
   more_sound : (m n : ℕ) (panes : List (Place × Pane (List Value))) → m ≤ n → AreSound p m panes → AreSound p n panes
   more_sound m n panes l h = record { each = h.each; counts = at_most_later p.header.shape m n l panes h.counts }
 
-  refused_admits : (s : admission.State) (r : Refusal) → (after (Err r) s).admitted ≡ s.admitted
-  refused_admits s refusal.Late = refl
-  refused_admits s _ = refl
+  refused_admits : (s : admission.State) (e : Event) (r : Refusal) → (after (Err r) e s).admitted ≡ s.admitted
+  refused_admits s e refusal.Late = refl
+  refused_admits s e _ = refl
 
-  panes_sound : (s : State (List Value)) → AreSound p s.admission.admitted s.panes → (e : Event) (v : Option Refusal) →
-      v ≡ verdict_at s.admission.clock p.header.schema s.admission.mark s.admission.admitted e →
-      AreSound p (after (answer s.admission.mark e v) s.admission).admitted (panes_after (plan_of p) (query_of p) (answer s.admission.mark e v) e s)
-  panes_sound s sound (Record (Some k) t vs) None h =
-      elim ((plan_of p).selects k vs) as (λ b. AreSound p (s.admission.admitted + 1) (cond b (after_record (plan_of p) (query_of p) s.admission.mark (datum 0 k t vs) s.panes) s.panes)) [
-        | true ↦ sound_after_record p costs judged lawful (datum 0 k t vs) (record_in_range s.admission.clock s.admission.mark s.admission.admitted 0 k t vs (sym h)) s.admission.mark s.admission.admitted s.panes sound
+  panes_sound : (s : State (List Value)) → AreSound p s.admission.admitted s.panes → (new : ℤ) (e : Event) (v : Option Refusal) →
+      v ≡ verdict_at s.admission.clock p.header.schema s.admission.marks s.admission.admitted e →
+      AreSound p (after (answer s.admission.mark new e v) e s.admission).admitted (panes_after (plan_of p) (query_of p) (answer s.admission.mark new e v) e s)
+  panes_sound s sound new (Record (Some k) t vs) None h =
+      elim ((plan_of p).selects k vs) as (λ b. AreSound p (s.admission.admitted + 1) (cond b (after_record (plan_of p) (query_of p) s.admission.mark (datum 0 s.admission.mark k t vs) s.panes) s.panes)) [
+        | true ↦ sound_after_record p costs judged lawful (datum 0 s.admission.mark k t vs) (record_in_range s.admission.clock s.admission.marks s.admission.admitted 0 s.admission.mark k t vs (sym h)) s.admission.mark s.admission.admitted s.panes sound
         | false ↦ more_sound s.admission.admitted (s.admission.admitted + 1) s.panes (omega arith) sound
       ]
-  panes_sound s sound (Record None t vs) None h = absurd (cc)
-  panes_sound s sound (Watermark t) None h = sound_after_watermark p s.admission.mark t s.admission.admitted s.panes sound
-  panes_sound s sound e (Some r) h = subst (λ n. AreSound p n s.panes) (sym (refused_admits s.admission r)) sound
+  panes_sound s sound new (Record None t vs) None h = absurd (cc)
+  panes_sound s sound new (Watermark o t) None h = sound_after_watermark p s.admission.mark new s.admission.admitted s.panes sound
+  panes_sound s sound new e (Some r) h = subst (λ n. AreSound p n s.panes) (sym (refused_admits s.admission e r)) sound
 
-  admitted_few : (s : admission.State) (e : Event) (v : Option Refusal) → v ≡ verdict_at s.clock p.header.schema s.mark s.admitted e → s.admitted ≤ unsigned_abs s.clock.records → (after (answer s.mark e v) s).admitted ≤ unsigned_abs s.clock.records
-  admitted_few s (Record (Some k) t vs) None h l =
-      let room : nat_le (unsigned_abs s.clock.records) s.admitted ≡ false = (taken_record s.clock p.header.schema s.mark s.admitted (Some k) t vs (sym h)).room in
+  admitted_few : (s : admission.State) (new : ℤ) (e : Event) (v : Option Refusal) → v ≡ verdict_at s.clock p.header.schema s.marks s.admitted e → s.admitted ≤ unsigned_abs s.clock.records → (after (answer s.mark new e v) e s).admitted ≤ unsigned_abs s.clock.records
+  admitted_few s new (Record (Some k) t vs) None h l =
+      let room : nat_le (unsigned_abs s.clock.records) s.admitted ≡ false = (taken_record s.clock p.header.schema (least_mark s.marks) s.admitted (Some k) t vs (sym h)).room in
       grind (arith, nat_tests)
-  admitted_few s (Record None t vs) None h l = absurd (cc)
-  admitted_few s (Watermark t) None h l = l
-  admitted_few s e (Some r) h l = subst (λ n. n ≤ unsigned_abs s.clock.records) (sym (refused_admits s r)) l
+  admitted_few s new (Record None t vs) None h l = absurd (cc)
+  admitted_few s new (Watermark o t) None h l = l
+  admitted_few s new e (Some r) h l = subst (λ n. n ≤ unsigned_abs s.clock.records) (sym (refused_admits s e r)) l
 
   -- an event
   pub sound_step : (s : State (List Value)) (e : Event) → IsSoundState p s → IsSoundState p (step (plan_of p) (query_of p) s e)
   sound_step s e h =
-      let v : Option Refusal = verdict_at s.admission.clock p.header.schema s.admission.mark s.admission.admitted e in
-      let same : (after (answer s.admission.mark e v) s.admission).clock ≡ s.admission.clock = clock-after s.admission e v in
+      let v : Option Refusal = verdict_at s.admission.clock p.header.schema s.admission.marks s.admission.admitted e in
+      let new : ℤ = least_mark (marks_with s.admission.marks e) in
+      let same : (after (answer s.admission.mark new e v) e s.admission).clock ≡ s.admission.clock = clock-after s.admission.mark new s.admission e v in
       record {
         clock = same ∙ h.clock;
-        admitted = subst (λ (c : Clock). (after (answer s.admission.mark e v) s.admission).admitted ≤ unsigned_abs c.records) (sym same) (admitted_few s.admission e v refl h.admitted);
-        panes = panes_sound s h.panes e v refl;
+        admitted = subst (λ (c : Clock). (after (answer s.admission.mark new e v) e s.admission).admitted ≤ unsigned_abs c.records) (sym same) (admitted_few s.admission new e v refl h.admitted);
+        panes = panes_sound s h.panes new e v refl;
       }
 
   -- before the first event, and after any list of events
@@ -117,6 +118,7 @@ module _ (p : Program) (costs : Costs) (judged : judge p ≡ Ok costs) (lawful :
   count_least : (m : Mode) (n : ℕ) (h : Pane (List Value)) → h.unshown ≤ h.count → h.count ≤ n → fired_count m h ≤ n
   count_least Accumulating n h u l = l
   count_least Discarding n h u l = omega (arith, u, l)
+  count_least Retracting n h u l = l
 
   -- FIRE may read what a pane holds
   abbrev pub CanFire : Place × Pane (List Value) → Type 0

@@ -11,6 +11,7 @@ use Rattle.wsm_windows.specs.declared.window.Shape.{Shape}
 use Rattle.wsm_windows.specs.declared.window.Shape.TheVariants.{Fixed, Sliding, Session}
 use Rattle.wsm_windows.specs.Windows.{IsShape, has_inside, last_start, windows_up_to, windows_of, windows_of_shape}
 use Rattle.wsm_windows.specs.declared.place.Place.{Place}
+use Rattle.wsm_windows.specs.Life.{is_live}
 use Rattle.wsm_semantics.specs.Query.{Datum}
 use Rattle.wsm_semantics.specs.Summaries.{Pane}
 use Rattle.wsm_program.specs.declared.instr.SectionId.TheVariants.{Where, Update, Fire}
@@ -24,7 +25,7 @@ use Rattle.wsm_verifier.proofs.AcceptedPlaces.{accepted}
 use Rattle.wsm_verifier.proofs.Lawful as lawful_programs
 use Rattle.wsm_verifier.proofs.Lawful.{product_few}
 use Rattle.wsm_machine.specs.InRange.{in_range}
-use Rattle.wsm_machine.specs.Meaning.{record_inputs, pane_inputs, where_run, update_run, fire_run, selects, record_steps, joins_held, record_cost_by}
+use Rattle.wsm_machine.specs.Meaning.{record_inputs, pane_inputs, where_run, update_run, fire_run, selects, record_steps, joins_held, record_cost_by, windows_entered}
 use Rattle.wsm_machine.specs.Sound.{IsDatumInRange}
 use Rattle.wsm_machine.proofs.CompleteRuns.{steps_within}
 
@@ -78,6 +79,18 @@ windows_few (Sliding size period) t ok =
     least a b c h k = omega (arith, h, k)
 windows_few (Session gap) t ok = omega arith
 
+-- no more of them are live
+pub entered_few : (sh : Shape) (lateness : ℤ) (d : Datum) → IsShape sh → windows_entered sh lateness d ≤ windows_of_a_record sh
+entered_few (Fixed size) lateness d ok = through (filtered (λ w. is_live w lateness d.mark) (windows_of_shape (Fixed size) d.time)) (windows_few (Fixed size) d.time ok)
+  where
+    through : {a b c : ℕ} → a ≤ b → b ≤ c → a ≤ c
+    through h k = omega (arith, h, k)
+entered_few (Sliding size period) lateness d ok = through (filtered (λ w. is_live w lateness d.mark) (windows_of_shape (Sliding size period) d.time)) (windows_few (Sliding size period) d.time ok)
+  where
+    through : {a b c : ℕ} → a ≤ b → b ≤ c → a ≤ c
+    through h k = omega (arith, h, k)
+entered_few (Session gap) lateness d ok = omega arith
+
 -- ---- what is stated
 
 -- what is needed is stated
@@ -123,8 +136,8 @@ module _ (p : Program) (costs : Costs) (judged : judge p ≡ Ok costs) (lawful :
   -- a record, by the panes that are held
   pub record_cost_within : (d : Datum) → IsDatumInRange p d → (panes : List (Place × Pane (List Value))) → record_cost_by p panes d ≤ p.header.budget.per_record
   record_cost_within d ranged panes =
-      record_within d ranged (length (windows_of_shape p.header.shape d.time)) (joins_held p.header.shape d panes)
-      (windows_few p.header.shape d.time (lawful_programs.lawful p lawful).shape) (joins_few p.header.shape d panes (length p.header.kinds))
+      record_within d ranged (windows_entered p.header.shape p.header.clock.lateness d) (joins_held p.header.shape d panes)
+      (entered_few p.header.shape p.header.clock.lateness d (lawful_programs.lawful p lawful).shape) (joins_few p.header.shape d panes (length p.header.kinds))
 
   -- a firing that FIRE may read
   pub fire_within : (key n : ℕ) (held : List Value) → IsTrue (in_range p Fire (pane_inputs key n held)) → (fire_run p key n held).steps ≤ p.header.budget.per_pane

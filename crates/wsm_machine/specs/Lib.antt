@@ -3,6 +3,7 @@ pub mod Step
 pub mod Run
 pub mod Steps
 pub mod Vectors
+pub mod TestVectors
 pub mod Fits
 pub mod InRange
 pub mod Meaning

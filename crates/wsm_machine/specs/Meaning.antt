@@ -8,11 +8,11 @@ use Rattle.wsm_record.specs.declared.event.Value.{Value}
 use Rattle.wsm_record.specs.Event.{Event, Record}
 use Rattle.wsm_windows.specs.declared.window.Shape.{Shape}
 use Rattle.wsm_windows.specs.declared.window.Shape.TheVariants.{Session}
-use Rattle.wsm_windows.specs.Windows.{windows_of_shape}
+use Rattle.wsm_windows.specs.Life.{live_windows_of}
 use Rattle.wsm_admission.specs.declared.verdict.Admitted.{Admitted}
 use Rattle.wsm_admission.specs.declared.verdict.Admitted.TheVariants as admitted
 use Rattle.wsm_admission.specs.declared.verdict.Refusal.{Refusal}
-use Rattle.wsm_semantics.specs.Query.{Query, Datum, is_taken, selected}
+use Rattle.wsm_semantics.specs.Query.{Query, Datum, mark, is_taken, selected}
 use Rattle.wsm_semantics.specs.Sessions.{sessions}
 use Rattle.wsm_semantics.specs.Panes.{of_key, windows_among}
 use Rattle.wsm_semantics.specs.Firings.{Firing}
@@ -132,13 +132,13 @@ joins_two (Session gap) before d = nat_lt 1 (length (filter (λ w. is_linked gap
 joins_two shape before d = false
 
 abbrev pub steps_among : Program → List Datum → Datum → ℕ
-steps_among p before d = record_steps p d.key d.values (length (windows_among p.header.shape (d ∷ before) d)) (joins_two p.header.shape before d)
+steps_among p before d = record_steps p d.key d.values (length (windows_among p.header.shape p.header.clock.lateness (d ∷ before) d)) (joins_two p.header.shape before d)
 
 -- the instructions of a turn, its firings aside, and a step for each accumulator that was joined
 abbrev pub record_cost : Program → List Event → Event → ℕ
 record_cost p past (Record (Some key) time values) =
     if is_taken (query_of p) past (Record (Some key) time values)
-    then steps_among p (selected (query_of p) past) (datum (length past) key time values)
+    then steps_among p (selected (query_of p) past) (datum (length past) (mark (query_of p) past) key time values)
     else 0
 record_cost p past e = 0
 
@@ -155,15 +155,20 @@ abbrev pub joins_held : Shape → Datum → List (Place × Pane (List Value)) �
 joins_held (Session gap) d panes = nat_lt 1 (length (linked gap d panes))
 joins_held shape d panes = false
 
+-- how many windows a record is put into: its session, or those of its time that are live
+abbrev pub windows_entered : Shape → ℤ → Datum → ℕ
+windows_entered (Session gap) lateness d = 1
+windows_entered shape lateness d = length (live_windows_of shape d.time lateness d.mark)
+
 abbrev pub record_cost_by : Program → List (Place × Pane (List Value)) → Datum → ℕ
-record_cost_by p panes d = record_steps p d.key d.values (length (windows_of_shape p.header.shape d.time)) (joins_held p.header.shape d panes)
+record_cost_by p panes d = record_steps p d.key d.values (windows_entered p.header.shape p.header.clock.lateness d) (joins_held p.header.shape d panes)
 
 abbrev pub pane_cost_by : Program → Fired (List Value) → ℕ
 pane_cost_by p f = fire_steps p f.place.key f.count f.folded
 
 -- the instructions of an event's turn, its firings aside, and a step for each accumulator that was joined
 abbrev pub answer_cost : Program → Result Admitted Refusal → Event → State (List Value) → ℕ
-answer_cost p (Ok admitted.Record) (Record (Some key) time values) s = record_cost_by p s.panes (datum 0 key time values)
+answer_cost p (Ok admitted.Record) (Record (Some key) time values) s = record_cost_by p s.panes (datum 0 s.admission.mark key time values)
 answer_cost p answer e s = 0
 
 abbrev pub step_cost : Program → State (List Value) → Event → ℕ
@@ -177,6 +182,6 @@ joins_kept shape d panes = false
 
 pub record CountsSessions (q : Query) : Type 0 where
   pub stands_in : (past : List Event) (key : ℕ) (time : ℤ) (values : List Value) → is_taken q past (Record (Some key) time values) ≡ true → q.selects key values ≡ true →
-      length (windows_among q.shape (datum (length past) key time values ∷ selected q past) (datum (length past) key time values)) ≡ length (windows_of_shape q.shape time)
+      length (windows_among q.shape q.clock.lateness (datum (length past) (mark q past) key time values ∷ selected q past) (datum (length past) (mark q past) key time values)) ≡ windows_entered q.shape q.clock.lateness (datum (length past) (mark q past) key time values)
   pub joins_them : (past : List Event) (key : ℕ) (time : ℤ) (values : List Value) → is_taken q past (Record (Some key) time values) ≡ true → q.selects key values ≡ true →
-      joins_two q.shape (selected q past) (datum (length past) key time values) ≡ joins_kept q.shape (datum (length past) key time values) (kept q past)
+      joins_two q.shape (selected q past) (datum (length past) (mark q past) key time values) ≡ joins_kept q.shape (datum (length past) (mark q past) key time values) (kept q past)

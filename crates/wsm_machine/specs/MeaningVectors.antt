@@ -10,6 +10,7 @@ use Rattle.wsm_record.specs.declared.words.Mode.TheVariants.{Discarding, Accumul
 use Rattle.wsm_record.specs.declared.words.Form.TheVariants.{Panes, Rstream}
 use Rattle.wsm_record.specs.Event.{Event, Record, Watermark}
 use Rattle.wsm_record.specs.Schema.{Int as Between}
+use Rattle.wsm_admission.specs.declared.clock.LateBy.TheVariants as late_by
 use Rattle.wsm_windows.specs.declared.window.PaneKind.{PaneKind}
 use Rattle.wsm_windows.specs.declared.window.PaneKind.TheVariants.{Early, OnTime, Late, Final}
 use Rattle.wsm_windows.specs.declared.window.Shape.{Shape}
@@ -35,8 +36,8 @@ use Rattle.wsm_machine.specs.Meaning.{query_of, plan_of, record_cost, record_cos
 abbrev base : Shape → Mode → Program
 base shape mode = record {
   header = record {
-    schema = record { keys = codes "a" ∷ codes "b" ∷ []; fields = record { name = codes "n"; type = Between (pos 0) (pos 100) } ∷ [] };
-    clock = record { start = pos 0; skew = pos 100; lateness = pos 10; records = pos 1000 };
+    schema = record { keys = codes "a" ∷ codes "b" ∷ []; fields = record { name = codes "n"; type = Between (pos 0) (pos 100) } ∷ []; sources = [] };
+    clock = record { start = pos 0; skew = pos 100; lateness = pos 10; late = late_by.Event; records = pos 1000; sources = 1 };
     shape = shape;
     mode = mode;
     early = pos 0;
@@ -66,20 +67,20 @@ ints ns = map (λ n. cells.Int (pos n)) ns
 -- ---- by the meaning
 
 two_records_in_one_pane :
-    all_lines (query_of fixed) (reverse (Ok (a 5 7) ∷ Ok (a 59 3) ∷ Ok (Watermark (pos 60)) ∷ []))
+    all_lines (query_of fixed) (reverse (Ok (a 5 7) ∷ Ok (a 59 3) ∷ Ok (Watermark (Some 0) (pos 60)) ∷ []))
     ≡ Out (rows.Pane OnTime 0 (window (pos 0) (pos 60)) (ints (2 ∷ 10 ∷ []))) ∷ End 3 2 0 0 1 ∷ []
 two_records_in_one_pane = refl
 
 -- HAVING SUM(n) > 10
 having_false_writes_no_row :
     all_lines (query_of (record fixed { fire = Count ∷ Acc 0 ∷ Acc 0 ∷ PushInt (pos 10) ∷ Operate Gt ∷ Return ∷ [] }))
-    (reverse (Ok (a 5 7) ∷ Ok (a 59 3) ∷ Ok (Watermark (pos 60)) ∷ [])) ≡ End 3 2 0 0 1 ∷ []
+    (reverse (Ok (a 5 7) ∷ Ok (a 59 3) ∷ Ok (Watermark (Some 0) (pos 60)) ∷ [])) ≡ End 3 2 0 0 1 ∷ []
 having_false_writes_no_row = refl
 
 -- WHERE n > 5
 only_selected_records :
     all_lines (query_of (record fixed { selection = Field 0 ∷ PushInt (pos 5) ∷ Operate Gt ∷ Return ∷ [] }))
-    (reverse (Ok (a 5 7) ∷ Ok (a 59 3) ∷ Ok (Watermark (pos 60)) ∷ []))
+    (reverse (Ok (a 5 7) ∷ Ok (a 59 3) ∷ Ok (Watermark (Some 0) (pos 60)) ∷ []))
     ≡ Out (rows.Pane OnTime 0 (window (pos 0) (pos 60)) (ints (1 ∷ 7 ∷ []))) ∷ End 3 2 0 0 1 ∷ []
 only_selected_records = refl
 
@@ -95,7 +96,7 @@ a_record_between_that_joins_none = refl
 -- ---- by what is kept of panes
 
 abbrev d : ℕ → ℕ → Datum
-d time n = record { turn = 0; key = 0; time = pos time; values = Int (pos n) ∷ [] }
+d time n = record { turn = 0; mark = pos 0; key = 0; time = pos time; values = Int (pos n) ∷ [] }
 
 abbrev Held : Type 0
 Held = List (Place × Pane (List Value))
@@ -146,7 +147,7 @@ the_joined_session_fires_at_last = refl
 nothing_is_left_of_a_fired_pane :
     after_watermark (plan_of (base (Fixed (pos 60)) Discarding)) (query_of (base (Fixed (pos 60)) Discarding)) (pos 0) (pos 60)
     (after (base (Fixed (pos 60)) Discarding) (d 59 3 ∷ d 5 7 ∷ []))
-    ≡ (record { end = pos 60; start = pos 0; key = 0 }, record { count = 2; unshown = 0; folded = None; stands = Stands (Some (ints (2 ∷ 10 ∷ []))) }) ∷ []
+    ≡ (record { end = pos 60; start = pos 0; key = 0 }, record { count = 2; unshown = 0; folded = None; stands = Stands None (Some (ints (2 ∷ 10 ∷ []))) }) ∷ []
 nothing_is_left_of_a_fired_pane = refl
 
 -- ---- event by event
@@ -171,16 +172,16 @@ pane kind start end columns = rows.Pane kind 0 (window (pos start) (pos end)) (i
 a_joined_session_fires_early : rows_of_all (with_early 4 session) (a 0 1 ∷ a 1 1 ∷ a 40 1 ∷ a 41 1 ∷ a 20 1 ∷ []) ≡ pane Early 0 71 (5 ∷ 5 ∷ []) ∷ []
 a_joined_session_fires_early = refl
 
-discarding_shows_a_record_once : rows_of_all (with_early 2 (base (Fixed (pos 60)) Discarding)) (a 1 2 ∷ a 2 3 ∷ Watermark (pos 60) ∷ []) ≡ pane Early 0 60 (2 ∷ 5 ∷ []) ∷ []
+discarding_shows_a_record_once : rows_of_all (with_early 2 (base (Fixed (pos 60)) Discarding)) (a 1 2 ∷ a 2 3 ∷ Watermark (Some 0) (pos 60) ∷ []) ≡ pane Early 0 60 (2 ∷ 5 ∷ []) ∷ []
 discarding_shows_a_record_once = refl
 
 late_and_final_panes :
-    rows_of_all (with_late 2 fixed) (a 55 1 ∷ Watermark (pos 60) ∷ a 56 2 ∷ a 57 3 ∷ a 58 4 ∷ Watermark (pos 70) ∷ [])
+    rows_of_all (with_late 2 fixed) (a 55 1 ∷ Watermark (Some 0) (pos 60) ∷ a 56 2 ∷ a 57 3 ∷ a 58 4 ∷ Watermark (Some 0) (pos 70) ∷ [])
     ≡ pane OnTime 0 60 (1 ∷ 1 ∷ []) ∷ pane Late 0 60 (3 ∷ 6 ∷ []) ∷ pane Final 0 60 (4 ∷ 10 ∷ []) ∷ []
 late_and_final_panes = refl
 
 late_and_final_panes_of_unshown_records :
-    rows_of_all (with_late 2 (base (Fixed (pos 60)) Discarding)) (a 55 1 ∷ Watermark (pos 60) ∷ a 56 2 ∷ a 57 3 ∷ a 58 4 ∷ Watermark (pos 70) ∷ [])
+    rows_of_all (with_late 2 (base (Fixed (pos 60)) Discarding)) (a 55 1 ∷ Watermark (Some 0) (pos 60) ∷ a 56 2 ∷ a 57 3 ∷ a 58 4 ∷ Watermark (Some 0) (pos 70) ∷ [])
     ≡ pane OnTime 0 60 (1 ∷ 1 ∷ []) ∷ pane Late 0 60 (2 ∷ 5 ∷ []) ∷ pane Final 0 60 (1 ∷ 4 ∷ []) ∷ []
 late_and_final_panes_of_unshown_records = refl
 
@@ -189,13 +190,13 @@ abbrev related : Program
 related = record lasting { header = record lasting.header { form = Rstream } }
 
 nothing_stands_for_a_session_just_joined :
-    rows_of_all related (a 0 1 ∷ a 40 1 ∷ Watermark (pos 70) ∷ a 20 1 ∷ Watermark (pos 80) ∷ Watermark (pos 170) ∷ [])
+    rows_of_all related (a 0 1 ∷ a 40 1 ∷ Watermark (Some 0) (pos 70) ∷ a 20 1 ∷ Watermark (Some 0) (pos 80) ∷ Watermark (Some 0) (pos 170) ∷ [])
     ≡ rows.Rstream (pos 70) (ints (1 ∷ 1 ∷ [])) ∷ rows.Rstream (pos 70) (ints (1 ∷ 1 ∷ [])) ∷ rows.Rstream (pos 170) (ints (3 ∷ 3 ∷ [])) ∷ []
 nothing_stands_for_a_session_just_joined = refl
 
 -- what is kept is what the history says
 abbrev joined_late : List Event
-joined_late = reverse (a 0 1 ∷ a 40 1 ∷ Watermark (pos 70) ∷ a 20 1 ∷ Watermark (pos 80) ∷ [])
+joined_late = reverse (a 0 1 ∷ a 40 1 ∷ Watermark (Some 0) (pos 70) ∷ a 20 1 ∷ Watermark (Some 0) (pos 80) ∷ [])
 
 panes_are_the_history's : (run (plan_of related) (query_of related) joined_late).panes ≡ summaries (plan_of related) Accumulating (kept (query_of related) joined_late)
 panes_are_the_history's = refl

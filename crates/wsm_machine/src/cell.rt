@@ -1,8 +1,9 @@
 //! Values on the stack, and their types.
 
 ghost use Rattle.std.specs.Prelude.{◌≡◌, Some, false};
-ghost use Rattle.wsm_machine.specs.Step.{cell_of as the_cell, is_type as is_type_of, is_same as is_same_of, overflows};
+ghost use Rattle.wsm_machine.specs.Step.{cell_of as the_cell, is_type as is_type_of, is_same as is_same_of, is_passed as is_passed_of, overflows};
 
+use wsm_program::FieldTest;
 use wsm_record::{Cell, CellType, Value};
 
 /// A value, which belongs to this ENUM where it is a name.
@@ -33,5 +34,15 @@ pub(crate) fn is_same(left: Cell, right: Cell) -> bool
         (Cell::Bool(x), Cell::Bool(y)) => x == y,
         (Cell::Enum(_, x), Cell::Enum(_, y)) => x == y,
         _ => false,
+    }
+}
+
+/// Whether a test is true of a value of its field.
+pub(crate) fn is_passed(test: FieldTest, value: Value) -> bool
+    ensures { result ≡ is_passed_of test (Some value) }
+{
+    match value {
+        Value::Int(n) => test.passes(n),
+        Value::Bool(_) | Value::Enum(_) => false,
     }
 }

@@ -1,20 +1,23 @@
 -- Programs, without where they lie in memory, and what holds of each.
-use Rattle.std.specs.Prelude.{ℕ, Bool, true, false, ◌&&◌, List, length, ℤ, pos, nat_le, nat_lt, Option, Some, None, is_some}
+use Rattle.std.specs.Prelude.{ℕ, Bool, true, false, ◌&&◌, List, length, ℤ, pos, nat_eq, nat_le, nat_lt, Option, Some, None, is_some, slice_get}
+use Rattle.std.specs.Ordering.{int_eq}
 use Rattle.std.specs.List.{list_all}
 use Rattle.wsm_record.specs.declared.Kind.{Kind}
 use Rattle.wsm_record.specs.declared.Mode.{Mode}
-use Rattle.wsm_record.specs.declared.Mode.TheVariants.{Discarding, Accumulating}
 use Rattle.wsm_record.specs.declared.Form.{Form}
-use Rattle.wsm_record.specs.declared.Form.TheVariants.{Panes}
 use Rattle.wsm_record.specs.declared.limits.TheConstants.{LATEST_TIME, LONGEST_SPAN, MAX_ACCUMULATORS, MAX_COLUMNS, MAX_PANES, MAX_SECTION, MAX_STATED}
+use Rattle.wsm_record.specs.Modes.{may_write}
 use Rattle.wsm_record.specs.Name.{is_between}
-use Rattle.wsm_record.specs.Schema.{Declared, enum_names, is_within, is_i64, is_schema}
+use Rattle.wsm_record.specs.Schema.{FieldType, Int, Truth, Enum, DeclaredField, Declared, enum_names, is_within, is_i64, is_schema, source_count}
 use Rattle.wsm_admission.specs.declared.clock.Clock.{Clock}
+use Rattle.wsm_admission.specs.declared.clock.LateBy.{LateBy}
+use Rattle.wsm_admission.specs.declared.clock.LateBy.TheVariants as late_by
 use Rattle.wsm_windows.specs.declared.Shape.{Shape}
 use Rattle.wsm_windows.specs.declared.Shape.TheVariants.{Fixed, Sliding, Session}
 use Rattle.wsm_record.specs.declared.words.CellType.{CellType}
 use Rattle.wsm_record.specs.declared.words.CellType.TheVariants as types
 use Rattle.wsm_program.specs.declared.instr.Instr.{Instr}
+use Rattle.wsm_program.specs.declared.instr.FieldTest.{FieldTest}
 use Rattle.wsm_program.specs.declared.instr.Argument.{Argument}
 use Rattle.wsm_program.specs.declared.instr.Argument.TheVariants as arguments
 use Rattle.wsm_program.specs.Instructions.{argument}
@@ -72,12 +75,6 @@ is_shape (Fixed size) = is_size size
 is_shape (Sliding size period) = is_size size && is_within (pos 1) size period
 is_shape (Session gap) = is_size gap
 
--- a stream of changes needs accumulating panes
-abbrev pub is_form_of : Mode → Form → Bool
-is_form_of Accumulating f = true
-is_form_of Discarding Panes = true
-is_form_of Discarding f = false
-
 abbrev pub is_column : Declared → CellType → Bool
 is_column s types.Int = true
 is_column s types.Bool = true
@@ -89,12 +86,30 @@ is_stated n = is_between 1 MAX_STATED n
 abbrev pub is_budget : Costs → Bool
 is_budget b = is_stated b.per_record && (is_stated b.per_pane && is_between 1 MAX_PANES b.held)
 
+-- the same shape of windows, which don't move
+abbrev pub is_same_grid : Shape → Shape → Bool
+is_same_grid (Fixed size) (Fixed other) = int_eq size other
+is_same_grid (Sliding size period) (Sliding other apart) = int_eq size other && int_eq period apart
+is_same_grid _ _ = false
+
+-- lateness is counted from a record's own time, or from the ends of the program's own windows
+abbrev pub is_late_by : Shape → LateBy → Bool
+is_late_by shape late_by.Event = true
+is_late_by shape (late_by.Window other) = is_same_grid shape other
+
+-- who claims what is still to come, and from when on a record is late
+abbrev pub is_sourced : Header → Bool
+is_sourced h = is_late_by h.shape h.clock.late && nat_eq h.clock.sources (source_count h.schema)
+
+abbrev pub is_limited : Clock → Bool
+is_limited c = is_within (pos 0) latest_time c.start && (is_span c.skew && (is_span c.lateness && is_size c.records))
+
 abbrev pub is_clock : Header → Bool
-is_clock h = is_within (pos 0) latest_time h.clock.start && (is_span h.clock.skew && (is_span h.clock.lateness && is_size h.clock.records))
+is_clock h = is_limited h.clock && is_sourced h
 
 -- when panes fire, and what is written
 abbrev pub is_firing : Header → Bool
-is_firing h = is_shape h.shape && (is_span h.early && (is_span h.late && is_form_of h.mode h.form))
+is_firing h = is_shape h.shape && (is_span h.early && (is_span h.late && may_write h.mode h.form))
 
 -- what a pane keeps, and what its row has
 abbrev pub is_row : Header → Bool
@@ -107,6 +122,19 @@ abbrev pub is_name_of : Option (List Name) → ℕ → Bool
 is_name_of None i = false
 is_name_of (Some names) i = nat_lt i (length names)
 
+abbrev pub is_number_type : FieldType → Bool
+is_number_type (Int lo hi) = true
+is_number_type Truth = false
+is_number_type (Enum names) = false
+
+abbrev pub is_number_field : Option DeclaredField → Bool
+is_number_field None = false
+is_number_field (Some f) = is_number_type f.type
+
+-- what is tested is a field of numbers
+abbrev pub is_test : Header → FieldTest → Bool
+is_test h t = is_number_field (slice_get h.schema.fields t.field) && is_i64 t.number
+
 -- what an argument names is there; targets are free
 abbrev pub is_argument : Header → Argument → Bool
 is_argument h arguments.Nothing = true
@@ -116,6 +144,7 @@ is_argument h (arguments.Name e i) = is_name_of (enum_names h.schema e) i
 is_argument h (arguments.Field f) = nat_lt f (length h.schema.fields)
 is_argument h (arguments.Accumulator a) = nat_lt a (length h.kinds)
 is_argument h (arguments.Target t) = nat_lt t 65536
+is_argument h (arguments.Test test t) = is_test h test && nat_lt t 65536
 
 abbrev pub is_instr : Header → Instr → Bool
 is_instr h i = is_argument h (argument i)

@@ -8,7 +8,7 @@ use Rattle.wsm_program.specs.declared.instr.SectionId.TheVariants.{Where, Update
 use Rattle.wsm_program.specs.declared.instr.Argument.{Argument}
 use Rattle.wsm_program.specs.declared.instr.Argument.TheVariants as arguments
 use Rattle.wsm_program.specs.Instructions as table
-use Rattle.wsm_program.specs.Instructions.{truth}
+use Rattle.wsm_program.specs.Instructions.{truth, comparison_number}
 
 abbrev pub section_name : SectionId → List ℕ
 section_name Where = codes "where"
@@ -28,6 +28,7 @@ argument_words (arguments.Name e i) = Number (pos e) ∷ Number (pos i) ∷ []
 argument_words (arguments.Field f) = Number (pos f) ∷ []
 argument_words (arguments.Accumulator a) = Number (pos a) ∷ []
 argument_words (arguments.Target t) = Number (pos t) ∷ []
+argument_words (arguments.Test test t) = Number (pos test.field) ∷ Number (pos (comparison_number test.comparison)) ∷ Number test.number ∷ Number (pos t) ∷ []
 
 -- the name and the operands
 abbrev pub instr_words : Instr → List Word

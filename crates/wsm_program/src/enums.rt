@@ -1,9 +1,9 @@
-//! The names that an operand may name.
+//! The names and fields that an operand may name.
 
-ghost use Rattle.std.specs.Prelude.{◌≡◌, length};
+ghost use Rattle.std.specs.Prelude.{◌≡◌, length, slice_get};
 ghost use Rattle.std.specs.Option.{option_map};
 ghost use Rattle.wsm_record.specs.Fields.{type_seen};
-ghost use Rattle.wsm_program.specs.Program.{is_name_of};
+ghost use Rattle.wsm_program.specs.Program.{is_name_of, is_number_field};
 ghost use Rattle.wsm_record.specs.Schema.{enum_names, names_of_type};
 
 use wsm_record::{FieldType, Schema};
@@ -34,6 +34,16 @@ pub fn names(schema: &Schema, number: u8, name: u16) -> bool
 {
     match name_count(schema, number) {
         Some(count) => (name as usize) < count,
+        None => false,
+    }
+}
+
+/// Whether there is a field of a number, and it is one of numbers.
+pub fn is_number_field(schema: &Schema, field: u8) -> bool
+    ensures { result ≡ is_number_field (slice_get schema.now.fields field) }
+{
+    match schema.fields().get(field as usize) {
+        Some(field) => matches!(field.ty, FieldType::Int { .. }),
         None => false,
     }
 }

@@ -3,17 +3,19 @@
 ghost use Rattle.std.specs.Prelude.{◌≡◌};
 ghost use Rattle.std.specs.List.{list_all};
 ghost use Rattle.wsm_record.specs.Name.{is_between};
-ghost use Rattle.wsm_program.specs.Program.{is_shape, is_form_of, is_column, is_clock, is_firing, is_row, is_budget, is_header, is_instr, is_section, is_program};
+ghost use Rattle.wsm_program.specs.Program.{is_shape, is_column, is_clock, is_late_by, is_limited, is_sourced, is_firing, is_row, is_budget, is_header, is_instr, is_section, is_program};
+ghost use Rattle.wsm_record.specs.Modes.{may_write};
 ghost use Rattle.wsm_record.specs.Schema.{is_within};
 ghost use Rattle.wsm_program.specs.View.{header_of, program_of};
 
-use crate::enums::{name_count, names};
+use crate::enums::{is_number_field, name_count, names};
 use crate::instr::{Argument, Instr};
 use crate::program::{Costs, Header};
+use wsm_admission::LateBy;
 use wsm_record::limits::{
     LATEST_TIME, LONGEST_SPAN, MAX_ACCUMULATORS, MAX_COLUMNS, MAX_PANES, MAX_SECTION, MAX_STATED,
 };
-use wsm_record::{CellType, Form, Mode, Schema};
+use wsm_record::{CellType, Schema};
 use wsm_windows::Shape;
 
 /// Whether these are the parts of a program.
@@ -46,10 +48,36 @@ fn is_lawful_header(header: &Header) -> bool
 fn is_lawful_clock(header: &Header) -> bool
     ensures { result ≡ is_clock (header_of header.now) }
 {
+    is_limited(header) && is_lawfully_sourced(header)
+}
+
+fn is_limited(header: &Header) -> bool
+    ensures { result ≡ is_limited (header_of header.now).clock }
+{
     is_inside(header.clock.start, 0, LATEST_TIME)
         && is_inside(header.clock.skew, 0, LONGEST_SPAN)
         && is_inside(header.clock.lateness, 0, LONGEST_SPAN)
         && is_inside(header.clock.records, 1, LONGEST_SPAN)
+}
+
+fn is_lawfully_sourced(header: &Header) -> bool
+    ensures { result ≡ is_sourced (header_of header.now) }
+{
+    is_own_lateness(header.shape, header.clock.late)
+        && usize::from(header.clock.sources) == header.schema.source_count()
+}
+
+fn is_own_lateness(shape: Shape, late: LateBy) -> bool
+    ensures { result ≡ is_late_by shape late }
+{
+    match (shape, late) {
+        (_, LateBy::Event) => true,
+        (Shape::Fixed(size), LateBy::Window(Shape::Fixed(other))) => size == other,
+        (Shape::Sliding(size, period), LateBy::Window(Shape::Sliding(other, apart))) => {
+            size == other && period == apart
+        }
+        _ => false,
+    }
 }
 
 fn is_lawful_firing(header: &Header) -> bool
@@ -58,7 +86,7 @@ fn is_lawful_firing(header: &Header) -> bool
     is_lawful_shape(header.shape)
         && is_inside(header.early, 0, LONGEST_SPAN)
         && is_inside(header.late, 0, LONGEST_SPAN)
-        && is_written_by(header.form, header.mode)
+        && header.mode.may_write(header.form)
 }
 
 fn is_lawful_row(header: &Header) -> bool
@@ -96,15 +124,6 @@ fn is_lawful_shape(shape: Shape) -> bool
             is_inside(size, 1, LONGEST_SPAN) && is_inside(period, 1, size)
         }
         Shape::Session(gap) => is_inside(gap, 1, LONGEST_SPAN),
-    }
-}
-
-fn is_written_by(form: Form, mode: Mode) -> bool
-    ensures { result ≡ is_form_of mode form }
-{
-    match (mode, form) {
-        (Mode::Accumulating, _) | (Mode::Discarding, Form::Panes) => true,
-        (Mode::Discarding, Form::Istream | Form::Dstream | Form::Rstream) => false,
     }
 }
 
@@ -153,6 +172,7 @@ fn is_lawful_instr(header: &Header, instr: Instr) -> bool
         Argument::Name(list, name) => names(&header.schema, list, name),
         Argument::Field(field) => (field as usize) < header.schema.fields().len(),
         Argument::Accumulator(accumulator) => (accumulator as usize) < header.kinds.len(),
+        Argument::Test(test, _) => is_number_field(&header.schema, test.field),
         Argument::Nothing | Argument::Number(_) | Argument::Truth(_) | Argument::Target(_) => true,
     }
 }

@@ -28,11 +28,12 @@
 //! - [`enums`]: the names that an operand may name
 #![tactic(auto)]
 
-pub use instr::{Argument, Instr, SectionId, kind_of};
+pub use instr::{Argument, FieldTest, Instr, SectionId, comparison_number, kind_of};
 pub use operation::{Operands, Operation};
 pub use program::{Costs, Header, Program, Section};
 pub use refusal::DecodeRefusal;
-pub use wsm_admission::Clock;
+pub use wsm_admission::{Clock, LateBy};
+pub use wsm_interval::Comparison;
 pub use wsm_record::CellType;
 
 pub mod enums;

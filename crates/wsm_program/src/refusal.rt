@@ -9,13 +9,13 @@ pub enum DecodeRefusal {
     /// The first four bytes are not `WSMP`.
     #[error("B1 BadMagic")]
     BadMagic,
-    /// The version is not 1.
+    /// The version is neither 1 nor 2.
     #[error("B2 Version")]
     Version,
     /// The bytes end inside a part.
     #[error("B3 Truncated")]
     Truncated,
-    /// A byte in the place of an instruction is no code of the table.
+    /// A byte in the place of an instruction is no code of the table, or a test in version 1.
     #[error("B4 UnknownOpcode")]
     UnknownOpcode,
     /// A value outside its range, a name that is none or stands twice in its list, or an operand

@@ -1,6 +1,6 @@
 //! What a section and an instruction are printed as.
 
-use crate::instr::{Argument, Instr, SectionId};
+use crate::instr::{Argument, FieldTest, Instr, SectionId, comparison_number};
 use std::fmt;
 
 impl fmt::Display for SectionId {
@@ -34,6 +34,15 @@ impl fmt::Display for Instr {
             Argument::Name(list, number) => write!(f, "{name} {list} {number}"),
             Argument::Field(index) | Argument::Accumulator(index) => write!(f, "{name} {index}"),
             Argument::Target(target) => write!(f, "{name} {target}"),
+            Argument::Test(test, target) => {
+                let FieldTest {
+                    field,
+                    comparison,
+                    number,
+                } = test;
+                let comparison = comparison_number(comparison);
+                write!(f, "{name} {field} {comparison} {number} {target}")
+            }
         }
     }
 }

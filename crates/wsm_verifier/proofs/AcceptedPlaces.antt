@@ -23,9 +23,9 @@ pub record Passes (c : Setting) (p : ℕ) (i : Instr) (s : State) : Type 0 where
   pub types : not (types_fit c.kinds c.ends i s.stack) ≡ false
   pub folds_once : folds_again i s.folded ≡ false
   pub divides : may_divide_by_zero i s.stack ≡ false
-  pub has_interval : is_none (pushed c.ranges i s.stack) ≡ false
+  pub has_interval : is_none (pushed c.ranges i s) ≡ false
   pub sums : accumulator_leaves c.records c.kinds i s.stack ≡ false
-  pub has_room : overflows s.stack (pushed c.ranges i s.stack) (pops i) ≡ false
+  pub has_room : overflows s.stack (pushed c.ranges i s) (pops i) ≡ false
   pub all_folded : fold_missing c.section i s.folded ≡ false
   pub jumps : bad_jump c.n p i ≡ false
   pub ends : (goes_on i && nat_eq (suc p) c.n) ≡ false

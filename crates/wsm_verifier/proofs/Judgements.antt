@@ -11,8 +11,9 @@ use Rattle.wsm_program.specs.Instructions.{kind_of}
 use Rattle.wsm_program.specs.Program.{Program, section}
 use Rattle.wsm_verifier.specs.declared.rejection.Rule.TheVariants.{Memory}
 use Rattle.wsm_verifier.specs.declared.rejection.Rejection.{Rejection}
+use Rattle.wsm_verifier.specs.declared.known.Known.{Known}
 use Rattle.wsm_verifier.specs.Labels.{Ranges, Visit, visits}
-use Rattle.wsm_verifier.specs.Rules.{Setting, setting, entry, first_fault, section_fault, or_then, fault_in, code_fault, ranges_of_record, ranges_of_pane, update_visits, values_folded, and_then, accumulated, range}
+use Rattle.wsm_verifier.specs.Rules.{Setting, setting, entry, first_fault, section_fault, or_then, fault_in, code_fault, ranges_of_record, ranges_of_pane, update_visits, values_folded, and_then, accumulated, range, known_fields}
 use Rattle.wsm_verifier.specs.Accumulated.{folded_from, ranges_of, stays}
 use Rattle.wsm_verifier.specs.Turning.{unfolded}
 use Rattle.wsm_verifier.proofs.FoldedRanges.{folded_is, range_at, stay_all}
@@ -21,16 +22,18 @@ flags : (ks : List Kind) → replicate (length ks) false ≡ map (λ k. false) k
 flags [] = refl
 flags (k ∷ ks) = ap (λ fs. false ∷ fs) (flags ks)
 
-pub entry_is : (p : Program) (n : ℕ) → n ≡ length p.header.kinds → unfolded n ≡ entry p
-entry_is p n e = ap (λ fs. record { stack = []; folded = fs }) (ap (λ m. replicate m false) e ∙ flags p.header.kinds)
+pub entry_is : (p : Program) (n : ℕ) (fields : List Known) → n ≡ length p.header.kinds → fields ≡ known_fields 0 p.header.schema.fields → unfolded n fields ≡ entry p
+entry_is p n fields e f =
+    ap (λ gs. record { stack = []; folded = gs; fields = fields }) (ap (λ m. replicate m false) e ∙ flags p.header.kinds)
+    ∙ ap (λ known. record { stack = []; folded = map (λ k. false) p.header.kinds; fields = known }) f
 
-pub visits_seen : (p : Program) (id : SectionId) (r : Ranges) (c : Setting) (is : List Instr) (n : ℕ) → c ≡ setting p id r → is ≡ section p id → n ≡ length p.header.kinds →
-    visits (unfolded n) c.ranges is ≡ visits (entry p) r (section p id)
-visits_seen p id r c is n e h l = rw (e, h, entry_is p n l) refl
+pub visits_seen : (p : Program) (id : SectionId) (r : Ranges) (c : Setting) (is : List Instr) (n : ℕ) (fields : List Known) → c ≡ setting p id r → is ≡ section p id → n ≡ length p.header.kinds →
+    fields ≡ known_fields 0 p.header.schema.fields → visits (unfolded n fields) c.ranges is ≡ visits (entry p) r (section p id)
+visits_seen p id r c is n fields e h l f = rw (e, h, entry_is p n fields l f) refl
 
-pub fault_seen : (p : Program) (id : SectionId) (r : Ranges) (c : Setting) (is : List Instr) (n : ℕ) → c ≡ setting p id r → is ≡ section p id → n ≡ length p.header.kinds →
-    section_fault c (visits (unfolded n) c.ranges is) ≡ fault_in p id r
-fault_seen p id r c is n e h l = ap (section_fault c) (visits_seen p id r c is n e h l) ∙ ap (λ d. section_fault d (visits (entry p) r (section p id))) e
+pub fault_seen : (p : Program) (id : SectionId) (r : Ranges) (c : Setting) (is : List Instr) (n : ℕ) (fields : List Known) → c ≡ setting p id r → is ≡ section p id → n ≡ length p.header.kinds →
+    fields ≡ known_fields 0 p.header.schema.fields → section_fault c (visits (unfolded n fields) c.ranges is) ≡ fault_in p id r
+fault_seen p id r c is n fields e h l f = ap (section_fault c) (visits_seen p id r c is n fields e h l f) ∙ ap (λ d. section_fault d (visits (entry p) r (section p id))) e
 
 -- ---- answers that may be refusals
 

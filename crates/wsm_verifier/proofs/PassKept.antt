@@ -1,17 +1,19 @@
 -- What the pass keeps, from one place to the next.
 use Rattle.std.proofs.Common.{◌≡◌, ◌≢◌, ℕ, zero, suc, ◌+◌, ◌<◌, ◌≤◌, Bool, true, false, ◌&&◌, ◌||◌, not, cond, List, [], ◌∷◌, ◌++◌, length, take, drop, reverse, get_or, set, Option, Some, None, refl, sym, ap, ◌∙◌, subst, arith, length-set}
-use Rattle.std.proofs.lemmas.Bool.{true≢false, eqb-true}
+use Rattle.std.proofs.lemmas.Bool.{true≢false, eqb-true, ltb-true}
 use Rattle.std.proofs.lemmas.List.{get_or-set_other, get_or-set_same, take-append-drop, take-append-le, take_all, reverse-append, length-reverse, length-take-le}
 use Rattle.std.proofs.lemmas.Option.{slice_get_within, slice_get-get_or}
 use Rattle.std.specs.Prelude.{nat_eq, nat_lt, slice_get, slice_index_or, option_map}
 use Rattle.std.proofs.Math.Bool.{or-false}
 use Rattle.wsm_interval.specs.declared.Interval.{Interval}
+use Rattle.wsm_program.specs.declared.FieldTest.{FieldTest}
 use Rattle.wsm_program.specs.declared.Instr.{Instr}
-use Rattle.wsm_program.specs.declared.Instr.TheVariants.{Jump, JumpIfFalse, Return}
+use Rattle.wsm_program.specs.declared.Instr.TheVariants.{Jump, JumpIfFalse, Test, Return}
+use Rattle.wsm_program.specs.Instructions.{opposite_test, bad_jump}
 use Rattle.wsm_verifier.specs.declared.rejection.Rule.{Rule}
 use Rattle.wsm_verifier.specs.declared.rejection.Rejection.{Rejection}
 use Rattle.wsm_verifier.specs.declared.rejection.Part.TheVariants.{Code}
-use Rattle.wsm_verifier.specs.Labels.{State, Ranges, Label, Unreached, Reached, Visit, label_with, leads, carried_from, carried_to, gathered, label_of, visit, visit_of, visits_back, visits}
+use Rattle.wsm_verifier.specs.Labels.{State, Ranges, Label, Unreached, Reached, Visit, label_with, leads, along, narrowed, left_from, carried_to, gathered, label_of, visit, visit_of, visits_back, visits}
 use Rattle.wsm_verifier.specs.Rules.{Setting, fault_of, fault_at, or_then, first_fault, section_fault, hull_options, value_folded, values_folded}
 use Rattle.wsm_verifier.specs.Turning.{label_in, joined_at, joined_along, joined_by, turned}
 use Rattle.wsm_verifier.proofs.LabelPass.{with_edge, gathered_next, length-visits_back, visits_next}
@@ -39,17 +41,17 @@ no_edge : (b : Bool) (s : State) (l : Label) → with_edge (cond (b && false) (S
 no_edge true s l = refl
 no_edge false s l = refl
 
--- to two places: a to the first, b to the second, c where both are one
-two_edges : (a b c : Bool) (s : State) (l : Label) → (a ≡ true → b ≡ true → c ≡ true) → (b ≡ true → c ≡ true → a ≡ true) →
-    with_edge (cond a (Some s) None) (with_edge (cond (not c && b) (Some s) None) l) ≡ with_edge (cond (a || (b || false)) (Some s) None) l
-two_edges true true true s l f g = refl
-two_edges true true false s l f g = absurd (true≢false (sym (f refl refl)))
-two_edges true false true s l f g = refl
-two_edges true false false s l f g = refl
-two_edges false true true s l f g = absurd (true≢false (sym (g refl refl)))
-two_edges false true false s l f g = refl
-two_edges false false true s l f g = refl
-two_edges false false false s l f g = refl
+-- u to one place and v to another: a to the first, b to the second, c where both are one
+two_edges : (a b c : Bool) (u v w : State) (l : Label) → (a ≡ true → b ≡ true → c ≡ true) → (b ≡ true → c ≡ true → a ≡ true) → (a ≡ true → w ≡ u) → (a ≡ false → w ≡ v) →
+    with_edge (cond a (Some u) None) (with_edge (cond (not c && b) (Some v) None) l) ≡ with_edge (cond (a || (b || false)) (Some w) None) l
+two_edges true true true u v w l f g first other = ap (λ x. label_with x l) (sym (first refl))
+two_edges true true false u v w l f g first other = absurd (true≢false (sym (f refl refl)))
+two_edges true false true u v w l f g first other = ap (λ x. label_with x l) (sym (first refl))
+two_edges true false false u v w l f g first other = ap (λ x. label_with x l) (sym (first refl))
+two_edges false true true u v w l f g first other = absurd (true≢false (sym (g refl refl)))
+two_edges false true false u v w l f g first other = ap (λ x. label_with x l) (sym (other refl))
+two_edges false false true u v w l f g first other = refl
+two_edges false false false u v w l f g first other = refl
 
 unless_at : (c : Bool) (t : ℕ) (s : State) (labels : List Label) (q : ℕ) → q < length labels →
     label_in (cond c labels (joined_at t s labels)) q ≡ with_edge (cond (not c && nat_eq q t) (Some s) None) (label_in labels q)
@@ -61,18 +63,60 @@ unless-length true t s labels = refl
 unless-length false t s labels = length-set labels t _
 
 -- what a jump that may go on makes of a label
-branch_at : (t p : ℕ) (s : State) (labels : List Label) (q : ℕ) → p < q → q < length labels →
-    label_in (joined_at (suc p) s (cond (nat_eq t (suc p)) labels (joined_at t s labels))) q ≡ with_edge (cond (nat_lt p q && (nat_eq q (suc p) || (nat_eq q t || false))) (Some s) None) (label_in labels q)
-branch_at t p s labels q more h =
-    joined_at-at (suc p) s (cond (nat_eq t (suc p)) labels (joined_at t s labels)) q (omega (arith, unless-length (nat_eq t (suc p)) t s labels))
-    ∙ ap (with_edge (cond (nat_eq q (suc p)) (Some s) None)) (unless_at (nat_eq t (suc p)) t s labels q h)
-    ∙ two_edges (nat_eq q (suc p)) (nat_eq q t) (nat_eq t (suc p)) s (label_in labels q) (λ a b. grind arith) (λ b c. grind arith)
-    ∙ ap (λ x. with_edge (cond x (Some s) None) (label_in labels q)) (sym (later p q _ more))
+branch_at : (t p : ℕ) (u v w : State) (labels : List Label) (q : ℕ) → p < q → q < length labels → (nat_eq q (suc p) ≡ true → w ≡ u) → (nat_eq q (suc p) ≡ false → w ≡ v) →
+    label_in (joined_at (suc p) u (cond (nat_eq t (suc p)) labels (joined_at t v labels))) q ≡ with_edge (cond (nat_lt p q && (nat_eq q (suc p) || (nat_eq q t || false))) (Some w) None) (label_in labels q)
+branch_at t p u v w labels q more h first other =
+    joined_at-at (suc p) u (cond (nat_eq t (suc p)) labels (joined_at t v labels)) q (omega (arith, unless-length (nat_eq t (suc p)) t v labels))
+    ∙ ap (with_edge (cond (nat_eq q (suc p)) (Some u) None)) (unless_at (nat_eq t (suc p)) t v labels q h)
+    ∙ two_edges (nat_eq q (suc p)) (nat_eq q t) (nat_eq t (suc p)) u v w (label_in labels q) (λ a b. grind arith) (λ b c. grind arith) first other
+    ∙ ap (λ x. with_edge (cond x (Some w) None) (label_in labels q)) (sym (later p q _ more))
+
+-- the edges of a test to places other than the next one carry the same
+by_target : (x : FieldTest) (t p q : ℕ) (s : State) → nat_eq q (suc p) ≡ false → along (Test x t) p q s ≡ along (Test x t) p t s
+by_target x t p q s h =
+    elim (nat_eq t (suc p)) as (λ b. cond b s (cond (nat_eq q (suc p)) (narrowed x s) (narrowed (opposite_test x) s)) ≡ cond b s (cond b (narrowed x s) (narrowed (opposite_test x) s))) [
+      | true ↦ refl
+      | false ↦ ap (λ b. cond b (narrowed x s) (narrowed (opposite_test x) s)) h
+    ]
+
+get_any : (ls : List Label) (t : ℕ) (d e : Label) → t < length ls → get_or ls t d ≡ get_or ls t e
+get_any [] t d e h = absurd (omega arith)
+get_any (l ∷ ls) zero d e h = refl
+get_any (l ∷ ls) (suc t) d e h = get_any ls t d e (omega arith)
+
+-- a label that is joined where it lies
+pub joined_is : (t : ℕ) (s : State) (labels : List Label) (d new : Label) → t < length labels → new ≡ label_with s (get_or labels t d) → set labels t new ≡ joined_at t s labels
+joined_is t s labels d new h e = ap (set labels t) (e ∙ ap (label_with s) (get_any labels t d Unreached h))
+
+target_within : (a b : Bool) → not (a && b) ≡ false → b ≡ true
+target_within true true e = refl
+target_within true false e = absurd (true≢false e)
+target_within false b e = absurd (true≢false e)
+
+pub jump_within : (x : FieldTest) (t p n : ℕ) → bad_jump n p (Test x t) ≡ false → t < n
+jump_within x t p n e = ltb-true t n (target_within (nat_lt p t) (nat_lt t n) e)
+
+-- what a test leaves, where its target is the next place
+pub tested_same : (x : FieldTest) (t p : ℕ) (s : State) (labels : List Label) → t ≡ p + 1 → joined_along (Test x t) p s labels ≡ joined_at t s labels
+tested_same x t p s labels e =
+    let next : suc p ≡ t = omega arith in
+    let same : nat_eq t t ≡ true = grind arith in
+    rw (next, same) refl
+
+-- and where it is another
+pub tested_apart : (x : FieldTest) (t p n : ℕ) (s : State) (labels : List Label) → n ≡ p + 1 → t ≢ n → joined_along (Test x t) p s labels ≡ joined_at n (narrowed x s) (joined_at t (narrowed (opposite_test x) s) labels)
+tested_apart x t p n s labels e apart =
+    let next : suc p ≡ n = omega arith in
+    let same : nat_eq n n ≡ true = grind arith in
+    let other : nat_eq t n ≡ false = grind arith in
+    rw (next, other, same) refl
 
 joined_along-at : (i : Instr) (p : ℕ) (s : State) (labels : List Label) (q : ℕ) → p < q → q < length labels →
-    label_in (joined_along i p s labels) q ≡ with_edge (cond (leads i p q) (Some s) None) (label_in labels q)
+    label_in (joined_along i p s labels) q ≡ with_edge (cond (leads i p q) (Some (along i p q s)) None) (label_in labels q)
 joined_along-at (Jump t) p s labels q more h = joined_at-at t s labels q h ∙ one_edge p q (nat_eq q t) s (label_in labels q) more
-joined_along-at (JumpIfFalse t) p s labels q more h = branch_at t p s labels q more h
+joined_along-at (JumpIfFalse t) p s labels q more h = branch_at t p s s s labels q more h (λ e. refl) (λ e. refl)
+joined_along-at (Test x t) p s labels q more h =
+    branch_at t p (along (Test x t) p (suc p) s) (along (Test x t) p t s) (along (Test x t) p q s) labels q more h (λ e. ap (λ n. along (Test x t) p n s) (eqb-true q (suc p) e)) (by_target x t p q s)
 joined_along-at Return p s labels q more h = sym (no_edge (nat_lt p q) s (label_in labels q))
 joined_along-at _ p s labels q more h = joined_at-at (suc p) s labels q h ∙ one_edge p q (nat_eq q (suc p)) s (label_in labels q) more
 
@@ -81,20 +125,23 @@ nothing true l = refl
 nothing false l = refl
 
 joined_by-at : (i : Instr) (p : ℕ) (o : Option State) (labels : List Label) (q : ℕ) → p < q → q < length labels →
-    label_in (joined_by i p o labels) q ≡ with_edge (cond (leads i p q) o None) (label_in labels q)
+    label_in (joined_by i p o labels) q ≡ with_edge (cond (leads i p q) (option_map (along i p q) o) None) (label_in labels q)
 joined_by-at i p None labels q more h = nothing (leads i p q) (label_in labels q)
 joined_by-at i p (Some s) labels q more h = joined_along-at i p s labels q more h
 
 -- a later place gets what the edges of the place carry
 turned-at : (r : Ranges) (p : ℕ) (i : Instr) (labels : List Label) (q : ℕ) → p < q → q < length labels →
-    label_in (turned r p i labels) q ≡ with_edge (cond (leads i p q) (carried_from r i (label_in labels p)) None) (label_in labels q)
+    label_in (turned r p i labels) q ≡ with_edge (cond (leads i p q) (option_map (along i p q) (left_from r i (label_in labels p))) None) (label_in labels q)
 turned-at r p i labels q more h =
-    joined_by-at i p (carried_from r i (label_in labels p)) (set labels p Unreached) q more (omega (arith, length-set labels p Unreached))
-    ∙ ap (with_edge (cond (leads i p q) (carried_from r i (label_in labels p)) None)) (get_or-set_other labels p q Unreached Unreached (omega arith))
+    joined_by-at i p (left_from r i (label_in labels p)) (set labels p Unreached) q more (omega (arith, length-set labels p Unreached))
+    ∙ ap (with_edge (cond (leads i p q) (option_map (along i p q) (left_from r i (label_in labels p))) None)) (get_or-set_other labels p q Unreached Unreached (omega arith))
 
 joined_along-length : (i : Instr) (p : ℕ) (s : State) (labels : List Label) → length (joined_along i p s labels) ≡ length labels
 joined_along-length (Jump t) p s labels = length-set labels t _
 joined_along-length (JumpIfFalse t) p s labels = length-set (cond (nat_eq t (suc p)) labels (joined_at t s labels)) (suc p) _ ∙ unless-length (nat_eq t (suc p)) t s labels
+joined_along-length (Test x t) p s labels =
+    let other = along (Test x t) p t s in
+    length-set (cond (nat_eq t (suc p)) labels (joined_at t other labels)) (suc p) _ ∙ unless-length (nat_eq t (suc p)) t other labels
 joined_along-length Return p s labels = refl
 joined_along-length _ p s labels = length-set labels (suc p) _
 
@@ -103,7 +150,7 @@ joined_by-length i p None labels = refl
 joined_by-length i p (Some s) labels = joined_along-length i p s labels
 
 turned-length : (r : Ranges) (p : ℕ) (i : Instr) (labels : List Label) → length (turned r p i labels) ≡ length labels
-turned-length r p i labels = joined_by-length i p (carried_from r i (label_in labels p)) (set labels p Unreached) ∙ length-set labels p Unreached
+turned-length r p i labels = joined_by-length i p (left_from r i (label_in labels p)) (set labels p Unreached) ∙ length-set labels p Unreached
 
 -- ---- the visits
 
@@ -159,7 +206,7 @@ stands_next c e is p i labels new n folded widened s here none so same values =
       faultless = ap (first_fault c) more ∙ ap (λ o. or_then o (fault_at c (visit c.ranges p i (label_in labels p)))) s.faultless ∙ ap (option_map (λ r. record { part = Code c.section; place = p; rule = r })) none;
       kept = λ q behind within. ap (λ ls. label_in ls q) so
           ∙ turned-at c.ranges p i labels q (omega arith) (omega (arith, s.long))
-          ∙ ap (with_edge (cond (leads i p q) (carried_from c.ranges i (label_in labels p)) None)) (s.kept q (omega arith) within)
+          ∙ ap (with_edge (cond (leads i p q) (option_map (along i p q) (left_from c.ranges i (label_in labels p))) None)) (s.kept q (omega arith) within)
           ∙ sym (ap (kept_for e q) more ∙ kept_more e q (visit c.ranges p i (label_in labels p)) (visits e c.ranges (take p is)) (omega arith));
       values = λ a few. values a (omega (arith, s.many))
           ∙ ap (hull_options (value_folded a i (label_in labels p))) (s.values a few)

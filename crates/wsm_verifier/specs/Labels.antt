@@ -1,26 +1,28 @@
 -- What is known at each place of a section: the hull of all that its incoming edges carry.
-use Rattle.std.specs.Prelude.{ℕ, Bool, true, false, ◌&&◌, cond, List, [], ◌∷◌, ◌++◌, length, take, drop, reverse, nat_eq, nat_lt, Option, Some, None, option_map, slice_index_or, slice_set}
+use Rattle.std.specs.Prelude.{ℕ, suc, Bool, true, false, ◌&&◌, cond, List, [], ◌∷◌, ◌++◌, length, take, drop, reverse, nat_eq, nat_lt, Option, Some, None, option_map, slice_index_or, slice_set}
 use Rattle.std.specs.List.{list_any, filter_map}
 use Rattle.std.specs.Bool.{beq}
 use Rattle.wsm_interval.specs.declared.Interval.{Interval}
+use Rattle.wsm_program.specs.declared.FieldTest.{FieldTest}
 use Rattle.wsm_program.specs.declared.Instr.{Instr}
-use Rattle.wsm_program.specs.declared.Instr.TheVariants.{PushInt, PushBool, PushEnum, Field, Key, Acc, Count, Operate, Jump, JumpIfFalse, Fold, Return}
+use Rattle.wsm_program.specs.declared.Instr.TheVariants.{PushInt, PushBool, PushEnum, Field, Key, Acc, Count, Operate, Jump, JumpIfFalse, Test, Fold, Return}
 use Rattle.wsm_program.specs.declared.Operation.{Operation}
 use Rattle.wsm_program.specs.declared.Operation.TheVariants.{Add, Sub, Mul, Div, Rem, Neg, Eq, Ne, Lt, Le, Gt, Ge, Not}
 use Rattle.wsm_program.specs.Instructions as table
-use Rattle.wsm_program.specs.Instructions.{next}
+use Rattle.wsm_program.specs.Instructions.{next, opposite_test}
 use Rattle.wsm_verifier.specs.declared.known.Known.{Known}
 use Rattle.wsm_verifier.specs.declared.known.Known.TheVariants.{Number, Truth, NameOf}
 use Rattle.wsm_interval.specs.Interval.{interval, add, sub, mul, div, rem, neg, hull}
+use Rattle.wsm_interval.specs.Narrowing.{narrow}
 
 -- what is known before an instruction
 pub record State : Type 0 where
   pub stack : List Known  -- the last value first
   pub folded : List Bool  -- for each accumulator, whether it is folded already
+  pub fields : List Known  -- what is known of the record's value of each field
 
--- what FIELD, COUNT and ACC push
+-- what COUNT and ACC push
 pub record Ranges : Type 0 where
-  pub fields : List Known
   pub count : Interval
   pub accumulators : List Known
 
@@ -58,17 +60,18 @@ computed Ge s = Some (Truth ∷ [])
 computed Not s = Some (Truth ∷ [])
 
 -- what an instruction pushes; None where arithmetic has no interval
-abbrev pub pushed : Ranges → Instr → List Known → Option (List Known)
+abbrev pub pushed : Ranges → Instr → State → Option (List Known)
 pushed r (PushInt n) s = Some (Number (interval n n) ∷ [])
 pushed r (PushBool b) s = Some (Truth ∷ [])
 pushed r (PushEnum e i) s = Some (NameOf e ∷ [])
-pushed r (Field f) s = Some (slice_index_or r.fields f Truth ∷ [])
+pushed r (Field f) s = Some (slice_index_or s.fields f Truth ∷ [])
 pushed r Key s = Some (NameOf 0 ∷ [])
 pushed r (Acc a) s = Some (slice_index_or r.accumulators a Truth ∷ [])
 pushed r Count s = Some (Number r.count ∷ [])
-pushed r (Operate o) s = computed o s
+pushed r (Operate o) s = computed o s.stack
 pushed r (Jump t) s = Some []
 pushed r (JumpIfFalse t) s = Some []
+pushed r (Test test t) s = Some []
 pushed r (Fold a) s = Some []
 pushed r Return s = Some []
 
@@ -76,10 +79,24 @@ abbrev pub folded_after : Instr → List Bool → List Bool
 folded_after (Fold a) fs = slice_set fs a true
 folded_after _ fs = fs
 
--- What the edges of an instruction carry; they carry nothing where arithmetic has no interval.
+-- What an instruction leaves; nothing where arithmetic has no interval.
 -- (Where a rule holds of the instruction, it doesn't matter what is carried: edges lead forward, so the first fault is there or before.)
 abbrev pub after : Ranges → Instr → State → Option State
-after r i s = option_map (λ vs. record { stack = vs ++ drop (pops i) s.stack; folded = folded_after i s.folded }) (pushed r i s.stack)
+after r i s = option_map (λ vs. record s { stack = vs ++ drop (pops i) s.stack; folded = folded_after i s.folded }) (pushed r i s)
+
+abbrev pub narrowed_known : FieldTest → Known → Known
+narrowed_known t (Number x) = Number (narrow t.comparison t.number x)
+narrowed_known t k = k
+
+-- what is known where a test is true
+abbrev pub narrowed : FieldTest → State → State
+narrowed t s = record s { fields = slice_set s.fields t.field (narrowed_known t (slice_index_or s.fields t.field Truth)) }
+
+-- What an edge from the instruction at p to place q carries, of the state that the instruction leaves: that of a test is narrowed, to its target by the opposite test.
+-- (Where both edges of a test lead to one place nothing is: the hull of what both leave is all.)
+abbrev pub along : Instr → ℕ → ℕ → State → State
+along (Test test t) p q s = cond (nat_eq t (suc p)) s (cond (nat_eq q (suc p)) (narrowed test s) (narrowed (opposite_test test) s))
+along _ p q s = s
 
 abbrev pub same_type : Known → Known → Bool
 same_type (Number x) (Number y) = true
@@ -97,20 +114,21 @@ same_flags [] [] = true
 same_flags (f ∷ fs) (g ∷ gs) = beq f g && same_flags fs gs
 same_flags _ _ = false
 
--- the same height, types and folded accumulators
+-- the same height, types and folded accumulators; a field's type is always the declared one
 abbrev pub agree : State → State → Bool
-agree s t = same_types s.stack t.stack && same_flags s.folded t.folded
+agree s t = same_types s.stack t.stack && (same_flags s.folded t.folded && same_types s.fields t.fields)
 
 abbrev pub hull_known : Known → Known → Known
 hull_known (Number x) (Number y) = Number (hull x y)
 hull_known x y = x
 
-abbrev pub hull_stacks : List Known → List Known → List Known
-hull_stacks (x ∷ xs) (y ∷ ys) = hull_known x y ∷ hull_stacks xs ys
-hull_stacks _ _ = []
+-- one by one
+abbrev pub hull_lists : List Known → List Known → List Known
+hull_lists (x ∷ xs) (y ∷ ys) = hull_known x y ∷ hull_lists xs ys
+hull_lists xs _ = xs
 
 abbrev pub hull_states : State → State → State
-hull_states s t = record { stack = hull_stacks s.stack t.stack; folded = s.folded }
+hull_states s t = record { stack = hull_lists s.stack t.stack; folded = s.folded; fields = hull_lists s.fields t.fields }
 
 -- what a place is known to have
 pub data Label : Type 0 where
@@ -128,20 +146,20 @@ abbrev pub hull_all : List State → Label
 hull_all [] = Unreached
 hull_all (s ∷ ss) = label_with s (hull_all ss)
 
--- an instruction, its place, the label of this place and what its edges carry
+-- an instruction, its place, the label of this place and what it leaves
 pub record Visit : Type 0 where
   pub place : ℕ
   pub instr : Instr
   pub label : Label
-  pub carried : Option State
+  pub left : Option State
 
-abbrev pub carried_from : Ranges → Instr → Label → Option State
-carried_from r i (Reached s) = after r i s
-carried_from r i _ = None
+abbrev pub left_from : Ranges → Instr → Label → Option State
+left_from r i (Reached s) = after r i s
+left_from r i _ = None
 
 -- what an edge from an instruction to place q carries
 abbrev pub carried_to : ℕ → Visit → Option State
-carried_to q v = cond (leads v.instr v.place q) v.carried None
+carried_to q v = cond (leads v.instr v.place q) (option_map (along v.instr v.place q) v.left) None
 
 -- the hull of all that edges from given places carry to place q
 abbrev pub gathered : ℕ → List Visit → Label
@@ -153,7 +171,7 @@ label_of entry q [] = Reached entry
 label_of entry q before = gathered q before
 
 abbrev pub visit : Ranges → ℕ → Instr → Label → Visit
-visit r q i l = record { place = q; instr = i; label = l; carried = carried_from r i l }
+visit r q i l = record { place = q; instr = i; label = l; left = left_from r i l }
 
 -- the visit of the next place
 abbrev pub visit_of : State → Ranges → Instr → List Visit → Visit

@@ -7,4 +7,5 @@ pub mod Accumulated
 pub mod Turning
 pub mod Text
 pub mod Vectors
+pub mod TestVectors
 pub mod SelectsAll

@@ -133,9 +133,9 @@ tests c p i s =
     ∷ (rule.Type, not (types_fit c.kinds c.ends i s.stack))
     ∷ (rule.FoldTwice, folds_again i s.folded)
     ∷ (rule.MayDivideByZero, may_divide_by_zero i s.stack)
-    ∷ (rule.MayOverflow, is_none (pushed c.ranges i s.stack))
+    ∷ (rule.MayOverflow, is_none (pushed c.ranges i s))
     ∷ (rule.AccumulatorRange, accumulator_leaves c.records c.kinds i s.stack)
-    ∷ (rule.StackOverflow, overflows s.stack (pushed c.ranges i s.stack) (pops i))
+    ∷ (rule.StackOverflow, overflows s.stack (pushed c.ranges i s) (pops i))
     ∷ (rule.FoldMissing, fold_missing c.section i s.folded)
     ∷ (rule.BadJump, bad_jump c.n p i)
     ∷ (rule.NoReturn, goes_on i && nat_eq (suc p) c.n)
@@ -165,10 +165,6 @@ abbrev pub section_fault : Setting → List Visit → Option Rejection
 section_fault c [] = Some (record { part = Code c.section; place = 0; rule = rule.NoReturn })
 section_fault c vs = first_fault c vs
 
--- at the entry nothing is on the stack and nothing is folded
-abbrev pub entry : Program → State
-entry p = record { stack = []; folded = map (λ k. false) p.header.kinds }
-
 -- ENUM f + 1 is field f
 abbrev pub known_field : ℕ → FieldType → Known
 known_field f (Int lo hi) = Number (interval lo hi)
@@ -179,9 +175,13 @@ abbrev pub known_fields : ℕ → List DeclaredField → List Known
 known_fields f [] = []
 known_fields f (t ∷ ts) = known_field f t.type ∷ known_fields (suc f) ts
 
+-- at the entry nothing is on the stack, nothing is folded, and each field is as it is declared
+abbrev pub entry : Program → State
+entry p = record { stack = []; folded = map (λ k. false) p.header.kinds; fields = known_fields 0 p.header.schema.fields }
+
 -- what instructions may push, where what ACC pushes is given
 abbrev pub ranges_with : Program → List Known → Ranges
-ranges_with p accumulators = record { fields = known_fields 0 p.header.schema.fields; count = interval (pos 1) p.header.clock.records; accumulators = accumulators }
+ranges_with p accumulators = record { count = interval (pos 1) p.header.clock.records; accumulators = accumulators }
 
 -- in WHERE and UPDATE, where ACC may not stand
 abbrev pub ranges_of_record : Program → Ranges

@@ -24,9 +24,9 @@ operand_tests c i s =
 -- those of what it makes of them, and of where it goes
 abbrev pub result_tests : Setting → ℕ → Instr → State → List (Rule × Bool)
 result_tests c p i s =
-    (rule.MayOverflow, is_none (pushed c.ranges i s.stack))
+    (rule.MayOverflow, is_none (pushed c.ranges i s))
     ∷ (rule.AccumulatorRange, accumulator_leaves c.records c.kinds i s.stack)
-    ∷ (rule.StackOverflow, overflows s.stack (pushed c.ranges i s.stack) (pops i))
+    ∷ (rule.StackOverflow, overflows s.stack (pushed c.ranges i s) (pops i))
     ∷ (rule.FoldMissing, fold_missing c.section i s.folded)
     ∷ (rule.BadJump, bad_jump c.n p i)
     ∷ (rule.NoReturn, goes_on i && nat_eq (suc p) c.n)

@@ -1,10 +1,11 @@
 -- What one turn of the pass makes of the labels that are kept for later places.
 use Rattle.std.specs.Prelude.{ℕ, suc, false, cond, List, [], replicate, nat_eq, Option, Some, None, slice_set, slice_index_or}
 use Rattle.wsm_program.specs.declared.Instr.{Instr}
-use Rattle.wsm_program.specs.declared.Instr.TheVariants.{Jump, JumpIfFalse, Return}
+use Rattle.wsm_program.specs.declared.Instr.TheVariants.{Jump, JumpIfFalse, Test, Return}
+use Rattle.wsm_verifier.specs.declared.known.Known.{Known}
 use Rattle.wsm_verifier.specs.declared.label.Kept.{Kept}
 use Rattle.wsm_verifier.specs.declared.label.Kept.TheVariants as kept
-use Rattle.wsm_verifier.specs.Labels.{State, Ranges, Label, Unreached, Differing, Reached, label_with, carried_from}
+use Rattle.wsm_verifier.specs.Labels.{State, Ranges, Label, Unreached, Differing, Reached, label_with, along, left_from}
 
 abbrev pub label_kept : Kept → Label
 label_kept kept.Unreached = Unreached
@@ -12,8 +13,8 @@ label_kept kept.Differing = Differing
 label_kept (kept.Reached s) = Reached s
 
 -- at the entry: nothing is on the stack, and none of the accumulators is folded
-abbrev pub unfolded : ℕ → State
-unfolded accumulators = record { stack = []; folded = replicate accumulators false }
+abbrev pub unfolded : ℕ → List Known → State
+unfolded accumulators fields = record { stack = []; folded = replicate accumulators false; fields = fields }
 
 abbrev pub label_in : List Label → ℕ → Label
 label_in labels q = slice_index_or labels q Unreached
@@ -26,6 +27,8 @@ joined_at q s labels = slice_set labels q (label_with s (label_in labels q))
 abbrev pub joined_along : Instr → ℕ → State → List Label → List Label
 joined_along (Jump t) p s labels = joined_at t s labels
 joined_along (JumpIfFalse t) p s labels = joined_at (suc p) s (cond (nat_eq t (suc p)) labels (joined_at t s labels))
+joined_along (Test test t) p s labels =
+    joined_at (suc p) (along (Test test t) p (suc p) s) (cond (nat_eq t (suc p)) labels (joined_at t (along (Test test t) p t s) labels))
 joined_along Return p s labels = labels
 joined_along _ p s labels = joined_at (suc p) s labels
 
@@ -35,4 +38,4 @@ joined_by i p (Some s) labels = joined_along i p s labels
 
 -- the place's own label is taken out, and what its instruction leaves is carried along its edges
 abbrev pub turned : Ranges → ℕ → Instr → List Label → List Label
-turned r p i labels = joined_by i p (carried_from r i (label_in labels p)) (slice_set labels p Unreached)
+turned r p i labels = joined_by i p (left_from r i (label_in labels p)) (slice_set labels p Unreached)

@@ -4,6 +4,7 @@ use Rattle.wsm_program.specs.declared.Instr.TheVariants.{PushInt, PushBool, Push
 use Rattle.wsm_program.specs.declared.Operation.TheVariants.{Add, Sub, Div, Rem, Neg, Eq, Lt, Gt}
 use Rattle.wsm_program.specs.declared.SectionId.TheVariants.{Where, Update, Fire}
 use Rattle.wsm_record.specs.declared.Kind.TheVariants as kind
+use Rattle.wsm_program.specs.declared.LateBy.TheVariants as late_by
 use Rattle.wsm_windows.specs.declared.Shape.{Shape}
 use Rattle.wsm_windows.specs.declared.Shape.TheVariants.{Fixed, Sliding, Session}
 use Rattle.wsm_record.specs.Schema.{FieldType, Int, Enum}
@@ -23,30 +24,30 @@ use Rattle.wsm_program.specs.Program.{Program}
 use Rattle.wsm_interval.specs.Interval.{interval}
 use Rattle.wsm_verifier.specs.Rules.{judge, range}
 
-abbrev costs : ℕ → ℕ → ℕ → Costs
+abbrev pub costs : ℕ → ℕ → ℕ → Costs
 costs record_steps pane_steps held = record { per_record = record_steps; per_pane = pane_steps; held = held }
 
-abbrev refused : Part → ℕ → Rule → Rejection
+abbrev pub refused : Part → ℕ → Rule → Rejection
 refused part place why = record { part = part; place = place; rule = why }
 
 -- what a worked program says; its fields have no names
-record Worked : Type 0 where
-  fields : List FieldType
-  lateness : ℤ
-  records : ℤ
-  shape : Shape
-  kinds : List Kind
-  columns : List CellType
-  budget : Costs
-  selection : List Instr
-  update : List Instr
-  fire : List Instr
+pub record Worked : Type 0 where
+  pub fields : List FieldType
+  pub lateness : ℤ
+  pub records : ℤ
+  pub shape : Shape
+  pub kinds : List Kind
+  pub columns : List CellType
+  pub budget : Costs
+  pub selection : List Instr
+  pub update : List Instr
+  pub fire : List Instr
 
-abbrev program : Worked → Program
+abbrev pub program : Worked → Program
 program w = record {
   header = record {
-    schema = record { keys = (97 ∷ []) ∷ (98 ∷ []) ∷ []; fields = map (λ t. record { name = []; type = t }) w.fields };
-    clock = record { start = pos 0; skew = pos 100; lateness = w.lateness; records = w.records };
+    schema = record { keys = (97 ∷ []) ∷ (98 ∷ []) ∷ []; fields = map (λ t. record { name = []; type = t }) w.fields; sources = [] };
+    clock = record { start = pos 0; skew = pos 100; lateness = w.lateness; late = late_by.Event; records = w.records; sources = 1 };
     shape = w.shape;
     mode = Accumulating;
     early = pos 0;
@@ -61,10 +62,10 @@ program w = record {
   fire = w.fire;
 }
 
-abbrev judged : Worked → Result Costs Rejection
+abbrev pub judged : Worked → Result Costs Rejection
 judged w = judge (program w)
 
-abbrev base : Worked
+abbrev pub base : Worked
 base = record { fields = (Int (pos 0) (pos 100) ∷ []); lateness = (pos 10); records = (pos 1000); shape = Fixed (pos 60); kinds = (kind.Sum ∷ []); columns = (column.Int ∷ column.Int ∷ []); budget = costs 100 100 100; selection = (PushBool true ∷ Return ∷ []); update = (Field 0 ∷ Fold 0 ∷ Return ∷ []); fire = (Count ∷ Acc 0 ∷ PushBool true ∷ Return ∷ []) }
 
 -- the base program, with its numbers stated exactly

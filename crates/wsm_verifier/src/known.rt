@@ -5,7 +5,7 @@ ghost use Rattle.wsm_verifier.specs.Labels as spec;
 ghost use Rattle.wsm_verifier.specs.Rules as rules;
 
 use wsm_interval::Interval;
-use wsm_program::CellType;
+use wsm_program::{CellType, FieldTest};
 
 /// What is known of a value on the stack.
 #[derive(Clone, Copy, Debug, PartialEq, Eq)]
@@ -71,6 +71,16 @@ impl Known {
         match (self, other) {
             (Known::Number(x), Known::Number(y)) => Known::Number(x.hull(y)),
             _ => self,
+        }
+    }
+
+    /// What is known of a value of a test's field where the test is true.
+    pub(crate) fn narrowed(self, test: FieldTest) -> Known
+        ensures { result ≡ spec.narrowed_known test self }
+    {
+        match self {
+            Known::Number(x) => Known::Number(x.narrow(test.comparison, test.number)),
+            Known::Truth | Known::NameOf(_) => self,
         }
     }
 }

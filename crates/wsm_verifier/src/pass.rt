@@ -3,6 +3,7 @@
 
 ghost use Rattle.std.specs.Prelude.{◌≡◌, ℕ, suc, ◌<◌, ◌≤◌, ◌&&◌, false, None, Some, length, nat_eq, replicate, slice_index_or, slice_set, IfOk, IfErr, OnOk};
 ghost use Rattle.wsm_program.specs.Instructions as table;
+ghost use Rattle.wsm_program.specs.declared.Instr.TheVariants.{Test};
 ghost use Rattle.wsm_verifier.specs.Labels as spec;
 ghost use Rattle.wsm_verifier.specs.Labels.{Unreached, Reached, visits};
 ghost use Rattle.wsm_verifier.specs.Rules as rules;
@@ -20,7 +21,7 @@ use crate::state::State;
 use std::alloc::{AllocError, Global};
 use std::mem;
 use wsm_interval::Interval;
-use wsm_program::{Instr, SectionId};
+use wsm_program::{FieldTest, Instr, SectionId};
 
 /// The first fault of a section, or else the hull of the numbers that are folded into each
 /// accumulator.
@@ -28,22 +29,23 @@ pub(crate) fn judge_section(
     alloc: Global,
     setting: &Setting,
     accumulators: usize,
+    fields: &[Known],
     code: &[Instr],
 ) -> Result<Result<Vec<Option<Interval>>, Rejection>, AllocError>
     requires { setting.now.length ≡ length code.now }
     ensures refused { IfOk result (λ judged. IfErr judged (λ rejection.
-        section_fault (setting_of setting.now) (visits (unfolded accumulators) setting.now.ranges.now code.now) ≡ Some rejection)) }
+        section_fault (setting_of setting.now) (visits (unfolded accumulators fields.now) setting.now.ranges.now code.now) ≡ Some rejection)) }
     ensures passed { IfOk result (λ judged. IfOk judged (λ folded.
-        section_fault (setting_of setting.now) (visits (unfolded accumulators) setting.now.ranges.now code.now) ≡ None)) }
+        section_fault (setting_of setting.now) (visits (unfolded accumulators fields.now) setting.now.ranges.now code.now) ≡ None)) }
     ensures accumulators { IfOk result (λ judged. IfOk judged (λ folded. length folded.items ≡ accumulators)) }
     ensures folded { IfOk result (λ judged. IfOk judged (λ folded. (a : ℕ) → a < accumulators →
-        slice_index_or folded.items a None ≡ values_folded a (visits (unfolded accumulators) setting.now.ranges.now code.now))) }
+        slice_index_or folded.items a None ≡ values_folded a (visits (unfolded accumulators fields.now) setting.now.ranges.now code.now))) }
 {
     if code.is_empty() {
         return Ok(Err(rejection_at(setting.section, 0, Rule::NoReturn)));
     }
     let mut labels = unreached(alloc, code.len())?;
-    labels[0].join(State::entry(alloc, accumulators)?);
+    labels[0].join(State::entry(alloc, accumulators, fields)?);
     let mut folded = vec![in alloc; None; accumulators]?;
     for place in 0..code.len() {
         if let Some(rule) = turn(alloc, setting, place, code[place], &mut labels, &mut folded)? {
@@ -158,7 +160,7 @@ fn after(ranges: &Ranges, instr: Instr, mut state: State) -> Result<Option<State
     requires { spec.pops instr ≤ length state.stack }
     ensures { IfOk result (λ left. left ≡ spec.after ranges.now instr state) }
 {
-    let Some(pushed) = ranges.pushed(instr, state.stack()) else {
+    let Some(pushed) = ranges.pushed(instr, &state) else {
         return Ok(None);
     };
     state.replace(instr.pops(), pushed)?;
@@ -190,8 +192,36 @@ fn carry(
             }
             labels[place + 1].join(state);
         }
+        Instr::Test(test, target) => carry_tested(alloc, labels, place, test, target, state)?,
         Instr::Return => {}
         _ => labels[place + 1].join(state),
     }
+    Ok(())
+}
+
+// Joins what a test leaves to the labels of the next place, where it is true, and of its target.
+fn carry_tested(
+    alloc: Global,
+    labels: &mut [Label],
+    place: usize,
+    test: FieldTest,
+    target: u16,
+    mut state: State,
+) -> Result<(), AllocError>
+    requires place { place < length labels.old }
+    requires jumps { table.bad_jump (length labels.old) place (Test test target) ≡ false }
+    requires ends { nat_eq (suc place) (length labels.old) ≡ false }
+    ensures { OnOk result (labels.new ≡ joined_along (Test test target) place state labels.old) }
+{
+    let target = target as usize;
+    if target == place + 1 {
+        labels[target].join(state);
+        return Ok(());
+    }
+    let mut other = state.try_clone(alloc)?;
+    other.narrow(test.opposite());
+    labels[target].join(other);
+    state.narrow(test);
+    labels[place + 1].join(state);
     Ok(())
 }

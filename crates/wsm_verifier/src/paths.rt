@@ -32,7 +32,7 @@ fn way_of(ways: &[Option<u64>], place: usize, instr: Instr) -> Option<u64>
     let longest = match instr {
         Instr::Return => return Some(1),
         Instr::Jump(target) => way_from(ways, place, target as usize),
-        Instr::JumpIfFalse(target) => longer(
+        Instr::JumpIfFalse(target) | Instr::Test(_, target) => longer(
             way_from(ways, place, place + 1),
             way_from(ways, place, target as usize),
         ),

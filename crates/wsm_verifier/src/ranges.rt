@@ -6,15 +6,14 @@ ghost use Rattle.wsm_verifier.specs.Labels as spec;
 ghost use Rattle.wsm_verifier.specs.Pushing as pushing;
 
 use crate::known::Known;
+use crate::state::State;
 use std::marker::Model;
 use wsm_interval::Interval;
 use wsm_program::{Instr, Operation};
 
-/// What is known of the values that are read: those of the fields, the number of records in a
-/// firing, and the accumulators.
+/// What is known of the number of records in a firing, and of the accumulators.
 #[derive(Drop)]
 pub(crate) struct Ranges {
-    pub(crate) fields: Vec<Known>,
     pub(crate) count: Interval,
     pub(crate) accumulators: Vec<Known>,
 }
@@ -24,35 +23,27 @@ impl Model for Ranges {
 
     ghost Value = { RangesValue };
 
-    ghost view = { λ a. record { fields = a.fields.items; count = a.count; accumulators = a.accumulators.items } };
+    ghost view = { λ a. record { count = a.count; accumulators = a.accumulators.items } };
 }
 
 impl Ranges {
     /// What an instruction pushes, or `None` where its arithmetic may leave 64 bits. The last value
     /// of a stack is the first of its list.
-    pub(crate) fn pushed(&self, instr: Instr, stack: &[Known]) -> Option<Option<Known>>
-        ensures { option_map option_to_list result ≡ spec.pushed self.now instr stack.now }
+    pub(crate) fn pushed(&self, instr: Instr, state: &State) -> Option<Option<Known>>
+        ensures { option_map option_to_list result ≡ spec.pushed self.now instr state.now }
     {
         match instr {
             Instr::PushInt(n) => Some(Some(Known::Number(Interval { lo: n, hi: n }))),
             Instr::PushBool(_) => Some(Some(Known::Truth)),
             Instr::PushEnum(e, _) => Some(Some(Known::NameOf(e))),
-            Instr::Field(field) => Some(Some(self.field(field))),
+            Instr::Field(field) => Some(Some(state.field(field))),
             Instr::Key => Some(Some(Known::NameOf(0))),
             Instr::Acc(accumulator) => Some(Some(self.accumulator(accumulator))),
             Instr::Count => Some(Some(Known::Number(self.count))),
-            Instr::Operate(operation) => Some(Some(computed(operation, stack)?)),
-            Instr::Jump(_) | Instr::JumpIfFalse(_) | Instr::Fold(_) | Instr::Return => Some(None),
+            Instr::Operate(operation) => Some(Some(computed(operation, state.stack())?)),
+            Instr::Jump(_) | Instr::JumpIfFalse(_) | Instr::Test(_, _) => Some(None),
+            Instr::Fold(_) | Instr::Return => Some(None),
         }
-    }
-
-    fn field(&self, field: u8) -> Known
-        ensures { result ≡ slice_index_or self.now.fields field Known.Truth }
-    {
-        self.fields
-            .get(field as usize)
-            .copied()
-            .unwrap_or(Known::Truth)
     }
 
     fn accumulator(&self, accumulator: u8) -> Known

@@ -105,7 +105,7 @@ impl Setting<'_> {
         ensures { result ≡ first_of (result_tests (setting_of self.now) place instr state.now) }
     {
         let stack = state.stack();
-        let Some(pushed) = self.ranges.pushed(instr, stack) else {
+        let Some(pushed) = self.ranges.pushed(instr, state) else {
             return Some(Rule::MayOverflow);
         };
         if sum_may_leave(self.records, self.kinds, instr, stack) {

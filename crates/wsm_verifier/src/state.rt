@@ -1,6 +1,6 @@
 //! What is known before an instruction.
 
-ghost use Rattle.std.specs.Prelude.{false, true, ◌≡◌, ◌≤◌, ◌<◌, [], ◌++◌, length, drop, replicate, slice_set, IsTrue, IfOk, OnOk};
+ghost use Rattle.std.specs.Prelude.{false, true, ◌≡◌, ◌≤◌, ◌<◌, [], ◌++◌, length, drop, replicate, slice_index_or, slice_set, IsTrue, IfOk, OnOk};
 ghost use Rattle.std.specs.Option.{option_to_list};
 ghost use Rattle.wsm_verifier.specs.Labels as spec;
 
@@ -8,12 +8,14 @@ use crate::known::Known;
 use crate::types::have_types_of;
 use std::alloc::{AllocError, Global};
 use std::marker::Model;
+use wsm_program::FieldTest;
 
-/// The stack, its last value first, and which accumulators are folded.
+/// The stack, its last value first, which accumulators are folded, and what is known of each field.
 #[derive(Drop)]
 pub(crate) struct State {
     stack: Vec<Known>,
     folded: Vec<bool>,
+    fields: Vec<Known>,
 }
 
 impl Model for State {
@@ -21,17 +23,22 @@ impl Model for State {
 
     ghost Value = { StateValue };
 
-    ghost view = { λ a. record { stack = a.stack.items; folded = a.folded.items } };
+    ghost view = { λ a. record { stack = a.stack.items; folded = a.folded.items; fields = a.fields.items } };
 }
 
 impl State {
     /// The state at the entry: nothing is on the stack, and nothing is folded.
-    pub(crate) fn entry(alloc: Global, accumulators: usize) -> Result<State, AllocError>
-        ensures { IfOk result (λ s. s ≡ record { stack = []; folded = replicate accumulators false }) }
+    pub(crate) fn entry(
+        alloc: Global,
+        accumulators: usize,
+        fields: &[Known],
+    ) -> Result<State, AllocError>
+        ensures { IfOk result (λ s. s ≡ record { stack = []; folded = replicate accumulators false; fields = fields.now }) }
     {
         Ok(State {
             stack: Vec::new(alloc),
             folded: vec![in alloc; false; accumulators]?,
+            fields: fields.iter().copied().collect(alloc)?,
         })
     }
 
@@ -45,6 +52,16 @@ impl State {
         ensures { result.now ≡ self.now.folded }
     {
         &self.folded
+    }
+
+    /// What is known of a field.
+    pub(crate) fn field(&self, field: u8) -> Known
+        ensures { result ≡ slice_index_or self.now.fields field Known.Truth }
+    {
+        self.fields
+            .get(field as usize)
+            .copied()
+            .unwrap_or(Known::Truth)
     }
 
     /// Takes values from the stack, and pushes one, if there is one.
@@ -71,11 +88,24 @@ impl State {
         }
     }
 
+    /// Narrows what is known of a field to where a test is true.
+    pub(crate) fn narrow(&mut self, test: FieldTest)
+        ensures { self.new ≡ spec.narrowed test self.old }
+    {
+        let known = self.field(test.field).narrowed(test);
+        let field = test.field as usize;
+        if field < self.fields.len() {
+            self.fields[field] = known;
+        }
+    }
+
     /// Whether both have the same height, types and folded accumulators.
     pub(crate) fn agrees(&self, other: &State) -> bool
         ensures { result ≡ spec.agree self.now other.now }
     {
-        have_types_of(&self.stack, &other.stack) && have_flags_of(&self.folded, &other.folded)
+        have_types_of(&self.stack, &other.stack)
+            && have_flags_of(&self.folded, &other.folded)
+            && have_types_of(&self.fields, &other.fields)
     }
 
     /// Widens each value to what is known of this or of the other one.
@@ -84,6 +114,7 @@ impl State {
         ensures { self.new ≡ spec.hull_states self.old other.now }
     {
         widen_all(&mut self.stack, &other.stack);
+        widen_all(&mut self.fields, &other.fields);
     }
 
     /// The same state once more.
@@ -93,6 +124,7 @@ impl State {
         Ok(State {
             stack: self.stack.iter().copied().collect(alloc)?,
             folded: self.folded.iter().copied().collect(alloc)?,
+            fields: self.fields.iter().copied().collect(alloc)?,
         })
     }
 }
@@ -110,11 +142,11 @@ fn have_flags_of(folded: &[bool], other: &[bool]) -> bool
     flag == other_flag && have_flags_of(flags, other_flags)
 }
 
-fn widen_all(stack: &mut [Known], other: &[Known])
-    requires { length stack.old ≡ length other.now }
-    ensures { stack.new ≡ spec.hull_stacks stack.old other.now }
+// Widens each value to what is known of this or of the one at its place in the other list.
+fn widen_all(known: &mut [Known], other: &[Known])
+    ensures { known.new ≡ spec.hull_lists known.old other.now }
 {
-    for place in 0..stack.len() {
-        stack[place] = stack[place].hull(other[place]);
+    for place in 0..known.len().min(other.len()) {
+        known[place] = known[place].hull(other[place]);
     }
 }

@@ -5,4 +5,4 @@ use Rattle.wsm_verifier.proofs.pass.judge_section.Given as goal
 
 -- what is kept is what the visits so far come to
 abbrev pub invariant-loop-place : goal.invariant-loop-place
-invariant-loop-place l = Stands (setting_of l.setting) (unfolded l.accumulators) l.code l.place l.labels.items l.accumulators l.folded.items
+invariant-loop-place l = Stands (setting_of l.setting) (unfolded l.accumulators l.fields) l.code l.place l.labels.items l.accumulators l.folded.items

@@ -1,10 +1,16 @@
 use Rattle.std.proofs.Common.{suc, ◌&&◌, ap, sym, ◌∙◌, length-set}
 use Rattle.std.specs.Prelude.{nat_eq}
 use Rattle.wsm_verifier.specs.Labels.{Reached}
-use Rattle.wsm_program.specs.Instructions.{goes_on}
+use Rattle.wsm_program.specs.Instructions.{goes_on, bad_jump}
 use Rattle.wsm_verifier.specs.Trying.{setting_of}
 use Rattle.wsm_verifier.proofs.AcceptedPlaces.{passes}
 use Rattle.wsm_verifier.proofs.pass.turn.Goals as goal
+
+-- a jump leads to a later place
+pub carry-requires-clause-jumps : goal.carry-requires-clause-jumps
+carry-requires-clause-jumps c =
+    let jumps = (passes (setting_of c.args.setting.now) c.args.place c.args.instr (Reached c.in-Ok.state) c.in-Ok.ensures.passed).2.jumps in
+    ap (λ n. bad_jump n c.args.place c.args.instr) (length-set c.args.labels.now c.args.place c.replace-label.new.dest ∙ sym c.requires.length) ∙ jumps
 
 -- the last instruction goes on to no next place
 pub carry-requires-clause-ends : goal.carry-requires-clause-ends
