@@ -1,13 +1,17 @@
 -- A turn of what an engine keeps fits the history with its event, writes its rows and answers as the
 -- meaning does: the relation is read where changes against it are written, and nowhere else.
-use Rattle.std.proofs.Common.{◌≡◌, ℕ, ◌+◌, ◌≤◌, List, [], ◌∷◌, map, length, ℤ, Option, Some, None, IsTrue, refl, sym, ap, subst, ◌∙◌, arith}
+use Rattle.std.proofs.Common.{◌≡◌, ℕ, ◌+◌, ◌≤◌, ◌++◌, List, [], ◌∷◌, map, length, ℤ, pos, ◌≤ℤ◌, Option, Some, None, IsTrue, refl, sym, ap, subst, ◌∙◌, arith}
 use Rattle.std.specs.Prelude.{Ok, Err, Result, IsSome, filter_map, sum}
 use Rattle.wsm_record.specs.declared.event.Value.{Value}
 use Rattle.wsm_record.specs.declared.cell.Cell.{Cell}
 use Rattle.wsm_record.specs.declared.words.Form.{Form}
 use Rattle.wsm_record.specs.declared.words.Form.TheVariants as form
+use Rattle.wsm_record.specs.declared.words.Mode.{Mode}
+use Rattle.wsm_record.specs.declared.words.Mode.TheVariants as mode
 use Rattle.wsm_record.specs.Event.{Event, Record, Watermark}
+use Rattle.wsm_windows.specs.Windows.{IsTime}
 use Rattle.wsm_windows.specs.declared.place.Place.{Place}
+use Rattle.wsm_admission.specs.declared.clock.Clock.{Clock}
 use Rattle.wsm_admission.specs.declared.verdict.Admitted.{Admitted}
 use Rattle.wsm_admission.specs.declared.verdict.Admitted.TheVariants as admitted
 use Rattle.wsm_admission.specs.declared.verdict.Refusal.{Refusal}
@@ -18,10 +22,11 @@ use Rattle.wsm_semantics.specs.declared.out_row.OutRow.{OutRow}
 use Rattle.wsm_semantics.specs.Query.{mark, verdict_on}
 use Rattle.wsm_semantics.specs.Panes.{held}
 use Rattle.wsm_semantics.specs.Firings.{firings}
-use Rattle.wsm_semantics.specs.Relation.{turn_rows, relation}
+use Rattle.wsm_semantics.specs.Retractions.{retracted_in}
+use Rattle.wsm_semantics.specs.Relation.{turn_rows, relation, chosen_rows}
 use Rattle.wsm_semantics.specs.Summaries.{Pane, row_of, summary_fired}
 use Rattle.wsm_semantics.specs.Steps as steps
-use Rattle.wsm_semantics.specs.Steps.{answer_to, panes_after, fired_by, relation_after, streamed_by, chosen_rows, step, step_fires}
+use Rattle.wsm_semantics.specs.Steps.{answer_to, panes_after, fired_by, withdrawn_by, relation_after, streamed_by, step, step_fires}
 use Rattle.wsm_semantics.proofs.Lists.{length_each}
 use Rattle.wsm_semantics.proofs.MachineSteps.{decision-fits}
 use Rattle.wsm_semantics.proofs.Steps.{Fits-step, rows-step, fires-step}
@@ -29,6 +34,7 @@ use Rattle.wsm_program.specs.Program.{Program, is_program}
 use Rattle.wsm_verifier.proofs.Lawful.{lawful as program_lawful}
 use Rattle.wsm_machine.specs.Meaning.{query_of, plan_of, pane_cost, pane_cost_by, answer_cost}
 use Rattle.wsm_machine.proofs.QueryFolds.{plan_lawful, plan_runs}
+use Rattle.wsm_machine.proofs.CountedSessions.{sessions_by_event}
 use Rattle.wsm_machine.proofs.Costs.{step_cost_is, fired_costs_are}
 use Rattle.wsm_panes.specs.Held.{Held, entries_of}
 use Rattle.wsm_engine.specs.Runner.{Comes}
@@ -49,16 +55,23 @@ module _ (p : Program) (s : steps.State (List Value)) (r : List (List Cell)) whe
   pub panes_same : (a : Result Admitted Refusal) (e : Event) → panes_after (plan_of p) (query_of p) a e other ≡ panes_after (plan_of p) (query_of p) a e s
   panes_same (Ok admitted.Record) (Record (Some k) t vs) = refl
   panes_same (Ok admitted.Record) (Record None t vs) = refl
-  panes_same (Ok admitted.Record) (Watermark t) = refl
+  panes_same (Ok admitted.Record) (Watermark source t) = refl
   panes_same (Ok (admitted.Watermark old new)) e = refl
   panes_same (Err x) e = refl
 
   pub fired_same : (a : Result Admitted Refusal) (e : Event) → fired_by (plan_of p) (query_of p) a e other ≡ fired_by (plan_of p) (query_of p) a e s
   fired_same (Ok admitted.Record) (Record (Some k) t vs) = refl
   fired_same (Ok admitted.Record) (Record None t vs) = refl
-  fired_same (Ok admitted.Record) (Watermark t) = refl
+  fired_same (Ok admitted.Record) (Watermark source t) = refl
   fired_same (Ok (admitted.Watermark old new)) e = refl
   fired_same (Err x) e = refl
+
+  pub withdrawn_same : (a : Result Admitted Refusal) (e : Event) → withdrawn_by (plan_of p) (query_of p) a e other ≡ withdrawn_by (plan_of p) (query_of p) a e s
+  withdrawn_same (Ok admitted.Record) (Record (Some k) t vs) = refl
+  withdrawn_same (Ok admitted.Record) (Record None t vs) = refl
+  withdrawn_same (Ok admitted.Record) (Watermark source t) = refl
+  withdrawn_same (Ok (admitted.Watermark old new)) e = refl
+  withdrawn_same (Err x) e = refl
 
   -- the rows of a form, where its relation is the one that is kept
   pub rows_same : (f : Form) (a : Result Admitted Refusal) (fired : List OutRow) → (KeepsRelation f → s.relation ≡ r) →
@@ -95,7 +108,13 @@ module _ (s : State) (whole : IsTrue (is_program s.program)) (past : List Event)
     answered = answer_to (plan_of s.program) (query_of s.program) s.machine e
 
     next : steps.Fits (plan_of s.program) (query_of s.program) (step (plan_of s.program) (query_of s.program) told e) (e ∷ past)
-    next = let is = program_lawful s.program whole in Fits-step (plan_of s.program) (plan_lawful s.program) (query_of s.program) (plan_runs s.program) is.shape is.lateness.low told e past told_fits
+    next = let is = program_lawful s.program whole in Fits-step (plan_of s.program) (plan_lawful s.program) (query_of s.program) (plan_runs s.program) is.shape (sessions_by_event s.program whole) is.lateness.low told e past told_fits
+
+    -- the next mark is a time
+    pub next_timely : (n : admission.State) → n ≡ after answered e s.machine.admission → admission.IsInRange n → IsTime (mark (query_of s.program) (e ∷ past))
+    next_timely n is range =
+        let same : n.mark ≡ mark (query_of s.program) (e ∷ past) = ap (λ (a : admission.State). a.mark) is ∙ next.admission.mark ∙ ap (λ (c : Clock). mark (record (query_of s.program) { clock = c }) (e ∷ past)) next.clock in
+        record { low = subst (λ (m : ℤ). pos 0 ≤ℤ m) same range.mark_from; high = subst (λ (m : ℤ). m ≤ℤ pos 10000000000000000) same range.mark_to }
 
     pub turn_fits : Fits (turn s e) (e ∷ past)
     turn_fits = record {
@@ -109,19 +128,19 @@ module _ (s : State) (whole : IsTrue (is_program s.program)) (past : List Event)
 
     pub turn_writes : (turn s e).rows ≡ turn_rows (query_of s.program) past e
     turn_writes =
-        (λ i. chosen_rows s.program.header.form (filter_map (row_of (plan_of s.program)) (sym (fired_same s.program s.machine was answered e) i)) (streamed_by (plan_of s.program) (query_of s.program) s.program.header.form answered s.machine))
+        (λ i. chosen_rows s.program.header.form (retracted_in s.program.header.mode (sym (withdrawn_same s.program s.machine was answered e) i) ++ filter_map (row_of (plan_of s.program)) (sym (fired_same s.program s.machine was answered e) i)) (streamed_by (plan_of s.program) (query_of s.program) s.program.header.form answered s.machine))
         ∙ rows_same s.program s.machine was s.program.header.form answered _ fits.relation
-        ∙ (let is = program_lawful s.program whole in rows-step (plan_of s.program) (plan_lawful s.program) (query_of s.program) (plan_runs s.program) is.shape is.lateness.low told e past told_fits)
+        ∙ (let is = program_lawful s.program whole in rows-step (plan_of s.program) (plan_lawful s.program) (query_of s.program) (plan_runs s.program) is.shape (sessions_by_event s.program whole) is.lateness.low told e past told_fits)
 
-    told_reply : (m : ℤ) (e : Event) (v : Option Refusal) → refusal_of (answer m e v) ≡ v
-    told_reply m (Record key time values) None = refl
-    told_reply m (Watermark time) None = refl
-    told_reply m e (Some r) = refl
+    told_reply : (m n : ℤ) (e : Event) (v : Option Refusal) → refusal_of (answer m n e v) ≡ v
+    told_reply m n (Record key time values) None = refl
+    told_reply m n (Watermark source time) None = refl
+    told_reply m n e (Some r) = refl
 
     turn_refuses : (reply_by s e).refusal ≡ verdict_on (query_of s.program) past e
     turn_refuses =
         ap refusal_of (decision-fits (query_of s.program) s.machine.admission past e fits.clock fits.admission)
-        ∙ told_reply (mark (query_of s.program) past) e (verdict_on (query_of s.program) past e)
+        ∙ told_reply (mark (query_of s.program) past) (mark (query_of s.program) (e ∷ past)) e (verdict_on (query_of s.program) past e)
 
     -- its firings with their costs
     same_firings : step_fires (plan_of s.program) (query_of s.program) s.machine e ≡ step_fires (plan_of s.program) (query_of s.program) told e
@@ -130,7 +149,7 @@ module _ (s : State) (whole : IsTrue (is_program s.program)) (past : List Event)
     turn_fires : (reply_by s e).fired ≡ length (firings (query_of s.program) past e)
     turn_fires =
         let is = program_lawful s.program whole in
-        ap length (same_firings ∙ fires-step (plan_of s.program) (plan_lawful s.program) (query_of s.program) (plan_runs s.program) is.shape is.lateness.low told e past told_fits)
+        ap length (same_firings ∙ fires-step (plan_of s.program) (plan_lawful s.program) (query_of s.program) (plan_runs s.program) is.shape (sessions_by_event s.program whole) is.lateness.low told e past told_fits)
         ∙ length_each (summary_fired (plan_of s.program)) (firings (query_of s.program) past e)
 
     turn_costs : map (pane_cost_by s.program) (step_fires (plan_of s.program) (query_of s.program) s.machine e) ≡ map (pane_cost s.program) (firings (query_of s.program) past e)
@@ -139,7 +158,7 @@ module _ (s : State) (whole : IsTrue (is_program s.program)) (past : List Event)
     same_cost : (a : Result Admitted Refusal) (e : Event) → answer_cost s.program a e s.machine ≡ answer_cost s.program a e told
     same_cost (Ok admitted.Record) (Record (Some k) t vs) = refl
     same_cost (Ok admitted.Record) (Record None t vs) = refl
-    same_cost (Ok admitted.Record) (Watermark t) = refl
+    same_cost (Ok admitted.Record) (Watermark source t) = refl
     same_cost (Ok (admitted.Watermark old new)) e = refl
     same_cost (Err x) e = refl
 
@@ -154,17 +173,22 @@ module _ (s : State) (whole : IsTrue (is_program s.program)) (past : List Event)
 
 -- ---- a refused event changes counters alone
 
-refused_after : (s : admission.State) (r : Refusal) → ((after (Err r) s).mark ≡ s.mark) × ((after (Err r) s).admitted ≡ s.admitted)
-refused_after s refusal.Late = (refl, refl)
-refused_after s _ = (refl, refl)
+refused_after : (s : admission.State) (r : Refusal) (e : Event) → ((after (Err r) e s).mark ≡ s.mark) × ((after (Err r) e s).admitted ≡ s.admitted)
+refused_after s refusal.Late e = (refl, refl)
+refused_after s _ e = (refl, refl)
 
-no_rows : (p : Program) (s : steps.State (List Value)) (r : Refusal) (e : Event) (f : Form) → chosen_rows f [] (streamed_by (plan_of p) (query_of p) f (Err r) s) ≡ []
-no_rows p s r e form.Panes = refl
-no_rows p s r e form.Istream = refl
-no_rows p s r e form.Dstream = refl
-no_rows p s r e form.Rstream = refl
+none_retracted : (m : Mode) → retracted_in m [] ++ [] ≡ []
+none_retracted mode.Discarding = refl
+none_retracted mode.Accumulating = refl
+none_retracted mode.Retracting = refl
 
-as_before : (f : Form) (r : List (List Cell)) → relation_kept f r r ≡ r
+no_rows : (p : Program) (s : steps.State (List Value)) (r : Refusal) (e : Event) (m : Mode) (f : Form) → chosen_rows f (retracted_in m [] ++ []) (streamed_by (plan_of p) (query_of p) f (Err r) s) ≡ []
+no_rows p s r e m form.Panes = none_retracted m
+no_rows p s r e m form.Istream = refl
+no_rows p s r e m form.Dstream = refl
+no_rows p s r e m form.Rstream = refl
+
+pub as_before : (f : Form) (r : List (List Cell)) → relation_kept f r r ≡ r
 as_before form.Panes r = refl
 as_before form.Istream r = refl
 as_before form.Dstream r = refl
@@ -181,10 +205,10 @@ refused_turn s few e some = by_answer (answer_to (plan_of s.program) (query_of s
     by_answer (Err r) is some = record {
       panes = λ i. panes_after (plan_of s.program) (query_of s.program) (sym is i) e s.machine;
       relation = (λ i. relation_kept s.program.header.form s.machine.relation (relation_after (plan_of s.program) (query_of s.program) (sym is i) s.machine)) ∙ as_before s.program.header.form s.machine.relation;
-      rows = (λ i. chosen_rows s.program.header.form (filter_map (row_of (plan_of s.program)) (fired_by (plan_of s.program) (query_of s.program) (sym is i) e s.machine)) (streamed_by (plan_of s.program) (query_of s.program) s.program.header.form (sym is i) s.machine))
-          ∙ no_rows s.program s.machine r e s.program.header.form;
-      mark = (λ i. (after (sym is i) s.machine.admission).mark) ∙ (refused_after s.machine.admission r).0;
-      admitted = (λ i. (after (sym is i) s.machine.admission).admitted) ∙ (refused_after s.machine.admission r).1;
+      rows = (λ i. chosen_rows s.program.header.form (retracted_in s.program.header.mode (withdrawn_by (plan_of s.program) (query_of s.program) (sym is i) e s.machine) ++ filter_map (row_of (plan_of s.program)) (fired_by (plan_of s.program) (query_of s.program) (sym is i) e s.machine)) (streamed_by (plan_of s.program) (query_of s.program) s.program.header.form (sym is i) s.machine))
+          ∙ no_rows s.program s.machine r e s.program.header.mode s.program.header.form;
+      mark = (λ i. (after (sym is i) e s.machine.admission).mark) ∙ (refused_after s.machine.admission r e).0;
+      admitted = (λ i. (after (sym is i) e s.machine.admission).admitted) ∙ (refused_after s.machine.admission r e).1;
       fired = (λ i. admission.counter (s.machine.fired + length (fired_by (plan_of s.program) (query_of s.program) (sym is i) e s.machine))) ∙ stays s.machine.fired few;
     }
 
@@ -193,33 +217,37 @@ refused_turn s few e some = by_answer (answer_to (plan_of s.program) (query_of s
 -- what is kept after an answer is what is kept after the turn
 pub turned_is : (s : State) (e : Event) (a : Result Admitted Refusal) → a ≡ answer_to (plan_of s.program) (query_of s.program) s.machine e →
     (kept : admission.State) (panes : List (Place × Pane (List Value))) (related : List (List Cell)) (fed fired : ℕ) (rows : List OutRow) →
-    kept ≡ after a s.machine.admission → panes ≡ panes_after (plan_of s.program) (query_of s.program) a e s.machine
+    kept ≡ after a e s.machine.admission → panes ≡ panes_after (plan_of s.program) (query_of s.program) a e s.machine
     → related ≡ relation_kept s.program.header.form s.machine.relation (relation_after (plan_of s.program) (query_of s.program) a s.machine)
     → fed ≡ admission.counter (s.machine.fed + 1) → fired ≡ admission.counter (s.machine.fired + length (fired_by (plan_of s.program) (query_of s.program) a e s.machine))
-    → rows ≡ chosen_rows s.program.header.form (filter_map (row_of (plan_of s.program)) (fired_by (plan_of s.program) (query_of s.program) a e s.machine)) (streamed_by (plan_of s.program) (query_of s.program) s.program.header.form a s.machine)
+    → rows ≡ chosen_rows s.program.header.form (retracted_in s.program.header.mode (withdrawn_by (plan_of s.program) (query_of s.program) a e s.machine) ++ filter_map (row_of (plan_of s.program)) (fired_by (plan_of s.program) (query_of s.program) a e s.machine)) (streamed_by (plan_of s.program) (query_of s.program) s.program.header.form a s.machine)
     → record { program = s.program; machine = record { admission = kept; panes = panes; relation = related; fed = fed; fired = fired }; rows = rows } ≡ turn s e
 turned_is s e a is kept panes related fed fired rows hk hp hr hf hn ho =
     (λ i. record { program = s.program; machine = record { admission = hk i; panes = hp i; relation = hr i; fed = hf i; fired = hn i }; rows = ho i })
     ∙ (λ i. record {
       program = s.program;
       machine = record {
-        admission = after (is i) s.machine.admission;
+        admission = after (is i) e s.machine.admission;
         panes = panes_after (plan_of s.program) (query_of s.program) (is i) e s.machine;
         relation = relation_kept s.program.header.form s.machine.relation (relation_after (plan_of s.program) (query_of s.program) (is i) s.machine);
         fed = admission.counter (s.machine.fed + 1);
         fired = admission.counter (s.machine.fired + length (fired_by (plan_of s.program) (query_of s.program) (is i) e s.machine));
       };
-      rows = chosen_rows s.program.header.form (filter_map (row_of (plan_of s.program)) (fired_by (plan_of s.program) (query_of s.program) (is i) e s.machine)) (streamed_by (plan_of s.program) (query_of s.program) s.program.header.form (is i) s.machine);
+      rows = chosen_rows s.program.header.form (retracted_in s.program.header.mode (withdrawn_by (plan_of s.program) (query_of s.program) (is i) e s.machine) ++ filter_map (row_of (plan_of s.program)) (fired_by (plan_of s.program) (query_of s.program) (is i) e s.machine)) (streamed_by (plan_of s.program) (query_of s.program) s.program.header.form (is i) s.machine);
     })
 
 -- an event comes to the runner of an engine that fits a history
-pub comes_of : (s : State) (past : List Event) → Fits s past → (h : Held) → entries_of h ≡ s.machine.panes → (m : ℤ) → m ≡ s.machine.admission.mark → (a : Result Admitted Refusal) (e : Event)
+pub comes_of : (s : State) (past : List Event) → Fits s past → (h : Held) → entries_of h ≡ s.machine.panes → (m : ℤ) → m ≡ s.machine.admission.mark → IsTime m → (a : Result Admitted Refusal) (e : Event) → IsTime (mark (query_of s.program) (e ∷ past))
     → a ≡ answer_to (plan_of s.program) (query_of s.program) s.machine e → Comes s.program past h m a e
-comes_of s past fits h held m is a e answered =
+comes_of s past fits h held m is timely a e next answered =
     let here : m ≡ mark (query_of s.program) past = is ∙ fits.admission.mark ∙ ap (λ c. mark (record (query_of s.program) { clock = c }) past) fits.clock in
     record {
       marked = here;
-      answered = answered ∙ decision-fits (query_of s.program) s.machine.admission past e fits.clock fits.admission ∙ ap (λ (n : ℤ). answer n e (verdict_on (query_of s.program) past e)) (sym here);
+      timely = timely;
+      next = next;
+      answered =
+          answered ∙ decision-fits (query_of s.program) s.machine.admission past e fits.clock fits.admission
+          ∙ ap (λ (n : ℤ). answer n (mark (query_of s.program) (e ∷ past)) e (verdict_on (query_of s.program) past e)) (sym here);
       panes = held ∙ fits.panes;
     }
 

@@ -1,20 +1,24 @@
 -- What fires on a turn of a verified program can: FIRE may read it, and there is room for its rows and
 -- its steps.
-use Rattle.std.proofs.Common.{◌≡◌, ℕ, suc, ◌*◌, ◌≤◌, true, cond, List, [], ◌∷◌, map, length, ℤ, Option, Some, None, Ok, Result, IsTrue, sym, ap, subst, ◌∙◌, arith}
+use Rattle.std.proofs.Common.{◌≡◌, ◌≢◌, ℕ, suc, ◌+◌, ◌*◌, ◌≤◌, true, cond, List, [], ◌∷◌, map, length, ℤ, pos, Option, Some, None, Ok, Result, IsTrue, sym, ap, subst, ◌∙◌, arith}
 use Rattle.std.proofs.lemmas.List.Sums.{sum_by-cons}
 use Rattle.std.specs.Prelude.{sum}
 use Rattle.std.specs.List.{AllByRecursion, cons_option}
 use Rattle.wsm_record.specs.declared.event.Value.{Value}
+use Rattle.wsm_record.specs.declared.words.Mode.{Mode}
+use Rattle.wsm_record.specs.declared.words.Mode.TheVariants.{Discarding, Accumulating, Retracting}
 use Rattle.wsm_record.specs.Event.{Event, Record, Watermark}
 use Rattle.wsm_windows.specs.declared.window.PaneKind.{PaneKind}
-use Rattle.wsm_windows.specs.Windows.{IsPlaced}
+use Rattle.wsm_windows.specs.declared.window.Shape.{Shape}
+use Rattle.wsm_windows.specs.declared.window.Shape.TheVariants.{Fixed, Sliding, Session}
+use Rattle.wsm_windows.specs.Windows.{IsPlaced, IsTime}
 use Rattle.wsm_windows.specs.declared.place.Place.{Place}
 use Rattle.wsm_windows.specs.Places.{window_of}
 use Rattle.wsm_admission.specs.declared.verdict.Admitted.{Admitted}
 use Rattle.wsm_admission.specs.declared.verdict.Refusal.{Refusal}
 use Rattle.wsm_admission.specs.Admission.{answer}
-use Rattle.wsm_semantics.specs.Query.{Query, mark, verdict_on}
-use Rattle.wsm_semantics.specs.HeldBounds.{most_panes}
+use Rattle.wsm_semantics.specs.Query.{Query, Datum, mark, verdict_on}
+use Rattle.wsm_semantics.specs.HeldBounds.{most_panes, most_rows, rows_of_panes}
 use Rattle.wsm_semantics.specs.Kept.{kept}
 use Rattle.wsm_semantics.specs.Summaries.{Pane, Fired, fired_of, fires, fired_by_record, fired_by_watermark, kind_by_record, kind_by_watermark}
 use Rattle.wsm_semantics.specs.Replay.{datum}
@@ -34,6 +38,7 @@ use Rattle.wsm_machine.specs.Sound.{MayFire}
 use Rattle.wsm_machine.specs.Step.{setting}
 use Rattle.wsm_machine.proofs.Runs.{steps_at_most}
 use Rattle.wsm_machine.proofs.SoundFirings.{step_fires_may}
+use Rattle.wsm_machine.proofs.CountedSessions.{sessions_by_event}
 use Rattle.wsm_machine.proofs.Histories as histories
 use Rattle.wsm_firing.specs.Firing.{CanFire}
 use Rattle.wsm_firing.specs.ByRecord.{CanFireByRecord, fires_by_record}
@@ -42,7 +47,25 @@ use Rattle.wsm_panes.specs.Held.{session_entered}
 use Rattle.wsm_engine.proofs.Limits.{panes_few}
 use Rattle.wsm_engine.proofs.HeldByHistory.{Panes, kept_panes, kept_within}
 use Rattle.wsm_engine.proofs.RecordRoom.{now, now_within, timely}
+use Rattle.wsm_engine.proofs.RecordsByPlan.{fires_same}
 use Rattle.wsm_engine.proofs.Inside.{inside_is}
+
+-- more panes have no fewer rows, and each has one
+rows_more : (m : Mode) (a b : ℕ) → a ≤ b → rows_of_panes m a ≤ rows_of_panes m b
+rows_more Discarding a b h = h
+rows_more Accumulating a b h = h
+rows_more Retracting a b h = omega (arith, h)
+
+pub rows_some : (m : Mode) (n : ℕ) → n ≤ rows_of_panes m n
+rows_some Discarding n = omega arith
+rows_some Accumulating n = omega arith
+rows_some Retracting n = omega arith
+
+-- a record has no session where windows lie on a grid alone
+no_session : (sh : Shape) (d : Datum) (es : Panes) → session_entered sh d es ≡ None → (gap : ℤ) → sh ≢ Session gap
+no_session (Fixed size) d es none gap is = absurd (cc)
+no_session (Sliding size period) d es none gap is = absurd (cc)
+no_session (Session other) d es none gap is = absurd (cc)
 
 -- no more fire than there are panes
 length-fires : (q : Query) (kind : Place → Pane (List Value) → Option PaneKind) (es : Panes) → length (fires q kind es) ≤ length es
@@ -67,11 +90,11 @@ module _ (p : Program) (costs : Costs) (judged : judge p ≡ Ok costs) (lawful :
   costs_few (f ∷ fs) h = let one = cost_few f h.0 in let rest = costs_few fs h.1 in let all = sum_by-cons (λ (n : ℕ). n) (pane_cost_by p f) (map (pane_cost_by p) fs) in omega (arith, one, rest, all)
 
   -- so many firings as panes can be held can be fired
-  can_fire : (capacity : ℕ) (fs : List (Fired (List Value))) → AllByRecursion (MayFire p) fs → length fs ≤ most_panes (query_of p) → most_panes (query_of p) ≤ capacity → CanFire p capacity fs
-  can_fire capacity fs may few room =
+  can_fire : (capacity rows : ℕ) (fs : List (Fired (List Value))) → AllByRecursion (MayFire p) fs → length fs ≤ most_panes (query_of p) → rows + rows_of_panes p.header.mode (length fs) ≤ capacity → CanFire p capacity rows fs
+  can_fire capacity rows fs may few room =
       let most : most_panes (query_of p) ≤ 100000 = panes_few p costs judged lawful in
       let steps = costs_few fs may in
-      record { each = may; room = omega (arith, few, room); fired = omega (arith, few, most); steps = omega (arith, steps, few, most) }
+      record { each = may; room = room; fired = omega (arith, few, most); steps = omega (arith, steps, few, most) }
 
   module _ (past : List Event) where
     abbrev q : Query
@@ -89,35 +112,38 @@ module _ (p : Program) (costs : Costs) (judged : judge p ≡ Ok costs) (lawful :
     marked : ran.admission.mark ≡ mark q past
     marked = let there = histories.fits p costs judged lawful past in there.admission.mark ∙ ap (λ c. mark (record q { clock = c }) past) there.clock
 
-    answered : (e : Event) (v : Option Refusal) → verdict_on q past e ≡ v → answer_to (plan_of p) q ran e ≡ answer (mark q past) e v
+    answered : (e : Event) (v : Option Refusal) → verdict_on q past e ≡ v → answer_to (plan_of p) q ran e ≡ answer (mark q past) (mark q (e ∷ past)) e v
     answered e v is =
         let there = histories.fits p costs judged lawful past in
-        decision-fits q ran.admission past e there.clock there.admission ∙ ap (answer (mark q past) e) is
+        decision-fits q ran.admission past e there.clock there.admission ∙ ap (answer (mark q past) (mark q (e ∷ past)) e) is
 
     may : (e : Event) → AllByRecursion (MayFire p) (step_fires (plan_of p) q ran e)
     may e = step_fires_may p costs judged lawful ran (histories.sound p costs judged lawful past) e
 
     -- ---- a watermark
 
-    module _ (t : ℤ) (taken : verdict_on (query_of p) past (Watermark t) ≡ None) where
-      by_watermark : step_fires (plan_of p) q ran (Watermark t) ≡ fires_by_watermark p (mark q past) t es
+    module _ (o : Option ℕ) (t : ℤ) (taken : verdict_on (query_of p) past (Watermark o t) ≡ None) where
+      abbrev next : ℤ
+      next = mark (query_of p) (Watermark o t ∷ past)
+
+      by_watermark : step_fires (plan_of p) q ran (Watermark o t) ≡ fires_by_watermark p (mark q past) next es
       by_watermark =
-          ap (λ (a : Result Admitted Refusal). fired_by (plan_of p) q a (Watermark t) ran) (answered (Watermark t) None taken)
-          ∙ ap (λ (ps : Panes). fired_by_watermark (plan_of p) q (mark q past) t ps) panes_are
+          ap (λ (a : Result Admitted Refusal). fired_by (plan_of p) q a (Watermark o t) ran) (answered (Watermark o t) None taken)
+          ∙ ap (λ (ps : Panes). fired_by_watermark (plan_of p) q (mark q past) next ps) panes_are
 
       placed : AllByRecursion (λ e. IsPlaced (window_of e.0)) es
       placed =
           map-all (λ e. IsPlaced (window_of e.0)) _ (kept q past)
-          (all-each (panes_kept.IsKeptPane q past) (λ e. IsPlaced (window_of e.0)) (kept q past) (λ e h. h.pane.place) (panes_kept.kept_panes q (program_lawful p lawful).shape past))
+          (all-each (panes_kept.IsKeptPane q past) (λ e. IsPlaced (window_of e.0)) (kept q past) (λ e h. h.pane.place) (panes_kept.kept_panes q (program_lawful p lawful).shape (sessions_by_event p lawful) past))
 
       -- the panes that a watermark comes to can be fired
-      pub can_by_watermark : (capacity : ℕ) → most_panes (query_of p) ≤ capacity → CanFireByWatermark p capacity (mark (query_of p) past) t (kept_panes p costs judged lawful past)
+      pub can_by_watermark : (capacity : ℕ) → most_rows (query_of p) ≤ capacity → CanFireByWatermark p capacity (mark (query_of p) past) (mark (query_of p) (Watermark o t ∷ past)) (kept_panes p costs judged lawful past)
       can_by_watermark capacity room =
           let within : length es ≤ most_panes q = kept_within p costs judged lawful past in
-          let few : length (fires_by_watermark p (mark q past) t es) ≤ length es = length-fires q (kind_by_watermark q (mark q past) t) es in
+          let few : length (fires_by_watermark p (mark q past) next es) ≤ length es = length-fires q (kind_by_watermark q (mark q past) next) es in
           record {
             placed = placed;
-            can = can_fire capacity _ (subst (AllByRecursion (MayFire p)) by_watermark (may (Watermark t))) (omega (arith, within, few)) room;
+            can = can_fire capacity 0 _ (subst (AllByRecursion (MayFire p)) by_watermark (may (Watermark o t))) (omega (arith, within, few)) (omega (arith, room, rows_more p.header.mode (length (fires_by_watermark p (mark q past) next es)) (most_panes q) (omega (arith, within, few))));
           }
 
     -- ---- a selected record
@@ -129,16 +155,21 @@ module _ (p : Program) (costs : Costs) (judged : judge p ≡ Ok costs) (lawful :
       by_record : step_fires (plan_of p) q ran (Record (Some k) t vs) ≡ fires_by_record p (mark q past) k t after
       by_record =
           ap (λ (a : Result Admitted Refusal). fired_by (plan_of p) q a (Record (Some k) t vs) ran) (answered (Record (Some k) t vs) None taken)
-          ∙ (λ i. cond (chosen i) (fired_by_record (plan_of p) q (marked i) (datum 0 k t vs) (panes_are i)) [])
+          ∙ (λ i. cond (chosen i) (fired_by_record (plan_of p) q (marked i) (datum 0 (marked i) k t vs) (panes_are i)) [])
+          ∙ sym (fires_same p (mark q past) k t vs es)
 
-      -- the panes that it entered can be fired
-      pub can_by_record : (capacity : ℕ) → most_panes (query_of p) ≤ capacity →
-          CanFireByRecord p capacity (mark (query_of p) past) k t (session_entered p.header.shape (datum 0 k t []) (kept_panes p costs judged lawful past)) (now p costs judged lawful past k t vs taken)
-      can_by_record capacity room =
+      -- the panes that it entered can be fired, behind so many rows
+      pub can_by_record : (capacity rows : ℕ) → IsTime (mark (query_of p) past) → rows + rows_of_panes p.header.mode (length (now p costs judged lawful past k t vs taken)) ≤ capacity →
+          CanFireByRecord p capacity rows (mark (query_of p) past) k t (session_entered p.header.shape (datum 0 (pos 0) k t []) (kept_panes p costs judged lawful past)) (now p costs judged lawful past k t vs taken)
+      can_by_record capacity rows a_time room =
           let within : length after ≤ most_panes q = now_within p costs judged lawful past k t vs taken chosen in
-          let few : length (fires_by_record p (mark q past) k t after) ≤ length after = length-fires q (kind_by_record q (mark q past) (datum 0 k t [])) after in
+          let few : length (fires_by_record p (mark q past) k t after) ≤ length after = length-fires q (kind_by_record q (mark q past) (datum 0 (mark q past) k t [])) after in
           record {
-            timely = timely p costs judged lawful past k t vs taken;
-            entered = inside_is p costs judged lawful past k t vs taken chosen;
-            can = can_fire capacity _ (subst (AllByRecursion (MayFire p)) by_record (may (Record (Some k) t vs))) (omega (arith, within, few)) room;
+            entered = record {
+              timely = timely p costs judged lawful past k t vs taken;
+              marked = a_time;
+              grid = no_session p.header.shape (datum 0 (pos 0) k t []) es;
+              among = inside_is p costs judged lawful past k t vs taken chosen;
+            };
+            can = can_fire capacity rows _ (subst (AllByRecursion (MayFire p)) by_record (may (Record (Some k) t vs))) (omega (arith, within, few)) (omega (arith, room, rows_more p.header.mode (length (fires_by_record p (mark q past) k t after)) (length after) few));
           }

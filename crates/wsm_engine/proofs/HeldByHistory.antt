@@ -17,6 +17,7 @@ use Rattle.wsm_verifier.specs.Rules.{judge}
 use Rattle.wsm_verifier.proofs.Lawful.{lawful as program_lawful}
 use Rattle.wsm_machine.specs.Meaning.{query_of, plan_of}
 use Rattle.wsm_machine.specs.Sound.{AreSound, IsSoundState}
+use Rattle.wsm_machine.proofs.CountedSessions.{sessions_by_event}
 use Rattle.wsm_machine.proofs.Histories as histories
 use Rattle.wsm_machine.proofs.SoundSteps.{admitted_within}
 use Rattle.wsm_engine.proofs.Limits.{clock_within}
@@ -57,4 +58,4 @@ module _ (p : Program) (costs : Costs) (judged : judge p ≡ Ok costs) (lawful :
 
   -- they are at most as many as can be held
   pub kept_within : length kept_panes ≤ most_panes (query_of p)
-  kept_within = subst (λ n. n ≤ most_panes (query_of p)) (sym length_kept) (kept_bounded (query_of p) (program_lawful p lawful).shape (clock_within p lawful) past)
+  kept_within = subst (λ n. n ≤ most_panes (query_of p)) (sym length_kept) (kept_bounded (query_of p) (program_lawful p lawful).shape (sessions_by_event p lawful) (clock_within p lawful) past)

@@ -15,6 +15,7 @@ use Rattle.wsm_windows.specs.Windows.{IsShape, IsTime, IsWindowOfShape, period_o
 use Rattle.wsm_windows.specs.declared.place.Place.{Place}
 use Rattle.wsm_windows.specs.Places.{window_of}
 use Rattle.wsm_interval.specs.Interval.{interval, holds}
+use Rattle.wsm_admission.specs.Clock.{marks_of}
 use Rattle.wsm_admission.proofs.Taken.{IsTaken, taken_record}
 use Rattle.wsm_fold.specs.Fold.{are_of_kinds, joins}
 use Rattle.wsm_fold.specs.Accumulators.{SumsFit}
@@ -46,6 +47,7 @@ use Rattle.wsm_machine.specs.InRange.{in_range}
 use Rattle.wsm_machine.specs.Meaning.{query_of, plan_of, selects, updated, pane_inputs}
 use Rattle.wsm_machine.specs.Sound.{AreSound, IsSoundEntry, IsSoundPane, IsDatumInRange}
 use Rattle.wsm_machine.proofs.AccumulatorRanges.{accs_types}
+use Rattle.wsm_machine.proofs.CountedSessions.{sessions_by_event}
 use Rattle.wsm_machine.proofs.QueryFolds.{plan_lawful}
 use Rattle.wsm_machine.proofs.SoundPanes.{joined_all_sound}
 use Rattle.wsm_machine.proofs.SoundSteps.{record_in_range, room_for_record, all_can_fire, joins_fit}
@@ -93,7 +95,7 @@ module _ (p : Program) (costs : Costs) (judged : judge p ≡ Ok costs) (lawful :
   es = kept_panes p costs judged lawful past
 
   abbrev d : Datum
-  d = datum 0 k t vs
+  d = datum 0 (mark (query_of p) past) k t vs
 
   sound : AreSound p n es
   sound = kept_sound p costs judged lawful past
@@ -103,10 +105,10 @@ module _ (p : Program) (costs : Costs) (judged : judge p ≡ Ok costs) (lawful :
 
   -- the record is in range
   pub ranged : IsDatumInRange p d
-  ranged = record_in_range p costs judged lawful p.header.clock (mark (query_of p) past) n 0 k t vs taken
+  ranged = record_in_range p costs judged lawful p.header.clock (marks_of p.header.clock past) n 0 (mark (query_of p) past) k t vs taken
 
   pub room : pos (n + 1) ≤ℤ p.header.clock.records
-  room = room_for_record p costs judged lawful (mark (query_of p) past) n k t vs taken
+  room = room_for_record p costs judged lawful (marks_of p.header.clock past) n k t vs taken
 
   pub timely : IsTime t
   timely = a_time t facts.in_time
@@ -163,7 +165,7 @@ module _ (p : Program) (costs : Costs) (judged : judge p ≡ Ok costs) (lawful :
 
   -- the panes once the record is put in
   abbrev pub now : Panes
-  now = entered (plan_of p) p.header.shape d es
+  now = entered (plan_of p) p.header.shape p.header.clock.lateness d es
 
   module _ (chosen : selects p k vs ≡ true) where
     abbrev e : Event
@@ -175,9 +177,9 @@ module _ (p : Program) (costs : Costs) (judged : judge p ≡ Ok costs) (lawful :
     -- they are those that are held with it
     pub now_held : now ≡ summaries (plan_of p) p.header.mode (map (kept_in q past) (held q (e ∷ past)))
     now_held =
-        turnless.entered-turnless (plan_of p) 0 (length past) k t vs p.header.shape es
-        ∙ entered-summaries (plan_of p) p.header.mode (plan_lawful p) p.header.shape (datum (length past) k t vs) (kept.kept q past)
-        ∙ ap (summaries (plan_of p) p.header.mode) (enters q (program_lawful p lawful).shape past k t vs taken chosen)
+        turnless.entered-turnless (plan_of p) 0 (length past) (mark q past) k t vs p.header.shape p.header.clock.lateness es
+        ∙ entered-summaries (plan_of p) p.header.mode (plan_lawful p) p.header.shape p.header.clock.lateness (datum (length past) (mark q past) k t vs) (kept.kept q past)
+        ∙ ap (summaries (plan_of p) p.header.mode) (enters q (program_lawful p lawful).shape (sessions_by_event p lawful) past k t vs taken chosen)
 
     length_summed : (xs : List (Place × Kept)) → length (summaries (plan_of p) p.header.mode xs) ≡ length xs
     length_summed xs = length_each (λ (x : Place × Kept). (x.0, pane_of (plan_of p) p.header.mode x.0.key x.1)) xs
@@ -185,7 +187,7 @@ module _ (p : Program) (costs : Costs) (judged : judge p ≡ Ok costs) (lawful :
     pub now_within : length now ≤ most_panes q
     now_within =
         subst (λ n. n ≤ most_panes q) (sym (ap length now_held ∙ length_summed _ ∙ length_each (kept_in q past) (held q (e ∷ past))))
-        (held_bounded q (program_lawful p lawful).shape (clock_within p lawful) (e ∷ past))
+        (held_bounded q (program_lawful p lawful).shape (sessions_by_event p lawful) (clock_within p lawful) (e ∷ past))
 
     of_key : length (filter (λ x. nat_eq x.0.key k) now) ≤ live_bound p.header.shape p.header.clock.skew p.header.clock.lateness
     of_key =
@@ -197,7 +199,7 @@ module _ (p : Program) (costs : Costs) (judged : judge p ≡ Ok costs) (lawful :
         ∙ ap length (filter-map (kept_in q past) (λ x. nat_eq x.0.key k) (held q (e ∷ past)))
         ∙ length_each (kept_in q past) _
         ))
-        (held_at_key q (program_lawful p lawful).shape (clock_within p lawful) (e ∷ past) k)
+        (held_at_key q (program_lawful p lawful).shape (sessions_by_event p lawful) (clock_within p lawful) (e ∷ past) k)
 
     -- ---- where windows lie on a grid
 
@@ -248,19 +250,22 @@ module _ (p : Program) (costs : Costs) (judged : judge p ≡ Ok costs) (lawful :
           subst (AllByRecursion Near) (sym now_held)
           (map-all Near _ (map (kept_in q past) (held q (e ∷ past)))
           (map-all _ (kept_in q past) (held q (e ∷ past))
-          (all-each (IsHeldPane q (e ∷ past)) _ (held q (e ∷ past)) (λ x pane. near_place x pane) (held_panes q ok (e ∷ past)))))
+          (all-each (IsHeldPane q (e ∷ past)) _ (held q (e ∷ past)) (λ x pane. near_place x pane) (held_panes q ok (sessions_by_event p lawful) (e ∷ past)))))
 
       pub lie_in_ring : LieInRing ring now
       lie_in_ring = record { ring = is_ring; low = low; near = lie_near }
 
-    pub can_enter : (h : Held) → h.keys ≡ length p.header.schema.keys → h.shape ≡ p.header.shape → h.live ≡ live_bound p.header.shape p.header.clock.skew p.header.clock.lateness → h.widths ≡ widths_of p.header → entries_of h ≡ es
-        → CanEnter h p.header.kinds k t (updated p k vs)
-    can_enter h keys shape live widths is =
+    pub can_enter : (h : Held) → h.keys ≡ length p.header.schema.keys → h.shape ≡ p.header.shape → h.live ≡ live_bound p.header.shape p.header.clock.skew p.header.clock.lateness → h.widths ≡ widths_of p.header → entries_of h ≡ es → IsTime (mark (query_of p) past)
+        → CanEnter h p.header.kinds k t (updated p k vs) p.header.clock.lateness (mark (query_of p) past)
+    can_enter h keys shape live widths is marked =
         let same_ring : ring_of h ≡ ring = λ i. record { size = size_of (shape i); period = period_of (shape i); keys = keys i; bound = live i } in
-        let with : with_entered p.header.kinds k t (updated p k vs) h ≡ now = (λ i. entered (taking p.header.kinds (updated p k vs)) (shape i) (datum 0 k t []) (is i)) ∙ entered_same p k t vs p.header.shape es in
+        let with : with_entered p.header.kinds k t (updated p k vs) p.header.clock.lateness (mark (query_of p) past) h ≡ now =
+        (λ i. entered (taking p.header.kinds (updated p k vs)) (shape i) p.header.clock.lateness (datum 0 (mark (query_of p) past) k t []) (is i)) ∙ entered_same p (mark (query_of p) past) k t vs p.header.shape p.header.clock.lateness es in
         record {
           declared = subst (λ m. k < m) (sym keys) declared;
           timely = timely;
+          late = (program_lawful p lawful).lateness;
+          marked = marked;
           few = (program_lawful p lawful).kinds;
           wide = ap (λ (w : Widths). w.accumulators) (sym widths);
           types = types;

@@ -1,24 +1,29 @@
--- A record is put in by what UPDATE gave of it as it is by the program's plan.
-use Rattle.std.proofs.Common.{◌≡◌, ℕ, ◌+◌, List, [], ◌∷◌, ℤ, Option, Some, None, refl, ap, ◌∙◌}
+-- A record is put in by what UPDATE gave of it as it is by the program's plan, and what fires then goes
+-- by its key and time alone.
+use Rattle.std.proofs.Common.{◌≡◌, ℕ, ◌+◌, ◌&&◌, cond, List, [], ◌∷◌, ◌++◌, ℤ, Option, Some, None, refl, sym, ap, ◌∙◌}
 use Rattle.std.specs.Int.{int_max, int_min}
 use Rattle.std.specs.FinMap.Entries.{put, find, where_key}
-use Rattle.std.specs.Prelude.{not}
+use Rattle.std.specs.Prelude.{not, nat_eq}
 use Rattle.wsm_record.specs.declared.event.Value.{Value}
 use Rattle.wsm_windows.specs.declared.window.Window.{Window}
 use Rattle.wsm_windows.specs.declared.window.Shape.{Shape}
 use Rattle.wsm_windows.specs.declared.window.Shape.TheVariants.{Fixed, Sliding, Session}
-use Rattle.wsm_windows.specs.Windows.{window, windows_of}
+use Rattle.wsm_windows.specs.Windows.{window}
+use Rattle.wsm_windows.specs.Life.{live_windows_of}
 use Rattle.wsm_windows.specs.declared.place.Place.{Place}
-use Rattle.wsm_windows.specs.Places.{place_cmp, at}
-use Rattle.wsm_semantics.specs.Query.{Datum}
+use Rattle.wsm_windows.specs.Places.{place_cmp, at, window_of}
+use Rattle.wsm_semantics.specs.Query.{Query, Datum}
+use Rattle.wsm_semantics.specs.Panes.{stands_in}
+use Rattle.wsm_semantics.specs.Firings.{kind_on_record}
 use Rattle.wsm_semantics.specs.Kept.{is_linked}
-use Rattle.wsm_semantics.specs.Summaries.{Plan, Pane, linked, session_with, with_folded, with_record, joined_with, joined_all, assigned, merged_session, entered}
+use Rattle.wsm_semantics.specs.Summaries.{Plan, Pane, linked, session_with, with_folded, with_record, joined_with, joined_all, assigned, merged_session, entered, all_fired, fires, kind_by_record, after_record, fired_by_record, withdrawn_by_record, withdrawn_entering, withdrawn_firing}
 use Rattle.wsm_semantics.specs.Replay.{datum}
 use Rattle.wsm_program.specs.Program.{Program}
 use Rattle.wsm_panes.specs.Held.{taking}
-use Rattle.wsm_machine.specs.Meaning.{plan_of, updated}
+use Rattle.wsm_machine.specs.Meaning.{plan_of, query_of, updated}
+use Rattle.wsm_firing.specs.ByRecord.{fires_by_record, withdrawn_of_record}
 
-module _ (p : Program) (k : ℕ) (t : ℤ) (vs : List Value) where
+module _ (p : Program) (m : ℤ) (k : ℕ) (t : ℤ) (vs : List Value) where
   abbrev Panes : Type 0
   Panes = List (Place × Pane (List Value))
 
@@ -27,10 +32,10 @@ module _ (p : Program) (k : ℕ) (t : ℤ) (vs : List Value) where
   given = taking p.header.kinds (updated p k vs)
 
   abbrev bare : Datum
-  bare = datum 0 k t []
+  bare = datum 0 m k t []
 
   abbrev whole : Datum
-  whole = datum 0 k t vs
+  whole = datum 0 m k t vs
 
   folded_same : (o : Option (List Value)) → with_folded given bare o ≡ with_folded (plan_of p) whole o
   folded_same None = refl
@@ -63,7 +68,30 @@ module _ (p : Program) (k : ℕ) (t : ℤ) (vs : List Value) where
       let rest : Panes = where_key place_cmp (λ r. not (is_linked gap whole r)) es in
       (λ i. put place_cmp (session_same gap parts i) ((with_same (joined_all given parts) ∙ ap (with_record (plan_of p) whole) (joined_same parts)) i) rest)
 
-  pub entered_same : (sh : Shape) (es : Panes) → entered given sh bare es ≡ entered (plan_of p) sh whole es
-  entered_same (Fixed size) es = assigned_same (windows_of size size t) es
-  entered_same (Sliding size period) es = assigned_same (windows_of size period t) es
-  entered_same (Session gap) es = merged_same gap es
+  pub entered_same : (sh : Shape) (l : ℤ) (es : Panes) → entered given sh l bare es ≡ entered (plan_of p) sh l whole es
+  entered_same (Fixed size) l es = assigned_same (live_windows_of (Fixed size) t l m) es
+  entered_same (Sliding size period) l es = assigned_same (live_windows_of (Sliding size period) t l m) es
+  entered_same (Session gap) l es = merged_same gap es
+
+  stands_same : (sh : Shape) (l : ℤ) (w : Window) → stands_in sh l w whole ≡ stands_in sh l w bare
+  stands_same (Fixed size) l w = refl
+  stands_same (Sliding size period) l w = refl
+  stands_same (Session gap) l w = refl
+
+  abbrev q : Query
+  q = query_of p
+
+  abbrev put_in : Panes → Panes
+  put_in es = entered (plan_of p) p.header.shape p.header.clock.lateness whole es
+
+  kind_same : kind_by_record {X = List Value} q m whole ≡ (λ r h. kind_by_record q m bare r h)
+  kind_same = λ i r h. cond (nat_eq k r.key && stands_same q.shape q.clock.lateness (window_of r) i) (kind_on_record q m r.end h.unshown) None
+
+  pub after_same : (es : Panes) → all_fired (plan_of p) (query_of p) (kind_by_record (query_of p) m (datum 0 m k t [])) (entered (plan_of p) p.header.shape p.header.clock.lateness (datum 0 m k t vs) es) ≡ after_record (plan_of p) (query_of p) m (datum 0 m k t vs) es
+  after_same es = λ i. all_fired (plan_of p) q (sym kind_same i) (put_in es)
+
+  pub fires_same : (es : Panes) → fires_by_record p m k t (entered (plan_of p) p.header.shape p.header.clock.lateness (datum 0 m k t vs) es) ≡ fired_by_record (plan_of p) (query_of p) m (datum 0 m k t vs) es
+  fires_same es = λ i. fires q (sym kind_same i) (put_in es)
+
+  pub withdrawn_same : (es : Panes) → withdrawn_entering (plan_of p) p.header.shape (datum 0 m k t vs) es ++ withdrawn_of_record p m k t (entered (plan_of p) p.header.shape p.header.clock.lateness (datum 0 m k t vs) es) ≡ withdrawn_by_record (plan_of p) (query_of p) m (datum 0 m k t vs) es
+  withdrawn_same es = λ i. withdrawn_entering (plan_of p) p.header.shape whole es ++ withdrawn_firing (sym kind_same i) (put_in es)

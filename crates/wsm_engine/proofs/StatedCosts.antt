@@ -3,7 +3,7 @@ use Rattle.std.proofs.Common.{◌≡◌, ℕ, ◌≤◌, List, [], ◌∷◌, ma
 use Rattle.std.specs.List.{AllByRecursion}
 use Rattle.wsm_record.specs.declared.event.Value.{Value}
 use Rattle.wsm_record.specs.Event.{Event, Record}
-use Rattle.wsm_admission.specs.Clock.{admitted_count}
+use Rattle.wsm_admission.specs.Clock.{admitted_count, marks_of}
 use Rattle.wsm_semantics.specs.Query.{mark, verdict_on}
 use Rattle.wsm_semantics.specs.Firings.{Firing, firings}
 use Rattle.wsm_semantics.specs.Summaries.{summary_fired}
@@ -20,6 +20,7 @@ use Rattle.wsm_firing.specs.Tally.{greatest}
 use Rattle.wsm_machine.specs.Meaning.{query_of, plan_of, record_inputs, pane_inputs, record_cost, pane_cost, pane_cost_by}
 use Rattle.wsm_machine.specs.Sound.{IsDatumInRange, MayFire}
 use Rattle.wsm_machine.proofs.QueryFolds.{plan_lawful, plan_runs, folded_is}
+use Rattle.wsm_machine.proofs.CountedSessions.{sessions_by_event}
 use Rattle.wsm_machine.proofs.CompleteRuns.{completes}
 use Rattle.wsm_machine.proofs.SoundSteps.{record_in_range}
 use Rattle.wsm_machine.proofs.SoundFirings.{step_fires_may}
@@ -34,8 +35,8 @@ module _ (p : Program) (costs : Costs) (judged : judge p ≡ Ok costs) (whole : 
 
   pub record_ends : (key : ℕ) (time : ℤ) (values : List Value) → verdict_on (query_of p) past (Record (Some key) time values) ≡ None → RecordEnds p key values
   record_ends key time values taken =
-      let ranged : IsDatumInRange p (datum 0 key time values) =
-      record_in_range p costs judged whole p.header.clock (mark (query_of p) past) (admitted_count p.header.clock p.header.schema past) 0 key time values taken in
+      let ranged : IsDatumInRange p (datum 0 (mark (query_of p) past) key time values) =
+      record_in_range p costs judged whole p.header.clock (marks_of p.header.clock past) (admitted_count p.header.clock p.header.schema past) 0 (mark (query_of p) past) key time values taken in
       record {
         selects = (completes p costs judged whole Where (record_inputs key values) ranged).done;
         updates = (completes p costs judged whole Update (record_inputs key values) ranged).done;
@@ -56,7 +57,7 @@ module _ (p : Program) (costs : Costs) (judged : judge p ≡ Ok costs) (whole : 
   firings_end e =
       let is = program_lawful p whole in
       all_end (firings (query_of p) past e)
-      (subst (AllByRecursion (MayFire p)) (fires-step (plan_of p) (plan_lawful p) (query_of p) (plan_runs p) is.shape is.lateness.low ran e past (histories.fits p costs judged whole past))
+      (subst (AllByRecursion (MayFire p)) (fires-step (plan_of p) (plan_lawful p) (query_of p) (plan_runs p) is.shape (sessions_by_event p whole) is.lateness.low ran e past (histories.fits p costs judged whole past))
       (step_fires_may p costs judged whole ran (histories.sound p costs judged whole past) e))
 
   pub record_spends : (e : Event) → record_cost p past e ≤ p.header.budget.per_record

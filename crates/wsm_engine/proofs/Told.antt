@@ -1,5 +1,5 @@
 -- What the streams were told, and what the relation at the last instant is by it.
-use Rattle.std.proofs.Common.{◌≡◌, ℕ, ◌≤◌, List, [], ◌∷◌, Option, length, vec_capacity, refl, sym, subst, ◌∙◌, arith}
+use Rattle.std.proofs.Common.{◌≡◌, ℕ, ◌≤◌, Bool, true, false, cond, List, [], ◌∷◌, Option, length, vec_capacity, refl, sym, subst, ◌∙◌, arith}
 use Rattle.std.specs.List.{AllByRecursion}
 use Rattle.wsm_record.specs.declared.event.Value.{Value}
 use Rattle.wsm_record.specs.declared.cell.Cell.{Cell}
@@ -15,7 +15,7 @@ use Rattle.wsm_semantics.proofs.RowsBound.{length-sorted_rows}
 use Rattle.wsm_firing.specs.Streams.{Standing, IsTold, AreAlike, CanAdvance, CanTell, relation_kept, standing_rows}
 use Rattle.wsm_firing.proofs.StreamRows.{before_is, changed_none}
 use Rattle.wsm_firing.proofs.StandingRows.{few_rows}
-use Rattle.wsm_semantics.specs.HeldBounds.{most_panes}
+use Rattle.wsm_semantics.specs.HeldBounds.{most_panes, most_rows}
 use Rattle.wsm_program.specs.Program.{Program}
 use Rattle.wsm_machine.specs.Meaning.{query_of}
 use Rattle.wsm_panes.specs.Held.{IsKept, entries_of}
@@ -45,20 +45,24 @@ same_alike s = record { form = refl; room = refl }
 pub can_advance : (s : Standing) (es : Panes) → CanTell s es → CanAdvance s
 can_advance s es can = record { before = can.before; now = standing_rows es; told = can.told; within = record { few_before = can.few_before; few_now = omega (arith, can.few, few_rows es) } }
 
-pub few_kept : (f : Form) (before now : List (List Cell)) (n : ℕ) → length before ≤ n → length now ≤ n → length (relation_kept f before now) ≤ n
+few_kept : (f : Form) (before now : List (List Cell)) (n : ℕ) → length before ≤ n → length now ≤ n → length (relation_kept f before now) ≤ n
 few_kept form.Panes before now n b m = b
 few_kept form.Istream before now n b m = m
 few_kept form.Dstream before now n b m = m
 few_kept form.Rstream before now n b m = b
 
--- and be told further at the next instant
-pub can_go_on : (s t : Standing) (es : Panes) → (can : CanTell s es) → AreAlike s t → IsTold t (relation_kept s.form can.before (relation_of es)) (standing_rows es) → CanTell t es
-can_go_on s t es can alike told = record {
-  before = relation_kept s.form can.before (relation_of es);
+pub few_once : (f : Form) (rose : Bool) (before now : List (List Cell)) (n : ℕ) → length before ≤ n → length now ≤ n → length (cond rose (relation_kept f before now) before) ≤ n
+few_once f true before now n b m = few_kept f before now n b m
+few_once f false before now n b m = b
+
+-- and be told further, at the next instant where there is one
+pub can_go_on : (s t : Standing) (rose : Bool) (es : Panes) → (can : CanTell s es) → AreAlike s t → IsTold t (cond rose (relation_kept s.form can.before (relation_of es)) can.before) (standing_rows es) → CanTell t es
+can_go_on s t rose es can alike told = record {
+  before = cond rose (relation_kept s.form can.before (relation_of es)) can.before;
   told = told;
   few_before =
       let some : length (relation_of es) ≤ s.room = omega (arith, can.few, length-sorted_rows (standing_rows es), few_rows es) in
-      let few = few_kept s.form can.before (relation_of es) s.room can.few_before some in
+      let few = few_once s.form rose can.before (relation_of es) s.room can.few_before some in
       omega (arith, few, alike.room);
   few = omega (arith, can.few, alike.room);
 }
@@ -85,7 +89,7 @@ of_next p r n of keeps alike rows told = record {
   widths = keeps.widths ∙ of.widths;
   form = alike.form ∙ of.form;
   room = alike.room ∙ of.room;
-  rows = subst (λ n. most_panes (query_of p) ≤ n) (sym rows) of.rows;
+  rows = subst (λ n. most_rows (query_of p) ≤ n) (sym rows) of.rows;
   streams = told;
 }
 

@@ -1,24 +1,28 @@
 -- The runner of a program: for what it has room, and what it keeps as an event comes.
-use Rattle.std.specs.Prelude.{◌≡◌, ℕ, ◌*◌, ◌+◌, ◌≤◌, List, [], length, ℤ, Result, Ok, vec_capacity, if◌then◌else◌}
+use Rattle.std.specs.Prelude.{◌≡◌, ℕ, ◌*◌, ◌+◌, ◌≤◌, List, [], ◌∷◌, ◌++◌, length, filter_map, ℤ, int_lt, Result, Ok, vec_capacity, if◌then◌else◌}
 use Rattle.wsm_record.specs.declared.event.Value.{Value}
 use Rattle.wsm_record.specs.declared.cell.Cell.{Cell}
 use Rattle.wsm_record.specs.Event.{Event}
+use Rattle.wsm_record.specs.Modes.{retracts}
 use Rattle.wsm_windows.specs.Life.{live_bound}
-use Rattle.wsm_windows.specs.Windows.{windows_of_shape}
+use Rattle.wsm_windows.specs.Windows.{IsTime}
 use Rattle.wsm_admission.specs.declared.verdict.Admitted.{Admitted}
 use Rattle.wsm_admission.specs.declared.verdict.Refusal.{Refusal}
 use Rattle.wsm_admission.specs.Admission.{answer}
 use Rattle.wsm_semantics.specs.Query as query
 use Rattle.wsm_semantics.specs.Query.{verdict_on}
-use Rattle.wsm_semantics.specs.HeldBounds.{most_panes}
+use Rattle.wsm_semantics.specs.HeldBounds.{most_panes, most_rows}
 use Rattle.wsm_semantics.specs.Kept.{kept}
-use Rattle.wsm_semantics.specs.Summaries.{Pane, Fired, summaries, after_record, fired_by_record, relation_of}
+use Rattle.wsm_semantics.specs.Summaries.{Pane, Fired, summaries, after_record, fired_by_record, withdrawn_by_record, at_watermark, relation_of, row_of}
 use Rattle.wsm_semantics.specs.Replay.{datum}
+use Rattle.wsm_semantics.specs.declared.out_row.OutRow.{OutRow}
+use Rattle.wsm_semantics.specs.Relation.{chosen_rows, stream_rows}
+use Rattle.wsm_semantics.specs.Retractions.{retracted_in}
 use Rattle.wsm_semantics.specs.Steps.{State}
 use Rattle.wsm_program.specs.Program.{Header, Program, is_program}
 use Rattle.wsm_verifier.specs.Costs.{needed}
 use Rattle.wsm_verifier.specs.Rules.{judge}
-use Rattle.wsm_machine.specs.Meaning.{query_of, plan_of, selects, update_run, joins_held}
+use Rattle.wsm_machine.specs.Meaning.{query_of, plan_of, selects, update_run, joins_held, windows_entered}
 use Rattle.wsm_panes.specs.declared.widths.Widths.{Widths}
 use Rattle.wsm_panes.specs.Held.{Held, entries_of}
 use Rattle.wsm_firing.specs.Streams.{Standing, IsTold, relation_before, standing_rows}
@@ -37,7 +41,7 @@ pub record AreTold (most : ℕ) (s : Standing) (panes : List (Place × Pane (Lis
 
 -- how wide the panes of a program are
 abbrev pub widths_of : Header → Widths
-widths_of h = record { accumulators = length h.kinds; columns = length h.columns }
+widths_of h = record { accumulators = length h.kinds; columns = length h.columns; windows = retracts h.mode }
 
 -- the program is accepted, there is room for as many panes and rows as it can hold, and the streams were told
 pub record IsOf (p : Program) (r : Runner) : Type 0 where
@@ -49,13 +53,15 @@ pub record IsOf (p : Program) (r : Runner) : Type 0 where
   pub widths : r.held.widths ≡ widths_of p.header
   pub form : r.streams.form ≡ p.header.form
   pub room : r.streams.room ≡ most_panes (query_of p)
-  pub rows : most_panes (query_of p) ≤ vec_capacity r.rows
+  pub rows : most_rows (query_of p) ≤ vec_capacity r.rows
   pub streams : AreTold (most_panes (query_of p)) r.streams (entries_of r.held)
 
 -- an event comes after a history, with its answer, and what is held is the history's
 pub record Comes (p : Program) (past : List Event) (h : Held) (mark : ℤ) (a : Result Admitted Refusal) (e : Event) : Type 0 where
   pub marked : mark ≡ query.mark (query_of p) past
-  pub answered : a ≡ answer mark e (verdict_on (query_of p) past e)
+  pub timely : IsTime mark
+  pub next : IsTime (query.mark (query_of p) (e ∷ past))
+  pub answered : a ≡ answer mark (query.mark (query_of p) (e ∷ past)) e (verdict_on (query_of p) past e)
   pub panes : entries_of h ≡ summaries (plan_of p) p.header.mode (kept (query_of p) past)
 
 -- the runner keeps the panes and the relation of a state of the machine at a mark
@@ -66,12 +72,28 @@ pub record IsAt (mark : ℤ) (r : Runner) (s : State (List Value)) : Type 0 wher
 
 -- what a record does that WHERE is asked of
 abbrev pub panes_with : Program → ℤ → ℕ → ℤ → List Value → List (Place × Pane (List Value)) → List (Place × Pane (List Value))
-panes_with p mark key time values panes = if selects p key values then after_record (plan_of p) (query_of p) mark (datum 0 key time values) panes else panes
+panes_with p mark key time values panes = if selects p key values then after_record (plan_of p) (query_of p) mark (datum 0 mark key time values) panes else panes
 
 abbrev pub fired_with : Program → ℤ → ℕ → ℤ → List Value → List (Place × Pane (List Value)) → List (Fired (List Value))
-fired_with p mark key time values panes = if selects p key values then fired_by_record (plan_of p) (query_of p) mark (datum 0 key time values) panes else []
+fired_with p mark key time values panes = if selects p key values then fired_by_record (plan_of p) (query_of p) mark (datum 0 mark key time values) panes else []
+
+abbrev pub withdrawn_with : Program → ℤ → ℕ → ℤ → List Value → List (Place × Pane (List Value)) → List (Place × List Cell)
+withdrawn_with p mark key time values panes = if selects p key values then withdrawn_by_record (plan_of p) (query_of p) mark (datum 0 mark key time values) panes else []
+
+-- the rows of what is withdrawn and of what fires, or those of a stream
+abbrev pub rows_with : Program → List (Place × List Cell) → List (Fired (List Value)) → List OutRow → List OutRow
+rows_with p withdrawn fired streamed = chosen_rows p.header.form (retracted_in p.header.mode withdrawn ++ filter_map (row_of (plan_of p)) fired) streamed
+
+-- the relation once the watermark went from old to new, and what the streams write then: another than the
+-- last one, and rows, only where it rose
+abbrev pub relation_at : Program → ℤ → ℤ → List (List Cell) → List (Place × Pane (List Value)) → List (List Cell)
+relation_at p old new before panes = if int_lt old new then relation_of (at_watermark (plan_of p) (query_of p) old new panes) else before
+
+abbrev pub streamed_at : Program → ℤ → ℤ → List (List Cell) → List (Place × Pane (List Value)) → List OutRow
+streamed_at p old new before panes = if int_lt old new then stream_rows p.header.form new before (relation_of (at_watermark (plan_of p) (query_of p) old new panes)) else []
 
 -- the instructions of UPDATE for a selected record, once for each window, and a step for each accumulator that is joined
-abbrev pub entering_cost : Program → ℕ → ℤ → List Value → List (Place × Pane (List Value)) → ℕ
-entering_cost p key time values panes =
-    length (windows_of_shape p.header.shape time) * (update_run p key values).steps + (if joins_held p.header.shape (datum 0 key time values) panes then length p.header.kinds else 0)
+abbrev pub entering_cost : Program → ℤ → ℕ → ℤ → List Value → List (Place × Pane (List Value)) → ℕ
+entering_cost p mark key time values panes =
+    windows_entered p.header.shape p.header.clock.lateness (datum 0 mark key time values) * (update_run p key values).steps
+    + (if joins_held p.header.shape (datum 0 mark key time values) panes then length p.header.kinds else 0)

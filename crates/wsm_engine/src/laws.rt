@@ -4,12 +4,13 @@
 ghost use Rattle.std.specs.Prelude.{◌≡◌, ◌≤◌, ℕ, ℤ, List, Some, None, Ok, map, length, unsigned_abs, IsTrue};
 ghost use Rattle.std.specs.List.{AllByRecursion};
 ghost use Rattle.wsm_record.specs.declared.event.Value.{Value};
-ghost use Rattle.wsm_record.specs.declared.words.Mode.TheVariants.{Discarding};
+ghost use Rattle.wsm_record.specs.declared.words.Mode.TheVariants.{Discarding, Retracting};
 ghost use Rattle.wsm_record.specs.Event.{Event, Record};
 ghost use Rattle.wsm_semantics.specs.Query.{verdict_on};
 ghost use Rattle.wsm_semantics.specs.Panes.{held};
 ghost use Rattle.wsm_semantics.specs.Firings.{firings};
 ghost use Rattle.wsm_semantics.specs.FiringSets.{FiresOnce};
+ghost use Rattle.wsm_semantics.specs.LastingRows.{AddsUp};
 ghost use Rattle.wsm_semantics.specs.Order.{IsOrderFree, OrderLaw};
 ghost use Rattle.wsm_program.specs.Program.{Program, is_program};
 ghost use Rattle.wsm_program.specs.declared.program.Costs.{Costs};
@@ -45,9 +46,16 @@ pub fn shown_once()
     ensures { (p : Program) → IsTrue (is_program p) → p.header.mode ≡ Discarding → FiresOnce (query_of p) }
 {}
 
-/// Where the events between two accepted watermarks come in another order, each with its verdict, each
-/// watermark fires the same on time, with the same rows. Panes that discard what they showed are not to
+/// Where the events between two rises of the watermark come in another order, each with its verdict, each
+/// rise fires the same on time, with the same rows. Panes that discard what they showed are not to
 /// fire early for that, and sessions that discard not late either.
 pub fn permuted()
     ensures { (p : Program) → IsTrue (is_program p) → IsOrderFree p.header.mode p.header.shape (unsigned_abs p.header.early) (unsigned_abs p.header.late) → OrderLaw (query_of p) }
+{}
+
+/// Where panes retract, the pane rows that were written are after every history, as a bag, those that were
+/// withdrawn, and one row for each firing that stands, or that stood when its window was dropped, and whose
+/// HAVING is true. None of these firings is counted twice.
+pub fn standing()
+    ensures { (p : Program) → IsTrue (is_program p) → p.header.mode ≡ Retracting → (past : List Event) → AddsUp (query_of p) past }
 {}

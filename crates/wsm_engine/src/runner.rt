@@ -1,21 +1,24 @@
 //! What an event does to the panes that are held, by a program's sections.
 
-ghost use Rattle.std.specs.Prelude.{◌≡◌, ℤ, List, [], length, Ok, Some, true, filter_map, if◌then◌else◌, IfOk};
+ghost use Rattle.std.specs.Prelude.{◌≡◌, ◌≤◌, ◌+◌, ◌++◌, ℕ, ℤ, List, [], length, Ok, Some, true, pos, filter_map, int_lt, if◌then◌else◌, IfOk, Option, vec_len, vec_capacity};
 ghost use Rattle.wsm_record.specs.declared.cell.Cell.{Cell};
 ghost use Rattle.wsm_record.specs.declared.event.Value.{Value as OneValue};
+ghost use Rattle.wsm_record.specs.declared.limits.TheConstants.{MAX_PANES};
 ghost use Rattle.wsm_record.specs.Event.{Event as AnyEvent, Record, Watermark, event_of};
 ghost use Rattle.wsm_admission.specs.declared.verdict.Admitted.TheVariants as admitted;
+ghost use Rattle.wsm_semantics.specs.HeldBounds.{most_rows, rows_of_panes as spec_rows_of_panes};
 ghost use Rattle.wsm_semantics.specs.Replay.{datum};
-ghost use Rattle.wsm_semantics.specs.Summaries.{after_watermark, entered, fired_by_watermark, relation_of, at_watermark, row_of};
-ghost use Rattle.wsm_semantics.specs.Steps.{State, chosen_rows, fired_by, panes_after, relation_after, stream_rows, streamed_by};
+ghost use Rattle.wsm_semantics.specs.Relation.{chosen_rows, sorted_rows, stream_rows};
+ghost use Rattle.wsm_semantics.specs.Retractions.{retracted_in};
+ghost use Rattle.wsm_semantics.specs.Summaries.{after_watermark, entered, fired_by_watermark, row_of, withdrawn_by_watermark, withdrawn_entering};
+ghost use Rattle.wsm_semantics.specs.Steps.{State, fired_by, panes_after, relation_after, streamed_by, withdrawn_by};
 ghost use Rattle.wsm_program.specs.View.{header_of};
 ghost use Rattle.wsm_machine.specs.Inputs.{inputs_of};
 ghost use Rattle.wsm_machine.specs.Meaning.{answer_cost, plan_of, query_of, record_cost_by, record_inputs as inputs_of_record, selects};
 ghost use Rattle.wsm_panes.specs.Held.{IsKept, entries_of, session_entered};
 ghost use Rattle.wsm_firing.specs.Tally.{tally_of};
-ghost use Rattle.wsm_firing.specs.Firing.{rows_of};
-ghost use Rattle.wsm_firing.specs.Streams.{AreAlike, IsTold, relation_kept, standing_rows};
-ghost use Rattle.wsm_engine.specs.Runner.{Comes, IsAt, IsOf, widths_of, entering_cost, fired_with, last_relation, panes_with};
+ghost use Rattle.wsm_firing.specs.Streams.{AreAlike, CanAdvance, HasRoomFor, IsTold, relation_kept, standing_rows};
+ghost use Rattle.wsm_engine.specs.Runner.{Comes, IsAt, IsOf, widths_of, entering_cost, fired_with, last_relation, panes_with, relation_at, rows_with, streamed_at, withdrawn_with};
 
 use std::alloc::{AllocError, Global};
 use wsm_admission::{Admitted, Refusal};
@@ -23,7 +26,7 @@ use wsm_firing::{Streams, Tally, drop_expired, enter, fire_by_record, fire_by_wa
 use wsm_machine::{Inputs, Machine};
 use wsm_panes::{HeldPanes, Widths};
 use wsm_program::Header;
-use wsm_record::{Event, Kind, Value};
+use wsm_record::{Event, Kind, Mode, Value};
 use wsm_semantics::OutRow;
 use wsm_verifier::Verified;
 use wsm_windows::{Window, live_bound};
@@ -73,7 +76,7 @@ impl Runner {
             machine: Machine::open(alloc),
             held: HeldPanes::open(alloc, keys, header.shape, live, widths(header))?,
             streams: Streams::open(alloc, header.form, room)?,
-            rows: Vec::with_capacity(alloc, room)?,
+            rows: Vec::with_capacity(alloc, rows_of_panes(header.mode, room))?,
         })
     }
 
@@ -93,7 +96,7 @@ impl Runner {
         ensures relation { (s : State (List OneValue)) → IsAt mark self.old s →
             last_relation self.new.streams (entries_of self.new.held) ≡ relation_kept verified.now.header.form s.relation (relation_after (plan_of verified.now) (query_of verified.now) answer s) }
         ensures rows { (s : State (List OneValue)) → IsAt mark self.old s →
-            self.new.rows.items ≡ chosen_rows verified.now.header.form (filter_map (row_of (plan_of verified.now)) (fired_by (plan_of verified.now) (query_of verified.now) answer (event_of event.now) s)) (streamed_by (plan_of verified.now) (query_of verified.now) verified.now.header.form answer s) }
+            self.new.rows.items ≡ chosen_rows verified.now.header.form (retracted_in verified.now.header.mode (withdrawn_by (plan_of verified.now) (query_of verified.now) answer (event_of event.now) s) ++ filter_map (row_of (plan_of verified.now)) (fired_by (plan_of verified.now) (query_of verified.now) answer (event_of event.now) s)) (streamed_by (plan_of verified.now) (query_of verified.now) verified.now.header.form answer s) }
         ensures cost { (s : State (List OneValue)) → IsAt mark self.old s → result.record_steps ≡ answer_cost verified.now answer (event_of event.now) s }
         ensures tally { (s : State (List OneValue)) → IsAt mark self.old s → result.tally ≡ tally_of verified.now (fired_by (plan_of verified.now) (query_of verified.now) answer (event_of event.now) s) }
     {
@@ -130,8 +133,8 @@ impl Runner {
         ensures program { IsOf verified.now self.new }
         ensures panes { entries_of self.new.held ≡ panes_with verified.now mark key time values.now (entries_of self.old.held) }
         ensures relation { last_relation self.new.streams (entries_of self.new.held) ≡ last_relation self.old.streams (entries_of self.old.held) }
-        ensures rows { self.new.rows.items ≡ rows_of verified.now (fired_with verified.now mark key time values.now (entries_of self.old.held)) }
-        ensures cost { result.record_steps ≡ record_cost_by verified.now (entries_of self.old.held) (datum 0 key time values.now) }
+        ensures rows { self.new.rows.items ≡ rows_with verified.now (withdrawn_with verified.now mark key time values.now (entries_of self.old.held)) (fired_with verified.now mark key time values.now (entries_of self.old.held)) [] }
+        ensures cost { result.record_steps ≡ record_cost_by verified.now (entries_of self.old.held) (datum 0 mark key time values.now) }
         ensures tally { result.tally ≡ tally_of verified.now (fired_with verified.now mark key time values.now (entries_of self.old.held)) }
     {
         let inputs = Inputs {
@@ -147,7 +150,7 @@ impl Runner {
                 tally: NO_FIRING,
             };
         }
-        let (steps, session) = self.enter(verified, time, &inputs);
+        let (steps, session) = self.enter(verified, mark, time, &inputs);
         let tally = fire_by_record(
             verified,
             &mut self.machine,
@@ -167,47 +170,58 @@ impl Runner {
 
     // Runs UPDATE on a selected record, and puts what it gives into the record's panes. Answers the
     // steps and the record's session.
-    fn enter(&mut self, verified: &Verified, time: i64, inputs: &Inputs) -> (u64, Option<Window>)
+    fn enter(
+        &mut self,
+        verified: &Verified,
+        mark: i64,
+        time: i64,
+        inputs: &Inputs,
+    ) -> (u64, Option<Window>)
         requires record { inputs_of inputs.now ≡ inputs_of_record inputs.now.key inputs.now.values.now }
         requires program { IsOf verified.now self.old }
+        requires empty { self.old.rows.items ≡ [] }
         requires selected { selects verified.now inputs.now.key inputs.now.values.now ≡ true }
-        requires comes { (past : List AnyEvent) × (mark : ℤ) × Comes verified.now past self.old.held mark (Ok admitted.Record) (Record (Some inputs.now.key) time inputs.now.values.now) }
-        ensures panes { entries_of self.new.held ≡ entered (plan_of verified.now) verified.now.header.shape (datum 0 inputs.now.key time inputs.now.values.now) (entries_of self.old.held) }
+        requires comes { (past : List AnyEvent) × Comes verified.now past self.old.held mark (Ok admitted.Record) (Record (Some inputs.now.key) time inputs.now.values.now) }
+        ensures panes { entries_of self.new.held ≡ entered (plan_of verified.now) verified.now.header.shape verified.now.header.clock.lateness (datum 0 mark inputs.now.key time inputs.now.values.now) (entries_of self.old.held) }
         ensures keeps { IsKept self.old.held self.new.held }
         ensures told { (relation : List (List Cell)) → IsTold self.old.streams relation (standing_rows (entries_of self.old.held)) → IsTold self.new.streams relation (standing_rows (entries_of self.new.held)) }
         ensures alike { AreAlike self.old.streams self.new.streams }
-        ensures rows { self.new.rows ≡ self.old.rows }
-        ensures steps { result.0 ≡ entering_cost verified.now inputs.now.key time inputs.now.values.now (entries_of self.old.held) }
-        ensures session { result.1 ≡ session_entered verified.now.header.shape (datum 0 inputs.now.key time []) (entries_of self.old.held) }
+        ensures rows { self.new.rows.items ≡ retracted_in verified.now.header.mode (withdrawn_entering (plan_of verified.now) verified.now.header.shape (datum 0 mark inputs.now.key time inputs.now.values.now) (entries_of self.old.held)) }
+        ensures few { vec_len self.new.rows + spec_rows_of_panes verified.now.header.mode (length (entries_of self.new.held)) ≤ most_rows (query_of verified.now) }
+        ensures capacity { vec_capacity self.new.rows ≡ vec_capacity self.old.rows }
+        ensures steps { result.0 ≡ entering_cost verified.now mark inputs.now.key time inputs.now.values.now (entries_of self.old.held) }
+        ensures session { result.1 ≡ session_entered verified.now.header.shape (datum 0 (pos 0) inputs.now.key time []) (entries_of self.old.held) }
     {
         let updated = self.machine.update(verified, inputs);
         let steps = updated.steps;
-        let kinds = &verified.program().header().kinds;
         let entered = enter(
+            verified,
             &mut self.held,
             &mut self.streams,
-            kinds,
+            &mut self.rows,
             inputs.key,
             time,
             updated.values,
+            mark,
         );
+        let kinds = &verified.program().header().kinds;
         (
             entered.windows * steps + join_steps(kinds, entered.joined),
             entered.session,
         )
     }
 
-    // Takes a watermark that was accepted: fires the panes that it comes to, writes the streams at it, and
-    // drops the panes that aren't live any more.
+    // Takes a watermark that was accepted: fires the panes that it comes to, writes the streams where it
+    // rose, and drops the panes that aren't live any more.
     fn take_watermark(&mut self, verified: &Verified, old: i64, new: i64) -> Tally
         requires program { IsOf verified.now self.old }
         requires empty { self.old.rows.items ≡ [] }
-        requires comes { (past : List AnyEvent) × Comes verified.now past self.old.held old (Ok (admitted.Watermark old new)) (Watermark new) }
+        requires comes { (past : List AnyEvent) × (source : Option ℕ) × (time : ℤ) × Comes verified.now past self.old.held old (Ok (admitted.Watermark old new)) (Watermark source time) }
         ensures program { IsOf verified.now self.new }
         ensures panes { entries_of self.new.held ≡ after_watermark (plan_of verified.now) (query_of verified.now) old new (entries_of self.old.held) }
-        ensures relation { last_relation self.new.streams (entries_of self.new.held) ≡ relation_kept verified.now.header.form (last_relation self.old.streams (entries_of self.old.held)) (relation_of (at_watermark (plan_of verified.now) (query_of verified.now) old new (entries_of self.old.held))) }
-        ensures rows { self.new.rows.items ≡ chosen_rows verified.now.header.form (filter_map (row_of (plan_of verified.now)) (fired_by_watermark (plan_of verified.now) (query_of verified.now) old new (entries_of self.old.held)))
-            (stream_rows verified.now.header.form new (last_relation self.old.streams (entries_of self.old.held)) (relation_of (at_watermark (plan_of verified.now) (query_of verified.now) old new (entries_of self.old.held)))) }
+        ensures relation { last_relation self.new.streams (entries_of self.new.held) ≡ relation_kept verified.now.header.form (last_relation self.old.streams (entries_of self.old.held)) (relation_at verified.now old new (last_relation self.old.streams (entries_of self.old.held)) (entries_of self.old.held)) }
+        ensures rows { self.new.rows.items ≡ rows_with verified.now (withdrawn_by_watermark (query_of verified.now) old new (entries_of self.old.held)) (fired_by_watermark (plan_of verified.now) (query_of verified.now) old new (entries_of self.old.held))
+            (streamed_at verified.now old new (last_relation self.old.streams (entries_of self.old.held)) (entries_of self.old.held)) }
         ensures tally { result ≡ tally_of verified.now (fired_by_watermark (plan_of verified.now) (query_of verified.now) old new (entries_of self.old.held)) }
     {
         let tally = fire_by_watermark(
@@ -220,9 +234,34 @@ impl Runner {
             new,
         );
         let lateness = verified.program().header().clock.lateness;
-        self.streams.advance(new, &mut self.rows);
+        advance(&mut self.streams, &mut self.rows, old, new);
         drop_expired(&mut self.held, &mut self.streams, new, lateness);
         tally
+    }
+}
+
+// Writes the streams at a watermark that rose, which is the next instant.
+fn advance(streams: &mut Streams, rows: &mut Vec<OutRow>, old: i64, new: i64)
+    requires told { CanAdvance streams.old }
+    requires rows { HasRoomFor streams.old.form streams.old.room (vec_len rows.old) (vec_capacity rows.old) }
+    ensures told { (before now : List (List Cell)) → IsTold streams.old before now → IsTold streams.new (if int_lt old new then relation_kept streams.old.form before (sorted_rows now) else before) now }
+    ensures alike { AreAlike streams.old streams.new }
+    ensures rows { (before now : List (List Cell)) → IsTold streams.old before now → rows.new.items ≡ rows.old.items ++ (if int_lt old new then stream_rows streams.old.form new before (sorted_rows now) else []) }
+    ensures capacity { vec_capacity rows.new ≡ vec_capacity rows.old }
+{
+    if old < new {
+        streams.advance(new, rows);
+    }
+}
+
+// The most rows of a turn, for so many panes: where panes retract each can write two.
+fn rows_of_panes(mode: Mode, panes: usize) -> usize
+    requires { panes ≤ MAX_PANES }
+    ensures { result ≡ spec_rows_of_panes mode panes }
+{
+    match mode {
+        Mode::Discarding | Mode::Accumulating => panes,
+        Mode::Retracting => panes * 2,
     }
 }
 
@@ -233,6 +272,7 @@ fn widths(header: &Header) -> Widths
     Widths {
         accumulators: header.kinds.len(),
         columns: header.columns.len(),
+        windows: header.mode.retracts(),
     }
 }
 

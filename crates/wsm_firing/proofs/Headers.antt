@@ -4,6 +4,7 @@ use Rattle.std.proofs.lemmas.Int.{ints, fits_signed_from_abs}
 use Rattle.std.proofs.lemmas.Bool.Decides.{nat_tests}
 use Rattle.std.specs.Prelude.{nat_le, nat_lt, unsigned_abs}
 use Rattle.wsm_record.specs.declared.event.Value.{Value}
+use Rattle.wsm_record.specs.Modes.{may_write}
 use Rattle.wsm_windows.specs.Windows.{IsSpan}
 use Rattle.wsm_interval.specs.Interval.{interval, holds}
 use Rattle.wsm_semantics.proofs.Assigned.{both}
@@ -17,6 +18,7 @@ use Rattle.wsm_machine.specs.Meaning.{pane_inputs}
 pub record IsLawfulFiring (h : Header) : Type 0 where
   pub early : IsSpan h.early
   pub late : IsSpan h.late
+  pub writes : may_write h.mode h.form ≡ true
   pub columns : length h.columns ≤ 16
 
 of_header : (h : Header) → is_header h ≡ true → IsLawfulFiring h
@@ -28,6 +30,7 @@ of_header h e =
     record {
       early = lawful_span h.early (both (is_span h.early) _ spans).0;
       late = lawful_span h.late (both (is_span h.late) _ (both (is_span h.early) _ spans).1).0;
+      writes = (both (is_span h.late) _ (both (is_span h.early) _ spans).1).1;
       columns = few (length h.columns) (both _ _ (both (nat_le (length h.kinds) 16) _ row).1).0;
     }
   where

@@ -11,6 +11,7 @@ use Rattle.wsm_windows.specs.declared.window.Window.{Window}
 use Rattle.wsm_windows.specs.declared.window.Shape.{Shape}
 use Rattle.wsm_windows.specs.declared.window.Shape.TheVariants.{Fixed, Sliding, Session}
 use Rattle.wsm_windows.specs.Windows.{window, has_inside, last_start, windows_up_to, windows_of, windows_of_shape, size_of, IsRising}
+use Rattle.wsm_windows.specs.Life.{is_live, live_windows_of}
 use Rattle.wsm_windows.specs.declared.place.Place.{Place}
 use Rattle.wsm_windows.specs.Places.{place_cmp, at}
 use Rattle.wsm_windows.proofs.Places.{places_total, places_exact}
@@ -63,5 +64,6 @@ shape_sized (Fixed size) t = grid_sized size size t
 shape_sized (Sliding size period) t = grid_sized size period t
 shape_sized (Session gap) t = (refl, tt)
 
-pub windows_in_order : (key : ℕ) (shape : Shape) (t : ℤ) (ws : List Window) → ws ≡ windows_of_shape shape t → IsRising ws → AreInOrder (map (at key) ws)
-windows_in_order key shape t ws is rising = rising_in_order key (size_of shape) ws rising (subst (AllByRecursion (HasSize (size_of shape))) (sym is) (shape_sized shape t))
+pub windows_in_order : (key : ℕ) (shape : Shape) (t l m : ℤ) (ws : List Window) → ws ≡ live_windows_of shape t l m → IsRising ws → AreInOrder (map (at key) ws)
+windows_in_order key shape t l m ws is rising =
+    rising_in_order key (size_of shape) ws rising (subst (AllByRecursion (HasSize (size_of shape))) (sym is) (filter-all (HasSize (size_of shape)) (λ w. is_live w l m) (windows_of_shape shape t) (shape_sized shape t)))

@@ -1,22 +1,22 @@
 -- Panes at several places fire in their order: the first one, then the others.
-use Rattle.std.proofs.Common.{◌≡◌, Bool, true, false, ◌||◌, cond, T, List, [], ◌∷◌, ◌++◌, Option, Some, None, refl, sym, ap, ◌∙◌}
+use Rattle.std.proofs.Common.{◌≡◌, Bool, true, false, ◌||◌, cond, T, List, [], ◌∷◌, ◌++◌, Option, None, refl, sym, ap, ◌∙◌}
 use Rattle.std.proofs.lemmas.Bool.{true≢false}
 use Rattle.std.specs.Prelude.{ℤ}
 use Rattle.std.specs.List.{cons_option, list_any}
-use Rattle.std.specs.Ordering.{eq_by_cmp, is_eq, is_gt, ordering_reverse}
+use Rattle.std.specs.Ordering.{eq_by_cmp, is_eq, is_gt}
 use Rattle.std.specs.declared.cmp.Ordering.{Ordering}
 use Rattle.std.specs.declared.cmp.Ordering.TheVariants.{Less, Equal, Greater}
-use Rattle.std.specs.FinMap.Entries.{is_sorted, below_all}
+use Rattle.std.specs.FinMap.Entries.{is_sorted}
 use Rattle.wsm_windows.specs.declared.window.PaneKind.{PaneKind}
 use Rattle.wsm_windows.specs.declared.place.Place.{Place}
 use Rattle.wsm_windows.specs.Places.{place_cmp}
-use Rattle.wsm_windows.proofs.Places.{places_total}
 use Rattle.wsm_semantics.specs.Query.{Query}
 use Rattle.wsm_semantics.specs.Firings.{kind_on_record}
-use Rattle.wsm_semantics.specs.Summaries.{Plan, Pane, Fired, fired_of, fires, fired_pane, all_fired}
+use Rattle.wsm_semantics.specs.Summaries.{Plan, Pane, fired_of, fires, fired_pane, all_fired}
 use Rattle.wsm_firing.specs.ByRecord.{kind_at}
-use Rattle.wsm_firing.proofs.SameKinds.{Kind, Entries, none_fires}
-use Rattle.wsm_firing.proofs.AtPlace.{first_of, second_of, one, none_behind}
+use Rattle.wsm_firing.proofs.SameKinds.{Kind, Entries}
+use Rattle.wsm_firing.proofs.AtPlace.{one}
+use Rattle.wsm_firing.proofs.ByKind.{told_in_turn}
 
 module _ {X : Type 0} (plan : Plan X) (q : Query) where
   module _ (mark : ℤ) (p : Place) (ps : List Place) (later : (r : Place) → is_gt (place_cmp r p) ≡ false → list_any (eq_by_cmp place_cmp r) ps ≡ false) where
@@ -48,30 +48,6 @@ module _ {X : Type 0} (plan : Plan X) (q : Query) where
     fired_in_turn (e ∷ es) =
         λ i. (e.0, once e.0 e.1 (λ h. kind_on_record q mark e.0.end h.unshown) (eq_by_cmp place_cmp e.0 p) (list_any (eq_by_cmp place_cmp e.0) ps) (apart e.0) i) ∷ fired_in_turn es i
 
-    cons_first : (o : Option (Fired X)) (xs ys : List (Fired X)) → cons_option o (xs ++ ys) ≡ cons_option o xs ++ ys
-    cons_first None xs ys = refl
-    cons_first (Some x) xs ys = refl
-
-    split_fires : (es : Entries plan q) → T (is_sorted place_cmp es) → fires q both es ≡ fires q (one plan q mark p) es ++ fires q others es
-    split_fires [] sorted = refl
-    split_fires (e ∷ es) sorted =
-        let k : Option PaneKind = kind_on_record q mark e.0.end e.1.unshown in
-        let u : Bool = list_any (eq_by_cmp place_cmp e.0) ps in
-        let f : Bool → Option (Fired X) = λ b. fired_of q.mode e.0 e.1 (cond b k None) in
-        let rest : fires q both es ≡ fires q (one plan q mark p) es ++ fires q others es = split_fires es (second_of (below_all place_cmp e.0 es) (is_sorted place_cmp es) sorted) in
-        elim (place_cmp e.0 p) as (λ o. place_cmp e.0 p ≡ o → cons_option (f (is_eq o || u)) (fires q both es) ≡ cons_option (f (is_eq o || false)) (fires q (one plan q mark p) es) ++ cons_option (f u) (fires q others es)) [
-          | Less ↦ λ less.
-              let none : u ≡ false = later e.0 (ap is_gt less) in
-              (λ i. cons_option (f (none i)) (rest i)) ∙ (λ i. fires q (one plan q mark p) es ++ cons_option (f (sym none i)) (fires q others es))
-          | Equal ↦ λ tie.
-              let none : u ≡ false = later e.0 (ap is_gt tie) in
-              (λ i. cons_option (f true) (rest i)) ∙ cons_first (f true) (fires q (one plan q mark p) es) (fires q others es) ∙ (λ i. cons_option (f true) (fires q (one plan q mark p) es) ++ cons_option (f (sym none i)) (fires q others es))
-          | Greater ↦ λ more.
-              let before : place_cmp p e.0 ≡ Less = places_total.antisymm p e.0 ∙ ap ordering_reverse more in
-              let none : fires q (one plan q mark p) es ≡ [] = none_fires plan q (one plan q mark p) es (none_behind plan q mark p e.0 (λ r. places_total.trans p e.0 r before) es (first_of (below_all place_cmp e.0 es) (is_sorted place_cmp es) sorted)) in
-              (λ i. cons_option (f u) (rest i)) ∙ (λ i. cons_option (f u) (none i ++ fires q others es)) ∙ (λ i. sym none i ++ cons_option (f u) (fires q others es))
-        ] refl
-
     -- what the one fires doesn't change what the others do
     as_before : (r : Place) (h : Pane X) (g : Pane X → Option PaneKind) (a b : Bool) → (a ≡ true → b ≡ false) →
         fired_of q.mode r h (cond b (g h) None)
@@ -86,4 +62,4 @@ module _ {X : Type 0} (plan : Plan X) (q : Query) where
         λ i. cons_option (as_before e.0 e.1 (λ h. kind_on_record q mark e.0.end h.unshown) (eq_by_cmp place_cmp e.0 p) (list_any (eq_by_cmp place_cmp e.0) ps) (apart e.0) i) (others_stay es i)
 
     pub fires_in_turn : (es : Entries plan q) → T (is_sorted place_cmp es) → fires q both es ≡ fires q (one plan q mark p) es ++ fires q others (all_fired plan q (one plan q mark p) es)
-    fires_in_turn es sorted = split_fires es sorted ∙ ap (λ fs. fires q (one plan q mark p) es ++ fs) (others_stay es)
+    fires_in_turn es sorted = told_in_turn plan q (fired_of q.mode) (λ r h. refl) mark p ps later es sorted ∙ ap (λ fs. fires q (one plan q mark p) es ++ fs) (others_stay es)

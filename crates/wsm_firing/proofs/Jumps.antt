@@ -4,7 +4,6 @@ use Rattle.std.proofs.lemmas.Int.{ints, int_max_is}
 use Rattle.std.proofs.lemmas.Option.{slice_get_within, get_or_from_slice_get}
 use Rattle.std.specs.Int.{int_max}
 use Rattle.std.specs.Prelude.{ℤ, ◌+ℤ◌, ◌≤ℤ◌, ◌<ℤ◌, int_lt, int_le, nat_lt, slice_get}
-use Rattle.std.specs.List.{cons_option}
 use Rattle.std.specs.FinMap.Entries.{is_sorted, below_all}
 use Rattle.wsm_record.specs.declared.event.Value.{Value}
 use Rattle.wsm_windows.specs.declared.window.PaneKind.{PaneKind}
@@ -19,6 +18,7 @@ use Rattle.wsm_panes.proofs.Ended.{ended, ended_passes, ends_in_order, past_nth}
 use Rattle.wsm_firing.specs.ByWatermark.{IsNextToFire}
 use Rattle.wsm_firing.proofs.SameKinds.{Entries}
 use Rattle.wsm_firing.proofs.AtPlace.{first_of, second_of}
+use Rattle.wsm_firing.proofs.ByKind.{NoneBetween, shifted, told_jump}
 use Rattle.wsm_firing.proofs.Walk.{behind, fired_first, later_same, some_same}
 
 neither : (a b c d : Bool) → cond ((false && a) && b) (Some OnTime) (cond ((c && false) && d) (Some Final) None) ≡ None
@@ -36,34 +36,17 @@ module _ {X : Type 0} (q : Query) (expired old new : ℤ) (expires : new ≤ℤ 
       ∙ neither (int_le p.end new) (nat_lt 0 (fired_count q.mode h)) (int_lt old (p.end +ℤ q.clock.lateness)) (nat_lt 0 h.unshown)
 
 module _ {X : Type 0} (plan : Plan X) (q : Query) (kind : Place → Pane X → Option PaneKind) where
-  -- none of those from a number to before another fires
-  abbrev pub NoneBetween : ℕ → ℕ → Entries plan q → Type 0
-  NoneBetween n m es = (k : ℕ) (e : Place × Pane X) → n ≤ k → k < m → slice_get es k ≡ Some e → kind e.0 e.1 ≡ None
-
-  shifted : (n m : ℕ) (x : Place × Pane X) (es : Entries plan q) → NoneBetween n (suc m) (x ∷ es) → (k : ℕ) (e : Place × Pane X) → n ≤ suc k → k < m → slice_get es k ≡ Some e → kind e.0 e.1 ≡ None
-  shifted n m x es none k e low high at = none (suc k) e low (omega (arith, high)) at
-
-  pub fired_jump : (n m : ℕ) (es : Entries plan q) → n ≤ m → NoneBetween n m es → fired_first plan q kind n es ≡ fired_first plan q kind m es
+  pub fired_jump : (n m : ℕ) (es : Entries plan q) → n ≤ m → NoneBetween plan q kind n m es → fired_first plan q kind n es ≡ fired_first plan q kind m es
   fired_jump zero zero es to none = refl
   fired_jump zero (suc m) [] to none = refl
   fired_jump zero (suc m) (x ∷ es) to none =
       let still : kind x.0 x.1 ≡ None = none 0 x (omega arith) (omega arith) refl in
-      let rest : es ≡ fired_first plan q kind m es = fired_jump zero m es (omega arith) (λ k e low high at. shifted 0 m x es none k e (omega arith) high at) in
+      let rest : es ≡ fired_first plan q kind m es = fired_jump zero m es (omega arith) (λ k e low high at. shifted plan q kind 0 m x es none k e (omega arith) high at) in
       sym (λ i. (x.0, fired_pane plan q.mode x.0 (still i) x.1) ∷ sym rest i)
   fired_jump (suc n) zero es to none = absurd (omega (arith, to))
   fired_jump (suc n) (suc m) [] to none = refl
   fired_jump (suc n) (suc m) (x ∷ es) to none =
-      ap (λ (fs : Entries plan q). (x.0, fired_pane plan q.mode x.0 (kind x.0 x.1) x.1) ∷ fs) (fired_jump n m es (omega (arith, to)) (λ k e low high at. shifted (suc n) m x es none k e (omega (arith, low)) high at))
-
-  pub fires_jump : (n m : ℕ) (es : Entries plan q) → n ≤ m → NoneBetween n m es → fires q kind (drop n es) ≡ fires q kind (drop m es)
-  fires_jump zero zero es to none = refl
-  fires_jump zero (suc m) [] to none = refl
-  fires_jump zero (suc m) (x ∷ es) to none =
-      let still : kind x.0 x.1 ≡ None = none 0 x (omega arith) (omega arith) refl in
-      (λ i. cons_option (fired_of q.mode x.0 x.1 (still i)) (fires q kind es)) ∙ fires_jump zero m es (omega arith) (λ k e low high at. shifted 0 m x es none k e (omega arith) high at)
-  fires_jump (suc n) zero es to none = absurd (omega (arith, to))
-  fires_jump (suc n) (suc m) [] to none = refl
-  fires_jump (suc n) (suc m) (x ∷ es) to none = fires_jump n m es (omega (arith, to)) (λ k e low high at. shifted (suc n) m x es none k e (omega (arith, low)) high at)
+      ap (λ (fs : Entries plan q). (x.0, fired_pane plan q.mode x.0 (kind x.0 x.1) x.1) ∷ fs) (fired_jump n m es (omega (arith, to)) (λ k e low high at. shifted plan q kind (suc n) m x es none k e (omega (arith, low)) high at))
 
 -- ---- where a walk goes on
 
@@ -73,13 +56,20 @@ none_between plan q expired old new es now from found expires so_far j k e low h
     let over = j.fired k e low high (ap (λ (fs : Entries plan q). slice_get fs k) so_far ∙ later_same plan q (kind_by_watermark q old new) from k es low ∙ at) in
     passed_over q expired old new expires e.0 e.1 over.0 over.1
 
+-- the same where the panes are as they were
+pub none_over : (plan : Plan (List Value)) (q : Query) (expired old new : ℤ) (es : Entries plan q) (from : ℕ) (found : Option Place) → new ≤ℤ (expired +ℤ q.clock.lateness) →
+    (j : IsNextToFire expired old new es from found) → NoneBetween plan q (kind_by_watermark q old new) from j.at es
+none_over plan q expired old new es from found expires j k e low high at =
+    let over = j.fired k e low high at in
+    passed_over q expired old new expires e.0 e.1 over.0 over.1
+
 -- a walk that goes on past some panes has fired as many, and as many are left to fire
 module _ (plan : Plan (List Value)) (q : Query) (expired old new : ℤ) (es now : Entries plan q) (from : ℕ) (found : Option Place) (expires : new ≤ℤ (expired +ℤ q.clock.lateness)) (so_far : now ≡ fired_first plan q (kind_by_watermark q old new) from es) (j : IsNextToFire expired old new now from found) where
   pub fired_on : now ≡ fired_first plan q (kind_by_watermark q old new) j.at es
   fired_on = so_far ∙ fired_jump plan q (kind_by_watermark q old new) from j.at es j.onward (none_between plan q expired old new es now from found expires so_far j)
 
   pub fires_on : fires q (kind_by_watermark q old new) (drop from es) ≡ fires q (kind_by_watermark q old new) (drop j.at es)
-  fires_on = fires_jump plan q (kind_by_watermark q old new) from j.at es j.onward (none_between plan q expired old new es now from found expires so_far j)
+  fires_on = told_jump plan q (fired_of q.mode) (λ r h. refl) (kind_by_watermark q old new) from j.at es j.onward (none_between plan q expired old new es now from found expires so_far j)
 
 head_past : {X : Type 0} (limit : ℤ) (x : Place × X) → place_due limit (Some x) ≡ None → limit <ℤ x.0.end
 head_past limit x none =

@@ -8,17 +8,14 @@ use Rattle.wsm_record.specs.declared.words.Form.{Form}
 use Rattle.wsm_record.specs.declared.words.Form.TheVariants as form
 use Rattle.wsm_semantics.specs.declared.out_row.OutRow.{OutRow}
 use Rattle.wsm_semantics.specs.Summaries.{Fired, row_of}
-use Rattle.wsm_semantics.specs.Steps.{chosen_rows}
+use Rattle.wsm_semantics.specs.Relation.{chosen_rows}
 use Rattle.wsm_program.specs.Program.{Program}
 use Rattle.wsm_machine.specs.Meaning.{plan_of, pane_cost_by}
 use Rattle.wsm_machine.specs.Sound.{MayFire}
 use Rattle.wsm_panes.specs.Held.{Held, IsKept}
 use Rattle.wsm_firing.specs.declared.tally.Tally.{Tally}
-use Rattle.wsm_firing.specs.Tally.{greatest, tally_of, tally_with}
-use Rattle.wsm_firing.specs.Firing.{rows_of, CanFire, CanAdd}
-
-abbrev pub nothing : Tally
-nothing = record { fired = 0; steps_max = 0; steps_total = 0 }
+use Rattle.wsm_firing.specs.Tally.{greatest, nothing, tally_of, tally_with}
+use Rattle.wsm_firing.specs.Firing.{rows_of, CanAdd}
 
 -- ---- tallies
 
@@ -82,39 +79,30 @@ module _ (p : Program) where
 
   -- ---- what is left
 
-  -- so many rows and the tally so far, with those of what is left, are those of all
-  pub record ComesTo (capacity : ℕ) (tally : Tally) (rows : List OutRow) (left all : Firings) : Type 0 where
+  -- the rows and the tally so far, with those of what is left, are those of all behind the rows before
+  pub record ComesTo (capacity : ℕ) (before : List OutRow) (tally : Tally) (rows : List OutRow) (left all : Firings) : Type 0 where
     pub tallied : tally_with p tally left ≡ tally_of p all
-    pub written : rows ++ rows_of p left ≡ rows_of p all
+    pub written : rows ++ rows_of p left ≡ before ++ rows_of p all
     pub each : AllByRecursion (MayFire p) left
     pub room : length rows + length left ≤ capacity
     pub fired : length all < 2 ^ 64
     pub steps : (tally_of p all).steps_total < 2 ^ 64
 
-  pub first : (capacity : ℕ) (tally : Tally) (rows : List OutRow) (fs : Firings) → tally ≡ nothing → rows ≡ [] → CanFire p capacity fs → ComesTo capacity tally rows fs fs
-  first capacity tally rows fs none empty can = record {
+  pub first : (capacity n : ℕ) (tally : Tally) (rows : List OutRow) (fs : Firings) → tally ≡ nothing → n ≡ length rows → CanAdd p capacity n nothing fs → ComesTo capacity rows tally rows fs fs
+  first capacity n tally rows fs none many can = record {
     tallied = ap (λ (t : Tally). tally_with p t fs) none ∙ tally_all fs;
-    written = ap (λ (rs : List OutRow). rs ++ rows_of p fs) empty;
+    written = refl;
     each = can.each;
-    room = omega (arith, can.room, ap length empty);
-    fired = can.fired;
-    steps = can.steps;
-  }
-
-  -- all of them can be the first
-  pub can_start : (capacity n : ℕ) (tally : Tally) (fs : Firings) → tally ≡ nothing → n ≡ 0 → CanFire p capacity fs → CanAdd p capacity n tally fs
-  can_start capacity n tally fs none empty can = record {
-    each = can.each;
-    room = omega (arith, empty, can.room);
-    fired = omega (arith, ap (λ (t : Tally). t.fired) none, can.fired);
-    steps = subst (λ (t : Tally). t.steps_total < 2 ^ 64) (sym (ap (λ (t : Tally). tally_with p t fs) none ∙ tally_all fs)) can.steps;
+    room = omega (arith, can.room, many);
+    fired = omega (arith, can.fired);
+    steps = subst (λ (t : Tally). t.steps_total < 2 ^ 64) (tally_all fs) can.steps;
   }
 
   split_each : (xs ys : Firings) → AllByRecursion (MayFire p) (xs ++ ys) → AllByRecursion (MayFire p) xs × AllByRecursion (MayFire p) ys
   split_each [] ys h = (tt, h)
   split_each (x ∷ xs) ys h = let rest = split_each xs ys h.1 in ((h.0, rest.0), rest.1)
 
-  module _ (capacity : ℕ) (tally : Tally) (rows : List OutRow) (some left all : Firings) (so_far : ComesTo capacity tally rows (some ++ left) all) where
+  module _ (capacity : ℕ) (before : List OutRow) (tally : Tally) (rows : List OutRow) (some left all : Firings) (so_far : ComesTo capacity before tally rows (some ++ left) all) where
     all_fired_is : (t : Tally) → t ≡ tally_of p all → t.fired ≡ length all
     all_fired_is t is = ap (λ (t : Tally). t.fired) is
 
@@ -130,7 +118,7 @@ module _ (p : Program) where
       less m is l = omega (arith, is, l, total (tally_with p tally some) left)
 
     -- once they fired
-    pub next : ComesTo capacity (tally_with p tally some) (rows ++ rows_of p some) left all
+    pub next : ComesTo capacity before (tally_with p tally some) (rows ++ rows_of p some) left all
     next = record {
       tallied = tally-append tally some left ∙ so_far.tallied;
       written = append_assoc rows (rows_of p some) (rows_of p left) ∙ ap (λ rs. rows ++ rs) (sym (rows-append some left)) ∙ so_far.written;
@@ -154,11 +142,11 @@ module _ (p : Program) where
   no_tally t fs none = sym (ap (tally_with p t) none)
 
   -- nothing is left
-  pub last_tally : (capacity : ℕ) (tally : Tally) (rows : List OutRow) (left all : Firings) → left ≡ [] → ComesTo capacity tally rows left all → tally ≡ tally_of p all
-  last_tally capacity tally rows left all none so_far = no_tally tally left none ∙ so_far.tallied
+  pub last_tally : (capacity : ℕ) (before : List OutRow) (tally : Tally) (rows : List OutRow) (left all : Firings) → left ≡ [] → ComesTo capacity before tally rows left all → tally ≡ tally_of p all
+  last_tally capacity before tally rows left all none so_far = no_tally tally left none ∙ so_far.tallied
 
-  pub last_rows : (capacity : ℕ) (tally : Tally) (rows : List OutRow) (left all : Firings) → left ≡ [] → ComesTo capacity tally rows left all → rows ≡ rows_of p all
-  last_rows capacity tally rows left all none so_far = no_rows rows left none ∙ so_far.written
+  pub last_rows : (capacity : ℕ) (before : List OutRow) (tally : Tally) (rows : List OutRow) (left all : Firings) → left ≡ [] → ComesTo capacity before tally rows left all → rows ≡ before ++ rows_of p all
+  last_rows capacity before tally rows left all none so_far = no_rows rows left none ∙ so_far.written
 
 pub kept_on : (a b c : Held) → IsKept a b → IsKept b c → IsKept a c
 kept_on a b c h k = record { keys = k.keys ∙ h.keys; shape = k.shape ∙ h.shape; live = k.live ∙ h.live; widths = k.widths ∙ h.widths }

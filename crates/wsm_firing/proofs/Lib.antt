@@ -15,3 +15,10 @@ pub mod RowsAfterRecord
 pub mod Past
 pub mod Jumps
 pub mod WatermarkWalk
+pub mod TurnRows
+pub mod ByKind
+mod ByPlace
+mod RetractPlaces
+mod RetractWalk
+mod RetractAt
+mod RetractJoined

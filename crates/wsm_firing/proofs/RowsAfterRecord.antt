@@ -1,5 +1,5 @@
 -- The rows that stand for panes once a record is put in, by their counts.
-use Rattle.std.proofs.Common.{◌≡◌, suc, ◌+◌, ◌≤◌, Bool, true, false, not, ◌&&◌, cond, T, List, [], ◌∷◌, length, Option, Some, None, refl, sym, ap, subst, ◌∙◌, arith}
+use Rattle.std.proofs.Common.{◌≡◌, ℕ, suc, ◌+◌, ◌≤◌, Bool, true, false, not, ◌&&◌, cond, T, List, [], ◌∷◌, length, Option, Some, None, refl, sym, ap, subst, ◌∙◌, arith}
 use Rattle.std.proofs.lemmas.Int.{ints}
 use Rattle.std.specs.Prelude.{ℤ, pos, ◌+ℤ◌, ◌≤ℤ◌, nat_eq, int_lt}
 use Rattle.std.specs.Int.{int_max, int_min}
@@ -11,13 +11,15 @@ use Rattle.wsm_record.specs.declared.cell.Cell.{Cell}
 use Rattle.wsm_windows.specs.declared.window.Shape.{Shape}
 use Rattle.wsm_windows.specs.declared.window.Shape.TheVariants.{Fixed, Sliding, Session}
 use Rattle.wsm_windows.specs.declared.window.Window.{Window}
-use Rattle.wsm_windows.specs.Windows.{IsShape, windows_of}
+use Rattle.wsm_windows.specs.Windows.{IsShape}
+use Rattle.wsm_windows.specs.Life.{live_windows_of}
 use Rattle.wsm_windows.specs.declared.place.Place.{Place}
 use Rattle.wsm_windows.specs.Places.{place_cmp, at}
 use Rattle.wsm_windows.proofs.Places.{places_total, places_exact}
 use Rattle.wsm_semantics.specs.declared.standing.Standing.{Standing as PaneStanding}
 use Rattle.wsm_semantics.specs.declared.standing.Standing.TheVariants.{Unfired, Row, Joined}
 use Rattle.wsm_semantics.specs.Query.{Datum}
+use Rattle.wsm_semantics.specs.Replay.{datum}
 use Rattle.wsm_semantics.specs.Kept.{is_linked}
 use Rattle.wsm_semantics.specs.Summaries.{Plan, Pane, assigned, entered, joined_all, linked, merged_session, session_with, standing_joined, standing_row, with_record}
 use Rattle.wsm_panes.specs.Held.{first_two, has_fired, joined_panes}
@@ -90,7 +92,7 @@ module _ (gap : ℤ) (d : Datum) where
         | false ↦ omega (arith, rest, count_cons q (row_at e.1) (standing_rows es), count_cons q (row_at e.1) (standing_rows (where_key place_cmp far es)))
       ]
 
-  length_parts : (es : Panes) → length es ≡ length (linked gap d es) + length (where_key place_cmp far es)
+  pub length_parts : (es : Panes) → length es ≡ length (linked gap d es) + length (where_key place_cmp far es)
   length_parts [] = refl
   length_parts (e ∷ es) =
       let rest = length_parts es in
@@ -102,20 +104,20 @@ module _ (gap : ℤ) (d : Datum) where
 -- two sessions that both fired stand for nothing once they are joined, and else for what stood before
 joined_none : (s t : PaneStanding) → has_fired s && has_fired t ≡ true → standing_row (standing_joined s t) ≡ None
 joined_none Unfired t h = absurd (cc)
-joined_none (Row r) Unfired h = absurd (cc)
-joined_none (Row r) (Row u) h = refl
-joined_none (Row r) Joined h = refl
+joined_none (Row v r) Unfired h = absurd (cc)
+joined_none (Row v r) (Row w u) h = refl
+joined_none (Row v r) Joined h = refl
 joined_none Joined Unfired h = absurd (cc)
-joined_none Joined (Row u) h = refl
+joined_none Joined (Row w u) h = refl
 joined_none Joined Joined h = refl
 
 joined_row : (q : List Cell) (s t : PaneStanding) → has_fired s && has_fired t ≡ false → count_in q (standing_row (standing_joined s t)) ≡ count_in q (standing_row s) + count_in q (standing_row t)
 joined_row q Unfired t h = omega arith
-joined_row q (Row r) Unfired h = omega arith
-joined_row q (Row r) (Row u) h = absurd (cc)
-joined_row q (Row r) Joined h = absurd (cc)
+joined_row q (Row v r) Unfired h = omega arith
+joined_row q (Row v r) (Row w u) h = absurd (cc)
+joined_row q (Row v r) Joined h = absurd (cc)
 joined_row q Joined Unfired h = omega arith
-joined_row q Joined (Row u) h = absurd (cc)
+joined_row q Joined (Row w u) h = absurd (cc)
 joined_row q Joined Joined h = absurd (cc)
 
 module _ (plan : Plan (List Value)) (gap : ℤ) (some : pos 1 ≤ℤ gap) (d : Datum) (es : Panes) (sorted : T (is_sorted place_cmp es)) where
@@ -160,11 +162,11 @@ module _ (plan : Plan (List Value)) (gap : ℤ) (some : pos 1 ≤ℤ gap) (d : D
 
 -- ---- all shapes
 
-pub count_entered : (plan : Plan (List Value)) (sh : Shape) (d : Datum) (es : Panes) → IsShape sh → T (is_sorted place_cmp es) → ((gap : ℤ) → sh ≡ Session gap → length (linked gap d es) ≤ 2) → (q : List Cell) →
-    count_of q (standing_rows (entered plan sh d es)) ≡ count_of q (rows_with sh d es)
-count_entered plan (Fixed size) d es is sorted few q = count_assigned plan d q (windows_of size size d.time) es sorted
-count_entered plan (Sliding size period) d es is sorted few q = count_assigned plan d q (windows_of size period d.time) es sorted
-count_entered plan (Session gap) d es is sorted few q = count_merged plan gap (at_least gap is) d es sorted (few gap refl) q
+pub count_entered : (plan : Plan (List Value)) (sh : Shape) (l : ℤ) (d : Datum) (es : Panes) → IsShape sh → T (is_sorted place_cmp es) → ((gap : ℤ) → sh ≡ Session gap → length (linked gap d es) ≤ 2) → (q : List Cell) →
+    count_of q (standing_rows (entered plan sh l d es)) ≡ count_of q (rows_with sh d es)
+count_entered plan (Fixed size) l d es is sorted few q = count_assigned plan d q (live_windows_of (Fixed size) d.time l d.mark) es sorted
+count_entered plan (Sliding size period) l d es is sorted few q = count_assigned plan d q (live_windows_of (Sliding size period) d.time l d.mark) es sorted
+count_entered plan (Session gap) l d es is sorted few q = count_merged plan gap (at_least gap is) d es sorted (few gap refl) q
   where
     at_least : (gap : ℤ) → IsShape (Session gap) → pos 1 ≤ℤ gap
     at_least gap is = search is
@@ -225,3 +227,9 @@ pub pair_is : (sh : Shape) (d : Datum) (es : Panes) (v w : Pane Folded) → ((ga
 pair_is (Fixed size) d es v w few h = absurd (cc)
 pair_is (Sliding size period) d es v w few h = absurd (cc)
 pair_is (Session gap) d es v w few h = pair_by gap d es v w (linked gap d es) refl (few gap refl) h
+
+-- the mark of a record changes nothing of it
+pub unmarked : (sh : Shape) (m : ℤ) (k : ℕ) (t : ℤ) (es : Panes) → rows_with sh (datum 0 m k t []) es ≡ rows_with sh (datum 0 (pos 0) k t []) es
+unmarked (Fixed size) m k t es = refl
+unmarked (Sliding size period) m k t es = refl
+unmarked (Session gap) m k t es = refl

@@ -8,7 +8,7 @@ use Rattle.wsm_record.specs.declared.cell.Cell.{Cell}
 use Rattle.wsm_record.specs.declared.words.Form.{Form}
 use Rattle.wsm_record.specs.declared.words.Form.TheVariants as form
 use Rattle.wsm_semantics.specs.Relation.{with_row, without_one, sorted_rows, difference}
-use Rattle.wsm_semantics.specs.Steps.{stream_rows}
+use Rattle.wsm_semantics.specs.Relation.{stream_rows}
 use Rattle.wsm_relation.specs.Bag.{Bag}
 use Rattle.wsm_relation.specs.Rows.{count_of}
 use Rattle.wsm_relation.specs.Tally.{Tally, number_of, shifted, gains, losses}

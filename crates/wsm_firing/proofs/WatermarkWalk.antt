@@ -33,32 +33,32 @@ abbrev pub kind : Program → ℤ → ℤ → Place → Pane (List Value) → Op
 kind p old new = kind_by_watermark (query_of p) old new
 
 -- so many panes have fired or don't fire, and what was counted and written comes to all with what is left to fire
-pub record HasPassed (p : Program) (old new : ℤ) (es : Panes) (room passed : ℕ) (now : Panes) (tally : Tally) (rows : List OutRow) : Type 0 where
+pub record HasPassed (p : Program) (old new : ℤ) (es : Panes) (before : List OutRow) (room passed : ℕ) (now : Panes) (tally : Tally) (rows : List OutRow) : Type 0 where
   pub fired : now ≡ fired_first (plan_of p) (query_of p) (kind p old new) passed es
-  pub comes : ComesTo p room tally rows (fires_by_watermark p old new (drop passed es)) (fires_by_watermark p old new es)
+  pub comes : ComesTo p room before tally rows (fires_by_watermark p old new (drop passed es)) (fires_by_watermark p old new es)
 
 -- a walk has passed at least as many panes as it has taken turns, and is at the place of the next one, if that is due
-pub record HasWalked (p : Program) (old new : ℤ) (es : Panes) (room turns : ℕ) (now : Panes) (place : Option Place) (tally : Tally) (rows : List OutRow) : Type 0 where
+pub record HasWalked (p : Program) (old new : ℤ) (es : Panes) (before : List OutRow) (room turns : ℕ) (now : Panes) (place : Option Place) (tally : Tally) (rows : List OutRow) : Type 0 where
   pub passed : ℕ
   pub onward : turns ≤ passed
   pub due : place ≡ place_due new (slice_get now passed)
-  pub so_far : HasPassed p old new es room passed now tally rows
+  pub so_far : HasPassed p old new es before room passed now tally rows
 
--- all that fire have fired, and were counted and written
-pub record HasFired (p : Program) (old new : ℤ) (es now : Panes) (counted : Tally) (written : List OutRow) : Type 0 where
+-- all that fire have fired, and were counted and written behind the rows before
+pub record HasFired (p : Program) (old new : ℤ) (es : Panes) (before : List OutRow) (now : Panes) (counted : Tally) (written : List OutRow) : Type 0 where
   pub panes : now ≡ all_fired (plan_of p) (query_of p) (kind p old new) es
-  pub rows : written ≡ rows_of p (fires_by_watermark p old new es)
+  pub rows : written ≡ before ++ rows_of p (fires_by_watermark p old new es)
   pub tally : counted ≡ tally_of p (fires_by_watermark p old new es)
 
-module _ {p : Program} {old new : ℤ} {es : Panes} {room : ℕ} where
-  pub as_passed : {n : ℕ} {now then : Panes} {t u : Tally} {rs ss : List OutRow} → then ≡ now → u ≡ t → ss ≡ rs → HasPassed p old new es room n now t rs → HasPassed p old new es room n then u ss
+module _ {p : Program} {old new : ℤ} {es : Panes} {before : List OutRow} {room : ℕ} where
+  pub as_passed : {n : ℕ} {now then : Panes} {t u : Tally} {rs ss : List OutRow} → then ≡ now → u ≡ t → ss ≡ rs → HasPassed p old new es before room n now t rs → HasPassed p old new es before room n then u ss
   as_passed {n} panes tally rows passed =
-      subst (λ (x : Panes × Tally × List OutRow). HasPassed p old new es room n x.0 x.1 x.2) (λ i. (sym panes i, sym tally i, sym rows i)) passed
+      subst (λ (x : Panes × Tally × List OutRow). HasPassed p old new es before room n x.0 x.1 x.2) (λ i. (sym panes i, sym tally i, sym rows i)) passed
 
   -- a walk goes on to the next pane that can fire
   pub walks_on : (expired : ℤ) (turns from : ℕ) {now : Panes} {place : Option Place} {tally : Tally} {rows : List OutRow} →
-      new ≤ℤ (expired +ℤ (query_of p).clock.lateness) → turns ≤ from → HasPassed p old new es room from now tally rows → IsNextToFire expired old new now from place →
-      HasWalked p old new es room turns now place tally rows
+      new ≤ℤ (expired +ℤ (query_of p).clock.lateness) → turns ≤ from → HasPassed p old new es before room from now tally rows → IsNextToFire expired old new now from place →
+      HasWalked p old new es before room turns now place tally rows
   walks_on expired turns from {now} {place} {tally} {rows} expires far so_far on =
       let onward : from ≤ on.at = on.onward in
       record {
@@ -68,29 +68,29 @@ module _ {p : Program} {old new : ℤ} {es : Panes} {room : ℕ} where
         so_far = record {
           fired = fired_on (plan_of p) (query_of p) expired old new es now from place expires so_far.fired on;
           comes =
-              subst (λ fs. ComesTo p room tally rows fs (fires_by_watermark p old new es))
+              subst (λ fs. ComesTo p room before tally rows fs (fires_by_watermark p old new es))
               (fires_on (plan_of p) (query_of p) expired old new es now from place expires so_far.fired on) so_far.comes;
         };
       }
 
-module _ {p : Program} {old new : ℤ} {es : Panes} {room turns : ℕ} {now : Panes} {place : Option Place} {tally : Tally} {rows : List OutRow} (walked : HasWalked p old new es room turns now place tally rows) where
-  ends : AllByRecursion (λ e. kind p old new e.0 e.1 ≡ None) (drop walked.passed es) → HasFired p old new es now tally rows
+module _ {p : Program} {old new : ℤ} {es : Panes} {before : List OutRow} {room turns : ℕ} {now : Panes} {place : Option Place} {tally : Tally} {rows : List OutRow} (walked : HasWalked p old new es before room turns now place tally rows) where
+  ends : AllByRecursion (λ e. kind p old new e.0 e.1 ≡ None) (drop walked.passed es) → HasFired p old new es before now tally rows
   ends still =
       let none = none_fires (plan_of p) (query_of p) (kind p old new) (drop walked.passed es) still in
       record {
         panes = walked.so_far.fired ∙ walk.rest_stays (plan_of p) (query_of p) (kind p old new) walked.passed es still;
-        rows = counting.last_rows p room tally rows _ (fires_by_watermark p old new es) none walked.so_far.comes;
-        tally = counting.last_tally p room tally rows _ (fires_by_watermark p old new es) none walked.so_far.comes;
+        rows = counting.last_rows p room before tally rows _ (fires_by_watermark p old new es) none walked.so_far.comes;
+        tally = counting.last_tally p room before tally rows _ (fires_by_watermark p old new es) none walked.so_far.comes;
       }
 
   -- it ends after a turn for each pane
-  pub ends_behind_all : length es ≤ turns → HasFired p old new es now tally rows
+  pub ends_behind_all : length es ≤ turns → HasFired p old new es before now tally rows
   ends_behind_all all =
       let none : drop walked.passed es ≡ [] = drop_all walked.passed es (omega (arith, walked.onward, all)) in
       ends (subst (AllByRecursion (λ e. kind p old new e.0 e.1 ≡ None)) (sym none) tt)
 
   -- it ends where no pane is due
-  pub ends_at_none : pos 0 ≤ℤ (query_of p).clock.lateness → T (is_sorted place_cmp es) → place ≡ None → HasFired p old new es now tally rows
+  pub ends_at_none : pos 0 ≤ℤ (query_of p).clock.lateness → T (is_sorted place_cmp es) → place ≡ None → HasFired p old new es before now tally rows
   ends_at_none prompt sorted none =
       ends (behind.none_due (query_of p) prompt old new es walked.passed sorted
       (walk.still_due (plan_of p) (query_of p) (kind p old new) new walked.passed 0 walked.passed es now es walked.so_far.fired refl ∙ sym walked.due ∙ none))
@@ -126,11 +126,11 @@ module _ {p : Program} {old new : ℤ} {es : Panes} {room turns : ℕ} {now : Pa
             (walk.as_it_was (plan_of p) (query_of p) (kind p old new) es now walked.passed (here, pane) walked.so_far.fired sorted there)
 
         -- it doesn't fire
-        pub stays : kind p old new here pane ≡ None → HasPassed p old new es room (walked.passed + 1) now tally rows
+        pub stays : kind p old new here pane ≡ None → HasPassed p old new es before room (walked.passed + 1) now tally rows
         stays none = record {
           fired = walk.stays_next (plan_of p) (query_of p) (kind p old new) es now walked.passed (here, pane) walked.so_far.fired sorted there none;
           comes =
-              subst (λ fs. ComesTo p room tally rows fs (fires_by_watermark p old new es))
+              subst (λ fs. ComesTo p room before tally rows fs (fires_by_watermark p old new es))
               (walk.fired_next (plan_of p) (query_of p) (kind p old new) es now walked.passed (here, pane) walked.so_far.fired sorted there None none) walked.so_far.comes;
         }
 
@@ -142,16 +142,16 @@ module _ {p : Program} {old new : ℤ} {es : Panes} {room turns : ℕ} {now : Pa
           abbrev pub left : List (Fired (List Value))
           left = fires_by_watermark p old new (drop (walked.passed + 1) es)
 
-          splits : ComesTo p room tally rows ((firing ∷ []) ++ left) (fires_by_watermark p old new es)
+          splits : ComesTo p room before tally rows ((firing ∷ []) ++ left) (fires_by_watermark p old new es)
           splits =
-              subst (λ fs. ComesTo p room tally rows fs (fires_by_watermark p old new es))
+              subst (λ fs. ComesTo p room before tally rows fs (fires_by_watermark p old new es))
               (walk.fired_next (plan_of p) (query_of p) (kind p old new) es now walked.passed (here, pane) walked.so_far.fired sorted there (Some k) fires) walked.so_far.comes
 
           pub can_fire : CanAdd p room (length rows) tally (firing ∷ [])
-          can_fire = counting.can_add p room tally rows (firing ∷ []) left (fires_by_watermark p old new es) splits
+          can_fire = counting.can_add p room before tally rows (firing ∷ []) left (fires_by_watermark p old new es) splits
 
-          pub has_fired : HasPassed p old new es room (walked.passed + 1) (put place_cmp here (fired_pane (plan_of p) p.header.mode here (Some k) pane) now) (tally_with p tally (firing ∷ [])) (rows ++ rows_of p (firing ∷ []))
+          pub has_fired : HasPassed p old new es before room (walked.passed + 1) (put place_cmp here (fired_pane (plan_of p) p.header.mode here (Some k) pane) now) (tally_with p tally (firing ∷ [])) (rows ++ rows_of p (firing ∷ []))
           has_fired = record {
             fired = walk.fires_next (plan_of p) (query_of p) (kind p old new) es now walked.passed (here, pane) walked.so_far.fired sorted there k fires;
-            comes = counting.next p room tally rows (firing ∷ []) left (fires_by_watermark p old new es) splits;
+            comes = counting.next p room before tally rows (firing ∷ []) left (fires_by_watermark p old new es) splits;
           }

@@ -1,31 +1,34 @@
 -- What fires on the turn of a record.
-use Rattle.std.specs.Prelude.{◌≡◌, ℕ, ℤ, Bool, List, [], ◌∷◌, map, Option, Some, None, if◌then◌else◌}
+use Rattle.std.specs.Prelude.{◌≡◌, ◌≢◌, ℕ, ℤ, Bool, List, [], ◌∷◌, map, Option, Some, None, if◌then◌else◌}
 use Rattle.std.specs.List.{AllByRecursion, list_any}
 use Rattle.std.specs.Ordering.{eq_by_cmp}
 use Rattle.std.specs.declared.cmp.Ordering.TheVariants.{Less}
 use Rattle.wsm_record.specs.declared.event.Value.{Value}
+use Rattle.wsm_record.specs.declared.cell.Cell.{Cell}
 use Rattle.wsm_windows.specs.declared.window.PaneKind.{PaneKind}
 use Rattle.wsm_windows.specs.declared.window.Shape.{Shape}
+use Rattle.wsm_windows.specs.declared.window.Shape.TheVariants.{Session}
 use Rattle.wsm_windows.specs.declared.window.Window.{Window}
-use Rattle.wsm_windows.specs.Windows.{IsTime, windows_of_shape}
+use Rattle.wsm_windows.specs.Windows.{IsTime}
+use Rattle.wsm_windows.specs.Life.{live_windows_of}
 use Rattle.wsm_windows.specs.declared.place.Place.{Place}
 use Rattle.wsm_windows.specs.Places.{place_cmp, at}
 use Rattle.wsm_semantics.specs.Query.{Query}
 use Rattle.wsm_semantics.specs.Panes.{is_there}
 use Rattle.wsm_semantics.specs.Firings.{kind_on_record}
 use Rattle.wsm_semantics.specs.Replay.{datum}
-use Rattle.wsm_semantics.specs.Summaries.{Pane, Fired, fires, kind_by_record}
+use Rattle.wsm_semantics.specs.Summaries.{Pane, Fired, fires, kind_by_record, withdrawn_firing}
 use Rattle.wsm_program.specs.Program.{Program}
 use Rattle.wsm_machine.specs.Meaning.{query_of}
 use Rattle.wsm_firing.specs.Firing.{CanFire}
 
--- the windows that a record is put into: its session, or those that its time is assigned to
-abbrev pub windows_entered : Shape → ℤ → Option Window → List Window
-windows_entered shape time (Some session) = session ∷ []
-windows_entered shape time None = windows_of_shape shape time
+-- the windows that a record is put into at a mark: its session, or those of its time that are live
+abbrev pub windows_entered : Shape → ℤ → ℤ → ℤ → Option Window → List Window
+windows_entered shape lateness mark time (Some session) = session ∷ []
+windows_entered shape lateness mark time None = live_windows_of shape time lateness mark
 
-abbrev pub places_entered : Shape → ℕ → ℤ → Option Window → List Place
-places_entered shape key time session = map (at key) (windows_entered shape time session)
+abbrev pub places_entered : Program → ℤ → ℕ → ℤ → Option Window → List Place
+places_entered p mark key time session = map (at key) (windows_entered p.header.shape p.header.clock.lateness mark time session)
 
 -- whether a place is one of some places
 abbrev pub is_among : List Place → Place → Bool
@@ -42,10 +45,20 @@ AreInOrder (p ∷ ps) = AllByRecursion (λ r. place_cmp p r ≡ Less) ps × AreI
 
 -- what fires on the turn of a record of a key and a time
 abbrev pub fires_by_record : Program → ℤ → ℕ → ℤ → List (Place × Pane (List Value)) → List (Fired (List Value))
-fires_by_record p mark key time panes = fires (query_of p) (kind_by_record (query_of p) mark (datum 0 key time [])) panes
+fires_by_record p mark key time panes = fires (query_of p) (kind_by_record (query_of p) mark (datum 0 mark key time [])) panes
 
--- the panes that a record is in are those at the windows that it was put into, and what fires can
-pub record CanFireByRecord (p : Program) (capacity : ℕ) (mark : ℤ) (key : ℕ) (time : ℤ) (session : Option Window) (panes : List (Place × Pane (List Value))) : Type 0 where
+-- what those that fire then withdraw
+abbrev pub withdrawn_of_record : Program → ℤ → ℕ → ℤ → List (Place × Pane (List Value)) → List (Place × List Cell)
+withdrawn_of_record p mark key time panes = withdrawn_firing (kind_by_record (query_of p) mark (datum 0 mark key time [])) panes
+
+-- the panes that a record is in are those at the windows that it was put into at a mark
+pub record HasEntered (p : Program) (mark : ℤ) (key : ℕ) (time : ℤ) (session : Option Window) (panes : List (Place × Pane (List Value))) : Type 0 where
   pub timely : IsTime time
-  pub entered : AllByRecursion (λ e. is_there e.0 (datum 0 key time []) ≡ is_among (places_entered p.header.shape key time session) e.0) panes
-  pub can : CanFire p capacity (fires_by_record p mark key time panes)
+  pub marked : IsTime mark
+  pub grid : session ≡ None → (gap : ℤ) → p.header.shape ≢ Session gap
+  pub among : AllByRecursion (λ e. is_there (query_of p) e.0 (datum 0 mark key time []) ≡ is_among (places_entered p mark key time session) e.0) panes
+
+-- a record has entered, and what fires can behind so many rows
+pub record CanFireByRecord (p : Program) (capacity rows : ℕ) (mark : ℤ) (key : ℕ) (time : ℤ) (session : Option Window) (panes : List (Place × Pane (List Value))) : Type 0 where
+  pub entered : HasEntered p mark key time session panes
+  pub can : CanFire p capacity rows (fires_by_record p mark key time panes)

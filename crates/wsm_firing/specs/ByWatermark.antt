@@ -18,7 +18,7 @@ fires_by_watermark p old new panes = fires (query_of p) (kind_by_watermark (quer
 -- times can stand in the panes' windows, and what fires can
 pub record CanFireByWatermark (p : Program) (capacity : ℕ) (old new : ℤ) (panes : List (Place × Pane (List Value))) : Type 0 where
   pub placed : AllByRecursion (λ e. IsPlaced (window_of e.0)) panes
-  pub can : CanFire p capacity (fires_by_watermark p old new panes)
+  pub can : CanFire p capacity 0 (fires_by_watermark p old new panes)
 
 -- the place of the first pane from a number on that can fire, if it ends by the new mark: those before
 -- it don't expire yet, and came on time by the old mark

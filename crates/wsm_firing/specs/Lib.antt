@@ -4,3 +4,4 @@ pub mod Firing
 pub mod ByRecord
 pub mod ByWatermark
 pub mod Streams
+pub mod Retracting

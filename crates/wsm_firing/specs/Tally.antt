@@ -15,6 +15,10 @@ greatest (n ∷ ns) = max n (greatest ns)
 abbrev pub tally_of : Program → List (Fired (List Value)) → Tally
 tally_of p fs = record { fired = length fs; steps_max = greatest (map (pane_cost_by p) fs); steps_total = sum (map (pane_cost_by p) fs) }
 
+-- of none
+abbrev pub nothing : Tally
+nothing = record { fired = 0; steps_max = 0; steps_total = 0 }
+
 -- with further firings
 abbrev pub tally_with : Program → Tally → List (Fired (List Value)) → Tally
 tally_with p t [] = t

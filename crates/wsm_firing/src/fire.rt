@@ -5,9 +5,10 @@ ghost use Rattle.std.specs.FinMap.Entries.{find, put};
 ghost use Rattle.std.specs.List.{cons_option};
 ghost use Rattle.wsm_record.specs.declared.event.Value.{Value};
 ghost use Rattle.wsm_record.specs.declared.limits.TheConstants.{MAX_COLUMNS};
+ghost use Rattle.wsm_record.specs.Modes.{retracts};
 ghost use Rattle.wsm_windows.specs.Places.{place_cmp, window_of};
 ghost use Rattle.wsm_semantics.specs.declared.out_row.OutRow.TheVariants.{Pane as PaneRow};
-ghost use Rattle.wsm_semantics.specs.Steps.{chosen_rows};
+ghost use Rattle.wsm_semantics.specs.Relation.{chosen_rows};
 ghost use Rattle.wsm_semantics.specs.Summaries.{Pane, columns as columns_by, fired_count, fired_pane};
 ghost use Rattle.wsm_machine.specs.Meaning.{plan_of, pane_cost_by};
 ghost use Rattle.wsm_panes.specs.Held.{IsKept, entries_of};
@@ -47,6 +48,7 @@ pub fn fire(
     ran: Ran<'_>,
 )
     requires wide { held.old.widths.columns ≡ length verified.now.header.columns }
+    requires windows { held.old.widths.windows ≡ retracts verified.now.header.mode }
     requires tells { CanTell streams.old (entries_of held.old) }
     requires held { IsSome (find place_cmp due.spot.place (entries_of held.old)) }
     requires can { (pane : Pane (List Value)) → find place_cmp due.spot.place (entries_of held.old) ≡ Some pane → CanAdd verified.now (vec_capacity rows.old) (vec_len rows.old) tally.old (fired_by verified.now.header.mode due pane ∷ []) }

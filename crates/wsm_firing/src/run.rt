@@ -55,9 +55,10 @@ pub fn run<'a>(
 fn fired_count(mode: Mode, pane: &PaneView<'_>) -> u64
     ensures { result ≡ fired_count_of mode pane.now }
 {
-    match mode {
-        Mode::Accumulating => pane.count(),
-        Mode::Discarding => pane.unshown(),
+    if mode.is_over_all() {
+        pane.count()
+    } else {
+        pane.unshown()
     }
 }
 

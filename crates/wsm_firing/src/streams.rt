@@ -10,7 +10,7 @@ ghost use Rattle.wsm_record.specs.declared.cell.Cell.{Cell};
 ghost use Rattle.wsm_record.specs.declared.limits.TheConstants.{MAX_COLUMNS};
 ghost use Rattle.wsm_semantics.specs.Relation.{sorted_rows};
 ghost use Rattle.wsm_semantics.specs.Summaries.{Pane, standing_row};
-ghost use Rattle.wsm_semantics.specs.Steps.{stream_rows};
+ghost use Rattle.wsm_semantics.specs.Relation.{stream_rows};
 ghost use Rattle.wsm_firing.specs.Streams.{AreAlike, CanAdvance, CanGain, CanLose, HasRoomFor, IsTold, relation_kept, stream_of, stream_row};
 
 use std::alloc::{AllocError, Global};

@@ -1,32 +1,34 @@
 //! Firings on the turn of a watermark.
 
-ghost use Rattle.std.specs.Prelude.{◌≡◌, ◌≤ℤ◌, ◌+◌, ℕ, List, [], IsSome, Some, slice_get, vec_capacity, length};
-ghost use Rattle.std.specs.FinMap.Entries.{find};
-ghost use Rattle.wsm_record.specs.declared.event.Value.{Value};
-ghost use Rattle.wsm_windows.specs.Places.{place_cmp};
-ghost use Rattle.wsm_semantics.specs.Summaries.{Pane as AnyPane, all_fired, kind_by_watermark};
+ghost use Rattle.std.specs.Prelude.{◌≡◌, ◌++◌, [], vec_capacity, vec_len, length};
+ghost use Rattle.std.specs.List.{AllByRecursion};
+ghost use Rattle.wsm_record.specs.Modes.{retracts};
+ghost use Rattle.wsm_windows.specs.Windows.{IsPlaced};
+ghost use Rattle.wsm_windows.specs.Places.{window_of};
+ghost use Rattle.wsm_semantics.specs.Summaries.{all_fired, kind_by_watermark, withdrawn_by_watermark};
 ghost use Rattle.wsm_machine.specs.Meaning.{plan_of, query_of};
 ghost use Rattle.wsm_panes.specs.Held.{IsKept, entries_of};
-ghost use Rattle.wsm_panes.specs.Walk.{place_found};
-ghost use Rattle.wsm_firing.specs.Tally.{tally_of};
+ghost use Rattle.wsm_firing.specs.Tally.{nothing, tally_of};
 ghost use Rattle.wsm_firing.specs.Streams.{CanTell, Tells};
-ghost use Rattle.wsm_firing.specs.Firing.{rows_of};
-ghost use Rattle.wsm_firing.specs.ByWatermark.{CanFireByWatermark, IsNextToFire, fires_by_watermark};
+ghost use Rattle.wsm_firing.specs.Firing.{CanAdd, rows_of, turn_rows};
+ghost use Rattle.wsm_firing.specs.ByWatermark.{CanFireByWatermark, fires_by_watermark};
 
+use crate::finding::{first_to_fire, next_to_fire};
 use crate::fire::{Due, fire};
 use crate::kinds::watermark_kind;
+use crate::retracting::retract_by_watermark;
 use crate::run::run;
 use crate::streams::Streams;
 use crate::tally::Tally;
 use wsm_machine::Machine;
-use wsm_panes::{HeldPanes, Spot};
+use wsm_panes::HeldPanes;
 use wsm_semantics::OutRow;
 use wsm_verifier::Verified;
 use wsm_windows::last_expired;
 
 /// Fires the panes that a watermark comes to as it rises from one mark to another, by end, then
-/// start, then key. A row is written for each where HAVING is true and rows are those of panes.
-#[inline(never)]
+/// start, then key. A row is written for each where HAVING is true and rows are those of panes, behind
+/// those that withdraw what stood for them where panes retract.
 pub fn fire_by_watermark(
     verified: &Verified,
     machine: &mut Machine,
@@ -38,12 +40,40 @@ pub fn fire_by_watermark(
 ) -> Tally
     requires empty { rows.old.items ≡ [] }
     requires wide { held.old.widths.columns ≡ length verified.now.header.columns }
+    requires windows { held.old.widths.windows ≡ retracts verified.now.header.mode }
     requires tells { CanTell streams.old (entries_of held.old) }
     requires can { CanFireByWatermark verified.now (vec_capacity rows.old) old new (entries_of held.old) }
     ensures panes { entries_of held.new ≡ all_fired (plan_of verified.now) (query_of verified.now) (kind_by_watermark (query_of verified.now) old new) (entries_of held.old) }
     ensures keeps { IsKept held.old held.new }
     ensures tells { Tells streams.old streams.new (entries_of held.old) (entries_of held.new) }
-    ensures rows { rows.new.items ≡ rows_of verified.now (fires_by_watermark verified.now old new (entries_of held.old)) }
+    ensures rows { rows.new.items ≡ turn_rows verified.now (withdrawn_by_watermark (query_of verified.now) old new (entries_of held.old)) (fires_by_watermark verified.now old new (entries_of held.old)) }
+    ensures capacity { vec_capacity rows.new ≡ vec_capacity rows.old }
+    ensures tally { result ≡ tally_of verified.now (fires_by_watermark verified.now old new (entries_of held.old)) }
+{
+    retract_by_watermark(verified, held, rows, old, new);
+    fire_due(verified, machine, held, streams, rows, old, new)
+}
+
+// Fires the panes that a watermark comes to. Their rows are written behind those that are there.
+#[inline(never)]
+fn fire_due(
+    verified: &Verified,
+    machine: &mut Machine,
+    held: &mut HeldPanes,
+    streams: &mut Streams,
+    rows: &mut Vec<OutRow>,
+    old: i64,
+    new: i64,
+) -> Tally
+    requires wide { held.old.widths.columns ≡ length verified.now.header.columns }
+    requires windows { held.old.widths.windows ≡ retracts verified.now.header.mode }
+    requires tells { CanTell streams.old (entries_of held.old) }
+    requires placed { AllByRecursion (λ e. IsPlaced (window_of e.0)) (entries_of held.old) }
+    requires can { CanAdd verified.now (vec_capacity rows.old) (vec_len rows.old) nothing (fires_by_watermark verified.now old new (entries_of held.old)) }
+    ensures panes { entries_of held.new ≡ all_fired (plan_of verified.now) (query_of verified.now) (kind_by_watermark (query_of verified.now) old new) (entries_of held.old) }
+    ensures keeps { IsKept held.old held.new }
+    ensures tells { Tells streams.old streams.new (entries_of held.old) (entries_of held.new) }
+    ensures rows { rows.new.items ≡ rows.old.items ++ rows_of verified.now (fires_by_watermark verified.now old new (entries_of held.old)) }
     ensures capacity { vec_capacity rows.new ≡ vec_capacity rows.old }
     ensures tally { result ≡ tally_of verified.now (fires_by_watermark verified.now old new (entries_of held.old)) }
 {
@@ -64,32 +94,4 @@ pub fn fire_by_watermark(
         next = next_to_fire(held, spot, expired, old, new);
     }
     tally
-}
-
-// Where the first pane is that can fire as a watermark rises from one mark to another.
-fn first_to_fire(held: &HeldPanes, expired: i64, old: i64, new: i64) -> Option<Spot>
-    requires { expired ≤ℤ new }
-    ensures { IsNextToFire expired old new (entries_of held.now) 0 (place_found result) }
-{
-    match held.first_due(expired) {
-        Some(spot) => Some(spot),
-        None => held.first_due_after(old.max(expired), new),
-    }
-}
-
-// Where the pane behind one is that can fire. Between those that expire and those that come on time
-// there can be many that have fired and are still held.
-fn next_to_fire(held: &HeldPanes, spot: Spot, expired: i64, old: i64, new: i64) -> Option<Spot>
-    requires order { expired ≤ℤ new }
-    requires there { IsSome (find place_cmp spot.place (entries_of held.now)) }
-    ensures { (i : ℕ) (pane : AnyPane (List Value)) → slice_get (entries_of held.now) i ≡ Some (spot.place, pane) → IsNextToFire expired old new (entries_of held.now) (i + 1) (place_found result) }
-{
-    if spot.place.end > expired {
-        return held.next_due(spot, new);
-    }
-    let next = held.next_due(spot, expired);
-    if next.is_some() {
-        return next;
-    }
-    held.first_due_after(old.max(expired), new)
 }

@@ -1,5 +1,5 @@
 -- What it takes to put a record in, for the table and for the sessions of its key.
-use Rattle.std.proofs.Common.{◌≡◌, ◌≢◌, ◌<◌, ◌≤◌, ◌+◌, ◌⊎◌, ℕ, zero, suc, Bool, true, false, cond, List, [], ◌∷◌, ◌++◌, map, length, get_or, ℤ, Option, Some, None, IfSome, refl, sym, ap, subst, ◌∙◌, inl, inr, arith}
+use Rattle.std.proofs.Common.{pos, ◌≡◌, ◌≢◌, ◌<◌, ◌≤◌, ◌+◌, ◌⊎◌, ℕ, zero, suc, Bool, true, false, cond, List, [], ◌∷◌, ◌++◌, map, length, get_or, ℤ, Option, Some, None, IfSome, refl, sym, ap, subst, ◌∙◌, inl, inr, arith}
 use Rattle.std.proofs.lemmas.Bool.{true≢false, and_parts}
 use Rattle.std.proofs.lemmas.Bool.Decides.{nat_tests}
 use Rattle.std.proofs.lemmas.Option.{slice_get-get_or}
@@ -16,6 +16,7 @@ use Rattle.wsm_windows.specs.declared.window.Window.{Window}
 use Rattle.wsm_windows.specs.declared.window.Shape.{Shape}
 use Rattle.wsm_windows.specs.declared.window.Shape.TheVariants.{Fixed, Sliding, Session}
 use Rattle.wsm_windows.specs.Windows.{period_of, size_of, windows_of, windows_of_shape}
+use Rattle.wsm_windows.specs.Life.{live_windows_of}
 use Rattle.wsm_windows.specs.declared.place.Place.{Place}
 use Rattle.wsm_windows.specs.Places.{place_cmp, at, window_of}
 use Rattle.wsm_windows.proofs.Places.{places_total}
@@ -30,7 +31,7 @@ use Rattle.wsm_semantics.specs.Summaries.{Plan, Pane, assigned, entered, joined,
 use Rattle.wsm_semantics.proofs.Lists.{filter-all}
 use Rattle.wsm_semantics.proofs.Each.{all-any, filter_swap, filter-map}
 use Rattle.wsm_sessions.specs.Live.{Live, times_left}
-use Rattle.wsm_panes.specs.Held.{CanEnter, CanEnterWindows, CanJoin, CanJoinAll, CanJoinFolds, CanRecord, CanTake, Held, IsRoomy, entries_of, held_in, ring_of, room_of, taking, windows_of_key, with_one_more}
+use Rattle.wsm_panes.specs.Held.{CanEnter, CanEnterWindows, CanJoin, CanJoinAll, CanJoinFolds, CanRecord, CanTake, Held, IsRoomy, entries_of, held_in, ring_of, room_of, taking, windows_entered, windows_of_key, with_one_more}
 use Rattle.wsm_panes.specs.Ring.{LieInRing}
 use Rattle.wsm_panes.specs.OfKeys.{AreDropped, AreOfKeys, IsOfKey}
 use Rattle.wsm_panes.specs.Place.{is_kept}
@@ -50,10 +51,16 @@ in_ring (Fixed size) list ring grid = refl
 in_ring (Sliding size period) list ring grid = refl
 in_ring (Session gap) list ring grid = absurd (grid gap refl)
 
-pub entered_assigned : {X : Type 0} (plan : Plan X) (s : Shape) → ((gap : ℤ) → s ≢ Session gap) → (d : Datum) (es : List (Place × Pane X)) → entered plan s d es ≡ assigned plan d (windows_of_shape s d.time) es
-entered_assigned plan (Fixed size) other d es = refl
-entered_assigned plan (Sliding size period) other d es = refl
-entered_assigned plan (Session gap) other d es = absurd (other gap refl)
+pub entered_assigned : {X : Type 0} (plan : Plan X) (s : Shape) (l : ℤ) → ((gap : ℤ) → s ≢ Session gap) → (d : Datum) (es : List (Place × Pane X)) → entered plan s l d es ≡ assigned plan d (live_windows_of s d.time l d.mark) es
+entered_assigned plan (Fixed size) l other d es = refl
+entered_assigned plan (Sliding size period) l other d es = refl
+entered_assigned plan (Session gap) l other d es = absurd (other gap refl)
+
+-- as many as a record is put into
+pub windows_are : (s : Shape) (t l m : ℤ) → ((gap : ℤ) → s ≢ Session gap) → windows_entered s t l m ≡ length (live_windows_of s t l m)
+windows_are (Fixed size) t l m grid = refl
+windows_are (Sliding size period) t l m grid = refl
+windows_are (Session gap) t l m grid = absurd (grid gap refl)
 
 -- and they are those of a size and a period
 pub windows_grid : (s : Shape) → ((gap : ℤ) → s ≢ Session gap) → (t : ℤ) → windows_of_shape s t ≡ windows_of (size_of s) (period_of s) t
@@ -103,30 +110,30 @@ module _ (kinds : List Kind) (values : List Value) where
   all_can (e ∷ []) h types sums = roomy e h.0
   all_can (e ∷ f ∷ gs) h types sums = two_can e f h.0 h.1.0 types (sums e f gs refl)
 
-module _ (h : Held) (kinds : List Kind) (key : ℕ) (time : ℤ) (values : List Value) (can : CanEnter h kinds key time values) where
+module _ (h : Held) (kinds : List Kind) (key : ℕ) (time : ℤ) (values : List Value) (lateness mark : ℤ) (can : CanEnter h kinds key time values lateness mark) where
   pub wide_values : length values ≡ h.widths.accumulators
   wide_values = length-are_of_kinds kinds values can.types ∙ can.wide
 
   pub few_values : length values ≤ 16
   few_values = omega (arith, can.few, length-are_of_kinds kinds values can.types)
 
-  pub windows_can : ((gap : ℤ) → h.shape ≢ Session gap) → CanEnterWindows (ring_of h) kinds values key time (windows_of_shape h.shape time) (entries_of h)
+  pub windows_can : ((gap : ℤ) → h.shape ≢ Session gap) → CanEnterWindows (ring_of h) kinds values key time (live_windows_of h.shape time lateness mark) (entries_of h)
   windows_can other = record {
-    apart = subst (λ es. LieInRing (ring_of h) es) (entered_assigned (taking kinds values) h.shape other (datum 0 key time []) (entries_of h)) (can.apart other);
-    takes = all-any (λ w. IfSome (find place_cmp (at key w) (entries_of h)) (CanRecord kinds values)) (λ w. each_found kinds values (entries_of h) can.panes (at key w)) (windows_of_shape h.shape time);
+    apart = subst (λ es. LieInRing (ring_of h) es) (entered_assigned (taking kinds values) h.shape lateness other (datum 0 mark key time []) (entries_of h)) (can.apart other);
+    takes = all-any (λ w. IfSome (find place_cmp (at key w) (entries_of h)) (CanRecord kinds values)) (λ w. each_found kinds values (entries_of h) can.panes (at key w)) (live_windows_of h.shape time lateness mark);
   }
 
   module _ (gap : ℤ) (is : h.shape ≡ Session gap) where
-    pub joins_can : CanJoinAll kinds values (linked gap (datum 0 key time []) (entries_of h))
+    pub joins_can : CanJoinAll kinds values (linked gap (datum 0 (pos 0) key time []) (entries_of h))
     joins_can =
-        all_can kinds values (linked gap (datum 0 key time []) (entries_of h)) (filter-all (IsRoomy kinds values) (λ e. is_linked gap (datum 0 key time []) e.0) (entries_of h) can.panes) can.types
+        all_can kinds values (linked gap (datum 0 (pos 0) key time []) (entries_of h)) (filter-all (IsRoomy kinds values) (λ e. is_linked gap (datum 0 (pos 0) key time []) e.0) (entries_of h) can.panes) can.types
         (λ e f gs parts. can.joins gap is e f gs parts)
 
-    pub room_can : length (merged_session (taking kinds values) gap (datum 0 key time []) (entries_of h)) ≤ room_of h
-    room_can = subst (λ (s : Shape). length (entered (taking kinds values) s (datum 0 key time []) (entries_of h)) ≤ room_of h) is can.room
+    pub room_can : length (merged_session (taking kinds values) gap (datum 0 (pos 0) key time []) (entries_of h)) ≤ room_of h
+    room_can = subst (λ (s : Shape). length (entered (taking kinds values) s lateness (datum 0 mark key time []) (entries_of h)) ≤ room_of h) is can.room
 
-    pub live_can : length (filter (λ e. nat_eq e.0.key key) (merged_session (taking kinds values) gap (datum 0 key time []) (entries_of h))) ≤ h.live
-    live_can = subst (λ (s : Shape). length (filter (λ e. nat_eq e.0.key key) (entered (taking kinds values) s (datum 0 key time []) (entries_of h))) ≤ h.live) is can.live
+    pub live_can : length (filter (λ e. nat_eq e.0.key key) (merged_session (taking kinds values) gap (datum 0 (pos 0) key time []) (entries_of h))) ≤ h.live
+    live_can = subst (λ (s : Shape). length (filter (λ e. nat_eq e.0.key key) (entered (taking kinds values) s lateness (datum 0 mark key time []) (entries_of h))) ≤ h.live) is can.live
 
 -- ---- the sessions of the keys
 

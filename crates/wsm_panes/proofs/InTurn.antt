@@ -1,6 +1,6 @@
 -- A record put into the panes of its windows one after the other: each put finds its pane as it was, and
 -- a slot that is free or its own.
-use Rattle.std.proofs.Common.{◌≡◌, ◌≤◌, ◌+◌, ◌-◌, ◌/◌, ◌^◌, ℕ, zero, suc, Bool, true, false, cond, List, [], ◌∷◌, length, length-append, Option, Some, None, IfSome, ◌≢◌, refl, sym, ap, subst, ◌∙◌, arith}
+use Rattle.std.proofs.Common.{pos, ◌≡◌, ◌≤◌, ◌+◌, ◌-◌, ◌/◌, ◌^◌, ℕ, zero, suc, Bool, true, false, cond, List, [], ◌∷◌, length, length-append, Option, Some, None, IfSome, ◌≢◌, refl, sym, ap, subst, ◌∙◌, arith}
 use Rattle.std.proofs.lemmas.Int.{ints}
 use Rattle.std.proofs.lemmas.List.Elements.{All-head, All-tail}
 use Rattle.std.proofs.Math.Nat.{div-le_self}
@@ -67,10 +67,10 @@ module _ {X : Type 0} where
 
 module _ (r : Ring) (kinds : List Kind) (values : List Value) (key : ℕ) (time : ℤ) where
   pub can_go_on : (w : Window) (ws : List Window) (es : List (Place × Pane (List Value))) → IsRising (w ∷ ws) → CanEnterWindows r kinds values key time (w ∷ ws) es
-      → CanEnterWindows r kinds values key time ws (put place_cmp (at key w) (with_record (taking kinds values) (datum 0 key time []) (find place_cmp (at key w) es)) es)
+      → CanEnterWindows r kinds values key time ws (put place_cmp (at key w) (with_record (taking kinds values) (datum 0 (pos 0) key time []) (find place_cmp (at key w) es)) es)
   can_go_on w ws es rises can = record { apart = can.apart; takes = others ws rises.0 can.takes.1 } where
     others : (vs : List Window) → All (λ v. w.start <ℤ v.start) vs → AllByRecursion (λ v. IfSome (find place_cmp (at key v) es) (CanRecord kinds values)) vs
-        → AllByRecursion (λ v. IfSome (find place_cmp (at key v) (put place_cmp (at key w) (with_record (taking kinds values) (datum 0 key time []) (find place_cmp (at key w) es)) es)) (CanRecord kinds values)) vs
+        → AllByRecursion (λ v. IfSome (find place_cmp (at key v) (put place_cmp (at key w) (with_record (taking kinds values) (datum 0 (pos 0) key time []) (find place_cmp (at key w) es)) es)) (CanRecord kinds values)) vs
     others [] later takes = tt
     others (v ∷ vs) later takes = (
       subst (λ o. IfSome o (CanRecord kinds values)) (sym (find_other (at key v) (at key w) _ es (apart key w v (All-head (λ v. w.start <ℤ v.start) v vs later)))) takes.0,
@@ -102,7 +102,7 @@ module _ (r : Ring) (kinds : List Kind) (values : List Value) (key : ℕ) (time 
   pub admits_at : CanEnterWindows r kinds values key time (w ∷ ws) (entries m) → RingAdmits r m p
   admits_at can =
       let plan = taking kinds values in
-      let d = datum 0 key time [] in
+      let d = datum 0 (pos 0) key time [] in
       let near = can.apart.near in
       near_admits r can.apart.low can.apart.ring m
       (λ q some. all_found (IsNear r can.apart.low) q (entries m) (assigned_all plan d (IsNear r can.apart.low) (w ∷ ws) (entries m) near) (λ none. some (get-entries m q ∙ none)))
@@ -111,9 +111,9 @@ module _ (r : Ring) (kinds : List Kind) (values : List Value) (key : ℕ) (time 
   pub takes_at : CanEnterWindows r kinds values key time (w ∷ ws) (entries m) → IfSome (get m p) (CanRecord kinds values)
   takes_at can = subst (λ o. IfSome o (CanRecord kinds values)) (sym (ap (get m) is ∙ get-entries m (at key w))) can.takes.0
 
-  pub put_at_is : (new : FinMap place_cmp (Pane (List Value))) → new ≡ insert m p (with_record (taking kinds values) (datum 0 key time []) (get m p))
-      → entries new ≡ put place_cmp (at key w) (with_record (taking kinds values) (datum 0 key time []) (find place_cmp (at key w) (entries m))) (entries m)
+  pub put_at_is : (new : FinMap place_cmp (Pane (List Value))) → new ≡ insert m p (with_record (taking kinds values) (datum 0 (pos 0) key time []) (get m p))
+      → entries new ≡ put place_cmp (at key w) (with_record (taking kinds values) (datum 0 (pos 0) key time []) (find place_cmp (at key w) (entries m))) (entries m)
   put_at_is new e =
       ap entries e
-      ∙ entries-insert places_total m p (with_record (taking kinds values) (datum 0 key time []) (get m p))
-      ∙ (λ i. put place_cmp (is i) (with_record (taking kinds values) (datum 0 key time []) ((ap (get m) is ∙ get-entries m (at key w)) i)) (entries m))
+      ∙ entries-insert places_total m p (with_record (taking kinds values) (datum 0 (pos 0) key time []) (get m p))
+      ∙ (λ i. put place_cmp (is i) (with_record (taking kinds values) (datum 0 (pos 0) key time []) ((ap (get m) is ∙ get-entries m (at key w)) i)) (entries m))

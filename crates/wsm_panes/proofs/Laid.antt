@@ -1,23 +1,25 @@
--- What is done to one slot of those that lie in three lists.
-use Rattle.std.proofs.Common.{◌≡◌, Bool, true, false, inl, inr, ℕ, zero, suc, ◌+◌, ◌*◌, ◌^◌, ◌<◌, ◌≤◌, List, [], ◌∷◌, ◌++◌, length, get_or, set, take, drop, replicate, Option, Some, None, refl, sym, ap, ◌∙◌, arith}
+-- What is done to one slot of those that lie in four lists.
+use Rattle.std.proofs.Common.{◌≡◌, Bool, true, false, cond, inl, inr, ℕ, zero, suc, ◌+◌, ◌*◌, ◌^◌, ◌<◌, ◌≤◌, List, [], ◌∷◌, ◌++◌, length, get_or, set, take, drop, replicate, Option, Some, None, refl, sym, ap, ◌∙◌, arith}
 use Rattle.std.proofs.Math.Nat.{suc-mul, mul-le-mul_right}
 use Rattle.std.proofs.lemmas.List.{length-append, length-take-le, length-drop, take-append-drop, take-take, take_at, drop_at, take-append-le, drop-append-le, drop-take, drop-drop}
 use Rattle.std.proofs.lemmas.Bool.{cases_Bool, true≢false}
 use Rattle.std.specs.Option.{is_some}
-use Rattle.std.specs.Prelude.{IfSome, IsTrue, option_map}
+use Rattle.std.specs.Prelude.{IfSome, IsTrue, option_map, slice_get}
 use Rattle.wsm_record.specs.declared.event.Value.{Value}
 use Rattle.wsm_record.specs.declared.cell.Cell.{Cell}
 use Rattle.wsm_record.specs.declared.words.Kind.{Kind}
 use Rattle.wsm_record.specs.declared.words.Mode.{Mode}
-use Rattle.wsm_record.specs.declared.words.Mode.TheVariants.{Accumulating, Discarding}
+use Rattle.wsm_record.specs.Modes.{is_over_all}
 use Rattle.wsm_windows.specs.declared.place.Place.{Place}
+use Rattle.wsm_windows.specs.declared.window.Window.{Window}
+use Rattle.wsm_windows.specs.Places.{window_of}
 use Rattle.wsm_fold.proofs.Rows.{length-are_of_kinds}
 use Rattle.wsm_fold.specs.Fold.{are_of_kinds, joins}
-use Rattle.wsm_semantics.specs.Summaries.{Pane, left_folded}
+use Rattle.wsm_semantics.specs.Summaries.{Pane, kept_window, left_folded}
 use Rattle.wsm_panes.specs.declared.head.Head.{Head}
 use Rattle.wsm_panes.specs.declared.widths.Widths.{Widths}
 use Rattle.wsm_panes.specs.Held.{CanRecord, CanTake, once_fired, with_one_more}
-use Rattle.wsm_panes.specs.Layout.{HasPart, IsLaidOut, entries_by, entry_by, folded_by, folded_on, head_fired, head_with_one_more, left_by, part_at, standing_by, with_part}
+use Rattle.wsm_panes.specs.Layout.{HasPart, IsLaidOut, entries_by, entry_by, folded_by, folded_on, head_fired, head_with_one_more, left_by, part_at, place_by, standing_by, with_part, with_window}
 use Rattle.wsm_panes.specs.Ring.{slot_at}
 
 -- ---- a part of a list of as many parts as there are slots
@@ -66,33 +68,95 @@ with_next_back i w xs ys h =
     ∙ ap (λ zs. zs ++ (ys ++ drop w (drop (w + i * w) xs))) (drop-take w (i * w) xs)
     ∙ ap (λ zs. take (i * w) (drop w xs) ++ (ys ++ drop w zs)) (sym (drop-drop (i * w) w xs))
 
+-- ---- the windows of slots, where they are kept
+
+window_next : (i : ℕ) (ws : List Window) → slice_get (drop 1 ws) i ≡ slice_get ws (suc i)
+window_next i [] = refl
+window_next i (v ∷ ws) = refl
+
+written_first : (ws : List Window) (o : Option Window) → drop 1 (with_window 0 ws o) ≡ drop 1 ws
+written_first ws None = refl
+written_first [] (Some u) = refl
+written_first (v ∷ ws) (Some u) = refl
+
+written_front : (i : ℕ) (ws : List Window) (o : Option Window) → slice_get (with_window (suc i) ws o) 0 ≡ slice_get ws 0
+written_front i ws None = refl
+written_front i [] (Some u) = refl
+written_front i (v ∷ ws) (Some u) = refl
+
+written_back : (i : ℕ) (ws : List Window) (o : Option Window) → drop 1 (with_window (suc i) ws o) ≡ with_window i (drop 1 ws) o
+written_back i ws None = refl
+written_back i [] (Some u) = refl
+written_back i (v ∷ ws) (Some u) = refl
+
+window_set : (ws : List Window) (i : ℕ) (u : Window) → i < length ws → slice_get (set ws i u) i ≡ Some u
+window_set [] i u h = absurd (omega (arith, h))
+window_set (v ∷ ws) zero u h = refl
+window_set (v ∷ ws) (suc i) u h = window_set ws i u (omega (arith, h))
+
+-- a slot has a window exactly where they are kept
+some_window : (b : Bool) (ws : List Window) (i n : ℕ) → length ws ≡ cond b n 0 → i < n → is_some (slice_get ws i) ≡ b
+some_window b [] i zero e h = absurd (omega (arith, h))
+some_window true [] i (suc n) e h = absurd (omega (arith, e))
+some_window false [] i n e h = refl
+some_window false (v ∷ ws) i n e h = absurd (omega (arith, e))
+some_window true (v ∷ ws) zero n e h = refl
+some_window true (v ∷ ws) (suc i) n e h = some_window true ws i (length ws) refl (omega (arith, e, h))
+
+none_window : (b : Bool) (ws : List Window) (n : ℕ) → length ws ≡ cond b n 0 → b ≡ false → (i : ℕ) → slice_get ws i ≡ None
+none_window true ws n e off i = absurd (true≢false off)
+none_window false [] n e off i = refl
+none_window false (v ∷ ws) n e off i = absurd (omega (arith, e))
+
+-- what is read where it was written, if it is to be kept
+window_written : (b : Bool) (ws : List Window) (i n : ℕ) → length ws ≡ cond b n 0 → i < n → (u : Window) → slice_get (set ws i u) i ≡ cond b (Some u) None
+window_written true ws i n e h u = window_set ws i u (omega (arith, e, h))
+window_written false [] i n e h u = refl
+window_written false (v ∷ ws) i n e h u = absurd (omega (arith, e))
+
 -- ---- the entries
 
 module _ (w c : ℕ) where
-  pub length-entries : (hs : List Head) (fs : List Value) (rs : List Cell) → length (entries_by w c hs fs rs) ≡ length hs
-  length-entries [] fs rs = refl
-  length-entries (h ∷ hs) fs rs = ap suc (length-entries hs (drop w fs) (drop c rs))
+  pub length-entries : (hs : List Head) (fs : List Value) (rs : List Cell) (ws : List Window) → length (entries_by w c hs fs rs ws) ≡ length hs
+  length-entries [] fs rs ws = refl
+  length-entries (h ∷ hs) fs rs ws = ap suc (length-entries hs (drop w fs) (drop c rs) (drop 1 ws))
 
   -- what a slot has
-  pub entry_at : (hs : List Head) (fs : List Value) (rs : List Cell) (i : ℕ) (d : Head) → i < length hs → slot_at (entries_by w c hs fs rs) i ≡ entry_by (get_or hs i d) (part_at i w fs) (part_at i c rs)
-  entry_at [] fs rs i d h = absurd (omega (arith, h))
-  entry_at (x ∷ hs) fs rs zero d h = rw (part_first w fs, part_first c rs) refl
-  entry_at (x ∷ hs) fs rs (suc i) d h = rw (part_next i w fs, part_next i c rs) (entry_at hs (drop w fs) (drop c rs) i d (omega (arith, h)))
+  pub entry_at : (hs : List Head) (fs : List Value) (rs : List Cell) (ws : List Window) (i : ℕ) (d : Head) → i < length hs → slot_at (entries_by w c hs fs rs ws) i ≡ entry_by (get_or hs i d) (part_at i w fs) (part_at i c rs) (slice_get ws i)
+  entry_at [] fs rs ws i d h = absurd (omega (arith, h))
+  entry_at (x ∷ hs) fs rs ws zero d h = rw (part_first w fs, part_first c rs) refl
+  entry_at (x ∷ hs) fs rs ws (suc i) d h =
+      rw (part_next i w fs, part_next i c rs)
+      (entry_at hs (drop w fs) (drop c rs) (drop 1 ws) i d (omega (arith, h)) ∙ ap (entry_by (get_or hs i d) (part_at i w (drop w fs)) (part_at i c (drop c rs))) (window_next i ws))
 
   -- to write a slot is to set its entry
-  pub entries_set : (hs : List Head) (fs : List Value) (rs : List Cell) (i : ℕ) (x : Head) (f : List Value) (r : List Cell) → i < length hs → i * w + w ≤ length fs → i * c + c ≤ length rs → length f ≡ w → length r ≡ c
-      → entries_by w c (set hs i x) (with_part i w fs f) (with_part i c rs r) ≡ set (entries_by w c hs fs rs) i (entry_by x f r)
-  entries_set [] fs rs i x f r h p q lf lr = absurd (omega (arith, h))
-  entries_set (y ∷ hs) fs rs zero x f r h p q lf lr =
-      rw (with_first w fs f, with_first c rs r, take_at f (drop w fs) w lf, take_at r (drop c rs) c lr, drop_at f (drop w fs) w lf, drop_at r (drop c rs) c lr) refl
-  entries_set (y ∷ hs) fs rs (suc i) x f r h p q lf lr =
+  pub entries_set : (hs : List Head) (fs : List Value) (rs : List Cell) (ws : List Window) (i : ℕ) (x : Head) (f : List Value) (r : List Cell) (o : Option Window) → i < length hs → i * w + w ≤ length fs → i * c + c ≤ length rs → length f ≡ w → length r ≡ c
+      → entries_by w c (set hs i x) (with_part i w fs f) (with_part i c rs r) (with_window i ws o) ≡ set (entries_by w c hs fs rs ws) i (entry_by x f r (slice_get (with_window i ws o) i))
+  entries_set [] fs rs ws i x f r o h p q lf lr = absurd (omega (arith, h))
+  entries_set (y ∷ hs) fs rs ws zero x f r o h p q lf lr =
+      rw (with_first w fs f, with_first c rs r, take_at f (drop w fs) w lf, take_at r (drop c rs) c lr, drop_at f (drop w fs) w lf, drop_at r (drop c rs) c lr)
+      (ap (λ vs. entry_by x f r (slice_get (with_window 0 ws o) 0) ∷ entries_by w c hs (drop w fs) (drop c rs) vs) (written_first ws o))
+  entries_set (y ∷ hs) fs rs ws (suc i) x f r o h p q lf lr =
       let pw : w + i * w ≤ length fs = omega (arith, p, more_parts i w) in
       let qc : c + i * c ≤ length rs = omega (arith, q, more_parts i c) in
       rw (with_next_front i w fs f pw, with_next_front i c rs r qc, with_next_back i w fs f pw, with_next_back i c rs r qc)
-      (ap (λ es. entry_by y (take w fs) (take c rs) ∷ es)
-      (entries_set hs (drop w fs) (drop c rs) i x f r (omega (arith, h)) (omega (arith, pw, length-drop w fs)) (omega (arith, qc, length-drop c rs)) lf lr))
+      ((λ k. entry_by y (take w fs) (take c rs) (written_front i ws o k) ∷ entries_by w c (set hs i x) (with_part i w (drop w fs) f) (with_part i c (drop c rs) r) (written_back i ws o k))
+      ∙ ap (λ es. entry_by y (take w fs) (take c rs) (slice_get ws 0) ∷ es)
+      (entries_set hs (drop w fs) (drop c rs) (drop 1 ws) i x f r o (omega (arith, h)) (omega (arith, pw, length-drop w fs)) (omega (arith, qc, length-drop c rs)) lf lr
+      ∙ ap (λ (v : Option Window). set (entries_by w c hs (drop w fs) (drop c rs) (drop 1 ws)) i (entry_by x f r v)) (ap (λ vs. slice_get vs i) (sym (written_back i ws o)) ∙ window_next i (with_window (suc i) ws o))))
 
-module _ (w : Widths) (hs : List Head) (fs : List Value) (rs : List Cell) (laid : IsLaidOut w hs fs rs) (i : ℕ) (h : i < length hs) where
+module _ (w : Widths) (hs : List Head) (fs : List Value) (rs : List Cell) (ws : List Window) (laid : IsLaidOut w hs fs rs ws) (i : ℕ) (h : i < length hs) where
+  -- the window of a slot is there exactly where windows are kept
+  pub has_window : is_some (slice_get ws i) ≡ w.windows
+  has_window = some_window w.windows ws i (length hs) laid.of_windows h
+
+  pub no_window : w.windows ≡ false → slice_get ws i ≡ None
+  no_window off = none_window w.windows ws (length hs) laid.of_windows off i
+
+  -- one that is written is there then, where it is to be kept
+  pub kept_there : (u : Window) → slice_get (set ws i u) i ≡ cond w.windows (Some u) None
+  kept_there u = window_written w.windows ws i (length hs) laid.of_windows h u
+
   pub has_folds : HasPart i w.accumulators fs
   has_folds = record { count = length hs; within = h; size = laid.of_folds }
 
@@ -105,23 +169,23 @@ module _ (w : Widths) (hs : List Head) (fs : List Value) (rs : List Cell) (laid 
   row_ends : i * w.columns + w.columns ≤ length rs
   row_ends = part_ends i w.columns rs has_row
 
-  -- to write a head, what is folded, or the row, with its head
-  pub set_head : (x : Head) → entries_by w.accumulators w.columns (set hs i x) fs rs ≡ set (entries_by w.accumulators w.columns hs fs rs) i (entry_by x (part_at i w.accumulators fs) (part_at i w.columns rs))
+  -- to write a head, what is folded, or the row and the window, with its head
+  pub set_head : (x : Head) → entries_by w.accumulators w.columns (set hs i x) fs rs ws ≡ set (entries_by w.accumulators w.columns hs fs rs ws) i (entry_by x (part_at i w.accumulators fs) (part_at i w.columns rs) (slice_get ws i))
   set_head x =
       rw (same_part i w.accumulators fs, same_part i w.columns rs) at
-      (entries_set w.accumulators w.columns hs fs rs i x (part_at i w.accumulators fs) (part_at i w.columns rs) h folds_end row_ends (length-part i w.accumulators fs folds_end) (length-part i w.columns rs row_ends))
+      (entries_set w.accumulators w.columns hs fs rs ws i x (part_at i w.accumulators fs) (part_at i w.columns rs) None h folds_end row_ends (length-part i w.accumulators fs folds_end) (length-part i w.columns rs row_ends))
 
   pub set_folds : (x : Head) (f : List Value) → length f ≡ w.accumulators
-      → entries_by w.accumulators w.columns (set hs i x) (with_part i w.accumulators fs f) rs ≡ set (entries_by w.accumulators w.columns hs fs rs) i (entry_by x f (part_at i w.columns rs))
+      → entries_by w.accumulators w.columns (set hs i x) (with_part i w.accumulators fs f) rs ws ≡ set (entries_by w.accumulators w.columns hs fs rs ws) i (entry_by x f (part_at i w.columns rs) (slice_get ws i))
   set_folds x f long =
       rw (same_part i w.columns rs) at
-      (entries_set w.accumulators w.columns hs fs rs i x f (part_at i w.columns rs) h folds_end row_ends long (length-part i w.columns rs row_ends))
+      (entries_set w.accumulators w.columns hs fs rs ws i x f (part_at i w.columns rs) None h folds_end row_ends long (length-part i w.columns rs row_ends))
 
-  pub set_row : (x : Head) (r : List Cell) → length r ≡ w.columns
-      → entries_by w.accumulators w.columns (set hs i x) fs (with_part i w.columns rs r) ≡ set (entries_by w.accumulators w.columns hs fs rs) i (entry_by x (part_at i w.accumulators fs) r)
-  set_row x r long =
+  pub set_row : (x : Head) (r : List Cell) (o : Option Window) → length r ≡ w.columns
+      → entries_by w.accumulators w.columns (set hs i x) fs (with_part i w.columns rs r) (with_window i ws o) ≡ set (entries_by w.accumulators w.columns hs fs rs ws) i (entry_by x (part_at i w.accumulators fs) r (slice_get (with_window i ws o) i))
+  set_row x r o long =
       rw (same_part i w.accumulators fs) at
-      (entries_set w.accumulators w.columns hs fs rs i x (part_at i w.accumulators fs) r h folds_end row_ends (length-part i w.accumulators fs folds_end) long)
+      (entries_set w.accumulators w.columns hs fs rs ws i x (part_at i w.accumulators fs) r o h folds_end row_ends (length-part i w.accumulators fs folds_end) long)
 
 -- ---- an entry
 
@@ -130,10 +194,10 @@ none_is None e some = true≢false (sym some)
 none_is (Some x) e some = cc
 
 -- a slot that has an entry holds it
-pub is_there : (h : Head) (f : List Value) (r : List Cell) → is_some (entry_by h f r) ≡ true → h.is_held ≡ true
-is_there h f r some = elim (cases_Bool h.is_held) [
+pub is_there : (h : Head) (f : List Value) (r : List Cell) (v : Option Window) → is_some (entry_by h f r v) ≡ true → h.is_held ≡ true
+is_there h f r v some = elim (cases_Bool h.is_held) [
   | inl there ↦ there
-  | inr free ↦ absurd (none_is (entry_by h f r) (rw free refl) some)
+  | inr free ↦ absurd (none_is (entry_by h f r v) (rw free refl) some)
 ]
 
 length-joins : (kinds : List Kind) (xs ys : List Value) → length ys ≡ length kinds → length xs ≡ length ys → length (joins kinds xs ys) ≡ length ys
@@ -143,31 +207,33 @@ length-joins (k ∷ ks) xs [] p q = absurd (omega (arith, p))
 length-joins (k ∷ ks) [] (y ∷ ys) p q = absurd (omega (arith, q))
 length-joins (k ∷ ks) (x ∷ xs) (y ∷ ys) p q = ap suc (length-joins ks xs ys (omega (arith, p)) (omega (arith, q)))
 
-module _ (kinds : List Kind) (values : List Value) (h : Head) (f : List Value) (r : List Cell) where
+module _ (kinds : List Kind) (values : List Value) (h : Head) (f : List Value) (r : List Cell) (v : Option Window) where
   abbrev more : Option (Place × Pane (List Value)) → Option (Place × Pane (List Value))
   more = option_map (λ e. (e.0, with_one_more kinds values (Some e.1)))
 
-  pub recorded : h.is_held ≡ true → entry_by (head_with_one_more h) (folded_on h.is_folded kinds f values) r ≡ more (entry_by h f r)
+  pub recorded : h.is_held ≡ true → entry_by (head_with_one_more h) (folded_on h.is_folded kinds f values) r v ≡ more (entry_by h f r v)
   recorded there = elim (cases_Bool h.is_folded) [
     | inl on ↦ rw (there, on) refl
     | inr anew ↦ rw (there, anew) refl
   ]
 
 left_is : (mode : Mode) (b : Bool) (f : List Value) → folded_by (left_by mode b) f ≡ left_folded mode (folded_by b f)
-left_is Accumulating b f = refl
-left_is Discarding b f = refl
+left_is mode b f = elim (cases_Bool (is_over_all mode)) [
+  | inl all ↦ rw all refl
+  | inr new ↦ rw new refl
+]
 
-module _ (mode : Mode) (h : Head) (f : List Value) (r : List Cell) where
+module _ (mode : Mode) (h : Head) (f : List Value) (r : List Cell) (v : Option Window) where
   abbrev fires : Option (List Cell) → Option (Place × Pane (List Value)) → Option (Place × Pane (List Value))
-  fires row = option_map (λ e. (e.0, once_fired mode row e.1))
+  fires row = option_map (λ e. (e.0, once_fired mode e.0 row e.1))
 
-  pub fired_with : (row : List Cell) → entry_by (head_fired mode true h) f row ≡ fires (Some row) (entry_by h f r)
+  pub fired_with : (row : List Cell) → entry_by (head_fired mode true h) f row (kept_window mode (window_of (place_by h))) ≡ fires (Some row) (entry_by h f r v)
   fired_with row = elim (cases_Bool h.is_held) [
     | inl there ↦ rw (there, left_is mode h.is_folded f) refl
     | inr free ↦ rw free refl
   ]
 
-  pub fired_without : entry_by (head_fired mode false h) f r ≡ fires None (entry_by h f r)
+  pub fired_without : entry_by (head_fired mode false h) f r (kept_window mode (window_of (place_by h))) ≡ fires None (entry_by h f r v)
   fired_without = elim (cases_Bool h.is_held) [
     | inl there ↦ rw (there, left_is mode h.is_folded f) refl
     | inr free ↦ rw free refl
@@ -175,11 +241,11 @@ module _ (mode : Mode) (h : Head) (f : List Value) (r : List Cell) where
 
 -- ---- free slots
 
-pub entries_free : (w c n : ℕ) (h : Head) (fs : List Value) (rs : List Cell) → h.is_held ≡ false → entries_by w c (replicate n h) fs rs ≡ replicate n None
-entries_free w c zero h fs rs free = refl
-entries_free w c (suc n) h fs rs free =
-    let here : entry_by h (take w fs) (take c rs) ≡ None = rw free refl in
-    ap (λ o. o ∷ entries_by w c (replicate n h) (drop w fs) (drop c rs)) here ∙ ap (λ os. None ∷ os) (entries_free w c n h (drop w fs) (drop c rs) free)
+pub entries_free : (w c n : ℕ) (h : Head) (fs : List Value) (rs : List Cell) (ws : List Window) → h.is_held ≡ false → entries_by w c (replicate n h) fs rs ws ≡ replicate n None
+entries_free w c zero h fs rs ws free = refl
+entries_free w c (suc n) h fs rs ws free =
+    let here : entry_by h (take w fs) (take c rs) (slice_get ws 0) ≡ None = rw free refl in
+    ap (λ o. o ∷ entries_by w c (replicate n h) (drop w fs) (drop c rs) (drop 1 ws)) here ∙ ap (λ os. None ∷ os) (entries_free w c n h (drop w fs) (drop c rs) (drop 1 ws) free)
 
 -- ---- what a slot has, where it is one
 
@@ -188,25 +254,25 @@ held_within [] i some = absurd (true≢false (sym some))
 held_within (o ∷ os) zero some = omega arith
 held_within (o ∷ os) (suc i) some = omega (arith, held_within os i some)
 
-module _ (w c : ℕ) (hs : List Head) (fs : List Value) (rs : List Cell) (i : ℕ) where
-  pub slot_within : i < length (entries_by w c hs fs rs) → i < length hs
-  slot_within h = omega (arith, h, length-entries w c hs fs rs)
+module _ (w c : ℕ) (hs : List Head) (fs : List Value) (rs : List Cell) (ws : List Window) (i : ℕ) where
+  pub slot_within : i < length (entries_by w c hs fs rs ws) → i < length hs
+  slot_within h = omega (arith, h, length-entries w c hs fs rs ws)
 
-  pub slot_held : is_some (slot_at (entries_by w c hs fs rs) i) ≡ true → i < length hs
-  slot_held some = slot_within (held_within (entries_by w c hs fs rs) i some)
+  pub slot_held : is_some (slot_at (entries_by w c hs fs rs ws) i) ≡ true → i < length hs
+  slot_held some = slot_within (held_within (entries_by w c hs fs rs ws) i some)
 
   -- the entry of a head that was read
-  pub entry_read : (h : Head) → i < length hs → h ≡ get_or hs i h → slot_at (entries_by w c hs fs rs) i ≡ entry_by h (part_at i w fs) (part_at i c rs)
-  entry_read h within read = entry_at w c hs fs rs i h within ∙ ap (λ x. entry_by x (part_at i w fs) (part_at i c rs)) (sym read)
+  pub entry_read : (h : Head) → i < length hs → h ≡ get_or hs i h → slot_at (entries_by w c hs fs rs ws) i ≡ entry_by h (part_at i w fs) (part_at i c rs) (slice_get ws i)
+  entry_read h within read = entry_at w c hs fs rs ws i h within ∙ ap (λ x. entry_by x (part_at i w fs) (part_at i c rs) (slice_get ws i)) (sym read)
 
-  pub head_held : (h : Head) → is_some (slot_at (entries_by w c hs fs rs) i) ≡ true → h ≡ get_or hs i h → h.is_held ≡ true
-  head_held h some read = is_there h (part_at i w fs) (part_at i c rs) (ap is_some (sym (entry_read h (slot_held some) read)) ∙ some)
+  pub head_held : (h : Head) → is_some (slot_at (entries_by w c hs fs rs ws) i) ≡ true → h ≡ get_or hs i h → h.is_held ≡ true
+  head_held h some read = is_there h (part_at i w fs) (part_at i c rs) (slice_get ws i) (ap is_some (sym (entry_read h (slot_held some) read)) ∙ some)
 
 -- what can be recorded in a slot's pane
-pub can_record : (kinds : List Kind) (values : List Value) (h : Head) (f : List Value) (r : List Cell) → h.is_held ≡ true → IfSome (entry_by h f r) (λ e. CanRecord kinds values e.1)
+pub can_record : (kinds : List Kind) (values : List Value) (h : Head) (f : List Value) (r : List Cell) (v : Option Window) → h.is_held ≡ true → IfSome (entry_by h f r v) (λ e. CanRecord kinds values e.1)
     → (h.count < 2 ^ 63) × (h.unshown < 2 ^ 63) × (h.is_folded ≡ true → CanTake kinds values f)
-can_record kinds values h f r there can =
-    let this : CanRecord kinds values (record { count = h.count; unshown = h.unshown; folded = folded_by h.is_folded f; stands = standing_by h.stands r }) = rw there at can in
+can_record kinds values h f r v there can =
+    let this : CanRecord kinds values (record { count = h.count; unshown = h.unshown; folded = folded_by h.is_folded f; stands = standing_by h.stands v r }) = rw there at can in
     (this.count, this.unshown, λ on. rw on at this.takes)
 
 pub length-folded_on : (b : Bool) (kinds : List Kind) (held values : List Value) (w : ℕ) → IsTrue (are_of_kinds kinds values) → length values ≡ w → length held ≡ w → length (folded_on b kinds held values) ≡ w

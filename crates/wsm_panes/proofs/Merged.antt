@@ -38,7 +38,7 @@ windows_back k (w ∷ ws) = ap (λ (vs : List Window). w ∷ vs) (windows_back k
 
 module _ {X : Type 0} (plan : Plan X) (gap : ℤ) (key : ℕ) (t : ℤ) (m : FinMap place_cmp (Pane X)) (ws : List Window) (agree : windows_of_key key (entries m) ≡ ws) where
   abbrev it : Datum
-  it = datum 0 key t []
+  it = datum 0 (pos 0) key t []
 
   pub parts_at : (vs : List Window) → vs ≡ filter (links gap t) ws → map (λ e. e.0) (linked gap it (entries m)) ≡ map (at key) vs
   parts_at vs e = linked_places gap it (entries m) ∙ ap (λ us. map (at key) (filter (links gap t) us)) agree ∙ ap (map (at key)) (sym e)

@@ -1,5 +1,5 @@
 -- A record that is linked to one session: its pane goes to the place of the session with the record.
-use Rattle.std.proofs.Common.{◌≡◌, List, [], ◌∷◌, ℕ, ℤ, Bool, true, false, cond, Some, None, refl, sym, ap, subst, ◌∙◌}
+use Rattle.std.proofs.Common.{pos, ◌≡◌, List, [], ◌∷◌, ℕ, ℤ, Bool, true, false, cond, Some, None, refl, sym, ap, subst, ◌∙◌}
 use Rattle.std.specs.Prelude.{filter, IfSome, IsSome}
 use Rattle.std.specs.Ordering.{eq_by_cmp}
 use Rattle.std.specs.FinMap.{FinMap, entries, get, insert, remove, get-insert, get-remove, same_map}
@@ -31,7 +31,7 @@ insert_over m p v = same_map places_total places_exact _ _ (λ q.
 module _ (kinds : List Kind) (values : List Value) (gap : ℤ) (key : ℕ) (t : ℤ) (m : FinMap place_cmp (Pane (List Value))) (ws : List Window) (agree : windows_of_key key (entries m) ≡ ws)
     (w : Window) (is : w ∷ [] ≡ filter (links gap t) ws) (from : Place) (from_is : from ≡ at key w) where
   abbrev it : Datum
-  it = datum 0 key t []
+  it = datum 0 (pos 0) key t []
 
   one : (v : Pane (List Value)) × (linked gap it (entries m) ≡ (at key w, v) ∷ [])
   one = one_entry _ (at key w) (parts_at (taking kinds values) gap key t m ws agree (w ∷ []) is)

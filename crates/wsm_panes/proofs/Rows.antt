@@ -1,6 +1,6 @@
 -- The rows of windows: which is the first that has a time inside, and which is the next.
-use Rattle.std.proofs.Common.{◌≡◌, ◌≢◌, ◌⊎◌, ℕ, zero, suc, ◌+◌, ◌-◌, ◌*◌, ◌^◌, ◌<◌, ◌≤◌, List, ◌∷◌, length, ℤ, pos, negsuc, ◌+ℤ◌, ◌-ℤ◌, ◌*ℤ◌, ◌<ℤ◌, ◌≤ℤ◌, refl, sym, ap, ◌∙◌, inl, inr, arith}
-use Rattle.std.specs.Prelude.{unsigned_abs}
+use Rattle.std.proofs.Common.{◌≡◌, ◌≢◌, ◌⊎◌, ℕ, zero, suc, ◌+◌, ◌-◌, ◌*◌, ◌^◌, ◌<◌, ◌≤◌, List, ◌∷◌, filter, length, ℤ, pos, negsuc, ◌+ℤ◌, ◌-ℤ◌, ◌*ℤ◌, ◌<ℤ◌, ◌≤ℤ◌, refl, sym, ap, ◌∙◌, inl, inr, arith}
+use Rattle.std.specs.Prelude.{int_lt, unsigned_abs}
 use Rattle.std.specs.Int.{int_rem_euclid, int_div_euclid}
 use Rattle.std.proofs.lemmas.Int.{ints, by_lt_z}
 use Rattle.std.proofs.lemmas.Nat.{mul-le}
@@ -10,7 +10,9 @@ use Rattle.wsm_windows.specs.declared.window.Shape.TheVariants.{Sliding}
 use Rattle.wsm_windows.specs.Windows.{IsRising, first_start, greatest_span, window, windows_of}
 use Rattle.wsm_windows.specs.Left.{starts_left, windows_from}
 use Rattle.wsm_windows.proofs.Bounds.{next_on_grid as next_multiple}
-use Rattle.wsm_windows.proofs.Laws.{from_first_start, next_left}
+use Rattle.wsm_windows.proofs.Laws.{next_left}
+use Rattle.wsm_windows.proofs.LiveWindows.{past_filter, rising_filter}
+use Rattle.wsm_semantics.proofs.ManyKeys.{length-filter}
 use Rattle.wsm_windows.proofs.Members.{rising}
 use Rattle.wsm_windows.proofs.Multiples.{rem_below}
 use Rattle.wsm_panes.specs.declared.ring.Ring.{Ring}
@@ -183,16 +185,25 @@ zero_row r is =
 abbrev pub windows_on : Ring → ℤ → ℤ → List Window
 windows_on r time start = windows_from (starts_left r.period start time) r.size r.period start
 
--- all of them from the first start on
-pub all_on : (r : Ring) (time start : ℤ) → IsRing r → start ≡ first_start r.size r.period time → windows_on r time start ≡ windows_of r.size r.period time
-all_on r time start is first = from_first_start r.size r.period time start is.period_low is.period_high first
+-- of all those that end past a time
+abbrev pub ending_past : Ring → ℤ → ℤ → List Window
+ending_past r time past = filter (λ w. int_lt past w.end) (windows_of r.size r.period time)
+
+-- they are those from the first start that does
+pub all_on : (r : Ring) (time past start : ℤ) → IsRing r → time ≤ℤ past → start ≡ first_start r.size r.period past → windows_on r time start ≡ ending_past r time past
+all_on r time past start is after first = past_filter r.size r.period time past start is.period_low is.period_high after first
 
 -- one, and those from the next start on
 pub one_on : (r : Ring) (time start next : ℤ) → IsRing r → start ≤ℤ time → next ≡ start +ℤ r.period → windows_on r time start ≡ window start (start +ℤ r.size) ∷ windows_on r time next
 one_on r time start next is inside more = next_left r.period r.size start time start (start +ℤ r.size) next is.period_low inside refl refl more
 
-pub rising_on : (r : Ring) (time : ℤ) → IsRing r → r.size ≤ℤ greatest_span → IsRising (windows_of r.size r.period time)
-rising_on r time is few = rising (Sliding r.size r.period) time (windows_of r.size r.period time) (record { period_low = is.period_low; period_high = is.period_high; size_high = few }) refl
+pub rising_on : (r : Ring) (time past : ℤ) → IsRing r → r.size ≤ℤ greatest_span → IsRising (ending_past r time past)
+rising_on r time past is few =
+    rising_filter (λ w. int_lt past w.end) (windows_of r.size r.period time)
+    (rising (Sliding r.size r.period) time (windows_of r.size r.period time) (record { period_low = is.period_low; period_high = is.period_high; size_high = few }) refl)
 
-pub few_on : (r : Ring) (time : ℤ) → IsRing r → r.size ≤ℤ greatest_span → length (windows_of r.size r.period time) ≤ 2 ^ 62
-few_on r time is few = few_windows (Sliding r.size r.period) (record { period_low = is.period_low; period_high = is.period_high; size_high = few }) time
+pub few_on : (r : Ring) (time past : ℤ) → IsRing r → r.size ≤ℤ greatest_span → length (ending_past r time past) ≤ 2 ^ 62
+few_on r time past is few =
+    let most = few_windows (Sliding r.size r.period) (record { period_low = is.period_low; period_high = is.period_high; size_high = few }) time in
+    let less = length-filter (λ (w : Window). int_lt past w.end) (windows_of r.size r.period time) in
+    omega (arith, most, less)

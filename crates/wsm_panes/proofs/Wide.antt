@@ -1,5 +1,5 @@
 -- Panes stay as wide as they were where records come in and where two are joined.
-use Rattle.std.proofs.Common.{◌≡◌, ℕ, pos, List, [], Option, Some, None, length, sym, ◌∙◌}
+use Rattle.std.proofs.Common.{◌≡◌, Bool, ℕ, pos, List, [], Option, Some, None, length, sym, ◌∙◌}
 use Rattle.std.specs.Prelude.{IfSome, IsTrue}
 use Rattle.wsm_record.specs.declared.event.Value.{Value}
 use Rattle.wsm_record.specs.declared.words.Kind.{Kind}
@@ -12,7 +12,7 @@ use Rattle.wsm_semantics.specs.Replay.{datum}
 use Rattle.wsm_semantics.specs.Summaries.{Pane, joined, joined_folds, standing_joined, standing_row, with_folded}
 use Rattle.wsm_panes.specs.declared.widths.Widths.{Widths}
 use Rattle.wsm_panes.specs.Held.{CanJoin, CanJoinFolds, taking, with_one_more}
-use Rattle.wsm_panes.specs.Layout.{IsAsWide}
+use Rattle.wsm_panes.specs.Layout.{HasWindow, IsAsWide}
 
 joins_wide : (kinds : List Kind) (xs ys : List Value) (w : ℕ) → IsTrue (are_of_kinds kinds ys) → length xs ≡ w → length ys ≡ w → length (joins kinds xs ys) ≡ w
 joins_wide kinds xs ys w types p q =
@@ -25,8 +25,8 @@ module _ (kinds : List Kind) (values : List Value) (w : Widths) where
   folded_wide types wide d (Some xs) h = joins_wide kinds xs values w.accumulators types h wide
 
   pub more_wide : IsTrue (are_of_kinds kinds values) → length values ≡ w.accumulators → (o : Option (Pane (List Value))) → IfSome o (IsAsWide w) → IsAsWide w (with_one_more kinds values o)
-  more_wide types wide None h = record { folds = wide; row = tt }
-  more_wide types wide (Some pane) h = record { folds = folded_wide types wide (datum 0 0 (pos 0) []) pane.folded h.folds; row = h.row }
+  more_wide types wide None h = record { folds = wide; row = tt; window = tt }
+  more_wide types wide (Some pane) h = record { folds = folded_wide types wide (datum 0 (pos 0) 0 (pos 0) []) pane.folded h.folds; row = h.row; window = h.window }
 
   folds_wide : (n : ℕ) (o p : Option (List Value)) → CanJoinFolds kinds o p → IfSome o (λ xs. length xs ≡ n) → IfSome p (λ xs. length xs ≡ n) → IfSome (joined_folds (taking kinds values) o p) (λ xs. length xs ≡ n)
   folds_wide n None p can g h = h
@@ -35,15 +35,25 @@ module _ (kinds : List Kind) (values : List Value) (w : Widths) where
 
   standing_wide : (n : ℕ) (s t : Standing) → IfSome (standing_row s) (λ xs. length xs ≡ n) → IfSome (standing_row t) (λ xs. length xs ≡ n) → IfSome (standing_row (standing_joined s t)) (λ xs. length xs ≡ n)
   standing_wide n Unfired t g h = h
-  standing_wide n (Row columns) Unfired g h = g
-  standing_wide n (Row columns) (Row others) g h = tt
-  standing_wide n (Row columns) Joined g h = tt
+  standing_wide n (Row v columns) Unfired g h = g
+  standing_wide n (Row v columns) (Row w others) g h = tt
+  standing_wide n (Row v columns) Joined g h = tt
   standing_wide n Joined Unfired g h = tt
-  standing_wide n Joined (Row others) g h = tt
+  standing_wide n Joined (Row v others) g h = tt
   standing_wide n Joined Joined g h = tt
+
+  joined_window : (b : Bool) (s t : Standing) → HasWindow b s → HasWindow b t → HasWindow b (standing_joined s t)
+  joined_window b Unfired t g h = h
+  joined_window b (Row v columns) Unfired g h = g
+  joined_window b (Row v columns) (Row w others) g h = tt
+  joined_window b (Row v columns) Joined g h = tt
+  joined_window b Joined Unfired g h = tt
+  joined_window b Joined (Row v others) g h = tt
+  joined_window b Joined Joined g h = tt
 
   pub joined_wide : (one other : Pane (List Value)) → CanJoin kinds one other → IsAsWide w one → IsAsWide w other → IsAsWide w (joined (taking kinds values) one other)
   joined_wide one other can g h = record {
     folds = folds_wide w.accumulators one.folded other.folded can.folds g.folds h.folds;
     row = standing_wide w.columns one.stands other.stands g.row h.row;
+    window = joined_window w.windows one.stands other.stands g.window h.window;
   }

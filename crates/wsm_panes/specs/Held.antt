@@ -12,7 +12,8 @@ use Rattle.wsm_record.specs.declared.limits.TheConstants.{MAX_ACCUMULATORS}
 use Rattle.wsm_windows.specs.declared.window.Window.{Window}
 use Rattle.wsm_windows.specs.declared.window.Shape.{Shape}
 use Rattle.wsm_windows.specs.declared.window.Shape.TheVariants.{Session}
-use Rattle.wsm_windows.specs.Windows.{IsTime, period_of, size_of}
+use Rattle.wsm_windows.specs.Windows.{IsSpan, IsTime, period_of, size_of}
+use Rattle.wsm_windows.specs.Life.{live_windows_of}
 use Rattle.wsm_windows.specs.declared.place.Place.{Place}
 use Rattle.wsm_windows.specs.Places.{place_cmp, at, window_of}
 use Rattle.wsm_fold.specs.Fold.{are_of_kinds, joins}
@@ -21,7 +22,7 @@ use Rattle.wsm_semantics.specs.declared.standing.Standing.{Standing}
 use Rattle.wsm_semantics.specs.declared.standing.Standing.TheVariants.{Row, Unfired}
 use Rattle.wsm_semantics.specs.Query.{Datum}
 use Rattle.wsm_semantics.specs.Replay.{datum}
-use Rattle.wsm_semantics.specs.Summaries.{Plan, Pane, assigned, entered, joined, left_folded, linked, session_with, with_record}
+use Rattle.wsm_semantics.specs.Summaries.{Plan, Pane, assigned, entered, joined, kept_window, left_folded, linked, session_with, with_record}
 use Rattle.wsm_panes.specs.declared.ring.Ring.{Ring}
 use Rattle.wsm_panes.specs.declared.widths.Widths.{Widths}
 use Rattle.wsm_panes.specs.Place.{coded_place}
@@ -69,15 +70,22 @@ taking kinds values = record { selects = λ _ _. true; first = λ _ _. values; m
 
 -- a pane, if there is one, with one record more
 abbrev pub with_one_more : List Kind → List Value → Option (Pane (List Value)) → Pane (List Value)
-with_one_more kinds values pane = with_record (taking kinds values) (datum 0 0 (pos 0) []) pane
+with_one_more kinds values pane = with_record (taking kinds values) (datum 0 (pos 0) 0 (pos 0) []) pane
 
--- a pane that fired: it has shown all of its records, and the row of the firing stands
-abbrev pub once_fired : Mode → Option (List Cell) → Pane (List Value) → Pane (List Value)
-once_fired mode row h = record h { unshown = 0; folded = left_folded mode h.folded; stands = Row row }
+-- a pane that fired: it has shown all of its records, and the row of the firing stands, with its window
+-- where panes retract
+abbrev pub once_fired : Mode → Place → Option (List Cell) → Pane (List Value) → Pane (List Value)
+once_fired mode place row h = record h { unshown = 0; folded = left_folded mode h.folded; stands = Row (kept_window mode (window_of place)) row }
 
--- what is held with a record of a key and a time, that is folded by these values
-abbrev pub with_entered : List Kind → ℕ → ℤ → List Value → Held → List (Place × Pane (List Value))
-with_entered kinds key time values h = entered (taking kinds values) h.shape (datum 0 key time []) (entries_of h)
+-- what is held with a record of a key and a time, that is folded by these values, at a mark: it is put
+-- into its windows that are live
+abbrev pub with_entered : List Kind → ℕ → ℤ → List Value → ℤ → ℤ → Held → List (Place × Pane (List Value))
+with_entered kinds key time values lateness mark h = entered (taking kinds values) h.shape lateness (datum 0 mark key time []) (entries_of h)
+
+-- how many windows a record is put into at a mark
+abbrev pub windows_entered : Shape → ℤ → ℤ → ℤ → ℕ
+windows_entered (Session gap) time lateness mark = 1
+windows_entered shape time lateness mark = length (live_windows_of shape time lateness mark)
 
 -- the window of the session that a record is in, where windows are sessions
 abbrev pub session_entered : Shape → Datum → List (Place × Pane (List Value)) → Option Window
@@ -131,7 +139,7 @@ pub record CanJoin (kinds : List Kind) (h g : Pane (List Value)) : Type 0 where
 
 -- a record can be put into the panes of these windows one after the other
 pub record CanEnterWindows (r : Ring) (kinds : List Kind) (values : List Value) (key : ℕ) (time : ℤ) (ws : List Window) (es : List (Place × Pane (List Value))) : Type 0 where
-  pub apart : LieInRing r (assigned (taking kinds values) (datum 0 key time []) ws es)
+  pub apart : LieInRing r (assigned (taking kinds values) (datum 0 (pos 0) key time []) ws es)
   pub takes : AllByRecursion (λ w. IfSome (find place_cmp (at key w) es) (CanRecord kinds values)) ws
 
 -- the panes that a record is linked to can be joined, and what they come to can take it
@@ -145,18 +153,20 @@ pub record IsRoomy (kinds : List Kind) (values : List Value) (e : Place × Pane 
   pub unshown : e.1.unshown < 2 ^ 62
   pub takes : IfSome e.1.folded (CanTake kinds values)
 
--- a record of a key and a time, that is folded by these values, can be put in
-pub record CanEnter (h : Held) (kinds : List Kind) (key : ℕ) (time : ℤ) (values : List Value) : Type 0 where
+-- a record of a key and a time, that is folded by these values, can be put in at a mark
+pub record CanEnter (h : Held) (kinds : List Kind) (key : ℕ) (time : ℤ) (values : List Value) (lateness mark : ℤ) : Type 0 where
   pub declared : key < h.keys
   pub timely : IsTime time
+  pub late : IsSpan lateness
+  pub marked : IsTime mark
   pub few : length kinds ≤ MAX_ACCUMULATORS
   pub wide : length kinds ≡ h.widths.accumulators
   pub types : IsTrue (are_of_kinds kinds values)
-  pub room : length (with_entered kinds key time values h) ≤ room_of h
-  pub live : length (filter (λ e. nat_eq e.0.key key) (with_entered kinds key time values h)) ≤ h.live
+  pub room : length (with_entered kinds key time values lateness mark h) ≤ room_of h
+  pub live : length (filter (λ e. nat_eq e.0.key key) (with_entered kinds key time values lateness mark h)) ≤ h.live
   -- where windows lie on a grid, no two panes that are held with the record share a slot of the ring
-  pub apart : ((gap : ℤ) → h.shape ≢ Session gap) → LieInRing (ring_of h) (with_entered kinds key time values h)
+  pub apart : ((gap : ℤ) → h.shape ≢ Session gap) → LieInRing (ring_of h) (with_entered kinds key time values lateness mark h)
   pub panes : AllByRecursion (IsRoomy kinds values) (entries_of h)
   -- the two sessions that it joins can be joined, and what they come to can take it
-  pub joins : (gap : ℤ) → h.shape ≡ Session gap → (e f : Place × Pane (List Value)) (es : List (Place × Pane (List Value))) → linked gap (datum 0 key time []) (entries_of h) ≡ e ∷ f ∷ es
+  pub joins : (gap : ℤ) → h.shape ≡ Session gap → (e f : Place × Pane (List Value)) (es : List (Place × Pane (List Value))) → linked gap (datum 0 (pos 0) key time []) (entries_of h) ≡ e ∷ f ∷ es
       → (xs ys : List Value) → e.1.folded ≡ Some xs → f.1.folded ≡ Some ys → SumsFit kinds xs ys × SumsFit kinds (joins kinds xs ys) values

@@ -1,13 +1,15 @@
--- Slots as three lists: of each slot a head, the values that its pane is folded to, and those of the row that stands for it.
-use Rattle.std.specs.Prelude.{◌≡◌, ℕ, ◌+◌, ◌*◌, ◌≤◌, Bool, true, false, List, [], ◌∷◌, ◌++◌, ◌<◌, take, drop, length, Option, Some, None, IfSome, if◌then◌else◌}
+-- Slots as four lists: of each slot a head, the values that its pane is folded to, those of the row that
+-- stands for it, and the window of what stands, where windows are kept.
+use Rattle.std.specs.Prelude.{◌≡◌, ℕ, ◌+◌, ◌*◌, ◌≤◌, Bool, true, false, List, [], ◌∷◌, ◌++◌, ◌<◌, take, drop, length, slice_get, slice_set, Option, Some, None, IfSome, if◌then◌else◌}
 use Rattle.std.specs.Option.{is_some}
 use Rattle.wsm_record.specs.declared.event.Value.{Value}
 use Rattle.wsm_record.specs.declared.cell.Cell.{Cell}
 use Rattle.wsm_record.specs.declared.limits.TheConstants.{MAX_ACCUMULATORS, MAX_COLUMNS}
 use Rattle.wsm_record.specs.declared.words.Kind.{Kind}
 use Rattle.wsm_record.specs.declared.words.Mode.{Mode}
-use Rattle.wsm_record.specs.declared.words.Mode.TheVariants.{Discarding, Accumulating}
+use Rattle.wsm_record.specs.Modes.{is_over_all}
 use Rattle.wsm_windows.specs.declared.place.Place.{Place}
+use Rattle.wsm_windows.specs.declared.window.Window.{Window}
 use Rattle.wsm_fold.specs.Fold.{joins}
 use Rattle.wsm_semantics.specs.declared.standing.Standing.{Standing}
 use Rattle.wsm_semantics.specs.declared.standing.Standing.TheVariants as standing
@@ -22,39 +24,51 @@ use Rattle.wsm_panes.specs.declared.widths.Widths.{Widths}
 abbrev pub folded_by : Bool → List Value → Option (List Value)
 folded_by is_folded folds = if is_folded then Some folds else None
 
-abbrev pub standing_by : Stands → List Cell → Standing
-standing_by Unfired row = standing.Unfired
-standing_by NoRow row = standing.Row None
-standing_by FiredRow row = standing.Row (Some row)
-standing_by Joined row = standing.Joined
+abbrev pub standing_by : Stands → Option Window → List Cell → Standing
+standing_by Unfired window row = standing.Unfired
+standing_by NoRow window row = standing.Row window None
+standing_by FiredRow window row = standing.Row window (Some row)
+standing_by Joined window row = standing.Joined
 
 abbrev pub place_by : Head → Place
 place_by h = record { end = h.end; start = h.start; key = h.key }
 
-abbrev pub entry_by : Head → List Value → List Cell → Option (Place × Pane (List Value))
-entry_by h folds row =
-    if h.is_held then Some (place_by h, record { count = h.count; unshown = h.unshown; folded = folded_by h.is_folded folds; stands = standing_by h.stands row }) else None
+abbrev pub entry_by : Head → List Value → List Cell → Option Window → Option (Place × Pane (List Value))
+entry_by h folds row window =
+    if h.is_held then Some (place_by h, record { count = h.count; unshown = h.unshown; folded = folded_by h.is_folded folds; stands = standing_by h.stands window row }) else None
 
--- the entries of slots whose panes have so many accumulators and so many columns
-abbrev pub entries_by : ℕ → ℕ → List Head → List Value → List Cell → List (Option (Place × Pane (List Value)))
-entries_by w c [] folds rows = []
-entries_by w c (h ∷ hs) folds rows = entry_by h (take w folds) (take c rows) ∷ entries_by w c hs (drop w folds) (drop c rows)
+-- the entries of slots whose panes have so many accumulators and so many columns, and a window where there is one
+abbrev pub entries_by : ℕ → ℕ → List Head → List Value → List Cell → List Window → List (Option (Place × Pane (List Value)))
+entries_by w c [] folds rows windows = []
+entries_by w c (h ∷ hs) folds rows windows = entry_by h (take w folds) (take c rows) (slice_get windows 0) ∷ entries_by w c hs (drop w folds) (drop c rows) (drop 1 windows)
 
 -- slots, and how wide their panes are
 pub record Slotted : Type 0 where
   pub widths : Widths
   pub slots : List (Option (Place × Pane (List Value)))
 
--- a pane has as many values as there is room for in a slot
+-- the window of what stands is there exactly where windows are kept
+abbrev pub HasWindow : Bool → Standing → Type 0
+HasWindow are_kept standing.Unfired = Unit {0}
+HasWindow are_kept (standing.Row window columns) = is_some window ≡ are_kept
+HasWindow are_kept standing.Joined = Unit {0}
+
+-- a pane has as much as there is room for in a slot
 pub record IsAsWide (w : Widths) (pane : Pane (List Value)) : Type 0 where
   pub folds : IfSome pane.folded (λ values. length values ≡ w.accumulators)
   pub row : IfSome (standing_row pane.stands) (λ values. length values ≡ w.columns)
+  pub window : HasWindow w.windows pane.stands
+
+-- how many windows are kept of so many slots
+abbrev pub windows_kept : Widths → ℕ → ℕ
+windows_kept w count = if w.windows then count else 0
 
 -- there are as many values as the slots have together, and no more of each than a pane can have
-pub record IsLaidOut (w : Widths) (heads : List Head) (folds : List Value) (rows : List Cell) : Type 0 where
+pub record IsLaidOut (w : Widths) (heads : List Head) (folds : List Value) (rows : List Cell) (windows : List Window) : Type 0 where
   pub few : (w.accumulators ≤ MAX_ACCUMULATORS) × (w.columns ≤ MAX_COLUMNS)
   pub of_folds : length folds ≡ length heads * w.accumulators
   pub of_rows : length rows ≡ length heads * w.columns
+  pub of_windows : length windows ≡ windows_kept w (length heads)
 
 -- the values of a slot, among those of slots that have so many each
 abbrev pub part_at : {A : Type 0} → ℕ → ℕ → List A → List A
@@ -68,6 +82,11 @@ with_part i w xs ys = take (i * w) xs ++ (ys ++ drop w (drop (i * w) xs))
 abbrev pub with_any : {A : Type 0} → ℕ → List A → Option (List A) → List A
 with_any i xs None = xs
 with_any i xs (Some ys) = with_part i (length ys) xs ys
+
+-- with the window of a slot in its place, if there is one, where windows are kept
+abbrev pub with_window : ℕ → List Window → Option Window → List Window
+with_window i windows None = windows
+with_window i windows (Some window) = slice_set windows i window
 
 -- a slot is one of those that there are values of
 pub record HasPart {A : Type 0} (i w : ℕ) (xs : List A) : Type 0 where
@@ -87,8 +106,8 @@ head_of_one place = record { end = place.end; start = place.start; count = 1; un
 
 abbrev pub stands_by : Standing → Stands
 stands_by standing.Unfired = Unfired
-stands_by (standing.Row None) = NoRow
-stands_by (standing.Row (Some row)) = FiredRow
+stands_by (standing.Row window None) = NoRow
+stands_by (standing.Row window (Some row)) = FiredRow
 stands_by standing.Joined = Joined
 
 abbrev pub head_of : Place → Pane (List Value) → Head
@@ -99,8 +118,7 @@ abbrev pub head_with_one_more : Head → Head
 head_with_one_more h = record h { count = h.count + 1; unshown = h.unshown + 1; is_folded = true }
 
 abbrev pub left_by : Mode → Bool → Bool
-left_by Accumulating is_folded = is_folded
-left_by Discarding is_folded = false
+left_by mode is_folded = if is_over_all mode then is_folded else false
 
 abbrev pub head_fired : Mode → Bool → Head → Head
 head_fired mode has_row h = record h { unshown = 0; is_folded = left_by mode h.is_folded; stands = if has_row then FiredRow else NoRow }

@@ -1,6 +1,6 @@
-use Rattle.std.specs.Prelude.{ℕ, ℤ, refl}
+use Rattle.std.specs.Prelude.{ℕ, ℤ, Bool, refl}
 use Rattle.std.specs.FinMap as map
-use Rattle.std.specs.Coded.{Coded, code_by, coded×, coded_ℕ, coded_ℤ}
+use Rattle.std.specs.Coded.{Coded, code_by, coded×, coded_bool, coded_ℕ, coded_ℤ}
 use Rattle.wsm_windows.specs.Places.{place_cmp}
 use Rattle.wsm_panes.specs.declared.ring.Ring.{Ring}
 use Rattle.wsm_panes.specs.declared.widths.Widths.{Widths}
@@ -16,7 +16,7 @@ abbrev pub coded_ring : Coded Ring
 coded_ring = code_by (ℤ × (ℤ × (ℕ × ℕ))) (coded× coded_ℤ (coded× coded_ℤ (coded× coded_ℕ coded_ℕ))) (λ r. (r.size, (r.period, (r.keys, r.bound)))) (λ t. record { size = t.0; period = t.1.0; keys = t.1.1.0; bound = t.1.1.1 }) (λ _. refl)
 
 abbrev pub coded_widths : Coded Widths
-coded_widths = code_by (ℕ × ℕ) (coded× coded_ℕ coded_ℕ) (λ w. (w.accumulators, w.columns)) (λ t. record { accumulators = t.0; columns = t.1 }) (λ _. refl)
+coded_widths = code_by (ℕ × (ℕ × Bool)) (coded× coded_ℕ (coded× coded_ℕ coded_bool)) (λ w. (w.accumulators, (w.columns, w.windows))) (λ t. record { accumulators = t.0; columns = t.1.0; windows = t.1.1 }) (λ _. refl)
 
 abbrev pub coded_ring_state : {P : Type 0} → Coded P → Coded (RingState P)
 coded_ring_state {P = P} c =

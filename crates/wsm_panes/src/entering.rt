@@ -1,6 +1,6 @@
 //! What a record does to a table of panes.
 
-ghost use Rattle.std.specs.Prelude.{◌≡◌, ◌≤◌, ◌≤ℤ◌, [], length, IsTrue};
+ghost use Rattle.std.specs.Prelude.{pos, ◌≡◌, ◌≤◌, ◌≤ℤ◌, [], length, filter, int_lt, IsTrue};
 ghost use Rattle.std.specs.FinMap as map;
 ghost use Rattle.wsm_windows.specs.Windows.{IsTime, greatest_span, windows_of};
 ghost use Rattle.wsm_fold.specs.Fold.{are_of_kinds};
@@ -11,26 +11,30 @@ ghost use Rattle.wsm_panes.specs.Held.{CanEnterWindows, taking};
 use crate::ring_table::RingTable;
 use wsm_record::{Kind, Value};
 
-/// Puts a record into the panes of the windows that have its time inside, and tells how many they are.
+/// Puts a record into the panes of the windows that have its time inside and end past another, and
+/// tells how many they are.
 pub(crate) fn enter_windows(
     table: &mut RingTable,
     kinds: &[Kind],
     key: u16,
     time: i64,
     values: &[Value],
+    past: i64,
 ) -> u64
     requires size { table.old.ring.size ≤ℤ greatest_span }
     requires time { IsTime time }
+    requires past { IsTime past }
+    requires after { time ≤ℤ past }
     requires wide { length values.now ≡ table.old.widths.accumulators }
     requires types { IsTrue (are_of_kinds kinds.now values.now) }
-    requires can { CanEnterWindows table.old.ring kinds.now values.now key time (windows_of table.old.ring.size table.old.ring.period time) (map.entries table.old.panes) }
-    ensures panes { map.entries table.new.panes ≡ assigned (taking kinds.now values.now) (datum 0 key time []) (windows_of table.old.ring.size table.old.ring.period time) (map.entries table.old.panes) }
+    requires can { CanEnterWindows table.old.ring kinds.now values.now key time (filter (λ w. int_lt past w.end) (windows_of table.old.ring.size table.old.ring.period time)) (map.entries table.old.panes) }
+    ensures panes { map.entries table.new.panes ≡ assigned (taking kinds.now values.now) (datum 0 (pos 0) key time []) (filter (λ w. int_lt past w.end) (windows_of table.old.ring.size table.old.ring.period time)) (map.entries table.old.panes) }
     ensures ring { table.new.ring ≡ table.old.ring }
     ensures widths { table.new.widths ≡ table.old.widths }
-    ensures count { result ≡ length (windows_of table.old.ring.size table.old.ring.period time) }
+    ensures count { result ≡ length (filter (λ w. int_lt past w.end) (windows_of table.old.ring.size table.old.ring.period time)) }
 {
     let ring = table.ring();
-    let mut row = table.first_row(time);
+    let mut row = table.first_row(past);
     let mut count = 0;
     while row.start <= time {
         let slot = row.slot + key as usize;

@@ -114,7 +114,7 @@ impl Head {
         ensures { self.new ≡ head_fired mode has_row self.old }
     {
         self.unshown = 0;
-        if mode == Mode::Discarding {
+        if !mode.is_over_all() {
             self.is_folded = false;
         }
         self.stands = if has_row {

@@ -3,13 +3,14 @@
 ghost use Rattle.std.specs.Prelude.{◌≡◌, ◌≢◌, ◌*◌, ◌<◌, ◌≤◌, ◌≤ℤ◌, ℤ, pos, List, [], length, IfOk, IfSome, IsSome, Some, int_lt, option_map, slice_get};
 ghost use Rattle.std.specs.FinMap as map;
 ghost use Rattle.std.specs.FinMap.Entries.{find, put, where_key};
-ghost use Rattle.wsm_windows.specs.Windows.{IsShape, IsTime, greatest_span, period_of, size_of, windows_of_shape};
+ghost use Rattle.wsm_windows.specs.Windows.{IsShape, IsTime, greatest_span, period_of, size_of};
 ghost use Rattle.wsm_windows.specs.declared.window.Shape.TheVariants.{Session};
 ghost use Rattle.wsm_semantics.specs.Replay.{datum};
 ghost use Rattle.wsm_semantics.specs.Summaries.{Pane as AnyPane, linked};
 ghost use Rattle.wsm_record.specs.declared.event.Value.{Value as OneValue};
+ghost use Rattle.wsm_record.specs.Modes.{retracts};
 ghost use Rattle.wsm_windows.specs.Places.{place_cmp};
-ghost use Rattle.wsm_panes.specs.Held.{CanEnter, IsKept, entries_of, joined_panes, joins_sessions, once_fired, room_of, session_entered, with_entered};
+ghost use Rattle.wsm_panes.specs.Held.{CanEnter, IsKept, entries_of, joined_panes, joins_sessions, once_fired, room_of, session_entered, windows_entered, with_entered};
 ghost use Rattle.wsm_panes.specs.Ring.{IsRing};
 ghost use Rattle.wsm_panes.specs.OfKeys.{AreOfKeys, AreDropped};
 ghost use Rattle.wsm_panes.specs.Walk.{first_past, following, place_due, place_found};
@@ -29,7 +30,7 @@ use std::marker::Model;
 use wsm_record::limits::{MAX_ACCUMULATORS, MAX_COLUMNS, MAX_PANES};
 use wsm_record::{Cell, Kind, Mode, Value};
 use wsm_sessions::Sessions;
-use wsm_windows::{Place, Shape, Window};
+use wsm_windows::{Place, Shape, Window, live_past};
 
 /// What putting a record in came to.
 #[derive(Clone, Copy, Debug, PartialEq, Eq)]
@@ -75,8 +76,8 @@ impl Model for HeldPanes {
 }
 
 impl HeldPanes {
-    /// No pane yet, with room for so many live windows of each key, and for so many values of each pane.
-    /// No later call takes memory.
+    /// No pane yet, with room for so many live windows of each key, and for so much of each pane. No
+    /// later call takes memory.
     ///
     /// # Errors
     ///
@@ -104,15 +105,23 @@ impl HeldPanes {
         })
     }
 
-    /// Puts a record into the pane of each of its windows. In sessions that is one pane, which joins
-    /// those that the record is linked to.
-    pub fn enter(&mut self, kinds: &[Kind], key: u16, time: i64, values: &[Value]) -> Entered
-        requires { CanEnter self.old kinds.now key time values.now }
-        ensures panes { entries_of self.new ≡ with_entered kinds.now key time values.now self.old }
+    /// Puts a record into the pane of each of its windows that are live at a mark. In sessions that is
+    /// one pane, which joins those that the record is linked to.
+    pub fn enter(
+        &mut self,
+        kinds: &[Kind],
+        key: u16,
+        time: i64,
+        values: &[Value],
+        lateness: i64,
+        mark: i64,
+    ) -> Entered
+        requires { CanEnter self.old kinds.now key time values.now lateness mark }
+        ensures panes { entries_of self.new ≡ with_entered kinds.now key time values.now lateness mark self.old }
         ensures keeps { IsKept self.old self.new }
-        ensures windows { result.windows ≡ length (windows_of_shape self.old.shape time) }
-        ensures joined { result.joined ≡ joins_sessions self.old.shape (datum 0 key time []) (entries_of self.old) }
-        ensures session { result.session ≡ session_entered self.old.shape (datum 0 key time []) (entries_of self.old) }
+        ensures windows { result.windows ≡ windows_entered self.old.shape time lateness mark }
+        ensures joined { result.joined ≡ joins_sessions self.old.shape (datum 0 (pos 0) key time []) (entries_of self.old) }
+        ensures session { result.session ≡ session_entered self.old.shape (datum 0 (pos 0) key time []) (entries_of self.old) }
     {
         match self.shape {
             Shape::Session(_) => {
@@ -131,11 +140,14 @@ impl HeldPanes {
                     session: Some(session),
                 }
             }
-            _ => Entered {
-                windows: enter_windows(&mut self.ring, kinds, key, time, values),
-                joined: false,
-                session: None,
-            },
+            _ => {
+                let past = live_past(time, lateness, mark);
+                Entered {
+                    windows: enter_windows(&mut self.ring, kinds, key, time, values, past),
+                    joined: false,
+                    session: None,
+                }
+            }
         }
     }
 
@@ -144,8 +156,8 @@ impl HeldPanes {
     pub fn joined(&self, key: u16, time: i64) -> Option<(Pane, Pane)>
         requires declared { key < self.now.keys }
         requires timely { IsTime time }
-        ensures pair { result ≡ joined_panes self.now.shape (datum 0 key time []) (entries_of self.now) }
-        ensures few { (gap : ℤ) → self.now.shape ≡ Session gap → length (linked gap (datum 0 key time []) (entries_of self.now)) ≤ 2 }
+        ensures pair { result ≡ joined_panes self.now.shape (datum 0 (pos 0) key time []) (entries_of self.now) }
+        ensures few { (gap : ℤ) → self.now.shape ≡ Session gap → length (linked gap (datum 0 (pos 0) key time []) (entries_of self.now)) ≤ 2 }
         ensures shape { IsShape self.now.shape }
     {
         match self.shape {
@@ -223,12 +235,13 @@ impl HeldPanes {
     }
 
     /// Has the pane at a spot have fired: it has shown all of its records, and the row of the firing
-    /// stands.
+    /// stands. Windows are kept exactly where the mode retracts.
     #[inline(always)]
     pub fn fire_at(&mut self, spot: Spot, mode: Mode, row: Option<&[Cell]>)
         requires there { IsSome (find place_cmp spot.place (entries_of self.old)) }
         requires wide { IfSome row (λ cells. length cells.now ≡ self.old.widths.columns) }
-        ensures panes { (pane : AnyPane (List OneValue)) × (find place_cmp spot.place (entries_of self.old) ≡ Some pane) × (entries_of self.new ≡ put place_cmp spot.place (once_fired mode (option_map (λ cells. cells.now) row.entry) pane) (entries_of self.old)) }
+        requires windows { self.old.widths.windows ≡ retracts mode }
+        ensures panes { (pane : AnyPane (List OneValue)) × (find place_cmp spot.place (entries_of self.old) ≡ Some pane) × (entries_of self.new ≡ put place_cmp spot.place (once_fired mode spot.place (option_map (λ cells. cells.now) row.entry) pane) (entries_of self.old)) }
         ensures keeps { IsKept self.old self.new }
     {
         match self.shape {

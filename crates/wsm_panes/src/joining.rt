@@ -41,14 +41,14 @@ pub(crate) fn enter_session(
     requires few { length values.now ≤ MAX_ACCUMULATORS }
     requires wide { length values.now ≡ table.old.widths.accumulators }
     requires types { IsTrue (are_of_kinds kinds.now values.now) }
-    requires joins { CanJoinAll kinds.now values.now (linked sessions.old.gap (datum 0 key time []) (map.entries table.old.panes)) }
-    requires room { length (merged_session (taking kinds.now values.now) sessions.old.gap (datum 0 key time []) (map.entries table.old.panes)) ≤ table.old.room }
-    requires live { length (filter (λ e. nat_eq e.0.key key) (merged_session (taking kinds.now values.now) sessions.old.gap (datum 0 key time []) (map.entries table.old.panes))) ≤ sessions.old.room }
-    ensures panes { map.entries table.new.panes ≡ merged_session (taking kinds.now values.now) sessions.old.gap (datum 0 key time []) (map.entries table.old.panes) }
+    requires joins { CanJoinAll kinds.now values.now (linked sessions.old.gap (datum 0 (pos 0) key time []) (map.entries table.old.panes)) }
+    requires room { length (merged_session (taking kinds.now values.now) sessions.old.gap (datum 0 (pos 0) key time []) (map.entries table.old.panes)) ≤ table.old.room }
+    requires live { length (filter (λ e. nat_eq e.0.key key) (merged_session (taking kinds.now values.now) sessions.old.gap (datum 0 (pos 0) key time []) (map.entries table.old.panes))) ≤ sessions.old.room }
+    ensures panes { map.entries table.new.panes ≡ merged_session (taking kinds.now values.now) sessions.old.gap (datum 0 (pos 0) key time []) (map.entries table.old.panes) }
     ensures room { table.new.room ≡ table.old.room }
     ensures widths { table.new.widths ≡ table.old.widths }
-    ensures session { result.0 ≡ window_of (session_with sessions.old.gap (datum 0 key time []) (linked sessions.old.gap (datum 0 key time []) (map.entries table.old.panes))) }
-    ensures joined { result.1 ≡ nat_lt 1 (length (linked sessions.old.gap (datum 0 key time []) (map.entries table.old.panes))) }
+    ensures session { result.0 ≡ window_of (session_with sessions.old.gap (datum 0 (pos 0) key time []) (linked sessions.old.gap (datum 0 (pos 0) key time []) (map.entries table.old.panes))) }
+    ensures joined { result.1 ≡ nat_lt 1 (length (linked sessions.old.gap (datum 0 (pos 0) key time []) (map.entries table.old.panes))) }
     ensures sessions { sessions.new ≡ record sessions.old { windows = with_session sessions.old.gap time sessions.old.windows } }
     ensures fits { (times : List ℤ) → Fits sessions.old times → Fits sessions.new (time ∷ times) }
     ensures agree { windows_of_key key (map.entries table.new.panes) ≡ sessions.new.windows }
@@ -107,14 +107,14 @@ fn merge_linked(
     requires few { length values.now ≤ MAX_ACCUMULATORS }
     requires wide { length values.now ≡ table.old.widths.accumulators }
     requires types { IsTrue (are_of_kinds kinds.now values.now) }
-    requires joins { CanJoinAll kinds.now values.now (linked sessions.old.gap (datum 0 key time []) (map.entries table.old.panes)) }
-    requires room { length (merged_session (taking kinds.now values.now) sessions.old.gap (datum 0 key time []) (map.entries table.old.panes)) ≤ table.old.room }
-    requires live { length (filter (λ e. nat_eq e.0.key key) (merged_session (taking kinds.now values.now) sessions.old.gap (datum 0 key time []) (map.entries table.old.panes))) ≤ sessions.old.room }
-    ensures panes { map.entries table.new.panes ≡ merged_session (taking kinds.now values.now) sessions.old.gap (datum 0 key time []) (map.entries table.old.panes) }
+    requires joins { CanJoinAll kinds.now values.now (linked sessions.old.gap (datum 0 (pos 0) key time []) (map.entries table.old.panes)) }
+    requires room { length (merged_session (taking kinds.now values.now) sessions.old.gap (datum 0 (pos 0) key time []) (map.entries table.old.panes)) ≤ table.old.room }
+    requires live { length (filter (λ e. nat_eq e.0.key key) (merged_session (taking kinds.now values.now) sessions.old.gap (datum 0 (pos 0) key time []) (map.entries table.old.panes))) ≤ sessions.old.room }
+    ensures panes { map.entries table.new.panes ≡ merged_session (taking kinds.now values.now) sessions.old.gap (datum 0 (pos 0) key time []) (map.entries table.old.panes) }
     ensures room { table.new.room ≡ table.old.room }
     ensures widths { table.new.widths ≡ table.old.widths }
-    ensures session { result.0 ≡ window_of (session_with sessions.old.gap (datum 0 key time []) (linked sessions.old.gap (datum 0 key time []) (map.entries table.old.panes))) }
-    ensures joined { result.1 ≡ nat_lt 1 (length (linked sessions.old.gap (datum 0 key time []) (map.entries table.old.panes))) }
+    ensures session { result.0 ≡ window_of (session_with sessions.old.gap (datum 0 (pos 0) key time []) (linked sessions.old.gap (datum 0 (pos 0) key time []) (map.entries table.old.panes))) }
+    ensures joined { result.1 ≡ nat_lt 1 (length (linked sessions.old.gap (datum 0 (pos 0) key time []) (map.entries table.old.panes))) }
     ensures sessions { sessions.new ≡ record sessions.old { windows = with_session sessions.old.gap time sessions.old.windows } }
     ensures fits { (times : List ℤ) → Fits sessions.old times → Fits sessions.new (time ∷ times) }
     ensures agree { windows_of_key key (map.entries table.new.panes) ≡ sessions.new.windows }
@@ -135,8 +135,8 @@ pub(crate) fn linked_pair(
 ) -> Option<(Pane, Pane)>
     requires time { IsTime time }
     requires agree { windows_of_key key (map.entries table.now.panes) ≡ sessions.now.windows }
-    ensures pair { result ≡ first_two (linked sessions.now.gap (datum 0 key time []) (map.entries table.now.panes)) }
-    ensures few { length (linked sessions.now.gap (datum 0 key time []) (map.entries table.now.panes)) ≤ 2 }
+    ensures pair { result ≡ first_two (linked sessions.now.gap (datum 0 (pos 0) key time []) (map.entries table.now.panes)) }
+    ensures few { length (linked sessions.now.gap (datum 0 (pos 0) key time []) (map.entries table.now.panes)) ≤ 2 }
 {
     match sessions.linked(time) {
         Linked::None => None,
@@ -160,14 +160,14 @@ fn take_linked(
 ) -> (Option<Pane>, bool)
     requires time { IsTime time }
     requires agree { windows_of_key key (map.entries table.old.panes) ≡ sessions.now.windows }
-    requires joins { (values : List OneValue) × CanJoinAll kinds.now values (linked sessions.now.gap (datum 0 key time []) (map.entries table.old.panes)) }
-    ensures panes { table.new.panes ≡ map.retain_keys table.old.panes (λ p. not (is_linked sessions.now.gap (datum 0 key time []) p)) }
+    requires joins { (values : List OneValue) × CanJoinAll kinds.now values (linked sessions.now.gap (datum 0 (pos 0) key time []) (map.entries table.old.panes)) }
+    ensures panes { table.new.panes ≡ map.retain_keys table.old.panes (λ p. not (is_linked sessions.now.gap (datum 0 (pos 0) key time []) p)) }
     ensures room { table.new.room ≡ table.old.room }
     ensures widths { table.new.widths ≡ table.old.widths }
-    ensures pane { (values : List OneValue) → result.0 ≡ joined_all (taking kinds.now values) (linked sessions.now.gap (datum 0 key time []) (map.entries table.old.panes)) }
-    ensures takes { (values : List OneValue) → CanJoinAll kinds.now values (linked sessions.now.gap (datum 0 key time []) (map.entries table.old.panes)) → IfSome result.0 (CanRecord kinds.now values) }
+    ensures pane { (values : List OneValue) → result.0 ≡ joined_all (taking kinds.now values) (linked sessions.now.gap (datum 0 (pos 0) key time []) (map.entries table.old.panes)) }
+    ensures takes { (values : List OneValue) → CanJoinAll kinds.now values (linked sessions.now.gap (datum 0 (pos 0) key time []) (map.entries table.old.panes)) → IfSome result.0 (CanRecord kinds.now values) }
     ensures wide { IfSome result.0 (IsAsWide table.old.widths) }
-    ensures joined { result.1 ≡ nat_lt 1 (length (linked sessions.now.gap (datum 0 key time []) (map.entries table.old.panes))) }
+    ensures joined { result.1 ≡ nat_lt 1 (length (linked sessions.now.gap (datum 0 (pos 0) key time []) (map.entries table.old.panes))) }
 {
     match sessions.linked(time) {
         Linked::None => (None, false),

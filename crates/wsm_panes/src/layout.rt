@@ -1,12 +1,13 @@
 //! Panes in slots.
 
-ghost use Rattle.std.specs.Prelude.{◌≡◌, ◌<◌, ◌≤◌, ◌^◌, List, Some, None, true, IfOk, IfSome, IsTrue, length, option_map, replicate, slice_set};
+ghost use Rattle.std.specs.Prelude.{◌≡◌, ◌<◌, ◌≤◌, ◌^◌, List, Some, None, true, IfOk, IfSome, IsTrue, length, option_map, replicate, slice_get, slice_set};
 ghost use Rattle.std.specs.Option.{is_some};
 ghost use Rattle.wsm_record.specs.declared.words.Kind.{Kind as OneKind};
 ghost use Rattle.wsm_record.specs.declared.limits.TheConstants.{MAX_ACCUMULATORS, MAX_COLUMNS};
+ghost use Rattle.wsm_record.specs.Modes.{retracts};
 ghost use Rattle.wsm_fold.specs.Fold.{are_of_kinds};
 ghost use Rattle.wsm_panes.specs.Held.{CanRecord, CanTake, once_fired, with_one_more};
-ghost use Rattle.wsm_panes.specs.Layout.{HasPart, IsAsWide, folded_on, part_at, with_any, with_part};
+ghost use Rattle.wsm_panes.specs.Layout.{HasPart, IsAsWide, folded_on, part_at, windows_kept, with_any, with_part, with_window};
 ghost use Rattle.wsm_panes.specs.Ring.{slot_at};
 
 use crate::head::Head;
@@ -16,16 +17,22 @@ use std::alloc::{AllocError, Global};
 use std::marker::Model;
 use wsm_fold::fold_into;
 use wsm_record::{Cell, Kind, Mode, Value};
-use wsm_windows::Place;
+use wsm_windows::{Place, Window};
+
+// Until one is written.
+const NO_WINDOW: Window = Window { start: 0, end: 0 };
 
 /// Slots, each of which is free or has a place with its pane. The values of all panes lie beside one
-/// another, as many for each as it has accumulators and columns. A clause sees the entries.
+/// another, as many for each as it has accumulators and columns, and so do the windows of what stands,
+/// where they are kept. A clause sees the entries.
 #[derive(Drop)]
 pub(crate) struct Slots {
     widths: Widths,
     heads: Vec<Head>,
     folds: Vec<Value>,
     rows: Vec<Cell>,
+    // Of each slot, where windows are kept, and else none.
+    windows: Vec<Window>,
 }
 
 impl Model for Slots {
@@ -33,9 +40,9 @@ impl Model for Slots {
 
     ghost Value = { Slotted };
 
-    ghost view = { λ a. record { widths = a.widths; slots = entries_by a.widths.accumulators a.widths.columns a.heads.items a.folds.items a.rows.items } };
+    ghost view = { λ a. record { widths = a.widths; slots = entries_by a.widths.accumulators a.widths.columns a.heads.items a.folds.items a.rows.items a.windows.items } };
 
-    ghost invariant = { λ a. IsLaidOut a.widths a.heads.items a.folds.items a.rows.items };
+    ghost invariant = { λ a. IsLaidOut a.widths a.heads.items a.folds.items a.rows.items a.windows.items };
 }
 
 impl Slots {
@@ -55,6 +62,7 @@ impl Slots {
             heads: copies(alloc, Head::free(), count)?,
             folds: copies(alloc, Value::Int(0), count * widths.accumulators)?,
             rows: copies(alloc, Cell::default(), count * widths.columns)?,
+            windows: copies(alloc, NO_WINDOW, window_count(widths, count))?,
         })
     }
 
@@ -103,6 +111,7 @@ impl Slots {
             stands: head.stands,
             folds: part(&self.folds, slot, self.widths.accumulators),
             row: RowView::Part(part(&self.rows, slot, self.widths.columns)),
+            stood: window_at(&self.windows, slot),
         }
     }
 
@@ -127,6 +136,7 @@ impl Slots {
         self.heads[slot] = Head::of_pane(place, pane);
         write_any(&mut self.folds, slot, pane.folded());
         write_any(&mut self.rows, slot, pane.row_cells());
+        write_window(&mut self.windows, slot, pane.window());
     }
 
     /// Puts a record into the pane in a slot, which is folded by the values.
@@ -152,10 +162,14 @@ impl Slots {
     pub(crate) fn fire(&mut self, slot: usize, mode: Mode, row: Option<&[Cell]>)
         requires slot { slot < length self.old.slots }
         requires wide { IfSome row (λ cells. length cells.now ≡ self.old.widths.columns) }
-        ensures { self.new ≡ record self.old { slots = slice_set self.old.slots slot (option_map (λ e. (e.0, once_fired mode (option_map (λ cells. cells.now) row.entry) e.1)) (slot_at self.old.slots slot)) } }
+        requires windows { self.old.widths.windows ≡ retracts mode }
+        ensures { self.new ≡ record self.old { slots = slice_set self.old.slots slot (option_map (λ e. (e.0, once_fired mode e.0 (option_map (λ cells. cells.now) row.entry) e.1)) (slot_at self.old.slots slot)) } }
     {
-        self.heads[slot].fire(mode, row.is_some());
+        let head = &mut self.heads[slot];
+        head.fire(mode, row.is_some());
+        let window = head.place().window();
         write_any(&mut self.rows, slot, row);
+        write_window(&mut self.windows, slot, Some(window));
     }
 
     /// Has a slot be free.
@@ -194,6 +208,33 @@ fn write_any<T: Copy>(values: &mut [T], slot: usize, part: Option<&[T]>)
     if let Some(part) = part {
         write_part(values, slot, part);
     }
+}
+
+// The window of a slot, among those of slots, where they are kept.
+#[inline(always)]
+fn window_at(windows: &[Window], slot: usize) -> Option<Window>
+    ensures { result ≡ slice_get windows.now slot }
+{
+    windows.get(slot).copied()
+}
+
+// Writes the window of a slot, if there is one, among those of slots, where they are kept.
+#[inline(always)]
+fn write_window(windows: &mut [Window], slot: usize, window: Option<Window>)
+    ensures { windows.new ≡ with_window slot windows.old window }
+{
+    if let Some(window) = window {
+        if slot < windows.len() {
+            windows[slot] = window;
+        }
+    }
+}
+
+// How many windows are kept of so many slots.
+fn window_count(widths: Widths, count: usize) -> usize
+    ensures { result ≡ windows_kept widths count }
+{
+    if widths.windows { count } else { 0 }
 }
 
 // Folds a row into the values of a slot, among those of slots that have as many each, where something

@@ -17,10 +17,10 @@
 //! use wsm_record::{Kind, Value};
 //! use wsm_windows::Shape;
 //!
-//! let widths = Widths { accumulators: 1, columns: 2 };
+//! let widths = Widths { accumulators: 1, columns: 2, windows: false };
 //! let mut held = HeldPanes::open(alloc, 2, Shape::Fixed(60), 3, widths)?; // three windows of two keys
-//! held.enter(&[Kind::Sum], 0, 5, &[Value::Int(7)]);
-//! held.enter(&[Kind::Sum], 0, 59, &[Value::Int(3)]);
+//! held.enter(&[Kind::Sum], 0, 5, &[Value::Int(7)], 10, 0); // by a lateness of 10 and a mark of 0
+//! held.enter(&[Kind::Sum], 0, 59, &[Value::Int(3)], 10, 0);
 //! assert_eq!(rt; held.len(), 1);
 //! assert!(rt; held.first_due(59).is_none()); // none ends by 59
 //! if let Some(spot) = held.first_due(60) {

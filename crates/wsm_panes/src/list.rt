@@ -6,6 +6,7 @@ ghost use Rattle.wsm_fold.specs.Fold.{are_of_kinds};
 ghost use Rattle.wsm_record.specs.declared.event.Value.{Value as OneValue};
 ghost use Rattle.wsm_record.specs.declared.limits.TheConstants.{MAX_ACCUMULATORS, MAX_COLUMNS};
 ghost use Rattle.wsm_record.specs.declared.words.Kind.{Kind as OneKind};
+ghost use Rattle.wsm_record.specs.Modes.{retracts};
 ghost use Rattle.wsm_windows.specs.Places.{place_cmp};
 ghost use Rattle.wsm_semantics.specs.Summaries.{Pane as AnyPane};
 ghost use Rattle.wsm_panes.specs.Held.{CanRecord, once_fired, with_one_more};
@@ -89,7 +90,8 @@ impl ListTable {
     pub(crate) fn fire(&mut self, spot: Spot, mode: Mode, row: Option<&[Cell]>)
         requires there { IsSome (map.get self.old.panes spot.place) }
         requires wide { IfSome row (λ cells. length cells.now ≡ self.old.widths.columns) }
-        ensures panes { (pane : AnyPane (List OneValue)) × (map.get self.old.panes spot.place ≡ Some pane) × (self.new.panes ≡ map.insert self.old.panes spot.place (once_fired mode (option_map (λ cells. cells.now) row.entry) pane)) }
+        requires windows { self.old.widths.windows ≡ retracts mode }
+        ensures panes { (pane : AnyPane (List OneValue)) × (map.get self.old.panes spot.place ≡ Some pane) × (self.new.panes ≡ map.insert self.old.panes spot.place (once_fired mode spot.place (option_map (λ cells. cells.now) row.entry) pane)) }
         ensures room { self.new.room ≡ self.old.room }
         ensures widths { self.new.widths ≡ self.old.widths }
     {

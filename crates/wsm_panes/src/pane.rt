@@ -20,6 +20,7 @@ use std::marker::Model;
 use wsm_fold::Folded;
 use wsm_record::{Kind, Value};
 use wsm_semantics::Standing;
+use wsm_windows::Window;
 
 /// What is kept of the records of a key in a window: a pane of the Dataflow Model (Akidau et al.
 /// 2015), without its records. A clause sees how many records it has, how many of them no firing
@@ -49,12 +50,13 @@ impl Pane {
     pub fn view(&self) -> PaneView<'_>
         ensures { result ≡ self.now }
     {
-        let (stands, row) = standing_parts(&self.stands);
+        let (stands, stood, row) = standing_parts(&self.stands);
         PaneView {
             count: self.count,
             unshown: self.unshown,
             is_folded: self.folded.is_some(),
             stands,
+            stood,
             folds: folded_values(&self.folded),
             row,
         }
@@ -69,7 +71,7 @@ impl Pane {
             count: view.count,
             unshown: view.unshown,
             folded: folded_of(view.is_folded, view.folds),
-            stands: standing_of(view.stands, &view.row),
+            stands: standing_of(view.stands, view.stood, &view.row),
         }
     }
 
@@ -79,7 +81,7 @@ impl Pane {
     {
         match self.stands {
             Standing::Unfired => false,
-            Standing::Row(_) | Standing::Joined => true,
+            Standing::Row { .. } | Standing::Joined => true,
         }
     }
 
@@ -118,16 +120,22 @@ impl TakesRecords for Pane {
     }
 }
 
-// What stands, and where the values of its row lie.
-fn standing_parts(standing: &Standing) -> (Stands, RowView<'_>)
-    ensures same { standing_by result.0 (row_seen result.1) ≡ standing.now }
-    ensures few { IsFew result.1 }
+// What stands, its window, if that is kept, and where the values of its row lie.
+fn standing_parts(standing: &Standing) -> (Stands, Option<Window>, RowView<'_>)
+    ensures same { standing_by result.0 result.1 (row_seen result.2) ≡ standing.now }
+    ensures few { IsFew result.2 }
 {
     match standing {
-        Standing::Unfired => (Stands::Unfired, RowView::Part(&[])),
-        Standing::Row(None) => (Stands::NoRow, RowView::Part(&[])),
-        Standing::Row(Some(columns)) => (Stands::FiredRow, RowView::Whole(columns)),
-        Standing::Joined => (Stands::Joined, RowView::Part(&[])),
+        Standing::Unfired => (Stands::Unfired, None, RowView::Part(&[])),
+        Standing::Row {
+            window,
+            columns: None,
+        } => { (Stands::NoRow, *window, RowView::Part(&[])) }
+        Standing::Row {
+            window,
+            columns: Some(columns),
+        } => { (Stands::FiredRow, *window, RowView::Whole(columns)) }
+        Standing::Joined => (Stands::Joined, None, RowView::Part(&[])),
     }
 }
 
@@ -153,15 +161,21 @@ fn folded_of(is_folded: bool, folds: &[Value]) -> Option<Folded>
     }
 }
 
-// What stands, where the values of its row lie there.
-fn standing_of(stands: Stands, row: &RowView<'_>) -> Standing
+// What stands, where it is of this window, if that is kept, and the values of its row lie there.
+fn standing_of(stands: Stands, window: Option<Window>, row: &RowView<'_>) -> Standing
     requires { IsFew row.now }
-    ensures { result ≡ standing_by stands (row_seen row.now) }
+    ensures { result ≡ standing_by stands window (row_seen row.now) }
 {
     match stands {
         Stands::Unfired => Standing::Unfired,
-        Stands::NoRow => Standing::Row(None),
-        Stands::FiredRow => Standing::Row(Some(row_columns(row))),
+        Stands::NoRow => Standing::Row {
+            window,
+            columns: None,
+        },
+        Stands::FiredRow => Standing::Row {
+            window,
+            columns: Some(row_columns(row)),
+        },
         Stands::Joined => Standing::Joined,
     }
 }

@@ -4,6 +4,7 @@ ghost use Rattle.std.specs.Prelude.{◌≡◌, ◌⊎◌, ◌<◌, ◌≤◌, �
 ghost use Rattle.std.specs.FinMap as map;
 ghost use Rattle.wsm_record.specs.declared.event.Value.{Value as OneValue};
 ghost use Rattle.wsm_record.specs.declared.limits.TheConstants.{MAX_ACCUMULATORS, MAX_COLUMNS};
+ghost use Rattle.wsm_record.specs.Modes.{retracts};
 ghost use Rattle.wsm_fold.specs.Fold.{are_of_kinds};
 ghost use Rattle.wsm_windows.specs.Windows.{IsTime, first_start, greatest_span};
 ghost use Rattle.wsm_windows.specs.Places.{place_cmp};
@@ -142,7 +143,8 @@ impl RingTable {
     pub(crate) fn fire(&mut self, spot: Spot, mode: Mode, row: Option<&[Cell]>)
         requires there { IsSome (map.get self.old.panes spot.place) }
         requires wide { IfSome row (λ cells. length cells.now ≡ self.old.widths.columns) }
-        ensures panes { (pane : AnyPane (List OneValue)) × (map.get self.old.panes spot.place ≡ Some pane) × (self.new.panes ≡ map.insert self.old.panes spot.place (once_fired mode (option_map (λ cells. cells.now) row.entry) pane)) }
+        requires windows { self.old.widths.windows ≡ retracts mode }
+        ensures panes { (pane : AnyPane (List OneValue)) × (map.get self.old.panes spot.place ≡ Some pane) × (self.new.panes ≡ map.insert self.old.panes spot.place (once_fired mode spot.place (option_map (λ cells. cells.now) row.entry) pane)) }
         ensures ring { self.new.ring ≡ self.old.ring }
         ensures widths { self.new.widths ≡ self.old.widths }
     {

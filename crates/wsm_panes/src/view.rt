@@ -2,11 +2,12 @@
 
 ghost use Rattle.std.specs.Prelude.{◌≡◌, option_map};
 ghost use Rattle.wsm_semantics.specs.Summaries as kept;
-ghost use Rattle.wsm_panes.specs.View.{IsFew, row_seen};
+ghost use Rattle.wsm_panes.specs.View.{IsFew, row_seen, window_stood};
 
 use crate::head::Stands;
 use std::marker::Model;
 use wsm_record::{Cell, Columns, Value};
+use wsm_windows::Window;
 
 /// Where the cells of a row lie.
 #[derive(Clone, Copy)]
@@ -26,6 +27,8 @@ pub struct PaneView<'a> {
     pub(crate) unshown: u64,
     pub(crate) is_folded: bool,
     pub(crate) stands: Stands,
+    // The window of the firing that stands, where one does and windows are kept.
+    pub(crate) stood: Option<Window>,
     // What the records are folded to, where there are any.
     pub(crate) folds: &'a [Value],
     // The row that stands, where one does.
@@ -41,7 +44,7 @@ impl<'a> Model for PaneView<'a> {
 
     ghost Value = { AnyPane (List OneValue) };
 
-    ghost view = { λ a. record { count = a.count; unshown = a.unshown; folded = folded_by a.is_folded a.folds.now; stands = standing_by a.stands (row_seen a.row) } };
+    ghost view = { λ a. record { count = a.count; unshown = a.unshown; folded = folded_by a.is_folded a.folds.now; stands = standing_by a.stands a.stood (row_seen a.row) } };
 
     ghost invariant = { λ a. IsFew a.row };
 }
@@ -69,6 +72,16 @@ impl<'a> PaneView<'a> {
             Some(self.folds)
         } else {
             None
+        }
+    }
+
+    /// The window of the firing that stands for it, as it was then, where windows are kept.
+    pub fn window(&self) -> Option<Window>
+        ensures { result ≡ window_stood self.now.stands }
+    {
+        match self.stands {
+            Stands::FiredRow | Stands::NoRow => self.stood,
+            Stands::Unfired | Stands::Joined => None,
         }
     }
 

@@ -1,7 +1,8 @@
 use Rattle.wsm_semantics.proofs.ShownOnce.{fires_once}
 use Rattle.wsm_verifier.proofs.Lawful.{lawful}
 use Rattle.wsm_machine.specs.Meaning.{query_of}
+use Rattle.wsm_machine.proofs.CountedSessions.{sessions_by_event}
 use Rattle.wsm_engine.proofs.laws.shown_once.Goals as goal
 
 pub returns : goal.returns
-returns c p whole discarding = fires_once (query_of p) (lawful p whole).shape discarding
+returns c p whole discarding = fires_once (query_of p) (lawful p whole).shape (sessions_by_event p whole) discarding

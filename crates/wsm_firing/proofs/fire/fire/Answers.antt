@@ -5,7 +5,7 @@ use Rattle.std.specs.FinMap as map
 use Rattle.std.specs.FinMap.Entries.{put}
 use Rattle.wsm_windows.specs.Places.{place_cmp, window_of}
 use Rattle.wsm_semantics.specs.declared.out_row.OutRow.TheVariants.{Pane as PaneRow}
-use Rattle.wsm_semantics.specs.Steps.{chosen_rows}
+use Rattle.wsm_semantics.specs.Relation.{chosen_rows}
 use Rattle.wsm_program.specs.Program.{Program, Header}
 use Rattle.wsm_panes.specs.Held.{entries_of, once_fired}
 use Rattle.wsm_firing.specs.Streams.{Tells}
@@ -31,14 +31,14 @@ returns-clause-panes c = λ h found.
     let e = c.fire_at.ensures.panes in
     let was : e.0 ≡ h = some_same (sym e.1 ∙ found) in
     let row = c.requires.row h found in
-    e.2 ∙ (λ i. put place_cmp place (once_fired (mode i) (row i) (was i)) (entries_of held))
+    e.2 ∙ (λ i. put place_cmp place (once_fired (mode i) place (row i) (was i)) (entries_of held))
 
 pub returns-clause-tells : goal.returns-clause-tells
 returns-clause-tells c =
     let held = c.args.held.now in let place = c.args.due.spot.place in
     let e = c.fire_at.ensures.panes in
     subst (λ (es : Panes). Tells c.args.streams.now c.gain.new.self (entries_of held) es) (sym e.2)
-    (tells_fired place e.0 (entries_of held) (map.entries_sorted held.panes) e.1 c.args.streams.now c.lose_held.new.self (c.lose_held.ensures.told e.0 e.1) c.gain.new.self (once_fired c.header-header.result.now.mode (option_map (λ cells. cells.now) c.args.ran.row) e.0) c.lose_held.ensures.alike c.gain.ensures.alike c.gain.ensures.told)
+    (tells_fired place e.0 (entries_of held) (map.entries_sorted held.panes) e.1 c.args.streams.now c.lose_held.new.self (c.lose_held.ensures.told e.0 e.1) c.gain.new.self (once_fired c.header-header.result.now.mode place (option_map (λ cells. cells.now) c.args.ran.row) e.0) c.lose_held.ensures.alike c.gain.ensures.alike c.gain.ensures.told)
 
 pub count-requires-clause-fired : goal.count-requires-clause-fired
 count-requires-clause-fired c = let e = c.fire_at.ensures.panes in (c.requires.can e.0 e.1).fired

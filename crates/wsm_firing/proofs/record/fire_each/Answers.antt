@@ -35,8 +35,8 @@ loop-window-init c =
       tells = tells_none c.args.streams.now es;
       capacity = refl;
       comes =
-          subst (λ (ws : List Window). ComesTo p room c.none-tally.result c.args.rows.now.items (fires q (kind_at q mark (map (at c.args.key) ws)) es) all) (sym same)
-          (simp to_z-of_z (first p room c.none-tally.result c.args.rows.now.items _ c.none-tally.ensures c.requires.empty c.requires.can));
+          subst (λ (ws : List Window). ComesTo p room c.args.rows.now.items c.none-tally.result c.args.rows.now.items (fires q (kind_at q mark (map (at c.args.key) ws)) es) all) (sym same)
+          (simp to_z-of_z (first p room (vec_len c.args.rows.now) c.none-tally.result c.args.rows.now.items _ c.none-tally.ensures c.args.rows.now.ok.0 c.requires.can));
     }
 
 pub fire_at-requires-clause-tells : goal.fire_at-requires-clause-tells
@@ -55,10 +55,10 @@ fire_at-requires-clause-can c =
     let behind = later place ps order.0 in
     let some : List (Fired (List Value)) = fires q (kind_at q mark (place ∷ [])) now in
     let left : List (Fired (List Value)) = fires q (kind_at q mark ps) (all_fired (plan_of p) q (kind_at q mark (place ∷ [])) now) in
-    let comes : ComesTo p room c.loop-window.tally c.loop-window.rows.items (some ++ left) all =
-    subst (λ fs. ComesTo p room c.loop-window.tally c.loop-window.rows.items fs all)
+    let comes : ComesTo p room c.args.rows.now.items c.loop-window.tally c.loop-window.rows.items (some ++ left) all =
+    subst (λ fs. ComesTo p room c.args.rows.now.items c.loop-window.tally c.loop-window.rows.items fs all)
     (ap (λ (ws : List Window). fires q (kind_at q mark (map (at c.args.key) ws)) now) c.in-Some.ensures.steps ∙ fires_in_turn (plan_of p) q mark place ps behind now sorted) c.loop-window.invariant.comes in
-    let can : CanAdd p room (length c.loop-window.rows.items) c.loop-window.tally some = can_add p room c.loop-window.tally c.loop-window.rows.items some left all comes in
+    let can : CanAdd p room (length c.loop-window.rows.items) c.loop-window.tally some = can_add p room c.args.rows.now.items c.loop-window.tally c.loop-window.rows.items some left all comes in
     subst (λ (r : Place). CanAdd p (vec_capacity c.loop-window.rows) (vec_len c.loop-window.rows) c.loop-window.tally (fires q (kind_at q mark (r ∷ [])) now)) (sym c.at-place.ensures)
     (subst (λ (n : ℕ). CanAdd p (vec_capacity c.loop-window.rows) n c.loop-window.tally some) (sym c.loop-window.rows.ok.0)
     (subst (λ (n : ℕ). CanAdd p n (length c.loop-window.rows.items) c.loop-window.tally some) (sym c.loop-window.invariant.capacity) can))
@@ -75,8 +75,8 @@ loop-window-preserved c =
     let behind = later place ps order.0 in
     let some : List (Fired (List Value)) = fires q (kind_at q mark (place ∷ [])) now in
     let left : List (Fired (List Value)) = fires q (kind_at q mark ps) (all_fired (plan_of p) q (kind_at q mark (place ∷ [])) now) in
-    let comes : ComesTo p room c.loop-window.tally c.loop-window.rows.items (some ++ left) all =
-    subst (λ fs. ComesTo p room c.loop-window.tally c.loop-window.rows.items fs all)
+    let comes : ComesTo p room c.args.rows.now.items c.loop-window.tally c.loop-window.rows.items (some ++ left) all =
+    subst (λ fs. ComesTo p room c.args.rows.now.items c.loop-window.tally c.loop-window.rows.items fs all)
     (ap (λ (ws : List Window). fires q (kind_at q mark (map (at c.args.key) ws)) now) c.in-Some.ensures.steps ∙ fires_in_turn (plan_of p) q mark place ps behind now sorted) c.loop-window.invariant.comes in
     let fired : entries_of c.fire_at.new.held ≡ all_fired (plan_of p) q (kind_at q mark (place ∷ [])) now =
     c.fire_at.ensures.panes ∙ ap (λ (r : Place). all_fired (plan_of p) q (kind_at q mark (r ∷ [])) now) c.at-place.ensures in
@@ -95,10 +95,10 @@ loop-window-preserved c =
       tells = tells_on c.args.streams.now c.loop-window.streams c.fire_at.new.streams es now (entries_of c.fire_at.new.held) c.loop-window.invariant.tells c.fire_at.ensures.tells;
       capacity = c.fire_at.ensures.capacity ∙ c.loop-window.invariant.capacity;
       comes =
-          subst (λ (t : Tally). ComesTo p room t c.fire_at.new.rows.items (fires q (kind_at q mark ps) (entries_of c.fire_at.new.held)) all) (sym tally)
-          (subst (λ (rs : List OutRow). ComesTo p room (tally_with p c.loop-window.tally some) rs (fires q (kind_at q mark ps) (entries_of c.fire_at.new.held)) all) (sym rows)
-          (subst (λ fs. ComesTo p room (tally_with p c.loop-window.tally some) (c.loop-window.rows.items ++ rows_of p some) (fires q (kind_at q mark ps) fs) all) (sym fired)
-          (next p room c.loop-window.tally c.loop-window.rows.items some left all comes)));
+          subst (λ (t : Tally). ComesTo p room c.args.rows.now.items t c.fire_at.new.rows.items (fires q (kind_at q mark ps) (entries_of c.fire_at.new.held)) all) (sym tally)
+          (subst (λ (rs : List OutRow). ComesTo p room c.args.rows.now.items (tally_with p c.loop-window.tally some) rs (fires q (kind_at q mark ps) (entries_of c.fire_at.new.held)) all) (sym rows)
+          (subst (λ fs. ComesTo p room c.args.rows.now.items (tally_with p c.loop-window.tally some) (c.loop-window.rows.items ++ rows_of p some) (fires q (kind_at q mark ps) fs) all) (sym fired)
+          (next p room c.args.rows.now.items c.loop-window.tally c.loop-window.rows.items some left all comes)));
     }
 
 pub returns : goal.returns
@@ -116,7 +116,7 @@ returns c =
           (sym (none_fired (plan_of p) q (kind []) now still) ∙ sym (ap (λ (ws : List Window). all_fired (plan_of p) q (kind ws) now) c.in-None.ensures.steps.0) ∙ c.loop-window.invariant.panes);
       keeps = c.loop-window.invariant.keeps;
       tells = c.loop-window.invariant.tells;
-      rows = simp to_z-of_z at (last_rows p room c.loop-window.tally c.loop-window.rows.items _ all none c.loop-window.invariant.comes);
+      rows = simp to_z-of_z at (last_rows p room c.args.rows.now.items c.loop-window.tally c.loop-window.rows.items _ all none c.loop-window.invariant.comes);
       capacity = c.loop-window.invariant.capacity;
-      tally = simp to_z-of_z at (last_tally p room c.loop-window.tally c.loop-window.rows.items _ all none c.loop-window.invariant.comes);
+      tally = simp to_z-of_z at (last_tally p room c.args.rows.now.items c.loop-window.tally c.loop-window.rows.items _ all none c.loop-window.invariant.comes);
     }

@@ -17,7 +17,7 @@ invariant-loop-window l = record {
   keeps : IsKept l.fn.held l.held;
   tells : Tells l.fn.streams l.streams (entries_of l.fn.held) (entries_of l.held);
   capacity : vec_capacity l.rows ≡ vec_capacity l.fn.rows;
-  comes : ComesTo l.verified (vec_capacity l.fn.rows) l.tally l.rows.items
+  comes : ComesTo l.verified (vec_capacity l.fn.rows) l.fn.rows.items l.tally l.rows.items
       (fires (query_of l.verified) (kind_at (query_of l.verified) l.mark (map (at l.key) l.window-iterator)) (entries_of l.held))
       (fires (query_of l.verified) (kind_at (query_of l.verified) l.mark (map (at l.key) l.fn.windows)) (entries_of l.fn.held));
 }

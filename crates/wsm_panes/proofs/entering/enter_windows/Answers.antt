@@ -1,36 +1,38 @@
-use Rattle.std.proofs.Common.{◌≡◌, ℤ, [], ◌∷◌, Fits, SFits, w16, w64, to_z, of_z, rules, refl, ap, ◌∙◌, ◌+ℤ◌, ◌-ℤ◌, ◌<ℤ◌, ◌≤ℤ◌, arith}
+use Rattle.std.proofs.Common.{Bool, false, suc, cond, ◌/◌, pos, ◌≡◌, ℤ, [], ◌∷◌, Fits, SFits, w16, w64, to_z, of_z, rules, refl, ap, ◌∙◌, ◌+ℤ◌, ◌-ℤ◌, ◌<ℤ◌, ◌≤ℤ◌, arith}
 use Rattle.std.specs.FinMap as map
 use Rattle.std.proofs.lemmas.Int.{ints, to_z-of_z}
-use Rattle.wsm_windows.specs.Windows.{first_start, greatest_span, greatest_time, window, windows_of}
+use Rattle.std.specs.Prelude.{int_le, unsigned_abs}
+use Rattle.wsm_windows.specs.Left.{windows_from}
+use Rattle.wsm_windows.specs.Windows.{first_start, greatest_span, greatest_time, window}
 use Rattle.wsm_semantics.specs.Replay.{datum}
 use Rattle.wsm_panes.specs.declared.ring.Ring.{Ring}
 use Rattle.wsm_panes.specs.Ring.{IsRing}
 use Rattle.wsm_panes.proofs.Enters.{any_datum}
 use Rattle.wsm_panes.proofs.InTurn.{admits_at, can_go_on, put_at_is, takes_at}
 use Rattle.wsm_panes.proofs.Rings.{between_fits, le_from, row_within}
-use Rattle.wsm_panes.proofs.Rows.{all_on, few_on, first_on_grid, one_on, rising_on, windows_on}
+use Rattle.wsm_panes.proofs.Rows.{all_on, ending_past, few_on, first_on_grid, one_on, rising_on, windows_on}
 use Rattle.wsm_panes.proofs.Scan.{left_less}
 use Rattle.wsm_panes.proofs.entering.enter_windows.Goals as goal
-use Rattle.wsm_panes.proofs.entering.enter_windows.Goals.{In-loop-row}
+use Rattle.wsm_panes.proofs.entering.enter_windows.Goals.{In-loop-row, After-loop-row}
 
 pub loop-row-init : goal.loop-row-init
 loop-row-init c =
     let time : SFits w64 c.args.time = c.ranges.time in
     let r = c.args.table.now.ring in
     let z : to_z w64 (of_z w64 c.args.time) ≡ c.args.time = to_z-of_z w64 c.args.time time in
+    let y : to_z w64 (of_z w64 c.args.past) ≡ c.args.past = to_z-of_z w64 c.args.past c.ranges.past in
     let ring : IsRing r = c.requires.can.apart.ring in
-    let start : c.first_row-row.result.start ≡ first_start r.size r.period c.args.time = rw z at c.first_row-row.ensures.start in
-    let all : windows_on r c.args.time c.first_row-row.result.start ≡ windows_of r.size r.period c.args.time = all_on r c.args.time c.first_row-row.result.start ring start in
-    let grid = first_on_grid r.size r.period c.args.time ring.period_low in
-    rw (z, c.ring-ring.ensures, c.first_row-row.ensures.same) (record {
+    let start : c.first_row-row.result.start ≡ first_start r.size r.period c.args.past = rw y at c.first_row-row.ensures.start in
+    let all : windows_on r c.args.time c.first_row-row.result.start ≡ ending_past r c.args.time c.args.past = all_on r c.args.time c.args.past c.first_row-row.result.start ring c.requires.after start in
+    let grid = first_on_grid r.size r.period c.args.past ring.period_low in
+    rw (z, y, c.ring-ring.ensures, c.first_row-row.ensures.same) (record {
       panes = rw all refl;
       can = rw all c.requires.can;
-      rising = rw all (rising_on r c.args.time ring c.requires.size);
+      rising = rw all (rising_on r c.args.time c.args.past ring c.requires.size);
       ring = refl;
       widths = refl;
       row = c.first_row-row.ensures.row;
-      past = omega (arith, ints, start, grid.behind);
-      near = omega (arith, ints, start, grid.near, ring.period_low, ring.period_high);
+      behind = omega (arith, ints, start, grid.behind, c.requires.after);
       count = rw all (omega arith);
     })
 
@@ -88,7 +90,7 @@ overflow_add-count c =
     let row = in_row (goal.at.overflow_add-count c).In-loop-row in
     let step : windows_on r T S ≡ window S (S +ℤ r.size) ∷ windows_on r T N = one_on r T S N row.ring row.inside c.next_row-row.ensures.start in
     let left = rw step at c.loop-row.invariant.count in
-    omega (arith, left, few_on r T row.ring row.few)
+    omega (arith, left, few_on r T (to_z w64 (of_z w64 c.args.past)) row.ring row.few)
 
 pub loop-row-smaller : goal.loop-row-smaller
 loop-row-smaller c =
@@ -102,11 +104,11 @@ loop-row-preserved c =
     let step : windows_on r T S ≡ window S (S +ℤ r.size) ∷ windows_on r T N = one_on r T S N row.ring row.inside c.next_row-row.ensures.start in
     let w = window S (S +ℤ r.size) in
     let new = put_at_is c.loop-row.table.ring c.args.kinds.now c.args.values.now c.args.key T c.loop-row.table.panes w (windows_on r T N) c.place.result c.place.ensures c.enter_at.new.self.panes
-    (c.enter_at.ensures.panes ∙ ap (map.insert c.loop-row.table.panes c.place.result) (any_datum c.args.kinds.now c.args.values.now (datum 0 c.args.key T []) _)) in
+    (c.enter_at.ensures.panes ∙ ap (map.insert c.loop-row.table.panes c.place.result) (any_datum c.args.kinds.now c.args.values.now (datum 0 (pos 0) c.args.key T []) _)) in
     let rises = rw step at c.loop-row.invariant.rising in
     let can = rw step at c.loop-row.invariant.can in
     let left = rw step at c.loop-row.invariant.count in
-    let past : (T -ℤ r.size) <ℤ S = c.loop-row.invariant.past in
+    let behind : (T -ℤ r.size) <ℤ S = c.loop-row.invariant.behind in
     record {
       panes = rw new (rw step at c.loop-row.invariant.panes);
       can = rw (c.enter_at.ensures.ring, new) (can_go_on _ _ _ _ _ w (windows_on r T N) _ rises can);
@@ -114,7 +116,39 @@ loop-row-preserved c =
       ring = c.enter_at.ensures.ring ∙ c.loop-row.invariant.ring;
       widths = c.enter_at.ensures.widths ∙ c.loop-row.invariant.widths;
       row = c.next_row-row.ensures.row;
-      past = omega (arith, ints, past, c.next_row-row.ensures.start, row.ring.period_low);
-      near = omega (arith, ints, row.inside, c.next_row-row.ensures.start);
+      behind = omega (arith, ints, behind, c.next_row-row.ensures.start, row.ring.period_low);
       count = omega (arith, left);
     }
+
+pub place-requires : goal.place-requires
+place-requires c =
+    let time : SFits w64 c.args.time = c.ranges.time in
+    let z : to_z w64 (of_z w64 c.args.time) ≡ c.args.time = to_z-of_z w64 c.args.time time in
+    let r = c.ring-ring.result in let S = c.loop-row.row.start in
+    let row = in_row (goal.at.place-requires c).In-loop-row in
+    let timely : c.args.time ≤ℤ greatest_time = c.requires.time.high in
+    between_fits S (S +ℤ r.size) (greatest_time +ℤ greatest_span) row.fits (search rules) (omega (arith, ints, row.ring.period_low, row.ring.period_high)) (omega (arith, ints, z, row.inside, timely, row.few))
+
+-- none is left
+none_on : (r : Ring) (time start : ℤ) → int_le start time ≡ false → windows_on r time start ≡ []
+none_on r time start h = ap (λ (b : Bool). windows_from (cond b (suc (unsigned_abs (time -ℤ start) / unsigned_abs r.period)) 0) r.size r.period start) h
+
+-- behind the last row
+past_last : (c : After-loop-row) → windows_on c.ring-ring.result c.args.time c.loop-row.row.start ≡ []
+past_last c =
+    let start : SFits w64 c.loop-row.row.start = search rules in
+    let after : int_le c.loop-row.row.start c.args.time ≡ false = rw (to_z-of_z w64 c.loop-row.row.start start, to_z-of_z w64 c.args.time c.ranges.time) at c.loop-row-test.false in
+    none_on c.ring-ring.result c.args.time c.loop-row.row.start after
+
+pub returns-clause-panes : goal.returns-clause-panes
+returns-clause-panes c =
+    let z = to_z-of_z w64 c.args.time c.ranges.time in
+    let y = to_z-of_z w64 c.args.past c.ranges.past in
+    rw (z, y, past_last c, c.ring-ring.ensures) at c.loop-row.invariant.panes
+
+pub returns-clause-count : goal.returns-clause-count
+returns-clause-count c =
+    let z = to_z-of_z w64 c.args.time c.ranges.time in
+    let y = to_z-of_z w64 c.args.past c.ranges.past in
+    let all = rw (z, y, past_last c, c.ring-ring.ensures) at c.loop-row.invariant.count in
+    omega (arith, all)

@@ -1,4 +1,4 @@
-use Rattle.std.proofs.Common.{◌≡◌, List, [], ◌∷◌, sym, ap, ◌∙◌, SFits, w64, to_z-of_z}
+use Rattle.std.proofs.Common.{pos, ◌≡◌, List, [], ◌∷◌, sym, ap, ◌∙◌, SFits, w64, to_z-of_z}
 use Rattle.std.specs.Prelude.{filter, length, nat_lt}
 use Rattle.std.specs.FinMap as map
 use Rattle.std.specs.FinMap.{FinMap}
@@ -34,7 +34,7 @@ puts c =
 
 -- so the panes are those of the session with the record
 entries_are : (c : After-at-in-One) (new : FinMap place_cmp (Pane (List Value))) → new ≡ map.insert (map.remove c.args.table.now.panes c.at.result) c.at-in-One.result (with_one_more c.args.kinds.now c.args.values.now (map.get c.args.table.now.panes c.at.result))
-    → map.entries new ≡ merged_session (taking c.args.kinds.now c.args.values.now) c.args.sessions.now.gap (datum 0 c.args.key c.args.time []) (map.entries c.args.table.now.panes)
+    → map.entries new ≡ merged_session (taking c.args.kinds.now c.args.values.now) c.args.sessions.now.gap (datum 0 (pos 0) c.args.key c.args.time []) (map.entries c.args.table.now.panes)
 entries_are c new is = ap map.entries is ∙ merged_is (taking c.args.kinds.now c.args.values.now) c.args.sessions.now.gap c.args.key c.args.time c.args.table.now.panes c.args.sessions.now.windows c.requires.agree _ _ _ _ (puts c)
 
 pub enter_moved-requires-clause-there : goal.enter_moved-requires-clause-there

@@ -1,4 +1,4 @@
-use Rattle.std.proofs.Common.{ℕ, [], sym, ap, ◌∙◌, SFits, w64, to_z-of_z}
+use Rattle.std.proofs.Common.{pos, ℕ, [], sym, ap, ◌∙◌, SFits, w64, to_z-of_z}
 use Rattle.std.specs.FinMap as map
 use Rattle.wsm_windows.specs.Places.{at, window_of}
 use Rattle.wsm_semantics.specs.Replay.{datum}
@@ -24,7 +24,7 @@ put-requires-clause-admits c =
       left_is = simp to_z-of_z at c.take_linked-pane.ensures.panes;
       place_is = c.at.ensures ∙ ap (at c.args.key) (simp to_z-of_z at c.enter-session.ensures.session);
       pane_is = simp to_z-of_z at c.take_linked-pane.ensures.pane c.args.values.now;
-      value_is = c.with_one_more.ensures ∙ any_datum c.args.kinds.now c.args.values.now (datum 0 c.args.key c.args.time []) c.take_linked-pane.result.0;
+      value_is = c.with_one_more.ensures ∙ any_datum c.args.kinds.now c.args.values.now (datum 0 (pos 0) c.args.key c.args.time []) c.take_linked-pane.result.0;
     } in
     rw c.take_linked-pane.ensures.room (merged_fits plan c.args.sessions.now.gap c.args.key c.args.time c.args.table.now.panes c.args.sessions.now.windows c.requires.agree c.take_linked-pane.new.table.panes c.at.result c.take_linked-pane.result.0 c.with_one_more.result puts c.args.table.now.room c.requires.room)
 
@@ -44,7 +44,7 @@ returns c =
       left_is = simp to_z-of_z at c.take_linked-pane.ensures.panes;
       place_is = c.at.ensures ∙ ap (at c.args.key) (simp to_z-of_z at c.enter-session.ensures.session);
       pane_is = simp to_z-of_z at c.take_linked-pane.ensures.pane c.args.values.now;
-      value_is = c.with_one_more.ensures ∙ any_datum c.args.kinds.now c.args.values.now (datum 0 c.args.key c.args.time []) c.take_linked-pane.result.0;
+      value_is = c.with_one_more.ensures ∙ any_datum c.args.kinds.now c.args.values.now (datum 0 (pos 0) c.args.key c.args.time []) c.take_linked-pane.result.0;
     } in
     let merged = ap map.entries c.put.ensures.panes ∙ merged_is plan c.args.sessions.now.gap c.args.key c.args.time c.args.table.now.panes c.args.sessions.now.windows c.requires.agree c.take_linked-pane.new.table.panes c.at.result c.take_linked-pane.result.0 c.with_one_more.result puts in
     record {

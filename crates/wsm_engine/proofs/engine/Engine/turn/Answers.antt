@@ -1,7 +1,9 @@
-use Rattle.std.proofs.Common.{◌≡◌, ◌+◌, ℕ, ◌∷◌, length, SFits, w64, to_z, of_z, to_z-of_z, refl, sym, ap, subst, ◌∙◌, arith}
+use Rattle.std.proofs.Common.{◌≡◌, ◌+◌, ℕ, ◌∷◌, length, Result, SFits, w64, to_z, of_z, to_z-of_z, refl, sym, ap, subst, ◌∙◌, arith}
 use Rattle.std.proofs.lemmas.Int.{ints, fits_signed_from_abs}
 use Rattle.wsm_record.specs.Event.{Event, event_of}
-use Rattle.wsm_admission.specs.Admission.{counter, decision}
+use Rattle.wsm_admission.specs.declared.verdict.Admitted.{Admitted}
+use Rattle.wsm_admission.specs.declared.verdict.Refusal.{Refusal}
+use Rattle.wsm_admission.specs.Admission.{after, counter, decision}
 use Rattle.wsm_semantics.specs.Steps.{answer_to, fired_by}
 use Rattle.wsm_program.specs.Program.{Program, Header}
 use Rattle.wsm_firing.specs.declared.tally.Tally.{Tally}
@@ -11,7 +13,7 @@ use Rattle.wsm_engine.specs.State.{State}
 use Rattle.wsm_engine.specs.Meaning.{Fits}
 use Rattle.wsm_engine.specs.Runner.{IsAt, last_relation}
 use Rattle.wsm_engine.specs.Engine.{state_of}
-use Rattle.wsm_engine.proofs.EngineTurns.{turn_fits, turned_is, comes_of, replied_is}
+use Rattle.wsm_engine.proofs.EngineTurns.{turn_fits, turned_is, comes_of, next_timely, replied_is}
 use Rattle.wsm_engine.proofs.engine.Engine.turn.Goals as goal
 use Rattle.wsm_engine.proofs.engine.Engine.turn.Goals.{After-decide-answer, After-act-done}
 
@@ -32,7 +34,10 @@ act-done-requires-clause-comes c =
     let history = c.self.invariant.history in
     let mark : SFits w64 c.mark-mark.result = fits_signed_from_abs w64 c.mark-mark.result (grind (arith, ints, c.mark-mark.ensures.from, c.mark-mark.ensures.to)) in
     let answered = answered (goal.at.act-done-requires-clause-comes c).After-decide-answer in
-    (history.0, simp to_z-of_z (comes_of (state_of c.self.inside) history.0 history.1 c.self.inside.runner.held refl c.mark-mark.result c.mark-mark.ensures.mark c.decide-answer.result (event_of c.args.event.now) answered))
+    let s : State = state_of c.self.inside in
+    let e : Event = event_of c.args.event.now in
+    let next = next_timely s c.self.invariant.runner.lawful history.0 history.1 e c.decide-answer.new.self (c.decide-answer.ensures.state ∙ ap (λ (a : Result Admitted Refusal). after a e s.machine.admission) answered) c.decide-answer.ensures.range in
+    (history.0, simp to_z-of_z (comes_of s history.0 history.1 c.self.inside.runner.held refl c.mark-mark.result c.mark-mark.ensures.mark (record { low = c.mark-mark.ensures.from; high = c.mark-mark.ensures.to }) c.decide-answer.result e next answered))
 
 pub invariant_of-self : goal.invariant_of-self
 invariant_of-self c =

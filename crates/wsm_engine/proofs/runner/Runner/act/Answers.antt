@@ -24,7 +24,7 @@ take_watermark-requires-clause-comes c =
     let all = comes_at p c.requires.comes.0 c.args.self.now.held c.args.mark c.args.answer (event_of c.args.event.now) c.requires.comes.1 h.old h.new is in
     let new : SFits w64 h.new = mark_fits p c.requires.comes.0 c.args.self.now c.args.mark c.args.answer (event_of c.args.event.now) c.requires.comes.1 c.requires.program h.old h.new is in
     let old : SFits w64 h.old = old_fits p c.requires.comes.0 c.args.self.now.held c.args.mark c.args.answer (event_of c.args.event.now) c.requires.comes.1 h.old h.new is c.ranges.mark in
-    (c.requires.comes.0, simp to_z-of_z all)
+    (c.requires.comes.0, all.0, all.1, simp to_z-of_z all.2)
 
 pub returns-in-Record-Some-default-default : goal.returns-in-Record-Some-default-default
 returns-in-Record-Some-default-default c =

@@ -53,6 +53,11 @@ open-requires-3 c =
     let few = few (goal.at.open-requires-3 c).After-live_bound-live in
     omega (arith, few)
 
+pub rows_of_panes-requires : goal.rows_of_panes-requires
+rows_of_panes-requires c =
+    let few = few (goal.at.rows_of_panes-requires c).After-live_bound-live in
+    omega (arith, few)
+
 pub open-requires-2-clause-accumulators : goal.open-requires-2-clause-accumulators
 open-requires-2-clause-accumulators c =
     let kinds = (declared (goal.at.open-requires-2-clause-accumulators c).After-header-header).kinds in

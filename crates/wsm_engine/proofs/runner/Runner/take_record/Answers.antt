@@ -1,14 +1,16 @@
-use Rattle.std.proofs.Common.{◌≡◌, ◌+◌, ◌∙◌, vec_capacity, Bool, true, cond, [], SFits, w64, to_z-of_z, sym, ap, arith}
+use Rattle.std.proofs.Common.{◌≡◌, ◌≤◌, ◌+◌, ◌++◌, ◌∙◌, vec_len, vec_capacity, Bool, true, cond, [], SFits, w64, to_z-of_z, length, sym, ap, arith}
 use Rattle.std.proofs.lemmas.Bool.{not-false}
 use Rattle.wsm_semantics.specs.Replay.{datum}
-use Rattle.wsm_semantics.specs.Summaries.{all_fired, kind_by_record, after_record, fired_by_record}
+use Rattle.wsm_semantics.specs.HeldBounds.{rows_of_panes}
+use Rattle.wsm_semantics.specs.Summaries.{all_fired, entered, kind_by_record, after_record, fired_by_record, withdrawn_by_record, withdrawn_entering}
 use Rattle.wsm_machine.specs.Meaning.{plan_of, query_of, selects, where_run}
 use Rattle.wsm_machine.proofs.RunAnswers.{keeps_is}
 use Rattle.wsm_panes.specs.Held.{entries_of}
 use Rattle.wsm_firing.specs.Tally.{tally_of}
-use Rattle.wsm_firing.specs.Firing.{rows_of}
-use Rattle.wsm_firing.specs.ByRecord.{fires_by_record}
-use Rattle.wsm_engine.specs.Runner.{entering_cost}
+use Rattle.wsm_firing.specs.Firing.{turn_rows}
+use Rattle.wsm_firing.specs.ByRecord.{fires_by_record, withdrawn_of_record}
+use Rattle.wsm_engine.specs.Runner.{entering_cost, rows_with}
+use Rattle.wsm_engine.proofs.RecordsByPlan.{after_same, fires_same, withdrawn_same}
 use Rattle.wsm_engine.proofs.HeldByHistory.{Panes}
 use Rattle.wsm_semantics.specs.HeldBounds.{most_panes}
 use Rattle.wsm_firing.specs.Streams.{IsTold, standing_rows}
@@ -25,23 +27,27 @@ fire_by_record-tally-requires-clause-can c =
     let mark : SFits w64 c.args.mark = c.ranges.mark in
     let time : SFits w64 c.args.time = c.ranges.time in
     let chosen : selects p c.args.key c.args.values.now ≡ true = keeps_is p c.args.key c.args.values.now c.keep-kept.result.keeps c.keep-kept.ensures.done c.keep-kept.ensures.keeps ∙ not-false _ c.if-not-kept.false in
+    let room : vec_len c.enter-steps.new.self.rows + rows_of_panes p.header.mode (length (entries_of c.enter-steps.new.self.held)) ≤ vec_capacity c.enter-steps.new.self.rows = omega (arith, c.enter-steps.ensures.few, c.enter-steps.ensures.capacity, c.requires.program.rows) in
     simp to_z-of_z
-    (can_fire p past c.args.self.now c.requires.program c.args.mark c.args.key c.args.time c.args.values.now comes chosen _ c.enter-steps.result.1 (entries_of c.enter-steps.new.self.held)
-    (rw c.enter-steps.ensures.rows c.requires.program.rows) (simp to_z-of_z at c.enter-steps.ensures.session) (simp to_z-of_z at c.enter-steps.ensures.panes))
+    (can_fire p past c.args.self.now c.requires.program c.args.mark c.args.key c.args.time c.args.values.now comes chosen _ _ c.enter-steps.result.1 (entries_of c.enter-steps.new.self.held)
+    room (simp to_z-of_z at c.enter-steps.ensures.session) (simp to_z-of_z at c.enter-steps.ensures.panes))
 
 pub overflow_add-result : goal.overflow_add-result
 overflow_add-result c =
     let p = c.args.verified.now in
     let chosen : selects p c.args.key c.args.values.now ≡ true = keeps_is p c.args.key c.args.values.now c.keep-kept.result.keeps c.keep-kept.ensures.done c.keep-kept.ensures.keeps ∙ not-false _ c.if-not-kept.false in
+    let mark : SFits w64 c.args.mark = c.ranges.mark in
     let most = cost_stated p c.requires.comes.0 c.args.self.now c.requires.program c.args.mark c.args.key c.args.time c.args.values.now c.requires.comes.1 chosen in
+    let mark : SFits w64 c.args.mark = c.ranges.mark in
     let time : SFits w64 c.args.time = c.ranges.time in
     let kept : (where_run p c.args.key c.args.values.now).steps ≡ c.keep-kept.result.steps = c.keep-kept.ensures.steps in
-    let steps : c.enter-steps.result.0 ≡ entering_cost p c.args.key c.args.time c.args.values.now (entries_of c.args.self.now.held) = simp to_z-of_z at c.enter-steps.ensures.steps in
+    let steps : c.enter-steps.result.0 ≡ entering_cost p c.args.mark c.args.key c.args.time c.args.values.now (entries_of c.args.self.now.held) = simp to_z-of_z at c.enter-steps.ensures.steps in
     omega (arith, most, kept, steps)
 
 pub fire_by_record-tally-requires-clause-tells : goal.fire_by_record-tally-requires-clause-tells
 fire_by_record-tally-requires-clause-tells c =
     let p = c.args.verified.now in let of = c.requires.program in
+    let mark : SFits w64 c.args.mark = c.ranges.mark in
     let time : SFits w64 c.args.time = c.ranges.time in
     let chosen : selects p c.args.key c.args.values.now ≡ true = keeps_is p c.args.key c.args.values.now c.keep-kept.result.keeps c.keep-kept.ensures.done c.keep-kept.ensures.keeps ∙ not-false _ c.if-not-kept.false in
     let s = c.args.self.now.streams in let t = c.enter-steps.new.self.streams in
@@ -55,9 +61,12 @@ returns c =
     let mark : SFits w64 c.args.mark = c.ranges.mark in
     let time : SFits w64 c.args.time = c.ranges.time in
     let chosen : selects p c.args.key c.args.values.now ≡ true = keeps_is p c.args.key c.args.values.now c.keep-kept.result.keeps c.keep-kept.ensures.done c.keep-kept.ensures.keeps ∙ not-false _ c.if-not-kept.false in
-    let d = datum 0 c.args.key c.args.time c.args.values.now in
+    let d = datum 0 c.args.mark c.args.key c.args.time c.args.values.now in let es = entries_of c.args.self.now.held in
+    let bare = datum 0 c.args.mark c.args.key c.args.time [] in
+    let put_in : Panes = entered (plan_of p) p.header.shape p.header.clock.lateness d es in
+    let there : entries_of c.enter-steps.new.self.held ≡ put_in = simp to_z-of_z at c.enter-steps.ensures.panes in
     let kept : (where_run p c.args.key c.args.values.now).steps ≡ c.keep-kept.result.steps = c.keep-kept.ensures.steps in
-    let steps : c.enter-steps.result.0 ≡ entering_cost p c.args.key c.args.time c.args.values.now (entries_of c.args.self.now.held) = simp to_z-of_z at c.enter-steps.ensures.steps in
+    let steps : c.enter-steps.result.0 ≡ entering_cost p c.args.mark c.args.key c.args.time c.args.values.now (entries_of c.args.self.now.held) = simp to_z-of_z at c.enter-steps.ensures.steps in
     let of = c.requires.program in
     let s = c.args.self.now.streams in let t = c.enter-steps.new.self.streams in let u = c.fire_by_record-tally.new.streams in let gs = entries_of c.fire_by_record-tally.new.held in
     let before = last_relation s (entries_of c.args.self.now.held) in
@@ -66,20 +75,23 @@ returns c =
     record {
       program =
           of_next p c.args.self.now _ of (record { keys = two.keys ∙ one.keys; shape = two.shape ∙ one.shape; live = two.live ∙ one.live; widths = two.widths ∙ one.widths })
-          (alike_on s t u c.enter-steps.ensures.alike c.fire_by_record-tally.ensures.tells.alike) (c.fire_by_record-tally.ensures.capacity ∙ ap vec_capacity c.enter-steps.ensures.rows)
+          (alike_on s t u c.enter-steps.ensures.alike c.fire_by_record-tally.ensures.tells.alike) (c.fire_by_record-tally.ensures.capacity ∙ c.enter-steps.ensures.capacity)
           (are_told (most_panes (query_of p)) u gs before told of.streams.few);
       panes =
           (simp to_z-of_z at c.fire_by_record-tally.ensures.panes)
-          ∙ ap (all_fired (plan_of p) (query_of p) (kind_by_record (query_of p) c.args.mark d)) (simp to_z-of_z at c.enter-steps.ensures.panes)
-          ∙ ap (λ (b : Bool). cond b (after_record (plan_of p) (query_of p) c.args.mark d (entries_of c.args.self.now.held)) (entries_of c.args.self.now.held)) (sym chosen);
+          ∙ ap (all_fired (plan_of p) (query_of p) (kind_by_record (query_of p) c.args.mark bare)) there
+          ∙ after_same p c.args.mark c.args.key c.args.time c.args.values.now es
+          ∙ ap (λ (b : Bool). cond b (after_record (plan_of p) (query_of p) c.args.mark d es) es) (sym chosen);
       relation = last_is u gs before told;
       rows =
-          (simp to_z-of_z at c.fire_by_record-tally.ensures.rows)
-          ∙ ap (λ (es : Panes). rows_of p (fires_by_record p c.args.mark c.args.key c.args.time es)) (simp to_z-of_z at c.enter-steps.ensures.panes)
-          ∙ ap (λ (b : Bool). rows_of p (cond b (fired_by_record (plan_of p) (query_of p) c.args.mark d (entries_of c.args.self.now.held)) [])) (sym chosen);
-      cost = λ i. sym kept i + (steps ∙ ap (λ (b : Bool). cond b (entering_cost p c.args.key c.args.time c.args.values.now (entries_of c.args.self.now.held)) 0) (sym chosen)) i;
+          (simp to_z-of_z at (c.fire_by_record-tally.ensures.rows (withdrawn_entering (plan_of p) p.header.shape d es) (simp to_z-of_z at c.enter-steps.ensures.rows)))
+          ∙ ap (λ (ps : Panes). turn_rows p (withdrawn_entering (plan_of p) p.header.shape d es ++ withdrawn_of_record p c.args.mark c.args.key c.args.time ps) (fires_by_record p c.args.mark c.args.key c.args.time ps)) there
+          ∙ (λ i. turn_rows p (withdrawn_same p c.args.mark c.args.key c.args.time c.args.values.now es i) (fires_same p c.args.mark c.args.key c.args.time c.args.values.now es i))
+          ∙ ap (λ (b : Bool). rows_with p (cond b (withdrawn_by_record (plan_of p) (query_of p) c.args.mark d es) []) (cond b (fired_by_record (plan_of p) (query_of p) c.args.mark d es) []) []) (sym chosen);
+      cost = λ i. sym kept i + (steps ∙ ap (λ (b : Bool). cond b (entering_cost p c.args.mark c.args.key c.args.time c.args.values.now es) 0) (sym chosen)) i;
       tally =
           (simp to_z-of_z at c.fire_by_record-tally.ensures.tally)
-          ∙ ap (λ (es : Panes). tally_of p (fires_by_record p c.args.mark c.args.key c.args.time es)) (simp to_z-of_z at c.enter-steps.ensures.panes)
-          ∙ ap (λ (b : Bool). tally_of p (cond b (fired_by_record (plan_of p) (query_of p) c.args.mark d (entries_of c.args.self.now.held)) [])) (sym chosen);
+          ∙ ap (λ (ps : Panes). tally_of p (fires_by_record p c.args.mark c.args.key c.args.time ps)) there
+          ∙ ap (tally_of p) (fires_same p c.args.mark c.args.key c.args.time c.args.values.now es)
+          ∙ ap (λ (b : Bool). tally_of p (cond b (fired_by_record (plan_of p) (query_of p) c.args.mark d es) [])) (sym chosen);
     }

@@ -19,7 +19,7 @@ pub invariant_of-self : goal.invariant_of-self
 invariant_of-self c =
     let m = c.self.inside.list.panes in
     let e = rw c.rebuilt.ensures at c.fire.ensures.panes in
-    let pane = once_fired c.args.mode (option_map (λ cells. cells.now) c.args.row) e.0 in
+    let pane = once_fired c.args.mode c.args.spot.place (option_map (λ cells. cells.now) c.args.row) e.0 in
     record {
       shape = c.self.invariant.shape;
       list = λ gap is. c.fire.ensures.room ∙ c.self.invariant.list gap is;
@@ -37,7 +37,7 @@ returns-in-Session-clause-panes c =
     let e = rw c.rebuilt.ensures at c.fire.ensures.panes in (
       e.0,
       rw (← c.self.view_is, c.in-Session.is) (sym (get-entries m c.args.spot.place) ∙ e.1),
-      rw (← c.self.view_is, c.in-Session.is) (ap map.entries e.2 ∙ entries-insert places_total m c.args.spot.place (once_fired c.args.mode (option_map (λ cells. cells.now) c.args.row) e.0)),
+      rw (← c.self.view_is, c.in-Session.is) (ap map.entries e.2 ∙ entries-insert places_total m c.args.spot.place (once_fired c.args.mode c.args.spot.place (option_map (λ cells. cells.now) c.args.row) e.0)),
     )
 
 pub fire-requires-in_default-clause-there : goal.fire-requires-in_default-clause-there
@@ -63,5 +63,5 @@ returns-in_default-clause-panes c =
     let new = in_ring a.shape a.list.panes c.fire-in_default.new.self.panes c.in_default.not-Session in (
       e.0,
       rw (← c.self.view_is, old) (sym (get-entries m c.args.spot.place) ∙ e.1),
-      rw (← c.self.view_is, old, new) (ap map.entries e.2 ∙ entries-insert places_total m c.args.spot.place (once_fired c.args.mode (option_map (λ cells. cells.now) c.args.row) e.0)),
+      rw (← c.self.view_is, old, new) (ap map.entries e.2 ∙ entries-insert places_total m c.args.spot.place (once_fired c.args.mode c.args.spot.place (option_map (λ cells. cells.now) c.args.row) e.0)),
     )

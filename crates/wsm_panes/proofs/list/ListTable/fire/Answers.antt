@@ -22,8 +22,8 @@ invariant_of-self c =
     let os = c.self.inside.slots.slots in
     let k = c.get.result in
     let own = own_entry _ _ stored c.number_of-at.result k c.get.ensures.here c.args.spot.place c.number_of-at.ensures.at in
-    let fires : Option (Place × Pane (List Value)) → Option (Place × Pane (List Value)) = option_map (λ e. (e.0, once_fired c.args.mode (option_map (λ cells. cells.now) c.args.row) e.1)) in
-    let v = once_fired c.args.mode (option_map (λ cells. cells.now) c.args.row) own.0 in
+    let fires : Option (Place × Pane (List Value)) → Option (Place × Pane (List Value)) = option_map (λ e. (e.0, once_fired c.args.mode e.0 (option_map (λ cells. cells.now) c.args.row) e.1)) in
+    let v = once_fired c.args.mode c.args.spot.place (option_map (λ cells. cells.now) c.args.row) own.0 in
     let new : c.fire.new.self.slots ≡ set os k (Some (c.args.spot.place, v)) = ap (λ s. s.slots) c.fire.ensures ∙ ap (λ o. set os k (fires o)) own.1.0 in
     record {
       stored = subst (λ ns. AreStored ns c.self.inside.row.row) (sym new) (set_stored _ _ stored c.number_of-at.result k c.get.ensures.here c.args.spot.place c.number_of-at.ensures.at v (slot_there _ _ stored c.number_of-at.result k c.get.ensures.here) c.get.ensures.once);
@@ -37,8 +37,8 @@ returns-clause-panes c =
     let row = c.self.inside.row.row in
     let k = c.get.result in
     let own = own_entry _ _ stored c.number_of-at.result k c.get.ensures.here c.args.spot.place c.number_of-at.ensures.at in
-    let fires : Option (Place × Pane (List Value)) → Option (Place × Pane (List Value)) = option_map (λ e. (e.0, once_fired c.args.mode (option_map (λ cells. cells.now) c.args.row) e.1)) in
-    let v = once_fired c.args.mode (option_map (λ cells. cells.now) c.args.row) own.0 in
+    let fires : Option (Place × Pane (List Value)) → Option (Place × Pane (List Value)) = option_map (λ e. (e.0, once_fired c.args.mode e.0 (option_map (λ cells. cells.now) c.args.row) e.1)) in
+    let v = once_fired c.args.mode c.args.spot.place (option_map (λ cells. cells.now) c.args.row) own.0 in
     let new : c.fire.new.self.slots ≡ set os k (Some (c.args.spot.place, v)) = ap (λ s. s.slots) c.fire.ensures ∙ ap (λ o. set os k (fires o)) own.1.0 in
     let shows = set_shows _ _ stored c.number_of-at.result k c.get.ensures.here c.args.spot.place c.number_of-at.ensures.at v (slot_there _ _ stored c.number_of-at.result k c.get.ensures.here) c.get.ensures.once in (
       own.0,

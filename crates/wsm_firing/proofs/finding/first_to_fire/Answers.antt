@@ -5,7 +5,7 @@ use Rattle.std.specs.FinMap as map
 use Rattle.wsm_panes.specs.Held.{entries_of}
 use Rattle.wsm_panes.specs.Walk.{first_past, place_due, place_found}
 use Rattle.wsm_firing.proofs.Jumps.{goes_past}
-use Rattle.wsm_firing.proofs.watermark.first_to_fire.Goals as goal
+use Rattle.wsm_firing.proofs.finding.first_to_fire.Goals as goal
 
 pub returns-in-None : goal.returns-in-None
 returns-in-None c =

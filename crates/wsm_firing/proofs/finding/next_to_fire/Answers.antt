@@ -12,7 +12,7 @@ use Rattle.wsm_panes.specs.Walk.{first_past, place_due, place_found}
 use Rattle.wsm_panes.proofs.Rings.{not_less_from}
 use Rattle.wsm_firing.proofs.Walk.{next_behind}
 use Rattle.wsm_firing.proofs.Jumps.{due_later, expires_before, goes_next, goes_past}
-use Rattle.wsm_firing.proofs.watermark.next_to_fire.Goals as goal
+use Rattle.wsm_firing.proofs.finding.next_to_fire.Goals as goal
 
 -- a place that is found by a limit is found by a later one
 still : (expired new : ℤ) (e : Option (Place × Pane (List Value))) (r : Option Spot) → expired ≤ℤ new → is_some r ≡ true → place_found r ≡ place_due expired e → place_found r ≡ place_due new e

@@ -1,0 +1,33 @@
+use Rattle.std.proofs.Common.{◌≡◌, ◌+◌, ◌≤◌, sym, ap, subst, ◌∙◌, vec_len, vec_capacity, length, SFits, w64, to_z-of_z, arith}
+use Rattle.wsm_record.specs.Modes.{retracts}
+use Rattle.wsm_program.specs.Program.{Program, Header}
+use Rattle.wsm_panes.specs.Held.{entries_of}
+use Rattle.wsm_firing.specs.Tally.{nothing}
+use Rattle.wsm_firing.specs.Firing.{CanAdd}
+use Rattle.wsm_firing.specs.ByRecord.{fires_by_record}
+use Rattle.wsm_firing.proofs.TurnRows.{can_write, can_withdraw, can_write_behind}
+use Rattle.wsm_firing.proofs.retracting.retract_by_record.Goals as goal
+use Rattle.wsm_firing.proofs.retracting.retract_by_record.Goals.{After-retracts}
+
+mode_is : (c : After-retracts) → c.retracts.result ≡ retracts c.args.verified.now.header.mode
+mode_is c = c.retracts.ensures ∙ ap (λ (h : Header). retracts h.mode) (c.header.ensures.header ∙ ap (λ (p : Program). p.header) c.program.ensures.program)
+
+pub retract_entered-requires-clause-room : goal.retract_entered-requires-clause-room
+retract_entered-requires-clause-room c =
+    let mark : SFits w64 c.args.mark = c.ranges.mark in let time : SFits w64 c.args.time = c.ranges.time in
+    let fs = fires_by_record c.args.verified.now c.args.mark c.args.key c.args.time (entries_of c.args.held.now) in
+    let retract = sym (mode_is (goal.at.retract_entered-requires-clause-room c).After-retracts) ∙ c.if-retracts.true in
+    let room : vec_len c.args.rows.now + length fs ≤ vec_capacity c.args.rows.now = can_withdraw c.args.verified.now (vec_capacity c.args.rows.now) (vec_len c.args.rows.now) fs c.requires.can retract in
+    simp to_z-of_z room
+
+pub returns-then-retracts-clause-can : goal.returns-then-retracts-clause-can
+returns-then-retracts-clause-can c =
+    let mark : SFits w64 c.args.mark = c.ranges.mark in let time : SFits w64 c.args.time = c.ranges.time in
+    let p = c.args.verified.now in let fs = fires_by_record p c.args.mark c.args.key c.args.time (entries_of c.args.held.now) in
+    let retract = sym (mode_is (goal.at.returns-then-retracts-clause-can c).After-retracts) ∙ c.if-retracts.true in
+    let put = simp to_z-of_z at c.retract_entered.ensures.rows in
+    subst (λ n. CanAdd p n (vec_len c.retract_entered.new.rows) nothing fs) (sym c.retract_entered.ensures.capacity)
+    (can_write_behind p (vec_capacity c.args.rows.now) (vec_len c.args.rows.now) fs c.requires.can retract (vec_len c.retract_entered.new.rows) (omega (arith, put.few, c.retract_entered.new.rows.ok.0, c.args.rows.now.ok.0)))
+
+pub returns-else-retracts-clause-can : goal.returns-else-retracts-clause-can
+returns-else-retracts-clause-can c = can_write c.args.verified.now (vec_capacity c.args.rows.now) (vec_len c.args.rows.now) (fires_by_record c.args.verified.now c.args.mark c.args.key c.args.time (entries_of c.args.held.now)) c.requires.can
