@@ -1,29 +1,40 @@
 -- What was spelled is read again: instructions, sections and whole programs.
-use Rattle.std.proofs.Common.{lit<, leb, ◌≡◌, ℕ, zero, suc, ◌<◌, ◌≤◌, true, false, ltb, ◌&&◌, not, List, [], ◌∷◌, ◌++◌, length, ℤ, pos, Option, Some, None, is_some, Ok, refl, sym, ap, ◌∙◌, append_assoc, append-nil, arith}
-use Rattle.std.specs.Prelude.{◌==◌, slice_get}
+use Rattle.std.proofs.Common.{lit<, leb, ◌≡◌, ℕ, zero, suc, ◌<◌, ◌≤◌, Bool, true, false, ltb, ◌&&◌, not, List, [], ◌∷◌, ◌++◌, length, ℤ, pos, Option, Some, None, is_some, Ok, refl, sym, ap, ◌∙◌, append_assoc, append-nil, arith}
+use Rattle.std.specs.Prelude.{◌==◌, nat_eq, slice_get}
 use Rattle.std.specs.List.{list_all, flat_map}
 use Rattle.std.specs.Int.{w8, w16}
-use Rattle.std.proofs.lemmas.Bool.{true≢false, ltb-true, leb-true, le-leb, and_parts, and_from}
+use Rattle.std.proofs.lemmas.Bool.{true≢false, eqb-true, ltb-true, leb-true, le-leb, and_parts, and_from}
 use Rattle.wsm_admission.specs.declared.clock.Clock.{Clock}
+use Rattle.wsm_interval.specs.declared.Comparison.{Comparison}
+use Rattle.wsm_interval.specs.declared.Comparison.TheVariants.{Eq, Ne, Lt, Le, Gt, Ge}
+use Rattle.wsm_program.specs.declared.instr.FieldTest.{FieldTest}
+use Rattle.wsm_program.specs.Instructions.{comparison_number}
 use Rattle.wsm_program.specs.declared.instr.Instr.{Instr}
-use Rattle.wsm_program.specs.declared.instr.Instr.TheVariants.{PushInt, PushBool, PushEnum, Field, Key, Acc, Count, Operate, Jump, JumpIfFalse, Fold, Return}
-use Rattle.wsm_program.specs.Program.{Name, Header, Program, is_name_of, is_instr, is_section, is_header, is_program, latest_time, is_span, is_size}
-use Rattle.wsm_record.specs.Schema.{FieldType, Int, Truth, Enum, DeclaredField, Declared, is_name_list, are_names_after, is_field_after, are_fields_after, is_field_type, is_schema, is_within, names_of_type, names_of_field, enum_names}
-use Rattle.wsm_record.specs.Name.{is_name, is_among, is_between}
-use Rattle.wsm_bytecode.specs.declared.reading.settings.Settings.{Settings}
-use Rattle.wsm_bytecode.specs.Reading.{judged, number_at, signed_at, enum_number_at, push_int_at, push_bool_at, push_enum_at, index_at, target_at, plain_instr, instr_by, instr_at, code_at, several, after_magic, after_version, schema_at, clock_at, shape_at, mode_at, triggers_at, form_at, settings_at, kinds_at, columns_at, budget_at, body_at, header_at, program_at, decode}
+use Rattle.wsm_program.specs.declared.instr.Instr.TheVariants.{PushInt, PushBool, PushEnum, Field, Key, Acc, Count, Operate, Jump, JumpIfFalse, Test, Fold, Return}
 use Rattle.wsm_program.specs.declared.operation.Operation.{Operation}
 use Rattle.wsm_program.specs.declared.operation.Operation.TheVariants.{Add}
 use Rattle.wsm_program.specs.Operations as operation
 use Rattle.wsm_program.specs.Operations.{of_code}
-use Rattle.wsm_bytecode.specs.Spelling.{byte, number, signed, instr, code, magic, header, schema, shape, mode, form, kinds, columns, budget, spelling}
+use Rattle.wsm_program.specs.Program.{Name, Header, Program, is_name_of, is_number_field, is_late_by, is_test, is_instr, is_section, is_header, is_program, latest_time, is_span, is_size}
+use Rattle.wsm_record.specs.Schema.{FieldType, Int, Truth, Enum, DeclaredField, Declared, source_count, is_name_list, are_names_after, is_field_after, are_fields_after, is_field_type, is_within, names_of_type, names_of_field, enum_names, is_schema, is_i64}
+use Rattle.wsm_record.specs.Name.{is_name, is_among, is_between}
+use Rattle.wsm_bytecode.specs.declared.version.Version.{Version}
+use Rattle.wsm_bytecode.specs.declared.version.Version.TheVariants.{One, Two}
+use Rattle.wsm_bytecode.specs.declared.reading.settings.Times.{Times}
+use Rattle.wsm_bytecode.specs.Parts.{Settings, settings_in, byte, number, signed, instr, code, magic, names, fields, times, kinds, columns, budget}
+use Rattle.wsm_bytecode.specs.Steps.{judged, number_at, signed_at, several, names_at, fields_at, times_at, kinds_at, enum_number_at, columns_at, budget_at}
+use Rattle.wsm_bytecode.specs.Spelling.{version_number, settings, header, spelling_in, has, spells, spelling}
+use Rattle.wsm_bytecode.specs.Reading.{comparison_by, push_int_at, push_bool_at, push_enum_at, index_at, target_at, comparison_at, number_field_at, field_test_at, test_at, plain_instr, instr_by, instr_at, code_at, after_magic, version_by, version_at, settings_at, header_at, parts_at, program_at, decode}
 use Rattle.wsm_program.proofs.Lawful.{HeaderParts, few_fields, header_parts}
 use Rattle.wsm_bytecode.proofs.Numbers.{bytes_again, byte_again, short_again, signed_again, judged_again}
-use Rattle.wsm_bytecode.proofs.Parts.{tag_again, below, several_again, enum_number_again, enum_is_small, start_again, span_again, size_again, schema_again, shape_again, mode_again, form_again, kinds_again, columns_again, budget_again}
+use Rattle.wsm_bytecode.proofs.Parts.{tag_again, below, several_again, enum_number_again, enum_is_small, start_again, span_again, size_again, names_again, fields_again, kinds_again, columns_again, budget_again}
+use Rattle.wsm_bytecode.proofs.Settings.{are_settings, are_settings_from, schema_parts}
+use Rattle.wsm_bytecode.proofs.Version1 as first
+use Rattle.wsm_bytecode.proofs.Version2 as second
 
-instr_step : (h : Header) (c : ℕ) (mid : List ℕ) (i : Instr) (rest : List ℕ) → c < 256 → instr_by h c mid ≡ Ok (i, rest) → instr_at h (byte c ++ mid) ≡ Ok (i, rest)
+instr_step : (v : Version) (h : Header) (c : ℕ) (mid : List ℕ) (i : Instr) (rest : List ℕ) → c < 256 → instr_by v h c mid ≡ Ok (i, rest) → instr_at v h (byte c ++ mid) ≡ Ok (i, rest)
 unfolding instr_at
-instr_step h c mid i rest lt e = rw (byte_again c mid lt, e) refl
+instr_step v h c mid i rest lt e = rw (byte_again c mid lt, e) refl
 
 push_int_step : (bytes : List ℕ) (n : ℤ) (rest : List ℕ) → signed_at bytes ≡ Ok (n, rest) → push_int_at bytes ≡ Ok (PushInt n, rest)
 unfolding push_int_at
@@ -47,6 +58,39 @@ target_again : (made : ℕ → Instr) (t : ℕ) (rest : List ℕ) → ltb t 6553
 unfolding target_at
 target_again made t rest h = rw (short_again t rest (ltb-true t 65536 h)) refl
 
+regroup_5 : (a b c d e rest : List ℕ) → (a ++ (b ++ (c ++ (d ++ e)))) ++ rest ≡ a ++ (b ++ (c ++ (d ++ (e ++ rest))))
+regroup_5 a b c d e rest = simp append_assoc refl
+
+comparison_step : (bytes : List ℕ) (n : ℕ) (rest : List ℕ) → judged (is_between 0 5) (number_at w8 bytes) ≡ Ok (n, rest) → comparison_at bytes ≡ Ok (comparison_by n, rest)
+unfolding comparison_at
+comparison_step bytes n rest e = rw e refl
+
+comparison_again : (o : Comparison) (rest : List ℕ) → comparison_at (byte (comparison_number o) ++ rest) ≡ Ok (o, rest)
+comparison_again Eq rest = comparison_step (byte 0 ++ rest) 0 rest (tag_again 0 5 0 rest (lit< tt) refl)
+comparison_again Ne rest = comparison_step (byte 1 ++ rest) 1 rest (tag_again 0 5 1 rest (lit< tt) refl)
+comparison_again Lt rest = comparison_step (byte 2 ++ rest) 2 rest (tag_again 0 5 2 rest (lit< tt) refl)
+comparison_again Le rest = comparison_step (byte 3 ++ rest) 3 rest (tag_again 0 5 3 rest (lit< tt) refl)
+comparison_again Gt rest = comparison_step (byte 4 ++ rest) 4 rest (tag_again 0 5 4 rest (lit< tt) refl)
+comparison_again Ge rest = comparison_step (byte 5 ++ rest) 5 rest (tag_again 0 5 5 rest (lit< tt) refl)
+
+number_within : (fs : List DeclaredField) (f : ℕ) → is_number_field (slice_get fs f) ≡ true → f < length fs
+number_within [] f e = absurd (true≢false (sym e))
+number_within (g ∷ fs) zero e = omega arith
+number_within (g ∷ fs) (suc f) e = omega (arith, number_within fs f e)
+
+number_field_again : (fs : List DeclaredField) (f : ℕ) (rest : List ℕ) → length fs < 256 → is_number_field (slice_get fs f) ≡ true → number_field_at fs (byte f ++ rest) ≡ Ok (f, rest)
+unfolding number_field_at
+number_field_again fs f rest few h = judged_again (λ n. is_number_field (slice_get fs n)) (number_at w8 (byte f ++ rest)) f rest (byte_again f rest (omega (arith, number_within fs f h))) h
+
+field_test_step : (fs : List DeclaredField) (x : FieldTest) (bytes r1 r2 rest : List ℕ) → number_field_at fs bytes ≡ Ok (x.field, r1) → comparison_at r1 ≡ Ok (x.comparison, r2) → signed_at r2 ≡ Ok (x.number, rest)
+    → field_test_at fs bytes ≡ Ok (x, rest)
+unfolding field_test_at
+field_test_step fs x bytes r1 r2 rest e f g = rw (e, f, g) refl
+
+test_step : (fs : List DeclaredField) (x : FieldTest) (t : ℕ) (bytes mid rest : List ℕ) → field_test_at fs bytes ≡ Ok (x, mid) → number_at w16 mid ≡ Ok (t, rest) → test_at fs bytes ≡ Ok (Test x t, rest)
+unfolding test_at
+test_step fs x t bytes mid rest e f = rw (e, f) refl
+
 names_there : (o : Option (List Name)) (i : ℕ) → is_name_of o i ≡ true → is_some o ≡ true
 names_there None i e = absurd (true≢false (sym e))
 names_there (Some ns) i e = refl
@@ -62,59 +106,82 @@ pub record FewParts (h : Header) : Type 0 where
   pub kinds : leb (length h.kinds) 16 ≡ true
   pub names : (e i : ℕ) → is_name_of (enum_names h.schema e) i ≡ true → i < 65536
 
-plain : (h : Header) (c : ℕ) (i : Instr) (rest : List ℕ) → c < 256 → instr_by h c rest ≡ Ok (i, rest) → instr_at h (byte c ++ rest) ≡ Ok (i, rest)
-plain h c i rest lt e = instr_step h c rest i rest lt e
+test_again : (h : Header) → FewParts h → (x : FieldTest) (t : ℕ) (rest : List ℕ) → is_test h x ≡ true → ltb t 65536 ≡ true
+    → test_at h.schema.fields (byte x.field ++ (byte (comparison_number x.comparison) ++ (signed x.number ++ (number t ++ rest)))) ≡ Ok (Test x t, rest)
+test_again h few x t rest good target =
+    let a = and_parts (is_number_field (slice_get h.schema.fields x.field)) (is_i64 x.number) good in
+    let r3 = number t ++ rest in
+    let r2 = signed x.number ++ r3 in
+    let r1 = byte (comparison_number x.comparison) ++ r2 in
+    test_step h.schema.fields x t (byte x.field ++ r1) r3 rest
+    (field_test_step h.schema.fields x (byte x.field ++ r1) r1 r2 r3 (number_field_again h.schema.fields x.field r1 (few_below _ few.fields) a.0) (comparison_again x.comparison r2) (signed_again x.number r3 a.1))
+    (short_again t rest (ltb-true t 65536 target))
+
+plain : (v : Version) (h : Header) (c : ℕ) (i : Instr) (rest : List ℕ) → c < 256 → instr_by v h c rest ≡ Ok (i, rest) → instr_at v h (byte c ++ rest) ≡ Ok (i, rest)
+plain v h c i rest lt e = instr_step v h c rest i rest lt e
 
 operation_small : (o : Operation) → operation.code o < 256
 operation_small Add = lit< tt
 operation_small o = lit< tt
 
-operation_again : (h : Header) (o : Operation) (rest : List ℕ) → instr_by h (operation.code o) rest ≡ Ok (Operate o, rest)
+operation_again : (v : Version) (h : Header) (o : Operation) (rest : List ℕ) → instr_by v h (operation.code o) rest ≡ Ok (Operate o, rest)
 unfolding instr_by plain_instr of_code
-operation_again h Add rest = refl
-operation_again h o rest = refl
+operation_again v h Add rest = refl
+operation_again v h o rest = refl
 
-pub instr_again : (h : Header) → FewParts h → (i : Instr) (rest : List ℕ) → is_instr h i ≡ true → instr_at h (instr i ++ rest) ≡ Ok (i, rest)
+pub instr_again : (v : Version) (h : Header) → FewParts h → (i : Instr) (rest : List ℕ) → is_instr h i ≡ true → has v i ≡ true → instr_at v h (instr i ++ rest) ≡ Ok (i, rest)
 unfolding instr_by plain_instr instr
-instr_again h few (PushInt n) rest good = instr_step h 1 (signed n ++ rest) (PushInt n) rest (lit< tt) (push_int_step (signed n ++ rest) n rest (signed_again n rest good))
-instr_again h few (PushBool false) rest good = instr_step h 2 (byte 0 ++ rest) (PushBool false) rest (lit< tt) (push_bool_step (byte 0 ++ rest) 0 rest (tag_again 0 1 0 rest (lit< tt) refl))
-instr_again h few (PushBool true) rest good = instr_step h 2 (byte 1 ++ rest) (PushBool true) rest (lit< tt) (push_bool_step (byte 1 ++ rest) 1 rest (tag_again 0 1 1 rest (lit< tt) refl))
-instr_again h few (PushEnum e i) rest good =
+instr_again v h few (PushInt n) rest good known = instr_step v h 1 (signed n ++ rest) (PushInt n) rest (lit< tt) (push_int_step (signed n ++ rest) n rest (signed_again n rest good))
+instr_again v h few (PushBool false) rest good known = instr_step v h 2 (byte 0 ++ rest) (PushBool false) rest (lit< tt) (push_bool_step (byte 0 ++ rest) 0 rest (tag_again 0 1 0 rest (lit< tt) refl))
+instr_again v h few (PushBool true) rest good known = instr_step v h 2 (byte 1 ++ rest) (PushBool true) rest (lit< tt) (push_bool_step (byte 1 ++ rest) 1 rest (tag_again 0 1 1 rest (lit< tt) refl))
+instr_again v h few (PushEnum e i) rest good known =
     let there = names_there (enum_names h.schema e) i good in
     let mid = number i ++ rest in
-    instr_step h 3 (byte e ++ mid) (PushEnum e i) rest (lit< tt)
+    instr_step v h 3 (byte e ++ mid) (PushEnum e i) rest (lit< tt)
     (push_enum_step h.schema (byte e ++ mid) e i mid rest (enum_number_again h.schema e mid (enum_is_small h.schema e few.fields there) there)
     (judged_again (is_name_of (enum_names h.schema e)) (number_at w16 mid) i rest (short_again i rest (few.names e i good)) good))
-instr_again h few (Field f) rest good = instr_step h 4 (byte f ++ rest) (Field f) rest (lit< tt) (index_again (length h.schema.fields) Field f rest (few_below _ few.fields) good)
-instr_again h few Key rest good = plain h 5 Key rest (lit< tt) refl
-instr_again h few (Acc a) rest good = instr_step h 6 (byte a ++ rest) (Acc a) rest (lit< tt) (index_again (length h.kinds) Acc a rest (few_below _ few.kinds) good)
-instr_again h few Count rest good = plain h 7 Count rest (lit< tt) refl
-instr_again h few (Operate o) rest good = plain h (operation.code o) (Operate o) rest (operation_small o) (operation_again h o rest)
-instr_again h few (Jump t) rest good = instr_step h 48 (number t ++ rest) (Jump t) rest (lit< tt) (target_again Jump t rest good)
-instr_again h few (JumpIfFalse t) rest good = instr_step h 49 (number t ++ rest) (JumpIfFalse t) rest (lit< tt) (target_again JumpIfFalse t rest good)
-instr_again h few (Fold a) rest good = instr_step h 64 (byte a ++ rest) (Fold a) rest (lit< tt) (index_again (length h.kinds) Fold a rest (few_below _ few.kinds) good)
-instr_again h few Return rest good = plain h 80 Return rest (lit< tt) refl
+instr_again v h few (Field f) rest good known = instr_step v h 4 (byte f ++ rest) (Field f) rest (lit< tt) (index_again (length h.schema.fields) Field f rest (few_below _ few.fields) good)
+instr_again v h few Key rest good known = plain v h 5 Key rest (lit< tt) refl
+instr_again v h few (Acc a) rest good known = instr_step v h 6 (byte a ++ rest) (Acc a) rest (lit< tt) (index_again (length h.kinds) Acc a rest (few_below _ few.kinds) good)
+instr_again v h few Count rest good known = plain v h 7 Count rest (lit< tt) refl
+instr_again v h few (Operate o) rest good known = plain v h (operation.code o) (Operate o) rest (operation_small o) (operation_again v h o rest)
+instr_again v h few (Jump t) rest good known = instr_step v h 48 (number t ++ rest) (Jump t) rest (lit< tt) (target_again Jump t rest good)
+instr_again v h few (JumpIfFalse t) rest good known = instr_step v h 49 (number t ++ rest) (JumpIfFalse t) rest (lit< tt) (target_again JumpIfFalse t rest good)
+instr_again One h few (Test x t) rest good known = absurd (true≢false (sym known))
+instr_again Two h few (Test x t) rest good known =
+    let parts = and_parts (is_test h x) (ltb t 65536) good in
+    ap (instr_at Two h) (regroup_5 (byte 50) (byte x.field) (byte (comparison_number x.comparison)) (signed x.number) (number t) rest)
+    ∙ instr_step Two h 50 _ (Test x t) rest (lit< tt) (test_again h few x t rest parts.0 parts.1)
+instr_again v h few (Fold a) rest good known = instr_step v h 64 (byte a ++ rest) (Fold a) rest (lit< tt) (index_again (length h.kinds) Fold a rest (few_below _ few.kinds) good)
+instr_again v h few Return rest good known = plain v h 80 Return rest (lit< tt) refl
 
-code_step : (h : Header) (bytes : List ℕ) (n : ℕ) (mid : List ℕ) (is : List Instr) (rest : List ℕ) → judged (is_between 0 1000) (number_at w16 bytes) ≡ Ok (n, mid) → several (instr_at h) n mid ≡ Ok (is, rest) → code_at h bytes ≡ Ok (is, rest)
+-- an instruction of a program that the version has
+abbrev pub is_of : Version → Header → Instr → Bool
+is_of v h i = is_instr h i && has v i
+
+pub all_of : (v : Version) (h : Header) (is : List Instr) → list_all (is_instr h) is ≡ true → list_all (has v) is ≡ true → list_all (is_of v h) is ≡ true
+all_of v h [] good known = refl
+all_of v h (i ∷ is) good known =
+    let a = and_parts (is_instr h i) (list_all (is_instr h) is) good in
+    let b = and_parts (has v i) (list_all (has v) is) known in
+    and_from _ _ (and_from _ _ a.0 b.0) (all_of v h is a.1 b.1)
+
+code_step : (v : Version) (h : Header) (bytes : List ℕ) (n : ℕ) (mid : List ℕ) (is : List Instr) (rest : List ℕ) → judged (is_between 0 1000) (number_at w16 bytes) ≡ Ok (n, mid) → several (instr_at v h) n mid ≡ Ok (is, rest) → code_at v h bytes ≡ Ok (is, rest)
 unfolding code_at
-code_step h bytes n mid is rest e f = rw (e, f) refl
+code_step v h bytes n mid is rest e f = rw (e, f) refl
 
-pub code_again : (h : Header) → FewParts h → (is : List Instr) (rest : List ℕ) → is_section h is ≡ true → code_at h (code is ++ rest) ≡ Ok (is, rest)
+pub code_again : (v : Version) (h : Header) → FewParts h → (is : List Instr) (rest : List ℕ) → is_section h is ≡ true → list_all (has v) is ≡ true → code_at v h (code is ++ rest) ≡ Ok (is, rest)
 unfolding is_section code
-code_again h few is rest good =
+code_again v h few is rest good known =
     let a = and_parts (leb (length is) 1000) (list_all (is_instr h) is) good in
     let short : is_between 0 1000 (length is) ≡ true = and_from (leb 0 (length is)) (leb (length is) 1000) (le-leb _ _ (omega arith)) a.0 in
     let mid = flat_map instr is ++ rest in
-    code_step h (number (length is) ++ mid) (length is) mid is rest
+    let one : (i : Instr) (r : List ℕ) → is_of v h i ≡ true → instr_at v h (instr i ++ r) ≡ Ok (i, r) = λ i r g. (let p = and_parts (is_instr h i) (has v i) g in instr_again v h few i r p.0 p.1) in
+    code_step v h (number (length is) ++ mid) (length is) mid is rest
     (judged_again (is_between 0 1000) (number_at w16 (number (length is) ++ mid)) (length is) mid (short_again (length is) mid (below (length is) 0 1000 65536 (lit< tt) short)) short)
-    (several_again (instr_at h) instr (is_instr h) (instr_again h few) is rest a.1)
+    (several_again (instr_at v h) instr (is_of v h) one is rest (all_of v h is a.1 known))
 
 -- ---- the header
-
-regroup_15 : (a0 a1 a2 a3 a4 a5 a6 a7 a8 a9 a10 a11 a12 a13 a14 rest : List ℕ)
-    → a0 ++ a1 ++ a2 ++ a3 ++ a4 ++ a5 ++ a6 ++ a7 ++ a8 ++ a9 ++ a10 ++ a11 ++ a12 ++ a13 ++ a14 ++ rest
-    ≡ a0 ++ (a1 ++ (a2 ++ (a3 ++ (a4 ++ (a5 ++ (a6 ++ (a7 ++ (a8 ++ (a9 ++ (a10 ++ (a11 ++ (a12 ++ (a13 ++ (a14 ++ rest))))))))))))))
-regroup_15 a0 a1 a2 a3 a4 a5 a6 a7 a8 a9 a10 a11 a12 a13 a14 rest = simp append_assoc refl
 
 pub regroup_4 : (a b c d rest : List ℕ) → a ++ b ++ c ++ d ++ rest ≡ a ++ (b ++ (c ++ (d ++ rest)))
 regroup_4 a b c d rest = simp append_assoc refl
@@ -143,106 +210,139 @@ fields_below before (g ∷ fs) zero i h e = type_below g.type i (later_fields be
 fields_below before (g ∷ fs) (suc f) i h e = fields_below (before ++ g.name ∷ []) fs f i (later_fields before g fs h).1 e
 
 names_below : (s : Declared) (e i : ℕ) → is_schema s ≡ true → is_name_of (enum_names s e) i ≡ true → i < 65536
-unfolding is_schema
-names_below s zero i h good = list_below None s.keys i (and_parts (is_name_list s.keys) (leb (length s.fields) 16 && are_fields_after [] s.fields) h).0 good
-names_below s (suc f) i h good =
-    let a = and_parts (is_name_list s.keys) (leb (length s.fields) 16 && are_fields_after [] s.fields) h in
-    fields_below [] s.fields f i (and_parts (leb (length s.fields) 16) (are_fields_after [] s.fields) a.1).1 good
+names_below s zero i h good = list_below None s.keys i (schema_parts s h).keys good
+names_below s (suc f) i h good = fields_below [] s.fields f i (schema_parts s h).fields good
 
 magic_again : (rest : List ℕ) → after_magic (magic ++ rest) ≡ Ok rest
 unfolding after_magic
 magic_again rest = rw (bytes_again 4 magic rest refl) refl
 
-version_again : (rest : List ℕ) → after_version (byte 1 ++ rest) ≡ Ok rest
-unfolding after_version
-version_again rest = rw (byte_again 1 rest (lit< tt)) refl
+-- the version, behind the magic bytes
+version_step : (v : Version) (n : ℕ) (bytes mid rest : List ℕ) → after_magic bytes ≡ Ok mid → number_at w8 mid ≡ Ok (n, rest) → version_by n ≡ Ok v → version_at bytes ≡ Ok (v, rest)
+unfolding version_at
+version_step v n bytes mid rest e f g = rw (e, f, g) refl
+
+pub version_again : (v : Version) (rest : List ℕ) → version_at (magic ++ (byte (version_number v) ++ rest)) ≡ Ok (v, rest)
+version_again One rest = version_step One 1 (magic ++ (byte 1 ++ rest)) (byte 1 ++ rest) rest (magic_again (byte 1 ++ rest)) (byte_again 1 rest (lit< tt)) refl
+version_again Two rest = version_step Two 2 (magic ++ (byte 2 ++ rest)) (byte 2 ++ rest) rest (magic_again (byte 2 ++ rest)) (byte_again 2 rest (lit< tt)) refl
 
 few_parts : (h : Header) → HeaderParts h → FewParts h
 few_parts h p = record { fields = few_fields h.schema p.schema; kinds = p.kinds; names = λ e i. names_below h.schema e i p.schema }
 
-clock_step : (c : Clock) (bytes r1 r2 r3 rest : List ℕ)
-    → judged (is_within (pos 0) latest_time) (signed_at bytes) ≡ Ok (c.start, r1) → judged is_span (signed_at r1) ≡ Ok (c.skew, r2)
-    → judged is_span (signed_at r2) ≡ Ok (c.lateness, r3) → judged is_size (signed_at r3) ≡ Ok (c.records, rest)
-    → clock_at bytes ≡ Ok (c, rest)
-unfolding clock_at
-clock_step c bytes r1 r2 r3 rest e1 e2 e3 e4 = rw (e1, e2, e3, e4) refl
+times_step : (t : Times) (bytes r1 r2 r3 rest : List ℕ)
+    → judged (is_within (pos 0) latest_time) (signed_at bytes) ≡ Ok (t.start, r1) → judged is_span (signed_at r1) ≡ Ok (t.skew, r2)
+    → judged is_span (signed_at r2) ≡ Ok (t.lateness, r3) → judged is_size (signed_at r3) ≡ Ok (t.records, rest)
+    → times_at bytes ≡ Ok (t, rest)
+unfolding times_at
+times_step t bytes r1 r2 r3 rest e1 e2 e3 e4 = rw (e1, e2, e3, e4) refl
 
-triggers_step : (early late : ℤ) (bytes mid rest : List ℕ) → judged is_span (signed_at bytes) ≡ Ok (early, mid) → judged is_span (signed_at mid) ≡ Ok (late, rest)
-    → triggers_at bytes ≡ Ok ((early, late), rest)
-unfolding triggers_at
-triggers_step early late bytes mid rest e f = rw (e, f) refl
+abbrev pub times_in : Clock → Times
+times_in c = record { start = c.start; skew = c.skew; lateness = c.lateness; records = c.records }
 
-body_step : (bytes mid rest : List ℕ) → after_magic bytes ≡ Ok mid → after_version mid ≡ Ok rest → body_at bytes ≡ Ok rest
-unfolding body_at
-body_step bytes mid rest e f = rw (e, f) refl
+times_again : (h : Header) (rest : List ℕ) → HeaderParts h → times_at (times h.clock ++ rest) ≡ Ok (times_in h.clock, rest)
+times_again h rest p =
+    let r3 = signed h.clock.records ++ rest in
+    let r2 = signed h.clock.lateness ++ r3 in
+    let r1 = signed h.clock.skew ++ r2 in
+    ap times_at (regroup_4 (signed h.clock.start) (signed h.clock.skew) (signed h.clock.lateness) (signed h.clock.records) rest)
+    ∙ times_step (times_in h.clock) (signed h.clock.start ++ r1) r1 r2 r3 rest (start_again h.clock.start r1 p.start) (span_again h.clock.skew r2 p.skew) (span_again h.clock.lateness r3 p.lateness) (size_again h.clock.records rest p.records)
 
-settings_step : (s : Settings) (bytes r1 r2 r3 r4 rest : List ℕ) → clock_at bytes ≡ Ok (s.clock, r1) → shape_at r1 ≡ Ok (s.shape, r2) → mode_at r2 ≡ Ok (s.mode, r3)
-    → triggers_at r3 ≡ Ok ((s.early, s.late), r4) → form_at s.mode r4 ≡ Ok (s.form, rest) → settings_at bytes ≡ Ok (s, rest)
-unfolding settings_at
-settings_step s bytes r1 r2 r3 r4 rest e1 e2 e3 e4 e5 = rw (e1, e2, e3, e4, e5) refl
+version_settings : (v : Version) (s : Settings) (rest : List ℕ) → are_settings s ≡ true → settings_at v (settings v s ++ rest) ≡ Ok (s, rest)
+version_settings One s rest h = first.settings_again s rest h
+version_settings Two s rest h = second.settings_again s rest h
 
-abbrev pub settings_in : Header → Settings
-settings_in h = record { clock = h.clock; shape = h.shape; mode = h.mode; early = h.early; late = h.late; form = h.form }
-
-header_step : (h : Header) (bytes r1 r2 r3 r4 r5 rest : List ℕ)
-    → body_at bytes ≡ Ok r1 → schema_at r1 ≡ Ok (h.schema, r2) → settings_at r2 ≡ Ok (settings_in h, r3)
-    → kinds_at r3 ≡ Ok (h.kinds, r4) → columns_at h.schema r4 ≡ Ok (h.columns, r5) → budget_at r5 ≡ Ok (h.budget, rest)
-    → header_at bytes ≡ Ok (h, rest)
+header_step : (v : Version) (h : Header) (bytes r1 r2 r3 r4 r5 r6 rest : List ℕ)
+    → names_at bytes ≡ Ok (h.schema.keys, r1) → fields_at r1 ≡ Ok (h.schema.fields, r2) → times_at r2 ≡ Ok (times_in h.clock, r3) → settings_at v r3 ≡ Ok (settings_in h, r4)
+    → kinds_at r4 ≡ Ok (h.kinds, r5) → columns_at h.schema r5 ≡ Ok (h.columns, r6) → budget_at r6 ≡ Ok (h.budget, rest) → source_count h.schema ≡ h.clock.sources
+    → header_at v bytes ≡ Ok (h, rest)
 unfolding header_at
-header_step h bytes r1 r2 r3 r4 r5 rest e1 e2 e3 e4 e5 e6 = rw (e1, e2, e3, e4, e5, e6) refl
+header_step v h bytes r1 r2 r3 r4 r5 r6 rest e1 e2 e3 e4 e5 e6 e7 sources =
+    let counted : (Header × List ℕ) = (record h { clock = record h.clock { sources = source_count h.schema } }, rest) in
+    let whole : counted ≡ (h, rest) = ap (λ n. (record h { clock = record h.clock { sources = n } }, rest)) sources in
+    rw (e1, e2, e3, e4, e5, e6, e7) (ap (λ (x : Header × List ℕ). Ok x) whole)
 
-pub header_again : (h : Header) (rest : List ℕ) → HeaderParts h → header_at (header h ++ rest) ≡ Ok (h, rest)
+regroup_7 : (a b c d e f g rest : List ℕ) → a ++ b ++ c ++ d ++ e ++ f ++ g ++ rest ≡ a ++ (b ++ (c ++ (d ++ (e ++ (f ++ (g ++ rest))))))
+regroup_7 a b c d e f g rest = simp append_assoc refl
+
+-- the settings of a lawful header
+settings_of_header : (h : Header) → HeaderParts h → are_settings (settings_in h) ≡ true
+settings_of_header h p =
+    let s = and_parts (is_late_by h.shape h.clock.late) (nat_eq h.clock.sources (source_count h.schema)) p.sourced in
+    are_settings_from (settings_in h) (record { late_by = s.0; sources = (schema_parts h.schema p.schema).sources; shape = p.shape; early = p.early; late = p.late; form = p.form })
+
+pub header_again : (v : Version) (h : Header) (rest : List ℕ) → HeaderParts h → header_at v (header v h ++ rest) ≡ Ok (h, rest)
 unfolding header
-header_again h rest p =
-    let r14 = budget h.budget ++ rest in
-    let r13 = columns h.columns ++ r14 in
-    let r12 = kinds h.kinds ++ r13 in
-    let r11 = form h.form ++ r12 in
-    let r10 = signed h.late ++ r11 in
-    let r9 = signed h.early ++ r10 in
-    let r8 = mode h.mode ++ r9 in
-    let r7 = shape h.shape ++ r8 in
-    let r6 = signed h.clock.records ++ r7 in
-    let r5 = signed h.clock.lateness ++ r6 in
-    let r4 = signed h.clock.skew ++ r5 in
-    let r3 = signed h.clock.start ++ r4 in
-    let r2 = schema h.schema ++ r3 in
-    let r1 = byte 1 ++ r2 in
-    ap header_at (regroup_15 magic (byte 1) (schema h.schema) (signed h.clock.start) (signed h.clock.skew) (signed h.clock.lateness) (signed h.clock.records) (shape h.shape) (mode h.mode) (signed h.early) (signed h.late) (form h.form) (kinds h.kinds) (columns h.columns) (budget h.budget) rest)
-    ∙ header_step h (magic ++ r1) r2 r3 r12 r13 r14 rest
-    (body_step (magic ++ r1) r1 r2 (magic_again r1) (version_again r2)) (schema_again h.schema r3 p.schema)
-    (settings_step (settings_in h) r3 r7 r8 r9 r11 r12
-    (clock_step h.clock r3 r4 r5 r6 r7 (start_again h.clock.start r4 p.start) (span_again h.clock.skew r5 p.skew) (span_again h.clock.lateness r6 p.lateness) (size_again h.clock.records r7 p.records))
-    (shape_again h.shape r8 p.shape) (mode_again h.mode r9)
-    (triggers_step h.early h.late r9 r10 r11 (span_again h.early r10 p.early) (span_again h.late r11 p.late)) (form_again h.mode h.form r12 p.form))
-    (kinds_again h.kinds r13 p.kinds) (columns_again h.schema h.columns r14 (few_fields h.schema p.schema) p.count p.columns) (budget_again h.budget rest p.budget)
+header_again v h rest p =
+    let d = schema_parts h.schema p.schema in
+    let s = and_parts (is_late_by h.shape h.clock.late) (nat_eq h.clock.sources (source_count h.schema)) p.sourced in
+    let r6 = budget h.budget ++ rest in
+    let r5 = columns h.columns ++ r6 in
+    let r4 = kinds h.kinds ++ r5 in
+    let r3 = settings v (settings_in h) ++ r4 in
+    let r2 = times h.clock ++ r3 in
+    let r1 = fields h.schema.fields ++ r2 in
+    ap (λ r. header_at v r) (regroup_7 (names h.schema.keys) (fields h.schema.fields) (times h.clock) (settings v (settings_in h)) (kinds h.kinds) (columns h.columns) (budget h.budget) rest)
+    ∙ header_step v h (names h.schema.keys ++ r1) r1 r2 r3 r4 r5 r6 rest
+    (names_again h.schema.keys r1 d.keys) (fields_again h.schema.fields r2 d.few d.fields) (times_again h r3 p) (version_settings v (settings_in h) r4 (settings_of_header h p))
+    (kinds_again h.kinds r5 p.kinds) (columns_again h.schema h.columns r6 d.few p.count p.columns) (budget_again h.budget rest p.budget) (sym (eqb-true _ _ s.1))
 
 -- ---- the program
 
-pub program_step : (p : Program) (bytes r1 r2 r3 rest : List ℕ) → header_at bytes ≡ Ok (p.header, r1) → code_at p.header r1 ≡ Ok (p.selection, r2) → code_at p.header r2 ≡ Ok (p.update, r3) → code_at p.header r3 ≡ Ok (p.fire, rest)
-    → program_at bytes ≡ Ok (p, rest)
-unfolding program_at
-program_step p bytes r1 r2 r3 rest e1 e2 e3 e4 = rw (e1, e2, e3, e4) refl
+pub parts_step : (v : Version) (p : Program) (bytes r1 r2 r3 rest : List ℕ) → header_at v bytes ≡ Ok (p.header, r1) → code_at v p.header r1 ≡ Ok (p.selection, r2) → code_at v p.header r2 ≡ Ok (p.update, r3) → code_at v p.header r3 ≡ Ok (p.fire, rest)
+    → parts_at v bytes ≡ Ok (p, rest)
+unfolding parts_at
+parts_step v p bytes r1 r2 r3 rest e1 e2 e3 e4 = rw (e1, e2, e3, e4) refl
 
--- the spelling of a program is read as that program, and what follows it is left
-pub program_again : (p : Program) (rest : List ℕ) → is_program p ≡ true → program_at (spelling p ++ rest) ≡ Ok (p, rest)
-unfolding is_header is_program spelling header
-program_again p rest good =
+-- what stands behind the version is read as the program, and what follows it is left
+parts_again : (v : Version) (p : Program) (rest : List ℕ) → is_program p ≡ true → spells v p ≡ true
+    → parts_at v (header v p.header ++ (code p.selection ++ (code p.update ++ (code p.fire ++ rest)))) ≡ Ok (p, rest)
+unfolding is_program spells
+parts_again v p rest good known =
     let a = and_parts (is_header p.header) (is_section p.header p.selection && (is_section p.header p.update && is_section p.header p.fire)) good in
     let b = and_parts (is_section p.header p.selection) (is_section p.header p.update && is_section p.header p.fire) a.1 in
     let c = and_parts (is_section p.header p.update) (is_section p.header p.fire) b.1 in
+    let k = and_parts (list_all (has v) p.selection) (list_all (has v) p.update && list_all (has v) p.fire) known in
+    let l = and_parts (list_all (has v) p.update) (list_all (has v) p.fire) k.1 in
     let parts = header_parts p.header a.0 in
     let few = few_parts p.header parts in
     let r3 = code p.fire ++ rest in
     let r2 = code p.update ++ r3 in
     let r1 = code p.selection ++ r2 in
-    ap program_at (regroup_4 (header p.header) (code p.selection) (code p.update) (code p.fire) rest)
-    ∙ program_step p (header p.header ++ r1) r1 r2 r3 rest (header_again p.header r1 parts) (code_again p.header few p.selection r2 b.0) (code_again p.header few p.update r3 c.0) (code_again p.header few p.fire rest c.1)
+    parts_step v p (header v p.header ++ r1) r1 r2 r3 rest (header_again v p.header r1 parts) (code_again v p.header few p.selection r2 b.0 k.0) (code_again v p.header few p.update r3 c.0 l.0) (code_again v p.header few p.fire rest c.1 l.1)
+
+program_step : (v : Version) (p : Program) (bytes mid rest : List ℕ) → version_at bytes ≡ Ok (v, mid) → parts_at v mid ≡ Ok (p, rest) → program_at bytes ≡ Ok (p, rest)
+unfolding program_at
+program_step v p bytes mid rest e f = rw (e, f) refl
+
+pub regroup_6 : (a b c d e f rest : List ℕ) → a ++ b ++ c ++ d ++ e ++ f ++ rest ≡ a ++ (b ++ (c ++ (d ++ (e ++ (f ++ rest)))))
+regroup_6 a b c d e f rest = simp append_assoc refl
+
+-- the spelling of a program in a version that has its instructions
+pub program_again : (v : Version) (p : Program) (rest : List ℕ) → is_program p ≡ true → spells v p ≡ true → program_at (spelling_in v p ++ rest) ≡ Ok (p, rest)
+unfolding spelling_in
+program_again v p rest good known =
+    let parts = header v p.header ++ (code p.selection ++ (code p.update ++ (code p.fire ++ rest))) in
+    ap program_at (regroup_6 magic (byte (version_number v)) (header v p.header) (code p.selection) (code p.update) (code p.fire) rest)
+    ∙ program_step v p (magic ++ (byte (version_number v) ++ parts)) parts rest (version_again v parts) (parts_again v p rest good known)
 
 decode_step : (p : Program) (bytes : List ℕ) → program_at bytes ≡ Ok (p, []) → decode bytes ≡ Ok p
 unfolding decode
 decode_step p bytes e = rw e refl
 
 -- what is spelled is read
-pub decode_again : (p : Program) → is_program p ≡ true → decode (spelling p) ≡ Ok p
-decode_again p good = decode_step p (spelling p) (ap program_at (sym (append-nil (spelling p))) ∙ program_again p [] good)
+pub decode_again : (v : Version) (p : Program) → is_program p ≡ true → spells v p ≡ true → decode (spelling_in v p) ≡ Ok p
+decode_again v p good known = decode_step p (spelling_in v p) (ap program_at (sym (append-nil (spelling_in v p))) ∙ program_again v p [] good known)
+
+all_known : (is : List Instr) → list_all (has Two) is ≡ true
+all_known [] = refl
+all_known (i ∷ is) = all_known is
+
+-- version 2 has each instruction
+pub spells_all : (p : Program) → spells Two p ≡ true
+unfolding spells
+spells_all p = and_from _ _ (all_known p.selection) (and_from _ _ (all_known p.update) (all_known p.fire))
+
+-- the bytes that are written are read as the program that they were written of
+pub decode_written : (p : Program) → is_program p ≡ true → decode (spelling p) ≡ Ok p
+unfolding spelling
+decode_written p good = decode_again Two p good (spells_all p)

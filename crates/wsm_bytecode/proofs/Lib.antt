@@ -1,8 +1,12 @@
 pub mod Numbers
 pub mod Parts
-pub mod Codec
 pub mod Taken
 pub mod TakenParts
+pub mod Lateness
+pub mod Settings
+pub mod Version1
+pub mod Version2
+pub mod Codec
 pub mod TakenProgram
 pub mod Loop
 pub mod Reader

@@ -8,7 +8,8 @@ use Rattle.wsm_record.specs.Schema.{DeclaredField}
 use Rattle.wsm_program.specs.declared.refusal.DecodeRefusal.{DecodeRefusal}
 use Rattle.wsm_program.specs.declared.refusal.DecodeRefusal.TheVariants.{Memory, Operand}
 use Rattle.wsm_program.specs.Program.{Name}
-use Rattle.wsm_bytecode.specs.Reading.{Read, ◌>>=◌, Fails, several, name_at, field_type_at, new_name_at, names_after, new_field_at, fields_after}
+use Rattle.wsm_bytecode.specs.Steps.{Read, ◌>>=◌, several, name_at, field_type_at, new_name_at, names_after, new_field_at, fields_after}
+use Rattle.wsm_bytecode.specs.Reading.{Fails}
 
 -- what was read before, and what is still read
 abbrev pub with_front : {A : Type 0} → List A → Read (List A) → Read (List A)

@@ -9,8 +9,8 @@ use Rattle.wsm_program.specs.Program.{Name}
 use Rattle.wsm_record.specs.Schema.{is_i64}
 use Rattle.wsm_record.specs.declared.limits.TheConstants.{MAX_NAME}
 use Rattle.wsm_record.specs.Name.{is_name, is_word, is_reserved, is_between}
-use Rattle.wsm_bytecode.specs.Spelling.{byte, number, long, signed, name}
-use Rattle.wsm_bytecode.specs.Reading.{Read, bytes_at, number_at, signed_at, judged, name_at}
+use Rattle.wsm_bytecode.specs.Parts.{byte, number, long, signed, name}
+use Rattle.wsm_bytecode.specs.Steps.{Read, bytes_at, number_at, signed_at, judged, name_at}
 
 pub bytes_again : (k : ℕ) (front rest : List ℕ) → length front ≡ k → bytes_at k (front ++ rest) ≡ Ok (front, rest)
 bytes_again k front rest len =

@@ -11,20 +11,19 @@ use Rattle.wsm_record.specs.declared.Kind.TheVariants.{Sum, Min, Max, Any, All}
 use Rattle.wsm_windows.specs.declared.Shape.{Shape}
 use Rattle.wsm_windows.specs.declared.Shape.TheVariants.{Fixed, Sliding, Session}
 use Rattle.wsm_record.specs.declared.Mode.{Mode}
-use Rattle.wsm_record.specs.declared.Mode.TheVariants.{Discarding, Accumulating}
+use Rattle.wsm_record.specs.declared.Mode.TheVariants.{Discarding, Accumulating, Retracting}
 use Rattle.wsm_record.specs.declared.Form.{Form}
 use Rattle.wsm_record.specs.declared.Form.TheVariants.{Panes, Istream, Dstream, Rstream}
-use Rattle.wsm_program.specs.Program.{Name, is_span, is_size, is_shape, is_form_of, is_column, is_stated, is_budget, latest_time, longest_span}
-use Rattle.wsm_record.specs.Schema.{FieldType, Int, Truth, Enum, DeclaredField, Declared, is_i64, is_within, are_names_after, is_name_list, is_field_type, is_field_after, are_fields_after, is_schema, enum_names, names_of_field}
+use Rattle.wsm_program.specs.Program.{Name, is_span, is_size, is_shape, is_column, is_stated, is_budget, latest_time, longest_span}
+use Rattle.wsm_record.specs.Modes.{may_write}
+use Rattle.wsm_record.specs.Schema.{FieldType, Int, Truth, Enum, DeclaredField, Declared, is_i64, is_within, are_names_after, is_name_list, is_field_type, is_field_after, are_fields_after, enum_names, names_of_field}
 use Rattle.wsm_program.specs.declared.program.Costs.{Costs}
 use Rattle.wsm_record.specs.Name.{is_between, is_name, is_among}
-use Rattle.wsm_bytecode.specs.Reading.{Read, judged, number_at, signed_at, name_at, names_after, names_at, interval_at, enum_at, field_type_by, field_type_at, new_field_at, fields_after, schema_at, shape_at, fixed_at, sliding_at, session_at, shape_by, mode_at, mode_by, form_at, form_by, kind_at, kind_by, kinds_at, enum_number_at, enum_column_at, column_by, column_at, columns_at, budget_at, several}
-use Rattle.wsm_bytecode.specs.Spelling.{byte, number, long, signed, name, names, field_type, field, schema, shape, mode, form, kind, column, kinds, columns, budget}
+use Rattle.wsm_bytecode.specs.Tags.{mode_by, form_by, kind_by, shape_tag, form_tag}
+use Rattle.wsm_bytecode.specs.Steps.{Read, judged, number_at, signed_at, name_at, names_after, names_at, interval_at, enum_at, field_type_by, field_type_at, new_field_at, fields_after, fields_at, sources_at, fixed_at, sliding_at, session_at, shape_by, late_by, windows_by, mode_at, triggers_at, form_of, kind_at, kinds_at, enum_number_at, enum_column_at, column_by, column_at, columns_at, budget_at, several}
+use Rattle.wsm_bytecode.specs.Parts.{byte, number, long, signed, name, names, field_type, field, fields, sources, measures, mode, kind, column, kinds, columns, budget}
 use Rattle.wsm_program.proofs.Within.{le_through, is_i64_within}
 use Rattle.wsm_bytecode.proofs.Numbers.{byte_again, short_again, long_again, signed_again, judged_again, name_again}
-
-pub regroup_3 : (a b c rest : List ℕ) → a ++ b ++ c ++ rest ≡ a ++ (b ++ (c ++ rest))
-regroup_3 a b c rest = simp append_assoc refl
 
 -- so many, one after the other
 pub several_again : {A : Type 0} (one : List ℕ → Read A) (spell : A → List ℕ) (good : A → Bool) → ((x : A) (rest : List ℕ) → good x ≡ true → one (spell x ++ rest) ≡ Ok (x, rest))
@@ -123,21 +122,26 @@ fields_after_again before (f ∷ fs) rest h =
     ap (fields_after before (suc (length fs))) (append_assoc (field f) (flat_map field fs) rest)
     ∙ fields_step before (length fs) (field f ++ others) f others fs rest (new_field_again before f others a.0) (fields_after_again (before ++ f.name ∷ []) fs rest a.1)
 
-schema_step : (bytes : List ℕ) (s : Declared) (mid : List ℕ) (k : ℕ) (next rest : List ℕ) → names_at bytes ≡ Ok (s.keys, mid) → judged (is_between 0 16) (number_at w8 mid) ≡ Ok (k, next) → fields_after [] k next ≡ Ok (s.fields, rest)
-    → schema_at bytes ≡ Ok (s, rest)
-unfolding schema_at
-schema_step bytes s mid k next rest e f g = rw (e, f, g) refl
+fields_at_step : (bytes : List ℕ) (k : ℕ) (next : List ℕ) (fs : List DeclaredField) (rest : List ℕ) → judged (is_between 0 16) (number_at w8 bytes) ≡ Ok (k, next) → fields_after [] k next ≡ Ok (fs, rest)
+    → fields_at bytes ≡ Ok (fs, rest)
+unfolding fields_at
+fields_at_step bytes k next fs rest f g = rw (f, g) refl
 
-pub schema_again : (s : Declared) (rest : List ℕ) → is_schema s ≡ true → schema_at (schema s ++ rest) ≡ Ok (s, rest)
-unfolding is_schema schema
-schema_again s rest h =
-    let a = and_parts (is_name_list s.keys) (leb (length s.fields) 16 && are_fields_after [] s.fields) h in
-    let b = and_parts (leb (length s.fields) 16) (are_fields_after [] s.fields) a.1 in
-    let few : is_between 0 16 (length s.fields) ≡ true = and_from (leb 0 (length s.fields)) (leb (length s.fields) 16) (le-leb _ _ (omega arith)) b.0 in
-    let others = flat_map field s.fields ++ rest in
-    let mid = byte (length s.fields) ++ others in
-    ap schema_at (regroup_3 (names s.keys) (byte (length s.fields)) (flat_map field s.fields) rest)
-    ∙ schema_step (names s.keys ++ mid) s mid (length s.fields) others rest (names_again s.keys mid a.0) (tag_again 0 16 (length s.fields) others (lit< tt) few) (fields_after_again [] s.fields rest b.1)
+pub fields_again : (fs : List DeclaredField) (rest : List ℕ) → leb (length fs) 16 ≡ true → are_fields_after [] fs ≡ true → fields_at (fields fs ++ rest) ≡ Ok (fs, rest)
+fields_again fs rest few h =
+    let short : is_between 0 16 (length fs) ≡ true = and_from (leb 0 (length fs)) (leb (length fs) 16) (le-leb _ _ (omega arith)) few in
+    let others = flat_map field fs ++ rest in
+    fields_at_step (byte (length fs) ++ others) (length fs) others fs rest (tag_again 0 16 (length fs) others (lit< tt) short) (fields_after_again [] fs rest h)
+
+sources_step : (may_be : ℕ → Bool) (bytes : List ℕ) (k : ℕ) (next : List ℕ) (ns : List Name) (rest : List ℕ) → judged may_be (number_at w8 bytes) ≡ Ok (k, next) → names_after [] k next ≡ Ok (ns, rest)
+    → sources_at may_be bytes ≡ Ok (ns, rest)
+unfolding sources_at
+sources_step may_be bytes k next ns rest f g = rw (f, g) refl
+
+pub sources_again : (may_be : ℕ → Bool) (ns : List Name) (rest : List ℕ) → length ns < 256 → may_be (length ns) ≡ true → are_names_after [] ns ≡ true → sources_at may_be (sources ns ++ rest) ≡ Ok (ns, rest)
+sources_again may_be ns rest lt may h =
+    let others = flat_map name ns ++ rest in
+    sources_step may_be (byte (length ns) ++ others) (length ns) others ns rest (judged_again may_be (number_at w8 (byte (length ns) ++ others)) (length ns) others (byte_again (length ns) others lt) may) (names_after_again [] ns rest h)
 
 -- ---- shape, mode, form
 
@@ -149,10 +153,6 @@ size_again n rest h = judged_again is_size (signed_at (signed n ++ rest)) n rest
 
 pub start_again : (n : ℤ) (rest : List ℕ) → is_within (pos 0) latest_time n ≡ true → judged (is_within (pos 0) latest_time) (signed_at (signed n ++ rest)) ≡ Ok (n, rest)
 start_again n rest h = judged_again (is_within (pos 0) latest_time) (signed_at (signed n ++ rest)) n rest (signed_again n rest (is_i64_within (pos 0) latest_time n refl refl h)) h
-
-shape_step : (bytes : List ℕ) (tag : ℕ) (mid : List ℕ) (s : Shape) (rest : List ℕ) → judged (is_between 0 2) (number_at w8 bytes) ≡ Ok (tag, mid) → shape_by tag mid ≡ Ok (s, rest) → shape_at bytes ≡ Ok (s, rest)
-unfolding shape_at
-shape_step bytes tag mid s rest e f = rw (e, f) refl
 
 fixed_step : (bytes : List ℕ) (n : ℤ) (rest : List ℕ) → judged is_size (signed_at bytes) ≡ Ok (n, rest) → fixed_at bytes ≡ Ok (Fixed n, rest)
 unfolding fixed_at
@@ -166,43 +166,55 @@ sliding_step : (bytes : List ℕ) (n d : ℤ) (mid rest : List ℕ) → judged i
 unfolding sliding_at
 sliding_step bytes n d mid rest e f = rw (e, f) refl
 
-pub shape_again : (s : Shape) (rest : List ℕ) → is_shape s ≡ true → shape_at (shape s ++ rest) ≡ Ok (s, rest)
+shape_again : (s : Shape) (rest : List ℕ) → is_shape s ≡ true → shape_by (shape_tag s) (measures s ++ rest) ≡ Ok (s, rest)
 unfolding signed
-shape_again (Fixed n) rest h =
-    let mid = signed n ++ rest in
-    shape_step (byte 0 ++ mid) 0 mid (Fixed n) rest (tag_again 0 2 0 mid (lit< tt) refl) (fixed_step mid n rest (size_again n rest h))
+shape_again (Fixed n) rest h = fixed_step (signed n ++ rest) n rest (size_again n rest h)
 shape_again (Sliding n d) rest h =
     let a = and_parts (is_size n) (is_within (pos 1) n d) h in
     let top = (and_parts (int_le (pos 1) n) (int_le n longest_span) a.0).1 in
     let high : int_le n (pos 9223372036854775807) ≡ true = le_through n longest_span (pos 9223372036854775807) top refl in
     let next = signed d ++ rest in
-    let mid = signed n ++ next in
     let period = judged_again (is_within (pos 1) n) (signed_at next) d rest (signed_again d rest (is_i64_within (pos 1) n d refl high a.1)) a.1 in
-    shape_step (byte 1 ++ mid) 1 mid (Sliding n d) rest (tag_again 0 2 1 mid (lit< tt) refl) (sliding_step mid n d next rest (size_again n next a.0) period)
-shape_again (Session n) rest h =
-    let mid = signed n ++ rest in
-    shape_step (byte 2 ++ mid) 2 mid (Session n) rest (tag_again 0 2 2 mid (lit< tt) refl) (session_step mid n rest (size_again n rest h))
+    sliding_step (signed n ++ next) n d next rest (size_again n next a.0) period
+shape_again (Session n) rest h = session_step (signed n ++ rest) n rest (size_again n rest h)
 
-mode_step : (bytes : List ℕ) (tag : ℕ) (rest : List ℕ) → judged (is_between 0 1) (number_at w8 bytes) ≡ Ok (tag, rest) → mode_at bytes ≡ Ok (mode_by tag, rest)
+windows_step : (b : Bool) (tag : ℕ) (bytes : List ℕ) (s : Shape) (rest : List ℕ) → shape_by tag bytes ≡ Ok (s, rest) → windows_by b tag bytes ≡ Ok ((s, late_by b s), rest)
+unfolding windows_by
+windows_step b tag bytes s rest e = rw e refl
+
+-- the shape of its own tag
+pub windows_again : (b : Bool) (s : Shape) (rest : List ℕ) → is_shape s ≡ true → windows_by b (shape_tag s) (measures s ++ rest) ≡ Ok ((s, late_by b s), rest)
+windows_again b s rest h = windows_step b (shape_tag s) (measures s ++ rest) s rest (shape_again s rest h)
+
+mode_step : (bytes : List ℕ) (tag : ℕ) (rest : List ℕ) → judged (is_between 0 2) (number_at w8 bytes) ≡ Ok (tag, rest) → mode_at bytes ≡ Ok (mode_by tag, rest)
 unfolding mode_at
 mode_step bytes tag rest e = rw e refl
 
 pub mode_again : (m : Mode) (rest : List ℕ) → mode_at (mode m ++ rest) ≡ Ok (m, rest)
-mode_again Discarding rest = mode_step (byte 0 ++ rest) 0 rest (tag_again 0 1 0 rest (lit< tt) refl)
-mode_again Accumulating rest = mode_step (byte 1 ++ rest) 1 rest (tag_again 0 1 1 rest (lit< tt) refl)
+mode_again Discarding rest = mode_step (byte 0 ++ rest) 0 rest (tag_again 0 2 0 rest (lit< tt) refl)
+mode_again Accumulating rest = mode_step (byte 1 ++ rest) 1 rest (tag_again 0 2 1 rest (lit< tt) refl)
+mode_again Retracting rest = mode_step (byte 2 ++ rest) 2 rest (tag_again 0 2 2 rest (lit< tt) refl)
 
-form_step : (m : Mode) (bytes : List ℕ) (tag : ℕ) (rest : List ℕ) → judged (λ n. is_between 0 3 n && is_form_of m (form_by n)) (number_at w8 bytes) ≡ Ok (tag, rest) → form_at m bytes ≡ Ok (form_by tag, rest)
-unfolding form_at
-form_step m bytes tag rest e = rw e refl
+triggers_step : (early late : ℤ) (bytes mid rest : List ℕ) → judged is_span (signed_at bytes) ≡ Ok (early, mid) → judged is_span (signed_at mid) ≡ Ok (late, rest)
+    → triggers_at bytes ≡ Ok ((early, late), rest)
+unfolding triggers_at
+triggers_step early late bytes mid rest e f = rw (e, f) refl
 
-form_tag : (m : Mode) (tag : ℕ) (rest : List ℕ) → tag < 256 → (is_between 0 3 tag && is_form_of m (form_by tag)) ≡ true → form_at m (byte tag ++ rest) ≡ Ok (form_by tag, rest)
-form_tag m tag rest lt h = form_step m (byte tag ++ rest) tag rest (judged_again (λ n. is_between 0 3 n && is_form_of m (form_by n)) (number_at w8 (byte tag ++ rest)) tag rest (byte_again tag rest lt) h)
+pub triggers_again : (early late : ℤ) (rest : List ℕ) → is_span early ≡ true → is_span late ≡ true → triggers_at (signed early ++ (signed late ++ rest)) ≡ Ok ((early, late), rest)
+triggers_again early late rest e l =
+    triggers_step early late (signed early ++ (signed late ++ rest)) (signed late ++ rest) rest (span_again early (signed late ++ rest) e) (span_again late rest l)
 
-pub form_again : (m : Mode) (f : Form) (rest : List ℕ) → is_form_of m f ≡ true → form_at m (form f ++ rest) ≡ Ok (f, rest)
-form_again m Panes rest h = form_tag m 0 rest (lit< tt) h
-form_again m Istream rest h = form_tag m 1 rest (lit< tt) h
-form_again m Dstream rest h = form_tag m 2 rest (lit< tt) h
-form_again m Rstream rest h = form_tag m 3 rest (lit< tt) h
+-- a form by its own tag
+pub form_by_tag : (f : Form) → form_by (form_tag f) ≡ f
+form_by_tag Panes = refl
+form_by_tag Istream = refl
+form_by_tag Dstream = refl
+form_by_tag Rstream = refl
+
+pub form_again : (m : Mode) (f : Form) → may_write m f ≡ true → form_of m (form_tag f) ≡ Ok f
+form_again m f h =
+    let allowed : may_write m (form_by (form_tag f)) ≡ true = ap (may_write m) (form_by_tag f) ∙ h in
+    rw (allowed, form_by_tag f) refl
 
 -- ---- accumulators and columns
 

@@ -7,10 +7,15 @@ use Rattle.std.proofs.lemmas.List.{append-nil, length-map}
 use Rattle.std.proofs.lemmas.List.Folds.{list_all-map}
 use Rattle.wsm_record.specs.declared.schema.DeclaredField.{DeclaredField as KeptField}
 use Rattle.wsm_record.specs.Name.{is_name, is_among, is_between}
-use Rattle.wsm_record.specs.Schema.{DeclaredField, Declared, is_i64, are_names_after, is_name_list, is_field_type, is_field_after, are_fields_after, is_schema}
+use Rattle.wsm_record.specs.Schema.{DeclaredField, Declared, is_i64, is_within, is_source_count, are_names_after, is_name_list, is_field_type, is_field_after, are_fields_after, is_schema}
 use Rattle.wsm_record.specs.Fields.{type_seen, field_seen}
-use Rattle.wsm_program.specs.Program.{Name, latest_time, longest_span, Header, is_header}
-use Rattle.wsm_bytecode.specs.Spelling.{byte, number, signed, name, magic, schema, shape, mode, form, kinds, columns, budget, header}
+use Rattle.wsm_program.specs.Program.{Name, latest_time, longest_span, is_span, is_size, is_limited, Header, is_header}
+use Rattle.wsm_admission.specs.declared.clock.Clock.{Clock}
+use Rattle.wsm_bytecode.proofs.Settings.{schema_parts, few_sources}
+use Rattle.wsm_bytecode.specs.declared.version.Version.TheVariants.{Two}
+use Rattle.wsm_bytecode.specs.Parts.{settings_in, byte, signed, name, names, fields, sources, times, mode, kinds, columns, budget}
+use Rattle.wsm_bytecode.specs.Version2.{window_flag, shape, form, settings}
+use Rattle.wsm_bytecode.specs.Spelling.{header}
 use Rattle.std.proofs.lemmas.Int.{to_z-of_z}
 use Rattle.wsm_bytecode.proofs.Numbers.{name_is_short, fits}
 use Rattle.wsm_program.proofs.Within.{is_i64_within}
@@ -50,15 +55,16 @@ good_fields before (f ∷ fs) h =
     and_from _ _ (and_from _ _ b.0 c.1) (good_fields (before ++ f.name ∷ []) fs a.1)
 
 pub schema_keys : (s : Declared) → is_schema s ≡ true → list_all is_name s.keys ≡ true
-unfolding is_schema
-schema_keys s h = named s.keys (and_parts (is_name_list s.keys) (leb (length s.fields) 16 && are_fields_after [] s.fields) h).0
+schema_keys s h = named s.keys (schema_parts s h).keys
+
+pub schema_sources : (s : Declared) → is_schema s ≡ true → list_all is_name s.sources ≡ true
+schema_sources s h = all_named [] s.sources (and_parts (is_source_count (length s.sources)) (are_names_after [] s.sources) (schema_parts s h).sources).1
+
+pub source_bytes : (s : Declared) → is_schema s ≡ true → length s.sources < 256
+source_bytes s h = few_sources (length s.sources) (and_parts (is_source_count (length s.sources)) (are_names_after [] s.sources) (schema_parts s h).sources).0
 
 pub schema_fields : (kept : List KeptField) (s : Declared) → map field_seen kept ≡ s.fields → is_schema s ≡ true → list_all (λ f. is_name f.name && is_field_type (type_seen f.ty)) kept ≡ true
-unfolding is_schema
-schema_fields kept s e h =
-    let a = and_parts (is_name_list s.keys) (leb (length s.fields) 16 && are_fields_after [] s.fields) h in
-    let b = and_parts (leb (length s.fields) 16) (are_fields_after [] s.fields) a.1 in
-    sym (list_all-map is_good_field field_seen kept) ∙ ap (list_all is_good_field) e ∙ good_fields [] s.fields b.1
+schema_fields kept s e h = sym (list_all-map is_good_field field_seen kept) ∙ ap (list_all is_good_field) e ∙ good_fields [] s.fields (schema_parts s h).fields
 
 pub schema_count : (kept : List KeptField) (s : Declared) → map field_seen kept ≡ s.fields → is_schema s ≡ true → length kept < 256
 schema_count kept s e h =
@@ -75,10 +81,6 @@ header_columns h e =
     let le : length h.columns ≤ 16 = leb-true _ _ (and_parts (leb 1 (length h.columns)) (leb (length h.columns) 16) (header_parts h e).count).1 in
     omega arith
 
-regrouped : (o a0 a1 a2 a3 a4 a5 a6 a7 a8 a9 a10 a11 a12 a13 a14 : List ℕ)
-    → o ++ a0 ++ a1 ++ a2 ++ a3 ++ a4 ++ a5 ++ a6 ++ a7 ++ a8 ++ a9 ++ a10 ++ a11 ++ a12 ++ a13 ++ a14 ≡ o ++ (a0 ++ a1 ++ a2 ++ a3 ++ a4 ++ a5 ++ a6 ++ a7 ++ a8 ++ a9 ++ a10 ++ a11 ++ a12 ++ a13 ++ a14)
-regrouped o a0 a1 a2 a3 a4 a5 a6 a7 a8 a9 a10 a11 a12 a13 a14 = simp append_assoc refl
-
 -- a signed number, as a call hands it on
 abbrev pub passed : ℤ → ℤ
 passed n = to_z w64 (of_z w64 n)
@@ -86,34 +88,59 @@ passed n = to_z w64 (of_z w64 n)
 passed_same : (n : ℤ) → is_i64 n ≡ true → passed n ≡ n
 passed_same n h = to_z-of_z w64 n (fits n h)
 
--- the parts of a header, each written behind the one before it
-pub header_added : (h : Header) → is_header h ≡ true → (o0 o1 o2 o3 o4 o5 o6 o7 o8 o9 o10 o11 o12 o13 o14 o15 : List ℕ)
-    → o1 ≡ o0 ++ magic → o2 ≡ o1 ++ byte 1 → o3 ≡ o2 ++ schema h.schema → o4 ≡ o3 ++ signed (passed h.clock.start) → o5 ≡ o4 ++ signed (passed h.clock.skew) → o6 ≡ o5 ++ signed (passed h.clock.lateness) → o7 ≡ o6 ++ signed (passed h.clock.records) → o8 ≡ o7 ++ shape h.shape → o9 ≡ o8 ++ mode h.mode → o10 ≡ o9 ++ signed (passed h.early) → o11 ≡ o10 ++ signed (passed h.late) → o12 ≡ o11 ++ form h.form → o13 ≡ o12 ++ kinds h.kinds → o14 ≡ o13 ++ columns h.columns → o15 ≡ o14 ++ budget h.budget
-    → o15 ≡ o0 ++ header h
-unfolding header
-header_added h good o0 o1 o2 o3 o4 o5 o6 o7 o8 o9 o10 o11 o12 o13 o14 o15 e0 e1 e2 e3 e4 e5 e6 e7 e8 e9 e10 e11 e12 e13 e14 =
+two_pairs : (o a b c d : List ℕ) → (o ++ (a ++ b)) ++ (c ++ d) ≡ o ++ (a ++ b ++ c ++ d)
+two_pairs o a b c d = simp append_assoc refl
+
+-- numbers of a clock, which are handed on in pairs
+pub clock_added : (c : Clock) → is_limited c ≡ true → (o0 o1 o2 : List ℕ)
+    → o1 ≡ o0 ++ (signed (passed c.start) ++ signed (passed c.skew)) → o2 ≡ o1 ++ (signed (passed c.lateness) ++ signed (passed c.records)) → o2 ≡ o0 ++ times c
+clock_added c h o0 o1 o2 e f =
+    let a = and_parts (is_within (pos 0) latest_time c.start) (is_span c.skew && (is_span c.lateness && is_size c.records)) h in
+    let b = and_parts (is_span c.skew) (is_span c.lateness && is_size c.records) a.1 in
+    let d = and_parts (is_span c.lateness) (is_size c.records) b.1 in
+    let p0 : passed c.start ≡ c.start = passed_same c.start (is_i64_within (pos 0) latest_time c.start refl refl a.0) in
+    let p1 : passed c.skew ≡ c.skew = passed_same c.skew (is_i64_within (pos 0) longest_span c.skew refl refl b.0) in
+    let p2 : passed c.lateness ≡ c.lateness = passed_same c.lateness (is_i64_within (pos 0) longest_span c.lateness refl refl d.0) in
+    let p3 : passed c.records ≡ c.records = passed_same c.records (is_i64_within (pos 1) longest_span c.records refl refl d.1) in
+    let q0 : o1 ≡ o0 ++ (signed c.start ++ signed c.skew) = e ∙ ap (λ n. o0 ++ (signed n ++ signed (passed c.skew))) p0 ∙ ap (λ n. o0 ++ (signed c.start ++ signed n)) p1 in
+    let q1 : o2 ≡ o1 ++ (signed c.lateness ++ signed c.records) = f ∙ ap (λ n. o1 ++ (signed n ++ signed (passed c.records))) p2 ∙ ap (λ n. o1 ++ (signed c.lateness ++ signed n)) p3 in
+    q1 ∙ ap (λ o. o ++ (signed c.lateness ++ signed c.records)) q0 ∙ two_pairs o0 (signed c.start) (signed c.skew) (signed c.lateness) (signed c.records)
+
+-- one part, and then another behind it
+added : (o0 o1 o2 x y : List ℕ) → o1 ≡ o0 ++ x → o2 ≡ o1 ++ y → o2 ≡ o0 ++ (x ++ y)
+added o0 o1 o2 x y e f = f ∙ ap (λ o. o ++ y) e ∙ append_assoc o0 x y
+
+pub settings_added : (h : Header) → is_header h ≡ true → (o0 o1 o2 o3 o4 o5 o6 : List ℕ)
+    → o1 ≡ o0 ++ byte (window_flag h.clock.late) → o2 ≡ o1 ++ sources h.schema.sources → o3 ≡ o2 ++ shape h.shape → o4 ≡ o3 ++ mode h.mode → o5 ≡ o4 ++ (signed (passed h.early) ++ signed (passed h.late)) → o6 ≡ o5 ++ form h.form
+    → o6 ≡ o0 ++ settings (settings_in h)
+settings_added h good o0 o1 o2 o3 o4 o5 o6 e0 e1 e2 e3 e4 e5 =
     let parts = header_parts h good in
-    let q3 : o4 ≡ o3 ++ signed h.clock.start = e3 ∙ ap (λ n. o3 ++ signed n) (passed_same h.clock.start (is_i64_within (pos 0) latest_time h.clock.start refl refl parts.start)) in
-    let q4 : o5 ≡ o4 ++ signed h.clock.skew = e4 ∙ ap (λ n. o4 ++ signed n) (passed_same h.clock.skew (is_i64_within (pos 0) longest_span h.clock.skew refl refl parts.skew)) in
-    let q5 : o6 ≡ o5 ++ signed h.clock.lateness = e5 ∙ ap (λ n. o5 ++ signed n) (passed_same h.clock.lateness (is_i64_within (pos 0) longest_span h.clock.lateness refl refl parts.lateness)) in
-    let q6 : o7 ≡ o6 ++ signed h.clock.records = e6 ∙ ap (λ n. o6 ++ signed n) (passed_same h.clock.records (is_i64_within (pos 1) longest_span h.clock.records refl refl parts.records)) in
-    let q9 : o10 ≡ o9 ++ signed h.early = e9 ∙ ap (λ n. o9 ++ signed n) (passed_same h.early (is_i64_within (pos 0) longest_span h.early refl refl parts.early)) in
-    let q10 : o11 ≡ o10 ++ signed h.late = e10 ∙ ap (λ n. o10 ++ signed n) (passed_same h.late (is_i64_within (pos 0) longest_span h.late refl refl parts.late)) in
-    let p1 : o2 ≡ o0 ++ magic ++ byte 1 = e1 ∙ ap (λ o. o ++ byte 1) e0 in
-    let p2 : o3 ≡ o0 ++ magic ++ byte 1 ++ schema h.schema = e2 ∙ ap (λ o. o ++ schema h.schema) p1 in
-    let p3 : o4 ≡ o0 ++ magic ++ byte 1 ++ schema h.schema ++ signed h.clock.start = q3 ∙ ap (λ o. o ++ signed h.clock.start) p2 in
-    let p4 : o5 ≡ o0 ++ magic ++ byte 1 ++ schema h.schema ++ signed h.clock.start ++ signed h.clock.skew = q4 ∙ ap (λ o. o ++ signed h.clock.skew) p3 in
-    let p5 : o6 ≡ o0 ++ magic ++ byte 1 ++ schema h.schema ++ signed h.clock.start ++ signed h.clock.skew ++ signed h.clock.lateness = q5 ∙ ap (λ o. o ++ signed h.clock.lateness) p4 in
-    let p6 : o7 ≡ o0 ++ magic ++ byte 1 ++ schema h.schema ++ signed h.clock.start ++ signed h.clock.skew ++ signed h.clock.lateness ++ signed h.clock.records = q6 ∙ ap (λ o. o ++ signed h.clock.records) p5 in
-    let p7 : o8 ≡ o0 ++ magic ++ byte 1 ++ schema h.schema ++ signed h.clock.start ++ signed h.clock.skew ++ signed h.clock.lateness ++ signed h.clock.records ++ shape h.shape = e7 ∙ ap (λ o. o ++ shape h.shape) p6 in
-    let p8 : o9 ≡ o0 ++ magic ++ byte 1 ++ schema h.schema ++ signed h.clock.start ++ signed h.clock.skew ++ signed h.clock.lateness ++ signed h.clock.records ++ shape h.shape ++ mode h.mode = e8 ∙ ap (λ o. o ++ mode h.mode) p7 in
-    let p9 : o10 ≡ o0 ++ magic ++ byte 1 ++ schema h.schema ++ signed h.clock.start ++ signed h.clock.skew ++ signed h.clock.lateness ++ signed h.clock.records ++ shape h.shape ++ mode h.mode ++ signed h.early = q9 ∙ ap (λ o. o ++ signed h.early) p8 in
-    let p10 : o11 ≡ o0 ++ magic ++ byte 1 ++ schema h.schema ++ signed h.clock.start ++ signed h.clock.skew ++ signed h.clock.lateness ++ signed h.clock.records ++ shape h.shape ++ mode h.mode ++ signed h.early ++ signed h.late = q10 ∙ ap (λ o. o ++ signed h.late) p9 in
-    let p11 : o12 ≡ o0 ++ magic ++ byte 1 ++ schema h.schema ++ signed h.clock.start ++ signed h.clock.skew ++ signed h.clock.lateness ++ signed h.clock.records ++ shape h.shape ++ mode h.mode ++ signed h.early ++ signed h.late ++ form h.form = e11 ∙ ap (λ o. o ++ form h.form) p10 in
-    let p12 : o13 ≡ o0 ++ magic ++ byte 1 ++ schema h.schema ++ signed h.clock.start ++ signed h.clock.skew ++ signed h.clock.lateness ++ signed h.clock.records ++ shape h.shape ++ mode h.mode ++ signed h.early ++ signed h.late ++ form h.form ++ kinds h.kinds = e12 ∙ ap (λ o. o ++ kinds h.kinds) p11 in
-    let p13 : o14 ≡ o0 ++ magic ++ byte 1 ++ schema h.schema ++ signed h.clock.start ++ signed h.clock.skew ++ signed h.clock.lateness ++ signed h.clock.records ++ shape h.shape ++ mode h.mode ++ signed h.early ++ signed h.late ++ form h.form ++ kinds h.kinds ++ columns h.columns = e13 ∙ ap (λ o. o ++ columns h.columns) p12 in
-    let p14 : o15 ≡ o0 ++ magic ++ byte 1 ++ schema h.schema ++ signed h.clock.start ++ signed h.clock.skew ++ signed h.clock.lateness ++ signed h.clock.records ++ shape h.shape ++ mode h.mode ++ signed h.early ++ signed h.late ++ form h.form ++ kinds h.kinds ++ columns h.columns ++ budget h.budget = e14 ∙ ap (λ o. o ++ budget h.budget) p13 in
-    p14 ∙ regrouped o0 magic (byte 1) (schema h.schema) (signed h.clock.start) (signed h.clock.skew) (signed h.clock.lateness) (signed h.clock.records) (shape h.shape) (mode h.mode) (signed h.early) (signed h.late) (form h.form) (kinds h.kinds) (columns h.columns) (budget h.budget)
+    let early : passed h.early ≡ h.early = passed_same h.early (is_i64_within (pos 0) longest_span h.early refl refl parts.early) in
+    let late : passed h.late ≡ h.late = passed_same h.late (is_i64_within (pos 0) longest_span h.late refl refl parts.late) in
+    let q4 : o5 ≡ (o4 ++ signed h.early) ++ signed h.late = e4 ∙ ap (λ n. o4 ++ (signed n ++ signed (passed h.late))) early ∙ ap (λ n. o4 ++ (signed h.early ++ signed n)) late ∙ sym (append_assoc o4 (signed h.early) (signed h.late)) in
+    let s1 : o2 ≡ o0 ++ (byte (window_flag h.clock.late) ++ sources h.schema.sources) = added o0 o1 o2 _ _ e0 e1 in
+    let s2 : o3 ≡ o0 ++ (byte (window_flag h.clock.late) ++ sources h.schema.sources ++ shape h.shape) = added o0 o2 o3 _ _ s1 e2 in
+    let s3 : o4 ≡ o0 ++ (byte (window_flag h.clock.late) ++ sources h.schema.sources ++ shape h.shape ++ mode h.mode) = added o0 o3 o4 _ _ s2 e3 in
+    let s4 : o4 ++ signed h.early ≡ o0 ++ (byte (window_flag h.clock.late) ++ sources h.schema.sources ++ shape h.shape ++ mode h.mode ++ signed h.early) = added o0 o4 (o4 ++ signed h.early) _ _ s3 refl in
+    let s5 : o5 ≡ o0 ++ (byte (window_flag h.clock.late) ++ sources h.schema.sources ++ shape h.shape ++ mode h.mode ++ signed h.early ++ signed h.late) = added o0 (o4 ++ signed h.early) o5 _ _ s4 q4 in
+    added o0 o5 o6 _ _ s5 e5
+
+pub header_added : (h : Header) (o0 o1 o2 o3 o4 o5 o6 o7 : List ℕ)
+    → o1 ≡ o0 ++ names h.schema.keys → o2 ≡ o1 ++ fields h.schema.fields → o3 ≡ o2 ++ times h.clock → o4 ≡ o3 ++ settings (settings_in h) → o5 ≡ o4 ++ kinds h.kinds → o6 ≡ o5 ++ columns h.columns → o7 ≡ o6 ++ budget h.budget
+    → o7 ≡ o0 ++ header Two h
+unfolding header
+header_added h o0 o1 o2 o3 o4 o5 o6 o7 e0 e1 e2 e3 e4 e5 e6 =
+    let s1 : o2 ≡ o0 ++ (names h.schema.keys ++ fields h.schema.fields) = added o0 o1 o2 _ _ e0 e1 in
+    let s2 : o3 ≡ o0 ++ (names h.schema.keys ++ fields h.schema.fields ++ times h.clock) = added o0 o2 o3 _ _ s1 e2 in
+    let s3 : o4 ≡ o0 ++ (names h.schema.keys ++ fields h.schema.fields ++ times h.clock ++ settings (settings_in h)) = added o0 o3 o4 _ _ s2 e3 in
+    let s4 : o5 ≡ o0 ++ (names h.schema.keys ++ fields h.schema.fields ++ times h.clock ++ settings (settings_in h) ++ kinds h.kinds) = added o0 o4 o5 _ _ s3 e4 in
+    let s5 : o6 ≡ o0 ++ (names h.schema.keys ++ fields h.schema.fields ++ times h.clock ++ settings (settings_in h) ++ kinds h.kinds ++ columns h.columns) = added o0 o5 o6 _ _ s4 e5 in
+    added o0 o6 o7 _ _ s5 e6
+
+pub header_limited : (h : Header) → is_header h ≡ true → is_limited h.clock ≡ true
+header_limited h e =
+    let p = header_parts h e in
+    and_from _ _ p.start (and_from _ _ p.skew (and_from _ _ p.lateness p.records))
 
 -- one more of a list
 take_one : (ns : List Name) (i : ℕ) (n : Name) → slice_get ns i ≡ Some n → flat_map name (take (suc i) ns) ≡ flat_map name (take i ns) ++ name n
@@ -123,9 +150,7 @@ take_one (m ∷ ns) zero n e =
     rw (same, append-nil (name n)) refl
 take_one (m ∷ ns) (suc i) n e = rw (take_one ns i n e) (sym (append_assoc (name m) (flat_map name (take i ns)) (name n)))
 
-pub names_more : (o out new : List ℕ) (ns : List Name) (i : ℕ) (n : Name) → slice_get ns i ≡ Some n → out ≡ o ++ (number (length ns) ++ flat_map name (take i ns)) → new ≡ out ++ name n
-    → new ≡ o ++ (number (length ns) ++ flat_map name (take (i + 1) ns))
+pub names_more : (o out new : List ℕ) (ns : List Name) (i : ℕ) (n : Name) → slice_get ns i ≡ Some n → out ≡ o ++ flat_map name (take i ns) → new ≡ out ++ name n → new ≡ o ++ flat_map name (take (i + 1) ns)
 names_more o out new ns i n e so_far more =
     let next : flat_map name (take (i + 1) ns) ≡ flat_map name (take i ns) ++ name n = rw add-one (take_one ns i n e) in
-    more ∙ ap (λ x. x ++ name n) so_far ∙ append_assoc o (number (length ns) ++ flat_map name (take i ns)) (name n)
-    ∙ ap (λ x. o ++ x) (append_assoc (number (length ns)) (flat_map name (take i ns)) (name n) ∙ ap (λ x. number (length ns) ++ x) (sym next))
+    more ∙ ap (λ x. x ++ name n) so_far ∙ append_assoc o (flat_map name (take i ns)) (name n) ∙ ap (λ x. o ++ x) (sym next)

@@ -10,8 +10,8 @@ use Rattle.std.proofs.lemmas.Nat.{le_bytes_2, le_bytes_8}
 use Rattle.wsm_program.specs.declared.refusal.DecodeRefusal.{DecodeRefusal}
 use Rattle.wsm_program.specs.declared.refusal.DecodeRefusal.TheVariants.{Truncated, Operand}
 use Rattle.wsm_record.specs.Schema.{is_i64}
-use Rattle.wsm_bytecode.specs.Spelling.{byte, signed}
-use Rattle.wsm_bytecode.specs.Reading.{Read, ◌>>=◌, bytes_at, number_at, signed_at, judged, several}
+use Rattle.wsm_bytecode.specs.Parts.{byte, signed}
+use Rattle.wsm_bytecode.specs.Steps.{Read, ◌>>=◌, bytes_at, number_at, signed_at, judged, several}
 
 abbrev pub IsBytes : List ℕ → Type 0
 IsBytes bytes = (i : ℕ) → get_or bytes i 0 < 256
@@ -30,6 +30,15 @@ IsBytes-take n bytes h i =
 pub bind_ok : {A B : Type 0} (r : Result A DecodeRefusal) (f : A → Result B DecodeRefusal) (y : B) → (r >>= f) ≡ Ok y → (x : A) × (r ≡ Ok x) × (f x ≡ Ok y)
 bind_ok (Ok x) f y e = (x, refl, e)
 bind_ok (Err d) f y e = absurd cc
+
+pub bind_then : {A B P : Type 0} (r : Result A DecodeRefusal) (f : A → Result B DecodeRefusal) (y : B) → (r >>= f) ≡ Ok y → ((x : A) → r ≡ Ok x → f x ≡ Ok y → P) → P
+bind_then (Ok x) f y e go = go x refl e
+bind_then (Err d) f y e go = absurd cc
+
+-- one test of a chain
+pub choose : {A P : Type 0} (b : Bool) (p q r : A) → cond b p q ≡ r → (b ≡ true → p ≡ r → P) → (b ≡ false → q ≡ r → P) → P
+choose true p q r e f g = f refl e
+choose false p q r e f g = g refl e
 
 -- tests that did not fail
 pub guard_ok : {A : Type 0} (b : Bool) (d : DecodeRefusal) (x y : A) → cond b (Err d) (Ok x) ≡ Ok y → (b ≡ false) × (x ≡ y)

@@ -3,23 +3,26 @@ use Rattle.std.proofs.Common.{leb, ◌≡◌, ℕ, zero, suc, ◌^◌, ◌≤◌
 use Rattle.std.specs.Prelude.{int_le}
 use Rattle.std.specs.List.{list_all, flat_map}
 use Rattle.std.specs.Int.{w8, w16, w64}
-use Rattle.std.proofs.lemmas.Bool.{le-leb, and_parts, and_from}
+use Rattle.std.proofs.lemmas.Bool.{le-leb, and_from}
 use Rattle.wsm_record.specs.declared.words.CellType.{CellType}
 use Rattle.wsm_record.specs.declared.words.CellType.TheVariants as types
 use Rattle.wsm_record.specs.declared.Kind.{Kind}
 use Rattle.wsm_windows.specs.declared.Shape.{Shape}
 use Rattle.wsm_windows.specs.declared.Shape.TheVariants.{Fixed, Sliding, Session}
 use Rattle.wsm_record.specs.declared.Mode.{Mode}
+use Rattle.wsm_admission.specs.declared.clock.LateBy.{LateBy}
+use Rattle.wsm_program.specs.declared.refusal.DecodeRefusal.TheVariants.{Operand}
 use Rattle.wsm_record.specs.declared.Form.{Form}
-use Rattle.wsm_program.specs.Program.{Name, is_size, is_shape, is_form_of, is_column, is_stated, is_budget}
-use Rattle.wsm_record.specs.Schema.{FieldType, Int, Truth, Enum, DeclaredField, Declared, are_names_after, is_name_list, is_field_type, is_field_after, are_fields_after, is_schema, is_within, enum_names}
+use Rattle.wsm_program.specs.Program.{Name, is_span, is_size, is_shape, is_column, is_stated, is_budget}
+use Rattle.wsm_record.specs.Modes.{may_write}
+use Rattle.wsm_record.specs.Schema.{FieldType, Int, Truth, Enum, DeclaredField, Declared, are_names_after, is_name_list, is_field_type, is_field_after, are_fields_after, is_within, enum_names}
 use Rattle.wsm_program.specs.declared.program.Costs.{Costs}
 use Rattle.wsm_record.specs.Name.{is_between, is_name, is_among}
-use Rattle.wsm_bytecode.specs.Reading.{◌>>=◌, judged, bytes_at, number_at, signed_at, name_at, names_after, names_at, interval_at, enum_at, field_type_by, field_type_at, new_field_at, fields_after, schema_at, shape_at, fixed_at, sliding_at, session_at, shape_by, mode_at, mode_by, form_at, form_by, kind_at, kind_by, kinds_at, enum_number_at, enum_column_at, column_by, column_at, columns_at, budget_at, several}
-use Rattle.wsm_bytecode.specs.Spelling.{byte, number, long, signed, name, names, field_type, field, schema, shape, mode, form, kind, column, kinds, columns, budget}
+use Rattle.wsm_bytecode.specs.Tags.{mode_by, form_by, kind_by, shape_tag, form_tag}
+use Rattle.wsm_bytecode.specs.Steps.{◌>>=◌, judged, bytes_at, number_at, signed_at, name_at, names_after, names_at, interval_at, enum_at, field_type_by, field_type_at, new_field_at, fields_after, fields_at, sources_at, fixed_at, sliding_at, session_at, shape_by, late_by, windows_by, mode_at, triggers_at, form_of, kind_at, kinds_at, enum_number_at, enum_column_at, column_by, column_at, columns_at, budget_at, several}
+use Rattle.wsm_bytecode.specs.Parts.{byte, number, long, signed, name, names, field_type, field, fields, sources, measures, mode, kind, column, kinds, columns, budget}
 use Rattle.wsm_program.proofs.Within.{at_most}
-use Rattle.wsm_bytecode.proofs.Parts.{regroup_3}
-use Rattle.wsm_bytecode.proofs.Taken.{IsBytes, bind_ok, judged_ok, ok_is, Took, Exact, bytes_taken, byte_taken, number_taken, wide16, wide64, signed_taken, several_taken}
+use Rattle.wsm_bytecode.proofs.Taken.{IsBytes, bind_ok, bind_then, test_ok, judged_ok, ok_is, Took, Exact, bytes_taken, byte_taken, number_taken, wide16, wide64, signed_taken, several_taken}
 
 -- ---- names
 
@@ -161,24 +164,31 @@ fields_after_taken before (suc n) bytes x fits e =
       good = and_from _ _ t.good u.good;
     })
 
-pub schema_taken : Exact schema_at schema is_schema
-unfolding names_at schema_at is_schema schema
-schema_taken bytes x fits e =
-    let a = bind_ok (names_at bytes) (λ keys. judged (is_between 0 16) (number_at w8 keys.1) >>= λ n. fields_after [] n.0 n.1 >>= λ fields. Ok (record { keys = keys.0; fields = fields.0 }, fields.1)) x e in
-    let b = bind_ok (judged (is_between 0 16) (number_at w8 a.0.1)) (λ n. fields_after [] n.0 n.1 >>= λ fields. Ok (record { keys = a.0.0; fields = fields.0 }, fields.1)) x a.2 in
-    let c = bind_ok (fields_after [] b.0.0 b.0.1) (λ fields. Ok (record { keys = a.0.0; fields = fields.0 }, fields.1)) x b.2 in
-    let t = names_taken bytes a.0 fits a.1 in
-    let v = tag_taken 0 16 a.0.1 b.0 t.fits b.1 in
-    let u = fields_after_taken [] b.0.0 b.0.1 c.0 v.fits c.1 in
-    let made : Declared × List ℕ = (record { keys = a.0.0; fields = c.0.0 }, c.0.1) in
-    let few : length c.0.0 ≤ 16 = omega (arith, u.len, at_most 0 16 b.0.0 v.good) in
-    subst (λ y. Took schema is_schema bytes y) (ok_is made x c.2)
-    (record {
-      parts = t.parts ∙ ap (λ r. names a.0.0 ++ r) (v.parts ∙ ap (λ r. byte b.0.0 ++ r) u.parts ∙ ap (λ n. byte n ++ (flat_map field c.0.0 ++ c.0.1)) (sym u.len))
-          ∙ sym (regroup_3 (names a.0.0) (byte (length c.0.0)) (flat_map field c.0.0) c.0.1);
+pub fields_taken : Exact fields_at fields (λ fs. leb (length fs) 16 && are_fields_after [] fs)
+unfolding fields_at
+fields_taken bytes x fits e =
+    let b = bind_ok (judged (is_between 0 16) (number_at w8 bytes)) (λ n. fields_after [] n.0 n.1) x e in
+    let v = tag_taken 0 16 bytes b.0 fits b.1 in
+    let u = fields_after_taken [] b.0.0 b.0.1 x v.fits b.2 in
+    let few : length x.0 ≤ 16 = omega (arith, u.len, at_most 0 16 b.0.0 v.good) in
+    record {
+      parts = v.parts ∙ ap (λ r. byte b.0.0 ++ r) u.parts ∙ ap (λ n. byte n ++ (flat_map field x.0 ++ x.1)) (sym u.len);
       fits = u.fits;
-      good = and_from _ _ t.good (and_from _ _ (le-leb _ _ few) u.good);
-    })
+      good = and_from _ _ (le-leb _ _ few) u.good;
+    }
+
+pub sources_taken : (may_be : ℕ → Bool) → Exact (sources_at may_be) sources (λ ns. may_be (length ns) && are_names_after [] ns)
+unfolding sources_at
+sources_taken may_be bytes x fits e =
+    let b = bind_ok (judged may_be (number_at w8 bytes)) (λ n. names_after [] n.0 n.1) x e in
+    let j = judged_ok may_be (number_at w8 bytes) b.0 b.1 in
+    let v = byte_taken bytes b.0 fits j.0 in
+    let u = names_after_taken [] b.0.0 b.0.1 x v.fits b.2 in
+    record {
+      parts = v.parts ∙ ap (λ r. byte b.0.0 ++ r) u.parts ∙ ap (λ n. byte n ++ (flat_map name x.0 ++ x.1)) (sym u.len);
+      fits = u.fits;
+      good = and_from _ _ (ap may_be u.len ∙ j.1) u.good;
+    }
 
 -- ---- shape, mode, form
 
@@ -188,23 +198,30 @@ measure_taken test bytes x fits e =
     let t = signed_taken bytes x fits j.0 in
     record { parts = t.parts; fits = t.fits; good = j.1 }
 
-fixed_taken : (bytes : List ℕ) (x : Shape × List ℕ) → IsBytes bytes → fixed_at bytes ≡ Ok x → Took shape is_shape (byte 0 ++ bytes) x
+-- the measures of a shape by its tag
+record TookShape (tag : ℕ) (bytes : List ℕ) (x : Shape × List ℕ) : Type 0 where
+  tagged : shape_tag x.0 ≡ tag
+  parts : bytes ≡ measures x.0 ++ x.1
+  fits : IsBytes x.1
+  good : is_shape x.0 ≡ true
+
+fixed_taken : (bytes : List ℕ) (x : Shape × List ℕ) → IsBytes bytes → fixed_at bytes ≡ Ok x → TookShape 0 bytes x
 unfolding fixed_at
 fixed_taken bytes x fits e =
     let a = bind_ok (judged is_size (signed_at bytes)) (λ n. Ok (Fixed n.0, n.1)) x e in
     let t = measure_taken is_size bytes a.0 fits a.1 in
     let made : Shape × List ℕ = (Fixed a.0.0, a.0.1) in
-    subst (λ y. Took shape is_shape (byte 0 ++ bytes) y) (ok_is made x a.2) (record { parts = ap (λ r. byte 0 ++ r) t.parts; fits = t.fits; good = t.good })
+    subst (λ y. TookShape 0 bytes y) (ok_is made x a.2) (record { tagged = refl; parts = t.parts; fits = t.fits; good = t.good })
 
-session_taken : (bytes : List ℕ) (x : Shape × List ℕ) → IsBytes bytes → session_at bytes ≡ Ok x → Took shape is_shape (byte 2 ++ bytes) x
+session_taken : (bytes : List ℕ) (x : Shape × List ℕ) → IsBytes bytes → session_at bytes ≡ Ok x → TookShape 2 bytes x
 unfolding session_at
 session_taken bytes x fits e =
     let a = bind_ok (judged is_size (signed_at bytes)) (λ n. Ok (Session n.0, n.1)) x e in
     let t = measure_taken is_size bytes a.0 fits a.1 in
     let made : Shape × List ℕ = (Session a.0.0, a.0.1) in
-    subst (λ y. Took shape is_shape (byte 2 ++ bytes) y) (ok_is made x a.2) (record { parts = ap (λ r. byte 2 ++ r) t.parts; fits = t.fits; good = t.good })
+    subst (λ y. TookShape 2 bytes y) (ok_is made x a.2) (record { tagged = refl; parts = t.parts; fits = t.fits; good = t.good })
 
-sliding_taken : (bytes : List ℕ) (x : Shape × List ℕ) → IsBytes bytes → sliding_at bytes ≡ Ok x → Took shape is_shape (byte 1 ++ bytes) x
+sliding_taken : (bytes : List ℕ) (x : Shape × List ℕ) → IsBytes bytes → sliding_at bytes ≡ Ok x → TookShape 1 bytes x
 unfolding sliding_at signed
 sliding_taken bytes x fits e =
     let a = bind_ok (judged is_size (signed_at bytes)) (λ n. judged (is_within (pos 1) n.0) (signed_at n.1) >>= λ d. Ok (Sliding n.0 d.0, d.1)) x e in
@@ -212,54 +229,81 @@ sliding_taken bytes x fits e =
     let t = measure_taken is_size bytes a.0 fits a.1 in
     let u = measure_taken (is_within (pos 1) a.0.0) a.0.1 b.0 t.fits b.1 in
     let made : Shape × List ℕ = (Sliding a.0.0 b.0.0, b.0.1) in
-    subst (λ y. Took shape is_shape (byte 1 ++ bytes) y) (ok_is made x b.2)
-    (record { parts = ap (λ r. byte 1 ++ r) (t.parts ∙ ap (λ r. signed a.0.0 ++ r) u.parts); fits = u.fits; good = and_from _ _ t.good u.good })
+    subst (λ y. TookShape 1 bytes y) (ok_is made x b.2)
+    (record { tagged = refl; parts = t.parts ∙ ap (λ r. signed a.0.0 ++ r) u.parts; fits = u.fits; good = and_from _ _ t.good u.good })
 
-shape_by_taken : (n : ℕ) (bytes : List ℕ) (x : Shape × List ℕ) → n ≤ 2 → IsBytes bytes → shape_by n bytes ≡ Ok x → Took shape is_shape (byte n ++ bytes) x
-shape_by_taken zero bytes x le fits e = fixed_taken bytes x fits e
-shape_by_taken (suc zero) bytes x le fits e = sliding_taken bytes x fits e
-shape_by_taken (suc (suc n)) bytes x le fits e =
+shape_taken : (n : ℕ) (bytes : List ℕ) (x : Shape × List ℕ) → n ≤ 2 → IsBytes bytes → shape_by n bytes ≡ Ok x → TookShape n bytes x
+shape_taken zero bytes x le fits e = fixed_taken bytes x fits e
+shape_taken (suc zero) bytes x le fits e = sliding_taken bytes x fits e
+shape_taken (suc (suc n)) bytes x le fits e =
     let two : 2 ≡ suc (suc n) = omega arith in
-    subst (λ k. Took shape is_shape (byte k ++ bytes) x) two (session_taken bytes x fits e)
+    subst (λ k. TookShape k bytes x) two (session_taken bytes x fits e)
 
-pub shape_taken : Exact shape_at shape is_shape
-unfolding shape_at
-shape_taken bytes x fits e =
-    let b = bind_ok (judged (is_between 0 2) (number_at w8 bytes)) (λ tag. shape_by tag.0 tag.1) x e in
-    let t = tag_taken 0 2 bytes b.0 fits b.1 in
-    after_tag shape is_shape bytes b.0 x t.parts (shape_by_taken b.0.0 b.0.1 x (at_most 0 2 b.0.0 t.good) t.fits b.2)
+-- and by what a record is late
+pub record TookWindows (from_window : Bool) (tag : ℕ) (bytes : List ℕ) (x : (Shape × LateBy) × List ℕ) : Type 0 where
+  pub tagged : shape_tag x.0.0 ≡ tag
+  pub parts : bytes ≡ measures x.0.0 ++ x.1
+  pub fits : IsBytes x.1
+  pub good : is_shape x.0.0 ≡ true
+  pub late : late_by from_window x.0.0 ≡ x.0.1
 
-mode_of_tag : (n : ℕ) → n ≤ 1 → byte n ≡ mode (mode_by n)
+pub windows_taken : (from_window : Bool) (n : ℕ) (bytes : List ℕ) (x : (Shape × LateBy) × List ℕ) → n ≤ 2 → IsBytes bytes → windows_by from_window n bytes ≡ Ok x → TookWindows from_window n bytes x
+unfolding windows_by
+windows_taken b n bytes x le fits e =
+    bind_then _ _ x e (λ s e0 l0.
+    let t = shape_taken n bytes s le fits e0 in
+    let made : (Shape × LateBy) × List ℕ = ((s.0, late_by b s.0), s.1) in
+    subst (λ y. TookWindows b n bytes y) (ok_is made x l0) (record { tagged = t.tagged; parts = t.parts; fits = t.fits; good = t.good; late = refl }))
+
+mode_of_tag : (n : ℕ) → n ≤ 2 → byte n ≡ mode (mode_by n)
 mode_of_tag zero h = refl
-mode_of_tag (suc n) h =
-    let one : suc n ≡ 1 = omega arith in
-    ap byte one
+mode_of_tag (suc zero) h = refl
+mode_of_tag (suc (suc n)) h =
+    let two : suc (suc n) ≡ 2 = omega arith in
+    ap byte two
 
 pub mode_taken : Exact mode_at mode (λ m. true)
 unfolding mode_at
 mode_taken bytes x fits e =
-    let b = bind_ok (judged (is_between 0 1) (number_at w8 bytes)) (λ tag. Ok (mode_by tag.0, tag.1)) x e in
-    let t = tag_taken 0 1 bytes b.0 fits b.1 in
+    let b = bind_ok (judged (is_between 0 2) (number_at w8 bytes)) (λ tag. Ok (mode_by tag.0, tag.1)) x e in
+    let t = tag_taken 0 2 bytes b.0 fits b.1 in
     let made : Mode × List ℕ = (mode_by b.0.0, b.0.1) in
-    subst (λ y. Took mode (λ m. true) bytes y) (ok_is made x b.2) (record { parts = t.parts ∙ ap (λ r. r ++ b.0.1) (mode_of_tag b.0.0 (at_most 0 1 b.0.0 t.good)); fits = t.fits; good = refl })
+    subst (λ y. Took mode (λ m. true) bytes y) (ok_is made x b.2) (record { parts = t.parts ∙ ap (λ r. r ++ b.0.1) (mode_of_tag b.0.0 (at_most 0 2 b.0.0 t.good)); fits = t.fits; good = refl })
 
-form_of_tag : (n : ℕ) → n ≤ 3 → byte n ≡ form (form_by n)
+abbrev pub triggers_bytes : ℤ × ℤ → List ℕ
+triggers_bytes t = signed t.0 ++ signed t.1
+
+abbrev pub are_spans : ℤ × ℤ → Bool
+are_spans t = is_span t.0 && is_span t.1
+
+pub triggers_taken : Exact triggers_at triggers_bytes are_spans
+unfolding triggers_at
+triggers_taken bytes x fits e =
+    bind_then _ _ x e (λ early e0 l0.
+    bind_then _ _ x l0 (λ late e1 l1.
+    let t = measure_taken is_span bytes early fits e0 in
+    let u = measure_taken is_span early.1 late t.fits e1 in
+    let made : (ℤ × ℤ) × List ℕ = ((early.0, late.0), late.1) in
+    subst (λ y. Took triggers_bytes are_spans bytes y) (ok_is made x l1)
+    (record { parts = t.parts ∙ ap (λ r. signed early.0 ++ r) u.parts ∙ sym (append_assoc (signed early.0) (signed late.0) late.1); fits = u.fits; good = and_from _ _ t.good u.good })))
+
+-- the form of a tag
+pub record TookForm (m : Mode) (tag : ℕ) (f : Form) : Type 0 where
+  pub tagged : form_tag f ≡ tag
+  pub good : may_write m f ≡ true
+
+form_of_tag : (n : ℕ) → n ≤ 3 → form_tag (form_by n) ≡ n
 form_of_tag zero h = refl
 form_of_tag (suc zero) h = refl
 form_of_tag (suc (suc zero)) h = refl
 form_of_tag (suc (suc (suc n))) h =
     let three : suc (suc (suc n)) ≡ 3 = omega arith in
-    ap byte three
+    sym three
 
-pub form_taken : (m : Mode) → Exact (form_at m) form (is_form_of m)
-unfolding form_at
-form_taken m bytes x fits e =
-    let b = bind_ok (judged (λ n. is_between 0 3 n && is_form_of m (form_by n)) (number_at w8 bytes)) (λ tag. Ok (form_by tag.0, tag.1)) x e in
-    let j = judged_ok (λ n. is_between 0 3 n && is_form_of m (form_by n)) (number_at w8 bytes) b.0 b.1 in
-    let t = byte_taken bytes b.0 fits j.0 in
-    let g = and_parts (is_between 0 3 b.0.0) (is_form_of m (form_by b.0.0)) j.1 in
-    let made : Form × List ℕ = (form_by b.0.0, b.0.1) in
-    subst (λ y. Took form (is_form_of m) bytes y) (ok_is made x b.2) (record { parts = t.parts ∙ ap (λ r. r ++ b.0.1) (form_of_tag b.0.0 (at_most 0 3 b.0.0 g.0)); fits = t.fits; good = g.1 })
+pub form_taken : (m : Mode) (n : ℕ) (f : Form) → n ≤ 3 → form_of m n ≡ Ok f → TookForm m n f
+form_taken m n f le e =
+    let g = test_ok (may_write m (form_by n)) Operand (form_by n) f e in
+    subst (λ y. TookForm m n y) g.1 (record { tagged = form_of_tag n le; good = g.0 })
 
 -- ---- accumulators and columns
 

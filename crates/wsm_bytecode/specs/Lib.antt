@@ -1,3 +1,8 @@
+pub mod Tags
+pub mod Parts
+pub mod Steps
+pub mod Version1
+pub mod Version2
 pub mod Spelling
 pub mod Reading
 pub mod Text

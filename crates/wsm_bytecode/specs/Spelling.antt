@@ -1,116 +1,43 @@
--- The one spelling of a program as bytes, version 1. Numbers stand with their lowest byte first.
-use Rattle.std.specs.Prelude.{ℕ, List, [], ◌++◌, length, ℤ, codes}
-use Rattle.std.specs.List.{flat_map}
-use Rattle.std.specs.Int.{w8, w16, w64, to_le_bytes, cast_unsigned}
-use Rattle.wsm_record.specs.declared.words.CellType.{CellType}
-use Rattle.wsm_record.specs.declared.words.CellType.TheVariants as types
-use Rattle.wsm_record.specs.declared.Kind.{Kind}
-use Rattle.wsm_record.specs.declared.Kind.TheVariants.{Sum, Min, Max, Any, All}
+-- The spellings of a program as bytes: one in version 2, and one in version 1 where it has no test of a field.
+use Rattle.std.specs.Prelude.{◌≡◌, ℕ, Bool, ◌&&◌, List, ◌++◌, IsTrue}
+use Rattle.std.specs.List.{list_all}
 use Rattle.wsm_program.specs.declared.instr.Instr.{Instr}
-use Rattle.wsm_program.specs.declared.instr.Argument.{Argument}
-use Rattle.wsm_program.specs.declared.instr.Argument.TheVariants as arguments
-use Rattle.wsm_windows.specs.declared.Shape.{Shape}
-use Rattle.wsm_windows.specs.declared.Shape.TheVariants.{Fixed, Sliding, Session}
-use Rattle.wsm_record.specs.declared.Mode.{Mode}
-use Rattle.wsm_record.specs.declared.Mode.TheVariants.{Discarding, Accumulating}
-use Rattle.wsm_record.specs.declared.Form.{Form}
-use Rattle.wsm_record.specs.declared.Form.TheVariants.{Panes, Istream, Dstream, Rstream}
-use Rattle.wsm_program.specs.Program.{Name, Header, Program}
-use Rattle.wsm_record.specs.Schema.{FieldType, Int, Truth, Enum, DeclaredField, Declared}
-use Rattle.wsm_program.specs.declared.program.Costs.{Costs}
-use Rattle.wsm_program.specs.Instructions as table
-use Rattle.wsm_program.specs.Instructions.{truth}
+use Rattle.wsm_program.specs.Program.{Header, Program}
+use Rattle.wsm_bytecode.specs.declared.version.Version.{Version}
+use Rattle.wsm_bytecode.specs.declared.version.Version.TheVariants.{One, Two}
+use Rattle.wsm_bytecode.specs.Parts.{Settings, settings_in, byte, magic, names, fields, times, kinds, columns, budget, code}
+use Rattle.wsm_bytecode.specs.Version1 as first
+use Rattle.wsm_bytecode.specs.Version2 as second
 
-abbrev pub byte : ℕ → List ℕ
-byte n = to_le_bytes w8 n
+abbrev pub version_number : Version → ℕ
+version_number One = 1
+version_number Two = 2
 
-abbrev pub number : ℕ → List ℕ
-number n = to_le_bytes w16 n
+abbrev pub settings : Version → Settings → List ℕ
+settings One s = first.settings s
+settings Two s = second.settings s
 
-unfoldable pub long : ℕ → List ℕ
-long n = to_le_bytes w64 n
+unfoldable pub header : Version → Header → List ℕ
+header v h = names h.schema.keys ++ fields h.schema.fields ++ times h.clock ++ settings v (settings_in h) ++ kinds h.kinds ++ columns h.columns ++ budget h.budget
 
--- in two's complement
-unfoldable pub signed : ℤ → List ℕ
-signed n = to_le_bytes w64 (cast_unsigned w64 n)
+unfoldable pub spelling_in : Version → Program → List ℕ
+spelling_in v p = magic ++ byte (version_number v) ++ header v p.header ++ code p.selection ++ code p.update ++ code p.fire
 
-abbrev pub name : Name → List ℕ
-name n = byte (length n) ++ n
+-- an instruction of the version
+abbrev pub has : Version → Instr → Bool
+has One i = first.has i
+has Two i = second.has i
 
-abbrev pub names : List Name → List ℕ
-names ns = number (length ns) ++ flat_map name ns
+-- a version spells the programs of its instructions alone
+unfoldable pub spells : Version → Program → Bool
+spells v p = list_all (has v) p.selection && (list_all (has v) p.update && list_all (has v) p.fire)
 
-abbrev pub field_type : FieldType → List ℕ
-field_type (Int lo hi) = byte 0 ++ signed lo ++ signed hi
-field_type Truth = byte 1
-field_type (Enum ns) = byte 2 ++ names ns
+-- the bytes are the program's spelling in one of the versions
+pub record IsSpelling (p : Program) (bytes : List ℕ) : Type 0 where
+  pub version : Version
+  pub spells : IsTrue (spells version p)
+  pub spelled : bytes ≡ spelling_in version p
 
-abbrev pub field : DeclaredField → List ℕ
-field f = name f.name ++ field_type f.type
-
-unfoldable pub schema : Declared → List ℕ
-schema s = names s.keys ++ byte (length s.fields) ++ flat_map field s.fields
-
-abbrev pub shape : Shape → List ℕ
-shape (Fixed size) = byte 0 ++ signed size
-shape (Sliding size period) = byte 1 ++ signed size ++ signed period
-shape (Session gap) = byte 2 ++ signed gap
-
-abbrev pub mode : Mode → List ℕ
-mode Discarding = byte 0
-mode Accumulating = byte 1
-
-abbrev pub form : Form → List ℕ
-form Panes = byte 0
-form Istream = byte 1
-form Dstream = byte 2
-form Rstream = byte 3
-
-abbrev pub kind : Kind → List ℕ
-kind Sum = byte 0
-kind Min = byte 1
-kind Max = byte 2
-kind Any = byte 3
-kind All = byte 4
-
-abbrev pub kinds : List Kind → List ℕ
-kinds ks = byte (length ks) ++ flat_map kind ks
-
-abbrev pub column : CellType → List ℕ
-column types.Int = byte 0
-column types.Bool = byte 1
-column (types.Enum e) = byte 2 ++ byte e
-
-abbrev pub columns : List CellType → List ℕ
-columns ts = byte (length ts) ++ flat_map column ts
-
-abbrev pub budget : Costs → List ℕ
-budget b = long b.per_record ++ long b.per_pane ++ long b.held
-
-abbrev pub magic : List ℕ
-magic = codes "WSMP"
-
-unfoldable pub header : Header → List ℕ
-header h = magic ++ byte 1 ++ schema h.schema
-    ++ signed h.clock.start ++ signed h.clock.skew ++ signed h.clock.lateness ++ signed h.clock.records
-    ++ shape h.shape ++ mode h.mode ++ signed h.early ++ signed h.late ++ form h.form
-    ++ kinds h.kinds ++ columns h.columns ++ budget h.budget
-
-abbrev pub argument : Argument → List ℕ
-argument arguments.Nothing = []
-argument (arguments.Number n) = signed n
-argument (arguments.Truth b) = byte (truth b)
-argument (arguments.Name e i) = byte e ++ number i
-argument (arguments.Field f) = byte f
-argument (arguments.Accumulator a) = byte a
-argument (arguments.Target t) = number t
-
--- its code, and what stands behind it
-unfoldable pub instr : Instr → List ℕ
-instr i = byte (table.code i) ++ argument (table.argument i)
-
-unfoldable pub code : List Instr → List ℕ
-code is = number (length is) ++ flat_map instr is
-
+-- the spelling that is written
 unfoldable pub spelling : Program → List ℕ
-spelling p = header p.header ++ code p.selection ++ code p.update ++ code p.fire
+spelling p = spelling_in Two p

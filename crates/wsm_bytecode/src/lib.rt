@@ -1,11 +1,11 @@
-//! Programs as bytes and as text: the one spelling of a program, and its listing.
+//! Programs as bytes and as text: the spellings of a program, and its listing.
 //!
-//! [`encode`] spells a [`Program`], [`decode`] reads bytes that spell one and refuses any other, and
-//! [`disassemble`] lists its instructions. What a program is stands in `wsm_program`, whose types
-//! are handed on here.
+//! [`encode`] spells a [`Program`], in version 2 of the bytes. [`decode`] reads bytes of version 1 or 2
+//! that spell one, and refuses any other. [`disassemble`] lists its instructions. What a program is
+//! stands in `wsm_program`, whose types are handed on here.
 //!
-//! Where `bytes` is the program that counts the records of two keys in windows of 60 and sums their
-//! one field:
+//! Where `bytes` is, in version 1 or 2, the program that counts the records of two keys in windows of
+//! 60 and sums their one field:
 //!
 //! ```rust
 //! use wsm_bytecode::{DecodeRefusal, Instr, SectionId, decode, disassemble, encode};
@@ -13,28 +13,38 @@
 //! let program = decode(alloc, bytes)?;
 //! let update = [Instr::Field(0), Instr::Fold(0), Instr::Return];
 //! assert_eq!(rt; program.section(SectionId::Update), update.as_slice());
-//! assert_eq!(rt; encode(alloc, &program)?.as_slice(), bytes); // a program has one spelling
+//!
+//! let written = encode(alloc, &program)?; // the one spelling of version 2, which its fifth byte names
+//! assert_eq!(rt; written[4], 2);
+//! let again = decode(alloc, &written)?; // the same program
+//! assert_eq!(rt; encode(alloc, &again)?.as_slice(), written.as_slice());
 //! let listing = disassemble(alloc, &program)?; // as `update 0 FIELD 0`, a line for each
 //!
 //! let cut = decode(alloc, &bytes[..bytes.len() - 1]);
 //! assert!(rt; cut.is_err_and(|e| e == DecodeRefusal::Truncated));
 //! ```
 //!
-//! - `reading`: from bytes to a program
+//! - `reading`: from bytes to a program; `version1` and `version2` read what each has of its own
 //! - `writing`: from a program to its bytes
+//! - `version`: the versions of the bytes
+//! - `tags`: the numbers that stand for shapes, modes, forms and kinds
 //! - `limits`: what the bytes begin with, and their limits
 //! - `listing`: a line of text for each instruction
+//! - [`laws`]: what holds of the spellings of every program
 #![tactic(auto)]
 
 pub use listing::disassemble;
 pub use reading::decode;
 pub use writing::encode;
 pub use wsm_program::{
-    CellType, Clock, Costs, DecodeRefusal, Header, Instr, Operands, Operation, Program, Section,
-    SectionId,
+    CellType, Clock, Comparison, Costs, DecodeRefusal, FieldTest, Header, Instr, LateBy, Operands,
+    Operation, Program, Section, SectionId,
 };
 
+pub mod laws;
 mod limits;
 mod listing;
 mod reading;
+mod tags;
+mod version;
 mod writing;

@@ -5,8 +5,8 @@ pub(crate) use wsm_record::limits::{LATEST_TIME, LONGEST_SPAN, MAX_STATED};
 
 /// The first bytes of a program.
 pub(crate) const MAGIC: &[u8] = b"WSMP";
-/// The version of the bytes.
-pub(crate) const VERSION: u8 = 1;
+/// The version that is written.
+pub(crate) const WRITTEN_VERSION: u8 = 2;
 
 /// The most panes that a program states as held.
 pub(crate) const MAX_HELD: u64 = limits::MAX_PANES;
@@ -20,5 +20,7 @@ pub(crate) const MAX_COLUMNS: u8 = limits::MAX_COLUMNS as u8;
 pub(crate) const MAX_FIELDS: u8 = limits::MAX_FIELDS as u8;
 /// The most keys, and the most names of a field.
 pub(crate) const MAX_NAMES: u16 = limits::MAX_NAMES as u16;
+/// The most sources.
+pub(crate) const MAX_SOURCES: u8 = limits::MAX_SOURCES as u8;
 /// The most bytes of a name.
 pub(crate) const MAX_NAME: u8 = limits::MAX_NAME as u8;

@@ -2,11 +2,12 @@
 
 ghost use Rattle.std.specs.Prelude.{◌≡◌, IfOk, IsTrue, Ok};
 ghost use Rattle.wsm_program.specs.Program.{Program as Value, is_program};
-ghost use Rattle.wsm_bytecode.specs.Spelling.{spelling};
-ghost use Rattle.wsm_bytecode.specs.Reading.{Gives, program_at, decode as decoded};
+ghost use Rattle.wsm_bytecode.specs.Spelling.{IsSpelling};
+ghost use Rattle.wsm_bytecode.specs.Reading.{Gives, parts_at, program_at, decode as decoded};
 
 use crate::reading::code::section_of;
-use crate::reading::header::header_of;
+use crate::reading::header::{header_of, version_of};
+use crate::version::Version;
 use std::alloc::Global;
 use wsm_program::{DecodeRefusal, Program};
 
@@ -16,18 +17,20 @@ mod names;
 mod numbers;
 mod schema;
 mod settings;
+mod version1;
+mod version2;
 
-/// The program that the bytes spell, or their first fault from the left.
+/// The program that the bytes spell in version 1 or 2, or their first fault from the left.
 ///
 /// A value is judged once its last byte was read: so a value that is refused comes before bytes
 /// that are cut off behind it.
 pub fn decode(alloc: Global, bytes: &[u8]) -> Result<Program, DecodeRefusal>
     // What is read is spelled so.
-    ensures found { IfOk result (λ p. bytes.now ≡ spelling p) }
+    ensures found { IfOk result (λ p. IsSpelling p bytes.now) }
     // What is read is a program.
     ensures lawful { IfOk result (λ p. IsTrue (is_program p)) }
     // What is spelled so is read, unless memory runs out.
-    ensures only { (p : Value) → IsTrue (is_program p) → bytes.now ≡ spelling p → Gives (λ q. q) result (Ok p) }
+    ensures only { (p : Value) → IsTrue (is_program p) → IsSpelling p bytes.now → Gives (λ q. q) result (Ok p) }
     // Which fault it is.
     ensures exact { Gives (λ q. q) result (decoded bytes.now) }
 {
@@ -50,9 +53,22 @@ fn all(alloc: Global, bytes: &[u8]) -> Result<Program, DecodeRefusal>
 fn program_of(alloc: Global, bytes: &[u8]) -> Result<(Program, &[u8]), DecodeRefusal>
     ensures { Gives (λ x. (x.0, x.1.now)) result (program_at bytes.now) }
 {
-    let (header, rest) = header_of(alloc, bytes)?;
-    let (selection, rest) = section_of(alloc, &header, rest)?;
-    let (update, rest) = section_of(alloc, &header, rest)?;
-    let (fire, rest) = section_of(alloc, &header, rest)?;
+    let (version, rest) = version_of(bytes)?;
+    parts_of(alloc, version, rest)
+}
+
+// What stands behind the version.
+#[tactic(auto, unfolding(crate::specs::Reading::parts_at))]
+fn parts_of(
+    alloc: Global,
+    version: Version,
+    bytes: &[u8],
+) -> Result<(Program, &[u8]), DecodeRefusal>
+    ensures { Gives (λ x. (x.0, x.1.now)) result (parts_at version bytes.now) }
+{
+    let (header, rest) = header_of(alloc, version, bytes)?;
+    let (selection, rest) = section_of(alloc, version, &header, rest)?;
+    let (update, rest) = section_of(alloc, version, &header, rest)?;
+    let (fire, rest) = section_of(alloc, version, &header, rest)?;
     Ok((Program::of_parts(header, selection, update, fire), rest))
 }

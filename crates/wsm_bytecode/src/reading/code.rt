@@ -3,42 +3,46 @@
 ghost use Rattle.std.specs.Prelude.{◌≡◌, nat_lt};
 ghost use Rattle.std.specs.Int.{w8};
 ghost use Rattle.wsm_program.specs.View.{header_of};
-ghost use Rattle.wsm_bytecode.specs.Reading.{Gives, judged, number_at, several, push_int_at, push_bool_at, push_enum_at, index_at, target_at, plain_instr, instr_by, instr_at, code_at};
+ghost use Rattle.wsm_bytecode.specs.Steps.{judged, number_at, several};
+ghost use Rattle.wsm_bytecode.specs.Reading.{Gives, push_int_at, push_bool_at, push_enum_at, index_at, target_at, comparison_at, number_field_at, field_test_at, test_at, test_by, plain_instr, instr_by, instr_at, code_at};
 ghost use Rattle.wsm_program.specs.declared.instr.Instr.TheVariants.{Field, Acc, Fold, Jump, JumpIfFalse};
 
 use crate::limits::MAX_SECTION;
 use crate::reading::header::enum_of;
 use crate::reading::numbers::{byte_of, byte_within, i64_of, u16_of, u16_within};
+use crate::version::Version;
 use std::alloc::Global;
-use wsm_program::enums::names;
-use wsm_program::{DecodeRefusal, Header, Instr, Operation, Section};
+use wsm_program::enums::{is_number_field, names};
+use wsm_program::{Comparison, DecodeRefusal, FieldTest, Header, Instr, Operation, Section};
 use wsm_record::Schema;
 
 /// The number of instructions, and these.
 #[tactic(auto, unfolding(crate::specs::Reading::code_at))]
 pub(crate) fn section_of<'a>(
     alloc: Global,
+    version: Version,
     header: &Header,
     bytes: &'a [u8],
 ) -> Result<(Section, &'a [u8]), DecodeRefusal>
-    ensures { Gives (λ x. (x.0.items, x.1.now)) result (code_at (header_of header.now) bytes.now) }
+    ensures { Gives (λ x. (x.0.items, x.1.now)) result (code_at version (header_of header.now) bytes.now) }
 {
     let (count, rest) = u16_within(bytes, 0, MAX_SECTION)?;
-    so_many_instrs(alloc, header, rest, count)
+    so_many_instrs(alloc, version, header, rest, count)
 }
 
 fn so_many_instrs<'a>(
     alloc: Global,
+    version: Version,
     header: &Header,
     bytes: &'a [u8],
     count: u16,
 ) -> Result<(Section, &'a [u8]), DecodeRefusal>
-    ensures { Gives (λ x. (x.0.items, x.1.now)) result (several (instr_at (header_of header.now)) count bytes.now) }
+    ensures { Gives (λ x. (x.0.items, x.1.now)) result (several (instr_at version (header_of header.now)) count bytes.now) }
 {
     let mut instrs = Vec::new(alloc);
     let mut rest = bytes;
     for _ in 0..count {
-        let (instr, after) = instr_of(header, rest)?;
+        let (instr, after) = instr_of(version, header, rest)?;
         instrs.push(instr)?;
         rest = after;
     }
@@ -46,21 +50,26 @@ fn so_many_instrs<'a>(
 }
 
 #[tactic(auto, unfolding(crate::specs::Reading::instr_at))]
-fn instr_of<'a>(header: &Header, bytes: &'a [u8]) -> Result<(Instr, &'a [u8]), DecodeRefusal>
-    ensures { Gives (λ x. (x.0, x.1.now)) result (instr_at (header_of header.now) bytes.now) }
+fn instr_of<'a>(
+    version: Version,
+    header: &Header,
+    bytes: &'a [u8],
+) -> Result<(Instr, &'a [u8]), DecodeRefusal>
+    ensures { Gives (λ x. (x.0, x.1.now)) result (instr_at version (header_of header.now) bytes.now) }
 {
     let (code, rest) = byte_of(bytes)?;
-    instr_of_code(header, code, rest)
+    instr_of_code(version, header, code, rest)
 }
 
 // The operands of the instruction of a code, which stand behind it.
 #[tactic(auto, unfolding(crate::specs::Reading::instr_by))]
 fn instr_of_code<'a>(
+    version: Version,
     header: &Header,
     code: u8,
     bytes: &'a [u8],
 ) -> Result<(Instr, &'a [u8]), DecodeRefusal>
-    ensures { Gives (λ x. (x.0, x.1.now)) result (instr_by (header_of header.now) code bytes.now) }
+    ensures { Gives (λ x. (x.0, x.1.now)) result (instr_by version (header_of header.now) code bytes.now) }
 {
     match code {
         0x01 => push_int_of(bytes),
@@ -70,6 +79,7 @@ fn instr_of_code<'a>(
         0x06 => acc_of(header.kinds.len(), bytes),
         0x30 => jump_of(bytes),
         0x31 => jump_if_false_of(bytes),
+        0x32 => test_in(version, &header.schema, bytes),
         0x40 => fold_of(header.kinds.len(), bytes),
         _ => match plain_instr_of(code) {
             Some(instr) => Ok((instr, bytes)),
@@ -108,7 +118,7 @@ fn push_bool_of(bytes: &[u8]) -> Result<(Instr, &[u8]), DecodeRefusal>
 }
 
 // The ENUM is judged at its own byte, its name's number behind it.
-#[tactic(auto, unfolding(crate::specs::Reading::push_enum_at, crate::specs::Reading::enum_number_at))]
+#[tactic(auto, unfolding(crate::specs::Reading::push_enum_at, crate::specs::Steps::enum_number_at))]
 fn push_enum_of<'a>(schema: &Schema, bytes: &'a [u8]) -> Result<(Instr, &'a [u8]), DecodeRefusal>
     ensures { Gives (λ x. (x.0, x.1.now)) result (push_enum_at schema.now bytes.now) }
 {
@@ -158,6 +168,75 @@ fn jump_if_false_of(bytes: &[u8]) -> Result<(Instr, &[u8]), DecodeRefusal>
 {
     let (target, rest) = u16_of(bytes)?;
     Ok((Instr::JumpIfFalse(target), rest))
+}
+
+// Version 1 has no test.
+fn test_in<'a>(
+    version: Version,
+    schema: &Schema,
+    bytes: &'a [u8],
+) -> Result<(Instr, &'a [u8]), DecodeRefusal>
+    ensures { Gives (λ x. (x.0, x.1.now)) result (test_by version schema.now.fields bytes.now) }
+{
+    match version {
+        Version::One => Err(DecodeRefusal::UnknownOpcode),
+        Version::Two => test_of(schema, bytes),
+    }
+}
+
+#[tactic(auto, unfolding(crate::specs::Reading::test_at))]
+fn test_of<'a>(schema: &Schema, bytes: &'a [u8]) -> Result<(Instr, &'a [u8]), DecodeRefusal>
+    ensures { Gives (λ x. (x.0, x.1.now)) result (test_at schema.now.fields bytes.now) }
+{
+    let (test, rest) = field_test_of(schema, bytes)?;
+    let (target, rest) = u16_of(rest)?;
+    Ok((Instr::Test(test, target), rest))
+}
+
+// The field and the comparison are judged at their own bytes.
+#[tactic(auto, unfolding(crate::specs::Reading::field_test_at))]
+fn field_test_of<'a>(
+    schema: &Schema,
+    bytes: &'a [u8],
+) -> Result<(FieldTest, &'a [u8]), DecodeRefusal>
+    ensures { Gives (λ x. (x.0, x.1.now)) result (field_test_at schema.now.fields bytes.now) }
+{
+    let (field, rest) = number_field_of(schema, bytes)?;
+    let (comparison, rest) = comparison_of(rest)?;
+    let (number, rest) = i64_of(rest)?;
+    let test = FieldTest {
+        field,
+        comparison,
+        number,
+    };
+    Ok((test, rest))
+}
+
+#[tactic(auto, unfolding(crate::specs::Reading::number_field_at))]
+fn number_field_of<'a>(schema: &Schema, bytes: &'a [u8]) -> Result<(u8, &'a [u8]), DecodeRefusal>
+    ensures { Gives (λ x. (x.0, x.1.now)) result (number_field_at schema.now.fields bytes.now) }
+{
+    let (field, rest) = byte_of(bytes)?;
+    if !is_number_field(schema, field) {
+        return Err(DecodeRefusal::Operand);
+    }
+    Ok((field, rest))
+}
+
+#[tactic(auto, unfolding(crate::specs::Reading::comparison_at))]
+fn comparison_of(bytes: &[u8]) -> Result<(Comparison, &[u8]), DecodeRefusal>
+    ensures { Gives (λ x. (x.0, x.1.now)) result (comparison_at bytes.now) }
+{
+    let (tag, rest) = byte_within(bytes, 0, 5)?;
+    let comparison = match tag {
+        0 => Comparison::Eq,
+        1 => Comparison::Ne,
+        2 => Comparison::Lt,
+        3 => Comparison::Le,
+        4 => Comparison::Gt,
+        _ => Comparison::Ge,
+    };
+    Ok((comparison, rest))
 }
 
 // A byte that is less than a count.

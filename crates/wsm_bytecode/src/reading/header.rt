@@ -1,31 +1,50 @@
-//! The header.
+//! The version and the header.
 
 ghost use Rattle.std.specs.Prelude.{◌≡◌};
 ghost use Rattle.wsm_program.specs.View.{header_of as seen};
-ghost use Rattle.wsm_bytecode.specs.Reading.{Gives, several, after_magic, after_version, body_at, enum_number_at, column_at, columns_at, header_at};
+ghost use Rattle.wsm_bytecode.specs.Steps.{several, enum_number_at, column_at, columns_at};
+ghost use Rattle.wsm_bytecode.specs.Reading.{Gives, settings_seen, after_magic, version_by, version_at, settings_at, header_at};
 
-use crate::limits::{MAGIC, MAX_COLUMNS, VERSION};
+use crate::limits::{MAGIC, MAX_COLUMNS};
+use crate::reading::names::names_of;
 use crate::reading::numbers::{byte_of, byte_within};
-use crate::reading::schema::schema_of;
-use crate::reading::settings::{budget_of, kinds_of, settings_of};
+use crate::reading::schema::{fields_of, schema_of};
+use crate::reading::settings::{Settings, budget_of, kinds_of, times_of};
+use crate::reading::{version1, version2};
+use crate::version::Version;
 use std::alloc::Global;
 use wsm_program::enums::name_count;
-use wsm_program::{DecodeRefusal, Header};
+use wsm_program::{Clock, DecodeRefusal, Header};
 use wsm_record::{CellType, Schema};
 
+/// What stands behind the version and in front of the sections.
 #[tactic(auto, unfolding(crate::specs::Reading::header_at))]
-pub(crate) fn header_of(alloc: Global, bytes: &[u8]) -> Result<(Header, &[u8]), DecodeRefusal>
-    ensures { Gives (λ x. (seen x.0, x.1.now)) result (header_at bytes.now) }
+pub(crate) fn header_of(
+    alloc: Global,
+    version: Version,
+    bytes: &[u8],
+) -> Result<(Header, &[u8]), DecodeRefusal>
+    ensures { Gives (λ x. (seen x.0, x.1.now)) result (header_at version bytes.now) }
 {
-    let rest = skip_front(bytes)?;
-    let (schema, rest) = schema_of(alloc, rest)?;
-    let (settings, rest) = settings_of(rest)?;
+    let (keys, rest) = names_of(alloc, bytes)?;
+    let (fields, rest) = fields_of(alloc, rest)?;
+    let (times, rest) = times_of(rest)?;
+    let (settings, rest) = settings_of(alloc, version, rest)?;
+    let schema = schema_of(alloc, &keys, &fields, &settings.sources)?;
     let (kinds, rest) = kinds_of(alloc, rest)?;
     let (columns, rest) = columns_of(alloc, &schema, rest)?;
     let (budget, rest) = budget_of(rest)?;
+    let clock = Clock {
+        start: times.start,
+        skew: times.skew,
+        lateness: times.lateness,
+        late: settings.late_by,
+        records: times.records,
+        sources: schema.source_count() as u8,
+    };
     let header = Header {
         schema,
-        clock: settings.clock,
+        clock,
         shape: settings.shape,
         mode: settings.mode,
         early: settings.early,
@@ -38,13 +57,38 @@ pub(crate) fn header_of(alloc: Global, bytes: &[u8]) -> Result<(Header, &[u8]), 
     Ok((header, rest))
 }
 
-/// The bytes after `WSMP` and the version.
-#[tactic(auto, unfolding(crate::specs::Reading::body_at))]
-fn skip_front(bytes: &[u8]) -> Result<&[u8], DecodeRefusal>
-    ensures { Gives (λ x. x.now) result (body_at bytes.now) }
+fn settings_of(
+    alloc: Global,
+    version: Version,
+    bytes: &[u8],
+) -> Result<(Settings, &[u8]), DecodeRefusal>
+    ensures { Gives (λ x. (settings_seen x.0, x.1.now)) result (settings_at version bytes.now) }
+{
+    match version {
+        Version::One => version1::settings_of(alloc, bytes),
+        Version::Two => version2::settings_of(alloc, bytes),
+    }
+}
+
+/// The version, which stands behind `WSMP`.
+#[tactic(auto, unfolding(crate::specs::Reading::version_at))]
+pub(crate) fn version_of(bytes: &[u8]) -> Result<(Version, &[u8]), DecodeRefusal>
+    ensures { Gives (λ x. (x.0, x.1.now)) result (version_at bytes.now) }
 {
     let rest = skip_magic(bytes)?;
-    skip_version(rest)
+    let (number, rest) = byte_of(rest)?;
+    let version = version_of_number(number)?;
+    Ok((version, rest))
+}
+
+fn version_of_number(number: u8) -> Result<Version, DecodeRefusal>
+    ensures { result ≡ version_by number }
+{
+    match number {
+        1 => Ok(Version::One),
+        2 => Ok(Version::Two),
+        _ => Err(DecodeRefusal::Version),
+    }
 }
 
 /// The bytes after `WSMP`.
@@ -62,20 +106,8 @@ fn skip_magic(bytes: &[u8]) -> Result<&[u8], DecodeRefusal>
     Ok(rest)
 }
 
-/// The bytes after the version.
-#[tactic(auto, unfolding(crate::specs::Reading::after_version))]
-fn skip_version(bytes: &[u8]) -> Result<&[u8], DecodeRefusal>
-    ensures { Gives (λ x. x.now) result (after_version bytes.now) }
-{
-    let (version, rest) = byte_of(bytes)?;
-    if version != VERSION {
-        return Err(DecodeRefusal::Version);
-    }
-    Ok(rest)
-}
-
 /// The types of 1 to 16 columns.
-#[tactic(auto, unfolding(crate::specs::Reading::columns_at))]
+#[tactic(auto, unfolding(crate::specs::Steps::columns_at))]
 fn columns_of<'a>(
     alloc: Global,
     schema: &Schema,
@@ -105,7 +137,7 @@ fn so_many_columns<'a>(
     Ok((columns, rest))
 }
 
-#[tactic(auto, unfolding(crate::specs::Reading::column_at, crate::specs::Reading::enum_column_at))]
+#[tactic(auto, unfolding(crate::specs::Steps::column_at, crate::specs::Steps::enum_column_at))]
 fn column_of<'a>(schema: &Schema, bytes: &'a [u8]) -> Result<(CellType, &'a [u8]), DecodeRefusal>
     ensures { Gives (λ x. (x.0, x.1.now)) result (column_at schema.now bytes.now) }
 {
@@ -121,7 +153,7 @@ fn column_of<'a>(schema: &Schema, bytes: &'a [u8]) -> Result<(CellType, &'a [u8]
 }
 
 /// The number of an ENUM that there is.
-#[tactic(auto, unfolding(crate::specs::Reading::enum_number_at))]
+#[tactic(auto, unfolding(crate::specs::Steps::enum_number_at))]
 pub(crate) fn enum_of<'a>(schema: &Schema, bytes: &'a [u8]) -> Result<(u8, &'a [u8]), DecodeRefusal>
     ensures { Gives (λ x. (x.0, x.1.now)) result (enum_number_at schema.now bytes.now) }
 {

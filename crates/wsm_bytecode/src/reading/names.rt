@@ -2,7 +2,8 @@
 
 ghost use Rattle.std.specs.Prelude.{◌≡◌, not, []};
 ghost use Rattle.wsm_record.specs.Name.{is_among};
-ghost use Rattle.wsm_bytecode.specs.Reading.{Gives, judged, name_at, names_after, names_at};
+ghost use Rattle.wsm_bytecode.specs.Steps.{judged, name_at, names_after, names_at};
+ghost use Rattle.wsm_bytecode.specs.Reading.{Gives};
 
 use crate::limits::{MAX_NAME, MAX_NAMES};
 use crate::reading::numbers::{byte_within, u16_within};
@@ -11,7 +12,7 @@ use wsm_program::DecodeRefusal;
 use wsm_record::Name;
 
 /// A byte of length and a name. The length is judged at its own byte, the name at its last.
-#[tactic(auto, unfolding(crate::specs::Reading::name_at))]
+#[tactic(auto, unfolding(crate::specs::Steps::name_at))]
 pub(crate) fn name_of(bytes: &[u8]) -> Result<(Name, &[u8]), DecodeRefusal>
     ensures { Gives (λ x. (x.0, x.1.now)) result (name_at bytes.now) }
 {
@@ -28,7 +29,7 @@ pub(crate) fn name_of(bytes: &[u8]) -> Result<(Name, &[u8]), DecodeRefusal>
 }
 
 /// A list of 1 to 1,000 names, none of them twice.
-#[tactic(auto, unfolding(crate::specs::Reading::names_at))]
+#[tactic(auto, unfolding(crate::specs::Steps::names_at))]
 pub(crate) fn names_of(alloc: Global, bytes: &[u8]) -> Result<(Vec<Name>, &[u8]), DecodeRefusal>
     ensures { Gives (λ x. (x.0.items, x.1.now)) result (names_at bytes.now) }
 {
@@ -36,7 +37,8 @@ pub(crate) fn names_of(alloc: Global, bytes: &[u8]) -> Result<(Vec<Name>, &[u8])
     so_many_names(alloc, rest, count)
 }
 
-fn so_many_names(
+/// So many names, none of them twice.
+pub(crate) fn so_many_names(
     alloc: Global,
     bytes: &[u8],
     count: u16,

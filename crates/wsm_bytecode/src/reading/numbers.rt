@@ -6,7 +6,8 @@ ghost use Rattle.std.specs.Prelude.{◌≡◌};
 ghost use Rattle.std.specs.Int.{w8, w16, w64};
 ghost use Rattle.wsm_record.specs.Name.{is_between};
 ghost use Rattle.wsm_record.specs.Schema.{is_within};
-ghost use Rattle.wsm_bytecode.specs.Reading.{Gives, number_at, signed_at, judged};
+ghost use Rattle.wsm_bytecode.specs.Steps.{number_at, signed_at, judged};
+ghost use Rattle.wsm_bytecode.specs.Reading.{Gives};
 
 use wsm_program::DecodeRefusal;
 

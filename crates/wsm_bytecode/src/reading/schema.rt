@@ -1,9 +1,10 @@
-//! Keys and fields.
+//! Fields, and the schema of what was read.
 
-ghost use Rattle.std.specs.Prelude.{◌≡◌, [], map, bytes_eq};
+ghost use Rattle.std.specs.Prelude.{◌≡◌, [], map, bytes_eq, Ok};
 ghost use Rattle.std.specs.List.{list_any};
-ghost use Rattle.wsm_record.specs.Fields.{declared_type, declared_field};
-ghost use Rattle.wsm_bytecode.specs.Reading.{Gives, field_type_at, new_field_at, fields_after, schema_at, interval_at};
+ghost use Rattle.wsm_record.specs.Fields.{declared_type, declared_field, declared_of};
+ghost use Rattle.wsm_bytecode.specs.Steps.{field_type_at, new_field_at, fields_after, fields_at, interval_at};
+ghost use Rattle.wsm_bytecode.specs.Reading.{Gives};
 
 use crate::limits::MAX_FIELDS;
 use crate::reading::names::{name_of, names_of};
@@ -12,16 +13,27 @@ use std::alloc::Global;
 use wsm_program::DecodeRefusal;
 use wsm_record::{Field, Name, Schema, Ty};
 
-#[tactic(auto, unfolding(crate::specs::Reading::schema_at))]
-pub(crate) fn schema_of(alloc: Global, bytes: &[u8]) -> Result<(Schema, &[u8]), DecodeRefusal>
-    ensures { Gives (λ x. (x.0, x.1.now)) result (schema_at bytes.now) }
+/// At most 16 fields, no name twice.
+#[tactic(auto, unfolding(crate::specs::Steps::fields_at))]
+pub(crate) fn fields_of(alloc: Global, bytes: &[u8]) -> Result<(Vec<Field>, &[u8]), DecodeRefusal>
+    ensures { Gives (λ x. (map declared_field x.0.items, x.1.now)) result (fields_at bytes.now) }
 {
-    let (keys, rest) = names_of(alloc, bytes)?;
-    let (count, rest) = byte_within(rest, 0, MAX_FIELDS)?;
-    let (fields, rest) = so_many_fields(alloc, rest, count)?;
-    // Keys and fields were judged as they were read, so there is nothing left to refuse.
-    match Schema::new(alloc, &keys, &fields) {
-        Ok(schema) => Ok((schema, rest)),
+    let (count, rest) = byte_within(bytes, 0, MAX_FIELDS)?;
+    so_many_fields(alloc, rest, count)
+}
+
+/// The schema of what was read.
+pub(crate) fn schema_of(
+    alloc: Global,
+    keys: &[Name],
+    fields: &[Field],
+    sources: &[Name],
+) -> Result<Schema, DecodeRefusal>
+    ensures { Gives (λ s. s) result (Ok (declared_of keys.now fields.now sources.now)) }
+{
+    // All were judged as they were read, so there is nothing left to refuse.
+    match Schema::new(alloc, keys, fields, sources) {
+        Ok(schema) => Ok(schema),
         Err(_) => Err(DecodeRefusal::Memory),
     }
 }
@@ -44,7 +56,7 @@ fn so_many_fields(
 }
 
 // A field whose name is none of those before.
-#[tactic(auto, unfolding(crate::specs::Reading::new_field_at))]
+#[tactic(auto, unfolding(crate::specs::Steps::new_field_at))]
 fn new_field_of<'a>(
     alloc: Global,
     bytes: &'a [u8],
@@ -66,7 +78,7 @@ fn names_one_of(name: &Name, fields: &[Field]) -> bool
     fields.iter().any(|field| *name == field.name)
 }
 
-#[tactic(auto, unfolding(crate::specs::Reading::field_type_at, crate::specs::Reading::interval_at, crate::specs::Reading::enum_at))]
+#[tactic(auto, unfolding(crate::specs::Steps::field_type_at, crate::specs::Steps::interval_at, crate::specs::Steps::enum_at))]
 fn type_of(alloc: Global, bytes: &[u8]) -> Result<(Ty, &[u8]), DecodeRefusal>
     ensures { Gives (λ x. (declared_type x.0, x.1.now)) result (field_type_at bytes.now) }
 {
@@ -82,7 +94,7 @@ fn type_of(alloc: Global, bytes: &[u8]) -> Result<(Ty, &[u8]), DecodeRefusal>
 }
 
 // Two numbers, judged together at the later one.
-#[tactic(auto, unfolding(crate::specs::Reading::interval_at))]
+#[tactic(auto, unfolding(crate::specs::Steps::interval_at))]
 fn interval_of(bytes: &[u8]) -> Result<(Ty, &[u8]), DecodeRefusal>
     ensures { Gives (λ x. (declared_type x.0, x.1.now)) result (interval_at bytes.now) }
 {

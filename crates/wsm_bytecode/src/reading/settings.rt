@@ -1,69 +1,88 @@
-//! The parts of a header behind its schema.
+//! The parts of a header behind its fields, as far as they are the same in each version.
 
-ghost use Rattle.std.specs.Prelude.{◌≡◌};
-ghost use Rattle.wsm_bytecode.specs.Reading.{Gives, clock_at, shape_at, mode_at, triggers_at, form_at, settings_at, kind_at, kinds_at, several, budget_at};
+ghost use Rattle.std.specs.Prelude.{◌≡◌, ◌≤◌};
+ghost use Rattle.wsm_bytecode.specs.Steps.{times_at, shape_by, late_by as late_by_flag, windows_by, mode_at, triggers_at, form_of as form_by_mode, kind_at, kinds_at, several, budget_at};
+ghost use Rattle.wsm_bytecode.specs.Reading.{Gives};
 
 use crate::limits::{LATEST_TIME, LONGEST_SPAN, MAX_ACCUMULATORS, MAX_HELD, MAX_STATED};
-use crate::reading::numbers::{byte_of, byte_within, i64_within, u64_within};
+use crate::reading::numbers::{byte_within, i64_within, u64_within};
+use crate::tags::{form_by, kind_by, mode_by};
 use std::alloc::Global;
-use wsm_program::{Clock, Costs, DecodeRefusal};
-use wsm_record::{Form, Kind, Mode};
+use wsm_admission::LateBy;
+use wsm_program::{Costs, DecodeRefusal};
+use wsm_record::{Form, Kind, Mode, Name};
 use wsm_windows::Shape;
 
-/// What a header has behind its schema and in front of its accumulators.
+/// The numbers of a clock that stand behind the fields.
 #[derive(Clone, Copy)]
+pub(crate) struct Times {
+    pub(crate) start: i64,
+    pub(crate) skew: i64,
+    pub(crate) lateness: i64,
+    pub(crate) records: i64,
+}
+
+/// What a header has behind its times and in front of its accumulators.
+#[derive(Drop)]
 pub(crate) struct Settings {
-    pub(crate) clock: Clock,
     pub(crate) shape: Shape,
+    /// From when on a record is late.
+    pub(crate) late_by: LateBy,
     pub(crate) mode: Mode,
     pub(crate) early: i64,
     pub(crate) late: i64,
     pub(crate) form: Form,
+    /// None where watermarks name no source.
+    pub(crate) sources: Vec<Name>,
 }
 
-#[tactic(auto, unfolding(crate::specs::Reading::settings_at))]
-pub(crate) fn settings_of(bytes: &[u8]) -> Result<(Settings, &[u8]), DecodeRefusal>
-    ensures { Gives (λ x. (x.0, x.1.now)) result (settings_at bytes.now) }
-{
-    let (clock, rest) = clock_of(bytes)?;
-    let (shape, rest) = shape_of(rest)?;
-    let (mode, rest) = mode_of(rest)?;
-    let ((early, late), rest) = triggers_of(rest)?;
-    let (form, rest) = form_of(rest, mode)?;
-    let settings = Settings {
-        clock,
-        shape,
-        mode,
-        early,
-        late,
-        form,
-    };
-    Ok((settings, rest))
-}
-
-#[tactic(auto, unfolding(crate::specs::Reading::clock_at))]
-fn clock_of(bytes: &[u8]) -> Result<(Clock, &[u8]), DecodeRefusal>
-    ensures { Gives (λ x. (x.0, x.1.now)) result (clock_at bytes.now) }
+#[tactic(auto, unfolding(crate::specs::Steps::times_at))]
+pub(crate) fn times_of(bytes: &[u8]) -> Result<(Times, &[u8]), DecodeRefusal>
+    ensures { Gives (λ x. (x.0, x.1.now)) result (times_at bytes.now) }
 {
     let (start, rest) = i64_within(bytes, 0, LATEST_TIME)?;
     let (skew, rest) = i64_within(rest, 0, LONGEST_SPAN)?;
     let (lateness, rest) = i64_within(rest, 0, LONGEST_SPAN)?;
     let (records, rest) = i64_within(rest, 1, LONGEST_SPAN)?;
-    let clock = Clock {
+    let times = Times {
         start,
         skew,
         lateness,
         records,
     };
-    Ok((clock, rest))
+    Ok((times, rest))
 }
 
-#[tactic(auto, unfolding(crate::specs::Reading::shape_at, crate::specs::Reading::fixed_at, crate::specs::Reading::sliding_at, crate::specs::Reading::session_at))]
-fn shape_of(bytes: &[u8]) -> Result<(Shape, &[u8]), DecodeRefusal>
-    ensures { Gives (λ x. (x.0, x.1.now)) result (shape_at bytes.now) }
+/// The windows of a shape's tag, which is at most 2, and from when on a record is late.
+#[tactic(auto, unfolding(crate::specs::Steps::windows_by))]
+pub(crate) fn windows_of(
+    bytes: &[u8],
+    tag: u8,
+    from_window: bool,
+) -> Result<((Shape, LateBy), &[u8]), DecodeRefusal>
+    requires { tag ≤ 2 }
+    ensures { Gives (λ x. (x.0, x.1.now)) result (windows_by from_window tag bytes.now) }
 {
-    let (tag, rest) = byte_within(bytes, 0, 2)?;
-    let (size, rest) = i64_within(rest, 1, LONGEST_SPAN)?;
+    let (shape, rest) = shape_of(bytes, tag)?;
+    Ok(((shape, late_by(shape, from_window)), rest))
+}
+
+fn late_by(shape: Shape, from_window: bool) -> LateBy
+    ensures { result ≡ late_by_flag from_window shape }
+{
+    if from_window {
+        LateBy::Window(shape)
+    } else {
+        LateBy::Event
+    }
+}
+
+#[tactic(auto, unfolding(crate::specs::Steps::fixed_at, crate::specs::Steps::sliding_at, crate::specs::Steps::session_at))]
+fn shape_of(bytes: &[u8], tag: u8) -> Result<(Shape, &[u8]), DecodeRefusal>
+    requires { tag ≤ 2 }
+    ensures { Gives (λ x. (x.0, x.1.now)) result (shape_by tag bytes.now) }
+{
+    let (size, rest) = i64_within(bytes, 1, LONGEST_SPAN)?;
     match tag {
         0 => Ok((Shape::Fixed(size), rest)),
         1 => {
@@ -74,20 +93,17 @@ fn shape_of(bytes: &[u8]) -> Result<(Shape, &[u8]), DecodeRefusal>
     }
 }
 
-#[tactic(auto, unfolding(crate::specs::Reading::mode_at))]
-fn mode_of(bytes: &[u8]) -> Result<(Mode, &[u8]), DecodeRefusal>
+#[tactic(auto, unfolding(crate::specs::Steps::mode_at))]
+pub(crate) fn mode_of(bytes: &[u8]) -> Result<(Mode, &[u8]), DecodeRefusal>
     ensures { Gives (λ x. (x.0, x.1.now)) result (mode_at bytes.now) }
 {
-    let (tag, rest) = byte_within(bytes, 0, 1)?;
-    match tag {
-        0 => Ok((Mode::Discarding, rest)),
-        _ => Ok((Mode::Accumulating, rest)),
-    }
+    let (tag, rest) = byte_within(bytes, 0, 2)?;
+    Ok((mode_by(tag), rest))
 }
 
 /// The intervals of EARLY and of LATE, 0 for none.
-#[tactic(auto, unfolding(crate::specs::Reading::triggers_at))]
-fn triggers_of(bytes: &[u8]) -> Result<((i64, i64), &[u8]), DecodeRefusal>
+#[tactic(auto, unfolding(crate::specs::Steps::triggers_at))]
+pub(crate) fn triggers_of(bytes: &[u8]) -> Result<((i64, i64), &[u8]), DecodeRefusal>
     ensures { Gives (λ x. (x.0, x.1.now)) result (triggers_at bytes.now) }
 {
     let (early, rest) = i64_within(bytes, 0, LONGEST_SPAN)?;
@@ -95,38 +111,28 @@ fn triggers_of(bytes: &[u8]) -> Result<((i64, i64), &[u8]), DecodeRefusal>
     Ok(((early, late), rest))
 }
 
-/// A stream of changes is a form of accumulating programs alone.
-#[tactic(auto, unfolding(crate::specs::Reading::form_at))]
-fn form_of(bytes: &[u8], mode: Mode) -> Result<(Form, &[u8]), DecodeRefusal>
-    ensures { Gives (λ x. (x.0, x.1.now)) result (form_at mode bytes.now) }
+/// The form of a tag, which is at most 3, if the mode may write it.
+pub(crate) fn form_of(tag: u8, mode: Mode) -> Result<Form, DecodeRefusal>
+    requires { tag ≤ 3 }
+    ensures { result ≡ form_by_mode mode tag }
 {
-    let (tag, rest) = byte_of(bytes)?;
-    match (tag, mode) {
-        (0, _) => Ok((Form::Panes, rest)),
-        (1, Mode::Accumulating) => Ok((Form::Istream, rest)),
-        (2, Mode::Accumulating) => Ok((Form::Dstream, rest)),
-        (3, Mode::Accumulating) => Ok((Form::Rstream, rest)),
-        _ => Err(DecodeRefusal::Operand),
+    let form = form_by(tag);
+    if !mode.may_write(form) {
+        return Err(DecodeRefusal::Operand);
     }
+    Ok(form)
 }
 
-#[tactic(auto, unfolding(crate::specs::Reading::kind_at))]
+#[tactic(auto, unfolding(crate::specs::Steps::kind_at))]
 fn kind_of(bytes: &[u8]) -> Result<(Kind, &[u8]), DecodeRefusal>
     ensures { Gives (λ x. (x.0, x.1.now)) result (kind_at bytes.now) }
 {
     let (tag, rest) = byte_within(bytes, 0, 4)?;
-    let kind = match tag {
-        0 => Kind::Sum,
-        1 => Kind::Min,
-        2 => Kind::Max,
-        3 => Kind::Any,
-        _ => Kind::All,
-    };
-    Ok((kind, rest))
+    Ok((kind_by(tag), rest))
 }
 
 /// How each accumulator folds, of at most 16.
-#[tactic(auto, unfolding(crate::specs::Reading::kinds_at))]
+#[tactic(auto, unfolding(crate::specs::Steps::kinds_at))]
 pub(crate) fn kinds_of(alloc: Global, bytes: &[u8]) -> Result<(Vec<Kind>, &[u8]), DecodeRefusal>
     ensures { Gives (λ x. (x.0.items, x.1.now)) result (kinds_at bytes.now) }
 {
@@ -151,7 +157,7 @@ fn so_many_kinds(
     Ok((kinds, rest))
 }
 
-#[tactic(auto, unfolding(crate::specs::Reading::budget_at))]
+#[tactic(auto, unfolding(crate::specs::Steps::budget_at))]
 pub(crate) fn budget_of(bytes: &[u8]) -> Result<(Costs, &[u8]), DecodeRefusal>
     ensures { Gives (λ x. (x.0, x.1.now)) result (budget_at bytes.now) }
 {

@@ -1,76 +1,39 @@
 //! The header.
 
 ghost use Rattle.std.specs.Prelude.{◌≡◌, ◌++◌, ◌<◌, length, OnOk, IsTrue};
-ghost use Rattle.wsm_program.specs.Program.{is_header};
+ghost use Rattle.wsm_program.specs.Program.{is_limited, is_header};
 ghost use Rattle.wsm_program.specs.View.{header_of};
-ghost use Rattle.wsm_bytecode.specs.Spelling.{shape as shape_bytes, mode as mode_bytes, form as form_bytes, kind as kind_bytes, kinds as kinds_bytes, column as column_bytes, columns as columns_bytes, budget as budget_bytes, header as header_bytes};
+ghost use Rattle.wsm_bytecode.specs.declared.version.Version.TheVariants.{Two};
+ghost use Rattle.wsm_bytecode.specs.Parts.{times as times_bytes, kinds as kinds_bytes, column as column_bytes, columns as columns_bytes, budget as budget_bytes};
+ghost use Rattle.wsm_bytecode.specs.Spelling.{header as header_bytes};
 
-use crate::limits::{MAGIC, VERSION};
-use crate::writing::numbers::{put_i64, put_two, put_u8, put_u64};
-use crate::writing::schema::put_schema;
+use crate::tags::kind_tag;
+use crate::writing::numbers::{put_two, put_u8, put_u64};
+use crate::writing::schema::{put_fields, put_names};
+use crate::writing::version2::put_settings;
 use std::alloc::AllocError;
-use wsm_program::{Costs, Header};
-use wsm_record::{CellType, Form, Kind, Mode};
-use wsm_windows::Shape;
+use wsm_program::{Clock, Costs, Header};
+use wsm_record::{CellType, Kind};
 
 pub(crate) fn put_header(out: &mut Vec<u8>, header: &Header) -> Result<(), AllocError>
     requires { IsTrue (is_header (header_of header.now)) }
-    ensures { OnOk result (out.new.items ≡ out.old.items ++ header_bytes (header_of header.now)) }
+    ensures { OnOk result (out.new.items ≡ out.old.items ++ header_bytes Two (header_of header.now)) }
 {
-    out.extend_from_slice(MAGIC)?;
-    put_u8(out, VERSION)?;
-    put_schema(out, &header.schema)?;
-    put_i64(out, header.clock.start)?;
-    put_i64(out, header.clock.skew)?;
-    put_i64(out, header.clock.lateness)?;
-    put_i64(out, header.clock.records)?;
-    put_shape(out, header.shape)?;
-    put_mode(out, header.mode)?;
-    put_i64(out, header.early)?;
-    put_i64(out, header.late)?;
-    put_form(out, header.form)?;
+    put_names(out, header.schema.keys())?;
+    put_fields(out, header.schema.fields())?;
+    put_times(out, header.clock)?;
+    put_settings(out, header)?;
     put_kinds(out, &header.kinds)?;
     put_columns(out, &header.columns)?;
     put_budget(out, header.budget)
 }
 
-fn put_shape(out: &mut Vec<u8>, shape: Shape) -> Result<(), AllocError>
-    ensures { OnOk result (out.new.items ≡ out.old.items ++ shape_bytes shape) }
+fn put_times(out: &mut Vec<u8>, clock: Clock) -> Result<(), AllocError>
+    requires { IsTrue (is_limited clock) }
+    ensures { OnOk result (out.new.items ≡ out.old.items ++ times_bytes clock) }
 {
-    match shape {
-        Shape::Fixed(size) => {
-            put_u8(out, 0)?;
-            put_i64(out, size)
-        }
-        Shape::Sliding(size, period) => {
-            put_u8(out, 1)?;
-            put_two(out, size, period)
-        }
-        Shape::Session(gap) => {
-            put_u8(out, 2)?;
-            put_i64(out, gap)
-        }
-    }
-}
-
-fn put_mode(out: &mut Vec<u8>, mode: Mode) -> Result<(), AllocError>
-    ensures { OnOk result (out.new.items ≡ out.old.items ++ mode_bytes mode) }
-{
-    match mode {
-        Mode::Discarding => put_u8(out, 0),
-        Mode::Accumulating => put_u8(out, 1),
-    }
-}
-
-fn put_form(out: &mut Vec<u8>, form: Form) -> Result<(), AllocError>
-    ensures { OnOk result (out.new.items ≡ out.old.items ++ form_bytes form) }
-{
-    match form {
-        Form::Panes => put_u8(out, 0),
-        Form::Istream => put_u8(out, 1),
-        Form::Dstream => put_u8(out, 2),
-        Form::Rstream => put_u8(out, 3),
-    }
+    put_two(out, clock.start, clock.skew)?;
+    put_two(out, clock.lateness, clock.records)
 }
 
 fn put_kinds(out: &mut Vec<u8>, kinds: &[Kind]) -> Result<(), AllocError>
@@ -79,21 +42,9 @@ fn put_kinds(out: &mut Vec<u8>, kinds: &[Kind]) -> Result<(), AllocError>
 {
     put_u8(out, kinds.len() as u8)?;
     for kind in kinds {
-        put_kind(out, *kind)?;
+        put_u8(out, kind_tag(*kind))?;
     }
     Ok(())
-}
-
-fn put_kind(out: &mut Vec<u8>, kind: Kind) -> Result<(), AllocError>
-    ensures { OnOk result (out.new.items ≡ out.old.items ++ kind_bytes kind) }
-{
-    match kind {
-        Kind::Sum => put_u8(out, 0),
-        Kind::Min => put_u8(out, 1),
-        Kind::Max => put_u8(out, 2),
-        Kind::Any => put_u8(out, 3),
-        Kind::All => put_u8(out, 4),
-    }
 }
 
 fn put_columns(out: &mut Vec<u8>, columns: &[CellType]) -> Result<(), AllocError>

@@ -3,7 +3,7 @@
 //! A writer adds the spelling of its value behind the bytes that there are.
 
 ghost use Rattle.std.specs.Prelude.{◌≡◌, ◌++◌, OnOk};
-ghost use Rattle.wsm_bytecode.specs.Spelling.{byte, number, long, signed};
+ghost use Rattle.wsm_bytecode.specs.Parts.{byte, number, long, signed};
 
 use std::alloc::AllocError;
 
@@ -19,14 +19,14 @@ pub(crate) fn put_u16(out: &mut Vec<u8>, value: u16) -> Result<(), AllocError>
     out.extend_from_slice(&value.to_le_bytes())
 }
 
-#[tactic(auto, unfolding(crate::specs::Spelling::long))]
+#[tactic(auto, unfolding(crate::specs::Parts::long))]
 pub(crate) fn put_u64(out: &mut Vec<u8>, value: u64) -> Result<(), AllocError>
     ensures { OnOk result (out.new.items ≡ out.old.items ++ long value) }
 {
     out.extend_from_slice(&value.to_le_bytes())
 }
 
-#[tactic(auto, unfolding(crate::specs::Spelling::signed))]
+#[tactic(auto, unfolding(crate::specs::Parts::signed))]
 pub(crate) fn put_i64(out: &mut Vec<u8>, value: i64) -> Result<(), AllocError>
     ensures { OnOk result (out.new.items ≡ out.old.items ++ signed value) }
 {

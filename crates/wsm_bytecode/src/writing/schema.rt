@@ -1,30 +1,21 @@
-//! Keys and fields.
+//! Keys, fields and sources.
 
 ghost use Rattle.std.specs.Prelude.{◌≡◌, ◌++◌, ◌<◌, ◌&&◌, map, length, OnOk, IsTrue};
 ghost use Rattle.std.specs.List.{flat_map, list_all};
 ghost use Rattle.wsm_record.specs.Name.{is_name};
 ghost use Rattle.wsm_record.specs.Fields.{type_seen, field_seen};
-ghost use Rattle.wsm_record.specs.Schema.{is_field_type, is_schema};
-ghost use Rattle.wsm_bytecode.specs.Spelling.{byte, name as name_bytes, names as names_bytes, field_type as type_bytes, field as field_bytes, schema as schema_bytes};
+ghost use Rattle.wsm_record.specs.Schema.{is_field_type};
+ghost use Rattle.wsm_bytecode.specs.Parts.{name as name_bytes, names as names_bytes, sources as sources_bytes, field_type as type_bytes, field as field_bytes, fields as fields_bytes};
 
 use crate::writing::numbers::{put_two, put_u8, put_u16};
 use std::alloc::AllocError;
-use wsm_record::{DeclaredField, FieldType, Names, Schema};
-
-#[tactic(auto, unfolding(crate::specs::Spelling::schema))]
-pub(crate) fn put_schema(out: &mut Vec<u8>, schema: &Schema) -> Result<(), AllocError>
-    requires { IsTrue (is_schema schema.now) }
-    ensures { OnOk result (out.new.items ≡ out.old.items ++ schema_bytes schema.now) }
-{
-    put_names(out, schema.keys())?;
-    put_fields(out, schema.fields())
-}
+use wsm_record::{DeclaredField, FieldType, Names};
 
 /// The number of fields, and these.
-fn put_fields(out: &mut Vec<u8>, fields: &[DeclaredField]) -> Result<(), AllocError>
+pub(crate) fn put_fields(out: &mut Vec<u8>, fields: &[DeclaredField]) -> Result<(), AllocError>
     requires count { length fields.now < 256 }
     requires lawful { IsTrue (list_all (λ f. is_name f.name && is_field_type (type_seen f.ty)) fields.now) }
-    ensures { OnOk result (out.new.items ≡ out.old.items ++ (byte (length fields.now) ++ flat_map field_bytes (map field_seen fields.now))) }
+    ensures { OnOk result (out.new.items ≡ out.old.items ++ fields_bytes (map field_seen fields.now)) }
 {
     put_u8(out, fields.len() as u8)?;
     for field in fields {
@@ -58,14 +49,30 @@ fn put_type(out: &mut Vec<u8>, ty: &FieldType) -> Result<(), AllocError>
     }
 }
 
-/// The number of names, and these.
-fn put_names(out: &mut Vec<u8>, names: &Names) -> Result<(), AllocError>
+/// The number of names in two bytes, and these.
+pub(crate) fn put_names(out: &mut Vec<u8>, names: &Names) -> Result<(), AllocError>
     requires { IsTrue (list_all is_name names.now) }
     ensures { OnOk result (out.new.items ≡ out.old.items ++ names_bytes names.now) }
 {
-    let count = names.len() as u16;
-    put_u16(out, count)?;
-    for number in 0..count {
+    put_u16(out, names.len() as u16)?;
+    put_each(out, names)
+}
+
+/// The number of sources in one byte, and these.
+pub(crate) fn put_sources(out: &mut Vec<u8>, sources: &Names) -> Result<(), AllocError>
+    requires count { length sources.now < 256 }
+    requires lawful { IsTrue (list_all is_name sources.now) }
+    ensures { OnOk result (out.new.items ≡ out.old.items ++ sources_bytes sources.now) }
+{
+    put_u8(out, sources.len() as u8)?;
+    put_each(out, sources)
+}
+
+fn put_each(out: &mut Vec<u8>, names: &Names) -> Result<(), AllocError>
+    requires { IsTrue (list_all is_name names.now) }
+    ensures { OnOk result (out.new.items ≡ out.old.items ++ flat_map name_bytes names.now) }
+{
+    for number in 0..names.len() as u16 {
         put_name(out, names.text_of(number))?;
     }
     Ok(())

@@ -1,5 +1,5 @@
 use Rattle.std.proofs.lemmas.Result.{err_from_is_err_and}
-use Rattle.wsm_bytecode.specs.Reading.{several, column_at}
+use Rattle.wsm_bytecode.specs.Steps.{several, column_at}
 use Rattle.wsm_bytecode.proofs.Loop.{goes_on, ends}
 use Rattle.wsm_bytecode.proofs.reading.header.so_many_columns.Goals as goal
 

@@ -1,5 +1,5 @@
 use Rattle.std.proofs.Common.{◌≡◌, ◌-◌}
-use Rattle.wsm_bytecode.specs.Reading.{several, column_at}
+use Rattle.wsm_bytecode.specs.Steps.{several, column_at}
 use Rattle.wsm_bytecode.proofs.Loop.{with_front}
 use Rattle.wsm_bytecode.proofs.reading.header.so_many_columns.Given as goal
 

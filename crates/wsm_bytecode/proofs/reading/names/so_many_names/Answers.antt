@@ -1,6 +1,6 @@
 use Rattle.std.proofs.Common.{[]}
 use Rattle.std.proofs.lemmas.Result.{err_from_is_err_and}
-use Rattle.wsm_bytecode.specs.Reading.{names_after}
+use Rattle.wsm_bytecode.specs.Steps.{names_after}
 use Rattle.wsm_bytecode.proofs.Loop.{names_go_on, names_end}
 use Rattle.wsm_bytecode.proofs.reading.names.so_many_names.Goals as goal
 

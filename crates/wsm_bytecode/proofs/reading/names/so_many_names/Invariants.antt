@@ -1,5 +1,5 @@
 use Rattle.std.proofs.Common.{◌≡◌, ◌-◌, []}
-use Rattle.wsm_bytecode.specs.Reading.{names_after}
+use Rattle.wsm_bytecode.specs.Steps.{names_after}
 use Rattle.wsm_bytecode.proofs.Loop.{with_front}
 use Rattle.wsm_bytecode.proofs.reading.names.so_many_names.Given as goal
 

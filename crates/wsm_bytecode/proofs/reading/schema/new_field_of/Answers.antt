@@ -1,6 +1,6 @@
 use Rattle.std.proofs.Common.{refl, sym, ◌∙◌}
 use Rattle.std.proofs.lemmas.Result.{err_from_is_err_and}
-use Rattle.wsm_bytecode.specs.Reading.{field_type_at}
+use Rattle.wsm_bytecode.specs.Steps.{field_type_at}
 use Rattle.wsm_bytecode.proofs.Loop.{fails_so, new_field_named, new_field_taken}
 use Rattle.wsm_bytecode.proofs.reading.schema.new_field_of.Goals as goal
 

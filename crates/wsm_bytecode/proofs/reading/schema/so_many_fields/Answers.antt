@@ -2,7 +2,7 @@ use Rattle.std.proofs.Common.{[], map}
 use Rattle.std.proofs.lemmas.Result.{err_from_is_err_and}
 use Rattle.std.proofs.lemmas.List.{map_push}
 use Rattle.wsm_record.specs.Fields.{declared_field}
-use Rattle.wsm_bytecode.specs.Reading.{fields_after}
+use Rattle.wsm_bytecode.specs.Steps.{fields_after}
 use Rattle.wsm_bytecode.proofs.Loop.{fields_go_on, fields_end}
 use Rattle.wsm_bytecode.proofs.reading.schema.so_many_fields.Goals as goal
 

@@ -1,6 +1,6 @@
 use Rattle.std.proofs.Common.{◌≡◌, ◌-◌, [], map}
 use Rattle.wsm_record.specs.Fields.{declared_field}
-use Rattle.wsm_bytecode.specs.Reading.{fields_after}
+use Rattle.wsm_bytecode.specs.Steps.{fields_after}
 use Rattle.wsm_bytecode.proofs.Loop.{with_front}
 use Rattle.wsm_bytecode.proofs.reading.schema.so_many_fields.Given as goal
 

@@ -1,5 +1,5 @@
 use Rattle.std.proofs.lemmas.Result.{err_from_is_err_and}
-use Rattle.wsm_bytecode.specs.Reading.{several, kind_at}
+use Rattle.wsm_bytecode.specs.Steps.{several, kind_at}
 use Rattle.wsm_bytecode.proofs.Loop.{goes_on, ends}
 use Rattle.wsm_bytecode.proofs.reading.settings.so_many_kinds.Goals as goal
 

@@ -1,5 +1,5 @@
 use Rattle.std.proofs.Common.{◌≡◌, ◌-◌}
-use Rattle.wsm_bytecode.specs.Reading.{several, kind_at}
+use Rattle.wsm_bytecode.specs.Steps.{several, kind_at}
 use Rattle.wsm_bytecode.proofs.Loop.{with_front}
 use Rattle.wsm_bytecode.proofs.reading.settings.so_many_kinds.Given as goal
 

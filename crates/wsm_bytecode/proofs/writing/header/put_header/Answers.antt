@@ -1,11 +1,20 @@
 use Rattle.std.proofs.lemmas.Result.{on_ok_weaker}
 use Rattle.wsm_program.specs.View.{header_of}
 use Rattle.wsm_program.proofs.Lawful.{header_schema}
-use Rattle.wsm_bytecode.proofs.Spelled.{header_kinds, header_columns, header_added}
+use Rattle.wsm_bytecode.proofs.Spelled.{schema_keys, schema_fields, schema_count, header_limited, header_kinds, header_columns, header_added}
 use Rattle.wsm_bytecode.proofs.writing.header.put_header.Goals as goal
 
-pub put_schema-requires : goal.put_schema-requires
-put_schema-requires c = header_schema (header_of c.args.header.now) c.requires
+pub put_names-requires : goal.put_names-requires
+put_names-requires c = rw c.keys.ensures (schema_keys c.args.header.now.schema (header_schema (header_of c.args.header.now) c.requires))
+
+pub put_fields-requires-clause-count : goal.put_fields-requires-clause-count
+put_fields-requires-clause-count c = schema_count c.fields.result.now c.args.header.now.schema c.fields.ensures (header_schema (header_of c.args.header.now) c.requires)
+
+pub put_fields-requires-clause-lawful : goal.put_fields-requires-clause-lawful
+put_fields-requires-clause-lawful c = schema_fields c.fields.result.now c.args.header.now.schema c.fields.ensures (header_schema (header_of c.args.header.now) c.requires)
+
+pub put_times-requires : goal.put_times-requires
+put_times-requires c = header_limited (header_of c.args.header.now) c.requires
 
 pub put_kinds-requires : goal.put_kinds-requires
 put_kinds-requires c = rw c.deref.ensures.value (header_kinds (header_of c.args.header.now) c.requires)
@@ -15,11 +24,11 @@ put_columns-requires c = rw c.deref-2.ensures.value (header_columns (header_of c
 
 pub returns : goal.returns
 returns c =
+    let keys = rw c.keys.ensures at c.in_ok-put_names.ensures in
+    let fields = rw c.fields.ensures at c.in_ok-put_fields.ensures in
     let kinds = rw c.deref.ensures.value at c.in_ok-put_kinds.ensures in
     let columns = rw c.deref-2.ensures.value at c.in_ok-put_columns.ensures in
     on_ok_weaker c.put_budget.result
-    (λ last. header_added (header_of c.args.header.now) c.requires c.args.out.now.items c.extend_from_slice.new.self.items c.put_u8.new.out.items c.put_schema.new.out.items c.put_i64.new.out.items c.put_i64-2.new.out.items c.put_i64-3.new.out.items c.put_i64-4.new.out.items
-    c.put_shape.new.out.items c.put_mode.new.out.items c.put_i64-5.new.out.items c.put_i64-6.new.out.items c.put_form.new.out.items c.put_kinds.new.out.items c.put_columns.new.out.items c.put_budget.new.out.items
-    c.in_ok-extend_from_slice.ensures.items c.in_ok-put_u8.ensures c.in_ok-put_schema.ensures c.in_ok-put_i64.ensures c.in_ok-put_i64-2.ensures c.in_ok-put_i64-3.ensures c.in_ok-put_i64-4.ensures
-    c.in_ok-put_shape.ensures c.in_ok-put_mode.ensures c.in_ok-put_i64-5.ensures c.in_ok-put_i64-6.ensures c.in_ok-put_form.ensures kinds columns last)
+    (λ last. header_added (header_of c.args.header.now) c.args.out.now.items c.put_names.new.out.items c.put_fields.new.out.items c.put_times.new.out.items c.put_settings.new.out.items c.put_kinds.new.out.items c.put_columns.new.out.items c.put_budget.new.out.items
+    keys fields c.in_ok-put_times.ensures c.in_ok-put_settings.ensures kinds columns last)
     c.put_budget.ensures

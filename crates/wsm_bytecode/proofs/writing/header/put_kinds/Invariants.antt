@@ -1,6 +1,6 @@
 use Rattle.std.proofs.Common.{◌≡◌, ◌++◌, length, take}
 use Rattle.std.specs.List.{flat_map}
-use Rattle.wsm_bytecode.specs.Spelling.{byte, kind}
+use Rattle.wsm_bytecode.specs.Parts.{byte, kind}
 use Rattle.wsm_bytecode.proofs.writing.header.put_kinds.Given as goal
 
 abbrev pub invariant-loop-kind : goal.invariant-loop-kind

@@ -1,7 +1,7 @@
 use Rattle.std.proofs.Common.{◌≡◌, ◌++◌, length, map, take}
 use Rattle.std.specs.List.{flat_map}
 use Rattle.wsm_record.specs.Fields.{field_seen}
-use Rattle.wsm_bytecode.specs.Spelling.{byte, field}
+use Rattle.wsm_bytecode.specs.Parts.{byte, field}
 use Rattle.wsm_bytecode.proofs.writing.schema.put_fields.Given as goal
 
 abbrev pub invariant-loop-field : goal.invariant-loop-field

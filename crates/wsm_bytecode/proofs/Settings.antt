@@ -1,0 +1,63 @@
+-- What a schema and the settings of a lawful header hold, part by part.
+use Rattle.std.proofs.Common.{leb, ◌≡◌, ◌<◌, ◌≤◌, true, ◌&&◌, ℕ, zero, suc, [], length, Bool, false, refl, arith}
+use Rattle.std.specs.Prelude.{nat_eq}
+use Rattle.std.proofs.lemmas.Bool.{leb-true, and_parts, and_from}
+use Rattle.wsm_record.specs.Modes.{may_write}
+use Rattle.wsm_record.specs.Name.{is_between}
+use Rattle.wsm_record.specs.Schema.{Declared, is_name_list, are_fields_after, is_source_count, are_sources, is_schema}
+use Rattle.wsm_program.specs.Program.{is_span, is_shape, is_late_by}
+use Rattle.wsm_bytecode.specs.Parts.{Settings}
+
+pub record SchemaParts (s : Declared) : Type 0 where
+  pub keys : is_name_list s.keys ≡ true
+  pub few : leb (length s.fields) 16 ≡ true
+  pub fields : are_fields_after [] s.fields ≡ true
+  pub sources : are_sources s.sources ≡ true
+
+pub schema_parts : (s : Declared) → is_schema s ≡ true → SchemaParts s
+unfolding is_schema
+schema_parts s h =
+    let a = and_parts (is_name_list s.keys) (leb (length s.fields) 16 && (are_fields_after [] s.fields && are_sources s.sources)) h in
+    let b = and_parts (leb (length s.fields) 16) (are_fields_after [] s.fields && are_sources s.sources) a.1 in
+    let c = and_parts (are_fields_after [] s.fields) (are_sources s.sources) b.1 in
+    record { keys = a.0; few = b.0; fields = c.0; sources = c.1 }
+
+abbrev pub are_settings : Settings → Bool
+are_settings s = is_late_by s.shape s.late_by && (are_sources s.sources && (is_shape s.shape && (is_span s.early && (is_span s.late && may_write s.mode s.form))))
+
+pub record SettingsParts (s : Settings) : Type 0 where
+  pub late_by : is_late_by s.shape s.late_by ≡ true
+  pub sources : are_sources s.sources ≡ true
+  pub shape : is_shape s.shape ≡ true
+  pub early : is_span s.early ≡ true
+  pub late : is_span s.late ≡ true
+  pub form : may_write s.mode s.form ≡ true
+
+pub settings_parts : (s : Settings) → are_settings s ≡ true → SettingsParts s
+settings_parts s h =
+    let a = and_parts (is_late_by s.shape s.late_by) (are_sources s.sources && (is_shape s.shape && (is_span s.early && (is_span s.late && may_write s.mode s.form)))) h in
+    let b = and_parts (are_sources s.sources) (is_shape s.shape && (is_span s.early && (is_span s.late && may_write s.mode s.form))) a.1 in
+    let c = and_parts (is_shape s.shape) (is_span s.early && (is_span s.late && may_write s.mode s.form)) b.1 in
+    let d = and_parts (is_span s.early) (is_span s.late && may_write s.mode s.form) c.1 in
+    let e = and_parts (is_span s.late) (may_write s.mode s.form) d.1 in
+    record { late_by = a.0; sources = b.0; shape = c.0; early = d.0; late = e.0; form = e.1 }
+
+pub are_settings_from : (s : Settings) → SettingsParts s → are_settings s ≡ true
+are_settings_from s p = and_from _ _ p.late_by (and_from _ _ p.sources (and_from _ _ p.shape (and_from _ _ p.early (and_from _ _ p.late p.form))))
+
+-- a number of sources that there are is between 2 and 16
+not_none : (n : ℕ) → nat_eq (suc n) 0 ≡ false
+not_none n = grind arith
+
+pub many_sources : (n : ℕ) → is_source_count (suc n) ≡ true → is_between 2 16 (suc n) ≡ true
+many_sources n h = rw (not_none n) at h
+
+pub count_of_many : (n : ℕ) → is_between 2 16 n ≡ true → is_source_count n ≡ true
+count_of_many zero h = refl
+count_of_many (suc n) h = rw (not_none n) h
+
+pub few_sources : (n : ℕ) → is_source_count n ≡ true → n < 256
+few_sources zero h = omega arith
+few_sources (suc n) h =
+    let le : suc n ≤ 16 = leb-true _ _ (and_parts (leb 2 (suc n)) (leb (suc n) 16) (many_sources n h)).1 in
+    omega arith

@@ -1,0 +1,81 @@
+-- What version 1 of the bytes has of its own: lateness from a window's end is a shape, several sources are a
+-- form with their names behind it, and no instruction tests a field.
+use Rattle.std.specs.Prelude.{ℕ, Bool, true, false, List, [], ◌∷◌, ◌++◌, ◌+◌, ◌-◌, nat_lt, Ok, if◌then◌else◌}
+use Rattle.std.specs.Int.{w8}
+use Rattle.wsm_record.specs.declared.Mode.{Mode}
+use Rattle.wsm_record.specs.declared.Form.{Form}
+use Rattle.wsm_record.specs.declared.limits.TheConstants.{MAX_SOURCES}
+use Rattle.wsm_record.specs.Name.{is_between}
+use Rattle.wsm_windows.specs.declared.Shape.{Shape}
+use Rattle.wsm_admission.specs.declared.clock.LateBy.{LateBy}
+use Rattle.wsm_admission.specs.declared.clock.LateBy.TheVariants.{Event, Window}
+use Rattle.wsm_program.specs.declared.instr.Instr.{Instr}
+use Rattle.wsm_program.specs.declared.instr.Instr.TheVariants.{PushInt, PushBool, PushEnum, Field, Key, Acc, Count, Operate, Jump, JumpIfFalse, Test, Fold, Return}
+use Rattle.wsm_program.specs.Program.{Name}
+use Rattle.wsm_bytecode.specs.Tags.{form_tag, shape_tag}
+use Rattle.wsm_bytecode.specs.Parts.{Settings, byte, signed, mode, measures, sources}
+use Rattle.wsm_bytecode.specs.Steps.{Read, ◌>>=◌, judged, number_at, windows_by, mode_at, triggers_at, form_of, sources_at}
+
+-- ---- how it is spelled
+
+abbrev pub window_tag : LateBy → ℕ
+window_tag Event = 0
+window_tag (Window s) = 3
+
+abbrev pub windows : LateBy → Shape → List ℕ
+windows l s = byte (window_tag l + shape_tag s) ++ measures s
+
+abbrev pub output : List Name → Form → List ℕ
+output [] f = byte (form_tag f)
+output (n ∷ ns) f = byte (4 + form_tag f) ++ sources (n ∷ ns)
+
+abbrev pub settings : Settings → List ℕ
+settings s = windows s.late_by s.shape ++ mode s.mode ++ signed s.early ++ signed s.late ++ output s.sources s.form
+
+abbrev pub has : Instr → Bool
+has (PushInt n) = true
+has (PushBool b) = true
+has (PushEnum e i) = true
+has (Field f) = true
+has Key = true
+has (Acc a) = true
+has Count = true
+has (Operate o) = true
+has (Jump t) = true
+has (JumpIfFalse t) = true
+has (Test x t) = false
+has (Fold a) = true
+has Return = true
+
+-- ---- how it is read
+
+unfoldable pub windows_at : List ℕ → Read (Shape × LateBy)
+windows_at bytes = do
+  tag ← judged (is_between 0 4) (number_at w8 bytes)
+  if nat_lt tag.0 3 then windows_by false tag.0 tag.1 else windows_by true (tag.0 - 3) tag.1
+
+abbrev pub form_part : ℕ → ℕ
+form_part tag = if nat_lt tag 4 then tag else tag - 4
+
+-- forms from 4 on have sources
+abbrev pub sources_by : ℕ → List ℕ → Read (List Name)
+sources_by tag bytes = if nat_lt tag 4 then Ok ([], bytes) else sources_at (is_between 2 MAX_SOURCES) bytes
+
+-- judged beside the mode, before the sources
+unfoldable pub output_at : Mode → List ℕ → Read (Form × List Name)
+output_at m bytes = do
+  tag ← judged (is_between 0 7) (number_at w8 bytes)
+  form ← form_of m (form_part tag.0)
+  names ← sources_by tag.0 tag.1
+  Ok ((form, names.0), names.1)
+
+unfoldable pub settings_at : List ℕ → Read Settings
+settings_at bytes = do
+  windows ← windows_at bytes
+  mode ← mode_at windows.1
+  triggers ← triggers_at mode.1
+  output ← output_at mode.0 triggers.1
+  Ok (
+    record { shape = windows.0.0; late_by = windows.0.1; mode = mode.0; early = triggers.0.0; late = triggers.0.1; form = output.0.0; sources = output.0.1 },
+    output.1,
+  )

@@ -1,0 +1,67 @@
+-- What version 2 of the bytes has of its own: by what a record is late and the sources stand in front of the
+-- shape, and each instruction is there.
+use Rattle.std.specs.Prelude.{ℕ, Bool, true, false, List, ◌++◌, Ok, ◌==◌}
+use Rattle.std.specs.Int.{w8}
+use Rattle.wsm_record.specs.declared.Mode.{Mode}
+use Rattle.wsm_record.specs.declared.Form.{Form}
+use Rattle.wsm_record.specs.Name.{is_between}
+use Rattle.wsm_record.specs.Schema.{is_source_count}
+use Rattle.wsm_windows.specs.declared.Shape.{Shape}
+use Rattle.wsm_admission.specs.declared.clock.LateBy.{LateBy}
+use Rattle.wsm_admission.specs.declared.clock.LateBy.TheVariants.{Event, Window}
+use Rattle.wsm_program.specs.declared.instr.Instr.{Instr}
+use Rattle.wsm_bytecode.specs.Tags.{form_tag, shape_tag}
+use Rattle.wsm_bytecode.specs.Parts.{Settings, byte, signed, mode, measures, sources}
+use Rattle.wsm_bytecode.specs.Steps.{Read, ◌>>=◌, judged, number_at, windows_by, mode_at, triggers_at, form_of, sources_at}
+
+-- ---- how it is spelled
+
+-- counted from a window's end
+abbrev pub window_flag : LateBy → ℕ
+window_flag Event = 0
+window_flag (Window s) = 1
+
+abbrev pub shape : Shape → List ℕ
+shape s = byte (shape_tag s) ++ measures s
+
+abbrev pub form : Form → List ℕ
+form f = byte (form_tag f)
+
+abbrev pub settings : Settings → List ℕ
+settings s = byte (window_flag s.late_by) ++ sources s.sources ++ shape s.shape ++ mode s.mode ++ signed s.early ++ signed s.late ++ form s.form
+
+abbrev pub has : Instr → Bool
+has i = true
+
+-- ---- how it is read
+
+-- sessions have no lateness from a window's end
+abbrev pub last_tag : Bool → ℕ
+last_tag true = 1
+last_tag false = 2
+
+-- judged beside what lateness is counted from
+unfoldable pub windows_at : Bool → List ℕ → Read (Shape × LateBy)
+windows_at from_window bytes = do
+  tag ← judged (is_between 0 (last_tag from_window)) (number_at w8 bytes)
+  windows_by from_window tag.0 tag.1
+
+-- judged beside the mode
+unfoldable pub form_at : Mode → List ℕ → Read Form
+form_at m bytes = do
+  tag ← judged (is_between 0 3) (number_at w8 bytes)
+  form ← form_of m tag.0
+  Ok (form, tag.1)
+
+unfoldable pub settings_at : List ℕ → Read Settings
+settings_at bytes = do
+  flag ← judged (is_between 0 1) (number_at w8 bytes)
+  names ← sources_at is_source_count flag.1
+  windows ← windows_at (flag.0 == 1) names.1
+  mode ← mode_at windows.1
+  triggers ← triggers_at mode.1
+  form ← form_at mode.0 triggers.1
+  Ok (
+    record { shape = windows.0.0; late_by = windows.0.1; mode = mode.0; early = triggers.0.0; late = triggers.0.1; form = form.0; sources = names.0 },
+    form.1,
+  )

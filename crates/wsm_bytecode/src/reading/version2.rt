@@ -1,0 +1,73 @@
+//! What version 2 of the bytes has of its own: by what a record is late and the sources stand in front
+//! of the shape.
+
+ghost use Rattle.std.specs.Prelude.{◌≡◌};
+ghost use Rattle.wsm_record.specs.Schema.{is_source_count};
+ghost use Rattle.wsm_bytecode.specs.Steps.{sources_at};
+ghost use Rattle.wsm_bytecode.specs.Version2.{windows_at, form_at, settings_at};
+ghost use Rattle.wsm_bytecode.specs.Reading.{Gives, settings_seen};
+
+use crate::limits::MAX_SOURCES;
+use crate::reading::names::so_many_names;
+use crate::reading::numbers::{byte_of, byte_within};
+use crate::reading::settings::{
+    Settings, form_of as form_of_tag, mode_of, triggers_of, windows_of as windows_of_tag,
+};
+use std::alloc::Global;
+use wsm_admission::LateBy;
+use wsm_program::DecodeRefusal;
+use wsm_record::{Form, Mode, Name};
+use wsm_windows::Shape;
+
+#[tactic(auto, unfolding(crate::specs::Version2::settings_at))]
+pub(crate) fn settings_of(alloc: Global, bytes: &[u8]) -> Result<(Settings, &[u8]), DecodeRefusal>
+    ensures { Gives (λ x. (settings_seen x.0, x.1.now)) result (settings_at bytes.now) }
+{
+    let (from_window, rest) = byte_within(bytes, 0, 1)?;
+    let (sources, rest) = sources_of(alloc, rest)?;
+    let ((shape, late_by), rest) = windows_of(rest, from_window == 1)?;
+    let (mode, rest) = mode_of(rest)?;
+    let ((early, late), rest) = triggers_of(rest)?;
+    let (form, rest) = form_of(rest, mode)?;
+    let settings = Settings {
+        shape,
+        late_by,
+        mode,
+        early,
+        late,
+        form,
+        sources,
+    };
+    Ok((settings, rest))
+}
+
+// None, or 2 to 16.
+#[tactic(auto, unfolding(crate::specs::Steps::sources_at))]
+fn sources_of(alloc: Global, bytes: &[u8]) -> Result<(Vec<Name>, &[u8]), DecodeRefusal>
+    ensures { Gives (λ x. (x.0.items, x.1.now)) result (sources_at is_source_count bytes.now) }
+{
+    let (count, rest) = byte_of(bytes)?;
+    if count == 1 || MAX_SOURCES < count {
+        return Err(DecodeRefusal::Operand);
+    }
+    so_many_names(alloc, rest, u16::from(count))
+}
+
+// Lateness isn't counted from the end of a session.
+#[tactic(auto, unfolding(crate::specs::Version2::windows_at))]
+fn windows_of(bytes: &[u8], from_window: bool) -> Result<((Shape, LateBy), &[u8]), DecodeRefusal>
+    ensures { Gives (λ x. (x.0, x.1.now)) result (windows_at from_window bytes.now) }
+{
+    let last = if from_window { 1 } else { 2 };
+    let (tag, rest) = byte_within(bytes, 0, last)?;
+    windows_of_tag(rest, tag, from_window)
+}
+
+#[tactic(auto, unfolding(crate::specs::Version2::form_at))]
+fn form_of(bytes: &[u8], mode: Mode) -> Result<(Form, &[u8]), DecodeRefusal>
+    ensures { Gives (λ x. (x.0, x.1.now)) result (form_at mode bytes.now) }
+{
+    let (tag, rest) = byte_within(bytes, 0, 3)?;
+    let form = form_of_tag(tag, mode)?;
+    Ok((form, rest))
+}
