@@ -1,23 +1,25 @@
 -- Checks one behind the other.
 use Rattle.std.proofs.Common.{◌≡◌, ◌∙◌, ◌≤◌, ◌<◌, ◌+◌, ◌++◌, ◌||◌, ℕ, suc, Bool, true, false, not, ◌&&◌, nat_lt, List, [], ◌∷◌, length, map, take, drop, get_or, Option, Some, None, Err, Result, inl, inr, bytes_eq, refl, ap, ap₂, sym, arith, add-one, length-append, nat_le}
 use Rattle.std.proofs.lemmas.Bool.{and_parts, ltb-true, and_from}
+use Rattle.std.proofs.lemmas.Bool.Decides.{nat_tests}
 use Rattle.std.proofs.lemmas.List.{length-map, map-append, take_more}
 use Rattle.std.proofs.Math.Seq.{drop-cons}
 use Rattle.std.specs.List.{list_all, list_any}
+use Rattle.wsm_record.specs.Modes.{may_write}
 use Rattle.wsm_record.specs.Name.{is_among}
 use Rattle.wsm_record.specs.declared.schema.Field.{Field as CodeField}
-use Rattle.wsm_record.specs.Schema.{FieldType, DeclaredField}
+use Rattle.wsm_record.specs.Schema.{FieldType, DeclaredField, is_source_count}
 use Rattle.wsm_record.specs.Schema as field_types
 use Rattle.wsm_query.specs.Tree.{Name, Query}
 use Rattle.wsm_record.specs.Fields.{declared_field, declared_type}
 use Rattle.wsm_check.specs.declared.refusal.CheckRefusal.{CheckRefusal}
 use Rattle.wsm_check.specs.declared.refusal.CheckFault.{CheckFault}
 use Rattle.wsm_check.specs.declared.refusal.Part.{Part}
-use Rattle.wsm_check.specs.declared.refusal.CheckFault.TheVariants.{Duplicate, Limit, StreamNeedsAccumulating}
+use Rattle.wsm_check.specs.declared.refusal.CheckFault.TheVariants.{Duplicate, Limit, StreamNeedsAccumulating, SessionLateness}
 use Rattle.wsm_check.specs.declared.refusal.Part.TheVariants as part
 use Rattle.wsm_check.specs.Names.{field_names, names_of}
 use Rattle.wsm_check.specs.Terms.{few_names}
-use Rattle.wsm_check.specs.Checks.{Judges, or_else, first, unless, names_refusal, ty_refusal, field_refusal, fields_refusal, clock_fits, budget_fits, shape_fits, every_fits, may_emit, condition_refusal, columns_refusal, code_fits, refusal, grouped_refusal}
+use Rattle.wsm_check.specs.Checks.{Judges, or_else, first, unless, names_refusal, ty_refusal, field_refusal, fields_refusal, clock_fits, budget_fits, shape_fits, lateness_fits, every_fits, sources_refusal, condition_refusal, columns_refusal, code_fits, refusal, grouped_refusal}
 use Rattle.wsm_check.specs.Types.{InWhere, InColumn}
 
 -- the checks behind one that passed
@@ -84,21 +86,22 @@ pub next_refused : (fields : List CodeField) (i : ℕ) (f : CodeField) (r : Chec
 next_refused fields i f r h e before (inl m) = inl m
 next_refused fields i f r h e before (inr refused) = inr (before ∙ fields_next fields i f h e ∙ stopped (field_refusal (names_to i fields) (declared_field f)) (refusal_from (i + 1) fields) r refused)
 
-five_first : (a b d e f rest : Option CheckRefusal) → or_else (or_else a (or_else b (or_else d (or_else e (or_else f None))))) rest ≡ or_else a (or_else b (or_else d (or_else e (or_else f rest))))
-five_first None None None None None rest = refl
-five_first None None None None (Some r) rest = refl
-five_first None None None (Some r) f rest = refl
-five_first None None (Some r) e f rest = refl
-five_first None (Some r) d e f rest = refl
-five_first (Some r) b d e f rest = refl
+six_first : (a b d e f g rest : Option CheckRefusal) → or_else (or_else a (or_else b (or_else d (or_else e (or_else f (or_else g None)))))) rest ≡ or_else a (or_else b (or_else d (or_else e (or_else f (or_else g rest)))))
+six_first None None None None None None rest = refl
+six_first None None None None None (Some r) rest = refl
+six_first None None None None (Some r) g rest = refl
+six_first None None None (Some r) f g rest = refl
+six_first None None (Some r) e f g rest = refl
+six_first None (Some r) d e f g rest = refl
+six_first (Some r) b d e f g rest = refl
 
--- the clauses of numbers stand behind keys and fields
+-- the clauses of numbers stand behind keys, fields and sources
 pub in_groups : (q : Query) → grouped_refusal q ≡ refusal q
 in_groups q =
     let rest = first (condition_refusal q InWhere part.Where q.condition ∷ columns_refusal q 0 q.columns ∷ condition_refusal q InColumn part.Having q.having ∷ unless (code_fits q) Limit part.Code ∷ []) in
-    ap (λ r. or_else (names_refusal part.Keys q.keys) (or_else (fields_refusal [] q.fields) r))
-    (five_first (unless (clock_fits q) Limit part.Clock) (unless (budget_fits q.budget) Limit part.Budget) (unless (shape_fits q.shape) Limit part.Window)
-    (unless (every_fits q.early && every_fits q.late) Limit part.Trigger) (unless (may_emit q.form q.mode) StreamNeedsAccumulating part.Emit) rest)
+    ap (λ r. or_else (names_refusal part.Keys q.keys) (or_else (fields_refusal [] q.fields) (or_else (sources_refusal q.sources) r)))
+    (six_first (unless (clock_fits q) Limit part.Clock) (unless (budget_fits q.budget) Limit part.Budget) (unless (shape_fits q.shape) Limit part.Window)
+    (unless (lateness_fits q.from_window q.shape) SessionLateness part.Window) (unless (every_fits q.early && every_fits q.late) Limit part.Trigger) (unless (may_write q.mode q.form) StreamNeedsAccumulating part.Emit) rest)
 
 pub passed_unless : (b : Bool) (f : CheckFault) (p : Part) (s : Option CheckRefusal) → or_else (unless b f p) s ≡ None → (b ≡ true) × (s ≡ None)
 passed_unless true f p s h = (refl, h)
@@ -110,6 +113,10 @@ passed_both (Some f) s h = cc
 
 pub few_of_names : (p : Part) (xs : List Name) → names_refusal p xs ≡ None → nat_le (length xs) 1000 ≡ true
 few_of_names p xs h = (and_parts (nat_le 1 (length xs)) _ (passed_unless (nat_le 1 (length xs) && nat_le (length xs) 1000) Limit p _ h).0).1
+
+-- none, or at most 16
+pub few_sources : (n : ℕ) → is_source_count n ≡ true → n ≤ 1000
+few_sources n h = grind (arith, nat_tests)
 
 few_in_type : (p : Part) (ty : FieldType) → ty_refusal p ty ≡ None → nat_le (length (names_of ty)) 1000 ≡ true
 few_in_type p (field_types.Int lo hi) h = refl

@@ -9,7 +9,7 @@ use Rattle.wsm_check.specs.declared.refusal.Part.{Part}
 use Rattle.wsm_check.specs.declared.refusal.Part.TheVariants as part
 use Rattle.wsm_check.specs.Types.{Around, InWhere, InColumn, Typed, typed, typed_condition}
 use Rattle.wsm_check.specs.Sizes.{Acc, accumulators, accumulators_of, aggregates, in_option}
-use Rattle.wsm_check.specs.Checks.{first, unless, names_refusal, fields_refusal, numbers_refusal, condition_refusal, columns_refusal, code_fits, typed_refusal, IsChecked}
+use Rattle.wsm_check.specs.Checks.{first, unless, names_refusal, fields_refusal, sources_refusal, numbers_refusal, condition_refusal, columns_refusal, code_fits, typed_refusal, IsChecked}
 use Rattle.wsm_check.specs.Terms.{is_flat}
 use Rattle.wsm_check.specs.Parts.{MayBeResolved, aggregates_of}
 use Rattle.wsm_check.proofs.Flat.{flat, plain, first_ok}
@@ -80,9 +80,10 @@ passed q h =
     let having = condition_refusal q InColumn part.Having q.having in
     let columns = columns_refusal q 0 q.columns in
     let condition = condition_refusal q InWhere part.Where q.condition in
-    let h1 = passed_both (names_refusal part.Keys q.keys) (first (fields_refusal [] q.fields ∷ numbers_refusal q ∷ condition ∷ columns ∷ having ∷ code ∷ [])) (in_groups q ∙ h) in
-    let h2 = passed_both (fields_refusal [] q.fields) (first (numbers_refusal q ∷ condition ∷ columns ∷ having ∷ code ∷ [])) h1.1 in
-    let h3 = passed_both (numbers_refusal q) (first (condition ∷ columns ∷ having ∷ code ∷ [])) h2.1 in
+    let h1 = passed_both (names_refusal part.Keys q.keys) (first (fields_refusal [] q.fields ∷ sources_refusal q.sources ∷ numbers_refusal q ∷ condition ∷ columns ∷ having ∷ code ∷ [])) (in_groups q ∙ h) in
+    let h2 = passed_both (fields_refusal [] q.fields) (first (sources_refusal q.sources ∷ numbers_refusal q ∷ condition ∷ columns ∷ having ∷ code ∷ [])) h1.1 in
+    let hs = passed_both (sources_refusal q.sources) (first (numbers_refusal q ∷ condition ∷ columns ∷ having ∷ code ∷ [])) h2.1 in
+    let h3 = passed_both (numbers_refusal q) (first (condition ∷ columns ∷ having ∷ code ∷ [])) hs.1 in
     let h4 = passed_both condition (first (columns ∷ having ∷ code ∷ [])) h3.1 in
     let h5 = passed_both columns (first (having ∷ code ∷ [])) h4.1 in
     let h6 = passed_both having (first (code ∷ [])) h5.1 in

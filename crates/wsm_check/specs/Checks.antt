@@ -1,19 +1,16 @@
 -- The checks of a query, in their order: the first refusal decides, and names its part.
-use Rattle.std.specs.Prelude.{◌≡◌, ℕ, suc, ◌*◌, Bool, true, false, ◌&&◌, not, cond, List, [], ◌∷◌, ◌++◌, length, ℤ, pos, int_le, nat_le, nat_lt, Option, Some, None, Result, Ok, Err, ◌⊎◌}
+use Rattle.std.specs.Prelude.{◌≡◌, ℕ, suc, ◌*◌, Bool, true, ◌&&◌, not, cond, List, [], ◌∷◌, ◌++◌, length, ℤ, pos, int_le, nat_le, nat_lt, Option, Some, None, Result, Ok, Err, ◌⊎◌}
 use Rattle.wsm_record.specs.declared.limits.TheConstants.{LATEST_TIME, LONGEST_SPAN, MAX_ACCUMULATORS, MAX_COLUMNS, MAX_FIELDS, MAX_NAMES, MAX_PANES, MAX_SECTION, MAX_STACK, MAX_STATED}
 use Rattle.wsm_record.specs.Name.{is_among}
-use Rattle.wsm_record.specs.declared.words.Mode.{Mode}
-use Rattle.wsm_record.specs.declared.words.Mode.TheVariants.{Discarding, Accumulating}
-use Rattle.wsm_record.specs.declared.words.Form.{Form}
-use Rattle.wsm_record.specs.declared.words.Form.TheVariants.{Panes}
+use Rattle.wsm_record.specs.Modes.{may_write}
 use Rattle.wsm_windows.specs.declared.window.Shape.{Shape}
 use Rattle.wsm_windows.specs.declared.window.Shape.TheVariants.{Fixed, Sliding, Session}
 use Rattle.wsm_windows.specs.Life.{live_bound}
-use Rattle.wsm_record.specs.Schema.{FieldType, DeclaredField}
+use Rattle.wsm_record.specs.Schema.{FieldType, DeclaredField, is_source_count}
 use Rattle.wsm_record.specs.Schema as field_types
 use Rattle.wsm_query.specs.Tree.{Name, Budget, Query, Expr}
 use Rattle.wsm_check.specs.declared.refusal.CheckFault.{CheckFault}
-use Rattle.wsm_check.specs.declared.refusal.CheckFault.TheVariants.{Duplicate, Limit, StreamNeedsAccumulating}
+use Rattle.wsm_check.specs.declared.refusal.CheckFault.TheVariants.{Duplicate, Limit, StreamNeedsAccumulating, SessionLateness}
 use Rattle.wsm_check.specs.declared.refusal.Part.{Part}
 use Rattle.wsm_check.specs.declared.refusal.Part.TheVariants as part
 use Rattle.wsm_check.specs.declared.refusal.CheckRefusal.{CheckRefusal}
@@ -60,6 +57,10 @@ fields_refusal names (d ∷ ds) =
     let p = part.Field (suc (length names)) in
     first (unless (nat_lt (length names) MAX_FIELDS) Limit p ∷ unless (not (is_among d.name names)) Duplicate p ∷ ty_refusal p d.type ∷ fields_refusal (names ++ d.name ∷ []) ds ∷ [])
 
+-- where sources are declared, 2 to 16 of them, none of them twice
+abbrev pub sources_refusal : List Name → Option CheckRefusal
+sources_refusal xs = first (unless (is_source_count (length xs)) Limit part.Sources ∷ unless (not (has_repeats xs)) Duplicate part.Sources ∷ [])
+
 abbrev pub is_time : ℤ → Bool
 is_time n = in_range (pos 0) LATEST_TIME n
 
@@ -86,15 +87,15 @@ shape_fits (Fixed s) = is_count s
 shape_fits (Sliding s d) = is_count s && (is_count d && int_le d s)
 shape_fits (Session g) = is_count g
 
+-- lateness isn't counted from the end of a session, which moves
+abbrev pub lateness_fits : Bool → Shape → Bool
+lateness_fits from_window (Fixed s) = true
+lateness_fits from_window (Sliding s d) = true
+lateness_fits from_window (Session g) = not from_window
+
 abbrev pub every_fits : Option ℤ → Bool
 every_fits None = true
 every_fits (Some n) = is_count n
-
--- a stream form needs the mode ACCUMULATING
-abbrev pub may_emit : Form → Mode → Bool
-may_emit Panes m = true
-may_emit f Accumulating = true
-may_emit f Discarding = false
 
 abbrev pub typed_refusal : Part → Typed → Option CheckRefusal
 typed_refusal p (Ok t) = None
@@ -127,8 +128,9 @@ numbers_refusal q =
     unless (clock_fits q) Limit part.Clock
     ∷ unless (budget_fits q.budget) Limit part.Budget
     ∷ unless (shape_fits q.shape) Limit part.Window
+    ∷ unless (lateness_fits q.from_window q.shape) SessionLateness part.Window
     ∷ unless (every_fits q.early && every_fits q.late) Limit part.Trigger
-    ∷ unless (may_emit q.form q.mode) StreamNeedsAccumulating part.Emit
+    ∷ unless (may_write q.mode q.form) StreamNeedsAccumulating part.Emit
     ∷ [])
 
 abbrev pub refusal : Query → Option CheckRefusal
@@ -136,11 +138,13 @@ refusal q =
     first (
     names_refusal part.Keys q.keys
     ∷ fields_refusal [] q.fields
+    ∷ sources_refusal q.sources
     ∷ unless (clock_fits q) Limit part.Clock
     ∷ unless (budget_fits q.budget) Limit part.Budget
     ∷ unless (shape_fits q.shape) Limit part.Window
+    ∷ unless (lateness_fits q.from_window q.shape) SessionLateness part.Window
     ∷ unless (every_fits q.early && every_fits q.late) Limit part.Trigger
-    ∷ unless (may_emit q.form q.mode) StreamNeedsAccumulating part.Emit
+    ∷ unless (may_write q.mode q.form) StreamNeedsAccumulating part.Emit
     ∷ condition_refusal q InWhere part.Where q.condition
     ∷ columns_refusal q 0 q.columns
     ∷ condition_refusal q InColumn part.Having q.having
@@ -153,6 +157,7 @@ grouped_refusal q =
     first (
     names_refusal part.Keys q.keys
     ∷ fields_refusal [] q.fields
+    ∷ sources_refusal q.sources
     ∷ numbers_refusal q
     ∷ condition_refusal q InWhere part.Where q.condition
     ∷ columns_refusal q 0 q.columns

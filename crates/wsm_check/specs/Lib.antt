@@ -1,4 +1,5 @@
 pub mod Names
+pub mod Tested
 pub mod Sizes
 pub mod Types
 pub mod Checks

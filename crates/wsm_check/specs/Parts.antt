@@ -1,5 +1,5 @@
 -- What a checked query has.
-use Rattle.std.specs.Prelude.{◌≡◌, ◌≤◌, ℕ, ◌+◌, true, List, [], ◌∷◌, map, ℤ, Option, option_map, Ok, Err}
+use Rattle.std.specs.Prelude.{◌≡◌, ◌≤◌, ℕ, ◌+◌, Bool, true, List, [], ◌∷◌, map, ℤ, Option, option_map, Ok, Err}
 use Rattle.std.specs.List.{list_all}
 use Rattle.wsm_record.specs.declared.limits.TheConstants.{MAX_ACCUMULATORS}
 use Rattle.wsm_record.specs.declared.words.Kind.{Kind}
@@ -28,9 +28,11 @@ pub record Column : Type 0 where
 pub record Parts : Type 0 where
   pub keys : List Name
   pub fields : List DeclaredField
+  pub sources : List Name
   pub start : ℤ
   pub skew : ℤ
   pub lateness : ℤ
+  pub from_window : Bool
   pub records : ℤ
   pub budget : Option Budget
   pub shape : Shape
@@ -66,9 +68,11 @@ abbrev pub parts_of : Query → Parts
 parts_of q = record {
   keys = q.keys;
   fields = q.fields;
+  sources = q.sources;
   start = q.start;
   skew = q.skew;
   lateness = q.lateness;
+  from_window = q.from_window;
   records = q.records;
   budget = q.budget;
   shape = q.shape;

@@ -37,9 +37,11 @@ abbrev pub seen_parts : CodeParts → Parts
 seen_parts p = record {
   keys = p.keys.items;
   fields = map declared_field p.fields.items;
+  sources = p.sources.items;
   start = p.start;
   skew = p.skew;
   lateness = p.lateness;
+  from_window = p.from_window;
   records = p.records;
   budget = option_map seen_budget p.budget;
   shape = p.shape;

@@ -23,4 +23,5 @@ numbers_fit _ = true
 pub record IsSpelt (q : Query) : Type 0 where
   pub keys : list_all is_name q.keys ≡ true
   pub fields : list_all is_spelt_field q.fields ≡ true
+  pub sources : list_all is_name q.sources ≡ true
   pub numbers : list_all numbers_fit (in_option q.condition ++ fired q) ≡ true

@@ -2,7 +2,7 @@
 use Rattle.std.specs.Prelude.{ℕ, ◌++◌, List, codes}
 use Rattle.std.specs.Fmt.{decimal}
 use Rattle.wsm_check.specs.declared.refusal.CheckFault.{CheckFault}
-use Rattle.wsm_check.specs.declared.refusal.CheckFault.TheVariants.{UnknownName, Duplicate, FieldOutsideAggregate, AggregateNested, AggregateInWhere, Limit, StreamNeedsAccumulating}
+use Rattle.wsm_check.specs.declared.refusal.CheckFault.TheVariants.{UnknownName, Duplicate, FieldOutsideAggregate, AggregateNested, AggregateInWhere, Limit, StreamNeedsAccumulating, SessionLateness}
 use Rattle.wsm_check.specs.declared.refusal.CheckFault.TheVariants as fault
 use Rattle.wsm_check.specs.declared.refusal.Part.{Part}
 use Rattle.wsm_check.specs.declared.refusal.Part.TheVariants as part
@@ -18,10 +18,12 @@ fault_text AggregateNested = codes "C5 AggregateNested"
 fault_text AggregateInWhere = codes "C6 AggregateInWhere"
 fault_text Limit = codes "C7 Limit"
 fault_text StreamNeedsAccumulating = codes "C8 StreamNeedsAccumulating"
+fault_text SessionLateness = codes "C10 SessionLateness"
 
 abbrev pub part_text : Part → List ℕ
 part_text part.Keys = codes "keys"
 part_text (part.Field n) = codes "field " ++ decimal n
+part_text part.Sources = codes "sources"
 part_text part.Clock = codes "clock"
 part_text part.Budget = codes "budget"
 part_text part.Window = codes "window"

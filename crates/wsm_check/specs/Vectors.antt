@@ -1,7 +1,7 @@
 -- Queries with their first refusals, computed by the definitions.
-use Rattle.std.specs.Prelude.{◌≡◌, refl, ℕ, zero, suc, true, List, [], ◌∷◌, ◌++◌, replicate, pos, negsuc, Option, Some, None, codes}
+use Rattle.std.specs.Prelude.{◌≡◌, refl, ℕ, zero, suc, true, false, List, [], ◌∷◌, ◌++◌, replicate, pos, negsuc, Option, Some, None, codes}
 use Rattle.wsm_record.specs.declared.words.Kind.TheVariants.{Sum, Any}
-use Rattle.wsm_record.specs.declared.words.Mode.TheVariants.{Discarding, Accumulating}
+use Rattle.wsm_record.specs.declared.words.Mode.TheVariants.{Discarding, Accumulating, Retracting}
 use Rattle.wsm_record.specs.declared.words.Form.TheVariants.{Panes, Istream, Dstream}
 use Rattle.wsm_windows.specs.declared.window.Shape.TheVariants.{Fixed, Sliding, Session}
 use Rattle.wsm_query.specs.declared.expr.Op.TheVariants.{Add, Eq, Gt}
@@ -9,7 +9,7 @@ use Rattle.wsm_record.specs.Schema.{FieldType, DeclaredField}
 use Rattle.wsm_record.specs.Schema as field_types
 use Rattle.wsm_query.specs.Tree.{Query, Expr, Number, Truth, Field, EnumName, Key, KeyName, Count, Aggregate, If, Binary}
 use Rattle.wsm_check.specs.declared.refusal.CheckFault.{CheckFault}
-use Rattle.wsm_check.specs.declared.refusal.CheckFault.TheVariants.{UnknownName, Duplicate, FieldOutsideAggregate, AggregateNested, AggregateInWhere, Limit, StreamNeedsAccumulating}
+use Rattle.wsm_check.specs.declared.refusal.CheckFault.TheVariants.{UnknownName, Duplicate, FieldOutsideAggregate, AggregateNested, AggregateInWhere, Limit, StreamNeedsAccumulating, SessionLateness}
 use Rattle.wsm_check.specs.declared.refusal.CheckFault.TheVariants as fault
 use Rattle.wsm_check.specs.declared.refusal.Part.{Part}
 use Rattle.wsm_check.specs.declared.refusal.Part.TheVariants as part
@@ -34,9 +34,11 @@ abbrev base : Query
 base = record {
   keys = codes "a" ∷ codes "b" ∷ [];
   fields = field (codes "n") (field_types.Int (pos 0) (pos 100)) ∷ [];
+  sources = [];
   start = pos 0;
   skew = pos 100;
   lateness = pos 10;
+  from_window = false;
   records = pos 1000;
   budget = None;
   columns = Count ∷ Aggregate Sum n ∷ [];
@@ -147,6 +149,46 @@ least_range = refl
 name_twice : declaring (field (codes "n") (field_types.Enum (codes "x" ∷ codes "y" ∷ codes "x" ∷ [])) ∷ []) ≡ refused Duplicate (part.Field 1)
 name_twice = refl
 
+-- sources
+
+abbrev from : List (List ℕ) → Option CheckRefusal
+from sources = refusal (record base { sources = sources })
+
+abbrev sources_13 : List (List ℕ)
+sources_13 = codes "a" ∷ codes "b" ∷ codes "c" ∷ codes "d" ∷ codes "e" ∷ codes "f" ∷ codes "g" ∷ codes "h" ∷ codes "i" ∷ codes "j" ∷ codes "k" ∷ codes "l" ∷ codes "m" ∷ []
+
+abbrev sources_15 : List (List ℕ)
+sources_15 = codes "n" ∷ codes "o" ∷ sources_13
+
+one_source : from (codes "x" ∷ []) ≡ refused Limit part.Sources
+one_source = refl
+
+two_sources : from (codes "x" ∷ codes "y" ∷ []) ≡ None
+two_sources = refl
+
+fifteen_sources : from sources_15 ≡ None
+fifteen_sources = refl
+
+sixteen_sources : from (codes "x" ∷ sources_15) ≡ None
+sixteen_sources = refl
+
+seventeen_sources : from (codes "x" ∷ codes "y" ∷ sources_15) ≡ refused Limit part.Sources
+seventeen_sources = refl
+
+source_twice : from (codes "x" ∷ codes "y" ∷ codes "x" ∷ []) ≡ refused Duplicate part.Sources
+source_twice = refl
+
+-- a source may have the name of a key or of a field
+source_named_as_a_field : from (codes "a" ∷ codes "n" ∷ []) ≡ None
+source_named_as_a_field = refl
+
+-- the number of sources before their names, and both before the clock
+sources_before_the_clock : refusal (record base { sources = replicate 17 (codes "x"); records = pos 0 }) ≡ refused Limit part.Sources
+sources_before_the_clock = refl
+
+fields_before_sources : refusal (record base { fields = field (codes "n") (field_types.Int (pos 2) (pos 1)) ∷ []; sources = codes "x" ∷ [] }) ≡ refused Limit (part.Field 1)
+fields_before_sources = refl
+
 -- numbers
 
 no_records : refusal (record base { records = pos 0 }) ≡ refused Limit part.Clock
@@ -161,6 +203,25 @@ period_past_size = refl
 period_of_size : refusal (record base { shape = Sliding (pos 60) (pos 60) }) ≡ None
 period_of_size = refl
 
+-- lateness from the end of a window that stands still, or that moves
+fixed_from_window : refusal (record base { from_window = true }) ≡ None
+fixed_from_window = refl
+
+sliding_from_window : refusal (record base { from_window = true; shape = Sliding (pos 60) (pos 25) }) ≡ None
+sliding_from_window = refl
+
+sessions_from_window : refusal (record base { from_window = true; shape = Session (pos 60) }) ≡ refused SessionLateness part.Window
+sessions_from_window = refl
+
+sessions_from_event : refusal (record base { shape = Session (pos 60) }) ≡ None
+sessions_from_event = refl
+
+gap_before_lateness : refusal (record base { from_window = true; shape = Session (pos 0) }) ≡ refused Limit part.Window
+gap_before_lateness = refl
+
+lateness_before_trigger : refusal (record base { from_window = true; shape = Session (pos 60); early = Some (pos 0) }) ≡ refused SessionLateness part.Window
+lateness_before_trigger = refl
+
 no_count : refusal (record base { early = Some (pos 0) }) ≡ refused Limit part.Trigger
 no_count = refl
 
@@ -169,6 +230,15 @@ stream_of_discarding = refl
 
 stream_of_discarding_sessions : refusal (record base { shape = Session (pos 60); mode = Discarding; form = Dstream }) ≡ refused StreamNeedsAccumulating part.Emit
 stream_of_discarding_sessions = refl
+
+stream_of_retracting : refusal (record base { mode = Retracting; form = Istream }) ≡ refused StreamNeedsAccumulating part.Emit
+stream_of_retracting = refl
+
+panes_of_retracting : refusal (record base { mode = Retracting }) ≡ None
+panes_of_retracting = refl
+
+panes_of_discarding : refusal (record base { mode = Discarding }) ≡ None
+panes_of_discarding = refl
 
 stream_of_sessions : refusal (record base { shape = Session (pos 60); form = Dstream }) ≡ None
 stream_of_sessions = refl

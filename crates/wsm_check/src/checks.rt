@@ -40,6 +40,7 @@ fn checked_terms(alloc: Global, query: &Query) -> Result<Terms, CheckRefusal>
     judge(alloc, query)?;
     are_names(&query.keys);
     are_spelt(&query.fields);
+    are_names(&query.sources);
     match terms_of(alloc, query) {
         Ok(terms) => Ok(terms),
         Err(_) => Err(CheckRefusal::Memory),
@@ -55,9 +56,11 @@ fn put_together(query: Query, terms: Terms) -> Checked
     let parts = Parts {
         keys: query.keys,
         fields: query.fields,
+        sources: query.sources,
         start: query.start,
         skew: query.skew,
         lateness: query.lateness,
+        from_window: query.from_window,
         records: query.records,
         budget: query.budget,
         shape: query.shape,

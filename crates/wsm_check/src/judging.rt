@@ -4,11 +4,13 @@ ghost use Rattle.std.specs.Prelude.{◌≡◌, ◌≤◌, ◌+◌, [], length, m
 ghost use Rattle.wsm_record.specs.Fields.{declared_field, declared_type};
 ghost use Rattle.wsm_query.specs.Seen.{seen, seen_expr};
 ghost use Rattle.wsm_check.specs.Names.{field_names, has_repeats};
-ghost use Rattle.wsm_check.specs.Checks.{Judges, clock_fits, columns_refusal, condition_refusal, field_refusal, fields_refusal, grouped_refusal, names_refusal, numbers_refusal, refusal, shape_fits, ty_refusal, typed_refusal, unless};
+ghost use Rattle.wsm_check.specs.Checks.{Judges, clock_fits, columns_refusal, condition_refusal, field_refusal, fields_refusal, grouped_refusal, names_refusal, numbers_refusal, refusal, shape_fits, sources_refusal, ty_refusal, typed_refusal, unless};
 ghost use Rattle.wsm_check.specs.Types.{InColumn, typed};
 
 use crate::code::code_fits;
-use crate::limits::{budget_fits, clock_fits, every_fits, may_emit, shape_fits};
+use crate::limits::{
+    budget_fits, clock_fits, every_fits, lateness_fits, shape_fits, source_count_fits,
+};
 use crate::names::is_among_fields;
 use crate::refusal::{CheckFault, CheckRefusal, Part};
 use crate::types::{Around, judge_condition, type_of};
@@ -85,6 +87,16 @@ fn judge_field(alloc: Global, before: &[Field], field: &Field) -> Result<(), Che
     judge_ty(alloc, part, &field.ty)
 }
 
+// Where sources are declared, 2 to 16 of them, none of them twice.
+#[tactic(auto, using(crate::proofs::ChecksInOrder::steps, crate::proofs::ChecksInOrder::few_sources))]
+fn judge_sources(alloc: Global, sources: &[Name]) -> Result<(), CheckRefusal>
+    ensures { Judges result (sources_refusal sources.now) }
+{
+    let is_count = source_count_fits(sources.len());
+    want(is_count, CheckFault::Limit, Part::Sources)?;
+    judge_repeats(alloc, Part::Sources, sources)
+}
+
 // The clauses of numbers, and the form.
 #[tactic(auto, using(crate::proofs::ChecksInOrder::steps))]
 fn judge_numbers(query: &Query) -> Result<(), CheckRefusal>
@@ -95,10 +107,16 @@ fn judge_numbers(query: &Query) -> Result<(), CheckRefusal>
     want(clock_fits(query), CheckFault::Limit, Part::Clock)?;
     want(budget_fits(query.budget), CheckFault::Limit, Part::Budget)?;
     want(shape_fits(query.shape), CheckFault::Limit, Part::Window)?;
+    let ends_stand = lateness_fits(query.from_window, query.shape);
+    want(ends_stand, CheckFault::SessionLateness, Part::Window)?;
     let counts_fit = every_fits(query.early) && every_fits(query.late);
     want(counts_fit, CheckFault::Limit, Part::Trigger)?;
-    let is_emitted = may_emit(query.form, query.mode);
-    want(is_emitted, CheckFault::StreamNeedsAccumulating, Part::Emit)
+    let may_be_written = query.mode.may_write(query.form);
+    want(
+        may_be_written,
+        CheckFault::StreamNeedsAccumulating,
+        Part::Emit,
+    )
 }
 
 fn judge_option(
@@ -162,6 +180,7 @@ fn judge_in_groups(alloc: Global, query: &Query) -> Result<(), CheckRefusal>
 {
     judge_names(alloc, Part::Keys, &query.keys)?;
     judge_fields(alloc, &query.fields)?;
+    judge_sources(alloc, &query.sources)?;
     judge_numbers(query)?;
     judge_option(query, Around::InWhere, Part::Where, &query.condition)?;
     judge_columns(query, 0, &query.columns)?;

@@ -32,6 +32,7 @@ pub use checks::check;
 pub use parts::{Column, Folding, Parts};
 pub use refusal::{CheckFault, CheckRefusal, Part};
 pub use term::Term;
+pub use tested::{comparison_of, negative};
 pub use types::Around;
 
 mod assemble;
@@ -46,4 +47,5 @@ mod refusal;
 mod resolve;
 mod sizes;
 mod term;
+mod tested;
 mod types;

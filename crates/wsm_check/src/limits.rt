@@ -1,18 +1,25 @@
 //! The ranges of the numbers of a query.
 
 ghost use Rattle.std.specs.Prelude.{◌≡◌, option_map};
+ghost use Rattle.wsm_record.specs.Schema.{is_source_count};
 ghost use Rattle.wsm_query.specs.Seen.{seen, seen_budget};
-ghost use Rattle.wsm_check.specs.Checks.{budget_fits, clock_fits, every_fits, in_range, is_cost, is_count, is_span, is_time, may_emit, shape_fits};
+ghost use Rattle.wsm_check.specs.Checks.{budget_fits, clock_fits, every_fits, in_range, is_cost, is_count, is_span, is_time, lateness_fits, shape_fits};
 
 use wsm_query::{Budget, Query};
-use wsm_record::limits::{LATEST_TIME, LONGEST_SPAN, MAX_PANES, MAX_STATED};
-use wsm_record::{Form, Mode};
+use wsm_record::limits::{LATEST_TIME, LONGEST_SPAN, MAX_PANES, MAX_SOURCES, MAX_STATED};
 use wsm_windows::Shape;
 
 // What BUDGET may state, as numbers of a query, which have a sign.
 const MAX_COST: i64 = MAX_STATED as i64;
 
 const MAX_HELD: i64 = MAX_PANES as i64;
+
+/// Whether there may be so many sources: none where none are declared, else 2 to 16.
+pub fn source_count_fits(count: usize) -> bool
+    ensures { result ≡ is_source_count count }
+{
+    count == 0 || 2 <= count && count <= MAX_SOURCES
+}
 
 /// Whether START, SKEW, LATENESS and RECORDS are in range.
 pub fn clock_fits(query: &Query) -> bool
@@ -47,6 +54,17 @@ pub fn shape_fits(shape: Shape) -> bool
     }
 }
 
+/// Whether lateness may be counted so with windows of this shape: not from the end of a session,
+/// which moves.
+pub fn lateness_fits(from_window: bool, shape: Shape) -> bool
+    ensures { result ≡ lateness_fits from_window shape }
+{
+    match shape {
+        Shape::Fixed(_) | Shape::Sliding(_, _) => true,
+        Shape::Session(_) => !from_window,
+    }
+}
+
 /// Whether the count of a trigger is in range.
 pub fn every_fits(every: Option<i64>) -> bool
     ensures { result ≡ every_fits every }
@@ -54,16 +72,6 @@ pub fn every_fits(every: Option<i64>) -> bool
     match every {
         None => true,
         Some(count) => is_count(count),
-    }
-}
-
-/// Whether a form may stand with a mode: a stream needs ACCUMULATING.
-pub fn may_emit(form: Form, mode: Mode) -> bool
-    ensures { result ≡ may_emit form mode }
-{
-    match (form, mode) {
-        (Form::Panes, _) | (_, Mode::Accumulating) => true,
-        (_, Mode::Discarding) => false,
     }
 }
 

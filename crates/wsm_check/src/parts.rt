@@ -26,12 +26,17 @@ pub struct Column {
 pub struct Parts {
     pub keys: Vec<Name>,
     pub fields: Vec<Field>,
+    /// The sources of watermarks: none where all watermarks are of one source, else 2 to 16.
+    pub sources: Vec<Name>,
     /// Where the watermark starts, in event time.
     pub start: i64,
     /// How far ahead of the watermark a record may be, in event time.
     pub skew: i64,
-    /// How far behind the watermark a record may be, in event time.
+    /// How far behind the watermark a record, or the end of its last window, may be, in event time.
     pub lateness: i64,
+    /// Whether lateness is counted from the ends of windows, and not from a record's own time. It
+    /// isn't with sessions.
+    pub from_window: bool,
     /// How many records are admitted.
     pub records: i64,
     pub budget: Option<Budget>,

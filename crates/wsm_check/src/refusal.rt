@@ -23,6 +23,8 @@ pub enum CheckFault {
     Limit,
     /// A stream form stands with a mode that isn't ACCUMULATING.
     StreamNeedsAccumulating,
+    /// Lateness is counted from the end of a session, which moves.
+    SessionLateness,
 }
 
 /// The part of a query that a refusal is about.
@@ -31,6 +33,8 @@ pub enum Part {
     Keys,
     /// A field, from 1.
     Field(u64),
+    /// The sources of watermarks.
+    Sources,
     Clock,
     Budget,
     Window,
@@ -68,6 +72,7 @@ impl Display for CheckFault {
             CheckFault::AggregateInWhere => "C6 AggregateInWhere",
             CheckFault::Limit => "C7 Limit",
             CheckFault::StreamNeedsAccumulating => "C8 StreamNeedsAccumulating",
+            CheckFault::SessionLateness => "C10 SessionLateness",
         })
     }
 }
@@ -82,6 +87,7 @@ impl Display for Part {
         match self {
             Part::Keys => f.write_str("keys"),
             Part::Field(number) => write!(f, "field {number}"),
+            Part::Sources => f.write_str("sources"),
             Part::Clock => f.write_str("clock"),
             Part::Budget => f.write_str("budget"),
             Part::Window => f.write_str("window"),

@@ -11,6 +11,8 @@ use Rattle.wsm_interval.specs.Interval.{add, sub, mul, div, rem}
 use Rattle.wsm_query.specs.declared.expr.Op.{Op}
 use Rattle.wsm_query.specs.declared.expr.Op.TheVariants.{Add, Sub, Mul, Div, Rem, Eq, Ne, Lt, Le, Gt, Ge}
 use Rattle.wsm_query.specs.Tree.{Query, Expr, Number, Truth, Field, EnumName, Key, KeyName, Count, Aggregate, If, Brackets, Minus, Not, Binary, And, Or}
+use Rattle.wsm_record.specs.Schema.{DeclaredField}
+use Rattle.wsm_check.specs.Tested.{tested}
 use Rattle.wsm_check.specs.Sizes.{Acc, accumulators, accumulators_of, in_option, fired}
 use Rattle.wsm_verifier.specs.declared.rejection.Rejection.{Rejection}
 use Rattle.wsm_verifier.specs.declared.rejection.Rule.{Rule}
@@ -18,7 +20,7 @@ use Rattle.wsm_verifier.specs.declared.rejection.Rule.TheVariants.{BudgetRecord,
 use Rattle.wsm_verifier.specs.declared.rejection.Part.TheVariants as part
 use Rattle.wsm_verifier.specs.Costs.{needed}
 use Rattle.wsm_verifier.specs.Rules.{or_then, fault_in, ranges_of_record, ranges_of_pane, update_visits, code_fault, budget_fault, fault, unless}
-use Rattle.wsm_compiler.specs.Ranges.{Range, Unfit, NoNumber, Within, no_number, on_intervals, of_op, of_minus, of_branches, if_fits, of_aggregate, range, fits, ranges_fit}
+use Rattle.wsm_compiler.specs.Ranges.{Range, Unfit, NoNumber, Within, no_number, on_intervals, of_op, of_minus, of_branches, if_fits, of_aggregate, range, fits, ranges_fit, range_on, where_true, where_false}
 use Rattle.wsm_compiler.specs.Program.{program_stating, stated, needed_of, program_of}
 use Rattle.wsm_compiler.specs.Accepted.{states_enough, FaultlessExactly, AcceptedExactly, AcceptedWithoutBudget}
 use Rattle.wsm_machine.proofs.FittingStacks.{no}
@@ -88,31 +90,39 @@ module _ (q : Query) (b : Costs) where
   fit_both : (xs ys : List Acc) → accs_fit q b xs ≡ true → accs_fit q b ys ≡ true → accs_fit q b (xs ++ ys) ≡ true
   fit_both xs ys h l = list_all-append (acc_fits q b) xs ys ∙ and_from (accs_fit q b xs) (accs_fit q b ys) h l
 
-  accs_of_fit : (e : Expr) → fits (range q e) ≡ true → accs_fit q b (accumulators_of e) ≡ true
-  accs_of_fit (Aggregate kind e) h = and_from (fits (of_aggregate q.records kind (range q e))) true h refl
-  accs_of_fit (If c x y) h =
-      let t = test_fits (range q c) (of_branches (range q x) (range q y)) h in
-      let p = branches_fit (range q x) (range q y) t.1 in
-      fit_both (accumulators_of c) (accumulators_of x ++ accumulators_of y) (accs_of_fit c t.0) (fit_both (accumulators_of x) (accumulators_of y) (accs_of_fit x p.0) (accs_of_fit y p.1))
-  accs_of_fit (Brackets e) h = accs_of_fit e h
-  accs_of_fit (Minus e) h = accs_of_fit e (minus_fit (range q e) h)
-  accs_of_fit (Not e) h = accs_of_fit e h
-  accs_of_fit (Binary op x y) h = let p = op_fit op (range q x) (range q y) h in fit_both (accumulators_of x) (accumulators_of y) (accs_of_fit x p.0) (accs_of_fit y p.1)
-  accs_of_fit (And x y) h = let p = two_fit (range q x) (range q y) h in fit_both (accumulators_of x) (accumulators_of y) (accs_of_fit x p.0) (accs_of_fit y p.1)
-  accs_of_fit (Or x y) h = let p = two_fit (range q x) (range q y) h in fit_both (accumulators_of x) (accumulators_of y) (accs_of_fit x p.0) (accs_of_fit y p.1)
-  accs_of_fit (Number n) h = refl
-  accs_of_fit (Truth v) h = refl
-  accs_of_fit (Field x) h = refl
-  accs_of_fit (EnumName x y) h = refl
-  accs_of_fit Key h = refl
-  accs_of_fit (KeyName x) h = refl
-  accs_of_fit Count h = refl
+  accs_of_fit : (ds : List DeclaredField) (e : Expr) → fits (range_on q ds e) ≡ true → accs_fit q b (accumulators_of e) ≡ true
+  accs_of_fit ds (Aggregate kind e) h = and_from (fits (of_aggregate q.records kind (range q e))) true h refl
+  accs_of_fit ds (If c x y) h =
+      let dx = where_true (tested c) ds in
+      let dy = where_false (tested c) ds in
+      let t = test_fits (range_on q ds c) (of_branches (range_on q dx x) (range_on q dy y)) h in
+      let p = branches_fit (range_on q dx x) (range_on q dy y) t.1 in
+      fit_both (accumulators_of c) (accumulators_of x ++ accumulators_of y) (accs_of_fit ds c t.0) (fit_both (accumulators_of x) (accumulators_of y) (accs_of_fit dx x p.0) (accs_of_fit dy y p.1))
+  accs_of_fit ds (Brackets e) h = accs_of_fit ds e h
+  accs_of_fit ds (Minus e) h = accs_of_fit ds e (minus_fit (range_on q ds e) h)
+  accs_of_fit ds (Not e) h = accs_of_fit ds e h
+  accs_of_fit ds (Binary op x y) h = let p = op_fit op (range_on q ds x) (range_on q ds y) h in fit_both (accumulators_of x) (accumulators_of y) (accs_of_fit ds x p.0) (accs_of_fit ds y p.1)
+  accs_of_fit ds (And x y) h =
+      let dy = where_true (tested x) ds in
+      let p = two_fit (range_on q ds x) (range_on q dy y) h in
+      fit_both (accumulators_of x) (accumulators_of y) (accs_of_fit ds x p.0) (accs_of_fit dy y p.1)
+  accs_of_fit ds (Or x y) h =
+      let dy = where_false (tested x) ds in
+      let p = two_fit (range_on q ds x) (range_on q dy y) h in
+      fit_both (accumulators_of x) (accumulators_of y) (accs_of_fit ds x p.0) (accs_of_fit dy y p.1)
+  accs_of_fit ds (Number n) h = refl
+  accs_of_fit ds (Truth v) h = refl
+  accs_of_fit ds (Field x) h = refl
+  accs_of_fit ds (EnumName x y) h = refl
+  accs_of_fit ds Key h = refl
+  accs_of_fit ds (KeyName x) h = refl
+  accs_of_fit ds Count h = refl
 
   pub accs_of_all : (es : List Expr) → columns_fit q es ≡ true → accs_fit q b (flat_map accumulators_of es) ≡ true
   accs_of_all [] h = refl
   accs_of_all (e ∷ es) h =
       let p = and_parts (fits (range q e)) (columns_fit q es) h in
-      fit_both (accumulators_of e) (flat_map accumulators_of es) (accs_of_fit e p.0) (accs_of_all es p.1)
+      fit_both (accumulators_of e) (flat_map accumulators_of es) (accs_of_fit q.fields e p.0) (accs_of_all es p.1)
 
   option_fits : (o : Option Expr) → columns_fit q (in_option o) ≡ condition_fits q o
   option_fits None = refl

@@ -60,7 +60,7 @@ module _ (p : Parts) (h : ∥ ArePartsOfChecked p ∥₁) where
   is_program_of b l =
       ∥∥₁_elim h (Bool-set _ _) (λ w. rw w.is (ap is_program (assembled_is w.query b) ∙ lawful_stating (program_of w.query) b (is_lawful w.query w.checked w.spelt) l))
 
-  -- so nothing refuses its keys and fields
+  -- so nothing refuses its keys, fields and sources
   pub is_schema_of : (b : Costs) → is_budget b ≡ true → schema_refusal (assembled_header p b).schema ≡ None
   is_schema_of b l = schema_fits (assembled_header p b).schema (schema_of (assembled p b) (is_program_of b l))
 

@@ -4,18 +4,19 @@ use Rattle.std.specs.Prelude.{is_some, nat_eq, nat_lt}
 use Rattle.std.specs.List.{cons_option}
 use Rattle.std.proofs.lemmas.Bool.{and_from, lt-ltb, eq-eqb, or_right}
 use Rattle.std.proofs.Math.Bool.{and-false}
+use Rattle.wsm_program.specs.declared.FieldTest.{FieldTest}
 use Rattle.wsm_program.specs.declared.Instr.{Instr}
-use Rattle.wsm_program.specs.declared.Instr.TheVariants.{Jump, JumpIfFalse}
+use Rattle.wsm_program.specs.declared.Instr.TheVariants.{Jump, JumpIfFalse, Test}
 use Rattle.wsm_program.specs.declared.SectionId.{SectionId}
 use Rattle.wsm_program.specs.declared.SectionId.TheVariants.{Where, Update, Fire}
 use Rattle.wsm_verifier.specs.declared.known.Known.{Known}
 use Rattle.wsm_verifier.specs.declared.known.Known.TheVariants.{Truth}
-use Rattle.wsm_verifier.specs.Labels.{State, Label, Unreached, Reached, Visit, same_type, hull_known, agree, hull_states, hull_all, carried_to, visit, visit_of}
-use Rattle.wsm_program.specs.Instructions.{is_later}
+use Rattle.wsm_verifier.specs.Labels.{State, Label, Unreached, Reached, Visit, same_type, same_types, hull_known, hull_lists, agree, hull_states, hull_all, narrowed, along, carried_to, visit, visit_of}
+use Rattle.wsm_program.specs.Instructions.{may_stand, opposite_test, is_later}
 use Rattle.wsm_verifier.specs.Rules.{Setting, fold_missing, fault_of}
 use Rattle.wsm_compiler.specs.Code.{choice}
 use Rattle.wsm_compiler.proofs.Visits.{nil_right, extended, added, extended_is, added_append, carries, carries_append, faults, faults_append, or_true}
-use Rattle.wsm_compiler.proofs.Hulls.{stack_self, types_self, flags_self, hull_with}
+use Rattle.wsm_compiler.proofs.Hulls.{stack_self, types_self, flags_self, agreeing, hull_with}
 use Rattle.wsm_compiler.proofs.Parts.{none≢some, Comes, Labels, Labelled, shorter, continued, visit_is, fault_is}
 use Rattle.wsm_compiler.proofs.Tests.{tested, not_last, with_known, pushed_on}
 use Rattle.wsm_semantics.proofs.MergedRecords.{unlike}
@@ -88,20 +89,69 @@ to_jump k t h = (λ i. lt-ltb k t h i && (eq-eqb t t refl i || false))
 jump_to_no_other : (k t q : ℕ) → nat_eq q t ≡ false → (nat_lt k q && (nat_eq q t || false)) ≡ false
 jump_to_no_other k t q l = ap (λ x. nat_lt k q && (x || false)) l ∙ and-false (nat_lt k q)
 
+-- ---- a jump of two edges
+
+-- the same state with other fields
+abbrev pub with_fields : List Known → State → State
+with_fields fs s = record s { fields = fs }
+
+-- the jump at place i has no fault; its edge to the next place carries a state, that to its target another, and there are no others
+pub record Branches (c : Setting) (i t : ℕ) (j : Instr) (before yes other : State) : Type 0 where
+  pub passes : is_some (fault_of c i j (Reached before)) ≡ false
+  pub to_first : carried_to (i + 1) (visit c.ranges i j (Reached before)) ≡ Some yes
+  pub to_second : carried_to t (visit c.ranges i j (Reached before)) ≡ Some other
+  pub to_none : (q : ℕ) → i + 1 < q → nat_eq q t ≡ false → carried_to q (visit c.ranges i j (Reached before)) ≡ None
+
+pub truth_branches : (c : Setting) (i t : ℕ) (s : State) → length s.stack < 32 → i + 1 < t → t < c.n → Branches c i t (JumpIfFalse t) (with_known Truth s) s s
+truth_branches c i t s room later inside = record {
+  passes = test_passes c i t s room (omega (arith, later)) inside (omega (arith, later, inside));
+  to_first = ap (λ x. cond x (Some s) None) (to_next i t);
+  to_second = ap (λ x. cond x (Some s) None) (to_target i t (omega (arith, later)));
+  to_none = λ q l h. ap (λ x. cond x (Some s) None) (to_no_other i t q l h);
+}
+
+missing_at_field : (id : SectionId) (x : FieldTest) (t : ℕ) (fs : List Bool) → fold_missing id (Test x t) fs ≡ false
+missing_at_field Where x t fs = refl
+missing_at_field Update x t fs = refl
+missing_at_field Fire x t fs = refl
+
+-- a test of a field, where it may stand
+pub field_branches : (c : Setting) (i t : ℕ) (x : FieldTest) (s : State) → may_stand c.section (Test x t) ≡ true → length s.stack < 32 → i + 1 < t → t < c.n → Branches c i t (Test x t) s (narrowed x s) (narrowed (opposite_test x) s)
+field_branches c i t x s stands room later inside =
+    let apart : nat_eq t (suc i) ≡ false = other_place t (suc i) (omega (arith, later)) in
+    let next : nat_eq (i + 1) (suc i) ≡ true = eq-eqb (i + 1) (suc i) (omega arith) in
+    let yes = narrowed x s in
+    let other = narrowed (opposite_test x) s in
+    record {
+      passes = tested c i (Test x t) s false false false false false false false false false false false
+          (ap not stands) (not_under (length s.stack)) refl refl refl refl refl (room_at_jump (length s.stack) (omega (arith, room))) (missing_at_field c.section x t s.folded)
+          (well c.n i t (omega (arith, later)) inside) (not_last true i c.n (omega (arith, later, inside)));
+      to_first = (λ j. cond (to_next i t j) (Some (cond (apart j) s (cond (next j) yes other))) None);
+      to_second = (λ j. cond (to_target i t (omega (arith, later)) j) (Some (cond (apart j) s (cond (apart j) yes other))) None);
+      to_none = λ q l h. ap (λ b. cond b (Some (along (Test x t) i q s)) None) (to_no_other i t q l h);
+    }
+
 -- ---- the choice
+
+abbrev pub place_of_second : ℕ → ℕ → ℕ
+place_of_second i m = i + 1 + m + 1
 
 abbrev reached_if : Option State → Label
 reached_if None = Unreached
 reached_if (Some s) = Reached s
 
-abbrev place_of_second : ℕ → ℕ → ℕ
-place_of_second i m = i + 1 + m + 1
-
 -- a choice that begins at place i, with m and n places in its parts
-module _ (e : State) (c : Setting) (i m n : ℕ) (first second : List Instr) (s : State) (hm : length first ≡ m) (hn : length second ≡ n) (pm : 0 < m) (pn : 0 < n)
-    (inside : i + 1 + m + 1 + n < c.n) (room : length s.stack < 32) (vs : List Visit) (at : Comes e vs i (with_known Truth s) (length (choice (i + 1) first m second n))) where
+module _ (e : State) (c : Setting) (i m n : ℕ) (go : ℕ → Instr) (first second : List Instr) (before s : State) (fy fn : List Known) (hm : length first ≡ m) (hn : length second ≡ n) (pm : 0 < m) (pn : 0 < n)
+    (inside : i + 1 + m + 1 + n < c.n) (room : length s.stack < 32) (branches : Branches c i (place_of_second i m) (go (place_of_second i m)) before (with_fields fy s) (with_fields fn s))
+    (back : hull_lists fn fy ≡ s.fields) (alike : same_types fn fy ≡ true) (vs : List Visit) (at : Comes e vs i before (length (choice go (i + 1) first m second n))) where
+  abbrev yes : State
+  yes = with_fields fy s
+
+  abbrev other : State
+  other = with_fields fn s
+
   abbrev test : Instr
-  test = JumpIfFalse (place_of_second i m)
+  test = go (place_of_second i m)
 
   abbrev jump : Instr
   jump = Jump (place_of_second i m + n)
@@ -112,29 +162,29 @@ module _ (e : State) (c : Setting) (i m n : ℕ) (first second : List Instr) (s 
   abbrev ws0 : List Visit
   ws0 = v0 ∷ vs
 
-  span : length (choice (i + 1) first m second n) ≡ m + n + 2
+  span : length (choice go (i + 1) first m second n) ≡ m + n + 2
   span = let l = length-append first (jump ∷ second) in omega (arith, l, hm, hn)
 
-  v0_is : v0 ≡ visit c.ranges i test (Reached (with_known Truth s))
-  v0_is = visit_is e c.ranges test vs i (with_known Truth s) at.long at.label
+  v0_is : v0 ≡ visit c.ranges i test (Reached before)
+  v0_is = visit_is e c.ranges test vs i before at.long at.label
 
   passes0 : faults c (v0 ∷ []) ≡ false
-  passes0 = ap (λ w. faults c (w ∷ [])) v0_is ∙ fault_is c i test (Reached (with_known Truth s)) ∙ test_passes c i (place_of_second i m) s room (omega arith) (omega (arith, inside)) (omega (arith, inside))
+  passes0 = ap (λ w. faults c (w ∷ [])) v0_is ∙ fault_is c i test (Reached before) ∙ branches.passes
 
-  edge : (b : Bool) (q : ℕ) → leads_two i (place_of_second i m) q ≡ b → carried_to q v0 ≡ cond b (Some s) None
-  edge b q h = ap (carried_to q) v0_is ∙ ap (λ x. cond x (Some s) None) h
+  no_edge : (q : ℕ) → i + 1 < q → nat_eq q (place_of_second i m) ≡ false → carried_to q v0 ≡ None
+  no_edge q l h = ap (carried_to q) v0_is ∙ branches.to_none q l h
 
   quiet_before : (q : ℕ) → i < q → q < i + m + n + 2 → carries q vs ≡ []
   quiet_before q l h = at.quiet q l (omega (arith, h, span))
 
-  ws0_at : (b : Bool) (q : ℕ) → leads_two i (place_of_second i m) q ≡ b → i < q → q < i + m + n + 2 → carries q ws0 ≡ cons_option (cond b (Some s) None) []
-  ws0_at b q h l u = (λ j. cons_option (edge b q h j) (quiet_before q l u j))
+  ws0_at : (o : Option State) (q : ℕ) → carried_to q v0 ≡ o → i < q → q < i + m + n + 2 → carries q ws0 ≡ cons_option o []
+  ws0_at o q h l u = (λ j. cons_option (h j) (quiet_before q l u j))
 
-  comes0 : Comes e ws0 (i + 1) s (length first + 1)
+  comes0 : Comes e ws0 (i + 1) yes (length first + 1)
   comes0 = record {
     long = omega (arith, at.long);
-    label = ap hull_all (ws0_at true (i + 1) (to_next i (place_of_second i m)) (omega arith) (omega (arith, pm)));
-    quiet = λ q l h. ws0_at false q (to_no_other i (place_of_second i m) q l (unlike q (place_of_second i m) (omega (arith, h, hm)))) (omega (arith, l)) (omega (arith, h, hm, pn));
+    label = ap hull_all (ws0_at (Some yes) (i + 1) (ap (carried_to (i + 1)) v0_is ∙ branches.to_first) (omega arith) (omega (arith, pm)));
+    quiet = λ q l h. ws0_at None q (no_edge q l (unlike q (place_of_second i m) (omega (arith, h, hm)))) (omega (arith, l)) (omega (arith, h, hm, pn));
   }
 
   abbrev ws1 : List Visit
@@ -153,7 +203,7 @@ module _ (e : State) (c : Setting) (i m n : ℕ) (first second : List Instr) (s 
   new2 = added e c.ranges ws2 second
 
   abbrev whole : List Visit
-  whole = added e c.ranges vs (choice (i + 1) first m second n)
+  whole = added e c.ranges vs (choice go (i + 1) first m second n)
 
   whole_is : whole ≡ ((new2 ++ v1 ∷ []) ++ new1) ++ v0 ∷ []
   whole_is = ap (λ zs. zs ++ v0 ∷ []) (added_append e c.ranges ws0 first (jump ∷ second))
@@ -174,7 +224,7 @@ module _ (e : State) (c : Setting) (i m n : ℕ) (first second : List Instr) (s 
 
   module _ (t : State) (low : length t.stack ≤ 32) (a : Labels e c ws0 (i + 1) first (Some t)) where
     comes1 : Comes e ws1 (i + 1 + length first) t 1
-    comes1 = continued e c ws0 (i + 1) first 1 s t (omega (arith, hm, pm)) (omega arith) comes0 a
+    comes1 = continued e c ws0 (i + 1) first 1 yes t (omega (arith, hm, pm)) (omega arith) comes0 a
 
     v1_is : v1 ≡ visit c.ranges (i + 1 + length first) jump (Reached t)
     v1_is = visit_is e c.ranges jump ws1 (i + 1 + length first) t comes1.long comes1.label
@@ -187,55 +237,55 @@ module _ (e : State) (c : Setting) (i m n : ℕ) (first second : List Instr) (s 
     edge_on : (b : Bool) (q : ℕ) → (nat_lt (i + 1 + length first) q && (nat_eq q (place_of_second i m + n) || false)) ≡ b → carried_to q v1 ≡ cond b (Some t) None
     edge_on b q h = ap (carried_to q) v1_is ∙ ap (λ x. cond x (Some t) None) h
 
-    ws1_at : (b : Bool) (q : ℕ) → leads_two i (place_of_second i m) q ≡ b → i + 1 + length first < q → q < i + m + n + 2 → carries q ws1 ≡ cons_option (cond b (Some s) None) []
-    ws1_at b q h l u =
+    ws1_at : (o : Option State) (q : ℕ) → carried_to q v0 ≡ o → i + 1 + length first < q → q < i + m + n + 2 → carries q ws1 ≡ cons_option o []
+    ws1_at o q h l u =
         ap (carries q) (extended_is e c.ranges ws0 first) ∙ carries_append q new1 ws0
-        ∙ (λ j. a.quiet t refl q l j ++ ws0_at b q h (omega (arith, l)) u j)
+        ∙ (λ j. a.quiet t refl q l j ++ ws0_at o q h (omega (arith, l)) u j)
 
-    comes2 : Comes e ws2 (place_of_second i m) s (length second)
+    comes2 : Comes e ws2 (place_of_second i m) other (length second)
     comes2 = record {
       long = omega (arith, comes1.long, hm);
       label = ap hull_all
           (λ j. cons_option (edge_on false (place_of_second i m) (jump_to_no_other (i + 1 + length first) (place_of_second i m + n) (place_of_second i m) (unlike _ _ (omega (arith, pn)))) j)
-          (ws1_at true (place_of_second i m) (to_target i (place_of_second i m) (omega arith)) (omega (arith, hm)) (omega (arith, pn)) j));
+          (ws1_at (Some other) (place_of_second i m) (ap (carried_to (place_of_second i m)) v0_is ∙ branches.to_second) (omega (arith, hm)) (omega (arith, pn)) j));
       quiet = λ q l h.
           (λ j. cons_option (edge_on false q (jump_to_no_other (i + 1 + length first) (place_of_second i m + n) q (unlike _ _ (omega (arith, h, hn)))) j)
-          (ws1_at false q (to_no_other i (place_of_second i m) q (omega (arith, l)) (other_place q (place_of_second i m) l)) (omega (arith, l, hm)) (omega (arith, h, hn)) j));
+          (ws1_at None q (no_edge q (omega (arith, l)) (other_place q (place_of_second i m) l)) (omega (arith, l, hm)) (omega (arith, h, hn)) j));
     }
 
     -- ---- behind the second, where its state is known too
 
     module _ (u : State) (b : Labels e c ws2 (place_of_second i m) second (Some u)) (agrees : agree u t ≡ true) where
-      at_end : hull_all (carries (i + length (choice (i + 1) first m second n)) whole) ≡ Reached (hull_states u t)
+      at_end : hull_all (carries (i + length (choice go (i + 1) first m second n)) whole) ≡ Reached (hull_states u t)
       at_end =
           let end = place_of_second i m + n in
-          let is : i + length (choice (i + 1) first m second n) ≡ end = omega (arith, span) in
+          let is : i + length (choice go (i + 1) first m second n) ≡ end = omega (arith, span) in
           let there : place_of_second i m + length second ≡ end = omega (arith, hn) in
           ap (λ q. hull_all (carries q whole)) is
           ∙ ap hull_all
           (carries_whole end
           ∙ (λ j. ((carries end new2 ++ cons_option (edge_on true end (to_jump (i + 1 + length first) end (omega (arith, hm))) j) []) ++ a.quiet t refl end (omega (arith, hm, pn)) j)
-          ++ cons_option (edge false end (to_no_other i (place_of_second i m) end (omega arith) (other_place end (place_of_second i m) (omega (arith, pn)))) j) [])
+          ++ cons_option (no_edge end (omega arith) (other_place end (place_of_second i m) (omega (arith, pn))) j) [])
           ∙ nil_right ((carries end new2 ++ t ∷ []) ++ []) ∙ nil_right (carries end new2 ++ t ∷ []))
           ∙ hull_with (carries end new2) u t (ap (λ q. hull_all (carries q new2)) (sym there) ∙ b.gives u refl) agrees
 
-      past_end : (q : ℕ) → i + length (choice (i + 1) first m second n) < q → carries q whole ≡ []
+      past_end : (q : ℕ) → i + length (choice go (i + 1) first m second n) < q → carries q whole ≡ []
       past_end q l =
           carries_whole q
           ∙ (λ j. ((b.quiet u refl q (omega (arith, l, span, hn)) j
           ++ cons_option (edge_on false q (jump_to_no_other (i + 1 + length first) (place_of_second i m + n) q (other_place q (place_of_second i m + n) (omega (arith, l, span)))) j) [])
           ++ a.quiet t refl q (omega (arith, l, span, hm)) j)
-          ++ cons_option (edge false q (to_no_other i (place_of_second i m) q (omega (arith, l, span)) (other_place q (place_of_second i m) (omega (arith, l, span)))) j) [])
+          ++ cons_option (no_edge q (omega (arith, l, span)) (other_place q (place_of_second i m) (omega (arith, l, span))) j) [])
 
   -- the first part has a fault; or the second has; or none has
-  first_faulty : faults c new1 ≡ true → Labels e c vs i (choice (i + 1) first m second n) None
+  first_faulty : faults c new1 ≡ true → Labels e c vs i (choice go (i + 1) first m second n) None
   first_faulty h = record {
     faulty = faults_whole ∙ ap (λ x. ((faults c new2 || faults c (v1 ∷ [])) || x) || faults c (v0 ∷ [])) h ∙ ap (λ x. x || faults c (v0 ∷ [])) (or_true (faults c new2 || faults c (v1 ∷ [])));
     gives = λ t h. none≢some h;
     quiet = λ t h q l. none≢some h;
   }
 
-  second_faulty : faults c new2 ≡ true → Labels e c vs i (choice (i + 1) first m second n) None
+  second_faulty : faults c new2 ≡ true → Labels e c vs i (choice go (i + 1) first m second n) None
   second_faulty h = record {
     faulty = faults_whole ∙ ap (λ x. ((x || faults c (v1 ∷ [])) || faults c new1) || faults c (v0 ∷ [])) h;
     gives = λ t h. none≢some h;
@@ -243,33 +293,34 @@ module _ (e : State) (c : Setting) (i m n : ℕ) (first second : List Instr) (s 
   }
 
   abbrev Rest : Option Known → Type 0
-  Rest x2 = (ws : List Visit) → Comes e ws (place_of_second i m) s (length second) → Labels e c ws (place_of_second i m) second (pushed_on s x2)
+  Rest x2 = (ws : List Visit) → Comes e ws (place_of_second i m) other (length second) → Labels e c ws (place_of_second i m) second (pushed_on other x2)
 
-  chosen_with : (a b : Known) → same_type b a ≡ true → Labels e c ws0 (i + 1) first (Some (with_known a s)) → Labels e c ws2 (place_of_second i m) second (Some (with_known b s)) →
-      Labels e c vs i (choice (i + 1) first m second n) (Some (with_known (hull_known b a) s))
+  chosen_with : (a b : Known) → same_type b a ≡ true → Labels e c ws0 (i + 1) first (Some (with_known a yes)) → Labels e c ws2 (place_of_second i m) second (Some (with_known b other)) →
+      Labels e c vs i (choice go (i + 1) first m second n) (Some (with_known (hull_known b a) s))
   chosen_with a b same la lb =
-      let t = with_known a s in
-      let u = with_known b s in
+      let t = with_known a yes in
+      let u = with_known b other in
       let low : length t.stack ≤ 32 = omega (arith, room) in
-      let agrees : agree u t ≡ true = and_from (same_type b a && _) _ (and_from (same_type b a) _ same (types_self s.stack)) (flags_self s.folded) in
-      let is : hull_states u t ≡ with_known (hull_known b a) s = ap (λ below. record { stack = hull_known b a ∷ below; folded = s.folded }) (stack_self s.stack) in
+      let agrees : agree u t ≡ true = agreeing u t (and_from (same_type b a) _ same (types_self s.stack)) (flags_self s.folded) alike in
+      let is : hull_states u t ≡ with_known (hull_known b a) s = (λ j. record { stack = hull_known b a ∷ stack_self s.stack j; folded = s.folded; fields = back j }) in
       record {
         faulty = faults_whole ∙ (λ j. ((lb.faulty j || passes1 t low la j) || la.faulty j) || passes0 j);
         gives = λ w h. at_end t low la u lb agrees ∙ ap Reached is ∙ ap reached_if h;
         quiet = λ w h q l. past_end t low la u lb agrees q l;
       }
 
-  behind_first : (x1 x2 : Option Known) → ((a b : Known) → x1 ≡ Some a → x2 ≡ Some b → same_type b a ≡ true) → Labels e c ws0 (i + 1) first (pushed_on s x1) → Rest x2 →
-      Labels e c vs i (choice (i + 1) first m second n) (pushed_on s (hulled x1 x2))
+  behind_first : (x1 x2 : Option Known) → ((a b : Known) → x1 ≡ Some a → x2 ≡ Some b → same_type b a ≡ true) → Labels e c ws0 (i + 1) first (pushed_on yes x1) → Rest x2 →
+      Labels e c vs i (choice go (i + 1) first m second n) (pushed_on s (hulled x1 x2))
   behind_first None x2 same la rest = first_faulty la.faulty
-  behind_first (Some a) None same la rest = second_faulty (rest ws2 (comes2 (with_known a s) (omega (arith, room)) la)).faulty
-  behind_first (Some a) (Some b) same la rest = chosen_with a b (same a b refl refl) la (rest ws2 (comes2 (with_known a s) (omega (arith, room)) la))
+  behind_first (Some a) None same la rest = second_faulty (rest ws2 (comes2 (with_known a yes) (omega (arith, room)) la)).faulty
+  behind_first (Some a) (Some b) same la rest = chosen_with a b (same a b refl refl) la (rest ws2 (comes2 (with_known a yes) (omega (arith, room)) la))
 
--- a test on top of the stack and two parts, whose values are of one type
-pub choose : (e : State) (c : Setting) (i m n : ℕ) (first second : List Instr) (s : State) (x1 x2 : Option Known) → length first ≡ m → length second ≡ n → 0 < m → 0 < n →
-    i + 1 + m + 1 + n < c.n → length s.stack < 32 → ((a b : Known) → x1 ≡ Some a → x2 ≡ Some b → same_type b a ≡ true) →
-    Labelled e c (i + 1) first s (pushed_on s x1) → Labelled e c (i + 1 + m + 1) second s (pushed_on s x2) →
-    Labelled e c i (choice (i + 1) first m second n) (with_known Truth s) (pushed_on s (hulled x1 x2))
-choose e c i m n first second s x1 x2 hm hn pm pn inside room same lf ls vs at =
-    behind_first e c i m n first second s hm hn pm pn inside room vs at x1 x2 same
-    (lf _ (shorter e _ (i + 1) s (length first) 1 (comes0 e c i m n first second s hm hn pm pn inside room vs at))) ls
+-- a jump and two parts, whose values are of one type
+pub choose : (e : State) (c : Setting) (i m n : ℕ) (go : ℕ → Instr) (first second : List Instr) (before s : State) (fy fn : List Known) (x1 x2 : Option Known) → length first ≡ m → length second ≡ n → 0 < m → 0 < n →
+    i + 1 + m + 1 + n < c.n → length s.stack < 32 → Branches c i (place_of_second i m) (go (place_of_second i m)) before (with_fields fy s) (with_fields fn s) → hull_lists fn fy ≡ s.fields → same_types fn fy ≡ true →
+    ((a b : Known) → x1 ≡ Some a → x2 ≡ Some b → same_type b a ≡ true) →
+    Labelled e c (i + 1) first (with_fields fy s) (pushed_on (with_fields fy s) x1) → Labelled e c (i + 1 + m + 1) second (with_fields fn s) (pushed_on (with_fields fn s) x2) →
+    Labelled e c i (choice go (i + 1) first m second n) before (pushed_on s (hulled x1 x2))
+choose e c i m n go first second before s fy fn x1 x2 hm hn pm pn inside room branches back alike same lf ls vs at =
+    behind_first e c i m n go first second before s fy fn hm hn pm pn inside room branches back alike vs at x1 x2 same
+    (lf _ (shorter e _ (i + 1) (with_fields fy s) (length first) 1 (comes0 e c i m n go first second before s fy fn hm hn pm pn inside room branches back alike vs at))) ls

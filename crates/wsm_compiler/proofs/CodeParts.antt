@@ -5,20 +5,21 @@ use Rattle.wsm_program.specs.declared.instr.Instr.{Instr}
 use Rattle.wsm_program.specs.declared.instr.Instr.TheVariants as instr
 use Rattle.wsm_program.specs.declared.operation.Operation.TheVariants as operation
 use Rattle.wsm_check.specs.Terms.{Term, Number, Truth, Field, Name, Key, Count, Accumulator, If, Minus, Not, Binary, And, Or}
-use Rattle.wsm_compiler.specs.Code.{instruction, choice}
+use Rattle.wsm_check.specs.Tested.{unless_tested}
+use Rattle.wsm_compiler.specs.Code.{instruction, choice, test_code, jump_unless}
 use Rattle.wsm_check.specs.Parts.{Folding}
-use Rattle.wsm_compiler.specs.TermCode.{term_size, term_code, foldings_code}
-use Rattle.wsm_compiler.proofs.Sizes.{length-choice}
+use Rattle.wsm_compiler.specs.TermCode.{term_size, term_test, term_code, foldings_code}
+use Rattle.wsm_compiler.proofs.Sizes.{length-choice, length-test_code}
 
 -- a term has as many instructions as its size says
 pub length-term_code : (k : ℕ) (t : Term) → length (term_code k t) ≡ term_size t
 length-term_code k (If c x y) =
-    let j = k + term_size c + 1 in
+    let j = k + unless_tested (term_test c) (term_size c) + 1 in
     let first = term_code j x in
     let second = term_code (j + term_size x + 1) y in
-    let l = length-append (term_code k c) (choice j first (term_size x) second (term_size y)) in
-    let m = length-choice j first (term_size x) second (term_size y) in
-    omega (arith, l, m, length-term_code k c, length-term_code j x, length-term_code (j + term_size x + 1) y)
+    let l = length-append (test_code (term_test c) (term_code k c)) (choice (jump_unless (term_test c)) j first (term_size x) second (term_size y)) in
+    let m = length-choice (jump_unless (term_test c)) j first (term_size x) second (term_size y) in
+    omega (arith, l, m, length-test_code (term_test c) (term_code k c) (term_size c) (length-term_code k c), length-term_code j x, length-term_code (j + term_size x + 1) y)
 length-term_code k (Minus x) = let l = length-append (term_code k x) (instr.Operate operation.Neg ∷ []) in omega (arith, l, length-term_code k x)
 length-term_code k (Not x) = let l = length-append (term_code k x) (instr.Operate operation.Not ∷ []) in omega (arith, l, length-term_code k x)
 length-term_code k (Binary op x y) =
@@ -27,17 +28,17 @@ length-term_code k (Binary op x y) =
     let m = length-append right (instruction op ∷ []) in
     omega (arith, l, m, length-term_code k x, length-term_code (k + term_size x) y)
 length-term_code k (And x y) =
-    let j = k + term_size x + 1 in
+    let j = k + unless_tested (term_test x) (term_size x) + 1 in
     let first = term_code j y in
-    let l = length-append (term_code k x) (choice j first (term_size y) (instr.PushBool false ∷ []) 1) in
-    let m = length-choice j first (term_size y) (instr.PushBool false ∷ []) 1 in
-    omega (arith, l, m, length-term_code k x, length-term_code j y)
+    let l = length-append (test_code (term_test x) (term_code k x)) (choice (jump_unless (term_test x)) j first (term_size y) (instr.PushBool false ∷ []) 1) in
+    let m = length-choice (jump_unless (term_test x)) j first (term_size y) (instr.PushBool false ∷ []) 1 in
+    omega (arith, l, m, length-test_code (term_test x) (term_code k x) (term_size x) (length-term_code k x), length-term_code j y)
 length-term_code k (Or x y) =
-    let j = k + term_size x + 1 in
+    let j = k + unless_tested (term_test x) (term_size x) + 1 in
     let second = term_code (j + 1 + 1) y in
-    let l = length-append (term_code k x) (choice j (instr.PushBool true ∷ []) 1 second (term_size y)) in
-    let m = length-choice j (instr.PushBool true ∷ []) 1 second (term_size y) in
-    omega (arith, l, m, length-term_code k x, length-term_code (j + 1 + 1) y)
+    let l = length-append (test_code (term_test x) (term_code k x)) (choice (jump_unless (term_test x)) j (instr.PushBool true ∷ []) 1 second (term_size y)) in
+    let m = length-choice (jump_unless (term_test x)) j (instr.PushBool true ∷ []) 1 second (term_size y) in
+    omega (arith, l, m, length-test_code (term_test x) (term_code k x) (term_size x) (length-term_code k x), length-term_code (j + 1 + 1) y)
 length-term_code k (Number n) = refl
 length-term_code k (Truth b) = refl
 length-term_code k (Field f) = refl
@@ -54,7 +55,12 @@ length-added code k t = length-append code (term_code k t) ∙ ap (λ n. length 
 pub length-added_behind : (code : List Instr) (i : Instr) (k : ℕ) (t : Term) → length (code ++ i ∷ term_code k t) ≡ length code + 1 + term_size t
 length-added_behind code i k t = let l = length-append code (i ∷ term_code k t) in omega (arith, l, length-term_code k t)
 
-pub ruleset added = (length-added, length-added_behind, append_assoc)
+-- the same of a test
+pub length-added_test : (code : List Instr) (k : ℕ) (t : Term) → length (code ++ test_code (term_test t) (term_code k t)) ≡ length code + unless_tested (term_test t) (term_size t)
+length-added_test code k t =
+    length-append code (test_code (term_test t) (term_code k t)) ∙ ap (λ n. length code + n) (length-test_code (term_test t) (term_code k t) (term_size t) (length-term_code k t))
+
+pub ruleset added = (length-added, length-added_behind, length-added_test, append_assoc)
 
 -- the elements from place i on are the one there and those behind it
 pub seen_rest : {X Y : Type 0} (f : X → Y) (xs : List X) (i : ℕ) (x : X) → i < length xs → x ≡ get_or xs i x → map f (drop i xs) ≡ f x ∷ map f (drop (i + 1) xs)

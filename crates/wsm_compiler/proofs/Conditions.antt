@@ -19,7 +19,7 @@ use Rattle.wsm_check.specs.Sizes.{Acc, accumulators_of, aggregates, size, condit
 use Rattle.wsm_verifier.specs.declared.known.Known.{Known}
 use Rattle.wsm_verifier.specs.declared.known.Known.TheVariants as known
 use Rattle.wsm_verifier.specs.Labels.{State, same_type, same_types}
-use Rattle.wsm_verifier.specs.Rules.{Setting, setting, entry, ranges_of_record, column_known, fold_missing, fault_in}
+use Rattle.wsm_verifier.specs.Rules.{Setting, setting, entry, known_fields, ranges_of_record, column_known, fold_missing, fault_in}
 use Rattle.wsm_compiler.specs.Code.{code, condition_code, columns_code}
 use Rattle.wsm_compiler.specs.Ranges.{Range, Unfit, NoNumber, Within, range, fits}
 use Rattle.wsm_check.specs.Parts.{type_or_int}
@@ -32,7 +32,7 @@ use Rattle.wsm_compiler.proofs.Tests.{with_known}
 use Rattle.wsm_compiler.proofs.Sizes.{length-code, some_size, some_need, some_code}
 use Rattle.wsm_compiler.proofs.Found.{found, push_bool}
 use Rattle.wsm_compiler.proofs.FoundRanges.{suits, known_of, known_truth, known_has}
-use Rattle.wsm_compiler.proofs.ExpressionRanges.{Reads, Accs, AccsIn, accs_left, accs_right, range_suits, found_is}
+use Rattle.wsm_compiler.proofs.ExpressionRanges.{Reads, Accs, AccsIn, accs_left, accs_right, range_suits, found_here}
 use Rattle.wsm_compiler.proofs.CodeLabels.{labelled}
 use Rattle.wsm_compiler.proofs.SectionEnds.{Ends, or_behind, follow_ends, return_ends, whole_section}
 use Rattle.wsm_compiler.proofs.KnownFields.{in_column, reads_where}
@@ -61,20 +61,20 @@ fits_and types.Bool (Within i) b h = no h
 fits_and (types.Enum e) (Within i) b h = no h
 
 -- a condition and its section's return
-pub condition_ends : (e : State) (c : Setting) (q : Query) (around : Around) → Reads c q around → (k a : ℕ) (o : Option Expr) (s : State) → ConditionTyped q around o → AccsIn c q around a (in_condition o) →
+pub condition_ends : (e : State) (c : Setting) (q : Query) (around : Around) → Reads c q around → (k a : ℕ) (o : Option Expr) (s : State) → s.fields ≡ known_fields 0 q.fields → ConditionTyped q around o → AccsIn c q around a (in_condition o) →
     length s.stack + need_of_condition o ≤ 32 → k + condition_size o < c.n → same_types (known.Truth ∷ s.stack) c.ends ≡ true → fold_missing c.section instr.Return s.folded ≡ false →
     Ends e c k (condition_code q k a o ++ instr.Return ∷ []) s (not (condition_fits q o))
-condition_ends e c q around reads k a None s h accs room more same folded =
+condition_ends e c q around reads k a None s is h accs room more same folded =
     follow_ends e c k 1 (instr.PushBool true ∷ []) (instr.Return ∷ []) s (Some known.Truth) (λ x. false) refl (omega arith) (omega arith)
     (push_bool e c k s (omega (arith, room)) (omega (arith, more)) true)
     (λ x h. subst (λ z. Ends e c (k + 1) (instr.Return ∷ []) (with_known z s) false) (same_Some known.Truth x h) (return_ends e c (k + 1) (with_known known.Truth s) same folded (omega (arith, room))))
-condition_ends e c q around reads k a (Some x) s h accs room more same folded =
+condition_ends e c q around reads k a (Some x) s is h accs room more same folded =
     subst (λ b. Ends e c k (code q k a x ++ instr.Return ∷ []) s b)
-    (ap (λ o. or_behind o (λ y. false)) (found_is c q around reads a x types.Bool h accs) ∙ fits_and types.Bool (range q x) true (range_suits c q around x types.Bool h) ∙ ap not (and-true (fits (range q x))))
-    (follow_ends e c k (size x) (code q k a x) (instr.Return ∷ []) s (found c q a x) (λ y. false) (length-code q k a x) (some_code q k a x) (omega arith)
-    (labelled e c q around reads k a x types.Bool s h accs room more)
+    (ap (λ o. or_behind o (λ y. false)) (found_here c q around reads s.fields is a x types.Bool h accs) ∙ fits_and types.Bool (range q x) true (range_suits c q around x types.Bool h) ∙ ap not (and-true (fits (range q x))))
+    (follow_ends e c k (size x) (code q k a x) (instr.Return ∷ []) s (found c q s.fields a x) (λ y. false) (length-code q k a x) (some_code q k a x) (omega arith)
+    (labelled e c q around reads k a x types.Bool s is h accs room more)
     (λ y ey.
-    let truth = known_truth (range q x) y (sym (found_is c q around reads a x types.Bool h accs) ∙ ey) in
+    let truth = known_truth (range q x) y (sym (found_here c q around reads s.fields is a x types.Bool h accs) ∙ ey) in
     subst (λ z. Ends e c (k + size x) (instr.Return ∷ []) (with_known z s) false) (sym truth) (return_ends e c (k + size x) (with_known known.Truth s) same folded (omega (arith, room, some_need x)))))
 
 pub length-condition : (q : Query) (k a : ℕ) (o : Option Expr) → length (condition_code q k a o) ≡ condition_size o
@@ -90,7 +90,7 @@ where_faults q b h room =
     let l = length-append (condition_code q 0 0 q.condition) (instr.Return ∷ []) in
     let m = length-condition q 0 0 q.condition in
     whole_section p Where r (not (condition_fits q q.condition)) (omega (arith, l))
-    (condition_ends (entry p) (setting p Where r) q InWhere (reads_where q b) 0 0 q.condition (entry p) h (λ e. no (ap in_column e)) (omega (arith, room)) (omega (arith, l, m)) refl refl)
+    (condition_ends (entry p) (setting p Where r) q InWhere (reads_where q b) 0 0 q.condition (entry p) refl h (λ e. no (ap in_column e)) (omega (arith, room)) (omega (arith, l, m)) refl refl)
 
 -- ---- FIRE
 
@@ -126,13 +126,13 @@ length-columns q k a [] = let l = length-append (condition_code q k a q.having) 
 length-columns q k a (x ∷ es) =
     let l = length-append (code q k a x) (columns_code q (k + size x) (a + aggregates x) es) in omega (arith, l, length-code q k a x, length-columns q (k + size x) (a + aggregates x) es)
 
-pub columns_ends : (e : State) (c : Setting) (q : Query) → Reads c q InColumn → (k a : ℕ) (es : List Expr) (s : State) (below : List Known) → ColumnsTyped q es → ConditionTyped q InColumn q.having →
+pub columns_ends : (e : State) (c : Setting) (q : Query) → Reads c q InColumn → (k a : ℕ) (es : List Expr) (s : State) (below : List Known) → s.fields ≡ known_fields 0 q.fields → ColumnsTyped q es → ConditionTyped q InColumn q.having →
     Accs c q a (flat_map accumulators_of es ++ in_condition q.having) → need_of_columns (length s.stack) q.having es ≤ 32 → k + columns_size q.having es ≤ c.n →
     same_types s.stack below ≡ true → c.ends ≡ known.Truth ∷ ends_of q es below → fold_missing c.section instr.Return s.folded ≡ false →
     Ends e c k (columns_code q k a es) s (not (columns_fit q es && condition_fits q q.having))
-columns_ends e c q reads k a [] s below h hh accs room more same ends folded =
-    condition_ends e c q InColumn reads k a q.having s hh (λ _. accs) room (omega (arith, more)) (ap (same_types (known.Truth ∷ s.stack)) ends ∙ same) folded
-columns_ends e c q reads k a (x ∷ es) s below h hh accs room more same ends folded =
+columns_ends e c q reads k a [] s below is h hh accs room more same ends folded =
+    condition_ends e c q InColumn reads k a q.having s is hh (λ _. accs) room (omega (arith, more)) (ap (same_types (known.Truth ∷ s.stack)) ends ∙ same) folded
+columns_ends e c q reads k a (x ∷ es) s below is h hh accs room more same ends folded =
     let t = h.0.0 in
     let hx = h.0.1 in
     let j = k + size x in
@@ -143,12 +143,12 @@ columns_ends e c q reads k a (x ∷ es) s below h hh accs room more same ends fo
     let behind : Accs c q b (flat_map accumulators_of es ++ in_condition q.having) =
     accs_right c q a (aggregates x) (accumulators_of x) _ (length-accumulators_of x) (subst (λ xs. Accs c q a xs) (append_assoc (accumulators_of x) (flat_map accumulators_of es) (in_condition q.having)) accs) in
     subst (λ w. Ends e c k (code q k a x ++ rest) s w)
-    (ap (λ o. or_behind o (λ y. not fit)) (found_is c q InColumn reads a x t hx (λ _. here)) ∙ fits_and t (range q x) fit (range_suits c q InColumn x t hx) ∙ ap not (sym (and_assoc (fits (range q x)) (columns_fit q es) (condition_fits q q.having))))
-    (follow_ends e c k (size x) (code q k a x) rest s (found c q a x) (λ y. not fit) (length-code q k a x) (some_code q k a x) (some_columns q j b es)
-    (labelled e c q InColumn reads k a x t s hx (λ _. here) (first_room (length s.stack) (need x) _ room) (omega (arith, more, some_columns_size q.having es)))
+    (ap (λ o. or_behind o (λ y. not fit)) (found_here c q InColumn reads s.fields is a x t hx (λ _. here)) ∙ fits_and t (range q x) fit (range_suits c q InColumn x t hx) ∙ ap not (sym (and_assoc (fits (range q x)) (columns_fit q es) (condition_fits q q.having))))
+    (follow_ends e c k (size x) (code q k a x) rest s (found c q s.fields a x) (λ y. not fit) (length-code q k a x) (some_code q k a x) (some_columns q j b es)
+    (labelled e c q InColumn reads k a x t s is hx (λ _. here) (first_room (length s.stack) (need x) _ room) (omega (arith, more, some_columns_size q.having es)))
     (λ y ey.
-    columns_ends e c q reads j b es (with_known y s) (column_known (column_type q x) ∷ below) h.1 hh behind (rest_room (length s.stack) (need x) _ room) (omega (arith, more))
-    (λ i. column_same q x t y hx (known_has t (range q x) y (sym (found_is c q InColumn reads a x t hx (λ _. here)) ∙ ey)) i && same i)
+    columns_ends e c q reads j b es (with_known y s) (column_known (column_type q x) ∷ below) is h.1 hh behind (rest_room (length s.stack) (need x) _ room) (omega (arith, more))
+    (λ i. column_same q x t y hx (known_has t (range q x) y (sym (found_here c q InColumn reads s.fields is a x t hx (λ _. here)) ∙ ey)) i && same i)
     (ends ∙ ap (λ zs. known.Truth ∷ zs) (ends_next q x es below)) folded))
   where
     first_room : (l n m : ℕ) → max (l + n) m ≤ 32 → l + n ≤ 32

@@ -15,6 +15,7 @@ use Rattle.wsm_verifier.specs.Costs.{windows_of_a_record, join_steps}
 use Rattle.wsm_program.specs.Program.{is_stated, is_budget}
 use Rattle.wsm_query.specs.Tree.{Query, Budget, Expr, Number, Truth, Field, EnumName, Key, KeyName, Count, Aggregate, If, Brackets, Minus, Not, Binary, And, Or}
 use Rattle.wsm_check.specs.Checks.{in_range, is_count, is_span, is_time, is_cost, shape_fits, budget_fits}
+use Rattle.wsm_check.specs.Tested.{Tested, tested, unless_tested}
 use Rattle.wsm_check.specs.Sizes.{Acc, accumulators, size, condition_size, folds_size, columns_size}
 use Rattle.wsm_compiler.specs.Longest.{longest, longest_condition, longest_folds, longest_columns, needed_by_structure}
 use Rattle.wsm_compiler.specs.Program.{needed_of, stated}
@@ -24,8 +25,17 @@ use Rattle.wsm_compiler.proofs.Passed.{Passed}
 
 -- ---- paths
 
+-- the path of a test that a jump makes is none
+test_at_most : (t : Option Tested) (l n : ℕ) → l ≤ n → unless_tested t l ≤ unless_tested t n
+test_at_most None l n h = h
+test_at_most (Some t) l n h = omega arith
+
 longest_at_most : (e : Expr) → (0 < longest e) × (longest e ≤ size e)
-longest_at_most (If c x y) = let hc = longest_at_most c in let hx = longest_at_most x in let hy = longest_at_most y in (omega arith, of_if (longest c) (longest x) (longest y) (size c) (size x) (size y) hc.1 hx.1 hy.1)
+longest_at_most (If c x y) =
+    let hc = longest_at_most c in
+    let hx = longest_at_most x in
+    let hy = longest_at_most y in
+    (omega arith, of_if (unless_tested (tested c) (longest c)) (longest x) (longest y) (unless_tested (tested c) (size c)) (size x) (size y) (test_at_most (tested c) (longest c) (size c) hc.1) hx.1 hy.1)
   where
     of_if : (l m n c x y : ℕ) → l ≤ c → m ≤ x → n ≤ y → l + (1 + max (m + 1) n) ≤ c + (x + y) + 2
     of_if l m n c x y h i j = omega (arith, h, i, j)
@@ -33,11 +43,11 @@ longest_at_most (Brackets e) = longest_at_most e
 longest_at_most (Minus e) = let h = longest_at_most e in (omega arith, omega (arith, h.1))
 longest_at_most (Not e) = let h = longest_at_most e in (omega arith, omega (arith, h.1))
 longest_at_most (Binary op x y) = let hx = longest_at_most x in let hy = longest_at_most y in (omega arith, omega (arith, hx.1, hy.1))
-longest_at_most (And x y) = let hx = longest_at_most x in let hy = longest_at_most y in (omega arith, of_and (longest x) (longest y) (size x) (size y) hx.1 hy.1)
+longest_at_most (And x y) = let hx = longest_at_most x in let hy = longest_at_most y in (omega arith, of_and (unless_tested (tested x) (longest x)) (longest y) (unless_tested (tested x) (size x)) (size y) (test_at_most (tested x) (longest x) (size x) hx.1) hy.1)
   where
     of_and : (m n x y : ℕ) → m ≤ x → n ≤ y → m + (1 + max (n + 1) 1) ≤ x + y + 3
     of_and m n x y h i = omega (arith, h, i)
-longest_at_most (Or x y) = let hx = longest_at_most x in let hy = longest_at_most y in (omega arith, of_or (longest x) (longest y) (size x) (size y) hx.1 hy.1)
+longest_at_most (Or x y) = let hx = longest_at_most x in let hy = longest_at_most y in (omega arith, of_or (unless_tested (tested x) (longest x)) (longest y) (unless_tested (tested x) (size x)) (size y) (test_at_most (tested x) (longest x) (size x) hx.1) hy.1)
   where
     of_or : (m n x y : ℕ) → m ≤ x → n ≤ y → m + (1 + max (1 + 1) n) ≤ x + y + 3
     of_or m n x y h i = omega (arith, h, i)

@@ -7,14 +7,15 @@ use Rattle.std.specs.List.{list_all}
 use Rattle.std.proofs.lemmas.Bool.{and_from, and_parts, not-true}
 use Rattle.std.proofs.Math.Bool.{or-false}
 use Rattle.wsm_record.specs.Name.{is_name, is_among}
-use Rattle.wsm_record.specs.Schema.{DeclaredField, FieldType, are_names_after, is_name_list, names_of_type, names_of_field}
-use Rattle.wsm_program.specs.Program.{is_name_of}
+use Rattle.wsm_record.specs.Schema.{DeclaredField, FieldType, are_names_after, are_sources, is_name_list, is_source_count, names_of_type, names_of_field}
+use Rattle.wsm_program.specs.Program.{is_name_of, is_number_type, is_number_field}
 use Rattle.wsm_record.specs.Schema as field_types
 use Rattle.wsm_query.specs.Tree.{Name}
 use Rattle.wsm_check.specs.declared.refusal.CheckFault.TheVariants.{Duplicate, Limit}
 use Rattle.wsm_check.specs.declared.refusal.Part.{Part}
+use Rattle.wsm_check.specs.declared.refusal.Part.TheVariants as part
 use Rattle.wsm_check.specs.Names.{place_of, has_repeats, field_names, field_place, names_of, type_of}
-use Rattle.wsm_check.specs.Checks.{unless, first, names_refusal}
+use Rattle.wsm_check.specs.Checks.{unless, first, names_refusal, sources_refusal}
 use Rattle.wsm_machine.proofs.FittingStacks.{no}
 use Rattle.wsm_compiler.proofs.Passed.{unless_none}
 use Rattle.wsm_check.proofs.Repeats.{same_either_way}
@@ -47,6 +48,19 @@ names_there (d ∷ ds) x h =
     names_of_field (slice_get (d ∷ ds) (cond (not b) (1 + field_place ds x) 0)) ≡ names_of_type (cond b d.type (type_of x ds))) [
       | true ↦ λ h. refl
       | false ↦ λ h. ap (λ n. names_of_field (slice_get (d ∷ ds) n)) (next (field_place ds x)) ∙ names_there ds x h
+    ] h
+  where
+    next : (m : ℕ) → 1 + m ≡ suc m
+    next m = omega arith
+
+-- it has numbers if its type has
+pub number_there : (ds : List DeclaredField) (x : Name) → is_among x (field_names ds) ≡ true → is_number_field (slice_get ds (field_place ds x)) ≡ is_number_type (type_of x ds)
+number_there [] x h = no h
+number_there (d ∷ ds) x h =
+    elim (bytes_eq x d.name) as (λ b. (b || is_among x (field_names ds)) ≡ true →
+    is_number_field (slice_get (d ∷ ds) (cond (not b) (1 + field_place ds x) 0)) ≡ is_number_type (cond b d.type (type_of x ds))) [
+      | true ↦ λ h. refl
+      | false ↦ λ h. ap (λ n. is_number_field (slice_get (d ∷ ds) n)) (next (field_place ds x)) ∙ number_there ds x h
     ] h
   where
     next : (m : ℕ) → 1 + m ≡ suc m
@@ -91,11 +105,21 @@ listed_after before (x ∷ xs) h l r =
     and_from (is_name x) (not (is_among x before) && rest) p.0
     (and_from (not (is_among x before)) rest a.0 (listed_after (before ++ x ∷ []) xs p.1 (apart_more before x xs a.1 d.0) d.1))
 
+listed : (p : Part) (xs : List Name) → unless (not (has_repeats xs)) Duplicate p ≡ None → list_all is_name xs ≡ true → are_names_after [] xs ≡ true
+listed p xs h l = listed_after [] xs l (apart_none xs) (not-true (has_repeats xs) (unless_none (not (has_repeats xs)) Duplicate p h))
+
 pub names_listed : (p : Part) (xs : List Name) → names_refusal p xs ≡ None → list_all is_name xs ≡ true → is_name_list xs ≡ true
 names_listed p xs h l =
     let many = nat_le 1 (length xs) && nat_le (length xs) 1000 in
     let r2 = unless (not (has_repeats xs)) Duplicate p in
     let a = passed_both (unless many Limit p) (first (r2 ∷ [])) h in
     let b = passed_both r2 None a.1 in
-    and_from many (are_names_after [] xs) (unless_none many Limit p a.0)
-    (listed_after [] xs l (apart_none xs) (not-true (has_repeats xs) (unless_none (not (has_repeats xs)) Duplicate p b.0)))
+    and_from many (are_names_after [] xs) (unless_none many Limit p a.0) (listed p xs b.0 l)
+
+pub sources_listed : (xs : List Name) → sources_refusal xs ≡ None → list_all is_name xs ≡ true → are_sources xs ≡ true
+sources_listed xs h l =
+    let many = is_source_count (length xs) in
+    let r2 = unless (not (has_repeats xs)) Duplicate part.Sources in
+    let a = passed_both (unless many Limit part.Sources) (first (r2 ∷ [])) h in
+    let b = passed_both r2 None a.1 in
+    and_from many (are_names_after [] xs) (unless_none many Limit part.Sources a.0) (listed part.Sources xs b.0 l)

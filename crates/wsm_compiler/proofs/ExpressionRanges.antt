@@ -1,6 +1,6 @@
 -- An expression of a type is found by the verifier as its range, in its type.
 use Rattle.std.proofs.Common.{◌≡◌, ℕ, zero, suc, ◌+◌, Bool, true, false, ◌&&◌, cond, List, [], ◌∷◌, ◌++◌, length, Option, Some, None, Ok, Err, refl, sym, ap, subst, ◌∙◌, arith}
-use Rattle.std.specs.Prelude.{ℤ, pos, ◌*ℤ◌, slice_get}
+use Rattle.std.specs.Prelude.{ℤ, pos, ◌*ℤ◌, is_some, slice_get, slice_index_or}
 use Rattle.std.specs.Int.{int_min, int_max}
 use Rattle.std.proofs.lemmas.Bool.{and_parts}
 use Rattle.wsm_record.specs.declared.words.Kind.{Kind}
@@ -12,7 +12,7 @@ use Rattle.wsm_program.specs.declared.instr.Instr.TheVariants as instr
 use Rattle.wsm_program.specs.declared.operation.Operation.TheVariants as operation
 use Rattle.wsm_query.specs.declared.expr.Op.{Op}
 use Rattle.wsm_query.specs.declared.expr.Op.TheVariants.{Add, Sub, Mul, Div, Rem, Eq, Ne, Lt, Le, Gt, Ge}
-use Rattle.wsm_record.specs.Schema.{FieldType, is_i64}
+use Rattle.wsm_record.specs.Schema.{FieldType, DeclaredField, is_i64}
 use Rattle.wsm_record.specs.Schema as field_types
 use Rattle.wsm_query.specs.Tree.{Name, Query, Expr, Number, Truth, Field, EnumName, Key, KeyName, Count, Aggregate, If, Brackets, Minus, Not, Binary, And, Or}
 use Rattle.wsm_check.specs.Names.{field_names, field_place, type_of, names_of}
@@ -27,11 +27,18 @@ use Rattle.wsm_verifier.specs.declared.known.Known.{Known}
 use Rattle.wsm_verifier.specs.declared.known.Known.TheVariants as known
 use Rattle.wsm_verifier.specs.Rules.{Setting, and_then}
 use Rattle.wsm_compiler.specs.Code.{instruction}
-use Rattle.wsm_compiler.specs.Ranges.{Range, Unfit, NoNumber, Within, no_number, of_branches, if_fits, of_sum, of_aggregate, of_type, range}
+use Rattle.wsm_compiler.specs.Ranges.{Range, Unfit, NoNumber, Within, no_number, of_branches, if_fits, of_sum, of_aggregate, of_type, where_true, where_false, range_on, range, fits}
 use Rattle.wsm_machine.proofs.FittingStacks.{no}
 use Rattle.wsm_compiler.proofs.Hulls.{hull_either}
 use Rattle.wsm_compiler.proofs.Choices.{hulled}
-use Rattle.wsm_compiler.proofs.Found.{of_instr, found}
+use Rattle.wsm_verifier.specs.Rules.{known_fields}
+use Rattle.wsm_program.specs.Instructions.{may_stand}
+use Rattle.wsm_interval.specs.declared.Comparison.{Comparison}
+use Rattle.std.proofs.lemmas.Option.{same_Some}
+use Rattle.wsm_compiler.proofs.Parts.{none≢some}
+use Rattle.wsm_check.specs.Tested.{Tested, comparison_of, field_alone, number_alone, tested}
+use Rattle.wsm_compiler.proofs.Found.{of_instr, test_found, found}
+use Rattle.wsm_compiler.proofs.NarrowedFields.{Narrows, as_declared, true_narrows, false_narrows, known_here, true_known, false_known, test_hulled, tested_fits, tested_parts, of_cond}
 use Rattle.wsm_compiler.proofs.FoundRanges.{ok_is, err≢ok, typed_first, wanted_is, ty_is, suits, known_of, minus_found, minus_suits, not_found, op_typed, result_of, op_found}
 use Rattle.wsm_check.proofs.PassedChecks.{length-accumulators_of}
 
@@ -182,40 +189,124 @@ logic_is NoNumber NoNumber h l = (refl, refl, refl)
 logic_is NoNumber (Within y) h l = no l
 
 -- a number has an interval, and another value none
-pub range_suits : (c : Setting) (q : Query) (around : Around) (e : Expr) (t : CellType) → typed q around e ≡ Ok t → suits t (range q e) ≡ true
-range_suits c q around (Number n) t h = suits_at (range q (Number n)) types.Int t (ok_is types.Int t h) refl
-range_suits c q around (Truth b) t h = suits_at (range q (Truth b)) types.Bool t (ok_is types.Bool t h) refl
-range_suits c q around (Field x) t h = suits_at (range q (Field x)) _ t (field_is q around x t h) (declared_suits (field_place q.fields x) (type_of x q.fields))
-range_suits c q around (EnumName x y) t h = suits_at NoNumber (types.Enum _) t (ok_is _ t (cond_ok (is_among x (field_names q.fields) && is_among y (names_of (type_of x q.fields))) _ _ t h)) refl
-range_suits c q around Key t h = suits_at NoNumber (types.Enum 0) t (ok_is _ t h) refl
-range_suits c q around (KeyName x) t h = suits_at NoNumber (types.Enum 0) t (ok_is _ t (cond_ok (is_among x q.keys) _ _ t h)) refl
-range_suits c q around Count t h = suits_at (range q Count) types.Int t (ok_is _ t (entered_is around _ t h).1) refl
-range_suits c q around (Aggregate kind e) t h =
+pub suits_on : (c : Setting) (q : Query) (around : Around) (ds : List DeclaredField) → Narrows q ds → (e : Expr) (t : CellType) → typed q around e ≡ Ok t → suits t (range_on q ds e) ≡ true
+suits_on c q around ds ok (Number n) t h = suits_at (range_on q ds (Number n)) types.Int t (ok_is types.Int t h) refl
+suits_on c q around ds n (Truth b) t h = suits_at (range_on q ds (Truth b)) types.Bool t (ok_is types.Bool t h) refl
+suits_on c q around ds n (Field x) t h = suits_at (of_type (type_of x ds)) _ t (n.type x (field_place q.fields x) ∙ field_is q around x t h) (declared_suits (field_place q.fields x) (type_of x ds))
+suits_on c q around ds n (EnumName x y) t h = suits_at NoNumber (types.Enum _) t (ok_is _ t (cond_ok (is_among x (field_names q.fields) && is_among y (names_of (type_of x q.fields))) _ _ t h)) refl
+suits_on c q around ds n Key t h = suits_at NoNumber (types.Enum 0) t (ok_is _ t h) refl
+suits_on c q around ds n (KeyName x) t h = suits_at NoNumber (types.Enum 0) t (ok_is _ t (cond_ok (is_among x q.keys) _ _ t h)) refl
+suits_on c q around ds n Count t h = suits_at (range q Count) types.Int t (ok_is _ t (entered_is around _ t h).1) refl
+suits_on c q around ds n (Aggregate kind e) t h =
     let u = unary_is q InAggregate e (kind_type kind) t (entered_is around _ t h).1 in
-    suits_at (range q (Aggregate kind e)) (kind_type kind) t u.1 (aggregate_suits q.records kind (range q e) (range_suits c q InAggregate e (kind_type kind) u.0))
-range_suits c q around (If b x y) t h =
+    suits_at (range_on q ds (Aggregate kind e)) (kind_type kind) t u.1 (aggregate_suits q.records kind (range q e) (suits_on c q InAggregate q.fields (as_declared q) e (kind_type kind) u.0))
+suits_on c q around ds n (If b x y) t h =
     let p = if_types q around b x y t h in
-    (chosen_is t (range q b) (range q x) (range q y) (range_suits c q around b types.Bool p.test_is) (range_suits c q around x t p.first_is) (range_suits c q around y t p.second_is)).1
-range_suits c q around (Brackets e) t h = range_suits c q around e t h
-range_suits c q around (Minus e) t h =
-    let u = unary_is q around e types.Int t h in suits_at (range q (Minus e)) types.Int t u.1 (minus_suits (range q e) (range_suits c q around e types.Int u.0))
-range_suits c q around (Not e) t h = let u = unary_is q around e types.Bool t h in suits_at (range q (Not e)) types.Bool t u.1 (range_suits c q around e types.Bool u.0)
-range_suits c q around (Binary op x y) t h =
+    (chosen_is t (range_on q ds b) (range_on q (where_true (tested b) ds) x) (range_on q (where_false (tested b) ds) y) (suits_on c q around ds n b types.Bool p.test_is) (suits_on c q around _ (true_narrows (tested b) n) x t p.first_is) (suits_on c q around _ (false_narrows (tested b) n) y t p.second_is)).1
+suits_on c q around ds n (Brackets e) t h = suits_on c q around ds n e t h
+suits_on c q around ds n (Minus e) t h =
+    let u = unary_is q around e types.Int t h in suits_at (range_on q ds (Minus e)) types.Int t u.1 (minus_suits (range_on q ds e) (suits_on c q around ds n e types.Int u.0))
+suits_on c q around ds n (Not e) t h = let u = unary_is q around e types.Bool t h in suits_at (range_on q ds (Not e)) types.Bool t u.1 (suits_on c q around ds n e types.Bool u.0)
+suits_on c q around ds n (Binary op x y) t h =
     let p = two_types q around x y (op_ty op) t h in
     let o = op_is op p.left p.right t p.both in
-    (op_found c op p.left p.right t (range q x) (range q y) o.0 o.1 (range_suits c q around x p.left p.left_is) (range_suits c q around y p.right p.right_is)).1
-range_suits c q around (And x y) t h =
+    (op_found c op p.left p.right t (range_on q ds x) (range_on q ds y) o.0 o.1 (suits_on c q around ds n x p.left p.left_is) (suits_on c q around ds n y p.right p.right_is)).1
+suits_on c q around ds n (And x y) t h =
     let p = logic_types q around x y t h in
-    suits_at (range q (And x y)) types.Bool t p.is (logic_is (range q x) (range q y) (range_suits c q around x types.Bool p.left_is) (range_suits c q around y types.Bool p.right_is)).2
-range_suits c q around (Or x y) t h =
+    suits_at (range_on q ds (And x y)) types.Bool t p.is (logic_is (range_on q ds x) (range_on q (where_true (tested x) ds) y) (suits_on c q around ds n x types.Bool p.left_is) (suits_on c q around _ (true_narrows (tested x) n) y types.Bool p.right_is)).2
+suits_on c q around ds n (Or x y) t h =
     let p = logic_types q around x y t h in
-    suits_at (range q (Or x y)) types.Bool t p.is (logic_is (range q x) (range q y) (range_suits c q around x types.Bool p.left_is) (range_suits c q around y types.Bool p.right_is)).2
+    suits_at (range_on q ds (Or x y)) types.Bool t p.is (logic_is (range_on q ds x) (range_on q (where_false (tested x) ds) y) (suits_on c q around ds n x types.Bool p.left_is) (suits_on c q around _ (false_narrows (tested x) n) y types.Bool p.right_is)).2
+
+pub range_suits : (c : Setting) (q : Query) (around : Around) (e : Expr) (t : CellType) → typed q around e ≡ Ok t → suits t (range q e) ≡ true
+range_suits c q around e t h = suits_on c q around q.fields (as_declared q) e t h
+
+-- ---- tests
+
+-- a truth that fits is found
+truth_found : (r : Range) → suits types.Bool r ≡ true → fits r ≡ true → is_some (known_of types.Bool r) ≡ true
+truth_found Unfit h l = no l
+truth_found NoNumber h l = refl
+truth_found (Within i) h l = no h
+
+tested_truth : (c : Setting) (q : Query) (around : Around) (ds : List DeclaredField) → Narrows q ds → (e : Expr) → typed q around e ≡ Ok types.Bool → (t : Tested) → tested e ≡ Some t → is_some (known_of types.Bool (range_on q ds e)) ≡ true
+tested_truth c q around ds n e h t l = truth_found (range_on q ds e) (suits_on c q around ds n e types.Bool h) (tested_fits q ds e t l)
+
+-- a field that is compared with a number is one of numbers
+field_typed : (q : Query) (around : Around) (e : Expr) (x : Name) (t : CellType) → field_alone e ≡ Some x → typed q around e ≡ Ok t → field_ty q around x ≡ Ok t
+field_typed q around (Field y) x t h l = ap (field_ty q around) (sym (same_Some y x h)) ∙ l
+field_typed q around (Brackets e) x t h l = field_typed q around e x t h l
+field_typed q around (Number m) x t h l = none≢some h
+field_typed q around (Truth b) x t h l = none≢some h
+field_typed q around (EnumName y z) x t h l = none≢some h
+field_typed q around Key x t h l = none≢some h
+field_typed q around (KeyName y) x t h l = none≢some h
+field_typed q around Count x t h l = none≢some h
+field_typed q around (Aggregate kind e) x t h l = none≢some h
+field_typed q around (If b y z) x t h l = none≢some h
+field_typed q around (Minus e) x t h l = none≢some h
+field_typed q around (Not e) x t h l = none≢some h
+field_typed q around (Binary op y z) x t h l = none≢some h
+field_typed q around (And y z) x t h l = none≢some h
+field_typed q around (Or y z) x t h l = none≢some h
+
+number_typed : (q : Query) (around : Around) (e : Expr) (n : ℤ) (t : CellType) → number_alone e ≡ Some n → typed q around e ≡ Ok t → types.Int ≡ t
+number_typed q around (Number m) n t h l = ok_is types.Int t l
+number_typed q around (Brackets e) n t h l = number_typed q around e n t h l
+number_typed q around (Minus e) n t h l = (unary_is q around e types.Int t l).1
+number_typed q around (Truth b) n t h l = none≢some h
+number_typed q around (Field x) n t h l = none≢some h
+number_typed q around (EnumName y z) n t h l = none≢some h
+number_typed q around Key n t h l = none≢some h
+number_typed q around (KeyName y) n t h l = none≢some h
+number_typed q around Count n t h l = none≢some h
+number_typed q around (Aggregate kind e) n t h l = none≢some h
+number_typed q around (If b y z) n t h l = none≢some h
+number_typed q around (Not e) n t h l = none≢some h
+number_typed q around (Binary op y z) n t h l = none≢some h
+number_typed q around (And y z) n t h l = none≢some h
+number_typed q around (Or y z) n t h l = none≢some h
+
+-- what stands on the left of a number
+left_of_number : (op : Op) (o : Comparison) (t u w : CellType) → comparison_of op ≡ Some o → op_ty op t u ≡ Ok w → types.Int ≡ u → t ≡ types.Int
+left_of_number Add o t u w h l e = none≢some h
+left_of_number Sub o t u w h l e = none≢some h
+left_of_number Mul o t u w h l e = none≢some h
+left_of_number Div o t u w h l e = none≢some h
+left_of_number Rem o t u w h l e = none≢some h
+left_of_number Eq o t u w h l e = ty_is t u (wanted_is _ types.Bool w l).0 ∙ sym e
+left_of_number Ne o t u w h l e = ty_is t u (wanted_is _ types.Bool w l).0 ∙ sym e
+left_of_number Lt o t u w h l e = ty_is t types.Int (and_parts (is_type t types.Int) (is_type u types.Int) (wanted_is _ types.Bool w l).0).0
+left_of_number Le o t u w h l e = ty_is t types.Int (and_parts (is_type t types.Int) (is_type u types.Int) (wanted_is _ types.Bool w l).0).0
+left_of_number Gt o t u w h l e = ty_is t types.Int (and_parts (is_type t types.Int) (is_type u types.Int) (wanted_is _ types.Bool w l).0).0
+left_of_number Ge o t u w h l e = ty_is t types.Int (and_parts (is_type t types.Int) (is_type u types.Int) (wanted_is _ types.Bool w l).0).0
+
+pub tested_int : (q : Query) (around : Around) (e : Expr) (u : CellType) (t : Tested) → tested e ≡ Some t → typed q around e ≡ Ok u → field_ty q around t.field ≡ Ok types.Int
+tested_int q around (Brackets e) u t h l = tested_int q around e u t h l
+tested_int q around (Binary op x y) u t h l =
+    let p = tested_parts (comparison_of op) (field_alone x) (number_alone y) t h in
+    let two = two_types q around x y (op_ty op) u l in
+    let is = left_of_number op t.comparison two.left two.right u p.comparison two.both (number_typed q around y t.number two.right p.number two.right_is) in
+    field_typed q around x t.field types.Int p.field (two.left_is ∙ ap Ok is)
+tested_int q around (Number m) u t h l = none≢some h
+tested_int q around (Truth b) u t h l = none≢some h
+tested_int q around (Field x) u t h l = none≢some h
+tested_int q around (EnumName y z) u t h l = none≢some h
+tested_int q around Key u t h l = none≢some h
+tested_int q around (KeyName y) u t h l = none≢some h
+tested_int q around Count u t h l = none≢some h
+tested_int q around (Aggregate kind e) u t h l = none≢some h
+tested_int q around (If b y z) u t h l = none≢some h
+tested_int q around (Minus e) u t h l = none≢some h
+tested_int q around (Not e) u t h l = none≢some h
+tested_int q around (And y z) u t h l = none≢some h
+tested_int q around (Or y z) u t h l = none≢some h
 
 -- ---- what is found
 
--- what is read of records and panes is known by its range
+-- fields may be read, and what is read of panes is known by its range
 pub record Reads (c : Setting) (q : Query) (around : Around) : Type 0 where
-  pub field : (x : Name) (t : CellType) → field_ty q around x ≡ Ok t → of_instr c (instr.Field (field_place q.fields x)) [] ≡ known_of t (of_type (type_of x q.fields))
+  pub field : (x : Name) (t : CellType) → field_ty q around x ≡ Ok t → may_stand c.section (instr.Field (field_place q.fields x)) ≡ true
   pub count : around ≡ InColumn → of_instr c instr.Count [] ≡ Some (known.Number (interval (pos 1) q.records))
 
 -- and so is each of some accumulators, from the a-th on
@@ -268,45 +359,65 @@ three_accs c q around a b x y h =
 at_type : (o : Option Known) (r : Range) (u t : CellType) → u ≡ t → o ≡ known_of u r → o ≡ known_of t r
 at_type o r u t e h = subst (λ x. o ≡ known_of x r) e h
 
-pub found_is : (c : Setting) (q : Query) (around : Around) → Reads c q around → (a : ℕ) (e : Expr) (t : CellType) → typed q around e ≡ Ok t → AccsIn c q around a (accumulators_of e) → found c q a e ≡ known_of t (range q e)
-found_is c q around reads a (Number n) t h accs = at_type _ (range q (Number n)) types.Int t (ok_is _ t h) refl
-found_is c q around reads a (Truth b) t h accs = at_type _ NoNumber types.Bool t (ok_is _ t h) refl
-found_is c q around reads a (Field x) t h accs = reads.field x t h
-found_is c q around reads a (EnumName x y) t h accs =
+pub found_on : (c : Setting) (q : Query) (around : Around) → Reads c q around → (ds : List DeclaredField) → Narrows q ds → (a : ℕ) (e : Expr) (t : CellType) → typed q around e ≡ Ok t → AccsIn c q around a (accumulators_of e) →
+    found c q (known_fields 0 ds) a e ≡ known_of t (range_on q ds e)
+found_on c q around reads ds n a (Number m) t h accs = at_type _ (range_on q ds (Number m)) types.Int t (ok_is _ t h) refl
+found_on c q around reads ds n a (Truth b) t h accs = at_type _ NoNumber types.Bool t (ok_is _ t h) refl
+found_on c q around reads ds n a (Field x) t h accs =
+    ap (λ b. cond (b && true) (Some (slice_index_or (known_fields 0 ds) (field_place q.fields x) known.Truth)) None) (reads.field x t h) ∙ known_here q ds n x t (of_cond (is_among x (field_names q.fields)) _ _ t h) (field_is q around x t h)
+found_on c q around reads ds n a (EnumName x y) t h accs =
     at_type _ NoNumber (types.Enum _) t (ok_is _ t (cond_ok (is_among x (field_names q.fields) && is_among y (names_of (type_of x q.fields))) _ _ t h)) refl
-found_is c q around reads a Key t h accs = at_type _ NoNumber (types.Enum 0) t (ok_is _ t h) refl
-found_is c q around reads a (KeyName x) t h accs = at_type _ NoNumber (types.Enum 0) t (ok_is _ t (cond_ok (is_among x q.keys) _ _ t h)) refl
-found_is c q around reads a Count t h accs =
-    let e = entered_is around (Ok types.Int) t h in at_type _ (range q Count) types.Int t (ok_is _ t e.1) (reads.count e.0)
-found_is c q around reads a (Aggregate kind e) t h accs =
+found_on c q around reads ds n a Key t h accs = at_type _ NoNumber (types.Enum 0) t (ok_is _ t h) refl
+found_on c q around reads ds n a (KeyName x) t h accs = at_type _ NoNumber (types.Enum 0) t (ok_is _ t (cond_ok (is_among x q.keys) _ _ t h)) refl
+found_on c q around reads ds n a Count t h accs =
+    let e = entered_is around (Ok types.Int) t h in at_type _ (range_on q ds Count) types.Int t (ok_is _ t e.1) (reads.count e.0)
+found_on c q around reads ds n a (Aggregate kind e) t h accs =
     let i = entered_is around _ t h in
     let u = unary_is q InAggregate e (kind_type kind) t i.1 in
     let first : a + 0 ≡ a = omega arith in
-    at_type _ (range q (Aggregate kind e)) (kind_type kind) t u.1 (ap (λ b. of_instr c (instr.Acc b) []) (sym first) ∙ accs i.0 0 (record { kind = kind; operand = e }) refl)
-found_is c q around reads a (If b x y) t h accs =
+    at_type _ (range_on q ds (Aggregate kind e)) (kind_type kind) t u.1 (ap (λ b. of_instr c (instr.Acc b) []) (sym first) ∙ accs i.0 0 (record { kind = kind; operand = e }) refl)
+found_on c q around reads ds n a (If b x y) t h accs =
     let p = if_types q around b x y t h in
     let s = three_accs c q around a b x y accs in
-    (λ i. and_then (λ v. hulled (found_is c q around reads (a + aggregates b) x t p.first_is s.first i) (found_is c q around reads (a + (aggregates b + aggregates x)) y t p.second_is s.second i)) (found_is c q around reads a b types.Bool p.test_is s.test i))
-    ∙ (chosen_is t (range q b) (range q x) (range q y) (range_suits c q around b types.Bool p.test_is) (range_suits c q around x t p.first_is) (range_suits c q around y t p.second_is)).0
-found_is c q around reads a (Brackets e) t h accs = found_is c q around reads a e t h accs
-found_is c q around reads a (Minus e) t h accs =
+    let w = tested b in
+    (λ i. and_then (λ v. hulled
+    (((λ j. found c q (true_known q w ds n j) (a + aggregates b) x) ∙ found_on c q around reads (where_true w ds) (true_narrows w n) (a + aggregates b) x t p.first_is s.first) i)
+    (((λ j. found c q (false_known q w ds n j) (a + (aggregates b + aggregates x)) y) ∙ found_on c q around reads (where_false w ds) (false_narrows w n) (a + (aggregates b + aggregates x)) y t p.second_is s.second) i))
+    (test_found w (found_on c q around reads ds n a b types.Bool p.test_is s.test i)))
+    ∙ test_hulled (tested b) (known_of types.Bool (range_on q ds b)) _ (tested_truth c q around ds n b p.test_is)
+    ∙ (chosen_is t (range_on q ds b) (range_on q (where_true w ds) x) (range_on q (where_false w ds) y) (suits_on c q around ds n b types.Bool p.test_is) (suits_on c q around _ (true_narrows w n) x t p.first_is) (suits_on c q around _ (false_narrows w n) y t p.second_is)).0
+found_on c q around reads ds n a (Brackets e) t h accs = found_on c q around reads ds n a e t h accs
+found_on c q around reads ds n a (Minus e) t h accs =
     let u = unary_is q around e types.Int t h in
-    at_type _ (range q (Minus e)) types.Int t u.1 (ap (λ o. and_then (λ x. of_instr c (instr.Operate operation.Neg) (x ∷ [])) o) (found_is c q around reads a e types.Int u.0 accs) ∙ minus_found c (range q e) (range_suits c q around e types.Int u.0))
-found_is c q around reads a (Not e) t h accs =
+    at_type _ (range_on q ds (Minus e)) types.Int t u.1 (ap (λ o. and_then (λ x. of_instr c (instr.Operate operation.Neg) (x ∷ [])) o) (found_on c q around reads ds n a e types.Int u.0 accs) ∙ minus_found c (range_on q ds e) (suits_on c q around ds n e types.Int u.0))
+found_on c q around reads ds n a (Not e) t h accs =
     let u = unary_is q around e types.Bool t h in
-    at_type _ (range q (Not e)) types.Bool t u.1 (ap (λ o. and_then (λ x. of_instr c (instr.Operate operation.Not) (x ∷ [])) o) (found_is c q around reads a e types.Bool u.0 accs) ∙ not_found c (range q e) (range_suits c q around e types.Bool u.0))
-found_is c q around reads a (Binary op x y) t h accs =
+    at_type _ (range_on q ds (Not e)) types.Bool t u.1 (ap (λ o. and_then (λ x. of_instr c (instr.Operate operation.Not) (x ∷ [])) o) (found_on c q around reads ds n a e types.Bool u.0 accs) ∙ not_found c (range_on q ds e) (suits_on c q around ds n e types.Bool u.0))
+found_on c q around reads ds n a (Binary op x y) t h accs =
     let p = two_types q around x y (op_ty op) t h in
     let o = op_is op p.left p.right t p.both in
-    (λ i. and_then (λ u. and_then (λ v. of_instr c (instruction op) (v ∷ u ∷ [])) (found_is c q around reads (a + aggregates x) y p.right p.right_is (in_right c q around a x y accs) i)) (found_is c q around reads a x p.left p.left_is (in_left c q around a x y accs) i))
-    ∙ (op_found c op p.left p.right t (range q x) (range q y) o.0 o.1 (range_suits c q around x p.left p.left_is) (range_suits c q around y p.right p.right_is)).0
-found_is c q around reads a (And x y) t h accs =
+    (λ i. and_then (λ u. and_then (λ v. of_instr c (instruction op) (v ∷ u ∷ [])) (found_on c q around reads ds n (a + aggregates x) y p.right p.right_is (in_right c q around a x y accs) i)) (found_on c q around reads ds n a x p.left p.left_is (in_left c q around a x y accs) i))
+    ∙ (op_found c op p.left p.right t (range_on q ds x) (range_on q ds y) o.0 o.1 (suits_on c q around ds n x p.left p.left_is) (suits_on c q around ds n y p.right p.right_is)).0
+found_on c q around reads ds n a (And x y) t h accs =
     let p = logic_types q around x y t h in
-    at_type _ (range q (And x y)) types.Bool t p.is
-    ((λ i. and_then (λ v. hulled (found_is c q around reads (a + aggregates x) y types.Bool p.right_is (in_right c q around a x y accs) i) (Some known.Truth)) (found_is c q around reads a x types.Bool p.left_is (in_left c q around a x y accs) i))
-    ∙ (logic_is (range q x) (range q y) (range_suits c q around x types.Bool p.left_is) (range_suits c q around y types.Bool p.right_is)).0)
-found_is c q around reads a (Or x y) t h accs =
+    at_type _ (range_on q ds (And x y)) types.Bool t p.is
+    ((λ i. and_then (λ v. hulled (((λ j. found c q (true_known q (tested x) ds n j) (a + aggregates x) y) ∙ found_on c q around reads (where_true (tested x) ds) (true_narrows (tested x) n) (a + aggregates x) y types.Bool p.right_is (in_right c q around a x y accs)) i) (Some known.Truth))
+    (test_found (tested x) (found_on c q around reads ds n a x types.Bool p.left_is (in_left c q around a x y accs) i)))
+    ∙ test_hulled (tested x) (known_of types.Bool (range_on q ds x)) _ (tested_truth c q around ds n x p.left_is)
+    ∙ (logic_is (range_on q ds x) (range_on q (where_true (tested x) ds) y) (suits_on c q around ds n x types.Bool p.left_is) (suits_on c q around _ (true_narrows (tested x) n) y types.Bool p.right_is)).0)
+found_on c q around reads ds n a (Or x y) t h accs =
     let p = logic_types q around x y t h in
-    at_type _ (range q (Or x y)) types.Bool t p.is
-    ((λ i. and_then (λ v. hulled (Some known.Truth) (found_is c q around reads (a + aggregates x) y types.Bool p.right_is (in_right c q around a x y accs) i)) (found_is c q around reads a x types.Bool p.left_is (in_left c q around a x y accs) i))
-    ∙ (logic_is (range q x) (range q y) (range_suits c q around x types.Bool p.left_is) (range_suits c q around y types.Bool p.right_is)).1)
+    at_type _ (range_on q ds (Or x y)) types.Bool t p.is
+    ((λ i. and_then (λ v. hulled (Some known.Truth) (((λ j. found c q (false_known q (tested x) ds n j) (a + aggregates x) y) ∙ found_on c q around reads (where_false (tested x) ds) (false_narrows (tested x) n) (a + aggregates x) y types.Bool p.right_is (in_right c q around a x y accs)) i))
+    (test_found (tested x) (found_on c q around reads ds n a x types.Bool p.left_is (in_left c q around a x y accs) i)))
+    ∙ test_hulled (tested x) (known_of types.Bool (range_on q ds x)) _ (tested_truth c q around ds n x p.left_is)
+    ∙ (logic_is (range_on q ds x) (range_on q (where_false (tested x) ds) y) (suits_on c q around ds n x types.Bool p.left_is) (suits_on c q around _ (false_narrows (tested x) n) y types.Bool p.right_is)).1)
+
+-- where the fields are as they are declared
+pub found_is : (c : Setting) (q : Query) (around : Around) → Reads c q around → (a : ℕ) (e : Expr) (t : CellType) → typed q around e ≡ Ok t → AccsIn c q around a (accumulators_of e) →
+    found c q (known_fields 0 q.fields) a e ≡ known_of t (range q e)
+found_is c q around reads a e t h accs = found_on c q around reads q.fields (as_declared q) a e t h accs
+
+pub found_here : (c : Setting) (q : Query) (around : Around) → Reads c q around → (fs : List Known) → fs ≡ known_fields 0 q.fields → (a : ℕ) (e : Expr) (t : CellType) → typed q around e ≡ Ok t → AccsIn c q around a (accumulators_of e) →
+    found c q fs a e ≡ known_of t (range q e)
+found_here c q around reads fs is a e t h accs = ap (λ xs. found c q xs a e) is ∙ found_is c q around reads a e t h accs

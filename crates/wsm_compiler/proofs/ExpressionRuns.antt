@@ -1,6 +1,6 @@
 -- The code of an expression leads to its bounded meaning, or traps where it has none.
 use Rattle.std.proofs.Common.{◌≡◌, ℕ, suc, ◌+◌, ◌<◌, Bool, true, false, ◌&&◌, not, cond, List, [], ◌∷◌, ◌++◌, length, Option, Some, None, Ok, refl, sym, ap, subst, ◌∙◌, arith}
-use Rattle.std.proofs.lemmas.Bool.{true≢false}
+use Rattle.std.proofs.lemmas.Bool.{true≢false, and_parts}
 use Rattle.std.specs.Prelude.{ℤ, nat_lt, is_some, option_map, slice_get}
 use Rattle.wsm_record.specs.declared.event.Value.{Value}
 use Rattle.wsm_record.specs.declared.event.Value.TheVariants.{Int, Bool as Truth', Enum}
@@ -13,7 +13,7 @@ use Rattle.wsm_program.specs.declared.operation.Operation.TheVariants as operati
 use Rattle.wsm_record.specs.declared.cell.Cell.{Cell}
 use Rattle.wsm_record.specs.declared.cell.Cell.TheVariants as cells
 use Rattle.wsm_machine.specs.declared.outcome.Trap.TheVariants.{Underflow, StackFull, IntOverflow, WrongSection}
-use Rattle.wsm_program.specs.Instructions.{may_stand}
+use Rattle.wsm_program.specs.Instructions.{may_stand, passes}
 use Rattle.wsm_machine.specs.Step.{Setting, State, Next, Goes, cell_of, overflows, push_on, step, unless}
 use Rattle.wsm_record.specs.Schema.{FieldType}
 use Rattle.wsm_record.specs.Schema as field_types
@@ -25,18 +25,21 @@ use Rattle.wsm_record.specs.Types.{kind_type}
 use Rattle.wsm_check.specs.Types.{declared_ty, op_ty, typed}
 use Rattle.wsm_check.specs.declared.types.Around.{Around}
 use Rattle.wsm_check.specs.declared.types.Around.TheVariants.{InColumn, InAggregate}
-use Rattle.wsm_check.specs.Sizes.{accumulators_of, aggregates, size}
+use Rattle.wsm_check.specs.Sizes.{accumulators_of, aggregates, size, need}
+use Rattle.wsm_check.specs.Spelt.{numbers_fit}
+use Rattle.wsm_check.specs.Tested.{Tested, tested, unless_tested}
 use Rattle.wsm_compiler.specs.Meaning.{Scene, on_two, both, minus, negated, chosen}
 use Rattle.wsm_compiler.specs.Bounded.{kept, bounded_from}
-use Rattle.wsm_compiler.specs.Code.{code, choice, instruction}
+use Rattle.wsm_compiler.specs.Code.{code, choice, field_test, test_code, test_of, jump_unless, instruction}
 use Rattle.wsm_compiler.specs.Runs.{of_ty, cell, Serves, ServesAccs, state, topped, Gives, StandsAt, CodeRuns}
 use Rattle.wsm_machine.proofs.FittingStacks.{no}
-use Rattle.wsm_compiler.proofs.Sizes.{length-code, some_size, some_need}
+use Rattle.wsm_compiler.proofs.Sizes.{length-code, length-test_code, some_size, some_need}
 use Rattle.wsm_compiler.proofs.FoundRanges.{ok_is, op_typed, result_of}
-use Rattle.wsm_compiler.proofs.ExpressionRanges.{cond_ok, field_is, entered_is, op_is, two_types, if_types, logic_types, unary_is}
+use Rattle.wsm_compiler.proofs.ExpressionRanges.{cond_ok, field_is, entered_is, op_is, two_types, if_types, logic_types, unary_is, tested_int}
 use Rattle.wsm_compiler.proofs.KnownFields.{is_fine, not_in_column}
 use Rattle.wsm_compiler.proofs.Values.{serves_left, serves_right, value_has}
-use Rattle.wsm_compiler.proofs.Machine.{bind, step_is, has_room, number_gives, run_goes, push_int, push_bool, push_enum, push_key, one_type, op_gives, neg_gives, not_gives, jump_goes, choose}
+use Rattle.wsm_compiler.proofs.Machine.{bind, step_is, has_room, number_gives, run_goes, push_int, push_bool, push_enum, push_key, one_type, op_gives, neg_gives, not_gives, jump_goes, choose, choose_test}
+use Rattle.wsm_compiler.proofs.TestedValues.{word_kept, tested_value}
 use Rattle.wsm_compiler.proofs.Choices.{not_under}
 
 -- ---- places
@@ -56,6 +59,15 @@ pub split_code : (q : Query) (section : List Instr) (k a : ℕ) (e : Expr) (ys :
 split_code q section k a e ys h =
     let parts = split section (code q k a e) ys k h in
     (parts.0, stands_moved section ys (k + length (code q k a e)) (k + size e) (ap (λ n. k + n) (length-code q k a e)) parts.1)
+
+-- a test, where it has code, and what stands behind it
+pub split_test : (q : Query) (section : List Instr) (k a : ℕ) (e : Expr) (ys : List Instr) → StandsAt section k (test_code (tested e) (code q k a e) ++ ys) →
+    (tested e ≡ None → StandsAt section k (code q k a e)) × StandsAt section (k + unless_tested (tested e) (size e)) ys
+split_test q section k a e ys h =
+    let is = code q k a e in
+    let parts = split section (test_code (tested e) is) ys k h in
+    let l = length-test_code (tested e) is (size e) (length-code q k a e) in
+    (λ none. subst (λ w. StandsAt section k (test_code w is)) none parts.0, stands_moved section ys (k + length (test_code (tested e) is)) (k + unless_tested (tested e) (size e)) (ap (λ n. k + n) l) parts.1)
 
 -- ---- what is read
 
@@ -142,12 +154,37 @@ module _ (c : Setting) (q : Query) (around : Around) (s : Scene) (serves : Serve
   abbrev value : ℕ → Expr → Option Value
   value a e = bounded_from q s a e
 
+  -- a test and the jump behind it, or the jump alone that makes the test, lead to the first part or to the second
+  tested_runs : (k a : ℕ) (e : Expr) (w : Option Tested) → tested e ≡ w → (i j end : ℕ) (t : CellType) (u v : Option Value) (stack : List Cell) (folds : List (Option Value)) → i ≡ k + unless_tested w (size e) →
+      typed q around e ≡ Ok types.Bool → ((around ≡ InColumn → ⊥) → numbers_fit e ≡ true) → of_ty types.Bool (value a e) ≡ true → (tested e ≡ None → Gives c (state k stack folds) (topped (k + size e) stack folds types.Bool (value a e))) →
+      slice_get c.code i ≡ Some (jump_unless (option_map (field_test q) w) j) → i < j → j < length c.code → Gives c (state (i + 1) stack folds) (topped end stack folds t u) → Gives c (state j stack folds) (topped end stack folds t v) →
+      Gives c (state k stack folds) (topped end stack folds t (chosen (value a e) u v))
+  tested_runs k a e None is i j end t u v stack folds place h fit has runs at l n gu gv =
+      bind c (state k stack folds) i stack folds types.Bool (λ o. topped end stack folds t (chosen o u v)) refl (value a e)
+      (at_place c (state k stack folds) (k + size e) i stack folds types.Bool (value a e) (sym place) (runs is))
+      (λ z ez. choose c i j stack folds end t u v z (has_value types.Bool (value a e) z has ez) at l n gu gv)
+  tested_runs k a e (Some x) is i j end t u v stack folds place h fit has runs at l n gu gv =
+      let ty = tested_int q around e types.Bool x is h in
+      let r = serves.field x.field types.Int ty in
+      let outside : around ≡ InColumn → ⊥ = λ z. in_column_not q around x.field types.Int z ty in
+      let here : i ≡ k = omega (arith, place) in
+      of_number r.0 r.2 r.1 r.3 r.4 outside here
+    where
+      of_number : (y : Value) → of_ty types.Int (Some y) ≡ true → s.field (field_place q.fields x.field) ≡ Some y → slice_get c.inputs.values (field_place q.fields x.field) ≡ Some y → kept (Some y) ≡ Some y → (around ≡ InColumn → ⊥) → i ≡ k →
+          Gives c (state k stack folds) (topped end stack folds t (chosen (value a e) u v))
+      of_number (Truth' b) ty f g w outside here = no ty
+      of_number (Enum b) ty f g w outside here = no ty
+      of_number (Int m) ty f g w outside here =
+          subst (λ o. Gives c (state k stack folds) (topped end stack folds t (chosen o u v))) (sym (tested_value q s a e x m is f (word_kept m w) (fit outside)))
+          (subst (λ z. Gives c (state z stack folds) (topped end stack folds t (chosen (Some (Truth' (passes (field_test q x) m))) u v))) here
+          (choose_test c (field_test q x) m i j stack folds end t u v (serves.fields_stand (field_place q.fields x.field) outside) g at l n gu gv))
+
   pub code_runs : (k a : ℕ) (e : Expr) → CodeRuns c q around s k a e
-  code_runs k a (Number n) t h accs at inside stack folds room =
+  code_runs k a (Number n) m t h accs at inside stack folds room =
       at_type c (state k stack folds) (k + 1) stack folds types.Int t (value a (Number n)) (ok_is types.Int t h) (push_int c k stack folds (omega (arith, room)) n at.0)
-  code_runs k a (Truth b) t h accs at inside stack folds room =
+  code_runs k a (Truth b) m t h accs at inside stack folds room =
       at_type c (state k stack folds) (k + 1) stack folds types.Bool t (value a (Truth b)) (ok_is types.Bool t h) (push_bool c k stack folds (omega (arith, room)) b at.0)
-  code_runs k a (Field x) t h accs at inside stack folds room =
+  code_runs k a (Field x) m t h accs at inside stack folds room =
       let f = field_place q.fields x in
       let v = serves.field x t h in
       let ty = field_is q around x t h in
@@ -156,20 +193,20 @@ module _ (c : Setting) (q : Query) (around : Around) (s : Scene) (serves : Serve
       subst (λ o. Gives c (state k stack folds) (topped (k + 1) stack folds t (kept o))) (sym v.1)
       (read_gives c k stack folds (omega (arith, room)) (instr.Field f) t v.0 (may_stand c.section (instr.Field f)) v.2 at.0 (serves.fields_stand f (λ e. in_column_not q around x t e h))
       (ap (λ o. reads (may_stand c.section (instr.Field f)) k stack folds (option_map (cell_of (f + 1)) o)) v.3 ∙ ap (λ y. reads (may_stand c.section (instr.Field f)) k stack folds (Some y)) is))
-  code_runs k a (EnumName x y) t h accs at inside stack folds room =
+  code_runs k a (EnumName x y) m t h accs at inside stack folds room =
       at_type c (state k stack folds) (k + 1) stack folds (types.Enum _) t (value a (EnumName x y)) (ok_is _ t (cond_ok (is_among x (field_names q.fields) && is_among y (names_of (type_of x q.fields))) _ _ t h))
       (push_enum c k stack folds (omega (arith, room)) (suc (field_place q.fields x)) (place_of y (names_of (type_of x q.fields))) at.0)
-  code_runs k a Key t h accs at inside stack folds room =
+  code_runs k a Key m t h accs at inside stack folds room =
       at_type c (state k stack folds) (k + 1) stack folds (types.Enum 0) t (value a Key) (ok_is _ t h)
       (subst (λ n. Gives c (state k stack folds) (Some (state (k + 1) (cells.Enum 0 n ∷ stack) folds))) (sym serves.key) (push_key c k stack folds (omega (arith, room)) at.0))
-  code_runs k a (KeyName x) t h accs at inside stack folds room =
+  code_runs k a (KeyName x) m t h accs at inside stack folds room =
       at_type c (state k stack folds) (k + 1) stack folds (types.Enum 0) t (value a (KeyName x)) (ok_is _ t (cond_ok (is_among x q.keys) _ _ t h)) (push_enum c k stack folds (omega (arith, room)) 0 (place_of x q.keys) at.0)
-  code_runs k a Count t h accs at inside stack folds room =
+  code_runs k a Count m t h accs at inside stack folds room =
       let e = entered_is around (Ok types.Int) t h in
       at_type c (state k stack folds) (k + 1) stack folds types.Int t (value a Count) (ok_is types.Int t e.1)
       (subst (λ o. Gives c (state k stack folds) (topped (k + 1) stack folds types.Int (kept o))) (sym (serves.count e.0))
       (read_gives c k stack folds (omega (arith, room)) instr.Count types.Int (Int c.inputs.count) (may_stand c.section instr.Count) refl at.0 (serves.count_stands e.0) refl))
-  code_runs k a (Aggregate kind e) t h accs at inside stack folds room =
+  code_runs k a (Aggregate kind e) m t h accs at inside stack folds room =
       let i = entered_is around _ t h in
       let u = unary_is q InAggregate e (kind_type kind) t i.1 in
       let first : a + 0 ≡ a = omega arith in
@@ -180,9 +217,10 @@ module _ (c : Setting) (q : Query) (around : Around) (s : Scene) (serves : Serve
       (subst (λ o. Gives c (state k stack folds) (topped (k + 1) stack folds (kind_type kind) (kept o))) (sym there)
       (read_gives c k stack folds (omega (arith, room)) (instr.Acc a) (kind_type kind) g.0 (may_stand c.section (instr.Acc a)) g.2 at.0 (serves.accs_stand a i.0)
       (ap (λ o. reads (may_stand c.section (instr.Acc a)) k stack folds (option_map (cell_of 0) o)) held ∙ ap (λ y. reads (may_stand c.section (instr.Acc a)) k stack folds (Some y)) (folded_cell kind g.0 g.2))))
-  code_runs k a (If b x y) t h accs at inside stack folds room =
+  code_runs k a (If b x y) m t h accs at inside stack folds room =
       let p = if_types q around b x y t h in
-      let i = k + size b in
+      let ub = unless_tested (tested b) (size b) in
+      let i = k + ub in
       let j = i + 1 + size x + 1 in
       let end = j + size y in
       let ax = a + aggregates b in
@@ -194,37 +232,38 @@ module _ (c : Setting) (q : Query) (around : Around) (s : Scene) (serves : Serve
       let sy = subst (λ n. ServesAccs c around s n (accumulators_of y)) place (serves_right c around s ax x (accumulators_of y) rest) in
       let cx = code q (i + 1) ax x in
       let cy = code q j ay y in
-      let parts = split_code q c.code k a b (choice (i + 1) cx (size x) cy (size y)) at in
+      let parts = split_test q c.code k a b (choice (jump_unless (test_of q b)) (i + 1) cx (size x) cy (size y)) at in
       let second = split_code q c.code (i + 1) ax x (instr.Jump end ∷ cy) parts.1.1 in
-      let bx = value ax x in
-      let by = value ay y in
-      let over : end ≡ k + (size b + (size x + size y) + 2) = omega arith in
-      at_place c (state k stack folds) end (k + (size b + (size x + size y) + 2)) stack folds t (chosen (value a b) bx by) over
-      (bind c (state k stack folds) i stack folds types.Bool (λ o. topped end stack folds t (chosen o bx by)) refl (value a b)
-      (code_runs k a b types.Bool p.test_is sb parts.0 (omega (arith, inside)) stack folds (omega (arith, room)))
-      (λ v e. choose c i j stack folds end t bx by v (has_value types.Bool (value a b) v (value_has c q around s serves a b types.Bool p.test_is sb) e) parts.1.0 (omega arith) (omega (arith, inside, some_size y))
-      (jump_behind c (state (i + 1) stack folds) (i + 1 + size x) end stack folds t bx (code_runs (i + 1) ax x t p.first_is sx second.0 (omega (arith, inside)) stack folds (omega (arith, room))) second.1.0 (omega (arith, some_size y)) (omega (arith, inside)))
-      (code_runs j ay y t p.second_is sy second.1.1 (omega (arith, inside)) stack folds (omega (arith, room)))))
-  code_runs k a (Brackets e) t h accs at inside stack folds room = code_runs k a e t h accs at inside stack folds room
-  code_runs k a (Minus e) t h accs at inside stack folds room =
+      let mb : (around ≡ InColumn → ⊥) → numbers_fit b ≡ true = λ n. (and_parts (numbers_fit b) (numbers_fit x && numbers_fit y) (m n)).0 in
+      let mx : (around ≡ InColumn → ⊥) → numbers_fit x ≡ true = λ n. (and_parts (numbers_fit x) (numbers_fit y) (and_parts (numbers_fit b) (numbers_fit x && numbers_fit y) (m n)).1).0 in
+      let my : (around ≡ InColumn → ⊥) → numbers_fit y ≡ true = λ n. (and_parts (numbers_fit x) (numbers_fit y) (and_parts (numbers_fit b) (numbers_fit x && numbers_fit y) (m n)).1).1 in
+      let over : end ≡ k + (ub + (size x + size y) + 2) = omega arith in
+      at_place c (state k stack folds) end (k + (ub + (size x + size y) + 2)) stack folds t (chosen (value a b) (value ax x) (value ay y)) over
+      (tested_runs k a b (tested b) refl i j end t (value ax x) (value ay y) stack folds refl p.test_is mb (value_has c q around s serves a b types.Bool p.test_is sb)
+      (λ none. code_runs k a b mb types.Bool p.test_is sb (parts.0 none) (omega (arith, inside, ap (λ v. unless_tested v (size b)) none)) stack folds (omega (arith, room, ap (λ v. unless_tested v (need b)) none)))
+      parts.1.0 (omega arith) (omega (arith, inside, some_size y))
+      (jump_behind c (state (i + 1) stack folds) (i + 1 + size x) end stack folds t (value ax x) (code_runs (i + 1) ax x mx t p.first_is sx second.0 (omega (arith, inside)) stack folds (omega (arith, room))) second.1.0 (omega (arith, some_size y)) (omega (arith, inside)))
+      (code_runs j ay y my t p.second_is sy second.1.1 (omega (arith, inside)) stack folds (omega (arith, room))))
+  code_runs k a (Brackets e) m t h accs at inside stack folds room = code_runs k a e m t h accs at inside stack folds room
+  code_runs k a (Minus e) m t h accs at inside stack folds room =
       let u = unary_is q around e types.Int t h in
       let i = k + size e in
       let parts = split_code q c.code k a e (instr.Operate operation.Neg ∷ []) at in
       let over : i + 1 ≡ k + (size e + 1) = omega arith in
       at_place c (state k stack folds) (i + 1) (k + (size e + 1)) stack folds t (kept (minus (value a e))) over
       (at_type c (state k stack folds) (i + 1) stack folds types.Int t (kept (minus (value a e))) u.1
-      (bind c (state k stack folds) i stack folds types.Int (λ o. topped (i + 1) stack folds types.Int (kept (minus o))) refl (value a e) (code_runs k a e types.Int u.0 accs parts.0 (omega (arith, inside)) stack folds room)
+      (bind c (state k stack folds) i stack folds types.Int (λ o. topped (i + 1) stack folds types.Int (kept (minus o))) refl (value a e) (code_runs k a e m types.Int u.0 accs parts.0 (omega (arith, inside)) stack folds room)
       (λ v ev. neg_gives c i stack folds (omega (arith, room, some_need e)) v (has_value types.Int (value a e) v (value_has c q around s serves a e types.Int u.0 accs) ev) parts.1.0)))
-  code_runs k a (Not e) t h accs at inside stack folds room =
+  code_runs k a (Not e) m t h accs at inside stack folds room =
       let u = unary_is q around e types.Bool t h in
       let i = k + size e in
       let parts = split_code q c.code k a e (instr.Operate operation.Not ∷ []) at in
       let over : i + 1 ≡ k + (size e + 1) = omega arith in
       at_place c (state k stack folds) (i + 1) (k + (size e + 1)) stack folds t (negated (value a e)) over
       (at_type c (state k stack folds) (i + 1) stack folds types.Bool t (negated (value a e)) u.1
-      (bind c (state k stack folds) i stack folds types.Bool (λ o. topped (i + 1) stack folds types.Bool (negated o)) refl (value a e) (code_runs k a e types.Bool u.0 accs parts.0 (omega (arith, inside)) stack folds room)
+      (bind c (state k stack folds) i stack folds types.Bool (λ o. topped (i + 1) stack folds types.Bool (negated o)) refl (value a e) (code_runs k a e m types.Bool u.0 accs parts.0 (omega (arith, inside)) stack folds room)
       (λ v ev. not_gives c i stack folds (omega (arith, room, some_need e)) v (has_value types.Bool (value a e) v (value_has c q around s serves a e types.Bool u.0 accs) ev) parts.1.0)))
-  code_runs k a (Binary op x y) t h accs at inside stack folds room =
+  code_runs k a (Binary op x y) fit t h accs at inside stack folds room =
       let p = two_types q around x y (op_ty op) t h in
       let o = op_is op p.left p.right t p.both in
       let same = one_type op p.left p.right o.0 in
@@ -243,47 +282,53 @@ module _ (c : Setting) (q : Query) (around : Around) (s : Scene) (serves : Serve
       at_place c (state k stack folds) (m + 1) (k + (size x + size y + 1)) stack folds t (kept (both (on_two op) bx by)) over
       (at_type c (state k stack folds) (m + 1) stack folds (result_of op) t (kept (both (on_two op) bx by)) o.1
       (bind c (state k stack folds) i stack folds p.left (λ w. topped (m + 1) stack folds (result_of op) (kept (both (on_two op) w by))) refl bx
-      (code_runs k a x p.left p.left_is sx parts.0 (omega (arith, inside)) stack folds (omega (arith, room)))
+      (code_runs k a x (λ n. (and_parts (numbers_fit x) (numbers_fit y) (fit n)).0) p.left p.left_is sx parts.0 (omega (arith, inside)) stack folds (omega (arith, room)))
       (λ v ev. bind c (state i (cell p.left v ∷ stack) folds) m (cell p.left v ∷ stack) folds p.left (λ w. topped (m + 1) stack folds (result_of op) (kept (both (on_two op) (Some v) w))) refl by
-      (code_runs i b y p.left right_is sy second.0 (omega (arith, inside)) (cell p.left v ∷ stack) folds (omega (arith, room)))
+      (code_runs i b y (λ n. (and_parts (numbers_fit x) (numbers_fit y) (fit n)).1) p.left right_is sy second.0 (omega (arith, inside)) (cell p.left v ∷ stack) folds (omega (arith, room)))
       (λ w ew. op_gives c m stack folds (omega (arith, room)) op p.left v w typed' (has_value p.left bx v (value_has c q around s serves a x p.left p.left_is sx) ev) (has_value p.left by w (value_has c q around s serves b y p.left right_is sy) ew) second.1.0))))
-  code_runs k a (And x y) t h accs at inside stack folds room =
+  code_runs k a (And x y) m t h accs at inside stack folds room =
       let p = logic_types q around x y t h in
-      let i = k + size x in
+      let ux = unless_tested (tested x) (size x) in
+      let i = k + ux in
       let j = i + 1 + size y + 1 in
       let b = a + aggregates x in
       let sx = serves_left c around s a (accumulators_of x) (accumulators_of y) accs in
       let sy = serves_right c around s a x (accumulators_of y) accs in
       let cy = code q (i + 1) b y in
-      let parts = split_code q c.code k a x (choice (i + 1) cy (size y) (instr.PushBool false ∷ []) 1) at in
+      let parts = split_test q c.code k a x (choice (jump_unless (test_of q x)) (i + 1) cy (size y) (instr.PushBool false ∷ []) 1) at in
       let second = split_code q c.code (i + 1) b y (instr.Jump (j + 1) ∷ instr.PushBool false ∷ []) parts.1.1 in
+      let mx : (around ≡ InColumn → ⊥) → numbers_fit x ≡ true = λ n. (and_parts (numbers_fit x) (numbers_fit y) (m n)).0 in
+      let my : (around ≡ InColumn → ⊥) → numbers_fit y ≡ true = λ n. (and_parts (numbers_fit x) (numbers_fit y) (m n)).1 in
       let by = value b y in
       let no' = Some (Truth' false) in
-      let over : j + 1 ≡ k + (size x + size y + 3) = omega arith in
-      at_place c (state k stack folds) (j + 1) (k + (size x + size y + 3)) stack folds t (chosen (value a x) by no') over
+      let over : j + 1 ≡ k + (ux + size y + 3) = omega arith in
+      at_place c (state k stack folds) (j + 1) (k + (ux + size y + 3)) stack folds t (chosen (value a x) by no') over
       (at_type c (state k stack folds) (j + 1) stack folds types.Bool t (chosen (value a x) by no') p.is
-      (bind c (state k stack folds) i stack folds types.Bool (λ o. topped (j + 1) stack folds types.Bool (chosen o by no')) refl (value a x)
-      (code_runs k a x types.Bool p.left_is sx parts.0 (omega (arith, inside)) stack folds (omega (arith, room)))
-      (λ v e. choose c i j stack folds (j + 1) types.Bool by no' v (has_value types.Bool (value a x) v (value_has c q around s serves a x types.Bool p.left_is sx) e) parts.1.0 (omega arith) (omega (arith, inside))
-      (jump_behind c (state (i + 1) stack folds) (i + 1 + size y) (j + 1) stack folds types.Bool by (code_runs (i + 1) b y types.Bool p.right_is sy second.0 (omega (arith, inside)) stack folds (omega (arith, room))) second.1.0 (omega arith) (omega (arith, inside)))
-      (push_bool c j stack folds (omega (arith, room, some_need y)) false second.1.1.0))))
-  code_runs k a (Or x y) t h accs at inside stack folds room =
+      (tested_runs k a x (tested x) refl i j (j + 1) types.Bool by no' stack folds refl p.left_is mx (value_has c q around s serves a x types.Bool p.left_is sx)
+      (λ none. code_runs k a x mx types.Bool p.left_is sx (parts.0 none) (omega (arith, inside, ap (λ v. unless_tested v (size x)) none)) stack folds (omega (arith, room, ap (λ v. unless_tested v (need x)) none)))
+      parts.1.0 (omega arith) (omega (arith, inside))
+      (jump_behind c (state (i + 1) stack folds) (i + 1 + size y) (j + 1) stack folds types.Bool by (code_runs (i + 1) b y my types.Bool p.right_is sy second.0 (omega (arith, inside)) stack folds (omega (arith, room))) second.1.0 (omega arith) (omega (arith, inside)))
+      (push_bool c j stack folds (omega (arith, room, some_need y)) false second.1.1.0)))
+  code_runs k a (Or x y) m t h accs at inside stack folds room =
       let p = logic_types q around x y t h in
-      let i = k + size x in
+      let ux = unless_tested (tested x) (size x) in
+      let i = k + ux in
       let j = i + 1 + 1 + 1 in
       let end = j + size y in
       let b = a + aggregates x in
       let sx = serves_left c around s a (accumulators_of x) (accumulators_of y) accs in
       let sy = serves_right c around s a x (accumulators_of y) accs in
       let cy = code q j b y in
-      let parts = split_code q c.code k a x (choice (i + 1) (instr.PushBool true ∷ []) 1 cy (size y)) at in
+      let parts = split_test q c.code k a x (choice (jump_unless (test_of q x)) (i + 1) (instr.PushBool true ∷ []) 1 cy (size y)) at in
+      let mx : (around ≡ InColumn → ⊥) → numbers_fit x ≡ true = λ n. (and_parts (numbers_fit x) (numbers_fit y) (m n)).0 in
+      let my : (around ≡ InColumn → ⊥) → numbers_fit y ≡ true = λ n. (and_parts (numbers_fit x) (numbers_fit y) (m n)).1 in
       let by = value b y in
       let yes' = Some (Truth' true) in
-      let over : end ≡ k + (size x + size y + 3) = omega arith in
-      at_place c (state k stack folds) end (k + (size x + size y + 3)) stack folds t (chosen (value a x) yes' by) over
+      let over : end ≡ k + (ux + size y + 3) = omega arith in
+      at_place c (state k stack folds) end (k + (ux + size y + 3)) stack folds t (chosen (value a x) yes' by) over
       (at_type c (state k stack folds) end stack folds types.Bool t (chosen (value a x) yes' by) p.is
-      (bind c (state k stack folds) i stack folds types.Bool (λ o. topped end stack folds types.Bool (chosen o yes' by)) refl (value a x)
-      (code_runs k a x types.Bool p.left_is sx parts.0 (omega (arith, inside)) stack folds (omega (arith, room)))
-      (λ v e. choose c i j stack folds end types.Bool yes' by v (has_value types.Bool (value a x) v (value_has c q around s serves a x types.Bool p.left_is sx) e) parts.1.0 (omega arith) (omega (arith, inside, some_size y))
+      (tested_runs k a x (tested x) refl i j end types.Bool yes' by stack folds refl p.left_is mx (value_has c q around s serves a x types.Bool p.left_is sx)
+      (λ none. code_runs k a x mx types.Bool p.left_is sx (parts.0 none) (omega (arith, inside, ap (λ v. unless_tested v (size x)) none)) stack folds (omega (arith, room, ap (λ v. unless_tested v (need x)) none)))
+      parts.1.0 (omega arith) (omega (arith, inside, some_size y))
       (jump_behind c (state (i + 1) stack folds) (i + 1 + 1) end stack folds types.Bool yes' (push_bool c (i + 1) stack folds (omega (arith, room, some_need y)) true parts.1.1.0) parts.1.1.1.0 (omega (arith, some_size y)) (omega (arith, inside)))
-      (code_runs j b y types.Bool p.right_is sy parts.1.1.1.1 (omega (arith, inside)) stack folds (omega (arith, room))))))
+      (code_runs j b y my types.Bool p.right_is sy parts.1.1.1.1 (omega (arith, inside)) stack folds (omega (arith, room)))))

@@ -102,6 +102,6 @@ module _ (q : Query) (b : Costs) where
       let r = ranges_of_pane p vs in
       let l = length-columns q 0 0 q.columns in
       whole_section p Fire r (not (columns_fit q q.columns && condition_fits q q.having)) (some_columns q 0 0 q.columns)
-      (columns_ends (entry p) firing q (reads_fire q b (known_accumulators q.records 0 p.header.kinds vs)) 0 0 q.columns (entry p) [] h hh
+      (columns_ends (entry p) firing q (reads_fire q b (known_accumulators q.records 0 p.header.kinds vs)) 0 0 q.columns (entry p) [] refl h hh
       (subst (λ accs. Accs firing q 0 accs) accs_are (accs_known ha fit (all_values q b ha low fit))) room (omega (arith, l)) refl
       (ap (λ zs. Truth ∷ zs) (sym (nil_right (reverse (map column_known (map (column_type q) q.columns)))))) refl)

@@ -3,27 +3,28 @@
 use Rattle.std.proofs.Common.{◌≡◌, ℕ, suc, ◌≤◌, Bool, true, false, ◌&&◌, not, cond, List, [], ◌∷◌, ◌++◌, length, ℤ, Option, Some, None, refl, arith}
 use Rattle.std.specs.Prelude.{◌+ℤ◌, filter, filter_map, is_none, nat_eq, nat_lt, int_le, int_lt, unsigned_abs}
 use Rattle.std.specs.Option.{IfSome}
-use Rattle.std.specs.List.{AllByRecursion, cons_option, list_all, list_any}
+use Rattle.std.specs.List.{AllByRecursion, cons_option, last_or, list_any}
 use Rattle.std.proofs.lemmas.Bool.{and_from, eqb-true, and_parts}
 use Rattle.wsm_record.specs.declared.event.Value.{Value}
 use Rattle.wsm_record.specs.declared.words.Mode.{Mode}
-use Rattle.wsm_record.specs.declared.words.Mode.TheVariants.{Discarding, Accumulating}
+use Rattle.wsm_record.specs.declared.words.Mode.TheVariants.{Discarding, Accumulating, Retracting}
 use Rattle.wsm_record.specs.Event.{Event, Record, Watermark}
 use Rattle.wsm_record.specs.Schema.{fit_fields}
 use Rattle.wsm_windows.specs.declared.window.PaneKind.{PaneKind}
 use Rattle.wsm_windows.specs.declared.window.PaneKind.TheVariants.{Early, OnTime, Late, Final}
 use Rattle.wsm_windows.specs.Life.{is_due}
-use Rattle.wsm_windows.specs.Windows.{has_inside}
 use Rattle.wsm_windows.specs.declared.place.Place.{Place}
 use Rattle.wsm_windows.specs.Places.{place_cmp, window_of}
 use Rattle.wsm_windows.proofs.Places.{places_exact}
 use Rattle.wsm_admission.specs.declared.verdict.Refusal.{Refusal}
 use Rattle.wsm_admission.specs.Clock.{admitted_count}
 use Rattle.wsm_admission.proofs.Taken.{taken_record, admitted_count-le}
-use Rattle.wsm_semantics.specs.Query.{Query as Meant, Datum, mark, verdict_on, is_taken, selection_of, selected}
-use Rattle.wsm_semantics.specs.Panes.{is_there, contents, places, with_contents, panes}
+use Rattle.wsm_semantics.specs.Query.{Query as Meant, Datum, mark, verdict_on, selection_of, selected}
+use Rattle.wsm_semantics.specs.Panes.{is_there, stands_in, contents, places, with_contents, panes, held}
 use Rattle.wsm_semantics.specs.Firings.{Firing, firing_set, is_enough, kind_on_record, kind_on_watermark, firing_of, fire, is_shown, firings, firings_so_far}
-use Rattle.wsm_semantics.specs.Relation.{candidates, greatest_of, standing, is_within}
+use Rattle.wsm_semantics.specs.Replay.{datum}
+use Rattle.wsm_semantics.specs.Retractions.{standing_for, withdrawn}
+use Rattle.wsm_semantics.specs.StandingFirings.{candidates, greatest_of, holds_all, standing}
 use Rattle.wsm_semantics.proofs.SelectedRecords.{selected_count}
 use Rattle.wsm_semantics.proofs.Lists.{filter-all, put-all}
 use Rattle.wsm_machine.proofs.SoundFirings.{enough_some}
@@ -54,9 +55,6 @@ all_each P Q f (x ∷ xs) h = (f x h.0, all_each P Q f xs h.1)
 at_least : (n : ℕ) → nat_lt 0 n ≡ true → 1 ≤ n
 at_least n h = grind arith
 
-abbrev pub datum : List Event → ℕ → ℤ → List Value → Datum
-datum past key time values = record { turn = length past; key = key; time = time; values = values }
-
 module _ (m : Meant) where
   -- a declared key, and values that fit
   abbrev pub Fits : Datum → Type 0
@@ -82,12 +80,12 @@ module _ (m : Meant) where
   one_fits (Record None time values) past = tt
   one_fits (Record (Some key) time values) past = pick (verdict_on m past (Record (Some key) time values)) refl
     where
-      pick : (v : Option Refusal) → verdict_on m past (Record (Some key) time values) ≡ v → AllByRecursion Fits (cond (is_none v && m.selects key values) (datum past key time values ∷ []) [])
+      pick : (v : Option Refusal) → verdict_on m past (Record (Some key) time values) ≡ v → AllByRecursion Fits (cond (is_none v && m.selects key values) (datum (length past) (mark m past) key time values ∷ []) [])
       pick None h =
           let fits = taken_fits past key time values h in
-          elim (m.selects key values) as (λ b. AllByRecursion Fits (cond b (datum past key time values ∷ []) [])) [ true ↦ (fits, tt) | false ↦ tt ]
+          elim (m.selects key values) as (λ b. AllByRecursion Fits (cond b (datum (length past) (mark m past) key time values ∷ []) [])) [ true ↦ (fits, tt) | false ↦ tt ]
       pick (Some r) h = tt
-  one_fits (Watermark time) past = tt
+  one_fits (Watermark source time) past = tt
 
   all_fit : (past : List Event) → AllByRecursion Fits (selected m past)
   all_fit [] = tt
@@ -101,12 +99,12 @@ module _ (m : Meant) where
     few : length ds ≤ unsigned_abs m.clock.records
     each : AllByRecursion Fits ds
 
-  keys_there : (p : Place) (ds : List Datum) → AllByRecursion (λ d. d.key ≡ p.key) (filter (is_there p) ds)
+  keys_there : (p : Place) (ds : List Datum) → AllByRecursion (λ d. d.key ≡ p.key) (filter (is_there m p) ds)
   keys_there p [] = tt
-  keys_there p (d ∷ ds) = by_test (is_there p d) refl (keys_there p ds)
+  keys_there p (d ∷ ds) = by_test (is_there m p d) refl (keys_there p ds)
     where
-      by_test : (b : Bool) → is_there p d ≡ b → AllByRecursion (λ d. d.key ≡ p.key) (filter (is_there p) ds) → AllByRecursion (λ d. d.key ≡ p.key) (cond b (d ∷ filter (is_there p) ds) (filter (is_there p) ds))
-      by_test true h rest = (eqb-true d.key p.key (and_parts (nat_eq d.key p.key) (has_inside d.time (window_of p)) h).0, rest)
+      by_test : (b : Bool) → is_there m p d ≡ b → AllByRecursion (λ d. d.key ≡ p.key) (filter (is_there m p) ds) → AllByRecursion (λ d. d.key ≡ p.key) (cond b (d ∷ filter (is_there m p) ds) (filter (is_there m p) ds))
+      by_test true h rest = (eqb-true d.key p.key (and_parts (nat_eq d.key p.key) (stands_in m.shape m.clock.lateness (window_of p) d) h).0, rest)
       by_test false h rest = rest
 
   at_most : (a b c d : ℕ) → a ≤ b → b ≤ c → c ≤ d → a ≤ d
@@ -115,8 +113,8 @@ module _ (m : Meant) where
   contents_are : (past : List Event) (p : Place) → AreOf p (contents m past p)
   contents_are past p = record {
     same = keys_there p (selected m past);
-    few = at_most (length (contents m past p)) (length (selected m past)) (admitted_count m.clock m.declared past) (unsigned_abs m.clock.records) (length-filter (is_there p) (selected m past)) (selected_count m past) (admitted_count-le m.clock m.declared past);
-    each = filter-all Fits (is_there p) (selected m past) (all_fit past);
+    few = at_most (length (contents m past p)) (length (selected m past)) (admitted_count m.clock m.declared past) (unsigned_abs m.clock.records) (length-filter (is_there m p) (selected m past)) (selected_count m past) (admitted_count-le m.clock m.declared past);
+    each = filter-all Fits (is_there m p) (selected m past) (all_fit past);
   }
 
   abbrev IsPaneOf : Place × List Datum → Type 0
@@ -143,10 +141,12 @@ module _ (m : Meant) where
   -- all records of a pane, or those that weren't shown
   set_of : (mode : Mode) (p : Place) (t : Datum → Bool) (all : List Datum) → AreOf p all → 1 ≤ length (firing_set mode all (filter t all)) → IsFiringSet p.key (firing_set mode all (filter t all))
   set_of Accumulating p t all h some = record { same = h.same; some = some; few = h.few; each = h.each }
+  set_of Retracting p t all h some = record { same = h.same; some = some; few = h.few; each = h.each }
   set_of Discarding p t all h some = let f = part_of p t all h in record { same = f.same; some = some; few = f.few; each = f.each }
 
   some_unshown : (mode : Mode) (t : Datum → Bool) (all : List Datum) → 1 ≤ length (filter t all) → 1 ≤ length (firing_set mode all (filter t all))
   some_unshown Accumulating t all h = let l = length-filter t all in omega (arith, l, h)
+  some_unshown Retracting t all h = let l = length-filter t all in omega (arith, l, h)
   some_unshown Discarding t all h = h
 
   chosen : (b : Bool) (k : PaneKind) (x : PaneKind) → cond b (Some k) None ≡ Some x → b ≡ true
@@ -167,9 +167,9 @@ module _ (m : Meant) where
       by_test true e h = at_least set (and_parts due (nat_lt 0 set) e).1
       by_test false e h = more (at_least unshown (and_parts final (nat_lt 0 unshown) (chosen (final && nat_lt 0 unshown) Final k h)).1)
 
-  fired : (p : Place) (all set : List Datum) (o : Option PaneKind) → ((k : PaneKind) → o ≡ Some k → IsFiringSet p.key set) → IfSome (firing_of p all set o) IsOfSet
-  fired p all set None h = tt
-  fired p all set (Some k) h = h k refl
+  fired : (turn : ℕ) (p : Place) (all set : List Datum) (o : Option PaneKind) → ((k : PaneKind) → o ≡ Some k → IsFiringSet p.key set) → IfSome (firing_of turn p all set o) IsOfSet
+  fired turn p all set None h = tt
+  fired turn p all set (Some k) h = h k refl
 
   given : (b : Bool) (o : Option Firing) → IfSome o IsOfSet → IfSome (cond b o None) IsOfSet
   given true o h = h
@@ -181,17 +181,18 @@ module _ (m : Meant) where
       let unshown = filter t all in
       let kind = kind_on_record m (mark m past) p.end (length unshown) in
       let set = firing_set m.mode all unshown in
-      given (list_any (λ d. nat_eq d.turn (length past)) all) (firing_of p all set kind)
-      (fired p all set kind (λ k is. set_of m.mode p t all h (some_unshown m.mode t all (on_record (mark m past) p.end (length unshown) k is))))
-  one_fires shown past (Watermark time) p all h =
+      given (list_any (λ d. nat_eq d.turn (length past)) all) (firing_of (length past) p all set kind)
+      (fired (length past) p all set kind (λ k is. set_of m.mode p t all h (some_unshown m.mode t all (on_record (mark m past) p.end (length unshown) k is))))
+  one_fires shown past (Watermark source time) p all h =
+      let old = mark m past in
+      let new = mark m (Watermark source time ∷ past) in
       let t : Datum → Bool = λ d. not (shown d) in
       let unshown = filter t all in
       let set = firing_set m.mode all unshown in
-      let kind = kind_on_watermark m (mark m past) time p (length set) (length unshown) in
+      let kind = kind_on_watermark m old new p (length set) (length unshown) in
       let end = p.end +ℤ m.clock.lateness in
-      given (is_taken m past (Watermark time)) (firing_of p all set kind)
-      (fired p all set kind
-      (λ k is. set_of m.mode p t all h (on_watermark (is_due (window_of p) (mark m past) time) (int_lt (mark m past) end && int_le end time) (length set) (length unshown) k is (some_unshown m.mode t all))))
+      fired (length past) p all set kind
+      (λ k is. set_of m.mode p t all h (on_watermark (is_due (window_of p) old new) (int_lt old end && int_le end new) (length set) (length unshown) k is (some_unshown m.mode t all)))
 
   pub firings_of_sets : (past : List Event) (e : Event) → AllByRecursion IsOfSet (firings m past e)
   firings_of_sets past e =
@@ -203,13 +204,22 @@ module _ (m : Meant) where
   so_far_of_sets (e ∷ past) = all_joined IsOfSet (firings_so_far m past) (firings m past e) (so_far_of_sets past) (firings_of_sets past e)
 
   -- the firing that stands for a place is one of them
-  greatest_is : (all fs : List Firing) → AllByRecursion IsOfSet fs → IfSome (greatest_of all fs) IsOfSet
-  greatest_is all [] h = tt
-  greatest_is all (f ∷ fs) h = by_test (list_all (λ g. is_within g.contents f.contents) all) (greatest_is all fs h.1)
-    where
-      by_test : (b : Bool) → IfSome (greatest_of all fs) IsOfSet → IfSome (cond b (Some f) (greatest_of all fs)) IsOfSet
-      by_test true rest = h.0
-      by_test false rest = rest
+  last_is : (o : Option Firing) (fs : List Firing) → IfSome o IsOfSet → AllByRecursion IsOfSet fs → IfSome (last_or o fs) IsOfSet
+  last_is o [] h l = h
+  last_is o (f ∷ fs) h l = last_is (Some f) fs l.0 l.1
+
+  greatest_is : (fs : List Firing) → AllByRecursion IsOfSet fs → IfSome (greatest_of fs) IsOfSet
+  greatest_is fs h = last_is None (filter (holds_all fs) fs) tt (filter-all IsOfSet (holds_all fs) fs h)
 
   pub standing_of_set : (fs : List Firing) (p : Place) (all : List Datum) → AllByRecursion IsOfSet fs → IfSome (standing m fs p all) IsOfSet
-  standing_of_set fs p all h = let cs = candidates m p all fs in greatest_is cs cs (filter-all IsOfSet _ fs h)
+  standing_of_set fs p all h = greatest_is (candidates m p all fs) (filter-all IsOfSet _ fs h)
+
+  standing_of_sets : (fs : List Firing) → AllByRecursion IsOfSet fs → (ps : List (Place × List Datum)) → AllByRecursion (λ p. IfSome (standing m fs p.0 p.1) IsOfSet) ps
+  standing_of_sets fs h [] = tt
+  standing_of_sets fs h (p ∷ ps) = (standing_of_set fs p.0 p.1 h, standing_of_sets fs h ps)
+
+  -- and so is each that is withdrawn
+  pub withdrawn_of_sets : (past : List Event) (e : Event) → AllByRecursion IsOfSet (withdrawn m past e)
+  withdrawn_of_sets past e =
+      let fs = firings_so_far m past in
+      filter-all IsOfSet _ (standing_for m past (held m past)) (all_found IsOfSet (λ p. standing m fs p.0 p.1) (held m past) (standing_of_sets fs (so_far_of_sets past) (held m past)))

@@ -1,6 +1,6 @@
 -- What UPDATE folds into each accumulator, where it has no fault: one value, of its operand's range.
 use Rattle.std.proofs.Common.{◌≡◌, ℕ, suc, ◌+◌, ◌≤◌, ◌<◌, Bool, true, false, ◌&&◌, not, cond, List, [], ◌∷◌, ◌++◌, length, Option, Some, None, refl, sym, ap, subst, ◌∙◌, arith, length-append}
-use Rattle.std.specs.Prelude.{ℤ, ◌*ℤ◌, max, nat_eq}
+use Rattle.std.specs.Prelude.{ℤ, ◌*ℤ◌, max, nat_eq, option_map}
 use Rattle.std.specs.List.{list_all}
 use Rattle.std.specs.Int.{int_min, int_max}
 use Rattle.std.proofs.lemmas.Bool.{and_parts}
@@ -10,6 +10,7 @@ use Rattle.wsm_interval.specs.declared.interval.Interval.{Interval}
 use Rattle.wsm_interval.specs.Interval.{interval}
 use Rattle.wsm_record.specs.Schema.{is_i64}
 use Rattle.wsm_program.specs.declared.instr.Instr.{Instr}
+use Rattle.wsm_program.specs.declared.instr.FieldTest.{FieldTest}
 use Rattle.wsm_program.specs.declared.instr.Instr.TheVariants as instr
 use Rattle.wsm_program.specs.declared.operation.Operation.TheVariants as operation
 use Rattle.wsm_program.specs.declared.program.Costs.{Costs}
@@ -18,12 +19,13 @@ use Rattle.wsm_query.specs.declared.expr.Op.TheVariants.{Add, Sub, Mul, Div, Rem
 use Rattle.wsm_query.specs.Tree.{Query, Expr, Number, Truth, Field, EnumName, Key, KeyName, Count, Aggregate, If, Brackets, Minus, Not, Binary, And, Or}
 use Rattle.wsm_record.specs.Types.{kind_type}
 use Rattle.wsm_check.specs.declared.types.Around.TheVariants.{InAggregate}
+use Rattle.wsm_check.specs.Tested.{Tested, tested, unless_tested}
 use Rattle.wsm_check.specs.Sizes.{Acc, accumulators, accumulators_of, aggregates, size, need, folds_size, need_of_folds}
 use Rattle.wsm_verifier.specs.declared.known.Known.{Known}
 use Rattle.wsm_verifier.specs.declared.known.Known.TheVariants as known
 use Rattle.wsm_verifier.specs.Labels.{State, Ranges, Label, Reached, Visit, visit, visit_of}
-use Rattle.wsm_verifier.specs.Rules.{entry, ranges_of_record, hull_options, last_number, value_folded, values_folded, update_visits}
-use Rattle.wsm_compiler.specs.Code.{code, choice, instruction, folds, update_section}
+use Rattle.wsm_verifier.specs.Rules.{entry, known_fields, ranges_of_record, hull_options, last_number, value_folded, values_folded, update_visits}
+use Rattle.wsm_compiler.specs.Code.{code, choice, instruction, field_test, test_code, jump_unless, folds, update_section}
 use Rattle.wsm_compiler.specs.Ranges.{Range, Unfit, NoNumber, Within, of_aggregate, range, fits}
 use Rattle.wsm_compiler.specs.Program.{program_stating}
 use Rattle.wsm_compiler.proofs.Visits.{extended, added, added_append, visits_are}
@@ -33,7 +35,7 @@ use Rattle.wsm_compiler.proofs.Tests.{with_known, pushed_on}
 use Rattle.wsm_compiler.proofs.Sizes.{length-code, some_code}
 use Rattle.wsm_compiler.proofs.Found.{found}
 use Rattle.wsm_compiler.proofs.FoundRanges.{suits, known_of}
-use Rattle.wsm_compiler.proofs.ExpressionRanges.{range_suits, found_is}
+use Rattle.wsm_compiler.proofs.ExpressionRanges.{range_suits, found_here}
 use Rattle.wsm_compiler.proofs.CodeLabels.{labelled}
 use Rattle.wsm_compiler.proofs.KnownFields.{reads_update}
 use Rattle.wsm_compiler.proofs.UpdateFaults.{folded_so, set_next, unset, takes, if_takes, updating, behind_fold, fold_one, acc_fits, accs_fit, AccsTyped, KindsAt, no_accs, some_folds, some_folds_size, length-folds, entry_is, all_kinds}
@@ -89,13 +91,26 @@ op_folds_none Le = refl
 op_folds_none Gt = refl
 op_folds_none Ge = refl
 
+-- neither the code of a test nor the jump of a choice folds
+test_folds_none : (t : Option Tested) (is : List Instr) → list_all not_fold is ≡ true → list_all not_fold (test_code t is) ≡ true
+test_folds_none None is h = h
+test_folds_none (Some t) is h = refl
+
+jump_folds_none : (t : Option FieldTest) (n : ℕ) → not_fold (jump_unless t n) ≡ true
+jump_folds_none None n = refl
+jump_folds_none (Some t) n = refl
+
+choice_folds_none : (q : Query) (t : Option Tested) (test : List Instr) (k : ℕ) (first : List Instr) (m : ℕ) (second : List Instr) (n : ℕ) → list_all not_fold test ≡ true → list_all not_fold first ≡ true → list_all not_fold second ≡ true →
+    list_all not_fold (test_code t test ++ choice (jump_unless (option_map (field_test q) t)) k first m second n) ≡ true
+choice_folds_none q t test k first m second n h l l' =
+    all_both (test_code t test) (choice (jump_unless (option_map (field_test q) t)) k first m second n) (test_folds_none t test h)
+    (λ i. jump_folds_none (option_map (field_test q) t) (k + m + 1) i && all_both first (instr.Jump (k + m + 1 + n) ∷ second) l l' i)
+
 code_folds_none : (q : Query) (k a : ℕ) (e : Expr) → list_all not_fold (code q k a e) ≡ true
 code_folds_none q k a (If c x y) =
-    let j = k + size c + 1 in
-    let first = code q j (a + aggregates c) x in
-    let second = code q (j + size x + 1) (a + (aggregates c + aggregates x)) y in
-    all_both (code q k a c) (choice j first (size x) second (size y)) (code_folds_none q k a c)
-    (all_both first (instr.Jump (j + size x + 1 + size y) ∷ second) (code_folds_none q j (a + aggregates c) x) (code_folds_none q (j + size x + 1) (a + (aggregates c + aggregates x)) y))
+    let j = k + unless_tested (tested c) (size c) + 1 in
+    choice_folds_none q (tested c) (code q k a c) j (code q j (a + aggregates c) x) (size x) (code q (j + size x + 1) (a + (aggregates c + aggregates x)) y) (size y)
+    (code_folds_none q k a c) (code_folds_none q j (a + aggregates c) x) (code_folds_none q (j + size x + 1) (a + (aggregates c + aggregates x)) y)
 code_folds_none q k a (Brackets e) = code_folds_none q k a e
 code_folds_none q k a (Minus e) = all_both (code q k a e) (instr.Operate operation.Neg ∷ []) (code_folds_none q k a e) refl
 code_folds_none q k a (Not e) = all_both (code q k a e) (instr.Operate operation.Not ∷ []) (code_folds_none q k a e) refl
@@ -103,14 +118,11 @@ code_folds_none q k a (Binary op x y) =
     let right = code q (k + size x) (a + aggregates x) y in
     all_both (code q k a x) (right ++ instruction op ∷ []) (code_folds_none q k a x) (all_both right (instruction op ∷ []) (code_folds_none q (k + size x) (a + aggregates x) y) (ap (λ b. b && true) (op_folds_none op)))
 code_folds_none q k a (And x y) =
-    let j = k + size x + 1 in
-    let first = code q j (a + aggregates x) y in
-    all_both (code q k a x) (choice j first (size y) (instr.PushBool false ∷ []) 1) (code_folds_none q k a x)
-    (all_both first (instr.Jump (j + size y + 1 + 1) ∷ instr.PushBool false ∷ []) (code_folds_none q j (a + aggregates x) y) refl)
+    let j = k + unless_tested (tested x) (size x) + 1 in
+    choice_folds_none q (tested x) (code q k a x) j (code q j (a + aggregates x) y) (size y) (instr.PushBool false ∷ []) 1 (code_folds_none q k a x) (code_folds_none q j (a + aggregates x) y) refl
 code_folds_none q k a (Or x y) =
-    let j = k + size x + 1 in
-    let second = code q (j + 1 + 1) (a + aggregates x) y in
-    all_both (code q k a x) (choice j (instr.PushBool true ∷ []) 1 second (size y)) (code_folds_none q k a x) (code_folds_none q (j + 1 + 1) (a + aggregates x) y)
+    let j = k + unless_tested (tested x) (size x) + 1 in
+    choice_folds_none q (tested x) (code q k a x) j (instr.PushBool true ∷ []) 1 (code q (j + 1 + 1) (a + aggregates x) y) (size y) (code_folds_none q k a x) refl (code_folds_none q (j + 1 + 1) (a + aggregates x) y)
 code_folds_none q k a (Number n) = refl
 code_folds_none q k a (Truth b) = refl
 code_folds_none q k a (Field x) = refl
@@ -199,7 +211,7 @@ module _ (q : Query) (b : Costs) where
     whole = added e r vs (folds q k a (acc ∷ accs))
 
     abbrev s : State
-    s = folded_so a (suc (length accs))
+    s = folded_so q a (suc (length accs))
 
     whole_is : whole ≡ (new2 ++ v1 ∷ []) ++ added e r vs (code q k 0 x)
     whole_is = added_append e r vs (code q k 0 x) (instr.Fold a ∷ later)
@@ -227,22 +239,22 @@ module _ (q : Query) (b : Costs) where
       )
 
   folds_values : (e : State) (k a : ℕ) (accs : List Acc) (vs : List Visit) → AccsTyped q b accs → KindsAt q b a accs → need_of_folds accs ≤ 32 → k + folds_size accs ≤ (updating q b).n → accs_fit q b accs ≡ true →
-      Comes e vs k (folded_so a (length accs)) (length (folds q k a accs)) → Folded e k a accs vs
+      Comes e vs k (folded_so q a (length accs)) (length (folds q k a accs)) → Folded e k a accs vs
   folds_values e k a [] vs h kinds room more fit comes = (λ d u. refl, tt)
   folds_values e k a (acc ∷ accs) vs h kinds room more fit comes =
       let c = updating q b in
       let y = acc.operand in
       let is = code q k 0 y in
-      let st = folded_so a (suc (length accs)) in
+      let st = folded_so q a (suc (length accs)) in
       let rest = folds q (k + size y + 1) (suc a) accs in
       let f = and_parts (acc_fits q b acc) (accs_fit q b accs) fit in
       let v = value_of q.records acc.kind (range q y) (range_suits c q InAggregate y (kind_type acc.kind) h.0) f.0 in
-      let found' : found c q 0 y ≡ Some v.value = found_is c q InAggregate (reads_update q b) 0 y (kind_type acc.kind) h.0 (no_accs q b 0 (accumulators_of y)) ∙ v.is in
+      let found' : found c q st.fields 0 y ≡ Some v.value = found_here c q InAggregate (reads_update q b) st.fields refl 0 y (kind_type acc.kind) h.0 (no_accs q b 0 (accumulators_of y)) ∙ v.is in
       let lc = length-code q k 0 y in
       let la = length-append is (instr.Fold a ∷ rest) in
       let whole' : Comes e vs k st (length is + length (instr.Fold a ∷ rest)) = subst (λ m. Comes e vs k st m) la comes in
       let first : Labels e c vs k is (Some (with_known v.value st)) =
-      subst (λ o. Labels e c vs k is (pushed_on st o)) found' (labelled e c q InAggregate (reads_update q b) k 0 y (kind_type acc.kind) st h.0 (no_accs q b 0 (accumulators_of y)) (first_room (need y) _ room) (omega (arith, more, some_folds_size q b accs)) vs (shorter e vs k st (length is) (length (instr.Fold a ∷ rest)) whole')) in
+      subst (λ o. Labels e c vs k is (pushed_on st o)) found' (labelled e c q InAggregate (reads_update q b) k 0 y (kind_type acc.kind) st refl h.0 (no_accs q b 0 (accumulators_of y)) (first_room (need y) _ room) (omega (arith, more, some_folds_size q b accs)) vs (shorter e vs k st (length is) (length (instr.Fold a ∷ rest)) whole')) in
       let comes1 = continued e c vs k is (length (instr.Fold a ∷ rest)) st (with_known v.value st) (some_code q k 0 y) (omega arith) whole' first in
       let ws1' = extended e c.ranges vs is in
       let k1 = k + length is in
@@ -254,8 +266,8 @@ module _ (q : Query) (b : Costs) where
       let comes2 = continued e c ws1' k1 (instr.Fold a ∷ []) (length rest) (with_known v.value st) (behind_fold q b a st) (omega arith) (some_folds q b (k + size y + 1) (suc a) accs) comes1' second in
       let place : k1 + length (instr.Fold a ∷ []) ≡ k + size y + 1 = omega (arith, lc) in
       let ws2' = extended e c.ranges ws1' (instr.Fold a ∷ []) in
-      let comes3 : Comes e ws2' (k + size y + 1) (folded_so (suc a) (length accs)) (length rest) =
-      subst (λ fs. Comes e ws2' (k + size y + 1) (record { stack = []; folded = fs }) (length rest)) (set_next a (length accs)) (subst (λ n. Comes e ws2' n (behind_fold q b a st) (length rest)) place comes2) in
+      let comes3 : Comes e ws2' (k + size y + 1) (folded_so q (suc a) (length accs)) (length rest) =
+      subst (λ fs. Comes e ws2' (k + size y + 1) (record { stack = []; folded = fs; fields = known_fields 0 q.fields }) (length rest)) (set_next a (length accs)) (subst (λ n. Comes e ws2' n (behind_fold q b a st) (length rest)) place comes2) in
       put_together e k a acc accs vs v.value (visit_is e c.ranges (instr.Fold a) ws1' k1 (with_known v.value st) comes1.long comes1.label) v.interval
       (folds_values e (k + size y + 1) (suc a) accs ws2' h.1 kinds.1 (rest_room (need y) _ room) (omega (arith, more)) f.1 comes3)
     where

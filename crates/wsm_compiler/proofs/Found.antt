@@ -1,10 +1,11 @@
 -- What the verifier finds of an expression, by its structure: none where a place of its code has a fault.
 use Rattle.std.proofs.Common.{◌≡◌, ℕ, suc, ◌+◌, ◌<◌, Bool, true, ◌&&◌, cond, List, [], ◌∷◌, ◌++◌, length, Option, Some, None, refl, sym, ap, subst}
-use Rattle.std.specs.Prelude.{pos, ◌-ℤ◌, int_div, unsigned_abs, is_none, option_map}
+use Rattle.std.specs.Prelude.{pos, ◌-ℤ◌, int_div, unsigned_abs, is_none, option_map, slice_index_or, slice_set}
 use Rattle.std.specs.Int.{int_max}
 use Rattle.std.proofs.lemmas.Option.{same_Some}
 use Rattle.wsm_interval.specs.declared.interval.Interval.{Interval}
 use Rattle.wsm_interval.specs.Interval.{interval, around, rem_within, div, rem}
+use Rattle.wsm_program.specs.declared.instr.FieldTest.{FieldTest}
 use Rattle.wsm_program.specs.declared.instr.Instr.{Instr}
 use Rattle.wsm_program.specs.declared.instr.Instr.TheVariants as instr
 use Rattle.wsm_program.specs.declared.operation.Operation.TheVariants as operation
@@ -15,10 +16,11 @@ use Rattle.wsm_check.specs.Names.{place_of, field_place, type_of, names_of}
 use Rattle.wsm_check.specs.Sizes.{aggregates}
 use Rattle.wsm_verifier.specs.declared.known.Known.{Known}
 use Rattle.wsm_verifier.specs.declared.known.Known.TheVariants as known
-use Rattle.wsm_verifier.specs.Labels.{State, pushed, of_one, of_two}
-use Rattle.wsm_program.specs.Instructions.{may_stand}
+use Rattle.wsm_verifier.specs.Labels.{State, pushed, narrowed_known, of_one, of_two}
+use Rattle.wsm_program.specs.Instructions.{may_stand, opposite_test}
 use Rattle.wsm_verifier.specs.Rules.{Setting, types_fit, has_zero, and_then}
-use Rattle.wsm_compiler.specs.Code.{instruction}
+use Rattle.wsm_check.specs.Tested.{tested}
+use Rattle.wsm_compiler.specs.Code.{instruction, test_of}
 use Rattle.wsm_machine.proofs.FittingStacks.{no}
 use Rattle.wsm_compiler.proofs.Parts.{none≢some, Labelled, sequence}
 use Rattle.wsm_compiler.proofs.Tests.{stacked, with_known, pushed_on, acting}
@@ -29,26 +31,46 @@ head_of None = None
 head_of (Some []) = None
 head_of (Some (x ∷ xs)) = Some x
 
--- what an instruction makes of its operands
+-- what an instruction makes of its operands, and of nothing else
 abbrev pub of_instr : Setting → Instr → List Known → Option Known
-of_instr c i ops = cond (may_stand c.section i && types_fit c.kinds c.ends i ops) (head_of (pushed c.ranges i ops)) None
+of_instr c i ops = cond (may_stand c.section i && types_fit c.kinds c.ends i ops) (head_of (pushed c.ranges i (record { stack = ops; folded = []; fields = [] }))) None
 
-abbrev pub found : Setting → Query → ℕ → Expr → Option Known
-found c q a (Number n) = of_instr c (instr.PushInt n) []
-found c q a (Truth b) = of_instr c (instr.PushBool b) []
-found c q a (Field x) = of_instr c (instr.Field (field_place q.fields x)) []
-found c q a (EnumName x y) = of_instr c (instr.PushEnum (suc (field_place q.fields x)) (place_of y (names_of (type_of x q.fields)))) []
-found c q a Key = of_instr c instr.Key []
-found c q a (KeyName x) = of_instr c (instr.PushEnum 0 (place_of x q.keys)) []
-found c q a Count = of_instr c instr.Count []
-found c q a (Aggregate kind e) = of_instr c (instr.Acc a) []
-found c q a (If t x y) = and_then (λ b. hulled (found c q (a + aggregates t) x) (found c q (a + (aggregates t + aggregates x)) y)) (found c q a t)
-found c q a (Brackets e) = found c q a e
-found c q a (Minus e) = and_then (λ x. of_instr c (instr.Operate operation.Neg) (x ∷ [])) (found c q a e)
-found c q a (Not e) = and_then (λ x. of_instr c (instr.Operate operation.Not) (x ∷ [])) (found c q a e)
-found c q a (Binary op x y) = and_then (λ u. and_then (λ v. of_instr c (instruction op) (v ∷ u ∷ [])) (found c q (a + aggregates x) y)) (found c q a x)
-found c q a (And x y) = and_then (λ b. hulled (found c q (a + aggregates x) y) (Some known.Truth)) (found c q a x)
-found c q a (Or x y) = and_then (λ b. hulled (Some known.Truth) (found c q (a + aggregates x) y)) (found c q a x)
+-- what is known of a field, where it is read
+abbrev pub of_field : Setting → List Known → ℕ → Option Known
+of_field c fs f = cond (may_stand c.section (instr.Field f) && true) (Some (slice_index_or fs f known.Truth)) None
+
+-- what is known of the fields where a test is true, and where it is false
+abbrev pub known_true : Option FieldTest → List Known → List Known
+known_true None fs = fs
+known_true (Some x) fs = slice_set fs x.field (narrowed_known x (slice_index_or fs x.field known.Truth))
+
+abbrev pub known_false : Option FieldTest → List Known → List Known
+known_false None fs = fs
+known_false (Some x) fs = known_true (Some (opposite_test x)) fs
+
+-- a test that its jump makes is a truth
+abbrev pub test_found : {A : Type 0} → Option A → Option Known → Option Known
+test_found None o = o
+test_found (Some x) o = Some known.Truth
+
+-- what the verifier finds of an expression, where this is known of the fields
+abbrev pub found : Setting → Query → List Known → ℕ → Expr → Option Known
+found c q fs a (Number n) = of_instr c (instr.PushInt n) []
+found c q fs a (Truth b) = of_instr c (instr.PushBool b) []
+found c q fs a (Field x) = of_field c fs (field_place q.fields x)
+found c q fs a (EnumName x y) = of_instr c (instr.PushEnum (suc (field_place q.fields x)) (place_of y (names_of (type_of x q.fields)))) []
+found c q fs a Key = of_instr c instr.Key []
+found c q fs a (KeyName x) = of_instr c (instr.PushEnum 0 (place_of x q.keys)) []
+found c q fs a Count = of_instr c instr.Count []
+found c q fs a (Aggregate kind e) = of_instr c (instr.Acc a) []
+found c q fs a (If t x y) =
+    and_then (λ b. hulled (found c q (known_true (test_of q t) fs) (a + aggregates t) x) (found c q (known_false (test_of q t) fs) (a + (aggregates t + aggregates x)) y)) (test_found (tested t) (found c q fs a t))
+found c q fs a (Brackets e) = found c q fs a e
+found c q fs a (Minus e) = and_then (λ x. of_instr c (instr.Operate operation.Neg) (x ∷ [])) (found c q fs a e)
+found c q fs a (Not e) = and_then (λ x. of_instr c (instr.Operate operation.Not) (x ∷ [])) (found c q fs a e)
+found c q fs a (Binary op x y) = and_then (λ u. and_then (λ v. of_instr c (instruction op) (v ∷ u ∷ [])) (found c q fs (a + aggregates x) y)) (found c q fs a x)
+found c q fs a (And x y) = and_then (λ b. hulled (found c q (known_true (test_of q x) fs) (a + aggregates x) y) (Some known.Truth)) (test_found (tested x) (found c q fs a x))
+found c q fs a (Or x y) = and_then (λ b. hulled (Some known.Truth) (found c q (known_false (test_of q x) fs) (a + aggregates x) y)) (test_found (tested x) (found c q fs a x))
 
 -- ---- one instruction, with its operands on the stack
 
@@ -98,8 +120,8 @@ module _ (e : State) (c : Setting) (k : ℕ) (s : State) (room : length s.stack 
   pub push_enum : (d n : ℕ) → Makes (instr.PushEnum d n) []
   push_enum d n = acting e c k (instr.PushEnum d n) [] s true (Some (known.NameOf d)) refl refl refl refl (λ h. no h) room more
 
-  pub push_field : (f : ℕ) → Makes (instr.Field f) []
-  push_field f = acting e c k (instr.Field f) [] s true _ refl refl refl refl (λ h. no h) room more
+  pub push_field : (f : ℕ) → Labelled e c k (instr.Field f ∷ []) s (pushed_on s (of_field c s.fields f))
+  push_field f = acting e c k (instr.Field f) [] s true (Some (slice_index_or s.fields f known.Truth)) refl refl refl refl (λ h. no h) room more
 
   pub push_key : Makes instr.Key []
   push_key = acting e c k instr.Key [] s true (Some (known.NameOf 0)) refl refl refl refl (λ h. no h) room more

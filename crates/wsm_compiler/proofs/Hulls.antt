@@ -1,5 +1,5 @@
 -- What edges carry to one place, put together in any groups.
-use Rattle.std.proofs.Common.{◌≡◌, ℕ, Bool, true, false, cond, List, [], ◌∷◌, ◌++◌, refl, sym, ap, subst, ◌∙◌, arith}
+use Rattle.std.proofs.Common.{◌≡◌, ℕ, Bool, true, false, ◌&&◌, cond, List, [], ◌∷◌, ◌++◌, refl, sym, ap, subst, ◌∙◌, arith}
 use Rattle.std.proofs.lemmas.Bool.{and_from, and_parts}
 use Rattle.std.proofs.lemmas.Int.{ints, clamps}
 use Rattle.std.specs.Prelude.{ℤ, nat_eq}
@@ -8,7 +8,7 @@ use Rattle.wsm_interval.specs.declared.interval.Interval.{Interval}
 use Rattle.wsm_interval.specs.Interval.{interval, hull}
 use Rattle.wsm_verifier.specs.declared.known.Known.{Known}
 use Rattle.wsm_verifier.specs.declared.known.Known.TheVariants.{Number, Truth, NameOf}
-use Rattle.wsm_verifier.specs.Labels.{State, Label, Unreached, Differing, Reached, same_type, same_types, same_flags, agree, hull_known, hull_stacks, hull_states, label_with, hull_all}
+use Rattle.wsm_verifier.specs.Labels.{State, Label, Unreached, Differing, Reached, same_type, same_types, same_flags, agree, hull_known, hull_lists, hull_states, label_with, hull_all}
 use Rattle.wsm_semantics.proofs.Each.{itself}
 use Rattle.wsm_machine.proofs.FittingStacks.{no}
 use Rattle.wsm_machine.proofs.EdgeLabels.{flags_are}
@@ -40,12 +40,12 @@ hull_either x y = (λ i. interval (min_either x.lo y.lo i) (max_either x.hi y.hi
 hull_groups : (x y z : Interval) → hull x (hull y z) ≡ hull (hull x y) z
 hull_groups x y z = (λ i. interval (min_groups x.lo y.lo z.lo i) (max_groups x.hi y.hi z.hi i))
 
-known_self : (x : Known) → hull_known x x ≡ x
+pub known_self : (x : Known) → hull_known x x ≡ x
 known_self (Number x) = ap Number (hull_self x)
 known_self Truth = refl
 known_self (NameOf e) = refl
 
-pub stack_self : (xs : List Known) → hull_stacks xs xs ≡ xs
+pub stack_self : (xs : List Known) → hull_lists xs xs ≡ xs
 stack_self [] = refl
 stack_self (x ∷ xs) = (λ i. known_self x i ∷ stack_self xs i)
 
@@ -100,17 +100,17 @@ known_groups (Number x) (NameOf e) z h l = no h
 known_groups Truth y z h l = refl
 known_groups (NameOf d) y z h l = refl
 
-types_of_hull : (xs ys zs : List Known) → same_types xs ys ≡ true → same_types (hull_stacks xs ys) zs ≡ true → same_types ys zs ≡ true
+types_of_hull : (xs ys zs : List Known) → same_types xs ys ≡ true → same_types (hull_lists xs ys) zs ≡ true → same_types ys zs ≡ true
 types_of_hull [] [] zs h l = l
 types_of_hull [] (y ∷ ys) zs h l = no h
 types_of_hull (x ∷ xs) [] zs h l = no h
 types_of_hull (x ∷ xs) (y ∷ ys) [] h l = no l
 types_of_hull (x ∷ xs) (y ∷ ys) (z ∷ zs) h l =
     let a = and_parts (same_type x y) (same_types xs ys) h in
-    let b = and_parts (same_type (hull_known x y) z) (same_types (hull_stacks xs ys) zs) l in
+    let b = and_parts (same_type (hull_known x y) z) (same_types (hull_lists xs ys) zs) l in
     and_from (same_type y z) (same_types ys zs) (type_of_hull x y z a.0 b.0) (types_of_hull xs ys zs a.1 b.1)
 
-types_with_hull : (xs ys zs : List Known) → same_types xs ys ≡ true → same_types ys zs ≡ true → same_types xs (hull_stacks ys zs) ≡ true
+types_with_hull : (xs ys zs : List Known) → same_types xs ys ≡ true → same_types ys zs ≡ true → same_types xs (hull_lists ys zs) ≡ true
 types_with_hull [] [] zs h l = refl
 types_with_hull [] (y ∷ ys) zs h l = no h
 types_with_hull (x ∷ xs) [] zs h l = no h
@@ -118,9 +118,9 @@ types_with_hull (x ∷ xs) (y ∷ ys) [] h l = no l
 types_with_hull (x ∷ xs) (y ∷ ys) (z ∷ zs) h l =
     let a = and_parts (same_type x y) (same_types xs ys) h in
     let b = and_parts (same_type y z) (same_types ys zs) l in
-    and_from (same_type x (hull_known y z)) (same_types xs (hull_stacks ys zs)) (type_with_hull x y z a.0 b.0) (types_with_hull xs ys zs a.1 b.1)
+    and_from (same_type x (hull_known y z)) (same_types xs (hull_lists ys zs)) (type_with_hull x y z a.0 b.0) (types_with_hull xs ys zs a.1 b.1)
 
-stack_groups : (xs ys zs : List Known) → same_types xs ys ≡ true → same_types ys zs ≡ true → hull_stacks xs (hull_stacks ys zs) ≡ hull_stacks (hull_stacks xs ys) zs
+stack_groups : (xs ys zs : List Known) → same_types xs ys ≡ true → same_types ys zs ≡ true → hull_lists xs (hull_lists ys zs) ≡ hull_lists (hull_lists xs ys) zs
 stack_groups [] ys zs h l = refl
 stack_groups (x ∷ xs) [] zs h l = no h
 stack_groups (x ∷ xs) (y ∷ ys) [] h l = no l
@@ -131,24 +131,39 @@ stack_groups (x ∷ xs) (y ∷ ys) (z ∷ zs) h l =
 
 -- ---- states
 
-parts : (s t : State) → agree s t ≡ true → (same_types s.stack t.stack ≡ true) × (same_flags s.folded t.folded ≡ true)
-parts s t h = and_parts (same_types s.stack t.stack) (same_flags s.folded t.folded) h
+-- what two states that agree have in common
+record Parts (s t : State) : Type 0 where
+  stack : same_types s.stack t.stack ≡ true
+  flags : same_flags s.folded t.folded ≡ true
+  fields : same_types s.fields t.fields ≡ true
+
+parts : (s t : State) → agree s t ≡ true → Parts s t
+parts s t h =
+    let a = and_parts (same_types s.stack t.stack) (same_flags s.folded t.folded && same_types s.fields t.fields) h in
+    let b = and_parts (same_flags s.folded t.folded) (same_types s.fields t.fields) a.1 in
+    record { stack = a.0; flags = b.0; fields = b.1 }
+
+pub agreeing : (s t : State) → same_types s.stack t.stack ≡ true → same_flags s.folded t.folded ≡ true → same_types s.fields t.fields ≡ true → agree s t ≡ true
+agreeing s t h l m = and_from (same_types s.stack t.stack) (same_flags s.folded t.folded && same_types s.fields t.fields) h (and_from (same_flags s.folded t.folded) (same_types s.fields t.fields) l m)
 
 agree_of_hull : (s t u : State) → agree s t ≡ true → agree (hull_states s t) u ≡ true → agree t u ≡ true
 agree_of_hull s t u h l =
     let a = parts s t h in
     let b = parts (hull_states s t) u l in
-    let flags = subst (λ fs. same_flags fs u.folded ≡ true) (flags_are s.folded t.folded a.1) b.1 in
-    and_from (same_types t.stack u.stack) (same_flags t.folded u.folded) (types_of_hull s.stack t.stack u.stack a.0 b.0) flags
+    let flags = subst (λ fs. same_flags fs u.folded ≡ true) (flags_are s.folded t.folded a.flags) b.flags in
+    agreeing t u (types_of_hull s.stack t.stack u.stack a.stack b.stack) flags (types_of_hull s.fields t.fields u.fields a.fields b.fields)
 
 agree_with_hull : (s t u : State) → agree s t ≡ true → agree t u ≡ true → agree s (hull_states t u) ≡ true
 agree_with_hull s t u h l =
     let a = parts s t h in
     let b = parts t u l in
-    and_from (same_types s.stack (hull_stacks t.stack u.stack)) (same_flags s.folded t.folded) (types_with_hull s.stack t.stack u.stack a.0 b.0) a.1
+    agreeing s (hull_states t u) (types_with_hull s.stack t.stack u.stack a.stack b.stack) a.flags (types_with_hull s.fields t.fields u.fields a.fields b.fields)
 
 states_groups : (s t u : State) → agree s t ≡ true → agree t u ≡ true → hull_states s (hull_states t u) ≡ hull_states (hull_states s t) u
-states_groups s t u h l = ap (λ stack. record { stack = stack; folded = s.folded }) (stack_groups s.stack t.stack u.stack (parts s t h).0 (parts t u l).0)
+states_groups s t u h l =
+    let a = parts s t h in
+    let b = parts t u l in
+    (λ i. record { stack = stack_groups s.stack t.stack u.stack a.stack b.stack i; folded = s.folded; fields = stack_groups s.fields t.fields u.fields a.fields b.fields i })
 
 -- ---- one state more
 

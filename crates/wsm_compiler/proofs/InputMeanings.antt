@@ -1,7 +1,9 @@
 -- What a section reads of inputs that fit the header is what its expressions mean.
 use Rattle.std.proofs.Common.{◌≡◌, ℕ, zero, suc, ◌+◌, true, false, ◌||◌, not, cond, List, [], ◌∷◌, map, Some, None, Ok, refl, sym, ap, ◌∙◌, arith}
 use Rattle.std.specs.Prelude.{bytes_eq, slice_get}
+use Rattle.std.specs.List.{list_all}
 use Rattle.std.proofs.lemmas.Bool.{and_parts}
+use Rattle.std.proofs.lemmas.Option.{same_Some}
 use Rattle.wsm_record.specs.declared.event.Value.{Value}
 use Rattle.wsm_record.specs.declared.event.Value.TheVariants.{Int, Bool as Truth', Enum}
 use Rattle.wsm_record.specs.declared.words.Kind.{Kind}
@@ -11,6 +13,7 @@ use Rattle.wsm_fold.specs.Fold.{is_of_kind, are_of_kinds}
 use Rattle.wsm_program.specs.declared.SectionId.TheVariants.{Where, Update, Fire}
 use Rattle.wsm_program.specs.declared.program.Costs.{Costs}
 use Rattle.wsm_machine.specs.Inputs.{Inputs, is_of_field, are_of_fields}
+use Rattle.wsm_machine.specs.InRange.{is_word}
 use Rattle.wsm_machine.specs.Step.{setting}
 use Rattle.wsm_record.specs.Schema.{FieldType, DeclaredField}
 use Rattle.wsm_record.specs.Schema as field_types
@@ -24,6 +27,7 @@ use Rattle.wsm_check.specs.declared.types.Around.TheVariants.{InWhere, InColumn,
 use Rattle.wsm_check.specs.Sizes.{Acc, accumulators}
 use Rattle.wsm_compiler.specs.Meaning.{on_record, on_accumulators}
 use Rattle.wsm_compiler.specs.Program.{program_stating}
+use Rattle.wsm_compiler.specs.Bounded.{kept}
 use Rattle.wsm_compiler.specs.Runs.{of_ty, Serves, ServesAccs}
 use Rattle.wsm_compiler.specs.Sections.{record_fits, pane_fits}
 use Rattle.wsm_machine.proofs.FittingStacks.{no}
@@ -73,11 +77,22 @@ read_at (d ∷ ds) (v ∷ vs) x h l =
     next : (m : ℕ) → 1 + m ≡ suc m
     next m = omega arith
 
-pub field_read : (q : Query) (around : Around) (vs : List Value) → are_of_fields q.fields vs ≡ true → (x : Name) (t : CellType) → field_ty q around x ≡ Ok t →
-    (v : Value) × (slice_get vs (field_place q.fields x) ≡ Some v) × (of_ty t (Some v) ≡ true) × (slice_get vs (field_place q.fields x) ≡ Some v)
-field_read q around vs fit x t h =
+-- a value of 64 bits
+word_at : (vs : List Value) (f : ℕ) (v : Value) → list_all is_word vs ≡ true → slice_get vs f ≡ Some v → is_word v ≡ true
+word_at [] f v h e = none≢some e
+word_at (x ∷ vs) zero v h e = ap is_word (sym (same_Some x v e)) ∙ (and_parts (is_word x) (list_all is_word vs) h).0
+word_at (x ∷ vs) (suc f) v h e = word_at vs f v (and_parts (is_word x) (list_all is_word vs) h).1 e
+
+word_kept : (v : Value) → is_word v ≡ true → kept (Some v) ≡ Some v
+word_kept (Int n) h = ap (λ b. cond b (Some (Int n)) None) h
+word_kept (Truth' b) h = refl
+word_kept (Enum i) h = refl
+
+pub field_read : (q : Query) (around : Around) (vs : List Value) → are_of_fields q.fields vs ≡ true → list_all is_word vs ≡ true → (x : Name) (t : CellType) → field_ty q around x ≡ Ok t →
+    (v : Value) × (slice_get vs (field_place q.fields x) ≡ Some v) × (of_ty t (Some v) ≡ true) × (slice_get vs (field_place q.fields x) ≡ Some v) × (kept (Some v) ≡ Some v)
+field_read q around vs fit words x t h =
     let r = read_at q.fields vs x (declared q around x t h) fit in
-    (r.value, r.is, ap (λ u. of_ty u (Some r.value)) (sym (field_is q around x t h)) ∙ r.has (field_place q.fields x), r.is)
+    (r.value, r.is, ap (λ u. of_ty u (Some r.value)) (sym (field_is q around x t h)) ∙ r.has (field_place q.fields x), r.is, word_kept r.value (word_at vs (field_place q.fields x) r.value words r.is))
 
 -- ---- accumulators
 
@@ -114,7 +129,7 @@ held_at (x ∷ accs) (v ∷ vs) (suc j) acc h e = held_at accs vs j acc (and_par
 module _ (q : Query) (b : Costs) (d : Inputs) (fit : record_fits q d ≡ true) where
   pub serves_where : Serves (setting (program_stating q b) Where d) q InWhere (on_record d.key d.values)
   serves_where = record {
-    field = λ x t h. field_read q InWhere d.values fit x t h;
+    field = λ x t h. field_read q InWhere d.values (and_parts (are_of_fields q.fields d.values) (list_all is_word d.values) fit).0 (and_parts (are_of_fields q.fields d.values) (list_all is_word d.values) fit).1 x t h;
     fields_stand = λ f h. refl;
     key = refl;
     count = λ h. no (ap in_column h);
@@ -124,7 +139,7 @@ module _ (q : Query) (b : Costs) (d : Inputs) (fit : record_fits q d ≡ true) w
 
   pub serves_update : Serves (setting (program_stating q b) Update d) q InAggregate (on_record d.key d.values)
   serves_update = record {
-    field = λ x t h. field_read q InAggregate d.values fit x t h;
+    field = λ x t h. field_read q InAggregate d.values (and_parts (are_of_fields q.fields d.values) (list_all is_word d.values) fit).0 (and_parts (are_of_fields q.fields d.values) (list_all is_word d.values) fit).1 x t h;
     fields_stand = λ f h. refl;
     key = refl;
     count = λ h. no (ap in_column h);

@@ -1,20 +1,20 @@
 -- What reading program bytes asks holds of the program of a checked query.
-use Rattle.std.proofs.Common.{◌≡◌, ℕ, suc, ◌+◌, ◌≤◌, ◌<◌, true, ◌&&◌, not, List, [], ◌∷◌, ◌++◌, length, map, ℤ, Option, Some, None, refl, sym, ap, ◌∙◌, arith, length-append}
+use Rattle.std.proofs.Common.{◌≡◌, ℕ, suc, ◌+◌, ◌≤◌, ◌<◌, Bool, true, false, ◌&&◌, not, List, [], ◌∷◌, ◌++◌, length, map, ℤ, Option, Some, None, refl, sym, ap, ◌∙◌, arith, length-append}
 use Rattle.std.proofs.lemmas.List.Folds.{list_all-append}
-use Rattle.std.specs.Prelude.{pos, negsuc, int_le, nat_le, nat_lt}
+use Rattle.std.specs.Prelude.{pos, negsuc, int_le, nat_eq, nat_le, nat_lt}
+use Rattle.std.specs.Ordering.{int_eq}
+use Rattle.std.proofs.lemmas.Bool.Decides.{Decides-int_eq}
+use Rattle.wsm_semantics.proofs.Each.{itself}
 use Rattle.std.specs.List.{list_all, flat_map}
 use Rattle.std.proofs.lemmas.Bool.{and_from, ltb-true, and_parts, leb-true, le-leb}
-use Rattle.wsm_record.specs.declared.words.Mode.{Mode}
-use Rattle.wsm_record.specs.declared.words.Mode.TheVariants.{Discarding, Accumulating}
-use Rattle.wsm_record.specs.declared.words.Form.{Form}
-use Rattle.wsm_record.specs.declared.words.Form.TheVariants.{Panes, Istream, Dstream, Rstream}
 use Rattle.wsm_record.specs.Name.{is_name, is_among, is_between}
 use Rattle.wsm_windows.specs.declared.window.Shape.{Shape}
 use Rattle.wsm_windows.specs.declared.window.Shape.TheVariants.{Fixed, Sliding, Session}
 use Rattle.wsm_program.specs.declared.instr.Instr.{Instr}
 use Rattle.wsm_program.specs.declared.program.Costs.{Costs}
-use Rattle.wsm_program.specs.Program.{Header, is_span, is_size, is_shape, is_form_of, is_column, is_clock, is_firing, is_row, is_budget, is_header, is_instr, is_section, is_program}
-use Rattle.wsm_record.specs.Schema.{FieldType, DeclaredField, is_name_list, is_field_type, is_field_after, are_fields_after, is_schema, is_within, is_i64, is_spelt_type, is_spelt_field}
+use Rattle.wsm_program.specs.Program.{Header, is_span, is_size, is_shape, is_column, is_late_by, is_limited, is_sourced, is_clock, is_firing, is_row, is_budget, is_header, is_instr, is_section, is_program}
+use Rattle.wsm_record.specs.Modes.{may_write}
+use Rattle.wsm_record.specs.Schema.{FieldType, DeclaredField, is_name_list, is_field_type, is_field_after, are_fields_after, are_sources, is_schema, source_count, is_within, is_i64, is_spelt_type, is_spelt_field}
 use Rattle.wsm_record.specs.Schema as field_types
 use Rattle.wsm_query.specs.Tree.{Name, Query, Expr, Number, Truth, Field, EnumName, Key, KeyName, Count, Aggregate, If, Brackets, Minus, Not, Binary, And, Or}
 use Rattle.wsm_check.specs.declared.refusal.CheckFault.TheVariants.{Duplicate, Limit}
@@ -24,17 +24,17 @@ use Rattle.wsm_check.specs.Names.{has_repeats}
 use Rattle.wsm_check.specs.Types.{typed}
 use Rattle.wsm_check.specs.declared.types.Around.TheVariants.{InWhere, InColumn}
 use Rattle.wsm_check.specs.Sizes.{Acc, accumulators, accumulators_of, in_option, fired}
-use Rattle.wsm_check.specs.Checks.{unless, first, ty_refusal, fields_refusal, is_count, shape_fits, every_fits, may_emit, typed_refusal, columns_refusal}
+use Rattle.wsm_check.specs.Checks.{unless, first, ty_refusal, fields_refusal, is_count, shape_fits, lateness_fits, every_fits, typed_refusal, columns_refusal}
 use Rattle.wsm_compiler.specs.Code.{where_section, update_section, fire_section}
 use Rattle.wsm_check.specs.Spelt.{numbers_fit, IsSpelt}
 use Rattle.wsm_compiler.specs.Lawful.{IsLawful}
-use Rattle.wsm_compiler.specs.Program.{column_type, every, stated, needed_of, program_of}
+use Rattle.wsm_compiler.specs.Program.{column_type, schema_of, late_by, every, stated, needed_of, program_of}
 use Rattle.wsm_machine.proofs.FittingStacks.{no}
 use Rattle.wsm_compiler.proofs.Sized.{sizes_are_lengths}
 use Rattle.wsm_compiler.proofs.KnownFields.{in_column}
 use Rattle.wsm_compiler.proofs.Passed.{Passed, passed, unless_none}
 use Rattle.wsm_compiler.proofs.Checked.{Fine, fine}
-use Rattle.wsm_compiler.proofs.DeclaredNames.{names_listed}
+use Rattle.wsm_compiler.proofs.DeclaredNames.{names_listed, sources_listed}
 use Rattle.wsm_compiler.proofs.Operands.{condition_numbers, condition_aggregates, columns_aggregates, operands_fit, condition_fine, folds_fine, columns_fine, columns_named}
 use Rattle.wsm_compiler.proofs.Costs.{budget_is}
 use Rattle.wsm_check.proofs.ChecksInOrder.{passed_both}
@@ -88,12 +88,13 @@ fields_few names (d ∷ ds) h l =
     let rest = fields_few (names ++ d.name ∷ []) ds p.rest (omega (arith, a, room)) in
     omega (arith, a, rest)
 
-schema_is : (q : Query) → Passed q → IsSpelt q → is_schema (record { keys = q.keys; fields = q.fields }) ≡ true
+schema_is : (q : Query) → Passed q → IsSpelt q → is_schema (schema_of q) ≡ true
 unfolding is_schema
 schema_is q p s =
     let few = fields_few [] q.fields p.fields (omega arith) in
-    and_from (is_name_list q.keys) (nat_le (length q.fields) 16 && are_fields_after [] q.fields) (names_listed part.Keys q.keys p.keys s.keys)
-    (and_from (nat_le (length q.fields) 16) (are_fields_after [] q.fields) (le-leb (length q.fields) 16 (omega (arith, few))) (fields_listed [] q.fields p.fields s.fields))
+    and_from (is_name_list q.keys) (nat_le (length q.fields) 16 && (are_fields_after [] q.fields && are_sources q.sources)) (names_listed part.Keys q.keys p.keys s.keys)
+    (and_from (nat_le (length q.fields) 16) (are_fields_after [] q.fields && are_sources q.sources) (le-leb (length q.fields) 16 (omega (arith, few)))
+    (and_from (are_fields_after [] q.fields) (are_sources q.sources) (fields_listed [] q.fields p.fields s.fields) (sources_listed q.sources p.sources s.sources)))
 
 -- ---- when panes fire
 
@@ -114,12 +115,15 @@ every_is (Some (pos n)) h = let p = and_parts (int_le (pos 1) (pos n)) (int_le (
     from n = grind arith
 every_is (Some (negsuc n)) h = no h
 
-form_is : (form : Form) (mode : Mode) → may_emit form mode ≡ true → is_form_of mode form ≡ true
-form_is form Accumulating h = refl
-form_is Panes Discarding h = refl
-form_is Istream Discarding h = no h
-form_is Dstream Discarding h = no h
-form_is Rstream Discarding h = no h
+int_itself : (n : ℤ) → int_eq n n ≡ true
+int_itself n = (Decides-int_eq n n).1 refl
+
+-- lateness isn't counted from the end of a session
+late_by_is : (from_window : Bool) (shape : Shape) → lateness_fits from_window shape ≡ true → is_late_by shape (late_by from_window shape) ≡ true
+late_by_is false shape h = refl
+late_by_is true (Fixed size) h = int_itself size
+late_by_is true (Sliding size period) h = and_from (int_eq size size) (int_eq period period) (int_itself size) (int_itself period)
+late_by_is true (Session gap) h = no h
 
 -- ---- columns and accumulators
 
@@ -184,6 +188,16 @@ aggregates_counted q b (e ∷ es) =
     let rest = aggregates_counted q b es in
     omega (arith, a, l, rest)
 
+-- the numbers of a condition, and of what is folded
+expressions_fit : (q : Query) → IsSpelt q → (list_all numbers_fit (in_option q.condition) ≡ true) × (list_all numbers_fit (fired q) ≡ true)
+expressions_fit q spelt = and_parts (list_all numbers_fit (in_option q.condition)) (list_all numbers_fit (fired q)) (sym (list_all-append numbers_fit (in_option q.condition) (fired q)) ∙ spelt.numbers)
+
+pub condition_numbers_of : (q : Query) → IsSpelt q → condition_numbers q.condition ≡ true
+condition_numbers_of q spelt = condition_numbers_is q.condition (expressions_fit q spelt).0
+
+pub operands_numbers_of : (q : Query) → IsSpelt q → operands_fit (accumulators q) ≡ true
+operands_numbers_of q spelt = operands_of_all (fired q) (expressions_fit q spelt).1
+
 -- ---- the program
 
 section_is : (h : Header) (code : List Instr) → length code ≤ 1000 → list_all (is_instr h) code ≡ true → is_section h code ≡ true
@@ -198,7 +212,7 @@ module _ (q : Query) (passes : Passed q) (spelt : IsSpelt q) (b : Costs) (f : Fi
       leb-true 1 (length q.keys) (and_parts (nat_le 1 (length q.keys)) (nat_le (length q.keys) 1000) (unless_none many Limit part.Keys a.0)).0
 
   parts : (list_all numbers_fit (in_option q.condition) ≡ true) × (list_all numbers_fit (fired q) ≡ true)
-  parts = and_parts (list_all numbers_fit (in_option q.condition)) (list_all numbers_fit (fired q)) (sym (list_all-append numbers_fit (in_option q.condition) (fired q)) ∙ spelt.numbers)
+  parts = expressions_fit q spelt
 
   columns_parts : (list_all numbers_fit q.columns ≡ true) × (list_all numbers_fit (in_option q.having) ≡ true)
   columns_parts = and_parts (list_all numbers_fit q.columns) (list_all numbers_fit (in_option q.having)) (sym (list_all-append numbers_fit q.columns (in_option q.having)) ∙ parts.1)
@@ -212,9 +226,15 @@ module _ (q : Query) (passes : Passed q) (spelt : IsSpelt q) (b : Costs) (f : Fi
   firing_is : is_firing head ≡ true
   firing_is =
       let t = and_parts (every_fits q.early) (every_fits q.late) passes.triggers in
-      and_from (is_shape q.shape) (is_span (every q.early) && (is_span (every q.late) && is_form_of q.mode q.form)) (shape_is q.shape passes.shape)
-      (and_from (is_span (every q.early)) (is_span (every q.late) && is_form_of q.mode q.form) (every_is q.early t.0)
-      (and_from (is_span (every q.late)) (is_form_of q.mode q.form) (every_is q.late t.1) (form_is q.form q.mode passes.emit)))
+      and_from (is_shape q.shape) (is_span (every q.early) && (is_span (every q.late) && may_write q.mode q.form)) (shape_is q.shape passes.shape)
+      (and_from (is_span (every q.early)) (is_span (every q.late) && may_write q.mode q.form) (every_is q.early t.0)
+      (and_from (is_span (every q.late)) (may_write q.mode q.form) (every_is q.late t.1) passes.emit))
+
+  clock_is : is_clock head ≡ true
+  clock_is =
+      let late = is_late_by q.shape head.clock.late in
+      let counted = nat_eq head.clock.sources (source_count head.schema) in
+      and_from (is_limited head.clock) (is_sourced head) passes.clock (and_from late counted (late_by_is q.from_window q.shape passes.lateness) (itself (source_count head.schema)))
 
   row_is : is_row head ≡ true
   row_is =
@@ -229,7 +249,7 @@ module _ (q : Query) (passes : Passed q) (spelt : IsSpelt q) (b : Costs) (f : Fi
   unfolding is_header
   header_is budget =
       and_from (is_schema head.schema) (is_clock head && (is_firing head && (is_row head && is_budget b))) (schema_is q passes spelt)
-      (and_from (is_clock head) (is_firing head && (is_row head && is_budget b)) passes.clock
+      (and_from (is_clock head) (is_firing head && (is_row head && is_budget b)) clock_is
       (and_from (is_firing head) (is_row head && is_budget b) firing_is (and_from (is_row head) (is_budget b) row_is budget)))
 
   where_is : is_section head (where_section q) ≡ true

@@ -8,7 +8,10 @@ pub mod CodeParts
 pub mod QueryCode
 pub mod Found
 pub mod FoundRanges
+pub mod NarrowedFields
 pub mod ExpressionRanges
+pub mod TestedChoices
+pub mod TestedValues
 pub mod CodeLabels
 pub mod SectionEnds
 pub mod KnownFields

@@ -1,8 +1,9 @@
 -- The longest path of generated code is found by the structure of the query.
-use Rattle.std.proofs.Common.{◌≡◌, ℕ, zero, suc, ◌+◌, ◌-◌, ◌*◌, max, true, false, cond, List, [], ◌∷◌, ◌++◌, length, map, Option, Some, None, refl, sym, ap, ◌∙◌, arith, append_assoc, length-append}
+use Rattle.std.proofs.Common.{◌≡◌, ℕ, zero, suc, ◌+◌, ◌-◌, ◌*◌, ◌≤◌, max, true, false, cond, List, [], ◌∷◌, ◌++◌, length, map, Option, Some, None, refl, sym, ap, ◌∙◌, arith, append_assoc, length-append}
 use Rattle.std.specs.Prelude.{option_map, unwrap_or, slice_index_or}
 use Rattle.std.proofs.lemmas.Bool.{lt-ltb}
 use Rattle.std.proofs.lemmas.List.{length-map}
+use Rattle.wsm_program.specs.declared.instr.FieldTest.{FieldTest}
 use Rattle.wsm_program.specs.declared.instr.Instr.{Instr}
 use Rattle.wsm_program.specs.declared.instr.Instr.TheVariants as instr
 use Rattle.wsm_program.specs.declared.operation.Operation.TheVariants as operation
@@ -12,12 +13,13 @@ use Rattle.wsm_query.specs.declared.expr.Op.{Op}
 use Rattle.wsm_query.specs.declared.expr.Op.TheVariants.{Add, Sub, Mul, Div, Rem, Eq, Ne, Lt, Le, Gt, Ge}
 use Rattle.wsm_query.specs.Tree.{Query, Expr, Number, Truth, Field, EnumName, Key, KeyName, Count, Aggregate, If, Brackets, Minus, Not, Binary, And, Or}
 use Rattle.wsm_check.specs.Names.{place_of, field_place, type_of, names_of}
+use Rattle.wsm_check.specs.Tested.{Tested, tested, unless_tested}
 use Rattle.wsm_check.specs.Sizes.{Acc, accumulators, aggregates, size}
-use Rattle.wsm_compiler.specs.Code.{instruction, choice, code, condition_code, where_section, folds, update_section, columns_code, fire_section}
-use Rattle.wsm_compiler.specs.Longest.{longest, longest_condition, longest_where, longest_folds, longest_columns, needed_by_structure, NeededByStructure}
+use Rattle.wsm_compiler.specs.Code.{instruction, choice, test_code, jump_unless, test_of, code, condition_code, where_section, folds, update_section, columns_code, fire_section}
+use Rattle.wsm_compiler.specs.Longest.{longest, longest_condition, longest_where, longest_folds, longest_columns, needed_by_structure, NeededByStructure, untested_longest, NotLonger}
 use Rattle.wsm_machine.proofs.FittingStacks.{no}
 use Rattle.wsm_compiler.proofs.Tests.{plain, plain_next}
-use Rattle.wsm_compiler.proofs.Sizes.{length-code}
+use Rattle.wsm_compiler.proofs.Sizes.{length-code, length-test_code}
 
 -- the longest way from the q-th of some instructions, of which the first stands at place p
 abbrev at : ℕ → List Instr → ℕ → Option ℕ
@@ -81,12 +83,18 @@ jump_at k t q rest h =
     let e : suc k ≡ k + 1 = omega arith in
     ap one_more (longest_alone (way_from k (ways (suc k) rest) t) ∙ over_edge k t q rest (omega (arith, h)) ∙ ap (λ n. at n rest q) e) ∙ one_is (at (k + 1) rest q)
 
-test_at : (k t q : ℕ) (rest : List Instr) (m n : ℕ) (o : Option ℕ) → t ≡ k + 1 + q → at (k + 1) rest 0 ≡ plus m o → at (k + 1) rest q ≡ plus n o → at k (instr.JumpIfFalse t ∷ rest) 0 ≡ plus (1 + max m n) o
-test_at k t q rest m n o h first second =
+-- to the next place or to a target
+branch_at : (k t q : ℕ) (rest : List Instr) (m n : ℕ) (o : Option ℕ) → t ≡ k + 1 + q → at (k + 1) rest 0 ≡ plus m o → at (k + 1) rest q ≡ plus n o →
+    one_more (longest_of (map (way_from k (ways (suc k) rest)) (suc k ∷ t ∷ []))) ≡ plus (1 + max m n) o
+branch_at k t q rest m n o h first second =
     let e : suc k ≡ k + 1 = omega arith in
     let f : suc k ≡ suc k + 0 = omega arith in
     ap one_more ((λ i. longer (over_edge k (suc k) 0 rest f i) (longer (over_edge k t q rest (omega (arith, h)) i) None)) ∙ (λ i. longer (at (e i) rest 0) (longer (at (e i) rest q) None)) ∙ (λ i. longer (first i) (longer (second i) None)) ∙ longer_plus m n o)
     ∙ one_is (plus (max m n) o) ∙ plus_plus 1 (max m n) o
+
+test_at : (x : Option FieldTest) (k t q : ℕ) (rest : List Instr) (m n : ℕ) (o : Option ℕ) → t ≡ k + 1 + q → at (k + 1) rest 0 ≡ plus m o → at (k + 1) rest q ≡ plus n o → at k (jump_unless x t ∷ rest) 0 ≡ plus (1 + max m n) o
+test_at None k t q rest m n o h first second = branch_at k t q rest m n o h first second
+test_at (Some x) k t q rest m n o h first second = branch_at k t q rest m n o h first second
 
 -- some instructions take at most n steps to the place behind them
 abbrev Takes : ℕ → List Instr → ℕ → Type 0
@@ -101,8 +109,17 @@ sequence_takes k is js j m n h first second rest =
     let e : j + length js ≡ k + length (is ++ js) = omega (arith, l, h) in
     ap (λ xs. at k xs 0) (append_assoc is js rest) ∙ first (js ++ rest) ∙ ap (λ p. plus m (at p (js ++ rest) 0)) (sym h) ∙ ap (plus m) (second rest) ∙ plus_plus m n (at (j + length js) rest 0) ∙ ap (λ p. plus (m + n) (at p rest 0)) e
 
-choice_takes : (i m n : ℕ) (first second : List Instr) (f g : ℕ) → length first ≡ m → length second ≡ n → Takes (i + 1) first f → Takes (i + 1 + m + 1) second g → Takes i (choice (i + 1) first m second n) (1 + max (f + 1) g)
-choice_takes i m n first second f g hm hn takes_first takes_second rest =
+-- the code of a test, where there is some
+test_takes : {A : Type 0} (o : Option A) (k : ℕ) (is : List Instr) (n : ℕ) → Takes k is n → Takes k (test_code o is) (unless_tested o n)
+test_takes None k is n h rest = h rest
+test_takes (Some t) k is n h rest = let e : k ≡ k + 0 = omega arith in sym (plus_none (at k rest 0)) ∙ ap (λ p. plus 0 (at p rest 0)) e
+  where
+    plus_none : (o : Option ℕ) → plus 0 o ≡ o
+    plus_none None = refl
+    plus_none (Some n) = let e : 0 + n ≡ n = omega arith in ap Some e
+
+choice_takes : (x : Option FieldTest) (i m n : ℕ) (first second : List Instr) (f g : ℕ) → length first ≡ m → length second ≡ n → Takes (i + 1) first f → Takes (i + 1 + m + 1) second g → Takes i (choice (jump_unless x) (i + 1) first m second n) (1 + max (f + 1) g)
+choice_takes x i m n first second f g hm hn takes_first takes_second rest =
     let p = i + 1 + m + 1 in
     let end = p + n in
     let jump = instr.Jump end in
@@ -111,7 +128,7 @@ choice_takes i m n first second f g hm hn takes_first takes_second rest =
     let la = length-append first (jump ∷ second) in
     let lb = length-append first (jump ∷ []) in
     let grouped : (first ++ jump ∷ second) ++ rest ≡ behind = append_assoc first (jump ∷ second) rest in
-    let over : i + length (choice (i + 1) first m second n) ≡ end = omega (arith, la, hm, hn) in
+    let over : i + length (choice (jump_unless x) (i + 1) first m second n) ≡ end = omega (arith, la, hm, hn) in
     let at_jump : i + 1 + length first ≡ i + 1 + m = omega (arith, hm) in
     let by_jump : at (i + 1 + m) (jump ∷ (second ++ rest)) 0 ≡ plus 1 o =
     jump_at (i + 1 + m) end n (second ++ rest) refl ∙ ap (plus 1) (at_behind p second rest n 0 (omega (arith, hn)) ∙ ap (λ r. at r rest 0) (ap (λ r. p + r) hn)) in
@@ -123,8 +140,8 @@ choice_takes i m n first second f g hm hn takes_first takes_second rest =
     ∙ at_behind (i + 1) (first ++ jump ∷ []) (second ++ rest) (m + 1) 0 (omega (arith, lb, hm))
     ∙ ap (λ r. at r (second ++ rest) 0) target ∙ takes_second rest ∙ ap (λ r. plus g (at (p + r) rest 0)) hn in
     let jumps : p ≡ i + 1 + (m + 1) = omega arith in
-    ap (λ xs. at i (instr.JumpIfFalse p ∷ xs) 0) grouped
-    ∙ test_at i p (m + 1) behind (f + 1) g o jumps by_first by_second
+    ap (λ xs. at i (jump_unless x p ∷ xs) 0) grouped
+    ∙ test_at x i p (m + 1) behind (f + 1) g o jumps by_first by_second
     ∙ ap (λ r. plus (1 + max (f + 1) g) (at r rest 0)) (sym over)
 
 op_plain : (op : Op) → plain (instruction op) ≡ true
@@ -143,15 +160,20 @@ op_plain Ge = refl
 behind_code : (q : Query) (k a : ℕ) (e : Expr) → k + size e ≡ k + length (code q k a e)
 behind_code q k a e = ap (λ n. k + n) (sym (length-code q k a e))
 
+behind_test : (q : Query) (k a : ℕ) (e : Expr) → k + unless_tested (tested e) (size e) ≡ k + length (test_code (tested e) (code q k a e))
+behind_test q k a e = ap (λ n. k + n) (sym (length-test_code (tested e) (code q k a e) (size e) (length-code q k a e)))
+
 -- the code of an expression
 pub code_takes : (q : Query) (k a : ℕ) (e : Expr) → Takes k (code q k a e) (longest e)
 code_takes q k a (If c x y) =
-    let i = k + size c in
+    let i = k + unless_tested (tested c) (size c) in
     let ax = a + aggregates c in
     let ay = a + (aggregates c + aggregates x) in
     let j = i + 1 + size x + 1 in
-    sequence_takes k (code q k a c) (choice (i + 1) (code q (i + 1) ax x) (size x) (code q j ay y) (size y)) i (longest c) (1 + max (longest x + 1) (longest y)) (behind_code q k a c) (code_takes q k a c)
-    (choice_takes i (size x) (size y) (code q (i + 1) ax x) (code q j ay y) (longest x) (longest y) (length-code q (i + 1) ax x) (length-code q j ay y) (code_takes q (i + 1) ax x) (code_takes q j ay y))
+    let o = test_of q c in
+    sequence_takes k (test_code (tested c) (code q k a c)) (choice (jump_unless o) (i + 1) (code q (i + 1) ax x) (size x) (code q j ay y) (size y)) i (unless_tested (tested c) (longest c)) (1 + max (longest x + 1) (longest y)) (behind_test q k a c)
+    (test_takes (tested c) k (code q k a c) (longest c) (code_takes q k a c))
+    (choice_takes o i (size x) (size y) (code q (i + 1) ax x) (code q j ay y) (longest x) (longest y) (length-code q (i + 1) ax x) (length-code q j ay y) (code_takes q (i + 1) ax x) (code_takes q j ay y))
 code_takes q k a (Brackets e) = code_takes q k a e
 code_takes q k a (Minus e) = sequence_takes k (code q k a e) (instr.Operate operation.Neg ∷ []) (k + size e) (longest e) 1 (behind_code q k a e) (code_takes q k a e) (plain_takes (k + size e) (instr.Operate operation.Neg) refl)
 code_takes q k a (Not e) = sequence_takes k (code q k a e) (instr.Operate operation.Not ∷ []) (k + size e) (longest e) 1 (behind_code q k a e) (code_takes q k a e) (plain_takes (k + size e) (instr.Operate operation.Not) refl)
@@ -161,16 +183,20 @@ code_takes q k a (Binary op x y) =
     sequence_takes k (code q k a x) (code q i b y ++ instruction op ∷ []) i (longest x) (longest y + 1) (behind_code q k a x) (code_takes q k a x)
     (sequence_takes i (code q i b y) (instruction op ∷ []) (i + size y) (longest y) 1 (behind_code q i b y) (code_takes q i b y) (plain_takes (i + size y) (instruction op) (op_plain op)))
 code_takes q k a (And x y) =
-    let i = k + size x in
+    let i = k + unless_tested (tested x) (size x) in
     let b = a + aggregates x in
-    sequence_takes k (code q k a x) (choice (i + 1) (code q (i + 1) b y) (size y) (instr.PushBool false ∷ []) 1) i (longest x) (1 + max (longest y + 1) 1) (behind_code q k a x) (code_takes q k a x)
-    (choice_takes i (size y) 1 (code q (i + 1) b y) (instr.PushBool false ∷ []) (longest y) 1 (length-code q (i + 1) b y) refl (code_takes q (i + 1) b y) (plain_takes (i + 1 + size y + 1) (instr.PushBool false) refl))
+    let o = test_of q x in
+    sequence_takes k (test_code (tested x) (code q k a x)) (choice (jump_unless o) (i + 1) (code q (i + 1) b y) (size y) (instr.PushBool false ∷ []) 1) i (unless_tested (tested x) (longest x)) (1 + max (longest y + 1) 1) (behind_test q k a x)
+    (test_takes (tested x) k (code q k a x) (longest x) (code_takes q k a x))
+    (choice_takes o i (size y) 1 (code q (i + 1) b y) (instr.PushBool false ∷ []) (longest y) 1 (length-code q (i + 1) b y) refl (code_takes q (i + 1) b y) (plain_takes (i + 1 + size y + 1) (instr.PushBool false) refl))
 code_takes q k a (Or x y) =
-    let i = k + size x in
+    let i = k + unless_tested (tested x) (size x) in
     let b = a + aggregates x in
     let j = i + 1 + 1 + 1 in
-    sequence_takes k (code q k a x) (choice (i + 1) (instr.PushBool true ∷ []) 1 (code q j b y) (size y)) i (longest x) (1 + max (1 + 1) (longest y)) (behind_code q k a x) (code_takes q k a x)
-    (choice_takes i 1 (size y) (instr.PushBool true ∷ []) (code q j b y) 1 (longest y) refl (length-code q j b y) (plain_takes (i + 1) (instr.PushBool true) refl) (code_takes q j b y))
+    let o = test_of q x in
+    sequence_takes k (test_code (tested x) (code q k a x)) (choice (jump_unless o) (i + 1) (instr.PushBool true ∷ []) 1 (code q j b y) (size y)) i (unless_tested (tested x) (longest x)) (1 + max (1 + 1) (longest y)) (behind_test q k a x)
+    (test_takes (tested x) k (code q k a x) (longest x) (code_takes q k a x))
+    (choice_takes o i 1 (size y) (instr.PushBool true ∷ []) (code q j b y) 1 (longest y) refl (length-code q j b y) (plain_takes (i + 1) (instr.PushBool true) refl) (code_takes q j b y))
 code_takes q k a (Number n) = plain_takes k (instr.PushInt n) refl
 code_takes q k a (Truth b) = plain_takes k (instr.PushBool b) refl
 code_takes q k a (Field x) = plain_takes k (instr.Field (field_place q.fields x)) refl
@@ -232,3 +258,37 @@ needed_is q =
       per_pane = fire_longest q i;
       held = (needed_by_structure q).held;
     })
+
+-- ---- tests make no path longer
+
+test_shorter : (t : Option Tested) (l m : ℕ) → l ≤ m → unless_tested t l ≤ m
+test_shorter None l m h = h
+test_shorter (Some t) l m h = omega arith
+
+if_shorter : (l m n c x y : ℕ) → l ≤ c → m ≤ x → n ≤ y → l + (1 + max (m + 1) n) ≤ c + (1 + max (x + 1) y)
+if_shorter l m n c x y h i j = omega (arith, h, i, j)
+
+and_shorter : (m n x y : ℕ) → m ≤ x → n ≤ y → m + (1 + max (n + 1) 1) ≤ x + (1 + max (y + 1) 1)
+and_shorter m n x y h i = omega (arith, h, i)
+
+or_shorter : (m n x y : ℕ) → m ≤ x → n ≤ y → m + (1 + max (1 + 1) n) ≤ x + (1 + max (1 + 1) y)
+or_shorter m n x y h i = omega (arith, h, i)
+
+pub not_longer : (e : Expr) → NotLonger e
+not_longer (If c x y) =
+    if_shorter (unless_tested (tested c) (longest c)) (longest x) (longest y) (untested_longest c) (untested_longest x) (untested_longest y)
+    (test_shorter (tested c) (longest c) (untested_longest c) (not_longer c)) (not_longer x) (not_longer y)
+not_longer (Brackets e) = not_longer e
+not_longer (Minus e) = let h = not_longer e in omega (arith, h)
+not_longer (Not e) = let h = not_longer e in omega (arith, h)
+not_longer (Binary op x y) = let h = not_longer x in let l = not_longer y in omega (arith, h, l)
+not_longer (And x y) = and_shorter (unless_tested (tested x) (longest x)) (longest y) (untested_longest x) (untested_longest y) (test_shorter (tested x) (longest x) (untested_longest x) (not_longer x)) (not_longer y)
+not_longer (Or x y) = or_shorter (unless_tested (tested x) (longest x)) (longest y) (untested_longest x) (untested_longest y) (test_shorter (tested x) (longest x) (untested_longest x) (not_longer x)) (not_longer y)
+not_longer (Number n) = omega arith
+not_longer (Truth b) = omega arith
+not_longer (Field x) = omega arith
+not_longer (EnumName x y) = omega arith
+not_longer Key = omega arith
+not_longer (KeyName x) = omega arith
+not_longer Count = omega arith
+not_longer (Aggregate kind e) = omega arith

@@ -1,7 +1,8 @@
 -- The operands of generated code name what the program has.
-use Rattle.std.proofs.Common.{◌≡◌, ℕ, suc, ◌+◌, ◌≤◌, ◌<◌, Bool, true, false, ◌&&◌, List, [], ◌∷◌, ◌++◌, length, map, Option, Some, None, Ok, refl, ap, subst, ◌∙◌, arith}
+use Rattle.std.proofs.Common.{◌≡◌, ℕ, suc, ◌+◌, ◌≤◌, ◌<◌, Bool, true, false, ◌&&◌, List, [], ◌∷◌, ◌++◌, length, map, Option, Some, None, Ok, refl, sym, cond, ap, subst, ◌∙◌, arith}
 use Rattle.std.proofs.lemmas.List.Folds.{list_all-append}
-use Rattle.std.specs.Prelude.{is_some}
+use Rattle.std.specs.Prelude.{ℤ, neg_ℤ, is_some, nat_lt, option_map, slice_get}
+use Rattle.std.proofs.lemmas.Option.{same_Some}
 use Rattle.std.specs.List.{list_all}
 use Rattle.std.proofs.lemmas.Bool.{and_from, lt-ltb, and_parts}
 use Rattle.wsm_record.specs.declared.words.Kind.{Kind}
@@ -11,10 +12,10 @@ use Rattle.wsm_program.specs.declared.instr.Instr.{Instr}
 use Rattle.wsm_program.specs.declared.instr.Instr.TheVariants as instr
 use Rattle.wsm_program.specs.declared.operation.Operation.TheVariants as operation
 use Rattle.wsm_program.specs.declared.program.Costs.{Costs}
-use Rattle.wsm_program.specs.Program.{Header, is_name_of, is_column, is_instr}
+use Rattle.wsm_program.specs.Program.{Header, is_name_of, is_column, is_number_type, is_number_field, is_test, is_instr}
 use Rattle.wsm_query.specs.declared.expr.Op.{Op}
 use Rattle.wsm_query.specs.declared.expr.Op.TheVariants.{Add, Sub, Mul, Div, Rem, Eq, Ne, Lt, Le, Gt, Ge}
-use Rattle.wsm_record.specs.Schema.{FieldType, names_of_type}
+use Rattle.wsm_record.specs.Schema.{FieldType, names_of_type, is_i64}
 use Rattle.wsm_record.specs.Schema as field_types
 use Rattle.wsm_query.specs.Tree.{Name, Query, Expr, Number, Truth, Field, EnumName, Key, KeyName, Count, Aggregate, If, Brackets, Minus, Not, Binary, And, Or}
 use Rattle.wsm_check.specs.Names.{field_names, field_place, type_of, names_of, place_of}
@@ -25,17 +26,20 @@ use Rattle.wsm_check.specs.Types.{wanted, if_typed, declared_ty, op_ty, typed}
 use Rattle.wsm_check.specs.declared.types.Around.{Around}
 use Rattle.wsm_check.specs.declared.types.Around.TheVariants.{InColumn, InAggregate}
 use Rattle.wsm_check.specs.Sizes.{Acc, aggregates, size, condition_size, folds_size, columns_size}
-use Rattle.wsm_compiler.specs.Code.{code, choice, instruction, condition_code, folds, columns_code}
+use Rattle.wsm_compiler.specs.Code.{code, choice, field_test, test_code, jump_unless, instruction, condition_code, folds, columns_code}
+use Rattle.wsm_check.specs.Tested.{Tested, comparison_of, field_alone, plain_number, negative, number_alone, tested, unless_tested}
 use Rattle.wsm_check.specs.Spelt.{numbers_fit}
 use Rattle.wsm_check.specs.Parts.{type_or_int}
 use Rattle.wsm_compiler.specs.Program.{column_type, program_stating}
 use Rattle.wsm_machine.proofs.FittingStacks.{no}
 use Rattle.wsm_compiler.proofs.FoundRanges.{ok_is, result_of}
-use Rattle.wsm_compiler.proofs.ExpressionRanges.{cond_ok, field_is, entered_is, op_is, two_types, if_types, logic_types, unary_is}
-use Rattle.wsm_compiler.proofs.KnownFields.{declared, in_column, of_cond}
+use Rattle.wsm_compiler.proofs.ExpressionRanges.{cond_ok, field_is, entered_is, op_is, two_types, if_types, logic_types, unary_is, tested_int}
+use Rattle.wsm_compiler.proofs.NarrowedFields.{tested_parts, of_cond}
+use Rattle.wsm_compiler.proofs.Parts.{none≢some}
+use Rattle.wsm_compiler.proofs.KnownFields.{declared, in_column}
 use Rattle.wsm_compiler.proofs.Conditions.{ConditionTyped, ColumnsTyped}
 use Rattle.wsm_compiler.proofs.UpdateFaults.{AccsTyped}
-use Rattle.wsm_compiler.proofs.DeclaredNames.{place_below, field_below, names_there, name_there}
+use Rattle.wsm_compiler.proofs.DeclaredNames.{place_below, field_below, names_there, number_there, name_there}
 
 abbrev pub condition_numbers : Option Expr → Bool
 condition_numbers None = true
@@ -47,6 +51,56 @@ condition_aggregates (Some e) = aggregates e
 
 abbrev pub operands_fit : List Acc → Bool
 operands_fit accs = list_all (λ acc. numbers_fit acc.operand) accs
+
+-- ---- tests
+
+negative_number : (o : Option ℤ) (n : ℤ) → negative o ≡ Some n → is_i64 n ≡ true
+negative_number None n h = none≢some h
+negative_number (Some m) n h =
+    elim (is_i64 (neg_ℤ m)) as (λ b. is_i64 (neg_ℤ m) ≡ b → cond b (Some (neg_ℤ m)) None ≡ Some n → is_i64 n ≡ true) [
+      | true ↦ λ e h. ap is_i64 (sym (same_Some (neg_ℤ m) n h)) ∙ e
+      | false ↦ λ e h. none≢some h
+    ] refl h
+
+number_fine : (e : Expr) (n : ℤ) → number_alone e ≡ Some n → numbers_fit e ≡ true → is_i64 n ≡ true
+number_fine (Number m) n h l = ap is_i64 (sym (same_Some m n h)) ∙ l
+number_fine (Brackets e) n h l = number_fine e n h l
+number_fine (Minus e) n h l = negative_number (plain_number e) n h
+number_fine (Field x) n h l = none≢some h
+number_fine (Truth b) n h l = none≢some h
+number_fine (EnumName y z) n h l = none≢some h
+number_fine Key n h l = none≢some h
+number_fine (KeyName y) n h l = none≢some h
+number_fine Count n h l = none≢some h
+number_fine (Aggregate kind e) n h l = none≢some h
+number_fine (If b y z) n h l = none≢some h
+number_fine (Not e) n h l = none≢some h
+number_fine (Binary op y z) n h l = none≢some h
+number_fine (And y z) n h l = none≢some h
+number_fine (Or y z) n h l = none≢some h
+
+tested_number : (e : Expr) (t : Tested) → tested e ≡ Some t → numbers_fit e ≡ true → is_i64 t.number ≡ true
+tested_number (Brackets e) t h l = tested_number e t h l
+tested_number (Binary op x y) t h l =
+    number_fine y t.number (tested_parts (comparison_of op) (field_alone x) (number_alone y) t h).number (and_parts (numbers_fit x) (numbers_fit y) l).1
+tested_number (Number m) t h l = none≢some h
+tested_number (Truth b) t h l = none≢some h
+tested_number (Field x) t h l = none≢some h
+tested_number (EnumName y z) t h l = none≢some h
+tested_number Key t h l = none≢some h
+tested_number (KeyName y) t h l = none≢some h
+tested_number Count t h l = none≢some h
+tested_number (Aggregate kind e) t h l = none≢some h
+tested_number (If b y z) t h l = none≢some h
+tested_number (Minus e) t h l = none≢some h
+tested_number (Not e) t h l = none≢some h
+tested_number (And y z) t h l = none≢some h
+tested_number (Or y z) t h l = none≢some h
+
+number_type : (f : ℕ) (ty : FieldType) → declared_ty f ty ≡ types.Int → is_number_type ty ≡ true
+number_type f (field_types.Int lo hi) h = refl
+number_type f field_types.Truth h = ap (is_type types.Int) h
+number_type f (field_types.Enum names) h = ap (is_type types.Int) h
 
 module _ (q : Query) (b : Costs) where
   abbrev pub head : Header
@@ -150,12 +204,27 @@ module _ (q : Query) (b : Costs) where
   op_fine Gt = refl
   op_fine Ge = refl
 
-  choice_fine : (k : ℕ) (first : List Instr) (m : ℕ) (second : List Instr) (n : ℕ) → AllFine first → AllFine second → k + m + 1 + n < 65536 → AllFine (choice k first m second n)
-  choice_fine k first m second n h l room =
-      let j1 = instr.JumpIfFalse (k + m + 1) in
+  choice_fine : (jump : ℕ → Instr) (k : ℕ) (first : List Instr) (m : ℕ) (second : List Instr) (n : ℕ) → is_instr head (jump (k + m + 1)) ≡ true → AllFine first → AllFine second → k + m + 1 + n < 65536 → AllFine (choice jump k first m second n)
+  choice_fine jump k first m second n j h l room =
       let j2 = instr.Jump (k + m + 1 + n) in
-      and_from (is_instr head j1) (list_all (is_instr head) (first ++ j2 ∷ second)) (lt-ltb (k + m + 1) 65536 (omega (arith, room)))
+      and_from (is_instr head (jump (k + m + 1))) (list_all (is_instr head) (first ++ j2 ∷ second)) j
       (fine_both first (j2 ∷ second) h (and_from (is_instr head j2) (list_all (is_instr head) second) (lt-ltb (k + m + 1 + n) 65536 room) l))
+
+  -- a field that a test names is one of numbers, and the test's number has 64 bits
+  test_fine : (around : Around) (e : Expr) → typed q around e ≡ Ok types.Bool → numbers_fit e ≡ true → (t : Tested) → tested e ≡ Some t → is_test head (field_test q t) ≡ true
+  test_fine around e h l t is =
+      let ty = tested_int q around e types.Bool t is h in
+      and_from (is_number_field (slice_get q.fields (field_place q.fields t.field))) (is_i64 t.number)
+      (number_there q.fields t.field (declared q around t.field types.Int ty) ∙ number_type (field_place q.fields t.field) (type_of t.field q.fields) (field_is q around t.field types.Int ty))
+      (tested_number e t is l)
+
+  -- a test and the parts behind it
+  tested_fine : (w : Option Tested) (is : List Instr) (k : ℕ) (first : List Instr) (m : ℕ) (second : List Instr) (n : ℕ) → ((t : Tested) → w ≡ Some t → is_test head (field_test q t) ≡ true) → (w ≡ None → AllFine is) →
+      AllFine first → AllFine second → k + m + 1 + n < 65536 → AllFine (test_code w is ++ choice (jump_unless (option_map (field_test q) w)) k first m second n)
+  tested_fine None is k first m second n named test h l room =
+      fine_both is (choice instr.JumpIfFalse k first m second n) (test refl) (choice_fine instr.JumpIfFalse k first m second n (lt-ltb (k + m + 1) 65536 (omega (arith, room))) h l room)
+  tested_fine (Some t) is k first m second n named test h l room =
+      choice_fine (instr.Test (field_test q t)) k first m second n (and_from (is_test head (field_test q t)) (nat_lt (k + m + 1) 65536) (named t refl) (lt-ltb (k + m + 1) 65536 (omega (arith, room)))) h l room
 
   -- in a column there is an accumulator for each aggregate
   abbrev Room : Around → ℕ → Expr → Type 0
@@ -181,14 +250,13 @@ module _ (q : Query) (b : Costs) where
       let p = if_types q around c x y t h in
       let f = and_parts (numbers_fit c) (numbers_fit x && numbers_fit y) l in
       let g = and_parts (numbers_fit x) (numbers_fit y) f.1 in
-      let j = k + size c + 1 in
+      let j = k + unless_tested (tested c) (size c) + 1 in
       let d = a + (aggregates c + aggregates x) in
-      fine_both (code q k a c) (choice j (code q j (a + aggregates c) x) (size x) (code q (j + size x + 1) d y) (size y))
-      (code_fine around k a c types.Bool p.test_is f.0 (λ e. let n = accs e in omega (arith, n)) (omega (arith, room)))
-      (choice_fine j (code q j (a + aggregates c) x) (size x) (code q (j + size x + 1) d y) (size y)
+      tested_fine (tested c) (code q k a c) j (code q j (a + aggregates c) x) (size x) (code q (j + size x + 1) d y) (size y) (test_fine around c p.test_is f.0)
+      (λ none. code_fine around k a c types.Bool p.test_is f.0 (λ e. let n = accs e in omega (arith, n)) (omega (arith, room, ap (λ v. unless_tested v (size c)) none)))
       (code_fine around j (a + aggregates c) x t p.first_is g.0 (λ e. let n = accs e in omega (arith, n)) (omega (arith, room)))
       (code_fine around (j + size x + 1) d y t p.second_is g.1 (λ e. let n = accs e in omega (arith, n)) (omega (arith, room)))
-      (omega (arith, room)))
+      (omega (arith, room))
   code_fine around k a (Brackets e) t h l accs room = code_fine around k a e t h l accs room
   code_fine around k a (Minus e) t h l accs room =
       fine_both (code q k a e) (instr.Operate operation.Neg ∷ []) (code_fine around k a e types.Int (unary_is q around e types.Int t h).0 l accs (omega (arith, room))) refl
@@ -204,17 +272,19 @@ module _ (q : Query) (b : Costs) where
   code_fine around k a (And x y) t h l accs room =
       let p = logic_types q around x y t h in
       let f = and_parts (numbers_fit x) (numbers_fit y) l in
-      let j = k + size x + 1 in
+      let j = k + unless_tested (tested x) (size x) + 1 in
       let first = code q j (a + aggregates x) y in
-      fine_both (code q k a x) (choice j first (size y) (instr.PushBool false ∷ []) 1) (code_fine around k a x types.Bool p.left_is f.0 (λ e. let n = accs e in omega (arith, n)) (omega (arith, room)))
-      (choice_fine j first (size y) (instr.PushBool false ∷ []) 1 (code_fine around j (a + aggregates x) y types.Bool p.right_is f.1 (λ e. let n = accs e in omega (arith, n)) (omega (arith, room))) refl (omega (arith, room)))
+      tested_fine (tested x) (code q k a x) j first (size y) (instr.PushBool false ∷ []) 1 (test_fine around x p.left_is f.0)
+      (λ none. code_fine around k a x types.Bool p.left_is f.0 (λ e. let n = accs e in omega (arith, n)) (omega (arith, room, ap (λ v. unless_tested v (size x)) none)))
+      (code_fine around j (a + aggregates x) y types.Bool p.right_is f.1 (λ e. let n = accs e in omega (arith, n)) (omega (arith, room))) refl (omega (arith, room))
   code_fine around k a (Or x y) t h l accs room =
       let p = logic_types q around x y t h in
       let f = and_parts (numbers_fit x) (numbers_fit y) l in
-      let j = k + size x + 1 in
+      let j = k + unless_tested (tested x) (size x) + 1 in
       let second = code q (j + 1 + 1) (a + aggregates x) y in
-      fine_both (code q k a x) (choice j (instr.PushBool true ∷ []) 1 second (size y)) (code_fine around k a x types.Bool p.left_is f.0 (λ e. let n = accs e in omega (arith, n)) (omega (arith, room)))
-      (choice_fine j (instr.PushBool true ∷ []) 1 second (size y) refl (code_fine around (j + 1 + 1) (a + aggregates x) y types.Bool p.right_is f.1 (λ e. let n = accs e in omega (arith, n)) (omega (arith, room))) (omega (arith, room)))
+      tested_fine (tested x) (code q k a x) j (instr.PushBool true ∷ []) 1 second (size y) (test_fine around x p.left_is f.0)
+      (λ none. code_fine around k a x types.Bool p.left_is f.0 (λ e. let n = accs e in omega (arith, n)) (omega (arith, room, ap (λ v. unless_tested v (size x)) none)))
+      refl (code_fine around (j + 1 + 1) (a + aggregates x) y types.Bool p.right_is f.1 (λ e. let n = accs e in omega (arith, n)) (omega (arith, room))) (omega (arith, room))
 
   -- ---- sections
 

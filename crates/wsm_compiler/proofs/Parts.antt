@@ -5,7 +5,7 @@ use Rattle.std.specs.List.{cons_option, list_any}
 use Rattle.std.proofs.Math.Bool.{or-false}
 use Rattle.wsm_program.specs.declared.Instr.{Instr}
 use Rattle.wsm_program.specs.Instructions.{next}
-use Rattle.wsm_verifier.specs.Labels.{State, Ranges, Label, Reached, Visit, after, carried_to, hull_all, gathered, label_of, visit, visit_of}
+use Rattle.wsm_verifier.specs.Labels.{State, Ranges, Label, Reached, Visit, after, along, carried_to, hull_all, gathered, label_of, visit, visit_of}
 use Rattle.wsm_verifier.specs.Rules.{Setting, fault_of, fault_at, and_then}
 use Rattle.wsm_compiler.proofs.Visits.{nil_right, both_empty, extended, added, extended_is, added_append, length-extended, carries, carries_append, label_gathered, faults, faults_append, or_true}
 use Rattle.wsm_machine.proofs.FittingStacks.{no}
@@ -102,19 +102,25 @@ next_place k = let a : nat_lt k (k + 1) ≡ true = grind arith in let b : nat_eq
 not_far : (k q : ℕ) → k + 1 < q → (nat_lt k q && list_any (nat_eq q) (suc k ∷ [])) ≡ false
 not_far k q h = let a : nat_lt k q ≡ true = grind arith in let b : nat_eq q (suc k) ≡ false = grind arith in (λ i. a i && (b i || false))
 
-pub one : (e : State) (c : Setting) (k : ℕ) (i : Instr) (s : State) (o : Option State) → next i k ≡ suc k ∷ [] → is_some (fault_of c k i (Reached s)) ≡ is_none o →
+same_along : (i : Instr) (p q : ℕ) → ((s : State) → along i p q s ≡ s) → (o : Option State) → option_map (along i p q) o ≡ o
+same_along i p q h None = refl
+same_along i p q h (Some s) = ap Some (h s)
+
+pub one : (e : State) (c : Setting) (k : ℕ) (i : Instr) (s : State) (o : Option State) → next i k ≡ suc k ∷ [] → ((p q : ℕ) (s : State) → along i p q s ≡ s) → is_some (fault_of c k i (Reached s)) ≡ is_none o →
     ((t : State) → o ≡ Some t → after c.ranges i s ≡ Some t) → Labelled e c k (i ∷ []) s o
-one e c k i s o there fault goes vs at =
+one e c k i s o there keeps fault goes vs at =
     let v = visit c.ranges k i (Reached s) in
+    let left = λ (q : ℕ). option_map (along i k q) (after c.ranges i s) in
+    let same_left = λ (q : ℕ). same_along i k q (keeps k q) (after c.ranges i s) in
     let same = visit_is e c.ranges i vs k s at.long at.label in
     record {
       faulty = ap (λ w. faults c (w ∷ [])) same ∙ fault_is c k i (Reached s) ∙ fault;
       gives = λ t h.
           let edge : carried_to (k + 1) v ≡ Some t =
-          ap (λ ns. cond (nat_lt k (k + 1) && list_any (nat_eq (k + 1)) ns) (after c.ranges i s) None) there ∙ ap (λ b. cond b (after c.ranges i s) None) (next_place k) ∙ goes t h in
+          ap (λ ns. cond (nat_lt k (k + 1) && list_any (nat_eq (k + 1)) ns) (left (k + 1)) None) there ∙ ap (λ b. cond b (left (k + 1)) None) (next_place k) ∙ same_left (k + 1) ∙ goes t h in
           ap (λ w. hull_all (carries (k + 1) (w ∷ []))) same ∙ ap (λ x. hull_all (cons_option x [])) edge;
       quiet = λ t h q l.
           let none : carried_to q v ≡ None =
-          ap (λ ns. cond (nat_lt k q && list_any (nat_eq q) ns) (after c.ranges i s) None) there ∙ ap (λ b. cond b (after c.ranges i s) None) (not_far k q l) in
+          ap (λ ns. cond (nat_lt k q && list_any (nat_eq q) ns) (left q) None) there ∙ ap (λ b. cond b (left q) None) (not_far k q l) in
           ap (λ w. carries q (w ∷ [])) same ∙ ap (λ x. cons_option x []) none;
     }

@@ -1,15 +1,15 @@
 -- Queries that select the same of the records in range, and have the same rows over panes in range, have the same lines for every input.
 use Rattle.std.proofs.Common.{◌≡◌, ℕ, suc, ◌+◌, ◌≤◌, Bool, true, false, ◌&&◌, ◌||◌, cond, List, [], ◌∷◌, ◌++◌, length, map, ℤ, Option, Some, None, Ok, Err, refl, sym, ap, subst, ◌∙◌, arith}
 use Rattle.std.proofs.lemmas.Int.{ints}
-use Rattle.std.specs.Prelude.{pos, negsuc, ◌≤ℤ◌, filter, filter_map, flat_map, is_none, nat_lt, option_map, option_and_then, unsigned_abs}
+use Rattle.std.specs.Prelude.{pos, negsuc, ◌≤ℤ◌, filter, filter_map, flat_map, is_none, nat_lt, not, option_map, option_and_then, unsigned_abs}
 use Rattle.std.specs.Option.{IfSome}
 use Rattle.std.specs.List.{AllByRecursion, cons_option, list_all, list_any}
 use Rattle.std.specs.FinMap.Entries.{where_key}
 use Rattle.std.proofs.lemmas.Bool.{and_from, and_parts}
 use Rattle.wsm_record.specs.declared.event.Value.{Value}
 use Rattle.wsm_record.specs.declared.cell.Cell.{Cell}
-use Rattle.wsm_record.specs.declared.words.Form.{Form}
-use Rattle.wsm_record.specs.declared.words.Form.TheVariants as form
+use Rattle.wsm_record.specs.declared.words.Mode.{Mode}
+use Rattle.wsm_record.specs.declared.words.Mode.TheVariants.{Discarding, Accumulating, Retracting}
 use Rattle.wsm_record.specs.Event.{Event, Record, Watermark}
 use Rattle.wsm_record.specs.Schema.{fit_fields}
 use Rattle.wsm_windows.specs.declared.place.Place.{Place}
@@ -17,11 +17,14 @@ use Rattle.wsm_windows.specs.Places.{place_cmp, at, window_of}
 use Rattle.wsm_admission.specs.declared.verdict.Refusal.{Refusal}
 use Rattle.wsm_admission.specs.Clock.{admitted_count, late_count, refused_count}
 use Rattle.wsm_admission.specs.Admission.{counter}
-use Rattle.wsm_semantics.specs.declared.out_row.OutRow.TheVariants.{Pane, Istream, Dstream, Rstream}
-use Rattle.wsm_semantics.specs.Query.{Query as Meant, Datum, mark, verdict_on, is_taken, selection_of, selected}
+use Rattle.wsm_semantics.specs.declared.out_row.OutRow.TheVariants.{Pane}
+use Rattle.wsm_semantics.specs.Query.{Query as Meant, Datum, mark, raises, verdict_on, selection_of, selected}
 use Rattle.wsm_semantics.specs.Panes.{windows_among, is_there, is_live_at, with_contents, panes, held}
 use Rattle.wsm_semantics.specs.Firings.{Firing, holds, shows, fire, firings_by, is_shown, firings, firings_so_far, row_of, pane_rows}
-use Rattle.wsm_semantics.specs.Relation.{standing, sorted_rows, difference, relation_at, relation, rows_of}
+use Rattle.wsm_semantics.specs.Relation.{sorted_rows, relation_at, relation, stream_rows, chosen_rows, streamed, turn_rows}
+use Rattle.wsm_semantics.specs.Replay.{datum}
+use Rattle.wsm_semantics.specs.Retractions.{standing_for, panes_before_drops, is_same, withdrawn, written_of, retracted, retract_rows}
+use Rattle.wsm_semantics.specs.StandingFirings.{standing}
 use Rattle.wsm_semantics.specs.Lines.{Row, Out, End, events, refusal_lines, turn_lines, lines_so_far, fault_count, end_line, all_lines}
 use Rattle.wsm_machine.specs.Meaning.{query_of}
 use Rattle.wsm_query.specs.Tree.{Query}
@@ -36,7 +39,7 @@ use Rattle.wsm_machine.proofs.FittingStacks.{no}
 use Rattle.wsm_compiler.proofs.Accepted.{accepted_exactly}
 use Rattle.wsm_compiler.proofs.Texts.{parsed_is_spelt}
 use Rattle.wsm_compiler.proofs.Passed.{passed}
-use Rattle.wsm_compiler.proofs.FiringSets.{datum, IsFiringSet, IsOfSet, taken_fits, firings_of_sets, so_far_of_sets, standing_of_set}
+use Rattle.wsm_compiler.proofs.FiringSets.{IsFiringSet, IsOfSet, taken_fits, firings_of_sets, so_far_of_sets, standing_of_set, withdrawn_of_sets}
 use Rattle.wsm_compiler.proofs.TotalPanes.{stands_for_meant}
 
 found_same : {A B : Type 0} (f g : A → Option B) (xs : List A) → AllByRecursion (λ x. f x ≡ g x) xs → filter_map f xs ≡ filter_map g xs
@@ -63,17 +66,17 @@ module _ (m : Meant) (sel : ℕ → List Value → Bool) (row : ℕ → List Dat
     selection_same past (Record (Some key) time values) = pick (verdict_on m past (Record (Some key) time values)) refl
       where
         pick : (v : Option Refusal) → verdict_on m past (Record (Some key) time values) ≡ v →
-            cond (is_none v && m.selects key values) (datum past key time values ∷ []) [] ≡ cond (is_none v && sel key values) (datum past key time values ∷ []) []
-        pick None h = ap (λ b. cond b (datum past key time values ∷ []) []) (agree.selects key values (taken_fits m past key time values h))
+            cond (is_none v && m.selects key values) (datum (length past) (mark m past) key time values ∷ []) [] ≡ cond (is_none v && sel key values) (datum (length past) (mark m past) key time values ∷ []) []
+        pick None h = ap (λ b. cond b (datum (length past) (mark m past) key time values ∷ []) []) (agree.selects key values (taken_fits m past key time values h))
         pick (Some r) h = refl
-    selection_same past (Watermark time) = refl
+    selection_same past (Watermark source time) = refl
 
     selected_same : (past : List Event) → selected m past ≡ selected other past
     selected_same [] = refl
     selected_same (e ∷ past) = (λ i. selection_same past e i ++ selected_same past i)
 
     panes_same : (past : List Event) → panes m past ≡ panes other past
-    panes_same past = ap (λ ds. with_contents (λ p. filter (is_there p) ds) (flat_map (λ d. map (at d.key) (windows_among m.shape ds d)) ds)) (selected_same past)
+    panes_same past = ap (λ ds. with_contents (λ p. filter (is_there m p) ds) (flat_map (λ d. map (at d.key) (windows_among m.shape m.clock.lateness ds d)) ds)) (selected_same past)
 
     held_same : (past : List Event) → held m past ≡ held other past
     held_same past = ap (where_key place_cmp (is_live_at m (mark m past))) (panes_same past)
@@ -82,7 +85,7 @@ module _ (m : Meant) (sel : ℕ → List Value → Bool) (row : ℕ → List Dat
 
     fire_same : (shown : Datum → Bool) (past : List Event) (e : Event) (p : Place) (all : List Datum) → fire shown m past e p all ≡ fire shown other past e p all
     fire_same shown past (Record key time values) p all = refl
-    fire_same shown past (Watermark time) p all = refl
+    fire_same shown past (Watermark source time) p all = refl
 
     by_same : (shown also : Place → Datum → Bool) → shown ≡ also → (past : List Event) (e : Event) → firings_by shown m past e ≡ firings_by also other past e
     by_same shown also h past e = (λ i. filter_map (λ p. fire_same (h i p.0) past e p.0 p.1 i) (panes_same (e ∷ past) i))
@@ -129,17 +132,38 @@ module _ (m : Meant) (sel : ℕ → List Value → Bool) (row : ℕ → List Dat
 
     relation_same : (past : List Event) → relation m past ≡ relation other past
     relation_same [] = refl
-    relation_same (Record key time values ∷ past) = relation_same past
-    relation_same (Watermark time ∷ past) = (λ i. cond (is_taken m past (Watermark time)) (relation_at_same past (Watermark time) i) (relation_same past i))
+    relation_same (e ∷ past) = (λ i. cond (raises m past e) (relation_at_same past e i) (relation_same past i))
 
-    rows_same : (f : Form) (past : List Event) (e : Event) → rows_of f m past e ≡ rows_of f other past e
-    rows_same form.Panes past e = pane_rows_same past e
-    rows_same form.Istream past (Record key time values) = refl
-    rows_same form.Dstream past (Record key time values) = refl
-    rows_same form.Rstream past (Record key time values) = refl
-    rows_same form.Istream past (Watermark time) = (λ i. map (Istream time) (difference (relation_at_same past (Watermark time) i) (relation_same past i)))
-    rows_same form.Dstream past (Watermark time) = (λ i. map (Dstream time) (difference (relation_same past i) (relation_at_same past (Watermark time) i)))
-    rows_same form.Rstream past (Watermark time) = (λ i. map (Rstream time) (relation_at_same past (Watermark time) i))
+    streamed_same : (past : List Event) (e : Event) → streamed m past e ≡ streamed other past e
+    streamed_same past e = (λ i. cond (raises m past e) (stream_rows m.form (mark m (e ∷ past)) (relation_same past i) (relation_at_same past e i)) [])
+
+    -- ---- what is withdrawn
+
+    standing_for_same : (past : List Event) (ps qs : List (Place × List Datum)) → ps ≡ qs → standing_for m past ps ≡ standing_for other past qs
+    standing_for_same past ps qs h = (λ i. filter_map (λ p. standing m (so_far_same past i) p.0 p.1) (h i))
+
+    before_drops_same : (past : List Event) (e : Event) → panes_before_drops m past e ≡ panes_before_drops other past e
+    before_drops_same past e = ap (where_key place_cmp (is_live_at m (mark m past))) (panes_same (e ∷ past))
+
+    withdrawn_same : (past : List Event) (e : Event) → withdrawn m past e ≡ withdrawn other past e
+    withdrawn_same past e =
+        let now = standing_for_same (e ∷ past) (panes_before_drops m past e) (panes_before_drops other past e) (before_drops_same past e) in
+        let before = standing_for_same past (held m past) (held other past) (held_same past) in
+        (λ i. filter (λ f. not (list_any (is_same f) (now i))) (before i))
+
+    written_same : (past : List Event) (e : Event) → filter_map (written_of m) (withdrawn m past e) ≡ filter_map (written_of other) (withdrawn other past e)
+    written_same past e =
+        found_same (written_of m) (written_of other) (withdrawn m past e)
+        (each (IsOfSet m) (λ f. written_of m f ≡ written_of other f) (λ f h. ap (option_map (λ (columns : List Cell). (f.place, columns))) (agree.rows f.place.key f.fired h)) (withdrawn m past e) (withdrawn_of_sets m past e))
+        ∙ ap (filter_map (written_of other)) (withdrawn_same past e)
+
+    retract_rows_same : (mode : Mode) (past : List Event) (e : Event) → retract_rows mode m past e ≡ retract_rows mode other past e
+    retract_rows_same Discarding past e = refl
+    retract_rows_same Accumulating past e = refl
+    retract_rows_same Retracting past e = ap retracted (written_same past e)
+
+    rows_same : (past : List Event) (e : Event) → turn_rows m past e ≡ turn_rows other past e
+    rows_same past e = (λ i. chosen_rows m.form (retract_rows_same m.mode past e i ++ pane_rows_same past e i) (streamed_same past e i))
 
     -- ---- lines
 
@@ -147,7 +171,7 @@ module _ (m : Meant) (sel : ℕ → List Value → Bool) (row : ℕ → List Dat
     turn_same before (Err fault) = refl
     turn_same before (Ok e) =
         let past = events before in
-        (λ i. refusal_lines (counter (length before + 1)) (verdict_on m past e) ++ map Out (cond (is_taken m past e) (rows_same m.form past e i) []))
+        (λ i. refusal_lines (counter (length before + 1)) (verdict_on m past e) ++ map Out (rows_same past e i))
 
     so_far_lines_same : (rows : List Row) → lines_so_far m rows ≡ lines_so_far other rows
     so_far_lines_same [] = refl

@@ -23,6 +23,9 @@ use Rattle.wsm_query.specs.Tree.{Query, Expr}
 use Rattle.wsm_check.specs.Types.{typed}
 use Rattle.wsm_check.specs.declared.types.Around.{Around}
 use Rattle.wsm_check.specs.declared.types.Around.TheVariants.{InWhere, InColumn}
+use Rattle.wsm_check.specs.Spelt.{numbers_fit}
+use Rattle.wsm_compiler.proofs.Operands.{condition_numbers}
+use Rattle.wsm_compiler.proofs.Lawful.{condition_numbers_of}
 use Rattle.wsm_check.specs.Sizes.{accumulators_of, aggregates, size, condition_size, columns_size, need, need_of_condition, need_of_columns}
 use Rattle.wsm_compiler.specs.Meaning.{Scene, on_record, on_accumulators}
 use Rattle.wsm_compiler.specs.Code.{code, condition_code, columns_code, where_section, fire_section}
@@ -82,18 +85,18 @@ comes_to c s (Some t) stack g none some =
 -- ---- conditions
 
 module _ (c : Setting) (q : Query) (around : Around) (s : Scene) (serves : Serves c q around s) where
-  pub code_means : (k a : ℕ) (e : Expr) (t : CellType) → typed q around e ≡ Ok t → ServesAccs c around s a (accumulators_of e) → StandsAt c.code k (code q k a e) → k + size e < length c.code →
+  pub code_means : (k a : ℕ) (e : Expr) → ((around ≡ InColumn → ⊥) → numbers_fit e ≡ true) → (t : CellType) → typed q around e ≡ Ok t → ServesAccs c around s a (accumulators_of e) → StandsAt c.code k (code q k a e) → k + size e < length c.code →
       (stack : List Cell) (folds : List (Option Value)) → length stack + need e ≤ 32 → Gives c (state k stack folds) (topped (k + size e) stack folds t (in_bounds q s a e))
-  code_means k a e t h accs at inside stack folds room =
-      subst (λ o. Gives c (state k stack folds) (topped (k + size e) stack folds t o)) (bounded_is q s a e) (code_runs c q around s serves k a e t h accs at inside stack folds room)
+  code_means k a e m t h accs at inside stack folds room =
+      subst (λ o. Gives c (state k stack folds) (topped (k + size e) stack folds t o)) (bounded_is q s a e) (code_runs c q around s serves k a e m t h accs at inside stack folds room)
 
   pub means_has : (a : ℕ) (e : Expr) (t : CellType) → typed q around e ≡ Ok t → ServesAccs c around s a (accumulators_of e) → of_ty t (in_bounds q s a e) ≡ true
   means_has a e t h accs = ap (of_ty t) (sym (bounded_is q s a e)) ∙ value_has c q around s serves a e t h accs
 
-  condition_gives : (k a : ℕ) (o : Option Expr) (js : List Instr) → ConditionTyped q around o → ServesAccs c around s a (in_condition o) → StandsAt c.code k (condition_code q k a o ++ js) → k + condition_size o < length c.code →
+  condition_gives : (k a : ℕ) (o : Option Expr) (js : List Instr) → ((around ≡ InColumn → ⊥) → condition_numbers o ≡ true) → ConditionTyped q around o → ServesAccs c around s a (in_condition o) → StandsAt c.code k (condition_code q k a o ++ js) → k + condition_size o < length c.code →
       (stack : List Cell) (folds : List (Option Value)) → length stack + need_of_condition o ≤ 32 → Gives c (state k stack folds) (topped (k + condition_size o) stack folds types.Bool (condition_value q s a o))
-  condition_gives k a None js h accs at inside stack folds room = push_bool c k stack folds (omega (arith, room)) true at.0
-  condition_gives k a (Some e) js h accs at inside stack folds room = code_means k a e types.Bool h accs (split_code q c.code k a e js at).0 inside stack folds room
+  condition_gives k a None js m h accs at inside stack folds room = push_bool c k stack folds (omega (arith, room)) true at.0
+  condition_gives k a (Some e) js m h accs at inside stack folds room = code_means k a e m types.Bool h accs (split_code q c.code k a e js at).0 inside stack folds room
 
   condition_has : (a : ℕ) (o : Option Expr) → ConditionTyped q around o → ServesAccs c around s a (in_condition o) → of_ty types.Bool (condition_value q s a o) ≡ true
   condition_has a None h accs = refl
@@ -135,7 +138,7 @@ topped_returns c k stack folds (Some v) has at good t e =
     (ap (λ (z : State). Some z.stack) is, subst (λ z. run_at c z ≡ ended Done 1 z) is (return_ends c u at (good v (truth_type v has))))
 
 pub where_runs : (q : Query) → WhereRuns q
-where_runs q checked d fit =
+where_runs q checked spelt d fit =
     let b = stated (needed_of q) q.budget in
     let f = fine q b checked in
     let c = setting (program_of q) Where d in
@@ -150,7 +153,7 @@ where_runs q checked d fit =
     let k = 0 + condition_size q.condition in
     let returns = condition_stands c q InWhere s serves 0 0 q.condition (instr.Return ∷ []) at in
     comes_to c (state 0 [] folds) (topped k [] folds types.Bool value) (on_stack [] value)
-    (condition_gives c q InWhere s serves 0 0 q.condition (instr.Return ∷ []) f.condition none at (omega (arith, l, m)) [] folds (omega (arith, f.where_need)))
+    (condition_gives c q InWhere s serves 0 0 q.condition (instr.Return ∷ []) (λ n. condition_numbers_of q spelt) f.condition none at (omega (arith, l, m)) [] folds (omega (arith, f.where_need)))
     (none_topped k [] folds value)
     (topped_returns c k [] folds value (condition_has c q InWhere s serves 0 q.condition f.condition none) returns.0 (λ v h. ap (λ u. (is_type types.Bool u && true) && true) h))
 
@@ -179,7 +182,7 @@ module _ (q : Query) (b : Costs) (d : Inputs) where
       let j = k + condition_size q.having in
       let returns = condition_stands c q InColumn s serves k a q.having (instr.Return ∷ []) at in
       comes_to c (state k stack folds) (topped j stack folds types.Bool value) (on_stack stack value)
-      (condition_gives c q InColumn s serves k a q.having (instr.Return ∷ []) hh accs at (omega (arith, inside)) stack folds room)
+      (condition_gives c q InColumn s serves k a q.having (instr.Return ∷ []) (λ n. absurd (n refl)) hh accs at (omega (arith, inside)) stack folds room)
       (none_topped j stack folds value)
       (topped_returns c j stack folds value (condition_has c q InColumn s serves a q.having hh accs) returns.0
       (λ v e. ap (λ x. x && true) (fire_result c (map (column_type q) q.columns) (cell types.Bool v) stack e (sym (nil_right (reverse (map type_of stack))) ∙ types'))))
@@ -193,7 +196,7 @@ module _ (q : Query) (b : Costs) (d : Inputs) where
       let parts = split_code q c.code k a x (columns_code q j (a + aggregates x) es) at in
       let ty : type_or_int (typed q InColumn x) ≡ t = ap type_or_int h.0.1 in
       one_column (state k stack folds) j a x es stack folds t ty (in_bounds q s a x) (means_has c q InColumn s serves a x t h.0.1 here)
-      (code_means c q InColumn s serves k a x t h.0.1 here parts.0 (omega (arith, inside, some_columns_size q.having es)) stack folds (first_room (length stack) (need x) _ room))
+      (code_means c q InColumn s serves k a x (λ n. absurd (n refl)) t h.0.1 here parts.0 (omega (arith, inside, some_columns_size q.having es)) stack folds (first_room (length stack) (need x) _ room))
       (λ v has. columns_run j (a + aggregates x) es (cell t v ∷ stack) folds h.1 hh (serves_right c InColumn s a x (flat_map accumulators_of es ++ in_condition q.having) whole) parts.1 (omega (arith, inside)) (rest_room (length stack) (need x) _ room)
       (ap (λ zs. zs ++ map (column_type q) es) (reverse-append (type_of (cell t v) ∷ []) (map type_of stack)) ∙ append_assoc (reverse (map type_of stack)) (type_of (cell t v) ∷ []) (map (column_type q) es)
       ∙ ap (λ z. reverse (map type_of stack) ++ z ∷ map (column_type q) es) (cell_has t v has ∙ sym ty) ∙ types'))

@@ -5,13 +5,13 @@ use Rattle.std.specs.List.{list_any}
 use Rattle.std.proofs.Math.Bool.{and-false}
 use Rattle.wsm_record.specs.declared.Kind.{Kind}
 use Rattle.wsm_program.specs.declared.Instr.{Instr}
-use Rattle.wsm_program.specs.declared.Instr.TheVariants.{Jump, JumpIfFalse, Fold, Return}
+use Rattle.wsm_program.specs.declared.Instr.TheVariants.{Jump, JumpIfFalse, Test, Fold, Return}
 use Rattle.wsm_program.specs.declared.SectionId.{SectionId}
 use Rattle.wsm_program.specs.declared.SectionId.TheVariants.{Where, Update, Fire}
 use Rattle.wsm_verifier.specs.declared.rejection.Rule.{Rule}
 use Rattle.wsm_verifier.specs.declared.known.Known.{Known}
 use Rattle.wsm_program.specs.Instructions.{next, may_stand, bad_jump, goes_on}
-use Rattle.wsm_verifier.specs.Labels.{State, Reached, pops, pushed, folded_after}
+use Rattle.wsm_verifier.specs.Labels.{State, Reached, pops, pushed, along, folded_after}
 use Rattle.wsm_verifier.specs.Rules.{Setting, types_fit, folds_again, may_divide_by_zero, accumulator_leaves, overflows, fold_missing, first_of, tests, fault_of}
 use Rattle.wsm_machine.proofs.FittingStacks.{no}
 use Rattle.wsm_compiler.proofs.Parts.{none≢some, Labelled, one}
@@ -23,8 +23,8 @@ any_test (t ∷ ts) = elim (t.1) as (λ b. is_some (cond b (Some (t.0)) (first_o
 -- whether a rule holds, where it is known of each
 pub tested : (c : Setting) (p : ℕ) (i : Instr) (s : State) (b1 b2 b3 b4 b5 b6 b7 b8 b9 b10 b11 : Bool) →
     not (may_stand c.section i) ≡ b1 → nat_lt (length s.stack) (pops i) ≡ b2 → not (types_fit c.kinds c.ends i s.stack) ≡ b3 → folds_again i s.folded ≡ b4 →
-    may_divide_by_zero i s.stack ≡ b5 → is_none (pushed c.ranges i s.stack) ≡ b6 → accumulator_leaves c.records c.kinds i s.stack ≡ b7 →
-    overflows s.stack (pushed c.ranges i s.stack) (pops i) ≡ b8 → fold_missing c.section i s.folded ≡ b9 → bad_jump c.n p i ≡ b10 → (goes_on i && nat_eq (suc p) c.n) ≡ b11 →
+    may_divide_by_zero i s.stack ≡ b5 → is_none (pushed c.ranges i s) ≡ b6 → accumulator_leaves c.records c.kinds i s.stack ≡ b7 →
+    overflows s.stack (pushed c.ranges i s) (pops i) ≡ b8 → fold_missing c.section i s.folded ≡ b9 → bad_jump c.n p i ≡ b10 → (goes_on i && nat_eq (suc p) c.n) ≡ b11 →
     is_some (fault_of c p i (Reached s)) ≡ (b1 || (b2 || (b3 || (b4 || (b5 || (b6 || (b7 || (b8 || (b9 || (b10 || (b11 || false)))))))))))
 tested c p i s b1 b2 b3 b4 b5 b6 b7 b8 b9 b10 b11 h1 h2 h3 h4 h5 h6 h7 h8 h9 h10 h11 =
     any_test (tests c p i s)
@@ -34,6 +34,7 @@ tested c p i s b1 b2 b3 b4 b5 b6 b7 b8 b9 b10 b11 h1 h2 h3 h4 h5 h6 h7 h8 h9 h10
 abbrev pub plain : Instr → Bool
 plain (Jump t) = false
 plain (JumpIfFalse t) = false
+plain (Test x t) = false
 plain (Fold a) = false
 plain Return = false
 plain _ = true
@@ -41,6 +42,7 @@ plain _ = true
 pub plain_next : (i : Instr) (k : ℕ) → plain i ≡ true → next i k ≡ suc k ∷ []
 plain_next (Jump t) k h = no h
 plain_next (JumpIfFalse t) k h = no h
+plain_next (Test x t) k h = no h
 plain_next Return k h = no h
 plain_next i k h = refl
 
@@ -61,7 +63,12 @@ plain_missing Update i fs h = refl
 plain_jumps : (n p : ℕ) (i : Instr) → plain i ≡ true → bad_jump n p i ≡ false
 plain_jumps n p (Jump t) h = no h
 plain_jumps n p (JumpIfFalse t) h = no h
+plain_jumps n p (Test x t) h = no h
 plain_jumps n p i h = refl
+
+plain_along : (i : Instr) → plain i ≡ true → (p q : ℕ) (s : State) → along i p q s ≡ s
+plain_along (Test x t) h p q s = no h
+plain_along i h p q s = refl
 
 plain_folded : (i : Instr) (fs : List Bool) → plain i ≡ true → folded_after i fs ≡ fs
 plain_folded (Fold a) fs h = no h
@@ -73,10 +80,10 @@ not_last b p n h = let e : nat_eq (suc p) n ≡ false = grind arith in ap (λ x.
 
 -- operands on a stack, the last first
 abbrev pub stacked : List Known → State → State
-stacked ops s = record { stack = ops ++ s.stack; folded = s.folded }
+stacked ops s = record s { stack = ops ++ s.stack }
 
 abbrev pub with_known : Known → State → State
-with_known x s = record { stack = x ∷ s.stack; folded = s.folded }
+with_known x s = record s { stack = x ∷ s.stack }
 
 abbrev pub pushed_on : State → Option Known → Option State
 pushed_on s o = option_map (λ x. with_known x s) o
@@ -113,11 +120,11 @@ drop_front [] ys = refl
 drop_front (x ∷ xs) ys = drop_front xs ys
 
 -- what is pushed, in place of the first n values
-abbrev laid : List Known → List Bool → ℕ → List Known → State
-laid below fs n vs = record { stack = vs ++ drop n below; folded = fs }
+abbrev laid : List Known → List Known → List Bool → ℕ → List Known → State
+laid fields below fs n vs = record { stack = vs ++ drop n below; folded = fs; fields = fields }
 
-abbrev over : List Known → List Bool → Known → State
-over below fs x = record { stack = x ∷ below; folded = fs }
+abbrev over : List Known → List Known → List Bool → Known → State
+over fields below fs x = record { stack = x ∷ below; folded = fs; fields = fields }
 
 given_some : (s t : State) (b : Bool) (p : Option Known) → pushed_on s (cond b p None) ≡ Some t → pushed_on s p ≡ Some t
 given_some s t true p h = h
@@ -125,24 +132,24 @@ given_some s t false p h = none≢some h
 
 -- a plain instruction with its operands on the stack pushes what it makes of them, or faults
 pub acting : (e : State) (c : Setting) (k : ℕ) (i : Instr) (ops : List Known) (s : State) (types : Bool) (p : Option Known) →
-    plain i ≡ true → pops i ≡ length ops → types_fit c.kinds c.ends i (ops ++ s.stack) ≡ types → pushed c.ranges i (ops ++ s.stack) ≡ option_map (λ x. x ∷ []) p →
+    plain i ≡ true → pops i ≡ length ops → types_fit c.kinds c.ends i (ops ++ s.stack) ≡ types → pushed c.ranges i (stacked ops s) ≡ option_map (λ x. x ∷ []) p →
     (may_divide_by_zero i (ops ++ s.stack) ≡ true → is_none p ≡ true) → length s.stack < 32 → suc k < c.n →
     Labelled e c k (i ∷ []) (stacked ops s) (pushed_on s (cond (may_stand c.section i && types) p None))
 acting e c k i ops s types p pl popped fit is div room more =
     let st = stacked ops s in
     let d = may_divide_by_zero i (ops ++ s.stack) in
-    one e c k i st (pushed_on s (cond (may_stand c.section i && types) p None)) (plain_next i k pl)
+    one e c k i st (pushed_on s (cond (may_stand c.section i && types) p None)) (plain_next i k pl) (plain_along i pl)
     (
     tested c k i st (not (may_stand c.section i)) false (not types) false d (is_none p) false false false false false
     refl (enough ops s.stack (pops i) popped) (ap not fit) (plain_again i s.folded pl) refl (ap is_none is ∙ none_alone p) (plain_leaves c.records c.kinds i (ops ++ s.stack) pl)
-    (has_room ops s.stack p (pushed c.ranges i (ops ++ s.stack)) (pops i) is popped room) (plain_missing c.section i s.folded pl) (plain_jumps c.n k i pl) (not_last (goes_on i) k c.n more)
+    (has_room ops s.stack p (pushed c.ranges i st) (pops i) is popped room) (plain_missing c.section i s.folded pl) (plain_jumps c.n k i pl) (not_last (goes_on i) k c.n more)
     ∙ verdict (may_stand c.section i) types d p div
     ∙ sym (some_none s (cond (may_stand c.section i && types) p None))
     )
     (λ t h.
-    (λ j. option_map (laid (ops ++ s.stack) (plain_folded i s.folded pl j) (popped j)) (is j))
-    ∙ map_twice (λ x. x ∷ []) (laid (ops ++ s.stack) s.folded (length ops)) p
-    ∙ ap (λ below. option_map (over below s.folded) p) (drop_front ops s.stack)
+    (λ j. option_map (laid s.fields (ops ++ s.stack) (plain_folded i s.folded pl j) (popped j)) (is j))
+    ∙ map_twice (λ x. x ∷ []) (laid s.fields (ops ++ s.stack) s.folded (length ops)) p
+    ∙ ap (λ below. option_map (over s.fields below s.folded) p) (drop_front ops s.stack)
     ∙ given_some s t (may_stand c.section i && types) p h)
   where
     some_none : (s : State) (o : Option Known) → is_none (pushed_on s o) ≡ is_none o

@@ -6,7 +6,7 @@ use Rattle.std.specs.Prelude.{ℤ, pos, negsuc, neg_ℤ, int_le, nat_le, codes}
 use Rattle.std.specs.List.{AllByRecursion, list_all}
 use Rattle.std.proofs.lemmas.Bool.{and_from}
 use Rattle.wsm_record.specs.declared.words.Kind.{Kind}
-use Rattle.wsm_record.specs.declared.words.Mode.TheVariants.{Discarding, Accumulating}
+use Rattle.wsm_record.specs.declared.words.Mode.TheVariants.{Discarding, Accumulating, Retracting}
 use Rattle.wsm_record.specs.declared.words.Form.TheVariants.{Panes, Istream, Dstream, Rstream}
 use Rattle.wsm_record.specs.Name.{is_name}
 use Rattle.wsm_tokens.proofs.Proper.{tokens_are_proper}
@@ -17,7 +17,7 @@ use Rattle.wsm_record.specs.Schema as field_types
 use Rattle.wsm_query.specs.Tree.{Name, Query, Selection, Expr, Number, Truth, Field, EnumName, Key, KeyName, Count, Aggregate, If, Brackets, Minus, Not}
 use Rattle.wsm_query.specs.Grammar as grammar
 use Rattle.wsm_record.specs.declared.limits.TheConstants.{MAX_CHAIN, MAX_LEVELS}
-use Rattle.wsm_query.specs.Grammar.{looked_up, kinds, Deeper, opened, aggregate, count_of, choice, brackets, pointed, leaf, atom, unary, chain, chained, products, sums, comparisons, ands, ors, prod, sum, compared, cmp, neg, conj, expr_in, deeper, levels, expr, int, names, type_of, field, budget, clock, selection, output, shape, mode, form, every, query}
+use Rattle.wsm_query.specs.Grammar.{looked_up, kinds, Deeper, opened, aggregate, count_of, choice, brackets, pointed, leaf, atom, unary, chain, chained, products, sums, comparisons, ands, ors, prod, sum, compared, cmp, neg, conj, expr_in, levels, expr, int, names, type_of, field, budget, sources, from_window, clock, selection, output, shape, mode, form, every, query}
 use Rattle.wsm_query.specs.Parse.{query_text, outcome, parse}
 use Rattle.wsm_check.specs.Sizes.{in_option}
 use Rattle.wsm_check.specs.Spelt.{numbers_fit, IsSpelt}
@@ -262,7 +262,7 @@ shapes =
 
 modes : Gives Anything mode
 unfolding mode
-modes = words ((codes "ACCUMULATING", Accumulating) ∷ (codes "DISCARDING", Discarding) ∷ [])
+modes = words ((codes "ACCUMULATING", Accumulating) ∷ (codes "DISCARDING", Discarding) ∷ (codes "RETRACTING", Retracting) ∷ [])
 
 forms : Gives Anything form
 unfolding form
@@ -283,13 +283,22 @@ option_fine : (o : Option Expr) → IfSome o Fine → list_all numbers_fit (in_o
 option_fine None h = refl
 option_fine (Some e) h = and_from (numbers_fit e) true h refl
 
+sources_are : Gives (AllByRecursion IsName) sources
+unfolding sources
+sources_are = eithers (codes "SOURCES") (untils (codes ";") name_lists) (gives (AllByRecursion IsName) [] tt)
+
+from_windows : Gives Anything from_window
+unfolding from_window
+from_windows = eithers (codes "FROM") (afters (codes "WINDOW") (gives Anything true tt)) (gives Anything false tt)
+
 clocks : Gives Anything clock
 unfolding clock
 clocks =
     goes_on (clauses (codes "START") (codes ";") numbers_are) (λ start _.
     goes_on (clauses (codes "SKEW") (codes ";") numbers_are) (λ skew _.
-    goes_on (clauses (codes "LATENESS") (codes ";") numbers_are) (λ lateness _.
-    goes_on (clauses (codes "RECORDS") (codes ";") numbers_are) (λ records _. gives Anything _ tt))))
+    goes_on (afters (codes "LATENESS") numbers_are) (λ lateness _.
+    goes_on (untils (codes ";") from_windows) (λ from_window _.
+    goes_on (clauses (codes "RECORDS") (codes ";") numbers_are) (λ records _. gives Anything _ tt)))))
 
 record IsFineIn (s : Selection) : Type 0 where
   columns : AllByRecursion Fine s.columns
@@ -317,6 +326,7 @@ unfolding query
 queries =
     goes_on (clauses (codes "KEYS") (codes ";") name_lists) (λ keys hk.
     goes_on (braces (codes "FIELD") fields_are) (λ fields hf.
+    goes_on sources_are (λ sources hn.
     goes_on clocks (λ clock _.
     goes_on (optionals (codes "BUDGET") budgets) (λ budget _.
     goes_on selections (λ s hs.
@@ -324,11 +334,12 @@ queries =
     gives IsSpelt _ (record {
       keys = pass_all is_name keys hk;
       fields = pass_all is_spelt_field fields hf;
+      sources = pass_all is_name sources hn;
       numbers =
           list_all-append numbers_fit (in_option s.condition) (s.columns ++ in_option s.having)
           ∙ and_from (list_all numbers_fit (in_option s.condition)) (list_all numbers_fit (s.columns ++ in_option s.having)) (option_fine s.condition hs.condition)
           (list_all-append numbers_fit s.columns (in_option s.having) ∙ and_from (list_all numbers_fit s.columns) (list_all numbers_fit (in_option s.having)) (pass_all numbers_fit s.columns hs.columns) (option_fine s.having hs.having));
-    })))))))
+    }))))))))
 
 -- ---- texts
 

@@ -1,11 +1,13 @@
 -- Runs of WHERE and UPDATE of an accepted query on records in range: they end, and so what they compute has values in 64 bits.
-use Rattle.std.proofs.Common.{◌≡◌, inl, inr, ℕ, Bool, true, false, ◌&&◌, cond, List, [], ◌∷◌, length, map, Option, Some, None, Result, Ok, Err, refl, sym, ap, subst, ◌∙◌}
-use Rattle.std.specs.Prelude.{nat_lt, is_ok}
-use Rattle.std.specs.List.{AllByRecursion}
+use Rattle.std.proofs.Common.{◌≡◌, ℤ, inl, inr, ℕ, Bool, true, false, ◌&&◌, cond, List, [], ◌∷◌, length, map, Option, Some, None, Result, Ok, Err, refl, sym, ap, subst, ◌∙◌, arith}
+use Rattle.std.specs.Prelude.{nat_lt, is_ok, pos, negsuc, int_le, ◌≤ℤ◌}
+use Rattle.std.proofs.lemmas.Int.{ints}
+use Rattle.std.specs.List.{AllByRecursion, list_all}
 use Rattle.std.proofs.lemmas.Bool.{and_from, and_parts}
 use Rattle.wsm_record.specs.declared.event.Value.{Value}
 use Rattle.wsm_record.specs.declared.event.Value.TheVariants.{Int, Bool as Truth', Enum}
-use Rattle.wsm_record.specs.Schema.{FieldType, Int as Between, Truth, Enum as Names, DeclaredField, fits_type, fit_fields}
+use Rattle.wsm_record.specs.Schema.{FieldType, Int as Between, Truth, Enum as Names, DeclaredField, fits_type, fit_fields, is_i64, is_spelt_type, is_spelt_field}
+use Rattle.wsm_record.specs.Name.{is_name}
 use Rattle.wsm_program.specs.declared.instr.SectionId.{SectionId}
 use Rattle.wsm_program.specs.declared.instr.SectionId.TheVariants.{Where, Update}
 use Rattle.wsm_program.specs.Program.{is_program}
@@ -18,10 +20,11 @@ use Rattle.wsm_machine.specs.declared.outcome.Outcome.TheVariants.{Done, Trap as
 use Rattle.wsm_machine.specs.declared.outcome.Trap.{Trap}
 use Rattle.wsm_machine.specs.declared.run.Ran.{Ran}
 use Rattle.wsm_machine.specs.Inputs.{Inputs, is_of_field, are_of_fields}
-use Rattle.wsm_machine.specs.InRange.{in_range, are_folded_in}
+use Rattle.wsm_machine.specs.InRange.{in_range, are_folded_in, is_word}
 use Rattle.wsm_machine.specs.Run.{run}
 use Rattle.wsm_machine.specs.Meaning as program
 use Rattle.wsm_machine.specs.Meaning.{record_inputs, where_run, update_run, is_done, top_is_true, updated}
+use Rattle.wsm_machine.proofs.AccumulatorRanges.{le_is, le_true}
 use Rattle.wsm_machine.proofs.CompleteRuns.{completes}
 use Rattle.wsm_machine.proofs.EndedRuns.{folds, values_are}
 use Rattle.wsm_query.specs.Tree.{Query, Expr}
@@ -109,12 +112,43 @@ of_fields (f ∷ fs) [] h = no h
 of_fields (f ∷ fs) (v ∷ vs) h =
     let p = and_parts (fits_type f.type v) (fit_fields fs vs) h in and_from (is_of_field f.type v) (are_of_fields fs vs) (of_type f.type v p.0) (of_fields fs vs p.1)
 
+-- a number between two of 64 bits has 64 bits
+between : (lo hi n : ℤ) → is_i64 lo ≡ true → is_i64 hi ≡ true → (int_le lo n && int_le n hi) ≡ true → is_i64 n ≡ true
+between lo hi n h l m =
+    let least = negsuc 9223372036854775807 in
+    let most = pos 9223372036854775807 in
+    let b = and_parts (int_le least lo) (int_le lo most) h in
+    let c = and_parts (int_le least hi) (int_le hi most) l in
+    let d = and_parts (int_le lo n) (int_le n hi) m in
+    let above : least ≤ℤ n = omega (arith, ints, le_is least lo b.0, le_is lo n d.0) in
+    let below : n ≤ℤ most = omega (arith, ints, le_is n hi d.1, le_is hi most c.1) in
+    (λ i. le_true least n above i && le_true n most below i)
+
+word_of : (t : FieldType) (v : Value) → is_spelt_type t ≡ true → fits_type t v ≡ true → is_word v ≡ true
+word_of (Between lo hi) (Int n) h l = let p = and_parts (is_i64 lo) (is_i64 hi) h in between lo hi n p.0 p.1 l
+word_of Truth (Int n) h l = no l
+word_of (Names names) (Int n) h l = no l
+word_of t (Truth' b) h l = refl
+word_of t (Enum i) h l = refl
+
+words : (fs : List DeclaredField) (vs : List Value) → list_all is_spelt_field fs ≡ true → fit_fields fs vs ≡ true → list_all is_word vs ≡ true
+words [] [] h l = refl
+words [] (v ∷ vs) h l = no l
+words (f ∷ fs) [] h l = no l
+words (f ∷ fs) (v ∷ vs) h l =
+    let p = and_parts (is_spelt_field f) (list_all is_spelt_field fs) h in
+    let n = and_parts (is_name f.name) (is_spelt_type f.type) p.0 in
+    let r = and_parts (fits_type f.type v) (fit_fields fs vs) l in
+    and_from (is_word v) (list_all is_word vs) (word_of f.type v n.1 r.0) (words fs vs p.1 r.1)
+
 module _ (q : Query) (a : IsAccepted q) (key : ℕ) (values : List Value) (h : record_in_range q key values ≡ true) where
   abbrev d : Inputs
   d = record_inputs key values
 
   fit : record_fits q d ≡ true
-  fit = of_fields (schema_of q).fields values (and_parts (nat_lt key (length q.keys)) (fit_fields (schema_of q).fields values) h).1
+  fit =
+      let fields = (and_parts (nat_lt key (length q.keys)) (fit_fields (schema_of q).fields values) h).1 in
+      and_from (are_of_fields (schema_of q).fields values) (list_all is_word values) (of_fields (schema_of q).fields values fields) (words (schema_of q).fields values a.spelt.fields fields)
 
   -- ---- WHERE
 
@@ -130,7 +164,7 @@ module _ (q : Query) (a : IsAccepted q) (key : ℕ) (values : List Value) (h : r
       record { value = v; is = is; says = says r v [] (ends q a Where d h) (ap (λ (o : Option (List Cell)). elim o [ None ↦ [] | Some s ↦ s ]) (sym e)) }
 
   kept : Kept
-  kept = kept_by (condition_value q (on_record key values) 0 q.condition) refl (left (where_run (program_of q) key values) _ (ends q a Where d h) (where_runs q a.checked d fit))
+  kept = kept_by (condition_value q (on_record key values) 0 q.condition) refl (left (where_run (program_of q) key values) _ (ends q a Where d h) (where_runs q a.checked a.spelt d fit))
 
   pub condition_total : AllByRecursion (HasValue q (on_record key values)) (in_option q.condition)
   condition_total = (condition_has q (on_record key values) q.condition kept.value kept.is).0
@@ -144,7 +178,7 @@ module _ (q : Query) (a : IsAccepted q) (key : ℕ) (values : List Value) (h : r
   pub updated_is : folded_values q (on_record key values) (accumulators q) ≡ Some (updated (program_of q) key values)
   updated_is =
       let r = update_run (program_of q) key values in
-      let f = folded r (folded_values q (on_record key values) (accumulators q)) (ends q a Update d h) (update_runs q a.checked d fit) in
+      let f = folded r (folded_values q (on_record key values) (accumulators q)) (ends q a Update d h) (update_runs q a.checked a.spelt d fit) in
       f.1 ∙ ap Some (sym (values_are r.folds f.0 (updated (program_of q) key values) f.2 refl))
 
   -- and in the range that the verifier knows

@@ -19,7 +19,7 @@ use Rattle.wsm_check.specs.declared.types.Around.TheVariants.{InAggregate}
 use Rattle.wsm_check.specs.Sizes.{Acc, accumulators, accumulators_of, size, need, folds_size, need_of_folds}
 use Rattle.wsm_verifier.specs.declared.known.Known.{Known}
 use Rattle.wsm_verifier.specs.Labels.{State}
-use Rattle.wsm_verifier.specs.Rules.{Setting, setting, entry, ranges_of_record, has_type, sum_leaves, fault_in}
+use Rattle.wsm_verifier.specs.Rules.{Setting, setting, entry, known_fields, ranges_of_record, has_type, sum_leaves, fault_in}
 use Rattle.wsm_compiler.specs.Code.{code, folds, update_section}
 use Rattle.wsm_compiler.specs.Ranges.{Range, Unfit, NoNumber, Within, of_aggregate, range, fits}
 use Rattle.wsm_compiler.specs.Program.{program_stating}
@@ -29,7 +29,7 @@ use Rattle.wsm_compiler.proofs.Tests.{tested, not_last, with_known}
 use Rattle.wsm_compiler.proofs.Sizes.{length-code, some_code}
 use Rattle.wsm_compiler.proofs.Found.{found}
 use Rattle.wsm_compiler.proofs.FoundRanges.{suits, known_of}
-use Rattle.wsm_compiler.proofs.ExpressionRanges.{AccsIn, range_suits, found_is}
+use Rattle.wsm_compiler.proofs.ExpressionRanges.{AccsIn, range_suits, found_here}
 use Rattle.wsm_compiler.proofs.CodeLabels.{labelled}
 use Rattle.wsm_compiler.proofs.SectionEnds.{Ends, or_behind, sequence_ends, follow_ends, return_ends, whole_section}
 use Rattle.wsm_compiler.proofs.KnownFields.{in_column, reads_update}
@@ -52,9 +52,9 @@ all_set : (a : ℕ) → list_all (λ b. b) (flags a 0) ≡ true
 all_set zero = refl
 all_set (suc a) = all_set a
 
--- nothing on the stack, and the first a of a + n accumulators folded
-abbrev pub folded_so : ℕ → ℕ → State
-folded_so a n = record { stack = []; folded = flags a n }
+-- nothing on the stack, the first a of a + n accumulators folded, and the fields as they are declared
+abbrev pub folded_so : Query → ℕ → ℕ → State
+folded_so q a n = record { stack = []; folded = flags a n; fields = known_fields 0 q.fields }
 
 -- ---- one fold
 
@@ -81,12 +81,12 @@ module _ (q : Query) (b : Costs) where
 
   -- the state behind a fold
   abbrev pub behind_fold : ℕ → State → State
-  behind_fold a s = record { stack = s.stack; folded = slice_set s.folded a true }
+  behind_fold a s = record s { folded = slice_set s.folded a true }
 
   pub fold_one : (e : State) (k a : ℕ) (x : Known) (s : State) (kind : Kind) → kind_of updating.kinds a ≡ kind → slice_index_or s.folded a false ≡ false → length s.stack < 32 → suc k < updating.n →
       Labelled e updating k (Fold a ∷ []) (with_known x s) (if_takes (takes q.records kind x) (behind_fold a s))
   fold_one e k a x s kind is once room more =
-      one e updating k (Fold a) (with_known x s) (if_takes (takes q.records kind x) (behind_fold a s)) refl
+      one e updating k (Fold a) (with_known x s) (if_takes (takes q.records kind x) (behind_fold a s)) refl (λ p q s. refl)
       (tested updating k (Fold a) (with_known x s) false false (not (has_type (kind_type kind) x)) false false false (sum_leaves q.records kind x) false false false false
       refl (has_one (length s.stack)) (ap (λ z. not (has_type (kind_type z) x)) is) once refl refl (ap (λ z. sum_leaves q.records z x) is) (room_at_test (length s.stack) room) refl refl (not_last true k updating.n more)
       ∙ fold_verdict (has_type (kind_type kind) x) (sum_leaves q.records kind x) (behind_fold a s))
@@ -144,23 +144,23 @@ module _ (q : Query) (b : Costs) where
   some_folds_size (acc ∷ accs) = omega arith
 
   pub folds_ends : (e : State) (k a : ℕ) (accs : List Acc) → AccsTyped accs → KindsAt a accs → need_of_folds accs ≤ 32 → k + folds_size accs ≤ updating.n →
-      Ends e updating k (folds q k a accs) (folded_so a (length accs)) (not (accs_fit accs))
-  folds_ends e k a [] h kinds room more = return_ends e updating k (folded_so a 0) refl (ap not (all_set a)) (omega arith)
+      Ends e updating k (folds q k a accs) (folded_so q a (length accs)) (not (accs_fit accs))
+  folds_ends e k a [] h kinds room more = return_ends e updating k (folded_so q a 0) refl (ap not (all_set a)) (omega arith)
   folds_ends e k a (acc ∷ accs) h kinds room more =
       let n = length accs in
-      let s = folded_so a (suc n) in
+      let s = folded_so q a (suc n) in
       let x = acc.operand in
       let j = k + size x in
       let rest = folds q (j + 1) (suc a) accs in
       let w = accs_fit accs in
       let goal = λ (z : Known). or_behind (if_takes (takes q.records acc.kind z) (behind_fold a s)) (λ t. not w) in
       let behind : Ends e updating (j + 1) rest (behind_fold a s) (not w) =
-      subst (λ fs. Ends e updating (j + 1) rest (record { stack = []; folded = fs }) (not w)) (sym (set_next a n))
+      subst (λ fs. Ends e updating (j + 1) rest (record { stack = []; folded = fs; fields = known_fields 0 q.fields }) (not w)) (sym (set_next a n))
       (folds_ends e (j + 1) (suc a) accs h.1 kinds.1 (rest_room (need x) _ room) (omega (arith, more))) in
       subst (λ v. Ends e updating k (code q k 0 x ++ Fold a ∷ rest) s v)
-      (ap (λ o. or_behind o goal) (found_is updating q InAggregate (reads_update q b) 0 x (kind_type acc.kind) h.0 (no_accs 0 (accumulators_of x))) ∙ fold_fits acc.kind (range q x) (behind_fold a s) w (range_suits updating q InAggregate x (kind_type acc.kind) h.0))
-      (follow_ends e updating k (size x) (code q k 0 x) (Fold a ∷ rest) s (found updating q 0 x) goal (length-code q k 0 x) (some_code q k 0 x) (omega arith)
-      (labelled e updating q InAggregate (reads_update q b) k 0 x (kind_type acc.kind) s h.0 (no_accs 0 (accumulators_of x)) (first_room (need x) _ room) (omega (arith, more, some_folds_size accs)))
+      (ap (λ o. or_behind o goal) (found_here updating q InAggregate (reads_update q b) s.fields refl 0 x (kind_type acc.kind) h.0 (no_accs 0 (accumulators_of x))) ∙ fold_fits acc.kind (range q x) (behind_fold a s) w (range_suits updating q InAggregate x (kind_type acc.kind) h.0))
+      (follow_ends e updating k (size x) (code q k 0 x) (Fold a ∷ rest) s (found updating q s.fields 0 x) goal (length-code q k 0 x) (some_code q k 0 x) (omega arith)
+      (labelled e updating q InAggregate (reads_update q b) k 0 x (kind_type acc.kind) s refl h.0 (no_accs 0 (accumulators_of x)) (first_room (need x) _ room) (omega (arith, more, some_folds_size accs)))
       (λ z ez. sequence_ends e updating j (Fold a ∷ []) rest (with_known z s) (if_takes (takes q.records acc.kind z) (behind_fold a s)) (λ t. not w) (omega arith) (some_folds (j + 1) (suc a) accs)
       (fold_one e j a z s acc.kind kinds.0 (unset a n) (omega arith) (omega (arith, more, some_folds_size accs)))
       (λ t ht. subst (λ u. Ends e updating (j + 1) rest u (not w)) (same_Some (behind_fold a s) t (taken_is (takes q.records acc.kind z) (behind_fold a s) t ht)) behind)))
@@ -181,8 +181,8 @@ module _ (q : Query) (b : Costs) where
   entry_flags [] = refl
   entry_flags (acc ∷ accs) = ap (λ fs. false ∷ fs) (entry_flags accs)
 
-  pub entry_is : folded_so 0 (length (accumulators q)) ≡ entry (program_stating q b)
-  entry_is = ap (λ fs. record { stack = []; folded = fs }) (sym (entry_flags (accumulators q)))
+  pub entry_is : folded_so q 0 (length (accumulators q)) ≡ entry (program_stating q b)
+  entry_is = ap (λ fs. record { stack = []; folded = fs; fields = known_fields 0 q.fields }) (sym (entry_flags (accumulators q)))
 
   kinds_from : (before accs : List Acc) → (j : ℕ) → kind_of (map (λ acc. acc.kind) (before ++ accs)) (length before + j) ≡ kind_of (map (λ acc. acc.kind) accs) j
   kinds_from [] accs j = let e : 0 + j ≡ j = omega arith in ap (kind_of (map (λ acc. acc.kind) accs)) e

@@ -21,6 +21,10 @@ use Rattle.wsm_machine.specs.Run.{run_at}
 use Rattle.wsm_query.specs.Tree.{Query}
 use Rattle.wsm_record.specs.declared.words.CellType.{CellType}
 use Rattle.wsm_check.specs.declared.types.Around.TheVariants.{InAggregate}
+use Rattle.wsm_check.specs.Spelt.{numbers_fit}
+use Rattle.std.proofs.lemmas.Bool.{and_parts}
+use Rattle.wsm_compiler.proofs.Operands.{operands_fit}
+use Rattle.wsm_compiler.proofs.Lawful.{operands_numbers_of}
 use Rattle.wsm_check.specs.Sizes.{Acc, accumulators, accumulators_of, size, need, folds_size, need_of_folds}
 use Rattle.wsm_compiler.specs.Meaning.{Scene, on_record}
 use Rattle.wsm_compiler.specs.Code.{folds, update_section}
@@ -137,13 +141,14 @@ module _ (q : Query) (b : Costs) (d : Inputs) (fit : record_fits q d ≡ true) w
       subst (λ fs. Gives c m (Some (state (k + 1) [] fs))) (next ∙ ap (λ fs. fs ++ rest) (sym (map-append vs (v ∷ []))))
       (run_goes c m (state (k + 1) [] set) (instr.Fold (length done)) (subst (λ p. slice_get c.code k ≡ Some (instr.Fold p)) place at) goes)
 
-  folds_run : (k : ℕ) (before accs : List Acc) (vs : List Value) → before ++ accs ≡ accumulators q → length vs ≡ length before → AccsTyped q b accs → StandsAt c.code k (folds q k (length before) accs) → k + folds_size accs ≤ length c.code → need_of_folds accs ≤ 32 →
+  folds_run : (k : ℕ) (before accs : List Acc) (vs : List Value) → before ++ accs ≡ accumulators q → length vs ≡ length before → AccsTyped q b accs → operands_fit accs ≡ true → StandsAt c.code k (folds q k (length before) accs) → k + folds_size accs ≤ length c.code → need_of_folds accs ≤ 32 →
       Folds (run_at c (state k [] (held vs (length accs)))) (with_front vs (folded_values q s accs))
-  folds_run k before [] vs e l h at inside room =
+  folds_run k before [] vs e l h fits at inside room =
       let st = state k [] (held vs 0) in
       let r = return_ends c st at.0 (all_folded vs) in
       (ap (λ (r : Ran). r.outcome) r, ap (λ (r : Ran). r.stack) r, ap (λ (r : Ran). r.folds) r ∙ nil_right (map (λ (v : Value). Some v) vs) ∙ ap (map (λ (v : Value). Some v)) (sym (nil_right vs)))
-  folds_run k before (acc ∷ accs) vs e l h at inside room =
+  folds_run k before (acc ∷ accs) vs e l h fits at inside room =
+      let numbers = and_parts (numbers_fit acc.operand) (operands_fit accs) fits in
       let y = acc.operand in
       let t = kind_type acc.kind in
       let a = length before in
@@ -153,11 +158,11 @@ module _ (q : Query) (b : Costs) (d : Inputs) (fit : record_fits q d ≡ true) w
       let la = length-append before (acc ∷ []) in
       let count : length (before ++ acc ∷ []) ≡ suc a = omega (arith, la) in
       by_value k j vs (length accs) acc (folded_values q s accs) (in_bounds q s 0 y) (means_has c q InAggregate s serves 0 y t h.0 (none_inside (accumulators_of y)))
-      (code_means c q InAggregate s serves k 0 y t h.0 (none_inside (accumulators_of y)) parts.0 (omega (arith, inside, some_folds_size q b accs)) [] (held vs (suc (length accs))) (first_room (need y) _ room))
+      (code_means c q InAggregate s serves k 0 y (λ n. numbers.0) t h.0 (none_inside (accumulators_of y)) parts.0 (omega (arith, inside, some_folds_size q b accs)) [] (held vs (suc (length accs))) (first_room (need y) _ room))
       (λ v has.
       let lv = length-append vs (v ∷ []) in (
         fold_step j vs (length accs) a acc.kind v l has parts.1.0 (ap (λ xs. slice_get (map (λ acc. acc.kind) xs) a) (sym e) ∙ kind_at before accs acc),
-        folds_run (j + 1) (before ++ acc ∷ []) accs (vs ++ v ∷ []) (append_assoc before (acc ∷ []) accs ∙ e) (omega (arith, lv, count, l)) h.1 (subst (λ n. StandsAt c.code (j + 1) (folds q (j + 1) n accs)) (sym count) parts.1.1) (omega (arith, inside)) (rest_room (need y) _ room),
+        folds_run (j + 1) (before ++ acc ∷ []) accs (vs ++ v ∷ []) (append_assoc before (acc ∷ []) accs ∙ e) (omega (arith, lv, count, l)) h.1 numbers.1 (subst (λ n. StandsAt c.code (j + 1) (folds q (j + 1) n accs)) (sym count) parts.1.1) (omega (arith, inside)) (rest_room (need y) _ room),
       ))
     where
       first_room : (l m : ℕ) → max l m ≤ 32 → 0 + l ≤ 32
@@ -180,7 +185,7 @@ module _ (q : Query) (b : Costs) (d : Inputs) (fit : record_fits q d ≡ true) w
           folds_behind c st u (with_front vs (one_more v rest)) (gives_on c st m (Some u) g p.0) (subst (λ o. Folds (run_at c u) o) (front_moved vs v rest) p.1)
 
 pub update_runs : (q : Query) → UpdateRuns q
-update_runs q checked d fit =
+update_runs q checked spelt d fit =
     let b = stated (needed_of q) q.budget in
     let f = fine q b checked in
     let c = setting (program_of q) Update d in
@@ -189,4 +194,4 @@ update_runs q checked d fit =
     let same : replicate (length c.kinds) None ≡ none = ap (λ n. replicate n None) (length-map (accumulators q) (λ (acc : Acc). acc.kind)) in
     subst (λ fs. Folds (run_at c (state 0 [] fs)) (folded_values q (on_record d.key d.values) (accumulators q))) (sym same)
     (subst (λ o. Folds (run_at c (state 0 [] none)) o) (with_none (folded_values q (on_record d.key d.values) (accumulators q)))
-    (folds_run q b d fit 0 [] (accumulators q) [] refl refl f.accs (stands_all (update_section q)) (omega (arith, l)) f.update_need))
+    (folds_run q b d fit 0 [] (accumulators q) [] refl refl f.accs (operands_numbers_of q spelt) (stands_all (update_section q)) (omega (arith, l)) f.update_need))

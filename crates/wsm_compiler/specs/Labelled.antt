@@ -34,7 +34,7 @@ abbrev pub ColumnLabels : Query → (ℕ → Label) → ℕ → List Expr → Li
 ColumnLabels q label k [] below = Unit {0}
 ColumnLabels q label k (e ∷ es) below =
     let x = known_as (type_or_int (typed q InColumn e)) (range q e) in
-    (label (k + size e) ≡ Reached (record { stack = x ∷ below; folded = (entry (program_of q)).folded })) × ColumnLabels q label (k + size e) es (x ∷ below)
+    (label (k + size e) ≡ Reached (record (entry (program_of q)) { stack = x ∷ below })) × ColumnLabels q label (k + size e) es (x ∷ below)
 
 abbrev pub LabelsAreRanges : Query → Type 0
 LabelsAreRanges q = IsChecked q → ranges_fit q ≡ true →

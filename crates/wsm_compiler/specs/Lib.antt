@@ -17,3 +17,4 @@ pub mod Lawful
 pub mod SameMeaning
 pub mod SameLines
 pub mod Vectors
+pub mod TestVectors

@@ -3,11 +3,11 @@ use Rattle.std.specs.Prelude.{map, unsigned_abs}
 use Rattle.wsm_semantics.specs.Query.{Query as Meant}
 use Rattle.wsm_query.specs.Tree.{Query}
 use Rattle.wsm_compiler.specs.Meaning.{selects, row}
-use Rattle.wsm_compiler.specs.Program.{schema_of, every}
+use Rattle.wsm_compiler.specs.Program.{schema_of, clock_of, every}
 
 abbrev pub meant : Query → Meant
 meant q = record {
-  clock = record { start = q.start; skew = q.skew; lateness = q.lateness; records = q.records };
+  clock = clock_of q;
   declared = schema_of q;
   shape = q.shape;
   mode = q.mode;

@@ -1,7 +1,11 @@
 -- The program of a query.
-use Rattle.std.specs.Prelude.{map, ℤ, pos, unsigned_abs, Option, Some, None}
-use Rattle.wsm_record.specs.Schema.{Declared as Schema}
+use Rattle.std.specs.Prelude.{map, Bool, true, false, ℤ, pos, unsigned_abs, Option, Some, None}
+use Rattle.wsm_record.specs.Schema.{Declared as Schema, source_count}
 use Rattle.wsm_record.specs.declared.words.CellType.{CellType}
+use Rattle.wsm_windows.specs.declared.window.Shape.{Shape}
+use Rattle.wsm_admission.specs.declared.clock.Clock.{Clock}
+use Rattle.wsm_admission.specs.declared.clock.LateBy.{LateBy}
+use Rattle.wsm_admission.specs.declared.clock.LateBy.TheVariants.{Event, Window}
 use Rattle.wsm_program.specs.declared.program.Costs.{Costs}
 use Rattle.wsm_program.specs.Program.{Program}
 use Rattle.wsm_verifier.specs.Costs.{needed}
@@ -12,9 +16,18 @@ use Rattle.wsm_check.specs.Parts.{type_or_int}
 use Rattle.wsm_check.specs.Sizes.{accumulators}
 use Rattle.wsm_compiler.specs.Code.{where_section, update_section, fire_section}
 
--- the keys and fields
+-- the keys, fields and sources
 abbrev pub schema_of : Query → Schema
-schema_of q = record { keys = q.keys; fields = q.fields }
+schema_of q = record { keys = q.keys; fields = q.fields; sources = q.sources }
+
+-- from a record's own time, or from the ends of its windows
+abbrev pub late_by : Bool → Shape → LateBy
+late_by true shape = Window shape
+late_by false shape = Event
+
+-- the numbers of the clock, and how many sources it has: one where none are declared
+abbrev pub clock_of : Query → Clock
+clock_of q = record { start = q.start; skew = q.skew; lateness = q.lateness; late = late_by q.from_window q.shape; records = q.records; sources = source_count (schema_of q) }
 
 abbrev pub column_type : Query → Expr → CellType
 column_type q e = type_or_int (typed q InColumn e)
@@ -28,7 +41,7 @@ abbrev pub program_stating : Query → Costs → Program
 program_stating q stated = record {
   header = record {
     schema = schema_of q;
-    clock = record { start = q.start; skew = q.skew; lateness = q.lateness; records = q.records };
+    clock = clock_of q;
     shape = q.shape;
     mode = q.mode;
     early = every q.early;

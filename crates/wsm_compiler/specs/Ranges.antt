@@ -1,16 +1,20 @@
 -- The ranges of a query's expressions, by their structure.
-use Rattle.std.specs.Prelude.{Bool, true, false, ◌&&◌, cond, ◌++◌, ℤ, pos, ◌*ℤ◌, Option, Some, None}
+use Rattle.std.specs.Prelude.{Bool, true, false, ◌&&◌, cond, List, [], ◌∷◌, ◌++◌, bytes_eq, ℤ, pos, ◌*ℤ◌, Option, Some, None}
 use Rattle.std.specs.List.{list_all}
 use Rattle.std.specs.Int.{int_min, int_max}
 use Rattle.wsm_record.specs.declared.words.Kind.{Kind}
 use Rattle.wsm_record.specs.declared.words.Kind.TheVariants.{Sum, Min, Max}
 use Rattle.wsm_interval.specs.declared.interval.Interval.{Interval}
+use Rattle.wsm_interval.specs.declared.Comparison.{Comparison}
+use Rattle.wsm_interval.specs.Comparison.{opposite}
 use Rattle.wsm_interval.specs.Interval.{interval, add, sub, mul, div, rem, neg, hull}
+use Rattle.wsm_interval.specs.Narrowing.{narrow}
 use Rattle.wsm_query.specs.declared.expr.Op.{Op}
 use Rattle.wsm_query.specs.declared.expr.Op.TheVariants.{Add, Sub, Mul, Div, Rem}
-use Rattle.wsm_record.specs.Schema.{FieldType, is_i64}
+use Rattle.wsm_record.specs.Schema.{FieldType, DeclaredField, is_i64}
 use Rattle.wsm_record.specs.Schema as field_types
-use Rattle.wsm_query.specs.Tree.{Query, Expr, Number, Field, Count, Aggregate, If, Brackets, Minus, Not, Binary, And, Or}
+use Rattle.wsm_check.specs.Tested.{Tested, tested}
+use Rattle.wsm_query.specs.Tree.{Name, Query, Expr, Number, Field, Count, Aggregate, If, Brackets, Minus, Not, Binary, And, Or}
 use Rattle.wsm_check.specs.Names.{type_of}
 use Rattle.wsm_check.specs.Sizes.{in_option, fired}
 
@@ -70,19 +74,45 @@ of_type (field_types.Int lo hi) = Within (interval lo hi)
 of_type field_types.Truth = NoNumber
 of_type (field_types.Enum names) = NoNumber
 
+abbrev of_interval : Interval → FieldType
+of_interval i = field_types.Int i.lo i.hi
+
+abbrev pub narrowed_type : Comparison → ℤ → FieldType → FieldType
+narrowed_type o n (field_types.Int lo hi) = of_interval (narrow o n (interval lo hi))
+narrowed_type o n t = t
+
+-- the first field of a name, narrowed to where it compares so with a number
+abbrev pub narrowed_fields : Name → Comparison → ℤ → List DeclaredField → List DeclaredField
+narrowed_fields x o n [] = []
+narrowed_fields x o n (d ∷ ds) = cond (bytes_eq x d.name) (record d { type = narrowed_type o n d.type } ∷ ds) (d ∷ narrowed_fields x o n ds)
+
+-- the fields where a test is true, and where it is false; one that is no comparison of a field with a number narrows none
+abbrev pub where_true : Option Tested → List DeclaredField → List DeclaredField
+where_true None fs = fs
+where_true (Some t) fs = narrowed_fields t.field t.comparison t.number fs
+
+abbrev pub where_false : Option Tested → List DeclaredField → List DeclaredField
+where_false None fs = fs
+where_false (Some t) fs = narrowed_fields t.field (opposite t.comparison) t.number fs
+
+-- the range of an expression, where the fields are as they are given
+abbrev pub range_on : Query → List DeclaredField → Expr → Range
+range_on q fs (Number n) = Within (interval n n)
+range_on q fs (Field x) = of_type (type_of x fs)
+range_on q fs Count = Within (interval (pos 1) q.records)
+range_on q fs (Aggregate kind e) = of_aggregate q.records kind (range_on q q.fields e)
+range_on q fs (If c x y) = if_fits (range_on q fs c) (of_branches (range_on q (where_true (tested c) fs) x) (range_on q (where_false (tested c) fs) y))
+range_on q fs (Brackets e) = range_on q fs e
+range_on q fs (Minus e) = of_minus (range_on q fs e)
+range_on q fs (Not e) = range_on q fs e
+range_on q fs (Binary op x y) = of_op op (range_on q fs x) (range_on q fs y)
+range_on q fs (And x y) = no_number (range_on q fs x) (range_on q (where_true (tested x) fs) y)
+range_on q fs (Or x y) = no_number (range_on q fs x) (range_on q (where_false (tested x) fs) y)
+range_on q fs _ = NoNumber
+
+-- where they are as they are declared
 abbrev pub range : Query → Expr → Range
-range q (Number n) = Within (interval n n)
-range q (Field x) = of_type (type_of x q.fields)
-range q Count = Within (interval (pos 1) q.records)
-range q (Aggregate kind e) = of_aggregate q.records kind (range q e)
-range q (If c x y) = if_fits (range q c) (of_branches (range q x) (range q y))
-range q (Brackets e) = range q e
-range q (Minus e) = of_minus (range q e)
-range q (Not e) = range q e
-range q (Binary op x y) = of_op op (range q x) (range q y)
-range q (And x y) = no_number (range q x) (range q y)
-range q (Or x y) = no_number (range q x) (range q y)
-range q _ = NoNumber
+range q e = range_on q q.fields e
 
 abbrev pub fits : Range → Bool
 fits Unfit = false

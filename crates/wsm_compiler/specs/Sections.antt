@@ -1,6 +1,7 @@
 -- What a run of each section of a checked query comes to: it ends by its return with the meanings of the section's expressions, exactly
 -- where each has one and every number that it meets has 64 bits; else it traps at such a number or at a zero divisor.
-use Rattle.std.specs.Prelude.{◌≡◌, ◌⊎◌, ℕ, ◌+◌, Bool, true, cond, List, [], ◌∷◌, map, Option, Some, None}
+use Rattle.std.specs.Prelude.{◌≡◌, ◌⊎◌, ℕ, ◌+◌, Bool, true, ◌&&◌, cond, List, [], ◌∷◌, map, Option, Some, None}
+use Rattle.std.specs.List.{list_all}
 use Rattle.wsm_record.specs.declared.event.Value.{Value}
 use Rattle.wsm_record.specs.declared.event.Value.TheVariants.{Bool as Truth'}
 use Rattle.wsm_program.specs.declared.instr.SectionId.TheVariants.{Where, Update, Fire}
@@ -10,9 +11,11 @@ use Rattle.wsm_machine.specs.declared.outcome.Trap.TheVariants.{IntOverflow, Zer
 use Rattle.wsm_machine.specs.declared.run.Ran.{Ran}
 use Rattle.wsm_fold.specs.Fold.{are_of_kinds}
 use Rattle.wsm_machine.specs.Inputs.{Inputs, are_of_fields}
+use Rattle.wsm_machine.specs.InRange.{is_word}
 use Rattle.wsm_machine.specs.Run.{run}
 use Rattle.wsm_query.specs.Tree.{Query, Expr}
 use Rattle.wsm_check.specs.Checks.{IsChecked}
+use Rattle.wsm_check.specs.Spelt.{IsSpelt}
 use Rattle.wsm_record.specs.declared.words.CellType.TheVariants as types
 use Rattle.wsm_check.specs.Types.{typed}
 use Rattle.wsm_check.specs.declared.types.Around.TheVariants.{InColumn}
@@ -22,9 +25,9 @@ use Rattle.wsm_check.specs.Parts.{type_or_int}
 use Rattle.wsm_compiler.specs.Program.{schema_of, program_of}
 use Rattle.wsm_compiler.specs.Runs.{cell}
 
--- what WHERE and UPDATE read has the fields' types, and what FIRE reads the accumulators'; intervals aren't asked
+-- what WHERE and UPDATE read has the fields' types and numbers of 64 bits, and what FIRE reads the accumulators' types; intervals aren't asked
 abbrev pub record_fits : Query → Inputs → Bool
-record_fits q d = are_of_fields (schema_of q).fields d.values
+record_fits q d = are_of_fields (schema_of q).fields d.values && list_all is_word d.values
 
 abbrev pub pane_fits : Query → Inputs → Bool
 pane_fits q d = are_of_kinds (map (λ acc. acc.kind) (accumulators q)) d.accs
@@ -58,7 +61,7 @@ fired_stack q s a (e ∷ es) stack =
 
 -- on a record: WHERE
 abbrev pub WhereRuns : Query → Type 0
-WhereRuns q = IsChecked q → (d : Inputs) → record_fits q d ≡ true →
+WhereRuns q = IsChecked q → IsSpelt q → (d : Inputs) → record_fits q d ≡ true →
     Leaves (run (program_of q) Where d) (on_stack [] (condition_value q (on_record d.key d.values) 0 q.condition))
 
 -- on a key, a count and the values of the accumulators: FIRE
@@ -77,5 +80,5 @@ Folds r (Some vs) = (r.outcome ≡ Done) × (r.stack ≡ []) × (r.folds ≡ map
 
 -- on a record: UPDATE
 abbrev pub UpdateRuns : Query → Type 0
-UpdateRuns q = IsChecked q → (d : Inputs) → record_fits q d ≡ true →
+UpdateRuns q = IsChecked q → IsSpelt q → (d : Inputs) → record_fits q d ≡ true →
     Folds (run (program_of q) Update d) (folded_values q (on_record d.key d.values) (accumulators q))

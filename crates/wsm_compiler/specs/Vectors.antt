@@ -1,12 +1,14 @@
 -- Worked queries, computed by the definitions: their code, their bytes, their acceptance and their runs.
-use Rattle.std.specs.Prelude.{◌≡◌, refl, ℕ, true, false, [], ◌∷◌, ℤ, pos, negsuc, Option, Some, None, Result, Ok, Err, codes}
+use Rattle.std.specs.Prelude.{◌≡◌, refl, ℕ, true, false, [], ◌∷◌, ◌++◌, take, drop, ℤ, pos, negsuc, Option, Some, None, Result, Ok, Err, codes}
 use Rattle.wsm_record.specs.declared.event.Value.{Value}
 use Rattle.wsm_record.specs.declared.event.Value.TheVariants as value
 use Rattle.wsm_record.specs.declared.words.Kind.TheVariants.{Sum, Min, Max}
-use Rattle.wsm_record.specs.declared.words.Mode.TheVariants.{Accumulating}
+use Rattle.wsm_record.specs.declared.words.Mode.TheVariants.{Accumulating, Retracting}
 use Rattle.wsm_record.specs.declared.words.Form.TheVariants.{Panes}
 use Rattle.wsm_windows.specs.declared.window.Shape.TheVariants.{Fixed, Sliding}
+use Rattle.wsm_admission.specs.declared.clock.LateBy.TheVariants as late_by
 use Rattle.wsm_query.specs.declared.expr.Op.TheVariants.{Add, Sub, Div, Rem, Ne, Gt, Lt}
+use Rattle.wsm_interval.specs.declared.Comparison.TheVariants as compare
 use Rattle.wsm_record.specs.Schema as field_types
 use Rattle.wsm_query.specs.Tree.{Query, Expr, Number, Truth, Field, Count, Aggregate, If, Minus, Binary, And}
 use Rattle.wsm_program.specs.declared.instr.Instr.TheVariants as instr
@@ -15,7 +17,8 @@ use Rattle.wsm_program.specs.declared.instr.SectionId.TheVariants.{Where, Update
 use Rattle.wsm_program.specs.Program.{is_header, is_section, is_program}
 use Rattle.wsm_record.specs.Schema.{is_schema}
 use Rattle.wsm_record.specs.Name.{is_reserved}
-use Rattle.wsm_bytecode.specs.Spelling.{spelling, header, schema, code, instr as spelled_instr, long, signed}
+use Rattle.wsm_bytecode.specs.Parts.{code, instr as spelled_instr, long, signed}
+use Rattle.wsm_bytecode.specs.Spelling.{spelling, spelling_in, header}
 use Rattle.wsm_bytecode.specs.Vectors.{base_bytes}
 use Rattle.wsm_program.specs.declared.program.Costs.{Costs}
 use Rattle.wsm_verifier.specs.declared.rejection.Rejection.{Rejection}
@@ -31,17 +34,19 @@ use Rattle.wsm_compiler.specs.Ranges.{ranges_fit}
 use Rattle.wsm_compiler.specs.Program.{program_of}
 use Rattle.wsm_compiler.specs.SameMeaning.{IsAccepted}
 
-abbrev n : Expr
+abbrev pub n : Expr
 n = Field (codes "n")
 
 -- `SELECT COUNT(*), SUM(n)` in fixed windows of 60
-abbrev base : Query
+abbrev pub base : Query
 base = record {
   keys = codes "a" ∷ codes "b" ∷ [];
   fields = record { name = codes "n"; type = field_types.Int (pos 0) (pos 100) } ∷ [];
+  sources = [];
   start = pos 0;
   skew = pos 100;
   lateness = pos 10;
+  from_window = false;
   records = pos 1000;
   budget = None;
   columns = Count ∷ Aggregate Sum n ∷ [];
@@ -57,20 +62,44 @@ base = record {
 -- ---- programs and what they come to
 
 base_spelled : spelling (program_of base) ≡ base_bytes
-unfolding spelling header schema code spelled_instr long signed
+unfolding spelling spelling_in header code spelled_instr long signed
 base_spelled = refl
 
 base_lawful : is_program (program_of base) ≡ true
 unfolding is_program is_header is_section is_schema is_reserved
 base_lawful = refl
 
-abbrev costs : ℕ → ℕ → ℕ → Result Costs Rejection
+-- one source, and lateness from a record's own time
+base_clock : (program_of base).header.clock ≡ record { start = pos 0; skew = pos 100; lateness = pos 10; late = late_by.Event; records = pos 1000; sources = 1 }
+base_clock = refl
+
+-- `SOURCES x, y; .. LATENESS 10 FROM WINDOW; .. FIXED 60 RETRACTING`
+abbrev of_two_sources : Query
+of_two_sources = record base { sources = codes "x" ∷ codes "y" ∷ []; from_window = true; mode = Retracting }
+
+two_sources_clock : (program_of of_two_sources).header.clock ≡ record { start = pos 0; skew = pos 100; lateness = pos 10; late = late_by.Window (Fixed (pos 60)); records = pos 1000; sources = 2 }
+two_sources_clock = refl
+
+two_sources_lawful : is_program (program_of of_two_sources) ≡ true
+unfolding is_program is_header is_section is_schema is_reserved
+two_sources_lawful = refl
+
+abbrev pub costs : ℕ → ℕ → ℕ → Result Costs Rejection
 costs per_record per_pane held = Ok (record { per_record = per_record; per_pane = per_pane; held = held })
+
+-- as the base program: byte 63 is where lateness is counted from, byte 64 the number of sources, and the mode stands behind the shape
+two_sources_spelled : spelling (program_of of_two_sources) ≡ take 63 base_bytes ++ (1 ∷ 2 ∷ 1 ∷ 120 ∷ 1 ∷ 121 ∷ (take 9 (drop 65 base_bytes) ++ (2 ∷ drop 75 base_bytes)))
+unfolding spelling spelling_in header code spelled_instr long signed
+two_sources_spelled = refl
+
+-- they don't change what is needed
+two_sources_accepted : judge (program_of of_two_sources) ≡ costs 5 4 6
+two_sources_accepted = refl
 
 -- what the laws of accepted queries ask holds of it
 base_is_accepted : IsAccepted base
 unfolding is_reserved
-base_is_accepted = record { checked = refl; spelt = record { keys = refl; fields = refl; numbers = refl }; accepted = refl }
+base_is_accepted = record { checked = refl; spelt = record { keys = refl; fields = refl; sources = refl; numbers = refl }; accepted = refl }
 
 -- a number without 64 bits is no operand
 abbrev past_a_word : Query
@@ -114,15 +143,18 @@ base_fits = refl
 abbrev guarded : Query
 guarded = record base { condition = Some (And (Binary Ne n (Number (pos 0))) (Binary Gt (Binary Div (Number (pos 10)) n) (Number (pos 1)))) }
 
-guarded_where : where_section guarded ≡ instr.Field 0 ∷ instr.PushInt (pos 0) ∷ instr.Operate operation.Ne ∷ instr.JumpIfFalse 10 ∷ instr.PushInt (pos 10) ∷ instr.Field 0 ∷ instr.Operate operation.Div ∷ instr.PushInt (pos 1) ∷ instr.Operate operation.Gt ∷ instr.Jump 11 ∷ instr.PushBool false ∷ instr.Return ∷ []
+guarded_where : where_section guarded ≡ instr.Test (record { field = 0; comparison = compare.Ne; number = pos 0 }) 7 ∷ instr.PushInt (pos 10) ∷ instr.Field 0 ∷ instr.Operate operation.Div ∷ instr.PushInt (pos 1) ∷ instr.Operate operation.Gt ∷ instr.Jump 8 ∷ instr.PushBool false ∷ instr.Return ∷ []
 guarded_where = refl
 
--- a test narrows nothing
-guarded_rejected : judge (program_of guarded) ≡ Err (record { part = Code Where; place = 6; rule = MayDivideByZero })
-guarded_rejected = refl
+-- where it is divided by n, n is known not to be 0
+guarded_accepted : judge (program_of guarded) ≡ costs 11 4 6
+guarded_accepted = refl
+
+guarded_fits : ranges_fit guarded ≡ true
+guarded_fits = refl
 
 -- the division isn't evaluated at 0
-guarded_run : run (program_of guarded) Where (record { key = 0; values = value.Int (pos 0) ∷ []; count = pos 0; accs = [] }) ≡ record { outcome = Done; steps = 6; stack = cells.Bool false ∷ []; folds = None ∷ [] }
+guarded_run : run (program_of guarded) Where (record { key = 0; values = value.Int (pos 0) ∷ []; count = pos 0; accs = [] }) ≡ record { outcome = Done; steps = 3; stack = cells.Bool false ∷ []; folds = None ∷ [] }
 guarded_run = refl
 
 -- a condition with two accumulators, numbered from the left behind those of the columns

@@ -8,7 +8,7 @@ ghost use Rattle.wsm_compiler.specs.Accepted.{AcceptedExactly, AcceptedWithoutBu
 ghost use Rattle.wsm_compiler.specs.Folded.{FireMeans, FoldsHold, MeansTheSame};
 ghost use Rattle.wsm_compiler.specs.Labelled.{LabelsAreRanges};
 ghost use Rattle.wsm_compiler.specs.Lawful.{IsLawful, ParsedIsSpelt};
-ghost use Rattle.wsm_compiler.specs.Longest.{NeededByStructure};
+ghost use Rattle.wsm_compiler.specs.Longest.{NeededByStructure, NotLonger};
 ghost use Rattle.wsm_compiler.specs.SameLines.{SameLines, TextMeans};
 ghost use Rattle.wsm_compiler.specs.SameMeaning.{StandsForMeant, TotalOnPanes, TotalOnRecords, UpdatesHold};
 ghost use Rattle.wsm_compiler.specs.Sections.{FireRuns, UpdateRuns, WhereRuns};
@@ -28,9 +28,11 @@ pub fn labels_are_ranges()
     ensures { (q : Query) → LabelsAreRanges q }
 {}
 
-/// What the program needs is found by the structure of the query.
+/// What the program needs is found by the structure of the query; tests that jumps make are no
+/// longer than others.
 pub fn needed_by_structure()
-    ensures { (q : Query) → NeededByStructure q }
+    ensures needed { (q : Query) → NeededByStructure q }
+    ensures tests { (e : Expr) → NotLonger e }
 {}
 
 /// The instructions of each section are as many as the checks count.

@@ -2,14 +2,14 @@
 use Rattle.std.proofs.Common.{ℕ, zero, suc, true, false, List, [], ◌∷◌, neg_ℤ}
 use Rattle.std.specs.Prelude.{Option, codes}
 use Rattle.wsm_record.specs.declared.words.Kind.{Kind}
-use Rattle.wsm_record.specs.declared.words.Mode.TheVariants.{Discarding, Accumulating}
+use Rattle.wsm_record.specs.declared.words.Mode.TheVariants.{Discarding, Accumulating, Retracting}
 use Rattle.wsm_record.specs.declared.words.Form.TheVariants.{Panes, Istream, Dstream, Rstream}
 use Rattle.wsm_windows.specs.declared.window.Shape.TheVariants.{Fixed, Sliding, Session}
 use Rattle.wsm_tokens.specs.Read.{Rule, Stopped, give, and_then, behind, too_deep}
 use Rattle.wsm_record.specs.Schema as field_types
 use Rattle.wsm_query.specs.Tree.{Name, Expr, Number, Truth, Field, EnumName, Key, KeyName, Count, Aggregate, If, Brackets, Minus, Not}
 use Rattle.wsm_record.specs.declared.limits.TheConstants.{MAX_CHAIN, MAX_LEVELS}
-use Rattle.wsm_query.specs.Grammar.{clause, kinds, aggregate, count_of, choice, brackets, pointed, leaf, atom, unary, chain, chained, products, sums, comparisons, ands, ors, prod, sum, compared, cmp, neg, conj, expr_in, Deeper, deeper, levels, expr, int, names, type_of, field, budget, clock, selection, output, shape, mode, form, every}
+use Rattle.wsm_query.specs.Grammar.{clause, kinds, aggregate, count_of, choice, brackets, pointed, leaf, atom, unary, chain, chained, products, sums, comparisons, ands, ors, prod, sum, compared, cmp, neg, conj, expr_in, Deeper, deeper, levels, expr, int, names, type_of, field, budget, clock, selection, output, shape, mode, form, every, sources, from_window}
 use Rattle.wsm_query.proofs.Chains.{Table}
 use Rattle.wsm_query.proofs.Blind.{Blind, BlindAt, BlindIn, give_blind, bind_blind, behind_blind, deep_blind, at_blind, either_blind, numbered_blind, listed_blind, one_of_blind, ask_blind, number_blind, name_blind, after_blind, until_blind, optional_blind, list_of_blind, opened_blind}
 
@@ -134,7 +134,7 @@ shape_blind =
 
 pub mode_blind : Blind mode
 unfolding mode
-mode_blind = one_of_blind ((codes "ACCUMULATING", Accumulating) ∷ (codes "DISCARDING", Discarding) ∷ [])
+mode_blind = one_of_blind ((codes "ACCUMULATING", Accumulating) ∷ (codes "DISCARDING", Discarding) ∷ (codes "RETRACTING", Retracting) ∷ [])
 
 pub form_blind : Blind form
 unfolding form
@@ -147,14 +147,23 @@ every_blind = after_blind (codes "EVERY") number_blind
 pub clause_blind : {A : Type 0} {rule : Rule A} (s : List ℕ) → Blind rule → Blind (clause s rule)
 clause_blind s r = after_blind s (until_blind (codes ";") r)
 
+pub sources_blind : Blind sources
+unfolding sources
+sources_blind = either_blind (codes "SOURCES") (until_blind (codes ";") names_blind) (give_blind [])
+
+from_window_blind : Blind from_window
+unfolding from_window
+from_window_blind = either_blind (codes "FROM") (after_blind (codes "WINDOW") (give_blind true)) (give_blind false)
+
 pub clock_blind : Blind clock
 unfolding clock
 clock_blind =
     bind_blind (clause_blind (codes "START") number_blind) (λ start.
     bind_blind (clause_blind (codes "SKEW") number_blind) (λ skew.
-    bind_blind (clause_blind (codes "LATENESS") number_blind) (λ lateness.
+    bind_blind (after_blind (codes "LATENESS") number_blind) (λ lateness.
+    bind_blind (until_blind (codes ";") from_window_blind) (λ from_window.
     bind_blind (clause_blind (codes "RECORDS") number_blind) (λ records.
-    give_blind (record { start = start; skew = skew; lateness = lateness; records = records })))))
+    give_blind (record { start = start; skew = skew; lateness = lateness; from_window = from_window; records = records }))))))
 
 pub selection_blind : Blind selection
 unfolding selection

@@ -10,14 +10,14 @@ use Rattle.wsm_tokens.specs.Read.{Read, Rule, Took, Stopped, ◌>>=◌, give, an
 use Rattle.wsm_tokens.specs.Written.{bare, put}
 use Rattle.wsm_record.specs.Schema.{DeclaredField}
 use Rattle.wsm_query.specs.Tree.{Name, Query}
-use Rattle.wsm_query.specs.Grammar.{clause, until, brace, clock, names, field, query}
+use Rattle.wsm_query.specs.Grammar.{clause, until, brace, sources, clock, names, field, query}
 use Rattle.wsm_query.specs.Parse.{query_text}
 use Rattle.wsm_query.specs.Print.{name_tokens, clause_tokens, field_tokens, query_tokens}
 use Rattle.wsm_query.proofs.Blind.{bare_read}
 use Rattle.wsm_query.proofs.Spelt.{Proper, put_append, word_says, First, begun, Ends}
 use Rattle.wsm_query.proofs.Back.{Again, Backs, AllAgain, AllBack, more_proper, brace_back, brace_again}
 use Rattle.wsm_query.proofs.BackRules.{keys_back, field_body, field_back}
-use Rattle.wsm_query.proofs.Tail.{behind_fields, tail_blind, head_tokens, tail_goes}
+use Rattle.wsm_query.proofs.Tail.{behind_sources, behind_fields, tail_blind, head_tokens, tail_goes}
 
 bare_proper : (ts : Tokens) → Proper ts → Proper (bare ts)
 unfolding bare has_proper
@@ -46,13 +46,29 @@ starts : {A B C : Type 0} (go : Unit {0} → Rule A) (next : A → Rule B) (last
 unfolding ask
 starts go next last x rest ts p e = start_case go next last x rest ts p (begins (codes "START") ts) refl e
 
-tail_starts : (keys : List Name) (fields : List DeclaredField) (ts : Tokens) → Proper ts → (q : Query) (rest : Tokens) → behind_fields keys fields ts ≡ Took q rest → First (Word (codes "START")) ts
-unfolding clock
-tail_starts keys fields ts p q rest e = starts (λ _. until (codes ";") number) _ _ q rest ts p e
-
-no_field : (k : Tokens) → begins (codes "FIELD") (Then (Word (codes "START")) 0 k) ≡ false
+no_field_at_start : (ts : Tokens) → First (Word (codes "START")) ts → begins (codes "FIELD") (bare ts) ≡ false
 unfolding begins
-no_field k = refl
+no_field_at_start ts f = ap (begins (codes "FIELD")) f.same
+
+no_field_at_sources : (ts : Tokens) → First (Word (codes "SOURCES")) ts → begins (codes "FIELD") (bare ts) ≡ false
+unfolding begins
+no_field_at_sources ts f = ap (begins (codes "FIELD")) f.same
+
+clock_starts : (keys : List Name) (fields : List DeclaredField) (named : List Name) (ts : Tokens) → Proper ts → (q : Query) (rest : Tokens) → behind_sources keys fields named ts ≡ Took q rest
+    → First (Word (codes "START")) ts
+unfolding clock
+clock_starts keys fields named ts p q rest e = starts (λ _. until (codes ";") number) _ _ q rest ts p e
+
+-- what was taken behind the fields begins with SOURCES or with START
+sources_case : (keys : List Name) (fields : List DeclaredField) (ts : Tokens) → Proper ts → (q : Query) (rest : Tokens) → (c : Bool) → begins (codes "SOURCES") ts ≡ c
+    → and_then (elim c [ true ↦ until (codes ";") names (behind ts) | false ↦ Took [] ts ]) (behind_sources keys fields) ≡ Took q rest → begins (codes "FIELD") (bare ts) ≡ false
+sources_case keys fields ts p q rest true h e = no_field_at_sources ts (begun (codes "SOURCES") (Word (codes "SOURCES")) (word_says _ refl) ts p h)
+sources_case keys fields ts p q rest false h e = no_field_at_start ts (clock_starts keys fields [] ts p q rest e)
+
+no_field : (keys : List Name) (fields : List DeclaredField) (ts : Tokens) → Proper ts → (q : Query) (rest : Tokens) → behind_fields keys fields ts ≡ Took q rest
+    → begins (codes "FIELD") (bare ts) ≡ false
+unfolding sources
+no_field keys fields ts p q rest e = sources_case keys fields ts p q rest (begins (codes "SOURCES") ts) refl e
 
 pub record Round (q : Query) (rest : Tokens) : Type 0 where
   pub again : query (put (query_tokens q) (bare rest)) ≡ Took q (bare rest)
@@ -78,8 +94,7 @@ tail_rounds : (keys : List Name) (fields : List DeclaredField) (mid : Tokens) �
     → are_proper (head_tokens keys fields) ≡ true → Proper mid → (read : Read Query) → behind_fields keys fields mid ≡ read
     → Ends (put (head_tokens keys fields) (bare mid)) query_tokens read → Rounds read
 tail_rounds keys fields mid a l hp p (Took q rest) e h =
-    let f = tail_starts keys fields mid p q rest e in
-    let none : begins (codes "FIELD") (bare mid) ≡ false = ap (begins (codes "FIELD")) f.same ∙ no_field (bare (behind mid)) in
+    let none = no_field keys fields mid p q rest e in
     record {
       again = ap query (sym h.0) ∙ query_head keys fields (bare mid) a l none ∙ (tail_blind keys fields).law mid ∙ ap bare_read e;
       proper = proper_front (query_tokens q) (bare rest) (subst (λ ts. Proper ts) h.0 (put_proper (head_tokens keys fields) (bare mid) hp (bare_proper mid p)));

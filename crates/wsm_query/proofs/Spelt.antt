@@ -1,5 +1,5 @@
 -- What a rule took is the tokens of its tree: with what it read and the tokens behind that, the tokens where it began are put together again.
-use Rattle.std.proofs.Common.{◌≡◌, ℕ, Bool, true, false, List, [], ◌∷◌, ◌++◌, refl, sym, ap, ◌∙◌}
+use Rattle.std.proofs.Common.{◌≡◌, ℕ, Bool, true, false, List, [], ◌∷◌, ◌++◌, refl, sym, ap, subst, ◌∙◌}
 use Rattle.std.specs.Prelude.{Option, Some, None, bytes_eq, nat_le}
 use Rattle.std.proofs.lemmas.Bool.{and_parts}
 use Rattle.std.proofs.lemmas.Slice.Eq.{bytes_eq-Decides}
@@ -185,6 +185,11 @@ step {b = b} {front = front} {rule = rule} {go = go} {toks = toks} {final = fina
 
 pub done : {A : Type 0} {b : Tokens} {front : List Token} {final : A → List Token} (x : A) → front ≡ final x → Goes b front (give x) final
 done x same = record { law = λ ts p e. (e ∙ ap (λ us. put us (bare ts)) same, p) }
+
+-- a rule that reads as another does
+pub alike_goes : {A : Type 0} {b : Tokens} {front : List Token} {rule : Rule A} {final : A → List Token} (other : Rule A) → ((ts : Tokens) → rule ts ≡ other ts)
+    → Goes b front other final → Goes b front rule final
+alike_goes {b = b} {final = final} other same g = record { law = λ ts p e. subst (λ r. Ends b final r) (sym (same ts)) (g.law ts p e) }
 
 pub moved : {A : Type 0} {b : Tokens} {front : List Token} {rule : Rule A} {final : A → List Token} (other : List Token) → front ≡ other → Goes b other rule final → Goes b front rule final
 moved other same g = record { law = λ ts p e. g.law ts p (e ∙ ap (λ us. put us (bare ts)) same) }

@@ -1,20 +1,21 @@
 -- What each clause took is the tokens of its tree.
-use Rattle.std.proofs.Common.{◌≡◌, ℕ, zero, suc, List, [], ◌∷◌, ◌++◌, map, refl, ap, append_assoc, append-nil}
+use Rattle.std.proofs.Common.{◌≡◌, ℕ, zero, suc, true, false, List, [], ◌∷◌, ◌++◌, map, refl, ap, append_assoc, append-nil}
 use Rattle.std.specs.Prelude.{Option, Some, None, codes}
 use Rattle.std.specs.List.{flat_map}
-use Rattle.wsm_record.specs.declared.words.Mode.TheVariants.{Discarding, Accumulating}
+use Rattle.wsm_record.specs.declared.words.Mode.TheVariants.{Discarding, Accumulating, Retracting}
 use Rattle.wsm_record.specs.declared.words.Form.TheVariants.{Panes, Istream, Dstream, Rstream}
 use Rattle.wsm_windows.specs.declared.window.Shape.TheVariants.{Fixed, Sliding, Session}
-use Rattle.wsm_admission.specs.declared.clock.Clock.{Clock}
+use Rattle.wsm_tokens.specs.declared.token.Sign.{Sign}
 use Rattle.wsm_tokens.specs.declared.token.Sign.TheVariants as signs
-use Rattle.wsm_tokens.specs.Tokens.{Token, Word, Mark}
-use Rattle.wsm_tokens.specs.Read.{Rule, Took, count, behind}
+use Rattle.wsm_tokens.specs.Tokens.{Token, Word, Mark, Tokens, sign_text}
+use Rattle.wsm_tokens.specs.Read.{Read, Rule, Took, Stopped, ◌>>=◌, give, and_then, count, behind, ask, name}
+use Rattle.wsm_query.specs.declared.reading.ClockClauses.{ClockClauses}
 use Rattle.wsm_query.specs.declared.reading.Written.{Written}
-use Rattle.wsm_query.specs.Tree.{Budget, Selection}
-use Rattle.wsm_query.specs.Grammar.{one_of, clause, optional, turns, brace, list_of, expr, budget, clock, selection, output, shape, mode, form, every}
-use Rattle.wsm_query.specs.Print.{figures, expr_tokens, with_commas, clause_tokens, budget_tokens, condition_tokens, shape_tokens, mode_word, every_tokens, form_word}
-use Rattle.wsm_query.proofs.Spelt.{Says, word_says, sign_says, Spelt, spelt, step, done, behind_opens, lost_goes, either_goes, Entry, Entries, listed_goes}
-use Rattle.wsm_query.proofs.SpeltRules.{word_spelt, sign_spelt, after_spelt, number_spelt, expr_spelt}
+use Rattle.wsm_query.specs.Tree.{Name, Budget, Selection}
+use Rattle.wsm_query.specs.Grammar.{one_of, until, clause, optional, turns, brace, list_of, expr, names, sources, from_window, budget, clock, selection, output, shape, mode, form, every}
+use Rattle.wsm_query.specs.Print.{figures, expr_tokens, with_commas, clause_tokens, sources_tokens, from_window_tokens, budget_tokens, condition_tokens, shape_tokens, mode_word, every_tokens, form_word}
+use Rattle.wsm_query.proofs.Spelt.{Says, word_says, sign_says, Spelt, spelt, step, done, alike_goes, behind_opens, lost_goes, either_goes, Entry, Entries, listed_goes}
+use Rattle.wsm_query.proofs.SpeltRules.{word_spelt, sign_spelt, after_spelt, number_spelt, name_spelt, expr_spelt}
 
 pub clause_spelt : {A : Type 0} {rule : Rule A} {toks : A → List Token} (s : List ℕ) → Says s (Word s) → Spelt rule toks → Spelt (clause s rule) (λ x. clause_tokens s (toks x))
 clause_spelt s k r = spelt (λ b. step (word_spelt s k) (λ _. step r (λ x. step (sign_spelt signs.Semicolon) (λ _. done x refl))))
@@ -40,6 +41,41 @@ pub list_of_spelt : {A : Type 0} {rule : Rule A} {toks : A → List Token} → S
 unfolding list_of
 list_of_spelt {toks = toks} r =
     spelt (λ b. step r (λ x. step (brace_spelt (codes ",") (Mark signs.Comma) (sign_says signs.Comma) r) (λ xs. done (x ∷ xs) (commas toks x xs))))
+
+-- a part and a sign behind it
+until_sign_spelt : {A : Type 0} {rule : Rule A} {toks : A → List Token} (g : Sign) → Spelt rule toks → Spelt (until (sign_text g) rule) (λ x. toks x ++ Mark g ∷ [])
+until_sign_spelt g r = spelt (λ b. step r (λ x. step (sign_spelt g) (λ _. done x refl)))
+
+-- names and a semicolon, of which the list is made at its end
+named : Name → Rule (List Name)
+named x = brace (codes ",") name >>= λ xs. ask (codes ";") >>= λ _. give (x ∷ xs)
+
+made_of : (x : Name) (read : Read (List Name)) → and_then (and_then read (λ xs. give (x ∷ xs))) (λ xs. ask (codes ";") >>= λ _. give xs) ≡ and_then read (λ xs. ask (codes ";") >>= λ _. give (x ∷ xs))
+made_of x (Took xs rest) = refl
+made_of x (Stopped f) = refl
+
+made : (read : Read Name) → and_then (and_then read (λ x. brace (codes ",") name >>= λ xs. give (x ∷ xs))) (λ xs. ask (codes ";") >>= λ _. give xs) ≡ and_then read named
+unfolding named
+made (Took x rest) = made_of x (brace (codes ",") name rest)
+made (Stopped f) = refl
+
+names_ended : (ts : Tokens) → until (codes ";") names ts ≡ (name >>= named) ts
+unfolding names list_of
+names_ended ts = made (name ts)
+
+named_tokens : (x : Name) (xs : List Name) → Word (codes "SOURCES") ∷ Word x ∷ flat_map (λ y. Mark signs.Comma ∷ Word y ∷ []) xs ++ Mark signs.Semicolon ∷ [] ≡ sources_tokens (x ∷ xs)
+named_tokens x xs = ap (λ us. Word (codes "SOURCES") ∷ us ++ Mark signs.Semicolon ∷ []) (commas (λ y. Word y ∷ []) x xs)
+
+pub sources_spelt : Spelt sources sources_tokens
+unfolding sources named
+sources_spelt =
+    spelt (λ b.
+    either_goes (codes "SOURCES") (Word (codes "SOURCES")) (word_says _ refl)
+    (alike_goes (name >>= named) names_ended
+    (step name_spelt (λ x.
+    step (brace_spelt (codes ",") (Mark signs.Comma) (sign_says signs.Comma) name_spelt) (λ xs.
+    step (sign_spelt signs.Semicolon) (λ _. done (x ∷ xs) (named_tokens x xs))))))
+    (done [] refl))
 
 budget_body : Budget → List Token
 budget_body b = (Word (codes "RECORD") ∷ figures b.per_record ++ Word (codes "PANE") ∷ figures b.per_pane ++ Word (codes "HELD") ∷ figures b.held) ++ Mark signs.Semicolon ∷ []
@@ -68,12 +104,24 @@ pub interval_spelt : (s : List ℕ) → Says s (Word s) → Spelt (optional s ev
 interval_spelt s k = optional_spelt s k (every_tokens s) refl (λ x. refl) every_spelt
 
 -- what a clock is printed as
-abbrev pub clock_tokens : Clock → List Token
+abbrev pub clock_tokens : ClockClauses → List Token
 clock_tokens c =
     clause_tokens (codes "START") (figures c.start)
     ++ clause_tokens (codes "SKEW") (figures c.skew)
-    ++ clause_tokens (codes "LATENESS") (figures c.lateness)
+    ++ clause_tokens (codes "LATENESS") (figures c.lateness ++ from_window_tokens c.from_window)
     ++ clause_tokens (codes "RECORDS") (figures c.records)
+
+from_window_spelt : Spelt from_window from_window_tokens
+unfolding from_window
+from_window_spelt =
+    spelt (λ b.
+    either_goes (codes "FROM") (Word (codes "FROM")) (word_says _ refl)
+    (step (word_spelt (codes "WINDOW") (word_says _ refl)) (λ _. done true refl))
+    (done false refl))
+
+-- the clauses of a clock, with LATENESS in two parts
+clock_apart : (s k n w e r : List Token) → s ++ k ++ n ++ (w ++ e) ++ r ≡ s ++ k ++ (n ++ w ++ e) ++ r
+clock_apart s k n w e r = simp append_assoc
 
 pub clock_spelt : Spelt clock clock_tokens
 unfolding clock
@@ -81,9 +129,10 @@ clock_spelt =
     spelt (λ b.
     step (clause_spelt (codes "START") (word_says _ refl) number_spelt) (λ start.
     step (clause_spelt (codes "SKEW") (word_says _ refl) number_spelt) (λ skew.
-    step (clause_spelt (codes "LATENESS") (word_says _ refl) number_spelt) (λ lateness.
+    step (after_spelt (codes "LATENESS") (word_says _ refl) number_spelt) (λ lateness.
+    step (until_sign_spelt signs.Semicolon from_window_spelt) (λ from_window.
     step (clause_spelt (codes "RECORDS") (word_says _ refl) number_spelt) (λ records.
-    done (record { start = start; skew = skew; lateness = lateness; records = records }) (simp append_assoc))))))
+    done (record { start = start; skew = skew; lateness = lateness; from_window = from_window; records = records }) (search clock_apart)))))))
 
 pub shape_spelt : Spelt shape shape_tokens
 unfolding shape
@@ -108,8 +157,8 @@ one_of_spelt word table n =
 pub mode_spelt : Spelt mode (λ m. Word (mode_word m) ∷ [])
 unfolding mode
 mode_spelt =
-    one_of_spelt mode_word ((codes "ACCUMULATING", Accumulating) ∷ (codes "DISCARDING", Discarding) ∷ [])
-    (entry mode_word Accumulating (word_says _ refl), (entry mode_word Discarding (word_says _ refl), tt))
+    one_of_spelt mode_word ((codes "ACCUMULATING", Accumulating) ∷ (codes "DISCARDING", Discarding) ∷ (codes "RETRACTING", Retracting) ∷ [])
+    (entry mode_word Accumulating (word_says _ refl), (entry mode_word Discarding (word_says _ refl), (entry mode_word Retracting (word_says _ refl), tt)))
 
 pub form_spelt : Spelt form (λ f. Word (form_word f) ∷ [])
 unfolding form

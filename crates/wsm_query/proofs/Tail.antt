@@ -6,15 +6,15 @@ use Rattle.wsm_tokens.specs.Tokens.{Token, Tokens}
 use Rattle.wsm_tokens.specs.Read.{Rule, ◌>>=◌, give}
 use Rattle.wsm_record.specs.Schema.{DeclaredField}
 use Rattle.wsm_query.specs.Tree.{Name, Query}
-use Rattle.wsm_query.specs.Grammar.{optional, budget, clock, selection, output}
+use Rattle.wsm_query.specs.Grammar.{optional, sources, budget, clock, selection, output}
 use Rattle.wsm_query.specs.Print.{name_tokens, clause_tokens, field_tokens, query_tokens}
 use Rattle.wsm_query.proofs.Blind.{Blind, give_blind, bind_blind, optional_blind}
-use Rattle.wsm_query.proofs.BlindRules.{budget_blind, clock_blind, selection_blind, output_blind}
+use Rattle.wsm_query.proofs.BlindRules.{sources_blind, budget_blind, clock_blind, selection_blind, output_blind}
 use Rattle.wsm_query.proofs.Spelt.{Goes, step, done}
-use Rattle.wsm_query.proofs.SpeltClauses.{budget_spelt, clock_spelt, selection_spelt, output_spelt}
+use Rattle.wsm_query.proofs.SpeltClauses.{sources_spelt, budget_spelt, clock_spelt, selection_spelt, output_spelt}
 
-abbrev pub behind_fields : List Name → List DeclaredField → Rule Query
-behind_fields keys fields = do
+abbrev pub behind_sources : List Name → List DeclaredField → List Name → Rule Query
+behind_sources keys fields sources = do
   clock ← clock
   budget ← optional (codes "BUDGET") budget
   selection ← selection
@@ -22,9 +22,11 @@ behind_fields keys fields = do
   give (record {
     keys = keys;
     fields = fields;
+    sources = sources;
     start = clock.start;
     skew = clock.skew;
     lateness = clock.lateness;
+    from_window = clock.from_window;
     records = clock.records;
     budget = budget;
     columns = selection.columns;
@@ -37,23 +39,30 @@ behind_fields keys fields = do
     form = output.form;
   })
 
+abbrev pub behind_fields : List Name → List DeclaredField → Rule Query
+behind_fields keys fields = do
+  sources ← sources
+  behind_sources keys fields sources
+
 pub tail_blind : (keys : List Name) (fields : List DeclaredField) → Blind (behind_fields keys fields)
 tail_blind keys fields =
+    bind_blind sources_blind (λ sources.
     bind_blind clock_blind (λ clock.
     bind_blind (optional_blind (codes "BUDGET") budget_blind) (λ budget.
     bind_blind selection_blind (λ selection.
-    bind_blind output_blind (λ output. give_blind _))))
+    bind_blind output_blind (λ output. give_blind _)))))
 
 -- the tokens of the keys and the fields
 abbrev pub head_tokens : List Name → List DeclaredField → List Token
 head_tokens keys fields = clause_tokens (codes "KEYS") (name_tokens keys) ++ flat_map field_tokens fields
 
 -- the clauses of a clock, of what is selected and of what is written, one by one
-apart : (h s k l r b c w v x m t f : List Token) → h ++ (s ++ k ++ l ++ r) ++ b ++ (c ++ w ++ v) ++ (x ++ m ++ t ++ f) ≡ h ++ s ++ k ++ l ++ r ++ b ++ c ++ w ++ v ++ x ++ m ++ t ++ f
-apart h s k l r b c w v x m t f = simp append_assoc
+apart : (h o s k l r b c w v x m t f : List Token) → h ++ o ++ (s ++ k ++ l ++ r) ++ b ++ (c ++ w ++ v) ++ (x ++ m ++ t ++ f) ≡ h ++ o ++ s ++ k ++ l ++ r ++ b ++ c ++ w ++ v ++ x ++ m ++ t ++ f
+apart h o s k l r b c w v x m t f = simp append_assoc
 
 pub tail_goes : {b : Tokens} (keys : List Name) (fields : List DeclaredField) → Goes b (head_tokens keys fields) (behind_fields keys fields) query_tokens
 tail_goes keys fields =
+    step sources_spelt (λ sources.
     step clock_spelt (λ clock.
     step budget_spelt (λ budget.
     step selection_spelt (λ selection.
@@ -62,9 +71,11 @@ tail_goes keys fields =
     (record {
       keys = keys;
       fields = fields;
+      sources = sources;
       start = clock.start;
       skew = clock.skew;
       lateness = clock.lateness;
+      from_window = clock.from_window;
       records = clock.records;
       budget = budget;
       columns = selection.columns;
@@ -76,4 +87,4 @@ tail_goes keys fields =
       late = output.late;
       form = output.form;
     })
-    (search apart)))))
+    (search apart))))))

@@ -1,18 +1,18 @@
 -- The grammar of query texts, a rule each, over tokens. This project's own rule.
-use Rattle.std.specs.Prelude.{ℕ, zero, suc, true, false, List, [], ◌∷◌, ℤ, neg_ℤ, Option, Some, None, codes}
+use Rattle.std.specs.Prelude.{ℕ, zero, suc, Bool, true, false, List, [], ◌∷◌, ℤ, neg_ℤ, Option, Some, None, codes}
 use Rattle.wsm_record.specs.declared.limits.TheConstants.{MAX_CHAIN, MAX_LEVELS}
 use Rattle.wsm_record.specs.declared.words.Kind.{Kind}
 use Rattle.wsm_record.specs.declared.words.Kind.TheVariants.{Sum, Min, Max, Any, All}
 use Rattle.wsm_record.specs.declared.words.Mode.{Mode}
-use Rattle.wsm_record.specs.declared.words.Mode.TheVariants.{Discarding, Accumulating}
+use Rattle.wsm_record.specs.declared.words.Mode.TheVariants.{Discarding, Accumulating, Retracting}
 use Rattle.wsm_record.specs.declared.words.Form.{Form}
 use Rattle.wsm_record.specs.declared.words.Form.TheVariants.{Panes, Istream, Dstream, Rstream}
 use Rattle.wsm_windows.specs.declared.window.Shape.{Shape}
-use Rattle.wsm_admission.specs.declared.clock.Clock.{Clock}
 use Rattle.wsm_windows.specs.declared.window.Shape.TheVariants.{Fixed, Sliding, Session}
 use Rattle.wsm_tokens.specs.Tokens.{Tokens}
 use Rattle.wsm_tokens.specs.Read.{Rule, Took, Stopped, ◌>>=◌, give, and_then, unexpected, too_deep, begins, begins_number, behind, count, ask, number, name}
 use Rattle.wsm_query.specs.declared.expr.Op.{Op}
+use Rattle.wsm_query.specs.declared.reading.ClockClauses.{ClockClauses}
 use Rattle.wsm_query.specs.declared.reading.Written.{Written}
 use Rattle.wsm_query.specs.declared.expr.Op.TheVariants.{Add, Sub, Mul, Div, Rem, Eq, Ne, Lt, Le, Gt, Ge}
 use Rattle.wsm_record.specs.Schema.{FieldType, DeclaredField}
@@ -271,7 +271,7 @@ shape =
     (after (codes "SESSION") (number >>= λ g. give (Session g))))
 
 unfoldable pub mode : Rule Mode
-mode = one_of ((codes "ACCUMULATING", Accumulating) ∷ (codes "DISCARDING", Discarding) ∷ [])
+mode = one_of ((codes "ACCUMULATING", Accumulating) ∷ (codes "DISCARDING", Discarding) ∷ (codes "RETRACTING", Retracting) ∷ [])
 
 unfoldable pub form : Rule Form
 form = one_of ((codes "PANES", Panes) ∷ (codes "ISTREAM", Istream) ∷ (codes "DSTREAM", Dstream) ∷ (codes "RSTREAM", Rstream) ∷ [])
@@ -280,14 +280,23 @@ form = one_of ((codes "PANES", Panes) ∷ (codes "ISTREAM", Istream) ∷ (codes 
 unfoldable pub every : Rule ℤ
 every = after (codes "EVERY") number
 
+-- [ "SOURCES" names ";" ], behind the fields; no sources where the clause is absent
+unfoldable pub sources : Rule (List Name)
+sources = either (codes "SOURCES") (until (codes ";") names) (give [])
+
+-- [ "FROM" "WINDOW" ], behind the number of LATENESS
+unfoldable pub from_window : Rule Bool
+from_window = either (codes "FROM") (after (codes "WINDOW") (give true)) (give false)
+
 -- START to RECORDS
-unfoldable pub clock : Rule Clock
+unfoldable pub clock : Rule ClockClauses
 clock = do
   start ← clause (codes "START") number
   skew ← clause (codes "SKEW") number
-  lateness ← clause (codes "LATENESS") number
+  lateness ← after (codes "LATENESS") number
+  from_window ← until (codes ";") from_window
   records ← clause (codes "RECORDS") number
-  give (record { start = start; skew = skew; lateness = lateness; records = records })
+  give (record { start = start; skew = skew; lateness = lateness; from_window = from_window; records = records })
 
 -- SELECT to HAVING
 unfoldable pub selection : Rule Selection
@@ -311,6 +320,7 @@ unfoldable pub query : Rule Query
 query = do
   keys ← clause (codes "KEYS") names
   fields ← brace (codes "FIELD") field
+  sources ← sources
   clock ← clock
   budget ← optional (codes "BUDGET") budget
   selection ← selection
@@ -318,9 +328,11 @@ query = do
   give (record {
     keys = keys;
     fields = fields;
+    sources = sources;
     start = clock.start;
     skew = clock.skew;
     lateness = clock.lateness;
+    from_window = clock.from_window;
     records = clock.records;
     budget = budget;
     columns = selection.columns;

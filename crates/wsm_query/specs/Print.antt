@@ -4,7 +4,7 @@ use Rattle.std.specs.List.{flat_map}
 use Rattle.wsm_record.specs.declared.words.Kind.{Kind}
 use Rattle.wsm_record.specs.declared.words.Kind.TheVariants.{Sum, Min, Max, Any, All}
 use Rattle.wsm_record.specs.declared.words.Mode.{Mode}
-use Rattle.wsm_record.specs.declared.words.Mode.TheVariants.{Discarding, Accumulating}
+use Rattle.wsm_record.specs.declared.words.Mode.TheVariants.{Discarding, Accumulating, Retracting}
 use Rattle.wsm_record.specs.declared.words.Form.{Form}
 use Rattle.wsm_record.specs.declared.words.Form.TheVariants.{Panes, Istream, Dstream, Rstream}
 use Rattle.wsm_windows.specs.declared.window.Shape.{Shape}
@@ -90,6 +90,16 @@ clause_tokens w ts = Word w ∷ ts ++ Mark signs.Semicolon ∷ []
 abbrev pub field_tokens : DeclaredField → List Token
 field_tokens d = clause_tokens (codes "FIELD") (Word d.name ∷ ty_tokens d.type)
 
+-- a clause of the sources, where there are any
+abbrev pub sources_tokens : List Name → List Token
+sources_tokens [] = []
+sources_tokens (x ∷ xs) = clause_tokens (codes "SOURCES") (name_tokens (x ∷ xs))
+
+-- what stands behind the number of LATENESS
+abbrev pub from_window_tokens : Bool → List Token
+from_window_tokens true = Word (codes "FROM") ∷ Word (codes "WINDOW") ∷ []
+from_window_tokens false = []
+
 abbrev pub budget_tokens : Option Budget → List Token
 budget_tokens None = []
 budget_tokens (Some b) =
@@ -108,6 +118,7 @@ shape_tokens (Session g) = Word (codes "SESSION") ∷ figures g
 abbrev pub mode_word : Mode → List ℕ
 mode_word Accumulating = codes "ACCUMULATING"
 mode_word Discarding = codes "DISCARDING"
+mode_word Retracting = codes "RETRACTING"
 
 abbrev pub every_tokens : List ℕ → Option ℤ → List Token
 every_tokens w None = []
@@ -123,9 +134,10 @@ abbrev pub query_tokens : Query → List Token
 query_tokens q =
     clause_tokens (codes "KEYS") (name_tokens q.keys)
     ++ flat_map field_tokens q.fields
+    ++ sources_tokens q.sources
     ++ clause_tokens (codes "START") (figures q.start)
     ++ clause_tokens (codes "SKEW") (figures q.skew)
-    ++ clause_tokens (codes "LATENESS") (figures q.lateness)
+    ++ clause_tokens (codes "LATENESS") (figures q.lateness ++ from_window_tokens q.from_window)
     ++ clause_tokens (codes "RECORDS") (figures q.records)
     ++ budget_tokens q.budget
     ++ Word (codes "SELECT") ∷ with_commas (map expr_tokens q.columns)

@@ -35,9 +35,11 @@ abbrev pub seen : CodeQuery → Query
 seen q = record {
   keys = q.keys.items;
   fields = map declared_field q.fields.items;
+  sources = q.sources.items;
   start = q.start;
   skew = q.skew;
   lateness = q.lateness;
+  from_window = q.from_window;
   records = q.records;
   budget = option_map seen_budget q.budget;
   columns = map seen_expr q.columns.items;

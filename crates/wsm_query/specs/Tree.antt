@@ -45,9 +45,11 @@ pub record Selection : Type 0 where
 pub record Query : Type 0 where
   pub keys : List Name
   pub fields : List DeclaredField
+  pub sources : List Name  -- none without the clause
   pub start : ℤ
   pub skew : ℤ
   pub lateness : ℤ
+  pub from_window : Bool  -- lateness counts from the end of a window
   pub records : ℤ
   pub budget : Option Budget
   pub columns : List Expr

@@ -1,8 +1,9 @@
 -- Texts with their trees, or their first faults, computed by the definitions.
-use Rattle.std.specs.Prelude.{◌≡◌, refl, ℕ, zero, suc, List, [], ◌∷◌, ◌++◌, replicate, map, pos, Some, None, Result, Ok, Err, codes}
+use Rattle.std.specs.Prelude.{◌≡◌, refl, ℕ, zero, suc, true, false, List, [], ◌∷◌, ◌++◌, replicate, map, pos, Some, None, Result, Ok, Err, codes}
+use Rattle.std.specs.Fmt.{digits}
 use Rattle.wsm_record.specs.Name.{is_reserved}
 use Rattle.wsm_record.specs.declared.words.Kind.TheVariants.{Sum}
-use Rattle.wsm_record.specs.declared.words.Mode.TheVariants.{Accumulating}
+use Rattle.wsm_record.specs.declared.words.Mode.TheVariants.{Accumulating, Retracting}
 use Rattle.wsm_record.specs.declared.words.Form.TheVariants.{Panes}
 use Rattle.wsm_windows.specs.declared.window.Shape.TheVariants.{Fixed}
 use Rattle.wsm_tokens.specs.declared.fault.Fault.{Fault}
@@ -15,8 +16,10 @@ use Rattle.wsm_tokens.specs.Read.{unexpected, too_deep, begins, begins_number, i
 use Rattle.wsm_query.specs.declared.expr.Op.TheVariants.{Sub, Ne, Gt, Div}
 use Rattle.wsm_record.specs.Schema as field_types
 use Rattle.wsm_query.specs.Tree.{Query, Number, Field, Count, Aggregate, Brackets, Binary, And}
-use Rattle.wsm_query.specs.Grammar.{brace, list_of, aggregate, count_of, choice, brackets, pointed, leaf, atom, unary, chain, chained, prod, sum, cmp, neg, conj, expr_in, levels, expr, int, names, type_of, field, budget, clock, selection, output, shape, mode, form, every, query}
+use Rattle.wsm_query.specs.Grammar.{brace, list_of, aggregate, count_of, choice, brackets, pointed, leaf, atom, unary, chain, chained, prod, sum, cmp, neg, conj, expr_in, levels, expr, int, names, type_of, field, sources, from_window, budget, clock, selection, output, shape, mode, form, every, query}
 use Rattle.wsm_query.specs.Parse.{parse, query_text}
+use Rattle.wsm_tokens.specs.Written.{written}
+use Rattle.wsm_query.specs.Print.{print}
 
 -- the base query with other parts
 abbrev head : List ℕ
@@ -32,9 +35,11 @@ abbrev base : Query
 base = record {
   keys = codes "a" ∷ codes "b" ∷ [];
   fields = record { name = codes "n"; type = field_types.Int (pos 0) (pos 100) } ∷ [];
+  sources = [];
   start = pos 0;
   skew = pos 100;
   lateness = pos 10;
+  from_window = false;
   records = pos 1000;
   budget = None;
   columns = Count ∷ Aggregate Sum (Field (codes "n")) ∷ [];
@@ -79,8 +84,30 @@ trees =
     ∷ []
 
 trees_read : map (λ t. (t.0, parse (selecting t.0))) trees ≡ trees
-unfolding parse query_text tokens tokens_from first_of sign_of place_of is_reserved unexpected too_deep begins begins_number is_end behind count ask number name ended brace list_of aggregate count_of choice brackets pointed leaf atom unary chain chained prod sum cmp neg conj expr_in levels expr int names type_of field budget clock selection output shape mode form every query
+unfolding parse query_text tokens tokens_from first_of sign_of place_of is_reserved unexpected too_deep begins begins_number is_end behind count ask number name ended brace list_of aggregate count_of choice brackets pointed leaf atom unary chain chained prod sum cmp neg conj expr_in levels expr int names type_of field sources from_window budget clock selection output shape mode form every query
 trees_read = refl
+
+-- the base query with each of sources, lateness from a window's end and retracting panes, and with all, as it is printed
+abbrev printed : List (List ℕ × Result Query ParseRefusal)
+printed =
+    (codes "KEYS a , b ; FIELD n INT 0 .. 100 ; SOURCES x ; START 0 ; SKEW 100 ; LATENESS 10 ; RECORDS 1000 ; SELECT COUNT ( * ) , SUM ( n ) WINDOW FIXED 60 ACCUMULATING EMIT PANES ;", Ok (record base { sources = codes "x" ∷ [] }))
+    ∷ (codes "KEYS a , b ; FIELD n INT 0 .. 100 ; START 0 ; SKEW 100 ; LATENESS 10 FROM WINDOW ; RECORDS 1000 ; SELECT COUNT ( * ) , SUM ( n ) WINDOW FIXED 60 ACCUMULATING EMIT PANES ;", Ok (record base { from_window = true }))
+    ∷ (codes "KEYS a , b ; FIELD n INT 0 .. 100 ; START 0 ; SKEW 100 ; LATENESS 10 ; RECORDS 1000 ; SELECT COUNT ( * ) , SUM ( n ) WINDOW FIXED 60 RETRACTING EMIT PANES ;", Ok (record base { mode = Retracting }))
+    ∷ (codes "KEYS a , b ; FIELD n INT 0 .. 100 ; SOURCES x , y ; START 0 ; SKEW 100 ; LATENESS 10 FROM WINDOW ; RECORDS 1000 ; SELECT COUNT ( * ) , SUM ( n ) WINDOW FIXED 60 RETRACTING EMIT PANES ;", Ok (record base { sources = codes "x" ∷ codes "y" ∷ []; from_window = true; mode = Retracting }))
+    ∷ []
+
+printed_read : map (λ t. (t.0, parse t.0)) printed ≡ printed
+unfolding parse query_text tokens tokens_from first_of sign_of place_of is_reserved unexpected too_deep begins begins_number is_end behind count ask number name ended brace list_of aggregate count_of choice brackets pointed leaf atom unary chain chained prod sum cmp neg conj expr_in levels expr int names type_of field sources from_window budget clock selection output shape mode form every query
+printed_read = refl
+
+-- the text of what was read
+abbrev again : Result Query ParseRefusal → List ℕ
+again (Ok q) = print q
+again (Err refusal) = []
+
+read_printed : map (λ t. (again t.1, t.1)) printed ≡ printed
+unfolding print written digits
+read_printed = refl
 
 -- a text, and what it comes to
 pub data Told : Type 0 where
@@ -178,7 +205,7 @@ abbrev all_columns : List Told
 all_columns = operators ++ words ++ atoms ++ numbers ++ conditions ++ levels_open ++ chains
 
 columns_answered : map columns_told all_columns ≡ all_columns
-unfolding parse query_text tokens tokens_from first_of sign_of place_of is_reserved unexpected too_deep begins begins_number is_end behind count ask number name ended brace list_of aggregate count_of choice brackets pointed leaf atom unary chain chained prod sum cmp neg conj expr_in levels expr int names type_of field budget clock selection output shape mode form every query
+unfolding parse query_text tokens tokens_from first_of sign_of place_of is_reserved unexpected too_deep begins begins_number is_end behind count ask number name ended brace list_of aggregate count_of choice brackets pointed leaf atom unary chain chained prod sum cmp neg conj expr_in levels expr int names type_of field sources from_window budget clock selection output shape mode form every query
 columns_answered = refl
 
 -- the end is just past the last byte, blanks too; the 33rd byte of a word is no byte of it, also where no word would be taken
@@ -204,11 +231,27 @@ texts =
     ∷ Says (codes "KEYS a; FIELD b BOOL START 0;") (Unread Unexpected 1 22)
     ∷ Says (codes "KEYS a; START 0; SKEW 0; LATENESS 0; RECORDS 1; BUDGET RECORD 1 HELD 3;") (Unread Unexpected 1 65)
     ∷ Says (codes "KEYS a; START 0; SKEW 0; LATENESS 0; RECORDS 1; SELECT 1 WINDOW SESSION 6 ACCUMULATING EMIT PANES;") Taken
-    ∷ Says (codes "KEYS a; START 0; SKEW 0; LATENESS 0; RECORDS 1; SELECT 1 WINDOW SESSION 6 RETRACTING EMIT PANES;") (Unread Unexpected 1 75)
+    ∷ Says (codes "KEYS a; START 0; SKEW 0; LATENESS 0; RECORDS 1; SELECT 1 WINDOW SESSION 6 RETRACTING EMIT PANES;") Taken
+    ∷ Says (codes "KEYS a; START 0; SKEW 0; LATENESS 0; RECORDS 1; SELECT 1 WINDOW FIXED 6 RETRACTING ACCUMULATING EMIT PANES;") (Unread Unexpected 1 84)
+    ∷ Says (codes "KEYS a; START 0; SKEW 0; LATENESS 0; RECORDS 1; SELECT 1 WINDOW FIXED 6 EMIT PANES;") (Unread Unexpected 1 73)
+    ∷ Says (codes "KEYS a; START 0; SKEW 0; LATENESS 10 FROM WINDOW; RECORDS 1; SELECT 1 WINDOW FIXED 6 ACCUMULATING EMIT PANES;") Taken
+    ∷ Says (codes "KEYS a; START 0; SKEW 0; LATENESS 10 FROM;") (Unread Unexpected 1 42)
+    ∷ Says (codes "KEYS a; START 0; SKEW 0; LATENESS 10 WINDOW;") (Unread Unexpected 1 38)
+    ∷ Says (codes "KEYS a; START 0; SKEW 0; LATENESS FROM WINDOW;") (Unread Unexpected 1 35)
+    ∷ Says (codes "KEYS a; START 0; SKEW 0; LATENESS 10 FROM WINDOW FROM WINDOW;") (Unread Unexpected 1 50)
+    ∷ Says (codes "KEYS a; START 0; SKEW 0; LATENESS 10 FROM @") (Unread BadCharacter 1 43)
+    ∷ Says (codes "KEYS a; SOURCES x, y; START 0; SKEW 0; LATENESS 0; RECORDS 1; SELECT 1 WINDOW FIXED 6 ACCUMULATING EMIT PANES;") Taken
+    ∷ Says (codes "KEYS a; SOURCES ;") (Unread Unexpected 1 17)
+    ∷ Says (codes "KEYS a; SOURCES x, ;") (Unread Unexpected 1 20)
+    ∷ Says (codes "KEYS a; SOURCES x y;") (Unread Unexpected 1 19)
+    ∷ Says (codes "KEYS a; SOURCES x; SOURCES y;") (Unread Unexpected 1 20)
+    ∷ Says (codes "KEYS a; SOURCES x; FIELD n BOOL;") (Unread Unexpected 1 20)
+    ∷ Says (codes "KEYS a; START 0; SOURCES x;") (Unread Unexpected 1 18)
+    ∷ Says (codes "KEYS a; SOURCES FROM;") (Unread Unexpected 1 17)
     ∷ Says (codes "KEYS a; START 0; SKEW 0; LATENESS 0; RECORDS 1; SELECT 1 WINDOW FIXED 6 ACCUMULATING LATE EVERY 1 EARLY EVERY 1 EMIT PANES;") (Unread Unexpected 1 99)
     ∷ Says (codes "KEYS a; START 0; SKEW 0; LATENESS 0; RECORDS 1; SELECT 1 WINDOW FIXED 6 ACCUMULATING EMIT ISTREAM; ;") (Unread Unexpected 1 100)
     ∷ []
 
 texts_answered : map text_told texts ≡ texts
-unfolding parse query_text tokens tokens_from first_of sign_of place_of is_reserved unexpected too_deep begins begins_number is_end behind count ask number name ended brace list_of aggregate count_of choice brackets pointed leaf atom unary chain chained prod sum cmp neg conj expr_in levels expr int names type_of field budget clock selection output shape mode form every query
+unfolding parse query_text tokens tokens_from first_of sign_of place_of is_reserved unexpected too_deep begins begins_number is_end behind count ask number name ended brace list_of aggregate count_of choice brackets pointed leaf atom unary chain chained prod sum cmp neg conj expr_in levels expr int names type_of field sources from_window budget clock selection output shape mode form every query
 texts_answered = refl

@@ -2,7 +2,7 @@
 
 ghost use Rattle.std.specs.Prelude.{◌≡◌, ◌≤◌, codes, map};
 ghost use Rattle.wsm_tokens.specs.Read.{Gives, count};
-ghost use Rattle.wsm_query.specs.Grammar.{int, names, type_of, field, brace, list_of, expr, shape, mode, form, every, budget};
+ghost use Rattle.wsm_query.specs.Grammar.{int, names, type_of, field, brace, list_of, expr, shape, mode, form, every, budget, from_window, sources};
 ghost use Rattle.wsm_record.specs.Fields.{declared_field, declared_type};
 ghost use Rattle.wsm_query.specs.Seen.{seen_budget, seen_expr};
 
@@ -97,6 +97,35 @@ pub fn fields(alloc: Global, reader: &mut Reader) -> Result<Vec<Field>, Stop>
     Ok(fields)
 }
 
+/// `[ "SOURCES" names ";" ]`, and no sources where the clause is absent
+#[tactic(auto, unfolding(crate::specs::Grammar::sources))]
+pub fn sources(alloc: Global, reader: &mut Reader) -> Result<Vec<Name>, Stop>
+    ensures gives { Gives (λ v. v.items) result reader.new (sources reader.old) }
+    ensures onward { count reader.new ≤ count reader.old }
+{
+    if !reader.begins(b"SOURCES") {
+        return Ok(Vec::new(alloc));
+    }
+    reader.advance();
+    let sources = names(alloc, reader)?;
+    reader.ask(b";")?;
+    Ok(sources)
+}
+
+/// `[ "FROM" "WINDOW" ]`, behind the number of LATENESS: whether the words stand there
+#[tactic(auto, unfolding(crate::specs::Grammar::from_window))]
+pub fn from_window(reader: &mut Reader) -> Result<bool, Stop>
+    ensures gives { Gives (λ b. b) result reader.new (from_window reader.old) }
+    ensures onward { count reader.new ≤ count reader.old }
+{
+    if !reader.begins(b"FROM") {
+        return Ok(false);
+    }
+    reader.advance();
+    reader.ask(b"WINDOW")?;
+    Ok(true)
+}
+
 /// `expr { "," expr }`
 #[tactic(auto, unfolding(crate::specs::Grammar::list_of, crate::specs::Grammar::brace))]
 pub fn columns(alloc: Global, reader: &mut Reader) -> Result<Vec<Expr>, Stop>
@@ -134,7 +163,7 @@ pub fn shape(reader: &mut Reader) -> Result<Shape, Stop>
     Ok(Shape::Session(reader.number()?))
 }
 
-/// `mode = "ACCUMULATING" | "DISCARDING"`
+/// `mode = "ACCUMULATING" | "DISCARDING" | "RETRACTING"`
 #[tactic(auto, unfolding(crate::specs::Grammar::mode))]
 pub fn mode(reader: &mut Reader) -> Result<Mode, Stop>
     ensures gives { Gives (λ m. m) result reader.new (mode reader.old) }
@@ -144,6 +173,8 @@ pub fn mode(reader: &mut Reader) -> Result<Mode, Stop>
         Mode::Accumulating
     } else if reader.begins(b"DISCARDING") {
         Mode::Discarding
+    } else if reader.begins(b"RETRACTING") {
+        Mode::Retracting
     } else {
         return Err(reader.unexpected());
     };

@@ -26,6 +26,11 @@
 //! let refusal = ParseRefusal::Text(Fault::Unexpected, place);
 //! assert!(rt; parse(alloc, b"KEYS a b;").is_err_and(|e| e == refusal));
 //! ```
+//!
+//! Behind the fields `SOURCES x, y;` may name the sources of watermarks, in [`Query::sources`]. With
+//! `LATENESS 10 FROM WINDOW;` lateness counts from the end of a window, which is
+//! [`Query::from_window`]. The mode, behind the windows, is `ACCUMULATING`, `DISCARDING` or
+//! `RETRACTING`.
 #![tactic(auto)]
 
 pub use expr::{Expr, Op};

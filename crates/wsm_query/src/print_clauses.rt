@@ -1,10 +1,10 @@
 //! Printed clauses of a query: a function for each rule of the grammar below the expressions.
 
-ghost use Rattle.std.specs.Prelude.{◌≡◌, ◌∷◌, [], codes, map, option_map, OnOk};
+ghost use Rattle.std.specs.Prelude.{◌≡◌, ◌∷◌, ◌++◌, [], codes, map, option_map, OnOk};
 ghost use Rattle.std.specs.List.{flat_map};
 ghost use Rattle.wsm_query.specs.Adds.{adds, comma_before};
 ghost use Rattle.wsm_query.specs.Print as rule;
-ghost use Rattle.wsm_query.specs.Print.{budget_tokens, clause_tokens, condition_tokens, every_tokens, expr_tokens, field_tokens, figures, name_tokens, shape_tokens, ty_tokens, with_commas};
+ghost use Rattle.wsm_query.specs.Print.{budget_tokens, clause_tokens, condition_tokens, every_tokens, expr_tokens, field_tokens, figures, from_window_tokens, name_tokens, shape_tokens, sources_tokens, ty_tokens, with_commas};
 ghost use Rattle.wsm_record.specs.Fields.{declared_field, declared_type};
 ghost use Rattle.wsm_query.specs.Seen.{seen_budget, seen_expr};
 
@@ -105,6 +105,33 @@ pub fn clause(text: &mut Vec<u8>, front: &[u8], value: i64) -> Result<(), AllocE
     sign(text, Sign::Semicolon)
 }
 
+/// Adds the clause of the sources, where there are any.
+#[tactic(auto, using(crate::proofs::Written::parts))]
+pub fn sources(text: &mut Vec<u8>, sources: &[Name]) -> Result<(), AllocError>
+    ensures { OnOk result (text.new.items ≡ adds text.old.items (sources_tokens sources.now)) }
+{
+    if sources.is_empty() {
+        return Ok(());
+    }
+    word(text, b"SOURCES")?;
+    names(text, sources)?;
+    sign(text, Sign::Semicolon)
+}
+
+/// Adds the clause of lateness, from a record's own time or from the end of a window.
+#[tactic(auto, using(crate::proofs::Written::parts))]
+pub fn lateness(text: &mut Vec<u8>, value: i64, from_window: bool) -> Result<(), AllocError>
+    ensures { OnOk result (text.new.items ≡ adds text.old.items (clause_tokens (codes "LATENESS") (figures value ++ from_window_tokens from_window))) }
+{
+    word(text, b"LATENESS")?;
+    number(text, value)?;
+    if from_window {
+        word(text, b"FROM")?;
+        word(text, b"WINDOW")?;
+    }
+    sign(text, Sign::Semicolon)
+}
+
 /// Adds the clause of a stated budget, where there is one.
 #[tactic(auto, using(crate::proofs::Written::parts))]
 pub fn budget(text: &mut Vec<u8>, budget: Option<Budget>) -> Result<(), AllocError>
@@ -182,6 +209,7 @@ pub fn mode_word(mode: Mode) -> &'static [u8]
     match mode {
         Mode::Accumulating => b"ACCUMULATING",
         Mode::Discarding => b"DISCARDING",
+        Mode::Retracting => b"RETRACTING",
     }
 }
 

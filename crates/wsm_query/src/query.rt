@@ -20,12 +20,16 @@ pub struct Budget {
 pub struct Query {
     pub keys: Vec<Name>,
     pub fields: Vec<Field>,
+    /// The sources of watermarks, in the order of their clause. A query without the clause has none.
+    pub sources: Vec<Name>,
     /// Where the watermark starts, in event time.
     pub start: i64,
     /// How far ahead of the watermark a record may be, in event time.
     pub skew: i64,
-    /// How far behind the watermark a record may be, in event time.
+    /// How far behind the watermark a record, or the end of its last window, may be, in event time.
     pub lateness: i64,
+    /// Whether lateness counts from the end of a window, and not from a record's own time.
+    pub from_window: bool,
     /// How many records are admitted.
     pub records: i64,
     pub budget: Option<Budget>,

@@ -7,15 +7,26 @@ ghost use Rattle.wsm_query.specs.Parse.{Parses, parse, query_text};
 ghost use Rattle.wsm_query.specs.Print.{print};
 ghost use Rattle.wsm_query.specs.Seen.{seen, seen_budget, seen_expr, seen_selection};
 
-use crate::clauses::{budget, columns, every, fields, form, mode, names, shape};
+use crate::clauses::{
+    budget, columns, every, fields, form, from_window, mode, names, shape, sources,
+};
 use crate::expr::Expr;
 use crate::parse_expr::expression;
 use crate::query::{Budget, Query};
 use std::alloc::Global;
-use wsm_admission::Clock;
 use wsm_record::{Form, Mode, Name};
 use wsm_tokens::{ParseRefusal, Reader, Stop, refusal_of};
 use wsm_windows::Shape;
+
+// The clauses from START to RECORDS, by which records and watermarks are admitted.
+#[derive(Clone, Copy)]
+struct ClockClauses {
+    start: i64,
+    skew: i64,
+    lateness: i64,
+    from_window: bool,
+    records: i64,
+}
 
 // What is selected, and of which records and panes.
 #[derive(Drop)]
@@ -59,8 +70,8 @@ fn query_text(alloc: Global, reader: &mut Reader) -> Result<Query, Stop>
     Ok(query)
 }
 
-// query = "KEYS" names ";" { "FIELD" name type ";" } "START" num ";" "SKEW" num ";"
-//         "LATENESS" num ";" "RECORDS" num ";"
+// query = "KEYS" names ";" { "FIELD" name type ";" } [ "SOURCES" names ";" ]
+//         "START" num ";" "SKEW" num ";" "LATENESS" num [ "FROM" "WINDOW" ] ";" "RECORDS" num ";"
 //         [ "BUDGET" "RECORD" num "PANE" num "HELD" num ";" ]
 //         "SELECT" expr { "," expr } [ "WHERE" expr ] [ "HAVING" expr ]
 //         "WINDOW" shape mode [ "EARLY" "EVERY" num ] [ "LATE" "EVERY" num ] "EMIT" form ";"
@@ -70,6 +81,7 @@ fn query(alloc: Global, reader: &mut Reader) -> Result<Query, Stop>
 {
     let keys = keys(alloc, reader)?;
     let fields = fields(alloc, reader)?;
+    let sources = sources(alloc, reader)?;
     let clock = clock(reader)?;
     let budget = optional_budget(reader)?;
     let selection = selection(alloc, reader)?;
@@ -77,9 +89,11 @@ fn query(alloc: Global, reader: &mut Reader) -> Result<Query, Stop>
     Ok(Query {
         keys,
         fields,
+        sources,
         start: clock.start,
         skew: clock.skew,
         lateness: clock.lateness,
+        from_window: clock.from_window,
         records: clock.records,
         budget,
         columns: selection.columns,
@@ -103,19 +117,23 @@ fn keys(alloc: Global, reader: &mut Reader) -> Result<Vec<Name>, Stop>
     Ok(keys)
 }
 
-// "START" num ";" "SKEW" num ";" "LATENESS" num ";" "RECORDS" num ";"
+// "START" num ";" "SKEW" num ";" "LATENESS" num [ "FROM" "WINDOW" ] ";" "RECORDS" num ";"
 #[tactic(auto, unfolding(crate::specs::Grammar::clock))]
-fn clock(reader: &mut Reader) -> Result<Clock, Stop>
+fn clock(reader: &mut Reader) -> Result<ClockClauses, Stop>
     ensures { Gives (λ c. c) result reader.new (rule.clock reader.old) }
 {
     let start = clause(reader, b"START")?;
     let skew = clause(reader, b"SKEW")?;
-    let lateness = clause(reader, b"LATENESS")?;
+    reader.ask(b"LATENESS")?;
+    let lateness = reader.number()?;
+    let from_window = from_window(reader)?;
+    reader.ask(b";")?;
     let records = clause(reader, b"RECORDS")?;
-    Ok(Clock {
+    Ok(ClockClauses {
         start,
         skew,
         lateness,
+        from_window,
         records,
     })
 }

@@ -7,11 +7,7 @@ use Rattle.wsm_compiler.proofs.headers.header.Goals as goal
 -- the numbers are passed on as they are
 pub returns : goal.returns
 returns c =
-    let start : FitsSigned w64 c.args.parts.now.start = search rules in
-    let skew : FitsSigned w64 c.args.parts.now.skew = search rules in
-    let lateness : FitsSigned w64 c.args.parts.now.lateness = search rules in
-    let records : FitsSigned w64 c.args.parts.now.records = search rules in
     let early : FitsSigned w64 c.every.result = search rules in
     let late : FitsSigned w64 c.every-2.result = search rules in
     simp to_z-of_z
-    (rw (c.in_ok-schema.ensures, c.every.ensures, c.every-2.ensures, c.in_ok-kinds.ensures, c.in_ok-column_types.ensures, c.deref.ensures.value, c.deref-2.ensures.value, c.deref-3.ensures.value, c.deref-4.ensures.value) refl)
+    (rw (c.clock-clock.ensures, c.in_ok-schema.ensures, c.every.ensures, c.every-2.ensures, c.in_ok-kinds.ensures, c.in_ok-column_types.ensures, c.deref.ensures.value, c.deref-2.ensures.value, c.deref-3.ensures.value, c.deref-4.ensures.value, c.deref-5.ensures.value) refl)
