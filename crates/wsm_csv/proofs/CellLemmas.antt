@@ -67,7 +67,7 @@ row_tag-field_at (x ∷ xs) = refl
 abbrev pub TagDecides : Declared → List (List ℕ) → Option Tag → Type 0
 TagDecides d cells None = event_of_cells d cells ≡ Err BadTag
 TagDecides d cells (Some Record) = (event_of_cells d cells ≡ record_of d (drop 1 cells)) × (slice_get cells 0 ≡ Some record_tag)
-TagDecides d cells (Some Watermark) = event_of_cells d cells ≡ watermark_of (drop 1 cells)
+TagDecides d cells (Some Watermark) = event_of_cells d cells ≡ watermark_of d (drop 1 cells)
 
 tag_decides : (d : Declared) (x : List ℕ) (xs : List (List ℕ)) (r w : Bool) → bytes_eq x record_tag ≡ r → bytes_eq x watermark_tag ≡ w
     → TagDecides d (x ∷ xs) (if r then Some Record else if w then Some Watermark else None)

@@ -52,12 +52,17 @@ record_of d (key ∷ time ∷ cells) =
     else Err CellCount
 record_of d _ = Err CellCount
 
--- the one cell of a watermark behind its tag
-abbrev pub watermark_of : List (List ℕ) → Result Event RowFault
-watermark_of (time ∷ []) = then_read (time_of time) (λ t. Ok (Watermark t))
-watermark_of _ = Err CellCount
+-- the cells of a watermark behind its tag: its time alone where no sources are declared, and it is of
+-- source 0; else its source and its time, and one that isn't declared has no number
+abbrev pub mark_of : List (List ℕ) → List (List ℕ) → Result Event RowFault
+mark_of [] (time ∷ []) = then_read (time_of time) (λ t. Ok (Watermark (Some 0) t))
+mark_of (s ∷ ss) (source ∷ time ∷ []) = then_read (time_of time) (λ t. Ok (Watermark (place_of source (s ∷ ss)) t))
+mark_of _ _ = Err CellCount
+
+abbrev pub watermark_of : Declared → List (List ℕ) → Result Event RowFault
+watermark_of d cells = mark_of d.sources cells
 
 -- the event of a row, or the first fault
 abbrev pub event_of_cells : Declared → List (List ℕ) → Result Event RowFault
 event_of_cells d [] = Err BadTag
-event_of_cells d (tag ∷ cells) = if bytes_eq tag record_tag then record_of d cells else if bytes_eq tag watermark_tag then watermark_of cells else Err BadTag
+event_of_cells d (tag ∷ cells) = if bytes_eq tag record_tag then record_of d cells else if bytes_eq tag watermark_tag then watermark_of d cells else Err BadTag

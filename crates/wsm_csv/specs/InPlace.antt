@@ -6,9 +6,9 @@ use Rattle.wsm_record.specs.declared.event.Event.TheVariants.{Record, Watermark}
 
 abbrev pub values_in : Event → List Value
 values_in (Record key time values) = values.items
-values_in (Watermark time) = []
+values_in (Watermark source time) = []
 
 -- for how many values there is room: in the record's vector, or else in the spare one
 abbrev pub room_in : Event → ℕ → ℕ
 room_in (Record key time values) spare = vec_capacity values
-room_in (Watermark time) spare = spare
+room_in (Watermark source time) spare = spare

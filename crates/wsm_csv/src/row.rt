@@ -1,10 +1,10 @@
 //! Reading rows as events.
 
-ghost use Rattle.std.specs.Prelude.{◌≡◌, ◌≢◌, ◌+◌, ◌<◌, ◌≤◌, List, drop, length, map, vec_capacity, IfErr, IfOk, OnOk, Err, Ok, Some, slice_get};
+ghost use Rattle.std.specs.Prelude.{◌≡◌, ◌≢◌, ◌+◌, ◌<◌, ◌≤◌, List, [], drop, length, map, vec_capacity, IfErr, IfOk, OnOk, Err, Ok, Some, slice_get};
 ghost use Rattle.csv.specs.Records.{fields_of};
 ghost use Rattle.wsm_record.specs.Event.{Record, event_of};
 ghost use Rattle.wsm_record.specs.Fields.{field_seen, type_seen};
-ghost use Rattle.wsm_csv.specs.Cells.{Adds, event_of_cells, place_of, record_of, record_tag, time_of, truth_of, value_of, values_of, watermark_of};
+ghost use Rattle.wsm_csv.specs.Cells.{Adds, event_of_cells, mark_of, place_of, record_of, record_tag, time_of, truth_of, value_of, values_of, watermark_of};
 ghost use Rattle.wsm_csv.specs.InPlace.{room_in, values_in};
 ghost use Rattle.wsm_csv.specs.Refused.{IfFault};
 ghost use Rattle.wsm_csv.specs.Tags.{row_tag, tag_of};
@@ -18,8 +18,11 @@ use wsm_record::{DeclaredField, Event, FieldType, Names, RowFault, Schema, Value
 /// The cells of a record in front of its fields: its tag, its key and its time.
 const RECORD_HEAD: usize = 3;
 
-/// The cells of a watermark: its tag and its time.
+/// The cells of a watermark where no sources are declared: its tag and its time.
 const WATERMARK_CELLS: usize = 2;
+
+/// The cells of a watermark of one of several sources: its tag, its source and its time.
+const SOURCED_CELLS: usize = 3;
 
 /// Why a row is not read.
 #[derive(Clone, Copy, Debug, PartialEq, Eq)]
@@ -60,15 +63,18 @@ impl From<AllocError> for RowRefusal {
 }
 
 /// The event that a row says, or the first fault from the left. `r,KEY,TIME,` and a cell for each
-/// field is a record, `w,TIME` a watermark. Cells are compared as bytes. A key that isn't declared is
-/// no fault here, nor is a number outside its field's interval or a time outside its range. Memory is
-/// asked for a record's values alone.
+/// field is a record, `w,TIME` a watermark, or `w,SOURCE,TIME` where sources are declared. Cells are
+/// compared as bytes. A key or a source that isn't declared is no fault here, nor is a number outside
+/// its field's interval or a time outside its range. Memory is asked for a record's values alone.
 pub fn read_row(alloc: Global, schema: &Schema, row: &ByteRecord) -> Result<Event, RowRefusal>
     ensures event { IfOk result (λ e. event_of_cells schema.now (fields_of row.now) ≡ Ok (event_of e)) }
     ensures fault { IfErr result (λ r. IfFault r (λ f. event_of_cells schema.now (fields_of row.now) ≡ Err f)) }
     ensures memory { result ≡ Err RowRefusal.Memory → slice_get (fields_of row.now) 0 ≡ Some record_tag }
 {
-    let mut event = Event::Watermark(0);
+    let mut event = Event::Watermark {
+        source: None,
+        time: 0,
+    };
     read_row_into(alloc, schema, row, &mut event, &mut Vec::new(alloc))?;
     Ok(event)
 }
@@ -91,7 +97,7 @@ pub fn read_row_into(
 {
     match read_tag(row) {
         Some(Tag::Record) => read_record(alloc, schema, row, event, spare),
-        Some(Tag::Watermark) => Ok(read_watermark(row, event, spare)?),
+        Some(Tag::Watermark) => Ok(read_watermark(schema, row, event, spare)?),
         None => Err(RowRefusal::Fault(RowFault::BadTag)),
     }
 }
@@ -152,7 +158,7 @@ fn begin_record(
 {
     match event {
         Event::Record { key: place, .. } => *place = key,
-        Event::Watermark(_) => {
+        Event::Watermark { .. } => {
             *event = Event::Record {
                 key,
                 time,
@@ -166,21 +172,50 @@ fn begin_record(
 }
 
 fn read_watermark(
+    schema: &Schema,
     row: &ByteRecord,
     event: &mut Event,
     spare: &mut Vec<Value>,
 ) -> Result<(), RowFault>
-    ensures event { OnOk result (watermark_of (drop 1 (fields_of row.now)) ≡ Ok (event_of event.new)) }
-    ensures fault { IfErr result (λ f. watermark_of (drop 1 (fields_of row.now)) ≡ Err f) }
+    ensures event { OnOk result (watermark_of schema.now (drop 1 (fields_of row.now)) ≡ Ok (event_of event.new)) }
+    ensures fault { IfErr result (λ f. watermark_of schema.now (drop 1 (fields_of row.now)) ≡ Err f) }
+{
+    let mark = read_mark(schema.sources(), row)?;
+    if let Event::Record { values, .. } = mem::replace(event, mark) {
+        *spare = values;
+    }
+    Ok(())
+}
+
+// The watermark of a row, where these sources are declared.
+fn read_mark(sources: &Names, row: &ByteRecord) -> Result<Event, RowFault>
+    ensures event { IfOk result (λ e. mark_of sources.now (drop 1 (fields_of row.now)) ≡ Ok (event_of e)) }
+    ensures fault { IfErr result (λ f. mark_of sources.now (drop 1 (fields_of row.now)) ≡ Err f) }
+{
+    if sources.len() == 0 {
+        return read_only_mark(row);
+    }
+    if row.len() != SOURCED_CELLS {
+        return Err(RowFault::CellCount);
+    }
+    let time = read_time(cell_at(row, 2))?;
+    let source = sources.number_of(cell_at(row, 1));
+    Ok(Event::Watermark { source, time })
+}
+
+// The watermark of a row, where no sources are declared.
+fn read_only_mark(row: &ByteRecord) -> Result<Event, RowFault>
+    ensures event { IfOk result (λ e. mark_of [] (drop 1 (fields_of row.now)) ≡ Ok (event_of e)) }
+    ensures fault { IfErr result (λ f. mark_of [] (drop 1 (fields_of row.now)) ≡ Err f) }
 {
     if row.len() != WATERMARK_CELLS {
         return Err(RowFault::CellCount);
     }
     let time = read_time(cell_at(row, 1))?;
-    if let Event::Record { values, .. } = mem::replace(event, Event::Watermark(time)) {
-        *spare = values;
-    }
-    Ok(())
+    Ok(Event::Watermark {
+        source: Some(0),
+        time,
+    })
 }
 
 // Reads the values of a record in place of those that are there, up to the first fault.

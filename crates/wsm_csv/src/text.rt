@@ -160,6 +160,14 @@ fn add_row(schema: &Schema, row: &OutRow, out: &mut Vec<u8>) -> Result<(), Alloc
             add_pane(schema, *kind, *key, out)?;
             add_window(schema, *window, columns.as_slice(), out)
         }
+        OutRow::Retract {
+            key,
+            window,
+            columns,
+        } => {
+            add_withdrawn(schema, *key, out)?;
+            add_window(schema, *window, columns.as_slice(), out)
+        }
         OutRow::Istream { mark, columns } => add_stream(schema, b"istream", *mark, columns, out),
         OutRow::Dstream { mark, columns } => add_stream(schema, b"dstream", *mark, columns, out),
         OutRow::Rstream { mark, columns } => add_stream(schema, b"rstream", *mark, columns, out),
@@ -174,6 +182,14 @@ fn add_pane(schema: &Schema, kind: PaneKind, key: u16, out: &mut Vec<u8>) -> Res
     let start = write_first(kind, &mut first, FIRST);
     out.extend_from_slice(&first[start..])?;
     out.extend_from_slice(name_text(Some(schema.keys()), key))
+}
+
+// The cells of a pane that is withdrawn in front of its window.
+fn add_withdrawn(schema: &Schema, key: u16, out: &mut Vec<u8>) -> Result<(), AllocError>
+    ensures { OnOk result (out.new.items ≡ out.old.items ++ (codes "retract" ++ cells_text (text.name_at schema.now.keys key ∷ []))) }
+{
+    out.extend_from_slice(b"retract")?;
+    add_cell(name_text(Some(schema.keys()), key), out)
 }
 
 // The cells of a window and of the columns behind it.
@@ -393,5 +409,6 @@ fn refusal_word(why: Refusal) -> &'static [u8]
         Refusal::Late => b"Late",
         Refusal::RecordLimit => b"RecordLimit",
         Refusal::NotRising => b"NotRising",
+        Refusal::UnknownSource => b"UnknownSource",
     }
 }

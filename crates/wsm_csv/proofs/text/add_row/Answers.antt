@@ -36,3 +36,14 @@ returns-in-Rstream c =
     let cells : List (List ℕ) = signed_decimal c.in-Rstream.mark ∷ map (cell_text c.args.schema.now) c.in-Rstream.columns in
     rw c.in-Rstream.is (on_ok c.add_stream-in-Rstream.result (c.add_stream-in-Rstream.new.out.items ≡ c.args.out.now.items ++ (codes "rstream" ++ cells_text cells)) (c.add_stream-in-Rstream.new.out.items ≡ c.args.out.now.items ++ joined (codes "rstream" ∷ cells))
     (joined-word c.args.out.now.items c.add_stream-in-Rstream.new.out.items (codes "rstream") cells) (simp to_z-of_z at c.add_stream-in-Rstream.ensures))
+
+pub returns-in_ok-add_withdrawn-in-Retract : goal.returns-in_ok-add_withdrawn-in-Retract
+returns-in_ok-add_withdrawn-in-Retract c =
+    let front : List (List ℕ) = name_at c.args.schema.now.keys c.in-Retract.key ∷ [] in
+    let window : List (List ℕ) = signed_decimal c.in-Retract.window.start ∷ signed_decimal c.in-Retract.window.end ∷ [] in
+    let back = window ++ map (cell_text c.args.schema.now) c.in-Retract.columns in
+    rw c.in-Retract.is (on_ok c.add_window-in-Retract.result
+    (c.add_window-in-Retract.new.out.items ≡ c.add_withdrawn.new.out.items ++ cells_text (window ++ map (cell_text c.args.schema.now) c.as_slice-in-Retract.result.now))
+    (c.add_window-in-Retract.new.out.items ≡ c.args.out.now.items ++ joined (codes "retract" ∷ (front ++ back)))
+    (λ e. joined-split c.args.out.now.items c.add_window-in-Retract.new.out.items (codes "retract") front back (rw (c.as_slice-in-Retract.ensures, (c.in_ok-add_withdrawn-in-Retract).ensures) at e))
+    c.add_window-in-Retract.ensures)

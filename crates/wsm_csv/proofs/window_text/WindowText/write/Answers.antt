@@ -1,4 +1,4 @@
-use Rattle.std.proofs.Common.{◌≡◌, ◌++◌, List, ℕ, drop, length, arith, ap, ◌∙◌}
+use Rattle.std.proofs.Common.{◌++◌, List, ℕ, drop, arith, ap, ◌∙◌}
 use Rattle.wsm_windows.specs.declared.window.Window.{Window}
 use Rattle.wsm_csv.specs.Lines.{cells_text, window_cells}
 use Rattle.wsm_csv.proofs.LineLemmas.{drop_behind}
