@@ -17,6 +17,7 @@ told row refusal.TimeRange h = refl
 told row refusal.TooFarAhead h = refl
 told row refusal.RecordLimit h = refl
 told row refusal.NotRising h = refl
+told row refusal.UnknownSource h = refl
 
 pub one_line : (declared : Declared) (line : Line) → lines_text declared (line ∷ []) ≡ line_text declared line
 one_line declared line = append-nil (line_text declared line)

@@ -23,6 +23,26 @@ status Memory = 5
 status ReadFailed = 6
 status WriteFailed = 7
 
+-- the number by which a rule of the verifier is told; none is told for want of memory
+abbrev pub rule_number : Rule → ℕ
+rule_number rule.StackUnderflow = 1
+rule_number rule.StackOverflow = 2
+rule_number rule.Type = 3
+rule_number rule.BadJump = 4
+rule_number rule.Join = 5
+rule_number rule.Unreachable = 6
+rule_number rule.NoReturn = 7
+rule_number rule.NotHere = 8
+rule_number rule.FoldTwice = 9
+rule_number rule.FoldMissing = 10
+rule_number rule.MayOverflow = 11
+rule_number rule.MayDivideByZero = 12
+rule_number rule.AccumulatorRange = 13
+rule_number rule.BudgetRecord = 14
+rule_number rule.BudgetPane = 15
+rule_number rule.BudgetHeld = 16
+rule_number rule.Memory = 17
+
 abbrev pub end_of_text : ParseRefusal → End
 end_of_text (parse.Text fault place) = Refused (Text fault place)
 end_of_text parse.Memory = Memory

@@ -1,7 +1,7 @@
 //! How a run, a judgement or a compilation ends early.
 
 ghost use Rattle.std.specs.Prelude.{◌≡◌};
-ghost use Rattle.wsm.specs.Ends.{status};
+ghost use Rattle.wsm.specs.Ends.{rule_number, status};
 
 use std::alloc::{AllocError, AllocFailed};
 use thiserror::Error;
@@ -61,7 +61,9 @@ pub fn status_of(end: End) -> u8
 }
 
 // The number of a rule: rules are counted from 1.
-fn number_of(rule: Rule) -> u8 {
+fn number_of(rule: Rule) -> u8
+    ensures { result ≡ rule_number rule }
+{
     rule as u8 + 1
 }
 

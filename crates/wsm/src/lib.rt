@@ -2,47 +2,63 @@
 //!
 //! [`run_query`] reads and checks the text of a query, compiles it, has the program verified, takes
 //! the turn of each row of a reader, and gives a device the lines of each turn and a last one.
-//! [`run_program`] does so from the bytes of a program. This query and these rows
-//!
-//! ```text
-//! KEYS a; FIELD n INT 0..9; START 0; SKEW 60; LATENESS 0; RECORDS 10;
-//! SELECT COUNT(*), SUM(n) WINDOW FIXED 60 ACCUMULATING EMIT PANES;
-//!
-//! r,a,5,7
-//! w,60
-//! ```
-//!
-//! give the lines `pane,on_time,a,0,60,1,7` and `end,2,1,0,0,1`.
-//!
-//! In code, with `text` and `rows` for them:
+//! [`run_program`] does so from the bytes of a program. A whole program:
 //!
 //! ```rust
-//! use wsm::{Guarded, compile_text, run_program, run_query};
+//! use wsm::{End, Fault, Guarded, Place, Refusal, compile_text, run_program, run_query};
 //!
-//! let mut out = Guarded::new(Vec::new(alloc));
-//! let totals = run_query(alloc, text, rows, &mut out)?;
-//! assert_eq!(rt; (totals.rows, totals.panes), (2, 1));
-//! let written = out.into_writer(); // the two lines
+//! const QUERY: &[u8] = b"KEYS a, b;
+//! FIELD n INT 0..100;
+//! START 0; SKEW 100; LATENESS 10; RECORDS 1000;
+//! SELECT COUNT(*), SUM(n)
+//! WINDOW FIXED 60 ACCUMULATING
+//! EMIT PANES;";
 //!
-//! let program = compile_text(alloc, text)?;
-//! let mut again = Guarded::new(Vec::new(alloc));
-//! run_program(alloc, &program, rows, &mut again)?;
-//! assert_eq!(rt; again.into_writer().as_slice(), written.as_slice());
+//! // Two records, and a watermark that comes to the end of their window.
+//! const ROWS: &[u8] = b"r,a,5,7\nr,a,59,3\nw,60\n";
+//!
+//! const LINES: &[u8] = b"pane,on_time,a,0,60,2,10\nend,3,2,0,0,1\n";
+//!
+//! fn main(rt: HostRuntime) -> Result<(), End> {
+//!     let alloc = rt.alloc();
+//!     let mut out = Guarded::new(Vec::new(alloc));
+//!     let totals = run_query(alloc, QUERY, ROWS, &mut out)?;
+//!     assert_eq!(rt; (totals.rows, totals.panes), (3, 1));
+//!     assert_eq!(rt; out.into_writer().as_slice(), LINES);
+//!
+//!     // The bytes of the query's program write the same.
+//!     let program = compile_text(alloc, QUERY)?;
+//!     let mut out = Guarded::new(Vec::new(alloc));
+//!     run_program(alloc, &program, ROWS, &mut out)?;
+//!     assert_eq!(rt; out.into_writer().as_slice(), LINES);
+//!
+//!     // A text that is no query ends with its first fault, and nothing is written.
+//!     let why = Refusal::Text(Fault::Unexpected, Place { line: 1, column: 8 });
+//!     let mut out = Guarded::new(Vec::new(alloc));
+//!     let end = run_query(alloc, b"KEYS a b;", ROWS, &mut out);
+//!     assert!(rt; end.is_err_and(|end| end == End::Refused(why)));
+//!     assert!(rt; out.into_writer().is_empty());
+//!     Ok(())
+//! }
 //! ```
+//!
+//! `Guarded::new(io::writer(&rt))` is the standard output, and a file or the standard input may stand
+//! for the rows.
 //!
 //! What the device takes is exactly the text that the query means for the rows that were read, or a
 //! beginning of it where the run ends early, and the [`End`] says why. A text that is no query ends
 //! with its first [`Refusal`], a program that is not accepted with the verifier's rejection, and then
 //! nothing is written.
 //!
-//! [`compile_text`] gives the bytes of a query's program, and [`judge`] writes what the verifier says
-//! of a program. `judged` goes from texts and bytes to verified programs, `turns` keeps what the rows
-//! so far come to, and `run` goes from the reader to the device. [`command_of`] reads the words of the
-//! program's command.
+//! [`compile_text`] gives the bytes of a query's program, [`migrate`] those of a program in the version
+//! that is written, and [`judge`] writes what the verifier says of a program. `judged` goes from texts
+//! and bytes to verified programs, `turns` keeps what the rows so far come to, and `run` goes from the
+//! reader to the device. [`command_of`] reads the words of the program's command.
 #![tactic(auto)]
 
 pub use compile::compile_text;
 pub use end::{End, Refusal, status_of};
+pub use migrating::migrate;
 pub use run::{run_program, run_query};
 pub use verdict::judge;
 pub use wsm_check::{CheckFault, Part};
@@ -56,6 +72,7 @@ pub use wsm_words::{Job, WordsRefusal, command_of};
 mod compile;
 mod end;
 mod judged;
+mod migrating;
 mod run;
 mod turns;
 mod verdict;

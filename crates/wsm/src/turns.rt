@@ -54,7 +54,10 @@ impl Turns {
         Ok(Turns {
             engine,
             lines: Vec::new(alloc),
-            event: Event::Watermark(0),
+            event: Event::Watermark {
+                source: None,
+                time: 0,
+            },
             spare: Vec::new(alloc),
             faults: 0,
         })

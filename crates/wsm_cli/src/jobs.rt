@@ -3,7 +3,9 @@
 use std::fs::{self, File};
 use std::io::{self, ErrorKind, Read, Write};
 use std::rt::Files;
-use wsm::{Device, End, Guarded, Job, compile_text, judge, run_program, run_query, write_out};
+use wsm::{
+    Device, End, Guarded, Job, compile_text, judge, migrate, run_program, run_query, write_out,
+};
 
 /// Does the job. It is false where a program was judged and rejected.
 pub fn done<R: Files + AllocGlobal + Input + Print>(rt: &R, job: &Job) -> Result<bool, End> {
@@ -14,6 +16,7 @@ pub fn done<R: Files + AllocGlobal + Input + Print>(rt: &R, job: &Job) -> Result
             rows,
         } => run(rt, *program, query, rows.as_ref()),
         Job::Compile { query, out } => compile(rt, query, out),
+        Job::Migrate { program, out } => migrated(rt, program, out),
         Job::Verify { program } => judged(rt, program, false),
         Job::Explain { program } => judged(rt, program, true),
     }
@@ -51,17 +54,29 @@ fn run_over<R: AllocGlobal + Print, I: Read + Drop>(
     Ok(true)
 }
 
-// Writes the program of a query to a file. The file is made once the program is there.
+// Writes the program of a query to a file.
 fn compile<R: Files + AllocGlobal>(rt: &R, query: &String, out: &String) -> Result<bool, End> {
     let text = read(rt, query)?;
     let program = compile_text(rt.alloc(), &text)?;
+    write(rt, &program, out)
+}
+
+// Writes a program to a file, in the version that is written.
+fn migrated<R: Files + AllocGlobal>(rt: &R, program: &String, out: &String) -> Result<bool, End> {
+    let bytes = read(rt, program)?;
+    let newest = migrate(rt.alloc(), &bytes)?;
+    write(rt, &newest, out)
+}
+
+// Writes the bytes of a program to a file. The file is made once the bytes are there.
+fn write<R: Files>(rt: &R, bytes: &[u8], out: &String) -> Result<bool, End> {
     match File::create(rt, out.as_str()) {
-        Ok(file) => write(&program, file),
+        Ok(file) => write_all(bytes, file),
         Err(error) => Err(end_of(&error, End::WriteFailed)),
     }
 }
 
-fn write<W: Write + Drop>(bytes: &[u8], file: W) -> Result<bool, End> {
+fn write_all<W: Write + Drop>(bytes: &[u8], file: W) -> Result<bool, End> {
     let mut out = Guarded::new(file);
     write_out(&mut out, bytes)?;
     out.flush()?;

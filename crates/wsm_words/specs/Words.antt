@@ -3,7 +3,7 @@ use Rattle.std.specs.Prelude.{◌≡◌, List, Bool, true, false, Option, Some, 
 use Rattle.clap.specs.Words.{App, Row, Rule, Text, first_of, one_of, new_app, new_rule, with_rule, with_subcommand}
 use Rattle.clap.specs.declared.builder.ArgAction.TheVariants.{SetTrue}
 use Rattle.wsm_words.specs.declared.words.Job.{Job}
-use Rattle.wsm_words.specs.declared.words.Job.TheVariants.{Run, Compile, Verify, Explain}
+use Rattle.wsm_words.specs.declared.words.Job.TheVariants.{Run, Compile, Migrate, Verify, Explain}
 use Rattle.wsm_words.specs.declared.words.WordsRefusal.{WordsRefusal}
 use Rattle.wsm_words.specs.declared.words.WordsRefusal.TheVariants.{Words, Memory}
 
@@ -27,6 +27,10 @@ run_app = with_rule (with_rule (with_rule (new_app (codes "run")) program_flag) 
 abbrev pub compile_app : App
 compile_app = with_rule (with_rule (new_app (codes "compile")) (file_rule (codes "query"))) (file_rule (codes "out"))
 
+-- migrate PROGRAM OUT
+abbrev pub migrate_app : App
+migrate_app = with_rule (with_rule (new_app (codes "migrate")) (file_rule (codes "program"))) (file_rule (codes "out"))
+
 -- verify PROGRAM
 abbrev pub verify_app : App
 verify_app = with_rule (new_app (codes "verify")) (file_rule (codes "program"))
@@ -43,8 +47,12 @@ required_app = let a = new_app (codes "wsm") in record a { top = record a.top { 
 abbrev pub query_app : App
 query_app = with_subcommand (with_subcommand required_app run_app.top) compile_app.top
 
+-- with those that take a query or write a program
+abbrev pub writing_app : App
+writing_app = with_subcommand query_app migrate_app.top
+
 abbrev pub the_app : App
-the_app = with_subcommand (with_subcommand query_app verify_app.top) explain_app.top
+the_app = with_subcommand (with_subcommand writing_app verify_app.top) explain_app.top
 
 -- what a flag's text says: one of these, or there is none
 abbrev pub SaysFlag : Option Text → Bool → Type 0
@@ -58,6 +66,7 @@ Names entries id file = first_of id entries ≡ Some (string_bytes file)
 abbrev pub IsJob : Text → List Row → Job → Type 0
 IsJob name entries (Run program query rows) = (name ≡ codes "run") × SaysFlag (one_of (codes "program") entries) program × Names entries (codes "query") query × (option_map string_bytes rows ≡ first_of (codes "rows") entries)
 IsJob name entries (Compile query out) = (name ≡ codes "compile") × Names entries (codes "query") query × Names entries (codes "out") out
+IsJob name entries (Migrate program out) = (name ≡ codes "migrate") × Names entries (codes "program") program × Names entries (codes "out") out
 IsJob name entries (Verify program) = (name ≡ codes "verify") × Names entries (codes "program") program
 IsJob name entries (Explain program) = (name ≡ codes "explain") × Names entries (codes "program") program
 

@@ -14,7 +14,8 @@ pub const EXAMPLE: &str = "A query declares keys, fields, a clock and windows. T
   WINDOW FIXED 60 ACCUMULATING
   EMIT PANES;' > sums.wsm
 
-A row is a record, `r,KEY,TIME` and a cell for each field, or a watermark, `w,TIME`:
+A row is a record, `r,KEY,TIME` and a cell for each field, or a watermark, `w,TIME` (`w,SOURCE,TIME`
+where the query declares SOURCES):
 
   printf 'r,a,5,7\\nr,a,59,3\\nw,60\\n' | wsm run sums.wsm
 
@@ -68,6 +69,23 @@ writes what the query does:
 
   pane,on_time,a,0,60,2,10
   end,3,2,0,0,1";
+
+/// What the command `migrate` does.
+pub const MIGRATE: &str = "Writes a program to a file in the newest version, without judging it.";
+
+/// An example of the command `migrate`.
+pub const MIGRATE_EXAMPLE: &str = "With the query of `wsm --help`,
+
+  wsm compile sums.wsm sums.bin
+  wsm migrate sums.bin new.bin
+  wsm verify new.bin
+
+writes
+
+  accepted,5,4,6
+
+A program of version 1, which an earlier `wsm compile` wrote, becomes one of version 2 that does
+the same. One of version 2 is written as it is.";
 
 /// What the command `verify` does.
 pub const VERIFY: &str = "Tells whether a program is accepted, and what it may cost.";

@@ -2,7 +2,7 @@
 
 ghost use Rattle.std.specs.Prelude.{◌≡◌, true, false, IfOk, IfErr, codes, map, option_map, string_bytes};
 ghost use Rattle.clap.specs.Words.{app_of, new_app, found_of, first_of, rows_of, rule_of, subcommand_of, subcommand_rows_of, takes};
-ghost use Rattle.wsm_words.specs.Words.{the_app, query_app, required_app, run_app, compile_app, verify_app, explain_app, file_rule, program_flag, IsJob, IsJobOf, IsMemory, Names};
+ghost use Rattle.wsm_words.specs.Words.{the_app, query_app, required_app, run_app, compile_app, verify_app, explain_app, migrate_app, writing_app, file_rule, program_flag, IsJob, IsJobOf, IsMemory, Names};
 
 use crate::help;
 use clap::error::ErrorKind;
@@ -25,6 +25,13 @@ pub enum Job {
     Compile {
         /// The file of the query's text.
         query: String,
+        /// The file that is written.
+        out: String,
+    },
+    /// To write a program in the newest version of the bytes.
+    Migrate {
+        /// The file of the program.
+        program: String,
         /// The file that is written.
         out: String,
     },
@@ -76,8 +83,8 @@ impl From<clap::Error> for WordsRefusal {
 }
 
 /// The job that the words ask for, the program's own name first among them. A subcommand is
-/// required: `run [--program] QUERY [ROWS]`, `compile QUERY OUT`, `verify PROGRAM` or
-/// `explain PROGRAM`. Words that `clap` takes are refused for want of memory alone.
+/// required: `run [--program] QUERY [ROWS]`, `compile QUERY OUT`, `migrate PROGRAM OUT`,
+/// `verify PROGRAM` or `explain PROGRAM`. Words that `clap` takes are refused for want of memory alone.
 pub fn command_of(alloc: Global, words: &[&str]) -> Result<Job, WordsRefusal>
     ensures job { IfOk result (IsJobOf (subcommand_of the_app (map (λ s. s.now) words.now))) }
     ensures refused { IfErr result (λ e. takes the_app (map (λ s. s.now) words.now) ≡ true → IsMemory e) }
@@ -90,9 +97,17 @@ pub fn command_of(alloc: Global, words: &[&str]) -> Result<Job, WordsRefusal>
 fn wsm_command<'a>(alloc: Global) -> Result<Command<'a>, AllocError>
     ensures { IfOk result (λ c. app_of c ≡ the_app) }
 {
-    let wsm = query_command(alloc)?
+    let wsm = writing_command(alloc)?
         .subcommand(verify_command(alloc)?)?
         .subcommand(explain_command(alloc)?)?;
+    Ok(wsm)
+}
+
+// The program's command, with the subcommands that take a query or write a program.
+fn writing_command<'a>(alloc: Global) -> Result<Command<'a>, AllocError>
+    ensures { IfOk result (λ c. app_of c ≡ writing_app) }
+{
+    let wsm = query_command(alloc)?.subcommand(migrate_command(alloc)?)?;
     Ok(wsm)
 }
 
@@ -135,6 +150,16 @@ fn compile_command<'a>(alloc: Global) -> Result<Command<'a>, AllocError>
         .arg(file(alloc, "query", "QUERY", help::QUERY))?
         .arg(file(alloc, "out", "OUT", help::OUT))?;
     Ok(compile)
+}
+
+// `migrate PROGRAM OUT`
+fn migrate_command<'a>(alloc: Global) -> Result<Command<'a>, AllocError>
+    ensures { IfOk result (λ c. app_of c ≡ migrate_app) }
+{
+    let migrate = command(alloc, "migrate", help::MIGRATE, help::MIGRATE_EXAMPLE)
+        .arg(file(alloc, "program", "PROGRAM", help::PROGRAM))?
+        .arg(file(alloc, "out", "OUT", help::OUT))?;
+    Ok(migrate)
 }
 
 // `verify PROGRAM`
@@ -201,6 +226,9 @@ fn job_of(alloc: Global, matches: &ArgMatches<'_>) -> Result<Job, WordsRefusal>
     if let Some(inner) = matches.subcommand_matches("compile") {
         return compile_job(alloc, inner);
     }
+    if let Some(inner) = matches.subcommand_matches("migrate") {
+        return migrate_job(alloc, inner);
+    }
     if let Some(inner) = matches.subcommand_matches("verify") {
         let program = file_of(alloc, inner, "program")?;
         return Ok(Job::Verify { program });
@@ -235,6 +263,16 @@ fn compile_job(alloc: Global, inner: &ArgMatches<'_>) -> Result<Job, WordsRefusa
     let query = file_of(alloc, inner, "query")?;
     let out = file_of(alloc, inner, "out")?;
     Ok(Job::Compile { query, out })
+}
+
+// The job of the words behind `migrate`.
+fn migrate_job(alloc: Global, inner: &ArgMatches<'_>) -> Result<Job, WordsRefusal>
+    ensures job { IfOk result (IsJob (codes "migrate") (rows_of (found_of inner.now))) }
+    ensures refused { IfErr result IsMemory }
+{
+    let program = file_of(alloc, inner, "program")?;
+    let out = file_of(alloc, inner, "out")?;
+    Ok(Job::Migrate { program, out })
 }
 
 // The name of a file that a parse gives: its words have one.

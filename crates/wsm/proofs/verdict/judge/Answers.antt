@@ -3,6 +3,7 @@ use Rattle.std.proofs.lemmas.Result.{err_from_is_err_and}
 use Rattle.std.specs.Io.KnownBytes.{Appends}
 use Rattle.wsm_csv.proofs.Written.{Keeps-Appends, TakesPart-all}
 use Rattle.wsm.specs.Verdict.{report}
+use Rattle.wsm.proofs.Texts.{Keeps-same}
 use Rattle.wsm.proofs.verdict.judge.Goals as goal
 
 -- a flush that fails keeps what was written, and that is all
@@ -25,3 +26,9 @@ returns-clause-reports g c =
       written = Keeps-Appends _ _ _ text written c.in_ok-flush.ensures.kept;
       tells = c.in_ok-accepted.ensures.accepted;
     }
+
+-- nothing is written where the listing wants memory
+pub returns-in_err-text-clause-stops : goal.returns-in_err-text-clause-stops
+returns-in_err-text-clause-stops g c =
+    let p = err_from_is_err_and c.from_residual-in_err-text.result c.from_residual-in_err-text.ensures.1 in
+    rw (p.1, p.2) (Keeps-same (g.D.Device.taken c.args.out.now))
