@@ -183,7 +183,7 @@ fn is_truncated(alloc: Global, bytes: &[u8]) -> bool {
 fn beginnings_of_the_base_program(rt: HostRuntime) -> Result<(), Fail> {
     let compiled = compile_text(rt.alloc(), BASE)?;
     assert_eq!(rt; compiled.as_slice(), BASE_PROGRAM);
-    assert_eq!(rt; cut_off(rt.alloc(), BASE_PROGRAM), 139);
+    assert_eq!(rt; cut_off(rt.alloc(), BASE_PROGRAM), 141);
     Ok(())
 }
 
@@ -210,11 +210,11 @@ fn changes_of_the_base_program(rt: HostRuntime) -> Result<(), Fail> {
     assert_eq!(rt; runs, Some(6));
     let counts = change_bytes(rt.alloc(), BASE_PROGRAM, BASE_ROWS)?;
     let want = Counts {
-        refused: 19_892,
+        refused: 20_400,
         rejected: 2_992,
-        ran: 12_561,
+        ran: 12_563,
         wrong: 0,
-        runs: 74_462,
+        runs: 74_474,
     };
     assert_eq!(rt; counts, want);
     Ok(())
@@ -229,11 +229,11 @@ fn changes_of_a_program_of_sessions(rt: HostRuntime) -> Result<(), Fail> {
     assert_eq!(rt; runs, Some(19));
     let counts = change_bytes(rt.alloc(), &program, SESSION_ROWS)?;
     let want = Counts {
-        refused: 40_431,
-        rejected: 4_398,
-        ran: 19_686,
+        refused: 40_447,
+        rejected: 4_378,
+        ran: 19_690,
         wrong: 0,
-        runs: 369_496,
+        runs: 369_572,
     };
     assert_eq!(rt; counts, want);
     Ok(())
@@ -248,11 +248,11 @@ fn changes_of_a_program_of_a_stream(rt: HostRuntime) -> Result<(), Fail> {
     assert_eq!(rt; runs, Some(15));
     let counts = change_bytes(rt.alloc(), &program, STREAM_ROWS)?;
     let want = Counts {
-        refused: 23_143,
+        refused: 23_652,
         rejected: 4_201,
-        ran: 13_456,
+        ran: 13_457,
         wrong: 0,
-        runs: 199_580,
+        runs: 199_595,
     };
     assert_eq!(rt; counts, want);
     Ok(())

@@ -11,12 +11,14 @@ SELECT COUNT(*), SUM(n)
 WINDOW FIXED 60 ACCUMULATING
 EMIT PANES;";
 
-/// The program of that query: magic and version, keys, field, START to RECORDS, windows, mode with
-/// triggers and form, accumulators and columns, the stated numbers, and the three sections.
-pub const BASE_PROGRAM: &[u8] = b"WSMP\x01\
+/// The program of that query: magic and version, keys, field, START to RECORDS, by what lateness is
+/// counted and sources, windows, mode with triggers and form, accumulators and columns, the stated
+/// numbers, and the three sections.
+pub const BASE_PROGRAM: &[u8] = b"WSMP\x02\
 \x02\0\x01a\x01b\
 \x01\x01n\0\0\0\0\0\0\0\0\0\x64\0\0\0\0\0\0\0\
 \0\0\0\0\0\0\0\0\x64\0\0\0\0\0\0\0\x0a\0\0\0\0\0\0\0\xe8\x03\0\0\0\0\0\0\
+\0\0\
 \0\x3c\0\0\0\0\0\0\0\
 \x01\0\0\0\0\0\0\0\0\0\0\0\0\0\0\0\0\0\
 \x01\0\x02\0\0\

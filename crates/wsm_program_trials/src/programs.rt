@@ -6,7 +6,7 @@ use crate::sections::Sections;
 use crate::sides::Sides;
 use std::alloc::Global;
 use std::test::Fail;
-use wsm_bytecode::{CellType, Clock, Costs, Header, Program, decode, encode};
+use wsm_bytecode::{CellType, Clock, Costs, Header, LateBy, Program, decode, encode};
 use wsm_engine::Engine;
 use wsm_interval::Interval;
 use wsm_machine::Inputs;
@@ -57,7 +57,7 @@ fn fields(alloc: Global) -> Result<Vec<Field>, Fail> {
 fn schema(alloc: Global) -> Result<Schema, Fail> {
     let keys = keys(alloc)?;
     let fields = fields(alloc)?;
-    Ok(Schema::new(alloc, &keys, &fields)?)
+    Ok(Schema::new(alloc, &keys, &fields, &[])?)
 }
 
 // The header of the base program, which states a budget.
@@ -68,7 +68,9 @@ fn header(alloc: Global, budget: Costs) -> Result<Header, Fail> {
             start: 0,
             skew: 100,
             lateness: 10,
+            late: LateBy::Event,
             records: 1000,
+            sources: 1,
         },
         shape: Shape::Fixed(60),
         mode: Mode::Accumulating,
@@ -316,12 +318,12 @@ fn programs_of(alloc: Global, seed: u64, number: u32) -> Result<Counts, Fail> {
 fn programs_at_random(rt: HostRuntime) -> Result<(), Fail> {
     let counts = programs_of(rt.alloc(), 2, 5_000)?;
     let want = Counts {
-        refused: 248,
-        ran: 1_421,
+        refused: 200,
+        ran: 1_300,
         wrong: 0,
-        runs: 43_396,
+        runs: 39_494,
         rejected: [
-            209, 65, 758, 181, 151, 115, 51, 151, 36, 35, 472, 559, 548, 0, 0, 0, 0,
+            210, 42, 699, 182, 173, 115, 52, 149, 34, 43, 490, 769, 542, 0, 0, 0, 0,
         ],
     };
     assert!(rt; counts.ran >= 250);
@@ -334,12 +336,12 @@ fn programs_at_random(rt: HostRuntime) -> Result<(), Fail> {
 fn other_programs_at_random(rt: HostRuntime) -> Result<(), Fail> {
     let counts = programs_of(rt.alloc(), 3, 5_000)?;
     let want = Counts {
-        refused: 225,
-        ran: 1_483,
+        refused: 213,
+        ran: 1_374,
         wrong: 0,
-        runs: 44_970,
+        runs: 41_502,
         rejected: [
-            171, 70, 749, 192, 137, 101, 60, 159, 39, 29, 450, 575, 560, 0, 0, 0, 0,
+            195, 48, 644, 202, 137, 96, 47, 183, 44, 35, 479, 761, 542, 0, 0, 0, 0,
         ],
     };
     assert!(rt; counts.ran >= 250);

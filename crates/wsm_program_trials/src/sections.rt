@@ -3,7 +3,7 @@
 use crate::noise::Noise;
 use std::alloc::Global;
 use std::test::Fail;
-use wsm_bytecode::{Instr, Operation, SectionId};
+use wsm_bytecode::{Comparison, FieldTest, Instr, Operation, SectionId};
 
 /// What a place of the stack holds.
 #[derive(Clone, Copy, PartialEq, Eq)]
@@ -57,6 +57,18 @@ const COMPARISONS: [Instr; 6] = [
     Instr::Operate(Operation::Ge),
 ];
 
+const TESTS: [Comparison; 6] = [
+    Comparison::Eq,
+    Comparison::Ne,
+    Comparison::Lt,
+    Comparison::Le,
+    Comparison::Gt,
+    Comparison::Ge,
+];
+
+// Numbers that the field is compared with: both ends of its interval, beside them, and within.
+const TESTED: [i64; 6] = [0, 0, 1, 60, 100, -1];
+
 // A section that is being written, and what its instructions leave on the stack.
 #[derive(Drop)]
 struct Draft {
@@ -93,13 +105,24 @@ impl Draft {
     }
 
     fn push_int(&mut self, noise: &mut Noise) -> Result<(), Fail> {
-        let instr = match (self.section, noise.below(4)) {
-            (SectionId::Fire, 0) => Instr::Count,
-            (SectionId::Fire, 1) => Instr::Acc(0),
-            (SectionId::Where | SectionId::Update, 0 | 1) => Instr::Field(0),
+        let instr = match (self.section, noise.below(12)) {
+            (SectionId::Fire, 0..=2) => Instr::Count,
+            (SectionId::Fire, 3..=5) => Instr::Acc(0),
+            (SectionId::Where | SectionId::Update, 0..=5) => Instr::Field(0),
+            (SectionId::Where | SectionId::Update, 6) => return self.push_guarded(noise),
             _ => Instr::PushInt(noise.one_of(&NUMBERS, 1)),
         };
         self.push(instr, Held::Int)
+    }
+
+    // A number divided by the field where a test of it is true, else a number alone.
+    fn push_guarded(&mut self, noise: &mut Noise) -> Result<(), Fail> {
+        self.put(Instr::Test(field_test(noise), self.ahead(5)))?;
+        self.put(Instr::PushInt(noise.one_of(&NUMBERS, 1)))?;
+        self.put(Instr::Field(0))?;
+        self.put(Instr::Operate(Operation::Div))?;
+        self.put(Instr::Jump(self.ahead(2)))?;
+        self.push(Instr::PushInt(noise.one_of(&NUMBERS, 1)), Held::Int)
     }
 
     fn push_key(&mut self, noise: &mut Noise) -> Result<(), Fail> {
@@ -265,6 +288,22 @@ impl Draft {
     }
 }
 
+// A test of the field: that it isn't 0, or in one of four cases any.
+fn field_test(noise: &mut Noise) -> FieldTest {
+    if noise.below(4) > 0 {
+        return FieldTest {
+            field: 0,
+            comparison: Comparison::Ne,
+            number: 0,
+        };
+    }
+    FieldTest {
+        field: 0,
+        comparison: noise.one_of(&TESTS, Comparison::Ne),
+        number: noise.one_of(&TESTED, 0),
+    }
+}
+
 fn selection(alloc: Global, noise: &mut Noise) -> Result<Vec<Instr>, Fail> {
     let mut draft = Draft::new(alloc, SectionId::Where);
     // Now and then more values than the stack has places for.
@@ -327,6 +366,7 @@ fn wild(noise: &mut Noise) -> Instr {
         Instr::Operate(Operation::Not),
         Instr::Jump(place),
         Instr::JumpIfFalse(place),
+        Instr::Test(field_test(noise), place),
         Instr::Fold(small),
         Instr::Return,
     ];

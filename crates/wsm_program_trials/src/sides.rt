@@ -96,7 +96,7 @@ impl<'a> Sides<'a> {
     /// took.
     pub fn answer(&mut self, engine: &mut Engine, text: &[u8]) -> bool {
         let header = self.verified.program().header();
-        let Ok(mut pane) = Pane::open(self.alloc, &header.kinds) else {
+        let Ok(mut pane) = Pane::open(self.alloc, header) else {
             return false;
         };
         let mut rows = Rows::new(self.alloc, text);
@@ -120,13 +120,19 @@ impl<'a> Sides<'a> {
     fn answer_event(&mut self, engine: &mut Engine, event: &Event, pane: &mut Pane) -> bool {
         let header = self.verified.program().header();
         let reply = engine.feed(event);
-        let Event::Record {
-            key: Some(key),
-            time,
-            values,
-        } = event
-        else {
-            return true;
+        let (key, time, values) = match event {
+            Event::Record {
+                key: Some(key),
+                time,
+                values,
+            } => (key, time, values),
+            Event::Record { key: None, .. } => return true,
+            Event::Watermark { time, .. } => {
+                if reply.refusal.is_none() {
+                    pane.mark = *time;
+                }
+                return true;
+            }
         };
         if !header.schema.fits(values) || pane.count >= header.clock.records {
             return true;
@@ -134,7 +140,7 @@ impl<'a> Sides<'a> {
         let Some(cost) = self.answer_record(*key, values, pane) else {
             return false;
         };
-        reply.refusal.is_some() || cost.comes_to(header, *time, reply.record_steps)
+        reply.refusal.is_some() || cost.comes_to(header, pane.mark, *time, reply.record_steps)
     }
 
     // What WHERE and UPDATE cost for a record.
@@ -167,13 +173,13 @@ struct Cost {
 }
 
 impl Cost {
-    // Whether a record of a time costs so many steps: UPDATE runs for each window that has the time.
+    // Whether a record of a time costs so many steps at a mark: UPDATE runs for each window that it enters.
     // Where two sessions are joined, each accumulator costs a step more.
-    fn comes_to(self, header: &Header, time: i64, steps: u64) -> bool {
+    fn comes_to(self, header: &Header, mark: i64, time: i64, steps: u64) -> bool {
         let Some(update) = self.update else {
             return steps == self.selection;
         };
-        let Some(windows) = windows(header.shape, time) else {
+        let Some(windows) = windows(header, mark, time) else {
             return false;
         };
         let least = self
@@ -188,18 +194,18 @@ impl Cost {
     }
 }
 
-// How many windows have a time. Those that slide start at the last multiple of the period up to the
-// time, and at each before it that is within the size.
-fn windows(shape: Shape, time: i64) -> Option<u64> {
-    match shape {
+// How many windows a record of a time enters at a mark. Those that slide start at multiples of the period,
+// of which the last is up to the time; they end past the time, and past the mark less the lateness.
+fn windows(header: &Header, mark: i64, time: i64) -> Option<u64> {
+    match header.shape {
         Shape::Fixed(_) | Shape::Session(_) => Some(1),
         Shape::Sliding(size, period) => {
-            let left = size.checked_sub(time.checked_rem(period)?)?;
-            let windows = left
-                .checked_add(period)?
-                .checked_sub(1)?
-                .checked_div(period)?;
-            u64::try_from(windows).ok()
+            let expired = mark.checked_sub(header.clock.lateness)?;
+            let first = time.max(expired).checked_sub(size)?;
+            let starts = time
+                .checked_div_euclid(period)?
+                .checked_sub(first.checked_div_euclid(period)?)?;
+            u64::try_from(starts).ok()
         }
     }
 }
@@ -225,20 +231,26 @@ fn folds(ran: &Ran, values: &[Value]) -> bool {
 // What records come to.
 #[derive(Drop)]
 struct Pane {
+    // The watermark of the only source.
+    mark: i64,
     count: i64,
     accs: Vec<Value>,
 }
 
 impl Pane {
-    fn open(alloc: Global, kinds: &[Kind]) -> Result<Pane, AllocError> {
+    fn open(alloc: Global, header: &Header) -> Result<Pane, AllocError> {
         let mut accs = Vec::new(alloc);
-        for kind in kinds {
+        for kind in &header.kinds {
             accs.push(match kind {
                 Kind::Sum | Kind::Min | Kind::Max => Value::Int(0),
                 Kind::Any | Kind::All => Value::Bool(false),
             })?;
         }
-        Ok(Pane { count: 0, accs })
+        Ok(Pane {
+            mark: header.clock.start,
+            count: 0,
+            accs,
+        })
     }
 
     fn inputs<'a>(&'a self, key: u16, values: &'a [Value]) -> Inputs<'a> {

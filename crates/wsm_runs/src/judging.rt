@@ -4,17 +4,18 @@ use crate::devices::TakesFew;
 use std::alloc::Global;
 use std::process::Abort;
 use std::test::Fail;
-use wsm::{End, Guarded, judge};
+use wsm::{End, Guarded, judge, migrate};
 use wsm_bytecode::{Program, SectionId, decode};
 use wsm_machine::{Inputs, Outcome, Ran, Trap, run_any};
 use wsm_record::Value;
 
 // What stands before the sections of a program that sums a field in windows of 60: it states
 // 5 instructions for a record, 4 for a pane, and 6 panes.
-const HEADER: &[u8] = b"WSMP\x01\
+const HEADER: &[u8] = b"WSMP\x02\
 \x02\0\x01a\x01b\
 \x01\x01n\0\0\0\0\0\0\0\0\0\x64\0\0\0\0\0\0\0\
 \0\0\0\0\0\0\0\0\x64\0\0\0\0\0\0\0\x0a\0\0\0\0\0\0\0\xe8\x03\0\0\0\0\0\0\
+\0\0\
 \0\x3c\0\0\0\0\0\0\0\
 \x01\0\0\0\0\0\0\0\0\0\0\0\0\0\0\0\0\0\
 \x01\0\x02\0\0\
@@ -56,6 +57,29 @@ fn a_program_is_explained(rt: HostRuntime) -> Result<(), Fail> {
     let mut out = Guarded::new(Vec::new(rt.alloc()));
     assert_eq!(rt; judge(rt.alloc(), &program, true, &mut out), Ok(true));
     assert_eq!(rt; out.into_writer().as_slice(), LISTING.as_bytes());
+    Ok(())
+}
+
+// The same header in version 1, which doesn't say by what lateness is counted, and names no sources.
+const VERSION_1: &[u8] = b"WSMP\x01\
+\x02\0\x01a\x01b\
+\x01\x01n\0\0\0\0\0\0\0\0\0\x64\0\0\0\0\0\0\0\
+\0\0\0\0\0\0\0\0\x64\0\0\0\0\0\0\0\x0a\0\0\0\0\0\0\0\xe8\x03\0\0\0\0\0\0\
+\0\x3c\0\0\0\0\0\0\0\
+\x01\0\0\0\0\0\0\0\0\0\0\0\0\0\0\0\0\0\
+\x01\0\x02\0\0\
+\x05\0\0\0\0\0\0\0\x04\0\0\0\0\0\0\0\x06\0\0\0\0\0\0\0";
+
+#[test]
+fn a_program_is_written_in_version_2(rt: HostRuntime) -> Result<(), Fail> {
+    let mut old = VERSION_1.to_vec(rt.alloc())?;
+    for section in [WHERE, UPDATE, FIRE] {
+        old.extend_from_slice(section)?;
+    }
+    let new = program(rt.alloc(), [WHERE, UPDATE, FIRE])?;
+    assert_eq!(rt; old.len(), 139);
+    assert_eq!(rt; migrate(rt.alloc(), &old)?.as_slice(), new.as_slice());
+    assert_eq!(rt; migrate(rt.alloc(), &new)?.as_slice(), new.as_slice());
     Ok(())
 }
 

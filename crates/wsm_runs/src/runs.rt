@@ -9,6 +9,8 @@ use wsm::{End, Guarded, Totals, compile_text, judge, run_program, run_query};
 #[derive(Clone, Copy)]
 struct Case {
     field: &'static str,
+    // SOURCES and its end, or nothing.
+    sources: &'static str,
     clock: &'static str,
     columns: &'static str,
     window: &'static str,
@@ -20,6 +22,7 @@ struct Case {
 // A query that counts and sums; the cases change some of its clauses.
 const BASE: Case = Case {
     field: "n INT 0..100",
+    sources: "",
     clock: "START 0; SKEW 100; LATENESS 10; RECORDS 1000",
     columns: "COUNT(*), SUM(n)",
     window: "FIXED 60 ACCUMULATING",
@@ -65,10 +68,10 @@ const SLIDING: Case = Case {
 };
 
 fn text_of(alloc: Global, case: &Case) -> Result<String, Fail> {
-    let (field, clock, columns) = (case.field, case.clock, case.columns);
-    let (window, form) = (case.window, case.form);
+    let (field, sources, clock) = (case.field, case.sources, case.clock);
+    let (columns, window, form) = (case.columns, case.window, case.form);
     Ok(format!(in alloc;
-        "KEYS a, b; FIELD {field}; {clock}; SELECT {columns} WINDOW {window} EMIT {form};"
+        "KEYS a, b; FIELD {field}; {sources}{clock}; SELECT {columns} WINDOW {window} EMIT {form};"
     )?)
 }
 
@@ -357,6 +360,86 @@ fn streams_of_joined_sessions(rt: HostRuntime) -> Result<(), Fail> {
     all_write(&rt, &JOINED_STREAMS)
 }
 
+const RETRACTING: [Case; 3] = [
+    Case {
+        window: "FIXED 60 RETRACTING EARLY EVERY 2",
+        rows: "r,a,1,2\nr,a,2,3\nw,60\n",
+        want: "pane,early,a,0,60,2,5\nretract,a,0,60,2,5\npane,on_time,a,0,60,2,5\nend,3,2,0,0,2\n",
+        ..BASE
+    },
+    Case {
+        window: "SESSION 30 RETRACTING",
+        rows: "r,a,0,1\nr,a,40,1\nw,70\nr,a,20,1\nw,170\n",
+        want: "pane,on_time,a,0,30,1\npane,on_time,a,40,70,1\nretract,a,0,30,1\nretract,a,40,70,1\npane,final,a,0,70,3\nend,5,3,0,0,3\n",
+        ..LATE_SESSIONS
+    },
+    Case {
+        columns: "COUNT(*) HAVING SUM(n) < 5",
+        window: "FIXED 60 RETRACTING EARLY EVERY 1",
+        rows: "r,a,1,2\nr,a,2,3\nw,60\n",
+        want: "pane,early,a,0,60,1\nretract,a,0,60,1\nend,3,2,0,0,3\n",
+        ..BASE
+    },
+];
+
+// What stood for a pane is withdrawn before another row takes its place, for two sessions that are joined
+// at once, and where HAVING is false now.
+#[test]
+fn retracting_panes(rt: HostRuntime) -> Result<(), Fail> {
+    all_write(&rt, &RETRACTING)
+}
+
+const FROM_WINDOW: Case = Case {
+    clock: "START 0; SKEW 100; LATENESS 10 FROM WINDOW; RECORDS 1000",
+    ..BASE
+};
+
+const LATE_BY_WINDOWS: [Case; 2] = [
+    Case {
+        rows: "w,65\nr,a,5,4\nw,70\nr,a,6,1\n",
+        want: "pane,final,a,0,60,1,4\nend,4,1,1,0,1\n",
+        ..FROM_WINDOW
+    },
+    Case {
+        window: "SLIDING 60 EVERY 25 ACCUMULATING",
+        rows: "w,45\nr,a,5,1\nw,70\n",
+        want: "pane,on_time,a,0,60,1,1\nend,3,1,0,0,1\n",
+        ..FROM_WINDOW
+    },
+];
+
+// A record is late where none of its windows is live, and enters those that are.
+#[test]
+fn lateness_from_the_window(rt: HostRuntime) -> Result<(), Fail> {
+    all_write(&rt, &LATE_BY_WINDOWS)
+}
+
+const SOURCES: [Case; 1] = [Case {
+    sources: "SOURCES x, y; ",
+    rows: "r,a,5,7\nw,x,90\nr,a,50,3\nw,y,60\nw,z,70\nw,y,60\nw,y,80\n",
+    want: "pane,on_time,a,0,60,2,10\nrefused,5,UnknownSource\nrefused,6,NotRising\nend,7,2,0,2,1\n",
+    ..BASE
+}];
+
+// The watermark is the least of those of the sources.
+#[test]
+fn sources(rt: HostRuntime) -> Result<(), Fail> {
+    all_write(&rt, &SOURCES)
+}
+
+const GUARDED: [Case; 1] = [Case {
+    columns: "SUM(IF n <> 0 THEN 100 / n ELSE 0 END)",
+    rows: "r,a,1,0\nr,a,2,3\nw,60\n",
+    want: "pane,on_time,a,0,60,33\nend,3,2,0,0,1\n",
+    ..BASE
+}];
+
+// A divisor is tested before it divides.
+#[test]
+fn guarded_divisors(rt: HostRuntime) -> Result<(), Fail> {
+    all_write(&rt, &GUARDED)
+}
+
 // The line of the judgement of a query's program.
 fn judgement(alloc: Global, text: &str) -> Result<Vec<u8>, Fail> {
     let program = compile_text(alloc, text.as_bytes())?;
@@ -365,7 +448,7 @@ fn judgement(alloc: Global, text: &str) -> Result<Vec<u8>, Fail> {
     Ok(out.into_writer())
 }
 
-const JUDGED: [Case; 7] = [
+const JUDGED: [Case; 11] = [
     Case {
         want: "accepted,5,4,6\n",
         ..BASE
@@ -393,7 +476,28 @@ const JUDGED: [Case; 7] = [
     },
     Case {
         columns: "COUNT(*) WHERE n <> 0 AND 10 / n > 1",
-        want: "rejected,where,6,MayDivideByZero\n",
+        want: "accepted,9,3,6\n",
+        ..BASE
+    },
+    Case {
+        columns: "COUNT(*), SUM(n) WHERE n <> 0 AND 10 / n > 1",
+        want: "accepted,11,4,6\n",
+        ..BASE
+    },
+    Case {
+        field: "n INT -5..5",
+        columns: "COUNT(*), SUM(n) WHERE n <> 0 AND 10 / n > 1",
+        want: "rejected,where,3,MayDivideByZero\n",
+        ..BASE
+    },
+    Case {
+        columns: "SUM(IF n <> 0 THEN 100 / n ELSE 0 END)",
+        want: "accepted,9,3,6\n",
+        ..BASE
+    },
+    Case {
+        columns: "COUNT(*) WHERE 10 / n > 1 AND n <> 0",
+        want: "rejected,where,2,MayDivideByZero\n",
         ..BASE
     },
     Case {

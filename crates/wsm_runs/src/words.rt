@@ -13,7 +13,7 @@ fn job(alloc: Global, words: &[&str]) -> Result<String, Fail> {
     }
 }
 
-const JOBS: [(&[&str], &str); 8] = [
+const JOBS: [(&[&str], &str); 9] = [
     (
         &["wsm", "run", "q"],
         "Run { program: false, query: \"q\", rows: None }",
@@ -37,6 +37,10 @@ const JOBS: [(&[&str], &str); 8] = [
     (
         &["wsm", "compile", "q", "o"],
         "Compile { query: \"q\", out: \"o\" }",
+    ),
+    (
+        &["wsm", "migrate", "p", "o"],
+        "Migrate { program: \"p\", out: \"o\" }",
     ),
     (&["wsm", "verify", "p"], "Verify { program: \"p\" }"),
     (&["wsm", "explain", "p"], "Explain { program: \"p\" }"),

@@ -76,8 +76,8 @@ fn each_read_fails(rt: HostRuntime) -> Result<(), Fail> {
     Ok(())
 }
 
-/// Takes at most so many bytes a call, of so many calls and so many bytes in all. Then it fails, or
-/// takes nothing.
+/// Takes at most so many bytes a call, of so many calls and so many bytes in all. Then it fails once, or
+/// takes nothing once, and would take all that is tried again.
 #[derive(Drop)]
 struct TakesFew {
     taken: Vec<u8>,
@@ -86,6 +86,7 @@ struct TakesFew {
     bytes: usize,
     takes_nothing: bool,
     fails_to_flush: bool,
+    flushes: usize,
 }
 
 impl TakesFew {
@@ -98,6 +99,7 @@ impl TakesFew {
             bytes: usize::MAX,
             takes_nothing: false,
             fails_to_flush: false,
+            flushes: 0,
         }
     }
 }
@@ -105,6 +107,8 @@ impl TakesFew {
 impl Write for TakesFew {
     fn write(&mut self, buf: &[u8]) -> io::Result<usize> {
         if self.calls == 0 || self.bytes == 0 {
+            self.calls = usize::MAX;
+            self.bytes = usize::MAX;
             return if self.takes_nothing {
                 Ok(0)
             } else {
@@ -119,7 +123,9 @@ impl Write for TakesFew {
     }
 
     fn flush(&mut self) -> io::Result<()> {
+        self.flushes = self.flushes.saturating_add(1);
         if self.fails_to_flush {
+            self.fails_to_flush = false;
             return Err(failure());
         }
         Ok(())
@@ -201,6 +207,15 @@ fn the_last_flush_fails(rt: HostRuntime) {
     let (text, end) = written(rt.alloc(), writer);
     assert_eq!(rt; end, Some(End::WriteFailed));
     assert_eq!(rt; text.as_slice(), STREAM_TEXT);
+}
+
+// What is written leaves with the last line, and no flush is made for each turn.
+#[test]
+fn a_run_flushes_once(rt: HostRuntime) {
+    let mut out = Guarded::new(TakesFew::new(rt.alloc()));
+    let end = run_query(rt.alloc(), STREAM, STREAM_ROWS, &mut out);
+    assert!(rt; end.is_ok());
+    assert_eq!(rt; out.into_writer().flushes, 1);
 }
 
 #[test]

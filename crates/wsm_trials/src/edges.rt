@@ -86,10 +86,12 @@ fn skews(rt: HostRuntime) -> Result<(), Fail> {
     expect_each(&rt, LONGEST, "SKEW 100", &SKEWS)
 }
 
-const LATENESSES: [(&str, &str); 3] = [
+const LATENESSES: [(&str, &str); 5] = [
     ("LATENESS 0", FITS),
     ("LATENESS 1000000000000", FITS),
     ("LATENESS 1000000000001", CLOCK),
+    ("LATENESS 1000000000000 FROM WINDOW", FITS),
+    ("LATENESS 1000000000001 FROM WINDOW", CLOCK),
 ];
 
 #[test]
@@ -107,6 +109,26 @@ const RECORDS: [(&str, &str); 4] = [
 #[test]
 fn numbers_of_records(rt: HostRuntime) -> Result<(), Fail> {
     expect_each(&rt, BASE, "RECORDS 1000", &RECORDS)
+}
+
+const SOURCES: &str = "C7 Limit in sources";
+
+const NUMBERS_OF_SOURCES: [(&str, &str); 4] = [
+    ("SOURCES s1; START", SOURCES),
+    ("SOURCES s1, s2; START", FITS),
+    (
+        "SOURCES s1, s2, s3, s4, s5, s6, s7, s8, s9, s10, s11, s12, s13, s14, s15, s16; START",
+        FITS,
+    ),
+    (
+        "SOURCES s1, s2, s3, s4, s5, s6, s7, s8, s9, s10, s11, s12, s13, s14, s15, s16, s17; START",
+        SOURCES,
+    ),
+];
+
+#[test]
+fn numbers_of_sources(rt: HostRuntime) -> Result<(), Fail> {
+    expect_each(&rt, BASE, "START", &NUMBERS_OF_SOURCES)
 }
 
 const WINDOW: &str = "C7 Limit in window";
@@ -464,6 +486,18 @@ refused,10,TooFarAhead\nrefused,11,TimeRange\nrefused,12,BadNumber\n\
 refused,13,NotRising\npane,on_time,a,0,60,2,100\nrefused,15,NotRising\n\
 pane,final,a,0,60,3,101\npane,on_time,a,60,120,1,1\nrefused,19,TimeRange\n\
 end,19,4,1,12,3\n",
+    )
+}
+
+// The last watermark at which a window takes records, and the first at which it takes none.
+#[test]
+fn ends_of_windows(rt: HostRuntime) -> Result<(), Fail> {
+    let text = BASE.replacen(rt.alloc(), "LATENESS 10", "LATENESS 10 FROM WINDOW", 1)?;
+    expect_run(
+        &rt,
+        text.as_str(),
+        b"w,69\nr,a,0,1\nw,70\nr,a,59,1\n",
+        b"pane,final,a,0,60,1,1\nend,4,1,1,0,1\n",
     )
 }
 

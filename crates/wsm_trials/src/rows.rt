@@ -198,7 +198,7 @@ fn refusal_of_no_cells(alloc: Global, schema: &Schema) -> Option<RowRefusal> {
 #[test]
 fn a_row_without_cells(rt: HostRuntime) -> Result<(), Fail> {
     let keys = [Name::new(b"a").ok_or("a name")?];
-    let schema = Schema::new(rt.alloc(), &keys, &[])?;
+    let schema = Schema::new(rt.alloc(), &keys, &[], &[])?;
     let refusal = refusal_of_no_cells(rt.alloc(), &schema);
     assert_eq!(rt; refusal, Some(RowRefusal::Fault(RowFault::BadTag)));
     Ok(())

@@ -38,7 +38,7 @@ fn selects(rt: &impl Abort, alloc: Global, program: &Program, n: i64) -> Ran {
 }
 
 // A number, whether it is selected, and after how many instructions.
-const SELECTED: [(i64, bool, u64); 3] = [(0, false, 6), (5, true, 11), (6, false, 11)];
+const SELECTED: [(i64, bool, u64); 3] = [(0, false, 3), (5, true, 8), (6, false, 8)];
 
 // The run ended so.
 fn ended(rt: &impl Abort, ran: &Ran, selected: bool, steps: u64) {

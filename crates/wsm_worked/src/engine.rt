@@ -15,13 +15,13 @@ const START: usize = 31;
 
 const LATENESS: usize = 47;
 
-const SHAPE: usize = 63;
+const SHAPE: usize = 65;
 
-const SPAN: usize = 64;
+const SPAN: usize = 66;
 
-const PER_RECORD: usize = 95;
+const PER_RECORD: usize = 97;
 
-const HELD: usize = 111;
+const HELD: usize = 113;
 
 // The base program with other bytes at some places.
 fn verified(alloc: Global, changes: &[(usize, u8)]) -> Result<Verified, Fail> {
@@ -67,7 +67,10 @@ fn records_take(
 
 // Feeds a watermark at which one pane fires, of 4 instructions.
 fn a_pane_takes_four(rt: &impl Abort, engine: &mut Engine, mark: i64) {
-    let reply = engine.feed(&Event::Watermark(mark));
+    let reply = engine.feed(&Event::Watermark {
+        source: Some(0),
+        time: mark,
+    });
     assert_eq!(rt; reply.fired, 1);
     assert_eq!(rt; reply.pane_steps_max, 4);
     assert_eq!(rt; reply.pane_steps_total, 4);
