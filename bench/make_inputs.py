@@ -1,5 +1,5 @@
 #!/usr/bin/env python3
-"""Writes texts of a megabyte, a wide query and a large program into a folder: make_inputs.py FOLDER"""
+"""Writes texts of a megabyte, wide queries and two large programs into a folder: make_inputs.py FOLDER"""
 import struct
 import sys
 from pathlib import Path
@@ -8,17 +8,21 @@ MEGABYTE = 1 << 20
 
 
 def clock(start=0, skew=100, lateness=10, records=1000):
-    return struct.pack("<qqqq", start, skew, lateness, records)
+    """Lateness is counted from a record's time, and watermarks are of one source."""
+    return struct.pack("<qqqq", start, skew, lateness, records) + b"\x00\x00"
 
 
-def header(budget):
-    """Keys a and b, a field n INT 0..100, windows of 60, one SUM, two INT columns."""
+def header(fields, budget):
+    """Keys a and b, fields f0, f1, .. INT 0..100, windows of 60, one SUM, two INT columns."""
     keys = struct.pack("<H", 2) + b"\x01a\x01b"
-    fields = b"\x01\x01n\x00" + struct.pack("<qq", 0, 100)
+    declared = bytes([fields])
+    for number in range(fields):
+        name = f"f{number}".encode()
+        declared += bytes([len(name)]) + name + b"\x00" + struct.pack("<qq", 0, 100)
     shape = b"\x00" + struct.pack("<q", 60)
     triggers = struct.pack("<qq", 0, 0)
     return (
-        b"WSMP\x01" + keys + fields + clock() + shape + b"\x01" + triggers + b"\x00"
+        b"WSMP\x02" + keys + declared + clock() + shape + b"\x01" + triggers + b"\x00"
         + b"\x01\x00" + b"\x02\x00\x00" + struct.pack("<QQQ", *budget)
     )
 
@@ -50,17 +54,43 @@ def section(code):
     return struct.pack("<H", len(code)) + b"".join(code)
 
 
-def large_program():
-    """Three sections of 1,000 instructions; the last one keeps 28 values on the stack."""
-    where = joins(0, 332) + [PUSHB, NOT, NOT, RET]
-    update = joins(0, 332) + [jump(b"\x30", 997), FIELD, FOLD, RET]
+def at_least(field, number, target):
+    """A test of a field."""
+    return b"\x32" + bytes([field, 5]) + struct.pack("<qH", number, target)
+
+
+def tests(number, fields):
+    """Ten instructions for each test: its ways meet again at the next test."""
+    code = []
+    for k in range(number):
+        place = len(code)
+        code += [at_least(k % fields, 1 + k % 99, place + 10)] + joins(place + 1, 3)
+    return code
+
+
+def firing():
+    """A section that keeps 28 values on the stack."""
     front = [COUNT, ACC] + [pushi(1)] * 26
     back = [ADD] * 26 + [PUSHB, RET]
     middle = joins(len(front), 314)
     place = len(front) + len(middle)
     fill = [jump(b"\x30", place + k + 1) for k in range(1000 - place - len(back))]
-    fire = front + middle + fill + back
-    return header((10**6, 10**6, 6)) + section(where) + section(update) + section(fire)
+    return section(front + middle + fill + back)
+
+
+def large_program():
+    """Three sections of 1,000 instructions."""
+    where = joins(0, 332) + [PUSHB, NOT, NOT, RET]
+    update = joins(0, 332) + [jump(b"\x30", 997), FIELD, FOLD, RET]
+    return header(1, (10**6, 10**6, 6)) + section(where) + section(update) + firing()
+
+
+def tested_program():
+    """The same with 16 fields, and a test at every tenth place where one may stand."""
+    front = tests(99, 16)
+    where = front + [PUSHB] + [NOT] * 8 + [RET]
+    update = front + [jump(b"\x30", 991 + k) for k in range(7)] + [FIELD, FOLD, RET]
+    return header(16, (10**6, 10**6, 6)) + section(where) + section(update) + firing()
 
 
 def wide_query(columns):
@@ -81,6 +111,7 @@ def main(folder):
     tail = b"; START 0; SKEW 0; LATENESS 0; RECORDS 1; SELECT COUNT(*) WINDOW FIXED 1 ACCUMULATING EMIT PANES;"
     (folder / "keys.wsm").write_bytes(b"KEYS " + keys + tail)
     (folder / "large.wsmp").write_bytes(large_program())
+    (folder / "tested.wsmp").write_bytes(tested_program())
     for columns in [1, 2, 4, 8, 16]:
         (folder / f"wide{columns}.wsm").write_text(wide_query(columns))
 

@@ -2,393 +2,334 @@
 """What a query means, in plain Python: the rows that it writes for rows that it reads.
 
 usage: reference.py QUERY [ROWS]
+       reference.py --explain QUERY
+       reference.py --bytes VERSION QUERY OUT
 
 An independent computation to compare the product with: nothing here is shared with its code. Each
-turn is computed anew from all rows so far, as the definitions say it, so this is for short inputs.
-It takes any query that is accepted, with columns, WHERE, HAVING and all windows, triggers and forms.
+turn is computed anew from all rows so far, as the definitions say it, so this is for short inputs
+whose rows have no quotes. A query that is refused or rejected is told as `wsm run` tells it.
+
+--explain writes the instructions of the query's program and what the verifier says of it, as
+`wsm explain` does. --bytes writes the program's bytes: of version 2 as `wsm compile` does, of version 1
+those of the same query without the instruction TEST, which that version doesn't have.
 """
 import re
 import sys
 from collections import Counter
 
-LATEST = 10**16
-TOKEN = re.compile(r"[ \t\r\n]*(?:([A-Za-z][A-Za-z0-9_]*)|([0-9]+)|(\.\.|<>|<=|>=|[,;().+\-*/%=<>]))")
-AGGREGATES = {"SUM": sum, "MIN": min, "MAX": max, "ANY": any, "ALL": all}
+sys.dont_write_bytecode = True
+sys.setrecursionlimit(100_000)
+
+from reference_program import Program
+from reference_query import LATEST, Query, Refused
+
+RULES = (
+    "StackUnderflow StackOverflow Type BadJump Join Unreachable NoReturn NotHere FoldTwice FoldMissing MayOverflow "
+    "MayDivideByZero AccumulatorRange BudgetRecord BudgetPane BudgetHeld"
+).split()
 
 
-# ---- query text
+# ---- rows in
 
-class Reader:
-    def __init__(self, text):
-        self.tokens, at = [], 0
-        while text[at:].strip(" \t\r\n"):
-            m = TOKEN.match(text, at)
-            if not m:
-                sys.exit(f"no token at byte {at}")
-            self.tokens.append(m.group(1) or m.group(2) or m.group(3))
-            at = m.end()
-        self.tokens.append(None)
-
-    def at(self, *words):
-        return self.tokens[0] in words
-
-    def take(self, *words):
-        token = self.tokens.pop(0)
-        if words and token not in words:
-            sys.exit(f"{token} where {' or '.join(words)} is asked for")
-        return token
-
-    def number(self):
-        return int(self.take())
-
-    def signed(self):
-        if self.at("-"):
-            self.take()
-            return -self.number()
-        return self.number()
-
-    def names(self):
-        names = [self.take()]
-        while self.at(","):
-            self.take()
-            names.append(self.take())
-        return names
+def number_of(cell):
+    """The number of a cell, or None where it has none of 64 bits."""
+    if not re.fullmatch(r"-?[0-9]+", cell):
+        return None
+    number = int(cell)
+    return number if -(2**63) <= number < 2**63 else None
 
 
-class Query:
-    def __init__(self, text):
-        r = Reader(text)
-        r.take("KEYS")
-        self.keys = r.names()
-        r.take(";")
-        self.fields = []
-        while r.at("FIELD"):
-            r.take()
-            name, kind = r.take(), r.take("INT", "BOOL", "ENUM")
-            if kind == "INT":
-                low = r.signed()
-                r.take("..")
-                what = (low, r.signed())
-            elif kind == "ENUM":
-                r.take("(")
-                what = r.names()
-                r.take(")")
-            else:
-                what = None
-            self.fields.append((name, kind, what))
-            r.take(";")
-        for word in ("START", "SKEW", "LATENESS", "RECORDS"):
-            r.take(word)
-            setattr(self, word.lower(), r.number())
-            r.take(";")
-        if r.at("BUDGET"):
-            while r.take() != ";":
-                pass
-        r.take("SELECT")
-        self.columns = [self.expr(r)]
-        while r.at(","):
-            r.take()
-            self.columns.append(self.expr(r))
-        self.where = self.having = None
-        if r.at("WHERE"):
-            r.take()
-            self.where = self.expr(r)
-        if r.at("HAVING"):
-            r.take()
-            self.having = self.expr(r)
-        r.take("WINDOW")
-        self.shape = r.take("FIXED", "SLIDING", "SESSION")
-        self.size = self.period = r.number()
-        if self.shape == "SLIDING":
-            r.take("EVERY")
-            self.period = r.number()
-        self.discards = r.take("ACCUMULATING", "DISCARDING") == "DISCARDING"
-        self.early = self.late = 0
-        for word in ("EARLY", "LATE"):
-            if r.at(word):
-                r.take()
-                r.take("EVERY")
-                setattr(self, word.lower(), r.number())
-        r.take("EMIT")
-        self.form = r.take("PANES", "ISTREAM", "DSTREAM", "RSTREAM")
-        r.take(";")
-        r.take(None)
-
-    # An expression is a function of a key, a record's values or None, and the records of a firing; a
-    # value of an ENUM is its name. Each level of the grammar leans to the left.
-    def expr(self, r):
-        return self.chain(r, self.conj, {"OR": lambda x, y: lambda *c: x(*c) or y(*c)})
-
-    def conj(self, r):
-        return self.chain(r, self.neg, {"AND": lambda x, y: lambda *c: x(*c) and y(*c)})
-
-    def neg(self, r):
-        if r.at("NOT"):
-            r.take()
-            x = self.neg(r)
-            return lambda *c: not x(*c)
-        return self.cmp(r)
-
-    def cmp(self, r):
-        x = self.sum(r)
-        if r.at("=", "<>", "<", "<=", ">", ">="):
-            op, y = r.take(), self.sum(r)
-            test = {"=": lambda a, b: a == b, "<>": lambda a, b: a != b, "<": lambda a, b: a < b,
-                    "<=": lambda a, b: a <= b, ">": lambda a, b: a > b, ">=": lambda a, b: a >= b}[op]
-            return lambda *c: test(x(*c), y(*c))
-        return x
-
-    def sum(self, r):
-        return self.chain(r, self.prod, {"+": lambda x, y: lambda *c: x(*c) + y(*c), "-": lambda x, y: lambda *c: x(*c) - y(*c)})
-
-    def prod(self, r):
-        return self.chain(r, self.unary, {"*": lambda x, y: lambda *c: x(*c) * y(*c), "/": lambda x, y: lambda *c: quotient(x(*c), y(*c)),
-                                          "%": lambda x, y: lambda *c: x(*c) - y(*c) * quotient(x(*c), y(*c))})
-
-    def chain(self, r, part, ops):
-        x = part(r)
-        while r.tokens[0] in ops:
-            op = r.take()
-            x = ops[op](x, part(r))
-        return x
-
-    def unary(self, r):
-        if r.at("-"):
-            r.take()
-            x = self.unary(r)
-            return lambda *c: -x(*c)
-        return self.atom(r)
-
-    def atom(self, r):
-        token = r.take()
-        if token == "(":
-            x = self.expr(r)
-            r.take(")")
-            return x
-        if token.isdigit():
-            return lambda *c: int(token)
-        if token in ("TRUE", "FALSE"):
-            return lambda *c: token == "TRUE"
-        if token == "COUNT":
-            r.take("("), r.take("*"), r.take(")")
-            return lambda key, values, records: len(records)
-        if token in AGGREGATES:
-            r.take("(")
-            x = self.expr(r)
-            r.take(")")
-            return lambda key, values, records: AGGREGATES[token](x(key, v, None) for v in records)
-        if token == "IF":
-            c = self.expr(r)
-            r.take("THEN")
-            x = self.expr(r)
-            r.take("ELSE")
-            y = self.expr(r)
-            r.take("END")
-            return lambda *a: x(*a) if c(*a) else y(*a)
-        if r.at("."):
-            r.take()
-            name = r.take()
-            return lambda *c: name
-        if token == "KEY":
-            return lambda key, values, records: key
-        place = [f[0] for f in self.fields].index(token)
-        return lambda key, values, records: values[place]
-
-    # ---- rows in
-
-    def number(self, cell):
-        if not re.fullmatch(r"-?[0-9]+", cell):
-            return None
-        n = int(cell)
-        return n if -(2**63) <= n < 2**63 else None
-
-    def value(self, field, cell):
-        name, kind, what = field
-        if kind == "INT":
-            return self.number(cell), "BadNumber"
-        if kind == "BOOL":
-            return {"true": True, "false": False}.get(cell), "BadName"
-        return cell if cell in what else None, "BadName"
-
-    def event(self, cells):
-        if cells[0] not in ("r", "w"):
-            return "BadTag"
-        if len(cells) != (3 + len(self.fields) if cells[0] == "r" else 2):
-            return "CellCount"
-        time = self.number(cells[2 if cells[0] == "r" else 1])
-        if time is None:
-            return "BadNumber"
-        if cells[0] == "w":
-            return ("w", time)
-        values = []
-        for field, cell in zip(self.fields, cells[3:]):
-            value, fault = self.value(field, cell)
-            if value is None:
-                return fault
-            values.append(value)
-        return ("r", cells[1], time, values)
-
-    # ---- windows
-
-    def windows(self, times, t):
-        """The windows that a time stands in, of a key with these times."""
-        if self.shape == "SESSION":
-            return [next(w for w in sessions(self.size, times) if w[0] <= t < w[1])]
-        last = t // self.period
-        starts = [k * self.period for k in range(last - self.size // self.period - 1, last + 1)]
-        return [(s, s + self.size) for s in starts if s <= t < s + self.size]
-
-    def order(self, row):
-        """By columns from the left, an ENUM's names by their number."""
-        def rank(v):
-            lists = [self.keys] + [f[2] for f in self.fields if f[1] == "ENUM"]
-            return next(l.index(v) for l in lists if v in l) if isinstance(v, str) else v
-        return [rank(v) for v in row]
+def value_of(field, cell):
+    if field.type == "INT":
+        return number_of(cell)
+    if field.type == "BOOL":
+        return {"true": True, "false": False}.get(cell)
+    return field.names.index(cell) if cell in field.names else None
 
 
-def quotient(x, y):
-    q = abs(x) // abs(y)
-    return q if (x < 0) == (y < 0) else -q
+def event_of(query, cells):
+    """A record as its key, time and values, a watermark as its source and time, or the word of a refusal."""
+    is_record = cells[0] == "r"
+    if not is_record and cells[0] != "w":
+        return "BadTag"
+    if len(cells) != (3 + len(query.fields) if is_record else 3 if query.sources else 2):
+        return "CellCount"
+    time = number_of(cells[2] if is_record else cells[-1])
+    if time is None:
+        return "BadNumber"
+    if not is_record:
+        names = query.sources
+        return "w", (names.index(cells[1]) if cells[1] in names else None) if names else 0, time
+    values = []
+    for field, cell in zip(query.fields, cells[3:]):
+        value = value_of(field, cell)
+        if value is None:
+            return "BadNumber" if field.type == "INT" else "BadName"
+        values.append(value)
+    return "r", query.keys.index(cells[1]) if cells[1] in query.keys else None, time, values
+
+
+# ---- windows
+
+def grid(query, time):
+    """The windows of a time, fixed or sliding, by rising start."""
+    last = time // query.period
+    starts = [number * query.period for number in range(last - query.size // query.period - 1, last + 1)]
+    return [(start, start + query.size) for start in starts if start <= time < start + query.size]
 
 
 def sessions(gap, times):
     """The classes of the chains of links, by rising start."""
     found = []
-    for t in sorted(times):
-        if found and t < found[-1][1]:
-            found[-1] = (found[-1][0], t + gap)
+    for time in sorted(times):
+        if found and time < found[-1][1]:
+            found[-1] = (found[-1][0], time + gap)
         else:
-            found.append((t, t + gap))
+            found.append((time, time + gap))
     return found
-
-
-def text(v):
-    return str(v).lower() if isinstance(v, bool) else str(v)
 
 
 # ---- the stream
 
+class Record:
+    """A selected record; `mark` is the watermark before its turn."""
+
+    def __init__(self, turn, mark, key, time, values):
+        self.turn, self.mark, self.key, self.time, self.values = turn, mark, key, time, values
+
+
+class Firing:
+    """A pane that fired. Its contents are the turns of their records; its row is None where HAVING was false."""
+
+    def __init__(self, kind, place, contents, row):
+        self.kind, self.place, self.row = kind, place, row
+        self.contents = frozenset(record.turn for record in contents)
+
+
 class Stream:
-    def __init__(self, q):
-        self.q, self.mark = q, q.start
-        self.records = []   # selected: (turn, key, time, values)
-        self.firings = []   # (key, window, contents, row or None), the oldest first
+    """A run. A place is a window's end and start and the number of a key, so that places come in the order of rows."""
+
+    def __init__(self, query):
+        self.query = query
+        self.marks = [query.start] * max(1, len(query.sources))
+        self.records, self.firings, self.lines = [], [], []
         self.relation = Counter()
         self.admitted = self.late = self.refused = self.turn = 0
+        self.columns = [query.meaning(column) for column in query.columns]
+        self.types = [query.type_of_column(number) for number in range(len(query.columns))]
+        self.where = query.where and query.meaning(query.where)
+        self.having = query.having and query.meaning(query.having)
+
+    def mark(self):
+        return min(self.marks)
+
+    def write(self, *cells):
+        self.lines.append(",".join(map(str, cells)))
+
+    def cells(self, row):
+        return [self.query.text_of(kind, value) for kind, value in zip(self.types, row)]
+
+    def write_pane(self, *tags, place, row):
+        end, start, key = place
+        self.write(*tags, self.query.keys[key], start, end, *self.cells(row))
+
+    # ---- panes, and what fires
+
+    def windows(self, record, times):
+        """The windows that a record stands in, where its key has these times."""
+        query = self.query
+        if query.shape == "SESSION":
+            return [window for window in sessions(query.size, times) if window[0] <= record.time < window[1]]
+        windows = grid(query, record.time)
+        if query.from_window:
+            windows = [window for window in windows if window[1] + query.lateness > record.mark]
+        return windows
 
     def panes(self, mark):
-        """Contents by key and window, of those that are live at the mark."""
-        q, held = self.q, {}
-        for key in q.keys:
-            mine = [r for r in self.records if r[1] == key]
-            times = [r[2] for r in mine]
-            for r in mine:
-                for w in q.windows(times, r[2]):
-                    if w[1] + q.lateness > mark:
-                        held.setdefault((w[1], w[0], q.keys.index(key)), []).append(r)
-        return held
+        """The contents of the windows that are live at a mark, by place."""
+        found = {}
+        for key in range(len(self.query.keys)):
+            mine = [record for record in self.records if record.key == key]
+            times = [record.time for record in mine]
+            for record in mine:
+                for start, end in self.windows(record, times):
+                    if end + self.query.lateness > mark:
+                        found.setdefault((end, start, key), []).append(record)
+        return sorted(found.items())
+
+    def is_of(self, firing, place):
+        """Whether a firing is of the place's key and, where windows are fixed, of its window."""
+        return firing.place[2] == place[2] and (self.query.shape == "SESSION" or firing.place == place)
 
     def unshown(self, place, contents):
-        end, start, key = place
-        shown = set()
-        for k, window, turns, _ in self.firings:
-            if k == self.q.keys[key] and (self.q.shape == "SESSION" or window == (start, end)):
-                shown |= turns
-        return [r for r in contents if r[0] not in shown]
+        shown = {turn for firing in self.firings if self.is_of(firing, place) for turn in firing.contents}
+        return [record for record in contents if record.turn not in shown]
 
-    def row(self, key, records):
-        q, values = self.q, [r[3] for r in records]
-        if q.having is not None and not q.having(key, None, values):
-            return None
-        return [column(key, None, values) for column in q.columns]
+    def firing(self, kind, place, contents, unshown):
+        values = [record.values for record in (unshown if self.query.mode == "DISCARDING" else contents)]
+        key = place[2]
+        is_written = self.having is None or self.having(key, None, values)
+        return Firing(kind, place, contents, [column(key, None, values) for column in self.columns] if is_written else None)
 
-    def fire(self, kind, place, contents, unshown):
-        end, start, key = place
-        row = self.row(self.q.keys[key], unshown if self.q.discards else contents)
-        if row is not None and self.q.form == "PANES":
-            print("pane", kind, self.q.keys[key], start, end, *map(text, row), sep=",")
-        return (self.q.keys[key], (start, end), {r[0] for r in contents}, row)
-
-    def record(self, key, time, values):
-        q = self.q
-        self.admitted += 1
-        if q.where is not None and not q.where(key, values, None):
-            return
-        self.records.append((self.turn, key, time, values))
-        fired = []
-        for place, contents in sorted(self.panes(self.mark).items()):
-            if all(r[0] != self.turn for r in contents):
+    def fire_by_record(self, mark):
+        query, fired = self.query, []
+        for place, contents in self.panes(mark):
+            if all(record.turn != self.turn for record in contents):
                 continue
-            missing = self.unshown(place, contents)
-            kind, count = ("early", q.early) if self.mark < place[0] else ("late", q.late)
-            if count and len(missing) >= count:
-                fired.append(self.fire(kind, place, contents, missing))
-        self.firings += fired
+            unshown = self.unshown(place, contents)
+            kind, count = ("early", query.early) if mark < place[0] else ("late", query.late)
+            if count is not None and len(unshown) >= count:
+                fired.append(self.firing(kind, place, contents, unshown))
+        return fired
 
-    def watermark(self, new):
-        q, old = self.q, self.mark
-        held, fired = sorted(self.panes(old).items()), []
-        for place, contents in held:
-            missing = self.unshown(place, contents)
-            if old < place[0] <= new and (missing if q.discards else contents):
-                fired.append(self.fire("on_time", place, contents, missing))
-            elif old < place[0] + q.lateness <= new and missing:
-                fired.append(self.fire("final", place, contents, missing))
+    def fire_by_rise(self, old, new):
+        query, fired = self.query, []
+        for place, contents in self.panes(old):
+            unshown, end = self.unshown(place, contents), place[0]
+            if old < end <= new and (unshown if query.mode == "DISCARDING" else contents):
+                fired.append(self.firing("on_time", place, contents, unshown))
+            elif old < end + query.lateness <= new and unshown:
+                fired.append(self.firing("final", place, contents, unshown))
+        return fired
+
+    def write_turn(self, fired, before):
+        """Keeps what fired; writes what is withdrawn of what stood before, and what fired."""
         self.firings += fired
-        now = Counter()
-        for (end, start, key), contents in held:
-            mine = {r[0] for r in contents}
-            those = [f for f in self.firings if f[0] == q.keys[key] and f[2] <= mine and (q.shape == "SESSION" or f[1] == (start, end))]
-            stands = [f for f in those if all(g[2] <= f[2] for g in those)]
-            if stands and stands[0][3] is not None:
-                now[tuple(stands[0][3])] += 1
-        shown = {"PANES": Counter(), "ISTREAM": now - self.relation, "DSTREAM": self.relation - now, "RSTREAM": now}[q.form]
-        for row in sorted(shown.elements(), key=q.order):
-            print(q.form.lower(), new, *map(text, row), sep=",")
-        self.relation, self.mark = now, new
+        if self.query.form != "PANES":
+            return
+        if self.query.mode == "RETRACTING":
+            lasting = self.standing(self.panes(self.mark()))
+            gone = [firing for firing in before if firing not in lasting and firing.row is not None]
+            for firing in sorted(gone, key=lambda firing: firing.place):
+                self.write_pane("retract", place=firing.place, row=firing.row)
+        for firing in fired:
+            if firing.row is not None:
+                self.write_pane("pane", firing.kind, place=firing.place, row=firing.row)
+
+    # ---- what stands, and the relation of it
+
+    def standing(self, panes):
+        """The firing that stands for each of these panes that has one."""
+        found = []
+        for place, contents in panes:
+            mine = {record.turn for record in contents}
+            those = [firing for firing in self.firings if self.is_of(firing, place) and firing.contents <= mine]
+            greatest = [firing for firing in those if all(other.contents <= firing.contents for other in those)]
+            found += greatest[-1:]
+        return found
+
+    def write_relation(self, old, new):
+        query = self.query
+        now = Counter(tuple(firing.row) for firing in self.standing(self.panes(old)) if firing.row is not None)
+        shown = {"PANES": Counter(), "ISTREAM": now - self.relation, "DSTREAM": self.relation - now, "RSTREAM": now}[query.form]
+        for row in sorted(shown.elements()):
+            self.write(query.form.lower(), new, *self.cells(row))
+        self.relation = now
+
+    # ---- turns
 
     def verdict(self, event):
-        q = self.q
+        query = self.query
         if event[0] == "w":
-            return "TimeRange" if not 0 <= event[1] <= LATEST else "NotRising" if event[1] <= self.mark else None
+            _, source, time = event
+            if source is None:
+                return "UnknownSource"
+            return "TimeRange" if not 0 <= time <= LATEST else "NotRising" if time <= self.marks[source] else None
         _, key, time, values = event
-        if key not in q.keys:
+        if key is None:
             return "UnknownKey"
-        if any(f[1] == "INT" and not f[2][0] <= v <= f[2][1] for f, v in zip(q.fields, values)):
+        if any(field.type == "INT" and not field.low <= value <= field.high for field, value in zip(query.fields, values)):
             return "FieldRange"
         if not 0 <= time <= LATEST:
             return "TimeRange"
-        if time > self.mark + q.skew:
+        if time > self.mark() + query.skew:
             return "TooFarAhead"
-        if time + q.lateness < self.mark:
-            return "Late"
-        return "RecordLimit" if self.admitted == q.records else None
+        if query.from_window:
+            is_late = all(end + query.lateness <= self.mark() for _, end in grid(query, time))
+        else:
+            is_late = time + query.lateness < self.mark()
+        return "Late" if is_late else "RecordLimit" if self.admitted == query.records else None
 
     def take(self, cells):
         self.turn += 1
-        event = self.q.event(cells)
+        event = event_of(self.query, cells)
         why = event if isinstance(event, str) else self.verdict(event)
         if why == "Late":
             self.late += 1
         elif why:
             self.refused += 1
-            print("refused", self.turn, why, sep=",")
+            self.write("refused", self.turn, why)
         elif event[0] == "w":
-            self.watermark(event[1])
+            self.take_watermark(*event[1:])
         else:
-            self.record(*event[1:])
+            self.take_record(*event[1:])
 
-    def end(self):
-        print("end", self.turn, self.admitted, self.late, self.refused, len(self.firings), sep=",")
+    def take_record(self, key, time, values):
+        self.admitted += 1
+        if self.where is not None and not self.where(key, values, None):
+            return
+        mark = self.mark()
+        before = self.standing(self.panes(mark))
+        self.records.append(Record(self.turn, mark, key, time, values))
+        self.write_turn(self.fire_by_record(mark), before)
+
+    def take_watermark(self, source, time):
+        old = self.mark()
+        new = min(time if number == source else mark for number, mark in enumerate(self.marks))
+        if new > old:
+            before = self.standing(self.panes(old))
+            self.write_turn(self.fire_by_rise(old, new), before)
+            self.write_relation(old, new)
+        self.marks[source] = time
+
+    def text(self, rows):
+        for row in rows:
+            if row:
+                self.take(row.split(","))
+        self.write("end", self.turn, self.admitted, self.late, self.refused, len(self.firings))
+        return "".join(f"{line}\n" for line in self.lines)
 
 
-def main():
-    with open(sys.argv[1]) as f:
-        stream = Stream(Query(f.read()))
-    for line in open(sys.argv[2]) if len(sys.argv) > 2 else sys.stdin:
-        stream.take(line.rstrip("\n").split(","))
-    stream.end()
+# ---- the commands
+
+def rejection(verdict):
+    """How a run tells a rejection."""
+    _, part, place, name = verdict.split(",")
+    return f"V{RULES.index(name) + 1} {name} in {part} at {place}"
+
+
+def run(query_text, rows):
+    """The status of a run, what it tells on standard error, and what it writes."""
+    try:
+        query = Query(query_text)
+        verdict = Program(query).verdict()
+    except Refused as why:
+        return 3, f"wsm: {why}\n", ""
+    if verdict.startswith("rejected"):
+        return 4, f"wsm: {rejection(verdict)}\n", ""
+    return 0, "", Stream(query).text(rows)
+
+
+def read(name):
+    with open(name, encoding="latin-1", newline="") as file:
+        return file.read()
+
+
+def main(words):
+    if words[0] == "--explain":
+        program = Program(Query(read(words[1])))
+        print(program.listing() + program.verdict())
+    elif words[0] == "--bytes":
+        version = int(words[1])
+        with open(words[3], "wb") as file:
+            file.write(Program(Query(read(words[2])), has_tests=version == 2).bytes(version))
+    else:
+        rows = read(words[1]) if len(words) > 1 else sys.stdin.buffer.read().decode("latin-1")
+        status, told, written = run(read(words[0]), re.split(r"[\r\n]+", rows))
+        sys.stdout.write(written)
+        sys.stderr.write(told)
+        sys.exit(status)
 
 
 if __name__ == "__main__":
-    main()
+    main(sys.argv[1:])
