@@ -1,0 +1,372 @@
+"""Pictures of runs, for examples/picture and docs/windows/draw.py.
+
+A picture shows one key: event time across, the rows upwards in the order of their arrival, the watermark as a line
+and the marks of sources as thin ones, a circle for each record, a box for each pane with its kind and its columns,
+and struck columns for each pane that is withdrawn. It is drawn from what the program writes: behind each row stands one
+that is refused, and what is written between two such refusals belongs to the row between them. Of the query's text,
+`reference_query` tells the clauses and which records WHERE takes.
+"""
+import re
+import subprocess
+from dataclasses import dataclass
+from html import escape
+
+from reference import value_of
+from reference_query import Query
+
+STEP = 28  # points for a row
+LEFT, ABOVE, BELOW, RIGHT = 126, 46, 44, 20
+COLORS = {"early": "#b8860b", "on_time": "#1f6fb2", "late": "#c2410c", "final": "#2e7d32"}
+WATERMARK, INK, GREY = "#b3003c", "#222222", "#777777"
+MARKS = ["#7a5195", "#008080", "#8a6d3b", "#555555"]  # of the sources
+WIDEST = 3600  # points
+SPACES = [step * power for power in (10**n for n in range(16)) for step in (1, 2, 5)]  # between two times at the foot
+CLOCK_SPACES = [1, 2, 5, 10, 15, 30, 60, 120, 300, 600, 900, 1800, 3600, 7200, 21600, 43200, 86400]
+
+
+class Refused(Exception):
+    """A run that no picture is drawn of; its text says why, its status is that of the program."""
+
+    def __init__(self, text, status=1):
+        super().__init__(text)
+        self.status = status
+
+
+# ---- what happened
+
+@dataclass
+class Record:
+    row: int
+    time: int
+    text: str
+    fate: str  # "admitted", "late" or the word of its refusal
+    mark: int  # the watermark before its row
+    is_selected: bool = True
+
+
+@dataclass
+class Pane:
+    row: int
+    kind: str  # "early", "on_time", "late", "final", or "retract" for one that is withdrawn
+    start: int
+    end: int
+    text: str
+
+
+@dataclass
+class History:
+    rows: dict  # the rows that are shown, by their numbers
+    records: list
+    panes: list
+    withdrawn: list
+    refusals: dict  # the words of rows that are no records, by their numbers
+    watermark: list  # its corners, each a row and a time
+    marks: dict  # the corners of each source's mark
+
+
+def lines_of(program, query, rows):
+    """The lines that a run writes, without the end row, and how many records it counted as late."""
+    run = subprocess.run([program, "run", query], input="".join(f"{row}\n" for row in rows), capture_output=True, text=True)
+    if run.returncode:
+        raise Refused(run.stderr.strip(), run.returncode)
+    *lines, end = run.stdout.splitlines()
+    return lines, int(end.split(",")[3])
+
+
+def turns_of(program, query, rows):
+    """For each row: its number, its cells and the lines of its turn, which the refusal of a row behind it ends."""
+    lines, _ = lines_of(program, query, [row for shown in rows for row in (shown, "?")])
+    ends = [lines.index(f"refused,{2 * number},BadTag") for number in range(1, len(rows) + 1)]
+    for number, (begin, end) in enumerate(zip([-1, *ends], ends), 1):
+        yield number, rows[number - 1].split(","), lines[begin + 1:end]
+
+
+def is_late(program, query, rows):
+    """Whether the last row was counted as late."""
+    return lines_of(program, query, rows)[1] > lines_of(program, query, rows[:-1])[1]
+
+
+def is_selected(query, cells):
+    values = [value_of(field, cell) for field, cell in zip(query.fields, cells[3:])]
+    return query.where is None or query.meaning(query.where)(query.keys.index(cells[1]), values, None)
+
+
+def history_of(program, path, query, rows, key):
+    marks = {name: query.start for name in query.sources or [None]}
+    history = History({}, [], [], [], {}, [(0, query.start)], {name: [(0, query.start)] for name in marks})
+    for number, cells, lines in turns_of(program, path, rows):
+        fate, mark = "admitted", min(marks.values())
+        for line in lines:
+            tag, *parts = line.split(",")
+            if tag == "refused":
+                fate = parts[1]
+                continue
+            kind = parts.pop(0) if tag == "pane" else tag
+            if parts[0] == key:
+                kept = history.panes if tag == "pane" else history.withdrawn
+                kept.append(Pane(number, kind, int(parts[1]), int(parts[2]), ",".join(parts[3:])))
+        is_record = cells[0] == "r" and len(cells) > 2 and re.fullmatch("[0-9]{1,17}", cells[2])
+        if is_record and cells[1] != key:
+            continue
+        history.rows[number] = rows[number - 1]
+        if is_record:
+            if fate == "admitted" and int(cells[2]) < mark and is_late(program, path, rows[:number]):
+                fate = "late"
+            record = Record(number, int(cells[2]), ",".join(cells[3:]), fate, mark)
+            record.is_selected = fate != "admitted" or is_selected(query, cells)
+            history.records.append(record)
+        elif fate != "admitted":
+            history.refusals[number] = fate
+        else:
+            source = cells[1] if query.sources else None
+            step(history.marks[source], number, int(cells[-1]))
+            marks[source] = int(cells[-1])
+            step(history.watermark, number, min(marks.values()))
+    for corners in (history.watermark, *history.marks.values()):
+        corners.append((len(rows) + 0.7, corners[-1][1]))
+    return history
+
+
+def step(corners, row, time):
+    """Goes up to a row, and there to a time."""
+    corners += [(row, corners[-1][1]), (row, time)]
+
+
+# ---- how wide it is
+
+@dataclass
+class Frame:
+    first: int  # the event time at the left edge
+    last: int  # and at the right edge
+    scale: float  # points for a unit of time
+    space: int  # between two times at the foot
+    is_clock: bool  # whether times are seconds, and are shown as hours and minutes
+
+    def text_of(self, time):
+        if not self.is_clock:
+            return str(time)
+        seconds = f":{time % 60:02}" if self.space < 60 else ""
+        return f"{time // 3600 % 24}:{time // 60 % 60:02}{seconds}"
+
+
+def frame_of(history, is_clock):
+    """A frame in which the labels of the panes of one row have room beside one another."""
+    times = [record.time for record in history.records if record.fate in ("admitted", "late")]
+    for pane in history.panes + history.withdrawn:
+        times += [pane.start, pane.end]
+    if not times:
+        raise Refused("no record of this key was taken, and no pane of it fired")
+    first, last = min(times), max(times)
+    margin = max(1, (last - first) // 20)
+    first, last = max(0, first - margin), last + margin
+    scale = 760 / (last - first)
+    for row in {pane.row for pane in history.panes}:
+        panes = sorted((pane.start, pane.end, len(pane.kind) + len(pane.text)) for pane in history.panes if pane.row == row)
+        starts = [start for start, _, _ in panes[1:]] + [panes[-1][1]]
+        for (start, _, length), following in zip(panes, starts):
+            if following > start:
+                scale = max(scale, (7 * length + 14) / (following - start))
+    scale = min(scale, WIDEST / (last - first))
+    widest = 44 if is_clock else 14 + 6 * len(str(last))
+    space = next((space for space in (CLOCK_SPACES if is_clock else SPACES) if space * scale >= widest), last - first)
+    return Frame(first - first % space, last, scale, space, is_clock)
+
+
+# ---- the picture
+
+class Picture:
+    def __init__(self, history, frame, is_whole):
+        self.history, self.frame, self.is_whole = history, frame, is_whole
+        self.lines = {number: at for at, number in enumerate(history.rows, 1)}
+        longest = max(len(self.row_text(number)) for number in history.rows)
+        self.left = max(LEFT, 24 + 6.1 * longest)
+        self.width = self.across(frame.last) + RIGHT
+        self.floor = ABOVE + (len(history.rows) + 1) * STEP
+        self.height = self.floor + BELOW
+        self.parts = []
+
+    def row_text(self, number):
+        """The row as it stands at the left, with its number where rows are left out."""
+        return self.history.rows[number] if self.is_whole else f"{number}: {self.history.rows[number]}"
+
+    def across(self, time):
+        return self.left + (min(max(time, self.frame.first), self.frame.last) - self.frame.first) * self.frame.scale
+
+    def up(self, row):
+        if row not in self.lines:  # before the first row, or behind the last one
+            return self.floor - (len(self.lines) + 0.7 if row else 0) * STEP
+        return self.floor - self.lines[row] * STEP
+
+    def add(self, tag, text=None, **attributes):
+        words = " ".join(f'{name.replace("_", "-")}="{short(value)}"' for name, value in attributes.items())
+        self.parts.append(f"<{tag} {words}/>" if text is None else f"<{tag} {words}>{text}</{tag}>")
+
+    def write(self, text, x, y, size=11, anchor="start", color=INK, **more):
+        self.add("text", text, x=x, y=y, font_size=size, text_anchor=anchor, fill=color, **more)
+
+    def halo(self, text, x, y, **more):
+        self.write(text, x, y, stroke="#ffffff", stroke_width=3, paint_order="stroke", **more)
+
+    def axes(self, title):
+        frame, right = self.frame, self.across(self.frame.last)
+        self.write(escape(title), 12, 20, size=12, font_weight="bold")
+        for time in range(frame.first, frame.last + 1, frame.space):
+            x = self.across(time)
+            self.add("line", x1=x, y1=ABOVE, x2=x, y2=self.floor, stroke="#e4e4e4", stroke_width=1)
+            self.write(frame.text_of(time), x, self.floor + 16, size=10, anchor="middle", color=GREY)
+        self.add("line", x1=self.left, y1=self.floor, x2=right, y2=self.floor, stroke=GREY, stroke_width=1)
+        self.write("event time", right, self.floor + 34, anchor="end", color=GREY)
+        self.write("rows, as they arrive, upwards", 12, self.floor + 34, color=GREY)
+        for number in self.history.rows:
+            text = escape(self.row_text(number))
+            self.write(text, 12, self.up(number) + 3, size=10, color=GREY, font_family="monospace")
+
+    def is_by_record(self, pane):
+        return self.history.rows[pane.row].startswith("r")
+
+    def top_of(self, pane):
+        return self.up(pane.row) - (13 if self.is_by_record(pane) else 0)
+
+    def box(self, pane, floor_row, inset):
+        color = COLORS[pane.kind]
+        top = self.top_of(pane)
+        bottom = self.up(floor_row) + 13
+        x, width = self.across(pane.start) + 1, (pane.end - pane.start) * self.frame.scale - 2
+        dash = {"stroke_dasharray": "5 3"} if inset else {}
+        self.add(
+            "rect", x=x, y=top + inset, width=width, height=bottom - top - inset, fill=color,
+            fill_opacity="0.13", stroke=color, stroke_width=1.5, **dash,
+        )
+
+    def label(self, pane):
+        text = f'{pane.kind} <tspan font-weight="bold" font-size="14">{pane.text}</tspan>'
+        y = self.top_of(pane) + (-5 if self.is_by_record(pane) else 15)
+        self.halo(text, self.across(pane.start) + 6, y, color=COLORS[pane.kind])
+
+    def line(self, corners, **attributes):
+        points = " ".join(f"{short(self.across(time))},{short(self.up(row))}" for row, time in corners)
+        self.add("polyline", points=points, fill="none", **attributes)
+
+    def watermark(self, corners):
+        self.line(corners, stroke=WATERMARK, stroke_width=2.5)
+        row, time = corners[-1]
+        self.write("watermark", self.across(time) - 5, self.up(row) + 3, anchor="end", color=WATERMARK)
+
+    def mark(self, number, name, corners):
+        """The mark of a source, with its name where it first rises."""
+        color = MARKS[number % len(MARKS)]
+        self.line(corners, stroke=color, stroke_width=1.3, stroke_dasharray="6 3")
+        row, time = next((corner for corner in corners if corner[1] > corners[0][1]), corners[-1])
+        self.halo(name, self.across(time) + 4, self.up(row) + 12, color=color)
+
+    def withdrawn(self, pane):
+        """The columns of a pane that is withdrawn, struck, below the label of what takes its place."""
+        x, y = self.across(pane.start) + 6, self.top_of(pane) + (11 if self.is_by_record(pane) else 31)
+        text = f'retract <tspan font-weight="bold" font-size="14" text-decoration="line-through">{pane.text}</tspan>'
+        self.halo(text, x, y, color=GREY)
+
+    def measure(self, record, behind):
+        """How far the watermark is past a time, below the circle of a record."""
+        y, left, right = self.up(record.row) + 15, self.across(behind), self.across(record.mark)
+        self.add("line", x1=left, y1=y, x2=right, y2=y, stroke=INK, stroke_width=1)
+        for x in (left, right):
+            self.add("line", x1=x, y1=y - 4, x2=x, y2=y + 4, stroke=INK, stroke_width=1)
+        self.halo(record.mark - behind, (left + right) / 2, y - 4, anchor="middle")
+
+    def record(self, record):
+        x, y = self.across(record.time), self.up(record.row)
+        is_in = record.fate == "admitted"
+        color = INK if is_in and record.is_selected else GREY
+        radius = 9 if len(record.text) <= 3 else 5
+        dash = {} if record.is_selected else {"stroke_dasharray": "3 2"}
+        self.add("circle", cx=x, cy=y, r=radius, fill="#ffffff", stroke=color, stroke_width=1.3, **dash)
+        beside = escape(record.text) if radius < 9 else ""
+        if not beside:
+            self.write(escape(record.text), x, y + 4, anchor="middle", color=color)
+        if not is_in:
+            self.add("line", x1=x - 9, y1=y + 9, x2=x + 9, y2=y - 9, stroke=WATERMARK, stroke_width=2)
+            beside += f'{" " * bool(beside)}<tspan fill="{WATERMARK}">{record.fate}</tspan>'
+        if record.time > self.frame.last:
+            self.halo(beside, x - radius - 4, y + 4, anchor="end", color=color)
+        elif beside:
+            self.halo(beside, x + radius + 4, y + 4, color=color)
+
+    def text(self):
+        size = f'width="{short(self.width)}" height="{short(self.height)}"'
+        view = f'viewBox="0 0 {short(self.width)} {short(self.height)}"'
+        head = f'<svg xmlns="http://www.w3.org/2000/svg" {size} {view} font-family="Helvetica, Arial, sans-serif">'
+        ground = '<rect width="100%" height="100%" fill="#ffffff"/>'
+        return "\n".join([head, ground, *self.parts, "</svg>"]) + "\n"
+
+
+def short(value):
+    return f"{value:.1f}".removesuffix(".0") if isinstance(value, float) else value
+
+
+def title_of(text):
+    """The clauses of a query that a picture shows."""
+    text = " ".join(text.split())
+    sources = re.search(r"SOURCES [^;]*;|$", text).group(0)
+    clock = re.search(r"SKEW \d+ ?; LATENESS \d+( FROM WINDOW)? ?;", text).group(0)
+    window = re.search(r"(?<!FROM )(WINDOW .*) EMIT", text).group(1)
+    return f"{window}   {clock}   {sources}".strip()
+
+
+def is_of(pane, other):
+    """Whether a pane is of the window of another one, or of a session that was joined to it."""
+    return other.start <= pane.start and pane.end <= other.end
+
+
+def floor_of(pane, history, is_discarding):
+    """The first row of the records that a pane shows."""
+    earlier = [other.row for other in history.panes if other.row < pane.row and is_of(other, pane)]
+    after = max(earlier, default=0) if is_discarding else 0
+    shown = [
+        record.row for record in history.records
+        if record.fate == "admitted" and record.is_selected
+        and after < record.row <= pane.row and pane.start <= record.time < pane.end
+    ]
+    return min(shown, default=pane.row)
+
+
+def inset_of(query, pane):
+    """How far a box is set in, so that the boxes of windows that overlap can be told apart."""
+    return 3 * (pane.start // query.period % -(-query.size // query.period)) if query.shape == "SLIDING" else 0
+
+
+def behind_of(record, query):
+    """The time from which a record's lateness is counted: its own, or the end of its fixed window."""
+    return record.time - record.time % query.size + query.size if query.from_window else record.time
+
+
+def drawn(program, path, rows, key=None, frame=None, is_clock=False, is_measured=False):
+    """The picture of a key in a run of the query at a path. Where it is measured, it shows how late late records are."""
+    lines_of(program, path, [])  # a query that is refused is told as the program tells it
+    text = path.read_text()
+    query = Query(text)
+    if query.form != "PANES":
+        raise Refused(f"a picture is drawn of EMIT PANES, not of {query.form}")
+    key = key or query.keys[0]
+    if key not in query.keys:
+        raise Refused(f"{key} is no key of the query; its keys are {', '.join(query.keys[:20])}")
+    history = history_of(program, path, query, rows, key)
+    frame = frame or frame_of(history, is_clock)
+    picture = Picture(history, frame, len(history.rows) == len(rows))
+    picture.axes(title_of(text) if len(query.keys) == 1 else f"{key}:   {title_of(text)}")
+    for pane in history.panes:
+        picture.box(pane, floor_of(pane, history, query.mode == "DISCARDING"), inset_of(query, pane))
+    if query.sources:
+        for number, (source, corners) in enumerate(history.marks.items()):
+            picture.mark(number, source, corners)
+    picture.watermark(history.watermark)
+    for record in history.records:
+        picture.record(record)
+        if is_measured and behind_of(record, query) < record.mark:
+            picture.measure(record, behind_of(record, query))
+    for pane in history.panes:
+        picture.label(pane)
+    for pane in history.withdrawn:
+        picture.withdrawn(pane)
+    for row, word in history.refusals.items():
+        picture.halo(word, picture.left + 4, picture.up(row) + 4, color=WATERMARK)
+    return picture.text()
