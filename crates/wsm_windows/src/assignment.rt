@@ -6,7 +6,7 @@ ghost use Rattle.wsm_windows.specs.Windows.{IsShape, IsTime, IsSpan, IsWindowOfS
 ghost use Rattle.wsm_windows.specs.Life as life;
 ghost use Rattle.wsm_windows.specs.Life.{IsLiveWindowOf};
 
-use crate::life::last_expired;
+use crate::life::last_expired_at;
 use crate::window::{Shape, Window};
 use std::marker::Model;
 
@@ -99,7 +99,7 @@ pub fn live_past(time: i64, lateness: i64, mark: i64) -> i64
     ensures live { (size period : ℤ) → pos 1 ≤ℤ size → size ≤ℤ greatest_span →
         filter (λ w. int_lt result w.end) (spec.windows_of size period time) ≡ filter (λ w. life.is_live w lateness mark) (spec.windows_of size period time) }
 {
-    time.max(last_expired(mark, lateness))
+    time.max(last_expired_at(mark, lateness))
 }
 
 // Of the windows of a time those that end past it and past another time.

@@ -29,6 +29,17 @@ pub fn last_expired(mark: i64, lateness: i64) -> i64
     mark.checked_sub(lateness).unwrap_or(i64::MIN)
 }
 
+/// The same of a mark that is a time, which every record asks for: nothing is too small for 64 bits.
+#[inline(always)]
+pub(crate) fn last_expired_at(mark: i64, lateness: i64) -> i64
+    requires lateness { IsSpan lateness }
+    requires mark { IsTime mark }
+    ensures live { (window : Window) → int_lt result window.end ≡ life.is_live window lateness mark }
+    ensures by { result ≤ℤ mark }
+{
+    mark - lateness
+}
+
 /// Whether a watermark that goes from one mark to another comes to a window's end.
 pub fn is_due(window: Window, old: i64, new: i64) -> bool
     requires window { IsPlaced window }

@@ -14,13 +14,13 @@ pub returns-clause-time : goal.returns-clause-time
 returns-clause-time c =
     let fits : SFits w64 c.max.result = search rules in
     rw (to_z-of_z w64 c.max.result fits)
-    (is_past c.args.time c.last_expired.result c.args.mark c.max.result c.requires.time c.requires.mark (rw (to_z-of_z w64 c.args.mark c.ranges.mark) at c.last_expired.ensures.by)
-    (past_is c.args.time c.last_expired.result c.max.result c.ranges.time (search rules) c.max.ensures.value))
+    (is_past c.args.time c.last_expired_at.result c.args.mark c.max.result c.requires.time c.requires.mark (rw (to_z-of_z w64 c.args.mark c.ranges.mark) at c.last_expired_at.ensures.by)
+    (past_is c.args.time c.last_expired_at.result c.max.result c.ranges.time (search rules) c.max.ensures.value))
 
 pub returns-clause-live : goal.returns-clause-live
 returns-clause-live c size period low high =
     let fits : SFits w64 c.max.result = search rules in
     ap (λ (m : ℤ). filter (λ w. int_lt m w.end) (windows_of size period c.args.time)) (to_z-of_z w64 c.max.result fits)
-    ∙ live_grid size period c.args.time c.args.lateness c.args.mark c.max.result c.last_expired.result low high c.requires.time
-    (past_is c.args.time c.last_expired.result c.max.result c.ranges.time (search rules) c.max.ensures.value)
-    (λ w placed. c.last_expired.ensures.live w placed ∙ (λ i. is_live w (to_z-of_z w64 c.args.lateness c.ranges.lateness i) (to_z-of_z w64 c.args.mark c.ranges.mark i)))
+    ∙ live_grid size period c.args.time c.args.lateness c.args.mark c.max.result c.last_expired_at.result low high c.requires.time
+    (past_is c.args.time c.last_expired_at.result c.max.result c.ranges.time (search rules) c.max.ensures.value)
+    (λ w placed. c.last_expired_at.ensures.live w ∙ (λ i. is_live w (to_z-of_z w64 c.args.lateness c.ranges.lateness i) (to_z-of_z w64 c.args.mark c.ranges.mark i)))
