@@ -58,3 +58,15 @@ mod WithdrawnImages
 mod LastingBags
 pub mod LastingLaw
 pub mod LastingOnce
+pub mod RowOrder
+pub mod RowBags
+pub mod KeyParts
+pub mod KeyTurns
+pub mod KeyPanes
+pub mod KeyFirings
+pub mod KeyStanding
+pub mod KeyRows
+pub mod KeyRelations
+pub mod KeyNumbers
+pub mod KeyRecords
+pub mod KeyLaw

@@ -20,3 +20,6 @@ pub mod Order
 pub mod Rows
 pub mod KeptRows
 pub mod OrderRows
+pub mod RowCounts
+pub mod ByKey
+pub mod ByKeyRows

@@ -1,7 +1,7 @@
 //! What holds of every query, over every history. The contract of each function is the law; a call
 //! of it does nothing.
 
-ghost use Rattle.std.specs.Prelude.{◌≡◌, false, List, ◌++◌, pos, ◌≤ℤ◌, IsPermutation};
+ghost use Rattle.std.specs.Prelude.{◌≡◌, false, List, [], ◌∷◌, ◌++◌, ℤ, pos, ◌≤ℤ◌, IsPermutation};
 ghost use Rattle.std.specs.List.{AllByRecursion};
 ghost use Rattle.wsm_record.specs.declared.words.Mode.TheVariants.{Discarding, Retracting};
 ghost use Rattle.wsm_record.specs.declared.words.Form.TheVariants.{Panes};
@@ -17,6 +17,7 @@ ghost use Rattle.wsm_semantics.specs.FiringSets.{FiresOnce};
 ghost use Rattle.wsm_semantics.specs.LastingRows.{AddsUp};
 ghost use Rattle.wsm_semantics.specs.HeldBounds.{HeldBounded};
 ghost use Rattle.wsm_semantics.specs.Order.{Judged, is_rise, Reordered, IgnoresOrder, IsOrderFree, OrderLaw};
+ghost use Rattle.wsm_semantics.specs.ByKey.{Keys, others, IgnoresTurns, ByKey, RowsByKey, EachOnce, StreamsWrite, PartsAddUp, NumbersAddUp, SameByRecords};
 
 /// A replay that goes by what it keeps of the held panes alone, event by event, keeps what the history
 /// says of them, and the relation at the last rise of the watermark.
@@ -66,4 +67,25 @@ pub fn in_any_order()
 /// verdict, is such another order.
 pub fn each_permutation()
     ensures { (newer xs ys older : List Judged) → AllByRecursion (λ e. is_rise e ≡ false) xs → IsPermutation xs ys → Reordered (newer ++ (xs ++ older)) (newer ++ (ys ++ older)) }
+{}
+
+/// A history without the records of some keys, in which none is refused for RECORDS, holds and fires for
+/// the others what the whole does, turn by turn, each event with the verdict that it has there; and its rows of
+/// panes, also of those that are withdrawn, are those of the whole for these keys. Another number of RECORDS
+/// for which none is refused changes nothing of it.
+pub fn by_key()
+    ensures parts { (q : Query) (keys : Keys) → ByKey q keys }
+    ensures rows { (q : Query) → IgnoresTurns q → q.form ≡ Panes → (keys : Keys) → RowsByKey q keys }
+    ensures records { (q : Query) (records : ℤ) → SameByRecords q records }
+{}
+
+/// Where each key is of one of some parts of a history, its relation has the rows of all of theirs; and where the
+/// watermark rises it gains what they gain, each row as often as they don't lose it, and loses what they
+/// lose, as often as they don't gain it. The streams write what it gains, loses and has. So do the numbers of
+/// the end row add up, but that each part counts all watermarks.
+pub fn parts_add_up()
+    ensures parts { (q : Query) → IgnoresTurns q → (parts : List Keys) → EachOnce parts → PartsAddUp q parts }
+    ensures streams { (q : Query) → StreamsWrite q }
+    ensures numbers { (q : Query) → (parts : List Keys) → EachOnce parts → NumbersAddUp q parts }
+    ensures two { (keys : Keys) → EachOnce (keys ∷ others keys ∷ []) }
 {}

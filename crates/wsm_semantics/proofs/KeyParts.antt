@@ -1,0 +1,104 @@
+-- A part of a history that has the records of some keys and all watermarks: it has the marks of the whole,
+-- and where none is refused for RECORDS its events have the verdicts of the whole.
+use Rattle.std.proofs.Common.{◌≡◌, ℕ, ◌≤◌, Bool, true, false, ◌&&◌, cond, not, List, [], ◌∷◌, map, ℤ, Option, Some, None, refl, sym, ap, subst, ◌∙◌, arith}
+use Rattle.std.proofs.lemmas.Bool.{true≢false}
+use Rattle.std.proofs.lemmas.Bool.Decides.{nat_tests}
+use Rattle.std.specs.Prelude.{◌≢◌, nat_le, unsigned_abs}
+use Rattle.std.specs.List.{range_with_len}
+use Rattle.std.specs.Int.{int_max}
+use Rattle.wsm_record.specs.Event.{Event, Record, Watermark}
+use Rattle.wsm_record.specs.Schema.{Declared, fit_fields}
+use Rattle.wsm_admission.specs.declared.clock.Clock.{Clock}
+use Rattle.wsm_admission.specs.declared.verdict.Refusal.{Refusal}
+use Rattle.wsm_admission.specs.declared.verdict.Refusal.TheVariants.{UnknownKey, FieldRange, TimeRange, TooFarAhead, Late, RecordLimit}
+use Rattle.wsm_admission.specs.Clock.{source_mark, marks_of, least, is_source, is_time, is_key, is_too_far_ahead, is_late, admitted_count, admitted_with, verdict_at}
+use Rattle.wsm_semantics.specs.Query.{Query, mark, verdict_on}
+use Rattle.wsm_semantics.specs.ByKey.{Keys, is_of, of_keys, HasRoom}
+
+-- ---- marks
+
+module _ (c : Clock) (keys : Keys) where
+  source_of_part : (s : ℕ) (past : List Event) → source_mark c s (of_keys keys past) ≡ source_mark c s past
+  source_of_part s [] = refl
+  source_of_part s (Record key t vs ∷ past) =
+      elim (keys key) as (λ b. source_mark c s (cond b (Record key t vs ∷ of_keys keys past) (of_keys keys past)) ≡ source_mark c s past) [
+        | true ↦ source_of_part s past
+        | false ↦ source_of_part s past
+      ]
+  source_of_part s (Watermark o t ∷ past) = ap (λ (m : ℤ). cond (is_source s o && is_time t) (int_max m t) m) (source_of_part s past)
+
+  pub marks_of_part : (past : List Event) → marks_of c (of_keys keys past) ≡ marks_of c past
+  marks_of_part past i = map (λ s. source_of_part s past i) (range_with_len 0 c.sources)
+
+pub mark_of_part : (q : Query) (keys : Keys) (past : List Event) → mark q (of_keys keys past) ≡ mark q past
+mark_of_part q keys past = ap least (marks_of_part q.clock keys past)
+
+-- ---- verdicts
+
+-- the first rule that refuses, of which the last is the limit of admitted records
+abbrev pub first_rule : Bool → Bool → Bool → Bool → Bool → Bool → Option Refusal
+first_rule key fields time ahead late full =
+    cond key (Some UnknownKey) (cond fields (Some FieldRange) (cond time (Some TimeRange) (cond ahead (Some TooFarAhead) (cond late (Some Late) (cond full (Some RecordLimit) None)))))
+
+same_rule : (key fields time ahead late few many : Bool) → (few ≡ true → many ≡ true) → first_rule key fields time ahead late many ≢ Some RecordLimit →
+    first_rule key fields time ahead late few ≡ first_rule key fields time ahead late many
+same_rule true fields time ahead late few many h k = refl
+same_rule false true time ahead late few many h k = refl
+same_rule false false true ahead late few many h k = refl
+same_rule false false false true late few many h k = refl
+same_rule false false false false true few many h k = refl
+same_rule false false false false false few true h k = absurd (k refl)
+same_rule false false false false false false false h k = refl
+same_rule false false false false false true false h k = absurd (true≢false (sym (h refl)))
+
+still_full : (r few many : ℕ) → few ≤ many → nat_le r few ≡ true → nat_le r many ≡ true
+still_full r few many h k = grind (arith, nat_tests)
+
+module _ (c : Clock) (declared : Declared) where
+  -- fewer admitted records give the same verdict, where the limit doesn't
+  fewer_admitted : (marks : List ℤ) (few many : ℕ) (e : Event) → few ≤ many → verdict_at c declared marks many e ≢ Some RecordLimit → verdict_at c declared marks few e ≡ verdict_at c declared marks many e
+  fewer_admitted marks few many (Watermark o t) h k = refl
+  fewer_admitted marks few many (Record key t vs) h k =
+      same_rule (not (is_key declared key)) (not (fit_fields declared.fields vs)) (not (is_time t)) (is_too_far_ahead c (least marks) t) (is_late c (least marks) t)
+      (nat_le (unsigned_abs c.records) few) (nat_le (unsigned_abs c.records) many) (still_full (unsigned_abs c.records) few many h) k
+
+one_more : (few many : ℕ) (e : Event) (v : Option Refusal) → few ≤ many → admitted_with few e v ≤ admitted_with many e v
+one_more few many (Watermark o t) v h = h
+one_more few many (Record key t vs) None h = omega arith
+one_more few many (Record key t vs) (Some r) h = h
+
+no_fewer : (few many : ℕ) (e : Event) (v : Option Refusal) → few ≤ many → few ≤ admitted_with many e v
+no_fewer few many (Watermark o t) v h = h
+no_fewer few many (Record key t vs) None h = omega arith
+no_fewer few many (Record key t vs) (Some r) h = h
+
+module _ (q : Query) (keys : Keys) where
+  abbrev admitted : List Event → ℕ
+  admitted past = admitted_count q.clock q.declared past
+
+  -- with fewer admitted records an event has the verdict of the whole
+  verdict_by : (past : List Event) (e : Event) → admitted (of_keys keys past) ≤ admitted past → verdict_on q past e ≢ Some RecordLimit → verdict_on q (of_keys keys past) e ≡ verdict_on q past e
+  verdict_by past e fewer h =
+      ap (λ (ms : List ℤ). verdict_at q.clock q.declared ms (admitted (of_keys keys past)) e) (marks_of_part q.clock keys past)
+      ∙ fewer_admitted q.clock q.declared (marks_of q.clock past) (admitted (of_keys keys past)) (admitted past) e fewer h
+
+  fewer : (past : List Event) → HasRoom q past → admitted (of_keys keys past) ≤ admitted past
+  fewer [] h = omega arith
+  fewer (e ∷ past) h =
+      let before : admitted (of_keys keys past) ≤ admitted past = fewer past h.1 in
+      elim (is_of keys e) as (λ b. admitted (cond b (e ∷ of_keys keys past) (of_keys keys past)) ≤ admitted_with (admitted past) e (verdict_on q past e)) [
+        | true ↦ subst (λ (v : Option Refusal). admitted_with (admitted (of_keys keys past)) e v ≤ admitted_with (admitted past) e (verdict_on q past e)) (sym (verdict_by past e before h.0))
+            (one_more (admitted (of_keys keys past)) (admitted past) e (verdict_on q past e) before)
+        | false ↦ no_fewer (admitted (of_keys keys past)) (admitted past) e (verdict_on q past e) before
+      ]
+
+  pub verdict_of_part : (past : List Event) (e : Event) → HasRoom q (e ∷ past) → verdict_on q (of_keys keys past) e ≡ verdict_on q past e
+  verdict_of_part past e h = verdict_by past e (fewer past h.1) h.0
+
+  pub room_of_part : (past : List Event) → HasRoom q past → HasRoom q (of_keys keys past)
+  room_of_part [] h = tt
+  room_of_part (e ∷ past) h =
+      elim (is_of keys e) as (λ b. HasRoom q (cond b (e ∷ of_keys keys past) (of_keys keys past))) [
+        | true ↦ (λ full. h.0 (sym (verdict_of_part past e h) ∙ full), room_of_part past h.1)
+        | false ↦ room_of_part past h.1
+      ]
