@@ -69,4 +69,6 @@ pub mod KeyRows
 pub mod KeyRelations
 pub mod KeyNumbers
 pub mod KeyRecords
+pub mod NumberPanes
+pub mod NumberRows
 pub mod KeyLaw

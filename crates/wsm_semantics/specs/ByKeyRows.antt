@@ -1,6 +1,6 @@
--- Worked rows of the law by key: a part of a history, what it fires, and what each of the law's conditions is
--- for. Histories are written oldest row first.
-use Rattle.std.specs.Prelude.{◌≡◌, refl, ℕ, false, List, [], ◌∷◌, filter, map, reverse, pos, Some, None, nat_eq}
+-- Worked rows of the laws by key and by number: a part of a history, what it fires, and what each of their
+-- conditions is for. Histories are written oldest row first.
+use Rattle.std.specs.Prelude.{◌≡◌, refl, ℕ, zero, suc, false, List, [], ◌∷◌, filter, map, reverse, pos, Some, None, codes, nat_eq}
 use Rattle.wsm_record.specs.declared.cell.Cell.{Cell}
 use Rattle.wsm_record.specs.declared.cell.Cell.TheVariants as cells
 use Rattle.wsm_record.specs.declared.words.Form.TheVariants as form
@@ -15,6 +15,7 @@ use Rattle.wsm_semantics.specs.Query.{Query, verdict_on}
 use Rattle.wsm_semantics.specs.Relation.{sorted_rows, relation, turn_rows}
 use Rattle.wsm_semantics.specs.Lines.{Row, events}
 use Rattle.wsm_semantics.specs.Rows.{base, with_lateness, count, a, b, w}
+use Rattle.wsm_semantics.specs.ByNumber.{event_by, row_by, with_keys}
 use Rattle.wsm_semantics.specs.ByKey.{Keys, others, of_keys, turn_of, is_row_of, of_parts, netted, gains, losses}
 
 -- key a alone, and b with the records of no declared key
@@ -135,3 +136,34 @@ netted_they_gain_none = refl
 -- a key that is of both parts is counted twice
 a_key_in_both_counts_twice : sorted_rows (of_parts (of_a ∷ of_a ∷ of_b ∷ []) three (relation q)) ≡ ints (1 ∷ []) ∷ ints (1 ∷ []) ∷ ints (2 ∷ []) ∷ []
 a_key_in_both_counts_twice = refl
+
+-- ---- keys by their numbers
+
+-- KEYS b alone, which is number 0 there, and 1 in the base
+abbrev base_of_b : Query
+base_of_b = with_keys suc (codes "b" ∷ []) base
+
+its_number_is_0 : turn_rows base_of_b (past_of (a 5 1 ∷ a 7 4 ∷ [])) (watermark 60) ≡ Pane OnTime 0 (window (pos 0) (pos 60)) (ints (2 ∷ 5 ∷ [])) ∷ []
+its_number_is_0 = refl
+
+in_the_base_it_is_1 : turn_rows base (map (event_by suc) (past_of (a 5 1 ∷ a 7 4 ∷ []))) (watermark 60) ≡ Pane OnTime 1 (window (pos 0) (pos 60)) (ints (2 ∷ 5 ∷ [])) ∷ []
+in_the_base_it_is_1 = refl
+
+it_is_the_part_of_b : map (event_by suc) (past_of (a 5 1 ∷ a 7 4 ∷ [])) ≡ of_keys of_b (past_of rows)
+it_is_the_part_of_b = refl
+
+-- KEYS b, a, in another order than in the base
+abbrev turned : ℕ → ℕ
+turned zero = 1
+turned (suc n) = 0
+
+abbrev base_turned : Query
+base_turned = with_keys turned (codes "b" ∷ codes "a" ∷ []) base
+
+in_their_order : map (row_by turned) (turn_rows base_turned (past_of (a 5 1 ∷ b 6 2 ∷ [])) (watermark 60))
+    ≡ Pane OnTime 1 (window (pos 0) (pos 60)) (ints (1 ∷ 1 ∷ [])) ∷ Pane OnTime 0 (window (pos 0) (pos 60)) (ints (1 ∷ 2 ∷ [])) ∷ []
+in_their_order = refl
+
+in_the_order_of_the_base : turn_rows base (map (event_by turned) (past_of (a 5 1 ∷ b 6 2 ∷ []))) (watermark 60)
+    ≡ Pane OnTime 0 (window (pos 0) (pos 60)) (ints (1 ∷ 2 ∷ [])) ∷ Pane OnTime 1 (window (pos 0) (pos 60)) (ints (1 ∷ 1 ∷ [])) ∷ []
+in_the_order_of_the_base = refl

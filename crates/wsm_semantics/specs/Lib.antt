@@ -22,4 +22,5 @@ pub mod KeptRows
 pub mod OrderRows
 pub mod RowCounts
 pub mod ByKey
+pub mod ByNumber
 pub mod ByKeyRows

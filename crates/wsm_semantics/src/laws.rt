@@ -1,7 +1,7 @@
 //! What holds of every query, over every history. The contract of each function is the law; a call
 //! of it does nothing.
 
-ghost use Rattle.std.specs.Prelude.{◌≡◌, false, List, [], ◌∷◌, ◌++◌, ℤ, pos, ◌≤ℤ◌, IsPermutation};
+ghost use Rattle.std.specs.Prelude.{◌≡◌, ℕ, false, List, [], ◌∷◌, ◌++◌, ℤ, pos, ◌≤ℤ◌, IsPermutation};
 ghost use Rattle.std.specs.List.{AllByRecursion};
 ghost use Rattle.wsm_record.specs.declared.words.Mode.TheVariants.{Discarding, Retracting};
 ghost use Rattle.wsm_record.specs.declared.words.Form.TheVariants.{Panes};
@@ -17,6 +17,7 @@ ghost use Rattle.wsm_semantics.specs.FiringSets.{FiresOnce};
 ghost use Rattle.wsm_semantics.specs.LastingRows.{AddsUp};
 ghost use Rattle.wsm_semantics.specs.HeldBounds.{HeldBounded};
 ghost use Rattle.wsm_semantics.specs.Order.{Judged, is_rise, Reordered, IgnoresOrder, IsOrderFree, OrderLaw};
+ghost use Rattle.wsm_semantics.specs.ByNumber.{Numbers, AreNumbers, SameByNumbers};
 ghost use Rattle.wsm_semantics.specs.ByKey.{Keys, others, IgnoresTurns, ByKey, RowsByKey, EachOnce, StreamsWrite, PartsAddUp, NumbersAddUp, SameByRecords};
 
 /// A replay that goes by what it keeps of the held panes alone, event by event, keeps what the history
@@ -88,4 +89,10 @@ pub fn parts_add_up()
     ensures streams { (q : Query) → StreamsWrite q }
     ensures numbers { (q : Query) → (parts : List Keys) → EachOnce parts → NumbersAddUp q parts }
     ensures two { (keys : Keys) → EachOnce (keys ∷ others keys ∷ []) }
+{}
+
+/// Which numbers declared keys have is of no account, but for their order: a query over some of the keys
+/// of another reads and writes what the other does, each key by its number there.
+pub fn by_number()
+    ensures { (q : Query) (number : Numbers) (keys : List (List ℕ)) → AreNumbers number keys q → SameByNumbers q number keys }
 {}
