@@ -10,3 +10,4 @@ pub mod RunnerEvents
 pub mod Actions
 pub mod StatedCosts
 pub mod Told
+mod Ignoring

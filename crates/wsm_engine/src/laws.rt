@@ -5,6 +5,7 @@ ghost use Rattle.std.specs.Prelude.{◌≡◌, ◌≤◌, ℕ, ℤ, List, Some, 
 ghost use Rattle.std.specs.List.{AllByRecursion};
 ghost use Rattle.wsm_record.specs.declared.event.Value.{Value};
 ghost use Rattle.wsm_record.specs.declared.words.Mode.TheVariants.{Discarding, Retracting};
+ghost use Rattle.wsm_record.specs.declared.words.Form.TheVariants.{Panes};
 ghost use Rattle.wsm_record.specs.Event.{Event, Record};
 ghost use Rattle.wsm_semantics.specs.Query.{verdict_on};
 ghost use Rattle.wsm_semantics.specs.Panes.{held};
@@ -12,6 +13,7 @@ ghost use Rattle.wsm_semantics.specs.Firings.{firings};
 ghost use Rattle.wsm_semantics.specs.FiringSets.{FiresOnce};
 ghost use Rattle.wsm_semantics.specs.LastingRows.{AddsUp};
 ghost use Rattle.wsm_semantics.specs.Order.{IsOrderFree, OrderLaw};
+ghost use Rattle.wsm_semantics.specs.ByKey.{Keys, ByKey, RowsByKey, EachOnce, PartsAddUp, NumbersAddUp, SameByRecords};
 ghost use Rattle.wsm_program.specs.Program.{Program, is_program};
 ghost use Rattle.wsm_program.specs.declared.program.Costs.{Costs};
 ghost use Rattle.wsm_verifier.specs.Rules.{judge};
@@ -58,4 +60,16 @@ pub fn permuted()
 /// HAVING is true. None of these firings is counted twice.
 pub fn standing()
     ensures { (p : Program) → IsTrue (is_program p) → p.header.mode ≡ Retracting → (past : List Event) → AddsUp (query_of p) past }
+{}
+
+/// A history without the records of some keys, in which none is refused for RECORDS, holds, fires and writes
+/// for the others what the whole does, also by a program with another number of RECORDS for which none is
+/// refused. Where each key is of one of some such parts, their relations, what these gain and lose, and
+/// the numbers of the end row add up.
+pub fn by_key()
+    ensures part { (p : Program) (keys : Keys) → ByKey (query_of p) keys }
+    ensures rows { (p : Program) → p.header.form ≡ Panes → (keys : Keys) → RowsByKey (query_of p) keys }
+    ensures relation { (p : Program) (parts : List Keys) → EachOnce parts → PartsAddUp (query_of p) parts }
+    ensures numbers { (p : Program) (parts : List Keys) → EachOnce parts → NumbersAddUp (query_of p) parts }
+    ensures records { (p : Program) (records : ℤ) → SameByRecords (query_of p) records }
 {}
