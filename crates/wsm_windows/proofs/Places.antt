@@ -1,15 +1,12 @@
 -- The order of places is total, and equal places alone tie.
 use Rattle.std.proofs.Common.{◌≡◌, true, ap}
 use Rattle.std.specs.Ordering.{eq_by_cmp, int_cmp, nat_cmp}
-use Rattle.std.specs.Cmp.{IsTotalOrder, Equal-is, int_cmp_total, nat_cmp_total}
+use Rattle.std.specs.Cmp.{Equal-is}
 use Rattle.std.specs.FinMap.{IsAntisymmetric}
-use Rattle.std.proofs.lemmas.Cmp.{on_total, then_total}
 use Rattle.std.proofs.lemmas.Map.Lookups.{exact_pairs, exact_signed, exact_unsigned}
 use Rattle.wsm_windows.specs.declared.place.Place.{Place}
 use Rattle.wsm_windows.specs.Places.{place_cmp}
-
-pub places_total : IsTotalOrder place_cmp
-places_total = then_total (on_total (λ (p : Place). p.end) int_cmp_total) (then_total (on_total (λ (p : Place). p.start) int_cmp_total) (on_total (λ (p : Place). p.key) nat_cmp_total))
+pub use Rattle.wsm_windows.specs.PlaceOrder.{places_total}
 
 -- only equal places tie
 pub places_exact : IsAntisymmetric place_cmp

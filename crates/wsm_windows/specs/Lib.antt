@@ -1,5 +1,6 @@
 pub mod Windows
 pub mod Places
+pub mod PlaceOrder
 pub mod Life
 pub mod Left
 pub mod Vectors
