@@ -115,6 +115,31 @@ parted gap t long (w ∷ ws) a (suc i) (suc j) d le h k = parted gap t long ws a
 pub apart_of : (gap : ℤ) → pos 1 ≤ℤ gap → (ws : List Window) → IsOfTimes gap ws → AreApart gap ws
 apart_of gap long ws h = subst (AreApart gap) (sym h.are) (sessions_apart gap long h.times)
 
+-- ---- the window at a place
+
+from_at : (e : ℤ) (ws : List Window) → StartFrom e ws → (j : ℕ) (v : Window) → slice_get ws j ≡ Some v → e ≤ℤ v.start
+from_at e [] f j v h = absurd (cc)
+from_at e (w ∷ ws) f zero v h = subst (λ (x : Window). e ≤ℤ x.start) (some_is w v h) f.0 where
+  some_is : (w v : Window) → Some w ≡ Some v → w ≡ v
+  some_is w v h = cc
+from_at e (w ∷ ws) f (suc j) v h = from_at e ws f.1 j v h
+
+pub lasts_at : (gap : ℤ) (ws : List Window) → AreApart gap ws → (i : ℕ) (w : Window) → slice_get ws i ≡ Some w → (w.start +ℤ gap) ≤ℤ w.end
+lasts_at gap [] a i w h = absurd (cc)
+lasts_at gap (x ∷ ws) a zero w h = subst (λ (y : Window). (y.start +ℤ gap) ≤ℤ y.end) (some_is x w h) a.0 where
+  some_is : (w v : Window) → Some w ≡ Some v → w ≡ v
+  some_is w v h = cc
+lasts_at gap (x ∷ ws) a (suc i) w h = lasts_at gap ws a.2 i w h
+
+pub behind_at : (gap : ℤ) (ws : List Window) → AreApart gap ws → (i : ℕ) (w : Window) → slice_get ws i ≡ Some w → (j : ℕ) (v : Window) → i < j → slice_get ws j ≡ Some v → w.end ≤ℤ v.start
+behind_at gap [] a i w h j v l k = absurd (cc)
+behind_at gap (x ∷ ws) a zero w h zero v l k = absurd (omega arith)
+behind_at gap (x ∷ ws) a zero w h (suc j) v l k = from_at w.end ws (subst (λ (y : Window). StartFrom y.end ws) (some_is x w h) a.1) j v k where
+  some_is : (w v : Window) → Some w ≡ Some v → w ≡ v
+  some_is w v h = cc
+behind_at gap (x ∷ ws) a (suc i) w h zero v l k = absurd (omega arith)
+behind_at gap (x ∷ ws) a (suc i) w h (suc j) v l k = behind_at gap ws a.2 i w h j v (omega arith) k
+
 -- ---- those that a time is linked to
 
 module _ (gap : ℤ) (long : pos 1 ≤ℤ gap) (t : ℤ) where

@@ -1,6 +1,6 @@
 -- The sessions that are kept of one key, and the times that they are of. No value stores its past:
 -- that it fits some times is a relation.
-use Rattle.std.specs.Prelude.{◌≡◌, ℕ, Bool, ◌&&◌, List, ℤ, filter}
+use Rattle.std.specs.Prelude.{◌≡◌, ℕ, ◌<◌, Bool, ◌&&◌, List, Some, slice_get, ℤ, ◌+ℤ◌, ◌≤ℤ◌, filter}
 use Rattle.std.specs.List.{list_any}
 use Rattle.wsm_windows.specs.declared.window.Window.{Window}
 use Rattle.wsm_windows.specs.Windows.{has_inside}
@@ -28,3 +28,9 @@ times_left gap limit times = filter (lives_in limit (sessions gap times)) times
 pub record IsOfTimes (gap : ℤ) (ws : List Window) : Type 0 where
   pub times : List ℤ
   pub are : ws ≡ sessions gap times
+
+-- the window at a place lasts a gap or more, and each behind it starts no sooner than it ends: so windows rise by their
+-- starts, no two share a time, and no two are the same
+pub record IsApart (s : Live) (i : ℕ) (w : Window) : Type 0 where
+  pub lasts : (w.start +ℤ s.gap) ≤ℤ w.end
+  pub behind : (j : ℕ) (v : Window) → i < j → slice_get s.windows j ≡ Some v → w.end ≤ℤ v.start

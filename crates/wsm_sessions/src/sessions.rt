@@ -5,7 +5,7 @@ ghost use Rattle.std.specs.List.{list_any};
 ghost use Rattle.wsm_windows.specs.Windows.{IsTime, greatest_span, has_inside};
 ghost use Rattle.wsm_semantics.specs.Sessions.{with_session, session_of, links, ends_after};
 ghost use Rattle.wsm_sessions.specs.Classes.{IsClass};
-ghost use Rattle.wsm_sessions.specs.Live.{Fits, times_left};
+ghost use Rattle.wsm_sessions.specs.Live.{Fits, IsApart, times_left};
 ghost use Rattle.wsm_sessions.specs.Placing.{placed, those_linked};
 ghost use Rattle.wsm_sessions.specs.Placing as spec;
 
@@ -125,6 +125,7 @@ impl Sessions {
     pub fn at(&self, i: usize) -> Window
         requires { i < length self.now.windows }
         ensures session { slice_get self.now.windows i ≡ Some result }
+        ensures apart { IsApart self.now i result }
         // Of whatever times it has the sessions, this is a class of the chains of links.
         ensures class { (times : List ℤ) → Fits self.now times → IsClass self.now.gap times result }
     {
