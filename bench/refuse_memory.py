@@ -1,15 +1,18 @@
 #!/usr/bin/env python3
-"""Refuses each growth of memory in turn: refuse_memory.py PROGRAM [TESTS]
+"""Refuses each growth of memory in turn: refuse_memory.py [--brief] PROGRAM [TESTS]
 
-Runs the built program (`crates/wsm_cli/out/wsm_cli`) on the examples, again and again: with the first
-growth of memory refused, with the second, and so on to the last. Each run must end with status 5, with
+Runs the built program (`crates/wsm_cli/out/wsm_cli`, which is also meant by `./wsm` and by a link to it) on the
+examples, again and again: with the first growth of memory refused, with the second, and so on to the last.
+With --brief it runs two queries alone, over their rows. Each run must end with status 5, with
 the one line of want of memory and a beginning of what is written otherwise; or as if nothing had been
-refused, where a vector that may not double its room takes what it needs. TESTS are the built tests of the
+refused, where a list that is collected asked at once for room for all that is to come, and then goes on with
+room for one value more. TESTS are the built tests of the
 libraries (`crates/wsm_worked/out/wsm_worked_tests`): each of them is run so too, and must end with a call's
 refusal for memory, or as if nothing had been refused. It wants a C compiler, for a few lines that stand
 between the program and the C library's allocator.
 """
 import os
+import shutil
 import subprocess
 import sys
 import tempfile
@@ -48,10 +51,24 @@ WANT = (5, b"wsm: out of memory\n")
 TOLD = (b"AllocError", b"AllocFailed", b"Memory", b"no memory")
 
 
+# With --brief: fixed windows of two sources, and sessions that withdraw what they wrote.
+BRIEF = ("examples/two-phones/sources.wsm", "examples/scores/retracting_sessions.wsm")
+
+
+def built(program):
+    """The built program. `./wsm` is a script, in which no growth is to be refused: it builds what is missing."""
+    program = Path(program).resolve()
+    if program != TOP / "wsm":
+        return program
+    subprocess.run([program, "help"], check=True, stdout=subprocess.DEVNULL)
+    return TOP / "crates" / "wsm_cli" / "out" / "wsm_cli"
+
+
 class Trial:
     def __init__(self, program, folder):
         self.program, self.library, self.counted = program, f"{folder}/refuses.so", f"{folder}/counted"
-        subprocess.run(["cc", "-shared", "-fPIC", "-O1", "-x", "c", "-", "-o", self.library, "-ldl"], input=REFUSES.encode(), check=True)
+        compiler = next(filter(shutil.which, ("cc", "clang", "gcc")), "cc")
+        subprocess.run([compiler, "-shared", "-fPIC", "-O1", "-x", "c", "-", "-o", self.library, "-ldl"], input=REFUSES.encode(), check=True)
 
     def run(self, words, refused):
         """The status and what was said and written, with the growth of this number refused (0: none)."""
@@ -95,37 +112,73 @@ class Trial:
         return wrong
 
 
+class Sum:
+    """What all runs came to."""
+
+    def __init__(self):
+        self.most = self.cases = self.ends = self.wrong = 0
+
+    def add(self, growths, ended, wrong):
+        self.most = max(self.most, growths)
+        self.cases += growths
+        self.ends += ended
+        self.wrong += wrong
+        return growths
+
+    def __str__(self):
+        did_without = self.cases - self.ends - self.wrong
+        return (
+            f"{self.cases} growths refused, at most {self.most} in a run: {self.ends} ended for want of memory, "
+            f"{did_without} did without, {self.wrong} wrong"
+        )
+
+
+def rows_of(query):
+    return str(next(query.parent.glob("*.csv")))
+
+
+def few_runs(trial, total):
+    """The runs of two queries."""
+    for query in (TOP / name for name in BRIEF):
+        growths = total.add(*trial.tried(["run", str(query), rows_of(query)]))
+        print(f"{query.relative_to(TOP)}: run {growths}")
+
+
+def all_runs(trial, total, folder):
+    """Each job on each example, help, and words that are refused."""
+    program, out = f"{folder}/program", f"{folder}/out"
+    for query in sorted(TOP.glob("examples/*/*.wsm")):
+        subprocess.run([trial.program, "compile", query, program], check=True)
+        jobs = {
+            "run": ["run", str(query), rows_of(query)],
+            "run --program": ["run", "--program", program, rows_of(query)],
+            "compile": ["compile", str(query), out],
+            "verify": ["verify", program],
+            "explain": ["explain", program],
+        }
+        told = [f"{name} {total.add(*trial.tried(words))}" for name, words in jobs.items()]
+        print(f"{query.relative_to(TOP)}: {', '.join(told)}")
+    for words in (["help"], ["help", "run"], ["run"], ["run", "--fast", "query"], ["verify", str(TOP / "README.md")]):
+        print(f"wsm {words[0]} {total.add(*trial.tried(words))}")
+
+
 def main():
-    if len(sys.argv) not in (2, 3):
+    is_brief = sys.argv[1:2] == ["--brief"]
+    words = sys.argv[1 + is_brief :]
+    if not 1 <= len(words) <= 2:
         sys.exit(__doc__)
     with tempfile.TemporaryDirectory() as folder:
-        trial = Trial(str(Path(sys.argv[1]).resolve()), folder)
-        program, out = f"{folder}/program", f"{folder}/out"
-        most, cases, ends, wrong = 0, 0, 0, 0
-        for query in sorted(TOP.glob("examples/*/*.wsm")):
-            rows = next(query.parent.glob("*.csv"))
-            subprocess.run([trial.program, "compile", query, program], check=True)
-            jobs = {
-                "run": ["run", str(query), str(rows)],
-                "run --program": ["run", "--program", program, str(rows)],
-                "compile": ["compile", str(query), out],
-                "verify": ["verify", program],
-                "explain": ["explain", program],
-            }
-            told = []
-            for name, words in jobs.items():
-                growths, ended, missed = trial.tried(words)
-                told.append(f"{name} {growths}")
-                most, cases, ends, wrong = max(most, growths), cases + growths, ends + ended, wrong + missed
-            print(f"{query.relative_to(TOP)}: {', '.join(told)}")
-        for words in (["help"], ["help", "run"], ["run"], ["run", "--fast", "query"], ["verify", str(TOP / "README.md")]):
-            growths, ended, missed = trial.tried(words)
-            print(f"wsm {words[0]} {growths}")
-            most, cases, ends, wrong = max(most, growths), cases + growths, ends + ended, wrong + missed
-        print(f"{cases} growths refused, at most {most} in a run: {ends} ended for want of memory, {cases - ends - wrong} did without, {wrong} wrong")
-        if len(sys.argv) == 3:
-            wrong += trial.tests_tried(str(Path(sys.argv[2]).resolve()))
-        sys.exit(1 if wrong else 0)
+        trial, total = Trial(str(built(words[0])), folder), Sum()
+        if is_brief:
+            few_runs(trial, total)
+        else:
+            all_runs(trial, total, folder)
+        print(total)
+        wrong = total.wrong
+        if len(words) == 2:
+            wrong += trial.tests_tried(str(Path(words[1]).resolve()))
+        # Where no growth is counted, none was refused.
+        sys.exit(1 if wrong or not total.cases else 0)
 
 
 main()
