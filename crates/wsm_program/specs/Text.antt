@@ -1,4 +1,4 @@
--- What a section and an instruction are printed as.
+-- What a section, an instruction and a refusal are printed as.
 use Rattle.std.specs.Prelude.{ℕ, List, [], ◌∷◌, map, ℤ, pos, codes}
 use Rattle.std.specs.List.{join_with_byte}
 use Rattle.std.specs.Fmt.{signed_decimal}
@@ -7,6 +7,8 @@ use Rattle.wsm_program.specs.declared.instr.SectionId.{SectionId}
 use Rattle.wsm_program.specs.declared.instr.SectionId.TheVariants.{Where, Update, Fire}
 use Rattle.wsm_program.specs.declared.instr.Argument.{Argument}
 use Rattle.wsm_program.specs.declared.instr.Argument.TheVariants as arguments
+use Rattle.wsm_program.specs.declared.refusal.DecodeRefusal.{DecodeRefusal}
+use Rattle.wsm_program.specs.declared.refusal.DecodeRefusal.TheVariants as refusals
 use Rattle.wsm_program.specs.Instructions as table
 use Rattle.wsm_program.specs.Instructions.{truth, comparison_number}
 
@@ -44,3 +46,12 @@ line_text ws = join_with_byte 32 (map word_text ws)
 
 abbrev pub instr_text : Instr → List ℕ
 instr_text i = line_text (instr_words i)
+
+abbrev pub refusal_text : DecodeRefusal → List ℕ
+refusal_text refusals.BadMagic = codes "B1 BadMagic"
+refusal_text refusals.Version = codes "B2 Version"
+refusal_text refusals.Truncated = codes "B3 Truncated"
+refusal_text refusals.UnknownOpcode = codes "B4 UnknownOpcode"
+refusal_text refusals.Operand = codes "B5 Operand"
+refusal_text refusals.TrailingBytes = codes "B6 TrailingBytes"
+refusal_text refusals.Memory = codes "B7 Memory"
