@@ -10,6 +10,7 @@ pub mod Headers
 pub mod FireRuns
 pub mod Entered
 pub mod StreamRows
+pub mod Spots
 pub mod StandingRows
 pub mod RowsAfterRecord
 pub mod Past

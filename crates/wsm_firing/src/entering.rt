@@ -14,7 +14,7 @@ ghost use Rattle.wsm_firing.specs.Streams.{AreAlike, CanLosePair, CanTell, IsTol
 
 use crate::retracting::retract_joined;
 use crate::streams::Streams;
-use wsm_panes::{Entered, HeldPanes, Pane};
+use wsm_panes::{Entered, HeldPanes, PaneView};
 use wsm_record::{Form, Value};
 use wsm_semantics::OutRow;
 use wsm_verifier::Verified;
@@ -67,6 +67,7 @@ pub fn enter(
 }
 
 // Tells the streams which rows stand no more once a record is put in.
+#[inline(never)]
 fn lose_joined(streams: &mut Streams, held: &HeldPanes, key: u16, time: i64)
     requires declared { key < held.now.keys }
     requires timely { IsTime time }
@@ -82,13 +83,13 @@ fn lose_joined(streams: &mut Streams, held: &HeldPanes, key: u16, time: i64)
 }
 
 // Tells the streams the rows of two panes that are joined, where both fired.
-fn lose_pair(streams: &mut Streams, pair: &(Pane, Pane))
+fn lose_pair(streams: &mut Streams, pair: &(PaneView<'_>, PaneView<'_>))
     requires { CanLosePair streams.old pair.now.0 pair.now.1 }
     ensures told { (relation now : List (List Cell)) → IsTold streams.old relation (rows_and pair.now.0 pair.now.1 now) → IsTold streams.new relation now }
     ensures alike { AreAlike streams.old streams.new }
 {
     if pair.0.has_fired() && pair.1.has_fired() {
-        streams.lose(&pair.0.view());
-        streams.lose(&pair.1.view());
+        streams.lose(&pair.0);
+        streams.lose(&pair.1);
     }
 }

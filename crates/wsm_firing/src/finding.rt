@@ -1,6 +1,6 @@
 //! Where the panes are that can fire.
 
-ghost use Rattle.std.specs.Prelude.{◌≡◌, ◌≢◌, ◌≤ℤ◌, ◌+◌, ℕ, ℤ, List, map, IsSome, Some, slice_get};
+ghost use Rattle.std.specs.Prelude.{◌≡◌, ◌≢◌, ◌≤ℤ◌, ◌+◌, ℕ, ℤ, List, map, IfSome, IsSome, Some, slice_get};
 ghost use Rattle.std.specs.FinMap.Entries.{find};
 ghost use Rattle.wsm_record.specs.declared.event.Value.{Value};
 ghost use Rattle.wsm_windows.specs.declared.window.Shape.TheVariants.{Session};
@@ -8,7 +8,7 @@ ghost use Rattle.wsm_windows.specs.Life as life;
 ghost use Rattle.wsm_windows.specs.Windows.{IsTime};
 ghost use Rattle.wsm_windows.specs.Places.{at, place_cmp};
 ghost use Rattle.wsm_semantics.specs.Summaries.{Pane as AnyPane};
-ghost use Rattle.wsm_panes.specs.Held.{entries_of};
+ghost use Rattle.wsm_panes.specs.Held.{IsSpot, entries_of};
 ghost use Rattle.wsm_panes.specs.Walk.{place_found};
 ghost use Rattle.wsm_firing.specs.ByRecord.{AreInOrder};
 ghost use Rattle.wsm_firing.specs.ByWatermark.{IsNextToFire};
@@ -33,11 +33,12 @@ pub fn windows_entered(verified: &Verified, time: i64, mark: i64) -> Windows
 #[inline(always)]
 pub fn first_to_fire(held: &HeldPanes, expired: i64, old: i64, new: i64) -> Option<Spot>
     requires { expired ≤ℤ new }
-    ensures { IsNextToFire expired old new (entries_of held.now) 0 (place_found result) }
+    ensures next { IsNextToFire expired old new (entries_of held.now) 0 (place_found result) }
+    ensures spot { IfSome result (IsSpot held.now) }
 {
-    match held.first_due(expired) {
+    match Spot::rebuilt_found(held.first_due(expired)) {
         Some(spot) => Some(spot),
-        None => held.first_due_after(old.max(expired), new),
+        None => Spot::rebuilt_found(held.first_due_after(old.max(expired), new)),
     }
 }
 
@@ -47,7 +48,9 @@ pub fn first_to_fire(held: &HeldPanes, expired: i64, old: i64, new: i64) -> Opti
 pub fn next_to_fire(held: &HeldPanes, spot: Spot, expired: i64, old: i64, new: i64) -> Option<Spot>
     requires order { expired ≤ℤ new }
     requires there { IsSome (find place_cmp spot.place (entries_of held.now)) }
-    ensures { (i : ℕ) (pane : AnyPane (List Value)) → slice_get (entries_of held.now) i ≡ Some (spot.place, pane) → IsNextToFire expired old new (entries_of held.now) (i + 1) (place_found result) }
+    requires spot { IsSpot held.now spot }
+    ensures next { (i : ℕ) (pane : AnyPane (List Value)) → slice_get (entries_of held.now) i ≡ Some (spot.place, pane) → IsNextToFire expired old new (entries_of held.now) (i + 1) (place_found result) }
+    ensures spot { IfSome result (IsSpot held.now) }
 {
     if spot.place.end > expired {
         return held.next_due(spot, new);
@@ -56,5 +59,5 @@ pub fn next_to_fire(held: &HeldPanes, spot: Spot, expired: i64, old: i64, new: i
     if next.is_some() {
         return next;
     }
-    held.first_due_after(old.max(expired), new)
+    Spot::rebuilt_found(held.first_due_after(old.max(expired), new))
 }

@@ -11,7 +11,7 @@ ghost use Rattle.wsm_semantics.specs.declared.out_row.OutRow.TheVariants.{Pane a
 ghost use Rattle.wsm_semantics.specs.Relation.{chosen_rows};
 ghost use Rattle.wsm_semantics.specs.Summaries.{Pane, columns as columns_by, fired_count, fired_pane};
 ghost use Rattle.wsm_machine.specs.Meaning.{plan_of, pane_cost_by};
-ghost use Rattle.wsm_panes.specs.Held.{IsKept, entries_of};
+ghost use Rattle.wsm_panes.specs.Held.{IsKept, IsSpot, entries_of};
 ghost use Rattle.wsm_firing.specs.Tally.{tally_with};
 ghost use Rattle.wsm_firing.specs.Firing.{CanAdd, rows_of};
 ghost use Rattle.wsm_firing.specs.Due.{fired_by};
@@ -51,6 +51,7 @@ pub fn fire(
     requires windows { held.old.widths.windows ≡ retracts verified.now.header.mode }
     requires tells { CanTell streams.old (entries_of held.old) }
     requires held { IsSome (find place_cmp due.spot.place (entries_of held.old)) }
+    requires spot { IsSpot held.old due.spot }
     requires can { (pane : Pane (List Value)) → find place_cmp due.spot.place (entries_of held.old) ≡ Some pane → CanAdd verified.now (vec_capacity rows.old) (vec_len rows.old) tally.old (fired_by verified.now.header.mode due pane ∷ []) }
     requires row { (pane : Pane (List Value)) → find place_cmp due.spot.place (entries_of held.old) ≡ Some pane → option_map (λ cells. cells.now) ran.row ≡ columns_by (plan_of verified.now) due.spot.place.key (fired_count verified.now.header.mode pane) pane.folded }
     requires as_wide { IfSome ran.row (λ cells. length cells.now ≡ length verified.now.header.columns) }

@@ -3,7 +3,7 @@
 ghost use Rattle.std.specs.FinMap.Entries.{find};
 ghost use Rattle.wsm_windows.specs.Places.{place_cmp};
 ghost use Rattle.wsm_record.specs.declared.event.Value.{Value};
-ghost use Rattle.wsm_panes.specs.Held.{entries_of};
+ghost use Rattle.wsm_panes.specs.Held.{IsSpot, entries_of};
 ghost use Rattle.std.specs.Prelude.{◌≡◌, ◌≤◌, ◌+◌, ◌++◌, [], ◌∷◌, List, IsSome, Some, map, length, option_map, IfOk, IfSome, vec_len, vec_capacity};
 ghost use Rattle.std.specs.List.{cons_option};
 ghost use Rattle.wsm_record.specs.declared.cell.Cell.{Cell};
@@ -101,6 +101,7 @@ impl Streams {
     #[inline(always)]
     pub(crate) fn lose_held(&mut self, held: &HeldPanes, spot: Spot)
         requires there { IsSome (find place_cmp spot.place (entries_of held.now)) }
+        requires spot { IsSpot held.now spot }
         requires can { (pane : Pane (List Value)) → find place_cmp spot.place (entries_of held.now) ≡ Some pane → CanLose self.old (standing_row pane.stands) }
         ensures told { (pane : Pane (List Value)) → find place_cmp spot.place (entries_of held.now) ≡ Some pane → (before now : List (List Cell)) → IsTold self.old before (cons_option (standing_row pane.stands) now) → IsTold self.new before now }
         ensures alike { AreAlike self.old self.new }
@@ -115,6 +116,7 @@ impl Streams {
     #[inline(never)]
     fn lose_at(&mut self, held: &HeldPanes, spot: Spot)
         requires there { IsSome (find place_cmp spot.place (entries_of held.now)) }
+        requires spot { IsSpot held.now spot }
         requires can { (pane : Pane (List Value)) → find place_cmp spot.place (entries_of held.now) ≡ Some pane → CanLose self.old (standing_row pane.stands) }
         ensures told { (pane : Pane (List Value)) → find place_cmp spot.place (entries_of held.now) ≡ Some pane → (before now : List (List Cell)) → IsTold self.old before (cons_option (standing_row pane.stands) now) → IsTold self.new before now }
         ensures alike { AreAlike self.old self.new }

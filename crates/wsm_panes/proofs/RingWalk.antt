@@ -1,9 +1,9 @@
 -- A walk over a ring: the first entry from a window and a key on is the next of the map.
 use Rattle.std.proofs.Common.{◌≡◌, ◌≢◌, ℕ, ◌+◌, true, false, Option, Some, None, List, ℤ, ◌+ℤ◌, ◌≤ℤ◌, refl, sym, ap, subst, ◌∙◌, inl, inr, arith}
-use Rattle.std.specs.Prelude.{slice_get}
+use Rattle.std.specs.Prelude.{IfSome, option_map, slice_get}
 use Rattle.std.proofs.lemmas.Bool.{cases_lt}
 use Rattle.std.proofs.lemmas.Int.{ints, by_lt_z}
-use Rattle.std.proofs.lemmas.Option.{none-some}
+use Rattle.std.proofs.lemmas.Option.{none-some, same_Some}
 use Rattle.std.specs.declared.cmp.Ordering.TheVariants.{Less, Greater}
 use Rattle.std.specs.Ordering.{ordering_reverse}
 use Rattle.std.specs.Option.{is_some}
@@ -13,8 +13,9 @@ use Rattle.wsm_windows.specs.Places.{place_cmp}
 use Rattle.wsm_windows.proofs.Places.{places_total}
 use Rattle.wsm_panes.specs.declared.ring.Ring.{Ring}
 use Rattle.wsm_panes.specs.Place.{is_kept}
-use Rattle.wsm_panes.specs.Walk.{first_past, following}
-use Rattle.wsm_panes.specs.Ring.{IsOfRing, AreInPlace, AreBetween, IsFromOn, IsFirstFrom, IsFirstPast, slot_at, slot_of, pane_of, window_number}
+use Rattle.wsm_panes.specs.declared.spot.Spot.{Spot}
+use Rattle.wsm_panes.specs.Walk.{HasSlot, first_past, following, place_found}
+use Rattle.wsm_panes.specs.Ring.{IsOfRing, AreInPlace, AreBetween, IsFromOn, IsFirstFrom, IsFirstPast, at_slot, slot_at, slot_of, pane_of, window_number}
 use Rattle.wsm_panes.proofs.Rings.{window_less, key_less}
 use Rattle.wsm_panes.proofs.Clears.{is_past, past_is}
 use Rattle.wsm_panes.proofs.Placed.{panes_in, get_in, pane_here, entry_of}
@@ -121,3 +122,12 @@ module _ {P : Type 0} (r : Ring) (os : List (Option (Place × P))) (placed : Are
 
   pub of_ring : (p : Place) → is_some (get (panes_in os) p) ≡ true → IsOfRing r p
   of_ring p there = let at = there_in p there in (placed (slot_of r p) (p, at.0) at.1).0
+
+  -- the spot of an entry tells its slot
+  pub spot_has_slot : (found : Option ℕ) (spot : Option Spot) → place_found spot ≡ option_map (λ e. e.0) (at_slot os found) → IfSome spot (λ s. found ≡ Some s.at) → IfSome spot (HasSlot r)
+  spot_has_slot found None place at = tt
+  spot_has_slot None (Some s) place at = absurd (none-some s.at at)
+  spot_has_slot (Some n) (Some s) place at = in_slot (slot_at os n) refl place where
+    in_slot : (o : Option (Place × P)) → slot_at os n ≡ o → Some s.place ≡ option_map (λ e. e.0) o → HasSlot r s
+    in_slot None is at_none = absurd (none-some s.place (sym at_none))
+    in_slot (Some e) is at_entry = sym (same_Some n s.at at) ∙ sym (placed n e is).1 ∙ ap (slot_of r) (sym (same_Some s.place e.0 at_entry))

@@ -24,10 +24,12 @@ use Rattle.wsm_semantics.specs.Query.{Datum}
 use Rattle.wsm_semantics.specs.Replay.{datum}
 use Rattle.wsm_semantics.specs.Summaries.{Plan, Pane, assigned, entered, joined, kept_window, left_folded, linked, session_with, with_record}
 use Rattle.wsm_panes.specs.declared.ring.Ring.{Ring}
+use Rattle.wsm_panes.specs.declared.spot.Spot.{Spot}
 use Rattle.wsm_panes.specs.declared.widths.Widths.{Widths}
 use Rattle.wsm_panes.specs.Place.{coded_place}
 use Rattle.wsm_panes.specs.RingState.{coded_widths}
 use Rattle.wsm_panes.specs.Ring.{LieInRing}
+use Rattle.wsm_panes.specs.Walk.{HasSlot}
 
 -- the panes, for keys of these numbers, with room for so many live windows of each and so many values of each pane
 pub record Held : Type 0 where
@@ -56,6 +58,11 @@ ring_of h = record { size = size_of h.shape; period = period_of h.shape; keys = 
 abbrev pub held_in : {M : Type 0} → Shape → M → M → M
 held_in (Session gap) list ring = list
 held_in shape list ring = ring
+
+-- where windows lie on a grid the spot tells the slot of its place, so that none is asked for; a list
+-- looks whether it still has the place there
+abbrev pub IsSpot : Held → Spot → Type 0
+IsSpot h spot = ((gap : ℤ) → h.shape ≢ Session gap) → 1 ≤ room_of h → HasSlot (ring_of h) spot
 
 -- the keys, the shape and the room stay
 pub record IsKept (old new : Held) : Type 0 where

@@ -1,9 +1,11 @@
-use Rattle.std.specs.Prelude.{if◌then◌else◌, ℤ, List, [], ◌∷◌, Option, Some, None, option_map}
+use Rattle.std.specs.Prelude.{◌≡◌, if◌then◌else◌, ℤ, List, [], ◌∷◌, Option, Some, None, option_map}
 use Rattle.std.specs.Ordering.{is_lt}
 use Rattle.wsm_windows.specs.declared.place.Place.{Place}
 use Rattle.wsm_windows.specs.Places.{place_cmp}
 use Rattle.wsm_panes.specs.declared.spot.Spot.{Spot}
+use Rattle.wsm_panes.specs.declared.ring.Ring.{Ring}
 use Rattle.wsm_panes.specs.Place.{is_kept}
+use Rattle.wsm_panes.specs.Ring.{slot_of}
 
 -- the first entry behind a place
 abbrev pub following : {P : Type 0} → Place → List (Place × P) → Option (Place × P)
@@ -23,3 +25,7 @@ place_due limit (Some e) = if is_kept limit e.0 then None else Some e.0
 -- the place that was found, if one was
 abbrev pub place_found : Option Spot → Option Place
 place_found spot = option_map (λ (s : Spot). s.place) spot
+
+-- the spot tells the slot of its place in a ring
+abbrev pub HasSlot : Ring → Spot → Type 0
+HasSlot r spot = spot.at ≡ slot_of r spot.place

@@ -10,7 +10,7 @@ ghost use Rattle.wsm_semantics.specs.Summaries.{Pane as AnyPane, linked};
 ghost use Rattle.wsm_record.specs.declared.event.Value.{Value as OneValue};
 ghost use Rattle.wsm_record.specs.Modes.{retracts};
 ghost use Rattle.wsm_windows.specs.Places.{place_cmp};
-ghost use Rattle.wsm_panes.specs.Held.{CanEnter, IsKept, entries_of, joined_panes, joins_sessions, once_fired, room_of, session_entered, windows_entered, with_entered};
+ghost use Rattle.wsm_panes.specs.Held.{CanEnter, IsKept, IsSpot, entries_of, joined_panes, joins_sessions, once_fired, room_of, session_entered, windows_entered, with_entered};
 ghost use Rattle.wsm_panes.specs.Ring.{IsRing};
 ghost use Rattle.wsm_panes.specs.OfKeys.{AreOfKeys, AreDropped};
 ghost use Rattle.wsm_panes.specs.Walk.{first_past, following, place_due, place_found};
@@ -18,7 +18,6 @@ ghost use Rattle.wsm_panes.specs.Walk.{first_past, following, place_due, place_f
 use crate::entering::enter_windows;
 use crate::joining::{enter_session, linked_pair};
 use crate::list::ListTable;
-use crate::pane::Pane;
 use crate::ring::Ring;
 use crate::ring_table::RingTable;
 use crate::spot::Spot;
@@ -153,7 +152,7 @@ impl HeldPanes {
 
     /// The panes of the two sessions that a record of a key and a time joins, where windows are sessions
     /// and it joins two.
-    pub fn joined(&self, key: u16, time: i64) -> Option<(Pane, Pane)>
+    pub fn joined(&self, key: u16, time: i64) -> Option<(PaneView<'_>, PaneView<'_>)>
         requires declared { key < self.now.keys }
         requires timely { IsTime time }
         ensures pair { result ≡ joined_panes self.now.shape (datum 0 (pos 0) key time []) (entries_of self.now) }
@@ -180,7 +179,8 @@ impl HeldPanes {
 
     /// Where the pane at a place is, if one is there.
     pub fn find(&self, place: Place) -> Option<Spot>
-        ensures { place_found result ≡ option_map (λ _. place) (find place_cmp place (entries_of self.now)) }
+        ensures place { place_found result ≡ option_map (λ _. place) (find place_cmp place (entries_of self.now)) }
+        ensures spot { IfSome result (IsSpot self.now) }
     {
         match self.shape {
             Shape::Session(_) => self.list.find(place),
@@ -191,7 +191,8 @@ impl HeldPanes {
     /// Where the first pane is in the order of the places, if its window ends by a limit, which is in
     /// event time.
     pub fn first_due(&self, limit: i64) -> Option<Spot>
-        ensures { place_found result ≡ place_due limit (slice_get (entries_of self.now) 0) }
+        ensures place { place_found result ≡ place_due limit (slice_get (entries_of self.now) 0) }
+        ensures spot { IfSome result (IsSpot self.now) }
     {
         match self.shape {
             Shape::Session(_) => self.list.first_due(limit),
@@ -202,7 +203,8 @@ impl HeldPanes {
     /// Where the first pane is, in the order of the places, of those whose windows end past a time, if
     /// its window ends by a limit.
     pub fn first_due_after(&self, after: i64, limit: i64) -> Option<Spot>
-        ensures { place_found result ≡ place_due limit (first_past after (entries_of self.now)) }
+        ensures place { place_found result ≡ place_due limit (first_past after (entries_of self.now)) }
+        ensures spot { IfSome result (IsSpot self.now) }
     {
         match self.shape {
             Shape::Session(_) => self.list.first_due_after(after, limit),
@@ -213,11 +215,13 @@ impl HeldPanes {
     /// Where the pane behind one is, in the order of the places, if its window ends by a limit.
     #[inline(always)]
     pub fn next_due(&self, spot: Spot, limit: i64) -> Option<Spot>
-        requires { IsSome (find place_cmp spot.place (entries_of self.now)) }
-        ensures { place_found result ≡ place_due limit (following spot.place (entries_of self.now)) }
+        requires there { IsSome (find place_cmp spot.place (entries_of self.now)) }
+        requires spot { IsSpot self.now spot }
+        ensures place { place_found result ≡ place_due limit (following spot.place (entries_of self.now)) }
+        ensures spot { IfSome result (IsSpot self.now) }
     {
         match self.shape {
-            Shape::Session(_) => self.list.next_due(spot.rebuilt(), limit),
+            Shape::Session(_) => Spot::rebuilt_found(self.list.next_due(spot.rebuilt(), limit)),
             _ => self.ring.next_due(spot, limit),
         }
     }
@@ -225,7 +229,8 @@ impl HeldPanes {
     /// The pane at a spot.
     #[inline(always)]
     pub fn pane(&self, spot: Spot) -> PaneView<'_>
-        requires { IsSome (find place_cmp spot.place (entries_of self.now)) }
+        requires there { IsSome (find place_cmp spot.place (entries_of self.now)) }
+        requires spot { IsSpot self.now spot }
         ensures { find place_cmp spot.place (entries_of self.now) ≡ Some result }
     {
         match self.shape {
@@ -239,6 +244,7 @@ impl HeldPanes {
     #[inline(always)]
     pub fn fire_at(&mut self, spot: Spot, mode: Mode, row: Option<&[Cell]>)
         requires there { IsSome (find place_cmp spot.place (entries_of self.old)) }
+        requires spot { IsSpot self.old spot }
         requires wide { IfSome row (λ cells. length cells.now ≡ self.old.widths.columns) }
         requires windows { self.old.widths.windows ≡ retracts mode }
         ensures panes { (pane : AnyPane (List OneValue)) × (find place_cmp spot.place (entries_of self.old) ≡ Some pane) × (entries_of self.new ≡ put place_cmp spot.place (once_fired mode spot.place (option_map (λ cells. cells.now) row.entry) pane) (entries_of self.old)) }

@@ -19,6 +19,7 @@ use crate::list::ListTable;
 use crate::pane::Pane;
 use crate::recording::{TakesRecords, with_one_more};
 use crate::table::PaneTable;
+use crate::view::PaneView;
 use wsm_record::{Kind, Value};
 use wsm_sessions::{Linked, Sessions};
 use wsm_windows::{Place, Window};
@@ -127,12 +128,12 @@ fn merge_linked(
 }
 
 /// The panes of the two sessions that a record joins, where it joins two.
-pub(crate) fn linked_pair(
-    table: &ListTable,
+pub(crate) fn linked_pair<'a>(
+    table: &'a ListTable,
     sessions: &Sessions,
     key: u16,
     time: i64,
-) -> Option<(Pane, Pane)>
+) -> Option<(PaneView<'a>, PaneView<'a>)>
     requires time { IsTime time }
     requires agree { windows_of_key key (map.entries table.now.panes) ≡ sessions.now.windows }
     ensures pair { result ≡ first_two (linked sessions.now.gap (datum 0 (pos 0) key time []) (map.entries table.now.panes)) }
@@ -142,11 +143,20 @@ pub(crate) fn linked_pair(
         Linked::None => None,
         Linked::One(_) => None,
         Linked::Two(first, second) => {
-            let pane = table.get(Place::at(key, first)).unwrap();
-            let other = table.get(Place::at(key, second)).unwrap();
+            let pane = seen(table, Place::at(key, first));
+            let other = seen(table, Place::at(key, second));
             Some((pane, other))
         }
     }
+}
+
+// The pane at a place, as it is read where it lies.
+fn seen(table: &ListTable, place: Place) -> PaneView<'_>
+    requires { IsSome (map.get table.now.panes place) }
+    ensures { map.get table.now.panes place ≡ Some result }
+{
+    let spot = table.find(place).unwrap();
+    table.pane(spot)
 }
 
 // Takes the panes that a record is linked to out, and gives what they come to together, if there are

@@ -147,14 +147,10 @@ impl Slots {
         requires takes { IfSome (slot_at self.old.slots slot) (λ e. CanRecord kinds.now values.now e.1) }
         ensures { self.new ≡ record self.old { slots = slice_set self.old.slots slot (option_map (λ e. (e.0, with_one_more kinds.now values.now (Some e.1))) (slot_at self.old.slots slot)) } }
     {
-        fold_part(
-            &mut self.folds,
-            slot,
-            self.heads[slot].is_folded,
-            kinds,
-            values,
-        );
-        self.heads[slot].record();
+        let head = &mut self.heads[slot];
+        let is_folded = head.is_folded;
+        head.record();
+        fold_part(&mut self.folds, slot, is_folded, kinds, values);
     }
 
     /// Has the pane in a slot, if there is one, have fired.

@@ -116,6 +116,8 @@ impl PaneTable<Pane> for ListTable {
 
     ghost Holds = { λ room pane. IsAsWide room.1 pane };
 
+    ghost IsSpot = { λ room spot. Unit {0} };
+
     fn get(&self, place: Place) -> Option<Pane> {
         pane_at(&self.row, &self.slots, place)
     }

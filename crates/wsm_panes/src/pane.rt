@@ -11,7 +11,7 @@ ghost use Rattle.wsm_semantics.specs.Summaries as kept;
 ghost use Rattle.std.specs.Option.{is_some};
 ghost use Rattle.wsm_panes.specs.Layout.{folded_by, standing_by};
 ghost use Rattle.wsm_panes.specs.View.{IsFew, row_seen};
-ghost use Rattle.wsm_panes.specs.Held.{CanJoin, CanJoinFolds, CanRecord, CanTake, has_fired, taking};
+ghost use Rattle.wsm_panes.specs.Held.{CanJoin, CanJoinFolds, CanRecord, CanTake, taking};
 
 use crate::head::Stands;
 use crate::recording::TakesRecords;
@@ -72,16 +72,6 @@ impl Pane {
             unshown: view.unshown,
             folded: folded_of(view.is_folded, view.folds),
             stands: standing_of(view.stands, view.stood, &view.row),
-        }
-    }
-
-    /// Whether it fired, or a part of it did before it was joined.
-    pub fn has_fired(&self) -> bool
-        ensures { result ≡ has_fired self.now.stands }
-    {
-        match self.stands {
-            Standing::Unfired => false,
-            Standing::Row { .. } | Standing::Joined => true,
         }
     }
 

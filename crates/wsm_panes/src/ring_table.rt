@@ -10,7 +10,7 @@ ghost use Rattle.wsm_windows.specs.Windows.{IsTime, first_start, greatest_span};
 ghost use Rattle.wsm_windows.specs.Places.{place_cmp};
 ghost use Rattle.wsm_semantics.specs.Summaries.{Pane as AnyPane};
 ghost use Rattle.wsm_panes.specs.Held.{CanRecord, once_fired, with_one_more};
-ghost use Rattle.wsm_panes.specs.Ring as ring;
+ghost use Rattle.wsm_panes.specs.Walk.{HasSlot};
 ghost use Rattle.wsm_panes.specs.Ring.{IsFirstPast, IsLastDue, IsOnGrid, IsRing, IsRow, RingAdmits, slot_of, window_number};
 
 use crate::layout::Slots;
@@ -102,18 +102,6 @@ impl RingTable {
         self.row = self.ring.first_row(self.row, time);
         self.row
     }
-
-    // The slot of a spot, which tells it where it is that of its place.
-    #[inline(always)]
-    fn slot_of(&self, spot: Spot) -> usize
-        ensures { result ≡ ring.slot_of self.now.ring spot.place }
-    {
-        if is_at(&self.slots, spot.at, spot.place) {
-            spot.at
-        } else {
-            self.ring.slot(spot.place)
-        }
-    }
 }
 
 impl RingTable {
@@ -142,23 +130,24 @@ impl RingTable {
     #[inline(always)]
     pub(crate) fn fire(&mut self, spot: Spot, mode: Mode, row: Option<&[Cell]>)
         requires there { IsSome (map.get self.old.panes spot.place) }
+        requires spot { HasSlot self.old.ring spot }
         requires wide { IfSome row (λ cells. length cells.now ≡ self.old.widths.columns) }
         requires windows { self.old.widths.windows ≡ retracts mode }
         ensures panes { (pane : AnyPane (List OneValue)) × (map.get self.old.panes spot.place ≡ Some pane) × (self.new.panes ≡ map.insert self.old.panes spot.place (once_fired mode spot.place (option_map (λ cells. cells.now) row.entry) pane)) }
         ensures ring { self.new.ring ≡ self.old.ring }
         ensures widths { self.new.widths ≡ self.old.widths }
     {
-        let slot = self.slot_of(spot);
-        self.slots.fire(slot, mode, row);
+        self.slots.fire(spot.at, mode, row);
     }
 
     /// The pane at a spot.
     #[inline(always)]
     pub fn pane(&self, spot: Spot) -> PaneView<'_>
-        requires { IsSome (map.get self.now.panes spot.place) }
+        requires there { IsSome (map.get self.now.panes spot.place) }
+        requires spot { HasSlot self.now.ring spot }
         ensures { map.get self.now.panes spot.place ≡ Some result }
     {
-        self.slots.pane(self.slot_of(spot))
+        self.slots.pane(spot.at)
     }
 }
 
@@ -166,6 +155,7 @@ impl PaneTable<Pane> for RingTable {
     ghost use Rattle.wsm_panes.specs.declared.ring.Ring.{Ring as AnyRing};
     ghost use Rattle.wsm_panes.specs.declared.widths.Widths.{Widths as AnyWidths};
     ghost use Rattle.wsm_panes.specs.Layout.{IsAsWide};
+    ghost use Rattle.wsm_panes.specs.Walk.{HasSlot};
 
     ghost Room = { AnyRing × AnyWidths };
 
@@ -178,6 +168,8 @@ impl PaneTable<Pane> for RingTable {
     ghost Fits = { λ room values. length values ≡ room.1.accumulators };
 
     ghost Holds = { λ room pane. IsAsWide room.1 pane };
+
+    ghost IsSpot = { λ room spot. HasSlot room.0 spot };
 
     fn get(&self, place: Place) -> Option<Pane> {
         let slot = self.ring.slot(place);
@@ -254,7 +246,7 @@ impl PaneTable<Pane> for RingTable {
     fn next_due(&self, spot: Spot, limit: i64) -> Option<Spot> {
         let last = last_due(self.ring, self.first, self.last, limit)?;
         let key = spot.place.key as usize;
-        let row = self.slot_of(spot) - key;
+        let row = spot.at - key;
         let found = first_on(self.ring, &self.slots, row, spot.place.start, key + 1, last);
         spot_in(&self.slots, found)
     }

@@ -1,9 +1,12 @@
 //! Entries in the slots of a ring.
 
-ghost use Rattle.std.specs.Prelude.{◌≡◌, ◌⊎◌, ◌+◌, ◌*◌, ◌^◌, ◌≤◌, ◌<◌, ℕ, ◌+ℤ◌, Some, None, IfSome, IsTrue, length, option_map, slice_set};
+ghost use Rattle.std.specs.Prelude.{◌≡◌, ◌⊎◌, ◌+◌, ◌*◌, ◌^◌, ◌≤◌, ◌<◌, ℕ, ◌+ℤ◌, List, Some, None, IfSome, IsTrue, length, option_map, slice_set};
 ghost use Rattle.std.specs.Option.{is_some};
 ghost use Rattle.std.specs.Int.{w64};
 ghost use Rattle.std.specs.Int.RustNames.{FitsSigned};
+ghost use Rattle.wsm_record.specs.declared.event.Value.{Value as OneValue};
+ghost use Rattle.wsm_windows.specs.declared.place.Place.{Place as AnyPlace};
+ghost use Rattle.wsm_semantics.specs.Summaries.{Pane as AnyPane};
 ghost use Rattle.wsm_fold.specs.Fold.{are_of_kinds};
 ghost use Rattle.wsm_panes.specs.Held.{CanRecord, with_one_more};
 ghost use Rattle.wsm_panes.specs.Layout.{IsAsWide};
@@ -28,6 +31,8 @@ pub(crate) fn record_in(
     values: &[Value],
 ) -> usize
     requires slot { slot < length slots.old.slots }
+    // It is the slot of one key's panes.
+    requires own { (e : AnyPlace × AnyPane (List OneValue)) → slot_at slots.old.slots slot ≡ Some e → e.0.start ≡ place.start → e.0 ≡ place }
     requires wide { length values.now ≡ slots.old.widths.accumulators }
     requires types { IsTrue (are_of_kinds kinds.now values.now) }
     requires takes { IfSome (pane_of place (slot_at slots.old.slots slot)) (CanRecord kinds.now values.now) }
@@ -35,7 +40,7 @@ pub(crate) fn record_in(
     ensures len { length (held slots.new.slots) ≡ length (held slots.old.slots) + result }
 {
     match slots.place(slot) {
-        Some(other) if other == place => {
+        Some(other) if other.start == place.start => {
             slots.record(slot, kinds, values);
             0
         }
@@ -141,7 +146,8 @@ pub(crate) fn first_on(
 #[inline(always)]
 pub(crate) fn spot_in(slots: &Slots, found: Option<usize>) -> Option<Spot>
     requires { is_some (at_slot slots.now.slots found) ≡ is_some found }
-    ensures { place_found result ≡ option_map (λ e. e.0) (at_slot slots.now.slots found) }
+    ensures place { place_found result ≡ option_map (λ e. e.0) (at_slot slots.now.slots found) }
+    ensures at { IfSome result (λ spot. found ≡ Some spot.at) }
 {
     match found {
         Some(at) => spot_at(slots, at),
@@ -152,7 +158,8 @@ pub(crate) fn spot_in(slots: &Slots, found: Option<usize>) -> Option<Spot>
 // The spot of the entry in a slot, if there is one.
 fn spot_at(slots: &Slots, at: usize) -> Option<Spot>
     requires { at < length slots.now.slots }
-    ensures { place_found result ≡ option_map (λ e. e.0) (slot_at slots.now.slots at) }
+    ensures place { place_found result ≡ option_map (λ e. e.0) (slot_at slots.now.slots at) }
+    ensures at { IfSome result (λ spot. spot.at ≡ at) }
 {
     match slots.place(at) {
         Some(place) => Some(Spot { place, at }),

@@ -26,6 +26,18 @@ impl Spot {
         let place = Place { end, start, key };
         Spot { place, at: self.at }
     }
+
+    /// The same of what a call found. A call hands its answer over in memory, where all that is merged with
+    /// it would lie too.
+    #[inline(always)]
+    pub fn rebuilt_found(found: Option<Spot>) -> Option<Spot>
+        ensures { result ≡ found }
+    {
+        match found {
+            Some(spot) => Some(spot.rebuilt()),
+            None => None,
+        }
+    }
 }
 
 /// The spot of an entry at a place that is the one of a number, if its window ends by a limit.

@@ -2,6 +2,7 @@
 
 ghost use Rattle.std.specs.Prelude.{◌≡◌, ◌↔◌, List, IfSome, IsSome, IsTrue, option_map, slice_get};
 ghost use Rattle.std.specs.FinMap as map;
+ghost use Rattle.wsm_panes.specs.declared.spot.Spot.{Spot as AnySpot};
 ghost use Rattle.wsm_panes.specs.Place.{is_kept};
 ghost use Rattle.wsm_panes.specs.Walk.{first_past, following, place_due, place_found};
 ghost use Rattle.wsm_record.specs.declared.event.Value.{Value as OneValue};
@@ -32,6 +33,9 @@ pub trait PaneTable<P: TakesRecords> {
 
     // There is room for what a pane has.
     ghost Holds: { Room → P → Type 0 };
+
+    // Where a spot says its place is, as far as that needn't be asked.
+    ghost IsSpot: { Room → AnySpot → Type 0 };
 
     /// The pane at a place, if one is there.
     fn get(&self, place: Place) -> Option<P>
@@ -75,20 +79,25 @@ pub trait PaneTable<P: TakesRecords> {
 
     /// Where the pane at a place is, if one is there.
     fn find(&self, place: Place) -> Option<Spot>
-        ensures { place_found result ≡ option_map (λ _. place) (map.get (panes self.now) place) };
+        ensures place { place_found result ≡ option_map (λ _. place) (map.get (panes self.now) place) }
+        ensures spot { IfSome result (IsSpot (room self.now)) };
 
     /// Where the first pane is in the order of the places, if its window ends by a limit, which is in
     /// event time.
     fn first_due(&self, limit: i64) -> Option<Spot>
-        ensures { place_found result ≡ place_due limit (slice_get (map.entries (panes self.now)) 0) };
+        ensures place { place_found result ≡ place_due limit (slice_get (map.entries (panes self.now)) 0) }
+        ensures spot { IfSome result (IsSpot (room self.now)) };
 
     /// Where the first pane is, in the order of the places, of those whose windows end past a time, if
     /// its window ends by a limit.
     fn first_due_after(&self, after: i64, limit: i64) -> Option<Spot>
-        ensures { place_found result ≡ place_due limit (first_past after (map.entries (panes self.now))) };
+        ensures place { place_found result ≡ place_due limit (first_past after (map.entries (panes self.now))) }
+        ensures spot { IfSome result (IsSpot (room self.now)) };
 
     /// Where the pane behind one is, in the order of the places, if its window ends by a limit.
     fn next_due(&self, spot: Spot, limit: i64) -> Option<Spot>
-        requires { IsSome (map.get (panes self.now) spot.place) }
-        ensures { place_found result ≡ place_due limit (following spot.place (map.entries (panes self.now))) };
+        requires there { IsSome (map.get (panes self.now) spot.place) }
+        requires spot { IsSpot (room self.now) spot }
+        ensures place { place_found result ≡ place_due limit (following spot.place (map.entries (panes self.now))) }
+        ensures spot { IfSome result (IsSpot (room self.now)) };
 }

@@ -2,6 +2,7 @@
 
 ghost use Rattle.std.specs.Prelude.{◌≡◌, option_map};
 ghost use Rattle.wsm_semantics.specs.Summaries as kept;
+ghost use Rattle.wsm_panes.specs.Held.{has_fired};
 ghost use Rattle.wsm_panes.specs.View.{IsFew, row_seen, window_stood};
 
 use crate::head::Stands;
@@ -72,6 +73,16 @@ impl<'a> PaneView<'a> {
             Some(self.folds)
         } else {
             None
+        }
+    }
+
+    /// Whether it fired, or a part of it did before it was joined.
+    pub fn has_fired(&self) -> bool
+        ensures { result ≡ has_fired self.now.stands }
+    {
+        match self.stands {
+            Stands::Unfired => false,
+            Stands::NoRow | Stands::FiredRow | Stands::Joined => true,
         }
     }
 

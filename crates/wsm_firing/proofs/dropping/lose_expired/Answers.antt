@@ -14,6 +14,7 @@ use Rattle.wsm_firing.specs.Streams.{IsTold, standing_rows}
 use Rattle.wsm_firing.proofs.Past.{left, none_goes, next_goes}
 use Rattle.wsm_firing.proofs.StandingRows.{Folded, Panes, row_at, few_rows}
 use Rattle.wsm_firing.proofs.Walk.{rest_at, held_due, entry_found, due_behind, past_end}
+use Rattle.wsm_firing.proofs.Spots.{spot_in}
 use Rattle.wsm_firing.proofs.dropping.lose_expired.Goals as goal
 use Rattle.wsm_firing.proofs.dropping.lose_expired.Goals.{In-Some, After-pane}
 
@@ -30,13 +31,19 @@ there c due = entry_found (to_z w64 (of_z w64 c.args.limit)) (entries_of c.args.
 pub loop-init : goal.loop-init
 loop-init c =
     let limit : ℤ = to_z w64 (of_z w64 c.args.limit) in
-    record { told = λ relation told. told; alike = record { form = refl; room = refl }; past = refl; next = c.first_due-next.ensures }
+    record { told = λ relation told. told; alike = record { form = refl; room = refl }; past = refl; spot = c.first_due-next.ensures.spot; next = c.first_due-next.ensures.place }
 
-pub pane-requires : goal.pane-requires
-pane-requires c = is_held (goal.at.pane-requires c).In-Some
+pub pane-requires-clause-there : goal.pane-requires-clause-there
+pane-requires-clause-there c = is_held (goal.at.pane-requires-clause-there c).In-Some
 
-pub next_due-next-requires : goal.next_due-next-requires
-next_due-next-requires c = is_held (goal.at.next_due-next-requires c).In-Some
+pub pane-requires-clause-spot : goal.pane-requires-clause-spot
+pane-requires-clause-spot c = spot_in c.args.held.now c.loop.next c.in-Some.spot c.loop.invariant.spot c.in-Some.is
+
+pub next_due-next-requires-clause-there : goal.next_due-next-requires-clause-there
+next_due-next-requires-clause-there c = is_held (goal.at.next_due-next-requires-clause-there c).In-Some
+
+pub next_due-next-requires-clause-spot : goal.next_due-next-requires-clause-spot
+next_due-next-requires-clause-spot c = spot_in c.args.held.now c.loop.next c.in-Some.spot c.loop.invariant.spot c.in-Some.is
 
 pub lose-requires : goal.lose-requires
 lose-requires c =
@@ -67,7 +74,8 @@ loop-preserved c =
       told = λ relation told. c.lose.ensures.told relation (standing_rows (drop (i + 1) es)) (subst (λ (fs : Panes). IsTold c.loop.streams relation (standing_rows fs)) (rest_at es i e at) (c.loop.invariant.told relation told));
       alike = record { form = c.lose.ensures.alike.form ∙ c.loop.invariant.alike.form; room = c.lose.ensures.alike.room ∙ c.loop.invariant.alike.room };
       past = c.loop.invariant.past ∙ next_goes limit es i e at (past_end limit es i e.0 sorted due);
-      next = c.next_due-next.ensures ∙ due_behind limit es i e.0 sorted due;
+      spot = c.next_due-next.ensures.spot;
+      next = c.next_due-next.ensures.place ∙ due_behind limit es i e.0 sorted due;
     }
 
 pub returns-in_default-next-clause-told : goal.returns-in_default-next-clause-told

@@ -20,12 +20,13 @@ use Rattle.wsm_firing.proofs.StandingRows.{tells_none}
 use Rattle.wsm_firing.proofs.AtPlace.{Fires, none_there, no_kind, with_kind}
 use Rattle.wsm_firing.proofs.LeftToFire.{no_rows, no_tally}
 use Rattle.wsm_firing.proofs.Walk.{none_found, spot_found, some_same}
+use Rattle.wsm_firing.proofs.Spots.{spot_in}
 use Rattle.wsm_firing.proofs.record.fire_at.Goals as goal
 use Rattle.wsm_firing.proofs.record.fire_at.Goals.{In-Some, After-record_kind, In-Some-record_kind}
 
 -- the spot that was found is that of the place, where a pane is held
 found : (c : In-Some) → (c.in-Some.spot.place ≡ c.args.place) × (is_some (find place_cmp c.args.place (entries_of c.args.held.now)) ≡ true)
-found c = spot_found c.args.place (find place_cmp c.args.place (entries_of c.args.held.now)) c.in-Some.spot.place (sym c.find.ensures ∙ ap place_found c.in-Some.is)
+found c = spot_found c.args.place (find place_cmp c.args.place (entries_of c.args.held.now)) c.in-Some.spot.place (sym c.find.ensures.place ∙ ap place_found c.in-Some.is)
 
 held_there : (c : In-Some) → is_some (find place_cmp c.in-Some.spot.place (entries_of c.args.held.now)) ≡ true
 held_there c = let spot = found c in subst (λ r. is_some (find place_cmp r (entries_of c.args.held.now)) ≡ true) (sym spot.0) spot.1
@@ -49,7 +50,7 @@ fires c at is =
 pub returns-in_default : goal.returns-in_default
 returns-in_default c =
     let p = c.args.verified.now in let held = c.args.held.now in let es = entries_of held in
-    let none = none_there (plan_of p) (query_of p) c.args.mark c.args.place es (map.entries_sorted held.panes) (none_found c.args.place (find place_cmp c.args.place es) (sym c.find.ensures ∙ ap place_found c.in_default.is)) in
+    let none = none_there (plan_of p) (query_of p) c.args.mark c.args.place es (map.entries_sorted held.panes) (none_found c.args.place (find place_cmp c.args.place es) (sym c.find.ensures.place ∙ ap place_found c.in_default.is)) in
     record {
       panes = sym none.panes;
       keeps = record { keys = refl; shape = refl; live = refl; widths = refl };
@@ -59,8 +60,8 @@ returns-in_default c =
       tally = no_tally p c.args.tally.now _ none.firings;
     }
 
-pub pane-pane-requires : goal.pane-pane-requires
-pane-pane-requires c = held_there (goal.at.pane-pane-requires c).In-Some
+pub pane-pane-requires-clause-there : goal.pane-pane-requires-clause-there
+pane-pane-requires-clause-there c = held_there (goal.at.pane-pane-requires-clause-there c).In-Some
 
 pub run-ran-requires : goal.run-ran-requires
 run-ran-requires c =
@@ -130,3 +131,9 @@ returns-in_default-record_kind c =
       capacity = refl;
       tally = no_tally p c.args.tally.now _ none.firings;
     }
+
+pub pane-pane-requires-clause-spot : goal.pane-pane-requires-clause-spot
+pane-pane-requires-clause-spot c = spot_in c.args.held.now c.find.result c.in-Some.spot c.find.ensures.spot c.in-Some.is
+
+pub fire-requires-clause-spot : goal.fire-requires-clause-spot
+fire-requires-clause-spot c = spot_in c.args.held.now c.find.result c.in-Some.spot c.find.ensures.spot c.in-Some.is

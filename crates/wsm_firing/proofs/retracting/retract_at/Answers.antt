@@ -9,12 +9,13 @@ use Rattle.wsm_panes.specs.Held.{entries_of}
 use Rattle.wsm_panes.specs.Walk.{place_found}
 use Rattle.wsm_firing.proofs.RetractAt.{one_at, put_none, put_one, put_quiet}
 use Rattle.wsm_firing.proofs.Walk.{none_found, spot_found}
+use Rattle.wsm_firing.proofs.Spots.{spot_in}
 use Rattle.wsm_firing.proofs.retracting.retract_at.Goals as goal
 use Rattle.wsm_firing.proofs.retracting.retract_at.Goals.{After-is_some, After-pane-pane, In-Some}
 
 -- the spot that was found is that of the place, where a pane is held
 found : (c : In-Some) → (c.in-Some.spot.place ≡ c.args.place) × (is_some (find place_cmp c.args.place (entries_of c.args.held.now)) ≡ true)
-found c = spot_found c.args.place (find place_cmp c.args.place (entries_of c.args.held.now)) c.in-Some.spot.place (sym c.find.ensures ∙ ap place_found c.in-Some.is)
+found c = spot_found c.args.place (find place_cmp c.args.place (entries_of c.args.held.now)) c.in-Some.spot.place (sym c.find.ensures.place ∙ ap place_found c.in-Some.is)
 
 there : (c : After-pane-pane) → c.in-Some.spot.place ≡ c.args.place → find place_cmp c.args.place (entries_of c.args.held.now) ≡ Some c.pane-pane.result
 there c at = ap (λ r. find place_cmp r (entries_of c.args.held.now)) (sym at) ∙ c.pane-pane.ensures
@@ -25,7 +26,7 @@ fires_is c = let mark : SFits w64 c.args.mark = c.ranges.mark in ap is_some (sym
 pub returns-in_default-clause-rows : goal.returns-in_default-clause-rows
 returns-in_default-clause-rows c =
     let p = c.args.verified.now in let es = entries_of c.args.held.now in
-    put_none (plan_of p) (query_of p) c.args.mark c.args.place es (map.entries_sorted c.args.held.now.panes) (none_found c.args.place (find place_cmp c.args.place es) (sym c.find.ensures ∙ ap place_found c.in_default.is)) c.args.rows.now.items
+    put_none (plan_of p) (query_of p) c.args.mark c.args.place es (map.entries_sorted c.args.held.now.panes) (none_found c.args.place (find place_cmp c.args.place es) (sym c.find.ensures.place ∙ ap place_found c.in_default.is)) c.args.rows.now.items
 
 pub retract-requires : goal.retract-requires
 retract-requires c =
@@ -50,3 +51,6 @@ returns-else-is_some-clause-rows c =
     let at = (found (goal.at.returns-else-is_some-clause-rows c).In-Some).0 in
     let quiet = fires_is (goal.at.returns-else-is_some-clause-rows c).After-is_some ∙ c.if-is_some.false in
     put_quiet (plan_of p) (query_of p) c.args.mark c.args.place es (map.entries_sorted c.args.held.now.panes) c.pane-pane.result (there (goal.at.returns-else-is_some-clause-rows c).After-pane-pane at) quiet c.args.rows.now.items
+
+pub pane-pane-requires-clause-spot : goal.pane-pane-requires-clause-spot
+pane-pane-requires-clause-spot c = spot_in c.args.held.now c.find.result c.in-Some.spot c.find.ensures.spot c.in-Some.is

@@ -12,6 +12,7 @@ use Rattle.wsm_panes.specs.Held.{entries_of}
 use Rattle.wsm_panes.specs.Walk.{place_found}
 use Rattle.wsm_firing.specs.ByWatermark.{fires_by_watermark}
 use Rattle.wsm_firing.proofs.RetractWalk.{HasPassed, comes_to, ends_behind_all, ends_at_none, has_room, is_held, is_placed, puts, puts_first, stays, there}
+use Rattle.wsm_firing.proofs.Spots.{spot_in}
 use Rattle.wsm_firing.proofs.retracting.retract_due.Goals as goal
 use Rattle.wsm_firing.proofs.retracting.retract_due.Goals.{After-last_expired-expired, After-watermark_kind, then-is_some, else-is_some}
 
@@ -43,11 +44,18 @@ loop-init c =
     let late : ℤ = to_z w64 (of_z w64 c.last_expired-expired.result) in
     record {
       capacity = refl;
-      walked = comes_to late _ 0 (expires (goal.at.loop-init c).After-last_expired-expired) (omega arith) (puts_first c.args.rows.now.items _ _) c.first_to_fire-next.ensures;
+      spot = c.first_to_fire-next.ensures.spot;
+      walked = comes_to late _ 0 (expires (goal.at.loop-init c).After-last_expired-expired) (omega arith) (puts_first c.args.rows.now.items _ _) c.first_to_fire-next.ensures.next;
     }
 
-pub pane-pane-requires : goal.pane-pane-requires
-pane-pane-requires c = is_held c.loop.invariant.walked (ap place_found c.in-Some.is) (map.entries_sorted c.args.held.now.panes)
+pub pane-pane-requires-clause-there : goal.pane-pane-requires-clause-there
+pane-pane-requires-clause-there c = is_held c.loop.invariant.walked (ap place_found c.in-Some.is) (map.entries_sorted c.args.held.now.panes)
+
+pub pane-pane-requires-clause-spot : goal.pane-pane-requires-clause-spot
+pane-pane-requires-clause-spot c = spot_in c.args.held.now c.loop.next c.in-Some.spot c.loop.invariant.spot c.in-Some.is
+
+pub next_to_fire-next-requires-clause-spot : goal.next_to_fire-next-requires-clause-spot
+next_to_fire-next-requires-clause-spot c = spot_in c.args.held.now c.loop.next c.in-Some.spot c.loop.invariant.spot c.in-Some.is
 
 pub watermark_kind-requires-clause-lateness : goal.watermark_kind-requires-clause-lateness
 watermark_kind-requires-clause-lateness c =
@@ -82,7 +90,8 @@ loop-preserved c =
         | then-is_some w ↦ ap vec_capacity w.rows-is ∙ w.retract.ensures.capacity ∙ c.loop.invariant.capacity
         | else-is_some w ↦ ap vec_capacity w.rows-is ∙ c.loop.invariant.capacity
       ];
-      walked = comes_to late _ (walked.passed + 1) expires (omega (arith, walked.onward)) passed (c.next_to_fire-next.ensures walked.passed c.pane-pane.result (there walked is sorted found));
+      spot = c.next_to_fire-next.ensures.spot;
+      walked = comes_to late _ (walked.passed + 1) expires (omega (arith, walked.onward)) passed (c.next_to_fire-next.ensures.next walked.passed c.pane-pane.result (there walked is sorted found));
     }
 
 pub returns-after-loop-clause-rows : goal.returns-after-loop-clause-rows

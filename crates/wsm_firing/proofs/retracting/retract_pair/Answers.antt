@@ -1,9 +1,8 @@
 use Rattle.std.proofs.Common.{◌≡◌, ◌++◌, [], Bool, true, ◌&&◌, cond, List, Option, Some, None, pos, refl, sym, ap, subst, ◌∙◌, arith}
 use Rattle.std.specs.List.{cons_option}
 use Rattle.wsm_record.specs.declared.cell.Cell.{Cell}
-use Rattle.wsm_record.specs.declared.event.Value.{Value}
 use Rattle.wsm_windows.specs.declared.place.Place.{Place}
-use Rattle.wsm_semantics.specs.Summaries.{Pane, written_by}
+use Rattle.wsm_semantics.specs.Summaries.{written_by}
 use Rattle.wsm_panes.specs.Held.{has_fired}
 use Rattle.wsm_firing.specs.Retracting.{AreWithdrawn}
 use Rattle.wsm_firing.proofs.RetractWalk.{Written, withdrawn_on}
@@ -15,7 +14,7 @@ abbrev some_place : (c : After-retract) → Place
 some_place c = record { end = pos 0; start = pos 0; key = c.args.key }
 
 first : (c : After-retract) → (p : Place) → p.key ≡ c.args.key → AreWithdrawn c.args.rows.now.items c.retract.new.rows.items (cons_option (written_by p c.args.pair.now.0.stands) []) 1
-first c p key = subst (λ (h : Pane (List Value)). AreWithdrawn c.args.rows.now.items c.retract.new.rows.items (cons_option (written_by p h.stands) []) 1) c.view.ensures (c.retract.ensures.rows p key)
+first c p key = c.retract.ensures.rows p key
 
 both : (o u : Option (Place × List Cell)) → cons_option o [] ++ cons_option u [] ≡ cons_option o (cons_option u [])
 both None u = refl
@@ -30,8 +29,7 @@ pub returns-then-has_fired-2-clause-rows : goal.returns-then-has_fired-2-clause-
 returns-then-has_fired-2-clause-rows c = λ p r p_key r_key.
     let v = c.args.pair.now.0 in let w = c.args.pair.now.1 in let before = c.args.rows.now.items in let after = c.retract-then-has_fired-2.new.rows.items in
     let one = first (goal.at.returns-then-has_fired-2-clause-rows c).After-retract p p_key in
-    let other : AreWithdrawn c.retract.new.rows.items after (cons_option (written_by r w.stands) []) 1 =
-    subst (λ (h : Pane (List Value)). AreWithdrawn c.retract.new.rows.items after (cons_option (written_by r h.stands) []) 1) c.view-then-has_fired-2.ensures (c.retract-then-has_fired-2.ensures.rows r r_key) in
+    let other : AreWithdrawn c.retract.new.rows.items after (cons_option (written_by r w.stands) []) 1 = c.retract-then-has_fired-2.ensures.rows r r_key in
     let all : Written = cons_option (written_by p v.stands) (cons_option (written_by r w.stands) []) in
     let fired : has_fired v.stands && has_fired w.stands ≡ true = λ i. (sym c.has_fired.ensures ∙ c.if-has_fired.true) i && (sym c.has_fired-then-has_fired.ensures ∙ c.if-has_fired-2.true) i in
     subst (λ (xs : Written). AreWithdrawn before after xs 2)

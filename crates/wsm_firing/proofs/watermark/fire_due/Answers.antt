@@ -8,12 +8,13 @@ use Rattle.wsm_program.specs.Program.{Program, Header, is_program}
 use Rattle.wsm_program.specs.View.{header_of}
 use Rattle.wsm_verifier.proofs.Lawful as lawful_programs
 use Rattle.wsm_machine.specs.Meaning.{pane_cost_by, plan_of, query_of}
-use Rattle.wsm_panes.specs.Held.{Held, IsKept, entries_of}
+use Rattle.wsm_panes.specs.Held.{Held, IsKept, IsSpot, entries_of}
 use Rattle.wsm_panes.specs.Walk.{place_found}
 use Rattle.wsm_firing.specs.ByWatermark.{fires_by_watermark}
 use Rattle.wsm_firing.specs.Firing.{CanAdd}
 use Rattle.wsm_firing.specs.Due.{fired_by}
 use Rattle.wsm_firing.specs.Streams.{Standing, Tells}
+use Rattle.wsm_firing.proofs.Spots.{spot_in, spot_kept}
 use Rattle.wsm_firing.proofs.StandingRows.{tells_none, tells_on, can_tell_on}
 use Rattle.wsm_firing.proofs.Walk.{fired_first, some_same}
 use Rattle.wsm_firing.proofs.LeftToFire.{ComesTo, first, kept_on}
@@ -57,11 +58,15 @@ loop-init c =
       keeps = record { keys = refl; shape = refl; live = refl; widths = refl };
       tells = tells_none c.args.streams.now es;
       capacity = refl;
-      walked = walks_on late _ 0 expires (omega arith) none_passed c.first_to_fire-next.ensures;
+      spot = c.first_to_fire-next.ensures.spot;
+      walked = walks_on late _ 0 expires (omega arith) none_passed c.first_to_fire-next.ensures.next;
     }
 
-pub pane-pane-requires : goal.pane-pane-requires
-pane-pane-requires c = is_held c.loop.invariant.walked (ap place_found c.in-Some.is) (map.entries_sorted c.loop.held.panes)
+pub pane-pane-requires-clause-there : goal.pane-pane-requires-clause-there
+pane-pane-requires-clause-there c = is_held c.loop.invariant.walked (ap place_found c.in-Some.is) (map.entries_sorted c.loop.held.panes)
+
+pub pane-pane-requires-clause-spot : goal.pane-pane-requires-clause-spot
+pane-pane-requires-clause-spot c = spot_in c.loop.held c.loop.next c.in-Some.spot c.loop.invariant.spot c.in-Some.is
 
 pub watermark_kind-requires-clause-lateness : goal.watermark_kind-requires-clause-lateness
 watermark_kind-requires-clause-lateness c =
@@ -87,6 +92,9 @@ fire-requires-clause-tells c =
 
 pub fire-requires-clause-held : goal.fire-requires-clause-held
 fire-requires-clause-held c = is_held c.loop.invariant.walked (ap place_found c.in-Some.is) (map.entries_sorted c.loop.held.panes)
+
+pub fire-requires-clause-spot : goal.fire-requires-clause-spot
+fire-requires-clause-spot c = spot_in c.loop.held c.loop.next c.in-Some.spot c.loop.invariant.spot c.in-Some.is
 
 pub fire-requires-clause-row : goal.fire-requires-clause-row
 fire-requires-clause-row c = λ h found.
@@ -122,6 +130,16 @@ next_to_fire-next-requires-clause-there c =
     ] in
     is_still_held walked is in_order fired (map.entries_sorted then.held.panes)
 
+pub next_to_fire-next-requires-clause-spot : goal.next_to_fire-next-requires-clause-spot
+next_to_fire-next-requires-clause-spot c =
+    let then = c.match-watermark_kind in
+    let spot = c.in-Some.spot in
+    let now = spot_in c.loop.held c.loop.next spot c.loop.invariant.spot c.in-Some.is in
+    elim then.branch [
+      | in-Some-watermark_kind w ↦ subst (λ (h : Held). IsSpot h spot) (sym w.held-is) (spot_kept c.loop.held w.fire.new.held spot w.fire.ensures.keeps now)
+      | in_default-watermark_kind w ↦ subst (λ (h : Held). IsSpot h spot) (sym w.held-is) now
+    ]
+
 pub loop-preserved : goal.loop-preserved
 loop-preserved c =
     let p = c.args.verified.now in let es = entries_of c.args.held.now in let room : ℕ = vec_capacity c.args.rows.now in
@@ -138,7 +156,7 @@ loop-preserved c =
       | in_default-watermark_kind w ↦ as_passed (ap entries_of w.held-is) w.tally-is (ap (λ v. v.items) w.rows-is) (stays walked is in_order found sorted (sym kind_is ∙ w.in_default-watermark_kind.is))
     ] in
     let there = still_there walked is in_order passed.fired in
-    let goes_on = walks_on late _ (walked.passed + 1) expires (omega (arith, walked.onward)) passed (c.next_to_fire-next.ensures walked.passed there.0 there.1) in
+    let goes_on = walks_on late _ (walked.passed + 1) expires (omega (arith, walked.onward)) passed (c.next_to_fire-next.ensures.next walked.passed there.0 there.1) in
     elim then.branch [
       | in-Some-watermark_kind w ↦
           record {
@@ -147,6 +165,7 @@ loop-preserved c =
                 subst (λ (x : Held × Standing). Tells c.args.streams.now x.1 es (entries_of x.0)) (λ i. (sym w.held-is i, sym w.streams-is i))
                 (tells_on c.args.streams.now c.loop.streams w.fire.new.streams es (entries_of c.loop.held) (entries_of w.fire.new.held) c.loop.invariant.tells w.fire.ensures.tells);
             capacity = ap vec_capacity w.rows-is ∙ w.fire.ensures.capacity ∙ c.loop.invariant.capacity;
+            spot = c.next_to_fire-next.ensures.spot;
             walked = goes_on;
           }
       | in_default-watermark_kind w ↦
@@ -154,6 +173,7 @@ loop-preserved c =
             keeps = subst (λ (h : Held). IsKept c.args.held.now h) (sym w.held-is) c.loop.invariant.keeps;
             tells = subst (λ (x : Held × Standing). Tells c.args.streams.now x.1 es (entries_of x.0)) (λ i. (sym w.held-is i, sym w.streams-is i)) c.loop.invariant.tells;
             capacity = ap vec_capacity w.rows-is ∙ c.loop.invariant.capacity;
+            spot = c.next_to_fire-next.ensures.spot;
             walked = goes_on;
           }
     ]

@@ -38,17 +38,17 @@ linked_two c =
     two_entries _ (at c.args.key c.in-Two.first) (at c.args.key c.in-Two.second)
     (parts_at (taking [] []) c.args.sessions.now.gap c.args.key c.args.time c.args.table.now.panes c.args.sessions.now.windows c.requires.agree (c.in-Two.first ∷ c.in-Two.second ∷ []) (ap those_linked (sym c.in-Two.is) ∙ simp to_z-of_z at c.linked.ensures))
 
-pub unwrap-pane-requires : goal.unwrap-pane-requires
-unwrap-pane-requires c =
+pub seen-pane-requires : goal.seen-pane-requires
+seen-pane-requires c =
     let m = c.args.table.now.panes in
-    let two = linked_two (goal.at.unwrap-pane-requires c).In-Two in
-    subst IsSome (sym (c.get.ensures.pane ∙ ap (map.get m) c.at.ensures ∙ first_found c.args.sessions.now.gap (datum 0 (pos 0) c.args.key c.args.time []) m (at c.args.key c.in-Two.first) (at c.args.key c.in-Two.second) two.0 two.1.0 two.1.1)) refl
+    let two = linked_two (goal.at.seen-pane-requires c).In-Two in
+    subst IsSome (sym (ap (map.get m) c.at.ensures ∙ first_found c.args.sessions.now.gap (datum 0 (pos 0) c.args.key c.args.time []) m (at c.args.key c.in-Two.first) (at c.args.key c.in-Two.second) two.0 two.1.0 two.1.1)) refl
 
-pub unwrap-other-requires : goal.unwrap-other-requires
-unwrap-other-requires c =
+pub seen-other-requires : goal.seen-other-requires
+seen-other-requires c =
     let m = c.args.table.now.panes in
-    let two = linked_two (goal.at.unwrap-other-requires c).In-Two in
-    subst IsSome (sym (c.get-in-Two.ensures.pane ∙ ap (map.get m) c.at-in-Two.ensures ∙ second_in c.args.sessions.now.gap (datum 0 (pos 0) c.args.key c.args.time []) m (at c.args.key c.in-Two.first) (at c.args.key c.in-Two.second) two.0 two.1.0 two.1.1)) refl
+    let two = linked_two (goal.at.seen-other-requires c).In-Two in
+    subst IsSome (sym (ap (map.get m) c.at-in-Two.ensures ∙ second_in c.args.sessions.now.gap (datum 0 (pos 0) c.args.key c.args.time []) m (at c.args.key c.in-Two.first) (at c.args.key c.in-Two.second) two.0 two.1.0 two.1.1)) refl
 
 some_is : {A : Type 0} (a b : A) → Some a ≡ Some b → a ≡ b
 some_is a b h = cc
@@ -58,8 +58,8 @@ returns-in-Two c =
     let gap = c.args.sessions.now.gap in let m = c.args.table.now.panes in
     let p = at c.args.key c.in-Two.first in let r = at c.args.key c.in-Two.second in
     let two = linked_two (goal.at.returns-in-Two c).In-Two in
-    let first = some_is _ _ (sym c.unwrap-pane.ensures ∙ c.get.ensures.pane ∙ ap (map.get m) c.at.ensures ∙ first_found gap (datum 0 (pos 0) c.args.key c.args.time []) m p r two.0 two.1.0 two.1.1) in
-    let second = some_is _ _ (sym c.unwrap-other.ensures ∙ c.get-in-Two.ensures.pane ∙ ap (map.get m) c.at-in-Two.ensures ∙ second_in gap (datum 0 (pos 0) c.args.key c.args.time []) m p r two.0 two.1.0 two.1.1) in
+    let first = some_is _ _ (sym c.seen-pane.ensures ∙ ap (map.get m) c.at.ensures ∙ first_found gap (datum 0 (pos 0) c.args.key c.args.time []) m p r two.0 two.1.0 two.1.1) in
+    let second = some_is _ _ (sym c.seen-other.ensures ∙ ap (map.get m) c.at-in-Two.ensures ∙ second_in gap (datum 0 (pos 0) c.args.key c.args.time []) m p r two.0 two.1.0 two.1.1) in
     record {
       pair = (λ i. Some (first i, second i)) ∙ sym (ap first_two two.1.1);
       few = omega (arith, ap length two.1.1);

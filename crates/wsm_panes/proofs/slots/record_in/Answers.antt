@@ -1,16 +1,19 @@
-use Rattle.std.proofs.Common.{◌≡◌, Option, Some, None, List, refl, length, set, arith, ap, subst, sym, ◌∙◌}
+use Rattle.std.proofs.Common.{◌≡◌, ℤ, SFits, w64, to_z, of_z, rules, Option, Some, None, List, refl, length, set, arith, ap, subst, sym, ◌∙◌}
+use Rattle.std.proofs.lemmas.Int.{to_z-of_z}
 use Rattle.std.specs.Option.{is_some, option_len}
 use Rattle.std.specs.Prelude.{IfSome, option_map}
-use Rattle.std.proofs.lemmas.Bool.{true≢false}
 use Rattle.wsm_record.specs.declared.event.Value.{Value}
 use Rattle.wsm_windows.specs.declared.place.Place.{Place}
 use Rattle.wsm_semantics.specs.Summaries.{Pane}
 use Rattle.wsm_panes.specs.Held.{CanRecord, with_one_more}
 use Rattle.wsm_panes.specs.Layout.{Slotted}
 use Rattle.wsm_panes.specs.Ring.{held, pane_of, slot_at}
-use Rattle.wsm_panes.proofs.Entries.{Decides-eq_place, apart_place}
+use Rattle.wsm_panes.proofs.Entries.{apart_place}
 use Rattle.wsm_panes.proofs.Placed.{count_put, entry_placed, none_placed, pane_here}
 use Rattle.wsm_panes.proofs.slots.record_in.Goals as goal
+
+same_time : (a b : ℤ) → SFits w64 a → SFits w64 b → of_z w64 a ≡ of_z w64 b → a ≡ b
+same_time a b fits other is = sym (to_z-of_z w64 a fits) ∙ ap (to_z w64) is ∙ to_z-of_z w64 b other
 
 pub record-requires-clause-there : goal.record-requires-clause-there
 record-requires-clause-there c =
@@ -21,7 +24,7 @@ pub record-requires-clause-takes : goal.record-requires-clause-takes
 record-requires-clause-takes c =
     let os = c.args.slots.now.slots in let p = c.args.place in
     let e = entry_placed (slot_at os c.args.slot) c.in-Some.other (sym c.place.ensures ∙ c.in-Some.is) in
-    let same = (Decides-eq_place c.in-Some.other p).0 (sym c.eq.ensures ∙ c.if-eq.true) in
+    let same = c.requires.own (c.in-Some.other, e.0) e.1 (same_time c.in-Some.other.start p.start (search rules) (search rules) c.if-other-place.true) in
     let at = e.1 ∙ ap (λ (x : Place). Some (x, e.0)) same in
     let can = subst (λ o. IfSome o (CanRecord c.args.kinds.now c.args.values.now)) (ap (pane_of p) at ∙ pane_here p e.0) c.requires.takes in
     rw at can
@@ -30,7 +33,7 @@ pub returns-in-Some-clause-slots : goal.returns-in-Some-clause-slots
 returns-in-Some-clause-slots c =
     let os = c.args.slots.now.slots in let p = c.args.place in
     let e = entry_placed (slot_at os c.args.slot) c.in-Some.other (sym c.place.ensures ∙ c.in-Some.is) in
-    let same = (Decides-eq_place c.in-Some.other p).0 (sym c.eq.ensures ∙ c.if-eq.true) in
+    let same = c.requires.own (c.in-Some.other, e.0) e.1 (same_time c.in-Some.other.start p.start (search rules) (search rules) c.if-other-place.true) in
     let at = e.1 ∙ ap (λ (x : Place). Some (x, e.0)) same in
     let more : Option (Pane (List Value)) → Pane (List Value) = with_one_more c.args.kinds.now c.args.values.now in
     let entry = ap (option_map (λ e. (e.0, more (Some e.1)))) at ∙ sym (ap (λ o. Some (p, more o)) (ap (pane_of p) at ∙ pane_here p e.0)) in
@@ -48,7 +51,7 @@ pub returns-in-Some-2-clause-slots : goal.returns-in-Some-2-clause-slots
 returns-in-Some-2-clause-slots c =
     let os = c.args.slots.now.slots in let p = c.args.place in
     let e = entry_placed (slot_at os c.args.slot) c.in-Some.other (sym c.place.ensures ∙ c.in-Some.is) in
-    let none : pane_of p (slot_at os c.args.slot) ≡ None = rw (e.1, apart_place p c.in-Some.other (λ same. absurd (true≢false (sym ((Decides-eq_place c.in-Some.other p).1 (sym same)) ∙ sym c.eq.ensures ∙ c.if-eq.false)))) refl in
+    let none : pane_of p (slot_at os c.args.slot) ≡ None = rw (e.1, apart_place p c.in-Some.other (λ same. c.if-other-place.false (ap (λ (x : Place). of_z w64 x.start) (sym same)))) refl in
     c.start.ensures c.args.kinds.now ∙ ap (λ o. let x : Slotted = record c.args.slots.now { slots = set os c.args.slot (Some (p, with_one_more c.args.kinds.now c.args.values.now o)) } in x) (sym none)
 
 pub returns-in-Some-2-clause-len : goal.returns-in-Some-2-clause-len

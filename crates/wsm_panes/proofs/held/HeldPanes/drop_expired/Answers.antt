@@ -1,4 +1,6 @@
-use Rattle.std.proofs.Common.{ap, sym, subst, ◌∙◌, SFits, w64, to_z-of_z}
+use Rattle.std.proofs.Common.{ap, sym, subst, ◌∙◌, SFits, w64, to_z, of_z, to_z-of_z}
+use Rattle.std.specs.FinMap.Entries.{where_key}
+use Rattle.wsm_windows.specs.Places.{place_cmp}
 use Rattle.std.specs.FinMap as map
 use Rattle.wsm_panes.specs.OfKeys.{AreOfKeys}
 use Rattle.wsm_panes.specs.Place.{is_kept}
@@ -16,6 +18,7 @@ invariant_of-self c =
       list = λ gap is. ap (λ r. r.0) c.drop_expired.ensures.room ∙ c.self.invariant.list gap is;
       widths = ap (λ r. r.1) c.drop_expired.ensures.room ∙ c.self.invariant.widths;
       ring = c.self.invariant.ring;
+      none = c.self.invariant.none;
       sessions = λ gap is.
           subst (λ es. AreOfKeys gap c.self.inside.keys c.self.inside.live es c.drop_sessions.new.sessions.items) (sym left)
           (keys_dropped c.args.limit gap c.self.inside.keys c.self.inside.live (map.entries m) c.self.inside.sessions.items c.drop_sessions.new.sessions.items (c.self.invariant.sessions gap is) (simp to_z-of_z at c.drop_sessions.ensures));
@@ -32,6 +35,7 @@ invariant_of-self-in_default c = record {
   list = c.self.invariant.list;
   widths = c.self.invariant.widths ∙ sym (ap (λ r. r.1) c.drop_expired-in_default.ensures.room);
   ring = λ grid some. ap (λ r. r.0) c.drop_expired-in_default.ensures.room ∙ c.self.invariant.ring grid some;
+  none = λ grid zero. ap map.entries c.drop_expired-in_default.ensures.panes ∙ entries_kept c.self.inside.ring.panes (is_kept (to_z w64 (of_z w64 c.args.limit))) ∙ ap (where_key place_cmp (is_kept (to_z w64 (of_z w64 c.args.limit)))) (c.self.invariant.none grid zero);
   sessions = c.self.invariant.sessions;
 }
 

@@ -85,6 +85,7 @@ invariant_of-self c =
       list = λ gap is. c.enter_session-joined.ensures.room ∙ c.self.invariant.list gap is;
       widths = c.enter_session-joined.ensures.widths ∙ c.self.invariant.widths;
       ring = c.self.invariant.ring;
+      none = c.self.invariant.none;
       sessions = λ gap is.
           let of = key_of gap c.self.inside.keys c.self.inside.live c.args.key (map.entries c.self.inside.list.panes) c.self.inside.sessions.items (c.self.invariant.sessions gap is) (rw (← c.self.view_is) at c.requires.declared) c.index_mut-sessions.result.now c.index_mut-sessions.ensures.value in
           keys_written gap c.self.inside.keys c.self.inside.live c.args.key (map.entries c.self.inside.list.panes) (map.entries c.enter_session-joined.new.table.panes) c.self.inside.sessions.items c.enter_session-joined.new.sessions (c.self.invariant.sessions gap is)
@@ -151,3 +152,18 @@ pub enter_session-joined-requires-clause-agree : goal.enter_session-joined-requi
 enter_session-joined-requires-clause-agree c =
     let can = rw (← c.self.view_is, c.in-Session.is) at c.requires in
     (key_of c.in-Session.field-0 c.self.inside.keys c.self.inside.live c.args.key (map.entries c.self.inside.list.panes) c.self.inside.sessions.items (c.self.invariant.sessions c.in-Session.field-0 c.in-Session.is) can.declared c.index_mut-sessions.result.now c.index_mut-sessions.ensures.value).windows
+
+pub invariant_of-self-in_default : goal.invariant_of-self-in_default
+invariant_of-self-in_default c =
+    let a = c.self.inside in
+    let can = rw (← c.self.view_is) at c.requires in
+    let whole = (can.apart c.in_default.not-Session).ring in
+    let some : 1 * 1 ≤ a.keys * a.live = mul-le 1 1 a.keys a.live whole.keys whole.bound in
+    record {
+      shape = c.self.invariant.shape;
+      list = c.self.invariant.list;
+      widths = c.self.invariant.widths ∙ sym c.enter_windows.ensures.widths;
+      ring = λ grid roomy. c.enter_windows.ensures.ring ∙ c.self.invariant.ring grid roomy;
+      none = λ grid zero. absurd (omega (arith, some, zero));
+      sessions = c.self.invariant.sessions;
+    }

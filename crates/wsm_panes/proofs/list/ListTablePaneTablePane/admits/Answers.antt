@@ -16,7 +16,7 @@ returns-then-len-room c =
 
 pub returns-else-len-room : goal.returns-else-len-room
 returns-else-len-room c =
-    let there : c.is_some.result ≡ map.contains_key c.args.self.now.panes c.args.place = c.is_some.ensures ∙ sym (some_mapped _ c.find.result) ∙ ap is_some c.find.ensures ∙ some_mapped _ _ in
+    let there : c.is_some.result ≡ map.contains_key c.args.self.now.panes c.args.place = c.is_some.ensures ∙ sym (some_mapped _ c.find.result) ∙ ap is_some c.find.ensures.place ∙ some_mapped _ _ in
     let es = shown c.self.inside.slots.slots c.self.inside.row.row in
     let count : map.len c.args.self.now.panes ≡ length c.self.inside.row.row = rw (← c.self.view_is) (len_is es c.self.invariant.stored.sorted ∙ length_is _ _ c.self.invariant.stored) in
     let room : c.args.self.now.room ≡ c.self.inside.row.room = rw (← c.self.view_is) refl in

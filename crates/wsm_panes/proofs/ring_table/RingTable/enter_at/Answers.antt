@@ -6,8 +6,9 @@ use Rattle.std.proofs.lemmas.List.{length-set}
 use Rattle.std.proofs.lemmas.Option.{same_Some}
 use Rattle.wsm_windows.specs.declared.place.Place.{Place}
 use Rattle.wsm_panes.specs.Held.{CanRecord, with_one_more}
-use Rattle.wsm_panes.specs.Ring.{RingAdmits, IsOfRing, held, pane_of, slot_at, slot_of, window_number}
+use Rattle.wsm_panes.specs.Ring.{RingAdmits, IsOfRing, held, pane_of, row_of, slot_at, slot_of, window_number}
 use Rattle.wsm_panes.proofs.Placed.{get_in, panes_in, panes_put, own_slot, placed_set, between_put, held_between, held_length}
+use Rattle.wsm_panes.proofs.RingWalk.{same_start_key}
 use Rattle.wsm_panes.proofs.Rings.{slot_within}
 use Rattle.wsm_panes.proofs.ring_table.RingTable.enter_at.Goals as goal
 
@@ -17,6 +18,14 @@ record_in-more-requires-clause-slot c =
     let is : c.args.slot ≡ slot_of a.ring c.args.place = rw (← c.self.view_is) at c.requires.slot in
     let admits : RingAdmits a.ring (panes_in a.slots.slots) c.args.place = rw (← c.self.view_is) at c.requires.admits in
     omega (arith, is, c.self.invariant.slots, slot_within a.ring c.args.place c.self.invariant.ring admits.0)
+
+pub record_in-more-requires-clause-own : goal.record_in-more-requires-clause-own
+record_in-more-requires-clause-own c = λ e at start.
+    let a = c.self.inside in
+    let is : c.args.slot ≡ slot_of a.ring c.args.place = rw (← c.self.view_is) at c.requires.slot in
+    let admits : RingAdmits a.ring (panes_in a.slots.slots) c.args.place = rw (← c.self.view_is) at c.requires.admits in
+    let of = c.self.invariant.placed c.args.slot e at in
+    same_start_key a.ring e.0 c.args.place of.0 admits.0 start (omega (arith, of.1, is, ap (row_of a.ring) start))
 
 pub record_in-more-requires-clause-takes : goal.record_in-more-requires-clause-takes
 record_in-more-requires-clause-takes c =

@@ -19,7 +19,7 @@ fire-requires-clause-slot c =
     let a = c.self.inside in
     let there = there_in a.ring a.slots.slots c.self.invariant.placed c.args.spot.place (rw (← c.self.view_is) at c.requires.there) in
     let within : slot_of a.ring c.args.spot.place < length a.slots.slots = at_within a.slots.slots (slot_of a.ring c.args.spot.place) (c.args.spot.place, there.0) there.1 in
-    omega (arith, rw (← c.self.view_is) at c.slot_of-slot.ensures, within)
+    omega (arith, rw (← c.self.view_is) at c.requires.spot, within)
 
 pub invariant_of-self : goal.invariant_of-self
 invariant_of-self c =
@@ -29,7 +29,7 @@ invariant_of-self c =
     let there = there_in a.ring os c.self.invariant.placed c.args.spot.place (rw (← c.self.view_is) at c.requires.there) in
     let entry : Place × Pane (List Value) = (c.args.spot.place, once_fired c.args.mode c.args.spot.place (option_map (λ cells. cells.now) c.args.row) there.0) in
     let fires : Option (Place × Pane (List Value)) → Option (Place × Pane (List Value)) = option_map (λ e. (e.0, once_fired c.args.mode e.0 (option_map (λ cells. cells.now) c.args.row) e.1)) in
-    let new : c.fire.new.self.slots ≡ set os s (Some entry) = ap (λ x. x.slots) c.fire.ensures ∙ ap (λ n. set os n (fires (slot_at os n))) (rw (← c.self.view_is) at c.slot_of-slot.ensures) ∙ ap (λ o. set os s (fires o)) there.1 in
+    let new : c.fire.new.self.slots ≡ set os s (Some entry) = ap (λ x. x.slots) c.fire.ensures ∙ ap (λ n. set os n (fires (slot_at os n))) (rw (← c.self.view_is) at c.requires.spot) ∙ ap (λ o. set os s (fires o)) there.1 in
     let within : s < length os = at_within os s (c.args.spot.place, there.0) there.1 in
     let of = (c.self.invariant.placed s (c.args.spot.place, there.0) there.1).0 in
     let count : length (held (set os s (Some entry))) + option_len (slot_at os s) ≡ length (held os) + 1 = held_set os s (Some entry) within in
@@ -55,7 +55,7 @@ returns-clause-panes c =
     let there = there_in a.ring os c.self.invariant.placed c.args.spot.place (rw (← c.self.view_is) at c.requires.there) in
     let entry : Place × Pane (List Value) = (c.args.spot.place, once_fired c.args.mode c.args.spot.place (option_map (λ cells. cells.now) c.args.row) there.0) in
     let fires : Option (Place × Pane (List Value)) → Option (Place × Pane (List Value)) = option_map (λ e. (e.0, once_fired c.args.mode e.0 (option_map (λ cells. cells.now) c.args.row) e.1)) in
-    let new : c.fire.new.self.slots ≡ set os s (Some entry) = ap (λ x. x.slots) c.fire.ensures ∙ ap (λ n. set os n (fires (slot_at os n))) (rw (← c.self.view_is) at c.slot_of-slot.ensures) ∙ ap (λ o. set os s (fires o)) there.1 in
+    let new : c.fire.new.self.slots ≡ set os s (Some entry) = ap (λ x. x.slots) c.fire.ensures ∙ ap (λ n. set os n (fires (slot_at os n))) (rw (← c.self.view_is) at c.requires.spot) ∙ ap (λ o. set os s (fires o)) there.1 in
     let within : s < length os = at_within os s (c.args.spot.place, there.0) there.1 in
     let of = (c.self.invariant.placed s (c.args.spot.place, there.0) there.1).0 in (
       there.0,

@@ -9,12 +9,12 @@ use Rattle.wsm_panes.proofs.ring_table.RingTable.pane.Goals as goal
 pub pane-requires : goal.pane-requires
 pane-requires c =
     let a = c.self.inside in
-    let there = there_in a.ring a.slots.slots c.self.invariant.placed c.args.spot.place (rw (← c.self.view_is) at c.requires) in
-    ap is_some (ap (slot_at a.slots.slots) (rw (← c.self.view_is) at c.slot_of.ensures) ∙ there.1)
+    let there = there_in a.ring a.slots.slots c.self.invariant.placed c.args.spot.place (rw (← c.self.view_is) at c.requires.there) in
+    ap is_some (ap (slot_at a.slots.slots) (rw (← c.self.view_is) at c.requires.spot) ∙ there.1)
 
 pub returns : goal.returns
 returns c =
     let a = c.self.inside in
-    let there = there_in a.ring a.slots.slots c.self.invariant.placed c.args.spot.place (rw (← c.self.view_is) at c.requires) in
-    let at = ap (slot_at a.slots.slots) (rw (← c.self.view_is) at c.slot_of.ensures) ∙ there.1 in
+    let there = there_in a.ring a.slots.slots c.self.invariant.placed c.args.spot.place (rw (← c.self.view_is) at c.requires.there) in
+    let at = ap (slot_at a.slots.slots) (rw (← c.self.view_is) at c.requires.spot) ∙ there.1 in
     rw (← c.self.view_is) (get_in a.ring a.slots.slots c.self.invariant.placed c.args.spot.place ∙ ap (pane_of c.args.spot.place) there.1 ∙ pane_here c.args.spot.place there.0 ∙ ap (option_map (λ e. e.1)) (sym at) ∙ c.pane.ensures.same)

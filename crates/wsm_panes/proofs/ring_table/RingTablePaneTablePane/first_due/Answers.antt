@@ -9,14 +9,15 @@ use Rattle.wsm_windows.specs.Places.{place_cmp}
 use Rattle.wsm_panes.specs.Ring.{at_slot, IsFirstUntil, IsLastDue}
 use Rattle.wsm_panes.specs.Walk.{place_due, place_found}
 use Rattle.wsm_panes.proofs.Placed.{panes_in}
+use Rattle.wsm_panes.proofs.RingWalk.{spot_has_slot}
 use Rattle.wsm_panes.proofs.DueWalk.{entry_at, nothing_due, first_due_walk}
 use Rattle.wsm_panes.proofs.ring_table.RingTablePaneTablePane.first_due.Goals as goal
 
 pub first_until-found-requires-clause-placed : goal.first_until-found-requires-clause-placed
 first_until-found-requires-clause-placed c = c.self.invariant.placed
 
-pub returns-in_err-last : goal.returns-in_err-last
-returns-in_err-last c =
+pub returns-in_err-last-clause-place : goal.returns-in_err-last-clause-place
+returns-in_err-last-clause-place c =
     let a = c.self.inside in
     let limit : SFits w64 c.args.limit = c.ranges.limit in
     let first : SFits w64 a.first = c.self.invariant.first in
@@ -26,8 +27,8 @@ returns-in_err-last c =
     omega (arith, ints, none e.0.start (c.self.invariant.between _ _ at.1).0, (c.self.invariant.placed _ _ at.1).0.end) in
     ap place_found c.from_residual.ensures ∙ (nothing_due a.ring a.slots.slots c.self.invariant.placed a.first a.last c.args.limit c.self.invariant.between past).0 ∙ ap (λ t. place_due c.args.limit (slice_get (map.entries t.panes) 0)) c.self.view_is
 
-pub returns : goal.returns
-returns c =
+pub returns-clause-place : goal.returns-clause-place
+returns-clause-place c =
     let a = c.self.inside in
     let limit : SFits w64 c.args.limit = c.ranges.limit in
     let first : SFits w64 a.first = c.self.invariant.first in
@@ -35,6 +36,9 @@ returns c =
     let until : SFits w64 c.in_ok-last.last = search rules in
     let is : IsLastDue a.ring a.first a.last c.args.limit (Some c.in_ok-last.last) = rw c.in_ok-last.was at (simp to_z-of_z at c.last_due.ensures) in
     let found : IsFirstUntil a.ring a.slots.slots a.first 0 c.in_ok-last.last (at_slot a.slots.slots c.first_until-found.result) = (simp to_z-of_z at c.first_until-found.ensures.first) in
-    c.spot_in.ensures
+    c.spot_in.ensures.place
     ∙ first_due_walk a.ring a.slots.slots c.self.invariant.placed a.first a.last c.args.limit c.self.invariant.between c.in_ok-last.last is.0 (at_slot a.slots.slots c.first_until-found.result) found
     ∙ ap (λ t. place_due c.args.limit (slice_get (map.entries t.panes) 0)) c.self.view_is
+
+pub returns-clause-spot : goal.returns-clause-spot
+returns-clause-spot c = rw (← c.self.view_is) (spot_has_slot c.self.inside.ring c.self.inside.slots.slots c.self.invariant.placed c.first_until-found.result c.spot_in.result c.spot_in.ensures.place c.spot_in.ensures.at)
