@@ -10,7 +10,7 @@ use Rattle.wsm_program.specs.declared.SectionId.{SectionId}
 use Rattle.wsm_program.specs.declared.SectionId.TheVariants.{Where, Update, Fire}
 use Rattle.wsm_verifier.specs.declared.rejection.Rule.{Rule}
 use Rattle.wsm_verifier.specs.declared.known.Known.{Known}
-use Rattle.wsm_program.specs.Instructions.{next, may_stand, bad_jump, goes_on}
+use Rattle.wsm_program.specs.Instructions.{next, may_stand, bad_jump, goes_on, ends}
 use Rattle.wsm_verifier.specs.Labels.{State, Reached, pops, pushed, along, folded_after}
 use Rattle.wsm_verifier.specs.Rules.{Setting, types_fit, folds_again, may_divide_by_zero, accumulator_leaves, overflows, fold_missing, first_of, tests, fault_of}
 use Rattle.wsm_machine.proofs.FittingStacks.{no}
@@ -56,8 +56,8 @@ plain_leaves n ks i s h = refl
 
 plain_missing : (id : SectionId) (i : Instr) (fs : List Bool) → plain i ≡ true → fold_missing id i fs ≡ false
 plain_missing Update Return fs h = no h
-plain_missing Where i fs h = refl
-plain_missing Fire i fs h = refl
+plain_missing Where i fs h = and-false (ends i)
+plain_missing Fire i fs h = and-false (ends i)
 plain_missing Update i fs h = refl
 
 plain_jumps : (n p : ℕ) (i : Instr) → plain i ≡ true → bad_jump n p i ≡ false

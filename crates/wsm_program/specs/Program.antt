@@ -90,7 +90,9 @@ is_budget b = is_stated b.per_record && (is_stated b.per_pane && is_between 1 MA
 abbrev pub is_same_grid : Shape → Shape → Bool
 is_same_grid (Fixed size) (Fixed other) = int_eq size other
 is_same_grid (Sliding size period) (Sliding other apart) = int_eq size other && int_eq period apart
-is_same_grid _ _ = false
+is_same_grid (Fixed size) _ = false
+is_same_grid (Sliding size period) _ = false
+is_same_grid (Session gap) _ = false
 
 -- lateness is counted from a record's own time, or from the ends of the program's own windows
 abbrev pub is_late_by : Shape → LateBy → Bool

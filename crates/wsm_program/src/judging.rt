@@ -76,7 +76,7 @@ fn is_own_lateness(shape: Shape, late: LateBy) -> bool
         (Shape::Sliding(size, period), LateBy::Window(Shape::Sliding(other, apart))) => {
             size == other && period == apart
         }
-        _ => false,
+        (Shape::Fixed(_) | Shape::Sliding(_, _) | Shape::Session(_), LateBy::Window(_)) => false,
     }
 }
 

@@ -5,15 +5,17 @@ use Rattle.std.proofs.lemmas.List.{get_or-set_other, get_or-set_same, take-appen
 use Rattle.std.proofs.lemmas.Option.{slice_get_within, slice_get-get_or}
 use Rattle.std.specs.Prelude.{nat_eq, nat_lt, slice_get, slice_index_or, option_map}
 use Rattle.std.proofs.Math.Bool.{or-false}
+use Rattle.std.specs.List.{list_any}
 use Rattle.wsm_interval.specs.declared.Interval.{Interval}
 use Rattle.wsm_program.specs.declared.FieldTest.{FieldTest}
 use Rattle.wsm_program.specs.declared.Instr.{Instr}
-use Rattle.wsm_program.specs.declared.Instr.TheVariants.{Jump, JumpIfFalse, Test, Return}
-use Rattle.wsm_program.specs.Instructions.{opposite_test, bad_jump}
+use Rattle.wsm_program.specs.declared.Edges.{Edges}
+use Rattle.wsm_program.specs.declared.Edges.TheVariants.{Nowhere, Next, Target, Either, Tested}
+use Rattle.wsm_program.specs.Instructions.{opposite_test, edges, places, is_bad, target_of}
 use Rattle.wsm_verifier.specs.declared.rejection.Rule.{Rule}
 use Rattle.wsm_verifier.specs.declared.rejection.Rejection.{Rejection}
 use Rattle.wsm_verifier.specs.declared.rejection.Part.TheVariants.{Code}
-use Rattle.wsm_verifier.specs.Labels.{State, Ranges, Label, Unreached, Reached, Visit, label_with, leads, along, narrowed, left_from, carried_to, gathered, label_of, visit, visit_of, visits_back, visits}
+use Rattle.wsm_verifier.specs.Labels.{State, Ranges, Label, Unreached, Reached, Visit, label_with, leads, along, carried, narrowed, left_from, carried_to, gathered, label_of, visit, visit_of, visits_back, visits}
 use Rattle.wsm_verifier.specs.Rules.{Setting, fault_of, fault_at, or_then, first_fault, section_fault, hull_options, value_folded, values_folded}
 use Rattle.wsm_verifier.specs.Turning.{label_in, joined_at, joined_along, joined_by, turned}
 use Rattle.wsm_verifier.proofs.LabelPass.{with_edge, gathered_next, length-visits_back, visits_next}
@@ -72,7 +74,7 @@ branch_at t p u v w labels q more h first other =
     ∙ ap (λ x. with_edge (cond x (Some w) None) (label_in labels q)) (sym (later p q _ more))
 
 -- the edges of a test to places other than the next one carry the same
-by_target : (x : FieldTest) (t p q : ℕ) (s : State) → nat_eq q (suc p) ≡ false → along (Test x t) p q s ≡ along (Test x t) p t s
+by_target : (x : FieldTest) (t p q : ℕ) (s : State) → nat_eq q (suc p) ≡ false → carried (Tested x t) p q s ≡ carried (Tested x t) p t s
 by_target x t p q s h =
     elim (nat_eq t (suc p)) as (λ b. cond b s (cond (nat_eq q (suc p)) (narrowed x s) (narrowed (opposite_test x) s)) ≡ cond b s (cond b (narrowed x s) (narrowed (opposite_test x) s))) [
       | true ↦ refl
@@ -93,32 +95,32 @@ target_within true true e = refl
 target_within true false e = absurd (true≢false e)
 target_within false b e = absurd (true≢false e)
 
-pub jump_within : (x : FieldTest) (t p n : ℕ) → bad_jump n p (Test x t) ≡ false → t < n
+pub jump_within : (x : FieldTest) (t p n : ℕ) → is_bad n p (target_of (Tested x t)) ≡ false → t < n
 jump_within x t p n e = ltb-true t n (target_within (nat_lt p t) (nat_lt t n) e)
 
 -- what a test leaves, where its target is the next place
-pub tested_same : (x : FieldTest) (t p : ℕ) (s : State) (labels : List Label) → t ≡ p + 1 → joined_along (Test x t) p s labels ≡ joined_at t s labels
+pub tested_same : (x : FieldTest) (t p : ℕ) (s : State) (labels : List Label) → t ≡ p + 1 → joined_along (Tested x t) p s labels ≡ joined_at t s labels
 tested_same x t p s labels e =
     let next : suc p ≡ t = omega arith in
     let same : nat_eq t t ≡ true = grind arith in
     rw (next, same) refl
 
 -- and where it is another
-pub tested_apart : (x : FieldTest) (t p n : ℕ) (s : State) (labels : List Label) → n ≡ p + 1 → t ≢ n → joined_along (Test x t) p s labels ≡ joined_at n (narrowed x s) (joined_at t (narrowed (opposite_test x) s) labels)
+pub tested_apart : (x : FieldTest) (t p n : ℕ) (s : State) (labels : List Label) → n ≡ p + 1 → t ≢ n → joined_along (Tested x t) p s labels ≡ joined_at n (narrowed x s) (joined_at t (narrowed (opposite_test x) s) labels)
 tested_apart x t p n s labels e apart =
     let next : suc p ≡ n = omega arith in
     let same : nat_eq n n ≡ true = grind arith in
     let other : nat_eq t n ≡ false = grind arith in
     rw (next, other, same) refl
 
-joined_along-at : (i : Instr) (p : ℕ) (s : State) (labels : List Label) (q : ℕ) → p < q → q < length labels →
-    label_in (joined_along i p s labels) q ≡ with_edge (cond (leads i p q) (Some (along i p q s)) None) (label_in labels q)
-joined_along-at (Jump t) p s labels q more h = joined_at-at t s labels q h ∙ one_edge p q (nat_eq q t) s (label_in labels q) more
-joined_along-at (JumpIfFalse t) p s labels q more h = branch_at t p s s s labels q more h (λ e. refl) (λ e. refl)
-joined_along-at (Test x t) p s labels q more h =
-    branch_at t p (along (Test x t) p (suc p) s) (along (Test x t) p t s) (along (Test x t) p q s) labels q more h (λ e. ap (λ n. along (Test x t) p n s) (eqb-true q (suc p) e)) (by_target x t p q s)
-joined_along-at Return p s labels q more h = sym (no_edge (nat_lt p q) s (label_in labels q))
-joined_along-at _ p s labels q more h = joined_at-at (suc p) s labels q h ∙ one_edge p q (nat_eq q (suc p)) s (label_in labels q) more
+joined_along-at : (e : Edges) (p : ℕ) (s : State) (labels : List Label) (q : ℕ) → p < q → q < length labels →
+    label_in (joined_along e p s labels) q ≡ with_edge (cond (nat_lt p q && list_any (nat_eq q) (places e p)) (Some (carried e p q s)) None) (label_in labels q)
+joined_along-at Nowhere p s labels q more h = sym (no_edge (nat_lt p q) s (label_in labels q))
+joined_along-at Next p s labels q more h = joined_at-at (suc p) s labels q h ∙ one_edge p q (nat_eq q (suc p)) s (label_in labels q) more
+joined_along-at (Target t) p s labels q more h = joined_at-at t s labels q h ∙ one_edge p q (nat_eq q t) s (label_in labels q) more
+joined_along-at (Either t) p s labels q more h = branch_at t p s s s labels q more h (λ e. refl) (λ e. refl)
+joined_along-at (Tested x t) p s labels q more h =
+    branch_at t p (carried (Tested x t) p (suc p) s) (carried (Tested x t) p t s) (carried (Tested x t) p q s) labels q more h (λ e. ap (λ n. carried (Tested x t) p n s) (eqb-true q (suc p) e)) (by_target x t p q s)
 
 nothing : (b : Bool) (l : Label) → l ≡ with_edge (cond b None None) l
 nothing true l = refl
@@ -127,7 +129,7 @@ nothing false l = refl
 joined_by-at : (i : Instr) (p : ℕ) (o : Option State) (labels : List Label) (q : ℕ) → p < q → q < length labels →
     label_in (joined_by i p o labels) q ≡ with_edge (cond (leads i p q) (option_map (along i p q) o) None) (label_in labels q)
 joined_by-at i p None labels q more h = nothing (leads i p q) (label_in labels q)
-joined_by-at i p (Some s) labels q more h = joined_along-at i p s labels q more h
+joined_by-at i p (Some s) labels q more h = joined_along-at (edges i) p s labels q more h
 
 -- a later place gets what the edges of the place carry
 turned-at : (r : Ranges) (p : ℕ) (i : Instr) (labels : List Label) (q : ℕ) → p < q → q < length labels →
@@ -136,18 +138,18 @@ turned-at r p i labels q more h =
     joined_by-at i p (left_from r i (label_in labels p)) (set labels p Unreached) q more (omega (arith, length-set labels p Unreached))
     ∙ ap (with_edge (cond (leads i p q) (option_map (along i p q) (left_from r i (label_in labels p))) None)) (get_or-set_other labels p q Unreached Unreached (omega arith))
 
-joined_along-length : (i : Instr) (p : ℕ) (s : State) (labels : List Label) → length (joined_along i p s labels) ≡ length labels
-joined_along-length (Jump t) p s labels = length-set labels t _
-joined_along-length (JumpIfFalse t) p s labels = length-set (cond (nat_eq t (suc p)) labels (joined_at t s labels)) (suc p) _ ∙ unless-length (nat_eq t (suc p)) t s labels
-joined_along-length (Test x t) p s labels =
-    let other = along (Test x t) p t s in
+joined_along-length : (e : Edges) (p : ℕ) (s : State) (labels : List Label) → length (joined_along e p s labels) ≡ length labels
+joined_along-length Nowhere p s labels = refl
+joined_along-length Next p s labels = length-set labels (suc p) _
+joined_along-length (Target t) p s labels = length-set labels t _
+joined_along-length (Either t) p s labels = length-set (cond (nat_eq t (suc p)) labels (joined_at t s labels)) (suc p) _ ∙ unless-length (nat_eq t (suc p)) t s labels
+joined_along-length (Tested x t) p s labels =
+    let other = carried (Tested x t) p t s in
     length-set (cond (nat_eq t (suc p)) labels (joined_at t other labels)) (suc p) _ ∙ unless-length (nat_eq t (suc p)) t other labels
-joined_along-length Return p s labels = refl
-joined_along-length _ p s labels = length-set labels (suc p) _
 
 joined_by-length : (i : Instr) (p : ℕ) (o : Option State) (labels : List Label) → length (joined_by i p o labels) ≡ length labels
 joined_by-length i p None labels = refl
-joined_by-length i p (Some s) labels = joined_along-length i p s labels
+joined_by-length i p (Some s) labels = joined_along-length (edges i) p s labels
 
 turned-length : (r : Ranges) (p : ℕ) (i : Instr) (labels : List Label) → length (turned r p i labels) ≡ length labels
 turned-length r p i labels = joined_by-length i p (left_from r i (label_in labels p)) (set labels p Unreached) ∙ length-set labels p Unreached

@@ -8,7 +8,8 @@ use Rattle.wsm_windows.specs.declared.Shape.TheVariants.{Fixed, Sliding, Session
 use Rattle.wsm_program.specs.declared.program.Costs.{Costs}
 use Rattle.wsm_windows.specs.Life.{live_bound}
 use Rattle.wsm_program.specs.Program.{Program}
-use Rattle.wsm_program.specs.Instructions.{next}
+use Rattle.wsm_program.specs.declared.Edges.{Edges}
+use Rattle.wsm_program.specs.Instructions.{are_none, edges, places}
 use Rattle.wsm_verifier.specs.Labels.{leads}
 
 -- a path of n places, along edges, from place p of a section to a RET
@@ -39,10 +40,13 @@ one_more (Some n) = Some (suc n)
 abbrev pub way_from : ℕ → List (Option ℕ) → ℕ → Option ℕ
 way_from p later q = cond (nat_lt p q) (slice_index_or later (q - suc p) None) None
 
+-- the longest way along edges from place p
+abbrev pub way_along : ℕ → Edges → List (Option ℕ) → Option ℕ
+way_along p e later = cond (are_none e) (Some 1) (one_more (longest_of (map (way_from p later) (places e p))))
+
 -- the longest way from the instruction at place p
 abbrev pub way_of : ℕ → Instr → List (Option ℕ) → Option ℕ
-way_of p Return later = Some 1
-way_of p i later = one_more (longest_of (map (way_from p later) (next i p)))
+way_of p i later = way_along p (edges i) later
 
 -- the longest way from each place, where the first instruction stands at place p
 abbrev pub ways : ℕ → List Instr → List (Option ℕ)
@@ -60,8 +64,9 @@ windows_of_a_record (Session gap) = 1
 
 -- the steps of a join: one for each accumulator
 abbrev pub join_steps : Shape → ℕ → ℕ
+join_steps (Fixed size) accumulators = 0
+join_steps (Sliding size period) accumulators = 0
 join_steps (Session gap) accumulators = accumulators
-join_steps _ accumulators = 0
 
 abbrev pub needed : Program → Costs
 needed p = record {

@@ -9,7 +9,9 @@ use Rattle.wsm_program.specs.declared.Instr.TheVariants.{PushInt, PushBool, Push
 use Rattle.wsm_program.specs.declared.Operation.{Operation}
 use Rattle.wsm_program.specs.declared.Operation.TheVariants.{Add, Sub, Mul, Div, Rem, Neg, Eq, Ne, Lt, Le, Gt, Ge, Not}
 use Rattle.wsm_program.specs.Instructions as table
-use Rattle.wsm_program.specs.Instructions.{next, opposite_test}
+use Rattle.wsm_program.specs.declared.Edges.{Edges}
+use Rattle.wsm_program.specs.declared.Edges.TheVariants.{Nowhere, Next, Target, Either, Tested}
+use Rattle.wsm_program.specs.Instructions.{edges, next, opposite_test}
 use Rattle.wsm_verifier.specs.declared.known.Known.{Known}
 use Rattle.wsm_verifier.specs.declared.known.Known.TheVariants.{Number, Truth, NameOf}
 use Rattle.wsm_interval.specs.Interval.{interval, add, sub, mul, div, rem, neg, hull}
@@ -75,9 +77,12 @@ pushed r (Test test t) s = Some []
 pushed r (Fold a) s = Some []
 pushed r Return s = Some []
 
+abbrev pub with_folded : Option ℕ → List Bool → List Bool
+with_folded None fs = fs
+with_folded (Some a) fs = slice_set fs a true
+
 abbrev pub folded_after : Instr → List Bool → List Bool
-folded_after (Fold a) fs = slice_set fs a true
-folded_after _ fs = fs
+folded_after i fs = with_folded (table.folds i) fs
 
 -- What an instruction leaves; nothing where arithmetic has no interval.
 -- (Where a rule holds of the instruction, it doesn't matter what is carried: edges lead forward, so the first fault is there or before.)
@@ -92,11 +97,17 @@ narrowed_known t k = k
 abbrev pub narrowed : FieldTest → State → State
 narrowed t s = record s { fields = slice_set s.fields t.field (narrowed_known t (slice_index_or s.fields t.field Truth)) }
 
--- What an edge from the instruction at p to place q carries, of the state that the instruction leaves: that of a test is narrowed, to its target by the opposite test.
--- (Where both edges of a test lead to one place nothing is: the hull of what both leave is all.)
+-- What edges from place p carry to place q, of the state that the instruction leaves: those of a test narrow it, to the target by the opposite test.
+-- (Where both edges of a test lead to one place nothing is narrowed: the hull of what both leave is all.)
+abbrev pub carried : Edges → ℕ → ℕ → State → State
+carried Nowhere p q s = s
+carried Next p q s = s
+carried (Target t) p q s = s
+carried (Either t) p q s = s
+carried (Tested test t) p q s = cond (nat_eq t (suc p)) s (cond (nat_eq q (suc p)) (narrowed test s) (narrowed (opposite_test test) s))
+
 abbrev pub along : Instr → ℕ → ℕ → State → State
-along (Test test t) p q s = cond (nat_eq t (suc p)) s (cond (nat_eq q (suc p)) (narrowed test s) (narrowed (opposite_test test) s))
-along _ p q s = s
+along i p q s = carried (edges i) p q s
 
 abbrev pub same_type : Known → Known → Bool
 same_type (Number x) (Number y) = true

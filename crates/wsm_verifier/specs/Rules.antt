@@ -4,12 +4,10 @@ use Rattle.std.specs.Int.{int_min, int_max}
 use Rattle.std.specs.List.{list_all}
 use Rattle.wsm_interval.specs.declared.Interval.{Interval}
 use Rattle.wsm_program.specs.declared.Instr.{Instr}
-use Rattle.wsm_program.specs.declared.Instr.TheVariants.{Operate, Fold, Return}
 use Rattle.wsm_program.specs.declared.Operands.{Operands}
 use Rattle.wsm_program.specs.declared.Operands.TheVariants as operands
-use Rattle.wsm_program.specs.Operations as operation
 use Rattle.wsm_program.specs.Instructions as table
-use Rattle.wsm_program.specs.Instructions.{may_stand, goes_on, bad_jump, kind_of}
+use Rattle.wsm_program.specs.Instructions.{may_stand, goes_on, bad_jump, is_update, kind_of}
 use Rattle.wsm_program.specs.declared.SectionId.{SectionId}
 use Rattle.wsm_program.specs.declared.SectionId.TheVariants.{Where, Update, Fire}
 use Rattle.wsm_record.specs.declared.Kind.{Kind}
@@ -76,14 +74,16 @@ operands_fit (operands.One t) s = last_is (has_type t) s
 operands_fit operands.Numbers s = last_two numbers s
 operands_fit operands.Alike s = last_two same_type s
 
--- the operands have the types that the instruction takes; RET takes exactly what its section ends with
+-- the operands have the types that the instruction takes; where a section ends, its stack is exactly its result
 abbrev pub types_fit : List Kind → List Known → Instr → List Known → Bool
-types_fit kinds ends Return s = same_types s ends
-types_fit kinds ends i s = operands_fit (table.pops kinds i) s
+types_fit kinds result i s = cond (table.ends i) (same_types s result) (operands_fit (table.pops kinds i) s)
+
+abbrev pub is_folded : Option ℕ → List Bool → Bool
+is_folded None folded = false
+is_folded (Some a) folded = slice_index_or folded a false
 
 abbrev pub folds_again : Instr → List Bool → Bool
-folds_again (Fold a) folded = slice_index_or folded a false
-folds_again _ folded = false
+folds_again i folded = is_folded (table.folds i) folded
 
 abbrev pub has_zero : Known → Known → Bool
 has_zero x (Number y) = holds y (pos 0)
@@ -91,17 +91,19 @@ has_zero x _ = false
 
 -- the divisor's interval has 0 inside
 abbrev pub may_divide_by_zero : Instr → List Known → Bool
-may_divide_by_zero (Operate o) s = operation.divides o && last_two has_zero s
-may_divide_by_zero _ s = false
+may_divide_by_zero i s = table.divides i && last_two has_zero s
 
 -- all records together could take a sum of such values out of 64 bits
 abbrev pub sum_leaves : ℤ → Kind → Known → Bool
 sum_leaves records Sum (Number x) = not (is_i64 (records *ℤ x.lo) && is_i64 (records *ℤ x.hi))
 sum_leaves records _ x = false
 
+abbrev pub fold_leaves : ℤ → List Kind → Option ℕ → List Known → Bool
+fold_leaves records kinds None s = false
+fold_leaves records kinds (Some a) s = last_is (sum_leaves records (kind_of kinds a)) s
+
 abbrev pub accumulator_leaves : ℤ → List Kind → Instr → List Known → Bool
-accumulator_leaves records kinds (Fold a) s = last_is (sum_leaves records (kind_of kinds a)) s
-accumulator_leaves records kinds _ s = false
+accumulator_leaves records kinds i s = fold_leaves records kinds (table.folds i) s
 
 -- a value more than a stack can have
 abbrev pub overflows : List Known → Option (List Known) → ℕ → Bool
@@ -109,8 +111,7 @@ overflows s None popped = false
 overflows s (Some vs) popped = nat_lt (MAX_STACK + popped) (length s + length vs)
 
 abbrev pub fold_missing : SectionId → Instr → List Bool → Bool
-fold_missing Update Return folded = not (list_all (λ b. b) folded)
-fold_missing _ _ folded = false
+fold_missing section i folded = table.ends i && (is_update section && not (list_all (λ b. b) folded))
 
 abbrev pub first_of : List (Rule × Bool) → Option Rule
 first_of [] = None
@@ -196,10 +197,15 @@ abbrev pub last_number : List Known → Option Interval
 last_number (Number x ∷ s) = Some x
 last_number _ = None
 
+abbrev pub value_into : ℕ → Option ℕ → Label → Option Interval
+value_into a None l = None
+value_into a (Some b) Unreached = None
+value_into a (Some b) Differing = None
+value_into a (Some b) (Reached s) = cond (nat_eq a b) (last_number s.stack) None
+
 -- the interval of the number that a place folds into accumulator a
 abbrev pub value_folded : ℕ → Instr → Label → Option Interval
-value_folded a (Fold b) (Reached s) = cond (nat_eq a b) (last_number s.stack) None
-value_folded a _ _ = None
+value_folded a i l = value_into a (table.folds i) l
 
 -- the hull of the numbers folded into accumulator a at all its FOLDs
 abbrev pub values_folded : ℕ → List Visit → Option Interval

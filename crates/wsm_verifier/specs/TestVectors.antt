@@ -4,7 +4,7 @@ use Rattle.wsm_interval.specs.declared.Comparison.{Comparison}
 use Rattle.wsm_interval.specs.declared.Comparison.TheVariants as compare
 use Rattle.wsm_program.specs.declared.Instr.{Instr}
 use Rattle.wsm_program.specs.declared.Instr.TheVariants.{PushInt, PushBool, Field, Acc, Count, Operate, Jump, Test, Fold, Return}
-use Rattle.wsm_program.specs.declared.Operation.TheVariants.{Div, Gt, Lt, Eq}
+use Rattle.wsm_program.specs.declared.Operation.TheVariants.{Div, Gt}
 use Rattle.wsm_program.specs.declared.SectionId.TheVariants.{Where, Update, Fire}
 use Rattle.wsm_record.specs.Schema.{Int}
 use Rattle.wsm_verifier.specs.declared.rejection.Rule.TheVariants as rule

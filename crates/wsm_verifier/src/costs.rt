@@ -41,7 +41,7 @@ fn windows_of_a_record(shape: Shape) -> u64
 {
     match shape {
         Shape::Sliding(size, period) => (size as u64).div_ceil(period as u64),
-        _ => 1,
+        Shape::Fixed(_) | Shape::Session(_) => 1,
     }
 }
 
@@ -52,6 +52,6 @@ fn join_steps(shape: Shape, accumulators: usize) -> u64
 {
     match shape {
         Shape::Session(_) => accumulators as u64,
-        _ => 0,
+        Shape::Fixed(_) | Shape::Sliding(_, _) => 0,
     }
 }

@@ -3,7 +3,7 @@
 
 ghost use Rattle.std.specs.Prelude.{◌≡◌, ℕ, suc, ◌<◌, ◌≤◌, ◌&&◌, false, None, Some, length, nat_eq, replicate, slice_index_or, slice_set, IfOk, IfErr, OnOk};
 ghost use Rattle.wsm_program.specs.Instructions as table;
-ghost use Rattle.wsm_program.specs.declared.Instr.TheVariants.{Test};
+ghost use Rattle.wsm_program.specs.declared.Edges.TheVariants.{Tested};
 ghost use Rattle.wsm_verifier.specs.Labels as spec;
 ghost use Rattle.wsm_verifier.specs.Labels.{Unreached, Reached, visits};
 ghost use Rattle.wsm_verifier.specs.Rules as rules;
@@ -21,7 +21,7 @@ use crate::state::State;
 use std::alloc::{AllocError, Global};
 use std::mem;
 use wsm_interval::Interval;
-use wsm_program::{FieldTest, Instr, SectionId};
+use wsm_program::{Edges, FieldTest, Instr, SectionId};
 
 /// The first fault of a section, or else the hull of the numbers that are folded into each
 /// accumulator.
@@ -101,7 +101,7 @@ fn turn(
     };
     note_fold(folded, instr, &state);
     if let Some(left) = after(setting.ranges, instr, state)? {
-        carry(alloc, labels, place, instr, left)?;
+        carry(alloc, labels, place, instr.edges(), left)?;
     }
     Ok(None)
 }
@@ -125,7 +125,7 @@ fn note_fold(folded: &mut [Option<Interval>], instr: Instr, state: &State)
     ensures folded { (a : ℕ) → a < length folded.old →
         slice_index_or folded.new a None ≡ hull_options (value_folded a instr (Reached state.now)) (slice_index_or folded.old a None) }
 {
-    let Instr::Fold(accumulator) = instr else {
+    let Some(accumulator) = instr.folds() else {
         return;
     };
     let Some(number) = last_number(state.stack()) else {
@@ -164,37 +164,37 @@ fn after(ranges: &Ranges, instr: Instr, mut state: State) -> Result<Option<State
         return Ok(None);
     };
     state.replace(instr.pops(), pushed)?;
-    if let Instr::Fold(accumulator) = instr {
+    if let Some(accumulator) = instr.folds() {
         state.fold(accumulator);
     }
     Ok(Some(state))
 }
 
-// Joins what an instruction leaves to the labels of the places that it can go on to.
+// Joins what an instruction leaves to the labels of the places that its edges lead to.
 fn carry(
     alloc: Global,
     labels: &mut [Label],
     place: usize,
-    instr: Instr,
+    edges: Edges,
     state: State,
 ) -> Result<(), AllocError>
     requires place { place < length labels.old }
-    requires jumps { table.bad_jump (length labels.old) place instr ≡ false }
-    requires ends { (table.goes_on instr && nat_eq (suc place) (length labels.old)) ≡ false }
-    ensures { OnOk result (labels.new ≡ joined_along instr place state labels.old) }
+    requires jumps { table.is_bad (length labels.old) place (table.target_of edges) ≡ false }
+    requires ends { (table.lead_on edges && nat_eq (suc place) (length labels.old)) ≡ false }
+    ensures { OnOk result (labels.new ≡ joined_along edges place state labels.old) }
 {
-    match instr {
-        Instr::Jump(target) => labels[target as usize].join(state),
-        Instr::JumpIfFalse(target) => {
+    match edges {
+        Edges::Nowhere => {}
+        Edges::Next => labels[place + 1].join(state),
+        Edges::Target(target) => labels[target as usize].join(state),
+        Edges::Either(target) => {
             let target = target as usize;
             if target != place + 1 {
                 labels[target].join(state.try_clone(alloc)?);
             }
             labels[place + 1].join(state);
         }
-        Instr::Test(test, target) => carry_tested(alloc, labels, place, test, target, state)?,
-        Instr::Return => {}
-        _ => labels[place + 1].join(state),
+        Edges::Tested(test, target) => carry_tested(alloc, labels, place, test, target, state)?,
     }
     Ok(())
 }
@@ -209,9 +209,9 @@ fn carry_tested(
     mut state: State,
 ) -> Result<(), AllocError>
     requires place { place < length labels.old }
-    requires jumps { table.bad_jump (length labels.old) place (Test test target) ≡ false }
+    requires jumps { table.is_bad (length labels.old) place (table.target_of (Tested test target)) ≡ false }
     requires ends { nat_eq (suc place) (length labels.old) ≡ false }
-    ensures { OnOk result (labels.new ≡ joined_along (Test test target) place state labels.old) }
+    ensures { OnOk result (labels.new ≡ joined_along (Tested test target) place state labels.old) }
 {
     let target = target as usize;
     if target == place + 1 {

@@ -6,7 +6,7 @@ ghost use Rattle.wsm_verifier.specs.Costs as spec;
 ghost use Rattle.wsm_verifier.specs.Costs.{IsLongestPath};
 
 use std::alloc::{AllocError, Global};
-use wsm_program::Instr;
+use wsm_program::{Edges, Instr};
 
 /// The most instructions on a way from a section's first place to its end, or 0 where there is no
 /// way. One pass from the last place back.
@@ -18,25 +18,25 @@ pub(crate) fn longest_path(alloc: Global, code: &[Instr]) -> Result<u64, AllocEr
 {
     let mut ways = vec![in alloc; None; code.len()]?;
     for place in (0..code.len()).rev() {
-        ways[place] = way_of(&ways, place, code[place]);
+        ways[place] = way_along(&ways, place, code[place].edges());
     }
     Ok(ways.first().copied().flatten().unwrap_or(0))
 }
 
-// The longest way from an instruction, where those of later places are known.
-fn way_of(ways: &[Option<u64>], place: usize, instr: Instr) -> Option<u64>
+// The longest way along the edges of a place, where those from later places are known.
+fn way_along(ways: &[Option<u64>], place: usize, edges: Edges) -> Option<u64>
     requires within { place < length ways.now }
     requires short { All (λ way. IfSome way (λ n. n ≤ MAX_SECTION)) ways.now }
-    ensures { result ≡ spec.way_of place instr (drop (place + 1) ways.now) }
+    ensures { result ≡ spec.way_along place edges (drop (place + 1) ways.now) }
 {
-    let longest = match instr {
-        Instr::Return => return Some(1),
-        Instr::Jump(target) => way_from(ways, place, target as usize),
-        Instr::JumpIfFalse(target) | Instr::Test(_, target) => longer(
+    let longest = match edges {
+        Edges::Nowhere => return Some(1),
+        Edges::Next => way_from(ways, place, place + 1),
+        Edges::Target(target) => way_from(ways, place, target as usize),
+        Edges::Either(target) | Edges::Tested(_, target) => longer(
             way_from(ways, place, place + 1),
             way_from(ways, place, target as usize),
         ),
-        _ => way_from(ways, place, place + 1),
     };
     Some(longest? + 1)
 }

@@ -131,9 +131,9 @@ impl Setting<'_> {
 fn folds_again(instr: Instr, folded: &[bool]) -> bool
     ensures { result ≡ rules.folds_again instr folded.now }
 {
-    match instr {
-        Instr::Fold(accumulator) => folded.get(accumulator as usize).copied().unwrap_or(false),
-        _ => false,
+    match instr.folds() {
+        Some(accumulator) => folded.get(accumulator as usize).copied().unwrap_or(false),
+        None => false,
     }
 }
 
@@ -149,10 +149,7 @@ fn overflows(stack: &[Known], pushed: Option<Known>, taken: usize) -> bool
 fn misses_fold(section: SectionId, instr: Instr, folded: &[bool]) -> bool
     ensures { result ≡ rules.fold_missing section instr folded.now }
 {
-    match (section, instr) {
-        (SectionId::Update, Instr::Return) => !are_all(folded),
-        _ => false,
-    }
+    instr.ends() && section == SectionId::Update && !are_all(folded)
 }
 
 fn are_all(folded: &[bool]) -> bool

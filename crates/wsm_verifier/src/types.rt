@@ -51,10 +51,15 @@ fn last_have_one_type(stack: &[Known]) -> bool
 pub(crate) fn may_divide_by_zero(instr: Instr, stack: &[Known]) -> bool
     ensures { result ≡ rules.may_divide_by_zero instr stack.now }
 {
-    match (instr, stack) {
-        (Instr::Operate(operation), [Known::Number(divisor), _, ..]) => {
-            operation.divides() && divisor.holds(0)
-        }
+    instr.divides() && last_may_be_zero(stack)
+}
+
+// Whether the last of two values is a number whose interval has 0 inside.
+fn last_may_be_zero(stack: &[Known]) -> bool
+    ensures { result ≡ rules.last_two rules.has_zero stack.now }
+{
+    match stack {
+        [Known::Number(divisor), _, ..] => divisor.holds(0),
         _ => false,
     }
 }
@@ -76,9 +81,10 @@ fn have_types(operands: Operands, stack: &[Known]) -> bool
 pub(crate) fn fit(kinds: &[Kind], ends: &[Known], instr: Instr, stack: &[Known]) -> bool
     ensures { result ≡ rules.types_fit kinds.now ends.now instr stack.now }
 {
-    match instr {
-        Instr::Return => have_types_of(stack, ends),
-        _ => have_types(instr.operands(kinds), stack),
+    if instr.ends() {
+        have_types_of(stack, ends)
+    } else {
+        have_types(instr.operands(kinds), stack)
     }
 }
 
@@ -86,11 +92,11 @@ pub(crate) fn fit(kinds: &[Kind], ends: &[Known], instr: Instr, stack: &[Known])
 pub(crate) fn sum_may_leave(records: i64, kinds: &[Kind], instr: Instr, stack: &[Known]) -> bool
     ensures { result ≡ rules.accumulator_leaves records kinds.now instr stack.now }
 {
-    match (instr, stack) {
-        (Instr::Fold(accumulator), [value, ..]) => {
+    match (instr.folds(), stack) {
+        (Some(accumulator), [value, ..]) => {
             sum_leaves(records, kind_of(kinds, accumulator), *value)
         }
-        _ => false,
+        (Some(_), []) | (None, _) => false,
     }
 }
 
