@@ -15,12 +15,11 @@ use Rattle.wsm_windows.proofs.LiveWindows.{rising_live}
 use Rattle.wsm_windows.specs.declared.place.Place.{Place}
 use Rattle.wsm_windows.specs.Places.{place_cmp, at}
 use Rattle.wsm_windows.proofs.Places.{tie_is, places_total, places_exact}
-use Rattle.wsm_semantics.specs.Query.{Query, Datum, mark, selected, selection_of}
+use Rattle.wsm_semantics.specs.Query.{Query, Datum, mark, selected, selection_of, datum}
 use Rattle.wsm_semantics.specs.Panes.{places, is_there, contents, held, is_live_at}
 use Rattle.wsm_semantics.specs.Firings.{firings_so_far, is_shown, shows}
 use Rattle.wsm_semantics.specs.StandingFirings.{candidates, standing}
 use Rattle.wsm_semantics.specs.Kept.{Kept, Unfired, alone, with_record, assigned, entered, stands_in, kept}
-use Rattle.wsm_semantics.specs.Replay.{datum}
 use Rattle.wsm_semantics.proofs.Lists.{none_pass}
 use Rattle.wsm_semantics.proofs.Tables.{among, keyed, find-keyed, is_sorted-keyed, kept_of, find-kept, is_sorted-kept, find-held, is_sorted-held}
 use Rattle.wsm_semantics.proofs.Assigned.{IsAssigned, stands, on_grid, own, live_there, tied}
@@ -31,7 +30,8 @@ use Rattle.wsm_semantics.proofs.ShownPanes.{not_shown_yet}
 use Rattle.wsm_semantics.proofs.FiringsSoFar.{PlacesLaw, shows_itself}
 use Rattle.wsm_semantics.proofs.StandingFirings.{joined_unfired, joined_idle, picked, picked-status}
 use Rattle.wsm_semantics.proofs.StandsTurn.{TakesIn, stands-taken, status-taken, status_in}
-use Rattle.wsm_semantics.proofs.KeptTurns.{kept_is, selects_one}
+use Rattle.wsm_semantics.proofs.KeptTurns.{kept_is}
+use Rattle.wsm_semantics.proofs.Effects.{selects_one}
 use Rattle.wsm_semantics.proofs.EventTurns.{EntersPanes}
 
 pub same_shown : (shape : Shape) → IsAssigned shape → (p r : Place) → shows shape p r ≡ true → p ≡ r

@@ -2,7 +2,7 @@
 -- until a pane's end nothing shows its records, so that it fires all of them on time.
 use Rattle.std.proofs.Common.{◌≡◌, ℕ, Bool, true, false, ◌&&◌, ◌||◌, cond, not, List, [], ◌∷◌, length, ℤ, pos, ◌+ℤ◌, ◌≤ℤ◌, Option, Some, None, is_some, refl, sym, ap, subst, ◌∙◌, arith}
 use Rattle.std.proofs.lemmas.Int.{ints}
-use Rattle.std.specs.Prelude.{int_lt, int_le, nat_eq, nat_lt}
+use Rattle.std.specs.Prelude.{int_lt, int_le, nat_lt}
 use Rattle.std.specs.List.{list_any}
 use Rattle.std.proofs.Math.Bool.{and-false}
 use Rattle.wsm_record.specs.declared.words.Mode.{Mode}
@@ -13,14 +13,15 @@ use Rattle.wsm_windows.specs.declared.window.PaneKind.TheVariants.{Early, OnTime
 use Rattle.wsm_windows.specs.Windows.{IsShape}
 use Rattle.wsm_windows.specs.declared.place.Place.{Place}
 use Rattle.wsm_admission.proofs.SourceMarks.{watermark_rises}
-use Rattle.wsm_semantics.specs.Query.{Datum, Query, mark, selected}
+use Rattle.wsm_semantics.specs.Query.{Datum, datum, Query, mark, selected}
 use Rattle.wsm_semantics.specs.Panes.{contents, panes}
-use Rattle.wsm_semantics.specs.Firings.{firings, firing_set, is_enough, is_shown, shows, holds}
+use Rattle.wsm_semantics.specs.Firings.{firings, firing_set, is_enough, is_shown, kind_on, shows, holds}
 use Rattle.wsm_semantics.specs.Order.{Permuted}
 use Rattle.wsm_semantics.proofs.Assigned.{IsAssigned}
 use Rattle.wsm_semantics.proofs.Each.{all_of, all-any, list_any-none}
 use Rattle.wsm_semantics.proofs.AssignedTurns.{same_shown}
-use Rattle.wsm_semantics.proofs.ShownPanes.{unshown_of, kind_of, shown_now}
+use Rattle.wsm_semantics.proofs.ShownPanes.{unshown_of, kind_of, kind-watermark, shown_now}
+use Rattle.wsm_semantics.proofs.Effects.{by_record}
 use Rattle.wsm_semantics.proofs.PanesOrder.{same_contents}
 use Rattle.wsm_semantics.proofs.ReorderedHistories.{same_mark}
 use Rattle.wsm_semantics.proofs.OnTimeOrder.{FiresSame, same_selected}
@@ -47,12 +48,19 @@ gates a b c d h k x y =
 module _ (q : Query) (low : pos 0 ≤ℤ q.clock.lateness) (none : q.early ≡ 0) where
   idle : (past : List Event) (e : Event) (p : Place) (all : List Datum) → int_lt (mark q (e ∷ past)) p.end ≡ true → kind_of q past e p all ≡ None
   idle past (Record k t vs) p all h =
-      ap (λ (o : Option PaneKind). cond (list_any (λ d. nat_eq d.turn (length past)) all) o None) (none_on_record q.early q.late (length (unshown_of q past p all)) (int_lt (mark q past) p.end) h none)
-      ∙ elim (list_any (λ d. nat_eq d.turn (length past)) all) as (λ b. cond {A = Option PaneKind} b None None ≡ None) [ true ↦ refl | false ↦ refl ]
+      let unshown : List Datum = unshown_of q past p all in
+      by_record q past (λ x. kind_on q x p all unshown ≡ None)
+      refl
+      (λ k t vs.
+      let d : Datum = datum (length past) (mark q past) k t vs in
+      ap (λ (o : Option PaneKind). cond (holds d all) o None) (none_on_record q.early q.late (length unshown) (int_lt (mark q past) p.end) h none)
+      ∙ elim (holds d all) as (λ b. cond {A = Option PaneKind} b None None ≡ None) [ true ↦ refl | false ↦ refl ])
+      k t vs
   idle past (Watermark o t) p all h =
       let unshown : List Datum = unshown_of q past p all in
       let new : ℤ = mark q (Watermark o t ∷ past) in
-      gates (int_lt (mark q past) p.end) (int_le p.end new) (int_lt (mark q past) (p.end +ℤ q.clock.lateness)) (int_le (p.end +ℤ q.clock.lateness) new)
+      kind-watermark q past o t p all
+      ∙ gates (int_lt (mark q past) p.end) (int_le p.end new) (int_lt (mark q past) (p.end +ℤ q.clock.lateness)) (int_le (p.end +ℤ q.clock.lateness) new)
       (ended_later new p.end h) (dropped_later new p.end q.clock.lateness low h) (nat_lt 0 (length (firing_set q.mode all unshown))) (nat_lt 0 (length unshown))
 
   before_it : (past : List Event) (e : Event) (end : ℤ) → int_lt (mark q (e ∷ past)) end ≡ true → int_lt (mark q past) end ≡ true

@@ -17,20 +17,20 @@ use Rattle.wsm_windows.specs.declared.window.Shape.TheVariants.{Session}
 use Rattle.wsm_windows.specs.Windows.{window, IsShape}
 use Rattle.wsm_windows.specs.declared.place.Place.{Place}
 use Rattle.wsm_windows.specs.Places.{at, window_of}
-use Rattle.wsm_admission.proofs.SourceMarks.{watermark_rises}
-use Rattle.wsm_semantics.specs.Query.{Datum, Query, mark, raises, verdict_on, selected, selection_of}
+use Rattle.wsm_semantics.specs.Query.{Datum, datum, Query, Effect, mark, raises, verdict_on, selected, selection_of}
 use Rattle.wsm_semantics.specs.Panes.{is_there, stands_in, contents, panes}
-use Rattle.wsm_semantics.specs.Firings.{firings, firings_by, firing_set, is_enough, is_shown, shows, holds, kind_on_watermark}
+use Rattle.wsm_semantics.specs.Firings.{firings, firings_by, firing_set, is_enough, is_shown, shows, holds, kind_on, kind_on_watermark}
 use Rattle.wsm_semantics.specs.Order.{Judged, judged, is_rise, Reordered, Done, Next, Swap, Then, Permuted}
 use Rattle.wsm_semantics.proofs.Lists.{all-each, filter_same}
 use Rattle.wsm_semantics.proofs.Each.{all_of, all-any, all-swap, filter-append, filter-each, filter-filter, list_any-each, list_any-none}
 use Rattle.wsm_semantics.proofs.Within.{new_turn}
 use Rattle.wsm_semantics.proofs.MergedRecords.{selected_falls, holds-filter}
-use Rattle.wsm_semantics.proofs.ShownPanes.{IsPane, each_pane, unshown_of, kind_of, shown_now, not_shown_yet}
+use Rattle.wsm_semantics.proofs.ShownPanes.{IsPane, each_pane, unshown_of, kind_of, kind-watermark, shown_now, not_shown_yet}
 use Rattle.wsm_semantics.proofs.Bags.{Shuffled, Empty, Through, shuffled-sym, same_length, same_filter, same_append, same_after}
 use Rattle.wsm_semantics.proofs.PanesOrder.{contents_of, panes_of, same_contents, there_agrees, same_panes}
-use Rattle.wsm_semantics.proofs.ReorderedHistories.{AreTold, events_of, events_judged, judged_told, reordered_told, mark_by, mark_reordered, mark_is, stays_where, said, said_all, said_reordered, swapped_at, selected_said, selection_by}
-use Rattle.wsm_semantics.proofs.Turns.{idle}
+use Rattle.wsm_semantics.proofs.ReorderedHistories.{AreTold, events_of, events_judged, judged_told, reordered_told, mark_by, mark_reordered, mark_is, said, said_all, said_reordered, swapped_at, selected_said, selection_by}
+use Rattle.wsm_semantics.proofs.Turns.{panes-same}
+use Rattle.wsm_semantics.proofs.Effects.{by_record, effect-down, selects_none}
 use Rattle.wsm_semantics.proofs.OnTimeOrder.{FiresSame}
 
 -- some pane of a bag of records passes
@@ -154,10 +154,15 @@ module _ (q : Query) (ok : IsShape q.shape) where
 
     idle_record : (past : List Event) (k : Option ℕ) (t : ℤ) (vs : List Value) (p : Place) (all : List Datum) → kind_of q past (Record k t vs) p all ≡ None
     idle_record past k t vs p all =
-        ap (λ (o : Option PaneKind). cond (list_any (λ d. nat_eq d.turn (length past)) all) o None)
+        by_record q past (λ x. kind_on q x p all (unshown_of q past p all) ≡ None)
+        refl
+        (λ k t vs.
+        let d : Datum = datum (length past) (mark q past) k t vs in
+        ap (λ (o : Option PaneKind). cond (holds d all) o None)
         ((λ i. cond (int_lt (mark q past) p.end) (cond (is_enough (no_early i) n) (Some Early) None) (cond (is_enough (no_late i) n) (Some Late) None))
         ∙ none_either (int_lt (mark q past) p.end))
-        ∙ none_either (list_any (λ d. nat_eq d.turn (length past)) all)
+        ∙ none_either (holds d all))
+        k t vs
       where
         n : ℕ
         n = length (unshown_of q past p all)
@@ -181,7 +186,8 @@ module _ (q : Query) (ok : IsShape q.shape) where
       risen_kind p =
           let all : List Datum = contents q past p in
           let unshown : List Datum = unshown_of q past p all in
-          ap (λ (m : Mode). is_some (kind_on_watermark q old new p (length (firing_set m all unshown)) (length unshown))) discarding
+          ap is_some (kind-watermark q past o t p all)
+          ∙ ap (λ (m : Mode). is_some (kind_on_watermark q old new p (length (firing_set m all unshown)) (length unshown))) discarding
           ∙ ap (λ (us : List Datum). is_some (kind_on_watermark q old new p (length us) (length us))) (unshown_left past p)
 
       -- a record is shown by it where a pane that fires has it
@@ -189,6 +195,7 @@ module _ (q : Query) (ok : IsShape q.shape) where
           list_any (λ f. shows q.shape (its d) f.place && holds d f.contents) (firings q past w) ≡ is_fired old new (selected q past) (left_of past) d
       shown_at d held_by =
           shown_now q past w (its d) d
+          ∙ ap (list_any (λ x. is_some (kind_of q past w x.0 x.1) && (shows q.shape (its d) x.0 && holds d x.1))) (panes-same q past w (selects_none q past o t))
           ∙ list_any-each (λ x. is_some (kind_of q past w x.0 x.1) && (shows q.shape (its d) x.0 && holds d x.1)) (λ x. fires_of old new (left_of past) x.0 && is_there q x.0 d) (panes q past)
           (all-each (IsPane q past) (λ x. (is_some (kind_of q past w x.0 x.1) && (shows q.shape (its d) x.0 && holds d x.1)) ≡ (fires_of old new (left_of past) x.0 && is_there q x.0 d)) (panes q past)
           (λ x pane.
@@ -203,7 +210,8 @@ module _ (q : Query) (ok : IsShape q.shape) where
 
       left_risen : left_of (w ∷ past) ≡ left_at old new (selected q past) (left_of past)
       left_risen =
-          filter-each (λ d. not (is_shown q (w ∷ past) (its d) d)) (λ d. not (is_shown q past (its d) d) && not (is_fired old new (selected q past) (left_of past) d)) (selected q past)
+          ap (λ (ds : List Datum). filter (λ d. not (is_shown q (w ∷ past) (its d) d)) (ds ++ selected q past)) (selects_none q past o t)
+          ∙ filter-each (λ d. not (is_shown q (w ∷ past) (its d) d)) (λ d. not (is_shown q past (its d) d) && not (is_fired old new (selected q past) (left_of past) d)) (selected q past)
           (all-each (λ d. (r : Place) → holds d (contents q past r) ≡ is_there q r d)
           (λ d. not (is_shown q (w ∷ past) (its d) d) ≡ (not (is_shown q past (its d) d) && not (is_fired old new (selected q past) (left_of past) d)))
           (selected q past)
@@ -235,10 +243,8 @@ module _ (q : Query) (ok : IsShape q.shape) where
               (same_left_at (mark q past) new (selected q past) (said_all q js) (left_of past) kept (selected_said q past) (left_is past)))
           | false ↦ λ down.
               subst (λ (ds : List Datum). Shuffled ds kept)
-              (sym (left_more past w (λ p all.
-              let us : List Datum = unshown_of q past p all in
-              ap (λ (m : ℤ). kind_on_watermark q (mark q past) m p (length (firing_set q.mode all us)) (length us)) (stays_where (mark q past) new (watermark_rises q.clock past w) down)
-              ∙ idle q past (mark q past) p (length (firing_set q.mode all us)) (length us))))
+              (sym (left_more past w (λ p all. ap (λ (x : Effect). kind_on q x p all (unshown_of q past p all)) (effect-down q past o t down))
+              ∙ ap (λ (ds : List Datum). ds ++ left_of past) (selects_none q past o t)))
               (left_is past)
         ] refl
 

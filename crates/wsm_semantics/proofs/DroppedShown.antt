@@ -1,25 +1,25 @@
 -- A place whose end and lateness the watermark came to has shown all of its records: what was unshown
 -- fired when it was dropped, on time or as the final firing. For any mode.
-use Rattle.std.proofs.Common.{◌≡◌, ℕ, suc, Bool, true, false, ◌&&◌, cond, not, List, [], ◌∷◌, ◌++◌, map, length, ℤ, ◌+ℤ◌, Option, Some, None, is_none, refl, sym, ap, subst, ◌∙◌, arith}
+use Rattle.std.proofs.Common.{◌≡◌, ℕ, suc, Bool, true, false, ◌&&◌, cond, not, List, [], ◌∷◌, ◌++◌, map, length, ℤ, ◌+ℤ◌, Option, Some, None, refl, sym, ap, subst, ◌∙◌, arith}
 use Rattle.std.proofs.lemmas.Int.{ints}
 use Rattle.std.proofs.lemmas.Bool.{true≢false, or_left, lt-ltb}
 use Rattle.std.specs.Prelude.{filter, flat_map, int_le, int_lt, nat_lt}
 use Rattle.std.specs.List.{AllByRecursion}
 use Rattle.wsm_record.specs.declared.event.Value.{Value}
 use Rattle.wsm_record.specs.Event.{Event, Record, Watermark}
+use Rattle.wsm_windows.specs.declared.window.PaneKind.{PaneKind}
 use Rattle.wsm_windows.specs.declared.window.PaneKind.TheVariants.{OnTime, Final}
 use Rattle.wsm_windows.specs.Life.{is_due}
 use Rattle.wsm_windows.specs.declared.place.Place.{Place}
 use Rattle.wsm_windows.specs.Places.{at, window_of}
-use Rattle.wsm_admission.specs.declared.verdict.Refusal.{Refusal}
-use Rattle.wsm_semantics.specs.Query.{Query, Datum, SessionsByEvent, mark, verdict_on, selected, selection_of}
+use Rattle.wsm_semantics.specs.Query.{Query, Datum, SessionsByEvent, datum, Nothing, effect_of, mark, verdict_on, selection, selected, selection_of}
 use Rattle.wsm_semantics.specs.Panes.{windows_among, places, is_there, contents, is_live_at}
 use Rattle.wsm_semantics.specs.Firings.{firing_set, is_shown, kind_on_watermark}
-use Rattle.wsm_semantics.specs.Replay.{datum}
 use Rattle.wsm_semantics.proofs.Lists.{all-each}
 use Rattle.wsm_semantics.proofs.Tables.{among}
-use Rattle.wsm_semantics.proofs.KeptTurns.{lives_there, selects_one}
-use Rattle.wsm_semantics.proofs.ShownPanes.{ShowsOwn, unshown_of, unshown_by, unshown-after}
+use Rattle.wsm_semantics.proofs.KeptTurns.{lives_there}
+use Rattle.wsm_semantics.proofs.Effects.{by_effect, selects_one, selects_none, nothing_stays}
+use Rattle.wsm_semantics.proofs.ShownPanes.{ShowsOwn, kind-watermark, unshown_of, unshown_by, unshown-after}
 
 -- a place that is new with a selected record has it
 abbrev pub NewHaveRecord : Query → Type 0
@@ -66,13 +66,20 @@ module _ (q : Query) (timely : SessionsByEvent q) (own : (past : List Event) →
         subst (AllByRecursion (λ d. is_shown q (e ∷ past) p d ≡ true)) (sym same)
         (all-each (λ d. is_shown q past p d ≡ true) (λ d. is_shown q (e ∷ past) p d ≡ true) (contents q past p) (λ d h. or_left _ _ h) shown)
 
-    -- an event that selects nothing and leaves the watermark
-    still : (e : Event) → selection_of q past e ≡ [] → mark q (e ∷ past) ≡ mark q past → DropsShown q (e ∷ past)
-    still e none same p placed dead =
-        later e p (ap (λ (ds : List Datum). filter (is_there q p) (ds ++ selected q past)) none)
-        (before p
-        (ap (among p) (ap (λ (ds : List Datum). flat_map (λ d. map (at d.key) (windows_among q.shape q.clock.lateness (ds ++ selected q past) d)) (ds ++ selected q past)) (sym none)) ∙ placed)
-        (ap (λ (w : ℤ). is_live_at q w p) (sym same) ∙ dead))
+    -- an event that selects nothing leaves the places and their records
+    module _ (e : Event) (none : selection_of q past e ≡ []) where
+      same_contents : (p : Place) → contents q (e ∷ past) p ≡ contents q past p
+      same_contents p = ap (λ (ds : List Datum). filter (is_there q p) (ds ++ selected q past)) none
+
+      placed_before : (p : Place) → among p (places q (e ∷ past)) ≡ true → among p (places q past) ≡ true
+      placed_before p placed = ap (among p) (ap (λ (ds : List Datum). flat_map (λ d. map (at d.key) (windows_among q.shape q.clock.lateness (ds ++ selected q past) d)) (ds ++ selected q past)) (sym none)) ∙ placed
+
+    -- one that does nothing
+    still : (e : Event) → effect_of q past e ≡ Nothing → DropsShown q (e ∷ past)
+    still e none p placed dead =
+        let unselected : selection_of q past e ≡ [] = ap selection none in
+        later e p (same_contents e unselected p)
+        (before p (placed_before e unselected p placed) (ap (λ (w : ℤ). is_live_at q w p) (sym (nothing_stays q past e none)) ∙ dead))
 
     -- a selected record comes into no place that isn't held
     recorded : (k : ℕ) (t : ℤ) (vs : List Value) → verdict_on q past (Record (Some k) t vs) ≡ None → q.selects k vs ≡ true → DropsShown q (Record (Some k) t vs ∷ past)
@@ -92,23 +99,19 @@ module _ (q : Query) (timely : SessionsByEvent q) (own : (past : List Event) →
     risen : (o : Option ℕ) (t : ℤ) → DropsShown q (Watermark o t ∷ past)
     risen o t p placed dead =
         let e : Event = Watermark o t in
-        let all : List Datum = contents q past p in
+        let none : selection_of q past e ≡ [] = selects_none q past o t in
+        let all : List Datum = contents q (e ∷ past) p in
         let left : List Datum = unshown_of q past p all in
         elim (is_live_at q (mark q past) p) as (λ b. is_live_at q (mark q past) p ≡ b → AllShown q (e ∷ past) p) [
           | true ↦ λ live. passed_all (is_shown q (e ∷ past) p) all
               (unshown-after q past e (own (e ∷ past)) p placed
+              ∙ ap (λ (o : Option PaneKind). unshown_by o left) (kind-watermark q past o t p all)
               ∙ last_fires q (mark q past) (mark q (e ∷ past)) p (length (firing_set q.mode all left)) left live dead)
-          | false ↦ λ before_it. later e p refl (before p placed before_it)
+          | false ↦ λ before_it. later e p (same_contents e none p) (before p (placed_before e none p placed) before_it)
         ] refl
 
     after : (e : Event) → DropsShown q (e ∷ past)
-    after (Record None t vs) = still (Record None t vs) refl refl
-    after (Record (Some k) t vs) = by_verdict (verdict_on q past (Record (Some k) t vs)) (q.selects k vs) refl refl where
-      by_verdict : (v : Option Refusal) (b : Bool) → verdict_on q past (Record (Some k) t vs) ≡ v → q.selects k vs ≡ b → DropsShown q (Record (Some k) t vs ∷ past)
-      by_verdict None true taken selects = recorded k t vs taken selects
-      by_verdict None false taken other = still (Record (Some k) t vs) (λ i. cond (is_none (taken i) && other i) (datum (length past) (mark q past) k t vs ∷ []) []) refl
-      by_verdict (Some r) b refused other = still (Record (Some k) t vs) (ap (λ (v : Option Refusal). cond (is_none v && q.selects k vs) (datum (length past) (mark q past) k t vs ∷ []) []) refused) refl
-    after (Watermark o t) = risen o t
+    after = by_effect q past (λ e _. DropsShown q (e ∷ past)) recorded (λ o t _. risen o t) still
 
   pub dropped_shown : (past : List Event) → DropsShown q past
   dropped_shown [] = λ p placed dead. absurd (true≢false (sym placed))

@@ -1,7 +1,7 @@
 -- What a selected record and a watermark leave of what is kept, what they fire, and the
 -- relation: by what was kept of the held panes alone, of any query of which it is known where its
 -- panes are and how a record enters them.
-use Rattle.std.proofs.Common.{◌≡◌, ℕ, Bool, true, false, ◌&&◌, ◌||◌, cond, List, [], ◌∷◌, ◌++◌, map, length, ℤ, pos, ◌+ℤ◌, ◌≤ℤ◌, Option, Some, None, refl, sym, ap, ◌∙◌, arith}
+use Rattle.std.proofs.Common.{◌≡◌, ℕ, Bool, true, false, ◌&&◌, ◌||◌, cond, List, [], ◌∷◌, ◌++◌, map, length, ℤ, pos, ◌+ℤ◌, ◌≤ℤ◌, Option, Some, None, refl, sym, ap, subst, ◌∙◌, arith}
 use Rattle.std.proofs.lemmas.Int.{ints}
 use Rattle.std.proofs.lemmas.Bool.{true≢false, and_parts}
 use Rattle.std.specs.Option.{IfSome}
@@ -13,18 +13,19 @@ use Rattle.wsm_windows.specs.declared.window.PaneKind.{PaneKind}
 use Rattle.wsm_windows.specs.declared.window.PaneKind.TheVariants.{OnTime, Final}
 use Rattle.wsm_windows.specs.declared.place.Place.{Place}
 use Rattle.wsm_admission.proofs.SourceMarks.{watermark_rises}
-use Rattle.wsm_semantics.specs.Query.{Query, Datum, SessionsByEvent, mark, verdict_on, selected}
+use Rattle.wsm_semantics.specs.Query.{Query, Datum, SessionsByEvent, mark, verdict_on, selected, datum}
 use Rattle.wsm_semantics.specs.Panes.{is_there, contents, panes, held, is_live_at}
 use Rattle.wsm_semantics.specs.Firings.{Firing, firings, firings_so_far, firing_set, kind_on_record, shows}
 use Rattle.wsm_semantics.specs.StandingFirings.{is_within, candidates, holds_all, greatest_of, standing}
 use Rattle.wsm_semantics.specs.Relation.{sorted_rows, relation_at}
 use Rattle.wsm_semantics.specs.Kept.{Kept, kept, kept_in, entered, fires, all_fired, stands_by, stands_in, kind_by_record, kind_by_watermark, kept_at_watermark, kept_after_record, fired_by_record, kept_after_watermark, fired_by_watermark, standing_row, relation_of}
-use Rattle.wsm_semantics.specs.Replay.{datum}
 use Rattle.wsm_semantics.proofs.Lists.{filter-all, filter_within, all-each}
+use Rattle.wsm_semantics.proofs.Effects.{selects_one, selects_none}
+use Rattle.wsm_semantics.proofs.Turns.{panes-same}
 use Rattle.wsm_semantics.proofs.Each.{all-any, filter-map, filter_map-each, filter_map-map, itself, passed}
-use Rattle.wsm_semantics.proofs.ShownPanes.{IsPane, each_pane, contents_below, kind_of, unshown_of}
+use Rattle.wsm_semantics.proofs.ShownPanes.{IsPane, each_pane, contents_below, kind_of, kind-selected, kind-watermark, unshown_of}
 use Rattle.wsm_semantics.proofs.FiringsSoFar.{PlacesLaw, shows_key}
-use Rattle.wsm_semantics.proofs.KeptTurns.{kept_by_turn, firings_by_turn, none_of_turn, lives_there, selects_one}
+use Rattle.wsm_semantics.proofs.KeptTurns.{kept_by_turn, firings_by_turn, none_of_turn, lives_there}
 
 -- a selected record is entered into what is kept as into the held panes
 abbrev pub EntersPanes : Query → Type 0
@@ -90,7 +91,8 @@ module _ (q : Query) (low : pos 0 ≤ℤ q.clock.lateness) (timely : SessionsByE
 
     pub record_kind : (x : Place × List Datum) → IsPane q (e ∷ past) x → kind_of q past e x.0 x.1 ≡ by_record x.0 (kept_in q past x).1
     record_kind x pane =
-        ap (λ (b : Bool). cond b (kind_on_record q (mark q past) x.0.end (length (unshown_of q past x.0 x.1))) None)
+        kind-selected q past k t vs taken selects x.0 x.1
+        ∙ ap (λ (b : Bool). cond b (kind_on_record q (mark q past) x.0.end (length (unshown_of q past x.0 x.1))) None)
         (ap (list_any (λ y. nat_eq y.turn (length past))) pane.0 ∙ has_new x.0)
 
     dead_by_record : (x : Place × List Datum) → IsPane q (e ∷ past) x → is_live_at q (mark q past) x.0 ≡ false → kind_of q past e x.0 x.1 ≡ None
@@ -127,7 +129,7 @@ module _ (q : Query) (low : pos 0 ≤ℤ q.clock.lateness) (timely : SessionsByE
     by_watermark p h = kind_by_watermark q (mark q past) new p h
 
     watermark_kind : (x : Place × List Datum) → IsPane q (w ∷ past) x → kind_of q past w x.0 x.1 ≡ by_watermark x.0 (kept_in q past x).1
-    watermark_kind x pane = refl
+    watermark_kind x pane = kind-watermark q past o t x.0 x.1
 
     dead_by_watermark : (x : Place × List Datum) → IsPane q (w ∷ past) x → is_live_at q (mark q past) x.0 ≡ false → kind_of q past w x.0 x.1 ≡ None
     dead_by_watermark x pane dead =
@@ -137,13 +139,17 @@ module _ (q : Query) (low : pos 0 ≤ℤ q.clock.lateness) (timely : SessionsByE
         ∙ (λ i. cond ((not_due old x.0.end q.clock.lateness low dead i && int_le x.0.end new) && nat_lt 0 (length (firing_set q.mode x.1 u))) (Some OnTime)
         (cond ((dead i && int_le (x.0.end +ℤ q.clock.lateness) new) && nat_lt 0 (length u)) (Some Final) None))
 
+    -- the panes are those of before
+    same_panes : panes q (w ∷ past) ≡ panes q past
+    same_panes = panes-same q past w (selects_none q past o t)
+
     -- the held panes that live on
     held_on : held q (w ∷ past) ≡ filter (λ x. is_live_at q new x.0) (held q past)
-    held_on = sym (filter_within (λ x. is_live_at q new x.0) (λ x. is_live_at q (mark q past) x.0) (λ x h. lives_before (mark q past) new q.clock.lateness x.0.end (watermark_rises q.clock past w) h) (panes q past))
+    held_on = ap (filter (λ x. is_live_at q new x.0)) same_panes ∙ sym (filter_within (λ x. is_live_at q new x.0) (λ x. is_live_at q (mark q past) x.0) (λ x h. lives_before (mark q past) new q.clock.lateness x.0.end (watermark_rises q.clock past w) h) (panes q past))
 
     -- what is kept before its drops
     pub kept_before_drops : kept_at_watermark q (mark q past) new (kept q past) ≡ map (kept_in q (w ∷ past)) (held q past)
-    kept_before_drops = sym (kept_by_turn q law past w by_watermark watermark_kind (held q past) (filter-all (IsPane q (w ∷ past)) (λ x. is_live_at q (mark q past) x.0) (panes q past) (each_pane q (w ∷ past))))
+    kept_before_drops = sym (kept_by_turn q law past w by_watermark watermark_kind (held q past) (filter-all (IsPane q (w ∷ past)) (λ x. is_live_at q (mark q past) x.0) (panes q past) (subst (AllByRecursion (IsPane q (w ∷ past))) same_panes (each_pane q (w ∷ past)))))
 
     -- what is kept after it
     pub kept-watermark : kept q (w ∷ past) ≡ kept_after_watermark q (mark q past) new (kept q past)
@@ -154,7 +160,9 @@ module _ (q : Query) (low : pos 0 ≤ℤ q.clock.lateness) (timely : SessionsByE
 
     -- what it fires
     pub firings-watermark : firings q past w ≡ fired_by_watermark q (length past) (mark q past) new (kept q past)
-    firings-watermark = firings_by_turn q law past w by_watermark watermark_kind (is_live_at q (mark q past)) dead_by_watermark
+    firings-watermark =
+        firings_by_turn q law past w by_watermark watermark_kind (is_live_at q (mark q past)) dead_by_watermark
+        ∙ ap (λ (ps : List (Place × List Datum)). fires q (length past) by_watermark (map (kept_in q past) (filter (λ x. is_live_at q (mark q past) x.0) ps))) same_panes
 
     -- the relation at it is the one that the kept panes stand for, after its firings and before its drops
     pub relation-watermark : relation_at q past w ≡ relation_of q (kept_at_watermark q (mark q past) new (kept q past))

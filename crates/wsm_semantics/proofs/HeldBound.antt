@@ -16,11 +16,10 @@ use Rattle.wsm_windows.proofs.Bounds.{enough}
 use Rattle.wsm_windows.specs.declared.place.Place.{Place}
 use Rattle.wsm_windows.specs.Places.{at, window_of}
 use Rattle.wsm_admission.specs.Clock.{IsWithinLimits}
-use Rattle.wsm_semantics.specs.Query.{Query, SessionsByEvent, Datum, mark, verdict_on, selected}
+use Rattle.wsm_semantics.specs.Query.{Query, SessionsByEvent, Datum, mark, verdict_on, selected, datum}
 use Rattle.wsm_semantics.specs.Panes.{places, held}
 use Rattle.wsm_semantics.specs.HeldBounds.{most_panes}
 use Rattle.wsm_semantics.specs.Kept.{kept, kept_in, entered}
-use Rattle.wsm_semantics.specs.Replay.{datum}
 use Rattle.wsm_semantics.proofs.Lists.{filter-all, all-each, length_each}
 use Rattle.wsm_semantics.proofs.Tables.{among, is_sorted-held}
 use Rattle.wsm_semantics.proofs.Assigned.{IsAssigned}

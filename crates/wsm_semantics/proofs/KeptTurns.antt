@@ -1,34 +1,33 @@
--- What is kept after a turn and what fires, of any query: by what was kept of the held panes. What is
--- refused or not selected changes nothing and fires nothing.
-use Rattle.std.proofs.Common.{◌≡◌, ℕ, ◌<◌, Bool, true, false, ◌&&◌, ◌||◌, cond, not, List, [], ◌∷◌, ◌++◌, map, length, ℤ, ◌+ℤ◌, Option, Some, None, is_none, refl, sym, ap, ◌∙◌, append-nil}
+-- What is kept after a turn and what fires, of any query: by what was kept of the held panes. What does
+-- nothing leaves what is kept.
+use Rattle.std.proofs.Common.{◌≡◌, ℕ, ◌<◌, Bool, true, false, ◌&&◌, ◌||◌, not, List, [], ◌∷◌, ◌++◌, map, length, ℤ, ◌+ℤ◌, Option, Some, None, refl, sym, ap, ◌∙◌, append-nil}
 use Rattle.std.proofs.lemmas.Bool.{and_parts}
 use Rattle.std.specs.Prelude.{filter, nat_eq, int_lt}
 use Rattle.std.specs.List.{AllByRecursion, list_any}
 use Rattle.std.proofs.Math.Bool.{or-false}
 use Rattle.wsm_record.specs.declared.event.Value.{Value}
 use Rattle.wsm_record.specs.declared.words.Mode.{Mode}
-use Rattle.wsm_record.specs.Event.{Event, Record, Watermark}
+use Rattle.wsm_record.specs.Event.{Event, Record}
 use Rattle.wsm_windows.specs.declared.window.PaneKind.{PaneKind}
 use Rattle.wsm_windows.specs.declared.place.Place.{Place}
-use Rattle.wsm_admission.specs.declared.verdict.Refusal.{Refusal}
 use Rattle.wsm_windows.specs.declared.window.Shape.{Shape}
 use Rattle.wsm_windows.specs.declared.window.Shape.TheVariants.{Fixed, Sliding, Session}
 use Rattle.wsm_windows.specs.Places.{window_of}
 use Rattle.wsm_admission.specs.declared.clock.LateBy.{LateBy}
 use Rattle.wsm_admission.specs.Clock.{admitted_count, is_late, is_late_by}
 use Rattle.wsm_admission.proofs.Taken.{taken_record}
-use Rattle.wsm_semantics.specs.Query.{Query, Datum, SessionsByEvent, mark, verdict_on, is_taken, selected, selection_of}
+use Rattle.wsm_semantics.specs.Query.{Query, Datum, SessionsByEvent, Nothing, effect_of, selection, mark, verdict_on, datum}
 use Rattle.wsm_semantics.specs.Panes.{places, is_there, stands_in as is_inside, contents, panes, held, is_live_at}
-use Rattle.wsm_semantics.specs.Firings.{Firing, firings, firings_so_far, firing_of, firing_set, holds, is_shown, kind_on_record, shows}
+use Rattle.wsm_semantics.specs.Firings.{Firing, firings, firings_so_far, firing_of, firing_set, holds, is_shown, shows}
 use Rattle.wsm_semantics.specs.StandingFirings.{candidates, greatest_of}
 use Rattle.wsm_semantics.specs.Kept.{Kept, kept, kept_in, fires, fired_kept, all_fired, stands_by, stands_in}
-use Rattle.wsm_semantics.specs.Replay.{datum}
-use Rattle.wsm_semantics.proofs.Lists.{filter-all, all-each, filter_same, filter_map_none}
+use Rattle.wsm_semantics.proofs.Lists.{filter-all, all-each, filter_same}
 use Rattle.wsm_semantics.proofs.Tables.{among, kept_of}
 use Rattle.wsm_semantics.proofs.Each.{all-any, map-each, map-map, filter_map-each, filter_map-filter, filter_map-map, list_any-none}
-use Rattle.wsm_semantics.proofs.MergedRecords.{Below, unlike, selected_below}
+use Rattle.wsm_semantics.proofs.MergedRecords.{Below, unlike}
 use Rattle.wsm_semantics.proofs.LiveRecords.{live_inside}
-use Rattle.wsm_semantics.proofs.Turns.{held-same, refused_selects, refused_stays, firings-held_back}
+use Rattle.wsm_semantics.proofs.Effects.{nothing_stays}
+use Rattle.wsm_semantics.proofs.Turns.{held-same, firings-nothing}
 use Rattle.wsm_semantics.proofs.ShownPanes.{IsPane, each_pane, does, firings_are, kind_of, unshown_of, unshown_by, unshown-after}
 use Rattle.wsm_semantics.proofs.FiringsSoFar.{PlacesLaw, shows_own}
 use Rattle.wsm_semantics.proofs.StandsTurn.{stands-after}
@@ -85,26 +84,15 @@ pub none_of_turn : (n : ℕ) (ds : List Datum) → Below n ds → list_any (λ d
 none_of_turn n ds h = list_any-none (λ d. nat_eq d.turn n) ds (all-each (λ d. d.turn < n) (λ d. nat_eq d.turn n ≡ false) ds (λ d k. unlike d.turn n k) h)
 
 module _ (q : Query) (past : List Event) where
-  -- a record that isn't selected fires nothing
-  pub firings-unselected : (k : Option ℕ) (t : ℤ) (vs : List Value) → selection_of q past (Record k t vs) ≡ [] → firings q past (Record k t vs) ≡ []
-  firings-unselected k t vs none =
-      let e : Event = Record k t vs in
-      firings_are q past e
-      ∙ filter_map-each (does q past e) (λ x. None) (panes q (e ∷ past))
-      (all-each (IsPane q (e ∷ past)) (λ x. does q past e x ≡ None) (panes q (e ∷ past))
-      (λ x is. ap (firing_of (length past) x.0 x.1 (firing_set q.mode x.1 (unshown_of q past x.0 x.1)))
-      (ap (λ (b : Bool). cond b (kind_on_record q (mark q past) x.0.end (length (unshown_of q past x.0 x.1))) None)
-      (ap (list_any (λ d. nat_eq d.turn (length past))) (is.0 ∙ ap (λ (sel : List Datum). filter (is_there q x.0) (sel ++ selected q past)) none)
-      ∙ none_of_turn (length past) (contents q past x.0) (filter-all (λ d. d.turn < length past) (is_there q x.0) (selected q past) (selected_below q past)))))
-      (each_pane q (e ∷ past)))
-      ∙ filter_map_none (λ x. None) (panes q (e ∷ past)) (λ x. refl)
-
-  -- what selects nothing, leaves the watermark and fires nothing leaves what is kept
-  pub kept-same : (e : Event) → selection_of q past e ≡ [] → mark q (e ∷ past) ≡ mark q past → firings q past e ≡ [] → kept q (e ∷ past) ≡ kept q past
-  kept-same e none same silent =
-      ap (map (kept_in q (e ∷ past))) (held-same q past e none same)
+  -- what does nothing leaves what is kept
+  pub kept-nothing : (e : Event) → effect_of q past e ≡ Nothing → kept q (e ∷ past) ≡ kept q past
+  kept-nothing e none =
+      ap (map (kept_in q (e ∷ past))) (held-same q past e (ap selection none) (nothing_stays q past e none))
       ∙ map-each (kept_in q (e ∷ past)) (kept_in q past) (held q past) (all-any (λ x. kept_in q (e ∷ past) x ≡ kept_in q past x) alike (held q past))
     where
+      silent : firings q past e ≡ []
+      silent = firings-nothing q past e none
+
       unshown_alike : (x : Place × List Datum) → unshown_of q (e ∷ past) x.0 x.1 ≡ unshown_of q past x.0 x.1
       unshown_alike x =
           filter_same _ _ (λ d. ap not (ap (λ (fs : List Firing). is_shown q past x.0 d || list_any (λ f. shows q.shape x.0 f.place && holds d f.contents) fs) silent ∙ or-false (is_shown q past x.0 d))) x.1
@@ -117,15 +105,7 @@ module _ (q : Query) (past : List Event) where
       alike : (x : Place × List Datum) → kept_in q (e ∷ past) x ≡ kept_in q past x
       alike x = λ i. (x.0, record { all = x.1; unshown = unshown_alike x i; stands = stands_alike x i })
 
-  pub firings-refused_event : (e : Event) (r : Refusal) → verdict_on q past e ≡ Some r → firings q past e ≡ []
-  firings-refused_event (Record k t vs) r h = firings-unselected k t vs (refused_selects q past (Record k t vs) r h)
-  firings-refused_event (Watermark o t) r h = firings-held_back q past o t (refused_stays q past (Watermark o t) r h)
-
-  -- a refused event leaves what is kept
-  pub kept-refused : (e : Event) (r : Refusal) → verdict_on q past e ≡ Some r → kept q (e ∷ past) ≡ kept q past
-  kept-refused e r h = kept-same e (refused_selects q past e r h) (refused_stays q past e r h) (firings-refused_event e r h)
-
-  -- an admitted record isn't late, and is the one that its event selects where WHERE is true of it
+  -- an admitted record isn't late
   pub comes_in_time : (k : ℕ) (t : ℤ) (vs : List Value) → verdict_on q past (Record (Some k) t vs) ≡ None → is_late q.clock (mark q past) t ≡ false
   comes_in_time k t vs taken = (taken_record q.clock q.declared (mark q past) (admitted_count q.clock q.declared past) (Some k) t vs taken).prompt
 
@@ -140,20 +120,3 @@ module _ (q : Query) (past : List Event) where
     by_shape (Fixed size) is h = (and_parts _ _ h).1
     by_shape (Sliding size period) is h = (and_parts _ _ h).1
     by_shape (Session gap) is h = live_inside (mark q past) t q.clock.lateness (window_of p) (prompt timely gap is k t vs taken) h
-
-  pub selects_one : (k : ℕ) (t : ℤ) (vs : List Value) → verdict_on q past (Record (Some k) t vs) ≡ None → q.selects k vs ≡ true → selection_of q past (Record (Some k) t vs) ≡ datum (length past) (mark q past) k t vs ∷ []
-  selects_one k t vs taken selects i = cond (is_none (taken i) && selects i) (datum (length past) (mark q past) k t vs ∷ []) []
-
-  pub selects_none : (k : ℕ) (t : ℤ) (vs : List Value) → q.selects k vs ≡ false → selection_of q past (Record (Some k) t vs) ≡ []
-  selects_none k t vs h =
-      elim (is_taken q past (Record (Some k) t vs)) as (λ b. cond (b && q.selects k vs) (datum (length past) (mark q past) k t vs ∷ []) [] ≡ []) [
-        | true ↦ ap (λ (b : Bool). cond b (datum (length past) (mark q past) k t vs ∷ []) []) h
-        | false ↦ refl
-      ]
-
-  pub firings-not_selected : (k : ℕ) (t : ℤ) (vs : List Value) → q.selects k vs ≡ false → firings q past (Record (Some k) t vs) ≡ []
-  firings-not_selected k t vs h = firings-unselected (Some k) t vs (selects_none k t vs h)
-
-  -- a record that isn't selected leaves what is kept
-  pub kept-not_selected : (k : ℕ) (t : ℤ) (vs : List Value) → q.selects k vs ≡ false → kept q (Record (Some k) t vs ∷ past) ≡ kept q past
-  kept-not_selected k t vs h = kept-same (Record (Some k) t vs) (selects_none k t vs h) refl (firings-not_selected k t vs h)

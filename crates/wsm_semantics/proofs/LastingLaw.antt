@@ -1,6 +1,6 @@
 -- The law of retracting panes: the pane rows that were written are those that were withdrawn and those of
 -- the firings that last.
-use Rattle.std.proofs.Common.{◌≡◌, ℕ, Bool, true, false, not, List, [], ◌∷◌, ◌++◌, map, length, ℤ, pos, ◌≤ℤ◌, Option, Some, None, refl, sym, ap, subst, ◌∙◌, append-nil, append_assoc}
+use Rattle.std.proofs.Common.{◌≡◌, ℕ, Bool, true, not, List, [], ◌∷◌, ◌++◌, map, length, ℤ, pos, ◌≤ℤ◌, Option, Some, None, refl, sym, ap, subst, ◌∙◌, append-nil, append_assoc}
 use Rattle.std.proofs.lemmas.List.Sorted.{IsPermutation-refl, IsPermutation-trans, IsPermutation-append_comm, IsPermutation-append_left, IsPermutation-append_right}
 use Rattle.std.proofs.lemmas.List.Elements.{filter_map-append}
 use Rattle.std.specs.Prelude.{IsPermutation, filter, filter_map, option_and_then, option_map}
@@ -15,12 +15,10 @@ use Rattle.wsm_windows.specs.declared.window.Shape.TheVariants.{Fixed, Sliding, 
 use Rattle.wsm_windows.specs.Windows.{IsShape}
 use Rattle.wsm_windows.specs.declared.place.Place.{Place}
 use Rattle.wsm_windows.specs.Places.{window_of}
-use Rattle.wsm_admission.specs.declared.verdict.Refusal.{Refusal}
-use Rattle.wsm_admission.specs.declared.verdict.Refusal.TheVariants as refusal
 use Rattle.wsm_admission.proofs.SourceMarks.{watermark_rises}
 use Rattle.wsm_semantics.specs.declared.out_row.OutRow.{OutRow}
 use Rattle.wsm_semantics.specs.declared.out_row.OutRow.TheVariants.{Pane}
-use Rattle.wsm_semantics.specs.Query.{Query, Datum, SessionsByEvent, mark, verdict_on, selection_of}
+use Rattle.wsm_semantics.specs.Query.{Query, Datum, SessionsByEvent, datum, Nothing, effect_of, mark, verdict_on, selection}
 use Rattle.wsm_semantics.specs.Panes.{panes, held, is_live_at}
 use Rattle.wsm_semantics.specs.Firings.{Firing, firings, firings_so_far, row_of, pane_rows}
 use Rattle.wsm_semantics.specs.StandingFirings.{standing}
@@ -28,14 +26,13 @@ use Rattle.wsm_semantics.specs.Retractions.{standing_for, panes_before_drops, wr
 use Rattle.wsm_semantics.specs.Relation.{chosen_rows, streamed, turn_rows}
 use Rattle.wsm_semantics.specs.LastingRows.{rows_so_far, shown_by, withdrawn_by, standing_dropped, stood_at_drop, lasting}
 use Rattle.wsm_semantics.specs.Kept.{kept, kept_in, entered, stands_in, written_by, all_fired, kind_by_record, kind_by_watermark, fired_by_record, fired_by_watermark, withdrawn_entering, withdrawn_firing}
-use Rattle.wsm_semantics.specs.Replay.{datum}
 use Rattle.wsm_semantics.proofs.Lists.{filter_within}
 use Rattle.wsm_semantics.proofs.Assigned.{IsAssigned}
 use Rattle.wsm_semantics.proofs.Each.{all-any, filter_map-each, filter_map-map}
-use Rattle.wsm_semantics.proofs.Turns.{panes-same, refused_selects}
-use Rattle.wsm_semantics.proofs.KeptTurns.{firings-refused_event, firings-not_selected, selects_none}
+use Rattle.wsm_semantics.proofs.Effects.{by_effect, selects_none}
+use Rattle.wsm_semantics.proofs.Turns.{panes-same, firings-nothing}
 use Rattle.wsm_semantics.proofs.EventTurns.{kept-record, firings-record, kept_before_drops, firings-watermark, lives_before}
-use Rattle.wsm_semantics.proofs.Withdrawn.{filter_map-filter_map, written-standing, written_withdrawn, withdrawn-silent, withdrawn-watermark}
+use Rattle.wsm_semantics.proofs.Withdrawn.{filter_map-filter_map, written-standing, written_withdrawn, withdrawn-nothing, withdrawn-watermark}
 use Rattle.wsm_semantics.proofs.WithdrawnAssigned.{none_entering, stood-assigned}
 use Rattle.wsm_semantics.proofs.WithdrawnSessions.{of_both, stood-session}
 use Rattle.wsm_semantics.proofs.KeptLaw.{places, enters, gap_is_long, withdraws}
@@ -69,15 +66,16 @@ module _ (q : Query) (ok : IsShape q.shape) (timely : SessionsByEvent q) (low : 
   abbrev Balances : List Event → Event → Type 0
   Balances past e = IsPermutation (before past ++ of_firings q (firings q past e)) (written_withdrawn q past e ++ now past e)
 
-  silent_turn : (past : List Event) (e : Event) → selection_of q past e ≡ [] → firings q past e ≡ [] → Balances past e
-  silent_turn past e none quiet =
+  silent_turn : (past : List Event) (e : Event) → effect_of q past e ≡ Nothing → Balances past e
+  silent_turn past e none =
+      let quiet : firings q past e ≡ [] = firings-nothing q past e none in
       let all : firings_so_far q (e ∷ past) ≡ firings_so_far q past = ap (λ (fs : List Firing). firings_so_far q past ++ fs) quiet ∙ append-nil (firings_so_far q past) in
       let stays : standing_for q (e ∷ past) (panes_before_drops q past e) ≡ standing_for q past (held q past) =
-      (λ i. filter_map (λ p. standing q (all i) p.0 p.1) (filter (λ p. is_live_at q (mark q past) p.0) (panes-same q past e none i))) in
+      (λ i. filter_map (λ p. standing q (all i) p.0 p.1) (filter (λ p. is_live_at q (mark q past) p.0) (panes-same q past e (ap selection none) i))) in
       same_bag (before past ++ of_firings q (firings q past e)) (written_withdrawn q past e ++ now past e)
       (ap (λ (fs : List Firing). before past ++ of_firings q fs) quiet
       ∙ append-nil (before past)
-      ∙ sym (λ i. withdrawn-silent q (places q ok timely) past e none quiet i ++ of_firings q (stays i)))
+      ∙ sym (λ i. withdrawn-nothing q (places q ok timely) past e none i ++ of_firings q (stays i)))
 
   of_assigned : (past : List Event) (k : ℕ) (t : ℤ) (vs : List Value) → verdict_on q past (Record (Some k) t vs) ≡ None → q.selects k vs ≡ true → IsAssigned q.shape →
       let d = datum (length past) (mark q past) k t vs in IsPermutation (stood q (kept q past)) (withdrawn_entering q q.shape d (kept q past) ++ stood q (entered q.shape q.clock.lateness d (kept q past)))
@@ -122,17 +120,11 @@ module _ (q : Query) (ok : IsShape q.shape) (timely : SessionsByEvent q) (low : 
       subst (λ (xs : Written). IsPermutation xs (written_withdrawn q past e ++ now past e))
       (sym (λ i. rows_standing q past (held q past) i ++ of_firings q (firings-watermark q low timely (places q ok timely) past o t i)))
       (subst (IsPermutation (stood q (kept q past) ++ of_firings q fires))
-      (sym (λ i. withdrawn-watermark q (places q ok timely) past o t i ++ (rows_standing q (e ∷ past) (held q past) ∙ ap (stood q) (sym (kept_before_drops q low timely (places q ok timely) past o t))) i))
+      (sym (λ i. withdrawn-watermark q (places q ok timely) past o t i ++ (ap (λ (ps : List (Place × List Datum)). of_firings q (standing_for q (e ∷ past) (filter (λ x. is_live_at q (mark q past) x.0) ps))) (panes-same q past e (selects_none q past o t)) ∙ rows_standing q (e ∷ past) (held q past) ∙ ap (stood q) (sym (kept_before_drops q low timely (places q ok timely) past o t))) i))
       (fired_bag q (length past) kind (kept q past)))
 
-  balances : (past : List Event) (e : Event) (v : Option Refusal) → verdict_on q past e ≡ v → Balances past e
-  balances past (Record None t vs) v is = silent_turn past (Record None t vs) refl (firings-refused_event q past (Record None t vs) refusal.UnknownKey refl)
-  balances past (Record (Some k) t vs) None taken = pick (q.selects k vs) refl where
-    pick : (b : Bool) → q.selects k vs ≡ b → Balances past (Record (Some k) t vs)
-    pick true selects = record_turn past k t vs taken selects
-    pick false other = silent_turn past (Record (Some k) t vs) (selects_none q past k t vs other) (firings-not_selected q past k t vs other)
-  balances past (Record (Some k) t vs) (Some r) refused = silent_turn past (Record (Some k) t vs) (refused_selects q past (Record (Some k) t vs) r refused) (firings-refused_event q past (Record (Some k) t vs) r refused)
-  balances past (Watermark o t) v is = watermark_turn past o t
+  balances : (past : List Event) (e : Event) → Balances past e
+  balances past = by_effect q past (λ e _. Balances past e) (record_turn past) (λ o t _. watermark_turn past o t) (silent_turn past)
 
   -- ---- what is dropped
 
@@ -210,7 +202,7 @@ module _ (q : Query) (ok : IsShape q.shape) (timely : SessionsByEvent q) (low : 
         subst (λ (xs : Written). IsPermutation (xs ++ fs) (ws ++ lasts (e ∷ past))) (sym left)
         (subst (λ (xs : Written). IsPermutation ((ds ++ ss) ++ fs) (ws ++ xs)) (sym right)
         (IsPermutation-trans ((ds ++ ss) ++ fs) (ws ++ (ds ++ ns)) (ws ++ (ds ++ (gone ++ still)))
-        (sum_up ds ss fs ws ns (balances past e (verdict_on q past e) refl))
+        (sum_up ds ss fs ws ns (balances past e))
         (IsPermutation-append_right ws (ds ++ ns) (ds ++ (gone ++ still)) (IsPermutation-append_right ds ns (gone ++ still) (drops past e)))))
 
     -- the pane rows are those that were withdrawn and those that last

@@ -1,5 +1,6 @@
 pub mod Lists
 pub mod Tables
+pub mod Effects
 pub mod Turns
 pub mod Assigned
 pub mod AssignedStep

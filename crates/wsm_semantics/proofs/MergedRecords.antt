@@ -1,16 +1,17 @@
 -- Selected records, the newest first: no two came on one turn, so parts of them are put together by
 -- turn.
-use Rattle.std.proofs.Common.{◌≡◌, ℕ, suc, ◌<◌, Bool, true, false, ◌&&◌, ◌||◌, cond, List, [], ◌∷◌, ◌++◌, length, ◌⊎◌, inl, inr, Some, None, refl, sym, ap, subst, ◌∙◌, arith}
+use Rattle.std.proofs.Common.{◌≡◌, ℕ, suc, ◌<◌, Bool, true, false, ◌||◌, cond, List, [], ◌∷◌, ◌++◌, length, ◌⊎◌, inl, inr, refl, sym, ap, subst, ◌∙◌, arith}
 use Rattle.std.proofs.lemmas.Bool.Decides.{nat_tests}
 use Rattle.std.specs.Prelude.{filter, nat_eq, nat_lt}
 use Rattle.std.specs.List.{AllByRecursion}
 use Rattle.std.proofs.lemmas.Bool.{lt-ltb}
-use Rattle.wsm_record.specs.Event.{Event, Record, Watermark}
-use Rattle.wsm_semantics.specs.Query.{Query, Datum, mark, is_taken, selected, selection_of}
+use Rattle.wsm_record.specs.Event.{Event}
+use Rattle.wsm_semantics.specs.Query.{Query, Datum, datum, selection, mark, selected, selection_of}
 use Rattle.wsm_semantics.specs.Firings.{holds}
 use Rattle.wsm_semantics.specs.Kept.{with_datum, merged}
 use Rattle.wsm_semantics.proofs.Lists.{filter-all, all-each}
 use Rattle.wsm_semantics.proofs.Each.{all-both, itself}
+use Rattle.wsm_semantics.proofs.Effects.{by_effect}
 
 -- all came before a turn
 abbrev pub Below : ℕ → List Datum → Type 0
@@ -23,14 +24,11 @@ AreFalling (d ∷ ds) = Below d.turn ds × AreFalling ds
 
 -- an event selects nothing or one record of its turn
 pub one_or_none : (q : Query) (past : List Event) (e : Event) → (selection_of q past e ≡ []) ⊎ ((d : Datum) × (d.turn ≡ length past) × (selection_of q past e ≡ d ∷ []))
-one_or_none q past (Record None t vs) = inl refl
-one_or_none q past (Record (Some k) t vs) =
-    let d : Datum = record { turn = length past; mark = mark q past; key = k; time = t; values = vs } in
-    elim (is_taken q past (Record (Some k) t vs) && q.selects k vs) as (λ b. (cond b (d ∷ []) [] ≡ []) ⊎ ((x : Datum) × (x.turn ≡ length past) × (cond b (d ∷ []) [] ≡ x ∷ []))) [
-      | true ↦ inr (d, refl, refl)
-      | false ↦ inl refl
-    ]
-one_or_none q past (Watermark o t) = inl refl
+one_or_none q past =
+    by_effect q past (λ e x. (selection x ≡ []) ⊎ ((d : Datum) × (d.turn ≡ length past) × (selection x ≡ d ∷ [])))
+    (λ k t vs _ _. inr (datum (length past) (mark q past) k t vs, refl, refl))
+    (λ o t _. inl refl)
+    (λ e _. inl refl)
 
 later : (n : ℕ) (ds : List Datum) → Below n ds → Below (suc n) ds
 later n ds h = all-each (λ x. x.turn < n) (λ x. x.turn < suc n) ds (λ x k. omega arith) h

@@ -1,25 +1,28 @@
 -- What a watermark fires on time after two histories of which one is the other in another order: the
 -- same, where each pane that comes to its end fires the same bag of records.
 use Rattle.std.proofs.Common.{◌≡◌, ℕ, Bool, true, false, ◌&&◌, cond, List, [], ◌∷◌, map, length, ℤ, ◌+ℤ◌, Option, Some, None, refl, sym, ap, subst, ◌∙◌}
-use Rattle.std.specs.Prelude.{filter, filter_map, option_map, int_lt, int_le, nat_lt, nat_eq}
-use Rattle.std.specs.List.{AllByRecursion, cons_option, list_any}
+use Rattle.std.specs.Prelude.{filter, filter_map, option_map, int_lt, int_le, nat_lt}
+use Rattle.std.specs.List.{AllByRecursion, cons_option}
 use Rattle.wsm_record.specs.declared.event.Value.{Value}
 use Rattle.wsm_record.specs.Event.{Event, Record, Watermark}
 use Rattle.wsm_record.specs.declared.words.Mode.{Mode}
 use Rattle.wsm_record.specs.declared.words.Mode.TheVariants.{Discarding, Accumulating, Retracting}
+use Rattle.wsm_windows.specs.declared.window.PaneKind.{PaneKind}
 use Rattle.wsm_windows.specs.declared.window.PaneKind.TheVariants.{Early, OnTime, Late, Final}
 use Rattle.wsm_windows.specs.Life.{is_due}
 use Rattle.wsm_windows.specs.Windows.{IsShape}
 use Rattle.wsm_windows.specs.declared.place.Place.{Place}
 use Rattle.wsm_windows.specs.Places.{window_of}
 use Rattle.wsm_semantics.specs.declared.out_row.OutRow.TheVariants.{Pane}
-use Rattle.wsm_semantics.specs.Query.{Datum, Query, mark, selected}
+use Rattle.wsm_semantics.specs.Query.{Datum, datum, Query, mark, selected}
 use Rattle.wsm_semantics.specs.Panes.{contents, panes}
-use Rattle.wsm_semantics.specs.Firings.{Firing, firing_of, firing_set, is_enough, row_of}
+use Rattle.wsm_semantics.specs.Firings.{Firing, firing_of, firing_set, holds, is_enough, kind_on, row_of}
 use Rattle.wsm_semantics.specs.Order.{judged, Permuted, IgnoresOrder, is_on_time, on_time, all_rises, InPairs, SameFiring, SameOnTime, OrderLaw}
 use Rattle.wsm_semantics.proofs.Lists.{all-each, filter_map_none}
 use Rattle.wsm_semantics.proofs.Each.{filter_map-map}
-use Rattle.wsm_semantics.proofs.ShownPanes.{IsPane, each_pane, unshown_of, does, firings_are}
+use Rattle.wsm_semantics.proofs.ShownPanes.{IsPane, each_pane, unshown_of, does, firings_are, kind-watermark}
+use Rattle.wsm_semantics.proofs.Effects.{by_record, selects_none}
+use Rattle.wsm_semantics.proofs.Turns.{panes-same}
 use Rattle.wsm_semantics.proofs.Bags.{Shuffled, Through, shuffled-sym, same_length, same_bag}
 use Rattle.wsm_semantics.proofs.PanesOrder.{same_contents, same_panes}
 use Rattle.wsm_semantics.proofs.ReorderedHistories.{same_mark, same_mark_after, judged_told, said_all, said_reordered, selected_said, SameRises, same_rises, pairs_each}
@@ -89,12 +92,12 @@ picks n false false p all set = refl
 on_time_is : (q : Query) (past : List Event) (o : Option ℕ) (t : ℤ) → on_time q past (Watermark o t) ≡ filter_map (timely q past (Watermark o t)) (panes q past)
 on_time_is q past o t =
     let w : Event = Watermark o t in
-    ap (filter (λ f. is_on_time f.kind)) (firings_are q past w)
+    ap (filter (λ f. is_on_time f.kind)) (firings_are q past w ∙ ap (filter_map (does q past w)) (panes-same q past w (selects_none q past o t)))
     ∙ filter-filter_map (λ f. is_on_time f.kind) (does q past w) (panes q past)
-    ∙ ap (λ (g : Place × List Datum → Option Firing). filter_map g (panes q past)) (λ i x. picks (length past)
+    ∙ ap (λ (g : Place × List Datum → Option Firing). filter_map g (panes q past)) (λ i x. (ap (λ (k : Option PaneKind). kept_if (λ f. is_on_time f.kind) (firing_of (length past) x.0 x.1 (set_of q past x) k)) (kind-watermark q past o t x.0 x.1) ∙ picks (length past)
     (is_due (window_of x.0) (mark q past) (mark q (w ∷ past)) && nat_lt 0 (length (set_of q past x)))
     ((int_lt (mark q past) (x.0.end +ℤ q.clock.lateness) && int_le (x.0.end +ℤ q.clock.lateness) (mark q (w ∷ past))) && nat_lt 0 (length (unshown_of q past x.0 x.1)))
-    x.0 x.1 (set_of q past x) i)
+    x.0 x.1 (set_of q past x)) i)
 
 -- a record fires nothing on time
 not_on_time : (n : ℕ) (has later early late : Bool) (p : Place) (all set : List Datum) →
@@ -110,9 +113,12 @@ none_on_time q past k t vs =
     let e : Event = Record k t vs in
     ap (filter (λ f. is_on_time f.kind)) (firings_are q past e)
     ∙ filter-filter_map (λ f. is_on_time f.kind) (does q past e) (panes q (e ∷ past))
-    ∙ filter_map_none (λ x. kept_if (λ f. is_on_time f.kind) (does q past e x)) (panes q (e ∷ past)) (λ x. not_on_time (length past)
-    (list_any (λ d. nat_eq d.turn (length past)) x.1) (int_lt (mark q past) x.0.end)
-    (is_enough q.early (length (unshown_of q past x.0 x.1))) (is_enough q.late (length (unshown_of q past x.0 x.1))) x.0 x.1 (set_of q past x))
+    ∙ filter_map_none (λ x. kept_if (λ f. is_on_time f.kind) (does q past e x)) (panes q (e ∷ past)) (λ x.
+    let unshown : List Datum = unshown_of q past x.0 x.1 in
+    by_record q past (λ y. kept_if (λ f. is_on_time f.kind) (firing_of (length past) x.0 x.1 (set_of q past x) (kind_on q y x.0 x.1 unshown)) ≡ None)
+    refl
+    (λ k t vs. not_on_time (length past) (holds (datum (length past) (mark q past) k t vs) x.1) (int_lt (mark q past) x.0.end) (is_enough q.early (length unshown)) (is_enough q.late (length unshown)) x.0 x.1 (set_of q past x))
+    k t vs)
 
 both_timely : (m n : ℕ) (later by : Bool) (p : Place) (all set all_other set_other : List Datum) → Shuffled all all_other → (later ≡ true → Shuffled set set_other) →
     BothOr SameFiring (timely_by m (later && by) p all set) (timely_by n (later && by) p all_other set_other)

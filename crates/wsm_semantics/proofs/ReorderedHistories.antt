@@ -2,15 +2,16 @@
 -- bag, and the rises of the watermark pair by pair.
 use Rattle.std.proofs.Common.{◌≡◌, ℕ, Bool, true, false, ◌&&◌, cond, List, [], ◌∷◌, ◌++◌, map, length, ℤ, ◌≤ℤ◌, Some, None, is_none, refl, sym, ap, subst, ◌∙◌, arith}
 use Rattle.std.proofs.lemmas.Int.{ints, clamps}
-use Rattle.std.specs.Prelude.{int_lt, if◌then◌else◌}
+use Rattle.std.specs.Prelude.{if◌then◌else◌}
 use Rattle.std.specs.Int.{int_max}
 use Rattle.std.specs.List.{range_with_len}
 use Rattle.wsm_record.specs.Event.{Event, Record, Watermark}
 use Rattle.wsm_admission.specs.declared.clock.Clock.{Clock}
 use Rattle.wsm_admission.specs.Clock.{is_source, is_time, source_mark, least}
 use Rattle.wsm_admission.proofs.SourceMarks.{watermark_rises}
-use Rattle.wsm_semantics.specs.Query.{Datum, Query, mark, raises, verdict_on, is_taken, selected, selection_of}
+use Rattle.wsm_semantics.specs.Query.{Datum, Query, Selects, Nothing, mark, raises, verdict_on, is_taken, selected, selection, selection_of}
 use Rattle.wsm_semantics.specs.Order.{Judged, judged, is_rise, Reordered, Done, Next, Swap, Then, Permuted, all_rises, InPairs}
+use Rattle.wsm_semantics.proofs.Effects.{down_stays, selects_none}
 use Rattle.wsm_semantics.proofs.Bags.{Shuffled, Empty, With, Swapped, Through, shuffled-itself, same_append, same_after}
 
 pub reordered-itself : (xs : List Judged) → Reordered xs xs
@@ -68,9 +69,6 @@ mark_by q xs = mark q (events_of xs)
 pub mark_reordered : (q : Query) (xs ys : List Judged) → Reordered xs ys → mark_by q xs ≡ mark_by q ys
 mark_reordered q xs ys r = λ i. least (map (λ s. source_reordered q.clock s xs ys r i) (range_with_len 0 q.clock.sources))
 
-pub stays_where : (m n : ℤ) → m ≤ℤ n → int_lt m n ≡ false → n ≡ m
-stays_where m n h k = grind (arith, ints)
-
 between : (m n o : ℤ) → m ≤ℤ n → n ≤ℤ o → o ≡ m → n ≡ m
 between m n o h k e = omega (arith, ints)
 
@@ -95,7 +93,7 @@ module _ (q : Query) where
   pub judged_told : (past : List Event) → AreTold (judged q past)
   judged_told [] = tt
   judged_told (e ∷ past) = (
-    λ down. sym (ap (λ es. mark q (e ∷ es)) (sym (events_judged q past))) ∙ stays_where (mark q past) (mark q (e ∷ past)) (watermark_rises q.clock past e) down ∙ mark_is past,
+    λ down. sym (ap (λ es. mark q (e ∷ es)) (sym (events_judged q past))) ∙ down_stays q past e down ∙ mark_is past,
     judged_told past,
   )
 
@@ -167,11 +165,11 @@ module _ (q : Query) where
   selection_said past (Record (Some k) t vs) up =
       let d : Datum = record { turn = length past; mark = mark q past; key = k; time = t; values = vs } in
       let s : Datum = record { turn = 0; mark = mark q past; key = k; time = t; values = vs } in
-      elim (is_taken q past (Record (Some k) t vs) && q.selects k vs) as (λ b. Shuffled (cond b (d ∷ []) []) (cond b (s ∷ []) [])) [
+      elim (is_taken q past (Record (Some k) t vs) && q.selects k vs) as (λ b. Shuffled (selection (cond b (Selects d) Nothing)) (cond b (s ∷ []) [])) [
         | true ↦ With d s [] [] refl refl refl refl Empty
         | false ↦ Empty
       ]
-  selection_said past (Watermark o t) up = Empty
+  selection_said past (Watermark o t) up = subst (λ (ds : List Datum). Shuffled ds []) (sym (selects_none q past o t)) Empty
 
   -- at the watermark by the events
   pub selection_by : (past : List Event) (e : Event) (up : Bool) → Shuffled (selection_of q past e) (said (mark_by q (judged q past)) (e, verdict_on q past e, up))

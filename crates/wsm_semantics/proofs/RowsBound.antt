@@ -1,6 +1,6 @@
 -- How many firings and rows a turn has, whatever the shape of windows, the mode, the triggers and the
 -- form: at most as many as panes can be held, and where panes retract twice as many rows.
-use Rattle.std.proofs.Common.{◌≡◌, ℕ, suc, ◌+◌, ◌≤◌, Bool, true, false, cond, List, [], ◌∷◌, ◌++◌, map, length, ℤ, Option, Some, None, refl, sym, ap, subst, ◌∙◌, arith, length-append}
+use Rattle.std.proofs.Common.{◌≡◌, ℕ, suc, ◌+◌, ◌≤◌, true, false, cond, List, [], ◌∷◌, ◌++◌, map, length, ℤ, Option, Some, None, refl, sym, ap, subst, ◌∙◌, arith, length-append}
 use Rattle.std.specs.Prelude.{filter_map, not}
 use Rattle.std.specs.List.{cons_option, list_any}
 use Rattle.std.specs.Ordering.{is_gt, is_eq}
@@ -14,12 +14,10 @@ use Rattle.wsm_record.specs.Event.{Event, Record, Watermark}
 use Rattle.wsm_windows.specs.Windows.{IsShape}
 use Rattle.wsm_windows.specs.declared.place.Place.{Place}
 use Rattle.wsm_windows.specs.Places.{place_cmp}
-use Rattle.wsm_admission.specs.declared.verdict.Refusal.{Refusal}
-use Rattle.wsm_admission.specs.declared.verdict.Refusal.TheVariants as refusal
 use Rattle.wsm_admission.specs.Clock.{IsWithinLimits}
 use Rattle.wsm_semantics.specs.declared.out_row.OutRow.{OutRow}
 use Rattle.wsm_semantics.specs.declared.out_row.OutRow.TheVariants.{Istream, Dstream, Rstream}
-use Rattle.wsm_semantics.specs.Query.{Query, Datum, SessionsByEvent, mark, raises, verdict_on}
+use Rattle.wsm_semantics.specs.Query.{Query, Datum, SessionsByEvent, mark, raises, verdict_on, datum}
 use Rattle.wsm_semantics.specs.Panes.{held}
 use Rattle.wsm_semantics.specs.Firings.{Firing, firings, firings_so_far, row_of, pane_rows}
 use Rattle.wsm_semantics.specs.StandingFirings.{standing as standing_firing}
@@ -27,10 +25,10 @@ use Rattle.wsm_semantics.specs.Retractions.{panes_before_drops, standing_for, is
 use Rattle.wsm_semantics.specs.Relation.{row_cmp, with_row, sorted_rows, relation_at, relation, without_one, difference, stream_rows, chosen_rows, streamed, turn_rows}
 use Rattle.wsm_semantics.specs.HeldBounds.{most_panes, rows_of_panes, most_rows}
 use Rattle.wsm_semantics.specs.Kept.{kept, entered, fired_by_record, fired_by_watermark}
-use Rattle.wsm_semantics.specs.Replay.{datum}
 use Rattle.wsm_semantics.proofs.Lists.{length_each}
 use Rattle.wsm_semantics.proofs.ManyKeys.{length-filter}
-use Rattle.wsm_semantics.proofs.KeptTurns.{firings-refused_event, firings-not_selected}
+use Rattle.wsm_semantics.proofs.Effects.{by_effect}
+use Rattle.wsm_semantics.proofs.Turns.{firings-nothing}
 use Rattle.wsm_semantics.proofs.EventTurns.{firings-record, firings-watermark}
 use Rattle.wsm_semantics.proofs.KeptLaw.{places, enters}
 use Rattle.wsm_semantics.proofs.HeldBound.{held_bounded, kept_bounded, entered_bounded}
@@ -92,13 +90,12 @@ module _ (q : Query) (ok : IsShape q.shape) (timely : SessionsByEvent q) (within
       ((k : ℕ) (t : ℤ) (vs : List Value) → e ≡ Record (Some k) t vs → verdict_on q past (Record (Some k) t vs) ≡ None → q.selects k vs ≡ true → P (fired_by_record q (mark q past) (datum (length past) (mark q past) k t vs) (kept q past))) →
       ((o : Option ℕ) (t : ℤ) → e ≡ Watermark o t → P (fired_by_watermark q (length past) (mark q past) (mark q (Watermark o t ∷ past)) (kept q past))) →
       P (firings q past e)
-  fired_ways P past (Record None t vs) none by_record by_watermark = subst P (sym (firings-refused_event q past (Record None t vs) refusal.UnknownKey refl)) none
-  fired_ways P past (Record (Some k) t vs) none by_record by_watermark = pick (verdict_on q past (Record (Some k) t vs)) (q.selects k vs) refl refl where
-    pick : (v : Option Refusal) (b : Bool) → verdict_on q past (Record (Some k) t vs) ≡ v → q.selects k vs ≡ b → P (firings q past (Record (Some k) t vs))
-    pick (Some r) b refused _ = subst P (sym (firings-refused_event q past (Record (Some k) t vs) r refused)) none
-    pick None false taken other = subst P (sym (firings-not_selected q past k t vs other)) none
-    pick None true taken selects = subst P (sym (firings-record q within.lateness_from timely (places q ok timely) past (enters q ok timely) k t vs taken selects)) (by_record k t vs refl taken selects)
-  fired_ways P past (Watermark o t) none by_record by_watermark = subst P (sym (firings-watermark q within.lateness_from timely (places q ok timely) past o t)) (by_watermark o t refl)
+  fired_ways P past e none by_record by_watermark =
+      by_effect q past (λ x _. e ≡ x → P (firings q past x))
+      (λ k t vs taken selects is. subst P (sym (firings-record q within.lateness_from timely (places q ok timely) past (enters q ok timely) k t vs taken selects)) (by_record k t vs is taken selects))
+      (λ o t _ is. subst P (sym (firings-watermark q within.lateness_from timely (places q ok timely) past o t)) (by_watermark o t is))
+      (λ x nothing _. subst P (sym (firings-nothing q past x nothing)) none)
+      e refl
 
   -- no more panes fire on a turn than can be held
   pub firings_bounded : (past : List Event) (e : Event) → length (firings q past e) ≤ most_panes q

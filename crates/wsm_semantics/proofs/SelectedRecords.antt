@@ -1,9 +1,9 @@
 -- What is known of each selected record: its key is declared, its values fit, WHERE is true of it, and
 -- its time is one that a record may have and no further ahead of the watermark than the skew. No more
 -- records are selected than admitted.
-use Rattle.std.proofs.Common.{◌≡◌, ℕ, ◌+◌, ◌<◌, ◌≤◌, true, false, ◌&&◌, cond, List, [], ◌∷◌, length, ℤ, ◌+ℤ◌, ◌≤ℤ◌, Option, Some, None, refl, sym, arith, length-append}
+use Rattle.std.proofs.Common.{◌≡◌, ℕ, ◌+◌, ◌<◌, ◌≤◌, true, false, List, [], ◌∷◌, length, ℤ, ◌+ℤ◌, ◌≤ℤ◌, Option, Some, None, sym, subst, arith, length-append}
 use Rattle.std.proofs.lemmas.Int.{ints}
-use Rattle.std.specs.Prelude.{is_none, int_lt}
+use Rattle.std.specs.Prelude.{int_lt}
 use Rattle.std.specs.List.{AllByRecursion}
 use Rattle.std.proofs.lemmas.Bool.{ltb-true}
 use Rattle.wsm_record.specs.Event.{Event, Record, Watermark}
@@ -13,10 +13,10 @@ use Rattle.wsm_admission.specs.declared.verdict.Refusal.{Refusal}
 use Rattle.wsm_admission.specs.Clock.{admitted_count, admitted_with, is_time}
 use Rattle.wsm_admission.proofs.Taken.{taken_record}
 use Rattle.wsm_admission.proofs.SourceMarks.{watermark_rises}
-use Rattle.wsm_semantics.specs.Query.{Query, Datum, mark, verdict_on, selected, selection_of}
-use Rattle.wsm_semantics.specs.Replay.{datum}
+use Rattle.wsm_semantics.specs.Query.{Query, Datum, mark, verdict_on, selection, selected, selection_of}
 use Rattle.wsm_semantics.proofs.Lists.{all-each}
 use Rattle.wsm_semantics.proofs.Each.{all-append}
+use Rattle.wsm_semantics.proofs.Effects.{by_effect}
 
 -- what is known of a selected record, at a watermark
 pub record IsSelected (q : Query) (w : ℤ) (d : Datum) : Type 0 where
@@ -41,26 +41,22 @@ module _ (q : Query) where
   ahead w v rises d h = record { key = h.key; fits = h.fits; selects = h.selects; time = h.time; near = still_near d.time w v q.clock.skew rises h.near }
 
   selects_one : (e : Event) (past : List Event) → AllByRecursion (IsSelected q (mark q (e ∷ past))) (selection_of q past e)
-  selects_one (Record None t vs) past = tt
-  selects_one (Record (Some k) t vs) past = pick (verdict_on q past (Record (Some k) t vs)) refl where
-    pick : (v : Option Refusal) → v ≡ verdict_on q past (Record (Some k) t vs) → AllByRecursion (IsSelected q (mark q past)) (cond (is_none v && q.selects k vs) (datum (length past) (mark q past) k t vs ∷ []) [])
-    pick None h =
-        let taken = taken_record q.clock q.declared (mark q past) (admitted_count q.clock q.declared past) (Some k) t vs (sym h) in
-        elim (q.selects k vs) as (λ b. q.selects k vs ≡ b → AllByRecursion (IsSelected q (mark q past)) (cond b (datum (length past) (mark q past) k t vs ∷ []) [])) [
-          | true ↦ λ is. (
-            record {
-              key = ltb-true k (length q.declared.keys) taken.has_key;
-              fits = taken.fits;
-              selects = is;
-              time = a_time t taken.in_time;
-              near = not_ahead (mark q past) t q.clock.skew taken.near;
-            },
-            tt,
-          )
-          | false ↦ λ is. tt
-        ] refl
-    pick (Some r) h = tt
-  selects_one (Watermark o t) past = tt
+  selects_one e past =
+      by_effect q past (λ e x. AllByRecursion (IsSelected q (mark q (e ∷ past))) (selection x))
+      (λ k t vs is_taken selects.
+      let taken = taken_record q.clock q.declared (mark q past) (admitted_count q.clock q.declared past) (Some k) t vs is_taken in (
+        record {
+          key = ltb-true k (length q.declared.keys) taken.has_key;
+          fits = taken.fits;
+          selects = selects;
+          time = a_time t taken.in_time;
+          near = not_ahead (mark q past) t q.clock.skew taken.near;
+        },
+        tt,
+      ))
+      (λ o t _. tt)
+      (λ e _. tt)
+      e
 
   -- of each selected record
   pub each_selected : (past : List Event) → AllByRecursion (IsSelected q (mark q past)) (selected q past)
@@ -70,13 +66,18 @@ module _ (q : Query) where
       (selects_one e past)
       (all-each (IsSelected q (mark q past)) (IsSelected q (mark q (e ∷ past))) (selected q past) (ahead (mark q past) (mark q (e ∷ past)) (watermark_rises q.clock past e)) (each_selected past))
 
+  admits_more : (n : ℕ) (e : Event) (v : Option Refusal) → n ≤ admitted_with n e v
+  admits_more n (Record k t vs) None = omega arith
+  admits_more n (Record k t vs) (Some r) = omega arith
+  admits_more n (Watermark o t) v = omega arith
+
   one_selected : (e : Event) (past : List Event) (n : ℕ) → length (selection_of q past e) + n ≤ admitted_with n e (verdict_on q past e)
-  one_selected (Record None t vs) past n = omega arith
-  one_selected (Record (Some k) t vs) past n = pick (verdict_on q past (Record (Some k) t vs)) where
-    pick : (v : Option Refusal) → length (cond (is_none v && q.selects k vs) (datum (length past) (mark q past) k t vs ∷ []) []) + n ≤ admitted_with n (Record (Some k) t vs) v
-    pick None = elim (q.selects k vs) as (λ b. length (cond b (datum (length past) (mark q past) k t vs ∷ []) []) + n ≤ n + 1) [ true ↦ omega arith | false ↦ omega arith ]
-    pick (Some r) = omega arith
-  one_selected (Watermark o t) past n = omega arith
+  one_selected e past n =
+      by_effect q past (λ e x. length (selection x) + n ≤ admitted_with n e (verdict_on q past e))
+      (λ k t vs taken _. subst (λ (v : Option Refusal). 1 + n ≤ admitted_with n (Record (Some k) t vs) v) (sym taken) (omega arith))
+      (λ o t _. omega arith)
+      (λ e _. let more : n ≤ admitted_with n e (verdict_on q past e) = admits_more n e (verdict_on q past e) in omega arith)
+      e
 
   both_grow : (sel old n all : ℕ) → old ≤ n → sel + n ≤ all → sel + old ≤ all
   both_grow sel old n all h k = omega arith

@@ -1,6 +1,6 @@
 -- Sessions: where panes are, and how a selected record enters what is kept of them, with those that it
 -- is linked to.
-use Rattle.std.proofs.Common.{◌≡◌, ℕ, ◌≤◌, Bool, true, false, ◌&&◌, ◌||◌, cond, not, List, [], ◌∷◌, ◌++◌, map, length, ℤ, pos, ◌+ℤ◌, ◌≤ℤ◌, inl, inr, Option, Some, None, is_none, refl, sym, ap, subst, ◌∙◌, arith}
+use Rattle.std.proofs.Common.{◌≡◌, ℕ, ◌≤◌, Bool, true, false, ◌&&◌, ◌||◌, not, List, [], ◌∷◌, ◌++◌, map, length, ℤ, pos, ◌+ℤ◌, ◌≤ℤ◌, inl, inr, Option, Some, None, refl, sym, ap, subst, ◌∙◌, arith}
 use Rattle.std.proofs.lemmas.Int.{ints}
 use Rattle.std.proofs.lemmas.Bool.{true≢false, and_parts, and_from, or_left, or_right}
 use Rattle.std.specs.Prelude.{flat_map, nat_eq}
@@ -14,12 +14,10 @@ use Rattle.wsm_windows.specs.declared.window.Shape.TheVariants.{Session}
 use Rattle.wsm_windows.specs.Windows.{has_inside}
 use Rattle.wsm_windows.specs.declared.place.Place.{Place}
 use Rattle.wsm_windows.specs.Places.{place_cmp, at, window_of}
-use Rattle.wsm_admission.specs.declared.verdict.Refusal.{Refusal}
-use Rattle.wsm_semantics.specs.Query.{Query, Datum, SessionsByEvent, mark, verdict_on, selected, selection_of}
+use Rattle.wsm_semantics.specs.Query.{Query, Datum, SessionsByEvent, datum, mark, verdict_on, selection, selected, selection_of}
 use Rattle.wsm_semantics.specs.Panes.{windows_among, places, is_there, is_live_at, contents, panes, held}
 use Rattle.wsm_semantics.specs.Firings.{shows}
 use Rattle.wsm_semantics.specs.Kept.{Kept, kept, kept_in, entered, is_linked, joined_to, joined_all, stands_in, stands_joined, with_record}
-use Rattle.wsm_semantics.specs.Replay.{datum}
 use Rattle.wsm_semantics.proofs.Lists.{IsNonEmpty, all-each, some_pass}
 use Rattle.wsm_semantics.proofs.Tables.{among, kept_of}
 use Rattle.wsm_semantics.proofs.Assigned.{tied}
@@ -33,7 +31,8 @@ use Rattle.wsm_semantics.proofs.ShownPanes.{IsPane, each_among, each_pane}
 use Rattle.wsm_semantics.proofs.FiringsSoFar.{PlacesLaw, StaysIn, shows_itself, shows_key}
 use Rattle.wsm_semantics.proofs.StandingFirings.{joined_unfired, joined_stands}
 use Rattle.wsm_semantics.proofs.StandsTurn.{AreDistinct, IsTakenIn, TakesIn, stands-taken}
-use Rattle.wsm_semantics.proofs.KeptTurns.{kept_is, prompt, selects_one}
+use Rattle.wsm_semantics.proofs.KeptTurns.{kept_is, prompt}
+use Rattle.wsm_semantics.proofs.Effects.{by_effect, selects_one, selects_none}
 use Rattle.wsm_semantics.proofs.EventTurns.{EntersPanes}
 
 of_one : (t : Window → Bool) (a : Window) (vs : List Window) → IsOneOf a vs → t a ≡ true → list_any t vs ≡ true
@@ -178,36 +177,32 @@ module _ (q : Query) (timely : SessionsByEvent q) (gap : ℤ) (is : q.shape ≡ 
   places_same past e none = ap (λ (ds : List Datum). flat_map (λ d. map (at d.key) (windows_among q.shape q.clock.lateness (ds ++ selected q past) d)) (ds ++ selected q past)) none
 
   stays_placed : (past : List Event) (e : Event) (p : Place) → among p (places q past) ≡ true → StaysIn q past e p
-  stays_placed past (Record None t vs) p h = (p, h, shows_itself q.shape p, λ d k. k)
-  stays_placed past (Watermark o t) p h = (p, h, shows_itself q.shape p, λ d k. k)
-  stays_placed past (Record (Some k) t vs) p h = pick (verdict_on q past (Record (Some k) t vs)) (q.selects k vs) refl refl where
-    same : selection_of q past (Record (Some k) t vs) ≡ [] → StaysIn q past (Record (Some k) t vs) p
-    same none = (p, ap (among p) (places_same past (Record (Some k) t vs) none) ∙ h, shows_itself q.shape p, λ d k. k)
-
-    pick : (v : Option Refusal) (b : Bool) → verdict_on q past (Record (Some k) t vs) ≡ v → q.selects k vs ≡ b → StaysIn q past (Record (Some k) t vs) p
-    pick None true taken selects = stays_with past k t vs taken selects p h (is_linked gap (datum (length past) (mark q past) k t vs) p) refl
-    pick None false taken selects = same (λ i. cond (is_none (taken i) && selects i) (datum (length past) (mark q past) k t vs ∷ []) [])
-    pick (Some r) b refused selects = same (λ i. cond (is_none (refused i) && selects i) (datum (length past) (mark q past) k t vs ∷ []) [])
+  stays_placed past e p h =
+      by_effect q past (λ e _. StaysIn q past e p)
+      (λ k t vs taken selects. stays_with past k t vs taken selects p h (is_linked gap (datum (length past) (mark q past) k t vs) p) refl)
+      (λ o t _. same (Watermark o t) (selects_none q past o t))
+      (λ e none. same e (ap selection none))
+      e
+    where
+      same : (e : Event) → selection_of q past e ≡ [] → StaysIn q past e p
+      same e none = (p, ap (among p) (places_same past e none) ∙ h, shows_itself q.shape p, λ d k. k)
 
   -- a place that isn't live stays one
   pub dead_stays : (past : List Event) (e : Event) (p : Place) → among p (places q past) ≡ true → is_live_at q (mark q past) p ≡ false → among p (places q (e ∷ past)) ≡ true
-  dead_stays past (Record None t vs) p h dead = h
-  dead_stays past (Watermark o t) p h dead = h
-  dead_stays past (Record (Some k) t vs) p h dead = pick (verdict_on q past (Record (Some k) t vs)) (q.selects k vs) refl refl where
-    d : Datum
-    d = datum (length past) (mark q past) k t vs
-
-    same : selection_of q past (Record (Some k) t vs) ≡ [] → among p (places q (Record (Some k) t vs ∷ past)) ≡ true
-    same none = ap (among p) (places_same past (Record (Some k) t vs) none) ∙ h
-
-    pick : (v : Option Refusal) (b : Bool) → verdict_on q past (Record (Some k) t vs) ≡ v → q.selects k vs ≡ b → among p (places q (Record (Some k) t vs ∷ past)) ≡ true
-    pick None true taken selects =
-        elim (is_linked gap d p) as (λ b. is_linked gap d p ≡ b → among p (places q (Record (Some k) t vs ∷ past)) ≡ true) [
-          | true ↦ λ links. absurd (true≢false (sym (linked_held q gap is long past d (prompt q past timely gap is k t vs taken) p links) ∙ dead))
-          | false ↦ λ other. placed_still past k t vs taken selects p h other
-        ] refl
-    pick None false taken selects = same (λ i. cond (is_none (taken i) && selects i) (datum (length past) (mark q past) k t vs ∷ []) [])
-    pick (Some r) b refused selects = same (λ i. cond (is_none (refused i) && selects i) (datum (length past) (mark q past) k t vs ∷ []) [])
+  dead_stays past e p h dead =
+      by_effect q past (λ e _. among p (places q (e ∷ past)) ≡ true)
+      (λ k t vs taken selects.
+      let d : Datum = datum (length past) (mark q past) k t vs in
+      elim (is_linked gap d p) as (λ b. is_linked gap d p ≡ b → among p (places q (Record (Some k) t vs ∷ past)) ≡ true) [
+        | true ↦ λ links. absurd (true≢false (sym (linked_held q gap is long past d (prompt q past timely gap is k t vs taken) p links) ∙ dead))
+        | false ↦ λ other. placed_still past k t vs taken selects p h other
+      ] refl)
+      (λ o t _. same (Watermark o t) (selects_none q past o t))
+      (λ e none. same e (ap selection none))
+      e
+    where
+      same : (e : Event) → selection_of q past e ≡ [] → among p (places q (e ∷ past)) ≡ true
+      same e none = ap (among p) (places_same past e none) ∙ h
 
   pub session_places : PlacesLaw q
   session_places = record { filled = filled; apart = apart; stays = stays_placed }

@@ -18,10 +18,9 @@ use Rattle.wsm_windows.specs.Life.{is_live}
 use Rattle.wsm_windows.specs.declared.place.Place.{Place}
 use Rattle.wsm_windows.specs.Places.{place_cmp, at}
 use Rattle.wsm_windows.proofs.Places.{tie_is}
-use Rattle.wsm_semantics.specs.Query.{Query, Datum, SessionsByEvent, mark, selected, selection_of}
+use Rattle.wsm_semantics.specs.Query.{Query, Datum, SessionsByEvent, mark, selected, selection_of, datum}
 use Rattle.wsm_semantics.specs.Panes.{windows_among, places, is_there, stands_in}
 use Rattle.wsm_semantics.specs.Firings.{is_shown}
-use Rattle.wsm_semantics.specs.Replay.{datum}
 use Rattle.wsm_semantics.specs.FiringSets.{StandsIn, IsDropped, FiresOnce}
 use Rattle.wsm_semantics.proofs.Tables.{among}
 use Rattle.wsm_semantics.proofs.Assigned.{IsAssigned, contains_among, stands, on_grid, own}
@@ -30,7 +29,8 @@ use Rattle.wsm_semantics.proofs.Each.{itself, list_any-append}
 use Rattle.wsm_semantics.proofs.SessionStep.{among_places, mine, new_inside, places_more}
 use Rattle.wsm_semantics.proofs.ShownPanes.{ShowsOwn}
 use Rattle.wsm_semantics.proofs.FiringsSoFar.{shows_own}
-use Rattle.wsm_semantics.proofs.KeptTurns.{prompt as comes_promptly, selects_one}
+use Rattle.wsm_semantics.proofs.KeptTurns.{prompt as comes_promptly}
+use Rattle.wsm_semantics.proofs.Effects.{selects_one}
 use Rattle.wsm_semantics.proofs.KeptLaw as kept_law
 use Rattle.wsm_semantics.proofs.KeptLaw.{gap_is_long}
 use Rattle.wsm_semantics.proofs.FiredOnce.{once_if, fired_where_shown}

@@ -1,6 +1,6 @@
 -- What one turn shows, for any query: panes fire by their records and those unshown, and a pane that
 -- fires has shown all of its records.
-use Rattle.std.proofs.Common.{◌≡◌, ℕ, suc, ◌≤◌, ◌<◌, Bool, true, false, ◌&&◌, ◌||◌, cond, not, List, [], ◌∷◌, length, Option, Some, None, is_some, refl, sym, ap, ◌∙◌, arith}
+use Rattle.std.proofs.Common.{◌≡◌, ℕ, suc, ◌≤◌, ◌<◌, Bool, true, false, ◌&&◌, ◌||◌, cond, not, List, [], ◌∷◌, length, ℤ, Option, Some, None, is_some, refl, sym, ap, ◌∙◌, arith}
 use Rattle.std.proofs.lemmas.Bool.Decides.{nat_tests}
 use Rattle.std.specs.Prelude.{filter, filter_map, nat_eq}
 use Rattle.std.specs.List.{AllByRecursion, cons_option, list_any}
@@ -9,18 +9,21 @@ use Rattle.std.specs.FinMap.Entries.{is_some-find}
 use Rattle.std.proofs.Math.Bool.{and-false, or-false, and-true}
 use Rattle.std.proofs.lemmas.Bool.{or_right}
 use Rattle.wsm_record.proofs.Lists.{list_any-map}
+use Rattle.wsm_record.specs.declared.event.Value.{Value}
 use Rattle.wsm_record.specs.Event.{Event, Record, Watermark}
 use Rattle.wsm_windows.specs.declared.window.PaneKind.{PaneKind}
 use Rattle.wsm_windows.specs.declared.place.Place.{Place}
 use Rattle.wsm_windows.specs.Places.{place_cmp}
 use Rattle.wsm_windows.proofs.Places.{tie_is, places_exact}
-use Rattle.wsm_semantics.specs.Query.{Query, Datum, mark, selected}
+use Rattle.wsm_semantics.specs.Query.{Query, Datum, datum, Effect, Rises, Nothing, effect_of, mark, raises, verdict_on, selected}
 use Rattle.wsm_semantics.specs.Panes.{is_there, places, contents, panes, with_contents}
-use Rattle.wsm_semantics.specs.Firings.{Firing, firings, fire, firing_of, firing_set, holds, is_shown, kind_on_record, kind_on_watermark, shows}
+use Rattle.wsm_semantics.specs.Firings.{Firing, firings, firing_of, firing_set, holds, is_shown, kind_on, kind_on_record, kind_on_watermark, shows}
 use Rattle.wsm_semantics.proofs.Lists.{filter-all, all-each, filter_same, put-all}
+use Rattle.wsm_semantics.proofs.Effects.{down_stays, effect-selected}
+use Rattle.wsm_semantics.proofs.Turns.{idle}
 use Rattle.wsm_semantics.proofs.Tables.{among, find-with_contents}
 use Rattle.wsm_semantics.proofs.Assigned.{tied}
-use Rattle.wsm_semantics.proofs.Each.{all-any, filter-each, filter_map-each, none_of, list_any-each, list_any-and, list_any-none}
+use Rattle.wsm_semantics.proofs.Each.{all-any, filter-each, none_of, list_any-each, list_any-and, list_any-none}
 use Rattle.wsm_semantics.proofs.MergedRecords.{Below, selected_below}
 
 -- ---- each pane has its records
@@ -61,27 +64,32 @@ unshown_of q past p all = filter (λ d. not (is_shown q past p d)) all
 
 -- the kind of what a place does on a turn
 abbrev pub kind_of : Query → List Event → Event → Place → List Datum → Option PaneKind
-kind_of q past (Record key t vs) p all =
-    cond (list_any (λ d. nat_eq d.turn (length past)) all) (kind_on_record q (mark q past) p.end (length (unshown_of q past p all))) None
-kind_of q past (Watermark o t) p all =
-    kind_on_watermark q (mark q past) (mark q (Watermark o t ∷ past)) p (length (firing_set q.mode all (unshown_of q past p all))) (length (unshown_of q past p all))
+kind_of q past e p all = kind_on q (effect_of q past e) p all (unshown_of q past p all)
+
+-- at a selected record
+pub kind-selected : (q : Query) (past : List Event) (k : ℕ) (t : ℤ) (vs : List Value) → verdict_on q past (Record (Some k) t vs) ≡ None → q.selects k vs ≡ true → (p : Place) (all : List Datum) →
+    kind_of q past (Record (Some k) t vs) p all ≡ cond (holds (datum (length past) (mark q past) k t vs) all) (kind_on_record q (mark q past) p.end (length (unshown_of q past p all))) None
+kind-selected q past k t vs taken selects p all = ap (λ (x : Effect). kind_on q x p all (unshown_of q past p all)) (effect-selected q past k t vs taken selects)
+
+-- at a watermark, also one that leaves that of the query
+pub kind-watermark : (q : Query) (past : List Event) (o : Option ℕ) (t : ℤ) (p : Place) (all : List Datum) →
+    let unshown = unshown_of q past p all in kind_of q past (Watermark o t) p all ≡ kind_on_watermark q (mark q past) (mark q (Watermark o t ∷ past)) p (length (firing_set q.mode all unshown)) (length unshown)
+kind-watermark q past o t p all =
+    let old : ℤ = mark q past in
+    let new : ℤ = mark q (Watermark o t ∷ past) in
+    let unshown : List Datum = unshown_of q past p all in
+    let n : ℕ = length (firing_set q.mode all unshown) in
+    elim (raises q past (Watermark o t)) as (λ b. raises q past (Watermark o t) ≡ b → kind_on q (cond b (Rises old new) Nothing) p all unshown ≡ kind_on_watermark q old new p n (length unshown)) [
+      | true ↦ λ _. refl
+      | false ↦ λ down. sym (ap (λ (m : ℤ). kind_on_watermark q old m p n (length unshown)) (down_stays q past (Watermark o t) down) ∙ idle q past old p n (length unshown))
+    ] refl
 
 -- what a pane does on a turn
 abbrev pub does : Query → List Event → Event → Place × List Datum → Option Firing
 does q past e x = firing_of (length past) x.0 x.1 (firing_set q.mode x.1 (unshown_of q past x.0 x.1)) (kind_of q past e x.0 x.1)
 
-gated : (b : Bool) (n : ℕ) (p : Place) (all fired : List Datum) (k : Option PaneKind) → cond b (firing_of n p all fired k) None ≡ firing_of n p all fired (cond b k None)
-gated true n p all fired k = refl
-gated false n p all fired k = refl
-
-fire_is : (q : Query) (past : List Event) (e : Event) (x : Place × List Datum) → fire (is_shown q past x.0) q past e x.0 x.1 ≡ does q past e x
-fire_is q past (Record key t vs) x = gated (list_any (λ d. nat_eq d.turn (length past)) x.1) (length past) x.0 x.1 _ _
-fire_is q past (Watermark o t) x = refl
-
 pub firings_are : (q : Query) (past : List Event) (e : Event) → firings q past e ≡ filter_map (does q past e) (panes q (e ∷ past))
-firings_are q past e =
-    filter_map-each (λ x. fire (is_shown q past x.0) q past e x.0 x.1) (does q past e) (panes q (e ∷ past))
-    (all-any (λ x. fire (is_shown q past x.0) q past e x.0 x.1 ≡ does q past e x) (fire_is q past e) (panes q (e ∷ past)))
+firings_are q past e = refl
 
 -- a firing that shows a place's record is of a pane that fires, shows the place and holds the record
 showing : (q : Query) (past : List Event) (e : Event) (p : Place) (d : Datum) (xs : List (Place × List Datum)) →

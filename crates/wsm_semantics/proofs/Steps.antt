@@ -1,7 +1,7 @@
 -- A machine that keeps a summary for each held pane fits each history, fires as it does and writes its
 -- rows.
-use Rattle.std.proofs.Common.{◌≡◌, ◌≤◌, ℕ, Bool, true, false, ◌&&◌, cond, List, [], ◌∷◌, ◌++◌, map, length, ℤ, pos, ◌≤ℤ◌, Option, Some, None, Result, refl, sym, ap, ◌∙◌}
-use Rattle.std.specs.Prelude.{filter_map, is_none}
+use Rattle.std.proofs.Common.{◌≡◌, ◌≤◌, ℕ, true, false, cond, List, [], ◌∷◌, ◌++◌, map, length, ℤ, pos, ◌≤ℤ◌, Option, Some, None, Result, refl, sym, ap, ◌∙◌}
+use Rattle.std.specs.Prelude.{filter_map}
 use Rattle.wsm_record.specs.declared.cell.Cell.{Cell}
 use Rattle.wsm_record.specs.declared.words.Mode.{Mode}
 use Rattle.wsm_record.specs.declared.words.Mode.TheVariants.{Discarding, Accumulating, Retracting}
@@ -13,7 +13,7 @@ use Rattle.wsm_windows.specs.declared.place.Place.{Place}
 use Rattle.wsm_admission.specs.Clock.{least, verdict_at}
 use Rattle.wsm_admission.specs.Admission.{answer, marks_with}
 use Rattle.wsm_admission.proofs.FittedHistory.{Fits-after, clock-after, opened_fits}
-use Rattle.wsm_semantics.specs.Query.{Query, SessionsByEvent, mark, raises, verdict_on}
+use Rattle.wsm_semantics.specs.Query.{Query, SessionsByEvent, datum, Effect, effect_of, mark, raises, verdict_on}
 use Rattle.wsm_semantics.specs.Firings as firings
 use Rattle.wsm_semantics.specs.Firings.{firings_so_far}
 use Rattle.wsm_semantics.specs.Retractions.{retract_rows, retracted, retracted_in}
@@ -22,12 +22,14 @@ use Rattle.wsm_semantics.specs.Kept.{kept, kept_at_watermark}
 use Rattle.wsm_semantics.specs.Kept as kept
 use Rattle.wsm_semantics.specs.Summaries.{Plan, IsLawful, Runs, Pane, after_record, fired_by_record, at_watermark, after_watermark, fired_by_watermark, withdrawn_by_record, withdrawn_by_watermark, relation_of, row_of, summaries, summary_fired}
 use Rattle.wsm_semantics.specs.Steps.{State, opened, panes_after, fired_by, withdrawn_by, relation_after, streamed_by, answer_to, step, step_fires, step_rows, run, Fits}
-use Rattle.wsm_semantics.specs.Replay.{datum, withdrawn_by as kept_withdrawn}
+use Rattle.wsm_semantics.specs.Replay.{withdrawn_by as kept_withdrawn}
 use Rattle.wsm_semantics.proofs.Lists.{length_each}
-use Rattle.wsm_semantics.proofs.Turns.{stays_down, refused_stays}
-use Rattle.wsm_semantics.proofs.KeptTurns.{kept-refused, firings-refused_event, kept-not_selected, firings-not_selected}
+use Rattle.wsm_semantics.proofs.Effects.{effect-selected, effect-unselected, effect-refused, stays_down, refused_stays}
+use Rattle.wsm_semantics.proofs.Turns.{firings-nothing}
+use Rattle.wsm_semantics.proofs.KeptTurns.{kept-nothing}
 use Rattle.wsm_semantics.proofs.EventTurns.{kept-record, firings-record, kept-watermark, firings-watermark, relation-watermark}
-use Rattle.wsm_semantics.proofs.KeptLaw.{places, enters, retract_rows-by, none_withdrawn}
+use Rattle.wsm_semantics.proofs.KeptLaw.{places, enters, relation-down, streamed-down, retract_rows-by, withdrawn-by}
+use Rattle.wsm_semantics.proofs.Withdrawn.{withdrawn-watermark}
 use Rattle.wsm_semantics.proofs.MachineSteps.{decision-fits, some_fired, one_fed}
 use Rattle.wsm_semantics.proofs.Images.{after_record-summaries, fired_by_record-summaries, at_watermark-summaries, fired_by_watermark-summaries, after_watermark-summaries, rows-summaries, relation-summaries}
 use Rattle.wsm_semantics.proofs.Turnless.{after_record-turnless, fired_by_record-turnless, withdrawn_by_record-turnless}
@@ -59,14 +61,14 @@ module _ {X : Type 0} (plan : Plan X) (lawful : IsLawful plan) (q : Query) (runs
               after_record-turnless plan 0 (length past) old k t vs q old sums
               ∙ after_record-summaries plan lawful q old (datum (length past) (mark q past) k t vs) (kept q past)
               ∙ ap (summaries plan q.mode) (sym (kept-record q low timely (places q ok timely) past (enters q ok timely) k t vs (sym h) selects))
-          | false ↦ λ other. ap (summaries plan q.mode) (sym (kept-not_selected q past k t vs other))
+          | false ↦ λ other. ap (summaries plan q.mode) (sym (kept-nothing q past (Record (Some k) t vs) (effect-unselected q past k t vs other)))
         ] refl
     panes_are (Record None t vs) None h = absurd (cc)
     panes_are (Watermark o t) None h =
         ap (after_watermark plan q old (mark q (Watermark o t ∷ past))) is
         ∙ after_watermark-summaries plan q old (mark q (Watermark o t ∷ past)) (kept q past)
         ∙ ap (summaries plan q.mode) (sym (kept-watermark q low timely (places q ok timely) past o t))
-    panes_are e (Some r) h = is ∙ ap (summaries plan q.mode) (sym (kept-refused q past e r (sym h)))
+    panes_are e (Some r) h = is ∙ ap (summaries plan q.mode) (sym (kept-nothing q past e (effect-refused q past e r (sym h))))
 
     fired_are : (e : Event) (v : Option Refusal) → v ≡ verdict_on q past e → fired_by plan q (answer_by e v) e s ≡ map (summary_fired plan) (firings.firings q past e)
     fired_are (Record (Some k) t vs) None h =
@@ -76,32 +78,37 @@ module _ {X : Type 0} (plan : Plan X) (lawful : IsLawful plan) (q : Query) (runs
               fired_by_record-turnless plan 0 (length past) old k t vs q old sums
               ∙ fired_by_record-summaries plan lawful q old (datum (length past) (mark q past) k t vs) (kept q past)
               ∙ ap (map (summary_fired plan)) (sym (firings-record q low timely (places q ok timely) past (enters q ok timely) k t vs (sym h) selects))
-          | false ↦ λ other. ap (map (summary_fired plan)) (sym (firings-not_selected q past k t vs other))
+          | false ↦ λ other. ap (map (summary_fired plan)) (sym (firings-nothing q past (Record (Some k) t vs) (effect-unselected q past k t vs other)))
         ] refl
     fired_are (Record None t vs) None h = absurd (cc)
     fired_are (Watermark o t) None h =
         ap (fired_by_watermark plan q old (mark q (Watermark o t ∷ past))) is
         ∙ fired_by_watermark-summaries plan q old (mark q (Watermark o t ∷ past)) (kept q past) (length past)
         ∙ ap (map (summary_fired plan)) (sym (firings-watermark q low timely (places q ok timely) past o t))
-    fired_are e (Some r) h = ap (map (summary_fired plan)) (sym (firings-refused_event q past e r (sym h)))
+    fired_are e (Some r) h = ap (map (summary_fired plan)) (sym (firings-nothing q past e (effect-refused q past e r (sym h))))
 
-    withdrawn_are : q.mode ≡ Retracting → (e : Event) (v : Option Refusal) → v ≡ verdict_on q past e → withdrawn_by plan q (answer_by e v) e s ≡ kept_withdrawn q past e (kept q past)
+    withdrawn_are : q.mode ≡ Retracting → (e : Event) (v : Option Refusal) → v ≡ verdict_on q past e → withdrawn_by plan q (answer_by e v) e s ≡ kept_withdrawn q (effect_of q past e) (kept q past)
     withdrawn_are retracting (Record (Some k) t vs) None h =
         (λ i. cond (runs.selects k vs i) (withdrawn_by_record plan q (marked i) (datum 0 (marked i) k t vs) (is i)) [])
         ∙ ap (λ (ws : List (Place × List Cell)). cond (q.selects k vs) ws [])
         (withdrawn_by_record-turnless plan 0 (length past) old k t vs q old sums
         ∙ withdrawn_by_record-summaries plan lawful q runs retracting old (datum (length past) old k t vs) (kept q past))
-        ∙ (λ i. cond (is_none (h i) && q.selects k vs) (kept.withdrawn_by_record q old (datum (length past) old k t vs) (kept q past)) [])
+        ∙ elim (q.selects k vs) as (λ b. q.selects k vs ≡ b → cond b (kept.withdrawn_by_record q old (datum (length past) old k t vs) (kept q past)) [] ≡ kept_withdrawn q (effect_of q past (Record (Some k) t vs)) (kept q past)) [
+          | true ↦ λ selects. ap (λ (x : Effect). kept_withdrawn q x (kept q past)) (sym (effect-selected q past k t vs (sym h) selects))
+          | false ↦ λ other. ap (λ (x : Effect). kept_withdrawn q x (kept q past)) (sym (effect-unselected q past k t vs other))
+        ] refl
     withdrawn_are retracting (Record None t vs) None h = absurd (cc)
     withdrawn_are retracting (Watermark o t) None h =
         ap (withdrawn_by_watermark q old (mark q (Watermark o t ∷ past))) is
         ∙ withdrawn_by_watermark-summaries plan lawful q runs retracting old (mark q (Watermark o t ∷ past)) (kept q past)
-    withdrawn_are retracting e (Some r) h = sym (none_withdrawn q ok timely low past e r (sym h))
+        ∙ sym (withdrawn-watermark q (places q ok timely) past o t)
+        ∙ withdrawn-by q ok timely low past (Watermark o t)
+    withdrawn_are retracting e (Some r) h = ap (λ (x : Effect). kept_withdrawn q x (kept q past)) (sym (effect-refused q past e r (sym h)))
 
     -- the retract rows
     retracted_are : (e : Event) (v : Option Refusal) → v ≡ verdict_on q past e → retracted_in q.mode (withdrawn_by plan q (answer_by e v) e s) ≡ retract_rows q.mode q past e
     retracted_are e v h =
-        retracted-alike q.mode (withdrawn_by plan q (answer_by e v) e s) (kept_withdrawn q past e (kept q past)) (λ retracting. withdrawn_are retracting e v h) ∙ sym (retract_rows-by q ok timely low q.mode past e)
+        retracted-alike q.mode (withdrawn_by plan q (answer_by e v) e s) (kept_withdrawn q (effect_of q past e) (kept q past)) (λ retracting. withdrawn_are retracting e v h) ∙ sym (retract_rows-by q ok timely low q.mode past e)
 
     module _ (related : s.relation ≡ relation q past) where
       relation_now : (o : Option ℕ) (t : ℤ) → relation_of (at_watermark plan q old (mark q (Watermark o t ∷ past)) s.panes) ≡ relation_at q past (Watermark o t)
@@ -112,19 +119,16 @@ module _ {X : Type 0} (plan : Plan X) (lawful : IsLawful plan) (q : Query) (runs
           ∙ sym (relation-watermark q low timely (places q ok timely) past o t)
 
       relation_is : (e : Event) (v : Option Refusal) → v ≡ verdict_on q past e → relation_after plan q (answer_by e v) s ≡ relation q (e ∷ past)
-      relation_is (Record k t vs) None h = related ∙ sym (ap (λ (b : Bool). cond b (relation_at q past (Record k t vs)) (relation q past)) (stays_down q past (Record k t vs) refl))
+      relation_is (Record k t vs) None h = related ∙ sym (relation-down q past (Record k t vs) (stays_down q past (Record k t vs) refl))
       relation_is (Watermark o t) None h = λ i. cond (raises q past (Watermark o t)) (relation_now o t i) (related i)
-      relation_is e (Some r) h = related ∙ sym (ap (λ (b : Bool). cond b (relation_at q past e) (relation q past)) (stays_down q past e (refused_stays q past e r (sym h))))
-
-      none_streamed : (e : Event) → raises q past e ≡ false → [] ≡ streamed q past e
-      none_streamed e down = sym (ap (λ (b : Bool). cond b (stream_rows q.form (mark q (e ∷ past)) (relation q past) (relation_at q past e)) []) down)
+      relation_is e (Some r) h = related ∙ sym (relation-down q past e (stays_down q past e (refused_stays q past e r (sym h))))
 
       streamed_are : (e : Event) (v : Option Refusal) → v ≡ verdict_on q past e → streamed_by plan q q.form (answer_by e v) s ≡ streamed q past e
-      streamed_are (Record k t vs) None h = none_streamed (Record k t vs) (stays_down q past (Record k t vs) refl)
+      streamed_are (Record k t vs) None h = sym (streamed-down q past (Record k t vs) (stays_down q past (Record k t vs) refl))
       streamed_are (Watermark o t) None h =
           let new : ℤ = mark q (Watermark o t ∷ past) in
           λ i. cond (raises q past (Watermark o t)) (stream_rows q.form new (related i) (relation_now o t i)) []
-      streamed_are e (Some r) h = none_streamed e (stays_down q past e (refused_stays q past e r (sym h)))
+      streamed_are e (Some r) h = sym (streamed-down q past e (stays_down q past e (refused_stays q past e r (sym h))))
 
       rows_are : (e : Event) (v : Option Refusal) → v ≡ verdict_on q past e →
           chosen_rows q.form (retracted_in q.mode (withdrawn_by plan q (answer_by e v) e s) ++ filter_map (row_of plan) (fired_by plan q (answer_by e v) e s)) (streamed_by plan q q.form (answer_by e v) s) ≡ turn_rows q past e

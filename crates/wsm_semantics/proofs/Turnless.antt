@@ -11,12 +11,11 @@ use Rattle.wsm_windows.specs.Windows.{window}
 use Rattle.wsm_windows.specs.Life.{live_windows_of}
 use Rattle.wsm_windows.specs.declared.place.Place.{Place}
 use Rattle.wsm_windows.specs.Places.{place_cmp, at, window_of}
-use Rattle.wsm_semantics.specs.Query.{Query}
+use Rattle.wsm_semantics.specs.Query.{Query, datum}
 use Rattle.wsm_semantics.specs.Panes.{stands_in}
 use Rattle.wsm_semantics.specs.Firings.{kind_on_record}
 use Rattle.wsm_semantics.specs.Kept.{is_linked}
 use Rattle.wsm_semantics.specs.Summaries.{Plan, Pane, with_folded, with_record, session_with, linked, joined_all, assigned, entered, all_fired, fires, kind_by_record, after_record, fired_by_record, withdrawn_entering, withdrawn_firing, withdrawn_by_record}
-use Rattle.wsm_semantics.specs.Replay.{datum}
 
 module _ {X : Type 0} (plan : Plan X) (m n : ℕ) (mark : ℤ) (key : ℕ) (time : ℤ) (values : List Value) where
   folded-turnless : (o : Option X) → with_folded plan (datum m mark key time values) o ≡ with_folded plan (datum n mark key time values) o

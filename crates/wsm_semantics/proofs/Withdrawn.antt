@@ -1,7 +1,7 @@
 -- What an event withdraws was written of those firings that stood for held panes and are lost: where a
 -- pane fires, and where it is joined with another that fired.
-use Rattle.std.proofs.Common.{◌≡◌, ℕ, Bool, true, false, cond, not, List, [], ◌∷◌, ◌++◌, map, length, ℤ, Option, Some, None, is_some, refl, sym, ap, ◌∙◌}
-use Rattle.std.proofs.lemmas.Bool.{true≢false, and_from}
+use Rattle.std.proofs.Common.{◌≡◌, ℕ, Bool, true, false, cond, not, List, [], ◌∷◌, ◌++◌, map, ℤ, Option, Some, None, is_some, refl, sym, ap, ◌∙◌}
+use Rattle.std.proofs.lemmas.Bool.{and_from}
 use Rattle.std.specs.Prelude.{filter, filter_map, flat_map, option_and_then}
 use Rattle.std.specs.Option.{IfSome}
 use Rattle.std.specs.List.{AllByRecursion, cons_option, list_any}
@@ -10,21 +10,21 @@ use Rattle.wsm_record.specs.Event.{Event, Watermark}
 use Rattle.wsm_windows.specs.declared.window.PaneKind.{PaneKind}
 use Rattle.wsm_windows.specs.declared.place.Place.{Place}
 use Rattle.wsm_windows.specs.Places.{at}
-use Rattle.wsm_semantics.specs.Query.{Query, Datum, mark, selected, selection_of}
+use Rattle.wsm_semantics.specs.Query.{Query, Datum, Effect, Nothing, effect_of, mark, selection, selected, selection_of}
 use Rattle.wsm_semantics.specs.Panes.{windows_among, places, is_there, is_live_at, contents, panes, held}
-use Rattle.wsm_semantics.specs.Firings.{Firing, firing_of, firing_set, firings, firings_so_far}
+use Rattle.wsm_semantics.specs.Firings.{Firing, firings_so_far, kind_on}
 use Rattle.wsm_semantics.specs.StandingFirings.{candidates, greatest_of, standing}
 use Rattle.wsm_semantics.specs.Retractions.{panes_before_drops, standing_for, is_same, withdrawn, written_of}
 use Rattle.wsm_semantics.specs.Kept.{Kept, kept, kept_in, stands_in, stands_by, written_by, kind_by_watermark, withdrawn_by_watermark}
-use Rattle.wsm_semantics.proofs.Lists.{all-each}
-use Rattle.wsm_semantics.proofs.Tables.{among, find-with_contents}
+use Rattle.wsm_semantics.proofs.Lists.{all-each, filter_map_none}
+use Rattle.wsm_semantics.proofs.Tables.{among}
+use Rattle.wsm_semantics.proofs.Effects.{selects_none}
 use Rattle.wsm_semantics.proofs.Assigned.{tied}
 use Rattle.wsm_semantics.proofs.Each.{itself, all-any, all-passed, filter_map-each, filter_map-map}
-use Rattle.wsm_semantics.proofs.ShownPanes.{IsPane, each_pane, does, firings_are, kind_of, unshown_of}
+use Rattle.wsm_semantics.proofs.ShownPanes.{IsPane, each_pane, kind_of, kind-watermark, unshown_of}
 use Rattle.wsm_semantics.proofs.FiringsSoFar.{PlacesLaw, shows_itself}
 use Rattle.wsm_semantics.proofs.EventTurns.{standing_key}
 use Rattle.wsm_semantics.proofs.StandsStill.{any_of, stands_now}
-use Rattle.wsm_semantics.proofs.StandsTurn.{firing_as, found_gives}
 
 -- ---- lists
 
@@ -149,44 +149,23 @@ module _ (q : Query) (law : PlacesLaw q) (past : List Event) (e : Event) where
         (all-each (IsHeld q past) (Loses (λ x. is_some (kind_of q past e x.0 (contents q (e ∷ past) x.0)))) (held q past)
         (λ x h. loses_fired x h (still_there x.0 h.placed) (still_has x.0)) (each_held q past))
 
-    -- and none where none fires
-    pub withdrawn-silent : firings q past e ≡ [] → written_withdrawn q past e ≡ []
-    withdrawn-silent none_fires =
-        withdrawn-unselected
-        ∙ filter_map-each _ (λ x. None) (held q past)
-        (all-each (IsHeld q past) _ (held q past)
-        (λ x h. ap (λ (k : Option PaneKind). cond (is_some k) (written_by q x.0 (stands_in q past x.0 x.1)) None) (silent x.0 (still_there x.0 h.placed)))
-        (each_held q past))
-        ∙ none_given (held q past)
-      where
-        -- no pane fires
-        silent : (p : Place) → among p (places q (e ∷ past)) ≡ true → kind_of q past e p (contents q (e ∷ past) p) ≡ None
-        silent p there =
-            let c : List Datum = contents q (e ∷ past) p in
-            elim (kind_of q past e p c) as (λ o. kind_of q past e p c ≡ o → o ≡ None) [
-              | None ↦ λ _. refl
-              | Some k ↦ λ is. absurd (true≢false (
-                  sym (ap (list_any (λ f. true)) (firings_are q past e)
-                  ∙ found_gives (does q past e) (λ f. true) p c (firing_as q law past e p there k) (ap (firing_of (length past) p c (set_of p c)) is) refl (panes q (e ∷ past))
-                  (find-with_contents (contents q (e ∷ past)) p (places q (e ∷ past)) ∙ ap (λ (b : Bool). cond b (Some c) None) there))
-                  ∙ ap (list_any (λ f. true)) none_fires))
-            ] refl
-          where
-            set_of : Place → List Datum → List Datum
-            set_of p c = firing_set q.mode c (unshown_of q past p c)
-
-        none_given : (xs : List (Place × List Datum)) → filter_map {Y = Place × List Cell} (λ x. None) xs ≡ []
-        none_given [] = refl
-        none_given (x ∷ xs) = none_given xs
+-- an event that does nothing withdraws nothing
+pub withdrawn-nothing : (q : Query) (law : PlacesLaw q) (past : List Event) (e : Event) → effect_of q past e ≡ Nothing → written_withdrawn q past e ≡ []
+withdrawn-nothing q law past e none =
+    withdrawn-unselected q law past e (ap selection none)
+    ∙ ap (λ (x : Effect). filter_map (λ y. cond (is_some (kind_on q x y.0 (contents q (e ∷ past) y.0) (unshown_of q past y.0 (contents q (e ∷ past) y.0)))) (written_by q y.0 (stands_in q past y.0 y.1)) None) (held q past)) none
+    ∙ filter_map_none {B = Place × List Cell} (λ x. None) (held q past) (λ x. refl)
 
 -- a watermark withdraws what stood for the panes that fire
 pub withdrawn-watermark : (q : Query) (law : PlacesLaw q) (past : List Event) (o : Option ℕ) (t : ℤ) →
     written_withdrawn q past (Watermark o t) ≡ withdrawn_by_watermark q (mark q past) (mark q (Watermark o t ∷ past)) (kept q past)
 withdrawn-watermark q law past o t =
-    withdrawn-unselected q law past (Watermark o t) refl
+    withdrawn-unselected q law past (Watermark o t) (selects_none q past o t)
     ∙ filter_map-each _ (λ x. fired_written (kept_in q past x)) (held q past)
     (all-each (IsHeld q past) _ (held q past)
-    (λ x h. ap (λ (ds : List Datum). cond (is_some (kind_of q past (Watermark o t) x.0 ds)) (written_by q x.0 (stands_in q past x.0 x.1)) None) (sym h.all))
+    (λ x h. ap (λ (ds : List Datum). cond (is_some (kind_of q past (Watermark o t) x.0 ds)) (written_by q x.0 (stands_in q past x.0 x.1)) None)
+    (ap (λ (ds : List Datum). filter (is_there q x.0) (ds ++ selected q past)) (selects_none q past o t) ∙ sym h.all)
+    ∙ ap (λ (k : Option PaneKind). cond (is_some k) (written_by q x.0 (stands_in q past x.0 x.1)) None) (kind-watermark q past o t x.0 x.1))
     (each_held q past))
     ∙ sym (filter_map-map fired_written (kept_in q past) (held q past))
   where

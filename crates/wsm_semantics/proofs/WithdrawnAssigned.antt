@@ -15,13 +15,12 @@ use Rattle.wsm_windows.specs.Windows.{IsShape}
 use Rattle.wsm_windows.specs.declared.place.Place.{Place}
 use Rattle.wsm_windows.specs.Places.{place_cmp}
 use Rattle.wsm_windows.proofs.Places.{places_total, places_exact}
-use Rattle.wsm_semantics.specs.Query.{Query, Datum, SessionsByEvent, mark, verdict_on}
+use Rattle.wsm_semantics.specs.Query.{Query, Datum, SessionsByEvent, mark, verdict_on, datum}
 use Rattle.wsm_semantics.specs.Panes.{places, contents, held, is_live_at}
 use Rattle.wsm_semantics.specs.Firings.{Firing, firings_so_far}
 use Rattle.wsm_semantics.specs.StandingFirings.{standing}
 use Rattle.wsm_semantics.specs.Retractions.{is_same}
 use Rattle.wsm_semantics.specs.Kept.{Kept, kept, kept_in, entered, stands_in, kind_by_record, written_by, withdrawn_entering, withdrawn_firing, withdrawn_by_record}
-use Rattle.wsm_semantics.specs.Replay.{datum}
 use Rattle.wsm_semantics.proofs.Lists.{all-each}
 use Rattle.wsm_semantics.proofs.Tables.{among, keyed, find-keyed, is_sorted-keyed, find-held, is_sorted-held}
 use Rattle.wsm_semantics.proofs.Assigned.{IsAssigned}

@@ -18,13 +18,12 @@ use Rattle.wsm_windows.specs.declared.window.Shape.TheVariants.{Session}
 use Rattle.wsm_windows.specs.declared.place.Place.{Place}
 use Rattle.wsm_windows.specs.Places.{place_cmp}
 use Rattle.wsm_windows.proofs.Places.{tie_is, places_exact}
-use Rattle.wsm_semantics.specs.Query.{Query, Datum, SessionsByEvent, mark, verdict_on, selected}
+use Rattle.wsm_semantics.specs.Query.{Query, Datum, SessionsByEvent, mark, verdict_on, selected, datum}
 use Rattle.wsm_semantics.specs.Panes.{places, is_there, contents, held}
 use Rattle.wsm_semantics.specs.Firings.{Firing, firings_so_far, kind_on_record}
 use Rattle.wsm_semantics.specs.StandingFirings.{candidates, standing}
 use Rattle.wsm_semantics.specs.Retractions.{is_same}
 use Rattle.wsm_semantics.specs.Kept.{Kept, Stands, Unfired, Firing as Stood, Joined, kept, kept_in, stands_joined, is_linked, joined_all, with_record, merged_session, session_with, kind_by_record, written_by, parted, parted_by, withdrawn_entering, withdrawn_firing, withdrawn_by_record, entered}
-use Rattle.wsm_semantics.specs.Replay.{datum}
 use Rattle.wsm_semantics.proofs.Lists.{all-each}
 use Rattle.wsm_semantics.proofs.Tables.{among}
 use Rattle.wsm_semantics.proofs.Each.{all-any, filter_map-each, filter_map-filter, filter_map-map, passed}
@@ -35,7 +34,8 @@ use Rattle.wsm_semantics.proofs.ShownPanes.{kind_of}
 use Rattle.wsm_semantics.proofs.FiringsSoFar.{PlacesLaw}
 use Rattle.wsm_semantics.proofs.StandingFirings.{Status, Idle, Standing, Parted, picked, picked-status, some_stands, status_joined, joined_stands, joined_statuses, stands_as}
 use Rattle.wsm_semantics.proofs.StandsTurn.{status_in, stands_as_status, status-taken}
-use Rattle.wsm_semantics.proofs.KeptTurns.{prompt, selects_one}
+use Rattle.wsm_semantics.proofs.KeptTurns.{prompt}
+use Rattle.wsm_semantics.proofs.Effects.{selects_one}
 use Rattle.wsm_semantics.proofs.EventTurns.{EntersPanes, record_kind}
 use Rattle.wsm_semantics.proofs.StandsStill.{any_of, stands_now}
 use Rattle.wsm_semantics.proofs.Withdrawn.{IsHeld, now, Loses, each_held, itself_same, loses_fired, withdrawn-lost, written_withdrawn}

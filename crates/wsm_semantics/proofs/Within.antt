@@ -1,16 +1,16 @@
 -- Lists of records by the records that they hold: which are within which, and those that are parts of
 -- the selected records, in their order.
-use Rattle.std.proofs.Common.{◌≡◌, ℕ, ◌<◌, Bool, true, false, ◌&&◌, cond, List, [], ◌∷◌, ◌++◌, length, Some, None, refl, sym, ap, subst, ◌∙◌, ⊎_elim}
+use Rattle.std.proofs.Common.{◌≡◌, ℕ, ◌<◌, Bool, true, false, cond, List, [], ◌∷◌, ◌++◌, length, refl, sym, ap, subst, ◌∙◌, ⊎_elim}
 use Rattle.std.proofs.lemmas.Bool.{true≢false, and_parts, and_from, or_cases, or_left, or_right, eqb-true}
 use Rattle.std.specs.Prelude.{filter}
 use Rattle.std.specs.List.{AllByRecursion}
-use Rattle.wsm_record.specs.Event.{Event, Record, Watermark}
-use Rattle.wsm_semantics.specs.Query.{Datum, Query, mark, is_taken, selected, selection_of}
+use Rattle.wsm_record.specs.Event.{Event}
+use Rattle.wsm_semantics.specs.Query.{Datum, Query, selection, selected, selection_of}
 use Rattle.wsm_semantics.specs.Firings.{holds}
 use Rattle.wsm_semantics.specs.StandingFirings.{is_within}
-use Rattle.wsm_semantics.specs.Replay.{datum}
 use Rattle.wsm_semantics.proofs.Lists.{IsNonEmpty, filter-all, all-each}
 use Rattle.wsm_semantics.proofs.Each.{itself, filter-each}
+use Rattle.wsm_semantics.proofs.Effects.{by_effect}
 use Rattle.wsm_semantics.proofs.MergedRecords.{AreFalling, Below, none_held, holds-filter, selected_below}
 
 -- each record that the first holds, the second holds
@@ -69,10 +69,7 @@ one_held P sel xs all part (x, rest, is) =
 
 -- an event's record, if it is selected, is of the event's turn
 pub new_turn : (q : Query) (past : List Event) (e : Event) → AllByRecursion (λ d. d.turn ≡ length past) (selection_of q past e)
-new_turn q past (Record None t vs) = tt
-new_turn q past (Record (Some k) t vs) =
-    elim (is_taken q past (Record (Some k) t vs) && q.selects k vs) as (λ b. AllByRecursion (λ d. d.turn ≡ length past) (cond b (datum (length past) (mark q past) k t vs ∷ []) [])) [ true ↦ (refl, tt) | false ↦ tt ]
-new_turn q past (Watermark o t) = tt
+new_turn q past = by_effect q past (λ e x. AllByRecursion (λ d. d.turn ≡ length past) (selection x)) (λ k t vs _ _. (refl, tt)) (λ o t _. tt) (λ e _. tt)
 
 -- what was a part of the selected records is one still
 pub part_stays : (q : Query) (past : List Event) (e : Event) (xs : List Datum) → IsPart (selected q past) xs → IsPart (selected q (e ∷ past)) xs

@@ -6,7 +6,7 @@ use Rattle.std.specs.List.{list_any}
 use Rattle.std.specs.Ordering.{eq_by_cmp}
 use Rattle.wsm_record.specs.declared.words.Mode.{Mode}
 use Rattle.wsm_record.specs.Modes.{is_over_all}
-use Rattle.wsm_record.specs.Event.{Event, Record, Watermark}
+use Rattle.wsm_record.specs.Event.{Event}
 use Rattle.wsm_windows.specs.declared.window.PaneKind.{PaneKind}
 use Rattle.wsm_windows.specs.declared.window.PaneKind.TheVariants.{Early, OnTime, Late, Final}
 use Rattle.wsm_windows.specs.declared.window.Shape.{Shape}
@@ -16,7 +16,7 @@ use Rattle.wsm_windows.specs.declared.place.Place.{Place}
 use Rattle.wsm_windows.specs.Places.{place_cmp, window_of}
 use Rattle.wsm_semantics.specs.declared.out_row.OutRow.{OutRow}
 use Rattle.wsm_semantics.specs.declared.out_row.OutRow.TheVariants.{Pane}
-use Rattle.wsm_semantics.specs.Query.{Datum, Query, mark}
+use Rattle.wsm_semantics.specs.Query.{Datum, Query, Effect, Selects, Rises, Nothing, effect_of}
 use Rattle.wsm_semantics.specs.Panes.{panes}
 
 pub record Firing : Type 0 where
@@ -62,21 +62,23 @@ abbrev pub firing_of : ℕ → Place → List Datum → List Datum → Option Pa
 firing_of turn p all fired None = None
 firing_of turn p all fired (Some kind) = Some (record { turn = turn; kind = kind; place = p; contents = all; fired = fired })
 
--- what a place with its contents does on the turn of an event, where it is told which records were shown before
-abbrev pub fire : (Datum → Bool) → Query → List Event → Event → Place → List Datum → Option Firing
-fire shown q past (Record key time values) p all =
+-- the kind of a firing of a place by what an event does, with its contents and those that weren't shown
+abbrev pub kind_on : Query → Effect → Place → List Datum → List Datum → Option PaneKind
+kind_on q (Selects d) p all unshown = if holds d all then kind_on_record q d.mark p.end (length unshown) else None
+kind_on q (Rises old new) p all unshown = kind_on_watermark q old new p (length (firing_set q.mode all unshown)) (length unshown)
+kind_on q Nothing p all unshown = None
+
+-- what a place with its contents does on a turn, where it is told which records were shown before
+abbrev pub fire : (Datum → Bool) → Query → ℕ → Effect → Place → List Datum → Option Firing
+fire shown q turn effect p all =
     let unshown = filter (λ d. not (shown d)) all in
-    if list_any (λ d. nat_eq d.turn (length past)) all
-    then firing_of (length past) p all (firing_set q.mode all unshown) (kind_on_record q (mark q past) p.end (length unshown))
-    else None
-fire shown q past (Watermark source time) p all =
-    let unshown = filter (λ d. not (shown d)) all in
-    let set = firing_set q.mode all unshown in
-    firing_of (length past) p all set (kind_on_watermark q (mark q past) (mark q (Watermark source time ∷ past)) p (length set) (length unshown))
+    firing_of turn p all (firing_set q.mode all unshown) (kind_on q effect p all unshown)
 
 -- what fires on a turn, where it is told which records of a place were shown before
 abbrev pub firings_by : (Place → Datum → Bool) → Query → List Event → Event → List Firing
-firings_by shown q past e = filter_map (λ p. fire (shown p.0) q past e p.0 p.1) (panes q (e ∷ past))
+firings_by shown q past e =
+    let effect = effect_of q past e in
+    filter_map (λ p. fire (shown p.0) q (length past) effect p.0 p.1) (panes q (e ∷ past))
 
 -- a firing of the place in the history had the record in its contents
 abbrev pub is_shown : Query → List Event → Place → Datum → Bool

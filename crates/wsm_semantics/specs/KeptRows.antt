@@ -1,14 +1,14 @@
 -- Worked rows on what is kept: after each event of some histories, a replay by what is kept alone
 -- keeps, fires and writes what the definitions say. Inputs are written as they are read, the oldest
 -- row first.
-use Rattle.std.specs.Prelude.{◌≡◌, refl, List, [], ◌∷◌, reverse, nat_eq, pos, int_lt, Some, None, if◌then◌else◌}
+use Rattle.std.specs.Prelude.{◌≡◌, refl, List, [], ◌∷◌, reverse, length, nat_eq, pos, int_lt, Some, None, if◌then◌else◌}
 use Rattle.wsm_record.specs.declared.cell.Cell.TheVariants as cells
 use Rattle.wsm_record.specs.declared.words.Form.TheVariants as form
 use Rattle.wsm_record.specs.declared.words.Mode.TheVariants as mode
 use Rattle.wsm_record.specs.Event.{Event}
 use Rattle.wsm_windows.specs.declared.window.Shape.TheVariants.{Sliding, Session}
 use Rattle.wsm_semantics.specs.declared.out_row.OutRow.{OutRow}
-use Rattle.wsm_semantics.specs.Query.{Query}
+use Rattle.wsm_semantics.specs.Query.{Query, effect_of}
 use Rattle.wsm_semantics.specs.Firings.{Firing, firings}
 use Rattle.wsm_semantics.specs.Relation.{turn_rows}
 use Rattle.wsm_semantics.specs.Lines.{Row, events}
@@ -26,7 +26,7 @@ latest (s ∷ ss) = s.0
 -- the stages of a history, the newest first: by a replay, and by the definitions
 abbrev by_replay : Query → List Event → List Stage
 by_replay q [] = []
-by_replay q (e ∷ past) = let ss = by_replay q past in (after q past e (latest ss), fired_by q past e (latest ss).panes, turn_rows_by q past e (latest ss)) ∷ ss
+by_replay q (e ∷ past) = let ss = by_replay q past in (after q past e (latest ss), fired_by q (length past) (effect_of q past e) (latest ss).panes, turn_rows_by q past e (latest ss)) ∷ ss
 
 abbrev by_definition : Query → List Event → List Stage
 by_definition q [] = []

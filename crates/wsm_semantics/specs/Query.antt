@@ -1,4 +1,4 @@
--- What a query means, and which records it selects. A history is a list of events, the newest
+-- What a query means, and what an event does on its turn. A history is a list of events, the newest
 -- first; nothing is kept beside it. The clauses of a query are this project's own.
 use Rattle.std.specs.Prelude.{◌≡◌, ℕ, Bool, ◌&&◌, List, [], ◌∷◌, ◌++◌, length, ℤ, Option, Some, None, is_none, if◌then◌else◌}
 use Rattle.wsm_record.specs.declared.event.Value.{Value}
@@ -53,14 +53,35 @@ verdict_on q past e = verdict q.clock q.declared past e
 abbrev pub is_taken : Query → List Event → Event → Bool
 is_taken q past e = is_none (verdict_on q past e)
 
--- the record of an event, if it is one that is admitted and selected
-abbrev pub selection_of : Query → List Event → Event → List Datum
-selection_of q past (Record None time values) = []
-selection_of q past (Record (Some key) time values) =
+-- the record of a turn that an event would be, if it is selected
+abbrev pub datum : ℕ → ℤ → ℕ → ℤ → List Value → Datum
+datum turn mark key time values = record { turn = turn; mark = mark; key = key; time = time; values = values }
+
+-- what an event does on its turn: it selects a record, it raises the watermark, or nothing
+pub data Effect : Type 0 where
+  Selects : (d : Datum) → Effect
+  Rises : (old : ℤ) → (new : ℤ) → Effect
+  Nothing : Effect
+
+-- a record is selected where its key is declared, it is taken and WHERE is true; a watermark matters
+-- where it raises that of the query
+abbrev pub effect_of : Query → List Event → Event → Effect
+effect_of q past (Record None time values) = Nothing
+effect_of q past (Record (Some key) time values) =
     if is_taken q past (Record (Some key) time values) && q.selects key values
-    then record { turn = length past; mark = mark q past; key = key; time = time; values = values } ∷ []
-    else []
-selection_of q past (Watermark source time) = []
+    then Selects (datum (length past) (mark q past) key time values)
+    else Nothing
+effect_of q past (Watermark source time) =
+    if raises q past (Watermark source time) then Rises (mark q past) (mark q (Watermark source time ∷ past)) else Nothing
+
+-- the record that is selected, if one is
+abbrev pub selection : Effect → List Datum
+selection (Selects d) = d ∷ []
+selection (Rises old new) = []
+selection Nothing = []
+
+abbrev pub selection_of : Query → List Event → Event → List Datum
+selection_of q past e = selection (effect_of q past e)
 
 -- the selected records of a history, the newest first
 abbrev pub selected : Query → List Event → List Datum

@@ -11,12 +11,11 @@ use Rattle.wsm_admission.specs.declared.verdict.Refusal.{Refusal}
 use Rattle.wsm_admission.specs.Admission as admission
 use Rattle.wsm_admission.specs.Admission.{counter, decision, after}
 use Rattle.wsm_semantics.specs.declared.out_row.OutRow.{OutRow}
-use Rattle.wsm_semantics.specs.Query.{Query}
+use Rattle.wsm_semantics.specs.Query.{Query, datum}
 use Rattle.wsm_semantics.specs.Firings.{firings_so_far}
 use Rattle.wsm_semantics.specs.Retractions.{retracted_in}
 use Rattle.wsm_semantics.specs.Relation.{relation, stream_rows, chosen_rows}
 use Rattle.wsm_semantics.specs.Kept.{kept}
-use Rattle.wsm_semantics.specs.Replay.{datum}
 use Rattle.wsm_semantics.specs.Summaries as panes
 use Rattle.wsm_semantics.specs.Summaries.{Plan, Pane, Fired, summaries, row_of}
 
