@@ -1,6 +1,6 @@
 -- What the turns of a verified program cost, by what is kept: as much as by the history, and at most
 -- what the program states.
-use Rattle.std.proofs.Common.{◌≡◌, ℕ, ◌≤◌, cond, List, [], ◌∷◌, map, length, ℤ, Option, Some, None, Result, Ok, IsTrue, refl, sym, ap, ◌∙◌, arith}
+use Rattle.std.proofs.Common.{◌≡◌, ℕ, ◌≤◌, true, false, cond, List, [], ◌∷◌, map, length, ℤ, Option, Some, None, Result, Ok, IsTrue, refl, sym, ap, ◌∙◌, arith}
 use Rattle.std.specs.Prelude.{is_none}
 use Rattle.std.specs.List.{AllByRecursion}
 use Rattle.wsm_record.specs.declared.event.Value.{Value}
@@ -13,12 +13,12 @@ use Rattle.wsm_admission.specs.declared.verdict.Admitted.{Admitted}
 use Rattle.wsm_admission.specs.declared.verdict.Refusal.{Refusal}
 use Rattle.wsm_admission.specs.Clock.{verdict_at, least, watermark_of}
 use Rattle.wsm_admission.specs.Admission.{answer, marks_with}
-use Rattle.wsm_semantics.specs.Query.{mark, verdict_on, selected}
+use Rattle.wsm_semantics.specs.Query.{datum, Rises, Nothing, mark, raises, verdict_on, selected}
 use Rattle.wsm_semantics.specs.Firings.{Firing, firings}
 use Rattle.wsm_semantics.specs.Kept.{kept}
 use Rattle.wsm_semantics.specs.Summaries.{Pane, summaries, summary_fired}
-use Rattle.wsm_semantics.specs.Replay.{datum}
 use Rattle.wsm_semantics.specs.Steps.{State, Fits, step_fires}
+use Rattle.wsm_semantics.proofs.Effects.{effect-refused}
 use Rattle.wsm_semantics.proofs.Lists.{all-each}
 use Rattle.wsm_semantics.proofs.MachineSteps.{decision-fits}
 use Rattle.wsm_semantics.proofs.Steps.{fires-step}
@@ -26,7 +26,7 @@ use Rattle.wsm_program.specs.Program.{Program, is_program}
 use Rattle.wsm_program.specs.declared.program.Costs.{Costs}
 use Rattle.wsm_verifier.specs.Rules.{judge}
 use Rattle.wsm_verifier.proofs.Lawful.{lawful as program_lawful}
-use Rattle.wsm_machine.specs.Meaning.{query_of, plan_of, steps_among, record_steps, joins_held, windows_entered, CountsSessions, record_cost, record_cost_by, pane_cost, pane_cost_by, answer_cost, step_cost}
+use Rattle.wsm_machine.specs.Meaning.{query_of, plan_of, record_steps, before_where, effect_cost, joins_held, windows_entered, CountsSessions, record_cost, record_cost_by, pane_cost, pane_cost_by, answer_cost, step_cost}
 use Rattle.wsm_machine.specs.Sound.{IsSoundState, MayFire}
 use Rattle.wsm_machine.proofs.QueryFolds.{plan_lawful, plan_runs}
 use Rattle.wsm_machine.proofs.SoundSteps.{record_in_range}
@@ -58,11 +58,10 @@ module _ (p : Program) where
         ∙ cost_turnless 0 (length past) (mark (query_of p) past) k t vs s.panes
         ∙ ap (λ (ps : List (Place × Pane (List Value))). record_cost_by p ps (datum (length past) (mark (query_of p) past) k t vs)) is
         ∙ cost_is p counts past k t vs (ap is_none (sym h))
-    answer_cost_is new (Record (Some k) t vs) (Some r) h = λ i. cond (is_none (h i)) (steps_among p (selected (query_of p) past) (datum (length past) (mark (query_of p) past) k t vs)) 0
     answer_cost_is new (Record None t vs) None h = refl
-    answer_cost_is new (Record None t vs) (Some r) h = refl
-    answer_cost_is new (Watermark o t) None h = refl
-    answer_cost_is new (Watermark o t) (Some r) h = refl
+    answer_cost_is new (Watermark o t) None h =
+        elim (raises (query_of p) past (Watermark o t)) as (λ b. 0 ≡ effect_cost p (selected (query_of p) past) (cond b (Rises (mark (query_of p) past) (mark (query_of p) (Watermark o t ∷ past))) Nothing)) [ true ↦ refl | false ↦ refl ]
+    answer_cost_is new e (Some r) h = ap (effect_cost p (selected (query_of p) past)) (sym (effect-refused (before_where p) past e r (sym h)))
 
   -- a turn costs as much as by the history
   pub step_cost_is : IsTrue (is_program p) → (s : State (List Value)) (e : Event) (past : List Event) → Fits (plan_of p) (query_of p) s past → step_cost p s e ≡ record_cost p past e

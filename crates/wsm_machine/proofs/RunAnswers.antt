@@ -11,12 +11,11 @@ use Rattle.wsm_record.specs.Event.{Event, Record}
 use Rattle.wsm_windows.specs.declared.window.Shape.{Shape}
 use Rattle.wsm_windows.specs.declared.window.Shape.TheVariants.{Fixed, Sliding, Session}
 use Rattle.wsm_fold.specs.Accumulators.{SumsFit}
-use Rattle.wsm_semantics.specs.Query.{Query, Datum, mark, is_taken, selected}
+use Rattle.wsm_semantics.specs.Query.{Query, Datum, datum, Selects, Nothing, mark, is_taken, selected}
 use Rattle.wsm_semantics.specs.Panes.{windows_among}
 use Rattle.wsm_semantics.specs.Firings.{Firing}
 use Rattle.wsm_semantics.specs.Kept.{Kept, kept, is_linked}
 use Rattle.wsm_semantics.specs.Summaries.{Pane, fired_count, summaries, summary_fired}
-use Rattle.wsm_semantics.specs.Replay.{datum}
 use Rattle.wsm_semantics.proofs.Lists.{length_each}
 use Rattle.wsm_semantics.proofs.Images.{where-summaries}
 use Rattle.wsm_program.specs.Program.{Program, is_program}
@@ -26,7 +25,7 @@ use Rattle.wsm_record.specs.declared.cell.Cell.{Cell}
 use Rattle.wsm_record.specs.declared.cell.Cell.TheVariants as cells
 use Rattle.wsm_windows.specs.declared.place.Place.{Place}
 use Rattle.wsm_machine.specs.declared.outcome.Outcome.TheVariants.{Done}
-use Rattle.wsm_machine.specs.Meaning.{where_run, update_run, fire_run, is_done, top_is_true, cells_below, selects, updated, row, query_of, plan_of, record_steps, joins_two, joins_held, joins_kept, CountsSessions, record_cost, record_cost_by, fire_steps, pane_cost, pane_cost_by, windows_entered}
+use Rattle.wsm_machine.specs.Meaning.{where_run, update_run, fire_run, is_done, top_is_true, cells_below, selects, updated, row, query_of, plan_of, joins_two, joins_held, joins_kept, CountsSessions, effect_cost, record_cost, record_cost_by, fire_steps, pane_cost, pane_cost_by, windows_entered}
 use Rattle.wsm_machine.specs.Sound.{AreFoldsOf, IsSoundPane, IsDatumInRange}
 use Rattle.wsm_machine.proofs.EndedRuns.{values_are}
 use Rattle.wsm_machine.proofs.QueryFolds.{folded_is}
@@ -89,7 +88,7 @@ cost_is p counts past key time values taken =
           + cond ((linked_as_kept p p.header.shape d (kept q past) ∙ sym (counts.joins_them past key time values taken selects)) i) (length p.header.kinds) 0)
       | false ↦ λ other. refl
     ] refl
-    ∙ (λ i. cond (sym taken i) (record_steps p key values (length (windows_among p.header.shape p.header.clock.lateness (d ∷ selected q past) d)) (joins_two p.header.shape (selected q past) d)) 0)
+    ∙ ap (effect_cost p (selected q past)) (sym (λ i. cond (taken i && true) (Selects d) Nothing))
 
 -- a firing costs as much
 pub fired_cost_is : (p : Program) (f : Firing) → pane_cost_by p (summary_fired (plan_of p) f) ≡ pane_cost p f

@@ -12,13 +12,12 @@ use Rattle.wsm_windows.specs.Life.{live_windows_of}
 use Rattle.wsm_admission.specs.declared.verdict.Admitted.{Admitted}
 use Rattle.wsm_admission.specs.declared.verdict.Admitted.TheVariants as admitted
 use Rattle.wsm_admission.specs.declared.verdict.Refusal.{Refusal}
-use Rattle.wsm_semantics.specs.Query.{Query, Datum, mark, is_taken, selected}
+use Rattle.wsm_semantics.specs.Query.{Query, Datum, datum, Effect, Selects, Rises, Nothing, effect_of, mark, is_taken, selected}
 use Rattle.wsm_semantics.specs.Sessions.{sessions}
 use Rattle.wsm_semantics.specs.Panes.{of_key, windows_among}
 use Rattle.wsm_semantics.specs.Firings.{Firing}
 use Rattle.wsm_semantics.specs.Kept.{Kept, kept, is_linked}
 use Rattle.wsm_semantics.specs.Summaries.{Plan, Pane, Fired, linked}
-use Rattle.wsm_semantics.specs.Replay.{datum}
 use Rattle.wsm_semantics.specs.Steps.{State, answer_to}
 use Rattle.wsm_fold.specs.Fold.{joins, folds_of}
 use Rattle.wsm_program.specs.declared.instr.SectionId.TheVariants.{Where, Update, Fire}
@@ -134,13 +133,19 @@ joins_two shape before d = false
 abbrev pub steps_among : Program → List Datum → Datum → ℕ
 steps_among p before d = record_steps p d.key d.values (length (windows_among p.header.shape p.header.clock.lateness (d ∷ before) d)) (joins_two p.header.shape before d)
 
+-- WHERE runs on each record that is taken: on each that would be selected if there were no WHERE
+abbrev pub before_where : Program → Query
+before_where p = record (query_of p) { selects = λ key values. true }
+
+-- what an event does costs so many instructions, after some selected records
+abbrev pub effect_cost : Program → List Datum → Effect → ℕ
+effect_cost p before (Selects d) = steps_among p before d
+effect_cost p before (Rises old new) = 0
+effect_cost p before Nothing = 0
+
 -- the instructions of a turn, its firings aside, and a step for each accumulator that was joined
 abbrev pub record_cost : Program → List Event → Event → ℕ
-record_cost p past (Record (Some key) time values) =
-    if is_taken (query_of p) past (Record (Some key) time values)
-    then steps_among p (selected (query_of p) past) (datum (length past) (mark (query_of p) past) key time values)
-    else 0
-record_cost p past e = 0
+record_cost p past e = effect_cost p (selected (query_of p) past) (effect_of (before_where p) past e)
 
 abbrev pub fire_steps : Program → ℕ → ℕ → Option (List Value) → ℕ
 fire_steps p key count None = 0
