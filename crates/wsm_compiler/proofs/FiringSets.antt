@@ -1,14 +1,14 @@
 -- What a firing's row is computed over, after any history: at least one record and at most as many as the clock allows, all of the
 -- firing's key and in range.
 use Rattle.std.proofs.Common.{◌≡◌, ℕ, suc, ◌≤◌, Bool, true, false, ◌&&◌, not, cond, List, [], ◌∷◌, ◌++◌, length, ℤ, Option, Some, None, refl, arith}
-use Rattle.std.specs.Prelude.{◌+ℤ◌, filter, filter_map, is_none, nat_eq, nat_lt, int_le, int_lt, unsigned_abs}
+use Rattle.std.specs.Prelude.{◌+ℤ◌, filter, filter_map, nat_eq, nat_lt, int_le, int_lt, unsigned_abs}
 use Rattle.std.specs.Option.{IfSome}
-use Rattle.std.specs.List.{AllByRecursion, cons_option, last_or, list_any}
+use Rattle.std.specs.List.{AllByRecursion, cons_option, last_or}
 use Rattle.std.proofs.lemmas.Bool.{and_from, eqb-true, and_parts}
 use Rattle.wsm_record.specs.declared.event.Value.{Value}
 use Rattle.wsm_record.specs.declared.words.Mode.{Mode}
 use Rattle.wsm_record.specs.declared.words.Mode.TheVariants.{Discarding, Accumulating, Retracting}
-use Rattle.wsm_record.specs.Event.{Event, Record, Watermark}
+use Rattle.wsm_record.specs.Event.{Event, Record}
 use Rattle.wsm_record.specs.Schema.{fit_fields}
 use Rattle.wsm_windows.specs.declared.window.PaneKind.{PaneKind}
 use Rattle.wsm_windows.specs.declared.window.PaneKind.TheVariants.{Early, OnTime, Late, Final}
@@ -16,15 +16,14 @@ use Rattle.wsm_windows.specs.Life.{is_due}
 use Rattle.wsm_windows.specs.declared.place.Place.{Place}
 use Rattle.wsm_windows.specs.Places.{place_cmp, window_of}
 use Rattle.wsm_windows.proofs.Places.{places_exact}
-use Rattle.wsm_admission.specs.declared.verdict.Refusal.{Refusal}
 use Rattle.wsm_admission.specs.Clock.{admitted_count}
 use Rattle.wsm_admission.proofs.Taken.{taken_record, admitted_count-le}
-use Rattle.wsm_semantics.specs.Query.{Query as Meant, Datum, mark, verdict_on, selection_of, selected}
+use Rattle.wsm_semantics.specs.Query.{Query as Meant, Datum, Effect, Selects, Rises, Nothing, effect_of, selection, mark, verdict_on, selection_of, selected}
 use Rattle.wsm_semantics.specs.Panes.{is_there, stands_in, contents, places, with_contents, panes, held}
-use Rattle.wsm_semantics.specs.Firings.{Firing, firing_set, is_enough, kind_on_record, kind_on_watermark, firing_of, fire, is_shown, firings, firings_so_far}
-use Rattle.wsm_semantics.specs.Replay.{datum}
+use Rattle.wsm_semantics.specs.Firings.{Firing, firing_set, is_enough, kind_on_record, kind_on_watermark, firing_of, fire, holds, is_shown, firings, firings_so_far}
 use Rattle.wsm_semantics.specs.Retractions.{standing_for, withdrawn}
 use Rattle.wsm_semantics.specs.StandingFirings.{candidates, greatest_of, holds_all, standing}
+use Rattle.wsm_semantics.proofs.Effects.{by_effect}
 use Rattle.wsm_semantics.proofs.SelectedRecords.{selected_count}
 use Rattle.wsm_semantics.proofs.Lists.{filter-all, put-all}
 use Rattle.wsm_machine.proofs.SoundFirings.{enough_some}
@@ -77,15 +76,7 @@ module _ (m : Meant) where
       and_from (nat_lt key (length m.declared.keys)) (fit_fields m.declared.fields values) t.has_key t.fits
 
   one_fits : (e : Event) (past : List Event) → AllByRecursion Fits (selection_of m past e)
-  one_fits (Record None time values) past = tt
-  one_fits (Record (Some key) time values) past = pick (verdict_on m past (Record (Some key) time values)) refl
-    where
-      pick : (v : Option Refusal) → verdict_on m past (Record (Some key) time values) ≡ v → AllByRecursion Fits (cond (is_none v && m.selects key values) (datum (length past) (mark m past) key time values ∷ []) [])
-      pick None h =
-          let fits = taken_fits past key time values h in
-          elim (m.selects key values) as (λ b. AllByRecursion Fits (cond b (datum (length past) (mark m past) key time values ∷ []) [])) [ true ↦ (fits, tt) | false ↦ tt ]
-      pick (Some r) h = tt
-  one_fits (Watermark source time) past = tt
+  one_fits e past = by_effect m past (λ e x. AllByRecursion Fits (selection x)) (λ key time values taken _. (taken_fits past key time values taken, tt)) (λ o t _. tt) (λ e _. tt) e
 
   all_fit : (past : List Event) → AllByRecursion Fits (selected m past)
   all_fit [] = tt
@@ -171,33 +162,32 @@ module _ (m : Meant) where
   fired turn p all set None h = tt
   fired turn p all set (Some k) h = h k refl
 
-  given : (b : Bool) (o : Option Firing) → IfSome o IsOfSet → IfSome (cond b o None) IsOfSet
-  given true o h = h
-  given false o h = tt
+  passes : (b : Bool) (o : Option PaneKind) (k : PaneKind) → cond b o None ≡ Some k → o ≡ Some k
+  passes true o k h = h
+  passes false o k h = none≢some h
 
-  one_fires : (shown : Datum → Bool) (past : List Event) (e : Event) (p : Place) (all : List Datum) → AreOf p all → IfSome (fire shown m past e p all) IsOfSet
-  one_fires shown past (Record key time values) p all h =
-      let t : Datum → Bool = λ d. not (shown d) in
+  one_fires : (shown : Datum → Bool) (turn : ℕ) (x : Effect) (p : Place) (all : List Datum) → AreOf p all → IfSome (fire shown m turn x p all) IsOfSet
+  one_fires shown turn (Selects d) p all h =
+      let t : Datum → Bool = λ x. not (shown x) in
       let unshown = filter t all in
-      let kind = kind_on_record m (mark m past) p.end (length unshown) in
+      let kind = kind_on_record m d.mark p.end (length unshown) in
       let set = firing_set m.mode all unshown in
-      given (list_any (λ d. nat_eq d.turn (length past)) all) (firing_of (length past) p all set kind)
-      (fired (length past) p all set kind (λ k is. set_of m.mode p t all h (some_unshown m.mode t all (on_record (mark m past) p.end (length unshown) k is))))
-  one_fires shown past (Watermark source time) p all h =
-      let old = mark m past in
-      let new = mark m (Watermark source time ∷ past) in
+      fired turn p all set (cond (holds d all) kind None)
+      (λ k is. set_of m.mode p t all h (some_unshown m.mode t all (on_record d.mark p.end (length unshown) k (passes (holds d all) kind k is))))
+  one_fires shown turn (Rises old new) p all h =
       let t : Datum → Bool = λ d. not (shown d) in
       let unshown = filter t all in
       let set = firing_set m.mode all unshown in
       let kind = kind_on_watermark m old new p (length set) (length unshown) in
       let end = p.end +ℤ m.clock.lateness in
-      fired (length past) p all set kind
+      fired turn p all set kind
       (λ k is. set_of m.mode p t all h (on_watermark (is_due (window_of p) old new) (int_lt old end && int_le end new) (length set) (length unshown) k is (some_unshown m.mode t all)))
+  one_fires shown turn Nothing p all h = tt
 
   pub firings_of_sets : (past : List Event) (e : Event) → AllByRecursion IsOfSet (firings m past e)
   firings_of_sets past e =
-      all_found IsOfSet (λ p. fire (is_shown m past p.0) m past e p.0 p.1) (panes m (e ∷ past))
-      (all_each IsPaneOf (λ p. IfSome (fire (is_shown m past p.0) m past e p.0 p.1) IsOfSet) (λ p h. one_fires (is_shown m past p.0) past e p.0 p.1 h) (panes m (e ∷ past)) (panes_are (e ∷ past)))
+      all_found IsOfSet (λ p. fire (is_shown m past p.0) m (length past) (effect_of m past e) p.0 p.1) (panes m (e ∷ past))
+      (all_each IsPaneOf (λ p. IfSome (fire (is_shown m past p.0) m (length past) (effect_of m past e) p.0 p.1) IsOfSet) (λ p h. one_fires (is_shown m past p.0) (length past) (effect_of m past e) p.0 p.1 h) (panes m (e ∷ past)) (panes_are (e ∷ past)))
 
   pub so_far_of_sets : (past : List Event) → AllByRecursion IsOfSet (firings_so_far m past)
   so_far_of_sets [] = tt

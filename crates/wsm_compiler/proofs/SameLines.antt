@@ -18,11 +18,10 @@ use Rattle.wsm_admission.specs.declared.verdict.Refusal.{Refusal}
 use Rattle.wsm_admission.specs.Clock.{admitted_count, late_count, refused_count}
 use Rattle.wsm_admission.specs.Admission.{counter}
 use Rattle.wsm_semantics.specs.declared.out_row.OutRow.TheVariants.{Pane}
-use Rattle.wsm_semantics.specs.Query.{Query as Meant, Datum, mark, raises, verdict_on, selection_of, selected}
+use Rattle.wsm_semantics.specs.Query.{Query as Meant, Datum, datum, Effect, Selects, Rises, Nothing, effect_of, selection, mark, raises, verdict_on, selected}
 use Rattle.wsm_semantics.specs.Panes.{windows_among, is_there, is_live_at, with_contents, panes, held}
 use Rattle.wsm_semantics.specs.Firings.{Firing, holds, shows, fire, firings_by, is_shown, firings, firings_so_far, row_of, pane_rows}
 use Rattle.wsm_semantics.specs.Relation.{sorted_rows, relation_at, relation, stream_rows, chosen_rows, streamed, turn_rows}
-use Rattle.wsm_semantics.specs.Replay.{datum}
 use Rattle.wsm_semantics.specs.Retractions.{standing_for, panes_before_drops, is_same, withdrawn, written_of, retracted, retract_rows}
 use Rattle.wsm_semantics.specs.StandingFirings.{standing}
 use Rattle.wsm_semantics.specs.Lines.{Row, Out, End, events, refusal_lines, turn_lines, lines_so_far, fault_count, end_line, all_lines}
@@ -61,19 +60,19 @@ module _ (m : Meant) (sel : ℕ → List Value → Bool) (row : ℕ → List Dat
     rows : (key : ℕ) (ds : List Datum) → IsFiringSet m key ds → m.row key ds ≡ row key ds
 
   module _ (agree : Agree) where
-    selection_same : (past : List Event) (e : Event) → selection_of m past e ≡ selection_of other past e
-    selection_same past (Record None time values) = refl
-    selection_same past (Record (Some key) time values) = pick (verdict_on m past (Record (Some key) time values)) refl
+    effect_same : (past : List Event) (e : Event) → effect_of m past e ≡ effect_of other past e
+    effect_same past (Record None time values) = refl
+    effect_same past (Record (Some key) time values) = pick (verdict_on m past (Record (Some key) time values)) refl
       where
         pick : (v : Option Refusal) → verdict_on m past (Record (Some key) time values) ≡ v →
-            cond (is_none v && m.selects key values) (datum (length past) (mark m past) key time values ∷ []) [] ≡ cond (is_none v && sel key values) (datum (length past) (mark m past) key time values ∷ []) []
-        pick None h = ap (λ b. cond b (datum (length past) (mark m past) key time values ∷ []) []) (agree.selects key values (taken_fits m past key time values h))
+            cond (is_none v && m.selects key values) (Selects (datum (length past) (mark m past) key time values)) Nothing ≡ cond (is_none v && sel key values) (Selects (datum (length past) (mark m past) key time values)) Nothing
+        pick None h = ap (λ b. cond b (Selects (datum (length past) (mark m past) key time values)) Nothing) (agree.selects key values (taken_fits m past key time values h))
         pick (Some r) h = refl
-    selection_same past (Watermark source time) = refl
+    effect_same past (Watermark source time) = refl
 
     selected_same : (past : List Event) → selected m past ≡ selected other past
     selected_same [] = refl
-    selected_same (e ∷ past) = (λ i. selection_same past e i ++ selected_same past i)
+    selected_same (e ∷ past) = (λ i. selection (effect_same past e i) ++ selected_same past i)
 
     panes_same : (past : List Event) → panes m past ≡ panes other past
     panes_same past = ap (λ ds. with_contents (λ p. filter (is_there m p) ds) (flat_map (λ d. map (at d.key) (windows_among m.shape m.clock.lateness ds d)) ds)) (selected_same past)
@@ -83,12 +82,13 @@ module _ (m : Meant) (sel : ℕ → List Value → Bool) (row : ℕ → List Dat
 
     -- ---- firings
 
-    fire_same : (shown : Datum → Bool) (past : List Event) (e : Event) (p : Place) (all : List Datum) → fire shown m past e p all ≡ fire shown other past e p all
-    fire_same shown past (Record key time values) p all = refl
-    fire_same shown past (Watermark source time) p all = refl
+    fire_same : (shown : Datum → Bool) (turn : ℕ) (x : Effect) (p : Place) (all : List Datum) → fire shown m turn x p all ≡ fire shown other turn x p all
+    fire_same shown turn (Selects d) p all = refl
+    fire_same shown turn (Rises old new) p all = refl
+    fire_same shown turn Nothing p all = refl
 
     by_same : (shown also : Place → Datum → Bool) → shown ≡ also → (past : List Event) (e : Event) → firings_by shown m past e ≡ firings_by also other past e
-    by_same shown also h past e = (λ i. filter_map (λ p. fire_same (h i p.0) past e p.0 p.1 i) (panes_same (e ∷ past) i))
+    by_same shown also h past e = (λ i. filter_map (λ p. fire_same (h i p.0) (length past) (effect_same past e i) p.0 p.1 i) (panes_same (e ∷ past) i))
 
     shown_same : (past : List Event) → is_shown m past ≡ is_shown other past
     shown_same [] = (λ i p d. false)
