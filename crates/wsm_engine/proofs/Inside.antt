@@ -28,7 +28,8 @@ use Rattle.wsm_semantics.proofs.AssignedStep.{grid_of}
 use Rattle.wsm_semantics.proofs.Each.{map-all}
 use Rattle.wsm_semantics.proofs.Images.{where-summaries}
 use Rattle.wsm_semantics.proofs.KeptLaw.{gap_is_long}
-use Rattle.wsm_semantics.proofs.KeptTurns.{prompt, selects_one}
+use Rattle.wsm_semantics.proofs.Effects.{selects_one}
+use Rattle.wsm_semantics.proofs.KeptTurns.{prompt}
 use Rattle.wsm_semantics.proofs.SessionPlaces.{there_is, inside_links, is_session}
 use Rattle.wsm_semantics.proofs.SessionStep.{mine, joined_at, new_inside, places_more}
 use Rattle.wsm_semantics.proofs.HeldPanes.{IsHeldPane, held_panes}
