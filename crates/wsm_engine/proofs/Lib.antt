@@ -11,3 +11,5 @@ pub mod Actions
 pub mod StatedCosts
 pub mod Told
 mod Ignoring
+pub mod LongestRuns
+pub mod AccumulatorLaws

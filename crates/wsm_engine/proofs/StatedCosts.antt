@@ -53,12 +53,15 @@ module _ (p : Program) (costs : Costs) (judged : judge p ≡ Ok costs) (whole : 
   all_end [] h = tt
   all_end (f ∷ fs) h = (firing_ends f h.0, all_end fs h.1)
 
-  pub firings_end : (e : Event) → AllByRecursion (FiringEnds p) (firings (query_of p) past e)
-  firings_end e =
+  -- FIRE may read what each firing is computed over
+  pub firings_may : (e : Event) → AllByRecursion (MayFire p) (map (summary_fired (plan_of p)) (firings (query_of p) past e))
+  firings_may e =
       let is = program_lawful p whole in
-      all_end (firings (query_of p) past e)
-      (subst (AllByRecursion (MayFire p)) (fires-step (plan_of p) (plan_lawful p) (query_of p) (plan_runs p) is.shape (sessions_by_event p whole) is.lateness.low ran e past (histories.fits p costs judged whole past))
-      (step_fires_may p costs judged whole ran (histories.sound p costs judged whole past) e))
+      subst (AllByRecursion (MayFire p)) (fires-step (plan_of p) (plan_lawful p) (query_of p) (plan_runs p) is.shape (sessions_by_event p whole) is.lateness.low ran e past (histories.fits p costs judged whole past))
+      (step_fires_may p costs judged whole ran (histories.sound p costs judged whole past) e)
+
+  pub firings_end : (e : Event) → AllByRecursion (FiringEnds p) (firings (query_of p) past e)
+  firings_end e = all_end (firings (query_of p) past e) (firings_may e)
 
   pub record_spends : (e : Event) → record_cost p past e ≤ p.header.budget.per_record
   record_spends e = subst (λ n. n ≤ p.header.budget.per_record) (step_cost_is p whole ran e past (histories.fits p costs judged whole past)) (step_cost_within p costs judged whole ran e)
