@@ -1,16 +1,23 @@
 -- How a run, a judgement or a compilation ends early.
-use Rattle.std.specs.Prelude.{ℕ, Bool, true, false, if◌then◌else◌}
+use Rattle.std.specs.Prelude.{ℕ, Bool, true, false, List, ◌++◌, codes, if◌then◌else◌}
+use Rattle.std.specs.Fmt.{decimal}
 use Rattle.wsm_tokens.specs.declared.fault.ParseRefusal.{ParseRefusal}
 use Rattle.wsm_tokens.specs.declared.fault.ParseRefusal.TheVariants as parse
+use Rattle.wsm_tokens.specs.Place.{place_text}
+use Rattle.wsm_tokens.specs.Refusal.{fault_text}
 use Rattle.wsm_check.specs.declared.refusal.CheckRefusal.{CheckRefusal}
 use Rattle.wsm_check.specs.declared.refusal.CheckRefusal.TheVariants as check
+use Rattle.wsm_check.specs.Text as check_text
 use Rattle.wsm_program.specs.declared.refusal.DecodeRefusal.{DecodeRefusal}
 use Rattle.wsm_program.specs.declared.refusal.DecodeRefusal.TheVariants as bytes
+use Rattle.wsm_program.specs.Text as bytes_text
 use Rattle.wsm_verifier.specs.declared.rejection.Rejection.{Rejection}
 use Rattle.wsm_verifier.specs.declared.rejection.Rule.{Rule}
 use Rattle.wsm_verifier.specs.declared.rejection.Rule.TheVariants as rule
+use Rattle.wsm_verifier.specs.Text.{part_text, rule_name}
 use Rattle.wsm_csv.specs.declared.rows.ReadEnd.{ReadEnd}
 use Rattle.wsm_csv.specs.declared.rows.ReadEnd.TheVariants as read
+use Rattle.wsm.specs.declared.end.Refusal.{Refusal}
 use Rattle.wsm.specs.declared.end.Refusal.TheVariants.{Text, Check, Bytes}
 use Rattle.wsm.specs.declared.end.End.{End}
 use Rattle.wsm.specs.declared.end.End.TheVariants.{Refused, Rejected, Memory, ReadFailed, WriteFailed}
@@ -42,6 +49,25 @@ rule_number rule.BudgetRecord = 14
 rule_number rule.BudgetPane = 15
 rule_number rule.BudgetHeld = 16
 rule_number rule.Memory = 17
+
+-- as `P2 Unexpected at 1:8`, `C1 UnknownName in where` or `B3 Truncated`
+abbrev pub refusal_text : Refusal → List ℕ
+refusal_text (Text fault place) = fault_text fault ++ codes " at " ++ place_text place
+refusal_text (Check fault part) = check_text.fault_text fault ++ codes " in " ++ check_text.part_text part
+refusal_text (Bytes fault) = bytes_text.refusal_text fault
+
+-- as `V12 MayDivideByZero in fire at 2`
+abbrev pub rejection_text : Rejection → List ℕ
+rejection_text why =
+    codes "V" ++ decimal (rule_number why.rule) ++ codes " " ++ rule_name why.rule ++ codes " in " ++ part_text why.part ++ codes " at " ++ decimal why.place
+
+-- what the program prints behind its name
+abbrev pub end_text : End → List ℕ
+end_text (Refused why) = refusal_text why
+end_text (Rejected why) = rejection_text why
+end_text Memory = codes "out of memory"
+end_text ReadFailed = codes "read failed"
+end_text WriteFailed = codes "write failed"
 
 abbrev pub end_of_text : ParseRefusal → End
 end_of_text (parse.Text fault place) = Refused (Text fault place)

@@ -4,47 +4,78 @@ ghost use Rattle.std.specs.Prelude.{◌≡◌};
 ghost use Rattle.wsm.specs.Ends.{rule_number, status};
 
 use std::alloc::{AllocError, AllocFailed};
-use thiserror::Error;
+use std::error::Error;
+use std::fmt;
 use wsm_check::{CheckFault, CheckRefusal, Part};
 use wsm_csv::{DeviceFault, ReadEnd};
 use wsm_program::DecodeRefusal;
 use wsm_tokens::{Fault, ParseRefusal, Place};
 use wsm_verifier::{Rejection, Rule};
 
-/// Why a text is no query, or bytes are no program.
-#[derive(Clone, Copy, Debug, PartialEq, Eq, Error)]
+/// Why a text is no query, or bytes are no program. Its text is as `P2 Unexpected at 1:8`.
+#[derive(Clone, Copy, Debug, PartialEq, Eq)]
 pub enum Refusal {
     /// The reading of a text stops at a place.
-    #[error("{0} at {1}")]
     Text(Fault, Place),
     /// A check of a query that was read fails in a part of it.
-    #[error("{0} in {1}")]
     Check(CheckFault, Part),
     /// Bytes spell no program. Want of memory never stands here.
-    #[error("{0}")]
     Bytes(DecodeRefusal),
 }
 
 /// How a run, a judgement or a compilation ended early. Its text is what the program prints behind
 /// its name.
-#[derive(Clone, Copy, Debug, PartialEq, Eq, Error)]
+#[derive(Clone, Copy, Debug, PartialEq, Eq)]
 pub enum End {
     /// The text is no query, or the bytes are no program; nothing was written.
-    #[error("{0}")]
     Refused(Refusal),
     /// The verifier refuses the program; nothing was written. Want of memory never stands here.
-    #[error("V{} {} in {} at {}", number_of(.0.rule), .0.rule, .0.part, .0.place)]
     Rejected(Rejection),
     /// Memory ran out.
-    #[error("out of memory")]
     Memory,
     /// The rows could not be read on.
-    #[error("read failed")]
     ReadFailed,
     /// The device has failed.
-    #[error("write failed")]
     WriteFailed,
 }
+
+impl fmt::Display for Refusal {
+    ghost use Rattle.std.specs.Prelude.{Some};
+    ghost use Rattle.wsm.specs.Ends.{refusal_text};
+
+    ghost output = { λ refusal. Some (refusal_text refusal) };
+
+    fn fmt<W: fmt::Write>(&self, f: &mut fmt::Formatter<W>) -> fmt::Result {
+        match self {
+            Refusal::Text(fault, place) => write!(f, "{fault} at {place}"),
+            Refusal::Check(fault, part) => write!(f, "{fault} in {part}"),
+            Refusal::Bytes(fault) => write!(f, "{fault}"),
+        }
+    }
+}
+
+impl Error for Refusal {}
+
+impl fmt::Display for End {
+    ghost use Rattle.std.specs.Prelude.{Some};
+    ghost use Rattle.wsm.specs.Ends.{end_text};
+
+    ghost output = { λ end. Some (end_text end) };
+
+    fn fmt<W: fmt::Write>(&self, f: &mut fmt::Formatter<W>) -> fmt::Result {
+        match self {
+            End::Refused(refusal) => write!(f, "{refusal}"),
+            End::Rejected(Rejection { part, place, rule }) => {
+                write!(f, "V{} {rule} in {part} at {place}", number_of(*rule))
+            }
+            End::Memory => f.write_str("out of memory"),
+            End::ReadFailed => f.write_str("read failed"),
+            End::WriteFailed => f.write_str("write failed"),
+        }
+    }
+}
+
+impl Error for End {}
 
 /// The exit status of the program after an end: 3 and 4 where its input is refused or rejected, 5
 /// for memory, 6 and 7 for reading and writing.
