@@ -1,6 +1,6 @@
 -- What an event does on its turn, case by case: an admitted record that WHERE selects is selected, a
 -- watermark may rise, and all else does nothing.
-use Rattle.std.proofs.Common.{◌≡◌, ℕ, Bool, true, false, ◌&&◌, cond, List, [], ◌∷◌, length, ℤ, ◌≤ℤ◌, Option, Some, None, is_none, refl, sym, ap, subst, ◌∙◌, arith}
+use Rattle.std.proofs.Common.{◌≡◌, ℕ, Bool, true, false, ◌&&◌, cond, List, [], ◌∷◌, map, length, ℤ, ◌≤ℤ◌, Option, Some, None, is_none, refl, sym, ap, subst, ◌∙◌, arith}
 use Rattle.std.proofs.lemmas.Int.{ints}
 use Rattle.std.specs.Prelude.{int_lt}
 use Rattle.wsm_record.specs.declared.event.Value.{Value}
@@ -9,13 +9,34 @@ use Rattle.wsm_admission.specs.declared.verdict.Refusal.{Refusal}
 use Rattle.wsm_admission.specs.Clock.{admitted_count, least}
 use Rattle.wsm_admission.proofs.SourceMarks.{watermark_rises}
 use Rattle.wsm_admission.proofs.Taken.{refused_keeps}
-use Rattle.wsm_semantics.specs.Query.{Query, datum, Effect, Selects, Rises, Nothing, effect_of, selection, selection_of, mark, raises, verdict_on, is_taken}
+use Rattle.wsm_semantics.specs.Query.{Datum, Query, datum, Effect, Selects, Rises, Nothing, effect_of, selection, selection_of, mark, raises, verdict_on, is_taken}
 
 pub stays_where : (m n : ℤ) → m ≤ℤ n → int_lt m n ≡ false → n ≡ m
 stays_where m n h k = grind (arith, ints)
 
 not_past : (m : ℤ) → int_lt m m ≡ false
 not_past m = grind (arith, ints)
+
+-- ---- an effect whose record is changed
+
+abbrev pub effect_with : (Datum → Datum) → Effect → Effect
+effect_with change (Selects d) = Selects (change d)
+effect_with change (Rises old new) = Rises old new
+effect_with change Nothing = Nothing
+
+pub selection-with : (change : Datum → Datum) (x : Effect) → selection (effect_with change x) ≡ map change (selection x)
+selection-with change (Selects d) = refl
+selection-with change (Rises old new) = refl
+selection-with change Nothing = refl
+
+-- of a record, and of a watermark
+pub selects-with : (change : Datum → Datum) (d : Datum) (b : Bool) → cond b (Selects (change d)) Nothing ≡ effect_with change (cond b (Selects d) Nothing)
+selects-with change d true = refl
+selects-with change d false = refl
+
+pub rises-with : (change : Datum → Datum) (old new : ℤ) (b : Bool) → cond b (Rises old new) Nothing ≡ effect_with change (cond b (Rises old new) Nothing)
+rises-with change old new true = refl
+rises-with change old new false = refl
 
 module _ (q : Query) (past : List Event) where
   -- ---- the watermark

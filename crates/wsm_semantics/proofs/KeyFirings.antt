@@ -11,17 +11,17 @@ use Rattle.wsm_record.specs.Modes.{is_over_all}
 use Rattle.wsm_record.specs.Event.{Event, Record, Watermark}
 use Rattle.wsm_windows.specs.declared.window.PaneKind.{PaneKind}
 use Rattle.wsm_windows.specs.declared.place.Place.{Place}
-use Rattle.wsm_semantics.specs.Query.{Datum, Query, mark, selected, selection_of}
+use Rattle.wsm_semantics.specs.Query.{Datum, Query, mark, Effect, Selects, Rises, Nothing, effect_of, selected, selection_of}
 use Rattle.wsm_semantics.specs.Panes.{is_there, panes, contents}
-use Rattle.wsm_semantics.specs.Firings.{Firing, firings, firings_so_far, firing_of, firing_set, holds, is_shown, kind_on_record, kind_on_watermark, shows}
+use Rattle.wsm_semantics.specs.Firings.{Firing, firings, firings_so_far, firing_of, firing_set, holds, is_shown, kind_on, kind_on_record, kind_on_watermark, shows}
 use Rattle.wsm_semantics.specs.ByKey.{Keys, is_of, of_keys, where_of, HasRoom, at_turn, pane_at, firing_at, is_at}
 use Rattle.wsm_semantics.proofs.Lists.{all-each, filter_same, length_each}
 use Rattle.wsm_semantics.proofs.Each.{same_key, passed, filter-map, filter-append, list_any-filter, list_any-each, all-any}
+use Rattle.wsm_semantics.proofs.Effects.{effect_with, by_record}
 use Rattle.wsm_semantics.proofs.MergedRecords.{unlike}
 use Rattle.wsm_semantics.proofs.ShownPanes.{IsPane, each_pane, unshown_of, kind_of, does, firings_are, contents_below}
 use Rattle.wsm_semantics.proofs.FiringsSoFar.{shows_key, fires_as}
-use Rattle.wsm_semantics.proofs.KeyParts.{mark_of_part}
-use Rattle.wsm_semantics.proofs.KeyTurns.{IsRising, same_turn, AreTurns, is_said, selects_others}
+use Rattle.wsm_semantics.proofs.KeyTurns.{IsRising, same_turn, AreTurns, is_said, effect_of_part, selects_others}
 use Rattle.wsm_semantics.proofs.KeyPanes.{panes_of_part, first_of_both}
 
 -- ---- lists of what is given
@@ -90,12 +90,6 @@ module _ (f : ℕ → ℕ) where
         list_any-map (λ x. nat_eq x.turn (f d.turn)) (at_turn f) ds
         ∙ list_any-each (λ x. nat_eq (f x.turn) (f d.turn)) (λ x. nat_eq x.turn d.turn) ds (all-any (λ x. nat_eq (f x.turn) (f d.turn) ≡ nat_eq x.turn d.turn) (λ x. same_turn f rises x.turn d.turn) ds)
 
-    came_turned : (m n : ℕ) → m ≡ f n → (ds : List Datum) → list_any (λ d. nat_eq d.turn m) (map (at_turn f) ds) ≡ list_any (λ d. nat_eq d.turn n) ds
-    came_turned m n turn ds =
-        list_any-map (λ x. nat_eq x.turn m) (at_turn f) ds
-        ∙ list_any-each (λ x. nat_eq (f x.turn) m) (λ x. nat_eq x.turn n) ds
-        (all-any (λ x. nat_eq (f x.turn) m ≡ nat_eq x.turn n) (λ x. ap (nat_eq (f x.turn)) turn ∙ same_turn f rises x.turn n) ds)
-
 -- ---- what a turn fires
 
 -- a firing of the keys
@@ -124,24 +118,24 @@ module _ (q : Query) (keys : Keys) (f : ℕ → ℕ) (rises : IsRising f) where
         filter-map (at_turn f) (λ d. not (is_shown q past p d)) all
         ∙ ap (map (at_turn f)) (filter_same (λ d. not (is_shown q past p (at_turn f d))) (λ d. not (is_shown q part p d)) (λ d. ap not (shown p here d)) all)
 
-    kind_alike : (e : Event) → is_of keys e ≡ true → f (length part) ≡ length past → (p : Place) → is_at keys p ≡ true → (all : List Datum) → kind_of q past e p (map (at_turn f) all) ≡ kind_of q part e p all
-    kind_alike (Record k t vs) of turn p here all =
-        λ i. cond (came_turned f rises (length past) (length part) (sym turn) all i)
-        (kind_on_record q (sym (mark_of_part q keys past) i) p.end (((ap (λ (ds : List Datum). length ds) (unshown_alike p here all)) ∙ length-turned f (unshown_of q part p all)) i)) None
-    kind_alike (Watermark o t) of turn p here all =
-        let set : length (firing_set q.mode (map (at_turn f) all) (unshown_of q past p (map (at_turn f) all))) ≡ length (firing_set q.mode all (unshown_of q part p all)) =
-        ap (λ (ds : List Datum). length (firing_set q.mode (map (at_turn f) all) ds)) (unshown_alike p here all)
-        ∙ ap (λ (ds : List Datum). length ds) (set_turned f q.mode all (unshown_of q part p all))
-        ∙ length-turned f (firing_set q.mode all (unshown_of q part p all)) in
-        let left : length (unshown_of q past p (map (at_turn f) all)) ≡ length (unshown_of q part p all) =
-        ap (λ (ds : List Datum). length ds) (unshown_alike p here all) ∙ length-turned f (unshown_of q part p all) in
-        λ i. kind_on_watermark q (sym (mark_of_part q keys past) i) (sym (mark_of_part q keys (Watermark o t ∷ past)) i) p (set i) (left i)
+    kind_turned : (x : Effect) (p : Place) (all left : List Datum) → kind_on q (effect_with (at_turn f) x) p (map (at_turn f) all) (map (at_turn f) left) ≡ kind_on q x p all left
+    kind_turned (Selects d) p all left = λ i. cond (holds_turned f rises d all i) (kind_on_record q d.mark p.end (length-turned f left i)) None
+    kind_turned (Rises old new) p all left =
+        let set : length (firing_set q.mode (map (at_turn f) all) (map (at_turn f) left)) ≡ length (firing_set q.mode all left) =
+        ap (λ (ds : List Datum). length ds) (set_turned f q.mode all left) ∙ length-turned f (firing_set q.mode all left) in
+        λ i. kind_on_watermark q old new p (set i) (length-turned f left i)
+    kind_turned Nothing p all left = refl
 
-    does_alike : (e : Event) → is_of keys e ≡ true → f (length part) ≡ length past → (x : Place × List Datum) → is_at keys x.0 ≡ true → does q past e (pane_at f x) ≡ option_map (firing_at f) (does q part e x)
-    does_alike e of turn x here =
+    kind_alike : (e : Event) → HasRoom q (e ∷ past) → is_of keys e ≡ true → f (length part) ≡ length past → (p : Place) → is_at keys p ≡ true → (all : List Datum) → kind_of q past e p (map (at_turn f) all) ≡ kind_of q part e p all
+    kind_alike e room of turn p here all =
+        (λ i. kind_on q (effect_of_part q keys f past e room of turn i) p (map (at_turn f) all) (unshown_alike p here all i))
+        ∙ kind_turned (effect_of q part e) p all (unshown_of q part p all)
+
+    does_alike : (e : Event) → HasRoom q (e ∷ past) → is_of keys e ≡ true → f (length part) ≡ length past → (x : Place × List Datum) → is_at keys x.0 ≡ true → does q past e (pane_at f x) ≡ option_map (firing_at f) (does q part e x)
+    does_alike e room of turn x here =
         let all : List Datum = map (at_turn f) x.1 in
         let left : List Datum = unshown_of q part x.0 x.1 in
-        (λ i. firing_of (length past) x.0 all (firing_set q.mode all (unshown_alike x.0 here x.1 i)) (kind_alike e of turn x.0 here x.1 i))
+        (λ i. firing_of (length past) x.0 all (firing_set q.mode all (unshown_alike x.0 here x.1 i)) (kind_alike e room of turn x.0 here x.1 i))
         ∙ ap (λ (set : List Datum). firing_of (length past) x.0 all set (kind_of q part e x.0 x.1)) (set_turned f q.mode x.1 left)
         ∙ firing_turned f (length past) (length part) (sym turn) x.0 x.1 (firing_set q.mode x.1 left) (kind_of q part e x.0 x.1)
 
@@ -155,7 +149,7 @@ module _ (q : Query) (keys : Keys) (f : ℕ → ℕ) (rises : IsRising f) where
         filter-firings past e
         ∙ ap (filter_map (does q past e)) same
         ∙ filter_map-image (does q past e) (pane_at f) (does q part e) (firing_at f) (panes q (e ∷ part))
-        (all-each (λ x. is_at keys x.0 ≡ true) (λ x. does q past e (pane_at f x) ≡ option_map (firing_at f) (does q part e x)) (panes q (e ∷ part)) (λ x here. does_alike e of (turns.0 of) x here) each)
+        (all-each (λ x. is_at keys x.0 ≡ true) (λ x. does q past e (pane_at f x) ≡ option_map (firing_at f) (does q part e x)) (panes q (e ∷ part)) (λ x here. does_alike e room of (turns.0 of) x here) each)
         ∙ ap (map (firing_at f)) (sym (firings_are q part e))
 
   -- ---- an event of another part
@@ -188,8 +182,9 @@ module _ (q : Query) (keys : Keys) (f : ℕ → ℕ) (rises : IsRising f) where
       let old : x.1 ≡ contents q past x.0 = is.0 ∙ none_enter past e other x.0 here in
       let none : list_any (λ d. nat_eq d.turn (length past)) x.1 ≡ false =
       ap (list_any (λ d. nat_eq d.turn (length past))) old ∙ none_now (contents q past x.0) (contents_below q past x.0) in
-      ap (firing_of (length past) x.0 x.1 (firing_set q.mode x.1 (unshown_of q past x.0 x.1)))
-      (ap (λ (b : Bool). cond b (kind_on_record q (mark q past) x.0.end (length (unshown_of q past x.0 x.1))) None) none)
+      let left : List Datum = unshown_of q past x.0 x.1 in
+      ap (firing_of (length past) x.0 x.1 (firing_set q.mode x.1 left))
+      (by_record q past (λ does. kind_on q does x.0 x.1 left ≡ None) refl (λ _ _ _. ap (λ (b : Bool). cond b (kind_on_record q (mark q past) x.0.end (length left)) None) none) k t vs)
     where
       none_now : (ds : List Datum) → AllByRecursion (λ d. d.turn < length past) ds → list_any (λ d. nat_eq d.turn (length past)) ds ≡ false
       none_now [] h = refl

@@ -1,6 +1,6 @@
 -- A history in which none is refused for RECORDS, by two numbers of them: it is read and written alike.
 use Rattle.std.proofs.Common.{◌≡◌, ℕ, Bool, true, false, ◌&&◌, ◌||◌, cond, not, List, [], ◌∷◌, ◌++◌, map, length, ℤ, Option, Some, None, refl, ap, ◌∙◌}
-use Rattle.std.specs.Prelude.{◌≢◌, filter, filter_map, int_lt, is_none, nat_eq, nat_le, unsigned_abs, option_and_then}
+use Rattle.std.specs.Prelude.{◌≢◌, filter, filter_map, int_lt, is_none, nat_le, unsigned_abs, option_and_then}
 use Rattle.std.specs.List.{list_any, range_with_len}
 use Rattle.std.specs.Int.{int_max}
 use Rattle.wsm_record.specs.declared.words.Mode.{Mode}
@@ -11,13 +11,12 @@ use Rattle.wsm_windows.specs.declared.place.Place.{Place}
 use Rattle.wsm_admission.specs.declared.verdict.Refusal.{Refusal}
 use Rattle.wsm_admission.specs.declared.verdict.Refusal.TheVariants.{RecordLimit}
 use Rattle.wsm_admission.specs.Clock.{source_mark, marks_of, least, is_source, is_time, is_key, is_too_far_ahead, is_late, admitted_count, watermark_refusal, mark_at}
-use Rattle.wsm_semantics.specs.Query.{Datum, Query, mark, raises, verdict_on, selected, selection_of}
+use Rattle.wsm_semantics.specs.Query.{Datum, Query, datum, mark, raises, verdict_on, Effect, Selects, Rises, Nothing, effect_of, selected, selection}
 use Rattle.wsm_semantics.specs.Panes.{panes, held, is_live_at}
-use Rattle.wsm_semantics.specs.Firings.{Firing, fire, firings_by, firings, firings_so_far, firing_of, firing_set, holds, shows, is_shown, kind_on_record, kind_on_watermark, row_of}
+use Rattle.wsm_semantics.specs.Firings.{Firing, fire, firings_by, firings, firings_so_far, holds, shows, is_shown, row_of}
 use Rattle.wsm_semantics.specs.StandingFirings.{standing}
 use Rattle.wsm_semantics.specs.Retractions.{is_same, withdrawn, written_of, retracted, retract_rows}
 use Rattle.wsm_semantics.specs.Relation.{sorted_rows, relation_at, relation, stream_rows, chosen_rows, turn_rows}
-use Rattle.wsm_semantics.specs.Replay.{datum}
 use Rattle.wsm_semantics.specs.ByKey.{HasRoom, with_records, SameByRecords}
 use Rattle.wsm_semantics.proofs.PanesOrder.{panes_of}
 use Rattle.wsm_semantics.proofs.KeyParts.{first_rule}
@@ -67,14 +66,19 @@ module _ (q : Query) (records : ℤ) where
 
   -- ---- records and panes
 
-  selection_same : (past : List Event) (e : Event) → verdict_on other past e ≡ verdict_on q past e → selection_of other past e ≡ selection_of q past e
-  selection_same past (Record None t vs) same = refl
-  selection_same past (Watermark o t) same = refl
-  selection_same past (Record (Some k) t vs) same = λ i. cond (is_none (same i) && q.selects k vs) (datum (length past) (mark_same past i) k t vs ∷ []) []
+  effect_same : (past : List Event) (e : Event) → verdict_on other past e ≡ verdict_on q past e → effect_of other past e ≡ effect_of q past e
+  effect_same past (Record None t vs) same = refl
+  effect_same past (Record (Some k) t vs) same = λ i. cond (is_none (same i) && q.selects k vs) (Selects (datum (length past) (mark_same past i) k t vs)) Nothing
+  effect_same past (Watermark o t) same =
+      let new : mark other (Watermark o t ∷ past) ≡ mark q (Watermark o t ∷ past) = mark_same (Watermark o t ∷ past) in
+      λ i. cond (int_lt (mark_same past i) (new i)) (Rises (mark_same past i) (new i)) Nothing
+
+  does_same : (past : List Event) (e : Event) → BothHaveRoom (e ∷ past) → effect_of other past e ≡ effect_of q past e
+  does_same past e room = effect_same past e (verdict_same past e room.0.0 room.1.0)
 
   selected_same : (past : List Event) → BothHaveRoom past → selected other past ≡ selected q past
   selected_same [] room = refl
-  selected_same (e ∷ past) room = λ i. selection_same past e (verdict_same past e room.0.0 room.1.0) i ++ selected_same past (room.0.1, room.1.1) i
+  selected_same (e ∷ past) room = λ i. selection (does_same past e room i) ++ selected_same past (room.0.1, room.1.1) i
 
   panes_same : (past : List Event) → BothHaveRoom past → panes other past ≡ panes q past
   panes_same past room = ap (panes_of q) (selected_same past room)
@@ -84,17 +88,15 @@ module _ (q : Query) (records : ℤ) where
 
   -- ---- firings
 
-  fire_same : (shown : Datum → Bool) (past : List Event) (e : Event) (p : Place) (all : List Datum) → fire shown other past e p all ≡ fire shown q past e p all
-  fire_same shown past (Record key t vs) p all =
-      let unshown : List Datum = filter (λ d. not (shown d)) all in
-      ap (λ (w : ℤ). cond (list_any (λ d. nat_eq d.turn (length past)) all) (firing_of (length past) p all (firing_set q.mode all unshown) (kind_on_record q w p.end (length unshown))) None) (mark_same past)
-  fire_same shown past (Watermark o t) p all =
-      let unshown : List Datum = filter (λ d. not (shown d)) all in
-      let set : List Datum = firing_set q.mode all unshown in
-      λ i. firing_of (length past) p all set (kind_on_watermark q (mark_same past i) (mark_same (Watermark o t ∷ past) i) p (length set) (length unshown))
+  fire_same : (shown : Datum → Bool) (turn : ℕ) (x : Effect) (p : Place) (all : List Datum) → fire shown other turn x p all ≡ fire shown q turn x p all
+  fire_same shown turn (Selects d) p all = refl
+  fire_same shown turn (Rises old new) p all = refl
+  fire_same shown turn Nothing p all = refl
 
   fires_same : (shown : Place → Datum → Bool) (past : List Event) (e : Event) → BothHaveRoom (e ∷ past) → firings_by shown other past e ≡ firings_by shown q past e
-  fires_same shown past e room = λ i. filter_map (λ p. fire_same (shown p.0) past e p.0 p.1 i) (panes_same (e ∷ past) room i)
+  fires_same shown past e room =
+      (λ i. filter_map (λ p. fire (shown p.0) other (length past) (does_same past e room i) p.0 p.1) (panes_same (e ∷ past) room i))
+      ∙ (λ i. filter_map (λ p. fire_same (shown p.0) (length past) (effect_of q past e) p.0 p.1 i) (panes q (e ∷ past)))
 
   shown_same : (past : List Event) → BothHaveRoom past → is_shown other past ≡ is_shown q past
   shown_same [] room = refl

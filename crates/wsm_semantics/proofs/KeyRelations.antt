@@ -21,7 +21,7 @@ use Rattle.wsm_semantics.specs.RowCounts.{IsInOrder, count_of}
 use Rattle.wsm_semantics.specs.ByKey.{Keys, others, of_keys, HasRoom, IgnoresTurns, pane_at, firing_at, is_at, turn_of, EachOnce, of_parts, netted, gains, losses, rows_of_stream, StreamsWrite, PartsAddUp}
 use Rattle.wsm_semantics.proofs.Lists.{all-each}
 use Rattle.wsm_semantics.proofs.Each.{passed, filter_map-map, filter_map-each}
-use Rattle.wsm_semantics.proofs.Turns.{stays_down}
+use Rattle.wsm_semantics.proofs.Effects.{stays_down}
 use Rattle.wsm_semantics.proofs.KeyParts.{mark_of_part}
 use Rattle.wsm_semantics.proofs.KeyTurns.{rising-turn_of, next_turn}
 use Rattle.wsm_semantics.proofs.KeyPanes.{held_of_part}

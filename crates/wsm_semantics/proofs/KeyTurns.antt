@@ -5,14 +5,13 @@ use Rattle.std.proofs.lemmas.Bool.{true≢false}
 use Rattle.std.proofs.lemmas.Bool.Decides.{nat_tests}
 use Rattle.std.proofs.lemmas.List.{map-append}
 use Rattle.std.proofs.Math.Bool.{or-true}
-use Rattle.std.specs.Prelude.{filter, is_none, nat_eq, nat_lt}
+use Rattle.std.specs.Prelude.{filter, int_lt, is_none, nat_eq, nat_lt}
 use Rattle.wsm_record.specs.declared.event.Value.{Value}
 use Rattle.wsm_record.specs.Event.{Event, Record, Watermark}
-use Rattle.wsm_admission.specs.declared.verdict.Refusal.{Refusal}
-use Rattle.wsm_semantics.specs.Query.{Datum, Query, mark, verdict_on, selected, selection_of}
-use Rattle.wsm_semantics.specs.Replay.{datum}
+use Rattle.wsm_semantics.specs.Query.{Datum, Query, datum, mark, raises, is_taken, Selects, Rises, Nothing, effect_of, selected, selection, selection_of}
 use Rattle.wsm_semantics.specs.ByKey.{Keys, is_of, of_keys, HasRoom, turn_of, at_turn}
 use Rattle.wsm_semantics.proofs.Each.{itself, same_key, same_answers, filter-append}
+use Rattle.wsm_semantics.proofs.Effects.{effect_with, selection-with, selects-with, rises-with, selects_none}
 use Rattle.wsm_semantics.proofs.KeyParts.{mark_of_part, verdict_of_part}
 
 -- ---- turns that rise
@@ -124,34 +123,50 @@ abbrev pub is_said : Keys → Datum → Bool
 is_said keys d = keys (Some d.key)
 
 module _ (q : Query) (keys : Keys) (f : ℕ → ℕ) where
-  selection_is : (past : List Event) (k : ℕ) (t : ℤ) (vs : List Value) → selection_of q past (Record (Some k) t vs) ≡ cond (is_none (verdict_on q past (Record (Some k) t vs)) && q.selects k vs) (datum (length past) (mark q past) k t vs ∷ []) []
-  selection_is past k t vs = refl
-
-  -- an event of the part selects there what it selects in the whole
-  selects_alike : (past : List Event) (e : Event) → HasRoom q (e ∷ past) → is_of keys e ≡ true → f (length (of_keys keys past)) ≡ length past →
-      filter (is_said keys) (selection_of q past e) ≡ map (at_turn f) (selection_of q (of_keys keys past) e)
-  selects_alike past (Record None t vs) room here turn = refl
-  selects_alike past (Watermark o t) room here turn = refl
-  selects_alike past (Record (Some k) t vs) room here turn =
+  -- an event of the part does there what it does in the whole, its record at another turn
+  pub effect_of_part : (past : List Event) (e : Event) → HasRoom q (e ∷ past) → is_of keys e ≡ true → f (length (of_keys keys past)) ≡ length past →
+      effect_of q past e ≡ effect_with (at_turn f) (effect_of q (of_keys keys past) e)
+  effect_of_part past (Record None t vs) room here turn = refl
+  effect_of_part past (Record (Some k) t vs) room here turn =
       let e : Event = Record (Some k) t vs in
       let part : List Event = of_keys keys past in
+      sym (λ i. cond (is_none (verdict_of_part q keys past e room i) && q.selects k vs) (Selects (datum (turn i) (mark_of_part q keys past i) k t vs)) Nothing)
+      ∙ selects-with (at_turn f) (datum (length part) (mark q part) k t vs) (is_taken q part e && q.selects k vs)
+  effect_of_part past (Watermark o t) room here turn =
+      let e : Event = Watermark o t in
+      let part : List Event = of_keys keys past in
+      let old : mark q part ≡ mark q past = mark_of_part q keys past in
+      let new : mark q (e ∷ part) ≡ mark q (e ∷ past) = mark_of_part q keys (e ∷ past) in
+      sym (λ i. cond (int_lt (old i) (new i)) (Rises (old i) (new i)) Nothing)
+      ∙ rises-with (at_turn f) (mark q part) (mark q (e ∷ part)) (raises q part e)
+
+  -- what an event of the part selects is of its keys
+  selects_own : (past : List Event) (e : Event) → is_of keys e ≡ true → filter (is_said keys) (selection_of q past e) ≡ selection_of q past e
+  selects_own past (Record None t vs) here = refl
+  selects_own past (Record (Some k) t vs) here =
       let d : Datum = datum (length past) (mark q past) k t vs in
-      ap (filter (is_said keys)) (selection_is past k t vs)
-      ∙ elim (is_none (verdict_on q past e) && q.selects k vs) as (λ b. filter (is_said keys) (cond b (d ∷ []) []) ≡ map (at_turn f) (cond b (datum (length part) (mark q part) k t vs ∷ []) [])) [
-        | true ↦ ap (λ (b : Bool). cond b (d ∷ []) []) here ∙ (λ i. datum (sym turn i) (sym (mark_of_part q keys past) i) k t vs ∷ [])
+      elim (is_taken q past (Record (Some k) t vs) && q.selects k vs) as (λ b. filter (is_said keys) (selection (cond b (Selects d) Nothing)) ≡ selection (cond b (Selects d) Nothing)) [
+        | true ↦ ap (λ (b : Bool). cond b (d ∷ []) []) here
         | false ↦ refl
       ]
-      ∙ ap (λ (v : Option Refusal). map (at_turn f) (cond (is_none v && q.selects k vs) (datum (length part) (mark q part) k t vs ∷ []) [])) (sym (verdict_of_part q keys past e room))
-      ∙ ap (map (at_turn f)) (sym (selection_is part k t vs))
+  selects_own past (Watermark o t) here = let none = selects_none q past o t in ap (filter (is_said keys)) none ∙ sym none
+
+  -- so it selects there what it selects in the whole
+  selects_alike : (past : List Event) (e : Event) → HasRoom q (e ∷ past) → is_of keys e ≡ true → f (length (of_keys keys past)) ≡ length past →
+      filter (is_said keys) (selection_of q past e) ≡ map (at_turn f) (selection_of q (of_keys keys past) e)
+  selects_alike past e room here turn =
+      selects_own past e here
+      ∙ ap selection (effect_of_part past e room here turn)
+      ∙ selection-with (at_turn f) (effect_of q (of_keys keys past) e)
 
   -- that of another part selects no record of its keys
   pub selects_others : (past : List Event) (e : Event) → is_of keys e ≡ false → filter (is_said keys) (selection_of q past e) ≡ []
   selects_others past (Record None t vs) other = refl
   selects_others past (Watermark o t) other = absurd (true≢false other)
   selects_others past (Record (Some k) t vs) other =
-      ap (filter (is_said keys)) (selection_is past k t vs)
-      ∙ elim (is_none (verdict_on q past (Record (Some k) t vs)) && q.selects k vs) as (λ b. filter (is_said keys) (cond b (datum (length past) (mark q past) k t vs ∷ []) []) ≡ []) [
-        | true ↦ ap (λ (b : Bool). cond b (datum (length past) (mark q past) k t vs ∷ []) []) other
+      let d : Datum = datum (length past) (mark q past) k t vs in
+      elim (is_taken q past (Record (Some k) t vs) && q.selects k vs) as (λ b. filter (is_said keys) (selection (cond b (Selects d) Nothing)) ≡ []) [
+        | true ↦ ap (λ (b : Bool). cond b (d ∷ []) []) other
         | false ↦ refl
       ]
 

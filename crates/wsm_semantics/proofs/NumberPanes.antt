@@ -2,7 +2,7 @@
 use Rattle.std.proofs.Common.{◌≡◌, ℕ, ◌<◌, Bool, true, false, ◌&&◌, cond, not, List, [], ◌∷◌, ◌++◌, map, length, ℤ, Option, Some, None, refl, sym, ap, ◌∙◌, arith}
 use Rattle.std.proofs.lemmas.Bool.Decides.{nat_tests}
 use Rattle.std.proofs.lemmas.List.{map-append}
-use Rattle.std.specs.Prelude.{filter, is_none, nat_eq, nat_le, nat_lt, unsigned_abs}
+use Rattle.std.specs.Prelude.{filter, int_lt, is_none, nat_eq, nat_le, nat_lt, unsigned_abs}
 use Rattle.std.specs.List.{range_with_len}
 use Rattle.std.specs.Int.{int_max}
 use Rattle.std.specs.Ordering.{eq_by_cmp, int_cmp, is_eq, nat_cmp, ordering_then}
@@ -19,13 +19,13 @@ use Rattle.wsm_windows.specs.declared.place.Place.{Place}
 use Rattle.wsm_windows.specs.Places.{place_cmp, at, window_of}
 use Rattle.wsm_admission.specs.declared.verdict.Refusal.{Refusal}
 use Rattle.wsm_admission.specs.Clock.{source_mark, marks_of, least, is_source, is_time, is_too_far_ahead, is_late, admitted_count, admitted_with, verdict_at}
-use Rattle.wsm_semantics.specs.Query.{Datum, Query, mark, verdict_on, selected, selection_of}
+use Rattle.wsm_semantics.specs.Query.{Datum, Query, datum, mark, raises, verdict_on, is_taken, Selects, Rises, Nothing, effect_of, selected, selection, selection_of}
 use Rattle.wsm_semantics.specs.Sessions.{sessions}
 use Rattle.wsm_semantics.specs.Panes.{of_key, windows_among, stands_in, is_there, is_live_at, with_contents, panes, held}
-use Rattle.wsm_semantics.specs.Replay.{datum}
 use Rattle.wsm_semantics.specs.ByNumber.{Numbers, event_by, datum_by, with_keys, AreNumbers}
 use Rattle.wsm_semantics.proofs.Lists.{filter_same, length_each}
 use Rattle.wsm_semantics.proofs.Each.{same_answers, filter-map, map-map}
+use Rattle.wsm_semantics.proofs.Effects.{effect_with, selection-with, selects-with, rises-with}
 use Rattle.wsm_semantics.proofs.PanesOrder.{contents_of, panes_of}
 use Rattle.wsm_semantics.proofs.KeyParts.{first_rule}
 use Rattle.wsm_semantics.proofs.KeyTurns.{same_turn}
@@ -165,16 +165,20 @@ module _ (q : Query) (number : Numbers) (keys : List (List ℕ)) (are : AreNumbe
   length_by : (past : List Event) → length (by_number past) ≡ length past
   length_by past = length_each (event_by number) past
 
+  -- what an event does, its record by number
+  pub effect_by : (past : List Event) (e : Event) → effect_of q (by_number past) (event_by number e) ≡ effect_with (datum_by number) (effect_of over past e)
+  effect_by past (Record None t vs) = refl
+  effect_by past (Record (Some k) t vs) =
+      let e : Event = Record (Some k) t vs in
+      (λ i. cond (is_none (verdict_by past e i) && q.selects (number k) vs) (Selects (datum (length_by past i) (mark_by past i) (number k) t vs)) Nothing)
+      ∙ selects-with (datum_by number) (datum (length past) (mark over past) k t vs) (is_taken over past e && q.selects (number k) vs)
+  effect_by past (Watermark o t) =
+      let e : Event = Watermark o t in
+      (λ i. cond (int_lt (mark_by past i) (mark_by (e ∷ past) i)) (Rises (mark_by past i) (mark_by (e ∷ past) i)) Nothing)
+      ∙ rises-with (datum_by number) (mark over past) (mark over (e ∷ past)) (raises over past e)
+
   selection_by : (past : List Event) (e : Event) → selection_of q (by_number past) (event_by number e) ≡ map (datum_by number) (selection_of over past e)
-  selection_by past (Record None t vs) = refl
-  selection_by past (Watermark o t) = refl
-  selection_by past (Record (Some k) t vs) =
-      let d : Datum = datum (length past) (mark over past) k t vs in
-      (λ i. cond (is_none (verdict_by past (Record (Some k) t vs) i) && q.selects (number k) vs) (datum (length_by past i) (mark_by past i) (number k) t vs ∷ []) [])
-      ∙ elim (is_none (verdict_on over past (Record (Some k) t vs)) && q.selects (number k) vs) as (λ b. cond b (datum_by number d ∷ []) [] ≡ map (datum_by number) (cond b (d ∷ []) [])) [
-        | true ↦ refl
-        | false ↦ refl
-      ]
+  selection_by past e = ap selection (effect_by past e) ∙ selection-with (datum_by number) (effect_of over past e)
 
   selected_by : (past : List Event) → selected q (by_number past) ≡ map (datum_by number) (selected over past)
   selected_by [] = refl

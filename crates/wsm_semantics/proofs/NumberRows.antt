@@ -19,19 +19,20 @@ use Rattle.wsm_windows.specs.declared.place.Place.{Place}
 use Rattle.wsm_windows.specs.Places.{place_cmp, window_of}
 use Rattle.wsm_semantics.specs.declared.out_row.OutRow.{OutRow}
 use Rattle.wsm_semantics.specs.declared.out_row.OutRow.TheVariants.{Pane, Istream, Dstream, Rstream}
-use Rattle.wsm_semantics.specs.Query.{Datum, Query, mark, raises}
+use Rattle.wsm_semantics.specs.Query.{Datum, Query, mark, raises, Effect, Selects, Rises, Nothing, effect_of}
 use Rattle.wsm_semantics.specs.Panes.{panes, held, is_live_at}
-use Rattle.wsm_semantics.specs.Firings.{Firing, firings, firings_so_far, firing_of, firing_set, holds, shows, is_shown, kind_on_record, kind_on_watermark, row_of, pane_rows}
+use Rattle.wsm_semantics.specs.Firings.{Firing, firings, firings_so_far, firing_of, firing_set, holds, shows, is_shown, kind_on, kind_on_record, kind_on_watermark, row_of, pane_rows}
 use Rattle.wsm_semantics.specs.StandingFirings.{is_within, candidates, holds_all, greatest_of, standing}
 use Rattle.wsm_semantics.specs.Retractions.{standing_for, panes_before_drops, is_same, withdrawn, written_of, with_written, by_place, retract_row, retract_rows}
 use Rattle.wsm_semantics.specs.Relation.{sorted_rows, difference, relation_at, relation, stream_rows, chosen_rows, streamed, turn_rows}
 use Rattle.wsm_semantics.specs.ByNumber.{Numbers, event_by, datum_by, row_by, AreNumbers, SameByNumbers}
 use Rattle.wsm_semantics.proofs.Lists.{filter_same, length_each}
 use Rattle.wsm_semantics.proofs.Each.{all-any, filter-map, filter_map-map, filter_map-each, list_any-each, map-map}
+use Rattle.wsm_semantics.proofs.Effects.{effect_with}
 use Rattle.wsm_semantics.proofs.ShownPanes.{unshown_of, kind_of, does, firings_are}
 use Rattle.wsm_semantics.proofs.KeyFirings.{filter_map-image}
 use Rattle.wsm_semantics.proofs.KeyStanding.{list_all-map, list_all-same, last_or-map}
-use Rattle.wsm_semantics.proofs.NumberPanes.{place_by, pane_by, same_key, places_alike, ties_alike, over, by_number, mark_by, verdict_by, panes_by, live_by, held_by}
+use Rattle.wsm_semantics.proofs.NumberPanes.{place_by, pane_by, same_key, places_alike, ties_alike, over, by_number, mark_by, verdict_by, effect_by, panes_by, live_by, held_by}
 
 abbrev firing_by : Numbers → Firing → Firing
 firing_by number f = record { turn = f.turn; kind = f.kind; place = place_by number f.place; contents = map (datum_by number) f.contents; fired = map (datum_by number) f.fired }
@@ -106,20 +107,18 @@ module _ (q : Query) (number : Numbers) (keys : List (List ℕ)) (are : AreNumbe
         filter-map (datum_by number) (λ d. not (is_shown q (events_by past) (place_by number p) d)) all
         ∙ ap (map (datum_by number)) (filter_same (λ d. not (is_shown q (events_by past) (place_by number p) (datum_by number d))) (λ d. not (is_shown part past p d)) (λ d. ap not (shown p d)) all)
 
-    left_alike : (p : Place) (all : List Datum) → length (unshown_of q (events_by past) (place_by number p) (map (datum_by number) all)) ≡ length (unshown_of part past p all)
-    left_alike p all = ap (λ (ds : List Datum). length ds) (unshown_alike p all) ∙ length_same number (unshown_of part past p all)
+    kind_by : (x : Effect) (p : Place) (all left : List Datum) → kind_on q (effect_with (datum_by number) x) (place_by number p) (map (datum_by number) all) (map (datum_by number) left) ≡ kind_on part x p all left
+    kind_by (Selects d) p all left = λ i. cond (holds_alike number d all i) (kind_on_record q d.mark p.end (length_same number left i)) None
+    kind_by (Rises old new) p all left =
+        let set : length (firing_set q.mode (map (datum_by number) all) (map (datum_by number) left)) ≡ length (firing_set q.mode all left) =
+        ap (λ (ds : List Datum). length ds) (set_alike number q.mode all left) ∙ length_same number (firing_set q.mode all left) in
+        λ i. kind_on_watermark q old new p (set i) (length_same number left i)
+    kind_by Nothing p all left = refl
 
     kind_alike : (e : Event) (p : Place) (all : List Datum) → kind_of q (events_by past) (event_by number e) (place_by number p) (map (datum_by number) all) ≡ kind_of part past e p all
-    kind_alike (Record k t vs) p all =
-        let here : list_any (λ d. nat_eq d.turn (length (events_by past))) (map (datum_by number) all) ≡ list_any (λ d. nat_eq d.turn (length past)) all =
-        list_any-map (λ d. nat_eq d.turn (length (events_by past))) (datum_by number) all ∙ ap (λ (n : ℕ). list_any (λ d. nat_eq d.turn n) all) (came past) in
-        λ i. cond (here i) (kind_on_record q (mark_alike past i) p.end (left_alike p all i)) None
-    kind_alike (Watermark o t) p all =
-        let set : length (firing_set q.mode (map (datum_by number) all) (unshown_of q (events_by past) (place_by number p) (map (datum_by number) all))) ≡ length (firing_set q.mode all (unshown_of part past p all)) =
-        ap (λ (ds : List Datum). length (firing_set q.mode (map (datum_by number) all) ds)) (unshown_alike p all)
-        ∙ ap (λ (ds : List Datum). length ds) (set_alike number q.mode all (unshown_of part past p all))
-        ∙ length_same number (firing_set q.mode all (unshown_of part past p all)) in
-        λ i. kind_on_watermark q (mark_alike past i) (mark_alike (Watermark o t ∷ past) i) p (set i) (left_alike p all i)
+    kind_alike e p all =
+        (λ i. kind_on q (effect_by q number keys are past e i) (place_by number p) (map (datum_by number) all) (unshown_alike p all i))
+        ∙ kind_by (effect_of part past e) p all (unshown_of part past p all)
 
     does_alike : (e : Event) (x : Place × List Datum) → does q (events_by past) (event_by number e) (pane_by number x) ≡ option_map (firing_by number) (does part past e x)
     does_alike e x =
