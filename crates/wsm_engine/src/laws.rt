@@ -66,10 +66,10 @@ pub fn standing()
     ensures { (p : Program) → IsTrue (is_program p) → p.header.mode ≡ Retracting → (past : List Event) → AddsUp (query_of p) past }
 {}
 
-/// A history without the records of some keys, in which none is refused for RECORDS, holds, fires and writes
-/// for the others what the whole does, also by a program with another number of RECORDS for which none is
-/// refused. Where each key is of one of some such parts, their relations, what these gain and lose, and
-/// the numbers of the end row add up.
+/// Where no record of a history is refused for RECORDS, the part of it that has the records of some keys
+/// and all watermarks holds, fires and writes for these keys what the whole does, and another number of
+/// RECORDS for which none is refused changes nothing. Where each key is of one of some parts, their
+/// relations, what these gain and lose, and the numbers of the end row add up.
 pub fn by_key()
     ensures part { (p : Program) (keys : Keys) → ByKey (query_of p) keys }
     ensures rows { (p : Program) → p.header.form ≡ Panes → (keys : Keys) → RowsByKey (query_of p) keys }

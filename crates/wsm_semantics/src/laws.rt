@@ -70,10 +70,10 @@ pub fn each_permutation()
     ensures { (newer xs ys older : List Judged) → AllByRecursion (λ e. is_rise e ≡ false) xs → IsPermutation xs ys → Reordered (newer ++ (xs ++ older)) (newer ++ (ys ++ older)) }
 {}
 
-/// A history without the records of some keys, in which none is refused for RECORDS, holds and fires for
-/// the others what the whole does, turn by turn, each event with the verdict that it has there; and its rows of
-/// panes, also of those that are withdrawn, are those of the whole for these keys. Another number of RECORDS
-/// for which none is refused changes nothing of it.
+/// Where no record of a history is refused for RECORDS, the part of it that has the records of some keys
+/// and all watermarks holds and fires for these keys what the whole does, turn by turn, and each event has
+/// the verdict that it has there. Its rows of panes, retract rows too, are those of the whole for these keys.
+/// Another number of RECORDS for which none is refused changes nothing.
 pub fn by_key()
     ensures parts { (q : Query) (keys : Keys) → ByKey q keys }
     ensures rows { (q : Query) → IgnoresTurns q → q.form ≡ Panes → (keys : Keys) → RowsByKey q keys }
@@ -82,8 +82,8 @@ pub fn by_key()
 
 /// Where each key is of one of some parts of a history, its relation has the rows of all of theirs; and where the
 /// watermark rises it gains what they gain, each row as often as they don't lose it, and loses what they
-/// lose, as often as they don't gain it. The streams write what it gains, loses and has. So do the numbers of
-/// the end row add up, but that each part counts all watermarks.
+/// lose, as often as they don't gain it. The streams write what it gains, loses and has. The numbers of the
+/// end row add up too, but that each part counts all watermarks. Some keys and all others are two such parts.
 pub fn parts_add_up()
     ensures parts { (q : Query) → IgnoresTurns q → (parts : List Keys) → EachOnce parts → PartsAddUp q parts }
     ensures streams { (q : Query) → StreamsWrite q }
