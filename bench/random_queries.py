@@ -78,11 +78,11 @@ def query_of(pick):
     return Drawn(text, sources, start, low)
 
 
-def rows_of(pick, query):
+def rows_of(pick, query, keys="aaaaabbbbc", count=None):
     """Records around a time that goes on, and watermarks of it; each source lags by something of its own."""
     lags = {source: pick.choice([0, 0, 5, 20]) for source in query.sources}
     time, rows = query.start + max(lags.values(), default=0), []
-    for _ in range(pick.randrange(5, 60)):
+    for _ in range(count or pick.randrange(5, 60)):
         kind = pick.random()
         if kind < (.4 if lags else .2):
             time += pick.randrange(-2, 15 if lags else 25)
@@ -90,7 +90,7 @@ def rows_of(pick, query):
             rows.append(f"w,{source},{time - lags.get(source, 0)}" if lags else f"w,{time}")
         elif kind < .95:
             at, n = max(0, time + pick.randrange(-24, 18)), pick.randrange(query.low - (pick.random() < .1), 22)
-            rows.append(f"r,{pick.choice('aaaaabbbbc')},{at},{n},{pick.choice(['true', 'false'])},{pick.choice(['red', 'blue'])}")
+            rows.append(f"r,{pick.choice(keys)},{at},{n},{pick.choice(['true', 'false'])},{pick.choice(['red', 'blue'])}")
         else:
             rows.append(pick.choice(DAMAGED))
     return rows
@@ -169,4 +169,5 @@ def main():
     print(f"{same} of {last - first + 1} the same: {', '.join(f'{count} {kind}' for kind, count in sorted(kinds.items()))}")
 
 
-main()
+if __name__ == "__main__":
+    main()
