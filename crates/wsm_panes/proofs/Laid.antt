@@ -217,6 +217,13 @@ module _ (kinds : List Kind) (values : List Value) (h : Head) (f : List Value) (
     | inr anew ↦ rw (there, anew) refl
   ]
 
+-- at another place
+pub moved_to : (p : Place) (h x : Head) → x ≡ record h { end = p.end; start = p.start; key = p.key } → (f : List Value) (r : List Cell) (v : Option Window) → entry_by x f r v ≡ option_map (λ e. (p, e.1)) (entry_by h f r v)
+moved_to p h x is f r v = elim (cases_Bool h.is_held) [
+  | inl there ↦ rw (is, there) refl
+  | inr free ↦ rw (is, free) refl
+]
+
 left_is : (mode : Mode) (b : Bool) (f : List Value) → folded_by (left_by mode b) f ≡ left_folded mode (folded_by b f)
 left_is mode b f = elim (cases_Bool (is_over_all mode)) [
   | inl all ↦ rw all refl

@@ -15,6 +15,15 @@ same_self s = grind (arith, nat_tests)
 pub apart_same : (r s : ℕ) → same r s ≡ 0 → r ≢ s
 apart_same r s h is = let one : same r s ≡ 1 = rw is (same_self s) in omega (arith, h, one)
 
+-- lists that are the same end the same
+pub last_same : (xs ys : List ℕ) (x y : ℕ) → xs ++ x ∷ [] ≡ ys ++ y ∷ [] → x ≡ y
+last_same [] [] x y h = cc
+last_same [] (z ∷ ys) x y h = absurd (let long = ap length h ∙ ap suc (length-append ys (y ∷ [])) in omega (arith, long))
+last_same (z ∷ xs) [] x y h = absurd (let long = ap suc (sym (length-append xs (x ∷ []))) ∙ ap length h in omega (arith, long))
+last_same (w ∷ xs) (z ∷ ys) x y h = last_same xs ys x y (tails h) where
+  tails : w ∷ (xs ++ x ∷ []) ≡ z ∷ (ys ++ y ∷ []) → xs ++ x ∷ [] ≡ ys ++ y ∷ []
+  tails k = cc
+
 pub listed-append : (s : ℕ) (xs ys : List ℕ) → listed s (xs ++ ys) ≡ listed s xs + listed s ys
 listed-append s [] ys = omega arith
 listed-append s (x ∷ xs) ys = let rest = listed-append s xs ys in omega (arith, rest)

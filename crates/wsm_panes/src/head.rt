@@ -97,6 +97,15 @@ impl Head {
         }
     }
 
+    /// Has its entry be at another place.
+    pub(crate) fn move_to(&mut self, place: Place)
+        ensures { self.new ≡ record self.old { end = place.end; start = place.start; key = place.key } }
+    {
+        self.end = place.end;
+        self.start = place.start;
+        self.key = place.key;
+    }
+
     /// Counts one record more, which is folded.
     pub(crate) fn record(&mut self)
         requires count { self.old.count < 2 ^ 63 }

@@ -10,14 +10,14 @@ ghost use Rattle.wsm_fold.specs.Fold.{are_of_kinds};
 ghost use Rattle.wsm_semantics.specs.Kept.{is_linked};
 ghost use Rattle.wsm_semantics.specs.Replay.{datum};
 ghost use Rattle.wsm_semantics.specs.Sessions.{with_session};
-ghost use Rattle.wsm_semantics.specs.Summaries.{joined_all, linked, merged_session, session_with};
+ghost use Rattle.wsm_semantics.specs.Summaries.{Pane as AnyPane, joined, linked, merged_session, session_with};
 ghost use Rattle.wsm_sessions.specs.Live.{Fits};
-ghost use Rattle.wsm_panes.specs.Held.{CanJoin, CanRecord, CanJoinAll, first_two, taking, windows_of_key, with_one_more};
+ghost use Rattle.wsm_panes.specs.Held.{CanJoin, CanJoinAll, CanRecord, first_two, taking, windows_of_key, with_one_more};
 ghost use Rattle.wsm_panes.specs.Layout.{IsAsWide};
 
 use crate::list::ListTable;
 use crate::pane::Pane;
-use crate::recording::{TakesRecords, with_one_more};
+use crate::recording::TakesRecords;
 use crate::table::PaneTable;
 use crate::view::PaneView;
 use wsm_record::{Kind, Value};
@@ -55,76 +55,53 @@ pub(crate) fn enter_session(
     ensures agree { windows_of_key key (map.entries table.new.panes) ≡ sessions.new.windows }
     ensures others { (k : ℕ) → nat_eq key k ≡ false → windows_of_key k (map.entries table.new.panes) ≡ windows_of_key k (map.entries table.old.panes) }
 {
-    match sessions.linked(time) {
-        Linked::One(window) => {
-            let session = sessions.enter(time);
-            enter_moved(
-                table,
-                Place::at(key, window),
-                Place::at(key, session),
-                kinds,
-                values,
-            );
-            (session, false)
+    let entry = sessions.enter(time);
+    let place = Place::at(key, entry.session);
+    match entry.linked {
+        Linked::None => {
+            table.enter(place, kinds, values);
+            (entry.session, false)
         }
-        _ => merge_linked(table, sessions, kinds, key, time, values),
+        Linked::One(window) => {
+            table.enter_moved(Place::at(key, window), place, kinds, values);
+            (entry.session, false)
+        }
+        Linked::Two(first, second) => {
+            let first = Place::at(key, first);
+            let second = Place::at(key, second);
+            enter_joined(table, first, second, place, kinds, values);
+            (entry.session, true)
+        }
     }
 }
 
-// Puts a record into the pane at a place, which goes to the place of the session then.
-fn enter_moved(table: &mut ListTable, from: Place, to: Place, kinds: &[Kind], values: &[Value])
-    requires few { length values.now ≤ MAX_ACCUMULATORS }
-    requires wide { length values.now ≡ table.old.widths.accumulators }
-    requires types { IsTrue (are_of_kinds kinds.now values.now) }
-    requires there { IsSome (map.get table.old.panes from) }
-    requires takes { IfSome (map.get table.old.panes from) (CanRecord kinds.now values.now) }
-    requires room { (map.contains_key (map.remove table.old.panes from) to ≡ true) ⊎ (map.len (map.remove table.old.panes from) < table.old.room) }
-    ensures panes { table.new.panes ≡ map.insert (map.remove table.old.panes from) to (with_one_more kinds.now values.now (map.get table.old.panes from)) }
-    ensures room { table.new.room ≡ table.old.room }
-    ensures widths { table.new.widths ≡ table.old.widths }
-{
-    if from == to {
-        table.enter(to, kinds, values);
-    } else {
-        let mut pane = take(table, from);
-        pane.record(kinds, values);
-        table.put(to, pane);
-    }
-}
-
-// Puts a record into its session, of what the panes that it is linked to come to together.
-fn merge_linked(
+// Puts a record into what the panes at two places come to together, which goes to another place. Its
+// frame is large, so it isn't inlined.
+#[inline(never)]
+fn enter_joined(
     table: &mut ListTable,
-    sessions: &mut Sessions,
+    first: Place,
+    second: Place,
+    to: Place,
     kinds: &[Kind],
-    key: u16,
-    time: i64,
     values: &[Value],
-) -> (Window, bool)
-    requires time { IsTime time }
-    requires gap { pos 1 ≤ℤ sessions.old.gap }
-    requires times { (times : List ℤ) × Fits sessions.old times }
-    requires agree { windows_of_key key (map.entries table.old.panes) ≡ sessions.old.windows }
+)
     requires few { length values.now ≤ MAX_ACCUMULATORS }
     requires wide { length values.now ≡ table.old.widths.accumulators }
     requires types { IsTrue (are_of_kinds kinds.now values.now) }
-    requires joins { CanJoinAll kinds.now values.now (linked sessions.old.gap (datum 0 (pos 0) key time []) (map.entries table.old.panes)) }
-    requires room { length (merged_session (taking kinds.now values.now) sessions.old.gap (datum 0 (pos 0) key time []) (map.entries table.old.panes)) ≤ table.old.room }
-    requires live { length (filter (λ e. nat_eq e.0.key key) (merged_session (taking kinds.now values.now) sessions.old.gap (datum 0 (pos 0) key time []) (map.entries table.old.panes))) ≤ sessions.old.room }
-    ensures panes { map.entries table.new.panes ≡ merged_session (taking kinds.now values.now) sessions.old.gap (datum 0 (pos 0) key time []) (map.entries table.old.panes) }
+    requires first { IsSome (map.get table.old.panes first) }
+    requires second { IsSome (map.get (map.remove table.old.panes first) second) }
+    requires joins { (v w : AnyPane (List OneValue)) → map.get table.old.panes first ≡ Some v → map.get (map.remove table.old.panes first) second ≡ Some w → CanJoin kinds.now v w × CanRecord kinds.now values.now (joined (taking kinds.now values.now) v w) }
+    requires room { (map.contains_key (map.remove (map.remove table.old.panes first) second) to ≡ true) ⊎ (map.len (map.remove (map.remove table.old.panes first) second) < table.old.room) }
+    ensures panes { (v w : AnyPane (List OneValue)) → map.get table.old.panes first ≡ Some v → map.get (map.remove table.old.panes first) second ≡ Some w → table.new.panes ≡ map.insert (map.remove (map.remove table.old.panes first) second) to (with_one_more kinds.now values.now (Some (joined (taking kinds.now values.now) v w))) }
     ensures room { table.new.room ≡ table.old.room }
     ensures widths { table.new.widths ≡ table.old.widths }
-    ensures session { result.0 ≡ window_of (session_with sessions.old.gap (datum 0 (pos 0) key time []) (linked sessions.old.gap (datum 0 (pos 0) key time []) (map.entries table.old.panes))) }
-    ensures joined { result.1 ≡ nat_lt 1 (length (linked sessions.old.gap (datum 0 (pos 0) key time []) (map.entries table.old.panes))) }
-    ensures sessions { sessions.new ≡ record sessions.old { windows = with_session sessions.old.gap time sessions.old.windows } }
-    ensures fits { (times : List ℤ) → Fits sessions.old times → Fits sessions.new (time ∷ times) }
-    ensures agree { windows_of_key key (map.entries table.new.panes) ≡ sessions.new.windows }
-    ensures others { (k : ℕ) → nat_eq key k ≡ false → windows_of_key k (map.entries table.new.panes) ≡ windows_of_key k (map.entries table.old.panes) }
 {
-    let (pane, joined) = take_linked(table, sessions, kinds, key, time);
-    let session = sessions.enter(time);
-    table.put(Place::at(key, session), with_one_more(pane, kinds, values));
-    (session, joined)
+    let mut pane = take(table, first);
+    let other = take(table, second);
+    pane.join(kinds, &other);
+    pane.record(kinds, values);
+    table.put(to, pane);
 }
 
 /// The panes of the two sessions that a record joins, where it joins two.
@@ -157,38 +134,6 @@ fn seen(table: &ListTable, place: Place) -> PaneView<'_>
 {
     let spot = table.find(place).unwrap();
     table.pane(spot)
-}
-
-// Takes the panes that a record is linked to out, and gives what they come to together, if there are
-// any. Tells whether they are two.
-fn take_linked(
-    table: &mut ListTable,
-    sessions: &Sessions,
-    kinds: &[Kind],
-    key: u16,
-    time: i64,
-) -> (Option<Pane>, bool)
-    requires time { IsTime time }
-    requires agree { windows_of_key key (map.entries table.old.panes) ≡ sessions.now.windows }
-    requires joins { (values : List OneValue) × CanJoinAll kinds.now values (linked sessions.now.gap (datum 0 (pos 0) key time []) (map.entries table.old.panes)) }
-    ensures panes { table.new.panes ≡ map.retain_keys table.old.panes (λ p. not (is_linked sessions.now.gap (datum 0 (pos 0) key time []) p)) }
-    ensures room { table.new.room ≡ table.old.room }
-    ensures widths { table.new.widths ≡ table.old.widths }
-    ensures pane { (values : List OneValue) → result.0 ≡ joined_all (taking kinds.now values) (linked sessions.now.gap (datum 0 (pos 0) key time []) (map.entries table.old.panes)) }
-    ensures takes { (values : List OneValue) → CanJoinAll kinds.now values (linked sessions.now.gap (datum 0 (pos 0) key time []) (map.entries table.old.panes)) → IfSome result.0 (CanRecord kinds.now values) }
-    ensures wide { IfSome result.0 (IsAsWide table.old.widths) }
-    ensures joined { result.1 ≡ nat_lt 1 (length (linked sessions.now.gap (datum 0 (pos 0) key time []) (map.entries table.old.panes))) }
-{
-    match sessions.linked(time) {
-        Linked::None => (None, false),
-        Linked::One(window) => (Some(take(table, Place::at(key, window))), false),
-        Linked::Two(first, second) => {
-            let mut pane = take(table, Place::at(key, first));
-            let other = take(table, Place::at(key, second));
-            pane.join(kinds, &other);
-            (Some(pane), true)
-        }
-    }
 }
 
 // Takes the pane at a place out.

@@ -153,6 +153,14 @@ impl Slots {
         fold_part(&mut self.folds, slot, is_folded, kinds, values);
     }
 
+    /// Has the entry in a slot, if there is one, be at another place.
+    pub(crate) fn move_to(&mut self, slot: usize, place: Place)
+        requires { slot < length self.old.slots }
+        ensures { self.new ≡ record self.old { slots = slice_set self.old.slots slot (option_map (λ e. (place, e.1)) (slot_at self.old.slots slot)) } }
+    {
+        self.heads[slot].move_to(place);
+    }
+
     /// Has the pane in a slot, if there is one, have fired.
     #[inline(always)]
     pub(crate) fn fire(&mut self, slot: usize, mode: Mode, row: Option<&[Cell]>)

@@ -86,6 +86,25 @@ impl ListTable {
         self.slots.pane(self.row.get(at))
     }
 
+    /// Puts a record into the pane at a place, which goes to another place then. The pane stays in its
+    /// slot.
+    pub(crate) fn enter_moved(&mut self, from: Place, to: Place, kinds: &[Kind], values: &[Value])
+        requires wide { length values.now ≡ self.old.widths.accumulators }
+        requires types { IsTrue (are_of_kinds kinds.now values.now) }
+        requires there { IsSome (map.get self.old.panes from) }
+        requires takes { IfSome (map.get self.old.panes from) (CanRecord kinds.now values.now) }
+        requires absent { map.get (map.remove self.old.panes from) to ≡ None }
+        ensures panes { self.new.panes ≡ map.insert (map.remove self.old.panes from) to (with_one_more kinds.now values.now (map.get self.old.panes from)) }
+        ensures room { self.new.room ≡ self.old.room }
+        ensures widths { self.new.widths ≡ self.old.widths }
+    {
+        if from == to {
+            self.enter(to, kinds, values);
+        } else {
+            move_in(&mut self.row, &mut self.slots, from, to, kinds, values);
+        }
+    }
+
     /// Has the pane at a spot have fired.
     pub(crate) fn fire(&mut self, spot: Spot, mode: Mode, row: Option<&[Cell]>)
         requires there { IsSome (map.get self.old.panes spot.place) }
@@ -299,6 +318,49 @@ fn enter_in(row: &mut SlotRow, slots: &mut Slots, place: Place, kinds: &[Kind], 
     match search(row, slots, place) {
         Ok(i) => slots.record(row.get(i), kinds, values),
         Err(i) => slots.start(row.insert(i), place, values),
+    }
+}
+
+// Puts a record into the pane at a place, which goes to another place then. Its slot is freed and taken
+// again, so that it stands elsewhere in the row.
+fn move_in(
+    row: &mut SlotRow,
+    slots: &mut Slots,
+    from: Place,
+    to: Place,
+    kinds: &[Kind],
+    values: &[Value],
+)
+    requires stored { AreStored slots.old.slots row.old.row }
+    requires numbers { row.old.room ≡ length slots.old.slots }
+    requires wide { length values.now ≡ slots.old.widths.accumulators }
+    requires types { IsTrue (are_of_kinds kinds.now values.now) }
+    requires there { IsSome (map.find place_cmp from (shown slots.old.slots row.old.row)) }
+    requires takes { IfSome (map.find place_cmp from (shown slots.old.slots row.old.row)) (CanRecord kinds.now values.now) }
+    requires absent { map.find place_cmp to (filter (λ e. is_other from e.0) (shown slots.old.slots row.old.row)) ≡ None }
+    ensures shown { shown slots.new.slots row.new.row ≡ map.put place_cmp to (with_one_more kinds.now values.now (map.find place_cmp from (shown slots.old.slots row.old.row))) (filter (λ e. is_other from e.0) (shown slots.old.slots row.old.row)) }
+    ensures stored { AreStored slots.new.slots row.new.row }
+    ensures room { (row.new.room ≡ row.old.room) × (length slots.new.slots ≡ length slots.old.slots) }
+    ensures widths { slots.new.widths ≡ slots.old.widths }
+{
+    let old = search(row, slots, from).unwrap();
+    row.remove(old);
+    let new = gap_for(row, slots, to);
+    let slot = row.insert(new);
+    slots.record(slot, kinds, values);
+    slots.move_to(slot, to);
+}
+
+// Where the entry of a place that isn't there would go.
+fn gap_for(row: &SlotRow, slots: &Slots, place: Place) -> usize
+    requires stored { AreStored slots.now.slots row.now.row }
+    requires absent { map.find place_cmp place (shown slots.now.slots row.now.row) ≡ None }
+    ensures gap { IsGapFor (shown slots.now.slots row.now.row) place result }
+    ensures until { result ≤ length row.now.row }
+{
+    match search(row, slots, place) {
+        Ok(at) => at,
+        Err(at) => at,
     }
 }
 

@@ -1,6 +1,6 @@
 //! Slots in a row, and those that are free.
 
-ghost use Rattle.std.specs.Prelude.{◌≡◌, ◌+◌, ◌++◌, ◌<◌, ◌≤◌, ◌^◌, ℕ, [], Some, IfOk, if◌then◌else◌, drop, insert, length, nat_lt, slice_get, take, vec_len, vec_capacity};
+ghost use Rattle.std.specs.Prelude.{◌≡◌, ◌+◌, ◌++◌, ◌<◌, ◌≤◌, ◌^◌, ℕ, [], ◌∷◌, Some, IfOk, if◌then◌else◌, drop, insert, length, nat_lt, slice_get, take, vec_len, vec_capacity};
 ghost use Rattle.std.specs.List.{remove};
 ghost use Rattle.wsm_panes.specs.Stored.{listed};
 
@@ -8,7 +8,7 @@ use std::alloc::{AllocError, Global};
 use std::marker::Model;
 
 /// Numbers of slots, from 0 on. Some slots stand in a row, and the others are free. A clause sees the
-/// row, and how many slots there are.
+/// row, how many slots there are, and those that are free, the last freed last.
 #[derive(Drop)]
 pub(crate) struct SlotRow {
     row: Vec<u32>,
@@ -21,7 +21,7 @@ impl Model for SlotRow {
 
     ghost Value = { Taken };
 
-    ghost view = { λ a. record { row = a.row.items; room = vec_capacity a.row } };
+    ghost view = { λ a. record { row = a.row.items; room = vec_capacity a.row; free = a.free.items } };
 
     ghost invariant = { λ a. AreApart (vec_capacity a.row) a.row.items a.free.items × (vec_capacity a.free ≡ vec_capacity a.row) };
 }
@@ -34,7 +34,8 @@ impl SlotRow {
     /// Where there is no memory for the numbers.
     pub(crate) fn open(alloc: Global, room: usize) -> Result<SlotRow, AllocError>
         requires { room ≤ 2 ^ 32 }
-        ensures { IfOk result (λ r. r ≡ record { row = []; room = room }) }
+        ensures empty { IfOk result (λ r. r.row ≡ []) }
+        ensures room { IfOk result (λ r. r.room ≡ room) }
     {
         Ok(SlotRow {
             row: Vec::with_capacity(alloc, room)?,
@@ -65,12 +66,13 @@ impl SlotRow {
         self.row[at] as usize
     }
 
-    /// Has a free slot stand at a number, in front of those from there on, and gives it.
+    /// Has the slot that was freed last stand at a number, in front of those from there on, and gives it.
     pub(crate) fn insert(&mut self, at: usize) -> usize
         requires at { at ≤ length self.old.row }
         requires room { length self.old.row < self.old.room }
         ensures row { self.new.row ≡ insert self.old.row at result }
         ensures fresh { listed result self.old.row ≡ 0 }
+        ensures last { self.old.free ≡ self.new.free ++ result ∷ [] }
         ensures within { result < self.old.room }
         ensures room { self.new.room ≡ self.old.room }
     {
@@ -82,7 +84,10 @@ impl SlotRow {
     /// Has the slot at a number be free.
     pub(crate) fn remove(&mut self, at: usize)
         requires { at < length self.old.row }
-        ensures { self.new ≡ record self.old { row = remove self.old.row at } }
+        ensures row { self.new.row ≡ remove self.old.row at }
+        ensures room { self.new.room ≡ self.old.room }
+        ensures left { length self.new.row < self.new.room }
+        ensures freed { (slot : ℕ) → slice_get self.old.row at ≡ Some slot → self.new.free ≡ self.old.free ++ slot ∷ [] }
     {
         let slot = self.row.remove(at);
         self.free.push_reserved(slot);
@@ -91,7 +96,8 @@ impl SlotRow {
     /// Has the first slots of the row be free, so many.
     pub(crate) fn drop_first(&mut self, count: usize)
         requires { count ≤ length self.old.row }
-        ensures { self.new ≡ record self.old { row = drop count self.old.row } }
+        ensures row { self.new.row ≡ drop count self.old.row }
+        ensures room { self.new.room ≡ self.old.room }
     {
         if count > 0 {
             add_first(&mut self.free, &self.row, count);

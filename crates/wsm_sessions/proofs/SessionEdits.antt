@@ -251,6 +251,9 @@ module _ (gap : ℤ) (long : pos 1 ≤ℤ gap) (t : ℤ) where
 
     -- ---- those that it is linked to, at their places
 
+    pub none_linked : (i : ℕ) → placed gap t ws ≡ New i → linked ≡ []
+    none_linked i h = (new_is (length ended) i linked h).1
+
     pub linked_one : (i : ℕ) → placed gap t ws ≡ Extends i → (d : Window) → get_or ws i d ∷ [] ≡ linked
     linked_one i h d =
         let at = extends_is (length ended) i linked h in

@@ -4,33 +4,32 @@ ghost use Rattle.std.specs.Prelude.{◌≡◌, ◌⊎◌, ◌+◌, ◌<◌, ◌�
 ghost use Rattle.std.specs.Int.{int_max, int_min};
 ghost use Rattle.std.specs.List.Sorted.{IsPartitionedBy};
 ghost use Rattle.wsm_windows.specs.Windows.{IsTime, window, greatest_span};
-ghost use Rattle.wsm_semantics.specs.Sessions.{with_session, ends_by, ends_after};
+ghost use Rattle.wsm_semantics.specs.Sessions.{with_session, links, ends_by, ends_after};
 ghost use Rattle.wsm_sessions.specs.Live.{IsOfTimes};
-ghost use Rattle.wsm_sessions.specs.Placing.{placed, is_any_linked, joined_at};
+ghost use Rattle.wsm_sessions.specs.Placing.{placed, is_any_linked, joined_at, those_linked};
 ghost use Rattle.wsm_sessions.specs.Placing as spec;
 
-use crate::placed::Placed;
+use crate::placed::{Linked, Placed};
 use wsm_windows::Window;
 
-/// Puts a time into sessions, where room is left or it is linked to one.
-pub fn put_time(windows: &mut Vec<Window>, gap: i64, time: i64) -> Placed
+/// Puts a time into sessions, where it was found what it does to them, and room is left or it is
+/// linked to one.
+pub fn put_time(windows: &mut Vec<Window>, gap: i64, time: i64, found: Placed)
     requires gap_low { pos 1 ≤ℤ gap }
     requires gap_high { gap ≤ℤ greatest_span }
     requires time { IsTime time }
     requires sessions { IsOfTimes gap windows.old.items }
+    requires found { found ≡ placed gap time windows.old.items }
     requires room { (is_any_linked gap time windows.old.items ≡ true) ⊎ (vec_len windows.old < vec_capacity windows.old) }
     ensures items { windows.new.items ≡ with_session gap time windows.old.items }
-    ensures placed { result ≡ placed gap time windows.old.items }
     ensures len { (vec_len windows.new ≤ vec_len windows.old) ⊎ ((is_any_linked gap time windows.old.items ≡ false) × (vec_len windows.new ≡ vec_len windows.old + 1)) }
     ensures capacity { vec_capacity windows.new ≡ vec_capacity windows.old }
 {
-    let found = find(windows, gap, time);
     match found {
         Placed::New(i) => windows.insert(i, alone(gap, time)).unwrap(),
         Placed::Extends(i) => windows[i] = extended(windows[i], gap, time),
         Placed::Joins(i) => join(windows, i),
     }
-    found
 }
 
 /// What a time does to sessions: which it is linked to, and at what place.
@@ -49,6 +48,21 @@ pub fn find(windows: &[Window], gap: i64, time: i64) -> Placed
         Placed::Extends(i)
     } else {
         Placed::Joins(i)
+    }
+}
+
+/// The sessions that a time is linked to, where it was found what it does to them.
+pub fn linked_at(windows: &[Window], gap: i64, time: i64, found: Placed) -> Linked
+    requires gap_low { pos 1 ≤ℤ gap }
+    requires time { IsTime time }
+    requires sessions { IsOfTimes gap windows.now }
+    requires found { found ≡ placed gap time windows.now }
+    ensures { those_linked result ≡ filter (links gap time) windows.now }
+{
+    match found {
+        Placed::New(_) => Linked::None,
+        Placed::Extends(i) => Linked::One(windows[i]),
+        Placed::Joins(i) => Linked::Two(windows[i], windows[i + 1]),
     }
 }
 

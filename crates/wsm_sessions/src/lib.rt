@@ -18,7 +18,7 @@
 //! ```
 #![tactic(auto)]
 
-pub use placed::{Linked, Placed};
+pub use placed::{Entry, Linked, Placed};
 pub use sessions::Sessions;
 
 mod edits;

@@ -27,6 +27,15 @@ pub enum Linked {
     Two(Window, Window),
 }
 
+/// What a time that entered was linked to, and where it is now.
+#[derive(Clone, Copy, Debug, PartialEq, Eq)]
+pub struct Entry {
+    /// The sessions that it was linked to, as they were.
+    pub linked: Linked,
+    /// The session that it is in now.
+    pub session: Window,
+}
+
 impl Placed {
     /// The place of the session that holds the time now, counted from 0.
     pub fn index(self) -> usize

@@ -9,8 +9,8 @@ ghost use Rattle.wsm_sessions.specs.Live.{Fits, IsApart, times_left};
 ghost use Rattle.wsm_sessions.specs.Placing.{placed, those_linked};
 ghost use Rattle.wsm_sessions.specs.Placing as spec;
 
-use crate::edits::{find, keep_past, put_time};
-use crate::placed::{Linked, Placed};
+use crate::edits::{find, keep_past, linked_at, put_time};
+use crate::placed::{Entry, Linked, Placed};
 use std::alloc::{AllocError, Global};
 use std::marker::Model;
 use wsm_windows::Window;
@@ -80,24 +80,26 @@ impl Sessions {
         requires { IsTime time }
         ensures { those_linked result ≡ filter (links self.now.gap time) self.now.windows }
     {
-        let windows = &self.windows;
-        match find(windows, self.gap, time) {
-            Placed::New(_) => Linked::None,
-            Placed::Extends(i) => Linked::One(windows[i]),
-            Placed::Joins(i) => Linked::Two(windows[i], windows[i + 1]),
-        }
+        let found = find(&self.windows, self.gap, time);
+        linked_at(&self.windows, self.gap, time, found)
     }
 
-    /// Places a time, and gives the session that it is in now.
-    pub fn enter(&mut self, time: i64) -> Window
+    /// Places a time, and tells the sessions that it was linked to and the one that it is in now.
+    pub fn enter(&mut self, time: i64) -> Entry
         requires time { IsTime time }
         requires admits { spec.admits self.old time ≡ true }
         ensures windows { self.new ≡ record self.old { windows = with_session self.old.gap time self.old.windows } }
-        ensures session { result ≡ session_of self.old.gap time (filter (links self.old.gap time) self.old.windows) }
+        ensures linked { those_linked result.linked ≡ filter (links self.old.gap time) self.old.windows }
+        ensures session { result.session ≡ session_of self.old.gap time (filter (links self.old.gap time) self.old.windows) }
         ensures fits { (times : List ℤ) → Fits self.old times → Fits self.new (time ∷ times) }
     {
-        let placed = self.place(time);
-        self.at(placed.index())
+        let found = find(&self.windows, self.gap, time);
+        let linked = linked_at(&self.windows, self.gap, time, found);
+        self.put(time, found);
+        Entry {
+            linked,
+            session: self.windows[found.index()],
+        }
     }
 
     /// Puts a time into the sessions that it is linked to, or into one of its own.
@@ -109,7 +111,20 @@ impl Sessions {
         // Of whatever times it had the sessions, it has those of one time more.
         ensures fits { (times : List ℤ) → Fits self.old times → Fits self.new (time ∷ times) }
     {
-        put_time(&mut self.windows, self.gap, time)
+        let found = find(&self.windows, self.gap, time);
+        self.put(time, found);
+        found
+    }
+
+    // Puts a time into the sessions that it is linked to, or into one of its own, as was found.
+    fn put(&mut self, time: i64, found: Placed)
+        requires time { IsTime time }
+        requires admits { spec.admits self.old time ≡ true }
+        requires found { found ≡ placed self.old.gap time self.old.windows }
+        ensures windows { self.new ≡ record self.old { windows = with_session self.old.gap time self.old.windows } }
+        ensures fits { (times : List ℤ) → Fits self.old times → Fits self.new (time ∷ times) }
+    {
+        put_time(&mut self.windows, self.gap, time, found);
     }
 
     /// Drops the sessions that end by a limit, which is in event time, and their times.

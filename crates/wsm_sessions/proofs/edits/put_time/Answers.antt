@@ -4,37 +4,22 @@ use Rattle.std.specs.Prelude.{insert, slice_set}
 use Rattle.std.specs.Int.{int_max, int_min}
 use Rattle.wsm_windows.specs.declared.window.Window.{Window}
 use Rattle.wsm_windows.specs.Windows.{window}
-use Rattle.wsm_semantics.proofs.Sessions.{AreApart}
-use Rattle.wsm_sessions.specs.Placing.{placed}
 use Rattle.wsm_sessions.proofs.SessionEdits.{apart_of, begun, extended, joined}
 use Rattle.wsm_sessions.proofs.edits.put_time.Goals as goal
-use Rattle.wsm_sessions.proofs.edits.put_time.Goals.{After-find-found}
 
 -- room is left where the time is linked to none
 room_left : (b : Bool) (n m : ℕ) → (b ≡ true) ⊎ (n < m) → b ≡ false → n < m
 room_left b n m (inl l) h = absurd (true≢false (sym l ∙ h))
 room_left b n m (inr r) h = r
 
--- what was found is what the time does to the sessions, which lie apart
-found : (c : After-find-found) → c.find-found.result ≡ placed c.args.gap c.args.time c.args.windows.now.items
-found c =
-    let time : SFits w64 c.args.time = c.ranges.time in
-    let gap : SFits w64 c.args.gap = c.ranges.gap in
-    simp (to_z-of_z, c.deref.ensures.value) at c.find-found.ensures
-
-apart : (c : After-find-found) → AreApart c.args.gap c.args.windows.now.items
-apart c = apart_of c.args.gap c.requires.gap_low c.args.windows.now.items c.requires.sessions
-
 pub insert-requires : goal.insert-requires
 insert-requires c =
-    let w = (goal.at.insert-requires c).After-find-found in
-    let h = begun c.args.gap c.requires.gap_low c.args.time _ (apart w) c.in-New.i (sym (found w) ∙ c.in-New.is) in
+    let h = begun c.args.gap c.requires.gap_low c.args.time _ (apart_of c.args.gap c.requires.gap_low c.args.windows.now.items c.requires.sessions) c.in-New.i (sym c.requires.found ∙ c.in-New.is) in
     omega (arith, h.0, c.args.windows.now.ok.0)
 
 pub unwrap-requires : goal.unwrap-requires
 unwrap-requires c =
-    let w = (goal.at.unwrap-requires c).After-find-found in
-    let h = begun c.args.gap c.requires.gap_low c.args.time _ (apart w) c.in-New.i (sym (found w) ∙ c.in-New.is) in
+    let h = begun c.args.gap c.requires.gap_low c.args.time _ (apart_of c.args.gap c.requires.gap_low c.args.windows.now.items c.requires.sessions) c.in-New.i (sym c.requires.found ∙ c.in-New.is) in
     c.insert.ensures.succeeds (room_left _ _ _ c.requires.room h.1.0)
 
 pub returns-in-New-clause-items : goal.returns-in-New-clause-items
@@ -42,33 +27,28 @@ returns-in-New-clause-items c =
     let time : SFits w64 c.args.time = c.ranges.time in
     let gap : SFits w64 c.args.gap = c.ranges.gap in
     let ws : List Window = c.args.windows.now.items in
-    let w = (goal.at.returns-in-New-clause-items c).After-find-found in
-    let h = begun c.args.gap c.requires.gap_low c.args.time _ (apart w) c.in-New.i (sym (found w) ∙ c.in-New.is) in
+    let h = begun c.args.gap c.requires.gap_low c.args.time _ (apart_of c.args.gap c.requires.gap_low c.args.windows.now.items c.requires.sessions) c.in-New.i (sym c.requires.found ∙ c.in-New.is) in
     let alone : c.alone.result ≡ window c.args.time (c.args.time +ℤ c.args.gap) = simp to_z-of_z at c.alone.ensures in
     rw c.unwrap.ensures at c.insert.ensures.items ∙ ap (insert ws c.in-New.i) alone ∙ h.1.1
 
 pub returns-in-New-clause-len : goal.returns-in-New-clause-len
 returns-in-New-clause-len c =
-    let w = (goal.at.returns-in-New-clause-len c).After-find-found in
-    let h = begun c.args.gap c.requires.gap_low c.args.time _ (apart w) c.in-New.i (sym (found w) ∙ c.in-New.is) in
+    let h = begun c.args.gap c.requires.gap_low c.args.time _ (apart_of c.args.gap c.requires.gap_low c.args.windows.now.items c.requires.sessions) c.in-New.i (sym c.requires.found ∙ c.in-New.is) in
     inr (h.1.0, rw c.unwrap.ensures at c.insert.ensures.len)
 
 pub returns-in-New-clause-capacity : goal.returns-in-New-clause-capacity
 returns-in-New-clause-capacity c =
-    let w = (goal.at.returns-in-New-clause-capacity c).After-find-found in
-    let h = begun c.args.gap c.requires.gap_low c.args.time _ (apart w) c.in-New.i (sym (found w) ∙ c.in-New.is) in
+    let h = begun c.args.gap c.requires.gap_low c.args.time _ (apart_of c.args.gap c.requires.gap_low c.args.windows.now.items c.requires.sessions) c.in-New.i (sym c.requires.found ∙ c.in-New.is) in
     (c.insert.ensures.in_place (room_left _ _ _ c.requires.room h.1.0)).1.0
 
 pub index-requires : goal.index-requires
 index-requires c =
-    let w = (goal.at.index-requires c).After-find-found in
-    let h = extended c.args.gap c.requires.gap_low c.args.time _ (apart w) c.in-Extends.i (sym (found w) ∙ c.in-Extends.is) in
+    let h = extended c.args.gap c.requires.gap_low c.args.time _ (apart_of c.args.gap c.requires.gap_low c.args.windows.now.items c.requires.sessions) c.in-Extends.i (sym c.requires.found ∙ c.in-Extends.is) in
     omega (arith, h.0, c.args.windows.now.ok.0)
 
 pub index_mut-requires : goal.index_mut-requires
 index_mut-requires c =
-    let w = (goal.at.index_mut-requires c).After-find-found in
-    let h = extended c.args.gap c.requires.gap_low c.args.time _ (apart w) c.in-Extends.i (sym (found w) ∙ c.in-Extends.is) in
+    let h = extended c.args.gap c.requires.gap_low c.args.time _ (apart_of c.args.gap c.requires.gap_low c.args.windows.now.items c.requires.sessions) c.in-Extends.i (sym c.requires.found ∙ c.in-Extends.is) in
     omega (arith, h.0, c.args.windows.now.ok.0)
 
 pub returns-in-Extends-clause-items : goal.returns-in-Extends-clause-items
@@ -76,20 +56,17 @@ returns-in-Extends-clause-items c =
     let time : SFits w64 c.args.time = c.ranges.time in
     let gap : SFits w64 c.args.gap = c.ranges.gap in
     let ws : List Window = c.args.windows.now.items in
-    let w = (goal.at.returns-in-Extends-clause-items c).After-find-found in
-    let h = extended c.args.gap c.requires.gap_low c.args.time _ (apart w) c.in-Extends.i (sym (found w) ∙ c.in-Extends.is) in
+    let h = extended c.args.gap c.requires.gap_low c.args.time _ (apart_of c.args.gap c.requires.gap_low c.args.windows.now.items c.requires.sessions) c.in-Extends.i (sym c.requires.found ∙ c.in-Extends.is) in
     let longer : c.extended.result ≡ window (int_min c.index.result.now.start c.args.time) (int_max c.index.result.now.end (c.args.time +ℤ c.args.gap)) = simp to_z-of_z at c.extended.ensures in
     let read = c.index.ensures in
     ap (slice_set ws c.in-Extends.i) (longer ∙ ap (λ (w : Window). window (int_min w.start c.args.time) (int_max w.end (c.args.time +ℤ c.args.gap))) read) ∙ h.1 c.index.result.now
 
 pub join-requires : goal.join-requires
 join-requires c =
-    let w = (goal.at.join-requires c).After-find-found in
-    let h = joined c.args.gap c.requires.gap_low c.args.time _ (apart w) c.in-Joins.i (sym (found w) ∙ c.in-Joins.is) in
+    let h = joined c.args.gap c.requires.gap_low c.args.time _ (apart_of c.args.gap c.requires.gap_low c.args.windows.now.items c.requires.sessions) c.in-Joins.i (sym c.requires.found ∙ c.in-Joins.is) in
     omega (arith, h.0, c.args.windows.now.ok.0)
 
 pub returns-in-Joins-clause-items : goal.returns-in-Joins-clause-items
 returns-in-Joins-clause-items c =
-    let w = (goal.at.returns-in-Joins-clause-items c).After-find-found in
-    let h = joined c.args.gap c.requires.gap_low c.args.time _ (apart w) c.in-Joins.i (sym (found w) ∙ c.in-Joins.is) in
+    let h = joined c.args.gap c.requires.gap_low c.args.time _ (apart_of c.args.gap c.requires.gap_low c.args.windows.now.items c.requires.sessions) c.in-Joins.i (sym c.requires.found ∙ c.in-Joins.is) in
     c.join.ensures.items ∙ h.1

@@ -1,7 +1,7 @@
-use Rattle.std.proofs.Common.{refl, ◌≡◌, ◌+◌, ◌∷◌, [], Some, ap, sym, ◌∙◌, arith, length-append}
+use Rattle.std.proofs.Common.{refl, ◌≡◌, ◌+◌, ◌++◌, ◌∷◌, [], Some, ap, sym, ◌∙◌, arith, length-append}
 use Rattle.std.specs.Prelude.{length, slice_get}
 use Rattle.wsm_panes.specs.Stored.{listed}
-use Rattle.std.proofs.lemmas.Option.{slice_get_read}
+use Rattle.std.proofs.lemmas.Option.{same_Some, slice_get_read}
 use Rattle.wsm_panes.proofs.SlotRows.{listed-append, listed_less}
 use Rattle.wsm_panes.proofs.slot_row.SlotRow.remove.Goals as goal
 
@@ -22,3 +22,10 @@ invariant_of-self c =
       }),
       c.push_reserved.ensures.capacity ∙ c.self.invariant.1 ∙ sym c.remove-slot.ensures.capacity,
     )
+
+pub returns-clause-freed : goal.returns-clause-freed
+returns-clause-freed c slot at =
+    let a = c.self.inside in
+    let here : slice_get a.row.items c.args.at ≡ Some c.remove-slot.result = slice_get_read a.row.items _ c.args.at c.remove-slot.result refl (rw (← c.self.view_is) at c.requires) c.remove-slot.ensures.value in
+    let same : c.remove-slot.result ≡ slot = same_Some _ _ (sym here ∙ rw (← c.self.view_is) at at) in
+    rw (← c.self.view_is) (c.push_reserved.ensures.items ∙ ap (λ s. a.free.items ++ s ∷ []) same)

@@ -5,7 +5,7 @@ use Rattle.wsm_windows.specs.declared.window.Window.{Window}
 use Rattle.wsm_semantics.specs.Sessions.{with_session}
 use Rattle.wsm_semantics.proofs.Sessions.{sessions-more}
 use Rattle.wsm_sessions.specs.Placing as spec
-use Rattle.wsm_sessions.proofs.sessions.Sessions.place.Goals as goal
+use Rattle.wsm_sessions.proofs.sessions.Sessions.put.Goals as goal
 
 room_left : (n room : ℕ) (b : Bool) → (nat_lt n room || b) ≡ true → b ≡ false → n < room
 room_left n room b h k = grind (arith, nat_tests)
