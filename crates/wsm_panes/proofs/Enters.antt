@@ -31,7 +31,7 @@ use Rattle.wsm_semantics.specs.Summaries.{Plan, Pane, assigned, entered, joined,
 use Rattle.wsm_semantics.proofs.Lists.{filter-all}
 use Rattle.wsm_semantics.proofs.Each.{all-any, filter_swap, filter-map}
 use Rattle.wsm_sessions.specs.Live.{Live, times_left}
-use Rattle.wsm_panes.specs.Held.{CanEnter, CanEnterWindows, CanJoin, CanJoinAll, CanJoinFolds, CanRecord, CanTake, Held, IsRoomy, entries_of, held_in, ring_of, room_of, taking, windows_entered, windows_of_key, with_one_more}
+use Rattle.wsm_panes.specs.Held.{CanEnter, CanEnterWindows, CanJoin, CanJoinAll, CanJoinFolds, CanRecord, CanTake, Held, IsRoomy, entries_of, joins_sessions, ring_of, room_of, session_entered, taking, windows_entered, windows_of_key, with_one_more}
 use Rattle.wsm_panes.specs.Ring.{LieInRing}
 use Rattle.wsm_panes.specs.OfKeys.{AreDropped, AreOfKeys, IsOfKey}
 use Rattle.wsm_panes.specs.Place.{is_kept}
@@ -45,11 +45,16 @@ any_datum kinds values d (Some h) = by h.folded refl where
   by None is = rw is refl
   by (Some xs) is = rw is refl
 
--- windows on a grid are held in the ring
-pub in_ring : {M : Type 0} (s : Shape) (list ring : M) → ((gap : ℤ) → s ≢ Session gap) → held_in s list ring ≡ ring
-in_ring (Fixed size) list ring grid = refl
-in_ring (Sliding size period) list ring grid = refl
-in_ring (Session gap) list ring grid = absurd (grid gap refl)
+-- where windows lie on a grid no sessions are joined, and a record has none
+pub none_joined : (s : Shape) → ((gap : ℤ) → s ≢ Session gap) → (d : Datum) (es : List (Place × Pane (List Value))) → false ≡ joins_sessions s d es
+none_joined (Fixed size) grid d es = refl
+none_joined (Sliding size period) grid d es = refl
+none_joined (Session gap) grid d es = absurd (grid gap refl)
+
+pub no_session : (s : Shape) → ((gap : ℤ) → s ≢ Session gap) → (d : Datum) (es : List (Place × Pane (List Value))) → None ≡ session_entered s d es
+no_session (Fixed size) grid d es = refl
+no_session (Sliding size period) grid d es = refl
+no_session (Session gap) grid d es = absurd (grid gap refl)
 
 pub entered_assigned : {X : Type 0} (plan : Plan X) (s : Shape) (l : ℤ) → ((gap : ℤ) → s ≢ Session gap) → (d : Datum) (es : List (Place × Pane X)) → entered plan s l d es ≡ assigned plan d (live_windows_of s d.time l d.mark) es
 entered_assigned plan (Fixed size) l other d es = refl

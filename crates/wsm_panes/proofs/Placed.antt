@@ -76,11 +76,6 @@ module _ {P : Type 0} where
     | inr apart ↦ let bad : None ≡ Some v = rw apart at h in cc
   ]
 
-  -- a slot that tells a place's pane is the place's own
-  pub own_of_place : (r : Ring) (os : List (Option (Place × P))) → AreInPlace r os → (q : Place) (i : ℕ) (o : Option P) → pane_of q (slot_at os i) ≡ o → is_some o ≡ true → slot_of r q ≡ i
-  own_of_place r os placed q i None is some = let bad : false ≡ true = some in absurd (cc)
-  own_of_place r os placed q i (Some v) is some = (placed i (q, v) (entry_of q (slot_at os i) v is)).1
-
   pub placed_set : (r : Ring) (os : List (Option (Place × P))) (i : ℕ) (o : Option (Place × P)) → AreInPlace r os → i < length os → ((e : Place × P) → o ≡ Some e → IsOfRing r e.0 × (slot_of r e.0 ≡ i)) → AreInPlace r (set os i o)
   placed_set r os i o placed within new j e at = elim (cases_eq j i) [
     | inl same ↦

@@ -54,11 +54,6 @@ room_of h = h.keys * h.live
 abbrev pub ring_of : Held → Ring
 ring_of h = record { size = size_of h.shape; period = period_of h.shape; keys = h.keys; bound = h.live }
 
--- what is held in a list or in a ring: sessions in the list, windows on a grid in the ring
-abbrev pub held_in : {M : Type 0} → Shape → M → M → M
-held_in (Session gap) list ring = list
-held_in shape list ring = ring
-
 -- where windows lie on a grid the spot tells the slot of its place, so that none is asked for; a list
 -- looks whether it still has the place there
 abbrev pub IsSpot : Held → Spot → Type 0

@@ -11,6 +11,7 @@ ghost use Rattle.wsm_record.specs.declared.event.Value.{Value as OneValue};
 ghost use Rattle.wsm_record.specs.Modes.{retracts};
 ghost use Rattle.wsm_windows.specs.Places.{place_cmp};
 ghost use Rattle.wsm_panes.specs.Held.{CanEnter, IsKept, IsSpot, entries_of, joined_panes, joins_sessions, once_fired, room_of, session_entered, windows_entered, with_entered};
+ghost use Rattle.wsm_panes.specs.HeldState.{AreTables, panes_in, widths_in};
 ghost use Rattle.wsm_panes.specs.Ring.{IsRing};
 ghost use Rattle.wsm_panes.specs.OfKeys.{AreOfKeys, AreDropped};
 ghost use Rattle.wsm_panes.specs.Walk.{first_past, following, place_due, place_found};
@@ -49,17 +50,22 @@ pub struct HeldPanes {
     keys: usize,
     shape: Shape,
     live: usize,
-    // The panes of sessions.
-    list: ListTable,
-    // The panes of windows on a grid.
-    ring: RingTable,
-    // Of each key, where windows are sessions.
-    sessions: Vec<Sessions>,
+    tables: Tables,
+}
+
+// What panes are held in, by the shape of their windows.
+#[derive(Drop)]
+enum Tables {
+    // A list of those of sessions, and the sessions of each key.
+    Sessions(ListTable, Vec<Sessions>),
+    // A ring of those of windows on a grid.
+    Grid(RingTable),
 }
 
 impl Model for HeldPanes {
     ghost use Rattle.std.specs.Coded.{codes};
-    ghost use Rattle.wsm_panes.specs.Held.{Held, coded_held, held_in};
+    ghost use Rattle.wsm_panes.specs.Held.{Held, coded_held};
+    ghost use Rattle.wsm_panes.specs.HeldState.{panes_in, widths_in};
     ghost use Rattle.wsm_panes.specs.contracts.pane.Pane as one_pane;
     ghost use Rattle.wsm_windows.specs.contracts.window.Shape as one_shape;
 
@@ -67,7 +73,7 @@ impl Model for HeldPanes {
 
     ghost coded = { coded_held (Prim.hlevel (codes, one_shape.the_row.coded)) (Prim.hlevel (codes, one_pane.the_row.coded)) };
 
-    ghost view = { λ a. record { keys = a.keys; shape = a.shape; live = a.live; widths = a.ring.widths; panes = held_in a.shape a.list.panes a.ring.panes } };
+    ghost view = { λ a. record { keys = a.keys; shape = a.shape; live = a.live; widths = widths_in a.tables; panes = panes_in a.tables } };
 
     ghost use Rattle.wsm_panes.specs.HeldState.{IsSound};
 
@@ -98,9 +104,7 @@ impl HeldPanes {
             keys,
             shape,
             live,
-            list: ListTable::open(alloc, list_room(shape, keys * live), widths)?,
-            ring: RingTable::open(alloc, ring_for(shape, keys, live), widths)?,
-            sessions: open_sessions(alloc, keys, shape, live)?,
+            tables: open_tables(alloc, keys, shape, live, widths)?,
         })
     }
 
@@ -122,27 +126,20 @@ impl HeldPanes {
         ensures joined { result.joined ≡ joins_sessions self.old.shape (datum 0 (pos 0) key time []) (entries_of self.old) }
         ensures session { result.session ≡ session_entered self.old.shape (datum 0 (pos 0) key time []) (entries_of self.old) }
     {
-        match self.shape {
-            Shape::Session(_) => {
-                let sessions = &mut self.sessions[key as usize];
-                let (session, joined) = enter_session(
-                    &mut self.list,
-                    sessions,
-                    kinds,
-                    key,
-                    time,
-                    values,
-                );
+        match &mut self.tables {
+            Tables::Sessions(list, sessions) => {
+                let sessions = &mut sessions[key as usize];
+                let (session, joined) = enter_session(list, sessions, kinds, key, time, values);
                 Entered {
                     windows: 1,
                     joined,
                     session: Some(session),
                 }
             }
-            _ => {
+            Tables::Grid(ring) => {
                 let past = live_past(time, lateness, mark);
                 Entered {
-                    windows: enter_windows(&mut self.ring, kinds, key, time, values, past),
+                    windows: enter_windows(ring, kinds, key, time, values, past),
                     joined: false,
                     session: None,
                 }
@@ -159,11 +156,11 @@ impl HeldPanes {
         ensures few { (gap : ℤ) → self.now.shape ≡ Session gap → length (linked gap (datum 0 (pos 0) key time []) (entries_of self.now)) ≤ 2 }
         ensures shape { IsShape self.now.shape }
     {
-        match self.shape {
-            Shape::Session(_) => {
-                linked_pair(&self.list, &self.sessions[key as usize], key, time)
+        match &self.tables {
+            Tables::Sessions(list, sessions) => {
+                linked_pair(list, &sessions[key as usize], key, time)
             }
-            Shape::Fixed(_) | Shape::Sliding(_, _) => None,
+            Tables::Grid(_) => None,
         }
     }
 
@@ -171,9 +168,9 @@ impl HeldPanes {
     pub fn len(&self) -> usize
         ensures { result ≡ length (entries_of self.now) }
     {
-        match self.shape {
-            Shape::Session(_) => self.list.len(),
-            _ => self.ring.len(),
+        match &self.tables {
+            Tables::Sessions(list, _) => list.len(),
+            Tables::Grid(ring) => ring.len(),
         }
     }
 
@@ -182,9 +179,9 @@ impl HeldPanes {
         ensures place { place_found result ≡ option_map (λ _. place) (find place_cmp place (entries_of self.now)) }
         ensures spot { IfSome result (IsSpot self.now) }
     {
-        match self.shape {
-            Shape::Session(_) => self.list.find(place),
-            _ => self.ring.find(place),
+        match &self.tables {
+            Tables::Sessions(list, _) => list.find(place),
+            Tables::Grid(ring) => ring.find(place),
         }
     }
 
@@ -194,9 +191,9 @@ impl HeldPanes {
         ensures place { place_found result ≡ place_due limit (slice_get (entries_of self.now) 0) }
         ensures spot { IfSome result (IsSpot self.now) }
     {
-        match self.shape {
-            Shape::Session(_) => self.list.first_due(limit),
-            _ => self.ring.first_due(limit),
+        match &self.tables {
+            Tables::Sessions(list, _) => list.first_due(limit),
+            Tables::Grid(ring) => ring.first_due(limit),
         }
     }
 
@@ -206,9 +203,9 @@ impl HeldPanes {
         ensures place { place_found result ≡ place_due limit (first_past after (entries_of self.now)) }
         ensures spot { IfSome result (IsSpot self.now) }
     {
-        match self.shape {
-            Shape::Session(_) => self.list.first_due_after(after, limit),
-            _ => self.ring.first_due_after(after, limit),
+        match &self.tables {
+            Tables::Sessions(list, _) => list.first_due_after(after, limit),
+            Tables::Grid(ring) => ring.first_due_after(after, limit),
         }
     }
 
@@ -220,9 +217,9 @@ impl HeldPanes {
         ensures place { place_found result ≡ place_due limit (following spot.place (entries_of self.now)) }
         ensures spot { IfSome result (IsSpot self.now) }
     {
-        match self.shape {
-            Shape::Session(_) => Spot::rebuilt_found(self.list.next_due(spot.rebuilt(), limit)),
-            _ => self.ring.next_due(spot, limit),
+        match &self.tables {
+            Tables::Sessions(list, _) => Spot::rebuilt_found(list.next_due(spot.rebuilt(), limit)),
+            Tables::Grid(ring) => ring.next_due(spot, limit),
         }
     }
 
@@ -233,9 +230,9 @@ impl HeldPanes {
         requires spot { IsSpot self.now spot }
         ensures { find place_cmp spot.place (entries_of self.now) ≡ Some result }
     {
-        match self.shape {
-            Shape::Session(_) => self.list.pane(spot.rebuilt()),
-            _ => self.ring.pane(spot),
+        match &self.tables {
+            Tables::Sessions(list, _) => list.pane(spot.rebuilt()),
+            Tables::Grid(ring) => ring.pane(spot),
         }
     }
 
@@ -250,9 +247,9 @@ impl HeldPanes {
         ensures panes { (pane : AnyPane (List OneValue)) × (find place_cmp spot.place (entries_of self.old) ≡ Some pane) × (entries_of self.new ≡ put place_cmp spot.place (once_fired mode spot.place (option_map (λ cells. cells.now) row.entry) pane) (entries_of self.old)) }
         ensures keeps { IsKept self.old self.new }
     {
-        match self.shape {
-            Shape::Session(_) => self.list.fire(spot.rebuilt(), mode, row),
-            _ => self.ring.fire(spot, mode, row),
+        match &mut self.tables {
+            Tables::Sessions(list, _) => list.fire(spot.rebuilt(), mode, row),
+            Tables::Grid(ring) => ring.fire(spot, mode, row),
         }
     }
 
@@ -261,38 +258,45 @@ impl HeldPanes {
         ensures panes { entries_of self.new ≡ where_key place_cmp (λ p. int_lt limit p.end) (entries_of self.old) }
         ensures keeps { IsKept self.old self.new }
     {
-        match self.shape {
-            Shape::Session(_) => {
-                self.list.drop_expired(limit);
-                drop_sessions(&mut self.sessions, limit);
+        match &mut self.tables {
+            Tables::Sessions(list, sessions) => {
+                list.drop_expired(limit);
+                drop_sessions(sessions, limit);
             }
-            _ => self.ring.drop_expired(limit),
+            Tables::Grid(ring) => ring.drop_expired(limit),
         }
     }
 }
 
-// How many panes there is room for in the list.
-fn list_room(shape: Shape, room: usize) -> usize
-    ensures all { (gap : ℤ) → shape ≡ Session gap → result ≡ room }
-    ensures within { result ≤ room }
-{
-    match shape {
-        Shape::Session(_) => room,
-        Shape::Fixed(_) | Shape::Sliding(_, _) => 0,
-    }
-}
-
-// The ring for the windows of a shape.
-fn ring_for(shape: Shape, keys: usize, live: usize) -> Ring
+// No pane yet of windows of a shape.
+fn open_tables(
+    alloc: Global,
+    keys: usize,
+    shape: Shape,
+    live: usize,
+    widths: Widths,
+) -> Result<Tables, AllocError>
     requires shape { IsShape shape }
     requires room { keys * live ≤ MAX_PANES }
-    ensures ring { IsRing result }
-    ensures grid { ((gap : ℤ) → shape ≢ Session gap) → 1 ≤ keys * live → result ≡ record { size = size_of shape; period = period_of shape; keys = keys; bound = live } }
+    requires accumulators { widths.accumulators ≤ MAX_ACCUMULATORS }
+    requires columns { widths.columns ≤ MAX_COLUMNS }
+    ensures tables { IfOk result (AreTables shape keys live) }
+    ensures empty { IfOk result (λ t. panes_in t ≡ map.empty) }
+    ensures widths { IfOk result (λ t. widths_in t ≡ widths) }
 {
     match shape {
-        Shape::Fixed(size) => ring_of(size, size, keys, live),
-        Shape::Sliding(size, period) => ring_of(size, period, keys, live),
-        Shape::Session(gap) => ring_of(gap, gap, 0, 0),
+        Shape::Fixed(size) => {
+            let ring = ring_of(size, size, keys, live);
+            Ok(Tables::Grid(RingTable::open(alloc, ring, widths)?))
+        }
+        Shape::Sliding(size, period) => {
+            let ring = ring_of(size, period, keys, live);
+            Ok(Tables::Grid(RingTable::open(alloc, ring, widths)?))
+        }
+        Shape::Session(gap) => Ok(Tables::Sessions(
+            ListTable::open(alloc, keys * live, widths)?,
+            no_sessions(alloc, keys, gap, live)?,
+        )),
     }
 }
 
@@ -317,22 +321,7 @@ fn ring_of(size: i64, period: i64, keys: usize, live: usize) -> Ring
     }
 }
 
-// No session yet of each key, where windows are sessions.
-fn open_sessions(
-    alloc: Global,
-    keys: usize,
-    shape: Shape,
-    live: usize,
-) -> Result<Vec<Sessions>, AllocError>
-    requires { IsShape shape }
-    ensures { IfOk result (λ v. (gap : ℤ) → shape ≡ Session gap → AreOfKeys gap keys live [] v.items) }
-{
-    match shape {
-        Shape::Session(gap) => no_sessions(alloc, keys, gap, live),
-        _ => Ok(Vec::new(alloc)),
-    }
-}
-
+// No session yet of each key.
 fn no_sessions(
     alloc: Global,
     keys: usize,

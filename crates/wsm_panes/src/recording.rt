@@ -1,6 +1,6 @@
 //! Panes that records are put into.
 
-ghost use Rattle.std.specs.Prelude.{◌≡◌, ◌≤◌, List, length, Option, None, Some, IfSome, IsTrue};
+ghost use Rattle.std.specs.Prelude.{◌≡◌, ◌≤◌, List, length, Option, None, Some, IsTrue};
 ghost use Rattle.wsm_record.specs.declared.event.Value.{Value as OneValue};
 ghost use Rattle.wsm_record.specs.declared.limits.TheConstants.{MAX_ACCUMULATORS};
 ghost use Rattle.wsm_record.specs.declared.words.Kind.{Kind as OneKind};
@@ -27,21 +27,4 @@ pub trait TakesRecords: Copy {
         requires types { IsTrue (are_of_kinds kinds.now values.now) }
         requires room { CanTakeRecord kinds.now values.now self.old }
         ensures { self.new ≡ with_record kinds.now values.now (Some self.old) };
-}
-
-/// A pane, if there is one, with one record more.
-pub(crate) fn with_one_more<P: TakesRecords>(pane: Option<P>, kinds: &[Kind], values: &[Value]) -> P
-    requires few { length values.now ≤ MAX_ACCUMULATORS }
-    requires types { IsTrue (are_of_kinds kinds.now values.now) }
-    requires takes { IfSome pane (P.CanTakeRecord kinds.now values.now) }
-    ensures { result ≡ P.with_record kinds.now values.now pane }
-{
-    match pane {
-        Some(pane) => {
-            let mut pane = pane;
-            pane.record(kinds, values);
-            pane
-        }
-        None => P::first(values),
-    }
 }

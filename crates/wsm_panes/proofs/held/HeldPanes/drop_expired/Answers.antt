@@ -1,48 +1,51 @@
-use Rattle.std.proofs.Common.{ap, sym, subst, ◌∙◌, SFits, w64, to_z, of_z, to_z-of_z}
+use Rattle.std.proofs.Common.{ap, sym, subst, ◌∙◌, SFits, w64, to_z-of_z}
+use Rattle.std.specs.FinMap as map
 use Rattle.std.specs.FinMap.Entries.{where_key}
 use Rattle.wsm_windows.specs.Places.{place_cmp}
-use Rattle.std.specs.FinMap as map
 use Rattle.wsm_panes.specs.OfKeys.{AreOfKeys}
 use Rattle.wsm_panes.specs.Place.{is_kept}
 use Rattle.wsm_panes.proofs.Tables.{entries_kept}
-use Rattle.wsm_panes.proofs.Enters.{in_ring, keys_dropped}
+use Rattle.wsm_panes.proofs.Enters.{keys_dropped}
 use Rattle.wsm_panes.proofs.held.HeldPanes.drop_expired.Goals as goal
+use Rattle.wsm_panes.proofs.held.HeldPanes.drop_expired.Goals.{in-Sessions, in-Grid}
 
 pub invariant_of-self : goal.invariant_of-self
 invariant_of-self c =
     let limit : SFits w64 c.args.limit = c.ranges.limit in
-    let m = c.self.inside.list.panes in
-    let left = ap map.entries (simp to_z-of_z at c.drop_expired.ensures.panes) ∙ entries_kept m (is_kept c.args.limit) in
-    record {
-      shape = c.self.invariant.shape;
-      list = λ gap is. ap (λ r. r.0) c.drop_expired.ensures.room ∙ c.self.invariant.list gap is;
-      widths = ap (λ r. r.1) c.drop_expired.ensures.room ∙ c.self.invariant.widths;
-      ring = c.self.invariant.ring;
-      none = c.self.invariant.none;
-      sessions = λ gap is.
-          subst (λ es. AreOfKeys gap c.self.inside.keys c.self.inside.live es c.drop_sessions.new.sessions.items) (sym left)
-          (keys_dropped c.args.limit gap c.self.inside.keys c.self.inside.live (map.entries m) c.self.inside.sessions.items c.drop_sessions.new.sessions.items (c.self.invariant.sessions gap is) (simp to_z-of_z at c.drop_sessions.ensures));
-    }
+    elim c.match-self.branch [
+      | in-Sessions w ↦
+          let a = c.self.inside in
+          let m = w.in-Sessions.list.panes in
+          let h = rw w.in-Sessions.is at c.self.invariant.tables in
+          let left = ap map.entries (simp to_z-of_z at w.drop_expired.ensures.panes) ∙ entries_kept m (is_kept c.args.limit) in
+          rw w.self-inside-is (record {
+            shape = c.self.invariant.shape;
+            tables = record {
+              gap = h.gap;
+              shape_is = h.shape_is;
+              room = ap (λ r. r.0) w.drop_expired.ensures.room ∙ h.room;
+              of_keys =
+                  subst (λ es. AreOfKeys h.gap a.keys a.live es w.drop_sessions.new.sessions.items) (sym left)
+                  (keys_dropped c.args.limit h.gap a.keys a.live (map.entries m) w.in-Sessions.sessions.items w.drop_sessions.new.sessions.items h.of_keys (simp to_z-of_z at w.drop_sessions.ensures));
+            };
+          })
+      | in-Grid w ↦
+          let h = rw w.in-Grid.is at c.self.invariant.tables in
+          let left = ap map.entries (simp to_z-of_z at w.drop_expired-in-Grid.ensures.panes) ∙ entries_kept w.in-Grid.ring.panes (is_kept c.args.limit) in
+          rw w.self-inside-is (record {
+            shape = c.self.invariant.shape;
+            tables = record {
+              grid = h.grid;
+              ring_is = λ some. ap (λ r. r.0) w.drop_expired-in-Grid.ensures.room ∙ h.ring_is some;
+              none = λ zero. left ∙ ap (where_key place_cmp (is_kept c.args.limit)) (h.none zero);
+            };
+          })
+    ]
 
-pub returns-in-Session-clause-panes : goal.returns-in-Session-clause-panes
-returns-in-Session-clause-panes c =
+pub returns-clause-panes : goal.returns-clause-panes
+returns-clause-panes c =
     let limit : SFits w64 c.args.limit = c.ranges.limit in
-    rw (← c.self.view_is, c.in-Session.is) (ap map.entries (simp to_z-of_z at c.drop_expired.ensures.panes) ∙ entries_kept c.self.inside.list.panes (is_kept c.args.limit))
-
-pub invariant_of-self-in_default : goal.invariant_of-self-in_default
-invariant_of-self-in_default c = record {
-  shape = c.self.invariant.shape;
-  list = c.self.invariant.list;
-  widths = c.self.invariant.widths ∙ sym (ap (λ r. r.1) c.drop_expired-in_default.ensures.room);
-  ring = λ grid some. ap (λ r. r.0) c.drop_expired-in_default.ensures.room ∙ c.self.invariant.ring grid some;
-  none = λ grid zero. ap map.entries c.drop_expired-in_default.ensures.panes ∙ entries_kept c.self.inside.ring.panes (is_kept (to_z w64 (of_z w64 c.args.limit))) ∙ ap (where_key place_cmp (is_kept (to_z w64 (of_z w64 c.args.limit)))) (c.self.invariant.none grid zero);
-  sessions = c.self.invariant.sessions;
-}
-
-pub returns-in_default-clause-panes : goal.returns-in_default-clause-panes
-returns-in_default-clause-panes c =
-    let a = c.self.inside in
-    let limit : SFits w64 c.args.limit = c.ranges.limit in
-    let grid = c.in_default.not-Session in
-    rw (← c.self.view_is, in_ring a.shape a.list.panes a.ring.panes grid, in_ring a.shape a.list.panes c.drop_expired-in_default.new.self.panes grid)
-    (ap map.entries (simp to_z-of_z at c.drop_expired-in_default.ensures.panes) ∙ entries_kept a.ring.panes (is_kept c.args.limit))
+    elim c.match-self.branch [
+      | in-Sessions w ↦ rw (w.self-inside-is, ← c.self.view_is, w.in-Sessions.is) (ap map.entries (simp to_z-of_z at w.drop_expired.ensures.panes) ∙ entries_kept w.in-Sessions.list.panes (is_kept c.args.limit))
+      | in-Grid w ↦ rw (w.self-inside-is, ← c.self.view_is, w.in-Grid.is) (ap map.entries (simp to_z-of_z at w.drop_expired-in-Grid.ensures.panes) ∙ entries_kept w.in-Grid.ring.panes (is_kept c.args.limit))
+    ]

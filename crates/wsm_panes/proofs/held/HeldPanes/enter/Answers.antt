@@ -8,39 +8,43 @@ use Rattle.wsm_windows.specs.declared.window.Shape.TheVariants.{Session}
 use Rattle.wsm_windows.specs.Windows.{IsShape, greatest_span, period_of, size_of, windows_of}
 use Rattle.wsm_windows.specs.Life.{is_live, live_windows_of}
 use Rattle.wsm_semantics.specs.Replay.{datum}
-use Rattle.wsm_semantics.specs.Summaries.{assigned, entered}
+use Rattle.wsm_semantics.specs.Summaries.{assigned}
 use Rattle.wsm_panes.specs.declared.ring.Ring.{Ring}
 use Rattle.wsm_panes.specs.Held.{taking}
-use Rattle.wsm_panes.proofs.Enters.{entered_assigned, few_values, in_ring, joins_can, room_can, live_can, windows_are, windows_can, windows_grid, wide_values, key_of, keys_written}
+use Rattle.wsm_panes.proofs.Enters.{entered_assigned, few_values, joins_can, room_can, live_can, no_session, none_joined, windows_are, windows_can, windows_grid, wide_values, key_of, keys_written}
 use Rattle.wsm_panes.proofs.Rows.{ending_past}
 use Rattle.wsm_panes.proofs.held.HeldPanes.enter.Goals as goal
+use Rattle.wsm_panes.proofs.held.HeldPanes.enter.Goals.{in-Sessions, in-Grid}
 
 pub enter_session-joined-requires-clause-few : goal.enter_session-joined-requires-clause-few
 enter_session-joined-requires-clause-few c = few_values _ _ _ _ _ _ _ c.requires
 
 pub enter_session-joined-requires-clause-wide : goal.enter_session-joined-requires-clause-wide
-enter_session-joined-requires-clause-wide c = wide_values _ _ _ _ _ _ _ (rw (← c.self.view_is) at c.requires) ∙ sym (ap (λ w. w.accumulators) c.self.invariant.widths)
+enter_session-joined-requires-clause-wide c = wide_values _ _ _ _ _ _ _ (rw (← c.self.view_is, c.in-Sessions.is) at c.requires)
 
 pub enter_session-joined-requires-clause-joins : goal.enter_session-joined-requires-clause-joins
 enter_session-joined-requires-clause-joins c =
     let time : SFits w64 c.args.time = c.ranges.time in
-    let can = rw (← c.self.view_is, c.in-Session.is) at c.requires in
-    let of = key_of c.in-Session.field-0 c.self.inside.keys c.self.inside.live c.args.key (map.entries c.self.inside.list.panes) c.self.inside.sessions.items (c.self.invariant.sessions c.in-Session.field-0 c.in-Session.is) can.declared c.index_mut-sessions.result.now c.index_mut-sessions.ensures.value in
-    simp to_z-of_z (rw of.same_gap (joins_can _ _ _ _ _ _ _ can c.in-Session.field-0 refl))
+    let h = rw c.in-Sessions.is at c.self.invariant.tables in
+    let can = rw (← c.self.view_is, c.in-Sessions.is, h.shape_is) at c.requires in
+    let of = key_of h.gap c.self.inside.keys c.self.inside.live c.args.key (map.entries c.in-Sessions.list.panes) c.in-Sessions.sessions.items h.of_keys can.declared c.index_mut-sessions.result.now c.index_mut-sessions.ensures.value in
+    simp to_z-of_z (rw of.same_gap (joins_can _ _ _ _ _ _ _ can h.gap refl))
 
 pub enter_session-joined-requires-clause-room : goal.enter_session-joined-requires-clause-room
 enter_session-joined-requires-clause-room c =
     let time : SFits w64 c.args.time = c.ranges.time in
-    let can = rw (← c.self.view_is, c.in-Session.is) at c.requires in
-    let of = key_of c.in-Session.field-0 c.self.inside.keys c.self.inside.live c.args.key (map.entries c.self.inside.list.panes) c.self.inside.sessions.items (c.self.invariant.sessions c.in-Session.field-0 c.in-Session.is) can.declared c.index_mut-sessions.result.now c.index_mut-sessions.ensures.value in
-    simp to_z-of_z (rw (of.same_gap, c.self.invariant.list c.in-Session.field-0 c.in-Session.is) (room_can _ _ _ _ _ _ _ can c.in-Session.field-0 refl))
+    let h = rw c.in-Sessions.is at c.self.invariant.tables in
+    let can = rw (← c.self.view_is, c.in-Sessions.is, h.shape_is) at c.requires in
+    let of = key_of h.gap c.self.inside.keys c.self.inside.live c.args.key (map.entries c.in-Sessions.list.panes) c.in-Sessions.sessions.items h.of_keys can.declared c.index_mut-sessions.result.now c.index_mut-sessions.ensures.value in
+    simp to_z-of_z (rw (of.same_gap, h.room) (room_can _ _ _ _ _ _ _ can h.gap refl))
 
 pub enter_session-joined-requires-clause-live : goal.enter_session-joined-requires-clause-live
 enter_session-joined-requires-clause-live c =
     let time : SFits w64 c.args.time = c.ranges.time in
-    let can = rw (← c.self.view_is, c.in-Session.is) at c.requires in
-    let of = key_of c.in-Session.field-0 c.self.inside.keys c.self.inside.live c.args.key (map.entries c.self.inside.list.panes) c.self.inside.sessions.items (c.self.invariant.sessions c.in-Session.field-0 c.in-Session.is) can.declared c.index_mut-sessions.result.now c.index_mut-sessions.ensures.value in
-    simp to_z-of_z (rw (of.same_gap, of.room) (live_can _ _ _ _ _ _ _ can c.in-Session.field-0 refl))
+    let h = rw c.in-Sessions.is at c.self.invariant.tables in
+    let can = rw (← c.self.view_is, c.in-Sessions.is, h.shape_is) at c.requires in
+    let of = key_of h.gap c.self.inside.keys c.self.inside.live c.args.key (map.entries c.in-Sessions.list.panes) c.in-Sessions.sessions.items h.of_keys can.declared c.index_mut-sessions.result.now c.index_mut-sessions.ensures.value in
+    simp to_z-of_z (rw (of.same_gap, of.room) (live_can _ _ _ _ _ _ _ can h.gap refl))
 
 -- the live windows of a record, as those of the ring that end past a time
 live_in_ring : (shape : Shape) (r : Ring) (time lateness mark past : ℤ) → ((gap : ℤ) → shape ≢ Session gap) → IsShape shape → r.size ≡ size_of shape → r.period ≡ period_of shape →
@@ -54,19 +58,20 @@ live_in_ring shape r time lateness mark past grid ok size period live =
 pub enter_windows-requires : goal.enter_windows-requires
 enter_windows-requires c =
     let a = c.self.inside in
+    let ring = c.in-Grid.ring in
+    let h = rw c.in-Grid.is at c.self.invariant.tables in
     let time : SFits w64 c.args.time = c.ranges.time in
     let past_fits : SFits w64 c.live_past-past.result = search rules in
     let z = to_z-of_z w64 c.args.time time in
     let l = to_z-of_z w64 c.args.lateness c.ranges.lateness in
     let m = to_z-of_z w64 c.args.mark c.ranges.mark in
     let p = to_z-of_z w64 c.live_past-past.result past_fits in
-    let can = rw (← c.self.view_is) at c.requires in
-    let grid = c.in_default.not-Session in
-    let whole = (can.apart grid).ring in
+    let can = rw (← c.self.view_is, c.in-Grid.is) at c.requires in
+    let whole = (can.apart h.grid).ring in
     let some : 1 * 1 ≤ a.keys * a.live = mul-le 1 1 a.keys a.live whole.keys whole.bound in
-    let same = c.self.invariant.ring grid (omega (arith, some)) in
+    let same = h.ring_is (omega (arith, some)) in
     let live = rw (z, l, m) at c.live_past-past.ensures.live in
-    let windows = rw (in_ring a.shape a.list.panes a.ring.panes grid, live_in_ring a.shape a.ring.ring c.args.time c.args.lateness c.args.mark c.live_past-past.result grid c.self.invariant.shape (ap (λ (r : Ring). r.size) same) (ap (λ (r : Ring). r.period) same) live) at (windows_can _ _ _ _ _ _ _ can grid) in
+    let windows = rw (live_in_ring a.shape ring.ring c.args.time c.args.lateness c.args.mark c.live_past-past.result h.grid c.self.invariant.shape (ap (λ (r : Ring). r.size) same) (ap (λ (r : Ring). r.period) same) live) at (windows_can _ _ _ _ _ _ _ can h.grid) in
     rw (z, p) (record {
       size = rw same c.self.invariant.shape.size_high;
       time = can.timely;
@@ -79,91 +84,124 @@ enter_windows-requires c =
 
 pub invariant_of-self : goal.invariant_of-self
 invariant_of-self c =
+    let a = c.self.inside in
     let time : SFits w64 c.args.time = c.ranges.time in
-    record {
-      shape = c.self.invariant.shape;
-      list = λ gap is. c.enter_session-joined.ensures.room ∙ c.self.invariant.list gap is;
-      widths = c.enter_session-joined.ensures.widths ∙ c.self.invariant.widths;
-      ring = c.self.invariant.ring;
-      none = c.self.invariant.none;
-      sessions = λ gap is.
-          let of = key_of gap c.self.inside.keys c.self.inside.live c.args.key (map.entries c.self.inside.list.panes) c.self.inside.sessions.items (c.self.invariant.sessions gap is) (rw (← c.self.view_is) at c.requires.declared) c.index_mut-sessions.result.now c.index_mut-sessions.ensures.value in
-          keys_written gap c.self.inside.keys c.self.inside.live c.args.key (map.entries c.self.inside.list.panes) (map.entries c.enter_session-joined.new.table.panes) c.self.inside.sessions.items c.enter_session-joined.new.sessions (c.self.invariant.sessions gap is)
-          (record {
-            same_gap = ap (λ s. s.gap) c.enter_session-joined.ensures.sessions ∙ of.same_gap;
-            room = ap (λ s. s.room) c.enter_session-joined.ensures.sessions ∙ of.room;
-            windows = c.enter_session-joined.ensures.agree;
-            times = (c.args.time ∷ of.times.0, simp to_z-of_z at c.enter_session-joined.ensures.fits of.times.0 of.times.1);
+    elim c.match-self.branch [
+      | in-Sessions w ↦
+          let h = rw w.in-Sessions.is at c.self.invariant.tables in
+          let can = rw (← c.self.view_is) at c.requires in
+          let of = key_of h.gap c.self.inside.keys c.self.inside.live c.args.key (map.entries w.in-Sessions.list.panes) w.in-Sessions.sessions.items h.of_keys can.declared w.index_mut-sessions.result.now w.index_mut-sessions.ensures.value in
+          rw w.self-inside-is (record {
+            shape = c.self.invariant.shape;
+            tables = record {
+              gap = h.gap;
+              shape_is = h.shape_is;
+              room = w.enter_session-joined.ensures.room ∙ h.room;
+              of_keys =
+                  keys_written h.gap a.keys a.live c.args.key (map.entries w.in-Sessions.list.panes) (map.entries w.enter_session-joined.new.table.panes) w.in-Sessions.sessions.items w.enter_session-joined.new.sessions h.of_keys
+                  (record {
+                    same_gap = ap (λ s. s.gap) w.enter_session-joined.ensures.sessions ∙ of.same_gap;
+                    room = ap (λ s. s.room) w.enter_session-joined.ensures.sessions ∙ of.room;
+                    windows = w.enter_session-joined.ensures.agree;
+                    times = (c.args.time ∷ of.times.0, simp to_z-of_z at w.enter_session-joined.ensures.fits of.times.0 of.times.1);
+                  })
+                  w.enter_session-joined.ensures.others;
+            };
           })
-          c.enter_session-joined.ensures.others;
-    }
+      | in-Grid w ↦
+          let h = rw w.in-Grid.is at c.self.invariant.tables in
+          let whole = ((rw (← c.self.view_is) at c.requires).apart h.grid).ring in
+          let some : 1 * 1 ≤ a.keys * a.live = mul-le 1 1 a.keys a.live whole.keys whole.bound in
+          rw w.self-inside-is (record {
+            shape = c.self.invariant.shape;
+            tables = record {
+              grid = h.grid;
+              ring_is = λ roomy. w.enter_windows.ensures.ring ∙ h.ring_is roomy;
+              none = λ zero. absurd (omega (arith, some, zero));
+            };
+          })
+    ]
 
-pub returns-in-Session : goal.returns-in-Session
-returns-in-Session c =
-    let time : SFits w64 c.args.time = c.ranges.time in
-    let can = rw (← c.self.view_is, c.in-Session.is) at c.requires in
-    let of = key_of c.in-Session.field-0 c.self.inside.keys c.self.inside.live c.args.key (map.entries c.self.inside.list.panes) c.self.inside.sessions.items (c.self.invariant.sessions c.in-Session.field-0 c.in-Session.is) can.declared c.index_mut-sessions.result.now c.index_mut-sessions.ensures.value in
-    record {
-      panes = rw (← c.self.view_is, c.in-Session.is) (rw of.same_gap at (simp to_z-of_z at c.enter_session-joined.ensures.panes));
-      keeps = search rules;
-      windows = search rules;
-      joined = rw (← c.self.view_is, c.in-Session.is) (rw of.same_gap at (simp to_z-of_z at c.enter_session-joined.ensures.joined));
-      session = rw (← c.self.view_is, c.in-Session.is) (ap Some (rw of.same_gap at (simp to_z-of_z at c.enter_session-joined.ensures.session)));
-    }
-
-pub returns-in_default : goal.returns-in_default
-returns-in_default c =
+pub returns-clause-panes : goal.returns-clause-panes
+returns-clause-panes c =
     let a = c.self.inside in
     let time : SFits w64 c.args.time = c.ranges.time in
-    let past_fits : SFits w64 c.live_past-past.result = search rules in
-    let z = to_z-of_z w64 c.args.time time in
-    let l = to_z-of_z w64 c.args.lateness c.ranges.lateness in
-    let m = to_z-of_z w64 c.args.mark c.ranges.mark in
-    let p = to_z-of_z w64 c.live_past-past.result past_fits in
-    let grid = c.in_default.not-Session in
-    let whole = ((rw (← c.self.view_is) at c.requires).apart grid).ring in
-    let some : 1 * 1 ≤ a.keys * a.live = mul-le 1 1 a.keys a.live whole.keys whole.bound in
-    let same = c.self.invariant.ring grid (omega (arith, some)) in
-    let live = rw (z, l, m) at c.live_past-past.ensures.live in
-    let windows : live_windows_of a.shape c.args.time c.args.lateness c.args.mark ≡ ending_past a.ring.ring c.args.time c.live_past-past.result =
-    live_in_ring a.shape a.ring.ring c.args.time c.args.lateness c.args.mark c.live_past-past.result grid c.self.invariant.shape (ap (λ (r : Ring). r.size) same) (ap (λ (r : Ring). r.period) same) live in
-    let plan = taking c.args.kinds.now c.args.values.now in
-    let d = datum 0 c.args.mark c.args.key c.args.time [] in
-    record {
-      panes =
-          rw (← c.self.view_is) (
-          ap map.entries (in_ring a.shape a.list.panes c.enter_windows.new.table.panes grid)
-          ∙ rw (z, p) at c.enter_windows.ensures.panes
-          ∙ ap (λ ws. assigned plan d ws (map.entries a.ring.panes)) (sym windows)
-          ∙ sym (entered_assigned plan a.shape c.args.lateness grid d (map.entries a.ring.panes))
-          ∙ ap (λ m. entered plan a.shape c.args.lateness d (map.entries m)) (sym (in_ring a.shape a.list.panes a.ring.panes grid)));
-      keeps = search rules;
-      windows = rw (← c.self.view_is) (rw (z, p) at c.enter_windows.ensures.count ∙ ap length (sym windows) ∙ sym (windows_are a.shape c.args.time c.args.lateness c.args.mark grid));
-      joined = search rules;
-      session = search rules;
-    }
+    elim c.match-self.branch [
+      | in-Sessions w ↦
+          let h = rw w.in-Sessions.is at c.self.invariant.tables in
+          let can = rw (← c.self.view_is) at c.requires in
+          let of = key_of h.gap c.self.inside.keys c.self.inside.live c.args.key (map.entries w.in-Sessions.list.panes) w.in-Sessions.sessions.items h.of_keys can.declared w.index_mut-sessions.result.now w.index_mut-sessions.ensures.value in
+          rw (w.self-inside-is, ← c.self.view_is, w.in-Sessions.is, h.shape_is) (rw of.same_gap at (simp to_z-of_z at w.enter_session-joined.ensures.panes))
+      | in-Grid w ↦
+          let ring = w.in-Grid.ring in
+          let h = rw w.in-Grid.is at c.self.invariant.tables in
+          let past_fits : SFits w64 w.live_past-past.result = search rules in
+          let z = to_z-of_z w64 c.args.time time in
+          let l = to_z-of_z w64 c.args.lateness c.ranges.lateness in
+          let m = to_z-of_z w64 c.args.mark c.ranges.mark in
+          let p = to_z-of_z w64 w.live_past-past.result past_fits in
+          let whole = ((rw (← c.self.view_is) at c.requires).apart h.grid).ring in
+          let some : 1 * 1 ≤ a.keys * a.live = mul-le 1 1 a.keys a.live whole.keys whole.bound in
+          let same = h.ring_is (omega (arith, some)) in
+          let live = rw (z, l, m) at w.live_past-past.ensures.live in
+          let windows : live_windows_of a.shape c.args.time c.args.lateness c.args.mark ≡ ending_past ring.ring c.args.time w.live_past-past.result =
+          live_in_ring a.shape ring.ring c.args.time c.args.lateness c.args.mark w.live_past-past.result h.grid c.self.invariant.shape (ap (λ (r : Ring). r.size) same) (ap (λ (r : Ring). r.period) same) live in
+          let plan = taking c.args.kinds.now c.args.values.now in
+          let d = datum 0 c.args.mark c.args.key c.args.time [] in
+          rw (w.self-inside-is, ← c.self.view_is, w.in-Grid.is)
+          (rw (z, p) at w.enter_windows.ensures.panes
+          ∙ ap (λ ws. assigned plan d ws (map.entries ring.panes)) (sym windows)
+          ∙ sym (entered_assigned plan a.shape c.args.lateness h.grid d (map.entries ring.panes)))
+    ]
 
-pub enter_session-joined-requires-clause-times : goal.enter_session-joined-requires-clause-times
-enter_session-joined-requires-clause-times c =
-    let can = rw (← c.self.view_is, c.in-Session.is) at c.requires in
-    (key_of c.in-Session.field-0 c.self.inside.keys c.self.inside.live c.args.key (map.entries c.self.inside.list.panes) c.self.inside.sessions.items (c.self.invariant.sessions c.in-Session.field-0 c.in-Session.is) can.declared c.index_mut-sessions.result.now c.index_mut-sessions.ensures.value).times
-
-pub enter_session-joined-requires-clause-agree : goal.enter_session-joined-requires-clause-agree
-enter_session-joined-requires-clause-agree c =
-    let can = rw (← c.self.view_is, c.in-Session.is) at c.requires in
-    (key_of c.in-Session.field-0 c.self.inside.keys c.self.inside.live c.args.key (map.entries c.self.inside.list.panes) c.self.inside.sessions.items (c.self.invariant.sessions c.in-Session.field-0 c.in-Session.is) can.declared c.index_mut-sessions.result.now c.index_mut-sessions.ensures.value).windows
-
-pub invariant_of-self-in_default : goal.invariant_of-self-in_default
-invariant_of-self-in_default c =
+pub returns-clause-windows : goal.returns-clause-windows
+returns-clause-windows c =
     let a = c.self.inside in
-    let can = rw (← c.self.view_is) at c.requires in
-    let whole = (can.apart c.in_default.not-Session).ring in
-    let some : 1 * 1 ≤ a.keys * a.live = mul-le 1 1 a.keys a.live whole.keys whole.bound in
-    record {
-      shape = c.self.invariant.shape;
-      list = c.self.invariant.list;
-      widths = c.self.invariant.widths ∙ sym c.enter_windows.ensures.widths;
-      ring = λ grid roomy. c.enter_windows.ensures.ring ∙ c.self.invariant.ring grid roomy;
-      none = λ grid zero. absurd (omega (arith, some, zero));
-      sessions = c.self.invariant.sessions;
-    }
+    let time : SFits w64 c.args.time = c.ranges.time in
+    elim c.match-self.branch [
+      | in-Sessions w ↦
+          let h = rw w.in-Sessions.is at c.self.invariant.tables in
+          rw (w.result-is, ← c.self.view_is, h.shape_is) refl
+      | in-Grid w ↦
+          let ring = w.in-Grid.ring in
+          let h = rw w.in-Grid.is at c.self.invariant.tables in
+          let past_fits : SFits w64 w.live_past-past.result = search rules in
+          let z = to_z-of_z w64 c.args.time time in
+          let l = to_z-of_z w64 c.args.lateness c.ranges.lateness in
+          let m = to_z-of_z w64 c.args.mark c.ranges.mark in
+          let p = to_z-of_z w64 w.live_past-past.result past_fits in
+          let whole = ((rw (← c.self.view_is) at c.requires).apart h.grid).ring in
+          let some : 1 * 1 ≤ a.keys * a.live = mul-le 1 1 a.keys a.live whole.keys whole.bound in
+          let same = h.ring_is (omega (arith, some)) in
+          let live = rw (z, l, m) at w.live_past-past.ensures.live in
+          let windows = live_in_ring a.shape ring.ring c.args.time c.args.lateness c.args.mark w.live_past-past.result h.grid c.self.invariant.shape (ap (λ (r : Ring). r.size) same) (ap (λ (r : Ring). r.period) same) live in
+          rw (w.result-is, ← c.self.view_is) (rw (z, p) at w.enter_windows.ensures.count ∙ ap length (sym windows) ∙ sym (windows_are a.shape c.args.time c.args.lateness c.args.mark h.grid))
+    ]
+
+pub returns-clause-joined : goal.returns-clause-joined
+returns-clause-joined c =
+    let time : SFits w64 c.args.time = c.ranges.time in
+    elim c.match-self.branch [
+      | in-Sessions w ↦
+          let h = rw w.in-Sessions.is at c.self.invariant.tables in
+          let can = rw (← c.self.view_is) at c.requires in
+          let of = key_of h.gap c.self.inside.keys c.self.inside.live c.args.key (map.entries w.in-Sessions.list.panes) w.in-Sessions.sessions.items h.of_keys can.declared w.index_mut-sessions.result.now w.index_mut-sessions.ensures.value in
+          rw (w.result-is, ← c.self.view_is, w.in-Sessions.is, h.shape_is) (rw of.same_gap at (simp to_z-of_z at w.enter_session-joined.ensures.joined))
+      | in-Grid w ↦
+          let h = rw w.in-Grid.is at c.self.invariant.tables in
+          rw (w.result-is, ← c.self.view_is, w.in-Grid.is) (none_joined c.self.inside.shape h.grid _ _)
+    ]
+
+pub returns-clause-session : goal.returns-clause-session
+returns-clause-session c =
+    let time : SFits w64 c.args.time = c.ranges.time in
+    elim c.match-self.branch [
+      | in-Sessions w ↦
+          let h = rw w.in-Sessions.is at c.self.invariant.tables in
+          let can = rw (← c.self.view_is) at c.requires in
+          let of = key_of h.gap c.self.inside.keys c.self.inside.live c.args.key (map.entries w.in-Sessions.list.panes) w.in-Sessions.sessions.items h.of_keys can.declared w.index_mut-sessions.result.now w.index_mut-sessions.ensures.value in
+          rw (w.result-is, ← c.self.view_is, w.in-Sessions.is, h.shape_is) (ap Some (rw of.same_gap at (simp to_z-of_z at w.enter_session-joined.ensures.session)))
+      | in-Grid w ↦
+          let h = rw w.in-Grid.is at c.self.invariant.tables in
+          rw (w.result-is, ← c.self.view_is, w.in-Grid.is) (no_session c.self.inside.shape h.grid _ _)
+    ]
