@@ -1,10 +1,11 @@
 -- A schema is lawful where no fault refuses it.
-use Rattle.std.proofs.Common.{◌≡◌, ◌<◌, ◌≤◌, ℕ, suc, Bool, true, false, ◌&&◌, ◌||◌, not, cond, List, [], ◌∷◌, ◌++◌, length, Option, None, Some, refl, sym, ap, ap₂, ◌∙◌, arith}
+use Rattle.std.proofs.Common.{◌≡◌, ◌<◌, ◌≤◌, ℕ, Bool, true, false, ◌&&◌, ◌||◌, not, cond, List, [], ◌∷◌, ◌++◌, length, Option, None, Some, refl, sym, ap, ap₂, ◌∙◌, arith}
 use Rattle.std.specs.Prelude.{nat_le, nat_lt, nat_eq, int_le, int_lt, ℤ}
 use Rattle.std.specs.List.{list_all, list_any}
 use Rattle.std.proofs.lemmas.Bool.Decides.{nat_tests}
 use Rattle.std.proofs.lemmas.Int.{ints}
-use Rattle.std.proofs.lemmas.Bool.{true≢false, and_parts, and_from, not-true}
+use Rattle.std.proofs.Math.Dec.{eqb-suc-zero}
+use Rattle.std.proofs.lemmas.Bool.{true≢false, and_parts, and_from, not-true, not-false}
 use Rattle.wsm_record.specs.declared.schema.SchemaRefusal.{SchemaRefusal}
 use Rattle.wsm_record.specs.declared.schema.SchemaRefusal.TheVariants.{NoKeys, TooMany, DuplicateName, EmptyRange}
 use Rattle.wsm_record.specs.Name.{is_name, is_among, is_between, repeats_after}
@@ -101,9 +102,6 @@ some_names n h k = and_from (nat_le 1 n) (nat_le n 1000) (grind (arith, nat_test
 in_order : (lo hi : ℤ) → int_lt hi lo ≡ false → int_le lo hi ≡ true
 in_order lo hi h = grind (arith, ints)
 
-there : (n : ℕ) → nat_eq (suc n) 0 ≡ false
-there n = grind (arith, nat_tests)
-
 type_lawful : (t : FieldType) → type_refusal t ≡ None → has_too_many_names t ≡ false → is_spelt_type t ≡ true → is_field_type t ≡ true
 type_lawful (Int lo hi) h few n =
     let ends = and_parts (is_i64 lo) (is_i64 hi) n in
@@ -111,7 +109,7 @@ type_lawful (Int lo hi) h few n =
 type_lawful Truth h few n = refl
 type_lawful (Enum []) h few n = absurd cc
 type_lawful (Enum (x ∷ xs)) h few n =
-    and_from (is_between 1 1000 (length (x ∷ xs))) (are_names_after [] (x ∷ xs)) (some_names (length (x ∷ xs)) (there (length xs)) few) (are_distinct (x ∷ xs) n (passed (repeats_after [] (x ∷ xs)) DuplicateName None h).0)
+    and_from (is_between 1 1000 (length (x ∷ xs))) (are_names_after [] (x ∷ xs)) (some_names (length (x ∷ xs)) (eqb-suc-zero (length xs)) few) (are_distinct (x ∷ xs) n (passed (repeats_after [] (x ∷ xs)) DuplicateName None h).0)
 
 fields_lawful : (before : List Name) (fs : List DeclaredField) → fields_refusal before fs ≡ None → list_any (λ f. has_too_many_names f.type) fs ≡ false → list_all is_spelt_field fs ≡ true → are_fields_after before fs ≡ true
 fields_lawful before [] h few n = refl
@@ -150,14 +148,10 @@ schema_lawful s h k n m =
     (and_from (is_between 1 1000 (length s.keys)) (are_names_after [] s.keys) (some_names (length s.keys) a.0 many_keys) (are_distinct s.keys k c.0))
     (and_from (nat_le (length s.fields) 16) (are_fields_after [] s.fields && are_sources s.sources) (few (length s.fields) many_fields)
     (and_from (are_fields_after [] s.fields) (are_sources s.sources) (fields_lawful [] s.fields d.0 wide n)
-    (and_from (is_source_count (length s.sources)) (are_names_after [] s.sources) (counts (is_source_count (length s.sources)) (or_left off wider more)) (are_distinct s.sources m (passed (repeats_after [] s.sources) DuplicateName None d.1).0))))
+    (and_from (is_source_count (length s.sources)) (are_names_after [] s.sources) (not-false (is_source_count (length s.sources)) (or_left off wider more)) (are_distinct s.sources m (passed (repeats_after [] s.sources) DuplicateName None d.1).0))))
   where
     few : (n : ℕ) → nat_lt 16 n ≡ false → nat_le n 16 ≡ true
     few n h = grind (arith, nat_tests)
-
-    counts : (b : Bool) → not b ≡ false → b ≡ true
-    counts true h = refl
-    counts false h = absurd (true≢false h)
 
 -- it has a key
 pub has_keys : (s : Declared) → is_schema s ≡ true → 0 < length s.keys
