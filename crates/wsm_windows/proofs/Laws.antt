@@ -8,7 +8,7 @@ use Rattle.std.specs.Int.{int_rem_euclid}
 use Rattle.wsm_windows.specs.Windows.{windows_of, first_start}
 use Rattle.wsm_windows.specs.Left.{windows_from, starts_left}
 use Rattle.wsm_windows.proofs.Multiples.{rem_below, rem_after}
-use Rattle.wsm_windows.proofs.Lists.{from_up_to, last_inside}
+use Rattle.wsm_windows.proofs.PeriodicWindows.{from_up_to, last_inside}
 
 -- a start less, where one is left
 one_fewer : (p e : ℕ) → 0 < p → p ≤ e → e / p ≡ suc ((e - p) / p)

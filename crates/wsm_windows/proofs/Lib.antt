@@ -1,5 +1,5 @@
 pub mod Multiples
-pub mod Lists
+pub mod PeriodicWindows
 pub mod Laws
 pub mod Members
 pub mod Bounds
