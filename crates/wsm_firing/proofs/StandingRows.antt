@@ -12,7 +12,7 @@ use Rattle.wsm_windows.specs.Places.{place_cmp}
 use Rattle.wsm_windows.proofs.Places.{places_total}
 use Rattle.wsm_semantics.specs.Summaries.{Pane, standing_row}
 use Rattle.wsm_relation.specs.Rows.{count_of}
-use Rattle.wsm_relation.proofs.Bags.{once}
+use Rattle.wsm_semantics.proofs.RowBags.{once}
 use Rattle.wsm_firing.specs.Streams.{Standing, IsTold, AreAlike, CanTell, CanLose, CanGain, Tells, standing_rows}
 use Rattle.wsm_panes.proofs.Sorted.{lesser}
 use Rattle.wsm_firing.proofs.AtPlace.{first_of, second_of}

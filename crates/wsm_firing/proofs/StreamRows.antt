@@ -12,12 +12,11 @@ use Rattle.wsm_semantics.specs.Relation.{stream_rows}
 use Rattle.wsm_relation.specs.Bag.{Bag}
 use Rattle.wsm_relation.specs.Rows.{count_of}
 use Rattle.wsm_relation.specs.Tally.{Tally, number_of, shifted, gains, losses}
-use Rattle.wsm_relation.proofs.Places.{with_row-in_order, without_one-in_order, sorted_rows-in_order}
-use Rattle.wsm_relation.proofs.Bags.{once, count-without_one}
+use Rattle.wsm_semantics.proofs.RowBags.{once, count-with_row, count-without_one, count-sorted_rows, with_row-in_order, without_one-in_order, sorted_rows-in_order, one_list}
 use Rattle.wsm_relation.proofs.Numbers.{is_zero, shifted-tally}
-use Rattle.wsm_relation.proofs.Copies.{one_list, gains-difference, losses-difference}
+use Rattle.wsm_relation.proofs.Copies.{gains-difference, losses-difference}
 use Rattle.wsm_semantics.proofs.RowsBound.{length-sorted_rows}
-use Rattle.wsm_relation.proofs.ToldChanges.{count-with_row, count-sorted_rows, length-difference, few_numbers, undone_is, number_high, number_low, one_number_more, change_less, change_more, once_itself}
+use Rattle.wsm_relation.proofs.ToldChanges.{length-difference, few_numbers, undone_is, number_high, number_low, one_number_more, change_less, change_more, once_itself}
 use Rattle.wsm_firing.specs.Streams.{AreWithin, HasChanged, HasKept, HasRoomFor, HasRoomOfChanges, HasRoomOfRows, IsReserved, IsToldOf, relation_before, relation_kept, stream_of, stream_row}
 
 abbrev pub Rows : Type 0

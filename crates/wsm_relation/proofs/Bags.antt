@@ -1,5 +1,5 @@
--- The difference of bags in row order: by counts, and by a walk along both.
-use Rattle.std.proofs.Common.{◌≡◌, ℕ, zero, suc, ◌-◌, Bool, true, false, cond, List, [], ◌∷◌, drop, refl, sym, ap, ◌∙◌, inl, inr, arith}
+-- The difference of bags in row order: what is in excess, and by a walk along both.
+use Rattle.std.proofs.Common.{◌≡◌, ℕ, zero, suc, true, false, cond, List, [], ◌∷◌, drop, refl, sym, ap, ◌∙◌, inl, inr}
 use Rattle.std.specs.List.{AllByRecursion}
 use Rattle.std.specs.declared.cmp.Ordering.TheVariants.{Less, Equal, Greater}
 use Rattle.std.specs.Ordering.{is_eq}
@@ -7,48 +7,11 @@ use Rattle.std.specs.Cmp.{tied_itself, tied_back}
 use Rattle.std.proofs.lemmas.Bool.{cases_Bool}
 use Rattle.wsm_record.specs.declared.cell.Cell.{Cell}
 use Rattle.wsm_semantics.specs.Relation.{row_cmp, without_one, difference}
-use Rattle.wsm_relation.specs.Rows.{IsInOrder, IsExcess, count_of}
-use Rattle.wsm_relation.proofs.Ordered.{rows_total, same_rows}
-use Rattle.wsm_relation.proofs.Places.{each, none_before, without_one-in_order}
-
--- ---- counts
-
-abbrev pub one_if : Bool → ℕ
-one_if b = cond b 1 0
-
--- 1 where the rows are one, else 0
-abbrev pub once : List Cell → List Cell → ℕ
-once q r = one_if (is_eq (row_cmp q r))
-
-pub count-without_one : (q r : List Cell) (rows : List (List Cell)) → count_of q (without_one r rows) ≡ count_of q rows - once q r
-count-without_one q r [] = omega arith
-count-without_one q r (x ∷ xs) = elim (cases_Bool (is_eq (row_cmp r x))) [
-  | inl tie ↦
-      let same : once q r ≡ once q x = ap (once q) (same_rows r x tie) in
-      rw tie (omega arith)
-  | inr apart ↦ rw apart (elim (cases_Bool (is_eq (row_cmp q r))) [
-    | inl tie ↦
-        let none : once q x ≡ 0 = ap (λ (y : List Cell). once y x) (same_rows q r tie) ∙ ap (λ b. one_if b) apart in
-        let one : once q r ≡ 1 = ap (λ b. one_if b) tie in
-        let rest : count_of q (without_one r xs) ≡ count_of q xs - once q r = count-without_one q r xs in
-        omega arith
-    | inr stays ↦
-        let none : once q r ≡ 0 = ap (λ b. one_if b) stays in
-        let rest : count_of q (without_one r xs) ≡ count_of q xs - once q r = count-without_one q r xs in
-        omega arith
-  ])
-]
-
-pub count-difference : (q : List Cell) (rows others : List (List Cell)) → count_of q (difference rows others) ≡ count_of q rows - count_of q others
-count-difference q rows [] = omega arith
-count-difference q rows (x ∷ xs) =
-    let rest : count_of q (difference (without_one x rows) xs) ≡ count_of q (without_one x rows) - count_of q xs = count-difference q (without_one x rows) xs in
-    let first : count_of q (without_one x rows) ≡ count_of q rows - once q x = count-without_one q x rows in
-    omega arith
-
-pub difference-in_order : (rows others : List (List Cell)) → IsInOrder rows → IsInOrder (difference rows others)
-difference-in_order rows [] sorted = sorted
-difference-in_order rows (x ∷ xs) sorted = difference-in_order (without_one x rows) xs (without_one-in_order x rows sorted)
+use Rattle.wsm_semantics.specs.RowCounts.{IsInOrder}
+use Rattle.wsm_semantics.proofs.Lists.{all-each}
+use Rattle.wsm_semantics.proofs.RowOrder.{rows_total, same_rows}
+use Rattle.wsm_semantics.proofs.RowBags.{count-difference, difference-in_order, none_before}
+use Rattle.wsm_relation.specs.Rows.{IsExcess}
 
 pub excess : (rows others : List (List Cell)) → IsInOrder rows → IsExcess rows others (difference rows others)
 excess rows others sorted = record { counts = λ q. count-difference q rows others; in_order = difference-in_order rows others sorted }
@@ -79,7 +42,7 @@ turned_back x y h = elim (cases_Bool (is_eq (row_cmp y x))) [
 -- a row before all the others stays
 pub difference-before : (x y : List Cell) (xs ys : List (List Cell)) → IsInOrder (y ∷ ys) → row_cmp x y ≡ Less → difference (x ∷ xs) (y ∷ ys) ≡ x ∷ difference xs (y ∷ ys)
 difference-before x y xs ys sorted less =
-    difference-apart x xs (y ∷ ys) (each (λ z. is_eq (row_cmp x z) ≡ false) (λ z. is_eq (row_cmp z x) ≡ false) (λ z h. turned_back x z h) (y ∷ ys) (none_before x y ys sorted less))
+    difference-apart x xs (y ∷ ys) (all-each (λ z. is_eq (row_cmp x z) ≡ false) (λ z. is_eq (row_cmp z x) ≡ false) (y ∷ ys) (λ z h. turned_back x z h) (none_before x y ys sorted less))
 
 -- one that is among them goes, with that one
 pub difference-tied : (x y : List Cell) (xs ys : List (List Cell)) → row_cmp x y ≡ Equal → difference (x ∷ xs) (y ∷ ys) ≡ difference xs ys

@@ -1,5 +1,5 @@
 -- The positive and the negative part of rows with their numbers, and the difference of bags.
-use Rattle.std.proofs.Common.{◌≡◌, ℕ, zero, suc, ◌+◌, ◌-◌, ◌<◌, true, false, cond, List, [], ◌∷◌, ◌++◌, length, refl, sym, ap, ◌∙◌, inl, inr, arith}
+use Rattle.std.proofs.Common.{◌≡◌, ℕ, zero, suc, ◌+◌, ◌-◌, true, false, cond, List, [], ◌∷◌, ◌++◌, length, refl, sym, ap, ◌∙◌, inl, inr, arith}
 use Rattle.std.specs.Prelude.{ℤ, pos, negsuc, ◌-ℤ◌, int_lt, unsigned_abs}
 use Rattle.std.specs.List.{AllByRecursion}
 use Rattle.std.specs.declared.cmp.Ordering.TheVariants.{Less}
@@ -9,12 +9,11 @@ use Rattle.std.proofs.lemmas.Bool.{cases_Bool}
 use Rattle.std.proofs.lemmas.Int.{ints}
 use Rattle.wsm_record.specs.declared.cell.Cell.{Cell}
 use Rattle.wsm_semantics.specs.Relation.{row_cmp, difference}
-use Rattle.wsm_relation.specs.Rows.{IsInOrder, count_of}
+use Rattle.wsm_semantics.specs.RowCounts.{IsInOrder, count_of}
+use Rattle.wsm_semantics.proofs.Lists.{all-each}
+use Rattle.wsm_semantics.proofs.RowOrder.{rows_total, same_rows}
+use Rattle.wsm_semantics.proofs.RowBags.{count-difference, difference-in_order, one_list}
 use Rattle.wsm_relation.specs.Tally.{IsTally, IsChange, number_of, copies, gained, lost, gains, losses}
-use Rattle.wsm_relation.proofs.Ordered.{rows_total, exact_rows, same_rows}
-use Rattle.wsm_semantics.proofs.Tables.{cases_Ordering}
-use Rattle.wsm_relation.proofs.Places.{each, count-none, none_before}
-use Rattle.wsm_relation.proofs.Bags.{once, count-difference, difference-in_order}
 use Rattle.wsm_relation.proofs.Numbers.{Entry, number-before}
 
 pub copies-append : (n : ℕ) (r : List Cell) (rows : List (List Cell)) → copies n r rows ≡ copies n r [] ++ rows
@@ -59,13 +58,13 @@ all_part f P (e ∷ es) all = all_copies P (f e.1) e.0 (part f es) all.0 (all_pa
 
 part-in_order : (f : ℤ → ℕ) (es : List Entry) → IsTally es → IsInOrder (part f es)
 part-in_order f [] tally = tt
-part-in_order f (e ∷ es) tally = copies-in_order (f e.1) e.0 (part f es) (all_part f (λ y. is_gt (row_cmp e.0 y) ≡ false) es (each (λ g. row_cmp e.0 g.0 ≡ Less) (λ g. is_gt (row_cmp e.0 g.0) ≡ false) (λ g h. ap is_gt h) es tally.0)) (part-in_order f es tally.2)
+part-in_order f (e ∷ es) tally = copies-in_order (f e.1) e.0 (part f es) (all_part f (λ y. is_gt (row_cmp e.0 y) ≡ false) es (all-each (λ g. row_cmp e.0 g.0 ≡ Less) (λ g. is_gt (row_cmp e.0 g.0) ≡ false) es (λ g h. ap is_gt h) tally.0)) (part-in_order f es tally.2)
 
 count-part : (f : ℤ → ℕ) → f (pos 0) ≡ 0 → (q : List Cell) (es : List Entry) → IsTally es → count_of q (part f es) ≡ f (number_of q es)
 count-part f none q [] tally = sym none
 count-part f none q (e ∷ es) tally = elim (cases_Bool (is_eq (row_cmp q e.0))) [
   | inl here ↦
-      let before : number_of q es ≡ pos 0 = number-before q es (each (λ g. row_cmp e.0 g.0 ≡ Less) (λ g. row_cmp q g.0 ≡ Less) (λ g h. ap (λ (x : List Cell). row_cmp x g.0) (same_rows q e.0 here) ∙ h) es tally.0) in
+      let before : number_of q es ≡ pos 0 = number-before q es (all-each (λ g. row_cmp e.0 g.0 ≡ Less) (λ g. row_cmp q g.0 ≡ Less) es (λ g h. ap (λ (x : List Cell). row_cmp x g.0) (same_rows q e.0 here) ∙ h) tally.0) in
       let rest : count_of q (part f es) ≡ 0 = count-part f none q es tally.2 ∙ ap f before ∙ none in
       count-copies q e.0 (f e.1) (part f es) ∙ rw here (omega arith)
   | inr other ↦ count-copies q e.0 (f e.1) (part f es) ∙ rw other (let rest : count_of q (part f es) ≡ f (number_of q es) = count-part f none q es tally.2 in omega arith)
@@ -91,37 +90,7 @@ count-gains q es tally = ap (count_of q) (sym (gains-part es)) ∙ count-part ga
 pub count-losses : (q : List Cell) (es : List Entry) → IsTally es → count_of q (losses es) ≡ lost (number_of q es)
 count-losses q es tally = ap (count_of q) (sym (losses-part es)) ∙ count-part lost refl q es tally
 
--- ---- lists in row order with the same counts are one
-
-same_tails : (x : List Cell) (xs ys : List (List Cell)) → ((q : List Cell) → count_of q (x ∷ xs) ≡ count_of q (x ∷ ys)) → (q : List Cell) → count_of q xs ≡ count_of q ys
-same_tails x xs ys same q = let h : once q x + count_of q xs ≡ once q x + count_of q ys = same q in omega arith
-
-count-first : (x : List Cell) (xs : List (List Cell)) → 0 < count_of x (x ∷ xs)
-count-first x xs = rw (tied_itself rows_total x) (omega arith)
-
-pub one_list : (xs ys : List (List Cell)) → IsInOrder xs → IsInOrder ys → ((q : List Cell) → count_of q xs ≡ count_of q ys) → xs ≡ ys
-one_list [] [] sorted others same = refl
-one_list [] (y ∷ ys) sorted others same = absurd (let h : 0 ≡ count_of y (y ∷ ys) = same y in let k = count-first y ys in omega arith)
-one_list (x ∷ xs) [] sorted others same = absurd (let h : count_of x (x ∷ xs) ≡ 0 = same x in let k = count-first x xs in omega arith)
-one_list (x ∷ xs) (y ∷ ys) sorted others same = elim (cases_Ordering (row_cmp x y)) [
-  | inl less ↦ absurd (
-      let none : count_of x (y ∷ ys) ≡ 0 = count-none x (y ∷ ys) (none_before x y ys others less) in
-      let k : 0 < count_of x (x ∷ xs) = count-first x xs in
-      let h : count_of x (x ∷ xs) ≡ count_of x (y ∷ ys) = same x in
-      omega arith)
-  | inr rest ↦ elim rest [
-    | inl tie ↦
-        let head : x ≡ y = exact_rows x y tie in
-        let tails : xs ≡ ys = one_list xs ys sorted.1 others.1 (same_tails x xs ys (λ q. same q ∙ ap (λ (z : List Cell). count_of q (z ∷ ys)) (sym head))) in
-        λ i. head i ∷ tails i
-    | inr more ↦ absurd (
-        let less : row_cmp y x ≡ Less = rw (rows_total.antisymm y x, more) refl in
-        let none : count_of y (x ∷ xs) ≡ 0 = count-none y (x ∷ xs) (none_before y x xs sorted less) in
-        let k : 0 < count_of y (y ∷ ys) = count-first y ys in
-        let h : count_of y (x ∷ xs) ≡ count_of y (y ∷ ys) = same y in
-        omega arith)
-  ]
-]
+-- ---- what is gained and lost
 
 gained-less : (z : ℤ) (a b : ℕ) → z ≡ pos a -ℤ pos b → gained z ≡ a - b
 gained-less (pos n) a b h = omega (arith, ints)

@@ -1,4 +1,3 @@
-pub mod Ordered
 pub mod Places
 pub mod Bags
 pub mod Boxes

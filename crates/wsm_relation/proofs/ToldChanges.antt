@@ -6,32 +6,16 @@ use Rattle.std.specs.Cmp.{tied_itself}
 use Rattle.std.proofs.lemmas.Bool.{cases_Bool}
 use Rattle.std.proofs.lemmas.Int.{ints}
 use Rattle.wsm_record.specs.declared.cell.Cell.{Cell}
-use Rattle.wsm_semantics.specs.Relation.{row_cmp, with_row, without_one, sorted_rows, difference}
-use Rattle.wsm_relation.specs.Rows.{IsInOrder, count_of}
+use Rattle.wsm_semantics.specs.Relation.{row_cmp, without_one, sorted_rows, difference}
+use Rattle.wsm_semantics.specs.RowCounts.{IsInOrder, count_of}
+use Rattle.wsm_semantics.proofs.RowOrder.{rows_total, untied}
+use Rattle.wsm_semantics.proofs.RowBags.{once, one_if, count-append, count-sorted_rows, count-difference, sorted_rows-in_order, one_list}
 use Rattle.wsm_relation.specs.Tally.{IsTally, IsChange, number_of, shifted, gained, lost, gains, losses, undone}
 use Rattle.wsm_semantics.proofs.RowsBound.{length-sorted_rows}
-use Rattle.wsm_relation.proofs.Ordered.{rows_total, untied}
-use Rattle.wsm_relation.proofs.Places.{sorted_rows-in_order}
-use Rattle.wsm_relation.proofs.Bags.{once, one_if, count-difference}
 use Rattle.wsm_relation.proofs.Numbers.{Entry, number-shifted}
-use Rattle.wsm_relation.proofs.Copies.{count-gains, count-losses, length-copies, one_list, gains-difference, losses-difference}
+use Rattle.wsm_relation.proofs.Copies.{count-gains, count-losses, length-copies, gains-difference, losses-difference}
 
 -- ---- counts
-
-pub count-with_row : (q r : List Cell) (rows : List (List Cell)) → count_of q (with_row r rows) ≡ once q r + count_of q rows
-count-with_row q r [] = refl
-count-with_row q r (x ∷ xs) = elim (is_gt (row_cmp r x)) as (λ b. count_of q (cond b (x ∷ with_row r xs) (r ∷ x ∷ xs)) ≡ once q r + count_of q (x ∷ xs)) [
-  | true ↦ omega (arith, count-with_row q r xs)
-  | false ↦ refl
-]
-
-pub count-sorted_rows : (q : List Cell) (rows : List (List Cell)) → count_of q (sorted_rows rows) ≡ count_of q rows
-count-sorted_rows q [] = refl
-count-sorted_rows q (x ∷ xs) = omega (arith, count-with_row q x (sorted_rows xs), count-sorted_rows q xs)
-
-pub count-append : (q : List Cell) (xs ys : List (List Cell)) → count_of q (xs ++ ys) ≡ count_of q xs + count_of q ys
-count-append q [] ys = omega arith
-count-append q (x ∷ xs) ys = omega (arith, count-append q xs ys)
 
 pub count-within : (q : List Cell) (rows : List (List Cell)) → count_of q rows ≤ length rows
 count-within q [] = omega arith

@@ -25,7 +25,7 @@ use Rattle.wsm_semantics.specs.ByKey.{Keys, is_of, of_keys, where_of, HasRoom, I
 use Rattle.wsm_semantics.proofs.Lists.{filter-all, all-each}
 use Rattle.wsm_semantics.proofs.Each.{all-any, filter-map, filter-append, filter_map-map, filter_map-each}
 use Rattle.wsm_semantics.proofs.FiringsSoFar.{not_some}
-use Rattle.wsm_semantics.proofs.RowOrder.{reverse_gt}
+use Rattle.wsm_semantics.proofs.RowOrder.{not_behind}
 use Rattle.wsm_semantics.proofs.KeyTurns.{IsRising, AreTurns, rising-turn_of, next_turn}
 use Rattle.wsm_semantics.proofs.KeyFirings.{filter-given, is_fired_at, firings_of_part}
 use Rattle.wsm_semantics.proofs.KeyStanding.{withdrawn_of_part}
@@ -46,9 +46,6 @@ abbrev AreInOrder : List Written → Type 0
 AreInOrder [] = Unit {0}
 AreInOrder (w ∷ ws) = IsFirst w.0 ws × AreInOrder ws
 
-not_behind : (p r : Place) → is_gt (place_cmp p r) ≡ true → is_gt (place_cmp r p) ≡ false
-not_behind p r h = ap is_gt (places_total.antisymm r p) ∙ reverse_gt (place_cmp p r) h
-
 all_with : (P : Written → Type 0) (w : Written) (ws : List Written) → P w → AllByRecursion P ws → AllByRecursion P (with_written w ws)
 all_with P w [] p all = (p, tt)
 all_with P w (x ∷ xs) p all =
@@ -64,7 +61,7 @@ in_order-with : (w : Written) (ws : List Written) → AreInOrder ws → AreInOrd
 in_order-with w [] order = (tt, tt)
 in_order-with w (x ∷ xs) order =
     elim (is_gt (place_cmp w.0 x.0)) as (λ b. is_gt (place_cmp w.0 x.0) ≡ b → AreInOrder (cond b (x ∷ with_written w xs) (w ∷ x ∷ xs))) [
-      | true ↦ λ h. (all_with (λ y. is_gt (place_cmp x.0 y.0) ≡ false) w xs (not_behind w.0 x.0 h) order.0, in_order-with w xs order.1)
+      | true ↦ λ h. (all_with (λ y. is_gt (place_cmp x.0 y.0) ≡ false) w xs (not_behind places_total w.0 x.0 h) order.0, in_order-with w xs order.1)
       | false ↦ λ h. ((h, stays_first w.0 x.0 xs h order.0), order)
     ] refl
 

@@ -1,5 +1,5 @@
 -- Row order is a total order, and rows that compare alike are one.
-use Rattle.std.proofs.Common.{◌≡◌, ℕ, true, false, cond, List, [], ◌∷◌, refl, sym, ap, subst, arith}
+use Rattle.std.proofs.Common.{◌≡◌, ℕ, true, false, cond, List, [], ◌∷◌, refl, sym, ap, subst, ◌∙◌, arith}
 use Rattle.std.specs.Prelude.{ℤ, pos}
 use Rattle.std.specs.declared.cmp.Ordering.{Ordering}
 use Rattle.std.specs.declared.cmp.Ordering.TheVariants.{Less, Equal, Greater}
@@ -74,6 +74,17 @@ exact_rows [] (y ∷ ys) h = absurd (cc)
 exact_rows (x ∷ xs) [] h = absurd (cc)
 exact_rows (x ∷ xs) (y ∷ ys) h = let both = ordering_then_equal (cell_cmp x y) (row_cmp xs ys) h in λ i. exact_cells x y both.0 i ∷ exact_rows xs ys both.1 i
 
+-- an order's answer that is greater, or not
+pub untied : (r : Ordering) → is_gt r ≡ true → is_eq r ≡ false
+untied Less h = refl
+untied Equal h = absurd (cc)
+untied Greater h = refl
+
+pub not_greater : (r : Ordering) → (r ≡ Greater → ⊥) → is_gt r ≡ false
+not_greater Less h = refl
+not_greater Equal h = refl
+not_greater Greater h = absurd (h refl)
+
 tied_of : (r : Ordering) → is_eq r ≡ true → r ≡ Equal
 tied_of Less h = absurd (cc)
 tied_of Equal h = refl
@@ -83,11 +94,11 @@ tied_of Greater h = absurd (cc)
 pub same_rows : (xs ys : List Cell) → is_eq (row_cmp xs ys) ≡ true → xs ≡ ys
 same_rows xs ys h = exact_rows xs ys (tied_of (row_cmp xs ys) h)
 
-pub reverse_gt : (r : Ordering) → is_gt r ≡ true → is_gt (ordering_reverse r) ≡ false
+reverse_gt : (r : Ordering) → is_gt r ≡ true → is_gt (ordering_reverse r) ≡ false
 reverse_gt Less h = absurd (cc)
 reverse_gt Equal h = absurd (cc)
 reverse_gt Greater h = refl
 
--- a row that is behind another has that one not behind it
-pub not_behind : (xs ys : List Cell) → is_gt (row_cmp xs ys) ≡ true → is_gt (row_cmp ys xs) ≡ false
-not_behind xs ys h = rw (rows_total.antisymm ys xs) (reverse_gt (row_cmp xs ys) h)
+-- what is behind another has that one not behind it
+pub not_behind : {A : Type 0} {order : A → A → Ordering} → IsTotalOrder order → (x y : A) → is_gt (order x y) ≡ true → is_gt (order y x) ≡ false
+not_behind total x y h = ap is_gt (total.antisymm y x) ∙ reverse_gt _ h

@@ -3,7 +3,7 @@ use Rattle.std.specs.declared.cmp.Ordering.TheVariants.{Greater}
 use Rattle.std.specs.Ordering.{is_gt}
 use Rattle.wsm_semantics.specs.Relation.{row_cmp}
 use Rattle.wsm_relation.specs.Rows.{rows_in, passed}
-use Rattle.wsm_relation.proofs.Ordered.{not_greater}
+use Rattle.wsm_semantics.proofs.RowOrder.{not_greater}
 use Rattle.wsm_relation.proofs.Places.{passed-within, passes, stops}
 use Rattle.wsm_relation.proofs.Boxes.{length-rows_in, value_at}
 use Rattle.wsm_relation.proofs.rows.place_of.Goals as goal

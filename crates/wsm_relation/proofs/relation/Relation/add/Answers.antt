@@ -2,7 +2,8 @@ use Rattle.std.proofs.Common.{◌≡◌, ◌+◌, ap, ◌∙◌, vec_len, arith}
 use Rattle.std.specs.Prelude.{insert}
 use Rattle.wsm_semantics.specs.Relation.{with_row}
 use Rattle.wsm_relation.specs.Rows.{rows_in, passed}
-use Rattle.wsm_relation.proofs.Places.{insert-passed, with_row-in_order}
+use Rattle.wsm_semantics.proofs.RowBags.{with_row-in_order}
+use Rattle.wsm_relation.proofs.Places.{insert-passed}
 use Rattle.wsm_relation.proofs.Boxes.{insert-rows_in, bags_alike}
 use Rattle.wsm_relation.proofs.relation.Relation.add.Goals as goal
 

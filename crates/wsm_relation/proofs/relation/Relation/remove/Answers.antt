@@ -2,7 +2,8 @@ use Rattle.std.proofs.Common.{◌≡◌, ◌+◌, ◌<◌, ap, ◌∙◌, vec_le
 use Rattle.std.specs.Prelude.{remove}
 use Rattle.wsm_semantics.specs.Relation.{without_one}
 use Rattle.wsm_relation.specs.Rows.{rows_in, passed, count_of}
-use Rattle.wsm_relation.proofs.Places.{remove-passed, passed-there, without_one-in_order}
+use Rattle.wsm_semantics.proofs.RowBags.{without_one-in_order}
+use Rattle.wsm_relation.proofs.Places.{remove-passed, passed-there}
 use Rattle.wsm_relation.proofs.Boxes.{length-rows_in, remove-rows_in, bags_alike}
 use Rattle.wsm_relation.proofs.relation.Relation.remove.Goals as goal
 
