@@ -25,7 +25,7 @@ use Rattle.wsm_semantics.proofs.Effects.{by_record}
 use Rattle.wsm_semantics.proofs.PanesOrder.{same_contents}
 use Rattle.wsm_semantics.proofs.ReorderedHistories.{same_mark}
 use Rattle.wsm_semantics.proofs.OnTimeOrder.{FiresSame, same_selected}
-use Rattle.wsm_semantics.proofs.Bags.{Shuffled}
+use Rattle.wsm_semantics.proofs.ReorderedRecords.{Shuffled}
 
 sooner : (old new end : ℤ) → old ≤ℤ new → int_lt new end ≡ true → int_lt old end ≡ true
 sooner old new end h k = grind (arith, ints)

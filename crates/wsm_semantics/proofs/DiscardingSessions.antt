@@ -26,7 +26,7 @@ use Rattle.wsm_semantics.proofs.Each.{all_of, all-any, all-swap, filter-append, 
 use Rattle.wsm_semantics.proofs.Within.{new_turn}
 use Rattle.wsm_semantics.proofs.MergedRecords.{selected_falls, holds-filter}
 use Rattle.wsm_semantics.proofs.ShownPanes.{IsPane, each_pane, unshown_of, kind_of, kind-watermark, shown_now, not_shown_yet}
-use Rattle.wsm_semantics.proofs.Bags.{Shuffled, Empty, Through, shuffled-sym, same_length, same_filter, same_append, same_after}
+use Rattle.wsm_semantics.proofs.ReorderedRecords.{Shuffled, Empty, Through, shuffled-sym, same_length, same_filter, same_append, same_after}
 use Rattle.wsm_semantics.proofs.PanesOrder.{contents_of, panes_of, same_contents, there_agrees, same_panes}
 use Rattle.wsm_semantics.proofs.ReorderedHistories.{AreTold, events_of, events_judged, judged_told, reordered_told, mark_by, mark_reordered, mark_is, said, said_all, said_reordered, swapped_at, selected_said, selection_by}
 use Rattle.wsm_semantics.proofs.Turns.{panes-same}

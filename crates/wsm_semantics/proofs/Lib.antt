@@ -42,7 +42,7 @@ pub mod KeptPanes
 pub mod HeldContents
 pub mod RowsBound
 pub mod HeldLaw
-pub mod Bags
+pub mod ReorderedRecords
 pub mod PanesOrder
 pub mod ReorderedHistories
 pub mod OnTimeOrder

@@ -23,7 +23,7 @@ use Rattle.wsm_semantics.proofs.Each.{filter_map-map}
 use Rattle.wsm_semantics.proofs.ShownPanes.{IsPane, each_pane, unshown_of, does, firings_are, kind-watermark}
 use Rattle.wsm_semantics.proofs.Effects.{by_record, selects_none}
 use Rattle.wsm_semantics.proofs.Turns.{panes-same}
-use Rattle.wsm_semantics.proofs.Bags.{Shuffled, Through, shuffled-sym, same_length, same_bag}
+use Rattle.wsm_semantics.proofs.ReorderedRecords.{Shuffled, Through, shuffled-sym, same_length, same_bag}
 use Rattle.wsm_semantics.proofs.PanesOrder.{same_contents, same_panes}
 use Rattle.wsm_semantics.proofs.ReorderedHistories.{same_mark, same_mark_after, judged_told, said_all, said_reordered, selected_said, SameRises, same_rises, pairs_each}
 

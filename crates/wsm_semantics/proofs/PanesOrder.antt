@@ -17,7 +17,7 @@ use Rattle.wsm_semantics.specs.Panes.{of_key, is_there, stands_in, windows_among
 use Rattle.wsm_semantics.proofs.Tables.{among, find-with_contents, is_sorted-with_contents, keyed, find-keyed, is_sorted-keyed}
 use Rattle.wsm_semantics.proofs.Each.{list_any-append}
 use Rattle.wsm_semantics.proofs.SessionPlaces.{places-sessions}
-use Rattle.wsm_semantics.proofs.Bags.{Shuffled, Empty, With, Swapped, Through, AgreeOn, same_filter}
+use Rattle.wsm_semantics.proofs.ReorderedRecords.{Shuffled, Empty, With, Swapped, Through, AgreeOn, same_filter}
 use Rattle.wsm_semantics.proofs.SessionOrder.{with_time-swap}
 
 -- the places of some selected records

@@ -12,7 +12,7 @@ use Rattle.wsm_admission.proofs.SourceMarks.{watermark_rises}
 use Rattle.wsm_semantics.specs.Query.{Datum, Query, Selects, Nothing, mark, raises, verdict_on, is_taken, selected, selection, selection_of}
 use Rattle.wsm_semantics.specs.Order.{Judged, judged, is_rise, Reordered, Done, Next, Swap, Then, Permuted, all_rises, InPairs}
 use Rattle.wsm_semantics.proofs.Effects.{down_stays, selects_none}
-use Rattle.wsm_semantics.proofs.Bags.{Shuffled, Empty, With, Swapped, Through, shuffled-itself, same_append, same_after}
+use Rattle.wsm_semantics.proofs.ReorderedRecords.{Shuffled, Empty, With, Swapped, Through, shuffled-itself, same_append, same_after}
 
 pub reordered-itself : (xs : List Judged) → Reordered xs xs
 reordered-itself [] = Done
