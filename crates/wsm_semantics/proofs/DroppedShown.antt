@@ -1,9 +1,9 @@
 -- A place whose end and lateness the watermark came to has shown all of its records: what was unshown
 -- fired when it was dropped, on time or as the final firing. For any mode.
-use Rattle.std.proofs.Common.{◌≡◌, ℕ, suc, Bool, true, false, ◌&&◌, cond, not, List, [], ◌∷◌, ◌++◌, map, length, ℤ, ◌+ℤ◌, Option, Some, None, refl, sym, ap, subst, ◌∙◌, arith}
+use Rattle.std.proofs.Common.{◌≡◌, ℕ, suc, Bool, true, false, ◌&&◌, cond, not, List, [], ◌∷◌, ◌++◌, length, ℤ, ◌+ℤ◌, Option, Some, None, refl, sym, ap, subst, ◌∙◌, arith}
 use Rattle.std.proofs.lemmas.Int.{ints}
 use Rattle.std.proofs.lemmas.Bool.{true≢false, or_left, lt-ltb}
-use Rattle.std.specs.Prelude.{filter, flat_map, int_le, int_lt, nat_lt}
+use Rattle.std.specs.Prelude.{filter, int_le, int_lt, nat_lt}
 use Rattle.std.specs.List.{AllByRecursion}
 use Rattle.wsm_record.specs.declared.event.Value.{Value}
 use Rattle.wsm_record.specs.Event.{Event, Record, Watermark}
@@ -11,14 +11,15 @@ use Rattle.wsm_windows.specs.declared.window.PaneKind.{PaneKind}
 use Rattle.wsm_windows.specs.declared.window.PaneKind.TheVariants.{OnTime, Final}
 use Rattle.wsm_windows.specs.Life.{is_due}
 use Rattle.wsm_windows.specs.declared.place.Place.{Place}
-use Rattle.wsm_windows.specs.Places.{at, window_of}
+use Rattle.wsm_windows.specs.Places.{window_of}
 use Rattle.wsm_semantics.specs.Query.{Query, Datum, SessionsByEvent, datum, Nothing, effect_of, mark, verdict_on, selection, selected, selection_of}
-use Rattle.wsm_semantics.specs.Panes.{windows_among, places, is_there, contents, is_live_at}
+use Rattle.wsm_semantics.specs.Panes.{places, is_there, contents, is_live_at}
 use Rattle.wsm_semantics.specs.Firings.{firing_set, is_shown, kind_on_watermark}
 use Rattle.wsm_semantics.proofs.Lists.{all-each}
 use Rattle.wsm_semantics.proofs.Tables.{among}
 use Rattle.wsm_semantics.proofs.KeptTurns.{lives_there}
 use Rattle.wsm_semantics.proofs.Effects.{by_effect, selects_one, selects_none, nothing_stays}
+use Rattle.wsm_semantics.proofs.Turns.{places-same, contents-same}
 use Rattle.wsm_semantics.proofs.ShownPanes.{ShowsOwn, kind-watermark, unshown_of, unshown_by, unshown-after}
 
 -- a place that is new with a selected record has it
@@ -66,19 +67,16 @@ module _ (q : Query) (timely : SessionsByEvent q) (own : (past : List Event) →
         subst (AllByRecursion (λ d. is_shown q (e ∷ past) p d ≡ true)) (sym same)
         (all-each (λ d. is_shown q past p d ≡ true) (λ d. is_shown q (e ∷ past) p d ≡ true) (contents q past p) (λ d h. or_left _ _ h) shown)
 
-    -- an event that selects nothing leaves the places and their records
+    -- an event that selects nothing leaves the places
     module _ (e : Event) (none : selection_of q past e ≡ []) where
-      same_contents : (p : Place) → contents q (e ∷ past) p ≡ contents q past p
-      same_contents p = ap (λ (ds : List Datum). filter (is_there q p) (ds ++ selected q past)) none
-
       placed_before : (p : Place) → among p (places q (e ∷ past)) ≡ true → among p (places q past) ≡ true
-      placed_before p placed = ap (among p) (ap (λ (ds : List Datum). flat_map (λ d. map (at d.key) (windows_among q.shape q.clock.lateness (ds ++ selected q past) d)) (ds ++ selected q past)) (sym none)) ∙ placed
+      placed_before p placed = ap (among p) (sym (places-same q past e none)) ∙ placed
 
     -- one that does nothing
     still : (e : Event) → effect_of q past e ≡ Nothing → DropsShown q (e ∷ past)
     still e none p placed dead =
         let unselected : selection_of q past e ≡ [] = ap selection none in
-        later e p (same_contents e unselected p)
+        later e p (contents-same q past e unselected p)
         (before p (placed_before e unselected p placed) (ap (λ (w : ℤ). is_live_at q w p) (sym (nothing_stays q past e none)) ∙ dead))
 
     -- a selected record comes into no place that isn't held
@@ -107,7 +105,7 @@ module _ (q : Query) (timely : SessionsByEvent q) (own : (past : List Event) →
               (unshown-after q past e (own (e ∷ past)) p placed
               ∙ ap (λ (o : Option PaneKind). unshown_by o left) (kind-watermark q past o t p all)
               ∙ last_fires q (mark q past) (mark q (e ∷ past)) p (length (firing_set q.mode all left)) left live dead)
-          | false ↦ λ before_it. later e p (same_contents e none p) (before p (placed_before e none p placed) before_it)
+          | false ↦ λ before_it. later e p (contents-same q past e none p) (before p (placed_before e none p placed) before_it)
         ] refl
 
     after : (e : Event) → DropsShown q (e ∷ past)

@@ -66,10 +66,7 @@ module _ (q : Query) (past : List Event) where
         | false ↦ refl
       ]
 
-  -- a watermark that raises that of the query, and one that doesn't
-  pub effect-risen : (o : Option ℕ) (t : ℤ) → raises q past (Watermark o t) ≡ true → effect_of q past (Watermark o t) ≡ Rises (mark q past) (mark q (Watermark o t ∷ past))
-  effect-risen o t up = ap (λ (b : Bool). cond b (Rises (mark q past) (mark q (Watermark o t ∷ past))) Nothing) up
-
+  -- a watermark that doesn't raise that of the query
   pub effect-down : (o : Option ℕ) (t : ℤ) → raises q past (Watermark o t) ≡ false → effect_of q past (Watermark o t) ≡ Nothing
   effect-down o t down = ap (λ (b : Bool). cond b (Rises (mark q past) (mark q (Watermark o t ∷ past))) Nothing) down
 

@@ -20,29 +20,21 @@ use Rattle.wsm_semantics.specs.Panes.{places, contents, panes}
 use Rattle.wsm_semantics.specs.Firings.{Firing, firing_of, firing_set, firings, firings_by, firings_so_far, holds, is_shown, shows}
 use Rattle.wsm_semantics.specs.FiringSets.{has_in_set, times_fired}
 use Rattle.wsm_semantics.proofs.Tables.{is_sorted-with_contents}
-use Rattle.wsm_semantics.proofs.Each.{all-any, as_true, filter-append, filter-each, none_of, same_answers, some_of}
+use Rattle.wsm_semantics.proofs.Each.{all-any, as_true, filter-append, filter-each, none_of, some_of}
 use Rattle.wsm_semantics.proofs.StandsTurn.{AreDistinct}
 use Rattle.wsm_semantics.proofs.ShownPanes.{IsPane, ShowsOwn, each_pane, does, firings_are, kind_of, unshown_of, shown_now}
-use Rattle.wsm_semantics.proofs.FiringsSoFar.{shows_back, shows_on}
+use Rattle.wsm_semantics.proofs.FiringsSoFar.{shows_back, shows_on, shown_alike}
 
 -- once or not at all
 abbrev pub once_if : Bool → ℕ
 once_if b = cond b 1 0
 
--- ---- whether a record was shown goes by its turn, and for places that show one another alike
+-- ---- whether a record was shown goes by its turn
 
 shown_by_turn : (q : Query) (past : List Event) (p : Place) (x d : Datum) → x.turn ≡ d.turn → is_shown q past p x ≡ is_shown q past p d
 shown_by_turn q [] p x d h = refl
 shown_by_turn q (e ∷ past) p x d h = λ i.
     shown_by_turn q past p x d h i || list_any (λ f. shows q.shape p f.place && list_any (λ y. nat_eq y.turn (h i)) f.contents) (firings_by (is_shown q past) q past e)
-
-shown_alike : (q : Query) (past : List Event) (p r : Place) (d : Datum) → shows q.shape p r ≡ true → is_shown q past p d ≡ is_shown q past r d
-shown_alike q [] p r d h = refl
-shown_alike q (e ∷ past) p r d h = λ i.
-    shown_alike q past p r d h i || list_any (λ f. alike f.place i && holds d f.contents) (firings_by (is_shown q past) q past e)
-  where
-    alike : (s : Place) → shows q.shape p s ≡ shows q.shape r s
-    alike s = same_answers _ _ (λ k. shows_on q.shape r p s (shows_back q.shape p r h) k) (λ k. shows_on q.shape p r s h k)
 
 -- ---- what is held by the unshown records
 

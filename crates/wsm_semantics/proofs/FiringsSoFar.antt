@@ -1,11 +1,11 @@
 -- All firings of a history: the contents of each are within those of one pane of now, which it shows;
 -- and a record is shown by those that have it.
-use Rattle.std.proofs.Common.{◌≡◌, ℕ, suc, ◌<◌, Bool, true, false, ◌&&◌, cond, List, [], ◌∷◌, length, Option, Some, None, refl, sym, ap, subst, ◌∙◌, arith}
+use Rattle.std.proofs.Common.{◌≡◌, ℕ, suc, ◌<◌, Bool, true, false, ◌&&◌, ◌||◌, cond, List, [], ◌∷◌, length, Option, Some, None, refl, sym, ap, subst, ◌∙◌, arith}
 use Rattle.std.proofs.lemmas.Bool.{true≢false, and_parts, eqb-true}
 use Rattle.std.proofs.lemmas.Bool.Decides.{nat_tests}
 use Rattle.std.specs.Prelude.{nat_eq, nat_lt}
 use Rattle.std.specs.Option.{is_some}
-use Rattle.std.specs.List.{AllByRecursion}
+use Rattle.std.specs.List.{AllByRecursion, list_any}
 use Rattle.std.specs.Ordering.{eq_by_cmp}
 use Rattle.std.proofs.lemmas.Option.{same_Some}
 use Rattle.wsm_record.specs.Event.{Event}
@@ -17,7 +17,7 @@ use Rattle.wsm_windows.specs.Places.{place_cmp}
 use Rattle.wsm_windows.proofs.Places.{tie_is}
 use Rattle.wsm_semantics.specs.Query.{Query, Datum, selected, selection_of}
 use Rattle.wsm_semantics.specs.Panes.{places, is_there, contents, panes}
-use Rattle.wsm_semantics.specs.Firings.{Firing, holds, shows, firing_of, firing_set, firings, firings_so_far}
+use Rattle.wsm_semantics.specs.Firings.{Firing, holds, is_shown, shows, firing_of, firing_set, firings, firings_by, firings_so_far}
 use Rattle.wsm_semantics.proofs.Lists.{IsNonEmpty, filter-all, all-each}
 use Rattle.wsm_semantics.proofs.Tables.{among}
 use Rattle.wsm_semantics.proofs.Assigned.{tied}
@@ -54,16 +54,33 @@ shows_key (Fixed size) p r h = ap (λ (p : Place). p.key) (tie_is p r h)
 shows_key (Sliding size period) p r h = ap (λ (p : Place). p.key) (tie_is p r h)
 shows_key (Session gap) p r h = eqb-true p.key r.key h
 
+-- for places that show one another a record was shown alike
+pub shown_alike : (q : Query) (past : List Event) (p r : Place) (d : Datum) → shows q.shape p r ≡ true → is_shown q past p d ≡ is_shown q past r d
+shown_alike q [] p r d h = refl
+shown_alike q (e ∷ past) p r d h = λ i.
+    shown_alike q past p r d h i || list_any (λ f. alike f.place i && holds d f.contents) (firings_by (is_shown q past) q past e)
+  where
+    alike : (s : Place) → shows q.shape p s ≡ shows q.shape r s
+    alike s = same_answers _ _ (λ k. shows_on q.shape r p s (shows_back q.shape p r h) k) (λ k. shows_on q.shape p r s h k)
+
 -- a place of after an event has the records of a place
 abbrev pub StaysIn : Query → List Event → Event → Place → Type 0
 StaysIn q past e p = (r : Place) × (among r (places q (e ∷ past)) ≡ true) × (shows q.shape r p ≡ true) × ((d : Datum) → is_there q p d ≡ true → is_there q r d ≡ true)
+
+-- of places that show one another's records no two have one in common
+abbrev pub ShareNone : Query → Type 0
+ShareNone q = (past : List Event) (p r : Place) → among p (places q past) ≡ true → among r (places q past) ≡ true → shows q.shape p r ≡ true → (d : Datum) → is_there q p d ≡ true → is_there q r d ≡ true → p ≡ r
+
+-- the records of a place stay together
+abbrev pub Stay : Query → Type 0
+Stay q = (past : List Event) (e : Event) (p : Place) → among p (places q past) ≡ true → StaysIn q past e p
 
 -- where panes are: each has records; of those that show one another's records no two have one in
 -- common; and the records of one stay together
 pub record PlacesLaw (q : Query) : Type 0 where
   pub filled : (past : List Event) → AllByRecursion (λ e. IsNonEmpty e.1) (panes q past)
-  pub apart : (past : List Event) (p r : Place) → among p (places q past) ≡ true → among r (places q past) ≡ true → shows q.shape p r ≡ true → (d : Datum) → is_there q p d ≡ true → is_there q r d ≡ true → p ≡ r
-  pub stays : (past : List Event) (e : Event) (p : Place) → among p (places q past) ≡ true → StaysIn q past e p
+  pub apart : ShareNone q
+  pub stays : Stay q
 
 -- ---- what a pane fires as
 

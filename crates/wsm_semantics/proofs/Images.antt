@@ -1,9 +1,8 @@
 -- A machine that keeps summaries steps as one that keeps the panes' records: what is kept after a
 -- record or a watermark, what fires with which rows, and the relation are the summaries of the other's.
-use Rattle.std.proofs.Common.{◌≡◌, ℕ, Bool, true, false, cond, List, [], ◌∷◌, map, length, ℤ, Option, Some, None, refl, sym, ap, ◌∙◌, arith}
-use Rattle.std.proofs.lemmas.Bool.{true≢false}
-use Rattle.std.proofs.lemmas.Bool.Decides.{nat_tests}
-use Rattle.std.specs.Prelude.{filter, filter_map, not, nat_eq, option_map, ◌&&◌}
+use Rattle.std.proofs.Common.{◌≡◌, ℕ, Bool, true, false, cond, List, [], ◌∷◌, map, length, ℤ, Option, Some, None, refl, sym, ap, ◌∙◌}
+use Rattle.std.proofs.lemmas.Bool.{and_parts}
+use Rattle.std.specs.Prelude.{filter, filter_map, not, option_map}
 use Rattle.std.specs.Int.{int_max, int_min}
 use Rattle.std.specs.List.{AllByRecursion, cons_option}
 use Rattle.std.specs.declared.cmp.Ordering.TheVariants.{Less, Equal, Greater}
@@ -28,7 +27,7 @@ use Rattle.wsm_semantics.specs.Kept as kept
 use Rattle.wsm_semantics.specs.Kept.{Kept, Stands, is_linked, joined_to}
 use Rattle.wsm_semantics.specs.Summaries.{Plan, IsLawful, Runs, Pane, session_with, linked, kind_by_record, kind_by_watermark, fired_of, fires, standing_row, relation_of, with_record, joined_with, joined_all, assigned, merged_session, entered, fired_pane, all_fired, after_record, fired_by_record, at_watermark, fired_by_watermark, after_watermark, row_of, standing_of, pane_of, summaries, summary_fired}
 use Rattle.wsm_semantics.proofs.Lists.{all-each}
-use Rattle.wsm_semantics.proofs.Each.{passed}
+use Rattle.wsm_semantics.proofs.Each.{passed, same_key}
 use Rattle.wsm_semantics.proofs.Tables.{find-keyed}
 use Rattle.wsm_semantics.proofs.Summaries.{pane-with_record, pane-joined, pane-fired, fired-of, counted-fired}
 
@@ -91,19 +90,9 @@ module _ {X : Type 0} (plan : Plan X) (m : Mode) where
         (λ i. joined_with plan (pane_of plan m (own.0 i) e.1) (joined-summaries k es own.1 i))
         ∙ joined-pane k e.1 (kept.joined_all es))
 
-    own_key : (gap : ℤ) (d : Datum) (p : Place) → is_linked gap d p ≡ true → p.key ≡ d.key
-    own_key gap d p h = first_holds _ _ h
-      where
-        first_holds : (n : ℕ) (b : Bool) → (nat_eq n p.key && b) ≡ true → p.key ≡ n
-        first_holds n b h =
-            elim (nat_eq n p.key) as (λ c. nat_eq n p.key ≡ c → (c && b) ≡ true → p.key ≡ n) [
-              | true ↦ λ e _. grind (arith, nat_tests)
-              | false ↦ λ _ f. absurd (true≢false (sym f))
-            ] refl h
-
     pub linked_own : (gap : ℤ) (d : Datum) (es : List (Place × Kept)) → OfKey d.key (filter (λ e. is_linked gap d e.0) es)
     linked_own gap d es =
-        all-each (λ e. is_linked gap d e.0 ≡ true) (λ e. e.0.key ≡ d.key) (filter (λ e. is_linked gap d e.0) es) (λ e h. own_key gap d e.0 h) (passed (λ e. is_linked gap d e.0) es)
+        all-each (λ e. is_linked gap d e.0 ≡ true) (λ e. e.0.key ≡ d.key) (filter (λ e. is_linked gap d e.0) es) (λ e h. sym (same_key d.key e.0.key (and_parts _ _ h).0)) (passed (λ e. is_linked gap d e.0) es)
 
     merged-summaries : (gap : ℤ) (d : Datum) (es : List (Place × Kept)) → merged_session plan gap d (summaries plan m es) ≡ summaries plan m (kept.merged_session gap d es)
     merged-summaries gap d es =

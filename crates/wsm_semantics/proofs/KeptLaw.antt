@@ -14,7 +14,7 @@ use Rattle.wsm_semantics.specs.Query.{Query, SessionsByEvent, datum, effect_of, 
 use Rattle.wsm_semantics.specs.Firings.{firings, row_of}
 use Rattle.wsm_semantics.specs.Retractions.{retracted, retract_rows, retracted_in}
 use Rattle.wsm_semantics.specs.Relation.{relation, relation_at, stream_rows, chosen_rows, streamed, turn_rows}
-use Rattle.wsm_semantics.specs.Kept.{kept, withdrawn_by_record}
+use Rattle.wsm_semantics.specs.Kept.{kept}
 use Rattle.wsm_semantics.specs.Replay.{kept_after, fired_by, withdrawn_by, relation_after, after, replayed, state, streamed_by, turn_rows_by}
 use Rattle.wsm_semantics.proofs.Effects.{by_effect, nothing_stays, stays_down}
 use Rattle.wsm_semantics.proofs.Turns.{firings-nothing}
@@ -24,7 +24,7 @@ use Rattle.wsm_semantics.proofs.KeptTurns.{kept-nothing}
 use Rattle.wsm_semantics.proofs.EventTurns.{EntersPanes, kept-record, firings-record, kept-watermark, firings-watermark, relation-watermark}
 use Rattle.wsm_semantics.proofs.AssignedTurns.{assigned_places, enters_assigned}
 use Rattle.wsm_semantics.proofs.SessionTurns.{session_places, enters_session}
-use Rattle.wsm_semantics.proofs.Withdrawn.{written_withdrawn, withdrawn-nothing, withdrawn-watermark}
+use Rattle.wsm_semantics.proofs.Withdrawn.{IsWithdrawn, written_withdrawn, withdrawn-nothing, withdrawn-watermark}
 use Rattle.wsm_semantics.proofs.WithdrawnAssigned.{withdrawn-assigned}
 use Rattle.wsm_semantics.proofs.WithdrawnSessions.{withdrawn-session}
 
@@ -65,7 +65,7 @@ module _ (q : Query) (past : List Event) (e : Event) where
 -- what a selected record withdraws goes by what was kept
 abbrev pub WithdrawsPanes : Query → Type 0
 WithdrawsPanes q = (past : List Event) (k : ℕ) (t : ℤ) (vs : List Value) → verdict_on q past (Record (Some k) t vs) ≡ None → q.selects k vs ≡ true →
-    written_withdrawn q past (Record (Some k) t vs) ≡ withdrawn_by_record q (mark q past) (datum (length past) (mark q past) k t vs) (kept q past)
+    IsWithdrawn q past (Record (Some k) t vs) (datum (length past) (mark q past) k t vs)
 
 module _ (q : Query) (ok : IsShape q.shape) (timely : SessionsByEvent q) (low : pos 0 ≤ℤ q.clock.lateness) where
   pub withdraws : (shape : Shape) → q.shape ≡ shape → WithdrawsPanes q

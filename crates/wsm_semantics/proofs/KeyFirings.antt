@@ -1,6 +1,6 @@
 -- What a part of a history fires, turn by turn: what the whole fires for its keys.
 use Rattle.std.proofs.Common.{◌≡◌, ℕ, ◌<◌, Bool, true, false, ◌&&◌, ◌||◌, cond, not, List, [], ◌∷◌, ◌++◌, map, length, Option, Some, None, refl, sym, ap, subst, ◌∙◌, append-nil}
-use Rattle.std.proofs.lemmas.Bool.{true≢false}
+use Rattle.std.proofs.lemmas.Bool.{true≢false, and_parts}
 use Rattle.std.proofs.lemmas.List.{map-append}
 use Rattle.std.proofs.Math.Bool.{or-false}
 use Rattle.std.specs.Prelude.{filter, filter_map, nat_eq, option_map}
@@ -22,7 +22,7 @@ use Rattle.wsm_semantics.proofs.MergedRecords.{unlike}
 use Rattle.wsm_semantics.proofs.ShownPanes.{IsPane, each_pane, unshown_of, kind_of, does, firings_are, contents_below}
 use Rattle.wsm_semantics.proofs.FiringsSoFar.{shows_key, fires_as}
 use Rattle.wsm_semantics.proofs.KeyTurns.{IsRising, same_turn, AreTurns, is_said, effect_of_part, selects_others}
-use Rattle.wsm_semantics.proofs.KeyPanes.{panes_of_part, first_of_both}
+use Rattle.wsm_semantics.proofs.KeyPanes.{panes_of_part}
 
 -- ---- lists of what is given
 
@@ -171,7 +171,7 @@ module _ (q : Query) (keys : Keys) (f : ℕ → ℕ) (rises : IsRising f) where
           not_there : (d : Datum) → is_said keys d ≡ false → is_there q p d ≡ false
           not_there d away =
               elim (is_there q p d) as (λ b. is_there q p d ≡ b → b ≡ false) [
-                | true ↦ λ k. sym (ap (λ (j : ℕ). keys (Some j)) (same_key d.key p.key (first_of_both _ _ k)) ∙ here) ∙ away
+                | true ↦ λ k. sym (ap (λ (j : ℕ). keys (Some j)) (same_key d.key p.key (and_parts _ _ k).0) ∙ here) ∙ away
                 | false ↦ λ k. refl
               ] refl
 
@@ -213,7 +213,7 @@ module _ (q : Query) (keys : Keys) (f : ℕ → ℕ) (rises : IsRising f) where
   -- ---- what is shown
 
   shows_own_key : (p : Place) → is_at keys p ≡ true → (d : Datum) (g : Firing) → (shows q.shape p g.place && holds d g.contents) ≡ true → is_fired_at keys g ≡ true
-  shows_own_key p here d g h = ap (λ (k : ℕ). keys (Some k)) (sym (shows_key q.shape p g.place (first_of_both _ _ h))) ∙ here
+  shows_own_key p here d g h = ap (λ (k : ℕ). keys (Some k)) (sym (shows_key q.shape p g.place (and_parts _ _ h).0)) ∙ here
 
   shown_now : (past : List Event) (e : Event) → HasRoom q (e ∷ past) → AreTurns keys f (e ∷ past) → ShowsAlike past → (p : Place) → is_at keys p ≡ true → (d : Datum) →
       list_any (λ g. shows q.shape p g.place && holds (at_turn f d) g.contents) (firings q past e)

@@ -9,7 +9,7 @@ use Rattle.wsm_admission.specs.declared.verdict.Refusal.TheVariants as refusal
 use Rattle.wsm_admission.specs.Clock.{mark_at, marks_of, watermark_refusal, is_time, admitted_count, admitted_with, late_count, late_with, refused_count, refused_with}
 use Rattle.wsm_semantics.specs.Query.{Query, verdict_on}
 use Rattle.wsm_semantics.specs.Firings.{Firing, firings_so_far}
-use Rattle.wsm_semantics.specs.ByKey.{Keys, is_of, of_keys, HasRoom, turn_of, firing_at, EachOnce, sum_of_parts, no_keys, AddsUpButWatermarks, NumbersAddUp}
+use Rattle.wsm_semantics.specs.ByKey.{Keys, is_of, of_keys, HasRoom, turn_of, firing_at, EachOnce, sum_of_parts, no_keys, AddsUp, AddsUpButWatermarks, NumbersAddUp}
 use Rattle.wsm_semantics.proofs.Lists.{length_each}
 use Rattle.wsm_semantics.proofs.KeyParts.{verdict_of_part}
 use Rattle.wsm_semantics.proofs.KeyTurns.{rising-turn_of, are_turns}
@@ -184,7 +184,7 @@ module _ (q : Query) (parts : List Keys) (each : EachOnce parts) where
     judged_but : (past : List Event) → HasRoom q past → AddsUpButWatermarks parts past number
     judged_but = adds_up_but (HasRoom q) (λ e past room. room.1) number judged_one none next judged_alike parts each
 
-    judged_all : ((past : List Event) (o : Option ℕ) (t : ℤ) → judged_one (Watermark o t) past ≡ 0) → (past : List Event) → HasRoom q past → sum_of_parts parts past number ≡ number past
+    judged_all : ((past : List Event) (o : Option ℕ) (t : ℤ) → judged_one (Watermark o t) past ≡ 0) → AddsUp q parts number
     judged_all = adds_up_all (HasRoom q) (λ e past room. room.1) number judged_one none next judged_alike parts each
 
   in_one_part : (fs : List Firing) → sum_by (λ keys. length (filter (is_fired_at keys) fs)) parts ≡ length fs
@@ -199,7 +199,7 @@ module _ (q : Query) (parts : List Keys) (each : EachOnce parts) where
       ∙ (λ i. each (Some f.place.key) i * 1 + in_one_part fs i)
       ∙ (let n : 1 * 1 + length fs ≡ suc (length fs) = omega arith in n)
 
-  fired_add_up : (past : List Event) → HasRoom q past → sum_of_parts parts past (λ part. length (firings_so_far q part)) ≡ length (firings_so_far q past)
+  fired_add_up : AddsUp q parts (λ part. length (firings_so_far q part))
   fired_add_up past room =
       sum_alike (λ keys. length (firings_so_far q (of_keys keys past))) (λ keys. length (filter (is_fired_at keys) (firings_so_far q past)))
       (λ keys. sym (ap (λ (fs : List Firing). length fs) (all_firings_of_part q keys (turn_of keys past) (rising-turn_of keys past) past room (are_turns keys past)) ∙ length_each (firing_at (turn_of keys past)) (firings_so_far q (of_keys keys past)))) parts

@@ -1,6 +1,7 @@
 -- The panes of a part of a history: those of the whole for its keys, each with its records, at their turns
 -- in the whole.
 use Rattle.std.proofs.Common.{◌≡◌, ℕ, Bool, true, false, ◌&&◌, ◌||◌, cond, List, [], ◌∷◌, ◌++◌, map, ℤ, Option, Some, None, refl, sym, ap, ◌∙◌}
+use Rattle.std.proofs.lemmas.Bool.{and_parts}
 use Rattle.std.specs.Prelude.{filter, flat_map, nat_eq, option_map}
 use Rattle.std.specs.Ordering.{eq_by_cmp}
 use Rattle.std.specs.FinMap.Entries.{same_entries, find-where_key, is_sorted-where_key}
@@ -22,10 +23,6 @@ use Rattle.wsm_semantics.proofs.Each.{same_key, filter_swap, filter-map, map-map
 use Rattle.wsm_semantics.proofs.PanesOrder.{contents_of, panes_of}
 use Rattle.wsm_semantics.proofs.KeyParts.{mark_of_part}
 use Rattle.wsm_semantics.proofs.KeyTurns.{AreTurns, is_said, selected_of_part}
-
-pub first_of_both : (a b : Bool) → (a && b) ≡ true → a ≡ true
-first_of_both true b h = refl
-first_of_both false b h = h
 
 -- the places of some records, as their windows among some are
 abbrev pub placed : Shape → ℤ → List Datum → List Datum → List Place
@@ -88,7 +85,7 @@ module _ (keys : Keys) where
   -- the contents of a place are of its key
   contents_alone : (q : Query) (p : Place) → is_at keys p ≡ true → (ds : List Datum) → contents_of q (filter (is_said keys) ds) p ≡ contents_of q ds p
   contents_alone q p here ds =
-      filter_within (is_there q p) (is_said keys) (λ d there. ap (λ (k : ℕ). keys (Some k)) (same_key d.key p.key (first_of_both _ _ there)) ∙ here) ds
+      filter_within (is_there q p) (is_said keys) (λ d there. ap (λ (k : ℕ). keys (Some k)) (same_key d.key p.key (and_parts _ _ there).0) ∙ here) ds
 
   -- the panes of some keys are those of the records of these keys
   pub panes_alone : (q : Query) (ds : List Datum) → filter (λ x. is_at keys x.0) (panes_of q ds) ≡ panes_of q (filter (is_said keys) ds)

@@ -13,7 +13,7 @@ use Rattle.wsm_admission.specs.declared.verdict.Refusal.{Refusal}
 use Rattle.wsm_admission.specs.declared.verdict.Refusal.TheVariants.{UnknownKey, FieldRange, TimeRange, TooFarAhead, Late, RecordLimit}
 use Rattle.wsm_admission.specs.Clock.{source_mark, marks_of, least, is_source, is_time, is_key, is_too_far_ahead, is_late, admitted_count, admitted_with, verdict_at}
 use Rattle.wsm_semantics.specs.Query.{Query, mark, verdict_on}
-use Rattle.wsm_semantics.specs.ByKey.{Keys, is_of, of_keys, HasRoom}
+use Rattle.wsm_semantics.specs.ByKey.{Keys, is_of, of_keys, HasRoom, SameVerdicts}
 
 -- ---- marks
 
@@ -92,7 +92,7 @@ module _ (q : Query) (keys : Keys) where
         | false ↦ no_fewer (admitted (of_keys keys past)) (admitted past) e (verdict_on q past e) before
       ]
 
-  pub verdict_of_part : (past : List Event) (e : Event) → HasRoom q (e ∷ past) → verdict_on q (of_keys keys past) e ≡ verdict_on q past e
+  pub verdict_of_part : SameVerdicts q keys
   verdict_of_part past e h = verdict_by past e (fewer past h.1) h.0
 
   pub room_of_part : (past : List Event) → HasRoom q past → HasRoom q (of_keys keys past)

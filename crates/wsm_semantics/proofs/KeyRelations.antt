@@ -18,7 +18,7 @@ use Rattle.wsm_semantics.specs.StandingFirings.{standing}
 use Rattle.wsm_semantics.specs.Retractions.{retract_rows}
 use Rattle.wsm_semantics.specs.Relation.{relation_at, relation, sorted_rows, difference, stream_rows, chosen_rows}
 use Rattle.wsm_semantics.specs.RowCounts.{IsInOrder, count_of}
-use Rattle.wsm_semantics.specs.ByKey.{Keys, others, of_keys, HasRoom, IgnoresTurns, pane_at, firing_at, is_at, turn_of, EachOnce, of_parts, netted, gains, losses, rows_of_stream, StreamsWrite, PartsAddUp}
+use Rattle.wsm_semantics.specs.ByKey.{Keys, others, of_keys, HasRoom, IgnoresTurns, pane_at, firing_at, is_at, turn_of, EachOnce, of_parts, netted, gains, losses, rows_of_stream, StreamsWrite, RelationsAddUp, AreNetted, PartsAddUp}
 use Rattle.wsm_semantics.proofs.Lists.{all-each}
 use Rattle.wsm_semantics.proofs.Each.{passed, filter_map-map, filter_map-each}
 use Rattle.wsm_semantics.proofs.Effects.{stays_down}
@@ -176,7 +176,7 @@ module _ (q : Query) (ignores : IgnoresTurns q) where
           | false ↦ all_have r past room.1
         ]
 
-    relation_together : (past : List Event) → HasRoom q past → relation q past ≡ sorted_rows (of_parts parts past (relation q))
+    relation_together : RelationsAddUp q parts
     relation_together past room =
         let all : List (List Cell) = of_parts parts past (relation q) in
         one_list (relation q past) (sorted_rows all) (relation_in_order past) (sorted_rows-in_order all) (λ r. sym (count-sorted_rows r all ∙ all_have r past room))
@@ -197,16 +197,14 @@ module _ (q : Query) (ignores : IgnoresTurns q) where
         ∙ left_over (count_of r more) (count_of r less) (count_of r now) (count_of r before) (count_of r (flat_map new parts)) (count_of r (flat_map old parts)) (more_and_less r new old parts) (sym (are r)) (sym (were r))
         ∙ sym (count-sorted_rows r (difference more less) ∙ count-difference r more less))
 
-    gained_by : (past : List Event) (e : Event) → HasRoom q (e ∷ past) → raises q past e ≡ true →
-        gains q past e ≡ netted (of_parts parts past (λ part. gains q part e)) (of_parts parts past (λ part. losses q part e))
+    gained_by : AreNetted gains losses q parts
     gained_by past (Record k t vs) room risen = absurd (true≢false (sym risen ∙ stays_down q past (Record k t vs) refl))
     gained_by past (Watermark o t) room risen =
         let w : Event = Watermark o t in
         netted_of (relation q (w ∷ past)) (relation q past) (λ keys. relation q (w ∷ of_keys keys past)) (λ keys. relation q (of_keys keys past))
         (relation_in_order (w ∷ past)) (λ r. all_have r (w ∷ past) room) (λ r. all_have r past room.1)
 
-    lost_by : (past : List Event) (e : Event) → HasRoom q (e ∷ past) → raises q past e ≡ true →
-        losses q past e ≡ netted (of_parts parts past (λ part. losses q part e)) (of_parts parts past (λ part. gains q part e))
+    lost_by : AreNetted losses gains q parts
     lost_by past (Record k t vs) room risen = absurd (true≢false (sym risen ∙ stays_down q past (Record k t vs) refl))
     lost_by past (Watermark o t) room risen =
         let w : Event = Watermark o t in

@@ -1,7 +1,7 @@
 -- What stands for panes of a part of a history, and what is withdrawn there: what stands and is withdrawn in the whole
 -- for its keys.
 use Rattle.std.proofs.Common.{◌≡◌, ℕ, Bool, true, false, ◌&&◌, ◌||◌, cond, not, List, [], ◌∷◌, map, Option, Some, None, refl, sym, ap, subst, ◌∙◌}
-use Rattle.std.proofs.lemmas.Bool.{true≢false}
+use Rattle.std.proofs.lemmas.Bool.{and_parts}
 use Rattle.std.specs.Prelude.{filter, filter_map, nat_eq, option_map}
 use Rattle.std.specs.List.{AllByRecursion, last_or, list_all, list_any}
 use Rattle.std.specs.Ordering.{eq_by_cmp}
@@ -18,12 +18,12 @@ use Rattle.wsm_semantics.specs.StandingFirings.{is_within, candidates, holds_all
 use Rattle.wsm_semantics.specs.Retractions.{standing_for, panes_before_drops, is_same, withdrawn}
 use Rattle.wsm_semantics.specs.ByKey.{Keys, is_of, of_keys, where_of, HasRoom, at_turn, pane_at, firing_at, is_at}
 use Rattle.wsm_semantics.proofs.Lists.{filter-all, all-each, filter_within, filter_same}
-use Rattle.wsm_semantics.proofs.Assigned.{tied}
-use Rattle.wsm_semantics.proofs.Each.{itself, passed, none_of, all-any, filter-each, filter-map, filter_swap, list_any-each}
+use Rattle.wsm_semantics.proofs.Each.{passed, none_of, all-any, filter-each, filter-map, filter_swap, list_any-each}
 use Rattle.wsm_semantics.proofs.FiringsSoFar.{shows_key, not_some}
+use Rattle.wsm_semantics.proofs.Withdrawn.{itself_same}
 use Rattle.wsm_semantics.proofs.KeyParts.{mark_of_part}
 use Rattle.wsm_semantics.proofs.KeyTurns.{IsRising, same_turn, AreTurns}
-use Rattle.wsm_semantics.proofs.KeyPanes.{first_of_both, live_of_part, held_of_part}
+use Rattle.wsm_semantics.proofs.KeyPanes.{live_of_part, held_of_part}
 use Rattle.wsm_semantics.proofs.KeyFirings.{filter-given, filter_map-image, all-of_map, list_any-wider, holds_turned, is_fired_at, all_firings_of_part}
 
 pub list_all-map : {A B : Type 0} (p : B → Bool) (h : A → B) (xs : List A) → list_all p (map h xs) ≡ list_all (λ x. p (h x)) xs
@@ -78,7 +78,7 @@ stands_showing : (q : Query) (fs : List Firing) (p : Place) (all : List Datum) (
 stands_showing q fs p all g h =
     let cs : List Firing = candidates q p all fs in
     let each : AllByRecursion (λ g. shows q.shape p g.place ≡ true) cs =
-    all-each (λ g. (shows q.shape p g.place && is_within g.contents all) ≡ true) (λ g. shows q.shape p g.place ≡ true) cs (λ g k. first_of_both _ _ k) (passed (λ g. shows q.shape p g.place && is_within g.contents all) fs) in
+    all-each (λ g. (shows q.shape p g.place && is_within g.contents all) ≡ true) (λ g. shows q.shape p g.place ≡ true) cs (λ g k. (and_parts _ _ k).0) (passed (λ g. shows q.shape p g.place && is_within g.contents all) fs) in
     last_holds (λ g. shows q.shape p g.place ≡ true) None (filter (holds_all cs) cs) g (λ x none. absurd (not_some x (sym none))) (filter-all (λ g. shows q.shape p g.place ≡ true) (holds_all cs) cs each) h
 
 module _ (q : Query) (keys : Keys) (f : ℕ → ℕ) (rises : IsRising f) where
@@ -88,7 +88,7 @@ module _ (q : Query) (keys : Keys) (f : ℕ → ℕ) (rises : IsRising f) where
   standing_alone fs gs alone p here all =
       let t : Firing → Bool = λ g. shows q.shape p g.place && is_within g.contents (map (at_turn f) all) in
       ap greatest_of (
-      sym (filter_within t (is_fired_at keys) (λ g h. ap (λ (k : ℕ). keys (Some k)) (sym (shows_key q.shape p g.place (first_of_both _ _ h))) ∙ here) fs)
+      sym (filter_within t (is_fired_at keys) (λ g h. ap (λ (k : ℕ). keys (Some k)) (sym (shows_key q.shape p g.place (and_parts _ _ h).0)) ∙ here) fs)
       ∙ ap (filter t) alone
       ∙ candidates_turned f rises q p all gs)
       ∙ greatest_turned f rises (candidates q p all gs)
@@ -110,10 +110,7 @@ module _ (q : Query) (keys : Keys) (f : ℕ → ℕ) (rises : IsRising f) where
   -- ---- what is withdrawn
 
   same_place_key : (g h : Firing) → is_fired_at keys g ≡ true → is_same g h ≡ true → is_fired_at keys h ≡ true
-  same_place_key g h here same = ap (is_at keys) (sym (tie_is g.place h.place (second_of_both (nat_eq g.turn h.turn) (eq_by_cmp place_cmp g.place h.place) same))) ∙ here where
-    second_of_both : (a b : Bool) → (a && b) ≡ true → b ≡ true
-    second_of_both true b h = h
-    second_of_both false b h = absurd (true≢false (sym h))
+  same_place_key g h here same = ap (is_at keys) (sym (tie_is g.place h.place (and_parts (nat_eq g.turn h.turn) (eq_by_cmp place_cmp g.place h.place) same).1)) ∙ here
 
   -- those that stood and stand no more, of the keys
   gone : (olds news before now : List Firing) → filter (is_fired_at keys) olds ≡ map (firing_at f) before → filter (is_fired_at keys) news ≡ map (firing_at f) now →
@@ -129,16 +126,13 @@ module _ (q : Query) (keys : Keys) (f : ℕ → ℕ) (rises : IsRising f) where
       (λ g. ap not (list_any-map (is_same (firing_at f g)) (firing_at f) now
       ∙ list_any-each (λ h. is_same (firing_at f g) (firing_at f h)) (is_same g) now (all-any (λ h. is_same (firing_at f g) (firing_at f h) ≡ is_same g h) (λ h. same_turned f rises g h) now))) before)
 
-  same_itself : (g : Firing) → is_same g g ≡ true
-  same_itself g = (λ i. itself g.turn i && tied g.place g.place refl i)
-
   all_stay : (fs : List Firing) → filter (λ g. not (list_any (is_same g) fs)) fs ≡ []
   all_stay fs = none_of (λ g. not (list_any (is_same g) fs)) fs (each fs fs (λ g h. h))
     where
       each : (all gs : List Firing) → ((g : Firing) → list_any (is_same g) gs ≡ true → list_any (is_same g) all ≡ true) → AllByRecursion (λ g. not (list_any (is_same g) all) ≡ false) gs
       each all [] within = tt
       each all (g ∷ gs) within = (
-        ap not (within g (ap (λ (b : Bool). b || list_any (is_same g) gs) (same_itself g))),
+        ap not (within g (ap (λ (b : Bool). b || list_any (is_same g) gs) (itself_same g))),
         each all gs (λ h k. within h (later (is_same h g) (list_any (is_same h) gs) k)),
       )
         where

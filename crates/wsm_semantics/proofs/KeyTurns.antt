@@ -1,12 +1,11 @@
 -- The turns of a part of a history, and its selected records: those of the whole for its keys, at their
 -- turns there.
-use Rattle.std.proofs.Common.{◌≡◌, ℕ, suc, ◌+◌, ◌<◌, Bool, true, false, ◌&&◌, ◌||◌, cond, List, [], ◌∷◌, ◌++◌, map, length, ℤ, Option, Some, None, refl, sym, ap, subst, ◌∙◌, arith}
+use Rattle.std.proofs.Common.{◌≡◌, ℕ, suc, ◌+◌, ◌<◌, Bool, true, false, ◌&&◌, ◌||◌, cond, List, [], ◌∷◌, ◌++◌, map, length, Some, None, refl, sym, ap, subst, ◌∙◌, arith}
 use Rattle.std.proofs.lemmas.Bool.{true≢false}
 use Rattle.std.proofs.lemmas.Bool.Decides.{nat_tests}
 use Rattle.std.proofs.lemmas.List.{map-append}
 use Rattle.std.proofs.Math.Bool.{or-true}
 use Rattle.std.specs.Prelude.{filter, int_lt, is_none, nat_eq, nat_lt}
-use Rattle.wsm_record.specs.declared.event.Value.{Value}
 use Rattle.wsm_record.specs.Event.{Event, Record, Watermark}
 use Rattle.wsm_semantics.specs.Query.{Datum, Query, datum, mark, raises, is_taken, Selects, Rises, Nothing, effect_of, selected, selection, selection_of}
 use Rattle.wsm_semantics.specs.ByKey.{Keys, is_of, of_keys, HasRoom, turn_of, at_turn}
@@ -54,17 +53,17 @@ module _ (keys : Keys) where
   not_before : (l k : ℕ) → nat_lt (l + k) l ≡ false
   not_before l k = grind (arith, nat_tests)
 
-  moved : (l k : ℕ) → suc l + k ≡ l + suc k
-  moved l k = omega arith
-
   -- what comes after the part comes after the whole
   past_end : (past : List Event) (k : ℕ) → turn_of keys past (length (of_keys keys past) + k) ≡ length past + k
   past_end [] k = refl
   past_end (e ∷ past) k =
       let l : ℕ = length (of_keys keys past) in
+      let n : ℕ = length past in
+      let part_moved : suc l + k ≡ l + suc k = omega arith in
+      let whole_moved : suc n + k ≡ n + suc k = omega arith in
       elim (is_of keys e) as (λ b. (let m = turn_of keys past (length (cond b (e ∷ of_keys keys past) (of_keys keys past)) + k) in
       cond (b || nat_lt (length (cond b (e ∷ of_keys keys past) (of_keys keys past)) + k) l) m (suc m)) ≡ suc (length past) + k) [
-        | true ↦ ap (turn_of keys past) (moved l k) ∙ past_end past (suc k) ∙ sym (moved (length past) k)
+        | true ↦ ap (turn_of keys past) part_moved ∙ past_end past (suc k) ∙ sym whole_moved
         | false ↦ ap (λ (b : Bool). cond b (turn_of keys past (l + k)) (suc (turn_of keys past (l + k)))) (not_before l k) ∙ ap suc (past_end past k) ∙ sym (let i : suc (length past) + k ≡ suc (length past + k) = omega arith in i)
       ]
 

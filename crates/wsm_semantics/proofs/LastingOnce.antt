@@ -19,13 +19,13 @@ use Rattle.wsm_semantics.proofs.Lists.{filter-all, all-each}
 use Rattle.wsm_semantics.proofs.Tables.{among, is_sorted-with_contents}
 use Rattle.wsm_semantics.proofs.Assigned.{IsAssigned}
 use Rattle.wsm_semantics.proofs.Each.{all-append, all-both, as_true, filter_map-all, passed}
-use Rattle.wsm_semantics.proofs.Within.{Within, wider}
+use Rattle.wsm_semantics.proofs.Within.{wider}
 use Rattle.wsm_semantics.proofs.ShownPanes.{IsPane, each_pane}
-use Rattle.wsm_semantics.proofs.FiringsSoFar.{IsFiring, stays_firing, one_home, shows_back, shows_on}
+use Rattle.wsm_semantics.proofs.FiringsSoFar.{stays_firing, one_home, shows_back, shows_on}
 use Rattle.wsm_semantics.proofs.StandsTurn.{AreDistinct}
 use Rattle.wsm_semantics.proofs.FiredOnce.{sorted_distinct}
 use Rattle.wsm_semantics.proofs.AssignedTurns.{still_placed}
-use Rattle.wsm_semantics.proofs.SessionTurns.{dead_stays}
+use Rattle.wsm_semantics.proofs.SessionTurns.{DeadStay, dead_stays}
 use Rattle.wsm_semantics.proofs.KeptLaw.{places as places_law, gap_is_long}
 use Rattle.wsm_semantics.proofs.StandsStill.{CanStand, can_stand, if_some, same_contents}
 use Rattle.wsm_semantics.proofs.LastingLaw.{live_still}
@@ -64,10 +64,8 @@ apart_filter t (e ∷ es) h =
 
 -- the pane that has a firing's records
 record Has (q : Query) (past : List Event) (f : Firing) (p : Place) : Type 0 where
-  pub fired : IsFiring q past f
   pub placed : among p (places q past) ≡ true
-  pub shown : shows q.shape p f.place ≡ true
-  pub inside : Within f.contents (contents q past p)
+  pub stands : CanStand q past p (contents q past p) f
 
 -- it is live at a mark, or not
 abbrev IsIn : Query → List Event → ℤ → Bool → Firing → Type 0
@@ -76,11 +74,11 @@ IsIn q past mark live f = (p : Place) × Has q past f p × (is_live_at q mark p 
 module _ (q : Query) (ok : IsShape q.shape) (timely : SessionsByEvent q) (low : pos 0 ≤ℤ q.clock.lateness) where
   has_one : (past : List Event) (f g : Firing) (p r : Place) → Has q past f p → Has q past g r → is_same f g ≡ true → p ≡ r
   has_one past f g p r h k same =
-      let alike = same_contents q (places_law q ok timely) past f g h.fired k.fired same in
+      let alike = same_contents q (places_law q ok timely) past f g h.stands.fired k.stands.fired same in
       one_home q (places_law q ok timely) past p r h.placed k.placed
-      (shows_on q.shape p f.place r h.shown (shows_back q.shape r f.place (ap (shows q.shape r) alike.0 ∙ k.shown)))
-      f.contents h.fired.filled h.fired.part h.inside
-      (λ d m. k.inside d (ap (λ (xs : List Datum). list_any (λ x. nat_eq x.turn d.turn) xs) (sym alike.1) ∙ m))
+      (shows_on q.shape p f.place r h.stands.shown (shows_back q.shape r f.place (ap (shows q.shape r) alike.0 ∙ k.stands.shown)))
+      f.contents h.stands.fired.filled h.stands.fired.part h.stands.inside
+      (λ d m. k.stands.inside d (ap (λ (xs : List Datum). list_any (λ x. nat_eq x.turn d.turn) xs) (sym alike.1) ∙ m))
 
   -- a firing in a pane that is live and one in a pane that isn't differ
   differ : (past : List Event) (m : ℤ) (f g : Firing) → IsIn q past m false f → IsIn q past m true g → Differ f g
@@ -90,7 +88,7 @@ module _ (q : Query) (ok : IsShape q.shape) (timely : SessionsByEvent q) (low : 
   standing_has : (past : List Event) (y : Place × List Datum) → IsPane q past y → (f : Firing) → standing q (firings_so_far q past) y.0 y.1 ≡ Some f → Has q past f y.0
   standing_has past y pane f is =
       let can : CanStand q past y.0 y.1 f = if_some (CanStand q past y.0 y.1) (standing q (firings_so_far q past) y.0 y.1) f (can_stand q (places_law q ok timely) past y.0 y.1) is in
-      record { fired = can.fired; placed = pane.1; shown = can.shown; inside = λ d m. ap (λ (xs : List Datum). list_any (λ x. nat_eq x.turn d.turn) xs) (sym pane.0) ∙ can.inside d m }
+      record { placed = pane.1; stands = subst (λ (ds : List Datum). CanStand q past y.0 ds f) pane.0 can }
 
   -- those that stand for some panes differ
   once_standing : (past : List Event) (ps : List (Place × List Datum)) → AllByRecursion (IsPane q past) ps → Apart ps → AreOnce (standing_for q past ps)
@@ -119,7 +117,7 @@ module _ (q : Query) (ok : IsShape q.shape) (timely : SessionsByEvent q) (low : 
 
   -- ---- after an event
 
-  dead_placed : (past : List Event) (e : Event) (p : Place) → among p (places q past) ≡ true → is_live_at q (mark q past) p ≡ false → among p (places q (e ∷ past)) ≡ true
+  dead_placed : DeadStay q
   dead_placed past e p placed dead = of_shape q.shape refl where
     of_shape : (shape : Shape) → q.shape ≡ shape → among p (places q (e ∷ past)) ≡ true
     of_shape (Fixed size) is = still_placed q ok (subst IsAssigned (sym is) tt) past e p placed
@@ -131,10 +129,12 @@ module _ (q : Query) (ok : IsShape q.shape) (timely : SessionsByEvent q) (low : 
   still_in past e f (p, h, dead) = (
     p,
     record {
-      fired = stays_firing q (places_law q ok timely) past e f h.fired;
       placed = dead_placed past e p h.placed dead;
-      shown = h.shown;
-      inside = λ d m. wider (is_there q p) (is_there q p) (λ x k. k) (selection_of q past e) (selected q past) d (h.inside d m);
+      stands = record {
+        fired = stays_firing q (places_law q ok timely) past e f h.stands.fired;
+        shown = h.stands.shown;
+        inside = λ d m. wider (is_there q p) (is_there q p) (λ x k. k) (selection_of q past e) (selected q past) d (h.stands.inside d m);
+      };
     },
     dead,
   )

@@ -21,12 +21,13 @@ use Rattle.wsm_windows.proofs.Places.{tie_is}
 use Rattle.wsm_semantics.specs.Query.{Query, Datum, selected}
 use Rattle.wsm_semantics.specs.Sessions.{sessions, links, session_of}
 use Rattle.wsm_semantics.specs.Panes.{of_key, is_there, contents}
-use Rattle.wsm_semantics.specs.Firings.{firings_by, holds, is_shown, shows}
+use Rattle.wsm_semantics.specs.Firings.{is_shown, shows}
 use Rattle.wsm_semantics.specs.Kept.{Kept, kept_in, merged, session_with, joined_to, joined_all, with_record}
 use Rattle.wsm_semantics.proofs.Lists.{all-each, filter_same}
 use Rattle.wsm_semantics.proofs.Tables.{among}
-use Rattle.wsm_semantics.proofs.Each.{all-any, filter-each, filter-filter, none_of}
+use Rattle.wsm_semantics.proofs.Each.{itself, all-any, filter-each, filter-filter, none_of}
 use Rattle.wsm_semantics.proofs.MergedRecords.{selected_falls, merged-filter}
+use Rattle.wsm_semantics.proofs.FiringsSoFar.{shown_alike}
 use Rattle.wsm_semantics.proofs.Sessions.{StartFrom, AreApart}
 use Rattle.wsm_semantics.proofs.SessionTimes.{covered, inside_is, inside_of_joined, none_after}
 use Rattle.wsm_semantics.proofs.SessionPlaces.{there_is, times_of, sessions_of}
@@ -74,12 +75,7 @@ of_times P k (x ∷ ds) h =
 
 -- for sessions, shown is shown by a firing of the key
 pub shown_by_key : (q : Query) (gap : ℤ) → q.shape ≡ Session gap → (past : List Event) (p r : Place) (d : Datum) → p.key ≡ r.key → is_shown q past p d ≡ is_shown q past r d
-shown_by_key q gap is [] p r d e = refl
-shown_by_key q gap is (x ∷ past) p r d e =
-    λ i. shown_by_key q gap is past p r d e i || list_any (λ f. alike f.place i && holds d f.contents) (firings_by (is_shown q past) q past x)
-  where
-    alike : (f : Place) → shows q.shape p f ≡ shows q.shape r f
-    alike f = subst (λ (s : Shape). shows s p f ≡ shows s r f) (sym is) (ap (λ (k : ℕ). nat_eq k f.key) e)
+shown_by_key q gap is past p r d e = shown_alike q past p r d (subst (λ (s : Shape). shows s p r ≡ true) (sym is) (ap (nat_eq p.key) (sym e) ∙ itself p.key))
 
 -- of the key, and inside one of the windows
 abbrev pub is_in_any : ℕ → List Window → Datum → Bool

@@ -1,9 +1,9 @@
 -- Sessions: where panes are, and how a selected record enters what is kept of them, with those that it
 -- is linked to.
-use Rattle.std.proofs.Common.{◌≡◌, ℕ, ◌≤◌, Bool, true, false, ◌&&◌, ◌||◌, not, List, [], ◌∷◌, ◌++◌, map, length, ℤ, pos, ◌+ℤ◌, ◌≤ℤ◌, inl, inr, Option, Some, None, refl, sym, ap, subst, ◌∙◌, arith}
+use Rattle.std.proofs.Common.{◌≡◌, ℕ, ◌≤◌, Bool, true, false, ◌&&◌, ◌||◌, not, List, [], ◌∷◌, map, length, ℤ, pos, ◌+ℤ◌, ◌≤ℤ◌, inl, inr, Option, Some, None, refl, sym, ap, subst, ◌∙◌, arith}
 use Rattle.std.proofs.lemmas.Int.{ints}
 use Rattle.std.proofs.lemmas.Bool.{true≢false, and_parts, and_from, or_left, or_right}
-use Rattle.std.specs.Prelude.{flat_map, nat_eq}
+use Rattle.std.specs.Prelude.{nat_eq}
 use Rattle.std.specs.List.{AllByRecursion, list_any}
 use Rattle.std.specs.Ordering.{eq_by_cmp}
 use Rattle.wsm_record.specs.declared.event.Value.{Value}
@@ -15,7 +15,7 @@ use Rattle.wsm_windows.specs.Windows.{has_inside}
 use Rattle.wsm_windows.specs.declared.place.Place.{Place}
 use Rattle.wsm_windows.specs.Places.{place_cmp, at, window_of}
 use Rattle.wsm_semantics.specs.Query.{Query, Datum, SessionsByEvent, datum, mark, verdict_on, selection, selected, selection_of}
-use Rattle.wsm_semantics.specs.Panes.{windows_among, places, is_there, is_live_at, contents, panes, held}
+use Rattle.wsm_semantics.specs.Panes.{places, is_there, is_live_at, contents, panes, held}
 use Rattle.wsm_semantics.specs.Firings.{shows}
 use Rattle.wsm_semantics.specs.Kept.{Kept, kept, kept_in, entered, is_linked, joined_to, joined_all, stands_in, stands_joined, with_record}
 use Rattle.wsm_semantics.proofs.Lists.{IsNonEmpty, all-each, some_pass}
@@ -28,11 +28,12 @@ use Rattle.wsm_semantics.proofs.SessionTimes.{IsOneOf, apart-filter, inside_of_j
 use Rattle.wsm_semantics.proofs.SessionPlaces.{one_of, times_of, sessions_of, there_is, has_record, inside_links}
 use Rattle.wsm_semantics.proofs.SessionStep.{among_places, among_linked, linked_held, ws, mine, linked, kept_linked, records_at, new_inside, put_records, contents_more, places_more, merged-kept}
 use Rattle.wsm_semantics.proofs.ShownPanes.{IsPane, each_among, each_pane}
-use Rattle.wsm_semantics.proofs.FiringsSoFar.{PlacesLaw, StaysIn, shows_itself, shows_key}
+use Rattle.wsm_semantics.proofs.FiringsSoFar.{PlacesLaw, ShareNone, Stay, StaysIn, shows_itself, shows_key}
 use Rattle.wsm_semantics.proofs.StandingFirings.{joined_unfired, joined_stands}
 use Rattle.wsm_semantics.proofs.StandsTurn.{AreDistinct, IsTakenIn, TakesIn, stands-taken}
 use Rattle.wsm_semantics.proofs.KeptTurns.{kept_is, prompt}
 use Rattle.wsm_semantics.proofs.Effects.{by_effect, selects_one, selects_none}
+use Rattle.wsm_semantics.proofs.Turns.{places-same}
 use Rattle.wsm_semantics.proofs.EventTurns.{EntersPanes}
 
 of_one : (t : Window → Bool) (a : Window) (vs : List Window) → IsOneOf a vs → t a ≡ true → list_any t vs ≡ true
@@ -58,6 +59,10 @@ pub joined_all_stands : (d : Datum) (es : List (Place × Kept)) → (with_record
 joined_all_stands d [] = refl
 joined_all_stands d (e ∷ es) = joined_to_stands d e.1 (joined_all es) ∙ ap (stands_joined e.1.stands) (joined_all_stands d es)
 
+-- a place that isn't live stays one
+abbrev pub DeadStay : Query → Type 0
+DeadStay q = (past : List Event) (e : Event) (p : Place) → among p (places q past) ≡ true → is_live_at q (mark q past) p ≡ false → among p (places q (e ∷ past)) ≡ true
+
 module _ (q : Query) (timely : SessionsByEvent q) (gap : ℤ) (is : q.shape ≡ Session gap) (long : pos 1 ≤ℤ gap) where
   filled : (past : List Event) → AllByRecursion (λ e. IsNonEmpty e.1) (panes q past)
   filled past =
@@ -65,7 +70,7 @@ module _ (q : Query) (timely : SessionsByEvent q) (gap : ℤ) (is : q.shape ≡ 
       (λ e pane. subst IsNonEmpty (sym pane.0) (some_pass (is_there q e.0) (selected q past) ((λ i. list_any (λ d. there_is q gap is e.0 d i) (selected q past)) ∙ has_record gap (selected q past) long e.0 (sym (among_places q gap is long past e.0) ∙ pane.1))))
       (each_pane q past)
 
-  apart : (past : List Event) (p r : Place) → among p (places q past) ≡ true → among r (places q past) ≡ true → shows q.shape p r ≡ true → (d : Datum) → is_there q p d ≡ true → is_there q r d ≡ true → p ≡ r
+  apart : ShareNone q
   apart past p r placed_p placed_r shown d in_p in_r =
       let ds : List Datum = selected q past in
       let key : p.key ≡ r.key = shows_key q.shape p r shown in
@@ -173,10 +178,7 @@ module _ (q : Query) (timely : SessionsByEvent q) (gap : ℤ) (is : q.shape ≡ 
 
   -- ---- any event
 
-  places_same : (past : List Event) (e : Event) → selection_of q past e ≡ [] → places q (e ∷ past) ≡ places q past
-  places_same past e none = ap (λ (ds : List Datum). flat_map (λ d. map (at d.key) (windows_among q.shape q.clock.lateness (ds ++ selected q past) d)) (ds ++ selected q past)) none
-
-  stays_placed : (past : List Event) (e : Event) (p : Place) → among p (places q past) ≡ true → StaysIn q past e p
+  stays_placed : Stay q
   stays_placed past e p h =
       by_effect q past (λ e _. StaysIn q past e p)
       (λ k t vs taken selects. stays_with past k t vs taken selects p h (is_linked gap (datum (length past) (mark q past) k t vs) p) refl)
@@ -185,10 +187,9 @@ module _ (q : Query) (timely : SessionsByEvent q) (gap : ℤ) (is : q.shape ≡ 
       e
     where
       same : (e : Event) → selection_of q past e ≡ [] → StaysIn q past e p
-      same e none = (p, ap (among p) (places_same past e none) ∙ h, shows_itself q.shape p, λ d k. k)
+      same e none = (p, ap (among p) (places-same q past e none) ∙ h, shows_itself q.shape p, λ d k. k)
 
-  -- a place that isn't live stays one
-  pub dead_stays : (past : List Event) (e : Event) (p : Place) → among p (places q past) ≡ true → is_live_at q (mark q past) p ≡ false → among p (places q (e ∷ past)) ≡ true
+  pub dead_stays : DeadStay q
   dead_stays past e p h dead =
       by_effect q past (λ e _. among p (places q (e ∷ past)) ≡ true)
       (λ k t vs taken selects.
@@ -202,7 +203,7 @@ module _ (q : Query) (timely : SessionsByEvent q) (gap : ℤ) (is : q.shape ≡ 
       e
     where
       same : (e : Event) → selection_of q past e ≡ [] → among p (places q (e ∷ past)) ≡ true
-      same e none = ap (among p) (places_same past e none) ∙ h
+      same e none = ap (among p) (places-same q past e none) ∙ h
 
   pub session_places : PlacesLaw q
   session_places = record { filled = filled; apart = apart; stays = stays_placed }

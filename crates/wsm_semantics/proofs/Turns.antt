@@ -13,7 +13,7 @@ use Rattle.wsm_windows.specs.declared.window.Shape.TheVariants.{Fixed, Sliding, 
 use Rattle.wsm_windows.specs.Windows.{has_inside}
 use Rattle.wsm_windows.specs.Places.{at, window_of}
 use Rattle.wsm_semantics.specs.Query.{Query, Datum, Effect, Nothing, effect_of, mark, selected, selection_of}
-use Rattle.wsm_semantics.specs.Panes.{is_there, stands_in, panes, held, is_live_at, windows_among, with_contents}
+use Rattle.wsm_semantics.specs.Panes.{is_there, stands_in, places, contents, panes, held, is_live_at, windows_among, with_contents}
 use Rattle.wsm_semantics.specs.Firings.{firings, fire, is_shown, kind_on_watermark}
 use Rattle.wsm_semantics.proofs.Lists.{filter_map_none}
 
@@ -33,6 +33,12 @@ panes_of q ds = with_contents (λ p. filter (is_there q p) ds) (flat_map (λ d. 
 module _ (q : Query) (past : List Event) where
   pub panes-same : (e : Event) → selection_of q past e ≡ [] → panes q (e ∷ past) ≡ panes q past
   panes-same e none = ap (λ (ds : List Datum). panes_of q (ds ++ selected q past)) none
+
+  pub places-same : (e : Event) → selection_of q past e ≡ [] → places q (e ∷ past) ≡ places q past
+  places-same e none = ap (λ (ds : List Datum). flat_map (λ d. map (at d.key) (windows_among q.shape q.clock.lateness (ds ++ selected q past) d)) (ds ++ selected q past)) none
+
+  pub contents-same : (e : Event) → selection_of q past e ≡ [] → (p : Place) → contents q (e ∷ past) p ≡ contents q past p
+  contents-same e none p = ap (λ (ds : List Datum). filter (is_there q p) (ds ++ selected q past)) none
 
   -- an event that selects nothing and leaves the watermark leaves the panes that are held
   pub held-same : (e : Event) → selection_of q past e ≡ [] → mark q (e ∷ past) ≡ mark q past → held q (e ∷ past) ≡ held q past

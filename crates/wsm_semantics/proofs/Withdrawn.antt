@@ -1,24 +1,24 @@
 -- What an event withdraws was written of those firings that stood for held panes and are lost: where a
 -- pane fires, and where it is joined with another that fired.
-use Rattle.std.proofs.Common.{◌≡◌, ℕ, Bool, true, false, cond, not, List, [], ◌∷◌, ◌++◌, map, ℤ, Option, Some, None, is_some, refl, sym, ap, ◌∙◌}
+use Rattle.std.proofs.Common.{◌≡◌, ℕ, Bool, true, false, cond, not, List, [], ◌∷◌, ℤ, Option, Some, None, is_some, refl, sym, ap, ◌∙◌}
 use Rattle.std.proofs.lemmas.Bool.{and_from}
-use Rattle.std.specs.Prelude.{filter, filter_map, flat_map, option_and_then}
+use Rattle.std.specs.Prelude.{filter, filter_map, option_and_then}
 use Rattle.std.specs.Option.{IfSome}
 use Rattle.std.specs.List.{AllByRecursion, cons_option, list_any}
 use Rattle.wsm_record.specs.declared.cell.Cell.{Cell}
 use Rattle.wsm_record.specs.Event.{Event, Watermark}
 use Rattle.wsm_windows.specs.declared.window.PaneKind.{PaneKind}
 use Rattle.wsm_windows.specs.declared.place.Place.{Place}
-use Rattle.wsm_windows.specs.Places.{at}
-use Rattle.wsm_semantics.specs.Query.{Query, Datum, Effect, Nothing, effect_of, mark, selection, selected, selection_of}
-use Rattle.wsm_semantics.specs.Panes.{windows_among, places, is_there, is_live_at, contents, panes, held}
+use Rattle.wsm_semantics.specs.Query.{Query, Datum, Effect, Nothing, effect_of, mark, selection, selection_of}
+use Rattle.wsm_semantics.specs.Panes.{places, is_live_at, contents, panes, held}
 use Rattle.wsm_semantics.specs.Firings.{Firing, firings_so_far, kind_on}
 use Rattle.wsm_semantics.specs.StandingFirings.{candidates, greatest_of, standing}
 use Rattle.wsm_semantics.specs.Retractions.{panes_before_drops, standing_for, is_same, withdrawn, written_of}
-use Rattle.wsm_semantics.specs.Kept.{Kept, kept, kept_in, stands_in, stands_by, written_by, kind_by_watermark, withdrawn_by_watermark}
+use Rattle.wsm_semantics.specs.Kept.{Kept, kept, kept_in, stands_in, stands_by, written_by, kind_by_watermark, withdrawn_by_record, withdrawn_by_watermark}
 use Rattle.wsm_semantics.proofs.Lists.{all-each, filter_map_none}
 use Rattle.wsm_semantics.proofs.Tables.{among}
 use Rattle.wsm_semantics.proofs.Effects.{selects_none}
+use Rattle.wsm_semantics.proofs.Turns.{places-same, contents-same}
 use Rattle.wsm_semantics.proofs.Assigned.{tied}
 use Rattle.wsm_semantics.proofs.Each.{itself, all-any, all-passed, filter_map-each, filter_map-map}
 use Rattle.wsm_semantics.proofs.ShownPanes.{IsPane, each_pane, kind_of, kind-watermark, unshown_of}
@@ -76,9 +76,6 @@ written-standing q past p all =
 
 -- ---- the held panes
 
-pub places_same : (q : Query) (past : List Event) (e : Event) → selection_of q past e ≡ [] → places q (e ∷ past) ≡ places q past
-places_same q past e none = ap (λ (ds : List Datum). flat_map (λ d. map (at d.key) (windows_among q.shape q.clock.lateness (ds ++ selected q past) d)) (ds ++ selected q past)) none
-
 -- a pane that is held
 pub record IsHeld (q : Query) (past : List Event) (x : Place × List Datum) : Type 0 where
   pub all : x.1 ≡ contents q past x.0
@@ -95,8 +92,17 @@ each_held q past =
 abbrev pub written_withdrawn : Query → List Event → Event → List (Place × List Cell)
 written_withdrawn q past e = filter_map (written_of q) (withdrawn q past e)
 
+-- that is what a machine that keeps panes withdraws by a record
+abbrev pub IsWithdrawn : Query → List Event → Event → Datum → Type 0
+IsWithdrawn q past e d = written_withdrawn q past e ≡ withdrawn_by_record q (mark q past) d (kept q past)
+
 pub itself_same : (f : Firing) → is_same f f ≡ true
 itself_same f = and_from _ _ (itself f.turn) (tied f.place f.place refl)
+
+-- what stands still, unless the pane fires
+pub fires_or : (b c : Bool) → c ≡ true → cond b false c ≡ not b
+fires_or true c h = refl
+fires_or false c h = h
 
 module _ (q : Query) (law : PlacesLaw q) (past : List Event) (e : Event) where
   -- the firings that stand after the event
@@ -119,10 +125,6 @@ module _ (q : Query) (law : PlacesLaw q) (past : List Event) (e : Event) where
       ∙ filter_map-each _ _ (held q past)
       (all-any _ (λ x. then-chosen (written_of q) (lost x) (stood x) ∙ ap (λ (o : Option (Place × List Cell)). cond (lost x) o None) (written-standing q past x.0 x.1)) (held q past))
 
-  fires_or : (b c : Bool) → c ≡ true → cond b false c ≡ not b
-  fires_or true c h = refl
-  fires_or false c h = h
-
   -- a pane that the event leaves as it was loses what stood for it where it fires
   pub loses_fired : (x : Place × List Datum) → IsHeld q past x → among x.0 (places q (e ∷ past)) ≡ true → contents q (e ∷ past) x.0 ≡ contents q past x.0 →
       Loses (λ x. is_some (kind_of q past e x.0 (contents q (e ∷ past) x.0))) x
@@ -138,16 +140,13 @@ module _ (q : Query) (law : PlacesLaw q) (past : List Event) (e : Event) where
   -- an event that selects nothing withdraws what stood for the panes that fire
   module _ (none : selection_of q past e ≡ []) where
     still_there : (p : Place) → among p (places q past) ≡ true → among p (places q (e ∷ past)) ≡ true
-    still_there p h = ap (among p) (places_same q past e none) ∙ h
-
-    still_has : (p : Place) → contents q (e ∷ past) p ≡ contents q past p
-    still_has p = ap (λ (ds : List Datum). filter (is_there q p) (ds ++ selected q past)) none
+    still_there p h = ap (among p) (places-same q past e none) ∙ h
 
     pub withdrawn-unselected : written_withdrawn q past e ≡ filter_map (λ x. cond (is_some (kind_of q past e x.0 (contents q (e ∷ past) x.0))) (written_by q x.0 (stands_in q past x.0 x.1)) None) (held q past)
     withdrawn-unselected =
         withdrawn-lost (λ x. is_some (kind_of q past e x.0 (contents q (e ∷ past) x.0)))
         (all-each (IsHeld q past) (Loses (λ x. is_some (kind_of q past e x.0 (contents q (e ∷ past) x.0)))) (held q past)
-        (λ x h. loses_fired x h (still_there x.0 h.placed) (still_has x.0)) (each_held q past))
+        (λ x h. loses_fired x h (still_there x.0 h.placed) (contents-same q past e none x.0)) (each_held q past))
 
 -- an event that does nothing withdraws nothing
 pub withdrawn-nothing : (q : Query) (law : PlacesLaw q) (past : List Event) (e : Event) → effect_of q past e ≡ Nothing → written_withdrawn q past e ≡ []
@@ -164,7 +163,7 @@ withdrawn-watermark q law past o t =
     ∙ filter_map-each _ (λ x. fired_written (kept_in q past x)) (held q past)
     (all-each (IsHeld q past) _ (held q past)
     (λ x h. ap (λ (ds : List Datum). cond (is_some (kind_of q past (Watermark o t) x.0 ds)) (written_by q x.0 (stands_in q past x.0 x.1)) None)
-    (ap (λ (ds : List Datum). filter (is_there q x.0) (ds ++ selected q past)) (selects_none q past o t) ∙ sym h.all)
+    (contents-same q past (Watermark o t) (selects_none q past o t) x.0 ∙ sym h.all)
     ∙ ap (λ (k : Option PaneKind). cond (is_some k) (written_by q x.0 (stands_in q past x.0 x.1)) None) (kind-watermark q past o t x.0 x.1))
     (each_held q past))
     ∙ sym (filter_map-map fired_written (kept_in q past) (held q past))

@@ -20,7 +20,7 @@ use Rattle.wsm_semantics.specs.Panes.{places, contents, held, is_live_at}
 use Rattle.wsm_semantics.specs.Firings.{Firing, firings_so_far}
 use Rattle.wsm_semantics.specs.StandingFirings.{standing}
 use Rattle.wsm_semantics.specs.Retractions.{is_same}
-use Rattle.wsm_semantics.specs.Kept.{Kept, kept, kept_in, entered, stands_in, kind_by_record, written_by, withdrawn_entering, withdrawn_firing, withdrawn_by_record}
+use Rattle.wsm_semantics.specs.Kept.{Kept, kept, kept_in, entered, stands_in, kind_by_record, written_by, withdrawn_entering, withdrawn_firing}
 use Rattle.wsm_semantics.proofs.Lists.{all-each}
 use Rattle.wsm_semantics.proofs.Tables.{among, keyed, find-keyed, is_sorted-keyed, find-held, is_sorted-held}
 use Rattle.wsm_semantics.proofs.Assigned.{IsAssigned}
@@ -30,7 +30,7 @@ use Rattle.wsm_semantics.proofs.ShownPanes.{kind_of}
 use Rattle.wsm_semantics.proofs.AssignedTurns.{still_placed, assigned_places, stands_on, standing_on, stands_first, enters_assigned}
 use Rattle.wsm_semantics.proofs.EventTurns.{record_kind}
 use Rattle.wsm_semantics.proofs.StandsStill.{any_of, stands_now}
-use Rattle.wsm_semantics.proofs.Withdrawn.{IsHeld, now, Loses, each_held, itself_same, chosen_none, withdrawn-lost, written_withdrawn}
+use Rattle.wsm_semantics.proofs.Withdrawn.{IsHeld, now, Loses, each_held, itself_same, fires_or, chosen_none, withdrawn-lost, IsWithdrawn}
 
 pub none_entering : (q : Query) (shape : Shape) → IsAssigned shape → (d : Datum) (panes : List (Place × Kept)) → withdrawn_entering q shape d panes ≡ []
 none_entering q (Fixed size) a d panes = refl
@@ -59,10 +59,6 @@ module _ (q : Query) (ok : IsShape q.shape) (is_assigned : IsAssigned q.shape) (
   abbrev fires : Place → Bool
   fires p = is_some (kind_of q past e p (contents q (e ∷ past) p))
 
-  stays_or_not : (b c : Bool) → c ≡ true → cond b false c ≡ not b
-  stays_or_not true c h = refl
-  stays_or_not false c h = h
-
   loses : (x : Place × List Datum) → IsHeld q past x → Loses q law past e (λ x. fires x.0) x
   loses x h = by_stood (standing q (firings_so_far q past) x.0 x.1) refl where
     there : among x.0 (places q (e ∷ past)) ≡ true
@@ -73,7 +69,7 @@ module _ (q : Query) (ok : IsShape q.shape) (is_assigned : IsAssigned q.shape) (
     by_stood (Some f) stood =
         let before : standing q (firings_so_far q past) x.0 (contents q past x.0) ≡ Some f = ap (standing q (firings_so_far q past) x.0) (sym h.all) ∙ stood in
         stands_now q law past e x.0 x.0 there h.live (shows_itself q.shape x.0) (λ d k. k) f before
-        ∙ stays_or_not (fires x.0) (any_of (is_same f) (standing q (firings_so_far q past) x.0 (contents q (e ∷ past) x.0)))
+        ∙ fires_or (fires x.0) (any_of (is_same f) (standing q (firings_so_far q past) x.0 (contents q (e ∷ past) x.0)))
         (ap (any_of (is_same f)) (standing_on q ok is_assigned past e x.0 there h.placed ∙ before) ∙ itself_same f)
 
   -- what was written of the firings that stand for the chosen ones of some panes
@@ -144,7 +140,7 @@ module _ (q : Query) (ok : IsShape q.shape) (is_assigned : IsAssigned q.shape) (
       (each_held q (e ∷ past)))
 
   -- what it withdraws
-  pub withdrawn-assigned : written_withdrawn q past e ≡ withdrawn_by_record q (mark q past) d (kept q past)
+  pub withdrawn-assigned : IsWithdrawn q past e d
   withdrawn-assigned =
       withdrawn-lost q law past e (λ x. fires x.0) (all-each (IsHeld q past) (Loses q law past e (λ x. fires x.0)) (held q past) loses (each_held q past))
       ∙ of_before fires

@@ -23,7 +23,7 @@ use Rattle.wsm_semantics.specs.Panes.{places, is_there, contents, held}
 use Rattle.wsm_semantics.specs.Firings.{Firing, firings_so_far, kind_on_record}
 use Rattle.wsm_semantics.specs.StandingFirings.{candidates, standing}
 use Rattle.wsm_semantics.specs.Retractions.{is_same}
-use Rattle.wsm_semantics.specs.Kept.{Kept, Stands, Unfired, Firing as Stood, Joined, kept, kept_in, stands_joined, is_linked, joined_all, with_record, merged_session, session_with, kind_by_record, written_by, parted, parted_by, withdrawn_entering, withdrawn_firing, withdrawn_by_record, entered}
+use Rattle.wsm_semantics.specs.Kept.{Kept, Stands, Unfired, Firing as Stood, Joined, kept, kept_in, stands_joined, is_linked, joined_all, with_record, merged_session, session_with, kind_by_record, written_by, parted, parted_by, withdrawn_entering, withdrawn_firing, entered}
 use Rattle.wsm_semantics.proofs.Lists.{all-each}
 use Rattle.wsm_semantics.proofs.Tables.{among}
 use Rattle.wsm_semantics.proofs.Each.{all-any, filter_map-each, filter_map-filter, filter_map-map, passed}
@@ -38,7 +38,7 @@ use Rattle.wsm_semantics.proofs.KeptTurns.{prompt}
 use Rattle.wsm_semantics.proofs.Effects.{selects_one}
 use Rattle.wsm_semantics.proofs.EventTurns.{EntersPanes, record_kind}
 use Rattle.wsm_semantics.proofs.StandsStill.{any_of, stands_now}
-use Rattle.wsm_semantics.proofs.Withdrawn.{IsHeld, now, Loses, each_held, itself_same, loses_fired, withdrawn-lost, written_withdrawn}
+use Rattle.wsm_semantics.proofs.Withdrawn.{IsHeld, now, Loses, each_held, itself_same, loses_fired, withdrawn-lost, IsWithdrawn}
 
 -- ---- parts that are joined
 
@@ -342,7 +342,7 @@ module _ (q : Query) (timely : SessionsByEvent q) (gap : ℤ) (is : q.shape ≡ 
   stands_joined_all = joined_all_stands d links
 
   -- what it withdraws
-  pub withdrawn-session : written_withdrawn q past e ≡ withdrawn_by_record q (mark q past) d (kept q past)
+  pub withdrawn-session : IsWithdrawn q past e d
   withdrawn-session =
       withdrawn-lost q law past e lost each_loses
       ∙ sym (filter_map-map (λ x. cond (is_linked gap d x.0 && (fires || is_parted stands)) (written q x) None) (kept_in q past) (held q past))

@@ -78,13 +78,17 @@ is_row_of keys (Pane kind key window columns) = keys (Some key)
 is_row_of keys (Retract key window columns) = keys (Some key)
 is_row_of keys _ = false
 
+-- each event has the verdict that it has in the whole
+abbrev pub SameVerdicts : Query → Keys → Type 0
+SameVerdicts q keys = (past : List Event) (e : Event) → HasRoom q (e ∷ past) → verdict_on q (of_keys keys past) e ≡ verdict_on q past e
+
 -- a part of a history in which none is refused for RECORDS is such a history, and so may be parted again;
 -- it has the watermark of the whole, each event has the verdict that it has there, and for the keys of
 -- the part the same is held, and on the turn of each of its events the same fires; on that of another nothing
 pub record ByKey (q : Query) (keys : Keys) : Type 0 where
   pub room : (past : List Event) → HasRoom q past → HasRoom q (of_keys keys past)
   pub mark : (past : List Event) → mark q (of_keys keys past) ≡ mark q past
-  pub verdict : (past : List Event) (e : Event) → HasRoom q (e ∷ past) → verdict_on q (of_keys keys past) e ≡ verdict_on q past e
+  pub verdict : SameVerdicts q keys
   pub held : (past : List Event) → HasRoom q past → filter (λ p. is_at keys p.0) (held q past) ≡ map (pane_at (turn_of keys past)) (held q (of_keys keys past))
   pub firings : (past : List Event) (e : Event) → HasRoom q (e ∷ past) →
       filter (λ f. is_at keys f.place) (firings q past e) ≡ where_of keys e (map (firing_at (turn_of keys past)) (firings q (of_keys keys past) e))
@@ -125,15 +129,22 @@ rows_of_stream form.Rstream mark gained lost all = map (Rstream mark) all
 abbrev pub StreamsWrite : Query → Type 0
 StreamsWrite q = (past : List Event) (e : Event) → q.form ≢ form.Panes → raises q past e ≡ true → turn_rows q past e ≡ rows_of_stream q.form (mark q (e ∷ past)) (gains q past e) (losses q past e) (relation q (e ∷ past))
 
+-- the relation has the rows of those of all parts
+abbrev pub RelationsAddUp : Query → List Keys → Type 0
+RelationsAddUp q parts = (past : List Event) → HasRoom q past → relation q past ≡ sorted_rows (of_parts parts past (relation q))
+
+-- at a rise, rows of the whole are those of the parts, each as often as other rows of theirs don't have it
+abbrev pub AreNetted : (Query → List Event → Event → List (List Cell)) → (Query → List Event → Event → List (List Cell)) → Query → List Keys → Type 0
+AreNetted rows others q parts = (past : List Event) (e : Event) → HasRoom q (e ∷ past) → raises q past e ≡ true →
+    rows q past e ≡ netted (of_parts parts past (λ part. rows q part e)) (of_parts parts past (λ part. others q part e))
+
 -- where each key is of one of some parts, the relation has the rows of all of theirs; and at a rise it
 -- gains what they gain, each row as often as they don't lose it then, and loses what they lose, as
 -- often as they don't gain it
 pub record PartsAddUp (q : Query) (parts : List Keys) : Type 0 where
-  pub together : (past : List Event) → HasRoom q past → relation q past ≡ sorted_rows (of_parts parts past (relation q))
-  pub gained : (past : List Event) (e : Event) → HasRoom q (e ∷ past) → raises q past e ≡ true →
-      gains q past e ≡ netted (of_parts parts past (λ part. gains q part e)) (of_parts parts past (λ part. losses q part e))
-  pub lost : (past : List Event) (e : Event) → HasRoom q (e ∷ past) → raises q past e ≡ true →
-      losses q past e ≡ netted (of_parts parts past (λ part. losses q part e)) (of_parts parts past (λ part. gains q part e))
+  pub together : RelationsAddUp q parts
+  pub gained : AreNetted gains losses q parts
+  pub lost : AreNetted losses gains q parts
 
 -- ---- the numbers of the end row
 
@@ -145,6 +156,10 @@ sum_of_parts parts past number = sum_by (λ keys. number (of_keys keys past)) pa
 abbrev pub no_keys : Keys
 no_keys key = false
 
+-- a number of the parts is together that of the whole
+abbrev pub AddsUp : Query → List Keys → (List Event → ℕ) → Type 0
+AddsUp q parts number = (past : List Event) → HasRoom q past → sum_of_parts parts past number ≡ number past
+
 -- a number of the parts is together that of the whole, where that of the watermarks is counted once for
 -- each part
 abbrev pub AddsUpButWatermarks : List Keys → List Event → (List Event → ℕ) → Type 0
@@ -154,10 +169,10 @@ AddsUpButWatermarks parts past number = sum_of_parts parts past number + number 
 -- and so many panes fired, as in the whole, but that each part has all watermarks
 pub record NumbersAddUp (q : Query) (parts : List Keys) : Type 0 where
   pub events : (past : List Event) → AddsUpButWatermarks parts past length
-  pub admitted : (past : List Event) → HasRoom q past → sum_of_parts parts past (admitted_count q.clock q.declared) ≡ admitted_count q.clock q.declared past
-  pub late : (past : List Event) → HasRoom q past → sum_of_parts parts past (late_count q.clock q.declared) ≡ late_count q.clock q.declared past
+  pub admitted : AddsUp q parts (admitted_count q.clock q.declared)
+  pub late : AddsUp q parts (late_count q.clock q.declared)
   pub refused : (past : List Event) → HasRoom q past → AddsUpButWatermarks parts past (refused_count q.clock q.declared)
-  pub fired : (past : List Event) → HasRoom q past → sum_of_parts parts past (λ part. length (firings_so_far q part)) ≡ length (firings_so_far q past)
+  pub fired : AddsUp q parts (λ part. length (firings_so_far q part))
 
 -- ---- another number of RECORDS
 
