@@ -28,7 +28,7 @@ use Rattle.wsm_bytecode.specs.Reading.{comparison_by, push_int_at, push_bool_at,
 use Rattle.wsm_program.proofs.Lawful.{HeaderParts, few_fields, header_parts}
 use Rattle.wsm_bytecode.proofs.Numbers.{bytes_again, byte_again, short_again, signed_again, judged_again}
 use Rattle.wsm_bytecode.proofs.Parts.{tag_again, below, several_again, enum_number_again, enum_is_small, start_again, span_again, size_again, names_again, fields_again, kinds_again, columns_again, budget_again}
-use Rattle.wsm_bytecode.proofs.Settings.{are_settings, are_settings_from, schema_parts}
+use Rattle.wsm_bytecode.proofs.Settings.{AreReadAgain, are_settings, are_settings_from, schema_parts}
 use Rattle.wsm_bytecode.proofs.Version1 as first
 use Rattle.wsm_bytecode.proofs.Version2 as second
 
@@ -103,7 +103,7 @@ few_below n h =
 -- a name's number is below 1,000, but that it fits two bytes is all that is asked
 pub record FewParts (h : Header) : Type 0 where
   pub fields : leb (length h.schema.fields) 16 ≡ true
-  pub kinds : leb (length h.kinds) 16 ≡ true
+  pub kinds : length h.kinds < 256
   pub names : (e i : ℕ) → is_name_of (enum_names h.schema e) i ≡ true → i < 65536
 
 test_again : (h : Header) → FewParts h → (x : FieldTest) (t : ℕ) (rest : List ℕ) → is_test h x ≡ true → ltb t 65536 ≡ true
@@ -142,7 +142,7 @@ instr_again v h few (PushEnum e i) rest good known =
     (judged_again (is_name_of (enum_names h.schema e)) (number_at w16 mid) i rest (short_again i rest (few.names e i good)) good))
 instr_again v h few (Field f) rest good known = instr_step v h 4 (byte f ++ rest) (Field f) rest (lit< tt) (index_again (length h.schema.fields) Field f rest (few_below _ few.fields) good)
 instr_again v h few Key rest good known = plain v h 5 Key rest (lit< tt) refl
-instr_again v h few (Acc a) rest good known = instr_step v h 6 (byte a ++ rest) (Acc a) rest (lit< tt) (index_again (length h.kinds) Acc a rest (few_below _ few.kinds) good)
+instr_again v h few (Acc a) rest good known = instr_step v h 6 (byte a ++ rest) (Acc a) rest (lit< tt) (index_again (length h.kinds) Acc a rest few.kinds good)
 instr_again v h few Count rest good known = plain v h 7 Count rest (lit< tt) refl
 instr_again v h few (Operate o) rest good known = plain v h (operation.code o) (Operate o) rest (operation_small o) (operation_again v h o rest)
 instr_again v h few (Jump t) rest good known = instr_step v h 48 (number t ++ rest) (Jump t) rest (lit< tt) (target_again Jump t rest good)
@@ -152,7 +152,7 @@ instr_again Two h few (Test x t) rest good known =
     let parts = and_parts (is_test h x) (ltb t 65536) good in
     ap (instr_at Two h) (regroup_5 (byte 50) (byte x.field) (byte (comparison_number x.comparison)) (signed x.number) (number t) rest)
     ∙ instr_step Two h 50 _ (Test x t) rest (lit< tt) (test_again h few x t rest parts.0 parts.1)
-instr_again v h few (Fold a) rest good known = instr_step v h 64 (byte a ++ rest) (Fold a) rest (lit< tt) (index_again (length h.kinds) Fold a rest (few_below _ few.kinds) good)
+instr_again v h few (Fold a) rest good known = instr_step v h 64 (byte a ++ rest) (Fold a) rest (lit< tt) (index_again (length h.kinds) Fold a rest few.kinds good)
 instr_again v h few Return rest good known = plain v h 80 Return rest (lit< tt) refl
 
 -- an instruction of a program that the version has
@@ -227,7 +227,7 @@ version_again One rest = version_step One 1 (magic ++ (byte 1 ++ rest)) (byte 1 
 version_again Two rest = version_step Two 2 (magic ++ (byte 2 ++ rest)) (byte 2 ++ rest) rest (magic_again (byte 2 ++ rest)) (byte_again 2 rest (lit< tt)) refl
 
 few_parts : (h : Header) → HeaderParts h → FewParts h
-few_parts h p = record { fields = few_fields h.schema p.schema; kinds = p.kinds; names = λ e i. names_below h.schema e i p.schema }
+few_parts h p = record { fields = few_fields h.schema p.schema; kinds = few_below _ p.kinds; names = λ e i. names_below h.schema e i p.schema }
 
 times_step : (t : Times) (bytes r1 r2 r3 rest : List ℕ)
     → judged (is_within (pos 0) latest_time) (signed_at bytes) ≡ Ok (t.start, r1) → judged is_span (signed_at r1) ≡ Ok (t.skew, r2)
@@ -247,7 +247,7 @@ times_again h rest p =
     ap times_at (regroup_4 (signed h.clock.start) (signed h.clock.skew) (signed h.clock.lateness) (signed h.clock.records) rest)
     ∙ times_step (times_in h.clock) (signed h.clock.start ++ r1) r1 r2 r3 rest (start_again h.clock.start r1 p.start) (span_again h.clock.skew r2 p.skew) (span_again h.clock.lateness r3 p.lateness) (size_again h.clock.records rest p.records)
 
-version_settings : (v : Version) (s : Settings) (rest : List ℕ) → are_settings s ≡ true → settings_at v (settings v s ++ rest) ≡ Ok (s, rest)
+version_settings : (v : Version) → AreReadAgain (settings v) (settings_at v)
 version_settings One s rest h = first.settings_again s rest h
 version_settings Two s rest h = second.settings_again s rest h
 
@@ -260,9 +260,6 @@ header_step v h bytes r1 r2 r3 r4 r5 r6 rest e1 e2 e3 e4 e5 e6 e7 sources =
     let counted : (Header × List ℕ) = (record h { clock = record h.clock { sources = source_count h.schema } }, rest) in
     let whole : counted ≡ (h, rest) = ap (λ n. (record h { clock = record h.clock { sources = n } }, rest)) sources in
     rw (e1, e2, e3, e4, e5, e6, e7) (ap (λ (x : Header × List ℕ). Ok x) whole)
-
-regroup_7 : (a b c d e f g rest : List ℕ) → a ++ b ++ c ++ d ++ e ++ f ++ g ++ rest ≡ a ++ (b ++ (c ++ (d ++ (e ++ (f ++ (g ++ rest))))))
-regroup_7 a b c d e f g rest = simp append_assoc refl
 
 -- the settings of a lawful header
 settings_of_header : (h : Header) → HeaderParts h → are_settings (settings_in h) ≡ true
@@ -281,7 +278,7 @@ header_again v h rest p =
     let r3 = settings v (settings_in h) ++ r4 in
     let r2 = times h.clock ++ r3 in
     let r1 = fields h.schema.fields ++ r2 in
-    ap (λ r. header_at v r) (regroup_7 (names h.schema.keys) (fields h.schema.fields) (times h.clock) (settings v (settings_in h)) (kinds h.kinds) (columns h.columns) (budget h.budget) rest)
+    ap (λ r. header_at v r) (second.regroup_7 (names h.schema.keys) (fields h.schema.fields) (times h.clock) (settings v (settings_in h)) (kinds h.kinds) (columns h.columns) (budget h.budget) rest)
     ∙ header_step v h (names h.schema.keys ++ r1) r1 r2 r3 r4 r5 r6 rest
     (names_again h.schema.keys r1 d.keys) (fields_again h.schema.fields r2 d.few d.fields) (times_again h r3 p) (version_settings v (settings_in h) r4 (settings_of_header h p))
     (kinds_again h.kinds r5 p.kinds) (columns_again h.schema h.columns r6 d.few p.count p.columns) (budget_again h.budget rest p.budget) (sym (eqb-true _ _ s.1))

@@ -1,5 +1,5 @@
 -- What a schema and the settings of a lawful header hold, part by part.
-use Rattle.std.proofs.Common.{leb, ◌≡◌, ◌<◌, ◌≤◌, true, ◌&&◌, ℕ, zero, suc, [], length, Bool, false, refl, arith}
+use Rattle.std.proofs.Common.{leb, ◌≡◌, ◌<◌, ◌≤◌, true, ◌&&◌, ℕ, zero, suc, List, [], ◌++◌, length, Ok, Bool, false, refl, arith}
 use Rattle.std.specs.Prelude.{nat_eq}
 use Rattle.std.proofs.lemmas.Bool.{leb-true, and_parts, and_from}
 use Rattle.wsm_record.specs.Modes.{may_write}
@@ -7,6 +7,7 @@ use Rattle.wsm_record.specs.Name.{is_between}
 use Rattle.wsm_record.specs.Schema.{Declared, is_name_list, are_fields_after, is_source_count, are_sources, is_schema}
 use Rattle.wsm_program.specs.Program.{is_span, is_shape, is_late_by}
 use Rattle.wsm_bytecode.specs.Parts.{Settings}
+use Rattle.wsm_bytecode.specs.Steps.{Read}
 
 pub record SchemaParts (s : Declared) : Type 0 where
   pub keys : is_name_list s.keys ≡ true
@@ -24,6 +25,10 @@ schema_parts s h =
 
 abbrev pub are_settings : Settings → Bool
 are_settings s = is_late_by s.shape s.late_by && (are_sources s.sources && (is_shape s.shape && (is_span s.early && (is_span s.late && may_write s.mode s.form))))
+
+-- settings that were spelled are read again
+abbrev pub AreReadAgain : (Settings → List ℕ) → (List ℕ → Read Settings) → Type 0
+AreReadAgain spelled read = (s : Settings) (rest : List ℕ) → are_settings s ≡ true → read (spelled s ++ rest) ≡ Ok (s, rest)
 
 pub record SettingsParts (s : Settings) : Type 0 where
   pub late_by : is_late_by s.shape s.late_by ≡ true

@@ -3,7 +3,7 @@ use Rattle.std.proofs.Common.{leb, Option, None, Some, ◌≡◌, ℕ, zero, suc
 use Rattle.std.specs.Prelude.{◌==◌, nat_eq, bytes_eq, option_map, slice_get}
 use Rattle.std.specs.List.{list_all, flat_map}
 use Rattle.std.specs.Int.{w8, w16}
-use Rattle.std.proofs.lemmas.Bool.{le-leb, eqb-true, and_parts, and_from}
+use Rattle.std.proofs.lemmas.Bool.{le-leb, eqb-true, eq-eqb, and_parts, and_from}
 use Rattle.std.proofs.lemmas.Slice.Eq.{bytes_eq-Decides}
 use Rattle.wsm_program.specs.declared.refusal.DecodeRefusal.TheVariants.{BadMagic}
 use Rattle.wsm_program.specs.declared.instr.Instr.{Instr}
@@ -342,9 +342,6 @@ header_joined v keys fs t s ks ts b bytes r1 r2 r3 r4 r5 r6 rest e0 e1 e2 e3 e4 
     let q1 = e1 ∙ ap (λ r. fields fs ++ r) q2 in
     e0 ∙ ap (λ r. names keys ++ r) q1 ∙ regroup_7 (names keys) (fields fs) (times_bytes t) (settings v s) (kinds ks) (columns ts) (budget b) rest
 
-same_count : (n : ℕ) → nat_eq n n ≡ true
-same_count n = grind arith
-
 lawful_made : (keys : List Name) (fs : List DeclaredField) (t : Times) (s : Settings) (ks : List Kind) (ts : List CellType) (b : Costs)
     → is_name_list keys ≡ true → (leb (length fs) 16 && are_fields_after [] fs) ≡ true → are_times t ≡ true → are_settings s ≡ true → leb (length ks) 16 ≡ true
     → (is_between 1 16 (length ts) && list_all (is_column (schema_of keys fs s)) ts) ≡ true → is_budget b ≡ true → is_header (made_of keys fs t s ks ts b) ≡ true
@@ -354,7 +351,7 @@ lawful_made keys fs t s ks ts b named fielded timed set few columned stated =
     let p = settings_parts s set in
     let d = schema_of keys fs s in
     and_from _ _ (and_from _ _ named (and_from _ _ f.0 (and_from _ _ f.1 p.sources)))
-    (and_from _ _ (and_from _ _ timed (and_from _ _ p.late_by (same_count (source_count d))))
+    (and_from _ _ (and_from _ _ timed (and_from _ _ p.late_by (eq-eqb (source_count d) (source_count d) refl)))
     (and_from _ _ (and_from _ _ p.shape (and_from _ _ p.early (and_from _ _ p.late p.form)))
     (and_from _ _ (and_from _ _ few columned) stated)))
 

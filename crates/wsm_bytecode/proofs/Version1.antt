@@ -22,7 +22,7 @@ use Rattle.wsm_bytecode.proofs.Parts.{tag_again, sources_again, windows_again, m
 use Rattle.wsm_bytecode.proofs.Taken.{IsBytes, bind_then, choose, ok_is, Took, Exact}
 use Rattle.wsm_bytecode.proofs.TakenParts.{tag_taken, sources_taken, TookWindows, windows_taken, mode_taken, triggers_bytes, triggers_taken, form_taken}
 use Rattle.wsm_bytecode.proofs.Lateness.{is_window, late_again, late_lawful}
-use Rattle.wsm_bytecode.proofs.Settings.{are_settings, settings_parts, are_settings_from, many_sources, count_of_many, few_sources}
+use Rattle.wsm_bytecode.proofs.Settings.{AreReadAgain, are_settings, settings_parts, are_settings_from, many_sources, count_of_many, few_sources}
 
 -- ---- what was spelled is read again
 
@@ -90,7 +90,7 @@ settings_step s bytes r1 r2 r3 rest e1 e2 e3 e4 = rw (e1, e2, e3, e4) refl
 regroup_5 : (a b c d e rest : List ℕ) → a ++ b ++ c ++ d ++ e ++ rest ≡ a ++ (b ++ (c ++ (d ++ (e ++ rest))))
 regroup_5 a b c d e rest = simp append_assoc refl
 
-pub settings_again : (s : Settings) (rest : List ℕ) → are_settings s ≡ true → settings_at (settings s ++ rest) ≡ Ok (s, rest)
+pub settings_again : AreReadAgain settings settings_at
 settings_again s rest h =
     let p = settings_parts s h in
     let r3 = output s.sources s.form ++ rest in

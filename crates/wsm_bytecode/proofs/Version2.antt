@@ -22,7 +22,7 @@ use Rattle.wsm_bytecode.proofs.Parts.{tag_again, sources_again, windows_again, m
 use Rattle.wsm_bytecode.proofs.Taken.{IsBytes, bind_then, ok_is, Took, Exact}
 use Rattle.wsm_bytecode.proofs.TakenParts.{tag_taken, sources_taken, windows_taken, mode_taken, triggers_bytes, triggers_taken, form_taken}
 use Rattle.wsm_bytecode.proofs.Lateness.{is_window, late_again, tag_within, late_lawful}
-use Rattle.wsm_bytecode.proofs.Settings.{are_settings, settings_parts, are_settings_from, few_sources}
+use Rattle.wsm_bytecode.proofs.Settings.{AreReadAgain, are_settings, settings_parts, are_settings_from, few_sources}
 
 -- ---- what was spelled is read again
 
@@ -69,10 +69,10 @@ settings_step : (s : Settings) (b : Bool) (flag : ℕ) (bytes r1 r2 r3 r4 r5 res
 unfolding settings_at
 settings_step s b flag bytes r1 r2 r3 r4 r5 rest e1 e2 e3 e4 e5 e6 e7 = rw (e1, e2, e3, e4, e5, e6, e7) refl
 
-regroup_7 : (a b c d e f g rest : List ℕ) → a ++ b ++ c ++ d ++ e ++ f ++ g ++ rest ≡ a ++ (b ++ (c ++ (d ++ (e ++ (f ++ (g ++ rest))))))
+pub regroup_7 : (a b c d e f g rest : List ℕ) → a ++ b ++ c ++ d ++ e ++ f ++ g ++ rest ≡ a ++ (b ++ (c ++ (d ++ (e ++ (f ++ (g ++ rest))))))
 regroup_7 a b c d e f g rest = simp append_assoc refl
 
-pub settings_again : (s : Settings) (rest : List ℕ) → are_settings s ≡ true → settings_at (settings s ++ rest) ≡ Ok (s, rest)
+pub settings_again : AreReadAgain settings settings_at
 settings_again s rest h =
     let p = settings_parts s h in
     let names = and_parts (is_source_count (length s.sources)) (are_names_after [] s.sources) p.sources in
