@@ -4,6 +4,7 @@ use Rattle.std.proofs.lemmas.Int.{ints}
 use Rattle.std.proofs.lemmas.Bool.{true≢false}
 use Rattle.std.specs.Prelude.{Contains, int_lt, slice_get}
 use Rattle.std.specs.List.{AllByRecursion, list_any}
+use Rattle.std.proofs.lemmas.Option.{same_Some}
 use Rattle.wsm_windows.specs.declared.window.Window.{Window}
 use Rattle.wsm_windows.specs.Windows.{window, has_inside}
 use Rattle.wsm_semantics.specs.Sessions.{with_time, rising, with_earlier, sessions_of_rising, sessions, links}
@@ -319,9 +320,7 @@ module _ (gap : ℤ) where
     -- the window at a place
     one_at : (ws : List Window) (i : ℕ) (w : Window) → slice_get ws i ≡ Some w → IsOneOf w ws
     one_at [] i w h = absurd (cc)
-    one_at (v ∷ ws) zero w h = inl (sym (some_is v w h)) where
-      some_is : (v w : Window) → Some v ≡ Some w → v ≡ w
-      some_is v w h = cc
+    one_at (v ∷ ws) zero w h = inl (sym (same_Some v w h))
     one_at (v ∷ ws) (suc i) w h = inr (one_at ws i w h)
 
     pub class_at : (ts : List ℤ) (ws : List Window) → ws ≡ sessions gap ts → (i : ℕ) (w : Window) → slice_get ws i ≡ Some w → IsClass gap ts w

@@ -6,6 +6,7 @@ use Rattle.std.specs.Prelude.{filter, int_le, int_lt, insert, slice_get, slice_s
 use Rattle.std.specs.Int.{int_max, int_min}
 use Rattle.std.specs.List.{AllByRecursion, list_any, remove}
 use Rattle.std.specs.List.Sorted.{IsPartitionedBy}
+use Rattle.std.proofs.lemmas.Option.{same_Some}
 use Rattle.wsm_windows.specs.declared.window.Window.{Window}
 use Rattle.wsm_windows.specs.Windows.{window}
 use Rattle.wsm_semantics.specs.Sessions.{ends_by, starts_from, links, session_of, with_session}
@@ -119,24 +120,18 @@ apart_of gap long ws h = subst (AreApart gap) (sym h.are) (sessions_apart gap lo
 
 from_at : (e : ℤ) (ws : List Window) → StartFrom e ws → (j : ℕ) (v : Window) → slice_get ws j ≡ Some v → e ≤ℤ v.start
 from_at e [] f j v h = absurd (cc)
-from_at e (w ∷ ws) f zero v h = subst (λ (x : Window). e ≤ℤ x.start) (some_is w v h) f.0 where
-  some_is : (w v : Window) → Some w ≡ Some v → w ≡ v
-  some_is w v h = cc
+from_at e (w ∷ ws) f zero v h = subst (λ (x : Window). e ≤ℤ x.start) (same_Some w v h) f.0
 from_at e (w ∷ ws) f (suc j) v h = from_at e ws f.1 j v h
 
 pub lasts_at : (gap : ℤ) (ws : List Window) → AreApart gap ws → (i : ℕ) (w : Window) → slice_get ws i ≡ Some w → (w.start +ℤ gap) ≤ℤ w.end
 lasts_at gap [] a i w h = absurd (cc)
-lasts_at gap (x ∷ ws) a zero w h = subst (λ (y : Window). (y.start +ℤ gap) ≤ℤ y.end) (some_is x w h) a.0 where
-  some_is : (w v : Window) → Some w ≡ Some v → w ≡ v
-  some_is w v h = cc
+lasts_at gap (x ∷ ws) a zero w h = subst (λ (y : Window). (y.start +ℤ gap) ≤ℤ y.end) (same_Some x w h) a.0
 lasts_at gap (x ∷ ws) a (suc i) w h = lasts_at gap ws a.2 i w h
 
 pub behind_at : (gap : ℤ) (ws : List Window) → AreApart gap ws → (i : ℕ) (w : Window) → slice_get ws i ≡ Some w → (j : ℕ) (v : Window) → i < j → slice_get ws j ≡ Some v → w.end ≤ℤ v.start
 behind_at gap [] a i w h j v l k = absurd (cc)
 behind_at gap (x ∷ ws) a zero w h zero v l k = absurd (omega arith)
-behind_at gap (x ∷ ws) a zero w h (suc j) v l k = from_at w.end ws (subst (λ (y : Window). StartFrom y.end ws) (some_is x w h) a.1) j v k where
-  some_is : (w v : Window) → Some w ≡ Some v → w ≡ v
-  some_is w v h = cc
+behind_at gap (x ∷ ws) a zero w h (suc j) v l k = from_at w.end ws (subst (λ (y : Window). StartFrom y.end ws) (same_Some x w h) a.1) j v k
 behind_at gap (x ∷ ws) a (suc i) w h zero v l k = absurd (omega arith)
 behind_at gap (x ∷ ws) a (suc i) w h (suc j) v l k = behind_at gap ws a.2 i w h j v (omega arith) k
 
