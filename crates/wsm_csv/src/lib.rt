@@ -33,10 +33,12 @@ pub use rows::{ReadEnd, Rows};
 pub use text::{end_text, fault_text, refusal_text, row_text, rows_text};
 
 mod device;
+mod few_numbers;
 mod from_end;
 mod guarded;
 mod number;
 mod row;
 mod rows;
+mod short_line;
 mod text;
 mod window_text;

@@ -4,15 +4,17 @@
 //! call adds one line to a buffer; after a refusal of memory the buffer has what it had, and perhaps
 //! a beginning of the line.
 
-ghost use Rattle.std.specs.Prelude.{◌≡◌, ◌≤◌, ◌+◌, ◌*◌, ◌++◌, ◌∷◌, [], List, true, codes, drop, length, map, option_map, take, unwrap_or, OnOk};
+ghost use Rattle.std.specs.Prelude.{◌≡◌, ◌≤◌, ◌++◌, ◌∷◌, [], true, codes, length, map, option_map, unwrap_or, OnOk};
 ghost use Rattle.std.specs.List.{list_all};
 ghost use Rattle.std.specs.Fmt.{decimal, signed_decimal};
 ghost use Rattle.wsm_record.specs.Schema.{Declared};
 ghost use Rattle.wsm_semantics.specs.Lines.{Out, Faulty, Refused, End};
 ghost use Rattle.wsm_semantics.specs.Text as text;
-ghost use Rattle.wsm_csv.specs.Lines.{cells_text, is_a_number, number_text, window_cells};
+ghost use Rattle.wsm_csv.specs.Lines.{cells_text, is_a_number, number_text};
 
-use crate::from_end::{CELL, write_cell, write_text};
+use crate::few_numbers::{CELLS, TOGETHER, are_few_numbers, count_numbers, write_numbers};
+use crate::from_end::{CELL, write_cell};
+use crate::short_line::{FIRST, LINE, add_short_line, write_first};
 use crate::window_text::WindowText;
 use itoa::Buffer;
 use std::alloc::AllocError;
@@ -21,18 +23,6 @@ use wsm_record::limits::MAX_NAME;
 use wsm_record::{Cell, Columns, Names, RowFault, Schema};
 use wsm_semantics::{OutRow, Totals};
 use wsm_windows::{PaneKind, Window};
-
-// How many numbers of a row are written together with its window.
-const TOGETHER: usize = 4;
-
-// The most bytes of a window and those numbers.
-const CELLS: usize = (2 + TOGETHER) * CELL;
-
-// The most bytes of the first cells of a pane's row, with a comma.
-const FIRST: usize = 13;
-
-// The most bytes of the line of a pane whose columns are a few numbers.
-const LINE: usize = FIRST + MAX_NAME + CELLS + 1;
 
 /// Adds the lines of rows, in their order. A number that stands for no name is an empty cell.
 #[inline(always)]
@@ -50,8 +40,7 @@ pub fn rows_text(schema: &Schema, rows: &[OutRow], out: &mut Vec<u8>) -> Result<
 pub fn row_text(schema: &Schema, row: &OutRow, out: &mut Vec<u8>) -> Result<(), AllocError>
     ensures { OnOk result (out.new.items ≡ out.old.items ++ text.line_text schema.now (Out row.now)) }
 {
-    let mut last = no_window();
-    add_line(schema, row, &mut last, out)
+    add_line(schema, row, &mut no_window(), &mut [0; LINE], out)
 }
 
 /// Adds the line of a row that is no event.
@@ -86,8 +75,9 @@ fn add_rows(schema: &Schema, rows: &[OutRow], out: &mut Vec<u8>) -> Result<(), A
     ensures { OnOk result (out.new.items ≡ out.old.items ++ text.lines_text schema.now (map Out rows.now)) }
 {
     let mut last = no_window();
+    let mut line = [0; LINE];
     for row in rows {
-        add_line(schema, row, &mut last, out)?;
+        add_line(schema, row, &mut last, &mut line, out)?;
     }
     Ok(())
 }
@@ -97,12 +87,14 @@ fn no_window() -> WindowText {
     WindowText::of(Window { start: 0, end: 0 })
 }
 
-// The line of a row. The text is that of the window that was written last.
+// The line of a row. The text is that of the window that was written last, and a short line is put
+// together in the buffer.
 #[inline(always)]
 fn add_line(
     schema: &Schema,
     row: &OutRow,
     last: &mut WindowText,
+    line: &mut [u8; LINE],
     out: &mut Vec<u8>,
 ) -> Result<(), AllocError>
     ensures { OnOk result (out.new.items ≡ out.old.items ++ text.line_text schema.now (Out row.now)) }
@@ -118,32 +110,11 @@ fn add_line(
         let columns = columns.as_slice();
         if name.len() <= MAX_NAME && are_few_numbers(columns) {
             last.set(*window);
-            return add_short_line(*kind, name, last, columns, out);
+            return add_short_line(*kind, name, last, columns, line, out);
         }
     }
     add_row(schema, row, out)?;
     end_line(out)
-}
-
-// The line of a pane whose columns are a few numbers, in one piece.
-fn add_short_line(
-    kind: PaneKind,
-    name: &[u8],
-    window: &WindowText,
-    numbers: &[Cell],
-    out: &mut Vec<u8>,
-) -> Result<(), AllocError>
-    requires name { length name.now ≤ MAX_NAME }
-    requires numbers { list_all is_a_number numbers.now ≡ true }
-    requires few { length numbers.now ≤ TOGETHER }
-    ensures { OnOk result (out.new.items ≡ out.old.items ++ ((codes "pane" ++ 44 ∷ text.kind_word kind ++ 44 ∷ []) ++ (name.now ++ (cells_text (window_cells window.now ++ map number_text numbers.now) ++ 10 ∷ [])))) }
-{
-    let mut line = [b'\n'; LINE];
-    let columns = write_numbers(numbers, &mut line, LINE - 1);
-    let start = window.write(&mut line, columns);
-    let key = write_text(name, &mut line, start);
-    let first = write_first(kind, &mut line, key);
-    out.extend_from_slice(&line[first..])
 }
 
 // The cells of a row.
@@ -219,70 +190,6 @@ fn add_numbers(window: Window, numbers: &[Cell], out: &mut Vec<u8>) -> Result<()
     out.extend_from_slice(&cells[start..])
 }
 
-// How many numbers columns begin with, of those that are written together.
-#[tactic(auto, using(crate::proofs::LineLemmas::numbers_more))]
-fn count_numbers(columns: &[Cell]) -> usize
-    ensures few { result ≤ TOGETHER }
-    ensures within { result ≤ length columns.now }
-    ensures numbers { list_all is_a_number (take result columns.now) ≡ true }
-{
-    let most = columns.len().min(TOGETHER);
-    for place in 0..most {
-        if !is_number(columns[place]) {
-            return place;
-        }
-    }
-    most
-}
-
-// Whether columns are numbers, and no more than are written together.
-fn are_few_numbers(columns: &[Cell]) -> bool
-    ensures few { result ≡ true → length columns.now ≤ TOGETHER }
-    ensures numbers { result ≡ true → list_all is_a_number columns.now ≡ true }
-{
-    count_numbers(columns) == columns.len()
-}
-
-fn is_number(column: Cell) -> bool
-    ensures { result ≡ is_a_number column }
-{
-    matches!(column, Cell::Int(_))
-}
-
-// Writes a comma and a number for each of some numbers so that they end at a place, and tells where
-// they begin.
-#[inline(always)]
-fn write_numbers(numbers: &[Cell], cells: &mut [u8], end: usize) -> usize
-    requires numbers { list_all is_a_number numbers.now ≡ true }
-    requires room { length numbers.now * CELL ≤ end }
-    requires within { end ≤ length cells.old }
-    ensures start { end ≤ result + length numbers.now * CELL }
-    ensures begins { result ≤ end }
-    ensures written { drop result cells.new ≡ cells_text (map number_text numbers.now) ++ drop end cells.old }
-{
-    let mut start = end;
-    for place in (0..numbers.len()).rev() {
-        start = write_column(numbers[place], cells, start);
-    }
-    start
-}
-
-// Writes a comma and a number so that they end at a place, and tells where they begin.
-#[inline(always)]
-fn write_column(number: Cell, cells: &mut [u8], end: usize) -> usize
-    requires number { is_a_number number ≡ true }
-    requires room { CELL ≤ end }
-    requires within { end ≤ length cells.old }
-    ensures start { end ≤ result + CELL }
-    ensures begins { result ≤ end }
-    ensures written { drop result cells.new ≡ 44 ∷ number_text number ++ drop end cells.old }
-{
-    match number {
-        Cell::Int(number) => write_cell(number, cells, end),
-        _ => end,
-    }
-}
-
 // The cells of a row of a stream.
 fn add_stream(
     schema: &Schema,
@@ -337,23 +244,6 @@ fn add_number(number: i64, out: &mut Vec<u8>) -> Result<(), AllocError>
     let mut cell = [0; CELL];
     let start = write_cell(number, &mut cell, CELL);
     out.extend_from_slice(&cell[start..])
-}
-
-// Writes the first cells of the row of a pane that fires so, and a comma, so that they end at a
-// place, and tells where they begin. Each text has a length of its own that the compiler knows.
-#[inline(always)]
-fn write_first(kind: PaneKind, cells: &mut [u8], end: usize) -> usize
-    requires room { FIRST ≤ end }
-    requires within { end ≤ length cells.old }
-    ensures begins { result ≤ end }
-    ensures written { drop result cells.new ≡ (codes "pane" ++ 44 ∷ text.kind_word kind ++ 44 ∷ []) ++ drop end cells.old }
-{
-    match kind {
-        PaneKind::Early => write_text(b"pane,early,", cells, end),
-        PaneKind::OnTime => write_text(b"pane,on_time,", cells, end),
-        PaneKind::Late => write_text(b"pane,late,", cells, end),
-        PaneKind::Final => write_text(b"pane,final,", cells, end),
-    }
 }
 
 fn add_count(count: u64, out: &mut Vec<u8>) -> Result<(), AllocError>

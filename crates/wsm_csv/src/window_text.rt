@@ -54,8 +54,17 @@ impl WindowText {
         ensures { self.new ≡ window }
     {
         if self.window != window {
-            *self = WindowText::of(window);
+            self.renew(window);
         }
+    }
+
+    // Has it be the text of another window. Panes of one watermark mostly share theirs, so this stands
+    // by itself.
+    #[inline(never)]
+    fn renew(&mut self, window: Window)
+        ensures { self.new ≡ window }
+    {
+        *self = WindowText::of(window);
     }
 
     /// Writes the text so that it ends at a place, and tells where it begins. The places in front of it

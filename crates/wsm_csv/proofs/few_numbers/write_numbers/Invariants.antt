@@ -1,6 +1,6 @@
 use Rattle.std.proofs.Common.{◌≡◌, ◌+◌, ◌-◌, ◌*◌, ◌≤◌, ◌++◌, length, map, drop}
 use Rattle.wsm_csv.specs.Lines.{cells_text, number_text}
-use Rattle.wsm_csv.proofs.text.write_numbers.Given as goal
+use Rattle.wsm_csv.proofs.few_numbers.write_numbers.Given as goal
 
 -- those behind were written
 abbrev pub invariant-loop-place : goal.invariant-loop-place
