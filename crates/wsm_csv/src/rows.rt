@@ -54,11 +54,13 @@ impl<R: Read + Drop> Rows<R> {
         ensures ended { has_ended self.old ≡ true → result ≢ Ok true }
         ensures told { IfErr result (λ end. end ≡ read_end (error_of self.new)) }
     {
-        if self.left == 0 {
-            self.error = None;
-            return Err(ReadEnd::Memory);
+        match self.left.checked_sub(1) {
+            Some(left) => self.left = left,
+            None => {
+                self.error = None;
+                return Err(ReadEnd::Memory);
+            }
         }
-        self.left -= 1;
         match self.reader.read_byte_record(&mut self.row) {
             Ok(found) => Ok(found),
             Err(error) => {
