@@ -153,7 +153,7 @@ fn take_rows<R: Read + Drop, D: Device>(
 {
     let mut rows = Rows::new(alloc, reader);
     while rows.advance()? {
-        turns.take(alloc, rows.row())?;
+        turns.take(rows.row())?;
         turns.write(out)?;
     }
     Ok(())

@@ -9,11 +9,11 @@ use csv::ByteRecord;
 use std::alloc::{AllocError, Global};
 use wsm_admission::Refusal;
 use wsm_csv::{
-    Device, DeviceFault, RowRefusal, end_text, fault_text, read_row_into, refusal_text, rows_text,
+    Device, DeviceFault, EventReader, RowRefusal, end_text, fault_text, refusal_text, rows_text,
     write_out,
 };
 use wsm_engine::{Engine, Totals};
-use wsm_record::{Event, RowFault, Value};
+use wsm_record::RowFault;
 use wsm_verifier::Verified;
 
 /// What the turns so far come to: an engine, and the lines of the last turn.
@@ -21,10 +21,7 @@ use wsm_verifier::Verified;
 pub struct Turns {
     engine: Engine,
     lines: Vec<u8>,
-    // The event that was read last.
-    event: Event,
-    // Room for the values of the next record, where that event is none.
-    spare: Vec<Value>,
+    events: EventReader,
     // The rows that were no event.
     faults: u64,
 }
@@ -33,13 +30,13 @@ impl Turns {
     ghost use Rattle.std.specs.Prelude.{◌≡◌, ◌++◌, true, false, List, [], length, Ok, Err, IfOk, OnErr, OnOk};
     ghost use Rattle.std.specs.Io.KnownBytes.{Appends};
     ghost use Rattle.csv.specs.Records.{fields_of};
-    ghost use Rattle.wsm_record.specs.Event.{event_of};
     ghost use Rattle.wsm_admission.specs.Admission.{counter};
     ghost use Rattle.wsm_semantics.specs.Lines.{Row, end_line};
     ghost use Rattle.wsm_semantics.specs.Text.{line_text};
     ghost use Rattle.wsm_program.specs.Program.{Program};
     ghost use Rattle.wsm_machine.specs.Meaning.{query_of};
     ghost use Rattle.wsm_csv.specs.Cells.{event_of_cells};
+    ghost use Rattle.wsm_csv.specs.EventReader.{event_read};
     ghost use Rattle.wsm_csv.specs.Device.{TakesPart};
     ghost use Rattle.wsm.specs.Written.{line_of};
     ghost use Rattle.wsm.specs.Turns.{Adds, Ends, Fits, Turned};
@@ -54,22 +51,17 @@ impl Turns {
         Ok(Turns {
             engine,
             lines: Vec::new(alloc),
-            event: Event::Watermark {
-                source: None,
-                time: 0,
-            },
-            spare: Vec::new(alloc),
+            events: EventReader::new(alloc),
             faults: 0,
         })
     }
 
     /// Takes the turn of a row. The lines are then those of the turn.
-    pub fn take(&mut self, alloc: Global, row: &ByteRecord) -> Result<(), AllocError>
+    pub fn take(&mut self, row: &ByteRecord) -> Result<(), AllocError>
         ensures { (p : Program) (before : List Row) → Fits p self.old before → OnOk result (Turned p self.new before (event_of_cells p.header.schema (fields_of row.now))) }
     {
         self.lines.clear();
-        let schema = self.engine.schema();
-        match read_row_into(alloc, schema, row, &mut self.event, &mut self.spare) {
+        match self.events.read(self.engine.schema(), row) {
             Ok(()) => self.feed(),
             Err(RowRefusal::Fault(why)) => self.refuse(why),
             Err(RowRefusal::Memory) => Err(AllocError),
@@ -78,9 +70,9 @@ impl Turns {
 
     // The turn of the event that was read.
     fn feed(&mut self) -> Result<(), AllocError>
-        ensures { (p : Program) (before : List Row) → Fits p self.old before → OnOk result (Adds p self.old self.new before (Ok (event_of self.old.event))) }
+        ensures { (p : Program) (before : List Row) → Fits p self.old before → OnOk result (Adds p self.old self.new before (Ok (event_read self.old.events))) }
     {
-        let reply = self.engine.feed(&self.event);
+        let reply = self.engine.feed(self.events.event());
         self.tell(reply.refusal)?;
         rows_text(self.engine.schema(), self.engine.rows(), &mut self.lines)?;
         Ok(())

@@ -1,5 +1,5 @@
 -- Which event the cells of a row say, or why they say none.
-use Rattle.std.specs.Prelude.{◌≡◌, ◌++◌, ℕ, Bool, true, false, ◌==◌, List, [], ◌∷◌, length, position, ℤ, Option, Some, None, option_map, ok_or, Result, Ok, Err, if◌then◌else◌, codes, bytes_eq}
+use Rattle.std.specs.Prelude.{◌≡◌, slice_set, ℕ, Bool, true, false, ◌==◌, List, [], ◌∷◌, length, position, ℤ, Option, Some, None, option_map, ok_or, Result, Ok, Err, if◌then◌else◌, codes, bytes_eq}
 use Rattle.wsm_record.specs.declared.event.Value.{Value}
 use Rattle.wsm_record.specs.declared.event.Value.TheVariants as values
 use Rattle.wsm_record.specs.declared.event.RowFault.{RowFault}
@@ -27,9 +27,9 @@ value_of (Int lo hi) cell = ok_or (option_map values.Int (number_of cell)) BadNu
 value_of Truth cell = ok_or (option_map values.Bool (truth_of cell)) BadName
 value_of (Enum names) cell = ok_or (option_map values.Enum (place_of cell names)) BadName
 
--- the value that was read stands behind those that were there
-abbrev pub Adds : Result Value RowFault → List Value → List Value → Type 0
-Adds read old new = (v : Value) × (read ≡ Ok v) × (new ≡ old ++ v ∷ [])
+-- the value that was read stands at a place of those that were there
+abbrev pub Puts : Result Value RowFault → ℕ → List Value → List Value → Type 0
+Puts read i old new = (v : Value) × (read ≡ Ok v) × (new ≡ slice_set old i v)
 
 -- what a value that was read goes on as; a fault stays
 abbrev pub then_read : {A B : Type 0} → Result A RowFault → (A → Result B RowFault) → Result B RowFault

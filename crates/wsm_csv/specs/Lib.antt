@@ -9,3 +9,4 @@ pub mod Refused
 pub mod Tags
 pub mod Lines
 pub mod InPlace
+pub mod EventReader

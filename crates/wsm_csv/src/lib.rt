@@ -3,7 +3,8 @@
 //! A [`Device`] is what takes bytes. [`write_out`] gives it a whole text, or a beginning of the text
 //! was taken and the device has failed: nothing is written twice, and no fault is told where no write
 //! failed. [`Guarded`] makes a device of any writer. [`Rows`] are the rows of a reader, [`read_row`]
-//! reads one as an event, and [`row_text`] adds the line of a row that is written.
+//! reads one as an event, [`EventReader`] each in place of the last, and [`row_text`] adds the line of
+//! a row that is written.
 //!
 //! Where `schema` has the keys a and b and a field n of numbers, and `pane` is the pane on time of key
 //! b from 0 to 60, with one record and a sum of 3:
@@ -26,13 +27,15 @@
 #![tactic(auto)]
 
 pub use device::{Device, DeviceFault, write_out};
+pub use event_reader::EventReader;
 pub use guarded::Guarded;
 pub use number::read_number;
-pub use row::{RowRefusal, read_row, read_row_into};
+pub use row::{RowRefusal, read_row};
 pub use rows::{ReadEnd, Rows};
 pub use text::{end_text, fault_text, refusal_text, row_text, rows_text};
 
 mod device;
+mod event_reader;
 mod few_numbers;
 mod from_end;
 mod guarded;

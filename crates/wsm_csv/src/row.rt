@@ -1,22 +1,21 @@
 //! Reading rows as events.
 
-ghost use Rattle.std.specs.Prelude.{◌≡◌, ◌≢◌, ◌+◌, ◌<◌, ◌≤◌, List, [], drop, length, map, vec_capacity, IfErr, IfOk, OnOk, Err, Ok, Some, slice_get};
+ghost use Rattle.std.specs.Prelude.{◌≡◌, ◌≢◌, ◌+◌, ◌<◌, ◌≤◌, List, [], drop, length, map, vec_capacity, IfErr, IfOk, IsOk, OnOk, Err, Ok, Some, slice_get};
 ghost use Rattle.csv.specs.Records.{fields_of};
-ghost use Rattle.wsm_record.specs.Event.{Record, event_of};
+ghost use Rattle.wsm_record.specs.Event.{event_of};
 ghost use Rattle.wsm_record.specs.Fields.{field_seen, type_seen};
-ghost use Rattle.wsm_csv.specs.Cells.{Adds, event_of_cells, mark_of, place_of, record_of, record_tag, time_of, truth_of, value_of, values_of, watermark_of};
-ghost use Rattle.wsm_csv.specs.InPlace.{room_in, values_in};
+ghost use Rattle.wsm_csv.specs.Cells.{Puts, event_of_cells, mark_of, record_tag, time_of, truth_of, value_of, values_of};
 ghost use Rattle.wsm_csv.specs.Refused.{IfFault};
 ghost use Rattle.wsm_csv.specs.Tags.{row_tag, tag_of};
 
+use crate::event_reader::EventReader;
 use crate::number::read_number;
 use csv::ByteRecord;
 use std::alloc::{AllocError, Global};
-use std::mem;
 use wsm_record::{DeclaredField, Event, FieldType, Names, RowFault, Schema, Value};
 
 /// The cells of a record in front of its fields: its tag, its key and its time.
-const RECORD_HEAD: usize = 3;
+pub(crate) const RECORD_HEAD: usize = 3;
 
 /// The cells of a watermark where no sources are declared: its tag and its time.
 const WATERMARK_CELLS: usize = 2;
@@ -33,9 +32,9 @@ pub enum RowRefusal {
     Memory,
 }
 
-// What a row is, by its first cell.
+/// What a row is, by its first cell.
 #[derive(Clone, Copy)]
-enum Tag {
+pub(crate) enum Tag {
     Record,
     Watermark,
 }
@@ -71,38 +70,13 @@ pub fn read_row(alloc: Global, schema: &Schema, row: &ByteRecord) -> Result<Even
     ensures fault { IfErr result (λ r. IfFault r (λ f. event_of_cells schema.now (fields_of row.now) ≡ Err f)) }
     ensures memory { result ≡ Err RowRefusal.Memory → slice_get (fields_of row.now) 0 ≡ Some record_tag }
 {
-    let mut event = Event::Watermark {
-        source: None,
-        time: 0,
-    };
-    read_row_into(alloc, schema, row, &mut event, &mut Vec::new(alloc))?;
-    Ok(event)
+    let mut events = EventReader::new(alloc);
+    events.read(schema, row)?;
+    Ok(events.into_event())
 }
 
-/// Reads the event of a row in place of another, as [`read_row`] reads it. A record's values are read
-/// into the vector of the record that stood there, or else into the spare one, where a watermark leaves
-/// the vector that it finds: where there is room for a value of each field no memory is asked for. After
-/// a refusal any event stands there.
-pub fn read_row_into(
-    alloc: Global,
-    schema: &Schema,
-    row: &ByteRecord,
-    event: &mut Event,
-    spare: &mut Vec<Value>,
-) -> Result<(), RowRefusal>
-    ensures event { OnOk result (event_of_cells schema.now (fields_of row.now) ≡ Ok (event_of event.new)) }
-    ensures fault { IfErr result (λ r. IfFault r (λ f. event_of_cells schema.now (fields_of row.now) ≡ Err f)) }
-    ensures memory { result ≡ Err RowRefusal.Memory → slice_get (fields_of row.now) 0 ≡ Some record_tag }
-    ensures room { length schema.now.fields ≤ room_in event.old (vec_capacity spare.old) → result ≢ Err RowRefusal.Memory }
-{
-    match read_tag(row) {
-        Some(Tag::Record) => read_record(alloc, schema, row, event, spare),
-        Some(Tag::Watermark) => Ok(read_watermark(schema, row, event, spare)?),
-        None => Err(RowRefusal::Fault(RowFault::BadTag)),
-    }
-}
-
-fn read_tag(row: &ByteRecord) -> Option<Tag>
+/// What a row is, by its first cell.
+pub(crate) fn read_tag(row: &ByteRecord) -> Option<Tag>
     ensures { result ≡ row_tag (fields_of row.now) }
 {
     cell_tag(row.get(0)?)
@@ -118,77 +92,8 @@ fn cell_tag(cell: &[u8]) -> Option<Tag>
     }
 }
 
-#[inline(always)]
-fn read_record(
-    alloc: Global,
-    schema: &Schema,
-    row: &ByteRecord,
-    event: &mut Event,
-    spare: &mut Vec<Value>,
-) -> Result<(), RowRefusal>
-    ensures event { OnOk result (record_of schema.now (drop 1 (fields_of row.now)) ≡ Ok (event_of event.new)) }
-    ensures fault { IfErr result (λ r. IfFault r (λ f. record_of schema.now (drop 1 (fields_of row.now)) ≡ Err f)) }
-    ensures room { length schema.now.fields ≤ room_in event.old (vec_capacity spare.old) → result ≢ Err RowRefusal.Memory }
-{
-    let fields = schema.fields();
-    if row.len() != RECORD_HEAD + fields.len() {
-        return Err(RowRefusal::Fault(RowFault::CellCount));
-    }
-    let key = schema.key_number(cell_at(row, 1));
-    let time = read_time(cell_at(row, 2))?;
-    begin_record(alloc, event, spare, key, time);
-    if let Event::Record { values, .. } = event {
-        read_values(fields, row, values)?;
-    }
-    Ok(())
-}
-
-// Has a record of a key and a time stand there, with the vector of the record that stood there or else
-// the spare one.
-#[inline(always)]
-fn begin_record(
-    alloc: Global,
-    event: &mut Event,
-    spare: &mut Vec<Value>,
-    key: Option<u16>,
-    time: i64,
-)
-    ensures begun { event_of event.new ≡ Record key time (values_in event.new) }
-    ensures room { room_in event.new (vec_capacity spare.new) ≡ room_in event.old (vec_capacity spare.old) }
-{
-    match event {
-        Event::Record { key: place, .. } => *place = key,
-        Event::Watermark { .. } => {
-            *event = Event::Record {
-                key,
-                time,
-                values: mem::replace(spare, Vec::new(alloc)),
-            };
-        }
-    }
-    if let Event::Record { time: place, .. } = event {
-        *place = time;
-    }
-}
-
-fn read_watermark(
-    schema: &Schema,
-    row: &ByteRecord,
-    event: &mut Event,
-    spare: &mut Vec<Value>,
-) -> Result<(), RowFault>
-    ensures event { OnOk result (watermark_of schema.now (drop 1 (fields_of row.now)) ≡ Ok (event_of event.new)) }
-    ensures fault { IfErr result (λ f. watermark_of schema.now (drop 1 (fields_of row.now)) ≡ Err f) }
-{
-    let mark = read_mark(schema.sources(), row)?;
-    if let Event::Record { values, .. } = mem::replace(event, mark) {
-        *spare = values;
-    }
-    Ok(())
-}
-
-// The watermark of a row, where these sources are declared.
-fn read_mark(sources: &Names, row: &ByteRecord) -> Result<Event, RowFault>
+/// The watermark of a row, where these sources are declared.
+pub(crate) fn read_mark(sources: &Names, row: &ByteRecord) -> Result<Event, RowFault>
     ensures event { IfOk result (λ e. mark_of sources.now (drop 1 (fields_of row.now)) ≡ Ok (event_of e)) }
     ensures fault { IfErr result (λ f. mark_of sources.now (drop 1 (fields_of row.now)) ≡ Err f) }
 {
@@ -218,9 +123,9 @@ fn read_only_mark(row: &ByteRecord) -> Result<Event, RowFault>
     })
 }
 
-// Reads the values of a record in place of those that are there, up to the first fault.
+/// Reads the values of a record in place of those that are there, up to the first fault.
 #[inline(always)]
-fn read_values(
+pub(crate) fn read_values(
     fields: &[DeclaredField],
     row: &ByteRecord,
     values: &mut Vec<Value>,
@@ -229,46 +134,89 @@ fn read_values(
     ensures values { OnOk result (values_of (map field_seen fields.now) (drop RECORD_HEAD (fields_of row.now)) ≡ Ok values.new.items) }
     ensures fault { IfErr result (λ r. IfFault r (λ f. values_of (map field_seen fields.now) (drop RECORD_HEAD (fields_of row.now)) ≡ Err f)) }
     ensures room { length fields.now ≤ vec_capacity values.old → result ≢ Err RowRefusal.Memory }
+    ensures kept { vec_capacity values.old ≤ vec_capacity values.new }
 {
-    values.clear();
-    values.reserve(fields.len())?;
+    fit(values, fields.len())?;
     for (place, field) in fields.iter().enumerate() {
-        add_value(&field.ty, cell_at(row, RECORD_HEAD + place), values)?;
+        read_value(&field.ty, cell_at(row, RECORD_HEAD + place), values, place)?;
     }
     Ok(())
 }
 
-// Reads the value of a field behind those that are there. It is put there in each case by itself, so
-// that it isn't moved.
+// Has there be so many values, whatever they are.
 #[inline(always)]
-fn add_value(ty: &FieldType, cell: &[u8], values: &mut Vec<Value>) -> Result<(), RowFault>
-    requires { length values.old.items < vec_capacity values.old }
-    ensures value { OnOk result (Adds (value_of (type_seen ty.now) cell.now) values.old.items values.new.items) }
+fn fit(values: &mut Vec<Value>, count: usize) -> Result<(), AllocError>
+    ensures count { OnOk result (length values.new.items ≡ count) }
+    ensures room { count ≤ vec_capacity values.old → IsOk result }
+    ensures kept { vec_capacity values.old ≤ vec_capacity values.new }
+{
+    if values.len() == count {
+        return Ok(());
+    }
+    resize(values, count)
+}
+
+#[inline(never)]
+fn resize(values: &mut Vec<Value>, count: usize) -> Result<(), AllocError>
+    ensures count { OnOk result (length values.new.items ≡ count) }
+    ensures room { count ≤ vec_capacity values.old → IsOk result }
+    ensures kept { vec_capacity values.old ≤ vec_capacity values.new }
+{
+    values.resize(count, Value::Int(0))
+}
+
+// Reads the value of a field in place of the one that is there. Most are numbers, so these are read
+// here, and others by a call.
+#[inline(always)]
+fn read_value(
+    ty: &FieldType,
+    cell: &[u8],
+    values: &mut Vec<Value>,
+    place: usize,
+) -> Result<(), RowFault>
+    requires { place < length values.old.items }
+    ensures value { OnOk result (Puts (value_of (type_seen ty.now) cell.now) place values.old.items values.new.items) }
     ensures fault { IfErr result (λ f. value_of (type_seen ty.now) cell.now ≡ Err f) }
+    ensures count { length values.new.items ≡ length values.old.items }
+    ensures room { vec_capacity values.new ≡ vec_capacity values.old }
+{
+    if let FieldType::Int { .. } = ty {
+        let number = read_number(cell).ok_or(RowFault::BadNumber)?;
+        values[place] = Value::Int(number);
+        return Ok(());
+    }
+    read_any_value(ty, cell, values, place)
+}
+
+// Reads a value of any type. It is put there in each case by itself, so that it isn't moved.
+#[inline(never)]
+fn read_any_value(
+    ty: &FieldType,
+    cell: &[u8],
+    values: &mut Vec<Value>,
+    place: usize,
+) -> Result<(), RowFault>
+    requires { place < length values.old.items }
+    ensures value { OnOk result (Puts (value_of (type_seen ty.now) cell.now) place values.old.items values.new.items) }
+    ensures fault { IfErr result (λ f. value_of (type_seen ty.now) cell.now ≡ Err f) }
+    ensures count { length values.new.items ≡ length values.old.items }
     ensures room { vec_capacity values.new ≡ vec_capacity values.old }
 {
     match ty {
         FieldType::Int { .. } => {
             let number = read_number(cell).ok_or(RowFault::BadNumber)?;
-            values.push_reserved(Value::Int(number));
+            values[place] = Value::Int(number);
         }
         FieldType::Bool => {
             let truth = read_truth(cell).ok_or(RowFault::BadName)?;
-            values.push_reserved(Value::Bool(truth));
+            values[place] = Value::Bool(truth);
         }
         FieldType::Enum(names) => {
-            let number = name_number(names, cell).ok_or(RowFault::BadName)?;
-            values.push_reserved(Value::Enum(number));
+            let number = names.number_of(cell).ok_or(RowFault::BadName)?;
+            values[place] = Value::Enum(number);
         }
     }
     Ok(())
-}
-
-#[inline(never)]
-fn name_number(names: &Names, cell: &[u8]) -> Option<u16>
-    ensures { result ≡ place_of cell.now names.now }
-{
-    names.number_of(cell)
 }
 
 fn read_truth(cell: &[u8]) -> Option<bool>
@@ -281,15 +229,16 @@ fn read_truth(cell: &[u8]) -> Option<bool>
     }
 }
 
+/// The time that a cell writes.
 #[inline(always)]
-fn read_time(cell: &[u8]) -> Result<i64, RowFault>
+pub(crate) fn read_time(cell: &[u8]) -> Result<i64, RowFault>
     ensures { result ≡ time_of cell.now }
 {
     read_number(cell).ok_or(RowFault::BadNumber)
 }
 
-// The cell at a place that the row has.
-fn cell_at(row: &ByteRecord, place: usize) -> &[u8]
+/// The cell at a place that the row has.
+pub(crate) fn cell_at(row: &ByteRecord, place: usize) -> &[u8]
     requires { place < length (fields_of row.now) }
     ensures { slice_get (fields_of row.now) place ≡ Some result.now }
 {

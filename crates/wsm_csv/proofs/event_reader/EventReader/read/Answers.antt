@@ -6,7 +6,7 @@ use Rattle.wsm_csv.specs.declared.row.Tag.{Tag}
 use Rattle.wsm_csv.specs.declared.row.Tag.TheVariants.{Record, Watermark}
 use Rattle.wsm_csv.specs.Tags.{row_tag}
 use Rattle.wsm_csv.proofs.CellLemmas.{TagDecides, row_tag-decides}
-use Rattle.wsm_csv.proofs.row.read_row_into.Goals as goal
+use Rattle.wsm_csv.proofs.event_reader.EventReader.read.Goals as goal
 
 decides : (d : Declared) (cells : List (List ℕ)) (t k : Tag) → Some t ≡ row_tag cells → t ≡ k → TagDecides d cells (Some k)
 decides d cells t k e h = subst (TagDecides d cells) (sym e ∙ ap Some h) (row_tag-decides d cells)

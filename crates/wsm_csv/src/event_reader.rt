@@ -1,0 +1,151 @@
+//! Rows read as events, each in place of the last.
+
+ghost use Rattle.std.specs.Prelude.{◌≡◌, ◌≢◌, ◌≤◌, drop, length, vec_capacity, IfErr, OnOk, Err, Ok};
+ghost use Rattle.csv.specs.Records.{fields_of};
+ghost use Rattle.wsm_record.specs.Event.{Record, event_of};
+ghost use Rattle.wsm_csv.specs.Cells.{record_of, watermark_of};
+ghost use Rattle.wsm_csv.specs.InPlace.{room_in, values_in};
+ghost use Rattle.wsm_csv.specs.Refused.{IfFault};
+
+use crate::row::{
+    RECORD_HEAD, RowRefusal, Tag, cell_at, read_mark, read_tag, read_time, read_values,
+};
+use csv::ByteRecord;
+use std::alloc::Global;
+use std::mem;
+use wsm_record::{Event, RowFault, Schema, Value};
+
+/// Reads rows as events, each in place of the last. The values of a record are read into the vector of
+/// the record before.
+#[derive(Drop)]
+pub struct EventReader {
+    // Before the first event, a record without values.
+    event: Event,
+    // The vector of the last record, where the event is a watermark.
+    spare: Vec<Value>,
+}
+
+impl EventReader {
+    ghost use Rattle.std.specs.Prelude.{◌≡◌, ◌≢◌, ◌≤◌, length, IfErr, OnOk, Err, Ok, Some, slice_get};
+    ghost use Rattle.csv.specs.Records.{fields_of};
+    ghost use Rattle.wsm_record.specs.Event.{event_of};
+    ghost use Rattle.wsm_csv.specs.Cells.{event_of_cells, record_tag};
+    ghost use Rattle.wsm_csv.specs.Refused.{IfFault};
+    ghost use Rattle.wsm_csv.specs.EventReader.{event_read, room_of};
+
+    /// A reader that has read no row.
+    pub fn new(alloc: Global) -> EventReader {
+        EventReader {
+            event: Event::Record {
+                key: None,
+                time: 0,
+                values: Vec::new(alloc),
+            },
+            spare: Vec::new(alloc),
+        }
+    }
+
+    /// Reads the event of a row, as [`read_row`](crate::read_row) does. Where there is room for a value
+    /// of each field no memory is asked for, and no room is given back. After a refusal any event
+    /// stands there.
+    pub fn read(&mut self, schema: &Schema, row: &ByteRecord) -> Result<(), RowRefusal>
+        ensures event { OnOk result (event_of_cells schema.now (fields_of row.now) ≡ Ok (event_read self.new)) }
+        ensures fault { IfErr result (λ r. IfFault r (λ f. event_of_cells schema.now (fields_of row.now) ≡ Err f)) }
+        ensures memory { result ≡ Err RowRefusal.Memory → slice_get (fields_of row.now) 0 ≡ Some record_tag }
+        ensures room { length schema.now.fields ≤ room_of self.old → result ≢ Err RowRefusal.Memory }
+        ensures kept { room_of self.old ≤ room_of self.new }
+    {
+        match read_tag(row) {
+            Some(Tag::Record) => read_record(schema, row, &mut self.event, &mut self.spare),
+            Some(Tag::Watermark) => {
+                Ok(read_watermark(schema, row, &mut self.event, &mut self.spare)?)
+            }
+            None => Err(RowRefusal::Fault(RowFault::BadTag)),
+        }
+    }
+
+    /// The event that was read last.
+    pub fn event(&self) -> &Event
+        ensures { event_of result.now ≡ event_read self.now }
+    {
+        &self.event
+    }
+
+    /// The event that was read last, by itself.
+    pub(crate) fn into_event(self) -> Event
+        ensures { event_of result ≡ event_read self }
+    {
+        self.event
+    }
+}
+
+// Reads a record in place of an event, up to the first fault.
+#[inline(always)]
+fn read_record(
+    schema: &Schema,
+    row: &ByteRecord,
+    event: &mut Event,
+    spare: &mut Vec<Value>,
+) -> Result<(), RowRefusal>
+    ensures event { OnOk result (record_of schema.now (drop 1 (fields_of row.now)) ≡ Ok (event_of event.new)) }
+    ensures fault { IfErr result (λ r. IfFault r (λ f. record_of schema.now (drop 1 (fields_of row.now)) ≡ Err f)) }
+    ensures room { length schema.now.fields ≤ room_in event.old (vec_capacity spare.old) → result ≢ Err RowRefusal.Memory }
+    ensures kept { room_in event.old (vec_capacity spare.old) ≤ room_in event.new (vec_capacity spare.new) }
+{
+    let fields = schema.fields();
+    // That there is a head is asked by itself, so that none of its cells is looked for in vain.
+    let cells = row.len();
+    if cells < RECORD_HEAD || cells - RECORD_HEAD != fields.len() {
+        return Err(RowRefusal::Fault(RowFault::CellCount));
+    }
+    let key = schema.key_number(cell_at(row, 1));
+    let time = read_time(cell_at(row, 2))?;
+    begin_record(event, spare, key, time);
+    if let Event::Record { values, .. } = event {
+        read_values(fields, row, values)?;
+    }
+    Ok(())
+}
+
+// Has a record of a key and a time stand there, with the vector of the record that stood there or else
+// the spare one.
+#[inline(always)]
+fn begin_record(event: &mut Event, spare: &mut Vec<Value>, key: Option<u16>, time: i64)
+    ensures begun { event_of event.new ≡ Record key time (values_in event.new) }
+    ensures room { room_in event.new (vec_capacity spare.new) ≡ room_in event.old (vec_capacity spare.old) }
+{
+    match event {
+        Event::Record { key: place, .. } => *place = key,
+        Event::Watermark { .. } => {
+            let alloc = *spare.allocator();
+            *event = Event::Record {
+                key,
+                time,
+                values: mem::replace(spare, Vec::new(alloc)),
+            };
+        }
+    }
+    if let Event::Record { time: place, .. } = event {
+        *place = time;
+    }
+}
+
+// Reads a watermark in place of an event, whose vector is then the spare one if it was a record.
+#[cold]
+#[inline(never)]
+fn read_watermark(
+    schema: &Schema,
+    row: &ByteRecord,
+    event: &mut Event,
+    spare: &mut Vec<Value>,
+) -> Result<(), RowFault>
+    ensures event { OnOk result (watermark_of schema.now (drop 1 (fields_of row.now)) ≡ Ok (event_of event.new)) }
+    ensures fault { IfErr result (λ f. watermark_of schema.now (drop 1 (fields_of row.now)) ≡ Err f) }
+    ensures kept { room_in event.new (vec_capacity spare.new) ≡ room_in event.old (vec_capacity spare.old) }
+{
+    let mark = read_mark(schema.sources(), row)?;
+    if let Event::Record { values, .. } = mem::replace(event, mark) {
+        *spare = values;
+    }
+    Ok(())
+}
