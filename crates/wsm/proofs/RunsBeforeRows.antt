@@ -2,7 +2,7 @@
 use Rattle.std.proofs.Common.{◌≡◌, ℕ, true, List, [], Option, Result, Ok, Err, inl, inr, refl}
 use Rattle.std.specs.Prelude.{is_ok}
 use Rattle.wsm_verifier.specs.declared.rejection.Rejection.{Rejection}
-use Rattle.wsm.specs.declared.end.Refusal.{Refusal}
+use Rattle.wsm.specs.declared.end.InputRefusal.{InputRefusal}
 use Rattle.wsm.specs.declared.end.End.{End}
 use Rattle.wsm.specs.declared.end.End.TheVariants.{Refused, Rejected, Memory, ReadFailed, WriteFailed}
 use Rattle.wsm_semantics.specs.Query.{Query as Meant}
@@ -11,7 +11,7 @@ use Rattle.wsm.specs.Written.{Cells, EndsEarly, NeverBegins}
 use Rattle.wsm.proofs.Texts.{AreFirst-none, Appends-none, Keeps-same}
 
 -- a refused input
-pub refused_by : {A : Type 0} (judged : Result A Refusal) (e : End) (why : Refusal) (known : Option (List ℕ)) → EndsBy judged e → judged ≡ Err why → NeverBegins (Refused why) known known (Err e)
+pub refused_by : {A : Type 0} (judged : Result A InputRefusal) (e : End) (why : InputRefusal) (known : Option (List ℕ)) → EndsBy judged e → judged ≡ Err why → NeverBegins (Refused why) known known (Err e)
 refused_by judged (Refused r) why known ends is = record { end = inl (cc); kept = Keeps-same known }
 refused_by judged (Rejected r) why known ends is = absurd ends
 refused_by judged Memory why known ends is = record { end = inr refl; kept = Keeps-same known }
@@ -27,7 +27,7 @@ rejected_by judged ReadFailed why known ends is = absurd ends
 rejected_by judged WriteFailed why known ends is = absurd ends
 
 -- want of memory for an input that is neither
-pub unread_early : {A : Type 0} (judged : Result A Refusal) (x : A) (e : End) (known taken : Option (List ℕ)) (a : Meant) → EndsBy judged e → judged ≡ Ok x → (cells : List Cells) × EndsEarly known a cells taken taken e
+pub unread_early : {A : Type 0} (judged : Result A InputRefusal) (x : A) (e : End) (known taken : Option (List ℕ)) (a : Meant) → EndsBy judged e → judged ≡ Ok x → (cells : List Cells) × EndsEarly known a cells taken taken e
 unread_early judged x (Refused r) known taken a ends is = cc
 unread_early judged x (Rejected r) known taken a ends is = absurd ends
 unread_early judged x Memory known taken a ends is = ([], record { first = AreFirst-none known; text = Appends-none a taken })

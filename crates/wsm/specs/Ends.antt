@@ -17,8 +17,8 @@ use Rattle.wsm_verifier.specs.declared.rejection.Rule.TheVariants as rule
 use Rattle.wsm_verifier.specs.Text.{part_text, rule_name}
 use Rattle.wsm_csv.specs.declared.rows.ReadEnd.{ReadEnd}
 use Rattle.wsm_csv.specs.declared.rows.ReadEnd.TheVariants as read
-use Rattle.wsm.specs.declared.end.Refusal.{Refusal}
-use Rattle.wsm.specs.declared.end.Refusal.TheVariants.{Text, Check, Bytes}
+use Rattle.wsm.specs.declared.end.InputRefusal.{InputRefusal}
+use Rattle.wsm.specs.declared.end.InputRefusal.TheVariants.{Text, Check, Bytes}
 use Rattle.wsm.specs.declared.end.End.{End}
 use Rattle.wsm.specs.declared.end.End.TheVariants.{Refused, Rejected, Memory, ReadFailed, WriteFailed}
 
@@ -51,7 +51,7 @@ rule_number rule.BudgetHeld = 16
 rule_number rule.Memory = 17
 
 -- as `P2 Unexpected at 1:8`, `C1 UnknownName in where` or `B3 Truncated`
-abbrev pub refusal_text : Refusal → List ℕ
+abbrev pub refusal_text : InputRefusal → List ℕ
 refusal_text (Text fault place) = fault_text fault ++ codes " at " ++ place_text place
 refusal_text (Check fault part) = check_text.fault_text fault ++ codes " in " ++ check_text.part_text part
 refusal_text (Bytes fault) = bytes_text.refusal_text fault

@@ -12,47 +12,47 @@ use Rattle.wsm_program.specs.declared.refusal.DecodeRefusal.TheVariants.{Memory}
 use Rattle.wsm_program.specs.Program.{Program}
 use Rattle.wsm_bytecode.specs.Reading.{decode}
 use Rattle.wsm_verifier.specs.declared.rejection.Rejection.{Rejection}
-use Rattle.wsm.specs.declared.end.Refusal.{Refusal}
-use Rattle.wsm.specs.declared.end.Refusal.TheVariants.{Text, Check, Bytes}
+use Rattle.wsm.specs.declared.end.InputRefusal.{InputRefusal}
+use Rattle.wsm.specs.declared.end.InputRefusal.TheVariants.{Text, Check, Bytes}
 use Rattle.wsm.specs.declared.end.End.{End}
 use Rattle.wsm.specs.declared.end.End.TheVariants as ends
 
 -- no definition of reading or checking wants memory: what stands for it never comes
-abbrev never : Refusal
+abbrev never : InputRefusal
 never = Bytes Memory
 
-abbrev pub refusal_of_text : ParseRefusal → Refusal
+abbrev pub refusal_of_text : ParseRefusal → InputRefusal
 refusal_of_text (parsing.Text fault place) = Text fault place
 refusal_of_text parsing.Memory = never
 
-abbrev pub refusal_of_check : CheckRefusal → Refusal
+abbrev pub refusal_of_check : CheckRefusal → InputRefusal
 refusal_of_check (checking.Fault fault part) = Check fault part
 refusal_of_check checking.Memory = never
 
 -- the query, unless a check refuses it
-abbrev pub unless_refused : Option CheckRefusal → Query → Result Query Refusal
+abbrev pub unless_refused : Option CheckRefusal → Query → Result Query InputRefusal
 unless_refused None q = Ok q
 unless_refused (Some why) q = Err (refusal_of_check why)
 
 -- the query that was read, unless a check refuses it
-abbrev pub checked : Result Query ParseRefusal → Result Query Refusal
+abbrev pub checked : Result Query ParseRefusal → Result Query InputRefusal
 checked (Ok q) = unless_refused (refusal q) q
 checked (Err why) = Err (refusal_of_text why)
 
 -- the first fault of the grammar; else the first check that fails; else the query
-unfoldable pub text_judged : List ℕ → Result Query Refusal
+unfoldable pub text_judged : List ℕ → Result Query InputRefusal
 text_judged text = checked (parse text)
 
-abbrev pub read_or_refused : Result Program DecodeRefusal → Result Program Refusal
+abbrev pub read_or_refused : Result Program DecodeRefusal → Result Program InputRefusal
 read_or_refused (Ok p) = Ok p
 read_or_refused (Err why) = Err (Bytes why)
 
 -- the program that the bytes spell, or their first fault from the left
-unfoldable pub bytes_judged : List ℕ → Result Program Refusal
+unfoldable pub bytes_judged : List ℕ → Result Program InputRefusal
 bytes_judged bytes = read_or_refused (decode bytes)
 
 -- an end by the refusal that was judged, or for want of memory
-abbrev pub EndsBy : {A : Type 0} → Result A Refusal → End → Type 0
+abbrev pub EndsBy : {A : Type 0} → Result A InputRefusal → End → Type 0
 EndsBy judged (ends.Refused why) = judged ≡ Err why
 EndsBy judged ends.Memory = Unit {0}
 EndsBy judged end = ⊥

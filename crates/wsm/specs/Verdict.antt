@@ -9,7 +9,7 @@ use Rattle.wsm_verifier.specs.declared.rejection.Rejection.{Rejection}
 use Rattle.wsm_verifier.specs.Rules.{judge}
 use Rattle.wsm_verifier.specs.Text.{rejection_text}
 use Rattle.wsm_csv.specs.Device.{TakesPart}
-use Rattle.wsm.specs.declared.end.Refusal.{Refusal}
+use Rattle.wsm.specs.declared.end.InputRefusal.{InputRefusal}
 use Rattle.wsm.specs.declared.end.End.{End}
 use Rattle.wsm.specs.declared.end.End.TheVariants.{Refused, Memory, WriteFailed}
 
@@ -26,14 +26,14 @@ abbrev pub report : Bool → Program → List ℕ
 report explain p = listing explain p ++ verdict (judge p)
 
 -- the program that was read was reported, and it is told whether it is accepted
-pub record Reports (read : Result Program Refusal) (explain : Bool) (old new : Option (List ℕ)) (accepted : Bool) : Type 0 where
+pub record Reports (read : Result Program InputRefusal) (explain : Bool) (old new : Option (List ℕ)) (accepted : Bool) : Type 0 where
   pub program : Program
   pub read_as : read ≡ Ok program
   pub written : Appends old new (report explain program)
   pub tells : accepted ≡ is_ok (judge program)
 
 -- a refusal is that of the bytes; only where the device has failed a part of the report was written, else nothing
-abbrev pub StopsBy : Result Program Refusal → Bool → Option (List ℕ) → Option (List ℕ) → End → Type 0
+abbrev pub StopsBy : Result Program InputRefusal → Bool → Option (List ℕ) → Option (List ℕ) → End → Type 0
 StopsBy read explain old new (Refused why) = (read ≡ Err why) × Keeps old new
 StopsBy read explain old new Memory = Keeps old new
 StopsBy read explain old new WriteFailed = (p : Program) × (read ≡ Ok p) × TakesPart old new (report explain p)

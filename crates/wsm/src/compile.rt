@@ -8,7 +8,7 @@ ghost use Rattle.wsm.specs.Ends.{hides_memory};
 ghost use Rattle.wsm.specs.Judged.{text_judged, EndsBy};
 
 use crate::end::End;
-use crate::judged::program_of_text;
+use crate::inputs::program_of_text;
 use std::alloc::Global;
 use wsm_bytecode::encode;
 

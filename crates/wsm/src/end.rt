@@ -14,7 +14,7 @@ use wsm_verifier::{Rejection, Rule};
 
 /// Why a text is no query, or bytes are no program. Its text is as `P2 Unexpected at 1:8`.
 #[derive(Clone, Copy, Debug, PartialEq, Eq)]
-pub enum Refusal {
+pub enum InputRefusal {
     /// The reading of a text stops at a place.
     Text(Fault, Place),
     /// A check of a query that was read fails in a part of it.
@@ -28,7 +28,7 @@ pub enum Refusal {
 #[derive(Clone, Copy, Debug, PartialEq, Eq)]
 pub enum End {
     /// The text is no query, or the bytes are no program; nothing was written.
-    Refused(Refusal),
+    Refused(InputRefusal),
     /// The verifier refuses the program; nothing was written. Want of memory never stands here.
     Rejected(Rejection),
     /// Memory ran out.
@@ -39,7 +39,7 @@ pub enum End {
     WriteFailed,
 }
 
-impl fmt::Display for Refusal {
+impl fmt::Display for InputRefusal {
     ghost use Rattle.std.specs.Prelude.{Some};
     ghost use Rattle.wsm.specs.Ends.{refusal_text};
 
@@ -47,14 +47,14 @@ impl fmt::Display for Refusal {
 
     fn fmt<W: fmt::Write>(&self, f: &mut fmt::Formatter<W>) -> fmt::Result {
         match self {
-            Refusal::Text(fault, place) => write!(f, "{fault} at {place}"),
-            Refusal::Check(fault, part) => write!(f, "{fault} in {part}"),
-            Refusal::Bytes(fault) => write!(f, "{fault}"),
+            InputRefusal::Text(fault, place) => write!(f, "{fault} at {place}"),
+            InputRefusal::Check(fault, part) => write!(f, "{fault} in {part}"),
+            InputRefusal::Bytes(fault) => write!(f, "{fault}"),
         }
     }
 }
 
-impl Error for Refusal {}
+impl Error for InputRefusal {}
 
 impl fmt::Display for End {
     ghost use Rattle.std.specs.Prelude.{Some};
@@ -128,7 +128,7 @@ impl From<ParseRefusal> for End {
 
     fn from(refusal: ParseRefusal) -> End {
         match refusal {
-            ParseRefusal::Text(fault, place) => End::Refused(Refusal::Text(fault, place)),
+            ParseRefusal::Text(fault, place) => End::Refused(InputRefusal::Text(fault, place)),
             ParseRefusal::Memory => End::Memory,
         }
     }
@@ -142,7 +142,7 @@ impl From<CheckRefusal> for End {
 
     fn from(refusal: CheckRefusal) -> End {
         match refusal {
-            CheckRefusal::Fault(fault, part) => End::Refused(Refusal::Check(fault, part)),
+            CheckRefusal::Fault(fault, part) => End::Refused(InputRefusal::Check(fault, part)),
             CheckRefusal::Memory => End::Memory,
         }
     }
@@ -157,7 +157,7 @@ impl From<DecodeRefusal> for End {
     fn from(refusal: DecodeRefusal) -> End {
         match refusal {
             DecodeRefusal::Memory => End::Memory,
-            fault => End::Refused(Refusal::Bytes(fault)),
+            fault => End::Refused(InputRefusal::Bytes(fault)),
         }
     }
 }

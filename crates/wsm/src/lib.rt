@@ -5,7 +5,7 @@
 //! [`run_program`] does so from the bytes of a program. A whole program:
 //!
 //! ```rust
-//! use wsm::{End, Fault, Guarded, Place, Refusal, compile_text, run_program, run_query};
+//! use wsm::{End, Fault, Guarded, InputRefusal, Place, compile_text, run_program, run_query};
 //!
 //! const QUERY: &[u8] = b"KEYS a, b;
 //! FIELD n INT 0..100;
@@ -33,7 +33,7 @@
 //!     assert_eq!(rt; out.into_writer().as_slice(), LINES);
 //!
 //!     // A text that is no query ends with its first fault, and nothing is written.
-//!     let why = Refusal::Text(Fault::Unexpected, Place { line: 1, column: 8 });
+//!     let why = InputRefusal::Text(Fault::Unexpected, Place { line: 1, column: 8 });
 //!     let mut out = Guarded::new(Vec::new(alloc));
 //!     let end = run_query(alloc, b"KEYS a b;", ROWS, &mut out);
 //!     assert!(rt; end.is_err_and(|end| end == End::Refused(why)));
@@ -47,20 +47,20 @@
 //!
 //! What the device takes is exactly the text that the query means for the rows that were read, or a
 //! beginning of it where the run ends early, and the [`End`] says why. A text that is no query ends
-//! with its first [`Refusal`], a program that is not accepted with the verifier's rejection, and then
+//! with its first [`InputRefusal`], a program that is not accepted with the verifier's rejection, and then
 //! nothing is written.
 //!
 //! [`compile_text`] gives the bytes of a query's program, [`migrate`] those of a program in the version
-//! that is written, and [`judge`] writes what the verifier says of a program. `judged` goes from texts
+//! that is written, and [`judge`] writes what the verifier says of a program. `inputs` goes from texts
 //! and bytes to verified programs, `turns` keeps what the rows so far come to, and `run` goes from the
 //! reader to the device. [`command_of`] reads the words of the program's command.
 #![tactic(auto)]
 
 pub use compile::compile_text;
-pub use end::{End, Refusal, status_of};
+pub use end::{End, InputRefusal, status_of};
+pub use judging::judge;
 pub use migrating::migrate;
 pub use run::{run_program, run_query};
-pub use verdict::judge;
 pub use wsm_check::{CheckFault, Part};
 pub use wsm_csv::{Device, DeviceFault, Guarded, write_out};
 pub use wsm_engine::Totals;
@@ -71,8 +71,8 @@ pub use wsm_words::{Job, WordsRefusal, command_of};
 
 mod compile;
 mod end;
-mod judged;
+mod inputs;
+mod judging;
 mod migrating;
 mod run;
 mod turns;
-mod verdict;

@@ -7,7 +7,7 @@ ghost use Rattle.wsm.specs.Ends.{hides_memory};
 ghost use Rattle.wsm.specs.Judged.{bytes_judged, EndsBy};
 
 use crate::end::End;
-use crate::judged::program_of_bytes;
+use crate::inputs::program_of_bytes;
 use std::alloc::Global;
 use wsm_bytecode::encode;
 

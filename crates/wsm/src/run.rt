@@ -14,8 +14,8 @@ ghost use Rattle.wsm.specs.Judged.{bytes_judged, text_judged};
 ghost use Rattle.wsm.specs.Written.{Cells, Completes, EndsEarly, NeverBegins};
 ghost use Rattle.wsm.specs.Turns.{Fits, Stands};
 
-use crate::end::{End, Refusal};
-use crate::judged::{program_of_bytes, program_of_text, verified};
+use crate::end::{End, InputRefusal};
+use crate::inputs::{program_of_bytes, program_of_text, verified};
 use crate::turns::Turns;
 use std::alloc::Global;
 use std::io::Read;
@@ -42,7 +42,7 @@ pub fn run_query<R: Read + Drop, D: Device>(
 ) -> Result<Totals, End>
     requires { D.has_failed out.old ≡ false }
     // A text that is refused ends the run so, and nothing is written.
-    ensures refused { (why : Refusal) → text_judged text.now ≡ Err why → NeverBegins (End.Refused why) (D.taken out.old) (D.taken out.new) result }
+    ensures refused { (why : InputRefusal) → text_judged text.now ≡ Err why → NeverBegins (End.Refused why) (D.taken out.old) (D.taken out.new) result }
     // So does a query whose program is rejected.
     ensures rejected { (q : Query) (why : Rejection) → text_judged text.now ≡ Ok q → judge (program_of q) ≡ Err why → NeverBegins (End.Rejected why) (D.taken out.old) (D.taken out.new) result }
     // The run of any other ends well where it read all rows and wrote what the query means for them,
@@ -70,7 +70,7 @@ pub fn run_program<R: Read + Drop, D: Device>(
 ) -> Result<Totals, End>
     requires { D.has_failed out.old ≡ false }
     // Bytes that are refused end the run so, and nothing is written.
-    ensures refused { (why : Refusal) → bytes_judged program.now ≡ Err why → NeverBegins (End.Refused why) (D.taken out.old) (D.taken out.new) result }
+    ensures refused { (why : InputRefusal) → bytes_judged program.now ≡ Err why → NeverBegins (End.Refused why) (D.taken out.old) (D.taken out.new) result }
     // So does a program that is rejected.
     ensures rejected { (p : Value) (why : Rejection) → bytes_judged program.now ≡ Ok p → judge p ≡ Err why → NeverBegins (End.Rejected why) (D.taken out.old) (D.taken out.new) result }
     // The run of any other ends well where it read all rows and wrote what the program means for them,

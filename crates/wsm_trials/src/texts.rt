@@ -4,7 +4,7 @@ use crate::given::{BASE, BASE_ROWS, BASE_TEXT, is_whole, ran};
 use std::alloc::Global;
 use std::process::Abort;
 use std::test::Fail;
-use wsm::{End, Place, Refusal};
+use wsm::{End, InputRefusal, Place};
 
 /// How a text was taken.
 #[derive(Clone, Copy, Debug, PartialEq, Eq)]
@@ -67,8 +67,8 @@ fn tried(alloc: Global, text: &[u8]) -> Taken {
     match end {
         Ok(_) if is_whole(&written) => Taken::Ran,
         Err(_) if !written.is_empty() => Taken::Wrong,
-        Err(End::Refused(Refusal::Text(_, place))) if stands_in(text, place) => Taken::Misread,
-        Err(End::Refused(Refusal::Check(..))) => Taken::Unchecked,
+        Err(End::Refused(InputRefusal::Text(_, place))) if stands_in(text, place) => Taken::Misread,
+        Err(End::Refused(InputRefusal::Check(..))) => Taken::Unchecked,
         Err(End::Rejected(_)) => Taken::Rejected,
         _ => Taken::Wrong,
     }

@@ -1,7 +1,7 @@
 use Rattle.std.proofs.lemmas.Result.{err_from_is_err_and}
 use Rattle.wsm_query.specs.Seen.{seen}
 use Rattle.wsm.proofs.Judgements.{text_ends, check_ends, text_passes}
-use Rattle.wsm.proofs.judged.program_of_text.Goals as goal
+use Rattle.wsm.proofs.inputs.program_of_text.Goals as goal
 
 pub returns-in_err-query-clause-refused : goal.returns-in_err-query-clause-refused
 returns-in_err-query-clause-refused c =

@@ -4,7 +4,7 @@ use Rattle.std.specs.Io.KnownBytes.{Appends}
 use Rattle.wsm_csv.proofs.Written.{Keeps-Appends, TakesPart-all}
 use Rattle.wsm.specs.Verdict.{report}
 use Rattle.wsm.proofs.Texts.{Keeps-same}
-use Rattle.wsm.proofs.verdict.judge.Goals as goal
+use Rattle.wsm.proofs.judging.judge.Goals as goal
 
 -- a flush that fails keeps what was written, and that is all
 pub returns-in_err-flush-clause-stops : goal.returns-in_err-flush-clause-stops

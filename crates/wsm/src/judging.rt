@@ -7,7 +7,7 @@ ghost use Rattle.wsm.specs.Judged.{bytes_judged};
 ghost use Rattle.wsm.specs.Verdict.{listing, verdict, Reports, StopsBy};
 
 use crate::end::End;
-use crate::judged::{program_of_bytes, verified};
+use crate::inputs::{program_of_bytes, verified};
 use std::alloc::{AllocError, Global};
 use wsm_bytecode::{Program, disassemble};
 use wsm_csv::{Device, write_out};

@@ -1,6 +1,6 @@
 use Rattle.std.proofs.lemmas.Result.{err_from_is_err_and}
 use Rattle.wsm.proofs.Judgements.{bytes_end, bytes_pass}
-use Rattle.wsm.proofs.judged.program_of_bytes.Goals as goal
+use Rattle.wsm.proofs.inputs.program_of_bytes.Goals as goal
 
 pub returns-in_err-decode-clause-refused : goal.returns-in_err-decode-clause-refused
 returns-in_err-decode-clause-refused c =
