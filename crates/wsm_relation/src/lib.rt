@@ -22,7 +22,7 @@
 //! ```
 #![tactic(auto)]
 
-pub use changes::Changes;
+pub use changes::{Change, Changes};
 pub use order::row_order;
 pub use relation::{Relation, dstream, istream, rstream};
 

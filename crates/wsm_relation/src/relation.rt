@@ -1,6 +1,6 @@
 //! A relation at an instant.
 
-ghost use Rattle.std.specs.Prelude.{◌≡◌, ◌<◌, ◌+◌, ◌≤◌, [], ◌++◌, length, nat_eq, IfOk, vec_len, vec_capacity};
+ghost use Rattle.std.specs.Prelude.{◌≡◌, ◌<◌, ◌+◌, ◌≤◌, [], ◌∷◌, ◌++◌, length, nat_eq, drop, IfOk, vec_len, vec_capacity};
 ghost use Rattle.wsm_semantics.specs.Relation.{with_row, without_one, difference};
 ghost use Rattle.wsm_relation.specs.Rows.{IsInOrder, IsExcess, count_of};
 
@@ -69,6 +69,14 @@ impl Relation {
         ensures { result ≡ self.now.columns }
     {
         self.columns
+    }
+
+    /// A row, by its place in row order.
+    pub fn get(&self, i: usize) -> &Columns
+        requires { i < length self.now.rows }
+        ensures { drop i self.now.rows ≡ result.now ∷ drop (i + 1) self.now.rows }
+    {
+        &self.rows[i]
     }
 
     /// Removes all rows.
