@@ -12,7 +12,7 @@ use Rattle.wsm_windows.specs.Places.{window_of}
 use Rattle.wsm_semantics.specs.Query.{Query}
 use Rattle.wsm_semantics.specs.Summaries.{Pane, Plan, all_fired, relation_of}
 use Rattle.wsm_semantics.proofs.RowsBound.{length-sorted_rows}
-use Rattle.wsm_firing.specs.Streams.{Standing, IsTold, AreAlike, CanAdvance, CanTell, relation_kept, standing_rows}
+use Rattle.wsm_firing.specs.Streams.{Told, IsTold, AreAlike, CanAdvance, CanTell, relation_kept, standing_rows}
 use Rattle.wsm_firing.proofs.StreamRows.{before_is, changed_none}
 use Rattle.wsm_firing.proofs.StandingRows.{few_rows}
 use Rattle.wsm_semantics.specs.HeldBounds.{most_panes, most_rows}
@@ -23,15 +23,15 @@ use Rattle.wsm_engine.specs.declared.runner.Runner.{Runner}
 use Rattle.wsm_engine.specs.Runner.{AreTold, IsOf, last_relation}
 use Rattle.wsm_engine.proofs.HeldByHistory.{Panes}
 
-pub last_is : (s : Standing) (es : Panes) (before : List (List Cell)) → IsTold s before (standing_rows es) → last_relation s es ≡ before
+pub last_is : (s : Told) (es : Panes) (before : List (List Cell)) → IsTold s before (standing_rows es) → last_relation s es ≡ before
 last_is s es before told = before_is s.form s.numbers s.rows before (standing_rows es) told
 
-pub are_told : (most : ℕ) (s : Standing) (es : Panes) (before : List (List Cell)) → IsTold s before (standing_rows es) → length before ≤ most → AreTold most s es
+pub are_told : (most : ℕ) (s : Told) (es : Panes) (before : List (List Cell)) → IsTold s before (standing_rows es) → length before ≤ most → AreTold most s es
 are_told most s es before told few =
     let same : last_relation s es ≡ before = last_is s es before told in
     record { told = subst (λ b. IsTold s b (standing_rows es)) (sym same) told; few = subst (λ b. length b ≤ most) (sym same) few }
 
-pub can_tell : (most : ℕ) (s t : Standing) (es fs : Panes) → AreTold most s es → s.room ≡ most → AreAlike s t → ((relation : List (List Cell)) → IsTold s relation (standing_rows es) → IsTold t relation (standing_rows fs)) → length fs ≤ most → CanTell t fs
+pub can_tell : (most : ℕ) (s t : Told) (es fs : Panes) → AreTold most s es → s.room ≡ most → AreAlike s t → ((relation : List (List Cell)) → IsTold s relation (standing_rows es) → IsTold t relation (standing_rows fs)) → length fs ≤ most → CanTell t fs
 can_tell most s t es fs was room alike further few = record {
   before = last_relation s es;
   told = further (last_relation s es) was.told;
@@ -39,10 +39,10 @@ can_tell most s t es fs was room alike further few = record {
   few = omega (arith, few, room, alike.room);
 }
 
-pub same_alike : (s : Standing) → AreAlike s s
+pub same_alike : (s : Told) → AreAlike s s
 same_alike s = record { form = refl; room = refl }
 
-pub can_advance : (s : Standing) (es : Panes) → CanTell s es → CanAdvance s
+pub can_advance : (s : Told) (es : Panes) → CanTell s es → CanAdvance s
 can_advance s es can = record { before = can.before; now = standing_rows es; told = can.told; within = record { few_before = can.few_before; few_now = omega (arith, can.few, few_rows es) } }
 
 few_kept : (f : Form) (before now : List (List Cell)) (n : ℕ) → length before ≤ n → length now ≤ n → length (relation_kept f before now) ≤ n
@@ -56,7 +56,7 @@ few_once f true before now n b m = few_kept f before now n b m
 few_once f false before now n b m = b
 
 -- and be told further, at the next instant where there is one
-pub can_go_on : (s t : Standing) (rose : Bool) (es : Panes) → (can : CanTell s es) → AreAlike s t → IsTold t (cond rose (relation_kept s.form can.before (relation_of es)) can.before) (standing_rows es) → CanTell t es
+pub can_go_on : (s t : Told) (rose : Bool) (es : Panes) → (can : CanTell s es) → AreAlike s t → IsTold t (cond rose (relation_kept s.form can.before (relation_of es)) can.before) (standing_rows es) → CanTell t es
 can_go_on s t rose es can alike told = record {
   before = cond rose (relation_kept s.form can.before (relation_of es)) can.before;
   told = told;
@@ -74,9 +74,9 @@ none_told form.Istream room = changed_none []
 none_told form.Dstream room = changed_none []
 none_told form.Rstream room = record { none = refl; ordered = tt; same = λ q. refl }
 
-pub open_is : (s : Standing) (es : Panes) (f : Form) (room : ℕ) → s ≡ record { form = f; room = room; numbers = []; rows = [] } → es ≡ [] → IsTold s [] (standing_rows es)
+pub open_is : (s : Told) (es : Panes) (f : Form) (room : ℕ) → s ≡ record { form = f; room = room; numbers = []; rows = [] } → es ≡ [] → IsTold s [] (standing_rows es)
 open_is s es f room is none =
-    subst (λ (t : Standing). IsTold t [] (standing_rows es)) (sym is) (subst (λ (fs : Panes). IsTold (record { form = f; room = room; numbers = []; rows = [] }) [] (standing_rows fs)) (sym none) (none_told f room))
+    subst (λ (t : Told). IsTold t [] (standing_rows es)) (sym is) (subst (λ (fs : Panes). IsTold (record { form = f; room = room; numbers = []; rows = [] }) [] (standing_rows fs)) (sym none) (none_told f room))
 
 -- the runner is the program's still
 pub of_next : (p : Program) (r n : Runner) → IsOf p r → IsKept r.held n.held → AreAlike r.streams n.streams → vec_capacity n.rows ≡ vec_capacity r.rows → AreTold (most_panes (query_of p)) n.streams (entries_of n.held) → IsOf p n
@@ -93,7 +93,7 @@ of_next p r n of keeps alike rows told = record {
   streams = told;
 }
 
-pub alike_on : (s t u : Standing) → AreAlike s t → AreAlike t u → AreAlike s u
+pub alike_on : (s t u : Told) → AreAlike s t → AreAlike t u → AreAlike s u
 alike_on s t u a b = record { form = b.form ∙ a.form; room = b.room ∙ a.room }
 
 -- a pane that fires stays where it is

@@ -25,17 +25,17 @@ use Rattle.wsm_verifier.specs.Rules.{judge}
 use Rattle.wsm_machine.specs.Meaning.{query_of, plan_of, selects, update_run, joins_held, windows_entered}
 use Rattle.wsm_panes.specs.declared.widths.Widths.{Widths}
 use Rattle.wsm_panes.specs.Held.{Held, entries_of}
-use Rattle.wsm_firing.specs.Streams.{Standing, IsTold, relation_before, standing_rows}
+use Rattle.wsm_firing.specs.Streams.{Told, IsTold, relation_before, standing_rows}
 use Rattle.std.specs.Prelude.{IsTrue}
 use Rattle.wsm_windows.specs.declared.place.Place.{Place}
 use Rattle.wsm_engine.specs.declared.runner.Runner.{Runner}
 
 -- the relation at the last instant, by what the streams were told since
-abbrev pub last_relation : Standing → List (Place × Pane (List Value)) → List (List Cell)
+abbrev pub last_relation : Told → List (Place × Pane (List Value)) → List (List Cell)
 last_relation s panes = relation_before s.form s.numbers (relation_of panes)
 
 -- the streams were told of the panes, of no more rows than so many
-pub record AreTold (most : ℕ) (s : Standing) (panes : List (Place × Pane (List Value))) : Type 0 where
+pub record AreTold (most : ℕ) (s : Told) (panes : List (Place × Pane (List Value))) : Type 0 where
   pub told : IsTold s (last_relation s panes) (standing_rows panes)
   pub few : length (last_relation s panes) ≤ most
 

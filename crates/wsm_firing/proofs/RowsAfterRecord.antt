@@ -16,7 +16,7 @@ use Rattle.wsm_windows.specs.Life.{live_windows_of}
 use Rattle.wsm_windows.specs.declared.place.Place.{Place}
 use Rattle.wsm_windows.specs.Places.{place_cmp, at}
 use Rattle.wsm_windows.proofs.Places.{places_total, places_exact}
-use Rattle.wsm_semantics.specs.declared.standing.Standing.{Standing as PaneStanding}
+use Rattle.wsm_semantics.specs.declared.standing.Standing.{Standing}
 use Rattle.wsm_semantics.specs.declared.standing.Standing.TheVariants.{Unfired, Row, Joined}
 use Rattle.wsm_semantics.specs.Query.{Datum}
 use Rattle.wsm_semantics.specs.Replay.{datum}
@@ -102,7 +102,7 @@ module _ (gap : ℤ) (d : Datum) where
       ]
 
 -- two sessions that both fired stand for nothing once they are joined, and else for what stood before
-joined_none : (s t : PaneStanding) → has_fired s && has_fired t ≡ true → standing_row (standing_joined s t) ≡ None
+joined_none : (s t : Standing) → has_fired s && has_fired t ≡ true → standing_row (standing_joined s t) ≡ None
 joined_none Unfired t h = absurd (cc)
 joined_none (Row v r) Unfired h = absurd (cc)
 joined_none (Row v r) (Row w u) h = refl
@@ -111,7 +111,7 @@ joined_none Joined Unfired h = absurd (cc)
 joined_none Joined (Row w u) h = refl
 joined_none Joined Joined h = refl
 
-joined_row : (q : List Cell) (s t : PaneStanding) → has_fired s && has_fired t ≡ false → count_in q (standing_row (standing_joined s t)) ≡ count_in q (standing_row s) + count_in q (standing_row t)
+joined_row : (q : List Cell) (s t : Standing) → has_fired s && has_fired t ≡ false → count_in q (standing_row (standing_joined s t)) ≡ count_in q (standing_row s) + count_in q (standing_row t)
 joined_row q Unfired t h = omega arith
 joined_row q (Row v r) Unfired h = omega arith
 joined_row q (Row v r) (Row w u) h = absurd (cc)

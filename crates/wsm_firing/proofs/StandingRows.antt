@@ -13,7 +13,7 @@ use Rattle.wsm_windows.proofs.Places.{places_total}
 use Rattle.wsm_semantics.specs.Summaries.{Pane, standing_row}
 use Rattle.wsm_relation.specs.Rows.{count_of}
 use Rattle.wsm_semantics.proofs.RowBags.{once}
-use Rattle.wsm_firing.specs.Streams.{Standing, IsTold, AreAlike, CanTell, CanLose, CanGain, Tells, standing_rows}
+use Rattle.wsm_firing.specs.Streams.{Told, IsTold, AreAlike, CanTell, CanLose, CanGain, Tells, standing_rows}
 use Rattle.wsm_panes.proofs.Sorted.{lesser}
 use Rattle.wsm_firing.proofs.AtPlace.{first_of, second_of}
 use Rattle.wsm_firing.proofs.StreamRows.{Rows, told_same}
@@ -123,7 +123,7 @@ module _ (p : Place) (h : Pane Folded) (es : Panes) (sorted : T (is_sorted place
   few_rest : (o : Option (List Cell)) → length (cons_option o rest) ≤ length es
   few_rest o = omega (arith, length_cons o rest, few_rows (without p es), fewer p h es there)
 
-  pub can_lose : (s : Standing) → CanTell s es → CanLose s (row_at h)
+  pub can_lose : (s : Told) → CanTell s es → CanLose s (row_at h)
   can_lose s can = record {
     before = can.before;
     rest = rest;
@@ -131,7 +131,7 @@ module _ (p : Place) (h : Pane Folded) (es : Panes) (sorted : T (is_sorted place
     within = record { few_before = can.few_before; few_now = omega (arith, few_rest (row_at h), can.few) };
   }
 
-  module _ (s t : Standing) (lost : (before now : Rows) → IsTold s before (cons_option (row_at h) now) → IsTold t before now) where
+  module _ (s t : Told) (lost : (before now : Rows) → IsTold s before (cons_option (row_at h) now) → IsTold t before now) where
     told_lost : (before : Rows) → IsTold s before (standing_rows es) → IsTold t before rest
     told_lost before told = lost before rest (told_same s.form s.numbers s.rows before (standing_rows es) (cons_option (row_at h) rest) count_there told)
 
@@ -143,7 +143,7 @@ module _ (p : Place) (h : Pane Folded) (es : Panes) (sorted : T (is_sorted place
       within = record { few_before = omega (arith, can.few_before, alike.room); few_now = omega (arith, few_rest o, can.few, alike.room) };
     }
 
-    pub tells_fired : (u : Standing) (v : Pane Folded) → AreAlike s t → AreAlike t u → ((before now : Rows) → IsTold t before now → IsTold u before (cons_option (row_at v) now)) → Tells s u es (put place_cmp p v es)
+    pub tells_fired : (u : Told) (v : Pane Folded) → AreAlike s t → AreAlike t u → ((before now : Rows) → IsTold t before now → IsTold u before (cons_option (row_at v) now)) → Tells s u es (put place_cmp p v es)
     tells_fired u v alike then gained = record {
       told = λ before told. told_same u.form u.numbers u.rows before (cons_option (row_at v) rest) (standing_rows (put place_cmp p v es)) (λ q. count_cons q (row_at v) rest ∙ sym (count_put q p v es sorted)) (gained before rest (told_lost before told));
       alike = record { form = then.form ∙ alike.form; room = then.room ∙ alike.room };
@@ -152,17 +152,17 @@ module _ (p : Place) (h : Pane Folded) (es : Panes) (sorted : T (is_sorted place
 
 -- ---- one after another
 
-pub tells_none : (s : Standing) (es : Panes) → Tells s s es es
+pub tells_none : (s : Told) (es : Panes) → Tells s s es es
 tells_none s es = record { told = λ before told. told; alike = record { form = refl; room = refl }; as_many = refl }
 
-pub tells_on : (s t u : Standing) (es fs gs : Panes) → Tells s t es fs → Tells t u fs gs → Tells s u es gs
+pub tells_on : (s t u : Told) (es fs gs : Panes) → Tells s t es fs → Tells t u fs gs → Tells s u es gs
 tells_on s t u es fs gs a b = record {
   told = λ before told. b.told before (a.told before told);
   alike = record { form = b.alike.form ∙ a.alike.form; room = b.alike.room ∙ a.alike.room };
   as_many = b.as_many ∙ a.as_many;
 }
 
-pub can_tell_on : (s t : Standing) (es fs : Panes) → Tells s t es fs → CanTell s es → CanTell t fs
+pub can_tell_on : (s t : Told) (es fs : Panes) → Tells s t es fs → CanTell s es → CanTell t fs
 can_tell_on s t es fs tells can = record {
   before = can.before;
   told = tells.told can.before can.told;

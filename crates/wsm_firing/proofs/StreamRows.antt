@@ -1,5 +1,5 @@
 -- What is told of the relation, row by row, and what its streams write.
-use Rattle.std.proofs.Common.{◌≡◌, ◌≢◌, ◌⊎◌, ℕ, suc, ◌+◌, ◌≤◌, ◌<◌, true, false, List, [], ◌∷◌, map, length, refl, sym, ap, subst, ◌∙◌, inl, inr, arith}
+use Rattle.std.proofs.Common.{◌≡◌, ◌≢◌, ◌⊎◌, ℕ, zero, suc, ◌+◌, ◌≤◌, ◌<◌, true, false, List, [], ◌∷◌, ◌++◌, map, length, replicate, refl, sym, ap, subst, ◌∙◌, inl, inr, arith}
 use Rattle.std.specs.Prelude.{ℤ, pos, negsuc, ◌-ℤ◌, ◌<ℤ◌}
 use Rattle.std.specs.Ordering.{int_eq}
 use Rattle.std.proofs.lemmas.Bool.{cases_Bool}
@@ -9,15 +9,23 @@ use Rattle.wsm_record.specs.declared.words.Form.{Form}
 use Rattle.wsm_record.specs.declared.words.Form.TheVariants as form
 use Rattle.wsm_semantics.specs.Relation.{with_row, without_one, sorted_rows, difference}
 use Rattle.wsm_semantics.specs.Relation.{stream_rows}
+use Rattle.wsm_semantics.specs.declared.out_row.OutRow.{OutRow}
+use Rattle.wsm_semantics.specs.declared.out_row.OutRow.TheVariants.{Rstream}
 use Rattle.wsm_relation.specs.Bag.{Bag}
 use Rattle.wsm_relation.specs.Rows.{count_of}
-use Rattle.wsm_relation.specs.Tally.{Tally, number_of, shifted, gains, losses}
+use Rattle.wsm_relation.specs.Tally.{Tally, IsChange, number_of, shifted, copies, gains, losses}
 use Rattle.wsm_semantics.proofs.RowBags.{once, count-with_row, count-without_one, count-sorted_rows, with_row-in_order, without_one-in_order, sorted_rows-in_order, one_list}
 use Rattle.wsm_relation.proofs.Numbers.{is_zero, shifted-tally}
 use Rattle.wsm_relation.proofs.Copies.{gains-difference, losses-difference}
 use Rattle.wsm_semantics.proofs.RowsBound.{length-sorted_rows}
 use Rattle.wsm_relation.proofs.ToldChanges.{length-difference, few_numbers, undone_is, number_high, number_low, one_number_more, change_less, change_more, once_itself}
-use Rattle.wsm_firing.specs.Streams.{AreWithin, HasChanged, HasKept, HasRoomFor, HasRoomOfChanges, HasRoomOfRows, IsReserved, IsToldOf, relation_before, relation_kept, stream_of, stream_row}
+use Rattle.wsm_firing.specs.declared.streams.Kept.{Kept}
+use Rattle.wsm_firing.specs.declared.streams.Kept.TheVariants.{Changed}
+use Rattle.wsm_firing.specs.declared.streams.Kept.TheVariants as kept
+use Rattle.wsm_firing.specs.declared.streams.Side.{Side}
+use Rattle.wsm_firing.specs.declared.streams.Side.TheVariants.{Gained, Lost}
+use Rattle.wsm_firing.specs.Streams.{AreWithin, HasChanged, HasKept, HasRoomFor, IsToldOf, relation_before, relation_kept}
+use Rattle.wsm_firing.specs.StreamsKept.{HasRoomOfChanges, IsReserved, form_kept, numbers_kept, rows_kept, side_form, times_of, changed_rows, changed_row}
 
 abbrev pub Rows : Type 0
 Rows = List (List Cell)
@@ -36,7 +44,7 @@ changed_more r es before rest h = record { ordered = h.ordered; tally = shifted-
 module _ (r : List Cell) (es : Numbers) (before rest : Rows) (room most : ℕ) (within : AreWithin room before (r ∷ rest)) (twice : most ≡ room + room) where
   room_at : (n : ℕ) → (number_of r es ≡ pos 0 → n < most) → (number_of r es ≢ pos 0) ⊎ (n < most)
   room_at n less = elim (cases_Bool (int_eq (number_of r es) (pos 0))) [
-    | inl zero ↦ inr (less (is_zero (number_of r es) zero))
+    | inl none ↦ inr (less (is_zero (number_of r es) none))
     | inr other ↦ inl (λ is. let k : true ≡ false = sym (ap (λ z. int_eq z (pos 0)) is) ∙ other in cc)
   ]
 
@@ -88,29 +96,21 @@ kept_there r rows before rest h = let was : count_of r rows ≡ once r r + count
 pub kept_few : (rows before now : Rows) → HasKept rows before now → length rows ≡ length now
 kept_few rows before now h = ap length (kept_is rows before now h) ∙ length-sorted_rows now
 
+-- ---- by the side that is written
+
+pub as_changed : (s : Side) (es : Numbers) (rows before now : Rows) → IsToldOf (side_form s) es rows before now → HasChanged es before now
+as_changed Gained es rows before now h = h
+as_changed Lost es rows before now h = h
+
+pub as_told : (s : Side) (es : Numbers) (rows before now : Rows) → HasChanged es before now → IsToldOf (side_form s) es rows before now
+as_told Gained es rows before now h = h
+as_told Lost es rows before now h = h
+
+room_for : (s : Side) (n rows capacity : ℕ) → HasRoomFor (side_form s) n rows capacity → rows + n ≤ capacity
+room_for Gained n rows capacity h = h
+room_for Lost n rows capacity h = h
+
 -- ---- by the form
-
-module _ (f : Form) (is : (f ≡ form.Istream) ⊎ (f ≡ form.Dstream)) where
-  pub as_changed : (es : Numbers) (rows before now : Rows) → IsToldOf f es rows before now → HasChanged es before now
-  as_changed es rows before now h = elim is [
-    | inl i ↦ subst (λ (g : Form). IsToldOf g es rows before now) i h
-    | inr d ↦ subst (λ (g : Form). IsToldOf g es rows before now) d h
-  ]
-
-  pub as_told : (es : Numbers) (rows before now : Rows) → HasChanged es before now → IsToldOf f es rows before now
-  as_told es rows before now h = elim is [
-    | inl i ↦ subst (λ (g : Form). IsToldOf g es rows before now) (sym i) h
-    | inr d ↦ subst (λ (g : Form). IsToldOf g es rows before now) (sym d) h
-  ]
-
-  pub room_of_changes : (room : ℕ) (changes : Tally) (relation : Bag) (capacity : ℕ) → IsReserved f room changes relation capacity → HasRoomOfChanges room changes capacity
-  room_of_changes room changes relation capacity h = elim is [
-    | inl i ↦ subst (λ (g : Form). IsReserved g room changes relation capacity) i h
-    | inr d ↦ subst (λ (g : Form). IsReserved g room changes relation capacity) d h
-  ]
-
-pub room_of_rows : (f : Form) → f ≡ form.Rstream → (room : ℕ) (changes : Tally) (relation : Bag) (capacity : ℕ) → IsReserved f room changes relation capacity → HasRoomOfRows room relation capacity
-room_of_rows f is room changes relation capacity h = subst (λ (g : Form). IsReserved g room changes relation capacity) is h
 
 -- where rows are those of panes nothing is told
 pub told_of_panes : (f : Form) (es : Numbers) (rows before now next : Rows) → f ≡ form.Panes → IsToldOf f es rows before now → IsToldOf f es rows before next
@@ -132,50 +132,107 @@ before_is form.Istream es rows before now h = undone_is before (sorted_rows now)
 before_is form.Dstream es rows before now h = undone_is before (sorted_rows now) es h.tally (λ q. h.change q ∙ ap (λ n. pos n -ℤ pos (count_of q before)) (sym (count-sorted_rows q now))) h.ordered
 before_is form.Rstream es rows before now h = sym h.none
 
+-- ---- what is written
+
+same_change : (es : Numbers) (before now : Rows) → HasChanged es before now → IsChange before (sorted_rows now) es
+same_change es before now h = λ q. h.change q ∙ ap (λ n. pos n -ℤ pos (count_of q before)) (sym (count-sorted_rows q now))
+
 -- a stream is what the definitions say
-pub stream_is : (f : Form) (es : Numbers) (rows before now : Rows) (mark : ℤ) → (f ≡ form.Panes → ⊥) → IsToldOf f es rows before now →
-    map (stream_row f mark) (stream_of f es rows) ≡ stream_rows f mark before (sorted_rows now)
-stream_is form.Panes es rows before now mark other h = absurd (other refl)
-stream_is form.Istream es rows before now mark other h =
-    ap (map (stream_row form.Istream mark)) (gains-difference before (sorted_rows now) es h.tally (λ q. h.change q ∙ ap (λ n. pos n -ℤ pos (count_of q before)) (sym (count-sorted_rows q now))) (sorted_rows-in_order now))
-stream_is form.Dstream es rows before now mark other h =
-    ap (map (stream_row form.Dstream mark)) (losses-difference before (sorted_rows now) es h.tally (λ q. h.change q ∙ ap (λ n. pos n -ℤ pos (count_of q before)) (sym (count-sorted_rows q now))) h.ordered)
-stream_is form.Rstream es rows before now mark other h = ap (map (stream_row form.Rstream mark)) (kept_is rows before now h)
+pub changes_written : (s : Side) (es : Numbers) (before now : Rows) (mark : ℤ) → HasChanged es before now → map (changed_row s mark) (changed_rows s es) ≡ stream_rows (side_form s) mark before (sorted_rows now)
+changes_written Gained es before now mark h = ap (map (changed_row Gained mark)) (gains-difference before (sorted_rows now) es h.tally (same_change es before now h) (sorted_rows-in_order now))
+changes_written Lost es before now mark h = ap (map (changed_row Lost mark)) (losses-difference before (sorted_rows now) es h.tally (same_change es before now h) h.ordered)
 
 -- it has no more rows than there is room for
-pub stream_few : (f : Form) (es : Numbers) (rows before now : Rows) (room : ℕ) → (f ≡ form.Panes → ⊥) → IsToldOf f es rows before now → AreWithin room before now → length (stream_of f es rows) ≤ room
-stream_few form.Panes es rows before now room other h w = absurd (other refl)
-stream_few form.Istream es rows before now room other h w =
-    let same : gains es ≡ difference (sorted_rows now) before = gains-difference before (sorted_rows now) es h.tally (λ q. h.change q ∙ ap (λ n. pos n -ℤ pos (count_of q before)) (sym (count-sorted_rows q now))) (sorted_rows-in_order now) in
+pub changes_few : (s : Side) (es : Numbers) (before now : Rows) (room : ℕ) → HasChanged es before now → AreWithin room before now → length (changed_rows s es) ≤ room
+changes_few Gained es before now room h w =
+    let same : gains es ≡ difference (sorted_rows now) before = gains-difference before (sorted_rows now) es h.tally (same_change es before now h) (sorted_rows-in_order now) in
     omega (arith, ap length same, length-difference (sorted_rows now) before, length-sorted_rows now, w.few_now)
-stream_few form.Dstream es rows before now room other h w =
-    let same : losses es ≡ difference before (sorted_rows now) = losses-difference before (sorted_rows now) es h.tally (λ q. h.change q ∙ ap (λ n. pos n -ℤ pos (count_of q before)) (sym (count-sorted_rows q now))) h.ordered in
+changes_few Lost es before now room h w =
+    let same : losses es ≡ difference before (sorted_rows now) = losses-difference before (sorted_rows now) es h.tally (same_change es before now h) h.ordered in
     omega (arith, ap length same, length-difference before (sorted_rows now), w.few_before)
-stream_few form.Rstream es rows before now room other h w = omega (arith, kept_few rows before now h, w.few_now)
 
 -- the next instant
-pub told_on : (f : Form) (es : Numbers) (rows before now : Rows) → IsToldOf f es rows before now → (f ≡ form.Panes → ⊥) → IsToldOf f [] rows (relation_kept f before (sorted_rows now)) now
-told_on form.Panes es rows before now h other = absurd (other refl)
-told_on form.Istream es rows before now h other = changed_none now
-told_on form.Dstream es rows before now h other = changed_none now
-told_on form.Rstream es rows before now h other = h
+pub told_on : (s : Side) (rows before now : Rows) → IsToldOf (side_form s) [] rows (relation_kept (side_form s) before (sorted_rows now)) now
+told_on Gained rows before now = changed_none now
+told_on Lost rows before now = changed_none now
 
--- ---- what is reserved
+-- ---- by what is kept
 
-pub room_for : (f : Form) → (f ≡ form.Panes → ⊥) → (n rows capacity : ℕ) → HasRoomFor f n rows capacity → rows + n ≤ capacity
-room_for form.Panes other n rows capacity r = absurd (other refl)
-room_for form.Istream other n rows capacity r = r
-room_for form.Dstream other n rows capacity r = r
-room_for form.Rstream other n rows capacity r = r
+abbrev pub IsToldBy : Kept → Rows → Rows → Type 0
+IsToldBy k before now = IsToldOf (form_kept k) (numbers_kept k) (rows_kept k) before now
 
-pub room_written : (f : Form) → (f ≡ form.Panes → ⊥) → (room : ℕ) (changes : Tally) (relation : Bag) (capacity : ℕ) → IsReserved f room changes relation capacity → room ≤ capacity
-room_written form.Panes other room changes relation capacity r = absurd (other refl)
-room_written form.Istream other room changes relation capacity r = r.written
-room_written form.Dstream other room changes relation capacity r = r.written
-room_written form.Rstream other room changes relation capacity r = r.written
+module _ (k : Kept) (s : Side) (changes : Tally) (is : k ≡ Changed s changes) where
+  pub changed_by : (before now : Rows) → IsToldBy k before now → HasChanged changes.numbers before now
+  changed_by before now told = as_changed s changes.numbers [] before now (subst (λ j. IsToldBy j before now) is told)
 
-pub still_reserved : (f : Form) (room : ℕ) (changes other : Tally) (relation : Bag) (capacity more : ℕ) → other.room ≡ changes.room → capacity ≤ more → IsReserved f room changes relation capacity → IsReserved f room other relation more
-still_reserved form.Panes room changes other relation capacity more same h r = r
-still_reserved form.Istream room changes other relation capacity more same h r = record { most = r.most; twice = same ∙ r.twice; written = omega (arith, h, r.written) }
-still_reserved form.Dstream room changes other relation capacity more same h r = record { most = r.most; twice = same ∙ r.twice; written = omega (arith, h, r.written) }
-still_reserved form.Rstream room changes other relation capacity more same h r = record { rows = r.rows; written = omega (arith, h, r.written) }
+  pub changes_lost : (row : List Cell) (t : Tally) → t ≡ record changes { numbers = shifted row (negsuc 0) changes.numbers } → (before now : Rows) → IsToldBy k before (row ∷ now) → IsToldBy (Changed s t) before now
+  changes_lost row t told-is before now told =
+      subst (λ (u : Tally). IsToldOf (side_form s) u.numbers [] before now) (sym told-is)
+      (as_told s (shifted row (negsuc 0) changes.numbers) [] before now (changed_less row changes.numbers before now (changed_by before (row ∷ now) told)))
+
+  pub changes_gained : (row : List Cell) (t : Tally) → t ≡ record changes { numbers = shifted row (pos 1) changes.numbers } → (before now : Rows) → IsToldBy k before now → IsToldBy (Changed s t) before (row ∷ now)
+  changes_gained row t told-is before now told =
+      subst (λ (u : Tally). IsToldOf (side_form s) u.numbers [] before (row ∷ now)) (sym told-is)
+      (as_told s (shifted row (pos 1) changes.numbers) [] before (row ∷ now) (changed_more row changes.numbers before now (changed_by before now told)))
+
+  pub changes_on : (t : Tally) → t ≡ record changes { numbers = [] } → (before now : Rows) → IsToldBy (Changed s t) (relation_kept (form_kept k) before (sorted_rows now)) now
+  changes_on t told-is before now =
+      subst (λ (x : Tally × Kept). IsToldOf (side_form s) x.0.numbers [] (relation_kept (form_kept x.1) before (sorted_rows now)) now) (λ i. (sym told-is i, sym is i)) (told_on s [] before now)
+
+  pub changes_rows : (before now : Rows) (mark : ℤ) → IsToldBy k before now → map (changed_row s mark) (changed_rows s changes.numbers) ≡ stream_rows (form_kept k) mark before (sorted_rows now)
+  changes_rows before now mark told = changes_written s changes.numbers before now mark (changed_by before now told) ∙ ap (λ (j : Kept). stream_rows (form_kept j) mark before (sorted_rows now)) (sym is)
+
+  pub room_of_changes : (room : ℕ) → IsReserved room k → HasRoomOfChanges room changes
+  room_of_changes room h = subst (IsReserved room) is h
+
+  pub room_for_changes : (n rows capacity : ℕ) → HasRoomFor (form_kept k) n rows capacity → rows + n ≤ capacity
+  room_for_changes n rows capacity h = room_for s n rows capacity (subst (λ j. HasRoomFor (form_kept j) n rows capacity) is h)
+
+module _ (k : Kept) (relation : Bag) (is : k ≡ kept.Rows relation) where
+  pub kept_by : (before now : Rows) → IsToldBy k before now → HasKept relation.rows before now
+  kept_by before now told = subst (λ j. IsToldBy j before now) is told
+
+  pub row_lost : (row : List Cell) (b : Bag) → b ≡ record relation { rows = without_one row relation.rows } → (before now : Rows) → IsToldBy k before (row ∷ now) → IsToldBy (kept.Rows b) before now
+  row_lost row b told-is before now told = subst (λ (d : Bag). HasKept d.rows before now) (sym told-is) (kept_less row relation.rows before now (kept_by before (row ∷ now) told))
+
+  pub row_gained : (row : List Cell) (b : Bag) → b ≡ record relation { rows = with_row row relation.rows } → (before now : Rows) → IsToldBy k before now → IsToldBy (kept.Rows b) before (row ∷ now)
+  row_gained row b told-is before now told = subst (λ (d : Bag). HasKept d.rows before (row ∷ now)) (sym told-is) (kept_more row relation.rows before now (kept_by before now told))
+
+  pub rows_on : (before now : Rows) → IsToldBy k before now → IsToldBy (kept.Rows relation) (relation_kept (form_kept k) before (sorted_rows now)) now
+  rows_on before now told = subst (λ (j : Kept). HasKept relation.rows (relation_kept (form_kept j) before (sorted_rows now)) now) (sym is) (kept_by before now told)
+
+  pub standing_written : (before now : Rows) (mark : ℤ) → IsToldBy k before now → map (Rstream mark) relation.rows ≡ stream_rows (form_kept k) mark before (sorted_rows now)
+  standing_written before now mark told = ap (map (Rstream mark)) (kept_is relation.rows before now (kept_by before now told)) ∙ ap (λ (j : Kept). stream_rows (form_kept j) mark before (sorted_rows now)) (sym is)
+
+  pub room_of_rows : (room : ℕ) → IsReserved room k → relation.room ≡ room
+  room_of_rows room h = subst (IsReserved room) is h
+
+  pub room_for_rows : (n rows capacity : ℕ) → HasRoomFor (form_kept k) n rows capacity → rows + n ≤ capacity
+  room_for_rows n rows capacity h = subst (λ j. HasRoomFor (form_kept j) n rows capacity) is h
+
+-- where nothing is kept nothing is told, and nothing written
+module _ (k : Kept) (is : k ≡ kept.Nothing) where
+  pub nothing_told : (before now next : Rows) → IsToldBy k before now → IsToldBy k before next
+  nothing_told before now next told = told_of_panes (form_kept k) (numbers_kept k) (rows_kept k) before now next (ap form_kept is) told
+
+  pub nothing_on : (before now : Rows) → IsToldBy k before now → IsToldBy k (relation_kept (form_kept k) before (sorted_rows now)) now
+  nothing_on before now told = subst (λ (j : Kept). IsToldBy j (relation_kept (form_kept j) before (sorted_rows now)) now) (sym is) (subst (λ (j : Kept). IsToldBy j before now) is told)
+
+  pub nothing_written : (before now : Rows) (mark : ℤ) → [] ≡ stream_rows (form_kept k) mark before (sorted_rows now)
+  nothing_written before now mark = ap (λ (j : Kept). stream_rows (form_kept j) mark before (sorted_rows now)) (sym is)
+
+-- ---- the rows of a side, change by change
+
+-- a change stands in front of those behind it
+pub changed_from : (s : Side) (r : List Cell) (z : ℤ) (es : Numbers) → changed_rows s ((r, z) ∷ es) ≡ copies (times_of s z) r (changed_rows s es)
+changed_from Gained r z es = refl
+changed_from Lost r z es = refl
+
+-- and so do their rows
+pub rows_from : (f : List Cell → OutRow) (n : ℕ) (r : List Cell) (rows : Rows) → map f (copies n r rows) ≡ replicate n (f r) ++ map f rows
+rows_from f zero r rows = refl
+rows_from f (suc n) r rows = ap (λ l. f r ∷ l) (rows_from f n r rows)
+
+pub none_changed : (s : Side) → changed_rows s [] ≡ []
+none_changed Gained = refl
+none_changed Lost = refl

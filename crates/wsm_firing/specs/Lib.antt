@@ -4,4 +4,5 @@ pub mod Firing
 pub mod ByRecord
 pub mod ByWatermark
 pub mod Streams
+pub mod StreamsKept
 pub mod Retracting

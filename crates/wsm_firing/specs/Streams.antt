@@ -2,7 +2,6 @@
 use Rattle.std.specs.Prelude.{◌≡◌, ℕ, ◌+◌, ◌≤◌, Bool, false, not, ◌&&◌, List, [], ◌∷◌, length, ℤ, filter_map, Option, if◌then◌else◌}
 use Rattle.std.specs.List.{cons_option}
 use Rattle.std.specs.FinMap.Entries.{where_key}
-use Rattle.wsm_record.specs.declared.limits.TheConstants.{MAX_PANES}
 use Rattle.wsm_record.specs.declared.event.Value.{Value}
 use Rattle.wsm_record.specs.declared.cell.Cell.{Cell}
 use Rattle.wsm_record.specs.declared.words.Form.{Form}
@@ -11,19 +10,16 @@ use Rattle.wsm_windows.specs.declared.window.Shape.{Shape}
 use Rattle.wsm_windows.specs.declared.window.Shape.TheVariants.{Session}
 use Rattle.wsm_windows.specs.declared.place.Place.{Place}
 use Rattle.wsm_windows.specs.Places.{place_cmp}
-use Rattle.wsm_semantics.specs.declared.out_row.OutRow.{OutRow}
-use Rattle.wsm_semantics.specs.declared.out_row.OutRow.TheVariants.{Istream, Dstream, Rstream}
 use Rattle.wsm_semantics.specs.Query.{Datum}
 use Rattle.wsm_semantics.specs.Kept.{is_linked}
 use Rattle.wsm_semantics.specs.Summaries.{Pane, linked, standing_row}
 use Rattle.wsm_panes.specs.Held.{has_fired}
-use Rattle.wsm_relation.specs.Bag.{Bag}
 use Rattle.wsm_relation.specs.Rows.{IsInOrder, count_of}
-use Rattle.wsm_relation.specs.Tally.{Tally, IsTally, IsChange, gains, losses, undone}
+use Rattle.wsm_relation.specs.Tally.{IsTally, IsChange, undone}
 
--- a form, room for so many rows, what changed since the last instant, and the rows that stand: the
--- former where changes are written, the latter where all rows are
-pub record Standing : Type 0 where
+-- what the streams keep of what they were told: a form, room for so many rows, what changed since the
+-- last instant, where that is written, and the rows that stand, where all are
+pub record Told : Type 0 where
   pub form : Form
   pub room : ℕ
   pub numbers : List (List Cell × ℤ)
@@ -61,14 +57,15 @@ IsToldOf form.Istream numbers rows before now = HasChanged numbers before now
 IsToldOf form.Dstream numbers rows before now = HasChanged numbers before now
 IsToldOf form.Rstream numbers rows before now = HasKept rows before now
 
-abbrev pub IsTold : Standing → List (List Cell) → List (List Cell) → Type 0
+abbrev pub IsTold : Told → List (List Cell) → List (List Cell) → Type 0
 IsTold s before now = IsToldOf s.form s.numbers s.rows before now
 
 -- the relation at the last instant, from the one now: it is kept where changes against it are written
 abbrev pub relation_before : Form → List (List Cell × ℤ) → List (List Cell) → List (List Cell)
 relation_before form.Istream numbers now = undone numbers now
 relation_before form.Dstream numbers now = undone numbers now
-relation_before _ numbers now = []
+relation_before form.Panes numbers now = []
+relation_before form.Rstream numbers now = []
 
 -- no more rows than there is room for
 pub record AreWithin (room : ℕ) (before now : List (List Cell)) : Type 0 where
@@ -76,7 +73,7 @@ pub record AreWithin (room : ℕ) (before now : List (List Cell)) : Type 0 where
   pub few_now : length now ≤ room
 
 -- what was told, of no more rows than there is room for, before the relation loses a row, if there is one
-pub record CanLose (s : Standing) (row : Option (List Cell)) : Type 0 where
+pub record CanLose (s : Told) (row : Option (List Cell)) : Type 0 where
   pub before : List (List Cell)
   pub rest : List (List Cell)
   pub told : IsTold s before (cons_option row rest)
@@ -87,40 +84,40 @@ abbrev pub rows_and : Pane (List Value) → Pane (List Value) → List (List Cel
 rows_and v w rows = if has_fired v.stands && has_fired w.stands then cons_option (standing_row v.stands) (cons_option (standing_row w.stands) rows) else rows
 
 -- before it loses those of two panes
-pub record CanLosePair (s : Standing) (v w : Pane (List Value)) : Type 0 where
+pub record CanLosePair (s : Told) (v w : Pane (List Value)) : Type 0 where
   pub before : List (List Cell)
   pub rest : List (List Cell)
   pub told : IsTold s before (rows_and v w rest)
   pub within : AreWithin s.room before (rows_and v w rest)
 
 -- before it gains one
-pub record CanGain (s : Standing) (row : Option (List Cell)) : Type 0 where
+pub record CanGain (s : Told) (row : Option (List Cell)) : Type 0 where
   pub before : List (List Cell)
   pub now : List (List Cell)
   pub told : IsTold s before now
   pub within : AreWithin s.room before (cons_option row now)
 
 -- before it is written
-pub record CanAdvance (s : Standing) : Type 0 where
+pub record CanAdvance (s : Told) : Type 0 where
   pub before : List (List Cell)
   pub now : List (List Cell)
   pub told : IsTold s before now
   pub within : AreWithin s.room before now
 
 -- what was told of these panes, of which there are no more than there is room for
-pub record CanTell {X : Type 0} (s : Standing) (panes : List (Place × Pane X)) : Type 0 where
+pub record CanTell {X : Type 0} (s : Told) (panes : List (Place × Pane X)) : Type 0 where
   pub before : List (List Cell)
   pub told : IsTold s before (standing_rows panes)
   pub few_before : length before ≤ s.room
   pub few : length panes ≤ s.room
 
 -- the form and the room stay
-pub record AreAlike (old new : Standing) : Type 0 where
+pub record AreAlike (old new : Told) : Type 0 where
   pub form : new.form ≡ old.form
   pub room : new.room ≡ old.room
 
 -- what was told of some panes is told of those that they became, as many
-pub record Tells {X : Type 0} (old new : Standing) (before after : List (Place × Pane X)) : Type 0 where
+pub record Tells {X : Type 0} (old new : Told) (before after : List (Place × Pane X)) : Type 0 where
   pub told : (relation : List (List Cell)) → IsTold old relation (standing_rows before) → IsTold new relation (standing_rows after)
   pub alike : AreAlike old new
   pub as_many : length after ≡ length before
@@ -130,39 +127,13 @@ pub record Tells {X : Type 0} (old new : Standing) (before after : List (Place �
 -- there is room for so many rows more, where rows are those of a stream
 abbrev pub HasRoomFor : Form → ℕ → ℕ → ℕ → Type 0
 HasRoomFor form.Panes n rows capacity = Unit {0}
-HasRoomFor _ n rows capacity = rows + n ≤ capacity
+HasRoomFor form.Istream n rows capacity = rows + n ≤ capacity
+HasRoomFor form.Dstream n rows capacity = rows + n ≤ capacity
+HasRoomFor form.Rstream n rows capacity = rows + n ≤ capacity
 
 -- the relation that is kept after an instant, from the one before and the one that panes stand for
 abbrev pub relation_kept : Form → List (List Cell) → List (List Cell) → List (List Cell)
 relation_kept form.Istream old now = now
 relation_kept form.Dstream old now = now
-relation_kept _ old now = old
-
--- a row of a stream
-abbrev pub stream_row : Form → ℤ → List Cell → OutRow
-stream_row form.Istream mark row = Istream mark row
-stream_row form.Dstream mark row = Dstream mark row
-stream_row _ mark row = Rstream mark row
-
--- the rows of a stream
-abbrev pub stream_of : Form → List (List Cell × ℤ) → List (List Cell) → List (List Cell)
-stream_of form.Istream numbers rows = gains numbers
-stream_of form.Dstream numbers rows = losses numbers
-stream_of _ numbers rows = rows
-
--- ---- what is reserved
-
-pub record HasRoomOfChanges (room : ℕ) (changes : Tally) (capacity : ℕ) : Type 0 where
-  pub most : room ≤ MAX_PANES
-  pub twice : changes.room ≡ room + room
-  pub written : room ≤ capacity
-
-pub record HasRoomOfRows (room : ℕ) (relation : Bag) (capacity : ℕ) : Type 0 where
-  pub rows : relation.room ≡ room
-  pub written : room ≤ capacity
-
-abbrev pub IsReserved : Form → ℕ → Tally → Bag → ℕ → Type 0
-IsReserved form.Panes room changes relation capacity = Unit {0}
-IsReserved form.Istream room changes relation capacity = HasRoomOfChanges room changes capacity
-IsReserved form.Dstream room changes relation capacity = HasRoomOfChanges room changes capacity
-IsReserved form.Rstream room changes relation capacity = HasRoomOfRows room relation capacity
+relation_kept form.Panes old now = old
+relation_kept form.Rstream old now = old

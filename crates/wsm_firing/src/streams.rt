@@ -4,21 +4,23 @@ ghost use Rattle.std.specs.FinMap.Entries.{find};
 ghost use Rattle.wsm_windows.specs.Places.{place_cmp};
 ghost use Rattle.wsm_record.specs.declared.event.Value.{Value};
 ghost use Rattle.wsm_panes.specs.Held.{IsSpot, entries_of};
-ghost use Rattle.std.specs.Prelude.{◌≡◌, ◌≤◌, ◌+◌, ◌++◌, [], ◌∷◌, List, IsSome, Some, map, length, option_map, IfOk, IfSome, vec_len, vec_capacity};
+ghost use Rattle.std.specs.Prelude.{◌≡◌, ◌≤◌, ◌+◌, ◌++◌, [], ◌∷◌, List, IsSome, Some, map, length, option_map, replicate, ◌*◌, IfOk, IfSome, vec_len, vec_capacity};
 ghost use Rattle.std.specs.List.{cons_option};
 ghost use Rattle.wsm_record.specs.declared.cell.Cell.{Cell};
 ghost use Rattle.wsm_record.specs.declared.limits.TheConstants.{MAX_COLUMNS};
 ghost use Rattle.wsm_semantics.specs.Relation.{sorted_rows};
 ghost use Rattle.wsm_semantics.specs.Summaries.{Pane, standing_row};
 ghost use Rattle.wsm_semantics.specs.Relation.{stream_rows};
-ghost use Rattle.wsm_firing.specs.Streams.{AreAlike, CanAdvance, CanGain, CanLose, HasRoomFor, IsTold, relation_kept, stream_of, stream_row};
+ghost use Rattle.wsm_firing.specs.Streams.{AreAlike, CanAdvance, CanGain, CanLose, HasRoomFor, IsTold, relation_kept};
+ghost use Rattle.wsm_firing.specs.StreamsKept.{changed_row, changed_rows, times_of};
+ghost use Rattle.wsm_semantics.specs.declared.out_row.OutRow.TheVariants.{Rstream};
 
 use std::alloc::{AllocError, Global};
 use std::marker::Model;
 use wsm_panes::{HeldPanes, PaneView, Spot};
 use wsm_record::limits::{MAX_COLUMNS, MAX_PANES};
 use wsm_record::{Cell, Columns, Form};
-use wsm_relation::{Changes, Relation, rstream};
+use wsm_relation::{Changes, Relation};
 use wsm_semantics::OutRow;
 
 /// The streams of the relation of the rows that stand for the panes that are held, which is told each
@@ -26,24 +28,38 @@ use wsm_semantics::OutRow;
 /// its rows (Arasu et al. 2006). Where rows are those of panes nothing is kept.
 #[derive(Drop)]
 pub struct Streams {
-    form: Form,
     room: usize,
-    // What changed since the last instant, where that is written.
-    changes: Changes,
-    // The rows that stand, where those are written.
-    relation: Relation,
-    written: Vec<Columns>,
+    kept: Kept,
+}
+
+// What is kept of the relation.
+#[derive(Drop)]
+enum Kept {
+    // Where rows are those of panes.
+    Nothing,
+    // What changed since the last instant, of which one side is written.
+    Changed(Side, Changes),
+    // The rows that stand, which are all written.
+    Rows(Relation),
+}
+
+// A side of what changed.
+#[derive(Clone, Copy)]
+enum Side {
+    Gained,
+    Lost,
 }
 
 impl Model for Streams {
-    ghost use Rattle.std.specs.Prelude.{◌≡◌, vec_capacity};
-    ghost use Rattle.wsm_firing.specs.Streams.{Standing, IsReserved};
+    ghost use Rattle.wsm_firing.specs.Streams.{Told};
 
-    ghost Value = { Standing };
+    ghost Value = { Told };
 
-    ghost view = { λ a. record { form = a.form; room = a.room; numbers = a.changes.numbers; rows = a.relation.rows } };
+    ghost use Rattle.wsm_firing.specs.StreamsKept.{IsReserved, form_kept, numbers_kept, rows_kept};
 
-    ghost invariant = { λ a. IsReserved a.form a.room a.changes a.relation (vec_capacity a.written) };
+    ghost view = { λ a. record { form = form_kept a.kept; room = a.room; numbers = numbers_kept a.kept; rows = rows_kept a.kept } };
+
+    ghost invariant = { λ a. IsReserved a.room a.kept };
 }
 
 impl Streams {
@@ -56,32 +72,25 @@ impl Streams {
         requires { room ≤ MAX_PANES }
         ensures { IfOk result (λ s. s ≡ record { form = form; room = room; numbers = []; rows = [] }) }
     {
-        let changed = match form {
-            Form::Istream | Form::Dstream => 2 * room,
-            Form::Panes | Form::Rstream => 0,
-        };
         let kept = match form {
-            Form::Rstream => room,
-            Form::Panes | Form::Istream | Form::Dstream => 0,
+            Form::Panes => Kept::Nothing,
+            Form::Istream => changed(alloc, Side::Gained, room)?,
+            Form::Dstream => changed(alloc, Side::Lost, room)?,
+            Form::Rstream => Kept::Rows(Relation::open(alloc, room, MAX_COLUMNS)?),
         };
-        let written = match form {
-            Form::Panes => 0,
-            Form::Istream | Form::Dstream | Form::Rstream => room,
-        };
-        Ok(Streams {
-            form,
-            room,
-            changes: Changes::open(alloc, changed, MAX_COLUMNS)?,
-            relation: Relation::open(alloc, kept, MAX_COLUMNS)?,
-            written: Vec::with_capacity(alloc, written)?,
-        })
+        Ok(Streams { room, kept })
     }
 
     /// The form of the rows.
     pub(crate) fn form(&self) -> Form
         ensures { result ≡ self.now.form }
     {
-        self.form
+        match &self.kept {
+            Kept::Nothing => Form::Panes,
+            Kept::Changed(Side::Gained, _) => Form::Istream,
+            Kept::Changed(Side::Lost, _) => Form::Dstream,
+            Kept::Rows(_) => Form::Rstream,
+        }
     }
 
     /// The relation loses the row that stands for a pane, if one does.
@@ -91,7 +100,7 @@ impl Streams {
         ensures told { (before now : List (List Cell)) → IsTold self.old before (cons_option (standing_row pane.now.stands) now) → IsTold self.new before now }
         ensures alike { AreAlike self.old self.new }
     {
-        if let Form::Panes = self.form {
+        if let Kept::Nothing = &self.kept {
             return;
         }
         self.lose_standing(pane);
@@ -106,7 +115,7 @@ impl Streams {
         ensures told { (pane : Pane (List Value)) → find place_cmp spot.place (entries_of held.now) ≡ Some pane → (before now : List (List Cell)) → IsTold self.old before (cons_option (standing_row pane.stands) now) → IsTold self.new before now }
         ensures alike { AreAlike self.old self.new }
     {
-        if let Form::Panes = self.form {
+        if let Kept::Nothing = &self.kept {
             return;
         }
         self.lose_at(held, spot.rebuilt());
@@ -143,7 +152,7 @@ impl Streams {
         ensures told { (before now : List (List Cell)) → IsTold self.old before now → IsTold self.new before (cons_option (option_map (λ cells. cells.now) row.entry) now) }
         ensures alike { AreAlike self.old self.new }
     {
-        if let Form::Panes = self.form {
+        if let Kept::Nothing = &self.kept {
             return;
         }
         self.gain_standing(row);
@@ -167,10 +176,10 @@ impl Streams {
         ensures told { (before now : List (List Cell)) → IsTold self.old before (row ∷ now) → IsTold self.new before now }
         ensures alike { AreAlike self.old self.new }
     {
-        match self.form {
-            Form::Panes => {}
-            Form::Istream | Form::Dstream => self.changes.minus(row),
-            Form::Rstream => self.relation.remove(&row),
+        match &mut self.kept {
+            Kept::Nothing => {}
+            Kept::Changed(_, changes) => changes.minus(row),
+            Kept::Rows(relation) => relation.remove(&row),
         }
     }
 
@@ -179,10 +188,10 @@ impl Streams {
         ensures told { (before now : List (List Cell)) → IsTold self.old before now → IsTold self.new before (row ∷ now) }
         ensures alike { AreAlike self.old self.new }
     {
-        match self.form {
-            Form::Panes => {}
-            Form::Istream | Form::Dstream => self.changes.plus(row),
-            Form::Rstream => self.relation.add(row),
+        match &mut self.kept {
+            Kept::Nothing => {}
+            Kept::Changed(_, changes) => changes.plus(row),
+            Kept::Rows(relation) => relation.add(row),
         }
     }
 
@@ -196,42 +205,82 @@ impl Streams {
         ensures rows { (before now : List (List Cell)) → IsTold self.old before now → rows.new.items ≡ rows.old.items ++ stream_rows self.old.form mark before (sorted_rows now) }
         ensures capacity { vec_capacity rows.new ≡ vec_capacity rows.old }
     {
-        if let Form::Panes = self.form {
-            return;
+        match &mut self.kept {
+            Kept::Nothing => {}
+            Kept::Changed(side, changes) => {
+                write_changes(*side, mark, changes, rows);
+                changes.clear();
+            }
+            Kept::Rows(relation) => write_standing(mark, relation, rows),
         }
-        self.written.clear();
-        gather(self.form, &self.changes, &self.relation, &mut self.written);
-        write_all(self.form, mark, &self.written, rows);
-        self.changes.clear();
     }
 }
 
-// The rows of a stream, from what changed or the rows that stand.
-fn gather(form: Form, changes: &Changes, relation: &Relation, written: &mut Vec<Columns>)
-    requires empty { written.old.items ≡ [] }
-    requires room { length (stream_of form changes.now.numbers relation.now.rows) ≤ vec_capacity written.old }
-    ensures rows { written.new.items ≡ stream_of form changes.now.numbers relation.now.rows }
-    ensures capacity { vec_capacity written.old ≤ vec_capacity written.new }
+impl Side {
+    // How many rows there are of a change.
+    fn times(self, number: i64) -> u64
+        ensures { result ≡ times_of self number }
+    {
+        match self {
+            Side::Gained if number > 0 => number.unsigned_abs(),
+            Side::Lost if number < 0 => number.unsigned_abs(),
+            Side::Gained | Side::Lost => 0,
+        }
+    }
+
+    // A row of its stream.
+    fn row(self, mark: i64, columns: Columns) -> OutRow
+        ensures { result ≡ changed_row self mark columns }
+    {
+        match self {
+            Side::Gained => OutRow::Istream { mark, columns },
+            Side::Lost => OutRow::Dstream { mark, columns },
+        }
+    }
+}
+
+// No changes yet.
+fn changed(alloc: Global, side: Side, room: usize) -> Result<Kept, AllocError>
+    requires { room ≤ MAX_PANES }
+    ensures { IfOk result (λ k. k ≡ Kept.Changed side (record { numbers = []; room = 2 * room; columns = MAX_COLUMNS })) }
 {
-    match form {
-        Form::Istream => changes.istream(written),
-        Form::Dstream => changes.dstream(written),
-        Form::Panes | Form::Rstream => rstream(relation, written),
-    }
+    Ok(Kept::Changed(side, Changes::open(alloc, 2 * room, MAX_COLUMNS)?))
 }
 
-// Appends rows of a stream.
-fn write_all(form: Form, mark: i64, written: &[Columns], rows: &mut Vec<OutRow>)
-    requires { vec_len rows.old + length written.now ≤ vec_capacity rows.old }
-    ensures rows { rows.new.items ≡ rows.old.items ++ map (stream_row form mark) written.now }
+// Appends the rows of the stream of a side of what changed.
+fn write_changes(side: Side, mark: i64, changes: &Changes, rows: &mut Vec<OutRow>)
+    requires { vec_len rows.old + length (changed_rows side changes.now.numbers) ≤ vec_capacity rows.old }
+    ensures rows { rows.new.items ≡ rows.old.items ++ map (changed_row side mark) (changed_rows side changes.now.numbers) }
     ensures capacity { vec_capacity rows.new ≡ vec_capacity rows.old }
 {
-    for columns in written {
-        let columns = *columns;
-        rows.push_reserved(match form {
-            Form::Istream => OutRow::Istream { mark, columns },
-            Form::Dstream => OutRow::Dstream { mark, columns },
-            Form::Panes | Form::Rstream => OutRow::Rstream { mark, columns },
+    for i in 0..changes.len() {
+        let change = changes.get(i);
+        write_copies(side, mark, &change.row, side.times(change.number), rows);
+    }
+}
+
+// Appends a row so many times.
+fn write_copies(side: Side, mark: i64, row: &Columns, times: u64, rows: &mut Vec<OutRow>)
+    requires { vec_len rows.old + times ≤ vec_capacity rows.old }
+    ensures rows { rows.new.items ≡ rows.old.items ++ replicate times (changed_row side mark row.now) }
+    ensures len { vec_len rows.new ≡ vec_len rows.old + times }
+    ensures capacity { vec_capacity rows.new ≡ vec_capacity rows.old }
+{
+    for _ in 0..times {
+        rows.push_reserved(side.row(mark, *row));
+    }
+}
+
+// Appends the rows that stand.
+fn write_standing(mark: i64, relation: &Relation, rows: &mut Vec<OutRow>)
+    requires { vec_len rows.old + length relation.now.rows ≤ vec_capacity rows.old }
+    ensures rows { rows.new.items ≡ rows.old.items ++ map (Rstream mark) relation.now.rows }
+    ensures capacity { vec_capacity rows.new ≡ vec_capacity rows.old }
+{
+    for i in 0..relation.len() {
+        rows.push_reserved(OutRow::Rstream {
+            mark,
+            columns: *relation.get(i),
         });
     }
 }

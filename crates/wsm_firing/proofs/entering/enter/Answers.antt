@@ -10,7 +10,7 @@ use Rattle.wsm_program.specs.Program.{Program, Header}
 use Rattle.wsm_program.specs.View.{header_of}
 use Rattle.wsm_panes.specs.Held.{entries_of, taking}
 use Rattle.wsm_relation.specs.Rows.{count_of}
-use Rattle.wsm_firing.specs.Streams.{IsTold, Standing, rows_with, standing_rows}
+use Rattle.wsm_firing.specs.Streams.{IsTold, Told, rows_with, standing_rows}
 use Rattle.wsm_firing.proofs.StreamRows.{told_same, told_of_panes}
 use Rattle.wsm_firing.proofs.StandingRows.{Panes}
 use Rattle.wsm_firing.proofs.RowsAfterRecord.{count_entered, unmarked}
@@ -25,12 +25,12 @@ returns-clause-told c = λ relation told.
     let plan : Plan (List Value) = taking c.deref.result.now c.args.values.now in
     elim c.match-form.branch [
       | in-Panes w ↦
-          subst (λ (t : Standing). IsTold t relation (standing_rows after)) (sym w.streams-is)
+          subst (λ (t : Told). IsTold t relation (standing_rows after)) (sym w.streams-is)
           (told_of_panes s.form s.numbers s.rows relation (standing_rows es) (standing_rows after) (sym c.form.ensures ∙ w.in-Panes.is) told)
       | in_default w ↦
           let t = w.lose_joined.new.streams in
           let lost : IsTold t relation (rows_with held.shape d es) = w.lose_joined.ensures.told relation told in
-          subst (λ (t : Standing). IsTold t relation (standing_rows after)) (sym w.streams-is)
+          subst (λ (t : Told). IsTold t relation (standing_rows after)) (sym w.streams-is)
           (subst (λ (fs : Panes). IsTold t relation (standing_rows fs)) (sym c.enter.ensures.panes)
           (told_same t.form t.numbers t.rows relation (rows_with held.shape d es) (standing_rows (entered plan held.shape lateness now es))
           (λ q. sym (count_entered plan held.shape lateness now es w.lose_joined.ensures.shape (map.entries_sorted held.panes) w.lose_joined.ensures.few q ∙ ap (count_of q) (unmarked held.shape mark c.args.key time es))) lost))

@@ -13,7 +13,7 @@ use Rattle.wsm_panes.specs.Walk.{place_found}
 use Rattle.wsm_firing.specs.ByWatermark.{fires_by_watermark}
 use Rattle.wsm_firing.specs.Firing.{CanAdd}
 use Rattle.wsm_firing.specs.Due.{fired_by}
-use Rattle.wsm_firing.specs.Streams.{Standing, Tells}
+use Rattle.wsm_firing.specs.Streams.{Told, Tells}
 use Rattle.wsm_firing.proofs.Spots.{spot_in, spot_kept}
 use Rattle.wsm_firing.proofs.StandingRows.{tells_none, tells_on, can_tell_on}
 use Rattle.wsm_firing.proofs.Walk.{fired_first, some_same}
@@ -162,7 +162,7 @@ loop-preserved c =
           record {
             keeps = subst (λ (h : Held). IsKept c.args.held.now h) (sym w.held-is) (kept_on c.args.held.now c.loop.held w.fire.new.held c.loop.invariant.keeps w.fire.ensures.keeps);
             tells =
-                subst (λ (x : Held × Standing). Tells c.args.streams.now x.1 es (entries_of x.0)) (λ i. (sym w.held-is i, sym w.streams-is i))
+                subst (λ (x : Held × Told). Tells c.args.streams.now x.1 es (entries_of x.0)) (λ i. (sym w.held-is i, sym w.streams-is i))
                 (tells_on c.args.streams.now c.loop.streams w.fire.new.streams es (entries_of c.loop.held) (entries_of w.fire.new.held) c.loop.invariant.tells w.fire.ensures.tells);
             capacity = ap vec_capacity w.rows-is ∙ w.fire.ensures.capacity ∙ c.loop.invariant.capacity;
             spot = c.next_to_fire-next.ensures.spot;
@@ -171,7 +171,7 @@ loop-preserved c =
       | in_default-watermark_kind w ↦
           record {
             keeps = subst (λ (h : Held). IsKept c.args.held.now h) (sym w.held-is) c.loop.invariant.keeps;
-            tells = subst (λ (x : Held × Standing). Tells c.args.streams.now x.1 es (entries_of x.0)) (λ i. (sym w.held-is i, sym w.streams-is i)) c.loop.invariant.tells;
+            tells = subst (λ (x : Held × Told). Tells c.args.streams.now x.1 es (entries_of x.0)) (λ i. (sym w.held-is i, sym w.streams-is i)) c.loop.invariant.tells;
             capacity = ap vec_capacity w.rows-is ∙ c.loop.invariant.capacity;
             spot = c.next_to_fire-next.ensures.spot;
             walked = goes_on;

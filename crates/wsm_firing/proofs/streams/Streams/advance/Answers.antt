@@ -1,46 +1,53 @@
-use Rattle.std.proofs.Common.{◌≡◌, ◌++◌, List, length, map, sym, ap, subst, ◌∙◌, vec_len, vec_capacity, arith, to_z-of_z, SFits, w64}
-use Rattle.wsm_record.specs.declared.cell.Cell.{Cell}
-use Rattle.wsm_semantics.specs.Relation.{sorted_rows}
-use Rattle.wsm_relation.specs.Tally.{Tally}
-use Rattle.wsm_firing.specs.Streams.{Standing, IsTold, IsToldOf, CanAdvance, HasRoomFor, relation_kept, stream_of, stream_row}
-use Rattle.wsm_firing.proofs.StreamRows.{stream_is, stream_few, told_on, room_for, room_written, still_reserved}
+use Rattle.std.proofs.Common.{◌≡◌, ◌++◌, List, sym, ap, subst, ◌∙◌, append-nil, vec_len, vec_capacity, Vec, arith, to_z-of_z, SFits, w64}
+use Rattle.wsm_record.specs.declared.words.Form.{Form}
+use Rattle.wsm_semantics.specs.declared.out_row.OutRow.{OutRow}
+use Rattle.wsm_semantics.specs.Relation.{sorted_rows, stream_rows}
+use Rattle.wsm_firing.specs.declared.streams.Streams.TheInside.{Inside}
+use Rattle.wsm_firing.specs.Streams.{Told, IsTold, CanAdvance, HasRoomFor, relation_kept}
+use Rattle.wsm_firing.specs.StreamsKept.{form_kept}
+use Rattle.wsm_firing.proofs.StreamRows.{IsToldBy, changes_few, changed_by, kept_by, kept_few, changes_on, rows_on, nothing_on, changes_rows, standing_written, nothing_written, room_for_changes, room_for_rows}
 use Rattle.wsm_firing.proofs.streams.Streams.advance.Goals as goal
+use Rattle.wsm_firing.proofs.streams.Streams.advance.Goals.{in-Nothing, in-Changed, in-Rows}
 
-pub gather-requires : goal.gather-requires
-gather-requires c =
-    let a = c.self.inside in let can : CanAdvance _ = rw (← c.self.view_is) at c.requires.told in
-    let few = stream_few a.form a.changes.numbers a.relation.rows can.before can.now a.room c.in_default.not-Panes can.told can.within in
-    let room = room_written a.form c.in_default.not-Panes a.room a.changes a.relation _ c.self.invariant in
-    record { empty = c.clear.ensures.items; room = omega (arith, few, room, c.clear.ensures.capacity) }
+pub write_changes-requires : goal.write_changes-requires
+write_changes-requires c =
+    let a = c.self.inside in let k = c.in-Changed in let can : CanAdvance _ = rw (← c.self.view_is) at c.requires.told in
+    let few = changes_few k.side k.changes.numbers can.before can.now a.room (changed_by a.kept k.side k.changes k.is can.before can.now can.told) can.within in
+    let room = room_for_changes a.kept k.side k.changes k.is a.room (vec_len c.args.rows.now) (vec_capacity c.args.rows.now) (subst (λ (s : Told). HasRoomFor s.form s.room (vec_len c.args.rows.now) (vec_capacity c.args.rows.now)) (sym c.self.view_is) c.requires.rows) in
+    omega (arith, few, room)
 
-pub write_all-requires : goal.write_all-requires
-write_all-requires c =
-    let a = c.self.inside in let can : CanAdvance _ = rw (← c.self.view_is) at c.requires.told in
-    let few = stream_few a.form a.changes.numbers a.relation.rows can.before can.now a.room c.in_default.not-Panes can.told can.within in
-    let count : length c.deref.result.now ≡ length (stream_of a.form a.changes.numbers a.relation.rows) = ap length (c.deref.ensures.value ∙ c.gather.ensures.rows) in
-    let room = room_for a.form c.in_default.not-Panes a.room (vec_len c.args.rows.now) (vec_capacity c.args.rows.now)
-    (subst (λ (s : Standing). HasRoomFor s.form s.room (vec_len c.args.rows.now) (vec_capacity c.args.rows.now)) (sym c.self.view_is) c.requires.rows) in
-    omega (arith, few, count, room)
+pub write_standing-requires : goal.write_standing-requires
+write_standing-requires c =
+    let a = c.self.inside in let k = c.in-Rows in let can : CanAdvance _ = rw (← c.self.view_is) at c.requires.told in
+    let few = kept_few k.relation.rows can.before can.now (kept_by a.kept k.relation k.is can.before can.now can.told) in
+    let room = room_for_rows a.kept k.relation k.is a.room (vec_len c.args.rows.now) (vec_capacity c.args.rows.now) (subst (λ (s : Told). HasRoomFor s.form s.room (vec_len c.args.rows.now) (vec_capacity c.args.rows.now)) (sym c.self.view_is) c.requires.rows) in
+    omega (arith, few, can.within.few_now, room)
 
 pub returns-clause-told : goal.returns-clause-told
 returns-clause-told c = λ before now told.
     let a = c.self.inside in
-    let was : IsToldOf a.form a.changes.numbers a.relation.rows before now = subst (λ (s : Standing). IsTold s before now) (sym c.self.view_is) told in
-    rw (← c.self.view_is)
-    (subst (λ (t : Tally). IsToldOf a.form t.numbers a.relation.rows (relation_kept a.form before (sorted_rows now)) now) (sym c.clear-2.ensures)
-    (told_on a.form a.changes.numbers a.relation.rows before now was c.in_default.not-Panes))
+    let form : form_kept a.kept ≡ c.args.self.now.form = ap (λ (s : Told). s.form) c.self.view_is in
+    let was : IsToldBy a.kept before now = subst (λ (s : Told). IsTold s before now) (sym c.self.view_is) told in
+    elim c.match-self.branch [
+      | in-Nothing w ↦ subst (λ (x : Inside × Form). IsToldBy x.0.kept (relation_kept x.1 before (sorted_rows now)) now) (λ i. (sym w.self-inside-is i, form i)) (nothing_on a.kept w.in-Nothing.is before now was)
+      | in-Changed w ↦
+          let k = w.in-Changed in
+          subst (λ (x : Inside × Form). IsToldBy x.0.kept (relation_kept x.1 before (sorted_rows now)) now) (λ i. (sym w.self-inside-is i, form i)) (changes_on a.kept k.side k.changes k.is w.clear.new.self w.clear.ensures before now)
+      | in-Rows w ↦ subst (λ (x : Inside × Form). IsToldBy x.0.kept (relation_kept x.1 before (sorted_rows now)) now) (λ i. (sym w.self-inside-is i, form i)) (rows_on a.kept w.in-Rows.relation w.in-Rows.is before now was)
+    ]
 
 pub returns-clause-rows : goal.returns-clause-rows
 returns-clause-rows c = λ before now told.
-    let a = c.self.inside in
+    let a = c.self.inside in let old : List OutRow = c.args.rows.now.items in
     let mark : SFits w64 c.args.mark = c.ranges.mark in
-    let was : IsToldOf a.form a.changes.numbers a.relation.rows before now = subst (λ (s : Standing). IsTold s before now) (sym c.self.view_is) told in
-    (simp to_z-of_z at c.write_all.ensures.rows)
-    ∙ ap (λ (rs : List (List Cell)). c.args.rows.now.items ++ map (stream_row a.form c.args.mark) rs) (c.deref.ensures.value ∙ c.gather.ensures.rows)
-    ∙ rw (← c.self.view_is) (ap (λ rs. c.args.rows.now.items ++ rs) (stream_is a.form a.changes.numbers a.relation.rows before now c.args.mark c.in_default.not-Panes was))
-
-pub invariant_of-self : goal.invariant_of-self
-invariant_of-self c =
-    let a = c.self.inside in
-    still_reserved a.form a.room a.changes c.clear-2.new.self a.relation (vec_capacity a.written) (vec_capacity c.gather.new.written)
-    (ap (λ (t : Tally). t.room) c.clear-2.ensures) (omega (arith, c.clear.ensures.capacity, c.gather.ensures.capacity)) c.self.invariant
+    let form : stream_rows (form_kept a.kept) c.args.mark before (sorted_rows now) ≡ stream_rows c.args.self.now.form c.args.mark before (sorted_rows now) = ap (λ (s : Told). stream_rows s.form c.args.mark before (sorted_rows now)) c.self.view_is in
+    let was : IsToldBy a.kept before now = subst (λ (s : Told). IsTold s before now) (sym c.self.view_is) told in
+    elim c.match-self.branch [
+      | in-Nothing w ↦ (λ i. (w.rows-is i).items) ∙ sym (append-nil old) ∙ ap (λ rs. old ++ rs) (nothing_written a.kept w.in-Nothing.is before now c.args.mark ∙ form)
+      | in-Changed w ↦
+          let k = w.in-Changed in
+          (λ i. (w.rows-is i).items) ∙ (simp to_z-of_z at w.write_changes.ensures.rows) ∙ ap (λ rs. old ++ rs) (changes_rows a.kept k.side k.changes k.is before now c.args.mark was ∙ form)
+      | in-Rows w ↦
+          let k = w.in-Rows in
+          (λ i. (w.rows-is i).items) ∙ (simp to_z-of_z at w.write_standing.ensures.rows) ∙ ap (λ rs. old ++ rs) (standing_written a.kept k.relation k.is before now c.args.mark was ∙ form)
+    ]

@@ -1,42 +1,39 @@
 use Rattle.std.proofs.Common.{◌∷◌, sym, subst, arith}
-use Rattle.std.specs.Prelude.{pos}
-use Rattle.wsm_record.specs.declared.words.Form.{Form}
-use Rattle.wsm_relation.specs.Bag.{Bag}
-use Rattle.wsm_relation.specs.Tally.{Tally, shifted}
-use Rattle.wsm_firing.specs.Streams.{Standing, IsTold, IsToldOf, HasChanged, HasKept, CanGain}
-use Rattle.wsm_firing.proofs.StreamRows.{changed_more, kept_more, kept_few, room_more, fits_more, as_changed, as_told, room_of_changes, room_of_rows}
+use Rattle.wsm_firing.specs.declared.streams.Streams.TheInside.{Inside}
+use Rattle.wsm_firing.specs.Streams.{Told, IsTold, CanGain}
+use Rattle.wsm_firing.proofs.StreamRows.{IsToldBy, kept_few, room_more, fits_more, changed_by, kept_by, changes_gained, row_gained, nothing_told, room_of_changes, room_of_rows}
 use Rattle.wsm_firing.proofs.streams.Streams.gain_row.Goals as goal
+use Rattle.wsm_firing.proofs.streams.Streams.gain_row.Goals.{in-Nothing, in-Changed, in-Rows}
 
 pub plus-requires-clause-room : goal.plus-requires-clause-room
 plus-requires-clause-room c =
-    let a = c.self.inside in let can : CanGain _ _ = rw (← c.self.view_is) at c.requires in
-    room_more c.args.row a.changes.numbers can.before can.now a.room a.changes.room can.within (room_of_changes a.form c.in-Istream.is a.room a.changes a.relation _ c.self.invariant).twice
-    (as_changed a.form c.in-Istream.is a.changes.numbers a.relation.rows can.before can.now can.told)
+    let a = c.self.inside in let k = c.in-Changed in let can : CanGain _ _ = rw (← c.self.view_is) at c.requires in
+    room_more c.args.row k.changes.numbers can.before can.now a.room k.changes.room can.within (room_of_changes a.kept k.field-0 k.changes k.is a.room c.self.invariant).twice
+    (changed_by a.kept k.field-0 k.changes k.is can.before can.now can.told)
 
 pub plus-requires-clause-fits : goal.plus-requires-clause-fits
 plus-requires-clause-fits c =
-    let a = c.self.inside in let can : CanGain _ _ = rw (← c.self.view_is) at c.requires in
-    let has = room_of_changes a.form c.in-Istream.is a.room a.changes a.relation _ c.self.invariant in
-    fits_more c.args.row a.changes.numbers can.before can.now a.room a.changes.room can.within has.twice has.most
-    (as_changed a.form c.in-Istream.is a.changes.numbers a.relation.rows can.before can.now can.told)
+    let a = c.self.inside in let k = c.in-Changed in let can : CanGain _ _ = rw (← c.self.view_is) at c.requires in
+    let has = room_of_changes a.kept k.field-0 k.changes k.is a.room c.self.invariant in
+    fits_more c.args.row k.changes.numbers can.before can.now a.room k.changes.room can.within has.twice has.most
+    (changed_by a.kept k.field-0 k.changes k.is can.before can.now can.told)
 
 pub add-requires : goal.add-requires
 add-requires c =
-    let a = c.self.inside in let can : CanGain _ _ = rw (← c.self.view_is) at c.requires in
-    let few = kept_few a.relation.rows can.before can.now (subst (λ (f : Form). IsToldOf f a.changes.numbers a.relation.rows can.before can.now) c.in-Rstream.is can.told) in
-    let has = room_of_rows a.form c.in-Rstream.is a.room a.changes a.relation _ c.self.invariant in
-    omega (arith, few, can.within.few_now, has.rows)
+    let a = c.self.inside in let k = c.in-Rows in let can : CanGain _ _ = rw (← c.self.view_is) at c.requires in
+    let few = kept_few k.relation.rows can.before can.now (kept_by a.kept k.relation k.is can.before can.now can.told) in
+    omega (arith, few, can.within.few_now, room_of_rows a.kept k.relation k.is a.room c.self.invariant)
 
-pub returns-in-Istream-clause-told : goal.returns-in-Istream-clause-told
-returns-in-Istream-clause-told c = λ before now told.
-    let a = c.self.inside in
-    let was : HasChanged a.changes.numbers before now = as_changed a.form c.in-Istream.is a.changes.numbers a.relation.rows before now (subst (λ (s : Standing). IsTold s before now) (sym c.self.view_is) told) in
-    subst (λ (t : Tally). IsToldOf a.form t.numbers a.relation.rows before (c.args.row ∷ now)) (sym c.plus.ensures.others)
-    (as_told a.form c.in-Istream.is (shifted c.args.row (pos 1) a.changes.numbers) a.relation.rows before (c.args.row ∷ now) (changed_more c.args.row a.changes.numbers before now was))
-
-pub returns-in-Rstream-clause-told : goal.returns-in-Rstream-clause-told
-returns-in-Rstream-clause-told c = λ before now told.
-    let a = c.self.inside in
-    let was : HasKept a.relation.rows before now = subst (λ (f : Form). IsToldOf f a.changes.numbers a.relation.rows before now) c.in-Rstream.is (subst (λ (s : Standing). IsTold s before now) (sym c.self.view_is) told) in
-    subst (λ (f : Form). IsToldOf f a.changes.numbers c.add.new.self.rows before (c.args.row ∷ now)) (sym c.in-Rstream.is)
-    (subst (λ (b : Bag). HasKept b.rows before (c.args.row ∷ now)) (sym c.add.ensures) (kept_more c.args.row a.relation.rows before now was))
+pub returns-clause-told : goal.returns-clause-told
+returns-clause-told c = λ before now told.
+    let a = c.self.inside in let row = c.args.row in
+    let was : IsToldBy a.kept before now = subst (λ (s : Told). IsTold s before now) (sym c.self.view_is) told in
+    elim c.match-self.branch [
+      | in-Nothing w ↦ subst (λ (x : Inside). IsToldBy x.kept before (row ∷ now)) (sym w.self-inside-is) (nothing_told a.kept w.in-Nothing.is before now (row ∷ now) was)
+      | in-Changed w ↦
+          let k = w.in-Changed in
+          subst (λ (x : Inside). IsToldBy x.kept before (row ∷ now)) (sym w.self-inside-is) (changes_gained a.kept k.field-0 k.changes k.is row w.plus.new.self w.plus.ensures.others before now was)
+      | in-Rows w ↦
+          let k = w.in-Rows in
+          subst (λ (x : Inside). IsToldBy x.kept before (row ∷ now)) (sym w.self-inside-is) (row_gained a.kept k.relation k.is row w.add.new.self w.add.ensures before now was)
+    ]

@@ -1,40 +1,38 @@
 use Rattle.std.proofs.Common.{◌∷◌, sym, subst}
-use Rattle.std.specs.Prelude.{negsuc}
-use Rattle.wsm_record.specs.declared.words.Form.{Form}
-use Rattle.wsm_relation.specs.Bag.{Bag}
-use Rattle.wsm_relation.specs.Tally.{Tally, shifted}
-use Rattle.wsm_firing.specs.Streams.{Standing, IsTold, IsToldOf, HasChanged, HasKept, CanLose}
-use Rattle.wsm_firing.proofs.StreamRows.{changed_less, kept_less, kept_there, room_less, fits_less, as_changed, as_told, room_of_changes}
+use Rattle.wsm_firing.specs.declared.streams.Streams.TheInside.{Inside}
+use Rattle.wsm_firing.specs.Streams.{Told, IsTold, CanLose}
+use Rattle.wsm_firing.proofs.StreamRows.{IsToldBy, kept_there, room_less, fits_less, changed_by, kept_by, changes_lost, row_lost, nothing_told, room_of_changes}
 use Rattle.wsm_firing.proofs.streams.Streams.lose_row.Goals as goal
+use Rattle.wsm_firing.proofs.streams.Streams.lose_row.Goals.{in-Nothing, in-Changed, in-Rows}
 
 pub minus-requires-clause-room : goal.minus-requires-clause-room
 minus-requires-clause-room c =
-    let a = c.self.inside in let can : CanLose _ _ = rw (← c.self.view_is) at c.requires in
-    room_less c.args.row a.changes.numbers can.before can.rest a.room a.changes.room can.within (room_of_changes a.form c.in-Istream.is a.room a.changes a.relation _ c.self.invariant).twice
-    (as_changed a.form c.in-Istream.is a.changes.numbers a.relation.rows can.before (c.args.row ∷ can.rest) can.told)
+    let a = c.self.inside in let k = c.in-Changed in let can : CanLose _ _ = rw (← c.self.view_is) at c.requires in
+    room_less c.args.row k.changes.numbers can.before can.rest a.room k.changes.room can.within (room_of_changes a.kept k.field-0 k.changes k.is a.room c.self.invariant).twice
+    (changed_by a.kept k.field-0 k.changes k.is can.before (c.args.row ∷ can.rest) can.told)
 
 pub minus-requires-clause-fits : goal.minus-requires-clause-fits
 minus-requires-clause-fits c =
-    let a = c.self.inside in let can : CanLose _ _ = rw (← c.self.view_is) at c.requires in
-    let has = room_of_changes a.form c.in-Istream.is a.room a.changes a.relation _ c.self.invariant in
-    fits_less c.args.row a.changes.numbers can.before can.rest a.room a.changes.room can.within has.twice has.most
-    (as_changed a.form c.in-Istream.is a.changes.numbers a.relation.rows can.before (c.args.row ∷ can.rest) can.told)
+    let a = c.self.inside in let k = c.in-Changed in let can : CanLose _ _ = rw (← c.self.view_is) at c.requires in
+    let has = room_of_changes a.kept k.field-0 k.changes k.is a.room c.self.invariant in
+    fits_less c.args.row k.changes.numbers can.before can.rest a.room k.changes.room can.within has.twice has.most
+    (changed_by a.kept k.field-0 k.changes k.is can.before (c.args.row ∷ can.rest) can.told)
 
 pub remove-requires : goal.remove-requires
 remove-requires c =
-    let a = c.self.inside in let can : CanLose _ _ = rw (← c.self.view_is) at c.requires in
-    kept_there c.args.row a.relation.rows can.before can.rest (subst (λ (f : Form). IsToldOf f a.changes.numbers a.relation.rows can.before (c.args.row ∷ can.rest)) c.in-Rstream.is can.told)
+    let a = c.self.inside in let k = c.in-Rows in let can : CanLose _ _ = rw (← c.self.view_is) at c.requires in
+    kept_there c.args.row k.relation.rows can.before can.rest (kept_by a.kept k.relation k.is can.before (c.args.row ∷ can.rest) can.told)
 
-pub returns-in-Istream-clause-told : goal.returns-in-Istream-clause-told
-returns-in-Istream-clause-told c = λ before now told.
-    let a = c.self.inside in
-    let was : HasChanged a.changes.numbers before (c.args.row ∷ now) = as_changed a.form c.in-Istream.is a.changes.numbers a.relation.rows before (c.args.row ∷ now) (subst (λ (s : Standing). IsTold s before (c.args.row ∷ now)) (sym c.self.view_is) told) in
-    subst (λ (t : Tally). IsToldOf a.form t.numbers a.relation.rows before now) (sym c.minus.ensures.others)
-    (as_told a.form c.in-Istream.is (shifted c.args.row (negsuc 0) a.changes.numbers) a.relation.rows before now (changed_less c.args.row a.changes.numbers before now was))
-
-pub returns-in-Rstream-clause-told : goal.returns-in-Rstream-clause-told
-returns-in-Rstream-clause-told c = λ before now told.
-    let a = c.self.inside in
-    let was : HasKept a.relation.rows before (c.args.row ∷ now) = subst (λ (f : Form). IsToldOf f a.changes.numbers a.relation.rows before (c.args.row ∷ now)) c.in-Rstream.is (subst (λ (s : Standing). IsTold s before (c.args.row ∷ now)) (sym c.self.view_is) told) in
-    subst (λ (f : Form). IsToldOf f a.changes.numbers c.remove.new.self.rows before now) (sym c.in-Rstream.is)
-    (subst (λ (b : Bag). HasKept b.rows before now) (sym c.remove.ensures) (kept_less c.args.row a.relation.rows before now was))
+pub returns-clause-told : goal.returns-clause-told
+returns-clause-told c = λ before now told.
+    let a = c.self.inside in let row = c.args.row in
+    let was : IsToldBy a.kept before (row ∷ now) = subst (λ (s : Told). IsTold s before (row ∷ now)) (sym c.self.view_is) told in
+    elim c.match-self.branch [
+      | in-Nothing w ↦ subst (λ (x : Inside). IsToldBy x.kept before now) (sym w.self-inside-is) (nothing_told a.kept w.in-Nothing.is before (row ∷ now) now was)
+      | in-Changed w ↦
+          let k = w.in-Changed in
+          subst (λ (x : Inside). IsToldBy x.kept before now) (sym w.self-inside-is) (changes_lost a.kept k.field-0 k.changes k.is row w.minus.new.self w.minus.ensures.others before now was)
+      | in-Rows w ↦
+          let k = w.in-Rows in
+          subst (λ (x : Inside). IsToldBy x.kept before now) (sym w.self-inside-is) (row_lost a.kept k.relation k.is row w.remove.new.self w.remove.ensures before now was)
+    ]
