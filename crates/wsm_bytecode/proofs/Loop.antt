@@ -1,8 +1,8 @@
 -- Reading one after the other, as a loop does.
-use Rattle.std.proofs.Common.{◌≡◌, ℕ, suc, ◌-◌, ◌+◌, ◌<◌, true, false, ◌||◌, map, List, [], ◌∷◌, ◌++◌, Result, Ok, Err, refl, sym, ap, subst, ◌∙◌, append_assoc, arith}
+use Rattle.std.proofs.Common.{◌≡◌, ℕ, suc, ◌-◌, ◌+◌, ◌<◌, ◌≤◌, true, false, ◌||◌, map, List, [], ◌∷◌, ◌++◌, Result, Ok, Err, refl, sym, ap, subst, ◌∙◌, append_assoc, append-nil, arith}
 use Rattle.std.specs.Prelude.{bytes_eq}
 use Rattle.std.specs.List.{list_any}
-use Rattle.wsm_record.specs.declared.schema.Field.{Field}
+use Rattle.wsm_record.specs.declared.schema.DeclaredField.{DeclaredField as KeptField}
 use Rattle.wsm_record.specs.Name.{is_among}
 use Rattle.wsm_record.specs.Schema.{DeclaredField}
 use Rattle.wsm_program.specs.declared.refusal.DecodeRefusal.{DecodeRefusal}
@@ -54,16 +54,42 @@ ends {A} e one front count i bytes total lt h so_far =
 
 -- ---- names
 
-pub names_go_on : (front : List Name) (count i : ℕ) (bytes : List ℕ) (n : Name) (after : List ℕ) (total : Read (List Name)) → i < count → new_name_at front bytes ≡ Ok (n, after)
+names_go_on : (front : List Name) (count i : ℕ) (bytes : List ℕ) (n : Name) (after : List ℕ) (total : Read (List Name)) → i < count → new_name_at front bytes ≡ Ok (n, after)
     → with_front front (names_after front (count - i) bytes) ≡ total → with_front (front ++ n ∷ []) (names_after (front ++ n ∷ []) (count - (i + 1)) after) ≡ total
 names_go_on front count i bytes n after total lt h so_far =
     sym (moves_on (new_name_at front bytes) (λ x. names_after (front ++ x ∷ []) (count - (i + 1))) front n after h) ∙ (ap (λ k. with_front front (names_after front k bytes)) (sym (one_less count i lt)) ∙ so_far)
 
-pub names_end : (e : DecodeRefusal) (front : List Name) (count i : ℕ) (bytes : List ℕ) (total : Read (List Name)) → i < count → Fails e (new_name_at front bytes)
+names_end : (e : DecodeRefusal) (front : List Name) (count i : ℕ) (bytes : List ℕ) (total : Read (List Name)) → i < count → Fails e (new_name_at front bytes)
     → with_front front (names_after front (count - i) bytes) ≡ total → Fails e total
 names_end e front count i bytes total lt h so_far =
     let whole : with_front front (names_after front (suc (count - (i + 1))) bytes) ≡ total = ap (λ k. with_front front (names_after front k bytes)) (sym (one_less count i lt)) ∙ so_far in
     subst (λ (r : Read (List Name)). Fails e r) whole (stops e (new_name_at front bytes) (λ x. names_after (front ++ x ∷ []) (count - (i + 1))) front h)
+
+-- the next name, which is none of those before
+new_name_is : (before : List Name) (bytes : List ℕ) (n : Name) (rest : List ℕ) → name_at bytes ≡ Ok (n, rest) → is_among n before ≡ false → new_name_at before bytes ≡ Ok (n, rest)
+new_name_is before bytes n rest e other = rw (e, other) refl
+
+-- one that is one of those before
+new_name_taken : (before : List Name) (bytes : List ℕ) (n : Name) (rest : List ℕ) → name_at bytes ≡ Ok (n, rest) → is_among n before ≡ true → new_name_at before bytes ≡ Err Operand
+new_name_taken before bytes n rest e same = rw (e, same) refl
+
+pub name_goes_on : (front : List Name) (count i : ℕ) (bytes : List ℕ) (n : Name) (after : List ℕ) (total : Read (List Name)) → i < count → name_at bytes ≡ Ok (n, after) → is_among n front ≡ false
+    → with_front front (names_after front (count - i) bytes) ≡ total → with_front (front ++ n ∷ []) (names_after (front ++ n ∷ []) (count - (i + 1)) after) ≡ total
+name_goes_on front count i bytes n after total lt h other so_far = names_go_on front count i bytes n after total lt (new_name_is front bytes n after h other) so_far
+
+pub name_stops : (e : DecodeRefusal) (front : List Name) (count i : ℕ) (bytes : List ℕ) (total : Read (List Name)) → i < count → Fails e (name_at bytes)
+    → with_front front (names_after front (count - i) bytes) ≡ total → Fails e total
+name_stops e front count i bytes total lt h so_far = names_end e front count i bytes total lt (fails_so e (name_at bytes) _ h) so_far
+
+pub name_repeats : (front : List Name) (count i : ℕ) (bytes : List ℕ) (n : Name) (after : List ℕ) (total : Read (List Name)) → i < count → name_at bytes ≡ Ok (n, after) → is_among n front ≡ true
+    → with_front front (names_after front (count - i) bytes) ≡ total → total ≡ Err Operand
+name_repeats front count i bytes n after total lt h same so_far = names_end Operand front count i bytes total lt (new_name_taken front bytes n after h same) so_far
+
+-- all were read
+pub names_done : (front : List Name) (count i : ℕ) (bytes : List ℕ) (total : Read (List Name)) → count ≤ i → with_front front (names_after front (count - i) bytes) ≡ total → total ≡ Ok (front, bytes)
+names_done front count i bytes total le so_far =
+    let none : count - i ≡ 0 = omega arith in
+    sym so_far ∙ ap (λ k. with_front front (names_after front k bytes)) none ∙ ap (λ (ns : List Name). Ok (ns, bytes)) (append-nil front)
 
 -- ---- fields
 
@@ -78,18 +104,18 @@ fields_end e front names count i bytes total lt h so_far =
     let whole : with_front front (fields_after names (suc (count - (i + 1))) bytes) ≡ total = ap (λ k. with_front front (fields_after names k bytes)) (sym (one_less count i lt)) ∙ so_far in
     subst (λ (r : Read (List DeclaredField)). Fails e r) whole (stops e (new_field_at names bytes) (λ x. fields_after (names ++ x.name ∷ []) (count - (i + 1))) front h)
 
-among_names : (n : Name) (fs : List Field) → is_among n (map (λ f. f.name) fs) ≡ list_any (λ f. bytes_eq n f.name) fs
+among_names : (n : Name) (fs : List KeptField) → is_among n (map (λ f. f.name) fs) ≡ list_any (λ f. bytes_eq n f.name) fs
 among_names n [] = refl
 among_names n (f ∷ fs) = ap (λ b. bytes_eq n f.name || b) (among_names n fs)
 
 -- the name of a new field, and what follows it
-pub new_field_named : (before : List Field) (bytes : List ℕ) (n : Name) (rest : List ℕ) → name_at bytes ≡ Ok (n, rest) → list_any (λ f. bytes_eq n f.name) before ≡ false
+pub new_field_named : (before : List KeptField) (bytes : List ℕ) (n : Name) (rest : List ℕ) → name_at bytes ≡ Ok (n, rest) → list_any (λ f. bytes_eq n f.name) before ≡ false
     → new_field_at (map (λ f. f.name) before) bytes ≡ (field_type_at rest >>= λ type. Ok (record { name = n; type = type.0 }, type.1))
 unfolding new_field_at
 new_field_named before bytes n rest e other = rw (e, among_names n before ∙ other) refl
 
 -- a name that was there before
-pub new_field_taken : (before : List Field) (bytes : List ℕ) (n : Name) (rest : List ℕ) → name_at bytes ≡ Ok (n, rest) → list_any (λ f. bytes_eq n f.name) before ≡ true
+pub new_field_taken : (before : List KeptField) (bytes : List ℕ) (n : Name) (rest : List ℕ) → name_at bytes ≡ Ok (n, rest) → list_any (λ f. bytes_eq n f.name) before ≡ true
     → new_field_at (map (λ f. f.name) before) bytes ≡ Err Operand
 unfolding new_field_at
 new_field_taken before bytes n rest e same = rw (e, among_names n before ∙ same) refl

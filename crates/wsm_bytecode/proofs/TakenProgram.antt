@@ -18,13 +18,13 @@ use Rattle.wsm_program.specs.Program.{Name, Header, Program, is_name_of, is_numb
 use Rattle.wsm_interval.specs.declared.Comparison.{Comparison}
 use Rattle.wsm_record.specs.declared.words.CellType.{CellType}
 use Rattle.wsm_record.specs.declared.Kind.{Kind}
-use Rattle.wsm_record.specs.Schema.{DeclaredField, source_count, is_name_list, are_fields_after, is_schema, is_within, enum_names}
+use Rattle.wsm_record.specs.Schema.{DeclaredField, source_count, is_name_list, are_fields_after, are_sources, is_schema, is_within, enum_names}
 use Rattle.wsm_record.specs.Name.{is_between}
 use Rattle.wsm_bytecode.specs.declared.version.Version.{Version}
 use Rattle.wsm_bytecode.specs.declared.version.Version.TheVariants.{One, Two}
 use Rattle.wsm_bytecode.specs.declared.reading.settings.Times.{Times}
 use Rattle.wsm_bytecode.specs.Parts.{Settings, byte, number, signed, instr, code, magic, names, fields, kinds, columns, budget}
-use Rattle.wsm_bytecode.specs.Steps.{◌>>=◌, bytes_at, judged, number_at, signed_at, several, times_at, enum_number_at}
+use Rattle.wsm_bytecode.specs.Steps.{◌>>=◌, bytes_at, judged, number_at, signed_at, several, names_at, fields_at, times_at, enum_number_at}
 use Rattle.wsm_bytecode.specs.Version1 as first
 use Rattle.wsm_bytecode.specs.Spelling.{version_number, settings, header, spelling_in, has, spells, IsSpelling}
 use Rattle.wsm_bytecode.specs.Reading.{push_int_at, push_bool_at, push_enum_at, index_at, target_at, comparison_by, comparison_at, number_field_at, field_test_at, test_at, test_by, plain_instr, plain_at, instr_by, instr_at, code_at, after_magic, version_by, version_at, settings_at, schema_of, clock_of, header_at, parts_at, program_at, all_read, decode}
@@ -342,18 +342,33 @@ header_joined v keys fs t s ks ts b bytes r1 r2 r3 r4 r5 r6 rest e0 e1 e2 e3 e4 
     let q1 = e1 ∙ ap (λ r. fields fs ++ r) q2 in
     e0 ∙ ap (λ r. names keys ++ r) q1 ∙ regroup_7 (names keys) (fields fs) (times_bytes t) (settings v s) (kinds ks) (columns ts) (budget b) rest
 
+schema_made : (keys : List Name) (fs : List DeclaredField) (s : Settings) → is_name_list keys ≡ true → (leb (length fs) 16 && are_fields_after [] fs) ≡ true → are_sources s.sources ≡ true → is_schema (schema_of keys fs s) ≡ true
+unfolding is_schema
+schema_made keys fs s named fielded sourced =
+    let f = and_parts (leb (length fs) 16) (are_fields_after [] fs) fielded in
+    and_from _ _ named (and_from _ _ f.0 (and_from _ _ f.1 sourced))
+
 lawful_made : (keys : List Name) (fs : List DeclaredField) (t : Times) (s : Settings) (ks : List Kind) (ts : List CellType) (b : Costs)
     → is_name_list keys ≡ true → (leb (length fs) 16 && are_fields_after [] fs) ≡ true → are_times t ≡ true → are_settings s ≡ true → leb (length ks) 16 ≡ true
     → (is_between 1 16 (length ts) && list_all (is_column (schema_of keys fs s)) ts) ≡ true → is_budget b ≡ true → is_header (made_of keys fs t s ks ts b) ≡ true
-unfolding is_header is_schema
+unfolding is_header
 lawful_made keys fs t s ks ts b named fielded timed set few columned stated =
-    let f = and_parts (leb (length fs) 16) (are_fields_after [] fs) fielded in
     let p = settings_parts s set in
     let d = schema_of keys fs s in
-    and_from _ _ (and_from _ _ named (and_from _ _ f.0 (and_from _ _ f.1 p.sources)))
+    and_from _ _ (schema_made keys fs s named fielded p.sources)
     (and_from _ _ (and_from _ _ timed (and_from _ _ p.late_by (eq-eqb (source_count d) (source_count d) refl)))
     (and_from _ _ (and_from _ _ p.shape (and_from _ _ p.early (and_from _ _ p.late p.form)))
     (and_from _ _ (and_from _ _ few columned) stated)))
+
+-- keys, fields and sources that were read make a schema
+pub schema_taken : (v : Version) (bytes r1 r2 r3 rest : List ℕ) (keys : List Name) (fs : List DeclaredField) (t : Times) (s : Settings) → IsBytes bytes
+    → names_at bytes ≡ Ok (keys, r1) → fields_at r1 ≡ Ok (fs, r2) → times_at r2 ≡ Ok (t, r3) → settings_at v r3 ≡ Ok (s, rest) → is_schema (schema_of keys fs s) ≡ true
+schema_taken v bytes r1 r2 r3 rest keys fs t s fits e0 e1 e2 e3 =
+    let t0 = names_taken bytes (keys, r1) fits e0 in
+    let t1 = fields_taken r1 (fs, r2) t0.fits e1 in
+    let t2 = times_taken r2 (t, r3) t1.fits e2 in
+    let t3 = settings_taken v r3 (s, rest) t2.fits e3 in
+    schema_made keys fs s t0.good t1.good (settings_parts s t3.good).sources
 
 pub header_taken : (v : Version) → Exact (header_at v) (header v) is_header
 unfolding header_at

@@ -210,7 +210,7 @@ decode bytes = do
 
 -- the settings as the code holds them
 abbrev pub settings_seen : Held → Settings
-settings_seen s = record { shape = s.shape; late_by = s.late_by; mode = s.mode; early = s.early; late = s.late; form = s.form; sources = s.sources.items }
+settings_seen s = record { shape = s.shape; late_by = s.late_by; mode = s.mode; early = s.early; late = s.late; form = s.form; sources = s.sources }
 
 -- ---- what a reader of the code answers: what reading gives, seen by view, unless memory ran out
 

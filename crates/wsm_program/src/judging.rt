@@ -5,7 +5,7 @@ ghost use Rattle.std.specs.List.{list_all};
 ghost use Rattle.wsm_record.specs.Name.{is_between};
 ghost use Rattle.wsm_program.specs.Program.{is_shape, is_column, is_clock, is_late_by, is_limited, is_sourced, is_firing, is_row, is_budget, is_header, is_instr, is_section, is_program};
 ghost use Rattle.wsm_record.specs.Modes.{may_write};
-ghost use Rattle.wsm_record.specs.Schema.{is_within};
+ghost use Rattle.wsm_record.specs.Schema.{is_within, source_count};
 ghost use Rattle.wsm_program.specs.View.{header_of, program_of};
 
 use crate::enums::{is_number_field, name_count, names};
@@ -38,17 +38,18 @@ pub(crate) fn is_lawful(
 fn is_lawful_header(header: &Header) -> bool
     ensures { result ≡ is_header (header_of header.now) }
 {
-    header.schema.is_declared();
-    is_lawful_clock(header)
+    let sources = header.schema.source_count();
+    is_lawful_clock(header, sources)
         && is_lawful_firing(header)
         && is_lawful_row(header)
         && is_lawful_budget(header.budget)
 }
 
-fn is_lawful_clock(header: &Header) -> bool
+fn is_lawful_clock(header: &Header, sources: usize) -> bool
+    requires { sources ≡ source_count header.now.schema }
     ensures { result ≡ is_clock (header_of header.now) }
 {
-    is_limited(header) && is_lawfully_sourced(header)
+    is_limited(header) && is_lawfully_sourced(header, sources)
 }
 
 fn is_limited(header: &Header) -> bool
@@ -60,11 +61,11 @@ fn is_limited(header: &Header) -> bool
         && is_inside(header.clock.records, 1, LONGEST_SPAN)
 }
 
-fn is_lawfully_sourced(header: &Header) -> bool
+fn is_lawfully_sourced(header: &Header, sources: usize) -> bool
+    requires { sources ≡ source_count header.now.schema }
     ensures { result ≡ is_sourced (header_of header.now) }
 {
-    is_own_lateness(header.shape, header.clock.late)
-        && usize::from(header.clock.sources) == header.schema.source_count()
+    is_own_lateness(header.shape, header.clock.late) && usize::from(header.clock.sources) == sources
 }
 
 fn is_own_lateness(shape: Shape, late: LateBy) -> bool

@@ -4,4 +4,5 @@ pub mod FittingValues
 pub mod Spellings
 pub mod Schemas
 pub mod NameGuesses
+pub mod AddedNames
 pub mod NamesOf

@@ -1,5 +1,5 @@
 -- Words of short texts, and guesses of their numbers.
-use Rattle.std.proofs.Common.{◌≡◌, ◌∙◌, ◌<◌, ◌≤◌, ℕ, zero, suc, List, [], ◌∷◌, length, get_or, refl, sym, ap, subst, arith}
+use Rattle.std.proofs.Common.{◌≡◌, ◌∙◌, ◌<◌, ◌≤◌, ◌++◌, ℕ, zero, suc, List, [], ◌∷◌, length, get_or, refl, sym, ap, subst, arith}
 use Rattle.std.specs.Prelude.{Some, slice_get}
 use Rattle.std.proofs.Math.ListN.{set, replicate, length-replicate}
 use Rattle.std.proofs.lemmas.List.{get_or-replicate}
@@ -47,3 +47,17 @@ guesses_alike names guesses n guess are is = λ i g e.
     let long = ap length are ∙ length-replicate n guess in
     let same : guess ≡ g = sym (get_or-replicate n i guess guess (omega (arith, within, long))) ∙ ap (λ l. get_or l i guess) (sym are) ∙ get_or_from_slice_get guesses i g guess e in
     subst (IsGuess names) same is
+
+kept_behind : (names : List (List ℕ)) (i : ℕ) (text name : List ℕ) → slice_get names i ≡ Some text → slice_get (names ++ name ∷ []) i ≡ Some text
+kept_behind [] i text name e = cc
+kept_behind (x ∷ xs) zero text name e = e
+kept_behind (x ∷ xs) (suc i) text name e = kept_behind xs i text name e
+
+-- the last of some names has their count for its number
+pub last_number : (names : List (List ℕ)) (name : List ℕ) → slice_get (names ++ name ∷ []) (length names) ≡ Some name
+last_number [] name = refl
+last_number (x ∷ xs) name = last_number xs name
+
+-- guesses for some names are guesses for these and one more
+pub guesses_more : (names : List (List ℕ)) (name : List ℕ) (guesses : List Guess) → AreGuesses names guesses → AreGuesses (names ++ name ∷ []) guesses
+guesses_more names name guesses all i guess at = λ text f e. kept_behind names guess.number text name (all i guess at text f e)

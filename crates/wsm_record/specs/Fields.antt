@@ -28,3 +28,7 @@ type_seen (kept.Enum names) = Enum names
 
 abbrev pub field_seen : KeptField → DeclaredField
 field_seen f = record { name = f.name; type = type_seen f.ty }
+
+-- a schema as it is kept
+abbrev pub kept_of : List (List ℕ) → List KeptField → List (List ℕ) → Declared
+kept_of keys fields sources = record { keys = keys; fields = map field_seen fields; sources = sources }

@@ -32,7 +32,7 @@ pub use event::{Event, RowFault, Value};
 pub use name::Name;
 pub use names::Names;
 pub use reserved::is_keyword;
-pub use schema::{DeclaredField, Field, FieldType, Schema, SchemaRefusal, Ty};
+pub use schema::{DeclaredField, Field, FieldType, Schema, SchemaRefusal, Ty, has_field};
 pub use spelling::{are_names, are_spelt};
 pub use words::{CellType, Form, Kind, Mode};
 

@@ -44,9 +44,10 @@ impl Name {
         Some(Name { bytes, len })
     }
 
-    /// Its bytes.
+    /// Its bytes, which make a name.
     pub fn as_bytes(&self) -> &[u8]
-        ensures { result.now ≡ self.now }
+        ensures bytes { result.now ≡ self.now }
+        ensures name { is_name self.now ≡ true }
     {
         &self.bytes[..self.len]
     }
@@ -60,7 +61,8 @@ impl Name {
 
     /// The same name once more. It takes no memory.
     pub fn copied(&self) -> Name
-        ensures { result ≡ self.now }
+        ensures same { result ≡ self.now }
+        ensures name { is_name result ≡ true }
     {
         Name {
             bytes: self.bytes,

@@ -1,13 +1,13 @@
 //! Lists of distinct names, each with its number.
 
-ghost use Rattle.std.specs.Prelude.{◌≡◌, ◌+◌, ◌*◌, ◌^◌, ◌<◌, ◌≤◌, ◌⊎◌, ℕ, List, length, map, position, bytes_eq, Some, false, true, slice_get, IfOk, IfErr, IfSome, Err, []};
-ghost use Rattle.wsm_record.specs.Name.{repeats_after};
+ghost use Rattle.std.specs.Prelude.{◌≡◌, ◌+◌, ◌*◌, ◌^◌, ◌<◌, ◌≤◌, ◌⊎◌, ◌++◌, ◌∷◌, if◌then◌else◌, not, ℕ, List, length, map, position, bytes_eq, Some, false, true, slice_get, IfOk, IfErr, IfSome, OnErr, Err, []};
+ghost use Rattle.wsm_record.specs.Name.{is_among, repeats_after};
+ghost use Rattle.wsm_record.specs.Schema.{are_names_after};
 ghost use Rattle.wsm_record.specs.Guesses.{AreBytes, AreGuesses, IsGuess, spelled};
 
 use crate::limits::MAX_NAMES;
 use crate::name::Name;
 use crate::schema::SchemaRefusal;
-use crate::spelling::are_names;
 use indexmap::IndexSet;
 use std::alloc::{AllocError, Global};
 use std::marker::Model;
@@ -47,27 +47,56 @@ impl Model for Names {
 }
 
 impl Names {
+    /// No names yet, with room for so many.
+    pub fn with_capacity(alloc: Global, count: usize) -> Result<Names, AllocError>
+        requires { count ≤ MAX_NAMES }
+        ensures { IfOk result (λ names. names ≡ []) }
+    {
+        let places = (4 * count).next_power_of_two();
+        let unknown = Guess { word: 0, number: 0 };
+        let texts = IndexSet::with_capacity(alloc, count)?;
+        let guesses = vec![in alloc; unknown; places]?;
+        Ok(Names {
+            texts,
+            guesses,
+            shift: places.leading_zeros() + 1,
+        })
+    }
+
     /// The names, in their order. The first fault from the left is answered.
     pub fn collect(alloc: Global, names: &[Name]) -> Result<Names, SchemaRefusal>
         requires { length names.now ≤ MAX_NAMES }
         ensures all { IfOk result (λ list. list ≡ names.now) }
+        ensures lawful { IfOk result (λ list. are_names_after [] list ≡ true) }
         ensures distinct { IfOk result (λ _. repeats_after [] names.now ≡ false) }
         ensures only { IfErr result (λ r. (r ≡ SchemaRefusal.Memory) ⊎ (r ≡ SchemaRefusal.DuplicateName)) }
         ensures repeated { result ≡ Err SchemaRefusal.DuplicateName → repeats_after [] names.now ≡ true }
     {
-        are_names(names);
-        let mut texts = IndexSet::with_capacity(alloc, names.len())?;
+        let mut list = Names::with_capacity(alloc, names.len())?;
         for name in names {
-            if !texts.insert(name.as_bytes().to_vec(alloc)?)? {
+            if !list.add(alloc, name)? {
                 return Err(SchemaRefusal::DuplicateName);
             }
         }
-        let (guesses, shift) = guesses_of(alloc, names)?;
-        Ok(Names {
-            texts,
-            guesses,
-            shift,
-        })
+        Ok(list)
+    }
+
+    /// Adds a name behind the others, where it is none of them, and answers whether it is none. With
+    /// no memory the names stay as they are.
+    pub fn add(&mut self, alloc: Global, name: &Name) -> Result<bool, AllocError>
+        requires { length self.old < MAX_NAMES }
+        ensures new { IfOk result (λ is_new. is_new ≡ not (is_among name.now self.old)) }
+        ensures names { IfOk result (λ is_new. self.new ≡ (if is_new then self.old ++ name.now ∷ [] else self.old)) }
+        ensures unchanged { OnErr result (self.new ≡ self.old) }
+        ensures lawful { are_names_after [] self.new ≡ true }
+    {
+        let number = self.len() as u16;
+        let text = name.as_bytes();
+        if !self.texts.insert(text.to_vec(alloc)?)? {
+            return Ok(false);
+        }
+        set_guess(&mut self.guesses, self.shift, text, number);
+        Ok(true)
     }
 
     /// How many names there are.
@@ -157,24 +186,16 @@ impl Names {
     }
 }
 
-// The guesses for some names, each at the place of its name's text, and the shift that gives places.
-// Where names share a place the last one has it.
-fn guesses_of(alloc: Global, names: &[Name]) -> Result<(Vec<Guess>, u32), AllocError>
-    requires { length names.now ≤ MAX_NAMES }
-    ensures { IfOk result (λ r. AreGuesses names.now r.0.items) }
+// Has the guess of a number for a text, at the text's place where there is one. Where names share a
+// place the last one has it.
+fn set_guess(guesses: &mut [Guess], shift: u32, text: &[u8], number: u16)
+    ensures guesses { (names : List (List ℕ)) → slice_get names number ≡ Some text.now → AreGuesses names guesses.old → AreGuesses names guesses.new }
+    ensures len { length guesses.new ≡ length guesses.old }
 {
-    let places = (4 * names.len()).next_power_of_two();
-    let shift = places.leading_zeros() + 1;
-    let unknown = Guess { word: 0, number: 0 };
-    let mut guesses = vec![in alloc; unknown; places]?;
-    for (number, name) in names.iter().enumerate() {
-        let text = name.as_bytes();
-        let place = place_of(mark_of(text), shift);
-        if place < guesses.len() {
-            guesses[place] = guess_of(text, number as u16);
-        }
+    let place = place_of(mark_of(text), shift);
+    if place < guesses.len() {
+        guesses[place] = guess_of(text, number);
     }
-    Ok((guesses, shift))
 }
 
 // The guess of a number for a text.

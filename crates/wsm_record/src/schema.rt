@@ -1,15 +1,14 @@
 //! What a query declares of its records.
 
-ghost use Rattle.std.specs.Prelude.{false, IsTrue, ◌≡◌, ◌≢◌, ◌<◌, ◌≤◌, ◌⊎◌, ℕ, List, [], length, map, option_map, position, bytes_eq, Some, None, Ok, Err, slice_get, IfOk, IfErr};
-ghost use Rattle.wsm_record.specs.Schema.{is_schema, enum_names, names_of_type, fits_type, fit_fields, type_refusal, fields_refusal, schema_refusal, is_too_many, is_source_count, has_too_many_names, source_count};
+ghost use Rattle.std.specs.Prelude.{true, false, IsTrue, ◌≡◌, ◌≢◌, ◌<◌, ◌≤◌, ◌⊎◌, ℕ, List, [], length, map, option_map, position, bytes_eq, Some, None, Ok, Err, slice_get, IfOk, IfErr};
+ghost use Rattle.wsm_record.specs.Schema.{is_schema, is_field_type, are_fields_after, enum_names, names_of_type, fits_type, fit_fields, type_refusal, fields_refusal, schema_refusal, is_too_many, is_source_count, has_too_many_names, source_count};
 ghost use Rattle.std.specs.List.{list_any};
-ghost use Rattle.wsm_record.specs.Fields.{declared_type, declared_field, type_seen, field_seen, declared_of};
+ghost use Rattle.wsm_record.specs.Fields.{declared_type, declared_field, type_seen, field_seen, declared_of, kept_of};
 
 use crate::event::Value;
 use crate::limits::{MAX_FIELDS, MAX_NAMES, MAX_SOURCES};
 use crate::name::Name;
 use crate::names::Names;
-use crate::spelling::{are_names, are_spelt};
 use std::alloc::{AllocError, AllocFailed, Global};
 use std::marker::Model;
 use thiserror::Error;
@@ -102,6 +101,7 @@ impl FieldType {
     fn declare(alloc: Global, ty: &Ty) -> Result<FieldType, SchemaRefusal>
         requires { has_too_many_names (declared_type ty.now) ≡ false }
         ensures kept { IfOk result (λ t. type_seen t ≡ declared_type ty.now) }
+        ensures lawful { IfOk result (λ t. is_field_type (type_seen t) ≡ true) }
         ensures accepted { IfOk result (λ _. type_refusal (declared_type ty.now) ≡ None) }
         ensures refused { IfErr result (λ r. (r ≡ SchemaRefusal.Memory) ⊎ (type_refusal (declared_type ty.now) ≡ Some r)) }
     {
@@ -133,15 +133,15 @@ pub struct Schema {
 }
 
 impl Model for Schema {
-    ghost use Rattle.std.specs.Prelude.{IsTrue, map};
+    ghost use Rattle.std.specs.Prelude.{IsTrue};
     ghost use Rattle.wsm_record.specs.Schema.{Declared, is_schema};
-    ghost use Rattle.wsm_record.specs.Fields.{field_seen};
+    ghost use Rattle.wsm_record.specs.Fields.{kept_of};
 
     ghost Value = { Declared };
 
-    ghost view = { λ a. record { keys = a.keys; fields = map field_seen a.fields.items; sources = a.sources } };
+    ghost view = { λ a. kept_of a.keys a.fields.items a.sources };
 
-    ghost invariant = { λ a. IsTrue (is_schema (record { keys = a.keys; fields = map field_seen a.fields.items; sources = a.sources })) };
+    ghost invariant = { λ a. IsTrue (is_schema (kept_of a.keys a.fields.items a.sources)) };
 }
 
 impl Schema {
@@ -163,25 +163,23 @@ impl Schema {
         if exceed(keys, fields, sources) {
             return Err(SchemaRefusal::TooMany);
         }
-        are_names(keys);
-        are_spelt(fields);
-        are_names(sources);
         let keys = Names::collect(alloc, keys)?;
         let fields = declare(alloc, fields)?;
         let sources = Names::collect(alloc, sources)?;
-        Ok(Schema {
+        Ok(Schema::of_parts(keys, fields, sources))
+    }
+
+    /// The schema of keys, fields and sources that were judged. It takes no memory.
+    pub fn of_parts(keys: Names, fields: Vec<DeclaredField>, sources: Names) -> Schema
+        requires { IsTrue (is_schema (kept_of keys fields.items sources)) }
+        ensures parts { result ≡ kept_of keys fields.items sources }
+        ensures lawful { IsTrue (is_schema result) }
+    {
+        Schema {
             keys,
             fields,
             sources,
-        })
-    }
-
-    /// There are keys, names are names, none stands twice, each field has a value, and there are no
-    /// sources or 2 to 16. A call does nothing.
-    pub fn is_declared(&self)
-        ensures { IsTrue (is_schema self.now) }
-    {
-        let _ = &self.keys;
+        }
     }
 
     /// The declared keys.
@@ -229,9 +227,11 @@ impl Schema {
         &self.sources
     }
 
-    /// How many sources watermarks have: 1 where none are declared, else 2 to 16.
+    /// How many sources watermarks have: 1 where none are declared, else 2 to 16. In each schema there
+    /// are keys, names are names, none stands twice, and each field has a value.
     pub fn source_count(&self) -> usize
         ensures count { result ≡ source_count self.now }
+        ensures lawful { IsTrue (is_schema self.now) }
         ensures some { 1 ≤ result }
         ensures most { result ≤ MAX_SOURCES }
     {
@@ -317,6 +317,7 @@ fn has_many_names(field: &Field) -> bool
 fn declare(alloc: Global, fields: &[Field]) -> Result<Vec<DeclaredField>, SchemaRefusal>
     requires { list_any (λ f. has_too_many_names (declared_type f.ty)) fields.now ≡ false }
     ensures kept { IfOk result (λ kept. map field_seen kept.items ≡ map declared_field fields.now) }
+    ensures lawful { IfOk result (λ kept. are_fields_after [] (map field_seen kept.items) ≡ true) }
     ensures accepted { IfOk result (λ _. fields_refusal [] (map declared_field fields.now) ≡ None) }
     ensures refused { IfErr result (λ r. (r ≡ SchemaRefusal.Memory) ⊎ (fields_refusal [] (map declared_field fields.now) ≡ Some r)) }
 {
@@ -332,7 +333,8 @@ fn declare(alloc: Global, fields: &[Field]) -> Result<Vec<DeclaredField>, Schema
     Ok(kept)
 }
 
-fn has_field(fields: &[DeclaredField], name: &Name) -> bool
+/// Whether one of these fields has the name.
+pub fn has_field(fields: &[DeclaredField], name: &Name) -> bool
     ensures { result ≡ list_any (λ f. bytes_eq name.now f.name) fields.now }
 {
     fields.iter().any(|field| *name == field.name)

@@ -8,7 +8,7 @@ ghost use Rattle.wsm_bytecode.specs.Reading.{Gives, settings_seen, after_magic, 
 use crate::limits::{MAGIC, MAX_COLUMNS};
 use crate::reading::names::names_of;
 use crate::reading::numbers::{byte_of, byte_within};
-use crate::reading::schema::{fields_of, schema_of};
+use crate::reading::schema::fields_of;
 use crate::reading::settings::{Settings, budget_of, kinds_of, times_of};
 use crate::reading::{version1, version2};
 use crate::version::Version;
@@ -30,7 +30,7 @@ pub(crate) fn header_of(
     let (fields, rest) = fields_of(alloc, rest)?;
     let (times, rest) = times_of(rest)?;
     let (settings, rest) = settings_of(alloc, version, rest)?;
-    let schema = schema_of(alloc, &keys, &fields, &settings.sources)?;
+    let schema = Schema::of_parts(keys, fields, settings.sources);
     let (kinds, rest) = kinds_of(alloc, rest)?;
     let (columns, rest) = columns_of(alloc, &schema, rest)?;
     let (budget, rest) = budget_of(rest)?;

@@ -1,15 +1,14 @@
 //! Names and lists of names.
 
-ghost use Rattle.std.specs.Prelude.{◌≡◌, not, []};
-ghost use Rattle.wsm_record.specs.Name.{is_among};
-ghost use Rattle.wsm_bytecode.specs.Steps.{judged, name_at, names_after, names_at};
+ghost use Rattle.std.specs.Prelude.{◌≡◌, ◌≤◌, []};
+ghost use Rattle.wsm_bytecode.specs.Steps.{name_at, names_after, names_at};
 ghost use Rattle.wsm_bytecode.specs.Reading.{Gives};
 
 use crate::limits::{MAX_NAME, MAX_NAMES};
 use crate::reading::numbers::{byte_within, u16_within};
 use std::alloc::Global;
 use wsm_program::DecodeRefusal;
-use wsm_record::Name;
+use wsm_record::{Name, Names};
 
 /// A byte of length and a name. The length is judged at its own byte, the name at its last.
 #[tactic(auto, unfolding(crate::specs::Steps::name_at))]
@@ -30,8 +29,8 @@ pub(crate) fn name_of(bytes: &[u8]) -> Result<(Name, &[u8]), DecodeRefusal>
 
 /// A list of 1 to 1,000 names, none of them twice.
 #[tactic(auto, unfolding(crate::specs::Steps::names_at))]
-pub(crate) fn names_of(alloc: Global, bytes: &[u8]) -> Result<(Vec<Name>, &[u8]), DecodeRefusal>
-    ensures { Gives (λ x. (x.0.items, x.1.now)) result (names_at bytes.now) }
+pub(crate) fn names_of(alloc: Global, bytes: &[u8]) -> Result<(Names, &[u8]), DecodeRefusal>
+    ensures { Gives (λ x. (x.0, x.1.now)) result (names_at bytes.now) }
 {
     let (count, rest) = u16_within(bytes, 1, MAX_NAMES)?;
     so_many_names(alloc, rest, count)
@@ -42,32 +41,18 @@ pub(crate) fn so_many_names(
     alloc: Global,
     bytes: &[u8],
     count: u16,
-) -> Result<(Vec<Name>, &[u8]), DecodeRefusal>
-    ensures { Gives (λ x. (x.0.items, x.1.now)) result (names_after [] count bytes.now) }
+) -> Result<(Names, &[u8]), DecodeRefusal>
+    requires { count ≤ MAX_NAMES }
+    ensures { Gives (λ x. (x.0, x.1.now)) result (names_after [] count bytes.now) }
 {
-    let mut names = Vec::new(alloc);
+    let mut names = Names::with_capacity(alloc, usize::from(count))?;
     let mut rest = bytes;
     for _ in 0..count {
-        let (name, after) = new_name_of(rest, &names)?;
-        names.push(name)?;
+        let (name, after) = name_of(rest)?;
+        if !names.add(alloc, &name)? {
+            return Err(DecodeRefusal::Operand);
+        }
         rest = after;
     }
     Ok((names, rest))
-}
-
-// A name that is none of those before.
-fn new_name_of<'a>(bytes: &'a [u8], before: &[Name]) -> Result<(Name, &'a [u8]), DecodeRefusal>
-    ensures { Gives (λ x. (x.0, x.1.now)) result (judged (λ x. not (is_among x before.now)) (name_at bytes.now)) }
-{
-    let (name, rest) = name_of(bytes)?;
-    if is_one_of(&name, before) {
-        return Err(DecodeRefusal::Operand);
-    }
-    Ok((name, rest))
-}
-
-fn is_one_of(name: &Name, names: &[Name]) -> bool
-    ensures { result ≡ is_among name.now names.now }
-{
-    names.iter().any(|other| *name == *other)
 }

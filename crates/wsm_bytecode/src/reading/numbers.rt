@@ -2,7 +2,7 @@
 //!
 //! A reader answers what it read and the bytes after it, or the first fault.
 
-ghost use Rattle.std.specs.Prelude.{◌≡◌};
+ghost use Rattle.std.specs.Prelude.{◌≡◌, ◌≤◌, IfOk};
 ghost use Rattle.std.specs.Int.{w8, w16, w64};
 ghost use Rattle.wsm_record.specs.Name.{is_between};
 ghost use Rattle.wsm_record.specs.Schema.{is_within};
@@ -60,7 +60,8 @@ pub(crate) fn i64_of(bytes: &[u8]) -> Result<(i64, &[u8]), DecodeRefusal>
 
 /// A byte from `low` to `high`.
 pub(crate) fn byte_within(bytes: &[u8], low: u8, high: u8) -> Result<(u8, &[u8]), DecodeRefusal>
-    ensures { Gives (λ x. (x.0, x.1.now)) result (judged (is_between low high) (number_at w8 bytes.now)) }
+    ensures read { Gives (λ x. (x.0, x.1.now)) result (judged (is_between low high) (number_at w8 bytes.now)) }
+    ensures most { IfOk result (λ x. x.0 ≤ high) }
 {
     let (number, rest) = byte_of(bytes)?;
     if number < low || high < number {
@@ -70,7 +71,8 @@ pub(crate) fn byte_within(bytes: &[u8], low: u8, high: u8) -> Result<(u8, &[u8])
 }
 
 pub(crate) fn u16_within(bytes: &[u8], low: u16, high: u16) -> Result<(u16, &[u8]), DecodeRefusal>
-    ensures { Gives (λ x. (x.0, x.1.now)) result (judged (is_between low high) (number_at w16 bytes.now)) }
+    ensures read { Gives (λ x. (x.0, x.1.now)) result (judged (is_between low high) (number_at w16 bytes.now)) }
+    ensures most { IfOk result (λ x. x.0 ≤ high) }
 {
     let (number, rest) = u16_of(bytes)?;
     if number < low || high < number {

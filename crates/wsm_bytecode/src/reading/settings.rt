@@ -10,7 +10,7 @@ use crate::tags::{form_by, kind_by, mode_by};
 use std::alloc::Global;
 use wsm_admission::LateBy;
 use wsm_program::{Costs, DecodeRefusal};
-use wsm_record::{Form, Kind, Mode, Name};
+use wsm_record::{Form, Kind, Mode, Names};
 use wsm_windows::Shape;
 
 /// The numbers of a clock that stand behind the fields.
@@ -33,7 +33,7 @@ pub(crate) struct Settings {
     pub(crate) late: i64,
     pub(crate) form: Form,
     /// None where watermarks name no source.
-    pub(crate) sources: Vec<Name>,
+    pub(crate) sources: Names,
 }
 
 #[tactic(auto, unfolding(crate::specs::Steps::times_at))]

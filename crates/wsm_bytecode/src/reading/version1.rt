@@ -14,7 +14,7 @@ use crate::reading::settings::{
 use std::alloc::Global;
 use wsm_admission::LateBy;
 use wsm_program::DecodeRefusal;
-use wsm_record::{Form, Mode, Name};
+use wsm_record::{Form, Mode, Names};
 use wsm_windows::Shape;
 
 #[tactic(auto, unfolding(crate::specs::Version1::settings_at))]
@@ -56,8 +56,8 @@ fn output_of(
     alloc: Global,
     bytes: &[u8],
     mode: Mode,
-) -> Result<((Form, Vec<Name>), &[u8]), DecodeRefusal>
-    ensures { Gives (λ x. ((x.0.0, x.0.1.items), x.1.now)) result (output_at mode bytes.now) }
+) -> Result<((Form, Names), &[u8]), DecodeRefusal>
+    ensures { Gives (λ x. ((x.0.0, x.0.1), x.1.now)) result (output_at mode bytes.now) }
 {
     let (tag, rest) = byte_within(bytes, 0, 7)?;
     let form = form_of(if tag < 4 { tag } else { tag - 4 }, mode)?;
@@ -66,11 +66,11 @@ fn output_of(
 }
 
 #[tactic(auto, unfolding(crate::specs::Steps::sources_at))]
-fn sources_of(alloc: Global, bytes: &[u8], tag: u8) -> Result<(Vec<Name>, &[u8]), DecodeRefusal>
-    ensures { Gives (λ x. (x.0.items, x.1.now)) result (sources_by tag bytes.now) }
+fn sources_of(alloc: Global, bytes: &[u8], tag: u8) -> Result<(Names, &[u8]), DecodeRefusal>
+    ensures { Gives (λ x. (x.0, x.1.now)) result (sources_by tag bytes.now) }
 {
     if tag < 4 {
-        return Ok((Vec::new(alloc), bytes));
+        return Ok((Names::with_capacity(alloc, 0)?, bytes));
     }
     let (count, rest) = byte_within(bytes, 2, MAX_SOURCES)?;
     so_many_names(alloc, rest, u16::from(count))

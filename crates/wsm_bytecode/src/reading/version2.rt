@@ -16,7 +16,7 @@ use crate::reading::settings::{
 use std::alloc::Global;
 use wsm_admission::LateBy;
 use wsm_program::DecodeRefusal;
-use wsm_record::{Form, Mode, Name};
+use wsm_record::{Form, Mode, Names};
 use wsm_windows::Shape;
 
 #[tactic(auto, unfolding(crate::specs::Version2::settings_at))]
@@ -43,8 +43,8 @@ pub(crate) fn settings_of(alloc: Global, bytes: &[u8]) -> Result<(Settings, &[u8
 
 // None, or 2 to 16.
 #[tactic(auto, unfolding(crate::specs::Steps::sources_at))]
-fn sources_of(alloc: Global, bytes: &[u8]) -> Result<(Vec<Name>, &[u8]), DecodeRefusal>
-    ensures { Gives (λ x. (x.0.items, x.1.now)) result (sources_at is_source_count bytes.now) }
+fn sources_of(alloc: Global, bytes: &[u8]) -> Result<(Names, &[u8]), DecodeRefusal>
+    ensures { Gives (λ x. (x.0, x.1.now)) result (sources_at is_source_count bytes.now) }
 {
     let (count, rest) = byte_of(bytes)?;
     if count == 1 || MAX_SOURCES < count {

@@ -1,12 +1,15 @@
-use Rattle.std.proofs.Common.{◌≡◌, ◌∙◌, ◌<◌, ◌+◌, ◌⊎◌, inl, inr, Bool, true, false, cond, List, [], length, map, take, drop, Option, Some, ap, ap₂, sym, arith, bytes_eq}
+use Rattle.std.proofs.Common.{◌≡◌, ◌∙◌, ◌<◌, ◌+◌, ◌⊎◌, inl, inr, not, Bool, true, false, cond, List, [], length, map, take, drop, Option, Some, ap, ap₂, sym, arith, bytes_eq}
 use Rattle.std.proofs.lemmas.Result.{err_from_is_err_and}
 use Rattle.std.specs.List.{list_any}
 use Rattle.wsm_record.specs.declared.schema.SchemaRefusal.{SchemaRefusal}
 use Rattle.wsm_record.specs.declared.schema.SchemaRefusal.TheVariants.{DuplicateName, Memory}
 use Rattle.wsm_record.specs.declared.schema.DeclaredField.{DeclaredField as KeptField}
 use Rattle.wsm_record.specs.Name.{is_among}
-use Rattle.wsm_record.specs.Schema.{DeclaredField, type_refusal, fields_refusal, or_else}
+use Rattle.wsm_record.specs.Schema.{DeclaredField, type_refusal, fields_refusal, or_else, are_fields_after}
 use Rattle.wsm_record.specs.Fields.{declared_field, declared_type, field_seen}
+use Rattle.std.proofs.lemmas.Bool.{and_from}
+use Rattle.std.proofs.lemmas.List.{map_push}
+use Rattle.wsm_record.proofs.Schemas.{fields_more}
 use Rattle.wsm_record.proofs.DeclaredFields.{name_of, fields_refusal-next, among_kept, next_declared, next_within, kept_next}
 use Rattle.wsm_record.proofs.schema.declare.Goals as goal
 
@@ -57,9 +60,14 @@ loop-field-preserved c =
     let rest : Option SchemaRefusal = fields_refusal (map name_of (take (i + 1) ds)) (drop (i + 1) ds) in
     let next = fields_refusal-next ds i (declared_field f) (next_within fields i within) (next_declared fields i f c.field-item.is)
     ∙ ap (λ (b : Bool). cond b (Some DuplicateName) (or_else (type_refusal (declared_type f.ty)) rest)) here ∙ ap (λ (r : Option SchemaRefusal). or_else r rest) c.in_ok-ty.ensures.accepted in
-    let seen : field_seen (record { name = c.copied-name.result; ty = c.in_ok-ty.ty }) ≡ declared_field f = ap₂ (λ n t. record { name = n; type = t }) c.copied-name.ensures c.in_ok-ty.ensures.kept in
+    let seen : field_seen (record { name = c.copied-name.result; ty = c.in_ok-ty.ty }) ≡ declared_field f = ap₂ (λ n t. record { name = n; type = t }) c.copied-name.ensures.same c.in_ok-ty.ensures.kept in
+    let new : is_among c.copied-name.result (map name_of (map field_seen kept)) ≡ false = ap (λ n. is_among n (map name_of (map field_seen kept))) c.copied-name.ensures.same ∙ ap (λ ds. is_among f.name (map name_of ds)) c.loop-field.invariant.kept ∙ here in
     record {
       kept = ap (map field_seen) c.in_ok-push.ensures.items
           ∙ kept_next kept (record { name = c.copied-name.result; ty = c.in_ok-ty.ty }) ds i (declared_field f) c.loop-field.invariant.kept seen (next_within fields i within) (next_declared fields i f c.field-item.is);
+      lawful = ap (λ (ks : List KeptField). are_fields_after [] (map field_seen ks)) c.in_ok-push.ensures.items
+          ∙ ap (are_fields_after []) (map_push field_seen kept (record { name = c.copied-name.result; ty = c.in_ok-ty.ty }))
+          ∙ fields_more [] (map field_seen kept) (field_seen (record { name = c.copied-name.result; ty = c.in_ok-ty.ty })) c.loop-field.invariant.lawful
+          (and_from _ _ c.copied-name.ensures.name (and_from _ _ (ap not new) c.in_ok-ty.ensures.lawful));
       refusal = sym next ∙ c.loop-field.invariant.refusal;
     }

@@ -1,7 +1,7 @@
 use Rattle.std.proofs.Common.{[], map}
 use Rattle.std.proofs.lemmas.Result.{err_from_is_err_and}
 use Rattle.std.proofs.lemmas.List.{map_push}
-use Rattle.wsm_record.specs.Fields.{declared_field}
+use Rattle.wsm_record.specs.Fields.{field_seen}
 use Rattle.wsm_bytecode.specs.Steps.{fields_after}
 use Rattle.wsm_bytecode.proofs.Loop.{fields_go_on, fields_end}
 use Rattle.wsm_bytecode.proofs.reading.schema.so_many_fields.Goals as goal
@@ -10,11 +10,11 @@ pub returns-in_err-field : goal.returns-in_err-field
 returns-in_err-field c =
     let p = err_from_is_err_and c.from_residual.result c.from_residual.ensures.1 in
     let fails = rw c.deref.ensures.value at c.in_err-field.ensures in
-    rw (p.1, p.2) (fields_end c.in_err-field.field-0.0 (map declared_field c.loop.fields.items) (map (λ f. f.name) c.loop.fields.items) c.args.count c.loop.counter c.loop.rest.now (fields_after [] c.args.count c.args.bytes.now) c.loop-test.true fails c.loop.invariant)
+    rw (p.1, p.2) (fields_end c.in_err-field.field-0.0 (map field_seen c.loop.fields.items) (map (λ f. f.name) c.loop.fields.items) c.args.count c.loop.counter c.loop.rest.now (fields_after [] c.args.count c.args.bytes.now) c.loop-test.true fails c.loop.invariant)
 
 pub loop-preserved : goal.loop-preserved
 loop-preserved c =
     let f = c.in_ok-field.field in
     let read = rw c.deref.ensures.value at c.in_ok-field.ensures in
-    rw (c.in_ok-push.ensures.items, map_push declared_field c.loop.fields.items f, map_push (λ g. g.name) c.loop.fields.items f)
-    (fields_go_on (map declared_field c.loop.fields.items) (map (λ f. f.name) c.loop.fields.items) c.args.count c.loop.counter c.loop.rest.now (declared_field f) c.in_ok-field.after.now (fields_after [] c.args.count c.args.bytes.now) c.loop-test.true read c.loop.invariant)
+    rw (c.in_ok-push.ensures.items, map_push field_seen c.loop.fields.items f, map_push (λ g. g.name) c.loop.fields.items f)
+    (fields_go_on (map field_seen c.loop.fields.items) (map (λ f. f.name) c.loop.fields.items) c.args.count c.loop.counter c.loop.rest.now (field_seen f) c.in_ok-field.after.now (fields_after [] c.args.count c.args.bytes.now) c.loop-test.true read c.loop.invariant)

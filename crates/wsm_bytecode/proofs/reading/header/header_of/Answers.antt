@@ -1,0 +1,11 @@
+use Rattle.std.proofs.Common.{map, arith}
+use Rattle.wsm_record.specs.Fields.{field_seen}
+use Rattle.wsm_bytecode.specs.Reading.{settings_seen}
+use Rattle.wsm_bytecode.proofs.TakenProgram.{schema_taken}
+use Rattle.wsm_bytecode.proofs.reading.header.header_of.Goals as goal
+
+-- all were judged as they were read
+pub of_parts-schema-requires : goal.of_parts-schema-requires
+of_parts-schema-requires c =
+    schema_taken c.args.version c.args.bytes.now c.in_ok-keys.rest.now c.in_ok-fields.rest.now c.in_ok-times.rest.now c.in_ok-settings.rest.now c.in_ok-keys.keys (map field_seen c.in_ok-fields.fields.items) c.in_ok-times.times (settings_seen c.in_ok-settings.settings)
+    (λ i. omega (arith, c.type_inv.bytes i)) c.in_ok-keys.ensures c.in_ok-fields.ensures c.in_ok-times.ensures c.in_ok-settings.ensures
