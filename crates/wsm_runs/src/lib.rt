@@ -4,6 +4,7 @@
 //! - `runs`: rows through queries of each shape, mode and form, by their texts and by their programs
 //! - `judging`: what is said of programs
 //! - `devices`: what has been written where a device fails, or a row is read
+//! - `tables`: the same rows through the list of sessions and through the ring of windows
 //! - `words`: the words of a command
 #![tactic(auto)]
 
@@ -13,5 +14,7 @@ mod devices;
 mod judging;
 #[cfg(test)]
 mod runs;
+#[cfg(test)]
+mod tables;
 #[cfg(test)]
 mod words;
