@@ -1,6 +1,6 @@
 pub mod Chains
 pub mod Levels
-pub mod Lists
+pub mod Braces
 pub mod Blind
 pub mod BlindRules
 pub mod Spelt

@@ -10,11 +10,6 @@ use Rattle.wsm_tokens.specs.Written.{token_text, written}
 use Rattle.wsm_query.specs.Adds.{adds, comma_before}
 use Rattle.wsm_query.specs.Print.{with_commas}
 
--- tokens are added in two parts
-pub adds-append : (text : List ℕ) (ts us : List Token) → adds text (ts ++ us) ≡ adds (adds text ts) us
-adds-append text [] us = refl
-adds-append text (t ∷ ts) us = adds-append (text ++ 32 ∷ token_text t) ts us
-
 joined : (text : List ℕ) (t : Token) (ts : List Token) → text ++ 32 ∷ join_with_byte 32 (map token_text (t ∷ ts)) ≡ adds text (t ∷ ts)
 joined text t [] = refl
 joined text t (u ∷ us) = sym (append_assoc text (32 ∷ token_text t) (32 ∷ join_with_byte 32 (map token_text (u ∷ us)))) ∙ joined (text ++ 32 ∷ token_text t) u us
@@ -24,6 +19,11 @@ pub written-adds : (t : Token) (ts : List Token) → written (t ∷ ts) ≡ adds
 unfolding written
 written-adds t [] = refl
 written-adds t (u ∷ us) = joined (token_text t) u us
+
+-- tokens are added in two parts
+pub adds-append : (text : List ℕ) (ts us : List Token) → adds text (ts ++ us) ≡ adds (adds text ts) us
+adds-append text [] us = refl
+adds-append text (t ∷ ts) us = adds-append (text ++ 32 ∷ token_text t) ts us
 
 pub ruleset parts = (adds-append, written-adds)
 

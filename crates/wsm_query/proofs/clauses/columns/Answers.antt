@@ -1,7 +1,7 @@
 use Rattle.std.proofs.Common.{arith, sym, ◌∙◌, ap, map}
 use Rattle.std.proofs.lemmas.List.{map-append}
 use Rattle.wsm_query.specs.Seen.{seen_expr}
-use Rattle.wsm_query.proofs.Lists.{turns_go_on}
+use Rattle.wsm_query.proofs.Braces.{turns_go_on}
 use Rattle.wsm_query.proofs.clauses.columns.Goals as goal
 
 pub loop-alloc-preserved : goal.loop-alloc-preserved

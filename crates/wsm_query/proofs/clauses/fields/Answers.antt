@@ -1,7 +1,7 @@
 use Rattle.std.proofs.Common.{arith, sym, ◌∙◌, ap, map}
 use Rattle.std.proofs.lemmas.List.{map-append}
 use Rattle.wsm_record.specs.Fields.{declared_field}
-use Rattle.wsm_query.proofs.Lists.{turns_go_on}
+use Rattle.wsm_query.proofs.Braces.{turns_go_on}
 use Rattle.wsm_query.proofs.clauses.fields.Goals as goal
 
 pub loop-alloc-preserved : goal.loop-alloc-preserved

@@ -3,7 +3,7 @@ use Rattle.std.specs.Prelude.{codes}
 use Rattle.wsm_tokens.specs.Read.{count}
 use Rattle.wsm_query.specs.Grammar as rule
 use Rattle.wsm_record.specs.Fields.{declared_field}
-use Rattle.wsm_query.proofs.Lists.{TurnsGoOn}
+use Rattle.wsm_query.proofs.Braces.{TurnsGoOn}
 use Rattle.wsm_query.proofs.clauses.fields.Given as goal
 
 -- the brace goes on behind what was read

@@ -1,5 +1,5 @@
 use Rattle.std.proofs.Common.{arith, sym, ◌∙◌}
-use Rattle.wsm_query.proofs.Lists.{turns_go_on}
+use Rattle.wsm_query.proofs.Braces.{turns_go_on}
 use Rattle.wsm_query.proofs.clauses.names.Goals as goal
 
 pub loop-reader-preserved : goal.loop-reader-preserved

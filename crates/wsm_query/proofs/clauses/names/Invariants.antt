@@ -2,7 +2,7 @@ use Rattle.std.proofs.Common.{◌≤◌}
 use Rattle.std.specs.Prelude.{codes}
 use Rattle.wsm_tokens.specs.Read.{name, count}
 use Rattle.wsm_query.specs.Grammar as rule
-use Rattle.wsm_query.proofs.Lists.{TurnsGoOn}
+use Rattle.wsm_query.proofs.Braces.{TurnsGoOn}
 use Rattle.wsm_query.proofs.clauses.names.Given as goal
 
 -- the brace goes on behind what was read
