@@ -1,4 +1,4 @@
-use Rattle.std.proofs.Common.{◌≡◌, ◌+◌, ◌≤◌, ◌++◌, [], ◌∷◌, List, ℤ, suc, length, map, drop, sym, ap, ◌∙◌, append_assoc, append-nil, vec_len, arith, to_z, of_z, to_z-of_z, SFits, w64}
+use Rattle.std.proofs.Common.{◌≡◌, ◌+◌, ◌≤◌, ◌++◌, [], ◌∷◌, List, ℤ, suc, length, map, drop, sym, ap, ◌∙◌, append_assoc, append-nil, arith, to_z, of_z, to_z-of_z, SFits, w64}
 use Rattle.std.proofs.lemmas.List.{drop_all}
 use Rattle.wsm_record.specs.declared.cell.Cell.{Cell}
 use Rattle.wsm_semantics.specs.declared.out_row.OutRow.{OutRow}

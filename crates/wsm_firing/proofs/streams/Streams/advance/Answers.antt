@@ -1,4 +1,4 @@
-use Rattle.std.proofs.Common.{◌≡◌, ◌++◌, List, sym, ap, subst, ◌∙◌, append-nil, vec_len, vec_capacity, Vec, arith, to_z-of_z, SFits, w64}
+use Rattle.std.proofs.Common.{◌≡◌, ◌++◌, List, sym, ap, subst, ◌∙◌, append-nil, vec_len, vec_capacity, arith, to_z-of_z, SFits, w64}
 use Rattle.wsm_record.specs.declared.words.Form.{Form}
 use Rattle.wsm_semantics.specs.declared.out_row.OutRow.{OutRow}
 use Rattle.wsm_semantics.specs.Relation.{sorted_rows, stream_rows}
