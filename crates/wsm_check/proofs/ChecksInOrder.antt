@@ -22,19 +22,23 @@ use Rattle.wsm_check.specs.Terms.{few_names}
 use Rattle.wsm_check.specs.Checks.{Judges, or_else, first, unless, names_refusal, ty_refusal, field_refusal, fields_refusal, clock_fits, budget_fits, shape_fits, lateness_fits, every_fits, sources_refusal, condition_refusal, columns_refusal, code_fits, refusal, grouped_refusal}
 use Rattle.wsm_check.specs.Types.{InWhere, InColumn}
 
+stopped : (r s : Option CheckRefusal) (e : CheckRefusal) → r ≡ Some e → or_else r s ≡ Some e
+stopped None s e h = cc
+stopped (Some f) s e h = h
+
+-- a check that refuses
+pub stops : (r s : Option CheckRefusal) (e : CheckRefusal) → Judges (Err e) r → Judges (Err e) (or_else r s)
+stops r s e (inl m) = inl m
+stops r s e (inr h) = inr (stopped r s e h)
+
 -- the checks behind one that passed
 pub goes_on : (r s : Option CheckRefusal) (answer : Result (Unit {0}) CheckRefusal) → r ≡ None → Judges answer s → Judges answer (or_else r s)
 goes_on None s answer h judged = judged
 goes_on (Some f) s answer h judged = cc
 
-stopped : (r s : Option CheckRefusal) (e : CheckRefusal) → r ≡ Some e → or_else r s ≡ Some e
-stopped None s e h = cc
-stopped (Some f) s e h = h
-
--- one that refuses
-pub stops : (r s : Option CheckRefusal) (e : CheckRefusal) → Judges (Err e) r → Judges (Err e) (or_else r s)
-stops r s e (inl m) = inl m
-stops r s e (inr h) = inr (stopped r s e h)
+none_behind : (r s : Option CheckRefusal) → r ≡ None → or_else r s ≡ s
+none_behind None s h = refl
+none_behind (Some f) s h = cc
 
 pub ruleset steps = (goes_on, stops)
 
@@ -44,10 +48,6 @@ counted_names fields = length-map (map declared_field fields) (λ (d : DeclaredF
 pub among_fields : (x : Name) (fields : List CodeField) → is_among x (field_names (map declared_field fields)) ≡ list_any (λ f. bytes_eq x f.name) fields
 among_fields x [] = refl
 among_fields x (f ∷ fields) = ap (λ b. bytes_eq x f.name || b) (among_fields x fields)
-
-none_behind : (r s : Option CheckRefusal) → r ≡ None → or_else r s ≡ s
-none_behind None s h = refl
-none_behind (Some f) s h = cc
 
 three_first : (a b d rest : Option CheckRefusal) → or_else a (or_else b (or_else d (or_else rest None))) ≡ or_else (or_else a (or_else b (or_else d None))) rest
 three_first None None None None = refl
