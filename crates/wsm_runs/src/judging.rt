@@ -1,10 +1,11 @@
 //! What is said of programs.
 
 use crate::devices::TakesFew;
+use crate::runs::{BASE, Case, PROMPT, text_of};
 use std::alloc::Global;
 use std::process::Abort;
 use std::test::Fail;
-use wsm::{End, Guarded, judge, migrate};
+use wsm::{End, Guarded, compile_text, judge, migrate};
 use wsm_bytecode::{Program, SectionId, decode};
 use wsm_machine::{Inputs, Outcome, Ran, Trap, run_any};
 use wsm_record::Value;
@@ -123,5 +124,84 @@ fn a_failed_device_took_a_beginning(rt: HostRuntime) -> Result<(), Fail> {
         out.into_writer().taken.as_slice(),
         b"where 0 PU".as_slice()
     );
+    Ok(())
+}
+
+// The line of the judgement of a query's program.
+fn judgement(alloc: Global, text: &str) -> Result<Vec<u8>, Fail> {
+    let program = compile_text(alloc, text.as_bytes())?;
+    let mut out = Guarded::new(Vec::new(alloc));
+    judge(alloc, &program, false, &mut out)?;
+    Ok(out.into_writer())
+}
+
+const JUDGED: [Case; 11] = [
+    Case {
+        want: "accepted,5,4,6\n",
+        ..BASE
+    },
+    Case {
+        columns: "SUM(n) / COUNT(*)",
+        want: "accepted,5,5,6\n",
+        ..BASE
+    },
+    Case {
+        window: "SLIDING 60 EVERY 25 ACCUMULATING",
+        want: "accepted,11,4,14\n",
+        ..BASE
+    },
+    Case {
+        clock: PROMPT,
+        window: "SESSION 30 ACCUMULATING",
+        want: "accepted,6,4,10\n",
+        ..BASE
+    },
+    Case {
+        columns: "100 / SUM(n)",
+        want: "rejected,fire,2,MayDivideByZero\n",
+        ..BASE
+    },
+    Case {
+        columns: "COUNT(*) WHERE n <> 0 AND 10 / n > 1",
+        want: "accepted,9,3,6\n",
+        ..BASE
+    },
+    Case {
+        columns: "COUNT(*), SUM(n) WHERE n <> 0 AND 10 / n > 1",
+        want: "accepted,11,4,6\n",
+        ..BASE
+    },
+    Case {
+        field: "n INT -5..5",
+        columns: "COUNT(*), SUM(n) WHERE n <> 0 AND 10 / n > 1",
+        want: "rejected,where,3,MayDivideByZero\n",
+        ..BASE
+    },
+    Case {
+        columns: "SUM(IF n <> 0 THEN 100 / n ELSE 0 END)",
+        want: "accepted,9,3,6\n",
+        ..BASE
+    },
+    Case {
+        columns: "COUNT(*) WHERE 10 / n > 1 AND n <> 0",
+        want: "rejected,where,2,MayDivideByZero\n",
+        ..BASE
+    },
+    Case {
+        field: "n INT 0..1000000000000",
+        clock: "START 0; SKEW 100; LATENESS 10; RECORDS 1000000000000",
+        want: "rejected,update,1,AccumulatorRange\n",
+        ..BASE
+    },
+];
+
+// Here `want` is the line of the judgement.
+#[test]
+fn queries_are_judged(rt: HostRuntime) -> Result<(), Fail> {
+    for case in &JUDGED {
+        let text = text_of(rt.alloc(), case)?;
+        let line = judgement(rt.alloc(), text.as_str())?;
+        assert_eq!(rt; line.as_slice(), case.want.as_bytes(), "{text}");
+    }
     Ok(())
 }

@@ -3,24 +3,24 @@
 use std::alloc::Global;
 use std::process::Abort;
 use std::test::Fail;
-use wsm::{End, Guarded, Totals, compile_text, judge, run_program, run_query};
+use wsm::{End, Guarded, Totals, compile_text, run_program, run_query};
 
-// The clauses of a query over keys a and b, rows for it, and what is written.
+/// The clauses of a query over keys a and b, rows for it, and what is written.
 #[derive(Clone, Copy)]
-struct Case {
-    field: &'static str,
+pub struct Case {
+    pub field: &'static str,
     // SOURCES and its end, or nothing.
-    sources: &'static str,
-    clock: &'static str,
-    columns: &'static str,
-    window: &'static str,
-    form: &'static str,
-    rows: &'static str,
-    want: &'static str,
+    pub sources: &'static str,
+    pub clock: &'static str,
+    pub columns: &'static str,
+    pub window: &'static str,
+    pub form: &'static str,
+    pub rows: &'static str,
+    pub want: &'static str,
 }
 
-// A query that counts and sums; the cases change some of its clauses.
-const BASE: Case = Case {
+/// A query that counts and sums; the cases change some of its clauses.
+pub const BASE: Case = Case {
     field: "n INT 0..100",
     sources: "",
     clock: "START 0; SKEW 100; LATENESS 10; RECORDS 1000",
@@ -31,7 +31,8 @@ const BASE: Case = Case {
     want: "end,0,0,0,0,0\n",
 };
 
-const PROMPT: &str = "START 0; SKEW 100; LATENESS 0; RECORDS 1000";
+/// A clock that takes no record behind the watermark.
+pub const PROMPT: &str = "START 0; SKEW 100; LATENESS 0; RECORDS 1000";
 
 // A query that counts alone, and admits no record behind the watermark.
 const COUNT: Case = Case {
@@ -67,7 +68,8 @@ const SLIDING: Case = Case {
     ..BASE
 };
 
-fn text_of(alloc: Global, case: &Case) -> Result<String, Fail> {
+/// The text of the query.
+pub fn text_of(alloc: Global, case: &Case) -> Result<String, Fail> {
     let (field, sources, clock) = (case.field, case.sources, case.clock);
     let (columns, window, form) = (case.columns, case.window, case.form);
     Ok(format!(in alloc;
@@ -438,83 +440,4 @@ const GUARDED: [Case; 1] = [Case {
 #[test]
 fn guarded_divisors(rt: HostRuntime) -> Result<(), Fail> {
     all_write(&rt, &GUARDED)
-}
-
-// The line of the judgement of a query's program.
-fn judgement(alloc: Global, text: &str) -> Result<Vec<u8>, Fail> {
-    let program = compile_text(alloc, text.as_bytes())?;
-    let mut out = Guarded::new(Vec::new(alloc));
-    judge(alloc, &program, false, &mut out)?;
-    Ok(out.into_writer())
-}
-
-const JUDGED: [Case; 11] = [
-    Case {
-        want: "accepted,5,4,6\n",
-        ..BASE
-    },
-    Case {
-        columns: "SUM(n) / COUNT(*)",
-        want: "accepted,5,5,6\n",
-        ..BASE
-    },
-    Case {
-        window: "SLIDING 60 EVERY 25 ACCUMULATING",
-        want: "accepted,11,4,14\n",
-        ..BASE
-    },
-    Case {
-        clock: PROMPT,
-        window: "SESSION 30 ACCUMULATING",
-        want: "accepted,6,4,10\n",
-        ..BASE
-    },
-    Case {
-        columns: "100 / SUM(n)",
-        want: "rejected,fire,2,MayDivideByZero\n",
-        ..BASE
-    },
-    Case {
-        columns: "COUNT(*) WHERE n <> 0 AND 10 / n > 1",
-        want: "accepted,9,3,6\n",
-        ..BASE
-    },
-    Case {
-        columns: "COUNT(*), SUM(n) WHERE n <> 0 AND 10 / n > 1",
-        want: "accepted,11,4,6\n",
-        ..BASE
-    },
-    Case {
-        field: "n INT -5..5",
-        columns: "COUNT(*), SUM(n) WHERE n <> 0 AND 10 / n > 1",
-        want: "rejected,where,3,MayDivideByZero\n",
-        ..BASE
-    },
-    Case {
-        columns: "SUM(IF n <> 0 THEN 100 / n ELSE 0 END)",
-        want: "accepted,9,3,6\n",
-        ..BASE
-    },
-    Case {
-        columns: "COUNT(*) WHERE 10 / n > 1 AND n <> 0",
-        want: "rejected,where,2,MayDivideByZero\n",
-        ..BASE
-    },
-    Case {
-        field: "n INT 0..1000000000000",
-        clock: "START 0; SKEW 100; LATENESS 10; RECORDS 1000000000000",
-        want: "rejected,update,1,AccumulatorRange\n",
-        ..BASE
-    },
-];
-
-// Here `want` is the line of the judgement.
-#[test]
-fn queries_are_judged(rt: HostRuntime) -> Result<(), Fail> {
-    for case in &JUDGED {
-        let text = text_of(rt.alloc(), case)?;
-        let line = judgement(rt.alloc(), text.as_str())?;
-        assert_eq!(rt; line.as_slice(), case.want.as_bytes(), "{text}");
-    }
-    Ok(())
 }

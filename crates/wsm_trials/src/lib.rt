@@ -6,7 +6,8 @@
 //! - `rows`: rows that are no event, or one that is refused
 //! - `texts`: queries of which a byte was changed
 //! - `devices`: readers and devices that fail
-//! - `edges`: numbers on both sides of each limit
+//! - `edges`: numbers of a query on both sides of each limit
+//! - `row_edges`: rows on both sides of each limit
 #![tactic(auto)]
 
 #[cfg(test)]
@@ -15,6 +16,8 @@ mod devices;
 mod edges;
 #[cfg(test)]
 mod given;
+#[cfg(test)]
+mod row_edges;
 #[cfg(test)]
 mod rows;
 #[cfg(test)]
