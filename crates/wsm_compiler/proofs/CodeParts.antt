@@ -60,11 +60,12 @@ pub length-added_test : (code : List Instr) (k : ℕ) (t : Term) → length (cod
 length-added_test code k t =
     length-append code (test_code (term_test t) (term_code k t)) ∙ ap (λ n. length code + n) (length-test_code (term_test t) (term_code k t) (term_size t) (length-term_code k t))
 
-pub ruleset added = (length-added, length-added_behind, length-added_test, append_assoc)
-
 -- the elements from place i on are the one there and those behind it
 pub seen_rest : {X Y : Type 0} (f : X → Y) (xs : List X) (i : ℕ) (x : X) → i < length xs → x ≡ get_or xs i x → map f (drop i xs) ≡ f x ∷ map f (drop (i + 1) xs)
 seen_rest f xs i x h e = ap (map f) (drop_more xs i x h ∙ ap (λ y. y ∷ drop (i + 1) xs) (sym e))
+
+-- what is added to code
+pub ruleset added = (length-added, length-added_behind, length-added_test, append_assoc)
 
 -- an operand's code, and its FOLD
 pub folded : (code mid next : List Instr) (a : ℕ) (f : Folding) (fs : List Folding) → mid ≡ code ++ term_code (length code) f.operand → next ≡ mid ++ instr.Fold a ∷ [] →

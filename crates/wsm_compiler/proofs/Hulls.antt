@@ -11,7 +11,7 @@ use Rattle.wsm_verifier.specs.declared.known.Known.TheVariants.{Number, Truth, N
 use Rattle.wsm_verifier.specs.Labels.{State, Label, Unreached, Differing, Reached, same_type, same_types, same_flags, agree, hull_known, hull_lists, hull_states, label_with, hull_all}
 use Rattle.wsm_semantics.proofs.Each.{itself}
 use Rattle.wsm_machine.proofs.FittingStacks.{no}
-use Rattle.wsm_machine.proofs.EdgeLabels.{flags_are}
+use Rattle.wsm_machine.proofs.EdgeLabels.{agreed, flags_are}
 
 min_self : (a : ℤ) → int_min a a ≡ a
 min_self a = omega (arith, ints, clamps)
@@ -131,39 +131,27 @@ stack_groups (x ∷ xs) (y ∷ ys) (z ∷ zs) h l =
 
 -- ---- states
 
--- what two states that agree have in common
-record Parts (s t : State) : Type 0 where
-  stack : same_types s.stack t.stack ≡ true
-  flags : same_flags s.folded t.folded ≡ true
-  fields : same_types s.fields t.fields ≡ true
-
-parts : (s t : State) → agree s t ≡ true → Parts s t
-parts s t h =
-    let a = and_parts (same_types s.stack t.stack) (same_flags s.folded t.folded && same_types s.fields t.fields) h in
-    let b = and_parts (same_flags s.folded t.folded) (same_types s.fields t.fields) a.1 in
-    record { stack = a.0; flags = b.0; fields = b.1 }
-
 pub agreeing : (s t : State) → same_types s.stack t.stack ≡ true → same_flags s.folded t.folded ≡ true → same_types s.fields t.fields ≡ true → agree s t ≡ true
 agreeing s t h l m = and_from (same_types s.stack t.stack) (same_flags s.folded t.folded && same_types s.fields t.fields) h (and_from (same_flags s.folded t.folded) (same_types s.fields t.fields) l m)
 
 agree_of_hull : (s t u : State) → agree s t ≡ true → agree (hull_states s t) u ≡ true → agree t u ≡ true
 agree_of_hull s t u h l =
-    let a = parts s t h in
-    let b = parts (hull_states s t) u l in
+    let a = agreed s t h in
+    let b = agreed (hull_states s t) u l in
     let flags = subst (λ fs. same_flags fs u.folded ≡ true) (flags_are s.folded t.folded a.flags) b.flags in
-    agreeing t u (types_of_hull s.stack t.stack u.stack a.stack b.stack) flags (types_of_hull s.fields t.fields u.fields a.fields b.fields)
+    agreeing t u (types_of_hull s.stack t.stack u.stack a.stacks b.stacks) flags (types_of_hull s.fields t.fields u.fields a.fields b.fields)
 
 agree_with_hull : (s t u : State) → agree s t ≡ true → agree t u ≡ true → agree s (hull_states t u) ≡ true
 agree_with_hull s t u h l =
-    let a = parts s t h in
-    let b = parts t u l in
-    agreeing s (hull_states t u) (types_with_hull s.stack t.stack u.stack a.stack b.stack) a.flags (types_with_hull s.fields t.fields u.fields a.fields b.fields)
+    let a = agreed s t h in
+    let b = agreed t u l in
+    agreeing s (hull_states t u) (types_with_hull s.stack t.stack u.stack a.stacks b.stacks) a.flags (types_with_hull s.fields t.fields u.fields a.fields b.fields)
 
 states_groups : (s t u : State) → agree s t ≡ true → agree t u ≡ true → hull_states s (hull_states t u) ≡ hull_states (hull_states s t) u
 states_groups s t u h l =
-    let a = parts s t h in
-    let b = parts t u l in
-    (λ i. record { stack = stack_groups s.stack t.stack u.stack a.stack b.stack i; folded = s.folded; fields = stack_groups s.fields t.fields u.fields a.fields b.fields i })
+    let a = agreed s t h in
+    let b = agreed t u l in
+    (λ i. record { stack = stack_groups s.stack t.stack u.stack a.stacks b.stacks i; folded = s.folded; fields = stack_groups s.fields t.fields u.fields a.fields b.fields i })
 
 -- ---- one state more
 
@@ -184,8 +172,8 @@ never_unreached s Unreached = refl
 never_unreached s Differing = refl
 never_unreached s (Reached t) = elim (agree s t) as (λ b. is_unreached (cond b (Reached (hull_states s t)) Differing) ≡ false) [ true ↦ refl | false ↦ refl ]
 
-agreed : (s t : State) → agree s t ≡ true → label_with s (Reached t) ≡ Reached (hull_states s t)
-agreed s t h = ap (λ b. cond b (Reached (hull_states s t)) Differing) h
+hull_reached : (s t : State) → agree s t ≡ true → label_with s (Reached t) ≡ Reached (hull_states s t)
+hull_reached s t h = ap (λ b. cond b (Reached (hull_states s t)) Differing) h
 
 -- a state before others, where they are known with one more
 before_others : (s u t : State) (l m : Label) → is_unreached l ≡ false → label_with s l ≡ Reached u → agree u t ≡ true → ((w : State) → l ≡ Reached w → agree w t ≡ true → m ≡ Reached (hull_states w t)) → label_with s m ≡ Reached (hull_states u t)
@@ -197,7 +185,7 @@ before_others s u t (Reached w) m n e a go =
           let is : hull_states s w ≡ u = ap (state_or s) e in
           let a' : agree (hull_states s w) t ≡ true = subst (λ x. agree x t ≡ true) (sym is) a in
           let b : agree w t ≡ true = agree_of_hull s w t h a' in
-          ap (label_with s) (go w refl b) ∙ agreed s (hull_states w t) (agree_with_hull s w t h b) ∙ ap Reached (states_groups s w t h b) ∙ ap (λ x. Reached (hull_states x t)) is
+          ap (label_with s) (go w refl b) ∙ hull_reached s (hull_states w t) (agree_with_hull s w t h b) ∙ ap Reached (states_groups s w t h b) ∙ ap (λ x. Reached (hull_states x t)) is
       | false ↦ λ h e. no (ap is_reached e)
     ] refl e
 
@@ -206,6 +194,6 @@ pub hull_with : (ss : List State) (u t : State) → hull_all ss ≡ Reached u �
 hull_with [] u t e a = no (ap is_reached e)
 hull_with (s ∷ []) u t e a =
     let is : s ≡ u = ap (state_or s) e in
-    subst (λ x. label_with x (Reached t) ≡ Reached (hull_states u t)) (sym is) (agreed u t a)
+    subst (λ x. label_with x (Reached t) ≡ Reached (hull_states u t)) (sym is) (hull_reached u t a)
 hull_with (s ∷ r ∷ ss) u t e a =
     before_others s u t (hull_all (r ∷ ss)) (hull_all ((r ∷ ss) ++ t ∷ [])) (never_unreached r (hull_all ss)) e a (λ w h b. hull_with (r ∷ ss) w t h b)
