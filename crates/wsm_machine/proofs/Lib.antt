@@ -5,7 +5,7 @@ pub mod Traps
 pub mod Tested
 pub mod Runs
 pub mod Returns
-pub mod Taken
+pub mod StepAnswers
 pub mod Operands
 pub mod FittingStacks
 pub mod PushedValues
@@ -35,4 +35,4 @@ pub mod Costs
 pub mod WordStates
 pub mod Binary
 pub mod WordRuns
-pub mod Rows
+pub mod RowWords

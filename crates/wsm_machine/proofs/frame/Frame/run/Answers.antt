@@ -8,7 +8,7 @@ use Rattle.wsm_machine.specs.declared.outcome.Outcome.TheVariants.{Done, Trap as
 use Rattle.wsm_machine.specs.Run.{run_at, ended}
 use Rattle.wsm_machine.specs.Steps.{setting_of, at}
 use Rattle.wsm_machine.proofs.Runs.{step_leads_on, length-folds, run_goes_on, run_ends, run_traps}
-use Rattle.wsm_machine.proofs.Taken.{goes_next, goes_to, ends}
+use Rattle.wsm_machine.proofs.StepAnswers.{goes_next, goes_to, ends}
 use Rattle.wsm_machine.proofs.frame.Frame.run.Goals as goal
 
 pub loop-place-preserved-in-Ok-Next : goal.loop-place-preserved-in-Ok-Next
