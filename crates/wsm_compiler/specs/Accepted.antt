@@ -18,10 +18,14 @@ states_enough p =
 abbrev pub FaultlessExactly : Query → Type 0
 FaultlessExactly q = IsChecked q → is_none (code_fault (program_of q)) ≡ ranges_fit q
 
+-- the program of a query is accepted
+abbrev pub is_accepted : Query → Bool
+is_accepted q = is_ok (judge (program_of q))
+
 -- it is accepted exactly where they fit and it states enough
 abbrev pub AcceptedExactly : Query → Type 0
-AcceptedExactly q = IsChecked q → is_ok (judge (program_of q)) ≡ (ranges_fit q && states_enough (program_of q))
+AcceptedExactly q = IsChecked q → is_accepted q ≡ (ranges_fit q && states_enough (program_of q))
 
 -- one without BUDGET states what it needs
 abbrev pub AcceptedWithoutBudget : Query → Type 0
-AcceptedWithoutBudget q = IsChecked q → q.budget ≡ None → is_ok (judge (program_of q)) ≡ ranges_fit q
+AcceptedWithoutBudget q = IsChecked q → q.budget ≡ None → is_accepted q ≡ ranges_fit q

@@ -1,11 +1,10 @@
 -- What an accepted query means: its expressions have values in 64 bits on every record and pane in range, and its program stands for
 -- the query that its text means.
-use Rattle.std.specs.Prelude.{◌≡◌, ℕ, ◌≤◌, ◌≤ℤ◌, Bool, true, ◌&&◌, List, length, map, pos, Some, nat_lt, is_ok}
+use Rattle.std.specs.Prelude.{◌≡◌, ℕ, ◌≤◌, ◌≤ℤ◌, Bool, true, ◌&&◌, List, length, map, pos, Some, nat_lt}
 use Rattle.std.specs.List.{AllByRecursion, list_all}
 use Rattle.wsm_record.specs.declared.event.Value.{Value}
 use Rattle.wsm_record.specs.Schema.{fit_fields}
 use Rattle.wsm_fold.specs.Fold.{folds_of}
-use Rattle.wsm_verifier.specs.Rules.{judge}
 use Rattle.wsm_semantics.specs.Query.{Datum, Query as Meant}
 use Rattle.wsm_machine.specs.Meaning.{updated, query_of}
 use Rattle.wsm_query.specs.Tree.{Query, Expr}
@@ -16,12 +15,13 @@ use Rattle.wsm_compiler.specs.Program.{schema_of, program_of}
 use Rattle.wsm_compiler.specs.Folded.{Hold}
 use Rattle.wsm_check.specs.Spelt.{IsSpelt}
 use Rattle.wsm_compiler.specs.Means.{meant}
+use Rattle.wsm_compiler.specs.Accepted.{is_accepted}
 
 -- No check refuses it, its names are names and its numbers have 64 bits, and the verifier takes its program.
 pub record IsAccepted (q : Query) : Type 0 where
   pub checked : IsChecked q
   pub spelt : IsSpelt q
-  pub accepted : is_ok (judge (program_of q)) ≡ true
+  pub accepted : is_accepted q ≡ true
 
 -- ---- ranges
 
