@@ -17,7 +17,8 @@ use Rattle.wsm_semantics.specs.Sessions.{sessions}
 use Rattle.wsm_semantics.specs.Panes.{of_key, windows_among}
 use Rattle.wsm_semantics.specs.Firings.{Firing}
 use Rattle.wsm_semantics.specs.Kept.{Kept, kept, is_linked}
-use Rattle.wsm_semantics.specs.Summaries.{Plan, Pane, Fired, linked}
+use Rattle.wsm_semantics.specs.Summaries.{Plan, Pane, Fired}
+pub use Rattle.wsm_semantics.specs.Summaries.{joins_sessions as joins_held}
 use Rattle.wsm_semantics.specs.Steps.{State, answer_to}
 use Rattle.wsm_fold.specs.Fold.{joins, folds_of}
 use Rattle.wsm_program.specs.declared.instr.SectionId.TheVariants.{Where, Update, Fire}
@@ -154,11 +155,6 @@ fire_steps p key count (Some accs) = (fire_run p key count accs).steps
 -- the instructions of a firing
 abbrev pub pane_cost : Program → Firing → ℕ
 pane_cost p f = fire_steps p f.place.key (length f.fired) (folded p f.fired)
-
--- the same by the panes that are held
-abbrev pub joins_held : Shape → Datum → List (Place × Pane (List Value)) → Bool
-joins_held (Session gap) d panes = nat_lt 1 (length (linked gap d panes))
-joins_held shape d panes = false
 
 -- how many windows a record is put into: its session, or those of its time that are live
 abbrev pub windows_entered : Shape → ℤ → Datum → ℕ

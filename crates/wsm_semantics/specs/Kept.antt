@@ -96,7 +96,7 @@ abbrev pub is_linked : ℤ → Datum → Place → Bool
 is_linked gap d p = nat_eq d.key p.key && links gap d.time (window_of p)
 
 -- the session of a record and of those that it is linked to
-abbrev pub session_with : ℤ → Datum → List (Place × Kept) → Place
+abbrev pub session_with : {A : Type 0} → ℤ → Datum → List (Place × A) → Place
 session_with gap d [] = at d.key (window d.time (d.time +ℤ gap))
 session_with gap d (e ∷ es) = let p = session_with gap d es in at d.key (window (int_min e.0.start p.start) (int_max e.0.end p.end))
 

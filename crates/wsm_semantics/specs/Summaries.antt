@@ -2,9 +2,8 @@
 -- yet, what those that its next firing is computed over are folded to, and the row that stands for
 -- it. A plan runs a query's clauses on what is folded. Windows are assigned to a record and merged at
 -- its key (Akidau et al. 2015); which row stands is this project's own rule.
-use Rattle.std.specs.Prelude.{◌≡◌, ℕ, ◌+◌, Bool, not, List, [], ◌∷◌, ◌++◌, map, length, filter, filter_map, ℤ, ◌+ℤ◌, Option, Some, None, is_some, option_map, if◌then◌else◌}
+use Rattle.std.specs.Prelude.{◌≡◌, ℕ, ◌+◌, Bool, false, not, nat_lt, List, [], ◌∷◌, ◌++◌, map, length, filter, filter_map, ℤ, Option, Some, None, is_some, option_map, if◌then◌else◌}
 use Rattle.std.specs.Option.{option_and_then}
-use Rattle.std.specs.Int.{int_max, int_min}
 use Rattle.std.specs.FinMap.Entries.{put, find, where_key}
 use Rattle.wsm_record.specs.declared.event.Value.{Value}
 use Rattle.wsm_record.specs.declared.cell.Cell.{Cell}
@@ -14,7 +13,6 @@ use Rattle.wsm_windows.specs.declared.window.PaneKind.{PaneKind}
 use Rattle.wsm_windows.specs.declared.window.Window.{Window}
 use Rattle.wsm_windows.specs.declared.window.Shape.{Shape}
 use Rattle.wsm_windows.specs.declared.window.Shape.TheVariants.{Fixed, Sliding, Session}
-use Rattle.wsm_windows.specs.Windows.{window}
 use Rattle.wsm_windows.specs.Life.{live_windows_of}
 use Rattle.wsm_windows.specs.declared.place.Place.{Place}
 use Rattle.wsm_windows.specs.Places.{place_cmp, at, window_of}
@@ -28,6 +26,7 @@ use Rattle.wsm_semantics.specs.Firings.{Firing, firing_set, kind_on_record, kind
 use Rattle.wsm_semantics.specs.Relation.{sorted_rows}
 use Rattle.wsm_semantics.specs.Kept as kept
 use Rattle.wsm_semantics.specs.Kept.{Kept, Stands, is_linked}
+pub use Rattle.wsm_semantics.specs.Kept.{session_with}
 
 -- how a query's clauses run on what records are folded to
 pub record Plan (X : Type 0) : Type 0 where
@@ -71,14 +70,15 @@ fired_count mode h = if is_over_all mode then h.count else h.unshown
 abbrev pub left_folded : {X : Type 0} → Mode → Option X → Option X
 left_folded mode x = if is_over_all mode then x else None
 
--- the session of a record and of those that it is linked to
-abbrev pub session_with : {X : Type 0} → ℤ → Datum → List (Place × Pane X) → Place
-session_with gap d [] = at d.key (window d.time (d.time +ℤ gap))
-session_with gap d (e ∷ es) = let p = session_with gap d es in at d.key (window (int_min e.0.start p.start) (int_max e.0.end p.end))
-
 -- the sessions that a record is linked to
 abbrev pub linked : {X : Type 0} → ℤ → Datum → List (Place × Pane X) → List (Place × Pane X)
 linked gap d panes = filter (λ e. is_linked gap d e.0) panes
+
+-- whether a record joins sessions
+abbrev pub joins_sessions : {X : Type 0} → Shape → Datum → List (Place × Pane X) → Bool
+joins_sessions (Fixed size) d panes = false
+joins_sessions (Sliding size period) d panes = false
+joins_sessions (Session gap) d panes = nat_lt 1 (length (linked gap d panes))
 
 -- what a pane fires as, by a record that is in it or not, and by a watermark
 abbrev pub kind_by_record : {X : Type 0} → Query → ℤ → Datum → Place → Pane X → Option PaneKind
