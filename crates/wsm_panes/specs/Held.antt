@@ -22,6 +22,7 @@ use Rattle.wsm_semantics.specs.declared.standing.Standing.{Standing}
 use Rattle.wsm_semantics.specs.declared.standing.Standing.TheVariants.{Row, Unfired}
 use Rattle.wsm_semantics.specs.Query.{Datum}
 use Rattle.wsm_semantics.specs.Replay.{datum}
+pub use Rattle.wsm_semantics.specs.Summaries.{joins_sessions}
 use Rattle.wsm_semantics.specs.Summaries.{Plan, Pane, assigned, entered, joined, kept_window, left_folded, linked, session_with, with_record}
 use Rattle.wsm_panes.specs.declared.ring.Ring.{Ring}
 use Rattle.wsm_panes.specs.declared.spot.Spot.{Spot}
@@ -93,11 +94,6 @@ windows_entered shape time lateness mark = length (live_windows_of shape time la
 abbrev pub session_entered : Shape → Datum → List (Place × Pane (List Value)) → Option Window
 session_entered (Session gap) d panes = Some (window_of (session_with gap d (linked gap d panes)))
 session_entered shape d panes = None
-
--- whether two sessions are joined by a record
-abbrev pub joins_sessions : Shape → Datum → List (Place × Pane (List Value)) → Bool
-joins_sessions (Session gap) d panes = nat_lt 1 (length (linked gap d panes))
-joins_sessions shape d panes = false
 
 -- a pane fired, or a part of it did before it was joined
 abbrev pub has_fired : Standing → Bool
