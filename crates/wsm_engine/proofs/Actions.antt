@@ -1,4 +1,4 @@
--- What the answer to an event does, by a state of the machine that the runner keeps.
+-- What the answer to an event does, by a state of the machine that the operator keeps.
 use Rattle.std.proofs.Common.{◌≡◌, ℕ, ◌++◌, cond, List, [], ℤ, Some, Ok, Result, sym, ap, ◌∙◌}
 use Rattle.std.specs.Prelude.{filter_map}
 use Rattle.wsm_record.specs.declared.event.Value.{Value}
@@ -16,10 +16,10 @@ use Rattle.wsm_program.specs.Program.{Program}
 use Rattle.wsm_machine.specs.Meaning.{query_of, plan_of, selects}
 use Rattle.wsm_panes.specs.Held.{entries_of}
 use Rattle.wsm_firing.specs.Streams.{relation_kept}
-use Rattle.wsm_engine.specs.declared.runner.Runner.{Runner}
-use Rattle.wsm_engine.specs.Runner.{IsAt, last_relation, panes_with, fired_with, withdrawn_with, rows_with, relation_at, streamed_at}
+use Rattle.wsm_firing.specs.declared.operator.WindowOperator.{WindowOperator}
+use Rattle.wsm_engine.specs.Operator.{IsAt, last_relation, panes_with, fired_with, withdrawn_with, rows_with, relation_at, streamed_at}
 
-module _ (p : Program) (r : Runner) (m : ℤ) (s : State (List Value)) (at : IsAt m r s) (a : Result Admitted Refusal) (e : Event) where
+module _ (p : Program) (r : WindowOperator) (m : ℤ) (s : State (List Value)) (at : IsAt m r s) (a : Result Admitted Refusal) (e : Event) where
   abbrev plan : Plan (List Value)
   plan = plan_of p
 

@@ -37,7 +37,7 @@ use Rattle.wsm_machine.proofs.QueryFolds.{plan_lawful, plan_runs}
 use Rattle.wsm_machine.proofs.CountedSessions.{sessions_by_event}
 use Rattle.wsm_machine.proofs.Costs.{step_cost_is, fired_costs_are}
 use Rattle.wsm_panes.specs.Held.{Held, entries_of}
-use Rattle.wsm_engine.specs.Runner.{Comes}
+use Rattle.wsm_engine.specs.Operator.{Comes}
 use Rattle.wsm_engine.specs.State.{State}
 use Rattle.wsm_firing.specs.declared.tally.Tally.{Tally}
 use Rattle.wsm_firing.specs.Tally.{greatest, tally_of}
@@ -216,14 +216,14 @@ refused_turn s few e some = by_answer (answer_to (plan_of s.program) (query_of s
 
 -- what is kept after an answer is what is kept after the turn
 pub turned_is : (s : State) (e : Event) (a : Result Admitted Refusal) → a ≡ answer_to (plan_of s.program) (query_of s.program) s.machine e →
-    (kept : admission.State) (panes : List (Place × Pane (List Value))) (related : List (List Cell)) (fed fired : ℕ) (rows : List OutRow) →
+    (kept : admission.State) (panes : List (Place × Pane (List Value))) (related : List (List Cell)) (fed fired : ℕ) (rows : List OutRow) (room : ℕ) →
     kept ≡ after a e s.machine.admission → panes ≡ panes_after (plan_of s.program) (query_of s.program) a e s.machine
     → related ≡ relation_kept s.program.header.form s.machine.relation (relation_after (plan_of s.program) (query_of s.program) a s.machine)
     → fed ≡ admission.counter (s.machine.fed + 1) → fired ≡ admission.counter (s.machine.fired + length (fired_by (plan_of s.program) (query_of s.program) a e s.machine))
     → rows ≡ chosen_rows s.program.header.form (retracted_in s.program.header.mode (withdrawn_by (plan_of s.program) (query_of s.program) a e s.machine) ++ filter_map (row_of (plan_of s.program)) (fired_by (plan_of s.program) (query_of s.program) a e s.machine)) (streamed_by (plan_of s.program) (query_of s.program) s.program.header.form a s.machine)
-    → record { program = s.program; machine = record { admission = kept; panes = panes; relation = related; fed = fed; fired = fired }; rows = rows } ≡ turn s e
-turned_is s e a is kept panes related fed fired rows hk hp hr hf hn ho =
-    (λ i. record { program = s.program; machine = record { admission = hk i; panes = hp i; relation = hr i; fed = hf i; fired = hn i }; rows = ho i })
+    → room ≡ s.room → record { program = s.program; machine = record { admission = kept; panes = panes; relation = related; fed = fed; fired = fired }; rows = rows; room = room } ≡ turn s e
+turned_is s e a is kept panes related fed fired rows room hk hp hr hf hn ho hc =
+    (λ i. record { program = s.program; machine = record { admission = hk i; panes = hp i; relation = hr i; fed = hf i; fired = hn i }; rows = ho i; room = hc i })
     ∙ (λ i. record {
       program = s.program;
       machine = record {
@@ -234,9 +234,10 @@ turned_is s e a is kept panes related fed fired rows hk hp hr hf hn ho =
         fired = admission.counter (s.machine.fired + length (fired_by (plan_of s.program) (query_of s.program) (is i) e s.machine));
       };
       rows = chosen_rows s.program.header.form (retracted_in s.program.header.mode (withdrawn_by (plan_of s.program) (query_of s.program) (is i) e s.machine) ++ filter_map (row_of (plan_of s.program)) (fired_by (plan_of s.program) (query_of s.program) (is i) e s.machine)) (streamed_by (plan_of s.program) (query_of s.program) s.program.header.form (is i) s.machine);
+      room = s.room;
     })
 
--- an event comes to the runner of an engine that fits a history
+-- an event comes to the operator of an engine that fits a history
 pub comes_of : (s : State) (past : List Event) → Fits s past → (h : Held) → entries_of h ≡ s.machine.panes → (m : ℤ) → m ≡ s.machine.admission.mark → IsTime m → (a : Result Admitted Refusal) (e : Event) → IsTime (mark (query_of s.program) (e ∷ past))
     → a ≡ answer_to (plan_of s.program) (query_of s.program) s.machine e → Comes s.program past h m a e
 comes_of s past fits h held m is timely a e next answered =

@@ -6,7 +6,7 @@ pub mod HeldByHistory
 pub mod RecordRoom
 pub mod Inside
 pub mod Firings
-pub mod RunnerEvents
+pub mod OperatorEvents
 pub mod Actions
 pub mod StatedCosts
 pub mod Told

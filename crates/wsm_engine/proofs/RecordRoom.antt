@@ -59,7 +59,7 @@ use Rattle.wsm_panes.specs.Held.{Held, entries_of, ring_of, taking, with_entered
 use Rattle.wsm_panes.specs.Ring.{IsNear, IsOfRing, IsRing, LieInRing}
 use Rattle.wsm_panes.proofs.Live.{held_near, some_live}
 use Rattle.wsm_panes.proofs.Rings.{grid_start}
-use Rattle.wsm_engine.specs.Runner.{widths_of}
+use Rattle.wsm_engine.specs.Operator.{widths_of}
 use Rattle.wsm_engine.proofs.Limits.{clock_within, panes_few}
 use Rattle.wsm_engine.proofs.RecordsByPlan.{entered_same}
 use Rattle.wsm_engine.proofs.HeldByHistory.{Panes, admitted, kept_panes, kept_sound, admitted_few}

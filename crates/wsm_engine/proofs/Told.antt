@@ -1,5 +1,5 @@
 -- What the streams were told, and what the relation at the last instant is by it.
-use Rattle.std.proofs.Common.{◌≡◌, ℕ, ◌≤◌, Bool, true, false, cond, List, [], ◌∷◌, Option, length, vec_capacity, refl, sym, subst, ◌∙◌, arith}
+use Rattle.std.proofs.Common.{◌≡◌, ℕ, ◌≤◌, Bool, true, false, cond, List, [], ◌∷◌, Option, length, vec_capacity, refl, sym, ap, subst, ◌∙◌, arith}
 use Rattle.std.specs.List.{AllByRecursion}
 use Rattle.wsm_record.specs.declared.event.Value.{Value}
 use Rattle.wsm_record.specs.declared.cell.Cell.{Cell}
@@ -18,9 +18,11 @@ use Rattle.wsm_firing.proofs.StandingRows.{few_rows}
 use Rattle.wsm_semantics.specs.HeldBounds.{most_panes, most_rows}
 use Rattle.wsm_program.specs.Program.{Program}
 use Rattle.wsm_machine.specs.Meaning.{query_of}
-use Rattle.wsm_panes.specs.Held.{IsKept, entries_of}
-use Rattle.wsm_engine.specs.declared.runner.Runner.{Runner}
-use Rattle.wsm_engine.specs.Runner.{AreTold, IsOf, last_relation}
+use Rattle.wsm_panes.specs.declared.widths.Widths.{Widths}
+use Rattle.wsm_panes.specs.Held.{Held, IsKept, entries_of}
+use Rattle.wsm_firing.specs.Operator.{AreReady}
+use Rattle.wsm_firing.specs.declared.operator.WindowOperator.{WindowOperator}
+use Rattle.wsm_engine.specs.Operator.{AreTold, IsOf, last_relation}
 use Rattle.wsm_engine.proofs.HeldByHistory.{Panes}
 
 pub last_is : (s : Told) (es : Panes) (before : List (List Cell)) → IsTold s before (standing_rows es) → last_relation s es ≡ before
@@ -78,8 +80,8 @@ pub open_is : (s : Told) (es : Panes) (f : Form) (room : ℕ) → s ≡ record {
 open_is s es f room is none =
     subst (λ (t : Told). IsTold t [] (standing_rows es)) (sym is) (subst (λ (fs : Panes). IsTold (record { form = f; room = room; numbers = []; rows = [] }) [] (standing_rows fs)) (sym none) (none_told f room))
 
--- the runner is the program's still
-pub of_next : (p : Program) (r n : Runner) → IsOf p r → IsKept r.held n.held → AreAlike r.streams n.streams → vec_capacity n.rows ≡ vec_capacity r.rows → AreTold (most_panes (query_of p)) n.streams (entries_of n.held) → IsOf p n
+-- the operator is the program's still
+pub of_next : (p : Program) (r n : WindowOperator) → IsOf p r → IsKept r.held n.held → AreAlike r.streams n.streams → vec_capacity n.rows ≡ vec_capacity r.rows → AreTold (most_panes (query_of p)) n.streams (entries_of n.held) → IsOf p n
 of_next p r n of keeps alike rows told = record {
   judged = of.judged;
   lawful = of.lawful;
@@ -91,6 +93,14 @@ of_next p r n of keeps alike rows told = record {
   room = alike.room ∙ of.room;
   rows = subst (λ n. most_rows (query_of p) ≤ n) (sym rows) of.rows;
   streams = told;
+}
+
+-- panes that are the program's still are ready for its firings
+pub ready_of : (p : Program) (r : WindowOperator) (h : Held) (s : Told) → IsOf p r → IsKept r.held h → CanTell s (entries_of h) → AreReady p h s
+ready_of p r h s of keeps tells = record {
+  wide = ap (λ (w : Widths). w.columns) (keeps.widths ∙ of.widths);
+  windows = ap (λ (w : Widths). w.windows) (keeps.widths ∙ of.widths);
+  tells = tells;
 }
 
 pub alike_on : (s t u : Told) → AreAlike s t → AreAlike t u → AreAlike s u

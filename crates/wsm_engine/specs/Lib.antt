@@ -1,6 +1,6 @@
 pub mod State
 pub mod Meaning
 pub mod Turn
-pub mod Runner
+pub mod Operator
 pub mod Engine
 pub mod Laws

@@ -11,11 +11,12 @@ ghost use Rattle.wsm_machine.specs.Meaning.{query_of};
 ghost use Rattle.wsm_engine.specs.Meaning.{Fits, reply_to, totals_of, IsRefused};
 ghost use Rattle.wsm_engine.specs.Turn.{turn, reply_by, refusal_of as spec_refusal_of};
 
+use crate::acting::{act, open};
 use crate::reply::Reply;
-use crate::runner::Runner;
 use std::alloc::Global;
 use std::marker::Model;
 use wsm_admission::{Admission, Admitted, Clock, Refusal};
+use wsm_firing::WindowOperator;
 use wsm_program::{Header, Program};
 use wsm_record::{Event, Schema};
 use wsm_semantics::{OutRow, Totals};
@@ -26,7 +27,7 @@ use wsm_verifier::Verified;
 pub struct Engine {
     verified: Verified,
     admission: Admission,
-    runner: Runner,
+    operator: WindowOperator,
     fed: u64,
     fired: u64,
 }
@@ -62,14 +63,14 @@ impl Engine {
         ensures rows { IfOk result (λ e. e.rows ≡ []) }
         ensures handed_back { IfErr result (λ r. r ≡ OpenRefusal.Memory verified) }
     {
-        let Ok(runner) = Runner::open(alloc, &verified) else {
+        let Ok(operator) = open(alloc, &verified) else {
             return Err(OpenRefusal::Memory(verified));
         };
         let admission = Admission::new(clock(verified.program()));
         Ok(Engine {
             verified,
             admission,
-            runner,
+            operator,
             fed: 0,
             fired: 0,
         })
@@ -83,6 +84,7 @@ impl Engine {
         ensures fits { (past : List AnyEvent) → Fits self.old past → Fits self.new (event_of event.now ∷ past) }
         ensures reply { (past : List AnyEvent) → Fits self.old past → result ≡ reply_to self.old.program past (event_of event.now) }
         ensures rows { (past : List AnyEvent) → Fits self.old past → self.new.rows ≡ turn_rows (query_of self.old.program) past (event_of event.now) }
+        ensures room { self.new.room ≡ self.old.room }
         ensures refused { IsSome result.refusal → IsRefused self.old self.new }
         ensures record_within { result.record_steps ≤ self.old.program.header.budget.per_record }
         ensures pane_within { result.pane_steps_max ≤ self.old.program.header.budget.per_pane }
@@ -94,7 +96,7 @@ impl Engine {
     pub fn rows(&self) -> &[OutRow]
         ensures { result.now ≡ self.now.rows }
     {
-        &self.runner.rows
+        &self.operator.rows
     }
 
     /// How many panes are held.
@@ -102,7 +104,7 @@ impl Engine {
         ensures held { (past : List AnyEvent) → Fits self.now past → result ≡ length (held (query_of self.now.program) past) }
         ensures within { result ≤ self.now.program.header.budget.held }
     {
-        self.runner.held.len()
+        self.operator.held.len()
     }
 
     /// The program that is run.
@@ -140,11 +142,11 @@ impl Engine {
         ensures state { self.new ≡ turn self.old (event_of event.now) }
         ensures reply { result ≡ reply_by self.old (event_of event.now) }
     {
-        self.runner.rows.clear();
+        self.operator.rows.clear();
         let mark = self.admission.mark();
         let schema = &self.verified.program().header().schema;
         let answer = self.admission.decide(schema, event);
-        let done = self.runner.act(&self.verified, mark, answer, event);
+        let done = act(&mut self.operator, &self.verified, mark, answer, event);
         self.fed = self.fed.saturating_add(1);
         self.fired = self.fired.saturating_add(done.tally.fired);
         Reply {

@@ -58,7 +58,7 @@ pub use engine::{Engine, OpenRefusal};
 pub use reply::Reply;
 pub use wsm_semantics::Totals;
 
+mod acting;
 mod engine;
 pub mod laws;
 mod reply;
-mod runner;

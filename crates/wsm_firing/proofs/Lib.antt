@@ -12,6 +12,7 @@ pub mod Entered
 pub mod StreamRows
 pub mod Spots
 pub mod StandingRows
+pub mod Ready
 pub mod RowsAfterRecord
 pub mod Past
 pub mod Jumps

@@ -5,4 +5,5 @@ pub mod ByRecord
 pub mod ByWatermark
 pub mod Streams
 pub mod StreamsKept
+pub mod Operator
 pub mod Retracting

@@ -10,25 +10,29 @@ ghost use Rattle.wsm_windows.specs.Places.{place_cmp, window_of};
 ghost use Rattle.wsm_panes.specs.Held.{IsKept, entries_of};
 ghost use Rattle.wsm_firing.specs.Streams.{AreAlike, CanTell, IsTold, standing_rows};
 
+use crate::operator::WindowOperator;
 use crate::streams::Streams;
 use wsm_panes::HeldPanes;
 use wsm_record::Form;
 use wsm_windows::last_expired;
 
-/// Drops the panes of windows that aren't live at a mark, and tells the streams the rows that stood for
-/// them. The lateness is in event time.
-pub fn drop_expired(held: &mut HeldPanes, streams: &mut Streams, mark: i64, lateness: i64)
-    requires lateness { IsSpan lateness }
-    requires placed { AllByRecursion (λ e. IsPlaced (window_of e.0)) (entries_of held.old) }
-    requires tells { CanTell streams.old (entries_of held.old) }
-    ensures panes { entries_of held.new ≡ where_key place_cmp (λ p. is_live (window_of p) lateness mark) (entries_of held.old) }
-    ensures keeps { IsKept held.old held.new }
-    ensures told { (relation : List (List Cell)) → IsTold streams.old relation (standing_rows (entries_of held.old)) → IsTold streams.new relation (standing_rows (entries_of held.new)) }
-    ensures alike { AreAlike streams.old streams.new }
-{
-    let limit = last_expired(mark, lateness);
-    lose_expired(streams, held, limit);
-    held.drop_expired(limit);
+impl WindowOperator {
+    /// Drops the panes of windows that aren't live at a mark, and tells the streams the rows that stood
+    /// for them. The lateness is in event time.
+    pub fn drop_expired(&mut self, mark: i64, lateness: i64)
+        requires lateness { IsSpan lateness }
+        requires placed { AllByRecursion (λ e. IsPlaced (window_of e.0)) (entries_of self.old.held) }
+        requires tells { CanTell self.old.streams (entries_of self.old.held) }
+        ensures panes { entries_of self.new.held ≡ where_key place_cmp (λ p. is_live (window_of p) lateness mark) (entries_of self.old.held) }
+        ensures keeps { IsKept self.old.held self.new.held }
+        ensures told { (relation : List (List Cell)) → IsTold self.old.streams relation (standing_rows (entries_of self.old.held)) → IsTold self.new.streams relation (standing_rows (entries_of self.new.held)) }
+        ensures alike { AreAlike self.old.streams self.new.streams }
+        ensures rows { self.new.rows ≡ self.old.rows }
+    {
+        let limit = last_expired(mark, lateness);
+        lose_expired(&mut self.streams, &self.held, limit);
+        self.held.drop_expired(limit);
+    }
 }
 
 // Tells the streams the rows of the panes of windows with an end of at most the limit.

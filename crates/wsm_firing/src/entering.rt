@@ -12,6 +12,7 @@ ghost use Rattle.wsm_semantics.specs.Summaries.{Plan, linked, withdrawn_entering
 ghost use Rattle.wsm_panes.specs.Held.{CanEnter, IsKept, entries_of, joins_sessions, session_entered, windows_entered, with_entered};
 ghost use Rattle.wsm_firing.specs.Streams.{AreAlike, CanLosePair, CanTell, IsTold, rows_and, rows_with, standing_rows};
 
+use crate::operator::Arrival;
 use crate::retracting::retract_joined;
 use crate::streams::Streams;
 use wsm_panes::{Entered, HeldPanes, PaneView};
@@ -19,50 +20,49 @@ use wsm_record::{Form, Value};
 use wsm_semantics::OutRow;
 use wsm_verifier::Verified;
 
-/// Puts a record into the pane of each of its windows that are live at a mark. Where that joins two
+/// Puts a record into the pane of each of its windows that are live at the mark. Where that joins two
 /// sessions that both fired, their rows stand no more: the streams are told, and where panes retract
-/// the rows that withdraw them are written.
+/// the rows that withdraw them are written. The values are what UPDATE gave, and may lie in the
+/// operator's machine.
 pub fn enter(
     verified: &Verified,
     held: &mut HeldPanes,
     streams: &mut Streams,
     rows: &mut Vec<OutRow>,
-    key: u16,
-    time: i64,
+    arrival: Arrival,
     values: &[Value],
-    mark: i64,
 ) -> Entered
     requires empty { rows.old.items ≡ [] }
     requires room { length (entries_of held.old) ≤ vec_capacity rows.old }
-    requires can { CanEnter held.old verified.now.header.kinds key time values.now verified.now.header.clock.lateness mark }
+    requires can { CanEnter held.old verified.now.header.kinds arrival.key arrival.time values.now verified.now.header.clock.lateness arrival.mark }
     requires tells { CanTell streams.old (entries_of held.old) }
-    ensures panes { entries_of held.new ≡ with_entered verified.now.header.kinds key time values.now verified.now.header.clock.lateness mark held.old }
+    ensures panes { entries_of held.new ≡ with_entered verified.now.header.kinds arrival.key arrival.time values.now verified.now.header.clock.lateness arrival.mark held.old }
     ensures keeps { IsKept held.old held.new }
     ensures told { (relation : List (List Cell)) → IsTold streams.old relation (standing_rows (entries_of held.old)) → IsTold streams.new relation (standing_rows (entries_of held.new)) }
     ensures alike { AreAlike streams.old streams.new }
     // For any plan and values, since neither matters.
-    ensures rows { (plan : Plan (List OneValue)) (of_record : List OneValue) → rows.new.items ≡ retracted_in verified.now.header.mode (withdrawn_entering plan held.old.shape (datum 0 mark key time of_record) (entries_of held.old)) }
+    ensures rows { (plan : Plan (List OneValue)) (of_record : List OneValue) → rows.new.items ≡ retracted_in verified.now.header.mode (withdrawn_entering plan held.old.shape (datum 0 arrival.mark arrival.key arrival.time of_record) (entries_of held.old)) }
     // What is held then can fire, by the bound of the rows of a turn.
     ensures few { (most : ℕ) → length (entries_of held.old) ≤ most → length (entries_of held.new) ≤ most →
         vec_len rows.new + rows_of_panes verified.now.header.mode (length (entries_of held.new)) ≤ rows_of_panes verified.now.header.mode most }
     ensures capacity { vec_capacity rows.new ≡ vec_capacity rows.old }
-    ensures windows { result.windows ≡ windows_entered held.old.shape time verified.now.header.clock.lateness mark }
-    ensures joined { result.joined ≡ joins_sessions held.old.shape (datum 0 (pos 0) key time []) (entries_of held.old) }
-    ensures session { result.session ≡ session_entered held.old.shape (datum 0 (pos 0) key time []) (entries_of held.old) }
+    ensures windows { result.windows ≡ windows_entered held.old.shape arrival.time verified.now.header.clock.lateness arrival.mark }
+    ensures joined { result.joined ≡ joins_sessions held.old.shape (datum 0 (pos 0) arrival.key arrival.time []) (entries_of held.old) }
+    ensures session { result.session ≡ session_entered held.old.shape (datum 0 (pos 0) arrival.key arrival.time []) (entries_of held.old) }
 {
     let header = verified.program().header();
-    retract_joined(header.mode, held, rows, key, time);
+    retract_joined(header.mode, held, rows, arrival.key, arrival.time);
     match streams.form() {
         Form::Panes => {}
-        _ => lose_joined(streams, held, key, time),
+        _ => lose_joined(streams, held, arrival.key, arrival.time),
     }
     held.enter(
         &header.kinds,
-        key,
-        time,
+        arrival.key,
+        arrival.time,
         values,
         header.clock.lateness,
-        mark,
+        arrival.mark,
     )
 }
 

@@ -5,7 +5,6 @@ ghost use Rattle.std.specs.FinMap.Entries.{find, put};
 ghost use Rattle.std.specs.List.{cons_option};
 ghost use Rattle.wsm_record.specs.declared.event.Value.{Value};
 ghost use Rattle.wsm_record.specs.declared.limits.TheConstants.{MAX_COLUMNS};
-ghost use Rattle.wsm_record.specs.Modes.{retracts};
 ghost use Rattle.wsm_windows.specs.Places.{place_cmp, window_of};
 ghost use Rattle.wsm_semantics.specs.declared.out_row.OutRow.TheVariants.{Pane as PaneRow};
 ghost use Rattle.wsm_semantics.specs.Relation.{chosen_rows};
@@ -15,7 +14,8 @@ ghost use Rattle.wsm_panes.specs.Held.{IsKept, IsSpot, entries_of};
 ghost use Rattle.wsm_firing.specs.Tally.{tally_with};
 ghost use Rattle.wsm_firing.specs.Firing.{CanAdd, rows_of};
 ghost use Rattle.wsm_firing.specs.Due.{fired_by};
-ghost use Rattle.wsm_firing.specs.Streams.{CanTell, Tells};
+ghost use Rattle.wsm_firing.specs.Streams.{Tells};
+ghost use Rattle.wsm_firing.specs.Operator.{AreReady};
 
 use crate::run::Ran;
 use crate::streams::Streams;
@@ -47,9 +47,7 @@ pub fn fire(
     due: Due,
     ran: Ran<'_>,
 )
-    requires wide { held.old.widths.columns ≡ length verified.now.header.columns }
-    requires windows { held.old.widths.windows ≡ retracts verified.now.header.mode }
-    requires tells { CanTell streams.old (entries_of held.old) }
+    requires ready { AreReady verified.now held.old streams.old }
     requires held { IsSome (find place_cmp due.spot.place (entries_of held.old)) }
     requires spot { IsSpot held.old due.spot }
     requires can { (pane : Pane (List Value)) → find place_cmp due.spot.place (entries_of held.old) ≡ Some pane → CanAdd verified.now (vec_capacity rows.old) (vec_len rows.old) tally.old (fired_by verified.now.header.mode due pane ∷ []) }

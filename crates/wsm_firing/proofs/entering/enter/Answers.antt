@@ -1,4 +1,4 @@
-use Rattle.std.proofs.Common.{◌≡◌, ◌+◌, ◌≤◌, ℕ, length, vec_len, arith, pos, [], List, ℤ, sym, ap, ◌∙◌, subst, SFits, w64, to_z, of_z, to_z-of_z}
+use Rattle.std.proofs.Common.{rules, ◌≡◌, ◌+◌, ◌≤◌, ℕ, length, vec_len, arith, pos, [], List, ℤ, sym, ap, ◌∙◌, subst, SFits, w64, to_z, of_z, to_z-of_z}
 use Rattle.std.specs.FinMap as map
 use Rattle.wsm_record.specs.declared.event.Value.{Value}
 use Rattle.wsm_record.specs.declared.words.Mode.{Mode}
@@ -20,8 +20,8 @@ use Rattle.wsm_firing.proofs.entering.enter.Goals.{in-Panes, in_default}
 pub returns-clause-told : goal.returns-clause-told
 returns-clause-told c = λ relation told.
     let held = c.args.held.now in let es = entries_of held in let s = c.args.streams.now in let after = entries_of c.enter.new.self in
-    let mark : ℤ = to_z w64 (of_z w64 c.args.mark) in let time : ℤ = to_z w64 (of_z w64 c.args.time) in let lateness : ℤ = to_z w64 (of_z w64 c.header-header.result.now.clock.lateness) in
-    let d = datum 0 (pos 0) c.args.key time [] in let now = datum 0 mark c.args.key time [] in
+    let mark : ℤ = to_z w64 (of_z w64 c.args.arrival.mark) in let time : ℤ = to_z w64 (of_z w64 c.args.arrival.time) in let lateness : ℤ = to_z w64 (of_z w64 c.header-header.result.now.clock.lateness) in
+    let d = datum 0 (pos 0) c.args.arrival.key time [] in let now = datum 0 mark c.args.arrival.key time [] in
     let plan : Plan (List Value) = taking c.deref.result.now c.args.values.now in
     elim c.match-form.branch [
       | in-Panes w ↦
@@ -33,24 +33,24 @@ returns-clause-told c = λ relation told.
           subst (λ (t : Told). IsTold t relation (standing_rows after)) (sym w.streams-is)
           (subst (λ (fs : Panes). IsTold t relation (standing_rows fs)) (sym c.enter.ensures.panes)
           (told_same t.form t.numbers t.rows relation (rows_with held.shape d es) (standing_rows (entered plan held.shape lateness now es))
-          (λ q. sym (count_entered plan held.shape lateness now es w.lose_joined.ensures.shape (map.entries_sorted held.panes) w.lose_joined.ensures.few q ∙ ap (count_of q) (unmarked held.shape mark c.args.key time es))) lost))
+          (λ q. sym (count_entered plan held.shape lateness now es w.lose_joined.ensures.shape (map.entries_sorted held.panes) w.lose_joined.ensures.few q ∙ ap (count_of q) (unmarked held.shape mark c.args.arrival.key time es))) lost))
     ]
 
 pub returns-clause-rows : goal.returns-clause-rows
 returns-clause-rows c = λ plan of_record.
-    let time : SFits w64 c.args.time = c.ranges.time in
+    let time : SFits w64 c.args.arrival.time = search rules in
     let header : header_of c.header-header.result.now ≡ c.args.verified.now.header = c.header-header.ensures.header ∙ ap (λ (p : Program). p.header) c.program.ensures.program in
     let es = entries_of c.args.held.now in
-    let rows = simp to_z-of_z at c.retract_joined.ensures.rows plan c.args.mark of_record in
-    rows ∙ ap (λ (h : Header). retracted_in h.mode (withdrawn_entering plan c.args.held.now.shape (datum 0 c.args.mark c.args.key c.args.time of_record) es)) header
+    let rows = simp to_z-of_z at c.retract_joined.ensures.rows plan c.args.arrival.mark of_record in
+    rows ∙ ap (λ (h : Header). retracted_in h.mode (withdrawn_entering plan c.args.held.now.shape (datum 0 c.args.arrival.mark c.args.arrival.key c.args.arrival.time of_record) es)) header
 
 pub returns-clause-few : goal.returns-clause-few
 returns-clause-few c = λ most few_before few.
     let held = c.args.held.now in let es = entries_of held in
-    let mark : ℤ = to_z w64 (of_z w64 c.args.mark) in let time : ℤ = to_z w64 (of_z w64 c.args.time) in let lateness : ℤ = to_z w64 (of_z w64 c.header-header.result.now.clock.lateness) in
+    let mark : ℤ = to_z w64 (of_z w64 c.args.arrival.mark) in let time : ℤ = to_z w64 (of_z w64 c.args.arrival.time) in let lateness : ℤ = to_z w64 (of_z w64 c.header-header.result.now.clock.lateness) in
     let plan : Plan (List Value) = taking c.deref.result.now c.args.values.now in
     let mode : c.header-header.result.now.mode ≡ c.args.verified.now.header.mode = ap (λ (h : Header). h.mode) (c.header-header.ensures.header ∙ ap (λ (p : Program). p.header) c.program.ensures.program) in
-    let as_many : length (entries_of c.enter.new.self) ≡ length (entered plan held.shape lateness (datum 0 mark c.args.key time []) es) = ap length c.enter.ensures.panes in
+    let as_many : length (entries_of c.enter.new.self) ≡ length (entered plan held.shape lateness (datum 0 mark c.args.arrival.key time []) es) = ap length c.enter.ensures.panes in
     let written : ℕ = vec_len c.retract_joined.new.rows in
     subst (λ (x : Mode × ℕ). written + rows_of_panes x.0 x.1 ≤ rows_of_panes x.0 most) (λ i. (mode i, sym as_many i))
     (c.retract_joined.ensures.few plan lateness mark most few_before (omega (arith, few, as_many)))

@@ -1,8 +1,10 @@
-use Rattle.std.proofs.Common.{◌≡◌, ℕ, ◌+◌, ◌<◌, ◌^◌, ◌++◌, [], max, sym, ap, subst, ◌∙◌, arith}
-use Rattle.std.specs.Prelude.{option_map}
+use Rattle.std.proofs.Common.{◌≡◌, ℕ, ◌+◌, ◌<◌, ◌^◌, ◌++◌, [], length, max, sym, ap, subst, ◌∙◌, arith}
+use Rattle.std.specs.Prelude.{IfSome, option_map}
 use Rattle.std.specs.List.{cons_option}
 use Rattle.std.specs.FinMap as map
 use Rattle.std.specs.FinMap.Entries.{put}
+use Rattle.wsm_record.specs.declared.words.Mode.{Mode}
+use Rattle.wsm_record.specs.Modes.{retracts}
 use Rattle.wsm_windows.specs.Places.{place_cmp, window_of}
 use Rattle.wsm_semantics.specs.declared.out_row.OutRow.TheVariants.{Pane as PaneRow}
 use Rattle.wsm_semantics.specs.Relation.{chosen_rows}
@@ -16,13 +18,21 @@ use Rattle.wsm_firing.proofs.fire.fire.Goals as goal
 pub lose_held-requires-clause-can : goal.lose_held-requires-clause-can
 lose_held-requires-clause-can c = λ pane found.
     let held = c.args.held.now in
-    can_lose c.args.due.spot.place pane (entries_of held) (map.entries_sorted held.panes) found c.args.streams.now c.requires.tells
+    can_lose c.args.due.spot.place pane (entries_of held) (map.entries_sorted held.panes) found c.args.streams.now c.requires.ready.tells
+
+pub fire_at-requires-clause-wide : goal.fire_at-requires-clause-wide
+fire_at-requires-clause-wide c = subst (λ (n : ℕ). IfSome c.args.ran.row (λ cells. length cells.now ≡ n)) (sym c.requires.ready.wide) c.requires.as_wide
+
+pub fire_at-requires-clause-windows : goal.fire_at-requires-clause-windows
+fire_at-requires-clause-windows c =
+    let mode : c.header-header.result.now.mode ≡ c.args.verified.now.header.mode = ap (λ (h : Header). h.mode) (c.header-header.ensures.header ∙ ap (λ (p : Program). p.header) c.program.ensures.program) in
+    c.requires.ready.windows ∙ ap (λ (m : Mode). retracts m) (sym mode)
 
 pub gain-requires-clause-can : goal.gain-requires-clause-can
 gain-requires-clause-can c =
     let held = c.args.held.now in let place = c.args.due.spot.place in
     let e = c.fire_at.ensures.panes in
-    can_gain place e.0 (entries_of held) (map.entries_sorted held.panes) e.1 c.args.streams.now c.lose_held.new.self (c.lose_held.ensures.told e.0 e.1) c.lose_held.ensures.alike (option_map (λ cells. cells.now) c.args.ran.row) c.requires.tells
+    can_gain place e.0 (entries_of held) (map.entries_sorted held.panes) e.1 c.args.streams.now c.lose_held.new.self (c.lose_held.ensures.told e.0 e.1) c.lose_held.ensures.alike (option_map (λ cells. cells.now) c.args.ran.row) c.requires.ready.tells
 
 pub returns-clause-panes : goal.returns-clause-panes
 returns-clause-panes c = λ h found.

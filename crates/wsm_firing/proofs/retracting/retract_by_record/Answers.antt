@@ -1,4 +1,4 @@
-use Rattle.std.proofs.Common.{◌≡◌, ◌+◌, ◌≤◌, sym, ap, subst, ◌∙◌, vec_len, vec_capacity, length, SFits, w64, to_z-of_z, arith}
+use Rattle.std.proofs.Common.{◌≡◌, ◌+◌, ◌≤◌, sym, ap, subst, ◌∙◌, vec_len, vec_capacity, length, arith}
 use Rattle.wsm_record.specs.Modes.{retracts}
 use Rattle.wsm_program.specs.Program.{Program, Header}
 use Rattle.wsm_panes.specs.Held.{entries_of}
@@ -14,20 +14,18 @@ mode_is c = c.retracts.ensures ∙ ap (λ (h : Header). retracts h.mode) (c.head
 
 pub retract_entered-requires-clause-room : goal.retract_entered-requires-clause-room
 retract_entered-requires-clause-room c =
-    let mark : SFits w64 c.args.mark = c.ranges.mark in let time : SFits w64 c.args.time = c.ranges.time in
-    let fs = fires_by_record c.args.verified.now c.args.mark c.args.key c.args.time (entries_of c.args.held.now) in
+    let fs = fires_by_record c.args.verified.now c.args.arrival.mark c.args.arrival.key c.args.arrival.time (entries_of c.args.held.now) in
     let retract = sym (mode_is (goal.at.retract_entered-requires-clause-room c).After-retracts) ∙ c.if-retracts.true in
     let room : vec_len c.args.rows.now + length fs ≤ vec_capacity c.args.rows.now = can_withdraw c.args.verified.now (vec_capacity c.args.rows.now) (vec_len c.args.rows.now) fs c.requires.can retract in
-    simp to_z-of_z room
+    room
 
 pub returns-then-retracts-clause-can : goal.returns-then-retracts-clause-can
 returns-then-retracts-clause-can c =
-    let mark : SFits w64 c.args.mark = c.ranges.mark in let time : SFits w64 c.args.time = c.ranges.time in
-    let p = c.args.verified.now in let fs = fires_by_record p c.args.mark c.args.key c.args.time (entries_of c.args.held.now) in
+    let p = c.args.verified.now in let fs = fires_by_record p c.args.arrival.mark c.args.arrival.key c.args.arrival.time (entries_of c.args.held.now) in
     let retract = sym (mode_is (goal.at.returns-then-retracts-clause-can c).After-retracts) ∙ c.if-retracts.true in
-    let put = simp to_z-of_z at c.retract_entered.ensures.rows in
+    let put = c.retract_entered.ensures.rows in
     subst (λ n. CanAdd p n (vec_len c.retract_entered.new.rows) nothing fs) (sym c.retract_entered.ensures.capacity)
     (can_write_behind p (vec_capacity c.args.rows.now) (vec_len c.args.rows.now) fs c.requires.can retract (vec_len c.retract_entered.new.rows) (omega (arith, put.few, c.retract_entered.new.rows.ok.0, c.args.rows.now.ok.0)))
 
 pub returns-else-retracts-clause-can : goal.returns-else-retracts-clause-can
-returns-else-retracts-clause-can c = can_write c.args.verified.now (vec_capacity c.args.rows.now) (vec_len c.args.rows.now) (fires_by_record c.args.verified.now c.args.mark c.args.key c.args.time (entries_of c.args.held.now)) c.requires.can
+returns-else-retracts-clause-can c = can_write c.args.verified.now (vec_capacity c.args.rows.now) (vec_len c.args.rows.now) (fires_by_record c.args.verified.now c.args.arrival.mark c.args.arrival.key c.args.arrival.time (entries_of c.args.held.now)) c.requires.can

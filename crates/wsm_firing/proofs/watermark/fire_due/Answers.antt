@@ -15,7 +15,8 @@ use Rattle.wsm_firing.specs.Firing.{CanAdd}
 use Rattle.wsm_firing.specs.Due.{fired_by}
 use Rattle.wsm_firing.specs.Streams.{Told, Tells}
 use Rattle.wsm_firing.proofs.Spots.{spot_in, spot_kept}
-use Rattle.wsm_firing.proofs.StandingRows.{tells_none, tells_on, can_tell_on}
+use Rattle.wsm_firing.proofs.StandingRows.{tells_none, tells_on}
+use Rattle.wsm_firing.proofs.Ready.{ready_on}
 use Rattle.wsm_firing.proofs.Walk.{fired_first, some_same}
 use Rattle.wsm_firing.proofs.LeftToFire.{ComesTo, first, kept_on}
 use Rattle.wsm_firing.proofs.WatermarkWalk.{kind, HasPassed, as_passed, walks_on, ends_behind_all, ends_at_none, is_held, is_still_held, still_there, is_placed, stays, can_fire, has_fired}
@@ -86,9 +87,9 @@ run-ran-requires c =
     let kind_is = kind_is (goal.at.run-ran-requires c).After-watermark_kind in
     (can_fire walked is in_order found sorted (sym kind_is ∙ c.in-Some-watermark_kind.is)).each.0
 
-pub fire-requires-clause-tells : goal.fire-requires-clause-tells
-fire-requires-clause-tells c =
-    can_tell_on c.args.streams.now c.loop.streams (entries_of c.args.held.now) (entries_of c.loop.held) c.loop.invariant.tells c.requires.tells
+pub fire-requires-clause-ready : goal.fire-requires-clause-ready
+fire-requires-clause-ready c =
+    ready_on c.args.verified.now c.args.held.now c.loop.held c.args.streams.now c.loop.streams c.loop.invariant.keeps c.loop.invariant.tells c.requires.ready
 
 pub fire-requires-clause-held : goal.fire-requires-clause-held
 fire-requires-clause-held c = is_held c.loop.invariant.walked (ap place_found c.in-Some.is) (map.entries_sorted c.loop.held.panes)

@@ -18,6 +18,9 @@ returns-clause-reply c = λ past fits. c.turn.ensures.reply ∙ turn_replies c.a
 pub returns-clause-rows : goal.returns-clause-rows
 returns-clause-rows c = λ past fits. ap (λ (s : State). s.rows) c.turn.ensures.state ∙ turn_writes c.args.self.now c.turn.ensures.lawful past fits (event_of c.args.event.now)
 
+pub returns-clause-room : goal.returns-clause-room
+returns-clause-room c = ap (λ (s : State). s.room) c.turn.ensures.state
+
 pub returns-clause-refused : goal.returns-clause-refused
 returns-clause-refused c = λ some.
     let s = c.args.self.now in

@@ -9,7 +9,7 @@ use Rattle.wsm_engine.proofs.engine.Engine.held.Goals as goal
 pub returns-clause-within : goal.returns-clause-within
 returns-clause-within c =
     let s : State = state_of c.self.inside in
-    let of = c.self.invariant.runner in
+    let of = c.self.invariant.operator in
     let history = c.self.invariant.history in
     let few = kept_within s.program (needed s.program) of.judged of.lawful history.0 in
     let most = panes_stated s.program (needed s.program) of.judged in

@@ -9,7 +9,7 @@ use Rattle.wsm_panes.specs.Held.{entries_of}
 use Rattle.wsm_firing.specs.ByWatermark.{fires_by_watermark}
 use Rattle.wsm_firing.specs.Firing.{rows_of}
 use Rattle.wsm_firing.proofs.TurnRows.{turn_is}
-use Rattle.wsm_firing.proofs.watermark.fire_by_watermark.Goals as goal
+use Rattle.wsm_firing.proofs.operator.WindowOperator.fire_by_watermark.Goals as goal
 
 pub returns-clause-panes : goal.returns-clause-panes
 returns-clause-panes c =
@@ -19,7 +19,7 @@ returns-clause-panes c =
 pub returns-clause-rows : goal.returns-clause-rows
 returns-clause-rows c =
     let old : SFits w64 c.args.old = c.ranges.old in let new : SFits w64 c.args.new = c.ranges.new in
-    let p = c.args.verified.now in let es = entries_of c.args.held.now in let fs = fires_by_watermark p c.args.old c.args.new es in
+    let p = c.args.verified.now in let es = entries_of c.args.self.now.held in let fs = fires_by_watermark p c.args.old c.args.new es in
     let ws : List (Place × List Cell) = withdrawn_by_watermark (query_of p) c.args.old c.args.new es in
     let behind : c.fire_due.new.rows.items ≡ c.retract_by_watermark.new.rows.items ++ rows_of p fs = simp to_z-of_z at c.fire_due.ensures.rows in
     let withdrawn : c.retract_by_watermark.new.rows.items ≡ retracted_in p.header.mode ws = simp to_z-of_z at c.retract_by_watermark.ensures.rows in

@@ -9,9 +9,9 @@ use Rattle.wsm_semantics.specs.Summaries.{withdrawn_entering}
 use Rattle.wsm_semantics.specs.Replay.{datum}
 use Rattle.wsm_engine.proofs.Firings.{rows_some}
 use Rattle.wsm_engine.proofs.Told.{can_tell, same_alike}
-use Rattle.wsm_engine.proofs.RunnerEvents.{enters, entered_is, cost_is, cost_stated, few_entered, held_within}
-use Rattle.wsm_engine.proofs.runner.Runner.enter.Goals as goal
-use Rattle.wsm_engine.proofs.runner.Runner.enter.Goals.{After-update-updated}
+use Rattle.wsm_engine.proofs.OperatorEvents.{enters, entered_is, cost_is, cost_stated, few_entered, held_within}
+use Rattle.wsm_engine.proofs.acting.enter_record.Goals as goal
+use Rattle.wsm_engine.proofs.acting.enter_record.Goals.{After-update-updated}
 
 -- UPDATE gave what the record is folded by
 given : (c : After-update-updated) → updated c.args.verified.now c.args.inputs.now.key c.args.inputs.now.values.now ≡ c.update-updated.result.values.now
@@ -23,20 +23,20 @@ enter-entered-requires-clause-can c =
     let comes = c.requires.comes in
     let mark : SFits w64 c.args.mark = c.ranges.mark in
     let time : SFits w64 c.args.time = c.ranges.time in
-    simp to_z-of_z (enters p comes.0 c.args.self.now c.requires.program c.args.mark c.args.inputs.now.key c.args.time c.args.inputs.now.values.now comes.1 c.requires.selected p.header.kinds c.update-updated.result.values.now refl (given (goal.at.enter-entered-requires-clause-can c).After-update-updated))
+    simp to_z-of_z (enters p comes.0 c.args.operator.now c.requires.program c.args.mark c.args.inputs.now.key c.args.time c.args.inputs.now.values.now comes.1 c.requires.selected p.header.kinds c.update-updated.result.values.now refl (given (goal.at.enter-entered-requires-clause-can c).After-update-updated))
 
 pub enter-entered-requires-clause-room : goal.enter-entered-requires-clause-room
 enter-entered-requires-clause-room c =
     let p = c.args.verified.now in let of = c.requires.program in let comes = c.requires.comes in
-    let few = held_within p comes.0 c.args.self.now of c.args.mark _ _ comes.1 in
+    let few = held_within p comes.0 c.args.operator.now of c.args.mark _ _ comes.1 in
     let some = rows_some p.header.mode (most_panes (query_of p)) in
     omega (arith, few, some, of.rows)
 
 pub enter-entered-requires-clause-tells : goal.enter-entered-requires-clause-tells
 enter-entered-requires-clause-tells c =
     let p = c.args.verified.now in let of = c.requires.program in let comes = c.requires.comes in
-    let s = c.args.self.now.streams in let es = entries_of c.args.self.now.held in
-    let few = held_within p comes.0 c.args.self.now of c.args.mark _ _ comes.1 in
+    let s = c.args.operator.now.streams in let es = entries_of c.args.operator.now.held in
+    let few = held_within p comes.0 c.args.operator.now of c.args.mark _ _ comes.1 in
     can_tell (most_panes (query_of p)) s s es es of.streams of.room (same_alike s) (λ relation told. told) few
 
 pub overflow_mul-result : goal.overflow_mul-result
@@ -45,10 +45,10 @@ overflow_mul-result c =
     let comes = c.requires.comes in
     let mark : SFits w64 c.args.mark = c.ranges.mark in
     let time : SFits w64 c.args.time = c.ranges.time in
-    let cost = cost_is p comes.0 c.args.self.now c.requires.program c.args.mark c.args.inputs.now.key c.args.time c.args.inputs.now.values.now comes.1 c.requires.selected
+    let cost = cost_is p comes.0 c.args.operator.now c.requires.program c.args.mark c.args.inputs.now.key c.args.time c.args.inputs.now.values.now comes.1 c.requires.selected
     c.enter-entered.result.windows c.update-updated.result.steps (cond c.enter-entered.result.joined (length p.header.kinds) 0) c.enter-entered.result.joined p.header.kinds
     (simp to_z-of_z at c.enter-entered.ensures.windows) (rw c.requires.record at c.update-updated.ensures.steps) (simp to_z-of_z at c.enter-entered.ensures.joined) refl refl in
-    let most = cost_stated p comes.0 c.args.self.now c.requires.program c.args.mark c.args.inputs.now.key c.args.time c.args.inputs.now.values.now comes.1 c.requires.selected in
+    let most = cost_stated p comes.0 c.args.operator.now c.requires.program c.args.mark c.args.inputs.now.key c.args.time c.args.inputs.now.values.now comes.1 c.requires.selected in
     omega (arith, cost, most)
 
 pub overflow_add-result : goal.overflow_add-result
@@ -58,10 +58,10 @@ overflow_add-result c =
     let mark : SFits w64 c.args.mark = c.ranges.mark in
     let time : SFits w64 c.args.time = c.ranges.time in
     let kinds : p.header.kinds ≡ c.deref.result.now = sym (ap (λ (h : Header). h.kinds) (c.header.ensures.header ∙ ap (λ q. q.header) c.program.ensures.program)) ∙ sym c.deref.ensures.value in
-    let cost = cost_is p comes.0 c.args.self.now c.requires.program c.args.mark c.args.inputs.now.key c.args.time c.args.inputs.now.values.now comes.1 c.requires.selected
+    let cost = cost_is p comes.0 c.args.operator.now c.requires.program c.args.mark c.args.inputs.now.key c.args.time c.args.inputs.now.values.now comes.1 c.requires.selected
     c.enter-entered.result.windows c.update-updated.result.steps c.join_steps.result c.enter-entered.result.joined c.deref.result.now
     (simp to_z-of_z at c.enter-entered.ensures.windows) (rw c.requires.record at c.update-updated.ensures.steps) (simp to_z-of_z at c.enter-entered.ensures.joined) kinds c.join_steps.ensures in
-    let most = cost_stated p comes.0 c.args.self.now c.requires.program c.args.mark c.args.inputs.now.key c.args.time c.args.inputs.now.values.now comes.1 c.requires.selected in
+    let most = cost_stated p comes.0 c.args.operator.now c.requires.program c.args.mark c.args.inputs.now.key c.args.time c.args.inputs.now.values.now comes.1 c.requires.selected in
     omega (arith, cost, most)
 
 pub returns-clause-panes : goal.returns-clause-panes
@@ -71,7 +71,7 @@ returns-clause-panes c =
     let mark : SFits w64 c.args.mark = c.ranges.mark in
     let time : SFits w64 c.args.time = c.ranges.time in
     (simp to_z-of_z at c.enter-entered.ensures.panes)
-    ∙ entered_is p comes.0 c.args.self.now c.requires.program c.args.mark c.args.inputs.now.key c.args.time c.args.inputs.now.values.now comes.1 c.requires.selected p.header.kinds c.update-updated.result.values.now refl (given (goal.at.returns-clause-panes c).After-update-updated)
+    ∙ entered_is p comes.0 c.args.operator.now c.requires.program c.args.mark c.args.inputs.now.key c.args.time c.args.inputs.now.values.now comes.1 c.requires.selected p.header.kinds c.update-updated.result.values.now refl (given (goal.at.returns-clause-panes c).After-update-updated)
 
 pub returns-clause-rows : goal.returns-clause-rows
 returns-clause-rows c =
@@ -79,7 +79,7 @@ returns-clause-rows c =
     let mark : SFits w64 c.args.mark = c.ranges.mark in
     let time : SFits w64 c.args.time = c.ranges.time in
     (simp to_z-of_z at (c.enter-entered.ensures.rows (plan_of p) c.args.inputs.now.values.now))
-    ∙ (λ i. retracted_in p.header.mode (withdrawn_entering (plan_of p) (c.requires.program.shape i) (datum 0 c.args.mark c.args.inputs.now.key c.args.time c.args.inputs.now.values.now) (entries_of c.args.self.now.held)))
+    ∙ (λ i. retracted_in p.header.mode (withdrawn_entering (plan_of p) (c.requires.program.shape i) (datum 0 c.args.mark c.args.inputs.now.key c.args.time c.args.inputs.now.values.now) (entries_of c.args.operator.now.held)))
 
 pub returns-clause-few : goal.returns-clause-few
 returns-clause-few c =
@@ -88,9 +88,9 @@ returns-clause-few c =
     let time : SFits w64 c.args.time = c.ranges.time in
     let panes =
     (simp to_z-of_z at c.enter-entered.ensures.panes)
-    ∙ entered_is p comes.0 c.args.self.now of c.args.mark c.args.inputs.now.key c.args.time c.args.inputs.now.values.now comes.1 c.requires.selected p.header.kinds c.update-updated.result.values.now refl (given (goal.at.returns-clause-few c).After-update-updated) in
-    c.enter-entered.ensures.few (most_panes (query_of p)) (held_within p comes.0 c.args.self.now of c.args.mark _ _ comes.1)
-    (few_entered p comes.0 c.args.self.now of c.args.mark c.args.inputs.now.key c.args.time c.args.inputs.now.values.now comes.1 c.requires.selected (entries_of c.enter-entered.new.held) panes)
+    ∙ entered_is p comes.0 c.args.operator.now of c.args.mark c.args.inputs.now.key c.args.time c.args.inputs.now.values.now comes.1 c.requires.selected p.header.kinds c.update-updated.result.values.now refl (given (goal.at.returns-clause-few c).After-update-updated) in
+    c.enter-entered.ensures.few (most_panes (query_of p)) (held_within p comes.0 c.args.operator.now of c.args.mark _ _ comes.1)
+    (few_entered p comes.0 c.args.operator.now of c.args.mark c.args.inputs.now.key c.args.time c.args.inputs.now.values.now comes.1 c.requires.selected (entries_of c.enter-entered.new.held) panes)
 
 pub returns-clause-steps : goal.returns-clause-steps
 returns-clause-steps c =
@@ -99,6 +99,6 @@ returns-clause-steps c =
     let mark : SFits w64 c.args.mark = c.ranges.mark in
     let time : SFits w64 c.args.time = c.ranges.time in
     let kinds : p.header.kinds ≡ c.deref.result.now = sym (ap (λ (h : Header). h.kinds) (c.header.ensures.header ∙ ap (λ q. q.header) c.program.ensures.program)) ∙ sym c.deref.ensures.value in
-    cost_is p comes.0 c.args.self.now c.requires.program c.args.mark c.args.inputs.now.key c.args.time c.args.inputs.now.values.now comes.1 c.requires.selected
+    cost_is p comes.0 c.args.operator.now c.requires.program c.args.mark c.args.inputs.now.key c.args.time c.args.inputs.now.values.now comes.1 c.requires.selected
     c.enter-entered.result.windows c.update-updated.result.steps c.join_steps.result c.enter-entered.result.joined c.deref.result.now
     (simp to_z-of_z at c.enter-entered.ensures.windows) (rw c.requires.record at c.update-updated.ensures.steps) (simp to_z-of_z at c.enter-entered.ensures.joined) kinds c.join_steps.ensures

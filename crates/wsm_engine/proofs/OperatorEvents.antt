@@ -1,4 +1,4 @@
--- As an event comes to the runner of a program, what it is given can be done, and what is done is what
+-- As an event comes to the operator of a program, what it is given can be done, and what is done is what
 -- the definitions say.
 use Rattle.std.proofs.Common.{◌≡◌, ℕ, ◌+◌, ◌*◌, ◌≤◌, ◌++◌, Bool, true, false, cond, List, [], ◌∷◌, length, ℤ, pos, Option, Some, None, Ok, Result, SFits, w64, refl, sym, ap, subst, ◌∙◌, arith, append-nil}
 use Rattle.std.proofs.lemmas.Int.{ints, fits_signed_from_abs}
@@ -32,8 +32,8 @@ use Rattle.wsm_panes.specs.Held.{Held, entries_of, taking, with_entered, session
 use Rattle.wsm_firing.specs.ByRecord.{CanFireByRecord}
 use Rattle.wsm_firing.specs.ByWatermark.{CanFireByWatermark}
 use Rattle.wsm_firing.specs.Streams.{HasRoomFor, relation_kept}
-use Rattle.wsm_engine.specs.declared.runner.Runner.{Runner}
-use Rattle.wsm_engine.specs.Runner.{IsOf, Comes, entering_cost}
+use Rattle.wsm_firing.specs.declared.operator.WindowOperator.{WindowOperator}
+use Rattle.wsm_engine.specs.Operator.{IsOf, Comes, entering_cost}
 use Rattle.wsm_engine.proofs.RecordsByPlan.{entered_same}
 use Rattle.wsm_engine.proofs.Limits.{record_stated}
 use Rattle.wsm_engine.proofs.HeldByHistory.{Panes, kept_panes, kept_within}
@@ -56,7 +56,7 @@ module _ (m : ℤ) (k : ℕ) (t : ℤ) (vs : List Value) where
   windows_same (Sliding size period) l = refl
   windows_same (Session gap) l = refl
 
-module _ (p : Program) (past : List Event) (r : Runner) (of : IsOf p r) (m : ℤ) where
+module _ (p : Program) (past : List Event) (r : WindowOperator) (of : IsOf p r) (m : ℤ) where
   abbrev es : Panes
   es = kept_panes p (needed p) of.judged of.lawful past
 
@@ -157,7 +157,7 @@ module _ (p : Program) (past : List Event) (r : Runner) (of : IsOf p r) (m : ℤ
 fits : (t : ℤ) → IsTime t → SFits w64 t
 fits t h = fits_signed_from_abs w64 t (omega (arith, ints, h.low, h.high))
 
-pub time_fits : (p : Program) (past : List Event) (r : Runner) (of : IsOf p r) (m : ℤ) (k : ℕ) (t : ℤ) (vs : List Value) (a : Result Admitted Refusal) (e : Event) → Comes p past r.held m a e → a ≡ Ok admitted.Record → e ≡ Record (Some k) t vs → SFits w64 t
+pub time_fits : (p : Program) (past : List Event) (r : WindowOperator) (of : IsOf p r) (m : ℤ) (k : ℕ) (t : ℤ) (vs : List Value) (a : Result Admitted Refusal) (e : Event) → Comes p past r.held m a e → a ≡ Ok admitted.Record → e ≡ Record (Some k) t vs → SFits w64 t
 time_fits p past r of m k t vs a e comes is ev =
     fits t (timely p (needed p) of.judged of.lawful past k t vs
     (none_refuses m (mark (query_of p) (Record (Some k) t vs ∷ past)) (Record (Some k) t vs) _ admitted.Record (sym is ∙ comes.answered ∙ ap (λ (f : Event). answer m (mark (query_of p) (f ∷ past)) f (verdict_on (query_of p) past f)) ev)))
@@ -201,7 +201,7 @@ module _ (p : Program) (past : List Event) (h : Held) (m : ℤ) (a : Result Admi
   old_fits old new is fit = subst (SFits w64) (sym (from_mark old new is).0) fit
 
 -- and so has the new one
-pub mark_fits : (p : Program) (past : List Event) (r : Runner) (m : ℤ) (a : Result Admitted Refusal) (e : Event) → Comes p past r.held m a e → IsOf p r → (old new : ℤ) → a ≡ Ok (admitted.Watermark old new) → SFits w64 new
+pub mark_fits : (p : Program) (past : List Event) (r : WindowOperator) (m : ℤ) (a : Result Admitted Refusal) (e : Event) → Comes p past r.held m a e → IsOf p r → (old new : ℤ) → a ≡ Ok (admitted.Watermark old new) → SFits w64 new
 mark_fits p past r m a e comes of old new is = let (o, t, at) = comes_at p past r.held m a e comes old new is in fits new (a_mark p past r of old o t new at)
 
 -- ---- what a watermark writes

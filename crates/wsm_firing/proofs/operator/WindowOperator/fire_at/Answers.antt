@@ -21,15 +21,15 @@ use Rattle.wsm_firing.proofs.AtPlace.{Fires, none_there, no_kind, with_kind}
 use Rattle.wsm_firing.proofs.LeftToFire.{no_rows, no_tally}
 use Rattle.wsm_firing.proofs.Walk.{none_found, spot_found, some_same}
 use Rattle.wsm_firing.proofs.Spots.{spot_in}
-use Rattle.wsm_firing.proofs.record.fire_at.Goals as goal
-use Rattle.wsm_firing.proofs.record.fire_at.Goals.{In-Some, After-record_kind, In-Some-record_kind}
+use Rattle.wsm_firing.proofs.operator.WindowOperator.fire_at.Goals as goal
+use Rattle.wsm_firing.proofs.operator.WindowOperator.fire_at.Goals.{In-Some, After-record_kind, In-Some-record_kind}
 
 -- the spot that was found is that of the place, where a pane is held
-found : (c : In-Some) → (c.in-Some.spot.place ≡ c.args.place) × (is_some (find place_cmp c.args.place (entries_of c.args.held.now)) ≡ true)
-found c = spot_found c.args.place (find place_cmp c.args.place (entries_of c.args.held.now)) c.in-Some.spot.place (sym c.find.ensures.place ∙ ap place_found c.in-Some.is)
+found : (c : In-Some) → (c.in-Some.spot.place ≡ c.args.place) × (is_some (find place_cmp c.args.place (entries_of c.args.self.now.held)) ≡ true)
+found c = spot_found c.args.place (find place_cmp c.args.place (entries_of c.args.self.now.held)) c.in-Some.spot.place (sym c.find.ensures.place ∙ ap place_found c.in-Some.is)
 
-held_there : (c : In-Some) → is_some (find place_cmp c.in-Some.spot.place (entries_of c.args.held.now)) ≡ true
-held_there c = let spot = found c in subst (λ r. is_some (find place_cmp r (entries_of c.args.held.now)) ≡ true) (sym spot.0) spot.1
+held_there : (c : In-Some) → is_some (find place_cmp c.in-Some.spot.place (entries_of c.args.self.now.held)) ≡ true
+held_there c = let spot = found c in subst (λ r. is_some (find place_cmp r (entries_of c.args.self.now.held)) ≡ true) (sym spot.0) spot.1
 
 kind_is : (c : After-record_kind) → kind_on_record (query_of c.args.verified.now) c.args.mark c.args.place.end c.pane-pane.result.unshown ≡ c.record_kind.result
 kind_is c = let mark : SFits w64 c.args.mark = c.ranges.mark in sym (simp to_z-of_z at c.record_kind.ensures)
@@ -40,22 +40,22 @@ firing p kind place h = record { kind = kind; place = place; count = fired_count
 
 -- what fires at the place
 fires : (c : In-Some-record_kind) → c.in-Some.spot.place ≡ c.args.place → kind_on_record (query_of c.args.verified.now) c.args.mark c.args.place.end c.pane-pane.result.unshown ≡ c.record_kind.result →
-    Fires (plan_of c.args.verified.now) (query_of c.args.verified.now) c.args.mark c.args.place (entries_of c.args.held.now) (map.entries_sorted c.args.held.now.panes) (firing c.args.verified.now c.in-Some-record_kind.kind c.args.place c.pane-pane.result ∷ [])
-    (put place_cmp c.args.place (fired_pane (plan_of c.args.verified.now) c.args.verified.now.header.mode c.args.place (Some c.in-Some-record_kind.kind) c.pane-pane.result) (entries_of c.args.held.now))
+    Fires (plan_of c.args.verified.now) (query_of c.args.verified.now) c.args.mark c.args.place (entries_of c.args.self.now.held) (map.entries_sorted c.args.self.now.held.panes) (firing c.args.verified.now c.in-Some-record_kind.kind c.args.place c.pane-pane.result ∷ [])
+    (put place_cmp c.args.place (fired_pane (plan_of c.args.verified.now) c.args.verified.now.header.mode c.args.place (Some c.in-Some-record_kind.kind) c.pane-pane.result) (entries_of c.args.self.now.held))
 fires c at is =
-    let p = c.args.verified.now in let es = entries_of c.args.held.now in
+    let p = c.args.verified.now in let es = entries_of c.args.self.now.held in
     let there : find place_cmp c.args.place es ≡ Some c.pane-pane.result = ap (λ r. find place_cmp r es) (sym at) ∙ c.pane-pane.ensures in
-    with_kind (plan_of p) (query_of p) c.args.mark c.args.place es (map.entries_sorted c.args.held.now.panes) c.pane-pane.result there c.in-Some-record_kind.kind (is ∙ c.in-Some-record_kind.is)
+    with_kind (plan_of p) (query_of p) c.args.mark c.args.place es (map.entries_sorted c.args.self.now.held.panes) c.pane-pane.result there c.in-Some-record_kind.kind (is ∙ c.in-Some-record_kind.is)
 
 pub returns-in_default : goal.returns-in_default
 returns-in_default c =
-    let p = c.args.verified.now in let held = c.args.held.now in let es = entries_of held in
+    let p = c.args.verified.now in let held = c.args.self.now.held in let es = entries_of held in
     let none = none_there (plan_of p) (query_of p) c.args.mark c.args.place es (map.entries_sorted held.panes) (none_found c.args.place (find place_cmp c.args.place es) (sym c.find.ensures.place ∙ ap place_found c.in_default.is)) in
     record {
       panes = sym none.panes;
       keeps = record { keys = refl; shape = refl; live = refl; widths = refl };
-      tells = tells_none c.args.streams.now es;
-      rows = no_rows p c.args.rows.now.items _ none.firings;
+      tells = tells_none c.args.self.now.streams es;
+      rows = no_rows p c.args.self.now.rows.items _ none.firings;
       capacity = refl;
       tally = no_tally p c.args.tally.now _ none.firings;
     }
@@ -68,7 +68,7 @@ run-ran-requires c =
     let p = c.args.verified.now in
     let at = (found (goal.at.run-ran-requires c).In-Some).0 in
     let one = fires (goal.at.run-ran-requires c).In-Some-record_kind at (kind_is (goal.at.run-ran-requires c).After-record_kind) in
-    let can = subst (λ (fs : List (Fired (List Value))). CanAdd p (vec_capacity c.args.rows.now) (vec_len c.args.rows.now) c.args.tally.now fs) one.firings c.requires.can in
+    let can = subst (λ (fs : List (Fired (List Value))). CanAdd p (vec_capacity c.args.self.now.rows) (vec_len c.args.self.now.rows) c.args.tally.now fs) one.firings c.requires.can in
     subst (λ (r : Place). MayFire p (firing p c.in-Some-record_kind.kind r c.pane-pane.result)) (sym at) can.each.0
 
 pub fire-requires-clause-held : goal.fire-requires-clause-held
@@ -90,13 +90,13 @@ fire-requires-clause-can c = λ h held.
     let at = (found (goal.at.fire-requires-clause-can c).In-Some).0 in
     let one = fires (goal.at.fire-requires-clause-can c).In-Some-record_kind at (kind_is (goal.at.fire-requires-clause-can c).After-record_kind) in
     let same : c.pane-pane.result ≡ h = some_same (sym c.pane-pane.ensures ∙ held) in
-    subst (λ (x : Place × Pane (List Value)). CanAdd p (vec_capacity c.args.rows.now) (vec_len c.args.rows.now) c.args.tally.now (firing p c.in-Some-record_kind.kind x.0 x.1 ∷ []))
+    subst (λ (x : Place × Pane (List Value)). CanAdd p (vec_capacity c.args.self.now.rows) (vec_len c.args.self.now.rows) c.args.tally.now (firing p c.in-Some-record_kind.kind x.0 x.1 ∷ []))
     (λ i. (sym at i, same i))
-    (subst (λ (fs : List (Fired (List Value))). CanAdd p (vec_capacity c.args.rows.now) (vec_len c.args.rows.now) c.args.tally.now fs) one.firings c.requires.can)
+    (subst (λ (fs : List (Fired (List Value))). CanAdd p (vec_capacity c.args.self.now.rows) (vec_len c.args.self.now.rows) c.args.tally.now fs) one.firings c.requires.can)
 
 pub returns-in-Some-record_kind : goal.returns-in-Some-record_kind
 returns-in-Some-record_kind c =
-    let p = c.args.verified.now in let kind = c.in-Some-record_kind.kind in let h = c.pane-pane.result in let es = entries_of c.args.held.now in
+    let p = c.args.verified.now in let kind = c.in-Some-record_kind.kind in let h = c.pane-pane.result in let es = entries_of c.args.self.now.held in
     let at = (found (goal.at.returns-in-Some-record_kind c).In-Some).0 in
     let one = fires (goal.at.returns-in-Some-record_kind c).In-Some-record_kind at (kind_is (goal.at.returns-in-Some-record_kind c).After-record_kind) in
     let mark : SFits w64 c.args.mark = c.ranges.mark in
@@ -106,8 +106,8 @@ returns-in-Some-record_kind c =
       tells = c.fire.ensures.tells;
       rows =
           c.fire.ensures.rows h c.pane-pane.ensures
-          ∙ ap (λ (r : Place). c.args.rows.now.items ++ rows_of p (firing p kind r h ∷ [])) at
-          ∙ ap (λ (fs : List (Fired (List Value))). c.args.rows.now.items ++ rows_of p fs) (sym one.firings);
+          ∙ ap (λ (r : Place). c.args.self.now.rows.items ++ rows_of p (firing p kind r h ∷ [])) at
+          ∙ ap (λ (fs : List (Fired (List Value))). c.args.self.now.rows.items ++ rows_of p fs) (sym one.firings);
       capacity = c.fire.ensures.capacity;
       tally =
           c.fire.ensures.tally h c.pane-pane.ensures
@@ -117,23 +117,23 @@ returns-in-Some-record_kind c =
 
 pub returns-in_default-record_kind : goal.returns-in_default-record_kind
 returns-in_default-record_kind c =
-    let p = c.args.verified.now in let es = entries_of c.args.held.now in
+    let p = c.args.verified.now in let es = entries_of c.args.self.now.held in
     let mark : SFits w64 c.args.mark = c.ranges.mark in
     let at = (found (goal.at.returns-in_default-record_kind c).In-Some).0 in
     let there : find place_cmp c.args.place es ≡ Some c.pane-pane.result = ap (λ r. find place_cmp r es) (sym at) ∙ c.pane-pane.ensures in
     let is = kind_is (goal.at.returns-in_default-record_kind c).After-record_kind ∙ c.in_default-record_kind.is in
-    let none = no_kind (plan_of p) (query_of p) c.args.mark c.args.place es (map.entries_sorted c.args.held.now.panes) c.pane-pane.result there is in
+    let none = no_kind (plan_of p) (query_of p) c.args.mark c.args.place es (map.entries_sorted c.args.self.now.held.panes) c.pane-pane.result there is in
     record {
       panes = sym none.panes;
       keeps = record { keys = refl; shape = refl; live = refl; widths = refl };
-      tells = tells_none c.args.streams.now es;
-      rows = no_rows p c.args.rows.now.items _ none.firings;
+      tells = tells_none c.args.self.now.streams es;
+      rows = no_rows p c.args.self.now.rows.items _ none.firings;
       capacity = refl;
       tally = no_tally p c.args.tally.now _ none.firings;
     }
 
 pub pane-pane-requires-clause-spot : goal.pane-pane-requires-clause-spot
-pane-pane-requires-clause-spot c = spot_in c.args.held.now c.find.result c.in-Some.spot c.find.ensures.spot c.in-Some.is
+pane-pane-requires-clause-spot c = spot_in c.args.self.now.held c.find.result c.in-Some.spot c.find.ensures.spot c.in-Some.is
 
 pub fire-requires-clause-spot : goal.fire-requires-clause-spot
-fire-requires-clause-spot c = spot_in c.args.held.now c.find.result c.in-Some.spot c.find.ensures.spot c.in-Some.is
+fire-requires-clause-spot c = spot_in c.args.self.now.held c.find.result c.in-Some.spot c.find.ensures.spot c.in-Some.is

@@ -1,4 +1,4 @@
--- The runner of a program: for what it has room, and what it keeps as an event comes.
+-- The operator of a program: for what it has room, and what it keeps as an event comes.
 use Rattle.std.specs.Prelude.{◌≡◌, ℕ, ◌*◌, ◌+◌, ◌≤◌, List, [], ◌∷◌, ◌++◌, length, filter_map, ℤ, int_lt, Result, Ok, vec_capacity, if◌then◌else◌}
 use Rattle.wsm_record.specs.declared.event.Value.{Value}
 use Rattle.wsm_record.specs.declared.cell.Cell.{Cell}
@@ -28,7 +28,7 @@ use Rattle.wsm_panes.specs.Held.{Held, entries_of}
 use Rattle.wsm_firing.specs.Streams.{Told, IsTold, relation_before, standing_rows}
 use Rattle.std.specs.Prelude.{IsTrue}
 use Rattle.wsm_windows.specs.declared.place.Place.{Place}
-use Rattle.wsm_engine.specs.declared.runner.Runner.{Runner}
+use Rattle.wsm_firing.specs.declared.operator.WindowOperator.{WindowOperator}
 
 -- the relation at the last instant, by what the streams were told since
 abbrev pub last_relation : Told → List (Place × Pane (List Value)) → List (List Cell)
@@ -44,7 +44,7 @@ abbrev pub widths_of : Header → Widths
 widths_of h = record { accumulators = length h.kinds; columns = length h.columns; windows = retracts h.mode }
 
 -- the program is accepted, there is room for as many panes and rows as it can hold, and the streams were told
-pub record IsOf (p : Program) (r : Runner) : Type 0 where
+pub record IsOf (p : Program) (r : WindowOperator) : Type 0 where
   pub judged : judge p ≡ Ok (needed p)
   pub lawful : IsTrue (is_program p)
   pub keys : r.held.keys ≡ length p.header.schema.keys
@@ -64,8 +64,8 @@ pub record Comes (p : Program) (past : List Event) (h : Held) (mark : ℤ) (a : 
   pub answered : a ≡ answer mark (query.mark (query_of p) (e ∷ past)) e (verdict_on (query_of p) past e)
   pub panes : entries_of h ≡ summaries (plan_of p) p.header.mode (kept (query_of p) past)
 
--- the runner keeps the panes and the relation of a state of the machine at a mark
-pub record IsAt (mark : ℤ) (r : Runner) (s : State (List Value)) : Type 0 where
+-- the operator keeps the panes and the relation of a state of the machine at a mark
+pub record IsAt (mark : ℤ) (r : WindowOperator) (s : State (List Value)) : Type 0 where
   pub marked : s.admission.mark ≡ mark
   pub panes : s.panes ≡ entries_of r.held
   pub relation : s.relation ≡ last_relation r.streams (entries_of r.held)

@@ -7,7 +7,7 @@ use Rattle.wsm_panes.specs.Held.{entries_of}
 use Rattle.wsm_firing.specs.Streams.{IsTold, standing_rows}
 use Rattle.wsm_firing.proofs.StandingRows.{Panes}
 use Rattle.wsm_firing.proofs.Past.{live_left}
-use Rattle.wsm_firing.proofs.dropping.drop_expired.Goals as goal
+use Rattle.wsm_firing.proofs.operator.WindowOperator.drop_expired.Goals as goal
 
 pub returns-clause-panes : goal.returns-clause-panes
 returns-clause-panes c =
@@ -16,7 +16,7 @@ returns-clause-panes c =
     let limit : ℤ = c.last_expired-limit.result in
     let fits : SFits w64 limit = search rules in
     let live : (w : Window) → IsPlaced w → int_lt limit w.end ≡ is_live w c.args.lateness c.args.mark = simp to_z-of_z at c.last_expired-limit.ensures.live in
-    (simp to_z-of_z at c.drop_expired.ensures.panes) ∙ live_left limit c.args.lateness c.args.mark live (entries_of c.args.held.now) c.requires.placed
+    (simp to_z-of_z at c.drop_expired.ensures.panes) ∙ live_left limit c.args.lateness c.args.mark live (entries_of c.args.self.now.held) c.requires.placed
 
 pub returns-clause-told : goal.returns-clause-told
 returns-clause-told c = λ relation told.

@@ -1,0 +1,23 @@
+use Rattle.std.proofs.Common.{◌≡◌, map, vec_capacity}
+use Rattle.wsm_windows.specs.Places.{at}
+use Rattle.wsm_semantics.specs.Summaries.{all_fired, fires}
+use Rattle.wsm_machine.specs.Meaning.{plan_of, query_of}
+use Rattle.wsm_panes.specs.Held.{IsKept, entries_of}
+use Rattle.wsm_firing.specs.ByRecord.{AreInOrder, kind_at}
+use Rattle.wsm_firing.specs.Streams.{Tells}
+use Rattle.wsm_firing.proofs.LeftToFire.{ComesTo}
+use Rattle.wsm_firing.proofs.operator.WindowOperator.fire_each.Given as goal
+
+-- to fire at the windows that are left comes to firing at all
+abbrev pub invariant-loop-window : goal.invariant-loop-window
+invariant-loop-window l = record {
+  order : AreInOrder (map (at l.key) l.window-iterator);
+  panes : all_fired (plan_of l.verified) (query_of l.verified) (kind_at (query_of l.verified) l.mark (map (at l.key) l.window-iterator)) (entries_of l.self.held)
+      ≡ all_fired (plan_of l.verified) (query_of l.verified) (kind_at (query_of l.verified) l.mark (map (at l.key) l.fn.windows)) (entries_of l.fn.self.held);
+  keeps : IsKept l.fn.self.held l.self.held;
+  tells : Tells l.fn.self.streams l.self.streams (entries_of l.fn.self.held) (entries_of l.self.held);
+  capacity : vec_capacity l.self.rows ≡ vec_capacity l.fn.self.rows;
+  comes : ComesTo l.verified (vec_capacity l.fn.self.rows) l.fn.self.rows.items l.tally l.self.rows.items
+      (fires (query_of l.verified) (kind_at (query_of l.verified) l.mark (map (at l.key) l.window-iterator)) (entries_of l.self.held))
+      (fires (query_of l.verified) (kind_at (query_of l.verified) l.mark (map (at l.key) l.fn.windows)) (entries_of l.fn.self.held));
+}
