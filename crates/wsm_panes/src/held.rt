@@ -149,6 +149,7 @@ impl HeldPanes {
 
     /// The panes of the two sessions that a record of a key and a time joins, where windows are sessions
     /// and it joins two.
+    #[inline(always)]
     pub fn joined(&self, key: u16, time: i64) -> Option<(PaneView<'_>, PaneView<'_>)>
         requires declared { key < self.now.keys }
         requires timely { IsTime time }

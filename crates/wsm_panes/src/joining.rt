@@ -104,7 +104,9 @@ fn enter_joined(
     table.put(to, pane);
 }
 
-/// The panes of the two sessions that a record joins, where it joins two.
+/// The panes of the two sessions that a record joins, where it joins two. Its answer is large, so it
+/// isn't inlined.
+#[inline(never)]
 pub(crate) fn linked_pair<'a>(
     table: &'a ListTable,
     sessions: &Sessions,

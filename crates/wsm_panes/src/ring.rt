@@ -153,6 +153,21 @@ impl Ring {
         self.row(place.start) + place.key as usize
     }
 
+    // The slot of a place, where the row of a window is known. The last record was put into the first of its
+    // windows, so mostly it is that row, and nothing is divided.
+    #[inline(always)]
+    pub(crate) fn slot_beside(self, known: Row, place: Place) -> usize
+        requires ring { IsRing self }
+        requires known { IsRow self known }
+        ensures { result ≡ ring.slot_of self place }
+    {
+        if place.start == known.start {
+            known.slot + place.key as usize
+        } else {
+            self.slot(place)
+        }
+    }
+
     // Whether a place has a window of this shape and one of the keys.
     pub(crate) fn has(self, place: Place) -> bool
         requires { IsRing self }

@@ -221,7 +221,7 @@ impl PaneTable<Pane> for RingTable {
     }
 
     fn find(&self, place: Place) -> Option<Spot> {
-        let at = self.ring.slot(place);
+        let at = self.ring.slot_beside(self.row, place);
         if is_at(&self.slots, at, place) {
             Some(Spot { place, at })
         } else {

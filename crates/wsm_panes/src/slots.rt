@@ -17,7 +17,7 @@ ghost use Rattle.wsm_panes.specs.Walk.{place_found};
 use crate::layout::Slots;
 use crate::pane::Pane;
 use crate::ring::Ring;
-use crate::spot::Spot;
+use crate::spot::{Spot, rebuilt_place};
 use wsm_record::{Kind, Value};
 use wsm_windows::Place;
 
@@ -45,11 +45,11 @@ pub(crate) fn record_in(
             0
         }
         Some(_) => {
-            slots.start(slot, place, values);
+            slots.start(slot, rebuilt_place(place), values);
             0
         }
         None => {
-            slots.start(slot, place, values);
+            slots.start(slot, rebuilt_place(place), values);
             1
         }
     }

@@ -22,9 +22,10 @@ impl Spot {
     pub fn rebuilt(self) -> Spot
         ensures { result ≡ self }
     {
-        let Place { end, start, key } = self.place;
-        let place = Place { end, start, key };
-        Spot { place, at: self.at }
+        Spot {
+            place: rebuilt_place(self.place),
+            at: self.at,
+        }
     }
 
     /// The same of what a call found. A call hands its answer over in memory, where all that is merged with
@@ -38,6 +39,16 @@ impl Spot {
             None => None,
         }
     }
+}
+
+/// The same place, put together anew from its fields, for a call that is seldom made. What it is handed
+/// lies in memory, and the place itself need not.
+#[inline(always)]
+pub(crate) fn rebuilt_place(place: Place) -> Place
+    ensures { result ≡ place }
+{
+    let Place { end, start, key } = place;
+    Place { end, start, key }
 }
 
 /// The spot of an entry at a place that is the one of a number, if its window ends by a limit.

@@ -52,26 +52,26 @@ returns-in-Some-2-clause-slots c =
     let os = c.args.slots.now.slots in let p = c.args.place in
     let e = entry_placed (slot_at os c.args.slot) c.in-Some.other (sym c.place.ensures ∙ c.in-Some.is) in
     let none : pane_of p (slot_at os c.args.slot) ≡ None = rw (e.1, apart_place p c.in-Some.other (λ same. c.if-other-place.false (ap (λ (x : Place). of_z w64 x.start) (sym same)))) refl in
-    c.start.ensures c.args.kinds.now ∙ ap (λ o. let x : Slotted = record c.args.slots.now { slots = set os c.args.slot (Some (p, with_one_more c.args.kinds.now c.args.values.now o)) } in x) (sym none)
+    (rw c.rebuilt_place.ensures at c.start.ensures c.args.kinds.now) ∙ ap (λ o. let x : Slotted = record c.args.slots.now { slots = set os c.args.slot (Some (p, with_one_more c.args.kinds.now c.args.values.now o)) } in x) (sym none)
 
 pub returns-in-Some-2-clause-len : goal.returns-in-Some-2-clause-len
 returns-in-Some-2-clause-len c =
     let os = c.args.slots.now.slots in let p = c.args.place in
     let e = entry_placed (slot_at os c.args.slot) c.in-Some.other (sym c.place.ensures ∙ c.in-Some.is) in
     let new : Place × Pane (List Value) = (p, with_one_more c.args.kinds.now c.args.values.now None) in
-    let slots : c.start.new.self.slots ≡ set os c.args.slot (Some new) = ap (λ s. s.slots) (c.start.ensures c.args.kinds.now) in
+    let slots : c.start.new.self.slots ≡ set os c.args.slot (Some new) = ap (λ s. s.slots) (rw c.rebuilt_place.ensures at c.start.ensures c.args.kinds.now) in
     omega (arith, ap (λ ns. length (held ns)) slots, count_put os c.args.slot new c.requires.slot, ap (λ (o : Option (Place × Pane (List Value))). option_len o) e.1)
 
 pub returns-in-None-clause-slots : goal.returns-in-None-clause-slots
 returns-in-None-clause-slots c =
     let os = c.args.slots.now.slots in let p = c.args.place in
     let none = ap (pane_of p) (none_placed (slot_at os c.args.slot) (sym c.place.ensures ∙ c.in-None.is)) in
-    c.start-in-None.ensures c.args.kinds.now ∙ ap (λ o. let x : Slotted = record c.args.slots.now { slots = set os c.args.slot (Some (p, with_one_more c.args.kinds.now c.args.values.now o)) } in x) (sym none)
+    (rw c.rebuilt_place-in-None.ensures at c.start-in-None.ensures c.args.kinds.now) ∙ ap (λ o. let x : Slotted = record c.args.slots.now { slots = set os c.args.slot (Some (p, with_one_more c.args.kinds.now c.args.values.now o)) } in x) (sym none)
 
 pub returns-in-None-clause-len : goal.returns-in-None-clause-len
 returns-in-None-clause-len c =
     let os = c.args.slots.now.slots in let p = c.args.place in
     let none = none_placed (slot_at os c.args.slot) (sym c.place.ensures ∙ c.in-None.is) in
     let new : Place × Pane (List Value) = (p, with_one_more c.args.kinds.now c.args.values.now None) in
-    let slots : c.start-in-None.new.self.slots ≡ set os c.args.slot (Some new) = ap (λ s. s.slots) (c.start-in-None.ensures c.args.kinds.now) in
+    let slots : c.start-in-None.new.self.slots ≡ set os c.args.slot (Some new) = ap (λ s. s.slots) (rw c.rebuilt_place-in-None.ensures at c.start-in-None.ensures c.args.kinds.now) in
     omega (arith, ap (λ ns. length (held ns)) slots, count_put os c.args.slot new c.requires.slot, ap (λ (o : Option (Place × Pane (List Value))). option_len o) none)

@@ -9,7 +9,7 @@ returns-then-is_at-clause-place c =
     let a = c.self.inside in
     rw (← c.self.view_is) (some_found c.args.place _ (
     ap is_some (get_in a.ring a.slots.slots c.self.invariant.placed c.args.place)
-    ∙ ap (λ n. is_some (pane_of c.args.place (slot_at a.slots.slots n))) (sym c.slot-at.ensures)
+    ∙ ap (λ n. is_some (pane_of c.args.place (slot_at a.slots.slots n))) (sym c.slot_beside-at.ensures)
     ∙ sym c.is_at.ensures ∙ c.if-is_at.true))
 
 pub returns-else-is_at-clause-place : goal.returns-else-is_at-clause-place
@@ -17,8 +17,8 @@ returns-else-is_at-clause-place c =
     let a = c.self.inside in
     rw (← c.self.view_is) (none_found c.args.place _ (
     ap is_some (get_in a.ring a.slots.slots c.self.invariant.placed c.args.place)
-    ∙ ap (λ n. is_some (pane_of c.args.place (slot_at a.slots.slots n))) (sym c.slot-at.ensures)
+    ∙ ap (λ n. is_some (pane_of c.args.place (slot_at a.slots.slots n))) (sym c.slot_beside-at.ensures)
     ∙ sym c.is_at.ensures ∙ c.if-is_at.false))
 
 pub returns-then-is_at-clause-spot : goal.returns-then-is_at-clause-spot
-returns-then-is_at-clause-spot c = rw (← c.self.view_is) c.slot-at.ensures
+returns-then-is_at-clause-spot c = rw (← c.self.view_is) c.slot_beside-at.ensures
