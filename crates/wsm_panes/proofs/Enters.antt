@@ -1,6 +1,6 @@
 -- What it takes to put a record in, for the table and for the sessions of its key.
 use Rattle.std.proofs.Common.{pos, ◌≡◌, ◌≢◌, ◌<◌, ◌≤◌, ◌+◌, ◌⊎◌, ℕ, zero, suc, Bool, true, false, cond, List, [], ◌∷◌, ◌++◌, map, length, get_or, ℤ, Option, Some, None, IfSome, refl, sym, ap, subst, ◌∙◌, inl, inr, arith}
-use Rattle.std.proofs.lemmas.Bool.{true≢false, and_parts}
+use Rattle.std.proofs.lemmas.Bool.{cases_Bool, true≢false, and_parts}
 use Rattle.std.proofs.lemmas.Bool.Decides.{nat_tests}
 use Rattle.std.proofs.lemmas.Option.{slice_get-get_or}
 use Rattle.std.specs.Prelude.{filter, IsTrue, nat_eq, slice_get, slice_set}
@@ -31,6 +31,7 @@ use Rattle.wsm_semantics.specs.Summaries.{Plan, Pane, assigned, entered, joined,
 use Rattle.wsm_semantics.proofs.Lists.{filter-all}
 use Rattle.wsm_semantics.proofs.Each.{all-any, filter_swap, filter-map}
 use Rattle.wsm_sessions.specs.Live.{Live, times_left}
+use Rattle.wsm_semantics.proofs.ManyKeys.{length-filter}
 use Rattle.wsm_panes.specs.Held.{CanEnter, CanEnterWindows, CanJoin, CanJoinAll, CanJoinFolds, CanRecord, CanTake, Held, IsRoomy, entries_of, joins_sessions, ring_of, room_of, session_entered, taking, windows_entered, windows_of_key, with_one_more}
 use Rattle.wsm_panes.specs.Ring.{LieInRing}
 use Rattle.wsm_panes.specs.OfKeys.{AreDropped, AreOfKeys, IsOfKey}
@@ -44,6 +45,14 @@ any_datum kinds values d (Some h) = by h.folded refl where
   by : (o : Option (List Value)) → h.folded ≡ o → with_one_more kinds values (Some h) ≡ with_record (taking kinds values) d (Some h)
   by None is = rw is refl
   by (Some xs) is = rw is refl
+
+-- where as many pass a test as there are, all do
+pub all_left : {X : Type 0} (p : X → Bool) (xs : List X) → length xs ≤ length (filter p xs) → filter p xs ≡ xs
+all_left p [] h = refl
+all_left p (x ∷ xs) h = elim (cases_Bool (p x)) [
+  | inl passes ↦ rw passes (ap (λ l. x ∷ l) (all_left p xs (let long = ap (λ b. length (cond b (x ∷ filter p xs) (filter p xs))) passes in omega (arith, h, long))))
+  | inr stops ↦ let long = ap (λ b. length (cond b (x ∷ filter p xs) (filter p xs))) stops in let few = length-filter p xs in absurd (omega (arith, h, long, few))
+]
 
 -- where windows lie on a grid no sessions are joined, and a record has none
 pub none_joined : (s : Shape) → ((gap : ℤ) → s ≢ Session gap) → (d : Datum) (es : List (Place × Pane (List Value))) → false ≡ joins_sessions s d es

@@ -1,9 +1,9 @@
 -- Slots that go into a row and out of it: each is in the row or free, once.
-use Rattle.std.proofs.Common.{◌≡◌, ◌≢◌, ◌<◌, ◌≤◌, ◌+◌, ℕ, zero, suc, Bool, true, false, cond, Some, List, [], ◌∷◌, ◌++◌, length, length-append, take, drop, refl, sym, ap, ◌∙◌, inl, inr, arith}
-use Rattle.std.proofs.lemmas.Bool.{true≢false, cases_Bool}
+use Rattle.std.proofs.Common.{◌≡◌, ◌≢◌, ◌<◌, ◌≤◌, ◌+◌, ℕ, zero, suc, Bool, true, false, cond, Some, ◌⊎◌, ◌-◌, List, [], ◌∷◌, ◌++◌, get_or, length, length-append, set, take, drop, refl, sym, ap, ◌∙◌, inl, inr, arith}
+use Rattle.std.proofs.lemmas.Bool.{true≢false, cases_Bool, cases_eq}
 use Rattle.std.proofs.lemmas.Bool.Decides.{nat_tests}
-use Rattle.std.proofs.lemmas.List.{take-append-drop}
-use Rattle.std.proofs.lemmas.List.Edits.{length-insert}
+use Rattle.std.proofs.lemmas.List.{ext_get_or, get_or-set_other, get_or-set_same, length-set, take-append-drop}
+use Rattle.std.proofs.lemmas.List.Edits.{get_or-insert_above, get_or-insert_at, get_or-insert_below, length-insert}
 use Rattle.std.specs.Prelude.{insert, nat_eq, nat_lt, slice_get}
 use Rattle.std.specs.List.{remove}
 use Rattle.std.specs.Option.{is_some}
@@ -23,6 +23,20 @@ last_same (z ∷ xs) [] x y h = absurd (let long = ap suc (sym (length-append xs
 last_same (w ∷ xs) (z ∷ ys) x y h = last_same xs ys x y (tails h) where
   tails : w ∷ (xs ++ x ∷ []) ≡ z ∷ (ys ++ y ∷ []) → xs ++ x ∷ [] ≡ ys ++ y ∷ []
   tails k = cc
+
+-- a number is put in where those behind its place were moved a place on
+pub put_between : (row moved : List ℕ) (at s : ℕ) → at ≤ length row → length moved ≡ length row + 1
+    → ((k : ℕ) → k < at → get_or moved k 0 ≡ get_or row k 0) → ((k : ℕ) → at ≤ k → k < length row → get_or moved (k + 1) 0 ≡ get_or row k 0) → set moved at s ≡ insert row at s
+put_between row moved at s within long below above = ext_get_or 0 (set moved at s) (insert row at s) (length-set moved at s ∙ long ∙ sym (length-insert row at s within)) (λ k inside. each k (omega (arith, inside, length-set moved at s, long)) (cases_eq k at)) where
+  behind : (k : ℕ) → at < k → k ≤ length row → (j : ℕ) → k ≡ j + 1 → get_or moved k 0 ≡ get_or (insert row at s) k 0
+  behind k past inside j next = rw next (above j (omega (arith, past, next)) (omega (arith, inside, next)) ∙ sym (get_or-insert_above row at s 0 j (omega (arith, past, next)) within))
+
+  each : (k : ℕ) → k ≤ length row → (k ≡ at) ⊎ (k ≡ at → ⊥) → get_or (set moved at s) k 0 ≡ get_or (insert row at s) k 0
+  each k inside (inl here) = rw here (get_or-set_same moved at s 0 (omega (arith, within, long)) ∙ sym (get_or-insert_at row at s 0 within))
+  each k inside (inr other) = get_or-set_other moved at k s 0 other ∙ (elim (cases_Bool (nat_lt k at)) [
+    | inl less ↦ let first : k < at = grind (arith, nat_tests) in below k first ∙ sym (get_or-insert_below row at s 0 k first within)
+    | inr more ↦ let last : at ≤ k = grind (arith, nat_tests) in let past : at < k = omega (arith, last, other) in behind k past inside (k - 1) (omega (arith, past))
+  ])
 
 pub listed-append : (s : ℕ) (xs ys : List ℕ) → listed s (xs ++ ys) ≡ listed s xs + listed s ys
 listed-append s [] ys = omega arith

@@ -1,6 +1,6 @@
 //! The panes that are held.
 
-ghost use Rattle.std.specs.Prelude.{◌≡◌, ◌≢◌, ◌*◌, ◌<◌, ◌≤◌, ◌≤ℤ◌, ℤ, pos, List, [], length, IfOk, IfSome, IsSome, Some, int_lt, option_map, slice_get};
+ghost use Rattle.std.specs.Prelude.{◌≡◌, ◌≢◌, ◌*◌, ◌<◌, ◌≤◌, ◌≤ℤ◌, ℕ, ℤ, pos, List, [], length, IfOk, IfSome, IsSome, Some, int_lt, option_map, slice_get};
 ghost use Rattle.std.specs.FinMap as map;
 ghost use Rattle.std.specs.FinMap.Entries.{find, put, where_key};
 ghost use Rattle.wsm_windows.specs.Windows.{IsShape, IsTime, greatest_span, period_of, size_of};
@@ -14,6 +14,7 @@ ghost use Rattle.wsm_panes.specs.Held.{CanEnter, IsKept, IsSpot, entries_of, joi
 ghost use Rattle.wsm_panes.specs.HeldState.{AreTables, panes_in, widths_in};
 ghost use Rattle.wsm_panes.specs.Ring.{IsRing};
 ghost use Rattle.wsm_panes.specs.OfKeys.{AreOfKeys, AreDropped};
+ghost use Rattle.wsm_panes.specs.Place.{is_kept};
 ghost use Rattle.wsm_panes.specs.Walk.{first_past, following, place_due, place_found};
 
 use crate::entering::enter_windows;
@@ -260,10 +261,7 @@ impl HeldPanes {
         ensures keeps { IsKept self.old self.new }
     {
         match &mut self.tables {
-            Tables::Sessions(list, sessions) => {
-                list.drop_expired(limit);
-                drop_sessions(sessions, limit);
-            }
+            Tables::Sessions(list, sessions) => drop_from(list, sessions, limit),
             Tables::Grid(ring) => ring.drop_expired(limit),
         }
     }
@@ -338,6 +336,20 @@ fn no_sessions(
         sessions.push_reserved(Sessions::open(alloc, gap, live)?);
     }
     Ok(sessions)
+}
+
+// Drops the panes of sessions that end by a limit, and those sessions, if there are any.
+fn drop_from(list: &mut ListTable, sessions: &mut Vec<Sessions>, limit: i64)
+    ensures panes { list.new.panes ≡ map.retain_keys list.old.panes (is_kept limit) }
+    ensures room { list.new.room ≡ list.old.room }
+    ensures widths { list.new.widths ≡ list.old.widths }
+    ensures sessions { (gap : ℤ) (keys live : ℕ) → AreOfKeys gap keys live (map.entries list.old.panes) sessions.old.items → AreOfKeys gap keys live (map.entries list.new.panes) sessions.new.items }
+{
+    let count = list.len();
+    list.drop_expired(limit);
+    if list.len() < count {
+        drop_sessions(sessions, limit);
+    }
 }
 
 // Drops the sessions of each key that end by a limit.

@@ -77,7 +77,7 @@ impl SlotRow {
         ensures room { self.new.room ≡ self.old.room }
     {
         let slot = self.free.pop().unwrap();
-        self.row.insert(at, slot).unwrap();
+        put_number(&mut self.row, at, slot);
         slot as usize
     }
 
@@ -89,7 +89,8 @@ impl SlotRow {
         ensures left { length self.new.row < self.new.room }
         ensures freed { (slot : ℕ) → slice_get self.old.row at ≡ Some slot → self.new.free ≡ self.old.free ++ slot ∷ [] }
     {
-        let slot = self.row.remove(at);
+        let slot = self.row[at];
+        take_number(&mut self.row, at);
         self.free.push_reserved(slot);
     }
 
@@ -130,6 +131,30 @@ fn add_first(numbers: &mut Vec<u32>, others: &[u32], count: usize)
     for i in 0..count {
         numbers.push_reserved(others[i]);
     }
+}
+
+// Has a number stand at a place, in front of those from there on, which are moved at once.
+fn put_number(numbers: &mut Vec<u32>, at: usize, number: u32)
+    requires at { at ≤ length numbers.old.items }
+    requires room { vec_len numbers.old < vec_capacity numbers.old }
+    ensures items { numbers.new.items ≡ insert numbers.old.items at number }
+    ensures capacity { vec_capacity numbers.new ≡ vec_capacity numbers.old }
+{
+    let len = numbers.len();
+    numbers.push_reserved(number);
+    numbers.copy_within(at..len, at + 1);
+    numbers[at] = number;
+}
+
+// Takes the number at a place out. Those behind it are moved at once.
+fn take_number(numbers: &mut Vec<u32>, at: usize)
+    requires { at < length numbers.old.items }
+    ensures items { numbers.new.items ≡ remove numbers.old.items at }
+    ensures capacity { vec_capacity numbers.new ≡ vec_capacity numbers.old }
+{
+    let left = numbers.len() - 1;
+    numbers.copy_within(at + 1.., at);
+    numbers.truncate(left);
 }
 
 // Drops the first numbers, so many.

@@ -1,11 +1,9 @@
-use Rattle.std.proofs.Common.{ap, sym, subst, ◌∙◌, SFits, w64, to_z-of_z}
+use Rattle.std.proofs.Common.{ap, ◌∙◌, SFits, w64, to_z-of_z}
 use Rattle.std.specs.FinMap as map
 use Rattle.std.specs.FinMap.Entries.{where_key}
 use Rattle.wsm_windows.specs.Places.{place_cmp}
-use Rattle.wsm_panes.specs.OfKeys.{AreOfKeys}
 use Rattle.wsm_panes.specs.Place.{is_kept}
 use Rattle.wsm_panes.proofs.Tables.{entries_kept}
-use Rattle.wsm_panes.proofs.Enters.{keys_dropped}
 use Rattle.wsm_panes.proofs.held.HeldPanes.drop_expired.Goals as goal
 use Rattle.wsm_panes.proofs.held.HeldPanes.drop_expired.Goals.{in-Sessions, in-Grid}
 
@@ -14,29 +12,19 @@ invariant_of-self c =
     let limit : SFits w64 c.args.limit = c.ranges.limit in
     elim c.match-self.branch [
       | in-Sessions w ↦
-          let a = c.self.inside in
-          let m = w.in-Sessions.list.panes in
           let h = rw w.in-Sessions.is at c.self.invariant.tables in
-          let left = ap map.entries (simp to_z-of_z at w.drop_expired.ensures.panes) ∙ entries_kept m (is_kept c.args.limit) in
           rw w.self-inside-is (record {
             shape = c.self.invariant.shape;
-            tables = record {
-              gap = h.gap;
-              shape_is = h.shape_is;
-              room = ap (λ r. r.0) w.drop_expired.ensures.room ∙ h.room;
-              of_keys =
-                  subst (λ es. AreOfKeys h.gap a.keys a.live es w.drop_sessions.new.sessions.items) (sym left)
-                  (keys_dropped c.args.limit h.gap a.keys a.live (map.entries m) w.in-Sessions.sessions.items w.drop_sessions.new.sessions.items h.of_keys (simp to_z-of_z at w.drop_sessions.ensures));
-            };
+            tables = record { gap = h.gap; shape_is = h.shape_is; room = w.drop_from.ensures.room ∙ h.room; of_keys = w.drop_from.ensures.sessions h.gap c.self.inside.keys c.self.inside.live h.of_keys };
           })
       | in-Grid w ↦
           let h = rw w.in-Grid.is at c.self.invariant.tables in
-          let left = ap map.entries (simp to_z-of_z at w.drop_expired-in-Grid.ensures.panes) ∙ entries_kept w.in-Grid.ring.panes (is_kept c.args.limit) in
+          let left = ap map.entries (simp to_z-of_z at w.drop_expired.ensures.panes) ∙ entries_kept w.in-Grid.ring.panes (is_kept c.args.limit) in
           rw w.self-inside-is (record {
             shape = c.self.invariant.shape;
             tables = record {
               grid = h.grid;
-              ring_is = λ some. ap (λ r. r.0) w.drop_expired-in-Grid.ensures.room ∙ h.ring_is some;
+              ring_is = λ some. ap (λ r. r.0) w.drop_expired.ensures.room ∙ h.ring_is some;
               none = λ zero. left ∙ ap (where_key place_cmp (is_kept c.args.limit)) (h.none zero);
             };
           })
@@ -46,6 +34,6 @@ pub returns-clause-panes : goal.returns-clause-panes
 returns-clause-panes c =
     let limit : SFits w64 c.args.limit = c.ranges.limit in
     elim c.match-self.branch [
-      | in-Sessions w ↦ rw (w.self-inside-is, ← c.self.view_is, w.in-Sessions.is) (ap map.entries (simp to_z-of_z at w.drop_expired.ensures.panes) ∙ entries_kept w.in-Sessions.list.panes (is_kept c.args.limit))
-      | in-Grid w ↦ rw (w.self-inside-is, ← c.self.view_is, w.in-Grid.is) (ap map.entries (simp to_z-of_z at w.drop_expired-in-Grid.ensures.panes) ∙ entries_kept w.in-Grid.ring.panes (is_kept c.args.limit))
+      | in-Sessions w ↦ rw (w.self-inside-is, ← c.self.view_is, w.in-Sessions.is) (ap map.entries (simp to_z-of_z at w.drop_from.ensures.panes) ∙ entries_kept w.in-Sessions.list.panes (is_kept c.args.limit))
+      | in-Grid w ↦ rw (w.self-inside-is, ← c.self.view_is, w.in-Grid.is) (ap map.entries (simp to_z-of_z at w.drop_expired.ensures.panes) ∙ entries_kept w.in-Grid.ring.panes (is_kept c.args.limit))
     ]

@@ -10,9 +10,8 @@ invariant_of-self c =
     let slot = c.unwrap-slot.result in
     let all : a.free.items ≡ left ++ slot ∷ [] = c.pop.ensures.items ∙ ap (λ o. left ++ option_to_list o) c.unwrap-slot.ensures in
     let fits : c.args.at ≤ length a.row.items = rw (← c.self.view_is) at c.requires.at in
-    let put : c.insert.new.self.items ≡ insert a.row.items c.args.at slot = search rules in
-    let capacity : vec_capacity c.insert.new.self ≡ vec_capacity a.row = search rules in
-    (rw (capacity, put) (taken_apart _ _ _ c.self.invariant.0 left slot all c.args.at fits), c.pop.ensures.capacity ∙ c.self.invariant.1 ∙ sym capacity)
+    let capacity : vec_capacity c.put_number.new.numbers ≡ vec_capacity a.row = c.put_number.ensures.capacity in
+    (rw (capacity, c.put_number.ensures.items) (taken_apart _ _ _ c.self.invariant.0 left slot all c.args.at fits), c.pop.ensures.capacity ∙ c.self.invariant.1 ∙ sym capacity)
 
 pub returns-clause-fresh : goal.returns-clause-fresh
 returns-clause-fresh c =
