@@ -16,17 +16,16 @@ use wsm_windows::PaneKind;
 /// The most bytes of the first cells of a pane's row, with a comma.
 pub(crate) const FIRST: usize = 13;
 
-/// The most bytes of the line of a pane whose columns are a few numbers.
-pub(crate) const LINE: usize = FIRST + MAX_NAME + CELLS + 1;
+// The most bytes of the line of a pane whose columns are a few numbers.
+const LINE: usize = FIRST + MAX_NAME + CELLS + 1;
 
 /// Adds the line of a pane with a short name, whose columns are a few numbers. The text is that of its
-/// window, and the line is put together in a buffer.
+/// window.
 pub(crate) fn add_short_line(
     kind: PaneKind,
     name: &[u8],
     window: &WindowText,
     numbers: &[Cell],
-    line: &mut [u8; LINE],
     out: &mut Vec<u8>,
 ) -> Result<(), AllocError>
     requires name { length name.now ≤ MAX_NAME }
@@ -34,11 +33,11 @@ pub(crate) fn add_short_line(
     requires few { length numbers.now ≤ TOGETHER }
     ensures { OnOk result (out.new.items ≡ out.old.items ++ ((codes "pane" ++ 44 ∷ text.kind_word kind ++ 44 ∷ []) ++ (name.now ++ (cells_text (window_cells window.now ++ map number_text numbers.now) ++ 10 ∷ [])))) }
 {
-    line[LINE - 1] = b'\n';
-    let columns = write_numbers(numbers, line, LINE - 1);
-    let start = window.write(line, columns);
-    let key = write_text(name, line, start);
-    let first = write_first(kind, line, key);
+    let mut line = [b'\n'; LINE];
+    let columns = write_numbers(numbers, &mut line, LINE - 1);
+    let start = window.write(&mut line, columns);
+    let key = write_text(name, &mut line, start);
+    let first = write_first(kind, &mut line, key);
     out.extend_from_slice(&line[first..])
 }
 

@@ -14,7 +14,7 @@ ghost use Rattle.wsm_csv.specs.Lines.{cells_text, is_a_number, number_text};
 
 use crate::few_numbers::{CELLS, TOGETHER, are_few_numbers, count_numbers, write_numbers};
 use crate::from_end::{CELL, write_cell};
-use crate::short_line::{FIRST, LINE, add_short_line, write_first};
+use crate::short_line::{FIRST, add_short_line, write_first};
 use crate::window_text::WindowText;
 use itoa::Buffer;
 use std::alloc::AllocError;
@@ -40,7 +40,8 @@ pub fn rows_text(schema: &Schema, rows: &[OutRow], out: &mut Vec<u8>) -> Result<
 pub fn row_text(schema: &Schema, row: &OutRow, out: &mut Vec<u8>) -> Result<(), AllocError>
     ensures { OnOk result (out.new.items ≡ out.old.items ++ text.line_text schema.now (Out row.now)) }
 {
-    add_line(schema, row, &mut no_window(), &mut [0; LINE], out)
+    let mut last = no_window();
+    add_line(schema, row, &mut last, out)
 }
 
 /// Adds the line of a row that is no event.
@@ -75,9 +76,8 @@ fn add_rows(schema: &Schema, rows: &[OutRow], out: &mut Vec<u8>) -> Result<(), A
     ensures { OnOk result (out.new.items ≡ out.old.items ++ text.lines_text schema.now (map Out rows.now)) }
 {
     let mut last = no_window();
-    let mut line = [0; LINE];
     for row in rows {
-        add_line(schema, row, &mut last, &mut line, out)?;
+        add_line(schema, row, &mut last, out)?;
     }
     Ok(())
 }
@@ -87,14 +87,12 @@ fn no_window() -> WindowText {
     WindowText::of(Window { start: 0, end: 0 })
 }
 
-// The line of a row. The text is that of the window that was written last, and a short line is put
-// together in the buffer.
+// The line of a row. The text is that of the window that was written last.
 #[inline(always)]
 fn add_line(
     schema: &Schema,
     row: &OutRow,
     last: &mut WindowText,
-    line: &mut [u8; LINE],
     out: &mut Vec<u8>,
 ) -> Result<(), AllocError>
     ensures { OnOk result (out.new.items ≡ out.old.items ++ text.line_text schema.now (Out row.now)) }
@@ -110,7 +108,7 @@ fn add_line(
         let columns = columns.as_slice();
         if name.len() <= MAX_NAME && are_few_numbers(columns) {
             last.set(*window);
-            return add_short_line(*kind, name, last, columns, line, out);
+            return add_short_line(*kind, name, last, columns, out);
         }
     }
     add_row(schema, row, out)?;
