@@ -42,7 +42,8 @@ totals_of q past = record {
 abbrev pub KeepsRelation : Form → Type 0
 KeepsRelation form.Istream = Unit {0}
 KeepsRelation form.Dstream = Unit {0}
-KeepsRelation _ = ⊥
+KeepsRelation form.Rstream = ⊥
+KeepsRelation form.Panes = ⊥
 
 -- what is kept is the history's; a relation is kept where changes against it are written
 pub record Fits (s : State) (past : List Event) : Type 0 where

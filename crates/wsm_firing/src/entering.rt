@@ -54,7 +54,9 @@ pub fn enter(
     retract_joined(header.mode, held, rows, arrival.key, arrival.time);
     match streams.form() {
         Form::Panes => {}
-        _ => lose_joined(streams, held, arrival.key, arrival.time),
+        Form::Istream | Form::Dstream | Form::Rstream => {
+            lose_joined(streams, held, arrival.key, arrival.time);
+        }
     }
     held.enter(
         &header.kinds,

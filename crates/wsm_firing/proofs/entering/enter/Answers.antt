@@ -15,7 +15,7 @@ use Rattle.wsm_firing.proofs.StreamRows.{told_same, told_of_panes}
 use Rattle.wsm_firing.proofs.StandingRows.{Panes}
 use Rattle.wsm_firing.proofs.RowsAfterRecord.{count_entered, unmarked}
 use Rattle.wsm_firing.proofs.entering.enter.Goals as goal
-use Rattle.wsm_firing.proofs.entering.enter.Goals.{in-Panes, in_default}
+use Rattle.wsm_firing.proofs.entering.enter.Goals.{in-Panes, in-Istream}
 
 pub returns-clause-told : goal.returns-clause-told
 returns-clause-told c = λ relation told.
@@ -27,7 +27,7 @@ returns-clause-told c = λ relation told.
       | in-Panes w ↦
           subst (λ (t : Told). IsTold t relation (standing_rows after)) (sym w.streams-is)
           (told_of_panes s.form s.numbers s.rows relation (standing_rows es) (standing_rows after) (sym c.form.ensures ∙ w.in-Panes.is) told)
-      | in_default w ↦
+      | in-Istream w ↦
           let t = w.lose_joined.new.streams in
           let lost : IsTold t relation (rows_with held.shape d es) = w.lose_joined.ensures.told relation told in
           subst (λ (t : Told). IsTold t relation (standing_rows after)) (sym w.streams-is)
