@@ -1,5 +1,5 @@
 -- Edits of a sorted list of entries, and what they do to the map that it stands for.
-use Rattle.std.proofs.Common.{◌≡◌, ◌≢◌, ℕ, ◌<◌, ◌≤◌, List, [], ◌∷◌, length, get_or, Bool, true, false, Some, refl, sym, ap, subst, ◌∙◌, inl, inr, arith}
+use Rattle.std.proofs.Common.{◌≡◌, ◌≢◌, ℕ, ℤ, SFits, w64, to_z, of_z, ◌<◌, ◌≤◌, List, [], ◌∷◌, length, get_or, Bool, true, false, Some, refl, sym, ap, subst, ◌∙◌, inl, inr, arith}
 use Rattle.std.specs.Prelude.{◌&&◌, nat_eq}
 use Rattle.std.specs.Bool.{Decides}
 use Rattle.std.specs.declared.cmp.Ordering.{Ordering}
@@ -7,6 +7,7 @@ use Rattle.std.specs.declared.cmp.Ordering.TheVariants.{Less, Equal, Greater}
 use Rattle.std.specs.Ordering.{int_eq, is_gt, eq_by_cmp}
 use Rattle.std.specs.Cmp.{tied_itself}
 use Rattle.std.specs.FinMap.{find, is_sorted}
+use Rattle.std.proofs.lemmas.Int.{to_z-of_z}
 use Rattle.std.proofs.lemmas.List.{get_or_default}
 use Rattle.wsm_panes.specs.Search.{IsAt, IsGapFor}
 use Rattle.wsm_panes.proofs.Sorted.{find_absent, find_over, put_over, put_between, reaches, stops, before_within}
@@ -16,6 +17,10 @@ use Rattle.wsm_panes.specs.Place.{before}
 use Rattle.wsm_windows.proofs.Places.{places_total, places_exact, tie_is}
 use Rattle.wsm_windows.specs.declared.place.Place.{Place}
 use Rattle.wsm_windows.specs.Places.{place_cmp}
+
+-- times whose words are the same are the same
+pub same_time : (a b : ℤ) → SFits w64 a → SFits w64 b → of_z w64 a ≡ of_z w64 b → a ≡ b
+same_time a b fits other is = sym (to_z-of_z w64 a fits) ∙ ap (to_z w64) is ∙ to_z-of_z w64 b other
 
 apart : (p q : Place) → place_cmp p q ≡ Less → q ≢ p
 apart p q less same = let tie : Less ≡ Equal = sym less ∙ rw same (tied_itself places_total p) in cc

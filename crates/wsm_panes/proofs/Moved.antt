@@ -1,9 +1,8 @@
 -- A record put into its session: the panes that it is linked to come to one pane, at the place of the session with it.
 use Rattle.std.proofs.Common.{pos, ◌≡◌, List, [], ◌∷◌, ℕ, ℤ, ◌+ℤ◌, ◌≤ℤ◌, Bool, true, false, ◌&&◌, cond, Some, None, refl, sym, ap, subst, ◌∙◌, arith, length}
 use Rattle.std.proofs.lemmas.Int.{ints}
-use Rattle.std.proofs.lemmas.Bool.Decides.{nat_tests}
 use Rattle.std.proofs.lemmas.Option.{same_Some}
-use Rattle.std.specs.Prelude.{filter, IfSome, IsSome, int_lt, nat_eq, nat_lt, not}
+use Rattle.std.specs.Prelude.{filter, IfSome, IsSome, int_lt, nat_lt, not}
 use Rattle.std.specs.Int.{int_max, int_min}
 use Rattle.std.specs.Ordering.{eq_by_cmp}
 use Rattle.std.specs.FinMap.{FinMap, entries, get, insert, remove, retain_keys, get-insert, get-remove, get-retain_keys, same_map}
@@ -19,6 +18,7 @@ use Rattle.wsm_semantics.specs.Sessions.{links, session_of}
 use Rattle.wsm_semantics.specs.Kept.{is_linked}
 use Rattle.wsm_semantics.specs.Summaries.{Pane, Plan, joined, joined_all, linked}
 use Rattle.wsm_panes.specs.Held.{CanJoin, CanJoinAll, CanRecord, taking, windows_of_key, with_one_more}
+use Rattle.wsm_semantics.proofs.Each.{itself}
 use Rattle.wsm_panes.proofs.Enters.{any_datum}
 use Rattle.wsm_panes.proofs.Merged.{Puts, parts_at}
 use Rattle.wsm_panes.proofs.Tables.{alike}
@@ -59,11 +59,8 @@ module _ (kinds : List Kind) (values : List Value) (gap : ℤ) (long : pos 1 ≤
   pub absent : (left : FinMap place_cmp (Pane (List Value))) → left ≡ retain_keys m far → get left to ≡ None
   absent left is =
       let its = session_linked gap t long (filter (links gap t) ws) in
-      let linked_to : is_linked gap it to ≡ true = ap (is_linked gap it) to_is ∙ (λ i. same_number key i && (its.0 i && its.1 i)) in
+      let linked_to : is_linked gap it to ≡ true = ap (is_linked gap it) to_is ∙ (λ i. itself key i && (its.0 i && its.1 i)) in
       ap (λ n. get n to) is ∙ get-retain_keys m far to (alike far to) ∙ ap (λ b. cond (not b) (get m to) None) linked_to
-    where
-      same_number : (n : ℕ) → nat_eq n n ≡ true
-      same_number n = grind (arith, nat_tests)
 
   -- the record is linked to no session
   module _ (none : [] ≡ filter (links gap t) ws) where

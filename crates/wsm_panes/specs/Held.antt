@@ -1,5 +1,5 @@
 -- The panes that are held, and what a record does to them.
-use Rattle.std.specs.Prelude.{◌≡◌, ◌≢◌, ℕ, ◌+◌, ◌*◌, ◌^◌, ◌≤◌, ◌<◌, Bool, true, IsTrue, List, [], ◌∷◌, length, map as map_list, filter, nat_eq, nat_lt, false, ℤ, pos, Option, Some, None, IfSome, refl}
+use Rattle.std.specs.Prelude.{◌≡◌, ◌≢◌, ℕ, ◌+◌, ◌*◌, ◌^◌, ◌≤◌, ◌<◌, Bool, true, IsTrue, List, [], ◌∷◌, length, map as map_list, filter, nat_eq, false, ℤ, pos, Option, Some, None, IfSome, refl}
 use Rattle.std.specs.List.{AllByRecursion}
 use Rattle.std.specs.Coded.{Coded, code_by, coded×, coded_ℕ}
 use Rattle.std.specs.FinMap as map

@@ -1,9 +1,8 @@
 -- Tests over a list that a function was mapped over.
-use Rattle.std.proofs.Common.{◌≡◌, ◌∙◌, ◌+◌, ◌||◌, ℕ, zero, Bool, not, cond, List, [], ◌∷◌, map, length, position, refl, ap, sym, true, false, ◌<◌, ◌++◌, suc, take, drop, get_or, add-one, arith}
+use Rattle.std.proofs.Common.{◌≡◌, ◌∙◌, ◌+◌, ◌||◌, ℕ, zero, Bool, not, cond, List, [], ◌∷◌, map, length, position, refl, ap, sym, true, false, ◌<◌, ◌++◌, suc, arith}
 use Rattle.std.specs.Prelude.{Some, slice_get, bytes_eq}
 use Rattle.wsm_record.specs.Name.{is_among, repeats_after}
-use Rattle.std.proofs.lemmas.List.{length-map, take_more}
-use Rattle.std.proofs.Math.Seq.{drop-cons}
+use Rattle.std.proofs.lemmas.List.{length-map}
 use Rattle.std.proofs.lemmas.List.Folds.{list_any-append}
 use Rattle.std.proofs.lemmas.Slice.Eq.{bytes_eq-Decides}
 use Rattle.std.proofs.lemmas.Bool.{lt-ltb}
@@ -20,16 +19,6 @@ prefix_len-map p f (x ∷ xs) = ap (λ n. cond (p (f x)) (1 + n) 0) (prefix_len-
 pub position-map : {X Y : Type 0} (p : Y → Bool) (f : X → Y) (xs : List X) → position p (map f xs) ≡ position (λ x. p (f x)) xs
 position-map {X} {Y} p f xs =
     rw (prefix_len-map (λ y. not (p y)) f xs, length-map {A = X} {B = Y}) refl
-
--- a name more before those that are looked at
-pub repeats_after-next : (names : List (List ℕ)) (i : ℕ) (x : List ℕ) → i < length names → x ≡ get_or names i x →
-    repeats_after (take i names) (drop i names) ≡ (is_among x (take i names) || repeats_after (take (i + 1) names) (drop (i + 1) names))
-repeats_after-next names i x h e =
-    let rest : drop i names ≡ x ∷ drop (suc i) names = drop-cons names i x h ∙ ap (λ y. y ∷ drop (suc i) names) (sym e) in
-    let more : take i names ++ x ∷ [] ≡ take (i + 1) names = ap (λ y. take i names ++ y ∷ []) e ∙ sym (take_more names i x h) in
-    ap (repeats_after (take i names)) rest
-    ∙ ap (λ (before : List (List ℕ)). is_among x (take i names) || repeats_after before (drop (suc i) names)) more
-    ∙ ap (λ (n : ℕ). is_among x (take i names) || repeats_after (take (i + 1) names) (drop n names)) (sym (add-one i))
 
 pub not-false : (a b : Bool) → a ≡ not b → a ≡ false → b ≡ true
 not-false a true e h = refl

@@ -1,7 +1,7 @@
 -- Words of short texts, and guesses of their numbers.
 use Rattle.std.proofs.Common.{◌≡◌, ◌∙◌, ◌<◌, ◌≤◌, ◌++◌, ℕ, zero, suc, List, [], ◌∷◌, length, get_or, refl, sym, ap, subst, arith}
 use Rattle.std.specs.Prelude.{Some, slice_get}
-use Rattle.std.proofs.Math.ListN.{set, replicate, length-replicate}
+use Rattle.std.proofs.Math.ListN.{replicate, length-replicate}
 use Rattle.std.proofs.lemmas.List.{get_or-replicate}
 use Rattle.std.proofs.lemmas.Option.{get_or_from_slice_get, slice_get_within}
 use Rattle.wsm_record.specs.Guesses.{AreBytes, AreGuesses, IsGuess, spelled}
@@ -27,14 +27,6 @@ spelled_injective (a ∷ more) (b ∷ bs) f g e =
 -- a guess for the name of a number
 pub guess_is : (names : List (List ℕ)) (name : List ℕ) (guess : Guess) → AreBytes name → slice_get names guess.number ≡ Some name → guess.word ≡ spelled name → IsGuess names guess
 guess_is names name guess f at word = λ text g e. at ∙ ap Some (spelled_injective name text f g (sym (e ∙ word)))
-
--- guesses of which one is made anew
-pub guesses_set : (names : List (List ℕ)) (guesses : List Guess) (i : ℕ) (guess : Guess) → AreGuesses names guesses → IsGuess names guess → AreGuesses names (set guesses i guess)
-guesses_set names [] i guess all is j g e = absurd cc
-guesses_set names (x ∷ xs) zero guess all is zero g e = let same : guess ≡ g = cc in subst (IsGuess names) same is
-guesses_set names (x ∷ xs) zero guess all is (suc j) g e = all (suc j) g e
-guesses_set names (x ∷ xs) (suc i) guess all is zero g e = all zero g e
-guesses_set names (x ∷ xs) (suc i) guess all is (suc j) g e = guesses_set names xs i guess (λ k. all (suc k)) is j g e
 
 -- no text has the word 0
 pub none_guessed : (names : List (List ℕ)) (guess : Guess) → guess.word ≡ 0 → IsGuess names guess

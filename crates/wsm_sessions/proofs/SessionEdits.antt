@@ -9,14 +9,14 @@ use Rattle.std.specs.List.Sorted.{IsPartitionedBy}
 use Rattle.std.proofs.lemmas.Option.{same_Some}
 use Rattle.wsm_windows.specs.declared.window.Window.{Window}
 use Rattle.wsm_windows.specs.Windows.{window}
-use Rattle.wsm_semantics.specs.Sessions.{ends_by, starts_from, links, session_of, with_session}
+use Rattle.wsm_semantics.specs.Sessions.{ends_by, starts_from, links, with_session}
 use Rattle.wsm_semantics.proofs.Each.{passed}
 use Rattle.wsm_semantics.proofs.Sessions.{StartFrom, AreApart, sessions_apart}
 use Rattle.wsm_semantics.proofs.SessionTimes.{apart-filter, linked_all, two_at_most}
 use Rattle.wsm_semantics.proofs.SessionOrder.{in_order, begins, extends, joins}
 use Rattle.wsm_sessions.specs.Live.{IsOfTimes}
 use Rattle.wsm_sessions.specs.declared.placed.Placed.TheVariants.{New, Extends, Joins}
-use Rattle.wsm_sessions.specs.Placing.{starts_before, placed, placed_at, place_of, joined_at}
+use Rattle.wsm_sessions.specs.Placing.{starts_before, placed, placed_at, joined_at}
 use Rattle.wsm_sessions.proofs.Seams.{any_passes, insert_seam, get_seam, get_behind, set_seam, within_seam, within_behind}
 
 -- ---- where windows start
@@ -79,22 +79,6 @@ joins_is n i [] le h = absurd (cc)
 joins_is n i (w ∷ []) le h = absurd (cc)
 joins_is n i (w ∷ v ∷ []) le h = (cc, (w, (v, refl)))
 joins_is n i (w ∷ v ∷ x ∷ ls) le h = absurd (omega arith)
-
-its_place : (n : ℕ) (ls : List Window) → place_of (placed_at n ls) ≡ n
-its_place n [] = refl
-its_place n (w ∷ []) = refl
-its_place n (w ∷ v ∷ ls) = refl
-
-some_seam : (xs ys : List Window) (y : Window) → slice_get (xs ++ y ∷ ys) (length xs) ≡ Some y
-some_seam [] ys y = refl
-some_seam (x ∷ xs) ys y = some_seam xs ys y
-
--- the session that holds the time now, at its place
-pub session_at : (gap t : ℤ) (ws : List Window) → slice_get (with_session gap t ws) (place_of (placed gap t ws)) ≡ Some (session_of gap t (filter (links gap t) ws))
-session_at gap t ws =
-    let ended = filter (ends_by t) ws in
-    let linked = filter (links gap t) ws in
-    ap (slice_get (with_session gap t ws)) (its_place (length ended) linked) ∙ some_seam ended (filter (starts_from (t +ℤ gap)) ws) (session_of gap t linked)
 
 -- ---- ends rise
 
@@ -245,9 +229,6 @@ module _ (gap : ℤ) (long : pos 1 ≤ℤ gap) (t : ℤ) where
         (omega (arith, next, within), ap (joined_at ws) (sym at.0) ∙ ap (λ (vs : List Window). joined_at vs (length ended)) parts.0 ∙ joined_seam ended later w v ∙ sym parts.1)
 
     -- ---- those that it is linked to, at their places
-
-    pub none_linked : (i : ℕ) → placed gap t ws ≡ New i → linked ≡ []
-    none_linked i h = (new_is (length ended) i linked h).1
 
     pub linked_one : (i : ℕ) → placed gap t ws ≡ Extends i → (d : Window) → get_or ws i d ∷ [] ≡ linked
     linked_one i h d =

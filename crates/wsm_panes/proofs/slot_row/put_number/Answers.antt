@@ -1,4 +1,4 @@
-use Rattle.std.proofs.Common.{◌≡◌, ◌+◌, ◌-◌, ◌<◌, ◌≤◌, ◌++◌, ◌∷◌, [], ℕ, ap, ◌∙◌, arith, get_or, length, length-append}
+use Rattle.std.proofs.Common.{◌≡◌, ◌+◌, ◌-◌, ◌<◌, ◌∷◌, [], ℕ, ap, ◌∙◌, arith, get_or, length, length-append}
 use Rattle.std.proofs.lemmas.List.{get_or_append_left}
 use Rattle.wsm_panes.proofs.SlotRows.{put_between}
 use Rattle.wsm_panes.proofs.slot_row.put_number.Goals as goal

@@ -1,5 +1,4 @@
-use Rattle.std.proofs.Common.{◌≡◌, ℤ, SFits, w64, to_z, of_z, rules, Option, Some, None, List, refl, length, set, arith, ap, subst, sym, ◌∙◌}
-use Rattle.std.proofs.lemmas.Int.{to_z-of_z}
+use Rattle.std.proofs.Common.{◌≡◌, w64, of_z, rules, Option, Some, None, List, refl, length, set, arith, ap, subst, sym, ◌∙◌}
 use Rattle.std.specs.Option.{is_some, option_len}
 use Rattle.std.specs.Prelude.{IfSome, option_map}
 use Rattle.wsm_record.specs.declared.event.Value.{Value}
@@ -8,12 +7,9 @@ use Rattle.wsm_semantics.specs.Summaries.{Pane}
 use Rattle.wsm_panes.specs.Held.{CanRecord, with_one_more}
 use Rattle.wsm_panes.specs.Layout.{Slotted}
 use Rattle.wsm_panes.specs.Ring.{held, pane_of, slot_at}
-use Rattle.wsm_panes.proofs.Entries.{apart_place}
+use Rattle.wsm_panes.proofs.Entries.{apart_place, same_time}
 use Rattle.wsm_panes.proofs.Placed.{count_put, entry_placed, none_placed, pane_here}
 use Rattle.wsm_panes.proofs.slots.record_in.Goals as goal
-
-same_time : (a b : ℤ) → SFits w64 a → SFits w64 b → of_z w64 a ≡ of_z w64 b → a ≡ b
-same_time a b fits other is = sym (to_z-of_z w64 a fits) ∙ ap (to_z w64) is ∙ to_z-of_z w64 b other
 
 pub record-requires-clause-there : goal.record-requires-clause-there
 record-requires-clause-there c =

@@ -1,5 +1,5 @@
-use Rattle.std.proofs.Common.{◌≡◌, ◌≤◌, ◌++◌, ◌∷◌, [], ap, sym, ◌∙◌, length, rules}
-use Rattle.std.specs.Prelude.{insert, option_to_list, vec_capacity}
+use Rattle.std.proofs.Common.{◌≡◌, ◌≤◌, ◌++◌, ◌∷◌, [], ap, sym, ◌∙◌, length}
+use Rattle.std.specs.Prelude.{option_to_list, vec_capacity}
 use Rattle.wsm_panes.proofs.SlotRows.{below, fresh, taken_apart}
 use Rattle.wsm_panes.proofs.slot_row.SlotRow.insert.Goals as goal
 
