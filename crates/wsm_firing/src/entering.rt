@@ -69,8 +69,23 @@ pub fn enter(
 }
 
 // Tells the streams which rows stand no more once a record is put in.
-#[inline(never)]
 fn lose_joined(streams: &mut Streams, held: &HeldPanes, key: u16, time: i64)
+    requires declared { key < held.now.keys }
+    requires timely { IsTime time }
+    requires tells { CanTell streams.old (entries_of held.now) }
+    ensures told { (relation : List (List Cell)) → IsTold streams.old relation (standing_rows (entries_of held.now)) → IsTold streams.new relation (rows_with held.now.shape (datum 0 (pos 0) key time []) (entries_of held.now)) }
+    ensures alike { AreAlike streams.old streams.new }
+    ensures few { (gap : ℤ) → held.now.shape ≡ Session gap → length (linked gap (datum 0 (pos 0) key time []) (entries_of held.now)) ≤ 2 }
+    ensures shape { IsShape held.now.shape }
+{
+    if held.has_sessions() {
+        lose_linked(streams, held, key, time);
+    }
+}
+
+// The same where windows are sessions. Its frame is large, so it isn't inlined.
+#[inline(never)]
+fn lose_linked(streams: &mut Streams, held: &HeldPanes, key: u16, time: i64)
     requires declared { key < held.now.keys }
     requires timely { IsTime time }
     requires tells { CanTell streams.old (entries_of held.now) }

@@ -140,7 +140,7 @@ impl Streams {
         ensures alike { AreAlike self.old self.new }
     {
         if let Some(row) = pane.standing_row() {
-            self.lose_row(row);
+            self.lose_row(&row);
         }
     }
 
@@ -167,31 +167,31 @@ impl Streams {
         ensures alike { AreAlike self.old self.new }
     {
         if let Some(cells) = row {
-            self.gain_row(Columns::of(cells));
+            self.gain_row(&Columns::of(cells));
         }
     }
 
-    fn lose_row(&mut self, row: Columns)
-        requires { CanLose self.old (Some row) }
-        ensures told { (before now : List (List Cell)) → IsTold self.old before (row ∷ now) → IsTold self.new before now }
+    fn lose_row(&mut self, row: &Columns)
+        requires { CanLose self.old (Some row.now) }
+        ensures told { (before now : List (List Cell)) → IsTold self.old before (row.now ∷ now) → IsTold self.new before now }
         ensures alike { AreAlike self.old self.new }
     {
         match &mut self.kept {
             Kept::Nothing => {}
             Kept::Changed(_, changes) => changes.minus(row),
-            Kept::Rows(relation) => relation.remove(&row),
+            Kept::Rows(relation) => relation.remove(row),
         }
     }
 
-    fn gain_row(&mut self, row: Columns)
-        requires { CanGain self.old (Some row) }
-        ensures told { (before now : List (List Cell)) → IsTold self.old before now → IsTold self.new before (row ∷ now) }
+    fn gain_row(&mut self, row: &Columns)
+        requires { CanGain self.old (Some row.now) }
+        ensures told { (before now : List (List Cell)) → IsTold self.old before now → IsTold self.new before (row.now ∷ now) }
         ensures alike { AreAlike self.old self.new }
     {
         match &mut self.kept {
             Kept::Nothing => {}
             Kept::Changed(_, changes) => changes.plus(row),
-            Kept::Rows(relation) => relation.add(row),
+            Kept::Rows(relation) => relation.add(*row),
         }
     }
 

@@ -85,6 +85,10 @@ once_fired mode place row h = record h { unshown = 0; folded = left_folded mode 
 abbrev pub with_entered : List Kind → ℕ → ℤ → List Value → ℤ → ℤ → Held → List (Place × Pane (List Value))
 with_entered kinds key time values lateness mark h = entered (taking kinds values) h.shape lateness (datum 0 mark key time []) (entries_of h)
 
+abbrev pub are_sessions : Shape → Bool
+are_sessions (Session gap) = true
+are_sessions shape = false
+
 -- how many windows a record is put into at a mark
 abbrev pub windows_entered : Shape → ℤ → ℤ → ℤ → ℕ
 windows_entered (Session gap) time lateness mark = 1

@@ -10,7 +10,7 @@ ghost use Rattle.wsm_semantics.specs.Summaries.{Pane as AnyPane, linked};
 ghost use Rattle.wsm_record.specs.declared.event.Value.{Value as OneValue};
 ghost use Rattle.wsm_record.specs.Modes.{retracts};
 ghost use Rattle.wsm_windows.specs.Places.{place_cmp};
-ghost use Rattle.wsm_panes.specs.Held.{CanEnter, IsKept, IsSpot, entries_of, joined_panes, joins_sessions, once_fired, room_of, session_entered, windows_entered, with_entered};
+ghost use Rattle.wsm_panes.specs.Held.{CanEnter, IsKept, IsSpot, are_sessions, entries_of, joined_panes, joins_sessions, once_fired, room_of, session_entered, windows_entered, with_entered};
 ghost use Rattle.wsm_panes.specs.HeldState.{AreTables, panes_in, widths_in};
 ghost use Rattle.wsm_panes.specs.Ring.{IsRing};
 ghost use Rattle.wsm_panes.specs.OfKeys.{AreOfKeys, AreDropped};
@@ -145,6 +145,18 @@ impl HeldPanes {
                     session: None,
                 }
             }
+        }
+    }
+
+    /// Whether windows are sessions.
+    #[inline(always)]
+    pub fn has_sessions(&self) -> bool
+        ensures sessions { result ≡ are_sessions self.now.shape }
+        ensures shape { IsShape self.now.shape }
+    {
+        match &self.tables {
+            Tables::Sessions(..) => true,
+            Tables::Grid(_) => false,
         }
     }
 

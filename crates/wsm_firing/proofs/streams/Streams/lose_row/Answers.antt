@@ -8,24 +8,24 @@ use Rattle.wsm_firing.proofs.streams.Streams.lose_row.Goals.{in-Nothing, in-Chan
 pub minus-requires-clause-room : goal.minus-requires-clause-room
 minus-requires-clause-room c =
     let a = c.self.inside in let k = c.in-Changed in let can : CanLose _ _ = rw (← c.self.view_is) at c.requires in
-    room_less c.args.row k.changes.numbers can.before can.rest a.room k.changes.room can.within (room_of_changes a.kept k.field-0 k.changes k.is a.room c.self.invariant).twice
-    (changed_by a.kept k.field-0 k.changes k.is can.before (c.args.row ∷ can.rest) can.told)
+    room_less c.args.row.now k.changes.numbers can.before can.rest a.room k.changes.room can.within (room_of_changes a.kept k.field-0 k.changes k.is a.room c.self.invariant).twice
+    (changed_by a.kept k.field-0 k.changes k.is can.before (c.args.row.now ∷ can.rest) can.told)
 
 pub minus-requires-clause-fits : goal.minus-requires-clause-fits
 minus-requires-clause-fits c =
     let a = c.self.inside in let k = c.in-Changed in let can : CanLose _ _ = rw (← c.self.view_is) at c.requires in
     let has = room_of_changes a.kept k.field-0 k.changes k.is a.room c.self.invariant in
-    fits_less c.args.row k.changes.numbers can.before can.rest a.room k.changes.room can.within has.twice has.most
-    (changed_by a.kept k.field-0 k.changes k.is can.before (c.args.row ∷ can.rest) can.told)
+    fits_less c.args.row.now k.changes.numbers can.before can.rest a.room k.changes.room can.within has.twice has.most
+    (changed_by a.kept k.field-0 k.changes k.is can.before (c.args.row.now ∷ can.rest) can.told)
 
 pub remove-requires : goal.remove-requires
 remove-requires c =
     let a = c.self.inside in let k = c.in-Rows in let can : CanLose _ _ = rw (← c.self.view_is) at c.requires in
-    kept_there c.args.row k.relation.rows can.before can.rest (kept_by a.kept k.relation k.is can.before (c.args.row ∷ can.rest) can.told)
+    kept_there c.args.row.now k.relation.rows can.before can.rest (kept_by a.kept k.relation k.is can.before (c.args.row.now ∷ can.rest) can.told)
 
 pub returns-clause-told : goal.returns-clause-told
 returns-clause-told c = λ before now told.
-    let a = c.self.inside in let row = c.args.row in
+    let a = c.self.inside in let row = c.args.row.now in
     let was : IsToldBy a.kept before (row ∷ now) = subst (λ (s : Told). IsTold s before (row ∷ now)) (sym c.self.view_is) told in
     elim c.match-self.branch [
       | in-Nothing w ↦ subst (λ (x : Inside). IsToldBy x.kept before now) (sym w.self-inside-is) (nothing_told a.kept w.in-Nothing.is before (row ∷ now) now was)

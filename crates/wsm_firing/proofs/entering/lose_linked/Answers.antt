@@ -4,7 +4,7 @@ use Rattle.wsm_panes.specs.Held.{entries_of}
 use Rattle.wsm_firing.specs.Streams.{IsTold, rows_and, rows_with, standing_rows}
 use Rattle.wsm_firing.proofs.StreamRows.{Rows, told_same}
 use Rattle.wsm_firing.proofs.RowsAfterRecord.{ArePair, pair_is, rows_alone}
-use Rattle.wsm_firing.proofs.entering.lose_joined.Goals as goal
+use Rattle.wsm_firing.proofs.entering.lose_linked.Goals as goal
 
 pub lose_pair-requires : goal.lose_pair-requires
 lose_pair-requires c =
