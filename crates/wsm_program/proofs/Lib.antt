@@ -1,3 +1,4 @@
 pub mod Within
+pub mod Opcodes
 pub mod Lawful
 pub mod StatedBudget

@@ -1,5 +1,6 @@
 pub mod Program
 pub mod Operations
+pub mod Opcodes
 pub mod Instructions
 pub mod View
 pub mod Text

@@ -28,7 +28,7 @@
 //! - [`enums`]: the names that an operand may name
 #![tactic(auto)]
 
-pub use instr::{Argument, Edges, FieldTest, Instr, SectionId, comparison_number, kind_of};
+pub use instr::{Argument, Edges, FieldTest, Instr, Opcode, SectionId, comparison_number, kind_of};
 pub use operation::{Operands, Operation};
 pub use program::{Costs, Header, Program, Section};
 pub use refusal::DecodeRefusal;
