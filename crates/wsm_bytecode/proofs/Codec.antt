@@ -11,20 +11,20 @@ use Rattle.wsm_program.specs.declared.instr.FieldTest.{FieldTest}
 use Rattle.wsm_program.specs.Instructions.{comparison_number}
 use Rattle.wsm_program.specs.declared.instr.Instr.{Instr}
 use Rattle.wsm_program.specs.declared.instr.Instr.TheVariants.{PushInt, PushBool, PushEnum, Field, Key, Acc, Count, Operate, Jump, JumpIfFalse, Test, Fold, Return}
-use Rattle.wsm_program.specs.declared.operation.Operation.{Operation}
-use Rattle.wsm_program.specs.declared.operation.Operation.TheVariants.{Add}
-use Rattle.wsm_program.specs.Operations as operation
-use Rattle.wsm_program.specs.Operations.{of_code}
+use Rattle.wsm_program.specs.declared.instr.Opcode.{Opcode}
+use Rattle.wsm_program.specs.declared.instr.Opcode.TheVariants as opcodes
+use Rattle.wsm_program.specs.Opcodes.{code as code_of}
 use Rattle.wsm_program.specs.Program.{Name, Header, Program, is_name_of, is_number_field, is_late_by, is_test, is_instr, is_section, is_header, is_program, latest_time, is_span, is_size}
 use Rattle.wsm_record.specs.Schema.{FieldType, Int, Truth, Enum, DeclaredField, Declared, source_count, is_name_list, are_names_after, is_field_after, are_fields_after, is_field_type, is_within, names_of_type, names_of_field, enum_names, is_schema, is_i64}
 use Rattle.wsm_record.specs.Name.{is_name, is_among, is_between}
 use Rattle.wsm_bytecode.specs.declared.version.Version.{Version}
 use Rattle.wsm_bytecode.specs.declared.version.Version.TheVariants.{One, Two}
 use Rattle.wsm_bytecode.specs.declared.reading.settings.Times.{Times}
-use Rattle.wsm_bytecode.specs.Parts.{Settings, settings_in, byte, number, signed, instr, code, magic, names, fields, times, kinds, columns, budget}
+use Rattle.wsm_bytecode.specs.Parts.{settings_in, byte, number, signed, instr, code, magic, names, fields, times, kinds, columns, budget}
 use Rattle.wsm_bytecode.specs.Steps.{judged, number_at, signed_at, several, names_at, fields_at, times_at, kinds_at, enum_number_at, columns_at, budget_at}
 use Rattle.wsm_bytecode.specs.Spelling.{version_number, settings, header, spelling_in, has, spells, spelling}
-use Rattle.wsm_bytecode.specs.Reading.{comparison_by, push_int_at, push_bool_at, push_enum_at, index_at, target_at, comparison_at, number_field_at, field_test_at, test_at, plain_instr, instr_by, instr_at, code_at, after_magic, version_by, version_at, settings_at, header_at, parts_at, program_at, decode}
+use Rattle.wsm_bytecode.specs.Reading.{comparison_by, push_int_at, push_bool_at, push_enum_at, index_at, target_at, comparison_at, number_field_at, field_test_at, test_at, instr_by, instr_at, code_at, after_magic, version_by, version_at, settings_at, header_at, parts_at, program_at, decode}
+use Rattle.wsm_program.proofs.Opcodes.{code_is_byte, of_code_again}
 use Rattle.wsm_program.proofs.Lawful.{HeaderParts, few_fields, header_parts}
 use Rattle.wsm_bytecode.proofs.Numbers.{bytes_again, byte_again, short_again, signed_again, judged_again}
 use Rattle.wsm_bytecode.proofs.Parts.{tag_again, below, several_again, enum_number_again, enum_is_small, start_again, span_again, size_again, names_again, fields_again, kinds_again, columns_again, budget_again}
@@ -32,9 +32,13 @@ use Rattle.wsm_bytecode.proofs.Settings.{AreReadAgain, are_settings, are_setting
 use Rattle.wsm_bytecode.proofs.Version1 as first
 use Rattle.wsm_bytecode.proofs.Version2 as second
 
-instr_step : (v : Version) (h : Header) (c : ℕ) (mid : List ℕ) (i : Instr) (rest : List ℕ) → c < 256 → instr_by v h c mid ≡ Ok (i, rest) → instr_at v h (byte c ++ mid) ≡ Ok (i, rest)
+-- what an instruction of an opcode begins with
+abbrev pub opcode_byte : Opcode → List ℕ
+opcode_byte o = byte (code_of o)
+
+instr_step : (v : Version) (h : Header) (o : Opcode) (mid : List ℕ) (i : Instr) (rest : List ℕ) → instr_by v h o mid ≡ Ok (i, rest) → instr_at v h (opcode_byte o ++ mid) ≡ Ok (i, rest)
 unfolding instr_at
-instr_step v h c mid i rest lt e = rw (byte_again c mid lt, e) refl
+instr_step v h o mid i rest e = rw (byte_again (code_of o) mid (code_is_byte o), of_code_again o, e) refl
 
 push_int_step : (bytes : List ℕ) (n : ℤ) (rest : List ℕ) → signed_at bytes ≡ Ok (n, rest) → push_int_at bytes ≡ Ok (PushInt n, rest)
 unfolding push_int_at
@@ -117,43 +121,31 @@ test_again h few x t rest good target =
     (field_test_step h.schema.fields x (byte x.field ++ r1) r1 r2 r3 (number_field_again h.schema.fields x.field r1 (few_below _ few.fields) a.0) (comparison_again x.comparison r2) (signed_again x.number r3 a.1))
     (short_again t rest (ltb-true t 65536 target))
 
-plain : (v : Version) (h : Header) (c : ℕ) (i : Instr) (rest : List ℕ) → c < 256 → instr_by v h c rest ≡ Ok (i, rest) → instr_at v h (byte c ++ rest) ≡ Ok (i, rest)
-plain v h c i rest lt e = instr_step v h c rest i rest lt e
-
-operation_small : (o : Operation) → operation.code o < 256
-operation_small Add = lit< tt
-operation_small o = lit< tt
-
-operation_again : (v : Version) (h : Header) (o : Operation) (rest : List ℕ) → instr_by v h (operation.code o) rest ≡ Ok (Operate o, rest)
-unfolding instr_by plain_instr of_code
-operation_again v h Add rest = refl
-operation_again v h o rest = refl
-
 pub instr_again : (v : Version) (h : Header) → FewParts h → (i : Instr) (rest : List ℕ) → is_instr h i ≡ true → has v i ≡ true → instr_at v h (instr i ++ rest) ≡ Ok (i, rest)
-unfolding instr_by plain_instr instr
-instr_again v h few (PushInt n) rest good known = instr_step v h 1 (signed n ++ rest) (PushInt n) rest (lit< tt) (push_int_step (signed n ++ rest) n rest (signed_again n rest good))
-instr_again v h few (PushBool false) rest good known = instr_step v h 2 (byte 0 ++ rest) (PushBool false) rest (lit< tt) (push_bool_step (byte 0 ++ rest) 0 rest (tag_again 0 1 0 rest (lit< tt) refl))
-instr_again v h few (PushBool true) rest good known = instr_step v h 2 (byte 1 ++ rest) (PushBool true) rest (lit< tt) (push_bool_step (byte 1 ++ rest) 1 rest (tag_again 0 1 1 rest (lit< tt) refl))
+unfolding instr_by instr
+instr_again v h few (PushInt n) rest good known = instr_step v h opcodes.PushInt (signed n ++ rest) (PushInt n) rest (push_int_step (signed n ++ rest) n rest (signed_again n rest good))
+instr_again v h few (PushBool false) rest good known = instr_step v h opcodes.PushBool (byte 0 ++ rest) (PushBool false) rest (push_bool_step (byte 0 ++ rest) 0 rest (tag_again 0 1 0 rest (lit< tt) refl))
+instr_again v h few (PushBool true) rest good known = instr_step v h opcodes.PushBool (byte 1 ++ rest) (PushBool true) rest (push_bool_step (byte 1 ++ rest) 1 rest (tag_again 0 1 1 rest (lit< tt) refl))
 instr_again v h few (PushEnum e i) rest good known =
     let there = names_there (enum_names h.schema e) i good in
     let mid = number i ++ rest in
-    instr_step v h 3 (byte e ++ mid) (PushEnum e i) rest (lit< tt)
+    instr_step v h opcodes.PushEnum (byte e ++ mid) (PushEnum e i) rest
     (push_enum_step h.schema (byte e ++ mid) e i mid rest (enum_number_again h.schema e mid (enum_is_small h.schema e few.fields there) there)
     (judged_again (is_name_of (enum_names h.schema e)) (number_at w16 mid) i rest (short_again i rest (few.names e i good)) good))
-instr_again v h few (Field f) rest good known = instr_step v h 4 (byte f ++ rest) (Field f) rest (lit< tt) (index_again (length h.schema.fields) Field f rest (few_below _ few.fields) good)
-instr_again v h few Key rest good known = plain v h 5 Key rest (lit< tt) refl
-instr_again v h few (Acc a) rest good known = instr_step v h 6 (byte a ++ rest) (Acc a) rest (lit< tt) (index_again (length h.kinds) Acc a rest few.kinds good)
-instr_again v h few Count rest good known = plain v h 7 Count rest (lit< tt) refl
-instr_again v h few (Operate o) rest good known = plain v h (operation.code o) (Operate o) rest (operation_small o) (operation_again v h o rest)
-instr_again v h few (Jump t) rest good known = instr_step v h 48 (number t ++ rest) (Jump t) rest (lit< tt) (target_again Jump t rest good)
-instr_again v h few (JumpIfFalse t) rest good known = instr_step v h 49 (number t ++ rest) (JumpIfFalse t) rest (lit< tt) (target_again JumpIfFalse t rest good)
+instr_again v h few (Field f) rest good known = instr_step v h opcodes.Field (byte f ++ rest) (Field f) rest (index_again (length h.schema.fields) Field f rest (few_below _ few.fields) good)
+instr_again v h few Key rest good known = instr_step v h opcodes.Key rest Key rest refl
+instr_again v h few (Acc a) rest good known = instr_step v h opcodes.Acc (byte a ++ rest) (Acc a) rest (index_again (length h.kinds) Acc a rest few.kinds good)
+instr_again v h few Count rest good known = instr_step v h opcodes.Count rest Count rest refl
+instr_again v h few (Operate o) rest good known = instr_step v h (opcodes.Operate o) rest (Operate o) rest refl
+instr_again v h few (Jump t) rest good known = instr_step v h opcodes.Jump (number t ++ rest) (Jump t) rest (target_again Jump t rest good)
+instr_again v h few (JumpIfFalse t) rest good known = instr_step v h opcodes.JumpIfFalse (number t ++ rest) (JumpIfFalse t) rest (target_again JumpIfFalse t rest good)
 instr_again One h few (Test x t) rest good known = absurd (true≢false (sym known))
 instr_again Two h few (Test x t) rest good known =
     let parts = and_parts (is_test h x) (ltb t 65536) good in
-    ap (instr_at Two h) (regroup_5 (byte 50) (byte x.field) (byte (comparison_number x.comparison)) (signed x.number) (number t) rest)
-    ∙ instr_step Two h 50 _ (Test x t) rest (lit< tt) (test_again h few x t rest parts.0 parts.1)
-instr_again v h few (Fold a) rest good known = instr_step v h 64 (byte a ++ rest) (Fold a) rest (lit< tt) (index_again (length h.kinds) Fold a rest few.kinds good)
-instr_again v h few Return rest good known = plain v h 80 Return rest (lit< tt) refl
+    ap (instr_at Two h) (regroup_5 (opcode_byte opcodes.Test) (byte x.field) (byte (comparison_number x.comparison)) (signed x.number) (number t) rest)
+    ∙ instr_step Two h opcodes.Test _ (Test x t) rest (test_again h few x t rest parts.0 parts.1)
+instr_again v h few (Fold a) rest good known = instr_step v h opcodes.Fold (byte a ++ rest) (Fold a) rest (index_again (length h.kinds) Fold a rest few.kinds good)
+instr_again v h few Return rest good known = instr_step v h opcodes.Return rest Return rest refl
 
 -- an instruction of a program that the version has
 abbrev pub is_of : Version → Header → Instr → Bool

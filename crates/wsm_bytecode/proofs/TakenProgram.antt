@@ -1,19 +1,18 @@
 -- What was read is what was spelled: instructions, sections and whole programs.
-use Rattle.std.proofs.Common.{leb, Option, None, Some, ◌≡◌, ℕ, zero, suc, ◌≤◌, Bool, true, false, cond, ltb, ◌&&◌, List, [], ◌∷◌, ◌++◌, length, pos, Ok, Err, refl, sym, ap, subst, ◌∙◌, append_assoc, append-nil, arith}
-use Rattle.std.specs.Prelude.{◌==◌, nat_eq, bytes_eq, option_map, slice_get}
+use Rattle.std.proofs.Common.{leb, Option, None, Some, ◌≡◌, ℕ, zero, suc, ◌≤◌, Bool, true, cond, ltb, ◌&&◌, List, [], ◌∷◌, ◌++◌, length, pos, Ok, Err, refl, sym, ap, subst, ◌∙◌, append_assoc, append-nil, arith}
+use Rattle.std.specs.Prelude.{◌==◌, bytes_eq, ok_or, slice_get}
 use Rattle.std.specs.List.{list_all, flat_map}
 use Rattle.std.specs.Int.{w8, w16}
 use Rattle.std.proofs.lemmas.Bool.{le-leb, eqb-true, eq-eqb, and_parts, and_from}
 use Rattle.std.proofs.lemmas.Slice.Eq.{bytes_eq-Decides}
-use Rattle.wsm_program.specs.declared.refusal.DecodeRefusal.TheVariants.{BadMagic}
+use Rattle.wsm_program.specs.declared.refusal.DecodeRefusal.TheVariants.{BadMagic, UnknownOpcode}
 use Rattle.wsm_program.specs.declared.instr.Instr.{Instr}
 use Rattle.wsm_program.specs.declared.instr.Instr.TheVariants.{PushInt, PushBool, PushEnum, Field, Key, Acc, Count, Operate, Jump, JumpIfFalse, Test, Fold, Return}
 use Rattle.wsm_program.specs.declared.instr.FieldTest.{FieldTest}
-use Rattle.wsm_program.specs.declared.operation.Operation.{Operation}
+use Rattle.wsm_program.specs.declared.instr.Opcode.{Opcode}
+use Rattle.wsm_program.specs.declared.instr.Opcode.TheVariants as opcodes
 use Rattle.wsm_program.specs.declared.program.Costs.{Costs}
 use Rattle.wsm_program.specs.Instructions.{truth, comparison_number}
-use Rattle.wsm_program.specs.Operations as operation
-use Rattle.wsm_program.specs.Operations.{of_code, first_of_code, operations}
 use Rattle.wsm_program.specs.Program.{Name, Header, Program, is_name_of, is_number_field, is_test, is_instr, is_section, is_header, is_program, latest_time, is_span, is_size, is_column, is_budget}
 use Rattle.wsm_interval.specs.declared.Comparison.{Comparison}
 use Rattle.wsm_record.specs.declared.words.CellType.{CellType}
@@ -27,9 +26,10 @@ use Rattle.wsm_bytecode.specs.Parts.{Settings, byte, number, signed, instr, code
 use Rattle.wsm_bytecode.specs.Steps.{◌>>=◌, bytes_at, judged, number_at, signed_at, several, names_at, fields_at, times_at, enum_number_at}
 use Rattle.wsm_bytecode.specs.Version1 as first
 use Rattle.wsm_bytecode.specs.Spelling.{version_number, settings, header, spelling_in, has, spells, IsSpelling}
-use Rattle.wsm_bytecode.specs.Reading.{push_int_at, push_bool_at, push_enum_at, index_at, target_at, comparison_by, comparison_at, number_field_at, field_test_at, test_at, test_by, plain_instr, plain_at, instr_by, instr_at, code_at, after_magic, version_by, version_at, settings_at, schema_of, clock_of, header_at, parts_at, program_at, all_read, decode}
+use Rattle.wsm_bytecode.specs.Reading.{push_int_at, push_bool_at, push_enum_at, index_at, target_at, comparison_by, comparison_at, number_field_at, field_test_at, test_at, test_by, instr_by, instr_at, code_at, after_magic, version_by, version_at, settings_at, schema_of, clock_of, header_at, parts_at, program_at, all_read, decode}
 use Rattle.wsm_program.proofs.Within.{at_most}
-use Rattle.wsm_bytecode.proofs.Codec.{is_of, regroup_4, regroup_6}
+use Rattle.wsm_program.proofs.Opcodes.{of_code_has_code}
+use Rattle.wsm_bytecode.proofs.Codec.{opcode_byte, is_of, regroup_4, regroup_6}
 use Rattle.wsm_bytecode.proofs.Settings.{are_settings, settings_parts}
 use Rattle.wsm_bytecode.proofs.Taken.{IsBytes, bind_ok, bind_then, choose, test_ok, judged_ok, ok_is, Took, Exact, bytes_taken, byte_taken, number_taken, wide16, signed_taken, several_taken}
 use Rattle.wsm_bytecode.proofs.TakenParts.{tag_taken, measure_taken, names_taken, fields_taken, kinds_taken, columns_taken, budget_taken, enum_number_taken}
@@ -43,13 +43,13 @@ known : (v : Version) (i : Instr) → first.has i ≡ true → has v i ≡ true
 known One i h = h
 known Two i h = refl
 
-push_int_taken : (v : Version) (h : Header) (bytes : List ℕ) (x : Instr × List ℕ) → IsBytes bytes → push_int_at bytes ≡ Ok x → Took instr (is_of v h) (byte 1 ++ bytes) x
+push_int_taken : (v : Version) (h : Header) (bytes : List ℕ) (x : Instr × List ℕ) → IsBytes bytes → push_int_at bytes ≡ Ok x → Took instr (is_of v h) (opcode_byte opcodes.PushInt ++ bytes) x
 unfolding push_int_at instr
 push_int_taken v h bytes x fits e =
     let a = bind_ok (signed_at bytes) (λ n. Ok (PushInt n.0, n.1)) x e in
     let t = signed_taken bytes a.0 fits a.1 in
     let made : Instr × List ℕ = (PushInt a.0.0, a.0.1) in
-    subst (λ y. Took instr (is_of v h) (byte 1 ++ bytes) y) (ok_is made x a.2) (record { parts = ap (λ r. byte 1 ++ r) t.parts; fits = t.fits; good = and_from _ _ t.good (known v (PushInt a.0.0) refl) })
+    subst (λ y. Took instr (is_of v h) (opcode_byte opcodes.PushInt ++ bytes) y) (ok_is made x a.2) (record { parts = ap (λ r. opcode_byte opcodes.PushInt ++ r) t.parts; fits = t.fits; good = and_from _ _ t.good (known v (PushInt a.0.0) refl) })
 
 truth_of_tag : (n : ℕ) → n ≤ 1 → byte n ≡ byte (truth (n == 1))
 truth_of_tag zero h = refl
@@ -57,16 +57,16 @@ truth_of_tag (suc n) h =
     let one : 1 ≡ suc n = omega arith in
     subst (λ k. byte k ≡ byte (truth (k == 1))) one refl
 
-push_bool_taken : (v : Version) (h : Header) (bytes : List ℕ) (x : Instr × List ℕ) → IsBytes bytes → push_bool_at bytes ≡ Ok x → Took instr (is_of v h) (byte 2 ++ bytes) x
+push_bool_taken : (v : Version) (h : Header) (bytes : List ℕ) (x : Instr × List ℕ) → IsBytes bytes → push_bool_at bytes ≡ Ok x → Took instr (is_of v h) (opcode_byte opcodes.PushBool ++ bytes) x
 unfolding push_bool_at instr
 push_bool_taken v h bytes x fits e =
     let a = bind_ok (judged (is_between 0 1) (number_at w8 bytes)) (λ b. Ok (PushBool (b.0 == 1), b.1)) x e in
     let t = tag_taken 0 1 bytes a.0 fits a.1 in
     let made : Instr × List ℕ = (PushBool (a.0.0 == 1), a.0.1) in
-    subst (λ y. Took instr (is_of v h) (byte 2 ++ bytes) y) (ok_is made x a.2)
-    (record { parts = ap (λ r. byte 2 ++ r) (t.parts ∙ ap (λ r. r ++ a.0.1) (truth_of_tag a.0.0 (at_most 0 1 a.0.0 t.good))); fits = t.fits; good = and_from _ _ refl (known v (PushBool (a.0.0 == 1)) refl) })
+    subst (λ y. Took instr (is_of v h) (opcode_byte opcodes.PushBool ++ bytes) y) (ok_is made x a.2)
+    (record { parts = ap (λ r. opcode_byte opcodes.PushBool ++ r) (t.parts ∙ ap (λ r. r ++ a.0.1) (truth_of_tag a.0.0 (at_most 0 1 a.0.0 t.good))); fits = t.fits; good = and_from _ _ refl (known v (PushBool (a.0.0 == 1)) refl) })
 
-push_enum_taken : (v : Version) (h : Header) (bytes : List ℕ) (x : Instr × List ℕ) → IsBytes bytes → push_enum_at h.schema bytes ≡ Ok x → Took instr (is_of v h) (byte 3 ++ bytes) x
+push_enum_taken : (v : Version) (h : Header) (bytes : List ℕ) (x : Instr × List ℕ) → IsBytes bytes → push_enum_at h.schema bytes ≡ Ok x → Took instr (is_of v h) (opcode_byte opcodes.PushEnum ++ bytes) x
 unfolding enum_number_at push_enum_at instr
 push_enum_taken v h bytes x fits e =
     let a = bind_ok (enum_number_at h.schema bytes) (λ d. judged (is_name_of (enum_names h.schema d.0)) (number_at w16 d.1) >>= λ i. Ok (PushEnum d.0 i.0, i.1)) x e in
@@ -75,29 +75,29 @@ push_enum_taken v h bytes x fits e =
     let j = judged_ok (is_name_of (enum_names h.schema a.0.0)) (number_at w16 a.0.1) b.0 b.1 in
     let u = number_taken w16 65536 wide16 a.0.1 b.0 t.fits j.0 in
     let made : Instr × List ℕ = (PushEnum a.0.0 b.0.0, b.0.1) in
-    subst (λ y. Took instr (is_of v h) (byte 3 ++ bytes) y) (ok_is made x b.2)
-    (record { parts = ap (λ r. byte 3 ++ r) (t.parts ∙ ap (λ r. byte a.0.0 ++ r) u.parts); fits = u.fits; good = and_from _ _ j.1 (known v (PushEnum a.0.0 b.0.0) refl) })
+    subst (λ y. Took instr (is_of v h) (opcode_byte opcodes.PushEnum ++ bytes) y) (ok_is made x b.2)
+    (record { parts = ap (λ r. opcode_byte opcodes.PushEnum ++ r) (t.parts ∙ ap (λ r. byte a.0.0 ++ r) u.parts); fits = u.fits; good = and_from _ _ j.1 (known v (PushEnum a.0.0 b.0.0) refl) })
 
-index_taken : (v : Version) (h : Header) (c count : ℕ) (made : ℕ → Instr) → ((i : ℕ) (rest : List ℕ) → byte c ++ (byte i ++ rest) ≡ instr (made i) ++ rest) → ((i : ℕ) → ltb i count ≡ is_instr h (made i)) → ((i : ℕ) → first.has (made i) ≡ true)
-    → (bytes : List ℕ) (x : Instr × List ℕ) → IsBytes bytes → index_at count made bytes ≡ Ok x → Took instr (is_of v h) (byte c ++ bytes) x
+index_taken : (v : Version) (h : Header) (o : Opcode) (count : ℕ) (made : ℕ → Instr) → ((i : ℕ) (rest : List ℕ) → opcode_byte o ++ (byte i ++ rest) ≡ instr (made i) ++ rest) → ((i : ℕ) → ltb i count ≡ is_instr h (made i)) → ((i : ℕ) → first.has (made i) ≡ true)
+    → (bytes : List ℕ) (x : Instr × List ℕ) → IsBytes bytes → index_at count made bytes ≡ Ok x → Took instr (is_of v h) (opcode_byte o ++ bytes) x
 unfolding index_at
-index_taken v h c count made spelled good there bytes x fits e =
+index_taken v h o count made spelled good there bytes x fits e =
     let a = bind_ok (judged (λ i. ltb i count) (number_at w8 bytes)) (λ i. Ok (made i.0, i.1)) x e in
     let j = judged_ok (λ i. ltb i count) (number_at w8 bytes) a.0 a.1 in
     let t = byte_taken bytes a.0 fits j.0 in
     let one : Instr × List ℕ = (made a.0.0, a.0.1) in
-    subst (λ y. Took instr (is_of v h) (byte c ++ bytes) y) (ok_is one x a.2)
-    (record { parts = ap (λ r. byte c ++ r) t.parts ∙ spelled a.0.0 a.0.1; fits = t.fits; good = and_from _ _ (sym (good a.0.0) ∙ j.1) (known v (made a.0.0) (there a.0.0)) })
+    subst (λ y. Took instr (is_of v h) (opcode_byte o ++ bytes) y) (ok_is one x a.2)
+    (record { parts = ap (λ r. opcode_byte o ++ r) t.parts ∙ spelled a.0.0 a.0.1; fits = t.fits; good = and_from _ _ (sym (good a.0.0) ∙ j.1) (known v (made a.0.0) (there a.0.0)) })
 
-target_taken : (v : Version) (h : Header) (c : ℕ) (made : ℕ → Instr) → ((t : ℕ) (rest : List ℕ) → byte c ++ (number t ++ rest) ≡ instr (made t) ++ rest) → ((t : ℕ) → ltb t 65536 ≡ is_instr h (made t)) → ((t : ℕ) → first.has (made t) ≡ true)
-    → (bytes : List ℕ) (x : Instr × List ℕ) → IsBytes bytes → target_at made bytes ≡ Ok x → Took instr (is_of v h) (byte c ++ bytes) x
+target_taken : (v : Version) (h : Header) (o : Opcode) (made : ℕ → Instr) → ((t : ℕ) (rest : List ℕ) → opcode_byte o ++ (number t ++ rest) ≡ instr (made t) ++ rest) → ((t : ℕ) → ltb t 65536 ≡ is_instr h (made t)) → ((t : ℕ) → first.has (made t) ≡ true)
+    → (bytes : List ℕ) (x : Instr × List ℕ) → IsBytes bytes → target_at made bytes ≡ Ok x → Took instr (is_of v h) (opcode_byte o ++ bytes) x
 unfolding target_at
-target_taken v h c made spelled good there bytes x fits e =
+target_taken v h o made spelled good there bytes x fits e =
     let a = bind_ok (number_at w16 bytes) (λ t. Ok (made t.0, t.1)) x e in
     let t = number_taken w16 65536 wide16 bytes a.0 fits a.1 in
     let one : Instr × List ℕ = (made a.0.0, a.0.1) in
-    subst (λ y. Took instr (is_of v h) (byte c ++ bytes) y) (ok_is one x a.2)
-    (record { parts = ap (λ r. byte c ++ r) t.parts ∙ spelled a.0.0 a.0.1; fits = t.fits; good = and_from _ _ (sym (good a.0.0) ∙ t.good) (known v (made a.0.0) (there a.0.0)) })
+    subst (λ y. Took instr (is_of v h) (opcode_byte o ++ bytes) y) (ok_is one x a.2)
+    (record { parts = ap (λ r. opcode_byte o ++ r) t.parts ∙ spelled a.0.0 a.0.1; fits = t.fits; good = and_from _ _ (sym (good a.0.0) ∙ t.good) (known v (made a.0.0) (there a.0.0)) })
 
 comparison_of_tag : (n : ℕ) → n ≤ 5 → byte n ≡ byte (comparison_number (comparison_by n))
 comparison_of_tag zero h = refl
@@ -152,7 +152,7 @@ field_test_taken h bytes x fits e =
 regroup_test : (k a b c d rest : List ℕ) → k ++ ((a ++ (b ++ c)) ++ (d ++ rest)) ≡ (k ++ (a ++ (b ++ (c ++ d)))) ++ rest
 regroup_test k a b c d rest = simp append_assoc refl
 
-test_taken : (h : Header) (bytes : List ℕ) (x : Instr × List ℕ) → IsBytes bytes → test_at h.schema.fields bytes ≡ Ok x → Took instr (is_of Two h) (byte 50 ++ bytes) x
+test_taken : (h : Header) (bytes : List ℕ) (x : Instr × List ℕ) → IsBytes bytes → test_at h.schema.fields bytes ≡ Ok x → Took instr (is_of Two h) (opcode_byte opcodes.Test ++ bytes) x
 unfolding test_at instr
 test_taken h bytes x fits e =
     let a = bind_ok (field_test_at h.schema.fields bytes) (λ y. number_at w16 y.1 >>= λ t. Ok (Test y.0 t.0, t.1)) x e in
@@ -161,77 +161,54 @@ test_taken h bytes x fits e =
     let u = number_taken w16 65536 wide16 a.0.1 b.0 t.fits b.1 in
     let y = a.0.0 in
     let made : Instr × List ℕ = (Test y b.0.0, b.0.1) in
-    subst (λ z. Took instr (is_of Two h) (byte 50 ++ bytes) z) (ok_is made x b.2)
+    subst (λ z. Took instr (is_of Two h) (opcode_byte opcodes.Test ++ bytes) z) (ok_is made x b.2)
     (record {
-      parts = ap (λ r. byte 50 ++ r) (t.parts ∙ ap (λ r. test_bytes y ++ r) u.parts)
-          ∙ regroup_test (byte 50) (byte y.field) (byte (comparison_number y.comparison)) (signed y.number) (number b.0.0) b.0.1;
+      parts = ap (λ r. opcode_byte opcodes.Test ++ r) (t.parts ∙ ap (λ r. test_bytes y ++ r) u.parts)
+          ∙ regroup_test (opcode_byte opcodes.Test) (byte y.field) (byte (comparison_number y.comparison)) (signed y.number) (number b.0.0) b.0.1;
       fits = u.fits;
       good = and_from _ _ (and_from _ _ t.good u.good) refl;
     })
 
-version_test_taken : (v : Version) (h : Header) (bytes : List ℕ) (x : Instr × List ℕ) → IsBytes bytes → test_by v h.schema.fields bytes ≡ Ok x → Took instr (is_of v h) (byte 50 ++ bytes) x
+version_test_taken : (v : Version) (h : Header) (bytes : List ℕ) (x : Instr × List ℕ) → IsBytes bytes → test_by v h.schema.fields bytes ≡ Ok x → Took instr (is_of v h) (opcode_byte opcodes.Test ++ bytes) x
 version_test_taken One h bytes x fits e = absurd cc
 version_test_taken Two h bytes x fits e = test_taken h bytes x fits e
 
 -- an instruction without operands is its code, and always good
-record IsPlain (h : Header) (c : ℕ) (i : Instr) : Type 0 where
-  spelled : instr i ≡ byte c
-  good : is_instr h i ≡ true
-  there : first.has i ≡ true
-
-plain_here : (h : Header) (c k : ℕ) (i j : Instr) → instr j ≡ byte k → is_instr h j ≡ true → first.has j ≡ true → (c == k) ≡ true → Some j ≡ Some i → IsPlain h c i
-plain_here h c k i j spelled good there t e =
-    let same : j ≡ i = cc in
-    subst (λ y. IsPlain h c y) same (record { spelled = spelled ∙ ap byte (sym (eqb-true c k t)); good = good; there = there })
-
-operation_found : (h : Header) (c : ℕ) (i : Instr) (os : List Operation) → option_map Operate (first_of_code c os) ≡ Some i → IsPlain h c i
-unfolding instr
-operation_found h c i [] e = absurd cc
-operation_found h c i (o ∷ os) e =
-    elim (c == operation.code o) as (λ b. (c == operation.code o) ≡ b → option_map Operate (cond b (Some o) (first_of_code c os)) ≡ Some i → IsPlain h c i) [
-      | true ↦ λ t r. plain_here h c (operation.code o) i (Operate o) refl refl refl t r
-      | false ↦ λ _ r. operation_found h c i os r
-    ] refl e
-
-plain_found : (h : Header) (c : ℕ) (i : Instr) → plain_instr c ≡ Some i → IsPlain h c i
-unfolding plain_instr of_code instr
-plain_found h c i e0 =
-    choose _ _ _ _ e0 (λ t r. plain_here h c 5 i Key refl refl refl t r) (λ _ e1.
-    choose _ _ _ _ e1 (λ t r. plain_here h c 7 i Count refl refl refl t r) (λ _ e2.
-    choose _ _ _ _ e2 (λ t r. plain_here h c 80 i Return refl refl refl t r) (λ _ e3.
-    operation_found h c i operations e3)))
-
-plain_taken : (v : Version) (h : Header) (c : ℕ) (o : Option Instr) (bytes : List ℕ) (x : Instr × List ℕ) → ((i : Instr) → o ≡ Some i → IsPlain h c i) → IsBytes bytes → plain_at o bytes ≡ Ok x → Took instr (is_of v h) (byte c ++ bytes) x
-plain_taken v h c None bytes x found fits e = absurd cc
-plain_taken v h c (Some i) bytes x found fits e =
-    let p = found i refl in
+plain_taken : (v : Version) (h : Header) (o : Opcode) (i : Instr) (bytes : List ℕ) (x : Instr × List ℕ) → instr i ≡ opcode_byte o → is_instr h i ≡ true → first.has i ≡ true → instr_by v h o bytes ≡ Ok (i, bytes)
+    → IsBytes bytes → instr_by v h o bytes ≡ Ok x → Took instr (is_of v h) (opcode_byte o ++ bytes) x
+plain_taken v h o i bytes x spelled good there read fits e =
     let made : Instr × List ℕ = (i, bytes) in
-    subst (λ y. Took instr (is_of v h) (byte c ++ bytes) y) (ok_is made x e) (record { parts = ap (λ r. r ++ bytes) (sym p.spelled); fits = fits; good = and_from _ _ p.good (known v i p.there) })
+    subst (λ y. Took instr (is_of v h) (opcode_byte o ++ bytes) y) (ok_is made x (sym read ∙ e)) (record { parts = ap (λ r. r ++ bytes) (sym spelled); fits = fits; good = and_from _ _ good (known v i there) })
 
-by_code : (v : Version) (h : Header) (c k : ℕ) (bytes : List ℕ) (x : Instr × List ℕ) → (c == k) ≡ true → Took instr (is_of v h) (byte k ++ bytes) x → Took instr (is_of v h) (byte c ++ bytes) x
-by_code v h c k bytes x e t = subst (λ n. Took instr (is_of v h) (byte n ++ bytes) x) (sym (eqb-true c k e)) t
-
-instr_by_taken : (v : Version) (h : Header) (c : ℕ) (bytes : List ℕ) (x : Instr × List ℕ) → IsBytes bytes → instr_by v h c bytes ≡ Ok x → Took instr (is_of v h) (byte c ++ bytes) x
+instr_by_taken : (v : Version) (h : Header) (o : Opcode) (bytes : List ℕ) (x : Instr × List ℕ) → IsBytes bytes → instr_by v h o bytes ≡ Ok x → Took instr (is_of v h) (opcode_byte o ++ bytes) x
 unfolding instr_by instr
-instr_by_taken v h c bytes x fits e0 =
-    choose _ _ _ _ e0 (λ t r. by_code v h c 1 bytes x t (push_int_taken v h bytes x fits r)) (λ _ e1.
-    choose _ _ _ _ e1 (λ t r. by_code v h c 2 bytes x t (push_bool_taken v h bytes x fits r)) (λ _ e2.
-    choose _ _ _ _ e2 (λ t r. by_code v h c 3 bytes x t (push_enum_taken v h bytes x fits r)) (λ _ e3.
-    choose _ _ _ _ e3 (λ t r. by_code v h c 4 bytes x t (index_taken v h 4 (length h.schema.fields) Field (λ i rest. refl) (λ i. refl) (λ i. refl) bytes x fits r)) (λ _ e4.
-    choose _ _ _ _ e4 (λ t r. by_code v h c 6 bytes x t (index_taken v h 6 (length h.kinds) Acc (λ i rest. refl) (λ i. refl) (λ i. refl) bytes x fits r)) (λ _ e5.
-    choose _ _ _ _ e5 (λ t r. by_code v h c 48 bytes x t (target_taken v h 48 Jump (λ t rest. refl) (λ t. refl) (λ t. refl) bytes x fits r)) (λ _ e6.
-    choose _ _ _ _ e6 (λ t r. by_code v h c 49 bytes x t (target_taken v h 49 JumpIfFalse (λ t rest. refl) (λ t. refl) (λ t. refl) bytes x fits r)) (λ _ e7.
-    choose _ _ _ _ e7 (λ t r. by_code v h c 50 bytes x t (version_test_taken v h bytes x fits r)) (λ _ e8.
-    choose _ _ _ _ e8 (λ t r. by_code v h c 64 bytes x t (index_taken v h 64 (length h.kinds) Fold (λ i rest. refl) (λ i. refl) (λ i. refl) bytes x fits r)) (λ _ e9.
-    plain_taken v h c (plain_instr c) bytes x (plain_found h c) fits e9)))))))))
+instr_by_taken v h opcodes.PushInt bytes x fits e = push_int_taken v h bytes x fits e
+instr_by_taken v h opcodes.PushBool bytes x fits e = push_bool_taken v h bytes x fits e
+instr_by_taken v h opcodes.PushEnum bytes x fits e = push_enum_taken v h bytes x fits e
+instr_by_taken v h opcodes.Field bytes x fits e = index_taken v h opcodes.Field (length h.schema.fields) Field (λ i rest. refl) (λ i. refl) (λ i. refl) bytes x fits e
+instr_by_taken v h opcodes.Key bytes x fits e = plain_taken v h opcodes.Key Key bytes x refl refl refl refl fits e
+instr_by_taken v h opcodes.Acc bytes x fits e = index_taken v h opcodes.Acc (length h.kinds) Acc (λ i rest. refl) (λ i. refl) (λ i. refl) bytes x fits e
+instr_by_taken v h opcodes.Count bytes x fits e = plain_taken v h opcodes.Count Count bytes x refl refl refl refl fits e
+instr_by_taken v h (opcodes.Operate o) bytes x fits e = plain_taken v h (opcodes.Operate o) (Operate o) bytes x refl refl refl refl fits e
+instr_by_taken v h opcodes.Jump bytes x fits e = target_taken v h opcodes.Jump Jump (λ t rest. refl) (λ t. refl) (λ t. refl) bytes x fits e
+instr_by_taken v h opcodes.JumpIfFalse bytes x fits e = target_taken v h opcodes.JumpIfFalse JumpIfFalse (λ t rest. refl) (λ t. refl) (λ t. refl) bytes x fits e
+instr_by_taken v h opcodes.Test bytes x fits e = version_test_taken v h bytes x fits e
+instr_by_taken v h opcodes.Fold bytes x fits e = index_taken v h opcodes.Fold (length h.kinds) Fold (λ i rest. refl) (λ i. refl) (λ i. refl) bytes x fits e
+instr_by_taken v h opcodes.Return bytes x fits e = plain_taken v h opcodes.Return Return bytes x refl refl refl refl fits e
+
+opcode_found : (found : Option Opcode) (o : Opcode) → ok_or found UnknownOpcode ≡ Ok o → found ≡ Some o
+opcode_found None o e = absurd cc
+opcode_found (Some p) o e = ap Some (ok_is p o e)
 
 pub instr_taken : (v : Version) (h : Header) → Exact (instr_at v h) instr (is_of v h)
 unfolding instr_at
 instr_taken v h bytes x fits e =
-    let b = bind_ok (number_at w8 bytes) (λ c. instr_by v h c.0 c.1) x e in
-    let t = byte_taken bytes b.0 fits b.1 in
-    let u = instr_by_taken v h b.0.0 b.0.1 x t.fits b.2 in
-    record { parts = t.parts ∙ u.parts; fits = u.fits; good = u.good }
+    bind_then _ _ x e (λ c e0 l0.
+    bind_then _ _ x l0 (λ o e1 l1.
+    let t = byte_taken bytes c fits e0 in
+    let u = instr_by_taken v h o c.1 x t.fits l1 in
+    let same = of_code_has_code c.0 o (opcode_found _ o e1) in
+    record { parts = t.parts ∙ ap (λ n. byte n ++ c.1) same ∙ u.parts; fits = u.fits; good = u.good }))
 
 parts_of : (v : Version) (h : Header) (is : List Instr) → list_all (is_of v h) is ≡ true → (list_all (is_instr h) is ≡ true) × (list_all (has v) is ≡ true)
 parts_of v h [] e = (refl, refl)

@@ -1,5 +1,5 @@
 -- Reading the bytes of a program from the left, up to the first fault, in the version that they name.
-use Rattle.std.specs.Prelude.{◌≡◌, ℕ, zero, suc, List, [], ◌∷◌, length, nat_lt, Option, Some, None, option_map, Result, Ok, Err, slice_get, bytes_eq, ◌==◌, if◌then◌else◌}
+use Rattle.std.specs.Prelude.{◌≡◌, ℕ, zero, suc, List, [], ◌∷◌, length, nat_lt, ok_or, Result, Ok, Err, slice_get, bytes_eq, ◌==◌, if◌then◌else◌}
 use Rattle.std.specs.Int.{w8, w16}
 use Rattle.wsm_interval.specs.declared.Comparison.{Comparison}
 use Rattle.wsm_interval.specs.declared.Comparison.TheVariants.{Eq, Ne, Lt, Le, Gt, Ge}
@@ -10,9 +10,11 @@ use Rattle.wsm_admission.specs.declared.clock.Clock.{Clock}
 use Rattle.wsm_program.specs.declared.instr.FieldTest.{FieldTest}
 use Rattle.wsm_program.specs.declared.instr.Instr.{Instr}
 use Rattle.wsm_program.specs.declared.instr.Instr.TheVariants.{PushInt, PushBool, PushEnum, Field, Key, Acc, Count, Operate, Jump, JumpIfFalse, Test, Fold, Return}
+use Rattle.wsm_program.specs.declared.instr.Opcode.{Opcode}
+use Rattle.wsm_program.specs.declared.instr.Opcode.TheVariants as opcodes
 use Rattle.wsm_program.specs.declared.refusal.DecodeRefusal.{DecodeRefusal}
 use Rattle.wsm_program.specs.declared.refusal.DecodeRefusal.TheVariants.{BadMagic, Version as OtherVersion, UnknownOpcode, TrailingBytes, Memory}
-use Rattle.wsm_program.specs.Operations.{of_code}
+use Rattle.wsm_program.specs.Opcodes.{of_code}
 use Rattle.wsm_program.specs.Program.{Header, Program, is_name_of, is_number_field}
 use Rattle.wsm_bytecode.specs.declared.version.Version.{Version}
 use Rattle.wsm_bytecode.specs.declared.version.Version.TheVariants.{One, Two}
@@ -145,37 +147,27 @@ abbrev pub test_by : Version → List DeclaredField → List ℕ → Read Instr
 test_by One fields bytes = Err UnknownOpcode
 test_by Two fields bytes = test_at fields bytes
 
--- the instruction of a code, of those without operands
-unfoldable pub plain_instr : ℕ → Option Instr
-plain_instr c =
-    if c == 5 then Some Key
-    else if c == 7 then Some Count
-    else if c == 80 then Some Return
-    else option_map Operate (of_code c)
-
--- it stands alone
-abbrev pub plain_at : Option Instr → List ℕ → Read Instr
-plain_at None bytes = Err UnknownOpcode
-plain_at (Some i) bytes = Ok (i, bytes)
-
--- the operands of the instruction of a code
-unfoldable pub instr_by : Version → Header → ℕ → List ℕ → Read Instr
-instr_by v h c bytes =
-    if c == 1 then push_int_at bytes
-    else if c == 2 then push_bool_at bytes
-    else if c == 3 then push_enum_at h.schema bytes
-    else if c == 4 then index_at (length h.schema.fields) Field bytes
-    else if c == 6 then index_at (length h.kinds) Acc bytes
-    else if c == 48 then target_at Jump bytes
-    else if c == 49 then target_at JumpIfFalse bytes
-    else if c == 50 then test_by v h.schema.fields bytes
-    else if c == 64 then index_at (length h.kinds) Fold bytes
-    else plain_at (plain_instr c) bytes
+-- the operands of the instruction of an opcode
+unfoldable pub instr_by : Version → Header → Opcode → List ℕ → Read Instr
+instr_by v h opcodes.PushInt bytes = push_int_at bytes
+instr_by v h opcodes.PushBool bytes = push_bool_at bytes
+instr_by v h opcodes.PushEnum bytes = push_enum_at h.schema bytes
+instr_by v h opcodes.Field bytes = index_at (length h.schema.fields) Field bytes
+instr_by v h opcodes.Key bytes = Ok (Key, bytes)
+instr_by v h opcodes.Acc bytes = index_at (length h.kinds) Acc bytes
+instr_by v h opcodes.Count bytes = Ok (Count, bytes)
+instr_by v h (opcodes.Operate o) bytes = Ok (Operate o, bytes)
+instr_by v h opcodes.Jump bytes = target_at Jump bytes
+instr_by v h opcodes.JumpIfFalse bytes = target_at JumpIfFalse bytes
+instr_by v h opcodes.Test bytes = test_by v h.schema.fields bytes
+instr_by v h opcodes.Fold bytes = index_at (length h.kinds) Fold bytes
+instr_by v h opcodes.Return bytes = Ok (Return, bytes)
 
 unfoldable pub instr_at : Version → Header → List ℕ → Read Instr
 instr_at v h bytes = do
   c ← number_at w8 bytes
-  instr_by v h c.0 c.1
+  o ← ok_or (of_code c.0) UnknownOpcode
+  instr_by v h o c.1
 
 unfoldable pub code_at : Version → Header → List ℕ → Read (List Instr)
 code_at v h bytes = do

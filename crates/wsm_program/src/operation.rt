@@ -76,7 +76,7 @@ impl Operation {
 
     /// The operation of a code. `None` where no operation has it.
     #[tactic(auto, unfolding(crate::specs::Operations::of_code))]
-    pub fn of_code(code: u8) -> Option<Operation>
+    pub(crate) fn of_code(code: u8) -> Option<Operation>
         ensures { result ≡ spec.of_code code }
     {
         let operation = match code {

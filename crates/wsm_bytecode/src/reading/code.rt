@@ -4,7 +4,7 @@ ghost use Rattle.std.specs.Prelude.{◌≡◌, nat_lt};
 ghost use Rattle.std.specs.Int.{w8};
 ghost use Rattle.wsm_program.specs.View.{header_of};
 ghost use Rattle.wsm_bytecode.specs.Steps.{judged, number_at, several};
-ghost use Rattle.wsm_bytecode.specs.Reading.{Gives, push_int_at, push_bool_at, push_enum_at, index_at, target_at, comparison_at, number_field_at, field_test_at, test_at, test_by, plain_instr, instr_by, instr_at, code_at};
+ghost use Rattle.wsm_bytecode.specs.Reading.{Gives, push_int_at, push_bool_at, push_enum_at, index_at, target_at, comparison_at, number_field_at, field_test_at, test_at, test_by, instr_by, instr_at, code_at};
 ghost use Rattle.wsm_program.specs.declared.instr.Instr.TheVariants.{Field, Acc, Fold, Jump, JumpIfFalse};
 
 use crate::limits::MAX_SECTION;
@@ -13,7 +13,7 @@ use crate::reading::numbers::{byte_of, byte_within, i64_of, u16_of, u16_within};
 use crate::version::Version;
 use std::alloc::Global;
 use wsm_program::enums::{is_number_field, names};
-use wsm_program::{Comparison, DecodeRefusal, FieldTest, Header, Instr, Operation, Section};
+use wsm_program::{Comparison, DecodeRefusal, FieldTest, Header, Instr, Opcode, Section};
 use wsm_record::Schema;
 
 /// The number of instructions, and these.
@@ -58,46 +58,34 @@ fn instr_of<'a>(
     ensures { Gives (λ x. (x.0, x.1.now)) result (instr_at version (header_of header.now) bytes.now) }
 {
     let (code, rest) = byte_of(bytes)?;
-    instr_of_code(version, header, code, rest)
+    let opcode = Opcode::of_code(code).ok_or(DecodeRefusal::UnknownOpcode)?;
+    instr_of_opcode(version, header, opcode, rest)
 }
 
-// The operands of the instruction of a code, which stand behind it.
+// The operands of the instruction of an opcode, which stand behind its code.
 #[tactic(auto, unfolding(crate::specs::Reading::instr_by))]
-fn instr_of_code<'a>(
+fn instr_of_opcode<'a>(
     version: Version,
     header: &Header,
-    code: u8,
+    opcode: Opcode,
     bytes: &'a [u8],
 ) -> Result<(Instr, &'a [u8]), DecodeRefusal>
-    ensures { Gives (λ x. (x.0, x.1.now)) result (instr_by version (header_of header.now) code bytes.now) }
+    ensures { Gives (λ x. (x.0, x.1.now)) result (instr_by version (header_of header.now) opcode bytes.now) }
 {
-    match code {
-        0x01 => push_int_of(bytes),
-        0x02 => push_bool_of(bytes),
-        0x03 => push_enum_of(&header.schema, bytes),
-        0x04 => field_of(header.schema.fields().len(), bytes),
-        0x06 => acc_of(header.kinds.len(), bytes),
-        0x30 => jump_of(bytes),
-        0x31 => jump_if_false_of(bytes),
-        0x32 => test_in(version, &header.schema, bytes),
-        0x40 => fold_of(header.kinds.len(), bytes),
-        _ => match plain_instr_of(code) {
-            Some(instr) => Ok((instr, bytes)),
-            None => Err(DecodeRefusal::UnknownOpcode),
-        },
-    }
-}
-
-// The instruction of a code, of those without operands.
-#[tactic(auto, unfolding(crate::specs::Reading::plain_instr))]
-fn plain_instr_of(code: u8) -> Option<Instr>
-    ensures { result ≡ plain_instr code }
-{
-    match code {
-        0x05 => Some(Instr::Key),
-        0x07 => Some(Instr::Count),
-        0x50 => Some(Instr::Return),
-        _ => Some(Instr::Operate(Operation::of_code(code)?)),
+    match opcode {
+        Opcode::PushInt => push_int_of(bytes),
+        Opcode::PushBool => push_bool_of(bytes),
+        Opcode::PushEnum => push_enum_of(&header.schema, bytes),
+        Opcode::Field => field_of(header.schema.fields().len(), bytes),
+        Opcode::Key => Ok((Instr::Key, bytes)),
+        Opcode::Acc => acc_of(header.kinds.len(), bytes),
+        Opcode::Count => Ok((Instr::Count, bytes)),
+        Opcode::Operate(operation) => Ok((Instr::Operate(operation), bytes)),
+        Opcode::Jump => jump_of(bytes),
+        Opcode::JumpIfFalse => jump_if_false_of(bytes),
+        Opcode::Test => test_in(version, &header.schema, bytes),
+        Opcode::Fold => fold_of(header.kinds.len(), bytes),
+        Opcode::Return => Ok((Instr::Return, bytes)),
     }
 }
 
