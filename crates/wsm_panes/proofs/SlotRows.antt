@@ -42,7 +42,7 @@ pub listed-append : (s : ℕ) (xs ys : List ℕ) → listed s (xs ++ ys) ≡ lis
 listed-append s [] ys = omega arith
 listed-append s (x ∷ xs) ys = let rest = listed-append s xs ys in omega (arith, rest)
 
-listed_more : (s i r : ℕ) (xs : List ℕ) → i ≤ length xs → listed s (insert xs i r) ≡ same r s + listed s xs
+pub listed_more : (s i r : ℕ) (xs : List ℕ) → i ≤ length xs → listed s (insert xs i r) ≡ same r s + listed s xs
 listed_more s zero r [] h = refl
 listed_more s zero r (x ∷ xs) h = refl
 listed_more s (suc i) r [] h = absurd (omega (arith, h))

@@ -1,6 +1,6 @@
 //! A table kept as a sorted list.
 
-ghost use Rattle.std.specs.Prelude.{◌≡◌, ◌⊎◌, ◌<◌, ◌≤◌, ◌^◌, List, None, Some, IfOk, IfErr, IfSome, IsSome, IsTrue, drop, filter, length, not, option_map, slice_get};
+ghost use Rattle.std.specs.Prelude.{◌≡◌, ◌≢◌, ◌⊎◌, ◌<◌, ◌≤◌, ◌^◌, List, None, Some, IfOk, IfErr, IfSome, IsSome, IsTrue, drop, filter, length, not, option_map, slice_get};
 ghost use Rattle.std.specs.FinMap as map;
 ghost use Rattle.wsm_fold.specs.Fold.{are_of_kinds};
 ghost use Rattle.wsm_record.specs.declared.event.Value.{Value as OneValue};
@@ -321,8 +321,8 @@ fn enter_in(row: &mut SlotRow, slots: &mut Slots, place: Place, kinds: &[Kind], 
     }
 }
 
-// Puts a record into the pane at a place, which goes to another place then. Its slot is freed and taken
-// again, so that it stands elsewhere in the row.
+// Puts a record into the pane at a place, which goes to another place then. Its slot stands elsewhere in
+// the row then.
 fn move_in(
     row: &mut SlotRow,
     slots: &mut Slots,
@@ -337,6 +337,7 @@ fn move_in(
     requires types { IsTrue (are_of_kinds kinds.now values.now) }
     requires there { IsSome (map.find place_cmp from (shown slots.old.slots row.old.row)) }
     requires takes { IfSome (map.find place_cmp from (shown slots.old.slots row.old.row)) (CanRecord kinds.now values.now) }
+    requires other { from ≢ to }
     requires absent { map.find place_cmp to (filter (λ e. is_other from e.0) (shown slots.old.slots row.old.row)) ≡ None }
     ensures shown { shown slots.new.slots row.new.row ≡ map.put place_cmp to (with_one_more kinds.now values.now (map.find place_cmp from (shown slots.old.slots row.old.row))) (filter (λ e. is_other from e.0) (shown slots.old.slots row.old.row)) }
     ensures stored { AreStored slots.new.slots row.new.row }
@@ -344,9 +345,9 @@ fn move_in(
     ensures widths { slots.new.widths ≡ slots.old.widths }
 {
     let old = search(row, slots, from).unwrap();
-    row.remove(old);
-    let new = gap_for(row, slots, to);
-    let slot = row.insert(new);
+    let gap = gap_for(row, slots, to);
+    let new = if old < gap { gap - 1 } else { gap };
+    let slot = row.shift(old, new);
     slots.record(slot, kinds, values);
     slots.move_to(slot, to);
 }

@@ -94,6 +94,20 @@ impl SlotRow {
         self.free.push_reserved(slot);
     }
 
+    /// Has the slot at a number stand at another, as those of the others are counted, and gives it.
+    pub(crate) fn shift(&mut self, from: usize, to: usize) -> usize
+        requires from { from < length self.old.row }
+        requires to { to < length self.old.row }
+        ensures here { slice_get self.old.row from ≡ Some result }
+        ensures row { self.new.row ≡ insert (remove self.old.row from) to result }
+        ensures fresh { listed result (remove self.old.row from) ≡ 0 }
+        ensures room { self.new.room ≡ self.old.room }
+    {
+        let slot = self.row[from];
+        shift_number(&mut self.row, from, to);
+        slot as usize
+    }
+
     /// Has the first slots of the row be free, so many.
     pub(crate) fn drop_first(&mut self, count: usize)
         requires { count ≤ length self.old.row }
@@ -155,6 +169,23 @@ fn take_number(numbers: &mut Vec<u32>, at: usize)
     let left = numbers.len() - 1;
     numbers.copy_within(at + 1.., at);
     numbers.truncate(left);
+}
+
+// Has the number at a place stand at another, as those of the others are counted. Those between are
+// moved at once.
+fn shift_number(numbers: &mut Vec<u32>, from: usize, to: usize)
+    requires from { from < length numbers.old.items }
+    requires to { to < length numbers.old.items }
+    ensures items { (number : ℕ) → slice_get numbers.old.items from ≡ Some number → numbers.new.items ≡ insert (remove numbers.old.items from) to number }
+    ensures capacity { vec_capacity numbers.new ≡ vec_capacity numbers.old }
+{
+    let number = numbers[from];
+    if from < to {
+        numbers.copy_within(from + 1..to + 1, from);
+    } else {
+        numbers.copy_within(to..from, to + 1);
+    }
+    numbers[to] = number;
 }
 
 // Drops the first numbers, so many.

@@ -1,66 +1,84 @@
-use Rattle.std.proofs.Common.{◌≡◌, ◌<◌, ◌∙◌, ◌++◌, ◌∷◌, [], ℕ, List, Some, None, ap, subst, sym, set, get_or, length}
-use Rattle.std.proofs.lemmas.List.{get_or-set_same, set-set}
-use Rattle.std.proofs.lemmas.Option.{slice_get-get_or}
-use Rattle.std.specs.Prelude.{IfOk, IfSome, Option, option_map, slice_get}
+use Rattle.std.proofs.Common.{◌≡◌, ◌<◌, ◌≤◌, ◌∙◌, ◌∷◌, [], ℕ, List, Some, None, ap, arith, subst, sym, set, length}
+use Rattle.std.proofs.lemmas.List.{get_or-set_same, length-set, set-set}
+use Rattle.std.specs.Prelude.{IfOk, IfSome, Option, insert, option_map, slice_get}
+use Rattle.std.specs.List.{remove}
 use Rattle.std.specs.FinMap.Entries.{find, put}
 use Rattle.wsm_record.specs.declared.event.Value.{Value}
 use Rattle.wsm_windows.specs.declared.place.Place.{Place}
 use Rattle.wsm_windows.specs.Places.{place_cmp}
 use Rattle.wsm_semantics.specs.Summaries.{Pane}
+use Rattle.wsm_semantics.proofs.ManyKeys.{in_order}
 use Rattle.wsm_panes.specs.Held.{CanRecord, with_one_more}
+use Rattle.wsm_panes.specs.Place.{before}
 use Rattle.wsm_panes.specs.Ring.{slot_at}
-use Rattle.wsm_panes.specs.Search.{IsAt}
+use Rattle.wsm_panes.specs.Search.{IsAt, IsGapFor}
 use Rattle.wsm_panes.specs.Stored.{AreStored, shown}
-use Rattle.wsm_panes.proofs.SlotRows.{last_same}
-use Rattle.wsm_panes.proofs.StoredEdits.{added_shows, added_stored, has_entry, own_entry, removed_shows, removed_stored, slot_there}
+use Rattle.wsm_panes.proofs.Gaps.{absent_all, before_left, before_past, gap_absent}
+use Rattle.wsm_panes.proofs.Stored.{shown_remove}
+use Rattle.wsm_panes.proofs.StoredEdits.{added_shows, added_stored, has_entry, length_is, own_entry, removed_shows, removed_stored, slot_there}
 use Rattle.wsm_panes.proofs.list.move_in.Goals as goal
-use Rattle.wsm_panes.proofs.list.move_in.Goals.{After-unwrap-old, After-remove, After-insert-slot, After-record, After-move_to}
+use Rattle.wsm_panes.proofs.list.move_in.Goals.{After-unwrap-old, After-shift-slot, After-move_to, then-old-gap, else-old-gap}
 
 -- the entry stands at the number that was found
 here : (c : After-unwrap-old) → IsAt (shown c.args.slots.now.slots c.args.row.now.row) c.args.from c.unwrap-old.result
 here c = subst (λ r. IfOk r (IsAt (shown c.args.slots.now.slots c.args.row.now.row) c.args.from)) c.unwrap-old.ensures c.search.ensures.found
 
--- in a slot
-stands : (c : After-unwrap-old) → (k : ℕ) × (slice_get c.args.row.now.row c.unwrap-old.result ≡ Some k)
-stands c =
-    let within : c.unwrap-old.result < length c.args.row.now.row = subst (λ r. IfOk r (λ i. i < length c.args.row.now.row)) c.unwrap-old.ensures c.search.ensures.within in
-    (get_or c.args.row.now.row c.unwrap-old.result 0, slice_get-get_or c.args.row.now.row c.unwrap-old.result 0 within)
-
-pub gap_for-new-requires-clause-stored : goal.gap_for-new-requires-clause-stored
-gap_for-new-requires-clause-stored c =
-    let at = here (goal.at.gap_for-new-requires-clause-stored c).After-unwrap-old in
-    subst (AreStored c.args.slots.now.slots) (sym c.remove.ensures.row) (removed_stored _ _ c.requires.stored c.unwrap-old.result c.args.from at)
-
-pub gap_for-new-requires-clause-absent : goal.gap_for-new-requires-clause-absent
-gap_for-new-requires-clause-absent c =
-    let at = here (goal.at.gap_for-new-requires-clause-absent c).After-unwrap-old in
-    ap (λ row. find place_cmp c.args.to (shown c.args.slots.now.slots row)) c.remove.ensures.row ∙ ap (find place_cmp c.args.to) (removed_shows _ _ c.requires.stored c.unwrap-old.result c.args.from at) ∙ c.requires.absent
-
--- the slot that comes into the row is the one that was freed, which has the entry
-own_slot : (c : After-unwrap-old) (free left : List ℕ) (slot : ℕ) → ((k : ℕ) → slice_get c.args.row.now.row c.unwrap-old.result ≡ Some k → free ≡ c.args.row.now.free ++ k ∷ []) → free ≡ left ++ slot ∷ [] → slice_get c.args.row.now.row c.unwrap-old.result ≡ Some slot
-own_slot c free left slot freed last =
-    let old = stands c in
-    old.1 ∙ ap Some (last_same c.args.row.now.free left old.0 slot (sym (freed old.0 old.1) ∙ last))
+pub gap_for-gap-requires-clause-absent : goal.gap_for-gap-requires-clause-absent
+gap_for-gap-requires-clause-absent c = absent_all c.args.to c.args.from (shown c.args.slots.now.slots c.args.row.now.row) c.requires.other c.requires.absent
 
 pub record-requires-clause-there : goal.record-requires-clause-there
-record-requires-clause-there c =
-    let at = own_slot (goal.at.record-requires-clause-there c).After-unwrap-old _ _ c.insert-slot.result c.remove.ensures.freed c.insert-slot.ensures.last in
-    has_entry _ _ c.requires.stored c.unwrap-old.result c.insert-slot.result at
+record-requires-clause-there c = has_entry _ _ c.requires.stored c.unwrap-old.result c.shift-slot.result c.shift-slot.ensures.here
 
 pub record-requires-clause-takes : goal.record-requires-clause-takes
 record-requires-clause-takes c =
     let w = (goal.at.record-requires-clause-takes c).After-unwrap-old in
-    let at = own_slot w _ _ c.insert-slot.result c.remove.ensures.freed c.insert-slot.ensures.last in
-    let own = own_entry _ _ c.requires.stored c.unwrap-old.result c.insert-slot.result at c.args.from (here w) in
+    let own = own_entry _ _ c.requires.stored c.unwrap-old.result c.shift-slot.result c.shift-slot.ensures.here c.args.from (here w) in
     let can : CanRecord c.args.kinds.now c.args.values.now own.0 = subst (λ o. IfSome o (CanRecord c.args.kinds.now c.args.values.now)) own.1.1 c.requires.takes in
     subst (λ o. IfSome o (λ e. CanRecord c.args.kinds.now c.args.values.now e.1)) (sym own.1.0) can
 
+pub move_to-requires : goal.move_to-requires
+move_to-requires c =
+    let long = ap (λ s. length s.slots) c.record.ensures ∙ length-set c.args.slots.now.slots c.shift-slot.result _ in
+    let within = slot_there _ _ c.requires.stored c.unwrap-old.result c.shift-slot.result c.shift-slot.ensures.here in
+    omega (arith, long, within)
+
+-- its slot comes to stand where the place would go among the others
+module _ (c : After-shift-slot) (at : IsAt (shown c.args.slots.now.slots c.args.row.now.row) c.args.from c.unwrap-old.result) where
+  rest_stored : AreStored c.args.slots.now.slots (remove c.args.row.now.row c.unwrap-old.result)
+  rest_stored = removed_stored _ _ c.requires.stored c.unwrap-old.result c.args.from at
+
+  rest_shows : shown c.args.slots.now.slots (remove c.args.row.now.row c.unwrap-old.result) ≡ remove (shown c.args.slots.now.slots c.args.row.now.row) c.unwrap-old.result
+  rest_shows = shown_remove c.args.slots.now.slots c.unwrap-old.result c.args.row.now.row c.requires.stored.there
+
+  new_is : c.if-old-gap.new ≡ before place_cmp c.args.to (remove (shown c.args.slots.now.slots c.args.row.now.row) c.unwrap-old.result)
+  new_is =
+      let es = shown c.args.slots.now.slots c.args.row.now.row in
+      let stops = c.gap_for-gap.ensures.gap.stops in
+      elim c.if-old-gap.branch [
+        | then-old-gap w ↦
+            let first : c.unwrap-old.result < before place_cmp c.args.to es = omega (arith, w.if-old-gap.true, stops) in
+            let past = before_past c.args.to es c.unwrap-old.result first in
+            omega (arith, w.new-is, past, stops)
+        | else-old-gap w ↦
+            let last : before place_cmp c.args.to es ≤ c.unwrap-old.result = omega (arith, w.if-old-gap.false, stops) in
+            w.new-is ∙ stops ∙ sym (before_left c.args.to es c.unwrap-old.result (in_order es c.requires.stored.sorted) at.within last)
+      ]
+
+  gap : IsGapFor (shown c.args.slots.now.slots (remove c.args.row.now.row c.unwrap-old.result)) c.args.to c.if-old-gap.new
+  gap =
+      let rest = shown c.args.slots.now.slots (remove c.args.row.now.row c.unwrap-old.result) in
+      let absent : find place_cmp c.args.to rest ≡ None = ap (find place_cmp c.args.to) (removed_shows _ _ c.requires.stored c.unwrap-old.result c.args.from at) ∙ c.requires.absent in
+      subst (IsGapFor rest c.args.to) (sym (new_is ∙ ap (before place_cmp c.args.to) (sym rest_shows))) (gap_absent c.args.to rest rest_stored.sorted absent)
+
+  fits : c.if-old-gap.new ≤ length (remove c.args.row.now.row c.unwrap-old.result)
+  fits = let long = length_is _ _ rest_stored in omega (arith, gap.within, long)
+
 -- what the slots have then, where its slot had this pane
-module _ (c : After-move_to) (w : Pane (List Value)) (was : slot_at c.args.slots.now.slots c.insert-slot.result ≡ Some (c.args.from, w)) (within : c.insert-slot.result < length c.args.slots.now.slots) where
-  moved : c.move_to.new.self.slots ≡ set c.args.slots.now.slots c.insert-slot.result (Some (c.args.to, with_one_more c.args.kinds.now c.args.values.now (Some w)))
+module _ (c : After-move_to) (w : Pane (List Value)) (was : slot_at c.args.slots.now.slots c.shift-slot.result ≡ Some (c.args.from, w)) (within : c.shift-slot.result < length c.args.slots.now.slots) where
+  moved : c.move_to.new.self.slots ≡ set c.args.slots.now.slots c.shift-slot.result (Some (c.args.to, with_one_more c.args.kinds.now c.args.values.now (Some w)))
   moved =
       let os = c.args.slots.now.slots in
-      let k = c.insert-slot.result in
+      let k = c.shift-slot.result in
       let more : Option (Place × Pane (List Value)) → Option (Place × Pane (List Value)) = option_map (λ e. (e.0, with_one_more c.args.kinds.now c.args.values.now (Some e.1))) in
       let move : Option (Place × Pane (List Value)) → Option (Place × Pane (List Value)) = option_map (λ e. (c.args.to, e.1)) in
       let v = with_one_more c.args.kinds.now c.args.values.now (Some w) in
@@ -75,25 +93,20 @@ returns-clause-shown c =
     let g = goal.at.returns-clause-shown c in
     let os = c.args.slots.now.slots in
     let old = here g.After-unwrap-old in
-    let at = own_slot g.After-unwrap-old _ _ c.insert-slot.result c.remove.ensures.freed c.insert-slot.ensures.last in
-    let own = own_entry _ _ c.requires.stored c.unwrap-old.result c.insert-slot.result at c.args.from old in
-    let within = slot_there _ _ c.requires.stored c.unwrap-old.result c.insert-slot.result at in
+    let own = own_entry _ _ c.requires.stored c.unwrap-old.result c.shift-slot.result c.shift-slot.ensures.here c.args.from old in
+    let within = slot_there _ _ c.requires.stored c.unwrap-old.result c.shift-slot.result c.shift-slot.ensures.here in
     let v = with_one_more c.args.kinds.now c.args.values.now (Some own.0) in
-    let rest = ap (shown os) c.remove.ensures.row ∙ removed_shows _ _ c.requires.stored c.unwrap-old.result c.args.from old in
-    let stored = subst (AreStored os) (sym c.remove.ensures.row) (removed_stored _ _ c.requires.stored c.unwrap-old.result c.args.from old) in
-    (λ i. shown (moved g.After-move_to own.0 own.1.0 within i) (c.insert-slot.ensures.row i))
-    ∙ added_shows _ _ stored c.gap_for-new.result c.insert-slot.result c.args.to c.gap_for-new.ensures.gap v within c.gap_for-new.ensures.until c.insert-slot.ensures.fresh
-    ∙ (λ i. put place_cmp c.args.to (with_one_more c.args.kinds.now c.args.values.now (sym own.1.1 i)) (rest i))
+    (λ i. shown (moved g.After-move_to own.0 own.1.0 within i) (c.shift-slot.ensures.row i))
+    ∙ added_shows _ _ (rest_stored g.After-shift-slot old) c.if-old-gap.new c.shift-slot.result c.args.to (gap g.After-shift-slot old) v within (fits g.After-shift-slot old) c.shift-slot.ensures.fresh
+    ∙ (λ i. put place_cmp c.args.to (with_one_more c.args.kinds.now c.args.values.now (sym own.1.1 i)) (removed_shows _ _ c.requires.stored c.unwrap-old.result c.args.from old i))
 
 pub returns-clause-stored : goal.returns-clause-stored
 returns-clause-stored c =
     let g = goal.at.returns-clause-stored c in
     let os = c.args.slots.now.slots in
     let old = here g.After-unwrap-old in
-    let at = own_slot g.After-unwrap-old _ _ c.insert-slot.result c.remove.ensures.freed c.insert-slot.ensures.last in
-    let own = own_entry _ _ c.requires.stored c.unwrap-old.result c.insert-slot.result at c.args.from old in
-    let within = slot_there _ _ c.requires.stored c.unwrap-old.result c.insert-slot.result at in
+    let own = own_entry _ _ c.requires.stored c.unwrap-old.result c.shift-slot.result c.shift-slot.ensures.here c.args.from old in
+    let within = slot_there _ _ c.requires.stored c.unwrap-old.result c.shift-slot.result c.shift-slot.ensures.here in
     let v = with_one_more c.args.kinds.now c.args.values.now (Some own.0) in
-    let stored = subst (AreStored os) (sym c.remove.ensures.row) (removed_stored _ _ c.requires.stored c.unwrap-old.result c.args.from old) in
-    rw (moved g.After-move_to own.0 own.1.0 within, c.insert-slot.ensures.row)
-    (added_stored _ _ stored c.gap_for-new.result c.insert-slot.result c.args.to c.gap_for-new.ensures.gap v within c.gap_for-new.ensures.until c.insert-slot.ensures.fresh)
+    rw (moved g.After-move_to own.0 own.1.0 within, c.shift-slot.ensures.row)
+    (added_stored _ _ (rest_stored g.After-shift-slot old) c.if-old-gap.new c.shift-slot.result c.args.to (gap g.After-shift-slot old) v within (fits g.After-shift-slot old) c.shift-slot.ensures.fresh)
