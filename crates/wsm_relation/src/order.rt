@@ -7,6 +7,7 @@ use std::cmp::Ordering;
 use wsm_record::Cell;
 
 /// How two rows compare: by their columns from the left.
+#[inline(always)]
 pub fn row_order(row: &[Cell], other: &[Cell]) -> Ordering
     ensures { result ≡ row_cmp row.now other.now }
 {
@@ -21,6 +22,7 @@ pub fn row_order(row: &[Cell], other: &[Cell]) -> Ordering
 }
 
 // Numbers by value, false before true, names by the numbers of their ENUM and their own.
+#[inline(always)]
 fn cell_order(cell: Cell, other: Cell) -> Ordering
     ensures { result ≡ cell_cmp cell other }
 {

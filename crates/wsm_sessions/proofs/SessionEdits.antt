@@ -1,7 +1,7 @@
 -- What the edits of a list of sessions make of it.
-use Rattle.std.proofs.Common.{◌≡◌, ℕ, zero, suc, ◌+◌, ◌<◌, ◌≤◌, Bool, true, false, ◌||◌, List, [], ◌∷◌, ◌++◌, length, get_or, length-append, add-one, ℤ, pos, ◌+ℤ◌, ◌≤ℤ◌, refl, sym, subst, ap, ◌∙◌, arith}
+use Rattle.std.proofs.Common.{◌≡◌, ℕ, zero, suc, ◌+◌, ◌<◌, ◌≤◌, Bool, true, false, ◌||◌, List, [], ◌∷◌, ◌++◌, length, get_or, length-append, add-one, ℤ, pos, ◌+ℤ◌, ◌≤ℤ◌, refl, sym, subst, ap, ◌∙◌, inl, inr, arith}
 use Rattle.std.proofs.lemmas.Int.{ints}
-use Rattle.std.proofs.lemmas.Bool.{true≢false}
+use Rattle.std.proofs.lemmas.Bool.{cases_Bool, true≢false}
 use Rattle.std.specs.Prelude.{filter, int_le, int_lt, insert, slice_get, slice_set, Some}
 use Rattle.std.specs.Int.{int_max, int_min}
 use Rattle.std.specs.List.{AllByRecursion, list_any, remove}
@@ -9,14 +9,14 @@ use Rattle.std.specs.List.Sorted.{IsPartitionedBy}
 use Rattle.std.proofs.lemmas.Option.{same_Some}
 use Rattle.wsm_windows.specs.declared.window.Window.{Window}
 use Rattle.wsm_windows.specs.Windows.{window}
-use Rattle.wsm_semantics.specs.Sessions.{ends_by, starts_from, links, with_session}
+use Rattle.wsm_semantics.specs.Sessions.{ends_after, ends_by, starts_from, links, with_session}
 use Rattle.wsm_semantics.proofs.Each.{passed}
 use Rattle.wsm_semantics.proofs.Sessions.{StartFrom, AreApart, sessions_apart}
 use Rattle.wsm_semantics.proofs.SessionTimes.{apart-filter, linked_all, two_at_most}
 use Rattle.wsm_semantics.proofs.SessionOrder.{in_order, begins, extends, joins}
 use Rattle.wsm_sessions.specs.Live.{IsOfTimes}
 use Rattle.wsm_sessions.specs.declared.placed.Placed.TheVariants.{New, Extends, Joins}
-use Rattle.wsm_sessions.specs.Placing.{starts_before, placed, placed_at, joined_at}
+use Rattle.wsm_sessions.specs.Placing.{first_ends_by, starts_before, placed, placed_at, joined_at}
 use Rattle.wsm_sessions.proofs.Seams.{any_passes, insert_seam, get_seam, get_behind, set_seam, within_seam, within_behind}
 
 -- ---- where windows start
@@ -96,6 +96,21 @@ parted gap t long (w ∷ ws) a zero zero d le h k = k
 parted gap t long (w ∷ ws) a zero (suc j) d le h k = ended_sooner t w (get_or ws j d) (ends_at gap w.end long ws a.2 a.1 j d (omega arith)) k
 parted gap t long (w ∷ ws) a (suc i) zero d le h k = absurd (omega arith)
 parted gap t long (w ∷ ws) a (suc i) (suc j) d le h k = parted gap t long ws a.2 i j d (omega arith) (omega arith) k
+
+-- where the first goes on past a time, all do
+all_after : (t : ℤ) (d : Window) (ws : List Window) → ((j : ℕ) → j < length ws → ends_by t (get_or ws j d) ≡ false) → filter (ends_after t) ws ≡ ws
+all_after t d [] later = refl
+all_after t d (w ∷ ws) later =
+    let here : int_le w.end t ≡ false = later zero (omega arith) in
+    let after : ends_after t w ≡ true = grind (arith, ints) in
+    rw after (ap (λ l. w ∷ l) (all_after t d ws (λ j h. later (suc j) (omega (arith, h)))))
+
+pub first_after : (t : ℤ) (ws : List Window) → IsPartitionedBy (ends_by t) ws → first_ends_by t ws ≡ false → filter (ends_after t) ws ≡ ws
+first_after t [] parts first = refl
+first_after t (w ∷ ws) parts first = all_after t w (w ∷ ws) (λ j h. elim (cases_Bool (ends_by t (get_or (w ∷ ws) j w))) [
+  | inl ended ↦ absurd (true≢false (sym (parts zero j w (omega arith) h ended) ∙ first))
+  | inr later ↦ later
+])
 
 pub apart_of : (gap : ℤ) → pos 1 ≤ℤ gap → (ws : List Window) → IsOfTimes gap ws → AreApart gap ws
 apart_of gap long ws h = subst (AreApart gap) (sym h.are) (sessions_apart gap long h.times)

@@ -46,6 +46,11 @@ starts_before t [] i = false
 starts_before t (w ∷ ws) zero = int_lt w.start t
 starts_before t (w ∷ ws) (suc i) = starts_before t ws i
 
+-- there is a window, and the first ends by a time
+abbrev pub first_ends_by : ℤ → List Window → Bool
+first_ends_by t [] = false
+first_ends_by t (w ∷ ws) = ends_by t w
+
 -- the windows at a place and at the next put together
 abbrev pub joined_at : List Window → ℕ → List Window
 joined_at [] i = []

@@ -1,6 +1,6 @@
 //! Edits of a list of sessions.
 
-ghost use Rattle.std.specs.Prelude.{◌≡◌, ◌⊎◌, ◌+◌, ◌<◌, ◌≤◌, ◌+ℤ◌, ◌≤ℤ◌, pos, true, false, int_lt, length, filter, vec_len, vec_capacity};
+ghost use Rattle.std.specs.Prelude.{◌≡◌, ◌⊎◌, ◌+◌, ◌<◌, ◌≤◌, ◌+ℤ◌, ◌≤ℤ◌, pos, true, false, int_lt, insert, length, filter, vec_len, vec_capacity};
 ghost use Rattle.std.specs.Int.{int_max, int_min};
 ghost use Rattle.std.specs.List.Sorted.{IsPartitionedBy};
 ghost use Rattle.wsm_windows.specs.Windows.{IsTime, window, greatest_span};
@@ -26,7 +26,7 @@ pub fn put_time(windows: &mut Vec<Window>, gap: i64, time: i64, found: Placed)
     ensures capacity { vec_capacity windows.new ≡ vec_capacity windows.old }
 {
     match found {
-        Placed::New(i) => windows.insert(i, alone(gap, time)).unwrap(),
+        Placed::New(i) => begin(windows, i, alone(gap, time)),
         Placed::Extends(i) => windows[i] = extended(windows[i], gap, time),
         Placed::Joins(i) => join(windows, i),
     }
@@ -92,6 +92,21 @@ fn extended(session: Window, gap: i64, time: i64) -> Window
     }
 }
 
+// Puts a session in at a place. Mostly that is behind all others, where none is moved.
+fn begin(windows: &mut Vec<Window>, i: usize, session: Window)
+    requires within { i ≤ vec_len windows.old }
+    requires room { vec_len windows.old < vec_capacity windows.old }
+    ensures items { windows.new.items ≡ insert windows.old.items i session }
+    ensures len { vec_len windows.new ≡ vec_len windows.old + 1 }
+    ensures capacity { vec_capacity windows.new ≡ vec_capacity windows.old }
+{
+    if i == windows.len() {
+        windows.push_reserved(session);
+    } else {
+        windows.insert(i, session).unwrap();
+    }
+}
+
 // Puts the sessions at a place and at the next together.
 fn join(windows: &mut Vec<Window>, i: usize)
     requires { i + 1 < vec_len windows.old }
@@ -136,11 +151,24 @@ fn is_before(window: Window, time: i64) -> bool
     window.start < time
 }
 
-/// Keeps the windows that end after a limit.
+// Whether there is a window, and the first ends by a time.
+fn first_ends_by(windows: &[Window], time: i64) -> bool
+    ensures { result ≡ spec.first_ends_by time windows.now }
+{
+    match windows.first() {
+        Some(first) => first.end <= time,
+        None => false,
+    }
+}
+
+/// Keeps the windows that end after a limit, where those that end by it come first.
 pub fn keep_past(windows: &mut Vec<Window>, limit: i64)
+    requires { IsPartitionedBy (ends_by limit) windows.old.items }
     ensures items { windows.new.items ≡ filter (ends_after limit) windows.old.items }
     ensures len { vec_len windows.new ≤ vec_len windows.old }
     ensures capacity { vec_capacity windows.new ≡ vec_capacity windows.old }
 {
-    windows.retain(|w| w.end > limit);
+    if first_ends_by(windows, limit) {
+        windows.retain(|w| w.end > limit);
+    }
 }

@@ -12,15 +12,15 @@ room_left : (b : Bool) (n m : ℕ) → (b ≡ true) ⊎ (n < m) → b ≡ false 
 room_left b n m (inl l) h = absurd (true≢false (sym l ∙ h))
 room_left b n m (inr r) h = r
 
-pub insert-requires : goal.insert-requires
-insert-requires c =
+pub begin-requires-clause-within : goal.begin-requires-clause-within
+begin-requires-clause-within c =
     let h = begun c.args.gap c.requires.gap_low c.args.time _ (apart_of c.args.gap c.requires.gap_low c.args.windows.now.items c.requires.sessions) c.in-New.i (sym c.requires.found ∙ c.in-New.is) in
     omega (arith, h.0, c.args.windows.now.ok.0)
 
-pub unwrap-requires : goal.unwrap-requires
-unwrap-requires c =
+pub begin-requires-clause-room : goal.begin-requires-clause-room
+begin-requires-clause-room c =
     let h = begun c.args.gap c.requires.gap_low c.args.time _ (apart_of c.args.gap c.requires.gap_low c.args.windows.now.items c.requires.sessions) c.in-New.i (sym c.requires.found ∙ c.in-New.is) in
-    c.insert.ensures.succeeds (room_left _ _ _ c.requires.room h.1.0)
+    room_left _ _ _ c.requires.room h.1.0
 
 pub returns-in-New-clause-items : goal.returns-in-New-clause-items
 returns-in-New-clause-items c =
@@ -29,17 +29,12 @@ returns-in-New-clause-items c =
     let ws : List Window = c.args.windows.now.items in
     let h = begun c.args.gap c.requires.gap_low c.args.time _ (apart_of c.args.gap c.requires.gap_low c.args.windows.now.items c.requires.sessions) c.in-New.i (sym c.requires.found ∙ c.in-New.is) in
     let alone : c.alone.result ≡ window c.args.time (c.args.time +ℤ c.args.gap) = simp to_z-of_z at c.alone.ensures in
-    rw c.unwrap.ensures at c.insert.ensures.items ∙ ap (insert ws c.in-New.i) alone ∙ h.1.1
+    c.begin.ensures.items ∙ ap (insert ws c.in-New.i) alone ∙ h.1.1
 
 pub returns-in-New-clause-len : goal.returns-in-New-clause-len
 returns-in-New-clause-len c =
     let h = begun c.args.gap c.requires.gap_low c.args.time _ (apart_of c.args.gap c.requires.gap_low c.args.windows.now.items c.requires.sessions) c.in-New.i (sym c.requires.found ∙ c.in-New.is) in
-    inr (h.1.0, rw c.unwrap.ensures at c.insert.ensures.len)
-
-pub returns-in-New-clause-capacity : goal.returns-in-New-clause-capacity
-returns-in-New-clause-capacity c =
-    let h = begun c.args.gap c.requires.gap_low c.args.time _ (apart_of c.args.gap c.requires.gap_low c.args.windows.now.items c.requires.sessions) c.in-New.i (sym c.requires.found ∙ c.in-New.is) in
-    (c.insert.ensures.in_place (room_left _ _ _ c.requires.room h.1.0)).1.0
+    inr (h.1.0, c.begin.ensures.len)
 
 pub index-requires : goal.index-requires
 index-requires c =

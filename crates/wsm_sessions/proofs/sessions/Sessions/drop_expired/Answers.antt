@@ -3,7 +3,11 @@ use Rattle.std.specs.Prelude.{filter}
 use Rattle.wsm_semantics.specs.Sessions.{ends_after}
 use Rattle.wsm_semantics.proofs.LiveTimes.{sessions-live}
 use Rattle.wsm_sessions.specs.Live.{times_left}
+use Rattle.wsm_sessions.proofs.SessionEdits.{apart_of, parted}
 use Rattle.wsm_sessions.proofs.sessions.Sessions.drop_expired.Goals as goal
+
+pub keep_past-requires : goal.keep_past-requires
+keep_past-requires c = parted c.self.inside.gap _ c.self.invariant.0 _ (apart_of c.self.inside.gap c.self.invariant.0 _ c.self.invariant.2)
 
 pub invariant_of-self : goal.invariant_of-self
 invariant_of-self c =
