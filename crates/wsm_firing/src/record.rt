@@ -1,14 +1,17 @@
 //! Firings on the turn of a record.
 
-ghost use Rattle.std.specs.Prelude.{◌≡◌, ◌++◌, List, [], ◌∷◌, map, vec_capacity, vec_len};
+ghost use Rattle.std.specs.Prelude.{◌≡◌, ◌++◌, IsSome, List, [], ◌∷◌, Some, map, vec_capacity, vec_len};
+ghost use Rattle.std.specs.FinMap.Entries.{find, put};
 ghost use Rattle.wsm_record.specs.declared.cell.Cell.{Cell};
-ghost use Rattle.wsm_windows.specs.Places.{at};
+ghost use Rattle.wsm_record.specs.declared.event.Value.{Value};
+ghost use Rattle.wsm_windows.specs.Places.{at, place_cmp};
 ghost use Rattle.wsm_windows.specs.declared.place.Place.{Place as AnyPlace};
 ghost use Rattle.wsm_semantics.specs.Retractions.{retracted_in};
 ghost use Rattle.wsm_semantics.specs.Replay.{datum};
-ghost use Rattle.wsm_semantics.specs.Summaries.{all_fired, fires, kind_by_record};
+ghost use Rattle.wsm_semantics.specs.Summaries.{Pane, all_fired, fired_pane, fires, kind_by_record};
 ghost use Rattle.wsm_machine.specs.Meaning.{plan_of, query_of};
-ghost use Rattle.wsm_panes.specs.Held.{IsKept, entries_of};
+ghost use Rattle.wsm_panes.specs.Held.{IsKept, IsSpot, entries_of};
+ghost use Rattle.wsm_firing.specs.Due.{fired_by};
 ghost use Rattle.wsm_firing.specs.Tally.{nothing, tally_of, tally_with};
 ghost use Rattle.wsm_firing.specs.Streams.{Tells};
 ghost use Rattle.wsm_firing.specs.Operator.{AreReady};
@@ -107,6 +110,7 @@ impl WindowOperator {
     }
 
     // Fires the pane at a place, where one is and its trigger calls for it.
+    #[inline(always)]
     fn fire_at(&mut self, verified: &Verified, tally: &mut Tally, mark: i64, place: Place)
         requires ready { AreReady verified.now self.old.held self.old.streams }
         requires can { CanAdd verified.now (vec_capacity self.old.rows) (vec_len self.old.rows) tally.old (fires (query_of verified.now) (kind_at (query_of verified.now) mark (place ∷ [])) (entries_of self.old.held)) }
@@ -122,17 +126,34 @@ impl WindowOperator {
         };
         let pane = self.held.pane(spot);
         if let Some(kind) = record_kind(verified, mark, place, &pane) {
-            let due = Due { kind, spot };
-            let ran = run(verified, &mut self.machine, due, &pane);
-            fire(
-                verified,
-                &mut self.held,
-                &mut self.streams,
-                &mut self.rows,
-                tally,
-                due,
-                ran,
-            );
+            self.fire_held(verified, tally, Due { kind, spot });
         }
+    }
+
+    // Fires a pane that is held. Most records fire none, so it isn't inlined.
+    #[inline(never)]
+    fn fire_held(&mut self, verified: &Verified, tally: &mut Tally, due: Due)
+        requires ready { AreReady verified.now self.old.held self.old.streams }
+        requires held { IsSome (find place_cmp due.spot.place (entries_of self.old.held)) }
+        requires spot { IsSpot self.old.held due.spot }
+        requires can { (pane : Pane (List Value)) → find place_cmp due.spot.place (entries_of self.old.held) ≡ Some pane → CanAdd verified.now (vec_capacity self.old.rows) (vec_len self.old.rows) tally.old (fired_by verified.now.header.mode due pane ∷ []) }
+        ensures panes { (pane : Pane (List Value)) → find place_cmp due.spot.place (entries_of self.old.held) ≡ Some pane → entries_of self.new.held ≡ put place_cmp due.spot.place (fired_pane (plan_of verified.now) verified.now.header.mode due.spot.place (Some due.kind) pane) (entries_of self.old.held) }
+        ensures keeps { IsKept self.old.held self.new.held }
+        ensures tells { Tells self.old.streams self.new.streams (entries_of self.old.held) (entries_of self.new.held) }
+        ensures rows { (pane : Pane (List Value)) → find place_cmp due.spot.place (entries_of self.old.held) ≡ Some pane → self.new.rows.items ≡ self.old.rows.items ++ rows_of verified.now (fired_by verified.now.header.mode due pane ∷ []) }
+        ensures capacity { vec_capacity self.new.rows ≡ vec_capacity self.old.rows }
+        ensures tally { (pane : Pane (List Value)) → find place_cmp due.spot.place (entries_of self.old.held) ≡ Some pane → tally.new ≡ tally_with verified.now tally.old (fired_by verified.now.header.mode due pane ∷ []) }
+    {
+        let pane = self.held.pane(due.spot);
+        let ran = run(verified, &mut self.machine, due, &pane);
+        fire(
+            verified,
+            &mut self.held,
+            &mut self.streams,
+            &mut self.rows,
+            tally,
+            due,
+            ran,
+        );
     }
 }

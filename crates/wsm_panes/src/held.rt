@@ -22,7 +22,7 @@ use crate::joining::{enter_session, linked_pair};
 use crate::list::ListTable;
 use crate::ring::Ring;
 use crate::ring_table::RingTable;
-use crate::spot::Spot;
+use crate::spot::{Spot, rebuilt_place};
 use crate::table::PaneTable;
 use crate::view::PaneView;
 use crate::widths::Widths;
@@ -189,12 +189,13 @@ impl HeldPanes {
     }
 
     /// Where the pane at a place is, if one is there.
+    #[inline(always)]
     pub fn find(&self, place: Place) -> Option<Spot>
         ensures place { place_found result ≡ option_map (λ _. place) (find place_cmp place (entries_of self.now)) }
         ensures spot { IfSome result (IsSpot self.now) }
     {
         match &self.tables {
-            Tables::Sessions(list, _) => list.find(place),
+            Tables::Sessions(list, _) => Spot::rebuilt_found(list.find(rebuilt_place(place))),
             Tables::Grid(ring) => ring.find(place),
         }
     }

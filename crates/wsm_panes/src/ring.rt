@@ -9,6 +9,7 @@ ghost use Rattle.wsm_windows.specs.Places.{at};
 ghost use Rattle.wsm_panes.specs.Ring as ring;
 ghost use Rattle.wsm_panes.specs.Ring.{IsRing, IsNextOnGrid, IsOfRing, IsRow};
 
+use crate::spot::rebuilt_place;
 use wsm_windows::Place;
 
 /// A ring of slots for the windows of a size, one beginning at each multiple of a period. A window
@@ -164,8 +165,18 @@ impl Ring {
         if place.start == known.start {
             known.slot + place.key as usize
         } else {
-            self.slot(place)
+            self.far_slot(rebuilt_place(place))
         }
+    }
+
+    // The slot of a place whose row isn't known. That is seldom asked, so it isn't inlined.
+    #[cold]
+    #[inline(never)]
+    fn far_slot(self, place: Place) -> usize
+        requires { IsRing self }
+        ensures { result ≡ ring.slot_of self place }
+    {
+        self.slot(place)
     }
 
     // Whether a place has a window of this shape and one of the keys.

@@ -220,6 +220,7 @@ impl PaneTable<Pane> for RingTable {
         self.len
     }
 
+    #[inline(always)]
     fn find(&self, place: Place) -> Option<Spot> {
         let at = self.ring.slot_beside(self.row, place);
         if is_at(&self.slots, at, place) {
