@@ -1,5 +1,5 @@
 -- A pane that is written into a slot.
-use Rattle.std.proofs.Common.{◌≡◌, Bool, true, false, cond, ℕ, ◌+◌, ◌*◌, ◌<◌, ◌≤◌, List, length, set, Option, Some, None, refl, sym, ap, ◌∙◌}
+use Rattle.std.proofs.Common.{◌≡◌, Bool, true, false, cond, ℕ, ℤ, suc, ◌/◌, ◌+◌, ◌*◌, ◌<◌, ◌≤◌, List, [], ◌∷◌, length, set, Option, Some, None, refl, sym, ap, ◌∙◌, arith}
 use Rattle.std.proofs.lemmas.List.{length-set}
 use Rattle.std.specs.Option.{is_some}
 use Rattle.std.specs.Prelude.{IfSome, option_map, slice_get}
@@ -17,8 +17,9 @@ use Rattle.wsm_panes.specs.declared.head.Head.{Head}
 use Rattle.wsm_panes.specs.declared.head.Stands.{Stands}
 use Rattle.wsm_panes.specs.declared.head.Stands.TheVariants.{Unfired, NoRow, FiredRow, Joined}
 use Rattle.wsm_panes.specs.declared.widths.Widths.{Widths}
-use Rattle.wsm_panes.specs.Layout.{HasPart, HasWindow, IsAsWide, IsLaidOut, entries_by, entry_by, folded_by, head_fired, head_of, part_at, place_by, standing_by, stands_by, with_any, with_part, with_window}
+use Rattle.wsm_panes.specs.Layout.{HasPart, HasWindow, IsAsWide, IsLaidOut, IsWritten, entries_by, entry_by, folded_by, head_fired, head_of, holds_by, is_folded, is_held, part_at, place_by, standing_by, stands_by, with_any, with_part, with_window}
 use Rattle.wsm_panes.specs.Held.{once_fired}
+use Rattle.wsm_panes.specs.RowWords.{cells_by}
 use Rattle.wsm_panes.specs.View.{window_stood}
 use Rattle.wsm_panes.proofs.Laid.{entries_set, fired_with, fired_without, has_folds, has_row, kept_there, length-part, length-with_part, no_window, part_ends, same_part, set_row}
 
@@ -34,6 +35,10 @@ pub folded_few : (b : Bool) (f : List Value) → length f ≤ 16 → IfSome (fol
 folded_few true f few = few
 folded_few false f few = tt
 
+pub length-cells_by : (kinds : ℕ) (words : List ℤ) → length (cells_by kinds words) ≡ length words
+length-cells_by kinds [] = refl
+length-cells_by kinds (word ∷ words) = ap suc (length-cells_by (kinds / 4) words)
+
 pub standing_wide : (s : Stands) (v : Option Window) (r : List Cell) (n : ℕ) → length r ≡ n → IfSome (standing_row (standing_by s v r)) (λ ys. length ys ≡ n)
 standing_wide Unfired v r n wide = tt
 standing_wide NoRow v r n wide = tt
@@ -46,7 +51,11 @@ standing_window NoRow v r b has = has
 standing_window FiredRow v r b has = has
 standing_window Joined v r b has = tt
 
-folded_by_any : (o : Option (List Value)) (f : List Value) → folded_by (is_some o) (any_or o f) ≡ o
+held_any : (o : Option (List Value)) → is_held (holds_by (is_some o)) ≡ true
+held_any None = refl
+held_any (Some xs) = refl
+
+folded_by_any : (o : Option (List Value)) (f : List Value) → folded_by (is_folded (holds_by (is_some o))) (any_or o f) ≡ o
 folded_by_any None f = refl
 folded_by_any (Some xs) f = refl
 
@@ -56,14 +65,19 @@ HasStood standing.Unfired v = Unit {0}
 HasStood (standing.Row window columns) v = v ≡ window
 HasStood standing.Joined v = Unit {0}
 
-standing_by_any : (s : Standing) (v : Option Window) (r : List Cell) → HasStood s v → standing_by (stands_by s) v (any_or (standing_row s) r) ≡ s
-standing_by_any standing.Unfired v r has = refl
-standing_by_any (standing.Row window None) v r has = ap (λ o. standing.Row o None) has
-standing_by_any (standing.Row window (Some row)) v r has = ap (λ o. standing.Row o (Some row)) has
-standing_by_any standing.Joined v r has = refl
+-- the row too
+abbrev IsRow : Option (List Cell) → List Cell → Type 0
+IsRow row r = IfSome row (λ cells. r ≡ cells)
 
-entry_of_pane : (place : Place) (pane : Pane (List Value)) (f : List Value) (r : List Cell) (v : Option Window) → HasStood pane.stands v → entry_by (head_of place pane) (any_or pane.folded f) (any_or (standing_row pane.stands) r) v ≡ Some (place, pane)
-entry_of_pane place pane f r v has = λ k. Some (place, record { count = pane.count; unshown = pane.unshown; folded = folded_by_any pane.folded f k; stands = standing_by_any pane.stands v r has k })
+standing_by_any : (s : Standing) (v : Option Window) (r : List Cell) → HasStood s v → IsRow (standing_row s) r → standing_by (stands_by s) v r ≡ s
+standing_by_any standing.Unfired v r has is = refl
+standing_by_any (standing.Row window None) v r has is = ap (λ o. standing.Row o None) has
+standing_by_any (standing.Row window (Some row)) v r has is = λ k. standing.Row (has k) (Some (is k))
+standing_by_any standing.Joined v r has is = refl
+
+entry_of_pane : (place : Place) (pane : Pane (List Value)) (kinds : ℕ) (f : List Value) (r : List Cell) (v : Option Window) → HasStood pane.stands v → IsRow (standing_row pane.stands) r → entry_by (head_of place pane kinds) (any_or pane.folded f) r v ≡ Some (place, pane)
+entry_of_pane place pane kinds f r v has is =
+    rw (held_any pane.folded) (λ k. Some (place, record { count = pane.count; unshown = pane.unshown; folded = folded_by_any pane.folded f k; stands = standing_by_any pane.stands v r has is k }))
 
 with_any_is : {A : Type 0} (i w : ℕ) (xs : List A) (o : Option (List A)) → IfSome o (λ ys. length ys ≡ w) → with_any i xs o ≡ with_part i w xs (any_or o (part_at i w xs))
 with_any_is i w xs None wide = sym (same_part i w xs)
@@ -93,11 +107,31 @@ some_mapped f None = refl
 some_mapped f (Some x) = refl
 
 -- the part of a slot, where there are values of its width
-pub has_any : {A : Type 0} (i w : ℕ) (xs : List A) (o : Option (List A)) → HasPart i w xs → IfSome o (λ ys. length ys ≡ w) → IfSome o (λ ys. HasPart i (length ys) xs)
+pub has_any : {A B : Type 0} (i w : ℕ) (xs : List A) (o : Option (List B)) → HasPart i w xs → IfSome o (λ ys. length ys ≡ w) → IfSome o (λ ys. HasPart i (length ys) xs)
 has_any i w xs None has wide = wide
 has_any i w xs (Some ys) has wide = rw wide has
 
-module _ (w : Widths) (hs : List Head) (fs : List Value) (rs : List Cell) (ws : List Window) (laid : IsLaidOut w hs fs rs ws) (i : ℕ) (h : i < length hs) where
+-- no more than a row can have
+pub few_any : (o : Option (List Cell)) (c : ℕ) → IfSome o (λ ys. length ys ≡ c) → c ≤ 16 → IfSome o (λ ys. length ys ≤ 16)
+few_any None c wide few = tt
+few_any (Some ys) c wide few = omega (arith, wide, few)
+
+-- the words that a slot has once its row is written, or those that it had where there is no row
+pub record WrittenRow (i c : ℕ) (row : Option (List Cell)) (old new : List ℤ) (kinds : ℕ) : Type 0 where
+  pub part : List ℤ
+  pub size : length part ≡ c
+  pub words : new ≡ with_part i c old part
+  pub cells : IsRow row (cells_by kinds part)
+
+module _ (i c : ℕ) (old new : List ℤ) (kinds : ℕ) (within : i * c + c ≤ length old) where
+  pub written_row : (row : Option (List Cell)) → IfSome row (λ ys. length ys ≡ c) → IsWritten i row old new kinds → WrittenRow i c row old new kinds
+  written_row None wide is = record { part = part_at i c old; size = length-part i c old within; words = is ∙ sym (same_part i c old); cells = tt }
+  written_row (Some row) wide is = record { part = is.part; size = is.size ∙ wide; words = is.words ∙ ap (λ n. with_part i n old is.part) wide; cells = is.cells }
+
+  pub length-written : (row : Option (List Cell)) → WrittenRow i c row old new kinds → length new ≡ length old
+  length-written row is = ap length is.words ∙ length-with_part i c old is.part within is.size
+
+module _ (w : Widths) (hs : List Head) (fs : List Value) (rs : List ℤ) (ws : List Window) (laid : IsLaidOut w hs fs rs ws) (i : ℕ) (h : i < length hs) where
   -- where the window that stands is written, it is there
   stood_there : (s : Standing) → HasWindow w.windows s → HasStood s (slice_get (with_window i ws (window_stood s)) i)
   stood_there standing.Unfired has = tt
@@ -106,21 +140,21 @@ module _ (w : Widths) (hs : List Head) (fs : List Value) (rs : List Cell) (ws : 
   stood_there standing.Joined has = tt
 
   -- to write a head with all that its pane has is to set the entry
-  module _ (place : Place) (pane : Pane (List Value)) (wide : IsAsWide w pane) where
-    pub set_pane : entries_by w.accumulators w.columns (set hs i (head_of place pane)) (with_any i fs pane.folded) (with_any i rs (standing_row pane.stands)) (with_window i ws (window_stood pane.stands)) ≡ set (entries_by w.accumulators w.columns hs fs rs ws) i (Some (place, pane))
+  module _ (place : Place) (pane : Pane (List Value)) (wide : IsAsWide w pane) (kinds : ℕ) (ys : List ℤ) (row : WrittenRow i w.columns (standing_row pane.stands) rs ys kinds) where
+    set_pane : entries_by w.accumulators w.columns (set hs i (head_of place pane kinds)) (with_any i fs pane.folded) ys (with_window i ws (window_stood pane.stands)) ≡ set (entries_by w.accumulators w.columns hs fs rs ws) i (Some (place, pane))
     set_pane =
-        let f = any_or pane.folded (part_at i w.accumulators fs) in let r = any_or (standing_row pane.stands) (part_at i w.columns rs) in
+        let x = head_of place pane kinds in
+        let f = any_or pane.folded (part_at i w.accumulators fs) in
         let vs = with_window i ws (window_stood pane.stands) in
         let folds_in = part_ends i w.accumulators fs (has_folds w hs fs rs ws laid i h) in let row_in = part_ends i w.columns rs (has_row w hs fs rs ws laid i h) in
-        ap (λ xs. entries_by w.accumulators w.columns (set hs i (head_of place pane)) xs (with_any i rs (standing_row pane.stands)) vs) (with_any_is i w.accumulators fs pane.folded wide.folds)
-        ∙ ap (λ xs. entries_by w.accumulators w.columns (set hs i (head_of place pane)) (with_part i w.accumulators fs f) xs vs) (with_any_is i w.columns rs (standing_row pane.stands) wide.row)
-        ∙ entries_set w.accumulators w.columns hs fs rs ws i (head_of place pane) f r (window_stood pane.stands) h folds_in row_in (length-any_or i w.accumulators fs pane.folded folds_in wide.folds) (length-any_or i w.columns rs (standing_row pane.stands) row_in wide.row)
-        ∙ ap (set (entries_by w.accumulators w.columns hs fs rs ws) i) (entry_of_pane place pane (part_at i w.accumulators fs) (part_at i w.columns rs) (slice_get vs i) (stood_there pane.stands wide.window))
+        (λ k. entries_by w.accumulators w.columns (set hs i x) (with_any_is i w.accumulators fs pane.folded wide.folds k) (row.words k) vs)
+        ∙ entries_set w.accumulators w.columns hs fs rs ws i x f row.part (window_stood pane.stands) h folds_in row_in (length-any_or i w.accumulators fs pane.folded folds_in wide.folds) row.size
+        ∙ ap (set (entries_by w.accumulators w.columns hs fs rs ws) i) (entry_of_pane place pane kinds (part_at i w.accumulators fs) (cells_by kinds row.part) (slice_get vs i) (stood_there pane.stands wide.window) row.cells)
 
     -- with the values that it has
-    pub put_is : (x : Head) (xs : List Value) (ys : List Cell) (vs : List Window) → x ≡ head_of place pane → xs ≡ with_any i fs pane.folded → ys ≡ with_any i rs (standing_row pane.stands) → vs ≡ with_window i ws (window_stood pane.stands)
-        → entries_by w.accumulators w.columns (set hs i x) xs ys vs ≡ set (entries_by w.accumulators w.columns hs fs rs ws) i (Some (place, pane))
-    put_is x xs ys vs head folds row window = (λ k. entries_by w.accumulators w.columns (set hs i (head k)) (folds k) (row k) (window k)) ∙ set_pane
+    pub put_is : (x : Head) (xs : List Value) (zs : List ℤ) (vs : List Window) → x ≡ head_of place pane kinds → xs ≡ with_any i fs pane.folded → zs ≡ ys → vs ≡ with_window i ws (window_stood pane.stands)
+        → entries_by w.accumulators w.columns (set hs i x) xs zs vs ≡ set (entries_by w.accumulators w.columns hs fs rs ws) i (Some (place, pane))
+    put_is x xs zs vs head folds words window = (λ k. entries_by w.accumulators w.columns (set hs i (head k)) (folds k) (words k) (window k)) ∙ set_pane
 
   module _ (mode : Mode) (x : Head) (kept : w.windows ≡ retracts mode) where
     abbrev fired_window : Option Window
@@ -130,18 +164,19 @@ module _ (w : Widths) (hs : List Head) (fs : List Value) (rs : List Cell) (ws : 
     window_is = kept_there w hs fs rs ws laid i h (window_of (place_by x)) ∙ ap (λ b. cond b (Some (window_of (place_by x))) None) kept
 
     -- to write a head that fired, its window, and the row if there is one, is to have the entry have fired
-    pub set_fired : (row : Option (List Cell)) → IfSome row (λ ys. length ys ≡ w.columns)
-        → entries_by w.accumulators w.columns (set hs i (head_fired mode (is_some row) x)) fs (with_any i rs row) (with_window i ws fired_window)
-        ≡ set (entries_by w.accumulators w.columns hs fs rs ws) i (option_map (λ e. (e.0, once_fired mode e.0 row e.1)) (entry_by x (part_at i w.accumulators fs) (part_at i w.columns rs) (slice_get ws i)))
-    set_fired row wide =
-        let r = any_or row (part_at i w.columns rs) in
-        let row_in = part_ends i w.columns rs (has_row w hs fs rs ws laid i h) in
-        ap (λ ys. entries_by w.accumulators w.columns (set hs i (head_fired mode (is_some row) x)) fs ys (with_window i ws fired_window)) (with_any_is i w.columns rs row wide)
-        ∙ set_row w hs fs rs ws laid i h (head_fired mode (is_some row) x) r fired_window (length-any_or i w.columns rs row row_in wide)
-        ∙ ap (λ v. set (entries_by w.accumulators w.columns hs fs rs ws) i (entry_by (head_fired mode (is_some row) x) (part_at i w.accumulators fs) r v)) window_is
-        ∙ ap (set (entries_by w.accumulators w.columns hs fs rs ws) i) (entry_is row)
+    pub set_fired : (o : Option (List Cell)) (kinds : ℕ) (ys : List ℤ) → WrittenRow i w.columns o rs ys kinds
+        → entries_by w.accumulators w.columns (set hs i (head_fired mode (is_some o) kinds x)) fs ys (with_window i ws fired_window)
+        ≡ set (entries_by w.accumulators w.columns hs fs rs ws) i (option_map (λ e. (e.0, once_fired mode e.0 o e.1)) (entry_by x (part_at i w.accumulators fs) (cells_by x.kinds (part_at i w.columns rs)) (slice_get ws i)))
+    set_fired o kinds ys row =
+        let y = head_fired mode (is_some o) kinds x in
+        ap (λ zs. entries_by w.accumulators w.columns (set hs i y) fs zs (with_window i ws fired_window)) row.words
+        ∙ set_row w hs fs rs ws laid i h y row.part fired_window row.size
+        ∙ ap (λ v. set (entries_by w.accumulators w.columns hs fs rs ws) i (entry_by y (part_at i w.accumulators fs) (cells_by kinds row.part) v)) window_is
+        ∙ ap (set (entries_by w.accumulators w.columns hs fs rs ws) i) (entry_is o (cells_by kinds row.part) row.cells)
       where
-        entry_is : (row : Option (List Cell)) → entry_by (head_fired mode (is_some row) x) (part_at i w.accumulators fs) (any_or row (part_at i w.columns rs)) (kept_window mode (window_of (place_by x)))
-            ≡ option_map (λ e. (e.0, once_fired mode e.0 row e.1)) (entry_by x (part_at i w.accumulators fs) (part_at i w.columns rs) (slice_get ws i))
-        entry_is None = fired_without mode x (part_at i w.accumulators fs) (part_at i w.columns rs) (slice_get ws i)
-        entry_is (Some row) = fired_with mode x (part_at i w.accumulators fs) (part_at i w.columns rs) (slice_get ws i) row
+        entry_is : (o : Option (List Cell)) (r : List Cell) → IsRow o r → entry_by (head_fired mode (is_some o) kinds x) (part_at i w.accumulators fs) r (kept_window mode (window_of (place_by x)))
+            ≡ option_map (λ e. (e.0, once_fired mode e.0 o e.1)) (entry_by x (part_at i w.accumulators fs) (cells_by x.kinds (part_at i w.columns rs)) (slice_get ws i))
+        entry_is None r is = fired_without mode x (part_at i w.accumulators fs) (cells_by x.kinds (part_at i w.columns rs)) (slice_get ws i) kinds r
+        entry_is (Some row) r is =
+            ap (λ s. entry_by (head_fired mode true kinds x) (part_at i w.accumulators fs) s (kept_window mode (window_of (place_by x)))) is
+            ∙ fired_with mode x (part_at i w.accumulators fs) (cells_by x.kinds (part_at i w.columns rs)) (slice_get ws i) kinds row

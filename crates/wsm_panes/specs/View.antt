@@ -7,10 +7,11 @@ use Rattle.wsm_semantics.specs.declared.standing.Standing.{Standing}
 use Rattle.wsm_semantics.specs.declared.standing.Standing.TheVariants.{Unfired, Row, Joined}
 use Rattle.wsm_panes.specs.declared.view.RowView.{RowView}
 use Rattle.wsm_panes.specs.declared.view.RowView.TheVariants.{Whole, Part}
+use Rattle.wsm_panes.specs.RowWords.{cells_by}
 
 abbrev pub row_seen : RowView → List Cell
 row_seen (Whole columns) = columns.now
-row_seen (Part cells) = cells.now
+row_seen (Part row) = cells_by row.kinds row.words.now
 
 -- the window of the firing that stands, where it is kept
 abbrev pub window_stood : Standing → Option Window
@@ -21,4 +22,4 @@ window_stood Joined = None
 -- there are no more than a row can have
 abbrev pub IsFew : RowView → Type 0
 IsFew (Whole columns) = Unit {0}
-IsFew (Part cells) = length cells.now ≤ MAX_COLUMNS
+IsFew (Part row) = length row.words.now ≤ MAX_COLUMNS

@@ -1,13 +1,24 @@
 //! What a slot has beside the values of its pane.
 
 ghost use Rattle.std.specs.Prelude.{◌≡◌, ◌+◌, ◌<◌, ◌^◌, true, false, pos, if◌then◌else◌};
-ghost use Rattle.wsm_panes.specs.Layout.{head_of, head_of_one, head_fired, head_with_one_more, place_by};
+ghost use Rattle.wsm_panes.specs.Layout.{head_of, head_of_one, head_fired, head_with_one_more, holds_by, is_folded, is_held, place_by, unfolded};
 
 use crate::view::PaneView;
 use wsm_record::Mode;
 use wsm_windows::Place;
 
-/// What stands for a pane. The values of a row lie beside it.
+/// What a slot holds.
+#[derive(Clone, Copy)]
+pub(crate) enum Holds {
+    /// No entry.
+    Nothing,
+    /// A pane with no records that the next firing is computed over.
+    Unfolded,
+    /// A pane with such records, which are folded.
+    Folded,
+}
+
+/// What stands for a pane. The words of a row lie beside it.
 #[derive(Clone, Copy)]
 pub(crate) enum Stands {
     /// Nothing, as no part of the pane fired.
@@ -28,28 +39,27 @@ pub(crate) struct Head {
     start: i64,
     pub(crate) count: u64,
     pub(crate) unshown: u64,
+    // Which kind of cell each word of its row stands for.
+    pub(crate) kinds: u32,
     // The number of its key.
     key: u16,
-    // Whether there is an entry.
-    pub(crate) is_held: bool,
-    // Whether there are records that the next firing is computed over.
-    pub(crate) is_folded: bool,
+    pub(crate) holds: Holds,
     pub(crate) stands: Stands,
 }
 
 impl Head {
     /// That of a free slot.
     pub(crate) fn free() -> Head
-        ensures { result.is_held ≡ false }
+        ensures { is_held result.holds ≡ false }
     {
         Head {
             end: 0,
             start: 0,
             count: 0,
             unshown: 0,
+            kinds: 0,
             key: 0,
-            is_held: false,
-            is_folded: false,
+            holds: Holds::Nothing,
             stands: Stands::Unfired,
         }
     }
@@ -63,26 +73,48 @@ impl Head {
             start: place.start,
             count: 1,
             unshown: 1,
+            kinds: 0,
             key: place.key,
-            is_held: true,
-            is_folded: true,
+            holds: Holds::Folded,
             stands: Stands::Unfired,
         }
     }
 
-    /// That of a place with a pane.
-    pub(crate) fn of_pane(place: Place, pane: &PaneView<'_>) -> Head
-        ensures { result ≡ head_of place pane.now }
+    /// That of a place with a pane, whose row has these kinds of cells.
+    pub(crate) fn of_pane(place: Place, pane: &PaneView<'_>, kinds: u32) -> Head
+        ensures { result ≡ head_of place pane.now kinds }
     {
         Head {
             end: place.end,
             start: place.start,
             count: pane.count,
             unshown: pane.unshown,
+            kinds,
             key: place.key,
-            is_held: true,
-            is_folded: pane.is_folded,
+            holds: holding(pane.is_folded),
             stands: pane.stands,
+        }
+    }
+
+    /// Whether there is an entry.
+    #[inline(always)]
+    pub(crate) fn is_held(&self) -> bool
+        ensures { result ≡ is_held self.now.holds }
+    {
+        match self.holds {
+            Holds::Nothing => false,
+            Holds::Unfolded | Holds::Folded => true,
+        }
+    }
+
+    /// Whether there are records that the next firing is computed over.
+    #[inline(always)]
+    pub(crate) fn is_folded(&self) -> bool
+        ensures { result ≡ is_folded self.now.holds }
+    {
+        match self.holds {
+            Holds::Folded => true,
+            Holds::Nothing | Holds::Unfolded => false,
         }
     }
 
@@ -114,23 +146,46 @@ impl Head {
     {
         self.count += 1;
         self.unshown += 1;
-        self.is_folded = true;
+        self.holds = Holds::Folded;
     }
 
-    /// Has the pane have fired, with a row or with none.
+    /// Has the pane have fired, with a row of these kinds of cells or with none.
     #[inline(always)]
-    pub(crate) fn fire(&mut self, mode: Mode, has_row: bool)
-        ensures { self.new ≡ head_fired mode has_row self.old }
+    pub(crate) fn fire(&mut self, mode: Mode, has_row: bool, kinds: u32)
+        ensures { self.new ≡ head_fired mode has_row kinds self.old }
     {
         self.unshown = 0;
+        self.kinds = kinds;
         if !mode.is_over_all() {
-            self.is_folded = false;
+            self.holds = emptied(self.holds);
         }
         self.stands = if has_row {
             Stands::FiredRow
         } else {
             Stands::NoRow
         };
+    }
+}
+
+// What a slot with a pane holds.
+fn holding(is_folded: bool) -> Holds
+    ensures { result ≡ holds_by is_folded }
+{
+    if is_folded {
+        Holds::Folded
+    } else {
+        Holds::Unfolded
+    }
+}
+
+// What is held with no records that the next firing is computed over.
+#[inline(always)]
+fn emptied(holds: Holds) -> Holds
+    ensures { result ≡ unfolded holds }
+{
+    match holds {
+        Holds::Nothing => Holds::Nothing,
+        Holds::Unfolded | Holds::Folded => Holds::Unfolded,
     }
 }
 

@@ -7,30 +7,31 @@ ghost use Rattle.wsm_record.specs.declared.limits.TheConstants.{MAX_ACCUMULATORS
 ghost use Rattle.wsm_record.specs.Modes.{retracts};
 ghost use Rattle.wsm_fold.specs.Fold.{are_of_kinds};
 ghost use Rattle.wsm_panes.specs.Held.{CanRecord, CanTake, once_fired, with_one_more};
-ghost use Rattle.wsm_panes.specs.Layout.{HasPart, IsAsWide, folded_on, part_at, windows_kept, with_any, with_part, with_window};
+ghost use Rattle.wsm_panes.specs.Layout.{HasPart, IsAsWide, IsRowWritten, IsWritten, folded_on, part_at, windows_kept, with_any, with_part, with_window};
 ghost use Rattle.wsm_panes.specs.Ring.{slot_at};
 
-use crate::head::Head;
+use crate::head::{Head, Holds};
+use crate::row_words::{RowWords, write_cells};
 use crate::view::{PaneView, RowView};
 use crate::widths::Widths;
 use std::alloc::{AllocError, Global};
 use std::marker::Model;
 use wsm_fold::fold_into;
-use wsm_record::{Cell, Kind, Mode, Value};
+use wsm_record::{Cell, Columns, Kind, Mode, Value};
 use wsm_windows::{Place, Window};
 
 // Until one is written.
 const NO_WINDOW: Window = Window { start: 0, end: 0 };
 
 /// Slots, each of which is free or has a place with its pane. The values of all panes lie beside one
-/// another, as many for each as it has accumulators and columns, and so do the windows of what stands,
-/// where they are kept. A clause sees the entries.
+/// another, as many for each as it has accumulators, and so do the words of their rows, as many as it
+/// has columns, and the windows of what stands, where they are kept. A clause sees the entries.
 #[derive(Drop)]
 pub(crate) struct Slots {
     widths: Widths,
     heads: Vec<Head>,
     folds: Vec<Value>,
-    rows: Vec<Cell>,
+    words: Vec<i64>,
     // Of each slot, where windows are kept, and else none.
     windows: Vec<Window>,
 }
@@ -40,9 +41,9 @@ impl Model for Slots {
 
     ghost Value = { Slotted };
 
-    ghost view = { λ a. record { widths = a.widths; slots = entries_by a.widths.accumulators a.widths.columns a.heads.items a.folds.items a.rows.items a.windows.items } };
+    ghost view = { λ a. record { widths = a.widths; slots = entries_by a.widths.accumulators a.widths.columns a.heads.items a.folds.items a.words.items a.windows.items } };
 
-    ghost invariant = { λ a. IsLaidOut a.widths a.heads.items a.folds.items a.rows.items a.windows.items };
+    ghost invariant = { λ a. IsLaidOut a.widths a.heads.items a.folds.items a.words.items a.windows.items };
 }
 
 impl Slots {
@@ -61,7 +62,7 @@ impl Slots {
             widths,
             heads: copies(alloc, Head::free(), count)?,
             folds: copies(alloc, Value::Int(0), count * widths.accumulators)?,
-            rows: copies(alloc, Cell::default(), count * widths.columns)?,
+            words: copies(alloc, 0, count * widths.columns)?,
             windows: copies(alloc, NO_WINDOW, window_count(widths, count))?,
         })
     }
@@ -80,7 +81,7 @@ impl Slots {
         ensures { result ≡ option_map (λ e. e.0) (slot_at self.now.slots slot) }
     {
         let head = &self.heads[slot];
-        if head.is_held {
+        if head.is_held() {
             Some(head.place())
         } else {
             None
@@ -107,10 +108,13 @@ impl Slots {
         PaneView {
             count: head.count,
             unshown: head.unshown,
-            is_folded: head.is_folded,
+            is_folded: head.is_folded(),
             stands: head.stands,
             folds: part(&self.folds, slot, self.widths.accumulators),
-            row: RowView::Part(part(&self.rows, slot, self.widths.columns)),
+            row: RowView::Part(RowWords {
+                kinds: head.kinds,
+                words: part(&self.words, slot, self.widths.columns),
+            }),
             stood: window_at(&self.windows, slot),
         }
     }
@@ -133,9 +137,10 @@ impl Slots {
         requires wide { IsAsWide self.old.widths pane.now }
         ensures { self.new ≡ record self.old { slots = slice_set self.old.slots slot (Some (place, pane.now)) } }
     {
-        self.heads[slot] = Head::of_pane(place, pane);
+        let row = pane.standing_row();
+        let kinds = write_row(&mut self.words, slot, cells_of(&row));
+        self.heads[slot] = Head::of_pane(place, pane, kinds);
         write_any(&mut self.folds, slot, pane.folded());
-        write_any(&mut self.rows, slot, pane.row_cells());
         write_window(&mut self.windows, slot, pane.window());
     }
 
@@ -148,7 +153,7 @@ impl Slots {
         ensures { self.new ≡ record self.old { slots = slice_set self.old.slots slot (option_map (λ e. (e.0, with_one_more kinds.now values.now (Some e.1))) (slot_at self.old.slots slot)) } }
     {
         let head = &mut self.heads[slot];
-        let is_folded = head.is_folded;
+        let is_folded = head.is_folded();
         head.record();
         fold_part(&mut self.folds, slot, is_folded, kinds, values);
     }
@@ -169,10 +174,10 @@ impl Slots {
         requires windows { self.old.widths.windows ≡ retracts mode }
         ensures { self.new ≡ record self.old { slots = slice_set self.old.slots slot (option_map (λ e. (e.0, once_fired mode e.0 (option_map (λ cells. cells.now) row.entry) e.1)) (slot_at self.old.slots slot)) } }
     {
+        let kinds = write_row(&mut self.words, slot, row);
         let head = &mut self.heads[slot];
-        head.fire(mode, row.is_some());
+        head.fire(mode, row.is_some(), kinds);
         let window = head.place().window();
-        write_any(&mut self.rows, slot, row);
         write_window(&mut self.windows, slot, Some(window));
     }
 
@@ -181,7 +186,7 @@ impl Slots {
         requires { slot < length self.old.slots }
         ensures { self.new ≡ record self.old { slots = slice_set self.old.slots slot None } }
     {
-        self.heads[slot].is_held = false;
+        self.heads[slot].holds = Holds::Nothing;
     }
 }
 
@@ -211,6 +216,42 @@ fn write_any<T: Copy>(values: &mut [T], slot: usize, part: Option<&[T]>)
 {
     if let Some(part) = part {
         write_part(values, slot, part);
+    }
+}
+
+// Writes the row of a slot, if there is one, as words among those of slots that have as many each.
+// Tells the kinds of its cells.
+#[inline(always)]
+fn write_row(words: &mut [i64], slot: usize, row: Option<&[Cell]>) -> u32
+    requires few { IfSome row (λ cells. length cells.now ≤ MAX_COLUMNS) }
+    requires part { IfSome row (λ cells. HasPart slot (length cells.now) words.old) }
+    ensures { IsWritten slot (option_map (λ cells. cells.now) row.entry) words.old words.new result }
+{
+    match row {
+        Some(cells) => write_row_part(words, slot, cells),
+        None => 0,
+    }
+}
+
+// Writes a row as the words of a slot, among those of slots that have as many each. Tells the kinds
+// of its cells.
+#[inline(always)]
+fn write_row_part(words: &mut [i64], slot: usize, row: &[Cell]) -> u32
+    requires few { length row.now ≤ MAX_COLUMNS }
+    requires part { HasPart slot (length row.now) words.old }
+    ensures { IsRowWritten slot row.now words.old words.new result }
+{
+    let at = slot * row.len();
+    write_cells(&mut words[at..at + row.len()], row)
+}
+
+// The cells of a row, if there is one.
+fn cells_of(row: &Option<Columns>) -> Option<&[Cell]>
+    ensures { option_map (λ cells. cells.now) result ≡ row.now }
+{
+    match row {
+        Some(columns) => Some(columns.as_slice()),
+        None => None,
     }
 }
 

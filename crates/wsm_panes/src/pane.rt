@@ -15,6 +15,7 @@ ghost use Rattle.wsm_panes.specs.Held.{CanJoin, CanJoinFolds, CanRecord, CanTake
 
 use crate::head::Stands;
 use crate::recording::TakesRecords;
+use crate::row_words::RowWords;
 use crate::view::{PaneView, RowView, row_columns};
 use std::marker::Model;
 use wsm_fold::Folded;
@@ -116,16 +117,16 @@ fn standing_parts(standing: &Standing) -> (Stands, Option<Window>, RowView<'_>)
     ensures few { IsFew result.2 }
 {
     match standing {
-        Standing::Unfired => (Stands::Unfired, None, RowView::Part(&[])),
+        Standing::Unfired => (Stands::Unfired, None, RowView::Part(RowWords::empty())),
         Standing::Row {
             window,
             columns: None,
-        } => { (Stands::NoRow, *window, RowView::Part(&[])) }
+        } => { (Stands::NoRow, *window, RowView::Part(RowWords::empty())) }
         Standing::Row {
             window,
             columns: Some(columns),
         } => { (Stands::FiredRow, *window, RowView::Whole(columns)) }
-        Standing::Joined => (Stands::Joined, None, RowView::Part(&[])),
+        Standing::Joined => (Stands::Joined, None, RowView::Part(RowWords::empty())),
     }
 }
 

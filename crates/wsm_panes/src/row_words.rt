@@ -1,6 +1,6 @@
 //! The cells of a row as words.
 
-ghost use Rattle.std.specs.Prelude.{◌≡◌, ◌≤◌, ◌/◌, ◌%◌, length};
+ghost use Rattle.std.specs.Prelude.{◌≡◌, ◌≤◌, ◌/◌, ◌%◌, [], length};
 ghost use Rattle.wsm_record.specs.declared.cell.Cell.TheVariants as cells;
 ghost use Rattle.wsm_record.specs.declared.limits.TheConstants.{MAX_COLUMNS};
 ghost use Rattle.wsm_panes.specs.RowWords.{cell_by, cells_by};
@@ -18,6 +18,16 @@ pub(crate) struct RowWords<'a> {
 }
 
 impl<'a> RowWords<'a> {
+    /// No cells.
+    pub(crate) fn empty() -> RowWords<'a>
+        ensures { result.words.now ≡ [] }
+    {
+        RowWords {
+            kinds: 0,
+            words: &[],
+        }
+    }
+
     /// The cells, as columns.
     pub(crate) fn columns(&self) -> Columns
         requires { length self.now.words.now ≤ MAX_COLUMNS }

@@ -6,8 +6,9 @@ ghost use Rattle.wsm_panes.specs.Held.{has_fired};
 ghost use Rattle.wsm_panes.specs.View.{IsFew, row_seen, window_stood};
 
 use crate::head::Stands;
+use crate::row_words::RowWords;
 use std::marker::Model;
-use wsm_record::{Cell, Columns, Value};
+use wsm_record::{Columns, Value};
 use wsm_windows::Window;
 
 /// Where the cells of a row lie.
@@ -15,8 +16,8 @@ use wsm_windows::Window;
 pub(crate) enum RowView<'a> {
     /// In columns of their own.
     Whole(&'a Columns),
-    /// Among those of other rows.
-    Part(&'a [Cell]),
+    /// As words, among those of other rows.
+    Part(RowWords<'a>),
 }
 
 /// A pane that is held, as it is read where it lies. A clause sees how many records it has, how many
@@ -105,26 +106,6 @@ impl<'a> PaneView<'a> {
             Stands::Unfired | Stands::NoRow | Stands::Joined => None,
         }
     }
-
-    /// The cells of the row that stands for it, where they lie.
-    pub(crate) fn row_cells(&self) -> Option<&[Cell]>
-        ensures { option_map (λ cells. cells.now) result ≡ kept.standing_row self.now.stands }
-    {
-        match self.stands {
-            Stands::FiredRow => Some(cells_of(&self.row)),
-            Stands::Unfired | Stands::NoRow | Stands::Joined => None,
-        }
-    }
-}
-
-// The cells of a row.
-fn cells_of<'a>(row: &'a RowView<'a>) -> &'a [Cell]
-    ensures { result.now ≡ row_seen row.now }
-{
-    match row {
-        RowView::Whole(columns) => columns.as_slice(),
-        RowView::Part(cells) => cells,
-    }
 }
 
 /// The columns of a row.
@@ -134,6 +115,6 @@ pub(crate) fn row_columns(row: &RowView<'_>) -> Columns
 {
     match row {
         RowView::Whole(columns) => **columns,
-        RowView::Part(cells) => Columns::of(cells),
+        RowView::Part(words) => words.columns(),
     }
 }

@@ -1,15 +1,16 @@
-use Rattle.std.proofs.Common.{◌<◌, length, arith, false}
+use Rattle.std.proofs.Common.{◌<◌, length, arith}
+use Rattle.wsm_panes.specs.declared.head.Holds.TheVariants.{Nothing}
 use Rattle.wsm_panes.proofs.Laid.{length-entries, set_head}
 use Rattle.wsm_panes.proofs.layout.Slots.clear.Goals as goal
 
 pub index_mut-requires : goal.index_mut-requires
 index_mut-requires c =
     let a = c.self.inside in
-    omega (arith, rw (← c.self.view_is) at c.requires, a.heads.ok.0, length-entries a.widths.accumulators a.widths.columns a.heads.items a.folds.items a.rows.items a.windows.items)
+    omega (arith, rw (← c.self.view_is) at c.requires, a.heads.ok.0, length-entries a.widths.accumulators a.widths.columns a.heads.items a.folds.items a.words.items a.windows.items)
 
 pub returns : goal.returns
 returns c =
     let a = c.self.inside in
-    let within : c.args.slot < length a.heads.items = omega (arith, rw (← c.self.view_is) at c.requires, length-entries a.widths.accumulators a.widths.columns a.heads.items a.folds.items a.rows.items a.windows.items) in
-    let set = set_head a.widths a.heads.items a.folds.items a.rows.items a.windows.items c.self.invariant c.args.slot within (record c.index_mut.result.now { is_held = false }) in
+    let within : c.args.slot < length a.heads.items = omega (arith, rw (← c.self.view_is) at c.requires, length-entries a.widths.accumulators a.widths.columns a.heads.items a.folds.items a.words.items a.windows.items) in
+    let set = set_head a.widths a.heads.items a.folds.items a.words.items a.windows.items c.self.invariant c.args.slot within (record c.index_mut.result.now { holds = Nothing }) in
     rw (← c.self.view_is) (λ i. record { widths = a.widths; slots = set i })

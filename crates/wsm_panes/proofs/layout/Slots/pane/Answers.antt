@@ -2,30 +2,31 @@ use Rattle.std.proofs.Common.{◌≡◌, length, arith, ap, refl, ◌∙◌}
 use Rattle.std.specs.Option.{is_some}
 use Rattle.std.specs.Prelude.{slice_get}
 use Rattle.wsm_panes.specs.Layout.{part_at}
+use Rattle.wsm_panes.specs.RowWords.{cells_by}
 use Rattle.wsm_panes.proofs.Laid.{entry_read, has_folds, has_row, has_window, head_held, length-part, part_ends, slot_held}
-use Rattle.wsm_panes.proofs.Written.{folded_few, folded_wide, standing_wide, standing_window}
+use Rattle.wsm_panes.proofs.Written.{folded_few, folded_wide, length-cells_by, standing_wide, standing_window}
 use Rattle.wsm_panes.proofs.layout.Slots.pane.Goals as goal
 
 pub index-head-requires : goal.index-head-requires
 index-head-requires c =
     let a = c.self.inside in
-    omega (arith, slot_held a.widths.accumulators a.widths.columns a.heads.items a.folds.items a.rows.items a.windows.items c.args.slot (rw (← c.self.view_is) at c.requires), a.heads.ok.0)
+    omega (arith, slot_held a.widths.accumulators a.widths.columns a.heads.items a.folds.items a.words.items a.windows.items c.args.slot (rw (← c.self.view_is) at c.requires), a.heads.ok.0)
 
 pub part-requires : goal.part-requires
 part-requires c =
     let a = c.self.inside in
-    rw c.deref.ensures.value (has_folds a.widths a.heads.items a.folds.items a.rows.items a.windows.items c.self.invariant c.args.slot (slot_held a.widths.accumulators a.widths.columns a.heads.items a.folds.items a.rows.items a.windows.items c.args.slot (rw (← c.self.view_is) at c.requires)))
+    rw c.deref.ensures.value (has_folds a.widths a.heads.items a.folds.items a.words.items a.windows.items c.self.invariant c.args.slot (slot_held a.widths.accumulators a.widths.columns a.heads.items a.folds.items a.words.items a.windows.items c.args.slot (rw (← c.self.view_is) at c.requires)))
 
 pub part-requires-2 : goal.part-requires-2
 part-requires-2 c =
     let a = c.self.inside in
-    rw c.deref-2.ensures.value (has_row a.widths a.heads.items a.folds.items a.rows.items a.windows.items c.self.invariant c.args.slot (slot_held a.widths.accumulators a.widths.columns a.heads.items a.folds.items a.rows.items a.windows.items c.args.slot (rw (← c.self.view_is) at c.requires)))
+    rw c.deref-2.ensures.value (has_row a.widths a.heads.items a.folds.items a.words.items a.windows.items c.self.invariant c.args.slot (slot_held a.widths.accumulators a.widths.columns a.heads.items a.folds.items a.words.items a.windows.items c.args.slot (rw (← c.self.view_is) at c.requires)))
 
 pub returns : goal.returns
 returns c =
     let a = c.self.inside in
     let w = a.widths.accumulators in let n = a.widths.columns in
-    let hs = a.heads.items in let fs = a.folds.items in let rs = a.rows.items in let ws = a.windows.items in
+    let hs = a.heads.items in let fs = a.folds.items in let rs = a.words.items in let ws = a.windows.items in
     let i = c.args.slot in let h = c.index-head.result.now in
     let some = rw (← c.self.view_is) at c.requires in
     let within = slot_held w n hs fs rs ws i some in
@@ -36,7 +37,7 @@ returns c =
     let window : c.window_at.result ≡ slice_get ws i = c.window_at.ensures ∙ ap (λ vs. slice_get vs i) c.deref-3.ensures.value in
     let kept : is_some c.window_at.result ≡ a.widths.windows = ap is_some window ∙ has_window a.widths hs fs rs ws c.self.invariant i within in
     record {
-      same = rw (← c.self.view_is) (rw (at, there, window, c.part.ensures, c.part-2.ensures, c.deref.ensures.value, c.deref-2.ensures.value) refl);
-      wide = rw (← c.self.view_is) (record { folds = folded_wide h.is_folded c.part.result.now w folds; row = standing_wide h.stands c.window_at.result c.part-2.result.now n row; window = standing_window h.stands c.window_at.result c.part-2.result.now a.widths.windows kept });
-      few = folded_few h.is_folded c.part.result.now (omega (arith, folds, c.self.invariant.few.0));
+      same = rw (← c.self.view_is) (rw (at, there, window, c.is_folded.ensures, c.part.ensures, c.part-2.ensures, c.deref.ensures.value, c.deref-2.ensures.value) refl);
+      wide = rw (← c.self.view_is) (record { folds = folded_wide c.is_folded.result c.part.result.now w folds; row = standing_wide h.stands c.window_at.result (cells_by h.kinds c.part-2.result.now) n (length-cells_by h.kinds c.part-2.result.now ∙ row); window = standing_window h.stands c.window_at.result (cells_by h.kinds c.part-2.result.now) a.widths.windows kept });
+      few = folded_few c.is_folded.result c.part.result.now (omega (arith, folds, c.self.invariant.few.0));
     }
