@@ -21,9 +21,21 @@ pub fn row_order(row: &[Cell], other: &[Cell]) -> Ordering
     row.len().cmp(&other.len())
 }
 
-// Numbers by value, false before true, names by the numbers of their ENUM and their own.
+// How two cells compare, which are mostly numbers.
 #[inline(always)]
 fn cell_order(cell: Cell, other: Cell) -> Ordering
+    ensures { result ≡ cell_cmp cell other }
+{
+    if let (Cell::Int(a), Cell::Int(b)) = (cell, other) {
+        a.cmp(&b)
+    } else {
+        kind_order(cell, other)
+    }
+}
+
+// Numbers by value, false before true, names by the numbers of their ENUM and their own.
+#[inline(never)]
+fn kind_order(cell: Cell, other: Cell) -> Ordering
     ensures { result ≡ cell_cmp cell other }
 {
     match (cell, other) {

@@ -63,32 +63,14 @@ returns-in_default c =
 pub pane-pane-requires-clause-there : goal.pane-pane-requires-clause-there
 pane-pane-requires-clause-there c = held_there (goal.at.pane-pane-requires-clause-there c).In-Some
 
-pub run-ran-requires : goal.run-ran-requires
-run-ran-requires c =
-    let p = c.args.verified.now in
-    let at = (found (goal.at.run-ran-requires c).In-Some).0 in
-    let one = fires (goal.at.run-ran-requires c).In-Some-record_kind at (kind_is (goal.at.run-ran-requires c).After-record_kind) in
-    let can = subst (λ (fs : List (Fired (List Value))). CanAdd p (vec_capacity c.args.self.now.rows) (vec_len c.args.self.now.rows) c.args.tally.now fs) one.firings c.requires.can in
-    subst (λ (r : Place). MayFire p (firing p c.in-Some-record_kind.kind r c.pane-pane.result)) (sym at) can.each.0
+pub fire_held-requires-clause-held : goal.fire_held-requires-clause-held
+fire_held-requires-clause-held c = held_there (goal.at.fire_held-requires-clause-held c).In-Some
 
-pub fire-requires-clause-held : goal.fire-requires-clause-held
-fire-requires-clause-held c = held_there (goal.at.fire-requires-clause-held c).In-Some
-
-pub fire-requires-clause-row : goal.fire-requires-clause-row
-fire-requires-clause-row c = λ h found.
+pub fire_held-requires-clause-can : goal.fire_held-requires-clause-can
+fire_held-requires-clause-can c = λ h held.
     let p = c.args.verified.now in
-    c.run-ran.ensures.row ∙ ap (λ (x : Pane (List Value)). columns (plan_of p) c.in-Some.spot.place.key (fired_count p.header.mode x) x.folded) (some_same (sym c.pane-pane.ensures ∙ found))
-
-pub fire-requires-clause-steps : goal.fire-requires-clause-steps
-fire-requires-clause-steps c = λ h found.
-    let p = c.args.verified.now in
-    c.run-ran.ensures.steps ∙ ap (λ (x : Pane (List Value)). pane_cost_by p (fired_by p.header.mode (record { kind = c.in-Some-record_kind.kind; spot = c.in-Some.spot }) x)) (some_same (sym c.pane-pane.ensures ∙ found))
-
-pub fire-requires-clause-can : goal.fire-requires-clause-can
-fire-requires-clause-can c = λ h held.
-    let p = c.args.verified.now in
-    let at = (found (goal.at.fire-requires-clause-can c).In-Some).0 in
-    let one = fires (goal.at.fire-requires-clause-can c).In-Some-record_kind at (kind_is (goal.at.fire-requires-clause-can c).After-record_kind) in
+    let at = (found (goal.at.fire_held-requires-clause-can c).In-Some).0 in
+    let one = fires (goal.at.fire_held-requires-clause-can c).In-Some-record_kind at (kind_is (goal.at.fire_held-requires-clause-can c).After-record_kind) in
     let same : c.pane-pane.result ≡ h = some_same (sym c.pane-pane.ensures ∙ held) in
     subst (λ (x : Place × Pane (List Value)). CanAdd p (vec_capacity c.args.self.now.rows) (vec_len c.args.self.now.rows) c.args.tally.now (firing p c.in-Some-record_kind.kind x.0 x.1 ∷ []))
     (λ i. (sym at i, same i))
@@ -101,16 +83,16 @@ returns-in-Some-record_kind c =
     let one = fires (goal.at.returns-in-Some-record_kind c).In-Some-record_kind at (kind_is (goal.at.returns-in-Some-record_kind c).After-record_kind) in
     let mark : SFits w64 c.args.mark = c.ranges.mark in
     record {
-      panes = c.fire.ensures.panes h c.pane-pane.ensures ∙ ap (λ (r : Place). put place_cmp r (fired_pane (plan_of p) p.header.mode r (Some kind) h) es) at ∙ sym one.panes;
-      keeps = c.fire.ensures.keeps;
-      tells = c.fire.ensures.tells;
+      panes = c.fire_held.ensures.panes h c.pane-pane.ensures ∙ ap (λ (r : Place). put place_cmp r (fired_pane (plan_of p) p.header.mode r (Some kind) h) es) at ∙ sym one.panes;
+      keeps = c.fire_held.ensures.keeps;
+      tells = c.fire_held.ensures.tells;
       rows =
-          c.fire.ensures.rows h c.pane-pane.ensures
+          c.fire_held.ensures.rows h c.pane-pane.ensures
           ∙ ap (λ (r : Place). c.args.self.now.rows.items ++ rows_of p (firing p kind r h ∷ [])) at
           ∙ ap (λ (fs : List (Fired (List Value))). c.args.self.now.rows.items ++ rows_of p fs) (sym one.firings);
-      capacity = c.fire.ensures.capacity;
+      capacity = c.fire_held.ensures.capacity;
       tally =
-          c.fire.ensures.tally h c.pane-pane.ensures
+          c.fire_held.ensures.tally h c.pane-pane.ensures
           ∙ ap (λ (r : Place). tally_with p c.args.tally.now (firing p kind r h ∷ [])) at
           ∙ ap (λ (fs : List (Fired (List Value))). tally_with p c.args.tally.now fs) (sym one.firings);
     }
@@ -135,5 +117,5 @@ returns-in_default-record_kind c =
 pub pane-pane-requires-clause-spot : goal.pane-pane-requires-clause-spot
 pane-pane-requires-clause-spot c = spot_in c.args.self.now.held c.find.result c.in-Some.spot c.find.ensures.spot c.in-Some.is
 
-pub fire-requires-clause-spot : goal.fire-requires-clause-spot
-fire-requires-clause-spot c = spot_in c.args.self.now.held c.find.result c.in-Some.spot c.find.ensures.spot c.in-Some.is
+pub fire_held-requires-clause-spot : goal.fire_held-requires-clause-spot
+fire_held-requires-clause-spot c = spot_in c.args.self.now.held c.find.result c.in-Some.spot c.find.ensures.spot c.in-Some.is
