@@ -118,7 +118,9 @@ impl Streams {
         if let Kept::Nothing = &self.kept {
             return;
         }
-        self.lose_at(held, spot.rebuilt());
+        if held.pane(spot).has_fired() {
+            self.lose_at(held, spot.rebuilt());
+        }
     }
 
     // The same, where rows are those of the relation.
@@ -229,6 +231,7 @@ impl Side {
     }
 
     // A row of its stream.
+    #[inline(always)]
     fn row(self, mark: i64, columns: Columns) -> OutRow
         ensures { result ≡ changed_row self mark columns }
     {
@@ -260,6 +263,7 @@ fn write_changes(side: Side, mark: i64, changes: &Changes, rows: &mut Vec<OutRow
 }
 
 // Appends a row so many times.
+#[inline(always)]
 fn write_copies(side: Side, mark: i64, row: &Columns, times: u64, rows: &mut Vec<OutRow>)
     requires { vec_len rows.old + times ≤ vec_capacity rows.old }
     ensures rows { rows.new.items ≡ rows.old.items ++ replicate times (changed_row side mark row.now) }

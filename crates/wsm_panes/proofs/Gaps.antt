@@ -59,8 +59,8 @@ module _ {X : Type 0} (q : Place) where
   gap_absent [] sorted absent = record { within = omega arith; stops = refl; absent = refl; puts = λ pane. refl }
   gap_absent (e ∷ es) sorted absent =
       let others : before place_cmp q (e ∷ es) < length (e ∷ es) → (get_or (e ∷ es) (before place_cmp q (e ∷ es)) e).0 ≢ q = λ within is.
-          let at = at_here (e ∷ es) (before place_cmp q (e ∷ es)) e q sorted within (ap (place_cmp q) is ∙ tied_itself places_total q) in
-          true≢false (sym (is_found (e ∷ es) _ q at) ∙ ap is_some absent) in
+      let at = at_here (e ∷ es) (before place_cmp q (e ∷ es)) e q sorted within (ap (place_cmp q) is ∙ tied_itself places_total q) in
+      true≢false (sym (is_found (e ∷ es) _ q at) ∙ ap is_some absent) in
       record {
         within = before_within place_cmp (e ∷ es) q;
         stops = refl;

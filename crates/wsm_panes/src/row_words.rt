@@ -29,6 +29,7 @@ impl<'a> RowWords<'a> {
     }
 
     /// The cells, as columns.
+    #[inline(always)]
     pub(crate) fn columns(&self) -> Columns
         requires { length self.now.words.now ≤ MAX_COLUMNS }
         ensures { result ≡ cells_by self.now.kinds self.now.words.now }

@@ -98,6 +98,7 @@ impl<'a> PaneView<'a> {
     }
 
     /// The row that stands for it.
+    #[inline(always)]
     pub fn standing_row(&self) -> Option<Columns>
         ensures { result ≡ kept.standing_row self.now.stands }
     {
@@ -109,6 +110,7 @@ impl<'a> PaneView<'a> {
 }
 
 /// The columns of a row.
+#[inline(always)]
 pub(crate) fn row_columns(row: &RowView<'_>) -> Columns
     requires { IsFew row.now }
     ensures { result ≡ row_seen row.now }
