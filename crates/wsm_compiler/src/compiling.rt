@@ -70,5 +70,5 @@ fn program(alloc: Global, checked: &Checked, budget: Costs) -> Result<Program, A
     let selection = selection(alloc, &parts.condition)?;
     let update = update(alloc, &parts.foldings)?;
     let fire = fire(alloc, &parts.columns, &parts.having)?;
-    Ok(Program::new(header, selection, update, fire).unwrap())
+    Ok(Program::of_parts(header, selection, update, fire))
 }

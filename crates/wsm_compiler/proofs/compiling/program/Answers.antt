@@ -20,10 +20,10 @@ update-requires-clause-few c = rw c.deref.ensures.value (omega (arith, few_foldi
 pub fire-requires : goal.fire-requires
 fire-requires c = rw c.deref-2.ensures.value (fire_fits (seen_parts c.args.checked.now.parts) c.args.checked.now.of_checked)
 
-pub unwrap-requires : goal.unwrap-requires
-unwrap-requires c =
+pub of_parts-requires : goal.of_parts-requires
+of_parts-requires c =
     let p = seen_parts c.args.checked.now.parts in
     let update = rw c.deref.ensures.value at c.in_ok-update.ensures in
     let fire = rw c.deref-2.ensures.value at c.in_ok-fire.ensures in
     let same = put_together p c.args.budget _ _ _ _ c.in_ok-header.ensures c.in_ok-selection.ensures update fire in
-    c.new.ensures.lawful ∙ sym (ap is_program same) ∙ is_program_of p c.args.checked.now.of_checked c.args.budget c.requires
+    sym (ap is_program same) ∙ is_program_of p c.args.checked.now.of_checked c.args.budget c.requires
