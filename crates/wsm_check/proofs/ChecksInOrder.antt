@@ -1,11 +1,10 @@
 -- Checks one behind the other.
-use Rattle.std.proofs.Common.{◌≡◌, ◌∙◌, ◌≤◌, ◌<◌, ◌+◌, ◌++◌, ◌||◌, ℕ, suc, Bool, true, false, not, ◌&&◌, nat_lt, List, [], ◌∷◌, length, map, take, drop, get_or, Option, Some, None, Err, Result, inl, inr, bytes_eq, refl, ap, ap₂, sym, arith, add-one, length-append, nat_le}
+use Rattle.std.proofs.Common.{◌≡◌, ◌∙◌, ◌≤◌, ◌<◌, ◌+◌, ◌++◌, ◌||◌, ℕ, suc, Bool, true, false, not, ◌&&◌, nat_lt, List, [], ◌∷◌, length, map, take, drop, get_or, Option, Some, None, Err, Result, ◌⊎◌, inl, inr, bytes_eq, refl, ap, ap₂, sym, arith, add-one, length-append, nat_le}
 use Rattle.std.proofs.lemmas.Bool.{and_parts, ltb-true, and_from}
 use Rattle.std.proofs.lemmas.Bool.Decides.{nat_tests}
 use Rattle.std.proofs.lemmas.List.{length-map, map-append, take_more}
 use Rattle.std.proofs.Math.Seq.{drop-cons}
 use Rattle.std.specs.List.{list_all, list_any}
-use Rattle.wsm_record.specs.Modes.{may_write}
 use Rattle.wsm_record.specs.Name.{is_among}
 use Rattle.wsm_record.specs.declared.schema.Field.{Field as CodeField}
 use Rattle.wsm_record.specs.Schema.{FieldType, DeclaredField, is_source_count}
@@ -13,26 +12,26 @@ use Rattle.wsm_record.specs.Schema as field_types
 use Rattle.wsm_query.specs.Tree.{Name, Query}
 use Rattle.wsm_record.specs.Fields.{declared_field, declared_type}
 use Rattle.wsm_check.specs.declared.refusal.CheckRefusal.{CheckRefusal}
+use Rattle.wsm_check.specs.declared.refusal.CheckRefusal.TheVariants.{Memory}
 use Rattle.wsm_check.specs.declared.refusal.CheckFault.{CheckFault}
 use Rattle.wsm_check.specs.declared.refusal.Part.{Part}
-use Rattle.wsm_check.specs.declared.refusal.CheckFault.TheVariants.{Duplicate, Limit, StreamNeedsAccumulating, SessionLateness}
+use Rattle.wsm_check.specs.declared.refusal.CheckFault.TheVariants.{Duplicate, Limit}
 use Rattle.wsm_check.specs.declared.refusal.Part.TheVariants as part
 use Rattle.wsm_check.specs.Names.{field_names, names_of}
 use Rattle.wsm_check.specs.Terms.{few_names}
-use Rattle.wsm_check.specs.Checks.{Judges, or_else, first, unless, names_refusal, ty_refusal, field_refusal, fields_refusal, clock_fits, budget_fits, shape_fits, lateness_fits, every_fits, sources_refusal, condition_refusal, columns_refusal, code_fits, refusal, grouped_refusal}
-use Rattle.wsm_check.specs.Types.{InWhere, InColumn}
+use Rattle.wsm_check.specs.Checks.{Judges, or_else, first, unless, names_refusal, ty_refusal, field_refusal, fields_refusal, declared_checks, declared_refusal, number_checks, numbers_refusal, expression_checks, code_fits, refusal, grouped_refusal}
 
 stopped : (r s : Option CheckRefusal) (e : CheckRefusal) → r ≡ Some e → or_else r s ≡ Some e
 stopped None s e h = cc
 stopped (Some f) s e h = h
 
 -- a check that refuses
-pub stops : (r s : Option CheckRefusal) (e : CheckRefusal) → Judges (Err e) r → Judges (Err e) (or_else r s)
+pub stops : (r s : Option CheckRefusal) (e : CheckRefusal) → (e ≡ Memory) ⊎ (r ≡ Some e) → (e ≡ Memory) ⊎ (or_else r s ≡ Some e)
 stops r s e (inl m) = inl m
 stops r s e (inr h) = inr (stopped r s e h)
 
 -- the checks behind one that passed
-pub goes_on : (r s : Option CheckRefusal) (answer : Result (Unit {0}) CheckRefusal) → r ≡ None → Judges answer s → Judges answer (or_else r s)
+pub goes_on : {A : Type 0} (r s : Option CheckRefusal) (answer : Result A CheckRefusal) → r ≡ None → Judges answer s → Judges answer (or_else r s)
 goes_on None s answer h judged = judged
 goes_on (Some f) s answer h judged = cc
 
@@ -82,26 +81,24 @@ pub next_passed : (fields : List CodeField) (i : ℕ) (f : CodeField) → i < le
 next_passed fields i f h e before passed = before ∙ fields_next fields i f h e ∙ none_behind (field_refusal (names_to i fields) (declared_field f)) (refusal_from (i + 1) fields) passed
 
 pub next_refused : (fields : List CodeField) (i : ℕ) (f : CodeField) (r : CheckRefusal) → i < length fields → f ≡ get_or fields i f → fields_refusal [] (map declared_field fields) ≡ refusal_from i fields →
-    Judges (Err r) (field_refusal (names_to i fields) (declared_field f)) → Judges (Err r) (fields_refusal [] (map declared_field fields))
+    (r ≡ Memory) ⊎ (field_refusal (names_to i fields) (declared_field f) ≡ Some r) → (r ≡ Memory) ⊎ (fields_refusal [] (map declared_field fields) ≡ Some r)
 next_refused fields i f r h e before (inl m) = inl m
 next_refused fields i f r h e before (inr refused) = inr (before ∙ fields_next fields i f h e ∙ stopped (field_refusal (names_to i fields) (declared_field f)) (refusal_from (i + 1) fields) r refused)
 
-six_first : (a b d e f g rest : Option CheckRefusal) → or_else (or_else a (or_else b (or_else d (or_else e (or_else f (or_else g None)))))) rest ≡ or_else a (or_else b (or_else d (or_else e (or_else f (or_else g rest)))))
-six_first None None None None None None rest = refl
-six_first None None None None None (Some r) rest = refl
-six_first None None None None (Some r) g rest = refl
-six_first None None None (Some r) f g rest = refl
-six_first None None (Some r) e f g rest = refl
-six_first None (Some r) d e f g rest = refl
-six_first (Some r) b d e f g rest = refl
+one_behind_two : (a b d : Option CheckRefusal) → or_else (or_else a b) d ≡ or_else a (or_else b d)
+one_behind_two None b d = refl
+one_behind_two (Some r) b d = refl
 
--- the clauses of numbers stand behind keys, fields and sources
+first_of_both : (xs ys : List (Option CheckRefusal)) → or_else (first xs) (first ys) ≡ first (xs ++ ys)
+first_of_both [] ys = refl
+first_of_both (x ∷ xs) ys = one_behind_two x (first xs) (first ys) ∙ ap (or_else x) (first_of_both xs ys)
+
 pub in_groups : (q : Query) → grouped_refusal q ≡ refusal q
 in_groups q =
-    let rest = first (condition_refusal q InWhere part.Where q.condition ∷ columns_refusal q 0 q.columns ∷ condition_refusal q InColumn part.Having q.having ∷ unless (code_fits q) Limit part.Code ∷ []) in
-    ap (λ r. or_else (names_refusal part.Keys q.keys) (or_else (fields_refusal [] q.fields) (or_else (sources_refusal q.sources) r)))
-    (six_first (unless (clock_fits q) Limit part.Clock) (unless (budget_fits q.budget) Limit part.Budget) (unless (shape_fits q.shape) Limit part.Window)
-    (unless (lateness_fits q.from_window q.shape) SessionLateness part.Window) (unless (every_fits q.early && every_fits q.late) Limit part.Trigger) (unless (may_write q.mode q.form) StreamNeedsAccumulating part.Emit) rest)
+    let code : List (Option CheckRefusal) = unless (code_fits q) Limit part.Code ∷ [] in
+    let rest = expression_checks q ++ code in
+    ap (or_else (declared_refusal q)) (ap (or_else (numbers_refusal q)) (first_of_both (expression_checks q) code) ∙ first_of_both (number_checks q) rest)
+    ∙ first_of_both (declared_checks q) (number_checks q ++ rest)
 
 pub passed_unless : (b : Bool) (f : CheckFault) (p : Part) (s : Option CheckRefusal) → or_else (unless b f p) s ≡ None → (b ≡ true) × (s ≡ None)
 passed_unless true f p s h = (refl, h)

@@ -9,7 +9,7 @@ use Rattle.wsm_check.specs.declared.refusal.Part.{Part}
 use Rattle.wsm_check.specs.declared.refusal.Part.TheVariants as part
 use Rattle.wsm_check.specs.Types.{Around, InWhere, InColumn, Typed, typed, typed_condition}
 use Rattle.wsm_check.specs.Sizes.{Acc, accumulators, accumulators_of, aggregates, in_option}
-use Rattle.wsm_check.specs.Checks.{first, unless, names_refusal, fields_refusal, sources_refusal, numbers_refusal, condition_refusal, columns_refusal, code_fits, typed_refusal, IsChecked}
+use Rattle.wsm_check.specs.Checks.{first, unless, names_refusal, fields_refusal, sources_refusal, declared_refusal, numbers_refusal, condition_refusal, columns_refusal, expressions_refusal, code_fits, typed_refusal, IsChecked}
 use Rattle.wsm_check.specs.Terms.{is_flat}
 use Rattle.wsm_check.specs.Parts.{MayBeResolved, aggregates_of}
 use Rattle.wsm_check.proofs.Flat.{flat, plain, first_ok}
@@ -80,19 +80,20 @@ passed q h =
     let having = condition_refusal q InColumn part.Having q.having in
     let columns = columns_refusal q 0 q.columns in
     let condition = condition_refusal q InWhere part.Where q.condition in
-    let h1 = passed_both (names_refusal part.Keys q.keys) (first (fields_refusal [] q.fields ∷ sources_refusal q.sources ∷ numbers_refusal q ∷ condition ∷ columns ∷ having ∷ code ∷ [])) (in_groups q ∙ h) in
-    let h2 = passed_both (fields_refusal [] q.fields) (first (sources_refusal q.sources ∷ numbers_refusal q ∷ condition ∷ columns ∷ having ∷ code ∷ [])) h1.1 in
-    let hs = passed_both (sources_refusal q.sources) (first (numbers_refusal q ∷ condition ∷ columns ∷ having ∷ code ∷ [])) h2.1 in
-    let h3 = passed_both (numbers_refusal q) (first (condition ∷ columns ∷ having ∷ code ∷ [])) hs.1 in
-    let h4 = passed_both condition (first (columns ∷ having ∷ code ∷ [])) h3.1 in
-    let h5 = passed_both columns (first (having ∷ code ∷ [])) h4.1 in
-    let h6 = passed_both having (first (code ∷ [])) h5.1 in
-    let fits = (passed_unless (code_fits q) Limit part.Code None h6.1).0 in
+    let h1 = passed_both (declared_refusal q) (first (numbers_refusal q ∷ expressions_refusal q ∷ code ∷ [])) (in_groups q ∙ h) in
+    let keys = passed_both (names_refusal part.Keys q.keys) (first (fields_refusal [] q.fields ∷ sources_refusal q.sources ∷ [])) h1.0 in
+    let fields = passed_both (fields_refusal [] q.fields) (first (sources_refusal q.sources ∷ [])) keys.1 in
+    let h2 = passed_both (numbers_refusal q) (first (expressions_refusal q ∷ code ∷ [])) h1.1 in
+    let h3 = passed_both (expressions_refusal q) (first (code ∷ [])) h2.1 in
+    let h4 = passed_both condition (first (columns ∷ having ∷ [])) h3.0 in
+    let h5 = passed_both columns (first (having ∷ [])) h4.1 in
+    let h6 = passed_both having None h5.1 in
+    let fits = (passed_unless (code_fits q) Limit part.Code None h3.1).0 in
     let few : length (accumulators q) ≤ 16 = leb-true (length (accumulators q)) 16 (and_parts (nat_le (length (accumulators q)) 16) _ fits).0 in
     record {
-      fields = h2.0;
+      fields = fields.0;
       resolved = record {
-        names = and_from (nat_le (length q.keys) 1000) _ (few_of_names part.Keys q.keys h1.0) (short_lists q.fields h2.0);
+        names = and_from (nat_le (length q.keys) 1000) _ (few_of_names part.Keys q.keys keys.0) (short_lists q.fields fields.0);
         condition = condition_flat q InWhere part.Where q.condition h4.0;
         columns = columns_flat q 0 q.columns h5.0;
         having = condition_flat q InColumn part.Having q.having h6.0;

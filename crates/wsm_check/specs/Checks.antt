@@ -121,18 +121,6 @@ code_fits q =
     && (nat_le (fire_size q) MAX_SECTION
     && (nat_le (stack_need q) MAX_STACK && nat_le (length q.keys * live_bound q.shape q.skew q.lateness) MAX_PANES))))
 
--- of the clauses of numbers, and the form
-abbrev pub numbers_refusal : Query → Option CheckRefusal
-numbers_refusal q =
-    first (
-    unless (clock_fits q) Limit part.Clock
-    ∷ unless (budget_fits q.budget) Limit part.Budget
-    ∷ unless (shape_fits q.shape) Limit part.Window
-    ∷ unless (lateness_fits q.from_window q.shape) SessionLateness part.Window
-    ∷ unless (every_fits q.early && every_fits q.late) Limit part.Trigger
-    ∷ unless (may_write q.mode q.form) StreamNeedsAccumulating part.Emit
-    ∷ [])
-
 abbrev pub refusal : Query → Option CheckRefusal
 refusal q =
     first (
@@ -151,25 +139,43 @@ refusal q =
     ∷ unless (code_fits q) Limit part.Code
     ∷ [])
 
--- the same, with the clauses of numbers as one
+-- of the clauses of numbers, and the form
+abbrev pub number_checks : Query → List (Option CheckRefusal)
+number_checks q =
+    unless (clock_fits q) Limit part.Clock
+    ∷ unless (budget_fits q.budget) Limit part.Budget
+    ∷ unless (shape_fits q.shape) Limit part.Window
+    ∷ unless (lateness_fits q.from_window q.shape) SessionLateness part.Window
+    ∷ unless (every_fits q.early && every_fits q.late) Limit part.Trigger
+    ∷ unless (may_write q.mode q.form) StreamNeedsAccumulating part.Emit
+    ∷ []
+
+abbrev pub numbers_refusal : Query → Option CheckRefusal
+numbers_refusal q = first (number_checks q)
+
+-- of what the query declares
+abbrev pub declared_checks : Query → List (Option CheckRefusal)
+declared_checks q = names_refusal part.Keys q.keys ∷ fields_refusal [] q.fields ∷ sources_refusal q.sources ∷ []
+
+abbrev pub declared_refusal : Query → Option CheckRefusal
+declared_refusal q = first (declared_checks q)
+
+-- of its expressions
+abbrev pub expression_checks : Query → List (Option CheckRefusal)
+expression_checks q = condition_refusal q InWhere part.Where q.condition ∷ columns_refusal q 0 q.columns ∷ condition_refusal q InColumn part.Having q.having ∷ []
+
+abbrev pub expressions_refusal : Query → Option CheckRefusal
+expressions_refusal q = first (expression_checks q)
+
+-- the same checks, in groups
 abbrev pub grouped_refusal : Query → Option CheckRefusal
-grouped_refusal q =
-    first (
-    names_refusal part.Keys q.keys
-    ∷ fields_refusal [] q.fields
-    ∷ sources_refusal q.sources
-    ∷ numbers_refusal q
-    ∷ condition_refusal q InWhere part.Where q.condition
-    ∷ columns_refusal q 0 q.columns
-    ∷ condition_refusal q InColumn part.Having q.having
-    ∷ unless (code_fits q) Limit part.Code
-    ∷ [])
+grouped_refusal q = first (declared_refusal q ∷ numbers_refusal q ∷ expressions_refusal q ∷ unless (code_fits q) Limit part.Code ∷ [])
 
 -- no check refuses the query
 abbrev pub IsChecked : Query → Type 0
 IsChecked q = refusal q ≡ None
 
 -- what the code answers of a check, unless memory ran out
-abbrev pub Judges : Result (Unit {0}) CheckRefusal → Option CheckRefusal → Type 0
-Judges (Ok u) r = r ≡ None
+abbrev pub Judges : {A : Type 0} → Result A CheckRefusal → Option CheckRefusal → Type 0
+Judges (Ok a) r = r ≡ None
 Judges (Err e) r = (e ≡ Memory) ⊎ (r ≡ Some e)

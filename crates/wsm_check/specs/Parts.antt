@@ -21,10 +21,6 @@ pub record Folding : Type 0 where
   pub kind : Kind
   pub operand : Term
 
-pub record Column : Type 0 where
-  pub ty : CellType
-  pub term : Term
-
 pub record Parts : Type 0 where
   pub keys : List Name
   pub fields : List DeclaredField
@@ -42,13 +38,17 @@ pub record Parts : Type 0 where
   pub form : Form
   pub condition : Option Term  -- WHERE
   pub foldings : List Folding
-  pub columns : List Column
+  pub types : List CellType  -- of the columns
+  pub columns : List Term
   pub having : Option Term
 
 -- a query that no check refuses has a type for each column
 abbrev pub type_or_int : Typed → CellType
 type_or_int (Ok t) = t
 type_or_int (Err f) = types.Int
+
+abbrev pub column_type : Query → Expr → CellType
+column_type q e = type_or_int (typed q InColumn e)
 
 -- the accumulators before HAVING
 abbrev pub aggregates_of : List Expr → ℕ
@@ -60,9 +60,9 @@ abbrev pub folding : Query → Acc → Folding
 folding q acc = record { kind = acc.kind; operand = resolved q 0 acc.operand }
 
 -- the columns whose first aggregate is the a-th of the query
-abbrev pub columns_from : Query → ℕ → List Expr → List Column
+abbrev pub columns_from : Query → ℕ → List Expr → List Term
 columns_from q a [] = []
-columns_from q a (e ∷ es) = record { ty = type_or_int (typed q InColumn e); term = resolved q a e } ∷ columns_from q (a + aggregates e) es
+columns_from q a (e ∷ es) = resolved q a e ∷ columns_from q (a + aggregates e) es
 
 abbrev pub parts_of : Query → Parts
 parts_of q = record {
@@ -82,6 +82,7 @@ parts_of q = record {
   form = q.form;
   condition = option_map (resolved q 0) q.condition;
   foldings = map (folding q) (accumulators q);
+  types = map (column_type q) q.columns;
   columns = columns_from q 0 q.columns;
   having = option_map (resolved q (aggregates_of q.columns)) q.having;
 }

@@ -6,11 +6,10 @@ use Rattle.wsm_query.specs.Seen.{seen_budget}
 use Rattle.wsm_check.specs.declared.term.Term.{Term as Code}
 use Rattle.wsm_check.specs.declared.term.Term.TheVariants as code
 use Rattle.wsm_check.specs.declared.parts.Folding.{Folding as CodeFolding}
-use Rattle.wsm_check.specs.declared.parts.Column.{Column as CodeColumn}
 use Rattle.wsm_check.specs.declared.parts.Parts.{Parts as CodeParts}
 use Rattle.wsm_check.specs.declared.parts.Terms.{Terms}
 use Rattle.wsm_check.specs.Terms.{Term, Number, Truth, Field, Name, Key, Count, Accumulator, If, Minus, Not, Binary, And, Or}
-use Rattle.wsm_check.specs.Parts.{Folding, Column, Parts, parts_of}
+use Rattle.wsm_check.specs.Parts.{Folding, Parts, parts_of}
 
 abbrev pub seen_term : Code → Term
 seen_term (code.Number n) = Number n
@@ -30,9 +29,6 @@ seen_term (code.Or' p x q y) = Or (seen_term x) (seen_term y)
 abbrev pub seen_folding : CodeFolding → Folding
 seen_folding f = record { kind = f.kind; operand = seen_term f.operand }
 
-abbrev pub seen_column : CodeColumn → Column
-seen_column c = record { ty = c.ty; term = seen_term c.term }
-
 abbrev pub seen_parts : CodeParts → Parts
 seen_parts p = record {
   keys = p.keys.items;
@@ -51,7 +47,8 @@ seen_parts p = record {
   form = p.form;
   condition = option_map seen_term p.condition;
   foldings = map seen_folding p.foldings.items;
-  columns = map seen_column p.columns.items;
+  types = p.types.items;
+  columns = map seen_term p.columns.items;
   having = option_map seen_term p.having;
 }
 
@@ -59,5 +56,6 @@ seen_parts p = record {
 pub record AreTermsOf (q : Query) (t : Terms) : Type 0 where
   pub condition : option_map seen_term t.condition ≡ (parts_of q).condition
   pub foldings : map seen_folding t.foldings.items ≡ (parts_of q).foldings
-  pub columns : map seen_column t.columns.items ≡ (parts_of q).columns
+  pub types : t.types.items ≡ (parts_of q).types
+  pub columns : map seen_term t.columns.items ≡ (parts_of q).columns
   pub having : option_map seen_term t.having ≡ (parts_of q).having

@@ -3,25 +3,24 @@
 ghost use Rattle.std.specs.Prelude.{◌≡◌, ◌≤◌, ◌+◌, ◌++◌, length, map, option_map, true, IfOk, OnOk};
 ghost use Rattle.std.specs.List.{flat_map, list_all};
 ghost use Rattle.wsm_query.specs.Seen.{seen, seen_expr};
-ghost use Rattle.wsm_check.specs.Types.{InColumn, typed};
 ghost use Rattle.wsm_check.specs.Sizes.{accumulators_of, fired, in_option};
 ghost use Rattle.wsm_check.specs.Spelt.{numbers_fit};
 ghost use Rattle.wsm_check.specs.Terms.{has_few_names, is_flat, resolved};
-ghost use Rattle.wsm_check.specs.Parts.{MayBeResolved, aggregates_of, columns_from, folding, type_or_int};
-ghost use Rattle.wsm_check.specs.Seen.{AreTermsOf, seen_column, seen_folding, seen_term};
+ghost use Rattle.wsm_check.specs.Parts.{MayBeResolved, aggregates_of, column_type, columns_from, folding};
+ghost use Rattle.wsm_check.specs.Seen.{AreTermsOf, seen_folding, seen_term};
 
-use crate::parts::{Column, Folding, Terms};
+use crate::parts::{Folding, Terms};
 use crate::resolve::resolve;
 use crate::term::Term;
-use crate::types::{Around, type_of};
 use std::alloc::{AllocError, Global};
 use wsm_query::{Expr, Query};
 use wsm_record::CellType;
 use wsm_record::limits::{MAX_ACCUMULATORS, MAX_FIELDS};
 
-/// The terms of all expressions.
+/// The terms of all expressions, with the types of the columns.
 #[tactic(auto, using(crate::proofs::ResolvedTerms::all_parts))]
-pub fn terms_of(alloc: Global, query: &Query) -> Result<Terms, AllocError>
+pub fn terms_of(alloc: Global, query: &Query, types: Vec<CellType>) -> Result<Terms, AllocError>
+    requires types { types.items ≡ map (column_type (seen query.now)) (seen query.now).columns }
     requires fields { length query.now.fields.items ≤ MAX_FIELDS }
     requires resolved { MayBeResolved (seen query.now) }
     ensures terms { IfOk result (AreTermsOf (seen query.now)) }
@@ -36,6 +35,7 @@ pub fn terms_of(alloc: Global, query: &Query) -> Result<Terms, AllocError>
     Ok(Terms {
         condition,
         foldings,
+        types,
         columns,
         having,
     })
@@ -68,13 +68,13 @@ fn resolve_columns(
     query: &Query,
     exprs: &[Expr],
     foldings: &mut Vec<Folding>,
-    columns: &mut Vec<Column>,
+    columns: &mut Vec<Term>,
 ) -> Result<(), AllocError>
     requires fields { length query.now.fields.items ≤ MAX_FIELDS }
     requires names { has_few_names (seen query.now) ≡ true }
     requires room { length foldings.old.items + aggregates_of (map seen_expr exprs.now) ≤ MAX_ACCUMULATORS }
     requires flat { list_all is_flat (map seen_expr exprs.now) ≡ true }
-    ensures columns { OnOk result (map seen_column columns.new.items ≡ map seen_column columns.old.items ++ columns_from (seen query.now) (length foldings.old.items) (map seen_expr exprs.now)) }
+    ensures columns { OnOk result (map seen_term columns.new.items ≡ map seen_term columns.old.items ++ columns_from (seen query.now) (length foldings.old.items) (map seen_expr exprs.now)) }
     ensures foldings { OnOk result (map seen_folding foldings.new.items ≡ map seen_folding foldings.old.items ++ map (folding (seen query.now)) (flat_map accumulators_of (map seen_expr exprs.now))) }
     ensures count { OnOk result (length foldings.new.items ≡ length foldings.old.items + aggregates_of (map seen_expr exprs.now)) }
     ensures spelt { OnOk result (list_all numbers_fit (map seen_expr exprs.now) ≡ true) }
@@ -82,19 +82,6 @@ fn resolve_columns(
     let [first, rest @ ..] = exprs else {
         return Ok(());
     };
-    let ty = type_of_column(query, first);
-    let term = resolve(alloc, query, first, foldings)?;
-    columns.push(Column { ty, term })?;
+    columns.push(resolve(alloc, query, first, foldings)?)?;
     resolve_columns(alloc, query, rest, foldings, columns)
-}
-
-// The checks have passed, so a column has a type.
-fn type_of_column(query: &Query, column: &Expr) -> CellType
-    requires { length query.now.fields.items ≤ MAX_FIELDS }
-    ensures { result ≡ type_or_int (typed (seen query.now) InColumn (seen_expr column.now)) }
-{
-    match type_of(query, Around::InColumn, column) {
-        Ok(ty) => ty,
-        Err(_) => CellType::Int,
-    }
 }

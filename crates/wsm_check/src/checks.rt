@@ -37,14 +37,11 @@ fn checked_terms(alloc: Global, query: &Query) -> Result<Terms, CheckRefusal>
     ensures terms { IfOk result (AreTermsOf (seen query.now)) }
     ensures refused { IfErr result (λ e. (e ≡ CheckRefusal.Memory) ⊎ (refusal (seen query.now) ≡ Some e)) }
 {
-    judge(alloc, query)?;
+    let types = judge(alloc, query)?;
     are_names(&query.keys);
     are_spelt(&query.fields);
     are_names(&query.sources);
-    match terms_of(alloc, query) {
-        Ok(terms) => Ok(terms),
-        Err(_) => Err(CheckRefusal::Memory),
-    }
+    Ok(terms_of(alloc, query, types)?)
 }
 
 fn put_together(query: Query, terms: Terms) -> Checked
@@ -70,6 +67,7 @@ fn put_together(query: Query, terms: Terms) -> Checked
         form: query.form,
         condition: terms.condition,
         foldings: terms.foldings,
+        types: terms.types,
         columns: terms.columns,
         having: terms.having,
     };

@@ -1,11 +1,12 @@
 //! The checks of a query, in their order: the first that fails refuses it.
 
-ghost use Rattle.std.specs.Prelude.{◌≡◌, ◌≤◌, ◌+◌, [], length, map, option_map, true, not, OnOk};
+ghost use Rattle.std.specs.Prelude.{◌≡◌, ◌≤◌, ◌+◌, ◌++◌, [], length, map, option_map, true, not, IfOk, OnOk};
 ghost use Rattle.wsm_record.specs.Fields.{declared_field, declared_type};
 ghost use Rattle.wsm_query.specs.Seen.{seen, seen_expr};
 ghost use Rattle.wsm_check.specs.Names.{field_names, has_repeats};
-ghost use Rattle.wsm_check.specs.Checks.{Judges, clock_fits, columns_refusal, condition_refusal, field_refusal, fields_refusal, grouped_refusal, names_refusal, numbers_refusal, refusal, shape_fits, sources_refusal, ty_refusal, typed_refusal, unless};
+ghost use Rattle.wsm_check.specs.Checks.{Judges, clock_fits, columns_refusal, condition_refusal, declared_refusal, expressions_refusal, field_refusal, fields_refusal, grouped_refusal, names_refusal, numbers_refusal, refusal, shape_fits, sources_refusal, ty_refusal, typed_refusal, unless};
 ghost use Rattle.wsm_check.specs.Types.{InColumn, typed};
+ghost use Rattle.wsm_check.specs.Parts.{column_type};
 
 use crate::code::code_fits;
 use crate::limits::{
@@ -17,7 +18,7 @@ use crate::types::{Around, judge_condition, type_of};
 use std::alloc::Global;
 use wsm_query::{Expr, Query};
 use wsm_record::limits::{MAX_COLUMNS, MAX_FIELDS, MAX_NAMES};
-use wsm_record::{Field, Name, Names, SchemaRefusal, Ty};
+use wsm_record::{CellType, Field, Name, Names, SchemaRefusal, Ty};
 
 // A refusal where the condition fails.
 fn want(holds: bool, fault: CheckFault, part: Part) -> Result<(), CheckRefusal>
@@ -137,53 +138,85 @@ fn judge_option(
     }
 }
 
-// The columns behind others: 1 to 16 of them.
+// The columns behind others, 1 to 16 in all, whose types are put behind those of the others.
 #[tactic(auto, using(crate::proofs::ChecksInOrder::steps))]
-fn judge_columns(query: &Query, passed: usize, columns: &[Expr]) -> Result<(), CheckRefusal>
+fn judge_columns(
+    query: &Query,
+    columns: &[Expr],
+    types: &mut Vec<CellType>,
+) -> Result<(), CheckRefusal>
     requires fields { length query.now.fields.items ≤ MAX_FIELDS }
-    requires passed { passed ≤ MAX_COLUMNS }
-    ensures judged { Judges result (columns_refusal (seen query.now) passed (map seen_expr columns.now)) }
-    ensures few { OnOk result (passed + length columns.now ≤ MAX_COLUMNS) }
+    requires passed { length types.old.items ≤ MAX_COLUMNS }
+    ensures judged { Judges result (columns_refusal (seen query.now) (length types.old.items) (map seen_expr columns.now)) }
+    ensures few { OnOk result (length types.old.items + length columns.now ≤ MAX_COLUMNS) }
+    ensures types { OnOk result (types.new.items ≡ types.old.items ++ map (column_type (seen query.now)) (map seen_expr columns.now)) }
 {
+    let passed = types.len();
     let [first, rest @ ..] = columns else {
         return want(passed > 0, CheckFault::Limit, Part::Column(1));
     };
-    want(
-        passed < MAX_COLUMNS,
-        CheckFault::Limit,
-        Part::Column(passed as u64 + 1),
-    )?;
-    judge_column(query, Part::Column(passed as u64 + 1), first)?;
-    judge_columns(query, passed + 1, rest)
+    let part = Part::Column(passed as u64 + 1);
+    want(passed < MAX_COLUMNS, CheckFault::Limit, part)?;
+    let ty = judge_column(query, part, first)?;
+    types.push(ty)?;
+    judge_columns(query, rest, types)
 }
 
-fn judge_column(query: &Query, part: Part, column: &Expr) -> Result<(), CheckRefusal>
+// The type of a column.
+fn judge_column(query: &Query, part: Part, column: &Expr) -> Result<CellType, CheckRefusal>
     requires { length query.now.fields.items ≤ MAX_FIELDS }
-    ensures { Judges result (typed_refusal part (typed (seen query.now) InColumn (seen_expr column.now))) }
+    ensures judged { Judges result (typed_refusal part (typed (seen query.now) InColumn (seen_expr column.now))) }
+    ensures ty { IfOk result (λ ty. ty ≡ column_type (seen query.now) (seen_expr column.now)) }
 {
     match type_of(query, Around::InColumn, column) {
-        Ok(_) => Ok(()),
+        Ok(ty) => Ok(ty),
         Err(fault) => Err(CheckRefusal::Fault(fault, part)),
     }
 }
 
-/// Whether the query passes all checks, or the first that refuses it.
-pub fn judge(alloc: Global, query: &Query) -> Result<(), CheckRefusal>
-    ensures { Judges result (refusal (seen query.now)) }
+// WHERE, the columns and HAVING: the types of the columns.
+#[tactic(auto, using(crate::proofs::ChecksInOrder::steps))]
+fn judge_expressions(alloc: Global, query: &Query) -> Result<Vec<CellType>, CheckRefusal>
+    requires { length query.now.fields.items ≤ MAX_FIELDS }
+    ensures judged { Judges result (expressions_refusal (seen query.now)) }
+    ensures few { OnOk result (length query.now.columns.items ≤ MAX_COLUMNS) }
+    ensures types { IfOk result (λ types. types.items ≡ map (column_type (seen query.now)) (seen query.now).columns) }
+{
+    let mut types = Vec::new(alloc);
+    judge_option(query, Around::InWhere, Part::Where, &query.condition)?;
+    judge_columns(query, &query.columns, &mut types)?;
+    judge_option(query, Around::InColumn, Part::Having, &query.having)?;
+    Ok(types)
+}
+
+// What the query declares: keys, fields and sources.
+#[tactic(auto, using(crate::proofs::ChecksInOrder::steps))]
+fn judge_declared(alloc: Global, query: &Query) -> Result<(), CheckRefusal>
+    ensures judged { Judges result (declared_refusal (seen query.now)) }
+    ensures keys { OnOk result (length query.now.keys.items ≤ MAX_NAMES) }
+    ensures fields { OnOk result (length query.now.fields.items ≤ MAX_FIELDS) }
+{
+    judge_names(alloc, Part::Keys, &query.keys)?;
+    judge_fields(alloc, &query.fields)?;
+    judge_sources(alloc, &query.sources)
+}
+
+/// The types of the columns of a query that passes all checks, or the first that refuses it.
+pub fn judge(alloc: Global, query: &Query) -> Result<Vec<CellType>, CheckRefusal>
+    ensures judged { Judges result (refusal (seen query.now)) }
+    ensures types { IfOk result (λ types. types.items ≡ map (column_type (seen query.now)) (seen query.now).columns) }
 {
     judge_in_groups(alloc, query)
 }
 
 #[tactic(auto, using(crate::proofs::ChecksInOrder::steps))]
-fn judge_in_groups(alloc: Global, query: &Query) -> Result<(), CheckRefusal>
-    ensures { Judges result (grouped_refusal (seen query.now)) }
+fn judge_in_groups(alloc: Global, query: &Query) -> Result<Vec<CellType>, CheckRefusal>
+    ensures judged { Judges result (grouped_refusal (seen query.now)) }
+    ensures types { IfOk result (λ types. types.items ≡ map (column_type (seen query.now)) (seen query.now).columns) }
 {
-    judge_names(alloc, Part::Keys, &query.keys)?;
-    judge_fields(alloc, &query.fields)?;
-    judge_sources(alloc, &query.sources)?;
+    judge_declared(alloc, query)?;
     judge_numbers(query)?;
-    judge_option(query, Around::InWhere, Part::Where, &query.condition)?;
-    judge_columns(query, 0, &query.columns)?;
-    judge_option(query, Around::InColumn, Part::Having, &query.having)?;
-    want(code_fits(query), CheckFault::Limit, Part::Code)
+    let types = judge_expressions(alloc, query)?;
+    want(code_fits(query), CheckFault::Limit, Part::Code)?;
+    Ok(types)
 }

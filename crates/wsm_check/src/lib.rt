@@ -29,7 +29,7 @@
 
 pub use checked::Checked;
 pub use checks::check;
-pub use parts::{Column, Folding, Parts};
+pub use parts::{Folding, Parts};
 pub use refusal::{CheckFault, CheckRefusal, Part};
 pub use term::Term;
 pub use tested::{comparison_of, negative};

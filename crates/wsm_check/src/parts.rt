@@ -13,13 +13,6 @@ pub struct Folding {
     pub operand: Term,
 }
 
-/// A column.
-#[derive(Drop)]
-pub struct Column {
-    pub ty: CellType,
-    pub term: Term,
-}
-
 /// What a checked query has: names are numbers in its expressions, and each aggregate has an
 /// accumulator of its own.
 #[derive(Drop)]
@@ -51,7 +44,9 @@ pub struct Parts {
     pub condition: Option<Term>,
     /// The accumulators by their numbers: those of the columns, then those of HAVING.
     pub foldings: Vec<Folding>,
-    pub columns: Vec<Column>,
+    /// The types of the columns.
+    pub types: Vec<CellType>,
+    pub columns: Vec<Term>,
     pub having: Option<Term>,
 }
 
@@ -61,6 +56,8 @@ pub struct Terms {
     /// WHERE
     pub condition: Option<Term>,
     pub foldings: Vec<Folding>,
-    pub columns: Vec<Column>,
+    /// The types of the columns.
+    pub types: Vec<CellType>,
+    pub columns: Vec<Term>,
     pub having: Option<Term>,
 }

@@ -1,5 +1,6 @@
 //! Why a query is refused.
 
+use std::alloc::{AllocError, AllocFailed};
 use std::error::Error;
 use std::fmt;
 use std::fmt::{Display, Formatter};
@@ -54,6 +55,28 @@ pub enum CheckRefusal {
     Fault(CheckFault, Part),
     /// There was no memory for the checks. This says nothing of the query.
     Memory,
+}
+
+impl From<AllocError> for CheckRefusal {
+    ghost use Rattle.std.specs.Prelude.{◌≡◌};
+    ghost use Rattle.wsm_check.specs.declared.refusal.CheckRefusal.TheVariants.{Memory};
+
+    ghost from_gives = { λ _ e. e ≡ Memory };
+
+    fn from(_e: AllocError) -> CheckRefusal {
+        CheckRefusal::Memory
+    }
+}
+
+impl<T: Drop> From<AllocFailed<T>> for CheckRefusal {
+    ghost use Rattle.std.specs.Prelude.{◌≡◌};
+    ghost use Rattle.wsm_check.specs.declared.refusal.CheckRefusal.TheVariants.{Memory};
+
+    ghost from_gives = { λ _ e. e ≡ Memory };
+
+    fn from(_e: AllocFailed<T>) -> CheckRefusal {
+        CheckRefusal::Memory
+    }
 }
 
 impl Display for CheckFault {

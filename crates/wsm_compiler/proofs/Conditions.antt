@@ -22,8 +22,8 @@ use Rattle.wsm_verifier.specs.Labels.{State, same_type, same_types}
 use Rattle.wsm_verifier.specs.Rules.{Setting, setting, entry, known_fields, ranges_of_record, column_known, fold_missing, fault_in}
 use Rattle.wsm_compiler.specs.Code.{code, condition_code, columns_code}
 use Rattle.wsm_compiler.specs.Ranges.{Range, Unfit, NoNumber, Within, range, fits}
-use Rattle.wsm_check.specs.Parts.{type_or_int}
-use Rattle.wsm_compiler.specs.Program.{column_type, program_stating}
+use Rattle.wsm_check.specs.Parts.{column_type, type_or_int}
+use Rattle.wsm_compiler.specs.Program.{program_stating}
 use Rattle.wsm_machine.proofs.FittingStacks.{no, type_known}
 use Rattle.wsm_machine.proofs.PushedValues.{same_type_is}
 use Rattle.wsm_machine.proofs.ReturnedStacks.{column_is}

@@ -20,7 +20,8 @@ use Rattle.wsm_verifier.specs.declared.known.Known.TheVariants.{Number, Truth}
 use Rattle.wsm_verifier.specs.Labels.{Visit}
 use Rattle.wsm_verifier.specs.Rules.{Setting, setting, entry, and_then, accumulated, known_range, known_accumulators, ranges_of_pane, update_visits, column_known, fault_in}
 use Rattle.wsm_compiler.specs.Ranges.{Range, Unfit, NoNumber, Within, of_aggregate, range, fits}
-use Rattle.wsm_compiler.specs.Program.{column_type, program_stating}
+use Rattle.wsm_check.specs.Parts.{column_type}
+use Rattle.wsm_compiler.specs.Program.{program_stating}
 use Rattle.wsm_compiler.proofs.Visits.{nil_right}
 use Rattle.wsm_machine.proofs.FittingStacks.{no}
 use Rattle.wsm_compiler.proofs.Parts.{none≢some}

@@ -28,7 +28,8 @@ use Rattle.wsm_check.specs.Checks.{unless, first, ty_refusal, fields_refusal, is
 use Rattle.wsm_compiler.specs.Code.{where_section, update_section, fire_section}
 use Rattle.wsm_check.specs.Spelt.{numbers_fit, IsSpelt}
 use Rattle.wsm_compiler.specs.Lawful.{IsLawful}
-use Rattle.wsm_compiler.specs.Program.{column_type, schema_of, late_by, every, stated, needed_of, program_of}
+use Rattle.wsm_check.specs.Parts.{column_type}
+use Rattle.wsm_compiler.specs.Program.{schema_of, late_by, every, stated, needed_of, program_of}
 use Rattle.wsm_machine.proofs.FittingStacks.{no}
 use Rattle.wsm_compiler.proofs.Sized.{sizes_are_lengths}
 use Rattle.wsm_compiler.proofs.KnownFields.{in_column}

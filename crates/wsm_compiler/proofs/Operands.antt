@@ -29,8 +29,8 @@ use Rattle.wsm_check.specs.Sizes.{Acc, aggregates, size, condition_size, folds_s
 use Rattle.wsm_compiler.specs.Code.{code, choice, field_test, test_code, jump_unless, instruction, condition_code, folds, columns_code}
 use Rattle.wsm_check.specs.Tested.{Tested, comparison_of, field_alone, plain_number, negative, number_alone, tested, unless_tested}
 use Rattle.wsm_check.specs.Spelt.{numbers_fit}
-use Rattle.wsm_check.specs.Parts.{type_or_int}
-use Rattle.wsm_compiler.specs.Program.{column_type, program_stating}
+use Rattle.wsm_check.specs.Parts.{column_type, type_or_int}
+use Rattle.wsm_compiler.specs.Program.{program_stating}
 use Rattle.wsm_machine.proofs.FittingStacks.{no}
 use Rattle.wsm_compiler.proofs.FoundRanges.{ok_is, result_of}
 use Rattle.wsm_compiler.proofs.ExpressionRanges.{cond_ok, field_is, entered_is, op_is, two_types, if_types, logic_types, unary_is, tested_int}

@@ -14,7 +14,7 @@ use Rattle.wsm_check.specs.Terms.{resolved}
 use Rattle.wsm_check.specs.Parts.{aggregates_of, folding, columns_from, parts_of}
 use Rattle.wsm_compiler.specs.Code.{code, field_test, test_code, test_of, condition_code, folds, columns_code}
 use Rattle.wsm_compiler.specs.TermCode.{plain_term_number, term_number, test_by, term_test, term_code, term_size, ending_code, ending_size, foldings_code, foldings_size, firing_code, firing_size}
-use Rattle.wsm_compiler.specs.Program.{column_type, program_stating}
+use Rattle.wsm_compiler.specs.Program.{program_stating}
 use Rattle.wsm_compiler.specs.Assembled.{assembled}
 
 -- ---- tests
@@ -180,15 +180,10 @@ fired_size q h a (e ∷ es) = ap₂ (λ m n. m + n) (resolved_size q a e) (fired
 
 -- ---- the program
 
-column_types : (q : Query) (a : ℕ) (es : List Expr) → map (λ c. c.ty) (columns_from q a es) ≡ map (column_type q) es
-column_types q a [] = refl
-column_types q a (e ∷ es) = ap (λ ts. column_type q e ∷ ts) (column_types q (a + aggregates e) es)
-
 pub assembled_is : (q : Query) (b : Costs) → assembled (parts_of q) b ≡ program_stating q b
 assembled_is q b =
     rw (
       map-map (λ f. f.kind) (folding q) (accumulators q),
-      column_types q 0 q.columns,
       ended q 0 0 q.condition,
       folded q 0 0 (accumulators q),
       fired q (aggregates_of q.columns) 0 0 q.columns (omega arith),

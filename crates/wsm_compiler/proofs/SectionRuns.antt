@@ -29,8 +29,8 @@ use Rattle.wsm_compiler.proofs.Lawful.{condition_numbers_of}
 use Rattle.wsm_check.specs.Sizes.{accumulators_of, aggregates, size, condition_size, columns_size, need, need_of_condition, need_of_columns}
 use Rattle.wsm_compiler.specs.Meaning.{Scene, on_record, on_accumulators}
 use Rattle.wsm_compiler.specs.Code.{code, condition_code, columns_code, where_section, fire_section}
-use Rattle.wsm_check.specs.Parts.{type_or_int}
-use Rattle.wsm_compiler.specs.Program.{column_type, program_stating, stated, needed_of, program_of}
+use Rattle.wsm_check.specs.Parts.{column_type, type_or_int}
+use Rattle.wsm_compiler.specs.Program.{program_stating, stated, needed_of, program_of}
 use Rattle.wsm_compiler.specs.Runs.{of_ty, cell, Serves, ServesAccs, state, topped, Gives, StandsAt}
 use Rattle.wsm_compiler.specs.Sections.{in_bounds, condition_value, Leaves, on_stack, fired_stack, WhereRuns, FireRuns}
 use Rattle.wsm_compiler.proofs.Visits.{nil_right}

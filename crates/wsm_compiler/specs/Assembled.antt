@@ -24,7 +24,7 @@ assembled_header p budget = record {
   late = every p.late;
   form = p.form;
   kinds = map (λ f. f.kind) p.foldings;
-  columns = map (λ c. c.ty) p.columns;
+  columns = p.types;
   budget = budget;
 }
 

@@ -1,7 +1,6 @@
 -- The program of a query.
 use Rattle.std.specs.Prelude.{map, Bool, true, false, ℤ, pos, unsigned_abs, Option, Some, None}
 use Rattle.wsm_record.specs.Schema.{Declared as Schema, source_count}
-use Rattle.wsm_record.specs.declared.words.CellType.{CellType}
 use Rattle.wsm_windows.specs.declared.window.Shape.{Shape}
 use Rattle.wsm_admission.specs.declared.clock.Clock.{Clock}
 use Rattle.wsm_admission.specs.declared.clock.LateBy.{LateBy}
@@ -9,10 +8,8 @@ use Rattle.wsm_admission.specs.declared.clock.LateBy.TheVariants.{Event, Window}
 use Rattle.wsm_program.specs.declared.program.Costs.{Costs}
 use Rattle.wsm_program.specs.Program.{Program}
 use Rattle.wsm_verifier.specs.Costs.{needed}
-use Rattle.wsm_query.specs.Tree.{Query, Budget, Expr}
-use Rattle.wsm_check.specs.Types.{typed}
-use Rattle.wsm_check.specs.declared.types.Around.TheVariants.{InColumn}
-use Rattle.wsm_check.specs.Parts.{type_or_int}
+use Rattle.wsm_query.specs.Tree.{Query, Budget}
+use Rattle.wsm_check.specs.Parts.{column_type}
 use Rattle.wsm_check.specs.Sizes.{accumulators}
 use Rattle.wsm_compiler.specs.Code.{where_section, update_section, fire_section}
 
@@ -28,9 +25,6 @@ late_by false shape = Event
 -- the numbers of the clock, and how many sources it has: one where none are declared
 abbrev pub clock_of : Query → Clock
 clock_of q = record { start = q.start; skew = q.skew; lateness = q.lateness; late = late_by q.from_window q.shape; records = q.records; sources = source_count (schema_of q) }
-
-abbrev pub column_type : Query → Expr → CellType
-column_type q e = type_or_int (typed q InColumn e)
 
 -- 0 where there is no count
 abbrev pub every : Option ℤ → ℤ

@@ -4,13 +4,13 @@ ghost use Rattle.std.specs.Prelude.{◌≡◌, map, IfOk};
 ghost use Rattle.wsm_record.specs.Schema.{schema_refusal};
 ghost use Rattle.wsm_record.specs.Fields.{declared_of};
 ghost use Rattle.wsm_program.specs.View.{header_of};
-ghost use Rattle.wsm_check.specs.Seen.{seen_column, seen_folding, seen_parts};
+ghost use Rattle.wsm_check.specs.Seen.{seen_folding, seen_parts};
 ghost use Rattle.wsm_compiler.specs.Program as spec;
 ghost use Rattle.wsm_compiler.specs.Assembled.{assembled_clock, assembled_header, assembled_schema};
 
 use std::alloc::{AllocError, Global};
 use wsm_admission::{Clock, LateBy};
-use wsm_check::{Column, Folding, Parts};
+use wsm_check::{Folding, Parts};
 use wsm_program::{CellType, Costs, Header};
 use wsm_record::{Field, Kind, Name, Schema, SchemaRefusal};
 use wsm_windows::Shape;
@@ -31,7 +31,7 @@ pub fn header(alloc: Global, parts: &Parts, budget: Costs) -> Result<Header, All
         late: every(parts.late),
         form: parts.form,
         kinds: kinds(alloc, &parts.foldings)?,
-        columns: column_types(alloc, &parts.columns)?,
+        columns: column_types(alloc, &parts.types)?,
         budget,
     })
 }
@@ -97,12 +97,8 @@ fn kinds(alloc: Global, foldings: &[Folding]) -> Result<Vec<Kind>, AllocError>
     Ok(kinds)
 }
 
-fn column_types(alloc: Global, columns: &[Column]) -> Result<Vec<CellType>, AllocError>
-    ensures { IfOk result (λ types. types.items ≡ map (λ c. c.ty) (map seen_column columns.now)) }
+fn column_types(alloc: Global, types: &[CellType]) -> Result<Vec<CellType>, AllocError>
+    ensures { IfOk result (λ copied. copied.items ≡ types.now) }
 {
-    let mut types = Vec::with_capacity(alloc, columns.len())?;
-    for column in columns {
-        types.push(column.ty)?;
-    }
-    Ok(types)
+    types.to_vec(alloc)
 }

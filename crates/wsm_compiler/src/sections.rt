@@ -1,12 +1,12 @@
 //! The sections of a program.
 
 ghost use Rattle.std.specs.Prelude.{◌≡◌, ◌+◌, ◌≤◌, [], ◌∷◌, ◌++◌, length, map, option_map, IfOk, OnOk};
-ghost use Rattle.wsm_check.specs.Seen.{seen_column, seen_folding, seen_term};
+ghost use Rattle.wsm_check.specs.Seen.{seen_folding, seen_term};
 ghost use Rattle.wsm_compiler.specs.TermCode.{ending_code, ending_size, firing_code, firing_size, foldings_code, foldings_size};
 
 use crate::expressions::{add, push};
 use std::alloc::{AllocError, Global};
-use wsm_check::{Column, Folding, Term};
+use wsm_check::{Folding, Term};
 use wsm_program::{Instr, Section};
 use wsm_record::limits::{MAX_ACCUMULATORS, MAX_SECTION};
 
@@ -38,13 +38,13 @@ pub fn update(alloc: Global, foldings: &[Folding]) -> Result<Section, AllocError
 
 /// The section FIRE, which computes the columns of a pane, and whether they are a row.
 #[tactic(auto, using(crate::proofs::CodeParts::added))]
-pub fn fire(alloc: Global, columns: &[Column], having: &Option<Term>) -> Result<Section, AllocError>
-    requires { firing_size (option_map seen_term having.now) (map seen_column columns.now) ≤ MAX_SECTION }
-    ensures { IfOk result (λ code. code.items ≡ firing_code 0 (option_map seen_term having.now) (map seen_column columns.now)) }
+pub fn fire(alloc: Global, columns: &[Term], having: &Option<Term>) -> Result<Section, AllocError>
+    requires { firing_size (option_map seen_term having.now) (map seen_term columns.now) ≤ MAX_SECTION }
+    ensures { IfOk result (λ code. code.items ≡ firing_code 0 (option_map seen_term having.now) (map seen_term columns.now)) }
 {
     let mut code = Vec::new(alloc);
     for column in columns {
-        add(&mut code, &column.term)?;
+        add(&mut code, column)?;
     }
     end_by(&mut code, having)?;
     Ok(code)

@@ -4,7 +4,7 @@ use Rattle.wsm_check.proofs.PassedChecks.{passed}
 use Rattle.wsm_check.proofs.checks.checked_terms.Goals as goal
 
 pub terms_of-requires-clause-fields : goal.terms_of-requires-clause-fields
-terms_of-requires-clause-fields c = few_fields c.args.query.now.fields.items (passed (seen c.args.query.now) c.in_ok-judge.ensures).fields
+terms_of-requires-clause-fields c = few_fields c.args.query.now.fields.items (passed (seen c.args.query.now) c.in_ok-types.ensures.judged).fields
 
 pub terms_of-requires-clause-resolved : goal.terms_of-requires-clause-resolved
-terms_of-requires-clause-resolved c = (passed (seen c.args.query.now) c.in_ok-judge.ensures).resolved
+terms_of-requires-clause-resolved c = (passed (seen c.args.query.now) c.in_ok-types.ensures.judged).resolved
