@@ -15,15 +15,6 @@ same_self s = grind (arith, nat_tests)
 pub apart_same : (r s : ℕ) → same r s ≡ 0 → r ≢ s
 apart_same r s h is = let one : same r s ≡ 1 = rw is (same_self s) in omega (arith, h, one)
 
--- lists that are the same end the same
-pub last_same : (xs ys : List ℕ) (x y : ℕ) → xs ++ x ∷ [] ≡ ys ++ y ∷ [] → x ≡ y
-last_same [] [] x y h = cc
-last_same [] (z ∷ ys) x y h = absurd (let long = ap length h ∙ ap suc (length-append ys (y ∷ [])) in omega (arith, long))
-last_same (z ∷ xs) [] x y h = absurd (let long = ap suc (sym (length-append xs (x ∷ []))) ∙ ap length h in omega (arith, long))
-last_same (w ∷ xs) (z ∷ ys) x y h = last_same xs ys x y (tails h) where
-  tails : w ∷ (xs ++ x ∷ []) ≡ z ∷ (ys ++ y ∷ []) → xs ++ x ∷ [] ≡ ys ++ y ∷ []
-  tails k = cc
-
 -- a number is put in where those behind its place were moved a place on
 pub put_between : (row moved : List ℕ) (at s : ℕ) → at ≤ length row → length moved ≡ length row + 1
     → ((k : ℕ) → k < at → get_or moved k 0 ≡ get_or row k 0) → ((k : ℕ) → at ≤ k → k < length row → get_or moved (k + 1) 0 ≡ get_or row k 0) → set moved at s ≡ insert row at s
