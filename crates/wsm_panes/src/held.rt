@@ -22,7 +22,7 @@ use crate::joining::{enter_session, linked_pair};
 use crate::list::ListTable;
 use crate::ring::Ring;
 use crate::ring_table::RingTable;
-use crate::spot::{Spot, rebuilt_place};
+use crate::spot::{Spot, rebuilt_place, rebuilt_window};
 use crate::table::PaneTable;
 use crate::view::PaneView;
 use crate::widths::Widths;
@@ -134,7 +134,7 @@ impl HeldPanes {
                 Entered {
                     windows: 1,
                     joined,
-                    session: Some(session),
+                    session: Some(rebuilt_window(session)),
                 }
             }
             Tables::Grid(ring) => {

@@ -295,8 +295,17 @@ fn fold_part(values: &mut [Value], slot: usize, is_folded: bool, kinds: &[Kind],
     if is_folded {
         fold_into(kinds, held, row);
     } else {
-        held.copy_from_slice(row);
+        write_over(held, row);
     }
+}
+
+// Writes values over as many others. In line, each record would prepare for a copy that it seldom makes.
+#[inline(never)]
+fn write_over(values: &mut [Value], others: &[Value])
+    requires { length values.old ≡ length others.now }
+    ensures { values.new ≡ others.now }
+{
+    values.copy_from_slice(others);
 }
 
 // A vector of so many copies of a value.

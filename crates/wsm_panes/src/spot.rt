@@ -4,7 +4,7 @@ ghost use Rattle.std.specs.Prelude.{◌≡◌, None, Some, if◌then◌else◌};
 ghost use Rattle.wsm_panes.specs.Place.{is_kept};
 ghost use Rattle.wsm_panes.specs.Walk.{place_found};
 
-use wsm_windows::Place;
+use wsm_windows::{Place, Window};
 
 /// A place at which a pane is held, and where its table has it, so that a walk over panes need not
 /// search for each of them.
@@ -49,6 +49,15 @@ pub(crate) fn rebuilt_place(place: Place) -> Place
 {
     let Place { end, start, key } = place;
     Place { end, start, key }
+}
+
+/// The same window, put together anew from its fields, for the same reason.
+#[inline(always)]
+pub(crate) fn rebuilt_window(window: Window) -> Window
+    ensures { result ≡ window }
+{
+    let Window { start, end } = window;
+    Window { start, end }
 }
 
 /// The spot of an entry at a place that is the one of a number, if its window ends by a limit.

@@ -200,7 +200,7 @@ returns-clause-session c =
           let h = rw w.in-Sessions.is at c.self.invariant.tables in
           let can = rw (← c.self.view_is) at c.requires in
           let of = key_of h.gap c.self.inside.keys c.self.inside.live c.args.key (map.entries w.in-Sessions.list.panes) w.in-Sessions.sessions.items h.of_keys can.declared w.index_mut-sessions.result.now w.index_mut-sessions.ensures.value in
-          rw (w.result-is, ← c.self.view_is, w.in-Sessions.is, h.shape_is) (ap Some (rw of.same_gap at (simp to_z-of_z at w.enter_session-joined.ensures.session)))
+          rw (w.result-is, ← c.self.view_is, w.in-Sessions.is, h.shape_is) (ap Some (w.rebuilt_window.ensures ∙ (rw of.same_gap at (simp to_z-of_z at w.enter_session-joined.ensures.session))))
       | in-Grid w ↦
           let h = rw w.in-Grid.is at c.self.invariant.tables in
           rw (w.result-is, ← c.self.view_is, w.in-Grid.is) (no_session c.self.inside.shape h.grid _ _)
