@@ -6,7 +6,6 @@ ghost use Rattle.wsm_query.specs.Tree.{Query as QueryTree};
 ghost use Rattle.wsm_check.specs.Checks.{IsChecked, refusal};
 ghost use Rattle.wsm_check.specs.Parts.{parts_of};
 ghost use Rattle.wsm_check.specs.Seen.{seen_parts};
-ghost use Rattle.wsm_check.specs.Spelt.{IsSpelt};
 ghost use Rattle.wsm_verifier.specs.Costs.{needed};
 ghost use Rattle.wsm_verifier.specs.Rules.{judge};
 ghost use Rattle.wsm_compiler.specs.Program.{program_of};
@@ -14,7 +13,7 @@ ghost use Rattle.wsm.specs.Ends.{hides_memory};
 ghost use Rattle.wsm.specs.Judged.{text_judged, bytes_judged, EndsBy, RejectsBy};
 
 use crate::end::End;
-use std::alloc::{AllocError, Global};
+use std::alloc::Global;
 use wsm_bytecode::{Program, decode};
 use wsm_check::{CheckRefusal, Checked, check};
 use wsm_compiler::{compile, laws};
@@ -30,7 +29,7 @@ pub(crate) fn program_of_text(alloc: Global, text: &[u8]) -> Result<Program, End
     let query = parse(alloc, text)?;
     laws::is_lawful();
     let checked = checked_of(alloc, query)?;
-    Ok(compiled(alloc, checked)?)
+    Ok(compile(alloc, checked)?)
 }
 
 // The query as a checked one.
@@ -43,13 +42,6 @@ fn checked_of(alloc: Global, query: Query) -> Result<Checked, CheckRefusal>
         Ok(checked) => Ok(checked),
         Err((_, refusal)) => Err(refusal),
     }
-}
-
-// The program of a checked query.
-fn compiled(alloc: Global, checked: Checked) -> Result<Program, AllocError>
-    ensures { (q : QueryTree) → IsChecked q → IsSpelt q → seen_parts checked.parts ≡ parts_of q → IfOk result (λ p. p ≡ program_of q) }
-{
-    compile(alloc, &checked)
 }
 
 /// The program that bytes spell.

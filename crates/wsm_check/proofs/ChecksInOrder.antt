@@ -1,16 +1,18 @@
 -- Checks one behind the other.
-use Rattle.std.proofs.Common.{◌≡◌, ◌∙◌, ◌≤◌, ◌<◌, ◌+◌, ◌++◌, ◌||◌, ℕ, suc, Bool, true, false, not, ◌&&◌, nat_lt, List, [], ◌∷◌, length, map, take, drop, get_or, Option, Some, None, Err, Result, ◌⊎◌, inl, inr, bytes_eq, refl, ap, ap₂, sym, arith, add-one, length-append, nat_le}
+use Rattle.std.proofs.Common.{◌≡◌, ◌∙◌, ◌≤◌, ◌<◌, ◌+◌, ◌++◌, ◌||◌, ℕ, suc, Bool, true, false, not, ◌&&◌, nat_lt, List, [], ◌∷◌, length, map, take, drop, get_or, Option, Some, None, Result, ◌⊎◌, inl, inr, bytes_eq, refl, ap, ap₂, sym, arith, add-one, length-append, nat_le}
 use Rattle.std.proofs.lemmas.Bool.{and_parts, ltb-true, and_from}
 use Rattle.std.proofs.lemmas.Bool.Decides.{nat_tests}
-use Rattle.std.proofs.lemmas.List.{length-map, map-append, take_more}
+use Rattle.std.proofs.lemmas.List.{drop_all, length-map, map-append, take_more}
 use Rattle.std.proofs.Math.Seq.{drop-cons}
 use Rattle.std.specs.List.{list_all, list_any}
 use Rattle.wsm_record.specs.Name.{is_among}
 use Rattle.wsm_record.specs.declared.schema.Field.{Field as CodeField}
-use Rattle.wsm_record.specs.Schema.{FieldType, DeclaredField, is_source_count}
+use Rattle.wsm_record.specs.declared.schema.DeclaredField.{DeclaredField as KeptField}
+use Rattle.wsm_record.specs.Schema.{FieldType, DeclaredField, are_fields_after, is_field_after, is_source_count}
 use Rattle.wsm_record.specs.Schema as field_types
 use Rattle.wsm_query.specs.Tree.{Name, Query}
-use Rattle.wsm_record.specs.Fields.{declared_field, declared_type}
+use Rattle.wsm_record.specs.Fields.{declared_field, declared_type, field_seen}
+use Rattle.wsm_record.proofs.Schemas.{fields_more}
 use Rattle.wsm_check.specs.declared.refusal.CheckRefusal.{CheckRefusal}
 use Rattle.wsm_check.specs.declared.refusal.CheckRefusal.TheVariants.{Memory}
 use Rattle.wsm_check.specs.declared.refusal.CheckFault.{CheckFault}
@@ -41,12 +43,25 @@ none_behind (Some f) s h = cc
 
 pub ruleset steps = (goes_on, stops)
 
-pub counted_names : (fields : List CodeField) → length (field_names (map declared_field fields)) ≡ length fields
-counted_names fields = length-map (map declared_field fields) (λ (d : DeclaredField). d.name) ∙ length-map fields declared_field
+pub counted_names : (kept : List KeptField) → length (field_names (map field_seen kept)) ≡ length kept
+counted_names kept = length-map (map field_seen kept) (λ (d : DeclaredField). d.name) ∙ length-map kept field_seen
 
-pub among_fields : (x : Name) (fields : List CodeField) → is_among x (field_names (map declared_field fields)) ≡ list_any (λ f. bytes_eq x f.name) fields
+pub among_fields : (x : Name) (kept : List KeptField) → is_among x (field_names (map field_seen kept)) ≡ list_any (λ f. bytes_eq x f.name) kept
 among_fields x [] = refl
-among_fields x (f ∷ fields) = ap (λ b. bytes_eq x f.name || b) (among_fields x fields)
+among_fields x (f ∷ kept) = ap (λ b. bytes_eq x f.name || b) (among_fields x kept)
+
+-- the fault of a field's type, where there is room for it and its name is new
+pub field_refused : (before : List KeptField) (d : DeclaredField) (e : CheckRefusal) → nat_lt (length before) 16 ≡ true → not (list_any (λ f. bytes_eq d.name f.name) before) ≡ true →
+    (e ≡ Memory) ⊎ (ty_refusal (part.Field (length before + 1)) d.type ≡ Some e) → (e ≡ Memory) ⊎ (field_refusal (field_names (map field_seen before)) d ≡ Some e)
+field_refused before d e few new (inl m) = inl m
+field_refused before d e few new (inr h) =
+    let names = field_names (map field_seen before) in
+    let p = part.Field (suc (length names)) in
+    let counted = counted_names before in
+    let room : unless (nat_lt (length names) 16) Limit p ≡ None = ap (λ b. unless b Limit p) (ap (λ n. nat_lt n 16) counted ∙ few) in
+    let fresh : unless (not (is_among d.name names)) Duplicate p ≡ None = ap (λ b. unless b Duplicate p) (ap not (among_fields d.name before) ∙ new) in
+    let ty : ty_refusal p d.type ≡ Some e = ap (λ n. ty_refusal (part.Field n) d.type) (ap suc counted ∙ sym (add-one (length before))) ∙ h in
+    inr (none_behind _ _ room ∙ none_behind _ _ fresh ∙ stopped (ty_refusal p d.type) None e ty)
 
 three_first : (a b d rest : Option CheckRefusal) → or_else a (or_else b (or_else d (or_else rest None))) ≡ or_else (or_else a (or_else b (or_else d None))) rest
 three_first None None None None = refl
@@ -76,14 +91,39 @@ fields_next fields i f h e =
     ∙ three_first (unless (nat_lt (length before) 16) Limit p) (unless (not (is_among f.name before)) Duplicate p) (ty_refusal p (declared_type f.ty)) (fields_refusal (before ++ f.name ∷ []) (map declared_field (drop (suc i) fields)))
     ∙ ap₂ (λ (names : List Name) (n : ℕ). or_else (field_refusal before (declared_field f)) (fields_refusal names (map declared_field (drop n fields)))) more (sym (add-one i))
 
-pub next_passed : (fields : List CodeField) (i : ℕ) (f : CodeField) → i < length fields → f ≡ get_or fields i f → fields_refusal [] (map declared_field fields) ≡ refusal_from i fields →
-    field_refusal (names_to i fields) (declared_field f) ≡ None → fields_refusal [] (map declared_field fields) ≡ refusal_from (i + 1) fields
-next_passed fields i f h e before passed = before ∙ fields_next fields i f h e ∙ none_behind (field_refusal (names_to i fields) (declared_field f)) (refusal_from (i + 1) fields) passed
+-- the first i fields pass and are kept, and the others are still to be checked
+pub record PassedTo (fields : List CodeField) (i : ℕ) (kept : List KeptField) : Type 0 where
+  pub same : map field_seen kept ≡ map declared_field (take i fields)
+  pub lawful : are_fields_after [] (map field_seen kept) ≡ true
+  pub rest : fields_refusal [] (map declared_field fields) ≡ refusal_from i fields
 
-pub next_refused : (fields : List CodeField) (i : ℕ) (f : CodeField) (r : CheckRefusal) → i < length fields → f ≡ get_or fields i f → fields_refusal [] (map declared_field fields) ≡ refusal_from i fields →
-    (r ≡ Memory) ⊎ (field_refusal (names_to i fields) (declared_field f) ≡ Some r) → (r ≡ Memory) ⊎ (fields_refusal [] (map declared_field fields) ≡ Some r)
-next_refused fields i f r h e before (inl m) = inl m
-next_refused fields i f r h e before (inr refused) = inr (before ∙ fields_next fields i f h e ∙ stopped (field_refusal (names_to i fields) (declared_field f)) (refusal_from (i + 1) fields) r refused)
+-- what is refused of the next field
+next_refusal : (fields : List CodeField) (i : ℕ) (kept : List KeptField) (f : CodeField) → i < length fields → f ≡ get_or fields i f → PassedTo fields i kept →
+    fields_refusal [] (map declared_field fields) ≡ or_else (field_refusal (field_names (map field_seen kept)) (declared_field f)) (refusal_from (i + 1) fields)
+next_refusal fields i kept f h e before =
+    before.rest ∙ fields_next fields i f h e ∙ ap (λ ds. or_else (field_refusal (field_names ds) (declared_field f)) (refusal_from (i + 1) fields)) (sym before.same)
+
+pub next_passed : (fields : List CodeField) (i : ℕ) (kept : List KeptField) (f : CodeField) (k : KeptField) → i < length fields → f ≡ get_or fields i f → PassedTo fields i kept →
+    field_refusal (field_names (map field_seen kept)) (declared_field f) ≡ None → field_seen k ≡ declared_field f → is_field_after (field_names (map field_seen kept)) (field_seen k) ≡ true →
+    PassedTo fields (i + 1) (kept ++ k ∷ [])
+next_passed fields i kept f k h e before passed same lawful =
+    let taken : take i fields ++ f ∷ [] ≡ take (i + 1) fields = ap (λ y. take i fields ++ y ∷ []) e ∙ sym (take_more fields i f h) in
+    let more = map-append field_seen kept (k ∷ []) in
+    record {
+      same = more ∙ ap₂ (λ ds d. ds ++ d ∷ []) before.same same ∙ sym (map-append declared_field (take i fields) (f ∷ [])) ∙ ap (map declared_field) taken;
+      lawful = ap (are_fields_after []) more ∙ fields_more [] (map field_seen kept) (field_seen k) before.lawful lawful;
+      rest = next_refusal fields i kept f h e before ∙ none_behind (field_refusal (field_names (map field_seen kept)) (declared_field f)) (refusal_from (i + 1) fields) passed;
+    }
+
+pub next_refused : (fields : List CodeField) (i : ℕ) (kept : List KeptField) (f : CodeField) (r : CheckRefusal) → i < length fields → f ≡ get_or fields i f → PassedTo fields i kept →
+    (r ≡ Memory) ⊎ (field_refusal (field_names (map field_seen kept)) (declared_field f) ≡ Some r) → (r ≡ Memory) ⊎ (fields_refusal [] (map declared_field fields) ≡ Some r)
+next_refused fields i kept f r h e before (inl m) = inl m
+next_refused fields i kept f r h e before (inr refused) =
+    inr (next_refusal fields i kept f h e before ∙ stopped (field_refusal (field_names (map field_seen kept)) (declared_field f)) (refusal_from (i + 1) fields) r refused)
+
+-- all fields passed
+pub all_passed : (fields : List CodeField) (i : ℕ) (kept : List KeptField) → length fields ≤ i → PassedTo fields i kept → fields_refusal [] (map declared_field fields) ≡ None
+all_passed fields i kept end before = before.rest ∙ ap (λ (ds : List CodeField). fields_refusal (names_to i fields) (map declared_field ds)) (drop_all i fields end)
 
 one_behind_two : (a b d : Option CheckRefusal) → or_else (or_else a b) d ≡ or_else a (or_else b d)
 one_behind_two None b d = refl

@@ -4,4 +4,5 @@ pub mod ResolvedTerms
 pub mod Flat
 pub mod ChecksInOrder
 pub mod Repeats
+pub mod DeclaredSchema
 pub mod PassedChecks

@@ -6,8 +6,8 @@ use Rattle.wsm_record.specs.declared.words.Kind.{Kind}
 use Rattle.wsm_record.specs.declared.words.Mode.{Mode}
 use Rattle.wsm_record.specs.declared.words.Form.{Form}
 use Rattle.wsm_windows.specs.declared.window.Shape.{Shape}
-use Rattle.wsm_record.specs.Schema.{DeclaredField}
-use Rattle.wsm_query.specs.Tree.{Name, Budget, Query, Expr}
+use Rattle.wsm_record.specs.Schema.{Declared}
+use Rattle.wsm_query.specs.Tree.{Budget, Query, Expr}
 use Rattle.wsm_record.specs.declared.words.CellType.{CellType}
 use Rattle.wsm_record.specs.declared.words.CellType.TheVariants as types
 use Rattle.wsm_check.specs.Types.{Typed, InColumn, typed}
@@ -22,9 +22,7 @@ pub record Folding : Type 0 where
   pub operand : Term
 
 pub record Parts : Type 0 where
-  pub keys : List Name
-  pub fields : List DeclaredField
-  pub sources : List Name
+  pub schema : Declared
   pub start : ℤ
   pub skew : ℤ
   pub lateness : ℤ
@@ -64,11 +62,13 @@ abbrev pub columns_from : Query → ℕ → List Expr → List Term
 columns_from q a [] = []
 columns_from q a (e ∷ es) = resolved q a e ∷ columns_from q (a + aggregates e) es
 
+-- the keys, fields and sources
+abbrev pub schema_of : Query → Declared
+schema_of q = record { keys = q.keys; fields = q.fields; sources = q.sources }
+
 abbrev pub parts_of : Query → Parts
 parts_of q = record {
-  keys = q.keys;
-  fields = q.fields;
-  sources = q.sources;
+  schema = schema_of q;
   start = q.start;
   skew = q.skew;
   lateness = q.lateness;

@@ -1,7 +1,6 @@
 -- What the code has of a checked query, without pointers.
 use Rattle.std.specs.Prelude.{◌≡◌, map, option_map}
 use Rattle.wsm_query.specs.Tree.{Query}
-use Rattle.wsm_record.specs.Fields.{declared_field}
 use Rattle.wsm_query.specs.Seen.{seen_budget}
 use Rattle.wsm_check.specs.declared.term.Term.{Term as Code}
 use Rattle.wsm_check.specs.declared.term.Term.TheVariants as code
@@ -31,9 +30,7 @@ seen_folding f = record { kind = f.kind; operand = seen_term f.operand }
 
 abbrev pub seen_parts : CodeParts → Parts
 seen_parts p = record {
-  keys = p.keys.items;
-  fields = map declared_field p.fields.items;
-  sources = p.sources.items;
+  schema = p.schema;
   start = p.start;
   skew = p.skew;
   lateness = p.lateness;

@@ -4,7 +4,7 @@ ghost use Rattle.std.specs.Prelude.{◌≡◌, ◌⊎◌, Some, IfOk, IfErr, OnO
 ghost use Rattle.wsm_query.specs.Seen.{seen};
 ghost use Rattle.wsm_check.specs.Checks.{IsChecked, refusal};
 ghost use Rattle.wsm_check.specs.Spelt.{IsSpelt};
-ghost use Rattle.wsm_check.specs.Parts.{parts_of};
+ghost use Rattle.wsm_check.specs.Parts.{parts_of, schema_of};
 ghost use Rattle.wsm_check.specs.Seen.{AreTermsOf, seen_parts};
 
 use crate::assemble::terms_of;
@@ -14,7 +14,7 @@ use crate::parts::{Parts, Terms};
 use crate::refusal::CheckRefusal;
 use std::alloc::Global;
 use wsm_query::Query;
-use wsm_record::{are_names, are_spelt};
+use wsm_record::Schema;
 
 /// The query as a checked one, or the first check that refuses it. A query that isn't taken is
 /// handed back.
@@ -24,36 +24,31 @@ pub fn check(alloc: Global, query: Query) -> Result<Checked, (Query, CheckRefusa
     ensures refused { IfErr result (λ e. (e.1 ≡ CheckRefusal.Memory) ⊎ (refusal (seen query) ≡ Some e.1)) }
     ensures handed_back { IfErr result (λ e. e.0 ≡ query) }
 {
-    match checked_terms(alloc, &query) {
-        Ok(terms) => Ok(put_together(query, terms)),
+    match checked_parts(alloc, &query) {
+        Ok(parts) => Ok(Checked { parts }),
         Err(refusal) => Err((query, refusal)),
     }
 }
 
-// The terms of a query that passes all checks.
-fn checked_terms(alloc: Global, query: &Query) -> Result<Terms, CheckRefusal>
+// What a query that passes all checks has.
+fn checked_parts(alloc: Global, query: &Query) -> Result<Parts, CheckRefusal>
     ensures checked { OnOk result (IsChecked (seen query.now)) }
     ensures spelt { OnOk result (IsSpelt (seen query.now)) }
-    ensures terms { IfOk result (AreTermsOf (seen query.now)) }
+    ensures parts { IfOk result (λ p. seen_parts p ≡ parts_of (seen query.now)) }
     ensures refused { IfErr result (λ e. (e ≡ CheckRefusal.Memory) ⊎ (refusal (seen query.now) ≡ Some e)) }
 {
-    let types = judge(alloc, query)?;
-    are_names(&query.keys);
-    are_spelt(&query.fields);
-    are_names(&query.sources);
-    Ok(terms_of(alloc, query, types)?)
+    let judged = judge(alloc, query)?;
+    let terms = terms_of(alloc, query, judged.types)?;
+    Ok(put_together(query, judged.schema, terms))
 }
 
-fn put_together(query: Query, terms: Terms) -> Checked
-    requires checked { IsChecked (seen query) }
-    requires spelt { IsSpelt (seen query) }
-    requires terms { AreTermsOf (seen query) terms }
-    ensures { seen_parts result.parts ≡ parts_of (seen query) }
+fn put_together(query: &Query, schema: Schema, terms: Terms) -> Parts
+    requires schema { schema ≡ schema_of (seen query.now) }
+    requires terms { AreTermsOf (seen query.now) terms }
+    ensures { seen_parts result ≡ parts_of (seen query.now) }
 {
-    let parts = Parts {
-        keys: query.keys,
-        fields: query.fields,
-        sources: query.sources,
+    Parts {
+        schema,
         start: query.start,
         skew: query.skew,
         lateness: query.lateness,
@@ -70,6 +65,5 @@ fn put_together(query: Query, terms: Terms) -> Checked
         types: terms.types,
         columns: terms.columns,
         having: terms.having,
-    };
-    Checked { parts }
+    }
 }

@@ -1,24 +1,34 @@
 //! The checks of a query, in their order: the first that fails refuses it.
 
 ghost use Rattle.std.specs.Prelude.{◌≡◌, ◌≤◌, ◌+◌, ◌++◌, [], length, map, option_map, true, not, IfOk, OnOk};
-ghost use Rattle.wsm_record.specs.Fields.{declared_field, declared_type};
+ghost use Rattle.wsm_record.specs.Fields.{declared_field, declared_type, field_seen, type_seen};
+ghost use Rattle.wsm_record.specs.Schema.{are_fields_after, are_names_after, are_sources, is_field_after, is_field_type, is_name_list, is_schema};
 ghost use Rattle.wsm_query.specs.Seen.{seen, seen_expr};
 ghost use Rattle.wsm_check.specs.Names.{field_names, has_repeats};
 ghost use Rattle.wsm_check.specs.Checks.{Judges, clock_fits, columns_refusal, condition_refusal, declared_refusal, expressions_refusal, field_refusal, fields_refusal, grouped_refusal, names_refusal, numbers_refusal, refusal, shape_fits, sources_refusal, ty_refusal, typed_refusal, unless};
 ghost use Rattle.wsm_check.specs.Types.{InColumn, typed};
-ghost use Rattle.wsm_check.specs.Parts.{column_type};
+ghost use Rattle.wsm_check.specs.Parts.{column_type, schema_of};
 
 use crate::code::code_fits;
 use crate::limits::{
     budget_fits, clock_fits, every_fits, lateness_fits, shape_fits, source_count_fits,
 };
-use crate::names::is_among_fields;
 use crate::refusal::{CheckFault, CheckRefusal, Part};
 use crate::types::{Around, judge_condition, type_of};
 use std::alloc::Global;
 use wsm_query::{Expr, Query};
 use wsm_record::limits::{MAX_COLUMNS, MAX_FIELDS, MAX_NAMES};
-use wsm_record::{CellType, Field, Name, Names, SchemaRefusal, Ty};
+use wsm_record::{
+    CellType, DeclaredField, Field, FieldType, Name, Names, Schema, SchemaRefusal, Ty, has_field,
+};
+
+/// What the checks make of a query that passes them.
+#[derive(Drop)]
+pub struct Judged {
+    pub schema: Schema,
+    /// The types of the columns.
+    pub types: Vec<CellType>,
+}
 
 // A refusal where the condition fails.
 fn want(holds: bool, fault: CheckFault, part: Part) -> Result<(), CheckRefusal>
@@ -34,64 +44,89 @@ fn want(holds: bool, fault: CheckFault, part: Part) -> Result<(), CheckRefusal>
 
 // 1 to 1,000 names, none of them twice.
 #[tactic(auto, using(crate::proofs::ChecksInOrder::steps))]
-fn judge_names(alloc: Global, part: Part, names: &[Name]) -> Result<(), CheckRefusal>
-    ensures { Judges result (names_refusal part names.now) }
+fn judge_names(alloc: Global, part: Part, names: &[Name]) -> Result<Names, CheckRefusal>
+    ensures judged { Judges result (names_refusal part names.now) }
+    ensures all { IfOk result (λ list. list ≡ names.now) }
+    ensures lawful { IfOk result (λ list. is_name_list list ≡ true) }
 {
     let is_count = !names.is_empty() && names.len() <= MAX_NAMES;
     want(is_count, CheckFault::Limit, part)?;
     judge_repeats(alloc, part, names)
 }
 
+// None of the names stands twice.
 #[tactic(auto, using(crate::proofs::Repeats::repeats_is))]
-fn judge_repeats(alloc: Global, part: Part, names: &[Name]) -> Result<(), CheckRefusal>
+fn judge_repeats(alloc: Global, part: Part, names: &[Name]) -> Result<Names, CheckRefusal>
     requires { length names.now ≤ MAX_NAMES }
-    ensures { Judges result (unless (not (has_repeats names.now)) CheckFault.Duplicate part) }
+    ensures judged { Judges result (unless (not (has_repeats names.now)) CheckFault.Duplicate part) }
+    ensures all { IfOk result (λ list. list ≡ names.now) }
+    ensures lawful { IfOk result (λ list. are_names_after [] list ≡ true) }
 {
     match Names::collect(alloc, names) {
-        Ok(_) => Ok(()),
+        Ok(list) => Ok(list),
         Err(SchemaRefusal::DuplicateName) => Err(CheckRefusal::Fault(CheckFault::Duplicate, part)),
         Err(_) => Err(CheckRefusal::Memory),
     }
 }
 
-fn judge_ty(alloc: Global, part: Part, ty: &Ty) -> Result<(), CheckRefusal>
-    ensures { Judges result (ty_refusal part (declared_type ty.now)) }
+// The type as a schema keeps it, where it has values and no name twice.
+fn judge_ty(alloc: Global, part: Part, ty: &Ty) -> Result<FieldType, CheckRefusal>
+    ensures judged { Judges result (ty_refusal part (declared_type ty.now)) }
+    ensures kept { IfOk result (λ t. type_seen t ≡ declared_type ty.now) }
+    ensures lawful { IfOk result (λ t. is_field_type (type_seen t) ≡ true) }
 {
     match ty {
-        Ty::Int { lo, hi } => want(lo <= hi, CheckFault::Limit, part),
-        Ty::Bool => Ok(()),
-        Ty::Enum(names) => judge_names(alloc, part, names),
+        Ty::Int { lo, hi } => {
+            want(lo <= hi, CheckFault::Limit, part)?;
+            Ok(FieldType::Int { lo: *lo, hi: *hi })
+        }
+        Ty::Bool => Ok(FieldType::Bool),
+        Ty::Enum(names) => Ok(FieldType::Enum(judge_names(alloc, part, names)?)),
     }
 }
 
 // At most 16 fields, and none of a name twice.
 #[tactic(auto, using(crate::proofs::ChecksInOrder::next_passed, crate::proofs::ChecksInOrder::next_refused))]
-fn judge_fields(alloc: Global, fields: &[Field]) -> Result<(), CheckRefusal>
+fn judge_fields(alloc: Global, fields: &[Field]) -> Result<Vec<DeclaredField>, CheckRefusal>
     ensures judged { Judges result (fields_refusal [] (map declared_field fields.now)) }
     ensures few { OnOk result (length fields.now ≤ MAX_FIELDS) }
+    ensures kept { IfOk result (λ kept. map field_seen kept.items ≡ map declared_field fields.now) }
+    ensures lawful { IfOk result (λ kept. are_fields_after [] (map field_seen kept.items) ≡ true) }
 {
-    for (i, field) in fields.iter().enumerate() {
-        judge_field(alloc, &fields[..i], field)?;
+    let mut kept = Vec::new(alloc);
+    for field in fields {
+        let declared = judge_field(alloc, &kept, field)?;
+        kept.push(declared)?;
     }
-    Ok(())
+    Ok(kept)
 }
 
 // A field behind others.
-#[tactic(auto, using(crate::proofs::ChecksInOrder::steps, crate::proofs::ChecksInOrder::counted_names))]
-fn judge_field(alloc: Global, before: &[Field], field: &Field) -> Result<(), CheckRefusal>
-    ensures { Judges result (field_refusal (field_names (map declared_field before.now)) (declared_field field.now)) }
+#[tactic(auto, using(crate::proofs::ChecksInOrder::steps, crate::proofs::ChecksInOrder::counted_names, crate::proofs::ChecksInOrder::among_fields))]
+fn judge_field(
+    alloc: Global,
+    before: &[DeclaredField],
+    field: &Field,
+) -> Result<DeclaredField, CheckRefusal>
+    ensures judged { Judges result (field_refusal (field_names (map field_seen before.now)) (declared_field field.now)) }
+    ensures kept { IfOk result (λ declared. field_seen declared ≡ declared_field field.now) }
+    ensures lawful { IfOk result (λ declared. is_field_after (field_names (map field_seen before.now)) (field_seen declared) ≡ true) }
 {
     let part = Part::Field(before.len() as u64 + 1);
     want(before.len() < MAX_FIELDS, CheckFault::Limit, part)?;
-    let is_fresh = !is_among_fields(&field.name, before);
+    let is_fresh = !has_field(before, &field.name);
     want(is_fresh, CheckFault::Duplicate, part)?;
-    judge_ty(alloc, part, &field.ty)
+    let ty = judge_ty(alloc, part, &field.ty)?;
+    let name = field.name.copied();
+    Ok(DeclaredField { name, ty })
 }
 
 // Where sources are declared, 2 to 16 of them, none of them twice.
 #[tactic(auto, using(crate::proofs::ChecksInOrder::steps, crate::proofs::ChecksInOrder::few_sources))]
-fn judge_sources(alloc: Global, sources: &[Name]) -> Result<(), CheckRefusal>
-    ensures { Judges result (sources_refusal sources.now) }
+fn judge_sources(alloc: Global, sources: &[Name]) -> Result<Names, CheckRefusal>
+    ensures judged { Judges result (sources_refusal sources.now) }
+    ensures all { IfOk result (λ list. list ≡ sources.now) }
+    ensures lawful { IfOk result (λ list. are_sources list ≡ true) }
 {
     let is_count = source_count_fits(sources.len());
     want(is_count, CheckFault::Limit, Part::Sources)?;
@@ -189,34 +224,41 @@ fn judge_expressions(alloc: Global, query: &Query) -> Result<Vec<CellType>, Chec
     Ok(types)
 }
 
-// What the query declares: keys, fields and sources.
+// The schema of the query: its keys, fields and sources.
 #[tactic(auto, using(crate::proofs::ChecksInOrder::steps))]
-fn judge_declared(alloc: Global, query: &Query) -> Result<(), CheckRefusal>
+fn judge_declared(alloc: Global, query: &Query) -> Result<Schema, CheckRefusal>
     ensures judged { Judges result (declared_refusal (seen query.now)) }
+    ensures schema { IfOk result (λ schema. schema ≡ schema_of (seen query.now)) }
+    ensures lawful { OnOk result (is_schema (schema_of (seen query.now)) ≡ true) }
     ensures keys { OnOk result (length query.now.keys.items ≤ MAX_NAMES) }
     ensures fields { OnOk result (length query.now.fields.items ≤ MAX_FIELDS) }
 {
-    judge_names(alloc, Part::Keys, &query.keys)?;
-    judge_fields(alloc, &query.fields)?;
-    judge_sources(alloc, &query.sources)
+    let keys = judge_names(alloc, Part::Keys, &query.keys)?;
+    let fields = judge_fields(alloc, &query.fields)?;
+    let sources = judge_sources(alloc, &query.sources)?;
+    Ok(Schema::of_parts(keys, fields, sources))
 }
 
-/// The types of the columns of a query that passes all checks, or the first that refuses it.
-pub fn judge(alloc: Global, query: &Query) -> Result<Vec<CellType>, CheckRefusal>
+/// What a query that passes all checks has, or the first check that refuses it.
+pub fn judge(alloc: Global, query: &Query) -> Result<Judged, CheckRefusal>
     ensures judged { Judges result (refusal (seen query.now)) }
-    ensures types { IfOk result (λ types. types.items ≡ map (column_type (seen query.now)) (seen query.now).columns) }
+    ensures schema { IfOk result (λ judged. judged.schema ≡ schema_of (seen query.now)) }
+    ensures lawful { OnOk result (is_schema (schema_of (seen query.now)) ≡ true) }
+    ensures types { IfOk result (λ judged. judged.types.items ≡ map (column_type (seen query.now)) (seen query.now).columns) }
 {
     judge_in_groups(alloc, query)
 }
 
 #[tactic(auto, using(crate::proofs::ChecksInOrder::steps))]
-fn judge_in_groups(alloc: Global, query: &Query) -> Result<Vec<CellType>, CheckRefusal>
+fn judge_in_groups(alloc: Global, query: &Query) -> Result<Judged, CheckRefusal>
     ensures judged { Judges result (grouped_refusal (seen query.now)) }
-    ensures types { IfOk result (λ types. types.items ≡ map (column_type (seen query.now)) (seen query.now).columns) }
+    ensures schema { IfOk result (λ judged. judged.schema ≡ schema_of (seen query.now)) }
+    ensures lawful { OnOk result (is_schema (schema_of (seen query.now)) ≡ true) }
+    ensures types { IfOk result (λ judged. judged.types.items ≡ map (column_type (seen query.now)) (seen query.now).columns) }
 {
-    judge_declared(alloc, query)?;
+    let schema = judge_declared(alloc, query)?;
     judge_numbers(query)?;
     let types = judge_expressions(alloc, query)?;
     want(code_fits(query), CheckFault::Limit, Part::Code)?;
-    Ok(types)
+    Ok(Judged { schema, types })
 }

@@ -1,10 +1,9 @@
 //! Names in the lists that a query declares.
 
 ghost use Rattle.std.specs.Prelude.{◌≡◌, ◌≤◌, map, length, position, bytes_eq, MatchOption};
-ghost use Rattle.std.specs.List.{list_any};
 ghost use Rattle.wsm_record.specs.Name as rule;
 ghost use Rattle.wsm_record.specs.Fields.{declared_field, declared_type};
-ghost use Rattle.wsm_check.specs.Names.{Absent, Found, field_names, place_of};
+ghost use Rattle.wsm_check.specs.Names.{Absent, Found, place_of};
 
 use wsm_record::limits::MAX_FIELDS;
 use wsm_record::{Field, Name, Ty};
@@ -46,17 +45,4 @@ pub fn find_field<'a>(fields: &'a [Field], name: &Name) -> Option<(u8, &'a Ty)>
         }
     }
     None
-}
-
-/// Whether a field has the name.
-pub fn is_among_fields(name: &Name, fields: &[Field]) -> bool
-    ensures { result ≡ rule.is_among name.now (field_names (map declared_field fields.now)) }
-{
-    has_name(fields, name)
-}
-
-fn has_name(fields: &[Field], name: &Name) -> bool
-    ensures { result ≡ list_any (λ f. bytes_eq name.now f.name) fields.now }
-{
-    fields.iter().any(|field| *name == field.name)
 }

@@ -2,7 +2,7 @@
 
 use crate::term::Term;
 use wsm_query::Budget;
-use wsm_record::{CellType, Field, Form, Kind, Mode, Name};
+use wsm_record::{CellType, Form, Kind, Mode, Schema};
 use wsm_windows::Shape;
 
 /// What an accumulator folds.
@@ -17,10 +17,8 @@ pub struct Folding {
 /// accumulator of its own.
 #[derive(Drop)]
 pub struct Parts {
-    pub keys: Vec<Name>,
-    pub fields: Vec<Field>,
-    /// The sources of watermarks: none where all watermarks are of one source, else 2 to 16.
-    pub sources: Vec<Name>,
+    /// The keys, the fields and the sources of watermarks.
+    pub schema: Schema,
     /// Where the watermark starts, in event time.
     pub start: i64,
     /// How far ahead of the watermark a record may be, in event time.

@@ -1,12 +1,12 @@
 -- What the checks say of what a checked query has: its sections fit, and what is put together of them is a program.
-use Rattle.std.proofs.Common.{◌≡◌, ◌≤◌, true, None, List, length, arith, ap, ◌∙◌, refl}
+use Rattle.std.proofs.Common.{◌≡◌, ◌≤◌, true, List, length, arith, ap, ◌∙◌, refl}
 use Rattle.std.proofs.Math.Logic.{∥∥₁_elim}
 use Rattle.std.proofs.Math.Bridge.{le_prop}
 use Rattle.std.proofs.Math.Bool.{Bool-set}
 use Rattle.std.proofs.lemmas.List.{length-map}
 use Rattle.std.specs.Prelude.{◌&&◌}
 use Rattle.std.proofs.lemmas.Bool.{and_parts}
-use Rattle.wsm_record.specs.Schema.{schema_refusal, is_schema}
+use Rattle.wsm_record.specs.Schema.{is_schema}
 use Rattle.wsm_program.specs.declared.instr.Instr.{Instr}
 use Rattle.wsm_program.specs.declared.program.Costs.{Costs}
 use Rattle.wsm_program.specs.Program.{Header, Program, is_clock, is_firing, is_row, is_budget, is_header, is_program}
@@ -20,7 +20,6 @@ use Rattle.wsm_compiler.specs.Program.{stated, needed_of, program_of}
 use Rattle.wsm_compiler.specs.Assembled.{assembled, assembled_header}
 use Rattle.wsm_compiler.proofs.Passed.{passed}
 use Rattle.wsm_compiler.proofs.Lawful.{is_lawful}
-use Rattle.wsm_record.proofs.Schemas.{schema_fits}
 use Rattle.wsm_compiler.proofs.QueryCode.{ended_size, folded_size, fired_size, assembled_is}
 use Rattle.wsm_program.proofs.Lawful.{program_header}
 
@@ -32,10 +31,6 @@ budget_of p h =
     let b = and_parts (is_clock g) (is_firing g && (is_row g && is_budget g.budget)) a.1 in
     let d = and_parts (is_firing g) (is_row g && is_budget g.budget) b.1 in
     (and_parts (is_row g) (is_budget g.budget) d.1).1
-
-schema_of : (p : Program) → is_program p ≡ true → is_schema p.header.schema ≡ true
-unfolding is_header
-schema_of p h = let g = p.header in (and_parts (is_schema g.schema) (is_clock g && (is_firing g && (is_row g && is_budget g.budget))) (program_header p h)).0
 
 -- a header and sections that are those of the parts
 pub put_together : (p : Parts) (b : Costs) (header : Header) (selection update fire : List Instr) → header ≡ assembled_header p b →
@@ -59,10 +54,6 @@ module _ (p : Parts) (h : ∥ ArePartsOfChecked p ∥₁) where
   pub is_program_of : (b : Costs) → is_budget b ≡ true → is_program (assembled p b) ≡ true
   is_program_of b l =
       ∥∥₁_elim h (Bool-set _ _) (λ w. rw w.is (ap is_program (assembled_is w.query b) ∙ lawful_stating (program_of w.query) b (is_lawful w.query w.checked w.spelt) l))
-
-  -- so nothing refuses its keys, fields and sources
-  pub is_schema_of : (b : Costs) → is_budget b ≡ true → schema_refusal (assembled_header p b).schema ≡ None
-  is_schema_of b l = schema_fits (assembled_header p b).schema (schema_of (assembled p b) (is_program_of b l))
 
   -- what BUDGET states, or what the program needs, may be stated
   pub is_budget_of : (b : Costs) → is_budget (stated (needed (assembled p b)) p.budget) ≡ true

@@ -28,8 +28,8 @@ use Rattle.wsm_check.specs.Checks.{unless, first, ty_refusal, fields_refusal, is
 use Rattle.wsm_compiler.specs.Code.{where_section, update_section, fire_section}
 use Rattle.wsm_check.specs.Spelt.{numbers_fit, IsSpelt}
 use Rattle.wsm_compiler.specs.Lawful.{IsLawful}
-use Rattle.wsm_check.specs.Parts.{column_type}
-use Rattle.wsm_compiler.specs.Program.{schema_of, late_by, every, stated, needed_of, program_of}
+use Rattle.wsm_check.specs.Parts.{column_type, schema_of}
+use Rattle.wsm_compiler.specs.Program.{late_by, every, stated, needed_of, program_of}
 use Rattle.wsm_machine.proofs.FittingStacks.{no}
 use Rattle.wsm_compiler.proofs.Sized.{sizes_are_lengths}
 use Rattle.wsm_compiler.proofs.KnownFields.{in_column}
@@ -39,6 +39,7 @@ use Rattle.wsm_compiler.proofs.DeclaredNames.{names_listed, sources_listed}
 use Rattle.wsm_compiler.proofs.Operands.{condition_numbers, condition_aggregates, columns_aggregates, operands_fit, condition_fine, folds_fine, columns_fine, columns_named}
 use Rattle.wsm_compiler.proofs.Costs.{budget_is}
 use Rattle.wsm_check.proofs.ChecksInOrder.{passed_both}
+use Rattle.wsm_check.proofs.DeclaredSchema.{schema_lawful}
 use Rattle.wsm_check.proofs.PassedChecks.{length-accumulators_of}
 
 -- ---- the schema
@@ -90,12 +91,9 @@ fields_few names (d ∷ ds) h l =
     omega (arith, a, rest)
 
 schema_is : (q : Query) → Passed q → IsSpelt q → is_schema (schema_of q) ≡ true
-unfolding is_schema
 schema_is q p s =
-    let few = fields_few [] q.fields p.fields (omega arith) in
-    and_from (is_name_list q.keys) (nat_le (length q.fields) 16 && (are_fields_after [] q.fields && are_sources q.sources)) (names_listed part.Keys q.keys p.keys s.keys)
-    (and_from (nat_le (length q.fields) 16) (are_fields_after [] q.fields && are_sources q.sources) (le-leb (length q.fields) 16 (omega (arith, few)))
-    (and_from (are_fields_after [] q.fields) (are_sources q.sources) (fields_listed [] q.fields p.fields s.fields) (sources_listed q.sources p.sources s.sources)))
+    schema_lawful (schema_of q) (names_listed part.Keys q.keys p.keys s.keys) (omega (arith, fields_few [] q.fields p.fields (omega arith)))
+    (fields_listed [] q.fields p.fields s.fields) (sources_listed q.sources p.sources s.sources)
 
 -- ---- when panes fire
 

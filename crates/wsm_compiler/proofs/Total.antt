@@ -31,7 +31,8 @@ use Rattle.wsm_query.specs.Tree.{Query, Expr}
 use Rattle.wsm_record.specs.declared.words.CellType.TheVariants as types
 use Rattle.wsm_check.specs.Sizes.{Acc, accumulators, in_option}
 use Rattle.wsm_compiler.specs.Meaning.{Scene, meaning, meets_i64, on_record, is_true, condition_holds, selects}
-use Rattle.wsm_compiler.specs.Program.{schema_of, program_of}
+use Rattle.wsm_check.specs.Parts.{schema_of}
+use Rattle.wsm_compiler.specs.Program.{program_of}
 use Rattle.wsm_compiler.specs.Runs.{cell}
 use Rattle.wsm_compiler.specs.Sections.{in_bounds, condition_value, folded_values, on_stack, Traps, Leaves, Folds, record_fits}
 use Rattle.wsm_compiler.specs.SameMeaning.{IsAccepted, record_in_range, HasValue, TotalOnRecords}

@@ -29,8 +29,8 @@ use Rattle.wsm_record.specs.declared.words.CellType.TheVariants as types
 use Rattle.wsm_check.specs.Sizes.{aggregates, accumulators, in_option, fired}
 use Rattle.wsm_compiler.specs.Meaning.{Scene, meaning, meets_i64, all_of, on_records, condition_holds, column, row}
 use Rattle.wsm_compiler.specs.Means.{meant}
-use Rattle.wsm_check.specs.Parts.{column_type}
-use Rattle.wsm_compiler.specs.Program.{schema_of, program_of}
+use Rattle.wsm_check.specs.Parts.{column_type, schema_of}
+use Rattle.wsm_compiler.specs.Program.{program_of}
 use Rattle.wsm_compiler.specs.Runs.{cell}
 use Rattle.wsm_compiler.specs.Sections.{in_bounds, condition_value, on_stack, fired_stack, pane_fits}
 use Rattle.wsm_compiler.specs.Folded.{AreUpdates}

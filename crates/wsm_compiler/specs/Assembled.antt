@@ -1,6 +1,6 @@
 -- The program of what a checked query has, which states a given budget.
 use Rattle.std.specs.Prelude.{map}
-use Rattle.wsm_record.specs.Schema.{Declared, source_count}
+use Rattle.wsm_record.specs.Schema.{source_count}
 use Rattle.wsm_admission.specs.declared.clock.Clock.{Clock}
 use Rattle.wsm_program.specs.declared.program.Costs.{Costs}
 use Rattle.wsm_program.specs.Program.{Header, Program}
@@ -8,15 +8,12 @@ use Rattle.wsm_check.specs.Parts.{Parts}
 use Rattle.wsm_compiler.specs.Program.{every, late_by}
 use Rattle.wsm_compiler.specs.TermCode.{ending_code, foldings_code, firing_code}
 
-abbrev pub assembled_schema : Parts → Declared
-assembled_schema p = record { keys = p.keys; fields = p.fields; sources = p.sources }
-
 abbrev pub assembled_clock : Parts → Clock
-assembled_clock p = record { start = p.start; skew = p.skew; lateness = p.lateness; late = late_by p.from_window p.shape; records = p.records; sources = source_count (assembled_schema p) }
+assembled_clock p = record { start = p.start; skew = p.skew; lateness = p.lateness; late = late_by p.from_window p.shape; records = p.records; sources = source_count p.schema }
 
 abbrev pub assembled_header : Parts → Costs → Header
 assembled_header p budget = record {
-  schema = assembled_schema p;
+  schema = p.schema;
   clock = assembled_clock p;
   shape = p.shape;
   mode = p.mode;

@@ -3,7 +3,8 @@ use Rattle.std.specs.Prelude.{map, unsigned_abs}
 use Rattle.wsm_semantics.specs.Query.{Query as Meant}
 use Rattle.wsm_query.specs.Tree.{Query}
 use Rattle.wsm_compiler.specs.Meaning.{selects, row}
-use Rattle.wsm_compiler.specs.Program.{schema_of, clock_of, every}
+use Rattle.wsm_check.specs.Parts.{schema_of}
+use Rattle.wsm_compiler.specs.Program.{clock_of, every}
 
 abbrev pub meant : Query → Meant
 meant q = record {

@@ -1,6 +1,6 @@
 -- The program of a query.
 use Rattle.std.specs.Prelude.{map, Bool, true, false, ℤ, pos, unsigned_abs, Option, Some, None}
-use Rattle.wsm_record.specs.Schema.{Declared as Schema, source_count}
+use Rattle.wsm_record.specs.Schema.{source_count}
 use Rattle.wsm_windows.specs.declared.window.Shape.{Shape}
 use Rattle.wsm_admission.specs.declared.clock.Clock.{Clock}
 use Rattle.wsm_admission.specs.declared.clock.LateBy.{LateBy}
@@ -9,13 +9,9 @@ use Rattle.wsm_program.specs.declared.program.Costs.{Costs}
 use Rattle.wsm_program.specs.Program.{Program}
 use Rattle.wsm_verifier.specs.Costs.{needed}
 use Rattle.wsm_query.specs.Tree.{Query, Budget}
-use Rattle.wsm_check.specs.Parts.{column_type}
+use Rattle.wsm_check.specs.Parts.{column_type, schema_of}
 use Rattle.wsm_check.specs.Sizes.{accumulators}
 use Rattle.wsm_compiler.specs.Code.{where_section, update_section, fire_section}
-
--- the keys, fields and sources
-abbrev pub schema_of : Query → Schema
-schema_of q = record { keys = q.keys; fields = q.fields; sources = q.sources }
 
 -- from a record's own time, or from the ends of its windows
 abbrev pub late_by : Bool → Shape → LateBy

@@ -11,7 +11,8 @@ use Rattle.wsm_query.specs.Tree.{Query, Expr}
 use Rattle.wsm_check.specs.Checks.{IsChecked}
 use Rattle.wsm_check.specs.Sizes.{accumulators, in_option, fired}
 use Rattle.wsm_compiler.specs.Meaning.{Scene, meaning, meets_i64, on_record, on_records}
-use Rattle.wsm_compiler.specs.Program.{schema_of, program_of}
+use Rattle.wsm_check.specs.Parts.{schema_of}
+use Rattle.wsm_compiler.specs.Program.{program_of}
 use Rattle.wsm_compiler.specs.Folded.{Hold}
 use Rattle.wsm_check.specs.Spelt.{IsSpelt}
 use Rattle.wsm_compiler.specs.Means.{meant}

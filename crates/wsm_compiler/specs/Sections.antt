@@ -21,8 +21,8 @@ use Rattle.wsm_check.specs.Types.{typed}
 use Rattle.wsm_check.specs.declared.types.Around.TheVariants.{InColumn}
 use Rattle.wsm_check.specs.Sizes.{Acc, accumulators, aggregates}
 use Rattle.wsm_compiler.specs.Meaning.{Scene, meaning_from, meets_i64, all_of, on_record, on_accumulators}
-use Rattle.wsm_check.specs.Parts.{type_or_int}
-use Rattle.wsm_compiler.specs.Program.{schema_of, program_of}
+use Rattle.wsm_check.specs.Parts.{type_or_int, schema_of}
+use Rattle.wsm_compiler.specs.Program.{program_of}
 use Rattle.wsm_compiler.specs.Runs.{cell}
 
 -- what WHERE and UPDATE read has the fields' types and numbers of 64 bits, and what FIRE reads the accumulators' types; intervals aren't asked

@@ -30,8 +30,8 @@ const LEAST: Costs = Costs {
 };
 
 /// The program of a checked query. Where the query has no BUDGET, the program states what it needs.
-pub fn compile(alloc: Global, checked: &Checked) -> Result<Program, AllocError>
-    ensures { (q : Query) → IsChecked q → IsSpelt q → seen_parts checked.now.parts ≡ parts_of q → IfOk result (λ p. p ≡ program_of q) }
+pub fn compile(alloc: Global, checked: Checked) -> Result<Program, AllocError>
+    ensures { (q : Query) → IsChecked q → IsSpelt q → seen_parts checked.parts ≡ parts_of q → IfOk result (λ p. p ≡ program_of q) }
 {
     match checked.parts.budget {
         Some(clause) => program(alloc, checked, stated(clause)),
@@ -40,9 +40,9 @@ pub fn compile(alloc: Global, checked: &Checked) -> Result<Program, AllocError>
 }
 
 // The program that states what it needs.
-fn program_with_need(alloc: Global, checked: &Checked) -> Result<Program, AllocError>
-    requires { checked.now.parts.budget ≡ None }
-    ensures { let parts = seen_parts checked.now.parts in IfOk result (λ p. p ≡ assembled parts (spec.stated (needed (assembled parts LEAST)) None)) }
+fn program_with_need(alloc: Global, checked: Checked) -> Result<Program, AllocError>
+    requires { checked.parts.budget ≡ None }
+    ensures { let parts = seen_parts checked.parts in IfOk result (λ p. p ≡ assembled parts (spec.stated (needed (assembled parts LEAST)) None)) }
 {
     let program = program(alloc, checked, LEAST)?;
     let need = needed(alloc, &program)?;
@@ -61,14 +61,14 @@ fn stated(clause: Budget) -> Costs
 }
 
 // The program that states a budget.
-fn program(alloc: Global, checked: &Checked, budget: Costs) -> Result<Program, AllocError>
+fn program(alloc: Global, checked: Checked, budget: Costs) -> Result<Program, AllocError>
     requires { IsTrue (is_budget budget) }
-    ensures { IfOk result (λ p. p ≡ assembled (seen_parts checked.now.parts) budget) }
+    ensures { IfOk result (λ p. p ≡ assembled (seen_parts checked.parts) budget) }
 {
-    let parts = &checked.parts;
-    let header = header(alloc, parts, budget)?;
+    let parts = checked.parts;
     let selection = selection(alloc, &parts.condition)?;
     let update = update(alloc, &parts.foldings)?;
     let fire = fire(alloc, &parts.columns, &parts.having)?;
+    let header = header(alloc, parts, budget)?;
     Ok(Program::of_parts(header, selection, update, fire))
 }

@@ -20,7 +20,7 @@
 //! use wsm_query::parse;
 //!
 //! if let Ok(checked) = check(alloc, parse(alloc, text)?) {
-//!     let program = compile(alloc, &checked)?;
+//!     let program = compile(alloc, checked)?;
 //!     let fire = [Instr::Count, Instr::Acc(0), Instr::PushBool(true), Instr::Return];
 //!     assert_eq!(rt; program.section(SectionId::Fire), fire.as_slice());
 //!     assert_eq!(rt; program.header().budget.per_pane, 4); // what it needs, where BUDGET is absent

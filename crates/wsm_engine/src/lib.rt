@@ -27,7 +27,7 @@
 //! fn engine_of(alloc: Global, text: &[u8]) -> Option<Engine> {
 //!     let query = parse(alloc, text).ok()?;
 //!     let checked = check(alloc, query).ok()?;
-//!     let program = compile(alloc, &checked).ok()?;
+//!     let program = compile(alloc, checked).ok()?;
 //!     let verified = verify(alloc, program).ok()?;
 //!     Engine::open(alloc, verified).ok()
 //! }

@@ -22,7 +22,7 @@ fn checked(alloc: Global, text: &[u8]) -> Result<Checked, Fail> {
 
 fn compiled(alloc: Global, text: &[u8]) -> Result<Program, Fail> {
     let checked = checked(alloc, text)?;
-    Ok(compile(alloc, &checked)?)
+    Ok(compile(alloc, checked)?)
 }
 
 // Runs the WHERE of a program on a record of the key a.

@@ -12,14 +12,14 @@ use Rattle.wsm_compiler.proofs.compiling.compile.Goals as goal
 
 pub program-requires : goal.program-requires
 program-requires c =
-    let p = seen_parts c.args.checked.now.parts in
+    let p = seen_parts c.args.checked.parts in
     let need = needed (assembled p LEAST) in
     let some = ap (option_map seen_budget) c.in-Some.is in
-    ap is_budget (c.stated.ensures need ∙ ap (stated need) (sym some)) ∙ is_budget_of p c.args.checked.now.of_checked LEAST
+    ap is_budget (c.stated.ensures need ∙ ap (stated need) (sym some)) ∙ is_budget_of p c.args.checked.of_checked LEAST
 
 pub returns-in-Some : goal.returns-in-Some
 returns-in-Some c =
-    let p = seen_parts c.args.checked.now.parts in
+    let p = seen_parts c.args.checked.parts in
     let need = needed (assembled p LEAST) in
     let some = ap (option_map seen_budget) c.in-Some.is in
     let same = ap (assembled p) (c.stated.ensures need ∙ ap (stated need) (sym some)) in
@@ -27,7 +27,7 @@ returns-in-Some c =
 
 pub returns-in-None : goal.returns-in-None
 returns-in-None c =
-    let p = seen_parts c.args.checked.now.parts in
+    let p = seen_parts c.args.checked.parts in
     let none = ap (option_map seen_budget) c.in-None.is in
     let same = ap (λ budget. assembled p (stated (needed (assembled p LEAST)) budget)) (sym none) in
     λ q checked spelt is. subst (λ (r : Program). IfOk c.program_with_need.result (λ made. made ≡ r)) (same ∙ compiled p LEAST q is) c.program_with_need.ensures

@@ -12,7 +12,7 @@ use Rattle.wsm_compiler.proofs.compiling.program_with_need.Goals as goal
 
 pub stating-requires : goal.stating-requires
 stating-requires c =
-    let p = seen_parts c.args.checked.now.parts in
+    let p = seen_parts c.args.checked.parts in
     let need = c.in_ok-need.ensures.numbers ∙ ap needed c.in_ok-program.ensures in
     let none = ap (option_map seen_budget) c.requires in
-    ap (λ costs. is_budget (stated costs None)) need ∙ ap (λ budget. is_budget (stated (needed (assembled p LEAST)) budget)) (sym none) ∙ is_budget_of p c.args.checked.now.of_checked LEAST
+    ap (λ costs. is_budget (stated costs None)) need ∙ ap (λ budget. is_budget (stated (needed (assembled p LEAST)) budget)) (sym none) ∙ is_budget_of p c.args.checked.of_checked LEAST

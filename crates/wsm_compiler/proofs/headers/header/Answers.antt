@@ -10,4 +10,4 @@ returns c =
     let early : FitsSigned w64 c.every.result = search rules in
     let late : FitsSigned w64 c.every-2.result = search rules in
     simp to_z-of_z
-    (rw (c.clock-clock.ensures, c.in_ok-schema.ensures, c.every.ensures, c.every-2.ensures, c.in_ok-kinds.ensures, c.in_ok-column_types.ensures, c.deref.ensures.value, c.deref-2.ensures.value, c.deref-3.ensures.value, c.deref-4.ensures.value, c.deref-5.ensures.value) refl)
+    (rw (c.clock-clock.ensures, c.every.ensures, c.every-2.ensures, c.in_ok-kinds.ensures, c.deref.ensures.value) refl)
