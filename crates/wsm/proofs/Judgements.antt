@@ -18,7 +18,7 @@ use Rattle.wsm.specs.Judged.{unless_refused, checked, text_judged, read_or_refus
 
 pub text_ends : (text : List ℕ) (why : ParseRefusal) → Refuses why (parse text) → EndsBy (text_judged text) (end_of_text why)
 unfolding text_judged
-text_ends text (parsing.Text fault place) h = ap checked h
+text_ends text (parsing.Text fault position) h = ap checked h
 text_ends text parsing.Memory h = tt
 
 pub check_ends : (text : List ℕ) (q : Query) (why : CheckRefusal) → parse text ≡ Ok q → (why ≡ checking.Memory) ⊎ (refusal q ≡ Some why) → EndsBy (text_judged text) (end_of_check why)

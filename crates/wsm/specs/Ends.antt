@@ -3,7 +3,7 @@ use Rattle.std.specs.Prelude.{ℕ, Bool, true, false, List, ◌++◌, codes, if�
 use Rattle.std.specs.Fmt.{decimal}
 use Rattle.wsm_tokens.specs.declared.fault.ParseRefusal.{ParseRefusal}
 use Rattle.wsm_tokens.specs.declared.fault.ParseRefusal.TheVariants as parse
-use Rattle.wsm_tokens.specs.Place.{place_text}
+use Rattle.wsm_tokens.specs.Position.{position_text}
 use Rattle.wsm_tokens.specs.Refusal.{fault_text}
 use Rattle.wsm_check.specs.declared.refusal.CheckRefusal.{CheckRefusal}
 use Rattle.wsm_check.specs.declared.refusal.CheckRefusal.TheVariants as check
@@ -52,7 +52,7 @@ rule_number rule.Memory = 17
 
 -- as `P2 Unexpected at 1:8`, `C1 UnknownName in where` or `B3 Truncated`
 abbrev pub refusal_text : InputRefusal → List ℕ
-refusal_text (Text fault place) = fault_text fault ++ codes " at " ++ place_text place
+refusal_text (Text fault position) = fault_text fault ++ codes " at " ++ position_text position
 refusal_text (Check fault part) = check_text.fault_text fault ++ codes " in " ++ check_text.part_text part
 refusal_text (Bytes fault) = bytes_text.refusal_text fault
 
@@ -70,7 +70,7 @@ end_text ReadFailed = codes "read failed"
 end_text WriteFailed = codes "write failed"
 
 abbrev pub end_of_text : ParseRefusal → End
-end_of_text (parse.Text fault place) = Refused (Text fault place)
+end_of_text (parse.Text fault position) = Refused (Text fault position)
 end_of_text parse.Memory = Memory
 
 abbrev pub end_of_check : CheckRefusal → End

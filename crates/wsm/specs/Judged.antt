@@ -22,7 +22,7 @@ abbrev never : InputRefusal
 never = Bytes Memory
 
 abbrev pub refusal_of_text : ParseRefusal → InputRefusal
-refusal_of_text (parsing.Text fault place) = Text fault place
+refusal_of_text (parsing.Text fault position) = Text fault position
 refusal_of_text parsing.Memory = never
 
 abbrev pub refusal_of_check : CheckRefusal → InputRefusal

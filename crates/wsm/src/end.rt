@@ -9,14 +9,14 @@ use std::fmt;
 use wsm_check::{CheckFault, CheckRefusal, Part};
 use wsm_csv::{DeviceFault, ReadEnd};
 use wsm_program::DecodeRefusal;
-use wsm_tokens::{Fault, ParseRefusal, Place};
+use wsm_tokens::{Fault, ParseRefusal, Position};
 use wsm_verifier::{Rejection, Rule};
 
 /// Why a text is no query, or bytes are no program. Its text is as `P2 Unexpected at 1:8`.
 #[derive(Clone, Copy, Debug, PartialEq, Eq)]
 pub enum InputRefusal {
-    /// The reading of a text stops at a place.
-    Text(Fault, Place),
+    /// The reading of a text stops at a position.
+    Text(Fault, Position),
     /// A check of a query that was read fails in a part of it.
     Check(CheckFault, Part),
     /// Bytes spell no program. Want of memory never stands here.
@@ -47,7 +47,7 @@ impl fmt::Display for InputRefusal {
 
     fn fmt<W: fmt::Write>(&self, f: &mut fmt::Formatter<W>) -> fmt::Result {
         match self {
-            InputRefusal::Text(fault, place) => write!(f, "{fault} at {place}"),
+            InputRefusal::Text(fault, position) => write!(f, "{fault} at {position}"),
             InputRefusal::Check(fault, part) => write!(f, "{fault} in {part}"),
             InputRefusal::Bytes(fault) => write!(f, "{fault}"),
         }
@@ -128,7 +128,9 @@ impl From<ParseRefusal> for End {
 
     fn from(refusal: ParseRefusal) -> End {
         match refusal {
-            ParseRefusal::Text(fault, place) => End::Refused(InputRefusal::Text(fault, place)),
+            ParseRefusal::Text(fault, position) => End::Refused(InputRefusal::Text(
+                fault, position,
+            )),
             ParseRefusal::Memory => End::Memory,
         }
     }

@@ -5,7 +5,7 @@
 //! [`run_program`] does so from the bytes of a program. A whole program:
 //!
 //! ```rust
-//! use wsm::{End, Fault, Guarded, InputRefusal, Place, compile_text, run_program, run_query};
+//! use wsm::{End, Fault, Guarded, InputRefusal, Position, compile_text, run_program, run_query};
 //!
 //! const QUERY: &[u8] = b"KEYS a, b;
 //! FIELD n INT 0..100;
@@ -33,7 +33,7 @@
 //!     assert_eq!(rt; out.into_writer().as_slice(), LINES);
 //!
 //!     // A text that is no query ends with its first fault, and nothing is written.
-//!     let why = InputRefusal::Text(Fault::Unexpected, Place { line: 1, column: 8 });
+//!     let why = InputRefusal::Text(Fault::Unexpected, Position { line: 1, column: 8 });
 //!     let mut out = Guarded::new(Vec::new(alloc));
 //!     let end = run_query(alloc, b"KEYS a b;", ROWS, &mut out);
 //!     assert!(rt; end.is_err_and(|end| end == End::Refused(why)));
@@ -65,7 +65,7 @@ pub use wsm_check::{CheckFault, Part};
 pub use wsm_csv::{Device, DeviceFault, Guarded, write_out};
 pub use wsm_engine::Totals;
 pub use wsm_program::DecodeRefusal;
-pub use wsm_tokens::{Fault, Place};
+pub use wsm_tokens::{Fault, Position};
 pub use wsm_verifier::Rejection;
 pub use wsm_words::{Job, WordsRefusal, command_of};
 

@@ -1,8 +1,8 @@
--- The reading of a whole text: its tree, or the first fault with its place.
+-- The reading of a whole text: its tree, or the first fault with its position.
 use Rattle.std.specs.Prelude.{◌≡◌, ℕ, List, Result, Ok, Err}
 use Rattle.wsm_tokens.specs.declared.fault.ParseRefusal.{ParseRefusal}
 use Rattle.wsm_tokens.specs.declared.fault.ParseRefusal.TheVariants as refusals
-use Rattle.wsm_tokens.specs.Place.{place_of}
+use Rattle.wsm_tokens.specs.Position.{position_of}
 use Rattle.wsm_tokens.specs.Tokens.{tokens}
 use Rattle.wsm_tokens.specs.Read.{Read, Rule, Took, Stopped, ◌>>=◌, give, ended}
 use Rattle.wsm_query.specs.declared.query.Query.{Query as CodeQuery}
@@ -19,7 +19,7 @@ query_text = do
 
 abbrev pub outcome : List ℕ → Read Query → Result Query ParseRefusal
 outcome text (Took q rest) = Ok q
-outcome text (Stopped f) = Err (refusals.Text f.fault (place_of text f.offset))
+outcome text (Stopped f) = Err (refusals.Text f.fault (position_of text f.offset))
 
 unfoldable pub parse : List ℕ → Result Query ParseRefusal
 parse text = outcome text (query_text (tokens text))

@@ -10,7 +10,7 @@ use Rattle.wsm_tokens.specs.declared.fault.Fault.{Fault}
 use Rattle.wsm_tokens.specs.declared.fault.Fault.TheVariants.{BadCharacter, Unexpected, NumberTooLarge, TooDeep}
 use Rattle.wsm_tokens.specs.declared.fault.ParseRefusal.{ParseRefusal}
 use Rattle.wsm_tokens.specs.declared.fault.ParseRefusal.TheVariants as refusals
-use Rattle.wsm_tokens.specs.Place.{place_of}
+use Rattle.wsm_tokens.specs.Position.{position_of}
 use Rattle.wsm_tokens.specs.Tokens.{tokens, tokens_from, first_of, sign_of}
 use Rattle.wsm_tokens.specs.Read.{unexpected, too_deep, begins, begins_number, is_end, behind, count, ask, number, name, ended}
 use Rattle.wsm_query.specs.declared.expr.Op.TheVariants.{Sub, Ne, Gt, Div}
@@ -84,7 +84,7 @@ trees =
     ∷ []
 
 trees_read : map (λ t. (t.0, parse (selecting t.0))) trees ≡ trees
-unfolding parse query_text tokens tokens_from first_of sign_of place_of is_reserved unexpected too_deep begins begins_number is_end behind count ask number name ended brace list_of aggregate count_of choice brackets pointed leaf atom unary chain chained prod sum cmp neg conj expr_in levels expr int names type_of field sources from_window budget clock selection output shape mode form every query
+unfolding parse query_text tokens tokens_from first_of sign_of position_of is_reserved unexpected too_deep begins begins_number is_end behind count ask number name ended brace list_of aggregate count_of choice brackets pointed leaf atom unary chain chained prod sum cmp neg conj expr_in levels expr int names type_of field sources from_window budget clock selection output shape mode form every query
 trees_read = refl
 
 -- the base query with each of sources, lateness from a window's end and retracting panes, and with all, as it is printed
@@ -97,7 +97,7 @@ printed =
     ∷ []
 
 printed_read : map (λ t. (t.0, parse t.0)) printed ≡ printed
-unfolding parse query_text tokens tokens_from first_of sign_of place_of is_reserved unexpected too_deep begins begins_number is_end behind count ask number name ended brace list_of aggregate count_of choice brackets pointed leaf atom unary chain chained prod sum cmp neg conj expr_in levels expr int names type_of field sources from_window budget clock selection output shape mode form every query
+unfolding parse query_text tokens tokens_from first_of sign_of position_of is_reserved unexpected too_deep begins begins_number is_end behind count ask number name ended brace list_of aggregate count_of choice brackets pointed leaf atom unary chain chained prod sum cmp neg conj expr_in levels expr int names type_of field sources from_window budget clock selection output shape mode form every query
 printed_read = refl
 
 -- the text of what was read
@@ -205,7 +205,7 @@ abbrev all_columns : List Told
 all_columns = operators ++ words ++ atoms ++ numbers ++ conditions ++ levels_open ++ chains
 
 columns_answered : map columns_told all_columns ≡ all_columns
-unfolding parse query_text tokens tokens_from first_of sign_of place_of is_reserved unexpected too_deep begins begins_number is_end behind count ask number name ended brace list_of aggregate count_of choice brackets pointed leaf atom unary chain chained prod sum cmp neg conj expr_in levels expr int names type_of field sources from_window budget clock selection output shape mode form every query
+unfolding parse query_text tokens tokens_from first_of sign_of position_of is_reserved unexpected too_deep begins begins_number is_end behind count ask number name ended brace list_of aggregate count_of choice brackets pointed leaf atom unary chain chained prod sum cmp neg conj expr_in levels expr int names type_of field sources from_window budget clock selection output shape mode form every query
 columns_answered = refl
 
 -- the end is just past the last byte, blanks too; the 33rd byte of a word is no byte of it, also where no word would be taken
@@ -253,5 +253,5 @@ texts =
     ∷ []
 
 texts_answered : map text_told texts ≡ texts
-unfolding parse query_text tokens tokens_from first_of sign_of place_of is_reserved unexpected too_deep begins begins_number is_end behind count ask number name ended brace list_of aggregate count_of choice brackets pointed leaf atom unary chain chained prod sum cmp neg conj expr_in levels expr int names type_of field sources from_window budget clock selection output shape mode form every query
+unfolding parse query_text tokens tokens_from first_of sign_of position_of is_reserved unexpected too_deep begins begins_number is_end behind count ask number name ended brace list_of aggregate count_of choice brackets pointed leaf atom unary chain chained prod sum cmp neg conj expr_in levels expr int names type_of field sources from_window budget clock selection output shape mode form every query
 texts_answered = refl

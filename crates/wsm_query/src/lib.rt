@@ -14,7 +14,7 @@
 //!
 //! ```rust
 //! use wsm_query::{parse, print};
-//! use wsm_tokens::{Fault, ParseRefusal, Place};
+//! use wsm_tokens::{Fault, ParseRefusal, Position};
 //! use wsm_windows::Shape;
 //!
 //! let query = parse(alloc, text)?;
@@ -22,8 +22,8 @@
 //! assert_eq!(rt; query.columns.len(), 2);
 //! let printed = print(alloc, &query)?; // parsed again, it gives the same query
 //!
-//! let place = Place { line: 1, column: 8 };
-//! let refusal = ParseRefusal::Text(Fault::Unexpected, place);
+//! let position = Position { line: 1, column: 8 };
+//! let refusal = ParseRefusal::Text(Fault::Unexpected, position);
 //! assert!(rt; parse(alloc, b"KEYS a b;").is_err_and(|e| e == refusal));
 //! ```
 //!

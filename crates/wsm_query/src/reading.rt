@@ -46,7 +46,7 @@ struct Written {
     form: Form,
 }
 
-/// The tree of a query text, or the first fault from the left with its place. The text that a query is printed as has
+/// The tree of a query text, or the first fault from the left with its position. The text that a query is printed as has
 /// that query's tree.
 #[tactic(auto, unfolding(crate::specs::Parse::parse))]
 pub fn parse(alloc: Global, text: &[u8]) -> Result<Query, ParseRefusal>

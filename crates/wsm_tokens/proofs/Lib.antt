@@ -1,5 +1,5 @@
 pub mod Text
-pub mod Places
+pub mod Positions
 pub mod Decimals
 pub mod ReadBack
 pub mod Proper

@@ -1,4 +1,4 @@
-pub mod Place
+pub mod Position
 pub mod Tokens
 pub mod Written
 pub mod Proper

@@ -1,4 +1,4 @@
--- Why a text is not taken, with the place.
+-- Why a text is not taken, with the position.
 use Rattle.std.specs.Prelude.{ℕ, ◌++◌, List, codes}
 use Rattle.wsm_tokens.specs.declared.fault.Fault.{Fault}
 use Rattle.wsm_tokens.specs.declared.fault.Fault.TheVariants.{BadCharacter, Unexpected, NumberTooLarge, TooDeep}
@@ -6,10 +6,10 @@ use Rattle.wsm_tokens.specs.declared.fault.ParseRefusal.{ParseRefusal}
 use Rattle.wsm_tokens.specs.declared.fault.ParseRefusal.TheVariants as refusals
 use Rattle.wsm_tokens.specs.declared.fault.Stop.{Stop}
 use Rattle.wsm_tokens.specs.declared.fault.Stop.TheVariants as stops
-use Rattle.wsm_tokens.specs.Place.{place_of, place_text}
+use Rattle.wsm_tokens.specs.Position.{position_of, position_text}
 
 abbrev pub refusal_of : List ℕ → Stop → ParseRefusal
-refusal_of text (stops.Text f) = refusals.Text f.fault (place_of text f.offset)
+refusal_of text (stops.Text f) = refusals.Text f.fault (position_of text f.offset)
 refusal_of text stops.Memory = refusals.Memory
 
 abbrev pub fault_text : Fault → List ℕ
@@ -20,5 +20,5 @@ fault_text TooDeep = codes "P4 TooDeep"
 
 -- as it is printed
 abbrev pub refusal_text : ParseRefusal → List ℕ
-refusal_text (refusals.Text fault place) = fault_text fault ++ codes " at " ++ place_text place
+refusal_text (refusals.Text fault position) = fault_text fault ++ codes " at " ++ position_text position
 refusal_text refusals.Memory = codes "out of memory"

@@ -3,7 +3,7 @@ use Rattle.std.specs.Prelude.{◌≡◌, refl, true, false, ◌++◌, [], ◌∷
 use Rattle.wsm_tokens.specs.declared.fault.Fault.TheVariants.{BadCharacter, NumberTooLarge}
 use Rattle.wsm_tokens.specs.declared.token.Sign.TheVariants.{Dot, DotDot, Less, LessOrEqual, NotEqual}
 use Rattle.wsm_tokens.specs.Tokens.{Word, Mark, Number, Then, End, Bad, tokens, tokens_from, first_of, sign_of}
-use Rattle.wsm_tokens.specs.Place.{place_of}
+use Rattle.wsm_tokens.specs.Position.{position_of}
 use Rattle.wsm_tokens.specs.Proper.{is_proper}
 
 no_bytes : tokens [] ≡ End 0
@@ -54,17 +54,17 @@ blanks : tokens (32 ∷ 9 ∷ 13 ∷ 10 ∷ []) ≡ End 4
 unfolding tokens tokens_from first_of sign_of
 blanks = refl
 
-first_place : place_of [] 0 ≡ record { line = 1; column = 1 }
-unfolding place_of
-first_place = refl
+first_position : position_of [] 0 ≡ record { line = 1; column = 1 }
+unfolding position_of
+first_position = refl
 
 -- only a line feed ends a line
-second_line : place_of (codes "ab\r\n c") 5 ≡ record { line = 2; column = 2 }
-unfolding place_of
+second_line : position_of (codes "ab\r\n c") 5 ≡ record { line = 2; column = 2 }
+unfolding position_of
 second_line = refl
 
-behind_a_line : place_of (codes "KEYS a;\n") 8 ≡ record { line = 2; column = 1 }
-unfolding place_of
+behind_a_line : position_of (codes "KEYS a;\n") 8 ≡ record { line = 2; column = 1 }
+unfolding position_of
 behind_a_line = refl
 
 keyword : is_proper (Word (codes "SELECT")) ≡ true

@@ -4,7 +4,7 @@ ghost use Rattle.std.specs.Prelude.{◌≡◌};
 ghost use Rattle.wsm_tokens.specs.declared.fault.Stop.TheVariants.{Memory};
 ghost use Rattle.wsm_tokens.specs.Refusal.{refusal_of};
 
-use crate::place::{Place, place_at};
+use crate::position::{Position, position_at};
 use std::alloc::{AllocError, AllocFailed};
 use std::error::Error;
 use std::fmt;
@@ -41,8 +41,8 @@ pub enum Stop {
 /// Why a text was not parsed.
 #[derive(Clone, Copy, Debug, PartialEq, Eq)]
 pub enum ParseRefusal {
-    /// The first fault of the text, and its place.
-    Text(Fault, Place),
+    /// The first fault of the text, and its position.
+    Text(Fault, Position),
     /// Memory ran out.
     Memory,
 }
@@ -71,7 +71,7 @@ impl Display for ParseRefusal {
 
     fn fmt<W: fmt::Write>(&self, f: &mut Formatter<W>) -> fmt::Result {
         match self {
-            ParseRefusal::Text(fault, place) => write!(f, "{fault} at {place}"),
+            ParseRefusal::Text(fault, position) => write!(f, "{fault} at {position}"),
             ParseRefusal::Memory => f.write_str("out of memory"),
         }
     }
@@ -95,13 +95,13 @@ impl<T: Drop> From<AllocFailed<T>> for Stop {
     }
 }
 
-/// The refusal of a text for which a rule stopped, with its place.
+/// The refusal of a text for which a rule stopped, with its position.
 pub fn refusal_of(text: &[u8], stop: Stop) -> ParseRefusal
     ensures { result ≡ refusal_of text.now stop }
 {
     match stop {
         Stop::Text(TextFault { fault, offset }) => {
-            ParseRefusal::Text(fault, place_at(text, offset))
+            ParseRefusal::Text(fault, position_at(text, offset))
         }
         Stop::Memory => ParseRefusal::Memory,
     }

@@ -4,12 +4,12 @@ use crate::given::{BASE, BASE_ROWS, BASE_TEXT, is_whole, ran};
 use std::alloc::Global;
 use std::process::Abort;
 use std::test::Fail;
-use wsm::{End, InputRefusal, Place};
+use wsm::{End, InputRefusal, Position};
 
 /// How a text was taken.
 #[derive(Clone, Copy, Debug, PartialEq, Eq)]
 enum Taken {
-    /// It is no query; the place stands in the text, or just behind it.
+    /// It is no query; the position stands in the text, or just behind it.
     Misread,
     /// A check refuses its query.
     Unchecked,
@@ -44,12 +44,12 @@ impl Counts {
     }
 }
 
-// Whether a place is that of a byte of the text, or the one just behind the last.
-fn stands_in(text: &[u8], place: Place) -> bool {
+// Whether a position is that of a byte of the text, or the one just behind the last.
+fn stands_in(text: &[u8], position: Position) -> bool {
     let mut line = 1usize;
     let mut column = 1usize;
     for byte in text {
-        if place.line == line && place.column == column {
+        if position.line == line && position.column == column {
             return true;
         }
         if *byte == b'\n' {
@@ -59,7 +59,7 @@ fn stands_in(text: &[u8], place: Place) -> bool {
             column = column.saturating_add(1);
         }
     }
-    place.line == line && place.column == column
+    position.line == line && position.column == column
 }
 
 fn tried(alloc: Global, text: &[u8]) -> Taken {
@@ -67,7 +67,8 @@ fn tried(alloc: Global, text: &[u8]) -> Taken {
     match end {
         Ok(_) if is_whole(&written) => Taken::Ran,
         Err(_) if !written.is_empty() => Taken::Wrong,
-        Err(End::Refused(InputRefusal::Text(_, place))) if stands_in(text, place) => Taken::Misread,
+        Err(End::Refused(InputRefusal::Text(_, position))) if stands_in(text, position) =>
+            Taken::Misread,
         Err(End::Refused(InputRefusal::Check(..))) => Taken::Unchecked,
         Err(End::Rejected(_)) => Taken::Rejected,
         _ => Taken::Wrong,

@@ -5,7 +5,7 @@ use Rattle.std.specs.List.{suffix_len}
 use Rattle.std.proofs.Math.Nat.{sub-zero}
 use Rattle.std.proofs.lemmas.List.Sums.{suffix_len_is}
 use Rattle.memchr.specs.Find.{IsLastByte, is_byte}
-use Rattle.wsm_tokens.specs.Place.{is_line_feed}
+use Rattle.wsm_tokens.specs.Position.{is_line_feed}
 
 -- what is not true is false
 fails : (b : Bool) → (b ≡ true → ⊥) → not b ≡ true

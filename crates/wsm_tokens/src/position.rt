@@ -2,7 +2,7 @@
 
 ghost use Rattle.std.specs.Prelude.{◌≡◌, ◌≤◌, length, take, count_by, not};
 ghost use Rattle.std.specs.List.{suffix_len};
-ghost use Rattle.wsm_tokens.specs.Place.{is_line_feed, place_of};
+ghost use Rattle.wsm_tokens.specs.Position.{is_line_feed, position_of};
 
 use memchr::arch::all::memchr::One;
 use memchr::memrchr;
@@ -11,19 +11,19 @@ use std::fmt::{Display, Formatter};
 
 /// Where a byte of a text stands, from 1. A line ends at a line feed.
 #[derive(Clone, Copy, Debug, PartialEq, Eq)]
-pub struct Place {
+pub struct Position {
     pub line: usize,
     /// In bytes.
     pub column: usize,
 }
 
-/// The place of a byte of a text by its offset in bytes, or just past the last one.
-#[tactic(auto, unfolding(crate::specs::Place::place_of))]
-pub fn place_at(text: &[u8], offset: usize) -> Place
-    ensures { result ≡ place_of text.now offset }
+/// The position of a byte of a text by its offset in bytes, or just past the last one.
+#[tactic(auto, unfolding(crate::specs::Position::position_of))]
+pub fn position_at(text: &[u8], offset: usize) -> Position
+    ensures { result ≡ position_of text.now offset }
 {
     let before = front(text, offset);
-    Place {
+    Position {
         line: 1 + line_feeds(before),
         column: 1 + column_of(before),
     }
@@ -56,11 +56,11 @@ fn column_of(text: &[u8]) -> usize
     }
 }
 
-impl Display for Place {
+impl Display for Position {
     ghost use Rattle.std.specs.Prelude.{Some};
-    ghost use Rattle.wsm_tokens.specs.Place.{place_text};
+    ghost use Rattle.wsm_tokens.specs.Position.{position_text};
 
-    ghost output = { λ place. Some (place_text place) };
+    ghost output = { λ position. Some (position_text position) };
 
     fn fmt<W: fmt::Write>(&self, f: &mut Formatter<W>) -> fmt::Result {
         let line = self.line;

@@ -1,5 +1,5 @@
-use Rattle.wsm_tokens.proofs.Places.{behind_last, behind_none}
-use Rattle.wsm_tokens.proofs.place.column_of.Goals as goal
+use Rattle.wsm_tokens.proofs.Positions.{behind_last, behind_none}
+use Rattle.wsm_tokens.proofs.position.column_of.Goals as goal
 
 pub returns-in-Some-clause-bytes : goal.returns-in-Some-clause-bytes
 returns-in-Some-clause-bytes c = behind_last c.args.text.now c.in-Some.end (rw c.in-Some.is at c.memrchr.ensures)
