@@ -13,7 +13,7 @@ pub fn row_order(row: &[Cell], other: &[Cell]) -> Ordering
 {
     let mut i = 0;
     while i < row.len() && i < other.len() {
-        match cell_order(row[i], other[i]) {
+        match cell_order(&row[i], &other[i]) {
             Ordering::Equal => i += 1,
             order => return order,
         }
@@ -23,11 +23,11 @@ pub fn row_order(row: &[Cell], other: &[Cell]) -> Ordering
 
 // How two cells compare, which are mostly numbers.
 #[inline(always)]
-fn cell_order(cell: Cell, other: Cell) -> Ordering
-    ensures { result ≡ cell_cmp cell other }
+fn cell_order(cell: &Cell, other: &Cell) -> Ordering
+    ensures { result ≡ cell_cmp cell.now other.now }
 {
     if let (Cell::Int(a), Cell::Int(b)) = (cell, other) {
-        a.cmp(&b)
+        a.cmp(b)
     } else {
         kind_order(cell, other)
     }
@@ -35,14 +35,14 @@ fn cell_order(cell: Cell, other: Cell) -> Ordering
 
 // Numbers by value, false before true, names by the numbers of their ENUM and their own.
 #[inline(never)]
-fn kind_order(cell: Cell, other: Cell) -> Ordering
-    ensures { result ≡ cell_cmp cell other }
+fn kind_order(cell: &Cell, other: &Cell) -> Ordering
+    ensures { result ≡ cell_cmp cell.now other.now }
 {
     match (cell, other) {
-        (Cell::Int(a), Cell::Int(b)) => a.cmp(&b),
-        (Cell::Bool(a), Cell::Bool(b)) => a.cmp(&b),
-        (Cell::Enum(d, a), Cell::Enum(e, b)) => match d.cmp(&e) {
-            Ordering::Equal => a.cmp(&b),
+        (Cell::Int(a), Cell::Int(b)) => a.cmp(b),
+        (Cell::Bool(a), Cell::Bool(b)) => a.cmp(b),
+        (Cell::Enum(d, a), Cell::Enum(e, b)) => match d.cmp(e) {
+            Ordering::Equal => a.cmp(b),
             order => order,
         },
         (Cell::Int(_), _) | (Cell::Bool(_), Cell::Enum(..)) => Ordering::Less,
