@@ -141,7 +141,8 @@ impl Streams {
         ensures told { (before now : List (List Cell)) → IsTold self.old before (cons_option (standing_row pane.now.stands) now) → IsTold self.new before now }
         ensures alike { AreAlike self.old self.new }
     {
-        if let Some(row) = pane.standing_row() {
+        let mut row = Columns::new();
+        if pane.read_row(&mut row) {
             self.lose_row(&row);
         }
     }

@@ -1,5 +1,5 @@
 -- Where a place would go in a sorted list that lacks one of its entries.
-use Rattle.std.proofs.Common.{◌≡◌, ◌≢◌, ◌<◌, ◌≤◌, ◌+◌, ℕ, zero, suc, Bool, true, false, cond, Some, None, List, [], ◌∷◌, get_or, length, refl, sym, ap, subst, ◌∙◌, inl, inr, arith}
+use Rattle.std.proofs.Common.{◌≡◌, ◌≢◌, ◌<◌, ◌≤◌, ◌+◌, ℕ, zero, suc, true, false, cond, None, List, [], ◌∷◌, get_or, length, refl, sym, ap, ◌∙◌, inl, inr, arith}
 use Rattle.std.proofs.lemmas.Bool.{true≢false, cases_Bool}
 use Rattle.std.proofs.lemmas.Cmp.{tied_itself, upto}
 use Rattle.std.specs.Prelude.{filter, not}
@@ -12,9 +12,9 @@ use Rattle.std.specs.FinMap.Entries.{find, find-where_key, is_sorted}
 use Rattle.wsm_windows.specs.declared.place.Place.{Place}
 use Rattle.wsm_windows.specs.Places.{place_cmp}
 use Rattle.wsm_windows.proofs.Places.{places_exact, places_total}
-use Rattle.wsm_semantics.proofs.ManyKeys.{AreInOrder, Precedes, in_order}
+use Rattle.wsm_semantics.proofs.ManyKeys.{AreInOrder}
 use Rattle.wsm_panes.specs.Place.{before, is_other}
-use Rattle.wsm_panes.specs.Search.{IsAt, IsGapFor}
+use Rattle.wsm_panes.specs.Search.{IsGapFor}
 use Rattle.wsm_panes.proofs.Entries.{apart_place, at_here}
 use Rattle.wsm_panes.proofs.Sorted.{before_within, put_between}
 use Rattle.wsm_panes.proofs.StoredEdits.{is_found}

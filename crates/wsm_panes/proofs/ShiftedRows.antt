@@ -1,12 +1,12 @@
 -- A slot that stands at another number of its row.
-use Rattle.std.proofs.Common.{◌≡◌, ◌⊎◌, ◌<◌, ◌≤◌, ◌+◌, ◌-◌, ℕ, zero, suc, true, List, [], ◌∷◌, Some, get_or, length, set, refl, sym, ap, ◌∙◌, inl, inr, arith}
+use Rattle.std.proofs.Common.{◌≡◌, ◌⊎◌, ◌<◌, ◌≤◌, ◌+◌, ◌-◌, ℕ, List, Some, get_or, length, set, sym, ◌∙◌, inl, inr, arith}
 use Rattle.std.proofs.lemmas.Bool.{cases_Bool, cases_eq}
 use Rattle.std.proofs.lemmas.Bool.Decides.{nat_tests}
 use Rattle.std.proofs.lemmas.List.{ext_get_or, get_or-set_other, get_or-set_same, length-set}
 use Rattle.std.proofs.lemmas.List.Edits.{get_or-insert_above, get_or-insert_at, get_or-insert_below, get_or-remove_above, get_or-remove_below, length-insert, length-remove}
 use Rattle.std.specs.Prelude.{insert, nat_lt, slice_get}
 use Rattle.std.specs.List.{remove}
-use Rattle.wsm_panes.specs.Stored.{AreApart, listed, same}
+use Rattle.wsm_panes.specs.Stored.{AreApart, listed}
 use Rattle.wsm_panes.proofs.SlotRows.{listed_less, listed_more, once_at, same_self}
 
 module _ (row : List ℕ) (from to s : ℕ) (inside : from < length row) (within : to < length row) where

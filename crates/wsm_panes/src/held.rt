@@ -246,7 +246,7 @@ impl HeldPanes {
         ensures { find place_cmp spot.place (entries_of self.now) ≡ Some result }
     {
         match &self.tables {
-            Tables::Sessions(list, _) => list.pane(spot.rebuilt()),
+            Tables::Sessions(list, _) => list.pane(spot.rebuilt()).rebuilt(),
             Tables::Grid(ring) => ring.pane(spot),
         }
     }

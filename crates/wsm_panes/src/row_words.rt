@@ -28,19 +28,18 @@ impl<'a> RowWords<'a> {
         }
     }
 
-    /// The cells, as columns.
+    /// Has columns of the cells where there are none.
     #[inline(always)]
-    pub(crate) fn columns(&self) -> Columns
-        requires { length self.now.words.now ≤ MAX_COLUMNS }
-        ensures { result ≡ cells_by self.now.kinds self.now.words.now }
+    pub(crate) fn fill(&self, columns: &mut Columns)
+        requires empty { columns.old ≡ [] }
+        requires few { length self.now.words.now ≤ MAX_COLUMNS }
+        ensures { columns.new ≡ cells_by self.now.kinds self.now.words.now }
     {
-        let mut columns = Columns::new();
         let mut kinds = self.kinds;
         for word in self.words {
             columns.push(cell_of(kinds % 4, *word));
             kinds /= 4;
         }
-        columns
     }
 }
 

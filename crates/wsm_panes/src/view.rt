@@ -1,12 +1,13 @@
 //! Panes as they are read.
 
-ghost use Rattle.std.specs.Prelude.{◌≡◌, option_map};
+ghost use Rattle.std.specs.Prelude.{◌≡◌, [], None, Some, if◌then◌else◌, option_map};
 ghost use Rattle.wsm_semantics.specs.Summaries as kept;
 ghost use Rattle.wsm_panes.specs.Held.{has_fired};
 ghost use Rattle.wsm_panes.specs.View.{IsFew, row_seen, window_stood};
 
 use crate::head::Stands;
 use crate::row_words::RowWords;
+use crate::spot::rebuilt_window;
 use std::marker::Model;
 use wsm_record::{Columns, Value};
 use wsm_windows::Window;
@@ -98,7 +99,6 @@ impl<'a> PaneView<'a> {
     }
 
     /// The row that stands for it.
-    #[inline(always)]
     pub fn standing_row(&self) -> Option<Columns>
         ensures { result ≡ kept.standing_row self.now.stands }
     {
@@ -107,16 +107,86 @@ impl<'a> PaneView<'a> {
             Stands::Unfired | Stands::NoRow | Stands::Joined => None,
         }
     }
+
+    /// Has columns of the row that stands for it where there are none, and tells whether one does.
+    #[inline(always)]
+    pub fn read_row(&self, columns: &mut Columns) -> bool
+        requires { columns.old ≡ [] }
+        ensures { (if result then Some columns.new else None) ≡ kept.standing_row self.now.stands }
+    {
+        match self.stands {
+            Stands::FiredRow => {
+                fill_row(&self.row, columns);
+                true
+            }
+            Stands::Unfired | Stands::NoRow | Stands::Joined => false,
+        }
+    }
+
+    /// The same, put together anew from its fields. A call hands its answer over in memory, where all that is
+    /// merged with it would lie too.
+    #[inline(always)]
+    pub(crate) fn rebuilt(self) -> PaneView<'a>
+        ensures { result ≡ self.entry }
+    {
+        PaneView {
+            count: self.count,
+            unshown: self.unshown,
+            is_folded: self.is_folded,
+            stands: self.stands,
+            stood: rebuilt_stood(self.stood),
+            folds: self.folds,
+            row: self.row.rebuilt(),
+        }
+    }
+}
+
+impl<'a> RowView<'a> {
+    // The same, put together anew.
+    #[inline(always)]
+    fn rebuilt(self) -> RowView<'a>
+        ensures { result ≡ self.entry }
+    {
+        match self {
+            RowView::Whole(columns) => RowView::Whole(columns),
+            RowView::Part(words) => RowView::Part(RowWords {
+                kinds: words.kinds,
+                words: words.words,
+            }),
+        }
+    }
+}
+
+// The same window of a firing, put together anew, if there is one.
+#[inline(always)]
+fn rebuilt_stood(stood: Option<Window>) -> Option<Window>
+    ensures { result ≡ stood }
+{
+    match stood {
+        Some(window) => Some(rebuilt_window(window)),
+        None => None,
+    }
 }
 
 /// The columns of a row.
-#[inline(always)]
 pub(crate) fn row_columns(row: &RowView<'_>) -> Columns
     requires { IsFew row.now }
     ensures { result ≡ row_seen row.now }
 {
+    let mut columns = Columns::new();
+    fill_row(row, &mut columns);
+    columns
+}
+
+// Has columns of a row where there are none.
+#[inline(always)]
+fn fill_row(row: &RowView<'_>, columns: &mut Columns)
+    requires few { IsFew row.now }
+    requires empty { columns.old ≡ [] }
+    ensures { columns.new ≡ row_seen row.now }
+{
     match row {
-        RowView::Whole(columns) => **columns,
-        RowView::Part(words) => words.columns(),
+        RowView::Whole(whole) => *columns = **whole,
+        RowView::Part(words) => words.fill(columns),
     }
 }

@@ -1,6 +1,6 @@
-use Rattle.std.proofs.Common.{◌≡◌, ◌<◌, ◌≤◌, ◌∙◌, ◌∷◌, [], ℕ, List, Some, None, ap, arith, subst, sym, set, length}
+use Rattle.std.proofs.Common.{◌≡◌, ◌<◌, ◌≤◌, ◌∙◌, List, Some, None, ap, arith, subst, sym, set, length}
 use Rattle.std.proofs.lemmas.List.{get_or-set_same, length-set, set-set}
-use Rattle.std.specs.Prelude.{IfOk, IfSome, Option, insert, option_map, slice_get}
+use Rattle.std.specs.Prelude.{IfOk, IfSome, Option, option_map}
 use Rattle.std.specs.List.{remove}
 use Rattle.std.specs.FinMap.Entries.{find, put}
 use Rattle.wsm_record.specs.declared.event.Value.{Value}

@@ -1,4 +1,4 @@
-use Rattle.std.proofs.Common.{◌≡◌, ◌+◌, ◌-◌, ◌<◌, ◌≤◌, ℕ, Some, ap, refl, set, sym, ◌∙◌, arith, get_or, length}
+use Rattle.std.proofs.Common.{◌≡◌, ◌+◌, ◌-◌, ◌<◌, ◌≤◌, Some, ap, refl, set, sym, ◌∙◌, arith, get_or}
 use Rattle.std.proofs.lemmas.Option.{same_Some, slice_get_read}
 use Rattle.std.specs.Prelude.{insert, slice_get}
 use Rattle.std.specs.List.{remove}

@@ -1,6 +1,6 @@
 use Rattle.std.proofs.Common.{◌≡◌, ◌++◌, length, drop}
 use Rattle.wsm_panes.specs.RowWords.{cells_by}
-use Rattle.wsm_panes.proofs.row_words.RowWords.columns.Given as goal
+use Rattle.wsm_panes.proofs.row_words.RowWords.fill.Given as goal
 
 abbrev pub invariant-loop-word : goal.invariant-loop-word
 invariant-loop-word l = record {
