@@ -45,6 +45,17 @@ fn lose_expired(streams: &mut Streams, held: &HeldPanes, limit: i64)
     if let Form::Panes = streams.form() {
         return;
     }
+    lose_due(streams, held, limit);
+}
+
+// The same where rows are those of the relation. Its frame is large, so it isn't inlined.
+#[inline(never)]
+fn lose_due(streams: &mut Streams, held: &HeldPanes, limit: i64)
+    requires placed { AllByRecursion (λ e. IsPlaced (window_of e.0)) (entries_of held.now) }
+    requires tells { CanTell streams.old (entries_of held.now) }
+    ensures told { (relation : List (List Cell)) → IsTold streams.old relation (standing_rows (entries_of held.now)) → IsTold streams.new relation (standing_rows (where_key place_cmp (λ p. int_lt limit p.end) (entries_of held.now))) }
+    ensures alike { AreAlike streams.old streams.new }
+{
     let mut next = held.first_due(limit);
     for _ in 0..held.len() {
         let Some(spot) = next else {

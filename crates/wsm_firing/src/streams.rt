@@ -136,6 +136,7 @@ impl Streams {
     }
 
     // The relation loses the row that stands for a pane, if one does, with room for it.
+    #[inline(always)]
     fn lose_standing(&mut self, pane: &PaneView<'_>)
         requires { CanLose self.old (standing_row pane.now.stands) }
         ensures told { (before now : List (List Cell)) → IsTold self.old before (cons_option (standing_row pane.now.stands) now) → IsTold self.new before now }

@@ -5,7 +5,7 @@ use Rattle.wsm_panes.specs.Held.{IsSpot, entries_of}
 use Rattle.wsm_panes.specs.Walk.{place_due, place_found}
 use Rattle.wsm_firing.specs.Streams.{AreAlike, IsTold, standing_rows}
 use Rattle.wsm_firing.proofs.Past.{left}
-use Rattle.wsm_firing.proofs.dropping.lose_expired.Given as goal
+use Rattle.wsm_firing.proofs.dropping.lose_due.Given as goal
 
 -- so many are past, and the streams were told of them
 abbrev pub invariant-loop : goal.invariant-loop

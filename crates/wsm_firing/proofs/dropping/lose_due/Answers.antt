@@ -15,8 +15,8 @@ use Rattle.wsm_firing.proofs.Past.{left, none_goes, next_goes}
 use Rattle.wsm_firing.proofs.StandingRows.{Folded, Panes, row_at, few_rows}
 use Rattle.wsm_firing.proofs.Walk.{rest_at, held_due, entry_found, due_behind, past_end}
 use Rattle.wsm_firing.proofs.Spots.{spot_in}
-use Rattle.wsm_firing.proofs.dropping.lose_expired.Goals as goal
-use Rattle.wsm_firing.proofs.dropping.lose_expired.Goals.{In-Some, After-pane}
+use Rattle.wsm_firing.proofs.dropping.lose_due.Goals as goal
+use Rattle.wsm_firing.proofs.dropping.lose_due.Goals.{In-Some, After-pane}
 
 -- the pane that is due, as the walk comes to it
 due : (c : In-Some) → place_due (to_z w64 (of_z w64 c.args.limit)) (slice_get (entries_of c.args.held.now) c.loop.counter) ≡ Some c.in-Some.spot.place
@@ -78,13 +78,13 @@ loop-preserved c =
       next = c.next_due-next.ensures.place ∙ due_behind limit es i e.0 sorted due;
     }
 
-pub returns-in_default-next-clause-told : goal.returns-in_default-next-clause-told
-returns-in_default-next-clause-told c =
+pub returns-in_default-clause-told : goal.returns-in_default-clause-told
+returns-in_default-clause-told c =
     let es = entries_of c.args.held.now in let i : ℕ = c.loop.counter in let sorted = map.entries_sorted c.args.held.now.panes in
     let limit : ℤ = to_z w64 (of_z w64 c.args.limit) in
     λ relation told.
     let fits : SFits w64 c.args.limit = c.ranges.limit in
-    let none : place_due limit (slice_get es i) ≡ None = sym c.loop.invariant.next ∙ ap place_found c.in_default-next.is in
+    let none : place_due limit (slice_get es i) ≡ None = sym c.loop.invariant.next ∙ ap place_found c.in_default.is in
     let all : left limit es ≡ drop i es = c.loop.invariant.past ∙ none_goes limit es i sorted none in
     subst (λ (fs : Panes). IsTold c.loop.streams relation (standing_rows fs)) (sym (simp to_z-of_z at all)) (c.loop.invariant.told relation told)
 
