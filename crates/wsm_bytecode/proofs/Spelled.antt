@@ -9,6 +9,7 @@ use Rattle.wsm_record.specs.declared.schema.DeclaredField.{DeclaredField as Kept
 use Rattle.wsm_record.specs.Name.{is_name, is_among, is_between}
 use Rattle.wsm_record.specs.Schema.{DeclaredField, Declared, is_i64, is_within, is_source_count, are_names_after, is_name_list, is_field_type, is_field_after, are_fields_after, is_schema}
 use Rattle.wsm_record.specs.Fields.{type_seen, field_seen}
+use Rattle.wsm_record.proofs.Schemas.{names_spelt}
 use Rattle.wsm_program.specs.Program.{Name, latest_time, longest_span, is_span, is_size, is_limited, Header, is_header}
 use Rattle.wsm_admission.specs.declared.clock.Clock.{Clock}
 use Rattle.wsm_bytecode.proofs.Settings.{schema_parts, few_sources}
@@ -33,15 +34,8 @@ name_of_list (m ∷ ns) zero n h e =
     rw (← same) (and_parts (is_name m) (list_all is_name ns) h).0
 name_of_list (m ∷ ns) (suc i) n h e = name_of_list ns i n (and_parts (is_name m) (list_all is_name ns) h).1 e
 
-all_named : (before ns : List Name) → are_names_after before ns ≡ true → list_all is_name ns ≡ true
-all_named before [] h = refl
-all_named before (n ∷ ns) h =
-    let a = and_parts (is_name n) (not (is_among n before) && are_names_after (before ++ n ∷ []) ns) h in
-    let b = and_parts (not (is_among n before)) (are_names_after (before ++ n ∷ []) ns) a.1 in
-    and_from _ _ a.0 (all_named (before ++ n ∷ []) ns b.1)
-
 pub named : (ns : List Name) → is_name_list ns ≡ true → list_all is_name ns ≡ true
-named ns h = all_named [] ns (and_parts (is_between 1 1000 (length ns)) (are_names_after [] ns) h).1
+named ns h = names_spelt [] ns (and_parts (is_between 1 1000 (length ns)) (are_names_after [] ns) h).1
 
 abbrev pub is_good_field : DeclaredField → Bool
 is_good_field f = is_name f.name && is_field_type f.type
@@ -58,7 +52,7 @@ pub schema_keys : (s : Declared) → is_schema s ≡ true → list_all is_name s
 schema_keys s h = named s.keys (schema_parts s h).keys
 
 pub schema_sources : (s : Declared) → is_schema s ≡ true → list_all is_name s.sources ≡ true
-schema_sources s h = all_named [] s.sources (and_parts (is_source_count (length s.sources)) (are_names_after [] s.sources) (schema_parts s h).sources).1
+schema_sources s h = names_spelt [] s.sources (and_parts (is_source_count (length s.sources)) (are_names_after [] s.sources) (schema_parts s h).sources).1
 
 pub source_bytes : (s : Declared) → is_schema s ≡ true → length s.sources < 256
 source_bytes s h = few_sources (length s.sources) (and_parts (is_source_count (length s.sources)) (are_names_after [] s.sources) (schema_parts s h).sources).0

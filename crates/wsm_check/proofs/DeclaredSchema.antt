@@ -5,6 +5,7 @@ use Rattle.std.specs.List.{list_all}
 use Rattle.std.proofs.lemmas.Bool.{and_parts, and_from, le-leb}
 use Rattle.wsm_record.specs.Name.{is_name, is_among, is_between}
 use Rattle.wsm_record.specs.Schema.{FieldType, Int, Truth, Enum, DeclaredField, Declared, is_source_count, is_i64, are_names_after, are_sources, is_name_list, is_field_type, is_field_after, are_fields_after, is_schema, is_spelt_type, is_spelt_field}
+use Rattle.wsm_record.proofs.Schemas.{names_spelt}
 use Rattle.wsm_query.specs.Tree.{Name}
 
 pub schema_lawful : (s : Declared) → is_name_list s.keys ≡ true → length s.fields ≤ 16 → are_fields_after [] s.fields ≡ true → are_sources s.sources ≡ true → is_schema s ≡ true
@@ -13,13 +14,6 @@ schema_lawful s keys few fields sources =
     and_from (is_name_list s.keys) (nat_le (length s.fields) 16 && (are_fields_after [] s.fields && are_sources s.sources)) keys
     (and_from (nat_le (length s.fields) 16) (are_fields_after [] s.fields && are_sources s.sources) (le-leb (length s.fields) 16 few)
     (and_from (are_fields_after [] s.fields) (are_sources s.sources) fields sources))
-
-names_spelt : (before names : List Name) → are_names_after before names ≡ true → list_all is_name names ≡ true
-names_spelt before [] h = refl
-names_spelt before (x ∷ xs) h =
-    let rest = are_names_after (before ++ x ∷ []) xs in
-    let a = and_parts (is_name x) (not (is_among x before) && rest) h in
-    and_from (is_name x) (list_all is_name xs) a.0 (names_spelt (before ++ x ∷ []) xs (and_parts (not (is_among x before)) rest a.1).1)
 
 type_spelt : (t : FieldType) → is_field_type t ≡ true → is_spelt_type t ≡ true
 type_spelt (Int lo hi) h =

@@ -4,11 +4,12 @@ use Rattle.std.proofs.lemmas.List.{drop-append-le, drop-drop}
 use Rattle.std.proofs.Math.Seq.{drop-length, take-length}
 use Rattle.std.specs.Prelude.{OnOk, Result, Ok, Err, is_ok, if◌then◌else◌}
 use Rattle.std.specs.List.{list_all}
+use Rattle.std.proofs.lemmas.Bool.{and_from}
+use Rattle.std.proofs.lemmas.List.Folds.{list_all_more}
 use Rattle.std.specs.Fmt.{signed_decimal}
 use Rattle.wsm_record.specs.declared.cell.Cell.{Cell}
 use Rattle.wsm_record.specs.declared.cell.Cell.TheVariants.{Int, Bool as Truth, Enum}
 use Rattle.wsm_record.specs.Schema.{Declared}
-use Rattle.wsm_record.proofs.Spellings.{all_more}
 use Rattle.wsm_semantics.specs.Text.{joined, cell_text}
 use Rattle.wsm_csv.specs.Lines.{cells_text, is_a_number, number_text}
 
@@ -77,4 +78,5 @@ appended (Err x) old new part line e f = tt
 
 -- one number more
 pub numbers_more : (cs : List Cell) (i : ℕ) (c : Cell) → i < length cs → c ≡ get_or cs i c → list_all is_a_number (take i cs) ≡ true → is_a_number c ≡ true → list_all is_a_number (take (i + 1) cs) ≡ true
-numbers_more = all_more is_a_number
+numbers_more cs i c h e before here =
+    list_all_more is_a_number cs i c h ∙ and_from (list_all is_a_number (take i cs)) (is_a_number (get_or cs i c)) before (ap is_a_number (sym e) ∙ here)

@@ -1,7 +1,6 @@
 pub mod Lists
 pub mod DeclaredFields
 pub mod FittingValues
-pub mod Spellings
 pub mod Schemas
 pub mod NameGuesses
 pub mod AddedNames

@@ -33,7 +33,6 @@ pub use name::Name;
 pub use names::Names;
 pub use reserved::is_keyword;
 pub use schema::{DeclaredField, Field, FieldType, Schema, SchemaRefusal, Ty, has_field};
-pub use spelling::{are_names, are_spelt};
 pub use words::{CellType, Form, Kind, Mode};
 
 mod cell;
@@ -44,5 +43,4 @@ mod name;
 mod names;
 mod reserved;
 mod schema;
-mod spelling;
 mod words;

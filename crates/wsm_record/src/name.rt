@@ -52,13 +52,6 @@ impl Name {
         &self.bytes[..self.len]
     }
 
-    /// Its bytes make a name. A call does nothing.
-    pub fn is_spelt(&self)
-        ensures { is_name self.now ≡ true }
-    {
-        let _ = &self.len;
-    }
-
     /// The same name once more. It takes no memory.
     pub fn copied(&self) -> Name
         ensures same { result ≡ self.now }
