@@ -8,11 +8,12 @@ use Rattle.std.proofs.lemmas.Bool.Decides.{nat_tests}
 use Rattle.std.specs.Prelude.{All, not, if◌then◌else◌, slice_get, slice_set, unsigned_abs}
 use Rattle.wsm_record.specs.Event.{Event, Record, Watermark}
 use Rattle.wsm_record.specs.Schema.{Declared}
+use Rattle.wsm_windows.specs.Windows.{IsTime}
 use Rattle.wsm_admission.specs.declared.verdict.Admitted.{Admitted}
 use Rattle.wsm_admission.specs.declared.verdict.Refusal.{Refusal}
 use Rattle.wsm_admission.specs.declared.verdict.Refusal.TheVariants as refusal
 use Rattle.wsm_admission.specs.declared.clock.Clock.{Clock}
-use Rattle.wsm_admission.specs.Clock.{IsWithinLimits, IsMark, is_time, watermark_refusal, marks_of, least, watermark_of, admitted_count, late_count, refused_count, verdict, verdict_at, admitted_with, late_with, refused_with}
+use Rattle.wsm_admission.specs.Clock.{IsWithinLimits, is_time, watermark_refusal, marks_of, least, watermark_of, admitted_count, late_count, refused_count, verdict, verdict_at, admitted_with, late_with, refused_with}
 use Rattle.wsm_admission.specs.Admission.{State, Fits, IsInRange, MayTake, opened, counter, answer, answer_after, after, decision, marks_with}
 use Rattle.wsm_admission.proofs.SourceMarks.{accepted_marks, all_start, least_alike}
 use Rattle.wsm_admission.proofs.Taken.{refused_keeps, taken_record}
@@ -122,7 +123,7 @@ pub opened_range : (c : Clock) → IsWithinLimits c → IsInRange (opened c)
 opened_range c in_limits = record {
   limits = in_limits;
   count = length-replicate c.sources c.start;
-  marks = All-replicate IsMark c.sources c.start (record { from = in_limits.start_from; to = in_limits.start_to });
+  marks = All-replicate IsTime c.sources c.start (record { low = in_limits.start_from; high = in_limits.start_to });
   least = sym (least_alike c.start c.sources in_limits.sources_from);
   mark_from = in_limits.start_from;
   mark_to = in_limits.start_to;
@@ -131,8 +132,8 @@ opened_range c in_limits = record {
 
 -- ---- what may be taken, and what lies in range
 
-in_time : (t : ℤ) → is_time t ≡ true → IsMark t
-in_time t h = record { from = grind (arith, ints); to = grind (arith, ints) }
+pub a_time : (t : ℤ) → is_time t ≡ true → IsTime t
+a_time t h = record { low = grind (arith, ints); high = grind (arith, ints) }
 
 -- an event that no rule refuses
 pub may_take : (declared : Declared) (s : State) (e : Event) → verdict_at s.clock declared s.marks s.admitted e ≡ None → MayTake s e
@@ -140,7 +141,7 @@ may_take declared s (Record k t vs) h = let room = (taken_record s.clock declare
 may_take declared s (Watermark None t) h = absurd cc
 may_take declared s (Watermark (Some n) t) h =
     elim (slice_get_cases s.marks n).1 [
-      | inl is ↦ (is.1, in_time t (timely is.0 (ap (λ (m : Option ℤ). watermark_refusal m t) (sym is.2) ∙ h)))
+      | inl is ↦ (is.1, a_time t (timely is.0 (ap (λ (m : Option ℤ). watermark_refusal m t) (sym is.2) ∙ h)))
       | inr none ↦ let unknown : watermark_refusal (slice_get s.marks n) t ≡ Some refusal.UnknownSource = ap (λ (m : Option ℤ). watermark_refusal m t) none.1 in absurd cc
     ]
   where
@@ -151,24 +152,24 @@ may_take declared s (Watermark (Some n) t) h =
     timely : (m : ℤ) → watermark_refusal (Some m) t ≡ None → is_time t ≡ true
     timely m k = by_time (is_time t) _ k
 
-least_in_range : (marks : List ℤ) → 1 ≤ length marks → All IsMark marks → IsMark (least marks)
+least_in_range : (marks : List ℤ) → 1 ≤ length marks → All IsTime marks → IsTime (least marks)
 least_in_range [] some all = absurd (omega arith)
 least_in_range (m ∷ ms) some all =
     elim (fold-int_min_reached m ms (least (m ∷ ms)) refl) [
-      | inl first ↦ subst IsMark (sym first) (All-head IsMark m ms all)
-      | inr other ↦ All-contains IsMark ms (least (m ∷ ms)) (All-tail IsMark m ms all) other
+      | inl first ↦ subst IsTime (sym first) (All-head IsTime m ms all)
+      | inr other ↦ All-contains IsTime ms (least (m ∷ ms)) (All-tail IsTime m ms all) other
     ]
 
-marks_in_range : (marks : List ℤ) (n : ℕ) (t : ℤ) → IsMark t → All IsMark marks → All IsMark (slice_set marks n t)
-marks_in_range marks n t h all = All-set IsMark marks n t h all
+marks_in_range : (marks : List ℤ) (n : ℕ) (t : ℤ) → IsTime t → All IsTime marks → All IsTime (slice_set marks n t)
+marks_in_range marks n t h all = All-set IsTime marks n t h all
 
 -- the state with another mark of a source
-pub range_raised : (s : State) (n : ℕ) (t : ℤ) → IsInRange s → IsMark t → IsInRange (record s { marks = slice_set s.marks n t; mark = least (slice_set s.marks n t) })
+pub range_raised : (s : State) (n : ℕ) (t : ℤ) → IsInRange s → IsTime t → IsInRange (record s { marks = slice_set s.marks n t; mark = least (slice_set s.marks n t) })
 range_raised s n t r h =
     let all = marks_in_range s.marks n t h r.marks in
     let long : length (slice_set s.marks n t) ≡ s.clock.sources = length-set s.marks n t ∙ r.count in
     let low = least_in_range (slice_set s.marks n t) (omega (arith, long, r.limits.sources_from)) all in
-    record { limits = r.limits; count = long; marks = all; least = refl; mark_from = low.from; mark_to = low.to; admitted_to = r.admitted_to }
+    record { limits = r.limits; count = long; marks = all; least = refl; mark_from = low.low; mark_to = low.high; admitted_to = r.admitted_to }
 
 -- what is kept after an answer lies in range
 pub range_after : (declared : Declared) (s : State) (e : Event) → IsInRange s → IsInRange (after (decision declared s e) e s)

@@ -3,12 +3,13 @@ use Rattle.std.specs.Prelude.{◌≡◌, ℕ, ◌+◌, ◌<◌, ◌≤◌, min, 
 use Rattle.wsm_record.specs.declared.limits.TheConstants.{LATEST_TIME}
 use Rattle.wsm_record.specs.Event.{Event, Record, Watermark}
 use Rattle.wsm_record.specs.Schema.{Declared}
+use Rattle.wsm_windows.specs.Windows.{IsTime}
 use Rattle.wsm_admission.specs.declared.clock.Clock.{Clock}
 use Rattle.wsm_admission.specs.declared.verdict.Admitted.{Admitted}
 use Rattle.wsm_admission.specs.declared.verdict.Admitted.TheVariants as admitted
 use Rattle.wsm_admission.specs.declared.verdict.Refusal.{Refusal}
 use Rattle.wsm_admission.specs.declared.verdict.Refusal.TheVariants as refusal
-use Rattle.wsm_admission.specs.Clock.{IsWithinLimits, IsMark, verdict, verdict_at, marks_of, least, watermark_of, admitted_count, late_count, refused_count}
+use Rattle.wsm_admission.specs.Clock.{IsWithinLimits, verdict, verdict_at, marks_of, least, watermark_of, admitted_count, late_count, refused_count}
 
 -- a counter of 64 bits, which stays at its greatest value
 abbrev pub counter : ℕ → ℕ
@@ -31,7 +32,7 @@ opened c = record { clock = c; marks = replicate c.sources c.start; mark = c.sta
 pub record IsInRange (s : State) : Type 0 where
   pub limits : IsWithinLimits s.clock
   pub count : length s.marks ≡ s.clock.sources
-  pub marks : All IsMark s.marks
+  pub marks : All IsTime s.marks
   pub least : s.mark ≡ least s.marks
   pub mark_from : pos 0 ≤ℤ s.mark
   pub mark_to : s.mark ≤ℤ LATEST_TIME
@@ -57,7 +58,7 @@ marks_with marks (Watermark (Some s) time) = slice_set marks s time
 abbrev pub MayTake : State → Event → Type 0
 MayTake s (Record key time values) = s.admitted < unsigned_abs s.clock.records
 MayTake s (Watermark None time) = ⊥
-MayTake s (Watermark (Some n) time) = (n < length s.marks) × IsMark time
+MayTake s (Watermark (Some n) time) = (n < length s.marks) × IsTime time
 
 -- the answer to an event, by what is kept
 abbrev pub decision : Declared → State → Event → Result Admitted Refusal

@@ -2,26 +2,29 @@
 -- newest first. The watermark, a claim of the sources on what is still to come, is the Dataflow
 -- Model's (Akidau et al. 2015): the least of those of the sources. The verdicts, their order and the
 -- counts are this project's own.
-use Rattle.std.specs.Prelude.{◌≢◌, ℕ, ◌+◌, ◌≤◌, Bool, false, ◌&&◌, not, if◌then◌else◌, List, [], ◌∷◌, length, map, ℤ, pos, ◌+ℤ◌, ◌≤ℤ◌, int_lt, int_le, unsigned_abs, nat_eq, nat_lt, nat_le, Option, Some, None, slice_get}
+use Rattle.std.specs.Prelude.{◌≢◌, ℕ, ◌+◌, ◌≤◌, Bool, true, false, ◌&&◌, not, if◌then◌else◌, List, [], ◌∷◌, length, map, ℤ, pos, ◌+ℤ◌, ◌≤ℤ◌, int_lt, int_le, unsigned_abs, nat_eq, nat_lt, nat_le, Option, Some, None, slice_get}
 use Rattle.std.specs.List.{fold, list_any, range_with_len}
 use Rattle.std.specs.Int.{int_max, int_min}
 use Rattle.wsm_record.specs.declared.event.Value.{Value}
 use Rattle.wsm_record.specs.declared.limits.TheConstants.{LATEST_TIME, LONGEST_SPAN, MAX_SOURCES}
 use Rattle.wsm_record.specs.Event.{Event, Record, Watermark}
 use Rattle.wsm_record.specs.Schema.{Declared, fit_fields}
+use Rattle.wsm_windows.specs.declared.window.Shape.{Shape}
 use Rattle.wsm_windows.specs.declared.window.Shape.TheVariants.{Session}
 use Rattle.wsm_windows.specs.Windows.{IsShape, windows_of_shape}
 use Rattle.wsm_windows.specs.Life.{is_live}
+use Rattle.wsm_windows.specs.Limits.{is_size, is_span}
+pub use Rattle.wsm_windows.specs.Limits.{is_time}
 use Rattle.wsm_admission.specs.declared.clock.Clock.{Clock}
 use Rattle.wsm_admission.specs.declared.clock.LateBy.{LateBy}
-use Rattle.wsm_admission.specs.declared.clock.LateBy.TheVariants as late_by
+use Rattle.wsm_admission.specs.declared.clock.LateBy.TheVariants as counted
 use Rattle.wsm_admission.specs.declared.verdict.Refusal.{Refusal}
 use Rattle.wsm_admission.specs.declared.verdict.Refusal.TheVariants as refusal
 
 -- lateness is counted from a record's own time, or from the ends of windows that don't move
 abbrev pub IsLateBy : LateBy → Type 0
-IsLateBy late_by.Event = Unit {0}
-IsLateBy (late_by.Window shape) = IsShape shape × ((gap : ℤ) → shape ≢ Session gap)
+IsLateBy counted.Event = Unit {0}
+IsLateBy (counted.Window shape) = IsShape shape × ((gap : ℤ) → shape ≢ Session gap)
 
 -- a clock whose numbers lie in the limits
 pub record IsWithinLimits (c : Clock) : Type 0 where
@@ -37,14 +40,14 @@ pub record IsWithinLimits (c : Clock) : Type 0 where
   pub sources_from : 1 ≤ c.sources
   pub sources_to : c.sources ≤ MAX_SOURCES
 
--- a time that a record or a watermark may have
-abbrev pub is_time : ℤ → Bool
-is_time t = int_le (pos 0) t && int_le t LATEST_TIME
+-- the same of what a program states
+abbrev pub is_limited : Clock → Bool
+is_limited c = is_time c.start && (is_span c.skew && (is_span c.lateness && is_size c.records))
 
--- a mark in range
-pub record IsMark (m : ℤ) : Type 0 where
-  pub from : pos 0 ≤ℤ m
-  pub to : m ≤ℤ LATEST_TIME
+-- lateness is counted from the ends of windows of a shape, or from a record's own time
+abbrev pub late_by : Bool → Shape → LateBy
+late_by true shape = counted.Window shape
+late_by false shape = counted.Event
 
 -- the number is that of a source
 abbrev pub is_source : ℕ → Option ℕ → Bool
@@ -80,8 +83,8 @@ is_too_far_ahead c mark time = int_lt (mark +ℤ c.skew) time
 
 -- the time is further behind a mark than the lateness, or none of its windows is live
 abbrev pub is_late_by : LateBy → ℤ → ℤ → ℤ → Bool
-is_late_by late_by.Event lateness mark time = int_lt (time +ℤ lateness) mark
-is_late_by (late_by.Window shape) lateness mark time = not (list_any (λ w. is_live w lateness mark) (windows_of_shape shape time))
+is_late_by counted.Event lateness mark time = int_lt (time +ℤ lateness) mark
+is_late_by (counted.Window shape) lateness mark time = not (list_any (λ w. is_live w lateness mark) (windows_of_shape shape time))
 
 -- late, at the watermark
 abbrev pub is_late : Clock → ℤ → ℤ → Bool

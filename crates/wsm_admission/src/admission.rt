@@ -3,8 +3,11 @@
 ghost use Rattle.std.specs.Prelude.{◌≡◌, ◌≤ℤ◌, IsTrue, List, [], ◌∷◌, false, Ok, Err, None, nat_le, pos, unsigned_abs, length, slice_set, ◌<◌};
 ghost use Rattle.wsm_record.specs.Event.{Event as AnyEvent, event_of};
 ghost use Rattle.wsm_record.specs.Schema.{Declared};
-ghost use Rattle.wsm_admission.specs.Clock.{IsWithinLimits, record_refusal, watermark_refusal, verdict_at, least, IsMark};
-ghost use Rattle.wsm_admission.specs.Clock.{is_key as is_declared_key, is_time as lies_in_time};
+ghost use Rattle.wsm_admission.specs.Clock.{IsWithinLimits, record_refusal, watermark_refusal, verdict_at, least};
+ghost use Rattle.wsm_record.specs.declared.limits.TheConstants.{LATEST_TIME};
+ghost use Rattle.wsm_windows.specs.Limits.{is_time as lies_in_time};
+ghost use Rattle.wsm_windows.specs.Windows.{IsTime};
+ghost use Rattle.wsm_admission.specs.Clock.{is_key as is_declared_key};
 ghost use Rattle.wsm_admission.specs.Clock.{is_too_far_ahead, is_late};
 ghost use Rattle.wsm_admission.specs.Admission.{Fits, IsInRange, opened, after};
 ghost use Rattle.wsm_admission.specs.Admission.{answer, answer_after, decision, marks_with, MayTake};
@@ -13,9 +16,8 @@ use crate::clock::{Clock, LateBy};
 use crate::marks::Marks;
 use crate::verdict::{Admitted, Refusal};
 use std::marker::Model;
-use wsm_record::limits::LATEST_TIME;
 use wsm_record::{Event, Schema, Value};
-use wsm_windows::live_windows_of;
+use wsm_windows::{is_time, live_windows_of};
 
 /// The watermarks and the counts of the events so far.
 #[derive(Debug, Drop)]
@@ -112,7 +114,7 @@ impl Admission {
         ensures fits { (past : List AnyEvent) → Fits schema.now self.old past →
             Fits schema.now self.new (event_of event.now ∷ past) }
     {
-        // The clock is within its limits: the rules lean on that.
+        // The rules lean on the clock's limits, which a look at it makes known. Nothing is done.
         let _ = &self.clock;
         match self.refusal(schema, event) {
             None => Ok(self.take(event)),
@@ -156,7 +158,7 @@ impl Admission {
     // Sets the watermark of a source.
     fn raise(&mut self, source: u16, time: i64) -> Admitted
         requires source { source < length self.old.marks }
-        requires time { IsMark time }
+        requires time { IsTime time }
         ensures answer { result ≡ Admitted.Watermark self.old.mark (least (slice_set self.old.marks source time)) }
         ensures state { self.new ≡ record self.old { marks = slice_set self.old.marks source time; mark = least (slice_set self.old.marks source time) } }
     {
@@ -256,11 +258,4 @@ fn is_key(schema: &Schema, key: Option<u16>) -> bool
         Some(key) => usize::from(key) < schema.key_count(),
         None => false,
     }
-}
-
-// Whether a record or a watermark may have this time.
-fn is_time(time: i64) -> bool
-    ensures { result ≡ lies_in_time time }
-{
-    0 <= time && time <= LATEST_TIME
 }

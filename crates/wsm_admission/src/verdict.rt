@@ -11,7 +11,8 @@ pub enum Refusal {
     TimeRange,
     /// The record is further ahead of the watermark than the skew.
     TooFarAhead,
-    /// The record, or the end of its last window, is further behind the watermark than the lateness.
+    /// The record is further behind the watermark than the lateness; or, where lateness is counted from
+    /// windows, the end of its last window is as far behind as the lateness, or further.
     Late,
     /// As many records as the limit were admitted already.
     RecordLimit,

@@ -14,7 +14,7 @@ use Rattle.wsm_program.specs.declared.instr.Instr.TheVariants.{PushInt, PushBool
 use Rattle.wsm_program.specs.declared.instr.Opcode.{Opcode}
 use Rattle.wsm_program.specs.declared.instr.Opcode.TheVariants as opcodes
 use Rattle.wsm_program.specs.Opcodes.{code as code_of}
-use Rattle.wsm_program.specs.Program.{Name, Header, Program, is_name_of, is_number_field, is_late_by, is_test, is_instr, is_section, is_header, is_program, latest_time, is_span, is_size}
+use Rattle.wsm_program.specs.Program.{Name, Header, Program, is_name_of, is_number_field, is_late_by, is_test, is_instr, is_section, is_header, is_program, is_span, is_size, is_time}
 use Rattle.wsm_record.specs.Schema.{FieldType, Int, Truth, Enum, DeclaredField, Declared, source_count, is_name_list, are_names_after, is_field_after, are_fields_after, is_field_type, is_within, names_of_type, names_of_field, enum_names, is_schema, is_i64}
 use Rattle.wsm_record.specs.Name.{is_name, is_among, is_between}
 use Rattle.wsm_bytecode.specs.declared.version.Version.{Version}
@@ -222,7 +222,7 @@ few_parts : (h : Header) → HeaderParts h → FewParts h
 few_parts h p = record { fields = few_fields h.schema p.schema; kinds = few_below _ p.kinds; names = λ e i. names_below h.schema e i p.schema }
 
 times_step : (t : Times) (bytes r1 r2 r3 rest : List ℕ)
-    → judged (is_within (pos 0) latest_time) (signed_at bytes) ≡ Ok (t.start, r1) → judged is_span (signed_at r1) ≡ Ok (t.skew, r2)
+    → judged is_time (signed_at bytes) ≡ Ok (t.start, r1) → judged is_span (signed_at r1) ≡ Ok (t.skew, r2)
     → judged is_span (signed_at r2) ≡ Ok (t.lateness, r3) → judged is_size (signed_at r3) ≡ Ok (t.records, rest)
     → times_at bytes ≡ Ok (t, rest)
 unfolding times_at

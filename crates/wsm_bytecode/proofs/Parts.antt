@@ -14,7 +14,8 @@ use Rattle.wsm_record.specs.declared.Mode.{Mode}
 use Rattle.wsm_record.specs.declared.Mode.TheVariants.{Discarding, Accumulating, Retracting}
 use Rattle.wsm_record.specs.declared.Form.{Form}
 use Rattle.wsm_record.specs.declared.Form.TheVariants.{Panes, Istream, Dstream, Rstream}
-use Rattle.wsm_program.specs.Program.{Name, is_span, is_size, is_shape, is_column, is_stated, is_budget, latest_time, longest_span}
+use Rattle.wsm_record.specs.declared.limits.TheConstants.{LATEST_TIME, LONGEST_SPAN}
+use Rattle.wsm_program.specs.Program.{Name, is_span, is_size, is_shape, is_column, is_stated, is_budget, is_time}
 use Rattle.wsm_record.specs.Modes.{may_write}
 use Rattle.wsm_record.specs.Schema.{FieldType, Int, Truth, Enum, DeclaredField, Declared, is_i64, is_within, are_names_after, is_name_list, is_field_type, is_field_after, are_fields_after, enum_names, names_of_field}
 use Rattle.wsm_program.specs.declared.program.Costs.{Costs}
@@ -146,13 +147,13 @@ sources_again may_be ns rest lt may h =
 -- ---- shape, mode, form
 
 pub span_again : (n : ℤ) (rest : List ℕ) → is_span n ≡ true → judged is_span (signed_at (signed n ++ rest)) ≡ Ok (n, rest)
-span_again n rest h = judged_again is_span (signed_at (signed n ++ rest)) n rest (signed_again n rest (is_i64_within (pos 0) longest_span n refl refl h)) h
+span_again n rest h = judged_again is_span (signed_at (signed n ++ rest)) n rest (signed_again n rest (is_i64_within (pos 0) LONGEST_SPAN n refl refl h)) h
 
 pub size_again : (n : ℤ) (rest : List ℕ) → is_size n ≡ true → judged is_size (signed_at (signed n ++ rest)) ≡ Ok (n, rest)
-size_again n rest h = judged_again is_size (signed_at (signed n ++ rest)) n rest (signed_again n rest (is_i64_within (pos 1) longest_span n refl refl h)) h
+size_again n rest h = judged_again is_size (signed_at (signed n ++ rest)) n rest (signed_again n rest (is_i64_within (pos 1) LONGEST_SPAN n refl refl h)) h
 
-pub start_again : (n : ℤ) (rest : List ℕ) → is_within (pos 0) latest_time n ≡ true → judged (is_within (pos 0) latest_time) (signed_at (signed n ++ rest)) ≡ Ok (n, rest)
-start_again n rest h = judged_again (is_within (pos 0) latest_time) (signed_at (signed n ++ rest)) n rest (signed_again n rest (is_i64_within (pos 0) latest_time n refl refl h)) h
+pub start_again : (n : ℤ) (rest : List ℕ) → is_time n ≡ true → judged is_time (signed_at (signed n ++ rest)) ≡ Ok (n, rest)
+start_again n rest h = judged_again is_time (signed_at (signed n ++ rest)) n rest (signed_again n rest (is_i64_within (pos 0) LATEST_TIME n refl refl h)) h
 
 fixed_step : (bytes : List ℕ) (n : ℤ) (rest : List ℕ) → judged is_size (signed_at bytes) ≡ Ok (n, rest) → fixed_at bytes ≡ Ok (Fixed n, rest)
 unfolding fixed_at
@@ -171,8 +172,8 @@ unfolding signed
 shape_again (Fixed n) rest h = fixed_step (signed n ++ rest) n rest (size_again n rest h)
 shape_again (Sliding n d) rest h =
     let a = and_parts (is_size n) (is_within (pos 1) n d) h in
-    let top = (and_parts (int_le (pos 1) n) (int_le n longest_span) a.0).1 in
-    let high : int_le n (pos 9223372036854775807) ≡ true = le_through n longest_span (pos 9223372036854775807) top refl in
+    let top = (and_parts (int_le (pos 1) n) (int_le n LONGEST_SPAN) a.0).1 in
+    let high : int_le n (pos 9223372036854775807) ≡ true = le_through n LONGEST_SPAN (pos 9223372036854775807) top refl in
     let next = signed d ++ rest in
     let period = judged_again (is_within (pos 1) n) (signed_at next) d rest (signed_again d rest (is_i64_within (pos 1) n d refl high a.1)) a.1 in
     sliding_step (signed n ++ next) n d next rest (size_again n next a.0) period

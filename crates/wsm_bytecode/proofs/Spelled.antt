@@ -10,7 +10,8 @@ use Rattle.wsm_record.specs.Name.{is_name, is_among, is_between}
 use Rattle.wsm_record.specs.Schema.{DeclaredField, Declared, is_i64, is_within, is_source_count, are_names_after, is_name_list, is_field_type, is_field_after, are_fields_after, is_schema}
 use Rattle.wsm_record.specs.Fields.{type_seen, field_seen}
 use Rattle.wsm_record.proofs.Schemas.{names_spelt}
-use Rattle.wsm_program.specs.Program.{Name, latest_time, longest_span, is_span, is_size, is_limited, Header, is_header}
+use Rattle.wsm_record.specs.declared.limits.TheConstants.{LATEST_TIME, LONGEST_SPAN}
+use Rattle.wsm_program.specs.Program.{Name, is_span, is_size, is_limited, Header, is_header, is_time}
 use Rattle.wsm_admission.specs.declared.clock.Clock.{Clock}
 use Rattle.wsm_bytecode.proofs.Settings.{schema_parts, few_sources}
 use Rattle.wsm_bytecode.specs.declared.version.Version.TheVariants.{Two}
@@ -89,13 +90,13 @@ two_pairs o a b c d = simp append_assoc refl
 pub clock_added : (c : Clock) → is_limited c ≡ true → (o0 o1 o2 : List ℕ)
     → o1 ≡ o0 ++ (signed (passed c.start) ++ signed (passed c.skew)) → o2 ≡ o1 ++ (signed (passed c.lateness) ++ signed (passed c.records)) → o2 ≡ o0 ++ times c
 clock_added c h o0 o1 o2 e f =
-    let a = and_parts (is_within (pos 0) latest_time c.start) (is_span c.skew && (is_span c.lateness && is_size c.records)) h in
+    let a = and_parts (is_time c.start) (is_span c.skew && (is_span c.lateness && is_size c.records)) h in
     let b = and_parts (is_span c.skew) (is_span c.lateness && is_size c.records) a.1 in
     let d = and_parts (is_span c.lateness) (is_size c.records) b.1 in
-    let p0 : passed c.start ≡ c.start = passed_same c.start (is_i64_within (pos 0) latest_time c.start refl refl a.0) in
-    let p1 : passed c.skew ≡ c.skew = passed_same c.skew (is_i64_within (pos 0) longest_span c.skew refl refl b.0) in
-    let p2 : passed c.lateness ≡ c.lateness = passed_same c.lateness (is_i64_within (pos 0) longest_span c.lateness refl refl d.0) in
-    let p3 : passed c.records ≡ c.records = passed_same c.records (is_i64_within (pos 1) longest_span c.records refl refl d.1) in
+    let p0 : passed c.start ≡ c.start = passed_same c.start (is_i64_within (pos 0) LATEST_TIME c.start refl refl a.0) in
+    let p1 : passed c.skew ≡ c.skew = passed_same c.skew (is_i64_within (pos 0) LONGEST_SPAN c.skew refl refl b.0) in
+    let p2 : passed c.lateness ≡ c.lateness = passed_same c.lateness (is_i64_within (pos 0) LONGEST_SPAN c.lateness refl refl d.0) in
+    let p3 : passed c.records ≡ c.records = passed_same c.records (is_i64_within (pos 1) LONGEST_SPAN c.records refl refl d.1) in
     let q0 : o1 ≡ o0 ++ (signed c.start ++ signed c.skew) = e ∙ ap (λ n. o0 ++ (signed n ++ signed (passed c.skew))) p0 ∙ ap (λ n. o0 ++ (signed c.start ++ signed n)) p1 in
     let q1 : o2 ≡ o1 ++ (signed c.lateness ++ signed c.records) = f ∙ ap (λ n. o1 ++ (signed n ++ signed (passed c.records))) p2 ∙ ap (λ n. o1 ++ (signed c.lateness ++ signed n)) p3 in
     q1 ∙ ap (λ o. o ++ (signed c.lateness ++ signed c.records)) q0 ∙ two_pairs o0 (signed c.start) (signed c.skew) (signed c.lateness) (signed c.records)
@@ -109,8 +110,8 @@ pub settings_added : (h : Header) → is_header h ≡ true → (o0 o1 o2 o3 o4 o
     → o6 ≡ o0 ++ settings (settings_in h)
 settings_added h good o0 o1 o2 o3 o4 o5 o6 e0 e1 e2 e3 e4 e5 =
     let parts = header_parts h good in
-    let early : passed h.early ≡ h.early = passed_same h.early (is_i64_within (pos 0) longest_span h.early refl refl parts.early) in
-    let late : passed h.late ≡ h.late = passed_same h.late (is_i64_within (pos 0) longest_span h.late refl refl parts.late) in
+    let early : passed h.early ≡ h.early = passed_same h.early (is_i64_within (pos 0) LONGEST_SPAN h.early refl refl parts.early) in
+    let late : passed h.late ≡ h.late = passed_same h.late (is_i64_within (pos 0) LONGEST_SPAN h.late refl refl parts.late) in
     let q4 : o5 ≡ (o4 ++ signed h.early) ++ signed h.late = e4 ∙ ap (λ n. o4 ++ (signed n ++ signed (passed h.late))) early ∙ ap (λ n. o4 ++ (signed h.early ++ signed n)) late ∙ sym (append_assoc o4 (signed h.early) (signed h.late)) in
     let s1 : o2 ≡ o0 ++ (byte (window_flag h.clock.late) ++ sources h.schema.sources) = added o0 o1 o2 _ _ e0 e1 in
     let s2 : o3 ≡ o0 ++ (byte (window_flag h.clock.late) ++ sources h.schema.sources ++ shape h.shape) = added o0 o2 o3 _ _ s1 e2 in

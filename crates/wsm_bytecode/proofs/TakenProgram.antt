@@ -13,7 +13,7 @@ use Rattle.wsm_program.specs.declared.instr.Opcode.{Opcode}
 use Rattle.wsm_program.specs.declared.instr.Opcode.TheVariants as opcodes
 use Rattle.wsm_program.specs.declared.program.Costs.{Costs}
 use Rattle.wsm_program.specs.Instructions.{truth, comparison_number}
-use Rattle.wsm_program.specs.Program.{Name, Header, Program, is_name_of, is_number_field, is_test, is_instr, is_section, is_header, is_program, latest_time, is_span, is_size, is_column, is_budget}
+use Rattle.wsm_program.specs.Program.{Name, Header, Program, is_name_of, is_number_field, is_test, is_instr, is_section, is_header, is_program, is_span, is_size, is_column, is_budget, is_time}
 use Rattle.wsm_interval.specs.declared.Comparison.{Comparison}
 use Rattle.wsm_record.specs.declared.words.CellType.{CellType}
 use Rattle.wsm_record.specs.declared.Kind.{Kind}
@@ -265,7 +265,7 @@ abbrev times_bytes : Times → List ℕ
 times_bytes t = signed t.start ++ signed t.skew ++ signed t.lateness ++ signed t.records
 
 abbrev are_times : Times → Bool
-are_times t = is_within (pos 0) latest_time t.start && (is_span t.skew && (is_span t.lateness && is_size t.records))
+are_times t = is_time t.start && (is_span t.skew && (is_span t.lateness && is_size t.records))
 
 times_taken : Exact times_at times_bytes are_times
 unfolding times_at
@@ -274,7 +274,7 @@ times_taken bytes x fits e =
     bind_then _ _ x l0 (λ skew e1 l1.
     bind_then _ _ x l1 (λ lateness e2 l2.
     bind_then _ _ x l2 (λ records e3 l3.
-    let t = measure_taken (is_within (pos 0) latest_time) bytes start fits e0 in
+    let t = measure_taken is_time bytes start fits e0 in
     let u = measure_taken is_span start.1 skew t.fits e1 in
     let v = measure_taken is_span skew.1 lateness u.fits e2 in
     let w = measure_taken is_size lateness.1 records v.fits e3 in

@@ -17,7 +17,7 @@ use Rattle.wsm_admission.specs.declared.clock.LateBy.TheVariants.{Event, Window}
 use Rattle.wsm_program.specs.declared.refusal.DecodeRefusal.{DecodeRefusal}
 use Rattle.wsm_program.specs.declared.refusal.DecodeRefusal.TheVariants.{Truncated, Operand}
 use Rattle.wsm_program.specs.declared.program.Costs.{Costs}
-use Rattle.wsm_program.specs.Program.{Name, latest_time, is_span, is_size, is_stated}
+use Rattle.wsm_program.specs.Program.{Name, is_span, is_size, is_stated, is_time}
 use Rattle.wsm_bytecode.specs.declared.reading.settings.Times.{Times}
 use Rattle.wsm_bytecode.specs.Tags.{mode_by, form_by, kind_by}
 
@@ -129,7 +129,7 @@ sources_at may_be bytes = do
 
 unfoldable pub times_at : List ℕ → Read Times
 times_at bytes = do
-  start ← judged (is_within (pos 0) latest_time) (signed_at bytes)
+  start ← judged is_time (signed_at bytes)
   skew ← judged is_span (signed_at start.1)
   lateness ← judged is_span (signed_at skew.1)
   records ← judged is_size (signed_at lateness.1)

@@ -16,7 +16,8 @@ use Rattle.wsm_admission.specs.declared.clock.LateBy.{LateBy}
 use Rattle.wsm_admission.specs.declared.clock.LateBy.TheVariants as late
 use Rattle.wsm_admission.specs.Clock.{IsLateBy, IsWithinLimits}
 use Rattle.wsm_semantics.specs.HeldBounds.{most_panes}
-use Rattle.wsm_program.specs.Program.{Header, Program, is_budget, is_late_by, is_program, is_same_grid, is_stated, latest_time}
+use Rattle.wsm_record.specs.declared.limits.TheConstants.{LATEST_TIME}
+use Rattle.wsm_program.specs.Program.{Header, Program, is_budget, is_late_by, is_program, is_same_grid, is_stated}
 use Rattle.wsm_program.proofs.Lawful.{header_parts, program_header}
 use Rattle.wsm_program.proofs.Within.{at_most}
 use Rattle.wsm_program.specs.declared.program.Costs.{Costs}
@@ -72,7 +73,7 @@ declared_sources s h =
 pub clock_within : (p : Program) → IsTrue (is_program p) → IsWithinLimits p.header.clock
 clock_within p whole =
     let parts = header_parts p.header (program_header p whole) in
-    let start = within (pos 0) latest_time p.header.clock.start parts.start in
+    let start = within (pos 0) LATEST_TIME p.header.clock.start parts.start in
     let sourced = and_parts (is_late_by p.header.shape p.header.clock.late) (nat_eq p.header.clock.sources (source_count p.header.schema)) parts.sourced in
     let is : IsLawful p.header = program_lawful p whole in
     let sources = few_sources (length p.header.schema.sources) p.header.clock.sources (declared_sources p.header.schema parts.schema) sourced.1 in

@@ -24,11 +24,10 @@ use Rattle.wsm_semantics.specs.Replay.{datum}
 use Rattle.wsm_semantics.specs.Relation.{chosen_rows, stream_rows}
 use Rattle.wsm_program.specs.Program.{Program}
 use Rattle.wsm_verifier.specs.Costs.{needed}
-use Rattle.wsm_machine.specs.Meaning.{query_of, plan_of, selects, updated, where_run, update_run, record_cost_by, joins_held, windows_entered}
+use Rattle.wsm_machine.specs.Meaning.{query_of, plan_of, selects, updated, where_run, update_run, record_cost_by}
 use Rattle.wsm_machine.specs.Sound.{IsDatumInRange}
 use Rattle.wsm_machine.proofs.TurnCosts.{record_cost_within}
-use Rattle.wsm_panes.specs.Held as table
-use Rattle.wsm_panes.specs.Held.{Held, entries_of, taking, with_entered, session_entered, joins_sessions, CanEnter}
+use Rattle.wsm_panes.specs.Held.{Held, entries_of, taking, with_entered, session_entered, joins_sessions, windows_entered, CanEnter}
 use Rattle.wsm_firing.specs.ByRecord.{CanFireByRecord}
 use Rattle.wsm_firing.specs.ByWatermark.{CanFireByWatermark}
 use Rattle.wsm_firing.specs.Streams.{HasRoomFor, relation_kept}
@@ -46,15 +45,10 @@ none_refuses m n e None a h = refl
 none_refuses m n e (Some r) a h = absurd (cc)
 
 module _ (m : ℤ) (k : ℕ) (t : ℤ) (vs : List Value) where
-  joins_same : (sh : Shape) (es : Panes) → joins_sessions sh (datum 0 (pos 0) k t []) es ≡ joins_held sh (datum 0 m k t vs) es
+  joins_same : (sh : Shape) (es : Panes) → joins_sessions sh (datum 0 (pos 0) k t []) es ≡ joins_sessions sh (datum 0 m k t vs) es
   joins_same (Fixed size) es = refl
   joins_same (Sliding size period) es = refl
   joins_same (Session gap) es = refl
-
-  windows_same : (sh : Shape) (l : ℤ) → table.windows_entered sh t l m ≡ windows_entered sh l (datum 0 m k t vs)
-  windows_same (Fixed size) l = refl
-  windows_same (Sliding size period) l = refl
-  windows_same (Session gap) l = refl
 
 module _ (p : Program) (past : List Event) (r : WindowOperator) (of : IsOf p r) (m : ℤ) where
   abbrev es : Panes
@@ -88,17 +82,17 @@ module _ (p : Program) (past : List Event) (r : WindowOperator) (of : IsOf p r) 
     entered_is kinds values same is =
         (λ i. entered (taking (sym same i) (sym is i)) (of.shape i) late (datum 0 m k t []) (entries_of r.held)) ∙ entered_same p m k t vs p.header.shape late (entries_of r.held)
 
-    joins_is : joins_sessions r.held.shape (datum 0 (pos 0) k t []) (entries_of r.held) ≡ joins_held p.header.shape d (entries_of r.held)
+    joins_is : joins_sessions r.held.shape (datum 0 (pos 0) k t []) (entries_of r.held) ≡ joins_sessions p.header.shape d (entries_of r.held)
     joins_is = (λ i. joins_sessions (of.shape i) (datum 0 (pos 0) k t []) (entries_of r.held)) ∙ joins_same m k t vs p.header.shape (entries_of r.held)
 
-    windows_is : table.windows_entered r.held.shape t late m ≡ windows_entered p.header.shape late d
-    windows_is = (λ i. table.windows_entered (of.shape i) t late m) ∙ windows_same m k t vs p.header.shape late
+    windows_is : windows_entered r.held.shape t late m ≡ windows_entered p.header.shape t late m
+    windows_is i = windows_entered (of.shape i) t late m
 
-    pub cost_is : (windows steps joins : ℕ) (joined : Bool) (kinds : List Kind) → windows ≡ table.windows_entered r.held.shape t p.header.clock.lateness m → (update_run p k vs).steps ≡ steps → joined ≡ joins_sessions r.held.shape (datum 0 (pos 0) k t []) (entries_of r.held)
+    pub cost_is : (windows steps joins : ℕ) (joined : Bool) (kinds : List Kind) → windows ≡ windows_entered r.held.shape t p.header.clock.lateness m → (update_run p k vs).steps ≡ steps → joined ≡ joins_sessions r.held.shape (datum 0 (pos 0) k t []) (entries_of r.held)
         → p.header.kinds ≡ kinds → joins ≡ cond joined (length kinds) 0 → windows * steps + joins ≡ entering_cost p m k t vs (entries_of r.held)
     cost_is windows steps joins joined kinds w s j same g =
         (λ i. (w ∙ windows_is) i * sym s i + g i)
-        ∙ (λ i. windows_entered p.header.shape late d * (update_run p k vs).steps + cond ((j ∙ joins_is) i) (length (sym same i)) 0)
+        ∙ (λ i. windows_entered p.header.shape t late m * (update_run p k vs).steps + cond ((j ∙ joins_is) i) (length (sym same i)) 0)
 
     -- what it costs is stated
     pub cost_stated : (where_run p k vs).steps + entering_cost p m k t vs (entries_of r.held) ≤ 1000000000000000000

@@ -16,6 +16,7 @@ use Rattle.wsm_windows.specs.declared.place.Place.{Place}
 use Rattle.wsm_windows.specs.Places.{window_of}
 use Rattle.wsm_interval.specs.Interval.{interval, holds}
 use Rattle.wsm_admission.specs.Clock.{marks_of}
+use Rattle.wsm_admission.proofs.FittedHistory.{a_time}
 use Rattle.wsm_admission.proofs.Taken.{IsTaken, taken_record}
 use Rattle.wsm_fold.specs.Fold.{are_of_kinds, joins}
 use Rattle.wsm_fold.specs.Accumulators.{SumsFit}
@@ -36,7 +37,6 @@ use Rattle.wsm_semantics.proofs.Assigned.{IsAssigned}
 use Rattle.wsm_semantics.proofs.AssignedStep.{grid_of}
 use Rattle.wsm_semantics.proofs.HeldBound.{held_at_key, held_bounded}
 use Rattle.wsm_semantics.proofs.HeldPanes.{IsHeldPane, held_panes}
-use Rattle.wsm_semantics.proofs.SelectedRecords.{a_time}
 use Rattle.wsm_semantics.proofs.HeldRecords.{each_of, total-where}
 use Rattle.wsm_program.specs.declared.instr.SectionId.TheVariants.{Fire}
 use Rattle.wsm_program.specs.Program.{Program, is_program}

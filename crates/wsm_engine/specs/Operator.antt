@@ -22,7 +22,7 @@ use Rattle.wsm_semantics.specs.Steps.{State}
 use Rattle.wsm_program.specs.Program.{Header, Program, is_program}
 use Rattle.wsm_verifier.specs.Costs.{needed}
 use Rattle.wsm_verifier.specs.Rules.{judge}
-use Rattle.wsm_machine.specs.Meaning.{query_of, plan_of, selects, update_run, joins_held, windows_entered}
+use Rattle.wsm_machine.specs.Meaning.{query_of, plan_of, selects, update_run, joins_sessions, windows_entered}
 use Rattle.wsm_panes.specs.declared.widths.Widths.{Widths}
 use Rattle.wsm_panes.specs.Held.{Held, entries_of}
 use Rattle.wsm_firing.specs.Streams.{Told, IsTold, relation_before, standing_rows}
@@ -95,5 +95,5 @@ streamed_at p old new before panes = if int_lt old new then stream_rows p.header
 -- the instructions of UPDATE for a selected record, once for each window, and a step for each accumulator that is joined
 abbrev pub entering_cost : Program → ℤ → ℕ → ℤ → List Value → List (Place × Pane (List Value)) → ℕ
 entering_cost p mark key time values panes =
-    windows_entered p.header.shape p.header.clock.lateness (datum 0 mark key time values) * (update_run p key values).steps
-    + (if joins_held p.header.shape (datum 0 mark key time values) panes then length p.header.kinds else 0)
+    windows_entered p.header.shape time p.header.clock.lateness mark * (update_run p key values).steps
+    + (if joins_sessions p.header.shape (datum 0 mark key time values) panes then length p.header.kinds else 0)

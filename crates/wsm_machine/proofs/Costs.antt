@@ -26,7 +26,7 @@ use Rattle.wsm_program.specs.Program.{Program, is_program}
 use Rattle.wsm_program.specs.declared.program.Costs.{Costs}
 use Rattle.wsm_verifier.specs.Rules.{judge}
 use Rattle.wsm_verifier.proofs.Lawful.{lawful as program_lawful}
-use Rattle.wsm_machine.specs.Meaning.{query_of, plan_of, record_steps, before_where, effect_cost, joins_held, windows_entered, CountsSessions, record_cost, record_cost_by, pane_cost, pane_cost_by, answer_cost, step_cost}
+use Rattle.wsm_machine.specs.Meaning.{query_of, plan_of, record_steps, before_where, effect_cost, joins_sessions, windows_entered, CountsSessions, record_cost, record_cost_by, pane_cost, pane_cost_by, answer_cost, step_cost}
 use Rattle.wsm_machine.specs.Sound.{IsSoundState, MayFire}
 use Rattle.wsm_machine.proofs.QueryFolds.{plan_lawful, plan_runs}
 use Rattle.wsm_machine.proofs.SoundSteps.{record_in_range}
@@ -36,7 +36,7 @@ use Rattle.wsm_machine.proofs.CountedSessions.{counts_sessions, sessions_by_even
 use Rattle.wsm_machine.proofs.RunAnswers.{cost_is, fired_cost_is}
 
 -- no number of a turn is counted
-joins_turnless : (sh : Shape) (m n : ℕ) (mark : ℤ) (key : ℕ) (time : ℤ) (values : List Value) (panes : List (Place × Pane (List Value))) → joins_held sh (datum m mark key time values) panes ≡ joins_held sh (datum n mark key time values) panes
+joins_turnless : (sh : Shape) (m n : ℕ) (mark : ℤ) (key : ℕ) (time : ℤ) (values : List Value) (panes : List (Place × Pane (List Value))) → joins_sessions sh (datum m mark key time values) panes ≡ joins_sessions sh (datum n mark key time values) panes
 joins_turnless (Fixed size) m n mark key time values panes = refl
 joins_turnless (Sliding size period) m n mark key time values panes = refl
 joins_turnless (Session gap) m n mark key time values panes = refl
@@ -44,12 +44,7 @@ joins_turnless (Session gap) m n mark key time values panes = refl
 module _ (p : Program) where
   cost_turnless : (m n : ℕ) (mark : ℤ) (key : ℕ) (time : ℤ) (values : List Value) (panes : List (Place × Pane (List Value))) → record_cost_by p panes (datum m mark key time values) ≡ record_cost_by p panes (datum n mark key time values)
   cost_turnless m n mark key time values panes i =
-      record_steps p key values (entered_turnless p.header.shape i) (joins_turnless p.header.shape m n mark key time values panes i)
-    where
-      entered_turnless : (sh : Shape) → windows_entered sh p.header.clock.lateness (datum m mark key time values) ≡ windows_entered sh p.header.clock.lateness (datum n mark key time values)
-      entered_turnless (Fixed size) = refl
-      entered_turnless (Sliding size period) = refl
-      entered_turnless (Session gap) = refl
+      record_steps p key values (windows_entered p.header.shape time p.header.clock.lateness mark) (joins_turnless p.header.shape m n mark key time values panes i)
 
   module _ (counts : CountsSessions (query_of p)) (s : State (List Value)) (past : List Event) (marked : s.admission.mark ≡ mark (query_of p) past) (is : s.panes ≡ summaries (plan_of p) p.header.mode (kept (query_of p) past)) where
     answer_cost_is : (new : ℤ) (e : Event) (v : Option Refusal) → v ≡ verdict_on (query_of p) past e → answer_cost p (answer (mark (query_of p) past) new e v) e s ≡ record_cost p past e

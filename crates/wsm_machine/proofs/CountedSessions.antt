@@ -27,7 +27,7 @@ accepted : (v : Option Refusal) → is_none v ≡ true → v ≡ None
 accepted None h = refl
 accepted (Some r) h = absurd (cc)
 
-stands_once : (sh : Shape) → IsShape sh → (lateness : ℤ) (ds : List Datum) (d : Datum) → length (windows_among sh lateness (d ∷ ds) d) ≡ windows_entered sh lateness d
+stands_once : (sh : Shape) → IsShape sh → (lateness : ℤ) (ds : List Datum) (d : Datum) → length (windows_among sh lateness (d ∷ ds) d) ≡ windows_entered sh d.time lateness d.mark
 stands_once (Fixed size) ok lateness ds d = refl
 stands_once (Sliding size period) ok lateness ds d = refl
 stands_once (Session gap) ok lateness ds d = stands_in_one gap ok.period_low d ds

@@ -25,7 +25,7 @@ use Rattle.wsm_record.specs.declared.cell.Cell.{Cell}
 use Rattle.wsm_record.specs.declared.cell.Cell.TheVariants as cells
 use Rattle.wsm_windows.specs.declared.place.Place.{Place}
 use Rattle.wsm_machine.specs.declared.outcome.Outcome.TheVariants.{Done}
-use Rattle.wsm_machine.specs.Meaning.{where_run, update_run, fire_run, is_done, top_is_true, cells_below, selects, updated, row, query_of, plan_of, joins_two, joins_held, joins_kept, CountsSessions, effect_cost, record_cost, record_cost_by, fire_steps, pane_cost, pane_cost_by, windows_entered}
+use Rattle.wsm_machine.specs.Meaning.{where_run, update_run, fire_run, is_done, top_is_true, cells_below, selects, updated, row, query_of, plan_of, joins_two, joins_sessions, joins_kept, CountsSessions, effect_cost, record_cost, record_cost_by, fire_steps, pane_cost, pane_cost_by, windows_entered}
 use Rattle.wsm_machine.specs.Sound.{AreFoldsOf, IsSoundPane, IsDatumInRange}
 use Rattle.wsm_machine.proofs.EndedRuns.{values_are}
 use Rattle.wsm_machine.proofs.QueryFolds.{folded_is}
@@ -66,7 +66,7 @@ pane_fits p costs judged lawful d ranged n h held sound few room is =
 
 -- ---- costs
 
-linked_as_kept : (p : Program) (sh : Shape) (d : Datum) (es : List (Place × Kept)) → joins_held sh d (summaries (plan_of p) p.header.mode es) ≡ joins_kept sh d es
+linked_as_kept : (p : Program) (sh : Shape) (d : Datum) (es : List (Place × Kept)) → joins_sessions sh d (summaries (plan_of p) p.header.mode es) ≡ joins_kept sh d es
 linked_as_kept p (Fixed size) d es = refl
 linked_as_kept p (Sliding size period) d es = refl
 linked_as_kept p (Session gap) d es =
@@ -82,7 +82,7 @@ cost_is p counts past key time values taken =
     let d : Datum = datum (length past) (mark q past) key time values in
     let first : ℕ = (where_run p key values).steps in
     elim (selects p key values) as (λ b. selects p key values ≡ b →
-    first + cond b (windows_entered p.header.shape p.header.clock.lateness d * (update_run p key values).steps + cond (joins_held p.header.shape d (summaries (plan_of p) p.header.mode (kept q past))) (length p.header.kinds) 0) 0
+    first + cond b (windows_entered p.header.shape d.time p.header.clock.lateness d.mark * (update_run p key values).steps + cond (joins_sessions p.header.shape d (summaries (plan_of p) p.header.mode (kept q past))) (length p.header.kinds) 0) 0
     ≡ first + cond b (length (windows_among p.header.shape p.header.clock.lateness (d ∷ selected q past) d) * (update_run p key values).steps + cond (joins_two p.header.shape (selected q past) d) (length p.header.kinds) 0) 0) [
       | true ↦ λ selects. λ i. first + ((sym (counts.stands_in past key time values taken selects)) i * (update_run p key values).steps
           + cond ((linked_as_kept p p.header.shape d (kept q past) ∙ sym (counts.joins_them past key time values taken selects)) i) (length p.header.kinds) 0)

@@ -25,7 +25,7 @@ use Rattle.wsm_verifier.proofs.AcceptedPlaces.{accepted}
 use Rattle.wsm_verifier.proofs.Lawful as lawful_programs
 use Rattle.wsm_verifier.proofs.Lawful.{product_few}
 use Rattle.wsm_machine.specs.InRange.{in_range}
-use Rattle.wsm_machine.specs.Meaning.{record_inputs, pane_inputs, where_run, update_run, fire_run, selects, record_steps, joins_held, record_cost_by, windows_entered}
+use Rattle.wsm_machine.specs.Meaning.{record_inputs, pane_inputs, where_run, update_run, fire_run, selects, record_steps, joins_sessions, record_cost_by, windows_entered}
 use Rattle.wsm_machine.specs.Sound.{IsDatumInRange}
 use Rattle.wsm_machine.proofs.CompleteRuns.{steps_within}
 
@@ -80,7 +80,7 @@ windows_few (Sliding size period) t ok =
 windows_few (Session gap) t ok = omega arith
 
 -- no more of them are live
-pub entered_few : (sh : Shape) (lateness : ℤ) (d : Datum) → IsShape sh → windows_entered sh lateness d ≤ windows_of_a_record sh
+pub entered_few : (sh : Shape) (lateness : ℤ) (d : Datum) → IsShape sh → windows_entered sh d.time lateness d.mark ≤ windows_of_a_record sh
 entered_few (Fixed size) lateness d ok = through (filtered (λ w. is_live w lateness d.mark) (windows_of_shape (Fixed size) d.time)) (windows_few (Fixed size) d.time ok)
   where
     through : {a b c : ℕ} → a ≤ b → b ≤ c → a ≤ c
@@ -128,15 +128,15 @@ module _ (p : Program) (costs : Costs) (judged : judge p ≡ Ok costs) (lawful :
       most true w u j w' u' j' n h k l m = omega (arith, h, k, l, m)
       most false w u j w' u' j' n h k l m = omega (arith, h, k, l, m)
 
-  joins_few : (sh : Shape) (d : Datum) (panes : List (Place × Pane (List Value))) (n : ℕ) → cond (joins_held sh d panes) n 0 ≤ join_steps sh n
+  joins_few : (sh : Shape) (d : Datum) (panes : List (Place × Pane (List Value))) (n : ℕ) → cond (joins_sessions sh d panes) n 0 ≤ join_steps sh n
   joins_few (Fixed size) d panes n = omega arith
   joins_few (Sliding size period) d panes n = omega arith
-  joins_few (Session gap) d panes n = elim (joins_held (Session gap) d panes) as (λ b. cond b n 0 ≤ n) [ true ↦ omega arith | false ↦ omega arith ]
+  joins_few (Session gap) d panes n = elim (joins_sessions (Session gap) d panes) as (λ b. cond b n 0 ≤ n) [ true ↦ omega arith | false ↦ omega arith ]
 
   -- a record, by the panes that are held
   pub record_cost_within : (d : Datum) → IsDatumInRange p d → (panes : List (Place × Pane (List Value))) → record_cost_by p panes d ≤ p.header.budget.per_record
   record_cost_within d ranged panes =
-      record_within d ranged (windows_entered p.header.shape p.header.clock.lateness d) (joins_held p.header.shape d panes)
+      record_within d ranged (windows_entered p.header.shape d.time p.header.clock.lateness d.mark) (joins_sessions p.header.shape d panes)
       (entered_few p.header.shape p.header.clock.lateness d (lawful_programs.lawful p lawful).shape) (joins_few p.header.shape d panes (length p.header.kinds))
 
   -- a firing that FIRE may read

@@ -18,7 +18,7 @@ use Rattle.wsm_semantics.specs.Panes.{of_key, windows_among}
 use Rattle.wsm_semantics.specs.Firings.{Firing}
 use Rattle.wsm_semantics.specs.Kept.{Kept, kept, is_linked}
 use Rattle.wsm_semantics.specs.Summaries.{Plan, Pane, Fired}
-pub use Rattle.wsm_semantics.specs.Summaries.{joins_sessions as joins_held}
+pub use Rattle.wsm_semantics.specs.Summaries.{joins_sessions, windows_entered}
 use Rattle.wsm_semantics.specs.Steps.{State, answer_to}
 use Rattle.wsm_fold.specs.Fold.{joins, folds_of}
 use Rattle.wsm_program.specs.declared.instr.SectionId.TheVariants.{Where, Update, Fire}
@@ -156,13 +156,8 @@ fire_steps p key count (Some accs) = (fire_run p key count accs).steps
 abbrev pub pane_cost : Program → Firing → ℕ
 pane_cost p f = fire_steps p f.place.key (length f.fired) (folded p f.fired)
 
--- how many windows a record is put into: its session, or those of its time that are live
-abbrev pub windows_entered : Shape → ℤ → Datum → ℕ
-windows_entered (Session gap) lateness d = 1
-windows_entered shape lateness d = length (live_windows_of shape d.time lateness d.mark)
-
 abbrev pub record_cost_by : Program → List (Place × Pane (List Value)) → Datum → ℕ
-record_cost_by p panes d = record_steps p d.key d.values (windows_entered p.header.shape p.header.clock.lateness d) (joins_held p.header.shape d panes)
+record_cost_by p panes d = record_steps p d.key d.values (windows_entered p.header.shape d.time p.header.clock.lateness d.mark) (joins_sessions p.header.shape d panes)
 
 abbrev pub pane_cost_by : Program → Fired (List Value) → ℕ
 pane_cost_by p f = fire_steps p f.place.key f.count f.folded
@@ -183,6 +178,6 @@ joins_kept shape d panes = false
 
 pub record CountsSessions (q : Query) : Type 0 where
   pub stands_in : (past : List Event) (key : ℕ) (time : ℤ) (values : List Value) → is_taken q past (Record (Some key) time values) ≡ true → q.selects key values ≡ true →
-      length (windows_among q.shape q.clock.lateness (datum (length past) (mark q past) key time values ∷ selected q past) (datum (length past) (mark q past) key time values)) ≡ windows_entered q.shape q.clock.lateness (datum (length past) (mark q past) key time values)
+      length (windows_among q.shape q.clock.lateness (datum (length past) (mark q past) key time values ∷ selected q past) (datum (length past) (mark q past) key time values)) ≡ windows_entered q.shape time q.clock.lateness (mark q past)
   pub joins_them : (past : List Event) (key : ℕ) (time : ℤ) (values : List Value) → is_taken q past (Record (Some key) time values) ≡ true → q.selects key values ≡ true →
       joins_two q.shape (selected q past) (datum (length past) (mark q past) key time values) ≡ joins_kept q.shape (datum (length past) (mark q past) key time values) (kept q past)

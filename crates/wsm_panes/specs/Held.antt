@@ -22,7 +22,7 @@ use Rattle.wsm_semantics.specs.declared.standing.Standing.{Standing}
 use Rattle.wsm_semantics.specs.declared.standing.Standing.TheVariants.{Row, Unfired}
 use Rattle.wsm_semantics.specs.Query.{Datum}
 use Rattle.wsm_semantics.specs.Replay.{datum}
-pub use Rattle.wsm_semantics.specs.Summaries.{joins_sessions}
+pub use Rattle.wsm_semantics.specs.Summaries.{joins_sessions, windows_entered}
 use Rattle.wsm_semantics.specs.Summaries.{Plan, Pane, assigned, entered, joined, kept_window, left_folded, linked, session_with, with_record}
 use Rattle.wsm_panes.specs.declared.ring.Ring.{Ring}
 use Rattle.wsm_panes.specs.declared.spot.Spot.{Spot}
@@ -88,11 +88,6 @@ with_entered kinds key time values lateness mark h = entered (taking kinds value
 abbrev pub are_sessions : Shape → Bool
 are_sessions (Session gap) = true
 are_sessions shape = false
-
--- how many windows a record is put into at a mark
-abbrev pub windows_entered : Shape → ℤ → ℤ → ℤ → ℕ
-windows_entered (Session gap) time lateness mark = 1
-windows_entered shape time lateness mark = length (live_windows_of shape time lateness mark)
 
 -- the window of the session that a record is in, where windows are sessions
 abbrev pub session_entered : Shape → Datum → List (Place × Pane (List Value)) → Option Window

@@ -4,7 +4,7 @@ use Rattle.std.specs.List.{list_all}
 use Rattle.std.proofs.lemmas.Bool.{leb-true, and_parts}
 use Rattle.wsm_record.specs.Name.{is_between}
 use Rattle.wsm_record.specs.Schema.{Declared, is_name_list, are_fields_after, are_sources, is_within, is_schema}
-use Rattle.wsm_program.specs.Program.{Header, Program, latest_time, is_span, is_size, is_shape, is_column, is_limited, is_sourced, is_clock, is_firing, is_row, is_budget, is_header, is_instr, is_section, is_program, section}
+use Rattle.wsm_program.specs.Program.{Header, Program, is_span, is_size, is_shape, is_column, is_limited, is_sourced, is_clock, is_firing, is_row, is_budget, is_header, is_instr, is_section, is_program, section, is_time}
 use Rattle.wsm_record.specs.Modes.{may_write}
 use Rattle.wsm_program.specs.declared.instr.Instr.{Instr}
 use Rattle.wsm_program.specs.declared.instr.SectionId.{SectionId}
@@ -19,7 +19,7 @@ few_fields s h =
 -- what is_header holds, part by part
 pub record HeaderParts (h : Header) : Type 0 where
   pub schema : is_schema h.schema ≡ true
-  pub start : is_within (pos 0) latest_time h.clock.start ≡ true
+  pub start : is_time h.clock.start ≡ true
   pub skew : is_span h.clock.skew ≡ true
   pub lateness : is_span h.clock.lateness ≡ true
   pub records : is_size h.clock.records ≡ true
@@ -41,7 +41,7 @@ header_parts h e =
     let r = and_parts (is_firing h) (is_row h && is_budget h.budget) q.1 in
     let s = and_parts (is_row h) (is_budget h.budget) r.1 in
     let c0 = and_parts (is_limited h.clock) (is_sourced h) q.0 in
-    let c1 = and_parts (is_within (pos 0) latest_time h.clock.start) (is_span h.clock.skew && (is_span h.clock.lateness && is_size h.clock.records)) c0.0 in
+    let c1 = and_parts (is_time h.clock.start) (is_span h.clock.skew && (is_span h.clock.lateness && is_size h.clock.records)) c0.0 in
     let c2 = and_parts (is_span h.clock.skew) (is_span h.clock.lateness && is_size h.clock.records) c1.1 in
     let c3 = and_parts (is_span h.clock.lateness) (is_size h.clock.records) c2.1 in
     let f1 = and_parts (is_shape h.shape) (is_span h.early && (is_span h.late && may_write h.mode h.form)) r.0 in

@@ -5,13 +5,15 @@ use Rattle.std.specs.List.{list_all}
 use Rattle.wsm_record.specs.declared.Kind.{Kind}
 use Rattle.wsm_record.specs.declared.Mode.{Mode}
 use Rattle.wsm_record.specs.declared.Form.{Form}
-use Rattle.wsm_record.specs.declared.limits.TheConstants.{LATEST_TIME, LONGEST_SPAN, MAX_ACCUMULATORS, MAX_COLUMNS, MAX_PANES, MAX_SECTION, MAX_STATED}
+use Rattle.wsm_record.specs.declared.limits.TheConstants.{MAX_ACCUMULATORS, MAX_COLUMNS, MAX_PANES, MAX_SECTION, MAX_STATED}
 use Rattle.wsm_record.specs.Modes.{may_write}
 use Rattle.wsm_record.specs.Name.{is_between}
 use Rattle.wsm_record.specs.Schema.{FieldType, Int, Truth, Enum, DeclaredField, Declared, enum_names, is_within, is_i64, is_schema, source_count}
 use Rattle.wsm_admission.specs.declared.clock.Clock.{Clock}
 use Rattle.wsm_admission.specs.declared.clock.LateBy.{LateBy}
 use Rattle.wsm_admission.specs.declared.clock.LateBy.TheVariants as late_by
+pub use Rattle.wsm_admission.specs.Clock.{is_limited}
+pub use Rattle.wsm_windows.specs.Limits.{is_shape, is_size, is_span, is_time}
 use Rattle.wsm_windows.specs.declared.Shape.{Shape}
 use Rattle.wsm_windows.specs.declared.Shape.TheVariants.{Fixed, Sliding, Session}
 use Rattle.wsm_record.specs.declared.words.CellType.{CellType}
@@ -58,23 +60,6 @@ stating p budget = record p { header = record p.header { budget = budget } }
 
 -- ---- what holds of each program
 
-abbrev pub latest_time : ℤ
-latest_time = LATEST_TIME
-
-abbrev pub longest_span : ℤ
-longest_span = LONGEST_SPAN
-
-abbrev pub is_span : ℤ → Bool
-is_span n = is_within (pos 0) longest_span n
-
-abbrev pub is_size : ℤ → Bool
-is_size n = is_within (pos 1) longest_span n
-
-abbrev pub is_shape : Shape → Bool
-is_shape (Fixed size) = is_size size
-is_shape (Sliding size period) = is_size size && is_within (pos 1) size period
-is_shape (Session gap) = is_size gap
-
 abbrev pub is_column : Declared → CellType → Bool
 is_column s types.Int = true
 is_column s types.Bool = true
@@ -102,9 +87,6 @@ is_late_by shape (late_by.Window other) = is_same_grid shape other
 -- who claims what is still to come, and from when on a record is late
 abbrev pub is_sourced : Header → Bool
 is_sourced h = is_late_by h.shape h.clock.late && nat_eq h.clock.sources (source_count h.schema)
-
-abbrev pub is_limited : Clock → Bool
-is_limited c = is_within (pos 0) latest_time c.start && (is_span c.skew && (is_span c.lateness && is_size c.records))
 
 abbrev pub is_clock : Header → Bool
 is_clock h = is_limited h.clock && is_sourced h

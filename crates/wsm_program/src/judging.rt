@@ -3,20 +3,18 @@
 ghost use Rattle.std.specs.Prelude.{◌≡◌};
 ghost use Rattle.std.specs.List.{list_all};
 ghost use Rattle.wsm_record.specs.Name.{is_between};
-ghost use Rattle.wsm_program.specs.Program.{is_shape, is_column, is_clock, is_late_by, is_limited, is_sourced, is_firing, is_row, is_budget, is_header, is_instr, is_section, is_program};
+ghost use Rattle.wsm_program.specs.Program.{is_column, is_clock, is_late_by, is_sourced, is_firing, is_row, is_budget, is_header, is_instr, is_section, is_program};
 ghost use Rattle.wsm_record.specs.Modes.{may_write};
-ghost use Rattle.wsm_record.specs.Schema.{is_within, source_count};
+ghost use Rattle.wsm_record.specs.Schema.{source_count};
 ghost use Rattle.wsm_program.specs.View.{header_of, program_of};
 
 use crate::enums::{is_number_field, name_count, names};
 use crate::instr::{Argument, Instr};
 use crate::program::{Costs, Header};
 use wsm_admission::LateBy;
-use wsm_record::limits::{
-    LATEST_TIME, LONGEST_SPAN, MAX_ACCUMULATORS, MAX_COLUMNS, MAX_PANES, MAX_SECTION, MAX_STATED,
-};
+use wsm_record::limits::{MAX_ACCUMULATORS, MAX_COLUMNS, MAX_PANES, MAX_SECTION, MAX_STATED};
 use wsm_record::{CellType, Schema};
-use wsm_windows::Shape;
+use wsm_windows::{Shape, is_span};
 
 /// Whether these are the parts of a program.
 #[tactic(auto, unfolding(crate::specs::Program::is_program))]
@@ -49,16 +47,7 @@ fn is_lawful_clock(header: &Header, sources: usize) -> bool
     requires { sources ≡ source_count header.now.schema }
     ensures { result ≡ is_clock (header_of header.now) }
 {
-    is_limited(header) && is_lawfully_sourced(header, sources)
-}
-
-fn is_limited(header: &Header) -> bool
-    ensures { result ≡ is_limited (header_of header.now).clock }
-{
-    is_inside(header.clock.start, 0, LATEST_TIME)
-        && is_inside(header.clock.skew, 0, LONGEST_SPAN)
-        && is_inside(header.clock.lateness, 0, LONGEST_SPAN)
-        && is_inside(header.clock.records, 1, LONGEST_SPAN)
+    header.clock.is_within_limits() && is_lawfully_sourced(header, sources)
 }
 
 fn is_lawfully_sourced(header: &Header, sources: usize) -> bool
@@ -84,9 +73,9 @@ fn is_own_lateness(shape: Shape, late: LateBy) -> bool
 fn is_lawful_firing(header: &Header) -> bool
     ensures { result ≡ is_firing (header_of header.now) }
 {
-    is_lawful_shape(header.shape)
-        && is_inside(header.early, 0, LONGEST_SPAN)
-        && is_inside(header.late, 0, LONGEST_SPAN)
+    header.shape.is_within_limits()
+        && is_span(header.early)
+        && is_span(header.late)
         && header.mode.may_write(header.form)
 }
 
@@ -96,12 +85,6 @@ fn is_lawful_row(header: &Header) -> bool
     header.kinds.len() <= MAX_ACCUMULATORS
         && is_count(header.columns.len(), 1, MAX_COLUMNS)
         && are_lawful_columns(&header.schema, &header.columns)
-}
-
-fn is_inside(number: i64, low: i64, high: i64) -> bool
-    ensures { result ≡ is_within low high number }
-{
-    low <= number && number <= high
 }
 
 fn is_count(number: usize, low: usize, high: usize) -> bool
@@ -114,18 +97,6 @@ fn is_stated(number: u64, high: u64) -> bool
     ensures { result ≡ is_between 1 high number }
 {
     1 <= number && number <= high
-}
-
-fn is_lawful_shape(shape: Shape) -> bool
-    ensures { result ≡ is_shape shape }
-{
-    match shape {
-        Shape::Fixed(size) => is_inside(size, 1, LONGEST_SPAN),
-        Shape::Sliding(size, period) => {
-            is_inside(size, 1, LONGEST_SPAN) && is_inside(period, 1, size)
-        }
-        Shape::Session(gap) => is_inside(gap, 1, LONGEST_SPAN),
-    }
 }
 
 fn are_lawful_columns(schema: &Schema, columns: &[CellType]) -> bool

@@ -29,10 +29,11 @@
 pub use cell::Cell;
 pub use columns::Columns;
 pub use event::{Event, RowFault, Value};
-pub use name::Name;
+pub use name::{Name, is_word_byte};
 pub use names::Names;
-pub use reserved::is_keyword;
-pub use schema::{DeclaredField, Field, FieldType, Schema, SchemaRefusal, Ty, has_field};
+pub use schema::{
+    DeclaredField, Field, FieldType, Schema, SchemaRefusal, Ty, has_field, is_source_count,
+};
 pub use words::{CellType, Form, Kind, Mode};
 
 mod cell;

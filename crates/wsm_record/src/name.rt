@@ -5,7 +5,7 @@ ghost use Rattle.std.specs.List.{list_all};
 ghost use Rattle.wsm_record.specs.Name.{is_name, is_word, is_word_byte};
 
 use crate::limits::MAX_NAME;
-use crate::reserved::is_keyword;
+use crate::reserved::is_reserved;
 use std::hash::{Hash, Hasher};
 use std::marker::Model;
 
@@ -104,7 +104,7 @@ impl Hash for Name {
 fn is_declarable(text: &[u8]) -> bool
     ensures { result ≡ is_name text.now }
 {
-    is_plain_word(text) && text.len() <= MAX_NAME && !is_keyword(text)
+    is_plain_word(text) && text.len() <= MAX_NAME && !is_reserved(text)
 }
 
 fn is_plain_word(text: &[u8]) -> bool
@@ -119,10 +119,11 @@ fn is_plain_word(text: &[u8]) -> bool
 fn are_parts(bytes: &[u8]) -> bool
     ensures { result ≡ list_all is_word_byte bytes.now }
 {
-    bytes.iter().all(|b| is_part(*b))
+    bytes.iter().all(|b| is_word_byte(*b))
 }
 
-fn is_part(byte: u8) -> bool
+/// Whether a byte may stand in a word behind its first: a letter, a digit or `_`.
+pub fn is_word_byte(byte: u8) -> bool
     ensures { result ≡ is_word_byte byte }
 {
     byte.is_ascii_alphabetic() || byte.is_ascii_digit() || byte == b'_'

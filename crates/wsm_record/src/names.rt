@@ -81,7 +81,7 @@ impl Names {
         Ok(list)
     }
 
-    /// Adds a name behind the others, where it is none of them, and answers whether it is none. With
+    /// Adds a name behind the others where it isn't among them, and answers whether it was added. With
     /// no memory the names stay as they are.
     pub fn add(&mut self, alloc: Global, name: &Name) -> Result<bool, AllocError>
         requires { length self.old < MAX_NAMES }

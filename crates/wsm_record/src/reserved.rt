@@ -5,7 +5,7 @@ ghost use Rattle.std.specs.List.{list_any};
 ghost use Rattle.wsm_record.specs.Name.{is_reserved};
 
 /// The words of query texts, which are no names.
-pub const RESERVED: [&str; 49] = [
+const RESERVED: [&str; 49] = [
     "KEYS",
     "KEY",
     "FIELD",
@@ -58,7 +58,7 @@ pub const RESERVED: [&str; 49] = [
 ];
 
 /// Whether a word is reserved.
-pub fn is_keyword(word: &[u8]) -> bool
+pub(crate) fn is_reserved(word: &[u8]) -> bool
     ensures { result ≡ is_reserved word.now }
 {
     is_one_of(word, &RESERVED)

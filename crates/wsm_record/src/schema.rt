@@ -122,9 +122,9 @@ pub struct DeclaredField {
     pub ty: FieldType,
 }
 
-/// The declared keys, fields and sources. A key's number is its place among the keys, a field's its
-/// place among the fields, a source's its place among the sources. A clause sees the names as their
-/// bytes.
+/// The declared keys, fields and sources: there are keys, names are names, none stands twice, and each
+/// field has a value. A key's number is its place among the keys, a field's its place among the fields,
+/// a source's its place among the sources. A clause sees the names as their bytes.
 #[derive(Drop)]
 pub struct Schema {
     keys: Names,
@@ -205,14 +205,6 @@ impl Schema {
         self.keys.number_of(text)
     }
 
-    /// The bytes of a key.
-    pub fn key_name(&self, number: u16) -> &[u8]
-        requires { number < length self.now.keys }
-        ensures { slice_get self.now.keys number ≡ Some result.now }
-    {
-        self.keys.text_of(number)
-    }
-
     /// The declared fields, in their order.
     pub fn fields(&self) -> &[DeclaredField]
         ensures { map field_seen result.now ≡ self.now.fields }
@@ -227,8 +219,8 @@ impl Schema {
         &self.sources
     }
 
-    /// How many sources watermarks have: 1 where none are declared, else 2 to 16. In each schema there
-    /// are keys, names are names, none stands twice, and each field has a value.
+    /// How many sources watermarks have: 1 where none are declared, else 2 to 16. Whoever asks learns
+    /// besides that the schema is one.
     pub fn source_count(&self) -> usize
         ensures count { result ≡ source_count self.now }
         ensures lawful { IsTrue (is_schema self.now) }
@@ -291,8 +283,8 @@ fn exceed(keys: &[Name], fields: &[Field], sources: &[Name]) -> bool
     has_wide_field(fields)
 }
 
-// None, or 2 to 16.
-fn is_source_count(count: usize) -> bool
+/// Whether so many sources may be declared: none, or 2 to 16.
+pub fn is_source_count(count: usize) -> bool
     ensures { result ≡ is_source_count count }
 {
     count == 0 || 2 <= count && count <= MAX_SOURCES

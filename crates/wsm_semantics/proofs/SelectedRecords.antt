@@ -10,7 +10,8 @@ use Rattle.wsm_record.specs.Event.{Event, Record, Watermark}
 use Rattle.wsm_record.specs.Schema.{fit_fields}
 use Rattle.wsm_windows.specs.Windows.{IsTime}
 use Rattle.wsm_admission.specs.declared.verdict.Refusal.{Refusal}
-use Rattle.wsm_admission.specs.Clock.{admitted_count, admitted_with, is_time}
+use Rattle.wsm_admission.specs.Clock.{admitted_count, admitted_with}
+use Rattle.wsm_admission.proofs.FittedHistory.{a_time}
 use Rattle.wsm_admission.proofs.Taken.{taken_record}
 use Rattle.wsm_admission.proofs.SourceMarks.{watermark_rises}
 use Rattle.wsm_semantics.specs.Query.{Query, Datum, mark, verdict_on, selection, selected, selection_of}
@@ -31,9 +32,6 @@ not_ahead w t skew h = grind (arith, ints)
 
 still_near : (t w v skew : ℤ) → w ≤ℤ v → t ≤ℤ (w +ℤ skew) → t ≤ℤ (v +ℤ skew)
 still_near t w v skew h k = omega (arith, ints)
-
-pub a_time : (t : ℤ) → is_time t ≡ true → IsTime t
-a_time t h = record { low = grind (arith, ints); high = grind (arith, ints) }
 
 module _ (q : Query) where
   -- a later watermark is no further behind

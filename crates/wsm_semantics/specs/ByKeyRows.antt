@@ -14,7 +14,7 @@ use Rattle.wsm_semantics.specs.declared.out_row.OutRow.TheVariants.{Pane, Istrea
 use Rattle.wsm_semantics.specs.Query.{Query, verdict_on}
 use Rattle.wsm_semantics.specs.Relation.{sorted_rows, relation, turn_rows}
 use Rattle.wsm_semantics.specs.Lines.{Row, events}
-use Rattle.wsm_semantics.specs.Rows.{base, with_lateness, count, a, b, w}
+use Rattle.wsm_semantics.specs.Rows.{base, counting, with_lateness, count, a, b, w, ints}
 use Rattle.wsm_semantics.specs.ByNumber.{event_by, row_by, with_keys}
 use Rattle.wsm_semantics.specs.ByKey.{Keys, others, of_keys, turn_of, is_row_of, of_parts, netted, gains, losses}
 
@@ -32,13 +32,6 @@ past_of rows = events (reverse rows)
 
 abbrev watermark : ℕ → Event
 watermark time = Watermark (Some 0) (pos time)
-
-abbrev ints : List ℕ → List Cell
-ints ns = map (λ n. cells.Int (pos n)) ns
-
--- SELECT COUNT(*)
-abbrev counting : Query
-counting = record base { row = λ key ds. Some (count ds ∷ []) }
 
 -- ---- a part
 

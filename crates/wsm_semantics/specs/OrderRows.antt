@@ -16,6 +16,7 @@ use Rattle.wsm_semantics.specs.declared.out_row.OutRow.{OutRow}
 use Rattle.wsm_semantics.specs.declared.out_row.OutRow.TheVariants.{Pane}
 use Rattle.wsm_semantics.specs.Query.{Datum, Query}
 use Rattle.wsm_semantics.specs.Firings.{row_of}
+use Rattle.wsm_semantics.specs.Rows.{total, two_sources}
 use Rattle.wsm_semantics.specs.Order.{Next, Swap, Then, Permuted, on_time}
 
 abbrev a : ℕ → ℕ → Event
@@ -23,14 +24,6 @@ a time n = Record (Some 0) (pos time) (Int (pos n) ∷ [])
 
 abbrev w : ℕ → Event
 w time = Watermark (Some 0) (pos time)
-
-abbrev total : List Datum → ℤ
-total [] = pos 0
-total (d ∷ ds) = total ds +ℤ first d.values
-  where
-    first : List Value → ℤ
-    first (Int n ∷ vs) = n
-    first _ = pos 0
 
 -- KEYS a; FIELD n INT 0..100; START 0; SKEW 1000; LATENESS 100; RECORDS 1000;
 -- SELECT SUM(n) WINDOW FIXED 60 DISCARDING EMIT PANES;
@@ -93,8 +86,9 @@ accumulating_the_same = refl
 abbrev w_of : ℕ → ℕ → Event
 w_of source time = Watermark (Some source) (pos time)
 
+-- SOURCES x, y
 abbrev two : Query
-two = record base { clock = record base.clock { sources = 2 }; declared = record base.declared { sources = codes "x" ∷ codes "y" ∷ [] } }
+two = two_sources base
 
 -- a watermark that the other source holds back moves before a record
 a_watermark_comes_sooner : Permuted two (reverse (a 5 1 ∷ w_of 0 90 ∷ w_of 1 60 ∷ [])) (reverse (w_of 0 90 ∷ a 5 1 ∷ w_of 1 60 ∷ []))

@@ -49,7 +49,7 @@ with_contents c (p ∷ ps) = put place_cmp p (c p) (with_contents c ps)
 abbrev pub panes : Query → List Event → List (Place × List Datum)
 panes q past = with_contents (contents q past) (places q past)
 
--- the end and the lateness aren't behind the watermark
+-- the end and the lateness are past the watermark
 abbrev pub is_live_at : Query → ℤ → Place → Bool
 is_live_at q w p = is_live (window_of p) q.clock.lateness w
 

@@ -53,7 +53,7 @@ abbrev pub with_lateness : ℕ → Query → Query
 with_lateness l q = record q { clock = record q.clock { lateness = pos l } }
 
 -- SELECT COUNT(*)
-abbrev counting : Query
+abbrev pub counting : Query
 counting = record base { row = λ key ds. Some (count ds ∷ []) }
 
 -- rows of the keys a and b, and of watermarks
@@ -69,7 +69,7 @@ w_of source time = Ok (Watermark (Some source) (pos time))
 abbrev pub w : ℕ → Row
 w time = w_of 0 time
 
-abbrev ints : List ℕ → List Cell
+abbrev pub ints : List ℕ → List Cell
 ints ns = map (λ n. cells.Int (pos n)) ns
 
 abbrev pane : PaneKind → ℕ → ℕ → ℕ → List ℕ → Line

@@ -62,9 +62,13 @@ standing_joined Unfired s = s
 standing_joined s Unfired = s
 standing_joined _ _ = Joined
 
--- the number of records that the next firing is computed over
+-- how many records a firing is computed over, by how many there are and how many are unshown
+abbrev pub computed_over : Mode → ℕ → ℕ → ℕ
+computed_over mode count unshown = if is_over_all mode then count else unshown
+
+-- how many records the next firing of a pane is computed over
 abbrev pub fired_count : {X : Type 0} → Mode → Pane X → ℕ
-fired_count mode h = if is_over_all mode then h.count else h.unshown
+fired_count mode h = computed_over mode h.count h.unshown
 
 -- what a firing leaves of what was folded
 abbrev pub left_folded : {X : Type 0} → Mode → Option X → Option X
@@ -79,6 +83,11 @@ abbrev pub joins_sessions : {X : Type 0} → Shape → Datum → List (Place × 
 joins_sessions (Fixed size) d panes = false
 joins_sessions (Sliding size period) d panes = false
 joins_sessions (Session gap) d panes = nat_lt 1 (length (linked gap d panes))
+
+-- how many windows a record of a time is put into at a mark: its session, or those of its time that are live
+abbrev pub windows_entered : Shape → ℤ → ℤ → ℤ → ℕ
+windows_entered (Session gap) time lateness mark = 1
+windows_entered shape time lateness mark = length (live_windows_of shape time lateness mark)
 
 -- what a pane fires as, by a record that is in it or not, and by a watermark
 abbrev pub kind_by_record : {X : Type 0} → Query → ℤ → Datum → Place → Pane X → Option PaneKind

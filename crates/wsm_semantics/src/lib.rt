@@ -4,7 +4,7 @@
 //! instant and which rows are written, all taken anew from the whole history. Panes, triggers and
 //! accumulation are those of the Dataflow Model (Akidau et al. 2015), the relation and its streams
 //! those of CQL (Arasu et al. 2006). The code here is what the definitions speak of and no crate
-//! below has: a [`Place`], what [`Standing`] a pane has, and [`OutRow`].
+//! below has: which [`Standing`] a pane has, [`OutRow`], and the [`Totals`] of an input.
 //!
 //! What each turn writes is said by `all_lines` of `specs/Lines.antt`. `specs/Rows.antt` has worked
 //! rows of it, as of the query `base`, which counts and sums in windows of 60: two records of key

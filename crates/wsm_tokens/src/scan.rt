@@ -8,12 +8,13 @@ ghost use Rattle.wsm_tokens.specs.Sight.{Scans};
 
 use crate::fault::Fault;
 use crate::token::{Sign, Token};
+use wsm_record::is_word_byte;
 use wsm_record::limits::MAX_NAME;
 
 // How many bytes a word has behind its first.
 const MAX_MORE: usize = MAX_NAME - 1;
 
-const MAX_NUMBER: u64 = 9223372036854775807;
+const MAX_NUMBER: u64 = i64::MAX as u64;
 
 // The longer ones first.
 const SIGNS: [Sign; 17] = [
@@ -62,12 +63,6 @@ fn is_digit(byte: u8) -> bool
     ensures { result ≡ is_digit byte }
 {
     matches!(byte, b'0'..=b'9')
-}
-
-fn is_word_byte(byte: u8) -> bool
-    ensures { result ≡ is_word_byte byte }
-{
-    is_letter(byte) || is_digit(byte) || byte == b'_'
 }
 
 // How many bytes at the front go on with a word.

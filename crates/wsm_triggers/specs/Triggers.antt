@@ -1,7 +1,6 @@
 -- What a trigger says of the queries that have it.
-use Rattle.std.specs.Prelude.{◌≡◌, ℕ, ℤ, pos, ◌+ℤ◌, ◌-ℤ◌, ◌≤ℤ◌, if◌then◌else◌}
+use Rattle.std.specs.Prelude.{◌≡◌, ℤ, pos, ◌+ℤ◌, ◌-ℤ◌, ◌≤ℤ◌}
 use Rattle.wsm_record.specs.declared.words.Mode.{Mode}
-use Rattle.wsm_record.specs.Modes.{is_over_all}
 use Rattle.wsm_windows.specs.Windows.{greatest_span, greatest_time}
 use Rattle.wsm_windows.specs.declared.place.Place.{Place}
 use Rattle.wsm_semantics.specs.Query.{Query}
@@ -22,7 +21,3 @@ pub record EndsIn (q : Query) (place : Place) (mode : Mode) (lateness end : ℤ)
   pub ends : place.end ≡ end
   pub combines : q.mode ≡ mode
   pub waits : q.clock.lateness ≡ lateness
-
--- how many records a firing is computed over
-abbrev pub fired_count : Mode → ℕ → ℕ → ℕ
-fired_count mode count unshown = if is_over_all mode then count else unshown

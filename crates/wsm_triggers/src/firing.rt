@@ -5,7 +5,8 @@ ghost use Rattle.wsm_windows.specs.Windows.{IsSpan};
 ghost use Rattle.wsm_windows.specs.declared.place.Place.{Place};
 ghost use Rattle.wsm_semantics.specs.Query.{Datum, Query};
 ghost use Rattle.wsm_semantics.specs.Firings.{kind_on_record, kind_on_watermark, firing_set, is_enough};
-ghost use Rattle.wsm_triggers.specs.Triggers.{IsEnd, IsTriggerOf, EndsIn, fired_count};
+ghost use Rattle.wsm_semantics.specs.Summaries as summaries;
+ghost use Rattle.wsm_triggers.specs.Triggers.{IsEnd, IsTriggerOf, EndsIn};
 
 use wsm_record::Mode;
 use wsm_windows::PaneKind;
@@ -50,7 +51,7 @@ pub fn on_watermark(
     // The kind that every query with this mode and lateness gives, for records that are so many.
     ensures { (q : Query) (place : Place) (all missed : List Datum) → EndsIn q place mode lateness end → length all ≡ count → length missed ≡ unshown → result ≡ kind_on_watermark q old new place (length (firing_set q.mode all missed)) (length missed) }
 {
-    if comes_with(end, old, new, fired(mode, count, unshown)) {
+    if comes_with(end, old, new, computed_over(mode, count, unshown)) {
         Some(PaneKind::OnTime)
     } else if comes_with(end + lateness, old, new, unshown) {
         Some(PaneKind::Final)
@@ -77,9 +78,11 @@ fn comes_with(time: i64, old: i64, new: i64, records: u64) -> bool
     old < time && time <= new && records > 0
 }
 
-// How many records a firing's columns are computed over.
-fn fired(mode: Mode, count: u64, unshown: u64) -> u64
-    ensures { result ≡ fired_count mode count unshown }
+/// How many records the columns of a pane that fires are computed over: all that it has, or those
+/// that are unshown.
+#[inline(always)]
+pub fn computed_over(mode: Mode, count: u64, unshown: u64) -> u64
+    ensures { result ≡ summaries.computed_over mode count unshown }
 {
     if mode.is_over_all() { count } else { unshown }
 }

@@ -20,6 +20,6 @@
 //! ```
 #![tactic(auto)]
 
-pub use firing::{Trigger, on_record, on_watermark};
+pub use firing::{Trigger, computed_over, on_record, on_watermark};
 
 mod firing;

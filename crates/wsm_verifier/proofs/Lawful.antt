@@ -13,7 +13,7 @@ use Rattle.wsm_windows.specs.Life.{live_bound}
 use Rattle.wsm_program.specs.declared.Instr.{Instr}
 use Rattle.wsm_program.specs.declared.SectionId.{SectionId}
 use Rattle.wsm_program.specs.declared.SectionId.TheVariants.{Where, Update, Fire}
-use Rattle.wsm_program.specs.Program.{Header, Program, section, is_span, is_size, is_shape, is_section, is_header, is_program, is_limited, is_clock, is_firing, is_row, latest_time}
+use Rattle.wsm_program.specs.Program.{Header, Program, section, is_span, is_size, is_shape, is_section, is_header, is_program, is_limited, is_clock, is_firing, is_row, is_time}
 use Rattle.wsm_program.proofs.Lawful.{short_section}
 
 pub within : (lo hi n : ℤ) → is_within lo hi n ≡ true → (lo ≤ℤ n) × (n ≤ℤ hi)
@@ -54,7 +54,7 @@ lawful_header h e =
     let firing = (and_parts (is_firing h) _ behind_clock).0 in
     let row = (and_parts (is_row h) _ (and_parts (is_firing h) _ behind_clock).1).0 in
     let limited = (and_parts (is_limited h.clock) _ (and_parts (is_clock h) _ parts).0).0 in
-    let spans = (and_parts (is_within (pos 0) latest_time h.clock.start) _ limited).1 in
+    let spans = (and_parts (is_time h.clock.start) _ limited).1 in
     let behind_skew = (and_parts (is_span h.clock.skew) _ spans).1 in
     record {
       shape = lawful_shape h.shape (and_parts (is_shape h.shape) _ firing).0;

@@ -1,4 +1,5 @@
 pub mod Windows
+pub mod Limits
 pub mod Places
 pub mod PlaceOrder
 pub mod Life

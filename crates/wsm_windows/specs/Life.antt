@@ -6,7 +6,7 @@ use Rattle.wsm_windows.specs.declared.window.Shape.{Shape}
 use Rattle.wsm_windows.specs.declared.window.Shape.TheVariants.{Fixed, Sliding, Session}
 use Rattle.wsm_windows.specs.Windows.{IsRising, IsWindowOfShape, windows_of_shape}
 
--- its end and the lateness aren't behind the mark
+-- its end and the lateness are past the mark
 abbrev pub is_live : Window → ℤ → ℤ → Bool
 is_live w lateness mark = int_lt mark (w.end +ℤ lateness)
 

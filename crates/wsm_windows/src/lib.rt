@@ -25,10 +25,12 @@
 
 pub use assignment::{Windows, live_past, live_windows_of, windows_of};
 pub use life::{is_due, is_live, last_expired, live_bound};
+pub use limits::{is_size, is_span, is_time};
 pub use place::Place;
 pub use window::{PaneKind, Shape, Window};
 
 mod assignment;
 mod life;
+mod limits;
 mod place;
 mod window;

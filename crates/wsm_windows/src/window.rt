@@ -27,7 +27,7 @@ pub enum PaneKind {
     Early,
     /// As the watermark comes to the window's end.
     OnTime,
-    /// For late records, behind the watermark.
+    /// On the turn of an admitted record, once the watermark has come to the window's end.
     Late,
     /// As the window expires.
     Final,

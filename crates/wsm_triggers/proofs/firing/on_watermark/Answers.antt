@@ -10,7 +10,7 @@ returns-then-comes_with-2 c q place all missed e a m =
     let end : SFits w64 c.args.end = c.ranges.end in
     let lateness : SFits w64 c.args.lateness = c.ranges.lateness in
     let expiry : SFits w64 (c.args.end +ℤ c.args.lateness) = search rules in
-    let first = sym (simp (to_z-of_z, c.fired.ensures) at c.comes_with.ensures) ∙ c.if-comes_with.false in
+    let first = sym (simp (to_z-of_z, c.computed_over.ensures) at c.comes_with.ensures) ∙ c.if-comes_with.false in
     let second = sym (simp to_z-of_z at c.comes_with-else-comes_with.ensures) ∙ c.if-comes_with-2.true in
     sym (
     kind_is q place all missed c.args.mode c.args.lateness c.args.end c.args.old c.args.new c.args.count c.args.unshown e a m
@@ -24,7 +24,7 @@ returns-else-comes_with-2 c q place all missed e a m =
     let end : SFits w64 c.args.end = c.ranges.end in
     let lateness : SFits w64 c.args.lateness = c.ranges.lateness in
     let expiry : SFits w64 (c.args.end +ℤ c.args.lateness) = search rules in
-    let first = sym (simp (to_z-of_z, c.fired.ensures) at c.comes_with.ensures) ∙ c.if-comes_with.false in
+    let first = sym (simp (to_z-of_z, c.computed_over.ensures) at c.comes_with.ensures) ∙ c.if-comes_with.false in
     let second = sym (simp to_z-of_z at c.comes_with-else-comes_with.ensures) ∙ c.if-comes_with-2.false in
     sym (
     kind_is q place all missed c.args.mode c.args.lateness c.args.end c.args.old c.args.new c.args.count c.args.unshown e a m

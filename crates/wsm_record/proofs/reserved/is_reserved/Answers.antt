@@ -1,5 +1,5 @@
 use Rattle.wsm_record.specs.Name.{is_reserved}
-use Rattle.wsm_record.proofs.reserved.is_keyword.Goals as goal
+use Rattle.wsm_record.proofs.reserved.is_reserved.Goals as goal
 
 pub returns : goal.returns
 unfolding is_reserved
