@@ -63,6 +63,13 @@ operands Gt = takes.Numbers
 operands Ge = takes.Numbers
 operands Not = takes.One types.Bool
 
+-- how many operands they are
+abbrev pub how_many : Operands → ℕ
+how_many takes.Nothing = 0
+how_many (takes.One t) = 1
+how_many takes.Numbers = 2
+how_many takes.Alike = 2
+
 -- the right operand must not be 0
 abbrev pub divides : Operation → Bool
 divides Add = false

@@ -3,7 +3,7 @@
 //! The instruction of an operation pops its operands and pushes what it computes of them. It may
 //! stand in each section, and goes on to the next place.
 
-ghost use Rattle.std.specs.Prelude.{◌≡◌};
+ghost use Rattle.std.specs.Prelude.{◌≡◌, ◌≤◌};
 ghost use Rattle.wsm_program.specs.Operations as spec;
 
 use wsm_record::CellType;
@@ -142,6 +142,20 @@ impl Operation {
             Operation::Add | Operation::Sub | Operation::Mul | Operation::Neg => false,
             Operation::Eq | Operation::Ne | Operation::Lt | Operation::Le => false,
             Operation::Gt | Operation::Ge | Operation::Not => false,
+        }
+    }
+}
+
+impl Operands {
+    /// How many they are.
+    pub fn count(self) -> usize
+        ensures taken { result ≡ spec.how_many self }
+        ensures few { result ≤ 2 }
+    {
+        match self {
+            Operands::Nothing => 0,
+            Operands::One(_) => 1,
+            Operands::Numbers | Operands::Alike => 2,
         }
     }
 }
