@@ -8,8 +8,8 @@ ghost use Rattle.wsm_record.specs.Modes.{may_write};
 ghost use Rattle.wsm_record.specs.Schema.{source_count};
 ghost use Rattle.wsm_program.specs.View.{header_of, program_of};
 
-use crate::enums::{is_number_field, name_count, names};
 use crate::instr::{Argument, Instr};
+use crate::named::{has_name, is_number_field, name_count};
 use crate::program::{Costs, Header};
 use wsm_admission::LateBy;
 use wsm_record::limits::{MAX_ACCUMULATORS, MAX_COLUMNS, MAX_PANES, MAX_SECTION, MAX_STATED};
@@ -141,7 +141,7 @@ fn is_lawful_instr(header: &Header, instr: Instr) -> bool
     ensures { result ≡ is_instr (header_of header.now) instr }
 {
     match instr.argument() {
-        Argument::Name(list, name) => names(&header.schema, list, name),
+        Argument::Name(list, name) => has_name(&header.schema, list, name),
         Argument::Field(field) => (field as usize) < header.schema.fields().len(),
         Argument::Accumulator(accumulator) => (accumulator as usize) < header.kinds.len(),
         Argument::Test(test, _) => is_number_field(&header.schema, test.field),

@@ -25,7 +25,7 @@
 //! - `program`: headers and programs
 //! - `refusal`: why bytes, or parts, are no program
 //! - `judging`: what reading asks of a program, asked of its parts
-//! - [`enums`]: the names that an operand may name
+//! - [`named`]: what an argument or a column may name
 #![tactic(auto)]
 
 pub use instr::{Argument, Edges, FieldTest, Instr, Opcode, SectionId, comparison_number, kind_of};
@@ -36,9 +36,9 @@ pub use wsm_admission::{Clock, LateBy};
 pub use wsm_interval::Comparison;
 pub use wsm_record::CellType;
 
-pub mod enums;
 mod instr;
 mod judging;
+pub mod named;
 mod operation;
 mod program;
 mod refusal;

@@ -12,7 +12,7 @@ use crate::reading::header::enum_of;
 use crate::reading::numbers::{byte_of, byte_within, i64_of, u16_of, u16_within};
 use crate::version::Version;
 use std::alloc::Global;
-use wsm_program::enums::{is_number_field, names};
+use wsm_program::named::{has_name, is_number_field};
 use wsm_program::{Comparison, DecodeRefusal, FieldTest, Header, Instr, Opcode, Section};
 use wsm_record::Schema;
 
@@ -112,7 +112,7 @@ fn push_enum_of<'a>(schema: &Schema, bytes: &'a [u8]) -> Result<(Instr, &'a [u8]
 {
     let (number, rest) = enum_of(schema, bytes)?;
     let (name, rest) = u16_of(rest)?;
-    if !names(schema, number, name) {
+    if !has_name(schema, number, name) {
         return Err(DecodeRefusal::Operand);
     }
     Ok((Instr::PushEnum(number, name), rest))

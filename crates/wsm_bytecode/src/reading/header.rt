@@ -13,7 +13,7 @@ use crate::reading::settings::{Settings, budget_of, kinds_of, times_of};
 use crate::reading::{version1, version2};
 use crate::version::Version;
 use std::alloc::Global;
-use wsm_program::enums::name_count;
+use wsm_program::named::name_count;
 use wsm_program::{Clock, DecodeRefusal, Header};
 use wsm_record::{CellType, Schema};
 

@@ -1,5 +1,5 @@
 use Rattle.wsm_record.proofs.NamesOf.{names_there}
-use Rattle.wsm_program.proofs.enums.name_count.Goals as goal
+use Rattle.wsm_program.proofs.named.name_count.Goals as goal
 
 pub returns : goal.returns
 returns c =

@@ -1,4 +1,4 @@
-//! The names and fields that an operand may name.
+//! What an argument or a column may name: the names of an ENUM, and fields.
 
 ghost use Rattle.std.specs.Prelude.{◌≡◌, length, slice_get};
 ghost use Rattle.std.specs.Option.{option_map};
@@ -29,7 +29,7 @@ fn count_of(ty: &FieldType) -> Option<usize>
 }
 
 /// Whether the ENUM of a number has a name of a number.
-pub fn names(schema: &Schema, number: u8, name: u16) -> bool
+pub fn has_name(schema: &Schema, number: u8, name: u16) -> bool
     ensures { result ≡ is_name_of (enum_names schema.now number) name }
 {
     match name_count(schema, number) {
