@@ -1,9 +1,9 @@
 -- What a lawful program holds, part by part.
-use Rattle.std.proofs.Common.{leb, ◌≡◌, ◌≤◌, true, ◌&&◌, length, List, [], pos}
+use Rattle.std.proofs.Common.{leb, ◌≡◌, ◌≤◌, true, ◌&&◌, length, List, []}
 use Rattle.std.specs.List.{list_all}
 use Rattle.std.proofs.lemmas.Bool.{leb-true, and_parts}
 use Rattle.wsm_record.specs.Name.{is_between}
-use Rattle.wsm_record.specs.Schema.{Declared, is_name_list, are_fields_after, are_sources, is_within, is_schema}
+use Rattle.wsm_record.specs.Schema.{Declared, is_name_list, are_fields_after, are_sources, is_schema}
 use Rattle.wsm_program.specs.Program.{Header, Program, is_span, is_size, is_shape, is_column, is_limited, is_sourced, is_clock, is_firing, is_row, is_budget, is_header, is_instr, is_section, is_program, section, is_time}
 use Rattle.wsm_record.specs.Modes.{may_write}
 use Rattle.wsm_program.specs.declared.instr.Instr.{Instr}

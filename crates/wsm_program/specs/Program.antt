@@ -1,5 +1,5 @@
 -- Programs, without where they lie in memory, and what holds of each.
-use Rattle.std.specs.Prelude.{ℕ, Bool, true, false, ◌&&◌, List, length, ℤ, pos, nat_eq, nat_le, nat_lt, Option, Some, None, is_some, slice_get}
+use Rattle.std.specs.Prelude.{ℕ, Bool, true, false, ◌&&◌, List, length, ℤ, nat_eq, nat_le, nat_lt, Option, Some, None, is_some, slice_get}
 use Rattle.std.specs.Ordering.{int_eq}
 use Rattle.std.specs.List.{list_all}
 use Rattle.wsm_record.specs.declared.Kind.{Kind}
@@ -8,7 +8,7 @@ use Rattle.wsm_record.specs.declared.Form.{Form}
 use Rattle.wsm_record.specs.declared.limits.TheConstants.{MAX_ACCUMULATORS, MAX_COLUMNS, MAX_PANES, MAX_SECTION, MAX_STATED}
 use Rattle.wsm_record.specs.Modes.{may_write}
 use Rattle.wsm_record.specs.Name.{is_between}
-use Rattle.wsm_record.specs.Schema.{FieldType, Int, Truth, Enum, DeclaredField, Declared, enum_names, is_within, is_i64, is_schema, source_count}
+use Rattle.wsm_record.specs.Schema.{FieldType, Int, Truth, Enum, DeclaredField, Declared, enum_names, is_i64, is_schema, source_count}
 use Rattle.wsm_admission.specs.declared.clock.Clock.{Clock}
 use Rattle.wsm_admission.specs.declared.clock.LateBy.{LateBy}
 use Rattle.wsm_admission.specs.declared.clock.LateBy.TheVariants as late_by
