@@ -7,9 +7,9 @@ use Rattle.wsm_windows.specs.declared.Shape.{Shape}
 use Rattle.wsm_windows.specs.declared.Shape.TheVariants.{Fixed, Sliding, Session}
 use Rattle.wsm_admission.specs.declared.clock.LateBy.{LateBy}
 use Rattle.wsm_admission.specs.declared.clock.LateBy.TheVariants.{Event, Window}
+use Rattle.wsm_admission.specs.Clock.{late_by}
 use Rattle.wsm_program.specs.Program.{is_same_grid, is_late_by}
 use Rattle.wsm_bytecode.specs.Tags.{shape_tag}
-use Rattle.wsm_bytecode.specs.Steps.{late_by}
 use Rattle.wsm_bytecode.specs.Version2.{last_tag}
 
 abbrev pub is_window : LateBy → Bool

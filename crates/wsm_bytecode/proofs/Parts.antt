@@ -15,13 +15,14 @@ use Rattle.wsm_record.specs.declared.Mode.TheVariants.{Discarding, Accumulating,
 use Rattle.wsm_record.specs.declared.Form.{Form}
 use Rattle.wsm_record.specs.declared.Form.TheVariants.{Panes, Istream, Dstream, Rstream}
 use Rattle.wsm_record.specs.declared.limits.TheConstants.{LATEST_TIME, LONGEST_SPAN}
+use Rattle.wsm_admission.specs.Clock.{late_by}
 use Rattle.wsm_program.specs.Program.{Name, is_span, is_size, is_shape, is_column, is_stated, is_budget, is_time}
 use Rattle.wsm_record.specs.Modes.{may_write}
 use Rattle.wsm_record.specs.Schema.{FieldType, Int, Truth, Enum, DeclaredField, Declared, is_i64, is_within, are_names_after, is_name_list, is_field_type, is_field_after, are_fields_after, enum_names, names_of_field}
 use Rattle.wsm_program.specs.declared.program.Costs.{Costs}
 use Rattle.wsm_record.specs.Name.{is_between, is_name, is_among}
 use Rattle.wsm_bytecode.specs.Tags.{mode_by, form_by, kind_by, shape_tag, form_tag}
-use Rattle.wsm_bytecode.specs.Steps.{Read, judged, number_at, signed_at, name_at, names_after, names_at, interval_at, enum_at, field_type_by, field_type_at, new_field_at, fields_after, fields_at, sources_at, fixed_at, sliding_at, session_at, shape_by, late_by, windows_by, mode_at, triggers_at, form_of, kind_at, kinds_at, enum_number_at, enum_column_at, column_by, column_at, columns_at, budget_at, several}
+use Rattle.wsm_bytecode.specs.Steps.{Read, judged, number_at, signed_at, name_at, names_after, names_at, interval_at, enum_at, field_type_by, field_type_at, new_field_at, fields_after, fields_at, sources_at, fixed_at, sliding_at, session_at, shape_by, windows_by, mode_at, triggers_at, form_of, kind_at, kinds_at, enum_number_at, enum_column_at, column_by, column_at, columns_at, budget_at, several}
 use Rattle.wsm_bytecode.specs.Parts.{byte, number, long, signed, name, names, field_type, field, fields, sources, measures, mode, kind, column, kinds, columns, budget}
 use Rattle.wsm_program.proofs.Within.{le_through, is_i64_within}
 use Rattle.wsm_bytecode.proofs.Numbers.{byte_again, short_again, long_again, signed_again, judged_again, name_again}

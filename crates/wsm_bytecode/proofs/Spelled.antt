@@ -7,7 +7,7 @@ use Rattle.std.proofs.lemmas.List.{append-nil, length-map}
 use Rattle.std.proofs.lemmas.List.Folds.{list_all-map}
 use Rattle.wsm_record.specs.declared.schema.DeclaredField.{DeclaredField as KeptField}
 use Rattle.wsm_record.specs.Name.{is_name, is_among, is_between}
-use Rattle.wsm_record.specs.Schema.{DeclaredField, Declared, is_i64, is_within, is_source_count, are_names_after, is_name_list, is_field_type, is_field_after, are_fields_after, is_schema}
+use Rattle.wsm_record.specs.Schema.{DeclaredField, Declared, is_i64, is_source_count, are_names_after, is_name_list, is_field_type, is_field_after, are_fields_after, is_schema}
 use Rattle.wsm_record.specs.Fields.{type_seen, field_seen}
 use Rattle.wsm_record.proofs.Schemas.{names_spelt}
 use Rattle.wsm_record.specs.declared.limits.TheConstants.{LATEST_TIME, LONGEST_SPAN}

@@ -11,6 +11,7 @@ use Rattle.wsm_windows.specs.declared.Shape.{Shape}
 use Rattle.wsm_windows.specs.declared.Shape.TheVariants.{Fixed, Sliding, Session}
 use Rattle.wsm_record.specs.declared.Mode.{Mode}
 use Rattle.wsm_admission.specs.declared.clock.LateBy.{LateBy}
+use Rattle.wsm_admission.specs.Clock.{late_by}
 use Rattle.wsm_program.specs.declared.refusal.DecodeRefusal.TheVariants.{Operand}
 use Rattle.wsm_record.specs.declared.Form.{Form}
 use Rattle.wsm_program.specs.Program.{Name, is_span, is_size, is_shape, is_column, is_stated, is_budget}
@@ -19,7 +20,7 @@ use Rattle.wsm_record.specs.Schema.{FieldType, Int, Truth, Enum, DeclaredField, 
 use Rattle.wsm_program.specs.declared.program.Costs.{Costs}
 use Rattle.wsm_record.specs.Name.{is_between, is_name, is_among}
 use Rattle.wsm_bytecode.specs.Tags.{mode_by, form_by, kind_by, shape_tag, form_tag}
-use Rattle.wsm_bytecode.specs.Steps.{◌>>=◌, judged, bytes_at, number_at, signed_at, name_at, names_after, names_at, interval_at, enum_at, field_type_by, field_type_at, new_field_at, fields_after, fields_at, sources_at, fixed_at, sliding_at, session_at, shape_by, late_by, windows_by, mode_at, triggers_at, form_of, kind_at, kinds_at, enum_number_at, enum_column_at, column_by, column_at, columns_at, budget_at, several}
+use Rattle.wsm_bytecode.specs.Steps.{◌>>=◌, judged, bytes_at, number_at, signed_at, name_at, names_after, names_at, interval_at, enum_at, field_type_by, field_type_at, new_field_at, fields_after, fields_at, sources_at, fixed_at, sliding_at, session_at, shape_by, windows_by, mode_at, triggers_at, form_of, kind_at, kinds_at, enum_number_at, enum_column_at, column_by, column_at, columns_at, budget_at, several}
 use Rattle.wsm_bytecode.specs.Parts.{byte, number, long, signed, name, names, field_type, field, fields, sources, measures, mode, kind, column, kinds, columns, budget}
 use Rattle.wsm_program.proofs.Within.{at_most}
 use Rattle.wsm_bytecode.proofs.Taken.{IsBytes, bind_ok, bind_then, test_ok, judged_ok, ok_is, Took, Exact, bytes_taken, byte_taken, number_taken, wide16, wide64, signed_taken, several_taken}

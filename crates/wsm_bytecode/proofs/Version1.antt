@@ -12,11 +12,12 @@ use Rattle.wsm_windows.specs.declared.Shape.{Shape}
 use Rattle.wsm_windows.specs.declared.Shape.TheVariants.{Fixed, Sliding, Session}
 use Rattle.wsm_admission.specs.declared.clock.LateBy.{LateBy}
 use Rattle.wsm_admission.specs.declared.clock.LateBy.TheVariants.{Event, Window}
+use Rattle.wsm_admission.specs.Clock.{late_by}
 use Rattle.wsm_program.specs.Program.{Name, is_span, is_shape, is_late_by}
 use Rattle.wsm_program.proofs.Within.{at_most}
 use Rattle.wsm_bytecode.specs.Tags.{form_tag, shape_tag}
 use Rattle.wsm_bytecode.specs.Parts.{Settings, byte, signed, sources, mode, measures}
-use Rattle.wsm_bytecode.specs.Steps.{judged, number_at, late_by, windows_by, mode_at, triggers_at, form_of, sources_at}
+use Rattle.wsm_bytecode.specs.Steps.{judged, number_at, windows_by, mode_at, triggers_at, form_of, sources_at}
 use Rattle.wsm_bytecode.specs.Version1.{windows, window_tag, output, settings, windows_at, form_part, sources_by, output_at, settings_at}
 use Rattle.wsm_bytecode.proofs.Parts.{tag_again, sources_again, windows_again, mode_again, triggers_again, form_again}
 use Rattle.wsm_bytecode.proofs.Taken.{IsBytes, bind_then, choose, ok_is, Took, Exact}

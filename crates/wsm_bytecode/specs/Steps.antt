@@ -1,5 +1,5 @@
 -- Reading the parts of a program that are the same in each version, from the left, up to the first fault.
-use Rattle.std.specs.Prelude.{ℕ, zero, suc, Bool, true, false, not, List, [], ◌∷◌, ◌++◌, length, take, drop, ℤ, pos, int_le, nat_lt, is_some, Result, Ok, Err, if◌then◌else◌}
+use Rattle.std.specs.Prelude.{ℕ, zero, suc, Bool, not, List, [], ◌∷◌, ◌++◌, length, take, drop, ℤ, pos, int_le, nat_lt, is_some, Result, Ok, Err, if◌then◌else◌}
 use Rattle.std.specs.Int.{Width, w8, w16, w64, byte_len, from_le_bytes, cast_signed}
 use Rattle.wsm_record.specs.declared.words.CellType.{CellType}
 use Rattle.wsm_record.specs.declared.words.CellType.TheVariants as types
@@ -13,7 +13,7 @@ use Rattle.wsm_record.specs.Schema.{FieldType, Int, Truth, Enum, DeclaredField, 
 use Rattle.wsm_windows.specs.declared.Shape.{Shape}
 use Rattle.wsm_windows.specs.declared.Shape.TheVariants.{Fixed, Sliding, Session}
 use Rattle.wsm_admission.specs.declared.clock.LateBy.{LateBy}
-use Rattle.wsm_admission.specs.declared.clock.LateBy.TheVariants.{Event, Window}
+use Rattle.wsm_admission.specs.Clock.{late_by}
 use Rattle.wsm_program.specs.declared.refusal.DecodeRefusal.{DecodeRefusal}
 use Rattle.wsm_program.specs.declared.refusal.DecodeRefusal.TheVariants.{Truncated, Operand}
 use Rattle.wsm_program.specs.declared.program.Costs.{Costs}
@@ -155,11 +155,6 @@ abbrev pub shape_by : ℕ → List ℕ → Read Shape
 shape_by zero bytes = fixed_at bytes
 shape_by (suc zero) bytes = sliding_at bytes
 shape_by _ bytes = session_at bytes
-
--- lateness that is counted from the end of a window of the shape, or from a record's own time
-abbrev pub late_by : Bool → Shape → LateBy
-late_by true s = Window s
-late_by false s = Event
 
 -- the shape of a tag, and by what a record is late
 unfoldable pub windows_by : Bool → ℕ → List ℕ → Read (Shape × LateBy)

@@ -1,7 +1,7 @@
 //! The parts of a header behind its fields, as far as they are the same in each version.
 
 ghost use Rattle.std.specs.Prelude.{◌≡◌, ◌≤◌};
-ghost use Rattle.wsm_bytecode.specs.Steps.{times_at, shape_by, late_by as late_by_flag, windows_by, mode_at, triggers_at, form_of as form_by_mode, kind_at, kinds_at, several, budget_at};
+ghost use Rattle.wsm_bytecode.specs.Steps.{times_at, shape_by, windows_by, mode_at, triggers_at, form_of as form_by_mode, kind_at, kinds_at, several, budget_at};
 ghost use Rattle.wsm_bytecode.specs.Reading.{Gives};
 
 use crate::limits::{LATEST_TIME, LONGEST_SPAN, MAX_ACCUMULATORS, MAX_HELD, MAX_STATED};
@@ -64,17 +64,7 @@ pub(crate) fn windows_of(
     ensures { Gives (λ x. (x.0, x.1.now)) result (windows_by from_window tag bytes.now) }
 {
     let (shape, rest) = shape_of(bytes, tag)?;
-    Ok(((shape, late_by(shape, from_window)), rest))
-}
-
-fn late_by(shape: Shape, from_window: bool) -> LateBy
-    ensures { result ≡ late_by_flag from_window shape }
-{
-    if from_window {
-        LateBy::Window(shape)
-    } else {
-        LateBy::Event
-    }
+    Ok(((shape, LateBy::of(from_window, shape)), rest))
 }
 
 #[tactic(auto, unfolding(crate::specs::Steps::fixed_at, crate::specs::Steps::sliding_at, crate::specs::Steps::session_at))]

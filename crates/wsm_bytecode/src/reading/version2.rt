@@ -7,7 +7,6 @@ ghost use Rattle.wsm_bytecode.specs.Steps.{sources_at};
 ghost use Rattle.wsm_bytecode.specs.Version2.{windows_at, form_at, settings_at};
 ghost use Rattle.wsm_bytecode.specs.Reading.{Gives, settings_seen};
 
-use crate::limits::MAX_SOURCES;
 use crate::reading::names::so_many_names;
 use crate::reading::numbers::{byte_of, byte_within};
 use crate::reading::settings::{
@@ -16,7 +15,7 @@ use crate::reading::settings::{
 use std::alloc::Global;
 use wsm_admission::LateBy;
 use wsm_program::DecodeRefusal;
-use wsm_record::{Form, Mode, Names};
+use wsm_record::{Form, Mode, Names, is_source_count};
 use wsm_windows::Shape;
 
 #[tactic(auto, unfolding(crate::specs::Version2::settings_at))]
@@ -47,7 +46,7 @@ fn sources_of(alloc: Global, bytes: &[u8]) -> Result<(Names, &[u8]), DecodeRefus
     ensures { Gives (λ x. (x.0, x.1.now)) result (sources_at is_source_count bytes.now) }
 {
     let (count, rest) = byte_of(bytes)?;
-    if count == 1 || MAX_SOURCES < count {
+    if !is_source_count(usize::from(count)) {
         return Err(DecodeRefusal::Operand);
     }
     so_many_names(alloc, rest, u16::from(count))
