@@ -1,34 +1,36 @@
 -- What was spelled is read again: instructions, sections and whole programs.
-use Rattle.std.proofs.Common.{lit<, leb, ◌≡◌, ℕ, zero, suc, ◌<◌, ◌≤◌, Bool, true, false, ltb, ◌&&◌, not, List, [], ◌∷◌, ◌++◌, length, ℤ, pos, Option, Some, None, is_some, Ok, refl, sym, ap, ◌∙◌, append_assoc, append-nil, arith}
+use Rattle.std.proofs.Common.{lit<, leb, ◌≡◌, ℕ, zero, suc, ◌<◌, ◌≤◌, Bool, true, false, ltb, ◌&&◌, not, List, [], ◌∷◌, ◌++◌, length, ℤ, Option, Some, None, is_some, Ok, refl, sym, ap, ◌∙◌, append_assoc, append-nil, arith}
 use Rattle.std.specs.Prelude.{◌==◌, nat_eq, slice_get}
 use Rattle.std.specs.List.{list_all, flat_map}
 use Rattle.std.specs.Int.{w8, w16}
 use Rattle.std.proofs.lemmas.Bool.{true≢false, eqb-true, ltb-true, leb-true, le-leb, and_parts, and_from}
 use Rattle.wsm_admission.specs.declared.clock.Clock.{Clock}
 use Rattle.wsm_interval.specs.declared.Comparison.{Comparison}
-use Rattle.wsm_interval.specs.declared.Comparison.TheVariants.{Eq, Ne, Lt, Le, Gt, Ge}
 use Rattle.wsm_program.specs.declared.instr.FieldTest.{FieldTest}
-use Rattle.wsm_program.specs.Instructions.{comparison_number}
+use Rattle.wsm_program.specs.Comparisons.{comparison_number, comparison_of_number}
 use Rattle.wsm_program.specs.declared.instr.Instr.{Instr}
 use Rattle.wsm_program.specs.declared.instr.Instr.TheVariants.{PushInt, PushBool, PushEnum, Field, Key, Acc, Count, Operate, Jump, JumpIfFalse, Test, Fold, Return}
 use Rattle.wsm_program.specs.declared.instr.Opcode.{Opcode}
 use Rattle.wsm_program.specs.declared.instr.Opcode.TheVariants as opcodes
 use Rattle.wsm_program.specs.Opcodes.{code as code_of}
 use Rattle.wsm_program.specs.Program.{Name, Header, Program, is_name_of, is_number_field, is_late_by, is_test, is_instr, is_section, is_header, is_program, is_span, is_size, is_time}
-use Rattle.wsm_record.specs.Schema.{FieldType, Int, Truth, Enum, DeclaredField, Declared, source_count, is_name_list, are_names_after, is_field_after, are_fields_after, is_field_type, is_within, names_of_type, names_of_field, enum_names, is_schema, is_i64}
+use Rattle.wsm_record.specs.Schema.{FieldType, Int, Truth, Enum, DeclaredField, Declared, source_count, is_name_list, are_names_after, is_field_after, are_fields_after, is_field_type, names_of_type, names_of_field, enum_names, is_schema, is_i64}
 use Rattle.wsm_record.specs.Name.{is_name, is_among, is_between}
 use Rattle.wsm_bytecode.specs.declared.version.Version.{Version}
 use Rattle.wsm_bytecode.specs.declared.version.Version.TheVariants.{One, Two}
 use Rattle.wsm_bytecode.specs.declared.reading.settings.Times.{Times}
 use Rattle.wsm_bytecode.specs.Parts.{settings_in, byte, number, signed, instr, code, magic, names, fields, times, kinds, columns, budget}
 use Rattle.wsm_bytecode.specs.Steps.{judged, number_at, signed_at, several, names_at, fields_at, times_at, kinds_at, enum_number_at, columns_at, budget_at}
-use Rattle.wsm_bytecode.specs.Spelling.{version_number, settings, header, spelling_in, has, spells, spelling}
-use Rattle.wsm_bytecode.specs.Reading.{comparison_by, push_int_at, push_bool_at, push_enum_at, index_at, target_at, comparison_at, number_field_at, field_test_at, test_at, instr_by, instr_at, code_at, after_magic, version_by, version_at, settings_at, header_at, parts_at, program_at, decode}
+use Rattle.wsm_bytecode.specs.Versions.{version_number, version_of_number}
+use Rattle.wsm_bytecode.specs.Spelling.{settings, header, spelling_in, has, spells, spelling}
+use Rattle.wsm_bytecode.specs.Reading.{push_int_at, push_bool_at, push_enum_at, index_at, target_at, comparison_at, number_field_at, field_test_at, test_at, instr_by, instr_at, code_at, after_magic, version_at, settings_at, header_at, parts_at, program_at, decode}
 use Rattle.wsm_program.proofs.Opcodes.{code_is_byte, of_code_again}
+use Rattle.wsm_program.proofs.Comparisons as comparisons
 use Rattle.wsm_program.proofs.Lawful.{HeaderParts, few_fields, header_parts}
 use Rattle.wsm_bytecode.proofs.Numbers.{bytes_again, byte_again, short_again, signed_again, judged_again}
 use Rattle.wsm_bytecode.proofs.Parts.{tag_again, below, several_again, enum_number_again, enum_is_small, start_again, span_again, size_again, names_again, fields_again, kinds_again, columns_again, budget_again}
 use Rattle.wsm_bytecode.proofs.Settings.{AreReadAgain, are_settings, are_settings_from, schema_parts}
+use Rattle.wsm_bytecode.proofs.Versions as versions
 use Rattle.wsm_bytecode.proofs.Version1 as first
 use Rattle.wsm_bytecode.proofs.Version2 as second
 
@@ -65,17 +67,12 @@ target_again made t rest h = rw (short_again t rest (ltb-true t 65536 h)) refl
 regroup_5 : (a b c d e rest : List ℕ) → (a ++ (b ++ (c ++ (d ++ e)))) ++ rest ≡ a ++ (b ++ (c ++ (d ++ (e ++ rest))))
 regroup_5 a b c d e rest = simp append_assoc refl
 
-comparison_step : (bytes : List ℕ) (n : ℕ) (rest : List ℕ) → judged (is_between 0 5) (number_at w8 bytes) ≡ Ok (n, rest) → comparison_at bytes ≡ Ok (comparison_by n, rest)
+comparison_step : (bytes : List ℕ) (n : ℕ) (o : Comparison) (rest : List ℕ) → number_at w8 bytes ≡ Ok (n, rest) → comparison_of_number n ≡ Some o → comparison_at bytes ≡ Ok (o, rest)
 unfolding comparison_at
-comparison_step bytes n rest e = rw e refl
+comparison_step bytes n o rest e f = rw (e, f) refl
 
 comparison_again : (o : Comparison) (rest : List ℕ) → comparison_at (byte (comparison_number o) ++ rest) ≡ Ok (o, rest)
-comparison_again Eq rest = comparison_step (byte 0 ++ rest) 0 rest (tag_again 0 5 0 rest (lit< tt) refl)
-comparison_again Ne rest = comparison_step (byte 1 ++ rest) 1 rest (tag_again 0 5 1 rest (lit< tt) refl)
-comparison_again Lt rest = comparison_step (byte 2 ++ rest) 2 rest (tag_again 0 5 2 rest (lit< tt) refl)
-comparison_again Le rest = comparison_step (byte 3 ++ rest) 3 rest (tag_again 0 5 3 rest (lit< tt) refl)
-comparison_again Gt rest = comparison_step (byte 4 ++ rest) 4 rest (tag_again 0 5 4 rest (lit< tt) refl)
-comparison_again Ge rest = comparison_step (byte 5 ++ rest) 5 rest (tag_again 0 5 5 rest (lit< tt) refl)
+comparison_again o rest = comparison_step (byte (comparison_number o) ++ rest) (comparison_number o) o rest (byte_again (comparison_number o) rest (comparisons.number_is_byte o)) (comparisons.of_number_again o)
 
 number_within : (fs : List DeclaredField) (f : ℕ) → is_number_field (slice_get fs f) ≡ true → f < length fs
 number_within [] f e = absurd (true≢false (sym e))
@@ -210,13 +207,14 @@ unfolding after_magic
 magic_again rest = rw (bytes_again 4 magic rest refl) refl
 
 -- the version, behind the magic bytes
-version_step : (v : Version) (n : ℕ) (bytes mid rest : List ℕ) → after_magic bytes ≡ Ok mid → number_at w8 mid ≡ Ok (n, rest) → version_by n ≡ Ok v → version_at bytes ≡ Ok (v, rest)
+version_step : (v : Version) (n : ℕ) (bytes mid rest : List ℕ) → after_magic bytes ≡ Ok mid → number_at w8 mid ≡ Ok (n, rest) → version_of_number n ≡ Some v → version_at bytes ≡ Ok (v, rest)
 unfolding version_at
 version_step v n bytes mid rest e f g = rw (e, f, g) refl
 
 pub version_again : (v : Version) (rest : List ℕ) → version_at (magic ++ (byte (version_number v) ++ rest)) ≡ Ok (v, rest)
-version_again One rest = version_step One 1 (magic ++ (byte 1 ++ rest)) (byte 1 ++ rest) rest (magic_again (byte 1 ++ rest)) (byte_again 1 rest (lit< tt)) refl
-version_again Two rest = version_step Two 2 (magic ++ (byte 2 ++ rest)) (byte 2 ++ rest) rest (magic_again (byte 2 ++ rest)) (byte_again 2 rest (lit< tt)) refl
+version_again v rest =
+    let behind = byte (version_number v) ++ rest in
+    version_step v (version_number v) (magic ++ behind) behind rest (magic_again behind) (byte_again (version_number v) rest (versions.number_is_byte v)) (versions.of_number_again v)
 
 few_parts : (h : Header) → HeaderParts h → FewParts h
 few_parts h p = record { fields = few_fields h.schema p.schema; kinds = few_below _ p.kinds; names = λ e i. names_below h.schema e i p.schema }

@@ -4,6 +4,7 @@ pub mod Taken
 pub mod TakenParts
 pub mod Lateness
 pub mod Settings
+pub mod Versions
 pub mod Version1
 pub mod Version2
 pub mod Codec

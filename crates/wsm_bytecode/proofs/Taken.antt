@@ -1,5 +1,6 @@
 -- What was read is what was spelled: numbers, lists and names.
-use Rattle.std.proofs.Common.{◌≡◌, ℕ, zero, suc, ◌+◌, ◌^◌, ◌%◌, ◌<◌, ◌≤◌, Bool, true, false, cond, ltb, List, [], ◌∷◌, ◌++◌, length, get_or, take, drop, ℤ, pos, negsuc, Result, Ok, Err, refl, sym, ap, subst, ◌∙◌, append_assoc, arith, SFits, inl, inr}
+use Rattle.std.proofs.Common.{◌≡◌, ℕ, zero, suc, ◌+◌, ◌^◌, ◌%◌, ◌<◌, ◌≤◌, Bool, true, false, cond, ltb, List, [], ◌∷◌, ◌++◌, Option, None, Some, length, get_or, take, drop, ℤ, pos, negsuc, Result, Ok, Err, refl, sym, ap, subst, ◌∙◌, append_assoc, arith, SFits, inl, inr}
+use Rattle.std.specs.Prelude.{ok_or}
 use Rattle.std.specs.List.{list_all, flat_map}
 use Rattle.std.specs.Int.{Width, w8, w16, w64, byte_len, to_le_bytes, from_le_bytes, cast_signed}
 use Rattle.std.proofs.Math.Facts.{sfits_to_z}
@@ -54,6 +55,11 @@ done x = Ok x
 
 pub ok_is : {A : Type 0} (x y : A) → done x ≡ done y → x ≡ y
 ok_is x y e = cc
+
+-- what was asked for was there
+pub there_is : {A : Type 0} (found : Option A) (d : DecodeRefusal) (x : A) → ok_or found d ≡ Ok x → found ≡ Some x
+there_is None d x e = absurd cc
+there_is (Some y) d x e = ap Some (ok_is y x e)
 
 -- the bytes are the value's spelling and the rest, and the value is good
 pub record Took {A : Type 0} (spell : A → List ℕ) (is_good : A → Bool) (bytes : List ℕ) (x : A × List ℕ) : Type 0 where

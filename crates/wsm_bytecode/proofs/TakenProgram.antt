@@ -1,23 +1,25 @@
 -- What was read is what was spelled: instructions, sections and whole programs.
-use Rattle.std.proofs.Common.{leb, Option, None, Some, ◌≡◌, ℕ, zero, suc, ◌≤◌, Bool, true, cond, ltb, ◌&&◌, List, [], ◌∷◌, ◌++◌, length, pos, Ok, Err, refl, sym, ap, subst, ◌∙◌, append_assoc, append-nil, arith}
-use Rattle.std.specs.Prelude.{◌==◌, bytes_eq, ok_or, slice_get}
+use Rattle.std.proofs.Common.{leb, ◌≡◌, ℕ, zero, suc, ◌≤◌, Bool, true, cond, ltb, ◌&&◌, List, [], ◌∷◌, ◌++◌, length, Ok, Err, refl, sym, ap, subst, ◌∙◌, append_assoc, append-nil, arith}
+use Rattle.std.specs.Prelude.{◌==◌, bytes_eq, slice_get}
 use Rattle.std.specs.List.{list_all, flat_map}
 use Rattle.std.specs.Int.{w8, w16}
-use Rattle.std.proofs.lemmas.Bool.{le-leb, eqb-true, eq-eqb, and_parts, and_from}
+use Rattle.std.proofs.lemmas.Bool.{le-leb, eq-eqb, and_parts, and_from}
 use Rattle.std.proofs.lemmas.Slice.Eq.{bytes_eq-Decides}
-use Rattle.wsm_program.specs.declared.refusal.DecodeRefusal.TheVariants.{BadMagic, UnknownOpcode}
+use Rattle.wsm_program.specs.declared.refusal.DecodeRefusal.TheVariants.{BadMagic, Version as OtherVersion, UnknownOpcode, Operand}
 use Rattle.wsm_program.specs.declared.instr.Instr.{Instr}
 use Rattle.wsm_program.specs.declared.instr.Instr.TheVariants.{PushInt, PushBool, PushEnum, Field, Key, Acc, Count, Operate, Jump, JumpIfFalse, Test, Fold, Return}
 use Rattle.wsm_program.specs.declared.instr.FieldTest.{FieldTest}
 use Rattle.wsm_program.specs.declared.instr.Opcode.{Opcode}
 use Rattle.wsm_program.specs.declared.instr.Opcode.TheVariants as opcodes
 use Rattle.wsm_program.specs.declared.program.Costs.{Costs}
-use Rattle.wsm_program.specs.Instructions.{truth, comparison_number}
+use Rattle.wsm_program.specs.Instructions.{truth}
+use Rattle.wsm_program.specs.Opcodes.{of_code}
+use Rattle.wsm_program.specs.Comparisons.{comparison_number, comparison_of_number}
 use Rattle.wsm_program.specs.Program.{Name, Header, Program, is_name_of, is_number_field, is_test, is_instr, is_section, is_header, is_program, is_span, is_size, is_column, is_budget, is_time}
 use Rattle.wsm_interval.specs.declared.Comparison.{Comparison}
 use Rattle.wsm_record.specs.declared.words.CellType.{CellType}
 use Rattle.wsm_record.specs.declared.Kind.{Kind}
-use Rattle.wsm_record.specs.Schema.{DeclaredField, source_count, is_name_list, are_fields_after, are_sources, is_schema, is_within, enum_names}
+use Rattle.wsm_record.specs.Schema.{DeclaredField, source_count, is_name_list, are_fields_after, are_sources, is_schema, enum_names}
 use Rattle.wsm_record.specs.Name.{is_between}
 use Rattle.wsm_bytecode.specs.declared.version.Version.{Version}
 use Rattle.wsm_bytecode.specs.declared.version.Version.TheVariants.{One, Two}
@@ -25,14 +27,17 @@ use Rattle.wsm_bytecode.specs.declared.reading.settings.Times.{Times}
 use Rattle.wsm_bytecode.specs.Parts.{Settings, byte, number, signed, instr, code, magic, names, fields, kinds, columns, budget}
 use Rattle.wsm_bytecode.specs.Steps.{◌>>=◌, bytes_at, judged, number_at, signed_at, several, names_at, fields_at, times_at, enum_number_at}
 use Rattle.wsm_bytecode.specs.Version1 as first
-use Rattle.wsm_bytecode.specs.Spelling.{version_number, settings, header, spelling_in, has, spells, IsSpelling}
-use Rattle.wsm_bytecode.specs.Reading.{push_int_at, push_bool_at, push_enum_at, index_at, target_at, comparison_by, comparison_at, number_field_at, field_test_at, test_at, test_by, instr_by, instr_at, code_at, after_magic, version_by, version_at, settings_at, schema_of, clock_of, header_at, parts_at, program_at, all_read, decode}
+use Rattle.wsm_bytecode.specs.Versions.{version_number, version_of_number}
+use Rattle.wsm_bytecode.specs.Spelling.{settings, header, spelling_in, has, spells, IsSpelling}
+use Rattle.wsm_bytecode.specs.Reading.{push_int_at, push_bool_at, push_enum_at, index_at, target_at, comparison_at, number_field_at, field_test_at, test_at, test_by, instr_by, instr_at, code_at, after_magic, version_at, settings_at, schema_of, clock_of, header_at, parts_at, program_at, all_read, decode}
 use Rattle.wsm_program.proofs.Within.{at_most}
 use Rattle.wsm_program.proofs.Opcodes.{of_code_has_code}
+use Rattle.wsm_program.proofs.Comparisons as comparisons
 use Rattle.wsm_bytecode.proofs.Codec.{opcode_byte, is_of, regroup_4, regroup_6}
 use Rattle.wsm_bytecode.proofs.Settings.{are_settings, settings_parts}
-use Rattle.wsm_bytecode.proofs.Taken.{IsBytes, bind_ok, bind_then, choose, test_ok, judged_ok, ok_is, Took, Exact, bytes_taken, byte_taken, number_taken, wide16, signed_taken, several_taken}
+use Rattle.wsm_bytecode.proofs.Taken.{IsBytes, bind_ok, bind_then, test_ok, judged_ok, ok_is, there_is, Took, Exact, bytes_taken, byte_taken, number_taken, wide16, signed_taken, several_taken}
 use Rattle.wsm_bytecode.proofs.TakenParts.{tag_taken, measure_taken, names_taken, fields_taken, kinds_taken, columns_taken, budget_taken, enum_number_taken}
+use Rattle.wsm_bytecode.proofs.Versions as versions
 use Rattle.wsm_bytecode.proofs.Version1 as first_proofs
 use Rattle.wsm_bytecode.proofs.Version2 as second_proofs
 
@@ -99,24 +104,16 @@ target_taken v h o made spelled good there bytes x fits e =
     subst (λ y. Took instr (is_of v h) (opcode_byte o ++ bytes) y) (ok_is one x a.2)
     (record { parts = ap (λ r. opcode_byte o ++ r) t.parts ∙ spelled a.0.0 a.0.1; fits = t.fits; good = and_from _ _ (sym (good a.0.0) ∙ t.good) (known v (made a.0.0) (there a.0.0)) })
 
-comparison_of_tag : (n : ℕ) → n ≤ 5 → byte n ≡ byte (comparison_number (comparison_by n))
-comparison_of_tag zero h = refl
-comparison_of_tag (suc zero) h = refl
-comparison_of_tag (suc (suc zero)) h = refl
-comparison_of_tag (suc (suc (suc zero))) h = refl
-comparison_of_tag (suc (suc (suc (suc zero)))) h = refl
-comparison_of_tag (suc (suc (suc (suc (suc n))))) h =
-    let five : suc (suc (suc (suc (suc n)))) ≡ 5 = omega arith in
-    ap byte five
-
 comparison_taken : Exact comparison_at (λ o. byte (comparison_number o)) (λ o. true)
 unfolding comparison_at
 comparison_taken bytes x fits e =
-    let b = bind_ok (judged (is_between 0 5) (number_at w8 bytes)) (λ tag. Ok (comparison_by tag.0, tag.1)) x e in
-    let t = tag_taken 0 5 bytes b.0 fits b.1 in
-    let made : Comparison × List ℕ = (comparison_by b.0.0, b.0.1) in
-    subst (λ y. Took (λ o. byte (comparison_number o)) (λ o. true) bytes y) (ok_is made x b.2)
-    (record { parts = t.parts ∙ ap (λ r. r ++ b.0.1) (comparison_of_tag b.0.0 (at_most 0 5 b.0.0 t.good)); fits = t.fits; good = refl })
+    bind_then _ _ x e (λ n e0 l0.
+    bind_then _ _ x l0 (λ o e1 l1.
+    let t = byte_taken bytes n fits e0 in
+    let same = comparisons.of_number_has_number n.0 o (there_is (comparison_of_number n.0) Operand o e1) in
+    let made : Comparison × List ℕ = (o, n.1) in
+    subst (λ y. Took (λ c. byte (comparison_number c)) (λ c. true) bytes y) (ok_is made x l1)
+    (record { parts = t.parts ∙ ap (λ k. byte k ++ n.1) same; fits = t.fits; good = refl })))
 
 number_field_taken : (fs : List DeclaredField) → Exact (number_field_at fs) byte (λ f. is_number_field (slice_get fs f))
 unfolding number_field_at
@@ -196,10 +193,6 @@ instr_by_taken v h opcodes.Test bytes x fits e = version_test_taken v h bytes x 
 instr_by_taken v h opcodes.Fold bytes x fits e = index_taken v h opcodes.Fold (length h.kinds) Fold (λ i rest. refl) (λ i. refl) (λ i. refl) bytes x fits e
 instr_by_taken v h opcodes.Return bytes x fits e = plain_taken v h opcodes.Return Return bytes x refl refl refl refl fits e
 
-opcode_found : (found : Option Opcode) (o : Opcode) → ok_or found UnknownOpcode ≡ Ok o → found ≡ Some o
-opcode_found None o e = absurd cc
-opcode_found (Some p) o e = ap Some (ok_is p o e)
-
 pub instr_taken : (v : Version) (h : Header) → Exact (instr_at v h) instr (is_of v h)
 unfolding instr_at
 instr_taken v h bytes x fits e =
@@ -207,7 +200,7 @@ instr_taken v h bytes x fits e =
     bind_then _ _ x l0 (λ o e1 l1.
     let t = byte_taken bytes c fits e0 in
     let u = instr_by_taken v h o c.1 x t.fits l1 in
-    let same = of_code_has_code c.0 o (opcode_found _ o e1) in
+    let same = of_code_has_code c.0 o (there_is (of_code c.0) UnknownOpcode o e1) in
     record { parts = t.parts ∙ ap (λ n. byte n ++ c.1) same ∙ u.parts; fits = u.fits; good = u.good }))
 
 parts_of : (v : Version) (h : Header) (is : List Instr) → list_all (is_of v h) is ≡ true → (list_all (is_instr h) is ≡ true) × (list_all (has v) is ≡ true)
@@ -239,12 +232,6 @@ magic_taken bytes rest fits e =
     let p = bytes_taken 4 bytes b.0 fits b.1 in
     subst (λ y. (bytes ≡ magic ++ y) × IsBytes y) g.1 (p.parts ∙ ap (λ m. m ++ b.0.1) ((bytes_eq-Decides b.0.0 magic).0 g.0), p.fits)
 
--- the number of a version
-numbered : (n : ℕ) (v : Version) → version_by n ≡ Ok v → n ≡ version_number v
-numbered n v e =
-    choose (n == 1) _ _ _ e (λ t r. eqb-true n 1 t ∙ ap version_number (ok_is One v r)) (λ _ e1.
-    choose (n == 2) _ _ _ e1 (λ t r. eqb-true n 2 t ∙ ap version_number (ok_is Two v r)) (λ _ r. absurd cc))
-
 record TookVersion (bytes : List ℕ) (x : Version × List ℕ) : Type 0 where
   parts : bytes ≡ magic ++ (byte (version_number x.0) ++ x.1)
   fits : IsBytes x.1
@@ -259,7 +246,7 @@ version_taken bytes x fits e =
     let u = byte_taken mid n t.1 e1 in
     let made : Version × List ℕ = (v, n.1) in
     subst (λ y. TookVersion bytes y) (ok_is made x l2)
-    (record { parts = t.0 ∙ ap (λ r. magic ++ r) (u.parts ∙ ap (λ k. byte k ++ n.1) (numbered n.0 v e2)); fits = u.fits }))))
+    (record { parts = t.0 ∙ ap (λ r. magic ++ r) (u.parts ∙ ap (λ k. byte k ++ n.1) (versions.of_number_has_number n.0 v (there_is (version_of_number n.0) OtherVersion v e2))); fits = u.fits }))))
 
 abbrev times_bytes : Times → List ℕ
 times_bytes t = signed t.start ++ signed t.skew ++ signed t.lateness ++ signed t.records

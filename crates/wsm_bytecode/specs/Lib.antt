@@ -1,4 +1,5 @@
 pub mod Tags
+pub mod Versions
 pub mod Parts
 pub mod Steps
 pub mod Version1

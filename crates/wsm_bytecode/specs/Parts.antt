@@ -18,7 +18,8 @@ use Rattle.wsm_program.specs.declared.instr.Argument.TheVariants as arguments
 use Rattle.wsm_program.specs.declared.program.Costs.{Costs}
 use Rattle.wsm_program.specs.Program.{Name, Header}
 use Rattle.wsm_program.specs.Instructions as table
-use Rattle.wsm_program.specs.Instructions.{truth, comparison_number}
+use Rattle.wsm_program.specs.Instructions.{truth}
+use Rattle.wsm_program.specs.Comparisons.{comparison_number}
 use Rattle.wsm_bytecode.specs.Tags.{mode_tag, kind_tag}
 
 abbrev pub byte : ℕ → List ℕ

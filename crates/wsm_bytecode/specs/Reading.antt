@@ -1,8 +1,7 @@
 -- Reading the bytes of a program from the left, up to the first fault, in the version that they name.
-use Rattle.std.specs.Prelude.{◌≡◌, ℕ, zero, suc, List, [], ◌∷◌, length, nat_lt, ok_or, Result, Ok, Err, slice_get, bytes_eq, ◌==◌, if◌then◌else◌}
+use Rattle.std.specs.Prelude.{◌≡◌, ℕ, List, [], ◌∷◌, length, nat_lt, ok_or, Result, Ok, Err, slice_get, bytes_eq, ◌==◌, if◌then◌else◌}
 use Rattle.std.specs.Int.{w8, w16}
 use Rattle.wsm_interval.specs.declared.Comparison.{Comparison}
-use Rattle.wsm_interval.specs.declared.Comparison.TheVariants.{Eq, Ne, Lt, Le, Gt, Ge}
 use Rattle.wsm_record.specs.declared.limits.TheConstants.{MAX_SECTION}
 use Rattle.wsm_record.specs.Name.{is_between}
 use Rattle.wsm_record.specs.Schema.{DeclaredField, Declared, enum_names, source_count}
@@ -13,8 +12,9 @@ use Rattle.wsm_program.specs.declared.instr.Instr.TheVariants.{PushInt, PushBool
 use Rattle.wsm_program.specs.declared.instr.Opcode.{Opcode}
 use Rattle.wsm_program.specs.declared.instr.Opcode.TheVariants as opcodes
 use Rattle.wsm_program.specs.declared.refusal.DecodeRefusal.{DecodeRefusal}
-use Rattle.wsm_program.specs.declared.refusal.DecodeRefusal.TheVariants.{BadMagic, Version as OtherVersion, UnknownOpcode, TrailingBytes, Memory}
+use Rattle.wsm_program.specs.declared.refusal.DecodeRefusal.TheVariants.{BadMagic, Version as OtherVersion, UnknownOpcode, Operand, TrailingBytes, Memory}
 use Rattle.wsm_program.specs.Opcodes.{of_code}
+use Rattle.wsm_program.specs.Comparisons.{comparison_of_number}
 use Rattle.wsm_program.specs.Program.{Header, Program, is_name_of, is_number_field}
 use Rattle.wsm_bytecode.specs.declared.version.Version.{Version}
 use Rattle.wsm_bytecode.specs.declared.version.Version.TheVariants.{One, Two}
@@ -22,6 +22,7 @@ use Rattle.wsm_bytecode.specs.declared.reading.settings.Settings.{Settings as He
 use Rattle.wsm_bytecode.specs.declared.reading.settings.Times.{Times}
 use Rattle.wsm_bytecode.specs.Parts.{Settings, magic}
 use Rattle.wsm_bytecode.specs.Steps.{Read, ◌>>=◌, bytes_at, number_at, signed_at, judged, several, names_at, fields_at, times_at, kinds_at, enum_number_at, columns_at, budget_at}
+use Rattle.wsm_bytecode.specs.Versions.{version_of_number}
 use Rattle.wsm_bytecode.specs.Version1 as first
 use Rattle.wsm_bytecode.specs.Version2 as second
 
@@ -33,15 +34,12 @@ after_magic bytes = do
   m ← bytes_at 4 bytes
   if bytes_eq m.0 magic then Ok m.1 else Err BadMagic
 
-abbrev pub version_by : ℕ → Result Version DecodeRefusal
-version_by n = if n == 1 then Ok One else if n == 2 then Ok Two else Err OtherVersion
-
 -- the version stands behind the magic bytes
 unfoldable pub version_at : List ℕ → Read Version
 version_at bytes = do
   numbered ← after_magic bytes
   n ← number_at w8 numbered
-  v ← version_by n.0
+  v ← ok_or (version_of_number n.0) OtherVersion
   Ok (v, n.1)
 
 abbrev pub settings_at : Version → List ℕ → Read Settings
@@ -111,18 +109,11 @@ target_at made bytes = do
   t ← number_at w16 bytes
   Ok (made t.0, t.1)
 
-abbrev pub comparison_by : ℕ → Comparison
-comparison_by zero = Eq
-comparison_by (suc zero) = Ne
-comparison_by (suc (suc zero)) = Lt
-comparison_by (suc (suc (suc zero))) = Le
-comparison_by (suc (suc (suc (suc zero)))) = Gt
-comparison_by _ = Ge
-
 unfoldable pub comparison_at : List ℕ → Read Comparison
 comparison_at bytes = do
-  tag ← judged (is_between 0 5) (number_at w8 bytes)
-  Ok (comparison_by tag.0, tag.1)
+  n ← number_at w8 bytes
+  comparison ← ok_or (comparison_of_number n.0) Operand
+  Ok (comparison, n.1)
 
 -- a field of numbers
 unfoldable pub number_field_at : List DeclaredField → List ℕ → Read ℕ

@@ -6,12 +6,9 @@ use Rattle.wsm_program.specs.Program.{Header, Program}
 use Rattle.wsm_bytecode.specs.declared.version.Version.{Version}
 use Rattle.wsm_bytecode.specs.declared.version.Version.TheVariants.{One, Two}
 use Rattle.wsm_bytecode.specs.Parts.{Settings, settings_in, byte, magic, names, fields, times, kinds, columns, budget, code}
+use Rattle.wsm_bytecode.specs.Versions.{version_number}
 use Rattle.wsm_bytecode.specs.Version1 as first
 use Rattle.wsm_bytecode.specs.Version2 as second
-
-abbrev pub version_number : Version → ℕ
-version_number One = 1
-version_number Two = 2
 
 abbrev pub settings : Version → Settings → List ℕ
 settings One s = first.settings s

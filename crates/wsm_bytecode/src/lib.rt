@@ -26,7 +26,7 @@
 //!
 //! - `reading`: from bytes to a program; `version1` and `version2` read what each has of its own
 //! - `writing`: from a program to its bytes
-//! - `version`: the versions of the bytes
+//! - `version`: the versions of the bytes, and their numbers
 //! - `tags`: the numbers that stand for shapes, modes, forms and kinds
 //! - `limits`: what the bytes begin with, and their limits
 //! - `listing`: a line of text for each instruction

@@ -5,8 +5,6 @@ pub(crate) use wsm_record::limits::{LATEST_TIME, LONGEST_SPAN, MAX_STATED};
 
 /// The first bytes of a program.
 pub(crate) const MAGIC: &[u8] = b"WSMP";
-/// The version that is written.
-pub(crate) const WRITTEN_VERSION: u8 = 2;
 
 /// The most panes that a program states as held.
 pub(crate) const MAX_HELD: u64 = limits::MAX_PANES;

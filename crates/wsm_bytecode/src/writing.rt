@@ -3,7 +3,8 @@
 ghost use Rattle.std.specs.Prelude.{◌≡◌, IfOk};
 ghost use Rattle.wsm_bytecode.specs.Spelling.{spelling};
 
-use crate::limits::{MAGIC, WRITTEN_VERSION};
+use crate::limits::MAGIC;
+use crate::version::WRITTEN_VERSION;
 use crate::writing::code::put_section;
 use crate::writing::header::put_header;
 use crate::writing::numbers::put_u8;
@@ -23,7 +24,7 @@ pub fn encode(alloc: Global, program: &Program) -> Result<Vec<u8>, AllocError>
 {
     let mut out = Vec::new(alloc);
     out.extend_from_slice(MAGIC)?;
-    put_u8(&mut out, WRITTEN_VERSION)?;
+    put_u8(&mut out, WRITTEN_VERSION.number())?;
     put_header(&mut out, program.header())?;
     put_section(&mut out, program.section(SectionId::Where))?;
     put_section(&mut out, program.section(SectionId::Update))?;

@@ -1,4 +1,5 @@
 pub mod Within
 pub mod Opcodes
+pub mod Comparisons
 pub mod Lawful
 pub mod StatedBudget

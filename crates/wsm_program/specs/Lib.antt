@@ -1,6 +1,7 @@
 pub mod Program
 pub mod Operations
 pub mod Opcodes
+pub mod Comparisons
 pub mod Instructions
 pub mod View
 pub mod Text

@@ -10,7 +10,8 @@ use Rattle.wsm_program.specs.declared.instr.Argument.TheVariants as arguments
 use Rattle.wsm_program.specs.declared.refusal.DecodeRefusal.{DecodeRefusal}
 use Rattle.wsm_program.specs.declared.refusal.DecodeRefusal.TheVariants as refusals
 use Rattle.wsm_program.specs.Instructions as table
-use Rattle.wsm_program.specs.Instructions.{truth, comparison_number}
+use Rattle.wsm_program.specs.Instructions.{truth}
+use Rattle.wsm_program.specs.Comparisons.{comparison_number}
 
 abbrev pub section_name : SectionId → List ℕ
 section_name Where = codes "where"

@@ -21,6 +21,7 @@
 //! ```
 //!
 //! - `instr`, `operation`: the instructions, and what each is
+//! - `comparison`: the numbers of comparisons
 //! - `text`: what a section and an instruction are printed as
 //! - `program`: headers and programs
 //! - `refusal`: why bytes, or parts, are no program
@@ -28,7 +29,8 @@
 //! - [`named`]: what an argument or a column may name
 #![tactic(auto)]
 
-pub use instr::{Argument, Edges, FieldTest, Instr, Opcode, SectionId, comparison_number, kind_of};
+pub use comparison::{comparison_number, comparison_of_number};
+pub use instr::{Argument, Edges, FieldTest, Instr, Opcode, SectionId, kind_of};
 pub use operation::{Operands, Operation};
 pub use program::{Costs, Header, Program, Section};
 pub use refusal::DecodeRefusal;
@@ -36,6 +38,7 @@ pub use wsm_admission::{Clock, LateBy};
 pub use wsm_interval::Comparison;
 pub use wsm_record::CellType;
 
+mod comparison;
 mod instr;
 mod judging;
 pub mod named;

@@ -1,6 +1,7 @@
 //! What a section and an instruction are printed as.
 
-use crate::instr::{Argument, FieldTest, Instr, SectionId, comparison_number};
+use crate::comparison::comparison_number;
+use crate::instr::{Argument, FieldTest, Instr, SectionId};
 use std::fmt;
 
 impl fmt::Display for SectionId {

@@ -13,7 +13,9 @@ use crate::reading::numbers::{byte_of, byte_within, i64_of, u16_of, u16_within};
 use crate::version::Version;
 use std::alloc::Global;
 use wsm_program::named::{has_name, is_number_field};
-use wsm_program::{Comparison, DecodeRefusal, FieldTest, Header, Instr, Opcode, Section};
+use wsm_program::{
+    Comparison, DecodeRefusal, FieldTest, Header, Instr, Opcode, Section, comparison_of_number,
+};
 use wsm_record::Schema;
 
 /// The number of instructions, and these.
@@ -215,15 +217,8 @@ fn number_field_of<'a>(schema: &Schema, bytes: &'a [u8]) -> Result<(u8, &'a [u8]
 fn comparison_of(bytes: &[u8]) -> Result<(Comparison, &[u8]), DecodeRefusal>
     ensures { Gives (λ x. (x.0, x.1.now)) result (comparison_at bytes.now) }
 {
-    let (tag, rest) = byte_within(bytes, 0, 5)?;
-    let comparison = match tag {
-        0 => Comparison::Eq,
-        1 => Comparison::Ne,
-        2 => Comparison::Lt,
-        3 => Comparison::Le,
-        4 => Comparison::Gt,
-        _ => Comparison::Ge,
-    };
+    let (number, rest) = byte_of(bytes)?;
+    let comparison = comparison_of_number(number).ok_or(DecodeRefusal::Operand)?;
     Ok((comparison, rest))
 }
 

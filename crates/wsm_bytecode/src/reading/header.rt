@@ -3,7 +3,7 @@
 ghost use Rattle.std.specs.Prelude.{◌≡◌};
 ghost use Rattle.wsm_program.specs.View.{header_of as seen};
 ghost use Rattle.wsm_bytecode.specs.Steps.{several, enum_number_at, column_at, columns_at};
-ghost use Rattle.wsm_bytecode.specs.Reading.{Gives, settings_seen, after_magic, version_by, version_at, settings_at, header_at};
+ghost use Rattle.wsm_bytecode.specs.Reading.{Gives, settings_seen, after_magic, version_at, settings_at, header_at};
 
 use crate::limits::{MAGIC, MAX_COLUMNS};
 use crate::reading::names::names_of;
@@ -77,18 +77,8 @@ pub(crate) fn version_of(bytes: &[u8]) -> Result<(Version, &[u8]), DecodeRefusal
 {
     let rest = skip_magic(bytes)?;
     let (number, rest) = byte_of(rest)?;
-    let version = version_of_number(number)?;
+    let version = Version::of_number(number).ok_or(DecodeRefusal::Version)?;
     Ok((version, rest))
-}
-
-fn version_of_number(number: u8) -> Result<Version, DecodeRefusal>
-    ensures { result ≡ version_by number }
-{
-    match number {
-        1 => Ok(Version::One),
-        2 => Ok(Version::Two),
-        _ => Err(DecodeRefusal::Version),
-    }
 }
 
 /// The bytes after `WSMP`.

@@ -1,7 +1,7 @@
 //! Instructions and sections.
 
 ghost use Rattle.std.specs.Prelude.{◌≡◌, ◌<◌, ◌++◌, length, OnOk};
-ghost use Rattle.wsm_program.specs.Instructions.{comparison_number};
+ghost use Rattle.wsm_program.specs.Comparisons.{comparison_number};
 ghost use Rattle.wsm_bytecode.specs.Parts.{byte, number, signed, code as section_bytes, instr as instr_bytes, argument as argument_bytes};
 
 use crate::writing::numbers::{put_i64, put_u8, put_u16};

@@ -1,0 +1,37 @@
+//! The numbers that stand for comparisons in the bytes and the texts of programs.
+
+ghost use Rattle.std.specs.Prelude.{◌≡◌};
+ghost use Rattle.wsm_program.specs.Comparisons as spec;
+
+use wsm_interval::Comparison;
+
+/// The number of a comparison.
+pub fn comparison_number(comparison: Comparison) -> u8
+    ensures { result ≡ spec.comparison_number comparison }
+{
+    match comparison {
+        Comparison::Eq => 0,
+        Comparison::Ne => 1,
+        Comparison::Lt => 2,
+        Comparison::Le => 3,
+        Comparison::Gt => 4,
+        Comparison::Ge => 5,
+    }
+}
+
+/// The comparison of a number. `None` where no comparison has it.
+#[tactic(auto, unfolding(crate::specs::Comparisons::comparison_of_number))]
+pub fn comparison_of_number(number: u8) -> Option<Comparison>
+    ensures { result ≡ spec.comparison_of_number number }
+{
+    let comparison = match number {
+        0 => Comparison::Eq,
+        1 => Comparison::Ne,
+        2 => Comparison::Lt,
+        3 => Comparison::Le,
+        4 => Comparison::Gt,
+        5 => Comparison::Ge,
+        _ => return None,
+    };
+    Some(comparison)
+}
