@@ -1,5 +1,5 @@
 -- What a section without a fault folds into each accumulator, and that sums of it stay in 64 bits.
-use Rattle.std.proofs.Common.{◌≡◌, ℕ, zero, suc, ◌+◌, ◌<◌, Bool, true, false, ◌&&◌, not, cond, ◌⊎◌, inl, inr, List, [], ◌∷◌, ◌++◌, length, map, drop, get_or, ℤ, ◌*ℤ◌, Option, Some, None, refl, sym, ap, subst, ◌∙◌, arith}
+use Rattle.std.proofs.Common.{◌≡◌, ℕ, zero, suc, ◌+◌, ◌<◌, Bool, true, false, ◌&&◌, not, cond, ◌⊎◌, inl, inr, List, [], ◌∷◌, ◌++◌, length, drop, get_or, ℤ, ◌*ℤ◌, Option, Some, None, refl, sym, ap, subst, ◌∙◌, arith}
 use Rattle.std.proofs.lemmas.Bool.{true≢false, eqb-true}
 use Rattle.std.proofs.Math.Seq.{drop-cons}
 use Rattle.std.proofs.lemmas.List.{append_assoc}
@@ -12,11 +12,12 @@ use Rattle.wsm_record.specs.declared.Kind.TheVariants.{Sum}
 use Rattle.wsm_program.specs.declared.Instr.{Instr}
 use Rattle.wsm_program.specs.declared.Instr.TheVariants.{Fold}
 use Rattle.wsm_program.specs.Instructions.{kind_of}
+use Rattle.wsm_program.specs.Program.{Program}
 use Rattle.wsm_verifier.specs.declared.known.Known.{Known}
 use Rattle.wsm_verifier.specs.declared.known.Known.TheVariants.{Number}
 use Rattle.wsm_verifier.specs.Labels.{State, Reached, Visit}
-use Rattle.wsm_verifier.specs.Rules.{Setting, sum_leaves, last_is, last_number, value_folded, values_folded, hull_options, accumulated, and_then, known_range, known_accumulators, fault_of, first_fault, accumulator_leaves}
-use Rattle.wsm_verifier.specs.Accumulated.{folded_from, accumulated_each, stays}
+use Rattle.wsm_verifier.specs.Rules.{Setting, sum_leaves, last_is, last_number, value_folded, values_folded, hull_options, accumulated, and_then, folded_from, accumulated_each, ranges_from, range, update_visits, fault_of, first_fault, accumulator_leaves}
+use Rattle.wsm_verifier.specs.Accumulated.{stays}
 use Rattle.wsm_verifier.proofs.AcceptedPlaces.{Each, each_passes, passes}
 
 -- ---- lists, an accumulator a place
@@ -50,17 +51,21 @@ accumulated_next r ks xs p k x before now all v h l so_far is added =
     let next : accumulated_each r (drop p ks) (drop p xs) ≡ v ∷ rest = next_each r ks xs p k x h l ∙ ap (λ w. w ∷ rest) (sym is) in
     ap (λ n. now ++ accumulated_each r (drop n ks) (drop n xs)) more ∙ ap (λ ys. ys ++ rest) added ∙ append_assoc before (v ∷ []) rest ∙ ap (λ ys. before ++ ys) (sym next) ∙ so_far
 
-pub known_each : (r : ℤ) (b : ℕ) (ks : List Kind) (vs : List Visit) → map known_range (accumulated_each r ks (folded_from b ks vs)) ≡ known_accumulators r b ks vs
-known_each r b [] vs = refl
-known_each r b (k ∷ ks) vs = ap (λ xs. known_range (and_then (accumulated r k) (values_folded b vs)) ∷ xs) (known_each r (suc b) ks vs)
-
-pub range_at : (r : ℤ) (b : ℕ) (ks : List Kind) (vs : List Visit) (a : ℕ) →
-    slice_index_or (accumulated_each r ks (folded_from b ks vs)) a None ≡ and_then (λ k. and_then (accumulated r k) (values_folded (b + a) vs)) (slice_get ks a)
-range_at r b [] vs a = refl
-range_at r b (k ∷ ks) vs zero = let here : b ≡ b + 0 = omega arith in ap (λ n. and_then (accumulated r k) (values_folded n vs)) here
-range_at r b (k ∷ ks) vs (suc a) =
+range_from : (r : ℤ) (b : ℕ) (ks : List Kind) (vs : List Visit) (a : ℕ) →
+    slice_index_or (ranges_from r b ks vs) a None ≡ and_then (λ k. and_then (accumulated r k) (values_folded (b + a) vs)) (slice_get ks a)
+range_from r b [] vs a = refl
+range_from r b (k ∷ ks) vs zero = let here : b ≡ b + 0 = omega arith in ap (λ n. and_then (accumulated r k) (values_folded n vs)) here
+range_from r b (k ∷ ks) vs (suc a) =
     let later : suc b + a ≡ b + suc a = omega arith in
-    range_at r (suc b) ks vs a ∙ ap (λ n. and_then (λ k. and_then (accumulated r k) (values_folded n vs)) (slice_get ks a)) later
+    range_from r (suc b) ks vs a ∙ ap (λ n. and_then (λ k. and_then (accumulated r k) (values_folded n vs)) (slice_get ks a)) later
+
+-- the range of an accumulator of a kind
+pub range_at : (p : Program) (a : ℕ) (k : Kind) → slice_get p.header.kinds a ≡ Some k → range p a ≡ and_then (accumulated p.header.clock.records k) (values_folded a (update_visits p))
+range_at p a k h =
+    let first : 0 + a ≡ a = omega arith in
+    range_from p.header.clock.records 0 p.header.kinds (update_visits p) a
+    ∙ ap (and_then (λ k. and_then (accumulated p.header.clock.records k) (values_folded (0 + a) (update_visits p)))) h
+    ∙ ap (λ n. and_then (accumulated p.header.clock.records k) (values_folded n (update_visits p))) first
 
 -- ---- sums
 

@@ -1,6 +1,6 @@
 -- What is found of the sections and of the stated numbers is what a program is judged by.
 use Rattle.std.proofs.Common.{◌≡◌, ℕ, ◌+◌, ◌<◌, true, false, ◌⊎◌, inr, List, [], ◌∷◌, length, map, replicate, Option, Some, None, Result, Ok, Err, IfOk, IfErr, IsErrAnd, refl, sym, ap, ◌∙◌, arith}
-use Rattle.std.specs.Prelude.{slice_get, slice_index_or}
+use Rattle.std.specs.Prelude.{slice_index_or}
 use Rattle.std.specs.Global.{Vec}
 use Rattle.wsm_interval.specs.declared.Interval.{Interval}
 use Rattle.wsm_record.specs.declared.Kind.{Kind}
@@ -13,10 +13,10 @@ use Rattle.wsm_verifier.specs.declared.rejection.Rule.TheVariants.{Memory}
 use Rattle.wsm_verifier.specs.declared.rejection.Rejection.{Rejection}
 use Rattle.wsm_verifier.specs.declared.known.Known.{Known}
 use Rattle.wsm_verifier.specs.Labels.{Ranges, Visit, visits}
-use Rattle.wsm_verifier.specs.Rules.{Setting, setting, entry, first_fault, section_fault, or_then, fault_in, code_fault, ranges_of_record, ranges_of_pane, update_visits, values_folded, and_then, accumulated, range, known_fields}
-use Rattle.wsm_verifier.specs.Accumulated.{folded_from, ranges_of, stays}
+use Rattle.wsm_verifier.specs.Rules.{Setting, setting, entry, first_fault, section_fault, or_then, fault_in, code_fault, ranges_of_record, ranges_of_pane, update_visits, values_folded, folded_from, known_fields}
+use Rattle.wsm_verifier.specs.Accumulated.{stays}
 use Rattle.wsm_verifier.specs.Turning.{unfolded}
-use Rattle.wsm_verifier.proofs.FoldedRanges.{folded_is, range_at, stay_all}
+use Rattle.wsm_verifier.proofs.FoldedRanges.{folded_is, stay_all}
 
 flags : (ks : List Kind) → replicate (length ks) false ≡ map (λ k. false) ks
 flags [] = refl
@@ -69,10 +69,3 @@ first_of_section c (v ∷ vs) e = e
 -- where the update has no fault, sums of all records stay
 pub sums_stay : (p : Program) → fault_in p Update (ranges_of_record p) ≡ None → (a : ℕ) → stays p.header.clock.records (kind_of p.header.kinds a) (slice_index_or (folded_from 0 p.header.kinds (update_visits p)) a None) ≡ true
 sums_stay p e a = stay_all (setting p Update (ranges_of_record p)) (update_visits p) (first_of_section (setting p Update (ranges_of_record p)) (update_visits p) e) a
-
--- ---- ranges
-
-pub range_is : (p : Program) (a : ℕ) → slice_index_or (ranges_of p) a None ≡ range p a
-range_is p a =
-    let first : 0 + a ≡ a = omega arith in
-    range_at p.header.clock.records 0 p.header.kinds (update_visits p) a ∙ ap (λ n. and_then (λ k. and_then (accumulated p.header.clock.records k) (values_folded n (update_visits p))) (slice_get p.header.kinds a)) first

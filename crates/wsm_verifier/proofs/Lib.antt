@@ -2,9 +2,9 @@ pub mod LabelPass
 pub mod Longest
 pub mod AcceptedPlaces
 pub mod Lawful
+pub mod FoldedRanges
 mod Ways
 mod WidenedStacks
 mod PassKept
 mod FirstRules
-mod FoldedRanges
 mod Judgements

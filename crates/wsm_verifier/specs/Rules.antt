@@ -1,5 +1,5 @@
 -- The rules of acceptance: at each place the first that holds, and what a program comes to.
-use Rattle.std.specs.Prelude.{ℕ, suc, ◌+◌, ◌*ℤ◌, Bool, true, false, ◌&&◌, not, cond, List, [], ◌∷◌, length, map, reverse, ℤ, pos, nat_eq, nat_lt, Option, Some, None, is_none, option_map, Result, Ok, Err, slice_get, slice_index_or}
+use Rattle.std.specs.Prelude.{ℕ, suc, ◌+◌, ◌*ℤ◌, Bool, true, false, ◌&&◌, not, cond, List, [], ◌∷◌, ◌++◌, length, map, reverse, ℤ, pos, nat_eq, nat_lt, Option, Some, None, is_none, option_map, Result, Ok, Err, slice_index_or}
 use Rattle.std.specs.Int.{int_min, int_max}
 use Rattle.std.specs.List.{list_all}
 use Rattle.wsm_interval.specs.declared.Interval.{Interval}
@@ -126,21 +126,30 @@ pub record Setting : Type 0 where
   pub ranges : Ranges
   pub n : ℕ
 
--- the rules for an instruction at place p before which s is known, in their order, each with whether it holds
-abbrev pub tests : Setting → ℕ → Instr → State → List (Rule × Bool)
-tests c p i s =
+-- the rules of an instruction's operands, before which s is known, each with whether it holds
+abbrev pub operand_tests : Setting → Instr → State → List (Rule × Bool)
+operand_tests c i s =
     (rule.NotHere, not (may_stand c.section i))
     ∷ (rule.StackUnderflow, nat_lt (length s.stack) (pops i))
     ∷ (rule.Type, not (types_fit c.kinds c.ends i s.stack))
     ∷ (rule.FoldTwice, folds_again i s.folded)
     ∷ (rule.MayDivideByZero, may_divide_by_zero i s.stack)
-    ∷ (rule.MayOverflow, is_none (pushed c.ranges i s))
+    ∷ []
+
+-- those of what it makes of them, and of where it goes from place p
+abbrev pub result_tests : Setting → ℕ → Instr → State → List (Rule × Bool)
+result_tests c p i s =
+    (rule.MayOverflow, is_none (pushed c.ranges i s))
     ∷ (rule.AccumulatorRange, accumulator_leaves c.records c.kinds i s.stack)
     ∷ (rule.StackOverflow, overflows s.stack (pushed c.ranges i s) (pops i))
     ∷ (rule.FoldMissing, fold_missing c.section i s.folded)
     ∷ (rule.BadJump, bad_jump c.n p i)
     ∷ (rule.NoReturn, goes_on i && nat_eq (suc p) c.n)
     ∷ []
+
+-- the rules for an instruction at place p, in their order
+abbrev pub tests : Setting → ℕ → Instr → State → List (Rule × Bool)
+tests c p i s = operand_tests c i s ++ result_tests c p i s
 
 -- the first rule that holds of the instruction at place p
 abbrev pub fault_of : Setting → ℕ → Instr → Label → Option Rule
@@ -226,17 +235,34 @@ and_then f (Some x) = f x
 abbrev pub update_visits : Program → List Visit
 update_visits p = visits (entry p) (ranges_of_record p) p.update
 
--- the range of accumulator a; None where it is no accumulator of numbers
+-- what is folded into each accumulator, from accumulator a on
+abbrev pub folded_from : ℕ → List Kind → List Visit → List (Option Interval)
+folded_from a [] vs = []
+folded_from a (k ∷ ks) vs = values_folded a vs ∷ folded_from (suc a) ks vs
+
+-- the range of each accumulator, where what is folded into each is given
+abbrev pub accumulated_each : ℤ → List Kind → List (Option Interval) → List (Option Interval)
+accumulated_each records (k ∷ ks) (x ∷ xs) = and_then (accumulated records k) x ∷ accumulated_each records ks xs
+accumulated_each records _ _ = []
+
+-- the range of each accumulator, from accumulator a on; None where it is no accumulator of numbers
+abbrev pub ranges_from : ℤ → ℕ → List Kind → List Visit → List (Option Interval)
+ranges_from records a ks vs = accumulated_each records ks (folded_from a ks vs)
+
+-- those of a program
+abbrev pub ranges_of : Program → List (Option Interval)
+ranges_of p = ranges_from p.header.clock.records 0 p.header.kinds (update_visits p)
+
+-- the range of accumulator a
 abbrev pub range : Program → ℕ → Option Interval
-range p a = and_then (λ k. and_then (accumulated p.header.clock.records k) (values_folded a (update_visits p))) (slice_get p.header.kinds a)
+range p a = slice_index_or (ranges_of p) a None
 
 abbrev pub known_range : Option Interval → Known
 known_range None = Truth
 known_range (Some x) = Number x
 
 abbrev pub known_accumulators : ℤ → ℕ → List Kind → List Visit → List Known
-known_accumulators records a [] vs = []
-known_accumulators records a (k ∷ ks) vs = known_range (and_then (accumulated records k) (values_folded a vs)) ∷ known_accumulators records (suc a) ks vs
+known_accumulators records a ks vs = map known_range (ranges_from records a ks vs)
 
 -- in FIRE
 abbrev pub ranges_of_pane : Program → List Visit → Ranges

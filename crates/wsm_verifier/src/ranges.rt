@@ -3,7 +3,6 @@
 ghost use Rattle.std.specs.Prelude.{◌≡◌, [], ◌∷◌, option_map, slice_index_or};
 ghost use Rattle.std.specs.Option.{option_to_list};
 ghost use Rattle.wsm_verifier.specs.Labels as spec;
-ghost use Rattle.wsm_verifier.specs.Pushing as pushing;
 
 use crate::known::Known;
 use crate::state::State;
@@ -60,39 +59,26 @@ impl Ranges {
 fn computed(operation: Operation, stack: &[Known]) -> Option<Known>
     ensures { option_map (λ k. k ∷ []) result ≡ spec.computed operation stack.now }
 {
-    match operation {
-        Operation::Add | Operation::Sub | Operation::Mul | Operation::Div | Operation::Rem => {
-            Some(Known::Number(of_two(operation, stack)?))
-        }
-        Operation::Neg => Some(Known::Number(negated(stack)?)),
-        Operation::Eq | Operation::Ne | Operation::Lt | Operation::Le => Some(Known::Truth),
-        Operation::Gt | Operation::Ge | Operation::Not => Some(Known::Truth),
-    }
-}
-
-// The interval of a result, of the last two numbers.
-fn of_two(operation: Operation, stack: &[Known]) -> Option<Interval>
-    ensures { result ≡ pushing.of_two operation stack.now }
-{
-    let [Known::Number(y), Known::Number(x), ..] = stack else {
-        return None;
-    };
-    match operation {
-        Operation::Add => x.add(*y),
-        Operation::Sub => x.sub(*y),
-        Operation::Mul => x.mul(*y),
-        Operation::Div => x.div(*y),
-        Operation::Rem => x.rem(*y),
-        Operation::Neg | Operation::Not | Operation::Eq | Operation::Ne => None,
-        Operation::Lt | Operation::Le | Operation::Gt | Operation::Ge => None,
-    }
-}
-
-fn negated(stack: &[Known]) -> Option<Interval>
-    ensures { result ≡ pushing.of_one stack.now }
-{
-    match stack {
-        [Known::Number(x), ..] => x.neg(),
-        _ => None,
+    match (operation, stack) {
+        (Operation::Add, [Known::Number(y), Known::Number(x), ..]) => Some(Known::Number(x.add(
+            *y,
+        )?)),
+        (Operation::Sub, [Known::Number(y), Known::Number(x), ..]) => Some(Known::Number(x.sub(
+            *y,
+        )?)),
+        (Operation::Mul, [Known::Number(y), Known::Number(x), ..]) => Some(Known::Number(x.mul(
+            *y,
+        )?)),
+        (Operation::Div, [Known::Number(y), Known::Number(x), ..]) => Some(Known::Number(x.div(
+            *y,
+        )?)),
+        (Operation::Rem, [Known::Number(y), Known::Number(x), ..]) => Some(Known::Number(x.rem(
+            *y,
+        )?)),
+        (Operation::Neg, [Known::Number(x), ..]) => Some(Known::Number(x.neg()?)),
+        (Operation::Add | Operation::Sub | Operation::Mul, _) => None,
+        (Operation::Div | Operation::Rem | Operation::Neg, _) => None,
+        (Operation::Eq | Operation::Ne | Operation::Lt | Operation::Le, _) => Some(Known::Truth),
+        (Operation::Gt | Operation::Ge | Operation::Not, _) => Some(Known::Truth),
     }
 }

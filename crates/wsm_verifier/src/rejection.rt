@@ -6,6 +6,9 @@ use std::fmt;
 use wsm_program::SectionId;
 
 /// Why a program is refused. Its text is its name.
+///
+/// The order is public: the rules are printed as `V1` to `V17` in this order, so a new one goes behind
+/// the last.
 #[derive(Clone, Copy, Debug, PartialEq, Eq)]
 pub enum Rule {
     /// An instruction has too few operands.

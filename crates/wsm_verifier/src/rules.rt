@@ -17,21 +17,21 @@
 //! 100. Sections are tried in this order, and their places from 0 on. At a place the first rule
 //! that holds is the fault; beside each is a change of the example that it refuses.
 //!
-//! 1. `Unreachable`: no edge leads here. `JMP 6` at fire 4 leaves fire 5 without one.
-//! 2. `Join`: edges into the place differ in height, types or what is folded. `PUSHB 0`, `JF 4` in
-//!    front of `FIELD 0`, `FOLD 0`: update 4 is come to with the sum folded and not folded.
-//! 3. `NotHere`: `COUNT` at where 0.
-//! 4. `StackUnderflow`: no `PUSHI 100`, so that `DIV` finds one number.
-//! 5. `Type`: `PUSHB 1` at fire 2, where `ADD` takes numbers; or no `PUSHB 1` at fire 5, where the
-//!    stack at `RET` isn't the section's result.
-//! 6. `FoldTwice`: `FIELD 0`, `FOLD 0` once more behind update 1.
-//! 7. `MayDivideByZero`: `PUSHI 0` at fire 2, with a divisor from 0 to 100,000.
-//! 8. `MayOverflow`: `PUSHI 9223372036854775807` at fire 2, so that `ADD` may leave 64 bits.
-//! 9. `AccumulatorRange`: a field up to 10^18, of which 1,000 may not have a sum of 64 bits.
-//! 10. `StackOverflow`: 33 times `PUSHI 100` in front.
-//! 11. `FoldMissing`: update with `RET` alone.
-//! 12. `BadJump`: `JMP 0` at fire 5, which doesn't lead forward.
-//! 13. `NoReturn`: no `RET` at the end of a section; one without instructions has it at place 0.
+//! - `Unreachable`: no edge leads here. `JMP 6` at fire 4 leaves fire 5 without one.
+//! - `Join`: edges into the place differ in height, types or what is folded. `PUSHB 0`, `JF 4` in
+//!   front of `FIELD 0`, `FOLD 0`: update 4 is come to with the sum folded and not folded.
+//! - `NotHere`: `COUNT` at where 0.
+//! - `StackUnderflow`: no `PUSHI 100`, so that `DIV` finds one number.
+//! - `Type`: `PUSHB 1` at fire 2, where `ADD` takes numbers; or no `PUSHB 1` at fire 5, where the
+//!   stack at `RET` isn't the section's result.
+//! - `FoldTwice`: `FIELD 0`, `FOLD 0` once more behind update 1.
+//! - `MayDivideByZero`: `PUSHI 0` at fire 2, with a divisor from 0 to 100,000.
+//! - `MayOverflow`: `PUSHI 9223372036854775807` at fire 2, so that `ADD` may leave 64 bits.
+//! - `AccumulatorRange`: a field up to 10^18, of which 1,000 may not have a sum of 64 bits.
+//! - `StackOverflow`: 33 times `PUSHI 100` in front.
+//! - `FoldMissing`: update with `RET` alone.
+//! - `BadJump`: `JMP 0` at fire 5, which doesn't lead forward.
+//! - `NoReturn`: no `RET` at the end of a section; one without instructions has it at place 0.
 //!
 //! Behind the sections come the stated numbers: `BudgetRecord` below 5 (2 instructions of where, 3
 //! of update), `BudgetPane` below 7, and `BudgetHeld` below the keys times the most live windows.
@@ -40,8 +40,8 @@ ghost use Rattle.std.specs.Prelude.{◌≡◌, ◌≤◌, ◌&&◌, Some, suc, n
 ghost use Rattle.std.specs.List.{list_all};
 ghost use Rattle.std.specs.Option.{option_to_list};
 ghost use Rattle.wsm_verifier.specs.Rules as rules;
-ghost use Rattle.wsm_verifier.specs.Rules.{first_of, tests};
-ghost use Rattle.wsm_verifier.specs.Trying.{setting_of, operand_tests, result_tests};
+ghost use Rattle.wsm_verifier.specs.Rules.{first_of, operand_tests, result_tests, tests};
+ghost use Rattle.wsm_verifier.specs.Trying.{setting_of};
 
 use crate::known::Known;
 use crate::ranges::Ranges;

@@ -1,8 +1,7 @@
 use Rattle.std.proofs.Common.{rules, arith, ◌≡◌, None, length, map, to_z, of_z, w64, subst, sym, ap, ◌∙◌}
 use Rattle.wsm_program.specs.declared.SectionId.TheVariants.{Where, Update, Fire}
-use Rattle.wsm_verifier.specs.Accumulated.{folded_from, ranges_of}
-use Rattle.wsm_verifier.specs.Rules.{fault_in, known_range, ranges_with, ranges_of_record, ranges_of_pane, update_visits}
-use Rattle.wsm_verifier.proofs.FoldedRanges.{length-folded_from, known_each}
+use Rattle.wsm_verifier.specs.Rules.{fault_in, folded_from, known_range, ranges_of, ranges_with, ranges_of_record, ranges_of_pane, update_visits}
+use Rattle.wsm_verifier.proofs.FoldedRanges.{length-folded_from}
 use Rattle.wsm_verifier.proofs.Judgements.{sums_stay, code_passed, refused_by}
 use Rattle.std.proofs.lemmas.List.{length-map}
 use Rattle.wsm_record.specs.Fields.{field_seen}
@@ -36,7 +35,7 @@ returns-in_err-judge_in-2-clause-refused c =
     let selected : fault_in c.args.program.now Where (ranges_of_record c.args.program.now) ≡ None = subst (λ r. fault_in c.args.program.now Where r ≡ None) read c.in_ok-judge_in.ensures.passed in
     let updated : fault_in c.args.program.now Update (ranges_of_record c.args.program.now) ≡ None = subst (λ r. fault_in c.args.program.now Update r ≡ None) read c.in_ok-folded.ensures.passed in
     let ranges : c.deref-5.result.now ≡ ranges_of c.args.program.now = search rules in
-    let known : c.ranges_with-of_pane.result ≡ ranges_of_pane c.args.program.now (update_visits c.args.program.now) = c.ranges_with-of_pane.ensures ∙ ap (ranges_with c.args.program.now) (c.in_ok-known_ranges.ensures ∙ ap (map known_range) ranges ∙ known_each c.args.program.now.header.clock.records 0 c.args.program.now.header.kinds (update_visits c.args.program.now)) in
+    let known : c.ranges_with-of_pane.result ≡ ranges_of_pane c.args.program.now (update_visits c.args.program.now) = c.ranges_with-of_pane.ensures ∙ ap (ranges_with c.args.program.now) (c.in_ok-known_ranges.ensures ∙ ap (map known_range) ranges) in
     let same = code_passed c.args.program.now selected updated ∙ ap (fault_in c.args.program.now Fire) (sym known) in
     refused_by c.from_residual-in_err-judge_in-2.result c.in_err-judge_in-2.field-0.0 _ _ c.from_residual-in_err-judge_in-2.ensures.1 (sym same) c.in_err-judge_in-2.ensures.refused
 
@@ -46,5 +45,5 @@ returns-clause-passed c =
     let selected : fault_in c.args.program.now Where (ranges_of_record c.args.program.now) ≡ None = subst (λ r. fault_in c.args.program.now Where r ≡ None) read c.in_ok-judge_in.ensures.passed in
     let updated : fault_in c.args.program.now Update (ranges_of_record c.args.program.now) ≡ None = subst (λ r. fault_in c.args.program.now Update r ≡ None) read c.in_ok-folded.ensures.passed in
     let ranges : c.deref-5.result.now ≡ ranges_of c.args.program.now = search rules in
-    let known : c.ranges_with-of_pane.result ≡ ranges_of_pane c.args.program.now (update_visits c.args.program.now) = c.ranges_with-of_pane.ensures ∙ ap (ranges_with c.args.program.now) (c.in_ok-known_ranges.ensures ∙ ap (map known_range) ranges ∙ known_each c.args.program.now.header.clock.records 0 c.args.program.now.header.kinds (update_visits c.args.program.now)) in
+    let known : c.ranges_with-of_pane.result ≡ ranges_of_pane c.args.program.now (update_visits c.args.program.now) = c.ranges_with-of_pane.ensures ∙ ap (ranges_with c.args.program.now) (c.in_ok-known_ranges.ensures ∙ ap (map known_range) ranges) in
     code_passed c.args.program.now selected updated ∙ subst (λ r. fault_in c.args.program.now Fire r ≡ None) known c.in_ok-judge_in-2.ensures.passed
