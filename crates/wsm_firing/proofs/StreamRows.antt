@@ -13,9 +13,9 @@ use Rattle.wsm_semantics.specs.declared.out_row.OutRow.{OutRow}
 use Rattle.wsm_semantics.specs.declared.out_row.OutRow.TheVariants.{Rstream}
 use Rattle.wsm_relation.specs.Bag.{Bag}
 use Rattle.wsm_relation.specs.Rows.{count_of}
-use Rattle.wsm_relation.specs.Tally.{Tally, IsChange, number_of, shifted, copies, gains, losses}
+use Rattle.wsm_relation.specs.Delta.{Delta, IsChange, number_of, shifted, copies, gains, losses}
 use Rattle.wsm_semantics.proofs.RowBags.{once, count-with_row, count-without_one, count-sorted_rows, with_row-in_order, without_one-in_order, sorted_rows-in_order, one_list}
-use Rattle.wsm_relation.proofs.Numbers.{is_zero, shifted-tally}
+use Rattle.wsm_relation.proofs.Numbers.{is_zero, shifted-delta}
 use Rattle.wsm_relation.proofs.Copies.{gains-difference, losses-difference}
 use Rattle.wsm_semantics.proofs.RowsBound.{length-sorted_rows}
 use Rattle.wsm_relation.proofs.ToldChanges.{length-difference, few_numbers, undone_is, number_high, number_low, one_number_more, change_less, change_more, once_itself}
@@ -36,10 +36,10 @@ Numbers = List (List Cell × ℤ)
 -- ---- changes
 
 pub changed_less : (r : List Cell) (es : Numbers) (before rest : Rows) → HasChanged es before (r ∷ rest) → HasChanged (shifted r (negsuc 0) es) before rest
-changed_less r es before rest h = record { ordered = h.ordered; tally = shifted-tally r (negsuc 0) es refl h.tally; change = change_less r before rest es h.tally h.change }
+changed_less r es before rest h = record { ordered = h.ordered; delta = shifted-delta r (negsuc 0) es refl h.delta; change = change_less r before rest es h.delta h.change }
 
 pub changed_more : (r : List Cell) (es : Numbers) (before rest : Rows) → HasChanged es before rest → HasChanged (shifted r (pos 1) es) before (r ∷ rest)
-changed_more r es before rest h = record { ordered = h.ordered; tally = shifted-tally r (pos 1) es refl h.tally; change = change_more r before rest es h.tally h.change }
+changed_more r es before rest h = record { ordered = h.ordered; delta = shifted-delta r (pos 1) es refl h.delta; change = change_more r before rest es h.delta h.change }
 
 module _ (r : List Cell) (es : Numbers) (before rest : Rows) (room most : ℕ) (within : AreWithin room before (r ∷ rest)) (twice : most ≡ room + room) where
   room_at : (n : ℕ) → (number_of r es ≡ pos 0 → n < most) → (number_of r es ≢ pos 0) ⊎ (n < most)
@@ -51,23 +51,23 @@ module _ (r : List Cell) (es : Numbers) (before rest : Rows) (room most : ℕ) (
   pub room_less : HasChanged es before (r ∷ rest) → (number_of r es ≢ pos 0) ⊎ (length es < most)
   room_less h = room_at (length es) (λ none.
       let next = changed_less r es before rest h in
-      let few : length (shifted r (negsuc 0) es) ≤ length before + length rest = few_numbers before rest (shifted r (negsuc 0) es) next.tally next.change in
-      let one : length (shifted r (negsuc 0) es) ≡ suc (length es) = one_number_more r (negsuc 0) es h.tally none in
+      let few : length (shifted r (negsuc 0) es) ≤ length before + length rest = few_numbers before rest (shifted r (negsuc 0) es) next.delta next.change in
+      let one : length (shifted r (negsuc 0) es) ≡ suc (length es) = one_number_more r (negsuc 0) es h.delta none in
       omega (arith, few, one, within.few_before, within.few_now, twice))
 
   pub room_more : HasChanged es before rest → (number_of r es ≢ pos 0) ⊎ (length es < most)
-  room_more h = inr (let few : length es ≤ length before + length rest = few_numbers before rest es h.tally h.change in omega (arith, few, within.few_before, within.few_now, twice))
+  room_more h = inr (let few : length es ≤ length before + length rest = few_numbers before rest es h.delta h.change in omega (arith, few, within.few_before, within.few_now, twice))
 
   pub fits_less : room ≤ 100000 → HasChanged es before (r ∷ rest) → negsuc 9223372036854775807 <ℤ number_of r es
-  fits_less few h = let low = number_low before (r ∷ rest) es h.tally h.change r room within.few_before in omega (arith, ints, few, low)
+  fits_less few h = let low = number_low before (r ∷ rest) es h.delta h.change r room within.few_before in omega (arith, ints, few, low)
 
   pub fits_more : room ≤ 100000 → HasChanged es before rest → number_of r es <ℤ pos 9223372036854775807
-  fits_more few h = let high = number_high before rest es h.tally h.change r room (omega (arith, within.few_now)) in omega (arith, ints, few, high)
+  fits_more few h = let high = number_high before rest es h.delta h.change r room (omega (arith, within.few_now)) in omega (arith, ints, few, high)
 
 pub changed_none : (now : Rows) → HasChanged [] (sorted_rows now) now
 changed_none now = record {
   ordered = sorted_rows-in_order now;
-  tally = tt;
+  delta = tt;
   change = λ q. let same : count_of q (sorted_rows now) ≡ count_of q now = count-sorted_rows q now in omega (arith, ints);
 }
 
@@ -121,15 +121,15 @@ told_of_panes f es rows before now next panes told =
 -- the counts alone matter
 pub told_same : (f : Form) (es : Numbers) (rows before now other : Rows) → ((q : List Cell) → count_of q now ≡ count_of q other) → IsToldOf f es rows before now → IsToldOf f es rows before other
 told_same form.Panes es rows before now other same h = h
-told_same form.Istream es rows before now other same h = record { ordered = h.ordered; tally = h.tally; change = λ q. h.change q ∙ ap (λ n. pos n -ℤ pos (count_of q before)) (same q) }
-told_same form.Dstream es rows before now other same h = record { ordered = h.ordered; tally = h.tally; change = λ q. h.change q ∙ ap (λ n. pos n -ℤ pos (count_of q before)) (same q) }
+told_same form.Istream es rows before now other same h = record { ordered = h.ordered; delta = h.delta; change = λ q. h.change q ∙ ap (λ n. pos n -ℤ pos (count_of q before)) (same q) }
+told_same form.Dstream es rows before now other same h = record { ordered = h.ordered; delta = h.delta; change = λ q. h.change q ∙ ap (λ n. pos n -ℤ pos (count_of q before)) (same q) }
 told_same form.Rstream es rows before now other same h = record { none = h.none; ordered = h.ordered; same = λ q. h.same q ∙ same q }
 
 -- what was told says what the relation before is
 pub before_is : (f : Form) (es : Numbers) (rows before now : Rows) → IsToldOf f es rows before now → relation_before f es (sorted_rows now) ≡ before
 before_is form.Panes es rows before now h = sym h
-before_is form.Istream es rows before now h = undone_is before (sorted_rows now) es h.tally (λ q. h.change q ∙ ap (λ n. pos n -ℤ pos (count_of q before)) (sym (count-sorted_rows q now))) h.ordered
-before_is form.Dstream es rows before now h = undone_is before (sorted_rows now) es h.tally (λ q. h.change q ∙ ap (λ n. pos n -ℤ pos (count_of q before)) (sym (count-sorted_rows q now))) h.ordered
+before_is form.Istream es rows before now h = undone_is before (sorted_rows now) es h.delta (λ q. h.change q ∙ ap (λ n. pos n -ℤ pos (count_of q before)) (sym (count-sorted_rows q now))) h.ordered
+before_is form.Dstream es rows before now h = undone_is before (sorted_rows now) es h.delta (λ q. h.change q ∙ ap (λ n. pos n -ℤ pos (count_of q before)) (sym (count-sorted_rows q now))) h.ordered
 before_is form.Rstream es rows before now h = sym h.none
 
 -- ---- what is written
@@ -139,16 +139,16 @@ same_change es before now h = λ q. h.change q ∙ ap (λ n. pos n -ℤ pos (cou
 
 -- a stream is what the definitions say
 pub changes_written : (s : Side) (es : Numbers) (before now : Rows) (mark : ℤ) → HasChanged es before now → map (changed_row s mark) (changed_rows s es) ≡ stream_rows (side_form s) mark before (sorted_rows now)
-changes_written Gained es before now mark h = ap (map (changed_row Gained mark)) (gains-difference before (sorted_rows now) es h.tally (same_change es before now h) (sorted_rows-in_order now))
-changes_written Lost es before now mark h = ap (map (changed_row Lost mark)) (losses-difference before (sorted_rows now) es h.tally (same_change es before now h) h.ordered)
+changes_written Gained es before now mark h = ap (map (changed_row Gained mark)) (gains-difference before (sorted_rows now) es h.delta (same_change es before now h) (sorted_rows-in_order now))
+changes_written Lost es before now mark h = ap (map (changed_row Lost mark)) (losses-difference before (sorted_rows now) es h.delta (same_change es before now h) h.ordered)
 
 -- it has no more rows than there is room for
 pub changes_few : (s : Side) (es : Numbers) (before now : Rows) (room : ℕ) → HasChanged es before now → AreWithin room before now → length (changed_rows s es) ≤ room
 changes_few Gained es before now room h w =
-    let same : gains es ≡ difference (sorted_rows now) before = gains-difference before (sorted_rows now) es h.tally (same_change es before now h) (sorted_rows-in_order now) in
+    let same : gains es ≡ difference (sorted_rows now) before = gains-difference before (sorted_rows now) es h.delta (same_change es before now h) (sorted_rows-in_order now) in
     omega (arith, ap length same, length-difference (sorted_rows now) before, length-sorted_rows now, w.few_now)
 changes_few Lost es before now room h w =
-    let same : losses es ≡ difference before (sorted_rows now) = losses-difference before (sorted_rows now) es h.tally (same_change es before now h) h.ordered in
+    let same : losses es ≡ difference before (sorted_rows now) = losses-difference before (sorted_rows now) es h.delta (same_change es before now h) h.ordered in
     omega (arith, ap length same, length-difference before (sorted_rows now), w.few_before)
 
 -- the next instant
@@ -161,23 +161,23 @@ told_on Lost rows before now = changed_none now
 abbrev pub IsToldBy : Kept → Rows → Rows → Type 0
 IsToldBy k before now = IsToldOf (form_kept k) (numbers_kept k) (rows_kept k) before now
 
-module _ (k : Kept) (s : Side) (changes : Tally) (is : k ≡ Changed s changes) where
+module _ (k : Kept) (s : Side) (changes : Delta) (is : k ≡ Changed s changes) where
   pub changed_by : (before now : Rows) → IsToldBy k before now → HasChanged changes.numbers before now
   changed_by before now told = as_changed s changes.numbers [] before now (subst (λ j. IsToldBy j before now) is told)
 
-  pub changes_lost : (row : List Cell) (t : Tally) → t ≡ record changes { numbers = shifted row (negsuc 0) changes.numbers } → (before now : Rows) → IsToldBy k before (row ∷ now) → IsToldBy (Changed s t) before now
+  pub changes_lost : (row : List Cell) (t : Delta) → t ≡ record changes { numbers = shifted row (negsuc 0) changes.numbers } → (before now : Rows) → IsToldBy k before (row ∷ now) → IsToldBy (Changed s t) before now
   changes_lost row t told-is before now told =
-      subst (λ (u : Tally). IsToldOf (side_form s) u.numbers [] before now) (sym told-is)
+      subst (λ (u : Delta). IsToldOf (side_form s) u.numbers [] before now) (sym told-is)
       (as_told s (shifted row (negsuc 0) changes.numbers) [] before now (changed_less row changes.numbers before now (changed_by before (row ∷ now) told)))
 
-  pub changes_gained : (row : List Cell) (t : Tally) → t ≡ record changes { numbers = shifted row (pos 1) changes.numbers } → (before now : Rows) → IsToldBy k before now → IsToldBy (Changed s t) before (row ∷ now)
+  pub changes_gained : (row : List Cell) (t : Delta) → t ≡ record changes { numbers = shifted row (pos 1) changes.numbers } → (before now : Rows) → IsToldBy k before now → IsToldBy (Changed s t) before (row ∷ now)
   changes_gained row t told-is before now told =
-      subst (λ (u : Tally). IsToldOf (side_form s) u.numbers [] before (row ∷ now)) (sym told-is)
+      subst (λ (u : Delta). IsToldOf (side_form s) u.numbers [] before (row ∷ now)) (sym told-is)
       (as_told s (shifted row (pos 1) changes.numbers) [] before (row ∷ now) (changed_more row changes.numbers before now (changed_by before now told)))
 
-  pub changes_on : (t : Tally) → t ≡ record changes { numbers = [] } → (before now : Rows) → IsToldBy (Changed s t) (relation_kept (form_kept k) before (sorted_rows now)) now
+  pub changes_on : (t : Delta) → t ≡ record changes { numbers = [] } → (before now : Rows) → IsToldBy (Changed s t) (relation_kept (form_kept k) before (sorted_rows now)) now
   changes_on t told-is before now =
-      subst (λ (x : Tally × Kept). IsToldOf (side_form s) x.0.numbers [] (relation_kept (form_kept x.1) before (sorted_rows now)) now) (λ i. (sym told-is i, sym is i)) (told_on s [] before now)
+      subst (λ (x : Delta × Kept). IsToldOf (side_form s) x.0.numbers [] (relation_kept (form_kept x.1) before (sorted_rows now)) now) (λ i. (sym told-is i, sym is i)) (told_on s [] before now)
 
   pub changes_rows : (before now : Rows) (mark : ℤ) → IsToldBy k before now → map (changed_row s mark) (changed_rows s changes.numbers) ≡ stream_rows (form_kept k) mark before (sorted_rows now)
   changes_rows before now mark told = changes_written s changes.numbers before now mark (changed_by before now told) ∙ ap (λ (j : Kept). stream_rows (form_kept j) mark before (sorted_rows now)) (sym is)

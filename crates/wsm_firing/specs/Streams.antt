@@ -15,7 +15,7 @@ use Rattle.wsm_semantics.specs.Kept.{is_linked}
 use Rattle.wsm_semantics.specs.Summaries.{Pane, linked, standing_row}
 use Rattle.wsm_panes.specs.Held.{has_fired}
 use Rattle.wsm_relation.specs.Rows.{IsInOrder, count_of}
-use Rattle.wsm_relation.specs.Tally.{IsTally, IsChange, undone}
+use Rattle.wsm_relation.specs.Delta.{IsDelta, IsChange, undone}
 
 -- what the streams keep of what they were told: a form, room for so many rows, what changed since the
 -- last instant, where that is written, and the rows that stand, where all are
@@ -43,7 +43,7 @@ rows_with shape d panes = standing_rows panes
 
 pub record HasChanged (numbers : List (List Cell × ℤ)) (before now : List (List Cell)) : Type 0 where
   pub ordered : IsInOrder before
-  pub tally : IsTally numbers
+  pub delta : IsDelta numbers
   pub change : IsChange before now numbers
 
 pub record HasKept (rows before now : List (List Cell)) : Type 0 where

@@ -6,7 +6,7 @@ use Rattle.wsm_record.specs.declared.words.Form.{Form}
 use Rattle.wsm_record.specs.declared.words.Form.TheVariants as form
 use Rattle.wsm_semantics.specs.declared.out_row.OutRow.{OutRow}
 use Rattle.wsm_semantics.specs.declared.out_row.OutRow.TheVariants.{Istream, Dstream}
-use Rattle.wsm_relation.specs.Tally.{Tally, gained, lost, gains, losses}
+use Rattle.wsm_relation.specs.Delta.{Delta, gained, lost, gains, losses}
 use Rattle.wsm_firing.specs.declared.streams.Kept.{Kept}
 use Rattle.wsm_firing.specs.declared.streams.Kept.TheVariants.{Nothing, Changed, Rows}
 use Rattle.wsm_firing.specs.declared.streams.Side.{Side}
@@ -52,7 +52,7 @@ changed_row Lost mark row = Dstream mark row
 
 -- ---- what is reserved
 
-pub record HasRoomOfChanges (room : ℕ) (changes : Tally) : Type 0 where
+pub record HasRoomOfChanges (room : ℕ) (changes : Delta) : Type 0 where
   pub most : room ≤ MAX_PANES
   pub twice : changes.room ≡ room + room
 

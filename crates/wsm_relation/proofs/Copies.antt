@@ -13,7 +13,7 @@ use Rattle.wsm_semantics.specs.RowCounts.{IsInOrder, count_of}
 use Rattle.wsm_semantics.proofs.Lists.{all-each}
 use Rattle.wsm_semantics.proofs.RowOrder.{rows_total, same_rows}
 use Rattle.wsm_semantics.proofs.RowBags.{count-difference, difference-in_order, one_list}
-use Rattle.wsm_relation.specs.Tally.{IsTally, IsChange, number_of, copies, gained, lost, gains, losses}
+use Rattle.wsm_relation.specs.Delta.{IsDelta, IsChange, number_of, copies, gained, lost, gains, losses}
 use Rattle.wsm_relation.proofs.Numbers.{Entry, number-before}
 
 pub copies-append : (n : ℕ) (r : List Cell) (rows : List (List Cell)) → copies n r rows ≡ copies n r [] ++ rows
@@ -56,18 +56,18 @@ all_part : (f : ℤ → ℕ) (P : List Cell → Type 0) (es : List Entry) → Al
 all_part f P [] all = tt
 all_part f P (e ∷ es) all = all_copies P (f e.1) e.0 (part f es) all.0 (all_part f P es all.1)
 
-part-in_order : (f : ℤ → ℕ) (es : List Entry) → IsTally es → IsInOrder (part f es)
-part-in_order f [] tally = tt
-part-in_order f (e ∷ es) tally = copies-in_order (f e.1) e.0 (part f es) (all_part f (λ y. is_gt (row_cmp e.0 y) ≡ false) es (all-each (λ g. row_cmp e.0 g.0 ≡ Less) (λ g. is_gt (row_cmp e.0 g.0) ≡ false) es (λ g h. ap is_gt h) tally.0)) (part-in_order f es tally.2)
+part-in_order : (f : ℤ → ℕ) (es : List Entry) → IsDelta es → IsInOrder (part f es)
+part-in_order f [] delta = tt
+part-in_order f (e ∷ es) delta = copies-in_order (f e.1) e.0 (part f es) (all_part f (λ y. is_gt (row_cmp e.0 y) ≡ false) es (all-each (λ g. row_cmp e.0 g.0 ≡ Less) (λ g. is_gt (row_cmp e.0 g.0) ≡ false) es (λ g h. ap is_gt h) delta.0)) (part-in_order f es delta.2)
 
-count-part : (f : ℤ → ℕ) → f (pos 0) ≡ 0 → (q : List Cell) (es : List Entry) → IsTally es → count_of q (part f es) ≡ f (number_of q es)
-count-part f none q [] tally = sym none
-count-part f none q (e ∷ es) tally = elim (cases_Bool (is_eq (row_cmp q e.0))) [
+count-part : (f : ℤ → ℕ) → f (pos 0) ≡ 0 → (q : List Cell) (es : List Entry) → IsDelta es → count_of q (part f es) ≡ f (number_of q es)
+count-part f none q [] delta = sym none
+count-part f none q (e ∷ es) delta = elim (cases_Bool (is_eq (row_cmp q e.0))) [
   | inl here ↦
-      let before : number_of q es ≡ pos 0 = number-before q es (all-each (λ g. row_cmp e.0 g.0 ≡ Less) (λ g. row_cmp q g.0 ≡ Less) es (λ g h. ap (λ (x : List Cell). row_cmp x g.0) (same_rows q e.0 here) ∙ h) tally.0) in
-      let rest : count_of q (part f es) ≡ 0 = count-part f none q es tally.2 ∙ ap f before ∙ none in
+      let before : number_of q es ≡ pos 0 = number-before q es (all-each (λ g. row_cmp e.0 g.0 ≡ Less) (λ g. row_cmp q g.0 ≡ Less) es (λ g h. ap (λ (x : List Cell). row_cmp x g.0) (same_rows q e.0 here) ∙ h) delta.0) in
+      let rest : count_of q (part f es) ≡ 0 = count-part f none q es delta.2 ∙ ap f before ∙ none in
       count-copies q e.0 (f e.1) (part f es) ∙ rw here (omega arith)
-  | inr other ↦ count-copies q e.0 (f e.1) (part f es) ∙ rw other (let rest : count_of q (part f es) ≡ f (number_of q es) = count-part f none q es tally.2 in omega arith)
+  | inr other ↦ count-copies q e.0 (f e.1) (part f es) ∙ rw other (let rest : count_of q (part f es) ≡ f (number_of q es) = count-part f none q es delta.2 in omega arith)
 ]
 
 gains-part : (es : List Entry) → part gained es ≡ gains es
@@ -78,17 +78,17 @@ losses-part : (es : List Entry) → part lost es ≡ losses es
 losses-part [] = refl
 losses-part (e ∷ es) = ap (copies (lost e.1) e.0) (losses-part es)
 
-pub gains-in_order : (es : List Entry) → IsTally es → IsInOrder (gains es)
-gains-in_order es tally = rw (← gains-part es) (part-in_order gained es tally)
+pub gains-in_order : (es : List Entry) → IsDelta es → IsInOrder (gains es)
+gains-in_order es delta = rw (← gains-part es) (part-in_order gained es delta)
 
-pub losses-in_order : (es : List Entry) → IsTally es → IsInOrder (losses es)
-losses-in_order es tally = rw (← losses-part es) (part-in_order lost es tally)
+pub losses-in_order : (es : List Entry) → IsDelta es → IsInOrder (losses es)
+losses-in_order es delta = rw (← losses-part es) (part-in_order lost es delta)
 
-pub count-gains : (q : List Cell) (es : List Entry) → IsTally es → count_of q (gains es) ≡ gained (number_of q es)
-count-gains q es tally = ap (count_of q) (sym (gains-part es)) ∙ count-part gained refl q es tally
+pub count-gains : (q : List Cell) (es : List Entry) → IsDelta es → count_of q (gains es) ≡ gained (number_of q es)
+count-gains q es delta = ap (count_of q) (sym (gains-part es)) ∙ count-part gained refl q es delta
 
-pub count-losses : (q : List Cell) (es : List Entry) → IsTally es → count_of q (losses es) ≡ lost (number_of q es)
-count-losses q es tally = ap (count_of q) (sym (losses-part es)) ∙ count-part lost refl q es tally
+pub count-losses : (q : List Cell) (es : List Entry) → IsDelta es → count_of q (losses es) ≡ lost (number_of q es)
+count-losses q es delta = ap (count_of q) (sym (losses-part es)) ∙ count-part lost refl q es delta
 
 -- ---- what is gained and lost
 
@@ -116,13 +116,13 @@ pub lost-none : (z : ℤ) → int_lt z (pos 0) ≡ false → lost z ≡ 0
 lost-none (pos n) h = refl
 lost-none (negsuc n) h = absurd (cc)
 
-module _ (before now : List (List Cell)) (es : List Entry) (tally : IsTally es) (change : IsChange before now es) where
+module _ (before now : List (List Cell)) (es : List Entry) (delta : IsDelta es) (change : IsChange before now es) where
   -- the positive part is what is there more often than before
   pub gains-difference : IsInOrder now → gains es ≡ difference now before
-  gains-difference sorted = one_list (gains es) (difference now before) (gains-in_order es tally) (difference-in_order now before sorted) (λ q.
-      ap (count_of q) (sym (gains-part es)) ∙ count-part gained refl q es tally ∙ gained-less (number_of q es) (count_of q now) (count_of q before) (change q) ∙ sym (count-difference q now before))
+  gains-difference sorted = one_list (gains es) (difference now before) (gains-in_order es delta) (difference-in_order now before sorted) (λ q.
+      ap (count_of q) (sym (gains-part es)) ∙ count-part gained refl q es delta ∙ gained-less (number_of q es) (count_of q now) (count_of q before) (change q) ∙ sym (count-difference q now before))
 
   -- the negative part what is there less often
   pub losses-difference : IsInOrder before → losses es ≡ difference before now
-  losses-difference sorted = one_list (losses es) (difference before now) (losses-in_order es tally) (difference-in_order before now sorted) (λ q.
-      ap (count_of q) (sym (losses-part es)) ∙ count-part lost refl q es tally ∙ lost-less (number_of q es) (count_of q now) (count_of q before) (change q) ∙ sym (count-difference q before now))
+  losses-difference sorted = one_list (losses es) (difference before now) (losses-in_order es delta) (difference-in_order before now sorted) (λ q.
+      ap (count_of q) (sym (losses-part es)) ∙ count-part lost refl q es delta ∙ lost-less (number_of q es) (count_of q now) (count_of q before) (change q) ∙ sym (count-difference q before now))

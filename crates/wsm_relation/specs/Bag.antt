@@ -1,3 +1,4 @@
+-- A relation at an instant, as a clause sees it.
 use Rattle.std.specs.Prelude.{ℕ, List}
 use Rattle.wsm_record.specs.declared.cell.Cell.{Cell}
 

@@ -1,3 +1,3 @@
 pub mod Rows
 pub mod Bag
-pub mod Tally
+pub mod Delta

@@ -1,8 +1,9 @@
 //! Relations at an instant, and the streams of what they gain and lose (Arasu et al. 2006).
 //!
-//! A [`Relation`] is a bag of rows, kept in row order. [`istream`], [`dstream`] and [`rstream`] give
-//! the rows that one has more often than another, or all its rows. [`Changes`] gives the same from
-//! what was gained and lost in between.
+//! A [`Relation`] is a bag of rows, kept in row order. [`istream`], [`dstream`] and [`rstream`] are the
+//! operators on whole relations: they give the rows that one has more often than another, or all its
+//! rows. [`Changes`] gives the same from what was gained and lost in between. `wsm_firing` keeps what
+//! changed, and writes the rows of its streams itself, from [`Changes::get`] and [`Relation::get`].
 //!
 //! Where `row(n)` is a row of the one column n:
 //!

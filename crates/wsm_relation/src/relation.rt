@@ -31,7 +31,7 @@ impl Model for Relation {
 }
 
 impl Relation {
-    /// No rows, with room for so many, of so many columns each. No later call takes memory.
+    /// No rows, with room for so many of at most 16 columns each. No later call takes memory.
     ///
     /// # Errors
     ///
@@ -62,13 +62,6 @@ impl Relation {
         ensures { result ≡ nat_eq (length self.now.rows) 0 }
     {
         self.rows.is_empty()
-    }
-
-    /// How many columns its rows have.
-    pub fn columns(&self) -> usize
-        ensures { result ≡ self.now.columns }
-    {
-        self.columns
     }
 
     /// A row, by its place in row order.
