@@ -20,7 +20,8 @@ use Rattle.wsm_panes.proofs.Sorted.{before_within, put_between}
 use Rattle.wsm_panes.proofs.StoredEdits.{is_found}
 use Rattle.wsm_panes.proofs.Tables.{alike}
 
-not_behind : (o : Ordering) → is_lt o ≡ true → is_gt o ≡ false
+-- what is before another isn't past it
+pub not_behind : (o : Ordering) → is_lt o ≡ true → is_gt o ≡ false
 not_behind Less h = refl
 not_behind Equal h = absurd (true≢false (sym h))
 not_behind Greater h = absurd (true≢false (sym h))

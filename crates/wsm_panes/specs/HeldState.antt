@@ -1,3 +1,4 @@
+-- What is kept of the panes that are held: the tables of a shape.
 use Rattle.std.specs.Prelude.{◌≡◌, ◌≢◌, ◌*◌, ◌≤◌, ℕ, ℤ, List, []}
 use Rattle.std.specs.FinMap as map
 use Rattle.wsm_record.specs.declared.event.Value.{Value}

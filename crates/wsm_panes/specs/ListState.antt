@@ -1,3 +1,4 @@
+-- When what a list of panes keeps belongs together.
 use Rattle.std.specs.Prelude.{◌≡◌, length}
 use Rattle.wsm_panes.specs.declared.list.ListTable.TheInside.{Inside}
 use Rattle.wsm_panes.specs.Stored.{AreStored}

@@ -99,10 +99,6 @@ IsTakenOut p i os ns = ((pane_of p (slot_at os i) ≡ None) × (ns ≡ os)) ⊎ 
 abbrev pub AreInPlace : {P : Type 0} → Ring → List (Option (Place × P)) → Type 0
 AreInPlace r os = (i : ℕ) (e : Place × _) → slot_at os i ≡ Some e → IsOfRing r e.0 × (slot_of r e.0 ≡ i)
 
--- no entry starts after the last time
-abbrev pub AreUntil : {P : Type 0} → ℤ → List (Option (Place × P)) → Type 0
-AreUntil last os = (i : ℕ) (e : Place × _) → slot_at os i ≡ Some e → e.0.start ≤ℤ last
-
 -- no entry starts before the first time or after the last
 abbrev pub AreBetween : {P : Type 0} → ℤ → ℤ → List (Option (Place × P)) → Type 0
 AreBetween low high os = (i : ℕ) (e : Place × _) → slot_at os i ≡ Some e → (low ≤ℤ e.0.start) × (e.0.start ≤ℤ high)

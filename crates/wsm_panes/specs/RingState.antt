@@ -1,3 +1,4 @@
+-- A ring of panes, as a clause sees it.
 use Rattle.std.specs.Prelude.{ℕ, ℤ, Bool, refl}
 use Rattle.std.specs.FinMap as map
 use Rattle.std.specs.Coded.{Coded, code_by, coded×, coded_bool, coded_ℕ, coded_ℤ}

@@ -1,3 +1,4 @@
+-- When what a ring of panes keeps belongs together.
 use Rattle.std.specs.Prelude.{◌≡◌, ◌*◌, ◌+ℤ◌, length}
 use Rattle.std.specs.Int.{w64}
 use Rattle.std.specs.Int.RustNames.{FitsSigned}

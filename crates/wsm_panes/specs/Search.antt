@@ -1,3 +1,4 @@
+-- Where a search for a place ends.
 use Rattle.std.specs.Prelude.{◌≡◌, ℕ, ◌<◌, ◌≤◌, List, length, None, Some, slice_index_or, slice_set, insert}
 use Rattle.std.specs.FinMap.{find, put}
 use Rattle.wsm_windows.specs.declared.place.Place.{Place}

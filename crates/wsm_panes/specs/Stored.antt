@@ -35,11 +35,10 @@ abbrev pub listed : ℕ → List ℕ → ℕ
 listed s [] = 0
 listed s (r ∷ rs) = same r s + listed s rs
 
--- slots in a row, how many there are with the free ones, and those
+-- slots in a row, and how many there are with the free ones
 pub record Taken : Type 0 where
   pub row : List ℕ
   pub room : ℕ
-  pub free : List ℕ
 
 -- each slot below the room is in the row or free, once
 pub record AreApart (room : ℕ) (row free : List ℕ) : Type 0 where

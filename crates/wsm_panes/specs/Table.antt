@@ -1,3 +1,4 @@
+-- A list of panes, as a clause sees it.
 use Rattle.std.specs.Prelude.{ℕ, refl}
 use Rattle.std.specs.FinMap as map
 use Rattle.std.specs.Coded.{Coded, code_by, coded×, coded_ℕ}

@@ -1,3 +1,4 @@
+-- Walks over panes in the order of their places.
 use Rattle.std.specs.Prelude.{◌≡◌, if◌then◌else◌, ℤ, List, [], ◌∷◌, Option, Some, None, option_map}
 use Rattle.std.specs.Ordering.{is_lt}
 use Rattle.wsm_windows.specs.declared.place.Place.{Place}

@@ -6,9 +6,9 @@
 //! is reserved when it is opened. It is walked by end, then start, then key, so panes come in the order
 //! in which they fire and expire. [`ListTable`] keeps its slots in a row, in the order of the places of
 //! their panes, and [`RingTable`] in a ring, a row for each window, where a place has its slot without
-//! a search. A pane that a record comes into changes in its slot, as a [`TakesRecords`] says. Slots are
-//! as wide as the panes of their program, which [`Widths`] tells, and a pane that is held is read
-//! through a [`PaneView`].
+//! a search. A record is put into a pane where it lies; what comes of it is said by [`TakesRecords`].
+//! Slots are as wide as the panes of their program, which [`Widths`] tells, and a pane that is held is
+//! read through a [`PaneView`].
 //!
 //! Two records of one key in windows of 60, of which one number is summed:
 //!
@@ -41,7 +41,6 @@ pub use spot::Spot;
 pub use table::PaneTable;
 pub use view::PaneView;
 pub use widths::Widths;
-pub use wsm_windows::Place;
 
 mod entering;
 mod head;

@@ -102,9 +102,7 @@ impl RingTable {
         self.row = self.ring.first_row(self.row, time);
         self.row
     }
-}
 
-impl RingTable {
     /// Puts a record into the pane at a place, whose slot is told, and makes a pane of it where none
     /// is. The record is folded by the values.
     pub(crate) fn enter_at(&mut self, slot: usize, place: Place, kinds: &[Kind], values: &[Value])
@@ -123,9 +121,7 @@ impl RingTable {
             self.len += more;
         }
     }
-}
 
-impl RingTable {
     /// Has the pane at a spot have fired.
     #[inline(always)]
     pub(crate) fn fire(&mut self, spot: Spot, mode: Mode, row: Option<&[Cell]>)

@@ -1,6 +1,6 @@
 //! Slots in a row, and those that are free.
 
-ghost use Rattle.std.specs.Prelude.{◌≡◌, ◌+◌, ◌++◌, ◌<◌, ◌≤◌, ◌^◌, ℕ, [], ◌∷◌, Some, IfOk, if◌then◌else◌, drop, insert, length, nat_lt, slice_get, take, vec_len, vec_capacity};
+ghost use Rattle.std.specs.Prelude.{◌≡◌, ◌+◌, ◌++◌, ◌<◌, ◌≤◌, ◌^◌, ℕ, [], Some, IfOk, if◌then◌else◌, drop, insert, length, nat_lt, slice_get, take, vec_len, vec_capacity};
 ghost use Rattle.std.specs.List.{remove};
 ghost use Rattle.wsm_panes.specs.Stored.{listed};
 
@@ -8,7 +8,7 @@ use std::alloc::{AllocError, Global};
 use std::marker::Model;
 
 /// Numbers of slots, from 0 on. Some slots stand in a row, and the others are free. A clause sees the
-/// row, how many slots there are, and those that are free, the last freed last.
+/// row, and how many slots there are.
 #[derive(Drop)]
 pub(crate) struct SlotRow {
     row: Vec<u32>,
@@ -21,7 +21,7 @@ impl Model for SlotRow {
 
     ghost Value = { Taken };
 
-    ghost view = { λ a. record { row = a.row.items; room = vec_capacity a.row; free = a.free.items } };
+    ghost view = { λ a. record { row = a.row.items; room = vec_capacity a.row } };
 
     ghost invariant = { λ a. AreApart (vec_capacity a.row) a.row.items a.free.items × (vec_capacity a.free ≡ vec_capacity a.row) };
 }
@@ -72,7 +72,6 @@ impl SlotRow {
         requires room { length self.old.row < self.old.room }
         ensures row { self.new.row ≡ insert self.old.row at result }
         ensures fresh { listed result self.old.row ≡ 0 }
-        ensures last { self.old.free ≡ self.new.free ++ result ∷ [] }
         ensures within { result < self.old.room }
         ensures room { self.new.room ≡ self.old.room }
     {
@@ -87,7 +86,6 @@ impl SlotRow {
         ensures row { self.new.row ≡ remove self.old.row at }
         ensures room { self.new.room ≡ self.old.room }
         ensures left { length self.new.row < self.new.room }
-        ensures freed { (slot : ℕ) → slice_get self.old.row at ≡ Some slot → self.new.free ≡ self.old.free ++ slot ∷ [] }
     {
         let slot = self.row[at];
         take_number(&mut self.row, at);

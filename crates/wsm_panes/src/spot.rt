@@ -17,7 +17,7 @@ pub struct Spot {
 }
 
 impl Spot {
-    /// The same, put together anew from its fields. A copy would carry along the bytes between them.
+    /// The same spot, put together anew from its fields. A copy would carry along the bytes between them.
     #[inline(always)]
     pub fn rebuilt(self) -> Spot
         ensures { result ≡ self }
@@ -28,7 +28,7 @@ impl Spot {
         }
     }
 
-    /// The same of what a call found. A call hands its answer over in memory, where all that is merged with
+    /// The same spot, if a call found one. A call hands its answer over in memory, where all that is merged with
     /// it would lie too.
     #[inline(always)]
     pub fn rebuilt_found(found: Option<Spot>) -> Option<Spot>

@@ -123,8 +123,8 @@ impl<'a> PaneView<'a> {
         }
     }
 
-    /// The same, put together anew from its fields. A call hands its answer over in memory, where all that is
-    /// merged with it would lie too.
+    /// The same view, put together anew from its fields. A call hands its answer over in memory, where all
+    /// that is merged with it would lie too.
     #[inline(always)]
     pub(crate) fn rebuilt(self) -> PaneView<'a>
         ensures { result ≡ self.entry }
@@ -142,7 +142,7 @@ impl<'a> PaneView<'a> {
 }
 
 impl<'a> RowView<'a> {
-    // The same, put together anew.
+    // The same cells of a row, put together anew.
     #[inline(always)]
     fn rebuilt(self) -> RowView<'a>
         ensures { result ≡ self.entry }

@@ -1,8 +1,8 @@
-use Rattle.std.proofs.Common.{refl, ◌≡◌, ◌+◌, ◌++◌, ◌∷◌, [], Some, ap, sym, ◌∙◌, arith, length-append}
+use Rattle.std.proofs.Common.{refl, ◌≡◌, ◌+◌, ◌∷◌, [], Some, ap, sym, ◌∙◌, arith, length-append}
 use Rattle.std.specs.Prelude.{length, slice_get}
 use Rattle.wsm_panes.specs.Stored.{listed}
 use Rattle.std.proofs.lemmas.List.Edits.{length-remove}
-use Rattle.std.proofs.lemmas.Option.{same_Some, slice_get_read}
+use Rattle.std.proofs.lemmas.Option.{slice_get_read}
 use Rattle.wsm_panes.proofs.SlotRows.{listed-append, listed_less}
 use Rattle.wsm_panes.proofs.slot_row.SlotRow.remove.Goals as goal
 use Rattle.wsm_panes.proofs.slot_row.SlotRow.remove.Goals.{After-push_reserved}
@@ -29,9 +29,3 @@ invariant_of-self c =
       }),
       c.push_reserved.ensures.capacity ∙ c.self.invariant.1 ∙ sym c.take_number.ensures.capacity,
     )
-
-pub returns-clause-freed : goal.returns-clause-freed
-returns-clause-freed c slot at =
-    let a = c.self.inside in
-    let same : c.index-slot.result.now ≡ slot = same_Some _ _ (sym (stood (goal.at.returns-clause-freed c).After-push_reserved) ∙ rw (← c.self.view_is) at at) in
-    rw (← c.self.view_is) (c.push_reserved.ensures.items ∙ ap (λ s. a.free.items ++ s ∷ []) same)
