@@ -5,23 +5,36 @@ use wsm_record::{Kind, Name};
 /// The operators whose two operands are always evaluated.
 #[derive(Clone, Copy, Debug, PartialEq, Eq)]
 pub enum Op {
+    /// The sum, `+`.
     Add,
+    /// The difference, `-`.
     Sub,
+    /// The product, `*`.
     Mul,
+    /// The quotient truncated toward 0, `/`.
     Div,
+    /// What that quotient leaves, with the sign of the left operand, `%`.
     Rem,
+    /// Whether both are the same, `=`.
     Eq,
+    /// Whether they differ, `<>`.
     Ne,
+    /// Whether the left is less, `<`.
     Lt,
+    /// Whether the left is at most the right, `<=`.
     Le,
+    /// Whether the left is greater, `>`.
     Gt,
+    /// Whether the left is at least the right, `>=`.
     Ge,
 }
 
 /// An expression, with a case for each form of the grammar, brackets too.
 #[derive(Drop)]
 pub enum Expr {
+    /// A whole number. Its sign, if it has one, is `Minus`.
     Number(i64),
+    /// `TRUE` or `FALSE`.
     Truth(bool),
     /// A field of the record.
     Field(Name),
@@ -33,13 +46,20 @@ pub enum Expr {
     KeyName(Name),
     /// `COUNT(*)`: how many records there are.
     Count,
+    /// `SUM(a)`: the values of the records, folded.
     Aggregate(Kind, Box<Expr>),
-    /// `IF a THEN b ELSE c END`
+    /// `IF a THEN b ELSE c END`: the second where the first is true, else the third.
     If(Box<Expr>, Box<Expr>, Box<Expr>),
+    /// `(a)`: the same, in brackets.
     Brackets(Box<Expr>),
+    /// `-a`: the number with its sign turned.
     Minus(Box<Expr>),
+    /// `NOT a`: whether it is false.
     Not(Box<Expr>),
+    /// An operator between its two operands.
     Binary(Op, Box<Expr>, Box<Expr>),
+    /// `a AND b`: whether both are true; the right one is evaluated only where the left is true.
     And(Box<Expr>, Box<Expr>),
+    /// `a OR b`: whether one is true; the right one is evaluated only where the left is false.
     Or(Box<Expr>, Box<Expr>),
 }

@@ -18,7 +18,9 @@ pub struct Budget {
 /// A query, with a field for each clause.
 #[derive(Drop)]
 pub struct Query {
+    /// The keys that records are grouped by, in the order of their clause.
     pub keys: Vec<Name>,
+    /// What each record has, in the order of the clauses.
     pub fields: Vec<Field>,
     /// The sources of watermarks, in the order of their clause. A query without the clause has none.
     pub sources: Vec<Name>,
@@ -32,17 +34,22 @@ pub struct Query {
     pub from_window: bool,
     /// How many records are admitted.
     pub records: i64,
+    /// What the query states that it needs. Without it the program states its need.
     pub budget: Option<Budget>,
     /// What is selected.
     pub columns: Vec<Expr>,
-    /// WHERE
+    /// WHERE: which records are selected.
     pub condition: Option<Expr>,
+    /// HAVING: which panes are shown.
     pub having: Option<Expr>,
+    /// How event time is cut into windows.
     pub shape: Shape,
+    /// What a firing's columns are computed over.
     pub mode: Mode,
     /// After how many unshown records a pane fires early.
     pub early: Option<i64>,
     /// After how many unshown records a pane fires late.
     pub late: Option<i64>,
+    /// What is written.
     pub form: Form,
 }
