@@ -10,8 +10,8 @@ use Rattle.wsm_record.specs.declared.schema.Field.{Field as CodeField}
 use Rattle.wsm_record.specs.declared.schema.DeclaredField.{DeclaredField as KeptField}
 use Rattle.wsm_record.specs.Schema.{FieldType, DeclaredField, are_fields_after, is_field_after, is_source_count}
 use Rattle.wsm_record.specs.Schema as field_types
-use Rattle.wsm_query.specs.Tree.{Name, Query}
-use Rattle.wsm_record.specs.Fields.{declared_field, declared_type, field_seen}
+use Rattle.wsm_query.specs.Tree.{Name}
+use Rattle.wsm_record.specs.Fields.{declared_field, field_seen}
 use Rattle.wsm_record.proofs.Schemas.{fields_more}
 use Rattle.wsm_check.specs.declared.refusal.CheckRefusal.{CheckRefusal}
 use Rattle.wsm_check.specs.declared.refusal.CheckRefusal.TheVariants.{Memory}
@@ -21,7 +21,7 @@ use Rattle.wsm_check.specs.declared.refusal.CheckFault.TheVariants.{Duplicate, L
 use Rattle.wsm_check.specs.declared.refusal.Part.TheVariants as part
 use Rattle.wsm_check.specs.Names.{field_names, names_of}
 use Rattle.wsm_check.specs.Terms.{few_names}
-use Rattle.wsm_check.specs.Checks.{Judges, or_else, first, unless, names_refusal, ty_refusal, field_refusal, fields_refusal, declared_checks, declared_refusal, number_checks, numbers_refusal, expression_checks, code_fits, refusal, grouped_refusal}
+use Rattle.wsm_check.specs.Checks.{Judges, or_else, unless, names_refusal, ty_refusal, field_refusal, fields_refusal}
 
 stopped : (r s : Option CheckRefusal) (e : CheckRefusal) → r ≡ Some e → or_else r s ≡ Some e
 stopped None s e h = cc
@@ -63,13 +63,6 @@ field_refused before d e few new (inr h) =
     let ty : ty_refusal p d.type ≡ Some e = ap (λ n. ty_refusal (part.Field n) d.type) (ap suc counted ∙ sym (add-one (length before))) ∙ h in
     inr (none_behind _ _ room ∙ none_behind _ _ fresh ∙ stopped (ty_refusal p d.type) None e ty)
 
-three_first : (a b d rest : Option CheckRefusal) → or_else a (or_else b (or_else d (or_else rest None))) ≡ or_else (or_else a (or_else b (or_else d None))) rest
-three_first None None None None = refl
-three_first None None None (Some f) = refl
-three_first None None (Some f) rest = refl
-three_first None (Some f) d rest = refl
-three_first (Some f) b d rest = refl
-
 abbrev names_to : ℕ → List CodeField → List Name
 names_to i fields = field_names (map declared_field (take i fields))
 
@@ -81,14 +74,12 @@ fields_next : (fields : List CodeField) (i : ℕ) (f : CodeField) → i < length
     refusal_from i fields ≡ or_else (field_refusal (names_to i fields) (declared_field f)) (refusal_from (i + 1) fields)
 fields_next fields i f h e =
     let before = names_to i fields in
-    let p = part.Field (suc (length before)) in
     let rest : drop i fields ≡ f ∷ drop (suc i) fields = drop-cons fields i f h ∙ ap (λ y. y ∷ drop (suc i) fields) (sym e) in
     let more : before ++ f.name ∷ [] ≡ names_to (i + 1) fields =
     sym (map-append (λ (d : DeclaredField). d.name) (map declared_field (take i fields)) (declared_field f ∷ []))
     ∙ ap field_names (sym (map-append declared_field (take i fields) (f ∷ [])))
     ∙ ap (λ y. field_names (map declared_field (take i fields ++ y ∷ []))) e ∙ ap (λ (ds : List CodeField). field_names (map declared_field ds)) (sym (take_more fields i f h)) in
     ap (λ (ds : List CodeField). fields_refusal before (map declared_field ds)) rest
-    ∙ three_first (unless (nat_lt (length before) 16) Limit p) (unless (not (is_among f.name before)) Duplicate p) (ty_refusal p (declared_type f.ty)) (fields_refusal (before ++ f.name ∷ []) (map declared_field (drop (suc i) fields)))
     ∙ ap₂ (λ (names : List Name) (n : ℕ). or_else (field_refusal before (declared_field f)) (fields_refusal names (map declared_field (drop n fields)))) more (sym (add-one i))
 
 -- the first i fields pass and are kept, and the others are still to be checked
@@ -125,21 +116,6 @@ next_refused fields i kept f r h e before (inr refused) =
 pub all_passed : (fields : List CodeField) (i : ℕ) (kept : List KeptField) → length fields ≤ i → PassedTo fields i kept → fields_refusal [] (map declared_field fields) ≡ None
 all_passed fields i kept end before = before.rest ∙ ap (λ (ds : List CodeField). fields_refusal (names_to i fields) (map declared_field ds)) (drop_all i fields end)
 
-one_behind_two : (a b d : Option CheckRefusal) → or_else (or_else a b) d ≡ or_else a (or_else b d)
-one_behind_two None b d = refl
-one_behind_two (Some r) b d = refl
-
-first_of_both : (xs ys : List (Option CheckRefusal)) → or_else (first xs) (first ys) ≡ first (xs ++ ys)
-first_of_both [] ys = refl
-first_of_both (x ∷ xs) ys = one_behind_two x (first xs) (first ys) ∙ ap (or_else x) (first_of_both xs ys)
-
-pub in_groups : (q : Query) → grouped_refusal q ≡ refusal q
-in_groups q =
-    let code : List (Option CheckRefusal) = unless (code_fits q) Limit part.Code ∷ [] in
-    let rest = expression_checks q ++ code in
-    ap (or_else (declared_refusal q)) (ap (or_else (numbers_refusal q)) (first_of_both (expression_checks q) code) ∙ first_of_both (number_checks q) rest)
-    ∙ first_of_both (declared_checks q) (number_checks q ++ rest)
-
 pub passed_unless : (b : Bool) (f : CheckFault) (p : Part) (s : Option CheckRefusal) → or_else (unless b f p) s ≡ None → (b ≡ true) × (s ≡ None)
 passed_unless true f p s h = (refl, h)
 passed_unless false f p s h = cc
@@ -165,13 +141,13 @@ fields_passed : (names : List Name) (ds : List DeclaredField) → length names �
 fields_passed names [] l h = (omega arith, refl)
 fields_passed names (d ∷ ds) l h =
     let p = part.Field (suc (length names)) in
-    let a = passed_unless (nat_lt (length names) 16) Limit p _ h in
+    let f = passed_both (field_refusal names d) _ h in
+    let a = passed_unless (nat_lt (length names) 16) Limit p _ f.0 in
     let b = passed_unless (not (is_among d.name names)) Duplicate p _ a.1 in
-    let e = passed_both (ty_refusal p d.type) _ b.1 in
-    let f = passed_both (fields_refusal (names ++ d.name ∷ []) ds) None e.1 in
+    let e = passed_both (ty_refusal p d.type) None b.1 in
     let below = ltb-true (length names) 16 a.0 in
     let more = length-append names (d.name ∷ []) in
-    let there = fields_passed (names ++ d.name ∷ []) ds (omega arith) f.0 in
+    let there = fields_passed (names ++ d.name ∷ []) ds (omega arith) f.1 in
     (omega (arith, there.0), and_from (few_names d) (list_all few_names ds) (few_in_type p d.type e.0) there.1)
 
 pub few_fields : (fields : List CodeField) → fields_refusal [] (map declared_field fields) ≡ None → length fields ≤ 16

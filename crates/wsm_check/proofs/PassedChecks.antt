@@ -13,7 +13,7 @@ use Rattle.wsm_check.specs.Checks.{first, unless, names_refusal, fields_refusal,
 use Rattle.wsm_check.specs.Terms.{is_flat}
 use Rattle.wsm_check.specs.Parts.{MayBeResolved, aggregates_of}
 use Rattle.wsm_check.proofs.Flat.{flat, plain, first_ok}
-use Rattle.wsm_check.proofs.ChecksInOrder.{in_groups, passed_both, passed_unless, few_of_names, short_lists}
+use Rattle.wsm_check.proofs.ChecksInOrder.{passed_both, passed_unless, few_of_names, short_lists}
 use Rattle.wsm_check.proofs.ResolvedTerms.{flat_map-append}
 
 -- ---- aggregates are as many as their accumulators
@@ -80,7 +80,7 @@ passed q h =
     let having = condition_refusal q InColumn part.Having q.having in
     let columns = columns_refusal q 0 q.columns in
     let condition = condition_refusal q InWhere part.Where q.condition in
-    let h1 = passed_both (declared_refusal q) (first (numbers_refusal q ∷ expressions_refusal q ∷ code ∷ [])) (in_groups q ∙ h) in
+    let h1 = passed_both (declared_refusal q) (first (numbers_refusal q ∷ expressions_refusal q ∷ code ∷ [])) h in
     let keys = passed_both (names_refusal part.Keys q.keys) (first (fields_refusal [] q.fields ∷ sources_refusal q.sources ∷ [])) h1.0 in
     let fields = passed_both (fields_refusal [] q.fields) (first (sources_refusal q.sources ∷ [])) keys.1 in
     let h2 = passed_both (numbers_refusal q) (first (expressions_refusal q ∷ code ∷ [])) h1.1 in

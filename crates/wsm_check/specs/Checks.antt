@@ -1,12 +1,13 @@
 -- The checks of a query, in their order: the first refusal decides, and names its part.
 use Rattle.std.specs.Prelude.{◌≡◌, ℕ, suc, ◌*◌, Bool, true, ◌&&◌, not, cond, List, [], ◌∷◌, ◌++◌, length, ℤ, pos, int_le, nat_le, nat_lt, Option, Some, None, Result, Ok, Err, ◌⊎◌}
-use Rattle.wsm_record.specs.declared.limits.TheConstants.{LATEST_TIME, LONGEST_SPAN, MAX_ACCUMULATORS, MAX_COLUMNS, MAX_FIELDS, MAX_NAMES, MAX_PANES, MAX_SECTION, MAX_STACK, MAX_STATED}
+use Rattle.wsm_record.specs.declared.limits.TheConstants.{MAX_ACCUMULATORS, MAX_COLUMNS, MAX_FIELDS, MAX_NAMES, MAX_PANES, MAX_SECTION, MAX_STACK, MAX_STATED}
 use Rattle.wsm_record.specs.Name.{is_among}
 use Rattle.wsm_record.specs.Modes.{may_write}
 use Rattle.wsm_windows.specs.declared.window.Shape.{Shape}
 use Rattle.wsm_windows.specs.declared.window.Shape.TheVariants.{Fixed, Sliding, Session}
 use Rattle.wsm_windows.specs.Life.{live_bound}
-use Rattle.wsm_record.specs.Schema.{FieldType, DeclaredField, is_source_count}
+use Rattle.wsm_windows.specs.Limits.{is_shape, is_size, is_span, is_time}
+use Rattle.wsm_record.specs.Schema.{FieldType, DeclaredField, is_source_count, is_within}
 use Rattle.wsm_record.specs.Schema as field_types
 use Rattle.wsm_query.specs.Tree.{Name, Budget, Query, Expr}
 use Rattle.wsm_check.specs.declared.refusal.CheckFault.{CheckFault}
@@ -32,9 +33,6 @@ abbrev pub first : List (Option CheckRefusal) → Option CheckRefusal
 first [] = None
 first (r ∷ rs) = or_else r (first rs)
 
-abbrev pub in_range : ℤ → ℤ → ℤ → Bool
-in_range lo hi n = int_le lo n && int_le n hi
-
 -- 1 to 1,000 names, none of them twice
 abbrev pub names_refusal : Part → List Name → Option CheckRefusal
 names_refusal p xs = first (unless (nat_le 1 (length xs) && nat_le (length xs) MAX_NAMES) Limit p ∷ unless (not (has_repeats xs)) Duplicate p ∷ [])
@@ -50,42 +48,24 @@ field_refusal names d =
     let p = part.Field (suc (length names)) in
     first (unless (nat_lt (length names) MAX_FIELDS) Limit p ∷ unless (not (is_among d.name names)) Duplicate p ∷ ty_refusal p d.type ∷ [])
 
--- of the fields behind those with the names: at most 16, and none of a name twice
+-- of the fields behind those with the names
 abbrev pub fields_refusal : List Name → List DeclaredField → Option CheckRefusal
 fields_refusal names [] = None
-fields_refusal names (d ∷ ds) =
-    let p = part.Field (suc (length names)) in
-    first (unless (nat_lt (length names) MAX_FIELDS) Limit p ∷ unless (not (is_among d.name names)) Duplicate p ∷ ty_refusal p d.type ∷ fields_refusal (names ++ d.name ∷ []) ds ∷ [])
+fields_refusal names (d ∷ ds) = or_else (field_refusal names d) (fields_refusal (names ++ d.name ∷ []) ds)
 
 -- where sources are declared, 2 to 16 of them, none of them twice
 abbrev pub sources_refusal : List Name → Option CheckRefusal
 sources_refusal xs = first (unless (is_source_count (length xs)) Limit part.Sources ∷ unless (not (has_repeats xs)) Duplicate part.Sources ∷ [])
 
-abbrev pub is_time : ℤ → Bool
-is_time n = in_range (pos 0) LATEST_TIME n
-
--- how far a record may be ahead or behind
-abbrev pub is_span : ℤ → Bool
-is_span n = in_range (pos 0) LONGEST_SPAN n
-
--- a number of records, a size, a period or a gap
-abbrev pub is_count : ℤ → Bool
-is_count n = in_range (pos 1) LONGEST_SPAN n
-
 abbrev pub clock_fits : Query → Bool
-clock_fits q = is_time q.start && (is_span q.skew && (is_span q.lateness && is_count q.records))
+clock_fits q = is_time q.start && (is_span q.skew && (is_span q.lateness && is_size q.records))
 
 abbrev pub is_cost : ℤ → Bool
-is_cost n = in_range (pos 1) (pos MAX_STATED) n
+is_cost n = is_within (pos 1) (pos MAX_STATED) n
 
 abbrev pub budget_fits : Option Budget → Bool
 budget_fits None = true
-budget_fits (Some b) = is_cost b.per_record && (is_cost b.per_pane && in_range (pos 1) (pos MAX_PANES) b.held)
-
-abbrev pub shape_fits : Shape → Bool
-shape_fits (Fixed s) = is_count s
-shape_fits (Sliding s d) = is_count s && (is_count d && int_le d s)
-shape_fits (Session g) = is_count g
+budget_fits (Some b) = is_cost b.per_record && (is_cost b.per_pane && is_within (pos 1) (pos MAX_PANES) b.held)
 
 -- lateness isn't counted from the end of a session, which moves
 abbrev pub lateness_fits : Bool → Shape → Bool
@@ -95,7 +75,7 @@ lateness_fits from_window (Session g) = not from_window
 
 abbrev pub every_fits : Option ℤ → Bool
 every_fits None = true
-every_fits (Some n) = is_count n
+every_fits (Some n) = is_size n
 
 abbrev pub typed_refusal : Part → Typed → Option CheckRefusal
 typed_refusal p (Ok t) = None
@@ -121,55 +101,33 @@ code_fits q =
     && (nat_le (fire_size q) MAX_SECTION
     && (nat_le (stack_need q) MAX_STACK && nat_le (length q.keys * live_bound q.shape q.skew q.lateness) MAX_PANES))))
 
-abbrev pub refusal : Query → Option CheckRefusal
-refusal q =
-    first (
-    names_refusal part.Keys q.keys
-    ∷ fields_refusal [] q.fields
-    ∷ sources_refusal q.sources
-    ∷ unless (clock_fits q) Limit part.Clock
-    ∷ unless (budget_fits q.budget) Limit part.Budget
-    ∷ unless (shape_fits q.shape) Limit part.Window
-    ∷ unless (lateness_fits q.from_window q.shape) SessionLateness part.Window
-    ∷ unless (every_fits q.early && every_fits q.late) Limit part.Trigger
-    ∷ unless (may_write q.mode q.form) StreamNeedsAccumulating part.Emit
-    ∷ condition_refusal q InWhere part.Where q.condition
-    ∷ columns_refusal q 0 q.columns
-    ∷ condition_refusal q InColumn part.Having q.having
-    ∷ unless (code_fits q) Limit part.Code
-    ∷ [])
+-- of what the query declares
+abbrev pub declared_refusal : Query → Option CheckRefusal
+declared_refusal q = first (names_refusal part.Keys q.keys ∷ fields_refusal [] q.fields ∷ sources_refusal q.sources ∷ [])
 
--- of the clauses of numbers, and the form
-abbrev pub number_checks : Query → List (Option CheckRefusal)
-number_checks q =
+-- of its numbers, and of the form
+abbrev pub numbers_refusal : Query → Option CheckRefusal
+numbers_refusal q =
+    first (
     unless (clock_fits q) Limit part.Clock
     ∷ unless (budget_fits q.budget) Limit part.Budget
-    ∷ unless (shape_fits q.shape) Limit part.Window
+    ∷ unless (is_shape q.shape) Limit part.Window
     ∷ unless (lateness_fits q.from_window q.shape) SessionLateness part.Window
     ∷ unless (every_fits q.early && every_fits q.late) Limit part.Trigger
     ∷ unless (may_write q.mode q.form) StreamNeedsAccumulating part.Emit
-    ∷ []
-
-abbrev pub numbers_refusal : Query → Option CheckRefusal
-numbers_refusal q = first (number_checks q)
-
--- of what the query declares
-abbrev pub declared_checks : Query → List (Option CheckRefusal)
-declared_checks q = names_refusal part.Keys q.keys ∷ fields_refusal [] q.fields ∷ sources_refusal q.sources ∷ []
-
-abbrev pub declared_refusal : Query → Option CheckRefusal
-declared_refusal q = first (declared_checks q)
+    ∷ [])
 
 -- of its expressions
-abbrev pub expression_checks : Query → List (Option CheckRefusal)
-expression_checks q = condition_refusal q InWhere part.Where q.condition ∷ columns_refusal q 0 q.columns ∷ condition_refusal q InColumn part.Having q.having ∷ []
-
 abbrev pub expressions_refusal : Query → Option CheckRefusal
-expressions_refusal q = first (expression_checks q)
+expressions_refusal q =
+    first (
+    condition_refusal q InWhere part.Where q.condition
+    ∷ columns_refusal q 0 q.columns
+    ∷ condition_refusal q InColumn part.Having q.having
+    ∷ [])
 
--- the same checks, in groups
-abbrev pub grouped_refusal : Query → Option CheckRefusal
-grouped_refusal q = first (declared_refusal q ∷ numbers_refusal q ∷ expressions_refusal q ∷ unless (code_fits q) Limit part.Code ∷ [])
+abbrev pub refusal : Query → Option CheckRefusal
+refusal q = first (declared_refusal q ∷ numbers_refusal q ∷ expressions_refusal q ∷ unless (code_fits q) Limit part.Code ∷ [])
 
 -- no check refuses the query
 abbrev pub IsChecked : Query → Type 0

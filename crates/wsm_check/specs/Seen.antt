@@ -1,14 +1,12 @@
 -- What the code has of a checked query, without pointers.
-use Rattle.std.specs.Prelude.{◌≡◌, map, option_map}
-use Rattle.wsm_query.specs.Tree.{Query}
+use Rattle.std.specs.Prelude.{map, option_map}
 use Rattle.wsm_query.specs.Seen.{seen_budget}
 use Rattle.wsm_check.specs.declared.term.Term.{Term as Code}
 use Rattle.wsm_check.specs.declared.term.Term.TheVariants as code
 use Rattle.wsm_check.specs.declared.parts.Folding.{Folding as CodeFolding}
 use Rattle.wsm_check.specs.declared.parts.Parts.{Parts as CodeParts}
-use Rattle.wsm_check.specs.declared.parts.Terms.{Terms}
 use Rattle.wsm_check.specs.Terms.{Term, Number, Truth, Field, Name, Key, Count, Accumulator, If, Minus, Not, Binary, And, Or}
-use Rattle.wsm_check.specs.Parts.{Folding, Parts, parts_of}
+use Rattle.wsm_check.specs.Parts.{Folding, Parts}
 
 abbrev pub seen_term : Code → Term
 seen_term (code.Number n) = Number n
@@ -48,11 +46,3 @@ seen_parts p = record {
   columns = map seen_term p.columns.items;
   having = option_map seen_term p.having;
 }
-
--- these are the terms of the query's expressions
-pub record AreTermsOf (q : Query) (t : Terms) : Type 0 where
-  pub condition : option_map seen_term t.condition ≡ (parts_of q).condition
-  pub foldings : map seen_folding t.foldings.items ≡ (parts_of q).foldings
-  pub types : t.types.items ≡ (parts_of q).types
-  pub columns : map seen_term t.columns.items ≡ (parts_of q).columns
-  pub having : option_map seen_term t.having ≡ (parts_of q).having

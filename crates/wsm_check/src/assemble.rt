@@ -1,4 +1,4 @@
-//! The terms of all expressions of a query.
+//! What a query that passed the checks has, put together.
 
 ghost use Rattle.std.specs.Prelude.{◌≡◌, ◌≤◌, ◌+◌, ◌++◌, length, map, option_map, true, IfOk, OnOk};
 ghost use Rattle.std.specs.List.{flat_map, list_all};
@@ -6,24 +6,25 @@ ghost use Rattle.wsm_query.specs.Seen.{seen, seen_expr};
 ghost use Rattle.wsm_check.specs.Sizes.{accumulators_of, fired, in_option};
 ghost use Rattle.wsm_check.specs.Spelt.{numbers_fit};
 ghost use Rattle.wsm_check.specs.Terms.{has_few_names, is_flat, resolved};
-ghost use Rattle.wsm_check.specs.Parts.{MayBeResolved, aggregates_of, column_type, columns_from, folding};
-ghost use Rattle.wsm_check.specs.Seen.{AreTermsOf, seen_folding, seen_term};
+ghost use Rattle.wsm_check.specs.Parts.{MayBeResolved, aggregates_of, column_type, columns_from, folding, parts_of, schema_of};
+ghost use Rattle.wsm_check.specs.Seen.{seen_folding, seen_parts, seen_term};
 
-use crate::parts::{Folding, Terms};
+use crate::judging::Judged;
+use crate::parts::{Folding, Parts};
 use crate::resolve::resolve;
 use crate::term::Term;
 use std::alloc::{AllocError, Global};
 use wsm_query::{Expr, Query};
-use wsm_record::CellType;
 use wsm_record::limits::{MAX_ACCUMULATORS, MAX_FIELDS};
 
-/// The terms of all expressions, with the types of the columns.
+/// What the query has: its schema, its numbers, and the terms of its expressions.
 #[tactic(auto, using(crate::proofs::ResolvedTerms::all_parts))]
-pub fn terms_of(alloc: Global, query: &Query, types: Vec<CellType>) -> Result<Terms, AllocError>
-    requires types { types.items ≡ map (column_type (seen query.now)) (seen query.now).columns }
+pub fn parts_of(alloc: Global, query: &Query, judged: Judged) -> Result<Parts, AllocError>
+    requires schema { judged.schema ≡ schema_of (seen query.now) }
+    requires types { judged.types.items ≡ map (column_type (seen query.now)) (seen query.now).columns }
     requires fields { length query.now.fields.items ≤ MAX_FIELDS }
     requires resolved { MayBeResolved (seen query.now) }
-    ensures terms { IfOk result (AreTermsOf (seen query.now)) }
+    ensures parts { IfOk result (λ p. seen_parts p ≡ parts_of (seen query.now)) }
     ensures spelt { let q = seen query.now in OnOk result (list_all numbers_fit (in_option q.condition ++ fired q) ≡ true) }
 {
     let mut none = Vec::new(alloc);
@@ -32,10 +33,22 @@ pub fn terms_of(alloc: Global, query: &Query, types: Vec<CellType>) -> Result<Te
     let mut columns = Vec::new(alloc);
     resolve_columns(alloc, query, &query.columns, &mut foldings, &mut columns)?;
     let having = resolve_option(alloc, query, &query.having, &mut foldings)?;
-    Ok(Terms {
+    Ok(Parts {
+        schema: judged.schema,
+        start: query.start,
+        skew: query.skew,
+        lateness: query.lateness,
+        from_window: query.from_window,
+        records: query.records,
+        budget: query.budget,
+        shape: query.shape,
+        mode: query.mode,
+        early: query.early,
+        late: query.late,
+        form: query.form,
         condition,
         foldings,
-        types,
+        types: judged.types,
         columns,
         having,
     })

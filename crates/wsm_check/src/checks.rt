@@ -4,22 +4,22 @@ ghost use Rattle.std.specs.Prelude.{◌≡◌, ◌⊎◌, Some, IfOk, IfErr, OnO
 ghost use Rattle.wsm_query.specs.Seen.{seen};
 ghost use Rattle.wsm_check.specs.Checks.{IsChecked, refusal};
 ghost use Rattle.wsm_check.specs.Spelt.{IsSpelt};
-ghost use Rattle.wsm_check.specs.Parts.{parts_of, schema_of};
-ghost use Rattle.wsm_check.specs.Seen.{AreTermsOf, seen_parts};
+ghost use Rattle.wsm_check.specs.Parts.{parts_of};
+ghost use Rattle.wsm_check.specs.Seen.{seen_parts};
 
-use crate::assemble::terms_of;
+use crate::assemble::parts_of;
 use crate::checked::Checked;
 use crate::judging::judge;
-use crate::parts::{Parts, Terms};
+use crate::parts::Parts;
 use crate::refusal::CheckRefusal;
 use std::alloc::Global;
 use wsm_query::Query;
-use wsm_record::Schema;
 
 /// The query as a checked one, or the first check that refuses it. A query that isn't taken is
 /// handed back.
 pub fn check(alloc: Global, query: Query) -> Result<Checked, (Query, CheckRefusal)>
     ensures checked { IfOk result (λ _. IsChecked (seen query)) }
+    ensures spelt { IfOk result (λ _. IsSpelt (seen query)) }
     ensures parts { IfOk result (λ c. seen_parts c.parts ≡ parts_of (seen query)) }
     ensures refused { IfErr result (λ e. (e.1 ≡ CheckRefusal.Memory) ⊎ (refusal (seen query) ≡ Some e.1)) }
     ensures handed_back { IfErr result (λ e. e.0 ≡ query) }
@@ -38,32 +38,5 @@ fn checked_parts(alloc: Global, query: &Query) -> Result<Parts, CheckRefusal>
     ensures refused { IfErr result (λ e. (e ≡ CheckRefusal.Memory) ⊎ (refusal (seen query.now) ≡ Some e)) }
 {
     let judged = judge(alloc, query)?;
-    let terms = terms_of(alloc, query, judged.types)?;
-    Ok(put_together(query, judged.schema, terms))
-}
-
-fn put_together(query: &Query, schema: Schema, terms: Terms) -> Parts
-    requires schema { schema ≡ schema_of (seen query.now) }
-    requires terms { AreTermsOf (seen query.now) terms }
-    ensures { seen_parts result ≡ parts_of (seen query.now) }
-{
-    Parts {
-        schema,
-        start: query.start,
-        skew: query.skew,
-        lateness: query.lateness,
-        from_window: query.from_window,
-        records: query.records,
-        budget: query.budget,
-        shape: query.shape,
-        mode: query.mode,
-        early: query.early,
-        late: query.late,
-        form: query.form,
-        condition: terms.condition,
-        foldings: terms.foldings,
-        types: terms.types,
-        columns: terms.columns,
-        having: terms.having,
-    }
+    Ok(parts_of(alloc, query, judged)?)
 }

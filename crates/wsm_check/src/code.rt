@@ -4,7 +4,8 @@ ghost use Rattle.std.specs.Prelude.{◌≡◌, ◌≤◌, ◌+◌, ◌*◌, ◌+
 ghost use Rattle.std.specs.List.{flat_map};
 ghost use Rattle.wsm_query.specs.Seen.{seen, seen_expr};
 ghost use Rattle.wsm_windows.specs.Life as life;
-ghost use Rattle.wsm_check.specs.Checks.{clock_fits, code_fits, shape_fits};
+ghost use Rattle.wsm_windows.specs.Limits.{is_shape};
+ghost use Rattle.wsm_check.specs.Checks.{clock_fits, code_fits};
 ghost use Rattle.wsm_check.specs.Sizes as rule;
 ghost use Rattle.wsm_check.specs.Sizes.{accumulators, accumulators_of, columns_size, counted, folds_of, in_option, need_of_columns, need_of_condition};
 
@@ -20,7 +21,7 @@ pub fn code_fits(query: &Query) -> bool
     requires keys { length query.now.keys.items ≤ MAX_NAMES }
     requires columns { length query.now.columns.items ≤ MAX_COLUMNS }
     requires clock { clock_fits (seen query.now) ≡ true }
-    requires shape { shape_fits query.now.shape ≡ true }
+    requires shape { is_shape query.now.shape ≡ true }
     ensures { result ≡ code_fits (seen query.now) }
 {
     let folds = folds_in_fired(&query.columns, &query.having);
@@ -94,7 +95,7 @@ fn need_of_fired(taken: u64, having: &Option<Expr>, columns: &[Expr]) -> u64
 // The most panes that are live at once.
 fn panes_at_once(query: &Query) -> u64
     requires clock { clock_fits (seen query.now) ≡ true }
-    requires shape { shape_fits query.now.shape ≡ true }
+    requires shape { is_shape query.now.shape ≡ true }
     ensures { result ≡ counted (length query.now.keys.items * life.live_bound query.now.shape query.now.skew query.now.lateness) }
 {
     let live = live_bound(query.shape, query.skew, query.lateness);

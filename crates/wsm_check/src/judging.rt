@@ -3,16 +3,15 @@
 ghost use Rattle.std.specs.Prelude.{◌≡◌, ◌≤◌, ◌+◌, ◌++◌, [], length, map, option_map, true, not, IfOk, OnOk};
 ghost use Rattle.wsm_record.specs.Fields.{declared_field, declared_type, field_seen, type_seen};
 ghost use Rattle.wsm_record.specs.Schema.{are_fields_after, are_names_after, are_sources, is_field_after, is_field_type, is_name_list, is_schema};
+ghost use Rattle.wsm_windows.specs.Limits.{is_shape};
 ghost use Rattle.wsm_query.specs.Seen.{seen, seen_expr};
 ghost use Rattle.wsm_check.specs.Names.{field_names, has_repeats};
-ghost use Rattle.wsm_check.specs.Checks.{Judges, clock_fits, columns_refusal, condition_refusal, declared_refusal, expressions_refusal, field_refusal, fields_refusal, grouped_refusal, names_refusal, numbers_refusal, refusal, shape_fits, sources_refusal, ty_refusal, typed_refusal, unless};
+ghost use Rattle.wsm_check.specs.Checks.{Judges, clock_fits, columns_refusal, condition_refusal, declared_refusal, expressions_refusal, field_refusal, fields_refusal, names_refusal, numbers_refusal, refusal, sources_refusal, ty_refusal, typed_refusal, unless};
 ghost use Rattle.wsm_check.specs.Types.{InColumn, typed};
 ghost use Rattle.wsm_check.specs.Parts.{column_type, schema_of};
 
 use crate::code::code_fits;
-use crate::limits::{
-    budget_fits, clock_fits, every_fits, lateness_fits, shape_fits, source_count_fits,
-};
+use crate::limits::{budget_fits, clock_fits, every_fits, lateness_fits};
 use crate::refusal::{CheckFault, CheckRefusal, Part};
 use crate::types::{Around, judge_condition, type_of};
 use std::alloc::Global;
@@ -20,6 +19,7 @@ use wsm_query::{Expr, Query};
 use wsm_record::limits::{MAX_COLUMNS, MAX_FIELDS, MAX_NAMES};
 use wsm_record::{
     CellType, DeclaredField, Field, FieldType, Name, Names, Schema, SchemaRefusal, Ty, has_field,
+    is_source_count,
 };
 
 /// What the checks make of a query that passes them.
@@ -128,7 +128,7 @@ fn judge_sources(alloc: Global, sources: &[Name]) -> Result<Names, CheckRefusal>
     ensures all { IfOk result (λ list. list ≡ sources.now) }
     ensures lawful { IfOk result (λ list. are_sources list ≡ true) }
 {
-    let is_count = source_count_fits(sources.len());
+    let is_count = is_source_count(sources.len());
     want(is_count, CheckFault::Limit, Part::Sources)?;
     judge_repeats(alloc, Part::Sources, sources)
 }
@@ -138,11 +138,12 @@ fn judge_sources(alloc: Global, sources: &[Name]) -> Result<Names, CheckRefusal>
 fn judge_numbers(query: &Query) -> Result<(), CheckRefusal>
     ensures judged { Judges result (numbers_refusal (seen query.now)) }
     ensures clock { OnOk result (clock_fits (seen query.now) ≡ true) }
-    ensures shape { OnOk result (shape_fits query.now.shape ≡ true) }
+    ensures shape { OnOk result (is_shape query.now.shape ≡ true) }
 {
     want(clock_fits(query), CheckFault::Limit, Part::Clock)?;
     want(budget_fits(query.budget), CheckFault::Limit, Part::Budget)?;
-    want(shape_fits(query.shape), CheckFault::Limit, Part::Window)?;
+    let shape_fits = query.shape.is_within_limits();
+    want(shape_fits, CheckFault::Limit, Part::Window)?;
     let ends_stand = lateness_fits(query.from_window, query.shape);
     want(ends_stand, CheckFault::SessionLateness, Part::Window)?;
     let counts_fit = every_fits(query.early) && every_fits(query.late);
@@ -240,18 +241,9 @@ fn judge_declared(alloc: Global, query: &Query) -> Result<Schema, CheckRefusal>
 }
 
 /// What a query that passes all checks has, or the first check that refuses it.
+#[tactic(auto, using(crate::proofs::ChecksInOrder::steps))]
 pub fn judge(alloc: Global, query: &Query) -> Result<Judged, CheckRefusal>
     ensures judged { Judges result (refusal (seen query.now)) }
-    ensures schema { IfOk result (λ judged. judged.schema ≡ schema_of (seen query.now)) }
-    ensures lawful { OnOk result (is_schema (schema_of (seen query.now)) ≡ true) }
-    ensures types { IfOk result (λ judged. judged.types.items ≡ map (column_type (seen query.now)) (seen query.now).columns) }
-{
-    judge_in_groups(alloc, query)
-}
-
-#[tactic(auto, using(crate::proofs::ChecksInOrder::steps))]
-fn judge_in_groups(alloc: Global, query: &Query) -> Result<Judged, CheckRefusal>
-    ensures judged { Judges result (grouped_refusal (seen query.now)) }
     ensures schema { IfOk result (λ judged. judged.schema ≡ schema_of (seen query.now)) }
     ensures lawful { OnOk result (is_schema (schema_of (seen query.now)) ≡ true) }
     ensures types { IfOk result (λ judged. judged.types.items ≡ map (column_type (seen query.now)) (seen query.now).columns) }

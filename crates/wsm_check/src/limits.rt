@@ -1,34 +1,24 @@
 //! The ranges of the numbers of a query.
 
 ghost use Rattle.std.specs.Prelude.{◌≡◌, option_map};
-ghost use Rattle.wsm_record.specs.Schema.{is_source_count};
+ghost use Rattle.wsm_record.specs.Schema.{is_within};
 ghost use Rattle.wsm_query.specs.Seen.{seen, seen_budget};
-ghost use Rattle.wsm_check.specs.Checks.{budget_fits, clock_fits, every_fits, in_range, is_cost, is_count, is_span, is_time, lateness_fits, shape_fits};
+ghost use Rattle.wsm_check.specs.Checks.{budget_fits, clock_fits, every_fits, is_cost, lateness_fits};
 
 use wsm_query::{Budget, Query};
-use wsm_record::limits::{LATEST_TIME, LONGEST_SPAN, MAX_PANES, MAX_SOURCES, MAX_STATED};
-use wsm_windows::Shape;
+use wsm_record::limits::{MAX_PANES, MAX_STATED};
+use wsm_windows::{Shape, is_size, is_span, is_time};
 
 // What BUDGET may state, as numbers of a query, which have a sign.
 const MAX_COST: i64 = MAX_STATED as i64;
 
 const MAX_HELD: i64 = MAX_PANES as i64;
 
-/// Whether there may be so many sources: none where none are declared, else 2 to 16.
-pub fn source_count_fits(count: usize) -> bool
-    ensures { result ≡ is_source_count count }
-{
-    count == 0 || 2 <= count && count <= MAX_SOURCES
-}
-
 /// Whether START, SKEW, LATENESS and RECORDS are in range.
 pub fn clock_fits(query: &Query) -> bool
     ensures { result ≡ clock_fits (seen query.now) }
 {
-    is_within(0, LATEST_TIME, query.start)
-        && is_span(query.skew)
-        && is_span(query.lateness)
-        && is_count(query.records)
+    is_time(query.start) && is_span(query.skew) && is_span(query.lateness) && is_size(query.records)
 }
 
 /// Whether the numbers of BUDGET are in range.
@@ -40,17 +30,6 @@ pub fn budget_fits(budget: Option<Budget>) -> bool
         Some(b) => {
             is_cost(b.per_record) && is_cost(b.per_pane) && is_within(1, MAX_HELD, b.held)
         }
-    }
-}
-
-/// Whether size, period and gap are in range, and the period is at most the size.
-pub fn shape_fits(shape: Shape) -> bool
-    ensures { result ≡ shape_fits shape }
-{
-    match shape {
-        Shape::Fixed(size) => is_count(size),
-        Shape::Sliding(size, period) => is_count(size) && is_count(period) && period <= size,
-        Shape::Session(gap) => is_count(gap),
     }
 }
 
@@ -71,20 +50,8 @@ pub fn every_fits(every: Option<i64>) -> bool
 {
     match every {
         None => true,
-        Some(count) => is_count(count),
+        Some(count) => is_size(count),
     }
-}
-
-fn is_span(number: i64) -> bool
-    ensures { result ≡ is_span number }
-{
-    is_within(0, LONGEST_SPAN, number)
-}
-
-fn is_count(number: i64) -> bool
-    ensures { result ≡ is_count number }
-{
-    is_within(1, LONGEST_SPAN, number)
 }
 
 fn is_cost(number: i64) -> bool
@@ -93,8 +60,8 @@ fn is_cost(number: i64) -> bool
     is_within(1, MAX_COST, number)
 }
 
-fn is_within(lo: i64, hi: i64, number: i64) -> bool
-    ensures { result ≡ in_range lo hi number }
+fn is_within(low: i64, high: i64, number: i64) -> bool
+    ensures { result ≡ is_within low high number }
 {
-    lo <= number && number <= hi
+    low <= number && number <= high
 }

@@ -8,6 +8,7 @@ use wsm_windows::Shape;
 /// What an accumulator folds.
 #[derive(Drop)]
 pub struct Folding {
+    /// How the values of the records are folded.
     pub kind: Kind,
     /// The value that a record adds.
     pub operand: Term,
@@ -30,32 +31,26 @@ pub struct Parts {
     pub from_window: bool,
     /// How many records are admitted.
     pub records: i64,
+    /// What BUDGET states; without it the program states its need.
     pub budget: Option<Budget>,
+    /// How records are put into windows.
     pub shape: Shape,
+    /// What a firing's columns are computed over.
     pub mode: Mode,
     /// After how many unshown records a pane fires early.
     pub early: Option<i64>,
     /// After how many unshown records a pane fires late.
     pub late: Option<i64>,
+    /// What is written.
     pub form: Form,
-    /// WHERE
+    /// WHERE: which records are selected.
     pub condition: Option<Term>,
     /// The accumulators by their numbers: those of the columns, then those of HAVING.
     pub foldings: Vec<Folding>,
     /// The types of the columns.
     pub types: Vec<CellType>,
+    /// What is selected.
     pub columns: Vec<Term>,
-    pub having: Option<Term>,
-}
-
-/// What the expressions of a checked query are.
-#[derive(Drop)]
-pub struct Terms {
-    /// WHERE
-    pub condition: Option<Term>,
-    pub foldings: Vec<Folding>,
-    /// The types of the columns.
-    pub types: Vec<CellType>,
-    pub columns: Vec<Term>,
+    /// HAVING: which panes are shown.
     pub having: Option<Term>,
 }

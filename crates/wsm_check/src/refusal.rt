@@ -31,19 +31,27 @@ pub enum CheckFault {
 /// The part of a query that a refusal is about.
 #[derive(Clone, Copy, Debug, PartialEq, Eq)]
 pub enum Part {
+    /// The list of keys.
     Keys,
     /// A field, from 1.
     Field(u64),
     /// The sources of watermarks.
     Sources,
+    /// START, SKEW, LATENESS and RECORDS.
     Clock,
+    /// The numbers of BUDGET.
     Budget,
+    /// The shape, or what lateness counts from.
     Window,
+    /// EARLY EVERY or LATE EVERY.
     Trigger,
+    /// The form, which the mode may not write.
     Emit,
+    /// The condition on records.
     Where,
     /// A column, from 1.
     Column(u64),
+    /// The condition on panes.
     Having,
     /// The code of the query, and the panes that it may hold.
     Code,
@@ -52,6 +60,7 @@ pub enum Part {
 /// Why a query is refused, and where.
 #[derive(Clone, Copy, Debug, PartialEq, Eq)]
 pub enum CheckRefusal {
+    /// A check fails, in this part. Its text is as `C2 Type in column 2`.
     Fault(CheckFault, Part),
     /// There was no memory for the checks. This says nothing of the query.
     Memory,

@@ -17,9 +17,11 @@ use wsm_record::{CellType, Kind, Name, Ty};
 /// Where an expression stands.
 #[derive(Clone, Copy)]
 pub enum Around {
+    /// In WHERE.
     InWhere,
     /// In a column or in HAVING.
     InColumn,
+    /// In the operand of an aggregate.
     InAggregate,
 }
 

@@ -5,13 +5,13 @@ use Rattle.wsm_check.proofs.DeclaredSchema.{schema_spelt}
 use Rattle.wsm_check.proofs.PassedChecks.{passed}
 use Rattle.wsm_check.proofs.checks.checked_parts.Goals as goal
 
-pub terms_of-requires-clause-fields : goal.terms_of-requires-clause-fields
-terms_of-requires-clause-fields c = few_fields c.args.query.now.fields.items (passed (seen c.args.query.now) c.in_ok-judged.ensures.judged).fields
+pub parts_of-requires-clause-fields : goal.parts_of-requires-clause-fields
+parts_of-requires-clause-fields c = few_fields c.args.query.now.fields.items (passed (seen c.args.query.now) c.in_ok-judged.ensures.judged).fields
 
-pub terms_of-requires-clause-resolved : goal.terms_of-requires-clause-resolved
-terms_of-requires-clause-resolved c = (passed (seen c.args.query.now) c.in_ok-judged.ensures.judged).resolved
+pub parts_of-requires-clause-resolved : goal.parts_of-requires-clause-resolved
+parts_of-requires-clause-resolved c = (passed (seen c.args.query.now) c.in_ok-judged.ensures.judged).resolved
 
 pub returns-clause-spelt : goal.returns-clause-spelt
 returns-clause-spelt c =
     let schema = schema_spelt (schema_of (seen c.args.query.now)) c.in_ok-judged.ensures.lawful in
-    record { keys = schema.keys; fields = schema.fields; sources = schema.sources; numbers = c.in_ok-terms.ensures.spelt }
+    record { keys = schema.keys; fields = schema.fields; sources = schema.sources; numbers = c.in_ok-parts_of.ensures.spelt }
