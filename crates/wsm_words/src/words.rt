@@ -72,7 +72,7 @@ impl From<clap::Error> for WordsRefusal {
     ghost use Rattle.clap.specs.declared.error.kind.ErrorKind.TheVariants.{OutOfMemory};
     ghost use Rattle.wsm_words.specs.Words.{IsMemory};
 
-    ghost from_gives = { λ e refusal. kind_of e ≡ OutOfMemory → IsMemory refusal };
+    ghost from_gives = { λ e refusal. (kind_of e ≡ OutOfMemory → IsMemory refusal) × (IsMemory refusal → kind_of e ≡ OutOfMemory) };
 
     fn from(error: clap::Error) -> WordsRefusal {
         match error.kind() {
@@ -237,6 +237,7 @@ fn job_of(alloc: Global, matches: &ArgMatches<'_>) -> Result<Job, WordsRefusal>
         let program = file_of(alloc, inner, "program")?;
         return Ok(Job::Explain { program });
     }
+    // This doesn't come: `wsm_command` has no other subcommand, and requires one.
     Err(WordsRefusal::Memory)
 }
 
@@ -282,6 +283,7 @@ fn file_of(alloc: Global, inner: &ArgMatches<'_>, id: &str) -> Result<String, Wo
 {
     match text_of(alloc, inner.get_str(id))? {
         Some(name) => Ok(name),
+        // This doesn't come: `file` has each of them required, so `clap` refuses words without one.
         None => Err(WordsRefusal::Memory),
     }
 }

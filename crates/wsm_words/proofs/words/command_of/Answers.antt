@@ -20,4 +20,4 @@ returns-clause-job c =
 pub returns-in_err-matches-clause-refused : goal.returns-in_err-matches-clause-refused
 returns-in_err-matches-clause-refused c =
     let p = err_from_is_err_and c.from_residual-in_err-matches.result c.from_residual-in_err-matches.ensures.1 in
-    rw p.1 (λ (taken : takes the_app (map (λ s. s.now) c.args.words.now) ≡ true). p.2 (c.in_err-matches.ensures.passes (ap (λ a. takes a (map (λ s. s.now) c.args.words.now)) c.in_ok-wsm_command.ensures ∙ taken)))
+    rw p.1 (λ (taken : takes the_app (map (λ s. s.now) c.args.words.now) ≡ true). p.2.0 (c.in_err-matches.ensures.passes (ap (λ a. takes a (map (λ s. s.now) c.args.words.now)) c.in_ok-wsm_command.ensures ∙ taken)))
