@@ -57,6 +57,11 @@ pub cells_text-behind : (old mid line : List ℕ) (front back cells : List (List
 cells_text-behind old mid line front back cells e h k =
     k ∙ ap (λ t. t ++ cells_text back) h ∙ append_assoc old (cells_text front) (cells_text back) ∙ ap (λ t. old ++ t) (sym (cells_text-append front back) ∙ ap cells_text (sym e))
 
+-- a word, and cells behind those that were added with it
+pub word_and-behind : (old word mid line : List ℕ) (front back cells : List (List ℕ)) → cells ≡ front ++ back → mid ≡ old ++ (word ++ cells_text front) → line ≡ mid ++ cells_text back → line ≡ old ++ (word ++ cells_text cells)
+word_and-behind old word mid line front back cells e h k =
+    cells_text-behind (old ++ word) mid line front back cells e (h ∙ sym (append_assoc old word (cells_text front))) k ∙ append_assoc old word (cells_text cells)
+
 -- what stands behind some, as a slice has it
 pub take_behind : {X : Type 0} (n : ℕ) (xs : List X) → take (length xs - n) (drop n xs) ≡ drop n xs
 take_behind n xs = subst (λ (m : ℕ). take m (drop n xs) ≡ drop n xs) (length-drop n xs) (take-length (drop n xs))

@@ -13,7 +13,7 @@ ghost use Rattle.wsm_semantics.specs.Text as text;
 ghost use Rattle.wsm_csv.specs.Lines.{cells_text, is_a_number, number_text};
 
 use crate::few_numbers::{CELLS, TOGETHER, are_few_numbers, count_numbers, write_numbers};
-use crate::from_end::{CELL, write_cell};
+use crate::from_end::{CELL, write_cell, write_text};
 use crate::short_line::{FIRST, add_short_line, write_first};
 use crate::window_text::WindowText;
 use itoa::Buffer;
@@ -23,6 +23,9 @@ use wsm_record::limits::MAX_NAME;
 use wsm_record::{Cell, Columns, Names, RowFault, Schema};
 use wsm_semantics::{OutRow, Totals};
 use wsm_windows::{PaneKind, Window};
+
+// The most bytes of the word of a stream.
+const STREAM: usize = 7;
 
 /// Adds the lines of rows, in their order. A number that stands for no name is an empty cell.
 #[inline(always)]
@@ -196,11 +199,32 @@ fn add_stream(
     columns: &Columns,
     out: &mut Vec<u8>,
 ) -> Result<(), AllocError>
+    requires { length word.now ≤ STREAM }
     ensures { OnOk result (out.new.items ≡ out.old.items ++ (word.now ++ cells_text (signed_decimal mark ∷ map (text.cell_text schema.now) columns.now))) }
 {
-    out.extend_from_slice(word)?;
-    add_number(mark, out)?;
-    add_columns(schema, columns.as_slice(), out)
+    let columns = columns.as_slice();
+    let count = count_numbers(columns);
+    add_marked_numbers(word, mark, &columns[..count], out)?;
+    add_columns(schema, &columns[count..], out)
+}
+
+// The word of a stream, and the cells of a mark and of a few numbers behind it.
+fn add_marked_numbers(
+    word: &[u8],
+    mark: i64,
+    numbers: &[Cell],
+    out: &mut Vec<u8>,
+) -> Result<(), AllocError>
+    requires word { length word.now ≤ STREAM }
+    requires numbers { list_all is_a_number numbers.now ≡ true }
+    requires few { length numbers.now ≤ TOGETHER }
+    ensures { OnOk result (out.new.items ≡ out.old.items ++ (word.now ++ cells_text (signed_decimal mark ∷ map number_text numbers.now))) }
+{
+    let mut cells = [0; STREAM + CELLS];
+    let first = write_numbers(numbers, &mut cells, STREAM + CELLS);
+    let marked = write_cell(mark, &mut cells, first);
+    let start = write_text(word, &mut cells, marked);
+    out.extend_from_slice(&cells[start..])
 }
 
 // The line of a refused row, with the word of its refusal.
