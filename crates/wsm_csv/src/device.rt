@@ -20,13 +20,15 @@ pub trait Device {
     ghost is_flushed: { Self → Bool };
 
     /// Takes a beginning of the bytes, and answers how many: at least one of a slice that isn't
-    /// empty. An error takes none, and is answered exactly where the device has failed afterwards.
+    /// empty, which have then not left. An error takes none, and is answered exactly where the device
+    /// has failed afterwards.
     fn put(&mut self, bytes: &[u8]) -> Result<usize, DeviceFault>
         requires { has_failed self.old ≡ false }
         ensures within { IfOk result (λ n. n ≤ length bytes.now) }
         ensures taken { IfOk result (λ n. Appends (taken self.old) (taken self.new) (take n bytes.now)) }
         ensures some { IfOk result (λ n. 0 < length bytes.now → 0 < n) }
         ensures kept { OnErr result (Keeps (taken self.old) (taken self.new)) }
+        ensures unflushed { OnOk result (0 < length bytes.now → is_flushed self.new ≡ false) }
         ensures works { OnOk result (has_failed self.new ≡ false) }
         ensures fails { OnErr result (has_failed self.new ≡ true) };
 

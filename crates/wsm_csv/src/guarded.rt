@@ -17,10 +17,11 @@ pub struct Guarded<W> {
 impl<W: Write> Guarded<W> {
     ghost use Rattle.wsm_csv.specs.Guarded.{writer_of};
 
-    /// A device that hasn't failed.
+    /// A device that hasn't failed, and was not flushed.
     pub fn new(writer: W) -> Self
         ensures writer { writer_of result ≡ writer }
         ensures works { ⟦<Guarded<W> as Device>⟧.has_failed result ≡ false }
+        ensures unflushed { ⟦<Guarded<W> as Device>⟧.is_flushed result ≡ false }
     {
         Guarded {
             writer,
