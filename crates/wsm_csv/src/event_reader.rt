@@ -26,15 +26,17 @@ pub struct EventReader {
 }
 
 impl EventReader {
-    ghost use Rattle.std.specs.Prelude.{◌≡◌, ◌≢◌, ◌≤◌, length, IfErr, OnOk, Err, Ok, Some, slice_get};
+    ghost use Rattle.std.specs.Prelude.{◌≡◌, ◌≢◌, ◌≤◌, [], length, pos, IfErr, OnOk, Err, None, Ok, Some, slice_get};
     ghost use Rattle.csv.specs.Records.{fields_of};
-    ghost use Rattle.wsm_record.specs.Event.{event_of};
+    ghost use Rattle.wsm_record.specs.Event.{Record, event_of};
     ghost use Rattle.wsm_csv.specs.Cells.{event_of_cells, record_tag};
     ghost use Rattle.wsm_csv.specs.Refused.{IfFault};
     ghost use Rattle.wsm_csv.specs.EventReader.{event_read, room_of};
 
-    /// A reader that has read no row.
-    pub fn new(alloc: Global) -> EventReader {
+    /// A reader that has read no row. A record without values stands there.
+    pub fn new(alloc: Global) -> EventReader
+        ensures { event_read result ≡ Record None (pos 0) [] }
+    {
         EventReader {
             event: Event::Record {
                 key: None,
