@@ -29,7 +29,6 @@
 pub use device::{Device, DeviceFault, write_out};
 pub use event_reader::EventReader;
 pub use guarded::Guarded;
-pub use number::read_number;
 pub use row::{RowRefusal, read_row};
 pub use rows::{ReadEnd, Rows};
 pub use text::{end_text, fault_text, refusal_text, row_text, rows_text};

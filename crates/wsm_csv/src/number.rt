@@ -10,7 +10,7 @@ const SHORT: usize = 18;
 /// The number that a cell writes: an optional `-`, and then one ASCII digit or more, with a value of
 /// 64 bits. Zeros may stand in front, and no byte may stand around it.
 #[inline(always)]
-pub fn read_number(cell: &[u8]) -> Option<i64>
+pub(crate) fn read_number(cell: &[u8]) -> Option<i64>
     ensures { result ≡ number_of cell.now }
 {
     match cell {

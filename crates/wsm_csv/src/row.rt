@@ -4,6 +4,7 @@ ghost use Rattle.std.specs.Prelude.{◌≡◌, ◌≢◌, ◌+◌, ◌<◌, ◌�
 ghost use Rattle.csv.specs.Records.{fields_of};
 ghost use Rattle.wsm_record.specs.Event.{event_of};
 ghost use Rattle.wsm_record.specs.Fields.{field_seen, type_seen};
+ghost use Rattle.wsm_record.specs.Schema.{Truth, Enum};
 ghost use Rattle.wsm_csv.specs.Cells.{Puts, event_of_cells, mark_of, record_tag, time_of, truth_of, value_of, values_of};
 ghost use Rattle.wsm_csv.specs.Refused.{IfFault};
 ghost use Rattle.wsm_csv.specs.Tags.{row_tag, tag_of};
@@ -166,31 +167,9 @@ fn resize(values: &mut Vec<Value>, count: usize) -> Result<(), AllocError>
 }
 
 // Reads the value of a field in place of the one that is there. Most are numbers, so these are read
-// here, and others by a call.
+// here, and others by a call. A value is put there in each case by itself, so that it isn't moved.
 #[inline(always)]
 fn read_value(
-    ty: &FieldType,
-    cell: &[u8],
-    values: &mut Vec<Value>,
-    place: usize,
-) -> Result<(), RowFault>
-    requires { place < length values.old.items }
-    ensures value { OnOk result (Puts (value_of (type_seen ty.now) cell.now) place values.old.items values.new.items) }
-    ensures fault { IfErr result (λ f. value_of (type_seen ty.now) cell.now ≡ Err f) }
-    ensures count { length values.new.items ≡ length values.old.items }
-    ensures room { vec_capacity values.new ≡ vec_capacity values.old }
-{
-    if let FieldType::Int { .. } = ty {
-        let number = read_number(cell).ok_or(RowFault::BadNumber)?;
-        values[place] = Value::Int(number);
-        return Ok(());
-    }
-    read_any_value(ty, cell, values, place)
-}
-
-// Reads a value of any type. It is put there in each case by itself, so that it isn't moved.
-#[inline(never)]
-fn read_any_value(
     ty: &FieldType,
     cell: &[u8],
     values: &mut Vec<Value>,
@@ -206,16 +185,43 @@ fn read_any_value(
         FieldType::Int { .. } => {
             let number = read_number(cell).ok_or(RowFault::BadNumber)?;
             values[place] = Value::Int(number);
+            Ok(())
         }
-        FieldType::Bool => {
-            let truth = read_truth(cell).ok_or(RowFault::BadName)?;
-            values[place] = Value::Bool(truth);
-        }
-        FieldType::Enum(names) => {
-            let number = names.number_of(cell).ok_or(RowFault::BadName)?;
-            values[place] = Value::Enum(number);
-        }
+        FieldType::Bool => read_truth_value(cell, values, place),
+        FieldType::Enum(names) => read_name_value(names, cell, values, place),
     }
+}
+
+// Reads the value of a field of truth values.
+#[inline(never)]
+fn read_truth_value(cell: &[u8], values: &mut Vec<Value>, place: usize) -> Result<(), RowFault>
+    requires { place < length values.old.items }
+    ensures value { OnOk result (Puts (value_of Truth cell.now) place values.old.items values.new.items) }
+    ensures fault { IfErr result (λ f. value_of Truth cell.now ≡ Err f) }
+    ensures count { length values.new.items ≡ length values.old.items }
+    ensures room { vec_capacity values.new ≡ vec_capacity values.old }
+{
+    let truth = read_truth(cell).ok_or(RowFault::BadName)?;
+    values[place] = Value::Bool(truth);
+    Ok(())
+}
+
+// Reads the value of a field of names.
+#[inline(never)]
+fn read_name_value(
+    names: &Names,
+    cell: &[u8],
+    values: &mut Vec<Value>,
+    place: usize,
+) -> Result<(), RowFault>
+    requires { place < length values.old.items }
+    ensures value { OnOk result (Puts (value_of (Enum names.now) cell.now) place values.old.items values.new.items) }
+    ensures fault { IfErr result (λ f. value_of (Enum names.now) cell.now ≡ Err f) }
+    ensures count { length values.new.items ≡ length values.old.items }
+    ensures room { vec_capacity values.new ≡ vec_capacity values.old }
+{
+    let number = names.number_of(cell).ok_or(RowFault::BadName)?;
+    values[place] = Value::Enum(number);
     Ok(())
 }
 
