@@ -59,26 +59,19 @@ impl Ranges {
 fn computed(operation: Operation, stack: &[Known]) -> Option<Known>
     ensures { option_map (λ k. k ∷ []) result ≡ spec.computed operation stack.now }
 {
-    match (operation, stack) {
-        (Operation::Add, [Known::Number(y), Known::Number(x), ..]) => Some(Known::Number(x.add(
-            *y,
-        )?)),
-        (Operation::Sub, [Known::Number(y), Known::Number(x), ..]) => Some(Known::Number(x.sub(
-            *y,
-        )?)),
-        (Operation::Mul, [Known::Number(y), Known::Number(x), ..]) => Some(Known::Number(x.mul(
-            *y,
-        )?)),
-        (Operation::Div, [Known::Number(y), Known::Number(x), ..]) => Some(Known::Number(x.div(
-            *y,
-        )?)),
-        (Operation::Rem, [Known::Number(y), Known::Number(x), ..]) => Some(Known::Number(x.rem(
-            *y,
-        )?)),
-        (Operation::Neg, [Known::Number(x), ..]) => Some(Known::Number(x.neg()?)),
+    let number = match (operation, stack) {
+        (Operation::Add, [Known::Number(y), Known::Number(x), ..]) => x.add(*y),
+        (Operation::Sub, [Known::Number(y), Known::Number(x), ..]) => x.sub(*y),
+        (Operation::Mul, [Known::Number(y), Known::Number(x), ..]) => x.mul(*y),
+        (Operation::Div, [Known::Number(y), Known::Number(x), ..]) => x.div(*y),
+        (Operation::Rem, [Known::Number(y), Known::Number(x), ..]) => x.rem(*y),
+        (Operation::Neg, [Known::Number(x), ..]) => x.neg(),
         (Operation::Add | Operation::Sub | Operation::Mul, _) => None,
         (Operation::Div | Operation::Rem | Operation::Neg, _) => None,
-        (Operation::Eq | Operation::Ne | Operation::Lt | Operation::Le, _) => Some(Known::Truth),
-        (Operation::Gt | Operation::Ge | Operation::Not, _) => Some(Known::Truth),
-    }
+        (Operation::Eq | Operation::Ne | Operation::Lt | Operation::Le, _) => {
+            return Some(Known::Truth);
+        }
+        (Operation::Gt | Operation::Ge | Operation::Not, _) => return Some(Known::Truth),
+    };
+    Some(Known::Number(number?))
 }
