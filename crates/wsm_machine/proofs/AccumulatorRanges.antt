@@ -17,6 +17,7 @@ use Rattle.wsm_fold.specs.Laws.{joined_to}
 use Rattle.wsm_fold.specs.Fold.{join, joins, folds_of, is_of_kind, are_of_kinds}
 use Rattle.wsm_program.specs.Program.{Program}
 use Rattle.wsm_verifier.specs.Rules.{accumulated, and_then, values_folded, update_visits, range}
+use Rattle.wsm_verifier.proofs.FoldedRanges.{range_at}
 use Rattle.wsm_machine.specs.InRange.{is_number_in, is_word, is_value_in, is_acc_in, are_values_in, are_folded_in, accs_in}
 use Rattle.wsm_machine.proofs.FittingStacks.{no}
 use Rattle.wsm_machine.proofs.RunsToReturn.{none≢some}
@@ -86,7 +87,7 @@ NumberIn f (Some x) (values.Int z) = f x z
 NumberIn f (Some x) (values.Bool b) = ⊥
 NumberIn f (Some x) (values.Enum i) = ⊥
 
-abbrev IsTruthValue : Value → Type 0
+abbrev pub IsTruthValue : Value → Type 0
 IsTruthValue (values.Int z) = ⊥
 IsTruthValue (values.Bool b) = Unit {0}
 IsTruthValue (values.Enum i) = ⊥
@@ -217,9 +218,6 @@ rows_in o ks row (next ∷ rows) e =
 
 pub plus_more : (a j : ℕ) → suc a + j ≡ a + suc j
 plus_more a j = omega arith
-
-pub range_at : (p : Program) (a : ℕ) (k : Kind) → slice_get p.header.kinds a ≡ Some k → range p a ≡ and_then (accumulated p.header.clock.records k) (values_folded a (update_visits p))
-range_at p a k h = ap (and_then (λ k. and_then (accumulated p.header.clock.records k) (values_folded a (update_visits p)))) h
 
 accs_from : (p : Program) (m n a : ℕ) (ks : List Kind) (vs : List Value) → p.header.clock.records ≡ pos m → 1 ≤ n → n ≤ m → ((j : ℕ) → slice_get p.header.kinds (a + j) ≡ slice_get ks j)
     → list_all is_word vs ≡ true → ValuesIn (λ b. values_folded b (update_visits p)) a n ks vs → accs_in p a ks vs ≡ true

@@ -23,6 +23,8 @@ pub mod AccumulatorRanges
 pub mod FittingSums
 pub mod QueryFolds
 pub mod Words
+pub mod KnownWords
+pub mod HeldWords
 pub mod SoundAccumulators
 pub mod SoundPanes
 pub mod SoundSteps

@@ -7,7 +7,7 @@ use Rattle.wsm_record.specs.declared.words.Kind.TheVariants.{Sum}
 use Rattle.wsm_record.specs.declared.words.CellType.TheVariants as types
 use Rattle.wsm_program.specs.declared.instr.Instr.{Instr}
 use Rattle.wsm_program.specs.declared.instr.Instr.TheVariants.{PushInt, PushBool, Field, Operate, Jump, Test, Fold, Return}
-use Rattle.wsm_program.specs.declared.operation.Operation.TheVariants.{Div, Gt}
+use Rattle.wsm_program.specs.declared.operation.Operation.TheVariants.{Div}
 use Rattle.wsm_program.specs.declared.instr.SectionId.{SectionId}
 use Rattle.wsm_program.specs.declared.instr.SectionId.TheVariants.{Where, Update, Fire}
 use Rattle.wsm_record.specs.declared.cell.Cell.TheVariants as cells

@@ -1,10 +1,10 @@
-//! Values on the stack, and their types.
+//! Values on the stack.
 
 ghost use Rattle.std.specs.Prelude.{◌≡◌, Some, false};
-ghost use Rattle.wsm_machine.specs.Step.{cell_of as the_cell, is_type as is_type_of, is_same as is_same_of, is_passed as is_passed_of, overflows};
+ghost use Rattle.wsm_machine.specs.Step.{cell_of as the_cell, is_same as is_same_of, is_passed as is_passed_of, overflows};
 
 use wsm_program::FieldTest;
-use wsm_record::{Cell, CellType, Value};
+use wsm_record::{Cell, Value};
 
 /// A value, which belongs to this ENUM where it is a name.
 pub(crate) fn cell_of(number: u8, value: Value) -> Cell
@@ -12,17 +12,6 @@ pub(crate) fn cell_of(number: u8, value: Value) -> Cell
     ensures fits { overflows (Some result) ≡ false }
 {
     Cell::new(number, value)
-}
-
-/// Whether two types are the same.
-pub(crate) fn is_type(left: CellType, right: CellType) -> bool
-    ensures { result ≡ is_type_of left right }
-{
-    match (left, right) {
-        (CellType::Int, CellType::Int) | (CellType::Bool, CellType::Bool) => true,
-        (CellType::Enum(d), CellType::Enum(e)) => d == e,
-        _ => false,
-    }
 }
 
 /// Whether two values of one type are the same.

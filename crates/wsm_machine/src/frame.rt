@@ -10,7 +10,6 @@ ghost use Rattle.wsm_program.specs.declared.operation.Operands.TheVariants.{Numb
 ghost use Rattle.wsm_machine.specs.Step.{has_types};
 ghost use Rattle.wsm_machine.specs.Steps.{operand_trap, Answers, AnswersNumber};
 
-use crate::cell::is_type;
 use crate::folds::Folds;
 use crate::inputs::Inputs;
 use crate::outcome::Trap;
@@ -107,7 +106,7 @@ impl Frame {
     {
         match self.stack.top_two() {
             None => Err(Trap::Underflow),
-            Some((y, x)) if is_type(x.ty(), y.ty()) => Ok((x, y)),
+            Some((y, x)) if x.ty() == y.ty() => Ok((x, y)),
             Some(_) => Err(Trap::WrongType),
         }
     }

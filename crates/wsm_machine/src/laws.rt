@@ -13,7 +13,7 @@ ghost use Rattle.wsm_verifier.specs.Costs.{longest_path};
 ghost use Rattle.wsm_verifier.specs.Rules.{judge};
 ghost use Rattle.wsm_machine.specs.declared.outcome.Outcome.TheVariants.{Done};
 ghost use Rattle.wsm_machine.specs.Inputs.{Inputs};
-ghost use Rattle.wsm_machine.specs.InRange.{in_range, is_word, are_folded_in, accs_in};
+ghost use Rattle.wsm_machine.specs.InRange.{in_range, are_folded_in, accs_in};
 ghost use Rattle.wsm_machine.specs.Run.{run};
 
 /// On inputs in range a section meets no trap, and executes at most as many instructions as its
@@ -34,8 +34,8 @@ pub fn sums_fit()
 {}
 
 /// What accumulators hold of rows that UPDATE folded is in the range that FIRE reads, where there
-/// are at most as many rows as the program allows.
+/// are at most as many rows as the program allows: in 64 bits, too.
 pub fn held_in_range()
-    ensures { (p : Program) (rows : List (List Value)) (held : List Value) → IsTrue (list_all (are_folded_in p) rows) → pos (length rows) ≤ℤ p.header.clock.records
-        → folds_of p.header.kinds rows ≡ Some held → IsTrue (list_all is_word held) → IsTrue (accs_in p 0 p.header.kinds held) }
+    ensures { (p : Program) (costs : Costs) (rows : List (List Value)) (held : List Value) → judge p ≡ Ok costs → IsTrue (is_program p)
+        → IsTrue (list_all (are_folded_in p) rows) → pos (length rows) ≤ℤ p.header.clock.records → folds_of p.header.kinds rows ≡ Some held → IsTrue (accs_in p 0 p.header.kinds held) }
 {}

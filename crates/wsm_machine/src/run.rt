@@ -19,6 +19,7 @@ use wsm_program::{Program, SectionId};
 /// the trapping instruction found.
 #[derive(Drop)]
 pub struct Ran {
+    /// By a return, or by which trap.
     pub outcome: Outcome,
     /// How many instructions were executed, one that trapped among them.
     pub steps: u64,

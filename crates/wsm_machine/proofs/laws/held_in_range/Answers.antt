@@ -1,5 +1,5 @@
-use Rattle.wsm_machine.proofs.AccumulatorRanges.{accs_of_rows}
+use Rattle.wsm_machine.proofs.HeldWords.{held_in_range}
 use Rattle.wsm_machine.proofs.laws.held_in_range.Goals as goal
 
 pub returns : goal.returns
-returns c = accs_of_rows
+returns c = held_in_range
