@@ -13,7 +13,7 @@ use Rattle.wsm.specs.declared.end.InputRefusal.{InputRefusal}
 use Rattle.wsm.specs.declared.end.End.{End}
 use Rattle.wsm.specs.declared.end.End.TheVariants.{Refused, Memory, WriteFailed}
 
--- `accepted,RECORD,PANE,HELD` with the needed numbers, or `rejected,WHERE,PLACE,NAME`; a line feed
+-- `accepted,RECORD,PANE,HELD` with the needed numbers, or `rejected,PART,PLACE,NAME`; a line feed
 abbrev pub verdict : Result Costs Rejection → List ℕ
 verdict (Ok need) = codes "accepted," ++ decimal need.per_record ++ codes "," ++ decimal need.per_pane ++ codes "," ++ decimal need.held ++ codes "\n"
 verdict (Err why) = codes "rejected," ++ rejection_text why ++ codes "\n"

@@ -15,7 +15,8 @@ use wsm_verifier::Verified;
 
 /// Judges the program of some bytes, and answers whether it is accepted. A line is written:
 /// `accepted,RECORD,PANE,HELD` with the numbers that the program needs, or
-/// `rejected,WHERE,PLACE,NAME` with its first fault. To explain, its listing is written first.
+/// `rejected,PART,PLACE,NAME` with its first fault, PART being `where`, `update`, `fire` or `budget`. To
+/// explain, its listing is written first.
 ///
 /// # Errors
 ///

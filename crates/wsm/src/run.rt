@@ -31,7 +31,7 @@ use wsm_verifier::{Rejection, Verified};
 /// # Errors
 ///
 /// [`End::Refused`] where the text is no query or a check refuses it, and [`End::Rejected`] where the
-/// verifier refuses its program: then nothing is read or written. After [`End::Memory`] or
+/// verifier refuses its program: then nothing is written. After [`End::Memory`] or
 /// [`End::ReadFailed`] the device took the lines of the first rows, those of each turn whole; after
 /// [`End::WriteFailed`] it took a beginning of the lines.
 pub fn run_query<R: Read + Drop, D: Device>(
