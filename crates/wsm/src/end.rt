@@ -77,14 +77,17 @@ impl fmt::Display for End {
 
 impl Error for End {}
 
-/// The exit status of the program after an end: 3 and 4 where its input is refused or rejected, 5
-/// for memory, 6 and 7 for reading and writing.
+/// The exit status of the program where a program was rejected.
+pub const REJECTED_STATUS: u8 = 4;
+
+/// The exit status of the program after an end: 3 and [`REJECTED_STATUS`] where its input is refused or
+/// rejected, 5 for memory, 6 and 7 for reading and writing.
 pub fn status_of(end: End) -> u8
     ensures { result ≡ status end }
 {
     match end {
         End::Refused(_) => 3,
-        End::Rejected(_) => 4,
+        End::Rejected(_) => REJECTED_STATUS,
         End::Memory => 5,
         End::ReadFailed => 6,
         End::WriteFailed => 7,

@@ -57,7 +57,7 @@
 #![tactic(auto)]
 
 pub use compile::compile_text;
-pub use end::{End, InputRefusal, status_of};
+pub use end::{End, InputRefusal, REJECTED_STATUS, status_of};
 pub use judging::judge;
 pub use migrating::migrate;
 pub use run::{run_program, run_query};

@@ -12,12 +12,10 @@ use std::env;
 use std::io::{self, ErrorKind};
 use std::process::ExitCode;
 use std::rt::{Env, Files};
-use wsm::{End, Job, WordsRefusal, command_of, status_of};
+use wsm::{End, Job, REJECTED_STATUS, WordsRefusal, command_of, status_of};
 
 /// The words were refused.
 const REFUSED_WORDS: u8 = 2;
-/// The program was judged, and rejected.
-const REJECTED: u8 = 4;
 
 fn main(rt: HostRuntime) -> ExitCode {
     match words_of(&rt) {
@@ -55,7 +53,7 @@ fn act<R: Files + AllocGlobal + Input + Print + Eprint>(rt: &R, words: &[String]
 fn status<R: Files + AllocGlobal + Input + Print + Eprint>(rt: &R, job: &Job) -> ExitCode {
     match done(rt, job) {
         Ok(true) => ExitCode::SUCCESS,
-        Ok(false) => ExitCode::from(REJECTED),
+        Ok(false) => ExitCode::from(REJECTED_STATUS),
         Err(end) => ended(rt, end),
     }
 }
