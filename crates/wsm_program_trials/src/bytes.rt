@@ -27,7 +27,7 @@ enum Taken {
 }
 
 /// How many of a number of trials were taken in each way.
-#[derive(Clone, Copy, Debug, PartialEq, Eq)]
+#[derive(Clone, Copy, Debug)]
 struct Counts {
     refused: u32,
     rejected: u32,
@@ -54,6 +54,14 @@ impl Counts {
             Taken::Wrong => &mut self.wrong,
         };
         *count = count.saturating_add(1);
+    }
+
+    fn trials(&self) -> u32 {
+        let right = self
+            .refused
+            .saturating_add(self.rejected)
+            .saturating_add(self.ran);
+        right.saturating_add(self.wrong)
     }
 
     // Tries bytes as a program, and where it runs both machines.
@@ -202,6 +210,18 @@ fn writes<R: Abort + AllocGlobal>(rt: &R, program: &[u8], rows: &[u8], want: &[u
     assert_eq!(rt; text.as_slice(), want, "{end:?}");
 }
 
+// Each change was tried, none was taken wrongly, each way is met, and of the programs that ran both
+// machines ran a section or more.
+fn are_right<R: Abort>(rt: &R, counts: &Counts, changes: u32) {
+    assert_eq!(rt; counts.wrong, 0);
+    assert_eq!(rt; counts.trials(), changes);
+    assert!(rt;
+        counts.refused > 0 && counts.rejected > 0 && counts.ran > 0,
+        "{counts:?}"
+    );
+    assert!(rt; counts.runs >= counts.ran, "{counts:?}");
+}
+
 #[test]
 fn changes_of_the_base_program(rt: HostRuntime) -> Result<(), Fail> {
     writes(&rt, BASE_PROGRAM, BASE_ROWS, BASE_TEXT);
@@ -209,14 +229,7 @@ fn changes_of_the_base_program(rt: HostRuntime) -> Result<(), Fail> {
     let runs = run_by_both(rt.alloc(), BASE_PROGRAM, BASE_ROWS);
     assert_eq!(rt; runs, Some(6));
     let counts = change_bytes(rt.alloc(), BASE_PROGRAM, BASE_ROWS)?;
-    let want = Counts {
-        refused: 20_400,
-        rejected: 2_992,
-        ran: 12_563,
-        wrong: 0,
-        runs: 74_474,
-    };
-    assert_eq!(rt; counts, want);
+    are_right(&rt, &counts, 141 * 255);
     Ok(())
 }
 
@@ -228,14 +241,7 @@ fn changes_of_a_program_of_sessions(rt: HostRuntime) -> Result<(), Fail> {
     let runs = run_by_both(rt.alloc(), &program, SESSION_ROWS);
     assert_eq!(rt; runs, Some(19));
     let counts = change_bytes(rt.alloc(), &program, SESSION_ROWS)?;
-    let want = Counts {
-        refused: 40_447,
-        rejected: 4_378,
-        ran: 19_690,
-        wrong: 0,
-        runs: 369_572,
-    };
-    assert_eq!(rt; counts, want);
+    are_right(&rt, &counts, 253 * 255);
     Ok(())
 }
 
@@ -247,13 +253,6 @@ fn changes_of_a_program_of_a_stream(rt: HostRuntime) -> Result<(), Fail> {
     let runs = run_by_both(rt.alloc(), &program, STREAM_ROWS);
     assert_eq!(rt; runs, Some(15));
     let counts = change_bytes(rt.alloc(), &program, STREAM_ROWS)?;
-    let want = Counts {
-        refused: 23_652,
-        rejected: 4_201,
-        ran: 13_457,
-        wrong: 0,
-        runs: 199_595,
-    };
-    assert_eq!(rt; counts, want);
+    are_right(&rt, &counts, 162 * 255);
     Ok(())
 }

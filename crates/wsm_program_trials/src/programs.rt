@@ -5,6 +5,7 @@ use crate::noise::Noise;
 use crate::sections::Sections;
 use crate::sides::Sides;
 use std::alloc::Global;
+use std::process::Abort;
 use std::test::Fail;
 use wsm_bytecode::{CellType, Clock, Costs, Header, LateBy, Program, decode, encode};
 use wsm_engine::Engine;
@@ -270,7 +271,7 @@ fn tried(alloc: Global, sections: &Sections) -> Result<Taken, Fail> {
 }
 
 /// How many programs were taken in each way.
-#[derive(Clone, Copy, Debug, PartialEq, Eq)]
+#[derive(Clone, Copy, Debug)]
 struct Counts {
     refused: u32,
     ran: u32,
@@ -294,6 +295,17 @@ impl Counts {
         };
         *count = count.saturating_add(1);
     }
+
+    fn programs(&self) -> u32 {
+        let mut count = self
+            .refused
+            .saturating_add(self.ran)
+            .saturating_add(self.wrong);
+        for rejected in self.rejected {
+            count = count.saturating_add(rejected);
+        }
+        count
+    }
 }
 
 // How programs of a seed are taken.
@@ -313,38 +325,29 @@ fn programs_of(alloc: Global, seed: u64, number: u32) -> Result<Counts, Fail> {
     Ok(counts)
 }
 
-// None is wrong, one in twenty or more is accepted, and each rule of the sections rejects one.
+// None is wrong, one in twenty or more is accepted, some have an operand that names nothing, and each
+// rule of the sections rejects one, but none of the budget, which is roomy. Of an accepted program both
+// machines run two sections on seven records and one on four firings, and WHERE on the six records of
+// the rows that are in range.
+fn are_right<R: Abort>(rt: &R, counts: &Counts) {
+    assert_eq!(rt; counts.wrong, 0);
+    assert_eq!(rt; counts.programs(), 5_000);
+    assert!(rt; counts.ran >= 250 && counts.refused > 0, "{counts:?}");
+    assert!(rt; counts.runs >= counts.ran.saturating_mul(24), "{counts:?}");
+    let (sections, others) = counts.rejected.split_at(13);
+    assert!(rt; sections.iter().all(|rejected| *rejected > 0), "{counts:?}");
+    assert!(rt; others.iter().all(|rejected| *rejected == 0), "{counts:?}");
+}
+
 #[test]
 fn programs_at_random(rt: HostRuntime) -> Result<(), Fail> {
-    let counts = programs_of(rt.alloc(), 2, 5_000)?;
-    let want = Counts {
-        refused: 200,
-        ran: 1_300,
-        wrong: 0,
-        runs: 39_494,
-        rejected: [
-            210, 42, 699, 182, 173, 115, 52, 149, 34, 43, 490, 769, 542, 0, 0, 0, 0,
-        ],
-    };
-    assert!(rt; counts.ran >= 250);
-    assert_eq!(rt; counts, want);
+    are_right(&rt, &programs_of(rt.alloc(), 2, 5_000)?);
     Ok(())
 }
 
 // The same of another seed.
 #[test]
 fn other_programs_at_random(rt: HostRuntime) -> Result<(), Fail> {
-    let counts = programs_of(rt.alloc(), 3, 5_000)?;
-    let want = Counts {
-        refused: 213,
-        ran: 1_374,
-        wrong: 0,
-        runs: 41_502,
-        rejected: [
-            195, 48, 644, 202, 137, 96, 47, 183, 44, 35, 479, 761, 542, 0, 0, 0, 0,
-        ],
-    };
-    assert!(rt; counts.ran >= 250);
-    assert_eq!(rt; counts, want);
+    are_right(&rt, &programs_of(rt.alloc(), 3, 5_000)?);
     Ok(())
 }
