@@ -40,7 +40,7 @@ use Rattle.wsm_verifier.proofs.Lawful.{lawful as program_lawful}
 use Rattle.wsm_machine.specs.Meaning.{query_of, plan_of, selects}
 use Rattle.wsm_machine.proofs.CountedSessions.{sessions_by_event}
 use Rattle.wsm_panes.specs.Held.{session_entered}
-use Rattle.wsm_firing.specs.ByRecord.{is_among, places_entered, windows_entered}
+use Rattle.wsm_firing.specs.ByRecord.{is_among, places_entered, windows_of_record}
 use Rattle.wsm_engine.proofs.HeldByHistory.{Panes, kept_panes}
 use Rattle.wsm_engine.proofs.RecordRoom.{now, now_held}
 
@@ -84,7 +84,7 @@ module _ (p : Program) (costs : Costs) (judged : judge p ≡ Ok costs) (lawful :
 
   -- a place with records is one that the record is in exactly where it is one of the record's places
   at_place : (sh : Shape) → q.shape ≡ sh → (r : Place) → among r (places q (e ∷ past)) ≡ true
-      → is_there q r bare ≡ is_among (map (at k) (windows_entered sh q.clock.lateness (mark q past) t (session_entered sh (datum 0 (pos 0) k t []) es))) r
+      → is_there q r bare ≡ is_among (map (at k) (windows_of_record sh q.clock.lateness (mark q past) t (session_entered sh (datum 0 (pos 0) k t []) es))) r
   at_place (Fixed size) is r placed =
       let assigned : IsAssigned q.shape = subst IsAssigned (sym is) tt in
       sym (own q.shape q.clock.lateness ok assigned r (grid_of q ok assigned (e ∷ past) r placed) bare) ∙ ap (λ (sh : Shape). among r (map (at k) (live_windows_of sh t q.clock.lateness (mark q past)))) is

@@ -23,12 +23,12 @@ use Rattle.wsm_machine.specs.Meaning.{query_of}
 use Rattle.wsm_firing.specs.Firing.{CanFire}
 
 -- the windows that a record is put into at a mark: its session, or those of its time that are live
-abbrev pub windows_entered : Shape → ℤ → ℤ → ℤ → Option Window → List Window
-windows_entered shape lateness mark time (Some session) = session ∷ []
-windows_entered shape lateness mark time None = live_windows_of shape time lateness mark
+abbrev pub windows_of_record : Shape → ℤ → ℤ → ℤ → Option Window → List Window
+windows_of_record shape lateness mark time (Some session) = session ∷ []
+windows_of_record shape lateness mark time None = live_windows_of shape time lateness mark
 
 abbrev pub places_entered : Program → ℤ → ℕ → ℤ → Option Window → List Place
-places_entered p mark key time session = map (at key) (windows_entered p.header.shape p.header.clock.lateness mark time session)
+places_entered p mark key time session = map (at key) (windows_of_record p.header.shape p.header.clock.lateness mark time session)
 
 -- whether a place is one of some places
 abbrev pub is_among : List Place → Place → Bool

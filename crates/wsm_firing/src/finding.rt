@@ -18,7 +18,7 @@ use wsm_verifier::Verified;
 use wsm_windows::{Windows, live_windows_of};
 
 /// The windows that a record of a time was put into at a mark, where windows lie on a grid.
-pub fn windows_entered(verified: &Verified, time: i64, mark: i64) -> Windows
+pub fn windows_of_record(verified: &Verified, time: i64, mark: i64) -> Windows
     requires grid { (gap : ℤ) → verified.now.header.shape ≢ Session gap }
     requires timely { IsTime time }
     requires marked { IsTime mark }

@@ -18,7 +18,7 @@ ghost use Rattle.wsm_firing.specs.Operator.{AreReady};
 ghost use Rattle.wsm_firing.specs.Firing.{CanAdd, rows_of, turn_rows};
 ghost use Rattle.wsm_firing.specs.ByRecord.{AreInOrder, CanFireByRecord, HasEntered, fires_by_record, kind_at, withdrawn_of_record};
 
-use crate::finding::windows_entered;
+use crate::finding::windows_of_record;
 use crate::fire::{Due, fire};
 use crate::kinds::record_kind;
 use crate::operator::{Arrival, WindowOperator};
@@ -83,7 +83,7 @@ impl WindowOperator {
                 tally
             }
             None => {
-                let windows = windows_entered(verified, arrival.time, arrival.mark);
+                let windows = windows_of_record(verified, arrival.time, arrival.mark);
                 self.fire_each(verified, arrival.mark, arrival.key, windows)
             }
         }

@@ -2,7 +2,7 @@
 
 ghost use Rattle.std.specs.Prelude.{◌≡◌, ◌≤◌, None, Some, if◌then◌else◌, length, option_map, IfSome};
 ghost use Rattle.wsm_record.specs.declared.limits.TheConstants.{MAX_COLUMNS};
-ghost use Rattle.wsm_semantics.specs.Summaries.{columns as columns_by, fired_count as fired_count_of};
+ghost use Rattle.wsm_semantics.specs.Summaries.{columns as columns_by, fired_count};
 ghost use Rattle.wsm_machine.specs.Meaning.{plan_of, pane_cost_by};
 ghost use Rattle.wsm_machine.specs.Sound.{MayFire};
 ghost use Rattle.wsm_firing.specs.Due.{fired_by};
@@ -10,7 +10,8 @@ ghost use Rattle.wsm_firing.specs.Due.{fired_by};
 use crate::fire::Due;
 use wsm_machine::{Inputs, Machine};
 use wsm_panes::PaneView;
-use wsm_record::{Cell, Mode};
+use wsm_record::Cell;
+use wsm_triggers::computed_over;
 use wsm_verifier::Verified;
 
 /// What FIRE comes to on a pane.
@@ -31,7 +32,7 @@ pub fn run<'a>(
     pane: &PaneView<'_>,
 ) -> Ran<'a>
     requires { MayFire verified.now (fired_by verified.now.header.mode due pane.now) }
-    ensures row { option_map (λ cells. cells.now) result.row ≡ columns_by (plan_of verified.now) due.spot.place.key (fired_count_of verified.now.header.mode pane.now) pane.now.folded }
+    ensures row { option_map (λ cells. cells.now) result.row ≡ columns_by (plan_of verified.now) due.spot.place.key (fired_count verified.now.header.mode pane.now) pane.now.folded }
     ensures wide { IfSome result.row (λ cells. length cells.now ≡ length verified.now.header.columns) }
     ensures few { IfSome result.row (λ cells. length cells.now ≤ MAX_COLUMNS) }
     ensures steps { result.steps ≡ pane_cost_by verified.now (fired_by verified.now.header.mode due pane.now) }
@@ -40,25 +41,13 @@ pub fn run<'a>(
     let inputs = Inputs {
         key: due.spot.place.key,
         values: &[],
-        count: fired_count(header.mode, pane) as i64,
+        count: computed_over(header.mode, pane.count(), pane.unshown()) as i64,
         accs: pane.folded().unwrap(),
     };
     let fired = machine.fire(verified, &inputs);
     Ran {
         row: written(fired.emits, fired.columns),
         steps: fired.steps,
-    }
-}
-
-// How many records the firing is computed over.
-#[inline(always)]
-fn fired_count(mode: Mode, pane: &PaneView<'_>) -> u64
-    ensures { result ≡ fired_count_of mode pane.now }
-{
-    if mode.is_over_all() {
-        pane.count()
-    } else {
-        pane.unshown()
     }
 }
 

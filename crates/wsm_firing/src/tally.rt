@@ -15,7 +15,7 @@ pub struct Tally {
 
 impl Tally {
     /// No firing.
-    pub(crate) fn none() -> Tally
+    pub fn none() -> Tally
         ensures { result ≡ record { fired = 0; steps_max = 0; steps_total = 0 } }
     {
         Tally {

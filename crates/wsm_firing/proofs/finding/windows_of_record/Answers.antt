@@ -6,8 +6,8 @@ use Rattle.wsm_program.specs.Program.{Program, Header}
 use Rattle.wsm_program.specs.View.{header_of}
 use Rattle.wsm_verifier.proofs.Lawful as lawful_programs
 use Rattle.wsm_firing.proofs.InOrder.{windows_in_order}
-use Rattle.wsm_firing.proofs.finding.windows_entered.Goals as goal
-use Rattle.wsm_firing.proofs.finding.windows_entered.Goals.{After-header-header, After-live_windows_of}
+use Rattle.wsm_firing.proofs.finding.windows_of_record.Goals as goal
+use Rattle.wsm_firing.proofs.finding.windows_of_record.Goals.{After-header-header, After-live_windows_of}
 
 late_fits : (n : ℤ) → IsSpan n → SFits w64 n
 late_fits n span = fits_signed_from_abs w64 n (omega (arith, ints, span.low, span.high))

@@ -7,15 +7,15 @@ use Rattle.wsm_firing.proofs.Entered.{AreAlike, alike_in_session, alike_in_windo
 use Rattle.wsm_firing.proofs.RetractAt.{number_at}
 use Rattle.wsm_firing.proofs.RetractWalk.{Written}
 use Rattle.wsm_firing.proofs.retracting.retract_entered.Goals as goal
-use Rattle.wsm_firing.proofs.retracting.retract_entered.Goals.{After-at-place, After-windows_entered-windows}
+use Rattle.wsm_firing.proofs.retracting.retract_entered.Goals.{After-at-place, After-windows_of_record-windows}
 
 in_session : (c : After-at-place) → AreAlike c.args.verified.now c.args.arrival.mark c.args.arrival.key c.args.arrival.time c.args.session (entries_of c.args.held.now) c.requires.entered (c.at-place.result ∷ [])
 in_session c = alike_in_session c.args.verified.now c.args.arrival.mark c.args.arrival.key c.args.arrival.time c.args.session (entries_of c.args.held.now) c.requires.entered c.in-Some.window c.at-place.result c.in-Some.is c.at-place.ensures
 
-in_windows : (c : After-windows_entered-windows) → AreAlike c.args.verified.now c.args.arrival.mark c.args.arrival.key c.args.arrival.time c.args.session (entries_of c.args.held.now) c.requires.entered (map (at c.args.arrival.key) c.windows_entered-windows.result)
+in_windows : (c : After-windows_of_record-windows) → AreAlike c.args.verified.now c.args.arrival.mark c.args.arrival.key c.args.arrival.time c.args.session (entries_of c.args.held.now) c.requires.entered (map (at c.args.arrival.key) c.windows_of_record-windows.result)
 in_windows c =
     let mark : SFits w64 c.args.arrival.mark = search rules in let time : SFits w64 c.args.arrival.time = search rules in
-    alike_in_windows c.args.verified.now c.args.arrival.mark c.args.arrival.key c.args.arrival.time c.args.session (entries_of c.args.held.now) c.requires.entered c.windows_entered-windows.result c.in-None.is (simp to_z-of_z at c.windows_entered-windows.ensures.list)
+    alike_in_windows c.args.verified.now c.args.arrival.mark c.args.arrival.key c.args.arrival.time c.args.session (entries_of c.args.held.now) c.requires.entered c.windows_of_record-windows.result c.in-None.is (simp to_z-of_z at c.windows_of_record-windows.ensures.list)
 
 pub retract_at-requires : goal.retract_at-requires
 retract_at-requires c =
@@ -29,8 +29,8 @@ pub retract_each-requires-clause-room : goal.retract_each-requires-clause-room
 retract_each-requires-clause-room c =
     let p = c.args.verified.now in let es = entries_of c.args.held.now in
     let mark : SFits w64 c.args.arrival.mark = search rules in
-    let alike = in_windows (goal.at.retract_each-requires-clause-room c).After-windows_entered-windows in
-    let room : vec_len c.args.rows.now + number_at (plan_of p) (query_of p) c.args.arrival.mark (map (at c.args.arrival.key) c.windows_entered-windows.result) es ≤ vec_capacity c.args.rows.now = omega (arith, c.requires.room, ap length alike.firings) in
+    let alike = in_windows (goal.at.retract_each-requires-clause-room c).After-windows_of_record-windows in
+    let room : vec_len c.args.rows.now + number_at (plan_of p) (query_of p) c.args.arrival.mark (map (at c.args.arrival.key) c.windows_of_record-windows.result) es ≤ vec_capacity c.args.rows.now = omega (arith, c.requires.room, ap length alike.firings) in
     simp to_z-of_z room
 
 pub returns-in-Some-clause-rows : goal.returns-in-Some-clause-rows
@@ -42,5 +42,5 @@ returns-in-Some-clause-rows c =
 pub returns-in-None-clause-rows : goal.returns-in-None-clause-rows
 returns-in-None-clause-rows c =
     let mark : SFits w64 c.args.arrival.mark = search rules in
-    let alike = in_windows (goal.at.returns-in-None-clause-rows c).After-windows_entered-windows in
+    let alike = in_windows (goal.at.returns-in-None-clause-rows c).After-windows_of_record-windows in
     subst (λ (x : Written × ℕ). AreWithdrawn c.args.rows.now.items c.retract_each.new.rows.items x.0 x.1) (λ i. (alike.withdrawn i, length (alike.firings i))) (simp to_z-of_z at c.retract_each.ensures.rows)

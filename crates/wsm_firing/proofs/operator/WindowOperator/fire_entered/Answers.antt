@@ -9,17 +9,17 @@ use Rattle.wsm_firing.specs.ByRecord.{fires_by_record, kind_at}
 use Rattle.wsm_firing.proofs.Entered.{AreAlike, alike_in_session, alike_in_windows}
 use Rattle.wsm_firing.proofs.LeftToFire.{tally_all}
 use Rattle.wsm_firing.proofs.operator.WindowOperator.fire_entered.Goals as goal
-use Rattle.wsm_firing.proofs.operator.WindowOperator.fire_entered.Goals.{After-at-place, After-windows_entered-windows}
+use Rattle.wsm_firing.proofs.operator.WindowOperator.fire_entered.Goals.{After-at-place, After-windows_of_record-windows}
 
 -- what fires at the record's session is what fires by the record
 in_session : (c : After-at-place) → AreAlike c.args.verified.now c.args.arrival.mark c.args.arrival.key c.args.arrival.time c.args.session (entries_of c.args.self.now.held) c.requires.entered (c.at-place.result ∷ [])
 in_session c = alike_in_session c.args.verified.now c.args.arrival.mark c.args.arrival.key c.args.arrival.time c.args.session (entries_of c.args.self.now.held) c.requires.entered c.in-Some.window c.at-place.result c.in-Some.is c.at-place.ensures
 
 -- what fires at the windows of the record's time is what fires by the record
-in_windows : (c : After-windows_entered-windows) → AreAlike c.args.verified.now c.args.arrival.mark c.args.arrival.key c.args.arrival.time c.args.session (entries_of c.args.self.now.held) c.requires.entered (map (at c.args.arrival.key) c.windows_entered-windows.result)
+in_windows : (c : After-windows_of_record-windows) → AreAlike c.args.verified.now c.args.arrival.mark c.args.arrival.key c.args.arrival.time c.args.session (entries_of c.args.self.now.held) c.requires.entered (map (at c.args.arrival.key) c.windows_of_record-windows.result)
 in_windows c =
     let mark : SFits w64 c.args.arrival.mark = search rules in let time : SFits w64 c.args.arrival.time = search rules in
-    alike_in_windows c.args.verified.now c.args.arrival.mark c.args.arrival.key c.args.arrival.time c.args.session (entries_of c.args.self.now.held) c.requires.entered c.windows_entered-windows.result c.in-None.is (simp to_z-of_z at c.windows_entered-windows.ensures.list)
+    alike_in_windows c.args.verified.now c.args.arrival.mark c.args.arrival.key c.args.arrival.time c.args.session (entries_of c.args.self.now.held) c.requires.entered c.windows_of_record-windows.result c.in-None.is (simp to_z-of_z at c.windows_of_record-windows.ensures.list)
 
 pub fire_at-requires-clause-can : goal.fire_at-requires-clause-can
 fire_at-requires-clause-can c =
@@ -47,15 +47,15 @@ returns-in-Some c =
 pub fire_each-requires-clause-can : goal.fire_each-requires-clause-can
 fire_each-requires-clause-can c =
     let mark_fits : SFits w64 c.args.arrival.mark = search rules in
-    let alike = in_windows (goal.at.fire_each-requires-clause-can c).After-windows_entered-windows in
+    let alike = in_windows (goal.at.fire_each-requires-clause-can c).After-windows_of_record-windows in
     simp to_z-of_z (subst (CanAdd c.args.verified.now (vec_capacity c.args.self.now.rows) (vec_len c.args.self.now.rows) nothing) (sym alike.firings) c.requires.can)
 
 pub returns-in-None : goal.returns-in-None
 returns-in-None c =
     let p = c.args.verified.now in
     let mark_fits : SFits w64 c.args.arrival.mark = search rules in let time_fits : SFits w64 c.args.arrival.time = search rules in
-    let alike = in_windows (goal.at.returns-in-None c).After-windows_entered-windows in
-    let some = fires (query_of p) (kind_at (query_of p) c.args.arrival.mark (map (at c.args.arrival.key) c.windows_entered-windows.result)) (entries_of c.args.self.now.held) in
+    let alike = in_windows (goal.at.returns-in-None c).After-windows_of_record-windows in
+    let some = fires (query_of p) (kind_at (query_of p) c.args.arrival.mark (map (at c.args.arrival.key) c.windows_of_record-windows.result)) (entries_of c.args.self.now.held) in
     let rows : c.fire_each.new.self.rows.items ≡ c.args.self.now.rows.items ++ rows_of p some = simp to_z-of_z at c.fire_each.ensures.rows in
     let tally : c.fire_each.result ≡ tally_of p some = simp to_z-of_z at c.fire_each.ensures.tally in
     record {
