@@ -7,14 +7,16 @@ use Rattle.std.specs.Prelude.{◌+ℤ◌, max, min, pos, negsuc, int_le, nat_le,
 use Rattle.std.specs.Int.{div_ceil}
 use Rattle.std.proofs.lemmas.Bool.{and_from, and_parts, le-leb}
 use Rattle.wsm_record.specs.Name.{is_between}
+use Rattle.wsm_record.specs.Schema.{is_within}
 use Rattle.wsm_windows.specs.declared.window.Shape.{Shape}
 use Rattle.wsm_windows.specs.declared.window.Shape.TheVariants.{Fixed, Sliding, Session}
 use Rattle.wsm_windows.specs.Life.{live_bound}
+use Rattle.wsm_windows.specs.Limits.{is_shape, is_size, is_span, is_time}
 use Rattle.wsm_program.specs.declared.program.Costs.{Costs}
 use Rattle.wsm_verifier.specs.Costs.{windows_of_a_record, join_steps}
 use Rattle.wsm_program.specs.Program.{is_stated, is_budget}
 use Rattle.wsm_query.specs.Tree.{Query, Budget, Expr, Number, Truth, Field, EnumName, Key, KeyName, Count, Aggregate, If, Brackets, Minus, Not, Binary, And, Or}
-use Rattle.wsm_check.specs.Checks.{in_range, is_count, is_span, is_time, is_cost, shape_fits, budget_fits}
+use Rattle.wsm_check.specs.Checks.{is_cost, budget_fits}
 use Rattle.wsm_check.specs.Tested.{Tested, tested, unless_tested}
 use Rattle.wsm_check.specs.Sizes.{Acc, accumulators, size, condition_size, folds_size, columns_size}
 use Rattle.wsm_compiler.specs.Longest.{longest, longest_condition, longest_folds, longest_columns, needed_by_structure}
@@ -91,36 +93,39 @@ ceil_at_least m n h l = some (div_ceil m n) (div_ceil_times m n l).0
 abbrev limit : ℤ
 limit = pos 1000000000000
 
-count_is : (n : ℤ) → is_count n ≡ true → (0 < unsigned_abs n) × (unsigned_abs n ≤ 1000000000000)
-count_is (pos n) h = let p = and_parts (int_le (pos 1) (pos n)) (int_le (pos n) limit) h in (from n p.0, to n p.1)
-  where
-    from : (n : ℕ) → int_le (pos 1) (pos n) ≡ true → 0 < n
-    from n h = grind arith
+from_one : (n : ℕ) → int_le (pos 1) (pos n) ≡ true → 0 < n
+from_one n h = grind arith
 
+size_is : (n : ℤ) → is_size n ≡ true → (0 < unsigned_abs n) × (unsigned_abs n ≤ 1000000000000)
+size_is (pos n) h = let p = and_parts (int_le (pos 1) (pos n)) (int_le (pos n) limit) h in (from_one n p.0, to n p.1)
+  where
     to : (n : ℕ) → int_le (pos n) limit ≡ true → n ≤ 1000000000000
     to n h = grind arith
-count_is (negsuc n) h = no h
+size_is (negsuc n) h = no h
 
-windows_at_most : (s : Shape) → shape_fits s ≡ true → windows_of_a_record s ≤ 1000000000001
+period_is : (size period : ℤ) → is_within (pos 1) size period ≡ true → 0 < unsigned_abs period
+period_is size (pos n) h = from_one n (and_parts (int_le (pos 1) (pos n)) (int_le (pos n) size) h).0
+period_is size (negsuc n) h = no h
+
+windows_at_most : (s : Shape) → is_shape s ≡ true → windows_of_a_record s ≤ 1000000000001
 windows_at_most (Fixed size) h = omega arith
 windows_at_most (Sliding size period) h =
-    let c = count_is size (and_parts (is_count size) (is_count period && int_le period size) h).0 in
+    let c = size_is size (and_parts (is_size size) (is_within (pos 1) size period) h).0 in
     let d = ceil_at_most (unsigned_abs size) (unsigned_abs period) in
     omega (arith, c.1, d)
 windows_at_most (Session gap) h = omega arith
 
-spans_added : (skew lateness size : ℤ) → is_span skew ≡ true → is_span lateness ≡ true → is_count size ≡ true → 0 < unsigned_abs ((skew +ℤ lateness) +ℤ size)
-spans_added (pos m) (pos n) (pos l) h i j = let c = count_is (pos l) j in omega (arith, c.0)
+spans_added : (skew lateness size : ℤ) → is_span skew ≡ true → is_span lateness ≡ true → is_size size ≡ true → 0 < unsigned_abs ((skew +ℤ lateness) +ℤ size)
+spans_added (pos m) (pos n) (pos l) h i j = let c = size_is (pos l) j in omega (arith, c.0)
 spans_added (negsuc m) lateness size h i j = no h
 spans_added (pos m) (negsuc n) size h i j = no i
 spans_added (pos m) (pos n) (negsuc l) h i j = no j
 
-live_at_least : (s : Shape) (skew lateness : ℤ) → shape_fits s ≡ true → is_span skew ≡ true → is_span lateness ≡ true → 0 < live_bound s skew lateness
-live_at_least (Fixed size) skew lateness h i j = ceil_at_least (unsigned_abs ((skew +ℤ lateness) +ℤ size)) (unsigned_abs size) (spans_added skew lateness size i j h) (count_is size h).0
+live_at_least : (s : Shape) (skew lateness : ℤ) → is_shape s ≡ true → is_span skew ≡ true → is_span lateness ≡ true → 0 < live_bound s skew lateness
+live_at_least (Fixed size) skew lateness h i j = ceil_at_least (unsigned_abs ((skew +ℤ lateness) +ℤ size)) (unsigned_abs size) (spans_added skew lateness size i j h) (size_is size h).0
 live_at_least (Sliding size period) skew lateness h i j =
-    let p = and_parts (is_count size) (is_count period && int_le period size) h in
-    let d = and_parts (is_count period) (int_le period size) p.1 in
-    ceil_at_least (unsigned_abs ((skew +ℤ lateness) +ℤ size)) (unsigned_abs period) (spans_added skew lateness size i j p.0) (count_is period d.0).0
+    let p = and_parts (is_size size) (is_within (pos 1) size period) h in
+    ceil_at_least (unsigned_abs ((skew +ℤ lateness) +ℤ size)) (unsigned_abs period) (spans_added skew lateness size i j p.0) (period_is size period p.1)
 live_at_least (Session gap) skew lateness h i j = omega arith
 
 -- ---- what is stated
@@ -152,9 +157,9 @@ needed_fits q p keys =
     let windows = windows_at_most q.shape p.shape in
     let product = product_at_most (windows_of_a_record q.shape) (longest_folds (accumulators q)) windows (omega (arith, u, p.code.update)) in
     let joins = joins_at_most q.shape (length (accumulators q)) in
-    let i = and_parts (is_time q.start) (is_span q.skew && (is_span q.lateness && is_count q.records)) p.clock in
-    let j = and_parts (is_span q.skew) (is_span q.lateness && is_count q.records) i.1 in
-    let k = and_parts (is_span q.lateness) (is_count q.records) j.1 in
+    let i = and_parts (is_time q.start) (is_span q.skew && (is_span q.lateness && is_size q.records)) p.clock in
+    let j = and_parts (is_span q.skew) (is_span q.lateness && is_size q.records) i.1 in
+    let k = and_parts (is_span q.lateness) (is_size q.records) j.1 in
     let live = live_at_least q.shape q.skew q.lateness p.shape j.0 k.0 in
     and_from (is_stated need.per_record) (is_stated need.per_pane && is_between 1 100000 need.held)
     (between 1 1000000000000000000 need.per_record (omega arith) (omega (arith, w, product, joins, p.code.selection, p.code.accs)))
@@ -162,7 +167,7 @@ needed_fits q p keys =
     (between 1 1000000000000000000 need.per_pane (omega (arith, f.0)) (omega (arith, f.1, p.code.fire)))
     (between 1 100000 need.held (product_at_least (length q.keys) (live_bound q.shape q.skew q.lateness) keys live) p.code.held))
 
-cost_is : (lo hi : ℕ) (n : ℤ) → in_range (pos lo) (pos hi) n ≡ true → is_between lo hi (unsigned_abs n) ≡ true
+cost_is : (lo hi : ℕ) (n : ℤ) → is_within (pos lo) (pos hi) n ≡ true → is_between lo hi (unsigned_abs n) ≡ true
 cost_is lo hi (pos n) h = let p = and_parts (int_le (pos lo) (pos n)) (int_le (pos n) (pos hi)) h in and_from (nat_le lo n) (nat_le n hi) (same lo n p.0) (same n hi p.1)
   where
     same : (m n : ℕ) → int_le (pos m) (pos n) ≡ true → nat_le m n ≡ true
@@ -175,7 +180,7 @@ budget_is q p keys = by_budget q.budget p.budget
     by_budget : (o : Option Budget) → budget_fits o ≡ true → is_budget (stated (needed_of q) o) ≡ true
     by_budget None h = ap costs_fit (needed_is q) ∙ needed_fits q p keys
     by_budget (Some b) h =
-        let f = and_parts (is_cost b.per_record) (is_cost b.per_pane && in_range (pos 1) (pos 100000) b.held) h in
-        let g = and_parts (is_cost b.per_pane) (in_range (pos 1) (pos 100000) b.held) f.1 in
+        let f = and_parts (is_cost b.per_record) (is_cost b.per_pane && is_within (pos 1) (pos 100000) b.held) h in
+        let g = and_parts (is_cost b.per_pane) (is_within (pos 1) (pos 100000) b.held) f.1 in
         and_from (is_stated (unsigned_abs b.per_record)) (is_stated (unsigned_abs b.per_pane) && is_between 1 100000 (unsigned_abs b.held)) (cost_is 1 1000000000000000000 b.per_record f.0)
         (and_from (is_stated (unsigned_abs b.per_pane)) (is_between 1 100000 (unsigned_abs b.held)) (cost_is 1 1000000000000000000 b.per_pane g.0) (cost_is 1 100000 b.held g.1))

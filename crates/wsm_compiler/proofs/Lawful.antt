@@ -10,11 +10,12 @@ use Rattle.std.proofs.lemmas.Bool.{and_from, ltb-true, and_parts, leb-true, le-l
 use Rattle.wsm_record.specs.Name.{is_name, is_among, is_between}
 use Rattle.wsm_windows.specs.declared.window.Shape.{Shape}
 use Rattle.wsm_windows.specs.declared.window.Shape.TheVariants.{Fixed, Sliding, Session}
+use Rattle.wsm_admission.specs.Clock.{late_by}
 use Rattle.wsm_program.specs.declared.instr.Instr.{Instr}
 use Rattle.wsm_program.specs.declared.program.Costs.{Costs}
-use Rattle.wsm_program.specs.Program.{Header, is_span, is_size, is_shape, is_column, is_late_by, is_limited, is_sourced, is_clock, is_firing, is_row, is_budget, is_header, is_instr, is_section, is_program}
+use Rattle.wsm_program.specs.Program.{Header, is_span, is_shape, is_column, is_late_by, is_limited, is_sourced, is_clock, is_firing, is_row, is_budget, is_header, is_instr, is_section, is_program}
 use Rattle.wsm_record.specs.Modes.{may_write}
-use Rattle.wsm_record.specs.Schema.{FieldType, DeclaredField, is_name_list, is_field_type, is_field_after, are_fields_after, are_sources, is_schema, source_count, is_within, is_i64, is_spelt_type, is_spelt_field}
+use Rattle.wsm_record.specs.Schema.{FieldType, DeclaredField, is_name_list, is_field_type, is_field_after, are_fields_after, are_sources, is_schema, source_count, is_i64, is_spelt_type, is_spelt_field}
 use Rattle.wsm_record.specs.Schema as field_types
 use Rattle.wsm_query.specs.Tree.{Name, Query, Expr, Number, Truth, Field, EnumName, Key, KeyName, Count, Aggregate, If, Brackets, Minus, Not, Binary, And, Or}
 use Rattle.wsm_check.specs.declared.refusal.CheckFault.TheVariants.{Duplicate, Limit}
@@ -24,12 +25,12 @@ use Rattle.wsm_check.specs.Names.{has_repeats}
 use Rattle.wsm_check.specs.Types.{typed}
 use Rattle.wsm_check.specs.declared.types.Around.TheVariants.{InWhere, InColumn}
 use Rattle.wsm_check.specs.Sizes.{Acc, accumulators, accumulators_of, in_option, fired}
-use Rattle.wsm_check.specs.Checks.{unless, first, ty_refusal, fields_refusal, is_count, shape_fits, lateness_fits, every_fits, typed_refusal, columns_refusal}
+use Rattle.wsm_check.specs.Checks.{unless, first, ty_refusal, field_refusal, fields_refusal, lateness_fits, every_fits, typed_refusal, columns_refusal}
 use Rattle.wsm_compiler.specs.Code.{where_section, update_section, fire_section}
 use Rattle.wsm_check.specs.Spelt.{numbers_fit, IsSpelt}
 use Rattle.wsm_compiler.specs.Lawful.{IsLawful}
 use Rattle.wsm_check.specs.Parts.{column_type, schema_of}
-use Rattle.wsm_compiler.specs.Program.{late_by, every, stated, needed_of, program_of}
+use Rattle.wsm_compiler.specs.Program.{every, stated, needed_of, program_of}
 use Rattle.wsm_machine.proofs.FittingStacks.{no}
 use Rattle.wsm_compiler.proofs.Sized.{sizes_are_lengths}
 use Rattle.wsm_compiler.proofs.KnownFields.{in_column}
@@ -63,12 +64,11 @@ field_passed names d ds h =
     let r1 = unless (nat_lt (length names) 16) Limit p in
     let r2 = unless (not (is_among d.name names)) Duplicate p in
     let r3 = ty_refusal p d.type in
-    let r4 = fields_refusal (names ++ d.name ∷ []) ds in
-    let h1 = passed_both r1 (first (r2 ∷ r3 ∷ r4 ∷ [])) h in
-    let h2 = passed_both r2 (first (r3 ∷ r4 ∷ [])) h1.1 in
-    let h3 = passed_both r3 (first (r4 ∷ [])) h2.1 in
-    let h4 = passed_both r4 None h3.1 in
-    record { room = unless_none (nat_lt (length names) 16) Limit p h1.0; apart = unless_none (not (is_among d.name names)) Duplicate p h2.0; ty = h3.0; rest = h4.0 }
+    let both = passed_both (field_refusal names d) (fields_refusal (names ++ d.name ∷ []) ds) h in
+    let h1 = passed_both r1 (first (r2 ∷ r3 ∷ [])) both.0 in
+    let h2 = passed_both r2 (first (r3 ∷ [])) h1.1 in
+    let h3 = passed_both r3 None h2.1 in
+    record { room = unless_none (nat_lt (length names) 16) Limit p h1.0; apart = unless_none (not (is_among d.name names)) Duplicate p h2.0; ty = h3.0; rest = both.1 }
 
 fields_listed : (names : List Name) (ds : List DeclaredField) → fields_refusal names ds ≡ None → list_all is_spelt_field ds ≡ true → are_fields_after names ds ≡ true
 fields_listed names [] h l = refl
@@ -96,15 +96,6 @@ schema_is q p s =
     (fields_listed [] q.fields p.fields s.fields) (sources_listed q.sources p.sources s.sources)
 
 -- ---- when panes fire
-
-shape_is : (s : Shape) → shape_fits s ≡ true → is_shape s ≡ true
-shape_is (Fixed size) h = h
-shape_is (Sliding size period) h =
-    let p = and_parts (is_count size) (is_count period && int_le period size) h in
-    let d = and_parts (is_count period) (int_le period size) p.1 in
-    let one = and_parts (int_le (pos 1) period) (int_le period (pos 1000000000000)) d.0 in
-    and_from (is_size size) (is_within (pos 1) size period) p.0 (and_from (int_le (pos 1) period) (int_le period size) one.0 d.1)
-shape_is (Session gap) h = h
 
 every_is : (o : Option ℤ) → every_fits o ≡ true → is_span (every o) ≡ true
 every_is None h = refl
@@ -225,7 +216,7 @@ module _ (q : Query) (passes : Passed q) (spelt : IsSpelt q) (b : Costs) (f : Fi
   firing_is : is_firing head ≡ true
   firing_is =
       let t = and_parts (every_fits q.early) (every_fits q.late) passes.triggers in
-      and_from (is_shape q.shape) (is_span (every q.early) && (is_span (every q.late) && may_write q.mode q.form)) (shape_is q.shape passes.shape)
+      and_from (is_shape q.shape) (is_span (every q.early) && (is_span (every q.late) && may_write q.mode q.form)) passes.shape
       (and_from (is_span (every q.early)) (is_span (every q.late) && may_write q.mode q.form) (every_is q.early t.0)
       (and_from (is_span (every q.late)) (may_write q.mode q.form) (every_is q.late t.1) passes.emit))
 

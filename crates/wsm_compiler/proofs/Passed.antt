@@ -4,6 +4,7 @@ use Rattle.std.specs.Prelude.{nat_le}
 use Rattle.std.proofs.lemmas.Bool.{and_parts}
 use Rattle.wsm_record.specs.Modes.{may_write}
 use Rattle.wsm_windows.specs.Life.{live_bound}
+use Rattle.wsm_windows.specs.Limits.{is_shape}
 use Rattle.wsm_query.specs.Tree.{Query}
 use Rattle.wsm_check.specs.declared.refusal.CheckFault.{CheckFault}
 use Rattle.wsm_check.specs.declared.refusal.CheckFault.TheVariants.{Limit, SessionLateness, StreamNeedsAccumulating}
@@ -12,7 +13,7 @@ use Rattle.wsm_check.specs.declared.refusal.Part.TheVariants as part
 use Rattle.wsm_check.specs.declared.refusal.CheckRefusal.{CheckRefusal}
 use Rattle.wsm_check.specs.Sizes.{accumulators, where_size, update_size, fire_size, stack_need}
 use Rattle.wsm_check.specs.declared.types.Around.TheVariants.{InWhere, InColumn}
-use Rattle.wsm_check.specs.Checks.{unless, first, names_refusal, fields_refusal, sources_refusal, clock_fits, budget_fits, shape_fits, lateness_fits, every_fits, condition_refusal, columns_refusal, code_fits, IsChecked}
+use Rattle.wsm_check.specs.Checks.{unless, first, names_refusal, fields_refusal, sources_refusal, clock_fits, budget_fits, lateness_fits, every_fits, condition_refusal, columns_refusal, code_fits, declared_refusal, numbers_refusal, expressions_refusal, IsChecked}
 use Rattle.wsm_machine.proofs.FittingStacks.{no}
 use Rattle.wsm_check.proofs.ChecksInOrder.{passed_both}
 
@@ -60,7 +61,7 @@ pub record Passed (q : Query) : Type 0 where
   pub sources : sources_refusal q.sources ≡ None
   pub clock : clock_fits q ≡ true
   pub budget : budget_fits q.budget ≡ true
-  pub shape : shape_fits q.shape ≡ true
+  pub shape : is_shape q.shape ≡ true
   pub lateness : lateness_fits q.from_window q.shape ≡ true
   pub triggers : (every_fits q.early && every_fits q.late) ≡ true
   pub emit : may_write q.mode q.form ≡ true
@@ -71,44 +72,47 @@ pub record Passed (q : Query) : Type 0 where
 
 pub passed : (q : Query) → IsChecked q → Passed q
 passed q h =
-    let r13 = unless (code_fits q) Limit part.Code in
-    let r12 = condition_refusal q InColumn part.Having q.having in
-    let r11 = columns_refusal q 0 q.columns in
-    let r10 = condition_refusal q InWhere part.Where q.condition in
-    let r9 = unless (may_write q.mode q.form) StreamNeedsAccumulating part.Emit in
-    let r8 = unless (every_fits q.early && every_fits q.late) Limit part.Trigger in
-    let r7 = unless (lateness_fits q.from_window q.shape) SessionLateness part.Window in
-    let r6 = unless (shape_fits q.shape) Limit part.Window in
-    let r5 = unless (budget_fits q.budget) Limit part.Budget in
-    let r4 = unless (clock_fits q) Limit part.Clock in
-    let r3 = sources_refusal q.sources in
-    let r2 = fields_refusal [] q.fields in
-    let r1 = names_refusal part.Keys q.keys in
-    let h1 = passed_both r1 (first (r2 ∷ r3 ∷ r4 ∷ r5 ∷ r6 ∷ r7 ∷ r8 ∷ r9 ∷ r10 ∷ r11 ∷ r12 ∷ r13 ∷ [])) h in
-    let h2 = passed_both r2 (first (r3 ∷ r4 ∷ r5 ∷ r6 ∷ r7 ∷ r8 ∷ r9 ∷ r10 ∷ r11 ∷ r12 ∷ r13 ∷ [])) h1.1 in
-    let h3 = passed_both r3 (first (r4 ∷ r5 ∷ r6 ∷ r7 ∷ r8 ∷ r9 ∷ r10 ∷ r11 ∷ r12 ∷ r13 ∷ [])) h2.1 in
-    let h4 = passed_both r4 (first (r5 ∷ r6 ∷ r7 ∷ r8 ∷ r9 ∷ r10 ∷ r11 ∷ r12 ∷ r13 ∷ [])) h3.1 in
-    let h5 = passed_both r5 (first (r6 ∷ r7 ∷ r8 ∷ r9 ∷ r10 ∷ r11 ∷ r12 ∷ r13 ∷ [])) h4.1 in
-    let h6 = passed_both r6 (first (r7 ∷ r8 ∷ r9 ∷ r10 ∷ r11 ∷ r12 ∷ r13 ∷ [])) h5.1 in
-    let h7 = passed_both r7 (first (r8 ∷ r9 ∷ r10 ∷ r11 ∷ r12 ∷ r13 ∷ [])) h6.1 in
-    let h8 = passed_both r8 (first (r9 ∷ r10 ∷ r11 ∷ r12 ∷ r13 ∷ [])) h7.1 in
-    let h9 = passed_both r9 (first (r10 ∷ r11 ∷ r12 ∷ r13 ∷ [])) h8.1 in
-    let h10 = passed_both r10 (first (r11 ∷ r12 ∷ r13 ∷ [])) h9.1 in
-    let h11 = passed_both r11 (first (r12 ∷ r13 ∷ [])) h10.1 in
-    let h12 = passed_both r12 (first (r13 ∷ [])) h11.1 in
-    let h13 = passed_both r13 None h12.1 in
+    let code = unless (code_fits q) Limit part.Code in
+    let g1 = passed_both (declared_refusal q) (first (numbers_refusal q ∷ expressions_refusal q ∷ code ∷ [])) h in
+    let g2 = passed_both (numbers_refusal q) (first (expressions_refusal q ∷ code ∷ [])) g1.1 in
+    let g3 = passed_both (expressions_refusal q) (first (code ∷ [])) g2.1 in
+    let g4 = passed_both code None g3.1 in
+    let keys = names_refusal part.Keys q.keys in
+    let fields = fields_refusal [] q.fields in
+    let sources = sources_refusal q.sources in
+    let d1 = passed_both keys (first (fields ∷ sources ∷ [])) g1.0 in
+    let d2 = passed_both fields (first (sources ∷ [])) d1.1 in
+    let d3 = passed_both sources None d2.1 in
+    let clock = unless (clock_fits q) Limit part.Clock in
+    let budget = unless (budget_fits q.budget) Limit part.Budget in
+    let shape = unless (is_shape q.shape) Limit part.Window in
+    let lateness = unless (lateness_fits q.from_window q.shape) SessionLateness part.Window in
+    let triggers = unless (every_fits q.early && every_fits q.late) Limit part.Trigger in
+    let emit = unless (may_write q.mode q.form) StreamNeedsAccumulating part.Emit in
+    let n1 = passed_both clock (first (budget ∷ shape ∷ lateness ∷ triggers ∷ emit ∷ [])) g2.0 in
+    let n2 = passed_both budget (first (shape ∷ lateness ∷ triggers ∷ emit ∷ [])) n1.1 in
+    let n3 = passed_both shape (first (lateness ∷ triggers ∷ emit ∷ [])) n2.1 in
+    let n4 = passed_both lateness (first (triggers ∷ emit ∷ [])) n3.1 in
+    let n5 = passed_both triggers (first (emit ∷ [])) n4.1 in
+    let n6 = passed_both emit None n5.1 in
+    let condition = condition_refusal q InWhere part.Where q.condition in
+    let columns = columns_refusal q 0 q.columns in
+    let having = condition_refusal q InColumn part.Having q.having in
+    let e1 = passed_both condition (first (columns ∷ having ∷ [])) g3.0 in
+    let e2 = passed_both columns (first (having ∷ [])) e1.1 in
+    let e3 = passed_both having None e2.1 in
     record {
-      keys = h1.0;
-      fields = h2.0;
-      sources = h3.0;
-      clock = unless_none (clock_fits q) Limit part.Clock h4.0;
-      budget = unless_none (budget_fits q.budget) Limit part.Budget h5.0;
-      shape = unless_none (shape_fits q.shape) Limit part.Window h6.0;
-      lateness = unless_none (lateness_fits q.from_window q.shape) SessionLateness part.Window h7.0;
-      triggers = unless_none (every_fits q.early && every_fits q.late) Limit part.Trigger h8.0;
-      emit = unless_none (may_write q.mode q.form) StreamNeedsAccumulating part.Emit h9.0;
-      condition = h10.0;
-      columns = h11.0;
-      having = h12.0;
-      code = code_fits_in q (unless_none (code_fits q) Limit part.Code h13.0);
+      keys = d1.0;
+      fields = d2.0;
+      sources = d3.0;
+      clock = unless_none (clock_fits q) Limit part.Clock n1.0;
+      budget = unless_none (budget_fits q.budget) Limit part.Budget n2.0;
+      shape = unless_none (is_shape q.shape) Limit part.Window n3.0;
+      lateness = unless_none (lateness_fits q.from_window q.shape) SessionLateness part.Window n4.0;
+      triggers = unless_none (every_fits q.early && every_fits q.late) Limit part.Trigger n5.0;
+      emit = unless_none (may_write q.mode q.form) StreamNeedsAccumulating part.Emit n6.0;
+      condition = e1.0;
+      columns = e2.0;
+      having = e3.0;
+      code = code_fits_in q (unless_none (code_fits q) Limit part.Code g4.0);
     }

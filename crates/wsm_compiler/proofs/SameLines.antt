@@ -13,6 +13,7 @@ use Rattle.wsm_record.specs.declared.words.Mode.TheVariants.{Discarding, Accumul
 use Rattle.wsm_record.specs.Event.{Event, Record, Watermark}
 use Rattle.wsm_record.specs.Schema.{fit_fields}
 use Rattle.wsm_windows.specs.declared.place.Place.{Place}
+use Rattle.wsm_windows.specs.Limits.{is_size, is_span, is_time}
 use Rattle.wsm_windows.specs.Places.{place_cmp, at, window_of}
 use Rattle.wsm_admission.specs.declared.verdict.Refusal.{Refusal}
 use Rattle.wsm_admission.specs.Clock.{admitted_count, late_count, refused_count}
@@ -27,7 +28,6 @@ use Rattle.wsm_semantics.specs.StandingFirings.{standing}
 use Rattle.wsm_semantics.specs.Lines.{Row, Out, End, events, refusal_lines, turn_lines, lines_so_far, fault_count, end_line, all_lines}
 use Rattle.wsm_machine.specs.Meaning.{query_of}
 use Rattle.wsm_query.specs.Tree.{Query}
-use Rattle.wsm_check.specs.Checks.{is_time, is_span, is_count}
 use Rattle.wsm_compiler.specs.Program.{program_of}
 use Rattle.wsm_compiler.specs.Means.{meant}
 use Rattle.wsm_compiler.specs.SameMeaning.{record_in_range, IsPane, IsAccepted}
@@ -188,7 +188,7 @@ module _ (m : Meant) (sel : ℕ → List Value → Bool) (row : ℕ → List Dat
 
 -- ---- the text and its program
 
-few_of : (n : ℕ) (records : ℤ) → is_count records ≡ true → n ≤ unsigned_abs records → pos n ≤ℤ records
+few_of : (n : ℕ) (records : ℤ) → is_size records ≡ true → n ≤ unsigned_abs records → pos n ≤ℤ records
 few_of n (pos r) h l = omega (arith, ints, l)
 few_of n (negsuc r) h l = no h
 
@@ -204,9 +204,9 @@ all_in_range q key (d ∷ ds) same fits =
 pane_is : (q : Query) → IsAccepted q → (key : ℕ) (ds : List Datum) → IsFiringSet (query_of (program_of q)) key ds → IsPane q key (map (λ d. d.values) ds)
 pane_is q a key ds h =
     let clock = (passed q a.checked).clock in
-    let c1 = and_parts (is_time q.start) (is_span q.skew && (is_span q.lateness && is_count q.records)) clock in
-    let c2 = and_parts (is_span q.skew) (is_span q.lateness && is_count q.records) c1.1 in
-    let c3 = and_parts (is_span q.lateness) (is_count q.records) c2.1 in
+    let c1 = and_parts (is_time q.start) (is_span q.skew && (is_span q.lateness && is_size q.records)) clock in
+    let c2 = and_parts (is_span q.skew) (is_span q.lateness && is_size q.records) c1.1 in
+    let c3 = and_parts (is_span q.lateness) (is_size q.records) c2.1 in
     let n = length-values ds in
     let few : length (map (λ (d : Datum). d.values) ds) ≤ unsigned_abs q.records = subst (λ l. l ≤ unsigned_abs q.records) (sym n) h.few in
     record {

@@ -2,10 +2,11 @@
 use Rattle.std.specs.Prelude.{map}
 use Rattle.wsm_record.specs.Schema.{source_count}
 use Rattle.wsm_admission.specs.declared.clock.Clock.{Clock}
+use Rattle.wsm_admission.specs.Clock.{late_by}
 use Rattle.wsm_program.specs.declared.program.Costs.{Costs}
 use Rattle.wsm_program.specs.Program.{Header, Program}
 use Rattle.wsm_check.specs.Parts.{Parts}
-use Rattle.wsm_compiler.specs.Program.{every, late_by}
+use Rattle.wsm_compiler.specs.Program.{every}
 use Rattle.wsm_compiler.specs.TermCode.{ending_code, foldings_code, firing_code}
 
 abbrev pub assembled_clock : Parts → Clock

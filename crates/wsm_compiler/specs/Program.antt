@@ -1,10 +1,8 @@
 -- The program of a query.
-use Rattle.std.specs.Prelude.{map, Bool, true, false, ℤ, pos, unsigned_abs, Option, Some, None}
+use Rattle.std.specs.Prelude.{map, ℤ, pos, unsigned_abs, Option, Some, None}
 use Rattle.wsm_record.specs.Schema.{source_count}
-use Rattle.wsm_windows.specs.declared.window.Shape.{Shape}
 use Rattle.wsm_admission.specs.declared.clock.Clock.{Clock}
-use Rattle.wsm_admission.specs.declared.clock.LateBy.{LateBy}
-use Rattle.wsm_admission.specs.declared.clock.LateBy.TheVariants.{Event, Window}
+use Rattle.wsm_admission.specs.Clock.{late_by}
 use Rattle.wsm_program.specs.declared.program.Costs.{Costs}
 use Rattle.wsm_program.specs.Program.{Program}
 use Rattle.wsm_verifier.specs.Costs.{needed}
@@ -12,11 +10,6 @@ use Rattle.wsm_query.specs.Tree.{Query, Budget}
 use Rattle.wsm_check.specs.Parts.{column_type, schema_of}
 use Rattle.wsm_check.specs.Sizes.{accumulators}
 use Rattle.wsm_compiler.specs.Code.{where_section, update_section, fire_section}
-
--- from a record's own time, or from the ends of its windows
-abbrev pub late_by : Bool → Shape → LateBy
-late_by true shape = Window shape
-late_by false shape = Event
 
 -- the numbers of the clock, and how many sources it has: one where none are declared
 abbrev pub clock_of : Query → Clock

@@ -3,10 +3,8 @@
 ghost use Rattle.std.specs.Prelude.{◌≡◌, IfOk, IsTrue};
 ghost use Rattle.wsm_query.specs.Tree.{Query};
 ghost use Rattle.wsm_query.specs.Seen.{seen_budget};
-ghost use Rattle.wsm_check.specs.Checks.{IsChecked};
 ghost use Rattle.wsm_check.specs.Parts.{parts_of};
 ghost use Rattle.wsm_check.specs.Seen.{seen_parts};
-ghost use Rattle.wsm_check.specs.Spelt.{IsSpelt};
 ghost use Rattle.wsm_program.specs.Program.{is_budget};
 ghost use Rattle.wsm_program.specs.declared.program.Costs.{Costs};
 ghost use Rattle.wsm_verifier.specs.Costs.{needed};
@@ -31,7 +29,7 @@ const LEAST: Costs = Costs {
 
 /// The program of a checked query. Where the query has no BUDGET, the program states what it needs.
 pub fn compile(alloc: Global, checked: Checked) -> Result<Program, AllocError>
-    ensures { (q : Query) → IsChecked q → IsSpelt q → seen_parts checked.parts ≡ parts_of q → IfOk result (λ p. p ≡ program_of q) }
+    ensures { (q : Query) → seen_parts checked.parts ≡ parts_of q → IfOk result (λ p. p ≡ program_of q) }
 {
     match checked.parts.budget {
         Some(clause) => program(alloc, checked, stated(clause)),

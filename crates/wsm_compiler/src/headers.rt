@@ -11,7 +11,6 @@ use wsm_admission::{Clock, LateBy};
 use wsm_check::{Folding, Parts};
 use wsm_program::{Costs, Header};
 use wsm_record::Kind;
-use wsm_windows::Shape;
 
 /// The header of a program that states a budget.
 pub fn header(alloc: Global, parts: Parts, budget: Costs) -> Result<Header, AllocError>
@@ -41,20 +40,9 @@ fn clock(parts: &Parts) -> Clock
         start: parts.start,
         skew: parts.skew,
         lateness: parts.lateness,
-        late: late_by(parts.from_window, parts.shape),
+        late: LateBy::of(parts.from_window, parts.shape),
         records: parts.records,
         sources: parts.schema.source_count() as u8,
-    }
-}
-
-// Lateness is counted from a record's own time, or from the ends of windows of this shape.
-fn late_by(from_window: bool, shape: Shape) -> LateBy
-    ensures { result ≡ spec.late_by from_window shape }
-{
-    if from_window {
-        LateBy::Window(shape)
-    } else {
-        LateBy::Event
     }
 }
 

@@ -23,11 +23,11 @@ returns-in-Some c =
     let need = needed (assembled p LEAST) in
     let some = ap (option_map seen_budget) c.in-Some.is in
     let same = ap (assembled p) (c.stated.ensures need ∙ ap (stated need) (sym some)) in
-    λ q checked spelt is. subst (λ (r : Program). IfOk c.program.result (λ made. made ≡ r)) (same ∙ compiled p LEAST q is) c.program.ensures
+    λ q is. subst (λ (r : Program). IfOk c.program.result (λ made. made ≡ r)) (same ∙ compiled p LEAST q is) c.program.ensures
 
 pub returns-in-None : goal.returns-in-None
 returns-in-None c =
     let p = seen_parts c.args.checked.parts in
     let none = ap (option_map seen_budget) c.in-None.is in
     let same = ap (λ budget. assembled p (stated (needed (assembled p LEAST)) budget)) (sym none) in
-    λ q checked spelt is. subst (λ (r : Program). IfOk c.program_with_need.result (λ made. made ≡ r)) (same ∙ compiled p LEAST q is) c.program_with_need.ensures
+    λ q is. subst (λ (r : Program). IfOk c.program_with_need.result (λ made. made ≡ r)) (same ∙ compiled p LEAST q is) c.program_with_need.ensures
