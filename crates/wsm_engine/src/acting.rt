@@ -1,77 +1,53 @@
 //! What an event does to the panes that are held, by a program's sections.
 
-ghost use Rattle.std.specs.Prelude.{◌≡◌, ◌≤◌, ◌+◌, ◌++◌, ℕ, ℤ, List, [], length, Ok, Some, true, pos, filter_map, int_lt, if◌then◌else◌, IfOk, Option, vec_len, vec_capacity};
+ghost use Rattle.std.specs.Prelude.{◌≡◌, ◌≤◌, ◌+◌, ◌++◌, ℕ, ℤ, List, [], length, Ok, Some, true, pos, filter_map, int_lt, if◌then◌else◌, Option, vec_len, vec_capacity};
 ghost use Rattle.wsm_record.specs.declared.cell.Cell.{Cell};
 ghost use Rattle.wsm_record.specs.declared.event.Value.{Value as OneValue};
-ghost use Rattle.wsm_record.specs.declared.limits.TheConstants.{MAX_PANES};
 ghost use Rattle.wsm_record.specs.Event.{Event as AnyEvent, Record, Watermark, event_of};
 ghost use Rattle.wsm_admission.specs.declared.verdict.Admitted.TheVariants as admitted;
-ghost use Rattle.wsm_semantics.specs.HeldBounds.{most_rows, rows_of_panes as spec_rows_of_panes};
+ghost use Rattle.wsm_semantics.specs.HeldBounds.{most_rows, rows_of_panes};
 ghost use Rattle.wsm_semantics.specs.Replay.{datum};
 ghost use Rattle.wsm_semantics.specs.Relation.{chosen_rows, sorted_rows, stream_rows};
 ghost use Rattle.wsm_semantics.specs.Retractions.{retracted_in};
 ghost use Rattle.wsm_semantics.specs.Summaries.{after_watermark, entered, fired_by_watermark, row_of, withdrawn_by_watermark, withdrawn_entering};
 ghost use Rattle.wsm_semantics.specs.Steps.{State, fired_by, panes_after, relation_after, streamed_by, withdrawn_by};
-ghost use Rattle.wsm_program.specs.View.{header_of};
 ghost use Rattle.wsm_machine.specs.Inputs.{inputs_of};
 ghost use Rattle.wsm_machine.specs.Meaning.{answer_cost, plan_of, query_of, record_cost_by, record_inputs as inputs_of_record, selects};
 ghost use Rattle.wsm_panes.specs.Held.{IsKept, entries_of, session_entered};
-ghost use Rattle.wsm_firing.specs.Tally.{tally_of};
+ghost use Rattle.wsm_firing.specs.Tally.{nothing, tally_of};
 ghost use Rattle.wsm_firing.specs.Streams.{AreAlike, CanAdvance, HasRoomFor, IsTold, relation_kept, standing_rows};
-ghost use Rattle.wsm_engine.specs.Operator.{Comes, IsAt, IsOf, widths_of, entering_cost, fired_with, last_relation, panes_with, relation_at, rows_with, streamed_at, withdrawn_with};
+ghost use Rattle.wsm_engine.specs.Operator.{Comes, IsAt, IsOf, entering_cost, fired_with, last_relation, panes_with, relation_at, rows_with, streamed_at, withdrawn_with};
 
-use std::alloc::{AllocError, Global};
 use wsm_admission::{Admitted, Refusal};
 use wsm_firing::{Arrival, Streams, Tally, WindowOperator, enter};
-use wsm_machine::{Inputs, Machine};
-use wsm_panes::{HeldPanes, Widths};
-use wsm_program::Header;
-use wsm_record::{Event, Kind, Mode, Value};
+use wsm_machine::Inputs;
+use wsm_record::{Event, Kind, Value};
 use wsm_semantics::OutRow;
 use wsm_verifier::Verified;
-use wsm_windows::{Window, live_bound};
+use wsm_windows::Window;
 
 /// What an event came to.
 #[derive(Clone, Copy)]
 pub struct Done {
-    /// How many instructions a record took, and a step for each accumulator of two joined sessions.
+    /// The instructions that the record is charged: WHERE's once, UPDATE's once for each window that it
+    /// enters (it is run once), and one for each accumulator where two sessions are joined. The
+    /// program's RECORD bounds it.
     pub record_steps: u64,
     /// What the firings came to.
     pub tally: Tally,
 }
 
-const NO_FIRING: Tally = Tally {
-    fired: 0,
-    steps_max: 0,
-    steps_total: 0,
-};
-
-const NOTHING: Done = Done {
-    record_steps: 0,
-    tally: NO_FIRING,
-};
-
-/// The window operator of a program, with all room reserved.
-///
-/// # Errors
-///
-/// Where there is no memory for the room.
-pub fn open(alloc: Global, verified: &Verified) -> Result<WindowOperator, AllocError>
-    ensures program { IfOk result (IsOf verified.now) }
-    ensures panes { IfOk result (λ o. entries_of o.held ≡ []) }
-    ensures relation { IfOk result (λ o. last_relation o.streams (entries_of o.held) ≡ []) }
-    ensures rows { IfOk result (λ o. o.rows.items ≡ []) }
-{
-    let header = verified.program().header();
-    let keys = header.schema.key_count();
-    let live = live_bound(header.shape, header.clock.skew, header.clock.lateness) as usize;
-    let room = keys * live;
-    Ok(WindowOperator {
-        machine: Machine::open(alloc),
-        held: HeldPanes::open(alloc, keys, header.shape, live, widths(header))?,
-        streams: Streams::open(alloc, header.form, room)?,
-        rows: Vec::with_capacity(alloc, rows_of_panes(header.mode, room))?,
-    })
+impl Done {
+    // Of an event that puts no record into a pane and fires none.
+    #[inline(always)]
+    fn nothing() -> Done
+        ensures { result ≡ record { record_steps = 0; tally = nothing } }
+    {
+        Done {
+            record_steps: 0,
+            tally: Tally::none(),
+        }
+    }
 }
 
 /// Does what the answer to an event calls for, once the rows of the last event are gone.
@@ -109,13 +85,13 @@ pub fn act(
                 };
                 take_record(operator, verified, arrival, values)
             }
-            _ => NOTHING,
+            _ => Done::nothing(),
         },
         Ok(Admitted::Watermark { old, new }) => Done {
             record_steps: 0,
             tally: take_watermark(operator, verified, old, new),
         },
-        Err(_) => NOTHING,
+        Err(_) => Done::nothing(),
     }
 }
 
@@ -148,7 +124,7 @@ fn take_record(
     if !kept.keeps {
         return Done {
             record_steps: kept.steps,
-            tally: NO_FIRING,
+            tally: Tally::none(),
         };
     }
     let (steps, session) = enter_record(operator, verified, arrival.mark, arrival.time, &inputs);
@@ -178,7 +154,7 @@ fn enter_record(
     ensures told { (relation : List (List Cell)) → IsTold operator.old.streams relation (standing_rows (entries_of operator.old.held)) → IsTold operator.new.streams relation (standing_rows (entries_of operator.new.held)) }
     ensures alike { AreAlike operator.old.streams operator.new.streams }
     ensures rows { operator.new.rows.items ≡ retracted_in verified.now.header.mode (withdrawn_entering (plan_of verified.now) verified.now.header.shape (datum 0 mark inputs.now.key time inputs.now.values.now) (entries_of operator.old.held)) }
-    ensures few { vec_len operator.new.rows + spec_rows_of_panes verified.now.header.mode (length (entries_of operator.new.held)) ≤ most_rows (query_of verified.now) }
+    ensures few { vec_len operator.new.rows + rows_of_panes verified.now.header.mode (length (entries_of operator.new.held)) ≤ most_rows (query_of verified.now) }
     ensures capacity { vec_capacity operator.new.rows ≡ vec_capacity operator.old.rows }
     ensures steps { result.0 ≡ entering_cost verified.now mark inputs.now.key time inputs.now.values.now (entries_of operator.old.held) }
     ensures session { result.1 ≡ session_entered verified.now.header.shape (datum 0 (pos 0) inputs.now.key time []) (entries_of operator.old.held) }
@@ -237,28 +213,6 @@ fn advance(streams: &mut Streams, rows: &mut Vec<OutRow>, old: i64, new: i64)
 {
     if old < new {
         streams.advance(new, rows);
-    }
-}
-
-// The most rows of a turn, for so many panes: where panes retract each can write two.
-fn rows_of_panes(mode: Mode, panes: usize) -> usize
-    requires { panes ≤ MAX_PANES }
-    ensures { result ≡ spec_rows_of_panes mode panes }
-{
-    match mode {
-        Mode::Discarding | Mode::Accumulating => panes,
-        Mode::Retracting => panes * 2,
-    }
-}
-
-// How wide the panes of a program are.
-fn widths(header: &Header) -> Widths
-    ensures { result ≡ widths_of (header_of header.now) }
-{
-    Widths {
-        accumulators: header.kinds.len(),
-        columns: header.columns.len(),
-        windows: header.mode.retracts(),
     }
 }
 

@@ -11,7 +11,8 @@ ghost use Rattle.wsm_machine.specs.Meaning.{query_of};
 ghost use Rattle.wsm_engine.specs.Meaning.{Fits, reply_to, totals_of, IsRefused};
 ghost use Rattle.wsm_engine.specs.Turn.{turn, reply_by, refusal_of as spec_refusal_of};
 
-use crate::acting::{act, open};
+use crate::acting::act;
+use crate::opening::open_operator;
 use crate::reply::Reply;
 use std::alloc::Global;
 use std::marker::Model;
@@ -63,7 +64,7 @@ impl Engine {
         ensures rows { IfOk result (λ e. e.rows ≡ []) }
         ensures handed_back { IfErr result (λ r. r ≡ OpenRefusal.Memory verified) }
     {
-        let Ok(operator) = open(alloc, &verified) else {
+        let Ok(operator) = open_operator(alloc, &verified) else {
             return Err(OpenRefusal::Memory(verified));
         };
         let admission = Admission::new(clock(verified.program()));

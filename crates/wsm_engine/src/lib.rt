@@ -61,4 +61,5 @@ pub use wsm_semantics::Totals;
 mod acting;
 mod engine;
 pub mod laws;
+mod opening;
 mod reply;

@@ -7,7 +7,9 @@ use wsm_admission::Refusal;
 pub struct Reply {
     /// Why the event wasn't taken, if it wasn't.
     pub refusal: Option<Refusal>,
-    /// How many instructions the record took, and a step for each accumulator of two joined sessions.
+    /// The instructions that the record is charged: WHERE's once, UPDATE's once for each window that it
+    /// enters (it is run once), and one for each accumulator where two sessions are joined. The
+    /// program's RECORD bounds it.
     pub record_steps: u64,
     /// How many panes fired.
     pub fired: u64,

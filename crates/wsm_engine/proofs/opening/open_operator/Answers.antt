@@ -9,8 +9,8 @@ use Rattle.wsm_firing.proofs.Headers.{lawful_firing}
 use Rattle.wsm_panes.proofs.Tables.{entries_none}
 use Rattle.wsm_engine.proofs.Limits.{room_few}
 use Rattle.wsm_engine.proofs.Told.{last_is, are_told, open_is}
-use Rattle.wsm_engine.proofs.acting.open.Goals as goal
-use Rattle.wsm_engine.proofs.acting.open.Goals.{After-header-header, After-live_bound-live}
+use Rattle.wsm_engine.proofs.opening.open_operator.Goals as goal
+use Rattle.wsm_engine.proofs.opening.open_operator.Goals.{After-header-header, After-live_bound-live}
 
 declared : (c : After-header-header) → IsLawful (header_of c.header-header.result.now)
 declared c = lawful_seen c.program.result.now (header_of c.header-header.result.now) c.header-header.ensures.header c.header-header.ensures.lawful
