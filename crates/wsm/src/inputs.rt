@@ -16,7 +16,7 @@ use crate::end::End;
 use std::alloc::Global;
 use wsm_bytecode::{Program, decode};
 use wsm_check::{CheckRefusal, Checked, check};
-use wsm_compiler::{compile, laws};
+use wsm_compiler::compile;
 use wsm_query::{Query, parse};
 use wsm_verifier::{Verified, verify};
 
@@ -27,7 +27,6 @@ pub(crate) fn program_of_text(alloc: Global, text: &[u8]) -> Result<Program, End
     ensures memory_apart { IfErr result (λ end. hides_memory end ≡ false) }
 {
     let query = parse(alloc, text)?;
-    laws::is_lawful();
     let checked = checked_of(alloc, query)?;
     Ok(compile(alloc, checked)?)
 }

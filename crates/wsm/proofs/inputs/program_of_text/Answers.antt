@@ -18,4 +18,4 @@ returns-clause-compiled c =
     let q = seen c.in_ok-query.query in
     let read = c.in_ok-query.ensures.reads in
     let checks = c.in_ok-checked.ensures in
-    (q, text_passes c.args.text.now q read checks.checked, c.in_ok-compile.ensures q checks.checked (c.is_lawful.ensures.text c.args.text.now q read) checks.parts)
+    (q, text_passes c.args.text.now q read checks.checked, c.in_ok-compile.ensures q checks.parts)
