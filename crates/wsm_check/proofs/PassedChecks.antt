@@ -1,5 +1,5 @@
 -- What holds of a query that no check refuses.
-use Rattle.std.proofs.Common.{◌≡◌, ◌∙◌, ◌+◌, ◌++◌, ◌≤◌, ℕ, suc, true, List, [], ◌∷◌, length, Option, Some, None, Ok, Err, nat_le, nat_lt, refl, ap, arith, length-append}
+use Rattle.std.proofs.Common.{◌≡◌, ◌+◌, ◌++◌, ◌≤◌, ℕ, suc, true, List, [], ◌∷◌, length, Option, Some, None, Ok, Err, nat_le, nat_lt, refl, ap, arith, length-append}
 use Rattle.std.specs.Prelude.{is_ok}
 use Rattle.std.specs.List.{flat_map, list_all}
 use Rattle.std.proofs.lemmas.Bool.{and_parts, and_from, leb-true}
