@@ -40,7 +40,7 @@ pub record IsWithinLimits (c : Clock) : Type 0 where
   pub sources_from : 1 ≤ c.sources
   pub sources_to : c.sources ≤ MAX_SOURCES
 
--- the same of what a program states
+-- the numbers that a program states for it lie in the limits
 abbrev pub is_limited : Clock → Bool
 is_limited c = is_time c.start && (is_span c.skew && (is_span c.lateness && is_size c.records))
 

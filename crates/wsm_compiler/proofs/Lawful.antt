@@ -15,7 +15,7 @@ use Rattle.wsm_program.specs.declared.instr.Instr.{Instr}
 use Rattle.wsm_program.specs.declared.program.Costs.{Costs}
 use Rattle.wsm_program.specs.Program.{Header, is_span, is_shape, is_column, is_late_by, is_limited, is_sourced, is_clock, is_firing, is_row, is_budget, is_header, is_instr, is_section, is_program}
 use Rattle.wsm_record.specs.Modes.{may_write}
-use Rattle.wsm_record.specs.Schema.{FieldType, DeclaredField, is_name_list, is_field_type, is_field_after, are_fields_after, are_sources, is_schema, source_count, is_i64, is_spelt_type, is_spelt_field}
+use Rattle.wsm_record.specs.Schema.{FieldType, DeclaredField, is_field_type, is_field_after, are_fields_after, is_schema, source_count, is_i64, is_spelt_type, is_spelt_field}
 use Rattle.wsm_record.specs.Schema as field_types
 use Rattle.wsm_query.specs.Tree.{Name, Query, Expr, Number, Truth, Field, EnumName, Key, KeyName, Count, Aggregate, If, Brackets, Minus, Not, Binary, And, Or}
 use Rattle.wsm_check.specs.declared.refusal.CheckFault.TheVariants.{Duplicate, Limit}

@@ -1,3 +1,4 @@
+-- What a guarded writer has.
 use Rattle.wsm_csv.specs.declared.guarded.Guarded.{Guarded}
 
 -- the writer under a device

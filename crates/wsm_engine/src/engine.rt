@@ -18,7 +18,7 @@ use std::alloc::Global;
 use std::marker::Model;
 use wsm_admission::{Admission, Admitted, Clock, Refusal};
 use wsm_firing::WindowOperator;
-use wsm_program::{Header, Program};
+use wsm_program::Program;
 use wsm_record::{Event, Schema};
 use wsm_semantics::{OutRow, Totals};
 use wsm_verifier::Verified;

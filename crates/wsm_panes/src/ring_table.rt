@@ -7,11 +7,10 @@ ghost use Rattle.wsm_record.specs.declared.limits.TheConstants.{MAX_ACCUMULATORS
 ghost use Rattle.wsm_record.specs.Modes.{retracts};
 ghost use Rattle.wsm_fold.specs.Fold.{are_of_kinds};
 ghost use Rattle.wsm_windows.specs.Windows.{IsTime, first_start, greatest_span};
-ghost use Rattle.wsm_windows.specs.Places.{place_cmp};
 ghost use Rattle.wsm_semantics.specs.Summaries.{Pane as AnyPane};
 ghost use Rattle.wsm_panes.specs.Held.{CanRecord, once_fired, with_one_more};
 ghost use Rattle.wsm_panes.specs.Walk.{HasSlot};
-ghost use Rattle.wsm_panes.specs.Ring.{IsFirstPast, IsLastDue, IsOnGrid, IsRing, IsRow, RingAdmits, slot_of, window_number};
+ghost use Rattle.wsm_panes.specs.Ring.{IsFirstPast, IsLastDue, IsOnGrid, IsRing, IsRow, RingAdmits, slot_of};
 
 use crate::layout::Slots;
 use crate::pane::Pane;

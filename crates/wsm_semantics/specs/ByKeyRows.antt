@@ -1,7 +1,6 @@
 -- Worked rows of the laws by key and by number: a part of a history, what it fires, and what each of their
 -- conditions is for. Histories are written oldest row first.
 use Rattle.std.specs.Prelude.{◌≡◌, refl, ℕ, zero, suc, false, List, [], ◌∷◌, filter, map, reverse, pos, Some, None, codes, nat_eq}
-use Rattle.wsm_record.specs.declared.cell.Cell.{Cell}
 use Rattle.wsm_record.specs.declared.cell.Cell.TheVariants as cells
 use Rattle.wsm_record.specs.declared.words.Form.TheVariants as form
 use Rattle.wsm_record.specs.declared.words.Mode.TheVariants as mode
@@ -14,7 +13,7 @@ use Rattle.wsm_semantics.specs.declared.out_row.OutRow.TheVariants.{Pane, Istrea
 use Rattle.wsm_semantics.specs.Query.{Query, verdict_on}
 use Rattle.wsm_semantics.specs.Relation.{sorted_rows, relation, turn_rows}
 use Rattle.wsm_semantics.specs.Lines.{Row, events}
-use Rattle.wsm_semantics.specs.Rows.{base, counting, with_lateness, count, a, b, w, ints}
+use Rattle.wsm_semantics.specs.Rows.{base, counting, with_lateness, a, b, w, ints}
 use Rattle.wsm_semantics.specs.ByNumber.{event_by, row_by, with_keys}
 use Rattle.wsm_semantics.specs.ByKey.{Keys, others, of_keys, turn_of, is_row_of, of_parts, netted, gains, losses}
 

@@ -1,7 +1,6 @@
 -- Worked rows of the law of order: a history in another order, and what each of the law's conditions is
 -- for. Histories are written oldest event first.
-use Rattle.std.specs.Prelude.{◌≡◌, refl, ℕ, true, List, [], ◌∷◌, filter_map, reverse, ℤ, pos, ◌+ℤ◌, Some, codes}
-use Rattle.wsm_record.specs.declared.event.Value.{Value}
+use Rattle.std.specs.Prelude.{◌≡◌, refl, ℕ, true, List, [], ◌∷◌, filter_map, reverse, pos, Some, codes}
 use Rattle.wsm_record.specs.declared.event.Value.TheVariants.{Int}
 use Rattle.wsm_record.specs.declared.cell.Cell.TheVariants as cells
 use Rattle.wsm_record.specs.declared.words.Form.TheVariants as form
@@ -14,7 +13,7 @@ use Rattle.wsm_windows.specs.Windows.{window}
 use Rattle.wsm_admission.specs.declared.clock.LateBy.TheVariants as late_by
 use Rattle.wsm_semantics.specs.declared.out_row.OutRow.{OutRow}
 use Rattle.wsm_semantics.specs.declared.out_row.OutRow.TheVariants.{Pane}
-use Rattle.wsm_semantics.specs.Query.{Datum, Query}
+use Rattle.wsm_semantics.specs.Query.{Query}
 use Rattle.wsm_semantics.specs.Firings.{row_of}
 use Rattle.wsm_semantics.specs.Rows.{total, two_sources}
 use Rattle.wsm_semantics.specs.Order.{Next, Swap, Then, Permuted, on_time}

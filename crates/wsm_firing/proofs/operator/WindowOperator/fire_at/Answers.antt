@@ -6,16 +6,14 @@ use Rattle.wsm_record.specs.declared.event.Value.{Value}
 use Rattle.wsm_windows.specs.declared.window.PaneKind.{PaneKind}
 use Rattle.wsm_windows.specs.declared.place.Place.{Place}
 use Rattle.wsm_windows.specs.Places.{place_cmp}
-use Rattle.wsm_semantics.specs.Summaries.{Fired, Pane, columns, fired_count, fired_pane}
+use Rattle.wsm_semantics.specs.Summaries.{Fired, Pane, fired_count, fired_pane}
 use Rattle.wsm_semantics.specs.Firings.{kind_on_record}
 use Rattle.wsm_program.specs.Program.{Program}
-use Rattle.wsm_machine.specs.Meaning.{pane_cost_by, plan_of, query_of}
-use Rattle.wsm_machine.specs.Sound.{MayFire}
+use Rattle.wsm_machine.specs.Meaning.{plan_of, query_of}
 use Rattle.wsm_panes.specs.Held.{entries_of}
 use Rattle.wsm_panes.specs.Walk.{place_found}
 use Rattle.wsm_firing.specs.Tally.{tally_with}
 use Rattle.wsm_firing.specs.Firing.{CanAdd, rows_of}
-use Rattle.wsm_firing.specs.Due.{fired_by}
 use Rattle.wsm_firing.proofs.StandingRows.{tells_none}
 use Rattle.wsm_firing.proofs.AtPlace.{Fires, none_there, no_kind, with_kind}
 use Rattle.wsm_firing.proofs.LeftToFire.{no_rows, no_tally}

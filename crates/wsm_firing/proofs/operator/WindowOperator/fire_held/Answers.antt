@@ -1,4 +1,4 @@
-use Rattle.std.proofs.Common.{◌≡◌, List, sym, ap, ◌∙◌}
+use Rattle.std.proofs.Common.{List, sym, ap, ◌∙◌}
 use Rattle.wsm_record.specs.declared.event.Value.{Value}
 use Rattle.wsm_semantics.specs.Summaries.{Pane, columns, fired_count}
 use Rattle.wsm_machine.specs.Meaning.{pane_cost_by, plan_of}
