@@ -1,5 +1,5 @@
 #!/usr/bin/env python3
-"""Runs random queries over random rows, and compares with examples/reference.py.
+"""Runs random queries over random rows, and compares with trials/reference.py.
 
 usage: random_queries.py PROGRAM FIRST LAST
 
@@ -18,11 +18,11 @@ from collections import Counter
 from dataclasses import dataclass
 from pathlib import Path
 
-sys.path.insert(0, os.path.join(os.path.dirname(os.path.abspath(__file__)), "..", "examples"))
+sys.path.insert(0, str(Path(__file__).resolve().parent.parent / "trials"))
 
-import reference
+import reference  # which finds the tools of examples
+from query_text import Query, Refused
 from reference_program import Program
-from reference_query import Query, Refused
 
 COLUMNS = [
     "COUNT(*)", "SUM(n)", "MIN(n)", "MAX(n + 1)", "ANY(b)", "ALL(b)", "KEY", "SUM(IF b THEN n ELSE -n END)", "SUM(n) / COUNT(*)",

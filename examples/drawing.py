@@ -4,15 +4,14 @@ A picture shows one key: event time across, the rows upwards in the order of the
 and the marks of sources as thin ones, a circle for each record, a box for each pane with its kind and its columns,
 and struck columns for each pane that is withdrawn. It is drawn from what the program writes: behind each row stands one
 that is refused, and what is written between two such refusals belongs to the row between them. Of the query's text,
-`reference_query` tells the clauses and which records WHERE takes.
+`query_text` tells the clauses and which records WHERE takes.
 """
 import re
 import subprocess
 from dataclasses import dataclass
 from html import escape
 
-from reference import value_of
-from reference_query import Query
+from query_text import Query, value_of
 
 STEP = 28  # points for a row
 LEFT, ABOVE, BELOW, RIGHT = 126, 46, 44, 20

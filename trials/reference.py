@@ -16,12 +16,15 @@ those of the same query without the instruction TEST, which that version doesn't
 import re
 import sys
 from collections import Counter
+from pathlib import Path
 
 sys.dont_write_bytecode = True
 sys.setrecursionlimit(100_000)
 
+sys.path.insert(0, str(Path(__file__).resolve().parent.parent / "examples"))
+
+from query_text import LATEST, Query, Refused, number_of, value_of
 from reference_program import Program
-from reference_query import LATEST, Query, Refused
 
 RULES = (
     "StackUnderflow StackOverflow Type BadJump Join Unreachable NoReturn NotHere FoldTwice FoldMissing MayOverflow "
@@ -30,22 +33,6 @@ RULES = (
 
 
 # ---- rows in
-
-def number_of(cell):
-    """The number of a cell, or None where it has none of 64 bits."""
-    if not re.fullmatch(r"-?[0-9]+", cell):
-        return None
-    number = int(cell)
-    return number if -(2**63) <= number < 2**63 else None
-
-
-def value_of(field, cell):
-    if field.type == "INT":
-        return number_of(cell)
-    if field.type == "BOOL":
-        return {"true": True, "false": False}.get(cell)
-    return field.names.index(cell) if cell in field.names else None
-
 
 def event_of(query, cells):
     """A record as its key, time and values, a watermark as its source and time, or the word of a refusal."""

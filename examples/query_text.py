@@ -1,4 +1,4 @@
-"""Query texts, for examples/reference.py: reading, checks, and what an expression means.
+"""Query texts, for the tools beside it and for trials/reference.py: reading, checks, and what an expression means.
 
 Nothing here is shared with the product. A text is read from the left, and the first fault is told with its line
 and column; a query that was read is checked part by part.
@@ -22,6 +22,24 @@ INT, BOOL = "INT", "BOOL"  # the other types are numbers: 0 is the key's ENUM, f
 
 class Refused(Exception):
     """A query that is refused; its text is what is told."""
+
+
+# ---- cells of rows
+
+def number_of(cell):
+    """The number of a cell, or None where it has none of 64 bits."""
+    if not re.fullmatch(r"-?[0-9]+", cell):
+        return None
+    number = int(cell)
+    return number if -(2**63) <= number < 2**63 else None
+
+
+def value_of(field, cell):
+    if field.type == "INT":
+        return number_of(cell)
+    if field.type == "BOOL":
+        return {"true": True, "false": False}.get(cell)
+    return field.names.index(cell) if cell in field.names else None
 
 
 # ---- tokens
