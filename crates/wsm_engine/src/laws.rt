@@ -1,15 +1,15 @@
 //! What holds of every accepted program, over every history of events. The contract of each function
 //! is the law; a call of it does nothing.
 
-ghost use Rattle.std.specs.Prelude.{◌≡◌, ◌≤◌, ℕ, ℤ, List, Some, None, Ok, map, length, unsigned_abs, IsTrue};
+ghost use Rattle.std.specs.Prelude.{◌≡◌, ◌≤◌, ℕ, ◌+◌, ℤ, ◌+ℤ◌, List, [], ◌∷◌, ◌++◌, Some, None, Ok, map, length, unsigned_abs, IsTrue};
 ghost use Rattle.std.specs.List.{AllByRecursion, sum_by};
 ghost use Rattle.wsm_record.specs.declared.event.Value.{Value};
 ghost use Rattle.wsm_record.specs.declared.words.Mode.TheVariants.{Discarding, Retracting};
 ghost use Rattle.wsm_record.specs.declared.words.Form.TheVariants.{Panes};
 ghost use Rattle.wsm_record.specs.Event.{Event, Record};
 ghost use Rattle.wsm_windows.specs.declared.window.Shape.TheVariants.{Session};
-ghost use Rattle.wsm_admission.specs.Clock.{admitted_count};
-ghost use Rattle.wsm_semantics.specs.Query.{verdict_on};
+ghost use Rattle.wsm_admission.specs.Clock.{marks_of, admitted_count};
+ghost use Rattle.wsm_semantics.specs.Query.{mark, verdict_on};
 ghost use Rattle.wsm_semantics.specs.Panes.{held};
 ghost use Rattle.wsm_semantics.specs.Kept.{kept};
 ghost use Rattle.wsm_semantics.specs.Firings.{firings};
@@ -17,6 +17,7 @@ ghost use Rattle.wsm_semantics.specs.FiringSets.{FiresOnce};
 ghost use Rattle.wsm_semantics.specs.LastingRows.{AddsUp};
 ghost use Rattle.wsm_semantics.specs.Order.{IsOrderFree, OrderLaw};
 ghost use Rattle.wsm_semantics.specs.ByKey.{Keys, ByKey, RowsByKey, EachOnce, PartsAddUp, NumbersAddUp, SameByRecords};
+ghost use Rattle.wsm_semantics.specs.FromWatermark.{Stays, whole, rest, Times, LeavesOut, begun_at, AreBegun, HasNoSessions, IsSettled, PartsNone, times_over, MayPart, SameAfter, SameRowsAfter, SameBeyond, SameRowsBeyond, SameOnceSettled};
 ghost use Rattle.wsm_program.specs.Program.{Program, is_program};
 ghost use Rattle.wsm_program.specs.declared.program.Costs.{Costs};
 ghost use Rattle.wsm_verifier.specs.Costs.{longest_path};
@@ -76,6 +77,37 @@ pub fn by_key()
     ensures relation { (p : Program) (parts : List Keys) → EachOnce parts → PartsAddUp (query_of p) parts }
     ensures numbers { (p : Program) (parts : List Keys) → EachOnce parts → NumbersAddUp (query_of p) parts }
     ensures records { (p : Program) (records : ℤ) → SameByRecords (query_of p) records }
+{}
+
+/// A run may begin behind any row where the program has one source, with the watermark there as its START, and with
+/// more sources behind rows that set their marks: what it holds, fires and writes for windows that begin past that
+/// watermark and SKEW, in sessions a gap later, is what the whole run does, turn by turn. Records with times up to some
+/// time may be left out too, for windows that begin after it. Where windows don't merge, all is the same once the
+/// watermark has passed the ends of the others and LATENESS.
+pub fn from_watermark()
+    ensures begun { (p : Program) → p.header.clock.sources ≡ 1 → (records : ℤ) (older : List Event)
+        → AreBegun (query_of p) (mark (query_of p) older) records (λ key. mark (query_of p) older +ℤ p.header.clock.skew) older [] (length older) }
+    ensures marks { (p : Program) (start records : ℤ) (older other : List Event) (longer : ℕ) → marks_of (begun_at start records (query_of p)).clock other ≡ marks_of p.header.clock older → length older ≡ length other + longer
+        → AreBegun (query_of p) start records (λ key. mark (query_of p) older +ℤ p.header.clock.skew) older other longer }
+    ensures events { (x : Times) (events older : List Event) → (whole (map Stays events) older ≡ events ++ older) × (rest (map Stays events) older ≡ events ++ older) × LeavesOut x (map Stays events) }
+    ensures panes { (p : Program) → IsTrue (is_program p) → (start records : ℤ) (x : Times) (older other : List Event) (longer : ℕ) → AreBegun (query_of p) start records x older other longer
+        → SameAfter (query_of p) start records x older other longer }
+    ensures rows { (p : Program) → IsTrue (is_program p) → (start records : ℤ) (x : Times) (older other : List Event) (longer : ℕ) → AreBegun (query_of p) start records x older other longer
+        → SameRowsAfter (query_of p) start records x older other }
+    ensures settled { (p : Program) → IsTrue (is_program p) → HasNoSessions (query_of p) → (start records : ℤ) (x : Times) (older other : List Event) (longer : ℕ) → AreBegun (query_of p) start records x older other longer
+        → SameOnceSettled (LeavesOut x) (query_of p) start records x older other longer }
+{}
+
+/// Where a time for each key parts no session of it, records of the key up to that time may be left out for all
+/// windows that begin beyond it; and once the watermark has passed these times by the size (in sessions the gap) and
+/// LATENESS, all is the same, and they part no session of what is still to come. Such times are there after any
+/// history, so the records of live windows are enough.
+pub fn left_out()
+    ensures panes { (p : Program) → IsTrue (is_program p) → (records : ℤ) (x : Times) → SameBeyond (query_of p) records x }
+    ensures rows { (p : Program) → IsTrue (is_program p) → (records : ℤ) (x : Times) → SameRowsBeyond (query_of p) records x }
+    ensures settled { (p : Program) → IsTrue (is_program p) → (records : ℤ) (x : Times) → let q = query_of p in SameOnceSettled (MayPart q q.clock.start records x) q q.clock.start records x [] [] 0 }
+    ensures coming { (p : Program) → IsTrue (is_program p) → (x : Times) (past : List Event) (e : Event) → IsSettled (query_of p) x (mark (query_of p) past) → PartsNone (query_of p) x past → PartsNone (query_of p) x (e ∷ past) }
+    ensures times { (p : Program) → IsTrue (is_program p) → (past : List Event) → let q = query_of p in IsSettled q (times_over q past) (mark q past) × PartsNone q (times_over q past) past }
 {}
 
 /// What the accumulators of each held pane hold lies where the verifier's intervals put the fold of as many

@@ -95,7 +95,7 @@ module _ (q : Query) (low : pos 0 ≤ℤ q.clock.lateness) (timely : SessionsByE
         ∙ ap (λ (b : Bool). cond b (kind_on_record q (mark q past) x.0.end (length (unshown_of q past x.0 x.1))) None)
         (ap (list_any (λ y. nat_eq y.turn (length past))) pane.0 ∙ has_new x.0)
 
-    dead_by_record : (x : Place × List Datum) → IsPane q (e ∷ past) x → is_live_at q (mark q past) x.0 ≡ false → kind_of q past e x.0 x.1 ≡ None
+    pub dead_by_record : (x : Place × List Datum) → IsPane q (e ∷ past) x → is_live_at q (mark q past) x.0 ≡ false → kind_of q past e x.0 x.1 ≡ None
     dead_by_record x pane dead =
         record_kind x pane
         ∙ elim (is_there q x.0 d) as (λ b. is_there q x.0 d ≡ b → cond b (kind_on_record q (mark q past) x.0.end (length (unshown_of q past x.0 x.1))) None ≡ None) [
@@ -131,7 +131,7 @@ module _ (q : Query) (low : pos 0 ≤ℤ q.clock.lateness) (timely : SessionsByE
     watermark_kind : (x : Place × List Datum) → IsPane q (w ∷ past) x → kind_of q past w x.0 x.1 ≡ by_watermark x.0 (kept_in q past x).1
     watermark_kind x pane = kind-watermark q past o t x.0 x.1
 
-    dead_by_watermark : (x : Place × List Datum) → IsPane q (w ∷ past) x → is_live_at q (mark q past) x.0 ≡ false → kind_of q past w x.0 x.1 ≡ None
+    pub dead_by_watermark : (x : Place × List Datum) → IsPane q (w ∷ past) x → is_live_at q (mark q past) x.0 ≡ false → kind_of q past w x.0 x.1 ≡ None
     dead_by_watermark x pane dead =
         let old : ℤ = mark q past in
         let u : List Datum = unshown_of q past x.0 x.1 in

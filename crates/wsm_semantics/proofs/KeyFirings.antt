@@ -72,14 +72,14 @@ module _ (f : ℕ → ℕ) where
   pub length-turned : (ds : List Datum) → length (map (at_turn f) ds) ≡ length ds
   length-turned ds = length_each (at_turn f) ds
 
-  set_turned : (mode : Mode) (all unshown : List Datum) → firing_set mode (map (at_turn f) all) (map (at_turn f) unshown) ≡ map (at_turn f) (firing_set mode all unshown)
+  pub set_turned : (mode : Mode) (all unshown : List Datum) → firing_set mode (map (at_turn f) all) (map (at_turn f) unshown) ≡ map (at_turn f) (firing_set mode all unshown)
   set_turned mode all unshown =
       elim (is_over_all mode) as (λ b. cond b (map (at_turn f) all) (map (at_turn f) unshown) ≡ map (at_turn f) (cond b all unshown)) [
         | true ↦ refl
         | false ↦ refl
       ]
 
-  firing_turned : (m n : ℕ) → m ≡ f n → (p : Place) (all set : List Datum) (kind : Option PaneKind) →
+  pub firing_turned : (m n : ℕ) → m ≡ f n → (p : Place) (all set : List Datum) (kind : Option PaneKind) →
       firing_of m p (map (at_turn f) all) (map (at_turn f) set) kind ≡ option_map (firing_at f) (firing_of n p all set kind)
   firing_turned m n turn p all set None = refl
   firing_turned m n turn p all set (Some kind) = λ i. Some (record { turn = turn i; kind = kind; place = p; contents = map (at_turn f) all; fired = map (at_turn f) set })

@@ -22,7 +22,7 @@ use Rattle.wsm_semantics.proofs.PanesOrder.{panes_of}
 use Rattle.wsm_semantics.proofs.KeyParts.{first_rule}
 
 -- where the limit refuses by neither number, the same rule does or none
-either_number : (key fields time ahead late few many : Bool) → first_rule key fields time ahead late few ≢ Some RecordLimit → first_rule key fields time ahead late many ≢ Some RecordLimit →
+pub either_number : (key fields time ahead late few many : Bool) → first_rule key fields time ahead late few ≢ Some RecordLimit → first_rule key fields time ahead late many ≢ Some RecordLimit →
     first_rule key fields time ahead late few ≡ first_rule key fields time ahead late many
 either_number true fields time ahead late few many h k = refl
 either_number false true time ahead late few many h k = refl

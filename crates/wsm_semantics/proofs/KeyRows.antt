@@ -98,7 +98,7 @@ module _ (t : Written → Bool) where
       ]
 
   -- what is left out changes no order
-  filter-by_place : (ws : List Written) → filter t (by_place ws) ≡ by_place (filter t ws)
+  pub filter-by_place : (ws : List Written) → filter t (by_place ws) ≡ by_place (filter t ws)
   filter-by_place [] = refl
   filter-by_place (w ∷ ws) =
       elim (t w) as (λ b. t w ≡ b → filter t (with_written w (by_place ws)) ≡ by_place (cond b (w ∷ filter t ws) (filter t ws))) [
@@ -109,7 +109,7 @@ module _ (t : Written → Bool) where
 -- ---- rows of firings
 
 -- what is given of some firings, whatever their turns
-given_alike : {B : Type 0} (g : Firing → Option B) (f : ℕ → ℕ) → ((x : Firing) → g (firing_at f x) ≡ g x) → (fs : List Firing) → filter_map g (map (firing_at f) fs) ≡ filter_map g fs
+pub given_alike : {B : Type 0} (g : Firing → Option B) (f : ℕ → ℕ) → ((x : Firing) → g (firing_at f x) ≡ g x) → (fs : List Firing) → filter_map g (map (firing_at f) fs) ≡ filter_map g fs
 given_alike g f same fs = filter_map-map g (firing_at f) fs ∙ filter_map-each (λ x. g (firing_at f x)) g fs (all-any (λ x. g (firing_at f x) ≡ g x) same fs)
 
 module _ (q : Query) (keys : Keys) (f : ℕ → ℕ) (rises : IsRising f) (ignores : IgnoresTurns q) where

@@ -56,25 +56,25 @@ module _ (f : ℕ → ℕ) (rises : IsRising f) where
       list_all-map (λ h. is_within h.contents (map (at_turn f) g.contents)) (firing_at f) fs
       ∙ list_all-same (λ h. is_within (map (at_turn f) h.contents) (map (at_turn f) g.contents)) (λ h. is_within h.contents g.contents) (λ h. within_turned h.contents g.contents) fs
 
-  greatest_turned : (fs : List Firing) → greatest_of (map (firing_at f) fs) ≡ option_map (firing_at f) (greatest_of fs)
+  pub greatest_turned : (fs : List Firing) → greatest_of (map (firing_at f) fs) ≡ option_map (firing_at f) (greatest_of fs)
   greatest_turned fs =
       ap (last_or None) (filter-map (firing_at f) (holds_all (map (firing_at f) fs)) fs)
       ∙ ap (λ (gs : List Firing). last_or None (map (firing_at f) gs)) (filter_same (λ g. holds_all (map (firing_at f) fs) (firing_at f g)) (holds_all fs) (holds_all_turned fs) fs)
       ∙ last_or-map (firing_at f) None (filter (holds_all fs) fs)
 
-  candidates_turned : (q : Query) (p : Place) (all : List Datum) (fs : List Firing) → candidates q p (map (at_turn f) all) (map (firing_at f) fs) ≡ map (firing_at f) (candidates q p all fs)
+  pub candidates_turned : (q : Query) (p : Place) (all : List Datum) (fs : List Firing) → candidates q p (map (at_turn f) all) (map (firing_at f) fs) ≡ map (firing_at f) (candidates q p all fs)
   candidates_turned q p all fs =
       filter-map (firing_at f) (λ g. shows q.shape p g.place && is_within g.contents (map (at_turn f) all)) fs
       ∙ ap (map (firing_at f)) (filter_same (λ g. shows q.shape p g.place && is_within (map (at_turn f) g.contents) (map (at_turn f) all)) (λ g. shows q.shape p g.place && is_within g.contents all)
       (λ g. ap (λ (b : Bool). shows q.shape p g.place && b) (within_turned g.contents all)) fs)
 
-  same_turned : (g h : Firing) → is_same (firing_at f g) (firing_at f h) ≡ is_same g h
+  pub same_turned : (g h : Firing) → is_same (firing_at f g) (firing_at f h) ≡ is_same g h
   same_turned g h = ap (λ (b : Bool). b && eq_by_cmp place_cmp g.place h.place) (same_turn f rises g.turn h.turn)
 
 -- ---- what stands
 
 -- what stands for a place shows it
-stands_showing : (q : Query) (fs : List Firing) (p : Place) (all : List Datum) (g : Firing) → standing q fs p all ≡ Some g → shows q.shape p g.place ≡ true
+pub stands_showing : (q : Query) (fs : List Firing) (p : Place) (all : List Datum) (g : Firing) → standing q fs p all ≡ Some g → shows q.shape p g.place ≡ true
 stands_showing q fs p all g h =
     let cs : List Firing = candidates q p all fs in
     let each : AllByRecursion (λ g. shows q.shape p g.place ≡ true) cs =

@@ -73,3 +73,13 @@ pub mod KeyRecords
 pub mod NumberPanes
 pub mod NumberRows
 pub mod KeyLaw
+pub mod LaterMarks
+pub mod LaterTurns
+pub mod LaterSessions
+pub mod LaterPanes
+pub mod Homes
+pub mod LaterFirings
+pub mod LaterParts
+pub mod LaterRows
+pub mod LaterSettled
+pub mod LaterLaw

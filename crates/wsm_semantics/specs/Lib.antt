@@ -24,3 +24,5 @@ pub mod RowCounts
 pub mod ByKey
 pub mod ByNumber
 pub mod ByKeyRows
+pub mod FromWatermark
+pub mod FromWatermarkRows

@@ -1,15 +1,15 @@
 //! What holds of every query, over every history. The contract of each function is the law; a call
 //! of it does nothing.
 
-ghost use Rattle.std.specs.Prelude.{◌≡◌, ℕ, false, List, [], ◌∷◌, ◌++◌, ℤ, pos, ◌≤ℤ◌, IsPermutation};
+ghost use Rattle.std.specs.Prelude.{◌≡◌, ℕ, ◌+◌, false, List, [], ◌∷◌, ◌++◌, map, length, ℤ, pos, ◌+ℤ◌, ◌≤ℤ◌, IsPermutation};
 ghost use Rattle.std.specs.List.{AllByRecursion};
 ghost use Rattle.wsm_record.specs.declared.words.Mode.TheVariants.{Discarding, Retracting};
 ghost use Rattle.wsm_record.specs.declared.words.Form.TheVariants.{Panes};
 ghost use Rattle.wsm_record.specs.Event.{Event};
 ghost use Rattle.wsm_windows.specs.Windows.{IsShape};
 ghost use Rattle.wsm_admission.specs.declared.clock.LateBy.TheVariants as late_by;
-ghost use Rattle.wsm_admission.specs.Clock.{IsWithinLimits};
-ghost use Rattle.wsm_semantics.specs.Query.{Query, SessionsByEvent};
+ghost use Rattle.wsm_admission.specs.Clock.{IsWithinLimits, marks_of};
+ghost use Rattle.wsm_semantics.specs.Query.{Query, SessionsByEvent, mark};
 ghost use Rattle.wsm_semantics.specs.LiveRecords.{AllLive};
 ghost use Rattle.wsm_semantics.specs.Relation.{turn_rows};
 ghost use Rattle.wsm_semantics.specs.Replay.{replayed, state, turn_rows_by};
@@ -18,6 +18,7 @@ ghost use Rattle.wsm_semantics.specs.LastingRows.{AddsUp};
 ghost use Rattle.wsm_semantics.specs.HeldBounds.{HeldBounded};
 ghost use Rattle.wsm_semantics.specs.Order.{Judged, is_rise, Reordered, IgnoresOrder, IsOrderFree, OrderLaw};
 ghost use Rattle.wsm_semantics.specs.ByNumber.{Numbers, AreNumbers, SameByNumbers};
+ghost use Rattle.wsm_semantics.specs.FromWatermark.{Stays, whole, rest, Times, LeavesOut, begun_at, AreBegun, HasNoSessions, IsSettled, PartsNone, times_over, MayPart, SameAfter, SameRowsAfter, SameBeyond, SameRowsBeyond, SameOnceSettled};
 ghost use Rattle.wsm_semantics.specs.ByKey.{Keys, others, IgnoresTurns, ByKey, RowsByKey, EachOnce, StreamsWrite, PartsAddUp, NumbersAddUp, SameByRecords};
 
 /// A replay that goes by what it keeps of the held panes alone, event by event, keeps what the history
@@ -95,4 +96,34 @@ pub fn parts_add_up()
 /// of another reads and writes what the other does, each key by its number there.
 pub fn by_number()
     ensures { (q : Query) (number : Numbers) (keys : List (List ℕ)) → AreNumbers number keys q → SameByNumbers q number keys }
+{}
+
+/// A run may begin behind any row of a query with one source, with the watermark there as its START, and with more
+/// sources behind rows that set their marks: what it holds, fires and writes for windows that begin past that watermark
+/// and SKEW, in sessions a gap later, is what the whole run does, turn by turn, and each event has the verdict that it
+/// has there. Records with times up to some time may be left out too, for windows that begin after it. Where windows
+/// don't merge, all is the same once the watermark has passed the ends of the others and LATENESS.
+pub fn from_watermark()
+    ensures begun { (q : Query) → q.clock.sources ≡ 1 → (records : ℤ) (older : List Event) → AreBegun q (mark q older) records (λ key. mark q older +ℤ q.clock.skew) older [] (length older) }
+    ensures marks { (q : Query) (start records : ℤ) (older other : List Event) (longer : ℕ) → marks_of (begun_at start records q).clock other ≡ marks_of q.clock older → length older ≡ length other + longer
+        → AreBegun q start records (λ key. mark q older +ℤ q.clock.skew) older other longer }
+    ensures events { (x : Times) (events older : List Event) → (whole (map Stays events) older ≡ events ++ older) × (rest (map Stays events) older ≡ events ++ older) × LeavesOut x (map Stays events) }
+    ensures panes { (q : Query) → IsShape q.shape → SessionsByEvent q → (start records : ℤ) (x : Times) (older other : List Event) (longer : ℕ) → AreBegun q start records x older other longer
+        → SameAfter q start records x older other longer }
+    ensures rows { (q : Query) → IsShape q.shape → SessionsByEvent q → IgnoresTurns q → (start records : ℤ) (x : Times) (older other : List Event) (longer : ℕ) → AreBegun q start records x older other longer
+        → SameRowsAfter q start records x older other }
+    ensures settled { (q : Query) → IsShape q.shape → HasNoSessions q → pos 0 ≤ℤ q.clock.lateness → IgnoresTurns q → (start records : ℤ) (x : Times) (older other : List Event) (longer : ℕ) → AreBegun q start records x older other longer
+        → SameOnceSettled (LeavesOut x) q start records x older other longer }
+{}
+
+/// Where a time for each key parts no session of it, records of the key up to that time may be left out for all
+/// windows that begin beyond it; and once the watermark has passed these times by the size (in sessions the gap) and
+/// LATENESS, all is the same, and they part no session of what is still to come. Such times are there after any
+/// history, so the records of live windows are enough.
+pub fn left_out()
+    ensures panes { (q : Query) → IsShape q.shape → SessionsByEvent q → (records : ℤ) (x : Times) → SameBeyond q records x }
+    ensures rows { (q : Query) → IsShape q.shape → SessionsByEvent q → IgnoresTurns q → (records : ℤ) (x : Times) → SameRowsBeyond q records x }
+    ensures settled { (q : Query) → IsShape q.shape → SessionsByEvent q → pos 0 ≤ℤ q.clock.lateness → IgnoresTurns q → (records : ℤ) (x : Times) → SameOnceSettled (MayPart q q.clock.start records x) q q.clock.start records x [] [] 0 }
+    ensures coming { (q : Query) → IsShape q.shape → SessionsByEvent q → (x : Times) (past : List Event) (e : Event) → IsSettled q x (mark q past) → PartsNone q x past → PartsNone q x (e ∷ past) }
+    ensures times { (q : Query) → IsShape q.shape → (past : List Event) → IsSettled q (times_over q past) (mark q past) × PartsNone q (times_over q past) past }
 {}
