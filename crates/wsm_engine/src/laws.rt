@@ -1,12 +1,12 @@
 //! What holds of every accepted program, over every history of events. The contract of each function
 //! is the law; a call of it does nothing.
 
-ghost use Rattle.std.specs.Prelude.{◌≡◌, ◌≤◌, ℕ, ◌+◌, ℤ, ◌+ℤ◌, List, [], ◌∷◌, ◌++◌, Some, None, Ok, map, length, unsigned_abs, IsTrue};
+ghost use Rattle.std.specs.Prelude.{◌≡◌, ◌≤◌, ℕ, ◌+◌, ℤ, ◌+ℤ◌, List, [], ◌∷◌, ◌++◌, Option, Some, None, Ok, map, length, unsigned_abs, IsTrue};
 ghost use Rattle.std.specs.List.{AllByRecursion, sum_by};
 ghost use Rattle.wsm_record.specs.declared.event.Value.{Value};
 ghost use Rattle.wsm_record.specs.declared.words.Mode.TheVariants.{Discarding, Retracting};
 ghost use Rattle.wsm_record.specs.declared.words.Form.TheVariants.{Panes};
-ghost use Rattle.wsm_record.specs.Event.{Event, Record};
+ghost use Rattle.wsm_record.specs.Event.{Event, Record, Watermark};
 ghost use Rattle.wsm_windows.specs.declared.window.Shape.TheVariants.{Session};
 ghost use Rattle.wsm_admission.specs.Clock.{marks_of, admitted_count};
 ghost use Rattle.wsm_semantics.specs.Query.{mark, verdict_on};
@@ -18,11 +18,12 @@ ghost use Rattle.wsm_semantics.specs.LastingRows.{AddsUp};
 ghost use Rattle.wsm_semantics.specs.Order.{IsOrderFree, OrderLaw};
 ghost use Rattle.wsm_semantics.specs.ByKey.{Keys, ByKey, RowsByKey, EachOnce, PartsAddUp, NumbersAddUp, SameByRecords};
 ghost use Rattle.wsm_semantics.specs.FromWatermark.{Stays, whole, rest, Times, LeavesOut, begun_at, AreBegun, HasNoSessions, IsSettled, PartsNone, times_over, MayPart, SameAfter, SameRowsAfter, SameBeyond, SameRowsBeyond, SameOnceSettled};
+ghost use Rattle.wsm_semantics.specs.FromKept.{KeepAlike, FollowAlike};
 ghost use Rattle.wsm_program.specs.Program.{Program, is_program};
 ghost use Rattle.wsm_program.specs.declared.program.Costs.{Costs};
 ghost use Rattle.wsm_verifier.specs.Costs.{longest_path};
 ghost use Rattle.wsm_verifier.specs.Rules.{judge};
-ghost use Rattle.wsm_machine.specs.Meaning.{query_of, record_cost, pane_cost};
+ghost use Rattle.wsm_machine.specs.Meaning.{plan_of, query_of, record_cost, pane_cost};
 ghost use Rattle.wsm_firing.specs.Tally.{greatest};
 ghost use Rattle.wsm_engine.specs.Laws.{RecordEnds, FiringEnds, RecordPaths, is_in_range, JoinFits, EachTwo};
 
@@ -108,6 +109,15 @@ pub fn left_out()
     ensures settled { (p : Program) → IsTrue (is_program p) → (records : ℤ) (x : Times) → let q = query_of p in SameOnceSettled (MayPart q q.clock.start records x) q q.clock.start records x [] [] 0 }
     ensures coming { (p : Program) → IsTrue (is_program p) → (x : Times) (past : List Event) (e : Event) → IsSettled (query_of p) x (mark (query_of p) past) → PartsNone (query_of p) x past → PartsNone (query_of p) x (e ∷ past) }
     ensures times { (p : Program) → IsTrue (is_program p) → (past : List Event) → let q = query_of p in IsSettled q (times_over q past) (mark q past) × PartsNone q (times_over q past) past }
+{}
+
+/// What follows on a history hangs on what is kept of it alone: on the marks of the sources, and on how many records each
+/// held pane has, how many of these weren't shown, what its accumulators hold and which row stands for it. So of a watermark
+/// that another comes right behind nothing follows.
+pub fn kept_decides()
+    ensures following { (p : Program) → IsTrue (is_program p) → (start records : ℤ) (past other : List Event) → KeepAlike (plan_of p) (query_of p) start records past other → FollowAlike (plan_of p) (query_of p) start records past other }
+    ensures watermarks { (p : Program) → IsTrue (is_program p) → (past : List Event) (o r : Option ℕ) (t u : ℤ) → let q = query_of p in marks_of q.clock (Watermark r u ∷ Watermark o t ∷ past) ≡ marks_of q.clock (Watermark r u ∷ past)
+        → FollowAlike (plan_of p) q q.clock.start q.clock.records (Watermark r u ∷ Watermark o t ∷ past) (Watermark r u ∷ past) }
 {}
 
 /// What the accumulators of each held pane hold lies where the verifier's intervals put the fold of as many

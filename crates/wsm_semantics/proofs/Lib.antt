@@ -83,3 +83,4 @@ pub mod LaterParts
 pub mod LaterRows
 pub mod LaterSettled
 pub mod LaterLaw
+pub mod KeptAlike

@@ -53,7 +53,7 @@ module _ {X : Type 0} (plan : Plan X) (lawful : IsLawful plan) (q : Query) (runs
     abbrev answer_by : Event → Option Refusal → Result Admitted Refusal
     answer_by e v = answer old (mark q (e ∷ past)) e v
 
-    panes_are : (e : Event) (v : Option Refusal) → v ≡ verdict_on q past e → panes_after plan q (answer_by e v) e s ≡ summaries plan q.mode (kept q (e ∷ past))
+    pub panes_are : (e : Event) (v : Option Refusal) → v ≡ verdict_on q past e → panes_after plan q (answer_by e v) e s ≡ summaries plan q.mode (kept q (e ∷ past))
     panes_are (Record (Some k) t vs) None h =
         (λ i. cond (runs.selects k vs i) (after_record plan q (marked i) (datum 0 (marked i) k t vs) (is i)) (is i))
         ∙ elim (q.selects k vs) as (λ b. q.selects k vs ≡ b → cond b (after_record plan q old (datum 0 old k t vs) sums) sums ≡ summaries plan q.mode (kept q (Record (Some k) t vs ∷ past))) [
@@ -118,7 +118,7 @@ module _ {X : Type 0} (plan : Plan X) (lawful : IsLawful plan) (q : Query) (runs
           ∙ relation-summaries plan q runs (kept_at_watermark q old (mark q (Watermark o t ∷ past)) (kept q past))
           ∙ sym (relation-watermark q low timely (places q ok timely) past o t)
 
-      relation_is : (e : Event) (v : Option Refusal) → v ≡ verdict_on q past e → relation_after plan q (answer_by e v) s ≡ relation q (e ∷ past)
+      pub relation_is : (e : Event) (v : Option Refusal) → v ≡ verdict_on q past e → relation_after plan q (answer_by e v) s ≡ relation q (e ∷ past)
       relation_is (Record k t vs) None h = related ∙ sym (relation-down q past (Record k t vs) (stays_down q past (Record k t vs) refl))
       relation_is (Watermark o t) None h = λ i. cond (raises q past (Watermark o t)) (relation_now o t i) (related i)
       relation_is e (Some r) h = related ∙ sym (relation-down q past e (stays_down q past e (refused_stays q past e r (sym h))))
@@ -130,7 +130,7 @@ module _ {X : Type 0} (plan : Plan X) (lawful : IsLawful plan) (q : Query) (runs
           λ i. cond (raises q past (Watermark o t)) (stream_rows q.form new (related i) (relation_now o t i)) []
       streamed_are e (Some r) h = sym (streamed-down q past e (stays_down q past e (refused_stays q past e r (sym h))))
 
-      rows_are : (e : Event) (v : Option Refusal) → v ≡ verdict_on q past e →
+      pub rows_are : (e : Event) (v : Option Refusal) → v ≡ verdict_on q past e →
           chosen_rows q.form (retracted_in q.mode (withdrawn_by plan q (answer_by e v) e s) ++ filter_map (row_of plan) (fired_by plan q (answer_by e v) e s)) (streamed_by plan q q.form (answer_by e v) s) ≡ turn_rows q past e
       rows_are e v h = λ i. chosen_rows q.form (retracted_are e v h i ++ (ap (filter_map (row_of plan)) (fired_are e v h) ∙ rows-summaries plan q runs (firings.firings q past e)) i) (streamed_are e v h i)
 

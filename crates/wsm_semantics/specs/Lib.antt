@@ -26,3 +26,4 @@ pub mod ByNumber
 pub mod ByKeyRows
 pub mod FromWatermark
 pub mod FromWatermarkRows
+pub mod FromKept

@@ -1,11 +1,11 @@
 //! What holds of every query, over every history. The contract of each function is the law; a call
 //! of it does nothing.
 
-ghost use Rattle.std.specs.Prelude.{◌≡◌, ℕ, ◌+◌, false, List, [], ◌∷◌, ◌++◌, map, length, ℤ, pos, ◌+ℤ◌, ◌≤ℤ◌, IsPermutation};
+ghost use Rattle.std.specs.Prelude.{◌≡◌, ℕ, ◌+◌, false, List, [], ◌∷◌, ◌++◌, map, length, Option, ℤ, pos, ◌+ℤ◌, ◌≤ℤ◌, IsPermutation};
 ghost use Rattle.std.specs.List.{AllByRecursion};
 ghost use Rattle.wsm_record.specs.declared.words.Mode.TheVariants.{Discarding, Retracting};
 ghost use Rattle.wsm_record.specs.declared.words.Form.TheVariants.{Panes};
-ghost use Rattle.wsm_record.specs.Event.{Event};
+ghost use Rattle.wsm_record.specs.Event.{Event, Watermark};
 ghost use Rattle.wsm_windows.specs.Windows.{IsShape};
 ghost use Rattle.wsm_admission.specs.declared.clock.LateBy.TheVariants as late_by;
 ghost use Rattle.wsm_admission.specs.Clock.{IsWithinLimits, marks_of};
@@ -19,6 +19,7 @@ ghost use Rattle.wsm_semantics.specs.HeldBounds.{HeldBounded};
 ghost use Rattle.wsm_semantics.specs.Order.{Judged, is_rise, Reordered, IgnoresOrder, IsOrderFree, OrderLaw};
 ghost use Rattle.wsm_semantics.specs.ByNumber.{Numbers, AreNumbers, SameByNumbers};
 ghost use Rattle.wsm_semantics.specs.FromWatermark.{Stays, whole, rest, Times, LeavesOut, begun_at, AreBegun, HasNoSessions, IsSettled, PartsNone, times_over, MayPart, SameAfter, SameRowsAfter, SameBeyond, SameRowsBeyond, SameOnceSettled};
+ghost use Rattle.wsm_semantics.specs.Kept.{kept};
 ghost use Rattle.wsm_semantics.specs.ByKey.{Keys, others, IgnoresTurns, ByKey, RowsByKey, EachOnce, StreamsWrite, PartsAddUp, NumbersAddUp, SameByRecords};
 
 /// A replay that goes by what it keeps of the held panes alone, event by event, keeps what the history
@@ -126,4 +127,11 @@ pub fn left_out()
     ensures settled { (q : Query) → IsShape q.shape → SessionsByEvent q → pos 0 ≤ℤ q.clock.lateness → IgnoresTurns q → (records : ℤ) (x : Times) → SameOnceSettled (MayPart q q.clock.start records x) q q.clock.start records x [] [] 0 }
     ensures coming { (q : Query) → IsShape q.shape → SessionsByEvent q → (x : Times) (past : List Event) (e : Event) → IsSettled q x (mark q past) → PartsNone q x past → PartsNone q x (e ∷ past) }
     ensures times { (q : Query) → IsShape q.shape → (past : List Event) → IsSettled q (times_over q past) (mark q past) × PartsNone q (times_over q past) past }
+{}
+
+/// Of a watermark that another comes right behind nothing is kept, where the second raises that of the query as far
+/// without it.
+pub fn kept_once()
+    ensures { (q : Query) → IsShape q.shape → SessionsByEvent q → pos 0 ≤ℤ q.clock.lateness → (past : List Event) (o r : Option ℕ) (t u : ℤ) → mark q (Watermark r u ∷ Watermark o t ∷ past) ≡ mark q (Watermark r u ∷ past)
+        → kept q (Watermark r u ∷ Watermark o t ∷ past) ≡ kept q (Watermark r u ∷ past) }
 {}
