@@ -26,7 +26,7 @@ use Rattle.wsm_engine.specs.Operator.{AreTold, IsOf, last_relation}
 use Rattle.wsm_engine.proofs.HeldByHistory.{Panes}
 
 pub last_is : (s : Told) (es : Panes) (before : List (List Cell)) → IsTold s before (standing_rows es) → last_relation s es ≡ before
-last_is s es before told = before_is s.form s.numbers s.rows before (standing_rows es) told
+last_is s es before told = before_is s.form s.numbers before (standing_rows es) told
 
 pub are_told : (most : ℕ) (s : Told) (es : Panes) (before : List (List Cell)) → IsTold s before (standing_rows es) → length before ≤ most → AreTold most s es
 are_told most s es before told few =
@@ -70,15 +70,15 @@ can_go_on s t rose es can alike told = record {
 }
 
 -- before the first event
-pub none_told : (f : Form) (room : ℕ) → IsTold (record { form = f; room = room; numbers = []; rows = [] }) [] []
+pub none_told : (f : Form) (room : ℕ) → IsTold (record { form = f; room = room; numbers = [] }) [] []
 none_told form.Panes room = refl
 none_told form.Istream room = changed_none []
 none_told form.Dstream room = changed_none []
-none_told form.Rstream room = record { none = refl; ordered = tt; same = λ q. refl }
+none_told form.Rstream room = record { none = refl; changed = changed_none [] }
 
-pub open_is : (s : Told) (es : Panes) (f : Form) (room : ℕ) → s ≡ record { form = f; room = room; numbers = []; rows = [] } → es ≡ [] → IsTold s [] (standing_rows es)
+pub open_is : (s : Told) (es : Panes) (f : Form) (room : ℕ) → s ≡ record { form = f; room = room; numbers = [] } → es ≡ [] → IsTold s [] (standing_rows es)
 open_is s es f room is none =
-    subst (λ (t : Told). IsTold t [] (standing_rows es)) (sym is) (subst (λ (fs : Panes). IsTold (record { form = f; room = room; numbers = []; rows = [] }) [] (standing_rows fs)) (sym none) (none_told f room))
+    subst (λ (t : Told). IsTold t [] (standing_rows es)) (sym is) (subst (λ (fs : Panes). IsTold (record { form = f; room = room; numbers = [] }) [] (standing_rows fs)) (sym none) (none_told f room))
 
 -- the operator is the program's still
 pub of_next : (p : Program) (r n : WindowOperator) → IsOf p r → IsKept r.held n.held → AreAlike r.streams n.streams → vec_capacity n.rows ≡ vec_capacity r.rows → AreTold (most_panes (query_of p)) n.streams (entries_of n.held) → IsOf p n

@@ -127,13 +127,13 @@ module _ (p : Place) (h : Pane Folded) (es : Panes) (sorted : T (is_sorted place
   can_lose s can = record {
     before = can.before;
     rest = rest;
-    told = told_same s.form s.numbers s.rows can.before (standing_rows es) (cons_option (row_at h) rest) count_there can.told;
+    told = told_same s.form s.numbers can.before (standing_rows es) (cons_option (row_at h) rest) count_there can.told;
     within = record { few_before = can.few_before; few_now = omega (arith, few_rest (row_at h), can.few) };
   }
 
   module _ (s t : Told) (lost : (before now : Rows) → IsTold s before (cons_option (row_at h) now) → IsTold t before now) where
     told_lost : (before : Rows) → IsTold s before (standing_rows es) → IsTold t before rest
-    told_lost before told = lost before rest (told_same s.form s.numbers s.rows before (standing_rows es) (cons_option (row_at h) rest) count_there told)
+    told_lost before told = lost before rest (told_same s.form s.numbers before (standing_rows es) (cons_option (row_at h) rest) count_there told)
 
     pub can_gain : AreAlike s t → (o : Option (List Cell)) → CanTell s es → CanGain t o
     can_gain alike o can = record {
@@ -145,7 +145,7 @@ module _ (p : Place) (h : Pane Folded) (es : Panes) (sorted : T (is_sorted place
 
     pub tells_fired : (u : Told) (v : Pane Folded) → AreAlike s t → AreAlike t u → ((before now : Rows) → IsTold t before now → IsTold u before (cons_option (row_at v) now)) → Tells s u es (put place_cmp p v es)
     tells_fired u v alike then gained = record {
-      told = λ before told. told_same u.form u.numbers u.rows before (cons_option (row_at v) rest) (standing_rows (put place_cmp p v es)) (λ q. count_cons q (row_at v) rest ∙ sym (count_put q p v es sorted)) (gained before rest (told_lost before told));
+      told = λ before told. told_same u.form u.numbers before (cons_option (row_at v) rest) (standing_rows (put place_cmp p v es)) (λ q. count_cons q (row_at v) rest ∙ sym (count_put q p v es sorted)) (gained before rest (told_lost before told));
       alike = record { form = then.form ∙ alike.form; room = then.room ∙ alike.room };
       as_many = as_many_put p v h es sorted there;
     }

@@ -1,5 +1,5 @@
 -- What is told of the relation, row by row, and what its streams write.
-use Rattle.std.proofs.Common.{◌≡◌, ◌≢◌, ◌⊎◌, ℕ, zero, suc, ◌+◌, ◌≤◌, ◌<◌, true, false, List, [], ◌∷◌, ◌++◌, map, length, replicate, refl, sym, ap, subst, ◌∙◌, inl, inr, arith}
+use Rattle.std.proofs.Common.{◌≡◌, ◌≢◌, ◌⊎◌, ℕ, suc, ◌+◌, ◌≤◌, ◌<◌, true, false, List, [], ◌∷◌, map, length, refl, sym, ap, subst, ◌∙◌, inl, inr, arith}
 use Rattle.std.specs.Prelude.{ℤ, pos, negsuc, ◌-ℤ◌, ◌<ℤ◌}
 use Rattle.std.specs.Ordering.{int_eq}
 use Rattle.std.proofs.lemmas.Bool.{cases_Bool}
@@ -7,25 +7,22 @@ use Rattle.std.proofs.lemmas.Int.{ints}
 use Rattle.wsm_record.specs.declared.cell.Cell.{Cell}
 use Rattle.wsm_record.specs.declared.words.Form.{Form}
 use Rattle.wsm_record.specs.declared.words.Form.TheVariants as form
-use Rattle.wsm_semantics.specs.Relation.{with_row, without_one, sorted_rows, difference}
+use Rattle.wsm_semantics.specs.Relation.{sorted_rows, difference}
 use Rattle.wsm_semantics.specs.Relation.{stream_rows}
-use Rattle.wsm_semantics.specs.declared.out_row.OutRow.{OutRow}
-use Rattle.wsm_semantics.specs.declared.out_row.OutRow.TheVariants.{Rstream}
-use Rattle.wsm_relation.specs.Bag.{Bag}
 use Rattle.wsm_relation.specs.Rows.{count_of}
-use Rattle.wsm_relation.specs.Delta.{Delta, IsChange, number_of, shifted, copies, gains, losses}
-use Rattle.wsm_semantics.proofs.RowBags.{once, count-with_row, count-without_one, count-sorted_rows, with_row-in_order, without_one-in_order, sorted_rows-in_order, one_list}
+use Rattle.wsm_relation.specs.Delta.{Delta, IsChange, number_of, shifted, gains, losses, changed_rows, changed_row}
+use Rattle.wsm_relation.specs.declared.changes.Side.{Side}
+use Rattle.wsm_relation.specs.declared.changes.Side.TheVariants.{Gained, Lost, Standing}
+use Rattle.wsm_semantics.proofs.RowBags.{count-sorted_rows, sorted_rows-in_order}
 use Rattle.wsm_relation.proofs.Numbers.{is_zero, shifted-delta}
 use Rattle.wsm_relation.proofs.Copies.{gains-difference, losses-difference}
 use Rattle.wsm_semantics.proofs.RowsBound.{length-sorted_rows}
-use Rattle.wsm_relation.proofs.ToldChanges.{length-difference, few_numbers, undone_is, number_high, number_low, one_number_more, change_less, change_more, once_itself}
+use Rattle.wsm_relation.proofs.ToldChanges.{length-difference, few_numbers, undone_is, number_high, number_low, one_number_more, change_less, change_more}
 use Rattle.wsm_firing.specs.declared.streams.Kept.{Kept}
 use Rattle.wsm_firing.specs.declared.streams.Kept.TheVariants.{Changed}
 use Rattle.wsm_firing.specs.declared.streams.Kept.TheVariants as kept
-use Rattle.wsm_firing.specs.declared.streams.Side.{Side}
-use Rattle.wsm_firing.specs.declared.streams.Side.TheVariants.{Gained, Lost}
-use Rattle.wsm_firing.specs.Streams.{AreWithin, HasChanged, HasKept, HasRoomFor, IsToldOf, relation_before, relation_kept}
-use Rattle.wsm_firing.specs.StreamsKept.{HasRoomOfChanges, IsReserved, form_kept, numbers_kept, rows_kept, side_form, times_of, changed_rows, changed_row}
+use Rattle.wsm_firing.specs.Streams.{AreWithin, HasChanged, HasRoomFor, IsToldOf, relation_before, relation_kept}
+use Rattle.wsm_firing.specs.StreamsKept.{HasRoomOfChanges, IsReserved, form_kept, numbers_kept, numbers_after, side_form}
 
 abbrev pub Rows : Type 0
 Rows = List (List Cell)
@@ -71,66 +68,48 @@ changed_none now = record {
   change = λ q. let same : count_of q (sorted_rows now) ≡ count_of q now = count-sorted_rows q now in omega (arith, ints);
 }
 
--- ---- the rows that stand
-
-pub kept_less : (r : List Cell) (rows before rest : Rows) → HasKept rows before (r ∷ rest) → HasKept (without_one r rows) before rest
-kept_less r rows before rest h = record {
-  none = h.none;
-  ordered = without_one-in_order r rows h.ordered;
-  same = λ q. let was : count_of q rows ≡ once q r + count_of q rest = h.same q in omega (arith, count-without_one q r rows, was);
-}
-
-pub kept_more : (r : List Cell) (rows before rest : Rows) → HasKept rows before rest → HasKept (with_row r rows) before (r ∷ rest)
-kept_more r rows before rest h = record {
-  none = h.none;
-  ordered = with_row-in_order r rows h.ordered;
-  same = λ q. let was : count_of q rows ≡ count_of q rest = h.same q in omega (arith, count-with_row q r rows, was);
-}
-
-pub kept_is : (rows before now : Rows) → HasKept rows before now → rows ≡ sorted_rows now
-kept_is rows before now h = one_list rows (sorted_rows now) h.ordered (sorted_rows-in_order now) (λ q. h.same q ∙ sym (count-sorted_rows q now))
-
-pub kept_there : (r : List Cell) (rows before rest : Rows) → HasKept rows before (r ∷ rest) → 0 < count_of r rows
-kept_there r rows before rest h = let was : count_of r rows ≡ once r r + count_of r rest = h.same r in omega (arith, once_itself r, was)
-
-pub kept_few : (rows before now : Rows) → HasKept rows before now → length rows ≡ length now
-kept_few rows before now h = ap length (kept_is rows before now h) ∙ length-sorted_rows now
-
 -- ---- by the side that is written
 
-pub as_changed : (s : Side) (es : Numbers) (rows before now : Rows) → IsToldOf (side_form s) es rows before now → HasChanged es before now
-as_changed Gained es rows before now h = h
-as_changed Lost es rows before now h = h
+pub as_changed : (s : Side) (es : Numbers) (before now : Rows) → IsToldOf (side_form s) es before now → HasChanged es before now
+as_changed Gained es before now h = h
+as_changed Lost es before now h = h
+as_changed Standing es before now h = h.changed
 
-pub as_told : (s : Side) (es : Numbers) (rows before now : Rows) → HasChanged es before now → IsToldOf (side_form s) es rows before now
-as_told Gained es rows before now h = h
-as_told Lost es rows before now h = h
+-- with what was told of the same relation before
+pub as_told : (s : Side) (es fs : Numbers) (before now next : Rows) → IsToldOf (side_form s) es before now → HasChanged fs before next → IsToldOf (side_form s) fs before next
+as_told Gained es fs before now next was h = h
+as_told Lost es fs before now next was h = h
+as_told Standing es fs before now next was h = record { none = was.none; changed = h }
 
 room_for : (s : Side) (n rows capacity : ℕ) → HasRoomFor (side_form s) n rows capacity → rows + n ≤ capacity
 room_for Gained n rows capacity h = h
 room_for Lost n rows capacity h = h
+room_for Standing n rows capacity h = h
 
 -- ---- by the form
 
 -- where rows are those of panes nothing is told
-pub told_of_panes : (f : Form) (es : Numbers) (rows before now next : Rows) → f ≡ form.Panes → IsToldOf f es rows before now → IsToldOf f es rows before next
-told_of_panes f es rows before now next panes told =
-    let none : before ≡ [] = subst (λ (g : Form). IsToldOf g es rows before now) panes told in
-    subst (λ (g : Form). IsToldOf g es rows before next) (sym panes) none
+pub told_of_panes : (f : Form) (es : Numbers) (before now next : Rows) → f ≡ form.Panes → IsToldOf f es before now → IsToldOf f es before next
+told_of_panes f es before now next panes told =
+    let none : before ≡ [] = subst (λ (g : Form). IsToldOf g es before now) panes told in
+    subst (λ (g : Form). IsToldOf g es before next) (sym panes) none
 
 -- the counts alone matter
-pub told_same : (f : Form) (es : Numbers) (rows before now other : Rows) → ((q : List Cell) → count_of q now ≡ count_of q other) → IsToldOf f es rows before now → IsToldOf f es rows before other
-told_same form.Panes es rows before now other same h = h
-told_same form.Istream es rows before now other same h = record { ordered = h.ordered; delta = h.delta; change = λ q. h.change q ∙ ap (λ n. pos n -ℤ pos (count_of q before)) (same q) }
-told_same form.Dstream es rows before now other same h = record { ordered = h.ordered; delta = h.delta; change = λ q. h.change q ∙ ap (λ n. pos n -ℤ pos (count_of q before)) (same q) }
-told_same form.Rstream es rows before now other same h = record { none = h.none; ordered = h.ordered; same = λ q. h.same q ∙ same q }
+changed_same : (es : Numbers) (before now other : Rows) → ((q : List Cell) → count_of q now ≡ count_of q other) → HasChanged es before now → HasChanged es before other
+changed_same es before now other same h = record { ordered = h.ordered; delta = h.delta; change = λ q. h.change q ∙ ap (λ n. pos n -ℤ pos (count_of q before)) (same q) }
+
+pub told_same : (f : Form) (es : Numbers) (before now other : Rows) → ((q : List Cell) → count_of q now ≡ count_of q other) → IsToldOf f es before now → IsToldOf f es before other
+told_same form.Panes es before now other same h = h
+told_same form.Istream es before now other same h = changed_same es before now other same h
+told_same form.Dstream es before now other same h = changed_same es before now other same h
+told_same form.Rstream es before now other same h = record { none = h.none; changed = changed_same es before now other same h.changed }
 
 -- what was told says what the relation before is
-pub before_is : (f : Form) (es : Numbers) (rows before now : Rows) → IsToldOf f es rows before now → relation_before f es (sorted_rows now) ≡ before
-before_is form.Panes es rows before now h = sym h
-before_is form.Istream es rows before now h = undone_is before (sorted_rows now) es h.delta (λ q. h.change q ∙ ap (λ n. pos n -ℤ pos (count_of q before)) (sym (count-sorted_rows q now))) h.ordered
-before_is form.Dstream es rows before now h = undone_is before (sorted_rows now) es h.delta (λ q. h.change q ∙ ap (λ n. pos n -ℤ pos (count_of q before)) (sym (count-sorted_rows q now))) h.ordered
-before_is form.Rstream es rows before now h = sym h.none
+pub before_is : (f : Form) (es : Numbers) (before now : Rows) → IsToldOf f es before now → relation_before f es (sorted_rows now) ≡ before
+before_is form.Panes es before now h = sym h
+before_is form.Istream es before now h = undone_is before (sorted_rows now) es h.delta (λ q. h.change q ∙ ap (λ n. pos n -ℤ pos (count_of q before)) (sym (count-sorted_rows q now))) h.ordered
+before_is form.Dstream es before now h = undone_is before (sorted_rows now) es h.delta (λ q. h.change q ∙ ap (λ n. pos n -ℤ pos (count_of q before)) (sym (count-sorted_rows q now))) h.ordered
+before_is form.Rstream es before now h = sym h.none
 
 -- ---- what is written
 
@@ -138,49 +117,60 @@ same_change : (es : Numbers) (before now : Rows) → HasChanged es before now �
 same_change es before now h = λ q. h.change q ∙ ap (λ n. pos n -ℤ pos (count_of q before)) (sym (count-sorted_rows q now))
 
 -- a stream is what the definitions say
-pub changes_written : (s : Side) (es : Numbers) (before now : Rows) (mark : ℤ) → HasChanged es before now → map (changed_row s mark) (changed_rows s es) ≡ stream_rows (side_form s) mark before (sorted_rows now)
+pub changes_written : (s : Side) (es : Numbers) (before now : Rows) (mark : ℤ) → IsToldOf (side_form s) es before now → map (changed_row s mark) (changed_rows s es) ≡ stream_rows (side_form s) mark before (sorted_rows now)
 changes_written Gained es before now mark h = ap (map (changed_row Gained mark)) (gains-difference before (sorted_rows now) es h.delta (same_change es before now h) (sorted_rows-in_order now))
 changes_written Lost es before now mark h = ap (map (changed_row Lost mark)) (losses-difference before (sorted_rows now) es h.delta (same_change es before now h) h.ordered)
+changes_written Standing es before now mark h =
+    let c = h.changed in
+    ap (map (changed_row Standing mark)) (gains-difference before (sorted_rows now) es c.delta (same_change es before now c) (sorted_rows-in_order now) ∙ ap (difference (sorted_rows now)) h.none)
 
 -- it has no more rows than there is room for
-pub changes_few : (s : Side) (es : Numbers) (before now : Rows) (room : ℕ) → HasChanged es before now → AreWithin room before now → length (changed_rows s es) ≤ room
-changes_few Gained es before now room h w =
+gains_few : (es : Numbers) (before now : Rows) (room : ℕ) → HasChanged es before now → AreWithin room before now → length (gains es) ≤ room
+gains_few es before now room h w =
     let same : gains es ≡ difference (sorted_rows now) before = gains-difference before (sorted_rows now) es h.delta (same_change es before now h) (sorted_rows-in_order now) in
     omega (arith, ap length same, length-difference (sorted_rows now) before, length-sorted_rows now, w.few_now)
+
+pub changes_few : (s : Side) (es : Numbers) (before now : Rows) (room : ℕ) → HasChanged es before now → AreWithin room before now → length (changed_rows s es) ≤ room
+changes_few Gained es before now room h w = gains_few es before now room h w
+changes_few Standing es before now room h w = gains_few es before now room h w
 changes_few Lost es before now room h w =
     let same : losses es ≡ difference before (sorted_rows now) = losses-difference before (sorted_rows now) es h.delta (same_change es before now h) h.ordered in
     omega (arith, ap length same, length-difference before (sorted_rows now), w.few_before)
 
 -- the next instant
-pub told_on : (s : Side) (rows before now : Rows) → IsToldOf (side_form s) [] rows (relation_kept (side_form s) before (sorted_rows now)) now
-told_on Gained rows before now = changed_none now
-told_on Lost rows before now = changed_none now
+pub told_on : (s : Side) (es : Numbers) (before now : Rows) → IsToldOf (side_form s) es before now → IsToldOf (side_form s) (numbers_after s es) (relation_kept (side_form s) before (sorted_rows now)) now
+told_on Gained es before now told = changed_none now
+told_on Lost es before now told = changed_none now
+told_on Standing es before now told = told
 
 -- ---- by what is kept
 
 abbrev pub IsToldBy : Kept → Rows → Rows → Type 0
-IsToldBy k before now = IsToldOf (form_kept k) (numbers_kept k) (rows_kept k) before now
+IsToldBy k before now = IsToldOf (form_kept k) (numbers_kept k) before now
 
 module _ (k : Kept) (s : Side) (changes : Delta) (is : k ≡ Changed s changes) where
+  told_by : (before now : Rows) → IsToldBy k before now → IsToldOf (side_form s) changes.numbers before now
+  told_by before now told = subst (λ j. IsToldBy j before now) is told
+
   pub changed_by : (before now : Rows) → IsToldBy k before now → HasChanged changes.numbers before now
-  changed_by before now told = as_changed s changes.numbers [] before now (subst (λ j. IsToldBy j before now) is told)
+  changed_by before now told = as_changed s changes.numbers before now (told_by before now told)
 
   pub changes_lost : (row : List Cell) (t : Delta) → t ≡ record changes { numbers = shifted row (negsuc 0) changes.numbers } → (before now : Rows) → IsToldBy k before (row ∷ now) → IsToldBy (Changed s t) before now
   changes_lost row t told-is before now told =
-      subst (λ (u : Delta). IsToldOf (side_form s) u.numbers [] before now) (sym told-is)
-      (as_told s (shifted row (negsuc 0) changes.numbers) [] before now (changed_less row changes.numbers before now (changed_by before (row ∷ now) told)))
+      subst (λ (u : Delta). IsToldOf (side_form s) u.numbers before now) (sym told-is)
+      (as_told s changes.numbers (shifted row (negsuc 0) changes.numbers) before (row ∷ now) now (told_by before (row ∷ now) told) (changed_less row changes.numbers before now (changed_by before (row ∷ now) told)))
 
   pub changes_gained : (row : List Cell) (t : Delta) → t ≡ record changes { numbers = shifted row (pos 1) changes.numbers } → (before now : Rows) → IsToldBy k before now → IsToldBy (Changed s t) before (row ∷ now)
   changes_gained row t told-is before now told =
-      subst (λ (u : Delta). IsToldOf (side_form s) u.numbers [] before (row ∷ now)) (sym told-is)
-      (as_told s (shifted row (pos 1) changes.numbers) [] before (row ∷ now) (changed_more row changes.numbers before now (changed_by before now told)))
+      subst (λ (u : Delta). IsToldOf (side_form s) u.numbers before (row ∷ now)) (sym told-is)
+      (as_told s changes.numbers (shifted row (pos 1) changes.numbers) before now (row ∷ now) (told_by before now told) (changed_more row changes.numbers before now (changed_by before now told)))
 
-  pub changes_on : (t : Delta) → t ≡ record changes { numbers = [] } → (before now : Rows) → IsToldBy (Changed s t) (relation_kept (form_kept k) before (sorted_rows now)) now
-  changes_on t told-is before now =
-      subst (λ (x : Delta × Kept). IsToldOf (side_form s) x.0.numbers [] (relation_kept (form_kept x.1) before (sorted_rows now)) now) (λ i. (sym told-is i, sym is i)) (told_on s [] before now)
+  pub changes_on : (t : Delta) → t ≡ record changes { numbers = numbers_after s changes.numbers } → (before now : Rows) → IsToldBy k before now → IsToldBy (Changed s t) (relation_kept (form_kept k) before (sorted_rows now)) now
+  changes_on t told-is before now told =
+      subst (λ (x : Delta × Kept). IsToldOf (side_form s) x.0.numbers (relation_kept (form_kept x.1) before (sorted_rows now)) now) (λ i. (sym told-is i, sym is i)) (told_on s changes.numbers before now (told_by before now told))
 
   pub changes_rows : (before now : Rows) (mark : ℤ) → IsToldBy k before now → map (changed_row s mark) (changed_rows s changes.numbers) ≡ stream_rows (form_kept k) mark before (sorted_rows now)
-  changes_rows before now mark told = changes_written s changes.numbers before now mark (changed_by before now told) ∙ ap (λ (j : Kept). stream_rows (form_kept j) mark before (sorted_rows now)) (sym is)
+  changes_rows before now mark told = changes_written s changes.numbers before now mark (told_by before now told) ∙ ap (λ (j : Kept). stream_rows (form_kept j) mark before (sorted_rows now)) (sym is)
 
   pub room_of_changes : (room : ℕ) → IsReserved room k → HasRoomOfChanges room changes
   room_of_changes room h = subst (IsReserved room) is h
@@ -188,51 +178,13 @@ module _ (k : Kept) (s : Side) (changes : Delta) (is : k ≡ Changed s changes) 
   pub room_for_changes : (n rows capacity : ℕ) → HasRoomFor (form_kept k) n rows capacity → rows + n ≤ capacity
   room_for_changes n rows capacity h = room_for s n rows capacity (subst (λ j. HasRoomFor (form_kept j) n rows capacity) is h)
 
-module _ (k : Kept) (relation : Bag) (is : k ≡ kept.Rows relation) where
-  pub kept_by : (before now : Rows) → IsToldBy k before now → HasKept relation.rows before now
-  kept_by before now told = subst (λ j. IsToldBy j before now) is told
-
-  pub row_lost : (row : List Cell) (b : Bag) → b ≡ record relation { rows = without_one row relation.rows } → (before now : Rows) → IsToldBy k before (row ∷ now) → IsToldBy (kept.Rows b) before now
-  row_lost row b told-is before now told = subst (λ (d : Bag). HasKept d.rows before now) (sym told-is) (kept_less row relation.rows before now (kept_by before (row ∷ now) told))
-
-  pub row_gained : (row : List Cell) (b : Bag) → b ≡ record relation { rows = with_row row relation.rows } → (before now : Rows) → IsToldBy k before now → IsToldBy (kept.Rows b) before (row ∷ now)
-  row_gained row b told-is before now told = subst (λ (d : Bag). HasKept d.rows before (row ∷ now)) (sym told-is) (kept_more row relation.rows before now (kept_by before now told))
-
-  pub rows_on : (before now : Rows) → IsToldBy k before now → IsToldBy (kept.Rows relation) (relation_kept (form_kept k) before (sorted_rows now)) now
-  rows_on before now told = subst (λ (j : Kept). HasKept relation.rows (relation_kept (form_kept j) before (sorted_rows now)) now) (sym is) (kept_by before now told)
-
-  pub standing_written : (before now : Rows) (mark : ℤ) → IsToldBy k before now → map (Rstream mark) relation.rows ≡ stream_rows (form_kept k) mark before (sorted_rows now)
-  standing_written before now mark told = ap (map (Rstream mark)) (kept_is relation.rows before now (kept_by before now told)) ∙ ap (λ (j : Kept). stream_rows (form_kept j) mark before (sorted_rows now)) (sym is)
-
-  pub room_of_rows : (room : ℕ) → IsReserved room k → relation.room ≡ room
-  room_of_rows room h = subst (IsReserved room) is h
-
-  pub room_for_rows : (n rows capacity : ℕ) → HasRoomFor (form_kept k) n rows capacity → rows + n ≤ capacity
-  room_for_rows n rows capacity h = subst (λ j. HasRoomFor (form_kept j) n rows capacity) is h
-
 -- where nothing is kept nothing is told, and nothing written
 module _ (k : Kept) (is : k ≡ kept.Nothing) where
   pub nothing_told : (before now next : Rows) → IsToldBy k before now → IsToldBy k before next
-  nothing_told before now next told = told_of_panes (form_kept k) (numbers_kept k) (rows_kept k) before now next (ap form_kept is) told
+  nothing_told before now next told = told_of_panes (form_kept k) (numbers_kept k) before now next (ap form_kept is) told
 
   pub nothing_on : (before now : Rows) → IsToldBy k before now → IsToldBy k (relation_kept (form_kept k) before (sorted_rows now)) now
   nothing_on before now told = subst (λ (j : Kept). IsToldBy j (relation_kept (form_kept j) before (sorted_rows now)) now) (sym is) (subst (λ (j : Kept). IsToldBy j before now) is told)
 
   pub nothing_written : (before now : Rows) (mark : ℤ) → [] ≡ stream_rows (form_kept k) mark before (sorted_rows now)
   nothing_written before now mark = ap (λ (j : Kept). stream_rows (form_kept j) mark before (sorted_rows now)) (sym is)
-
--- ---- the rows of a side, change by change
-
--- a change stands in front of those behind it
-pub changed_from : (s : Side) (r : List Cell) (z : ℤ) (es : Numbers) → changed_rows s ((r, z) ∷ es) ≡ copies (times_of s z) r (changed_rows s es)
-changed_from Gained r z es = refl
-changed_from Lost r z es = refl
-
--- and so do their rows
-pub rows_from : (f : List Cell → OutRow) (n : ℕ) (r : List Cell) (rows : Rows) → map f (copies n r rows) ≡ replicate n (f r) ++ map f rows
-rows_from f zero r rows = refl
-rows_from f (suc n) r rows = ap (λ l. f r ∷ l) (rows_from f n r rows)
-
-pub none_changed : (s : Side) → changed_rows s [] ≡ []
-none_changed Gained = refl
-none_changed Lost = refl

@@ -14,16 +14,15 @@ use Rattle.wsm_semantics.specs.Query.{Datum}
 use Rattle.wsm_semantics.specs.Kept.{is_linked}
 use Rattle.wsm_semantics.specs.Summaries.{Pane, linked, standing_row}
 use Rattle.wsm_panes.specs.Held.{has_fired}
-use Rattle.wsm_relation.specs.Rows.{IsInOrder, count_of}
+use Rattle.wsm_relation.specs.Rows.{IsInOrder}
 use Rattle.wsm_relation.specs.Delta.{IsDelta, IsChange, undone}
 
--- what the streams keep of what they were told: a form, room for so many rows, what changed since the
--- last instant, where that is written, and the rows that stand, where all are
+-- what the streams keep of what they were told: a form, room for so many rows, and what changed since
+-- the last instant, where that is written, or since there was no row, where those that stand are
 pub record Told : Type 0 where
   pub form : Form
   pub room : ℕ
   pub numbers : List (List Cell × ℤ)
-  pub rows : List (List Cell)
 
 -- the rows that stand for panes
 abbrev pub standing_rows : {X : Type 0} → List (Place × Pane X) → List (List Cell)
@@ -46,19 +45,19 @@ pub record HasChanged (numbers : List (List Cell × ℤ)) (before now : List (Li
   pub delta : IsDelta numbers
   pub change : IsChange before now numbers
 
-pub record HasKept (rows before now : List (List Cell)) : Type 0 where
+-- since there was no row
+pub record HasKept (numbers : List (List Cell × ℤ)) (before now : List (List Cell)) : Type 0 where
   pub none : before ≡ []
-  pub ordered : IsInOrder rows
-  pub same : (q : List Cell) → count_of q rows ≡ count_of q now
+  pub changed : HasChanged numbers before now
 
-abbrev pub IsToldOf : Form → List (List Cell × ℤ) → List (List Cell) → List (List Cell) → List (List Cell) → Type 0
-IsToldOf form.Panes numbers rows before now = before ≡ []
-IsToldOf form.Istream numbers rows before now = HasChanged numbers before now
-IsToldOf form.Dstream numbers rows before now = HasChanged numbers before now
-IsToldOf form.Rstream numbers rows before now = HasKept rows before now
+abbrev pub IsToldOf : Form → List (List Cell × ℤ) → List (List Cell) → List (List Cell) → Type 0
+IsToldOf form.Panes numbers before now = before ≡ []
+IsToldOf form.Istream numbers before now = HasChanged numbers before now
+IsToldOf form.Dstream numbers before now = HasChanged numbers before now
+IsToldOf form.Rstream numbers before now = HasKept numbers before now
 
 abbrev pub IsTold : Told → List (List Cell) → List (List Cell) → Type 0
-IsTold s before now = IsToldOf s.form s.numbers s.rows before now
+IsTold s before now = IsToldOf s.form s.numbers before now
 
 -- the relation at the last instant, from the one now: it is kept where changes against it are written
 abbrev pub relation_before : Form → List (List Cell × ℤ) → List (List Cell) → List (List Cell)

@@ -12,15 +12,15 @@ ghost use Rattle.wsm_semantics.specs.Relation.{sorted_rows};
 ghost use Rattle.wsm_semantics.specs.Summaries.{Pane, standing_row};
 ghost use Rattle.wsm_semantics.specs.Relation.{stream_rows};
 ghost use Rattle.wsm_firing.specs.Streams.{AreAlike, CanAdvance, CanGain, CanLose, HasRoomFor, IsTold, relation_kept};
-ghost use Rattle.wsm_firing.specs.StreamsKept.{changed_row, changed_rows, times_of};
-ghost use Rattle.wsm_semantics.specs.declared.out_row.OutRow.TheVariants.{Rstream};
+ghost use Rattle.wsm_relation.specs.Delta.{changed_row, changed_rows};
+ghost use Rattle.wsm_firing.specs.StreamsKept.{numbers_after};
 
 use std::alloc::{AllocError, Global};
 use std::marker::Model;
 use wsm_panes::{HeldPanes, PaneView, Spot};
 use wsm_record::limits::{MAX_COLUMNS, MAX_PANES};
 use wsm_record::{Cell, Columns, Form};
-use wsm_relation::{Changes, Relation};
+use wsm_relation::{Changes, Side};
 use wsm_semantics::OutRow;
 
 /// The streams of the relation of the rows that stand for the panes that are held, which is told each
@@ -37,17 +37,9 @@ pub struct Streams {
 enum Kept {
     // Where rows are those of panes.
     Nothing,
-    // What changed since the last instant, of which one side is written.
+    // What changed since the last instant, of which one side is written, or since there was no row,
+    // where the rows that stand are.
     Changed(Side, Changes),
-    // The rows that stand, which are all written.
-    Rows(Relation),
-}
-
-// A side of what changed.
-#[derive(Clone, Copy)]
-enum Side {
-    Gained,
-    Lost,
 }
 
 impl Model for Streams {
@@ -55,9 +47,9 @@ impl Model for Streams {
 
     ghost Value = { Told };
 
-    ghost use Rattle.wsm_firing.specs.StreamsKept.{IsReserved, form_kept, numbers_kept, rows_kept};
+    ghost use Rattle.wsm_firing.specs.StreamsKept.{IsReserved, form_kept, numbers_kept};
 
-    ghost view = { λ a. record { form = form_kept a.kept; room = a.room; numbers = numbers_kept a.kept; rows = rows_kept a.kept } };
+    ghost view = { λ a. record { form = form_kept a.kept; room = a.room; numbers = numbers_kept a.kept } };
 
     ghost invariant = { λ a. IsReserved a.room a.kept };
 }
@@ -70,13 +62,13 @@ impl Streams {
     /// Where there is no memory for the room.
     pub fn open(alloc: Global, form: Form, room: usize) -> Result<Streams, AllocError>
         requires { room ≤ MAX_PANES }
-        ensures { IfOk result (λ s. s ≡ record { form = form; room = room; numbers = []; rows = [] }) }
+        ensures { IfOk result (λ s. s ≡ record { form = form; room = room; numbers = [] }) }
     {
         let kept = match form {
             Form::Panes => Kept::Nothing,
             Form::Istream => changed(alloc, Side::Gained, room)?,
             Form::Dstream => changed(alloc, Side::Lost, room)?,
-            Form::Rstream => Kept::Rows(Relation::open(alloc, room, MAX_COLUMNS)?),
+            Form::Rstream => changed(alloc, Side::Standing, room)?,
         };
         Ok(Streams { room, kept })
     }
@@ -89,7 +81,7 @@ impl Streams {
             Kept::Nothing => Form::Panes,
             Kept::Changed(Side::Gained, _) => Form::Istream,
             Kept::Changed(Side::Lost, _) => Form::Dstream,
-            Kept::Rows(_) => Form::Rstream,
+            Kept::Changed(Side::Standing, _) => Form::Rstream,
         }
     }
 
@@ -183,7 +175,6 @@ impl Streams {
         match &mut self.kept {
             Kept::Nothing => {}
             Kept::Changed(_, changes) => changes.minus(row),
-            Kept::Rows(relation) => relation.remove(row),
         }
     }
 
@@ -195,7 +186,6 @@ impl Streams {
         match &mut self.kept {
             Kept::Nothing => {}
             Kept::Changed(_, changes) => changes.plus(row),
-            Kept::Rows(relation) => relation.add(*row),
         }
     }
 
@@ -212,34 +202,9 @@ impl Streams {
         match &mut self.kept {
             Kept::Nothing => {}
             Kept::Changed(side, changes) => {
-                write_changes(*side, mark, changes, rows);
-                changes.clear();
+                changes.write(*side, mark, rows);
+                go_on(*side, changes);
             }
-            Kept::Rows(relation) => write_standing(mark, relation, rows),
-        }
-    }
-}
-
-impl Side {
-    // How many rows there are of a change.
-    fn times(self, number: i64) -> u64
-        ensures { result ≡ times_of self number }
-    {
-        match self {
-            Side::Gained if number > 0 => number.unsigned_abs(),
-            Side::Lost if number < 0 => number.unsigned_abs(),
-            Side::Gained | Side::Lost => 0,
-        }
-    }
-
-    // A row of its stream.
-    #[inline(always)]
-    fn row(self, mark: i64, columns: Columns) -> OutRow
-        ensures { result ≡ changed_row self mark columns }
-    {
-        match self {
-            Side::Gained => OutRow::Istream { mark, columns },
-            Side::Lost => OutRow::Dstream { mark, columns },
         }
     }
 }
@@ -252,41 +217,12 @@ fn changed(alloc: Global, side: Side, room: usize) -> Result<Kept, AllocError>
     Ok(Kept::Changed(side, Changes::open(alloc, 2 * room, MAX_COLUMNS)?))
 }
 
-// Appends the rows of the stream of a side of what changed.
-fn write_changes(side: Side, mark: i64, changes: &Changes, rows: &mut Vec<OutRow>)
-    requires { vec_len rows.old + length (changed_rows side changes.now.numbers) ≤ vec_capacity rows.old }
-    ensures rows { rows.new.items ≡ rows.old.items ++ map (changed_row side mark) (changed_rows side changes.now.numbers) }
-    ensures capacity { vec_capacity rows.new ≡ vec_capacity rows.old }
+// Goes on from what is written: where a side of what changed is, from no changes.
+fn go_on(side: Side, changes: &mut Changes)
+    ensures { changes.new ≡ record changes.old { numbers = numbers_after side changes.old.numbers } }
 {
-    for i in 0..changes.len() {
-        let change = changes.get(i);
-        write_copies(side, mark, &change.row, side.times(change.number), rows);
-    }
-}
-
-// Appends a row so many times.
-#[inline(always)]
-fn write_copies(side: Side, mark: i64, row: &Columns, times: u64, rows: &mut Vec<OutRow>)
-    requires { vec_len rows.old + times ≤ vec_capacity rows.old }
-    ensures rows { rows.new.items ≡ rows.old.items ++ replicate times (changed_row side mark row.now) }
-    ensures len { vec_len rows.new ≡ vec_len rows.old + times }
-    ensures capacity { vec_capacity rows.new ≡ vec_capacity rows.old }
-{
-    for _ in 0..times {
-        rows.push_reserved(side.row(mark, *row));
-    }
-}
-
-// Appends the rows that stand.
-fn write_standing(mark: i64, relation: &Relation, rows: &mut Vec<OutRow>)
-    requires { vec_len rows.old + length relation.now.rows ≤ vec_capacity rows.old }
-    ensures rows { rows.new.items ≡ rows.old.items ++ map (Rstream mark) relation.now.rows }
-    ensures capacity { vec_capacity rows.new ≡ vec_capacity rows.old }
-{
-    for i in 0..relation.len() {
-        rows.push_reserved(OutRow::Rstream {
-            mark,
-            columns: *relation.get(i),
-        });
+    match side {
+        Side::Gained | Side::Lost => changes.clear(),
+        Side::Standing => {}
     }
 }

@@ -1,5 +1,5 @@
 -- The positive and the negative part of rows with their numbers, and the difference of bags.
-use Rattle.std.proofs.Common.{◌≡◌, ℕ, zero, suc, ◌+◌, ◌-◌, true, false, cond, List, [], ◌∷◌, ◌++◌, length, refl, sym, ap, ◌∙◌, inl, inr, arith}
+use Rattle.std.proofs.Common.{◌≡◌, ℕ, zero, suc, ◌+◌, ◌-◌, true, false, cond, List, [], ◌∷◌, ◌++◌, map, length, replicate, refl, sym, ap, ◌∙◌, inl, inr, arith}
 use Rattle.std.specs.Prelude.{ℤ, pos, negsuc, ◌-ℤ◌, int_lt, unsigned_abs}
 use Rattle.std.specs.List.{AllByRecursion}
 use Rattle.std.specs.declared.cmp.Ordering.TheVariants.{Less}
@@ -13,7 +13,10 @@ use Rattle.wsm_semantics.specs.RowCounts.{IsInOrder, count_of}
 use Rattle.wsm_semantics.proofs.Lists.{all-each}
 use Rattle.wsm_semantics.proofs.RowOrder.{rows_total, same_rows}
 use Rattle.wsm_semantics.proofs.RowBags.{count-difference, difference-in_order, one_list}
-use Rattle.wsm_relation.specs.Delta.{IsDelta, IsChange, number_of, copies, gained, lost, gains, losses}
+use Rattle.wsm_semantics.specs.declared.out_row.OutRow.{OutRow}
+use Rattle.wsm_relation.specs.declared.changes.Side.{Side}
+use Rattle.wsm_relation.specs.declared.changes.Side.TheVariants.{Gained, Lost, Standing}
+use Rattle.wsm_relation.specs.Delta.{IsDelta, IsChange, number_of, copies, gained, lost, gains, losses, times_of, changed_rows}
 use Rattle.wsm_relation.proofs.Numbers.{Entry, number-before}
 
 pub copies-append : (n : ℕ) (r : List Cell) (rows : List (List Cell)) → copies n r rows ≡ copies n r [] ++ rows
@@ -126,3 +129,19 @@ module _ (before now : List (List Cell)) (es : List Entry) (delta : IsDelta es) 
   pub losses-difference : IsInOrder before → losses es ≡ difference before now
   losses-difference sorted = one_list (losses es) (difference before now) (losses-in_order es delta) (difference-in_order before now sorted) (λ q.
       ap (count_of q) (sym (losses-part es)) ∙ count-part lost refl q es delta ∙ lost-less (number_of q es) (count_of q now) (count_of q before) (change q) ∙ sym (count-difference q before now))
+
+-- ---- what is written of a side
+
+pub changed_from : (s : Side) (r : List Cell) (z : ℤ) (es : List Entry) → changed_rows s ((r, z) ∷ es) ≡ copies (times_of s z) r (changed_rows s es)
+changed_from Gained r z es = refl
+changed_from Lost r z es = refl
+changed_from Standing r z es = refl
+
+pub rows_from : (f : List Cell → OutRow) (n : ℕ) (r : List Cell) (rows : List (List Cell)) → map f (copies n r rows) ≡ replicate n (f r) ++ map f rows
+rows_from f zero r rows = refl
+rows_from f (suc n) r rows = ap (λ l. f r ∷ l) (rows_from f n r rows)
+
+pub none_changed : (s : Side) → changed_rows s [] ≡ []
+none_changed Gained = refl
+none_changed Lost = refl
+none_changed Standing = refl

@@ -5,5 +5,6 @@ pub mod Walk
 pub mod Numbers
 pub mod Copies
 pub mod Entries
-pub mod Shifts
+pub mod Netted
+pub mod Summing
 pub mod ToldChanges

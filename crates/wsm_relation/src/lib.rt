@@ -2,8 +2,9 @@
 //!
 //! A [`Relation`] is a bag of rows, kept in row order. [`istream`], [`dstream`] and [`rstream`] are the
 //! operators on whole relations: they give the rows that one has more often than another, or all its
-//! rows. [`Changes`] gives the same from what was gained and lost in between. `wsm_firing` keeps what
-//! changed, and writes the rows of its streams itself, from [`Changes::get`] and [`Relation::get`].
+//! rows. [`Changes`] gives the same from what was gained and lost in between, and needs no order until
+//! it is read: each row goes behind those before it. `wsm_firing` keeps changes alone, and has them
+//! write the rows of its streams ([`Changes::write`]).
 //!
 //! Where `row(n)` is a row of the one column n:
 //!
@@ -23,7 +24,7 @@
 //! ```
 #![tactic(auto)]
 
-pub use changes::{Change, Changes};
+pub use changes::{Changes, Side};
 pub use order::row_order;
 pub use relation::{Relation, dstream, istream, rstream};
 

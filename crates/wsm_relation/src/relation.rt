@@ -10,7 +10,8 @@ use std::marker::Model;
 use wsm_record::Columns;
 
 /// A bag of rows, in row order, with room for a number of them. The rows are held in places that
-/// were reserved when it was opened, and only the places' addresses are moved.
+/// were reserved when it was opened, and only the places' addresses are moved, of all rows behind the
+/// one that comes or goes: many rows that change between two instants belong into [`Changes`](crate::Changes).
 #[derive(Drop)]
 pub struct Relation {
     rows: Vec<Box<Columns>>,

@@ -26,13 +26,13 @@ returns-clause-told c = λ relation told.
     elim c.match-form.branch [
       | in-Panes w ↦
           subst (λ (t : Told). IsTold t relation (standing_rows after)) (sym w.streams-is)
-          (told_of_panes s.form s.numbers s.rows relation (standing_rows es) (standing_rows after) (sym c.form.ensures ∙ w.in-Panes.is) told)
+          (told_of_panes s.form s.numbers relation (standing_rows es) (standing_rows after) (sym c.form.ensures ∙ w.in-Panes.is) told)
       | in-Istream w ↦
           let t = w.lose_joined.new.streams in
           let lost : IsTold t relation (rows_with held.shape d es) = w.lose_joined.ensures.told relation told in
           subst (λ (t : Told). IsTold t relation (standing_rows after)) (sym w.streams-is)
           (subst (λ (fs : Panes). IsTold t relation (standing_rows fs)) (sym c.enter.ensures.panes)
-          (told_same t.form t.numbers t.rows relation (rows_with held.shape d es) (standing_rows (entered plan held.shape lateness now es))
+          (told_same t.form t.numbers relation (rows_with held.shape d es) (standing_rows (entered plan held.shape lateness now es))
           (λ q. sym (count_entered plan held.shape lateness now es w.lose_joined.ensures.shape (map.entries_sorted held.panes) w.lose_joined.ensures.few q ∙ ap (count_of q) (unmarked held.shape mark c.args.arrival.key time es))) lost))
     ]
 

@@ -15,7 +15,7 @@ lose_pair-requires c =
     record {
       before = can.before;
       rest = rows_with sh d es;
-      told = told_same s.form s.numbers s.rows can.before (standing_rows es) (rows_and v w (rows_with sh d es)) pair.counts can.told;
+      told = told_same s.form s.numbers can.before (standing_rows es) (rows_and v w (rows_with sh d es)) pair.counts can.told;
       within = record { few_before = can.few_before; few_now = omega (arith, pair.few, can.few) };
     }
 
@@ -25,7 +25,7 @@ returns-in-Some-clause-told c = λ relation told.
     let v = c.in-Some.pair.0 in let w = c.in-Some.pair.1 in
     let time : SFits w64 c.args.time = c.ranges.time in
     let pair : ArePair sh d es v w = pair_is sh d es v w (simp to_z-of_z at c.joined.ensures.few) (sym (simp to_z-of_z at c.joined.ensures.pair) ∙ c.in-Some.is) in
-    c.lose_pair.ensures.told relation (rows_with sh d es) (told_same s.form s.numbers s.rows relation (standing_rows es) (rows_and v w (rows_with sh d es)) pair.counts told)
+    c.lose_pair.ensures.told relation (rows_with sh d es) (told_same s.form s.numbers relation (standing_rows es) (rows_and v w (rows_with sh d es)) pair.counts told)
 
 pub returns-in_default-clause-told : goal.returns-in_default-clause-told
 returns-in_default-clause-told c = λ relation told.

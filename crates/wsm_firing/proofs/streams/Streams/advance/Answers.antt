@@ -4,24 +4,18 @@ use Rattle.wsm_semantics.specs.declared.out_row.OutRow.{OutRow}
 use Rattle.wsm_semantics.specs.Relation.{sorted_rows, stream_rows}
 use Rattle.wsm_firing.specs.declared.streams.Streams.TheInside.{Inside}
 use Rattle.wsm_firing.specs.Streams.{Told, IsTold, CanAdvance, HasRoomFor, relation_kept}
-use Rattle.wsm_firing.specs.StreamsKept.{form_kept}
-use Rattle.wsm_firing.proofs.StreamRows.{IsToldBy, changes_few, changed_by, kept_by, kept_few, changes_on, rows_on, nothing_on, changes_rows, standing_written, nothing_written, room_for_changes, room_for_rows}
+use Rattle.wsm_relation.specs.Delta.{Delta}
+use Rattle.wsm_firing.specs.StreamsKept.{form_kept, numbers_after}
+use Rattle.wsm_firing.proofs.StreamRows.{IsToldBy, changes_few, changed_by, changes_on, nothing_on, changes_rows, nothing_written, room_for_changes}
 use Rattle.wsm_firing.proofs.streams.Streams.advance.Goals as goal
-use Rattle.wsm_firing.proofs.streams.Streams.advance.Goals.{in-Nothing, in-Changed, in-Rows}
+use Rattle.wsm_firing.proofs.streams.Streams.advance.Goals.{in-Nothing, in-Changed}
 
-pub write_changes-requires : goal.write_changes-requires
-write_changes-requires c =
+pub write-requires : goal.write-requires
+write-requires c =
     let a = c.self.inside in let k = c.in-Changed in let can : CanAdvance _ = rw (← c.self.view_is) at c.requires.told in
     let few = changes_few k.side k.changes.numbers can.before can.now a.room (changed_by a.kept k.side k.changes k.is can.before can.now can.told) can.within in
     let room = room_for_changes a.kept k.side k.changes k.is a.room (vec_len c.args.rows.now) (vec_capacity c.args.rows.now) (subst (λ (s : Told). HasRoomFor s.form s.room (vec_len c.args.rows.now) (vec_capacity c.args.rows.now)) (sym c.self.view_is) c.requires.rows) in
     omega (arith, few, room)
-
-pub write_standing-requires : goal.write_standing-requires
-write_standing-requires c =
-    let a = c.self.inside in let k = c.in-Rows in let can : CanAdvance _ = rw (← c.self.view_is) at c.requires.told in
-    let few = kept_few k.relation.rows can.before can.now (kept_by a.kept k.relation k.is can.before can.now can.told) in
-    let room = room_for_rows a.kept k.relation k.is a.room (vec_len c.args.rows.now) (vec_capacity c.args.rows.now) (subst (λ (s : Told). HasRoomFor s.form s.room (vec_len c.args.rows.now) (vec_capacity c.args.rows.now)) (sym c.self.view_is) c.requires.rows) in
-    omega (arith, few, can.within.few_now, room)
 
 pub returns-clause-told : goal.returns-clause-told
 returns-clause-told c = λ before now told.
@@ -32,8 +26,7 @@ returns-clause-told c = λ before now told.
       | in-Nothing w ↦ subst (λ (x : Inside × Form). IsToldBy x.0.kept (relation_kept x.1 before (sorted_rows now)) now) (λ i. (sym w.self-inside-is i, form i)) (nothing_on a.kept w.in-Nothing.is before now was)
       | in-Changed w ↦
           let k = w.in-Changed in
-          subst (λ (x : Inside × Form). IsToldBy x.0.kept (relation_kept x.1 before (sorted_rows now)) now) (λ i. (sym w.self-inside-is i, form i)) (changes_on a.kept k.side k.changes k.is w.clear.new.self w.clear.ensures before now)
-      | in-Rows w ↦ subst (λ (x : Inside × Form). IsToldBy x.0.kept (relation_kept x.1 before (sorted_rows now)) now) (λ i. (sym w.self-inside-is i, form i)) (rows_on a.kept w.in-Rows.relation w.in-Rows.is before now was)
+          subst (λ (x : Inside × Form). IsToldBy x.0.kept (relation_kept x.1 before (sorted_rows now)) now) (λ i. (sym w.self-inside-is i, form i)) (changes_on a.kept k.side k.changes k.is w.go_on.new.changes (w.go_on.ensures ∙ ap (λ (d : Delta). record d { numbers = numbers_after k.side d.numbers }) w.write.ensures.unchanged) before now was)
     ]
 
 pub returns-clause-rows : goal.returns-clause-rows
@@ -46,8 +39,5 @@ returns-clause-rows c = λ before now told.
       | in-Nothing w ↦ (λ i. (w.rows-is i).items) ∙ sym (append-nil old) ∙ ap (λ rs. old ++ rs) (nothing_written a.kept w.in-Nothing.is before now c.args.mark ∙ form)
       | in-Changed w ↦
           let k = w.in-Changed in
-          (λ i. (w.rows-is i).items) ∙ (simp to_z-of_z at w.write_changes.ensures.rows) ∙ ap (λ rs. old ++ rs) (changes_rows a.kept k.side k.changes k.is before now c.args.mark was ∙ form)
-      | in-Rows w ↦
-          let k = w.in-Rows in
-          (λ i. (w.rows-is i).items) ∙ (simp to_z-of_z at w.write_standing.ensures.rows) ∙ ap (λ rs. old ++ rs) (standing_written a.kept k.relation k.is before now c.args.mark was ∙ form)
+          (λ i. (w.rows-is i).items) ∙ (simp to_z-of_z at w.write.ensures.rows) ∙ ap (λ rs. old ++ rs) (changes_rows a.kept k.side k.changes k.is before now c.args.mark was ∙ form)
     ]

@@ -1,9 +1,9 @@
-use Rattle.std.proofs.Common.{◌∷◌, sym, subst, arith}
+use Rattle.std.proofs.Common.{◌∷◌, sym, subst}
 use Rattle.wsm_firing.specs.declared.streams.Streams.TheInside.{Inside}
 use Rattle.wsm_firing.specs.Streams.{Told, IsTold, CanGain}
-use Rattle.wsm_firing.proofs.StreamRows.{IsToldBy, kept_few, room_more, fits_more, changed_by, kept_by, changes_gained, row_gained, nothing_told, room_of_changes, room_of_rows}
+use Rattle.wsm_firing.proofs.StreamRows.{IsToldBy, room_more, fits_more, changed_by, changes_gained, nothing_told, room_of_changes}
 use Rattle.wsm_firing.proofs.streams.Streams.gain_row.Goals as goal
-use Rattle.wsm_firing.proofs.streams.Streams.gain_row.Goals.{in-Nothing, in-Changed, in-Rows}
+use Rattle.wsm_firing.proofs.streams.Streams.gain_row.Goals.{in-Nothing, in-Changed}
 
 pub plus-requires-clause-room : goal.plus-requires-clause-room
 plus-requires-clause-room c =
@@ -18,12 +18,6 @@ plus-requires-clause-fits c =
     fits_more c.args.row.now k.changes.numbers can.before can.now a.room k.changes.room can.within has.twice has.most
     (changed_by a.kept k.field-0 k.changes k.is can.before can.now can.told)
 
-pub add-requires : goal.add-requires
-add-requires c =
-    let a = c.self.inside in let k = c.in-Rows in let can : CanGain _ _ = rw (← c.self.view_is) at c.requires in
-    let few = kept_few k.relation.rows can.before can.now (kept_by a.kept k.relation k.is can.before can.now can.told) in
-    omega (arith, few, can.within.few_now, room_of_rows a.kept k.relation k.is a.room c.self.invariant)
-
 pub returns-clause-told : goal.returns-clause-told
 returns-clause-told c = λ before now told.
     let a = c.self.inside in let row = c.args.row.now in
@@ -33,7 +27,4 @@ returns-clause-told c = λ before now told.
       | in-Changed w ↦
           let k = w.in-Changed in
           subst (λ (x : Inside). IsToldBy x.kept before (row ∷ now)) (sym w.self-inside-is) (changes_gained a.kept k.field-0 k.changes k.is row w.plus.new.self w.plus.ensures.others before now was)
-      | in-Rows w ↦
-          let k = w.in-Rows in
-          subst (λ (x : Inside). IsToldBy x.kept before (row ∷ now)) (sym w.self-inside-is) (row_gained a.kept k.relation k.is row w.add.new.self w.add.ensures before now was)
     ]

@@ -1,9 +1,9 @@
 use Rattle.std.proofs.Common.{◌∷◌, sym, subst}
 use Rattle.wsm_firing.specs.declared.streams.Streams.TheInside.{Inside}
 use Rattle.wsm_firing.specs.Streams.{Told, IsTold, CanLose}
-use Rattle.wsm_firing.proofs.StreamRows.{IsToldBy, kept_there, room_less, fits_less, changed_by, kept_by, changes_lost, row_lost, nothing_told, room_of_changes}
+use Rattle.wsm_firing.proofs.StreamRows.{IsToldBy, room_less, fits_less, changed_by, changes_lost, nothing_told, room_of_changes}
 use Rattle.wsm_firing.proofs.streams.Streams.lose_row.Goals as goal
-use Rattle.wsm_firing.proofs.streams.Streams.lose_row.Goals.{in-Nothing, in-Changed, in-Rows}
+use Rattle.wsm_firing.proofs.streams.Streams.lose_row.Goals.{in-Nothing, in-Changed}
 
 pub minus-requires-clause-room : goal.minus-requires-clause-room
 minus-requires-clause-room c =
@@ -18,11 +18,6 @@ minus-requires-clause-fits c =
     fits_less c.args.row.now k.changes.numbers can.before can.rest a.room k.changes.room can.within has.twice has.most
     (changed_by a.kept k.field-0 k.changes k.is can.before (c.args.row.now ∷ can.rest) can.told)
 
-pub remove-requires : goal.remove-requires
-remove-requires c =
-    let a = c.self.inside in let k = c.in-Rows in let can : CanLose _ _ = rw (← c.self.view_is) at c.requires in
-    kept_there c.args.row.now k.relation.rows can.before can.rest (kept_by a.kept k.relation k.is can.before (c.args.row.now ∷ can.rest) can.told)
-
 pub returns-clause-told : goal.returns-clause-told
 returns-clause-told c = λ before now told.
     let a = c.self.inside in let row = c.args.row.now in
@@ -32,7 +27,4 @@ returns-clause-told c = λ before now told.
       | in-Changed w ↦
           let k = w.in-Changed in
           subst (λ (x : Inside). IsToldBy x.kept before now) (sym w.self-inside-is) (changes_lost a.kept k.field-0 k.changes k.is row w.minus.new.self w.minus.ensures.others before now was)
-      | in-Rows w ↦
-          let k = w.in-Rows in
-          subst (λ (x : Inside). IsToldBy x.kept before now) (sym w.self-inside-is) (row_lost a.kept k.relation k.is row w.remove.new.self w.remove.ensures before now was)
     ]
