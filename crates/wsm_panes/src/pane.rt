@@ -95,15 +95,6 @@ impl TakesRecords for Pane {
 
     ghost with_record = { with_one_more };
 
-    fn first(values: &[Value]) -> Pane {
-        Pane {
-            count: 1,
-            unshown: 1,
-            folded: Some(Folded::start(values)),
-            stands: Standing::Unfired,
-        }
-    }
-
     fn record(&mut self, kinds: &[Kind], values: &[Value]) {
         self.count += 1;
         self.unshown += 1;

@@ -1,6 +1,6 @@
 //! Panes that records are put into.
 
-ghost use Rattle.std.specs.Prelude.{◌≡◌, ◌≤◌, List, length, Option, None, Some, IsTrue};
+ghost use Rattle.std.specs.Prelude.{◌≡◌, ◌≤◌, List, length, Option, Some, IsTrue};
 ghost use Rattle.wsm_record.specs.declared.event.Value.{Value as OneValue};
 ghost use Rattle.wsm_record.specs.declared.limits.TheConstants.{MAX_ACCUMULATORS};
 ghost use Rattle.wsm_record.specs.declared.words.Kind.{Kind as OneKind};
@@ -15,11 +15,6 @@ pub trait TakesRecords: Copy {
 
     // A pane, if there is one, with one record more.
     ghost with_record: { List OneKind → List OneValue → Option Self → Self };
-
-    /// A pane of one record, which is folded by these values.
-    fn first(values: &[Value]) -> Self
-        requires { length values.now ≤ MAX_ACCUMULATORS }
-        ensures { (kinds : List OneKind) → result ≡ with_record kinds values.now None };
 
     /// Puts a record in, which is folded by these values.
     fn record(&mut self, kinds: &[Kind], values: &[Value])
