@@ -1,0 +1,144 @@
+"""Lines of rows as they come, for the tools beside it: read as bytes, and what is odd about them told on standard error.
+
+A tool that passes rows on hands each list of lines on before it waits for the next one. Nothing is told more often
+than at the first case, at each doubling of their number, where a minute has passed, and at the end.
+"""
+import os
+import select
+import sys
+import time
+
+sys.dont_write_bytecode = True
+
+from query_text import Query, Refused
+
+LONGEST = 1 << 16  # bytes of a line; no row that `wsm` takes is as long
+SHOWN = 80
+UNREAD = b"unread"  # what stands in the place of a line that could swallow the rows behind it
+MARK_OF_ORDER = b"\xef\xbb\xbf"
+BAD_WORDS, BAD_QUERY, BAD_READ, BAD_WRITE = 2, 3, 6, 7  # statuses, as `wsm` has them
+
+
+class Ended(Exception):
+    """What ends a tool before its rows do, and the status that it ends with."""
+
+    def __init__(self, why, status=1):
+        super().__init__(why)
+        self.status = status
+
+
+def read_query(path):
+    try:
+        with open(path, encoding="latin-1", newline="") as file:
+            return Query(file.read())
+    except Refused as why:
+        raise Ended(f"{path}: {why}", BAD_QUERY) from None
+    except OSError as why:
+        raise Ended(f"{path}: {why.strerror}", BAD_READ) from None
+
+
+def opened(path):
+    """The descriptor of a file, or of standard input where there is none."""
+    try:
+        return os.open(path, os.O_RDONLY) if path else sys.stdin.fileno()
+    except OSError as why:
+        raise Ended(f"{path}: {why.strerror}", BAD_READ) from None
+
+
+def lines_of(descriptor, pause=None):
+    """Lists of lines, each as soon as it has come, and an empty one after a pause in which nothing came.
+
+    A line has no line feed. One that is longer than LONGEST has its beginning, of LONGEST + 1 bytes.
+    """
+    parts, size, is_first = [], 0, True
+    while True:
+        if pause is not None and not select.select([descriptor], [], [], pause)[0]:
+            yield []
+            continue
+        try:
+            text = os.read(descriptor, LONGEST)
+        except OSError as why:
+            raise Ended(f"read failed: {why.strerror}", BAD_READ) from None
+        if not text:
+            break
+        if b"\r" in text:
+            text = text.replace(b"\r\n", b"\n")
+        first, feed, rest = text.partition(b"\n")
+        if size <= LONGEST:
+            parts.append(first)
+            size += len(first)
+        if not feed:
+            continue
+        lines = rest.split(b"\n")
+        lines.insert(0, b"".join(parts)[:LONGEST + 1])
+        if is_first:
+            lines[0], is_first = lines[0].removeprefix(MARK_OF_ORDER), False
+        last = lines.pop()
+        parts, size = [last], len(last)
+        yield lines
+    if size:
+        last = b"".join(parts)[:LONGEST + 1]
+        yield [last.removeprefix(MARK_OF_ORDER) if is_first else last]
+
+
+def cleaned(line):
+    """A line without the CR at its end, or None where it would not be one row: with a quote, a CR, or too long."""
+    line = line[:-1] if line.endswith(b"\r") else line
+    return None if b'"' in line or b"\r" in line or len(line) > LONGEST else line
+
+
+def time_of(cells):
+    """The time of a record's cells, or None where they are no record with a time."""
+    if len(cells) < 3 or cells[0] != b"r" or not cells[2].isdigit():
+        return None
+    figures = cells[2].lstrip(b"0")
+    return int(figures or b"0") if len(figures) < 20 else 1 << 63
+
+
+def write(lines):
+    """Hands lines on, at once."""
+    if lines:
+        try:
+            sys.stdout.buffer.write(b"\n".join(lines) + b"\n")
+            sys.stdout.buffer.flush()
+        except OSError:
+            raise Ended("write failed", BAD_WRITE) from None
+
+
+def shown(line):
+    """The beginning of a line, in characters that a terminal shows."""
+    text = line[:SHOWN].decode("utf-8", "backslashreplace")
+    text = "".join(one if one.isprintable() else one.encode("unicode_escape").decode() for one in text)
+    return text + ("..." if len(line) > SHOWN else "")
+
+
+class Tally:
+    """How many of a kind there were, told now and then with the line at hand."""
+
+    def __init__(self, tool, what):
+        self.tool, self.what, self.count, self.next, self.at = tool, what, 0, 1, 0.0
+
+    def add(self, number, line):
+        self.count += 1
+        if self.count >= self.next or time.monotonic() - self.at >= 60:
+            print(f"{self.tool}: {self.what}: {self.count}, line {number}: {shown(line)}", file=sys.stderr, flush=True)
+            self.next, self.at = 2 * self.count, time.monotonic()
+
+    def end(self):
+        if self.count > 1:
+            print(f"{self.tool}: {self.what}: {self.count} in all", file=sys.stderr, flush=True)
+
+
+def run(tool, main):
+    """Runs a tool, and ends with its status. What ends it early is told."""
+    try:
+        sys.exit(main())
+    except Ended as why:
+        print(f"{tool}: {why}", file=sys.stderr, flush=True)
+        try:
+            sys.stdout.close()
+        except OSError:
+            pass
+        os._exit(why.status)
+    except KeyboardInterrupt:
+        os._exit(130)

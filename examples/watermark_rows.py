@@ -1,0 +1,247 @@
+"""Where watermarks stand among rows, by bounded delay, for `watermarks` and for the tools that go by the same rule.
+
+Rows keep their order and their text. What is kept between two rows is a few numbers, and the rows that are held back.
+"""
+import sys
+
+sys.dont_write_bytecode = True
+
+from query_text import LATEST, value_of
+from row_lines import UNREAD, Ended, Tally, cleaned, time_of
+
+MOST_HELD = 1000  # rows that wait for two that agree
+MOST_BYTES = 1 << 24
+HEADER = [b"r", b"KEY", b"TIME"]  # how a first row with the names of the fields begins
+
+
+def end_of_windows(query, time):
+    """The watermark that completes all windows of records up to a time."""
+    end = time + query.size if query.shape == "SESSION" else time // query.period * query.period + query.size
+    has_final = query.late != 1  # a late record that was not shown at once is shown LATENESS past the end
+    return min(end + (query.lateness if has_final else 0), LATEST)
+
+
+class Watermarks:
+    """Takes lists of lines, and gives them back with watermarks among them."""
+
+    def __init__(self, query, bound, step, jump, source=None, tool="watermarks"):
+        self.query, self.bound, self.step, self.jump, self.tool = query, bound, step, jump, tool
+        self.source = source and source.encode()
+        self.head = b"w,%s," % self.source if source else b"w,"
+        self.unread = Tally(tool, "lines that are no rows")
+        self.strange = Tally(tool, f"records that no other record agrees with within {jump}")
+        behind = f"records more than LATENESS behind the watermark of {source}" if source else "records that will be late"
+        self.late = Tally(tool, behind)
+        self.number = self.marks = self.records = 0
+        self.greatest = None    # of the times that were agreed with
+        self.top = None         # the greatest time that may be in a window
+        self.candidate = None   # the time of the last record, where it waits for one that agrees
+        self.held = []          # what waits: each with its number and, where it is a record, its time
+        self.size = 0           # bytes of these
+        self.written = query.start
+        self.out = []
+        self.compute_bounds()
+
+    def compute_bounds(self):
+        """The times from low to below high are those of records of which nothing is to be said and that raise no mark."""
+        query = self.query
+        if query.from_window:
+            self.floor = (self.written - query.size - query.lateness) // query.period * query.period + query.period
+        else:
+            self.floor = self.written - query.lateness
+        self.low, self.high = self.floor, 0
+        if not self.held and self.candidate is None and self.greatest is not None and self.top is not None:
+            next_mark = self.bound + (self.written // self.step + 1) * self.step
+            self.high = min(next_mark, self.greatest + self.jump + 1, self.written + query.skew + 1)
+
+    def take(self, lines):
+        """The lines that can be handed on now."""
+        out = self.out = []
+        number, low, high, greatest, quiet = self.number, self.low, self.high, 0, 0
+        for line in lines:
+            number += 1
+            cells = line.split(b",", 3)
+            if len(cells) > 2 and cells[0] == b"r" and len(cells[2]) < 19 and cells[2].isdigit():
+                time = int(cells[2])
+                if low <= time < high and b'"' not in line and b"\r" not in line:
+                    quiet += 1
+                    if time > greatest:
+                        greatest = time
+                    out.append(line)
+                    continue
+            self.number = number
+            self.note(greatest)
+            self.take_slowly(line)
+            low, high, greatest = self.low, self.high, 0
+        self.number = number
+        self.records += quiet
+        self.note(greatest)
+        return out
+
+    def note(self, time):
+        """Takes note of the greatest of some times of which nothing was to be said."""
+        if time:
+            self.greatest, self.top = max(time, self.greatest), max(time, self.top)
+
+    def take_slowly(self, line):
+        row = cleaned(line)
+        if row is None:
+            self.unread.add(self.number, line)
+            self.pass_on(UNREAD, None)
+        elif not row:
+            self.pass_on(row, None)
+        else:
+            cells = row.split(b",")
+            time = time_of(cells)
+            if cells[:3] == HEADER:
+                self.check_names(cells[3:])
+            elif time is not None:
+                self.take_record(row, time)
+            elif not self.take_watermark(row, cells):
+                self.unread.add(self.number, row)
+                self.pass_on(row, None)
+        self.compute_bounds()
+
+    def check_names(self, names):
+        declared = [field.name for field in self.query.fields]
+        there = [name.decode("latin-1") for name in names]
+        if there != declared:
+            raise Ended(f"line {self.number}: the rows have the fields {', '.join(there)}; the query has {', '.join(declared)}")
+
+    def pass_on(self, row, time):
+        """Hands a row on, behind what is held back."""
+        if not self.held and time is None:
+            self.out.append(row)
+            return
+        self.held.append((self.number, row, time))
+        self.size += len(row)
+        if len(self.held) > MOST_HELD or self.size > MOST_BYTES:
+            self.release()
+
+    # ---- records
+
+    def take_record(self, row, time):
+        self.records += 1
+        candidate = self.candidate
+        if candidate is not None and abs(time - candidate) <= self.jump and time <= LATEST:
+            self.settle(candidate, time)
+            self.raise_to(candidate)
+        if self.greatest is not None and time <= self.greatest + self.jump and time <= LATEST:
+            self.release()
+            self.candidate = None
+            self.raise_to(time)
+            self.hand_on(self.number, row, time)
+        elif time > LATEST:
+            self.strange.add(self.number, row)
+            self.pass_on(row, None)
+        else:
+            if self.greatest is not None:
+                self.release()
+            self.candidate = time
+            self.pass_on(row, time)
+
+    def settle(self, *times):
+        """Hands on what is held back, now that two agree; what is near to one of them raises the watermark."""
+        agreed = [time for *_, time in self.held if time is not None and self.is_near(time, times)]
+        if self.greatest is None and agreed:
+            self.raise_to(agreed[0])
+        held, self.held, self.size, self.candidate = self.held, [], 0, None
+        for number, row, time in held:
+            if time is not None and self.is_near(time, times):
+                self.raise_to(time)
+            elif time is not None:
+                self.strange.add(number, row)
+            self.hand_on(number, row, time)
+
+    def is_near(self, time, times):
+        return any(abs(time - other) <= self.jump for other in times)
+
+    def release(self):
+        """Hands on what is held back, where nothing agreed with it."""
+        held, self.held, self.size = self.held, [], 0
+        for number, row, time in held:
+            if time is not None:
+                self.strange.add(number, row)
+            self.hand_on(number, row, time)
+
+    def raise_to(self, time):
+        if self.greatest is None or time > self.greatest:
+            self.greatest = time
+            mark = time - self.bound
+            mark -= mark % self.step
+            if mark > self.written:
+                self.written = mark
+                self.marks += 1
+                self.out.append(b"%s%d" % (self.head, mark))
+                self.compute_bounds()
+
+    def hand_on(self, number, row, time):
+        if time is not None:
+            if time <= self.written + self.query.skew and (self.top is None or time > self.top):
+                self.top = time
+            if time < self.floor and self.is_whole(row):
+                self.late.add(number, row)
+        self.out.append(row)
+
+    def is_whole(self, row):
+        """Whether nothing but its time can be wrong with a record."""
+        _, key, _, *cells = row.decode("latin-1").split(",")
+        fields = self.query.fields
+        if len(cells) != len(fields) or key not in self.query.keys:
+            return False
+        values = [value_of(field, cell) for field, cell in zip(fields, cells)]
+        return all(
+            value is not None and (field.type != "INT" or field.low <= value <= field.high)
+            for field, value in zip(fields, values)
+        )
+
+    # ---- watermarks among the rows
+
+    def take_watermark(self, row, cells):
+        """Takes note of a watermark; whether it is one."""
+        if cells[0] != b"w" or len(cells) != (3 if self.query.sources else 2) or not cells[-1].isdigit():
+            return False
+        time = time_of([b"r", b"", cells[-1]])
+        if time > LATEST:
+            return False
+        if self.query.sources and cells[1] != self.source:
+            self.pass_on(row, None)
+            return True
+        if self.candidate is not None and abs(time - self.candidate) <= self.jump:
+            self.settle(time)
+        self.release()
+        self.candidate = None
+        self.greatest = time if self.greatest is None else max(time, self.greatest)
+        self.written = max(time, self.written)
+        self.out.append(row)
+        return True
+
+    # ---- the end
+
+    def end(self, is_last):
+        """The lines that end the rows, with the watermark that completes all windows where this is asked for."""
+        self.out = []
+        self.release()
+        if is_last and self.top is not None:
+            mark = end_of_windows(self.query, self.top)
+            if mark > self.written:
+                self.written = mark
+                self.out.append(b"%s%d" % (self.head, mark))
+        for tally in (self.unread, self.strange, self.late):
+            tally.end()
+        return self.out
+
+    # ---- what is kept of it
+
+    def state(self):
+        numbers = [self.number, self.marks, self.records, self.greatest, self.top, self.candidate, self.size, self.written]
+        held = [(number, row.decode("latin-1"), time) for number, row, time in self.held]
+        return {"numbers": numbers, "held": held, "counts": [t.count for t in (self.unread, self.strange, self.late)]}
+
+    def restore(self, state):
+        (self.number, self.marks, self.records, self.greatest, self.top, self.candidate, self.size,
+         self.written) = state["numbers"]
+        self.held = [(number, row.encode("latin-1"), time) for number, row, time in state["held"]]
+        for tally, count in zip((self.unread, self.strange, self.late), state["counts"]):
+            tally.count, tally.next = count, count + 1
+        self.compute_bounds()
