@@ -45,10 +45,11 @@ def opened(path):
         raise Ended(f"{path}: {why.strerror}", BAD_READ) from None
 
 
-def lines_of(descriptor, pause=None):
+def lines_of(descriptor, pause=None, cut=None):
     """Lists of lines, each as soon as it has come, and an empty one after a pause in which nothing came.
 
-    A line has no line feed. One that is longer than LONGEST has its beginning, of LONGEST + 1 bytes.
+    A line has no line feed. One that is longer than LONGEST has its beginning, of LONGEST + 1 bytes. A last one that
+    lacks its line feed is a line too; but where there is a list for what is cut off, it is put there.
     """
     parts, size, is_first = [], 0, True
     while True:
@@ -78,7 +79,11 @@ def lines_of(descriptor, pause=None):
         yield lines
     if size:
         last = b"".join(parts)[:LONGEST + 1]
-        yield [last.removeprefix(MARK_OF_ORDER) if is_first else last]
+        last = last.removeprefix(MARK_OF_ORDER) if is_first else last
+        if cut is None:
+            yield [last]
+        else:
+            cut.append(last)
 
 
 def cleaned(line):
