@@ -29,7 +29,7 @@ class Watermarks:
         self.source = source and source.encode()
         self.head = b"w,%s," % self.source if source else b"w,"
         self.unread = Tally(tool, "lines that are no rows")
-        self.strange = Tally(tool, f"records that no other record agrees with within {jump}")
+        self.strange = Tally(tool, f"records that no other agrees with within {jump}")
         behind = f"records more than LATENESS behind the watermark of {source}" if source else "records that will be late"
         self.late = Tally(tool, behind)
         self.number = self.marks = self.records = 0

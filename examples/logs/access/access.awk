@@ -2,11 +2,14 @@
 #
 # usage: gawk [-v BY=user] -f access.awk access.log
 #
-# The key is the first part of the path, or the user who signed in; then a line without a user makes no row.
+# The key is the first part of the path, or the user who signed in; then a line without a user makes no row. The first
+# row has the names of the fields.
 BEGIN {
     FS = "\""
     MONTHS = "JanFebMarAprMayJunJulAugSepOctNovDec"
     PLACES["docs"]; PLACES["api"]; PLACES["pricing"]; PLACES["static"]
+    print "r,KEY,TIME,status,bytes"
+    fflush()
 }
 
 function place(path,    parts) {

@@ -3,5 +3,5 @@
 # usage: jq -Rr --unbuffered -f meters.jq meters.jsonl
 #
 # A line that is no such message becomes a row that wsm refuses as BadTag.
-try (fromjson | "r,\(.meter | gsub("\\W"; "_")),\(.time | fromdate),\(.kwh * 1000 | round),\(.fault == true)")
+try (fromjson | "r,\(.meter | @uri),\(.time | fromdate),\(.kwh * 1000 | round),\(.fault == true)")
 catch "unread"
