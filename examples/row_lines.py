@@ -5,6 +5,7 @@ than at the first case, at each doubling of their number, where a minute has pas
 """
 import os
 import select
+import signal
 import sys
 import time
 
@@ -17,6 +18,36 @@ SHOWN = 80
 UNREAD = b"unread"  # what stands in the place of a line that could swallow the rows behind it
 MARK_OF_ORDER = b"\xef\xbb\xbf"
 BAD_WORDS, BAD_QUERY, BAD_READ, BAD_WRITE = 2, 3, 6, 7  # statuses, as `wsm` has them
+
+
+class Stopped(Exception):
+    pass
+
+
+class Signals:
+    """INT and TERM end the reading as the end of the rows does: while it waits for some, or before the next ones."""
+    number, is_waiting = 0, False
+
+    @classmethod
+    def take(cls, number, _):
+        cls.number = number
+        if cls.is_waiting:
+            raise Stopped
+
+    @classmethod
+    def read(cls, descriptor, pause):
+        """What has come, nothing at the end, None after a pause."""
+        try:
+            cls.is_waiting = True
+            if cls.number:
+                return b""
+            if pause is not None and not select.select([descriptor], [], [], pause)[0]:
+                return None
+            return os.read(descriptor, LONGEST)
+        except Stopped:
+            return b""
+        finally:
+            cls.is_waiting = False
 
 
 class Ended(Exception):
@@ -48,18 +79,19 @@ def opened(path):
 def lines_of(descriptor, pause=None, cut=None):
     """Lists of lines, each as soon as it has come, and an empty one after a pause in which nothing came.
 
-    A line has no line feed. One that is longer than LONGEST has its beginning, of LONGEST + 1 bytes. A last one that
-    lacks its line feed is a line too; but where there is a list for what is cut off, it is put there.
+    A line has no line feed. One that is longer than LONGEST comes as its beginning behind a quote, so that no tool takes
+    it for a row. A last one that lacks its line feed is a line too; but where there is a list for what is cut off, it is
+    put there.
     """
     parts, size, is_first = [], 0, True
     while True:
-        if pause is not None and not select.select([descriptor], [], [], pause)[0]:
-            yield []
-            continue
         try:
-            text = os.read(descriptor, LONGEST)
+            text = Signals.read(descriptor, pause)
         except OSError as why:
             raise Ended(f"read failed: {why.strerror}", BAD_READ) from None
+        if text is None:
+            yield []
+            continue
         if not text:
             break
         if b"\r" in text:
@@ -71,25 +103,28 @@ def lines_of(descriptor, pause=None, cut=None):
         if not feed:
             continue
         lines = rest.split(b"\n")
-        lines.insert(0, b"".join(parts)[:LONGEST + 1])
-        if is_first:
-            lines[0], is_first = lines[0].removeprefix(MARK_OF_ORDER), False
+        lines.insert(0, whole(parts, is_first))
+        is_first = False
         last = lines.pop()
         parts, size = [last], len(last)
         yield lines
     if size:
-        last = b"".join(parts)[:LONGEST + 1]
-        last = last.removeprefix(MARK_OF_ORDER) if is_first else last
         if cut is None:
-            yield [last]
+            yield [whole(parts, is_first)]
         else:
-            cut.append(last)
+            cut.append(whole(parts, is_first))
+
+
+def whole(parts, is_first):
+    line = b"".join(parts)
+    line = line.removeprefix(MARK_OF_ORDER) if is_first else line
+    return line if len(line) <= LONGEST else b'"' + line[:SHOWN]
 
 
 def cleaned(line):
-    """A line without the CR at its end, or None where it would not be one row: with a quote, a CR, or too long."""
-    line = line[:-1] if line.endswith(b"\r") else line
-    return None if b'"' in line or b"\r" in line or len(line) > LONGEST else line
+    """A line without a CR at its end, or None where it would not be one row: with a quote or a CR in it."""
+    line = line.rstrip(b"\r")
+    return None if b'"' in line or b"\r" in line else line
 
 
 def time_of(cells):
@@ -134,16 +169,19 @@ class Tally:
             print(f"{self.tool}: {self.what}: {self.count} in all", file=sys.stderr, flush=True)
 
 
+def was_stopped():
+    """Whether a signal ended the reading, and not the end of the rows."""
+    return Signals.number != 0
+
+
 def run(tool, main):
     """Runs a tool, and ends with its status. What ends it early is told."""
+    for number in (signal.SIGINT, signal.SIGTERM):
+        signal.signal(number, Signals.take)
     try:
-        sys.exit(main())
-    except Ended as why:
+        status = main()
+        sys.stdout.flush()
+    except (Ended, OSError) as why:
         print(f"{tool}: {why}", file=sys.stderr, flush=True)
-        try:
-            sys.stdout.close()
-        except OSError:
-            pass
-        os._exit(why.status)
-    except KeyboardInterrupt:
-        os._exit(130)
+        status = getattr(why, "status", BAD_WRITE)
+    os._exit(128 + Signals.number if Signals.number and not status else status)
