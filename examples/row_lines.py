@@ -108,11 +108,11 @@ def lines_of(descriptor, pause=None, cut=None):
         last = lines.pop()
         parts, size = [last], len(last)
         yield lines
-    if size:
-        if cut is None:
-            yield [whole(parts, is_first)]
-        else:
-            cut.append(whole(parts, is_first))
+    last = whole(parts, is_first)
+    if last and cut is None:
+        yield [last]
+    elif last:
+        cut.append(last)
 
 
 def whole(parts, is_first):
