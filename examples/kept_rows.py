@@ -157,25 +157,25 @@ def live_records(query, events, mark):
 def kept(query, events, needs_record=False):
     """The numbers of the rows that must be kept, in their order; with a record among them, where one is needed."""
     marks = dict.fromkeys([name.encode() for name in query.sources] or [b""], query.start)
-    before, last_rise = query.start, None
+    before, last_rise = query.start, 0
     for number, tag, source, time in events:
         if tag == "w":
             old = min(marks.values())
             marks[source] = time
             if min(marks.values()) > old:
                 before, last_rise = old, number
-    is_stream = query.form != "PANES"  # then what the relation was at the last rise must be known
+    is_stream = query.form != "PANES"
     live = live_records(query, events, before if is_stream else min(marks.values()))
     if needs_record and not live:
-        live = {number for number, tag, _, _ in events if tag == "r"}
-        live = {max(live)} if live else live
+        records = [number for number, tag, _, _ in events if tag == "r"]
+        live = set(records[-1:])
     numbers, waiting = [], {}
     for number, tag, source, time in events:
-        if number in live or is_stream and number == last_rise:
-            numbers += sorted(waiting.values())
+        # Streams write what the relation has gained or lost since the last rise, so all stays as it was from there on.
+        stays = number in live or is_stream and number >= last_rise
+        if stays:
+            numbers += [*sorted(waiting.values()), number]
             waiting = {}
-        if number in live:
-            numbers.append(number)
         elif tag == "w":
             waiting[source] = number
     return numbers + sorted(waiting.values())
