@@ -39,13 +39,13 @@ class Head:
     records: int = 0  # the RECORDS by which it takes as many records as a run over all would
 
     @staticmethod
-    def of(rows):
-        """That of a file's rows; one of numbers 0 where they are all rows."""
-        if not rows or not rows[0].startswith(TAG + b","):
+    def of(row):
+        """That of a file with this first row; one of numbers 0 where no row is gone."""
+        if not row.startswith(TAG + b","):
             return Head()
-        cells = rows[0].split(b",")[1:]
-        if len(cells) != 5 or not all(cell.isdigit() for cell in cells) or int(cells[2]) > len(rows):
-            raise Stopped(f"the first row is none that keep wrote: {rows[0][:60].decode('latin-1')}")
+        cells = row.split(b",")[1:]
+        if len(cells) != 5 or not all(cell.isdigit() for cell in cells):
+            raise Stopped(f"the first row is none that keep wrote: {row[:60].decode('latin-1')}")
         return Head(*map(int, cells))
 
     def row(self):
@@ -206,7 +206,9 @@ def cut(runs, text, rows, taken=None):
     What a run writes behind the cut is compared: for watermarks that come to the end of all windows, after all rows
     and after those that are kept.
     """
-    head = Head.of(rows)
+    head = Head.of(rows[0] if rows else b"")
+    if head.kept > len(rows):
+        raise Stopped(f"{head.kept} rows were kept, and {len(rows)} are there")
     turns, _ = runs.turns(text, rows)
     query = Query(text)
     counts = list(accumulate(map(len, turns)))
