@@ -22,7 +22,7 @@ sys.path.insert(0, str(Path(__file__).resolve().parent.parent / "trials"))
 
 import reference  # which finds the tools of examples
 from query_text import Query, Refused
-from reference_program import Program
+from query_program import Program
 
 COLUMNS = [
     "COUNT(*)", "SUM(n)", "MIN(n)", "MAX(n + 1)", "ANY(b)", "ALL(b)", "KEY", "SUM(IF b THEN n ELSE -n END)", "SUM(n) / COUNT(*)",

@@ -24,7 +24,7 @@ sys.setrecursionlimit(100_000)
 sys.path.insert(0, str(Path(__file__).resolve().parent.parent / "examples"))
 
 from query_text import LATEST, Query, Refused, number_of, value_of
-from reference_program import Program
+from query_program import Program
 
 RULES = (
     "StackUnderflow StackOverflow Type BadJump Join Unreachable NoReturn NotHere FoldTwice FoldMissing MayOverflow "
