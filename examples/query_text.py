@@ -1,9 +1,10 @@
 """Query texts, for the tools beside it and for trials/reference.py: reading, checks, and what an expression means.
 
 Nothing here is shared with the product. A text is read from the left, and the first fault is told with its line
-and column; a query that was read is checked part by part.
+and column; a query that was read is checked part by part. Parts and expressions keep their places in the text.
 """
 import re
+from contextlib import contextmanager
 from dataclasses import dataclass, field
 
 BLANKS = " \t\r\n"
@@ -17,11 +18,20 @@ AGGREGATES = ("SUM", "MIN", "MAX", "ANY", "ALL")
 COMPARISONS = ("=", "<>", "<", "<=", ">", ">=")
 GREATEST_NUMBER, DEEPEST, LONGEST_CHAIN = 2**63 - 1, 24, 64
 LATEST, LONGEST_SPAN = 10**16, 10**12
+KINDS = {"name": "a name", "number": "a number", "end": "the end of the text"}
 INT, BOOL = "INT", "BOOL"  # the other types are numbers: 0 is the key's ENUM, f + 1 that of field f
 
 
 class Refused(Exception):
-    """A query that is refused; its text is what is told."""
+    """A query that is refused; its text is what is told.
+
+    Beside it stands what is known of the fault: the place in the text and what was asked for there, the expression,
+    or the limits that aren't kept, each as what was counted, its number, and the least and the most that are allowed.
+    """
+
+    def __init__(self, text, place=None, asked=(), expr=None, limits=()):
+        super().__init__(text)
+        self.place, self.asked, self.expr, self.limits = place, list(asked), expr, list(limits)
 
 
 # ---- cells of rows
@@ -45,14 +55,18 @@ def value_of(field, cell):
 # ---- tokens
 
 class Tokens:
-    """The tokens of a text, each read when it is looked at. A token is its kind, its text and its place."""
+    """The tokens of a text, each read when it is looked at. A token is its kind, its text and its place.
+
+    `end` is where the last one that was taken ends, and `asked` has what was asked for since, and wasn't there.
+    """
 
     def __init__(self, text):
         self.text, self.at, self.ahead = text, 0, None
+        self.end, self.asked = 0, []
 
     def refuse(self, name, at):
         line = self.text.count("\n", 0, at) + 1
-        raise Refused(f"{name} at {line}:{at - self.text.rfind(chr(10), 0, at)}")
+        raise Refused(f"{name} at {line}:{at - self.text.rfind(chr(10), 0, at)}", at, self.asked)
 
     def peek(self):
         if self.ahead is None:
@@ -82,25 +96,36 @@ class Tokens:
 
     def sees(self, *words):
         kind, text, _ = self.peek()
-        return kind == "word" and text in words
+        if kind == "word" and text in words:
+            return True
+        self.asked += words
+        return False
+
+    def is_of(self, kind):
+        if self.peek()[0] == kind:
+            return True
+        self.asked.append(KINDS[kind])
+        return False
 
     def unexpected(self):
         self.refuse("P2 Unexpected", self.peek()[2])
+
+    def passed(self):
+        """The text of the token in sight, which is taken."""
+        text = self.peek()[1]
+        self.ahead, self.end, self.asked = None, self.at, []
+        return text
 
     def take(self, *words):
         """The word or sign in sight, which must be one of these."""
         if not self.sees(*words):
             self.unexpected()
-        text = self.peek()[1]
-        self.ahead = None
-        return text
+        return self.passed()
 
     def of_kind(self, kind):
-        if self.peek()[0] != kind:
+        if not self.is_of(kind):
             self.unexpected()
-        text = self.peek()[1]
-        self.ahead = None
-        return text
+        return self.passed()
 
     def name(self):
         return self.of_kind("name")
@@ -124,9 +149,23 @@ class Tokens:
 
 # ---- expressions: a tree of tuples, its head first
 
+class Node(tuple):
+    """An expression that was read; it begins and ends at these places of the text."""
+
+    def at(self, begin, end):
+        self.begin, self.end = begin, end
+        return self
+
+
 class Expressions:
     def __init__(self, tokens):
         self.tokens, self.depth = tokens, 0
+
+    def place(self):
+        return self.tokens.peek()[2]
+
+    def node(self, begin, *parts):
+        return Node(parts).at(begin, self.tokens.end)
 
     def open(self):
         self.depth += 1
@@ -139,7 +178,7 @@ class Expressions:
             length += 1
             if length > LONGEST_CHAIN:
                 self.tokens.refuse("P4 TooDeep", self.tokens.peek()[2])
-            x = (self.tokens.take(*words), x, part())
+            x = self.node(x.begin, self.tokens.take(*words), x, part())
         return x
 
     def whole(self):
@@ -150,11 +189,12 @@ class Expressions:
 
     def under(self, head, word, part):
         """What stands behind a word that opens a level, as far as its operand goes."""
+        begin = self.place()
         self.open()
         self.tokens.take(word)
         x = part()
         self.depth -= 1
-        return head, x
+        return self.node(begin, head, x)
 
     def negation(self):
         return self.under("NOT", "NOT", self.negation) if self.tokens.sees("NOT") else self.comparison()
@@ -162,7 +202,7 @@ class Expressions:
     def comparison(self):
         x = self.sum()
         if self.tokens.sees(*COMPARISONS):
-            return self.tokens.take(*COMPARISONS), x, self.sum()
+            return self.node(x.begin, self.tokens.take(*COMPARISONS), x, self.sum())
         return x
 
     def sum(self):
@@ -175,11 +215,14 @@ class Expressions:
         return self.under("negative", "-", self.unary) if self.tokens.sees("-") else self.atom()
 
     def atom(self):
+        begin = self.place()
+        return self.node(begin, *self.parts_of_atom())
+
+    def parts_of_atom(self):
         tokens = self.tokens
-        kind, text, _ = tokens.peek()
-        if kind == "number":
+        if tokens.is_of("number"):
             return "number", tokens.number()
-        if kind == "name":
+        if tokens.is_of("name"):
             name = tokens.name()
             if tokens.sees("."):
                 tokens.take(".")
@@ -236,56 +279,74 @@ class Query:
     """A query that was read and checked; `Refused` is raised where it isn't."""
 
     def __init__(self, text):
+        self.places = {}  # where each part begins and ends in the text, by the names that refusals have for them
         self.read(Tokens(text))
         self.check()
 
+    @contextmanager
+    def part(self, t, name):
+        begin = t.peek()[2]
+        yield
+        self.places[name] = begin, t.end
+
     def read(self, t):
-        t.take("KEYS")
-        self.keys = t.names()
-        t.take(";")
+        with self.part(t, "keys"):
+            t.take("KEYS")
+            self.keys = t.names()
+            t.take(";")
         self.fields = []
         while t.sees("FIELD"):
-            self.fields.append(self.read_field(t))
+            with self.part(t, f"field {len(self.fields) + 1}"):
+                self.fields.append(self.read_field(t))
         self.sources = []
         if t.sees("SOURCES"):
-            t.take("SOURCES")
-            self.sources = t.names()
+            with self.part(t, "sources"):
+                t.take("SOURCES")
+                self.sources = t.names()
+                t.take(";")
+        with self.part(t, "clock"):
+            self.start = self.read_number(t, "START")
+            self.skew = self.read_number(t, "SKEW")
+            t.take("LATENESS")
+            self.lateness = t.number()
+            self.from_window = t.sees("FROM")
+            if self.from_window:
+                t.take("FROM"), t.take("WINDOW")
             t.take(";")
-        self.start = self.read_number(t, "START")
-        self.skew = self.read_number(t, "SKEW")
-        t.take("LATENESS")
-        self.lateness = t.number()
-        self.from_window = t.sees("FROM")
-        if self.from_window:
-            t.take("FROM"), t.take("WINDOW")
-        t.take(";")
-        self.records = self.read_number(t, "RECORDS")
+            self.records = self.read_number(t, "RECORDS")
         self.budget = None
         if t.sees("BUDGET"):
-            t.take("BUDGET")
-            self.budget = [(t.take(word), t.number())[1] for word in ("RECORD", "PANE", "HELD")]
-            t.take(";")
+            with self.part(t, "budget"):
+                t.take("BUDGET")
+                self.budget = [(t.take(word), t.number())[1] for word in ("RECORD", "PANE", "HELD")]
+                t.take(";")
         expressions = Expressions(t)
         t.take("SELECT")
-        self.columns = [expressions.whole()]
-        while t.sees(","):
+        self.columns = []
+        while True:
+            with self.part(t, f"column {len(self.columns) + 1}"):
+                self.columns.append(expressions.whole())
+            if not t.sees(","):
+                break
             t.take(",")
-            self.columns.append(expressions.whole())
         self.where = self.read_condition(t, expressions, "WHERE")
         self.having = self.read_condition(t, expressions, "HAVING")
-        t.take("WINDOW")
-        self.shape = t.take("FIXED", "SLIDING", "SESSION")
-        self.size = self.period = t.number()
-        if self.shape == "SLIDING":
-            t.take("EVERY")
-            self.period = t.number()
-        self.mode = t.take("ACCUMULATING", "DISCARDING", "RETRACTING")
-        self.early = self.read_trigger(t, "EARLY")
-        self.late = self.read_trigger(t, "LATE")
-        t.take("EMIT")
-        self.form = t.take("PANES", "ISTREAM", "DSTREAM", "RSTREAM")
-        t.take(";")
-        if t.peek()[0] != "end":
+        with self.part(t, "window"):
+            t.take("WINDOW")
+            self.shape = t.take("FIXED", "SLIDING", "SESSION")
+            self.size = self.period = t.number()
+            if self.shape == "SLIDING":
+                t.take("EVERY")
+                self.period = t.number()
+            self.mode = t.take("ACCUMULATING", "DISCARDING", "RETRACTING")
+        with self.part(t, "trigger"):
+            self.early = self.read_trigger(t, "EARLY")
+            self.late = self.read_trigger(t, "LATE")
+        with self.part(t, "emit"):
+            t.take("EMIT")
+            self.form = t.take("PANES", "ISTREAM", "DSTREAM", "RSTREAM")
+            t.take(";")
+        if not t.is_of("end"):
             t.unexpected()
 
     def read_field(self, t):
@@ -312,7 +373,8 @@ class Query:
         if not t.sees(word):
             return None
         t.take(word)
-        return expressions.whole()
+        with self.part(t, word.lower()):
+            return expressions.whole()
 
     def read_trigger(self, t, word):
         """How many unshown records it asks for, or None."""
@@ -329,36 +391,43 @@ class Query:
             self.check_field(f"field {number}", number, found)
         if self.sources:
             check_names("sources", self.sources, 2, 16)
-        limit("clock", 0 <= self.start <= LATEST, 0 <= self.skew <= LONGEST_SPAN, 0 <= self.lateness <= LONGEST_SPAN)
-        limit("clock", 1 <= self.records <= 10**12)
+        limit(
+            "clock", ("START", self.start, 0, LATEST), ("SKEW", self.skew, 0, LONGEST_SPAN),
+            ("LATENESS", self.lateness, 0, LONGEST_SPAN), ("RECORDS", self.records, 1, 10**12),
+        )
         if self.budget:
             record, pane, held = self.budget
-            limit("budget", 1 <= record <= 10**18, 1 <= pane <= 10**18, 1 <= held <= 100_000)
-        limit("window", 1 <= self.size <= LONGEST_SPAN, 1 <= self.period <= LONGEST_SPAN, self.period <= self.size)
+            limit("budget", ("RECORD", record, 1, 10**18), ("PANE", pane, 1, 10**18), ("HELD", held, 1, 100_000))
+        limit(
+            "window", ("the gap" if self.shape == "SESSION" else "the size", self.size, 1, LONGEST_SPAN),
+            ("the period", self.period, 1, min(self.size, LONGEST_SPAN)),
+        )
         if self.from_window and self.shape == "SESSION":
             raise Refused("C10 SessionLateness in window")
-        limit("trigger", *(1 <= count <= 10**12 for count in (self.early, self.late) if count is not None))
+        triggers = (("EARLY EVERY", self.early), ("LATE EVERY", self.late))
+        limit("trigger", *((name, count, 1, 10**12) for name, count in triggers if count is not None))
         if self.form != "PANES" and self.mode != "ACCUMULATING":
             raise Refused("C8 StreamNeedsAccumulating in emit")
         if self.where is not None:
             self.check_condition("where", self.where)
         for number, column in enumerate(self.columns, 1):
-            limit(f"column {number}", number <= 16)
+            limit(f"column {number}", ("columns", number, 1, 16))
             self.type_of(f"column {number}", column)
         if self.having is not None:
             self.check_condition("having", self.having)
 
     def check_field(self, part, number, found):
-        limit(part, number <= 16)
+        limit(part, ("fields", number, 0, 16))
         if found.name in [other.name for other in self.fields[:number - 1]]:
             raise Refused(f"C3 Duplicate in {part}")
-        limit(part, found.type != "INT" or found.low <= found.high)
+        if found.type == "INT":
+            limit(part, ("the interval's upper end", found.high, found.low, GREATEST_NUMBER))
         if found.type == "ENUM":
             check_names(part, found.names, 1, 1000)
 
     def check_condition(self, part, expr):
         if self.type_of(part, expr) != BOOL:
-            raise Refused(f"C2 Type in {part}")
+            raise Refused(f"C2 Type in {part}", expr=expr)
 
     def field_number(self, name):
         return next((number for number, found in enumerate(self.fields) if found.name == name), None)
@@ -370,7 +439,7 @@ class Query:
     def type_of(self, part, expr, in_aggregate=False):
         """The type of an expression; the first fault on a walk from the left, parts before the whole, is raised."""
         def refuse(name):
-            raise Refused(f"{name} in {part}")
+            raise Refused(f"{name} in {part}", expr=expr)
 
         def known(number):
             if number is None:
@@ -478,13 +547,14 @@ OPERATIONS = {
 }
 
 
-def limit(part, *holds):
-    if not all(holds):
-        raise Refused(f"C7 Limit in {part}")
+def limit(part, *limits):
+    """Refuses the part where one of these isn't kept: what is counted, its number, the least and the most."""
+    if beyond := [one for one in limits if not one[2] <= one[1] <= one[3]]:
+        raise Refused(f"C7 Limit in {part}", limits=beyond)
 
 
 def check_names(part, names, least, most):
-    limit(part, least <= len(names) <= most)
+    limit(part, ("names", len(names), least, most))
     if len(set(names)) < len(names):
         raise Refused(f"C3 Duplicate in {part}")
 
