@@ -398,10 +398,9 @@ class Query:
         if self.budget:
             record, pane, held = self.budget
             limit("budget", ("RECORD", record, 1, 10**18), ("PANE", pane, 1, 10**18), ("HELD", held, 1, 100_000))
-        limit(
-            "window", ("the gap" if self.shape == "SESSION" else "the size", self.size, 1, LONGEST_SPAN),
-            ("the period", self.period, 1, min(self.size, LONGEST_SPAN)),
-        )
+        limit("window", ("the gap" if self.shape == "SESSION" else "the size", self.size, 1, LONGEST_SPAN))
+        if self.shape == "SLIDING":
+            limit("window", ("the period", self.period, 1, self.size))
         if self.from_window and self.shape == "SESSION":
             raise Refused("C10 SessionLateness in window")
         triggers = (("EARLY EVERY", self.early), ("LATE EVERY", self.late))
