@@ -1,0 +1,12 @@
+# Completion of the words of wsm, for fish.
+complete -c wsm -n __fish_use_subcommand -f -a run -d 'Run a query or a program over rows'
+complete -c wsm -n __fish_use_subcommand -f -a compile -d 'Write the program of a query to a file'
+complete -c wsm -n __fish_use_subcommand -f -a migrate -d 'Write a program in the newest version'
+complete -c wsm -n __fish_use_subcommand -f -a verify -d 'Tell whether a program is accepted'
+complete -c wsm -n __fish_use_subcommand -f -a explain -d 'List a program'
+complete -c wsm -n __fish_use_subcommand -f -a help -d 'Tell of a command'
+complete -c wsm -n __fish_use_subcommand -l version -d 'Tell the version'
+complete -c wsm -n '__fish_seen_subcommand_from run' -l program -d 'QUERY is a program'
+complete -c wsm -n '__fish_seen_subcommand_from verify explain' -l query -d 'PROGRAM is the text of a query'
+complete -c wsm -n '__fish_seen_subcommand_from help' -f -a 'run compile migrate verify explain'
+complete -c wsm -l help -d 'Tell of the words'
