@@ -9,12 +9,17 @@ that is refused, and what is written between two such refusals belongs to the ro
 import re
 import subprocess
 from dataclasses import dataclass
+from datetime import date, timedelta
 from html import escape
 
 from query_text import Query, value_of
 
-STEP = 28  # points for a row
-LEFT, ABOVE, BELOW, RIGHT = 126, 46, 44, 20
+STEP = 36  # points for a row
+LEFT, ABOVE, BELOW, RIGHT = 126, 34, 58, 20
+TITLE_STEP = 17
+WIDTH = 0.62  # of a letter, at most about, in its height
+BOLD = 1.1  # times that where it is bold
+YEAR = 365 * 86400
 COLORS = {"early": "#b8860b", "on_time": "#1f6fb2", "late": "#c2410c", "final": "#2e7d32"}
 WATERMARK, INK, GREY = "#b3003c", "#222222", "#777777"
 MARKS = ["#7a5195", "#008080", "#8a6d3b", "#555555"]  # of the sources
@@ -147,6 +152,14 @@ class Frame:
         seconds = f":{time % 60:02}" if self.space < 60 else ""
         return f"{time // 3600 % 24}:{time // 60 % 60:02}{seconds}"
 
+    def day_of(self, time):
+        """The day of a time on a clock: a date where times are since 1970, else its number where there are several."""
+        if not self.is_clock or self.last < YEAR and self.first // 86400 == self.last // 86400:
+            return None
+        if time < YEAR:
+            return f"day {time // 86400}"
+        return (date(1970, 1, 1) + timedelta(days=time // 86400)).isoformat()
+
 
 def frame_of(history, is_clock):
     """A frame in which the labels of the panes of one row have room beside one another."""
@@ -171,18 +184,51 @@ def frame_of(history, is_clock):
     return Frame(first - first % space, last, scale, space, is_clock)
 
 
+# ---- labels
+
+class Labels:
+    """The places that are taken: each label has the first of its places that is free, and within the picture."""
+
+    def __init__(self, width, height):
+        self.width, self.height, self.taken = width, height, []
+
+    def take(self, x, y, width, height):
+        self.taken.append((x, y, x + width, y + height))
+
+    def over(self, place, width, height):
+        """How much of a label at a place lies over what is taken, or outside."""
+        x, y = place
+        outside = max(0, 4 - x) + max(0, x + width - self.width + 4)
+        return outside * height + sum(
+            max(0, min(x + width, right) - max(x, left)) * max(0, min(y + height, bottom) - max(y, top))
+            for left, top, right, bottom in self.taken
+        )
+
+    def put(self, places, width, height):
+        """Takes the first free place, or the one where it lies over the least."""
+        found = min(places, key=lambda place: self.over(place, width, height))
+        self.take(*found, width, height)
+        return found
+
+
+def length_of(text, size=11, is_bold=False):
+    return len(text) * size * WIDTH * (BOLD if is_bold else 1)
+
+
 # ---- the picture
 
 class Picture:
-    def __init__(self, history, frame, is_whole):
+    def __init__(self, history, frame, is_whole, title):
         self.history, self.frame, self.is_whole = history, frame, is_whole
         self.lines = {number: at for at, number in enumerate(history.rows, 1)}
         longest = max(len(self.row_text(number)) for number in history.rows)
         self.left = max(LEFT, 24 + 6.1 * longest)
         self.width = self.across(frame.last) + RIGHT
-        self.floor = ABOVE + (len(history.rows) + 1) * STEP
+        self.title = [line for clauses in title for line in wrapped(clauses, self.width - 24)]
+        self.above = ABOVE + TITLE_STEP * len(self.title)
+        self.floor = self.above + (len(history.rows) + 1) * STEP
         self.height = self.floor + BELOW
-        self.parts = []
+        self.parts, self.labels = [], Labels(self.width, self.height)
 
     def row_text(self, number):
         """The row as it stands at the left, with its number where rows are left out."""
@@ -203,22 +249,37 @@ class Picture:
     def write(self, text, x, y, size=11, anchor="start", color=INK, **more):
         self.add("text", text, x=x, y=y, font_size=size, text_anchor=anchor, fill=color, **more)
 
-    def halo(self, text, x, y, **more):
-        self.write(text, x, y, stroke="#ffffff", stroke_width=3, paint_order="stroke", **more)
+    def label(self, pieces, places, **more):
+        """A label of pieces, each a text with the attributes of its own, at the first free of some places of its left
+        end and its base line."""
+        width = sum(length_of(text, own.get("font_size", 11), "font_weight" in own) for text, own in pieces)
+        height = max(own.get("font_size", 11) for _, own in pieces) + 1
+        tops = [(x - width if anchor == "end" else x - width / 2 if anchor == "middle" else x, y - height + 2.5) for x, y, anchor in places]
+        x, y = self.labels.put(tops, width, height)
+        _, base, anchor = places[tops.index((x, y))]
+        at = x + width if anchor == "end" else x + width / 2 if anchor == "middle" else x
+        spans = "".join(spanned(text, own) for text, own in pieces)
+        self.write(spans, at, base, anchor=anchor, stroke="#ffffff", stroke_width=3, paint_order="stroke", **more)
 
-    def axes(self, title):
+    def axes(self):
         frame, right = self.frame, self.across(self.frame.last)
-        self.write(escape(title), 12, 20, size=12, font_weight="bold")
+        for at, line in enumerate(self.title):
+            self.write(escape(line), 12, 20 + TITLE_STEP * at, size=12, font_weight="bold")
+        day = None
         for time in range(frame.first, frame.last + 1, frame.space):
             x = self.across(time)
-            self.add("line", x1=x, y1=ABOVE, x2=x, y2=self.floor, stroke="#e4e4e4", stroke_width=1)
+            self.add("line", x1=x, y1=self.above, x2=x, y2=self.floor, stroke="#e4e4e4", stroke_width=1)
             self.write(frame.text_of(time), x, self.floor + 16, size=10, anchor="middle", color=GREY)
+            if frame.day_of(time) != day:
+                day = frame.day_of(time)
+                self.write(day, x, self.floor + 30, size=10, anchor="middle", color=GREY)
         self.add("line", x1=self.left, y1=self.floor, x2=right, y2=self.floor, stroke=GREY, stroke_width=1)
-        self.write("event time", right, self.floor + 34, anchor="end", color=GREY)
-        self.write("rows, as they arrive, upwards", 12, self.floor + 34, color=GREY)
+        self.write("event time", right, self.floor + 46, anchor="end", color=GREY)
+        self.write("rows, as they arrive, upwards", 12, self.floor + 46, color=GREY)
         for number in self.history.rows:
             text = escape(self.row_text(number))
             self.write(text, 12, self.up(number) + 3, size=10, color=GREY, font_family="monospace")
+            self.labels.take(12, self.up(number) - 7, 6.1 * len(self.row_text(number)), 12)
 
     def is_by_record(self, pane):
         return self.history.rows[pane.row].startswith("r")
@@ -237,10 +298,18 @@ class Picture:
             fill_opacity="0.13", stroke=color, stroke_width=1.5, **dash,
         )
 
-    def label(self, pane):
-        text = f'{pane.kind} <tspan font-weight="bold" font-size="14">{pane.text}</tspan>'
-        y = self.top_of(pane) + (-5 if self.is_by_record(pane) else 15)
-        self.halo(text, self.across(pane.start) + 6, y, color=COLORS[pane.kind])
+    def pane(self, pane):
+        """The label of a pane, along the upper edge of its box, or further in."""
+        pieces = [(f"{pane.kind} ", {}), (pane.text, {"font_weight": "bold", "font_size": 14})]
+        top = self.top_of(pane)
+        bases = [top - 4, top + 15, top - 18] if self.is_by_record(pane) else [top + 15, top - 4, top + 31]
+        self.label(pieces, self.places_of(pane, bases), color=COLORS[pane.kind])
+
+    def places_of(self, pane, bases):
+        """Places of what is said of a pane: on each of some base lines from its box's left edge on."""
+        left, right = self.across(pane.start) + 6, self.across(pane.end) - 6
+        steps = range(0, max(1, int(right - left)), 12)
+        return [(left + step, base, "start") for base in bases for step in steps] + [(right, base, "end") for base in bases]
 
     def line(self, corners, **attributes):
         points = " ".join(f"{short(self.across(time))},{short(self.up(row))}" for row, time in corners)
@@ -249,20 +318,23 @@ class Picture:
     def watermark(self, corners):
         self.line(corners, stroke=WATERMARK, stroke_width=2.5)
         row, time = corners[-1]
-        self.write("watermark", self.across(time) - 5, self.up(row) + 3, anchor="end", color=WATERMARK)
+        x, y = self.across(time), self.up(row)
+        self.label([("watermark", {})], [(x - 5, y + 3, "end"), (x - 5, y - 10, "end"), (x + 5, y + 3, "start")], color=WATERMARK)
 
     def mark(self, number, name, corners):
         """The mark of a source, with its name where it first rises."""
         color = MARKS[number % len(MARKS)]
         self.line(corners, stroke=color, stroke_width=1.3, stroke_dasharray="6 3")
         row, time = next((corner for corner in corners if corner[1] > corners[0][1]), corners[-1])
-        self.halo(name, self.across(time) + 4, self.up(row) + 12, color=color)
+        x, y = self.across(time), self.up(row)
+        self.label([(name, {})], [(x + 4, y + 12, "start"), (x - 4, y + 12, "end"), (x + 4, y + 24, "start")], color=color)
 
     def withdrawn(self, pane):
-        """The columns of a pane that is withdrawn, struck, below the label of what takes its place."""
-        x, y = self.across(pane.start) + 6, self.top_of(pane) + (11 if self.is_by_record(pane) else 31)
-        text = f'retract <tspan font-weight="bold" font-size="14" text-decoration="line-through">{pane.text}</tspan>'
-        self.halo(text, x, y, color=GREY)
+        """The columns of a pane that is withdrawn, struck, near the label of what takes its place."""
+        pieces = [("retract ", {}), (pane.text, {"font_weight": "bold", "font_size": 14, "text_decoration": "line-through"})]
+        top = self.top_of(pane)
+        bases = [top - 4, top - 18] if self.is_by_record(pane) else [top + 31, top + 15, top - 4]
+        self.label(pieces, self.places_of(pane, bases), color=GREY)
 
     def measure(self, record, behind):
         """How far the watermark is past a time, below the circle of a record."""
@@ -270,25 +342,38 @@ class Picture:
         self.add("line", x1=left, y1=y, x2=right, y2=y, stroke=INK, stroke_width=1)
         for x in (left, right):
             self.add("line", x1=x, y1=y - 4, x2=x, y2=y + 4, stroke=INK, stroke_width=1)
-        self.halo(record.mark - behind, (left + right) / 2, y - 4, anchor="middle")
+        middle = (left + right) / 2
+        self.label([(str(record.mark - behind), {})], [(middle, y - 4, "middle"), (middle, y + 12, "middle"), (right + 4, y + 4, "start")])
 
-    def record(self, record):
+    def circle(self, record):
         x, y = self.across(record.time), self.up(record.row)
         is_in = record.fate == "admitted"
         color = INK if is_in and record.is_selected else GREY
-        radius = 9 if len(record.text) <= 3 else 5
+        radius = radius_of(record)
         dash = {} if record.is_selected else {"stroke_dasharray": "3 2"}
         self.add("circle", cx=x, cy=y, r=radius, fill="#ffffff", stroke=color, stroke_width=1.3, **dash)
-        beside = escape(record.text) if radius < 9 else ""
-        if not beside:
+        if radius == 9:
             self.write(escape(record.text), x, y + 4, anchor="middle", color=color)
         if not is_in:
             self.add("line", x1=x - 9, y1=y + 9, x2=x + 9, y2=y - 9, stroke=WATERMARK, stroke_width=2)
-            beside += f'{" " * bool(beside)}<tspan fill="{WATERMARK}">{record.fate}</tspan>'
-        if record.time > self.frame.last:
-            self.halo(beside, x - radius - 4, y + 4, anchor="end", color=color)
-        elif beside:
-            self.halo(beside, x + radius + 4, y + 4, color=color)
+        self.labels.take(x - radius, y - radius, 2 * radius, 2 * radius)
+
+    def beside(self, record):
+        """What is said beside the circle of a record: its values where they have no room in it, and why it isn't in."""
+        x, y, radius = self.across(record.time), self.up(record.row), radius_of(record)
+        is_in = record.fate == "admitted"
+        pieces = [(record.text + (" " if not is_in else ""), {})] if radius < 9 else []
+        pieces += [(record.fate, {"fill": WATERMARK})] if not is_in else []
+        if not pieces:
+            return
+        right, left = (x + radius + 4, y + 4, "start"), (x - radius - 4, y + 4, "end")
+        others = [(x, y + 17, "middle"), (x, y - 9, "middle")]
+        places = [left, right, *others] if record.time > self.frame.last else [right, left, *others]
+        self.label(pieces, places, color=INK if is_in and record.is_selected else GREY)
+
+    def refusal(self, row, word):
+        y, left = self.up(row) + 4, self.left + 4
+        self.label([(word, {})], [(left + step, y, "start") for step in range(0, int(self.width - left), 24)], color=WATERMARK)
 
     def text(self):
         size = f'width="{short(self.width)}" height="{short(self.height)}"'
@@ -302,13 +387,34 @@ def short(value):
     return f"{value:.1f}".removesuffix(".0") if isinstance(value, float) else value
 
 
+def radius_of(record):
+    return 9 if len(record.text) <= 3 else 5
+
+
+def spanned(text, own):
+    if not own:
+        return escape(text)
+    words = " ".join(f'{name.replace("_", "-")}="{value}"' for name, value in own.items())
+    return f"<tspan {words}>{escape(text)}</tspan>"
+
+
+def wrapped(text, width):
+    """Lines of a text that are not wider than a picture."""
+    lines = [""]
+    for word in text.split(" "):
+        if lines[-1] and length_of(f"{lines[-1]} {word}", 12, True) > width:
+            lines.append("  ")
+        lines[-1] += f"{' ' * bool(lines[-1].strip())}{word}"
+    return lines
+
+
 def title_of(text):
-    """The clauses of a query that a picture shows."""
+    """The clauses of a query that a picture shows, in their order: the clock, what is asked, and of which windows."""
     text = " ".join(text.split())
     sources = re.search(r"SOURCES [^;]*;|$", text).group(0)
     clock = re.search(r"SKEW \d+ ?; LATENESS \d+( FROM WINDOW)? ?;", text).group(0)
-    window = re.search(r"(?<!FROM )(WINDOW .*) EMIT", text).group(1)
-    return f"{window}   {clock}   {sources}".strip()
+    asked, window = re.search(r"(SELECT .*) (WINDOW .*) EMIT", text).groups()
+    return [f"{sources} {clock}".strip(), asked, window]
 
 
 def is_of(pane, other):
@@ -350,22 +456,27 @@ def drawn(program, path, rows, key=None, frame=None, is_clock=False, is_measured
         raise Refused(f"{key} is no key of the query; its keys are {', '.join(query.keys[:20])}")
     history = history_of(program, path, query, rows, key)
     frame = frame or frame_of(history, is_clock)
-    picture = Picture(history, frame, len(history.rows) == len(rows))
-    picture.axes(title_of(text) if len(query.keys) == 1 else f"{key}:   {title_of(text)}")
+    title = title_of(text)
+    if len(query.keys) > 1:
+        title[0] = f"{key}:   {title[0]}"
+    picture = Picture(history, frame, len(history.rows) == len(rows), title)
+    picture.axes()
     for pane in history.panes:
         picture.box(pane, floor_of(pane, history, query.mode == "DISCARDING"), inset_of(query, pane))
+    for record in history.records:
+        picture.circle(record)
     if query.sources:
         for number, (source, corners) in enumerate(history.marks.items()):
             picture.mark(number, source, corners)
     picture.watermark(history.watermark)
     for record in history.records:
-        picture.record(record)
         if is_measured and behind_of(record, query) < record.mark:
             picture.measure(record, behind_of(record, query))
+        picture.beside(record)
     for pane in history.panes:
-        picture.label(pane)
+        picture.pane(pane)
     for pane in history.withdrawn:
         picture.withdrawn(pane)
     for row, word in history.refusals.items():
-        picture.halo(word, picture.left + 4, picture.up(row) + 4, color=WATERMARK)
+        picture.refusal(row, word)
     return picture.text()
