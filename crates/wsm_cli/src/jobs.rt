@@ -17,8 +17,8 @@ pub fn done<R: Files + AllocGlobal + Input + Print>(rt: &R, job: &Job) -> Result
         } => run(rt, *program, query, rows.as_ref()),
         Job::Compile { query, out } => compile(rt, query, out),
         Job::Migrate { program, out } => migrated(rt, program, out),
-        Job::Verify { program } => judged(rt, program, false),
-        Job::Explain { program } => judged(rt, program, true),
+        Job::Verify { query, program } => judged(rt, *query, program, false),
+        Job::Explain { query, program } => judged(rt, *query, program, true),
     }
 }
 
@@ -83,13 +83,17 @@ fn write_all<W: Write + Drop>(bytes: &[u8], file: W) -> Result<bool, End> {
     Ok(true)
 }
 
-// Writes the judgement of a file's program.
+// Writes the judgement of a file's program, or of the program of a file's query.
 fn judged<R: Files + AllocGlobal + Print>(
     rt: &R,
+    query: bool,
     program: &String,
     explain: bool,
 ) -> Result<bool, End> {
-    let bytes = read(rt, program)?;
+    let mut bytes = read(rt, program)?;
+    if query {
+        bytes = compile_text(rt.alloc(), &bytes)?;
+    }
     let mut output = Guarded::new(io::writer(rt));
     judge(rt.alloc(), &bytes, explain, &mut output)
 }

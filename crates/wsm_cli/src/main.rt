@@ -1,7 +1,7 @@
 //! The program `wsm`: runs a query or a program over rows, compiles a query, and judges a program.
 //!
-//! Its status is 0 where it is done, also after help, and 4 where `verify` or `explain` rejects a
-//! program. Each other status has one line on standard error, which begins with the program's name;
+//! Its status is 0 where it is done, also after help and the version, and 4 where `verify` or `explain`
+//! rejects a program. Each other status has one line on standard error, which begins with the program's name;
 //! the words' refusal has `clap`'s own text.
 #![tactic(auto)]
 
@@ -58,7 +58,7 @@ fn status<R: Files + AllocGlobal + Input + Print + Eprint>(rt: &R, job: &Job) ->
     }
 }
 
-// Prints the refusal of the words, or the help that they asked for.
+// Prints the refusal of the words, or the help or the version that they asked for.
 fn refused_words<R: Print + Eprint>(rt: &R, error: &clap::Error) -> ExitCode {
     let printed = error.print(rt);
     match error.exit_code() {

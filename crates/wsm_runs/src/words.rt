@@ -1,5 +1,6 @@
 //! The words of a command.
 
+use clap::error::ErrorKind;
 use std::alloc::Global;
 use std::test::Fail;
 use wsm::{Job, WordsRefusal, command_of};
@@ -13,7 +14,7 @@ fn job(alloc: Global, words: &[&str]) -> Result<String, Fail> {
     }
 }
 
-const JOBS: [(&[&str], &str); 9] = [
+const JOBS: [(&[&str], &str); 13] = [
     (
         &["wsm", "run", "q"],
         "Run { program: false, query: \"q\", rows: None }",
@@ -35,6 +36,14 @@ const JOBS: [(&[&str], &str); 9] = [
         "Run { program: false, query: \"--program\", rows: None }",
     ),
     (
+        &["wsm", "run", "q", "-"],
+        "Run { program: false, query: \"q\", rows: None }",
+    ),
+    (
+        &["wsm", "run", "-", "./-"],
+        "Run { program: false, query: \"-\", rows: Some(\"./-\") }",
+    ),
+    (
         &["wsm", "compile", "q", "o"],
         "Compile { query: \"q\", out: \"o\" }",
     ),
@@ -42,8 +51,22 @@ const JOBS: [(&[&str], &str); 9] = [
         &["wsm", "migrate", "p", "o"],
         "Migrate { program: \"p\", out: \"o\" }",
     ),
-    (&["wsm", "verify", "p"], "Verify { program: \"p\" }"),
-    (&["wsm", "explain", "p"], "Explain { program: \"p\" }"),
+    (
+        &["wsm", "verify", "p"],
+        "Verify { query: false, program: \"p\" }",
+    ),
+    (
+        &["wsm", "verify", "--query", "q"],
+        "Verify { query: true, program: \"q\" }",
+    ),
+    (
+        &["wsm", "explain", "p"],
+        "Explain { query: false, program: \"p\" }",
+    ),
+    (
+        &["wsm", "explain", "q", "--query"],
+        "Explain { query: true, program: \"q\" }",
+    ),
 ];
 
 #[test]
@@ -52,5 +75,37 @@ fn words_ask_for_jobs(rt: HostRuntime) -> Result<(), Fail> {
         let job = job(rt.alloc(), words)?;
         assert_eq!(rt; job.as_str(), want);
     }
+    Ok(())
+}
+
+// Words that ask for no job, and what `clap` calls it.
+const REFUSED: [(&[&str], ErrorKind); 7] = [
+    (&["wsm", "--version"], ErrorKind::DisplayVersion),
+    (&["wsm", "-V"], ErrorKind::DisplayVersion),
+    (&["wsm", "--help"], ErrorKind::DisplayHelp),
+    (&["wsm", "verify", "--help"], ErrorKind::DisplayHelp),
+    (&["wsm", "walk"], ErrorKind::InvalidSubcommand),
+    (&["wsm", "run"], ErrorKind::MissingRequiredArgument),
+    (&["wsm", "run", "q", "r", "s"], ErrorKind::UnknownArgument),
+];
+
+// Want of memory is told for none of them where memory is there: no clause says so.
+#[test]
+fn refusals_are_told_as_themselves(rt: HostRuntime) -> Result<(), Fail> {
+    for &(words, want) in &REFUSED {
+        let told = match command_of(rt.alloc(), words) {
+            Err(WordsRefusal::Words(error)) => Some(error.kind()),
+            _ => None,
+        };
+        assert_eq!(rt; told, Some(want));
+    }
+    Ok(())
+}
+
+#[test]
+fn the_version_is_told(rt: HostRuntime) -> Result<(), Fail> {
+    let text = job(rt.alloc(), &["wsm", "--version"])?;
+    let want = "wsm 1.0.0 (kit 13f, commit 0000000000000000000000000000000000000000)\n";
+    assert_eq!(rt; text.as_str(), want);
     Ok(())
 }

@@ -1,7 +1,9 @@
 -- The command that the program has, and the job that a parse of its words asks for.
-use Rattle.std.specs.Prelude.{◌≡◌, List, Bool, true, false, Option, Some, None, String, codes, option_map, string_bytes}
-use Rattle.clap.specs.Words.{App, Row, Rule, Text, first_of, one_of, new_app, new_rule, with_rule, with_subcommand}
+use Rattle.std.specs.Prelude.{◌≡◌, ◌≢◌, List, [], Bool, true, false, Option, Some, None, Result, Ok, Err, String, codes, bytes_eq, if◌then◌else◌, option_map, string_bytes, ⊤}
+use Rattle.clap.specs.Words.{App, Row, Rule, Text, IsAmong, Kinds, first_of, kind_of, one_of, new_app, new_rule, with_rule, with_subcommand}
 use Rattle.clap.specs.declared.builder.ArgAction.TheVariants.{SetTrue}
+use Rattle.clap.specs.declared.error.Error.{Error}
+use Rattle.clap.specs.declared.error.kind.ErrorKind.TheVariants.{OutOfMemory}
 use Rattle.wsm_words.specs.declared.words.Job.{Job}
 use Rattle.wsm_words.specs.declared.words.Job.TheVariants.{Run, Compile, Migrate, Verify, Explain}
 use Rattle.wsm_words.specs.declared.words.WordsRefusal.{WordsRefusal}
@@ -11,9 +13,9 @@ use Rattle.wsm_words.specs.declared.words.WordsRefusal.TheVariants.{Words, Memor
 abbrev pub file_rule : Text → Rule
 file_rule id = record (new_rule id) { value_names = 1; required = true }
 
--- [--program]
-abbrev pub program_flag : Rule
-program_flag = record (new_rule (codes "program")) { long = Some (codes "program"); action = Some SetTrue }
+-- a flag, by its name
+abbrev pub flag_rule : Text → Rule
+flag_rule name = record (new_rule name) { long = Some name; action = Some SetTrue }
 
 -- [ROWS]
 abbrev pub rows_rule : Rule
@@ -21,7 +23,7 @@ rows_rule = record (new_rule (codes "rows")) { value_names = 1 }
 
 -- run [--program] QUERY [ROWS]
 abbrev pub run_app : App
-run_app = with_rule (with_rule (with_rule (new_app (codes "run")) program_flag) (file_rule (codes "query"))) rows_rule
+run_app = with_rule (with_rule (with_rule (new_app (codes "run")) (flag_rule (codes "program"))) (file_rule (codes "query"))) rows_rule
 
 -- compile QUERY OUT
 abbrev pub compile_app : App
@@ -31,17 +33,21 @@ compile_app = with_rule (with_rule (new_app (codes "compile")) (file_rule (codes
 abbrev pub migrate_app : App
 migrate_app = with_rule (with_rule (new_app (codes "migrate")) (file_rule (codes "program"))) (file_rule (codes "out"))
 
--- verify PROGRAM
+-- NAME [--query] PROGRAM
+abbrev pub judging_app : Text → App
+judging_app name = with_rule (with_rule (new_app name) (flag_rule (codes "query"))) (file_rule (codes "program"))
+
+-- verify [--query] PROGRAM
 abbrev pub verify_app : App
-verify_app = with_rule (new_app (codes "verify")) (file_rule (codes "program"))
+verify_app = judging_app (codes "verify")
 
--- explain PROGRAM
+-- explain [--query] PROGRAM
 abbrev pub explain_app : App
-explain_app = with_rule (new_app (codes "explain")) (file_rule (codes "program"))
+explain_app = judging_app (codes "explain")
 
--- the program's command, which wants a subcommand
+-- the program's command, which wants a subcommand and tells its version
 abbrev pub required_app : App
-required_app = let a = new_app (codes "wsm") in record a { top = record a.top { subcommand_required = true } }
+required_app = let a = new_app (codes "wsm") in record a { top = record a.top { has_version = true; subcommand_required = true } }
 
 -- with the subcommands that take a query
 abbrev pub query_app : App
@@ -62,13 +68,18 @@ SaysFlag text flag = (text ≡ None → flag ≡ false) × (text ≡ Some (codes
 abbrev pub Names : {Z : Type 0} → List Row → Text → String Z → Type 0
 Names entries id file = first_of id entries ≡ Some (string_bytes file)
 
+-- the file of the rows, if one is named: `-` is the standard input
+abbrev pub rows_named : Option Text → Option Text
+rows_named None = None
+rows_named (Some name) = if bytes_eq name (codes "-") then None else Some name
+
 -- the job has what the entries of the command of its name have
 abbrev pub IsJob : Text → List Row → Job → Type 0
-IsJob name entries (Run program query rows) = (name ≡ codes "run") × SaysFlag (one_of (codes "program") entries) program × Names entries (codes "query") query × (option_map string_bytes rows ≡ first_of (codes "rows") entries)
+IsJob name entries (Run program query rows) = (name ≡ codes "run") × SaysFlag (one_of (codes "program") entries) program × Names entries (codes "query") query × (option_map string_bytes rows ≡ rows_named (first_of (codes "rows") entries))
 IsJob name entries (Compile query out) = (name ≡ codes "compile") × Names entries (codes "query") query × Names entries (codes "out") out
 IsJob name entries (Migrate program out) = (name ≡ codes "migrate") × Names entries (codes "program") program × Names entries (codes "out") out
-IsJob name entries (Verify program) = (name ≡ codes "verify") × Names entries (codes "program") program
-IsJob name entries (Explain program) = (name ≡ codes "explain") × Names entries (codes "program") program
+IsJob name entries (Verify query program) = (name ≡ codes "verify") × SaysFlag (one_of (codes "query") entries) query × Names entries (codes "program") program
+IsJob name entries (Explain query program) = (name ≡ codes "explain") × SaysFlag (one_of (codes "query") entries) query × Names entries (codes "program") program
 
 -- a job is that of the subcommand and its entries
 abbrev pub IsJobOf : Option (Text × List Row) → Job → Type 0
@@ -79,3 +90,18 @@ IsJobOf (Some found) job = IsJob found.0 found.1 job
 abbrev pub IsMemory : WordsRefusal → Type 0
 IsMemory (Words e) = ⊥
 IsMemory Memory = Unit {0}
+
+-- an error is told as itself, and as want of memory exactly where it is one for that
+abbrev pub Tells : Error → WordsRefusal → Type 0
+Tells e (Words told) = (told ≡ e) × (kind_of e ≢ OutOfMemory)
+Tells e Memory = kind_of e ≡ OutOfMemory
+
+-- a refusal of the words is by one of these faults
+abbrev pub IsByFault : Kinds → WordsRefusal → Type 0
+IsByFault faults (Words e) = IsAmong (kind_of e) faults
+IsByFault faults Memory = ⊤
+
+-- words with no fault may have a job, and others are refused by one of their faults or for want of memory
+abbrev pub AnswersFaults : Kinds → Result Job WordsRefusal → Type 0
+AnswersFaults faults (Ok job) = faults ≡ []
+AnswersFaults faults (Err e) = IsByFault faults e

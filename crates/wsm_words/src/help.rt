@@ -25,7 +25,16 @@ For each pane that a watermark completes a row is written, and an end row last:
   end,3,2,0,0,1
 
 The end row counts rows, admitted records, late records, refused rows and panes.
-Nothing fires at the end of the rows: end them with a watermark.";
+Nothing fires at the end of the rows: end them with a watermark.
+
+Statuses:
+  0  done, also after help and the version
+  2  the words were refused
+  3  a query's text or a program's bytes were refused
+  4  a program was rejected
+  5  memory was refused
+  6  a file couldn't be opened or read
+  7  the output failed";
 
 /// What the command `run` does.
 pub const RUN: &str = "Runs a query or a program over rows, and writes to standard output.";
@@ -37,7 +46,7 @@ pub const IS_PROGRAM: &str = "QUERY is a program that `wsm compile` wrote";
 pub const QUERY_OR_PROGRAM: &str = "The file of the query's text, or of the program";
 
 /// What the rows' file is.
-pub const ROWS: &str = "The file of the rows; standard input where it is left out";
+pub const ROWS: &str = "The file of the rows; standard input where it is left out or `-`";
 
 /// An example of the command `run`.
 pub const RUN_EXAMPLE: &str = "With the query of `wsm --help`,
@@ -93,6 +102,12 @@ pub const VERIFY: &str = "Tells whether a program is accepted, and what it may c
 /// What the program's file is.
 pub const PROGRAM: &str = "The file of the program";
 
+/// What the flag for a query says.
+pub const IS_QUERY: &str = "PROGRAM is the text of a query";
+
+/// What is judged.
+pub const PROGRAM_OR_QUERY: &str = "The file of the program, or of the query's text";
+
 /// An example of the command `verify`.
 pub const VERIFY_EXAMPLE: &str = "With the query of `wsm --help`,
 
@@ -103,8 +118,9 @@ writes
 
   accepted,5,4,6
 
-A record takes at most 5 instructions and a pane 4, and 6 panes are held at most. Of a program
-that is not accepted the first fault is told, as `rejected,fire,2,MayDivideByZero`.";
+and so does `wsm verify --query sums.wsm`, which makes no file. A record takes at most 5
+instructions and a pane 4, and 6 panes are held at most. Of a program that is not accepted the
+first fault is told, as `rejected,fire,2,MayDivideByZero`.";
 
 /// What the command `explain` does.
 pub const EXPLAIN: &str = "Lists a program, and tells whether it is accepted.";
@@ -126,4 +142,6 @@ writes
   fire 1 ACC 0
   fire 2 PUSHB 1
   fire 3 RET
-  accepted,5,4,6";
+  accepted,5,4,6
+
+and so does `wsm explain --query sums.wsm`, which makes no file.";

@@ -1,8 +1,8 @@
 //! The words of the program's command, and its help.
 //!
 //! [`command_of`] reads the words as `clap` means them, and answers the [`Job`] that they ask for, or
-//! why they ask for none: they are wrong or ask for help, and `clap`'s error has the text to print, or
-//! memory ran out.
+//! why they ask for none: they are wrong or ask for help or the version, and `clap`'s error has the text
+//! to print, or memory ran out.
 //!
 //! ```rust
 //! use wsm_words::{Job, command_of};
@@ -18,4 +18,5 @@
 pub use words::{Job, WordsRefusal, command_of};
 
 mod help;
+mod version;
 mod words;

@@ -1,10 +1,11 @@
 //! The program's words.
 
 ghost use Rattle.std.specs.Prelude.{◌≡◌, true, false, IfOk, IfErr, codes, map, option_map, string_bytes};
-ghost use Rattle.clap.specs.Words.{app_of, new_app, found_of, first_of, rows_of, rule_of, subcommand_of, subcommand_rows_of, takes};
-ghost use Rattle.wsm_words.specs.Words.{the_app, query_app, required_app, run_app, compile_app, verify_app, explain_app, migrate_app, writing_app, file_rule, program_flag, IsJob, IsJobOf, IsMemory, Names};
+ghost use Rattle.clap.specs.Words.{app_of, new_app, fault_of, found_of, rows_of as entries_of, rule_of, subcommand_of, subcommand_rows_of, takes};
+ghost use Rattle.wsm_words.specs.Words.{the_app, query_app, required_app, run_app, compile_app, judging_app, verify_app, explain_app, migrate_app, writing_app, file_rule, flag_rule, AnswersFaults, IsJob, IsJobOf, IsMemory, Names, rows_named};
 
 use crate::help;
+use crate::version::version_text;
 use clap::error::ErrorKind;
 use clap::{Arg, ArgAction, ArgMatches, Command};
 use std::alloc::{AllocError, Global};
@@ -18,7 +19,7 @@ pub enum Job {
         program: bool,
         /// The file of the query or the program.
         query: String,
-        /// The file of the rows; standard input where there is none.
+        /// The file of the rows; standard input where none is named, or `-`.
         rows: Option<String>,
     },
     /// To write the program of a query.
@@ -35,14 +36,18 @@ pub enum Job {
         /// The file that is written.
         out: String,
     },
-    /// To tell whether a program is accepted.
+    /// To tell whether a program, or that of a query, is accepted.
     Verify {
-        /// The file of the program.
+        /// Whether the file has the text of a query, and not the bytes of a program.
+        query: bool,
+        /// The file of the program or the query.
         program: String,
     },
-    /// To list a program, and to tell whether it is accepted.
+    /// To list a program, or that of a query, and to tell whether it is accepted.
     Explain {
-        /// The file of the program.
+        /// Whether the file has the text of a query, and not the bytes of a program.
+        query: bool,
+        /// The file of the program or the query.
         program: String,
     },
 }
@@ -50,7 +55,7 @@ pub enum Job {
 /// Why the words ask for nothing.
 #[derive(Debug, Drop)]
 pub enum WordsRefusal {
-    /// They are wrong, or ask for help; `clap`'s error has the text to print.
+    /// They are wrong, or ask for help or the version; `clap`'s error has the text to print.
     Words(clap::Error),
     /// Memory ran out.
     Memory,
@@ -67,12 +72,9 @@ impl From<AllocError> for WordsRefusal {
 }
 
 impl From<clap::Error> for WordsRefusal {
-    ghost use Rattle.std.specs.Prelude.{◌≡◌};
-    ghost use Rattle.clap.specs.Words.{kind_of};
-    ghost use Rattle.clap.specs.declared.error.kind.ErrorKind.TheVariants.{OutOfMemory};
-    ghost use Rattle.wsm_words.specs.Words.{IsMemory};
+    ghost use Rattle.wsm_words.specs.Words.{Tells};
 
-    ghost from_gives = { λ e refusal. (kind_of e ≡ OutOfMemory → IsMemory refusal) × (IsMemory refusal → kind_of e ≡ OutOfMemory) };
+    ghost from_gives = { Tells };
 
     fn from(error: clap::Error) -> WordsRefusal {
         match error.kind() {
@@ -84,48 +86,52 @@ impl From<clap::Error> for WordsRefusal {
 
 /// The job that the words ask for, the program's own name first among them. A subcommand is
 /// required: `run [--program] QUERY [ROWS]`, `compile QUERY OUT`, `migrate PROGRAM OUT`,
-/// `verify PROGRAM` or `explain PROGRAM`. Words that `clap` takes are refused for want of memory alone.
+/// `verify [--query] PROGRAM` or `explain [--query] PROGRAM`. Words that `clap` takes are refused for
+/// want of memory alone. Others are refused by a fault that `clap` finds in them, or for want of memory.
 pub fn command_of(alloc: Global, words: &[&str]) -> Result<Job, WordsRefusal>
     ensures job { IfOk result (IsJobOf (subcommand_of the_app (map (λ s. s.now) words.now))) }
     ensures refused { IfErr result (λ e. takes the_app (map (λ s. s.now) words.now) ≡ true → IsMemory e) }
+    ensures faults { AnswersFaults (fault_of the_app (map (λ s. s.now) words.now)) result }
 {
-    let matches = wsm_command(alloc)?.try_get_matches_from(words)?;
+    let version = version_text(alloc)?;
+    let matches = wsm_command(alloc, version.as_str())?.try_get_matches_from(words)?;
     job_of(alloc, &matches)
 }
 
 // The program's command, with its subcommands.
-fn wsm_command<'a>(alloc: Global) -> Result<Command<'a>, AllocError>
+fn wsm_command<'a>(alloc: Global, version: &'a str) -> Result<Command<'a>, AllocError>
     ensures { IfOk result (λ c. app_of c ≡ the_app) }
 {
-    let wsm = writing_command(alloc)?
+    let wsm = writing_command(alloc, version)?
         .subcommand(verify_command(alloc)?)?
         .subcommand(explain_command(alloc)?)?;
     Ok(wsm)
 }
 
 // The program's command, with the subcommands that take a query or write a program.
-fn writing_command<'a>(alloc: Global) -> Result<Command<'a>, AllocError>
+fn writing_command<'a>(alloc: Global, version: &'a str) -> Result<Command<'a>, AllocError>
     ensures { IfOk result (λ c. app_of c ≡ writing_app) }
 {
-    let wsm = query_command(alloc)?.subcommand(migrate_command(alloc)?)?;
+    let wsm = query_command(alloc, version)?.subcommand(migrate_command(alloc)?)?;
     Ok(wsm)
 }
 
 // The program's command, with the subcommands that take a query.
-fn query_command<'a>(alloc: Global) -> Result<Command<'a>, AllocError>
+fn query_command<'a>(alloc: Global, version: &'a str) -> Result<Command<'a>, AllocError>
     ensures { IfOk result (λ c. app_of c ≡ query_app) }
 {
-    let wsm = required_command(alloc)?
+    let wsm = required_command(alloc, version)?
         .subcommand(run_command(alloc)?)?
         .subcommand(compile_command(alloc)?)?;
     Ok(wsm)
 }
 
-// The program's command, which wants a subcommand.
-fn required_command<'a>(alloc: Global) -> Result<Command<'a>, AllocError>
+// The program's command, which wants a subcommand and tells its version.
+fn required_command<'a>(alloc: Global, version: &'a str) -> Result<Command<'a>, AllocError>
     ensures { IfOk result (λ c. app_of c ≡ required_app) }
 {
     command(alloc, "wsm", help::ABOUT, help::EXAMPLE)
+        .version(version)
         .subcommand_required(true)
         .bin_name("wsm")
 }
@@ -136,7 +142,7 @@ fn run_command<'a>(alloc: Global) -> Result<Command<'a>, AllocError>
 {
     let rows = Arg::new(alloc, "rows").value_name("ROWS").help(help::ROWS);
     let run = command(alloc, "run", help::RUN, help::RUN_EXAMPLE)
-        .arg(program_flag(alloc))?
+        .arg(flag(alloc, "program", help::IS_PROGRAM))?
         .arg(file(alloc, "query", "QUERY", help::QUERY_OR_PROGRAM))?
         .arg(rows)?;
     Ok(run)
@@ -162,28 +168,33 @@ fn migrate_command<'a>(alloc: Global) -> Result<Command<'a>, AllocError>
     Ok(migrate)
 }
 
-// `verify PROGRAM`
+// `verify [--query] PROGRAM`
 fn verify_command<'a>(alloc: Global) -> Result<Command<'a>, AllocError>
     ensures { IfOk result (λ c. app_of c ≡ verify_app) }
 {
-    command(alloc, "verify", help::VERIFY, help::VERIFY_EXAMPLE).arg(file(
-        alloc,
-        "program",
-        "PROGRAM",
-        help::PROGRAM,
-    ))
+    judging_command(alloc, "verify", help::VERIFY, help::VERIFY_EXAMPLE)
 }
 
-// `explain PROGRAM`
+// `explain [--query] PROGRAM`
 fn explain_command<'a>(alloc: Global) -> Result<Command<'a>, AllocError>
     ensures { IfOk result (λ c. app_of c ≡ explain_app) }
 {
-    command(alloc, "explain", help::EXPLAIN, help::EXPLAIN_EXAMPLE).arg(file(
-        alloc,
-        "program",
-        "PROGRAM",
-        help::PROGRAM,
-    ))
+    judging_command(alloc, "explain", help::EXPLAIN, help::EXPLAIN_EXAMPLE)
+}
+
+// A command that judges a program, or that of a query.
+fn judging_command<'a>(
+    alloc: Global,
+    name: &'a str,
+    about: &'a str,
+    example: &'a str,
+) -> Result<Command<'a>, AllocError>
+    ensures { IfOk result (λ c. app_of c ≡ judging_app name.entry.now) }
+{
+    let judging = command(alloc, name, about, example)
+        .arg(flag(alloc, "query", help::IS_QUERY))?
+        .arg(file(alloc, "program", "PROGRAM", help::PROGRAM_OR_QUERY))?;
+    Ok(judging)
 }
 
 // A command with the texts of its help.
@@ -193,14 +204,14 @@ fn command<'a>(alloc: Global, name: &'a str, about: &'a str, example: &'a str) -
     Command::new(alloc, name).about(about).after_help(example)
 }
 
-// `--program`
-fn program_flag<'a>(alloc: Global) -> Arg<'a>
-    ensures rule { rule_of result ≡ program_flag }
+// A flag, by the name that it has as a word.
+fn flag<'a>(alloc: Global, name: &'a str, help: &'a str) -> Arg<'a>
+    ensures rule { rule_of result ≡ flag_rule name.entry.now }
     ensures local { result.global ≡ false }
 {
-    Arg::new(alloc, "program")
-        .help(help::IS_PROGRAM)
-        .long("program")
+    Arg::new(alloc, name)
+        .help(help)
+        .long(name)
         .action(ArgAction::SetTrue)
 }
 
@@ -230,12 +241,10 @@ fn job_of(alloc: Global, matches: &ArgMatches<'_>) -> Result<Job, WordsRefusal>
         return migrate_job(alloc, inner);
     }
     if let Some(inner) = matches.subcommand_matches("verify") {
-        let program = file_of(alloc, inner, "program")?;
-        return Ok(Job::Verify { program });
+        return verify_job(alloc, inner);
     }
     if let Some(inner) = matches.subcommand_matches("explain") {
-        let program = file_of(alloc, inner, "program")?;
-        return Ok(Job::Explain { program });
+        return explain_job(alloc, inner);
     }
     // This doesn't come: `wsm_command` has no other subcommand, and requires one.
     Err(WordsRefusal::Memory)
@@ -243,12 +252,12 @@ fn job_of(alloc: Global, matches: &ArgMatches<'_>) -> Result<Job, WordsRefusal>
 
 // The job of the words behind `run`.
 fn run_job(alloc: Global, inner: &ArgMatches<'_>) -> Result<Job, WordsRefusal>
-    ensures job { IfOk result (IsJob (codes "run") (rows_of (found_of inner.now))) }
+    ensures job { IfOk result (IsJob (codes "run") (entries_of (found_of inner.now))) }
     ensures refused { IfErr result IsMemory }
 {
     let program = inner.get_flag("program");
     let query = file_of(alloc, inner, "query")?;
-    let rows = text_of(alloc, inner.get_str("rows"))?;
+    let rows = rows_of(alloc, inner.get_str("rows"))?;
     Ok(Job::Run {
         program,
         query,
@@ -258,7 +267,7 @@ fn run_job(alloc: Global, inner: &ArgMatches<'_>) -> Result<Job, WordsRefusal>
 
 // The job of the words behind `compile`.
 fn compile_job(alloc: Global, inner: &ArgMatches<'_>) -> Result<Job, WordsRefusal>
-    ensures job { IfOk result (IsJob (codes "compile") (rows_of (found_of inner.now))) }
+    ensures job { IfOk result (IsJob (codes "compile") (entries_of (found_of inner.now))) }
     ensures refused { IfErr result IsMemory }
 {
     let query = file_of(alloc, inner, "query")?;
@@ -268,7 +277,7 @@ fn compile_job(alloc: Global, inner: &ArgMatches<'_>) -> Result<Job, WordsRefusa
 
 // The job of the words behind `migrate`.
 fn migrate_job(alloc: Global, inner: &ArgMatches<'_>) -> Result<Job, WordsRefusal>
-    ensures job { IfOk result (IsJob (codes "migrate") (rows_of (found_of inner.now))) }
+    ensures job { IfOk result (IsJob (codes "migrate") (entries_of (found_of inner.now))) }
     ensures refused { IfErr result IsMemory }
 {
     let program = file_of(alloc, inner, "program")?;
@@ -276,15 +285,45 @@ fn migrate_job(alloc: Global, inner: &ArgMatches<'_>) -> Result<Job, WordsRefusa
     Ok(Job::Migrate { program, out })
 }
 
+// The job of the words behind `verify`.
+fn verify_job(alloc: Global, inner: &ArgMatches<'_>) -> Result<Job, WordsRefusal>
+    ensures job { IfOk result (IsJob (codes "verify") (entries_of (found_of inner.now))) }
+    ensures refused { IfErr result IsMemory }
+{
+    let query = inner.get_flag("query");
+    let program = file_of(alloc, inner, "program")?;
+    Ok(Job::Verify { query, program })
+}
+
+// The job of the words behind `explain`.
+fn explain_job(alloc: Global, inner: &ArgMatches<'_>) -> Result<Job, WordsRefusal>
+    ensures job { IfOk result (IsJob (codes "explain") (entries_of (found_of inner.now))) }
+    ensures refused { IfErr result IsMemory }
+{
+    let query = inner.get_flag("query");
+    let program = file_of(alloc, inner, "program")?;
+    Ok(Job::Explain { query, program })
+}
+
 // The name of a file that a parse gives: its words have one.
 fn file_of(alloc: Global, inner: &ArgMatches<'_>, id: &str) -> Result<String, WordsRefusal>
-    ensures named { IfOk result (Names (rows_of (found_of inner.now)) id.now) }
+    ensures named { IfOk result (Names (entries_of (found_of inner.now)) id.now) }
     ensures refused { IfErr result IsMemory }
 {
     match text_of(alloc, inner.get_str(id))? {
         Some(name) => Ok(name),
         // This doesn't come: `file` has each of them required, so `clap` refuses words without one.
         None => Err(WordsRefusal::Memory),
+    }
+}
+
+// The name of the file of the rows, if one is named: `-` is the standard input.
+fn rows_of(alloc: Global, name: Option<&str>) -> Result<Option<String>, AllocError>
+    ensures { IfOk result (λ rows. option_map string_bytes rows ≡ rows_named (option_map (λ t. t.now) name.entry)) }
+{
+    match name {
+        Some("-") => Ok(None),
+        name => text_of(alloc, name),
     }
 }
 

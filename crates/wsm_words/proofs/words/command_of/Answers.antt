@@ -1,13 +1,18 @@
 use Rattle.std.proofs.lemmas.Result.{err_from_is_err_and}
-use Rattle.std.proofs.Common.{◌≡◌, ◌∙◌, subst, ap, refl, true, map, List, Option, IfOk}
-use Rattle.clap.specs.Words.{App, Row, Text, is_simple, subcommand_of, takes}
+use Rattle.std.proofs.Common.{◌≡◌, ◌∙◌, subst, sym, ap, refl, true, map, List, Option, IfOk}
+use Rattle.clap.specs.Words.{App, HasKind, Row, Text, fault_of, is_simple, is_simple_and_free, subcommand_of, takes}
 use Rattle.clap.proofs.OnLiterals.{clap_on_literals}
 use Rattle.wsm_words.specs.Words.{the_app, IsJobOf}
+use Rattle.wsm_words.proofs.Faults.{told_memory, told_fault, no_fault}
 use Rattle.wsm_words.proofs.words.command_of.Goals as goal
 
 simple : is_simple the_app ≡ true
 unfolding clap_on_literals
 simple = refl
+
+free : is_simple_and_free the_app ≡ true
+unfolding clap_on_literals
+free = refl
 
 pub returns-clause-job : goal.returns-clause-job
 returns-clause-job c =
@@ -20,4 +25,19 @@ returns-clause-job c =
 pub returns-in_err-matches-clause-refused : goal.returns-in_err-matches-clause-refused
 returns-in_err-matches-clause-refused c =
     let p = err_from_is_err_and c.from_residual-in_err-matches.result c.from_residual-in_err-matches.ensures.1 in
-    rw p.1 (λ (taken : takes the_app (map (λ s. s.now) c.args.words.now) ≡ true). p.2.0 (c.in_err-matches.ensures.passes (ap (λ a. takes a (map (λ s. s.now) c.args.words.now)) c.in_ok-wsm_command.ensures ∙ taken)))
+    rw p.1 (λ (taken : takes the_app (map (λ s. s.now) c.args.words.now) ≡ true). told_memory c.in_err-matches.field-0.0 _ p.2 (c.in_err-matches.ensures.passes (ap (λ a. takes a (map (λ s. s.now) c.args.words.now)) c.in_ok-wsm_command.ensures ∙ taken)))
+
+pub returns-in_err-matches-clause-faults : goal.returns-in_err-matches-clause-faults
+returns-in_err-matches-clause-faults c =
+    let p = err_from_is_err_and c.from_residual-in_err-matches.result c.from_residual-in_err-matches.ensures.1 in
+    let wsm_is = c.in_ok-wsm_command.ensures in
+    let words : List Text = map (λ s. s.now) c.args.words.now in
+    let error = c.in_err-matches.field-0.0 in
+    let has = subst (λ (a : App). HasKind (fault_of a words) error) wsm_is (c.in_err-matches.ensures.kinds (ap is_simple_and_free wsm_is ∙ free)) in
+    rw p.1 (told_fault (fault_of the_app words) error _ p.2 has)
+
+pub returns-clause-faults : goal.returns-clause-faults
+returns-clause-faults c =
+    let wsm_is = c.in_ok-wsm_command.ensures in
+    let words : List Text = map (λ s. s.now) c.args.words.now in
+    no_fault _ c.job_of.result (ap (λ (a : App). fault_of a words) (sym wsm_is) ∙ c.in_ok-matches.ensures.kinds (ap is_simple_and_free wsm_is ∙ free)) c.job_of.ensures.refused

@@ -7,5 +7,5 @@ use Rattle.wsm_words.proofs.words.run_command.Goals as goal
 pub returns : goal.returns
 returns c =
     let rows_is : rule_of c.help-rows.result ≡ rows_rule = search rules in
-    let flagged = c.in_ok-arg.ensures.shape c.program_flag.ensures.local ∙ ap₂ with_rule c.command.ensures c.program_flag.ensures.rule in
+    let flagged = c.in_ok-arg.ensures.shape c.flag.ensures.local ∙ ap₂ with_rule c.command.ensures c.flag.ensures.rule in
     c.in_ok-run.ensures.shape (search rules) ∙ ap₂ with_rule (c.in_ok-arg-2.ensures.shape c.file.ensures.local ∙ ap₂ with_rule flagged c.file.ensures.rule) rows_is

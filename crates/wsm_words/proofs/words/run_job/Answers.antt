@@ -1,6 +1,7 @@
-use Rattle.std.proofs.Common.{◌∙◌, refl, codes}
+use Rattle.std.proofs.Common.{◌∙◌, ap, refl, codes}
 use Rattle.clap.specs.Words.{found_of}
 use Rattle.clap.proofs.WalkLemmas.{first_value-rows, one_text-rows}
+use Rattle.wsm_words.specs.Words.{rows_named}
 use Rattle.wsm_words.proofs.words.run_job.Goals as goal
 
 pub returns-clause-job : goal.returns-clause-job
@@ -14,5 +15,5 @@ returns-clause-job c =
         λ e. flag.other (one_text-rows found (codes "program") ∙ e),
       ),
       c.in_ok-query.ensures.named,
-      c.in_ok-rows.ensures ∙ c.get_str.ensures ∙ first_value-rows found (codes "rows"),
+      c.in_ok-rows.ensures ∙ ap rows_named (c.get_str.ensures ∙ first_value-rows found (codes "rows")),
     )

@@ -1,0 +1,13 @@
+use Rattle.std.proofs.Common.{◌∙◌, refl, codes}
+use Rattle.clap.specs.Words.{found_of}
+use Rattle.clap.proofs.WalkLemmas.{one_text-rows}
+use Rattle.wsm_words.proofs.words.verify_job.Goals as goal
+
+pub returns-clause-job : goal.returns-clause-job
+returns-clause-job c =
+    let text = one_text-rows (found_of c.args.inner.now) (codes "query") in
+    let flag = c.get_flag-query.ensures in (
+      refl,
+      (λ e. flag.none (text ∙ e), λ e. flag.value (text ∙ e), λ e. flag.other (text ∙ e)),
+      c.in_ok-program.ensures.named,
+    )

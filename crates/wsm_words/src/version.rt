@@ -1,0 +1,22 @@
+//! The version of the program.
+
+ghost use Rattle.std.specs.Prelude.{◌≡◌, ◌++◌, IfOk, codes, string_bytes};
+
+use std::alloc::{AllocError, Global};
+
+/// The version that the program goes by.
+pub const VERSION: &str = "1.0.0";
+
+/// The kit that it is proved with.
+pub const KIT: &str = "13f";
+
+/// The commit that it is built of, as its hash. A build of no known commit has zeros. This text stands
+/// in the built file once, so what builds the program can put the hash in its place there.
+pub const COMMIT: &str = "0000000000000000000000000000000000000000";
+
+/// What `--version` tells behind the program's name.
+pub fn version_text(alloc: Global) -> Result<String, AllocError>
+    ensures { IfOk result (λ text. string_bytes text ≡ VERSION.now ++ codes " (kit " ++ KIT.now ++ codes ", commit " ++ COMMIT.now ++ codes ")") }
+{
+    format!(in alloc; "{VERSION} (kit {KIT}, commit {COMMIT})")
+}
