@@ -68,7 +68,10 @@ fn a_device_fails_in_a_turn_of_many_lines(rt: HostRuntime) -> Result<(), Fail> {
     Ok(())
 }
 
-// Gives a row a call, a thousand of them, and notes how many lines were written at the last.
+// More rows than a run could give up at unseen.
+const ROWS: usize = 5_000;
+
+// Gives a row that is no event a call, and notes how many lines were written at the last.
 #[derive(Drop)]
 struct GivesRows<'a> {
     given: usize,
@@ -78,7 +81,7 @@ struct GivesRows<'a> {
 
 impl Read for GivesRows<'_> {
     fn read(&mut self, buf: &mut [u8]) -> io::Result<usize> {
-        if self.given >= 1_000 || buf.len() < 2 {
+        if self.given >= ROWS || buf.len() < 2 {
             return Ok(0);
         }
         self.noted.set(self.lines.get());
@@ -116,8 +119,8 @@ fn a_turn_is_written_before_the_next_row_is_read(rt: HostRuntime) -> Result<(), 
     };
     let mut out = Guarded::new(CountsLines(&lines));
     let totals = run_query(rt.alloc(), QUERY, rows, &mut out)?;
-    assert_eq!(rt; totals.refused, 1_000);
-    assert_eq!(rt; noted.get(), 999);
-    assert_eq!(rt; lines.get(), 1_001);
+    assert_eq!(rt; totals.refused, 5_000);
+    assert_eq!(rt; noted.get(), 4_999);
+    assert_eq!(rt; lines.get(), 5_001);
     Ok(())
 }
