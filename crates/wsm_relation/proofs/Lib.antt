@@ -7,4 +7,6 @@ pub mod Copies
 pub mod Entries
 pub mod Netted
 pub mod Summing
+pub mod Merging
+pub mod Settled
 pub mod ToldChanges

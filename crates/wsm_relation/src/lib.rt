@@ -32,3 +32,4 @@ mod changes;
 mod order;
 mod relation;
 mod rows;
+mod steps;
