@@ -12,8 +12,9 @@ PROGRAM is the built one where it's left out (crates/wsm_cli/out/wsm_cli).
 - standing: 500 rows that stand, and 100 rises with one record in between, whose rows RSTREAM writes.
 - sessions: one record for each session of one key, whose times rise, fall and are drawn; then a watermark.
 
-Prints tables of millions of instructions (valgrind --tool=callgrind), at both sizes, with the growth, and how many times
-the least of panes it is. The records' own share is told beside. With --json, writes all numbers to a file.
+Prints a table of millions of instructions (valgrind --tool=callgrind): at both sizes, 49,500 and 99,000 panes where none
+are named, with the growth, how many times the least of panes it is, and the same of the records before. What a rise of
+the standing rows takes comes behind it. With --json, writes all numbers to a file. A run that fails ends it.
 
 example: bench/stalls.py --only panes,rstream
 """
@@ -21,6 +22,7 @@ import argparse
 import json
 import random
 import re
+import shutil
 import subprocess
 import sys
 import tempfile
@@ -42,7 +44,7 @@ ORDERS = ("rising", "falling", "equal", "random")
 
 
 def counted(program, query, rows, folder):
-    """The instructions of a run, which must end well and write."""
+    """The instructions of a run, which must end well."""
     (folder / "query.wsm").write_text(query)
     (folder / "rows.csv").write_text("".join(rows))
     words = ["valgrind", "--tool=callgrind", "--callgrind-out-file=/dev/null", program, "run", "query.wsm", "rows.csv"]
@@ -125,6 +127,9 @@ def main():
     if any(case not in CASES for case in cases) or len(sizes) != 2 or any(size % KEYS or not size for size in sizes):
         words.error(f"cases are {', '.join(CASES)}; sizes are two multiples of {KEYS}")
     program, found, least = Path(asked.program).absolute(), [], None
+    for needed in ("valgrind", str(program)):
+        if not shutil.which(needed):
+            sys.exit(f"stalls.py: no {needed}")
     print(f"| case | order | {sizes[0]:,} | {sizes[1]:,} | growth | times panes | records, {sizes[1]:,} | growth |")
     print("|---|---|---:|---:|---:|---:|---:|---:|")
     with tempfile.TemporaryDirectory() as name:
