@@ -22,7 +22,7 @@ use Rattle.wsm_firing.specs.declared.streams.Kept.{Kept}
 use Rattle.wsm_firing.specs.declared.streams.Kept.TheVariants.{Changed}
 use Rattle.wsm_firing.specs.declared.streams.Kept.TheVariants as kept
 use Rattle.wsm_firing.specs.Streams.{AreWithin, HasChanged, HasRoomFor, IsToldOf, relation_before, relation_kept}
-use Rattle.wsm_firing.specs.StreamsKept.{HasRoomOfChanges, IsReserved, form_kept, numbers_kept, numbers_after, side_form}
+use Rattle.wsm_firing.specs.StreamsKept.{HasRoomOfChanges, IsReserved, form_kept, numbers_kept, numbers_after, room_of, side_form}
 
 abbrev pub Rows : Type 0
 Rows = List (List Cell)
@@ -38,7 +38,7 @@ changed_less r es before rest h = record { ordered = h.ordered; delta = shifted-
 pub changed_more : (r : List Cell) (es : Numbers) (before rest : Rows) → HasChanged es before rest → HasChanged (shifted r (pos 1) es) before (r ∷ rest)
 changed_more r es before rest h = record { ordered = h.ordered; delta = shifted-delta r (pos 1) es refl h.delta; change = change_more r before rest es h.delta h.change }
 
-module _ (r : List Cell) (es : Numbers) (before rest : Rows) (room most : ℕ) (within : AreWithin room before (r ∷ rest)) (twice : most ≡ room + room) where
+module _ (r : List Cell) (es : Numbers) (before rest : Rows) (room most : ℕ) (within : AreWithin room before (r ∷ rest)) (enough : length before + room ≤ most) where
   room_at : (n : ℕ) → (number_of r es ≡ pos 0 → n < most) → (number_of r es ≢ pos 0) ⊎ (n < most)
   room_at n less = elim (cases_Bool (int_eq (number_of r es) (pos 0))) [
     | inl none ↦ inr (less (is_zero (number_of r es) none))
@@ -50,10 +50,10 @@ module _ (r : List Cell) (es : Numbers) (before rest : Rows) (room most : ℕ) (
       let next = changed_less r es before rest h in
       let few : length (shifted r (negsuc 0) es) ≤ length before + length rest = few_numbers before rest (shifted r (negsuc 0) es) next.delta next.change in
       let one : length (shifted r (negsuc 0) es) ≡ suc (length es) = one_number_more r (negsuc 0) es h.delta none in
-      omega (arith, few, one, within.few_before, within.few_now, twice))
+      omega (arith, few, one, within.few_now, enough))
 
   pub room_more : HasChanged es before rest → (number_of r es ≢ pos 0) ⊎ (length es < most)
-  room_more h = inr (let few : length es ≤ length before + length rest = few_numbers before rest es h.delta h.change in omega (arith, few, within.few_before, within.few_now, twice))
+  room_more h = inr (let few : length es ≤ length before + length rest = few_numbers before rest es h.delta h.change in omega (arith, few, within.few_now, enough))
 
   pub fits_less : room ≤ 100000 → HasChanged es before (r ∷ rest) → negsuc 9223372036854775807 <ℤ number_of r es
   fits_less few h = let low = number_low before (r ∷ rest) es h.delta h.change r room within.few_before in omega (arith, ints, few, low)
@@ -85,6 +85,12 @@ room_for : (s : Side) (n rows capacity : ℕ) → HasRoomFor (side_form s) n row
 room_for Gained n rows capacity h = h
 room_for Lost n rows capacity h = h
 room_for Standing n rows capacity h = h
+
+-- there is room for the rows before and those now
+enough_for : (s : Side) (es : Numbers) (before now : Rows) (room most : ℕ) → most ≡ room_of s room → IsToldOf (side_form s) es before now → length before ≤ room → length before + room ≤ most
+enough_for Gained es before now room most is told few = omega (arith, is, few)
+enough_for Lost es before now room most is told few = omega (arith, is, few)
+enough_for Standing es before now room most is told few = omega (arith, is, ap length told.none)
 
 -- ---- by the form
 
@@ -172,8 +178,11 @@ module _ (k : Kept) (s : Side) (changes : Delta) (is : k ≡ Changed s changes) 
   pub changes_rows : (before now : Rows) (mark : ℤ) → IsToldBy k before now → map (changed_row s mark) (changed_rows s changes.numbers) ≡ stream_rows (form_kept k) mark before (sorted_rows now)
   changes_rows before now mark told = changes_written s changes.numbers before now mark (told_by before now told) ∙ ap (λ (j : Kept). stream_rows (form_kept j) mark before (sorted_rows now)) (sym is)
 
-  pub room_of_changes : (room : ℕ) → IsReserved room k → HasRoomOfChanges room changes
+  pub room_of_changes : (room : ℕ) → IsReserved room k → HasRoomOfChanges s room changes
   room_of_changes room h = subst (IsReserved room) is h
+
+  pub enough_of : (room : ℕ) (before now : Rows) → IsReserved room k → IsToldBy k before now → length before ≤ room → length before + room ≤ changes.room
+  enough_of room before now h told few = enough_for s changes.numbers before now room changes.room (room_of_changes room h).enough (told_by before now told) few
 
   pub room_for_changes : (n rows capacity : ℕ) → HasRoomFor (form_kept k) n rows capacity → rows + n ≤ capacity
   room_for_changes n rows capacity h = room_for s n rows capacity (subst (λ j. HasRoomFor (form_kept j) n rows capacity) is h)

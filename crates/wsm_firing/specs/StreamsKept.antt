@@ -1,5 +1,5 @@
 -- What is kept of the relation for its streams.
-use Rattle.std.specs.Prelude.{◌≡◌, ℕ, ◌+◌, ◌≤◌, List, [], ℤ}
+use Rattle.std.specs.Prelude.{◌≡◌, ℕ, ◌*◌, ◌≤◌, List, [], ℤ}
 use Rattle.wsm_record.specs.declared.limits.TheConstants.{MAX_PANES}
 use Rattle.wsm_record.specs.declared.cell.Cell.{Cell}
 use Rattle.wsm_record.specs.declared.words.Form.{Form}
@@ -33,10 +33,16 @@ numbers_after Standing numbers = numbers
 
 -- ---- what is reserved
 
-pub record HasRoomOfChanges (room : ℕ) (changes : Delta) : Type 0 where
+-- for how many rows: those of the last instant and those now, or these alone, where there was none
+abbrev pub room_of : Side → ℕ → ℕ
+room_of Gained room = 2 * room
+room_of Lost room = 2 * room
+room_of Standing room = room
+
+pub record HasRoomOfChanges (side : Side) (room : ℕ) (changes : Delta) : Type 0 where
   pub most : room ≤ MAX_PANES
-  pub twice : changes.room ≡ room + room
+  pub enough : changes.room ≡ room_of side room
 
 abbrev pub IsReserved : ℕ → Kept → Type 0
 IsReserved room Nothing = Unit {0}
-IsReserved room (Changed side changes) = HasRoomOfChanges room changes
+IsReserved room (Changed side changes) = HasRoomOfChanges side room changes

@@ -13,7 +13,7 @@ ghost use Rattle.wsm_semantics.specs.Summaries.{Pane, standing_row};
 ghost use Rattle.wsm_semantics.specs.Relation.{stream_rows};
 ghost use Rattle.wsm_firing.specs.Streams.{AreAlike, CanAdvance, CanGain, CanLose, HasRoomFor, IsTold, relation_kept};
 ghost use Rattle.wsm_relation.specs.Delta.{changed_row, changed_rows};
-ghost use Rattle.wsm_firing.specs.StreamsKept.{numbers_after};
+ghost use Rattle.wsm_firing.specs.StreamsKept.{numbers_after, room_of};
 
 use std::alloc::{AllocError, Global};
 use std::marker::Model;
@@ -212,9 +212,21 @@ impl Streams {
 // No changes yet.
 fn changed(alloc: Global, side: Side, room: usize) -> Result<Kept, AllocError>
     requires { room ≤ MAX_PANES }
-    ensures { IfOk result (λ k. k ≡ Kept.Changed side (record { numbers = []; room = 2 * room; columns = MAX_COLUMNS })) }
+    ensures { IfOk result (λ k. k ≡ Kept.Changed side (record { numbers = []; room = room_of side room; columns = MAX_COLUMNS })) }
 {
-    Ok(Kept::Changed(side, Changes::open(alloc, 2 * room, MAX_COLUMNS)?))
+    let changes = Changes::open(alloc, places_for(side, room), MAX_COLUMNS)?;
+    Ok(Kept::Changed(side, changes))
+}
+
+// For how many rows a side needs room: those of the last instant and those now, or these alone.
+fn places_for(side: Side, room: usize) -> usize
+    requires { room ≤ MAX_PANES }
+    ensures { result ≡ room_of side room }
+{
+    match side {
+        Side::Gained | Side::Lost => 2 * room,
+        Side::Standing => room,
+    }
 }
 
 // Goes on from what is written: where a side of what changed is, from no changes.
