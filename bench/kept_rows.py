@@ -27,6 +27,12 @@ from query_text import Query, Refused
 from random_queries import query_of, rows_of
 
 
+def built_by(program):
+    """The program itself, where it is given as the script at the top of a repository."""
+    crates = program.resolve().parent / "crates"
+    return crates / "wsm_cli/out/wsm_cli" if crates.is_dir() else program.absolute()
+
+
 def with_records(text, records):
     return re.sub(r"RECORDS \d+", f"RECORDS {records}", text)
 
@@ -111,9 +117,9 @@ def main(words):
     if not words or words[0] in ("-h", "--help"):
         sys.exit(__doc__)
     if words[0] == "--share":
-        runs, first, last, share = Runs(Path(words[2]).absolute()), 1, 10**9, int(words[1])
+        runs, first, last, share = Runs(built_by(Path(words[2]))), 1, 10**9, int(words[1])
     else:
-        runs, first, last, share = Runs(Path(words[0]).absolute()), int(words[1]), int(words[2]), None
+        runs, first, last, share = Runs(built_by(Path(words[0]))), int(words[1]), int(words[2]), None
     counts, failed = Counter(), 0
     for number in range(first, last + 1):
         if counts["cases"] == share:
