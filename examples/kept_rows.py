@@ -7,6 +7,7 @@ watermarks the last one of each source in front of each such record and at the e
 import subprocess
 import sys
 import tempfile
+import zlib
 from dataclasses import dataclass
 from itertools import accumulate, takewhile
 from pathlib import Path
@@ -37,6 +38,7 @@ class Head:
     kept: int = 0  # the rows of the file that stand for them, this one too
     own: int = 0  # the lines that a run over these writes
     records: int = 0  # the RECORDS by which it takes as many records as a run over all would
+    query: int = 0  # a sum of the query's text
 
     @staticmethod
     def of(row):
@@ -44,12 +46,26 @@ class Head:
         if not row.startswith(TAG + b","):
             return Head()
         cells = row.split(b",")[1:]
-        if len(cells) != 5 or not all(cell.isdigit() for cell in cells):
+        if len(cells) != 6 or not all(cell.isdigit() for cell in cells):
             raise Stopped(f"the first row is none that keep wrote: {row[:60].decode('latin-1')}")
         return Head(*map(int, cells))
 
     def row(self):
-        return b",".join([TAG, *(b"%d" % number for number in (self.rows, self.lines, self.kept, self.own, self.records))])
+        numbers = (self.rows, self.lines, self.kept, self.own, self.records, self.query)
+        return b",".join([TAG, *(b"%d" % number for number in numbers)])
+
+    def check(self, text):
+        """Raises where the rows were kept for another query."""
+        if self.kept and self.query != sum_of(text):
+            raise Stopped("the rows were kept for another query")
+
+
+def sum_of(text):
+    """A sum of a query's tokens, whatever its RECORDS are."""
+    tokens, found = Tokens(text), []
+    while (token := tokens.next())[0] != "end":
+        found.append("" if found[-1:] == ["RECORDS"] else token[1])
+    return zlib.crc32(" ".join(found).encode("latin-1"))
 
 
 @dataclass
@@ -211,10 +227,10 @@ def cut(runs, text, rows, taken=None):
         raise Stopped(f"{head.kept} rows were kept, and {len(rows)} are there")
     turns, _ = runs.turns(text, rows)
     query = Query(text)
+    head.check(text)
     counts = list(accumulate(map(len, turns)))
     if head.kept and counts[head.kept - 1] != head.own:
-        told = f"the first {head.kept} rows were kept for a query that writes {head.own} lines for them, and this one writes"
-        raise Stopped(f"{told} {counts[head.kept - 1]}")
+        raise Stopped(f"for the first {head.kept} rows {head.own} lines were written as they were kept, and {counts[head.kept - 1]} now")
     size = len(rows)
     if taken is not None:
         mine = taken - head.lines + head.own
@@ -243,11 +259,15 @@ def cut(runs, text, rows, taken=None):
     own = sum(map(len, again[:len(stay) + 1]))
     lines = head.lines + sum(map(len, turns[:size])) - head.own
     left = query.records - told["admitted"] + of_kept
+    refused = sum(bool(lines) and lines[0].startswith(b"refused,") for lines in probed[bool(head.kept):])
     told = {
-        "rows": size, "kept": len(stay), "records": of_kept, "watermarks": len(stay) - of_kept, "dropped": records - of_kept,
-        "late": verdicts["late"], "unselected": verdicts["admitted"] - records, "behind": len(rest),
+        "rows": size - bool(head.kept), "records": of_kept, "watermarks": len(stay) - of_kept, "dropped": records - of_kept,
+        "left out": verdicts["admitted"] - records, "late": verdicts["late"], "refused": refused,
+        "watermarks before": len(events) - records - (len(stay) - of_kept), "behind": len(rest),
     }
-    return Cut(Head(head.rows + size - head.kept, lines, len(stay) + 1, own, left), stay, rest, told)
+    if told["rows"] != sum(count for name, count in told.items() if name not in ("rows", "behind")):
+        raise Stopped(f"some rows would be lost: {told}")
+    return Cut(Head(head.rows + size - head.kept, lines, len(stay) + 1, own, left, sum_of(text)), stay, rest, told)
 
 
 def whole_rows(data):
