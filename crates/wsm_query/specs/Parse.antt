@@ -17,6 +17,13 @@ query_text = do
   _ ← ended
   give q
 
+-- a rule, behind which only the end of the text is taken
+abbrev pub to_end : {A : Type 0} → Rule A → Rule A
+to_end rule = do
+  x ← rule
+  _ ← ended
+  give x
+
 abbrev pub outcome : List ℕ → Read Query → Result Query ParseRefusal
 outcome text (Took q rest) = Ok q
 outcome text (Stopped f) = Err (refusals.Text f.fault (position_of text f.offset))

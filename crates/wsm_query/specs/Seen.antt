@@ -29,7 +29,7 @@ abbrev pub seen_budget : CodeBudget → Budget
 seen_budget b = record { per_record = b.per_record; per_pane = b.per_pane; held = b.held }
 
 abbrev pub seen_selection : Selected → Selection
-seen_selection s = record { columns = map seen_expr s.columns.items; condition = option_map seen_expr s.condition; having = option_map seen_expr s.having }
+seen_selection s = record { columns = map seen_expr s.columns.items; condition = option_map (λ b. seen_expr b.value) s.condition; having = option_map (λ b. seen_expr b.value) s.having }
 
 abbrev pub seen : CodeQuery → Query
 seen q = record {

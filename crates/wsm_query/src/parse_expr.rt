@@ -2,6 +2,9 @@
 //!
 //! `room` is how many levels may still be opened. A level is opened by `(`, by an aggregate's name,
 //! by `IF`, by `NOT` and by the `-` in front of an operand.
+//!
+//! A rule answers its tree in a box: where a later part is refused, letting a box go is one step, and
+//! letting a tree go one for each case that it may be of.
 
 ghost use Rattle.std.specs.Prelude.{◌≡◌, ◌≤◌, option_map, IfOk};
 ghost use Rattle.wsm_tokens.specs.Read.{Gives, count};
@@ -9,6 +12,7 @@ ghost use Rattle.wsm_query.specs.Tree as tree;
 ghost use Rattle.wsm_query.specs.Grammar as rule;
 ghost use Rattle.wsm_query.specs.Grammar.{levels, looked_up};
 ghost use Rattle.wsm_query.specs.Seen.{seen_expr};
+ghost use Rattle.wsm_query.specs.Steps.{numbered};
 
 use crate::expr::{Expr, Op};
 use crate::level::{open, spend};
@@ -19,18 +23,26 @@ use wsm_tokens::{Reader, Stop};
 
 /// `expr`, with all levels left.
 #[tactic(auto, unfolding(crate::specs::Grammar::expr))]
-pub fn expression(alloc: Global, reader: &mut Reader) -> Result<Expr, Stop>
-    ensures gives { Gives seen_expr result reader.new (rule.expr reader.old) }
+pub fn boxed_expression(alloc: Global, reader: &mut Reader) -> Result<Box<Expr>, Stop>
+    ensures gives { Gives (λ b. seen_expr b.value) result reader.new (rule.expr reader.old) }
     ensures onward { count reader.new ≤ count reader.old }
 {
     expr(alloc, reader, MAX_LEVELS)
 }
 
+/// The same, out of its box.
+pub fn expression(alloc: Global, reader: &mut Reader) -> Result<Expr, Stop>
+    ensures gives { Gives seen_expr result reader.new (rule.expr reader.old) }
+    ensures onward { count reader.new ≤ count reader.old }
+{
+    Ok(Box::into_inner(boxed_expression(alloc, reader)?))
+}
+
 // expr = conj { "OR" conj }
 #[cycle(expr)]
 #[tactic(auto, unfolding(crate::specs::Grammar::expr_in, crate::specs::Grammar::chained))]
-fn expr(alloc: Global, reader: &mut Reader, room: usize) -> Result<Expr, Stop>
-    ensures gives { Gives seen_expr result reader.new (rule.expr_in (levels room) reader.old) }
+fn expr(alloc: Global, reader: &mut Reader, room: usize) -> Result<Box<Expr>, Stop>
+    ensures gives { Gives (λ b. seen_expr b.value) result reader.new (rule.expr_in (levels room) reader.old) }
     ensures onward { count reader.new ≤ count reader.old }
 {
     let mut left = conj(alloc, reader, room)?;
@@ -46,8 +58,8 @@ fn expr(alloc: Global, reader: &mut Reader, room: usize) -> Result<Expr, Stop>
 // conj = neg { "AND" neg }
 #[cycle(expr)]
 #[tactic(auto, unfolding(crate::specs::Grammar::conj, crate::specs::Grammar::chained))]
-fn conj(alloc: Global, reader: &mut Reader, room: usize) -> Result<Expr, Stop>
-    ensures gives { Gives seen_expr result reader.new (rule.conj (levels room) reader.old) }
+fn conj(alloc: Global, reader: &mut Reader, room: usize) -> Result<Box<Expr>, Stop>
+    ensures gives { Gives (λ b. seen_expr b.value) result reader.new (rule.conj (levels room) reader.old) }
     ensures onward { count reader.new ≤ count reader.old }
 {
     let mut left = neg(alloc, reader, room)?;
@@ -63,8 +75,8 @@ fn conj(alloc: Global, reader: &mut Reader, room: usize) -> Result<Expr, Stop>
 // neg = "NOT" neg | cmp
 #[cycle(expr)]
 #[tactic(auto, unfolding(crate::specs::Grammar::neg))]
-fn neg(alloc: Global, reader: &mut Reader, room: usize) -> Result<Expr, Stop>
-    ensures gives { Gives seen_expr result reader.new (rule.neg (levels room) reader.old) }
+fn neg(alloc: Global, reader: &mut Reader, room: usize) -> Result<Box<Expr>, Stop>
+    ensures gives { Gives (λ b. seen_expr b.value) result reader.new (rule.neg (levels room) reader.old) }
     ensures onward { count reader.new ≤ count reader.old }
 {
     if !reader.begins(b"NOT") {
@@ -72,14 +84,14 @@ fn neg(alloc: Global, reader: &mut Reader, room: usize) -> Result<Expr, Stop>
     }
     let room = open(reader, room)?;
     let operand = neg(alloc, reader, room)?;
-    Ok(Expr::Not(Box::new(alloc, operand)?))
+    Ok(Box::new(alloc, Expr::Not(operand))?)
 }
 
 // cmp = sum [ ("=" | "<>" | "<" | "<=" | ">" | ">=") sum ]
 #[cycle(expr)]
 #[tactic(auto, unfolding(crate::specs::Grammar::cmp))]
-fn cmp(alloc: Global, reader: &mut Reader, room: usize) -> Result<Expr, Stop>
-    ensures gives { Gives seen_expr result reader.new (rule.cmp (levels room) reader.old) }
+fn cmp(alloc: Global, reader: &mut Reader, room: usize) -> Result<Box<Expr>, Stop>
+    ensures gives { Gives (λ b. seen_expr b.value) result reader.new (rule.cmp (levels room) reader.old) }
     ensures onward { count reader.new ≤ count reader.old }
 {
     let left = sum(alloc, reader, room)?;
@@ -94,8 +106,8 @@ fn cmp(alloc: Global, reader: &mut Reader, room: usize) -> Result<Expr, Stop>
 // sum = prod { ("+" | "-") prod }
 #[cycle(expr)]
 #[tactic(auto, unfolding(crate::specs::Grammar::sum, crate::specs::Grammar::chained))]
-fn sum(alloc: Global, reader: &mut Reader, room: usize) -> Result<Expr, Stop>
-    ensures gives { Gives seen_expr result reader.new (rule.sum (levels room) reader.old) }
+fn sum(alloc: Global, reader: &mut Reader, room: usize) -> Result<Box<Expr>, Stop>
+    ensures gives { Gives (λ b. seen_expr b.value) result reader.new (rule.sum (levels room) reader.old) }
     ensures onward { count reader.new ≤ count reader.old }
 {
     let mut left = prod(alloc, reader, room)?;
@@ -111,8 +123,8 @@ fn sum(alloc: Global, reader: &mut Reader, room: usize) -> Result<Expr, Stop>
 // prod = unary { ("*" | "/" | "%") unary }
 #[cycle(expr)]
 #[tactic(auto, unfolding(crate::specs::Grammar::prod, crate::specs::Grammar::chained))]
-fn prod(alloc: Global, reader: &mut Reader, room: usize) -> Result<Expr, Stop>
-    ensures gives { Gives seen_expr result reader.new (rule.prod (levels room) reader.old) }
+fn prod(alloc: Global, reader: &mut Reader, room: usize) -> Result<Box<Expr>, Stop>
+    ensures gives { Gives (λ b. seen_expr b.value) result reader.new (rule.prod (levels room) reader.old) }
     ensures onward { count reader.new ≤ count reader.old }
 {
     let mut left = unary(alloc, reader, room)?;
@@ -128,8 +140,8 @@ fn prod(alloc: Global, reader: &mut Reader, room: usize) -> Result<Expr, Stop>
 // unary = "-" unary | atom
 #[cycle(expr)]
 #[tactic(auto, unfolding(crate::specs::Grammar::unary))]
-fn unary(alloc: Global, reader: &mut Reader, room: usize) -> Result<Expr, Stop>
-    ensures gives { Gives seen_expr result reader.new (rule.unary (levels room) reader.old) }
+fn unary(alloc: Global, reader: &mut Reader, room: usize) -> Result<Box<Expr>, Stop>
+    ensures gives { Gives (λ b. seen_expr b.value) result reader.new (rule.unary (levels room) reader.old) }
     ensures onward { count reader.new ≤ count reader.old }
 {
     if !reader.begins(b"-") {
@@ -137,24 +149,24 @@ fn unary(alloc: Global, reader: &mut Reader, room: usize) -> Result<Expr, Stop>
     }
     let room = open(reader, room)?;
     let operand = unary(alloc, reader, room)?;
-    Ok(Expr::Minus(Box::new(alloc, operand)?))
+    Ok(Box::new(alloc, Expr::Minus(operand))?)
 }
 
 // atom = num | agg "(" expr ")" | "COUNT" "(" "*" ")" | "IF" .. "END" | "(" expr ")" | leaf
 #[cycle(expr)]
-#[tactic(auto, unfolding(crate::specs::Grammar::atom))]
-fn atom(alloc: Global, reader: &mut Reader, room: usize) -> Result<Expr, Stop>
-    ensures gives { Gives seen_expr result reader.new (rule.atom (levels room) reader.old) }
+#[tactic(auto, unfolding(crate::specs::Grammar::atom, crate::specs::Steps::numbered))]
+fn atom(alloc: Global, reader: &mut Reader, room: usize) -> Result<Box<Expr>, Stop>
+    ensures gives { Gives (λ b. seen_expr b.value) result reader.new (rule.atom (levels room) reader.old) }
     ensures onward { count reader.new ≤ count reader.old }
 {
     if reader.begins_number() {
-        return Ok(Expr::Number(reader.number()?));
+        return number(alloc, reader);
     }
     if let Some(kind) = agg(reader) {
         return aggregate(alloc, reader, room, kind);
     }
     if reader.begins(b"COUNT") {
-        return count_of(reader, room);
+        return count_of(alloc, reader, room);
     }
     if reader.begins(b"IF") {
         return choice(alloc, reader, room);
@@ -162,28 +174,28 @@ fn atom(alloc: Global, reader: &mut Reader, room: usize) -> Result<Expr, Stop>
     if reader.begins(b"(") {
         return brackets(alloc, reader, room);
     }
-    leaf(reader)
+    boxed_leaf(alloc, reader)
 }
 
 // agg "(" expr ")"
 #[cycle(expr)]
 #[tactic(auto, unfolding(crate::specs::Grammar::aggregate))]
-fn aggregate(alloc: Global, reader: &mut Reader, room: usize, kind: Kind) -> Result<Expr, Stop>
-    ensures gives { Gives seen_expr result reader.new (rule.aggregate (levels room) kind reader.old) }
+fn aggregate(alloc: Global, reader: &mut Reader, room: usize, kind: Kind) -> Result<Box<Expr>, Stop>
+    ensures gives { Gives (λ b. seen_expr b.value) result reader.new (rule.aggregate (levels room) kind reader.old) }
     ensures onward { count reader.new ≤ count reader.old }
 {
     let room = open(reader, room)?;
     reader.ask(b"(")?;
     let operand = expr(alloc, reader, room)?;
     reader.ask(b")")?;
-    Ok(Expr::Aggregate(kind, Box::new(alloc, operand)?))
+    Ok(Box::new(alloc, Expr::Aggregate(kind, operand))?)
 }
 
 // "IF" expr "THEN" expr "ELSE" expr "END"
 #[cycle(expr)]
 #[tactic(auto, unfolding(crate::specs::Grammar::choice))]
-fn choice(alloc: Global, reader: &mut Reader, room: usize) -> Result<Expr, Stop>
-    ensures gives { Gives seen_expr result reader.new (rule.choice (levels room) reader.old) }
+fn choice(alloc: Global, reader: &mut Reader, room: usize) -> Result<Box<Expr>, Stop>
+    ensures gives { Gives (λ b. seen_expr b.value) result reader.new (rule.choice (levels room) reader.old) }
     ensures onward { count reader.new ≤ count reader.old }
 {
     let room = open(reader, room)?;
@@ -191,13 +203,13 @@ fn choice(alloc: Global, reader: &mut Reader, room: usize) -> Result<Expr, Stop>
     let first = branch(alloc, reader, room, b"THEN")?;
     let second = branch(alloc, reader, room, b"ELSE")?;
     reader.ask(b"END")?;
-    Ok(conditional(alloc, test, first, second)?)
+    Ok(Box::new(alloc, Expr::If(test, first, second))?)
 }
 
 // a word and an expr
 #[cycle(expr)]
-fn branch(alloc: Global, reader: &mut Reader, room: usize, word: &[u8]) -> Result<Expr, Stop>
-    ensures gives { Gives seen_expr result reader.new (rule.after word.now (rule.expr_in (levels room)) reader.old) }
+fn branch(alloc: Global, reader: &mut Reader, room: usize, word: &[u8]) -> Result<Box<Expr>, Stop>
+    ensures gives { Gives (λ b. seen_expr b.value) result reader.new (rule.after word.now (rule.expr_in (levels room)) reader.old) }
     ensures onward { count reader.new ≤ count reader.old }
 {
     reader.ask(word)?;
@@ -207,27 +219,46 @@ fn branch(alloc: Global, reader: &mut Reader, room: usize, word: &[u8]) -> Resul
 // "(" expr ")"
 #[cycle(expr)]
 #[tactic(auto, unfolding(crate::specs::Grammar::brackets))]
-fn brackets(alloc: Global, reader: &mut Reader, room: usize) -> Result<Expr, Stop>
-    ensures gives { Gives seen_expr result reader.new (rule.brackets (levels room) reader.old) }
+fn brackets(alloc: Global, reader: &mut Reader, room: usize) -> Result<Box<Expr>, Stop>
+    ensures gives { Gives (λ b. seen_expr b.value) result reader.new (rule.brackets (levels room) reader.old) }
     ensures onward { count reader.new ≤ count reader.old }
 {
     let room = open(reader, room)?;
     let inner = expr(alloc, reader, room)?;
     reader.ask(b")")?;
-    Ok(Expr::Brackets(Box::new(alloc, inner)?))
+    Ok(Box::new(alloc, Expr::Brackets(inner))?)
 }
 
 // "COUNT" "(" "*" ")"
 #[tactic(auto, unfolding(crate::specs::Grammar::count_of))]
-fn count_of(reader: &mut Reader, room: usize) -> Result<Expr, Stop>
-    ensures gives { Gives seen_expr result reader.new (rule.count_of (levels room) reader.old) }
+fn count_of(alloc: Global, reader: &mut Reader, room: usize) -> Result<Box<Expr>, Stop>
+    ensures gives { Gives (λ b. seen_expr b.value) result reader.new (rule.count_of (levels room) reader.old) }
     ensures onward { count reader.new ≤ count reader.old }
 {
     let _ = open(reader, room)?;
     reader.ask(b"(")?;
     reader.ask(b"*")?;
     reader.ask(b")")?;
-    Ok(Expr::Count)
+    Ok(Box::new(alloc, Expr::Count)?)
+}
+
+// num
+#[tactic(auto, unfolding(crate::specs::Steps::numbered))]
+fn number(alloc: Global, reader: &mut Reader) -> Result<Box<Expr>, Stop>
+    ensures gives { Gives (λ b. seen_expr b.value) result reader.new (numbered reader.old) }
+    ensures onward { count reader.new ≤ count reader.old }
+{
+    let value = reader.number()?;
+    Ok(Box::new(alloc, Expr::Number(value))?)
+}
+
+// leaf, in a box
+fn boxed_leaf(alloc: Global, reader: &mut Reader) -> Result<Box<Expr>, Stop>
+    ensures gives { Gives (λ b. seen_expr b.value) result reader.new (rule.leaf reader.old) }
+    ensures onward { count reader.new ≤ count reader.old }
+{
+    let leaf = leaf(reader)?;
+    Ok(Box::new(alloc, leaf)?)
 }
 
 // "TRUE" | "FALSE" | "KEY" [ "." name ] | name [ "." name ]
@@ -337,32 +368,20 @@ fn prod_op(reader: &Reader) -> Option<Op>
     }
 }
 
-fn or(alloc: Global, left: Expr, right: Expr) -> Result<Expr, AllocError>
-    ensures { IfOk result (λ e. seen_expr e ≡ tree.Or (seen_expr left) (seen_expr right)) }
+fn or(alloc: Global, left: Box<Expr>, right: Box<Expr>) -> Result<Box<Expr>, AllocError>
+    ensures { IfOk result (λ b. seen_expr b.value ≡ tree.Or (seen_expr left.value) (seen_expr right.value)) }
 {
-    Ok(Expr::Or(Box::new(alloc, left)?, Box::new(alloc, right)?))
+    Ok(Box::new(alloc, Expr::Or(left, right))?)
 }
 
-fn and(alloc: Global, left: Expr, right: Expr) -> Result<Expr, AllocError>
-    ensures { IfOk result (λ e. seen_expr e ≡ tree.And (seen_expr left) (seen_expr right)) }
+fn and(alloc: Global, left: Box<Expr>, right: Box<Expr>) -> Result<Box<Expr>, AllocError>
+    ensures { IfOk result (λ b. seen_expr b.value ≡ tree.And (seen_expr left.value) (seen_expr right.value)) }
 {
-    Ok(Expr::And(Box::new(alloc, left)?, Box::new(alloc, right)?))
+    Ok(Box::new(alloc, Expr::And(left, right))?)
 }
 
-fn conditional(alloc: Global, test: Expr, first: Expr, second: Expr) -> Result<Expr, AllocError>
-    ensures { IfOk result (λ e. seen_expr e ≡ tree.If (seen_expr test) (seen_expr first) (seen_expr second)) }
+fn binary(alloc: Global, op: Op, left: Box<Expr>, right: Box<Expr>) -> Result<Box<Expr>, AllocError>
+    ensures { IfOk result (λ b. seen_expr b.value ≡ tree.Binary op (seen_expr left.value) (seen_expr right.value)) }
 {
-    Ok(Expr::If(
-        Box::new(alloc, test)?,
-        Box::new(alloc, first)?,
-        Box::new(alloc, second)?,
-    ))
-}
-
-fn binary(alloc: Global, op: Op, left: Expr, right: Expr) -> Result<Expr, AllocError>
-    ensures { IfOk result (λ e. seen_expr e ≡ tree.Binary op (seen_expr left) (seen_expr right)) }
-{
-    let left = Box::new(alloc, left)?;
-    let right = Box::new(alloc, right)?;
-    Ok(Expr::Binary(op, left, right))
+    Ok(Box::new(alloc, Expr::Binary(op, left, right))?)
 }

@@ -16,7 +16,8 @@ use crate::query::Query;
 use std::alloc::{AllocError, Global};
 use wsm_tokens::Sign;
 
-/// The text of a query: its tokens, with one space between each two.
+/// The text of a query: its tokens, with one space between each two. For users of the library; the
+/// program prints no query.
 #[tactic(auto, using(crate::proofs::Written::parts), unfolding(crate::specs::Print::print))]
 pub fn print(alloc: Global, query: &Query) -> Result<Vec<u8>, AllocError>
     ensures { IfOk result (λ bytes. bytes.items ≡ print (seen query.now)) }

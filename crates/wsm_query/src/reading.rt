@@ -3,7 +3,7 @@
 ghost use Rattle.std.specs.Prelude.{◌≡◌, Ok, IfOk, codes, map, option_map};
 ghost use Rattle.wsm_tokens.specs.Read.{Gives, number};
 ghost use Rattle.wsm_query.specs.Grammar as rule;
-ghost use Rattle.wsm_query.specs.Parse.{Parses, parse, query_text};
+ghost use Rattle.wsm_query.specs.Parse.{Parses, parse, query_text, to_end};
 ghost use Rattle.wsm_query.specs.Print.{print};
 ghost use Rattle.wsm_query.specs.Seen.{seen, seen_budget, seen_expr, seen_selection};
 
@@ -11,7 +11,7 @@ use crate::clauses::{
     budget, columns, every, fields, form, from_window, mode, names, shape, sources,
 };
 use crate::expr::Expr;
-use crate::parse_expr::expression;
+use crate::parse_expr::boxed_expression;
 use crate::query::{Budget, Query};
 use std::alloc::Global;
 use wsm_record::{Form, Mode, Name};
@@ -32,8 +32,9 @@ struct ClockClauses {
 #[derive(Drop)]
 struct Selected {
     columns: Vec<Expr>,
-    condition: Option<Expr>,
-    having: Option<Expr>,
+    // In boxes, which are let go in one step each where what follows is refused.
+    condition: Option<Box<Expr>>,
+    having: Option<Box<Expr>>,
 }
 
 // The windows, when they fire, and what is written of them.
@@ -61,23 +62,15 @@ pub fn parse(alloc: Global, text: &[u8]) -> Result<Query, ParseRefusal>
 }
 
 // A query, behind which only the end of the text is taken.
-#[tactic(auto, unfolding(crate::specs::Parse::query_text))]
-fn query_text(alloc: Global, reader: &mut Reader) -> Result<Query, Stop>
-    ensures { Gives seen result reader.new (query_text reader.old) }
-{
-    let query = query(alloc, reader)?;
-    reader.ended()?;
-    Ok(query)
-}
-
+//
 // query = "KEYS" names ";" { "FIELD" name type ";" } [ "SOURCES" names ";" ]
 //         "START" num ";" "SKEW" num ";" "LATENESS" num [ "FROM" "WINDOW" ] ";" "RECORDS" num ";"
 //         [ "BUDGET" "RECORD" num "PANE" num "HELD" num ";" ]
 //         "SELECT" expr { "," expr } [ "WHERE" expr ] [ "HAVING" expr ]
 //         "WINDOW" shape mode [ "EARLY" "EVERY" num ] [ "LATE" "EVERY" num ] "EMIT" form ";"
-#[tactic(auto, unfolding(crate::specs::Grammar::query))]
-fn query(alloc: Global, reader: &mut Reader) -> Result<Query, Stop>
-    ensures { Gives seen result reader.new (rule.query reader.old) }
+#[tactic(auto, unfolding(crate::specs::Grammar::query, crate::specs::Parse::query_text))]
+fn query_text(alloc: Global, reader: &mut Reader) -> Result<Query, Stop>
+    ensures { Gives seen result reader.new (query_text reader.old) }
 {
     let keys = keys(alloc, reader)?;
     let fields = fields(alloc, reader)?;
@@ -85,7 +78,7 @@ fn query(alloc: Global, reader: &mut Reader) -> Result<Query, Stop>
     let clock = clock(reader)?;
     let budget = optional_budget(reader)?;
     let selection = selection(alloc, reader)?;
-    let output = output(reader)?;
+    let output = last(reader)?;
     Ok(Query {
         keys,
         fields,
@@ -97,14 +90,32 @@ fn query(alloc: Global, reader: &mut Reader) -> Result<Query, Stop>
         records: clock.records,
         budget,
         columns: selection.columns,
-        condition: selection.condition,
-        having: selection.having,
+        condition: unboxed(selection.condition),
+        having: unboxed(selection.having),
         shape: output.shape,
         mode: output.mode,
         early: output.early,
         late: output.late,
         form: output.form,
     })
+}
+
+// What is last in a query, and the end of the text.
+fn last(reader: &mut Reader) -> Result<Written, Stop>
+    ensures { Gives (λ o. o) result reader.new (to_end rule.output reader.old) }
+{
+    let output = output(reader)?;
+    reader.ended()?;
+    Ok(output)
+}
+
+fn unboxed(condition: Option<Box<Expr>>) -> Option<Expr>
+    ensures { option_map seen_expr result ≡ option_map (λ b. seen_expr b.value) condition }
+{
+    match condition {
+        Some(test) => Some(Box::into_inner(test)),
+        None => None,
+    }
 }
 
 // "KEYS" names ";"
@@ -220,14 +231,14 @@ fn optional_budget(reader: &mut Reader) -> Result<Option<Budget>, Stop>
 }
 
 // [ word expr ]
-fn optional_expr(alloc: Global, reader: &mut Reader, word: &[u8]) -> Result<Option<Expr>, Stop>
-    ensures { Gives (option_map seen_expr) result reader.new (rule.optional word.now rule.expr reader.old) }
+fn optional_expr(alloc: Global, reader: &mut Reader, word: &[u8]) -> Result<Option<Box<Expr>>, Stop>
+    ensures { Gives (option_map (λ b. seen_expr b.value)) result reader.new (rule.optional word.now rule.expr reader.old) }
 {
     if !reader.begins(word) {
         return Ok(None);
     }
     reader.advance();
-    Ok(Some(expression(alloc, reader)?))
+    Ok(Some(boxed_expression(alloc, reader)?))
 }
 
 // [ word "EVERY" num ]

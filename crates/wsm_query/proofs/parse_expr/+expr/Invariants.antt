@@ -46,7 +46,7 @@ decreases-expr l = 16 * l.room + 8
 -- the chain goes on behind the tree so far
 abbrev pub invariant-expr-loop-alloc : goal.invariant-expr-loop-alloc
 invariant-expr-loop-alloc l = record {
-  goes_on : GoesOn l.turns ors (rule.conj (levels l.room)) (seen_expr l.left) l.reader (rule.expr_in (levels l.room) l.fn.reader);
+  goes_on : GoesOn l.turns ors (rule.conj (levels l.room)) (seen_expr l.left.value) l.reader (rule.expr_in (levels l.room) l.fn.reader);
   onward : count l.reader ≤ count l.fn.reader;
 }
 
@@ -56,7 +56,7 @@ decreases-expr-loop-alloc l = l.turns
 -- the chain goes on behind the tree so far
 abbrev pub invariant-conj-loop-alloc : goal.invariant-conj-loop-alloc
 invariant-conj-loop-alloc l = record {
-  goes_on : GoesOn l.turns ands (rule.neg (levels l.room)) (seen_expr l.left) l.reader (rule.conj (levels l.room) l.fn.reader);
+  goes_on : GoesOn l.turns ands (rule.neg (levels l.room)) (seen_expr l.left.value) l.reader (rule.conj (levels l.room) l.fn.reader);
   onward : count l.reader ≤ count l.fn.reader;
 }
 
@@ -66,7 +66,7 @@ decreases-conj-loop-alloc l = l.turns
 -- the chain goes on behind the tree so far
 abbrev pub invariant-sum-loop-op : goal.invariant-sum-loop-op
 invariant-sum-loop-op l = record {
-  goes_on : GoesOn l.turns sums (rule.prod (levels l.room)) (seen_expr l.left) l.reader (rule.sum (levels l.room) l.fn.reader);
+  goes_on : GoesOn l.turns sums (rule.prod (levels l.room)) (seen_expr l.left.value) l.reader (rule.sum (levels l.room) l.fn.reader);
   onward : count l.reader ≤ count l.fn.reader;
 }
 
@@ -76,7 +76,7 @@ decreases-sum-loop-op l = l.turns
 -- the chain goes on behind the tree so far
 abbrev pub invariant-prod-loop-op : goal.invariant-prod-loop-op
 invariant-prod-loop-op l = record {
-  goes_on : GoesOn l.turns products (rule.unary (levels l.room)) (seen_expr l.left) l.reader (rule.prod (levels l.room) l.fn.reader);
+  goes_on : GoesOn l.turns products (rule.unary (levels l.room)) (seen_expr l.left.value) l.reader (rule.prod (levels l.room) l.fn.reader);
   onward : count l.reader ≤ count l.fn.reader;
 }
 
