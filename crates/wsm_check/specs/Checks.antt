@@ -129,6 +129,10 @@ expressions_refusal q =
 abbrev pub refusal : Query → Option CheckRefusal
 refusal q = first (declared_refusal q ∷ numbers_refusal q ∷ expressions_refusal q ∷ unless (code_fits q) Limit part.Code ∷ [])
 
+-- of what is behind the declarations
+abbrev pub rest_refusal : Query → Option CheckRefusal
+rest_refusal q = first (numbers_refusal q ∷ expressions_refusal q ∷ unless (code_fits q) Limit part.Code ∷ [])
+
 -- no check refuses the query
 abbrev pub IsChecked : Query → Type 0
 IsChecked q = refusal q ≡ None

@@ -43,6 +43,12 @@ resolved q a (tree.Binary op x y) = Binary op (resolved q a x) (resolved q (a + 
 resolved q a (tree.And x y) = And (resolved q a x) (resolved q (a + aggregates x) y)
 resolved q a (tree.Or x y) = Or (resolved q a x) (resolved q (a + aggregates x) y)
 
+-- two terms, joined as the expression joins its operands
+abbrev pub joined : Expr → Term → Term → Term
+joined (tree.Binary op x y) left right = Binary op left right
+joined (tree.And x y) left right = And left right
+joined _ left right = Or left right
+
 -- no aggregate stands in an aggregate
 abbrev pub is_flat : Expr → Bool
 is_flat (Aggregate kind e) = nat_eq (aggregates e) 0 && is_flat e

@@ -7,7 +7,7 @@ ghost use Rattle.wsm_check.specs.Sizes.{accumulators_of, fired, in_option};
 ghost use Rattle.wsm_check.specs.Spelt.{numbers_fit};
 ghost use Rattle.wsm_check.specs.Terms.{has_few_names, is_flat, resolved};
 ghost use Rattle.wsm_check.specs.Parts.{MayBeResolved, aggregates_of, column_type, columns_from, folding, parts_of, schema_of};
-ghost use Rattle.wsm_check.specs.Seen.{seen_folding, seen_parts, seen_term};
+ghost use Rattle.wsm_check.specs.Seen.{AreFired, seen_folding, seen_parts, seen_term};
 
 use crate::judging::Judged;
 use crate::parts::{Folding, Parts};
@@ -16,6 +16,14 @@ use crate::term::Term;
 use std::alloc::{AllocError, Global};
 use wsm_query::{Expr, Query};
 use wsm_record::limits::{MAX_ACCUMULATORS, MAX_FIELDS};
+
+// The terms of what fires, and what its accumulators fold.
+#[derive(Drop)]
+struct Fired {
+    foldings: Vec<Folding>,
+    columns: Vec<Term>,
+    having: Option<Term>,
+}
 
 /// What the query has: its schema, its numbers, and the terms of its expressions.
 #[tactic(auto, using(crate::proofs::ResolvedTerms::all_parts))]
@@ -27,12 +35,7 @@ pub fn parts_of(alloc: Global, query: &Query, judged: Judged) -> Result<Parts, A
     ensures parts { IfOk result (λ p. seen_parts p ≡ parts_of (seen query.now)) }
     ensures spelt { let q = seen query.now in OnOk result (list_all numbers_fit (in_option q.condition ++ fired q) ≡ true) }
 {
-    let mut none = Vec::new(alloc);
-    let condition = resolve_option(alloc, query, &query.condition, &mut none)?;
-    let mut foldings = Vec::new(alloc);
-    let mut columns = Vec::new(alloc);
-    resolve_columns(alloc, query, &query.columns, &mut foldings, &mut columns)?;
-    let having = resolve_option(alloc, query, &query.having, &mut foldings)?;
+    let (condition, fired) = terms_of(alloc, query)?;
     Ok(Parts {
         schema: judged.schema,
         start: query.start,
@@ -47,8 +50,43 @@ pub fn parts_of(alloc: Global, query: &Query, judged: Judged) -> Result<Parts, A
         late: query.late,
         form: query.form,
         condition,
-        foldings,
+        foldings: fired.foldings,
         types: judged.types,
+        columns: fired.columns,
+        having: fired.having,
+    })
+}
+
+// The terms of WHERE, and of what fires. A function for each of the two, so that a way out lets go no
+// more than one of them.
+#[tactic(auto, using(crate::proofs::ResolvedTerms::all_parts))]
+fn terms_of(alloc: Global, query: &Query) -> Result<(Option<Term>, Fired), AllocError>
+    requires fields { length query.now.fields.items ≤ MAX_FIELDS }
+    requires resolved { MayBeResolved (seen query.now) }
+    ensures condition { IfOk result (λ r. option_map seen_term r.0 ≡ option_map (resolved (seen query.now) 0) (seen query.now).condition) }
+    ensures fired { IfOk result (λ r. AreFired (seen query.now) r.1) }
+    ensures spelt { let q = seen query.now in OnOk result (list_all numbers_fit (in_option q.condition ++ fired q) ≡ true) }
+{
+    let fired = fired_terms(alloc, query)?;
+    let mut none = Vec::new(alloc);
+    let condition = resolve_option(alloc, query, &query.condition, &mut none)?;
+    Ok((condition, fired))
+}
+
+// The terms of the columns and of HAVING, and their accumulators.
+#[tactic(auto, using(crate::proofs::ResolvedTerms::all_parts))]
+fn fired_terms(alloc: Global, query: &Query) -> Result<Fired, AllocError>
+    requires fields { length query.now.fields.items ≤ MAX_FIELDS }
+    requires resolved { MayBeResolved (seen query.now) }
+    ensures fired { IfOk result (λ f. AreFired (seen query.now) f) }
+    ensures spelt { OnOk result (list_all numbers_fit (fired (seen query.now)) ≡ true) }
+{
+    let mut foldings = Vec::new(alloc);
+    let mut columns = Vec::new(alloc);
+    resolve_columns(alloc, query, &query.columns, &mut foldings, &mut columns)?;
+    let having = resolve_option(alloc, query, &query.having, &mut foldings)?;
+    Ok(Fired {
+        foldings,
         columns,
         having,
     })

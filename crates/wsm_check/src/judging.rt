@@ -6,7 +6,7 @@ ghost use Rattle.wsm_record.specs.Schema.{are_fields_after, are_names_after, are
 ghost use Rattle.wsm_windows.specs.Limits.{is_shape};
 ghost use Rattle.wsm_query.specs.Seen.{seen, seen_expr};
 ghost use Rattle.wsm_check.specs.Names.{field_names, has_repeats};
-ghost use Rattle.wsm_check.specs.Checks.{Judges, clock_fits, columns_refusal, condition_refusal, declared_refusal, expressions_refusal, field_refusal, fields_refusal, names_refusal, numbers_refusal, refusal, sources_refusal, ty_refusal, typed_refusal, unless};
+ghost use Rattle.wsm_check.specs.Checks.{Judges, clock_fits, columns_refusal, condition_refusal, declared_refusal, expressions_refusal, field_refusal, fields_refusal, names_refusal, numbers_refusal, refusal, rest_refusal, sources_refusal, ty_refusal, typed_refusal, unless};
 ghost use Rattle.wsm_check.specs.Types.{InColumn, typed};
 ghost use Rattle.wsm_check.specs.Parts.{column_type, schema_of};
 
@@ -249,8 +249,21 @@ pub fn judge(alloc: Global, query: &Query) -> Result<Judged, CheckRefusal>
     ensures types { IfOk result (λ judged. judged.types.items ≡ map (column_type (seen query.now)) (seen query.now).columns) }
 {
     let schema = judge_declared(alloc, query)?;
+    let types = judge_rest(alloc, query)?;
+    Ok(Judged { schema, types })
+}
+
+// The checks behind those of what is declared: the types of the columns. The schema stays with the
+// caller, so that no way out from here lets it go.
+#[tactic(auto, using(crate::proofs::ChecksInOrder::steps))]
+fn judge_rest(alloc: Global, query: &Query) -> Result<Vec<CellType>, CheckRefusal>
+    requires keys { length query.now.keys.items ≤ MAX_NAMES }
+    requires fields { length query.now.fields.items ≤ MAX_FIELDS }
+    ensures judged { Judges result (rest_refusal (seen query.now)) }
+    ensures types { IfOk result (λ types. types.items ≡ map (column_type (seen query.now)) (seen query.now).columns) }
+{
     judge_numbers(query)?;
     let types = judge_expressions(alloc, query)?;
     want(code_fits(query), CheckFault::Limit, Part::Code)?;
-    Ok(Judged { schema, types })
+    Ok(types)
 }

@@ -8,7 +8,7 @@ ghost use Rattle.wsm_check.specs.Names as name_rule;
 ghost use Rattle.wsm_check.specs.Names.{field_place, names_of, type_of};
 ghost use Rattle.wsm_check.specs.Sizes.{accumulators_of, aggregates};
 ghost use Rattle.wsm_check.specs.Spelt.{numbers_fit};
-ghost use Rattle.wsm_check.specs.Terms.{Accumulator, Name as Named, few_names, has_few_names, is_flat, resolved};
+ghost use Rattle.wsm_check.specs.Terms.{Accumulator, Name as Named, few_names, has_few_names, is_flat, joined, resolved};
 ghost use Rattle.wsm_check.specs.Parts.{folding};
 ghost use Rattle.wsm_check.specs.Seen.{seen_folding, seen_term};
 
@@ -56,21 +56,22 @@ pub fn resolve(
         Expr::Brackets(inner) => resolve(alloc, query, inner, foldings),
         Expr::Minus(operand) => Ok(Term::Minus(boxed(alloc, query, operand, foldings)?)),
         Expr::Not(operand) => Ok(Term::Not(boxed(alloc, query, operand, foldings)?)),
-        Expr::Binary(op, left, right) => {
+        Expr::Binary(_, left, right) | Expr::And(left, right) | Expr::Or(left, right) => {
             let left = boxed(alloc, query, left, foldings)?;
             let right = boxed(alloc, query, right, foldings)?;
-            Ok(Term::Binary(*op, left, right))
+            Ok(joined(expr, left, right))
         }
-        Expr::And(left, right) => {
-            let left = boxed(alloc, query, left, foldings)?;
-            let right = boxed(alloc, query, right, foldings)?;
-            Ok(Term::And(left, right))
-        }
-        Expr::Or(left, right) => {
-            let left = boxed(alloc, query, left, foldings)?;
-            let right = boxed(alloc, query, right, foldings)?;
-            Ok(Term::Or(left, right))
-        }
+    }
+}
+
+// The terms of two operands, joined as the expression joins them.
+fn joined(expr: &Expr, left: Box<Term>, right: Box<Term>) -> Term
+    ensures { seen_term result ≡ joined (seen_expr expr.now) (seen_term left.value) (seen_term right.value) }
+{
+    match expr {
+        Expr::Binary(op, _, _) => Term::Binary(*op, left, right),
+        Expr::And(_, _) => Term::And(left, right),
+        _ => Term::Or(left, right),
     }
 }
 

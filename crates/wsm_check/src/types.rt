@@ -1,12 +1,13 @@
 //! The types of expressions.
 
-ghost use Rattle.std.specs.Prelude.{◌≡◌, ◌≤◌, ◌<◌, cond, length, Ok, Err, IfOk, IfErr};
+ghost use Rattle.std.specs.Prelude.{◌≡◌, ◌≤◌, ◌<◌, ◌&&◌, cond, length, Ok, Err, IfOk, IfErr};
 ghost use Rattle.wsm_record.specs.Name as name_rule;
+ghost use Rattle.wsm_record.specs.Types.{is_type};
 ghost use Rattle.wsm_query.specs.Tree.{Aggregate};
 ghost use Rattle.wsm_record.specs.Fields.{declared_type};
 ghost use Rattle.wsm_query.specs.Seen.{seen, seen_expr};
 ghost use Rattle.wsm_check.specs.Types as rule;
-ghost use Rattle.wsm_check.specs.Types.{entered, enum_ty, field_ty, op_ty, typed, typed_condition, wanted};
+ghost use Rattle.wsm_check.specs.Types.{entered, enum_ty, field_ty, if_both, if_typed, logic_ty, op_ty, typed, typed_condition, wanted};
 
 use crate::names::{find_field, is_among};
 use crate::refusal::CheckFault;
@@ -41,32 +42,62 @@ pub fn type_of(query: &Query, around: Around, expr: &Expr) -> Result<CellType, C
         Expr::KeyName(name) => type_of_key(query, name),
         Expr::Count => type_of_count(around),
         Expr::Aggregate(kind, operand) => type_of_aggregate(query, around, *kind, operand),
-        Expr::If(test, first, second) => {
-            let given = type_of(query, around, test)?;
-            let x = type_of(query, around, first)?;
-            let y = type_of(query, around, second)?;
-            want(given == CellType::Bool && x == y, x)
-        }
+        Expr::If(test, first, second) => type_of_choice(
+            type_of(query, around, test),
+            type_of(query, around, first),
+            type_of(query, around, second),
+        ),
         Expr::Brackets(inner) => type_of(query, around, inner),
-        Expr::Minus(operand) => {
-            let given = type_of(query, around, operand)?;
-            want(given == CellType::Int, CellType::Int)
-        }
-        Expr::Not(operand) => {
-            let given = type_of(query, around, operand)?;
-            want(given == CellType::Bool, CellType::Bool)
-        }
+        Expr::Minus(operand) => want_of(type_of(query, around, operand), CellType::Int),
+        Expr::Not(operand) => want_of(type_of(query, around, operand), CellType::Bool),
         Expr::Binary(op, left, right) => {
-            let x = type_of(query, around, left)?;
-            let y = type_of(query, around, right)?;
-            type_of_op(*op, x, y)
+            let x = type_of(query, around, left);
+            type_of_binary(*op, x, type_of(query, around, right))
         }
         Expr::And(left, right) | Expr::Or(left, right) => {
-            let x = type_of(query, around, left)?;
-            let y = type_of(query, around, right)?;
-            want(x == CellType::Bool && y == CellType::Bool, CellType::Bool)
+            let x = type_of(query, around, left);
+            type_of_logic(x, type_of(query, around, right))
         }
     }
+}
+
+// Of a choice by the types of its test and of what it chooses from, or their first fault.
+fn type_of_choice(
+    test: Result<CellType, CheckFault>,
+    first: Result<CellType, CheckFault>,
+    second: Result<CellType, CheckFault>,
+) -> Result<CellType, CheckFault>
+    ensures { result ≡ if_typed test (λ b. if_both first second (λ t u. wanted (is_type b CellType.Bool && is_type t u) t)) }
+{
+    let given = test?;
+    let x = first?;
+    let y = second?;
+    want(given == CellType::Bool && x == y, x)
+}
+
+// Of an operator by the types of its operands, or their first fault.
+fn type_of_binary(
+    op: Op,
+    left: Result<CellType, CheckFault>,
+    right: Result<CellType, CheckFault>,
+) -> Result<CellType, CheckFault>
+    ensures { result ≡ if_both left right (op_ty op) }
+{
+    let x = left?;
+    let y = right?;
+    type_of_op(op, x, y)
+}
+
+// Of AND or OR by the types of its operands, or their first fault.
+fn type_of_logic(
+    left: Result<CellType, CheckFault>,
+    right: Result<CellType, CheckFault>,
+) -> Result<CellType, CheckFault>
+    ensures { result ≡ if_both left right logic_ty }
+{
+    let x = left?;
+    let y = right?;
+    want(x == CellType::Bool && y == CellType::Bool, CellType::Bool)
 }
 
 // COUNT(*) is an aggregate too.
@@ -92,11 +123,7 @@ fn type_of_aggregate(
     ensures { result ≡ typed (seen query.now) around (Aggregate kind (seen_expr operand.now)) }
 {
     match around {
-        Around::InColumn => {
-            let given = type_of(query, Around::InAggregate, operand)?;
-            let wanted = kind.ty();
-            want(given == wanted, wanted)
-        }
+        Around::InColumn => want_of(type_of(query, Around::InAggregate, operand), kind.ty()),
         Around::InWhere => Err(CheckFault::AggregateInWhere),
         Around::InAggregate => Err(CheckFault::AggregateNested),
     }
@@ -107,6 +134,14 @@ fn want(holds: bool, ty: CellType) -> Result<CellType, CheckFault>
     ensures { result ≡ wanted holds ty }
 {
     if holds { Ok(ty) } else { Err(CheckFault::Type) }
+}
+
+// The type of a part that is to have this one, or the fault of the part.
+fn want_of(given: Result<CellType, CheckFault>, ty: CellType) -> Result<CellType, CheckFault>
+    ensures { result ≡ if_typed given (λ t. wanted (is_type t ty) ty) }
+{
+    let given = given?;
+    want(given == ty, ty)
 }
 
 fn type_of_op(op: Op, left: CellType, right: CellType) -> Result<CellType, CheckFault>
@@ -172,7 +207,6 @@ pub fn judge_condition(query: &Query, around: Around, condition: &Expr) -> Resul
     ensures judged { IfErr result (λ f. typed_condition (seen query.now) around (seen_expr condition.now) ≡ Err f) }
     ensures holds { IfOk result (λ _. typed_condition (seen query.now) around (seen_expr condition.now) ≡ Ok CellType.Bool) }
 {
-    let given = type_of(query, around, condition)?;
-    want(given == CellType::Bool, CellType::Bool)?;
+    want_of(type_of(query, around, condition), CellType::Bool)?;
     Ok(())
 }
