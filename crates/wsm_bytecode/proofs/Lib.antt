@@ -10,6 +10,7 @@ pub mod Version2
 pub mod Codec
 pub mod TakenProgram
 pub mod Loop
+pub mod InThree
 pub mod Reader
 pub mod Spelled
 pub mod Lines

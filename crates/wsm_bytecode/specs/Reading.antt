@@ -2,6 +2,8 @@
 use Rattle.std.specs.Prelude.{◌≡◌, ℕ, List, [], ◌∷◌, length, nat_lt, ok_or, Result, Ok, Err, slice_get, bytes_eq, ◌==◌, if◌then◌else◌}
 use Rattle.std.specs.Int.{w8, w16}
 use Rattle.wsm_interval.specs.declared.Comparison.{Comparison}
+use Rattle.wsm_record.specs.declared.Kind.{Kind}
+use Rattle.wsm_record.specs.declared.words.CellType.{CellType}
 use Rattle.wsm_record.specs.declared.limits.TheConstants.{MAX_SECTION}
 use Rattle.wsm_record.specs.Name.{is_between}
 use Rattle.wsm_record.specs.Schema.{DeclaredField, Declared, enum_names, source_count}
@@ -11,6 +13,7 @@ use Rattle.wsm_program.specs.declared.instr.Instr.{Instr}
 use Rattle.wsm_program.specs.declared.instr.Instr.TheVariants.{PushInt, PushBool, PushEnum, Field, Key, Acc, Count, Operate, Jump, JumpIfFalse, Test, Fold, Return}
 use Rattle.wsm_program.specs.declared.instr.Opcode.{Opcode}
 use Rattle.wsm_program.specs.declared.instr.Opcode.TheVariants as opcodes
+use Rattle.wsm_program.specs.declared.program.Costs.{Costs}
 use Rattle.wsm_program.specs.declared.refusal.DecodeRefusal.{DecodeRefusal}
 use Rattle.wsm_program.specs.declared.refusal.DecodeRefusal.TheVariants.{BadMagic, Version as OtherVersion, UnknownOpcode, Operand, TrailingBytes, Memory}
 use Rattle.wsm_program.specs.Opcodes.{of_code}
@@ -18,6 +21,8 @@ use Rattle.wsm_program.specs.Comparisons.{comparison_of_number}
 use Rattle.wsm_program.specs.Program.{Header, Program, is_name_of, is_number_field}
 use Rattle.wsm_bytecode.specs.declared.version.Version.{Version}
 use Rattle.wsm_bytecode.specs.declared.version.Version.TheVariants.{One, Two}
+use Rattle.wsm_bytecode.specs.declared.reading.Sections.{Sections}
+use Rattle.wsm_bytecode.specs.declared.reading.header.Back.{Back}
 use Rattle.wsm_bytecode.specs.declared.reading.settings.Settings.{Settings as Held}
 use Rattle.wsm_bytecode.specs.declared.reading.settings.Times.{Times}
 use Rattle.wsm_bytecode.specs.Parts.{Settings, magic}
@@ -77,6 +82,14 @@ header_at v bytes = do
     },
     budget.1,
   )
+
+-- its accumulators, its columns and its budget, for themselves
+unfoldable pub back_at : Declared → List ℕ → Read (List Kind × (List CellType × Costs))
+back_at s bytes = do
+  kinds ← kinds_at bytes
+  columns ← columns_at s kinds.1
+  budget ← budget_at columns.1
+  Ok ((kinds.0, (columns.0, budget.0)), budget.1)
 
 -- ---- instructions
 
@@ -167,6 +180,14 @@ code_at v h bytes = do
 
 -- ---- the program
 
+-- WHERE, UPDATE and FIRE
+unfoldable pub sections_at : Version → Header → List ℕ → Read (List Instr × (List Instr × List Instr))
+sections_at v h bytes = do
+  selection ← code_at v h bytes
+  update ← code_at v h selection.1
+  fire ← code_at v h update.1
+  Ok ((selection.0, (update.0, fire.0)), fire.1)
+
 -- what stands behind the version
 unfoldable pub parts_at : Version → List ℕ → Read Program
 parts_at v bytes = do
@@ -194,6 +215,12 @@ decode bytes = do
 -- the settings as the code holds them
 abbrev pub settings_seen : Held → Settings
 settings_seen s = record { shape = s.shape; late_by = s.late_by; mode = s.mode; early = s.early; late = s.late; form = s.form; sources = s.sources }
+
+abbrev pub back_seen : Back → List Kind × (List CellType × Costs)
+back_seen b = (b.kinds.items, (b.columns.items, b.budget))
+
+abbrev pub sections_seen : Sections → List Instr × (List Instr × List Instr)
+sections_seen s = (s.selection.items, (s.update.items, s.fire.items))
 
 -- ---- what a reader of the code answers: what reading gives, seen by view, unless memory ran out
 

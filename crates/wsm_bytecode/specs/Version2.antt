@@ -1,6 +1,6 @@
 -- What version 2 of the bytes has of its own: by what a record is late and the sources stand in front of the
 -- shape, and each instruction is there.
-use Rattle.std.specs.Prelude.{ℕ, Bool, true, false, List, ◌++◌, Ok, ◌==◌}
+use Rattle.std.specs.Prelude.{ℕ, ℤ, Bool, true, false, List, ◌++◌, Ok, ◌==◌}
 use Rattle.std.specs.Int.{w8}
 use Rattle.wsm_record.specs.declared.Mode.{Mode}
 use Rattle.wsm_record.specs.declared.Form.{Form}
@@ -52,6 +52,14 @@ form_at m bytes = do
   tag ← judged (is_between 0 3) (number_at w8 bytes)
   form ← form_of m tag.0
   Ok (form, tag.1)
+
+-- what stands behind the windows, for itself
+unfoldable pub shown_at : List ℕ → Read (Mode × ((ℤ × ℤ) × Form))
+shown_at bytes = do
+  mode ← mode_at bytes
+  triggers ← triggers_at mode.1
+  form ← form_at mode.0 triggers.1
+  Ok ((mode.0, (triggers.0, form.0)), form.1)
 
 unfoldable pub settings_at : List ℕ → Read Settings
 settings_at bytes = do

@@ -3,7 +3,7 @@
 ghost use Rattle.std.specs.Prelude.{◌≡◌};
 ghost use Rattle.wsm_program.specs.View.{header_of as seen};
 ghost use Rattle.wsm_bytecode.specs.Steps.{several, enum_number_at, column_at, columns_at};
-ghost use Rattle.wsm_bytecode.specs.Reading.{Gives, settings_seen, after_magic, version_at, settings_at, header_at};
+ghost use Rattle.wsm_bytecode.specs.Reading.{Gives, back_seen, settings_seen, after_magic, version_at, settings_at, header_at, back_at};
 
 use crate::limits::{MAGIC, MAX_COLUMNS};
 use crate::reading::names::names_of;
@@ -14,11 +14,19 @@ use crate::reading::{version1, version2};
 use crate::version::Version;
 use std::alloc::Global;
 use wsm_program::named::name_count;
-use wsm_program::{Clock, DecodeRefusal, Header};
-use wsm_record::{CellType, Schema};
+use wsm_program::{Clock, Costs, DecodeRefusal, Header};
+use wsm_record::{CellType, Kind, Schema};
+
+// What a header has behind its settings.
+#[derive(Drop)]
+struct Back {
+    kinds: Vec<Kind>,
+    columns: Vec<CellType>,
+    budget: Costs,
+}
 
 /// What stands behind the version and in front of the sections.
-#[tactic(auto, unfolding(crate::specs::Reading::header_at))]
+#[tactic(auto, using(crate::proofs::InThree::header_in_parts))]
 pub(crate) fn header_of(
     alloc: Global,
     version: Version,
@@ -31,9 +39,7 @@ pub(crate) fn header_of(
     let (times, rest) = times_of(rest)?;
     let (settings, rest) = settings_of(alloc, version, rest)?;
     let schema = Schema::of_parts(keys, fields, settings.sources);
-    let (kinds, rest) = kinds_of(alloc, rest)?;
-    let (columns, rest) = columns_of(alloc, &schema, rest)?;
-    let (budget, rest) = budget_of(rest)?;
+    let (back, rest) = back_of(alloc, &schema, rest)?;
     let clock = Clock {
         start: times.start,
         skew: times.skew,
@@ -50,11 +56,32 @@ pub(crate) fn header_of(
         early: settings.early,
         late: settings.late,
         form: settings.form,
+        kinds: back.kinds,
+        columns: back.columns,
+        budget: back.budget,
+    };
+    Ok((header, rest))
+}
+
+// The accumulators, the columns and the budget. The schema stays with the caller, who lets it go in
+// one place.
+#[tactic(auto, unfolding(crate::specs::Reading::back_at))]
+fn back_of<'a>(
+    alloc: Global,
+    schema: &Schema,
+    bytes: &'a [u8],
+) -> Result<(Back, &'a [u8]), DecodeRefusal>
+    ensures { Gives (λ x. (back_seen x.0, x.1.now)) result (back_at schema.now bytes.now) }
+{
+    let (kinds, rest) = kinds_of(alloc, bytes)?;
+    let (columns, rest) = columns_of(alloc, schema, rest)?;
+    let (budget, rest) = budget_of(rest)?;
+    let back = Back {
         kinds,
         columns,
         budget,
     };
-    Ok((header, rest))
+    Ok((back, rest))
 }
 
 fn settings_of(

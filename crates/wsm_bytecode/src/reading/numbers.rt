@@ -14,48 +14,35 @@ use wsm_program::DecodeRefusal;
 pub(crate) fn byte_of(bytes: &[u8]) -> Result<(u8, &[u8]), DecodeRefusal>
     ensures { Gives (λ x. (x.0, x.1.now)) result (number_at w8 bytes.now) }
 {
-    if bytes.is_empty() {
-        return Err(DecodeRefusal::Truncated);
+    match bytes.split_first_chunk() {
+        Some((front, rest)) => Ok((u8::from_le_bytes(*front), rest)),
+        None => Err(DecodeRefusal::Truncated),
     }
-    let (front, rest) = bytes.split_at(1);
-    Ok((front[0], rest))
 }
 
 pub(crate) fn u16_of(bytes: &[u8]) -> Result<(u16, &[u8]), DecodeRefusal>
     ensures { Gives (λ x. (x.0, x.1.now)) result (number_at w16 bytes.now) }
 {
-    if bytes.len() < 2 {
-        return Err(DecodeRefusal::Truncated);
+    match bytes.split_first_chunk() {
+        Some((front, rest)) => Ok((u16::from_le_bytes(*front), rest)),
+        None => Err(DecodeRefusal::Truncated),
     }
-    let (front, rest) = bytes.split_at(2);
-    let number = u16::from_le_bytes([front[0], front[1]]);
-    Ok((number, rest))
 }
 
 pub(crate) fn u64_of(bytes: &[u8]) -> Result<(u64, &[u8]), DecodeRefusal>
     ensures { Gives (λ x. (x.0, x.1.now)) result (number_at w64 bytes.now) }
 {
-    if bytes.len() < 8 {
-        return Err(DecodeRefusal::Truncated);
+    match bytes.split_first_chunk() {
+        Some((front, rest)) => Ok((u64::from_le_bytes(*front), rest)),
+        None => Err(DecodeRefusal::Truncated),
     }
-    let (front, rest) = bytes.split_at(8);
-    let number = u64::from_le_bytes([
-        front[0], front[1], front[2], front[3], front[4], front[5], front[6], front[7],
-    ]);
-    Ok((number, rest))
 }
 
 pub(crate) fn i64_of(bytes: &[u8]) -> Result<(i64, &[u8]), DecodeRefusal>
     ensures { Gives (λ x. (x.0, x.1.now)) result (signed_at bytes.now) }
 {
-    if bytes.len() < 8 {
-        return Err(DecodeRefusal::Truncated);
-    }
-    let (front, rest) = bytes.split_at(8);
-    let number = i64::from_le_bytes([
-        front[0], front[1], front[2], front[3], front[4], front[5], front[6], front[7],
-    ]);
-    Ok((number, rest))
+    let (number, rest) = u64_of(bytes)?;
+    Ok((number.cast_signed(), rest))
 }
 
 /// A byte from `low` to `high`.

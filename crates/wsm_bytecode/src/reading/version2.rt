@@ -4,7 +4,7 @@
 ghost use Rattle.std.specs.Prelude.{◌≡◌};
 ghost use Rattle.wsm_record.specs.Schema.{is_source_count};
 ghost use Rattle.wsm_bytecode.specs.Steps.{sources_at};
-ghost use Rattle.wsm_bytecode.specs.Version2.{windows_at, form_at, settings_at};
+ghost use Rattle.wsm_bytecode.specs.Version2.{windows_at, form_at, shown_at, settings_at};
 ghost use Rattle.wsm_bytecode.specs.Reading.{Gives, settings_seen};
 
 use crate::reading::names::so_many_names;
@@ -18,26 +18,50 @@ use wsm_program::DecodeRefusal;
 use wsm_record::{Form, Mode, Names, is_source_count};
 use wsm_windows::Shape;
 
-#[tactic(auto, unfolding(crate::specs::Version2::settings_at))]
+// What a header has behind its windows and in front of its accumulators.
+#[derive(Clone, Copy)]
+struct Shown {
+    mode: Mode,
+    early: i64,
+    late: i64,
+    form: Form,
+}
+
+#[tactic(auto, using(crate::proofs::InThree::settings_in_parts))]
 pub(crate) fn settings_of(alloc: Global, bytes: &[u8]) -> Result<(Settings, &[u8]), DecodeRefusal>
     ensures { Gives (λ x. (settings_seen x.0, x.1.now)) result (settings_at bytes.now) }
 {
     let (from_window, rest) = byte_within(bytes, 0, 1)?;
     let (sources, rest) = sources_of(alloc, rest)?;
     let ((shape, late_by), rest) = windows_of(rest, from_window == 1)?;
-    let (mode, rest) = mode_of(rest)?;
-    let ((early, late), rest) = triggers_of(rest)?;
-    let (form, rest) = form_of(rest, mode)?;
+    let (shown, rest) = shown_of(rest)?;
     let settings = Settings {
         shape,
         late_by,
+        mode: shown.mode,
+        early: shown.early,
+        late: shown.late,
+        form: shown.form,
+        sources,
+    };
+    Ok((settings, rest))
+}
+
+// What is shown of windows. The sources stay with the caller.
+#[tactic(auto, unfolding(crate::specs::Version2::shown_at))]
+fn shown_of(bytes: &[u8]) -> Result<(Shown, &[u8]), DecodeRefusal>
+    ensures { Gives (λ x. ((x.0.mode, ((x.0.early, x.0.late), x.0.form)), x.1.now)) result (shown_at bytes.now) }
+{
+    let (mode, rest) = mode_of(bytes)?;
+    let ((early, late), rest) = triggers_of(rest)?;
+    let (form, rest) = form_of(rest, mode)?;
+    let shown = Shown {
         mode,
         early,
         late,
         form,
-        sources,
     };
-    Ok((settings, rest))
+    Ok((shown, rest))
 }
 
 // None, or 2 to 16.
