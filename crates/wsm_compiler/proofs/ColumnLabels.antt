@@ -1,6 +1,5 @@
 -- Behind each column of an accepted query the verifier knows its range.
-use Rattle.std.proofs.Common.{◌≡◌, ℕ, ◌+◌, ◌≤◌, ◌<◌, true, List, [], ◌∷◌, ◌++◌, length, take, Option, Some, None, refl, sym, ap, subst, ◌∙◌, arith, append_assoc, length-append}
-use Rattle.std.specs.Prelude.{max}
+use Rattle.std.proofs.Common.{◌≡◌, ℕ, ◌+◌, ◌≤◌, true, List, [], ◌∷◌, ◌++◌, length, take, Some, refl, sym, ap, subst, ◌∙◌, arith, append_assoc, length-append}
 use Rattle.std.specs.List.{flat_map}
 use Rattle.std.proofs.lemmas.Bool.{and_parts}
 use Rattle.wsm_program.specs.declared.instr.Instr.{Instr}
@@ -10,7 +9,7 @@ use Rattle.wsm_record.specs.declared.words.CellType.{CellType}
 use Rattle.wsm_record.specs.declared.words.CellType.TheVariants as types
 use Rattle.wsm_check.specs.Types.{typed}
 use Rattle.wsm_check.specs.declared.types.Around.TheVariants.{InColumn}
-use Rattle.wsm_check.specs.Sizes.{accumulators_of, aggregates, size, condition_size, columns_size, fired, need, need_of_columns}
+use Rattle.wsm_check.specs.Sizes.{accumulators_of, aggregates, size, columns_size, fired, need, need_of_columns}
 use Rattle.wsm_verifier.specs.declared.known.Known.{Known}
 use Rattle.wsm_verifier.specs.Labels.{State, Ranges, Visit, Reached, label_of, label_at, visits, visited_next}
 use Rattle.wsm_verifier.specs.Rules.{Setting, entry, known_fields, known_accumulators, update_visits}
@@ -23,7 +22,7 @@ use Rattle.wsm_compiler.proofs.Visits.{nil_right, extended, added, extended_is, 
 use Rattle.wsm_machine.proofs.FittingStacks.{no}
 use Rattle.wsm_compiler.proofs.Parts.{Comes, Labels, shorter, continued}
 use Rattle.wsm_compiler.proofs.Tests.{with_known, pushed_on}
-use Rattle.wsm_compiler.proofs.Sizes.{length-code, some_size, some_code}
+use Rattle.wsm_compiler.proofs.Sizes.{length-code, some_code, some_columns_size}
 use Rattle.wsm_compiler.proofs.FoundRanges.{suits, known_of}
 use Rattle.wsm_compiler.proofs.ExpressionRanges.{Reads, Accs, accs_left, accs_right, range_suits, found_here}
 use Rattle.wsm_compiler.proofs.CodeLabels.{labelled}
@@ -33,6 +32,7 @@ use Rattle.wsm_compiler.proofs.Folded.{all_values}
 use Rattle.wsm_compiler.proofs.FireFaults.{firing, accs_known, accs_are}
 use Rattle.wsm_compiler.proofs.Checked.{fine}
 use Rattle.wsm_compiler.proofs.Accepted.{accs_of_all, fired_fit, all_fit}
+use Rattle.wsm_compiler.proofs.Rooms.{first_room, rest_room}
 use Rattle.wsm_check.proofs.PassedChecks.{length-accumulators_of}
 
 known_is : (t : CellType) (r : Range) → suits t r ≡ true → fits r ≡ true → known_of t r ≡ Some (known_as t r)
@@ -98,23 +98,9 @@ module _ (q : Query) (b : Costs) (e : State) (c : Setting) (reads : Reads c q In
       ∙ next.label in (
         label ∙ (λ i. Reached (record { stack = y ∷ below; folded = flags i; fields = fields i })),
         subst (λ xs. ColumnLabels q (label_at e c.ranges xs) j es (y ∷ below)) (sym grouped)
-            (columns_labelled (front ++ is) j a' es (y ∷ below) (sym there) h.1 f.1 behind (rest_room (length below) (need x) _ room) (omega (arith, more)) flags fields
+            (columns_labelled (front ++ is) j a' es (y ∷ below) (sym there) h.1 f.1 behind (rest_room (length below + need x) _ room) (omega (arith, more)) flags fields
             (subst (λ n. Comes e (extended e c.ranges [] (front ++ is)) n (with_known y s) (length rest)) place (subst (λ ws. Comes e ws (k + length is) (with_known y s) (length rest)) (sym seen) next))),
       )
-    where
-      first_room : (l n m : ℕ) → max (l + n) m ≤ 32 → l + n ≤ 32
-      first_room l n m h = omega (arith, h)
-
-      rest_room : (l n m : ℕ) → max (l + n) m ≤ 32 → m ≤ 32
-      rest_room l n m h = omega (arith, h)
-
-      some_condition_size : (o : Option Expr) → 0 < condition_size o
-      some_condition_size None = omega arith
-      some_condition_size (Some x) = some_size x
-
-      some_columns_size : (o : Option Expr) (es : List Expr) → 0 < columns_size o es
-      some_columns_size o [] = omega (arith, some_condition_size o)
-      some_columns_size o (x ∷ es) = omega (arith, some_size x)
 
 pub labels_are_ranges : (q : Query) → LabelsAreRanges q
 labels_are_ranges q checked fit =

@@ -1,7 +1,7 @@
 -- WHERE and FIRE have a fault exactly where a range of their expressions doesn't fit.
 use Rattle.std.proofs.Common.{◌≡◌, ℕ, ◌+◌, ◌≤◌, ◌<◌, Bool, true, false, ◌&&◌, not, List, [], ◌∷◌, ◌++◌, length, map, reverse, Option, Some, None, Ok, refl, sym, ap, subst, ◌∙◌, arith, append_assoc, length-append}
 use Rattle.std.proofs.lemmas.List.{reverse-append}
-use Rattle.std.specs.Prelude.{is_some, max}
+use Rattle.std.specs.Prelude.{is_some}
 use Rattle.std.specs.List.{list_all, flat_map}
 use Rattle.std.proofs.lemmas.Option.{same_Some}
 use Rattle.std.proofs.Math.Bool.{and-true, and_assoc}
@@ -29,13 +29,14 @@ use Rattle.wsm_machine.proofs.PushedValues.{same_type_is}
 use Rattle.wsm_machine.proofs.ReturnedStacks.{column_is}
 use Rattle.wsm_compiler.proofs.Hulls.{type_self}
 use Rattle.wsm_compiler.proofs.Tests.{with_known}
-use Rattle.wsm_compiler.proofs.Sizes.{length-code, some_size, some_need, some_code}
+use Rattle.wsm_compiler.proofs.Sizes.{length-code, some_need, some_code, some_columns_size}
 use Rattle.wsm_compiler.proofs.Found.{found, push_bool}
 use Rattle.wsm_compiler.proofs.FoundRanges.{suits, known_of, known_truth, known_has}
 use Rattle.wsm_compiler.proofs.ExpressionRanges.{Reads, Accs, AccsIn, accs_left, accs_right, range_suits, found_here}
 use Rattle.wsm_compiler.proofs.CodeLabels.{labelled}
 use Rattle.wsm_compiler.proofs.SectionEnds.{Ends, or_behind, follow_ends, return_ends, whole_section}
 use Rattle.wsm_compiler.proofs.KnownFields.{in_column, reads_where}
+use Rattle.wsm_compiler.proofs.Rooms.{first_room, rest_room}
 use Rattle.wsm_check.proofs.PassedChecks.{length-accumulators_of}
 
 abbrev pub condition_fits : Query → Option Expr → Bool
@@ -147,20 +148,6 @@ columns_ends e c q reads k a (x ∷ es) s below is h hh accs room more same ends
     (follow_ends e c k (size x) (code q k a x) rest s (found c q s.fields a x) (λ y. not fit) (length-code q k a x) (some_code q k a x) (some_columns q j b es)
     (labelled e c q InColumn reads k a x t s is hx (λ _. here) (first_room (length s.stack) (need x) _ room) (omega (arith, more, some_columns_size q.having es)))
     (λ y ey.
-    columns_ends e c q reads j b es (with_known y s) (column_known (column_type q x) ∷ below) is h.1 hh behind (rest_room (length s.stack) (need x) _ room) (omega (arith, more))
+    columns_ends e c q reads j b es (with_known y s) (column_known (column_type q x) ∷ below) is h.1 hh behind (rest_room (length s.stack + need x) _ room) (omega (arith, more))
     (λ i. column_same q x t y hx (known_has t (range q x) y (sym (found_here c q InColumn reads s.fields is a x t hx (λ _. here)) ∙ ey)) i && same i)
     (ends ∙ ap (λ zs. known.Truth ∷ zs) (ends_next q x es below)) folded))
-  where
-    first_room : (l n m : ℕ) → max (l + n) m ≤ 32 → l + n ≤ 32
-    first_room l n m h = omega (arith, h)
-
-    rest_room : (l n m : ℕ) → max (l + n) m ≤ 32 → m ≤ 32
-    rest_room l n m h = omega (arith, h)
-
-    some_condition_size : (o : Option Expr) → 0 < condition_size o
-    some_condition_size None = omega arith
-    some_condition_size (Some x) = some_size x
-
-    some_columns_size : (o : Option Expr) (es : List Expr) → 0 < columns_size o es
-    some_columns_size o [] = omega (arith, some_condition_size o)
-    some_columns_size o (x ∷ es) = omega (arith, some_size x)

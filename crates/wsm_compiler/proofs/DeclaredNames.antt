@@ -1,5 +1,6 @@
 -- Where names that are declared stand, and that names listed without repeats are listed as programs list them.
 use Rattle.std.proofs.Common.{◌≡◌, ℕ, suc, ◌+◌, Bool, true, false, ◌&&◌, ◌||◌, not, cond, List, [], ◌∷◌, ◌++◌, length, None, refl, sym, ap, ◌∙◌, arith}
+use Rattle.std.proofs.Math.Numerals.{one-add}
 use Rattle.std.proofs.lemmas.List.{length-map}
 use Rattle.std.proofs.lemmas.List.Folds.{list_any-append}
 use Rattle.std.specs.Prelude.{bytes_eq, nat_le, nat_lt, slice_get}
@@ -47,11 +48,8 @@ names_there (d ∷ ds) x h =
     elim (bytes_eq x d.name) as (λ b. (b || is_among x (field_names ds)) ≡ true →
     names_of_field (slice_get (d ∷ ds) (cond (not b) (1 + field_place ds x) 0)) ≡ names_of_type (cond b d.type (type_of x ds))) [
       | true ↦ λ h. refl
-      | false ↦ λ h. ap (λ n. names_of_field (slice_get (d ∷ ds) n)) (next (field_place ds x)) ∙ names_there ds x h
+      | false ↦ λ h. ap (λ n. names_of_field (slice_get (d ∷ ds) n)) (one-add (field_place ds x)) ∙ names_there ds x h
     ] h
-  where
-    next : (m : ℕ) → 1 + m ≡ suc m
-    next m = omega arith
 
 -- it has numbers if its type has
 pub number_there : (ds : List DeclaredField) (x : Name) → is_among x (field_names ds) ≡ true → is_number_field (slice_get ds (field_place ds x)) ≡ is_number_type (type_of x ds)
@@ -60,11 +58,8 @@ number_there (d ∷ ds) x h =
     elim (bytes_eq x d.name) as (λ b. (b || is_among x (field_names ds)) ≡ true →
     is_number_field (slice_get (d ∷ ds) (cond (not b) (1 + field_place ds x) 0)) ≡ is_number_type (cond b d.type (type_of x ds))) [
       | true ↦ λ h. refl
-      | false ↦ λ h. ap (λ n. is_number_field (slice_get (d ∷ ds) n)) (next (field_place ds x)) ∙ number_there ds x h
+      | false ↦ λ h. ap (λ n. is_number_field (slice_get (d ∷ ds) n)) (one-add (field_place ds x)) ∙ number_there ds x h
     ] h
-  where
-    next : (m : ℕ) → 1 + m ≡ suc m
-    next m = omega arith
 
 -- a name of a type is one of the names that the type declares
 pub name_there : (ty : FieldType) (y : Name) → is_among y (names_of ty) ≡ true → is_name_of (names_of_type ty) (place_of y (names_of ty)) ≡ true

@@ -1,6 +1,6 @@
 -- What a firing's row is computed over, after any history: at least one record and at most as many as the clock allows, all of the
 -- firing's key and in range.
-use Rattle.std.proofs.Common.{◌≡◌, ℕ, suc, ◌≤◌, Bool, true, false, ◌&&◌, not, cond, List, [], ◌∷◌, ◌++◌, length, ℤ, Option, Some, None, refl, arith}
+use Rattle.std.proofs.Common.{◌≡◌, ℕ, ◌≤◌, Bool, true, false, ◌&&◌, not, cond, List, [], ◌∷◌, ◌++◌, length, ℤ, Option, Some, None, refl, arith}
 use Rattle.std.specs.Prelude.{◌+ℤ◌, filter, filter_map, nat_eq, nat_lt, int_le, int_lt, unsigned_abs}
 use Rattle.std.specs.Option.{IfSome}
 use Rattle.std.specs.List.{AllByRecursion, cons_option, last_or}
@@ -28,16 +28,11 @@ use Rattle.wsm_semantics.proofs.SelectedRecords.{selected_count}
 use Rattle.wsm_semantics.proofs.Lists.{filter-all, put-all}
 use Rattle.wsm_machine.proofs.SoundFirings.{enough_some}
 use Rattle.wsm_compiler.proofs.Parts.{none≢some}
+use Rattle.wsm_semantics.proofs.ManyKeys.{length-filter}
 
 pub all_joined : {A : Type 0} (P : A → Type 0) (xs ys : List A) → AllByRecursion P xs → AllByRecursion P ys → AllByRecursion P (xs ++ ys)
 all_joined P [] ys h l = l
 all_joined P (x ∷ xs) ys h l = (h.0, all_joined P xs ys h.1 l)
-
-length-filter : {A : Type 0} (t : A → Bool) (xs : List A) → length (filter t xs) ≤ length xs
-length-filter t [] = omega arith
-length-filter t (x ∷ xs) =
-    let rest = length-filter t xs in
-    elim (t x) as (λ b. length (cond b (x ∷ filter t xs) (filter t xs)) ≤ suc (length xs)) [ true ↦ omega (arith, rest) | false ↦ omega (arith, rest) ]
 
 all_found : {A B : Type 0} (P : B → Type 0) (g : A → Option B) (xs : List A) → AllByRecursion (λ x. IfSome (g x) P) xs → AllByRecursion P (filter_map g xs)
 all_found P g [] h = tt
@@ -47,7 +42,7 @@ all_found {A} {B} P g (x ∷ xs) h = one (g x) h.0 (all_found P g xs h.1)
     one None k rest = rest
     one (Some y) k rest = (k, rest)
 
-all_each : {A : Type 0} (P Q : A → Type 0) → ((x : A) → P x → Q x) → (xs : List A) → AllByRecursion P xs → AllByRecursion Q xs
+pub all_each : {A : Type 0} (P Q : A → Type 0) → ((x : A) → P x → Q x) → (xs : List A) → AllByRecursion P xs → AllByRecursion Q xs
 all_each P Q f [] h = tt
 all_each P Q f (x ∷ xs) h = (f x h.0, all_each P Q f xs h.1)
 

@@ -1,6 +1,6 @@
 -- What UPDATE folds into each accumulator, where it has no fault: one value, of its operand's range.
 use Rattle.std.proofs.Common.{◌≡◌, ℕ, suc, ◌+◌, ◌≤◌, ◌<◌, Bool, true, false, ◌&&◌, not, cond, List, [], ◌∷◌, ◌++◌, length, Option, Some, None, refl, sym, ap, subst, ◌∙◌, arith, length-append}
-use Rattle.std.specs.Prelude.{ℤ, ◌*ℤ◌, max, nat_eq, option_map}
+use Rattle.std.specs.Prelude.{ℤ, ◌*ℤ◌, nat_eq, option_map}
 use Rattle.std.specs.List.{list_all}
 use Rattle.std.specs.Int.{int_min, int_max}
 use Rattle.std.proofs.lemmas.Bool.{and_parts}
@@ -39,6 +39,7 @@ use Rattle.wsm_compiler.proofs.ExpressionRanges.{range_suits, found_here}
 use Rattle.wsm_compiler.proofs.CodeLabels.{labelled}
 use Rattle.wsm_compiler.proofs.KnownFields.{reads_update}
 use Rattle.wsm_compiler.proofs.UpdateFaults.{folded_so, set_next, unset, takes, if_takes, updating, behind_fold, fold_one, acc_fits, accs_fit, AccsTyped, KindsAt, no_accs, some_folds, some_folds_size, length-folds, entry_is, all_kinds}
+use Rattle.wsm_compiler.proofs.Rooms.{sole_room, rest_room}
 use Rattle.wsm_semantics.proofs.MergedRecords.{unlike_newer}
 use Rattle.wsm_semantics.proofs.Each.{itself}
 
@@ -254,7 +255,7 @@ module _ (q : Query) (b : Costs) where
       let la = length-append is (instr.Fold a ∷ rest) in
       let whole' : Comes e vs k st (length is + length (instr.Fold a ∷ rest)) = subst (λ m. Comes e vs k st m) la comes in
       let first : Labels e c vs k is (Some (with_known v.value st)) =
-      subst (λ o. Labels e c vs k is (pushed_on st o)) found' (labelled e c q InAggregate (reads_update q b) k 0 y (kind_type acc.kind) st refl h.0 (no_accs q b 0 (accumulators_of y)) (first_room (need y) _ room) (omega (arith, more, some_folds_size q b accs)) vs (shorter e vs k st (length is) (length (instr.Fold a ∷ rest)) whole')) in
+      subst (λ o. Labels e c vs k is (pushed_on st o)) found' (labelled e c q InAggregate (reads_update q b) k 0 y (kind_type acc.kind) st refl h.0 (no_accs q b 0 (accumulators_of y)) (sole_room (need y) _ room) (omega (arith, more, some_folds_size q b accs)) vs (shorter e vs k st (length is) (length (instr.Fold a ∷ rest)) whole')) in
       let comes1 = continued e c vs k is (length (instr.Fold a ∷ rest)) st (with_known v.value st) (some_code q k 0 y) (omega arith) whole' first in
       let ws1' = extended e c.ranges vs is in
       let k1 = k + length is in
@@ -270,12 +271,6 @@ module _ (q : Query) (b : Costs) where
       subst (λ fs. Comes e ws2' (k + size y + 1) (record { stack = []; folded = fs; fields = known_fields 0 q.fields }) (length rest)) (set_next a (length accs)) (subst (λ n. Comes e ws2' n (behind_fold q b a st) (length rest)) place comes2) in
       put_together e k a acc accs vs v.value (visit_is e c.ranges (instr.Fold a) ws1' k1 (with_known v.value st) comes1.long comes1.label) v.interval
       (folds_values e (k + size y + 1) (suc a) accs ws2' h.1 kinds.1 (rest_room (need y) _ room) (omega (arith, more)) f.1 comes3)
-    where
-      rest_room : (l m : ℕ) → max l m ≤ 32 → m ≤ 32
-      rest_room l m h = omega (arith, h)
-
-      first_room : (l m : ℕ) → max l m ≤ 32 → 0 + l ≤ 32
-      first_room l m h = omega (arith, h)
 
   -- into each accumulator of the program
   pub all_values : AccsTyped q b (accumulators q) → need_of_folds (accumulators q) ≤ 32 → accs_fit q b (accumulators q) ≡ true → ValuesAt 0 (accumulators q) (update_visits (program_stating q b))

@@ -1,5 +1,6 @@
 -- What a section reads of inputs that fit the header is what its expressions mean.
 use Rattle.std.proofs.Common.{◌≡◌, ℕ, zero, suc, ◌+◌, true, false, ◌||◌, not, cond, List, [], ◌∷◌, map, Some, None, Ok, refl, sym, ap, ◌∙◌, arith}
+use Rattle.std.proofs.Math.Numerals.{one-add}
 use Rattle.std.specs.Prelude.{bytes_eq, slice_get}
 use Rattle.std.specs.List.{list_all}
 use Rattle.std.proofs.lemmas.Bool.{and_parts}
@@ -69,13 +70,10 @@ read_at (d ∷ ds) (v ∷ vs) x h l =
           let r = read_at ds vs x h p.1 in
           record {
             value = r.value;
-            is = ap (λ b. slice_get (v ∷ vs) (cond (not b) (1 + field_place ds x) 0)) e ∙ ap (slice_get (v ∷ vs)) (next (field_place ds x)) ∙ r.is;
+            is = ap (λ b. slice_get (v ∷ vs) (cond (not b) (1 + field_place ds x) 0)) e ∙ ap (slice_get (v ∷ vs)) (one-add (field_place ds x)) ∙ r.is;
             has = λ n. ap (λ b. of_ty (declared_ty n (cond b d.type (type_of x ds))) (Some r.value)) e ∙ r.has n;
           }
     ] refl h
-  where
-    next : (m : ℕ) → 1 + m ≡ suc m
-    next m = omega arith
 
 -- a value of 64 bits
 word_at : (vs : List Value) (f : ℕ) (v : Value) → list_all is_word vs ≡ true → slice_get vs f ≡ Some v → is_word v ≡ true

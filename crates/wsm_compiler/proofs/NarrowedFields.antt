@@ -1,5 +1,6 @@
 -- Fields that tests narrow: what the verifier knows of them is what they are narrowed to.
 use Rattle.std.proofs.Common.{◌≡◌, ℕ, suc, ◌+◌, Bool, true, false, ◌&&◌, ◌||◌, not, cond, List, [], ◌∷◌, ℤ, Option, Some, None, Ok, Err, refl, sym, ap, ◌∙◌, arith}
+use Rattle.std.proofs.Math.Numerals.{one-add}
 use Rattle.std.specs.Prelude.{bytes_eq, is_some, neg_ℤ, option_map, slice_index_or, slice_set}
 use Rattle.std.proofs.lemmas.Option.{same_Some}
 use Rattle.wsm_interval.specs.declared.Comparison.{Comparison}
@@ -94,15 +95,12 @@ at_head n d ds x h =
 
 behind_head : (n : ℕ) (d : DeclaredField) (ds : List DeclaredField) (x : Name) → bytes_eq x d.name ≡ false → Is (suc n) ds x → Is n (d ∷ ds) x
 behind_head n d ds x h rest =
-    let place : field_place (d ∷ ds) x ≡ suc (field_place ds x) = ap (λ b. cond (not b) (1 + field_place ds x) 0) h ∙ next (field_place ds x) in
+    let place : field_place (d ∷ ds) x ≡ suc (field_place ds x) = ap (λ b. cond (not b) (1 + field_place ds x) 0) h ∙ one-add (field_place ds x) in
     let ty : type_of x (d ∷ ds) ≡ type_of x ds = ap (λ b. cond b d.type (type_of x ds)) h in
     let there : suc n + field_place ds x ≡ n + field_place (d ∷ ds) x = omega (arith, place) in
     ap (λ p. Some (slice_index_or (known_fields n (d ∷ ds)) p known.Truth)) place
     ∙ rest
     ∙ (λ i. known_of (declared_ty (there i) (sym ty i)) (of_type (sym ty i)))
-  where
-    next : (m : ℕ) → 1 + m ≡ suc m
-    next m = omega arith
 
 pub known_at : (n : ℕ) (ds : List DeclaredField) (x : Name) → is_among x (field_names ds) ≡ true → Is n ds x
 known_at n [] x h = no h

@@ -38,16 +38,12 @@ use Rattle.wsm_machine.proofs.FittingStacks.{no}
 use Rattle.wsm_compiler.proofs.Accepted.{accepted_exactly}
 use Rattle.wsm_compiler.proofs.Texts.{parsed_is_spelt}
 use Rattle.wsm_compiler.proofs.Passed.{passed}
-use Rattle.wsm_compiler.proofs.FiringSets.{IsFiringSet, IsOfSet, taken_fits, firings_of_sets, so_far_of_sets, standing_of_set, withdrawn_of_sets}
+use Rattle.wsm_compiler.proofs.FiringSets.{IsFiringSet, IsOfSet, taken_fits, firings_of_sets, so_far_of_sets, standing_of_set, withdrawn_of_sets, all_each}
 use Rattle.wsm_compiler.proofs.TotalPanes.{stands_for_meant}
 
 found_same : {A B : Type 0} (f g : A → Option B) (xs : List A) → AllByRecursion (λ x. f x ≡ g x) xs → filter_map f xs ≡ filter_map g xs
 found_same f g [] h = refl
 found_same f g (x ∷ xs) h = (λ i. cons_option (h.0 i) (found_same f g xs h.1 i))
-
-each : {A : Type 0} (P Q : A → Type 0) → ((x : A) → P x → Q x) → (xs : List A) → AllByRecursion P xs → AllByRecursion Q xs
-each P Q f [] h = tt
-each P Q f (x ∷ xs) h = (f x h.0, each P Q f xs h.1)
 
 module _ (m : Meant) (sel : ℕ → List Value → Bool) (row : ℕ → List Datum → Option (List Cell)) where
   -- the clauses of the first, with other meanings of WHERE and of rows
@@ -106,7 +102,7 @@ module _ (m : Meant) (sel : ℕ → List Value → Bool) (row : ℕ → List Dat
     pane_rows_same : (past : List Event) (e : Event) → pane_rows m past e ≡ pane_rows other past e
     pane_rows_same past e =
         found_same (row_of m) (row_of other) (firings m past e)
-        (each (IsOfSet m) (λ f. row_of m f ≡ row_of other f) (λ f h. ap (option_map (Pane f.kind f.place.key (window_of f.place))) (agree.rows f.place.key f.fired h)) (firings m past e) (firings_of_sets m past e))
+        (all_each (IsOfSet m) (λ f. row_of m f ≡ row_of other f) (λ f h. ap (option_map (Pane f.kind f.place.key (window_of f.place))) (agree.rows f.place.key f.fired h)) (firings m past e) (firings_of_sets m past e))
         ∙ ap (filter_map (row_of other)) (firings_same past e)
 
     standing_row : (o : Option Firing) → IfSome o (IsOfSet m) → option_and_then (λ f. m.row f.place.key f.fired) o ≡ option_and_then (λ f. row f.place.key f.fired) o
@@ -154,7 +150,7 @@ module _ (m : Meant) (sel : ℕ → List Value → Bool) (row : ℕ → List Dat
     written_same : (past : List Event) (e : Event) → filter_map (written_of m) (withdrawn m past e) ≡ filter_map (written_of other) (withdrawn other past e)
     written_same past e =
         found_same (written_of m) (written_of other) (withdrawn m past e)
-        (each (IsOfSet m) (λ f. written_of m f ≡ written_of other f) (λ f h. ap (option_map (λ (columns : List Cell). (f.place, columns))) (agree.rows f.place.key f.fired h)) (withdrawn m past e) (withdrawn_of_sets m past e))
+        (all_each (IsOfSet m) (λ f. written_of m f ≡ written_of other f) (λ f h. ap (option_map (λ (columns : List Cell). (f.place, columns))) (agree.rows f.place.key f.fired h)) (withdrawn m past e) (withdrawn_of_sets m past e))
         ∙ ap (filter_map (written_of other)) (withdrawn_same past e)
 
     retract_rows_same : (mode : Mode) (past : List Event) (e : Event) → retract_rows mode m past e ≡ retract_rows mode other past e

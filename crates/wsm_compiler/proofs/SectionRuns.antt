@@ -1,7 +1,7 @@
 -- Runs of WHERE and of FIRE end with the meanings of their expressions, or trap where one has none.
 use Rattle.std.proofs.Common.{◌≡◌, inl, inr, ℕ, ◌+◌, ◌≤◌, ◌<◌, true, ◌&&◌, not, cond, List, [], ◌∷◌, ◌++◌, length, map, reverse, replicate, Option, Some, None, Ok, refl, sym, ap, subst, ◌∙◌, arith, append_assoc, length-append}
 use Rattle.std.proofs.lemmas.List.{reverse-append}
-use Rattle.std.specs.Prelude.{max, slice_get}
+use Rattle.std.specs.Prelude.{slice_get}
 use Rattle.std.specs.List.{flat_map}
 use Rattle.wsm_record.specs.declared.event.Value.{Value}
 use Rattle.wsm_record.specs.declared.event.Value.TheVariants.{Int, Bool as Truth', Enum}
@@ -38,7 +38,7 @@ use Rattle.wsm_machine.proofs.FittingStacks.{no}
 use Rattle.wsm_machine.proofs.ReturnedStacks.{are_types-same}
 use Rattle.wsm_compiler.proofs.Parts.{none≢some}
 use Rattle.wsm_compiler.proofs.KnownFields.{in_column}
-use Rattle.wsm_compiler.proofs.Sizes.{some_size}
+use Rattle.wsm_compiler.proofs.Sizes.{some_columns_size}
 use Rattle.wsm_compiler.proofs.Conditions.{ConditionTyped, ColumnsTyped, in_condition, length-condition, length-columns}
 use Rattle.wsm_compiler.proofs.Checked.{fine}
 use Rattle.wsm_compiler.proofs.FireFaults.{accs_are}
@@ -48,6 +48,7 @@ use Rattle.wsm_compiler.proofs.Machine.{push_bool}
 use Rattle.wsm_compiler.proofs.ExpressionRuns.{split_code, code_runs}
 use Rattle.wsm_compiler.proofs.InputMeanings.{serves_where, serves_fire, serves_accs}
 use Rattle.wsm_compiler.proofs.Choices.{not_under}
+use Rattle.wsm_compiler.proofs.Rooms.{first_room, rest_room}
 
 -- ---- a section stands in itself
 
@@ -197,24 +198,10 @@ module _ (q : Query) (b : Costs) (d : Inputs) where
       let ty : type_or_int (typed q InColumn x) ≡ t = ap type_or_int h.0.1 in
       one_column (state k stack folds) j a x es stack folds t ty (in_bounds q s a x) (means_has c q InColumn s serves a x t h.0.1 here)
       (code_means c q InColumn s serves k a x (λ n. absurd (n refl)) t h.0.1 here parts.0 (omega (arith, inside, some_columns_size q.having es)) stack folds (first_room (length stack) (need x) _ room))
-      (λ v has. columns_run j (a + aggregates x) es (cell t v ∷ stack) folds h.1 hh (serves_right c InColumn s a x (flat_map accumulators_of es ++ in_condition q.having) whole) parts.1 (omega (arith, inside)) (rest_room (length stack) (need x) _ room)
+      (λ v has. columns_run j (a + aggregates x) es (cell t v ∷ stack) folds h.1 hh (serves_right c InColumn s a x (flat_map accumulators_of es ++ in_condition q.having) whole) parts.1 (omega (arith, inside)) (rest_room (length stack + need x) _ room)
       (ap (λ zs. zs ++ map (column_type q) es) (reverse-append (type_of (cell t v) ∷ []) (map type_of stack)) ∙ append_assoc (reverse (map type_of stack)) (type_of (cell t v) ∷ []) (map (column_type q) es)
       ∙ ap (λ z. reverse (map type_of stack) ++ z ∷ map (column_type q) es) (cell_has t v has ∙ sym ty) ∙ types'))
     where
-      first_room : (l n m : ℕ) → max (l + n) m ≤ 32 → l + n ≤ 32
-      first_room l n m h = omega (arith, h)
-
-      rest_room : (l n m : ℕ) → max (l + n) m ≤ 32 → m ≤ 32
-      rest_room l n m h = omega (arith, h)
-
-      some_condition_size : (o : Option Expr) → 0 < condition_size o
-      some_condition_size None = omega arith
-      some_condition_size (Some x) = some_size x
-
-      some_columns_size : (o : Option Expr) (es : List Expr) → 0 < columns_size o es
-      some_columns_size o [] = omega (arith, some_condition_size o)
-      some_columns_size o (x ∷ es) = omega (arith, some_size x)
-
       one_column : (m : State) (j a : ℕ) (x : Expr) (es : List Expr) (stack : List Cell) (folds : List (Option Value)) (t : CellType) → type_or_int (typed q InColumn x) ≡ t → (o : Option Value) → of_ty t o ≡ true → Gives c m (topped j stack folds t o) →
           ((v : Value) → of_ty t (Some v) ≡ true → Leaves (run_at c (state j (cell t v ∷ stack) folds)) (fired_stack q s (a + aggregates x) es (cell t v ∷ stack))) →
           Leaves (run_at c m) (elim o [ None ↦ None | Some v ↦ fired_stack q s (a + aggregates x) es (cell (type_or_int (typed q InColumn x)) v ∷ stack) ])

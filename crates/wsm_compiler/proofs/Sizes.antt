@@ -3,7 +3,7 @@ use Rattle.std.proofs.Common.{◌≡◌, ℕ, ◌+◌, ◌<◌, true, false, Lis
 use Rattle.wsm_program.specs.declared.instr.Instr.{Instr}
 use Rattle.wsm_query.specs.Tree.{Query, Expr, Number, Truth, Field, EnumName, Key, KeyName, Count, Aggregate, If, Brackets, Minus, Not, Binary, And, Or}
 use Rattle.wsm_check.specs.Tested.{tested, unless_tested}
-use Rattle.wsm_check.specs.Sizes.{aggregates, size, need}
+use Rattle.wsm_check.specs.Sizes.{aggregates, size, need, condition_size, columns_size}
 use Rattle.wsm_compiler.specs.Code.{code, choice, instruction, test_code, jump_unless, test_of}
 use Rattle.wsm_program.specs.declared.instr.Instr.TheVariants as instr
 use Rattle.wsm_program.specs.declared.operation.Operation.TheVariants as operation
@@ -70,6 +70,14 @@ some_size Key = omega arith
 some_size (KeyName x) = omega arith
 some_size Count = omega arith
 some_size (Aggregate kind e) = omega arith
+
+pub some_condition_size : (o : Option Expr) → 0 < condition_size o
+some_condition_size None = omega arith
+some_condition_size (Some x) = some_size x
+
+pub some_columns_size : (o : Option Expr) (es : List Expr) → 0 < columns_size o es
+some_columns_size o [] = omega (arith, some_condition_size o)
+some_columns_size o (x ∷ es) = omega (arith, some_size x)
 
 pub some_need : (e : Expr) → 0 < need e
 some_need (Brackets e) = some_need e

@@ -1,6 +1,6 @@
 -- UPDATE has a fault exactly where the range of an aggregate doesn't fit.
 use Rattle.std.proofs.Common.{◌≡◌, ℕ, zero, suc, ◌+◌, ◌≤◌, ◌<◌, Bool, true, false, ◌&&◌, ◌||◌, not, cond, List, [], ◌∷◌, ◌++◌, length, map, replicate, Option, Some, None, Ok, refl, sym, ap, subst, ◌∙◌, arith, length-append}
-use Rattle.std.specs.Prelude.{ℤ, ◌*ℤ◌, is_some, is_none, max, slice_index_or, slice_set}
+use Rattle.std.specs.Prelude.{ℤ, ◌*ℤ◌, is_some, is_none, slice_index_or, slice_set}
 use Rattle.std.specs.List.{list_all}
 use Rattle.std.specs.Int.{int_min, int_max}
 use Rattle.std.proofs.lemmas.Option.{same_Some}
@@ -34,6 +34,7 @@ use Rattle.wsm_compiler.proofs.CodeLabels.{labelled}
 use Rattle.wsm_compiler.proofs.SectionEnds.{Ends, or_behind, sequence_ends, follow_ends, return_ends, whole_section}
 use Rattle.wsm_compiler.proofs.KnownFields.{in_column, reads_update}
 use Rattle.wsm_compiler.proofs.Choices.{room_at_test, has_one}
+use Rattle.wsm_compiler.proofs.Rooms.{sole_room, rest_room}
 
 -- ---- which accumulators are folded: the first, and none of the others
 
@@ -160,16 +161,10 @@ module _ (q : Query) (b : Costs) where
       subst (λ v. Ends e updating k (code q k 0 x ++ Fold a ∷ rest) s v)
       (ap (λ o. or_behind o goal) (found_here updating q InAggregate (reads_update q b) s.fields refl 0 x (kind_type acc.kind) h.0 (no_accs 0 (accumulators_of x))) ∙ fold_fits acc.kind (range q x) (behind_fold a s) w (range_suits updating q InAggregate x (kind_type acc.kind) h.0))
       (follow_ends e updating k (size x) (code q k 0 x) (Fold a ∷ rest) s (found updating q s.fields 0 x) goal (length-code q k 0 x) (some_code q k 0 x) (omega arith)
-      (labelled e updating q InAggregate (reads_update q b) k 0 x (kind_type acc.kind) s refl h.0 (no_accs 0 (accumulators_of x)) (first_room (need x) _ room) (omega (arith, more, some_folds_size accs)))
+      (labelled e updating q InAggregate (reads_update q b) k 0 x (kind_type acc.kind) s refl h.0 (no_accs 0 (accumulators_of x)) (sole_room (need x) _ room) (omega (arith, more, some_folds_size accs)))
       (λ z ez. sequence_ends e updating j (Fold a ∷ []) rest (with_known z s) (if_takes (takes q.records acc.kind z) (behind_fold a s)) (λ t. not w) (omega arith) (some_folds (j + 1) (suc a) accs)
       (fold_one e j a z s acc.kind kinds.0 (unset a n) (omega arith) (omega (arith, more, some_folds_size accs)))
       (λ t ht. subst (λ u. Ends e updating (j + 1) rest u (not w)) (same_Some (behind_fold a s) t (taken_is (takes q.records acc.kind z) (behind_fold a s) t ht)) behind)))
-    where
-      rest_room : (l m : ℕ) → max l m ≤ 32 → m ≤ 32
-      rest_room l m h = omega (arith, h)
-
-      first_room : (l m : ℕ) → max l m ≤ 32 → 0 + l ≤ 32
-      first_room l m h = omega (arith, h)
 
   pub length-folds : (k a : ℕ) (accs : List Acc) → length (folds q k a accs) ≡ folds_size accs
   length-folds k a [] = refl

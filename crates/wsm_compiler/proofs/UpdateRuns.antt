@@ -1,6 +1,6 @@
 -- A run of UPDATE folds the meaning of each aggregate's operand, or traps where one has none.
 use Rattle.std.proofs.Common.{◌≡◌, inl, inr, ℕ, suc, ◌+◌, ◌≤◌, true, false, not, cond, List, [], ◌∷◌, ◌++◌, length, map, replicate, Option, Some, None, refl, sym, ap, subst, ◌∙◌, arith, append_assoc, length-append}
-use Rattle.std.specs.Prelude.{max, is_some, slice_get, slice_set}
+use Rattle.std.specs.Prelude.{is_some, slice_get, slice_set}
 use Rattle.std.specs.List.{list_all}
 use Rattle.std.proofs.lemmas.List.{length-map}
 use Rattle.std.proofs.lemmas.Option.{get_or_from_slice_get}
@@ -41,6 +41,7 @@ use Rattle.wsm_compiler.proofs.ExpressionRuns.{split_code}
 use Rattle.wsm_compiler.proofs.InputMeanings.{serves_update}
 use Rattle.wsm_compiler.proofs.SectionRuns.{stands_all, return_ends, code_means, means_has}
 use Rattle.wsm_compiler.proofs.Choices.{has_one}
+use Rattle.wsm_compiler.proofs.Rooms.{sole_room, rest_room}
 
 -- ---- accumulators, of which the first are folded
 
@@ -158,19 +159,13 @@ module _ (q : Query) (b : Costs) (d : Inputs) (fit : record_fits q d ≡ true) w
       let la = length-append before (acc ∷ []) in
       let count : length (before ++ acc ∷ []) ≡ suc a = omega (arith, la) in
       by_value k j vs (length accs) acc (folded_values q s accs) (in_bounds q s 0 y) (means_has c q InAggregate s serves 0 y t h.0 (none_inside (accumulators_of y)))
-      (code_means c q InAggregate s serves k 0 y (λ n. numbers.0) t h.0 (none_inside (accumulators_of y)) parts.0 (omega (arith, inside, some_folds_size q b accs)) [] (held vs (suc (length accs))) (first_room (need y) _ room))
+      (code_means c q InAggregate s serves k 0 y (λ n. numbers.0) t h.0 (none_inside (accumulators_of y)) parts.0 (omega (arith, inside, some_folds_size q b accs)) [] (held vs (suc (length accs))) (sole_room (need y) _ room))
       (λ v has.
       let lv = length-append vs (v ∷ []) in (
         fold_step j vs (length accs) a acc.kind v l has parts.1.0 (ap (λ xs. slice_get (map (λ acc. acc.kind) xs) a) (sym e) ∙ kind_at before accs acc),
         folds_run (j + 1) (before ++ acc ∷ []) accs (vs ++ v ∷ []) (append_assoc before (acc ∷ []) accs ∙ e) (omega (arith, lv, count, l)) h.1 numbers.1 (subst (λ n. StandsAt c.code (j + 1) (folds q (j + 1) n accs)) (sym count) parts.1.1) (omega (arith, inside)) (rest_room (need y) _ room),
       ))
     where
-      first_room : (l m : ℕ) → max l m ≤ 32 → 0 + l ≤ 32
-      first_room l m h = omega (arith, h)
-
-      rest_room : (l m : ℕ) → max l m ≤ 32 → m ≤ 32
-      rest_room l m h = omega (arith, h)
-
       by_value : (k j : ℕ) (vs : List Value) (n : ℕ) (acc : Acc) (rest : Option (List Value)) (o : Option Value) → of_ty (kind_type acc.kind) o ≡ true →
           Gives c (state k [] (held vs (suc n))) (topped j [] (held vs (suc n)) (kind_type acc.kind) o) →
           ((v : Value) → of_ty (kind_type acc.kind) (Some v) ≡ true →
