@@ -65,7 +65,8 @@ impl From<AllocError> for RowRefusal {
 /// The event that a row says, or the first fault from the left. `r,KEY,TIME,` and a cell for each
 /// field is a record, `w,TIME` a watermark, or `w,SOURCE,TIME` where sources are declared. Cells are
 /// compared as bytes. A key or a source that isn't declared is no fault here, nor is a number outside
-/// its field's interval or a time outside its range. Memory is asked for a record's values alone.
+/// its field's interval or a time outside its range. Memory is asked for a record's values alone. For
+/// users of the library; the program reads by [`EventReader`](crate::EventReader).
 pub fn read_row(alloc: Global, schema: &Schema, row: &ByteRecord) -> Result<Event, RowRefusal>
     ensures event { IfOk result (λ e. event_of_cells schema.now (fields_of row.now) ≡ Ok (event_of e)) }
     ensures fault { IfErr result (λ r. IfFault r (λ f. event_of_cells schema.now (fields_of row.now) ≡ Err f)) }

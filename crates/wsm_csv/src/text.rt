@@ -39,7 +39,8 @@ pub fn rows_text(schema: &Schema, rows: &[OutRow], out: &mut Vec<u8>) -> Result<
     add_rows(schema, rows, out)
 }
 
-/// Adds the line of a row. A number that stands for no name is an empty cell.
+/// Adds the line of a row. A number that stands for no name is an empty cell. For users of the library;
+/// the program writes by [`rows_text`].
 pub fn row_text(schema: &Schema, row: &OutRow, out: &mut Vec<u8>) -> Result<(), AllocError>
     ensures { OnOk result (out.new.items ≡ out.old.items ++ text.line_text schema.now (Out row.now)) }
 {
