@@ -1,12 +1,12 @@
 -- The rest of a chain, by what stands next.
-use Rattle.std.proofs.Common.{◌≡◌, ℕ, zero, suc, true, false, List, refl, sym, ◌∙◌}
-use Rattle.std.specs.Prelude.{Some, None, codes}
+use Rattle.std.proofs.Common.{◌≡◌, ℕ, zero, suc, List, refl, sym, ◌∙◌}
+use Rattle.std.specs.Prelude.{Some, None}
 use Rattle.wsm_tokens.specs.declared.fault.Stop.{Stop}
 use Rattle.wsm_tokens.specs.declared.fault.Stop.TheVariants as stops
 use Rattle.wsm_tokens.specs.Tokens.{Tokens}
-use Rattle.wsm_tokens.specs.Read.{Read, Rule, Took, ◌>>=◌, and_then, begins, Stops}
-use Rattle.wsm_query.specs.Tree.{Expr, Or, And}
-use Rattle.wsm_query.specs.Grammar.{chain, looked_up, ors, ands}
+use Rattle.wsm_tokens.specs.Read.{Read, Rule, Took, ◌>>=◌, and_then, Stops}
+use Rattle.wsm_query.specs.Tree.{Expr}
+use Rattle.wsm_query.specs.Grammar.{chain, looked_up}
 use Rattle.wsm_query.specs.Steps.{spend}
 
 abbrev pub Table : Type 0
@@ -52,15 +52,3 @@ pub chain_goes_on : {n : ℕ} {table : Table} {rule : Rule Expr} {x : Expr} {ts 
     → (m : ℕ) (us vs : Tokens) (y z : Expr) → spend n ts ≡ Took m us → rule us ≡ Took y vs → z ≡ make x y → GoesOn m table rule z vs whole
 chain_goes_on {n = n} {table = table} {rule = rule} {x = x} {ts = ts} {whole = whole} g make e m us vs y z s r i =
     record { same = sym (turned n table rule x ts whole make g e ∙ rw (s, r, i) refl) }
-
-pub next_or : (ts : Tokens) → begins (codes "OR") ts ≡ true → looked_up ors ts ≡ Some Or
-next_or ts e = rw (e, looked_up) refl
-
-pub next_and : (ts : Tokens) → begins (codes "AND") ts ≡ true → looked_up ands ts ≡ Some And
-next_and ts e = rw (e, looked_up) refl
-
-pub no_or : (ts : Tokens) → begins (codes "OR") ts ≡ false → looked_up ors ts ≡ None
-no_or ts e = rw (e, looked_up) refl
-
-pub no_and : (ts : Tokens) → begins (codes "AND") ts ≡ false → looked_up ands ts ≡ None
-no_and ts e = rw (e, looked_up) refl

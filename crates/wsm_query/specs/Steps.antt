@@ -1,8 +1,12 @@
--- Steps of the rules: a level, or a turn of a chain, taken of those that are left, and a number.
-use Rattle.std.specs.Prelude.{ℕ, zero, suc}
+-- Steps of the rules: a level, or a turn of a chain, taken of those that are left, a number, and the parts of chains.
+use Rattle.std.specs.Prelude.{ℕ, zero, suc, List, Option}
 use Rattle.wsm_tokens.specs.Read.{Rule, Took, Stopped, ◌>>=◌, give, too_deep, behind, number}
-use Rattle.wsm_query.specs.Tree.{Expr, Number}
-use Rattle.wsm_query.specs.Grammar.{Deeper, deeper, levels}
+use Rattle.wsm_query.specs.declared.parse_expr.Bond.{Bond}
+use Rattle.wsm_query.specs.declared.parse_expr.Bond.TheVariants as bonds
+use Rattle.wsm_query.specs.declared.parse_expr.Link.{Link}
+use Rattle.wsm_query.specs.declared.parse_expr.Link.TheVariants as links
+use Rattle.wsm_query.specs.Tree.{Expr, Number, Binary, And, Or}
+use Rattle.wsm_query.specs.Grammar.{ors, ands, sums, products, conj, neg, prod, unary, Deeper, deeper, levels}
 
 -- takes the next token where one more is left, and leaves one fewer
 abbrev pub spend : ℕ → Rule ℕ
@@ -16,3 +20,22 @@ at_level n = deeper (levels n)
 -- a number as an expression
 unfoldable pub numbered : Rule Expr
 numbered = number >>= λ n. give (Number n)
+
+-- what stands between the operands of a chain, and what they are
+abbrev pub table_of : Bond → List (List ℕ × (Expr → Expr → Expr))
+table_of bonds.Or = ors
+table_of bonds.And = ands
+table_of bonds.Sum = sums
+table_of bonds.Product = products
+
+abbrev pub operand_of : Bond → Option Deeper → Rule Expr
+operand_of bonds.Or = conj
+operand_of bonds.And = neg
+operand_of bonds.Sum = prod
+operand_of bonds.Product = unary
+
+-- the tree of two operands
+abbrev pub made : Link → Expr → Expr → Expr
+made links.Or = Or
+made links.And = And
+made (links.Binary op) = Binary op

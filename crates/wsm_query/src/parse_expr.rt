@@ -6,13 +6,13 @@
 //! A rule answers its tree in a box: where a later part is refused, letting a box go is one step, and
 //! letting a tree go one for each case that it may be of.
 
-ghost use Rattle.std.specs.Prelude.{◌≡◌, ◌≤◌, option_map, IfOk};
+ghost use Rattle.std.specs.Prelude.{◌≡◌, ◌≤◌, ◌∷◌, [], option_map, IfOk};
 ghost use Rattle.wsm_tokens.specs.Read.{Gives, count};
 ghost use Rattle.wsm_query.specs.Tree as tree;
 ghost use Rattle.wsm_query.specs.Grammar as rule;
 ghost use Rattle.wsm_query.specs.Grammar.{levels, looked_up};
 ghost use Rattle.wsm_query.specs.Seen.{seen_expr};
-ghost use Rattle.wsm_query.specs.Steps.{numbered};
+ghost use Rattle.wsm_query.specs.Steps.{made, numbered, operand_of, table_of};
 
 use crate::expr::{Expr, Op};
 use crate::level::{open, spend};
@@ -38,38 +38,63 @@ pub fn expression(alloc: Global, reader: &mut Reader) -> Result<Expr, Stop>
     Ok(Box::into_inner(boxed_expression(alloc, reader)?))
 }
 
+// What a chain joins, from what binds least on.
+#[derive(Clone, Copy)]
+enum Bond {
+    Or,
+    And,
+    Sum,
+    Product,
+}
+
+// What stands between two operands of a chain.
+#[derive(Clone, Copy)]
+enum Link {
+    Or,
+    And,
+    Binary(Op),
+}
+
 // expr = conj { "OR" conj }
 #[cycle(expr)]
-#[tactic(auto, unfolding(crate::specs::Grammar::expr_in, crate::specs::Grammar::chained))]
+#[tactic(auto, unfolding(crate::specs::Grammar::expr_in))]
 fn expr(alloc: Global, reader: &mut Reader, room: usize) -> Result<Box<Expr>, Stop>
     ensures gives { Gives (λ b. seen_expr b.value) result reader.new (rule.expr_in (levels room) reader.old) }
     ensures onward { count reader.new ≤ count reader.old }
 {
-    let mut left = conj(alloc, reader, room)?;
+    chain(alloc, reader, room, Bond::Or)
+}
+
+// operand { link operand }
+#[cycle(expr)]
+#[tactic(auto, unfolding(crate::specs::Grammar::chained))]
+fn chain(alloc: Global, reader: &mut Reader, room: usize, bond: Bond) -> Result<Box<Expr>, Stop>
+    ensures gives { Gives (λ b. seen_expr b.value) result reader.new (rule.chained (table_of bond) (operand_of bond (levels room)) reader.old) }
+    ensures onward { count reader.new ≤ count reader.old }
+{
+    let mut left = operand(alloc, reader, room, bond)?;
     let mut turns = MAX_CHAIN;
-    while reader.begins(b"OR") {
+    while let Some(link) = next_link(reader, bond) {
         turns = spend(reader, turns)?;
-        let right = conj(alloc, reader, room)?;
-        left = or(alloc, left, right)?;
+        let right = operand(alloc, reader, room, bond)?;
+        left = joined(alloc, link, left, right)?;
     }
     Ok(left)
 }
 
-// conj = neg { "AND" neg }
+// conj = neg { "AND" neg }, neg, prod = unary { ("*" | "/" | "%") unary } and unary, in the order of Bond
 #[cycle(expr)]
-#[tactic(auto, unfolding(crate::specs::Grammar::conj, crate::specs::Grammar::chained))]
-fn conj(alloc: Global, reader: &mut Reader, room: usize) -> Result<Box<Expr>, Stop>
-    ensures gives { Gives (λ b. seen_expr b.value) result reader.new (rule.conj (levels room) reader.old) }
+#[tactic(auto, unfolding(crate::specs::Grammar::conj, crate::specs::Grammar::prod))]
+fn operand(alloc: Global, reader: &mut Reader, room: usize, bond: Bond) -> Result<Box<Expr>, Stop>
+    ensures gives { Gives (λ b. seen_expr b.value) result reader.new (operand_of bond (levels room) reader.old) }
     ensures onward { count reader.new ≤ count reader.old }
 {
-    let mut left = neg(alloc, reader, room)?;
-    let mut turns = MAX_CHAIN;
-    while reader.begins(b"AND") {
-        turns = spend(reader, turns)?;
-        let right = neg(alloc, reader, room)?;
-        left = and(alloc, left, right)?;
+    match bond {
+        Bond::Or => chain(alloc, reader, room, Bond::And),
+        Bond::And => neg(alloc, reader, room),
+        Bond::Sum => chain(alloc, reader, room, Bond::Product),
+        Bond::Product => unary(alloc, reader, room),
     }
-    Ok(left)
 }
 
 // neg = "NOT" neg | cmp
@@ -87,54 +112,21 @@ fn neg(alloc: Global, reader: &mut Reader, room: usize) -> Result<Box<Expr>, Sto
     Ok(Box::new(alloc, Expr::Not(operand))?)
 }
 
+// sum = prod { ("+" | "-") prod }
 // cmp = sum [ ("=" | "<>" | "<" | "<=" | ">" | ">=") sum ]
 #[cycle(expr)]
-#[tactic(auto, unfolding(crate::specs::Grammar::cmp))]
+#[tactic(auto, unfolding(crate::specs::Grammar::cmp, crate::specs::Grammar::sum))]
 fn cmp(alloc: Global, reader: &mut Reader, room: usize) -> Result<Box<Expr>, Stop>
     ensures gives { Gives (λ b. seen_expr b.value) result reader.new (rule.cmp (levels room) reader.old) }
     ensures onward { count reader.new ≤ count reader.old }
 {
-    let left = sum(alloc, reader, room)?;
+    let left = chain(alloc, reader, room, Bond::Sum)?;
     let Some(op) = comparison(reader) else {
         return Ok(left);
     };
     reader.advance();
-    let right = sum(alloc, reader, room)?;
-    Ok(binary(alloc, op, left, right)?)
-}
-
-// sum = prod { ("+" | "-") prod }
-#[cycle(expr)]
-#[tactic(auto, unfolding(crate::specs::Grammar::sum, crate::specs::Grammar::chained))]
-fn sum(alloc: Global, reader: &mut Reader, room: usize) -> Result<Box<Expr>, Stop>
-    ensures gives { Gives (λ b. seen_expr b.value) result reader.new (rule.sum (levels room) reader.old) }
-    ensures onward { count reader.new ≤ count reader.old }
-{
-    let mut left = prod(alloc, reader, room)?;
-    let mut turns = MAX_CHAIN;
-    while let Some(op) = sum_op(reader) {
-        turns = spend(reader, turns)?;
-        let right = prod(alloc, reader, room)?;
-        left = binary(alloc, op, left, right)?;
-    }
-    Ok(left)
-}
-
-// prod = unary { ("*" | "/" | "%") unary }
-#[cycle(expr)]
-#[tactic(auto, unfolding(crate::specs::Grammar::prod, crate::specs::Grammar::chained))]
-fn prod(alloc: Global, reader: &mut Reader, room: usize) -> Result<Box<Expr>, Stop>
-    ensures gives { Gives (λ b. seen_expr b.value) result reader.new (rule.prod (levels room) reader.old) }
-    ensures onward { count reader.new ≤ count reader.old }
-{
-    let mut left = unary(alloc, reader, room)?;
-    let mut turns = MAX_CHAIN;
-    while let Some(op) = prod_op(reader) {
-        turns = spend(reader, turns)?;
-        let right = unary(alloc, reader, room)?;
-        left = binary(alloc, op, left, right)?;
-    }
-    Ok(left)
+    let right = chain(alloc, reader, room, Bond::Sum)?;
+    Ok(joined(alloc, Link::Binary(op), left, right)?)
 }
 
 // unary = "-" unary | atom
@@ -340,48 +332,68 @@ fn comparison(reader: &Reader) -> Option<Op>
     }
 }
 
+// The word or sign of a chain, where it stands next.
+fn next_link(reader: &Reader, bond: Bond) -> Option<Link>
+    ensures { option_map made result ≡ looked_up (table_of bond) reader.now }
+{
+    match bond {
+        Bond::Or => word_link(reader, b"OR", Link::Or),
+        Bond::And => word_link(reader, b"AND", Link::And),
+        Bond::Sum => sum_link(reader),
+        Bond::Product => product_link(reader),
+    }
+}
+
+fn word_link(reader: &Reader, word: &[u8], link: Link) -> Option<Link>
+    ensures { option_map made result ≡ looked_up ((word.now, made link) ∷ []) reader.now }
+{
+    if reader.begins(word) {
+        Some(link)
+    } else {
+        None
+    }
+}
+
 // "+" | "-"
-fn sum_op(reader: &Reader) -> Option<Op>
-    ensures { option_map rule.binary result ≡ looked_up rule.sums reader.now }
+fn sum_link(reader: &Reader) -> Option<Link>
+    ensures { option_map made result ≡ looked_up rule.sums reader.now }
 {
     if reader.begins(b"+") {
-        Some(Op::Add)
+        Some(Link::Binary(Op::Add))
     } else if reader.begins(b"-") {
-        Some(Op::Sub)
+        Some(Link::Binary(Op::Sub))
     } else {
         None
     }
 }
 
 // "*" | "/" | "%"
-fn prod_op(reader: &Reader) -> Option<Op>
-    ensures { option_map rule.binary result ≡ looked_up rule.products reader.now }
+fn product_link(reader: &Reader) -> Option<Link>
+    ensures { option_map made result ≡ looked_up rule.products reader.now }
 {
     if reader.begins(b"*") {
-        Some(Op::Mul)
+        Some(Link::Binary(Op::Mul))
     } else if reader.begins(b"/") {
-        Some(Op::Div)
+        Some(Link::Binary(Op::Div))
     } else if reader.begins(b"%") {
-        Some(Op::Rem)
+        Some(Link::Binary(Op::Rem))
     } else {
         None
     }
 }
 
-fn or(alloc: Global, left: Box<Expr>, right: Box<Expr>) -> Result<Box<Expr>, AllocError>
-    ensures { IfOk result (λ b. seen_expr b.value ≡ tree.Or (seen_expr left.value) (seen_expr right.value)) }
+fn joined(
+    alloc: Global,
+    link: Link,
+    left: Box<Expr>,
+    right: Box<Expr>,
+) -> Result<Box<Expr>, AllocError>
+    ensures { IfOk result (λ b. seen_expr b.value ≡ made link (seen_expr left.value) (seen_expr right.value)) }
 {
-    Ok(Box::new(alloc, Expr::Or(left, right))?)
-}
-
-fn and(alloc: Global, left: Box<Expr>, right: Box<Expr>) -> Result<Box<Expr>, AllocError>
-    ensures { IfOk result (λ b. seen_expr b.value ≡ tree.And (seen_expr left.value) (seen_expr right.value)) }
-{
-    Ok(Box::new(alloc, Expr::And(left, right))?)
-}
-
-fn binary(alloc: Global, op: Op, left: Box<Expr>, right: Box<Expr>) -> Result<Box<Expr>, AllocError>
-    ensures { IfOk result (λ b. seen_expr b.value ≡ tree.Binary op (seen_expr left.value) (seen_expr right.value)) }
-{
-    Ok(Box::new(alloc, Expr::Binary(op, left, right))?)
+    let tree = match link {
+        Link::Or => Expr::Or(left, right),
+        Link::And => Expr::And(left, right),
+        Link::Binary(op) => Expr::Binary(op, left, right),
+    };
+    Ok(Box::new(alloc, tree)?)
 }
