@@ -1,7 +1,7 @@
 -- Runs that end before their first row.
 use Rattle.std.proofs.Common.{◌≡◌, ℕ, true, List, [], Option, Result, Ok, Err, inl, inr, refl}
 use Rattle.std.specs.Prelude.{is_ok}
-use Rattle.wsm_verifier.specs.declared.rejection.Rejection.{Rejection}
+use Rattle.wsm_rules.specs.declared.rejection.Rejection.{Rejection}
 use Rattle.wsm.specs.declared.end.InputRefusal.{InputRefusal}
 use Rattle.wsm.specs.declared.end.End.{End}
 use Rattle.wsm.specs.declared.end.End.TheVariants.{Refused, Rejected, Memory, ReadFailed, WriteFailed}

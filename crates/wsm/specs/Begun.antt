@@ -1,7 +1,7 @@
 -- When a run begins: its input is judged, and the program that it says is accepted.
 use Rattle.std.specs.Prelude.{◌≡◌, ℕ, true, List, Ok, is_ok}
 use Rattle.wsm_program.specs.Program.{Program}
-use Rattle.wsm_verifier.specs.Rules.{judge}
+use Rattle.wsm_rules.specs.Rules.{judge}
 use Rattle.wsm_query.specs.Tree.{Query}
 use Rattle.wsm_compiler.specs.Accepted.{is_accepted}
 use Rattle.wsm.specs.Judged.{bytes_judged, text_judged}

@@ -11,10 +11,10 @@ use Rattle.wsm_check.specs.Text as check_text
 use Rattle.wsm_program.specs.declared.refusal.DecodeRefusal.{DecodeRefusal}
 use Rattle.wsm_program.specs.declared.refusal.DecodeRefusal.TheVariants as bytes
 use Rattle.wsm_program.specs.Text as bytes_text
-use Rattle.wsm_verifier.specs.declared.rejection.Rejection.{Rejection}
-use Rattle.wsm_verifier.specs.declared.rejection.Rule.{Rule}
-use Rattle.wsm_verifier.specs.declared.rejection.Rule.TheVariants as rule
-use Rattle.wsm_verifier.specs.Text.{part_text, rule_name}
+use Rattle.wsm_rules.specs.declared.rejection.Rejection.{Rejection}
+use Rattle.wsm_rules.specs.declared.rejection.Rule.{Rule}
+use Rattle.wsm_rules.specs.declared.rejection.Rule.TheVariants as rule
+use Rattle.wsm_rules.specs.Text.{part_text, rule_name}
 use Rattle.wsm_csv.specs.declared.rows.ReadEnd.{ReadEnd}
 use Rattle.wsm_csv.specs.declared.rows.ReadEnd.TheVariants as read
 use Rattle.wsm.specs.declared.end.InputRefusal.{InputRefusal}

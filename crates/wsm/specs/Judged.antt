@@ -11,7 +11,7 @@ use Rattle.wsm_program.specs.declared.refusal.DecodeRefusal.{DecodeRefusal}
 use Rattle.wsm_program.specs.declared.refusal.DecodeRefusal.TheVariants.{Memory}
 use Rattle.wsm_program.specs.Program.{Program}
 use Rattle.wsm_bytecode.specs.Reading.{decode}
-use Rattle.wsm_verifier.specs.declared.rejection.Rejection.{Rejection}
+use Rattle.wsm_rules.specs.declared.rejection.Rejection.{Rejection}
 use Rattle.wsm.specs.declared.end.InputRefusal.{InputRefusal}
 use Rattle.wsm.specs.declared.end.InputRefusal.TheVariants.{Text, Check, Bytes}
 use Rattle.wsm.specs.declared.end.End.{End}

@@ -5,9 +5,9 @@ use Rattle.std.specs.Io.KnownBytes.{Appends, Keeps}
 use Rattle.wsm_program.specs.Program.{Program}
 use Rattle.wsm_bytecode.specs.Text.{text}
 use Rattle.wsm_program.specs.declared.program.Costs.{Costs}
-use Rattle.wsm_verifier.specs.declared.rejection.Rejection.{Rejection}
-use Rattle.wsm_verifier.specs.Rules.{judge}
-use Rattle.wsm_verifier.specs.Text.{rejection_text}
+use Rattle.wsm_rules.specs.declared.rejection.Rejection.{Rejection}
+use Rattle.wsm_rules.specs.Rules.{judge}
+use Rattle.wsm_rules.specs.Text.{rejection_text}
 use Rattle.wsm_csv.specs.Device.{TakesPart}
 use Rattle.wsm.specs.declared.end.InputRefusal.{InputRefusal}
 use Rattle.wsm.specs.declared.end.End.{End}

@@ -9,8 +9,8 @@ use std::fmt;
 use wsm_check::{CheckFault, CheckRefusal, Part};
 use wsm_csv::{DeviceFault, ReadEnd};
 use wsm_program::DecodeRefusal;
+use wsm_rules::{Rejection, Rule};
 use wsm_tokens::{Fault, ParseRefusal, Position};
-use wsm_verifier::{Rejection, Rule};
 
 /// Why a text is no query, or bytes are no program. Its text is as `P2 Unexpected at 1:8`.
 #[derive(Clone, Copy, Debug, PartialEq, Eq)]

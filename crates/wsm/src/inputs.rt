@@ -6,8 +6,8 @@ ghost use Rattle.wsm_query.specs.Tree.{Query as QueryTree};
 ghost use Rattle.wsm_check.specs.Checks.{IsChecked, refusal};
 ghost use Rattle.wsm_check.specs.Parts.{parts_of};
 ghost use Rattle.wsm_check.specs.Seen.{seen_parts};
-ghost use Rattle.wsm_verifier.specs.Costs.{needed};
-ghost use Rattle.wsm_verifier.specs.Rules.{judge};
+ghost use Rattle.wsm_rules.specs.Costs.{needed};
+ghost use Rattle.wsm_rules.specs.Rules.{judge};
 ghost use Rattle.wsm_compiler.specs.Program.{program_of};
 ghost use Rattle.wsm.specs.Ends.{hides_memory};
 ghost use Rattle.wsm.specs.Judged.{text_judged, bytes_judged, EndsBy, RejectsBy};
@@ -18,7 +18,8 @@ use wsm_bytecode::{Program, decode};
 use wsm_check::{CheckRefusal, Checked, check};
 use wsm_compiler::compile;
 use wsm_query::{Query, parse};
-use wsm_verifier::{Verified, verify};
+use wsm_rules::Verified;
+use wsm_verifier::verify;
 
 /// The program of a query's text: the text is read, checked and compiled.
 pub(crate) fn program_of_text(alloc: Global, text: &[u8]) -> Result<Program, End>

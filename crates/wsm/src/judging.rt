@@ -1,7 +1,7 @@
 //! Judging a program: what `verify` and `explain` write.
 
 ghost use Rattle.std.specs.Prelude.{◌≡◌, ◌++◌, Err, false, true, is_ok, IfOk, IfErr, OnOk, string_bytes};
-ghost use Rattle.wsm_verifier.specs.Rules.{judge as judge_of};
+ghost use Rattle.wsm_rules.specs.Rules.{judge as judge_of};
 ghost use Rattle.wsm.specs.Ends.{hides_memory};
 ghost use Rattle.wsm.specs.Judged.{bytes_judged};
 ghost use Rattle.wsm.specs.Verdict.{listing, verdict, Reports, StopsBy};
@@ -11,7 +11,7 @@ use crate::inputs::{program_of_bytes, verified};
 use std::alloc::{AllocError, Global};
 use wsm_bytecode::{Program, disassemble};
 use wsm_csv::{Device, write_out};
-use wsm_verifier::Verified;
+use wsm_rules::Verified;
 
 /// Judges the program of some bytes, and answers whether it is accepted. A line is written:
 /// `accepted,RECORD,PANE,HELD` with the numbers that the program needs, or

@@ -65,8 +65,8 @@ pub use wsm_check::{CheckFault, Part};
 pub use wsm_csv::{Device, DeviceFault, Guarded, write_out};
 pub use wsm_engine::Totals;
 pub use wsm_program::DecodeRefusal;
+pub use wsm_rules::Rejection;
 pub use wsm_tokens::{Fault, Position};
-pub use wsm_verifier::Rejection;
 pub use wsm_words::{Job, WordsRefusal, command_of};
 
 mod compile;

@@ -2,7 +2,7 @@
 
 ghost use Rattle.std.specs.Prelude.{◌≡◌, ℕ, List, [], Option, Ok, Err, true, false, IfErr, IfOk, OnOk, is_ok};
 ghost use Rattle.wsm_program.specs.Program.{Program as Value};
-ghost use Rattle.wsm_verifier.specs.Rules.{judge};
+ghost use Rattle.wsm_rules.specs.Rules.{judge};
 ghost use Rattle.wsm_query.specs.Tree.{Query};
 ghost use Rattle.wsm_compiler.specs.Program.{program_of};
 ghost use Rattle.wsm_csv.specs.Records.{AreAll};
@@ -22,7 +22,7 @@ use std::io::Read;
 use wsm_csv::{Device, Rows};
 use wsm_engine::Totals;
 use wsm_program::Program;
-use wsm_verifier::{Rejection, Verified};
+use wsm_rules::{Rejection, Verified};
 
 /// Runs the query of a text over the rows of a reader. Each row is read and its turn taken, and the
 /// device is given the lines of the turn before the next row is asked for. At last it is given the

@@ -14,7 +14,7 @@ use wsm_csv::{
 };
 use wsm_engine::{Engine, Totals};
 use wsm_record::RowFault;
-use wsm_verifier::Verified;
+use wsm_rules::Verified;
 
 /// What the turns so far come to: an engine, and the lines of the last turn.
 #[derive(Drop)]

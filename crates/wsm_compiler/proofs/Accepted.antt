@@ -14,12 +14,12 @@ use Rattle.wsm_query.specs.Tree.{Query, Expr, Number, Truth, Field, EnumName, Ke
 use Rattle.wsm_record.specs.Schema.{DeclaredField}
 use Rattle.wsm_check.specs.Tested.{tested}
 use Rattle.wsm_check.specs.Sizes.{Acc, accumulators, accumulators_of, in_option, fired}
-use Rattle.wsm_verifier.specs.declared.rejection.Rejection.{Rejection}
-use Rattle.wsm_verifier.specs.declared.rejection.Rule.{Rule}
-use Rattle.wsm_verifier.specs.declared.rejection.Rule.TheVariants.{BudgetRecord, BudgetPane, BudgetHeld}
-use Rattle.wsm_verifier.specs.declared.rejection.Part.TheVariants as part
-use Rattle.wsm_verifier.specs.Costs.{needed}
-use Rattle.wsm_verifier.specs.Rules.{or_then, fault_in, ranges_of_record, ranges_of_pane, update_visits, code_fault, budget_fault, fault, unless}
+use Rattle.wsm_rules.specs.declared.rejection.Rejection.{Rejection}
+use Rattle.wsm_rules.specs.declared.rejection.Rule.{Rule}
+use Rattle.wsm_rules.specs.declared.rejection.Rule.TheVariants.{BudgetRecord, BudgetPane, BudgetHeld}
+use Rattle.wsm_rules.specs.declared.rejection.Part.TheVariants as part
+use Rattle.wsm_rules.specs.Costs.{needed}
+use Rattle.wsm_rules.specs.Rules.{or_then, fault_in, ranges_of_record, ranges_of_pane, update_visits, code_fault, budget_fault, fault, unless}
 use Rattle.wsm_compiler.specs.Ranges.{Range, Unfit, NoNumber, Within, no_number, on_intervals, of_op, of_minus, of_branches, if_fits, of_aggregate, range, fits, ranges_fit, range_on, where_true, where_false}
 use Rattle.wsm_compiler.specs.Program.{program_stating, stated, needed_of, program_of}
 use Rattle.wsm_compiler.specs.Accepted.{states_enough, FaultlessExactly, AcceptedExactly, AcceptedWithoutBudget}

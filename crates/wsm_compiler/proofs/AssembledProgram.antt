@@ -11,7 +11,7 @@ use Rattle.wsm_program.specs.declared.instr.Instr.{Instr}
 use Rattle.wsm_program.specs.declared.program.Costs.{Costs}
 use Rattle.wsm_program.specs.Program.{Header, Program, is_clock, is_firing, is_row, is_budget, is_header, is_program}
 use Rattle.wsm_program.proofs.StatedBudget.{lawful_stating}
-use Rattle.wsm_verifier.specs.Costs.{needed}
+use Rattle.wsm_rules.specs.Costs.{needed}
 use Rattle.wsm_query.specs.Tree.{Query}
 use Rattle.wsm_check.specs.Sizes.{accumulators}
 use Rattle.wsm_check.specs.Parts.{Parts, ArePartsOfChecked, folding, aggregates_of, parts_of}

@@ -13,10 +13,10 @@ use Rattle.wsm_check.specs.Names.{field_place}
 use Rattle.wsm_program.specs.Instructions.{may_stand}
 use Rattle.wsm_check.specs.Tested.{Tested, tested, unless_tested}
 use Rattle.wsm_check.specs.Sizes.{aggregates, accumulators_of, size, need}
-use Rattle.wsm_verifier.specs.declared.known.Known.{Known}
-use Rattle.wsm_verifier.specs.declared.known.Known.TheVariants as known
-use Rattle.wsm_verifier.specs.Labels.{State, same_type}
-use Rattle.wsm_verifier.specs.Rules.{Setting, and_then, known_fields}
+use Rattle.wsm_rules.specs.declared.known.Known.{Known}
+use Rattle.wsm_rules.specs.declared.known.Known.TheVariants as known
+use Rattle.wsm_rules.specs.Labels.{State, same_type}
+use Rattle.wsm_rules.specs.Rules.{Setting, and_then, known_fields}
 use Rattle.wsm_compiler.specs.Code.{code, test_of, instruction}
 use Rattle.wsm_compiler.specs.Ranges.{where_true, where_false, range_on}
 use Rattle.wsm_compiler.proofs.Parts.{Labelled}

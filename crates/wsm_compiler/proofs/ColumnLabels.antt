@@ -10,9 +10,9 @@ use Rattle.wsm_record.specs.declared.words.CellType.TheVariants as types
 use Rattle.wsm_check.specs.Types.{typed}
 use Rattle.wsm_check.specs.declared.types.Around.TheVariants.{InColumn}
 use Rattle.wsm_check.specs.Sizes.{accumulators_of, aggregates, size, columns_size, fired, need, need_of_columns}
-use Rattle.wsm_verifier.specs.declared.known.Known.{Known}
-use Rattle.wsm_verifier.specs.Labels.{State, Ranges, Visit, Reached, label_of, label_at, visits, visited_next}
-use Rattle.wsm_verifier.specs.Rules.{Setting, entry, known_fields, known_accumulators, update_visits}
+use Rattle.wsm_rules.specs.declared.known.Known.{Known}
+use Rattle.wsm_rules.specs.Labels.{State, Ranges, Visit, Reached, label_of, label_at, visits, visited_next}
+use Rattle.wsm_rules.specs.Rules.{Setting, entry, known_fields, known_accumulators, update_visits}
 use Rattle.wsm_compiler.specs.Code.{code, columns_code}
 use Rattle.wsm_compiler.specs.Ranges.{Range, Unfit, NoNumber, Within, range, fits}
 use Rattle.wsm_check.specs.Parts.{type_or_int}

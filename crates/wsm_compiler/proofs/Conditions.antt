@@ -16,10 +16,10 @@ use Rattle.wsm_check.specs.Types.{typed}
 use Rattle.wsm_check.specs.declared.types.Around.{Around}
 use Rattle.wsm_check.specs.declared.types.Around.TheVariants.{InWhere, InColumn}
 use Rattle.wsm_check.specs.Sizes.{Acc, accumulators_of, aggregates, size, condition_size, columns_size, need, need_of_condition, need_of_columns}
-use Rattle.wsm_verifier.specs.declared.known.Known.{Known}
-use Rattle.wsm_verifier.specs.declared.known.Known.TheVariants as known
-use Rattle.wsm_verifier.specs.Labels.{State, same_type, same_types}
-use Rattle.wsm_verifier.specs.Rules.{Setting, setting, entry, known_fields, ranges_of_record, column_known, fold_missing, fault_in}
+use Rattle.wsm_rules.specs.declared.known.Known.{Known}
+use Rattle.wsm_rules.specs.declared.known.Known.TheVariants as known
+use Rattle.wsm_rules.specs.Labels.{State, same_type, same_types}
+use Rattle.wsm_rules.specs.Rules.{Setting, setting, entry, known_fields, ranges_of_record, column_known, fold_missing, fault_in}
 use Rattle.wsm_compiler.specs.Code.{code, condition_code, columns_code}
 use Rattle.wsm_compiler.specs.Ranges.{Range, Unfit, NoNumber, Within, range, fits}
 use Rattle.wsm_check.specs.Parts.{column_type, type_or_int}

@@ -23,15 +23,15 @@ use Rattle.wsm_check.specs.Types.{Typed, wanted, if_typed, declared_ty, read_at,
 use Rattle.wsm_check.specs.declared.types.Around.{Around}
 use Rattle.wsm_check.specs.declared.types.Around.TheVariants.{InWhere, InColumn, InAggregate}
 use Rattle.wsm_check.specs.Sizes.{Acc, accumulators_of, aggregates}
-use Rattle.wsm_verifier.specs.declared.known.Known.{Known}
-use Rattle.wsm_verifier.specs.declared.known.Known.TheVariants as known
-use Rattle.wsm_verifier.specs.Rules.{Setting, and_then}
+use Rattle.wsm_rules.specs.declared.known.Known.{Known}
+use Rattle.wsm_rules.specs.declared.known.Known.TheVariants as known
+use Rattle.wsm_rules.specs.Rules.{Setting, and_then}
 use Rattle.wsm_compiler.specs.Code.{instruction}
 use Rattle.wsm_compiler.specs.Ranges.{Range, Unfit, NoNumber, Within, no_number, of_branches, if_fits, of_sum, of_aggregate, of_type, where_true, where_false, range_on, range, fits}
 use Rattle.wsm_machine.proofs.FittingStacks.{no}
 use Rattle.wsm_compiler.proofs.Hulls.{hull_either}
 use Rattle.wsm_compiler.proofs.Choices.{hulled}
-use Rattle.wsm_verifier.specs.Rules.{known_fields}
+use Rattle.wsm_rules.specs.Rules.{known_fields}
 use Rattle.wsm_program.specs.Instructions.{may_stand}
 use Rattle.wsm_interval.specs.declared.Comparison.{Comparison}
 use Rattle.std.proofs.lemmas.Option.{same_Some}

@@ -15,10 +15,10 @@ use Rattle.wsm_query.specs.Tree.{Query, Expr}
 use Rattle.wsm_record.specs.Types.{kind_type}
 use Rattle.wsm_check.specs.declared.types.Around.TheVariants.{InColumn, InAggregate}
 use Rattle.wsm_check.specs.Sizes.{Acc, accumulators, accumulators_of, in_option, need_of_folds, need_of_columns}
-use Rattle.wsm_verifier.specs.declared.known.Known.{Known}
-use Rattle.wsm_verifier.specs.declared.known.Known.TheVariants.{Number, Truth}
-use Rattle.wsm_verifier.specs.Labels.{Visit}
-use Rattle.wsm_verifier.specs.Rules.{Setting, setting, entry, and_then, accumulated, known_range, known_accumulators, ranges_of_pane, update_visits, column_known, fault_in}
+use Rattle.wsm_rules.specs.declared.known.Known.{Known}
+use Rattle.wsm_rules.specs.declared.known.Known.TheVariants.{Number, Truth}
+use Rattle.wsm_rules.specs.Labels.{Visit}
+use Rattle.wsm_rules.specs.Rules.{Setting, setting, entry, and_then, accumulated, known_range, known_accumulators, ranges_of_pane, update_visits, column_known, fault_in}
 use Rattle.wsm_compiler.specs.Ranges.{Range, Unfit, NoNumber, Within, of_aggregate, range, fits}
 use Rattle.wsm_check.specs.Parts.{column_type}
 use Rattle.wsm_compiler.specs.Program.{program_stating}

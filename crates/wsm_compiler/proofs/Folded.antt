@@ -21,10 +21,10 @@ use Rattle.wsm_record.specs.Types.{kind_type}
 use Rattle.wsm_check.specs.declared.types.Around.TheVariants.{InAggregate}
 use Rattle.wsm_check.specs.Tested.{Tested, tested, unless_tested}
 use Rattle.wsm_check.specs.Sizes.{Acc, accumulators, accumulators_of, aggregates, size, need, folds_size, need_of_folds}
-use Rattle.wsm_verifier.specs.declared.known.Known.{Known}
-use Rattle.wsm_verifier.specs.declared.known.Known.TheVariants as known
-use Rattle.wsm_verifier.specs.Labels.{State, Ranges, Label, Reached, Visit, visit, visit_of}
-use Rattle.wsm_verifier.specs.Rules.{entry, known_fields, ranges_of_record, hull_options, last_number, value_folded, values_folded, update_visits}
+use Rattle.wsm_rules.specs.declared.known.Known.{Known}
+use Rattle.wsm_rules.specs.declared.known.Known.TheVariants as known
+use Rattle.wsm_rules.specs.Labels.{State, Ranges, Label, Reached, Visit, visit, visit_of}
+use Rattle.wsm_rules.specs.Rules.{entry, known_fields, ranges_of_record, hull_options, last_number, value_folded, values_folded, update_visits}
 use Rattle.wsm_compiler.specs.Code.{code, choice, instruction, field_test, test_code, jump_unless, folds, update_section}
 use Rattle.wsm_compiler.specs.Ranges.{Range, Unfit, NoNumber, Within, of_aggregate, range, fits}
 use Rattle.wsm_compiler.specs.Program.{program_stating}

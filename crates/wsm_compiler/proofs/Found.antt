@@ -14,11 +14,11 @@ use Rattle.wsm_query.specs.declared.expr.Op.TheVariants.{Add, Sub, Mul, Div, Rem
 use Rattle.wsm_query.specs.Tree.{Query, Expr, Number, Truth, Field, EnumName, Key, KeyName, Count, Aggregate, If, Brackets, Minus, Not, Binary, And, Or}
 use Rattle.wsm_check.specs.Names.{place_of, field_place, type_of, names_of}
 use Rattle.wsm_check.specs.Sizes.{aggregates}
-use Rattle.wsm_verifier.specs.declared.known.Known.{Known}
-use Rattle.wsm_verifier.specs.declared.known.Known.TheVariants as known
-use Rattle.wsm_verifier.specs.Labels.{State, pushed, narrowed_known, of_one, of_two}
+use Rattle.wsm_rules.specs.declared.known.Known.{Known}
+use Rattle.wsm_rules.specs.declared.known.Known.TheVariants as known
+use Rattle.wsm_rules.specs.Labels.{State, pushed, narrowed_known, of_one, of_two}
 use Rattle.wsm_program.specs.Instructions.{may_stand, opposite_test}
-use Rattle.wsm_verifier.specs.Rules.{Setting, types_fit, has_zero, and_then}
+use Rattle.wsm_rules.specs.Rules.{Setting, types_fit, has_zero, and_then}
 use Rattle.wsm_check.specs.Tested.{tested}
 use Rattle.wsm_compiler.specs.Code.{instruction, test_of}
 use Rattle.wsm_machine.proofs.FittingStacks.{no}

@@ -13,10 +13,10 @@ use Rattle.wsm_record.specs.declared.words.CellType.{CellType}
 use Rattle.wsm_record.specs.declared.words.CellType.TheVariants as types
 use Rattle.wsm_record.specs.Types.{is_type}
 use Rattle.wsm_check.specs.Types.{Typed, wanted, if_typed}
-use Rattle.wsm_verifier.specs.declared.known.Known.{Known}
-use Rattle.wsm_verifier.specs.declared.known.Known.TheVariants as known
-use Rattle.wsm_verifier.specs.Labels.{same_type}
-use Rattle.wsm_verifier.specs.Rules.{Setting, and_then}
+use Rattle.wsm_rules.specs.declared.known.Known.{Known}
+use Rattle.wsm_rules.specs.declared.known.Known.TheVariants as known
+use Rattle.wsm_rules.specs.Labels.{same_type}
+use Rattle.wsm_rules.specs.Rules.{Setting, and_then}
 use Rattle.wsm_compiler.specs.Code.{instruction}
 use Rattle.wsm_compiler.specs.Ranges.{Range, Unfit, NoNumber, Within, within, no_number, on_intervals, of_op, of_minus}
 use Rattle.wsm_machine.proofs.FittingStacks.{no, type_known}

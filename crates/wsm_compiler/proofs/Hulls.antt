@@ -6,9 +6,9 @@ use Rattle.std.specs.Prelude.{ℤ, nat_eq}
 use Rattle.std.specs.Int.{int_min, int_max}
 use Rattle.wsm_interval.specs.declared.interval.Interval.{Interval}
 use Rattle.wsm_interval.specs.Interval.{interval, hull}
-use Rattle.wsm_verifier.specs.declared.known.Known.{Known}
-use Rattle.wsm_verifier.specs.declared.known.Known.TheVariants.{Number, Truth, NameOf}
-use Rattle.wsm_verifier.specs.Labels.{State, Label, Unreached, Differing, Reached, same_type, same_types, same_flags, agree, hull_known, hull_lists, hull_states, label_with, hull_all}
+use Rattle.wsm_rules.specs.declared.known.Known.{Known}
+use Rattle.wsm_rules.specs.declared.known.Known.TheVariants.{Number, Truth, NameOf}
+use Rattle.wsm_rules.specs.Labels.{State, Label, Unreached, Differing, Reached, same_type, same_types, same_flags, agree, hull_known, hull_lists, hull_states, label_with, hull_all}
 use Rattle.wsm_semantics.proofs.Each.{itself}
 use Rattle.wsm_machine.proofs.FittingStacks.{no}
 use Rattle.wsm_machine.proofs.EdgeLabels.{agreed, flags_are}

@@ -3,8 +3,8 @@ use Rattle.std.proofs.Common.{◌≡◌, Bool, true, false, cond, List, Ok, Err,
 use Rattle.wsm_record.specs.Name.{is_among}
 use Rattle.wsm_program.specs.declared.SectionId.TheVariants.{Where, Update, Fire}
 use Rattle.wsm_program.specs.declared.program.Costs.{Costs}
-use Rattle.wsm_verifier.specs.declared.known.Known.{Known}
-use Rattle.wsm_verifier.specs.Rules.{setting, ranges_of_record, ranges_with}
+use Rattle.wsm_rules.specs.declared.known.Known.{Known}
+use Rattle.wsm_rules.specs.Rules.{setting, ranges_of_record, ranges_with}
 use Rattle.wsm_query.specs.Tree.{Name, Query}
 use Rattle.wsm_check.specs.declared.refusal.CheckFault.TheVariants.{UnknownName}
 use Rattle.wsm_check.specs.Names.{field_names, field_place, type_of}

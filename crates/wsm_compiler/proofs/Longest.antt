@@ -7,7 +7,7 @@ use Rattle.wsm_program.specs.declared.instr.FieldTest.{FieldTest}
 use Rattle.wsm_program.specs.declared.instr.Instr.{Instr}
 use Rattle.wsm_program.specs.declared.instr.Instr.TheVariants as instr
 use Rattle.wsm_program.specs.declared.operation.Operation.TheVariants as operation
-use Rattle.wsm_verifier.specs.Costs.{longer, longest_of, one_more, way_from, way_of, ways, longest_path, windows_of_a_record, join_steps}
+use Rattle.wsm_rules.specs.Costs.{longer, longest_of, one_more, way_from, way_of, ways, longest_path, windows_of_a_record, join_steps}
 use Rattle.wsm_program.specs.Instructions.{next}
 use Rattle.wsm_query.specs.declared.expr.Op.{Op}
 use Rattle.wsm_query.specs.declared.expr.Op.TheVariants.{Add, Sub, Mul, Div, Rem, Eq, Ne, Lt, Le, Gt, Ge}

@@ -11,10 +11,10 @@ use Rattle.wsm_record.specs.Schema.{FieldType, DeclaredField, is_i64}
 use Rattle.wsm_record.specs.Schema as field_types
 use Rattle.wsm_record.specs.declared.words.CellType.{CellType}
 use Rattle.wsm_program.specs.declared.instr.FieldTest.{FieldTest}
-use Rattle.wsm_verifier.specs.declared.known.Known.{Known}
-use Rattle.wsm_verifier.specs.declared.known.Known.TheVariants as known
-use Rattle.wsm_verifier.specs.Labels.{narrowed_known}
-use Rattle.wsm_verifier.specs.Rules.{and_then, known_field, known_fields}
+use Rattle.wsm_rules.specs.declared.known.Known.{Known}
+use Rattle.wsm_rules.specs.declared.known.Known.TheVariants as known
+use Rattle.wsm_rules.specs.Labels.{narrowed_known}
+use Rattle.wsm_rules.specs.Rules.{and_then, known_field, known_fields}
 use Rattle.wsm_query.specs.declared.expr.Op.{Op}
 use Rattle.wsm_query.specs.declared.expr.Op.TheVariants.{Add, Sub, Mul, Div, Rem, Eq, Ne, Lt, Le, Gt, Ge}
 use Rattle.wsm_query.specs.Tree.{Name, Query, Expr, Number, Truth, Field, EnumName, Key, KeyName, Count, Aggregate, If, Brackets, Minus, Not, Binary, And, Or}

@@ -5,8 +5,8 @@ use Rattle.std.specs.List.{cons_option, list_any}
 use Rattle.std.proofs.Math.Bool.{or-false}
 use Rattle.wsm_program.specs.declared.Instr.{Instr}
 use Rattle.wsm_program.specs.Instructions.{next}
-use Rattle.wsm_verifier.specs.Labels.{State, Ranges, Label, Reached, Visit, after, along, carried_to, hull_all, gathered, label_of, visit, visit_of}
-use Rattle.wsm_verifier.specs.Rules.{Setting, fault_of, fault_at, and_then}
+use Rattle.wsm_rules.specs.Labels.{State, Ranges, Label, Reached, Visit, after, along, carried_to, hull_all, gathered, label_of, visit, visit_of}
+use Rattle.wsm_rules.specs.Rules.{Setting, fault_of, fault_at, and_then}
 use Rattle.wsm_compiler.proofs.Visits.{nil_right, both_empty, extended, added, extended_is, added_append, length-extended, carries, carries_append, label_gathered, faults, faults_append, or_true}
 use Rattle.wsm_machine.proofs.FittingStacks.{no}
 

@@ -7,9 +7,9 @@ use Rattle.wsm_program.specs.declared.instr.Instr.{Instr}
 use Rattle.wsm_program.specs.declared.instr.Instr.TheVariants.{Return}
 use Rattle.wsm_program.specs.declared.SectionId.{SectionId}
 use Rattle.wsm_program.specs.Program.{Program, section}
-use Rattle.wsm_verifier.specs.declared.known.Known.{Known}
-use Rattle.wsm_verifier.specs.Labels.{State, Ranges, Reached, Visit, same_types}
-use Rattle.wsm_verifier.specs.Rules.{Setting, fold_missing, section_fault, setting, entry, fault_in}
+use Rattle.wsm_rules.specs.declared.known.Known.{Known}
+use Rattle.wsm_rules.specs.Labels.{State, Ranges, Reached, Visit, same_types}
+use Rattle.wsm_rules.specs.Rules.{Setting, fold_missing, section_fault, setting, entry, fault_in}
 use Rattle.wsm_compiler.proofs.Visits.{extended, added, added_append, length-added, visits_are, faults, faults_append, or_true}
 use Rattle.wsm_machine.proofs.FittingStacks.{no}
 use Rattle.wsm_compiler.proofs.Parts.{Comes, Labelled, shorter, continued, visit_is, fault_is}

@@ -13,7 +13,7 @@ use Rattle.wsm_fold.specs.Laws.{joined_to}
 use Rattle.wsm_fold.specs.Fold.{joins, folds_of}
 use Rattle.wsm_program.specs.declared.instr.SectionId.TheVariants.{Fire}
 use Rattle.wsm_program.specs.Program.{Program}
-use Rattle.wsm_verifier.specs.Rules.{judge}
+use Rattle.wsm_rules.specs.Rules.{judge}
 use Rattle.wsm_semantics.specs.Query.{Datum}
 use Rattle.wsm_record.specs.declared.cell.Cell.{Cell}
 use Rattle.wsm_machine.specs.declared.run.Ran.{Ran}

@@ -17,9 +17,9 @@ use Rattle.wsm_record.specs.Types.{kind_type}
 use Rattle.wsm_check.specs.Types.{typed}
 use Rattle.wsm_check.specs.declared.types.Around.TheVariants.{InAggregate}
 use Rattle.wsm_check.specs.Sizes.{Acc, accumulators, accumulators_of, size, need, folds_size, need_of_folds}
-use Rattle.wsm_verifier.specs.declared.known.Known.{Known}
-use Rattle.wsm_verifier.specs.Labels.{State}
-use Rattle.wsm_verifier.specs.Rules.{Setting, setting, entry, known_fields, ranges_of_record, has_type, sum_leaves, fault_in}
+use Rattle.wsm_rules.specs.declared.known.Known.{Known}
+use Rattle.wsm_rules.specs.Labels.{State}
+use Rattle.wsm_rules.specs.Rules.{Setting, setting, entry, known_fields, ranges_of_record, has_type, sum_leaves, fault_in}
 use Rattle.wsm_compiler.specs.Code.{code, folds, update_section}
 use Rattle.wsm_compiler.specs.Ranges.{Range, Unfit, NoNumber, Within, of_aggregate, range, fits}
 use Rattle.wsm_compiler.specs.Program.{program_stating}

@@ -4,9 +4,9 @@ use Rattle.std.proofs.lemmas.List.{reverse-append}
 use Rattle.std.specs.Prelude.{is_some}
 use Rattle.std.specs.List.{cons_option, filter_map}
 use Rattle.wsm_program.specs.declared.Instr.{Instr}
-use Rattle.wsm_verifier.specs.declared.rejection.Rejection.{Rejection}
-use Rattle.wsm_verifier.specs.Labels.{State, Ranges, Visit, carried_to, gathered, label_of, visit_of, visited_next, visits_back, visits}
-use Rattle.wsm_verifier.specs.Rules.{Setting, fault_at, or_then, first_fault}
+use Rattle.wsm_rules.specs.declared.rejection.Rejection.{Rejection}
+use Rattle.wsm_rules.specs.Labels.{State, Ranges, Visit, carried_to, gathered, label_of, visit_of, visited_next, visits_back, visits}
+use Rattle.wsm_rules.specs.Rules.{Setting, fault_at, or_then, first_fault}
 
 pub nil_right : {A : Type 0} (xs : List A) → xs ++ [] ≡ xs
 nil_right [] = refl

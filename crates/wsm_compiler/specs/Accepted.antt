@@ -1,8 +1,8 @@
 -- When the program of a checked query is accepted.
 use Rattle.std.specs.Prelude.{◌≡◌, Bool, ◌&&◌, nat_le, None, is_none, is_ok}
 use Rattle.wsm_program.specs.Program.{Program}
-use Rattle.wsm_verifier.specs.Costs.{needed}
-use Rattle.wsm_verifier.specs.Rules.{code_fault, judge}
+use Rattle.wsm_rules.specs.Costs.{needed}
+use Rattle.wsm_rules.specs.Rules.{code_fault, judge}
 use Rattle.wsm_query.specs.Tree.{Query}
 use Rattle.wsm_check.specs.Checks.{IsChecked}
 use Rattle.wsm_compiler.specs.Ranges.{ranges_fit}

@@ -1,10 +1,10 @@
 -- What the verifier knows behind the columns of a query: their ranges, each on those before.
 use Rattle.std.specs.Prelude.{◌≡◌, ℕ, ◌+◌, true, List, [], ◌∷◌, pos}
 use Rattle.wsm_interval.specs.Interval.{interval}
-use Rattle.wsm_verifier.specs.declared.known.Known.{Known}
-use Rattle.wsm_verifier.specs.declared.known.Known.TheVariants.{Number, Truth, NameOf}
-use Rattle.wsm_verifier.specs.Labels.{Label, Reached, label_at}
-use Rattle.wsm_verifier.specs.Rules.{entry, ranges_of_pane, update_visits}
+use Rattle.wsm_rules.specs.declared.known.Known.{Known}
+use Rattle.wsm_rules.specs.declared.known.Known.TheVariants.{Number, Truth, NameOf}
+use Rattle.wsm_rules.specs.Labels.{Label, Reached, label_at}
+use Rattle.wsm_rules.specs.Rules.{entry, ranges_of_pane, update_visits}
 use Rattle.wsm_query.specs.Tree.{Query, Expr}
 use Rattle.wsm_check.specs.Checks.{IsChecked}
 use Rattle.wsm_check.specs.Sizes.{size}

@@ -2,7 +2,7 @@
 use Rattle.std.specs.Prelude.{◌≡◌, ℕ, ◌+◌, ◌*◌, ◌≤◌, max, List, [], ◌∷◌, length, Option, Some, None}
 use Rattle.wsm_windows.specs.Life.{live_bound}
 use Rattle.wsm_program.specs.declared.program.Costs.{Costs}
-use Rattle.wsm_verifier.specs.Costs.{needed, windows_of_a_record, join_steps}
+use Rattle.wsm_rules.specs.Costs.{needed, windows_of_a_record, join_steps}
 use Rattle.wsm_query.specs.Tree.{Query, Expr, If, Brackets, Minus, Not, Binary, And, Or}
 use Rattle.wsm_check.specs.Tested.{tested, unless_tested}
 use Rattle.wsm_check.specs.Sizes.{Acc, accumulators}

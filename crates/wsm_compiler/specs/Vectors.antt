@@ -21,10 +21,10 @@ use Rattle.wsm_bytecode.specs.Parts.{code, instr as spelled_instr, long, signed}
 use Rattle.wsm_bytecode.specs.Spelling.{spelling, spelling_in, header}
 use Rattle.wsm_bytecode.specs.Vectors.{base_bytes}
 use Rattle.wsm_program.specs.declared.program.Costs.{Costs}
-use Rattle.wsm_verifier.specs.declared.rejection.Rejection.{Rejection}
-use Rattle.wsm_verifier.specs.declared.rejection.Rule.TheVariants.{MayDivideByZero, AccumulatorRange}
-use Rattle.wsm_verifier.specs.declared.rejection.Part.TheVariants.{Code}
-use Rattle.wsm_verifier.specs.Rules.{judge}
+use Rattle.wsm_rules.specs.declared.rejection.Rejection.{Rejection}
+use Rattle.wsm_rules.specs.declared.rejection.Rule.TheVariants.{MayDivideByZero, AccumulatorRange}
+use Rattle.wsm_rules.specs.declared.rejection.Part.TheVariants.{Code}
+use Rattle.wsm_rules.specs.Rules.{judge}
 use Rattle.wsm_record.specs.declared.cell.Cell.TheVariants as cells
 use Rattle.wsm_machine.specs.declared.outcome.Outcome.TheVariants.{Done}
 use Rattle.wsm_machine.specs.Run.{run}

@@ -26,7 +26,7 @@ use Rattle.wsm_semantics.proofs.HeldRecords.{each_of}
 use Rattle.wsm_semantics.proofs.Summaries.{counted-fired}
 use Rattle.wsm_program.specs.Program.{Program, is_program}
 use Rattle.wsm_program.specs.declared.program.Costs.{Costs}
-use Rattle.wsm_verifier.specs.Rules.{values_folded, update_visits, judge}
+use Rattle.wsm_rules.specs.Rules.{values_folded, update_visits, judge}
 use Rattle.wsm_machine.specs.InRange.{is_value_in, are_values_in}
 use Rattle.wsm_machine.specs.Meaning.{query_of, plan_of, folded}
 use Rattle.wsm_machine.specs.Sound.{AreFoldsOf, IsSoundEntry, AreSound}

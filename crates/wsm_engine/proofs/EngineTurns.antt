@@ -31,7 +31,7 @@ use Rattle.wsm_semantics.proofs.Lists.{length_each}
 use Rattle.wsm_semantics.proofs.MachineSteps.{decision-fits}
 use Rattle.wsm_semantics.proofs.Steps.{Fits-step, rows-step, fires-step}
 use Rattle.wsm_program.specs.Program.{Program, is_program}
-use Rattle.wsm_verifier.proofs.Lawful.{lawful as program_lawful}
+use Rattle.wsm_rules.proofs.Lawful.{lawful as program_lawful}
 use Rattle.wsm_machine.specs.Meaning.{query_of, plan_of, pane_cost, pane_cost_by, answer_cost}
 use Rattle.wsm_machine.proofs.QueryFolds.{plan_lawful, plan_runs}
 use Rattle.wsm_machine.proofs.CountedSessions.{sessions_by_event}

@@ -31,8 +31,8 @@ use Rattle.wsm_semantics.proofs.KeptPanes as panes_kept
 use Rattle.wsm_program.specs.declared.instr.SectionId.TheVariants.{Fire}
 use Rattle.wsm_program.specs.Program.{Program, is_program}
 use Rattle.wsm_program.specs.declared.program.Costs.{Costs}
-use Rattle.wsm_verifier.specs.Rules.{judge}
-use Rattle.wsm_verifier.proofs.Lawful.{lawful as program_lawful, short}
+use Rattle.wsm_rules.specs.Rules.{judge}
+use Rattle.wsm_rules.proofs.Lawful.{lawful as program_lawful, short}
 use Rattle.wsm_machine.specs.Meaning.{query_of, plan_of, selects, pane_inputs, fire_run, fire_steps, pane_cost_by}
 use Rattle.wsm_machine.specs.Sound.{MayFire}
 use Rattle.wsm_machine.specs.Step.{setting}

@@ -35,8 +35,8 @@ use Rattle.wsm_semantics.proofs.SessionStep.{mine, joined_at, new_inside, places
 use Rattle.wsm_semantics.proofs.HeldPanes.{IsHeldPane, held_panes}
 use Rattle.wsm_program.specs.Program.{Program, is_program}
 use Rattle.wsm_program.specs.declared.program.Costs.{Costs}
-use Rattle.wsm_verifier.specs.Rules.{judge}
-use Rattle.wsm_verifier.proofs.Lawful.{lawful as program_lawful}
+use Rattle.wsm_rules.specs.Rules.{judge}
+use Rattle.wsm_rules.proofs.Lawful.{lawful as program_lawful}
 use Rattle.wsm_machine.specs.Meaning.{query_of, plan_of, selects}
 use Rattle.wsm_machine.proofs.CountedSessions.{sessions_by_event}
 use Rattle.wsm_panes.specs.Held.{session_entered}

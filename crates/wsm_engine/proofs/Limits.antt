@@ -21,9 +21,9 @@ use Rattle.wsm_program.specs.Program.{Header, Program, is_budget, is_late_by, is
 use Rattle.wsm_program.proofs.Lawful.{header_parts, program_header}
 use Rattle.wsm_program.proofs.Within.{at_most}
 use Rattle.wsm_program.specs.declared.program.Costs.{Costs}
-use Rattle.wsm_verifier.specs.Costs.{needed}
-use Rattle.wsm_verifier.specs.Rules.{judge}
-use Rattle.wsm_verifier.proofs.Lawful.{IsLawful, lawful as program_lawful, within}
+use Rattle.wsm_rules.specs.Costs.{needed}
+use Rattle.wsm_rules.specs.Rules.{judge}
+use Rattle.wsm_rules.proofs.Lawful.{IsLawful, lawful as program_lawful, within}
 use Rattle.wsm_machine.specs.Meaning.{query_of}
 use Rattle.wsm_machine.proofs.TurnCosts.{stated}
 

@@ -11,8 +11,8 @@ use Rattle.wsm_semantics.specs.Replay.{datum}
 use Rattle.wsm_program.specs.declared.instr.SectionId.TheVariants.{Where, Update, Fire}
 use Rattle.wsm_program.specs.Program.{Program, is_program}
 use Rattle.wsm_program.specs.declared.program.Costs.{Costs}
-use Rattle.wsm_verifier.specs.Costs.{longest_path}
-use Rattle.wsm_verifier.specs.Rules.{judge}
+use Rattle.wsm_rules.specs.Costs.{longest_path}
+use Rattle.wsm_rules.specs.Rules.{judge}
 use Rattle.wsm_machine.specs.Meaning.{query_of, plan_of, record_inputs, pane_inputs, fire_steps, pane_cost}
 use Rattle.wsm_machine.specs.Sound.{IsDatumInRange, MayFire}
 use Rattle.wsm_machine.proofs.QueryFolds.{folded_is}

@@ -23,7 +23,7 @@ use Rattle.wsm_semantics.specs.Summaries.{entered}
 use Rattle.wsm_semantics.specs.Replay.{datum}
 use Rattle.wsm_semantics.specs.Relation.{chosen_rows, stream_rows}
 use Rattle.wsm_program.specs.Program.{Program}
-use Rattle.wsm_verifier.specs.Costs.{needed}
+use Rattle.wsm_rules.specs.Costs.{needed}
 use Rattle.wsm_machine.specs.Meaning.{query_of, plan_of, selects, updated, where_run, update_run, record_cost_by}
 use Rattle.wsm_machine.specs.Sound.{IsDatumInRange}
 use Rattle.wsm_machine.proofs.TurnCosts.{record_cost_within}

@@ -41,8 +41,8 @@ use Rattle.wsm_semantics.proofs.HeldRecords.{each_of, total-where}
 use Rattle.wsm_program.specs.declared.instr.SectionId.TheVariants.{Fire}
 use Rattle.wsm_program.specs.Program.{Program, is_program}
 use Rattle.wsm_program.specs.declared.program.Costs.{Costs}
-use Rattle.wsm_verifier.specs.Rules.{judge}
-use Rattle.wsm_verifier.proofs.Lawful.{lawful as program_lawful}
+use Rattle.wsm_rules.specs.Rules.{judge}
+use Rattle.wsm_rules.proofs.Lawful.{lawful as program_lawful}
 use Rattle.wsm_machine.specs.InRange.{in_range}
 use Rattle.wsm_machine.specs.Meaning.{query_of, plan_of, selects, updated, pane_inputs}
 use Rattle.wsm_machine.specs.Sound.{AreSound, IsSoundEntry, IsSoundPane, IsDatumInRange}

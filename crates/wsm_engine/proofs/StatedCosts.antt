@@ -14,8 +14,8 @@ use Rattle.wsm_semantics.proofs.Steps.{fires-step}
 use Rattle.wsm_program.specs.declared.instr.SectionId.TheVariants.{Where, Update, Fire}
 use Rattle.wsm_program.specs.Program.{Program, is_program}
 use Rattle.wsm_program.specs.declared.program.Costs.{Costs}
-use Rattle.wsm_verifier.specs.Rules.{judge}
-use Rattle.wsm_verifier.proofs.Lawful.{lawful as program_lawful}
+use Rattle.wsm_rules.specs.Rules.{judge}
+use Rattle.wsm_rules.proofs.Lawful.{lawful as program_lawful}
 use Rattle.wsm_firing.specs.Tally.{greatest}
 use Rattle.wsm_machine.specs.Meaning.{query_of, plan_of, record_inputs, pane_inputs, record_cost, pane_cost, pane_cost_by}
 use Rattle.wsm_machine.specs.Sound.{IsDatumInRange, MayFire}

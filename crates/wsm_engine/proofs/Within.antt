@@ -10,7 +10,7 @@ use Rattle.wsm_semantics.specs.Summaries.{Fired}
 use Rattle.wsm_semantics.specs.Steps.{step_fires}
 use Rattle.wsm_program.specs.Program.{is_program}
 use Rattle.wsm_program.specs.declared.program.Costs.{Costs}
-use Rattle.wsm_verifier.specs.Rules.{judge}
+use Rattle.wsm_rules.specs.Rules.{judge}
 use Rattle.wsm_machine.specs.Meaning.{query_of, plan_of, pane_cost_by}
 use Rattle.wsm_machine.specs.Sound.{AreSound, IsSoundState}
 use Rattle.wsm_machine.proofs.Costs.{fired_costs_within}

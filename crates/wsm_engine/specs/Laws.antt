@@ -12,8 +12,8 @@ use Rattle.wsm_semantics.specs.Firings.{Firing, firing_set}
 use Rattle.wsm_semantics.specs.Kept.{Kept}
 use Rattle.wsm_program.specs.Instructions.{kind_of}
 use Rattle.wsm_program.specs.Program.{Program}
-use Rattle.wsm_verifier.specs.Costs.{longest_path}
-use Rattle.wsm_verifier.specs.Rules.{values_folded, update_visits}
+use Rattle.wsm_rules.specs.Costs.{longest_path}
+use Rattle.wsm_rules.specs.Rules.{values_folded, update_visits}
 use Rattle.wsm_machine.specs.declared.outcome.Outcome.TheVariants.{Done}
 use Rattle.wsm_machine.specs.InRange.{is_word, are_values_in}
 use Rattle.wsm_machine.specs.Meaning.{where_run, update_run, fire_run, folded}

@@ -20,8 +20,8 @@ use Rattle.wsm_semantics.specs.Relation.{chosen_rows, stream_rows}
 use Rattle.wsm_semantics.specs.Retractions.{retracted_in}
 use Rattle.wsm_semantics.specs.Steps.{State}
 use Rattle.wsm_program.specs.Program.{Header, Program, is_program}
-use Rattle.wsm_verifier.specs.Costs.{needed}
-use Rattle.wsm_verifier.specs.Rules.{judge}
+use Rattle.wsm_rules.specs.Costs.{needed}
+use Rattle.wsm_rules.specs.Rules.{judge}
 use Rattle.wsm_machine.specs.Meaning.{query_of, plan_of, selects, update_run, joins_sessions, windows_entered}
 use Rattle.wsm_panes.specs.declared.widths.Widths.{Widths}
 use Rattle.wsm_panes.specs.Held.{Held, entries_of}

@@ -22,8 +22,8 @@ use wsm_admission::{Admitted, Refusal};
 use wsm_firing::{Arrival, Streams, Tally, WindowOperator, enter};
 use wsm_machine::Inputs;
 use wsm_record::{Event, Kind, Value};
+use wsm_rules::Verified;
 use wsm_semantics::OutRow;
-use wsm_verifier::Verified;
 use wsm_windows::Window;
 
 /// What an event came to.

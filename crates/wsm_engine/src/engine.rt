@@ -5,8 +5,8 @@ ghost use Rattle.wsm_record.specs.Event.{Event as AnyEvent, event_of};
 ghost use Rattle.wsm_semantics.specs.Panes.{held};
 ghost use Rattle.wsm_semantics.specs.Relation.{turn_rows};
 ghost use Rattle.wsm_program.specs.Program.{is_program};
-ghost use Rattle.wsm_verifier.specs.Costs.{needed};
-ghost use Rattle.wsm_verifier.specs.Rules.{judge};
+ghost use Rattle.wsm_rules.specs.Costs.{needed};
+ghost use Rattle.wsm_rules.specs.Rules.{judge};
 ghost use Rattle.wsm_machine.specs.Meaning.{query_of};
 ghost use Rattle.wsm_engine.specs.Meaning.{Fits, reply_to, totals_of, IsRefused};
 ghost use Rattle.wsm_engine.specs.Turn.{turn, reply_by, refusal_of as spec_refusal_of};
@@ -20,8 +20,8 @@ use wsm_admission::{Admission, Admitted, Clock, Refusal};
 use wsm_firing::WindowOperator;
 use wsm_program::Program;
 use wsm_record::{Event, Schema};
+use wsm_rules::Verified;
 use wsm_semantics::{OutRow, Totals};
-use wsm_verifier::Verified;
 
 /// A verified program, what is kept of the events, and the rows of the last one.
 #[derive(Drop)]

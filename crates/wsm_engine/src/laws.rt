@@ -21,8 +21,8 @@ ghost use Rattle.wsm_semantics.specs.FromWatermark.{Stays, whole, rest, Times, L
 ghost use Rattle.wsm_semantics.specs.FromKept.{KeepAlike, FollowAlike};
 ghost use Rattle.wsm_program.specs.Program.{Program, is_program};
 ghost use Rattle.wsm_program.specs.declared.program.Costs.{Costs};
-ghost use Rattle.wsm_verifier.specs.Costs.{longest_path};
-ghost use Rattle.wsm_verifier.specs.Rules.{judge};
+ghost use Rattle.wsm_rules.specs.Costs.{longest_path};
+ghost use Rattle.wsm_rules.specs.Rules.{judge};
 ghost use Rattle.wsm_machine.specs.Meaning.{plan_of, query_of, record_cost, pane_cost};
 ghost use Rattle.wsm_firing.specs.Tally.{greatest};
 ghost use Rattle.wsm_engine.specs.Laws.{RecordEnds, FiringEnds, RecordPaths, is_in_range, JoinFits, EachTwo};

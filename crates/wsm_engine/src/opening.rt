@@ -13,7 +13,7 @@ use wsm_machine::Machine;
 use wsm_panes::{HeldPanes, Widths};
 use wsm_program::Header;
 use wsm_record::Mode;
-use wsm_verifier::Verified;
+use wsm_rules::Verified;
 use wsm_windows::live_bound;
 
 /// The window operator of a program, with all room reserved.

@@ -11,7 +11,7 @@ use Rattle.wsm_semantics.proofs.Assigned.{both}
 use Rattle.wsm_program.specs.declared.instr.SectionId.TheVariants.{Fire}
 use Rattle.wsm_program.specs.Program.{Header, Program, is_span, is_shape, is_clock, is_firing, is_row, is_header, is_program}
 use Rattle.wsm_record.specs.Schema.{is_schema}
-use Rattle.wsm_verifier.proofs.Lawful.{lawful, lawful_span}
+use Rattle.wsm_rules.proofs.Lawful.{lawful, lawful_span}
 use Rattle.wsm_machine.specs.InRange.{in_range, accs_in}
 use Rattle.wsm_machine.specs.Meaning.{pane_inputs}
 

@@ -17,8 +17,8 @@ use crate::retracting::retract_joined;
 use crate::streams::Streams;
 use wsm_panes::{Entered, HeldPanes, PaneView};
 use wsm_record::{Form, Value};
+use wsm_rules::Verified;
 use wsm_semantics::OutRow;
-use wsm_verifier::Verified;
 
 /// Puts a record into the pane of each of its windows that are live at the mark. Where that joins two
 /// sessions that both fired, their rows stand no more: the streams are told, and where panes retract

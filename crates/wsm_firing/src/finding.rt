@@ -14,7 +14,7 @@ ghost use Rattle.wsm_firing.specs.ByRecord.{AreInOrder};
 ghost use Rattle.wsm_firing.specs.ByWatermark.{IsNextToFire};
 
 use wsm_panes::{HeldPanes, Spot};
-use wsm_verifier::Verified;
+use wsm_rules::Verified;
 use wsm_windows::{Windows, live_windows_of};
 
 /// The windows that a record of a time was put into at a mark, where windows lie on a grid.

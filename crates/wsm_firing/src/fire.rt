@@ -22,8 +22,8 @@ use crate::streams::Streams;
 use crate::tally::Tally;
 use wsm_panes::{HeldPanes, Spot};
 use wsm_record::{Cell, Columns, Form};
+use wsm_rules::Verified;
 use wsm_semantics::OutRow;
-use wsm_verifier::Verified;
 use wsm_windows::{PaneKind, Window};
 
 /// A pane that fires.

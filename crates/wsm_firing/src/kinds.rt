@@ -11,8 +11,8 @@ ghost use Rattle.wsm_machine.specs.Meaning.{query_of};
 
 use wsm_panes::PaneView;
 use wsm_program::Header;
+use wsm_rules::Verified;
 use wsm_triggers::{Trigger, on_record, on_watermark};
-use wsm_verifier::Verified;
 use wsm_windows::{PaneKind, Place};
 
 /// What a pane fires as on the turn of a record in it, at a mark.

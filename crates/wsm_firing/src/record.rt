@@ -25,7 +25,7 @@ use crate::operator::{Arrival, WindowOperator};
 use crate::retracting::retract_by_record;
 use crate::run::run;
 use crate::tally::Tally;
-use wsm_verifier::Verified;
+use wsm_rules::Verified;
 use wsm_windows::{Place, Window, Windows};
 
 impl WindowOperator {

@@ -11,8 +11,8 @@ use crate::fire::Due;
 use wsm_machine::{Inputs, Machine};
 use wsm_panes::PaneView;
 use wsm_record::Cell;
+use wsm_rules::Verified;
 use wsm_triggers::computed_over;
-use wsm_verifier::Verified;
 
 /// What FIRE comes to on a pane.
 #[derive(Clone, Copy)]

@@ -23,8 +23,8 @@ use crate::streams::Streams;
 use crate::tally::Tally;
 use wsm_machine::Machine;
 use wsm_panes::HeldPanes;
+use wsm_rules::Verified;
 use wsm_semantics::OutRow;
-use wsm_verifier::Verified;
 use wsm_windows::last_expired;
 
 impl WindowOperator {

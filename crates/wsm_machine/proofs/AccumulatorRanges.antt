@@ -16,8 +16,8 @@ use Rattle.wsm_record.specs.declared.words.Kind.TheVariants.{Sum, Min, Max, Any,
 use Rattle.wsm_fold.specs.Laws.{joined_to}
 use Rattle.wsm_fold.specs.Fold.{join, joins, folds_of, is_of_kind, are_of_kinds}
 use Rattle.wsm_program.specs.Program.{Program}
-use Rattle.wsm_verifier.specs.Rules.{accumulated, and_then, values_folded, update_visits, range}
-use Rattle.wsm_verifier.proofs.FoldedRanges.{range_at}
+use Rattle.wsm_rules.specs.Rules.{accumulated, and_then, values_folded, update_visits, range}
+use Rattle.wsm_rules.proofs.FoldedRanges.{range_at}
 use Rattle.wsm_machine.specs.InRange.{is_number_in, is_word, is_value_in, is_acc_in, are_values_in, are_folded_in, accs_in}
 use Rattle.wsm_machine.proofs.FittingStacks.{no}
 use Rattle.wsm_machine.proofs.RunsToReturn.{none≢some}

@@ -20,7 +20,7 @@ use Rattle.wsm_program.specs.Program.{Program, is_program, is_late_by as is_late
 use Rattle.wsm_program.proofs.Lawful.{header_parts, program_header}
 use Rattle.std.proofs.lemmas.Bool.{and_parts}
 use Rattle.std.proofs.lemmas.Bool.Decides.{nat_tests}
-use Rattle.wsm_verifier.proofs.Lawful.{lawful}
+use Rattle.wsm_rules.proofs.Lawful.{lawful}
 use Rattle.wsm_machine.specs.Meaning.{query_of, joins_two, joins_kept, windows_entered, CountsSessions}
 
 accepted : (v : Option Refusal) → is_none v ≡ true → v ≡ None

@@ -14,10 +14,10 @@ use Rattle.wsm_record.specs.Types.{kind_type}
 use Rattle.wsm_program.specs.declared.instr.Instr.{Instr}
 use Rattle.wsm_program.specs.declared.instr.Instr.TheVariants.{Fold}
 use Rattle.wsm_program.specs.Instructions.{kind_of}
-use Rattle.wsm_verifier.specs.declared.known.Known.{Known}
-use Rattle.wsm_verifier.specs.declared.known.Known.TheVariants.{Number, Truth, NameOf}
-use Rattle.wsm_verifier.specs.Labels.{State as Knows, Reached, Visit, visit_of, visits, label_of, label_at}
-use Rattle.wsm_verifier.specs.Rules.{Setting as Rules, has_type, types_fit, last_number, hull_options, value_folded, values_folded}
+use Rattle.wsm_rules.specs.declared.known.Known.{Known}
+use Rattle.wsm_rules.specs.declared.known.Known.TheVariants.{Number, Truth, NameOf}
+use Rattle.wsm_rules.specs.Labels.{State as Knows, Reached, Visit, visit_of, visits, label_of, label_at}
+use Rattle.wsm_rules.specs.Rules.{Setting as Rules, has_type, types_fit, last_number, hull_options, value_folded, values_folded}
 use Rattle.wsm_record.specs.declared.cell.Cell.{Cell}
 use Rattle.wsm_record.specs.declared.cell.Cell.TheVariants as cell
 use Rattle.wsm_machine.specs.Step.{Setting, State, with_fold, value_of}

@@ -13,7 +13,7 @@ use Rattle.wsm_record.specs.declared.words.Kind.TheVariants.{Sum, Min, Max, Any,
 use Rattle.wsm_fold.specs.Fold.{folds_of}
 use Rattle.wsm_program.specs.Program.{Program, is_program}
 use Rattle.wsm_program.specs.declared.program.Costs.{Costs}
-use Rattle.wsm_verifier.specs.Rules.{values_folded, update_visits, judge}
+use Rattle.wsm_rules.specs.Rules.{values_folded, update_visits, judge}
 use Rattle.wsm_machine.specs.InRange.{is_word, are_folded_in, accs_in}
 use Rattle.wsm_machine.proofs.AccumulatorRanges.{plus_more, through, NumberIn, IsTruthValue, Multiplied, ValueIn, ValuesIn, counted, accs_of_rows}
 use Rattle.wsm_machine.proofs.FittingSums.{EndsFit, ends_fit, least_end, greatest_end, folded_rows}

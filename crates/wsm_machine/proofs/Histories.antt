@@ -6,8 +6,8 @@ use Rattle.wsm_semantics.specs.Steps.{Fits, run}
 use Rattle.wsm_semantics.proofs.Steps.{Fits-run}
 use Rattle.wsm_program.specs.Program.{Program, is_program}
 use Rattle.wsm_program.specs.declared.program.Costs.{Costs}
-use Rattle.wsm_verifier.specs.Rules.{judge}
-use Rattle.wsm_verifier.proofs.Lawful.{lawful as program_lawful}
+use Rattle.wsm_rules.specs.Rules.{judge}
+use Rattle.wsm_rules.proofs.Lawful.{lawful as program_lawful}
 use Rattle.wsm_machine.specs.Meaning.{query_of, plan_of}
 use Rattle.wsm_machine.specs.Sound.{IsSoundState}
 use Rattle.wsm_machine.proofs.QueryFolds.{plan_lawful, plan_runs}

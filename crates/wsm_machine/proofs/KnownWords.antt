@@ -21,12 +21,12 @@ use Rattle.wsm_program.specs.declared.operation.Operation.TheVariants.{Add, Sub,
 use Rattle.wsm_program.specs.Instructions.{opposite_test}
 use Rattle.wsm_program.specs.Program.{Name, Header, Program, is_program, is_instr}
 use Rattle.wsm_program.proofs.Lawful.{program_header}
-use Rattle.wsm_verifier.specs.declared.known.Known.{Known}
-use Rattle.wsm_verifier.specs.declared.known.Known.TheVariants.{Number, Truth, NameOf}
-use Rattle.wsm_verifier.specs.Labels.{State, Ranges, Label, Unreached, Differing, Reached, Visit, of_one, of_two, computed, pushed, pops, folded_after, narrowed_known, narrowed, along, agree, hull_known, hull_lists, hull_states, label_with, leads, left_from, carried_to, gathered, label_of, visits_back}
-use Rattle.wsm_verifier.specs.Rules.{entry, known_field, known_fields, ranges_of_record, update_visits, last_number, hull_options, value_folded, values_folded}
-use Rattle.wsm_verifier.proofs.LabelPass.{with_edge, gathered_next}
-use Rattle.wsm_verifier.proofs.Lawful.{lawful}
+use Rattle.wsm_rules.specs.declared.known.Known.{Known}
+use Rattle.wsm_rules.specs.declared.known.Known.TheVariants.{Number, Truth, NameOf}
+use Rattle.wsm_rules.specs.Labels.{State, Ranges, Label, Unreached, Differing, Reached, Visit, of_one, of_two, computed, pushed, pops, folded_after, narrowed_known, narrowed, along, agree, hull_known, hull_lists, hull_states, label_with, leads, left_from, carried_to, gathered, label_of, visits_back}
+use Rattle.wsm_rules.specs.Rules.{entry, known_field, known_fields, ranges_of_record, update_visits, last_number, hull_options, value_folded, values_folded}
+use Rattle.wsm_rules.proofs.LabelPass.{with_edge, gathered_next}
+use Rattle.wsm_rules.proofs.Lawful.{lawful}
 use Rattle.wsm_semantics.proofs.Each.{all-append}
 use Rattle.wsm_machine.proofs.Operands.{rest_holds, instructions_lawful, section_lawful}
 use Rattle.wsm_machine.proofs.PushedValues.{Within, add_within, sub_within, mul_within, div_within, rem_within, neg_within}

@@ -10,10 +10,10 @@ use Rattle.wsm_program.specs.declared.instr.Instr.{Instr}
 use Rattle.wsm_program.specs.declared.instr.Instr.TheVariants.{Fold, Return}
 use Rattle.wsm_program.specs.declared.instr.SectionId.{SectionId}
 use Rattle.wsm_program.specs.Program.{Program, section}
-use Rattle.wsm_verifier.specs.declared.known.Known.{Known}
-use Rattle.wsm_verifier.specs.Labels as labels
-use Rattle.wsm_verifier.specs.Rules as rules
-use Rattle.wsm_verifier.proofs.AcceptedPlaces.{Passes}
+use Rattle.wsm_rules.specs.declared.known.Known.{Known}
+use Rattle.wsm_rules.specs.Labels as labels
+use Rattle.wsm_rules.specs.Rules as rules
+use Rattle.wsm_rules.proofs.AcceptedPlaces.{Passes}
 use Rattle.wsm_record.specs.declared.cell.Cell.{Cell}
 use Rattle.wsm_machine.specs.Inputs.{Inputs}
 use Rattle.wsm_program.specs.Instructions.{pops, how_many}

@@ -18,7 +18,7 @@ use Rattle.wsm_semantics.specs.Summaries.{with_folded, joined_folds}
 use Rattle.wsm_program.specs.declared.instr.SectionId.TheVariants.{Update, Fire}
 use Rattle.wsm_program.specs.Program.{Program, is_program}
 use Rattle.wsm_program.specs.declared.program.Costs.{Costs}
-use Rattle.wsm_verifier.specs.Rules.{judge}
+use Rattle.wsm_rules.specs.Rules.{judge}
 use Rattle.wsm_machine.specs.InRange.{in_range, is_word, are_folded_in}
 use Rattle.wsm_machine.specs.Meaning.{record_inputs, pane_inputs, update_run, updated, plan_of}
 use Rattle.wsm_machine.specs.Sound.{AreFolds, AreFoldsOf, IsDatumInRange}

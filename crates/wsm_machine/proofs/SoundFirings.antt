@@ -28,8 +28,8 @@ use Rattle.wsm_semantics.proofs.HeldRecords.{at_most-entered}
 use Rattle.wsm_program.specs.declared.instr.SectionId.TheVariants.{Fire}
 use Rattle.wsm_program.specs.Program.{Program, is_program}
 use Rattle.wsm_program.specs.declared.program.Costs.{Costs}
-use Rattle.wsm_verifier.specs.Rules.{judge}
-use Rattle.wsm_verifier.proofs.Lawful as lawful_programs
+use Rattle.wsm_rules.specs.Rules.{judge}
+use Rattle.wsm_rules.proofs.Lawful as lawful_programs
 use Rattle.wsm_machine.specs.InRange.{in_range}
 use Rattle.wsm_machine.specs.Meaning.{pane_inputs, query_of, plan_of, fire_steps, pane_cost_by}
 use Rattle.wsm_machine.specs.Sound.{AreFoldsOf, IsSoundPane, IsSoundEntry, AreSound, IsSoundState, IsDatumInRange, MayFire}

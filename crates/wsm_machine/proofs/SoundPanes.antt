@@ -28,8 +28,8 @@ use Rattle.wsm_semantics.proofs.Lists.{filter-all, put-all}
 use Rattle.wsm_semantics.proofs.HeldRecords.{at_most-after_record, at_most-fired, at_most-after_watermark}
 use Rattle.wsm_program.specs.Program.{Program, is_program}
 use Rattle.wsm_program.specs.declared.program.Costs.{Costs}
-use Rattle.wsm_verifier.specs.Rules.{judge}
-use Rattle.wsm_verifier.proofs.Lawful as lawful_programs
+use Rattle.wsm_rules.specs.Rules.{judge}
+use Rattle.wsm_rules.proofs.Lawful as lawful_programs
 use Rattle.wsm_machine.specs.Meaning.{query_of, plan_of}
 use Rattle.wsm_machine.specs.Sound.{AreFolds, AreFoldsOf, IsSoundPane, IsSoundEntry, AreSound, IsDatumInRange}
 use Rattle.wsm_machine.proofs.SoundAccumulators.{folds_of_parts, row_folded, folds_with}

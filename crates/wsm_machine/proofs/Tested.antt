@@ -6,7 +6,7 @@ use Rattle.wsm_record.specs.declared.words.CellType.{CellType}
 use Rattle.wsm_machine.specs.Inputs.{is_of_field, are_of_fields}
 use Rattle.wsm_machine.specs.Step.{is_type, are_types}
 use Rattle.wsm_program.specs.Program.{Program}
-use Rattle.wsm_verifier.specs.Rules.{range}
+use Rattle.wsm_rules.specs.Rules.{range}
 use Rattle.wsm_machine.specs.InRange.{is_acc_in, accs_in}
 use Rattle.wsm_machine.proofs.Pairs.{TestsPairs}
 use Rattle.wsm_machine.proofs.PairsAt.{TestsAt}

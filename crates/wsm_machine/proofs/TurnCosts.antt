@@ -17,13 +17,13 @@ use Rattle.wsm_semantics.specs.Summaries.{Pane}
 use Rattle.wsm_program.specs.declared.instr.SectionId.TheVariants.{Where, Update, Fire}
 use Rattle.wsm_program.specs.Program.{Program, is_program}
 use Rattle.wsm_program.specs.declared.program.Costs.{Costs}
-use Rattle.wsm_verifier.specs.declared.rejection.Rejection.{Rejection}
-use Rattle.wsm_verifier.specs.declared.rejection.Rule.{Rule}
-use Rattle.wsm_verifier.specs.Costs.{longest_path, windows_of_a_record, join_steps, needed}
-use Rattle.wsm_verifier.specs.Rules.{judge, first_of}
-use Rattle.wsm_verifier.proofs.AcceptedPlaces.{accepted}
-use Rattle.wsm_verifier.proofs.Lawful as lawful_programs
-use Rattle.wsm_verifier.proofs.Lawful.{product_few}
+use Rattle.wsm_rules.specs.declared.rejection.Rejection.{Rejection}
+use Rattle.wsm_rules.specs.declared.rejection.Rule.{Rule}
+use Rattle.wsm_rules.specs.Costs.{longest_path, windows_of_a_record, join_steps, needed}
+use Rattle.wsm_rules.specs.Rules.{judge, first_of}
+use Rattle.wsm_rules.proofs.AcceptedPlaces.{accepted}
+use Rattle.wsm_rules.proofs.Lawful as lawful_programs
+use Rattle.wsm_rules.proofs.Lawful.{product_few}
 use Rattle.wsm_machine.specs.InRange.{in_range}
 use Rattle.wsm_machine.specs.Meaning.{record_inputs, pane_inputs, where_run, update_run, fire_run, selects, record_steps, joins_sessions, record_cost_by, windows_entered}
 use Rattle.wsm_machine.specs.Sound.{IsDatumInRange}

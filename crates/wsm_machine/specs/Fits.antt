@@ -8,9 +8,9 @@ use Rattle.wsm_program.specs.declared.instr.SectionId.TheVariants.{Where, Update
 use Rattle.wsm_record.specs.declared.event.Value.{Value}
 use Rattle.wsm_program.specs.Program.{Program, section}
 use Rattle.wsm_record.specs.Schema.{is_i64}
-use Rattle.wsm_verifier.specs.declared.known.Known.{Known}
-use Rattle.wsm_verifier.specs.declared.known.Known.TheVariants.{Number, Truth, NameOf}
-use Rattle.wsm_verifier.specs.Labels as labels
+use Rattle.wsm_rules.specs.declared.known.Known.{Known}
+use Rattle.wsm_rules.specs.declared.known.Known.TheVariants.{Number, Truth, NameOf}
+use Rattle.wsm_rules.specs.Labels as labels
 use Rattle.wsm_record.specs.declared.cell.Cell.{Cell}
 use Rattle.wsm_record.specs.declared.cell.Cell.TheVariants.{Int, Bool, Enum}
 use Rattle.wsm_machine.specs.Inputs.{Inputs}

@@ -10,7 +10,7 @@ ghost use Rattle.wsm_machine.specs.InRange.{is_word, is_number_in as is_number_i
 use wsm_interval::Interval;
 use wsm_program::{Program, SectionId};
 use wsm_record::{DeclaredField, FieldType, Kind, Value};
-use wsm_verifier::Verified;
+use wsm_rules::Verified;
 
 /// What a section may read. WHERE and UPDATE read the key and the values of a record; FIRE reads
 /// the key of a pane, the number of records in its firing, and what its accumulators hold.

@@ -2,9 +2,9 @@
 use Rattle.std.proofs.Common.{◌≡◌, ℕ, Bool, true, false, cond, List, [], ◌∷◌, ◌++◌, Option, Some, None, refl, sym, ap}
 use Rattle.std.proofs.lemmas.Bool.{true≢false}
 use Rattle.wsm_program.specs.declared.Instr.{Instr}
-use Rattle.wsm_verifier.specs.declared.rejection.Rule.{Rule}
-use Rattle.wsm_verifier.specs.Labels.{State}
-use Rattle.wsm_verifier.specs.Rules.{Setting, first_of, operand_tests, result_tests, tests}
+use Rattle.wsm_rules.specs.declared.rejection.Rule.{Rule}
+use Rattle.wsm_rules.specs.Labels.{State}
+use Rattle.wsm_rules.specs.Rules.{Setting, first_of, operand_tests, result_tests, tests}
 
 none≢some : {A X : Type 0} {a : A} → Some a ≡ None → X
 none≢some {A} {X} {a} e = let tag : Option A → Bool = λ o. elim o [ None ↦ true | Some x ↦ false ] in absurd (true≢false (sym (ap tag e)))

@@ -9,14 +9,14 @@ use Rattle.wsm_program.specs.declared.SectionId.{SectionId}
 use Rattle.wsm_program.specs.declared.SectionId.TheVariants.{Where, Update, Fire}
 use Rattle.wsm_program.specs.Instructions.{kind_of}
 use Rattle.wsm_program.specs.Program.{Program, section}
-use Rattle.wsm_verifier.specs.declared.rejection.Rule.TheVariants.{Memory}
-use Rattle.wsm_verifier.specs.declared.rejection.Rejection.{Rejection}
-use Rattle.wsm_verifier.specs.declared.known.Known.{Known}
-use Rattle.wsm_verifier.specs.Labels.{Ranges, Visit, visits}
-use Rattle.wsm_verifier.specs.Rules.{Setting, setting, entry, first_fault, section_fault, or_then, fault_in, code_fault, ranges_of_record, ranges_of_pane, update_visits, values_folded, folded_from, known_fields}
-use Rattle.wsm_verifier.specs.Accumulated.{stays}
+use Rattle.wsm_rules.specs.declared.rejection.Rule.TheVariants.{Memory}
+use Rattle.wsm_rules.specs.declared.rejection.Rejection.{Rejection}
+use Rattle.wsm_rules.specs.declared.known.Known.{Known}
+use Rattle.wsm_rules.specs.Labels.{Ranges, Visit, visits}
+use Rattle.wsm_rules.specs.Rules.{Setting, setting, entry, first_fault, section_fault, or_then, fault_in, code_fault, ranges_of_record, ranges_of_pane, update_visits, values_folded, folded_from, known_fields}
+use Rattle.wsm_rules.specs.Accumulated.{stays}
 use Rattle.wsm_verifier.specs.Turning.{unfolded}
-use Rattle.wsm_verifier.proofs.FoldedRanges.{folded_is, stay_all}
+use Rattle.wsm_rules.proofs.FoldedRanges.{folded_is, stay_all}
 
 flags : (ks : List Kind) → replicate (length ks) false ≡ map (λ k. false) ks
 flags [] = refl

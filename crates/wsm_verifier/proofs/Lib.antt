@@ -1,8 +1,3 @@
-pub mod LabelPass
-pub mod Longest
-pub mod AcceptedPlaces
-pub mod Lawful
-pub mod FoldedRanges
 mod Ways
 mod WidenedStacks
 mod PassKept

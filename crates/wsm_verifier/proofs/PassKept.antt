@@ -12,13 +12,13 @@ use Rattle.wsm_program.specs.declared.Instr.{Instr}
 use Rattle.wsm_program.specs.declared.Edges.{Edges}
 use Rattle.wsm_program.specs.declared.Edges.TheVariants.{Nowhere, Next, Target, Either, Tested}
 use Rattle.wsm_program.specs.Instructions.{opposite_test, edges, places, is_bad, target_of}
-use Rattle.wsm_verifier.specs.declared.rejection.Rule.{Rule}
-use Rattle.wsm_verifier.specs.declared.rejection.Rejection.{Rejection}
-use Rattle.wsm_verifier.specs.declared.rejection.Part.TheVariants.{Code}
-use Rattle.wsm_verifier.specs.Labels.{State, Ranges, Label, Unreached, Reached, Visit, label_with, leads, along, carried, narrowed, left_from, carried_to, gathered, label_of, visit, visit_of, visits_back, visits}
-use Rattle.wsm_verifier.specs.Rules.{Setting, fault_of, fault_at, or_then, first_fault, section_fault, hull_options, value_folded, values_folded}
+use Rattle.wsm_rules.specs.declared.rejection.Rule.{Rule}
+use Rattle.wsm_rules.specs.declared.rejection.Rejection.{Rejection}
+use Rattle.wsm_rules.specs.declared.rejection.Part.TheVariants.{Code}
+use Rattle.wsm_rules.specs.Labels.{State, Ranges, Label, Unreached, Reached, Visit, label_with, leads, along, carried, narrowed, left_from, carried_to, gathered, label_of, visit, visit_of, visits_back, visits}
+use Rattle.wsm_rules.specs.Rules.{Setting, fault_of, fault_at, or_then, first_fault, section_fault, hull_options, value_folded, values_folded}
 use Rattle.wsm_verifier.specs.Turning.{label_in, joined_at, joined_along, joined_by, turned}
-use Rattle.wsm_verifier.proofs.LabelPass.{with_edge, gathered_next, length-visits_back, visits_next}
+use Rattle.wsm_rules.proofs.LabelPass.{with_edge, gathered_next, length-visits_back, visits_next}
 
 -- ---- the labels that an instruction changes
 

@@ -3,8 +3,8 @@ use Rattle.std.proofs.Common.{◌≡◌, ℕ, zero, suc, ◌+◌, ◌≤◌, ◌
 use Rattle.std.proofs.Math.Seq.{drop-cons}
 use Rattle.std.specs.Prelude.{slice_index_or, unwrap_or}
 use Rattle.wsm_program.specs.declared.Instr.{Instr}
-use Rattle.wsm_verifier.specs.Costs.{way_of, ways, longest_path}
-use Rattle.wsm_verifier.proofs.Longest.{short_way}
+use Rattle.wsm_rules.specs.Costs.{way_of, ways, longest_path}
+use Rattle.wsm_rules.proofs.Longest.{short_way}
 
 pub drop-set : {X : Type 0} (xs : List X) (p : ℕ) (w : X) → p < length xs → drop p (set xs p w) ≡ w ∷ drop (suc p) xs
 drop-set [] p w h = absurd (omega arith)

@@ -1,7 +1,7 @@
 -- A stack that is widened in place, a value at a time.
 use Rattle.std.proofs.Common.{◌≡◌, ℕ, zero, suc, ◌+◌, ◌<◌, ◌≤◌, List, [], ◌∷◌, length, get_or, set, refl, ap, arith}
-use Rattle.wsm_verifier.specs.declared.known.Known.{Known}
-use Rattle.wsm_verifier.specs.Labels.{hull_known, hull_lists}
+use Rattle.wsm_rules.specs.declared.known.Known.{Known}
+use Rattle.wsm_rules.specs.Labels.{hull_known, hull_lists}
 
 -- the first values are widened
 abbrev pub widened : ℕ → List Known → List Known → List Known

@@ -1,10 +1,4 @@
-pub mod Costs
-pub mod Labels
-pub mod Rules
 pub mod Trying
-pub mod Accumulated
 pub mod Turning
-pub mod Text
 pub mod Vectors
 pub mod TestVectors
-pub mod SelectsAll

@@ -7,8 +7,8 @@ use Rattle.wsm_program.specs.declared.Instr.TheVariants.{PushInt, PushBool, Fiel
 use Rattle.wsm_program.specs.declared.Operation.TheVariants.{Div, Gt}
 use Rattle.wsm_program.specs.declared.SectionId.TheVariants.{Where, Update, Fire}
 use Rattle.wsm_record.specs.Schema.{Int}
-use Rattle.wsm_verifier.specs.declared.rejection.Rule.TheVariants as rule
-use Rattle.wsm_verifier.specs.declared.rejection.Part.TheVariants.{Code}
+use Rattle.wsm_rules.specs.declared.rejection.Rule.TheVariants as rule
+use Rattle.wsm_rules.specs.declared.rejection.Part.TheVariants.{Code}
 use Rattle.wsm_verifier.specs.Vectors.{base, costs, judged, refused}
 
 abbrev test : ℕ → Comparison → ℤ → ℕ → Instr

@@ -4,10 +4,10 @@ use Rattle.wsm_program.specs.declared.Instr.{Instr}
 use Rattle.wsm_program.specs.declared.Edges.{Edges}
 use Rattle.wsm_program.specs.declared.Edges.TheVariants.{Nowhere, Next, Target, Either, Tested}
 use Rattle.wsm_program.specs.Instructions.{edges}
-use Rattle.wsm_verifier.specs.declared.known.Known.{Known}
+use Rattle.wsm_rules.specs.declared.known.Known.{Known}
 use Rattle.wsm_verifier.specs.declared.label.Kept.{Kept}
 use Rattle.wsm_verifier.specs.declared.label.Kept.TheVariants as kept
-use Rattle.wsm_verifier.specs.Labels.{State, Ranges, Label, Unreached, Differing, Reached, label_with, carried, left_from}
+use Rattle.wsm_rules.specs.Labels.{State, Ranges, Label, Unreached, Differing, Reached, label_with, carried, left_from}
 
 abbrev pub label_kept : Kept → Label
 label_kept kept.Unreached = Unreached

@@ -14,15 +14,15 @@ use Rattle.wsm_record.specs.declared.Form.TheVariants.{Panes}
 use Rattle.wsm_record.specs.declared.words.CellType.{CellType}
 use Rattle.wsm_record.specs.declared.words.CellType.TheVariants as column
 use Rattle.wsm_program.specs.declared.Instr.{Instr}
-use Rattle.wsm_verifier.specs.declared.rejection.Rule.{Rule}
-use Rattle.wsm_verifier.specs.declared.rejection.Rule.TheVariants as rule
-use Rattle.wsm_verifier.specs.declared.rejection.Part.{Part}
-use Rattle.wsm_verifier.specs.declared.rejection.Part.TheVariants.{Code, Budget}
-use Rattle.wsm_verifier.specs.declared.rejection.Rejection.{Rejection}
+use Rattle.wsm_rules.specs.declared.rejection.Rule.{Rule}
+use Rattle.wsm_rules.specs.declared.rejection.Rule.TheVariants as rule
+use Rattle.wsm_rules.specs.declared.rejection.Part.{Part}
+use Rattle.wsm_rules.specs.declared.rejection.Part.TheVariants.{Code, Budget}
+use Rattle.wsm_rules.specs.declared.rejection.Rejection.{Rejection}
 use Rattle.wsm_program.specs.declared.program.Costs.{Costs}
 use Rattle.wsm_program.specs.Program.{Program}
 use Rattle.wsm_interval.specs.Interval.{interval}
-use Rattle.wsm_verifier.specs.Rules.{judge, range}
+use Rattle.wsm_rules.specs.Rules.{judge, range}
 
 abbrev pub costs : ℕ → ℕ → ℕ → Costs
 costs record_steps pane_steps held = record { per_record = record_steps; per_pane = pane_steps; held = held }

@@ -3,9 +3,9 @@
 ghost use Rattle.std.specs.Prelude.{◌≡◌, ◌*ℤ◌, true, Some, length, IfOk};
 ghost use Rattle.std.specs.Int.{int_max, int_min};
 ghost use Rattle.wsm_record.specs.Schema.{is_i64};
-ghost use Rattle.wsm_verifier.specs.Accumulated.{StayAll, stays};
-ghost use Rattle.wsm_verifier.specs.Rules as rules;
-ghost use Rattle.wsm_verifier.specs.Rules.{accumulated_each, and_then};
+ghost use Rattle.wsm_rules.specs.Accumulated.{StayAll, stays};
+ghost use Rattle.wsm_rules.specs.Rules as rules;
+ghost use Rattle.wsm_rules.specs.Rules.{accumulated_each, and_then};
 
 use std::alloc::{AllocError, Global};
 use wsm_interval::Interval;

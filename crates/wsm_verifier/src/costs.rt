@@ -3,8 +3,8 @@
 ghost use Rattle.std.specs.Prelude.{◌≡◌, ◌≤◌, pos, ◌≤ℤ◌, IfOk};
 ghost use Rattle.wsm_windows.specs.Windows.{IsShape};
 ghost use Rattle.wsm_program.specs.Program.{section};
-ghost use Rattle.wsm_verifier.specs.Costs as spec;
-ghost use Rattle.wsm_verifier.specs.Costs.{IsLongestPath};
+ghost use Rattle.wsm_rules.specs.Costs as spec;
+ghost use Rattle.wsm_rules.specs.Costs.{IsLongestPath};
 
 use crate::paths::longest_path;
 use std::alloc::{AllocError, Global};

@@ -2,14 +2,14 @@
 
 ghost use Rattle.std.specs.Prelude.{◌≡◌, ℕ, cond, Some, IfOk, IfErr};
 ghost use Rattle.wsm_program.specs.declared.Instr.{Instr};
-ghost use Rattle.wsm_verifier.specs.Labels.{Unreached, Differing, Reached, agree, hull_states, label_with};
-ghost use Rattle.wsm_verifier.specs.Rules.{Setting, fault_of};
+ghost use Rattle.wsm_rules.specs.Labels.{Unreached, Differing, Reached, agree, hull_states, label_with};
+ghost use Rattle.wsm_rules.specs.Rules.{Setting, fault_of};
 ghost use Rattle.wsm_verifier.specs.Turning.{label_kept};
 
-use crate::rejection::Rule;
 use crate::state::State;
 use std::marker::Model;
 use std::mem;
+use wsm_rules::Rule;
 
 /// What a place is known to have: the hull of all that its edges carry.
 #[derive(Drop)]
@@ -27,7 +27,7 @@ enum Kept {
 }
 
 impl Model for Label {
-    ghost use Rattle.wsm_verifier.specs.Labels.{Label as LabelValue};
+    ghost use Rattle.wsm_rules.specs.Labels.{Label as LabelValue};
 
     ghost Value = { LabelValue };
 

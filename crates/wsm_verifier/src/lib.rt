@@ -1,13 +1,8 @@
-//! What makes a program trustworthy before its first row: what it may cost, and the rules of
-//! acceptance.
+//! The judge of programs: by the rules of `wsm_rules` it makes a program trustworthy before its
+//! first row.
 //!
 //! [`verify`] accepts a program, or refuses it for its first fault. [`needed`] says what a program
 //! costs, also one that would be refused.
-//!
-//! A section is a list of instructions whose jumps lead forward alone. What is known at a place is
-//! the hull of all that the ways to it carry (Cousot & Cousot 1977): the types on the stack, an
-//! interval for each number, and which accumulators are folded. The cost of a section is its longest
-//! path, in instructions.
 //!
 //! Where `bytes` is the program that counts the records of two keys in windows of 60 and sums their
 //! field n of 0 to 100, and `wrong` one that writes `100 / SUM(n)`:
@@ -29,20 +24,18 @@
 #![tactic(auto)]
 
 pub use costs::needed;
-pub use rejection::{Part, Rejection, Rule};
-pub use verified::{Verified, verify};
+pub use judging::verify;
 pub use wsm_program::Costs;
+pub use wsm_rules::{Part, Rejection, Rule, Verified};
 
 mod accumulated;
 mod costs;
-mod known;
+mod judging;
 mod label;
 mod pass;
 mod paths;
 mod ranges;
 mod reads;
-mod rejection;
 mod rules;
 mod state;
 mod types;
-mod verified;

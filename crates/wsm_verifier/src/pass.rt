@@ -4,24 +4,23 @@
 ghost use Rattle.std.specs.Prelude.{◌≡◌, ℕ, suc, ◌<◌, ◌≤◌, ◌&&◌, false, None, Some, length, nat_eq, replicate, slice_index_or, slice_set, IfOk, IfErr, OnOk};
 ghost use Rattle.wsm_program.specs.Instructions as table;
 ghost use Rattle.wsm_program.specs.declared.Edges.TheVariants.{Tested};
-ghost use Rattle.wsm_verifier.specs.Labels as spec;
-ghost use Rattle.wsm_verifier.specs.Labels.{Unreached, Reached, visits};
-ghost use Rattle.wsm_verifier.specs.Rules as rules;
-ghost use Rattle.wsm_verifier.specs.declared.rejection.Part.TheVariants.{Code};
-ghost use Rattle.wsm_verifier.specs.Rules.{section_fault, fault_of, hull_options, value_folded, values_folded};
+ghost use Rattle.wsm_rules.specs.Labels as spec;
+ghost use Rattle.wsm_rules.specs.Labels.{Unreached, Reached, visits};
+ghost use Rattle.wsm_rules.specs.Rules as rules;
+ghost use Rattle.wsm_rules.specs.declared.rejection.Part.TheVariants.{Code};
+ghost use Rattle.wsm_rules.specs.Rules.{section_fault, fault_of, hull_options, value_folded, values_folded};
 ghost use Rattle.wsm_verifier.specs.Trying.{setting_of};
 ghost use Rattle.wsm_verifier.specs.Turning.{unfolded, label_in, joined_along, turned};
 
-use crate::known::Known;
 use crate::label::Label;
 use crate::ranges::Ranges;
-use crate::rejection::{Part, Rejection, Rule};
 use crate::rules::Setting;
 use crate::state::State;
 use std::alloc::{AllocError, Global};
 use std::mem;
 use wsm_interval::Interval;
 use wsm_program::{Edges, FieldTest, Instr, SectionId};
+use wsm_rules::{Known, Part, Rejection, Rule};
 
 /// The first fault of a section, or else the hull of the numbers that are folded into each
 /// accumulator.

@@ -2,8 +2,8 @@
 
 ghost use Rattle.std.specs.Prelude.{◌≡◌, ◌+◌, ◌<◌, ◌≤◌, length, drop, All, IfSome, IfOk};
 ghost use Rattle.wsm_record.specs.declared.limits.TheConstants.{MAX_SECTION};
-ghost use Rattle.wsm_verifier.specs.Costs as spec;
-ghost use Rattle.wsm_verifier.specs.Costs.{IsLongestPath};
+ghost use Rattle.wsm_rules.specs.Costs as spec;
+ghost use Rattle.wsm_rules.specs.Costs.{IsLongestPath};
 
 use std::alloc::{AllocError, Global};
 use wsm_program::{Edges, Instr};

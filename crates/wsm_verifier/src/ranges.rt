@@ -2,13 +2,13 @@
 
 ghost use Rattle.std.specs.Prelude.{◌≡◌, [], ◌∷◌, option_map, slice_index_or};
 ghost use Rattle.std.specs.Option.{option_to_list};
-ghost use Rattle.wsm_verifier.specs.Labels as spec;
+ghost use Rattle.wsm_rules.specs.Labels as spec;
 
-use crate::known::Known;
 use crate::state::State;
 use std::marker::Model;
 use wsm_interval::Interval;
 use wsm_program::{Instr, Operation};
+use wsm_rules::Known;
 
 /// What is known of the number of records in a firing, and of the accumulators.
 #[derive(Drop)]
@@ -18,7 +18,7 @@ pub(crate) struct Ranges {
 }
 
 impl Model for Ranges {
-    ghost use Rattle.wsm_verifier.specs.Labels.{Ranges as RangesValue};
+    ghost use Rattle.wsm_rules.specs.Labels.{Ranges as RangesValue};
 
     ghost Value = { RangesValue };
 

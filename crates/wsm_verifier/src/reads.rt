@@ -3,14 +3,14 @@
 ghost use Rattle.std.specs.Prelude.{◌≡◌, ◌∷◌, ◌<◌, ◌≤◌, length, map, reverse, suc, IfOk};
 ghost use Rattle.wsm_record.specs.declared.limits.TheConstants.{MAX_FIELDS};
 ghost use Rattle.wsm_record.specs.Fields.{field_seen, type_seen};
-ghost use Rattle.wsm_verifier.specs.Rules as rules;
-ghost use Rattle.wsm_verifier.specs.Rules.{column_known, known_range};
+ghost use Rattle.wsm_rules.specs.Rules as rules;
+ghost use Rattle.wsm_rules.specs.Rules.{column_known, known_range};
 
-use crate::known::Known;
 use std::alloc::{AllocError, Global};
 use wsm_interval::Interval;
 use wsm_program::CellType;
 use wsm_record::{DeclaredField, FieldType};
+use wsm_rules::Known;
 
 /// What is known of each field.
 pub(crate) fn known_fields(

@@ -39,18 +39,17 @@
 ghost use Rattle.std.specs.Prelude.{◌≡◌, ◌≤◌, ◌&&◌, Some, suc, nat_eq};
 ghost use Rattle.std.specs.List.{list_all};
 ghost use Rattle.std.specs.Option.{option_to_list};
-ghost use Rattle.wsm_verifier.specs.Rules as rules;
-ghost use Rattle.wsm_verifier.specs.Rules.{first_of, operand_tests, result_tests, tests};
+ghost use Rattle.wsm_rules.specs.Rules as rules;
+ghost use Rattle.wsm_rules.specs.Rules.{first_of, operand_tests, result_tests, tests};
 ghost use Rattle.wsm_verifier.specs.Trying.{setting_of};
 
-use crate::known::Known;
 use crate::ranges::Ranges;
-use crate::rejection::Rule;
 use crate::state::State;
 use crate::types::{fit, may_divide_by_zero, sum_may_leave};
 use wsm_program::{Instr, SectionId};
 use wsm_record::Kind;
 use wsm_record::limits::MAX_STACK;
+use wsm_rules::{Known, Rule};
 
 /// Where rules are tried.
 #[derive(Clone, Copy)]

@@ -2,13 +2,13 @@
 
 ghost use Rattle.std.specs.Prelude.{false, true, ◌≡◌, ◌≤◌, ◌<◌, [], ◌++◌, length, drop, replicate, slice_index_or, slice_set, IsTrue, IfOk, OnOk};
 ghost use Rattle.std.specs.Option.{option_to_list};
-ghost use Rattle.wsm_verifier.specs.Labels as spec;
+ghost use Rattle.wsm_rules.specs.Labels as spec;
 
-use crate::known::Known;
 use crate::types::have_types_of;
 use std::alloc::{AllocError, Global};
 use std::marker::Model;
 use wsm_program::FieldTest;
+use wsm_rules::Known;
 
 /// The stack, its last value first, which accumulators are folded, and what is known of each field.
 #[derive(Drop)]
@@ -19,7 +19,7 @@ pub(crate) struct State {
 }
 
 impl Model for State {
-    ghost use Rattle.wsm_verifier.specs.Labels.{State as StateValue};
+    ghost use Rattle.wsm_rules.specs.Labels.{State as StateValue};
 
     ghost Value = { StateValue };
 

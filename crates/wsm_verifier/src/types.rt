@@ -3,12 +3,12 @@
 
 ghost use Rattle.std.specs.Prelude.{◌≡◌, ◌*ℤ◌};
 ghost use Rattle.wsm_record.specs.Schema.{is_i64};
-ghost use Rattle.wsm_verifier.specs.Labels as spec;
-ghost use Rattle.wsm_verifier.specs.Rules as rules;
+ghost use Rattle.wsm_rules.specs.Labels as spec;
+ghost use Rattle.wsm_rules.specs.Rules as rules;
 
-use crate::known::Known;
 use wsm_program::{CellType, Instr, Operands, kind_of};
 use wsm_record::Kind;
+use wsm_rules::Known;
 
 /// Whether the values of two stacks have the same types.
 pub(crate) fn have_types_of(stack: &[Known], other: &[Known]) -> bool

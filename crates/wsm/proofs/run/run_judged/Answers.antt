@@ -3,7 +3,7 @@ use Rattle.std.specs.Prelude.{IfErr, IfOk}
 use Rattle.std.proofs.lemmas.Result.{err_from_is_err_and}
 use Rattle.wsm_semantics.specs.declared.ending.Totals.{Totals}
 use Rattle.wsm_program.specs.Program.{Program}
-use Rattle.wsm_verifier.specs.Rules.{judge}
+use Rattle.wsm_rules.specs.Rules.{judge}
 use Rattle.wsm.specs.declared.end.End.{End}
 use Rattle.wsm_machine.specs.Meaning.{query_of}
 use Rattle.wsm.specs.Written.{Cells, Completes, EndsEarly}

@@ -1,7 +1,7 @@
 use Rattle.std.proofs.Common.{◌≡◌, ap, sym, ◌∙◌, subst}
 use Rattle.std.specs.Prelude.{IfOk, option_map}
 use Rattle.wsm_program.specs.Program.{Program, is_budget}
-use Rattle.wsm_verifier.specs.Costs.{needed}
+use Rattle.wsm_rules.specs.Costs.{needed}
 use Rattle.wsm_query.specs.Seen.{seen_budget}
 use Rattle.wsm_check.specs.Seen.{seen_parts}
 use Rattle.wsm_compiler.specs.Assembled.{assembled}

@@ -14,7 +14,7 @@ use Rattle.wsm_semantics.specs.Retractions.{retracted_in}
 use Rattle.wsm_semantics.specs.Summaries.{at_watermark, kind_by_watermark, relation_of, row_of, fired_by_watermark, withdrawn_by_watermark}
 use Rattle.wsm_semantics.specs.Relation.{chosen_rows, stream_rows}
 use Rattle.wsm_program.specs.Program.{Program, Header}
-use Rattle.wsm_verifier.proofs.Lawful.{lawful}
+use Rattle.wsm_rules.proofs.Lawful.{lawful}
 use Rattle.wsm_machine.specs.Meaning.{plan_of, query_of}
 use Rattle.wsm_panes.specs.Held.{entries_of}
 use Rattle.wsm_semantics.proofs.RowsBound.{length-sorted_rows}

@@ -1,5 +1,5 @@
 use Rattle.wsm_semantics.proofs.LaterLaw.{begun_alone, begun_by_marks, followed, same_after, same_rows_after, settled_after}
-use Rattle.wsm_verifier.proofs.Lawful.{lawful}
+use Rattle.wsm_rules.proofs.Lawful.{lawful}
 use Rattle.wsm_machine.specs.Meaning.{query_of}
 use Rattle.wsm_machine.proofs.CountedSessions.{sessions_by_event}
 use Rattle.wsm_engine.proofs.Ignoring.{turns_ignored}

@@ -1,5 +1,5 @@
 use Rattle.wsm_semantics.proofs.HeldContents.{contents_bounded}
-use Rattle.wsm_verifier.proofs.Lawful.{lawful}
+use Rattle.wsm_rules.proofs.Lawful.{lawful}
 use Rattle.wsm_machine.specs.Meaning.{query_of}
 use Rattle.wsm_machine.proofs.CountedSessions.{sessions_by_event}
 use Rattle.wsm_engine.proofs.AccumulatorLaws.{sessions_join}

@@ -1,7 +1,7 @@
 use Rattle.std.proofs.Common.{◌∷◌}
 use Rattle.wsm_record.specs.Event.{Watermark}
 use Rattle.wsm_semantics.proofs.KeptAlike.{follow_alike, thinned}
-use Rattle.wsm_verifier.proofs.Lawful.{lawful}
+use Rattle.wsm_rules.proofs.Lawful.{lawful}
 use Rattle.wsm_machine.specs.Meaning.{plan_of, query_of}
 use Rattle.wsm_machine.proofs.QueryFolds.{plan_lawful, plan_runs}
 use Rattle.wsm_machine.proofs.CountedSessions.{sessions_by_event}

@@ -1,6 +1,6 @@
 use Rattle.wsm_semantics.proofs.LaterLaw.{same_beyond, same_rows_beyond, settled_beyond}
 use Rattle.wsm_semantics.proofs.LaterParts.{parted_on, over_settled, over_parts_none}
-use Rattle.wsm_verifier.proofs.Lawful.{lawful}
+use Rattle.wsm_rules.proofs.Lawful.{lawful}
 use Rattle.wsm_machine.specs.Meaning.{query_of}
 use Rattle.wsm_machine.proofs.CountedSessions.{sessions_by_event}
 use Rattle.wsm_engine.proofs.Ignoring.{turns_ignored}

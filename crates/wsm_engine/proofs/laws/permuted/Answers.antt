@@ -1,5 +1,5 @@
 use Rattle.wsm_semantics.proofs.OrderLaws.{same_in_any_order}
-use Rattle.wsm_verifier.proofs.Lawful.{lawful}
+use Rattle.wsm_rules.proofs.Lawful.{lawful}
 use Rattle.wsm_machine.specs.Meaning.{query_of}
 use Rattle.wsm_engine.proofs.Ignoring.{rows_ignore}
 use Rattle.wsm_engine.proofs.Limits.{clock_within}

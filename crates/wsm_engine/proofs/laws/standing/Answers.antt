@@ -7,7 +7,7 @@ use Rattle.wsm_record.specs.Modes.{may_write}
 use Rattle.wsm_semantics.proofs.LastingLaw.{adds_up}
 use Rattle.wsm_semantics.proofs.LastingOnce.{lasting_once}
 use Rattle.wsm_program.proofs.Lawful.{header_parts, program_header}
-use Rattle.wsm_verifier.proofs.Lawful.{lawful}
+use Rattle.wsm_rules.proofs.Lawful.{lawful}
 use Rattle.wsm_machine.specs.Meaning.{query_of}
 use Rattle.wsm_machine.proofs.CountedSessions.{sessions_by_event}
 use Rattle.wsm_engine.proofs.laws.standing.Goals as goal

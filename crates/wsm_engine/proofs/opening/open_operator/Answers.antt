@@ -2,7 +2,7 @@ use Rattle.std.proofs.Common.{rules, ◌≡◌, ◌≤◌, ◌*◌, [], IsTrue, 
 use Rattle.std.proofs.lemmas.Int.{ints, fits_signed_from_abs}
 use Rattle.wsm_program.specs.Program.{Program, is_program}
 use Rattle.wsm_program.specs.View.{header_of}
-use Rattle.wsm_verifier.proofs.Lawful.{IsLawful, lawful_seen, span_seen}
+use Rattle.wsm_rules.proofs.Lawful.{IsLawful, lawful_seen, span_seen}
 use Rattle.wsm_panes.specs.declared.widths.Widths.{Widths}
 use Rattle.wsm_panes.specs.Held.{entries_of}
 use Rattle.wsm_firing.proofs.Headers.{lawful_firing}

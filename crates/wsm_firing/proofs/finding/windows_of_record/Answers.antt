@@ -4,7 +4,7 @@ use Rattle.wsm_windows.specs.Windows.{IsShape, IsSpan}
 use Rattle.wsm_windows.specs.Life.{live_windows_of}
 use Rattle.wsm_program.specs.Program.{Program, Header}
 use Rattle.wsm_program.specs.View.{header_of}
-use Rattle.wsm_verifier.proofs.Lawful as lawful_programs
+use Rattle.wsm_rules.proofs.Lawful as lawful_programs
 use Rattle.wsm_firing.proofs.InOrder.{windows_in_order}
 use Rattle.wsm_firing.proofs.finding.windows_of_record.Goals as goal
 use Rattle.wsm_firing.proofs.finding.windows_of_record.Goals.{After-header-header, After-live_windows_of}

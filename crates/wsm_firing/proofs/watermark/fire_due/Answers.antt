@@ -6,7 +6,7 @@ use Rattle.wsm_windows.specs.Windows.{IsSpan}
 use Rattle.wsm_semantics.specs.Summaries.{Pane, columns, fired_count}
 use Rattle.wsm_program.specs.Program.{Program, Header, is_program}
 use Rattle.wsm_program.specs.View.{header_of}
-use Rattle.wsm_verifier.proofs.Lawful as lawful_programs
+use Rattle.wsm_rules.proofs.Lawful as lawful_programs
 use Rattle.wsm_machine.specs.Meaning.{pane_cost_by, plan_of, query_of}
 use Rattle.wsm_panes.specs.Held.{Held, IsKept, IsSpot, entries_of}
 use Rattle.wsm_panes.specs.Walk.{place_found}

@@ -1,6 +1,6 @@
 use Rattle.std.proofs.Common.{None, to_z, of_z, w64, arith}
 use Rattle.wsm_record.specs.declared.Kind.TheVariants.{Sum}
-use Rattle.wsm_verifier.proofs.FoldedRanges.{accumulated_next}
+use Rattle.wsm_rules.proofs.FoldedRanges.{accumulated_next}
 use Rattle.wsm_verifier.proofs.accumulated.accumulator_ranges.Goals as goal
 
 pub loop-place-preserved : goal.loop-place-preserved

@@ -1,5 +1,5 @@
 use Rattle.std.proofs.Common.{◌≡◌, ◌++◌, drop}
-use Rattle.wsm_verifier.specs.Rules.{accumulated_each}
+use Rattle.wsm_rules.specs.Rules.{accumulated_each}
 use Rattle.wsm_verifier.proofs.accumulated.accumulator_ranges.Given as goal
 
 -- those of the accumulators before the place, and then those of the rest

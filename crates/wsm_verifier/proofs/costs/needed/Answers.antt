@@ -2,8 +2,8 @@ use Rattle.std.proofs.Common.{arith}
 use Rattle.wsm_program.specs.Program.{section}
 use Rattle.wsm_program.specs.View.{header_of}
 use Rattle.wsm_program.specs.declared.SectionId.TheVariants.{Where, Update, Fire}
-use Rattle.wsm_verifier.proofs.Longest.{longest_path_is}
-use Rattle.wsm_verifier.proofs.Lawful.{lawful_seen, short_seen, span_seen, live_few, product_few}
+use Rattle.wsm_rules.proofs.Longest.{longest_path_is}
+use Rattle.wsm_rules.proofs.Lawful.{lawful_seen, short_seen, span_seen, live_few, product_few}
 use Rattle.wsm_verifier.proofs.costs.needed.Goals as goal
 
 pub longest_path-requires : goal.longest_path-requires

@@ -1,6 +1,6 @@
 use Rattle.std.proofs.Common.{◌≡◌, ◌<◌, ◌+◌, length, set, sym, ap, ◌∙◌, arith, length-set}
 use Rattle.wsm_program.specs.Instructions.{opposite_test}
-use Rattle.wsm_verifier.specs.Labels.{narrowed}
+use Rattle.wsm_rules.specs.Labels.{narrowed}
 use Rattle.wsm_verifier.specs.Turning.{joined_at}
 use Rattle.wsm_verifier.proofs.PassKept.{tested_same, tested_apart, joined_is, jump_within}
 use Rattle.wsm_verifier.proofs.pass.carry_tested.Goals as goal

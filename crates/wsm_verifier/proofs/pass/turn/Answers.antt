@@ -1,9 +1,9 @@
 use Rattle.std.proofs.Common.{suc, ◌&&◌, ap, sym, ◌∙◌, length, set, length-set}
 use Rattle.std.specs.Prelude.{nat_eq}
-use Rattle.wsm_verifier.specs.Labels.{Reached}
+use Rattle.wsm_rules.specs.Labels.{Reached}
 use Rattle.wsm_program.specs.Instructions.{goes_on, bad_jump, is_bad, lead_on, target_of}
 use Rattle.wsm_verifier.specs.Trying.{setting_of}
-use Rattle.wsm_verifier.proofs.AcceptedPlaces.{passes}
+use Rattle.wsm_rules.proofs.AcceptedPlaces.{passes}
 use Rattle.wsm_verifier.proofs.pass.turn.Goals as goal
 
 -- a jump leads to a later place

@@ -1,5 +1,5 @@
 use Rattle.std.proofs.Common.{◌≡◌, replicate}
-use Rattle.wsm_verifier.specs.Labels.{Unreached}
+use Rattle.wsm_rules.specs.Labels.{Unreached}
 use Rattle.wsm_verifier.proofs.pass.unreached.Given as goal
 
 abbrev pub invariant-loop : goal.invariant-loop

@@ -1,8 +1,8 @@
 use Rattle.std.proofs.Common.{rules, arith, ◌≡◌, ◌-◌, ◌+◌, ◌<◌, ◌≤◌, length, drop, set, length-set, IfSome, ap, ◌∙◌, subst, sym}
 use Rattle.std.proofs.lemmas.List.Elements.{All-set}
 use Rattle.std.proofs.lemmas.Grind.{common_steps}
-use Rattle.wsm_verifier.specs.Costs.{longest_path, way_along, IsLongestPath}
-use Rattle.wsm_verifier.proofs.Longest.{longest_path_is}
+use Rattle.wsm_rules.specs.Costs.{longest_path, way_along, IsLongestPath}
+use Rattle.wsm_rules.proofs.Longest.{longest_path_is}
 use Rattle.wsm_verifier.proofs.Ways.{longest_path-short, ways_next, short_next}
 use Rattle.wsm_verifier.proofs.paths.longest_path.Goals as goal
 

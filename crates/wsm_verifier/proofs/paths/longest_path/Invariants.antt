@@ -1,5 +1,5 @@
 use Rattle.std.proofs.Common.{◌≡◌, ◌≤◌, length, drop, All, IfSome}
-use Rattle.wsm_verifier.specs.Costs.{ways}
+use Rattle.wsm_rules.specs.Costs.{ways}
 use Rattle.wsm_verifier.proofs.paths.longest_path.Given as goal
 
 -- the ways of the places that were gone over, and no number above the bound

@@ -1,6 +1,6 @@
 use Rattle.std.proofs.Common.{◌≡◌, ◌++◌, map, drop}
 use Rattle.wsm_record.specs.Fields.{field_seen}
-use Rattle.wsm_verifier.specs.Rules as rules
+use Rattle.wsm_rules.specs.Rules as rules
 use Rattle.wsm_verifier.proofs.reads.known_fields.Given as goal
 
 -- those of the fields before the place, and then those of the rest

@@ -1,6 +1,6 @@
 use Rattle.std.proofs.Common.{ap, subst, ◌∙◌}
 use Rattle.wsm_record.specs.Event.{event_of}
-use Rattle.wsm_verifier.specs.Costs.{needed}
+use Rattle.wsm_rules.specs.Costs.{needed}
 use Rattle.wsm_machine.proofs.Costs.{step_cost_within}
 use Rattle.wsm_engine.specs.declared.reply.Reply.{Reply}
 use Rattle.wsm_engine.specs.State.{State}

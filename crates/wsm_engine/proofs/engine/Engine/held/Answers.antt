@@ -1,5 +1,5 @@
 use Rattle.std.proofs.Common.{length, ap, arith}
-use Rattle.wsm_verifier.specs.Costs.{needed}
+use Rattle.wsm_rules.specs.Costs.{needed}
 use Rattle.wsm_engine.specs.State.{State}
 use Rattle.wsm_engine.specs.Engine.{state_of}
 use Rattle.wsm_engine.proofs.Limits.{panes_stated}

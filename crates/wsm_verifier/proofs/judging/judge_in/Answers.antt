@@ -1,7 +1,7 @@
 use Rattle.std.proofs.Common.{rules, ◌≡◌, length}
 use Rattle.wsm_verifier.specs.Trying.{setting_of}
 use Rattle.wsm_verifier.proofs.Judgements.{visits_seen, fault_seen, passed_as, refused_as, folded_as}
-use Rattle.wsm_verifier.proofs.verified.judge_in.Goals as goal
+use Rattle.wsm_verifier.proofs.judging.judge_in.Goals as goal
 
 pub returns-clause-passed : goal.returns-clause-passed
 returns-clause-passed c =

@@ -1,8 +1,8 @@
 //! What is known of a value on the stack.
 
 ghost use Rattle.std.specs.Prelude.{◌≡◌};
-ghost use Rattle.wsm_verifier.specs.Labels as spec;
-ghost use Rattle.wsm_verifier.specs.Rules as rules;
+ghost use Rattle.wsm_rules.specs.Labels as spec;
+ghost use Rattle.wsm_rules.specs.Rules as rules;
 
 use wsm_interval::Interval;
 use wsm_program::{CellType, FieldTest};
@@ -20,7 +20,7 @@ pub enum Known {
 
 impl Known {
     /// What a column of a type returns; its numbers may be any.
-    pub(crate) fn of_column(column: CellType) -> Known
+    pub fn of_column(column: CellType) -> Known
         ensures { result ≡ rules.column_known column }
     {
         match column {
@@ -30,20 +30,8 @@ impl Known {
         }
     }
 
-    pub(crate) fn is_number(self) -> bool
-        ensures { result ≡ rules.is_number self }
-    {
-        matches!(self, Known::Number(_))
-    }
-
-    pub(crate) fn is_truth(self) -> bool
-        ensures { result ≡ rules.is_truth self }
-    {
-        matches!(self, Known::Truth)
-    }
-
     /// Whether it is a value of a type.
-    pub(crate) fn is_of(self, ty: CellType) -> bool
+    pub fn is_of(self, ty: CellType) -> bool
         ensures { result ≡ rules.has_type ty self }
     {
         match (ty, self) {
@@ -54,7 +42,7 @@ impl Known {
     }
 
     /// Whether both are numbers, truths, or names of one ENUM.
-    pub(crate) fn has_type_of(self, other: Known) -> bool
+    pub fn has_type_of(self, other: Known) -> bool
         ensures { result ≡ spec.same_type self other }
     {
         match (self, other) {
@@ -65,7 +53,7 @@ impl Known {
     }
 
     /// What is known of a value that is this or that one.
-    pub(crate) fn hull(self, other: Known) -> Known
+    pub fn hull(self, other: Known) -> Known
         ensures { result ≡ spec.hull_known self other }
     {
         match (self, other) {
@@ -75,7 +63,7 @@ impl Known {
     }
 
     /// What is known of a value of a test's field where the test is true.
-    pub(crate) fn narrowed(self, test: FieldTest) -> Known
+    pub fn narrowed(self, test: FieldTest) -> Known
         ensures { result ≡ spec.narrowed_known test self }
     {
         match self {

@@ -12,8 +12,8 @@ use Rattle.wsm_program.specs.Instructions as table
 use Rattle.wsm_program.specs.declared.Edges.{Edges}
 use Rattle.wsm_program.specs.declared.Edges.TheVariants.{Nowhere, Next, Target, Either, Tested}
 use Rattle.wsm_program.specs.Instructions.{edges, next, opposite_test}
-use Rattle.wsm_verifier.specs.declared.known.Known.{Known}
-use Rattle.wsm_verifier.specs.declared.known.Known.TheVariants.{Number, Truth, NameOf}
+use Rattle.wsm_rules.specs.declared.known.Known.{Known}
+use Rattle.wsm_rules.specs.declared.known.Known.TheVariants.{Number, Truth, NameOf}
 use Rattle.wsm_interval.specs.Interval.{interval, add, sub, mul, div, rem, neg, hull}
 use Rattle.wsm_interval.specs.Narrowing.{narrow}
 

@@ -2,11 +2,11 @@
 use Rattle.std.specs.Prelude.{ℕ, List, ◌++◌, codes}
 use Rattle.std.specs.Fmt.{decimal}
 use Rattle.wsm_program.specs.Text.{section_name}
-use Rattle.wsm_verifier.specs.declared.rejection.Part.{Part}
-use Rattle.wsm_verifier.specs.declared.rejection.Part.TheVariants.{Code, Budget}
-use Rattle.wsm_verifier.specs.declared.rejection.Rule.{Rule}
-use Rattle.wsm_verifier.specs.declared.rejection.Rule.TheVariants as rules
-use Rattle.wsm_verifier.specs.declared.rejection.Rejection.{Rejection}
+use Rattle.wsm_rules.specs.declared.rejection.Part.{Part}
+use Rattle.wsm_rules.specs.declared.rejection.Part.TheVariants.{Code, Budget}
+use Rattle.wsm_rules.specs.declared.rejection.Rule.{Rule}
+use Rattle.wsm_rules.specs.declared.rejection.Rule.TheVariants as rules
+use Rattle.wsm_rules.specs.declared.rejection.Rejection.{Rejection}
 
 abbrev pub part_text : Part → List ℕ
 part_text (Code section) = section_name section

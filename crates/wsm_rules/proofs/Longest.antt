@@ -7,8 +7,8 @@ use Rattle.std.proofs.lemmas.Option.{same_Some}
 use Rattle.wsm_program.specs.declared.Instr.{Instr}
 use Rattle.wsm_program.specs.declared.Instr.TheVariants.{Return}
 use Rattle.wsm_program.specs.Instructions.{next}
-use Rattle.wsm_verifier.specs.Labels.{leads}
-use Rattle.wsm_verifier.specs.Costs.{Path, Ends, Goes, IsLongestPath, longer, longest_of, one_more, way_from, way_of, ways, longest_path}
+use Rattle.wsm_rules.specs.Labels.{leads}
+use Rattle.wsm_rules.specs.Costs.{Path, Ends, Goes, IsLongestPath, longer, longest_of, one_more, way_from, way_of, ways, longest_path}
 
 none≢some : {A : Type 0} (a : A) → None ≡ Some a → ⊥
 none≢some a e = let tag : Option _ → Bool = λ o. elim o [ None ↦ true | Some x ↦ false ] in true≢false (ap tag e)

@@ -13,12 +13,12 @@ use Rattle.wsm_program.specs.declared.Instr.{Instr}
 use Rattle.wsm_program.specs.declared.Instr.TheVariants.{Fold}
 use Rattle.wsm_program.specs.Instructions.{kind_of}
 use Rattle.wsm_program.specs.Program.{Program}
-use Rattle.wsm_verifier.specs.declared.known.Known.{Known}
-use Rattle.wsm_verifier.specs.declared.known.Known.TheVariants.{Number}
-use Rattle.wsm_verifier.specs.Labels.{State, Reached, Visit}
-use Rattle.wsm_verifier.specs.Rules.{Setting, sum_leaves, last_is, last_number, value_folded, values_folded, hull_options, accumulated, and_then, folded_from, accumulated_each, ranges_from, range, update_visits, fault_of, first_fault, accumulator_leaves}
-use Rattle.wsm_verifier.specs.Accumulated.{stays}
-use Rattle.wsm_verifier.proofs.AcceptedPlaces.{Each, each_passes, passes}
+use Rattle.wsm_rules.specs.declared.known.Known.{Known}
+use Rattle.wsm_rules.specs.declared.known.Known.TheVariants.{Number}
+use Rattle.wsm_rules.specs.Labels.{State, Reached, Visit}
+use Rattle.wsm_rules.specs.Rules.{Setting, sum_leaves, last_is, last_number, value_folded, values_folded, hull_options, accumulated, and_then, folded_from, accumulated_each, ranges_from, range, update_visits, fault_of, first_fault, accumulator_leaves}
+use Rattle.wsm_rules.specs.Accumulated.{stays}
+use Rattle.wsm_rules.proofs.AcceptedPlaces.{Each, each_passes, passes}
 
 -- ---- lists, an accumulator a place
 

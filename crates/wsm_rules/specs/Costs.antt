@@ -10,7 +10,7 @@ use Rattle.wsm_windows.specs.Life.{live_bound}
 use Rattle.wsm_program.specs.Program.{Program}
 use Rattle.wsm_program.specs.declared.Edges.{Edges}
 use Rattle.wsm_program.specs.Instructions.{are_none, edges, places}
-use Rattle.wsm_verifier.specs.Labels.{leads}
+use Rattle.wsm_rules.specs.Labels.{leads}
 
 -- a path of n places, along edges, from place p of a section to a RET
 pub data Path (is : List Instr) : ℕ → ℕ → Type 0 where

@@ -3,15 +3,15 @@ use Rattle.std.proofs.Common.{◌≡◌, ℕ, suc, Bool, true, false, ◌&&◌, 
 use Rattle.std.proofs.lemmas.Bool.{true≢false}
 use Rattle.std.specs.Prelude.{nat_eq, nat_lt, is_none, option_map}
 use Rattle.wsm_program.specs.declared.Instr.{Instr}
-use Rattle.wsm_verifier.specs.declared.rejection.Rule.{Rule}
-use Rattle.wsm_verifier.specs.declared.rejection.Rejection.{Rejection}
+use Rattle.wsm_rules.specs.declared.rejection.Rule.{Rule}
+use Rattle.wsm_rules.specs.declared.rejection.Rejection.{Rejection}
 use Rattle.wsm_program.specs.declared.program.Costs.{Costs}
 use Rattle.wsm_program.specs.declared.SectionId.TheVariants.{Where, Update, Fire}
 use Rattle.wsm_program.specs.Program.{Program}
-use Rattle.wsm_verifier.specs.Costs.{needed}
-use Rattle.wsm_verifier.specs.Labels.{State, Label, Unreached, Differing, Reached, Visit, pops, pushed}
+use Rattle.wsm_rules.specs.Costs.{needed}
+use Rattle.wsm_rules.specs.Labels.{State, Label, Unreached, Differing, Reached, Visit, pops, pushed}
 use Rattle.wsm_program.specs.Instructions.{may_stand, goes_on, bad_jump}
-use Rattle.wsm_verifier.specs.Rules.{Setting, types_fit, folds_again, may_divide_by_zero, accumulator_leaves, overflows, fold_missing, first_of, tests, fault_of, fault_at, or_then, first_fault, fault_in, code_fault, fault, unless, judge, budget_fault, ranges_of_record, ranges_of_pane, update_visits}
+use Rattle.wsm_rules.specs.Rules.{Setting, types_fit, folds_again, may_divide_by_zero, accumulator_leaves, overflows, fold_missing, first_of, tests, fault_of, fault_at, or_then, first_fault, fault_in, code_fault, fault, unless, judge, budget_fault, ranges_of_record, ranges_of_pane, update_visits}
 
 none≢some : {A X : Type 0} {a : A} → Some a ≡ None → X
 none≢some {A} {X} {a} e = let tag : Option A → Bool = λ o. elim o [ None ↦ true | Some x ↦ false ] in absurd (true≢false (sym (ap tag e)))

@@ -3,8 +3,8 @@ use Rattle.std.specs.Prelude.{◌≡◌, ℕ, Bool, true, not, List, ℤ, Option
 use Rattle.wsm_interval.specs.declared.Interval.{Interval}
 use Rattle.wsm_record.specs.declared.Kind.{Kind}
 use Rattle.wsm_program.specs.Instructions.{kind_of}
-use Rattle.wsm_verifier.specs.declared.known.Known.TheVariants.{Number}
-use Rattle.wsm_verifier.specs.Rules.{sum_leaves}
+use Rattle.wsm_rules.specs.declared.known.Known.TheVariants.{Number}
+use Rattle.wsm_rules.specs.Rules.{sum_leaves}
 
 -- a sum of all records stays in 64 bits
 abbrev pub stays : ℤ → Kind → Option Interval → Bool

@@ -1,13 +1,13 @@
 use Rattle.std.proofs.Common.{rules, arith, ◌≡◌, None, length, map, to_z, of_z, w64, subst, sym, ap, ◌∙◌}
 use Rattle.wsm_program.specs.declared.SectionId.TheVariants.{Where, Update, Fire}
-use Rattle.wsm_verifier.specs.Rules.{fault_in, folded_from, known_range, ranges_of, ranges_with, ranges_of_record, ranges_of_pane, update_visits}
-use Rattle.wsm_verifier.proofs.FoldedRanges.{length-folded_from}
+use Rattle.wsm_rules.specs.Rules.{fault_in, folded_from, known_range, ranges_of, ranges_with, ranges_of_record, ranges_of_pane, update_visits}
+use Rattle.wsm_rules.proofs.FoldedRanges.{length-folded_from}
 use Rattle.wsm_verifier.proofs.Judgements.{sums_stay, code_passed, refused_by}
 use Rattle.std.proofs.lemmas.List.{length-map}
 use Rattle.wsm_record.specs.Fields.{field_seen}
 use Rattle.wsm_program.specs.View.{header_of}
-use Rattle.wsm_verifier.proofs.Lawful.{lawful_seen}
-use Rattle.wsm_verifier.proofs.verified.judge_code.Goals as goal
+use Rattle.wsm_rules.proofs.Lawful.{lawful_seen}
+use Rattle.wsm_verifier.proofs.judging.judge_code.Goals as goal
 
 pub known_fields-requires : goal.known_fields-requires
 known_fields-requires c =

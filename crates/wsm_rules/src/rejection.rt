@@ -50,7 +50,7 @@ pub enum Rule {
 
 impl fmt::Display for Rule {
     ghost use Rattle.std.specs.Prelude.{Some};
-    ghost use Rattle.wsm_verifier.specs.Text.{rule_name};
+    ghost use Rattle.wsm_rules.specs.Text.{rule_name};
 
     ghost output = { λ rule. Some (rule_name rule) };
 
@@ -91,7 +91,7 @@ pub enum Part {
 
 impl fmt::Display for Part {
     ghost use Rattle.std.specs.Prelude.{Some};
-    ghost use Rattle.wsm_verifier.specs.Text.{part_text};
+    ghost use Rattle.wsm_rules.specs.Text.{part_text};
 
     ghost output = { λ part. Some (part_text part) };
 
@@ -116,7 +116,7 @@ pub struct Rejection {
 
 impl fmt::Display for Rejection {
     ghost use Rattle.std.specs.Prelude.{Some};
-    ghost use Rattle.wsm_verifier.specs.Text.{rejection_text};
+    ghost use Rattle.wsm_rules.specs.Text.{rejection_text};
 
     ghost output = { λ rejection. Some (rejection_text rejection) };
 
@@ -131,7 +131,7 @@ impl Error for Rejection {}
 // There was no memory.
 impl From<AllocError> for Rejection {
     ghost use Rattle.std.specs.Prelude.{◌≡◌};
-    ghost use Rattle.wsm_verifier.specs.declared.rejection.Rule.TheVariants.{Memory};
+    ghost use Rattle.wsm_rules.specs.declared.rejection.Rule.TheVariants.{Memory};
 
     ghost from_gives = { λ _ r. r.rule ≡ Memory };
 

@@ -6,7 +6,7 @@ use Rattle.std.specs.Prelude.{slice_get}
 use Rattle.std.specs.List.{cons_option, filter_map}
 use Rattle.std.proofs.lemmas.Option.{same_Some}
 use Rattle.wsm_program.specs.declared.Instr.{Instr}
-use Rattle.wsm_verifier.specs.Labels.{State, Ranges, Label, Visit, label_with, hull_all, carried_to, gathered, visited_next, visits_back, visits}
+use Rattle.wsm_rules.specs.Labels.{State, Ranges, Label, Visit, label_with, hull_all, carried_to, gathered, visited_next, visits_back, visits}
 
 -- what an edge adds to what was gathered
 abbrev pub with_edge : Option State → Label → Label

@@ -17,16 +17,16 @@ use Rattle.wsm_record.specs.Schema.{FieldType, Int, Truth as IsTruth, Enum, Decl
 use Rattle.wsm_program.specs.declared.program.Costs.{Costs}
 use Rattle.wsm_record.specs.declared.words.CellType.{CellType}
 use Rattle.wsm_record.specs.declared.words.CellType.TheVariants as column
-use Rattle.wsm_verifier.specs.declared.rejection.Rule.{Rule}
-use Rattle.wsm_verifier.specs.declared.rejection.Rule.TheVariants as rule
-use Rattle.wsm_verifier.specs.declared.rejection.Part.TheVariants.{Code, Budget}
-use Rattle.wsm_verifier.specs.declared.rejection.Rejection.{Rejection}
+use Rattle.wsm_rules.specs.declared.rejection.Rule.{Rule}
+use Rattle.wsm_rules.specs.declared.rejection.Rule.TheVariants as rule
+use Rattle.wsm_rules.specs.declared.rejection.Part.TheVariants.{Code, Budget}
+use Rattle.wsm_rules.specs.declared.rejection.Rejection.{Rejection}
 use Rattle.wsm_interval.specs.Interval.{interval, hull, holds}
 use Rattle.wsm_program.specs.Program.{Program, section}
-use Rattle.wsm_verifier.specs.declared.known.Known.{Known}
-use Rattle.wsm_verifier.specs.declared.known.Known.TheVariants.{Number, Truth, NameOf}
-use Rattle.wsm_verifier.specs.Labels.{State, Ranges, pops, pushed, same_type, same_types, Label, Unreached, Differing, Reached, Visit, visits}
-use Rattle.wsm_verifier.specs.Costs.{needed}
+use Rattle.wsm_rules.specs.declared.known.Known.{Known}
+use Rattle.wsm_rules.specs.declared.known.Known.TheVariants.{Number, Truth, NameOf}
+use Rattle.wsm_rules.specs.Labels.{State, Ranges, pops, pushed, same_type, same_types, Label, Unreached, Differing, Reached, Visit, visits}
+use Rattle.wsm_rules.specs.Costs.{needed}
 
 -- the types that a section returns, the last first
 abbrev pub column_known : CellType → Known
