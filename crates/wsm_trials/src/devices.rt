@@ -1,12 +1,13 @@
 //! Readers and devices that fail.
 
-use crate::given::{BASE, STREAM, STREAM_ROWS, STREAM_TEXT, ran};
+use crate::running::ran;
 use std::alloc::Global;
 use std::io;
 use std::io::{Read, Write};
 use std::process::Abort;
 use std::test::Fail;
 use wsm::{End, Guarded, run_query};
+use wsm_given::{BASE, STREAM, STREAM_ROWS, STREAM_TEXT};
 
 fn failure() -> io::Error {
     io::Error::from(io::ErrorKind::Other)

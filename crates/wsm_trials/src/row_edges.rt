@@ -1,7 +1,7 @@
 //! Rows on both sides of each limit.
 
 use crate::edges::{BASE, KEYS, names};
-use crate::given::ran;
+use crate::running::ran;
 use std::alloc::Global;
 use std::process::Abort;
 use std::test::Fail;

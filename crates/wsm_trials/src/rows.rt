@@ -1,10 +1,11 @@
 //! Rows that are no event, or one that is refused.
 
-use crate::given::{BASE, ran};
+use crate::running::ran;
 use std::alloc::Global;
 use std::process::Abort;
 use std::test::Fail;
 use wsm_csv::{RowRefusal, Rows, read_row};
+use wsm_given::BASE;
 use wsm_record::{Name, RowFault, Schema};
 
 /// A field of each type.

@@ -1,11 +1,11 @@
 //! What no clause says: that an engine is opened where memory is ample, and what it writes.
 
-use crate::given::BASE_PROGRAM;
 use std::alloc::Global;
 use std::process::Abort;
 use std::test::Fail;
 use wsm_bytecode::decode;
 use wsm_engine::{Engine, Reply};
+use wsm_given::BASE_PROGRAM;
 use wsm_record::{Event, Value};
 use wsm_verifier::{Verified, verify};
 

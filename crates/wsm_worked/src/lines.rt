@@ -1,10 +1,9 @@
 //! A line of what is written.
 
-use crate::given::name;
 use std::alloc::Global;
 use std::test::Fail;
 use wsm_csv::row_text;
-use wsm_record::{Cell, Columns, Schema};
+use wsm_record::{Cell, Columns, Name, Schema};
 use wsm_semantics::OutRow;
 use wsm_windows::Window;
 
@@ -57,4 +56,9 @@ fn a_column_is_written_by_its_type(rt: HostRuntime) -> Result<(), Fail> {
         b"dstream,61,-9223372036854775808,false,b\n".as_slice()
     );
     Ok(())
+}
+
+// A name, where the text is one.
+fn name(text: &[u8]) -> Result<Name, Fail> {
+    Ok(Name::new(text).ok_or("no name")?)
 }

@@ -1,7 +1,6 @@
-//! The programs and rows that the trials start from.
-
-use std::alloc::Global;
-use wsm::{End, Guarded, Totals, run_program};
+//! What examples and trials start from: queries, the bytes of their programs, rows for them, and what
+//! is written. Each was worked out by hand, or stands in the formats. There are constants alone.
+#![tactic(auto)]
 
 /// Counts the records of two keys in windows of 60, and sums a number.
 pub const BASE: &[u8] = b"KEYS a, b;
@@ -11,9 +10,11 @@ SELECT COUNT(*), SUM(n)
 WINDOW FIXED 60 ACCUMULATING
 EMIT PANES;";
 
-/// The program of that query: magic and version, keys, field, START to RECORDS, by what lateness is
-/// counted and sources, windows, mode with triggers and form, accumulators and columns, the stated
-/// numbers, and the three sections.
+/// The base program of the format: keys a and b, a number n of 0 to 100, windows of 60 with a lateness
+/// of 10, and of each firing how many records there are and the sum of their n. The lines are its magic
+/// and version, its keys, its field, START to RECORDS, by what lateness is counted and its sources, its
+/// windows, its mode, triggers and form, its accumulators and columns, the numbers that it states, and
+/// the sections from byte [`SECTIONS`] on.
 pub const BASE_PROGRAM: &[u8] = b"WSMP\x02\
 \x02\0\x01a\x01b\
 \x01\x01n\0\0\0\0\0\0\0\0\0\x64\0\0\0\0\0\0\0\
@@ -26,6 +27,20 @@ pub const BASE_PROGRAM: &[u8] = b"WSMP\x02\
 \x02\0\x02\x01P\
 \x03\0\x04\0\x40\0P\
 \x04\0\x07\x06\0\x02\x01P";
+
+/// Where the sections of the base program begin.
+pub const SECTIONS: usize = 121;
+
+/// What stands before the sections of that program in version 1, which doesn't say by what lateness is
+/// counted, and names no sources.
+pub const BASE_HEADER_OF_VERSION_1: &[u8] = b"WSMP\x01\
+\x02\0\x01a\x01b\
+\x01\x01n\0\0\0\0\0\0\0\0\0\x64\0\0\0\0\0\0\0\
+\0\0\0\0\0\0\0\0\x64\0\0\0\0\0\0\0\x0a\0\0\0\0\0\0\0\xe8\x03\0\0\0\0\0\0\
+\0\x3c\0\0\0\0\0\0\0\
+\x01\0\0\0\0\0\0\0\0\0\0\0\0\0\0\0\0\0\
+\x01\0\x02\0\0\
+\x05\0\0\0\0\0\0\0\x04\0\0\0\0\0\0\0\x06\0\0\0\0\0\0\0";
 
 /// Two records and a watermark that fires their pane.
 pub const BASE_ROWS: &[u8] = b"r,a,5,7\nr,a,59,3\nw,60\n";
@@ -71,21 +86,3 @@ pub const STREAM_TEXT: &[u8] = b"istream,35,1,false,b\nistream,35,1,true,a\nistr
 istream,60,1,false,b\nistream,60,2,true,a\nistream,60,2,true,a\nistream,60,2,true,b\n\
 istream,160,1,false,a\nistream,160,1,false,a\nistream,160,1,false,a\nistream,160,1,true,b\n\
 end,10,5,0,0,13\n";
-
-/// What a program writes for rows, and how it ends.
-pub fn program_ran(alloc: Global, program: &[u8], rows: &[u8]) -> (Vec<u8>, Result<Totals, End>) {
-    let mut out = Guarded::new(Vec::new(alloc));
-    let end = run_program(alloc, program, rows, &mut out);
-    (out.into_writer(), end)
-}
-
-/// Whether a text is that of a whole run: its last line is an end row.
-pub fn is_whole(text: &[u8]) -> bool {
-    let Some(lines) = text.strip_suffix(b"\n") else {
-        return false;
-    };
-    match lines.rsplit(|byte| *byte == b'\n').next() {
-        Some(last) => last.starts_with(b"end,"),
-        None => false,
-    }
-}

@@ -1,7 +1,7 @@
 //! Programs put together at random, over the header of the base program.
 
-use crate::given::{is_whole, program_ran};
 use crate::noise::Noise;
+use crate::running::{is_whole, program_ran};
 use crate::sections::Sections;
 use crate::sides::Sides;
 use std::alloc::Global;

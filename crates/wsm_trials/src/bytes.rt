@@ -1,9 +1,6 @@
 //! Programs of which a byte was changed, or the end cut off.
 
-use crate::given::{
-    BASE, BASE_PROGRAM, BASE_ROWS, BASE_TEXT, SESSION_ROWS, SESSION_TEXT, SESSIONS, STREAM,
-    STREAM_ROWS, STREAM_TEXT, is_whole, program_ran,
-};
+use crate::running::{is_whole, program_ran};
 use crate::sides::Sides;
 use std::alloc::Global;
 use std::process::Abort;
@@ -11,6 +8,10 @@ use std::test::Fail;
 use wsm::{DecodeRefusal, End, compile_text};
 use wsm_bytecode::{decode, encode};
 use wsm_engine::Engine;
+use wsm_given::{
+    BASE, BASE_PROGRAM, BASE_ROWS, BASE_TEXT, SESSION_ROWS, SESSION_TEXT, SESSIONS, STREAM,
+    STREAM_ROWS, STREAM_TEXT,
+};
 use wsm_verifier::{Verified, verify};
 
 /// How bytes were taken.

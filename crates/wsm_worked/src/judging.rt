@@ -7,20 +7,9 @@ use std::process::Abort;
 use std::test::Fail;
 use wsm::{End, Guarded, compile_text, judge, migrate};
 use wsm_bytecode::{Program, SectionId, decode};
+use wsm_given::{BASE_HEADER_OF_VERSION_1, BASE_PROGRAM, SECTIONS};
 use wsm_machine::{Inputs, Outcome, Ran, Trap, run_any};
 use wsm_record::Value;
-
-// What stands before the sections of a program that sums a field in windows of 60: it states
-// 5 instructions for a record, 4 for a pane, and 6 panes.
-const HEADER: &[u8] = b"WSMP\x02\
-\x02\0\x01a\x01b\
-\x01\x01n\0\0\0\0\0\0\0\0\0\x64\0\0\0\0\0\0\0\
-\0\0\0\0\0\0\0\0\x64\0\0\0\0\0\0\0\x0a\0\0\0\0\0\0\0\xe8\x03\0\0\0\0\0\0\
-\0\0\
-\0\x3c\0\0\0\0\0\0\0\
-\x01\0\0\0\0\0\0\0\0\0\0\0\0\0\0\0\0\0\
-\x01\0\x02\0\0\
-\x05\0\0\0\0\0\0\0\x04\0\0\0\0\0\0\0\x06\0\0\0\0\0\0\0";
 
 const WHERE: &[u8] = &[2, 0, 2, 1, 0x50];
 
@@ -45,7 +34,8 @@ accepted,5,4,6
 
 // The bytes of a program with these sections.
 fn program(alloc: Global, sections: [&[u8]; 3]) -> Result<Vec<u8>, Fail> {
-    let mut bytes = HEADER.to_vec(alloc)?;
+    let header = BASE_PROGRAM.get(..SECTIONS).ok_or("no header")?;
+    let mut bytes = header.to_vec(alloc)?;
     for section in sections {
         bytes.extend_from_slice(section)?;
     }
@@ -61,19 +51,9 @@ fn a_program_is_explained(rt: HostRuntime) -> Result<(), Fail> {
     Ok(())
 }
 
-// The same header in version 1, which doesn't say by what lateness is counted, and names no sources.
-const VERSION_1: &[u8] = b"WSMP\x01\
-\x02\0\x01a\x01b\
-\x01\x01n\0\0\0\0\0\0\0\0\0\x64\0\0\0\0\0\0\0\
-\0\0\0\0\0\0\0\0\x64\0\0\0\0\0\0\0\x0a\0\0\0\0\0\0\0\xe8\x03\0\0\0\0\0\0\
-\0\x3c\0\0\0\0\0\0\0\
-\x01\0\0\0\0\0\0\0\0\0\0\0\0\0\0\0\0\0\
-\x01\0\x02\0\0\
-\x05\0\0\0\0\0\0\0\x04\0\0\0\0\0\0\0\x06\0\0\0\0\0\0\0";
-
 #[test]
 fn a_program_is_written_in_version_2(rt: HostRuntime) -> Result<(), Fail> {
-    let mut old = VERSION_1.to_vec(rt.alloc())?;
+    let mut old = BASE_HEADER_OF_VERSION_1.to_vec(rt.alloc())?;
     for section in [WHERE, UPDATE, FIRE] {
         old.extend_from_slice(section)?;
     }
