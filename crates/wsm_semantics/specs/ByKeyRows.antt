@@ -1,7 +1,6 @@
 -- Worked rows of the laws by key and by number: a part of a history, what it fires, and what each of their
 -- conditions is for. Histories are written oldest row first.
 use Rattle.std.specs.Prelude.{◌≡◌, refl, ℕ, zero, suc, false, List, [], ◌∷◌, filter, map, reverse, pos, Some, None, codes, nat_eq}
-use Rattle.wsm_record.specs.declared.cell.Cell.TheVariants as cells
 use Rattle.wsm_record.specs.declared.words.Form.TheVariants as form
 use Rattle.wsm_record.specs.declared.words.Mode.TheVariants as mode
 use Rattle.wsm_record.specs.declared.event.Value.TheVariants.{Int}
