@@ -17,7 +17,7 @@ ghost use Rattle.wsm_semantics.specs.FiringSets.{FiresOnce};
 ghost use Rattle.wsm_semantics.specs.LastingRows.{AddsUp};
 ghost use Rattle.wsm_semantics.specs.Order.{IsOrderFree, OrderLaw};
 ghost use Rattle.wsm_semantics.specs.ByKey.{Keys, ByKey, RowsByKey, EachOnce, PartsAddUp, NumbersAddUp, SameByRecords};
-ghost use Rattle.wsm_semantics.specs.FromWatermark.{Stays, whole, rest, Times, LeavesOut, begun_at, AreBegun, HasNoSessions, IsSettled, PartsNone, times_over, MayPart, SameAfter, SameRowsAfter, SameBeyond, SameRowsBeyond, SameOnceSettled};
+ghost use Rattle.wsm_semantics.specs.FromWatermark.{Stays, whole, rest, Times, LeavesOut, begun_at, BeginAlike, HasNoSessions, IsSettled, PartsNoSession, dropped_times, MayLeaveOut, SameAfter, SameRowsAfter, SameBeyond, SameRowsBeyond, SameOnceSettled};
 ghost use Rattle.wsm_semantics.specs.FromKept.{KeepAlike, FollowAlike};
 ghost use Rattle.wsm_program.specs.Program.{Program, is_program};
 ghost use Rattle.wsm_program.specs.declared.program.Costs.{Costs};
@@ -87,15 +87,15 @@ pub fn by_key()
 /// watermark has passed the ends of the others and LATENESS.
 pub fn from_watermark()
     ensures begun { (p : Program) → p.header.clock.sources ≡ 1 → (records : ℤ) (older : List Event)
-        → AreBegun (query_of p) (mark (query_of p) older) records (λ key. mark (query_of p) older +ℤ p.header.clock.skew) older [] (length older) }
+        → BeginAlike (query_of p) (mark (query_of p) older) records (λ key. mark (query_of p) older +ℤ p.header.clock.skew) older [] (length older) }
     ensures marks { (p : Program) (start records : ℤ) (older other : List Event) (longer : ℕ) → marks_of (begun_at start records (query_of p)).clock other ≡ marks_of p.header.clock older → length older ≡ length other + longer
-        → AreBegun (query_of p) start records (λ key. mark (query_of p) older +ℤ p.header.clock.skew) older other longer }
+        → BeginAlike (query_of p) start records (λ key. mark (query_of p) older +ℤ p.header.clock.skew) older other longer }
     ensures events { (x : Times) (events older : List Event) → (whole (map Stays events) older ≡ events ++ older) × (rest (map Stays events) older ≡ events ++ older) × LeavesOut x (map Stays events) }
-    ensures panes { (p : Program) → IsTrue (is_program p) → (start records : ℤ) (x : Times) (older other : List Event) (longer : ℕ) → AreBegun (query_of p) start records x older other longer
+    ensures panes { (p : Program) → IsTrue (is_program p) → (start records : ℤ) (x : Times) (older other : List Event) (longer : ℕ) → BeginAlike (query_of p) start records x older other longer
         → SameAfter (query_of p) start records x older other longer }
-    ensures rows { (p : Program) → IsTrue (is_program p) → (start records : ℤ) (x : Times) (older other : List Event) (longer : ℕ) → AreBegun (query_of p) start records x older other longer
+    ensures rows { (p : Program) → IsTrue (is_program p) → (start records : ℤ) (x : Times) (older other : List Event) (longer : ℕ) → BeginAlike (query_of p) start records x older other longer
         → SameRowsAfter (query_of p) start records x older other }
-    ensures settled { (p : Program) → IsTrue (is_program p) → HasNoSessions (query_of p) → (start records : ℤ) (x : Times) (older other : List Event) (longer : ℕ) → AreBegun (query_of p) start records x older other longer
+    ensures settled { (p : Program) → IsTrue (is_program p) → HasNoSessions (query_of p) → (start records : ℤ) (x : Times) (older other : List Event) (longer : ℕ) → BeginAlike (query_of p) start records x older other longer
         → SameOnceSettled (LeavesOut x) (query_of p) start records x older other longer }
 {}
 
@@ -106,9 +106,9 @@ pub fn from_watermark()
 pub fn left_out()
     ensures panes { (p : Program) → IsTrue (is_program p) → (records : ℤ) (x : Times) → SameBeyond (query_of p) records x }
     ensures rows { (p : Program) → IsTrue (is_program p) → (records : ℤ) (x : Times) → SameRowsBeyond (query_of p) records x }
-    ensures settled { (p : Program) → IsTrue (is_program p) → (records : ℤ) (x : Times) → let q = query_of p in SameOnceSettled (MayPart q q.clock.start records x) q q.clock.start records x [] [] 0 }
-    ensures coming { (p : Program) → IsTrue (is_program p) → (x : Times) (past : List Event) (e : Event) → IsSettled (query_of p) x (mark (query_of p) past) → PartsNone (query_of p) x past → PartsNone (query_of p) x (e ∷ past) }
-    ensures times { (p : Program) → IsTrue (is_program p) → (past : List Event) → let q = query_of p in IsSettled q (times_over q past) (mark q past) × PartsNone q (times_over q past) past }
+    ensures settled { (p : Program) → IsTrue (is_program p) → (records : ℤ) (x : Times) → let q = query_of p in SameOnceSettled (MayLeaveOut q q.clock.start records x) q q.clock.start records x [] [] 0 }
+    ensures coming { (p : Program) → IsTrue (is_program p) → (x : Times) (past : List Event) (e : Event) → IsSettled (query_of p) x (mark (query_of p) past) → PartsNoSession (query_of p) x past → PartsNoSession (query_of p) x (e ∷ past) }
+    ensures times { (p : Program) → IsTrue (is_program p) → (past : List Event) → let q = query_of p in IsSettled q (dropped_times q past) (mark q past) × PartsNoSession q (dropped_times q past) past }
 {}
 
 /// What follows on a history hangs on what is kept of it alone: on the marks of the sources, and on how many records each

@@ -12,7 +12,7 @@ use Rattle.wsm_semantics.specs.Query.{Datum, Query, SessionsByEvent, mark, Effec
 use Rattle.wsm_semantics.specs.Panes.{is_there, panes, contents}
 use Rattle.wsm_semantics.specs.Firings.{Firing, firings, firings_so_far, firing_of, firing_set, holds, is_shown, kind_on, kind_on_record, kind_on_watermark, shows}
 use Rattle.wsm_semantics.specs.ByKey.{at_turn, pane_at, firing_at}
-use Rattle.wsm_semantics.specs.FromWatermark.{begun_at, Step, Stays, Goes, Times, whole, rest, IsRecordTo, LeavesOut, EndsBy, AreBegun}
+use Rattle.wsm_semantics.specs.FromWatermark.{begun_at, Step, Stays, Goes, Times, whole, rest, IsRecordUpTo, LeavesOut, EndsBy, BeginAlike}
 use Rattle.wsm_semantics.proofs.Lists.{filter-all, all-each, filter_same, filter_within}
 use Rattle.wsm_semantics.proofs.Each.{passed, filter-each, filter-map, filter-append, list_any-each, all-any, all-after, all-both}
 use Rattle.wsm_semantics.proofs.Effects.{effect_with, by_record}
@@ -63,12 +63,12 @@ module _ (q : Query) (late : Place → Bool) where
             ∙ ap (filter_map (does q past e)) (panes_new q x late lates (selected q (e ∷ past)) (covers (selected q (e ∷ past))) ∙ ap (λ (ds : List Datum). filter (λ y. late y.0) (panes_of q ds)) (none_new x (selected q (e ∷ past)) ends))
 
     -- nor on the turn of an earlier record
-    none_enter : (past : List Event) (e : Event) → IsRecordTo x e → (p : Place) → late p ≡ true → contents q (e ∷ past) p ≡ contents q past p
+    none_enter : (past : List Event) (e : Event) → IsRecordUpTo x e → (p : Place) → late p ≡ true → contents q (e ∷ past) p ≡ contents q past p
     none_enter past e old p here =
         filter-append (is_there q p) (selection_of q past e) (selected q past)
         ∙ ap (λ (ds : List Datum). ds ++ contents q past p) (sym (filter_within (is_there q p) (is_new x) (new_there q x late lates p here) (selection_of q past e)) ∙ ap (filter (is_there q p)) (selects_old q x past e old))
 
-    silent : (past : List Event) (e : Event) → IsRecordTo x e → (y : Place × List Datum) → IsPane q (e ∷ past) y → late y.0 ≡ true → does q past e y ≡ None
+    silent : (past : List Event) (e : Event) → IsRecordUpTo x e → (y : Place × List Datum) → IsPane q (e ∷ past) y → late y.0 ≡ true → does q past e y ≡ None
     silent past (Watermark o t) old y is here = absurd old
     silent past (Record k t vs) old y is here =
         let e : Event = Record k t vs in
@@ -79,7 +79,7 @@ module _ (q : Query) (late : Place → Bool) where
         ap (firing_of (length past) y.0 y.1 (firing_set q.mode y.1 left))
         (by_record q past (λ does. kind_on q does y.0 y.1 left ≡ None) refl (λ _ _ _. ap (λ (b : Bool). cond b (kind_on_record q (mark q past) y.0.end (length left)) None) none) k t vs)
 
-    pub fires_none : (past : List Event) (e : Event) → IsRecordTo x e → filter is_late (firings q past e) ≡ []
+    pub fires_none : (past : List Event) (e : Event) → IsRecordUpTo x e → filter is_late (firings q past e) ≡ []
     fires_none past e old = late_firings past e ∙ none_given (panes q (e ∷ past)) (each_pane q (e ∷ past))
       where
         none_given : (ys : List (Place × List Datum)) → AllByRecursion (IsPane q (e ∷ past)) ys → filter_map (does q past e) (filter (λ y. late y.0) ys) ≡ []
@@ -93,7 +93,7 @@ module _ (q : Query) (late : Place → Bool) where
 -- ---- two histories
 
 module _ (q : Query) (ok : IsShape q.shape) (timely : SessionsByEvent q) (start records : ℤ) (x : Times) (late : Place → Bool) (lates : Lates x late) (May : List Step → Type 0) (older other : List Event) (longer : ℕ)
-    (begun : AreBegun q start records x older other longer) (serves : Serves q start records x late May older other) (f : ℕ → ℕ) (rises : IsRising f) where
+    (begun : BeginAlike q start records x older other longer) (serves : Serves q start records x late May older other) (f : ℕ → ℕ) (rises : IsRising f) where
   abbrev anew : Query
   anew = begun_at start records q
 

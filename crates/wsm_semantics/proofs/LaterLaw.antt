@@ -8,7 +8,7 @@ use Rattle.wsm_windows.specs.declared.place.Place.{Place}
 use Rattle.wsm_admission.specs.Clock.{source_mark, marks_of, least}
 use Rattle.wsm_semantics.specs.Query.{Query, SessionsByEvent, mark, selected}
 use Rattle.wsm_semantics.specs.ByKey.{IgnoresTurns}
-use Rattle.wsm_semantics.specs.FromWatermark.{begun_at, Step, Stays, Goes, Times, whole, rest, LeavesOut, EndsBy, AreBegun, is_after, is_beyond, HasNoSessions, MayPart, SameFor, SameAfter, SameRowsAfter, SameBeyond, SameRowsBeyond, SameOnceSettled}
+use Rattle.wsm_semantics.specs.FromWatermark.{begun_at, Step, Stays, Goes, Times, whole, rest, LeavesOut, EndsBy, BeginAlike, is_after, is_beyond, HasNoSessions, MayLeaveOut, SameFor, SameAfter, SameRowsAfter, SameBeyond, SameRowsBeyond, SameOnceSettled}
 use Rattle.wsm_semantics.proofs.Lists.{all-each}
 use Rattle.wsm_semantics.proofs.SelectedRecords.{IsSelected, each_selected}
 use Rattle.wsm_semantics.proofs.LaterMarks.{mark_alike, mark_of_steps, verdict_of_steps}
@@ -25,7 +25,7 @@ ends_by q past = all-each (IsSelected q (mark q past)) (λ d. d.time ≤ℤ (mar
 
 -- with the same marks
 pub begun_by_marks : (q : Query) (start records : ℤ) (older other : List Event) (longer : ℕ) → marks_of (begun_at start records q).clock other ≡ marks_of q.clock older → length older ≡ length other + longer →
-    AreBegun q start records (λ key. mark q older +ℤ q.clock.skew) older other longer
+    BeginAlike q start records (λ key. mark q older +ℤ q.clock.skew) older other longer
 begun_by_marks q start records older other longer marks turns = record {
   marks = marks;
   turns = turns;
@@ -40,7 +40,7 @@ one_mark g n one = subst (λ (n : ℕ). map (λ s. least (map g (range_with_len 
 none_before : (n : ℕ) → n ≡ 0 + n
 none_before n = omega arith
 
-pub begun_alone : (q : Query) → q.clock.sources ≡ 1 → (records : ℤ) (older : List Event) → AreBegun q (mark q older) records (λ key. mark q older +ℤ q.clock.skew) older [] (length older)
+pub begun_alone : (q : Query) → q.clock.sources ≡ 1 → (records : ℤ) (older : List Event) → BeginAlike q (mark q older) records (λ key. mark q older +ℤ q.clock.skew) older [] (length older)
 begun_alone q one records older =
     begun_by_marks q (mark q older) records older [] (length older) (one_mark (λ s. source_mark q.clock s older) q.clock.sources one) (none_before (length older))
 
@@ -52,7 +52,7 @@ followed x [] older = (refl, refl, tt)
 followed x (e ∷ events) older = let after = followed x events older in (ap (λ (past : List Event). e ∷ past) after.0, ap (λ (past : List Event). e ∷ past) after.1, after.2)
 
 pub same_for : (q : Query) → IsShape q.shape → SessionsByEvent q → (start records : ℤ) (x : Times) (late : Place → Bool) → Lates x late → (May : List Step → Type 0) (older other : List Event) (longer : ℕ) →
-    AreBegun q start records x older other longer → Serves q start records x late May older other → SameFor late May q start records older other longer
+    BeginAlike q start records x older other longer → Serves q start records x late May older other → SameFor late May q start records older other longer
 same_for q ok timely start records x late lates May older other longer begun serves = record {
   mark = λ steps may. mark_of_steps q start records x older other begun.marks steps (serves.out steps may);
   verdict = λ steps e may rooms. verdict_of_steps q start records x older other begun.marks steps (serves.out (Stays e ∷ steps) may) e rooms.0 rooms.1;
@@ -64,7 +64,7 @@ same_for q ok timely start records x late lates May older other longer begun ser
 
 -- ---- windows that begin late enough
 
-pub after_serves : (q : Query) → IsShape q.shape → (start records : ℤ) (x : Times) (older other : List Event) (longer : ℕ) → AreBegun q start records x older other longer → Serves q start records x (is_after q x) (LeavesOut x) older other
+pub after_serves : (q : Query) → IsShape q.shape → (start records : ℤ) (x : Times) (older other : List Event) (longer : ℕ) → BeginAlike q start records x older other longer → Serves q start records x (is_after q x) (LeavesOut x) older other
 after_serves q ok start records x older other longer begun =
     let anew : Query = begun_at start records q in
     record {
@@ -76,20 +76,20 @@ after_serves q ok start records x older other longer begun =
       before_other = none_fired anew (is_after q x) x (after_lates q ok x) (after_covers anew ok x) other begun.before_other;
     }
 
-pub same_after : (q : Query) → IsShape q.shape → SessionsByEvent q → (start records : ℤ) (x : Times) (older other : List Event) (longer : ℕ) → AreBegun q start records x older other longer → SameAfter q start records x older other longer
+pub same_after : (q : Query) → IsShape q.shape → SessionsByEvent q → (start records : ℤ) (x : Times) (older other : List Event) (longer : ℕ) → BeginAlike q start records x older other longer → SameAfter q start records x older other longer
 same_after q ok timely start records x older other longer begun =
     same_for q ok timely start records x (is_after q x) (after_lates q ok x) (LeavesOut x) older other longer begun (after_serves q ok start records x older other longer begun)
 
-pub same_rows_after : (q : Query) → IsShape q.shape → SessionsByEvent q → IgnoresTurns q → (start records : ℤ) (x : Times) (older other : List Event) (longer : ℕ) → AreBegun q start records x older other longer → SameRowsAfter q start records x older other
+pub same_rows_after : (q : Query) → IsShape q.shape → SessionsByEvent q → IgnoresTurns q → (start records : ℤ) (x : Times) (older other : List Event) (longer : ℕ) → BeginAlike q start records x older other longer → SameRowsAfter q start records x older other
 same_rows_after q ok timely ignores start records x older other longer begun =
     same_rows_for q ok timely ignores start records x (is_after q x) (after_lates q ok x) (LeavesOut x) older other longer begun (after_serves q ok start records x older other longer begun)
 
 -- ---- sessions that a time doesn't part
 
-both_empty : (q : Query) (records : ℤ) (x : Times) → AreBegun q q.clock.start records x [] [] 0
+both_empty : (q : Query) (records : ℤ) (x : Times) → BeginAlike q q.clock.start records x [] [] 0
 both_empty q records x = record { marks = refl; turns = refl; before = tt; before_other = tt }
 
-beyond_serves : (q : Query) → IsShape q.shape → (records : ℤ) (x : Times) → Serves q q.clock.start records x (is_beyond x) (MayPart q q.clock.start records x) [] []
+beyond_serves : (q : Query) → IsShape q.shape → (records : ℤ) (x : Times) → Serves q q.clock.start records x (is_beyond x) (MayLeaveOut q q.clock.start records x) [] []
 beyond_serves q ok records x =
     let anew : Query = begun_at q.clock.start records q in
     record {
@@ -106,15 +106,15 @@ beyond_serves q ok records x =
 
 pub same_beyond : (q : Query) → IsShape q.shape → SessionsByEvent q → (records : ℤ) (x : Times) → SameBeyond q records x
 same_beyond q ok timely records x =
-    same_for q ok timely q.clock.start records x (is_beyond x) (beyond_lates x) (MayPart q q.clock.start records x) [] [] 0 (both_empty q records x) (beyond_serves q ok records x)
+    same_for q ok timely q.clock.start records x (is_beyond x) (beyond_lates x) (MayLeaveOut q q.clock.start records x) [] [] 0 (both_empty q records x) (beyond_serves q ok records x)
 
 pub same_rows_beyond : (q : Query) → IsShape q.shape → SessionsByEvent q → IgnoresTurns q → (records : ℤ) (x : Times) → SameRowsBeyond q records x
 same_rows_beyond q ok timely ignores records x =
-    same_rows_for q ok timely ignores q.clock.start records x (is_beyond x) (beyond_lates x) (MayPart q q.clock.start records x) [] [] 0 (both_empty q records x) (beyond_serves q ok records x)
+    same_rows_for q ok timely ignores q.clock.start records x (is_beyond x) (beyond_lates x) (MayLeaveOut q q.clock.start records x) [] [] 0 (both_empty q records x) (beyond_serves q ok records x)
 
 -- ---- once all begins late enough
 
-pub settled_after : (q : Query) → IsShape q.shape → HasNoSessions q → pos 0 ≤ℤ q.clock.lateness → IgnoresTurns q → (start records : ℤ) (x : Times) (older other : List Event) (longer : ℕ) → AreBegun q start records x older other longer →
+pub settled_after : (q : Query) → IsShape q.shape → HasNoSessions q → pos 0 ≤ℤ q.clock.lateness → IgnoresTurns q → (start records : ℤ) (x : Times) (older other : List Event) (longer : ℕ) → BeginAlike q start records x older other longer →
     SameOnceSettled (LeavesOut x) q start records x older other longer
 settled_after q ok none low ignores start records x older other longer begun =
     same_once_settled q ok (λ gap is. absurd (none gap is)) low ignores start records x (is_after q x) (after_lates q ok x) (LeavesOut x) older other longer begun (after_serves q ok start records x older other longer begun)
@@ -123,9 +123,9 @@ settled_after q ok none low ignores start records x older other longer begun =
       second = λ steps may m settled p placed live. live_after (begun_at start records q) ok x (rest steps other) p placed m settled live none;
     })
 
-pub settled_beyond : (q : Query) → IsShape q.shape → SessionsByEvent q → pos 0 ≤ℤ q.clock.lateness → IgnoresTurns q → (records : ℤ) (x : Times) → SameOnceSettled (MayPart q q.clock.start records x) q q.clock.start records x [] [] 0
+pub settled_beyond : (q : Query) → IsShape q.shape → SessionsByEvent q → pos 0 ≤ℤ q.clock.lateness → IgnoresTurns q → (records : ℤ) (x : Times) → SameOnceSettled (MayLeaveOut q q.clock.start records x) q q.clock.start records x [] [] 0
 settled_beyond q ok timely low ignores records x =
-    same_once_settled q ok timely low ignores q.clock.start records x (is_beyond x) (beyond_lates x) (MayPart q q.clock.start records x) [] [] 0 (both_empty q records x) (beyond_serves q ok records x)
+    same_once_settled q ok timely low ignores q.clock.start records x (is_beyond x) (beyond_lates x) (MayLeaveOut q q.clock.start records x) [] [] 0 (both_empty q records x) (beyond_serves q ok records x)
     (record {
       first = λ steps may m settled p placed live. live_beyond q ok x (whole steps []) p placed m settled live may.1;
       second = λ steps may m settled p placed live.

@@ -20,7 +20,7 @@ use Rattle.wsm_semantics.specs.Query.{Datum, Query, Effect, Selects, Rises, Noth
 use Rattle.wsm_semantics.specs.Sessions.{sessions}
 use Rattle.wsm_semantics.specs.Panes.{of_key, is_there, is_live_at, panes, held}
 use Rattle.wsm_semantics.specs.ByKey.{pane_at}
-use Rattle.wsm_semantics.specs.FromWatermark.{begun_at, Step, Times, whole, rest, LeavesOut, AreBegun, begins_after, is_after, is_beyond, is_beside, PartsNone}
+use Rattle.wsm_semantics.specs.FromWatermark.{begun_at, Step, Times, whole, rest, LeavesOut, BeginAlike, begins_after, is_after, is_beyond, is_beside, PartsNoSession}
 use Rattle.wsm_semantics.proofs.Lists.{all-each, filter_within}
 use Rattle.wsm_semantics.proofs.Tables.{among, find-with_contents, is_sorted-with_contents}
 use Rattle.wsm_semantics.proofs.Each.{same_key, passed, filter-each, filter_swap, filter-map, list_any-append}
@@ -180,7 +180,7 @@ before_effect gap long t key ds (Selects d) h =
       | false ↦ λ k. k
     ] h
 
-pub parted_none : (q : Query) → IsShape q.shape → (x : Times) (past : List Event) (e : Event) → PartsNone q x (e ∷ past) → PartsNone q x past
+pub parted_none : (q : Query) → IsShape q.shape → (x : Times) (past : List Event) (e : Event) → PartsNoSession q x (e ∷ past) → PartsNoSession q x past
 parted_none q ok x past e none gap is key = before_effect gap (gap_is_long q gap is ok) (x key) key (selected q past) (effect_of q past e) (none gap is key)
 
 -- ---- panes
@@ -218,7 +218,7 @@ module _ (q : Query) (x : Times) (late : Place → Bool) (lates : Lates x late) 
 abbrev pub Covered : Query → ℤ → ℤ → Times → (Place → Bool) → List Event → List Event → List Step → Type 0
 Covered q start records x late older other steps = Covers q x late (selected q (whole steps older)) × Covers (begun_at start records q) x late (selected (begun_at start records q) (rest steps other))
 
-module _ (q : Query) (start records : ℤ) (x : Times) (late : Place → Bool) (lates : Lates x late) (older other : List Event) (longer : ℕ) (begun : AreBegun q start records x older other longer) where
+module _ (q : Query) (start records : ℤ) (x : Times) (late : Place → Bool) (lates : Lates x late) (older other : List Event) (longer : ℕ) (begun : BeginAlike q start records x older other longer) where
   abbrev anew : Query
   anew = begun_at start records q
 

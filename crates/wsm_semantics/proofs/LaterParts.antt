@@ -15,7 +15,7 @@ use Rattle.wsm_semantics.specs.Query.{Datum, Query, SessionsByEvent, datum, Effe
 use Rattle.wsm_semantics.specs.Sessions.{with_time, rising, sessions_of_rising, sessions, ends_by, starts_from, links, session_of}
 use Rattle.wsm_semantics.specs.Panes.{of_key}
 use Rattle.wsm_semantics.specs.ByKey.{at_turn}
-use Rattle.wsm_semantics.specs.FromWatermark.{begun_at, Step, Stays, Goes, Times, whole, rest, LeavesOut, AreBegun, is_beside, PartsNone, IsSettled, time_before, time_apart, times_over}
+use Rattle.wsm_semantics.specs.FromWatermark.{begun_at, Step, Stays, Goes, Times, whole, rest, LeavesOut, BeginAlike, is_beside, PartsNoSession, IsSettled, unparted_time, dropped_time, dropped_times}
 use Rattle.wsm_semantics.proofs.Lists.{filter-all, all-each}
 use Rattle.wsm_semantics.proofs.Each.{passed, all-append, all-both, map-map, filter-map, filter-append}
 use Rattle.wsm_semantics.proofs.Effects.{by_effect, selection-with}
@@ -48,7 +48,7 @@ times_turned gap key f ds =
     ap (map (λ (d : Datum). d.time)) (filter-map (at_turn f) (λ d. nat_eq d.key key) ds)
     ∙ map-map (λ (d : Datum). d.time) (at_turn f) (of_key key ds)
 
-module _ (q : Query) (start records : ℤ) (x : Times) (begun : AreBegun q start records x [] [] 0) (gap : ℤ) (long : pos 1 ≤ℤ gap) (key : ℕ) where
+module _ (q : Query) (start records : ℤ) (x : Times) (begun : BeginAlike q start records x [] [] 0) (gap : ℤ) (long : pos 1 ≤ℤ gap) (key : ℕ) where
   abbrev anew : Query
   anew = begun_at start records q
 
@@ -79,8 +79,8 @@ module _ (q : Query) (start records : ℤ) (x : Times) (begun : AreBegun q start
       rest_beside steps out.1 (rooms.0.1, rooms.1) ps
       (without_some gap long (x key) ps (times (selection_of q H e)) (times (selected q H)) (subst Beside (ap (λ (ts : List ℤ). ps ++ ts) (times-append gap key (selection_of q H e) (selected q H))) h))
 
-pub rest_parted : (q : Query) → IsShape q.shape → (start records : ℤ) (x : Times) → AreBegun q start records x [] [] 0 → (steps : List Step) → LeavesOut x steps → Rooms q start records [] [] steps →
-    PartsNone q x (whole steps []) → PartsNone (begun_at start records q) x (rest steps [])
+pub rest_parted : (q : Query) → IsShape q.shape → (start records : ℤ) (x : Times) → BeginAlike q start records x [] [] 0 → (steps : List Step) → LeavesOut x steps → Rooms q start records [] [] steps →
+    PartsNoSession q x (whole steps []) → PartsNoSession (begun_at start records q) x (rest steps [])
 rest_parted q ok start records x begun steps out rooms none gap is key =
     rest_beside q start records x begun gap (gap_is_long q gap is ok) key steps out rooms [] (none gap is key)
 
@@ -122,7 +122,7 @@ module _ (gap : ℤ) (long : pos 1 ≤ℤ gap) (x : ℤ) where
       (all-append Beside (filter (ends_by t) ws) (v ∷ filter (starts_from (t +ℤ gap)) ws) (filter-all Beside (ends_by t) ws h) (mine, filter-all Beside (starts_from (t +ℤ gap)) ws h))
 
 -- then they part no session of what is still to come
-pub parted_on : (q : Query) → IsShape q.shape → SessionsByEvent q → (x : Times) (past : List Event) (e : Event) → IsSettled q x (mark q past) → PartsNone q x past → PartsNone q x (e ∷ past)
+pub parted_on : (q : Query) → IsShape q.shape → SessionsByEvent q → (x : Times) (past : List Event) (e : Event) → IsSettled q x (mark q past) → PartsNoSession q x past → PartsNoSession q x (e ∷ past)
 parted_on q ok timely x past e settled none gap is key =
     by_effect q past (λ e y. AreBeside gap long (x key) (sessions gap (times_of gap (selection y ++ selected q past) key)))
     (λ k t vs taken _. entering k t vs taken)
@@ -169,7 +169,7 @@ not_first true b h = absurd (true≢false h)
 
 module _ (gap : ℤ) (long : pos 1 ≤ℤ gap) (t : ℤ) where
   abbrev x : List Window → ℤ
-  x ws = time_before gap t ws
+  x ws = unparted_time gap t ws
 
   no_later_than : (ws : List Window) → x ws ≤ℤ t
   no_later_than [] = omega (arith, ints)
@@ -217,8 +217,8 @@ module _ (gap : ℤ) (long : pos 1 ≤ℤ gap) (t : ℤ) where
 settled_by : (x m l size : ℤ) → x ≤ℤ ((m -ℤ l) -ℤ size) → ((x +ℤ size) +ℤ l) ≤ℤ m
 settled_by x m l size h = omega (arith, ints)
 
-pub over_settled : (q : Query) → IsShape q.shape → (past : List Event) → IsSettled q (times_over q past) (mark q past)
-over_settled q ok past key = settled_by (times_over q past key) (mark q past) q.clock.lateness (size_of q.shape) (of_shape q.shape refl) where
+pub over_settled : (q : Query) → IsShape q.shape → (past : List Event) → IsSettled q (dropped_times q past) (mark q past)
+over_settled q ok past key = settled_by (dropped_times q past key) (mark q past) q.clock.lateness (size_of q.shape) (of_shape q.shape refl) where
   t : ℤ
   t = (mark q past -ℤ q.clock.lateness) -ℤ size_of q.shape
 
@@ -228,14 +228,14 @@ over_settled q ok past key = settled_by (times_over q past key) (mark q past) q.
   itself : (s : ℤ) → s ≤ℤ s
   itself s = omega (arith, ints)
 
-  of_shape : (shape : Shape) → q.shape ≡ shape → time_apart q.shape t ts ≤ℤ t
-  of_shape (Fixed size) is = subst (λ (s : Shape). time_apart s t ts ≤ℤ t) (sym is) (itself t)
-  of_shape (Sliding size period) is = subst (λ (s : Shape). time_apart s t ts ≤ℤ t) (sym is) (itself t)
-  of_shape (Session gap) is = subst (λ (s : Shape). time_apart s t ts ≤ℤ t) (sym is) (no_later_than gap (gap_is_long q gap is ok) t (sessions gap ts))
+  of_shape : (shape : Shape) → q.shape ≡ shape → dropped_time q.shape t ts ≤ℤ t
+  of_shape (Fixed size) is = subst (λ (s : Shape). dropped_time s t ts ≤ℤ t) (sym is) (itself t)
+  of_shape (Sliding size period) is = subst (λ (s : Shape). dropped_time s t ts ≤ℤ t) (sym is) (itself t)
+  of_shape (Session gap) is = subst (λ (s : Shape). dropped_time s t ts ≤ℤ t) (sym is) (no_later_than gap (gap_is_long q gap is ok) t (sessions gap ts))
 
-pub over_parts_none : (q : Query) → IsShape q.shape → (past : List Event) → PartsNone q (times_over q past) past
+pub over_parts_none : (q : Query) → IsShape q.shape → (past : List Event) → PartsNoSession q (dropped_times q past) past
 over_parts_none q ok past gap is key =
     let t : ℤ = (mark q past -ℤ q.clock.lateness) -ℤ size_of q.shape in
     let ts : List ℤ = times_of gap (selected q past) key in
     let long : pos 1 ≤ℤ gap = gap_is_long q gap is ok in
-    subst (λ (s : ℤ). AllByRecursion (λ w. is_beside gap s w ≡ true) (sessions gap ts)) (sym (ap (λ (s : Shape). time_apart s t ts) is)) (parts_no_session gap long t (sessions gap ts) (sessions_apart gap long ts))
+    subst (λ (s : ℤ). AllByRecursion (λ w. is_beside gap s w ≡ true) (sessions gap ts)) (sym (ap (λ (s : Shape). dropped_time s t ts) is)) (parts_no_session gap long t (sessions gap ts) (sessions_apart gap long ts))

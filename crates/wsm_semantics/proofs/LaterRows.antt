@@ -28,7 +28,7 @@ use Rattle.wsm_semantics.specs.StandingFirings.{is_within, candidates, greatest_
 use Rattle.wsm_semantics.specs.Retractions.{standing_for, panes_before_drops, is_same, withdrawn, written_of, by_place, retract_row, retract_rows}
 use Rattle.wsm_semantics.specs.Relation.{chosen_rows, streamed, turn_rows}
 use Rattle.wsm_semantics.specs.ByKey.{IgnoresTurns, at_turn, pane_at, firing_at}
-use Rattle.wsm_semantics.specs.FromWatermark.{begun_at, Step, Stays, Times, whole, rest, AreBegun, is_row_at, RetractsApart, SameRowsFor}
+use Rattle.wsm_semantics.specs.FromWatermark.{begun_at, Step, Stays, Times, whole, rest, BeginAlike, is_row_at, RetractsNoSessions, SameRowsFor}
 use Rattle.wsm_semantics.proofs.Lists.{all-each, filter_within}
 use Rattle.wsm_semantics.proofs.Assigned.{IsAssigned}
 use Rattle.wsm_semantics.proofs.Each.{passed, all-any, filter-each, filter-map, filter-append, filter_swap, list_any-each}
@@ -105,7 +105,7 @@ module _ (q : Query) (assigned : IsAssigned q.shape) (late : Place → Bool) (f 
 -- ---- rows
 
 module _ (q : Query) (ok : IsShape q.shape) (timely : SessionsByEvent q) (ignores : IgnoresTurns q) (start records : ℤ) (x : Times) (late : Place → Bool) (lates : Lates x late) (May : List Step → Type 0)
-    (older other : List Event) (longer : ℕ) (begun : AreBegun q start records x older other longer) (serves : Serves q start records x late May older other) (f : ℕ → ℕ) (rises : IsRising f) where
+    (older other : List Event) (longer : ℕ) (begun : BeginAlike q start records x older other longer) (serves : Serves q start records x late May older other) (f : ℕ → ℕ) (rises : IsRising f) where
   abbrev anew : Query
   anew = begun_at start records q
 
@@ -182,7 +182,7 @@ module _ (q : Query) (ok : IsShape q.shape) (timely : SessionsByEvent q) (ignore
           ∙ sym (filter-map retract_row (is_row_at late) (by_place vs))
 
     -- the rows that withdraw, where sessions don't retract
-    module _ (apart : RetractsApart q) where
+    module _ (apart : RetractsNoSessions q) where
       retracting : (shape : Shape) → q.shape ≡ shape → q.mode ≡ Retracting → filter (is_row_at late) (retract_rows Retracting q H e) ≡ filter (is_row_at late) (retract_rows Retracting anew R e)
       retracting (Fixed size) is retracts = retracted_late (subst IsAssigned (sym is) tt)
       retracting (Sliding size period) is retracts = retracted_late (subst IsAssigned (sym is) tt)
@@ -202,7 +202,7 @@ module _ (q : Query) (ok : IsShape q.shape) (timely : SessionsByEvent q) (ignore
           ∙ sym (ap (λ (form : Form). filter (is_row_at late) (chosen_rows form (retract_rows q.mode anew R e ++ pane_rows anew R e) (streamed anew R e))) panes_alone)
 
 pub same_rows_for : (q : Query) → IsShape q.shape → SessionsByEvent q → IgnoresTurns q → (start records : ℤ) (x : Times) (late : Place → Bool) → Lates x late → (May : List Step → Type 0) (older other : List Event) (longer : ℕ) →
-    AreBegun q start records x older other longer → Serves q start records x late May older other → SameRowsFor late May q start records older other
+    BeginAlike q start records x older other longer → Serves q start records x late May older other → SameRowsFor late May q start records older other
 same_rows_for q ok timely ignores start records x late lates May older other longer begun serves = record {
   panes = λ steps e may rooms. pane_rows_of_steps q ok timely ignores start records x late lates May older other longer begun serves (turn older other longer steps) (rising-turn older other longer steps) steps e may rooms
       (turn_now older other longer begun.turns steps, are_turns older other longer begun.turns steps);

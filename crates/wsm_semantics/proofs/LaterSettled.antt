@@ -25,7 +25,7 @@ use Rattle.wsm_semantics.specs.StandingFirings.{is_within, candidates, greatest_
 use Rattle.wsm_semantics.specs.Retractions.{standing_for, panes_before_drops, is_same, withdrawn, written_of, retracted, retract_rows}
 use Rattle.wsm_semantics.specs.Relation.{sorted_rows, relation, relation_at, stream_rows, chosen_rows, streamed, turn_rows}
 use Rattle.wsm_semantics.specs.ByKey.{IgnoresTurns, at_turn, pane_at, firing_at}
-use Rattle.wsm_semantics.specs.FromWatermark.{begun_at, Step, Stays, Times, whole, rest, AreBegun, begins_after, is_after, is_beyond, is_beside, PartsNone, HasNoSessions, IsSettled, SameOnceSettled}
+use Rattle.wsm_semantics.specs.FromWatermark.{begun_at, Step, Stays, Times, whole, rest, BeginAlike, begins_after, is_after, is_beyond, is_beside, PartsNoSession, HasNoSessions, IsSettled, SameOnceSettled}
 use Rattle.wsm_semantics.proofs.Lists.{filter-all, all-each, filter_same}
 use Rattle.wsm_semantics.proofs.Tables.{among}
 use Rattle.wsm_semantics.proofs.Assigned.{IsAssigned}
@@ -79,7 +79,7 @@ module _ (q : Query) (ok : IsShape q.shape) (x : Times) (past : List Event) (p :
     of_shape (Sliding size period) is = ap (λ (s : Shape). begins_after s (x p.key) p.start) is ∙ by_grid (Sliding size period) is tt
     of_shape (Session gap) is = absurd (none gap is)
 
-  pub live_beyond : PartsNone q x past → is_beyond x p ≡ true
+  pub live_beyond : PartsNoSession q x past → is_beyond x p ≡ true
   live_beyond parts = of_shape q.shape refl where
     of_shape : (shape : Shape) → q.shape ≡ shape → int_lt (x p.key) p.start ≡ true
     of_shape (Fixed size) is = by_grid (Fixed size) is tt
@@ -187,7 +187,7 @@ pub record LiveLate (q : Query) (start records : ℤ) (x : Times) (late : Place 
   pub second : (steps : List Step) → May steps → (m : ℤ) → IsSettled q x m → (p : Place) → among p (places (begun_at start records q) (rest steps other)) ≡ true → is_live_at q m p ≡ true → late p ≡ true
 
 module _ (q : Query) (ok : IsShape q.shape) (timely : SessionsByEvent q) (low : pos 0 ≤ℤ q.clock.lateness) (start records : ℤ) (x : Times) (late : Place → Bool) (lates : Lates x late) (May : List Step → Type 0) (older other : List Event) (longer : ℕ)
-    (begun : AreBegun q start records x older other longer) (serves : Serves q start records x late May older other) (live : LiveLate q start records x late May older other) (f : ℕ → ℕ) (rises : IsRising f) where
+    (begun : BeginAlike q start records x older other longer) (serves : Serves q start records x late May older other) (live : LiveLate q start records x late May older other) (f : ℕ → ℕ) (rises : IsRising f) where
   abbrev anew : Query
   anew = begun_at start records q
 
@@ -396,7 +396,7 @@ module _ (q : Query) (ok : IsShape q.shape) (timely : SessionsByEvent q) (low : 
       streams_settled was = λ i. chosen_rows q.form (retract_same q.mode i ++ pane_rows_same i) (streamed_same was i)
 
 pub same_once_settled : (q : Query) → IsShape q.shape → SessionsByEvent q → pos 0 ≤ℤ q.clock.lateness → IgnoresTurns q → (start records : ℤ) (x : Times) (late : Place → Bool) → Lates x late → (May : List Step → Type 0) (older other : List Event) (longer : ℕ) →
-    AreBegun q start records x older other longer → Serves q start records x late May older other → LiveLate q start records x late May older other → SameOnceSettled May q start records x older other longer
+    BeginAlike q start records x older other longer → Serves q start records x late May older other → LiveLate q start records x late May older other → SameOnceSettled May q start records x older other longer
 same_once_settled q ok timely low ignores start records x late lates May older other longer begun serves live = record {
   held = λ steps may rooms settled. held_settled q ok timely low start records x late lates May older other longer begun serves live (now steps) (up steps) steps may settled rooms (are_turns older other longer begun.turns steps);
   firings = λ steps e may rooms settled. firings_settled q ok timely low start records x late lates May older other longer begun serves live (now steps) (up steps) steps e may settled rooms (all_turns e steps);

@@ -10,7 +10,7 @@ use Rattle.std.specs.List.{AllByRecursion}
 use Rattle.wsm_record.specs.Event.{Event, Record, Watermark}
 use Rattle.wsm_semantics.specs.Query.{Datum, Query, datum, mark, is_taken, Effect, Selects, Nothing, effect_of, selected, selection, selection_of}
 use Rattle.wsm_semantics.specs.ByKey.{at_turn}
-use Rattle.wsm_semantics.specs.FromWatermark.{begun_at, Step, Stays, Goes, whole, rest, Times, IsRecordTo, LeavesOut, turn_in, AreBegun, BothHaveRoom}
+use Rattle.wsm_semantics.specs.FromWatermark.{begun_at, Step, Stays, Goes, whole, rest, Times, IsRecordUpTo, LeavesOut, turn_in, BeginAlike, BothHaveRoom}
 use Rattle.wsm_semantics.proofs.Lists.{all-each}
 use Rattle.wsm_semantics.proofs.Each.{none_of, filter-map, filter-append}
 use Rattle.wsm_semantics.proofs.Effects.{effect_with, selection-with}
@@ -105,7 +105,7 @@ pub none_new : (x : Times) (ds : List Datum) → AllByRecursion (λ d. d.time �
 none_new x ds h = none_of (is_new x) ds (all-each (λ d. d.time ≤ℤ x d.key) (λ d. is_new x d ≡ false) ds (λ d k. not_after (x d.key) d.time k) h)
 
 -- a record with a time up to it is none
-pub selects_old : (q : Query) (x : Times) (past : List Event) (e : Event) → IsRecordTo x e → filter (is_new x) (selection_of q past e) ≡ []
+pub selects_old : (q : Query) (x : Times) (past : List Event) (e : Event) → IsRecordUpTo x e → filter (is_new x) (selection_of q past e) ≡ []
 selects_old q x past (Record None t vs) h = refl
 selects_old q x past (Watermark o t) h = absurd h
 selects_old q x past (Record (Some k) t vs) h =
@@ -122,7 +122,7 @@ module _ (q : Query) (start records : ℤ) (older other : List Event) where
   pub rooms_before : (e : Event) (steps : List Step) → Rooms (Stays e ∷ steps) → Rooms steps
   rooms_before e steps rooms = (rooms.0.1, rooms.1.1)
 
-module _ (q : Query) (start records : ℤ) (x : Times) (older other : List Event) (longer : ℕ) (begun : AreBegun q start records x older other longer) where
+module _ (q : Query) (start records : ℤ) (x : Times) (older other : List Event) (longer : ℕ) (begun : BeginAlike q start records x older other longer) where
   abbrev anew : Query
   anew = begun_at start records q
 

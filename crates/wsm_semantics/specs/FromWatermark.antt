@@ -2,7 +2,7 @@
 -- before it. So a run may begin behind any row, with the watermark then as its START, and what it fires
 -- for windows that begin past that watermark and SKEW is what the whole run fires. More generally, any
 -- records with times up to some time may be left out: nothing changes for windows that begin after it.
--- Watermarks and windows are those of the Dataflow Model (Akidau et al. 2015); how far a record may be
+-- Watermarks and windows are those of the Dataflow Model; how far a record may be
 -- ahead, the verdicts and what is counted are this project's own rules.
 use Rattle.std.specs.Prelude.{◌≡◌, ◌≢◌, ℕ, suc, ◌+◌, Bool, true, false, ◌||◌, List, [], ◌∷◌, length, map, filter, ℤ, pos, ◌+ℤ◌, ◌-ℤ◌, ◌≤ℤ◌, int_lt, int_le, nat_lt, Some, None, if◌then◌else◌}
 use Rattle.std.specs.List.{AllByRecursion}
@@ -53,16 +53,16 @@ abbrev pub Times : Type 0
 Times = ℕ → ℤ
 
 -- a record with a time up to that of its key, or of no declared key
-abbrev pub IsRecordTo : Times → Event → Type 0
-IsRecordTo x (Record None time values) = Unit {0}
-IsRecordTo x (Record (Some key) time values) = time ≤ℤ x key
-IsRecordTo x (Watermark source time) = ⊥
+abbrev pub IsRecordUpTo : Times → Event → Type 0
+IsRecordUpTo x (Record None time values) = Unit {0}
+IsRecordUpTo x (Record (Some key) time values) = time ≤ℤ x key
+IsRecordUpTo x (Watermark source time) = ⊥
 
 -- no others are left out
 abbrev pub LeavesOut : Times → List Step → Type 0
 LeavesOut x [] = Unit {0}
 LeavesOut x (Stays e ∷ steps) = LeavesOut x steps
-LeavesOut x (Goes e ∷ steps) = IsRecordTo x e × LeavesOut x steps
+LeavesOut x (Goes e ∷ steps) = IsRecordUpTo x e × LeavesOut x steps
 
 -- the turn in the first that an event has which is so many turns from the beginning of the second, where what
 -- came before is so much longer in the first
@@ -79,7 +79,7 @@ EndsBy q x past = AllByRecursion (λ d. d.time ≤ℤ x d.key) (selected q past)
 
 -- two histories, the second by a query that is begun anew, which agree on the marks of the sources and have
 -- selected no record after the time of its key; the first is so many events longer
-pub record AreBegun (q : Query) (start records : ℤ) (x : Times) (older other : List Event) (longer : ℕ) : Type 0 where
+pub record BeginAlike (q : Query) (start records : ℤ) (x : Times) (older other : List Event) (longer : ℕ) : Type 0 where
   pub marks : marks_of (begun_at start records q).clock other ≡ marks_of q.clock older
   pub turns : length older ≡ length other + longer
   pub before : EndsBy q x older
@@ -103,8 +103,8 @@ is_row_at late (Retract key window columns) = late (at key window)
 is_row_at late _ = false
 
 -- sessions merge, and may withdraw where they do
-abbrev pub RetractsApart : Query → Type 0
-RetractsApart q = (gap : ℤ) → q.shape ≡ Session gap → q.mode ≢ Retracting
+abbrev pub RetractsNoSessions : Query → Type 0
+RetractsNoSessions q = (gap : ℤ) → q.shape ≡ Session gap → q.mode ≢ Retracting
 
 -- windows that don't merge
 abbrev pub HasNoSessions : Query → Type 0
@@ -133,7 +133,7 @@ pub record SameFor (late : Place → Bool) (May : List Step → Type 0) (q : Que
 pub record SameRowsFor (late : Place → Bool) (May : List Step → Type 0) (q : Query) (start records : ℤ) (older other : List Event) : Type 0 where
   pub panes : (steps : List Step) (e : Event) → May (Stays e ∷ steps) → BothHaveRoom q start records (e ∷ whole steps older) (e ∷ rest steps other) →
       filter (is_row_at late) (pane_rows q (whole steps older) e) ≡ filter (is_row_at late) (pane_rows (begun_at start records q) (rest steps other) e)
-  pub rows : RetractsApart q → q.form ≡ form.Panes → (steps : List Step) (e : Event) → May (Stays e ∷ steps) → BothHaveRoom q start records (e ∷ whole steps older) (e ∷ rest steps other) →
+  pub rows : RetractsNoSessions q → q.form ≡ form.Panes → (steps : List Step) (e : Event) → May (Stays e ∷ steps) → BothHaveRoom q start records (e ∷ whole steps older) (e ∷ rest steps other) →
       filter (is_row_at late) (turn_rows q (whole steps older) e) ≡ filter (is_row_at late) (turn_rows (begun_at start records q) (rest steps other) e)
 
 -- ---- of what begins late enough
@@ -155,18 +155,18 @@ abbrev pub is_beside : ℤ → ℤ → Window → Bool
 is_beside gap t w = int_lt t w.start || int_le w.end (t +ℤ gap)
 
 -- the time of a key parts no session of it
-abbrev pub PartsNone : Query → Times → List Event → Type 0
-PartsNone q x past = (gap : ℤ) → q.shape ≡ Session gap → (key : ℕ) → AllByRecursion (λ w. is_beside gap (x key) w ≡ true) (sessions gap (map (λ d. d.time) (of_key key (selected q past))))
+abbrev pub PartsNoSession : Query → Times → List Event → Type 0
+PartsNoSession q x past = (gap : ℤ) → q.shape ≡ Session gap → (key : ℕ) → AllByRecursion (λ w. is_beside gap (x key) w ≡ true) (sessions gap (map (λ d. d.time) (of_key key (selected q past))))
 
-abbrev pub MayPart : Query → ℤ → ℤ → Times → List Step → Type 0
-MayPart q start records x steps = LeavesOut x steps × PartsNone q x (whole steps []) × BothHaveRoom q start records (whole steps []) (rest steps [])
+abbrev pub MayLeaveOut : Query → ℤ → ℤ → Times → List Step → Type 0
+MayLeaveOut q start records x steps = LeavesOut x steps × PartsNoSession q x (whole steps []) × BothHaveRoom q start records (whole steps []) (rest steps [])
 
 -- so where no session is parted, records with times up to that of their key may be left out for all windows beyond it
 abbrev pub SameBeyond : Query → ℤ → Times → Type 0
-SameBeyond q records x = SameFor (is_beyond x) (MayPart q q.clock.start records x) q q.clock.start records [] [] 0
+SameBeyond q records x = SameFor (is_beyond x) (MayLeaveOut q q.clock.start records x) q q.clock.start records [] [] 0
 
 abbrev pub SameRowsBeyond : Query → ℤ → Times → Type 0
-SameRowsBeyond q records x = SameRowsFor (is_beyond x) (MayPart q q.clock.start records x) q q.clock.start records [] []
+SameRowsBeyond q records x = SameRowsFor (is_beyond x) (MayLeaveOut q q.clock.start records x) q q.clock.start records [] []
 
 -- ---- from a watermark on
 
@@ -194,15 +194,15 @@ pub record SameOnceSettled (May : List Step → Type 0) (q : Query) (start recor
 -- ---- at any watermark
 
 -- a time, or that right before the first session that it parts
-abbrev pub time_before : ℤ → ℤ → List Window → ℤ
-time_before gap t [] = t
-time_before gap t (w ∷ ws) = if is_beside gap t w then time_before gap t ws else w.start -ℤ pos 1
+abbrev pub unparted_time : ℤ → ℤ → List Window → ℤ
+unparted_time gap t [] = t
+unparted_time gap t (w ∷ ws) = if is_beside gap t w then unparted_time gap t ws else w.start -ℤ pos 1
 
-abbrev pub time_apart : Shape → ℤ → List ℤ → ℤ
-time_apart (Fixed size) t times = t
-time_apart (Sliding size period) t times = t
-time_apart (Session gap) t times = time_before gap t (sessions gap times)
+abbrev pub dropped_time : Shape → ℤ → List ℤ → ℤ
+dropped_time (Fixed size) t times = t
+dropped_time (Sliding size period) t times = t
+dropped_time (Session gap) t times = unparted_time gap t (sessions gap times)
 
 -- the times that are settled by the watermark, or right before a session of the key that is parted by them
-abbrev pub times_over : Query → List Event → Times
-times_over q past key = time_apart q.shape ((mark q past -ℤ q.clock.lateness) -ℤ size_of q.shape) (map (λ d. d.time) (of_key key (selected q past)))
+abbrev pub dropped_times : Query → List Event → Times
+dropped_times q past key = dropped_time q.shape ((mark q past -ℤ q.clock.lateness) -ℤ size_of q.shape) (map (λ d. d.time) (of_key key (selected q past)))

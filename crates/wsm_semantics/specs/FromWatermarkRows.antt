@@ -11,7 +11,7 @@ use Rattle.wsm_semantics.specs.Query.{Query}
 use Rattle.wsm_semantics.specs.Relation.{turn_rows}
 use Rattle.wsm_semantics.specs.Lines.{Row, events}
 use Rattle.wsm_semantics.specs.Rows.{base, a, w, ints}
-use Rattle.wsm_semantics.specs.FromWatermark.{Step, Stays, Goes, rest, turn_in, begun_at, is_after, is_row_at, settled_at, times_over}
+use Rattle.wsm_semantics.specs.FromWatermark.{Step, Stays, Goes, rest, turn_in, begun_at, is_after, is_row_at, settled_at, dropped_times}
 
 abbrev past_of : List Row → List Event
 past_of rows = events (reverse rows)
@@ -78,7 +78,7 @@ begins_later_without_it : turn_rows (begun_at (pos 30) (pos 1000) in_sessions) (
 begins_later_without_it = refl
 
 -- at the watermark 70 the time 50 would part it, so records up to 49 go
-its_time_is_before_it : times_over in_sessions (past_of (a 10 1 ∷ w 30 ∷ a 50 2 ∷ w 40 ∷ a 59 3 ∷ w 70 ∷ [])) 0 ≡ pos 49
+its_time_is_before_it : dropped_times in_sessions (past_of (a 10 1 ∷ w 30 ∷ a 50 2 ∷ w 40 ∷ a 59 3 ∷ w 70 ∷ [])) 0 ≡ pos 49
 its_time_is_before_it = refl
 
 -- ---- sessions that retract: a row of a session that begins late enough is withdrawn where that is joined with one that

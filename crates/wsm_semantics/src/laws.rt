@@ -18,7 +18,7 @@ ghost use Rattle.wsm_semantics.specs.LastingRows.{AddsUp};
 ghost use Rattle.wsm_semantics.specs.HeldBounds.{HeldBounded};
 ghost use Rattle.wsm_semantics.specs.Order.{Judged, is_rise, Reordered, IgnoresOrder, IsOrderFree, OrderLaw};
 ghost use Rattle.wsm_semantics.specs.ByNumber.{Numbers, AreNumbers, SameByNumbers};
-ghost use Rattle.wsm_semantics.specs.FromWatermark.{Stays, whole, rest, Times, LeavesOut, begun_at, AreBegun, HasNoSessions, IsSettled, PartsNone, times_over, MayPart, SameAfter, SameRowsAfter, SameBeyond, SameRowsBeyond, SameOnceSettled};
+ghost use Rattle.wsm_semantics.specs.FromWatermark.{Stays, whole, rest, Times, LeavesOut, begun_at, BeginAlike, HasNoSessions, IsSettled, PartsNoSession, dropped_times, MayLeaveOut, SameAfter, SameRowsAfter, SameBeyond, SameRowsBeyond, SameOnceSettled};
 ghost use Rattle.wsm_semantics.specs.Kept.{kept};
 ghost use Rattle.wsm_semantics.specs.ByKey.{Keys, others, IgnoresTurns, ByKey, RowsByKey, EachOnce, StreamsWrite, PartsAddUp, NumbersAddUp, SameByRecords};
 
@@ -105,15 +105,15 @@ pub fn by_number()
 /// has there. Records with times up to some time may be left out too, for windows that begin after it. Where windows
 /// don't merge, all is the same once the watermark has passed the ends of the others and LATENESS.
 pub fn from_watermark()
-    ensures begun { (q : Query) → q.clock.sources ≡ 1 → (records : ℤ) (older : List Event) → AreBegun q (mark q older) records (λ key. mark q older +ℤ q.clock.skew) older [] (length older) }
+    ensures begun { (q : Query) → q.clock.sources ≡ 1 → (records : ℤ) (older : List Event) → BeginAlike q (mark q older) records (λ key. mark q older +ℤ q.clock.skew) older [] (length older) }
     ensures marks { (q : Query) (start records : ℤ) (older other : List Event) (longer : ℕ) → marks_of (begun_at start records q).clock other ≡ marks_of q.clock older → length older ≡ length other + longer
-        → AreBegun q start records (λ key. mark q older +ℤ q.clock.skew) older other longer }
+        → BeginAlike q start records (λ key. mark q older +ℤ q.clock.skew) older other longer }
     ensures events { (x : Times) (events older : List Event) → (whole (map Stays events) older ≡ events ++ older) × (rest (map Stays events) older ≡ events ++ older) × LeavesOut x (map Stays events) }
-    ensures panes { (q : Query) → IsShape q.shape → SessionsByEvent q → (start records : ℤ) (x : Times) (older other : List Event) (longer : ℕ) → AreBegun q start records x older other longer
+    ensures panes { (q : Query) → IsShape q.shape → SessionsByEvent q → (start records : ℤ) (x : Times) (older other : List Event) (longer : ℕ) → BeginAlike q start records x older other longer
         → SameAfter q start records x older other longer }
-    ensures rows { (q : Query) → IsShape q.shape → SessionsByEvent q → IgnoresTurns q → (start records : ℤ) (x : Times) (older other : List Event) (longer : ℕ) → AreBegun q start records x older other longer
+    ensures rows { (q : Query) → IsShape q.shape → SessionsByEvent q → IgnoresTurns q → (start records : ℤ) (x : Times) (older other : List Event) (longer : ℕ) → BeginAlike q start records x older other longer
         → SameRowsAfter q start records x older other }
-    ensures settled { (q : Query) → IsShape q.shape → HasNoSessions q → pos 0 ≤ℤ q.clock.lateness → IgnoresTurns q → (start records : ℤ) (x : Times) (older other : List Event) (longer : ℕ) → AreBegun q start records x older other longer
+    ensures settled { (q : Query) → IsShape q.shape → HasNoSessions q → pos 0 ≤ℤ q.clock.lateness → IgnoresTurns q → (start records : ℤ) (x : Times) (older other : List Event) (longer : ℕ) → BeginAlike q start records x older other longer
         → SameOnceSettled (LeavesOut x) q start records x older other longer }
 {}
 
@@ -124,9 +124,9 @@ pub fn from_watermark()
 pub fn left_out()
     ensures panes { (q : Query) → IsShape q.shape → SessionsByEvent q → (records : ℤ) (x : Times) → SameBeyond q records x }
     ensures rows { (q : Query) → IsShape q.shape → SessionsByEvent q → IgnoresTurns q → (records : ℤ) (x : Times) → SameRowsBeyond q records x }
-    ensures settled { (q : Query) → IsShape q.shape → SessionsByEvent q → pos 0 ≤ℤ q.clock.lateness → IgnoresTurns q → (records : ℤ) (x : Times) → SameOnceSettled (MayPart q q.clock.start records x) q q.clock.start records x [] [] 0 }
-    ensures coming { (q : Query) → IsShape q.shape → SessionsByEvent q → (x : Times) (past : List Event) (e : Event) → IsSettled q x (mark q past) → PartsNone q x past → PartsNone q x (e ∷ past) }
-    ensures times { (q : Query) → IsShape q.shape → (past : List Event) → IsSettled q (times_over q past) (mark q past) × PartsNone q (times_over q past) past }
+    ensures settled { (q : Query) → IsShape q.shape → SessionsByEvent q → pos 0 ≤ℤ q.clock.lateness → IgnoresTurns q → (records : ℤ) (x : Times) → SameOnceSettled (MayLeaveOut q q.clock.start records x) q q.clock.start records x [] [] 0 }
+    ensures coming { (q : Query) → IsShape q.shape → SessionsByEvent q → (x : Times) (past : List Event) (e : Event) → IsSettled q x (mark q past) → PartsNoSession q x past → PartsNoSession q x (e ∷ past) }
+    ensures times { (q : Query) → IsShape q.shape → (past : List Event) → IsSettled q (dropped_times q past) (mark q past) × PartsNoSession q (dropped_times q past) past }
 {}
 
 /// Of a watermark that another comes right behind nothing is kept, where the second raises that of the query as far
