@@ -7,7 +7,7 @@ use Rattle.std.specs.Prelude.{filter, int_le, int_lt, nat_eq}
 use Rattle.std.specs.List.{AllByRecursion}
 use Rattle.wsm_record.specs.declared.event.Value.{Value}
 use Rattle.wsm_record.specs.Event.{Event, Record}
-use Rattle.wsm_windows.specs.Windows.{IsShape, size_of}
+use Rattle.wsm_windows.specs.Windows.{IsShape, last_start, first_start}
 use Rattle.wsm_windows.specs.declared.window.Window.{Window}
 use Rattle.wsm_windows.specs.declared.window.Shape.{Shape}
 use Rattle.wsm_windows.specs.declared.window.Shape.TheVariants.{Fixed, Sliding, Session}
@@ -15,7 +15,7 @@ use Rattle.wsm_semantics.specs.Query.{Datum, Query, SessionsByEvent, datum, Effe
 use Rattle.wsm_semantics.specs.Sessions.{with_time, rising, sessions_of_rising, sessions, ends_by, starts_from, links, session_of}
 use Rattle.wsm_semantics.specs.Panes.{of_key}
 use Rattle.wsm_semantics.specs.ByKey.{at_turn}
-use Rattle.wsm_semantics.specs.FromWatermark.{begun_at, Step, Stays, Goes, Times, whole, rest, LeavesOut, BeginAlike, is_beside, PartsNoSession, IsSettled, unparted_time, dropped_time, dropped_times}
+use Rattle.wsm_semantics.specs.FromWatermark.{begun_at, Step, Stays, Goes, Times, whole, rest, LeavesOut, BeginAlike, is_beside, PartsNoSession, last_end, IsSettled, unparted_time, dropped_time, dropped_times}
 use Rattle.wsm_semantics.proofs.Lists.{filter-all, all-each}
 use Rattle.wsm_semantics.proofs.Each.{passed, all-append, all-both, map-map, filter-map, filter-append}
 use Rattle.wsm_semantics.proofs.Effects.{by_effect, selection-with}
@@ -24,6 +24,7 @@ use Rattle.wsm_semantics.proofs.SessionOrder.{with_time-swap}
 use Rattle.wsm_semantics.proofs.SessionPlaces.{times_of}
 use Rattle.wsm_semantics.proofs.KeptTurns.{prompt}
 use Rattle.wsm_semantics.proofs.KeptLaw.{gap_is_long}
+use Rattle.wsm_semantics.proofs.WindowEnds.{ended}
 use Rattle.wsm_semantics.proofs.LaterTurns.{Rooms, rooms_before, turn, turn_now, does_alike}
 use Rattle.wsm_semantics.proofs.LaterSessions.{AreBeside, were_beside}
 
@@ -138,7 +139,7 @@ parted_on q ok timely x past e settled none gap is key =
         elim (nat_eq k key) as (λ b. AreBeside gap long (x key) (sessions gap (map (λ (d : Datum). d.time) (cond b (datum (length past) (mark q past) k t vs ∷ of_key key (selected q past)) (of_key key (selected q past)))))) [
           | true ↦
               beside_on gap long (x key) t (times_of gap (selected q past) key)
-              (in_time (x key) gap q.clock.lateness t (mark q past) (subst (λ (s : Shape). ((x key +ℤ size_of s) +ℤ q.clock.lateness) ≤ℤ mark q past) is (settled key)) (prompt q past timely gap is k t vs taken))
+              (in_time (x key) gap q.clock.lateness t (mark q past) (subst (λ (s : Shape). (last_end s (x key) +ℤ q.clock.lateness) ≤ℤ mark q past) is (settled key)) (prompt q past timely gap is k t vs taken))
               (none gap is key)
           | false ↦ none gap is key
         ]
@@ -214,28 +215,28 @@ module _ (gap : ℤ) (long : pos 1 ≤ℤ gap) (t : ℤ) where
       itself : (s : ℤ) → s ≤ℤ s
       itself s = omega (arith, ints)
 
-settled_by : (x m l size : ℤ) → x ≤ℤ ((m -ℤ l) -ℤ size) → ((x +ℤ size) +ℤ l) ≤ℤ m
-settled_by x m l size h = omega (arith, ints)
+grid_settled : (end t m l : ℤ) → t ≡ m -ℤ l → end ≤ℤ t → (end +ℤ l) ≤ℤ m
+grid_settled end t m l is h = omega (arith, ints)
+
+session_settled : (x gap t m l : ℤ) → t ≡ m -ℤ l → x ≤ℤ (t -ℤ gap) → ((x +ℤ gap) +ℤ l) ≤ℤ m
+session_settled x gap t m l is h = omega (arith, ints)
 
 pub over_settled : (q : Query) → IsShape q.shape → (past : List Event) → IsSettled q (dropped_times q past) (mark q past)
-over_settled q ok past key = settled_by (dropped_times q past key) (mark q past) q.clock.lateness (size_of q.shape) (of_shape q.shape refl) where
+over_settled q ok past key = of_shape q.shape ok where
   t : ℤ
-  t = (mark q past -ℤ q.clock.lateness) -ℤ size_of q.shape
+  t = mark q past -ℤ q.clock.lateness
 
   ts : List ℤ
   ts = map (λ (d : Datum). d.time) (of_key key (selected q past))
 
-  itself : (s : ℤ) → s ≤ℤ s
-  itself s = omega (arith, ints)
-
-  of_shape : (shape : Shape) → q.shape ≡ shape → dropped_time q.shape t ts ≤ℤ t
-  of_shape (Fixed size) is = subst (λ (s : Shape). dropped_time s t ts ≤ℤ t) (sym is) (itself t)
-  of_shape (Sliding size period) is = subst (λ (s : Shape). dropped_time s t ts ≤ℤ t) (sym is) (itself t)
-  of_shape (Session gap) is = subst (λ (s : Shape). dropped_time s t ts ≤ℤ t) (sym is) (no_later_than gap (gap_is_long q gap is ok) t (sessions gap ts))
+  of_shape : (shape : Shape) → IsShape shape → (last_end shape (dropped_time shape t ts) +ℤ q.clock.lateness) ≤ℤ mark q past
+  of_shape (Fixed size) ok = grid_settled (last_start size (first_start size size t -ℤ pos 1) +ℤ size) t (mark q past) q.clock.lateness refl (ended size size t ok.period_low)
+  of_shape (Sliding size period) ok = grid_settled (last_start period (first_start size period t -ℤ pos 1) +ℤ size) t (mark q past) q.clock.lateness refl (ended size period t ok.period_low)
+  of_shape (Session gap) ok = session_settled (unparted_time gap (t -ℤ gap) (sessions gap ts)) gap t (mark q past) q.clock.lateness refl (no_later_than gap ok.period_low (t -ℤ gap) (sessions gap ts))
 
 pub over_parts_none : (q : Query) → IsShape q.shape → (past : List Event) → PartsNoSession q (dropped_times q past) past
 over_parts_none q ok past gap is key =
-    let t : ℤ = (mark q past -ℤ q.clock.lateness) -ℤ size_of q.shape in
+    let t : ℤ = mark q past -ℤ q.clock.lateness in
     let ts : List ℤ = times_of gap (selected q past) key in
     let long : pos 1 ≤ℤ gap = gap_is_long q gap is ok in
-    subst (λ (s : ℤ). AllByRecursion (λ w. is_beside gap s w ≡ true) (sessions gap ts)) (sym (ap (λ (s : Shape). dropped_time s t ts) is)) (parts_no_session gap long t (sessions gap ts) (sessions_apart gap long ts))
+    subst (λ (s : ℤ). AllByRecursion (λ w. is_beside gap s w ≡ true) (sessions gap ts)) (sym (ap (λ (s : Shape). dropped_time s t ts) is)) (parts_no_session gap long (t -ℤ gap) (sessions gap ts) (sessions_apart gap long ts))

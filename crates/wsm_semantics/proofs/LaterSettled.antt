@@ -1,6 +1,6 @@
 -- Once the watermark is far enough past the times of all keys, all that is held and fires begins after these, where windows
 -- don't merge or the times part no session: so all is the same by both histories.
-use Rattle.std.proofs.Common.{◌≡◌, ℕ, Bool, true, false, ◌&&◌, cond, not, List, [], ◌∷◌, ◌++◌, map, length, ℤ, pos, ◌≤ℤ◌, ◌+ℤ◌, Option, Some, None, refl, sym, ap, subst, ◌∙◌, ⊎_elim, arith}
+use Rattle.std.proofs.Common.{◌≡◌, ℕ, Bool, true, false, ◌&&◌, cond, not, List, [], ◌∷◌, ◌++◌, map, length, ℤ, pos, ◌≤ℤ◌, ◌+ℤ◌, ◌*ℤ◌, Option, Some, None, refl, sym, ap, subst, ◌∙◌, ⊎_elim, arith}
 use Rattle.std.proofs.lemmas.Int.{ints}
 use Rattle.std.proofs.lemmas.Bool.{true≢false, and_parts, or_cases}
 use Rattle.std.specs.Prelude.{filter, filter_map, int_le, int_lt, option_map, option_and_then}
@@ -14,7 +14,7 @@ use Rattle.wsm_record.specs.declared.words.Mode.TheVariants.{Discarding, Accumul
 use Rattle.wsm_record.specs.Event.{Event, Record, Watermark}
 use Rattle.wsm_windows.specs.declared.window.Shape.{Shape}
 use Rattle.wsm_windows.specs.declared.window.Shape.TheVariants.{Fixed, Sliding, Session}
-use Rattle.wsm_windows.specs.Windows.{IsShape, size_of, IsWindowOfShape}
+use Rattle.wsm_windows.specs.Windows.{IsShape, period_of, last_start, IsWindowOfShape}
 use Rattle.wsm_windows.specs.declared.place.Place.{Place}
 use Rattle.wsm_windows.specs.Places.{window_of}
 use Rattle.wsm_semantics.specs.declared.out_row.OutRow.TheVariants.{Pane}
@@ -25,7 +25,7 @@ use Rattle.wsm_semantics.specs.StandingFirings.{is_within, candidates, greatest_
 use Rattle.wsm_semantics.specs.Retractions.{standing_for, panes_before_drops, is_same, withdrawn, written_of, retracted, retract_rows}
 use Rattle.wsm_semantics.specs.Relation.{sorted_rows, relation, relation_at, stream_rows, chosen_rows, streamed, turn_rows}
 use Rattle.wsm_semantics.specs.ByKey.{IgnoresTurns, at_turn, pane_at, firing_at}
-use Rattle.wsm_semantics.specs.FromWatermark.{begun_at, Step, Stays, Times, whole, rest, BeginAlike, begins_after, is_after, is_beyond, is_beside, PartsNoSession, HasNoSessions, IsSettled, SameOnceSettled}
+use Rattle.wsm_semantics.specs.FromWatermark.{begun_at, Step, Stays, Times, whole, rest, BeginAlike, begins_after, is_after, is_beyond, is_beside, PartsNoSession, HasNoSessions, last_end, IsSettled, SameOnceSettled}
 use Rattle.wsm_semantics.proofs.Lists.{filter-all, all-each, filter_same}
 use Rattle.wsm_semantics.proofs.Tables.{among}
 use Rattle.wsm_semantics.proofs.Assigned.{IsAssigned}
@@ -47,6 +47,7 @@ use Rattle.wsm_semantics.proofs.KeyFirings.{filter_map-image, all-of_map}
 use Rattle.wsm_semantics.proofs.KeyStanding.{greatest_turned, candidates_turned, same_turned}
 use Rattle.wsm_semantics.proofs.KeyRows.{given_alike}
 use Rattle.wsm_semantics.proofs.Homes.{IsHome, each_home}
+use Rattle.wsm_semantics.proofs.WindowEnds.{begins_by}
 use Rattle.wsm_semantics.proofs.LaterMarks.{mark_of_steps}
 use Rattle.wsm_semantics.proofs.LaterTurns.{AreTurns, Rooms, rooms_before, turn, rising-turn, turn_now, are_turns}
 use Rattle.wsm_semantics.proofs.LaterPanes.{Lates, live_of_steps, held_of_steps}
@@ -54,8 +55,20 @@ use Rattle.wsm_semantics.proofs.LaterFirings.{is_late, Serves, all_alike, firing
 
 -- ---- windows that are live then
 
-begins : (x size l m start end : ℤ) → end ≡ start +ℤ size → ((x +ℤ size) +ℤ l) ≤ℤ m → int_lt m (end +ℤ l) ≡ true → int_lt x start ≡ true
-begins x size l m start end is settled live = grind (arith, ints)
+no_sooner_than : (x start : ℤ) → int_lt x start ≡ false → start ≤ℤ x
+no_sooner_than x start h = grind (arith, ints)
+
+ended_then : (last size l m start end : ℤ) → end ≡ start +ℤ size → start ≤ℤ last → ((last +ℤ size) +ℤ l) ≤ℤ m → int_lt m (end +ℤ l) ≡ true → ⊥
+ended_then last size l m start end is by settled live = grind (arith, ints)
+
+begins : (period k x size l m start end : ℤ) → pos 1 ≤ℤ period → start ≡ k *ℤ period → end ≡ start +ℤ size → ((last_start period x +ℤ size) +ℤ l) ≤ℤ m → int_lt m (end +ℤ l) ≡ true → int_lt x start ≡ true
+begins period k x size l m start end long on is settled live =
+    elim (int_lt x start) as (λ b. int_lt x start ≡ b → b ≡ true) [
+      | true ↦ λ _. refl
+      | false ↦ λ sooner.
+          let by : start ≤ℤ last_start period x = subst (λ (s : ℤ). s ≤ℤ last_start period x) (sym on) (begins_by period k x long (subst (λ (s : ℤ). s ≤ℤ x) on (no_sooner_than x start sooner))) in
+          absurd (ended_then (last_start period x) size l m start end is by settled live)
+    ] refl
 
 over : (x gap l m end : ℤ) → ((x +ℤ gap) +ℤ l) ≤ℤ m → int_lt m (end +ℤ l) ≡ true → int_le end (x +ℤ gap) ≡ true → ⊥
 over x gap l m end settled live ended = grind (arith, ints)
@@ -65,11 +78,11 @@ module _ (q : Query) (ok : IsShape q.shape) (x : Times) (past : List Event) (p :
   by_grid (Fixed size) is assigned =
       let (u, grid) = grid_of q ok (subst IsAssigned (sym is) assigned) past p placed in
       let on : IsWindowOfShape (Fixed size) u (window_of p) = subst (λ (s : Shape). IsWindowOfShape s u (window_of p)) is grid in
-      begins (x p.key) size q.clock.lateness m p.start p.end on.end (subst (λ (s : Shape). ((x p.key +ℤ size_of s) +ℤ q.clock.lateness) ≤ℤ m) is (settled p.key)) live
+      begins size on.k (x p.key) size q.clock.lateness m p.start p.end (subst (λ (s : Shape). pos 1 ≤ℤ period_of s) is ok.period_low) on.start on.end (subst (λ (s : Shape). (last_end s (x p.key) +ℤ q.clock.lateness) ≤ℤ m) is (settled p.key)) live
   by_grid (Sliding size period) is assigned =
       let (u, grid) = grid_of q ok (subst IsAssigned (sym is) assigned) past p placed in
       let on : IsWindowOfShape (Sliding size period) u (window_of p) = subst (λ (s : Shape). IsWindowOfShape s u (window_of p)) is grid in
-      begins (x p.key) size q.clock.lateness m p.start p.end on.end (subst (λ (s : Shape). ((x p.key +ℤ size_of s) +ℤ q.clock.lateness) ≤ℤ m) is (settled p.key)) live
+      begins period on.k (x p.key) size q.clock.lateness m p.start p.end (subst (λ (s : Shape). pos 1 ≤ℤ period_of s) is ok.period_low) on.start on.end (subst (λ (s : Shape). (last_end s (x p.key) +ℤ q.clock.lateness) ≤ℤ m) is (settled p.key)) live
   by_grid (Session gap) is assigned = absurd assigned
 
   pub live_after : HasNoSessions q → is_after q x p ≡ true
@@ -89,7 +102,7 @@ module _ (q : Query) (ok : IsShape q.shape) (x : Times) (past : List Event) (p :
         let one : IsOneOf (window_of p) (sessions_of gap (selected q past) p.key) = one_of p p.key (sessions_of gap (selected q past) p.key) (sym (among_places q gap is long past p) ∙ placed) in
         let beside : is_beside gap (x p.key) (window_of p) ≡ true = of-all (λ w. is_beside gap (x p.key) w ≡ true) (window_of p) (sessions_of gap (selected q past) p.key) (parts gap is p.key) one in
         ⊎_elim (λ begun. begun)
-        (λ ended. absurd (over (x p.key) gap q.clock.lateness m p.end (subst (λ (s : Shape). ((x p.key +ℤ size_of s) +ℤ q.clock.lateness) ≤ℤ m) is (settled p.key)) live ended))
+        (λ ended. absurd (over (x p.key) gap q.clock.lateness m p.end (subst (λ (s : Shape). (last_end s (x p.key) +ℤ q.clock.lateness) ≤ℤ m) is (settled p.key)) live ended))
         (or_cases (int_lt (x p.key) p.start) (int_le p.end (x p.key +ℤ gap)) beside)
 
 -- ---- what stands

@@ -73,6 +73,7 @@ pub mod KeyRecords
 pub mod NumberPanes
 pub mod NumberRows
 pub mod KeyLaw
+pub mod WindowEnds
 pub mod LaterMarks
 pub mod LaterTurns
 pub mod LaterSessions

@@ -2,8 +2,8 @@
 -- before it. So a run may begin behind any row, with the watermark then as its START, and what it fires
 -- for windows that begin past that watermark and SKEW is what the whole run fires. More generally, any
 -- records with times up to some time may be left out: nothing changes for windows that begin after it.
--- Watermarks and windows are those of the Dataflow Model; how far a record may be
--- ahead, the verdicts and what is counted are this project's own rules.
+-- Watermarks and windows are those of the Dataflow Model; how far a record may be ahead, the verdicts and what
+-- is counted are this project's own rules.
 use Rattle.std.specs.Prelude.{◌≡◌, ◌≢◌, ℕ, suc, ◌+◌, Bool, true, false, ◌||◌, List, [], ◌∷◌, length, map, filter, ℤ, pos, ◌+ℤ◌, ◌-ℤ◌, ◌≤ℤ◌, int_lt, int_le, nat_lt, Some, None, if◌then◌else◌}
 use Rattle.std.specs.List.{AllByRecursion}
 use Rattle.wsm_record.specs.declared.words.Form.TheVariants as form
@@ -12,7 +12,7 @@ use Rattle.wsm_record.specs.Event.{Event, Record, Watermark}
 use Rattle.wsm_windows.specs.declared.window.Window.{Window}
 use Rattle.wsm_windows.specs.declared.window.Shape.{Shape}
 use Rattle.wsm_windows.specs.declared.window.Shape.TheVariants.{Fixed, Sliding, Session}
-use Rattle.wsm_windows.specs.Windows.{size_of}
+use Rattle.wsm_windows.specs.Windows.{last_start, first_start}
 use Rattle.wsm_windows.specs.declared.place.Place.{Place}
 use Rattle.wsm_windows.specs.Places.{at}
 use Rattle.wsm_admission.specs.Clock.{marks_of}
@@ -170,9 +170,15 @@ SameRowsBeyond q records x = SameRowsFor (is_beyond x) (MayLeaveOut q q.clock.st
 
 -- ---- from a watermark on
 
--- the watermark from which on no window is live that begins by a time, nor a session all of whose records come by it
+-- the end of the last window that begins by a time, and in sessions of one all of whose records come by it
+abbrev pub last_end : Shape → ℤ → ℤ
+last_end (Fixed size) x = last_start size x +ℤ size
+last_end (Sliding size period) x = last_start period x +ℤ size
+last_end (Session gap) x = x +ℤ gap
+
+-- the watermark from which on none of these windows is live
 abbrev pub settled_at : Query → ℤ → ℤ
-settled_at q x = (x +ℤ size_of q.shape) +ℤ q.clock.lateness
+settled_at q x = last_end q.shape x +ℤ q.clock.lateness
 
 abbrev pub IsSettled : Query → Times → ℤ → Type 0
 IsSettled q x m = (key : ℕ) → settled_at q (x key) ≤ℤ m
@@ -198,11 +204,12 @@ abbrev pub unparted_time : ℤ → ℤ → List Window → ℤ
 unparted_time gap t [] = t
 unparted_time gap t (w ∷ ws) = if is_beside gap t w then unparted_time gap t ws else w.start -ℤ pos 1
 
+-- right before the first window that ends after a time; or a gap before, where that parts no session
 abbrev pub dropped_time : Shape → ℤ → List ℤ → ℤ
-dropped_time (Fixed size) t times = t
-dropped_time (Sliding size period) t times = t
-dropped_time (Session gap) t times = unparted_time gap t (sessions gap times)
+dropped_time (Fixed size) t times = first_start size size t -ℤ pos 1
+dropped_time (Sliding size period) t times = first_start size period t -ℤ pos 1
+dropped_time (Session gap) t times = unparted_time gap (t -ℤ gap) (sessions gap times)
 
--- the times that are settled by the watermark, or right before a session of the key that is parted by them
+-- the times right before the first window of the key that is live, or, where no session is, up to which none is
 abbrev pub dropped_times : Query → List Event → Times
-dropped_times q past key = dropped_time q.shape ((mark q past -ℤ q.clock.lateness) -ℤ size_of q.shape) (map (λ d. d.time) (of_key key (selected q past)))
+dropped_times q past key = dropped_time q.shape (mark q past -ℤ q.clock.lateness) (map (λ d. d.time) (of_key key (selected q past)))

@@ -1,9 +1,9 @@
 -- Worked rows of the law from a watermark on, and what its bounds are for. Histories are written oldest row first.
-use Rattle.std.specs.Prelude.{◌≡◌, refl, ℕ, List, [], ◌∷◌, ◌++◌, filter, reverse, pos, Some}
+use Rattle.std.specs.Prelude.{◌≡◌, refl, ℕ, true, false, List, [], ◌∷◌, ◌++◌, filter, reverse, pos, Some}
 use Rattle.wsm_record.specs.declared.event.Value.TheVariants.{Int}
 use Rattle.wsm_record.specs.declared.words.Mode.TheVariants as mode
 use Rattle.wsm_record.specs.Event.{Event, Record, Watermark}
-use Rattle.wsm_windows.specs.declared.window.PaneKind.TheVariants.{OnTime}
+use Rattle.wsm_windows.specs.declared.window.PaneKind.TheVariants.{OnTime, Final}
 use Rattle.wsm_windows.specs.declared.window.Shape.TheVariants.{Fixed, Session}
 use Rattle.wsm_windows.specs.Windows.{window}
 use Rattle.wsm_semantics.specs.declared.out_row.OutRow.TheVariants.{Pane, Retract}
@@ -11,7 +11,7 @@ use Rattle.wsm_semantics.specs.Query.{Query}
 use Rattle.wsm_semantics.specs.Relation.{turn_rows}
 use Rattle.wsm_semantics.specs.Lines.{Row, events}
 use Rattle.wsm_semantics.specs.Rows.{base, a, w, ints}
-use Rattle.wsm_semantics.specs.FromWatermark.{Step, Stays, Goes, rest, turn_in, begun_at, is_after, is_row_at, settled_at, dropped_times}
+use Rattle.wsm_semantics.specs.FromWatermark.{Step, Stays, Goes, rest, turn_in, begun_at, is_after, is_row_at, is_beside, settled_at, dropped_times}
 
 abbrev past_of : List Row → List Event
 past_of rows = events (reverse rows)
@@ -53,6 +53,13 @@ lacks_a_record = refl
 settled_with : settled_at q (pos 50) ≡ pos 70
 settled_with = refl
 
+-- one less isn't enough: a record that comes late then is shown at 70 with those of its window
+still_whole : turn_rows q (past_of (before ++ after ++ w 69 ∷ a 59 5 ∷ [])) (watermark 70) ≡ Pane Final 0 (window (pos 50) (pos 60)) (ints (3 ∷ 10 ∷ [])) ∷ Pane OnTime 0 (window (pos 60) (pos 70)) (ints (1 ∷ 4 ∷ [])) ∷ []
+still_whole = refl
+
+still_lacks_it : turn_rows anew (past_of (after ++ w 69 ∷ a 59 5 ∷ [])) (watermark 70) ≡ Pane Final 0 (window (pos 50) (pos 60)) (ints (2 ∷ 8 ∷ [])) ∷ Pane OnTime 0 (window (pos 60) (pos 70)) (ints (1 ∷ 4 ∷ [])) ∷ []
+still_lacks_it = refl
+
 -- ---- records that are left out
 
 abbrev steps : List Step
@@ -77,7 +84,10 @@ one_session = refl
 begins_later_without_it : turn_rows (begun_at (pos 30) (pos 1000) in_sessions) (past_of (w 40 ∷ a 59 3 ∷ [])) (watermark 70) ≡ Pane OnTime 0 (window (pos 59) (pos 69)) (ints (1 ∷ 3 ∷ [])) ∷ []
 begins_later_without_it = refl
 
--- at the watermark 70 the time 50 would part it, so records up to 49 go
+-- its time parts it, and none before does: at the watermark 70 records up to 49 go
+parted : is_beside (pos 10) (pos 50) (window (pos 50) (pos 69)) ≡ false × is_beside (pos 10) (pos 49) (window (pos 50) (pos 69)) ≡ true
+parted = (refl, refl)
+
 its_time_is_before_it : dropped_times in_sessions (past_of (a 10 1 ∷ w 30 ∷ a 50 2 ∷ w 40 ∷ a 59 3 ∷ w 70 ∷ [])) 0 ≡ pos 49
 its_time_is_before_it = refl
 

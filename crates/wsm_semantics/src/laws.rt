@@ -118,9 +118,9 @@ pub fn from_watermark()
 {}
 
 /// Where a time for each key parts no session of it, records of the key up to that time may be left out for all
-/// windows that begin beyond it; and once the watermark has passed these times by the size (in sessions the gap) and
-/// LATENESS, all is the same, and they part no session of what is still to come. Such times are there after any
-/// history, so the records of live windows are enough.
+/// windows that begin beyond it; and once the watermark has passed LATENESS and the ends of the windows that begin by
+/// these times, in sessions a gap, all is the same, and they part no session of what is still to come. Such times are
+/// there after any history: for each key that right before its first window that is live.
 pub fn left_out()
     ensures panes { (q : Query) → IsShape q.shape → SessionsByEvent q → (records : ℤ) (x : Times) → SameBeyond q records x }
     ensures rows { (q : Query) → IsShape q.shape → SessionsByEvent q → IgnoresTurns q → (records : ℤ) (x : Times) → SameRowsBeyond q records x }
