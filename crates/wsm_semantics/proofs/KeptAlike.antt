@@ -1,6 +1,7 @@
 -- Two histories of which the same is kept are followed alike; and a watermark that another comes right behind leaves nothing.
-use Rattle.std.proofs.Common.{◌≡◌, ℕ, Bool, true, false, ◌&&◌, cond, List, [], ◌∷◌, ◌++◌, length, ℤ, pos, ◌+ℤ◌, ◌≤ℤ◌, Option, Some, None, Result, Ok, Err, refl, sym, ap, ◌∙◌, arith}
+use Rattle.std.proofs.Common.{◌≡◌, ℕ, Bool, true, false, ◌&&◌, cond, List, [], ◌∷◌, ◌++◌, map, length, ℤ, pos, ◌+ℤ◌, ◌≤ℤ◌, Option, Some, None, Result, Ok, Err, refl, sym, ap, ◌∙◌, arith}
 use Rattle.std.proofs.lemmas.Int.{ints}
+use Rattle.std.proofs.lemmas.Bool.{true≢false}
 use Rattle.std.specs.Prelude.{filter_map, int_le, int_lt, nat_lt}
 use Rattle.wsm_record.specs.declared.cell.Cell.{Cell}
 use Rattle.wsm_record.specs.declared.words.Form.{Form}
@@ -18,19 +19,20 @@ use Rattle.wsm_admission.specs.Admission as admission
 use Rattle.wsm_admission.specs.Admission.{answer}
 use Rattle.wsm_admission.proofs.SourceMarks.{watermark_rises}
 use Rattle.wsm_semantics.specs.declared.out_row.OutRow.{OutRow}
-use Rattle.wsm_semantics.specs.Query.{Query, SessionsByEvent, mark, verdict_on}
+use Rattle.wsm_semantics.specs.Query.{Query, SessionsByEvent, mark, raises, verdict_on}
 use Rattle.wsm_semantics.specs.Panes.{is_live_at}
-use Rattle.wsm_semantics.specs.Firings.{firing_set}
+use Rattle.wsm_semantics.specs.Firings.{firing_set, firings}
 use Rattle.wsm_semantics.specs.Retractions.{retracted_in}
 use Rattle.wsm_semantics.specs.Relation.{relation, chosen_rows, turn_rows}
 use Rattle.wsm_semantics.specs.Kept.{Kept, kept, fired_kept, kind_by_watermark, kept_after_watermark}
-use Rattle.wsm_semantics.specs.Summaries.{Plan, IsLawful, Runs, summaries, row_of}
+use Rattle.wsm_semantics.specs.Summaries.{Plan, IsLawful, Runs, at_watermark, relation_of, summaries, summary_fired, row_of}
 use Rattle.wsm_semantics.specs.Steps.{State, panes_after, fired_by, withdrawn_by, relation_after, streamed_by}
 use Rattle.wsm_semantics.specs.FromWatermark.{begun_at, BothHaveRoom}
 use Rattle.wsm_semantics.specs.FromKept.{KeepAlike, FollowAlike}
 use Rattle.wsm_semantics.proofs.KeptLaw as kept_law
+use Rattle.wsm_semantics.proofs.Effects.{refused_stays, stays_down}
 use Rattle.wsm_semantics.proofs.EventTurns.{kept-watermark}
-use Rattle.wsm_semantics.proofs.Steps.{panes_are, rows_are, relation_is}
+use Rattle.wsm_semantics.proofs.Steps.{panes_are, fired_are, rows_are, relation_is}
 use Rattle.wsm_semantics.proofs.LaterMarks.{mark_alike, next_marks, verdict_alike}
 
 module _ {X : Type 0} (plan : Plan X) (lawful : IsLawful plan) (q : Query) (runs : Runs plan q) (ok : IsShape q.shape) (timely : SessionsByEvent q) (low : pos 0 ≤ℤ q.clock.lateness) (start records : ℤ) where
@@ -101,6 +103,12 @@ module _ {X : Type 0} (plan : Plan X) (lawful : IsLawful plan) (q : Query) (runs
         sym (rows_are plan lawful anew runs_anew ok timely low other (state (relation anew other)) (sym old) alike.panes refl e (verdict_on anew other e) refl)
         ∙ ap (λ (r : Result Admitted Refusal). written (relation anew other) r q.form) same_answer
 
+    pub fires_alike : map (summary_fired plan) (firings q past e) ≡ map (summary_fired plan) (firings anew other e)
+    fires_alike =
+        sym (fired_are plan lawful q runs ok timely low past (state []) refl refl e (verdict_on q past e) refl)
+        ∙ sym (ap (λ (r : Result Admitted Refusal). fired_by plan q r e (state [])) same_answer)
+        ∙ fired_are plan lawful anew runs_anew ok timely low other (state []) (sym old) alike.panes e (verdict_on anew other e) refl
+
     pub rows_alike : q.form ≡ Panes → turn_rows q past e ≡ turn_rows anew other e
     rows_alike panes_alone =
         rows_q
@@ -115,6 +123,24 @@ module _ {X : Type 0} (plan : Plan X) (lawful : IsLawful plan) (q : Query) (runs
     relation_alike same =
         sym (relation_is plan lawful q runs ok timely low past (state (relation q past)) refl refl refl e (verdict_on q past e) refl)
         ∙ ap (λ (related : List (List Cell)). relation_after plan q answers (state related)) same
+        ∙ sym (ap (λ (r : Result Admitted Refusal). relation_after plan q r (state (relation anew other))) same_answer)
+        ∙ relation_is plan lawful anew runs_anew ok timely low other (state (relation anew other)) (sym old) alike.panes refl e (verdict_on anew other e) refl
+
+    -- where the watermark rises, what the relation was is of no account
+    risen : raises q past e ≡ true → (was : List (List Cell)) → relation_after plan q answers (state was) ≡ relation_after plan q answers (state [])
+    risen up was = by_event e refl (verdict_on q past e) refl where
+      by_event : (f : Event) → e ≡ f → (v : Option Refusal) → verdict_on q past e ≡ v → relation_after plan q (answer (mark q past) (mark q (e ∷ past)) f v) (state was) ≡ relation_after plan q (answer (mark q past) (mark q (e ∷ past)) f v) (state [])
+      by_event f is (Some r) h = absurd (true≢false (sym up ∙ stays_down q past e (refused_stays q past e r h)))
+      by_event (Record key t vs) is None h = absurd (true≢false (sym up ∙ ap (raises q past) is ∙ stays_down q past (Record key t vs) refl))
+      by_event (Watermark o t) is None h =
+          let now : List (List Cell) = relation_of (at_watermark plan q (mark q past) (mark q (e ∷ past)) (summaries plan q.mode (kept q past))) in
+          ap (λ (b : Bool). cond b now was) up ∙ sym (ap (λ (b : Bool). cond b now []) up)
+
+    pub relation_risen : raises q past e ≡ true → relation q (e ∷ past) ≡ relation anew (e ∷ other)
+    relation_risen up =
+        sym (relation_is plan lawful q runs ok timely low past (state (relation q past)) refl refl refl e (verdict_on q past e) refl)
+        ∙ risen up (relation q past)
+        ∙ sym (risen up (relation anew other))
         ∙ sym (ap (λ (r : Result Admitted Refusal). relation_after plan q r (state (relation anew other))) same_answer)
         ∙ relation_is plan lawful anew runs_anew ok timely low other (state (relation anew other)) (sym old) alike.panes refl e (verdict_on anew other e) refl
 
@@ -133,6 +159,7 @@ module _ {X : Type 0} (plan : Plan X) (lawful : IsLawful plan) (q : Query) (runs
     follow_alike = record {
       kept = all_alike;
       verdict = λ events e room. verdict (events ++ past) (events ++ other) (all_alike events (room.0.1, room.1.1)) e room;
+      firings = λ events e room. fires_alike (events ++ past) (events ++ other) (all_alike events (room.0.1, room.1.1)) e room;
       rows = λ panes_alone events e room. rows_alike (events ++ past) (events ++ other) (all_alike events (room.0.1, room.1.1)) e room panes_alone;
       streams = λ same events e room. streams_alike (events ++ past) (events ++ other) (all_alike events (room.0.1, room.1.1)) e room (all_related same events (room.0.1, room.1.1));
     }
@@ -193,7 +220,7 @@ module _ (q : Query) (a b c : ℤ) (first : a ≤ℤ b) (second : b ≤ℤ c) wh
         ∙ ap (λ (d : Bool). cond (d && nat_lt 0 n) (Some OnTime) None) (due_later a b c p.end first second due)
         ∙ sym (on_time a c itself h))
 
-  twice : (es : List (Place × Kept)) → kept_after_watermark q b c (kept_after_watermark q a b es) ≡ kept_after_watermark q a c es
+  pub twice : (es : List (Place × Kept)) → kept_after_watermark q b c (kept_after_watermark q a b es) ≡ kept_after_watermark q a c es
   twice [] = refl
   twice (e ∷ es) =
       let h1 : Kept = fired_kept q.mode e.0 (kind_by_watermark q a b e.0 e.1) e.1 in

@@ -70,7 +70,7 @@ module _ {X : Type 0} (plan : Plan X) (lawful : IsLawful plan) (q : Query) (runs
         ∙ ap (summaries plan q.mode) (sym (kept-watermark q low timely (places q ok timely) past o t))
     panes_are e (Some r) h = is ∙ ap (summaries plan q.mode) (sym (kept-nothing q past e (effect-refused q past e r (sym h))))
 
-    fired_are : (e : Event) (v : Option Refusal) → v ≡ verdict_on q past e → fired_by plan q (answer_by e v) e s ≡ map (summary_fired plan) (firings.firings q past e)
+    pub fired_are : (e : Event) (v : Option Refusal) → v ≡ verdict_on q past e → fired_by plan q (answer_by e v) e s ≡ map (summary_fired plan) (firings.firings q past e)
     fired_are (Record (Some k) t vs) None h =
         (λ i. cond (runs.selects k vs i) (fired_by_record plan q (marked i) (datum 0 (marked i) k t vs) (is i)) [])
         ∙ elim (q.selects k vs) as (λ b. q.selects k vs ≡ b → cond b (fired_by_record plan q old (datum 0 old k t vs) sums) [] ≡ map (summary_fired plan) (firings.firings q past (Record (Some k) t vs))) [
