@@ -19,6 +19,7 @@ ghost use Rattle.wsm_semantics.specs.Order.{IsOrderFree, OrderLaw};
 ghost use Rattle.wsm_semantics.specs.ByKey.{Keys, ByKey, RowsByKey, EachOnce, PartsAddUp, NumbersAddUp, SameByRecords};
 ghost use Rattle.wsm_semantics.specs.FromWatermark.{Stays, whole, rest, Times, LeavesOut, begun_at, BeginAlike, HasNoSessions, IsSettled, PartsNoSession, dropped_times, MayLeaveOut, SameAfter, SameRowsAfter, SameBeyond, SameRowsBeyond, SameOnceSettled};
 ghost use Rattle.wsm_semantics.specs.FromKept.{KeepAlike, FollowAlike};
+ghost use Rattle.wsm_semantics.specs.Needed.{needed, NeededAlone, WritesAlike};
 ghost use Rattle.wsm_program.specs.Program.{Program, is_program};
 ghost use Rattle.wsm_program.specs.declared.program.Costs.{Costs};
 ghost use Rattle.wsm_rules.specs.Costs.{longest_path};
@@ -118,6 +119,15 @@ pub fn kept_decides()
     ensures following { (p : Program) → IsTrue (is_program p) → (start records : ℤ) (past other : List Event) → KeepAlike (plan_of p) (query_of p) start records past other → FollowAlike (plan_of p) (query_of p) start records past other }
     ensures watermarks { (p : Program) → IsTrue (is_program p) → (past : List Event) (o r : Option ℕ) (t u : ℤ) → let q = query_of p in marks_of q.clock (Watermark r u ∷ Watermark o t ∷ past) ≡ marks_of q.clock (Watermark r u ∷ past)
         → FollowAlike (plan_of p) q q.clock.start q.clock.records (Watermark r u ∷ Watermark o t ∷ past) (Watermark r u ∷ past) }
+{}
+
+/// What follows on a history follows on its needed events alone: the records that stand in a window, or a session, that is
+/// live, and the watermarks of each source that come last before one of these, or at the end; for streams what the last rise
+/// of the watermark needs, and all events from that rise on. So a file of rows may be cut to the rows of these, and a run over
+/// it goes on as the run over all of them. Of another RECORDS it holds as well, as long as none is refused for either.
+pub fn needed_alone()
+    ensures needed { (p : Program) → IsTrue (is_program p) → (past : List Event) → NeededAlone (plan_of p) (query_of p) past }
+    ensures records { (p : Program) → IsTrue (is_program p) → (records : ℤ) (past : List Event) → let q = query_of p in FollowAlike (plan_of p) q q.clock.start records past (needed q past) × WritesAlike q q.clock.start records past (needed q past) }
 {}
 
 /// What the accumulators of each held pane hold lies where the verifier's intervals put the fold of as many

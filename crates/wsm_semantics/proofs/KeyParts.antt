@@ -56,18 +56,18 @@ still_full r few many h k = grind (arith, nat_tests)
 
 module _ (c : Clock) (declared : Declared) where
   -- fewer admitted records give the same verdict, where the limit doesn't
-  fewer_admitted : (marks : List ℤ) (few many : ℕ) (e : Event) → few ≤ many → verdict_at c declared marks many e ≢ Some RecordLimit → verdict_at c declared marks few e ≡ verdict_at c declared marks many e
+  pub fewer_admitted : (marks : List ℤ) (few many : ℕ) (e : Event) → few ≤ many → verdict_at c declared marks many e ≢ Some RecordLimit → verdict_at c declared marks few e ≡ verdict_at c declared marks many e
   fewer_admitted marks few many (Watermark o t) h k = refl
   fewer_admitted marks few many (Record key t vs) h k =
       same_rule (not (is_key declared key)) (not (fit_fields declared.fields vs)) (not (is_time t)) (is_too_far_ahead c (least marks) t) (is_late c (least marks) t)
       (nat_le (unsigned_abs c.records) few) (nat_le (unsigned_abs c.records) many) (still_full (unsigned_abs c.records) few many h) k
 
-one_more : (few many : ℕ) (e : Event) (v : Option Refusal) → few ≤ many → admitted_with few e v ≤ admitted_with many e v
+pub one_more : (few many : ℕ) (e : Event) (v : Option Refusal) → few ≤ many → admitted_with few e v ≤ admitted_with many e v
 one_more few many (Watermark o t) v h = h
 one_more few many (Record key t vs) None h = omega arith
 one_more few many (Record key t vs) (Some r) h = h
 
-no_fewer : (few many : ℕ) (e : Event) (v : Option Refusal) → few ≤ many → few ≤ admitted_with many e v
+pub no_fewer : (few many : ℕ) (e : Event) (v : Option Refusal) → few ≤ many → few ≤ admitted_with many e v
 no_fewer few many (Watermark o t) v h = h
 no_fewer few many (Record key t vs) None h = omega arith
 no_fewer few many (Record key t vs) (Some r) h = h

@@ -123,7 +123,7 @@ module _ (q : Query) (ok : IsShape q.shape) (timely : SessionsByEvent q) (start 
     R = rest steps other
 
     -- a pane of the second, and the first has it too
-    abbrev IsOfBoth : Place × List Datum → Type 0
+    abbrev pub IsOfBoth : Place × List Datum → Type 0
     IsOfBoth y = (late y.0 ≡ true) × IsPane anew (e ∷ R) y × IsPane q (e ∷ H) (pane_at f y)
 
     shown_alike : (p : Place) (d : Datum) →
@@ -136,7 +136,7 @@ module _ (q : Query) (ok : IsShape q.shape) (timely : SessionsByEvent q) (start 
         ∙ list_any-each (λ g. shows q.shape p g.place && holds (at_turn f d) (map (at_turn f) g.contents)) (λ g. shows q.shape p g.place && holds d g.contents) gs
         (all-any (λ g. (shows q.shape p g.place && holds (at_turn f d) (map (at_turn f) g.contents)) ≡ (shows q.shape p g.place && holds d g.contents)) (λ g. ap (λ (b : Bool). shows q.shape p g.place && b) (holds_turned f rises d g.contents)) gs)
 
-    unshown_alike : (y : Place × List Datum) → IsOfBoth y → unshown_of q H y.0 (map (at_turn f) y.1) ≡ map (at_turn f) (unshown_of anew R y.0 y.1)
+    pub unshown_alike : (y : Place × List Datum) → IsOfBoth y → unshown_of q H y.0 (map (at_turn f) y.1) ≡ map (at_turn f) (unshown_of anew R y.0 y.1)
     unshown_alike y is =
         let p : Place = y.0 in
         let later : (r : Place) → p.key ≡ r.key → p.start ≤ℤ r.start → late r ≡ true = λ r key k. lates.later p r is.0 key k in

@@ -17,7 +17,7 @@ use Rattle.wsm_semantics.proofs.LaterParts.{rest_parted}
 use Rattle.wsm_semantics.proofs.LaterPanes.{Lates, after_lates, beyond_lates, after_covers, beyond_covers, parted_none, held_of_steps}
 use Rattle.wsm_semantics.proofs.LaterFirings.{Serves, none_fired, fires_none, firings_of_steps}
 use Rattle.wsm_semantics.proofs.LaterRows.{same_rows_for}
-use Rattle.wsm_semantics.proofs.LaterSettled.{live_after, live_beyond, same_once_settled}
+use Rattle.wsm_semantics.proofs.LaterSettled.{LiveLate, live_after, live_beyond, same_once_settled}
 
 -- no record that was selected is further ahead of the watermark than the skew
 ends_by : (q : Query) (past : List Event) → EndsBy q (λ key. mark q past +ℤ q.clock.skew) past
@@ -86,10 +86,10 @@ same_rows_after q ok timely ignores start records x older other longer begun =
 
 -- ---- sessions that a time doesn't part
 
-both_empty : (q : Query) (records : ℤ) (x : Times) → BeginAlike q q.clock.start records x [] [] 0
+pub both_empty : (q : Query) (records : ℤ) (x : Times) → BeginAlike q q.clock.start records x [] [] 0
 both_empty q records x = record { marks = refl; turns = refl; before = tt; before_other = tt }
 
-beyond_serves : (q : Query) → IsShape q.shape → (records : ℤ) (x : Times) → Serves q q.clock.start records x (is_beyond x) (MayLeaveOut q q.clock.start records x) [] []
+pub beyond_serves : (q : Query) → IsShape q.shape → (records : ℤ) (x : Times) → Serves q q.clock.start records x (is_beyond x) (MayLeaveOut q q.clock.start records x) [] []
 beyond_serves q ok records x =
     let anew : Query = begun_at q.clock.start records q in
     record {
@@ -123,11 +123,14 @@ settled_after q ok none low ignores start records x older other longer begun =
       second = λ steps may m settled p placed live. live_after (begun_at start records q) ok x (rest steps other) p placed m settled live none;
     })
 
+pub beyond_live : (q : Query) → IsShape q.shape → (records : ℤ) (x : Times) → LiveLate q q.clock.start records x (is_beyond x) (MayLeaveOut q q.clock.start records x) [] []
+beyond_live q ok records x = record {
+  first = λ steps may m settled p placed live. live_beyond q ok x (whole steps []) p placed m settled live may.1;
+  second = λ steps may m settled p placed live.
+      live_beyond (begun_at q.clock.start records q) ok x (rest steps []) p placed m settled live (rest_parted q ok q.clock.start records x (both_empty q records x) steps may.0 may.2 may.1);
+}
+
 pub settled_beyond : (q : Query) → IsShape q.shape → SessionsByEvent q → pos 0 ≤ℤ q.clock.lateness → IgnoresTurns q → (records : ℤ) (x : Times) → SameOnceSettled (MayLeaveOut q q.clock.start records x) q q.clock.start records x [] [] 0
 settled_beyond q ok timely low ignores records x =
     same_once_settled q ok timely low ignores q.clock.start records x (is_beyond x) (beyond_lates x) (MayLeaveOut q q.clock.start records x) [] [] 0 (both_empty q records x) (beyond_serves q ok records x)
-    (record {
-      first = λ steps may m settled p placed live. live_beyond q ok x (whole steps []) p placed m settled live may.1;
-      second = λ steps may m settled p placed live.
-          live_beyond (begun_at q.clock.start records q) ok x (rest steps []) p placed m settled live (rest_parted q ok q.clock.start records x (both_empty q records x) steps may.0 may.2 may.1);
-    })
+    (beyond_live q ok records x)

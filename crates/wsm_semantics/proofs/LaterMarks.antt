@@ -18,7 +18,7 @@ use Rattle.wsm_semantics.proofs.Effects.{effect_with, selects-with, rises-with}
 use Rattle.wsm_semantics.proofs.KeyParts.{first_rule}
 use Rattle.wsm_semantics.proofs.KeyRecords.{either_number}
 
-marks_each : (f g : ℕ → ℤ) (a n : ℕ) → ((s : ℕ) → s < a + n → f s ≡ g s) → map f (range_with_len a n) ≡ map g (range_with_len a n)
+pub marks_each : (f g : ℕ → ℤ) (a n : ℕ) → ((s : ℕ) → s < a + n → f s ≡ g s) → map f (range_with_len a n) ≡ map g (range_with_len a n)
 marks_each f g a zero same = refl
 marks_each f g a (suc n) same = λ i. same a (omega arith) i ∷ marks_each f g (a + 1) n (λ s h. same s (omega arith)) i
 
@@ -30,7 +30,7 @@ module _ (q : Query) (start records : ℤ) where
     pub mark_alike : mark anew other ≡ mark q past
     mark_alike = ap least same
 
-    source_alike : (s : ℕ) → s < q.clock.sources → source_mark anew.clock s other ≡ source_mark q.clock s past
+    pub source_alike : (s : ℕ) → s < q.clock.sources → source_mark anew.clock s other ≡ source_mark q.clock s past
     source_alike s few =
         same_Some (source_mark anew.clock s other) (source_mark q.clock s past)
         (sym (mark_of_source anew.clock other s few) ∙ ap (λ (ms : List ℤ). mark_at ms (Some s)) same ∙ mark_of_source q.clock past s few)

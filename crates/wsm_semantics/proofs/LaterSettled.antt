@@ -131,12 +131,12 @@ module _ (q : Query) (ok : IsShape q.shape) (timely : SessionsByEvent q) (x : Ti
   no_sooner : (p h g : Place) → p ≡ h → h.start ≤ℤ g.start → p.start ≤ℤ g.start
   no_sooner p h g same first = let begins : p.start ≡ h.start = ap (λ (r : Place). r.start) same in omega (arith, ints)
 
-  -- what stands for a pane that begins late enough is among the firings of such windows
-  pub standing_found : (p : Place) (all : List Datum) → among p (places q past) ≡ true → all ≡ contents q past p → late p ≡ true →
-      standing q (firings_so_far q past) p all ≡ standing q (filter (is_late q late) (firings_so_far q past)) p all
-  standing_found p all placed is here =
+  -- what may stand for a pane that begins late enough is among the firings of such windows
+  pub candidates_found : (p : Place) (all : List Datum) → among p (places q past) ≡ true → all ≡ contents q past p → late p ≡ true →
+      candidates q p all (firings_so_far q past) ≡ candidates q p all (filter (is_late q late) (firings_so_far q past))
+  candidates_found p all placed is here =
       let t : Firing → Bool = λ g. shows q.shape p g.place && is_within g.contents all in
-      ap greatest_of (sym (filter-found IsKnown t (is_late q late)
+      sym (filter-found IsKnown t (is_late q late)
       (λ g known h.
       let (s, inside) = and_parts (shows q.shape p g.place) (is_within g.contents all) h in
       let firing = known.0 in
@@ -145,7 +145,7 @@ module _ (q : Query) (ok : IsShape q.shape) (timely : SessionsByEvent q) (x : Ti
       one_home q (kept_law.places q ok timely) past p home.home placed home.placed (shows_on q.shape p g.place home.home s (shows_back q.shape home.home g.place home.shown))
       g.contents firing.filled firing.part (λ d k. ap (λ (ds : List Datum). holds d ds) (sym is) ∙ within g.contents all inside d k) home.inside in
       lates.later p g.place here (shows_key q.shape p g.place s) (no_sooner p home.home g.place same home.first))
-      (firings_so_far q past) each_known))
+      (firings_so_far q past) each_known)
 
 -- ---- one history
 
@@ -213,18 +213,20 @@ module _ (q : Query) (ok : IsShape q.shape) (timely : SessionsByEvent q) (low : 
     abbrev Q : List Event
     Q = rest steps other
 
-    abbrev IsOfBoth : Place × List Datum → Type 0
+    abbrev pub IsOfBoth : Place × List Datum → Type 0
     IsOfBoth y = (late y.0 ≡ true) × IsPane anew Q y × IsPane q P (pane_at f y)
 
-    pub standing_same : (y : Place × List Datum) → IsOfBoth y → standing q (firings_so_far q P) y.0 (map (at_turn f) y.1) ≡ option_map (firing_at f) (standing anew (firings_so_far anew Q) y.0 y.1)
-    standing_same y is =
+    pub candidates_same : (y : Place × List Datum) → IsOfBoth y → candidates q y.0 (map (at_turn f) y.1) (firings_so_far q P) ≡ map (firing_at f) (candidates anew y.0 y.1 (firings_so_far anew Q))
+    candidates_same y is =
         let all : List Datum = map (at_turn f) y.1 in
         let gs : List Firing = filter (is_late q late) (firings_so_far anew Q) in
-        standing_found q ok timely x late lates P y.0 all is.2.1 is.2.0 is.0
-        ∙ ap (λ (fs : List Firing). standing q fs y.0 all) (all_alike q ok timely start records x late lates May older other longer begun serves f rises steps may room turns)
-        ∙ ap greatest_of (candidates_turned f rises q y.0 y.1 gs)
-        ∙ greatest_turned f rises (candidates q y.0 y.1 gs)
-        ∙ ap (option_map (firing_at f)) (sym (standing_found anew ok timely x late lates Q y.0 y.1 is.1.1 is.1.0 is.0))
+        candidates_found q ok timely x late lates P y.0 all is.2.1 is.2.0 is.0
+        ∙ ap (candidates q y.0 all) (all_alike q ok timely start records x late lates May older other longer begun serves f rises steps may room turns)
+        ∙ candidates_turned f rises q y.0 y.1 gs
+        ∙ ap (map (firing_at f)) (sym (candidates_found anew ok timely x late lates Q y.0 y.1 is.1.1 is.1.0 is.0))
+
+    pub standing_same : (y : Place × List Datum) → IsOfBoth y → standing q (firings_so_far q P) y.0 (map (at_turn f) y.1) ≡ option_map (firing_at f) (standing anew (firings_so_far anew Q) y.0 y.1)
+    standing_same y is = ap greatest_of (candidates_same y is) ∙ greatest_turned f rises (candidates anew y.0 y.1 (firings_so_far anew Q))
 
     module _ (ys zs : List (Place × List Datum)) (same : ys ≡ map (pane_at f) zs) (in_q : AllByRecursion (IsPane q P) ys) (in_anew : AllByRecursion (IsPane anew Q) zs) (each : AllByRecursion (λ y. late y.0 ≡ true) zs) where
       pub of_both : AllByRecursion IsOfBoth zs
@@ -256,7 +258,7 @@ module _ (q : Query) (ok : IsShape q.shape) (timely : SessionsByEvent q) (low : 
     live_q : (p : Place) → among p (places q H) ≡ true → is_live_at q (mark q H) p ≡ true → late p ≡ true
     live_q = live.first steps may (mark q H) settled
 
-    live_anew : (p : Place) → among p (places anew R) ≡ true → is_live_at q (mark anew R) p ≡ true → late p ≡ true
+    pub live_anew : (p : Place) → among p (places anew R) ≡ true → is_live_at q (mark anew R) p ≡ true → late p ≡ true
     live_anew = live.second steps may (mark anew R) settled_anew
 
     module _ (room : Rooms q start records older other steps) (turns : AreTurns older other longer f steps) where
@@ -266,10 +268,10 @@ module _ (q : Query) (ok : IsShape q.shape) (timely : SessionsByEvent q) (low : 
           ∙ held_of_steps q start records x late lates older other longer begun f steps (serves.out steps may) (serves.covered steps may) room turns
           ∙ ap (map (pane_at f)) (held_late anew ok timely low late R live_anew)
 
-      held_panes_q : AllByRecursion (IsPane q H) (held q H)
+      pub held_panes_q : AllByRecursion (IsPane q H) (held q H)
       held_panes_q = filter-all (IsPane q H) (λ y. is_live_at q (mark q H) y.0) (panes q H) (each_pane q H)
 
-      held_panes_anew : AllByRecursion (IsPane anew R) (held anew R)
+      pub held_panes_anew : AllByRecursion (IsPane anew R) (held anew R)
       held_panes_anew = filter-all (IsPane anew R) (λ y. is_live_at anew (mark anew R) y.0) (panes anew R) (each_pane anew R)
 
       pub stood : standing_for q H (held q H) ≡ map (firing_at f) (standing_for anew R (held anew R))

@@ -84,4 +84,6 @@ pub mod LaterParts
 pub mod LaterRows
 pub mod LaterSettled
 pub mod LaterLaw
+pub mod LaterKept
 pub mod KeptAlike
+pub mod NeededEvents

@@ -27,3 +27,5 @@ pub mod ByKeyRows
 pub mod FromWatermark
 pub mod FromWatermarkRows
 pub mod FromKept
+pub mod Needed
+pub mod NeededRows

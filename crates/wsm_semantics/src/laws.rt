@@ -9,7 +9,7 @@ ghost use Rattle.wsm_record.specs.Event.{Event, Watermark};
 ghost use Rattle.wsm_windows.specs.Windows.{IsShape};
 ghost use Rattle.wsm_admission.specs.declared.clock.LateBy.TheVariants as late_by;
 ghost use Rattle.wsm_admission.specs.Clock.{IsWithinLimits, marks_of};
-ghost use Rattle.wsm_semantics.specs.Query.{Query, SessionsByEvent, mark};
+ghost use Rattle.wsm_semantics.specs.Query.{Query, SessionsByEvent, mark, verdict_on};
 ghost use Rattle.wsm_semantics.specs.LiveRecords.{AllLive};
 ghost use Rattle.wsm_semantics.specs.Relation.{turn_rows};
 ghost use Rattle.wsm_semantics.specs.Replay.{replayed, state, turn_rows_by};
@@ -20,7 +20,8 @@ ghost use Rattle.wsm_semantics.specs.Order.{Judged, is_rise, Reordered, IgnoresO
 ghost use Rattle.wsm_semantics.specs.ByNumber.{Numbers, AreNumbers, SameByNumbers};
 ghost use Rattle.wsm_semantics.specs.FromWatermark.{Stays, whole, rest, Times, LeavesOut, begun_at, BeginAlike, HasNoSessions, IsSettled, PartsNoSession, dropped_times, MayLeaveOut, SameAfter, SameRowsAfter, SameBeyond, SameRowsBeyond, SameOnceSettled};
 ghost use Rattle.wsm_semantics.specs.Kept.{kept};
-ghost use Rattle.wsm_semantics.specs.ByKey.{Keys, others, IgnoresTurns, ByKey, RowsByKey, EachOnce, StreamsWrite, PartsAddUp, NumbersAddUp, SameByRecords};
+ghost use Rattle.wsm_semantics.specs.Needed.{needed};
+ghost use Rattle.wsm_semantics.specs.ByKey.{Keys, others, HasRoom, IgnoresTurns, ByKey, RowsByKey, EachOnce, StreamsWrite, PartsAddUp, NumbersAddUp, SameByRecords};
 
 /// A replay that goes by what it keeps of the held panes alone, event by event, keeps what the history
 /// says of them, and the relation at the last rise of the watermark.
@@ -134,4 +135,13 @@ pub fn left_out()
 pub fn kept_once()
     ensures { (q : Query) → IsShape q.shape → SessionsByEvent q → pos 0 ≤ℤ q.clock.lateness → (past : List Event) (o r : Option ℕ) (t u : ℤ) → mark q (Watermark r u ∷ Watermark o t ∷ past) ≡ mark q (Watermark r u ∷ past)
         → kept q (Watermark r u ∷ Watermark o t ∷ past) ≡ kept q (Watermark r u ∷ past) }
+{}
+
+/// The needed events of a history are those that what follows hangs on: the records that stand in a window, or a session,
+/// that is live, and the watermarks of each source that come last before one of these, or at the end; for streams what the
+/// last rise of the watermark needs, and all events from that rise on. Whatever events come, none is refused for RECORDS
+/// behind them where none is behind the whole, and each has the same verdict.
+pub fn needed_alone()
+    ensures room { (q : Query) (past events : List Event) → HasRoom q (events ++ past) → HasRoom q (events ++ needed q past) }
+    ensures verdict { (q : Query) (past events : List Event) (e : Event) → HasRoom q (e ∷ events ++ past) → verdict_on q (events ++ needed q past) e ≡ verdict_on q (events ++ past) e }
 {}
