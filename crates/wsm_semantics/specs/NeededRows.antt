@@ -1,13 +1,15 @@
 -- Worked rows on the needed events of histories, and what each part of them is for. Histories are written oldest row first.
-use Rattle.std.specs.Prelude.{◌≡◌, refl, ℕ, false, List, [], ◌∷◌, reverse, pos, Some}
+use Rattle.std.specs.Prelude.{◌≡◌, refl, ℕ, false, List, [], ◌∷◌, reverse, pos, Some, None}
+use Rattle.wsm_record.specs.declared.event.Value.TheVariants.{Int}
 use Rattle.wsm_record.specs.declared.words.Form.TheVariants as form
-use Rattle.wsm_record.specs.Event.{Event, Watermark}
+use Rattle.wsm_record.specs.Event.{Event, Record, Watermark}
 use Rattle.wsm_windows.specs.declared.window.PaneKind.TheVariants.{OnTime, Final}
 use Rattle.wsm_windows.specs.declared.window.Shape.TheVariants.{Fixed, Sliding, Session}
 use Rattle.wsm_windows.specs.Windows.{window}
+use Rattle.wsm_admission.specs.declared.verdict.Refusal.TheVariants as refusal
 use Rattle.wsm_semantics.specs.declared.out_row.OutRow.{OutRow}
 use Rattle.wsm_semantics.specs.declared.out_row.OutRow.TheVariants.{Pane, Istream}
-use Rattle.wsm_semantics.specs.Query.{Query}
+use Rattle.wsm_semantics.specs.Query.{Query, verdict_on}
 use Rattle.wsm_semantics.specs.Relation.{turn_rows}
 use Rattle.wsm_semantics.specs.Lines.{Row, events}
 use Rattle.wsm_semantics.specs.Rows.{base, a, w, w_of, ints, two_sources, with_lateness}
@@ -20,6 +22,9 @@ past_of rows = events (reverse rows)
 -- the rows that a watermark writes behind others
 abbrev writes : Query → List Row → ℕ → List OutRow
 writes q rows time = turn_rows q (past_of rows) (Watermark (Some 0) (pos time))
+
+abbrev record_at : ℕ → Event
+record_at time = Record (Some 0) (pos time) (Int (pos 1) ∷ [])
 
 -- ---- windows of 10, LATENESS 10
 
@@ -51,9 +56,16 @@ with_an_earlier_record = refl
 without_its_watermark : writes q (w 20 ∷ a 20 3 ∷ a 28 4 ∷ w 32 ∷ []) 40 ≡ []
 without_its_watermark = refl
 
--- nor without that at the end
-without_the_last : writes q (w 20 ∷ a 20 3 ∷ w 30 ∷ a 28 4 ∷ []) 33 ≡ [] × writes q (w 20 ∷ a 20 3 ∷ w 30 ∷ []) 40 ≡ []
-without_the_last = (refl, refl)
+-- nor without that at the end, by which a record that comes next is late
+late_by_the_last : verdict_on q (past_of (w 20 ∷ a 20 3 ∷ w 30 ∷ a 28 4 ∷ w 32 ∷ [])) (record_at 21) ≡ Some refusal.Late × verdict_on q (past_of (w 20 ∷ a 20 3 ∷ w 30 ∷ a 28 4 ∷ [])) (record_at 21) ≡ None
+late_by_the_last = (refl, refl)
+
+-- the window of 19 is dropped by 30, and at 29 it needs it still
+until_it_is_dropped : needed q (past_of (a 19 1 ∷ a 20 2 ∷ w 30 ∷ [])) ≡ past_of (a 20 2 ∷ w 30 ∷ []) × needed q (past_of (a 19 1 ∷ a 20 2 ∷ w 29 ∷ [])) ≡ past_of (a 19 1 ∷ a 20 2 ∷ w 29 ∷ [])
+until_it_is_dropped = (refl, refl)
+
+at_its_drop : writes q (a 19 1 ∷ w 29 ∷ a 19 5 ∷ []) 30 ≡ Pane Final 0 (window (pos 10) (pos 20)) (ints (2 ∷ 6 ∷ [])) ∷ [] × writes q (w 29 ∷ a 19 5 ∷ []) 30 ≡ Pane Final 0 (window (pos 10) (pos 20)) (ints (1 ∷ 5 ∷ [])) ∷ []
+at_its_drop = (refl, refl)
 
 -- what was refused, came late or isn't selected isn't needed, nor a watermark that doesn't raise the mark of its source
 none_of_these : needed (record q { selects = λ key values. false }) (past_of rows) ≡ past_of (w 32 ∷ []) × needed q (past_of (w 30 ∷ a 19 1 ∷ w 25 ∷ a 200 1 ∷ [])) ≡ past_of (w 30 ∷ [])
