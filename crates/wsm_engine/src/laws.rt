@@ -9,7 +9,7 @@ ghost use Rattle.wsm_record.specs.declared.words.Form.TheVariants.{Panes};
 ghost use Rattle.wsm_record.specs.Event.{Event, Record, Watermark};
 ghost use Rattle.wsm_windows.specs.declared.window.Shape.TheVariants.{Session};
 ghost use Rattle.wsm_admission.specs.Clock.{marks_of, admitted_count};
-ghost use Rattle.wsm_semantics.specs.Query.{mark, verdict_on};
+ghost use Rattle.wsm_semantics.specs.Query.{mark, verdict_on, selected};
 ghost use Rattle.wsm_semantics.specs.Panes.{held};
 ghost use Rattle.wsm_semantics.specs.Kept.{kept};
 ghost use Rattle.wsm_semantics.specs.Firings.{firings};
@@ -19,7 +19,7 @@ ghost use Rattle.wsm_semantics.specs.Order.{IsOrderFree, OrderLaw};
 ghost use Rattle.wsm_semantics.specs.ByKey.{Keys, ByKey, RowsByKey, EachOnce, PartsAddUp, NumbersAddUp, SameByRecords};
 ghost use Rattle.wsm_semantics.specs.FromWatermark.{Stays, whole, rest, Times, LeavesOut, begun_at, BeginAlike, HasNoSessions, IsSettled, PartsNoSession, dropped_times, MayLeaveOut, SameAfter, SameRowsAfter, SameBeyond, SameRowsBeyond, SameOnceSettled};
 ghost use Rattle.wsm_semantics.specs.FromKept.{KeepAlike, FollowAlike};
-ghost use Rattle.wsm_semantics.specs.Needed.{needed, NeededAlone, WritesAlike};
+ghost use Rattle.wsm_semantics.specs.Needed.{IsOfLive, needed, NeededAlone, WritesAlike};
 ghost use Rattle.wsm_program.specs.Program.{Program, is_program};
 ghost use Rattle.wsm_program.specs.declared.program.Costs.{Costs};
 ghost use Rattle.wsm_rules.specs.Costs.{longest_path};
@@ -124,9 +124,11 @@ pub fn kept_decides()
 /// What follows on a history follows on its needed events alone: the records that stand in a window, or a session, that is
 /// live, and the watermarks of each source that come last before one of these, or at the end; for streams what the last rise
 /// of the watermark needs, and all events from that rise on. So a file of rows may be cut to the rows of these, and a run over
-/// it goes on as the run over all of them. Of another RECORDS it holds as well, as long as none is refused for either.
+/// it goes on as the run over all of them. They have a selected record exactly where a window in which it stands is live.
+/// Of another RECORDS it holds as well, as long as none is refused for either.
 pub fn needed_alone()
     ensures needed { (p : Program) → IsTrue (is_program p) → (past : List Event) → NeededAlone (plan_of p) (query_of p) past }
+    ensures live { (p : Program) → IsTrue (is_program p) → (past : List Event) → AllByRecursion (IsOfLive (query_of p) past) (selected (query_of p) past) }
     ensures records { (p : Program) → IsTrue (is_program p) → (records : ℤ) (past : List Event) → let q = query_of p in FollowAlike (plan_of p) q q.clock.start records past (needed q past) × WritesAlike q q.clock.start records past (needed q past) }
 {}
 

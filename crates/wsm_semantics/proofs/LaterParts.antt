@@ -172,7 +172,7 @@ module _ (gap : ℤ) (long : pos 1 ≤ℤ gap) (t : ℤ) where
   abbrev x : List Window → ℤ
   x ws = unparted_time gap t ws
 
-  no_later_than : (ws : List Window) → x ws ≤ℤ t
+  pub no_later_than : (ws : List Window) → x ws ≤ℤ t
   no_later_than [] = omega (arith, ints)
   no_later_than (w ∷ ws) =
       elim (is_beside gap t w) as (λ b. is_beside gap t w ≡ b → cond b (x ws) (w.start -ℤ pos 1) ≤ℤ t) [
@@ -181,7 +181,7 @@ module _ (gap : ℤ) (long : pos 1 ≤ℤ gap) (t : ℤ) where
       ] refl
 
   -- it is the time, or right before one of the sessions
-  no_sooner_than : (y : ℤ) (ws : List Window) → StartFrom y ws → (x ws ≡ t) ⊎ (y ≤ℤ (x ws +ℤ pos 1))
+  pub no_sooner_than : (y : ℤ) (ws : List Window) → StartFrom y ws → (x ws ≡ t) ⊎ (y ≤ℤ (x ws +ℤ pos 1))
   no_sooner_than y [] from = inl refl
   no_sooner_than y (w ∷ ws) from =
       elim (is_beside gap t w) as (λ b. (cond b (x ws) (w.start -ℤ pos 1) ≡ t) ⊎ (y ≤ℤ (cond b (x ws) (w.start -ℤ pos 1) +ℤ pos 1))) [
@@ -199,7 +199,7 @@ module _ (gap : ℤ) (long : pos 1 ≤ℤ gap) (t : ℤ) where
       (no_sooner_than w.end ws from))
       (or_cases (int_lt t w.start) (int_le w.end (t +ℤ gap)) beside)
 
-  parts_no_session : (ws : List Window) → AreApart gap ws → AllByRecursion (λ w. is_beside gap (x ws) w ≡ true) ws
+  pub parts_no_session : (ws : List Window) → AreApart gap ws → AllByRecursion (λ w. is_beside gap (x ws) w ≡ true) ws
   parts_no_session [] apart = tt
   parts_no_session (w ∷ ws) apart =
       elim (is_beside gap t w) as (λ b. is_beside gap t w ≡ b → AllByRecursion (λ v. is_beside gap (cond b (x ws) (w.start -ℤ pos 1)) v ≡ true) (w ∷ ws)) [

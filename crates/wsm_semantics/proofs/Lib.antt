@@ -86,4 +86,5 @@ pub mod LaterSettled
 pub mod LaterLaw
 pub mod LaterKept
 pub mod KeptAlike
+pub mod NeededLive
 pub mod NeededEvents

@@ -1,6 +1,7 @@
 -- Of the windows of a grid the last that begins by a time, and the first that ends after one.
-use Rattle.std.proofs.Common.{◌≡◌, ℕ, zero, suc, ◌+◌, ◌*◌, ◌<◌, ℤ, pos, negsuc, ◌+ℤ◌, ◌-ℤ◌, ◌*ℤ◌, ◌≤ℤ◌, ◌<ℤ◌, inl, inr, refl, sym, ap, ◌∙◌, arith}
+use Rattle.std.proofs.Common.{◌≡◌, ℕ, true, false, zero, suc, ◌+◌, ◌*◌, ◌<◌, ℤ, pos, negsuc, ◌+ℤ◌, ◌-ℤ◌, ◌*ℤ◌, ◌≤ℤ◌, ◌<ℤ◌, inl, inr, refl, sym, ap, ◌∙◌, arith}
 use Rattle.std.proofs.lemmas.Int.{ints}
+use Rattle.std.specs.Prelude.{int_lt}
 use Rattle.wsm_windows.specs.Windows.{last_start, first_start}
 use Rattle.wsm_windows.proofs.Multiples.{rem_below, times_more, last_is_multiple, either_above}
 
@@ -58,3 +59,43 @@ ended size (pos p) t long =
     ends_by t size (k.0 *ℤ pos p) (last_start (pos p) u) b k.1
     (below_next k.0 u p some (one_less (k.0 *ℤ pos p) b next (sym k.1) (near (next -ℤ pos 1) p some).0)) (near u p some).0
 ended size (negsuc p) t long = absurd (omega (arith, ints))
+
+less_than : (a b : ℤ) → int_lt a b ≡ true → a <ℤ b
+less_than a b h = grind (arith, ints)
+
+no_less : (a b : ℤ) → int_lt a b ≡ false → b ≤ℤ a
+no_less a b h = grind (arith, ints)
+
+between : (a last u : ℤ) → a ≤ℤ last → last ≤ℤ u → u <ℤ a → ⊥
+between a last u h k l = omega (arith, ints)
+
+pub begins_from : (period k u : ℤ) → pos 1 ≤ℤ period → u <ℤ (k *ℤ period) → (last_start period u +ℤ period) ≤ℤ (k *ℤ period)
+begins_from (pos p) k u long above =
+    let some : 0 < p = omega (arith, ints) in
+    let a : ℤ = k *ℤ pos p in
+    let last : ℤ = last_start (pos p) u in
+    elim (int_lt a (last +ℤ pos p)) as (λ b. int_lt a (last +ℤ pos p) ≡ b → (last +ℤ pos p) ≤ℤ a) [
+      | true ↦ λ h. absurd (between a last u (below_next k u p some (less_than a (last +ℤ pos p) h)) (near u p some).0 above)
+      | false ↦ λ h. no_less a (last +ℤ pos p) h
+    ] refl
+begins_from (negsuc p) k u long above = absurd (omega (arith, ints))
+
+-- the last window that begins by a time
+pub last_window : (period t : ℤ) → pos 1 ≤ℤ period → (k : ℤ) × (last_start period t ≡ k *ℤ period) × (last_start period t ≤ℤ t) × (t <ℤ (last_start period t +ℤ period))
+last_window (pos p) t long =
+    let some : 0 < p = omega (arith, ints) in
+    let k = last_is_multiple t p some in
+    let n = near t p some in
+    (k.0, k.1, n.0, n.1)
+last_window (negsuc p) t long = absurd (omega (arith, ints))
+
+next_one : (last q one : ℤ) (p : ℕ) → last ≡ q → one ≡ q +ℤ pos (1 * p) → (last +ℤ pos p) ≡ one
+next_one last q one p is more = omega (arith, ints)
+
+-- the first that ends after one
+pub first_window : (size period t : ℤ) → pos 1 ≤ℤ period → (k : ℤ) × (first_start size period t ≡ k *ℤ period) × ((t -ℤ size) <ℤ first_start size period t)
+first_window size (pos p) t long =
+    let some : 0 < p = omega (arith, ints) in
+    let q = last_is_multiple (t -ℤ size) p some in
+    (q.0 +ℤ pos 1, next_one (last_start (pos p) (t -ℤ size)) (q.0 *ℤ pos p) ((q.0 +ℤ pos 1) *ℤ pos p) p q.1 (times_more q.0 1 p), (near (t -ℤ size) p some).1)
+first_window size (negsuc p) t long = absurd (omega (arith, ints))

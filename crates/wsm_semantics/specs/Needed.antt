@@ -6,7 +6,9 @@ use Rattle.std.specs.List.{list_any}
 use Rattle.wsm_record.specs.declared.words.Form.{Form}
 use Rattle.wsm_record.specs.declared.words.Form.TheVariants as form
 use Rattle.wsm_record.specs.Event.{Event, Record, Watermark}
-use Rattle.wsm_semantics.specs.Query.{Query, raises, verdict_on, is_taken}
+use Rattle.wsm_windows.specs.Life.{is_live}
+use Rattle.wsm_semantics.specs.Query.{Datum, Query, mark, raises, verdict_on, is_taken, selected}
+use Rattle.wsm_semantics.specs.Panes.{windows_among}
 use Rattle.wsm_semantics.specs.Firings.{firings}
 use Rattle.wsm_semantics.specs.Relation.{turn_rows}
 use Rattle.wsm_semantics.specs.Summaries.{Plan, summary_fired}
@@ -50,6 +52,10 @@ needed_by _ q past = needed_by_streams q past
 -- the events of a history that what follows hangs on
 abbrev pub needed : Query → List Event → List Event
 needed q past = needed_by q.form q past
+
+-- a selected record has such a time where a window, or the session, in which it stands is live
+abbrev pub IsOfLive : Query → List Event → Datum → Type 0
+IsOfLive q past d = int_lt (dropped_times q past d.key) d.time ≡ list_any (λ w. is_live w q.clock.lateness (mark q past)) (windows_among q.shape q.clock.lateness (selected q past) d)
 
 -- ---- what follows
 

@@ -9,7 +9,7 @@ ghost use Rattle.wsm_record.specs.Event.{Event, Watermark};
 ghost use Rattle.wsm_windows.specs.Windows.{IsShape};
 ghost use Rattle.wsm_admission.specs.declared.clock.LateBy.TheVariants as late_by;
 ghost use Rattle.wsm_admission.specs.Clock.{IsWithinLimits, marks_of};
-ghost use Rattle.wsm_semantics.specs.Query.{Query, SessionsByEvent, mark, verdict_on};
+ghost use Rattle.wsm_semantics.specs.Query.{Query, SessionsByEvent, mark, verdict_on, selected};
 ghost use Rattle.wsm_semantics.specs.LiveRecords.{AllLive};
 ghost use Rattle.wsm_semantics.specs.Relation.{turn_rows};
 ghost use Rattle.wsm_semantics.specs.Replay.{replayed, state, turn_rows_by};
@@ -20,7 +20,7 @@ ghost use Rattle.wsm_semantics.specs.Order.{Judged, is_rise, Reordered, IgnoresO
 ghost use Rattle.wsm_semantics.specs.ByNumber.{Numbers, AreNumbers, SameByNumbers};
 ghost use Rattle.wsm_semantics.specs.FromWatermark.{Stays, whole, rest, Times, LeavesOut, begun_at, BeginAlike, HasNoSessions, IsSettled, PartsNoSession, dropped_times, MayLeaveOut, SameAfter, SameRowsAfter, SameBeyond, SameRowsBeyond, SameOnceSettled};
 ghost use Rattle.wsm_semantics.specs.Kept.{kept};
-ghost use Rattle.wsm_semantics.specs.Needed.{needed};
+ghost use Rattle.wsm_semantics.specs.Needed.{IsOfLive, needed};
 ghost use Rattle.wsm_semantics.specs.ByKey.{Keys, others, HasRoom, IgnoresTurns, ByKey, RowsByKey, EachOnce, StreamsWrite, PartsAddUp, NumbersAddUp, SameByRecords};
 
 /// A replay that goes by what it keeps of the held panes alone, event by event, keeps what the history
@@ -140,8 +140,10 @@ pub fn kept_once()
 /// The needed events of a history are those that what follows hangs on: the records that stand in a window, or a session,
 /// that is live, and the watermarks of each source that come last before one of these, or at the end; for streams what the
 /// last rise of the watermark needs, and all events from that rise on. Whatever events come, none is refused for RECORDS
-/// behind them where none is behind the whole, and each has the same verdict.
+/// behind them where none is behind the whole, and each has the same verdict. They have a selected record exactly where a
+/// window in which it stands is live.
 pub fn needed_alone()
+    ensures live { (q : Query) → IsShape q.shape → (past : List Event) → AllByRecursion (IsOfLive q past) (selected q past) }
     ensures room { (q : Query) (past events : List Event) → HasRoom q (events ++ past) → HasRoom q (events ++ needed q past) }
     ensures verdict { (q : Query) (past events : List Event) (e : Event) → HasRoom q (e ∷ events ++ past) → verdict_on q (events ++ needed q past) e ≡ verdict_on q (events ++ past) e }
 {}
