@@ -1,6 +1,6 @@
 use Rattle.wsm_semantics.proofs.NeededLive.{each_of_live}
 use Rattle.wsm_semantics.proofs.NeededEvents.{needed_alone, needed_follow, needed_writes}
-use Rattle.wsm_verifier.proofs.Lawful.{lawful}
+use Rattle.wsm_rules.proofs.Lawful.{lawful}
 use Rattle.wsm_machine.specs.Meaning.{plan_of, query_of}
 use Rattle.wsm_machine.proofs.QueryFolds.{plan_lawful, plan_runs}
 use Rattle.wsm_machine.proofs.CountedSessions.{sessions_by_event}
