@@ -1,5 +1,5 @@
 -- The text of rows, one row after the other, and what was taken of it.
-use Rattle.std.proofs.Common.{◌≡◌, ◌∙◌, ◌++◌, ◌∷◌, ℕ, List, [], map, reverse, Option, Some, None, refl, sym, ap, subst, append-nil}
+use Rattle.std.proofs.Common.{◌≡◌, ◌∙◌, ◌++◌, ◌∷◌, ℕ, false, List, [], map, reverse, Option, Some, None, Result, Err, refl, sym, ap, subst, append-nil}
 use Rattle.std.proofs.lemmas.List.{map-append, reverse-append}
 use Rattle.std.proofs.lemmas.List.Concat.{flat_map-append}
 use Rattle.std.specs.Io.KnownBytes.{Appends, Keeps}
@@ -18,7 +18,9 @@ use Rattle.wsm_semantics.specs.declared.ending.Totals.{Totals}
 use Rattle.wsm.specs.declared.turns.Turns.{Turns}
 use Rattle.wsm_machine.specs.Meaning.{query_of}
 use Rattle.wsm_semantics.specs.Query.{Query as Meant}
-use Rattle.wsm.specs.Ends.{end_of_read}
+use Rattle.wsm.specs.declared.end.End.{End}
+use Rattle.wsm.specs.declared.end.End.TheVariants.{ReadFailed}
+use Rattle.wsm.specs.Ends.{end_of_read, hides_memory}
 use Rattle.wsm.specs.Written.{Cells, EndsEarly, input_text, rows_of, turns_text}
 use Rattle.wsm.specs.Turns.{Ends, Fits, Stands, Turned}
 
@@ -89,3 +91,12 @@ last_text p cells t totals ends =
 pub EndsEarly-read : (known : Option (List ℕ)) (a : Meant) (cells : List Cells) (old new : Option (List ℕ)) (e : ReadEnd) → AreFirst known cells → Appends old new (turns_text a cells) → EndsEarly known a cells old new (end_of_read e)
 EndsEarly-read known a cells old new read.Failed first text = record { first = first; text = text }
 EndsEarly-read known a cells old new read.Memory first text = record { first = first; text = text }
+
+-- only a failed read is told as one
+pub read_only : {A : Type 0} (r : Result A End) (e : ReadEnd) → r ≡ Err (end_of_read e) → r ≡ Err ReadFailed → e ≡ read.Failed
+read_only r read.Failed told failed = refl
+read_only r read.Memory told failed = cc
+
+pub read_apart : (e : ReadEnd) → hides_memory (end_of_read e) ≡ false
+read_apart read.Failed = refl
+read_apart read.Memory = refl

@@ -2,7 +2,8 @@
 //!
 //! [`run_query`] reads and checks the text of a query, compiles it, has the program verified, takes
 //! the turn of each row of a reader, and gives a device the lines of each turn and a last one.
-//! [`run_program`] does so from the bytes of a program. A whole program:
+//! [`run_program`] does so from the bytes of a program. [`run_query_over`] and [`run_program_over`] take
+//! [`Rows`] that stay with the caller, and say what ended them. A whole program:
 //!
 //! ```rust
 //! use wsm::{End, Fault, Guarded, InputRefusal, Position, compile_text, run_program, run_query};
@@ -60,9 +61,9 @@ pub use compile::compile_text;
 pub use end::{End, InputRefusal, REJECTED_STATUS, status_of};
 pub use judging::judge;
 pub use migrating::migrate;
-pub use run::{run_program, run_query};
+pub use run::{run_program, run_program_over, run_query, run_query_over};
 pub use wsm_check::{CheckFault, Part};
-pub use wsm_csv::{Device, DeviceFault, Guarded, write_out};
+pub use wsm_csv::{Device, DeviceFault, Guarded, Rows, write_out};
 pub use wsm_engine::Totals;
 pub use wsm_program::DecodeRefusal;
 pub use wsm_rules::Rejection;

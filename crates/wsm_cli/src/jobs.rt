@@ -4,7 +4,8 @@ use std::fs::{self, File};
 use std::io::{self, ErrorKind, Read, Write};
 use std::rt::Files;
 use wsm::{
-    Device, End, Guarded, Job, compile_text, judge, migrate, run_program, run_query, write_out,
+    Device, End, Guarded, Job, Rows, compile_text, judge, migrate, run_program_over,
+    run_query_over, write_out,
 };
 
 /// Does the job. It is false where a program was judged and rejected.
@@ -45,11 +46,12 @@ fn run_over<R: AllocGlobal + Print, I: Read + Drop>(
     query: &[u8],
     rows: I,
 ) -> Result<bool, End> {
+    let mut rows = Rows::new(rt.alloc(), rows);
     let mut output = Guarded::new(io::writer(rt));
     if program {
-        run_program(rt.alloc(), query, rows, &mut output)?;
+        run_program_over(rt.alloc(), query, &mut rows, &mut output)?;
     } else {
-        run_query(rt.alloc(), query, rows, &mut output)?;
+        run_query_over(rt.alloc(), query, &mut rows, &mut output)?;
     }
     Ok(true)
 }

@@ -6,8 +6,8 @@ use std::io;
 use std::io::{Read, Write};
 use std::process::Abort;
 use std::test::Fail;
-use wsm::{End, Guarded, run_query};
-use wsm_given::{BASE, STREAM, STREAM_ROWS, STREAM_TEXT};
+use wsm::{End, Guarded, Rows, compile_text, run_program_over, run_query, run_query_over};
+use wsm_given::{BASE, BASE_ROWS, BASE_TEXT, STREAM, STREAM_ROWS, STREAM_TEXT};
 
 fn failure() -> io::Error {
     io::Error::from(io::ErrorKind::Other)
@@ -74,6 +74,28 @@ fn each_read_fails(rt: HostRuntime) -> Result<(), Fail> {
             are_turns(&rt, len, most, &text)?;
         }
     }
+    Ok(())
+}
+
+// What `csv` said stays with rows that the caller keeps.
+#[test]
+fn rows_tell_what_ended_them(rt: HostRuntime) -> Result<(), Fail> {
+    let program = compile_text(rt.alloc(), BASE)?;
+    let mut rows = Rows::new(rt.alloc(), BASE_ROWS);
+    let mut out = Guarded::new(Vec::new(rt.alloc()));
+    run_program_over(rt.alloc(), &program, &mut rows, &mut out)?;
+    assert_eq!(rt; out.into_writer().as_slice(), BASE_TEXT);
+    assert!(rt; rows.error().is_none());
+
+    let reader = FailsBehind {
+        text: STREAM_ROWS,
+        most: 64,
+    };
+    let mut rows = Rows::new(rt.alloc(), reader);
+    let mut out = Guarded::new(Vec::new(rt.alloc()));
+    let end = run_query_over(rt.alloc(), STREAM, &mut rows, &mut out);
+    assert_eq!(rt; end, Err(End::ReadFailed));
+    assert!(rt; rows.error().is_some());
     Ok(())
 }
 

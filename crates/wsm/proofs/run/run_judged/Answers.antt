@@ -18,14 +18,14 @@ returns-in_err-verified-clause-rejected g c =
 pub returns-in_err-verified-clause-ends_early : goal.returns-in_err-verified-clause-ends_early
 returns-in_err-verified-clause-ends_early g c =
     let e = err_from_is_err_and c.from_residual.result c.from_residual.ensures.1 in
-    rw (e.1, e.2) (λ ok. unverified_early (judge c.args.program) c.in_err-verified.field-0.0 (g.R.Read.remaining c.args.rows) (g.D.Device.taken c.args.out.now) (query_of c.args.program) c.in_err-verified.ensures.rejected ok)
+    rw (e.1, e.2) (λ known start ok. unverified_early (judge c.args.program) c.in_err-verified.field-0.0 known (g.D.Device.taken c.args.out.now) (query_of c.args.program) c.in_err-verified.ensures.rejected ok)
 
 pub returns-clause-completes : goal.returns-clause-completes
-returns-clause-completes g c =
-    subst (λ (p : Program). IfOk c.run_verified.result (λ (totals : Totals). (cells : List Cells) × Completes (g.R.Read.remaining c.args.rows) (query_of p) cells (g.D.Device.taken c.args.out.now) (g.D.Device.taken c.run_verified.new.out) totals))
-    c.in_ok-verified.ensures.kept c.run_verified.ensures.completes
+returns-clause-completes g c = λ known start.
+    subst (λ (p : Program). IfOk c.run_verified.result (λ (totals : Totals). (cells : List Cells) × Completes known (query_of p) cells (g.D.Device.taken c.args.out.now) (g.D.Device.taken c.run_verified.new.out) totals))
+    c.in_ok-verified.ensures.kept (c.run_verified.ensures.completes known start)
 
 pub returns-clause-ends_early : goal.returns-clause-ends_early
-returns-clause-ends_early g c = λ ok.
-    subst (λ (p : Program). IfErr c.run_verified.result (λ (end : End). (cells : List Cells) × EndsEarly (g.R.Read.remaining c.args.rows) (query_of p) cells (g.D.Device.taken c.args.out.now) (g.D.Device.taken c.run_verified.new.out) end))
-    c.in_ok-verified.ensures.kept c.run_verified.ensures.ends_early
+returns-clause-ends_early g c = λ known start ok.
+    subst (λ (p : Program). IfErr c.run_verified.result (λ (end : End). (cells : List Cells) × EndsEarly known (query_of p) cells (g.D.Device.taken c.args.out.now) (g.D.Device.taken c.run_verified.new.out) end))
+    c.in_ok-verified.ensures.kept (c.run_verified.ensures.ends_early known start)

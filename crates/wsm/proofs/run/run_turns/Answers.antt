@@ -18,18 +18,18 @@ cells_of_totals P (Err end) cells h = h
 pub returns-in_err-take_rows-clause-ends_early : goal.returns-in_err-take_rows-clause-ends_early
 returns-in_err-take_rows-clause-ends_early g c =
     let e = err_from_is_err_and c.from_residual.result c.from_residual.ensures.1 in
-    rw (e.1, e.2) (λ p fits. c.in_err-take_rows.ensures.ends_early p fits)
+    rw (e.1, e.2) (λ known p start fits. c.in_err-take_rows.ensures.ends_early known p start fits)
 
 pub returns-clause-completes : goal.returns-clause-completes
-returns-clause-completes g c = λ p fits.
-    let t = c.in_ok-take_rows.ensures.taken p fits in
+returns-clause-completes g c = λ known p start fits.
+    let t = c.in_ok-take_rows.ensures.taken known p start fits in
     let old = g.D.Device.taken c.args.out.now in
-    cells_of_totals (λ totals cells. Completes (g.R.Read.remaining c.args.rows) (query_of p) cells old (g.D.Device.taken c.finish.new.out) totals) c.finish.result t.0
-    (c.finish.ensures.completes (g.R.Read.remaining c.args.rows) p t.0 old t.1 t.2)
+    cells_of_totals (λ totals cells. Completes known (query_of p) cells old (g.D.Device.taken c.finish.new.out) totals) c.finish.result t.0
+    (c.finish.ensures.completes known p t.0 old t.1 t.2)
 
 pub returns-clause-ends_early : goal.returns-clause-ends_early
-returns-clause-ends_early g c = λ p fits.
-    let t = c.in_ok-take_rows.ensures.taken p fits in
+returns-clause-ends_early g c = λ known p start fits.
+    let t = c.in_ok-take_rows.ensures.taken known p start fits in
     let old = g.D.Device.taken c.args.out.now in
-    cells_of_end (λ end cells. EndsEarly (g.R.Read.remaining c.args.rows) (query_of p) cells old (g.D.Device.taken c.finish.new.out) end) c.finish.result t.0
-    (c.finish.ensures.ends_early (g.R.Read.remaining c.args.rows) p t.0 old t.1 t.2)
+    cells_of_end (λ end cells. EndsEarly known (query_of p) cells old (g.D.Device.taken c.finish.new.out) end) c.finish.result t.0
+    (c.finish.ensures.ends_early known p t.0 old t.1 t.2)

@@ -1,4 +1,4 @@
-use Rattle.std.proofs.Common.{◌++◌, ◌∷◌, [], inl, subst}
+use Rattle.std.proofs.Common.{◌∙◌, ◌++◌, ◌∷◌, [], Err, ap, inl, subst, sym}
 use Rattle.std.proofs.lemmas.Result.{err_from_is_err_and}
 use Rattle.wsm_csv.specs.Cells.{event_of_cells}
 use Rattle.wsm_csv.specs.Rows.{cells_of}
@@ -6,60 +6,70 @@ use Rattle.wsm_csv.proofs.RowsLemmas.{Follows-first}
 use Rattle.wsm_machine.specs.Meaning.{query_of}
 use Rattle.wsm.specs.Written.{Cells, rows_of}
 use Rattle.wsm.specs.Turns.{Turned}
-use Rattle.wsm.proofs.Texts.{Stands-start, Stands-next, TakesPart-next, EndsEarly-read}
+use Rattle.wsm.proofs.Texts.{Stands-start, Stands-next, TakesPart-next, EndsEarly-read, read_apart, read_only}
 use Rattle.wsm.proofs.run.take_rows.Goals as goal
 
-pub loop-rows-init : goal.loop-rows-init
-loop-rows-init g c = record {
+pub loop-turns-init : goal.loop-turns-init
+loop-turns-init g c = record {
   works = c.requires;
-  turns = λ p fits. ([], c.new-rows.ensures, Stands-start p (g.D.Device.taken c.args.out.now) c.args.turns.now fits);
+  turns = λ known p follows fits. ([], follows, Stands-start p (g.D.Device.taken c.args.out.now) c.args.turns.now fits);
 }
 
 pub returns-in_err-advance-clause-ends_early : goal.returns-in_err-advance-clause-ends_early
 returns-in_err-advance-clause-ends_early g c =
     let e = err_from_is_err_and c.from_residual.result c.from_residual.ensures.1 in
-    rw (e.1, e.2) (λ p fits.
-    let (cells, follows, stands) = c.loop-rows.invariant.turns p fits in
-    let read = c.in_err-advance.ensures.advances (g.R.Read.remaining c.args.reader) cells follows in
-    (cells, EndsEarly-read (g.R.Read.remaining c.args.reader) (query_of p) cells (g.D.Device.taken c.args.out.now) (g.D.Device.taken c.loop-rows.out) c.in_err-advance.field-0.0 read.0 stands.text))
+    rw (e.1, e.2) (λ known p start fits.
+    let (cells, follows, stands) = c.loop-turns.invariant.turns known p start fits in
+    let read = c.in_err-advance.ensures.advances known cells follows in
+    (cells, EndsEarly-read known (query_of p) cells (g.D.Device.taken c.args.out.now) (g.D.Device.taken c.loop-turns.out) c.in_err-advance.field-0.0 read.0 stands.text))
+
+pub returns-in_err-advance-clause-read_failed : goal.returns-in_err-advance-clause-read_failed
+returns-in_err-advance-clause-read_failed g c =
+    let e = err_from_is_err_and c.from_residual.result c.from_residual.ensures.1 in
+    λ failed. sym c.in_err-advance.ensures.told ∙ read_only c.from_residual.result c.in_err-advance.field-0.0 (e.1 ∙ ap Err e.2) failed
+
+pub returns-in_err-advance-clause-memory_apart : goal.returns-in_err-advance-clause-memory_apart
+returns-in_err-advance-clause-memory_apart g c =
+    let e = err_from_is_err_and c.from_residual.result c.from_residual.ensures.1 in
+    rw (e.1, e.2) (read_apart c.in_err-advance.field-0.0)
 
 pub returns-in_err-take-clause-ends_early : goal.returns-in_err-take-clause-ends_early
 returns-in_err-take-clause-ends_early g c =
     let e = err_from_is_err_and c.from_residual-in_err-take.result c.from_residual-in_err-take.ensures.1 in
-    rw (e.1, e.2) (λ p fits.
-    let (cells, follows, stands) = c.loop-rows.invariant.turns p fits in
-    (cells, record { first = Follows-first g.R.Read.remaining (g.R.Read.remaining c.args.reader) cells c.loop-rows.rows follows; text = stands.text }))
+    rw (e.1, e.2) (λ known p start fits.
+    let (cells, follows, stands) = c.loop-turns.invariant.turns known p start fits in
+    (cells, record { first = Follows-first g.R.Read.remaining known cells c.loop-turns.rows follows; text = stands.text }))
 
-pub loop-rows-preserved : goal.loop-rows-preserved
-loop-rows-preserved g c = record {
+pub loop-turns-preserved : goal.loop-turns-preserved
+loop-turns-preserved g c = record {
   works = c.in_ok-write.ensures.works;
-  turns = λ p fits.
-      let (cells, follows, stands) = c.loop-rows.invariant.turns p fits in
+  turns = λ known p start fits.
+      let (cells, follows, stands) = c.loop-turns.invariant.turns known p start fits in
       let row = cells_of c.advance.new.self in
-      let follows' = rw c.if-branch.true at (c.in_ok-advance.ensures.advances (g.R.Read.remaining c.args.reader) cells follows) in
+      let follows' = rw c.if-branch.true at (c.in_ok-advance.ensures.advances known cells follows) in
       let turned = subst (λ (f : Cells). Turned p c.take.new.self (rows_of (query_of p) cells) (event_of_cells p.header.schema f)) c.row.ensures (c.in_ok-take.ensures p (rows_of (query_of p) cells) stands.fits) in
       let taken = c.in_ok-write.ensures.all in
-      (cells ++ row ∷ [], follows', Stands-next p cells row (g.D.Device.taken c.args.out.now) (g.D.Device.taken c.loop-rows.out) (g.D.Device.taken c.write.new.out) c.loop-rows.turns c.take.new.self stands turned taken);
+      (cells ++ row ∷ [], follows', Stands-next p cells row (g.D.Device.taken c.args.out.now) (g.D.Device.taken c.loop-turns.out) (g.D.Device.taken c.write.new.out) c.loop-turns.turns c.take.new.self stands turned taken);
 }
 
 pub returns-in_err-write-clause-ends_early : goal.returns-in_err-write-clause-ends_early
 returns-in_err-write-clause-ends_early g c =
     let e = err_from_is_err_and c.from_residual-in_err-write.result c.from_residual-in_err-write.ensures.1 in
-    rw (e.1, e.2) (λ p fits.
-    let (cells, follows, stands) = c.loop-rows.invariant.turns p fits in
+    rw (e.1, e.2) (λ known p start fits.
+    let (cells, follows, stands) = c.loop-turns.invariant.turns known p start fits in
     let row = cells_of c.advance.new.self in
-    let follows' = rw c.if-branch.true at (c.in_ok-advance.ensures.advances (g.R.Read.remaining c.args.reader) cells follows) in
+    let follows' = rw c.if-branch.true at (c.in_ok-advance.ensures.advances known cells follows) in
     let turned = subst (λ (f : Cells). Turned p c.take.new.self (rows_of (query_of p) cells) (event_of_cells p.header.schema f)) c.row.ensures (c.in_ok-take.ensures p (rows_of (query_of p) cells) stands.fits) in
     let part = c.in_err-write.ensures.part in (
       cells ++ row ∷ [],
       inl (record {
-        first = Follows-first g.R.Read.remaining (g.R.Read.remaining c.args.reader) (cells ++ row ∷ []) c.advance.new.self follows';
-        part = TakesPart-next p cells row (g.D.Device.taken c.args.out.now) (g.D.Device.taken c.loop-rows.out) (g.D.Device.taken c.write.new.out) c.loop-rows.turns c.take.new.self stands turned part;
+        first = Follows-first g.R.Read.remaining known (cells ++ row ∷ []) c.advance.new.self follows';
+        part = TakesPart-next p cells row (g.D.Device.taken c.args.out.now) (g.D.Device.taken c.loop-turns.out) (g.D.Device.taken c.write.new.out) c.loop-turns.turns c.take.new.self stands turned part;
       }),
     ))
 
 pub returns-clause-taken : goal.returns-clause-taken
-returns-clause-taken g c = λ p fits.
-    let (cells, follows, stands) = c.loop-rows.invariant.turns p fits in
-    let all = rw c.if-branch.false at (c.in_ok-advance.ensures.advances (g.R.Read.remaining c.args.reader) cells follows) in
+returns-clause-taken g c = λ known p start fits.
+    let (cells, follows, stands) = c.loop-turns.invariant.turns known p start fits in
+    let all = rw c.if-branch.false at (c.in_ok-advance.ensures.advances known cells follows) in
     (cells, all, stands)
