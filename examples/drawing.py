@@ -261,6 +261,11 @@ class Picture:
         spans = "".join(spanned(text, own) for text, own in pieces)
         self.write(spans, at, base, anchor=anchor, stroke="#ffffff", stroke_width=3, paint_order="stroke", **more)
 
+    def write_below(self, text, x, y):
+        """Writes below a line of the axis, or to its left where the picture ends."""
+        is_last = x + length_of(text, 10) / 2 > self.width
+        self.write(text, x, y, size=10, anchor="end" if is_last else "middle", color=GREY)
+
     def axes(self):
         frame, right = self.frame, self.across(self.frame.last)
         for at, line in enumerate(self.title):
@@ -269,10 +274,10 @@ class Picture:
         for time in range(frame.first, frame.last + 1, frame.space):
             x = self.across(time)
             self.add("line", x1=x, y1=self.above, x2=x, y2=self.floor, stroke="#e4e4e4", stroke_width=1)
-            self.write(frame.text_of(time), x, self.floor + 16, size=10, anchor="middle", color=GREY)
+            self.write_below(frame.text_of(time), x, self.floor + 16)
             if frame.day_of(time) != day:
                 day = frame.day_of(time)
-                self.write(day, x, self.floor + 30, size=10, anchor="middle", color=GREY)
+                self.write_below(day, x, self.floor + 30)
         self.add("line", x1=self.left, y1=self.floor, x2=right, y2=self.floor, stroke=GREY, stroke_width=1)
         self.write("event time", right, self.floor + 46, anchor="end", color=GREY)
         self.write("rows, as they arrive, upwards", 12, self.floor + 46, color=GREY)
