@@ -109,7 +109,7 @@ fn refusals_are_told_as_themselves(rt: HostRuntime) {
 #[test]
 fn the_version_is_told(rt: HostRuntime) -> Result<(), Fail> {
     let text = job(rt.alloc(), &["wsm", "--version"])?;
-    let want = "wsm 1.0.0 (kit 13f, commit 0000000000000000000000000000000000000000)\n";
+    let want = "wsm 1.1.0 (kit 13f, commit 0000000000000000000000000000000000000000)\n";
     assert_eq!(rt; text.as_str(), want);
     Ok(())
 }
