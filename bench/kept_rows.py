@@ -22,7 +22,7 @@ sys.dont_write_bytecode = True
 TOP = Path(__file__).resolve().parent.parent
 sys.path[:0] = [str(TOP / "trials"), str(TOP / "examples")]
 
-from kept_rows import Runs, Stopped, cut, events_of, kept, probe_of
+from kept_rows import Runs, Stopped, admitted_and_late, cut, events_of, kept
 from query_text import Query, Refused
 from random_queries import query_of, rows_of
 
@@ -59,8 +59,7 @@ class Case:
             if getattr(why, "status", 3) not in (3, 4):
                 raise
             return False
-        probed, _ = self.runs.turns(probe_of(self.text, self.query), self.rows)
-        self.events = list(events_of(self.query, self.rows, probed))
+        self.events = list(events_of(self.runs, self.text, self.query, self.rows)[0])
         self.written = [line for lines in self.turns for line in lines]
         return True
 
@@ -74,7 +73,7 @@ class Case:
 
     def admitted(self, at):
         """How many records were admitted before a row; none may be one too many."""
-        return int(self.runs.lines(self.text, self.rows[:at])[-1].split(b",")[2]) if self.query.records < len(self.rows) else 0
+        return admitted_and_late(self.runs.turns(self.text, self.rows[:at])[1])[0] if self.query.records < len(self.rows) else 0
 
     def try_row(self, at):
         """By the rule alone: from the rows before one those that must be kept."""

@@ -8,8 +8,10 @@ import subprocess
 import sys
 import tempfile
 import zlib
+from array import array
+from bisect import bisect_right
 from dataclasses import dataclass
-from itertools import accumulate, takewhile
+from itertools import accumulate
 from pathlib import Path
 
 sys.dont_write_bytecode = True
@@ -88,33 +90,74 @@ class Runs:
         self.program = str(program)
 
     def lines(self, text, rows):
-        """What a run writes, as lines."""
-        with tempfile.NamedTemporaryFile("w", suffix=".wsm", encoding="latin-1", newline="") as query:
+        """The lines that a run writes, as they come."""
+        with tempfile.NamedTemporaryFile("w", suffix=".wsm", encoding="latin-1", newline="") as query, tempfile.TemporaryFile() as file:
             query.write(text)
             query.flush()
-            words = [self.program, "run", query.name]
-            ran = subprocess.run(words, input=b"".join(b"%s\n" % row for row in rows), capture_output=True)
-        if ran.returncode:
-            raise Stopped(ran.stderr.decode("latin-1").strip() or f"{self.program} ended", ran.returncode)
-        return ran.stdout.split(b"\n")[:-1]
+            file.writelines(b"%s\n" % row for row in rows)
+            file.seek(0)
+            words, pipe = [self.program, "run", query.name], subprocess.PIPE
+            with subprocess.Popen(words, stdin=file, stdout=pipe, stderr=pipe) as process:
+                for line in process.stdout:
+                    yield line[:-1]
+                told = process.stderr.read().decode("latin-1").strip()
+            if process.returncode:
+                raise Stopped(told or f"{self.program} ended", process.returncode)
+
+    def each(self, text, rows):
+        """The number of a row from 0 and a line that a run writes for it; then the number of all rows and the end row."""
+        at, line = 0, b""
+        for line in self.lines(text, (one for row in rows for one in (row, SEPARATOR))):
+            if line.startswith(b"refused,"):
+                number = int(line[8:line.index(b",", 8)])
+                if number % 2 == 0:
+                    at += 1
+                    continue
+                line = b"refused,%d%s" % (number // 2 + 1, line[line.index(b",", 8):])
+            yield at, line
+        if not line.startswith(b"end,%d," % (2 * at)):
+            raise Stopped(f"the program ended its run with {line.decode('latin-1')} behind {at} rows")
 
     def turns(self, text, rows):
-        """The lines that a run writes for each row, and the counts of its end row."""
-        turns, mine = [], []
-        *lines, end = self.lines(text, (one for row in rows for one in (row, SEPARATOR)))
-        for line in lines:
-            if line.startswith(b"refused,"):
-                _, number, word = line.split(b",")
-                if int(number) % 2 == 0:
-                    turns.append(mine)
-                    mine = []
-                    continue
-                line = b"refused,%d,%s" % (int(number) // 2 + 1, word)
-            mine.append(line)
-        _, read, admitted, late, *_ = end.split(b",")
-        if len(turns) != len(rows) or int(read) != 2 * len(rows):
-            raise Stopped(f"the program read {read.decode()} rows where there are {2 * len(rows)}")
-        return turns, {"admitted": int(admitted), "late": int(late)}
+        """The lines that a run writes for each row, and its end row."""
+        turns = [[]]
+        for at, line in self.each(text, rows):
+            turns += [[] for _ in range(at + 1 - len(turns))]
+            turns[at].append(line)
+        (end,) = turns.pop()
+        return turns, end
+
+    def counts(self, text, rows, size):
+        """How many lines a run has written behind each row, and its end row."""
+        counts = array("q", bytes(8 * size))
+        for at, line in self.each(text, rows):
+            if at < size:
+                counts[at] += 1
+        return array("q", accumulate(counts)), line
+
+    def behind(self, text, rows, more):
+        """How many lines a run writes for some rows, and the lines for those behind them; and its end row."""
+        number, count, written, line = 0, None, [], b""
+
+        def counted():
+            nonlocal number
+            for row in rows:
+                number += 1
+                yield row
+            yield SEPARATOR
+            yield from more
+
+        for at, line in enumerate(self.lines(text, counted())):
+            if count is None and line.startswith(b"refused,%d," % (number + 1)):
+                count = at
+            elif count is not None and not line.startswith(b"refused,"):
+                written.append(line)
+        return count, written[:-1], line
+
+
+def admitted_and_late(end):
+    _, _, admitted, late, *_ = end.split(b",")
+    return int(admitted), int(late)
 
 
 def probe_of(text, query):
@@ -131,69 +174,102 @@ def probe_of(text, query):
     return f"{head}SELECT COUNT(*) {where} WINDOW {shape} DISCARDING EARLY EVERY 1 LATE EVERY 1 EMIT PANES;"
 
 
-def events_of(query, rows, turns):
-    """The selected records and the accepted watermarks: of each the row's number from 0, its tag, key or source, and time."""
-    for number, (row, lines) in enumerate(zip(rows, turns)):
-        if row.startswith(b"w,"):
-            if not lines:
+class Events:
+    """The selected records and the accepted watermarks of some rows, as the probe tells of them."""
+
+    def __init__(self, query, rows, told):
+        """What is told has of each row whether it wrote nothing, was refused or is a record that was selected."""
+        self.names, numbers = [], {}
+        self.rows, self.keys, self.times, self.tags = array("q"), array("H"), array("q"), bytearray()
+        for number, (row, word) in enumerate(zip(rows, told)):
+            if word == SELECTED:
+                _, name, time, *_ = row.split(b",", 3)
+            elif word == NOTHING and row.startswith(b"w,"):
                 cells = row.split(b",")
-                yield number, "w", cells[1] if query.sources else b"", int(cells[-1])
-        elif lines and not lines[0].startswith(b"refused,"):
-            _, key, time, *_ = row.split(b",", 3)
-            yield number, "r", key, int(time)
+                name, time = cells[1] if query.sources else b"", cells[-1]
+            else:
+                continue
+            if name not in numbers:
+                numbers[name] = len(self.names)
+                self.names.append(name)
+            self.rows.append(number)
+            self.keys.append(numbers[name])
+            self.times.append(int(time))
+            self.tags.append(word == SELECTED)
+
+    def __iter__(self):
+        """The number of the row, `r` or `w`, the key or the source, and the time."""
+        for number, name, time, is_record in zip(self.rows, self.keys, self.times, self.tags):
+            yield number, "r" if is_record else "w", self.names[name], time
+
+
+NOTHING, REFUSED, SELECTED = range(3)
+
+
+def verdicts_of(runs, text, query, rows, size):
+    """What the probe tells of each row, and its end row."""
+    told = bytearray(size)
+    for at, line in runs.each(probe_of(text, query), rows):
+        if at < size:
+            told[at] = REFUSED if line.startswith(b"refused,") else SELECTED
+    return told, line
+
+
+def events_of(runs, text, query, rows):
+    told, end = verdicts_of(runs, text, query, rows, len(rows))
+    return Events(query, rows, told), told, end
 
 
 # ---- which rows
 
-def live_records(query, events, mark):
-    """The numbers of the records that stand in a window that is live at a watermark."""
+def liveness(query, events, mark):
+    """Whether a record of a key and a time stands in a window that is live at a watermark."""
     def is_live(end):
         return end + query.lateness > mark
 
-    records = [(number, key, time) for number, tag, key, time in events if tag == "r"]
     if query.shape != "SESSION":
         # Of the windows of a time the last one ends last.
-        return {number for number, _, time in records if is_live(time // query.period * query.period + query.size)}
-    times = {}
-    for _, key, time in records:
-        times.setdefault(key, []).append(time)
-    begins = {}
+        return lambda key, time: is_live(time // query.period * query.period + query.size)
+    times, begins = {}, {}
+    for _, tag, key, time in events:
+        if tag == "r":
+            times.setdefault(key, array("q")).append(time)
     for key, mine in times.items():
-        mine.sort(reverse=True)
         start = None
-        if is_live(mine[0] + query.size):
-            for time in mine:  # back through live sessions, which are the last ones of a key
-                if start is not None and start - time >= query.size and not is_live(time + query.size):
-                    break
-                start = time
+        for time in sorted(mine, reverse=True):  # back through live sessions, which are the last ones of a key
+            if (start is None or start - time >= query.size) and not is_live(time + query.size):
+                break
+            start = time
         begins[key] = start
-    return {number for number, key, time in records if begins[key] is not None and time >= begins[key]}
+    return lambda key, time: begins[key] is not None and time >= begins[key]
 
 
 def kept(query, events, needs_record=False):
     """The numbers of the rows that must be kept, in their order; with a record among them, where one is needed."""
     marks = dict.fromkeys([name.encode() for name in query.sources] or [b""], query.start)
-    before, last_rise = query.start, 0
+    before, last_rise, last_record = query.start, 0, None
     for number, tag, source, time in events:
         if tag == "w":
             old = min(marks.values())
             marks[source] = time
             if min(marks.values()) > old:
                 before, last_rise = old, number
+        else:
+            last_record = number
     is_stream = query.form != "PANES"
-    live = live_records(query, events, before if is_stream else min(marks.values()))
-    if needs_record and not live:
-        records = [number for number, tag, _, _ in events if tag == "r"]
-        live = set(records[-1:])
+    is_live = liveness(query, events, before if is_stream else min(marks.values()))
+    if needs_record and not any(tag == "r" and is_live(key, time) for _, tag, key, time in events):
+        needed = last_record
+    else:
+        needed = None
     numbers, waiting = [], {}
-    for number, tag, source, time in events:
+    for number, tag, name, time in events:
         # Streams write what the relation has gained or lost since the last rise, so all stays as it was from there on.
-        stays = number in live or is_stream and number >= last_rise
-        if stays:
+        if number == needed or tag == "r" and is_live(name, time) or is_stream and number >= last_rise:
             numbers += [*sorted(waiting.values()), number]
             waiting = {}
         elif tag == "w":
-            waiting[source] = number
+            waiting[name] = number
     return numbers + sorted(waiting.values())
 
 
@@ -203,71 +279,72 @@ def beyond(query, events):
     """Watermarks of each source that come to the end of all that is held, by steps."""
     names = query.sources or [None]
     marks = dict.fromkeys([name.encode() for name in query.sources] or [b""], query.start)
-    marks.update((source, time) for _, tag, source, time in events if tag == "w")
+    latest = 0
+    for _, tag, source, time in events:
+        if tag == "w":
+            marks[source] = time
+        else:
+            latest = max(latest, time)
     mark = min(marks.values())
-    latest = max([mark, *(time for _, tag, _, time in events if tag == "r")])
-    span = latest - mark + 2 * query.size + query.lateness + 1
+    span = max(latest, mark) - mark + 2 * query.size + query.lateness + 1
     steps = min(span, WATERMARKS_BEYOND)
     times = [min(LATEST, mark + span * step // steps) for step in range(1, steps + 1)]
     return [",".join(["w", *([name] if name else []), str(time)]).encode() for time in times for name in names]
 
 
-def written(turns):
-    return [[line for line in lines if not line.startswith(b"refused,")] for lines in turns]
+def size_of_cut(head, rows, counts, taken, is_whole):
+    """How many rows may be cut: all of them, or as many as those whose lines were taken."""
+    if head.kept > len(rows):
+        raise Stopped(f"{head.kept} rows were kept, and {len(rows)} are there")
+    if head.kept and counts[head.kept - 1] != head.own:
+        raise Stopped(f"for the first {head.kept} rows {head.own} lines were written as they were kept, and {counts[head.kept - 1]} now")
+    if taken is None:
+        return len(rows)
+    mine, most = taken - head.lines + head.own, counts[-1] if counts else 0
+    if mine < head.own:
+        raise Stopped(f"{taken} lines were taken, and the rows that wrote line {taken + 1} are no longer there")
+    if mine > most and is_whole:
+        raise Stopped(f"{taken} lines were taken, and these rows write {taken - mine + most}: they are others")
+    return max(head.kept, bisect_right(counts, mine))
 
 
-def cut(runs, text, rows, taken=None):
-    """Cuts rows: all of them, or those alone whose lines were taken, of which there are so many in all.
+def cut(runs, text, rows, taken=None, is_whole=True):
+    """Cuts rows: all of them, or those alone whose lines were taken, of which there are so many in all. They are the
+    whole of a file, or its beginning.
 
     What a run writes behind the cut is compared: for watermarks that come to the end of all windows, after all rows
     and after those that are kept.
     """
     head = Head.of(rows[0] if rows else b"")
-    if head.kept > len(rows):
-        raise Stopped(f"{head.kept} rows were kept, and {len(rows)} are there")
-    turns, _ = runs.turns(text, rows)
+    counts, _ = runs.counts(text, rows, len(rows))
     query = Query(text)
     head.check(text)
-    counts = list(accumulate(map(len, turns)))
-    if head.kept and counts[head.kept - 1] != head.own:
-        raise Stopped(f"for the first {head.kept} rows {head.own} lines were written as they were kept, and {counts[head.kept - 1]} now")
-    size = len(rows)
-    if taken is not None:
-        mine = taken - head.lines + head.own
-        if mine < head.own:
-            raise Stopped(f"{taken} lines were taken, and the rows that wrote line {taken + 1} are no longer there")
-        if counts and mine > counts[-1] or not counts and mine:
-            raise Stopped(f"{taken} lines were taken, and these rows write {taken - mine + (counts or [0])[-1]}: they are others")
-        size = max(head.kept, sum(1 for _ in takewhile(lambda count: count <= mine, counts)))
+    size = size_of_cut(head, rows, counts, taken, is_whole)
     past, rest = rows[:size], rows[size:]
-    probed, verdicts = runs.turns(probe_of(text, query), past)
-    events = list(events_of(query, past, probed))
+    events, told, end = events_of(runs, text, query, past)
     more = beyond(query, events)
-    whole, told = runs.turns(text, past + more)
-    records = sum(tag == "r" for _, tag, _, _ in events)
-    if told["admitted"] != verdicts["admitted"] or told["late"] != verdicts["late"]:
-        raise Stopped(f"the program took {told['admitted']} records, and by its own verdicts {verdicts['admitted']}")
+    admitted, late = admitted_and_late(end)
+    lines, after_all, end = runs.behind(text, past, more)
+    if admitted_and_late(end) != (admitted, late):
+        raise Stopped(f"the program took {admitted_and_late(end)[0]} records, and by its own verdicts {admitted}")
     # RECORDS is at least 1, so where all are used up a record must be there that counts.
-    numbers = kept(query, events, needs_record=told["admitted"] == query.records)
-    stay = [past[number] for number in numbers]
-    again, counted = runs.turns(text, [TAG, *stay, *more])
+    stay = [past[number] for number in kept(query, events, needs_record=admitted == query.records)]
+    own, after_kept, end = runs.behind(text, [TAG, *stay], more)
     of_kept = sum(row.startswith(b"r") for row in stay)
-    if counted["admitted"] != of_kept or counted["late"] or any(line.startswith(b"refused,") for lines in again[1:len(stay) + 1] for line in lines):
-        raise Stopped(f"of {len(stay)} rows that were to be kept some would be refused")
-    if written(again[len(stay) + 1:]) != written(whole[len(past):]):
+    if admitted_and_late(end) != (of_kept, 0):
+        raise Stopped(f"of {of_kept} records that were to be kept {admitted_and_late(end)[0]} would be taken")
+    if after_kept != after_all:
         raise Stopped("what is to come wouldn't be the same")
-    own = sum(map(len, again[:len(stay) + 1]))
-    lines = head.lines + sum(map(len, turns[:size])) - head.own
-    left = query.records - told["admitted"] + of_kept
-    refused = sum(bool(lines) and lines[0].startswith(b"refused,") for lines in probed[bool(head.kept):])
+    records = sum(events.tags)
     told = {
         "rows": size - bool(head.kept), "records": of_kept, "watermarks": len(stay) - of_kept, "dropped": records - of_kept,
-        "left out": verdicts["admitted"] - records, "late": verdicts["late"], "refused": refused,
-        "watermarks before": len(events) - records - (len(stay) - of_kept), "behind": len(rest),
+        "left out": admitted - records, "late": late, "refused": told.count(REFUSED) - bool(head.kept),
+        "watermarks before": len(events.tags) - records - (len(stay) - of_kept), "behind": len(rest),
     }
     if told["rows"] != sum(count for name, count in told.items() if name not in ("rows", "behind")):
         raise Stopped(f"some rows would be lost: {told}")
-    return Cut(Head(head.rows + size - head.kept, lines, len(stay) + 1, own, left, sum_of(text)), stay, rest, told)
+    new = Head(head.rows + size - head.kept, head.lines + lines - head.own, len(stay) + 1, own, query.records - admitted + of_kept, sum_of(text))
+    return Cut(new, stay, rest, told)
 
 
 def whole_rows(data):
