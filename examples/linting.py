@@ -562,7 +562,7 @@ def listed(asked):
 COMMENTS = "There are no comments: take it out, or keep it in a file beside the query."
 WORDS = {
     "AVG MEAN AVERAGE": "There is no mean: write `SUM(n) / COUNT(*)`, a whole number, or 1000 times it for three more places.",
-    "AS ALIAS": "Columns have no names: leave it out. `wsm-show` writes a header, and `wsm-sink` takes names.",
+    "AS ALIAS": "Columns have no names: leave it out. examples/show (`wsm-show`) writes a header, and the sink takes names.",
     "GROUP BY": "There is no GROUP BY: panes are of a key, a record's second cell, and of a window. To group by more, join the names into one key.",
     "ORDER": "There is no ORDER BY: rows come in the order in which they fire. `sort` orders them.",
     "LIMIT TOP FETCH OFFSET": "There is no LIMIT: `head` takes the first rows.",
