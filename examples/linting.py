@@ -19,6 +19,7 @@ from query_text import AGGREGATES, BOOL, INT, KINDS, RESERVED, Query, Refused, T
 PAGE = Path(__file__).resolve().parent.parent / "docs/ERRORS.md"
 WIDEST = 100  # characters of a line that are shown
 CLAUSES = "KEYS FIELD SOURCES START SKEW LATENESS RECORDS BUDGET SELECT WHERE HAVING WINDOW EARLY LATE EMIT".split()
+PARTS = ("column", "where", "having")  # of which a rejection may be
 FUNCTIONS = ("COUNT(*)", *AGGREGATES)
 
 
@@ -374,6 +375,7 @@ class Linter:
         operation, *operands = operation_at(program, verifier, why.section, why.place)
         found.begin, found.end = operation.begin, operation.end
         found.sentences += [f"`{cut(self.source(one))}` lies in {low}..{high}." for one, (low, high) in operands if low < high]
+        part = next(name for name, (begin, end) in query.places.items() if name.split()[0] in PARTS and begin <= found.begin < end)
         if why.rule == "MayDivideByZero":
             self.on_division(found, query, why.section, operation, *operands)
         elif why.rule == "AccumulatorRange":
@@ -382,6 +384,7 @@ class Linter:
             found.sentences.insert(0, f"`{cut(self.source(operation))}` may leave {LEAST}..{GREATEST}, which are 64 bits.")
             found.sentences.append("Declare narrower fields or fewer RECORDS, or count in a coarser unit.")
             found.mends += self.narrower(query, operation)
+        found.sentences[0] = f"In {part}: {found.sentences[0]}"
         return found
 
     def narrower(self, query, operation):
