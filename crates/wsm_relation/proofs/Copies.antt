@@ -1,6 +1,6 @@
 -- The positive and the negative part of rows with their numbers, and the difference of bags.
 use Rattle.std.proofs.Common.{◌≡◌, ℕ, zero, suc, ◌+◌, ◌-◌, true, false, cond, List, [], ◌∷◌, ◌++◌, map, length, replicate, refl, sym, ap, ◌∙◌, inl, inr, arith}
-use Rattle.std.specs.Prelude.{ℤ, pos, negsuc, ◌-ℤ◌, int_lt, unsigned_abs}
+use Rattle.std.specs.Prelude.{ℤ, pos, negsuc, ◌-ℤ◌}
 use Rattle.std.specs.List.{AllByRecursion}
 use Rattle.std.specs.declared.cmp.Ordering.TheVariants.{Less}
 use Rattle.std.specs.Ordering.{is_gt, is_eq}
@@ -102,22 +102,6 @@ gained-less (negsuc n) a b h = omega (arith, ints)
 lost-less : (z : ℤ) (a b : ℕ) → z ≡ pos a -ℤ pos b → lost z ≡ b - a
 lost-less (pos n) a b h = omega (arith, ints)
 lost-less (negsuc n) a b h = omega (arith, ints)
-
-pub gained-abs : (z : ℤ) → int_lt (pos 0) z ≡ true → unsigned_abs z ≡ gained z
-gained-abs (pos n) h = refl
-gained-abs (negsuc n) h = absurd (cc)
-
-pub gained-none : (z : ℤ) → int_lt (pos 0) z ≡ false → gained z ≡ 0
-gained-none (pos n) h = grind (arith, ints)
-gained-none (negsuc n) h = refl
-
-pub lost-abs : (z : ℤ) → int_lt z (pos 0) ≡ true → unsigned_abs z ≡ lost z
-lost-abs (pos n) h = grind (arith, ints)
-lost-abs (negsuc n) h = refl
-
-pub lost-none : (z : ℤ) → int_lt z (pos 0) ≡ false → lost z ≡ 0
-lost-none (pos n) h = refl
-lost-none (negsuc n) h = absurd (cc)
 
 module _ (before now : List (List Cell)) (es : List Entry) (delta : IsDelta es) (change : IsChange before now es) where
   -- the positive part is what is there more often than before

@@ -2,14 +2,13 @@
 use Rattle.std.proofs.Common.{◌≡◌, ℕ, zero, suc, ◌+◌, ◌-◌, ◌≤◌, Bool, true, false, cond, List, [], ◌∷◌, ◌++◌, length, refl, sym, ap, ◌∙◌, inl, inr, arith}
 use Rattle.std.specs.Prelude.{ℤ, pos, negsuc, ◌+ℤ◌, ◌-ℤ◌, ◌≤ℤ◌}
 use Rattle.std.specs.Ordering.{is_gt, is_eq, int_eq}
-use Rattle.std.specs.Cmp.{tied_itself}
 use Rattle.std.proofs.lemmas.Bool.{cases_Bool}
 use Rattle.std.proofs.lemmas.Int.{ints}
 use Rattle.wsm_record.specs.declared.cell.Cell.{Cell}
 use Rattle.wsm_semantics.specs.Relation.{row_cmp, without_one, sorted_rows, difference}
 use Rattle.wsm_semantics.specs.RowCounts.{IsInOrder, count_of}
-use Rattle.wsm_semantics.proofs.RowOrder.{rows_total, untied}
-use Rattle.wsm_semantics.proofs.RowBags.{once, one_if, count-append, count-sorted_rows, count-difference, sorted_rows-in_order, one_list}
+use Rattle.wsm_semantics.proofs.RowOrder.{untied}
+use Rattle.wsm_semantics.proofs.RowBags.{once, count-append, count-sorted_rows, count-difference, sorted_rows-in_order, one_list}
 use Rattle.wsm_relation.specs.Delta.{IsDelta, IsChange, number_of, shifted, gained, lost, gains, losses, undone}
 use Rattle.wsm_semantics.proofs.RowsBound.{length-sorted_rows}
 use Rattle.wsm_relation.proofs.Numbers.{Entry, number-shifted}
@@ -34,9 +33,6 @@ length-without r (x ∷ xs) = elim (is_eq (row_cmp r x)) as (λ b. length (cond 
 pub length-difference : (rows others : List (List Cell)) → length (difference rows others) ≤ length rows
 length-difference rows [] = omega arith
 length-difference rows (x ∷ xs) = omega (arith, length-difference (without_one x rows) xs, length-without x rows)
-
-pub once_itself : (r : List Cell) → once r r ≡ 1
-once_itself r = ap (λ o. one_if (is_eq o)) (tied_itself rows_total r)
 
 -- ---- how many rows have a number
 
