@@ -9,4 +9,5 @@ pub mod Netted
 pub mod Summing
 pub mod Merging
 pub mod Settled
+pub mod SettledChanges
 pub mod ToldChanges
