@@ -166,14 +166,8 @@ module _ {X : Type 0} (plan : Plan X) (lawful : IsLawful plan) (q : Query) (runs
 
 -- ---- a watermark right before another
 
-later_dead : (m n end l : ℤ) → m ≤ℤ n → int_lt m (end +ℤ l) ≡ false → int_lt n (end +ℤ l) ≡ false
-later_dead m n end l h k = grind (arith, ints)
-
 live_before : (m n end l : ℤ) → m ≤ℤ n → int_lt n (end +ℤ l) ≡ true → int_lt m (end +ℤ l) ≡ true
 live_before m n end l h k = grind (arith, ints)
-
-not_final : (m n end l : ℤ) → int_lt n (end +ℤ l) ≡ true → (int_lt m (end +ℤ l) && int_le (end +ℤ l) n) ≡ false
-not_final m n end l h = grind (arith, ints)
 
 not_final_before : (m n o end l : ℤ) → n ≤ℤ o → int_lt o (end +ℤ l) ≡ true → (int_lt m (end +ℤ l) && int_le (end +ℤ l) n) ≡ false
 not_final_before m n o end l k h = grind (arith, ints)
