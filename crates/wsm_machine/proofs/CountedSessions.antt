@@ -1,6 +1,6 @@
 -- What the cost of a record counts of sessions is what it counts of the panes that are held.
-use Rattle.std.proofs.Common.{◌≡◌, ℕ, zero, suc, ◌≤◌, cond, true, false, List, ◌∷◌, length, ℤ, Option, Some, None, IsTrue, refl, sym, ap, ◌∙◌, arith}
-use Rattle.std.specs.Prelude.{is_none, nat_eq, nat_lt}
+use Rattle.std.proofs.Common.{◌≡◌, ℕ, zero, suc, ◌≤◌, cond, true, false, List, ◌∷◌, length, ℤ, Some, IsTrue, refl, sym, ap, ◌∙◌, arith}
+use Rattle.std.specs.Prelude.{nat_eq, nat_lt}
 use Rattle.wsm_record.specs.declared.event.Value.{Value}
 use Rattle.wsm_record.specs.Event.{Event, Record}
 use Rattle.wsm_windows.specs.declared.window.Shape.{Shape}
@@ -12,9 +12,9 @@ use Rattle.wsm_semantics.specs.Query.{Query, Datum, SessionsByEvent, mark, verdi
 use Rattle.wsm_semantics.specs.Panes.{windows_among}
 use Rattle.wsm_semantics.specs.Kept.{kept}
 use Rattle.wsm_semantics.specs.Replay.{datum}
+use Rattle.wsm_semantics.proofs.Decided.{none_is}
 use Rattle.wsm_semantics.proofs.OneSession.{stands_in_one, as_many_linked}
 use Rattle.wsm_admission.specs.declared.clock.LateBy.{LateBy}
-use Rattle.wsm_admission.specs.declared.verdict.Refusal.{Refusal}
 use Rattle.wsm_admission.specs.declared.clock.LateBy.TheVariants as late_by
 use Rattle.wsm_program.specs.Program.{Program, is_program, is_late_by as is_late_by_own}
 use Rattle.wsm_program.proofs.Lawful.{header_parts, program_header}
@@ -22,10 +22,6 @@ use Rattle.std.proofs.lemmas.Bool.{and_parts}
 use Rattle.std.proofs.lemmas.Bool.Decides.{nat_tests}
 use Rattle.wsm_rules.proofs.Lawful.{lawful}
 use Rattle.wsm_machine.specs.Meaning.{query_of, joins_two, joins_kept, windows_entered, CountsSessions}
-
-accepted : (v : Option Refusal) → is_none v ≡ true → v ≡ None
-accepted None h = refl
-accepted (Some r) h = absurd (cc)
 
 stands_once : (sh : Shape) → IsShape sh → (lateness : ℤ) (ds : List Datum) (d : Datum) → length (windows_among sh lateness (d ∷ ds) d) ≡ windows_entered sh d.time lateness d.mark
 stands_once (Fixed size) ok lateness ds d = refl
@@ -66,4 +62,4 @@ counts_sessions p whole = record {
   in_time : (past : List Event) (key : ℕ) (time : ℤ) (values : List Value) → is_taken (query_of p) past (Record (Some key) time values) ≡ true → is_late (query_of p).clock (mark (query_of p) past) time ≡ false
   in_time past key time values taken =
       (taken_record (query_of p).clock p.header.schema (mark (query_of p) past) (admitted_count (query_of p).clock p.header.schema past) (Some key) time values
-      (accepted (verdict_on (query_of p) past (Record (Some key) time values)) taken)).prompt
+      (none_is (verdict_on (query_of p) past (Record (Some key) time values)) taken)).prompt

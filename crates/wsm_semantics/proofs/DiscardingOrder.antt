@@ -17,6 +17,7 @@ use Rattle.wsm_semantics.specs.Query.{Datum, datum, Query, mark, selected}
 use Rattle.wsm_semantics.specs.Panes.{contents, panes}
 use Rattle.wsm_semantics.specs.Firings.{firings, firing_set, is_enough, is_shown, kind_on, shows, holds}
 use Rattle.wsm_semantics.specs.Order.{Permuted}
+use Rattle.wsm_semantics.proofs.Decided.{less_from}
 use Rattle.wsm_semantics.proofs.Assigned.{IsAssigned}
 use Rattle.wsm_semantics.proofs.Each.{all_of, all-any, list_any-none}
 use Rattle.wsm_semantics.proofs.AssignedTurns.{same_shown}
@@ -26,9 +27,6 @@ use Rattle.wsm_semantics.proofs.PanesOrder.{same_contents}
 use Rattle.wsm_semantics.proofs.ReorderedHistories.{same_mark}
 use Rattle.wsm_semantics.proofs.OnTimeOrder.{FiresSame, same_selected}
 use Rattle.wsm_semantics.proofs.ReorderedRecords.{Shuffled}
-
-sooner : (old new end : ℤ) → old ≤ℤ new → int_lt new end ≡ true → int_lt old end ≡ true
-sooner old new end h k = grind (arith, ints)
 
 ended_later : (t end : ℤ) → int_lt t end ≡ true → int_le end t ≡ false
 ended_later t end h = grind (arith, ints)
@@ -64,7 +62,7 @@ module _ (q : Query) (low : pos 0 ≤ℤ q.clock.lateness) (none : q.early ≡ 0
       (ended_later new p.end h) (dropped_later new p.end q.clock.lateness low h) (nat_lt 0 (length (firing_set q.mode all unshown))) (nat_lt 0 (length unshown))
 
   before_it : (past : List Event) (e : Event) (end : ℤ) → int_lt (mark q (e ∷ past)) end ≡ true → int_lt (mark q past) end ≡ true
-  before_it past e end h = sooner (mark q past) (mark q (e ∷ past)) end (watermark_rises q.clock past e) h
+  before_it past e end h = less_from (mark q past) (mark q (e ∷ past)) end (watermark_rises q.clock past e) h
 
   module _ (assigned : IsAssigned q.shape) where
     -- until the watermark comes to its end, nothing shows a pane's records

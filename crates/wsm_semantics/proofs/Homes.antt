@@ -3,7 +3,7 @@
 use Rattle.std.proofs.Common.{◌≡◌, Bool, true, ◌&&◌, ◌||◌, List, [], ◌∷◌, ℤ, pos, ◌≤ℤ◌, ◌<ℤ◌, Some, refl, sym, ap, subst, ◌∙◌, arith}
 use Rattle.std.proofs.lemmas.Int.{ints}
 use Rattle.std.proofs.lemmas.Bool.{and_parts, and_from}
-use Rattle.std.specs.Prelude.{filter, int_le, int_lt}
+use Rattle.std.specs.Prelude.{filter}
 use Rattle.std.specs.List.{AllByRecursion, list_any}
 use Rattle.wsm_record.specs.Event.{Event}
 use Rattle.wsm_windows.specs.declared.window.Shape.{Shape}
@@ -16,6 +16,7 @@ use Rattle.wsm_semantics.specs.Query.{Datum, Query, SessionsByEvent, datum, sele
 use Rattle.wsm_semantics.specs.Panes.{is_there, places, contents, panes}
 use Rattle.wsm_semantics.specs.Firings.{Firing, firings, firings_so_far, holds, is_shown, shows}
 use Rattle.wsm_semantics.proofs.Lists.{filter-all, all-each}
+use Rattle.wsm_semantics.proofs.Decided.{inside_itself}
 use Rattle.wsm_semantics.proofs.Tables.{among}
 use Rattle.wsm_semantics.proofs.Each.{itself, and_of, passed, all-any, all-append, all-both, all-swap, filter_map-all, list_any-append, list_any-each, list_any-filter, some_of}
 use Rattle.wsm_semantics.proofs.Turns.{inside_there}
@@ -43,9 +44,6 @@ shown_by_all q (e ∷ past) p d =
     let t : Firing → Bool = λ f. shows q.shape p f.place && holds d f.contents in
     ap (λ (b : Bool). b || list_any t (firings q past e)) (shown_by_all q past p d)
     ∙ sym (list_any-append t (firings_so_far q past) (firings q past e))
-
-inside_itself : (start end : ℤ) → start <ℤ end → (int_le start start && int_lt start end) ≡ true
-inside_itself start end h = grind (arith, ints)
 
 between : (start t end : ℤ) → start ≤ℤ t → t <ℤ end → start <ℤ end
 between start t end h k = omega (arith, ints)

@@ -1,7 +1,7 @@
 -- The turns of a part of a history, and its selected records: those of the whole for its keys, at their
 -- turns there.
 use Rattle.std.proofs.Common.{◌≡◌, ℕ, suc, ◌+◌, ◌<◌, Bool, true, false, ◌&&◌, ◌||◌, cond, List, [], ◌∷◌, ◌++◌, map, length, Some, None, refl, sym, ap, subst, ◌∙◌, arith}
-use Rattle.std.proofs.lemmas.Bool.{true≢false}
+use Rattle.std.proofs.lemmas.Bool.{true≢false, lt-ltb}
 use Rattle.std.proofs.lemmas.Bool.Decides.{nat_tests}
 use Rattle.std.proofs.lemmas.List.{map-append}
 use Rattle.std.proofs.Math.Bool.{or-true}
@@ -9,6 +9,7 @@ use Rattle.std.specs.Prelude.{filter, int_lt, is_none, nat_eq, nat_lt}
 use Rattle.wsm_record.specs.Event.{Event, Record, Watermark}
 use Rattle.wsm_semantics.specs.Query.{Datum, Query, datum, mark, raises, is_taken, Selects, Rises, Nothing, effect_of, selected, selection, selection_of}
 use Rattle.wsm_semantics.specs.ByKey.{Keys, is_of, of_keys, HasRoom, turn_of, at_turn}
+use Rattle.wsm_semantics.proofs.Decided.{fewer_than, no_fewer_than}
 use Rattle.wsm_semantics.proofs.Each.{itself, same_key, same_answers, filter-append}
 use Rattle.wsm_semantics.proofs.Effects.{effect_with, selection-with, selects-with, rises-with, selects_none}
 use Rattle.wsm_semantics.proofs.KeyParts.{mark_of_part, verdict_of_part}
@@ -34,9 +35,6 @@ module _ (f : ℕ → ℕ) (rises : IsRising f) where
 -- ---- the turns of a part
 
 module _ (keys : Keys) where
-  sooner : (m n l : ℕ) → m < n → nat_lt n l ≡ true → nat_lt m l ≡ true
-  sooner m n l h k = grind (arith, nat_tests)
-
   one_later : (x y : ℕ) → x < y → (here m n : Bool) → (n ≡ true → m ≡ true) → cond (here || m) x (suc x) < cond (here || n) y (suc y)
   one_later x y h true m n k = h
   one_later x y h false true true k = h
@@ -48,10 +46,7 @@ module _ (keys : Keys) where
   rising-turn_of [] m n h = h
   rising-turn_of (e ∷ past) m n h =
       let l : ℕ = length (of_keys keys past) in
-      one_later (turn_of keys past m) (turn_of keys past n) (rising-turn_of past m n h) (is_of keys e) (nat_lt m l) (nat_lt n l) (sooner m n l h)
-
-  not_before : (l k : ℕ) → nat_lt (l + k) l ≡ false
-  not_before l k = grind (arith, nat_tests)
+      one_later (turn_of keys past m) (turn_of keys past n) (rising-turn_of past m n h) (is_of keys e) (nat_lt m l) (nat_lt n l) (fewer_than m n l h)
 
   -- what comes after the part comes after the whole
   past_end : (past : List Event) (k : ℕ) → turn_of keys past (length (of_keys keys past) + k) ≡ length past + k
@@ -64,7 +59,7 @@ module _ (keys : Keys) where
       elim (is_of keys e) as (λ b. (let m = turn_of keys past (length (cond b (e ∷ of_keys keys past) (of_keys keys past)) + k) in
       cond (b || nat_lt (length (cond b (e ∷ of_keys keys past) (of_keys keys past)) + k) l) m (suc m)) ≡ suc (length past) + k) [
         | true ↦ ap (turn_of keys past) part_moved ∙ past_end past (suc k) ∙ sym whole_moved
-        | false ↦ ap (λ (b : Bool). cond b (turn_of keys past (l + k)) (suc (turn_of keys past (l + k)))) (not_before l k) ∙ ap suc (past_end past k) ∙ sym (let i : suc (length past) + k ≡ suc (length past + k) = omega arith in i)
+        | false ↦ ap (λ (b : Bool). cond b (turn_of keys past (l + k)) (suc (turn_of keys past (l + k)))) (no_fewer_than l k) ∙ ap suc (past_end past k) ∙ sym (let i : suc (length past) + k ≡ suc (length past + k) = omega arith in i)
       ]
 
   -- each event of the part has its turn in the whole
@@ -89,9 +84,6 @@ module _ (keys : Keys) where
             | false ↦ less
           ]
 
-  is_before : (n l : ℕ) → n < l → nat_lt n l ≡ true
-  is_before n l h = grind (arith, nat_tests)
-
   plus_none : (n : ℕ) → n + 0 ≡ n
   plus_none n = omega arith
 
@@ -103,7 +95,7 @@ module _ (keys : Keys) where
             ap (λ (b : Bool). cond (b || nat_lt l l) (turn_of keys past l) (suc (turn_of keys past l))) here
             ∙ ap (turn_of keys past) (sym (plus_none l)) ∙ past_end past 0 ∙ plus_none (length past),
         agreeing (turn_of keys (e ∷ past)) (turn_of keys past) past
-            (λ n less. ap (λ (b : Bool). cond (is_of keys e || b) (turn_of keys past n) (suc (turn_of keys past n))) (is_before n l less)
+            (λ n less. ap (λ (b : Bool). cond (is_of keys e || b) (turn_of keys past n) (suc (turn_of keys past n))) (lt-ltb n l less)
             ∙ ap (λ (b : Bool). cond b (turn_of keys past n) (suc (turn_of keys past n))) (or-true (is_of keys e)))
             (are_turns past),
       )

@@ -22,6 +22,7 @@ use Rattle.wsm_semantics.specs.Panes.{of_key, is_there, is_live_at, panes, held}
 use Rattle.wsm_semantics.specs.ByKey.{pane_at}
 use Rattle.wsm_semantics.specs.FromWatermark.{begun_at, Step, Times, whole, rest, LeavesOut, BeginAlike, begins_after, is_after, is_beyond, is_beside, PartsNoSession}
 use Rattle.wsm_semantics.proofs.Lists.{all-each, filter_within}
+use Rattle.wsm_semantics.proofs.Decided.{less_than, less_up_to}
 use Rattle.wsm_semantics.proofs.Tables.{among, find-with_contents, is_sorted-with_contents}
 use Rattle.wsm_semantics.proofs.Each.{same_key, passed, filter-each, filter_swap, filter-map, list_any-append}
 use Rattle.wsm_semantics.proofs.Turns.{inside_there}
@@ -57,16 +58,10 @@ after_lates q ok x = record {
   later = λ p r h key later. ap (λ (k : ℕ). begins_after q.shape (x k) r.start) (sym key) ∙ begins_later q.shape (x p.key) p.start r.start h later;
 }
 
-is_past_it : (x start : ℤ) → int_lt x start ≡ true → x <ℤ start
-is_past_it x start h = grind (arith, ints)
-
-still_past : (x start after : ℤ) → int_lt x start ≡ true → start ≤ℤ after → int_lt x after ≡ true
-still_past x start after h k = grind (arith, ints)
-
 pub beyond_lates : (x : Times) → Lates x (is_beyond x)
 beyond_lates x = record {
-  past = λ p h. is_past_it (x p.key) p.start h;
-  later = λ p r h key later. ap (λ (k : ℕ). int_lt (x k) r.start) (sym key) ∙ still_past (x p.key) p.start r.start h later;
+  past = λ p h. less_than (x p.key) p.start h;
+  later = λ p r h key later. ap (λ (k : ℕ). int_lt (x k) r.start) (sym key) ∙ less_up_to (x p.key) p.start r.start h later;
 }
 
 past_it : (x start t : ℤ) → x <ℤ start → start ≤ℤ t → int_lt x t ≡ true

@@ -1,10 +1,11 @@
 -- Where a time parts no session of a history, it parts none of one that lacks some of its records.
-use Rattle.std.proofs.Common.{◌≡◌, ℕ, true, false, ◌&&◌, cond, List, [], ◌∷◌, ◌++◌, map, length, ℤ, pos, ◌+ℤ◌, ◌-ℤ◌, ◌≤ℤ◌, ◌⊎◌, inl, inr, Some, None, refl, sym, ap, subst, ◌∙◌, ⊎_elim, append_assoc, arith, Bool, ◌||◌}
+use Rattle.std.proofs.Common.{◌≡◌, ℕ, true, false, ◌&&◌, cond, List, [], ◌∷◌, ◌++◌, map, length, ℤ, pos, ◌+ℤ◌, ◌-ℤ◌, ◌≤ℤ◌, ◌⊎◌, inl, inr, Some, None, refl, sym, ap, subst, ◌∙◌, ⊎_elim, append_assoc, arith}
 use Rattle.std.proofs.lemmas.Int.{ints}
-use Rattle.std.proofs.lemmas.Bool.{true≢false, or_cases, or_left, or_right}
+use Rattle.std.proofs.lemmas.Bool.{or_cases, or_left, or_right}
 use Rattle.std.proofs.lemmas.List.{map-append}
 use Rattle.std.specs.Prelude.{filter, int_le, int_lt, nat_eq}
 use Rattle.std.specs.List.{AllByRecursion}
+use Rattle.wsm_record.proofs.Lists.{or_left as not_left}
 use Rattle.wsm_record.specs.declared.event.Value.{Value}
 use Rattle.wsm_record.specs.Event.{Event, Record}
 use Rattle.wsm_windows.specs.Windows.{IsShape, last_start, first_start}
@@ -17,6 +18,7 @@ use Rattle.wsm_semantics.specs.Panes.{of_key}
 use Rattle.wsm_semantics.specs.ByKey.{at_turn}
 use Rattle.wsm_semantics.specs.FromWatermark.{begun_at, Step, Stays, Goes, Times, whole, rest, LeavesOut, BeginAlike, is_beside, PartsNoSession, last_end, IsSettled, unparted_time, dropped_time, dropped_times}
 use Rattle.wsm_semantics.proofs.Lists.{filter-all, all-each}
+use Rattle.wsm_semantics.proofs.Decided.{less_from}
 use Rattle.wsm_semantics.proofs.Each.{passed, all-append, all-both, map-map, filter-map, filter-append}
 use Rattle.wsm_semantics.proofs.Effects.{by_effect, selection-with}
 use Rattle.wsm_semantics.proofs.Sessions.{StartFrom, AreApart, starts_no_sooner, sessions-more, sessions_apart}
@@ -152,9 +154,6 @@ no_later t start h = grind (arith, ints)
 begins_past : (x start after : ℤ) → x ≡ start -ℤ pos 1 → start ≤ℤ after → int_lt x after ≡ true
 begins_past x start after is h = grind (arith, ints)
 
-begins_over : (x t start : ℤ) → x ≤ℤ t → int_lt t start ≡ true → int_lt x start ≡ true
-begins_over x t start h k = grind (arith, ints)
-
 ends_over : (gap x end : ℤ) → pos 1 ≤ℤ gap → end ≤ℤ (x +ℤ pos 1) → int_le end (x +ℤ gap) ≡ true
 ends_over gap x end long h = grind (arith, ints)
 
@@ -163,10 +162,6 @@ right_before y x start is h = omega (arith, ints)
 
 after_end : (start gap end after : ℤ) → pos 1 ≤ℤ gap → (start +ℤ gap) ≤ℤ end → end ≤ℤ after → start ≤ℤ after
 after_end start gap end after long lasts h = omega (arith, ints)
-
-not_first : (a b : Bool) → (a || b) ≡ false → a ≡ false
-not_first false b h = refl
-not_first true b h = absurd (true≢false h)
 
 module _ (gap : ℤ) (long : pos 1 ≤ℤ gap) (t : ℤ) where
   abbrev x : List Window → ℤ
@@ -177,7 +172,7 @@ module _ (gap : ℤ) (long : pos 1 ≤ℤ gap) (t : ℤ) where
   no_later_than (w ∷ ws) =
       elim (is_beside gap t w) as (λ b. is_beside gap t w ≡ b → cond b (x ws) (w.start -ℤ pos 1) ≤ℤ t) [
         | true ↦ λ _. no_later_than ws
-        | false ↦ λ parted. no_later t w.start (not_first (int_lt t w.start) (int_le w.end (t +ℤ gap)) parted)
+        | false ↦ λ parted. no_later t w.start (not_left (int_lt t w.start) (int_le w.end (t +ℤ gap)) parted)
       ] refl
 
   -- it is the time, or right before one of the sessions
@@ -192,7 +187,7 @@ module _ (gap : ℤ) (long : pos 1 ≤ℤ gap) (t : ℤ) where
   still_apart : (w : Window) (ws : List Window) → StartFrom w.end ws → is_beside gap t w ≡ true → is_beside gap (x ws) w ≡ true
   still_apart w ws from beside =
       ⊎_elim
-      (λ begins. or_left (int_lt (x ws) w.start) (int_le w.end (x ws +ℤ gap)) (begins_over (x ws) t w.start (no_later_than ws) begins))
+      (λ begins. or_left (int_lt (x ws) w.start) (int_le w.end (x ws +ℤ gap)) (less_from (x ws) t w.start (no_later_than ws) begins))
       (λ ended. ⊎_elim
       (λ same. or_right (int_lt (x ws) w.start) (int_le w.end (x ws +ℤ gap)) (ap (λ (s : ℤ). int_le w.end (s +ℤ gap)) same ∙ ended))
       (λ before. or_right (int_lt (x ws) w.start) (int_le w.end (x ws +ℤ gap)) (ends_over gap (x ws) w.end long before))

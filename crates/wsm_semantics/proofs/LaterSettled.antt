@@ -27,6 +27,7 @@ use Rattle.wsm_semantics.specs.Relation.{sorted_rows, relation, relation_at, str
 use Rattle.wsm_semantics.specs.ByKey.{IgnoresTurns, at_turn, pane_at, firing_at}
 use Rattle.wsm_semantics.specs.FromWatermark.{begun_at, Step, Stays, Times, whole, rest, BeginAlike, begins_after, is_after, is_beyond, is_beside, PartsNoSession, HasNoSessions, last_end, IsSettled, SameOnceSettled}
 use Rattle.wsm_semantics.proofs.Lists.{filter-all, all-each, filter_same}
+use Rattle.wsm_semantics.proofs.Decided.{no_less}
 use Rattle.wsm_semantics.proofs.Tables.{among}
 use Rattle.wsm_semantics.proofs.Assigned.{IsAssigned}
 use Rattle.wsm_semantics.proofs.AssignedStep.{grid_of}
@@ -55,9 +56,6 @@ use Rattle.wsm_semantics.proofs.LaterFirings.{is_late, Serves, all_alike, firing
 
 -- ---- windows that are live then
 
-no_sooner_than : (x start : ℤ) → int_lt x start ≡ false → start ≤ℤ x
-no_sooner_than x start h = grind (arith, ints)
-
 ended_then : (last size l m start end : ℤ) → end ≡ start +ℤ size → start ≤ℤ last → ((last +ℤ size) +ℤ l) ≤ℤ m → int_lt m (end +ℤ l) ≡ true → ⊥
 ended_then last size l m start end is by settled live = grind (arith, ints)
 
@@ -66,7 +64,7 @@ begins period k x size l m start end long on is settled live =
     elim (int_lt x start) as (λ b. int_lt x start ≡ b → b ≡ true) [
       | true ↦ λ _. refl
       | false ↦ λ sooner.
-          let by : start ≤ℤ last_start period x = subst (λ (s : ℤ). s ≤ℤ last_start period x) (sym on) (begins_by period k x long (subst (λ (s : ℤ). s ≤ℤ x) on (no_sooner_than x start sooner))) in
+          let by : start ≤ℤ last_start period x = subst (λ (s : ℤ). s ≤ℤ last_start period x) (sym on) (begins_by period k x long (subst (λ (s : ℤ). s ≤ℤ x) on (no_less x start sooner))) in
           absurd (ended_then (last_start period x) size l m start end is by settled live)
     ] refl
 

@@ -1,9 +1,7 @@
 -- The turns of a history that lacks some records of another, and the selected records of both that come after
 -- the times of these: the same, at other turns.
 use Rattle.std.proofs.Common.{◌≡◌, ℕ, suc, ◌+◌, ◌<◌, Bool, true, false, ◌&&◌, cond, List, [], ◌∷◌, ◌++◌, map, length, ℤ, ◌≤ℤ◌, Some, None, refl, sym, ap, ◌∙◌, arith}
-use Rattle.std.proofs.lemmas.Int.{ints}
-use Rattle.std.proofs.lemmas.Bool.{true≢false}
-use Rattle.std.proofs.lemmas.Bool.Decides.{nat_tests}
+use Rattle.std.proofs.lemmas.Bool.{true≢false, lt-ltb}
 use Rattle.std.proofs.lemmas.List.{map-append}
 use Rattle.std.specs.Prelude.{filter, int_lt, nat_lt}
 use Rattle.std.specs.List.{AllByRecursion}
@@ -12,6 +10,7 @@ use Rattle.wsm_semantics.specs.Query.{Datum, Query, datum, mark, is_taken, Effec
 use Rattle.wsm_semantics.specs.ByKey.{at_turn}
 use Rattle.wsm_semantics.specs.FromWatermark.{begun_at, Step, Stays, Goes, whole, rest, Times, IsRecordUpTo, LeavesOut, turn_in, BeginAlike, BothHaveRoom}
 use Rattle.wsm_semantics.proofs.Lists.{all-each}
+use Rattle.wsm_semantics.proofs.Decided.{not_less, fewer_than, no_fewer_than}
 use Rattle.wsm_semantics.proofs.Each.{none_of, filter-map, filter-append}
 use Rattle.wsm_semantics.proofs.Effects.{effect_with, selection-with}
 use Rattle.wsm_semantics.proofs.KeyTurns.{IsRising}
@@ -22,9 +21,6 @@ use Rattle.wsm_semantics.proofs.LaterMarks.{effect_alike, marks_of_steps, verdic
 module _ (older other : List Event) (longer : ℕ) where
   abbrev pub turn : List Step → ℕ → ℕ
   turn steps = turn_in steps other longer
-
-  sooner : (m n l : ℕ) → m < n → nat_lt n l ≡ true → nat_lt m l ≡ true
-  sooner m n l h k = grind (arith, nat_tests)
 
   one_later : (y z : ℕ) → y < z → (m n : Bool) → (n ≡ true → m ≡ true) → cond m y (suc y) < cond n z (suc z)
   one_later y z h true true k = h
@@ -37,7 +33,7 @@ module _ (older other : List Event) (longer : ℕ) where
   rising-turn (Stays e ∷ steps) m n h = rising-turn steps m n h
   rising-turn (Goes e ∷ steps) m n h =
       let l : ℕ = length (rest steps other) in
-      one_later (turn steps m) (turn steps n) (rising-turn steps m n h) (nat_lt m l) (nat_lt n l) (sooner m n l h)
+      one_later (turn steps m) (turn steps n) (rising-turn steps m n h) (nat_lt m l) (nat_lt n l) (fewer_than m n l h)
 
   -- each event that both have has its turn in the first
   abbrev pub AreTurns : (ℕ → ℕ) → List Step → Type 0
@@ -46,9 +42,6 @@ module _ (older other : List Event) (longer : ℕ) where
   AreTurns f (Goes e ∷ steps) = AreTurns f steps
 
   module _ (turns : length older ≡ length other + longer) where
-    not_before : (l k : ℕ) → nat_lt (l + k) l ≡ false
-    not_before l k = grind (arith, nat_tests)
-
     -- what comes after the one comes after the other
     past_end : (steps : List Step) (k : ℕ) → turn steps (length (rest steps other) + k) ≡ length (whole steps older) + k
     past_end [] k = omega (arith, turns)
@@ -61,7 +54,7 @@ module _ (older other : List Event) (longer : ℕ) where
     past_end (Goes e ∷ steps) k =
         let l : ℕ = length (rest steps other) in
         let n : ℕ = length (whole steps older) in
-        ap (λ (b : Bool). cond b (turn steps (l + k)) (suc (turn steps (l + k)))) (not_before l k)
+        ap (λ (b : Bool). cond b (turn steps (l + k)) (suc (turn steps (l + k)))) (no_fewer_than l k)
         ∙ ap suc (past_end steps k)
         ∙ sym (let i : suc n + k ≡ suc (n + k) = omega arith in i)
 
@@ -76,9 +69,6 @@ module _ (older other : List Event) (longer : ℕ) where
     agreeing f g (Stays e ∷ steps) same h = (same (length (rest steps other)) (one_less (length (rest steps other))) ∙ h.0, agreeing f g steps (λ n less. same n (less_too n (length (rest steps other)) less)) h.1)
     agreeing f g (Goes e ∷ steps) same h = agreeing f g steps same h
 
-    is_before : (n l : ℕ) → n < l → nat_lt n l ≡ true
-    is_before n l h = grind (arith, nat_tests)
-
     plus_none : (n : ℕ) → n + 0 ≡ n
     plus_none n = omega arith
 
@@ -90,7 +80,7 @@ module _ (older other : List Event) (longer : ℕ) where
     are_turns (Stays e ∷ steps) = (turn_now steps, are_turns steps)
     are_turns (Goes e ∷ steps) =
         agreeing (turn (Goes e ∷ steps)) (turn steps) steps
-        (λ n less. ap (λ (b : Bool). cond b (turn steps n) (suc (turn steps n))) (is_before n (length (rest steps other)) less))
+        (λ n less. ap (λ (b : Bool). cond b (turn steps n) (suc (turn steps n))) (lt-ltb n (length (rest steps other)) less))
         (are_turns steps)
 
 -- ---- records after some time
@@ -98,11 +88,8 @@ module _ (older other : List Event) (longer : ℕ) where
 abbrev pub is_new : Times → Datum → Bool
 is_new x d = int_lt (x d.key) d.time
 
-not_after : (x t : ℤ) → t ≤ℤ x → int_lt x t ≡ false
-not_after x t h = grind (arith, ints)
-
 pub none_new : (x : Times) (ds : List Datum) → AllByRecursion (λ d. d.time ≤ℤ x d.key) ds → filter (is_new x) ds ≡ []
-none_new x ds h = none_of (is_new x) ds (all-each (λ d. d.time ≤ℤ x d.key) (λ d. is_new x d ≡ false) ds (λ d k. not_after (x d.key) d.time k) h)
+none_new x ds h = none_of (is_new x) ds (all-each (λ d. d.time ≤ℤ x d.key) (λ d. is_new x d ≡ false) ds (λ d k. not_less (x d.key) d.time k) h)
 
 -- a record with a time up to it is none
 pub selects_old : (q : Query) (x : Times) (past : List Event) (e : Event) → IsRecordUpTo x e → filter (is_new x) (selection_of q past e) ≡ []
@@ -111,7 +98,7 @@ selects_old q x past (Watermark o t) h = absurd h
 selects_old q x past (Record (Some k) t vs) h =
     let d : Datum = datum (length past) (mark q past) k t vs in
     elim (is_taken q past (Record (Some k) t vs) && q.selects k vs) as (λ b. filter (is_new x) (selection (cond b (Selects d) Nothing)) ≡ []) [
-      | true ↦ ap (λ (b : Bool). cond b (d ∷ []) []) (not_after (x k) t h)
+      | true ↦ ap (λ (b : Bool). cond b (d ∷ []) []) (not_less (x k) t h)
       | false ↦ refl
     ]
 

@@ -1,4 +1,5 @@
 pub mod Lists
+pub mod Decided
 pub mod Tables
 pub mod Effects
 pub mod Turns

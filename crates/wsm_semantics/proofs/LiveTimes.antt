@@ -9,6 +9,7 @@ use Rattle.wsm_windows.specs.declared.window.Window.{Window}
 use Rattle.wsm_windows.specs.Windows.{window, has_inside}
 use Rattle.wsm_semantics.specs.Sessions.{with_time, rising, with_earlier, sessions_of_rising, sessions, ends_after}
 use Rattle.wsm_semantics.proofs.Lists.{filter-all, all-each}
+use Rattle.wsm_semantics.proofs.Decided.{inside_itself}
 use Rattle.wsm_semantics.proofs.Each.{filter-each}
 use Rattle.wsm_semantics.proofs.Sessions.{StartFrom, AreApart, TimesFrom, AreRising, is_rising, apart_rising, from_times, head_linked, head_apart, sooner}
 use Rattle.wsm_semantics.proofs.SessionTimes.{not_inside_after}
@@ -78,9 +79,6 @@ module _ (limit : ℤ) where
   past_end : (u e x : ℤ) → e ≤ℤ x → (int_le u x && int_lt x e) ≡ false
   past_end u e x h = let k : int_lt x e ≡ false = grind (arith, ints) in ap (λ (b : Bool). int_le u x && b) k ∙ and-false (int_le u x)
 
-  itself_inside : (u e : ℤ) → u <ℤ e → (int_le u u && int_lt u e) ≡ true
-  itself_inside u e h = grind (arith, ints)
-
   kept_or_not : (a b c : Bool) → b ≡ true → c ≡ false → ((a && b) || c) ≡ a
   kept_or_not true b c h k = ap (λ (d : Bool). d || c) h
   kept_or_not false b c h k = k
@@ -105,7 +103,7 @@ module _ (limit : ℤ) where
     live_earlier u us [] apart from times is =
         let v : Window = window u (u +ℤ gap) in
         ap (λ (ts : List ℤ). sessions_of_rising gap (filter (lives_in (v ∷ [])) (u ∷ ts))) times
-        ∙ ap (λ (b : Bool). sessions_of_rising gap (cond b (u ∷ []) [])) (kept_or_not (ends_after limit v) (has_inside u v) false (itself_inside u (u +ℤ gap) (omega (arith, ints))) refl)
+        ∙ ap (λ (b : Bool). sessions_of_rising gap (cond b (u ∷ []) [])) (kept_or_not (ends_after limit v) (has_inside u v) false (inside_itself u (u +ℤ gap) (omega (arith, ints))) refl)
         ∙ elim (ends_after limit v) as (λ b. sessions_of_rising gap (cond b (u ∷ []) []) ≡ cond b (v ∷ []) []) [ true ↦ refl | false ↦ refl ]
     live_earlier u us (w ∷ ws) apart from times is =
         let lasts : (w.start +ℤ gap) ≤ℤ w.end = apart.0 in
@@ -117,7 +115,7 @@ module _ (limit : ℤ) where
               let near : w.start <ℤ (u +ℤ gap) = grind (arith, ints) in
               let v : Window = window u w.end in
               let mine : lives_in (v ∷ ws) u ≡ ends_after limit w =
-              kept_or_not (ends_after limit w) (has_inside u v) (lives_in ws u) (itself_inside u w.end (omega (arith, ints))) (none_later u w.end (omega (arith, ints)) ws apart.1) in
+              kept_or_not (ends_after limit w) (has_inside u v) (lives_in ws u) (inside_itself u w.end (omega (arith, ints))) (none_later u w.end (omega (arith, ints)) ws apart.1) in
               let others : filter (lives_in (v ∷ ws)) us ≡ F =
               filter-each (lives_in (v ∷ ws)) (lives_in (w ∷ ws)) us
               (all-each (λ x. w.start ≤ℤ x) (λ x. lives_in (v ∷ ws) x ≡ lives_in (w ∷ ws) x) us
@@ -133,7 +131,7 @@ module _ (limit : ℤ) where
               let v : Window = window u (u +ℤ gap) in
               let rest : StartFrom (u +ℤ gap) (w ∷ ws) = (far, sooner (u +ℤ gap) w.end (omega (arith, ints)) ws apart.1) in
               let mine : lives_in (v ∷ w ∷ ws) u ≡ ends_after limit v =
-              kept_or_not (ends_after limit v) (has_inside u v) (lives_in (w ∷ ws) u) (itself_inside u (u +ℤ gap) (omega (arith, ints))) (none_later u (u +ℤ gap) (omega (arith, ints)) (w ∷ ws) rest) in
+              kept_or_not (ends_after limit v) (has_inside u v) (lives_in (w ∷ ws) u) (inside_itself u (u +ℤ gap) (omega (arith, ints))) (none_later u (u +ℤ gap) (omega (arith, ints)) (w ∷ ws) rest) in
               let others : filter (lives_in (v ∷ w ∷ ws)) us ≡ F =
               filter-each (lives_in (v ∷ w ∷ ws)) (lives_in (w ∷ ws)) us
               (all-each (λ x. w.start ≤ℤ x) (λ x. lives_in (v ∷ w ∷ ws) x ≡ lives_in (w ∷ ws) x) us

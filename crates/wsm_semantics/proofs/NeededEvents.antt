@@ -25,6 +25,7 @@ use Rattle.wsm_semantics.specs.ByKey.{HasRoom}
 use Rattle.wsm_semantics.specs.FromWatermark.{begun_at, Step, Stays, Goes, Times, whole, rest, LeavesOut, IsSettled, PartsNoSession, BothHaveRoom, dropped_times}
 use Rattle.wsm_semantics.specs.FromKept.{KeepAlike, FollowAlike}
 use Rattle.wsm_semantics.specs.Needed.{is_selected_after, is_one_of, needed_without, needed_by_panes, needed_by_streams, needed_by, needed, NeededAlone, WritesAlike}
+use Rattle.wsm_semantics.proofs.Decided.{no_less, none_is}
 use Rattle.wsm_semantics.proofs.KeptLaw as kept_law
 use Rattle.wsm_semantics.proofs.Effects.{stays_down, effect-down}
 use Rattle.wsm_semantics.proofs.EventTurns.{kept-watermark}
@@ -35,9 +36,6 @@ use Rattle.wsm_semantics.proofs.LaterMarks.{marks_each, source_alike, next_marks
 use Rattle.wsm_semantics.proofs.LaterParts.{over_settled, over_parts_none}
 use Rattle.wsm_semantics.proofs.LaterKept.{summaries_settled}
 use Rattle.wsm_semantics.proofs.KeptAlike.{twice, next_alike, relation_alike, relation_risen, follow_alike}
-
-not_later : (x t : ℤ) → int_lt x t ≡ false → t ≤ℤ x
-not_later x t h = grind (arith, ints)
 
 itself : (m : ℤ) → m ≤ℤ m
 itself m = omega (arith, ints)
@@ -78,7 +76,7 @@ module _ (q : Query) (x : Times) where
   steps_out (Record (Some k) t vs ∷ past) =
       elim (int_lt (x k) t) as (λ b. int_lt (x k) t ≡ b → LeavesOut x (cond b (Stays (Record (Some k) t vs)) (Goes (Record (Some k) t vs)) ∷ steps_of past)) [
         | true ↦ λ _. steps_out past
-        | false ↦ λ old. (not_later (x k) t old, steps_out past)
+        | false ↦ λ old. (no_less (x k) t old, steps_out past)
       ] refl
   steps_out (Watermark o t ∷ past) = steps_out past
 
@@ -128,10 +126,6 @@ through a b c h k = omega (arith, ints)
 
 same_source : (n s : ℕ) → nat_eq n s ≡ true → n ≡ s
 same_source n s h = grind (arith, nat_tests)
-
-none_is : (v : Option Refusal) → is_none v ≡ true → v ≡ None
-none_is None h = refl
-none_is (Some r) h = absurd (true≢false (sym h))
 
 module _ (q : Query) (records : ℤ) (x : Times) where
   abbrev anew : Query

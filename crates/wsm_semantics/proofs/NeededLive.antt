@@ -3,7 +3,6 @@
 use Rattle.std.proofs.Common.{◌≡◌, ℕ, Bool, true, false, ◌&&◌, ◌||◌, cond, List, [], ◌∷◌, map, ℤ, pos, ◌+ℤ◌, ◌-ℤ◌, ◌≤ℤ◌, ◌<ℤ◌, refl, sym, ap, subst, ◌∙◌, ⊎_elim, arith}
 use Rattle.std.proofs.lemmas.Int.{ints, clamps}
 use Rattle.std.proofs.lemmas.Bool.{true≢false, or_cases, and_parts}
-use Rattle.std.proofs.lemmas.Bool.Decides.{nat_tests}
 use Rattle.std.proofs.lemmas.List.Elements.{All-contains, All-contains_itself, All-from_recursion, recursion_from_All}
 use Rattle.std.specs.Prelude.{Contains, filter, int_le, int_lt, nat_eq}
 use Rattle.std.specs.List.{AllByRecursion, list_any}
@@ -22,7 +21,8 @@ use Rattle.wsm_semantics.specs.Panes.{of_key, windows_among}
 use Rattle.wsm_semantics.specs.FromWatermark.{is_beside, unparted_time, dropped_time}
 use Rattle.wsm_semantics.specs.Needed.{IsOfLive}
 use Rattle.wsm_semantics.proofs.Lists.{filter-all, all-each}
-use Rattle.wsm_semantics.proofs.Each.{all-append, all-both, passed, same_answers, some_of, each_fails, list_any-more, list_any-filter}
+use Rattle.wsm_semantics.proofs.Decided.{less_up_to}
+use Rattle.wsm_semantics.proofs.Each.{itself, all-append, all-both, passed, same_answers, some_of, each_fails, list_any-more, list_any-filter}
 use Rattle.wsm_semantics.proofs.Effects.{by_effect}
 use Rattle.wsm_semantics.proofs.Sessions.{StartFrom, AreApart, holds_time, sessions-more, sessions_apart}
 use Rattle.wsm_semantics.proofs.SessionTimes.{inside_is, covered, inside_of_joined}
@@ -194,9 +194,6 @@ module _ (gap : ℤ) (long : pos 1 ≤ℤ gap) where
     not_ended : (l m y end : ℤ) → t0 ≡ (m -ℤ l) -ℤ gap → y ≤ℤ t0 → int_lt m (end +ℤ l) ≡ true → int_le end (y +ℤ gap) ≡ true → ⊥
     not_ended l m y end is low live h = grind (arith, ints)
 
-    inside_later : (y start u : ℤ) → int_lt y start ≡ true → start ≤ℤ u → int_lt y u ≡ true
-    inside_later y start u h k = grind (arith, ints)
-
     pub sessions_live : (l m : ℤ) → t0 ≡ (m -ℤ l) -ℤ gap → (ts : List ℤ) →
         AllByRecursion (λ u. int_lt (x (sessions gap ts)) u ≡ list_any (λ w. is_live w l m) (filter (has_inside u) (sessions gap ts))) ts
     sessions_live l m is ts =
@@ -225,7 +222,7 @@ module _ (gap : ℤ) (long : pos 1 ≤ℤ gap) where
         let (w, k, h) = some_of Known (λ w. has_inside u w && is_live w l m) ws known (sym (list_any-filter (λ w. is_live w l m) (has_inside u) ws) ∙ some) in
         let both = and_parts (has_inside u w) (is_live w l m) h in
         ⊎_elim
-        (λ begins. inside_later y w.start u begins (inside_is u w both.0).0)
+        (λ begins. less_up_to y w.start u begins (inside_is u w both.0).0)
         (λ ended. absurd (not_ended l m y w.end is (no_later_than gap long t0 ws) both.1 ended))
         (or_cases (int_lt y w.start) (int_le w.end (y +ℤ gap)) k.0)))
         ts (all_last ts) (covered gap long ts)
@@ -257,9 +254,6 @@ of_times P key (d ∷ ds) each =
 each_own : (Q : Datum → Datum → Type 0) (ds : List Datum) → ((d : Datum) → AllByRecursion (Q d) ds) → AllByRecursion (λ d. Q d d) ds
 each_own Q [] f = tt
 each_own Q (d ∷ ds) f = ((f d).0, each_own Q ds (λ e. (f e).1))
-
-itself : (n : ℕ) → nat_eq n n ≡ true
-itself n = grind (arith, nat_tests)
 
 pub each_of_live : (q : Query) → IsShape q.shape → (past : List Event) → AllByRecursion (IsOfLive q past) (selected q past)
 each_of_live q ok past = of_shape q.shape ok where

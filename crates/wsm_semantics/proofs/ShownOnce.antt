@@ -2,7 +2,6 @@
 -- record is in one firing set where it is shown and in none where it isn't, and for each of its
 -- windows that was dropped in exactly one.
 use Rattle.std.proofs.Common.{◌≡◌, ℕ, zero, suc, ◌≤◌, Bool, true, false, ◌&&◌, ◌||◌, cond, List, [], ◌∷◌, ◌++◌, map, length, ℤ, pos, ◌+ℤ◌, ◌≤ℤ◌, Some, refl, sym, ap, subst, ◌∙◌, ⊎_elim, arith}
-use Rattle.std.proofs.lemmas.Int.{ints}
 use Rattle.std.proofs.lemmas.Bool.{true≢false, and_parts, and_from, or_cases, or_left, or_right}
 use Rattle.std.proofs.lemmas.List.Elements.{All-contains, All-contains_itself, All-filter, filter_passes}
 use Rattle.std.specs.Prelude.{Contains, filter, flat_map, int_lt}
@@ -22,6 +21,7 @@ use Rattle.wsm_semantics.specs.Query.{Query, Datum, SessionsByEvent, mark, selec
 use Rattle.wsm_semantics.specs.Panes.{windows_among, places, is_there, stands_in}
 use Rattle.wsm_semantics.specs.Firings.{is_shown}
 use Rattle.wsm_semantics.specs.FiringSets.{StandsIn, IsDropped, FiresOnce}
+use Rattle.wsm_semantics.proofs.Decided.{not_less}
 use Rattle.wsm_semantics.proofs.Tables.{among}
 use Rattle.wsm_semantics.proofs.Assigned.{IsAssigned, contains_among, stands, on_grid, own}
 use Rattle.wsm_semantics.proofs.AssignedStep.{places-assigned}
@@ -100,9 +100,6 @@ inside (Fixed size) l ds d w h = of_grid size size l d w h
 inside (Sliding size period) l ds d w h = of_grid size period l d w h
 inside (Session gap) l ds d w h = All-contains (λ v. has_inside d.time v ≡ true) _ w (filter_passes (has_inside d.time) _) h
 
-not_held : (mark due : ℤ) → due ≤ℤ mark → int_lt mark due ≡ false
-not_held mark due h = grind (arith, ints)
-
 -- ---- the law
 
 module _ (q : Query) (ok : IsShape q.shape) (timely : SessionsByEvent q) where
@@ -118,7 +115,7 @@ module _ (q : Query) (ok : IsShape q.shape) (timely : SessionsByEvent q) where
       placed_among (λ x. map (at x.key) (windows_among q.shape q.clock.lateness ds x)) ds d p stands.is_selected (contains_among d.key (windows_among q.shape q.clock.lateness ds d) w stands.is_among) in
       let there : is_there q p d ≡ true = λ i. itself d.key i && inside q.shape q.clock.lateness ds d w stands.is_among i in
       of_passed (λ x. is_shown q past p x ≡ true) (is_there q p) ds d
-      (dropped_shown q timely owns (new_have q ok timely q.shape refl) past p placed (not_held (mark q past) (w.end +ℤ q.clock.lateness) dropped))
+      (dropped_shown q timely owns (new_have q ok timely q.shape refl) past p placed (not_less (mark q past) (w.end +ℤ q.clock.lateness) dropped))
       stands.is_selected there
 
   pub fires_once : q.mode ≡ Discarding → FiresOnce q

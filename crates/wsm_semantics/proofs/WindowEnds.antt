@@ -4,6 +4,7 @@ use Rattle.std.proofs.lemmas.Int.{ints}
 use Rattle.std.specs.Prelude.{int_lt}
 use Rattle.wsm_windows.specs.Windows.{last_start, first_start}
 use Rattle.wsm_windows.proofs.Multiples.{rem_below, times_more, last_is_multiple, either_above}
+use Rattle.wsm_semantics.proofs.Decided.{less_than, no_less}
 
 lower : (a b c : ℤ) (n : ℕ) → b ≡ a +ℤ pos n → c ≡ b → a ≤ℤ c
 lower a b c n more is = omega (arith, ints)
@@ -59,12 +60,6 @@ ended size (pos p) t long =
     ends_by t size (k.0 *ℤ pos p) (last_start (pos p) u) b k.1
     (below_next k.0 u p some (one_less (k.0 *ℤ pos p) b next (sym k.1) (near (next -ℤ pos 1) p some).0)) (near u p some).0
 ended size (negsuc p) t long = absurd (omega (arith, ints))
-
-less_than : (a b : ℤ) → int_lt a b ≡ true → a <ℤ b
-less_than a b h = grind (arith, ints)
-
-no_less : (a b : ℤ) → int_lt a b ≡ false → b ≤ℤ a
-no_less a b h = grind (arith, ints)
 
 between : (a last u : ℤ) → a ≤ℤ last → last ≤ℤ u → u <ℤ a → ⊥
 between a last u h k l = omega (arith, ints)
