@@ -55,11 +55,9 @@ module _ {X : Type 0} (plan : Plan X) (lawful : IsLawful plan) (q : Query) (runs
       fired = 0;
     }
 
-    old : mark anew other ≡ mark q past
-    old = mark_alike q start records past other alike.marks
-
-    new : mark anew (e ∷ other) ≡ mark q (e ∷ past)
-    new = mark_alike q start records (e ∷ past) (e ∷ other) (next_marks q start records past other alike.marks e)
+    -- the watermark is the same before the event and after it
+    same_marks : (mark anew other ≡ mark q past) × (mark anew (e ∷ other) ≡ mark q (e ∷ past))
+    same_marks = (mark_alike q start records past other alike.marks, mark_alike q start records (e ∷ past) (e ∷ other) (next_marks q start records past other alike.marks e))
 
     pub verdict : verdict_on anew other e ≡ verdict_on q past e
     verdict = verdict_alike q start records past other alike.marks e room.0.0 room.1.0
@@ -68,7 +66,7 @@ module _ {X : Type 0} (plan : Plan X) (lawful : IsLawful plan) (q : Query) (runs
     answers = answer (mark q past) (mark q (e ∷ past)) e (verdict_on q past e)
 
     same_answer : answer (mark anew other) (mark anew (e ∷ other)) e (verdict_on anew other e) ≡ answers
-    same_answer = λ i. answer (old i) (new i) e (verdict i)
+    same_answer = λ i. answer (same_marks.0 i) (same_marks.1 i) e (verdict i)
 
     pub next_alike : KeepAlike plan q start records (e ∷ past) (e ∷ other)
     next_alike = record {
@@ -76,7 +74,7 @@ module _ {X : Type 0} (plan : Plan X) (lawful : IsLawful plan) (q : Query) (runs
       panes =
           sym (panes_are plan lawful q runs ok timely low past (state []) refl refl e (verdict_on q past e) refl)
           ∙ sym (ap (λ (r : Result Admitted Refusal). panes_after plan q r e (state [])) same_answer)
-          ∙ panes_are plan lawful anew runs_anew ok timely low other (state []) (sym old) alike.panes e (verdict_on anew other e) refl;
+          ∙ panes_are plan lawful anew runs_anew ok timely low other (state []) (sym same_marks.0) alike.panes e (verdict_on anew other e) refl;
     }
 
     abbrev written : List (List Cell) → Result Admitted Refusal → Form → List OutRow
@@ -100,14 +98,14 @@ module _ {X : Type 0} (plan : Plan X) (lawful : IsLawful plan) (q : Query) (runs
 
     rows_anew : turn_rows anew other e ≡ written (relation anew other) answers q.form
     rows_anew =
-        sym (rows_are plan lawful anew runs_anew ok timely low other (state (relation anew other)) (sym old) alike.panes refl e (verdict_on anew other e) refl)
+        sym (rows_are plan lawful anew runs_anew ok timely low other (state (relation anew other)) (sym same_marks.0) alike.panes refl e (verdict_on anew other e) refl)
         ∙ ap (λ (r : Result Admitted Refusal). written (relation anew other) r q.form) same_answer
 
     pub fires_alike : map (summary_fired plan) (firings q past e) ≡ map (summary_fired plan) (firings anew other e)
     fires_alike =
         sym (fired_are plan lawful q runs ok timely low past (state []) refl refl e (verdict_on q past e) refl)
         ∙ sym (ap (λ (r : Result Admitted Refusal). fired_by plan q r e (state [])) same_answer)
-        ∙ fired_are plan lawful anew runs_anew ok timely low other (state []) (sym old) alike.panes e (verdict_on anew other e) refl
+        ∙ fired_are plan lawful anew runs_anew ok timely low other (state []) (sym same_marks.0) alike.panes e (verdict_on anew other e) refl
 
     pub rows_alike : q.form ≡ Panes → turn_rows q past e ≡ turn_rows anew other e
     rows_alike panes_alone =
@@ -124,7 +122,7 @@ module _ {X : Type 0} (plan : Plan X) (lawful : IsLawful plan) (q : Query) (runs
         sym (relation_is plan lawful q runs ok timely low past (state (relation q past)) refl refl refl e (verdict_on q past e) refl)
         ∙ ap (λ (related : List (List Cell)). relation_after plan q answers (state related)) same
         ∙ sym (ap (λ (r : Result Admitted Refusal). relation_after plan q r (state (relation anew other))) same_answer)
-        ∙ relation_is plan lawful anew runs_anew ok timely low other (state (relation anew other)) (sym old) alike.panes refl e (verdict_on anew other e) refl
+        ∙ relation_is plan lawful anew runs_anew ok timely low other (state (relation anew other)) (sym same_marks.0) alike.panes refl e (verdict_on anew other e) refl
 
     -- where the watermark rises, what the relation was is of no account
     risen : raises q past e ≡ true → (was : List (List Cell)) → relation_after plan q answers (state was) ≡ relation_after plan q answers (state [])
@@ -142,7 +140,7 @@ module _ {X : Type 0} (plan : Plan X) (lawful : IsLawful plan) (q : Query) (runs
         ∙ risen up (relation q past)
         ∙ sym (risen up (relation anew other))
         ∙ sym (ap (λ (r : Result Admitted Refusal). relation_after plan q r (state (relation anew other))) same_answer)
-        ∙ relation_is plan lawful anew runs_anew ok timely low other (state (relation anew other)) (sym old) alike.panes refl e (verdict_on anew other e) refl
+        ∙ relation_is plan lawful anew runs_anew ok timely low other (state (relation anew other)) (sym same_marks.0) alike.panes refl e (verdict_on anew other e) refl
 
   -- ---- any events
 

@@ -112,13 +112,14 @@ module _ (t : Written → Bool) where
 pub given_alike : {B : Type 0} (g : Firing → Option B) (f : ℕ → ℕ) → ((x : Firing) → g (firing_at f x) ≡ g x) → (fs : List Firing) → filter_map g (map (firing_at f) fs) ≡ filter_map g fs
 given_alike g f same fs = filter_map-map g (firing_at f) fs ∙ filter_map-each (λ x. g (firing_at f x)) g fs (all-any (λ x. g (firing_at f x) ≡ g x) same fs)
 
-module _ (q : Query) (keys : Keys) (f : ℕ → ℕ) (rises : IsRising f) (ignores : IgnoresTurns q) where
-  row_turned : (g : Firing) → row_of q (firing_at f g) ≡ row_of q g
+module _ (q : Query) (ignores : IgnoresTurns q) (f : ℕ → ℕ) where
+  pub row_turned : (g : Firing) → row_of q (firing_at f g) ≡ row_of q g
   row_turned g = ap (option_map (Pane g.kind g.place.key (window_of g.place))) (ignores f g.place.key g.fired)
 
-  written_turned : (g : Firing) → written_of q (firing_at f g) ≡ written_of q g
+  pub written_turned : (g : Firing) → written_of q (firing_at f g) ≡ written_of q g
   written_turned g = ap (option_map (λ columns. (g.place, columns))) (ignores f g.place.key g.fired)
 
+module _ (q : Query) (keys : Keys) (f : ℕ → ℕ) (rises : IsRising f) (ignores : IgnoresTurns q) where
   row_key : (g : Firing) (y : OutRow) → row_of q g ≡ Some y → is_row_of keys y ≡ is_fired_at keys g
   row_key g y h = by_columns (q.row g.place.key g.fired) h where
     by_columns : (o : Option (List Cell)) → option_map (Pane g.kind g.place.key (window_of g.place)) o ≡ Some y → is_row_of keys y ≡ is_fired_at keys g
@@ -147,7 +148,7 @@ module _ (q : Query) (keys : Keys) (f : ℕ → ℕ) (rises : IsRising f) (ignor
     part = of_keys keys past
 
     pane_rows_of_part : filter (is_row_of keys) (pane_rows q past e) ≡ where_of keys e (pane_rows q part e)
-    pane_rows_of_part = given_of_part (row_of q) (is_row_of keys) row_key row_turned e (firings q past e) (firings q part e) (firings_of_part q keys f rises past e room turns)
+    pane_rows_of_part = given_of_part (row_of q) (is_row_of keys) row_key (row_turned q ignores f) e (firings q past e) (firings q part e) (firings_of_part q keys f rises past e room turns)
 
     none_either_way : none_written ≡ where_of keys e none_written
     none_either_way = elim (is_of keys e) as (λ b. none_written ≡ cond b none_written []) [ true ↦ refl | false ↦ refl ]
@@ -159,7 +160,7 @@ module _ (q : Query) (keys : Keys) (f : ℕ → ℕ) (rises : IsRising f) (ignor
         let t : Written → Bool = λ w. is_at keys w.0 in
         let ws : List Written = filter_map (written_of q) (withdrawn q past e) in
         filter-map retract_row (is_row_of keys) (by_place ws)
-        ∙ ap (map retract_row) (filter-by_place t ws ∙ ap by_place (given_of_part (written_of q) t written_key written_turned e (withdrawn q past e) (withdrawn q part e) (withdrawn_of_part q keys f rises past e room turns)))
+        ∙ ap (map retract_row) (filter-by_place t ws ∙ ap by_place (given_of_part (written_of q) t written_key (written_turned q ignores f) e (withdrawn q past e) (withdrawn q part e) (withdrawn_of_part q keys f rises past e room turns)))
         ∙ elim (is_of keys e) as (λ b. map retract_row (by_place (cond b (filter_map (written_of q) (withdrawn q part e)) [])) ≡ cond b (map retract_row (by_place (filter_map (written_of q) (withdrawn q part e)))) []) [
           | true ↦ refl
           | false ↦ refl

@@ -141,19 +141,15 @@ module _ (q : Query) (ok : IsShape q.shape) (timely : SessionsByEvent q) (low : 
       ∙ stands_turned f gs (greatest_of gs) in
       λ i. (y.0, record { all = map (at_turn f) y.1; unshown = unshown i; stands = stands i })
 
-  held_same : held q H ≡ map (pane_at f) (held anew R)
-  held_same = held_settled q ok timely low start records x late lates May [] [] 0 begun serves live f rises steps may settled may.2 turns
-
-  each : AllByRecursion Both (held anew R)
-  each =
-      of_both q ok timely low start records x late lates May [] [] 0 begun serves live f rises steps may may.2 turns (held q H) (held anew R) held_same
-      (held_panes_q q ok timely low start records x late lates May [] [] 0 begun serves live f rises steps may settled may.2 turns)
-      (held_panes_anew q ok timely low start records x late lates May [] [] 0 begun serves live f rises steps may settled may.2 turns)
-      (each_late anew ok timely low late R (live_anew q ok timely low start records x late lates May [] [] 0 begun serves live f rises steps may settled))
-
   pub kept_settled : kept q H ≡ map (λ e. (e.0, kept_at f e.1)) (kept anew R)
   kept_settled =
-      ap (map (kept_in q H)) held_same
+      let same = held_settled q ok timely low start records x late lates May [] [] 0 begun serves live f rises steps may settled may.2 turns in
+      let each : AllByRecursion Both (held anew R) =
+      of_both q ok timely low start records x late lates May [] [] 0 begun serves live f rises steps may may.2 turns (held q H) (held anew R) same
+      (held_panes_q q ok timely low start records x late lates May [] [] 0 begun serves live f rises steps may settled may.2 turns)
+      (held_panes_anew q ok timely low start records x late lates May [] [] 0 begun serves live f rises steps may settled may.2 turns)
+      (each_late anew ok timely low late R (live_anew q ok timely low start records x late lates May [] [] 0 begun serves live f rises steps may settled)) in
+      ap (map (kept_in q H)) same
       ∙ map-map (kept_in q H) (pane_at f) (held anew R)
       ∙ map-each (λ y. kept_in q H (pane_at f y)) (λ y. (y.0, kept_at f (kept_in anew R y).1)) (held anew R) (all-each Both (λ y. kept_in q H (pane_at f y) ≡ (y.0, kept_at f (kept_in anew R y).1)) (held anew R) kept_same each)
       ∙ sym (map-map (λ e. (e.0, kept_at f e.1)) (kept_in anew R) (held anew R))

@@ -37,7 +37,7 @@ use Rattle.wsm_semantics.proofs.FiringsSoFar.{not_some}
 use Rattle.wsm_semantics.proofs.KeyTurns.{IsRising}
 use Rattle.wsm_semantics.proofs.KeyFirings.{filter-given, filter_map-image, list_any-wider}
 use Rattle.wsm_semantics.proofs.KeyStanding.{greatest_turned, candidates_turned, same_turned, stands_showing}
-use Rattle.wsm_semantics.proofs.KeyRows.{given_alike, filter-by_place}
+use Rattle.wsm_semantics.proofs.KeyRows.{given_alike, filter-by_place, row_turned, written_turned}
 use Rattle.wsm_semantics.proofs.LaterMarks.{mark_of_steps}
 use Rattle.wsm_semantics.proofs.LaterTurns.{AreTurns, Rooms, rooms_before, turn, rising-turn, turn_now, are_turns}
 use Rattle.wsm_semantics.proofs.LaterPanes.{Lates, live_of_steps, held_of_steps}
@@ -109,12 +109,6 @@ module _ (q : Query) (ok : IsShape q.shape) (timely : SessionsByEvent q) (ignore
   abbrev anew : Query
   anew = begun_at start records q
 
-  row_turned : (g : Firing) → row_of q (firing_at f g) ≡ row_of q g
-  row_turned g = ap (option_map (Pane g.kind g.place.key (window_of g.place))) (ignores f g.place.key g.fired)
-
-  written_turned : (g : Firing) → written_of q (firing_at f g) ≡ written_of q g
-  written_turned g = ap (option_map (λ columns. (g.place, columns))) (ignores f g.place.key g.fired)
-
   row_late : (g : Firing) (y : OutRow) → row_of q g ≡ Some y → is_row_at late y ≡ is_late q late g
   row_late g y h = by_columns (q.row g.place.key g.fired) h where
     by_columns : (o : Option (List Cell)) → option_map (Pane g.kind g.place.key (window_of g.place)) o ≡ Some y → is_row_at late y ≡ is_late q late g
@@ -150,7 +144,7 @@ module _ (q : Query) (ok : IsShape q.shape) (timely : SessionsByEvent q) (ignore
     may_before = serves.stays e steps may
 
     pub pane_rows_of_steps : filter (is_row_at late) (pane_rows q H e) ≡ filter (is_row_at late) (pane_rows anew R e)
-    pane_rows_of_steps = given_late (row_of q) (is_row_at late) row_late row_turned (firings q H e) (firings anew R e) (firings_of_steps q ok timely start records x late lates May older other longer begun serves f rises steps e may room turns)
+    pane_rows_of_steps = given_late (row_of q) (is_row_at late) row_late (row_turned q ignores f) (firings q H e) (firings anew R e) (firings_of_steps q ok timely start records x late lates May older other longer begun serves f rises steps e may room turns)
 
     module _ (assigned : IsAssigned q.shape) where
       stood : filter (is_late q late) (standing_for q H (held q H)) ≡ map (firing_at f) (filter (is_late q late) (standing_for anew R (held anew R)))
@@ -177,7 +171,7 @@ module _ (q : Query) (ok : IsShape q.shape) (timely : SessionsByEvent q) (ignore
           filter-map retract_row (is_row_at late) (by_place ws)
           ∙ ap (map retract_row) (
           filter-by_place t ws
-          ∙ ap by_place (given_late (written_of q) t written_late written_turned (withdrawn q H e) (withdrawn anew R e) withdrawn_of_steps)
+          ∙ ap by_place (given_late (written_of q) t written_late (written_turned q ignores f) (withdrawn q H e) (withdrawn anew R e) withdrawn_of_steps)
           ∙ sym (filter-by_place t vs))
           ∙ sym (filter-map retract_row (is_row_at late) (by_place vs))
 

@@ -13,6 +13,7 @@ use Rattle.wsm_semantics.specs.FromWatermark.{is_beside}
 use Rattle.wsm_semantics.proofs.Lists.{all-each}
 use Rattle.wsm_semantics.proofs.Each.{all_of, all-after, all-both}
 use Rattle.wsm_semantics.proofs.Sessions.{AreRising, AreApart, is_rising, apart_rising, sessions-more}
+use Rattle.wsm_semantics.proofs.SessionTimes.{sorted}
 
 -- ---- later times, in order
 
@@ -183,9 +184,6 @@ module _ (gap : ℤ) (long : pos 1 ≤ℤ gap) (x : ℤ) where
         | false ↦ λ fails k. ((λ passes. absurd (true≢false (sym passes ∙ fails))), of_passed P t ws k)
       ] refl h
 
-  sorted : (t : ℤ) (w : Window) → (ends_by t w || (links gap t w || starts_from (t +ℤ gap) w)) ≡ true
-  sorted t w = grind (arith, ints)
-
   abbrev IsBeside : Window → Type 0
   IsBeside w = is_beside gap x w ≡ true
 
@@ -199,7 +197,7 @@ module _ (gap : ℤ) (long : pos 1 ≤ℤ gap) (x : ℤ) where
       let two : AllByRecursion (λ w. links gap t w ≡ true → IsBeside w) ws =
       of_passed IsBeside (links gap t) ws (all-each (IsIn v) IsBeside (filter (links gap t) ws) (λ w inside. still_beside v w inside after.0) (each_in t (filter (links gap t) ws))) in
       let three : AllByRecursion (λ w. starts_from (t +ℤ gap) w ≡ true → IsBeside w) ws = of_passed IsBeside (starts_from (t +ℤ gap)) ws after.1 in
-      all-both (λ w. ends_by t w ≡ true → IsBeside w) (λ w. (links gap t w || starts_from (t +ℤ gap) w) ≡ true → IsBeside w) IsBeside (λ w a b. either (ends_by t w) (links gap t w || starts_from (t +ℤ gap) w) (IsBeside w) a b (sorted t w)) ws one
+      all-both (λ w. ends_by t w ≡ true → IsBeside w) (λ w. (links gap t w || starts_from (t +ℤ gap) w) ≡ true → IsBeside w) IsBeside (λ w a b. either (ends_by t w) (links gap t w || starts_from (t +ℤ gap) w) (IsBeside w) a b (sorted gap t w)) ws one
       (all-both (λ w. links gap t w ≡ true → IsBeside w) (λ w. starts_from (t +ℤ gap) w ≡ true → IsBeside w) (λ w. (links gap t w || starts_from (t +ℤ gap) w) ≡ true → IsBeside w)
       (λ w a b c. either (links gap t w) (starts_from (t +ℤ gap) w) (IsBeside w) a b c) ws two three)
     where

@@ -63,7 +63,7 @@ of_three false true c h = inr (inl refl)
 of_three false false c h = inr (inr h)
 
 module _ (gap : ℤ) where
-  sorted : (t : ℤ) (w : Window) → (ends_by t w || (links gap t w || starts_from (t +ℤ gap) w)) ≡ true
+  pub sorted : (t : ℤ) (w : Window) → (ends_by t w || (links gap t w || starts_from (t +ℤ gap) w)) ≡ true
   sorted t w = grind (arith, ints)
 
   -- an answer that the head doesn't give
