@@ -177,10 +177,14 @@ module _ (q : Query) (law : PlacesLaw q) where
         inside = λ d k. wider (is_there q h.home) (is_there q r) inside (selection_of q past e) (selected q past) d (h.inside d k);
       }
 
+  pub stays_home : (past : List Event) (e : Event) (f : Firing) (h : IsFiring q past f) → (stays_firing past e f h).home ≡ (law.stays past e h.home h.placed).0
+  unfolding stays_firing
+  stays_home past e f h = refl
+
   pub each_filled : (past : List Event) → AllByRecursion (IsFilled q past) (panes q past)
   each_filled past = all-both (IsPane q past) (λ x. IsNonEmpty x.1) (IsFilled q past) (λ x a b. (a, b)) (panes q past) (each_pane q past) (law.filled past)
 
-  new_firing : (past : List Event) (e : Event) (x : Place × List Datum) → IsFilled q (e ∷ past) x → (f : Firing) → does q past e x ≡ Some f → IsFiring q (e ∷ past) f
+  pub new_firing : (past : List Event) (e : Event) (x : Place × List Datum) → IsFilled q (e ∷ past) x → (f : Firing) → does q past e x ≡ Some f → IsFiring q (e ∷ past) f
   new_firing past e x h f is =
       let of_x : IsOf q past x.0 x.1 f = fires_as q past e x.0 x.1 f is in
       let whole : f.contents ≡ contents q (e ∷ past) x.0 = of_x.contents ∙ h.0.0 in
@@ -195,6 +199,10 @@ module _ (q : Query) (law : PlacesLaw q) where
         shown = ap (shows q.shape x.0) of_x.place ∙ shows_itself q.shape x.0;
         inside = λ d k. ap (holds d) (sym whole) ∙ k;
       }
+
+  pub new_home : (past : List Event) (e : Event) (x : Place × List Datum) (h : IsFilled q (e ∷ past) x) (f : Firing) (is : does q past e x ≡ Some f) → (new_firing past e x h f is).home ≡ x.0
+  unfolding new_firing
+  new_home past e x h f is = refl
 
   new_firings : (past : List Event) (e : Event) → AllByRecursion (IsFiring q (e ∷ past)) (firings q past e)
   new_firings past e =

@@ -12,7 +12,7 @@ use Rattle.wsm_windows.specs.Windows.{IsShape}
 use Rattle.wsm_windows.specs.declared.place.Place.{Place}
 use Rattle.wsm_windows.specs.Places.{window_of}
 use Rattle.wsm_windows.proofs.Places.{tie_is}
-use Rattle.wsm_semantics.specs.Query.{Datum, Query, SessionsByEvent, datum, selected, selection_of}
+use Rattle.wsm_semantics.specs.Query.{Datum, Query, SessionsByEvent, datum, selected}
 use Rattle.wsm_semantics.specs.Panes.{is_there, places, contents, panes}
 use Rattle.wsm_semantics.specs.Firings.{Firing, firings, firings_so_far, holds, is_shown, shows}
 use Rattle.wsm_semantics.proofs.Lists.{filter-all, all-each}
@@ -21,9 +21,8 @@ use Rattle.wsm_semantics.proofs.Tables.{among}
 use Rattle.wsm_semantics.proofs.Each.{itself, and_of, passed, all-any, all-append, all-both, all-swap, filter_map-all, list_any-append, list_any-each, list_any-filter, some_of}
 use Rattle.wsm_semantics.proofs.Turns.{inside_there}
 use Rattle.wsm_semantics.proofs.MergedRecords.{selected_falls, holds-filter}
-use Rattle.wsm_semantics.proofs.Within.{Within, wider}
-use Rattle.wsm_semantics.proofs.ShownPanes.{IsPane, each_pane, does, firings_are}
-use Rattle.wsm_semantics.proofs.FiringsSoFar.{PlacesLaw, IsOf, fires_as, shows_itself, shows_back, shows_on, shows_key}
+use Rattle.wsm_semantics.proofs.ShownPanes.{does, firings_are}
+use Rattle.wsm_semantics.proofs.FiringsSoFar.{PlacesLaw, IsFiring, IsFilled, fires_as, stays_firing, stays_home, new_firing, new_home, each_filled, shows_back, shows_on, shows_key}
 use Rattle.wsm_semantics.proofs.SessionTimes.{inside_is}
 use Rattle.wsm_semantics.proofs.SessionPlaces.{there_is, in_window, has_record}
 use Rattle.wsm_semantics.proofs.SessionStep.{among_places}
@@ -48,17 +47,14 @@ shown_by_all q (e ∷ past) p d =
 between : (start t end : ℤ) → start ≤ℤ t → t <ℤ end → start <ℤ end
 between start t end h k = omega (arith, ints)
 
+-- a firing whose records are now in a pane that starts no later
+pub record IsHome (q : Query) (past : List Event) (f : Firing) : Type 0 where
+  pub firing : IsFiring q past f
+  pub first : firing.home.start ≤ℤ f.place.start
+
 module _ (q : Query) (ok : IsShape q.shape) (timely : SessionsByEvent q) where
   abbrev law : PlacesLaw q
   law = kept_law.places q ok timely
-
-  -- the pane that has the records of a firing
-  pub record IsHome (past : List Event) (f : Firing) : Type 0 where
-    pub home : Place
-    pub placed : among home (places q past) ≡ true
-    pub shown : shows q.shape home f.place ≡ true
-    pub inside : Within f.contents (contents q past home)
-    pub first : home.start ≤ℤ f.place.start
 
   -- a place that has the records of another starts no later
   starts_first : (past : List Event) (p r : Place) → among p (places q past) ≡ true → shows q.shape r p ≡ true → ((d : Datum) → is_there q p d ≡ true → is_there q r d ≡ true) → r.start ≤ℤ p.start
@@ -80,37 +76,28 @@ module _ (q : Query) (ok : IsShape q.shape) (timely : SessionsByEvent q) where
   earlier : (r h p : ℤ) → r ≤ℤ h → h ≤ℤ p → r ≤ℤ p
   earlier r h p k l = omega (arith, ints)
 
-  pub stays_home : (past : List Event) (e : Event) (f : Firing) → IsHome past f → IsHome (e ∷ past) f
-  stays_home past e f h =
-      let (r, placed, shown, inside) = law.stays past e h.home h.placed in
+  pub stays_first : (past : List Event) (e : Event) (f : Firing) → IsHome q past f → IsHome q (e ∷ past) f
+  stays_first past e f h =
+      let home : Place = h.firing.home in
+      let (r, placed, shown, inside) = law.stays past e home h.firing.placed in
       record {
-        home = r;
-        placed = placed;
-        shown = shows_on q.shape r h.home f.place shown h.shown;
-        inside = λ d k. wider (is_there q h.home) (is_there q r) inside (selection_of q past e) (selected q past) d (h.inside d k);
-        first = earlier r.start h.home.start f.place.start (starts_first past h.home r h.placed shown inside) h.first;
+        firing = stays_firing q law past e f h.firing;
+        first = subst (λ (p : Place). p.start ≤ℤ f.place.start) (sym (stays_home q law past e f h.firing)) (earlier r.start home.start f.place.start (starts_first past home r h.firing.placed shown inside) h.first);
       }
 
-  new_home : (past : List Event) (e : Event) (x : Place × List Datum) → IsPane q (e ∷ past) x → (f : Firing) → does q past e x ≡ Some f → IsHome (e ∷ past) f
-  new_home past e x pane f is =
-      let of_x : IsOf q past x.0 x.1 f = fires_as q past e x.0 x.1 f is in
-      let all : f.contents ≡ contents q (e ∷ past) x.0 = of_x.contents ∙ pane.0 in
-      let at_x : f.place.start ≡ x.0.start = ap (λ (p : Place). p.start) of_x.place in
-      record {
-        home = x.0;
-        placed = pane.1;
-        shown = ap (shows q.shape x.0) of_x.place ∙ shows_itself q.shape x.0;
-        inside = λ d k. ap (holds d) (sym all) ∙ k;
-        first = omega (arith, ints);
-      }
+  new_first : (past : List Event) (e : Event) (x : Place × List Datum) → IsFilled q (e ∷ past) x → (f : Firing) → does q past e x ≡ Some f → IsHome q (e ∷ past) f
+  new_first past e x filled f is =
+      let at_x : f.place.start ≡ x.0.start = ap (λ (p : Place). p.start) (fires_as q past e x.0 x.1 f is).place in
+      let begins : x.0.start ≤ℤ f.place.start = omega (arith, ints) in
+      record { firing = new_firing q law past e x filled f is; first = subst (λ (p : Place). p.start ≤ℤ f.place.start) (sym (new_home q law past e x filled f is)) begins }
 
-  pub each_home : (past : List Event) → AllByRecursion (IsHome past) (firings_so_far q past)
+  pub each_home : (past : List Event) → AllByRecursion (IsHome q past) (firings_so_far q past)
   each_home [] = tt
   each_home (e ∷ past) =
-      all-append (IsHome (e ∷ past)) (firings_so_far q past) (firings q past e)
-      (all-each (IsHome past) (IsHome (e ∷ past)) (firings_so_far q past) (stays_home past e) (each_home past))
-      (subst (AllByRecursion (IsHome (e ∷ past))) (sym (firings_are q past e))
-      (filter_map-all (IsPane q (e ∷ past)) (IsHome (e ∷ past)) (does q past e) (new_home past e) (panes q (e ∷ past)) (each_pane q (e ∷ past))))
+      all-append (IsHome q (e ∷ past)) (firings_so_far q past) (firings q past e)
+      (all-each (IsHome q past) (IsHome q (e ∷ past)) (firings_so_far q past) (stays_first past e) (each_home past))
+      (subst (AllByRecursion (IsHome q (e ∷ past))) (sym (firings_are q past e))
+      (filter_map-all (IsFilled q (e ∷ past)) (IsHome q (e ∷ past)) (does q past e) (new_first past e) (panes q (e ∷ past)) (each_filled q law (e ∷ past))))
 
   -- a record of a pane of now was shown by firings of windows alone that start no sooner
   module _ (late : Place → Bool) (past : List Event) (e : Event) (p : Place) (placed : among p (places q (e ∷ past)) ≡ true) (later : (r : Place) → p.key ≡ r.key → p.start ≤ℤ r.start → late r ≡ true) where
@@ -120,14 +107,15 @@ module _ (q : Query) (ok : IsShape q.shape) (timely : SessionsByEvent q) where
     shown_late : (d : Datum) → is_there q p d ≡ true → ((r : Place) → holds d (contents q (e ∷ past) r) ≡ is_there q r d) → IsShownBy d
     shown_late d in_p held_by =
         shown_by_all q past p d
-        ∙ list_any-found (IsHome (e ∷ past)) (λ f. shows q.shape p f.place && holds d f.contents) (λ f. late f.place)
+        ∙ list_any-found (IsHome q (e ∷ past)) (λ f. shows q.shape p f.place && holds d f.contents) (λ f. late f.place)
         (λ f h k.
         let (s, hd) = and_parts (shows q.shape p f.place) (holds d f.contents) k in
-        let in_home : is_there q h.home d ≡ true = sym (held_by h.home) ∙ h.inside d hd in
-        let same : p ≡ h.home = law.apart (e ∷ past) p h.home placed h.placed (shows_on q.shape p f.place h.home s (shows_back q.shape h.home f.place h.shown)) d in_p in_home in
-        later f.place (shows_key q.shape p f.place s) (let first : h.home.start ≤ℤ f.place.start = h.first in let begins : p.start ≡ h.home.start = ap (λ (r : Place). r.start) same in omega (arith, ints)))
+        let home : Place = h.firing.home in
+        let in_home : is_there q home d ≡ true = sym (held_by home) ∙ h.firing.inside d hd in
+        let same : p ≡ home = law.apart (e ∷ past) p home placed h.firing.placed (shows_on q.shape p f.place home s (shows_back q.shape home f.place h.firing.shown)) d in_p in_home in
+        later f.place (shows_key q.shape p f.place s) (let first : home.start ≤ℤ f.place.start = h.first in let begins : p.start ≡ home.start = ap (λ (r : Place). r.start) same in omega (arith, ints)))
         (firings_so_far q past)
-        (all-each (IsHome past) (IsHome (e ∷ past)) (firings_so_far q past) (stays_home past e) (each_home past))
+        (all-each (IsHome q past) (IsHome q (e ∷ past)) (firings_so_far q past) (stays_first past e) (each_home past))
 
     pub shown_by_late : AllByRecursion IsShownBy (contents q (e ∷ past) p)
     shown_by_late =

@@ -36,7 +36,7 @@ use Rattle.wsm_semantics.proofs.Effects.{by_effect, selects_none, stays_down}
 use Rattle.wsm_semantics.proofs.Turns.{places-same, contents-same}
 use Rattle.wsm_semantics.proofs.Within.{within}
 use Rattle.wsm_semantics.proofs.ShownPanes.{IsPane, each_pane, unshown_of, kind_of, does, firings_are}
-use Rattle.wsm_semantics.proofs.FiringsSoFar.{IsFiring, each_firing, one_home, fires_as, not_some, shows_key, shows_back, shows_on}
+use Rattle.wsm_semantics.proofs.FiringsSoFar.{one_home, fires_as, not_some, shows_key, shows_back, shows_on}
 use Rattle.wsm_semantics.proofs.SessionTimes.{IsOneOf, of-all}
 use Rattle.wsm_semantics.proofs.SessionPlaces.{one_of, sessions_of}
 use Rattle.wsm_semantics.proofs.SessionStep.{among_places}
@@ -118,14 +118,6 @@ filter-found {A} P t u f (y ∷ ys) each =
     ] refl
 
 module _ (q : Query) (ok : IsShape q.shape) (timely : SessionsByEvent q) (x : Times) (late : Place → Bool) (lates : Lates x late) (past : List Event) where
-  abbrev IsKnown : Firing → Type 0
-  IsKnown g = IsFiring q past g × IsHome q ok timely past g
-
-  each_known : AllByRecursion IsKnown (firings_so_far q past)
-  each_known =
-      all-both (IsFiring q past) (IsHome q ok timely past) IsKnown (λ g a b. (a, b)) (firings_so_far q past)
-      (each_firing q (kept_law.places q ok timely) past) (each_home q ok timely past)
-
   no_sooner : (p h g : Place) → p ≡ h → h.start ≤ℤ g.start → p.start ≤ℤ g.start
   no_sooner p h g same first = let begins : p.start ≡ h.start = ap (λ (r : Place). r.start) same in omega (arith, ints)
 
@@ -134,16 +126,15 @@ module _ (q : Query) (ok : IsShape q.shape) (timely : SessionsByEvent q) (x : Ti
       candidates q p all (firings_so_far q past) ≡ candidates q p all (filter (is_late q late) (firings_so_far q past))
   candidates_found p all placed is here =
       let t : Firing → Bool = λ g. shows q.shape p g.place && is_within g.contents all in
-      sym (filter-found IsKnown t (is_late q late)
+      sym (filter-found (IsHome q past) t (is_late q late)
       (λ g known h.
       let (s, inside) = and_parts (shows q.shape p g.place) (is_within g.contents all) h in
-      let firing = known.0 in
-      let home = known.1 in
-      let same : p ≡ home.home =
-      one_home q (kept_law.places q ok timely) past p home.home placed home.placed (shows_on q.shape p g.place home.home s (shows_back q.shape home.home g.place home.shown))
-      g.contents firing.filled firing.part (λ d k. ap (λ (ds : List Datum). holds d ds) (sym is) ∙ within g.contents all inside d k) home.inside in
-      lates.later p g.place here (shows_key q.shape p g.place s) (no_sooner p home.home g.place same home.first))
-      (firings_so_far q past) each_known)
+      let firing = known.firing in
+      let same : p ≡ firing.home =
+      one_home q (kept_law.places q ok timely) past p firing.home placed firing.placed (shows_on q.shape p g.place firing.home s (shows_back q.shape firing.home g.place firing.shown))
+      g.contents firing.filled firing.part (λ d k. ap (λ (ds : List Datum). holds d ds) (sym is) ∙ within g.contents all inside d k) firing.inside in
+      lates.later p g.place here (shows_key q.shape p g.place s) (no_sooner p firing.home g.place same known.first))
+      (firings_so_far q past) (each_home q ok timely past))
 
 -- ---- one history
 
