@@ -223,7 +223,8 @@ class Picture:
         self.lines = {number: at for at, number in enumerate(history.rows, 1)}
         longest = max(len(self.row_text(number)) for number in history.rows)
         self.left = max(LEFT, 24 + 6.1 * longest)
-        self.width = self.across(frame.last) + RIGHT
+        last = frame.last - (frame.last - frame.first) % frame.space
+        self.width = max(self.across(frame.last) + RIGHT, self.across(last) + length_of(frame.text_of(last), 10) / 2 + 4)
         self.title = [line for clauses in title for line in wrapped(clauses, self.width - 24)]
         self.above = ABOVE + TITLE_STEP * len(self.title)
         self.floor = self.above + (len(history.rows) + 1) * STEP
@@ -261,11 +262,6 @@ class Picture:
         spans = "".join(spanned(text, own) for text, own in pieces)
         self.write(spans, at, base, anchor=anchor, stroke="#ffffff", stroke_width=3, paint_order="stroke", **more)
 
-    def write_below(self, text, x, y):
-        """Writes below a line of the axis, or to its left where the picture ends."""
-        is_last = x + length_of(text, 10) / 2 > self.width
-        self.write(text, x, y, size=10, anchor="end" if is_last else "middle", color=GREY)
-
     def axes(self):
         frame, right = self.frame, self.across(self.frame.last)
         for at, line in enumerate(self.title):
@@ -274,10 +270,10 @@ class Picture:
         for time in range(frame.first, frame.last + 1, frame.space):
             x = self.across(time)
             self.add("line", x1=x, y1=self.above, x2=x, y2=self.floor, stroke="#e4e4e4", stroke_width=1)
-            self.write_below(frame.text_of(time), x, self.floor + 16)
+            self.write(frame.text_of(time), x, self.floor + 16, size=10, anchor="middle", color=GREY)
             if frame.day_of(time) != day:
                 day = frame.day_of(time)
-                self.write_below(day, x, self.floor + 30)
+                self.write(day, x, self.floor + 30, size=10, anchor="middle", color=GREY)
         self.add("line", x1=self.left, y1=self.floor, x2=right, y2=self.floor, stroke=GREY, stroke_width=1)
         self.write("event time", right, self.floor + 46, anchor="end", color=GREY)
         self.write("rows, as they arrive, upwards", 12, self.floor + 46, color=GREY)
