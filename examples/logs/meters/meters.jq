@@ -14,5 +14,5 @@ def seconds:
             - (if .sign then "\(.sign)1" | tonumber else 0 end) * ((.hours // "0" | tonumber) * 60 + (.minutes // "0" | tonumber)) * 60
     end;
 
-try (fromjson | "r,\(.meter | @uri),\(.time | seconds),\(.kwh * 1000 | round),\(.fault == true)")
+try (fromjson | "r,\(.meter // error("no meter") | @uri),\(.time | seconds),\(.kwh * 1000 | round),\(.fault == true)")
 catch ("unread", ("line \(input_line_number): \(.)" | debug | empty))
