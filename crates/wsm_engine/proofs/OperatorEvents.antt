@@ -59,7 +59,7 @@ module _ (p : Program) (past : List Event) (r : WindowOperator) (of : IsOf p r) 
 
   -- ---- a selected record
 
-  module _ (k : ℕ) (t : ℤ) (vs : List Value) (comes : Comes p past r.held m (Ok admitted.Record) (Record (Some k) t vs)) (chosen : selects p k vs ≡ true) where
+  module _ (k : ℕ) (t : ℤ) (vs : List Value) (comes : Comes p past r.state.held m (Ok admitted.Record) (Record (Some k) t vs)) (chosen : selects p k vs ≡ true) where
     abbrev d : Datum
     d = datum 0 m k t vs
 
@@ -70,53 +70,53 @@ module _ (p : Program) (past : List Event) (r : WindowOperator) (of : IsOf p r) 
     taken = none_refuses m (mark (query_of p) (Record (Some k) t vs ∷ past)) (Record (Some k) t vs) (verdict_on (query_of p) past (Record (Some k) t vs)) admitted.Record comes.answered
 
     -- it can be put in by what UPDATE gave
-    pub enters : (kinds : List Kind) (values : List Value) → p.header.kinds ≡ kinds → updated p k vs ≡ values → CanEnter r.held kinds k t values p.header.clock.lateness m
+    pub enters : (kinds : List Kind) (values : List Value) → p.header.kinds ≡ kinds → updated p k vs ≡ values → CanEnter r.state.held kinds k t values p.header.clock.lateness m
     enters kinds values same is =
-        subst (λ (n : ℤ). CanEnter r.held kinds k t values late n) (sym comes.marked)
-        (subst (λ xs. CanEnter r.held xs k t values late (mark (query_of p) past)) same
-        (subst (λ xs. CanEnter r.held p.header.kinds k t xs late (mark (query_of p) past)) is
-        (can_enter p (needed p) of.judged of.lawful past k t vs taken chosen r.held of.keys of.shape of.live of.widths comes.panes (subst IsTime comes.marked comes.timely))))
+        subst (λ (n : ℤ). CanEnter r.state.held kinds k t values late n) (sym comes.marked)
+        (subst (λ xs. CanEnter r.state.held xs k t values late (mark (query_of p) past)) same
+        (subst (λ xs. CanEnter r.state.held p.header.kinds k t xs late (mark (query_of p) past)) is
+        (can_enter p (needed p) of.judged of.lawful past k t vs taken chosen r.state.held of.keys of.shape of.live of.widths comes.panes (subst IsTime comes.marked comes.timely))))
 
     pub entered_is : (kinds : List Kind) (values : List Value) → p.header.kinds ≡ kinds → updated p k vs ≡ values →
-        with_entered kinds k t values p.header.clock.lateness m r.held ≡ entered (plan_of p) p.header.shape p.header.clock.lateness (datum 0 m k t vs) (entries_of r.held)
+        with_entered kinds k t values p.header.clock.lateness m r.state.held ≡ entered (plan_of p) p.header.shape p.header.clock.lateness (datum 0 m k t vs) (entries_of r.state.held)
     entered_is kinds values same is =
-        (λ i. entered (taking (sym same i) (sym is i)) (of.shape i) late (datum 0 m k t []) (entries_of r.held)) ∙ entered_same p m k t vs p.header.shape late (entries_of r.held)
+        (λ i. entered (taking (sym same i) (sym is i)) (of.shape i) late (datum 0 m k t []) (entries_of r.state.held)) ∙ entered_same p m k t vs p.header.shape late (entries_of r.state.held)
 
-    joins_is : joins_sessions r.held.shape (datum 0 (pos 0) k t []) (entries_of r.held) ≡ joins_sessions p.header.shape d (entries_of r.held)
-    joins_is = (λ i. joins_sessions (of.shape i) (datum 0 (pos 0) k t []) (entries_of r.held)) ∙ joins_same m k t vs p.header.shape (entries_of r.held)
+    joins_is : joins_sessions r.state.held.shape (datum 0 (pos 0) k t []) (entries_of r.state.held) ≡ joins_sessions p.header.shape d (entries_of r.state.held)
+    joins_is = (λ i. joins_sessions (of.shape i) (datum 0 (pos 0) k t []) (entries_of r.state.held)) ∙ joins_same m k t vs p.header.shape (entries_of r.state.held)
 
-    windows_is : windows_entered r.held.shape t late m ≡ windows_entered p.header.shape t late m
+    windows_is : windows_entered r.state.held.shape t late m ≡ windows_entered p.header.shape t late m
     windows_is i = windows_entered (of.shape i) t late m
 
-    pub cost_is : (windows steps joins : ℕ) (joined : Bool) (kinds : List Kind) → windows ≡ windows_entered r.held.shape t p.header.clock.lateness m → (update_run p k vs).steps ≡ steps → joined ≡ joins_sessions r.held.shape (datum 0 (pos 0) k t []) (entries_of r.held)
-        → p.header.kinds ≡ kinds → joins ≡ cond joined (length kinds) 0 → windows * steps + joins ≡ entering_cost p m k t vs (entries_of r.held)
+    pub cost_is : (windows steps joins : ℕ) (joined : Bool) (kinds : List Kind) → windows ≡ windows_entered r.state.held.shape t p.header.clock.lateness m → (update_run p k vs).steps ≡ steps → joined ≡ joins_sessions r.state.held.shape (datum 0 (pos 0) k t []) (entries_of r.state.held)
+        → p.header.kinds ≡ kinds → joins ≡ cond joined (length kinds) 0 → windows * steps + joins ≡ entering_cost p m k t vs (entries_of r.state.held)
     cost_is windows steps joins joined kinds w s j same g =
         (λ i. (w ∙ windows_is) i * sym s i + g i)
         ∙ (λ i. windows_entered p.header.shape t late m * (update_run p k vs).steps + cond ((j ∙ joins_is) i) (length (sym same i)) 0)
 
     -- what it costs is stated
-    pub cost_stated : (where_run p k vs).steps + entering_cost p m k t vs (entries_of r.held) ≤ 1000000000000000000
+    pub cost_stated : (where_run p k vs).steps + entering_cost p m k t vs (entries_of r.state.held) ≤ 1000000000000000000
     cost_stated =
-        let all : record_cost_by p (entries_of r.held) d ≤ p.header.budget.per_record =
-        record_cost_within p (needed p) of.judged of.lawful d (subst (λ (n : ℤ). IsDatumInRange p (datum 0 n k t vs)) (sym comes.marked) (ranged p (needed p) of.judged of.lawful past k t vs taken)) (entries_of r.held) in
-        let is : (where_run p k vs).steps + cond (selects p k vs) (entering_cost p m k t vs (entries_of r.held)) 0 ≤ p.header.budget.per_record = all in
+        let all : record_cost_by p (entries_of r.state.held) d ≤ p.header.budget.per_record =
+        record_cost_within p (needed p) of.judged of.lawful d (subst (λ (n : ℤ). IsDatumInRange p (datum 0 n k t vs)) (sym comes.marked) (ranged p (needed p) of.judged of.lawful past k t vs taken)) (entries_of r.state.held) in
+        let is : (where_run p k vs).steps + cond (selects p k vs) (entering_cost p m k t vs (entries_of r.state.held)) 0 ≤ p.header.budget.per_record = all in
         let most : p.header.budget.per_record ≤ 1000000000000000000 = record_stated p of.lawful in
-        least _ _ _ (subst (λ b. (where_run p k vs).steps + cond b (entering_cost p m k t vs (entries_of r.held)) 0 ≤ p.header.budget.per_record) chosen is) most
+        least _ _ _ (subst (λ b. (where_run p k vs).steps + cond b (entering_cost p m k t vs (entries_of r.state.held)) 0 ≤ p.header.budget.per_record) chosen is) most
       where
         least : (a b c : ℕ) → a ≤ b → b ≤ c → a ≤ c
         least a b c h l = omega (arith, h, l)
 
     -- what is held with it is the history's
-    after_is : after (entries_of r.held) ≡ now p (needed p) of.judged of.lawful past k t vs taken
+    after_is : after (entries_of r.state.held) ≡ now p (needed p) of.judged of.lawful past k t vs taken
     after_is = ap after comes.panes ∙ (λ i. entered (plan_of p) p.header.shape late (datum 0 (comes.marked i) k t vs) es)
 
     -- there is room for the panes that it entered
-    pub few_entered : (panes : Panes) → panes ≡ entered (plan_of p) p.header.shape p.header.clock.lateness (datum 0 m k t vs) (entries_of r.held) → length panes ≤ most_panes (query_of p)
+    pub few_entered : (panes : Panes) → panes ≡ entered (plan_of p) p.header.shape p.header.clock.lateness (datum 0 m k t vs) (entries_of r.state.held) → length panes ≤ most_panes (query_of p)
     few_entered panes a = subst (λ xs. length xs ≤ most_panes (query_of p)) (sym (a ∙ after_is)) (now_within p (needed p) of.judged of.lawful past k t vs taken chosen)
 
     -- the panes that it entered can be fired, behind so many rows
-    pub can_fire : (capacity rows : ℕ) (session : Option Window) (panes : Panes) → rows + rows_of_panes p.header.mode (length panes) ≤ capacity → session ≡ session_entered p.header.shape (datum 0 (pos 0) k t []) (entries_of r.held)
-        → panes ≡ entered (plan_of p) p.header.shape p.header.clock.lateness (datum 0 m k t vs) (entries_of r.held) → CanFireByRecord p capacity rows m k t session panes
+    pub can_fire : (capacity rows : ℕ) (session : Option Window) (panes : Panes) → rows + rows_of_panes p.header.mode (length panes) ≤ capacity → session ≡ session_entered p.header.shape (datum 0 (pos 0) k t []) (entries_of r.state.held)
+        → panes ≡ entered (plan_of p) p.header.shape p.header.clock.lateness (datum 0 m k t vs) (entries_of r.state.held) → CanFireByRecord p capacity rows m k t session panes
     can_fire capacity rows session panes room s a =
         subst (CanFireByRecord p capacity rows m k t session) (sym (a ∙ after_is))
         (subst (λ o. CanFireByRecord p capacity rows m k t o (now p (needed p) of.judged of.lawful past k t vs taken)) (sym (s ∙ ap (session_entered p.header.shape (datum 0 (pos 0) k t [])) comes.panes))
@@ -125,7 +125,7 @@ module _ (p : Program) (past : List Event) (r : WindowOperator) (of : IsOf p r) 
 
   -- ---- a watermark
 
-  module _ (o : Option ℕ) (t new : ℤ) (comes : Comes p past r.held m (Ok (admitted.Watermark m new)) (Watermark o t)) where
+  module _ (o : Option ℕ) (t new : ℤ) (comes : Comes p past r.state.held m (Ok (admitted.Watermark m new)) (Watermark o t)) where
     accepted : verdict_on (query_of p) past (Watermark o t) ≡ None
     accepted = none_refuses m (mark (query_of p) (Watermark o t ∷ past)) (Watermark o t) (verdict_on (query_of p) past (Watermark o t)) (admitted.Watermark m new) comes.answered
 
@@ -136,14 +136,14 @@ module _ (p : Program) (past : List Event) (r : WindowOperator) (of : IsOf p r) 
     a_mark = subst IsTime (sym new_is) comes.next
 
     -- the panes that it comes to can be fired
-    pub can_fire_at : (capacity : ℕ) → most_rows (query_of p) ≤ capacity → CanFireByWatermark p capacity m new (entries_of r.held)
+    pub can_fire_at : (capacity : ℕ) → most_rows (query_of p) ≤ capacity → CanFireByWatermark p capacity m new (entries_of r.state.held)
     can_fire_at capacity room =
         subst (CanFireByWatermark p capacity m new) (sym comes.panes)
         (subst (λ n. CanFireByWatermark p capacity n new es) (sym comes.marked)
         (subst (λ n. CanFireByWatermark p capacity (mark (query_of p) past) n es) (sym new_is) (can_by_watermark p (needed p) of.judged of.lawful past o t accepted capacity room)))
 
   -- as many panes are held as there is room for
-  pub held_within : (a : Result Admitted Refusal) (e : Event) → Comes p past r.held m a e → length (entries_of r.held) ≤ most_panes (query_of p)
+  pub held_within : (a : Result Admitted Refusal) (e : Event) → Comes p past r.state.held m a e → length (entries_of r.state.held) ≤ most_panes (query_of p)
   held_within a e comes = subst (λ xs. length xs ≤ most_panes (query_of p)) (sym comes.panes) (kept_within p (needed p) of.judged of.lawful past)
 
 -- ---- times of 64 bits
@@ -151,7 +151,7 @@ module _ (p : Program) (past : List Event) (r : WindowOperator) (of : IsOf p r) 
 fits : (t : ℤ) → IsTime t → SFits w64 t
 fits t h = fits_signed_from_abs w64 t (omega (arith, ints, h.low, h.high))
 
-pub time_fits : (p : Program) (past : List Event) (r : WindowOperator) (of : IsOf p r) (m : ℤ) (k : ℕ) (t : ℤ) (vs : List Value) (a : Result Admitted Refusal) (e : Event) → Comes p past r.held m a e → a ≡ Ok admitted.Record → e ≡ Record (Some k) t vs → SFits w64 t
+pub time_fits : (p : Program) (past : List Event) (r : WindowOperator) (of : IsOf p r) (m : ℤ) (k : ℕ) (t : ℤ) (vs : List Value) (a : Result Admitted Refusal) (e : Event) → Comes p past r.state.held m a e → a ≡ Ok admitted.Record → e ≡ Record (Some k) t vs → SFits w64 t
 time_fits p past r of m k t vs a e comes is ev =
     fits t (timely p (needed p) of.judged of.lawful past k t vs
     (none_refuses m (mark (query_of p) (Record (Some k) t vs ∷ past)) (Record (Some k) t vs) _ admitted.Record (sym is ∙ comes.answered ∙ ap (λ (f : Event). answer m (mark (query_of p) (f ∷ past)) f (verdict_on (query_of p) past f)) ev)))
@@ -195,8 +195,8 @@ module _ (p : Program) (past : List Event) (h : Held) (m : ℤ) (a : Result Admi
   old_fits old new is fit = subst (SFits w64) (sym (from_mark old new is).0) fit
 
 -- and so has the new one
-pub mark_fits : (p : Program) (past : List Event) (r : WindowOperator) (m : ℤ) (a : Result Admitted Refusal) (e : Event) → Comes p past r.held m a e → IsOf p r → (old new : ℤ) → a ≡ Ok (admitted.Watermark old new) → SFits w64 new
-mark_fits p past r m a e comes of old new is = let (o, t, at) = comes_at p past r.held m a e comes old new is in fits new (a_mark p past r of old o t new at)
+pub mark_fits : (p : Program) (past : List Event) (r : WindowOperator) (m : ℤ) (a : Result Admitted Refusal) (e : Event) → Comes p past r.state.held m a e → IsOf p r → (old new : ℤ) → a ≡ Ok (admitted.Watermark old new) → SFits w64 new
+mark_fits p past r m a e comes of old new is = let (o, t, at) = comes_at p past r.state.held m a e comes old new is in fits new (a_mark p past r of old o t new at)
 
 -- ---- what a watermark writes
 

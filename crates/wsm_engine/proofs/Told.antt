@@ -1,5 +1,5 @@
 -- What the streams were told, and what the relation at the last instant is by it.
-use Rattle.std.proofs.Common.{◌≡◌, ℕ, ◌≤◌, Bool, true, false, cond, List, [], ◌∷◌, Option, length, vec_capacity, refl, sym, ap, subst, ◌∙◌, arith}
+use Rattle.std.proofs.Common.{◌≡◌, ℕ, ◌≤◌, Bool, true, false, cond, List, [], ◌∷◌, Option, length, refl, sym, ap, subst, ◌∙◌, arith}
 use Rattle.std.specs.List.{AllByRecursion}
 use Rattle.wsm_record.specs.declared.event.Value.{Value}
 use Rattle.wsm_record.specs.declared.cell.Cell.{Cell}
@@ -81,7 +81,7 @@ open_is s es f room is none =
     subst (λ (t : Told). IsTold t [] (standing_rows es)) (sym is) (subst (λ (fs : Panes). IsTold (record { form = f; room = room; numbers = [] }) [] (standing_rows fs)) (sym none) (none_told f room))
 
 -- the operator is the program's still
-pub of_next : (p : Program) (r n : WindowOperator) → IsOf p r → IsKept r.held n.held → AreAlike r.streams n.streams → vec_capacity n.rows ≡ vec_capacity r.rows → AreTold (most_panes (query_of p)) n.streams (entries_of n.held) → IsOf p n
+pub of_next : (p : Program) (r n : WindowOperator) → IsOf p r → IsKept r.state.held n.state.held → AreAlike r.state.streams n.state.streams → n.state.rows.room ≡ r.state.rows.room → AreTold (most_panes (query_of p)) n.state.streams (entries_of n.state.held) → IsOf p n
 of_next p r n of keeps alike rows told = record {
   judged = of.judged;
   lawful = of.lawful;
@@ -96,7 +96,7 @@ of_next p r n of keeps alike rows told = record {
 }
 
 -- panes that are the program's still are ready for its firings
-pub ready_of : (p : Program) (r : WindowOperator) (h : Held) (s : Told) → IsOf p r → IsKept r.held h → CanTell s (entries_of h) → AreReady p h s
+pub ready_of : (p : Program) (r : WindowOperator) (h : Held) (s : Told) → IsOf p r → IsKept r.state.held h → CanTell s (entries_of h) → AreReady p h s
 ready_of p r h s of keeps tells = record {
   wide = ap (λ (w : Widths). w.columns) (keeps.widths ∙ of.widths);
   windows = ap (λ (w : Widths). w.windows) (keeps.widths ∙ of.widths);

@@ -1,5 +1,5 @@
 -- What an engine's fields come to, and what is true of them.
-use Rattle.std.specs.Prelude.{List, vec_capacity}
+use Rattle.std.specs.Prelude.{List}
 use Rattle.wsm_record.specs.Event.{Event}
 use Rattle.wsm_panes.specs.Held.{entries_of}
 use Rattle.wsm_engine.specs.declared.engine.Engine.TheInside.{Inside}
@@ -10,9 +10,9 @@ use Rattle.wsm_engine.specs.Operator.{IsOf, last_relation}
 abbrev pub state_of : Inside → State
 state_of a = record {
   program = a.verified;
-  machine = record { admission = a.admission; panes = entries_of a.operator.held; relation = last_relation a.operator.streams (entries_of a.operator.held); fed = a.fed; fired = a.fired };
-  rows = a.operator.rows.items;
-  room = vec_capacity a.operator.rows;
+  machine = record { admission = a.admission; panes = entries_of a.operator.state.held; relation = last_relation a.operator.state.streams (entries_of a.operator.state.held); fed = a.fed; fired = a.fired };
+  rows = a.operator.state.rows.written;
+  room = a.operator.state.rows.room;
 }
 
 -- the operator is the program's, and what is kept is some history's

@@ -2,5 +2,6 @@ pub mod State
 pub mod Meaning
 pub mod Turn
 pub mod Operator
+pub mod Acts
 pub mod Engine
 pub mod Laws

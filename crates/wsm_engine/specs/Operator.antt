@@ -1,5 +1,5 @@
 -- The operator of a program: for what it has room, and what it keeps as an event comes.
-use Rattle.std.specs.Prelude.{◌≡◌, ℕ, ◌*◌, ◌+◌, ◌≤◌, List, [], ◌∷◌, ◌++◌, length, filter_map, ℤ, int_lt, Result, Ok, vec_capacity, if◌then◌else◌}
+use Rattle.std.specs.Prelude.{◌≡◌, ℕ, ◌*◌, ◌+◌, ◌≤◌, List, [], ◌∷◌, ◌++◌, length, filter_map, ℤ, int_lt, Result, Ok, if◌then◌else◌}
 use Rattle.wsm_record.specs.declared.event.Value.{Value}
 use Rattle.wsm_record.specs.declared.cell.Cell.{Cell}
 use Rattle.wsm_record.specs.Event.{Event}
@@ -47,14 +47,14 @@ widths_of h = record { accumulators = length h.kinds; columns = length h.columns
 pub record IsOf (p : Program) (r : WindowOperator) : Type 0 where
   pub judged : judge p ≡ Ok (needed p)
   pub lawful : IsTrue (is_program p)
-  pub keys : r.held.keys ≡ length p.header.schema.keys
-  pub shape : r.held.shape ≡ p.header.shape
-  pub live : r.held.live ≡ live_bound p.header.shape p.header.clock.skew p.header.clock.lateness
-  pub widths : r.held.widths ≡ widths_of p.header
-  pub form : r.streams.form ≡ p.header.form
-  pub room : r.streams.room ≡ most_panes (query_of p)
-  pub rows : most_rows (query_of p) ≤ vec_capacity r.rows
-  pub streams : AreTold (most_panes (query_of p)) r.streams (entries_of r.held)
+  pub keys : r.state.held.keys ≡ length p.header.schema.keys
+  pub shape : r.state.held.shape ≡ p.header.shape
+  pub live : r.state.held.live ≡ live_bound p.header.shape p.header.clock.skew p.header.clock.lateness
+  pub widths : r.state.held.widths ≡ widths_of p.header
+  pub form : r.state.streams.form ≡ p.header.form
+  pub room : r.state.streams.room ≡ most_panes (query_of p)
+  pub rows : most_rows (query_of p) ≤ r.state.rows.room
+  pub streams : AreTold (most_panes (query_of p)) r.state.streams (entries_of r.state.held)
 
 -- an event comes after a history, with its answer, and what is held is the history's
 pub record Comes (p : Program) (past : List Event) (h : Held) (mark : ℤ) (a : Result Admitted Refusal) (e : Event) : Type 0 where
@@ -67,8 +67,8 @@ pub record Comes (p : Program) (past : List Event) (h : Held) (mark : ℤ) (a : 
 -- the operator keeps the panes and the relation of a state of the machine at a mark
 pub record IsAt (mark : ℤ) (r : WindowOperator) (s : State (List Value)) : Type 0 where
   pub marked : s.admission.mark ≡ mark
-  pub panes : s.panes ≡ entries_of r.held
-  pub relation : s.relation ≡ last_relation r.streams (entries_of r.held)
+  pub panes : s.panes ≡ entries_of r.state.held
+  pub relation : s.relation ≡ last_relation r.state.streams (entries_of r.state.held)
 
 -- what a record does that WHERE is asked of
 abbrev pub panes_with : Program → ℤ → ℕ → ℤ → List Value → List (Place × Pane (List Value)) → List (Place × Pane (List Value))

@@ -1,29 +1,22 @@
 //! What an event does to the panes that are held, by a program's sections.
 
-ghost use Rattle.std.specs.Prelude.{◌≡◌, ◌≤◌, ◌+◌, ◌++◌, ℕ, ℤ, List, [], length, Ok, Some, true, pos, filter_map, int_lt, if◌then◌else◌, Option, vec_len, vec_capacity};
-ghost use Rattle.wsm_record.specs.declared.cell.Cell.{Cell};
-ghost use Rattle.wsm_record.specs.declared.event.Value.{Value as OneValue};
-ghost use Rattle.wsm_record.specs.Event.{Event as AnyEvent, Record, Watermark, event_of};
-ghost use Rattle.wsm_admission.specs.declared.verdict.Admitted.TheVariants as admitted;
-ghost use Rattle.wsm_semantics.specs.HeldBounds.{most_rows, rows_of_panes};
+ghost use Rattle.std.specs.Prelude.{◌≡◌, List, [], length, true, pos, if◌then◌else◌};
+ghost use Rattle.wsm_record.specs.Event.{Event as AnyEvent, event_of};
 ghost use Rattle.wsm_semantics.specs.Replay.{datum};
-ghost use Rattle.wsm_semantics.specs.Relation.{chosen_rows, sorted_rows, stream_rows};
-ghost use Rattle.wsm_semantics.specs.Retractions.{retracted_in};
-ghost use Rattle.wsm_semantics.specs.Summaries.{after_watermark, entered, fired_by_watermark, row_of, withdrawn_by_watermark, withdrawn_entering};
-ghost use Rattle.wsm_semantics.specs.Steps.{State, fired_by, panes_after, relation_after, streamed_by, withdrawn_by};
 ghost use Rattle.wsm_machine.specs.Inputs.{inputs_of};
-ghost use Rattle.wsm_machine.specs.Meaning.{answer_cost, plan_of, query_of, record_cost_by, record_inputs as inputs_of_record, selects};
-ghost use Rattle.wsm_panes.specs.Held.{IsKept, entries_of, session_entered};
-ghost use Rattle.wsm_firing.specs.Tally.{nothing, tally_of};
-ghost use Rattle.wsm_firing.specs.Streams.{AreAlike, CanAdvance, HasRoomFor, IsTold, relation_kept, standing_rows};
-ghost use Rattle.wsm_engine.specs.Operator.{Comes, IsAt, IsOf, entering_cost, fired_with, last_relation, panes_with, relation_at, rows_with, streamed_at, withdrawn_with};
+ghost use Rattle.wsm_machine.specs.Meaning.{record_inputs as inputs_of_record, selects};
+ghost use Rattle.wsm_panes.specs.Held.{IsKept, session_entered};
+ghost use Rattle.wsm_firing.specs.Tally.{nothing};
+ghost use Rattle.wsm_firing.specs.Streams.{AreAlike, CanAdvance, HasRoomFor, TellsPanes};
+ghost use Rattle.wsm_engine.specs.Acts.{Acts, AdvancesOnRise, Arrives, LeavesRoom, Rises, TakesRecord, TakesWatermark, WritesOnRise};
+ghost use Rattle.wsm_engine.specs.Acts.{panes_of, panes_once_entered, rows_entering};
+ghost use Rattle.wsm_engine.specs.Operator.{Comes, IsOf, entering_cost};
 
 use wsm_admission::{Admitted, Refusal};
-use wsm_firing::{Arrival, Streams, Tally, WindowOperator, enter};
+use wsm_firing::{Arrival, Streams, Tally, TurnRows, WindowOperator};
 use wsm_machine::Inputs;
 use wsm_record::{Event, Kind, Value};
 use wsm_rules::Verified;
-use wsm_semantics::OutRow;
 use wsm_windows::Window;
 
 /// What an event came to.
@@ -59,17 +52,9 @@ pub fn act(
     event: &Event,
 ) -> Done
     requires program { IsOf verified.now operator.old }
-    requires empty { operator.old.rows.items ≡ [] }
-    requires comes { (past : List AnyEvent) × Comes verified.now past operator.old.held mark answer (event_of event.now) }
-    ensures program { IsOf verified.now operator.new }
-    ensures panes { (s : State (List OneValue)) → IsAt mark operator.old s → entries_of operator.new.held ≡ panes_after (plan_of verified.now) (query_of verified.now) answer (event_of event.now) s }
-    ensures relation { (s : State (List OneValue)) → IsAt mark operator.old s →
-        last_relation operator.new.streams (entries_of operator.new.held) ≡ relation_kept verified.now.header.form s.relation (relation_after (plan_of verified.now) (query_of verified.now) answer s) }
-    ensures rows { (s : State (List OneValue)) → IsAt mark operator.old s →
-        operator.new.rows.items ≡ chosen_rows verified.now.header.form (retracted_in verified.now.header.mode (withdrawn_by (plan_of verified.now) (query_of verified.now) answer (event_of event.now) s) ++ filter_map (row_of (plan_of verified.now)) (fired_by (plan_of verified.now) (query_of verified.now) answer (event_of event.now) s)) (streamed_by (plan_of verified.now) (query_of verified.now) verified.now.header.form answer s) }
-    ensures capacity { vec_capacity operator.new.rows ≡ vec_capacity operator.old.rows }
-    ensures cost { (s : State (List OneValue)) → IsAt mark operator.old s → result.record_steps ≡ answer_cost verified.now answer (event_of event.now) s }
-    ensures tally { (s : State (List OneValue)) → IsAt mark operator.old s → result.tally ≡ tally_of verified.now (fired_by (plan_of verified.now) (query_of verified.now) answer (event_of event.now) s) }
+    requires empty { operator.old.state.rows.written ≡ [] }
+    requires comes { (past : List AnyEvent) × Comes verified.now past operator.old.state.held mark answer (event_of event.now) }
+    ensures { Acts verified.now mark answer (event_of event.now) operator.old operator.new result }
 {
     match answer {
         Ok(Admitted::Record) => match event {
@@ -104,15 +89,9 @@ fn take_record(
     values: &[Value],
 ) -> Done
     requires program { IsOf verified.now operator.old }
-    requires empty { operator.old.rows.items ≡ [] }
-    requires comes { (past : List AnyEvent) × Comes verified.now past operator.old.held arrival.mark (Ok admitted.Record) (Record (Some arrival.key) arrival.time values.now) }
-    ensures program { IsOf verified.now operator.new }
-    ensures panes { entries_of operator.new.held ≡ panes_with verified.now arrival.mark arrival.key arrival.time values.now (entries_of operator.old.held) }
-    ensures relation { last_relation operator.new.streams (entries_of operator.new.held) ≡ last_relation operator.old.streams (entries_of operator.old.held) }
-    ensures rows { operator.new.rows.items ≡ rows_with verified.now (withdrawn_with verified.now arrival.mark arrival.key arrival.time values.now (entries_of operator.old.held)) (fired_with verified.now arrival.mark arrival.key arrival.time values.now (entries_of operator.old.held)) [] }
-    ensures capacity { vec_capacity operator.new.rows ≡ vec_capacity operator.old.rows }
-    ensures cost { result.record_steps ≡ record_cost_by verified.now (entries_of operator.old.held) (datum 0 arrival.mark arrival.key arrival.time values.now) }
-    ensures tally { result.tally ≡ tally_of verified.now (fired_with verified.now arrival.mark arrival.key arrival.time values.now (entries_of operator.old.held)) }
+    requires empty { operator.old.state.rows.written ≡ [] }
+    requires comes { Arrives verified.now arrival.mark arrival.key arrival.time values.now operator.old }
+    ensures { TakesRecord verified.now arrival values.now operator.old operator.new result }
 {
     let inputs = Inputs {
         key: arrival.key,
@@ -146,18 +125,18 @@ fn enter_record(
 ) -> (u64, Option<Window>)
     requires record { inputs_of inputs.now ≡ inputs_of_record inputs.now.key inputs.now.values.now }
     requires program { IsOf verified.now operator.old }
-    requires empty { operator.old.rows.items ≡ [] }
+    requires empty { operator.old.state.rows.written ≡ [] }
     requires selected { selects verified.now inputs.now.key inputs.now.values.now ≡ true }
-    requires comes { (past : List AnyEvent) × Comes verified.now past operator.old.held mark (Ok admitted.Record) (Record (Some inputs.now.key) time inputs.now.values.now) }
-    ensures panes { entries_of operator.new.held ≡ entered (plan_of verified.now) verified.now.header.shape verified.now.header.clock.lateness (datum 0 mark inputs.now.key time inputs.now.values.now) (entries_of operator.old.held) }
-    ensures keeps { IsKept operator.old.held operator.new.held }
-    ensures told { (relation : List (List Cell)) → IsTold operator.old.streams relation (standing_rows (entries_of operator.old.held)) → IsTold operator.new.streams relation (standing_rows (entries_of operator.new.held)) }
-    ensures alike { AreAlike operator.old.streams operator.new.streams }
-    ensures rows { operator.new.rows.items ≡ retracted_in verified.now.header.mode (withdrawn_entering (plan_of verified.now) verified.now.header.shape (datum 0 mark inputs.now.key time inputs.now.values.now) (entries_of operator.old.held)) }
-    ensures few { vec_len operator.new.rows + rows_of_panes verified.now.header.mode (length (entries_of operator.new.held)) ≤ most_rows (query_of verified.now) }
-    ensures capacity { vec_capacity operator.new.rows ≡ vec_capacity operator.old.rows }
-    ensures steps { result.0 ≡ entering_cost verified.now mark inputs.now.key time inputs.now.values.now (entries_of operator.old.held) }
-    ensures session { result.1 ≡ session_entered verified.now.header.shape (datum 0 (pos 0) inputs.now.key time []) (entries_of operator.old.held) }
+    requires comes { Arrives verified.now mark inputs.now.key time inputs.now.values.now operator.old }
+    ensures panes { panes_of operator.new ≡ panes_once_entered verified.now mark inputs.now.key time inputs.now.values.now operator.old }
+    ensures keeps { IsKept operator.old.state.held operator.new.state.held }
+    ensures told { TellsPanes operator.old.state.streams operator.new.state.streams (panes_of operator.old) (panes_of operator.new) }
+    ensures alike { AreAlike operator.old.state.streams operator.new.state.streams }
+    ensures rows { operator.new.state.rows.written ≡ rows_entering verified.now mark inputs.now.key time inputs.now.values.now operator.old }
+    ensures few { LeavesRoom verified.now operator.new }
+    ensures room { operator.new.state.rows.room ≡ operator.old.state.rows.room }
+    ensures steps { result.0 ≡ entering_cost verified.now mark inputs.now.key time inputs.now.values.now (panes_of operator.old) }
+    ensures session { result.1 ≡ session_entered verified.now.header.shape (datum 0 (pos 0) inputs.now.key time []) (panes_of operator.old) }
 {
     let updated = operator.machine.update(verified, inputs);
     let steps = updated.steps;
@@ -166,14 +145,7 @@ fn enter_record(
         time,
         mark,
     };
-    let entered = enter(
-        verified,
-        &mut operator.held,
-        &mut operator.streams,
-        &mut operator.rows,
-        arrival,
-        updated.values,
-    );
+    let entered = operator.state.enter(verified, arrival, updated.values);
     let kinds = &verified.program().header().kinds;
     (
         entered.windows * steps + join_steps(kinds, entered.joined),
@@ -185,31 +157,26 @@ fn enter_record(
 // rose, and drops the panes that aren't live any more.
 fn take_watermark(operator: &mut WindowOperator, verified: &Verified, old: i64, new: i64) -> Tally
     requires program { IsOf verified.now operator.old }
-    requires empty { operator.old.rows.items ≡ [] }
-    requires comes { (past : List AnyEvent) × (source : Option ℕ) × (time : ℤ) × Comes verified.now past operator.old.held old (Ok (admitted.Watermark old new)) (Watermark source time) }
-    ensures program { IsOf verified.now operator.new }
-    ensures panes { entries_of operator.new.held ≡ after_watermark (plan_of verified.now) (query_of verified.now) old new (entries_of operator.old.held) }
-    ensures relation { last_relation operator.new.streams (entries_of operator.new.held) ≡ relation_kept verified.now.header.form (last_relation operator.old.streams (entries_of operator.old.held)) (relation_at verified.now old new (last_relation operator.old.streams (entries_of operator.old.held)) (entries_of operator.old.held)) }
-    ensures rows { operator.new.rows.items ≡ rows_with verified.now (withdrawn_by_watermark (query_of verified.now) old new (entries_of operator.old.held)) (fired_by_watermark (plan_of verified.now) (query_of verified.now) old new (entries_of operator.old.held))
-        (streamed_at verified.now old new (last_relation operator.old.streams (entries_of operator.old.held)) (entries_of operator.old.held)) }
-    ensures capacity { vec_capacity operator.new.rows ≡ vec_capacity operator.old.rows }
-    ensures tally { result ≡ tally_of verified.now (fired_by_watermark (plan_of verified.now) (query_of verified.now) old new (entries_of operator.old.held)) }
+    requires empty { operator.old.state.rows.written ≡ [] }
+    requires comes { Rises verified.now old new operator.old }
+    ensures { TakesWatermark verified.now old new operator.old operator.new result }
 {
     let tally = operator.fire_by_watermark(verified, old, new);
     let lateness = verified.program().header().clock.lateness;
-    advance(&mut operator.streams, &mut operator.rows, old, new);
-    operator.drop_expired(new, lateness);
+    let state = &mut operator.state;
+    advance(&mut state.streams, &mut state.rows, old, new);
+    state.drop_expired(new, lateness);
     tally
 }
 
 // Writes the streams at a watermark that rose, which is the next instant.
-fn advance(streams: &mut Streams, rows: &mut Vec<OutRow>, old: i64, new: i64)
+fn advance(streams: &mut Streams, rows: &mut TurnRows, old: i64, new: i64)
     requires told { CanAdvance streams.old }
-    requires rows { HasRoomFor streams.old.form streams.old.room (vec_len rows.old) (vec_capacity rows.old) }
-    ensures told { (before now : List (List Cell)) → IsTold streams.old before now → IsTold streams.new (if int_lt old new then relation_kept streams.old.form before (sorted_rows now) else before) now }
+    requires rows { HasRoomFor streams.old.form streams.old.room (length rows.old.written) rows.old.room }
+    ensures told { AdvancesOnRise old new streams.old streams.new }
     ensures alike { AreAlike streams.old streams.new }
-    ensures rows { (before now : List (List Cell)) → IsTold streams.old before now → rows.new.items ≡ rows.old.items ++ (if int_lt old new then stream_rows streams.old.form new before (sorted_rows now) else []) }
-    ensures capacity { vec_capacity rows.new ≡ vec_capacity rows.old }
+    ensures rows { WritesOnRise old new streams.old rows.old.written rows.new.written }
+    ensures room { rows.new.room ≡ rows.old.room }
 {
     if old < new {
         streams.advance(new, rows);

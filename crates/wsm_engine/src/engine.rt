@@ -97,7 +97,7 @@ impl Engine {
     pub fn rows(&self) -> &[OutRow]
         ensures { result.now ≡ self.now.rows }
     {
-        &self.operator.rows
+        self.operator.state.rows.as_slice()
     }
 
     /// How many panes are held.
@@ -105,7 +105,7 @@ impl Engine {
         ensures held { (past : List AnyEvent) → Fits self.now past → result ≡ length (held (query_of self.now.program) past) }
         ensures within { result ≤ self.now.program.header.budget.held }
     {
-        self.operator.held.len()
+        self.operator.state.held.len()
     }
 
     /// The program that is run.
@@ -143,7 +143,7 @@ impl Engine {
         ensures state { self.new ≡ turn self.old (event_of event.now) }
         ensures reply { result ≡ reply_by self.old (event_of event.now) }
     {
-        self.operator.rows.clear();
+        self.operator.state.rows.clear();
         let mark = self.admission.mark();
         let schema = &self.verified.program().header().schema;
         let answer = self.admission.decide(schema, event);

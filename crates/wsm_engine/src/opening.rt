@@ -1,18 +1,15 @@
 //! Reserving the room of a program's panes, rows and streams.
 
-ghost use Rattle.std.specs.Prelude.{◌≡◌, ◌≤◌, [], IfOk};
-ghost use Rattle.wsm_record.specs.declared.limits.TheConstants.{MAX_PANES};
-ghost use Rattle.wsm_semantics.specs.HeldBounds.{rows_of_panes as spec_rows_of_panes};
+ghost use Rattle.std.specs.Prelude.{◌≡◌, [], IfOk};
 ghost use Rattle.wsm_program.specs.View.{header_of};
 ghost use Rattle.wsm_panes.specs.Held.{entries_of};
 ghost use Rattle.wsm_engine.specs.Operator.{IsOf, last_relation, widths_of};
 
 use std::alloc::{AllocError, Global};
-use wsm_firing::{Streams, WindowOperator};
+use wsm_firing::{Streams, TurnRows, WindowOperator, WindowState};
 use wsm_machine::Machine;
 use wsm_panes::{HeldPanes, Widths};
 use wsm_program::Header;
-use wsm_record::Mode;
 use wsm_rules::Verified;
 use wsm_windows::live_bound;
 
@@ -23,31 +20,23 @@ use wsm_windows::live_bound;
 /// Where there is no memory for the room.
 pub fn open_operator(alloc: Global, verified: &Verified) -> Result<WindowOperator, AllocError>
     ensures program { IfOk result (IsOf verified.now) }
-    ensures panes { IfOk result (λ o. entries_of o.held ≡ []) }
-    ensures relation { IfOk result (λ o. last_relation o.streams (entries_of o.held) ≡ []) }
-    ensures rows { IfOk result (λ o. o.rows.items ≡ []) }
+    ensures panes { IfOk result (λ o. entries_of o.state.held ≡ []) }
+    ensures relation { IfOk result (λ o. last_relation o.state.streams (entries_of o.state.held) ≡ []) }
+    ensures rows { IfOk result (λ o. o.state.rows.written ≡ []) }
 {
     let header = verified.program().header();
     let keys = header.schema.key_count();
     let live = live_bound(header.shape, header.clock.skew, header.clock.lateness) as usize;
     let room = keys * live;
-    Ok(WindowOperator {
-        machine: Machine::open(alloc),
+    let state = WindowState {
         held: HeldPanes::open(alloc, keys, header.shape, live, widths(header))?,
         streams: Streams::open(alloc, header.form, room)?,
-        rows: Vec::with_capacity(alloc, rows_of_panes(header.mode, room))?,
+        rows: TurnRows::open(alloc, header.mode, room)?,
+    };
+    Ok(WindowOperator {
+        machine: Machine::open(alloc),
+        state,
     })
-}
-
-// The most rows of a turn, for so many panes: where panes retract each can write two.
-fn rows_of_panes(mode: Mode, panes: usize) -> usize
-    requires { panes ≤ MAX_PANES }
-    ensures { result ≡ spec_rows_of_panes mode panes }
-{
-    match mode {
-        Mode::Discarding | Mode::Accumulating => panes,
-        Mode::Retracting => panes * 2,
-    }
 }
 
 // How wide the panes of a program are.

@@ -17,7 +17,7 @@ pub mod RowsAfterRecord
 pub mod Past
 pub mod Jumps
 pub mod WatermarkWalk
-pub mod TurnRows
+pub mod RowsByMode
 pub mod ByKind
 mod ByPlace
 mod RetractPlaces

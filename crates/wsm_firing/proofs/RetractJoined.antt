@@ -25,7 +25,7 @@ use Rattle.wsm_panes.specs.Held.{first_two, has_fired, joined_panes}
 use Rattle.wsm_firing.specs.Retracting.{AreWithdrawn, withdrawn_pair}
 use Rattle.wsm_firing.proofs.RetractWalk.{Panes, Written}
 use Rattle.wsm_firing.proofs.RowsAfterRecord.{length_parts}
-use Rattle.wsm_firing.proofs.TurnRows.{retracted_when}
+use Rattle.wsm_firing.proofs.RowsByMode.{retracted_when}
 use Rattle.wsm_firing.proofs.Walk.{some_same}
 
 -- neither the mark nor the values of a record matter

@@ -1,9 +1,12 @@
 pub mod Tally
+pub mod Spots
 pub mod Due
+pub mod TurnRows
 pub mod Firing
 pub mod ByRecord
 pub mod ByWatermark
 pub mod Streams
 pub mod StreamsKept
 pub mod Operator
+pub mod Fires
 pub mod Retracting

@@ -1,5 +1,5 @@
 -- The streams of the relation that stands for the panes, by what it gains and loses.
-use Rattle.std.specs.Prelude.{◌≡◌, ℕ, ◌+◌, ◌≤◌, Bool, false, not, ◌&&◌, List, [], ◌∷◌, length, ℤ, filter_map, Option, if◌then◌else◌}
+use Rattle.std.specs.Prelude.{◌≡◌, ℕ, ◌+◌, ◌≤◌, Bool, false, not, ◌&&◌, List, [], ◌∷◌, ◌++◌, length, ℤ, pos, filter_map, Option, if◌then◌else◌}
 use Rattle.std.specs.List.{cons_option}
 use Rattle.std.specs.FinMap.Entries.{where_key}
 use Rattle.wsm_record.specs.declared.event.Value.{Value}
@@ -12,8 +12,13 @@ use Rattle.wsm_windows.specs.declared.place.Place.{Place}
 use Rattle.wsm_windows.specs.Places.{place_cmp}
 use Rattle.wsm_semantics.specs.Query.{Datum}
 use Rattle.wsm_semantics.specs.Kept.{is_linked}
+use Rattle.wsm_semantics.specs.Relation.{sorted_rows, stream_rows}
+use Rattle.wsm_semantics.specs.Replay.{datum}
+use Rattle.wsm_semantics.specs.declared.out_row.OutRow.{OutRow}
 use Rattle.wsm_semantics.specs.Summaries.{Pane, linked, standing_row}
-use Rattle.wsm_panes.specs.Held.{has_fired}
+use Rattle.wsm_panes.specs.declared.spot.Spot.{Spot}
+use Rattle.wsm_panes.specs.Held.{Held, entries_of, has_fired}
+use Rattle.wsm_firing.specs.Spots.{Holds}
 use Rattle.wsm_relation.specs.Rows.{IsInOrder}
 use Rattle.wsm_relation.specs.Delta.{IsDelta, IsChange, undone}
 
@@ -35,8 +40,13 @@ are_both_fired _ = false
 
 -- the rows that stand once a record is put in: two sessions that both fired and are joined stand for nothing
 abbrev pub rows_with : Shape → Datum → List (Place × Pane (List Value)) → List (List Cell)
-rows_with (Session gap) d panes = if are_both_fired (linked gap d panes) then standing_rows (where_key place_cmp (λ p. not (is_linked gap d p)) panes) else standing_rows panes
+rows_with (Session gap) d panes =
+    if are_both_fired (linked gap d panes) then standing_rows (where_key place_cmp (λ p. not (is_linked gap d p)) panes) else standing_rows panes
 rows_with shape d panes = standing_rows panes
+
+-- once a record of a key and a time is
+abbrev pub rows_entered : Held → ℕ → ℤ → List (List Cell)
+rows_entered h key time = rows_with h.shape (datum 0 (pos 0) key time []) (entries_of h)
 
 -- ---- what was told of the relation at the last instant and of the one now
 
@@ -59,6 +69,25 @@ IsToldOf form.Rstream numbers before now = HasKept numbers before now
 abbrev pub IsTold : Told → List (List Cell) → List (List Cell) → Type 0
 IsTold s before now = IsToldOf s.form s.numbers before now
 
+-- what was told of some rows is told of others
+abbrev pub TellsRows : Told → Told → List (List Cell) → List (List Cell) → Type 0
+TellsRows old new before after = (relation : List (List Cell)) → IsTold old relation before → IsTold new relation after
+
+-- or of those that stand for some panes
+abbrev pub TellsPanes : {X : Type 0} → Told → Told → List (Place × Pane X) → List (Place × Pane X) → Type 0
+TellsPanes old new before after = TellsRows old new (standing_rows before) (standing_rows after)
+
+-- a row is lost, or gained, if there is one
+abbrev pub Loses : Told → Told → Option (List Cell) → Type 0
+Loses old new row = (before now : List (List Cell)) → IsTold old before (cons_option row now) → IsTold new before now
+
+abbrev pub Gains : Told → Told → Option (List Cell) → Type 0
+Gains old new row = (before now : List (List Cell)) → IsTold old before now → IsTold new before (cons_option row now)
+
+-- that of the pane at a spot
+abbrev pub LosesHeld : Held → Spot → Told → Told → Type 0
+LosesHeld h spot old new = (pane : Pane (List Value)) → Holds h spot pane → Loses old new (standing_row pane.stands)
+
 -- the relation at the last instant, from the one now: it is kept where changes against it are written
 abbrev pub relation_before : Form → List (List Cell × ℤ) → List (List Cell) → List (List Cell)
 relation_before form.Istream numbers now = undone numbers now
@@ -77,6 +106,10 @@ pub record CanLose (s : Told) (row : Option (List Cell)) : Type 0 where
   pub rest : List (List Cell)
   pub told : IsTold s before (cons_option row rest)
   pub within : AreWithin s.room before (cons_option row rest)
+
+-- that of the pane at a spot
+abbrev pub CanLoseHeld : Held → Spot → Told → Type 0
+CanLoseHeld h spot s = (pane : Pane (List Value)) → Holds h spot pane → CanLose s (standing_row pane.stands)
 
 -- some rows and those of two panes, where both fired
 abbrev pub rows_and : Pane (List Value) → Pane (List Value) → List (List Cell) → List (List Cell)
@@ -117,7 +150,7 @@ pub record AreAlike (old new : Told) : Type 0 where
 
 -- what was told of some panes is told of those that they became, as many
 pub record Tells {X : Type 0} (old new : Told) (before after : List (Place × Pane X)) : Type 0 where
-  pub told : (relation : List (List Cell)) → IsTold old relation (standing_rows before) → IsTold new relation (standing_rows after)
+  pub told : TellsPanes old new before after
   pub alike : AreAlike old new
   pub as_many : length after ≡ length before
 
@@ -136,3 +169,11 @@ relation_kept form.Istream old now = now
 relation_kept form.Dstream old now = now
 relation_kept form.Panes old now = old
 relation_kept form.Rstream old now = old
+
+-- the next instant is the one of the relation that stands
+abbrev pub Advances : Told → Told → Type 0
+Advances old new = (before now : List (List Cell)) → IsTold old before now → IsTold new (relation_kept old.form before (sorted_rows now)) now
+
+-- the rows of the stream at a mark stand behind those that were there
+abbrev pub WritesAt : Told → ℤ → List OutRow → List OutRow → Type 0
+WritesAt s mark rows written = (before now : List (List Cell)) → IsTold s before now → written ≡ rows ++ stream_rows s.form mark before (sorted_rows now)

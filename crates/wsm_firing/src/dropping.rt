@@ -1,22 +1,21 @@
 //! Panes that are dropped.
 
-ghost use Rattle.std.specs.Prelude.{◌≡◌, List, int_lt};
+ghost use Rattle.std.specs.Prelude.{◌≡◌, int_lt};
 ghost use Rattle.std.specs.List.{AllByRecursion};
 ghost use Rattle.std.specs.FinMap.Entries.{where_key};
-ghost use Rattle.wsm_record.specs.declared.cell.Cell.{Cell};
 ghost use Rattle.wsm_windows.specs.Life.{is_live};
 ghost use Rattle.wsm_windows.specs.Windows.{IsPlaced, IsSpan};
 ghost use Rattle.wsm_windows.specs.Places.{place_cmp, window_of};
 ghost use Rattle.wsm_panes.specs.Held.{IsKept, entries_of};
-ghost use Rattle.wsm_firing.specs.Streams.{AreAlike, CanTell, IsTold, standing_rows};
+ghost use Rattle.wsm_firing.specs.Streams.{AreAlike, CanTell, TellsPanes};
 
-use crate::operator::WindowOperator;
+use crate::operator::WindowState;
 use crate::streams::Streams;
 use wsm_panes::HeldPanes;
 use wsm_record::Form;
 use wsm_windows::last_expired;
 
-impl WindowOperator {
+impl WindowState {
     /// Drops the panes of windows that aren't live at a mark, and tells the streams the rows that stood
     /// for them. The lateness is in event time.
     pub fn drop_expired(&mut self, mark: i64, lateness: i64)
@@ -25,7 +24,7 @@ impl WindowOperator {
         requires tells { CanTell self.old.streams (entries_of self.old.held) }
         ensures panes { entries_of self.new.held ≡ where_key place_cmp (λ p. is_live (window_of p) lateness mark) (entries_of self.old.held) }
         ensures keeps { IsKept self.old.held self.new.held }
-        ensures told { (relation : List (List Cell)) → IsTold self.old.streams relation (standing_rows (entries_of self.old.held)) → IsTold self.new.streams relation (standing_rows (entries_of self.new.held)) }
+        ensures told { TellsPanes self.old.streams self.new.streams (entries_of self.old.held) (entries_of self.new.held) }
         ensures alike { AreAlike self.old.streams self.new.streams }
         ensures rows { self.new.rows ≡ self.old.rows }
     {
@@ -39,7 +38,7 @@ impl WindowOperator {
 fn lose_expired(streams: &mut Streams, held: &HeldPanes, limit: i64)
     requires placed { AllByRecursion (λ e. IsPlaced (window_of e.0)) (entries_of held.now) }
     requires tells { CanTell streams.old (entries_of held.now) }
-    ensures told { (relation : List (List Cell)) → IsTold streams.old relation (standing_rows (entries_of held.now)) → IsTold streams.new relation (standing_rows (where_key place_cmp (λ p. int_lt limit p.end) (entries_of held.now))) }
+    ensures told { TellsPanes streams.old streams.new (entries_of held.now) (where_key place_cmp (λ p. int_lt limit p.end) (entries_of held.now)) }
     ensures alike { AreAlike streams.old streams.new }
 {
     if let Form::Panes = streams.form() {
@@ -53,7 +52,7 @@ fn lose_expired(streams: &mut Streams, held: &HeldPanes, limit: i64)
 fn lose_due(streams: &mut Streams, held: &HeldPanes, limit: i64)
     requires placed { AllByRecursion (λ e. IsPlaced (window_of e.0)) (entries_of held.now) }
     requires tells { CanTell streams.old (entries_of held.now) }
-    ensures told { (relation : List (List Cell)) → IsTold streams.old relation (standing_rows (entries_of held.now)) → IsTold streams.new relation (standing_rows (where_key place_cmp (λ p. int_lt limit p.end) (entries_of held.now))) }
+    ensures told { TellsPanes streams.old streams.new (entries_of held.now) (where_key place_cmp (λ p. int_lt limit p.end) (entries_of held.now)) }
     ensures alike { AreAlike streams.old streams.new }
 {
     let mut next = held.first_due(limit);

@@ -1,17 +1,15 @@
 //! Where the panes are that can fire.
 
-ghost use Rattle.std.specs.Prelude.{◌≡◌, ◌≢◌, ◌≤ℤ◌, ◌+◌, ℕ, ℤ, List, map, IfSome, IsSome, Some, slice_get};
+ghost use Rattle.std.specs.Prelude.{◌≡◌, ◌≢◌, ◌≤ℤ◌, ℕ, ℤ, map, IfSome, IsSome};
 ghost use Rattle.std.specs.FinMap.Entries.{find};
-ghost use Rattle.wsm_record.specs.declared.event.Value.{Value};
 ghost use Rattle.wsm_windows.specs.declared.window.Shape.TheVariants.{Session};
 ghost use Rattle.wsm_windows.specs.Life as life;
 ghost use Rattle.wsm_windows.specs.Windows.{IsTime};
 ghost use Rattle.wsm_windows.specs.Places.{at, place_cmp};
-ghost use Rattle.wsm_semantics.specs.Summaries.{Pane as AnyPane};
 ghost use Rattle.wsm_panes.specs.Held.{IsSpot, entries_of};
 ghost use Rattle.wsm_panes.specs.Walk.{place_found};
 ghost use Rattle.wsm_firing.specs.ByRecord.{AreInOrder};
-ghost use Rattle.wsm_firing.specs.ByWatermark.{IsNextToFire};
+ghost use Rattle.wsm_firing.specs.ByWatermark.{IsNextBehind, IsNextToFire};
 
 use wsm_panes::{HeldPanes, Spot};
 use wsm_rules::Verified;
@@ -49,7 +47,7 @@ pub fn next_to_fire(held: &HeldPanes, spot: Spot, expired: i64, old: i64, new: i
     requires order { expired ≤ℤ new }
     requires there { IsSome (find place_cmp spot.place (entries_of held.now)) }
     requires spot { IsSpot held.now spot }
-    ensures next { (i : ℕ) (pane : AnyPane (List Value)) → slice_get (entries_of held.now) i ≡ Some (spot.place, pane) → IsNextToFire expired old new (entries_of held.now) (i + 1) (place_found result) }
+    ensures next { IsNextBehind expired old new (entries_of held.now) spot.place (place_found result) }
     ensures spot { IfSome result (IsSpot held.now) }
 {
     if spot.place.end > expired {

@@ -2,10 +2,9 @@
 
 ghost use Rattle.std.specs.Prelude.{◌≡◌, ◌≤◌, None, Some, if◌then◌else◌, length, option_map, IfSome};
 ghost use Rattle.wsm_record.specs.declared.limits.TheConstants.{MAX_COLUMNS};
-ghost use Rattle.wsm_semantics.specs.Summaries.{columns as columns_by, fired_count};
-ghost use Rattle.wsm_machine.specs.Meaning.{plan_of, pane_cost_by};
 ghost use Rattle.wsm_machine.specs.Sound.{MayFire};
 ghost use Rattle.wsm_firing.specs.Due.{fired_by};
+ghost use Rattle.wsm_firing.specs.Fires.{IsRun};
 
 use crate::fire::Due;
 use wsm_machine::{Inputs, Machine};
@@ -32,10 +31,9 @@ pub fn run<'a>(
     pane: &PaneView<'_>,
 ) -> Ran<'a>
     requires { MayFire verified.now (fired_by verified.now.header.mode due pane.now) }
-    ensures row { option_map (λ cells. cells.now) result.row ≡ columns_by (plan_of verified.now) due.spot.place.key (fired_count verified.now.header.mode pane.now) pane.now.folded }
+    ensures ran { IsRun verified.now due pane.now (option_map (λ cells. cells.now) result.row) result.steps }
     ensures wide { IfSome result.row (λ cells. length cells.now ≡ length verified.now.header.columns) }
     ensures few { IfSome result.row (λ cells. length cells.now ≤ MAX_COLUMNS) }
-    ensures steps { result.steps ≡ pane_cost_by verified.now (fired_by verified.now.header.mode due pane.now) }
 {
     let header = verified.program().header();
     let inputs = Inputs {

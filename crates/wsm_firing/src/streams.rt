@@ -1,27 +1,21 @@
 //! The streams of the relation.
 
+ghost use Rattle.std.specs.Prelude.{◌≡◌, ◌≤◌, [], IsSome, Some, length, option_map, IfOk, IfSome};
 ghost use Rattle.std.specs.FinMap.Entries.{find};
-ghost use Rattle.wsm_windows.specs.Places.{place_cmp};
-ghost use Rattle.wsm_record.specs.declared.event.Value.{Value};
-ghost use Rattle.wsm_panes.specs.Held.{IsSpot, entries_of};
-ghost use Rattle.std.specs.Prelude.{◌≡◌, ◌≤◌, ◌+◌, ◌++◌, [], ◌∷◌, List, IsSome, Some, map, length, option_map, replicate, ◌*◌, IfOk, IfSome, vec_len, vec_capacity};
-ghost use Rattle.std.specs.List.{cons_option};
-ghost use Rattle.wsm_record.specs.declared.cell.Cell.{Cell};
 ghost use Rattle.wsm_record.specs.declared.limits.TheConstants.{MAX_COLUMNS};
-ghost use Rattle.wsm_semantics.specs.Relation.{sorted_rows};
-ghost use Rattle.wsm_semantics.specs.Summaries.{Pane, standing_row};
-ghost use Rattle.wsm_semantics.specs.Relation.{stream_rows};
-ghost use Rattle.wsm_firing.specs.Streams.{AreAlike, CanAdvance, CanGain, CanLose, HasRoomFor, IsTold, relation_kept};
-ghost use Rattle.wsm_relation.specs.Delta.{changed_row, changed_rows};
+ghost use Rattle.wsm_windows.specs.Places.{place_cmp};
+ghost use Rattle.wsm_semantics.specs.Summaries.{standing_row};
+ghost use Rattle.wsm_panes.specs.Held.{IsSpot, entries_of};
+ghost use Rattle.wsm_firing.specs.Streams.{Advances, AreAlike, CanAdvance, CanGain, CanLose, CanLoseHeld, Gains, HasRoomFor, Loses, LosesHeld, WritesAt};
 ghost use Rattle.wsm_firing.specs.StreamsKept.{numbers_after, room_of};
 
+use crate::turn_rows::TurnRows;
 use std::alloc::{AllocError, Global};
 use std::marker::Model;
 use wsm_panes::{HeldPanes, PaneView, Spot};
 use wsm_record::limits::{MAX_COLUMNS, MAX_PANES};
 use wsm_record::{Cell, Columns, Form};
 use wsm_relation::{Changes, Side};
-use wsm_semantics::OutRow;
 
 /// The streams of the relation of the rows that stand for the panes that are held, which is told each
 /// row that it gains and each that it loses: what it gained since the last instant, what it lost, or
@@ -89,7 +83,7 @@ impl Streams {
     #[inline(always)]
     pub(crate) fn lose(&mut self, pane: &PaneView<'_>)
         requires { CanLose self.old (standing_row pane.now.stands) }
-        ensures told { (before now : List (List Cell)) → IsTold self.old before (cons_option (standing_row pane.now.stands) now) → IsTold self.new before now }
+        ensures told { Loses self.old self.new (standing_row pane.now.stands) }
         ensures alike { AreAlike self.old self.new }
     {
         if let Kept::Nothing = &self.kept {
@@ -103,8 +97,8 @@ impl Streams {
     pub(crate) fn lose_held(&mut self, held: &HeldPanes, spot: Spot)
         requires there { IsSome (find place_cmp spot.place (entries_of held.now)) }
         requires spot { IsSpot held.now spot }
-        requires can { (pane : Pane (List Value)) → find place_cmp spot.place (entries_of held.now) ≡ Some pane → CanLose self.old (standing_row pane.stands) }
-        ensures told { (pane : Pane (List Value)) → find place_cmp spot.place (entries_of held.now) ≡ Some pane → (before now : List (List Cell)) → IsTold self.old before (cons_option (standing_row pane.stands) now) → IsTold self.new before now }
+        requires can { CanLoseHeld held.now spot self.old }
+        ensures told { LosesHeld held.now spot self.old self.new }
         ensures alike { AreAlike self.old self.new }
     {
         if let Kept::Nothing = &self.kept {
@@ -120,8 +114,8 @@ impl Streams {
     fn lose_at(&mut self, held: &HeldPanes, spot: Spot)
         requires there { IsSome (find place_cmp spot.place (entries_of held.now)) }
         requires spot { IsSpot held.now spot }
-        requires can { (pane : Pane (List Value)) → find place_cmp spot.place (entries_of held.now) ≡ Some pane → CanLose self.old (standing_row pane.stands) }
-        ensures told { (pane : Pane (List Value)) → find place_cmp spot.place (entries_of held.now) ≡ Some pane → (before now : List (List Cell)) → IsTold self.old before (cons_option (standing_row pane.stands) now) → IsTold self.new before now }
+        requires can { CanLoseHeld held.now spot self.old }
+        ensures told { LosesHeld held.now spot self.old self.new }
         ensures alike { AreAlike self.old self.new }
     {
         self.lose_standing(&held.pane(spot));
@@ -131,7 +125,7 @@ impl Streams {
     #[inline(always)]
     fn lose_standing(&mut self, pane: &PaneView<'_>)
         requires { CanLose self.old (standing_row pane.now.stands) }
-        ensures told { (before now : List (List Cell)) → IsTold self.old before (cons_option (standing_row pane.now.stands) now) → IsTold self.new before now }
+        ensures told { Loses self.old self.new (standing_row pane.now.stands) }
         ensures alike { AreAlike self.old self.new }
     {
         let mut row = Columns::new();
@@ -145,7 +139,7 @@ impl Streams {
     pub(crate) fn gain(&mut self, row: Option<&[Cell]>)
         requires few { IfSome row (λ cells. length cells.now ≤ MAX_COLUMNS) }
         requires can { CanGain self.old (option_map (λ cells. cells.now) row) }
-        ensures told { (before now : List (List Cell)) → IsTold self.old before now → IsTold self.new before (cons_option (option_map (λ cells. cells.now) row.entry) now) }
+        ensures told { Gains self.old self.new (option_map (λ cells. cells.now) row.entry) }
         ensures alike { AreAlike self.old self.new }
     {
         if let Kept::Nothing = &self.kept {
@@ -159,7 +153,7 @@ impl Streams {
     fn gain_standing(&mut self, row: Option<&[Cell]>)
         requires few { IfSome row (λ cells. length cells.now ≤ MAX_COLUMNS) }
         requires can { CanGain self.old (option_map (λ cells. cells.now) row) }
-        ensures told { (before now : List (List Cell)) → IsTold self.old before now → IsTold self.new before (cons_option (option_map (λ cells. cells.now) row.entry) now) }
+        ensures told { Gains self.old self.new (option_map (λ cells. cells.now) row.entry) }
         ensures alike { AreAlike self.old self.new }
     {
         if let Some(cells) = row {
@@ -169,7 +163,7 @@ impl Streams {
 
     fn lose_row(&mut self, row: &Columns)
         requires { CanLose self.old (Some row.now) }
-        ensures told { (before now : List (List Cell)) → IsTold self.old before (row.now ∷ now) → IsTold self.new before now }
+        ensures told { Loses self.old self.new (Some row.now) }
         ensures alike { AreAlike self.old self.new }
     {
         match &mut self.kept {
@@ -180,7 +174,7 @@ impl Streams {
 
     fn gain_row(&mut self, row: &Columns)
         requires { CanGain self.old (Some row.now) }
-        ensures told { (before now : List (List Cell)) → IsTold self.old before now → IsTold self.new before (row.now ∷ now) }
+        ensures told { Gains self.old self.new (Some row.now) }
         ensures alike { AreAlike self.old self.new }
     {
         match &mut self.kept {
@@ -191,18 +185,18 @@ impl Streams {
 
     /// The next instant, at a watermark: appends the rows of the stream to those of the turn, and goes
     /// on from the relation that stands now. Nothing changes where rows are those of panes.
-    pub fn advance(&mut self, mark: i64, rows: &mut Vec<OutRow>)
+    pub fn advance(&mut self, mark: i64, rows: &mut TurnRows)
         requires told { CanAdvance self.old }
-        requires rows { HasRoomFor self.old.form self.old.room (vec_len rows.old) (vec_capacity rows.old) }
-        ensures told { (before now : List (List Cell)) → IsTold self.old before now → IsTold self.new (relation_kept self.old.form before (sorted_rows now)) now }
+        requires rows { HasRoomFor self.old.form self.old.room (length rows.old.written) rows.old.room }
+        ensures told { Advances self.old self.new }
         ensures alike { AreAlike self.old self.new }
-        ensures rows { (before now : List (List Cell)) → IsTold self.old before now → rows.new.items ≡ rows.old.items ++ stream_rows self.old.form mark before (sorted_rows now) }
-        ensures capacity { vec_capacity rows.new ≡ vec_capacity rows.old }
+        ensures rows { WritesAt self.old mark rows.old.written rows.new.written }
+        ensures room { rows.new.room ≡ rows.old.room }
     {
         match &mut self.kept {
             Kept::Nothing => {}
             Kept::Changed(side, changes) => {
-                changes.write(*side, mark, rows);
+                rows.write_changes(changes, *side, mark);
                 go_on(*side, changes);
             }
         }

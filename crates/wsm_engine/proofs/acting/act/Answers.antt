@@ -12,7 +12,7 @@ take_record-requires-clause-comes c =
     let is : c.args.answer ≡ Ok admitted.Record = search rules in
     let ev : event_of c.args.event.now ≡ Record (Some h.key) h.time h.values.items = search rules in
     let mark : SFits w64 c.args.mark = c.ranges.mark in
-    let all = comes_with c.args.verified.now c.requires.comes.0 c.args.operator.now.held c.args.mark c.args.answer (event_of c.args.event.now) c.requires.comes.1 (Some h.key) h.time h.values.items is ev in
+    let all = comes_with c.args.verified.now c.requires.comes.0 c.args.operator.now.state.held c.args.mark c.args.answer (event_of c.args.event.now) c.requires.comes.1 (Some h.key) h.time h.values.items is ev in
     let time : SFits w64 h.time = time_fits c.args.verified.now c.requires.comes.0 c.args.operator.now c.requires.program c.args.mark h.key h.time h.values.items c.args.answer (event_of c.args.event.now) c.requires.comes.1 is ev in
     (c.requires.comes.0, rw c.deref.ensures.value (simp to_z-of_z all))
 
@@ -21,9 +21,9 @@ take_watermark-requires-clause-comes c =
     let h = c.in-Ok-Watermark in
     let p = c.args.verified.now in
     let is : c.args.answer ≡ Ok (admitted.Watermark h.old h.new) = search rules in
-    let all = comes_at p c.requires.comes.0 c.args.operator.now.held c.args.mark c.args.answer (event_of c.args.event.now) c.requires.comes.1 h.old h.new is in
+    let all = comes_at p c.requires.comes.0 c.args.operator.now.state.held c.args.mark c.args.answer (event_of c.args.event.now) c.requires.comes.1 h.old h.new is in
     let new : SFits w64 h.new = mark_fits p c.requires.comes.0 c.args.operator.now c.args.mark c.args.answer (event_of c.args.event.now) c.requires.comes.1 c.requires.program h.old h.new is in
-    let old : SFits w64 h.old = old_fits p c.requires.comes.0 c.args.operator.now.held c.args.mark c.args.answer (event_of c.args.event.now) c.requires.comes.1 h.old h.new is c.ranges.mark in
+    let old : SFits w64 h.old = old_fits p c.requires.comes.0 c.args.operator.now.state.held c.args.mark c.args.answer (event_of c.args.event.now) c.requires.comes.1 h.old h.new is c.ranges.mark in
     (c.requires.comes.0, all.0, all.1, simp to_z-of_z all.2)
 
 pub returns-in-Record-Some-default-default : goal.returns-in-Record-Some-default-default
@@ -37,7 +37,7 @@ returns-in-Record-Some-default-default c =
     let time : SFits w64 h.time = time_fits p c.requires.comes.0 c.args.operator.now c.requires.program c.args.mark h.key h.time h.values.items answer event c.requires.comes.1 is ev in
     record {
       program = c.take_record.ensures.program;
-      capacity = c.take_record.ensures.capacity;
+      room = c.take_record.ensures.room;
       panes = λ s at. (simp to_z-of_z at (rw c.deref.ensures.value at c.take_record.ensures.panes)) ∙ panes_record p c.args.operator.now c.args.mark s at answer event h.key h.time h.values.items is ev;
       relation = λ s at. search rules;
       rows = λ s at. (simp to_z-of_z at (rw c.deref.ensures.value at c.take_record.ensures.rows)) ∙ rows_record p c.args.operator.now c.args.mark s at answer event h.key h.time h.values.items is ev;
@@ -52,10 +52,10 @@ returns-in-Ok-Watermark c =
     let answer = c.args.answer in let event = event_of c.args.event.now in
     let is : answer ≡ Ok (admitted.Watermark h.old h.new) = search rules in
     let new : SFits w64 h.new = mark_fits p c.requires.comes.0 c.args.operator.now c.args.mark answer event c.requires.comes.1 c.requires.program h.old h.new is in
-    let old : SFits w64 h.old = old_fits p c.requires.comes.0 c.args.operator.now.held c.args.mark answer event c.requires.comes.1 h.old h.new is c.ranges.mark in
+    let old : SFits w64 h.old = old_fits p c.requires.comes.0 c.args.operator.now.state.held c.args.mark answer event c.requires.comes.1 h.old h.new is c.ranges.mark in
     record {
       program = c.take_watermark.ensures.program;
-      capacity = c.take_watermark.ensures.capacity;
+      room = c.take_watermark.ensures.room;
       panes = λ s at. (simp to_z-of_z at c.take_watermark.ensures.panes) ∙ panes_mark p c.args.operator.now c.args.mark s at answer event h.old h.new is;
       relation = λ s at. (simp to_z-of_z at c.take_watermark.ensures.relation) ∙ relation_mark p c.args.operator.now c.args.mark s at answer event h.old h.new is;
       rows = λ s at. (simp to_z-of_z at c.take_watermark.ensures.rows) ∙ rows_mark p c.args.operator.now c.args.mark s at answer event h.old h.new is;

@@ -35,7 +35,7 @@ enter-entered-requires-clause-room c =
 pub enter-entered-requires-clause-tells : goal.enter-entered-requires-clause-tells
 enter-entered-requires-clause-tells c =
     let p = c.args.verified.now in let of = c.requires.program in let comes = c.requires.comes in
-    let s = c.args.operator.now.streams in let es = entries_of c.args.operator.now.held in
+    let s = c.args.operator.now.state.streams in let es = entries_of c.args.operator.now.state.held in
     let few = held_within p comes.0 c.args.operator.now of c.args.mark _ _ comes.1 in
     can_tell (most_panes (query_of p)) s s es es of.streams of.room (same_alike s) (λ relation told. told) few
 
@@ -78,8 +78,8 @@ returns-clause-rows c =
     let p = c.args.verified.now in
     let mark : SFits w64 c.args.mark = c.ranges.mark in
     let time : SFits w64 c.args.time = c.ranges.time in
-    (simp to_z-of_z at (c.enter-entered.ensures.rows (plan_of p) c.args.inputs.now.values.now))
-    ∙ (λ i. retracted_in p.header.mode (withdrawn_entering (plan_of p) (c.requires.program.shape i) (datum 0 c.args.mark c.args.inputs.now.key c.args.time c.args.inputs.now.values.now) (entries_of c.args.operator.now.held)))
+    (simp to_z-of_z at (c.enter-entered.ensures.rows (plan_of p) c.args.mark c.args.inputs.now.values.now))
+    ∙ (λ i. retracted_in p.header.mode (withdrawn_entering (plan_of p) (c.requires.program.shape i) (datum 0 c.args.mark c.args.inputs.now.key c.args.time c.args.inputs.now.values.now) (entries_of c.args.operator.now.state.held)))
 
 pub returns-clause-few : goal.returns-clause-few
 returns-clause-few c =
@@ -90,7 +90,7 @@ returns-clause-few c =
     (simp to_z-of_z at c.enter-entered.ensures.panes)
     ∙ entered_is p comes.0 c.args.operator.now of c.args.mark c.args.inputs.now.key c.args.time c.args.inputs.now.values.now comes.1 c.requires.selected p.header.kinds c.update-updated.result.values.now refl (given (goal.at.returns-clause-few c).After-update-updated) in
     c.enter-entered.ensures.few (most_panes (query_of p)) (held_within p comes.0 c.args.operator.now of c.args.mark _ _ comes.1)
-    (few_entered p comes.0 c.args.operator.now of c.args.mark c.args.inputs.now.key c.args.time c.args.inputs.now.values.now comes.1 c.requires.selected (entries_of c.enter-entered.new.held) panes)
+    (few_entered p comes.0 c.args.operator.now of c.args.mark c.args.inputs.now.key c.args.time c.args.inputs.now.values.now comes.1 c.requires.selected (entries_of c.enter-entered.new.self.held) panes)
 
 pub returns-clause-steps : goal.returns-clause-steps
 returns-clause-steps c =

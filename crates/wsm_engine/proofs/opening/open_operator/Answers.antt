@@ -35,17 +35,22 @@ live_bound-live-requires-clause-skew c = span_seen c.header-header.result.now.cl
 pub live_bound-live-requires-clause-lateness : goal.live_bound-live-requires-clause-lateness
 live_bound-live-requires-clause-lateness c = span_seen c.header-header.result.now.clock.lateness (declared (goal.at.live_bound-live-requires-clause-lateness c).After-header-header).lateness
 
-pub open-requires-2-clause-shape : goal.open-requires-2-clause-shape
-open-requires-2-clause-shape c = (declared (goal.at.open-requires-2-clause-shape c).After-header-header).shape
+pub open-requires-clause-shape : goal.open-requires-clause-shape
+open-requires-clause-shape c = (declared (goal.at.open-requires-clause-shape c).After-header-header).shape
 
 pub overflow_mul-room : goal.overflow_mul-room
 overflow_mul-room c =
     let few = few (goal.at.overflow_mul-room c).After-live_bound-live in
     omega (arith, few)
 
-pub open-requires-2-clause-room : goal.open-requires-2-clause-room
-open-requires-2-clause-room c =
-    let few = few (goal.at.open-requires-2-clause-room c).After-live_bound-live in
+pub open-requires-clause-room : goal.open-requires-clause-room
+open-requires-clause-room c =
+    let few = few (goal.at.open-requires-clause-room c).After-live_bound-live in
+    omega (arith, few)
+
+pub open-requires-2 : goal.open-requires-2
+open-requires-2 c =
+    let few = few (goal.at.open-requires-2 c).After-live_bound-live in
     omega (arith, few)
 
 pub open-requires-3 : goal.open-requires-3
@@ -53,18 +58,13 @@ open-requires-3 c =
     let few = few (goal.at.open-requires-3 c).After-live_bound-live in
     omega (arith, few)
 
-pub rows_of_panes-requires : goal.rows_of_panes-requires
-rows_of_panes-requires c =
-    let few = few (goal.at.rows_of_panes-requires c).After-live_bound-live in
-    omega (arith, few)
-
-pub open-requires-2-clause-accumulators : goal.open-requires-2-clause-accumulators
-open-requires-2-clause-accumulators c =
-    let kinds = (declared (goal.at.open-requires-2-clause-accumulators c).After-header-header).kinds in
+pub open-requires-clause-accumulators : goal.open-requires-clause-accumulators
+open-requires-clause-accumulators c =
+    let kinds = (declared (goal.at.open-requires-clause-accumulators c).After-header-header).kinds in
     omega (arith, ap (λ (w : Widths). w.accumulators) c.widths.ensures, kinds)
 
-pub open-requires-2-clause-columns : goal.open-requires-2-clause-columns
-open-requires-2-clause-columns c =
+pub open-requires-clause-columns : goal.open-requires-clause-columns
+open-requires-clause-columns c =
     let columns = (lawful_firing c.program.result.now (header_of c.header-header.result.now) c.header-header.ensures.header c.header-header.ensures.lawful).columns in
     omega (arith, ap (λ (w : Widths). w.columns) c.widths.ensures, columns)
 

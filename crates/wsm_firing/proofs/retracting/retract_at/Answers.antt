@@ -26,7 +26,7 @@ fires_is c = let mark : SFits w64 c.args.mark = c.ranges.mark in ap is_some (sym
 pub returns-in_default-clause-rows : goal.returns-in_default-clause-rows
 returns-in_default-clause-rows c =
     let p = c.args.verified.now in let es = entries_of c.args.held.now in
-    put_none (plan_of p) (query_of p) c.args.mark c.args.place es (map.entries_sorted c.args.held.now.panes) (none_found c.args.place (find place_cmp c.args.place es) (sym c.find.ensures.place ∙ ap place_found c.in_default.is)) c.args.rows.now.items
+    put_none (plan_of p) (query_of p) c.args.mark c.args.place es (map.entries_sorted c.args.held.now.panes) (none_found c.args.place (find place_cmp c.args.place es) (sym c.find.ensures.place ∙ ap place_found c.in_default.is)) c.args.rows.now.written
 
 pub retract-requires : goal.retract-requires
 retract-requires c =
@@ -43,14 +43,14 @@ returns-then-is_some-clause-rows c =
     let at = (found (goal.at.returns-then-is_some-clause-rows c).In-Some).0 in
     let fires = fires_is (goal.at.returns-then-is_some-clause-rows c).After-is_some ∙ c.if-is_some.true in
     put_one (plan_of p) (query_of p) c.args.mark c.args.place es (map.entries_sorted c.args.held.now.panes) c.pane-pane.result (there (goal.at.returns-then-is_some-clause-rows c).After-pane-pane at) fires
-    c.args.rows.now.items c.retract.new.rows.items (c.retract.ensures.rows c.args.place refl)
+    c.args.rows.now.written c.retract.new.rows.written (c.retract.ensures.rows c.args.place refl)
 
 pub returns-else-is_some-clause-rows : goal.returns-else-is_some-clause-rows
 returns-else-is_some-clause-rows c =
     let p = c.args.verified.now in let es = entries_of c.args.held.now in
     let at = (found (goal.at.returns-else-is_some-clause-rows c).In-Some).0 in
     let quiet = fires_is (goal.at.returns-else-is_some-clause-rows c).After-is_some ∙ c.if-is_some.false in
-    put_quiet (plan_of p) (query_of p) c.args.mark c.args.place es (map.entries_sorted c.args.held.now.panes) c.pane-pane.result (there (goal.at.returns-else-is_some-clause-rows c).After-pane-pane at) quiet c.args.rows.now.items
+    put_quiet (plan_of p) (query_of p) c.args.mark c.args.place es (map.entries_sorted c.args.held.now.panes) c.pane-pane.result (there (goal.at.returns-else-is_some-clause-rows c).After-pane-pane at) quiet c.args.rows.now.written
 
 pub pane-pane-requires-clause-spot : goal.pane-pane-requires-clause-spot
 pane-pane-requires-clause-spot c = spot_in c.args.held.now c.find.result c.in-Some.spot c.find.ensures.spot c.in-Some.is

@@ -1,11 +1,11 @@
-use Rattle.std.proofs.Common.{◌≡◌, ◌+◌, ◌≤◌, sym, ap, subst, ◌∙◌, vec_len, vec_capacity, length, arith}
+use Rattle.std.proofs.Common.{◌≡◌, ◌+◌, ◌≤◌, sym, ap, subst, ◌∙◌, length, arith}
 use Rattle.wsm_record.specs.Modes.{retracts}
 use Rattle.wsm_program.specs.Program.{Program, Header}
 use Rattle.wsm_panes.specs.Held.{entries_of}
 use Rattle.wsm_firing.specs.Tally.{nothing}
 use Rattle.wsm_firing.specs.Firing.{CanAdd}
 use Rattle.wsm_firing.specs.ByRecord.{fires_by_record}
-use Rattle.wsm_firing.proofs.TurnRows.{can_write, can_withdraw, can_write_behind}
+use Rattle.wsm_firing.proofs.RowsByMode.{can_write, can_withdraw, can_write_behind}
 use Rattle.wsm_firing.proofs.retracting.retract_by_record.Goals as goal
 use Rattle.wsm_firing.proofs.retracting.retract_by_record.Goals.{After-retracts}
 
@@ -16,7 +16,7 @@ pub retract_entered-requires-clause-room : goal.retract_entered-requires-clause-
 retract_entered-requires-clause-room c =
     let fs = fires_by_record c.args.verified.now c.args.arrival.mark c.args.arrival.key c.args.arrival.time (entries_of c.args.held.now) in
     let retract = sym (mode_is (goal.at.retract_entered-requires-clause-room c).After-retracts) ∙ c.if-retracts.true in
-    let room : vec_len c.args.rows.now + length fs ≤ vec_capacity c.args.rows.now = can_withdraw c.args.verified.now (vec_capacity c.args.rows.now) (vec_len c.args.rows.now) fs c.requires.can retract in
+    let room : length c.args.rows.now.written + length fs ≤ c.args.rows.now.room = can_withdraw c.args.verified.now c.args.rows.now.room (length c.args.rows.now.written) fs c.requires.can retract in
     room
 
 pub returns-then-retracts-clause-can : goal.returns-then-retracts-clause-can
@@ -24,8 +24,8 @@ returns-then-retracts-clause-can c =
     let p = c.args.verified.now in let fs = fires_by_record p c.args.arrival.mark c.args.arrival.key c.args.arrival.time (entries_of c.args.held.now) in
     let retract = sym (mode_is (goal.at.returns-then-retracts-clause-can c).After-retracts) ∙ c.if-retracts.true in
     let put = c.retract_entered.ensures.rows in
-    subst (λ n. CanAdd p n (vec_len c.retract_entered.new.rows) nothing fs) (sym c.retract_entered.ensures.capacity)
-    (can_write_behind p (vec_capacity c.args.rows.now) (vec_len c.args.rows.now) fs c.requires.can retract (vec_len c.retract_entered.new.rows) (omega (arith, put.few, c.retract_entered.new.rows.ok.0, c.args.rows.now.ok.0)))
+    subst (λ n. CanAdd p n (length c.retract_entered.new.rows.written) nothing fs) (sym c.retract_entered.ensures.room)
+    (can_write_behind p c.args.rows.now.room (length c.args.rows.now.written) fs c.requires.can retract (length c.retract_entered.new.rows.written) (omega (arith, put.few)))
 
 pub returns-else-retracts-clause-can : goal.returns-else-retracts-clause-can
-returns-else-retracts-clause-can c = can_write c.args.verified.now (vec_capacity c.args.rows.now) (vec_len c.args.rows.now) (fires_by_record c.args.verified.now c.args.arrival.mark c.args.arrival.key c.args.arrival.time (entries_of c.args.held.now)) c.requires.can
+returns-else-retracts-clause-can c = can_write c.args.verified.now c.args.rows.now.room (length c.args.rows.now.written) (fires_by_record c.args.verified.now c.args.arrival.mark c.args.arrival.key c.args.arrival.time (entries_of c.args.held.now)) c.requires.can

@@ -1,8 +1,7 @@
-use Rattle.std.proofs.Common.{◌≡◌, ◌+◌, ◌≤◌, [], List, IsTrue, refl, sym, ap, subst, ◌∙◌, vec_len, vec_capacity, length, SFits, w64, to_z-of_z, arith}
+use Rattle.std.proofs.Common.{◌≡◌, ◌+◌, ◌≤◌, ◌++◌, List, IsTrue, refl, sym, ap, subst, ◌∙◌, length, SFits, w64, to_z-of_z, arith}
 use Rattle.wsm_record.specs.declared.cell.Cell.{Cell}
 use Rattle.wsm_record.specs.Modes.{retracts}
 use Rattle.wsm_windows.specs.declared.place.Place.{Place}
-use Rattle.wsm_semantics.specs.Retractions.{retracted}
 use Rattle.wsm_semantics.specs.Summaries.{withdrawn_by_watermark}
 use Rattle.wsm_machine.specs.Meaning.{query_of}
 use Rattle.wsm_program.specs.Program.{Program, Header, is_program}
@@ -11,7 +10,7 @@ use Rattle.wsm_firing.specs.Tally.{nothing}
 use Rattle.wsm_firing.specs.Firing.{CanAdd}
 use Rattle.wsm_firing.specs.ByWatermark.{fires_by_watermark}
 use Rattle.wsm_firing.proofs.Headers.{lawful_firing}
-use Rattle.wsm_firing.proofs.TurnRows.{can_write, can_withdraw, can_write_behind, retracted_when}
+use Rattle.wsm_firing.proofs.RowsByMode.{can_write, can_withdraw, can_write_behind, retracted_when}
 use Rattle.wsm_firing.proofs.retracting.retract_by_watermark.Goals as goal
 use Rattle.wsm_firing.proofs.retracting.retract_by_watermark.Goals.{After-retracts}
 
@@ -23,18 +22,18 @@ retract_due-requires-clause-room c =
     let old : SFits w64 c.args.old = c.ranges.old in let new : SFits w64 c.args.new = c.ranges.new in
     let fs = fires_by_watermark c.args.verified.now c.args.old c.args.new (entries_of c.args.held.now) in
     let retract = sym (mode_is (goal.at.retract_due-requires-clause-room c).After-retracts) ∙ c.if-retracts.true in
-    let room : vec_len c.args.rows.now + length fs ≤ vec_capacity c.args.rows.now =
-    omega (arith, can_withdraw c.args.verified.now (vec_capacity c.args.rows.now) 0 fs c.requires.can.can retract, c.args.rows.now.ok.0, ap length c.requires.empty) in
+    let room : length c.args.rows.now.written + length fs ≤ c.args.rows.now.room =
+    omega (arith, can_withdraw c.args.verified.now c.args.rows.now.room 0 fs c.requires.can.can retract, ap length c.requires.empty) in
     simp to_z-of_z room
 
 pub returns-then-retracts-clause-rows : goal.returns-then-retracts-clause-rows
-returns-then-retracts-clause-rows c =
+returns-then-retracts-clause-rows c = λ ws is.
     let old : SFits w64 c.args.old = c.ranges.old in let new : SFits w64 c.args.new = c.ranges.new in
     let retract = sym (mode_is (goal.at.returns-then-retracts-clause-rows c).After-retracts) ∙ c.if-retracts.true in
     let put = simp to_z-of_z at c.retract_due.ensures.rows in
-    let ws : List (Place × List Cell) = withdrawn_by_watermark (query_of c.args.verified.now) c.args.old c.args.new (entries_of c.args.held.now) in
-    let written : c.retract_due.new.rows.items ≡ retracted ws = put.rows [] c.requires.empty in
-    written ∙ sym (retracted_when c.args.verified.now.header.mode retract ws)
+    let mode = c.args.verified.now.header.mode in
+    let more : List (Place × List Cell) = withdrawn_by_watermark (query_of c.args.verified.now) c.args.old c.args.new (entries_of c.args.held.now) in
+    put.rows ws (is ∙ retracted_when mode retract ws) ∙ sym (retracted_when mode retract (ws ++ more))
 
 pub returns-then-retracts-clause-can : goal.returns-then-retracts-clause-can
 returns-then-retracts-clause-can c =
@@ -42,13 +41,13 @@ returns-then-retracts-clause-can c =
     let p = c.args.verified.now in let fs = fires_by_watermark p c.args.old c.args.new (entries_of c.args.held.now) in
     let retract = sym (mode_is (goal.at.returns-then-retracts-clause-can c).After-retracts) ∙ c.if-retracts.true in
     let put = simp to_z-of_z at c.retract_due.ensures.rows in
-    subst (λ n. CanAdd p n (vec_len c.retract_due.new.rows) nothing fs) (sym c.retract_due.ensures.capacity)
-    (can_write_behind p (vec_capacity c.args.rows.now) 0 fs c.requires.can.can retract (vec_len c.retract_due.new.rows) (omega (arith, put.few, c.retract_due.new.rows.ok.0, ap length c.requires.empty)))
+    subst (λ n. CanAdd p n (length c.retract_due.new.rows.written) nothing fs) (sym c.retract_due.ensures.room)
+    (can_write_behind p c.args.rows.now.room 0 fs c.requires.can.can retract (length c.retract_due.new.rows.written) (omega (arith, put.few, ap length c.requires.empty)))
 
 pub returns-else-retracts-clause-can : goal.returns-else-retracts-clause-can
 returns-else-retracts-clause-can c =
     let p = c.args.verified.now in let fs = fires_by_watermark p c.args.old c.args.new (entries_of c.args.held.now) in
-    subst (λ n. CanAdd p (vec_capacity c.args.rows.now) n nothing fs) (sym (c.args.rows.now.ok.0 ∙ ap length c.requires.empty)) (can_write p (vec_capacity c.args.rows.now) 0 fs c.requires.can.can)
+    subst (λ n. CanAdd p c.args.rows.now.room n nothing fs) (sym (ap length c.requires.empty)) (can_write p c.args.rows.now.room 0 fs c.requires.can.can)
 
 pub returns-then-retracts-clause-form : goal.returns-then-retracts-clause-form
 returns-then-retracts-clause-form c = (lawful_firing c.args.verified.now _ refl (subst (λ (p : Program). IsTrue (is_program p)) c.program.ensures.program c.header.ensures.lawful)).writes

@@ -1,4 +1,4 @@
-use Rattle.std.proofs.Common.{◌≡◌, ◌+◌, ◌≤◌, ◌+ℤ◌, ◌≤ℤ◌, ℤ, refl, sym, ap, subst, ◌∙◌, vec_capacity, length, IsTrue, SFits, w64, to_z, of_z, to_z-of_z, rules, arith}
+use Rattle.std.proofs.Common.{◌≡◌, ◌+◌, ◌≤◌, ◌+ℤ◌, ◌≤ℤ◌, ℤ, refl, sym, ap, subst, ◌∙◌, length, IsTrue, SFits, w64, to_z, of_z, to_z-of_z, rules, arith}
 use Rattle.std.proofs.lemmas.Int.{ints, fits_signed_from_abs}
 use Rattle.std.specs.FinMap as map
 use Rattle.std.specs.Option.{is_some}
@@ -10,6 +10,7 @@ use Rattle.wsm_rules.proofs.Lawful as lawful_programs
 use Rattle.wsm_machine.specs.Meaning.{query_of}
 use Rattle.wsm_panes.specs.Held.{entries_of}
 use Rattle.wsm_panes.specs.Walk.{place_found}
+use Rattle.wsm_firing.specs.TurnRows.{Rows}
 use Rattle.wsm_firing.specs.ByWatermark.{fires_by_watermark}
 use Rattle.wsm_firing.proofs.RetractWalk.{HasPassed, comes_to, ends_behind_all, ends_at_none, has_room, is_held, is_placed, puts, puts_first, stays, there}
 use Rattle.wsm_firing.proofs.Spots.{spot_in}
@@ -43,9 +44,9 @@ pub loop-init : goal.loop-init
 loop-init c =
     let late : ℤ = to_z w64 (of_z w64 c.last_expired-expired.result) in
     record {
-      capacity = refl;
+      room = refl;
       spot = c.first_to_fire-next.ensures.spot;
-      walked = comes_to late _ 0 (expires (goal.at.loop-init c).After-last_expired-expired) (omega arith) (puts_first c.args.rows.now.items _ _) c.first_to_fire-next.ensures.next;
+      walked = comes_to late _ 0 (expires (goal.at.loop-init c).After-last_expired-expired) (omega arith) (puts_first c.args.rows.now.written _ _) c.first_to_fire-next.ensures.next;
     }
 
 pub pane-pane-requires-clause-there : goal.pane-pane-requires-clause-there
@@ -68,27 +69,27 @@ pub retract-requires : goal.retract-requires
 retract-requires c =
     let fires = ap is_some (sym (kind_is (goal.at.retract-requires c).After-watermark_kind)) ∙ sym c.is_some.ensures ∙ c.if-is_some.true in
     let old_fits : SFits w64 c.args.old = c.ranges.old in let new_fits : SFits w64 c.args.new = c.ranges.new in
-    let room : length c.args.rows.now.items + length (fires_by_watermark c.args.verified.now c.args.old c.args.new (entries_of c.args.held.now)) ≤ vec_capacity c.args.rows.now = omega (arith, c.requires.room, c.args.rows.now.ok.0) in
-    let next = has_room c.loop.invariant.walked (ap place_found c.in-Some.is) (map.entries_sorted c.args.held.now.panes) c.pane-pane.ensures fires (vec_capacity c.args.rows.now) (simp to_z-of_z room) in
-    record { room = omega (arith, next, c.loop.invariant.capacity, c.loop.rows.ok.0) }
+    let room : length c.args.rows.now.written + length (fires_by_watermark c.args.verified.now c.args.old c.args.new (entries_of c.args.held.now)) ≤ c.args.rows.now.room = omega (arith, c.requires.room) in
+    let next = has_room c.loop.invariant.walked (ap place_found c.in-Some.is) (map.entries_sorted c.args.held.now.panes) c.pane-pane.ensures fires c.args.rows.now.room (simp to_z-of_z room) in
+    record { room = omega (arith, next, c.loop.invariant.room) }
 
 pub loop-preserved : goal.loop-preserved
 loop-preserved c =
-    let p = c.args.verified.now in let es = entries_of c.args.held.now in let before = c.args.rows.now.items in
+    let p = c.args.verified.now in let es = entries_of c.args.held.now in let before = c.args.rows.now.written in
     let old : ℤ = to_z w64 (of_z w64 c.args.old) in let new : ℤ = to_z w64 (of_z w64 c.args.new) in
     let late : ℤ = to_z w64 (of_z w64 c.last_expired-expired.result) in let expires = expires (goal.at.loop-preserved c).After-last_expired-expired in
     let walked = c.loop.invariant.walked in let is = ap place_found c.in-Some.is in let found = c.pane-pane.ensures in let sorted = map.entries_sorted c.args.held.now.panes in
     let same : is_some (kind_by_watermark (query_of p) old new c.in-Some.spot.place c.pane-pane.result) ≡ c.is_some.result = ap is_some (sym (kind_is (goal.at.loop-preserved c).After-watermark_kind)) ∙ sym c.is_some.ensures in
-    let passed : HasPassed p old new es before (walked.passed + 1) c.if-is_some.rows.items = elim c.if-is_some.branch [
+    let passed : HasPassed p old new es before (walked.passed + 1) c.if-is_some.rows.written = elim c.if-is_some.branch [
       | then-is_some w ↦
-          subst (λ (v : _). HasPassed p old new es before (walked.passed + 1) v.items) (sym w.rows-is)
-          (puts walked is sorted found (same ∙ w.if-is_some.true) w.retract.new.rows.items (w.retract.ensures.rows c.in-Some.spot.place refl))
-      | else-is_some w ↦ subst (λ (v : _). HasPassed p old new es before (walked.passed + 1) v.items) (sym w.rows-is) (stays walked is sorted found (same ∙ w.if-is_some.false))
+          subst (λ (v : Rows). HasPassed p old new es before (walked.passed + 1) v.written) (sym w.rows-is)
+          (puts walked is sorted found (same ∙ w.if-is_some.true) w.retract.new.rows.written (w.retract.ensures.rows c.in-Some.spot.place refl))
+      | else-is_some w ↦ subst (λ (v : Rows). HasPassed p old new es before (walked.passed + 1) v.written) (sym w.rows-is) (stays walked is sorted found (same ∙ w.if-is_some.false))
     ] in
     record {
-      capacity = elim c.if-is_some.branch [
-        | then-is_some w ↦ ap vec_capacity w.rows-is ∙ w.retract.ensures.capacity ∙ c.loop.invariant.capacity
-        | else-is_some w ↦ ap vec_capacity w.rows-is ∙ c.loop.invariant.capacity
+      room = elim c.if-is_some.branch [
+        | then-is_some w ↦ ap (λ (v : Rows). v.room) w.rows-is ∙ w.retract.ensures.room ∙ c.loop.invariant.room
+        | else-is_some w ↦ ap (λ (v : Rows). v.room) w.rows-is ∙ c.loop.invariant.room
       ];
       spot = c.next_to_fire-next.ensures.spot;
       walked = comes_to late _ (walked.passed + 1) expires (omega (arith, walked.onward)) passed (c.next_to_fire-next.ensures.next walked.passed c.pane-pane.result (there walked is sorted found));

@@ -1,4 +1,4 @@
-use Rattle.std.proofs.Common.{◌≡◌, ◌+◌, ◌≤◌, ◌∷◌, [], ◌++◌, ℤ, ℕ, List, map, length, refl, sym, ap, subst, ◌∙◌, vec_capacity, SFits, w64, to_z, of_z, to_z-of_z, arith}
+use Rattle.std.proofs.Common.{◌≡◌, ◌+◌, ◌≤◌, ◌∷◌, [], ◌++◌, ℤ, ℕ, List, map, length, refl, sym, ap, subst, ◌∙◌, SFits, w64, to_z, of_z, to_z-of_z, arith}
 use Rattle.std.specs.FinMap as panes
 use Rattle.wsm_windows.specs.declared.window.Window.{Window}
 use Rattle.wsm_windows.specs.declared.place.Place.{Place}
@@ -50,10 +50,10 @@ loop-window-init c =
     let all : List Place = map (at c.args.key) c.args.windows in
     record {
       order = subst (λ (ws : List Window). AreInOrder (map (at c.args.key) ws)) (sym same) c.requires.order;
-      capacity = refl;
+      room = refl;
       so_far =
-          subst (λ (ws : List Window). HasPut c.args.rows.now.items c.args.rows.now.items (withdrawn_at p q mark (map (at c.args.key) ws) es) (withdrawn_at p q mark all es) (number_at p q mark (map (at c.args.key) ws) es) (number_at p q mark all es)) (sym same)
-          (puts_first c.args.rows.now.items (withdrawn_at p q mark all es) (number_at p q mark all es));
+          subst (λ (ws : List Window). HasPut c.args.rows.now.written c.args.rows.now.written (withdrawn_at p q mark (map (at c.args.key) ws) es) (withdrawn_at p q mark all es) (number_at p q mark (map (at c.args.key) ws) es) (number_at p q mark all es)) (sym same)
+          (puts_first c.args.rows.now.written (withdrawn_at p q mark all es) (number_at p q mark all es));
     }
 
 pub retract_at-requires : goal.retract_at-requires
@@ -61,17 +61,17 @@ retract_at-requires c =
     let p = plan_of c.args.verified.now in let q = query_of c.args.verified.now in let es = entries_of c.args.held.now in
     let mark_fits : SFits w64 c.args.mark = c.ranges.mark in
     let turn = in_turn (goal.at.retract_at-requires c).After-at-place in
-    let all : length c.args.rows.now.items + number_at p q c.args.mark (map (at c.args.key) c.args.windows) es ≤ vec_capacity c.args.rows.now = omega (arith, c.requires.room, c.args.rows.now.ok.0) in
-    let left = room_left c.loop-window.invariant.so_far (vec_capacity c.args.rows.now) (simp to_z-of_z all) in
-    record { room = omega (arith, left, turn.number, c.loop-window.rows.ok.0, c.loop-window.invariant.capacity) }
+    let all : length c.args.rows.now.written + number_at p q c.args.mark (map (at c.args.key) c.args.windows) es ≤ c.args.rows.now.room = omega (arith, c.requires.room) in
+    let left = room_left c.loop-window.invariant.so_far c.args.rows.now.room (simp to_z-of_z all) in
+    record { room = omega (arith, left, turn.number, c.loop-window.invariant.room) }
 
 pub loop-window-preserved : goal.loop-window-preserved
 loop-window-preserved c =
     let turn = in_turn (goal.at.loop-window-preserved c).After-at-place in
     record {
       order = turn.order;
-      capacity = c.retract_at.ensures.capacity ∙ c.loop-window.invariant.capacity;
-      so_far = puts_next c.loop-window.invariant.so_far c.retract_at.new.rows.items _ _ _ _ turn.written turn.number c.retract_at.ensures.rows;
+      room = c.retract_at.ensures.room ∙ c.loop-window.invariant.room;
+      so_far = puts_next c.loop-window.invariant.so_far c.retract_at.new.rows.written _ _ _ _ turn.written turn.number c.retract_at.ensures.rows;
     }
 
 pub returns-clause-rows : goal.returns-clause-rows

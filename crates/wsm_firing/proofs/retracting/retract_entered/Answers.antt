@@ -1,4 +1,4 @@
-use Rattle.std.proofs.Common.{rules, ◌+◌, ◌≤◌, ◌∷◌, [], ℕ, map, length, ap, subst, vec_len, vec_capacity, SFits, w64, to_z-of_z, arith}
+use Rattle.std.proofs.Common.{rules, ◌+◌, ◌≤◌, ◌∷◌, [], ℕ, map, length, ap, subst, SFits, w64, to_z-of_z, arith}
 use Rattle.wsm_windows.specs.Places.{at}
 use Rattle.wsm_machine.specs.Meaning.{plan_of, query_of}
 use Rattle.wsm_panes.specs.Held.{entries_of}
@@ -22,7 +22,7 @@ retract_at-requires c =
     let p = c.args.verified.now in let es = entries_of c.args.held.now in
     let mark : SFits w64 c.args.arrival.mark = search rules in
     let alike = in_session (goal.at.retract_at-requires c).After-at-place in
-    let room : vec_len c.args.rows.now + number_at (plan_of p) (query_of p) c.args.arrival.mark (c.at-place.result ∷ []) es ≤ vec_capacity c.args.rows.now = omega (arith, c.requires.room, ap length alike.firings) in
+    let room : length c.args.rows.now.written + number_at (plan_of p) (query_of p) c.args.arrival.mark (c.at-place.result ∷ []) es ≤ c.args.rows.now.room = omega (arith, c.requires.room, ap length alike.firings) in
     record { room = simp to_z-of_z room }
 
 pub retract_each-requires-clause-room : goal.retract_each-requires-clause-room
@@ -30,17 +30,17 @@ retract_each-requires-clause-room c =
     let p = c.args.verified.now in let es = entries_of c.args.held.now in
     let mark : SFits w64 c.args.arrival.mark = search rules in
     let alike = in_windows (goal.at.retract_each-requires-clause-room c).After-windows_of_record-windows in
-    let room : vec_len c.args.rows.now + number_at (plan_of p) (query_of p) c.args.arrival.mark (map (at c.args.arrival.key) c.windows_of_record-windows.result) es ≤ vec_capacity c.args.rows.now = omega (arith, c.requires.room, ap length alike.firings) in
+    let room : length c.args.rows.now.written + number_at (plan_of p) (query_of p) c.args.arrival.mark (map (at c.args.arrival.key) c.windows_of_record-windows.result) es ≤ c.args.rows.now.room = omega (arith, c.requires.room, ap length alike.firings) in
     simp to_z-of_z room
 
 pub returns-in-Some-clause-rows : goal.returns-in-Some-clause-rows
 returns-in-Some-clause-rows c =
     let mark : SFits w64 c.args.arrival.mark = search rules in
     let alike = in_session (goal.at.returns-in-Some-clause-rows c).After-at-place in
-    subst (λ (x : Written × ℕ). AreWithdrawn c.args.rows.now.items c.retract_at.new.rows.items x.0 x.1) (λ i. (alike.withdrawn i, length (alike.firings i))) (simp to_z-of_z at c.retract_at.ensures.rows)
+    subst (λ (x : Written × ℕ). AreWithdrawn c.args.rows.now.written c.retract_at.new.rows.written x.0 x.1) (λ i. (alike.withdrawn i, length (alike.firings i))) (simp to_z-of_z at c.retract_at.ensures.rows)
 
 pub returns-in-None-clause-rows : goal.returns-in-None-clause-rows
 returns-in-None-clause-rows c =
     let mark : SFits w64 c.args.arrival.mark = search rules in
     let alike = in_windows (goal.at.returns-in-None-clause-rows c).After-windows_of_record-windows in
-    subst (λ (x : Written × ℕ). AreWithdrawn c.args.rows.now.items c.retract_each.new.rows.items x.0 x.1) (λ i. (alike.withdrawn i, length (alike.firings i))) (simp to_z-of_z at c.retract_each.ensures.rows)
+    subst (λ (x : Written × ℕ). AreWithdrawn c.args.rows.now.written c.retract_each.new.rows.written x.0 x.1) (λ i. (alike.withdrawn i, length (alike.firings i))) (simp to_z-of_z at c.retract_each.ensures.rows)

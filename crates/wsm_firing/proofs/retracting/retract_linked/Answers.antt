@@ -10,7 +10,7 @@ use Rattle.wsm_semantics.specs.Retractions.{retracted_in}
 use Rattle.wsm_semantics.specs.Summaries.{entered, withdrawn_entering}
 use Rattle.wsm_panes.specs.Held.{entries_of, joined_panes}
 use Rattle.wsm_firing.proofs.RetractJoined.{one_fewer, pair_put, pair_unmarked, two_held, withdraws_none, withdraws_pair}
-use Rattle.wsm_firing.proofs.TurnRows.{retracted_none, room_two}
+use Rattle.wsm_firing.proofs.RowsByMode.{retracted_none, room_two}
 use Rattle.wsm_firing.proofs.retracting.retract_linked.Goals as goal
 use Rattle.wsm_firing.proofs.retracting.retract_linked.Goals.{After-joined, In-Some}
 
@@ -29,7 +29,7 @@ pub retract_pair-requires : goal.retract_pair-requires
 retract_pair-requires c =
     let es = entries_of c.args.held.now in let sh = c.args.held.now.shape in let d : Datum = datum 0 (pos 0) c.args.key c.args.time [] in
     let two = two_are (goal.at.retract_pair-requires c).In-Some (joined_is (goal.at.retract_pair-requires c).After-joined (pos 0) []) in
-    omega (arith, ap length c.requires.empty, c.args.rows.now.ok.0, c.requires.room, two_held sh d es c.in-Some.pair.0 c.in-Some.pair.1 two)
+    omega (arith, ap length c.requires.empty, c.requires.room, two_held sh d es c.in-Some.pair.0 c.in-Some.pair.1 two)
 
 pub returns-in-Some-clause-rows : goal.returns-in-Some-clause-rows
 returns-in-Some-clause-rows c = λ plan mark values.
@@ -39,7 +39,7 @@ returns-in-Some-clause-rows c = λ plan mark values.
     let retract : retracts c.args.mode ≡ true = c.requires.retracts in
     let two : joined_panes sh d es ≡ Some (v, w) = sym (joined_is (goal.at.returns-in-Some-clause-rows c).After-joined mark values) ∙ c.in-Some.is in
     let pair = withdraws_pair plan d es sh v w (simp to_z-of_z at c.joined.ensures.few) two in
-    pair_put plan d es sh v w pair c.args.mode retract c.args.rows.now.items c.retract_pair.new.rows.items c.requires.empty (c.retract_pair.ensures.rows pair.first pair.second pair.key pair.other_key)
+    pair_put plan d es sh v w pair c.args.mode retract c.args.rows.now.written c.retract_pair.new.rows.written c.requires.empty (c.retract_pair.ensures.rows pair.first pair.second pair.key pair.other_key)
 
 pub returns-in-Some-clause-few : goal.returns-in-Some-clause-few
 returns-in-Some-clause-few c = λ plan lateness mark most few_before few.
@@ -52,7 +52,7 @@ returns-in-Some-clause-few c = λ plan lateness mark most few_before few.
     let n = length (entered plan sh lateness d es) in
     let fewer : n + 1 ≤ length es = one_fewer plan d es lateness (map.entries_sorted c.args.held.now.panes) sh v w two in
     let room : 2 + rows_of_panes c.args.mode n ≤ rows_of_panes c.args.mode most = room_two c.args.mode retract n most (omega (arith, fewer, few_before)) in
-    omega (arith, room, put.few, ap length c.requires.empty, c.retract_pair.new.rows.ok.0)
+    omega (arith, room, put.few, ap length c.requires.empty)
 
 pub returns-in_default-clause-rows : goal.returns-in_default-clause-rows
 returns-in_default-clause-rows c = λ plan mark values.

@@ -13,7 +13,7 @@ use Rattle.wsm_firing.proofs.retracting.retract_pair.Goals.{After-retract}
 abbrev some_place : (c : After-retract) → Place
 some_place c = record { end = pos 0; start = pos 0; key = c.args.key }
 
-first : (c : After-retract) → (p : Place) → p.key ≡ c.args.key → AreWithdrawn c.args.rows.now.items c.retract.new.rows.items (cons_option (written_by p c.args.pair.now.0.stands) []) 1
+first : (c : After-retract) → (p : Place) → p.key ≡ c.args.key → AreWithdrawn c.args.rows.now.written c.retract.new.rows.written (cons_option (written_by p c.args.pair.now.0.stands) []) 1
 first c p key = c.retract.ensures.rows p key
 
 both : (o u : Option (Place × List Cell)) → cons_option o [] ++ cons_option u [] ≡ cons_option o (cons_option u [])
@@ -23,15 +23,15 @@ both (Some w) u = refl
 pub retract-requires-then-has_fired-2 : goal.retract-requires-then-has_fired-2
 retract-requires-then-has_fired-2 c =
     let one = first (goal.at.retract-requires-then-has_fired-2 c).After-retract (some_place (goal.at.retract-requires-then-has_fired-2 c).After-retract) refl in
-    record { room = omega (arith, one.few, c.requires, c.retract.ensures.capacity, c.retract.new.rows.ok.0, c.args.rows.now.ok.0) }
+    record { room = omega (arith, one.few, c.requires, c.retract.ensures.room) }
 
 pub returns-then-has_fired-2-clause-rows : goal.returns-then-has_fired-2-clause-rows
 returns-then-has_fired-2-clause-rows c = λ p r p_key r_key.
-    let v = c.args.pair.now.0 in let w = c.args.pair.now.1 in let before = c.args.rows.now.items in let after = c.retract-then-has_fired-2.new.rows.items in
+    let v = c.args.pair.now.0 in let w = c.args.pair.now.1 in let before = c.args.rows.now.written in let after = c.retract-then-has_fired-2.new.rows.written in
     let one = first (goal.at.returns-then-has_fired-2-clause-rows c).After-retract p p_key in
-    let other : AreWithdrawn c.retract.new.rows.items after (cons_option (written_by r w.stands) []) 1 = c.retract-then-has_fired-2.ensures.rows r r_key in
+    let other : AreWithdrawn c.retract.new.rows.written after (cons_option (written_by r w.stands) []) 1 = c.retract-then-has_fired-2.ensures.rows r r_key in
     let all : Written = cons_option (written_by p v.stands) (cons_option (written_by r w.stands) []) in
     let fired : has_fired v.stands && has_fired w.stands ≡ true = λ i. (sym c.has_fired.ensures ∙ c.if-has_fired.true) i && (sym c.has_fired-then-has_fired.ensures ∙ c.if-has_fired-2.true) i in
     subst (λ (xs : Written). AreWithdrawn before after xs 2)
     (both (written_by p v.stands) (written_by r w.stands) ∙ sym (ap (λ (b : Bool). cond b all []) fired))
-    (withdrawn_on before c.retract.new.rows.items after (cons_option (written_by p v.stands) []) (cons_option (written_by r w.stands) []) 1 1 one other)
+    (withdrawn_on before c.retract.new.rows.written after (cons_option (written_by p v.stands) []) (cons_option (written_by r w.stands) []) 1 1 one other)

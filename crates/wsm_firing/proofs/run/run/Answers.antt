@@ -45,8 +45,10 @@ returns c =
     let most : length p.header.columns ≤ 16 = (lawful_firing c.program.result.now _ (ap (λ (p : Program). p.header) (sym c.program.ensures.program)) c.header-header.ensures.lawful).columns in
     let wide : length columns ≡ length p.header.columns = sym (length_each type_of columns) ∙ ap length c.fire-fired.ensures.types in
     record {
-      row = c.written.ensures ∙ columns_are p key n c.args.pane.now.folded c.requires.held c.requires.folded _ same emits columns c.fire-fired.ensures.done c.fire-fired.ensures.row;
+      ran = record {
+        row = c.written.ensures ∙ columns_are p key n c.args.pane.now.folded c.requires.held c.requires.folded _ same emits columns c.fire-fired.ensures.done c.fire-fired.ensures.row;
+        steps = steps_are p key n c.args.pane.now.folded c.requires.held c.requires.folded _ same c.fire-fired.result.steps c.fire-fired.ensures.steps;
+      };
       wide = if_row (λ cells. cells.now) (λ cells. length cells ≡ length p.header.columns) emits columns c.written.result c.written.ensures wide;
       few = if_row (λ cells. cells.now) (λ cells. length cells ≤ 16) emits columns c.written.result c.written.ensures (omega (arith, most, wide));
-      steps = steps_are p key n c.args.pane.now.folded c.requires.held c.requires.folded _ same c.fire-fired.result.steps c.fire-fired.ensures.steps;
     }

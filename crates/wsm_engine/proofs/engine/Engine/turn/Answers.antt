@@ -1,4 +1,4 @@
-use Rattle.std.proofs.Common.{◌≡◌, ◌+◌, ℕ, ◌∷◌, length, vec_capacity, Result, SFits, w64, to_z, of_z, to_z-of_z, refl, sym, ap, subst, ◌∙◌, arith}
+use Rattle.std.proofs.Common.{◌≡◌, ◌+◌, ℕ, ◌∷◌, length, Result, SFits, w64, to_z, of_z, to_z-of_z, refl, sym, ap, subst, ◌∙◌, arith}
 use Rattle.std.proofs.lemmas.Int.{ints, fits_signed_from_abs}
 use Rattle.wsm_record.specs.Event.{Event, event_of}
 use Rattle.wsm_admission.specs.declared.verdict.Admitted.{Admitted}
@@ -24,7 +24,7 @@ answered c =
     ∙ ap (λ (h : Header). decision h.schema (state_of c.self.inside).machine.admission (event_of c.args.event.now)) (c.header.ensures.header ∙ ap (λ (p : Program). p.header) c.program.ensures.program)
 
 -- the operator is at the mark, once the rows of the last turn are gone
-marked : (c : After-act-done) → IsAt (to_z w64 (of_z w64 c.mark-mark.result)) (record c.self.inside.operator { rows = c.clear.new.self }) (state_of c.self.inside).machine
+marked : (c : After-act-done) → IsAt (to_z w64 (of_z w64 c.mark-mark.result)) (record c.self.inside.operator { state = record c.self.inside.operator.state { rows = c.clear.new.self } }) (state_of c.self.inside).machine
 marked c =
     let mark : SFits w64 c.mark-mark.result = fits_signed_from_abs w64 c.mark-mark.result (grind (arith, ints, c.mark-mark.ensures.from, c.mark-mark.ensures.to)) in
     record { marked = sym (to_z-of_z mark ∙ c.mark-mark.ensures.mark); panes = refl; relation = refl }
@@ -37,7 +37,7 @@ act-done-requires-clause-comes c =
     let s : State = state_of c.self.inside in
     let e : Event = event_of c.args.event.now in
     let next = next_timely s c.self.invariant.operator.lawful history.0 history.1 e c.decide-answer.new.self (c.decide-answer.ensures.state ∙ ap (λ (a : Result Admitted Refusal). after a e s.machine.admission) answered) c.decide-answer.ensures.range in
-    (history.0, simp to_z-of_z (comes_of s history.0 history.1 c.self.inside.operator.held refl c.mark-mark.result c.mark-mark.ensures.mark (record { low = c.mark-mark.ensures.from; high = c.mark-mark.ensures.to }) c.decide-answer.result e next answered))
+    (history.0, simp to_z-of_z (comes_of s history.0 history.1 c.self.inside.operator.state.held refl c.mark-mark.result c.mark-mark.ensures.mark (record { low = c.mark-mark.ensures.from; high = c.mark-mark.ensures.to }) c.decide-answer.result e next answered))
 
 pub invariant_of-self : goal.invariant_of-self
 invariant_of-self c =
@@ -48,8 +48,8 @@ invariant_of-self c =
     let here = marked (goal.at.invariant_of-self c).After-act-done in
     let done = c.act-done.ensures in
     let fired : c.act-done.result.tally.fired ≡ length (fired_by (plan_of s.program) (query_of s.program) c.decide-answer.result e s.machine) = ap (λ (t : Tally). t.fired) (done.tally s.machine here) in
-    let now = turned_is s e c.decide-answer.result answered c.decide-answer.new.self (entries_of c.act-done.new.operator.held) (last_relation c.act-done.new.operator.streams (entries_of c.act-done.new.operator.held)) c.saturating_add-self-inside.result c.saturating_add-self-inside-2.result c.act-done.new.operator.rows.items (vec_capacity c.act-done.new.operator.rows)
-    c.decide-answer.ensures.state (done.panes s.machine here) (done.relation s.machine here) c.saturating_add-self-inside.ensures (c.saturating_add-self-inside-2.ensures ∙ ap (λ (n : ℕ). counter (s.machine.fired + n)) fired) (done.rows s.machine here) (done.capacity ∙ c.clear.ensures.capacity) in
+    let now = turned_is s e c.decide-answer.result answered c.decide-answer.new.self (entries_of c.act-done.new.operator.state.held) (last_relation c.act-done.new.operator.state.streams (entries_of c.act-done.new.operator.state.held)) c.saturating_add-self-inside.result c.saturating_add-self-inside-2.result c.act-done.new.operator.state.rows.written c.act-done.new.operator.state.rows.room
+    c.decide-answer.ensures.state (done.panes s.machine here) (done.relation s.machine here) c.saturating_add-self-inside.ensures (c.saturating_add-self-inside-2.ensures ∙ ap (λ (n : ℕ). counter (s.machine.fired + n)) fired) (done.rows s.machine here) (done.room ∙ c.clear.ensures.room) in
     record {
       operator = done.program;
       history = (e ∷ history.0, subst (λ (t : State). Fits t (e ∷ history.0)) (sym now) (turn_fits s c.self.invariant.operator.lawful history.0 history.1 e));
@@ -63,8 +63,8 @@ returns-clause-state c =
     let here = marked (goal.at.returns-clause-state c).After-act-done in
     let done = c.act-done.ensures in
     let fired : c.act-done.result.tally.fired ≡ length (fired_by (plan_of s.program) (query_of s.program) c.decide-answer.result e s.machine) = ap (λ (t : Tally). t.fired) (done.tally s.machine here) in
-    rw (← c.self.view_is) (turned_is s e c.decide-answer.result answered c.decide-answer.new.self (entries_of c.act-done.new.operator.held) (last_relation c.act-done.new.operator.streams (entries_of c.act-done.new.operator.held)) c.saturating_add-self-inside.result c.saturating_add-self-inside-2.result c.act-done.new.operator.rows.items (vec_capacity c.act-done.new.operator.rows)
-    c.decide-answer.ensures.state (done.panes s.machine here) (done.relation s.machine here) c.saturating_add-self-inside.ensures (c.saturating_add-self-inside-2.ensures ∙ ap (λ (n : ℕ). counter (s.machine.fired + n)) fired) (done.rows s.machine here) (done.capacity ∙ c.clear.ensures.capacity))
+    rw (← c.self.view_is) (turned_is s e c.decide-answer.result answered c.decide-answer.new.self (entries_of c.act-done.new.operator.state.held) (last_relation c.act-done.new.operator.state.streams (entries_of c.act-done.new.operator.state.held)) c.saturating_add-self-inside.result c.saturating_add-self-inside-2.result c.act-done.new.operator.state.rows.written c.act-done.new.operator.state.rows.room
+    c.decide-answer.ensures.state (done.panes s.machine here) (done.relation s.machine here) c.saturating_add-self-inside.ensures (c.saturating_add-self-inside-2.ensures ∙ ap (λ (n : ℕ). counter (s.machine.fired + n)) fired) (done.rows s.machine here) (done.room ∙ c.clear.ensures.room))
 
 pub returns-clause-reply : goal.returns-clause-reply
 returns-clause-reply c =

@@ -1,4 +1,4 @@
-use Rattle.std.proofs.Common.{◌≡◌, ◌∷◌, [], List, Some, true, refl, sym, ap, subst, ◌∙◌, ◌++◌, vec_len, vec_capacity, SFits, w64, to_z-of_z}
+use Rattle.std.proofs.Common.{◌≡◌, ◌∷◌, [], List, Some, true, refl, sym, ap, subst, ◌∙◌, ◌++◌, SFits, w64, to_z-of_z, length}
 use Rattle.std.specs.FinMap as map
 use Rattle.std.specs.Option.{is_some}
 use Rattle.std.specs.FinMap.Entries.{find, put}
@@ -23,11 +23,11 @@ use Rattle.wsm_firing.proofs.operator.WindowOperator.fire_at.Goals as goal
 use Rattle.wsm_firing.proofs.operator.WindowOperator.fire_at.Goals.{In-Some, After-record_kind, In-Some-record_kind}
 
 -- the spot that was found is that of the place, where a pane is held
-found : (c : In-Some) → (c.in-Some.spot.place ≡ c.args.place) × (is_some (find place_cmp c.args.place (entries_of c.args.self.now.held)) ≡ true)
-found c = spot_found c.args.place (find place_cmp c.args.place (entries_of c.args.self.now.held)) c.in-Some.spot.place (sym c.find.ensures.place ∙ ap place_found c.in-Some.is)
+found : (c : In-Some) → (c.in-Some.spot.place ≡ c.args.place) × (is_some (find place_cmp c.args.place (entries_of c.args.self.now.state.held)) ≡ true)
+found c = spot_found c.args.place (find place_cmp c.args.place (entries_of c.args.self.now.state.held)) c.in-Some.spot.place (sym c.find.ensures.place ∙ ap place_found c.in-Some.is)
 
-held_there : (c : In-Some) → is_some (find place_cmp c.in-Some.spot.place (entries_of c.args.self.now.held)) ≡ true
-held_there c = let spot = found c in subst (λ r. is_some (find place_cmp r (entries_of c.args.self.now.held)) ≡ true) (sym spot.0) spot.1
+held_there : (c : In-Some) → is_some (find place_cmp c.in-Some.spot.place (entries_of c.args.self.now.state.held)) ≡ true
+held_there c = let spot = found c in subst (λ r. is_some (find place_cmp r (entries_of c.args.self.now.state.held)) ≡ true) (sym spot.0) spot.1
 
 kind_is : (c : After-record_kind) → kind_on_record (query_of c.args.verified.now) c.args.mark c.args.place.end c.pane-pane.result.unshown ≡ c.record_kind.result
 kind_is c = let mark : SFits w64 c.args.mark = c.ranges.mark in sym (simp to_z-of_z at c.record_kind.ensures)
@@ -38,23 +38,23 @@ firing p kind place h = record { kind = kind; place = place; count = fired_count
 
 -- what fires at the place
 fires : (c : In-Some-record_kind) → c.in-Some.spot.place ≡ c.args.place → kind_on_record (query_of c.args.verified.now) c.args.mark c.args.place.end c.pane-pane.result.unshown ≡ c.record_kind.result →
-    Fires (plan_of c.args.verified.now) (query_of c.args.verified.now) c.args.mark c.args.place (entries_of c.args.self.now.held) (map.entries_sorted c.args.self.now.held.panes) (firing c.args.verified.now c.in-Some-record_kind.kind c.args.place c.pane-pane.result ∷ [])
-    (put place_cmp c.args.place (fired_pane (plan_of c.args.verified.now) c.args.verified.now.header.mode c.args.place (Some c.in-Some-record_kind.kind) c.pane-pane.result) (entries_of c.args.self.now.held))
+    Fires (plan_of c.args.verified.now) (query_of c.args.verified.now) c.args.mark c.args.place (entries_of c.args.self.now.state.held) (map.entries_sorted c.args.self.now.state.held.panes) (firing c.args.verified.now c.in-Some-record_kind.kind c.args.place c.pane-pane.result ∷ [])
+    (put place_cmp c.args.place (fired_pane (plan_of c.args.verified.now) c.args.verified.now.header.mode c.args.place (Some c.in-Some-record_kind.kind) c.pane-pane.result) (entries_of c.args.self.now.state.held))
 fires c at is =
-    let p = c.args.verified.now in let es = entries_of c.args.self.now.held in
+    let p = c.args.verified.now in let es = entries_of c.args.self.now.state.held in
     let there : find place_cmp c.args.place es ≡ Some c.pane-pane.result = ap (λ r. find place_cmp r es) (sym at) ∙ c.pane-pane.ensures in
-    with_kind (plan_of p) (query_of p) c.args.mark c.args.place es (map.entries_sorted c.args.self.now.held.panes) c.pane-pane.result there c.in-Some-record_kind.kind (is ∙ c.in-Some-record_kind.is)
+    with_kind (plan_of p) (query_of p) c.args.mark c.args.place es (map.entries_sorted c.args.self.now.state.held.panes) c.pane-pane.result there c.in-Some-record_kind.kind (is ∙ c.in-Some-record_kind.is)
 
 pub returns-in_default : goal.returns-in_default
 returns-in_default c =
-    let p = c.args.verified.now in let held = c.args.self.now.held in let es = entries_of held in
+    let p = c.args.verified.now in let held = c.args.self.now.state.held in let es = entries_of held in
     let none = none_there (plan_of p) (query_of p) c.args.mark c.args.place es (map.entries_sorted held.panes) (none_found c.args.place (find place_cmp c.args.place es) (sym c.find.ensures.place ∙ ap place_found c.in_default.is)) in
     record {
       panes = sym none.panes;
       keeps = record { keys = refl; shape = refl; live = refl; widths = refl };
-      tells = tells_none c.args.self.now.streams es;
-      rows = no_rows p c.args.self.now.rows.items _ none.firings;
-      capacity = refl;
+      tells = tells_none c.args.self.now.state.streams es;
+      rows = no_rows p c.args.self.now.state.rows.written _ none.firings;
+      room = refl;
       tally = no_tally p c.args.tally.now _ none.firings;
     }
 
@@ -70,50 +70,51 @@ fire_held-requires-clause-can c = λ h held.
     let at = (found (goal.at.fire_held-requires-clause-can c).In-Some).0 in
     let one = fires (goal.at.fire_held-requires-clause-can c).In-Some-record_kind at (kind_is (goal.at.fire_held-requires-clause-can c).After-record_kind) in
     let same : c.pane-pane.result ≡ h = some_same (sym c.pane-pane.ensures ∙ held) in
-    subst (λ (x : Place × Pane (List Value)). CanAdd p (vec_capacity c.args.self.now.rows) (vec_len c.args.self.now.rows) c.args.tally.now (firing p c.in-Some-record_kind.kind x.0 x.1 ∷ []))
+    subst (λ (x : Place × Pane (List Value)). CanAdd p c.args.self.now.state.rows.room (length c.args.self.now.state.rows.written) c.args.tally.now (firing p c.in-Some-record_kind.kind x.0 x.1 ∷ []))
     (λ i. (sym at i, same i))
-    (subst (λ (fs : List (Fired (List Value))). CanAdd p (vec_capacity c.args.self.now.rows) (vec_len c.args.self.now.rows) c.args.tally.now fs) one.firings c.requires.can)
+    (subst (λ (fs : List (Fired (List Value))). CanAdd p c.args.self.now.state.rows.room (length c.args.self.now.state.rows.written) c.args.tally.now fs) one.firings c.requires.can)
 
 pub returns-in-Some-record_kind : goal.returns-in-Some-record_kind
 returns-in-Some-record_kind c =
-    let p = c.args.verified.now in let kind = c.in-Some-record_kind.kind in let h = c.pane-pane.result in let es = entries_of c.args.self.now.held in
+    let p = c.args.verified.now in let kind = c.in-Some-record_kind.kind in let h = c.pane-pane.result in let es = entries_of c.args.self.now.state.held in
     let at = (found (goal.at.returns-in-Some-record_kind c).In-Some).0 in
     let one = fires (goal.at.returns-in-Some-record_kind c).In-Some-record_kind at (kind_is (goal.at.returns-in-Some-record_kind c).After-record_kind) in
     let mark : SFits w64 c.args.mark = c.ranges.mark in
+    let one_fired = c.fire_held.ensures h c.pane-pane.ensures in
     record {
-      panes = c.fire_held.ensures.panes h c.pane-pane.ensures ∙ ap (λ (r : Place). put place_cmp r (fired_pane (plan_of p) p.header.mode r (Some kind) h) es) at ∙ sym one.panes;
-      keeps = c.fire_held.ensures.keeps;
-      tells = c.fire_held.ensures.tells;
+      panes = one_fired.panes ∙ ap (λ (r : Place). put place_cmp r (fired_pane (plan_of p) p.header.mode r (Some kind) h) es) at ∙ sym one.panes;
+      keeps = one_fired.keeps;
+      tells = one_fired.tells;
       rows =
-          c.fire_held.ensures.rows h c.pane-pane.ensures
-          ∙ ap (λ (r : Place). c.args.self.now.rows.items ++ rows_of p (firing p kind r h ∷ [])) at
-          ∙ ap (λ (fs : List (Fired (List Value))). c.args.self.now.rows.items ++ rows_of p fs) (sym one.firings);
-      capacity = c.fire_held.ensures.capacity;
+          one_fired.rows
+          ∙ ap (λ (r : Place). c.args.self.now.state.rows.written ++ rows_of p (firing p kind r h ∷ [])) at
+          ∙ ap (λ (fs : List (Fired (List Value))). c.args.self.now.state.rows.written ++ rows_of p fs) (sym one.firings);
+      room = one_fired.room;
       tally =
-          c.fire_held.ensures.tally h c.pane-pane.ensures
+          one_fired.tally
           ∙ ap (λ (r : Place). tally_with p c.args.tally.now (firing p kind r h ∷ [])) at
           ∙ ap (λ (fs : List (Fired (List Value))). tally_with p c.args.tally.now fs) (sym one.firings);
     }
 
 pub returns-in_default-record_kind : goal.returns-in_default-record_kind
 returns-in_default-record_kind c =
-    let p = c.args.verified.now in let es = entries_of c.args.self.now.held in
+    let p = c.args.verified.now in let es = entries_of c.args.self.now.state.held in
     let mark : SFits w64 c.args.mark = c.ranges.mark in
     let at = (found (goal.at.returns-in_default-record_kind c).In-Some).0 in
     let there : find place_cmp c.args.place es ≡ Some c.pane-pane.result = ap (λ r. find place_cmp r es) (sym at) ∙ c.pane-pane.ensures in
     let is = kind_is (goal.at.returns-in_default-record_kind c).After-record_kind ∙ c.in_default-record_kind.is in
-    let none = no_kind (plan_of p) (query_of p) c.args.mark c.args.place es (map.entries_sorted c.args.self.now.held.panes) c.pane-pane.result there is in
+    let none = no_kind (plan_of p) (query_of p) c.args.mark c.args.place es (map.entries_sorted c.args.self.now.state.held.panes) c.pane-pane.result there is in
     record {
       panes = sym none.panes;
       keeps = record { keys = refl; shape = refl; live = refl; widths = refl };
-      tells = tells_none c.args.self.now.streams es;
-      rows = no_rows p c.args.self.now.rows.items _ none.firings;
-      capacity = refl;
+      tells = tells_none c.args.self.now.state.streams es;
+      rows = no_rows p c.args.self.now.state.rows.written _ none.firings;
+      room = refl;
       tally = no_tally p c.args.tally.now _ none.firings;
     }
 
 pub pane-pane-requires-clause-spot : goal.pane-pane-requires-clause-spot
-pane-pane-requires-clause-spot c = spot_in c.args.self.now.held c.find.result c.in-Some.spot c.find.ensures.spot c.in-Some.is
+pane-pane-requires-clause-spot c = spot_in c.args.self.now.state.held c.find.result c.in-Some.spot c.find.ensures.spot c.in-Some.is
 
 pub fire_held-requires-clause-spot : goal.fire_held-requires-clause-spot
-fire_held-requires-clause-spot c = spot_in c.args.self.now.held c.find.result c.in-Some.spot c.find.ensures.spot c.in-Some.is
+fire_held-requires-clause-spot c = spot_in c.args.self.now.state.held c.find.result c.in-Some.spot c.find.ensures.spot c.in-Some.is

@@ -1,4 +1,4 @@
-use Rattle.std.proofs.Common.{◌≡◌, map, vec_capacity}
+use Rattle.std.proofs.Common.{◌≡◌, map}
 use Rattle.wsm_windows.specs.Places.{at}
 use Rattle.wsm_semantics.specs.Summaries.{all_fired, fires}
 use Rattle.wsm_machine.specs.Meaning.{plan_of, query_of}
@@ -12,12 +12,12 @@ use Rattle.wsm_firing.proofs.operator.WindowOperator.fire_each.Given as goal
 abbrev pub invariant-loop-window : goal.invariant-loop-window
 invariant-loop-window l = record {
   order : AreInOrder (map (at l.key) l.window-iterator);
-  panes : all_fired (plan_of l.verified) (query_of l.verified) (kind_at (query_of l.verified) l.mark (map (at l.key) l.window-iterator)) (entries_of l.self.held)
-      ≡ all_fired (plan_of l.verified) (query_of l.verified) (kind_at (query_of l.verified) l.mark (map (at l.key) l.fn.windows)) (entries_of l.fn.self.held);
-  keeps : IsKept l.fn.self.held l.self.held;
-  tells : Tells l.fn.self.streams l.self.streams (entries_of l.fn.self.held) (entries_of l.self.held);
-  capacity : vec_capacity l.self.rows ≡ vec_capacity l.fn.self.rows;
-  comes : ComesTo l.verified (vec_capacity l.fn.self.rows) l.fn.self.rows.items l.tally l.self.rows.items
-      (fires (query_of l.verified) (kind_at (query_of l.verified) l.mark (map (at l.key) l.window-iterator)) (entries_of l.self.held))
-      (fires (query_of l.verified) (kind_at (query_of l.verified) l.mark (map (at l.key) l.fn.windows)) (entries_of l.fn.self.held));
+  panes : all_fired (plan_of l.verified) (query_of l.verified) (kind_at (query_of l.verified) l.mark (map (at l.key) l.window-iterator)) (entries_of l.self.state.held)
+      ≡ all_fired (plan_of l.verified) (query_of l.verified) (kind_at (query_of l.verified) l.mark (map (at l.key) l.fn.windows)) (entries_of l.fn.self.state.held);
+  keeps : IsKept l.fn.self.state.held l.self.state.held;
+  tells : Tells l.fn.self.state.streams l.self.state.streams (entries_of l.fn.self.state.held) (entries_of l.self.state.held);
+  room : l.self.state.rows.room ≡ l.fn.self.state.rows.room;
+  comes : ComesTo l.verified l.fn.self.state.rows.room l.fn.self.state.rows.written l.tally l.self.state.rows.written
+      (fires (query_of l.verified) (kind_at (query_of l.verified) l.mark (map (at l.key) l.window-iterator)) (entries_of l.self.state.held))
+      (fires (query_of l.verified) (kind_at (query_of l.verified) l.mark (map (at l.key) l.fn.windows)) (entries_of l.fn.self.state.held));
 }

@@ -7,7 +7,7 @@ use Rattle.wsm_panes.specs.Held.{entries_of}
 use Rattle.wsm_firing.specs.Streams.{IsTold, standing_rows}
 use Rattle.wsm_firing.proofs.StandingRows.{Panes}
 use Rattle.wsm_firing.proofs.Past.{live_left}
-use Rattle.wsm_firing.proofs.operator.WindowOperator.drop_expired.Goals as goal
+use Rattle.wsm_firing.proofs.operator.WindowState.drop_expired.Goals as goal
 
 pub returns-clause-panes : goal.returns-clause-panes
 returns-clause-panes c =
