@@ -3,3 +3,4 @@ pub mod RowsLemmas
 pub mod Written
 pub mod CellLemmas
 pub mod LineLemmas
+pub mod WordLemmas

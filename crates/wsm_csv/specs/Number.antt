@@ -36,6 +36,15 @@ number_of (c ∷ cs) = if c == minus then number_of_digits true cs else number_o
 abbrev pub magnitude_of : List ℕ → Option ℕ
 magnitude_of digits = if is_numeral digits && nat_lt (digits_value digits) (2 ^ 64) then Some (digits_value digits) else None
 
+-- what digits alone stand for behind a number
+abbrev pub magnitude_behind : ℕ → List ℕ → Option ℕ
+magnitude_behind front digits = if list_all is_digit digits then Some (front * 10 ^ length digits + digits_value digits) else None
+
+-- bytes are digits, and stand for a number
+pub record AreDigitsOf (bytes : List ℕ) (n : ℕ) : Type 0 where
+  pub digits : list_all is_digit bytes ≡ true
+  pub value : n ≡ digits_value bytes
+
 zeros_in_front : number_of (codes "007") ≡ Some (pos 7)
 zeros_in_front = refl
 

@@ -2,10 +2,22 @@
 
 ghost use Rattle.std.specs.Prelude.{◌≡◌, ◌<◌, ◌≤◌, ◌-◌, ◌^◌, length, nat_le, IfSome};
 ghost use Rattle.wsm_record.specs.Name.{is_digit};
-ghost use Rattle.wsm_csv.specs.Number.{magnitude_of, number_of};
+ghost use Rattle.wsm_csv.specs.Number.{AreDigitsOf, magnitude_behind, magnitude_of, number_of};
 
 /// The most digits that are read without asking at each whether 64 bits hold the value.
 const SHORT: usize = 18;
+
+/// How many digits are read at once.
+const AT_ONCE: usize = 8;
+
+/// The digit 0 in each byte of a word.
+const ZEROS: u64 = 0x3030_3030_3030_3030;
+
+/// What takes a byte past the digits' upper half where it is above the digit 9, in each byte of a word.
+const PAST_NINE: u64 = 0x0606_0606_0606_0606;
+
+/// The upper half of each byte of a word.
+const UPPER_HALVES: u64 = 0xf0f0_f0f0_f0f0_f0f0;
 
 /// The number that a cell writes: an optional `-`, and then one ASCII digit or more, with a value of
 /// 64 bits. Zeros may stand in front, and no byte may stand around it.
@@ -21,6 +33,66 @@ pub(crate) fn read_number(cell: &[u8]) -> Option<i64>
     }
 }
 
+/// The number that a cell writes, as [`read_number`] reads it. Of eight digits or more the first eight are
+/// read at once, which pays where most numbers are that long.
+#[inline(always)]
+pub(crate) fn read_long_number(cell: &[u8]) -> Option<i64>
+    ensures { result ≡ number_of cell.now }
+{
+    if cell.len() < AT_ONCE {
+        read_number(cell)
+    } else {
+        long_number(cell)
+    }
+}
+
+// The number that a long cell writes. It isn't inlined, since it would take room from the rest of a row.
+#[inline(never)]
+fn long_number(cell: &[u8]) -> Option<i64>
+    ensures { result ≡ number_of cell.now }
+{
+    match long_magnitude(cell) {
+        Some(value) => Some(value as i64),
+        None => read_number(cell),
+    }
+}
+
+// What eight digits or more stand for, where they are few enough for 64 bits. No answer tells nothing of the cell.
+#[inline(always)]
+fn long_magnitude(cell: &[u8]) -> Option<u64>
+    ensures value { IfSome result (λ n. magnitude_of cell.now ≡ Some n) }
+    ensures below { IfSome result (λ n. n < 10 ^ SHORT) }
+{
+    match cell {
+        [a, b, c, d, e, f, g, h, rest @ ..] if rest.len() <= SHORT - AT_ONCE => {
+            let front = eight_digits([*a, *b, *c, *d, *e, *f, *g, *h])?;
+            magnitude_from(front, rest)
+        }
+        _ => None,
+    }
+}
+
+// What eight bytes stand for, where all are digits.
+#[inline(always)]
+fn eight_digits(bytes: [u8; AT_ONCE]) -> Option<u64>
+    ensures value { IfSome result (λ n. AreDigitsOf bytes n) }
+    ensures below { IfSome result (λ n. n < 10 ^ AT_ONCE) }
+{
+    let word = u64::from_le_bytes(bytes);
+    if word & UPPER_HALVES != ZEROS {
+        return None;
+    }
+    if (word + PAST_NINE) & UPPER_HALVES != ZEROS {
+        return None;
+    }
+    let digits = word - ZEROS;
+    // Each second byte is what two digits stand for.
+    let pairs = digits * 10 + (digits >> 8);
+    let high = (pairs & 0xff) * 1_000_000 + ((pairs >> 16) & 0xff) * 10_000;
+    let low = ((pairs >> 32) & 0xff) * 100 + ((pairs >> 48) & 0xff);
+    Some(high + low)
+}
+
 // What so few digits stand for. No step goes past 64 bits.
 #[inline(always)]
 fn short_magnitude(digits: &[u8]) -> Option<u64>
@@ -31,7 +103,18 @@ fn short_magnitude(digits: &[u8]) -> Option<u64>
     if digits.is_empty() {
         return None;
     }
-    let mut value = 0u64;
+    magnitude_from(0, digits)
+}
+
+// What digits stand for behind a number, where they are so few that no step goes past 64 bits.
+#[inline(always)]
+fn magnitude_from(front: u64, digits: &[u8]) -> Option<u64>
+    requires few { length digits.now ≤ SHORT }
+    requires front { front < 10 ^ (SHORT - length digits.now) }
+    ensures value { result ≡ magnitude_behind front digits.now }
+    ensures below { IfSome result (λ n. n < 10 ^ SHORT) }
+{
+    let mut value = front;
     for byte in digits {
         let digit = above_zero(*byte);
         if digit > 9 {

@@ -78,6 +78,19 @@ impl<R: Read + Drop> Rows<R> {
         self.error.as_ref()
     }
 
+    /// What the rows are read from. Where it is ahead of [`Rows::place`], the reader has bytes that no
+    /// row took yet.
+    #[inline(always)]
+    pub fn source(&self) -> &R {
+        self.reader.get_ref()
+    }
+
+    /// How many bytes the rows so far took.
+    #[inline(always)]
+    pub fn place(&self) -> u64 {
+        self.reader.position().byte()
+    }
+
     /// The row that was read last.
     pub fn row(&self) -> &ByteRecord
         ensures { fields_of result.now ≡ cells_of self.now }
