@@ -27,6 +27,7 @@ use Rattle.wsm_bytecode.specs.Reading.{push_int_at, push_bool_at, push_enum_at, 
 use Rattle.wsm_program.proofs.Opcodes.{code_is_byte, of_code_again}
 use Rattle.wsm_program.proofs.Comparisons as comparisons
 use Rattle.wsm_program.proofs.Lawful.{HeaderParts, few_fields, header_parts}
+use Rattle.wsm_bytecode.proofs.Tagged.{tagged_again}
 use Rattle.wsm_bytecode.proofs.Numbers.{bytes_again, byte_again, short_again, signed_again, judged_again}
 use Rattle.wsm_bytecode.proofs.Parts.{tag_again, below, several_again, enum_number_again, enum_is_small, start_again, span_again, size_again, names_again, fields_again, kinds_again, columns_again, budget_again}
 use Rattle.wsm_bytecode.proofs.Settings.{AreReadAgain, are_settings, are_settings_from, schema_parts}
@@ -67,12 +68,9 @@ target_again made t rest h = rw (short_again t rest (ltb-true t 65536 h)) refl
 regroup_5 : (a b c d e rest : List ℕ) → (a ++ (b ++ (c ++ (d ++ e)))) ++ rest ≡ a ++ (b ++ (c ++ (d ++ (e ++ rest))))
 regroup_5 a b c d e rest = simp append_assoc refl
 
-comparison_step : (bytes : List ℕ) (n : ℕ) (o : Comparison) (rest : List ℕ) → number_at w8 bytes ≡ Ok (n, rest) → comparison_of_number n ≡ Some o → comparison_at bytes ≡ Ok (o, rest)
-unfolding comparison_at
-comparison_step bytes n o rest e f = rw (e, f) refl
-
 comparison_again : (o : Comparison) (rest : List ℕ) → comparison_at (byte (comparison_number o) ++ rest) ≡ Ok (o, rest)
-comparison_again o rest = comparison_step (byte (comparison_number o) ++ rest) (comparison_number o) o rest (byte_again (comparison_number o) rest (comparisons.number_is_byte o)) (comparisons.of_number_again o)
+unfolding comparison_at
+comparison_again o rest = tagged_again comparison_of_number (comparison_number o) o rest (comparisons.number_is_byte o) (comparisons.of_number_again o)
 
 number_within : (fs : List DeclaredField) (f : ℕ) → is_number_field (slice_get fs f) ≡ true → f < length fs
 number_within [] f e = absurd (true≢false (sym e))

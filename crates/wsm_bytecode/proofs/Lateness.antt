@@ -9,8 +9,7 @@ use Rattle.wsm_admission.specs.declared.clock.LateBy.{LateBy}
 use Rattle.wsm_admission.specs.declared.clock.LateBy.TheVariants.{Event, Window}
 use Rattle.wsm_admission.specs.Clock.{late_by}
 use Rattle.wsm_program.specs.Program.{is_same_grid, is_late_by}
-use Rattle.wsm_bytecode.specs.Tags.{shape_tag}
-use Rattle.wsm_bytecode.specs.Version2.{last_tag}
+use Rattle.wsm_bytecode.specs.Tags.{shape_tag, last_shape_tag}
 
 abbrev pub is_window : LateBy → Bool
 is_window Event = false
@@ -30,7 +29,7 @@ late_again s Event h = refl
 late_again s (Window other) h = ap Window (same_grid s other h)
 
 -- a shape from whose windows' ends lateness is counted is none of sessions
-pub tag_within : (s : Shape) (l : LateBy) → is_late_by s l ≡ true → shape_tag s ≤ last_tag (is_window l)
+pub tag_within : (s : Shape) (l : LateBy) → is_late_by s l ≡ true → shape_tag s ≤ last_shape_tag (is_window l)
 tag_within (Fixed n) Event h = omega arith
 tag_within (Sliding n d) Event h = omega arith
 tag_within (Session n) Event h = omega arith
@@ -38,7 +37,7 @@ tag_within (Fixed n) (Window other) h = omega arith
 tag_within (Sliding n d) (Window other) h = omega arith
 tag_within (Session n) (Window other) h = absurd (true≢false (sym h))
 
-pub late_lawful : (b : Bool) (s : Shape) → shape_tag s ≤ last_tag b → is_late_by s (late_by b s) ≡ true
+pub late_lawful : (b : Bool) (s : Shape) → shape_tag s ≤ last_shape_tag b → is_late_by s (late_by b s) ≡ true
 late_lawful false s h = refl
 late_lawful true (Fixed n) h = (Decides-int_eq n n).1 refl
 late_lawful true (Sliding n d) h = and_from _ _ ((Decides-int_eq n n).1 refl) ((Decides-int_eq d d).1 refl)

@@ -1,4 +1,5 @@
 pub mod Numbers
+pub mod Tagged
 pub mod Parts
 pub mod Taken
 pub mod TakenParts

@@ -1,5 +1,5 @@
 -- What was spelled is read again: the parts of a header.
-use Rattle.std.proofs.Common.{lit<, leb, ◌≡◌, ℕ, zero, suc, ◌^◌, ◌<◌, ◌≤◌, Bool, true, ◌&&◌, not, List, [], ◌∷◌, ◌++◌, length, ℤ, pos, is_some, Ok, refl, sym, ap, ◌∙◌, append_assoc, arith}
+use Rattle.std.proofs.Common.{lit<, leb, ◌≡◌, ℕ, zero, suc, ◌^◌, ◌<◌, ◌≤◌, Bool, true, ◌&&◌, not, List, [], ◌∷◌, ◌++◌, length, ℤ, pos, is_some, Some, Ok, refl, sym, ap, ◌∙◌, append_assoc, arith}
 use Rattle.std.specs.Prelude.{int_le, slice_get}
 use Rattle.std.specs.List.{list_all, flat_map}
 use Rattle.std.specs.Int.{w8, w16, w64}
@@ -21,10 +21,13 @@ use Rattle.wsm_record.specs.Modes.{may_write}
 use Rattle.wsm_record.specs.Schema.{FieldType, Int, Truth, Enum, DeclaredField, Declared, is_i64, is_within, are_names_after, is_name_list, is_field_type, is_field_after, are_fields_after, enum_names, names_of_field}
 use Rattle.wsm_program.specs.declared.program.Costs.{Costs}
 use Rattle.wsm_record.specs.Name.{is_between, is_name, is_among}
-use Rattle.wsm_bytecode.specs.Tags.{mode_by, form_by, kind_by, shape_tag, form_tag}
-use Rattle.wsm_bytecode.specs.Steps.{Read, judged, number_at, signed_at, name_at, names_after, names_at, interval_at, enum_at, field_type_by, field_type_at, new_field_at, fields_after, fields_at, sources_at, fixed_at, sliding_at, session_at, shape_by, windows_by, mode_at, triggers_at, form_of, kind_at, kinds_at, enum_number_at, enum_column_at, column_by, column_at, columns_at, budget_at, several}
+use Rattle.wsm_bytecode.specs.declared.tags.TypeTag.{TypeTag}
+use Rattle.wsm_bytecode.specs.declared.tags.TypeTag.TheVariants as of
+use Rattle.wsm_bytecode.specs.Tags.{mode_by, mode_tag, form_by, form_tag, kind_by, kind_tag, type_by, type_tag, shape_tag}
+use Rattle.wsm_bytecode.specs.Steps.{Read, judged, tagged, number_at, signed_at, name_at, names_after, names_at, interval_at, enum_at, type_tag_at, field_type_by, field_type_at, new_field_at, fields_after, fields_at, sources_at, fixed_at, sliding_at, session_at, shape_by, windows_by, mode_at, triggers_at, form_of, kind_at, kinds_at, enum_number_at, enum_column_at, column_by, column_at, columns_at, budget_at, several}
 use Rattle.wsm_bytecode.specs.Parts.{byte, number, long, signed, name, names, field_type, field, fields, sources, measures, mode, kind, column, kinds, columns, budget}
 use Rattle.wsm_program.proofs.Within.{le_through, is_i64_within}
+use Rattle.wsm_bytecode.proofs.Tagged.{tagged_again}
 use Rattle.wsm_bytecode.proofs.Numbers.{byte_again, short_again, long_again, signed_again, judged_again, name_again}
 
 -- so many, one after the other
@@ -84,7 +87,25 @@ enum_step bytes ns rest e = rw e refl
 pub tag_again : (lo hi n : ℕ) (rest : List ℕ) → hi < 256 → is_between lo hi n ≡ true → judged (is_between lo hi) (number_at w8 (byte n ++ rest)) ≡ Ok (n, rest)
 tag_again lo hi n rest h g = judged_again (is_between lo hi) (number_at w8 (byte n ++ rest)) n rest (byte_again n rest (below n lo hi 256 h g)) g
 
-type_step : (bytes : List ℕ) (tag : ℕ) (mid : List ℕ) (t : FieldType) (rest : List ℕ) → judged (is_between 0 2) (number_at w8 bytes) ≡ Ok (tag, mid) → field_type_by tag mid ≡ Ok (t, rest) → field_type_at bytes ≡ Ok (t, rest)
+type_tag_step : (bytes : List ℕ) (t : TypeTag) (rest : List ℕ) → tagged type_by bytes ≡ Ok (t, rest) → type_tag_at bytes ≡ Ok (t, rest)
+unfolding type_tag_at
+type_tag_step bytes t rest e = e
+
+type_is_byte : (t : TypeTag) → type_tag t < 256
+type_is_byte of.Int = lit< tt
+type_is_byte of.Bool = lit< tt
+type_is_byte of.Enum = lit< tt
+
+type_by_tag : (t : TypeTag) → type_by (type_tag t) ≡ Some t
+unfolding type_by
+type_by_tag of.Int = refl
+type_by_tag of.Bool = refl
+type_by_tag of.Enum = refl
+
+type_tag_again : (t : TypeTag) (rest : List ℕ) → type_tag_at (byte (type_tag t) ++ rest) ≡ Ok (t, rest)
+type_tag_again t rest = type_tag_step (byte (type_tag t) ++ rest) t rest (tagged_again type_by (type_tag t) t rest (type_is_byte t) (type_by_tag t))
+
+type_step : (bytes : List ℕ) (tag : TypeTag) (mid : List ℕ) (t : FieldType) (rest : List ℕ) → type_tag_at bytes ≡ Ok (tag, mid) → field_type_by tag mid ≡ Ok (t, rest) → field_type_at bytes ≡ Ok (t, rest)
 unfolding field_type_at
 type_step bytes tag mid t rest e f = rw (e, f) refl
 
@@ -94,10 +115,10 @@ field_type_again (Int lo hi) rest h =
     let a = and_parts (is_i64 lo) (is_i64 hi && int_le lo hi) h in
     let b = and_parts (is_i64 hi) (int_le lo hi) a.1 in
     let mid = signed lo ++ (signed hi ++ rest) in
-    type_step (byte 0 ++ mid) 0 mid (Int lo hi) rest (tag_again 0 2 0 mid (lit< tt) refl) (interval_again lo hi rest a.0 b.0 b.1)
-field_type_again Truth rest h = type_step (byte 1 ++ rest) 1 rest Truth rest (tag_again 0 2 1 rest (lit< tt) refl) refl
+    type_step (byte 0 ++ mid) of.Int mid (Int lo hi) rest (type_tag_again of.Int mid) (interval_again lo hi rest a.0 b.0 b.1)
+field_type_again Truth rest h = type_step (byte 1 ++ rest) of.Bool rest Truth rest (type_tag_again of.Bool rest) refl
 field_type_again (Enum ns) rest h =
-    type_step (byte 2 ++ (names ns ++ rest)) 2 (names ns ++ rest) (Enum ns) rest (tag_again 0 2 2 (names ns ++ rest) (lit< tt) refl) (enum_step (names ns ++ rest) ns rest (names_again ns rest h))
+    type_step (byte 2 ++ (names ns ++ rest)) of.Enum (names ns ++ rest) (Enum ns) rest (type_tag_again of.Enum (names ns ++ rest)) (enum_step (names ns ++ rest) ns rest (names_again ns rest h))
 
 new_field_step : (before : List Name) (bytes : List ℕ) (f : DeclaredField) (mid rest : List ℕ) → name_at bytes ≡ Ok (f.name, mid) → not (is_among f.name before) ≡ true
     → field_type_at mid ≡ Ok (f.type, rest) → new_field_at before bytes ≡ Ok (f, rest)
@@ -188,14 +209,20 @@ windows_step b tag bytes s rest e = rw e refl
 pub windows_again : (b : Bool) (s : Shape) (rest : List ℕ) → is_shape s ≡ true → windows_by b (shape_tag s) (measures s ++ rest) ≡ Ok ((s, late_by b s), rest)
 windows_again b s rest h = windows_step b (shape_tag s) (measures s ++ rest) s rest (shape_again s rest h)
 
-mode_step : (bytes : List ℕ) (tag : ℕ) (rest : List ℕ) → judged (is_between 0 2) (number_at w8 bytes) ≡ Ok (tag, rest) → mode_at bytes ≡ Ok (mode_by tag, rest)
-unfolding mode_at
-mode_step bytes tag rest e = rw e refl
+mode_is_byte : (m : Mode) → mode_tag m < 256
+mode_is_byte Discarding = lit< tt
+mode_is_byte Accumulating = lit< tt
+mode_is_byte Retracting = lit< tt
+
+mode_by_tag : (m : Mode) → mode_by (mode_tag m) ≡ Some m
+unfolding mode_by
+mode_by_tag Discarding = refl
+mode_by_tag Accumulating = refl
+mode_by_tag Retracting = refl
 
 pub mode_again : (m : Mode) (rest : List ℕ) → mode_at (mode m ++ rest) ≡ Ok (m, rest)
-mode_again Discarding rest = mode_step (byte 0 ++ rest) 0 rest (tag_again 0 2 0 rest (lit< tt) refl)
-mode_again Accumulating rest = mode_step (byte 1 ++ rest) 1 rest (tag_again 0 2 1 rest (lit< tt) refl)
-mode_again Retracting rest = mode_step (byte 2 ++ rest) 2 rest (tag_again 0 2 2 rest (lit< tt) refl)
+unfolding mode_at
+mode_again m rest = tagged_again mode_by (mode_tag m) m rest (mode_is_byte m) (mode_by_tag m)
 
 triggers_step : (early late : ℤ) (bytes mid rest : List ℕ) → judged is_span (signed_at bytes) ≡ Ok (early, mid) → judged is_span (signed_at mid) ≡ Ok (late, rest)
     → triggers_at bytes ≡ Ok ((early, late), rest)
@@ -206,30 +233,43 @@ pub triggers_again : (early late : ℤ) (rest : List ℕ) → is_span early ≡ 
 triggers_again early late rest e l =
     triggers_step early late (signed early ++ (signed late ++ rest)) (signed late ++ rest) rest (span_again early (signed late ++ rest) e) (span_again late rest l)
 
--- a form by its own tag
-pub form_by_tag : (f : Form) → form_by (form_tag f) ≡ f
+pub form_is_byte : (f : Form) → form_tag f < 256
+form_is_byte Panes = lit< tt
+form_is_byte Istream = lit< tt
+form_is_byte Dstream = lit< tt
+form_is_byte Rstream = lit< tt
+
+form_by_tag : (f : Form) → form_by (form_tag f) ≡ Some f
+unfolding form_by
 form_by_tag Panes = refl
 form_by_tag Istream = refl
 form_by_tag Dstream = refl
 form_by_tag Rstream = refl
 
+-- a form by its own tag
 pub form_again : (m : Mode) (f : Form) → may_write m f ≡ true → form_of m (form_tag f) ≡ Ok f
-form_again m f h =
-    let allowed : may_write m (form_by (form_tag f)) ≡ true = ap (may_write m) (form_by_tag f) ∙ h in
-    rw (allowed, form_by_tag f) refl
+form_again m f h = rw (form_by_tag f, h) refl
 
 -- ---- accumulators and columns
 
-kind_step : (bytes : List ℕ) (tag : ℕ) (rest : List ℕ) → judged (is_between 0 4) (number_at w8 bytes) ≡ Ok (tag, rest) → kind_at bytes ≡ Ok (kind_by tag, rest)
-unfolding kind_at
-kind_step bytes tag rest e = rw e refl
+kind_is_byte : (k : Kind) → kind_tag k < 256
+kind_is_byte Sum = lit< tt
+kind_is_byte Min = lit< tt
+kind_is_byte Max = lit< tt
+kind_is_byte Any = lit< tt
+kind_is_byte All = lit< tt
+
+kind_by_tag : (k : Kind) → kind_by (kind_tag k) ≡ Some k
+unfolding kind_by
+kind_by_tag Sum = refl
+kind_by_tag Min = refl
+kind_by_tag Max = refl
+kind_by_tag Any = refl
+kind_by_tag All = refl
 
 kind_again : (k : Kind) (rest : List ℕ) → kind_at (kind k ++ rest) ≡ Ok (k, rest)
-kind_again Sum rest = kind_step (byte 0 ++ rest) 0 rest (tag_again 0 4 0 rest (lit< tt) refl)
-kind_again Min rest = kind_step (byte 1 ++ rest) 1 rest (tag_again 0 4 1 rest (lit< tt) refl)
-kind_again Max rest = kind_step (byte 2 ++ rest) 2 rest (tag_again 0 4 2 rest (lit< tt) refl)
-kind_again Any rest = kind_step (byte 3 ++ rest) 3 rest (tag_again 0 4 3 rest (lit< tt) refl)
-kind_again All rest = kind_step (byte 4 ++ rest) 4 rest (tag_again 0 4 4 rest (lit< tt) refl)
+unfolding kind_at
+kind_again k rest = tagged_again kind_by (kind_tag k) k rest (kind_is_byte k) (kind_by_tag k)
 
 kinds_step : (bytes : List ℕ) (n : ℕ) (mid : List ℕ) (ks : List Kind) (rest : List ℕ) → judged (is_between 0 16) (number_at w8 bytes) ≡ Ok (n, mid) → several kind_at n mid ≡ Ok (ks, rest) → kinds_at bytes ≡ Ok (ks, rest)
 unfolding kinds_at
@@ -249,7 +289,7 @@ pub enum_number_again : (s : Declared) (e : ℕ) (rest : List ℕ) → e < 256 �
 unfolding enum_number_at
 enum_number_again s e rest lt h = judged_again (λ x. is_some (enum_names s x)) (number_at w8 (byte e ++ rest)) e rest (byte_again e rest lt) h
 
-column_step : (s : Declared) (bytes : List ℕ) (tag : ℕ) (mid : List ℕ) (t : CellType) (rest : List ℕ) → judged (is_between 0 2) (number_at w8 bytes) ≡ Ok (tag, mid) → column_by s tag mid ≡ Ok (t, rest) → column_at s bytes ≡ Ok (t, rest)
+column_step : (s : Declared) (bytes : List ℕ) (tag : TypeTag) (mid : List ℕ) (t : CellType) (rest : List ℕ) → type_tag_at bytes ≡ Ok (tag, mid) → column_by s tag mid ≡ Ok (t, rest) → column_at s bytes ≡ Ok (t, rest)
 unfolding column_at
 column_step s bytes tag mid t rest e f = rw (e, f) refl
 
@@ -270,10 +310,10 @@ enum_is_small s (suc f) few h =
     omega (arith, found_below s.fields f h)
 
 column_again : (s : Declared) → leb (length s.fields) 16 ≡ true → (t : CellType) (rest : List ℕ) → is_column s t ≡ true → column_at s (column t ++ rest) ≡ Ok (t, rest)
-column_again s few types.Int rest h = column_step s (byte 0 ++ rest) 0 rest types.Int rest (tag_again 0 2 0 rest (lit< tt) refl) refl
-column_again s few types.Bool rest h = column_step s (byte 1 ++ rest) 1 rest types.Bool rest (tag_again 0 2 1 rest (lit< tt) refl) refl
+column_again s few types.Int rest h = column_step s (byte 0 ++ rest) of.Int rest types.Int rest (type_tag_again of.Int rest) refl
+column_again s few types.Bool rest h = column_step s (byte 1 ++ rest) of.Bool rest types.Bool rest (type_tag_again of.Bool rest) refl
 column_again s few (types.Enum e) rest h =
-    column_step s (byte 2 ++ (byte e ++ rest)) 2 (byte e ++ rest) (types.Enum e) rest (tag_again 0 2 2 (byte e ++ rest) (lit< tt) refl)
+    column_step s (byte 2 ++ (byte e ++ rest)) of.Enum (byte e ++ rest) (types.Enum e) rest (type_tag_again of.Enum (byte e ++ rest))
     (enum_column_step s (byte e ++ rest) e rest (enum_number_again s e rest (enum_is_small s e few h) h))
 
 columns_step : (s : Declared) (bytes : List ℕ) (n : ℕ) (mid : List ℕ) (ts : List CellType) (rest : List ℕ) → judged (is_between 1 16) (number_at w8 bytes) ≡ Ok (n, mid) → several (column_at s) n mid ≡ Ok (ts, rest)

@@ -1,5 +1,5 @@
 -- What was read is what was spelled: the parts of a header.
-use Rattle.std.proofs.Common.{leb, ◌≡◌, ℕ, zero, suc, ◌^◌, ◌≤◌, Bool, true, ◌&&◌, not, List, [], ◌∷◌, ◌++◌, length, ℤ, pos, is_some, Ok, refl, sym, ap, subst, ◌∙◌, append_assoc, arith}
+use Rattle.std.proofs.Common.{leb, ◌≡◌, ℕ, zero, suc, ◌^◌, ◌≤◌, Bool, true, ◌&&◌, not, List, [], ◌∷◌, ◌++◌, length, ℤ, pos, is_some, Some, Ok, refl, sym, ap, subst, ◌∙◌, append_assoc, arith}
 use Rattle.std.specs.Prelude.{int_le}
 use Rattle.std.specs.List.{list_all, flat_map}
 use Rattle.std.specs.Int.{w8, w16, w64}
@@ -19,11 +19,15 @@ use Rattle.wsm_record.specs.Modes.{may_write}
 use Rattle.wsm_record.specs.Schema.{FieldType, Int, Truth, Enum, DeclaredField, Declared, are_names_after, is_name_list, is_field_type, is_field_after, are_fields_after, is_within, enum_names}
 use Rattle.wsm_program.specs.declared.program.Costs.{Costs}
 use Rattle.wsm_record.specs.Name.{is_between, is_name, is_among}
-use Rattle.wsm_bytecode.specs.Tags.{mode_by, form_by, kind_by, shape_tag, form_tag}
-use Rattle.wsm_bytecode.specs.Steps.{◌>>=◌, judged, bytes_at, number_at, signed_at, name_at, names_after, names_at, interval_at, enum_at, field_type_by, field_type_at, new_field_at, fields_after, fields_at, sources_at, fixed_at, sliding_at, session_at, shape_by, windows_by, mode_at, triggers_at, form_of, kind_at, kinds_at, enum_number_at, enum_column_at, column_by, column_at, columns_at, budget_at, several}
+use Rattle.wsm_bytecode.specs.declared.tags.TypeTag.{TypeTag}
+use Rattle.wsm_bytecode.specs.declared.tags.TypeTag.TheVariants as of
+use Rattle.wsm_bytecode.specs.Tags.{modes, mode_by, mode_tag, forms, form_by, form_tag, kinds as kind_list, kind_by, kind_tag, types as type_list, type_by, type_tag, shape_tag}
+use Rattle.wsm_bytecode.specs.Steps.{◌>>=◌, judged, bytes_at, number_at, signed_at, name_at, names_after, names_at, interval_at, enum_at, type_tag_at, field_type_by, field_type_at, new_field_at, fields_after, fields_at, sources_at, fixed_at, sliding_at, session_at, shape_by, windows_by, mode_at, triggers_at, form_of, kind_at, kinds_at, enum_number_at, enum_column_at, column_by, column_at, columns_at, budget_at, several}
 use Rattle.wsm_bytecode.specs.Parts.{byte, number, long, signed, name, names, field_type, field, fields, sources, measures, mode, kind, column, kinds, columns, budget}
 use Rattle.wsm_program.proofs.Within.{at_most}
-use Rattle.wsm_bytecode.proofs.Taken.{IsBytes, bind_ok, bind_then, test_ok, judged_ok, ok_is, Took, Exact, bytes_taken, byte_taken, number_taken, wide16, wide64, signed_taken, several_taken}
+use Rattle.wsm_program.proofs.Numbered.{found_has_number}
+use Rattle.wsm_bytecode.proofs.Tagged.{tagged_taken}
+use Rattle.wsm_bytecode.proofs.Taken.{IsBytes, bind_ok, bind_then, test_ok, judged_ok, ok_is, there_is, Took, Exact, bytes_taken, byte_taken, number_taken, wide16, wide64, signed_taken, several_taken}
 
 -- ---- names
 
@@ -84,7 +88,8 @@ tag_taken lo hi bytes x fits e =
     record { parts = t.parts; fits = t.fits; good = j.1 }
 
 -- what stands behind a tag
-after_tag : {A : Type 0} (spell : A → List ℕ) (good : A → Bool) (bytes : List ℕ) (t : ℕ × List ℕ) (x : A × List ℕ) → bytes ≡ byte t.0 ++ t.1 → Took spell good (byte t.0 ++ t.1) x → Took spell good bytes x
+after_tag : {A : Type 0} (spell : A → List ℕ) (good : A → Bool) (bytes : List ℕ) (t : TypeTag × List ℕ) (x : A × List ℕ)
+    → bytes ≡ byte (type_tag t.0) ++ t.1 → Took spell good (byte (type_tag t.0) ++ t.1) x → Took spell good bytes x
 after_tag spell good bytes t x e h = record { parts = e ∙ h.parts; fits = h.fits; good = h.good }
 
 -- ---- fields
@@ -109,21 +114,27 @@ enum_taken bytes x fits e =
     let made : FieldType × List ℕ = (Enum a.0.0, a.0.1) in
     subst (λ y. Took field_type is_field_type (byte 2 ++ bytes) y) (ok_is made x a.2) (record { parts = ap (λ r. byte 2 ++ r) t.parts; fits = t.fits; good = t.good })
 
-type_by_taken : (n : ℕ) (bytes : List ℕ) (x : FieldType × List ℕ) → n ≤ 2 → IsBytes bytes → field_type_by n bytes ≡ Ok x → Took field_type is_field_type (byte n ++ bytes) x
-type_by_taken zero bytes x le fits e = interval_taken bytes x fits e
-type_by_taken (suc zero) bytes x le fits e =
+type_has_tag : (n : ℕ) (t : TypeTag) → type_by n ≡ Some t → n ≡ type_tag t
+unfolding type_by
+type_has_tag n t e = found_has_number type_tag n t type_list e
+
+type_tag_taken : Exact type_tag_at (λ t. byte (type_tag t)) (λ t. true)
+unfolding type_tag_at
+type_tag_taken bytes x fits e = tagged_taken type_tag type_by type_has_tag bytes x fits e
+
+type_by_taken : (t : TypeTag) (bytes : List ℕ) (x : FieldType × List ℕ) → IsBytes bytes → field_type_by t bytes ≡ Ok x → Took field_type is_field_type (byte (type_tag t) ++ bytes) x
+type_by_taken of.Int bytes x fits e = interval_taken bytes x fits e
+type_by_taken of.Bool bytes x fits e =
     let made : FieldType × List ℕ = (Truth, bytes) in
     subst (λ y. Took field_type is_field_type (byte 1 ++ bytes) y) (ok_is made x e) (record { parts = refl; fits = fits; good = refl })
-type_by_taken (suc (suc n)) bytes x le fits e =
-    let two : 2 ≡ suc (suc n) = omega arith in
-    subst (λ k. Took field_type is_field_type (byte k ++ bytes) x) two (enum_taken bytes x fits e)
+type_by_taken of.Enum bytes x fits e = enum_taken bytes x fits e
 
 pub field_type_taken : Exact field_type_at field_type is_field_type
 unfolding field_type_at
 field_type_taken bytes x fits e =
-    let b = bind_ok (judged (is_between 0 2) (number_at w8 bytes)) (λ tag. field_type_by tag.0 tag.1) x e in
-    let t = tag_taken 0 2 bytes b.0 fits b.1 in
-    after_tag field_type is_field_type bytes b.0 x t.parts (type_by_taken b.0.0 b.0.1 x (at_most 0 2 b.0.0 t.good) t.fits b.2)
+    let b = bind_ok (type_tag_at bytes) (λ tag. field_type_by tag.0 tag.1) x e in
+    let t = type_tag_taken bytes b.0 fits b.1 in
+    after_tag field_type is_field_type bytes b.0 x t.parts (type_by_taken b.0.0 b.0.1 x t.fits b.2)
 
 pub record TookFields (before : List Name) (n : ℕ) (bytes : List ℕ) (x : List DeclaredField × List ℕ) : Type 0 where
   pub parts : bytes ≡ flat_map field x.0 ++ x.1
@@ -256,20 +267,13 @@ windows_taken b n bytes x le fits e =
     let made : (Shape × LateBy) × List ℕ = ((s.0, late_by b s.0), s.1) in
     subst (λ y. TookWindows b n bytes y) (ok_is made x l0) (record { tagged = t.tagged; parts = t.parts; fits = t.fits; good = t.good; late = refl }))
 
-mode_of_tag : (n : ℕ) → n ≤ 2 → byte n ≡ mode (mode_by n)
-mode_of_tag zero h = refl
-mode_of_tag (suc zero) h = refl
-mode_of_tag (suc (suc n)) h =
-    let two : suc (suc n) ≡ 2 = omega arith in
-    ap byte two
+mode_has_tag : (n : ℕ) (m : Mode) → mode_by n ≡ Some m → n ≡ mode_tag m
+unfolding mode_by
+mode_has_tag n m e = found_has_number mode_tag n m modes e
 
 pub mode_taken : Exact mode_at mode (λ m. true)
 unfolding mode_at
-mode_taken bytes x fits e =
-    let b = bind_ok (judged (is_between 0 2) (number_at w8 bytes)) (λ tag. Ok (mode_by tag.0, tag.1)) x e in
-    let t = tag_taken 0 2 bytes b.0 fits b.1 in
-    let made : Mode × List ℕ = (mode_by b.0.0, b.0.1) in
-    subst (λ y. Took mode (λ m. true) bytes y) (ok_is made x b.2) (record { parts = t.parts ∙ ap (λ r. r ++ b.0.1) (mode_of_tag b.0.0 (at_most 0 2 b.0.0 t.good)); fits = t.fits; good = refl })
+mode_taken bytes x fits e = tagged_taken mode_tag mode_by mode_has_tag bytes x fits e
 
 abbrev pub triggers_bytes : ℤ × ℤ → List ℕ
 triggers_bytes t = signed t.0 ++ signed t.1
@@ -293,37 +297,25 @@ pub record TookForm (m : Mode) (tag : ℕ) (f : Form) : Type 0 where
   pub tagged : form_tag f ≡ tag
   pub good : may_write m f ≡ true
 
-form_of_tag : (n : ℕ) → n ≤ 3 → form_tag (form_by n) ≡ n
-form_of_tag zero h = refl
-form_of_tag (suc zero) h = refl
-form_of_tag (suc (suc zero)) h = refl
-form_of_tag (suc (suc (suc n))) h =
-    let three : suc (suc (suc n)) ≡ 3 = omega arith in
-    sym three
+form_has_tag : (n : ℕ) (f : Form) → form_by n ≡ Some f → n ≡ form_tag f
+unfolding form_by
+form_has_tag n f e = found_has_number form_tag n f forms e
 
-pub form_taken : (m : Mode) (n : ℕ) (f : Form) → n ≤ 3 → form_of m n ≡ Ok f → TookForm m n f
-form_taken m n f le e =
-    let g = test_ok (may_write m (form_by n)) Operand (form_by n) f e in
-    subst (λ y. TookForm m n y) g.1 (record { tagged = form_of_tag n le; good = g.0 })
+pub form_taken : (m : Mode) (n : ℕ) (f : Form) → form_of m n ≡ Ok f → TookForm m n f
+form_taken m n f e =
+    bind_then _ _ f e (λ g e0 l0.
+    let t = test_ok (may_write m g) Operand g f l0 in
+    subst (λ y. TookForm m n y) t.1 (record { tagged = sym (form_has_tag n g (there_is (form_by n) Operand g e0)); good = t.0 }))
 
 -- ---- accumulators and columns
 
-kind_of_tag : (n : ℕ) → n ≤ 4 → byte n ≡ kind (kind_by n)
-kind_of_tag zero h = refl
-kind_of_tag (suc zero) h = refl
-kind_of_tag (suc (suc zero)) h = refl
-kind_of_tag (suc (suc (suc zero))) h = refl
-kind_of_tag (suc (suc (suc (suc n)))) h =
-    let four : suc (suc (suc (suc n))) ≡ 4 = omega arith in
-    ap byte four
+kind_has_tag : (n : ℕ) (k : Kind) → kind_by n ≡ Some k → n ≡ kind_tag k
+unfolding kind_by
+kind_has_tag n k e = found_has_number kind_tag n k kind_list e
 
 kind_taken : Exact kind_at kind (λ k. true)
 unfolding kind_at
-kind_taken bytes x fits e =
-    let b = bind_ok (judged (is_between 0 4) (number_at w8 bytes)) (λ tag. Ok (kind_by tag.0, tag.1)) x e in
-    let t = tag_taken 0 4 bytes b.0 fits b.1 in
-    let made : Kind × List ℕ = (kind_by b.0.0, b.0.1) in
-    subst (λ y. Took kind (λ k. true) bytes y) (ok_is made x b.2) (record { parts = t.parts ∙ ap (λ r. r ++ b.0.1) (kind_of_tag b.0.0 (at_most 0 4 b.0.0 t.good)); fits = t.fits; good = refl })
+kind_taken bytes x fits e = tagged_taken kind_tag kind_by kind_has_tag bytes x fits e
 
 pub kinds_taken : Exact kinds_at kinds (λ ks. leb (length ks) 16)
 unfolding kinds_at
@@ -341,28 +333,26 @@ enum_number_taken s bytes x fits e =
     let t = byte_taken bytes x fits j.0 in
     record { parts = t.parts; fits = t.fits; good = j.1 }
 
-column_by_taken : (s : Declared) (n : ℕ) (bytes : List ℕ) (x : CellType × List ℕ) → n ≤ 2 → IsBytes bytes → column_by s n bytes ≡ Ok x → Took column (is_column s) (byte n ++ bytes) x
+column_by_taken : (s : Declared) (t : TypeTag) (bytes : List ℕ) (x : CellType × List ℕ) → IsBytes bytes → column_by s t bytes ≡ Ok x → Took column (is_column s) (byte (type_tag t) ++ bytes) x
 unfolding enum_column_at
-column_by_taken s zero bytes x le fits e =
+column_by_taken s of.Int bytes x fits e =
     let made : CellType × List ℕ = (types.Int, bytes) in
     subst (λ y. Took column (is_column s) (byte 0 ++ bytes) y) (ok_is made x e) (record { parts = refl; fits = fits; good = refl })
-column_by_taken s (suc zero) bytes x le fits e =
+column_by_taken s of.Bool bytes x fits e =
     let made : CellType × List ℕ = (types.Bool, bytes) in
     subst (λ y. Took column (is_column s) (byte 1 ++ bytes) y) (ok_is made x e) (record { parts = refl; fits = fits; good = refl })
-column_by_taken s (suc (suc n)) bytes x le fits e =
-    let two : 2 ≡ suc (suc n) = omega arith in
+column_by_taken s of.Enum bytes x fits e =
     let a = bind_ok (enum_number_at s bytes) (λ d. Ok (types.Enum d.0, d.1)) x e in
     let t = enum_number_taken s bytes a.0 fits a.1 in
     let made : CellType × List ℕ = (types.Enum a.0.0, a.0.1) in
-    subst (λ k. Took column (is_column s) (byte k ++ bytes) x) two
-    (subst (λ y. Took column (is_column s) (byte 2 ++ bytes) y) (ok_is made x a.2) (record { parts = ap (λ r. byte 2 ++ r) t.parts; fits = t.fits; good = t.good }))
+    subst (λ y. Took column (is_column s) (byte 2 ++ bytes) y) (ok_is made x a.2) (record { parts = ap (λ r. byte 2 ++ r) t.parts; fits = t.fits; good = t.good })
 
 column_taken : (s : Declared) → Exact (column_at s) column (is_column s)
 unfolding column_at
 column_taken s bytes x fits e =
-    let b = bind_ok (judged (is_between 0 2) (number_at w8 bytes)) (λ tag. column_by s tag.0 tag.1) x e in
-    let t = tag_taken 0 2 bytes b.0 fits b.1 in
-    after_tag column (is_column s) bytes b.0 x t.parts (column_by_taken s b.0.0 b.0.1 x (at_most 0 2 b.0.0 t.good) t.fits b.2)
+    let b = bind_ok (type_tag_at bytes) (λ tag. column_by s tag.0 tag.1) x e in
+    let t = type_tag_taken bytes b.0 fits b.1 in
+    after_tag column (is_column s) bytes b.0 x t.parts (column_by_taken s b.0.0 b.0.1 x t.fits b.2)
 
 pub columns_taken : (s : Declared) → Exact (columns_at s) columns (λ ts. is_between 1 16 (length ts) && list_all (is_column s) ts)
 unfolding columns_at

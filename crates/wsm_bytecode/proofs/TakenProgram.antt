@@ -35,6 +35,7 @@ use Rattle.wsm_program.proofs.Opcodes.{of_code_has_code}
 use Rattle.wsm_program.proofs.Comparisons as comparisons
 use Rattle.wsm_bytecode.proofs.Codec.{opcode_byte, is_of, regroup_4, regroup_6}
 use Rattle.wsm_bytecode.proofs.Settings.{are_settings, settings_parts}
+use Rattle.wsm_bytecode.proofs.Tagged.{tagged_taken}
 use Rattle.wsm_bytecode.proofs.Taken.{IsBytes, bind_ok, bind_then, test_ok, judged_ok, ok_is, there_is, Took, Exact, bytes_taken, byte_taken, number_taken, wide16, signed_taken, several_taken}
 use Rattle.wsm_bytecode.proofs.TakenParts.{tag_taken, measure_taken, names_taken, fields_taken, kinds_taken, columns_taken, budget_taken, enum_number_taken}
 use Rattle.wsm_bytecode.proofs.Versions as versions
@@ -106,14 +107,7 @@ target_taken v h o made spelled good there bytes x fits e =
 
 comparison_taken : Exact comparison_at (λ o. byte (comparison_number o)) (λ o. true)
 unfolding comparison_at
-comparison_taken bytes x fits e =
-    bind_then _ _ x e (λ n e0 l0.
-    bind_then _ _ x l0 (λ o e1 l1.
-    let t = byte_taken bytes n fits e0 in
-    let same = comparisons.of_number_has_number n.0 o (there_is (comparison_of_number n.0) Operand o e1) in
-    let made : Comparison × List ℕ = (o, n.1) in
-    subst (λ y. Took (λ c. byte (comparison_number c)) (λ c. true) bytes y) (ok_is made x l1)
-    (record { parts = t.parts ∙ ap (λ k. byte k ++ n.1) same; fits = t.fits; good = refl })))
+comparison_taken bytes x fits e = tagged_taken comparison_number comparison_of_number comparisons.of_number_has_number bytes x fits e
 
 number_field_taken : (fs : List DeclaredField) → Exact (number_field_at fs) byte (λ f. is_number_field (slice_get fs f))
 unfolding number_field_at

@@ -19,8 +19,9 @@ use Rattle.wsm_bytecode.specs.Tags.{form_tag, shape_tag}
 use Rattle.wsm_bytecode.specs.Parts.{Settings, byte, signed, sources, mode, measures}
 use Rattle.wsm_bytecode.specs.Steps.{judged, number_at, windows_by, mode_at, triggers_at, form_of, sources_at}
 use Rattle.wsm_bytecode.specs.Version1.{windows, window_tag, output, settings, windows_at, form_part, sources_by, output_at, settings_at}
+use Rattle.wsm_bytecode.proofs.Numbers.{byte_again}
 use Rattle.wsm_bytecode.proofs.Parts.{tag_again, sources_again, windows_again, mode_again, triggers_again, form_again}
-use Rattle.wsm_bytecode.proofs.Taken.{IsBytes, bind_then, choose, ok_is, Took, Exact}
+use Rattle.wsm_bytecode.proofs.Taken.{IsBytes, bind_then, choose, ok_is, Took, Exact, byte_taken}
 use Rattle.wsm_bytecode.proofs.TakenParts.{tag_taken, sources_taken, TookWindows, windows_taken, mode_taken, triggers_bytes, triggers_taken, form_taken}
 use Rattle.wsm_bytecode.proofs.Lateness.{is_window, late_again, late_lawful}
 use Rattle.wsm_bytecode.proofs.Settings.{AreReadAgain, are_settings, settings_parts, are_settings_from, many_sources, count_of_many, few_sources}
@@ -50,38 +51,38 @@ tagged_again (Session n) (Window other) rest h late = absurd (true≢false (sym 
 shape_again : (s : Shape) (l : LateBy) (rest : List ℕ) → is_shape s ≡ true → is_late_by s l ≡ true → windows_at (windows l s ++ rest) ≡ Ok ((s, l), rest)
 shape_again s l rest h late = tagged_again s l rest h late ∙ ap (λ (k : LateBy). Ok ((s, k), rest)) (late_again s l late)
 
-output_step : (m : Mode) (tag : ℕ) (bytes mid : List ℕ) (f : Form) (ns : List Name) (rest : List ℕ) → judged (is_between 0 7) (number_at w8 bytes) ≡ Ok (tag, mid) → form_of m (form_part tag) ≡ Ok f
+output_step : (m : Mode) (tag : ℕ) (bytes mid : List ℕ) (f : Form) (ns : List Name) (rest : List ℕ) → number_at w8 bytes ≡ Ok (tag, mid) → form_of m (form_part tag) ≡ Ok f
     → sources_by tag mid ≡ Ok (ns, rest) → output_at m bytes ≡ Ok ((f, ns), rest)
 unfolding output_at
 output_step m tag bytes mid f ns rest e g h = rw (e, g, h) refl
 
-without_sources : (m : Mode) (tag : ℕ) (f : Form) (rest : List ℕ) → is_between 0 7 tag ≡ true → form_of m (form_part tag) ≡ Ok f → ltb tag 4 ≡ true → output_at m (byte tag ++ rest) ≡ Ok ((f, []), rest)
-without_sources m tag f rest good e low = output_step m tag (byte tag ++ rest) rest f [] rest (tag_again 0 7 tag rest (lit< tt) good) e (rw low refl)
+without_sources : (m : Mode) (tag : ℕ) (f : Form) (rest : List ℕ) → tag < 256 → form_of m (form_part tag) ≡ Ok f → ltb tag 4 ≡ true → output_at m (byte tag ++ rest) ≡ Ok ((f, []), rest)
+without_sources m tag f rest small e low = output_step m tag (byte tag ++ rest) rest f [] rest (byte_again tag rest small) e (rw low refl)
 
-with_sources : (m : Mode) (tag : ℕ) (f : Form) (ns : List Name) (rest : List ℕ) → is_between 0 7 tag ≡ true → form_of m (form_part tag) ≡ Ok f → ltb tag 4 ≡ false
+with_sources : (m : Mode) (tag : ℕ) (f : Form) (ns : List Name) (rest : List ℕ) → tag < 256 → form_of m (form_part tag) ≡ Ok f → ltb tag 4 ≡ false
     → is_between 2 16 (length ns) ≡ true → are_names_after [] ns ≡ true → output_at m (byte tag ++ (sources ns ++ rest)) ≡ Ok ((f, ns), rest)
-with_sources m tag f ns rest good e high count named =
+with_sources m tag f ns rest small e high count named =
     let mid = sources ns ++ rest in
-    output_step m tag (byte tag ++ mid) mid f ns rest (tag_again 0 7 tag mid (lit< tt) good) e
+    output_step m tag (byte tag ++ mid) mid f ns rest (byte_again tag mid small) e
     (rw high (sources_again (is_between 2 16) ns rest (few_sources (length ns) (count_of_many (length ns) count)) count named))
 
 output_again : (m : Mode) (f : Form) (ns : List Name) (rest : List ℕ) → may_write m f ≡ true → are_sources ns ≡ true → output_at m (output ns f ++ rest) ≡ Ok ((f, ns), rest)
-output_again m Panes [] rest h good = without_sources m 0 Panes rest refl (form_again m Panes h) refl
-output_again m Istream [] rest h good = without_sources m 1 Istream rest refl (form_again m Istream h) refl
-output_again m Dstream [] rest h good = without_sources m 2 Dstream rest refl (form_again m Dstream h) refl
-output_again m Rstream [] rest h good = without_sources m 3 Rstream rest refl (form_again m Rstream h) refl
+output_again m Panes [] rest h good = without_sources m 0 Panes rest (lit< tt) (form_again m Panes h) refl
+output_again m Istream [] rest h good = without_sources m 1 Istream rest (lit< tt) (form_again m Istream h) refl
+output_again m Dstream [] rest h good = without_sources m 2 Dstream rest (lit< tt) (form_again m Dstream h) refl
+output_again m Rstream [] rest h good = without_sources m 3 Rstream rest (lit< tt) (form_again m Rstream h) refl
 output_again m Panes (n ∷ ns) rest h good =
     let a = and_parts (is_source_count (length (n ∷ ns))) (are_names_after [] (n ∷ ns)) good in
-    with_sources m 4 Panes (n ∷ ns) rest refl (form_again m Panes h) refl (many_sources (length ns) a.0) a.1
+    with_sources m 4 Panes (n ∷ ns) rest (lit< tt) (form_again m Panes h) refl (many_sources (length ns) a.0) a.1
 output_again m Istream (n ∷ ns) rest h good =
     let a = and_parts (is_source_count (length (n ∷ ns))) (are_names_after [] (n ∷ ns)) good in
-    with_sources m 5 Istream (n ∷ ns) rest refl (form_again m Istream h) refl (many_sources (length ns) a.0) a.1
+    with_sources m 5 Istream (n ∷ ns) rest (lit< tt) (form_again m Istream h) refl (many_sources (length ns) a.0) a.1
 output_again m Dstream (n ∷ ns) rest h good =
     let a = and_parts (is_source_count (length (n ∷ ns))) (are_names_after [] (n ∷ ns)) good in
-    with_sources m 6 Dstream (n ∷ ns) rest refl (form_again m Dstream h) refl (many_sources (length ns) a.0) a.1
+    with_sources m 6 Dstream (n ∷ ns) rest (lit< tt) (form_again m Dstream h) refl (many_sources (length ns) a.0) a.1
 output_again m Rstream (n ∷ ns) rest h good =
     let a = and_parts (is_source_count (length (n ∷ ns))) (are_names_after [] (n ∷ ns)) good in
-    with_sources m 7 Rstream (n ∷ ns) rest refl (form_again m Rstream h) refl (many_sources (length ns) a.0) a.1
+    with_sources m 7 Rstream (n ∷ ns) rest (lit< tt) (form_again m Rstream h) refl (many_sources (length ns) a.0) a.1
 
 settings_step : (s : Settings) (bytes r1 r2 r3 rest : List ℕ) → windows_at bytes ≡ Ok ((s.shape, s.late_by), r1) → mode_at r1 ≡ Ok (s.mode, r2) → triggers_at r2 ≡ Ok ((s.early, s.late), r3)
     → output_at s.mode r3 ≡ Ok ((s.form, s.sources), rest) → settings_at bytes ≡ Ok (s, rest)
@@ -170,15 +171,14 @@ some_sources f (n ∷ ns) h = refl
 
 output_low : (m : Mode) (tag : ℕ) (bytes : List ℕ) (f : Form) → IsBytes bytes → ltb tag 4 ≡ true → form_of m (form_part tag) ≡ Ok f → Took output_bytes (is_output m) (byte tag ++ bytes) ((f, []), bytes)
 output_low m tag bytes f fits low e =
-    let lt : tag < 4 = ltb-true tag 4 low in
-    let t = form_taken m tag f (omega arith) (ap (λ n. form_of m n) (sym (part_low tag low)) ∙ e) in
+    let t = form_taken m tag f (ap (λ n. form_of m n) (sym (part_low tag low)) ∙ e) in
     record { parts = ap (λ n. byte n ++ bytes) (sym t.tagged); fits = fits; good = and_from _ _ t.good refl }
 
-output_high : (m : Mode) (tag : ℕ) (bytes : List ℕ) (f : Form) (ns : List Name × List ℕ) → IsBytes bytes → tag ≤ 7 → ltb tag 4 ≡ false → form_of m (form_part tag) ≡ Ok f → sources_at (is_between 2 16) bytes ≡ Ok ns
+output_high : (m : Mode) (tag : ℕ) (bytes : List ℕ) (f : Form) (ns : List Name × List ℕ) → IsBytes bytes → ltb tag 4 ≡ false → form_of m (form_part tag) ≡ Ok f → sources_at (is_between 2 16) bytes ≡ Ok ns
     → Took output_bytes (is_output m) (byte tag ++ bytes) ((f, ns.0), ns.1)
-output_high m tag bytes f ns fits most high e read =
+output_high m tag bytes f ns fits high e read =
     let ge : 4 ≤ tag = ltb-false tag 4 high in
-    let t = form_taken m (tag - 4) f (omega arith) (ap (λ n. form_of m n) (sym (part_high tag high)) ∙ e) in
+    let t = form_taken m (tag - 4) f (ap (λ n. form_of m n) (sym (part_high tag high)) ∙ e) in
     let u = sources_taken (is_between 2 16) bytes ns fits read in
     let g = and_parts (is_between 2 16 (length ns.0)) (are_names_after [] ns.0) u.good in
     let same : tag ≡ 4 + form_tag f = omega (arith, t.tagged) in
@@ -195,13 +195,13 @@ output_taken m bytes x fits e =
     bind_then _ _ x e (λ tag e0 l0.
     bind_then _ _ x l0 (λ f e1 l1.
     bind_then _ _ x l1 (λ ns e2 l2.
-    let t = tag_taken 0 7 bytes tag fits e0 in
+    let t = byte_taken bytes tag fits e0 in
     let made : (Form × List Name) × List ℕ = ((f, ns.0), ns.1) in
     at_tag output_bytes (is_output m) bytes tag.0 tag.1 x t.parts
     (subst (λ y. Took output_bytes (is_output m) (byte tag.0 ++ tag.1) y) (ok_is made x l2)
     (choose (ltb tag.0 4) _ _ _ e2
     (λ low r. subst (λ (y : List Name × List ℕ). Took output_bytes (is_output m) (byte tag.0 ++ tag.1) ((f, y.0), y.1)) (ok_is ([], tag.1) ns r) (output_low m tag.0 tag.1 f t.fits low e1))
-    (λ high r. output_high m tag.0 tag.1 f ns t.fits (at_most 0 7 tag.0 t.good) high e1 r))))))
+    (λ high r. output_high m tag.0 tag.1 f ns t.fits high e1 r))))))
 
 regroup_taken : (a b c d e rest : List ℕ) → a ++ (b ++ ((c ++ d) ++ (e ++ rest))) ≡ a ++ b ++ c ++ d ++ e ++ rest
 regroup_taken a b c d e rest = simp append_assoc refl

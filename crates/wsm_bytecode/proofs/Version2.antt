@@ -5,7 +5,6 @@ use Rattle.std.specs.Int.{w8}
 use Rattle.std.proofs.lemmas.Bool.{le-leb, and_parts, and_from}
 use Rattle.wsm_record.specs.declared.Mode.{Mode}
 use Rattle.wsm_record.specs.declared.Form.{Form}
-use Rattle.wsm_record.specs.declared.Form.TheVariants.{Panes, Istream, Dstream, Rstream}
 use Rattle.wsm_record.specs.Modes.{may_write}
 use Rattle.wsm_record.specs.Name.{is_between}
 use Rattle.wsm_record.specs.Schema.{is_source_count, are_names_after}
@@ -15,12 +14,13 @@ use Rattle.wsm_admission.specs.declared.clock.LateBy.TheVariants.{Event, Window}
 use Rattle.wsm_admission.specs.Clock.{late_by}
 use Rattle.wsm_program.specs.Program.{is_span, is_shape, is_late_by}
 use Rattle.wsm_program.proofs.Within.{at_most}
-use Rattle.wsm_bytecode.specs.Tags.{form_tag, shape_tag}
+use Rattle.wsm_bytecode.specs.Tags.{form_tag, shape_tag, last_shape_tag}
 use Rattle.wsm_bytecode.specs.Parts.{Settings, byte, signed, sources, mode, measures}
 use Rattle.wsm_bytecode.specs.Steps.{judged, number_at, windows_by, mode_at, triggers_at, form_of, sources_at}
-use Rattle.wsm_bytecode.specs.Version2.{window_flag, shape, form, settings, last_tag, windows_at, form_at, settings_at}
-use Rattle.wsm_bytecode.proofs.Parts.{tag_again, sources_again, windows_again, mode_again, triggers_again, form_again}
-use Rattle.wsm_bytecode.proofs.Taken.{IsBytes, bind_then, ok_is, Took, Exact}
+use Rattle.wsm_bytecode.specs.Version2.{window_flag, shape, form, settings, windows_at, form_at, settings_at}
+use Rattle.wsm_bytecode.proofs.Numbers.{byte_again}
+use Rattle.wsm_bytecode.proofs.Parts.{tag_again, sources_again, windows_again, mode_again, triggers_again, form_is_byte, form_again}
+use Rattle.wsm_bytecode.proofs.Taken.{IsBytes, bind_then, ok_is, Took, Exact, byte_taken}
 use Rattle.wsm_bytecode.proofs.TakenParts.{tag_taken, sources_taken, windows_taken, mode_taken, triggers_bytes, triggers_taken, form_taken}
 use Rattle.wsm_bytecode.proofs.Lateness.{is_window, late_again, tag_within, late_lawful}
 use Rattle.wsm_bytecode.proofs.Settings.{AreReadAgain, are_settings, settings_parts, are_settings_from, few_sources}
@@ -35,11 +35,11 @@ flag_is : (l : LateBy) → (window_flag l == 1) ≡ is_window l
 flag_is Event = refl
 flag_is (Window s) = refl
 
-last_small : (b : Bool) → last_tag b < 256
+last_small : (b : Bool) → last_shape_tag b < 256
 last_small false = lit< tt
 last_small true = lit< tt
 
-windows_step : (b : Bool) (tag : ℕ) (bytes mid : List ℕ) (x : (Shape × LateBy) × List ℕ) → judged (is_between 0 (last_tag b)) (number_at w8 bytes) ≡ Ok (tag, mid) → windows_by b tag mid ≡ Ok x
+windows_step : (b : Bool) (tag : ℕ) (bytes mid : List ℕ) (x : (Shape × LateBy) × List ℕ) → judged (is_between 0 (last_shape_tag b)) (number_at w8 bytes) ≡ Ok (tag, mid) → windows_by b tag mid ≡ Ok x
     → windows_at b bytes ≡ Ok x
 unfolding windows_at
 windows_step b tag bytes mid x e f = rw (e, f) refl
@@ -47,23 +47,17 @@ windows_step b tag bytes mid x e f = rw (e, f) refl
 shape_again : (s : Shape) (l : LateBy) (rest : List ℕ) → is_shape s ≡ true → is_late_by s l ≡ true → windows_at (is_window l) (shape s ++ rest) ≡ Ok ((s, l), rest)
 shape_again s l rest h late =
     let mid = measures s ++ rest in
-    let within : is_between 0 (last_tag (is_window l)) (shape_tag s) ≡ true = and_from (leb 0 (shape_tag s)) (leb (shape_tag s) (last_tag (is_window l))) (le-leb _ _ (omega arith)) (le-leb _ _ (tag_within s l late)) in
+    let within : is_between 0 (last_shape_tag (is_window l)) (shape_tag s) ≡ true = and_from (leb 0 (shape_tag s)) (leb (shape_tag s) (last_shape_tag (is_window l))) (le-leb _ _ (omega arith)) (le-leb _ _ (tag_within s l late)) in
     ap (λ r. windows_at (is_window l) r) (append_assoc (byte (shape_tag s)) (measures s) rest)
-    ∙ windows_step (is_window l) (shape_tag s) (byte (shape_tag s) ++ mid) mid ((s, late_by (is_window l) s), rest) (tag_again 0 (last_tag (is_window l)) (shape_tag s) mid (last_small (is_window l)) within) (windows_again (is_window l) s rest h)
+    ∙ windows_step (is_window l) (shape_tag s) (byte (shape_tag s) ++ mid) mid ((s, late_by (is_window l) s), rest) (tag_again 0 (last_shape_tag (is_window l)) (shape_tag s) mid (last_small (is_window l)) within) (windows_again (is_window l) s rest h)
     ∙ ap (λ (k : LateBy). Ok ((s, k), rest)) (late_again s l late)
 
-form_step : (m : Mode) (tag : ℕ) (bytes rest : List ℕ) (f : Form) → judged (is_between 0 3) (number_at w8 bytes) ≡ Ok (tag, rest) → form_of m tag ≡ Ok f → form_at m bytes ≡ Ok (f, rest)
+form_step : (m : Mode) (tag : ℕ) (bytes rest : List ℕ) (f : Form) → number_at w8 bytes ≡ Ok (tag, rest) → form_of m tag ≡ Ok f → form_at m bytes ≡ Ok (f, rest)
 unfolding form_at
 form_step m tag bytes rest f e g = rw (e, g) refl
 
-form_tags : (m : Mode) (f : Form) (rest : List ℕ) → is_between 0 3 (form_tag f) ≡ true → may_write m f ≡ true → form_at m (form f ++ rest) ≡ Ok (f, rest)
-form_tags m f rest within h = form_step m (form_tag f) (byte (form_tag f) ++ rest) rest f (tag_again 0 3 (form_tag f) rest (lit< tt) within) (form_again m f h)
-
 form_written : (m : Mode) (f : Form) (rest : List ℕ) → may_write m f ≡ true → form_at m (form f ++ rest) ≡ Ok (f, rest)
-form_written m Panes rest h = form_tags m Panes rest refl h
-form_written m Istream rest h = form_tags m Istream rest refl h
-form_written m Dstream rest h = form_tags m Dstream rest refl h
-form_written m Rstream rest h = form_tags m Rstream rest refl h
+form_written m f rest h = form_step m (form_tag f) (byte (form_tag f) ++ rest) rest f (byte_again (form_tag f) rest (form_is_byte f)) (form_again m f h)
 
 settings_step : (s : Settings) (b : Bool) (flag : ℕ) (bytes r1 r2 r3 r4 r5 rest : List ℕ) → judged (is_between 0 1) (number_at w8 bytes) ≡ Ok (flag, r1) → (flag == 1) ≡ b → sources_at is_source_count r1 ≡ Ok (s.sources, r2)
     → windows_at b r2 ≡ Ok ((s.shape, s.late_by), r3) → mode_at r3 ≡ Ok (s.mode, r4) → triggers_at r4 ≡ Ok ((s.early, s.late), r5) → form_at s.mode r5 ≡ Ok (s.form, rest) → settings_at bytes ≡ Ok (s, rest)
@@ -96,7 +90,7 @@ record TookShape (b : Bool) (bytes : List ℕ) (x : (Shape × LateBy) × List �
   late : late_by b x.0.0 ≡ x.0.1
   lawful : is_late_by x.0.0 x.0.1 ≡ true
 
-last_most : (b : Bool) → last_tag b ≤ 2
+last_most : (b : Bool) → last_shape_tag b ≤ 2
 last_most false = omega arith
 last_most true = omega arith
 
@@ -104,9 +98,9 @@ shape_taken : (b : Bool) (bytes : List ℕ) (x : (Shape × LateBy) × List ℕ) 
 unfolding windows_at
 shape_taken b bytes x fits e =
     bind_then _ _ x e (λ tag e0 l0.
-    let t = tag_taken 0 (last_tag b) bytes tag fits e0 in
-    let most : tag.0 ≤ last_tag b = at_most 0 (last_tag b) tag.0 t.good in
-    let last : last_tag b ≤ 2 = last_most b in
+    let t = tag_taken 0 (last_shape_tag b) bytes tag fits e0 in
+    let most : tag.0 ≤ last_shape_tag b = at_most 0 (last_shape_tag b) tag.0 t.good in
+    let last : last_shape_tag b ≤ 2 = last_most b in
     let u = windows_taken b tag.0 tag.1 x (omega arith) t.fits l0 in
     record {
       parts = t.parts ∙ ap (λ r. byte tag.0 ++ r) u.parts ∙ ap (λ n. byte n ++ (measures x.0.0 ++ x.1)) (sym u.tagged) ∙ sym (append_assoc (byte (shape_tag x.0.0)) (measures x.0.0) x.1);
@@ -121,8 +115,8 @@ unfolding form_at
 form_read m bytes x fits e =
     bind_then _ _ x e (λ tag e0 l0.
     bind_then _ _ x l0 (λ f e1 l1.
-    let t = tag_taken 0 3 bytes tag fits e0 in
-    let u = form_taken m tag.0 f (at_most 0 3 tag.0 t.good) e1 in
+    let t = byte_taken bytes tag fits e0 in
+    let u = form_taken m tag.0 f e1 in
     let made : Form × List ℕ = (f, tag.1) in
     subst (λ y. Took form (may_write m) bytes y) (ok_is made x l1) (record { parts = t.parts ∙ ap (λ n. byte n ++ tag.1) (sym u.tagged); fits = t.fits; good = u.good })))
 

@@ -20,7 +20,8 @@ use Rattle.wsm_program.specs.Program.{Name, Header}
 use Rattle.wsm_program.specs.Instructions as table
 use Rattle.wsm_program.specs.Instructions.{truth}
 use Rattle.wsm_program.specs.Comparisons.{comparison_number}
-use Rattle.wsm_bytecode.specs.Tags.{mode_tag, kind_tag}
+use Rattle.wsm_bytecode.specs.declared.tags.TypeTag.TheVariants as of
+use Rattle.wsm_bytecode.specs.Tags.{mode_tag, kind_tag, type_tag}
 
 abbrev pub byte : ℕ → List ℕ
 byte n = to_le_bytes w8 n
@@ -42,9 +43,9 @@ abbrev pub names : List Name → List ℕ
 names ns = number (length ns) ++ flat_map name ns
 
 abbrev pub field_type : FieldType → List ℕ
-field_type (Int lo hi) = byte 0 ++ signed lo ++ signed hi
-field_type Truth = byte 1
-field_type (Enum ns) = byte 2 ++ names ns
+field_type (Int lo hi) = byte (type_tag of.Int) ++ signed lo ++ signed hi
+field_type Truth = byte (type_tag of.Bool)
+field_type (Enum ns) = byte (type_tag of.Enum) ++ names ns
 
 abbrev pub field : DeclaredField → List ℕ
 field f = name f.name ++ field_type f.type
@@ -74,9 +75,9 @@ abbrev pub kinds : List Kind → List ℕ
 kinds ks = byte (length ks) ++ flat_map kind ks
 
 abbrev pub column : CellType → List ℕ
-column types.Int = byte 0
-column types.Bool = byte 1
-column (types.Enum e) = byte 2 ++ byte e
+column types.Int = byte (type_tag of.Int)
+column types.Bool = byte (type_tag of.Bool)
+column (types.Enum e) = byte (type_tag of.Enum) ++ byte e
 
 abbrev pub columns : List CellType → List ℕ
 columns ts = byte (length ts) ++ flat_map column ts

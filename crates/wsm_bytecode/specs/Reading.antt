@@ -26,7 +26,7 @@ use Rattle.wsm_bytecode.specs.declared.reading.header.Back.{Back}
 use Rattle.wsm_bytecode.specs.declared.reading.settings.Settings.{Settings as Held}
 use Rattle.wsm_bytecode.specs.declared.reading.settings.Times.{Times}
 use Rattle.wsm_bytecode.specs.Parts.{Settings, magic}
-use Rattle.wsm_bytecode.specs.Steps.{Read, ◌>>=◌, bytes_at, number_at, signed_at, judged, several, names_at, fields_at, times_at, kinds_at, enum_number_at, columns_at, budget_at}
+use Rattle.wsm_bytecode.specs.Steps.{Read, ◌>>=◌, bytes_at, number_at, signed_at, judged, tagged, several, names_at, fields_at, times_at, kinds_at, enum_number_at, columns_at, budget_at}
 use Rattle.wsm_bytecode.specs.Versions.{version_of_number}
 use Rattle.wsm_bytecode.specs.Version1 as first
 use Rattle.wsm_bytecode.specs.Version2 as second
@@ -123,10 +123,7 @@ target_at made bytes = do
   Ok (made t.0, t.1)
 
 unfoldable pub comparison_at : List ℕ → Read Comparison
-comparison_at bytes = do
-  n ← number_at w8 bytes
-  comparison ← ok_or (comparison_of_number n.0) Operand
-  Ok (comparison, n.1)
+comparison_at bytes = tagged comparison_of_number bytes
 
 -- a field of numbers
 unfoldable pub number_field_at : List DeclaredField → List ℕ → Read ℕ

@@ -1,5 +1,5 @@
 -- Reading the parts of a program that are the same in each version, from the left, up to the first fault.
-use Rattle.std.specs.Prelude.{ℕ, zero, suc, Bool, not, List, [], ◌∷◌, ◌++◌, length, take, drop, ℤ, pos, int_le, nat_lt, is_some, Result, Ok, Err, if◌then◌else◌}
+use Rattle.std.specs.Prelude.{ℕ, zero, suc, Bool, not, List, [], ◌∷◌, ◌++◌, length, take, drop, ℤ, pos, int_le, nat_lt, is_some, Option, ok_or, Result, Ok, Err, if◌then◌else◌}
 use Rattle.std.specs.Int.{Width, w8, w16, w64, byte_len, from_le_bytes, cast_signed}
 use Rattle.wsm_record.specs.declared.words.CellType.{CellType}
 use Rattle.wsm_record.specs.declared.words.CellType.TheVariants as types
@@ -19,7 +19,9 @@ use Rattle.wsm_program.specs.declared.refusal.DecodeRefusal.TheVariants.{Truncat
 use Rattle.wsm_program.specs.declared.program.Costs.{Costs}
 use Rattle.wsm_program.specs.Program.{Name, is_span, is_size, is_stated, is_time}
 use Rattle.wsm_bytecode.specs.declared.reading.settings.Times.{Times}
-use Rattle.wsm_bytecode.specs.Tags.{mode_by, form_by, kind_by}
+use Rattle.wsm_bytecode.specs.declared.tags.TypeTag.{TypeTag}
+use Rattle.wsm_bytecode.specs.declared.tags.TypeTag.TheVariants as of
+use Rattle.wsm_bytecode.specs.Tags.{mode_by, form_by, kind_by, type_by}
 
 -- a value and the bytes after it, or the first fault
 abbrev pub Read : Type 0 → Type 0
@@ -48,6 +50,13 @@ abbrev pub judged : {A : Type 0} → (A → Bool) → Read A → Read A
 judged good read = do
   x ← read
   if good x.0 then Ok x else Err Operand
+
+-- the one that a byte stands for
+abbrev pub tagged : {A : Type 0} → (ℕ → Option A) → List ℕ → Read A
+tagged by bytes = do
+  tag ← number_at w8 bytes
+  x ← ok_or (by tag.0) Operand
+  Ok (x, tag.1)
 
 -- so many, one after the other
 abbrev pub several : {A : Type 0} → (List ℕ → Read A) → ℕ → List ℕ → Read (List A)
@@ -92,14 +101,17 @@ enum_at bytes = do
   ns ← names_at bytes
   Ok (Enum ns.0, ns.1)
 
-abbrev pub field_type_by : ℕ → List ℕ → Read FieldType
-field_type_by zero bytes = interval_at bytes
-field_type_by (suc zero) bytes = Ok (Truth, bytes)
-field_type_by _ bytes = enum_at bytes
+unfoldable pub type_tag_at : List ℕ → Read TypeTag
+type_tag_at bytes = tagged type_by bytes
+
+abbrev pub field_type_by : TypeTag → List ℕ → Read FieldType
+field_type_by of.Int bytes = interval_at bytes
+field_type_by of.Bool bytes = Ok (Truth, bytes)
+field_type_by of.Enum bytes = enum_at bytes
 
 unfoldable pub field_type_at : List ℕ → Read FieldType
 field_type_at bytes = do
-  tag ← judged (is_between 0 2) (number_at w8 bytes)
+  tag ← type_tag_at bytes
   field_type_by tag.0 tag.1
 
 -- a field whose name is none of those before
@@ -163,13 +175,13 @@ windows_by from_window tag bytes = do
   Ok ((s.0, late_by from_window s.0), s.1)
 
 unfoldable pub mode_at : List ℕ → Read Mode
-mode_at bytes = do
-  tag ← judged (is_between 0 2) (number_at w8 bytes)
-  Ok (mode_by tag.0, tag.1)
+mode_at bytes = tagged mode_by bytes
 
 -- the form of a tag, which the mode may write
 abbrev pub form_of : Mode → ℕ → Result Form DecodeRefusal
-form_of m n = if may_write m (form_by n) then Ok (form_by n) else Err Operand
+form_of m n = do
+  form ← ok_or (form_by n) Operand
+  if may_write m form then Ok form else Err Operand
 
 -- EARLY, then LATE
 unfoldable pub triggers_at : List ℕ → Read (ℤ × ℤ)
@@ -179,9 +191,7 @@ triggers_at bytes = do
   Ok ((early.0, late.0), late.1)
 
 unfoldable pub kind_at : List ℕ → Read Kind
-kind_at bytes = do
-  tag ← judged (is_between 0 4) (number_at w8 bytes)
-  Ok (kind_by tag.0, tag.1)
+kind_at bytes = tagged kind_by bytes
 
 unfoldable pub kinds_at : List ℕ → Read (List Kind)
 kinds_at bytes = do
@@ -197,14 +207,14 @@ enum_column_at s bytes = do
   e ← enum_number_at s bytes
   Ok (types.Enum e.0, e.1)
 
-abbrev pub column_by : Declared → ℕ → List ℕ → Read CellType
-column_by s zero bytes = Ok (types.Int, bytes)
-column_by s (suc zero) bytes = Ok (types.Bool, bytes)
-column_by s _ bytes = enum_column_at s bytes
+abbrev pub column_by : Declared → TypeTag → List ℕ → Read CellType
+column_by s of.Int bytes = Ok (types.Int, bytes)
+column_by s of.Bool bytes = Ok (types.Bool, bytes)
+column_by s of.Enum bytes = enum_column_at s bytes
 
 unfoldable pub column_at : Declared → List ℕ → Read CellType
 column_at s bytes = do
-  tag ← judged (is_between 0 2) (number_at w8 bytes)
+  tag ← type_tag_at bytes
   column_by s tag.0 tag.1
 
 unfoldable pub columns_at : Declared → List ℕ → Read (List CellType)

@@ -12,7 +12,8 @@ use Rattle.wsm_admission.specs.declared.clock.LateBy.TheVariants.{Event, Window}
 use Rattle.wsm_program.specs.declared.instr.Instr.{Instr}
 use Rattle.wsm_program.specs.declared.instr.Instr.TheVariants.{PushInt, PushBool, PushEnum, Field, Key, Acc, Count, Operate, Jump, JumpIfFalse, Test, Fold, Return}
 use Rattle.wsm_program.specs.Program.{Name}
-use Rattle.wsm_bytecode.specs.Tags.{form_tag, shape_tag}
+use Rattle.wsm_bytecode.specs.declared.tags.TheConstants.{FORM_COUNT, SHAPE_COUNT}
+use Rattle.wsm_bytecode.specs.Tags.{form_tag, shape_tag, last_shape_tag}
 use Rattle.wsm_bytecode.specs.Parts.{Settings, byte, signed, mode, measures, sources}
 use Rattle.wsm_bytecode.specs.Steps.{Read, ◌>>=◌, judged, number_at, windows_by, mode_at, triggers_at, form_of, sources_at}
 
@@ -20,14 +21,14 @@ use Rattle.wsm_bytecode.specs.Steps.{Read, ◌>>=◌, judged, number_at, windows
 
 abbrev pub window_tag : LateBy → ℕ
 window_tag Event = 0
-window_tag (Window s) = 3
+window_tag (Window s) = SHAPE_COUNT
 
 abbrev pub windows : LateBy → Shape → List ℕ
 windows l s = byte (window_tag l + shape_tag s) ++ measures s
 
 abbrev pub output : List Name → Form → List ℕ
 output [] f = byte (form_tag f)
-output (n ∷ ns) f = byte (4 + form_tag f) ++ sources (n ∷ ns)
+output (n ∷ ns) f = byte (FORM_COUNT + form_tag f) ++ sources (n ∷ ns)
 
 abbrev pub settings : Settings → List ℕ
 settings s = windows s.late_by s.shape ++ mode s.mode ++ signed s.early ++ signed s.late ++ output s.sources s.form
@@ -51,20 +52,20 @@ has Return = true
 
 unfoldable pub windows_at : List ℕ → Read (Shape × LateBy)
 windows_at bytes = do
-  tag ← judged (is_between 0 4) (number_at w8 bytes)
-  if nat_lt tag.0 3 then windows_by false tag.0 tag.1 else windows_by true (tag.0 - 3) tag.1
+  tag ← judged (is_between 0 (SHAPE_COUNT + last_shape_tag true)) (number_at w8 bytes)
+  if nat_lt tag.0 SHAPE_COUNT then windows_by false tag.0 tag.1 else windows_by true (tag.0 - SHAPE_COUNT) tag.1
 
 abbrev pub form_part : ℕ → ℕ
-form_part tag = if nat_lt tag 4 then tag else tag - 4
+form_part tag = if nat_lt tag FORM_COUNT then tag else tag - FORM_COUNT
 
--- forms from 4 on have sources
+-- forms from their number on have sources
 abbrev pub sources_by : ℕ → List ℕ → Read (List Name)
-sources_by tag bytes = if nat_lt tag 4 then Ok ([], bytes) else sources_at (is_between 2 MAX_SOURCES) bytes
+sources_by tag bytes = if nat_lt tag FORM_COUNT then Ok ([], bytes) else sources_at (is_between 2 MAX_SOURCES) bytes
 
 -- judged beside the mode, before the sources
 unfoldable pub output_at : Mode → List ℕ → Read (Form × List Name)
 output_at m bytes = do
-  tag ← judged (is_between 0 7) (number_at w8 bytes)
+  tag ← number_at w8 bytes
   form ← form_of m (form_part tag.0)
   names ← sources_by tag.0 tag.1
   Ok ((form, names.0), names.1)

@@ -10,7 +10,7 @@ use Rattle.wsm_windows.specs.declared.Shape.{Shape}
 use Rattle.wsm_admission.specs.declared.clock.LateBy.{LateBy}
 use Rattle.wsm_admission.specs.declared.clock.LateBy.TheVariants.{Event, Window}
 use Rattle.wsm_program.specs.declared.instr.Instr.{Instr}
-use Rattle.wsm_bytecode.specs.Tags.{form_tag, shape_tag}
+use Rattle.wsm_bytecode.specs.Tags.{form_tag, shape_tag, last_shape_tag}
 use Rattle.wsm_bytecode.specs.Parts.{Settings, byte, signed, mode, measures, sources}
 use Rattle.wsm_bytecode.specs.Steps.{Read, ◌>>=◌, judged, number_at, windows_by, mode_at, triggers_at, form_of, sources_at}
 
@@ -35,21 +35,16 @@ has i = true
 
 -- ---- how it is read
 
--- sessions have no lateness from a window's end
-abbrev pub last_tag : Bool → ℕ
-last_tag true = 1
-last_tag false = 2
-
 -- judged beside what lateness is counted from
 unfoldable pub windows_at : Bool → List ℕ → Read (Shape × LateBy)
 windows_at from_window bytes = do
-  tag ← judged (is_between 0 (last_tag from_window)) (number_at w8 bytes)
+  tag ← judged (is_between 0 (last_shape_tag from_window)) (number_at w8 bytes)
   windows_by from_window tag.0 tag.1
 
 -- judged beside the mode
 unfoldable pub form_at : Mode → List ℕ → Read Form
 form_at m bytes = do
-  tag ← judged (is_between 0 3) (number_at w8 bytes)
+  tag ← number_at w8 bytes
   form ← form_of m tag.0
   Ok (form, tag.1)
 

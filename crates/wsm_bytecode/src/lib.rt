@@ -27,7 +27,7 @@
 //! - `reading`: from bytes to a program; `version1` and `version2` read what each has of its own
 //! - `writing`: from a program to its bytes
 //! - `version`: the versions of the bytes, and their numbers
-//! - `tags`: the numbers that stand for shapes, modes, forms and kinds
+//! - `tags`: the numbers that stand for shapes, modes, forms, kinds and types
 //! - `limits`: what the bytes begin with, and their limits
 //! - `listing`: a line of text for each instruction
 //! - [`laws`]: what holds of the spellings of every program

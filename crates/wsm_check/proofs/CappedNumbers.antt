@@ -40,7 +40,7 @@ folds_join xs ys =
 pub fired_accumulators : (xs : List Acc) → folds_of (xs ++ []) ≡ folds_of xs
 fired_accumulators xs = ap folds_of (append-nil xs)
 
-split : {X : Type 0} (xs : List X) (x : X) → 1 ≤ length xs → x ≡ get_or xs 0 x → x ∷ take (length xs - 1) (drop 1 xs) ≡ xs
+pub split : {X : Type 0} (xs : List X) (x : X) → 1 ≤ length xs → x ≡ get_or xs 0 x → x ∷ take (length xs - 1) (drop 1 xs) ≡ xs
 split xs x h e = grind (arith, common_steps)
 
 -- those of a column, and of what follows

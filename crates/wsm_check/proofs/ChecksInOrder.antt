@@ -1,15 +1,14 @@
 -- Checks one behind the other.
-use Rattle.std.proofs.Common.{◌≡◌, ◌∙◌, ◌≤◌, ◌<◌, ◌+◌, ◌++◌, ◌||◌, ℕ, suc, Bool, true, false, not, ◌&&◌, nat_lt, List, [], ◌∷◌, length, map, take, drop, get_or, Option, Some, None, Result, ◌⊎◌, inl, inr, bytes_eq, refl, ap, ap₂, sym, arith, add-one, length-append, nat_le}
-use Rattle.std.proofs.lemmas.Bool.{and_parts, ltb-true, and_from}
+use Rattle.std.proofs.Common.{◌≡◌, ◌∙◌, ◌≤◌, ◌<◌, ◌+◌, ◌++◌, ◌||◌, ℕ, suc, Bool, true, false, not, nat_lt, List, [], ◌∷◌, length, map, take, drop, get_or, Option, Some, None, Result, ◌⊎◌, inl, inr, bytes_eq, refl, ap, ap₂, sym, arith, add-one, length-append}
+use Rattle.std.proofs.lemmas.Bool.{ltb-true}
 use Rattle.std.proofs.lemmas.Bool.Decides.{nat_tests}
 use Rattle.std.proofs.lemmas.List.{drop_all, length-map, map-append, take_more}
 use Rattle.std.proofs.Math.Seq.{drop-cons}
-use Rattle.std.specs.List.{list_all, list_any}
+use Rattle.std.specs.List.{list_any}
 use Rattle.wsm_record.specs.Name.{is_among}
 use Rattle.wsm_record.specs.declared.schema.Field.{Field as CodeField}
 use Rattle.wsm_record.specs.declared.schema.DeclaredField.{DeclaredField as KeptField}
-use Rattle.wsm_record.specs.Schema.{FieldType, DeclaredField, are_fields_after, is_field_after, is_source_count}
-use Rattle.wsm_record.specs.Schema as field_types
+use Rattle.wsm_record.specs.Schema.{DeclaredField, are_fields_after, is_field_after, is_source_count}
 use Rattle.wsm_query.specs.Tree.{Name}
 use Rattle.wsm_record.specs.Fields.{declared_field, field_seen}
 use Rattle.wsm_record.proofs.Schemas.{fields_more}
@@ -19,9 +18,8 @@ use Rattle.wsm_check.specs.declared.refusal.CheckFault.{CheckFault}
 use Rattle.wsm_check.specs.declared.refusal.Part.{Part}
 use Rattle.wsm_check.specs.declared.refusal.CheckFault.TheVariants.{Duplicate, Limit}
 use Rattle.wsm_check.specs.declared.refusal.Part.TheVariants as part
-use Rattle.wsm_check.specs.Names.{field_names, names_of}
-use Rattle.wsm_check.specs.Terms.{few_names}
-use Rattle.wsm_check.specs.Checks.{Judges, or_else, unless, names_refusal, ty_refusal, field_refusal, fields_refusal}
+use Rattle.wsm_check.specs.Names.{field_names}
+use Rattle.wsm_check.specs.Checks.{Judges, or_else, unless, ty_refusal, field_refusal, fields_refusal}
 
 stopped : (r s : Option CheckRefusal) (e : CheckRefusal) → r ≡ Some e → or_else r s ≡ Some e
 stopped None s e h = cc
@@ -124,34 +122,22 @@ pub passed_both : (r s : Option CheckRefusal) → or_else r s ≡ None → (r �
 passed_both None s h = (refl, h)
 passed_both (Some f) s h = cc
 
-pub few_of_names : (p : Part) (xs : List Name) → names_refusal p xs ≡ None → nat_le (length xs) 1000 ≡ true
-few_of_names p xs h = (and_parts (nat_le 1 (length xs)) _ (passed_unless (nat_le 1 (length xs) && nat_le (length xs) 1000) Limit p _ h).0).1
-
 -- none, or at most 16
 pub few_sources : (n : ℕ) → is_source_count n ≡ true → n ≤ 1000
 few_sources n h = grind (arith, nat_tests)
 
-few_in_type : (p : Part) (ty : FieldType) → ty_refusal p ty ≡ None → nat_le (length (names_of ty)) 1000 ≡ true
-few_in_type p (field_types.Int lo hi) h = refl
-few_in_type p field_types.Truth h = refl
-few_in_type p (field_types.Enum names) h = few_of_names p names h
-
 -- fields that passed behind others
-fields_passed : (names : List Name) (ds : List DeclaredField) → length names ≤ 16 → fields_refusal names ds ≡ None → (length names + length ds ≤ 16) × (list_all few_names ds ≡ true)
-fields_passed names [] l h = (omega arith, refl)
+fields_passed : (names : List Name) (ds : List DeclaredField) → length names ≤ 16 → fields_refusal names ds ≡ None → length names + length ds ≤ 16
+fields_passed names [] l h = omega arith
 fields_passed names (d ∷ ds) l h =
     let p = part.Field (suc (length names)) in
     let f = passed_both (field_refusal names d) _ h in
     let a = passed_unless (nat_lt (length names) 16) Limit p _ f.0 in
     let b = passed_unless (not (is_among d.name names)) Duplicate p _ a.1 in
-    let e = passed_both (ty_refusal p d.type) None b.1 in
     let below = ltb-true (length names) 16 a.0 in
     let more = length-append names (d.name ∷ []) in
     let there = fields_passed (names ++ d.name ∷ []) ds (omega arith) f.1 in
-    (omega (arith, there.0), and_from (few_names d) (list_all few_names ds) (few_in_type p d.type e.0) there.1)
+    omega (arith, there)
 
 pub few_fields : (fields : List CodeField) → fields_refusal [] (map declared_field fields) ≡ None → length fields ≤ 16
-few_fields fields h = let l = length-map fields declared_field in omega (arith, (fields_passed [] (map declared_field fields) (omega arith) h).0)
-
-pub short_lists : (ds : List DeclaredField) → fields_refusal [] ds ≡ None → list_all few_names ds ≡ true
-short_lists ds h = (fields_passed [] ds (omega arith) h).1
+few_fields fields h = let l = length-map fields declared_field in omega (arith, fields_passed [] (map declared_field fields) (omega arith) h)

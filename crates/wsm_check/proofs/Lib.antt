@@ -1,7 +1,9 @@
 pub mod NamedFields
 pub mod CappedNumbers
-pub mod ResolvedTerms
-pub mod Flat
+pub mod Resolving
+pub mod ResolvedQuery
+pub mod AddedColumns
+pub mod Plain
 pub mod ChecksInOrder
 pub mod Repeats
 pub mod DeclaredSchema

@@ -1,16 +1,13 @@
--- Fields found by their names, and places of names.
-use Rattle.std.proofs.Common.{◌≡◌, ◌∙◌, ◌+◌, ◌≤◌, ℕ, true, false, cond, List, [], ◌∷◌, length, map, drop, None, Some, Option, MatchOption, nat_lt, nat_le, bytes_eq, ap, arith}
-use Rattle.std.specs.List.{list_all}
-use Rattle.std.proofs.lemmas.Bool.{and_parts}
-use Rattle.std.proofs.lemmas.List.{drop_all, length-map}
+-- Fields found by their names, and numbers of names.
+use Rattle.std.proofs.Common.{◌≡◌, ◌∙◌, ◌+◌, ◌≤◌, ◌||◌, ℕ, suc, Bool, true, false, not, cond, List, [], ◌∷◌, length, map, drop, position, None, Some, Option, MatchOption, nat_lt, bytes_eq, refl, sym, ap, arith}
+use Rattle.std.proofs.lemmas.List.{drop_all}
 use Rattle.std.proofs.lemmas.Bool.Decides.{nat_tests}
 use Rattle.wsm_record.specs.Name.{is_among}
-use Rattle.wsm_record.specs.declared.schema.Field.{Field as CodeField}
+use Rattle.wsm_record.specs.declared.schema.DeclaredField.{DeclaredField as KeptField}
 use Rattle.wsm_record.specs.Schema.{DeclaredField}
 use Rattle.wsm_query.specs.Tree.{Name}
-use Rattle.wsm_record.specs.Fields.{declared_field}
-use Rattle.wsm_check.specs.Names.{Absent, field_names, field_place, names_of, type_of}
-use Rattle.wsm_check.specs.Terms.{few_names}
+use Rattle.wsm_record.specs.Fields.{field_seen}
+use Rattle.wsm_check.specs.Names.{IsListed, field_names, field_place, place_of, type_of}
 
 -- the fields behind some that don't have the name
 pub record Behind (ds : List DeclaredField) (x : Name) (passed : ℕ) (rest : List DeclaredField) : Type 0 where
@@ -19,31 +16,36 @@ pub record Behind (ds : List DeclaredField) (x : Name) (passed : ℕ) (rest : Li
   pub declared : type_of x ds ≡ type_of x rest
 
 -- all fields were passed
-pub behind_all : (fields : List CodeField) (x : Name) (i : ℕ) → Behind (map declared_field fields) x i (map declared_field (drop i fields)) → i ≤ length fields → length fields ≤ i → Absent (map declared_field fields) x
+pub behind_all : (fields : List KeptField) (x : Name) (i : ℕ) → Behind (map field_seen fields) x i (map field_seen (drop i fields)) → i ≤ length fields → length fields ≤ i → is_among x (field_names (map field_seen fields)) ≡ false
 behind_all fields x i h low high =
     let none : drop i fields ≡ [] = drop_all i fields high in
-    let l : length (map declared_field fields) ≡ length fields = length-map fields declared_field in
-    let end : field_place (map declared_field (drop i fields)) x ≡ 0 = ap (λ (ds : List CodeField). field_place (map declared_field ds) x) none in
-    record {
-      there = h.there ∙ ap (λ (ds : List CodeField). is_among x (field_names (map declared_field ds))) none;
-      place = omega (arith, h.place, end, l);
-      declared = h.declared ∙ ap (λ (ds : List CodeField). type_of x (map declared_field ds)) none;
-    }
+    h.there ∙ ap (λ (ds : List KeptField). is_among x (field_names (map field_seen ds))) none
 
--- the place that a search found, or the end
-pub place_from : (n m : ℕ) (r : Option ℕ) → n ≤ m → r ≡ cond (nat_lt n m) (Some n) None → MatchOption r (m ≡ n) (λ k. k ≡ n)
-place_from n m None h e = grind (arith, nat_tests)
-place_from n m (Some k) h e = grind (arith, nat_tests)
+-- ---- numbers of names
 
--- each list of names is short
-pub few_named : (ds : List DeclaredField) (x : Name) → list_all few_names ds ≡ true → length (names_of (type_of x ds)) ≤ 1000
-few_named [] x h = omega arith
-few_named (d ∷ ds) x h =
-    let both = and_parts (few_names d) (list_all few_names ds) h in
-    elim (bytes_eq x d.name) as (λ b. length (names_of (cond b d.type (type_of x ds))) ≤ 1000) [
-      | true ↦ at_most (length (names_of d.type)) both.0
-      | false ↦ few_named ds x both.1
+first_below : (n : ℕ) → nat_lt 0 (suc n) ≡ true
+first_below n = grind arith
+
+next_below : (m n : ℕ) (b : Bool) → nat_lt m n ≡ b → nat_lt (1 + m) (suc n) ≡ b
+next_below m n b h = grind (arith, nat_tests)
+
+among_is_below : (x : Name) (ys : List Name) → nat_lt (place_of x ys) (length ys) ≡ is_among x ys
+among_is_below x [] = refl
+among_is_below x (y ∷ ys) =
+    elim (bytes_eq x y) as (λ b. nat_lt (cond (not b) (1 + place_of x ys) 0) (suc (length ys)) ≡ (b || is_among x ys)) [
+      | true ↦ first_below (length ys)
+      | false ↦ next_below (place_of x ys) (length ys) (is_among x ys) (among_is_below x ys)
     ]
+
+-- what a search found is there, and else it isn't
+pub listed : (x : Name) (names : List Name) (r : Option ℕ) → r ≡ position (bytes_eq x) names → MatchOption r (is_among x names ≡ false) (λ n. IsListed names x n)
+listed x names r e = search_from (nat_lt (place_of x names) (length names)) refl r e
   where
-    at_most : (n : ℕ) → nat_le n 1000 ≡ true → n ≤ 1000
-    at_most n h = grind (arith, nat_tests)
+    some_is : (m n : ℕ) → Some m ≡ Some n → m ≡ n
+    some_is m n h = cc
+
+    search_from : (b : Bool) → nat_lt (place_of x names) (length names) ≡ b → (r : Option ℕ) → r ≡ cond b (Some (place_of x names)) None → MatchOption r (is_among x names ≡ false) (λ n. IsListed names x n)
+    search_from true h None e = cc
+    search_from true h (Some n) e = record { there = sym (among_is_below x names) ∙ h; place = some_is n (place_of x names) e }
+    search_from false h None e = sym (among_is_below x names) ∙ h
+    search_from false h (Some n) e = cc

@@ -7,5 +7,6 @@ pub mod Spelt
 pub mod Terms
 pub mod Parts
 pub mod Seen
+pub mod Resolved
 pub mod Text
 pub mod Vectors

@@ -1,11 +1,11 @@
 -- Where names stand in the lists that a query declares.
-use Rattle.std.specs.Prelude.{◌≡◌, ◌<◌, ℕ, Bool, true, false, ◌||◌, cond, List, [], ◌∷◌, map, length, bytes_eq}
+use Rattle.std.specs.Prelude.{◌≡◌, ◌<◌, ℕ, Bool, true, false, ◌||◌, cond, List, [], ◌∷◌, map, bytes_eq}
 use Rattle.std.specs.List.{position_or_len}
 use Rattle.wsm_record.specs.declared.limits.TheConstants.{MAX_FIELDS}
 use Rattle.wsm_record.specs.Name.{is_among}
-use Rattle.wsm_record.specs.Schema.{FieldType, DeclaredField}
+use Rattle.wsm_record.specs.Schema.{FieldType, DeclaredField, Declared}
 use Rattle.wsm_record.specs.Schema as field_types
-use Rattle.wsm_query.specs.Tree.{Name}
+use Rattle.wsm_query.specs.Tree.{Name, Query}
 
 -- the number of names before it, so its number where it is among them
 abbrev pub place_of : Name → List Name → ℕ
@@ -40,8 +40,11 @@ pub record Found (ds : List DeclaredField) (x : Name) (number : ℕ) (ty : Field
   pub place : number ≡ field_place ds x
   pub declared : ty ≡ type_of x ds
 
--- no field of that name is declared
-pub record Absent (ds : List DeclaredField) (x : Name) : Type 0 where
-  pub there : is_among x (field_names ds) ≡ false
-  pub place : field_place ds x ≡ length ds
-  pub declared : type_of x ds ≡ field_types.Truth
+-- a name that is one of a list, with its number there
+pub record IsListed (names : List Name) (x : Name) (number : ℕ) : Type 0 where
+  pub there : is_among x names ≡ true
+  pub place : number ≡ place_of x names
+
+-- the keys, fields and sources
+abbrev pub schema_of : Query → Declared
+schema_of q = record { keys = q.keys; fields = q.fields; sources = q.sources }

@@ -1,7 +1,5 @@
 -- What a checked query has.
-use Rattle.std.specs.Prelude.{◌≡◌, ◌≤◌, ℕ, ◌+◌, Bool, true, List, [], ◌∷◌, map, ℤ, Option, option_map, Ok, Err}
-use Rattle.std.specs.List.{list_all}
-use Rattle.wsm_record.specs.declared.limits.TheConstants.{MAX_ACCUMULATORS}
+use Rattle.std.specs.Prelude.{◌≡◌, ℕ, ◌+◌, Bool, List, [], ◌∷◌, map, ℤ, Option, option_map, Ok, Err}
 use Rattle.wsm_record.specs.declared.words.Kind.{Kind}
 use Rattle.wsm_record.specs.declared.words.Mode.{Mode}
 use Rattle.wsm_record.specs.declared.words.Form.{Form}
@@ -11,10 +9,11 @@ use Rattle.wsm_query.specs.Tree.{Budget, Query, Expr}
 use Rattle.wsm_record.specs.declared.words.CellType.{CellType}
 use Rattle.wsm_record.specs.declared.words.CellType.TheVariants as types
 use Rattle.wsm_check.specs.Types.{Typed, InColumn, typed}
-use Rattle.wsm_check.specs.Sizes.{Acc, aggregates, accumulators, in_option}
+use Rattle.wsm_check.specs.Sizes.{Acc, aggregates, accumulators}
 use Rattle.wsm_check.specs.Checks.{IsChecked}
 use Rattle.wsm_check.specs.Spelt.{IsSpelt}
-use Rattle.wsm_check.specs.Terms.{Term, has_few_names, is_flat, resolved}
+pub use Rattle.wsm_check.specs.Names.{schema_of}
+use Rattle.wsm_check.specs.Terms.{Term, resolved}
 
 -- what an accumulator folds
 pub record Folding : Type 0 where
@@ -62,10 +61,6 @@ abbrev pub columns_from : Query → ℕ → List Expr → List Term
 columns_from q a [] = []
 columns_from q a (e ∷ es) = resolved q a e ∷ columns_from q (a + aggregates e) es
 
--- the keys, fields and sources
-abbrev pub schema_of : Query → Declared
-schema_of q = record { keys = q.keys; fields = q.fields; sources = q.sources }
-
 abbrev pub parts_of : Query → Parts
 parts_of q = record {
   schema = schema_of q;
@@ -86,15 +81,6 @@ parts_of q = record {
   columns = columns_from q 0 q.columns;
   having = option_map (resolved q (aggregates_of q.columns)) q.having;
 }
-
--- its lists are short, no aggregate stands in an aggregate, and there are few
-pub record MayBeResolved (q : Query) : Type 0 where
-  pub names : has_few_names q ≡ true
-  pub condition : list_all is_flat (in_option q.condition) ≡ true
-  pub columns : list_all is_flat q.columns ≡ true
-  pub having : list_all is_flat (in_option q.having) ≡ true
-  pub tested : aggregates_of (in_option q.condition) ≡ 0
-  pub fired : aggregates_of q.columns + aggregates_of (in_option q.having) ≤ MAX_ACCUMULATORS
 
 -- these are the parts of a query that no check refuses
 pub record ArePartsOfChecked (p : Parts) : Type 0 where

@@ -1,14 +1,12 @@
 -- What the code has of a checked query, without pointers.
-use Rattle.std.specs.Prelude.{◌≡◌, map, option_map}
+use Rattle.std.specs.Prelude.{map, option_map}
 use Rattle.wsm_query.specs.Seen.{seen_budget}
-use Rattle.wsm_query.specs.Tree.{Query}
 use Rattle.wsm_check.specs.declared.term.Term.{Term as Code}
 use Rattle.wsm_check.specs.declared.term.Term.TheVariants as code
-use Rattle.wsm_check.specs.declared.assemble.Fired.{Fired}
 use Rattle.wsm_check.specs.declared.parts.Folding.{Folding as CodeFolding}
 use Rattle.wsm_check.specs.declared.parts.Parts.{Parts as CodeParts}
 use Rattle.wsm_check.specs.Terms.{Term, Number, Truth, Field, Name, Key, Count, Accumulator, If, Minus, Not, Binary, And, Or}
-use Rattle.wsm_check.specs.Parts.{Folding, Parts, parts_of}
+use Rattle.wsm_check.specs.Parts.{Folding, Parts}
 
 abbrev pub seen_term : Code → Term
 seen_term (code.Number n) = Number n
@@ -48,9 +46,3 @@ seen_parts p = record {
   columns = map seen_term p.columns.items;
   having = option_map seen_term p.having;
 }
-
--- the terms of what fires, and what its accumulators fold, are those of the query
-pub record AreFired (q : Query) (f : Fired) : Type 0 where
-  pub foldings : map seen_folding f.foldings.items ≡ (parts_of q).foldings
-  pub columns : map seen_term f.columns.items ≡ (parts_of q).columns
-  pub having : option_map seen_term f.having ≡ (parts_of q).having

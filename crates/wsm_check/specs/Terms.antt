@@ -1,10 +1,7 @@
 -- Expressions of a checked query: names are numbers, and brackets are gone.
-use Rattle.std.specs.Prelude.{ℕ, suc, ◌+◌, Bool, true, ◌&&◌, length, nat_eq, nat_le, ℤ}
-use Rattle.std.specs.List.{list_all}
-use Rattle.wsm_record.specs.declared.limits.TheConstants.{MAX_NAMES}
+use Rattle.std.specs.Prelude.{ℕ, suc, ◌+◌, Bool, ℤ}
 use Rattle.wsm_query.specs.declared.expr.Op.{Op}
 use Rattle.wsm_query.specs.Tree as tree
-use Rattle.wsm_record.specs.Schema.{DeclaredField}
 use Rattle.wsm_query.specs.Tree.{Query, Expr, EnumName, KeyName, Aggregate, Brackets}
 use Rattle.wsm_check.specs.Names.{place_of, field_place, type_of, names_of}
 use Rattle.wsm_check.specs.Sizes.{aggregates}
@@ -42,28 +39,3 @@ resolved q a (tree.Not e) = Not (resolved q a e)
 resolved q a (tree.Binary op x y) = Binary op (resolved q a x) (resolved q (a + aggregates x) y)
 resolved q a (tree.And x y) = And (resolved q a x) (resolved q (a + aggregates x) y)
 resolved q a (tree.Or x y) = Or (resolved q a x) (resolved q (a + aggregates x) y)
-
--- two terms, joined as the expression joins its operands
-abbrev pub joined : Expr → Term → Term → Term
-joined (tree.Binary op x y) left right = Binary op left right
-joined (tree.And x y) left right = And left right
-joined _ left right = Or left right
-
--- no aggregate stands in an aggregate
-abbrev pub is_flat : Expr → Bool
-is_flat (Aggregate kind e) = nat_eq (aggregates e) 0 && is_flat e
-is_flat (tree.If c x y) = is_flat c && (is_flat x && is_flat y)
-is_flat (Brackets e) = is_flat e
-is_flat (tree.Minus e) = is_flat e
-is_flat (tree.Not e) = is_flat e
-is_flat (tree.Binary op x y) = is_flat x && is_flat y
-is_flat (tree.And x y) = is_flat x && is_flat y
-is_flat (tree.Or x y) = is_flat x && is_flat y
-is_flat _ = true
-
-abbrev pub few_names : DeclaredField → Bool
-few_names d = nat_le (length (names_of d.type)) MAX_NAMES
-
--- at most 1,000 names in each list
-abbrev pub has_few_names : Query → Bool
-has_few_names q = nat_le (length q.keys) MAX_NAMES && list_all few_names q.fields

@@ -1,19 +1,25 @@
 //! Checked queries are made of queries that pass all checks.
 
-ghost use Rattle.std.specs.Prelude.{◌≡◌, ◌⊎◌, Some, IfOk, IfErr, OnOk};
+ghost use Rattle.std.specs.Prelude.{◌≡◌, ◌≤◌, ◌⊎◌, Some, length, IfOk, IfErr, OnOk};
 ghost use Rattle.wsm_query.specs.Seen.{seen};
-ghost use Rattle.wsm_check.specs.Checks.{IsChecked, refusal};
+ghost use Rattle.wsm_check.specs.Checks.{IsChecked, Judges, refusal, rest_refusal};
+ghost use Rattle.wsm_check.specs.Names.{schema_of};
+ghost use Rattle.wsm_check.specs.Resolved.{AreResolved};
 ghost use Rattle.wsm_check.specs.Spelt.{IsSpelt};
 ghost use Rattle.wsm_check.specs.Parts.{parts_of};
 ghost use Rattle.wsm_check.specs.Seen.{seen_parts};
 
 use crate::assemble::parts_of;
 use crate::checked::Checked;
-use crate::judging::judge;
+use crate::code::code_fits;
+use crate::expressions::{Expressions, resolve_expressions};
+use crate::judging::{judge_declared, judge_numbers, want};
 use crate::parts::Parts;
-use crate::refusal::CheckRefusal;
+use crate::refusal::{CheckFault, CheckRefusal, Part};
 use std::alloc::Global;
 use wsm_query::Query;
+use wsm_record::Schema;
+use wsm_record::limits::{MAX_FIELDS, MAX_NAMES};
 
 /// The query as a checked one, or the first check that refuses it. A query that isn't taken is
 /// handed back.
@@ -30,13 +36,31 @@ pub fn check(alloc: Global, query: Query) -> Result<Checked, (Query, CheckRefusa
     }
 }
 
-// What a query that passes all checks has.
+// What a query that passes all checks has: its declarations, its numbers, its expressions as terms,
+// and that their code fits, judged in this order.
+#[tactic(auto, using(crate::proofs::ChecksInOrder::steps))]
 fn checked_parts(alloc: Global, query: &Query) -> Result<Parts, CheckRefusal>
-    ensures checked { OnOk result (IsChecked (seen query.now)) }
+    ensures judged { Judges result (refusal (seen query.now)) }
     ensures spelt { OnOk result (IsSpelt (seen query.now)) }
     ensures parts { IfOk result (λ p. seen_parts p ≡ parts_of (seen query.now)) }
-    ensures refused { IfErr result (λ e. (e ≡ CheckRefusal.Memory) ⊎ (refusal (seen query.now) ≡ Some e)) }
 {
-    let judged = judge(alloc, query)?;
-    Ok(parts_of(alloc, query, judged)?)
+    let schema = judge_declared(alloc, query)?;
+    let expressions = judge_rest(alloc, &schema, query)?;
+    Ok(parts_of(query, schema, expressions))
+}
+
+// The checks behind those of what is declared. The schema stays with the caller, so that no way out
+// from here lets it go.
+#[tactic(auto, using(crate::proofs::ChecksInOrder::steps))]
+fn judge_rest(alloc: Global, schema: &Schema, query: &Query) -> Result<Expressions, CheckRefusal>
+    requires fields { length query.now.fields.items ≤ MAX_FIELDS }
+    requires keys { length query.now.keys.items ≤ MAX_NAMES }
+    requires schema { schema.now ≡ schema_of (seen query.now) }
+    ensures judged { Judges result (rest_refusal (seen query.now)) }
+    ensures resolved { IfOk result (λ r. AreResolved (seen query.now) r) }
+{
+    judge_numbers(query)?;
+    let expressions = resolve_expressions(alloc, schema, query)?;
+    want(code_fits(query), CheckFault::Limit, Part::Code)?;
+    Ok(expressions)
 }

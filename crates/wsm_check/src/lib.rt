@@ -39,6 +39,7 @@ mod assemble;
 mod checked;
 mod checks;
 mod code;
+mod expressions;
 mod judging;
 mod limits;
 mod names;

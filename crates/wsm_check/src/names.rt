@@ -1,43 +1,81 @@
-//! Names in the lists that a query declares.
+//! Names of expressions, found in the schema.
 
-ghost use Rattle.std.specs.Prelude.{◌≡◌, ◌≤◌, map, length, position, bytes_eq, MatchOption};
+ghost use Rattle.std.specs.Prelude.{◌≡◌, ◌≤◌, suc, map, length, Ok, Some, true, false, IfOk, IfErr, MatchOption};
 ghost use Rattle.wsm_record.specs.Name as rule;
-ghost use Rattle.wsm_record.specs.Fields.{declared_field, declared_type};
-ghost use Rattle.wsm_check.specs.Names.{Absent, Found, place_of};
+ghost use Rattle.wsm_record.specs.Fields.{field_seen, type_seen};
+ghost use Rattle.wsm_record.specs.declared.words.CellType.TheVariants as types;
+ghost use Rattle.wsm_check.specs.Names.{Found, IsListed, field_names, field_place, names_of, place_of, type_of};
+ghost use Rattle.wsm_check.specs.Checks.{typed_refusal};
+ghost use Rattle.wsm_check.specs.Types.{key_ty, name_ty, read_ty};
 
+use crate::refusal::{CheckFault, CheckRefusal, Part};
+use crate::resolve::Place;
+use crate::types::{Around, declared_ty};
 use wsm_record::limits::MAX_FIELDS;
-use wsm_record::{Field, Name, Ty};
+use wsm_record::{CellType, DeclaredField, FieldType, Name, Names, Schema};
 
-/// Whether a name is one of these.
-pub fn is_among(name: &Name, names: &[Name]) -> bool
-    ensures { result ≡ rule.is_among name.now names.now }
+/// The number of a field, and its type where it may be read.
+pub fn field_at(schema: &Schema, place: Place, name: &Name) -> Result<(u8, CellType), CheckRefusal>
+    requires { length schema.now.fields ≤ MAX_FIELDS }
+    ensures number { IfOk result (λ f. f.0 ≡ field_place schema.now.fields name.now) }
+    ensures typed { IfOk result (λ f. read_ty schema.now.fields place.around name.now ≡ Ok f.1) }
+    ensures refused { IfErr result (λ r. typed_refusal place.part (read_ty schema.now.fields place.around name.now) ≡ Some r) }
 {
-    names.iter().any(|other| *name == *other)
-}
-
-/// The number of a name, which is how many there are where it is none of them.
-pub fn place_of(name: &Name, names: &[Name]) -> usize
-    ensures place { result ≡ place_of name.now names.now }
-    ensures within { result ≤ length names.now }
-{
-    match find(name, names) {
-        Some(number) => number,
-        None => names.len(),
+    let Some((number, ty)) = field_named(schema.fields(), name) else {
+        return Err(unknown(place.part));
+    };
+    match place.around {
+        Around::InWhere | Around::InAggregate => Ok((number, declared_ty(number, ty))),
+        Around::InColumn => Err(CheckRefusal::Fault(CheckFault::FieldOutsideAggregate, place.part)),
     }
 }
 
-fn find(name: &Name, names: &[Name]) -> Option<usize>
-    ensures { result ≡ position (bytes_eq name.now) names.now }
+/// A name of a field's ENUM: the number of the ENUM, and that of the name.
+pub fn name_at(
+    schema: &Schema,
+    part: Part,
+    field: &Name,
+    name: &Name,
+) -> Result<(u8, u16), CheckRefusal>
+    requires { length schema.now.fields ≤ MAX_FIELDS }
+    ensures list { IfOk result (λ n. n.0 ≡ suc (field_place schema.now.fields field.now)) }
+    ensures number { IfOk result (λ n. n.1 ≡ place_of name.now (names_of (type_of field.now schema.now.fields))) }
+    ensures typed { IfOk result (λ n. name_ty schema.now.fields field.now name.now ≡ Ok (types.Enum n.0)) }
+    ensures refused { IfErr result (λ r. typed_refusal part (name_ty schema.now.fields field.now name.now) ≡ Some r) }
 {
-    names.iter().position(|other| *name == *other)
+    let Some((number, ty)) = field_named(schema.fields(), field) else {
+        return Err(unknown(part));
+    };
+    match number_in_type(ty, name) {
+        Some(place) => Ok((number + 1, place)),
+        None => Err(unknown(part)),
+    }
 }
 
-/// The first field of a name: its number and its type.
-pub fn find_field<'a>(fields: &'a [Field], name: &Name) -> Option<(u8, &'a Ty)>
+/// The number of a key.
+pub fn key_at(schema: &Schema, part: Part, name: &Name) -> Result<u16, CheckRefusal>
+    ensures number { IfOk result (λ n. n ≡ place_of name.now schema.now.keys) }
+    ensures typed { IfOk result (λ _. key_ty schema.now.keys name.now ≡ Ok (types.Enum 0)) }
+    ensures refused { IfErr result (λ r. typed_refusal part (key_ty schema.now.keys name.now) ≡ Some r) }
+{
+    match number_in(schema.keys(), name) {
+        Some(number) => Ok(number),
+        None => Err(unknown(part)),
+    }
+}
+
+fn unknown(part: Part) -> CheckRefusal
+    ensures { result ≡ CheckRefusal.Fault CheckFault.UnknownName part }
+{
+    CheckRefusal::Fault(CheckFault::UnknownName, part)
+}
+
+// The first field of a name: its number and its type.
+fn field_named<'a>(fields: &'a [DeclaredField], name: &Name) -> Option<(u8, &'a FieldType)>
     requires { length fields.now ≤ MAX_FIELDS }
     ensures { MatchOption result
-        (Absent (map declared_field fields.now) name.now)
-        (λ found. Found (map declared_field fields.now) name.now found.0 (declared_type found.1.now)) }
+        (rule.is_among name.now (field_names (map field_seen fields.now)) ≡ false)
+        (λ found. Found (map field_seen fields.now) name.now found.0 (type_seen found.1.now)) }
 {
     for (number, field) in fields.iter().enumerate() {
         if *name == field.name {
@@ -45,4 +83,20 @@ pub fn find_field<'a>(fields: &'a [Field], name: &Name) -> Option<(u8, &'a Ty)>
         }
     }
     None
+}
+
+// The number of a name in the list of its type, which has one where it is an ENUM.
+fn number_in_type(ty: &FieldType, name: &Name) -> Option<u16>
+    ensures { MatchOption result (rule.is_among name.now (names_of (type_seen ty.now)) ≡ false) (λ n. IsListed (names_of (type_seen ty.now)) name.now n) }
+{
+    match ty {
+        FieldType::Enum(names) => number_in(names, name),
+        FieldType::Int { .. } | FieldType::Bool => None,
+    }
+}
+
+fn number_in(names: &Names, name: &Name) -> Option<u16>
+    ensures { MatchOption result (rule.is_among name.now names.now ≡ false) (λ n. IsListed names.now name.now n) }
+{
+    names.number_of(name.as_bytes())
 }

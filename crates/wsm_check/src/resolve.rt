@@ -1,65 +1,95 @@
-//! Expressions with numbers in the place of names.
+//! Expressions, judged and resolved in one walk.
 
-ghost use Rattle.std.specs.Prelude.{◌≡◌, ◌≤◌, ◌<◌, ◌+◌, ◌++◌, ◌∷◌, [], suc, map, length, true, IfOk, OnOk};
-ghost use Rattle.std.specs.List.{list_all};
-ghost use Rattle.wsm_record.specs.Fields.{declared_field, declared_type};
-ghost use Rattle.wsm_query.specs.Seen.{seen, seen_expr};
-ghost use Rattle.wsm_check.specs.Names as name_rule;
-ghost use Rattle.wsm_check.specs.Names.{field_place, names_of, type_of};
-ghost use Rattle.wsm_check.specs.Sizes.{accumulators_of, aggregates};
-ghost use Rattle.wsm_check.specs.Spelt.{numbers_fit};
-ghost use Rattle.wsm_check.specs.Terms.{Accumulator, Name as Named, few_names, has_few_names, is_flat, joined, resolved};
-ghost use Rattle.wsm_check.specs.Parts.{folding};
+ghost use Rattle.std.specs.Prelude.{◌≡◌, ◌≤◌, ◌<◌, ◌⊎◌, map, length, true, Some, IfOk, IfErr, OnOk};
+ghost use Rattle.wsm_record.specs.Types.{is_type, kind_type};
+ghost use Rattle.wsm_query.specs.Tree.{Query, Aggregate};
+ghost use Rattle.wsm_query.specs.Seen.{seen_expr};
+ghost use Rattle.wsm_check.specs.Names.{schema_of};
+ghost use Rattle.wsm_check.specs.Checks.{typed_refusal};
+ghost use Rattle.wsm_check.specs.Resolved.{IsRefused, Resolves, ResolvesAs, joined, two_ty};
 ghost use Rattle.wsm_check.specs.Seen.{seen_folding, seen_term};
+ghost use Rattle.wsm_check.specs.Types.{InColumn, Typed, entered, typed, typed_as};
 
-use crate::names::{find_field, place_of};
+use crate::names::{field_at, key_at, name_at};
 use crate::parts::Folding;
+use crate::refusal::{CheckFault, CheckRefusal, Part};
 use crate::term::Term;
-use std::alloc::{AllocError, Global};
-use wsm_query::{Expr, Query};
-use wsm_record::limits::{MAX_ACCUMULATORS, MAX_FIELDS, MAX_NAMES};
-use wsm_record::{Field, Kind, Name, Ty};
+use crate::types::{Around, type_of_choice, type_of_logic, type_of_op, want};
+use std::alloc::Global;
+use wsm_query::Expr;
+use wsm_record::limits::MAX_FIELDS;
+use wsm_record::{CellType, Kind, Schema};
 
-/// The term of an expression. Each of its aggregates gets an accumulator behind those that are there.
+/// Where an expression stands.
+#[derive(Clone, Copy)]
+pub struct Place {
+    /// The part of the query that its faults are told of.
+    pub part: Part,
+    /// What may stand there.
+    pub around: Around,
+}
+
+/// The type and the term of an expression, or its first fault: its parts are walked from the left,
+/// and before itself. Each of its aggregates gets an accumulator behind those that are there.
 #[cycle(resolve)]
-#[tactic(auto, using(crate::proofs::ResolvedTerms::parts))]
+#[tactic(auto, using(crate::proofs::Resolving::forms))]
 pub fn resolve(
     alloc: Global,
-    query: &Query,
+    schema: &Schema,
+    place: Place,
     expr: &Expr,
     foldings: &mut Vec<Folding>,
-) -> Result<Term, AllocError>
-    requires fields { length query.now.fields.items ≤ MAX_FIELDS }
-    requires names { has_few_names (seen query.now) ≡ true }
-    requires room { length foldings.old.items + aggregates (seen_expr expr.now) ≤ MAX_ACCUMULATORS }
-    requires flat { is_flat (seen_expr expr.now) ≡ true }
-    ensures term { IfOk result (λ t. seen_term t ≡ resolved (seen query.now) (length foldings.old.items) (seen_expr expr.now)) }
-    ensures foldings { OnOk result (map seen_folding foldings.new.items ≡ map seen_folding foldings.old.items ++ map (folding (seen query.now)) (accumulators_of (seen_expr expr.now))) }
-    ensures count { OnOk result (length foldings.new.items ≡ length foldings.old.items + aggregates (seen_expr expr.now)) }
-    ensures spelt { OnOk result (numbers_fit (seen_expr expr.now) ≡ true) }
+) -> Result<(CellType, Term), CheckRefusal>
+    requires { length schema.now.fields ≤ MAX_FIELDS }
+    ensures resolved { (q : Query) → schema.now ≡ schema_of q →
+        IfOk result (λ t. Resolves q place.around (seen_expr expr.now) (map seen_folding foldings.old.items) (map seen_folding foldings.new.items) t.0 (seen_term t.1)) }
+    ensures refused { (q : Query) → schema.now ≡ schema_of q → IfErr result (λ r. IsRefused place.part (typed q place.around (seen_expr expr.now)) r) }
 {
     match expr {
-        Expr::Number(number) => Ok(Term::Number(*number)),
-        Expr::Truth(truth) => Ok(Term::Truth(*truth)),
-        Expr::Field(field) => Ok(Term::Field(place_of_field(field, &query.fields))),
-        Expr::EnumName(field, name) => Ok(name_of_field(&query.fields, field, name)),
-        Expr::Key => Ok(Term::Key),
-        Expr::KeyName(name) => Ok(Term::Name(0, place_of(name, &query.keys) as u16)),
-        Expr::Count => Ok(Term::Count),
-        Expr::Aggregate(kind, operand) => accumulator(alloc, query, *kind, operand, foldings),
-        Expr::If(test, first, second) => {
-            let test = boxed(alloc, query, test, foldings)?;
-            let first = boxed(alloc, query, first, foldings)?;
-            let second = boxed(alloc, query, second, foldings)?;
-            Ok(Term::If(test, first, second))
+        Expr::Number(number) => Ok((CellType::Int, Term::Number(*number))),
+        Expr::Truth(truth) => Ok((CellType::Bool, Term::Truth(*truth))),
+        Expr::Field(field) => {
+            let (number, ty) = field_at(schema, place, field)?;
+            Ok((ty, Term::Field(number)))
         }
-        Expr::Brackets(inner) => resolve(alloc, query, inner, foldings),
-        Expr::Minus(operand) => Ok(Term::Minus(boxed(alloc, query, operand, foldings)?)),
-        Expr::Not(operand) => Ok(Term::Not(boxed(alloc, query, operand, foldings)?)),
+        Expr::EnumName(field, name) => {
+            let (list, number) = name_at(schema, place.part, field, name)?;
+            Ok((CellType::Enum(list), Term::Name(list, number)))
+        }
+        Expr::Key => Ok((CellType::Enum(0), Term::Key)),
+        Expr::KeyName(name) => {
+            let number = key_at(schema, place.part, name)?;
+            Ok((CellType::Enum(0), Term::Name(0, number)))
+        }
+        Expr::Count => {
+            enter(place)?;
+            Ok((CellType::Int, Term::Count))
+        }
+        Expr::Aggregate(kind, operand) => {
+            enter(place)?;
+            aggregate(alloc, schema, place.part, *kind, operand, foldings)
+        }
+        Expr::If(test, first, second) => {
+            let test = boxed(alloc, schema, place, test, foldings)?;
+            let first = boxed(alloc, schema, place, first, foldings)?;
+            let second = boxed(alloc, schema, place, second, foldings)?;
+            let ty = told(place.part, type_of_choice(test.0, first.0, second.0))?;
+            Ok((ty, Term::If(test.1, first.1, second.1)))
+        }
+        Expr::Brackets(inner) => resolve(alloc, schema, place, inner, foldings),
+        Expr::Minus(operand) => {
+            let operand = boxed_as(alloc, schema, place, CellType::Int, operand, foldings)?;
+            Ok((CellType::Int, Term::Minus(operand)))
+        }
+        Expr::Not(operand) => {
+            let operand = boxed_as(alloc, schema, place, CellType::Bool, operand, foldings)?;
+            Ok((CellType::Bool, Term::Not(operand)))
+        }
         Expr::Binary(_, left, right) | Expr::And(left, right) | Expr::Or(left, right) => {
-            let left = boxed(alloc, query, left, foldings)?;
-            let right = boxed(alloc, query, right, foldings)?;
-            Ok(joined(expr, left, right))
+            let left = boxed(alloc, schema, place, left, foldings)?;
+            let right = boxed(alloc, schema, place, right, foldings)?;
+            let ty = told(place.part, type_of_two(expr, left.0, right.0))?;
+            Ok((ty, joined(expr, left.1, right.1)))
         }
     }
 }
@@ -75,83 +105,106 @@ fn joined(expr: &Expr, left: Box<Term>, right: Box<Term>) -> Term
     }
 }
 
+// The type of what joins two operands of these types, or its fault.
+fn type_of_two(expr: &Expr, left: CellType, right: CellType) -> Result<CellType, CheckFault>
+    ensures { result ≡ two_ty (seen_expr expr.now) left right }
+{
+    match expr {
+        Expr::Binary(op, _, _) => type_of_op(*op, left, right),
+        _ => type_of_logic(left, right),
+    }
+}
+
+// A type, or a fault told of its part.
+fn told(part: Part, ty: Result<CellType, CheckFault>) -> Result<CellType, CheckRefusal>
+    ensures typed { IfOk result (λ t. ty ≡ Ok t) }
+    ensures refused { IfErr result (λ r. typed_refusal part ty ≡ Some r) }
+{
+    match ty {
+        Ok(ty) => Ok(ty),
+        Err(fault) => Err(CheckRefusal::Fault(fault, part)),
+    }
+}
+
+// That an aggregate may stand there, as COUNT(*) is one too.
+fn enter(place: Place) -> Result<(), CheckRefusal>
+    ensures column { OnOk result (place.around ≡ InColumn) }
+    ensures refused { IfErr result (λ r. (x : Typed) → typed_refusal place.part (entered place.around x) ≡ Some r) }
+{
+    match place.around {
+        Around::InColumn => Ok(()),
+        Around::InWhere => Err(CheckRefusal::Fault(CheckFault::AggregateInWhere, place.part)),
+        Around::InAggregate => Err(CheckRefusal::Fault(CheckFault::AggregateNested, place.part)),
+    }
+}
+
 #[cycle(resolve)]
 fn boxed(
     alloc: Global,
-    query: &Query,
+    schema: &Schema,
+    place: Place,
     expr: &Expr,
     foldings: &mut Vec<Folding>,
-) -> Result<Box<Term>, AllocError>
-    requires fields { length query.now.fields.items ≤ MAX_FIELDS }
-    requires names { has_few_names (seen query.now) ≡ true }
-    requires room { length foldings.old.items + aggregates (seen_expr expr.now) ≤ MAX_ACCUMULATORS }
-    requires flat { is_flat (seen_expr expr.now) ≡ true }
-    ensures term { IfOk result (λ b. seen_term b.value ≡ resolved (seen query.now) (length foldings.old.items) (seen_expr expr.now)) }
-    ensures foldings { OnOk result (map seen_folding foldings.new.items ≡ map seen_folding foldings.old.items ++ map (folding (seen query.now)) (accumulators_of (seen_expr expr.now))) }
-    ensures count { OnOk result (length foldings.new.items ≡ length foldings.old.items + aggregates (seen_expr expr.now)) }
-    ensures spelt { OnOk result (numbers_fit (seen_expr expr.now) ≡ true) }
+) -> Result<(CellType, Box<Term>), CheckRefusal>
+    requires { length schema.now.fields ≤ MAX_FIELDS }
+    ensures resolved { (q : Query) → schema.now ≡ schema_of q →
+        IfOk result (λ t. Resolves q place.around (seen_expr expr.now) (map seen_folding foldings.old.items) (map seen_folding foldings.new.items) t.0 (seen_term t.1.value)) }
+    ensures refused { (q : Query) → schema.now ≡ schema_of q → IfErr result (λ r. IsRefused place.part (typed q place.around (seen_expr expr.now)) r) }
 {
-    let term = resolve(alloc, query, expr, foldings)?;
-    Ok(Box::new(alloc, term)?)
+    let (ty, term) = resolve(alloc, schema, place, expr, foldings)?;
+    Ok((ty, Box::new(alloc, term)?))
 }
 
-// The accumulator of an aggregate, whose operand has none.
+/// The term of an expression that is to have a type.
 #[cycle(resolve)]
-#[tactic(auto, using(crate::proofs::ResolvedTerms::parts))]
-fn accumulator(
+#[tactic(auto, using(crate::proofs::Resolving::forms))]
+pub fn boxed_as(
     alloc: Global,
-    query: &Query,
+    schema: &Schema,
+    place: Place,
+    ty: CellType,
+    expr: &Expr,
+    foldings: &mut Vec<Folding>,
+) -> Result<Box<Term>, CheckRefusal>
+    requires { length schema.now.fields ≤ MAX_FIELDS }
+    ensures resolved { (q : Query) → schema.now ≡ schema_of q →
+        IfOk result (λ b. ResolvesAs q place.around ty (seen_expr expr.now) (map seen_folding foldings.old.items) (map seen_folding foldings.new.items) (seen_term b.value)) }
+    ensures refused { (q : Query) → schema.now ≡ schema_of q → IfErr result (λ r. IsRefused place.part (typed_as ty (typed q place.around (seen_expr expr.now))) r) }
+{
+    let (given, term) = boxed(alloc, schema, place, expr, foldings)?;
+    told(place.part, want(given == ty, ty))?;
+    Ok(term)
+}
+
+// The accumulator of an aggregate in a column or in HAVING. Its operand has none.
+#[cycle(resolve)]
+#[tactic(auto, using(crate::proofs::Resolving::forms))]
+fn aggregate(
+    alloc: Global,
+    schema: &Schema,
+    part: Part,
     kind: Kind,
     operand: &Expr,
     foldings: &mut Vec<Folding>,
-) -> Result<Term, AllocError>
-    requires fields { length query.now.fields.items ≤ MAX_FIELDS }
-    requires names { has_few_names (seen query.now) ≡ true }
-    requires room { length foldings.old.items < MAX_ACCUMULATORS }
-    requires plain { aggregates (seen_expr operand.now) ≡ 0 }
-    requires flat { is_flat (seen_expr operand.now) ≡ true }
-    ensures term { IfOk result (λ t. seen_term t ≡ Accumulator (length foldings.old.items)) }
-    ensures foldings { OnOk result (map seen_folding foldings.new.items ≡ map seen_folding foldings.old.items ++ folding (seen query.now) (record { kind = kind; operand = seen_expr operand.now }) ∷ []) }
-    ensures count { OnOk result (length foldings.new.items ≡ length foldings.old.items + 1) }
-    ensures spelt { OnOk result (numbers_fit (seen_expr operand.now) ≡ true) }
+) -> Result<(CellType, Term), CheckRefusal>
+    requires { length schema.now.fields ≤ MAX_FIELDS }
+    ensures resolved { (q : Query) → schema.now ≡ schema_of q →
+        IfOk result (λ t. Resolves q InColumn (Aggregate kind (seen_expr operand.now)) (map seen_folding foldings.old.items) (map seen_folding foldings.new.items) t.0 (seen_term t.1)) }
+    ensures refused { (q : Query) → schema.now ≡ schema_of q → IfErr result (λ r. IsRefused part (typed q InColumn (Aggregate kind (seen_expr operand.now))) r) }
 {
-    let number = foldings.len() as u8;
+    let around = Around::InAggregate;
     let mut none = Vec::new(alloc);
-    let operand = resolve(alloc, query, operand, &mut none)?;
+    let place = Place { part, around };
+    let operand = boxed_as(alloc, schema, place, kind.ty(), operand, &mut none)?;
+    let number = next_number(foldings);
+    let operand = Box::into_inner(operand);
     foldings.push(Folding { kind, operand })?;
-    Ok(Term::Accumulator(number))
+    Ok((kind.ty(), Term::Accumulator(number)))
 }
 
-fn place_of_field(field: &Name, fields: &[Field]) -> u8
-    requires { length fields.now ≤ MAX_FIELDS }
-    ensures { result ≡ field_place (map declared_field fields.now) field.now }
+// The number of the next accumulator. A query that has more than there are numbers is refused.
+fn next_number(foldings: &[Folding]) -> u8
+    ensures { length foldings.now < 256 → result ≡ length foldings.now }
 {
-    match find_field(fields, field) {
-        Some((number, _)) => number,
-        None => fields.len() as u8,
-    }
-}
-
-// The name of a field's ENUM.
-#[tactic(auto, using(crate::proofs::NamedFields::few_named))]
-fn name_of_field(fields: &[Field], field: &Name, name: &Name) -> Term
-    requires fields { length fields.now ≤ MAX_FIELDS }
-    requires names { list_all few_names (map declared_field fields.now) ≡ true }
-    ensures { seen_term result ≡ Named (suc (field_place (map declared_field fields.now) field.now)) (name_rule.place_of name.now (names_of (type_of field.now (map declared_field fields.now)))) }
-{
-    match find_field(fields, field) {
-        Some((number, ty)) => Term::Name(number + 1, place_in_type(name, ty)),
-        None => Term::Name(fields.len() as u8 + 1, 0),
-    }
-}
-
-// The number of a name in the list of its type.
-fn place_in_type(name: &Name, ty: &Ty) -> u16
-    requires { length (names_of (declared_type ty.now)) ≤ MAX_NAMES }
-    ensures { result ≡ name_rule.place_of name.now (names_of (declared_type ty.now)) }
-{
-    match ty {
-        Ty::Enum(names) => place_of(name, names) as u16,
-        Ty::Int { .. } | Ty::Bool => 0,
-    }
+    foldings.len().min(255) as u8
 }

@@ -1,5 +1,5 @@
 -- What the checks say of what a checked query has: its sections fit, and what is put together of them is a program.
-use Rattle.std.proofs.Common.{◌≡◌, ◌≤◌, true, List, length, arith, ap, ◌∙◌, refl}
+use Rattle.std.proofs.Common.{◌≡◌, ◌≤◌, true, List, length, arith, refl}
 use Rattle.std.proofs.Math.Logic.{∥∥₁_elim}
 use Rattle.std.proofs.Math.Bridge.{le_prop}
 use Rattle.std.proofs.Math.Bool.{Bool-set}
@@ -16,11 +16,10 @@ use Rattle.wsm_query.specs.Tree.{Query}
 use Rattle.wsm_check.specs.Sizes.{accumulators}
 use Rattle.wsm_check.specs.Parts.{Parts, ArePartsOfChecked, folding, aggregates_of, parts_of}
 use Rattle.wsm_compiler.specs.TermCode.{ending_code, ending_size, foldings_code, foldings_size, firing_code, firing_size}
-use Rattle.wsm_compiler.specs.Program.{stated, needed_of, program_of}
-use Rattle.wsm_compiler.specs.Assembled.{assembled, assembled_header}
+use Rattle.wsm_compiler.specs.Program.{header_stating, assembled, stated, program_of}
 use Rattle.wsm_compiler.proofs.Passed.{passed}
 use Rattle.wsm_compiler.proofs.Lawful.{is_lawful}
-use Rattle.wsm_compiler.proofs.QueryCode.{ended_size, folded_size, fired_size, assembled_is}
+use Rattle.wsm_compiler.proofs.QueryTerms.{ended_size, folded_size, fired_size}
 use Rattle.wsm_program.proofs.Lawful.{program_header}
 
 budget_of : (p : Program) → is_program p ≡ true → is_budget p.header.budget ≡ true
@@ -33,7 +32,7 @@ budget_of p h =
     (and_parts (is_row g) (is_budget g.budget) d.1).1
 
 -- a header and sections that are those of the parts
-pub put_together : (p : Parts) (b : Costs) (header : Header) (selection update fire : List Instr) → header ≡ assembled_header p b →
+pub put_together : (p : Parts) (b : Costs) (header : Header) (selection update fire : List Instr) → header ≡ header_stating p b →
     selection ≡ ending_code 0 p.condition → update ≡ foldings_code 0 0 p.foldings → fire ≡ firing_code 0 p.having p.columns →
     assembled p b ≡ record { header = header; selection = selection; update = update; fire = fire }
 put_together p b header selection update fire h s u f = rw (h, s, u, f) refl
@@ -53,15 +52,13 @@ module _ (p : Parts) (h : ∥ ArePartsOfChecked p ∥₁) where
 
   pub is_program_of : (b : Costs) → is_budget b ≡ true → is_program (assembled p b) ≡ true
   is_program_of b l =
-      ∥∥₁_elim h (Bool-set _ _) (λ w. rw w.is (ap is_program (assembled_is w.query b) ∙ lawful_stating (program_of w.query) b (is_lawful w.query w.checked w.spelt) l))
+      ∥∥₁_elim h (Bool-set _ _) (λ w. rw w.is (lawful_stating (program_of w.query) b (is_lawful w.query w.checked w.spelt) l))
 
   -- what BUDGET states, or what the program needs, may be stated
   pub is_budget_of : (b : Costs) → is_budget (stated (needed (assembled p b)) p.budget) ≡ true
   is_budget_of b =
-      ∥∥₁_elim h (Bool-set _ _) (λ w. rw w.is (ap (λ r. is_budget (stated (needed r) w.query.budget)) (assembled_is w.query b) ∙ budget_of (program_of w.query) (is_lawful w.query w.checked w.spelt)))
+      ∥∥₁_elim h (Bool-set _ _) (λ w. rw w.is (budget_of (program_of w.query) (is_lawful w.query w.checked w.spelt)))
 
 -- whatever a program states, it has the same need
 pub compiled : (p : Parts) (b : Costs) (q : Query) → p ≡ parts_of q → assembled p (stated (needed (assembled p b)) p.budget) ≡ program_of q
-compiled p b q e =
-    let same = assembled_is q b in
-    rw e (ap (λ r. assembled (parts_of q) (stated (needed r) q.budget)) same ∙ assembled_is q (stated (needed_of q) q.budget))
+compiled p b q e = rw e refl

@@ -14,7 +14,7 @@ use Rattle.wsm_rules.specs.declared.known.Known.TheVariants.{Truth}
 use Rattle.wsm_rules.specs.Labels.{State, Label, Unreached, Reached, Visit, same_type, same_types, hull_known, hull_lists, agree, hull_states, hull_all, narrowed, along, carried_to, visit, visit_of}
 use Rattle.wsm_program.specs.Instructions.{may_stand, opposite_test, is_later}
 use Rattle.wsm_rules.specs.Rules.{Setting, fold_missing, fault_of}
-use Rattle.wsm_compiler.specs.Code.{choice}
+use Rattle.wsm_compiler.specs.TermCode.{choice}
 use Rattle.wsm_compiler.proofs.Visits.{nil_right, extended, added, extended_is, added_append, carries, carries_append, faults, faults_append, or_true}
 use Rattle.wsm_compiler.proofs.Hulls.{stack_self, types_self, flags_self, agreeing, hull_with}
 use Rattle.wsm_compiler.proofs.Parts.{none≢some, Comes, Labels, Labelled, shorter, continued, visit_is, fault_is}

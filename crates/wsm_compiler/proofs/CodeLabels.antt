@@ -17,13 +17,15 @@ use Rattle.wsm_rules.specs.declared.known.Known.{Known}
 use Rattle.wsm_rules.specs.declared.known.Known.TheVariants as known
 use Rattle.wsm_rules.specs.Labels.{State, same_type}
 use Rattle.wsm_rules.specs.Rules.{Setting, and_then, known_fields}
-use Rattle.wsm_compiler.specs.Code.{code, test_of, instruction}
+use Rattle.wsm_compiler.specs.TermCode.{instruction}
+use Rattle.wsm_compiler.specs.Code.{code, test_of}
 use Rattle.wsm_compiler.specs.Ranges.{where_true, where_false, range_on}
 use Rattle.wsm_compiler.proofs.Parts.{Labelled}
 use Rattle.wsm_compiler.proofs.Tests.{with_known, pushed_on}
 use Rattle.wsm_compiler.proofs.Choices.{with_fields}
 use Rattle.wsm_compiler.proofs.TestedChoices.{pushed_bind, tested_choice}
 use Rattle.wsm_compiler.proofs.NarrowedFields.{Narrows, as_declared, true_narrows, false_narrows, true_known, false_known}
+use Rattle.wsm_compiler.proofs.QueryTerms.{if_code, and_code, or_code, binary_code}
 use Rattle.wsm_compiler.proofs.Sizes.{length-code, some_size, some_need, some_code}
 use Rattle.wsm_compiler.proofs.Found.{of_instr, known_true, known_false, found, push_int, push_bool, push_enum, push_field, push_key, push_acc, push_count, make_neg, make_not, make_op, follow}
 use Rattle.wsm_compiler.proofs.FoundRanges.{known_same, known_truth}
@@ -79,13 +81,14 @@ module _ (e : State) (c : Setting) (q : Query) (around : Around) (reads : Reads 
       let in' : fn ≡ known_fields 0 (where_false w ds) = ap (known_false o) is ∙ false_known q w ds nd in
       let ny = true_narrows w nd in
       let nn = false_narrows w nd in
-      tested_choice e c q w k (size b) (size x) (size y) (code q k a b) first second s (found c q s.fields a b) (found c q fy ax x) (found c q fn ay y)
+      subst (λ is. Labelled e c k is s (pushed_on s (found c q s.fields a (If b x y)))) (if_code q k a b x y)
+      (tested_choice e c q w k (size b) (size x) (size y) (code q k a b) first second s (found c q s.fields a b) (found c q fy ax x) (found c q fn ay y)
       (stands b p.test_is) (is_truth c q around reads ds nd a b p.test_is ac.test s.fields is) (length-code q k a b) (some_code q k a b)
       (λ none. labelled_on ds nd k a b types.Bool s is p.test_is ac.test (omega (arith, room, ap (λ v. unless_tested v (need b)) none)) (omega (arith, more, ap (λ v. unless_tested v (size b)) none)))
       (length-code q (i + 1) ax x) (length-code q (i + 1 + size x + 1) ay y) (some_size x) (some_size y) (omega (arith, more)) (omega (arith, room, some_need x))
       (same_found c q around reads (where_true w ds) (where_false w ds) ny nn ax ay x y t p.first_is p.second_is ac.first ac.second fy fn iy in')
       (labelled_on (where_true w ds) ny (i + 1) ax x t (with_fields fy s) iy p.first_is ac.first (omega (arith, room)) (omega (arith, more)))
-      (labelled_on (where_false w ds) nn (i + 1 + size x + 1) ay y t (with_fields fn s) in' p.second_is ac.second (omega (arith, room)) (omega (arith, more)))
+      (labelled_on (where_false w ds) nn (i + 1 + size x + 1) ay y t (with_fields fn s) in' p.second_is ac.second (omega (arith, room)) (omega (arith, more))))
   labelled_on ds nd k a (Brackets x) t s is h accs room more = labelled_on ds nd k a x t s is h accs room more
   labelled_on ds nd k a (Minus x) t s is h accs room more =
       let u = unary_is q around x types.Int t h in
@@ -112,11 +115,12 @@ module _ (e : State) (c : Setting) (q : Query) (around : Around) (reads : Reads 
       λ u. follow e c i (size y) right last (with_known u s) fy (λ v. pushed_on s (of_instr c (instruction op) (v ∷ u ∷ []))) (length-code q i b y) (some_code q i b y) (omega arith)
       (labelled_on ds nd i b y p.right (with_known u s) is p.right_is (in_right c q around a x y accs) (omega (arith, room)) (omega (arith, more)))
       (λ v ev. make_op e c (i + size y) s (omega (arith, room)) (omega (arith, more)) op u v) in
-      subst (λ o. Labelled e c k (code q k a x ++ (right ++ last)) s o)
+      subst (λ is. Labelled e c k is s (pushed_on s (found c q s.fields a (Binary op x y)))) (binary_code q k a op x y)
+      (subst (λ o. Labelled e c k (code q k a x ++ (right ++ last)) s o)
       ((λ j. and_then (λ u. pushed_bind s (λ v. of_instr c (instruction op) (v ∷ u ∷ [])) fy j) fx) ∙ pushed_bind s (λ u. and_then (λ v. of_instr c (instruction op) (v ∷ u ∷ [])) fy) fx)
       (follow e c k (size x) (code q k a x) (right ++ last) s fx (λ u. and_then (λ v. pushed_on s (of_instr c (instruction op) (v ∷ u ∷ []))) fy) (length-code q k a x) (some_code q k a x) (omega (arith, l))
       (labelled_on ds nd k a x p.left s is p.left_is (in_left c q around a x y accs) (omega (arith, room)) (omega (arith, more)))
-      (λ u eu. inner u))
+      (λ u eu. inner u)))
   labelled_on ds nd k a (And x y) t s is h accs room more =
       let p = logic_types q around x y t h in
       let w = tested x in
@@ -131,13 +135,14 @@ module _ (e : State) (c : Setting) (q : Query) (around : Around) (reads : Reads 
       let fn = known_false o s.fields in
       let iy : fy ≡ known_fields 0 (where_true w ds) = ap (known_true o) is ∙ true_known q w ds nd in
       let ny = true_narrows w nd in
-      tested_choice e c q w k (size x) (size y) 1 (code q k a x) first second s (found c q s.fields a x) (found c q fy b y) (Some known.Truth)
+      subst (λ is. Labelled e c k is s (pushed_on s (found c q s.fields a (And x y)))) (and_code q k a x y)
+      (tested_choice e c q w k (size x) (size y) 1 (code q k a x) first second s (found c q s.fields a x) (found c q fy b y) (Some known.Truth)
       (stands x p.left_is) (is_truth c q around reads ds nd a x p.left_is left s.fields is) (length-code q k a x) (some_code q k a x)
       (λ none. labelled_on ds nd k a x types.Bool s is p.left_is left (omega (arith, room, ap (λ v. unless_tested v (need x)) none)) (omega (arith, more, ap (λ v. unless_tested v (size x)) none)))
       (length-code q (i + 1) b y) refl (some_size y) (omega arith) (omega (arith, more)) (omega (arith, room, some_need y))
       (λ u v eu ev. truth_same u v (is_truth c q around reads (where_true w ds) ny b y p.right_is right fy iy u eu) ev)
       (labelled_on (where_true w ds) ny (i + 1) b y types.Bool (with_fields fy s) iy p.right_is right (omega (arith, room)) (omega (arith, more)))
-      (push_bool e c (i + 1 + size y + 1) (with_fields fn s) (omega (arith, room, some_need y)) (omega (arith, more)) false)
+      (push_bool e c (i + 1 + size y + 1) (with_fields fn s) (omega (arith, room, some_need y)) (omega (arith, more)) false))
   labelled_on ds nd k a (Or x y) t s is h accs room more =
       let p = logic_types q around x y t h in
       let w = tested x in
@@ -152,13 +157,14 @@ module _ (e : State) (c : Setting) (q : Query) (around : Around) (reads : Reads 
       let fn = known_false o s.fields in
       let in' : fn ≡ known_fields 0 (where_false w ds) = ap (known_false o) is ∙ false_known q w ds nd in
       let nn = false_narrows w nd in
-      tested_choice e c q w k (size x) 1 (size y) (code q k a x) first second s (found c q s.fields a x) (Some known.Truth) (found c q fn b y)
+      subst (λ is. Labelled e c k is s (pushed_on s (found c q s.fields a (Or x y)))) (or_code q k a x y)
+      (tested_choice e c q w k (size x) 1 (size y) (code q k a x) first second s (found c q s.fields a x) (Some known.Truth) (found c q fn b y)
       (stands x p.left_is) (is_truth c q around reads ds nd a x p.left_is left s.fields is) (length-code q k a x) (some_code q k a x)
       (λ none. labelled_on ds nd k a x types.Bool s is p.left_is left (omega (arith, room, ap (λ v. unless_tested v (need x)) none)) (omega (arith, more, ap (λ v. unless_tested v (size x)) none)))
       refl (length-code q (i + 1 + 1 + 1) b y) (omega arith) (some_size y) (omega (arith, more)) (omega (arith, room, some_need y))
       (λ u v eu ev. same_truth u v (is_truth c q around reads (where_false w ds) nn b y p.right_is right fn in' v ev) eu)
       (push_bool e c (i + 1) (with_fields fy s) (omega (arith, room, some_need y)) (omega (arith, more)) true)
-      (labelled_on (where_false w ds) nn (i + 1 + 1 + 1) b y types.Bool (with_fields fn s) in' p.right_is right (omega (arith, room)) (omega (arith, more)))
+      (labelled_on (where_false w ds) nn (i + 1 + 1 + 1) b y types.Bool (with_fields fn s) in' p.right_is right (omega (arith, room)) (omega (arith, more))))
 
   -- where the fields are as they are declared
   pub labelled : (k a : ℕ) (x : Expr) (t : CellType) (s : State) → s.fields ≡ known_fields 0 q.fields → typed q around x ≡ Ok t → AccsIn c q around a (accumulators_of x) → length s.stack + need x ≤ 32 → k + size x < c.n →

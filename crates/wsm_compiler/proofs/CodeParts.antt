@@ -3,49 +3,11 @@ use Rattle.std.proofs.Common.{◌≡◌, ℕ, ◌+◌, ◌<◌, false, true, Lis
 use Rattle.std.proofs.lemmas.List.{drop_more}
 use Rattle.wsm_program.specs.declared.instr.Instr.{Instr}
 use Rattle.wsm_program.specs.declared.instr.Instr.TheVariants as instr
-use Rattle.wsm_program.specs.declared.operation.Operation.TheVariants as operation
-use Rattle.wsm_check.specs.Terms.{Term, Number, Truth, Field, Name, Key, Count, Accumulator, If, Minus, Not, Binary, And, Or}
+use Rattle.wsm_check.specs.Terms.{Term}
 use Rattle.wsm_check.specs.Tested.{unless_tested}
-use Rattle.wsm_compiler.specs.Code.{instruction, choice, test_code, jump_unless}
 use Rattle.wsm_check.specs.Parts.{Folding}
-use Rattle.wsm_compiler.specs.TermCode.{term_size, term_test, term_code, foldings_code}
-use Rattle.wsm_compiler.proofs.Sizes.{length-choice, length-test_code}
-
--- a term has as many instructions as its size says
-pub length-term_code : (k : ℕ) (t : Term) → length (term_code k t) ≡ term_size t
-length-term_code k (If c x y) =
-    let j = k + unless_tested (term_test c) (term_size c) + 1 in
-    let first = term_code j x in
-    let second = term_code (j + term_size x + 1) y in
-    let l = length-append (test_code (term_test c) (term_code k c)) (choice (jump_unless (term_test c)) j first (term_size x) second (term_size y)) in
-    let m = length-choice (jump_unless (term_test c)) j first (term_size x) second (term_size y) in
-    omega (arith, l, m, length-test_code (term_test c) (term_code k c) (term_size c) (length-term_code k c), length-term_code j x, length-term_code (j + term_size x + 1) y)
-length-term_code k (Minus x) = let l = length-append (term_code k x) (instr.Operate operation.Neg ∷ []) in omega (arith, l, length-term_code k x)
-length-term_code k (Not x) = let l = length-append (term_code k x) (instr.Operate operation.Not ∷ []) in omega (arith, l, length-term_code k x)
-length-term_code k (Binary op x y) =
-    let right = term_code (k + term_size x) y in
-    let l = length-append (term_code k x) (right ++ instruction op ∷ []) in
-    let m = length-append right (instruction op ∷ []) in
-    omega (arith, l, m, length-term_code k x, length-term_code (k + term_size x) y)
-length-term_code k (And x y) =
-    let j = k + unless_tested (term_test x) (term_size x) + 1 in
-    let first = term_code j y in
-    let l = length-append (test_code (term_test x) (term_code k x)) (choice (jump_unless (term_test x)) j first (term_size y) (instr.PushBool false ∷ []) 1) in
-    let m = length-choice (jump_unless (term_test x)) j first (term_size y) (instr.PushBool false ∷ []) 1 in
-    omega (arith, l, m, length-test_code (term_test x) (term_code k x) (term_size x) (length-term_code k x), length-term_code j y)
-length-term_code k (Or x y) =
-    let j = k + unless_tested (term_test x) (term_size x) + 1 in
-    let second = term_code (j + 1 + 1) y in
-    let l = length-append (test_code (term_test x) (term_code k x)) (choice (jump_unless (term_test x)) j (instr.PushBool true ∷ []) 1 second (term_size y)) in
-    let m = length-choice (jump_unless (term_test x)) j (instr.PushBool true ∷ []) 1 second (term_size y) in
-    omega (arith, l, m, length-test_code (term_test x) (term_code k x) (term_size x) (length-term_code k x), length-term_code (j + 1 + 1) y)
-length-term_code k (Number n) = refl
-length-term_code k (Truth b) = refl
-length-term_code k (Field f) = refl
-length-term_code k (Name e i) = refl
-length-term_code k Key = refl
-length-term_code k Count = refl
-length-term_code k (Accumulator a) = refl
+use Rattle.wsm_compiler.specs.TermCode.{test_code, term_size, term_test, term_code, foldings_code}
+use Rattle.wsm_compiler.proofs.Sizes.{length-test_code, length-term_code}
 
 -- and so many stand there more once it is added
 pub length-added : (code : List Instr) (k : ℕ) (t : Term) → length (code ++ term_code k t) ≡ length code + term_size t

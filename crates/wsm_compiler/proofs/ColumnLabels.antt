@@ -22,12 +22,13 @@ use Rattle.wsm_compiler.proofs.Visits.{nil_right, extended, added, extended_is, 
 use Rattle.wsm_machine.proofs.FittingStacks.{no}
 use Rattle.wsm_compiler.proofs.Parts.{Comes, Labels, shorter, continued}
 use Rattle.wsm_compiler.proofs.Tests.{with_known, pushed_on}
-use Rattle.wsm_compiler.proofs.Sizes.{length-code, some_code, some_columns_size}
+use Rattle.wsm_compiler.proofs.QueryTerms.{all_columns, columns_next}
+use Rattle.wsm_compiler.proofs.Sizes.{length-code, sizes_are_lengths, some_code, some_columns, some_columns_size}
 use Rattle.wsm_compiler.proofs.FoundRanges.{suits, known_of}
 use Rattle.wsm_compiler.proofs.ExpressionRanges.{Reads, Accs, accs_left, accs_right, range_suits, found_here}
 use Rattle.wsm_compiler.proofs.CodeLabels.{labelled}
 use Rattle.wsm_compiler.proofs.KnownFields.{reads_fire}
-use Rattle.wsm_compiler.proofs.Conditions.{in_condition, condition_fits, ColumnsTyped, columns_fit, some_columns, length-columns}
+use Rattle.wsm_compiler.proofs.Conditions.{in_condition, condition_fits, ColumnsTyped, columns_fit}
 use Rattle.wsm_compiler.proofs.Folded.{all_values}
 use Rattle.wsm_compiler.proofs.FireFaults.{firing, accs_known, accs_are}
 use Rattle.wsm_compiler.proofs.Checked.{fine}
@@ -79,7 +80,8 @@ module _ (q : Query) (b : Costs) (e : State) (c : Setting) (reads : Reads c q In
       let here = accs_left c q a (accumulators_of x) (flat_map accumulators_of es ++ in_condition q.having) whole in
       let behind = accs_right c q a (aggregates x) (accumulators_of x) (flat_map accumulators_of es ++ in_condition q.having) (length-accumulators_of x) whole in
       let known' = found_here c q InColumn reads s.fields fields a x t hx (λ _. here) ∙ known_is t (range q x) (range_suits c q InColumn x t hx) f.0 ∙ ap (λ u. Some (known_as u (range q x))) (sym (ap type_or_int hx)) in
-      let la = length-append is rest in
+      let next' = columns_next q k a x es in
+      let la = ap length (sym next') ∙ length-append is rest in
       let lc = length-code q k a x in
       let comes' : Comes e vs k s (length is + length rest) = subst (λ m. Comes e vs k s m) la comes in
       let first : Labels e c vs k is (Some (with_known y s)) =
@@ -95,7 +97,8 @@ module _ (q : Query) (b : Costs) (e : State) (c : Setting) (reads : Reads c q In
       ap (λ xs. label_at e c.ranges xs j) grouped
       ∙ ap (label_of e j) (visits_front e c.ranges (front ++ is) rest j there ∙ seen)
       ∙ ap (λ n. label_of e n (extended e c.ranges vs is)) (sym place)
-      ∙ next.label in (
+      ∙ next.label in
+      subst (λ js. ColumnLabels q (label_at e c.ranges (front ++ js)) k (x ∷ es) below) next' (
         label ∙ (λ i. Reached (record { stack = y ∷ below; folded = flags i; fields = fields i })),
         subst (λ xs. ColumnLabels q (label_at e c.ranges xs) j es (y ∷ below)) (sym grouped)
             (columns_labelled (front ++ is) j a' es (y ∷ below) (sym there) h.1 f.1 behind (rest_room (length below + need x) _ room) (omega (arith, more)) flags fields
@@ -110,7 +113,9 @@ labels_are_ranges q checked fit =
     let parts = and_parts (condition_fits q q.condition) (columns_fit q (fired q)) (sym (all_fit q b) ∙ fit) in
     let columns = and_parts (columns_fit q q.columns) (condition_fits q q.having) (sym (fired_fit q b) ∙ parts.1) in
     let accs = accs_of_all q b (fired q) parts.1 in
-    let l = length-columns q 0 0 q.columns in
-    columns_labelled q b (entry p) (firing q b) (reads_fire q b (known_accumulators q.records 0 p.header.kinds (update_visits p))) [] 0 0 q.columns [] refl f.columns columns.0
+    let l = (sizes_are_lengths q).2 in
+    let all = all_columns q in
+    subst (λ is. ColumnLabels q (label_at (entry p) (firing q b).ranges is) 0 q.columns []) all
+    (columns_labelled q b (entry p) (firing q b) (reads_fire q b (known_accumulators q.records 0 p.header.kinds (update_visits p))) [] 0 0 q.columns [] refl f.columns columns.0
     (subst (λ xs. Accs (firing q b) q 0 xs) (accs_are q b) (accs_known q b f.accs accs (all_values q b f.accs f.update_need accs))) f.fire_need (omega (arith, l)) refl refl
-    (record { long = refl; label = refl; quiet = λ d u w. refl })
+    (record { long = refl; label = refl; quiet = λ d u w. refl }))

@@ -1,5 +1,5 @@
 -- WHERE and FIRE have a fault exactly where a range of their expressions doesn't fit.
-use Rattle.std.proofs.Common.{◌≡◌, ℕ, ◌+◌, ◌≤◌, ◌<◌, Bool, true, false, ◌&&◌, not, List, [], ◌∷◌, ◌++◌, length, map, reverse, Option, Some, None, Ok, refl, sym, ap, subst, ◌∙◌, arith, append_assoc, length-append}
+use Rattle.std.proofs.Common.{◌≡◌, ℕ, ◌+◌, ◌≤◌, ◌<◌, Bool, true, false, ◌&&◌, not, List, [], ◌∷◌, ◌++◌, length, map, reverse, Option, Some, None, Ok, refl, sym, ap, subst, ◌∙◌, arith, append_assoc}
 use Rattle.std.proofs.lemmas.List.{reverse-append}
 use Rattle.std.specs.Prelude.{is_some}
 use Rattle.std.specs.List.{list_all, flat_map}
@@ -29,7 +29,8 @@ use Rattle.wsm_machine.proofs.PushedValues.{same_type_is}
 use Rattle.wsm_machine.proofs.ReturnedStacks.{column_is}
 use Rattle.wsm_compiler.proofs.Hulls.{type_self}
 use Rattle.wsm_compiler.proofs.Tests.{with_known}
-use Rattle.wsm_compiler.proofs.Sizes.{length-code, some_need, some_code, some_columns_size}
+use Rattle.wsm_compiler.proofs.QueryTerms.{columns_end, columns_next}
+use Rattle.wsm_compiler.proofs.Sizes.{length-code, length-condition, some_need, some_code, some_columns_size, some_columns}
 use Rattle.wsm_compiler.proofs.Found.{found, push_bool}
 use Rattle.wsm_compiler.proofs.FoundRanges.{suits, known_of, known_truth, known_has}
 use Rattle.wsm_compiler.proofs.ExpressionRanges.{Reads, Accs, AccsIn, accs_left, accs_right, range_suits, found_here}
@@ -78,20 +79,15 @@ condition_ends e c q around reads k a (Some x) s is h accs room more same folded
     let truth = known_truth (range q x) y (sym (found_here c q around reads s.fields is a x types.Bool h accs) ∙ ey) in
     subst (λ z. Ends e c (k + size x) (instr.Return ∷ []) (with_known z s) false) (sym truth) (return_ends e c (k + size x) (with_known known.Truth s) same folded (omega (arith, room, some_need x)))))
 
-pub length-condition : (q : Query) (k a : ℕ) (o : Option Expr) → length (condition_code q k a o) ≡ condition_size o
-length-condition q k a None = refl
-length-condition q k a (Some x) = length-code q k a x
-
 -- WHERE
 pub where_faults : (q : Query) (b : Costs) → ConditionTyped q InWhere q.condition → need_of_condition q.condition ≤ 32 →
     is_some (fault_in (program_stating q b) Where (ranges_of_record (program_stating q b))) ≡ not (condition_fits q q.condition)
 where_faults q b h room =
     let p = program_stating q b in
     let r = ranges_of_record p in
-    let l = length-append (condition_code q 0 0 q.condition) (instr.Return ∷ []) in
-    let m = length-condition q 0 0 q.condition in
+    let l = length-condition q 0 0 q.condition in
     whole_section p Where r (not (condition_fits q q.condition)) (omega (arith, l))
-    (condition_ends (entry p) (setting p Where r) q InWhere (reads_where q b) 0 0 q.condition (entry p) refl h (λ e. no (ap in_column e)) (omega (arith, room)) (omega (arith, l, m)) refl refl)
+    (condition_ends (entry p) (setting p Where r) q InWhere (reads_where q b) 0 0 q.condition (entry p) refl h (λ e. no (ap in_column e)) (omega (arith, room)) (omega (arith, l)) refl refl)
 
 -- ---- FIRE
 
@@ -118,21 +114,13 @@ column_same q x t y h l =
     let is : type_known (column_known (column_type q x)) ≡ type_known y = ap (λ r. type_known (column_known (type_or_int r))) h ∙ column_is t ∙ sym l in
     sym (same_type_is y (column_known (column_type q x))) ∙ ap (is_type (type_known y)) is ∙ same_type_is y y ∙ type_self y
 
-pub some_columns : (q : Query) (k a : ℕ) (es : List Expr) → 0 < length (columns_code q k a es)
-some_columns q k a [] = let l = length-append (condition_code q k a q.having) (instr.Return ∷ []) in omega (arith, l)
-some_columns q k a (x ∷ es) = let l = length-append (code q k a x) (columns_code q (k + size x) (a + aggregates x) es) in omega (arith, l, some_code q k a x)
-
-pub length-columns : (q : Query) (k a : ℕ) (es : List Expr) → length (columns_code q k a es) ≡ columns_size q.having es
-length-columns q k a [] = let l = length-append (condition_code q k a q.having) (instr.Return ∷ []) in omega (arith, l, length-condition q k a q.having)
-length-columns q k a (x ∷ es) =
-    let l = length-append (code q k a x) (columns_code q (k + size x) (a + aggregates x) es) in omega (arith, l, length-code q k a x, length-columns q (k + size x) (a + aggregates x) es)
-
 pub columns_ends : (e : State) (c : Setting) (q : Query) → Reads c q InColumn → (k a : ℕ) (es : List Expr) (s : State) (below : List Known) → s.fields ≡ known_fields 0 q.fields → ColumnsTyped q es → ConditionTyped q InColumn q.having →
     Accs c q a (flat_map accumulators_of es ++ in_condition q.having) → need_of_columns (length s.stack) q.having es ≤ 32 → k + columns_size q.having es ≤ c.n →
     same_types s.stack below ≡ true → c.ends ≡ known.Truth ∷ ends_of q es below → fold_missing c.section instr.Return s.folded ≡ false →
     Ends e c k (columns_code q k a es) s (not (columns_fit q es && condition_fits q q.having))
 columns_ends e c q reads k a [] s below is h hh accs room more same ends folded =
-    condition_ends e c q InColumn reads k a q.having s is hh (λ _. accs) room (omega (arith, more)) (ap (same_types (known.Truth ∷ s.stack)) ends ∙ same) folded
+    subst (λ js. Ends e c k js s (not (condition_fits q q.having))) (columns_end q k a)
+    (condition_ends e c q InColumn reads k a q.having s is hh (λ _. accs) room (omega (arith, more)) (ap (same_types (known.Truth ∷ s.stack)) ends ∙ same) folded)
 columns_ends e c q reads k a (x ∷ es) s below is h hh accs room more same ends folded =
     let t = h.0.0 in
     let hx = h.0.1 in
@@ -143,11 +131,12 @@ columns_ends e c q reads k a (x ∷ es) s below is h hh accs room more same ends
     let here : Accs c q a (accumulators_of x) = accs_left c q a (accumulators_of x) _ (subst (λ xs. Accs c q a xs) (append_assoc (accumulators_of x) (flat_map accumulators_of es) (in_condition q.having)) accs) in
     let behind : Accs c q b (flat_map accumulators_of es ++ in_condition q.having) =
     accs_right c q a (aggregates x) (accumulators_of x) _ (length-accumulators_of x) (subst (λ xs. Accs c q a xs) (append_assoc (accumulators_of x) (flat_map accumulators_of es) (in_condition q.having)) accs) in
-    subst (λ w. Ends e c k (code q k a x ++ rest) s w)
+    subst (λ js. Ends e c k js s (not (columns_fit q (x ∷ es) && condition_fits q q.having))) (columns_next q k a x es)
+    (subst (λ w. Ends e c k (code q k a x ++ rest) s w)
     (ap (λ o. or_behind o (λ y. not fit)) (found_here c q InColumn reads s.fields is a x t hx (λ _. here)) ∙ fits_and t (range q x) fit (range_suits c q InColumn x t hx) ∙ ap not (sym (and_assoc (fits (range q x)) (columns_fit q es) (condition_fits q q.having))))
     (follow_ends e c k (size x) (code q k a x) rest s (found c q s.fields a x) (λ y. not fit) (length-code q k a x) (some_code q k a x) (some_columns q j b es)
     (labelled e c q InColumn reads k a x t s is hx (λ _. here) (first_room (length s.stack) (need x) _ room) (omega (arith, more, some_columns_size q.having es)))
     (λ y ey.
     columns_ends e c q reads j b es (with_known y s) (column_known (column_type q x) ∷ below) is h.1 hh behind (rest_room (length s.stack + need x) _ room) (omega (arith, more))
     (λ i. column_same q x t y hx (known_has t (range q x) y (sym (found_here c q InColumn reads s.fields is a x t hx (λ _. here)) ∙ ey)) i && same i)
-    (ends ∙ ap (λ zs. known.Truth ∷ zs) (ends_next q x es below)) folded))
+    (ends ∙ ap (λ zs. known.Truth ∷ zs) (ends_next q x es below)) folded)))

@@ -6,6 +6,7 @@ use Rattle.std.proofs.Math.Nat.{div-le_self}
 use Rattle.std.specs.Prelude.{◌+ℤ◌, max, min, pos, negsuc, int_le, nat_le, unsigned_abs, ◌/◌, ◌%◌}
 use Rattle.std.specs.Int.{div_ceil}
 use Rattle.std.proofs.lemmas.Bool.{and_from, and_parts, le-leb}
+use Rattle.std.proofs.lemmas.List.{length-map}
 use Rattle.wsm_record.specs.Name.{is_between}
 use Rattle.wsm_record.specs.Schema.{is_within}
 use Rattle.wsm_windows.specs.declared.window.Shape.{Shape}
@@ -15,64 +16,60 @@ use Rattle.wsm_windows.specs.Limits.{is_shape, is_size, is_span, is_time}
 use Rattle.wsm_program.specs.declared.program.Costs.{Costs}
 use Rattle.wsm_rules.specs.Costs.{windows_of_a_record, join_steps}
 use Rattle.wsm_program.specs.Program.{is_stated, is_budget}
-use Rattle.wsm_query.specs.Tree.{Query, Budget, Expr, Number, Truth, Field, EnumName, Key, KeyName, Count, Aggregate, If, Brackets, Minus, Not, Binary, And, Or}
+use Rattle.wsm_query.specs.Tree.{Query, Budget}
 use Rattle.wsm_check.specs.Checks.{is_cost, budget_fits}
-use Rattle.wsm_check.specs.Tested.{Tested, tested, unless_tested}
-use Rattle.wsm_check.specs.Sizes.{Acc, accumulators, size, condition_size, folds_size, columns_size}
-use Rattle.wsm_compiler.specs.Longest.{longest, longest_condition, longest_folds, longest_columns, needed_by_structure}
+use Rattle.wsm_check.specs.Tested.{unless_tested}
+use Rattle.wsm_check.specs.Sizes.{accumulators}
+use Rattle.wsm_check.specs.Terms.{Term, Number, Truth, Field, Name, Key, Count, Accumulator, If, Minus, Not, Binary, And, Or}
+use Rattle.wsm_check.specs.Parts.{Folding, aggregates_of, folding, parts_of}
+use Rattle.wsm_compiler.specs.TermCode.{term_test, term_size, ending_size, foldings_size, firing_size}
+use Rattle.wsm_compiler.specs.Longest.{longest, longest_ending, longest_foldings, longest_firing, needed_by_structure}
 use Rattle.wsm_compiler.specs.Program.{needed_of, stated}
 use Rattle.wsm_machine.proofs.FittingStacks.{no}
 use Rattle.wsm_compiler.proofs.Longest.{needed_is}
 use Rattle.wsm_compiler.proofs.Passed.{Passed}
+use Rattle.wsm_compiler.proofs.QueryTerms.{ended_size, folded_size, fired_size}
 
 -- ---- paths
 
 -- the path of a test that a jump makes is none
-test_at_most : (t : Option Tested) (l n : ℕ) → l ≤ n → unless_tested t l ≤ unless_tested t n
+test_at_most : {A : Type 0} (t : Option A) (l n : ℕ) → l ≤ n → unless_tested t l ≤ unless_tested t n
 test_at_most None l n h = h
 test_at_most (Some t) l n h = omega arith
 
-longest_at_most : (e : Expr) → (0 < longest e) × (longest e ≤ size e)
-longest_at_most (If c x y) =
-    let hc = longest_at_most c in
-    let hx = longest_at_most x in
-    let hy = longest_at_most y in
-    (omega arith, of_if (unless_tested (tested c) (longest c)) (longest x) (longest y) (unless_tested (tested c) (size c)) (size x) (size y) (test_at_most (tested c) (longest c) (size c) hc.1) hx.1 hy.1)
+-- a test and two parts
+chosen_at_most : (c : Term) (m n x y : ℕ) → longest c ≤ term_size c → m ≤ x → n ≤ y → unless_tested (term_test c) (longest c) + (1 + max (m + 1) n) ≤ unless_tested (term_test c) (term_size c) + (x + y) + 2
+chosen_at_most c m n x y h i j = of_three (unless_tested (term_test c) (longest c)) m n (unless_tested (term_test c) (term_size c)) x y (test_at_most (term_test c) (longest c) (term_size c) h) i j
   where
-    of_if : (l m n c x y : ℕ) → l ≤ c → m ≤ x → n ≤ y → l + (1 + max (m + 1) n) ≤ c + (x + y) + 2
-    of_if l m n c x y h i j = omega (arith, h, i, j)
-longest_at_most (Brackets e) = longest_at_most e
-longest_at_most (Minus e) = let h = longest_at_most e in (omega arith, omega (arith, h.1))
-longest_at_most (Not e) = let h = longest_at_most e in (omega arith, omega (arith, h.1))
-longest_at_most (Binary op x y) = let hx = longest_at_most x in let hy = longest_at_most y in (omega arith, omega (arith, hx.1, hy.1))
-longest_at_most (And x y) = let hx = longest_at_most x in let hy = longest_at_most y in (omega arith, of_and (unless_tested (tested x) (longest x)) (longest y) (unless_tested (tested x) (size x)) (size y) (test_at_most (tested x) (longest x) (size x) hx.1) hy.1)
-  where
-    of_and : (m n x y : ℕ) → m ≤ x → n ≤ y → m + (1 + max (n + 1) 1) ≤ x + y + 3
-    of_and m n x y h i = omega (arith, h, i)
-longest_at_most (Or x y) = let hx = longest_at_most x in let hy = longest_at_most y in (omega arith, of_or (unless_tested (tested x) (longest x)) (longest y) (unless_tested (tested x) (size x)) (size y) (test_at_most (tested x) (longest x) (size x) hx.1) hy.1)
-  where
-    of_or : (m n x y : ℕ) → m ≤ x → n ≤ y → m + (1 + max (1 + 1) n) ≤ x + y + 3
-    of_or m n x y h i = omega (arith, h, i)
-longest_at_most (Number n) = (omega arith, omega arith)
-longest_at_most (Truth b) = (omega arith, omega arith)
-longest_at_most (Field x) = (omega arith, omega arith)
-longest_at_most (EnumName x y) = (omega arith, omega arith)
-longest_at_most Key = (omega arith, omega arith)
-longest_at_most (KeyName x) = (omega arith, omega arith)
-longest_at_most Count = (omega arith, omega arith)
-longest_at_most (Aggregate kind e) = (omega arith, omega arith)
+    of_three : (l m n c x y : ℕ) → l ≤ c → m ≤ x → n ≤ y → l + (1 + max (m + 1) n) ≤ c + (x + y) + 2
+    of_three l m n c x y h i j = omega (arith, h, i, j)
 
-condition_at_most : (o : Option Expr) → longest_condition o ≤ condition_size o
-condition_at_most None = omega arith
-condition_at_most (Some e) = (longest_at_most e).1
+longest_at_most : (t : Term) → longest t ≤ term_size t
+longest_at_most (If c x y) = chosen_at_most c (longest x) (longest y) (term_size x) (term_size y) (longest_at_most c) (longest_at_most x) (longest_at_most y)
+longest_at_most (Minus x) = let h = longest_at_most x in omega (arith, h)
+longest_at_most (Not x) = let h = longest_at_most x in omega (arith, h)
+longest_at_most (Binary op x y) = let hx = longest_at_most x in let hy = longest_at_most y in omega (arith, hx, hy)
+longest_at_most (And x y) = let h = chosen_at_most x (longest y) 1 (term_size y) 1 (longest_at_most x) (longest_at_most y) (omega arith) in omega (arith, h)
+longest_at_most (Or x y) = let h = chosen_at_most x 1 (longest y) 1 (term_size y) (longest_at_most x) (omega arith) (longest_at_most y) in omega (arith, h)
+longest_at_most (Number n) = omega arith
+longest_at_most (Truth b) = omega arith
+longest_at_most (Field f) = omega arith
+longest_at_most (Name e i) = omega arith
+longest_at_most Key = omega arith
+longest_at_most Count = omega arith
+longest_at_most (Accumulator a) = omega arith
 
-folds_at_most : (accs : List Acc) → longest_folds accs ≤ folds_size accs
-folds_at_most [] = omega arith
-folds_at_most (acc ∷ accs) = let h = longest_at_most acc.operand in let l = folds_at_most accs in omega (arith, h.1, l)
+ending_at_most : (o : Option Term) → (0 < longest_ending o) × (longest_ending o ≤ ending_size o)
+ending_at_most None = (omega arith, omega arith)
+ending_at_most (Some t) = let h = longest_at_most t in (omega arith, omega (arith, h))
 
-columns_at_most : (having : Option Expr) (es : List Expr) → (0 < longest_columns having es) × (longest_columns having es ≤ columns_size having es)
-columns_at_most having [] = let h = condition_at_most having in (omega arith, omega (arith, h))
-columns_at_most having (e ∷ es) = let h = longest_at_most e in let l = columns_at_most having es in (omega (arith, h.0), omega (arith, h.1, l.1))
+foldings_at_most : (fs : List Folding) → longest_foldings fs ≤ foldings_size fs
+foldings_at_most [] = omega arith
+foldings_at_most (f ∷ fs) = let h = longest_at_most f.operand in let l = foldings_at_most fs in omega (arith, h, l)
+
+firing_at_most : (having : Option Term) (ts : List Term) → (0 < longest_firing having ts) × (longest_firing having ts ≤ firing_size having ts)
+firing_at_most having [] = ending_at_most having
+firing_at_most having (t ∷ ts) = let h = longest_at_most t in let l = firing_at_most having ts in (omega (arith, l.0), omega (arith, h, l.1))
 
 -- ---- windows
 
@@ -148,23 +145,25 @@ product_at_least : (m n : ℕ) → 0 < m → 0 < n → 0 < m * n
 product_at_least m n h l = grind arith
 
 -- what is needed, of a query that passed the checks and has a key
-needed_fits : (q : Query) → Passed q → 0 < length q.keys → costs_fit (needed_by_structure q) ≡ true
+needed_fits : (q : Query) → Passed q → 0 < length q.keys → costs_fit (needed_by_structure (parts_of q)) ≡ true
 needed_fits q p keys =
-    let need = needed_by_structure q in
-    let w = condition_at_most q.condition in
-    let u = folds_at_most (accumulators q) in
-    let f = columns_at_most q.having q.columns in
+    let parts = parts_of q in
+    let need = needed_by_structure parts in
+    let w = ending_at_most parts.condition in
+    let u = foldings_at_most parts.foldings in
+    let f = firing_at_most parts.having parts.columns in
+    let few = length-map (accumulators q) (folding q) in
     let windows = windows_at_most q.shape p.shape in
-    let product = product_at_most (windows_of_a_record q.shape) (longest_folds (accumulators q)) windows (omega (arith, u, p.code.update)) in
-    let joins = joins_at_most q.shape (length (accumulators q)) in
+    let product = product_at_most (windows_of_a_record q.shape) (longest_foldings parts.foldings) windows (omega (arith, u, folded_size q (accumulators q), p.code.update)) in
+    let joins = joins_at_most q.shape (length parts.foldings) in
     let i = and_parts (is_time q.start) (is_span q.skew && (is_span q.lateness && is_size q.records)) p.clock in
     let j = and_parts (is_span q.skew) (is_span q.lateness && is_size q.records) i.1 in
     let k = and_parts (is_span q.lateness) (is_size q.records) j.1 in
     let live = live_at_least q.shape q.skew q.lateness p.shape j.0 k.0 in
     and_from (is_stated need.per_record) (is_stated need.per_pane && is_between 1 100000 need.held)
-    (between 1 1000000000000000000 need.per_record (omega arith) (omega (arith, w, product, joins, p.code.selection, p.code.accs)))
+    (between 1 1000000000000000000 need.per_record (omega (arith, w.0)) (omega (arith, w.1, ended_size q 0 q.condition, product, joins, few, p.code.selection, p.code.accs)))
     (and_from (is_stated need.per_pane) (is_between 1 100000 need.held)
-    (between 1 1000000000000000000 need.per_pane (omega (arith, f.0)) (omega (arith, f.1, p.code.fire)))
+    (between 1 1000000000000000000 need.per_pane (omega (arith, f.0)) (omega (arith, f.1, fired_size q (aggregates_of q.columns) 0 q.columns, p.code.fire)))
     (between 1 100000 need.held (product_at_least (length q.keys) (live_bound q.shape q.skew q.lateness) keys live) p.code.held))
 
 cost_is : (lo hi : ℕ) (n : ℤ) → is_within (pos lo) (pos hi) n ≡ true → is_between lo hi (unsigned_abs n) ≡ true

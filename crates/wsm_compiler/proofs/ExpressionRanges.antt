@@ -26,7 +26,7 @@ use Rattle.wsm_check.specs.Sizes.{Acc, accumulators_of, aggregates}
 use Rattle.wsm_rules.specs.declared.known.Known.{Known}
 use Rattle.wsm_rules.specs.declared.known.Known.TheVariants as known
 use Rattle.wsm_rules.specs.Rules.{Setting, and_then}
-use Rattle.wsm_compiler.specs.Code.{instruction}
+use Rattle.wsm_compiler.specs.TermCode.{instruction}
 use Rattle.wsm_compiler.specs.Ranges.{Range, Unfit, NoNumber, Within, no_number, of_branches, if_fits, of_sum, of_aggregate, of_type, where_true, where_false, range_on, range, fits}
 use Rattle.wsm_machine.proofs.FittingStacks.{no}
 use Rattle.wsm_compiler.proofs.Hulls.{hull_either}
@@ -34,11 +34,11 @@ use Rattle.wsm_compiler.proofs.Choices.{hulled}
 use Rattle.wsm_rules.specs.Rules.{known_fields}
 use Rattle.wsm_program.specs.Instructions.{may_stand}
 use Rattle.wsm_interval.specs.declared.Comparison.{Comparison}
-use Rattle.std.proofs.lemmas.Option.{same_Some}
 use Rattle.wsm_compiler.proofs.Parts.{none≢some}
+use Rattle.wsm_compiler.proofs.TestedForms.{of_field, of_number, of_test}
 use Rattle.wsm_check.specs.Tested.{Tested, comparison_of, field_alone, number_alone, tested}
 use Rattle.wsm_compiler.proofs.Found.{of_instr, test_found, found}
-use Rattle.wsm_compiler.proofs.NarrowedFields.{Narrows, as_declared, true_narrows, false_narrows, known_here, true_known, false_known, test_hulled, tested_fits, tested_parts, of_cond}
+use Rattle.wsm_compiler.proofs.NarrowedFields.{Narrows, as_declared, true_narrows, false_narrows, known_here, true_known, false_known, test_hulled, tested_fits, of_cond}
 use Rattle.wsm_compiler.proofs.FoundRanges.{ok_is, err≢ok, typed_first, wanted_is, ty_is, suits, known_of, minus_found, minus_suits, not_found, op_typed, result_of, op_found}
 use Rattle.wsm_check.proofs.PassedChecks.{length-accumulators_of}
 
@@ -234,38 +234,11 @@ tested_truth c q around ds n e h t l = truth_found (range_on q ds e) (suits_on c
 
 -- a field that is compared with a number is one of numbers
 field_typed : (q : Query) (around : Around) (e : Expr) (x : Name) (t : CellType) → field_alone e ≡ Some x → typed q around e ≡ Ok t → field_ty q around x ≡ Ok t
-field_typed q around (Field y) x t h l = ap (field_ty q around) (sym (same_Some y x h)) ∙ l
-field_typed q around (Brackets e) x t h l = field_typed q around e x t h l
-field_typed q around (Number m) x t h l = none≢some h
-field_typed q around (Truth b) x t h l = none≢some h
-field_typed q around (EnumName y z) x t h l = none≢some h
-field_typed q around Key x t h l = none≢some h
-field_typed q around (KeyName y) x t h l = none≢some h
-field_typed q around Count x t h l = none≢some h
-field_typed q around (Aggregate kind e) x t h l = none≢some h
-field_typed q around (If b y z) x t h l = none≢some h
-field_typed q around (Minus e) x t h l = none≢some h
-field_typed q around (Not e) x t h l = none≢some h
-field_typed q around (Binary op y z) x t h l = none≢some h
-field_typed q around (And y z) x t h l = none≢some h
-field_typed q around (Or y z) x t h l = none≢some h
+field_typed q around e x t h = of_field (λ e. typed q around e ≡ Ok t → field_ty q around x ≡ Ok t) (λ e p. p) x (λ l. l) e h
 
 number_typed : (q : Query) (around : Around) (e : Expr) (n : ℤ) (t : CellType) → number_alone e ≡ Some n → typed q around e ≡ Ok t → types.Int ≡ t
-number_typed q around (Number m) n t h l = ok_is types.Int t l
-number_typed q around (Brackets e) n t h l = number_typed q around e n t h l
-number_typed q around (Minus e) n t h l = (unary_is q around e types.Int t l).1
-number_typed q around (Truth b) n t h l = none≢some h
-number_typed q around (Field x) n t h l = none≢some h
-number_typed q around (EnumName y z) n t h l = none≢some h
-number_typed q around Key n t h l = none≢some h
-number_typed q around (KeyName y) n t h l = none≢some h
-number_typed q around Count n t h l = none≢some h
-number_typed q around (Aggregate kind e) n t h l = none≢some h
-number_typed q around (If b y z) n t h l = none≢some h
-number_typed q around (Not e) n t h l = none≢some h
-number_typed q around (Binary op y z) n t h l = none≢some h
-number_typed q around (And y z) n t h l = none≢some h
-number_typed q around (Or y z) n t h l = none≢some h
+number_typed q around e n t h =
+    of_number (λ e. typed q around e ≡ Ok t → types.Int ≡ t) (λ e p. p) n (λ l. ok_is types.Int t l) (λ e m is word same l. (unary_is q around e types.Int t l).1) e h
 
 -- what stands on the left of a number
 left_of_number : (op : Op) (o : Comparison) (t u w : CellType) → comparison_of op ≡ Some o → op_ty op t u ≡ Ok w → types.Int ≡ u → t ≡ types.Int
@@ -282,25 +255,12 @@ left_of_number Gt o t u w h l e = ty_is t types.Int (and_parts (is_type t types.
 left_of_number Ge o t u w h l e = ty_is t types.Int (and_parts (is_type t types.Int) (is_type u types.Int) (wanted_is _ types.Bool w l).0).0
 
 pub tested_int : (q : Query) (around : Around) (e : Expr) (u : CellType) (t : Tested) → tested e ≡ Some t → typed q around e ≡ Ok u → field_ty q around t.field ≡ Ok types.Int
-tested_int q around (Brackets e) u t h l = tested_int q around e u t h l
-tested_int q around (Binary op x y) u t h l =
-    let p = tested_parts (comparison_of op) (field_alone x) (number_alone y) t h in
+tested_int q around e u t h =
+    of_test (λ e. typed q around e ≡ Ok u → field_ty q around t.field ≡ Ok types.Int) (λ e p. p) t
+    (λ op x y p l.
     let two = two_types q around x y (op_ty op) u l in
     let is = left_of_number op t.comparison two.left two.right u p.comparison two.both (number_typed q around y t.number two.right p.number two.right_is) in
-    field_typed q around x t.field types.Int p.field (two.left_is ∙ ap Ok is)
-tested_int q around (Number m) u t h l = none≢some h
-tested_int q around (Truth b) u t h l = none≢some h
-tested_int q around (Field x) u t h l = none≢some h
-tested_int q around (EnumName y z) u t h l = none≢some h
-tested_int q around Key u t h l = none≢some h
-tested_int q around (KeyName y) u t h l = none≢some h
-tested_int q around Count u t h l = none≢some h
-tested_int q around (Aggregate kind e) u t h l = none≢some h
-tested_int q around (If b y z) u t h l = none≢some h
-tested_int q around (Minus e) u t h l = none≢some h
-tested_int q around (Not e) u t h l = none≢some h
-tested_int q around (And y z) u t h l = none≢some h
-tested_int q around (Or y z) u t h l = none≢some h
+    field_typed q around x t.field types.Int p.field (two.left_is ∙ ap Ok is)) e h
 
 -- ---- what is found
 

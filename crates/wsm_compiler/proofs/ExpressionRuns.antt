@@ -30,9 +30,11 @@ use Rattle.wsm_check.specs.Spelt.{numbers_fit}
 use Rattle.wsm_check.specs.Tested.{Tested, tested, unless_tested}
 use Rattle.wsm_compiler.specs.Meaning.{Scene, on_two, both, minus, negated, chosen}
 use Rattle.wsm_compiler.specs.Bounded.{kept, bounded_from}
-use Rattle.wsm_compiler.specs.Code.{code, choice, field_test, test_code, test_of, jump_unless, instruction}
+use Rattle.wsm_compiler.specs.TermCode.{choice, test_code, jump_unless, instruction}
+use Rattle.wsm_compiler.specs.Code.{code, field_test, test_of}
 use Rattle.wsm_compiler.specs.Runs.{of_ty, cell, Serves, ServesAccs, state, topped, Gives, StandsAt, CodeRuns}
 use Rattle.wsm_machine.proofs.FittingStacks.{no}
+use Rattle.wsm_compiler.proofs.QueryTerms.{if_code, and_code, or_code, binary_code}
 use Rattle.wsm_compiler.proofs.Sizes.{length-code, length-test_code, some_size, some_need}
 use Rattle.wsm_compiler.proofs.FoundRanges.{ok_is, op_typed, result_of}
 use Rattle.wsm_compiler.proofs.ExpressionRanges.{cond_ok, field_is, entered_is, op_is, two_types, if_types, logic_types, unary_is, tested_int}
@@ -232,7 +234,7 @@ module _ (c : Setting) (q : Query) (around : Around) (s : Scene) (serves : Serve
       let sy = subst (λ n. ServesAccs c around s n (accumulators_of y)) place (serves_right c around s ax x (accumulators_of y) rest) in
       let cx = code q (i + 1) ax x in
       let cy = code q j ay y in
-      let parts = split_test q c.code k a b (choice (jump_unless (test_of q b)) (i + 1) cx (size x) cy (size y)) at in
+      let parts = split_test q c.code k a b (choice (jump_unless (test_of q b)) (i + 1) cx (size x) cy (size y)) (subst (StandsAt c.code k) (sym (if_code q k a b x y)) at) in
       let second = split_code q c.code (i + 1) ax x (instr.Jump end ∷ cy) parts.1.1 in
       let mb : (around ≡ InColumn → ⊥) → numbers_fit b ≡ true = λ n. (and_parts (numbers_fit b) (numbers_fit x && numbers_fit y) (m n)).0 in
       let mx : (around ≡ InColumn → ⊥) → numbers_fit x ≡ true = λ n. (and_parts (numbers_fit x) (numbers_fit y) (and_parts (numbers_fit b) (numbers_fit x && numbers_fit y) (m n)).1).0 in
@@ -274,7 +276,7 @@ module _ (c : Setting) (q : Query) (around : Around) (s : Scene) (serves : Serve
       let b = a + aggregates x in
       let sx = serves_left c around s a (accumulators_of x) (accumulators_of y) accs in
       let sy = serves_right c around s a x (accumulators_of y) accs in
-      let parts = split_code q c.code k a x (code q i b y ++ instruction op ∷ []) at in
+      let parts = split_code q c.code k a x (code q i b y ++ instruction op ∷ []) (subst (StandsAt c.code k) (sym (binary_code q k a op x y)) at) in
       let second = split_code q c.code i b y (instruction op ∷ []) parts.1 in
       let bx = value a x in
       let by = value b y in
@@ -295,7 +297,7 @@ module _ (c : Setting) (q : Query) (around : Around) (s : Scene) (serves : Serve
       let sx = serves_left c around s a (accumulators_of x) (accumulators_of y) accs in
       let sy = serves_right c around s a x (accumulators_of y) accs in
       let cy = code q (i + 1) b y in
-      let parts = split_test q c.code k a x (choice (jump_unless (test_of q x)) (i + 1) cy (size y) (instr.PushBool false ∷ []) 1) at in
+      let parts = split_test q c.code k a x (choice (jump_unless (test_of q x)) (i + 1) cy (size y) (instr.PushBool false ∷ []) 1) (subst (StandsAt c.code k) (sym (and_code q k a x y)) at) in
       let second = split_code q c.code (i + 1) b y (instr.Jump (j + 1) ∷ instr.PushBool false ∷ []) parts.1.1 in
       let mx : (around ≡ InColumn → ⊥) → numbers_fit x ≡ true = λ n. (and_parts (numbers_fit x) (numbers_fit y) (m n)).0 in
       let my : (around ≡ InColumn → ⊥) → numbers_fit y ≡ true = λ n. (and_parts (numbers_fit x) (numbers_fit y) (m n)).1 in
@@ -319,7 +321,7 @@ module _ (c : Setting) (q : Query) (around : Around) (s : Scene) (serves : Serve
       let sx = serves_left c around s a (accumulators_of x) (accumulators_of y) accs in
       let sy = serves_right c around s a x (accumulators_of y) accs in
       let cy = code q j b y in
-      let parts = split_test q c.code k a x (choice (jump_unless (test_of q x)) (i + 1) (instr.PushBool true ∷ []) 1 cy (size y)) at in
+      let parts = split_test q c.code k a x (choice (jump_unless (test_of q x)) (i + 1) (instr.PushBool true ∷ []) 1 cy (size y)) (subst (StandsAt c.code k) (sym (or_code q k a x y)) at) in
       let mx : (around ≡ InColumn → ⊥) → numbers_fit x ≡ true = λ n. (and_parts (numbers_fit x) (numbers_fit y) (m n)).0 in
       let my : (around ≡ InColumn → ⊥) → numbers_fit y ≡ true = λ n. (and_parts (numbers_fit x) (numbers_fit y) (m n)).1 in
       let by = value b y in

@@ -27,9 +27,11 @@ use Rattle.wsm_machine.proofs.FittingStacks.{no}
 use Rattle.wsm_compiler.proofs.Parts.{none≢some}
 use Rattle.wsm_compiler.proofs.FoundRanges.{suits, known_of}
 use Rattle.wsm_compiler.proofs.ExpressionRanges.{Accs, range_suits}
-use Rattle.wsm_compiler.proofs.SectionEnds.{whole_section}
+use Rattle.wsm_compiler.proofs.QueryTerms.{kinds_of, all_columns}
+use Rattle.wsm_compiler.proofs.Sizes.{sizes_are_lengths, some_columns_size}
+use Rattle.wsm_compiler.proofs.SectionEnds.{Ends, whole_section}
 use Rattle.wsm_compiler.proofs.KnownFields.{reads_fire}
-use Rattle.wsm_compiler.proofs.Conditions.{condition_fits, in_condition, ConditionTyped, ColumnsTyped, columns_fit, columns_ends, length-columns, some_columns}
+use Rattle.wsm_compiler.proofs.Conditions.{condition_fits, in_condition, ConditionTyped, ColumnsTyped, columns_fit, columns_ends}
 use Rattle.wsm_compiler.proofs.UpdateFaults.{updating, acc_fits, accs_fit, AccsTyped}
 use Rattle.wsm_compiler.proofs.Folded.{interval_of, ValuesAt, all_values}
 
@@ -68,7 +70,7 @@ flat_option (Some e) = nil_right (accumulators_of e)
 
 module _ (q : Query) (b : Costs) where
   abbrev known_from : ℕ → List Acc → List Visit → List Known
-  known_from n accs vs = known_accumulators q.records n (map (λ acc. acc.kind) accs) vs
+  known_from n accs vs = known_accumulators q.records n (kinds_of q accs) vs
 
   -- the j-th of the accumulators from the n-th on
   known_at : (n : ℕ) (accs : List Acc) (vs : List Visit) (j : ℕ) (acc : Acc) → AccsTyped q b accs → accs_fit q b accs ≡ true → ValuesAt q b n accs vs → slice_get accs j ≡ Some acc →
@@ -101,8 +103,9 @@ module _ (q : Query) (b : Costs) where
       let p = program_stating q b in
       let vs = update_visits p in
       let r = ranges_of_pane p vs in
-      let l = length-columns q 0 0 q.columns in
-      whole_section p Fire r (not (columns_fit q q.columns && condition_fits q q.having)) (some_columns q 0 0 q.columns)
-      (columns_ends (entry p) firing q (reads_fire q b (known_accumulators q.records 0 p.header.kinds vs)) 0 0 q.columns (entry p) [] refl h hh
+      let fault = not (columns_fit q q.columns && condition_fits q q.having) in
+      let l = (sizes_are_lengths q).2 in
+      whole_section p Fire r fault (omega (arith, l, some_columns_size q.having q.columns))
+      (subst (λ is. Ends (entry p) firing 0 is (entry p) fault) (all_columns q) (columns_ends (entry p) firing q (reads_fire q b (known_accumulators q.records 0 p.header.kinds vs)) 0 0 q.columns (entry p) [] refl h hh
       (subst (λ accs. Accs firing q 0 accs) accs_are (accs_known ha fit (all_values q b ha low fit))) room (omega (arith, l)) refl
-      (ap (λ zs. Truth ∷ zs) (sym (nil_right (reverse (map column_known (map (column_type q) q.columns)))))) refl)
+      (ap (λ zs. Truth ∷ zs) (sym (nil_right (reverse (map column_known (map (column_type q) q.columns)))))) refl))

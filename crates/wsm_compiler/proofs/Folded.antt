@@ -1,6 +1,6 @@
 -- What UPDATE folds into each accumulator, where it has no fault: one value, of its operand's range.
 use Rattle.std.proofs.Common.{◌≡◌, ℕ, suc, ◌+◌, ◌≤◌, ◌<◌, Bool, true, false, ◌&&◌, not, cond, List, [], ◌∷◌, ◌++◌, length, Option, Some, None, refl, sym, ap, subst, ◌∙◌, arith, length-append}
-use Rattle.std.specs.Prelude.{ℤ, ◌*ℤ◌, nat_eq, option_map}
+use Rattle.std.specs.Prelude.{ℤ, ◌*ℤ◌, nat_eq}
 use Rattle.std.specs.List.{list_all}
 use Rattle.std.specs.Int.{int_min, int_max}
 use Rattle.std.proofs.lemmas.Bool.{and_parts}
@@ -14,31 +14,32 @@ use Rattle.wsm_program.specs.declared.instr.FieldTest.{FieldTest}
 use Rattle.wsm_program.specs.declared.instr.Instr.TheVariants as instr
 use Rattle.wsm_program.specs.declared.operation.Operation.TheVariants as operation
 use Rattle.wsm_program.specs.declared.program.Costs.{Costs}
-use Rattle.wsm_query.specs.declared.expr.Op.{Op}
-use Rattle.wsm_query.specs.declared.expr.Op.TheVariants.{Add, Sub, Mul, Div, Rem, Eq, Ne, Lt, Le, Gt, Ge}
-use Rattle.wsm_query.specs.Tree.{Query, Expr, Number, Truth, Field, EnumName, Key, KeyName, Count, Aggregate, If, Brackets, Minus, Not, Binary, And, Or}
+use Rattle.wsm_query.specs.Tree.{Query, Expr}
 use Rattle.wsm_record.specs.Types.{kind_type}
 use Rattle.wsm_check.specs.declared.types.Around.TheVariants.{InAggregate}
-use Rattle.wsm_check.specs.Tested.{Tested, tested, unless_tested}
-use Rattle.wsm_check.specs.Sizes.{Acc, accumulators, accumulators_of, aggregates, size, need, folds_size, need_of_folds}
+use Rattle.wsm_check.specs.Terms.{Term, Number, Truth, Field, Name, Key, Count, Accumulator, If, Minus, Not, Binary, And, Or, resolved}
+use Rattle.wsm_check.specs.Tested.{unless_tested}
+use Rattle.wsm_check.specs.Sizes.{Acc, accumulators, accumulators_of, size, need, folds_size, need_of_folds}
 use Rattle.wsm_rules.specs.declared.known.Known.{Known}
 use Rattle.wsm_rules.specs.declared.known.Known.TheVariants as known
 use Rattle.wsm_rules.specs.Labels.{State, Ranges, Label, Reached, Visit, visit, visit_of}
 use Rattle.wsm_rules.specs.Rules.{entry, known_fields, ranges_of_record, hull_options, last_number, value_folded, values_folded, update_visits}
-use Rattle.wsm_compiler.specs.Code.{code, choice, instruction, field_test, test_code, jump_unless, folds, update_section}
+use Rattle.wsm_compiler.specs.TermCode.{choice, instruction, test_code, jump_unless, term_test, term_size, term_code}
+use Rattle.wsm_compiler.specs.Code.{code, folds, update_section}
 use Rattle.wsm_compiler.specs.Ranges.{Range, Unfit, NoNumber, Within, of_aggregate, range, fits}
 use Rattle.wsm_compiler.specs.Program.{program_stating}
 use Rattle.wsm_compiler.proofs.Visits.{extended, added, added_append, visits_are}
 use Rattle.wsm_machine.proofs.FittingStacks.{no}
 use Rattle.wsm_compiler.proofs.Parts.{Comes, Labels, continued, shorter, visit_is}
 use Rattle.wsm_compiler.proofs.Tests.{with_known, pushed_on}
-use Rattle.wsm_compiler.proofs.Sizes.{length-code, some_code}
+use Rattle.wsm_compiler.proofs.QueryTerms.{folds_next}
+use Rattle.wsm_compiler.proofs.Sizes.{length-code, length-folds, some_code, some_folds, some_folds_size}
 use Rattle.wsm_compiler.proofs.Found.{found}
 use Rattle.wsm_compiler.proofs.FoundRanges.{suits, known_of}
 use Rattle.wsm_compiler.proofs.ExpressionRanges.{range_suits, found_here}
 use Rattle.wsm_compiler.proofs.CodeLabels.{labelled}
 use Rattle.wsm_compiler.proofs.KnownFields.{reads_update}
-use Rattle.wsm_compiler.proofs.UpdateFaults.{folded_so, set_next, unset, takes, if_takes, updating, behind_fold, fold_one, acc_fits, accs_fit, AccsTyped, KindsAt, no_accs, some_folds, some_folds_size, length-folds, entry_is, all_kinds}
+use Rattle.wsm_compiler.proofs.UpdateFaults.{folded_so, set_next, unset, takes, if_takes, updating, behind_fold, fold_one, acc_fits, accs_fit, AccsTyped, KindsAt, no_accs, entry_is, all_kinds}
 use Rattle.wsm_compiler.proofs.Rooms.{sole_room, rest_room}
 use Rattle.wsm_semantics.proofs.MergedRecords.{unlike_newer}
 use Rattle.wsm_semantics.proofs.Each.{itself}
@@ -79,21 +80,8 @@ all_both : (is js : List Instr) → list_all not_fold is ≡ true → list_all n
 all_both [] js h l = l
 all_both (i ∷ is) js h l = let p = and_parts (not_fold i) (list_all not_fold is) h in (λ j. p.0 j && all_both is js p.1 l j)
 
-op_folds_none : (op : Op) → not_fold (instruction op) ≡ true
-op_folds_none Add = refl
-op_folds_none Sub = refl
-op_folds_none Mul = refl
-op_folds_none Div = refl
-op_folds_none Rem = refl
-op_folds_none Eq = refl
-op_folds_none Ne = refl
-op_folds_none Lt = refl
-op_folds_none Le = refl
-op_folds_none Gt = refl
-op_folds_none Ge = refl
-
 -- neither the code of a test nor the jump of a choice folds
-test_folds_none : (t : Option Tested) (is : List Instr) → list_all not_fold is ≡ true → list_all not_fold (test_code t is) ≡ true
+test_folds_none : (t : Option FieldTest) (is : List Instr) → list_all not_fold is ≡ true → list_all not_fold (test_code t is) ≡ true
 test_folds_none None is h = h
 test_folds_none (Some t) is h = refl
 
@@ -101,37 +89,34 @@ jump_folds_none : (t : Option FieldTest) (n : ℕ) → not_fold (jump_unless t n
 jump_folds_none None n = refl
 jump_folds_none (Some t) n = refl
 
-choice_folds_none : (q : Query) (t : Option Tested) (test : List Instr) (k : ℕ) (first : List Instr) (m : ℕ) (second : List Instr) (n : ℕ) → list_all not_fold test ≡ true → list_all not_fold first ≡ true → list_all not_fold second ≡ true →
-    list_all not_fold (test_code t test ++ choice (jump_unless (option_map (field_test q) t)) k first m second n) ≡ true
-choice_folds_none q t test k first m second n h l l' =
-    all_both (test_code t test) (choice (jump_unless (option_map (field_test q) t)) k first m second n) (test_folds_none t test h)
-    (λ i. jump_folds_none (option_map (field_test q) t) (k + m + 1) i && all_both first (instr.Jump (k + m + 1 + n) ∷ second) l l' i)
+chosen_folds_none : (t : Option FieldTest) (test : List Instr) (k : ℕ) (first : List Instr) (m : ℕ) (second : List Instr) (n : ℕ) → list_all not_fold test ≡ true → list_all not_fold first ≡ true → list_all not_fold second ≡ true →
+    list_all not_fold (test_code t test ++ choice (jump_unless t) k first m second n) ≡ true
+chosen_folds_none t test k first m second n h l l' =
+    all_both (test_code t test) (choice (jump_unless t) k first m second n) (test_folds_none t test h) (λ i. jump_folds_none t (k + m + 1) i && all_both first (instr.Jump (k + m + 1 + n) ∷ second) l l' i)
 
-code_folds_none : (q : Query) (k a : ℕ) (e : Expr) → list_all not_fold (code q k a e) ≡ true
-code_folds_none q k a (If c x y) =
-    let j = k + unless_tested (tested c) (size c) + 1 in
-    choice_folds_none q (tested c) (code q k a c) j (code q j (a + aggregates c) x) (size x) (code q (j + size x + 1) (a + (aggregates c + aggregates x)) y) (size y)
-    (code_folds_none q k a c) (code_folds_none q j (a + aggregates c) x) (code_folds_none q (j + size x + 1) (a + (aggregates c + aggregates x)) y)
-code_folds_none q k a (Brackets e) = code_folds_none q k a e
-code_folds_none q k a (Minus e) = all_both (code q k a e) (instr.Operate operation.Neg ∷ []) (code_folds_none q k a e) refl
-code_folds_none q k a (Not e) = all_both (code q k a e) (instr.Operate operation.Not ∷ []) (code_folds_none q k a e) refl
-code_folds_none q k a (Binary op x y) =
-    let right = code q (k + size x) (a + aggregates x) y in
-    all_both (code q k a x) (right ++ instruction op ∷ []) (code_folds_none q k a x) (all_both right (instruction op ∷ []) (code_folds_none q (k + size x) (a + aggregates x) y) (ap (λ b. b && true) (op_folds_none op)))
-code_folds_none q k a (And x y) =
-    let j = k + unless_tested (tested x) (size x) + 1 in
-    choice_folds_none q (tested x) (code q k a x) j (code q j (a + aggregates x) y) (size y) (instr.PushBool false ∷ []) 1 (code_folds_none q k a x) (code_folds_none q j (a + aggregates x) y) refl
-code_folds_none q k a (Or x y) =
-    let j = k + unless_tested (tested x) (size x) + 1 in
-    choice_folds_none q (tested x) (code q k a x) j (instr.PushBool true ∷ []) 1 (code q (j + 1 + 1) (a + aggregates x) y) (size y) (code_folds_none q k a x) refl (code_folds_none q (j + 1 + 1) (a + aggregates x) y)
-code_folds_none q k a (Number n) = refl
-code_folds_none q k a (Truth b) = refl
-code_folds_none q k a (Field x) = refl
-code_folds_none q k a (EnumName x y) = refl
-code_folds_none q k a Key = refl
-code_folds_none q k a (KeyName x) = refl
-code_folds_none q k a Count = refl
-code_folds_none q k a (Aggregate kind e) = refl
+code_folds_none : (k : ℕ) (t : Term) → list_all not_fold (term_code k t) ≡ true
+code_folds_none k (If c x y) =
+    let j = k + unless_tested (term_test c) (term_size c) + 1 in
+    let end = j + term_size x + 1 in
+    chosen_folds_none (term_test c) (term_code k c) j (term_code j x) (term_size x) (term_code end y) (term_size y) (code_folds_none k c) (code_folds_none j x) (code_folds_none end y)
+code_folds_none k (Minus x) = all_both (term_code k x) (instr.Operate operation.Neg ∷ []) (code_folds_none k x) refl
+code_folds_none k (Not x) = all_both (term_code k x) (instr.Operate operation.Not ∷ []) (code_folds_none k x) refl
+code_folds_none k (Binary op x y) =
+    let right = term_code (k + term_size x) y in
+    all_both (term_code k x) (right ++ instruction op ∷ []) (code_folds_none k x) (all_both right (instruction op ∷ []) (code_folds_none (k + term_size x) y) refl)
+code_folds_none k (And x y) =
+    let j = k + unless_tested (term_test x) (term_size x) + 1 in
+    chosen_folds_none (term_test x) (term_code k x) j (term_code j y) (term_size y) (instr.PushBool false ∷ []) 1 (code_folds_none k x) (code_folds_none j y) refl
+code_folds_none k (Or x y) =
+    let j = k + unless_tested (term_test x) (term_size x) + 1 in
+    chosen_folds_none (term_test x) (term_code k x) j (instr.PushBool true ∷ []) 1 (term_code (j + 1 + 1) y) (term_size y) (code_folds_none k x) refl (code_folds_none (j + 1 + 1) y)
+code_folds_none k (Number n) = refl
+code_folds_none k (Truth b) = refl
+code_folds_none k (Field f) = refl
+code_folds_none k (Name e i) = refl
+code_folds_none k Key = refl
+code_folds_none k Count = refl
+code_folds_none k (Accumulator a) = refl
 
 -- ---- the value of an operand
 
@@ -215,10 +200,10 @@ module _ (q : Query) (b : Costs) where
     s = folded_so q a (suc (length accs))
 
     whole_is : whole ≡ (new2 ++ v1 ∷ []) ++ added e r vs (code q k 0 x)
-    whole_is = added_append e r vs (code q k 0 x) (instr.Fold a ∷ later)
+    whole_is = ap (added e r vs) (sym (folds_next q k a acc accs)) ∙ added_append e r vs (code q k 0 x) (instr.Fold a ∷ later)
 
     at : (d : ℕ) → values_folded d whole ≡ values_folded d (new2 ++ v1 ∷ [])
-    at d = ap (values_folded d) whole_is ∙ none_behind d (new2 ++ v1 ∷ []) (added e r vs (code q k 0 x)) (values_none e r d vs (code q k 0 x) (code_folds_none q k 0 x))
+    at d = ap (values_folded d) whole_is ∙ none_behind d (new2 ++ v1 ∷ []) (added e r vs (code q k 0 x)) (values_none e r d vs (code q k 0 x) (code_folds_none k (resolved q 0 x)))
 
     module _ (l : v1 ≡ visit r (k + length (code q k 0 x)) (instr.Fold a) (Reached (with_known value s))) where
       fold_at : (d : ℕ) (y : Bool) → nat_eq d a ≡ y → values_folded d (v1 ∷ []) ≡ hull_options (cond y (last_number (value ∷ [])) None) None
@@ -234,7 +219,7 @@ module _ (q : Query) (b : Costs) where
         (
           at a ∙ none_in_front a new2 (v1 ∷ []) (h.0 a (omega arith)) ∙ fold_at a true (itself a) ∙ alone (last_number (value ∷ [])) ∙ is,
           subst (λ vs. ValuesAt (suc a) accs vs) (sym whole_is)
-              (values_behind (suc a) accs (new2 ++ v1 ∷ []) (added e r vs (code q k 0 x)) (λ d u. values_none e r d vs (code q k 0 x) (code_folds_none q k 0 x))
+              (values_behind (suc a) accs (new2 ++ v1 ∷ []) (added e r vs (code q k 0 x)) (λ d u. values_none e r d vs (code q k 0 x) (code_folds_none k (resolved q 0 x)))
               (values_behind (suc a) accs new2 (v1 ∷ []) (λ d u. fold_at d false (unlike_newer a d u)) h.1)),
         ),
       )
@@ -252,10 +237,10 @@ module _ (q : Query) (b : Costs) where
       let v = value_of q.records acc.kind (range q y) (range_suits c q InAggregate y (kind_type acc.kind) h.0) f.0 in
       let found' : found c q st.fields 0 y ≡ Some v.value = found_here c q InAggregate (reads_update q b) st.fields refl 0 y (kind_type acc.kind) h.0 (no_accs q b 0 (accumulators_of y)) ∙ v.is in
       let lc = length-code q k 0 y in
-      let la = length-append is (instr.Fold a ∷ rest) in
+      let la = ap length (sym (folds_next q k a acc accs)) ∙ length-append is (instr.Fold a ∷ rest) in
       let whole' : Comes e vs k st (length is + length (instr.Fold a ∷ rest)) = subst (λ m. Comes e vs k st m) la comes in
       let first : Labels e c vs k is (Some (with_known v.value st)) =
-      subst (λ o. Labels e c vs k is (pushed_on st o)) found' (labelled e c q InAggregate (reads_update q b) k 0 y (kind_type acc.kind) st refl h.0 (no_accs q b 0 (accumulators_of y)) (sole_room (need y) _ room) (omega (arith, more, some_folds_size q b accs)) vs (shorter e vs k st (length is) (length (instr.Fold a ∷ rest)) whole')) in
+      subst (λ o. Labels e c vs k is (pushed_on st o)) found' (labelled e c q InAggregate (reads_update q b) k 0 y (kind_type acc.kind) st refl h.0 (no_accs q b 0 (accumulators_of y)) (sole_room (need y) _ room) (omega (arith, more, some_folds_size accs)) vs (shorter e vs k st (length is) (length (instr.Fold a ∷ rest)) whole')) in
       let comes1 = continued e c vs k is (length (instr.Fold a ∷ rest)) st (with_known v.value st) (some_code q k 0 y) (omega arith) whole' first in
       let ws1' = extended e c.ranges vs is in
       let k1 = k + length is in
@@ -263,8 +248,8 @@ module _ (q : Query) (b : Costs) where
       let comes1' = subst (λ m. Comes e ws1' k1 (with_known v.value st) m) one' comes1 in
       let second : Labels e c ws1' k1 (instr.Fold a ∷ []) (Some (behind_fold q b a st)) =
       subst (λ t. Labels e c ws1' k1 (instr.Fold a ∷ []) (if_takes t (behind_fold q b a st))) v.taken
-      (fold_one q b e k1 a v.value st acc.kind kinds.0 (unset a (length accs)) (omega arith) (omega (arith, more, lc, some_folds_size q b accs)) ws1' (shorter e ws1' k1 (with_known v.value st) (length (instr.Fold a ∷ [])) (length rest) comes1')) in
-      let comes2 = continued e c ws1' k1 (instr.Fold a ∷ []) (length rest) (with_known v.value st) (behind_fold q b a st) (omega arith) (some_folds q b (k + size y + 1) (suc a) accs) comes1' second in
+      (fold_one q b e k1 a v.value st acc.kind kinds.0 (unset a (length accs)) (omega arith) (omega (arith, more, lc, some_folds_size accs)) ws1' (shorter e ws1' k1 (with_known v.value st) (length (instr.Fold a ∷ [])) (length rest) comes1')) in
+      let comes2 = continued e c ws1' k1 (instr.Fold a ∷ []) (length rest) (with_known v.value st) (behind_fold q b a st) (omega arith) (some_folds q (k + size y + 1) (suc a) accs) comes1' second in
       let place : k1 + length (instr.Fold a ∷ []) ≡ k + size y + 1 = omega (arith, lc) in
       let ws2' = extended e c.ranges ws1' (instr.Fold a ∷ []) in
       let comes3 : Comes e ws2' (k + size y + 1) (folded_so q (suc a) (length accs)) (length rest) =
@@ -276,7 +261,7 @@ module _ (q : Query) (b : Costs) where
   pub all_values : AccsTyped q b (accumulators q) → need_of_folds (accumulators q) ≤ 32 → accs_fit q b (accumulators q) ≡ true → ValuesAt 0 (accumulators q) (update_visits (program_stating q b))
   all_values h room fit =
       let p = program_stating q b in
-      let l = length-folds q b 0 0 (accumulators q) in
+      let l = length-folds q 0 0 (accumulators q) in
       let comes : Comes (entry p) [] 0 (entry p) (length (update_section q)) = record { long = refl; label = refl; quiet = λ d u w. refl } in
       subst (λ vs. ValuesAt 0 (accumulators q) vs) (sym (visits_are (entry p) (ranges_of_record p) (update_section q)))
       (folds_values (entry p) 0 0 (accumulators q) [] h (all_kinds q b) room (omega (arith, l)) fit (subst (λ s. Comes (entry p) [] 0 s (length (update_section q))) (sym (entry_is q b)) comes)).1

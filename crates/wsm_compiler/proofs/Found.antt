@@ -20,7 +20,8 @@ use Rattle.wsm_rules.specs.Labels.{State, pushed, narrowed_known, of_one, of_two
 use Rattle.wsm_program.specs.Instructions.{may_stand, opposite_test}
 use Rattle.wsm_rules.specs.Rules.{Setting, types_fit, has_zero, and_then}
 use Rattle.wsm_check.specs.Tested.{tested}
-use Rattle.wsm_compiler.specs.Code.{instruction, test_of}
+use Rattle.wsm_compiler.specs.TermCode.{instruction}
+use Rattle.wsm_compiler.specs.Code.{test_of}
 use Rattle.wsm_machine.proofs.FittingStacks.{no}
 use Rattle.wsm_compiler.proofs.Parts.{none≢some, Labelled, sequence}
 use Rattle.wsm_compiler.proofs.Tests.{stacked, with_known, pushed_on, acting}

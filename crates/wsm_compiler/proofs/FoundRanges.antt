@@ -17,7 +17,7 @@ use Rattle.wsm_rules.specs.declared.known.Known.{Known}
 use Rattle.wsm_rules.specs.declared.known.Known.TheVariants as known
 use Rattle.wsm_rules.specs.Labels.{same_type}
 use Rattle.wsm_rules.specs.Rules.{Setting, and_then}
-use Rattle.wsm_compiler.specs.Code.{instruction}
+use Rattle.wsm_compiler.specs.TermCode.{instruction}
 use Rattle.wsm_compiler.specs.Ranges.{Range, Unfit, NoNumber, Within, within, no_number, on_intervals, of_op, of_minus}
 use Rattle.wsm_machine.proofs.FittingStacks.{no, type_known}
 use Rattle.wsm_machine.proofs.PushedValues.{same_type_is}

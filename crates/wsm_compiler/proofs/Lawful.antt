@@ -1,5 +1,5 @@
 -- What reading program bytes asks holds of the program of a checked query.
-use Rattle.std.proofs.Common.{◌≡◌, ℕ, suc, ◌+◌, ◌≤◌, ◌<◌, Bool, true, false, ◌&&◌, not, List, [], ◌∷◌, ◌++◌, length, map, ℤ, Option, Some, None, refl, sym, ap, ◌∙◌, arith, length-append}
+use Rattle.std.proofs.Common.{◌≡◌, ℕ, suc, ◌+◌, ◌≤◌, ◌<◌, Bool, true, false, ◌&&◌, not, List, [], ◌∷◌, ◌++◌, length, map, ℤ, Option, Some, None, refl, sym, ap, subst, ◌∙◌, arith, length-append}
 use Rattle.std.proofs.lemmas.List.Folds.{list_all-append}
 use Rattle.std.specs.Prelude.{pos, negsuc, int_le, nat_eq, nat_le, nat_lt}
 use Rattle.std.specs.Ordering.{int_eq}
@@ -32,7 +32,8 @@ use Rattle.wsm_compiler.specs.Lawful.{IsLawful}
 use Rattle.wsm_check.specs.Parts.{column_type, schema_of}
 use Rattle.wsm_compiler.specs.Program.{every, stated, needed_of, program_of}
 use Rattle.wsm_machine.proofs.FittingStacks.{no}
-use Rattle.wsm_compiler.proofs.Sized.{sizes_are_lengths}
+use Rattle.wsm_compiler.proofs.QueryTerms.{kinds_are, all_columns}
+use Rattle.wsm_compiler.proofs.Sizes.{sizes_are_lengths}
 use Rattle.wsm_compiler.proofs.KnownFields.{in_column}
 use Rattle.wsm_compiler.proofs.Passed.{Passed, passed, unless_none}
 use Rattle.wsm_compiler.proofs.Checked.{Fine, fine}
@@ -211,7 +212,7 @@ module _ (q : Query) (passes : Passed q) (spelt : IsSpelt q) (b : Costs) (f : Fi
   head = record (program_of q).header { budget = b }
 
   kinds_counted : length head.kinds ≡ length (accumulators q)
-  kinds_counted = length-map (λ acc. acc.kind) (accumulators q)
+  kinds_counted = ap length (kinds_are q (accumulators q)) ∙ length-map (λ acc. acc.kind) (accumulators q)
 
   firing_is : is_firing head ≡ true
   firing_is =
@@ -259,7 +260,8 @@ module _ (q : Query) (passes : Passed q) (spelt : IsSpelt q) (b : Costs) (f : Fi
       let l = (sizes_are_lengths q).2 in
       let n = aggregates_counted q b q.columns in
       section_is head (fire_section q) (omega (arith, l, passes.code.fire))
-      (columns_fine q b 0 0 q.columns f.columns f.having columns_parts.0 (condition_numbers_is q.having columns_parts.1) (omega (arith, kinds_counted, n)) (omega (arith, passes.code.fire)))
+      (subst (λ is. list_all (is_instr head) is ≡ true) (all_columns q)
+      (columns_fine q b 0 0 q.columns f.columns f.having columns_parts.0 (condition_numbers_is q.having columns_parts.1) (omega (arith, kinds_counted, n)) (omega (arith, passes.code.fire))))
 
 pub is_lawful : (q : Query) → IsLawful q
 unfolding is_program

@@ -3,12 +3,13 @@ pub mod Hulls
 pub mod Parts
 pub mod Tests
 pub mod Choices
+pub mod QueryTerms
 pub mod Sizes
 pub mod Rooms
 pub mod CodeParts
-pub mod QueryCode
 pub mod Found
 pub mod FoundRanges
+pub mod TestedForms
 pub mod NarrowedFields
 pub mod ExpressionRanges
 pub mod TestedChoices
@@ -33,7 +34,6 @@ pub mod UpdateRuns
 pub mod Longest
 pub mod Aggregated
 pub mod ColumnFolds
-pub mod Sized
 pub mod DeclaredNames
 pub mod Operands
 pub mod Costs

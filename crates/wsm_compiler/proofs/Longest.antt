@@ -1,4 +1,4 @@
--- The longest path of generated code is found by the structure of the query.
+-- The longest path of generated code is found by the structure of the query's terms.
 use Rattle.std.proofs.Common.{◌≡◌, ℕ, zero, suc, ◌+◌, ◌-◌, ◌*◌, ◌≤◌, max, true, false, cond, List, [], ◌∷◌, ◌++◌, length, map, Option, Some, None, refl, sym, ap, ◌∙◌, arith, append_assoc, length-append}
 use Rattle.std.specs.Prelude.{option_map, unwrap_or, slice_index_or}
 use Rattle.std.proofs.lemmas.Bool.{lt-ltb}
@@ -7,19 +7,19 @@ use Rattle.wsm_program.specs.declared.instr.FieldTest.{FieldTest}
 use Rattle.wsm_program.specs.declared.instr.Instr.{Instr}
 use Rattle.wsm_program.specs.declared.instr.Instr.TheVariants as instr
 use Rattle.wsm_program.specs.declared.operation.Operation.TheVariants as operation
-use Rattle.wsm_rules.specs.Costs.{longer, longest_of, one_more, way_from, way_of, ways, longest_path, windows_of_a_record, join_steps}
+use Rattle.wsm_program.specs.declared.program.Costs.{Costs}
+use Rattle.wsm_rules.specs.Costs.{longer, longest_of, one_more, way_from, way_of, ways, needed, windows_of_a_record, join_steps}
 use Rattle.wsm_program.specs.Instructions.{next}
-use Rattle.wsm_query.specs.declared.expr.Op.{Op}
-use Rattle.wsm_query.specs.declared.expr.Op.TheVariants.{Add, Sub, Mul, Div, Rem, Eq, Ne, Lt, Le, Gt, Ge}
-use Rattle.wsm_query.specs.Tree.{Query, Expr, Number, Truth, Field, EnumName, Key, KeyName, Count, Aggregate, If, Brackets, Minus, Not, Binary, And, Or}
-use Rattle.wsm_check.specs.Names.{place_of, field_place, type_of, names_of}
-use Rattle.wsm_check.specs.Tested.{Tested, tested, unless_tested}
-use Rattle.wsm_check.specs.Sizes.{Acc, accumulators, aggregates, size}
-use Rattle.wsm_compiler.specs.Code.{instruction, choice, test_code, jump_unless, test_of, code, condition_code, where_section, folds, update_section, columns_code, fire_section}
-use Rattle.wsm_compiler.specs.Longest.{longest, longest_condition, longest_where, longest_folds, longest_columns, needed_by_structure, NeededByStructure, untested_longest, NotLonger}
+use Rattle.wsm_query.specs.Tree.{Query}
+use Rattle.wsm_check.specs.Tested.{unless_tested}
+use Rattle.wsm_check.specs.Terms.{Term, Number, Truth, Field, Name, Key, Count, Accumulator, If, Minus, Not, Binary, And, Or}
+use Rattle.wsm_check.specs.Parts.{Folding, Parts, parts_of}
+use Rattle.wsm_compiler.specs.TermCode.{instruction, choice, test_code, jump_unless, term_test, term_size, term_code, ending_code, foldings_code, firing_code}
+use Rattle.wsm_compiler.specs.Program.{assembled, program_of}
+use Rattle.wsm_compiler.specs.Longest.{longest, longest_ending, longest_foldings, longest_firing, needed_by_structure, NeededByStructure, untested_longest, NotLonger}
 use Rattle.wsm_machine.proofs.FittingStacks.{no}
 use Rattle.wsm_compiler.proofs.Tests.{plain, plain_next}
-use Rattle.wsm_compiler.proofs.Sizes.{length-code, length-test_code}
+use Rattle.wsm_compiler.proofs.Sizes.{length-term_code, length-test_code}
 
 -- the longest way from the q-th of some instructions, of which the first stands at place p
 abbrev at : ℕ → List Instr → ℕ → Option ℕ
@@ -144,86 +144,63 @@ choice_takes x i m n first second f g hm hn takes_first takes_second rest =
     ∙ test_at x i p (m + 1) behind (f + 1) g o jumps by_first by_second
     ∙ ap (λ r. plus (1 + max (f + 1) g) (at r rest 0)) (sym over)
 
-op_plain : (op : Op) → plain (instruction op) ≡ true
-op_plain Add = refl
-op_plain Sub = refl
-op_plain Mul = refl
-op_plain Div = refl
-op_plain Rem = refl
-op_plain Eq = refl
-op_plain Ne = refl
-op_plain Lt = refl
-op_plain Le = refl
-op_plain Gt = refl
-op_plain Ge = refl
+behind_code : (k : ℕ) (t : Term) → k + term_size t ≡ k + length (term_code k t)
+behind_code k t = ap (λ n. k + n) (sym (length-term_code k t))
 
-behind_code : (q : Query) (k a : ℕ) (e : Expr) → k + size e ≡ k + length (code q k a e)
-behind_code q k a e = ap (λ n. k + n) (sym (length-code q k a e))
+-- a choice by a test
+chosen_takes : (k : ℕ) (c : Term) (first second : List Instr) (m n f g : ℕ) → Takes k (term_code k c) (longest c) → length first ≡ m → length second ≡ n →
+    Takes (k + unless_tested (term_test c) (term_size c) + 1) first f → Takes (k + unless_tested (term_test c) (term_size c) + 1 + m + 1) second g →
+    Takes k (test_code (term_test c) (term_code k c) ++ choice (jump_unless (term_test c)) (k + unless_tested (term_test c) (term_size c) + 1) first m second n) (unless_tested (term_test c) (longest c) + (1 + max (f + 1) g))
+chosen_takes k c first second m n f g takes hm hn takes_first takes_second =
+    let o = term_test c in
+    let i = k + unless_tested o (term_size c) in
+    sequence_takes k (test_code o (term_code k c)) (choice (jump_unless o) (i + 1) first m second n) i (unless_tested o (longest c)) (1 + max (f + 1) g)
+    (ap (λ l. k + l) (sym (length-test_code o (term_code k c) (term_size c) (length-term_code k c)))) (test_takes o k (term_code k c) (longest c) takes) (choice_takes o i m n first second f g hm hn takes_first takes_second)
 
-behind_test : (q : Query) (k a : ℕ) (e : Expr) → k + unless_tested (tested e) (size e) ≡ k + length (test_code (tested e) (code q k a e))
-behind_test q k a e = ap (λ n. k + n) (sym (length-test_code (tested e) (code q k a e) (size e) (length-code q k a e)))
-
--- the code of an expression
-pub code_takes : (q : Query) (k a : ℕ) (e : Expr) → Takes k (code q k a e) (longest e)
-code_takes q k a (If c x y) =
-    let i = k + unless_tested (tested c) (size c) in
-    let ax = a + aggregates c in
-    let ay = a + (aggregates c + aggregates x) in
-    let j = i + 1 + size x + 1 in
-    let o = test_of q c in
-    sequence_takes k (test_code (tested c) (code q k a c)) (choice (jump_unless o) (i + 1) (code q (i + 1) ax x) (size x) (code q j ay y) (size y)) i (unless_tested (tested c) (longest c)) (1 + max (longest x + 1) (longest y)) (behind_test q k a c)
-    (test_takes (tested c) k (code q k a c) (longest c) (code_takes q k a c))
-    (choice_takes o i (size x) (size y) (code q (i + 1) ax x) (code q j ay y) (longest x) (longest y) (length-code q (i + 1) ax x) (length-code q j ay y) (code_takes q (i + 1) ax x) (code_takes q j ay y))
-code_takes q k a (Brackets e) = code_takes q k a e
-code_takes q k a (Minus e) = sequence_takes k (code q k a e) (instr.Operate operation.Neg ∷ []) (k + size e) (longest e) 1 (behind_code q k a e) (code_takes q k a e) (plain_takes (k + size e) (instr.Operate operation.Neg) refl)
-code_takes q k a (Not e) = sequence_takes k (code q k a e) (instr.Operate operation.Not ∷ []) (k + size e) (longest e) 1 (behind_code q k a e) (code_takes q k a e) (plain_takes (k + size e) (instr.Operate operation.Not) refl)
-code_takes q k a (Binary op x y) =
-    let i = k + size x in
-    let b = a + aggregates x in
-    sequence_takes k (code q k a x) (code q i b y ++ instruction op ∷ []) i (longest x) (longest y + 1) (behind_code q k a x) (code_takes q k a x)
-    (sequence_takes i (code q i b y) (instruction op ∷ []) (i + size y) (longest y) 1 (behind_code q i b y) (code_takes q i b y) (plain_takes (i + size y) (instruction op) (op_plain op)))
-code_takes q k a (And x y) =
-    let i = k + unless_tested (tested x) (size x) in
-    let b = a + aggregates x in
-    let o = test_of q x in
-    sequence_takes k (test_code (tested x) (code q k a x)) (choice (jump_unless o) (i + 1) (code q (i + 1) b y) (size y) (instr.PushBool false ∷ []) 1) i (unless_tested (tested x) (longest x)) (1 + max (longest y + 1) 1) (behind_test q k a x)
-    (test_takes (tested x) k (code q k a x) (longest x) (code_takes q k a x))
-    (choice_takes o i (size y) 1 (code q (i + 1) b y) (instr.PushBool false ∷ []) (longest y) 1 (length-code q (i + 1) b y) refl (code_takes q (i + 1) b y) (plain_takes (i + 1 + size y + 1) (instr.PushBool false) refl))
-code_takes q k a (Or x y) =
-    let i = k + unless_tested (tested x) (size x) in
-    let b = a + aggregates x in
-    let j = i + 1 + 1 + 1 in
-    let o = test_of q x in
-    sequence_takes k (test_code (tested x) (code q k a x)) (choice (jump_unless o) (i + 1) (instr.PushBool true ∷ []) 1 (code q j b y) (size y)) i (unless_tested (tested x) (longest x)) (1 + max (1 + 1) (longest y)) (behind_test q k a x)
-    (test_takes (tested x) k (code q k a x) (longest x) (code_takes q k a x))
-    (choice_takes o i 1 (size y) (instr.PushBool true ∷ []) (code q j b y) 1 (longest y) refl (length-code q j b y) (plain_takes (i + 1) (instr.PushBool true) refl) (code_takes q j b y))
-code_takes q k a (Number n) = plain_takes k (instr.PushInt n) refl
-code_takes q k a (Truth b) = plain_takes k (instr.PushBool b) refl
-code_takes q k a (Field x) = plain_takes k (instr.Field (field_place q.fields x)) refl
-code_takes q k a (EnumName x y) = plain_takes k (instr.PushEnum (suc (field_place q.fields x)) (place_of y (names_of (type_of x q.fields)))) refl
-code_takes q k a Key = plain_takes k instr.Key refl
-code_takes q k a (KeyName x) = plain_takes k (instr.PushEnum 0 (place_of x q.keys)) refl
-code_takes q k a Count = plain_takes k instr.Count refl
-code_takes q k a (Aggregate kind e) = plain_takes k (instr.Acc a) refl
+-- the code of a term
+code_takes : (k : ℕ) (t : Term) → Takes k (term_code k t) (longest t)
+code_takes k (If c x y) =
+    let j = k + unless_tested (term_test c) (term_size c) + 1 in
+    let end = j + term_size x + 1 in
+    chosen_takes k c (term_code j x) (term_code end y) (term_size x) (term_size y) (longest x) (longest y) (code_takes k c) (length-term_code j x) (length-term_code end y) (code_takes j x) (code_takes end y)
+code_takes k (Minus x) =
+    sequence_takes k (term_code k x) (instr.Operate operation.Neg ∷ []) (k + term_size x) (longest x) 1 (behind_code k x) (code_takes k x) (plain_takes (k + term_size x) (instr.Operate operation.Neg) refl)
+code_takes k (Not x) =
+    sequence_takes k (term_code k x) (instr.Operate operation.Not ∷ []) (k + term_size x) (longest x) 1 (behind_code k x) (code_takes k x) (plain_takes (k + term_size x) (instr.Operate operation.Not) refl)
+code_takes k (Binary op x y) =
+    let i = k + term_size x in
+    sequence_takes k (term_code k x) (term_code i y ++ instruction op ∷ []) i (longest x) (longest y + 1) (behind_code k x) (code_takes k x)
+    (sequence_takes i (term_code i y) (instruction op ∷ []) (i + term_size y) (longest y) 1 (behind_code i y) (code_takes i y) (plain_takes (i + term_size y) (instruction op) refl))
+code_takes k (And x y) =
+    let j = k + unless_tested (term_test x) (term_size x) + 1 in
+    chosen_takes k x (term_code j y) (instr.PushBool false ∷ []) (term_size y) 1 (longest y) 1 (code_takes k x) (length-term_code j y) refl (code_takes j y) (plain_takes (j + term_size y + 1) (instr.PushBool false) refl)
+code_takes k (Or x y) =
+    let j = k + unless_tested (term_test x) (term_size x) + 1 in
+    chosen_takes k x (instr.PushBool true ∷ []) (term_code (j + 1 + 1) y) 1 (term_size y) 1 (longest y) (code_takes k x) refl (length-term_code (j + 1 + 1) y) (plain_takes j (instr.PushBool true) refl) (code_takes (j + 1 + 1) y)
+code_takes k (Number n) = plain_takes k (instr.PushInt n) refl
+code_takes k (Truth b) = plain_takes k (instr.PushBool b) refl
+code_takes k (Field f) = plain_takes k (instr.Field f) refl
+code_takes k (Name e i) = plain_takes k (instr.PushEnum e i) refl
+code_takes k Key = plain_takes k instr.Key refl
+code_takes k Count = plain_takes k instr.Count refl
+code_takes k (Accumulator a) = plain_takes k (instr.Acc a) refl
 
 -- ---- sections
 
-condition_takes : (q : Query) (k a : ℕ) (o : Option Expr) → Takes k (condition_code q k a o) (longest_condition o)
-condition_takes q k a None = plain_takes k (instr.PushBool true) refl
-condition_takes q k a (Some e) = code_takes q k a e
+-- a term, and what leads from behind it to the end
+path_behind : (k : ℕ) (t : Term) (rest : List Instr) (n : ℕ) → at (k + term_size t) rest 0 ≡ Some n → at k (term_code k t ++ rest) 0 ≡ Some (longest t + n)
+path_behind k t rest n h = code_takes k t rest ∙ ap (λ p. plus (longest t) (at p rest 0)) (sym (behind_code k t)) ∙ ap (plus (longest t)) h
 
--- up to the return
-condition_path : (q : Query) (k a : ℕ) (o : Option Expr) → at k (condition_code q k a o ++ instr.Return ∷ []) 0 ≡ Some (longest_condition o + 1)
-condition_path q k a o = condition_takes q k a o (instr.Return ∷ [])
+ending_path : (k : ℕ) (o : Option Term) → at k (ending_code k o) 0 ≡ Some (longest_ending o)
+ending_path k None = plain_at k (instr.PushBool true) (instr.Return ∷ []) refl
+ending_path k (Some t) = path_behind k t (instr.Return ∷ []) 1 refl
 
-folds_path : (q : Query) (k a : ℕ) (accs : List Acc) → at k (folds q k a accs) 0 ≡ Some (longest_folds accs)
-folds_path q k a [] = refl
-folds_path q k a (acc ∷ accs) =
-    let j = k + size acc.operand in
-    let rest = folds q (j + 1) (suc a) accs in
-    code_takes q k 0 acc.operand (instr.Fold a ∷ rest)
-    ∙ ap (λ p. plus (longest acc.operand) (at p (instr.Fold a ∷ rest) 0)) (sym (behind_code q k 0 acc.operand))
-    ∙ ap (plus (longest acc.operand)) (fold_at j a rest ∙ ap (plus 1) (folds_path q (j + 1) (suc a) accs))
+foldings_path : (k a : ℕ) (fs : List Folding) → at k (foldings_code k a fs) 0 ≡ Some (longest_foldings fs)
+foldings_path k a [] = refl
+foldings_path k a (f ∷ fs) =
+    let j = k + term_size f.operand in
+    let rest = foldings_code (j + 1) (suc a) fs in
+    path_behind k f.operand (instr.Fold a ∷ rest) (1 + longest_foldings fs) (fold_at j a rest ∙ ap (plus 1) (foldings_path (j + 1) (suc a) fs))
   where
     fold_at : (k a : ℕ) (rest : List Instr) → at k (instr.Fold a ∷ rest) 0 ≡ plus 1 (at (k + 1) rest 0)
     fold_at k a rest =
@@ -231,64 +208,48 @@ folds_path q k a (acc ∷ accs) =
         let f : suc k ≡ suc k + 0 = omega arith in
         ap one_more (longest_alone (way_from k (ways (suc k) rest) (suc k)) ∙ over_edge k (suc k) 0 rest f ∙ ap (λ n. at n rest 0) e) ∙ one_is (at (k + 1) rest 0)
 
-columns_path : (q : Query) (k a : ℕ) (es : List Expr) → at k (columns_code q k a es) 0 ≡ Some (longest_columns q.having es)
-columns_path q k a [] = condition_path q k a q.having
-columns_path q k a (e ∷ es) =
-    let rest = columns_code q (k + size e) (a + aggregates e) es in
-    code_takes q k a e rest
-    ∙ ap (λ p. plus (longest e) (at p rest 0)) (sym (behind_code q k a e))
-    ∙ ap (plus (longest e)) (columns_path q (k + size e) (a + aggregates e) es)
+firing_path : (k : ℕ) (having : Option Term) (ts : List Term) → at k (firing_code k having ts) 0 ≡ Some (longest_firing having ts)
+firing_path k having [] = ending_path k having
+firing_path k having (t ∷ ts) = path_behind k t (firing_code (k + term_size t) having ts) (longest_firing having ts) (firing_path (k + term_size t) having ts)
 
-is_path : (o : Option ℕ) (n : ℕ) → o ≡ Some n → unwrap_or o 0 ≡ n
-is_path o n h = ap (λ x. unwrap_or x 0) h
-
-pub where_longest : (q : Query) → longest_path (where_section q) ≡ longest_where q
-where_longest q = is_path _ (longest_where q) (condition_path q 0 0 q.condition)
-
-pub update_longest : (q : Query) → longest_path (update_section q) ≡ longest_folds (accumulators q)
-update_longest q = is_path _ (longest_folds (accumulators q)) (folds_path q 0 0 (accumulators q))
-
-pub fire_longest : (q : Query) → longest_path (fire_section q) ≡ longest_columns q.having q.columns
-fire_longest q = is_path _ (longest_columns q.having q.columns) (columns_path q 0 0 q.columns)
+-- whatever the program states
+needed_of_parts : (p : Parts) (b : Costs) → needed (assembled p b) ≡ needed_by_structure p
+needed_of_parts p b =
+    let path = λ (o : Option ℕ). unwrap_or o 0 in
+    (λ i. record {
+      per_record = path (ending_path 0 p.condition i) + windows_of_a_record p.shape * path (foldings_path 0 0 p.foldings i) + join_steps p.shape (length-map p.foldings (λ (f : Folding). f.kind) i);
+      per_pane = path (firing_path 0 p.having p.columns i);
+      held = (needed_by_structure p).held;
+    })
 
 pub needed_is : (q : Query) → NeededByStructure q
-needed_is q =
-    (λ i. record {
-      per_record = where_longest q i + windows_of_a_record q.shape * update_longest q i + join_steps q.shape (length-map (accumulators q) (λ (acc : Acc). acc.kind) i);
-      per_pane = fire_longest q i;
-      held = (needed_by_structure q).held;
-    })
+needed_is q = needed_of_parts (parts_of q) (program_of q).header.budget
 
 -- ---- tests make no path longer
 
-test_shorter : (t : Option Tested) (l m : ℕ) → l ≤ m → unless_tested t l ≤ m
+test_shorter : {A : Type 0} (t : Option A) (l m : ℕ) → l ≤ m → unless_tested t l ≤ m
 test_shorter None l m h = h
 test_shorter (Some t) l m h = omega arith
 
 if_shorter : (l m n c x y : ℕ) → l ≤ c → m ≤ x → n ≤ y → l + (1 + max (m + 1) n) ≤ c + (1 + max (x + 1) y)
 if_shorter l m n c x y h i j = omega (arith, h, i, j)
 
-and_shorter : (m n x y : ℕ) → m ≤ x → n ≤ y → m + (1 + max (n + 1) 1) ≤ x + (1 + max (y + 1) 1)
-and_shorter m n x y h i = omega (arith, h, i)
+-- of a test and two parts
+chosen_shorter : (c : Term) (m n x y : ℕ) → NotLonger c → m ≤ x → n ≤ y → unless_tested (term_test c) (longest c) + (1 + max (m + 1) n) ≤ untested_longest c + (1 + max (x + 1) y)
+chosen_shorter c m n x y h i j =
+    if_shorter (unless_tested (term_test c) (longest c)) m n (untested_longest c) x y (test_shorter (term_test c) (longest c) (untested_longest c) h) i j
 
-or_shorter : (m n x y : ℕ) → m ≤ x → n ≤ y → m + (1 + max (1 + 1) n) ≤ x + (1 + max (1 + 1) y)
-or_shorter m n x y h i = omega (arith, h, i)
-
-pub not_longer : (e : Expr) → NotLonger e
-not_longer (If c x y) =
-    if_shorter (unless_tested (tested c) (longest c)) (longest x) (longest y) (untested_longest c) (untested_longest x) (untested_longest y)
-    (test_shorter (tested c) (longest c) (untested_longest c) (not_longer c)) (not_longer x) (not_longer y)
-not_longer (Brackets e) = not_longer e
-not_longer (Minus e) = let h = not_longer e in omega (arith, h)
-not_longer (Not e) = let h = not_longer e in omega (arith, h)
+pub not_longer : (t : Term) → NotLonger t
+not_longer (If c x y) = chosen_shorter c (longest x) (longest y) (untested_longest x) (untested_longest y) (not_longer c) (not_longer x) (not_longer y)
+not_longer (Minus x) = let h = not_longer x in omega (arith, h)
+not_longer (Not x) = let h = not_longer x in omega (arith, h)
 not_longer (Binary op x y) = let h = not_longer x in let l = not_longer y in omega (arith, h, l)
-not_longer (And x y) = and_shorter (unless_tested (tested x) (longest x)) (longest y) (untested_longest x) (untested_longest y) (test_shorter (tested x) (longest x) (untested_longest x) (not_longer x)) (not_longer y)
-not_longer (Or x y) = or_shorter (unless_tested (tested x) (longest x)) (longest y) (untested_longest x) (untested_longest y) (test_shorter (tested x) (longest x) (untested_longest x) (not_longer x)) (not_longer y)
+not_longer (And x y) = chosen_shorter x (longest y) 1 (untested_longest y) 1 (not_longer x) (not_longer y) (omega arith)
+not_longer (Or x y) = chosen_shorter x 1 (longest y) 1 (untested_longest y) (not_longer x) (omega arith) (not_longer y)
 not_longer (Number n) = omega arith
 not_longer (Truth b) = omega arith
-not_longer (Field x) = omega arith
-not_longer (EnumName x y) = omega arith
+not_longer (Field f) = omega arith
+not_longer (Name e i) = omega arith
 not_longer Key = omega arith
-not_longer (KeyName x) = omega arith
 not_longer Count = omega arith
-not_longer (Aggregate kind e) = omega arith
+not_longer (Accumulator a) = omega arith

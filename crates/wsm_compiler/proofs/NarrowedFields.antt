@@ -2,7 +2,6 @@
 use Rattle.std.proofs.Common.{◌≡◌, ℕ, suc, ◌+◌, Bool, true, false, ◌&&◌, ◌||◌, not, cond, List, [], ◌∷◌, ℤ, Option, Some, None, Ok, Err, refl, sym, ap, ◌∙◌, arith}
 use Rattle.std.proofs.Math.Numerals.{one-add}
 use Rattle.std.specs.Prelude.{bytes_eq, is_some, neg_ℤ, option_map, slice_index_or, slice_set}
-use Rattle.std.proofs.lemmas.Option.{same_Some}
 use Rattle.wsm_interval.specs.declared.Comparison.{Comparison}
 use Rattle.wsm_interval.specs.Comparison.{opposite}
 use Rattle.wsm_interval.specs.Interval.{interval}
@@ -17,15 +16,16 @@ use Rattle.wsm_rules.specs.Labels.{narrowed_known}
 use Rattle.wsm_rules.specs.Rules.{and_then, known_field, known_fields}
 use Rattle.wsm_query.specs.declared.expr.Op.{Op}
 use Rattle.wsm_query.specs.declared.expr.Op.TheVariants.{Add, Sub, Mul, Div, Rem, Eq, Ne, Lt, Le, Gt, Ge}
-use Rattle.wsm_query.specs.Tree.{Name, Query, Expr, Number, Truth, Field, EnumName, Key, KeyName, Count, Aggregate, If, Brackets, Minus, Not, Binary, And, Or}
+use Rattle.wsm_query.specs.Tree.{Name, Query, Expr, Binary}
 use Rattle.wsm_check.specs.declared.refusal.CheckFault.{CheckFault}
 use Rattle.wsm_check.specs.Names.{place_of, field_names, field_place, type_of}
 use Rattle.wsm_check.specs.Types.{Typed, declared_ty}
-use Rattle.wsm_check.specs.Tested.{Tested, comparison_of, field_alone, plain_number, negative, number_alone, tested_by, tested}
+use Rattle.wsm_check.specs.Tested.{Tested, comparison_of, field_alone, number_alone, tested}
 use Rattle.wsm_compiler.specs.Code.{field_test}
 use Rattle.wsm_compiler.specs.Ranges.{Range, Unfit, NoNumber, Within, no_number, within, of_minus, of_type, narrowed_type, narrowed_fields, where_true, where_false, range_on, fits}
 use Rattle.wsm_machine.proofs.FittingStacks.{no}
 use Rattle.wsm_compiler.proofs.Parts.{none≢some}
+use Rattle.wsm_compiler.proofs.TestedForms.{of_field, of_plain, of_number, of_test}
 use Rattle.wsm_compiler.proofs.Found.{known_true, known_false, test_found}
 use Rattle.wsm_compiler.proofs.FoundRanges.{err≢ok, known_of}
 
@@ -158,80 +158,19 @@ false_known q (Some t) ds n = set_known 0 ds t.field (record { field = field_pla
 -- ---- a test fits
 
 field_fits : (q : Query) (ds : List DeclaredField) (e : Expr) (x : Name) → field_alone e ≡ Some x → fits (range_on q ds e) ≡ true
-field_fits q ds (Field y) x h = any_type (type_of y ds)
+field_fits q ds e x h = of_field (λ e. fits (range_on q ds e) ≡ true) (λ e p. p) x (any_type (type_of x ds)) e h
   where
     any_type : (ty : FieldType) → fits (of_type ty) ≡ true
     any_type (field_types.Int lo hi) = refl
     any_type field_types.Truth = refl
     any_type (field_types.Enum names) = refl
-field_fits q ds (Brackets e) x h = field_fits q ds e x h
-field_fits q ds (Number m) x h = none≢some h
-field_fits q ds (Truth b) x h = none≢some h
-field_fits q ds (EnumName y z) x h = none≢some h
-field_fits q ds Key x h = none≢some h
-field_fits q ds (KeyName y) x h = none≢some h
-field_fits q ds Count x h = none≢some h
-field_fits q ds (Aggregate kind e) x h = none≢some h
-field_fits q ds (If b y z) x h = none≢some h
-field_fits q ds (Minus e) x h = none≢some h
-field_fits q ds (Not e) x h = none≢some h
-field_fits q ds (Binary op y z) x h = none≢some h
-field_fits q ds (And y z) x h = none≢some h
-field_fits q ds (Or y z) x h = none≢some h
-
-plain_is : (q : Query) (ds : List DeclaredField) (e : Expr) (n : ℤ) → plain_number e ≡ Some n → range_on q ds e ≡ Within (interval n n)
-plain_is q ds (Number m) n h = ap (λ z. Within (interval z z)) (same_Some m n h)
-plain_is q ds (Brackets e) n h = plain_is q ds e n h
-plain_is q ds (Field x) n h = none≢some h
-plain_is q ds (Truth b) n h = none≢some h
-plain_is q ds (EnumName y z) n h = none≢some h
-plain_is q ds Key n h = none≢some h
-plain_is q ds (KeyName y) n h = none≢some h
-plain_is q ds Count n h = none≢some h
-plain_is q ds (Aggregate kind e) n h = none≢some h
-plain_is q ds (If b y z) n h = none≢some h
-plain_is q ds (Minus e) n h = none≢some h
-plain_is q ds (Not e) n h = none≢some h
-plain_is q ds (Binary op y z) n h = none≢some h
-plain_is q ds (And y z) n h = none≢some h
-plain_is q ds (Or y z) n h = none≢some h
-
-negative_fits : (q : Query) (ds : List DeclaredField) (e : Expr) (o : Option ℤ) (n : ℤ) → plain_number e ≡ o → negative o ≡ Some n → fits (range_on q ds (Minus e)) ≡ true
-negative_fits q ds e None n h l = none≢some l
-negative_fits q ds e (Some m) n h l =
-    ap (λ r. fits (of_minus r)) (plain_is q ds e m h)
-    ∙ elim (is_i64 (neg_ℤ m)) as (λ b. cond b (Some (neg_ℤ m)) None ≡ Some n → fits (within (cond (b && b) (Some (interval (neg_ℤ m) (neg_ℤ m))) None)) ≡ true) [ true ↦ λ l. refl | false ↦ λ l. none≢some l ] l
 
 number_fits : (q : Query) (ds : List DeclaredField) (e : Expr) (n : ℤ) → number_alone e ≡ Some n → fits (range_on q ds e) ≡ true
-number_fits q ds (Number m) n h = refl
-number_fits q ds (Brackets e) n h = number_fits q ds e n h
-number_fits q ds (Minus e) n h = negative_fits q ds e (plain_number e) n refl h
-number_fits q ds (Field x) n h = none≢some h
-number_fits q ds (Truth b) n h = none≢some h
-number_fits q ds (EnumName y z) n h = none≢some h
-number_fits q ds Key n h = none≢some h
-number_fits q ds (KeyName y) n h = none≢some h
-number_fits q ds Count n h = none≢some h
-number_fits q ds (Aggregate kind e) n h = none≢some h
-number_fits q ds (If b y z) n h = none≢some h
-number_fits q ds (Not e) n h = none≢some h
-number_fits q ds (Binary op y z) n h = none≢some h
-number_fits q ds (And y z) n h = none≢some h
-number_fits q ds (Or y z) n h = none≢some h
-
--- what a test is made of
-pub record TestedParts (o : Option Comparison) (x : Option Name) (n : Option ℤ) (t : Tested) : Type 0 where
-  pub comparison : o ≡ Some t.comparison
-  pub field : x ≡ Some t.field
-  pub number : n ≡ Some t.number
-
-pub tested_parts : (o : Option Comparison) (x : Option Name) (n : Option ℤ) (t : Tested) → tested_by o x n ≡ Some t → TestedParts o x n t
-tested_parts None x n t h = none≢some h
-tested_parts (Some o) None n t h = none≢some h
-tested_parts (Some o) (Some x) None t h = none≢some h
-tested_parts (Some o) (Some x) (Some n) t h =
-    let is = same_Some (record { field = x; comparison = o; number = n }) t h in
-    record { comparison = ap (λ (u : Tested). Some u.comparison) is; field = ap (λ (u : Tested). Some u.field) is; number = ap (λ (u : Tested). Some u.number) is }
+number_fits q ds e n h =
+    of_number (λ e. fits (range_on q ds e) ≡ true) (λ e p. p) n refl
+    (λ e m is word same.
+    ap (λ r. fits (of_minus r)) (of_plain (λ e. range_on q ds e ≡ Within (interval m m)) (λ e p. p) m refl e is)
+    ∙ ap (λ b. fits (within (cond (b && b) (Some (interval (neg_ℤ m) (neg_ℤ m))) None))) word) e h
 
 both_fit : (r p : Range) → fits r ≡ true → fits p ≡ true → fits (no_number r p) ≡ true
 both_fit Unfit p h l = no h
@@ -242,37 +181,23 @@ both_fit (Within x) Unfit h l = no l
 both_fit (Within x) NoNumber h l = refl
 both_fit (Within x) (Within y) h l = refl
 
+compared : (q : Query) (ds : List DeclaredField) (x y : Expr) (op : Op) (o : Comparison) → comparison_of op ≡ Some o → fits (range_on q ds x) ≡ true → fits (range_on q ds y) ≡ true → fits (range_on q ds (Binary op x y)) ≡ true
+compared q ds x y Add o e a b = none≢some e
+compared q ds x y Sub o e a b = none≢some e
+compared q ds x y Mul o e a b = none≢some e
+compared q ds x y Div o e a b = none≢some e
+compared q ds x y Rem o e a b = none≢some e
+compared q ds x y Eq o e a b = both_fit (range_on q ds x) (range_on q ds y) a b
+compared q ds x y Ne o e a b = both_fit (range_on q ds x) (range_on q ds y) a b
+compared q ds x y Lt o e a b = both_fit (range_on q ds x) (range_on q ds y) a b
+compared q ds x y Le o e a b = both_fit (range_on q ds x) (range_on q ds y) a b
+compared q ds x y Gt o e a b = both_fit (range_on q ds x) (range_on q ds y) a b
+compared q ds x y Ge o e a b = both_fit (range_on q ds x) (range_on q ds y) a b
+
 pub tested_fits : (q : Query) (ds : List DeclaredField) (e : Expr) (t : Tested) → tested e ≡ Some t → fits (range_on q ds e) ≡ true
-tested_fits q ds (Brackets e) t h = tested_fits q ds e t h
-tested_fits q ds (Binary op x y) t h =
-    let p = tested_parts (comparison_of op) (field_alone x) (number_alone y) t h in
-    compared op t.comparison p.comparison (field_fits q ds x t.field p.field) (number_fits q ds y t.number p.number)
-  where
-    compared : (op : Op) (o : Comparison) → comparison_of op ≡ Some o → fits (range_on q ds x) ≡ true → fits (range_on q ds y) ≡ true → fits (range_on q ds (Binary op x y)) ≡ true
-    compared Add o e a b = none≢some e
-    compared Sub o e a b = none≢some e
-    compared Mul o e a b = none≢some e
-    compared Div o e a b = none≢some e
-    compared Rem o e a b = none≢some e
-    compared Eq o e a b = both_fit (range_on q ds x) (range_on q ds y) a b
-    compared Ne o e a b = both_fit (range_on q ds x) (range_on q ds y) a b
-    compared Lt o e a b = both_fit (range_on q ds x) (range_on q ds y) a b
-    compared Le o e a b = both_fit (range_on q ds x) (range_on q ds y) a b
-    compared Gt o e a b = both_fit (range_on q ds x) (range_on q ds y) a b
-    compared Ge o e a b = both_fit (range_on q ds x) (range_on q ds y) a b
-tested_fits q ds (Number m) t h = none≢some h
-tested_fits q ds (Truth b) t h = none≢some h
-tested_fits q ds (Field x) t h = none≢some h
-tested_fits q ds (EnumName y z) t h = none≢some h
-tested_fits q ds Key t h = none≢some h
-tested_fits q ds (KeyName y) t h = none≢some h
-tested_fits q ds Count t h = none≢some h
-tested_fits q ds (Aggregate kind e) t h = none≢some h
-tested_fits q ds (If b y z) t h = none≢some h
-tested_fits q ds (Minus e) t h = none≢some h
-tested_fits q ds (Not e) t h = none≢some h
-tested_fits q ds (And y z) t h = none≢some h
-tested_fits q ds (Or y z) t h = none≢some h
+tested_fits q ds e t h =
+    of_test (λ e. fits (range_on q ds e) ≡ true) (λ e p. p) t
+    (λ op x y p. compared q ds x y op t.comparison p.comparison (field_fits q ds x t.field p.field) (number_fits q ds y t.number p.number)) e h
 
 -- what follows a test is found alike, whether its jump makes it or not
 pub test_hulled : (w : Option Tested) (o y : Option Known) → ((t : Tested) → w ≡ Some t → is_some o ≡ true) → and_then (λ v. y) (test_found w o) ≡ and_then (λ v. y) o

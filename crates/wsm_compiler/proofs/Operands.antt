@@ -1,8 +1,7 @@
 -- The operands of generated code name what the program has.
-use Rattle.std.proofs.Common.{◌≡◌, ℕ, suc, ◌+◌, ◌≤◌, ◌<◌, Bool, true, false, ◌&&◌, List, [], ◌∷◌, ◌++◌, length, map, Option, Some, None, Ok, refl, sym, cond, ap, subst, ◌∙◌, arith}
+use Rattle.std.proofs.Common.{◌≡◌, ℕ, suc, ◌+◌, ◌≤◌, ◌<◌, Bool, true, false, ◌&&◌, List, [], ◌∷◌, ◌++◌, length, map, Option, Some, None, Ok, refl, sym, ap, subst, ◌∙◌, arith}
 use Rattle.std.proofs.lemmas.List.Folds.{list_all-append}
-use Rattle.std.specs.Prelude.{ℤ, neg_ℤ, is_some, nat_lt, option_map, slice_get}
-use Rattle.std.proofs.lemmas.Option.{same_Some}
+use Rattle.std.specs.Prelude.{ℤ, is_some, nat_lt, option_map, slice_get}
 use Rattle.std.specs.List.{list_all}
 use Rattle.std.proofs.lemmas.Bool.{and_from, lt-ltb, and_parts}
 use Rattle.wsm_record.specs.declared.words.Kind.{Kind}
@@ -26,16 +25,18 @@ use Rattle.wsm_check.specs.Types.{wanted, if_typed, declared_ty, op_ty, typed}
 use Rattle.wsm_check.specs.declared.types.Around.{Around}
 use Rattle.wsm_check.specs.declared.types.Around.TheVariants.{InColumn, InAggregate}
 use Rattle.wsm_check.specs.Sizes.{Acc, aggregates, size, condition_size, folds_size, columns_size}
-use Rattle.wsm_compiler.specs.Code.{code, choice, field_test, test_code, jump_unless, instruction, condition_code, folds, columns_code}
-use Rattle.wsm_check.specs.Tested.{Tested, comparison_of, field_alone, plain_number, negative, number_alone, tested, unless_tested}
+use Rattle.wsm_compiler.specs.TermCode.{choice, test_code, jump_unless, instruction}
+use Rattle.wsm_compiler.specs.Code.{code, field_test, condition_code, folds, columns_code}
+use Rattle.wsm_compiler.proofs.QueryTerms.{if_code, and_code, or_code, binary_code, folds_next, columns_end, columns_next}
+use Rattle.wsm_check.specs.Tested.{Tested, number_alone, tested, unless_tested}
 use Rattle.wsm_check.specs.Spelt.{numbers_fit}
 use Rattle.wsm_check.specs.Parts.{column_type, type_or_int}
 use Rattle.wsm_compiler.specs.Program.{program_stating}
 use Rattle.wsm_machine.proofs.FittingStacks.{no}
 use Rattle.wsm_compiler.proofs.FoundRanges.{ok_is, result_of}
 use Rattle.wsm_compiler.proofs.ExpressionRanges.{cond_ok, field_is, entered_is, op_is, two_types, if_types, logic_types, unary_is, tested_int}
-use Rattle.wsm_compiler.proofs.NarrowedFields.{tested_parts, of_cond}
-use Rattle.wsm_compiler.proofs.Parts.{none≢some}
+use Rattle.wsm_compiler.proofs.NarrowedFields.{of_cond}
+use Rattle.wsm_compiler.proofs.TestedForms.{of_number, of_test}
 use Rattle.wsm_compiler.proofs.KnownFields.{declared, in_column}
 use Rattle.wsm_compiler.proofs.Conditions.{ConditionTyped, ColumnsTyped}
 use Rattle.wsm_compiler.proofs.UpdateFaults.{AccsTyped}
@@ -54,48 +55,11 @@ operands_fit accs = list_all (λ acc. numbers_fit acc.operand) accs
 
 -- ---- tests
 
-negative_number : (o : Option ℤ) (n : ℤ) → negative o ≡ Some n → is_i64 n ≡ true
-negative_number None n h = none≢some h
-negative_number (Some m) n h =
-    elim (is_i64 (neg_ℤ m)) as (λ b. is_i64 (neg_ℤ m) ≡ b → cond b (Some (neg_ℤ m)) None ≡ Some n → is_i64 n ≡ true) [
-      | true ↦ λ e h. ap is_i64 (sym (same_Some (neg_ℤ m) n h)) ∙ e
-      | false ↦ λ e h. none≢some h
-    ] refl h
-
 number_fine : (e : Expr) (n : ℤ) → number_alone e ≡ Some n → numbers_fit e ≡ true → is_i64 n ≡ true
-number_fine (Number m) n h l = ap is_i64 (sym (same_Some m n h)) ∙ l
-number_fine (Brackets e) n h l = number_fine e n h l
-number_fine (Minus e) n h l = negative_number (plain_number e) n h
-number_fine (Field x) n h l = none≢some h
-number_fine (Truth b) n h l = none≢some h
-number_fine (EnumName y z) n h l = none≢some h
-number_fine Key n h l = none≢some h
-number_fine (KeyName y) n h l = none≢some h
-number_fine Count n h l = none≢some h
-number_fine (Aggregate kind e) n h l = none≢some h
-number_fine (If b y z) n h l = none≢some h
-number_fine (Not e) n h l = none≢some h
-number_fine (Binary op y z) n h l = none≢some h
-number_fine (And y z) n h l = none≢some h
-number_fine (Or y z) n h l = none≢some h
+number_fine e n h = of_number (λ e. numbers_fit e ≡ true → is_i64 n ≡ true) (λ e p. p) n (λ l. l) (λ e m is word same l. ap is_i64 (sym same) ∙ word) e h
 
 tested_number : (e : Expr) (t : Tested) → tested e ≡ Some t → numbers_fit e ≡ true → is_i64 t.number ≡ true
-tested_number (Brackets e) t h l = tested_number e t h l
-tested_number (Binary op x y) t h l =
-    number_fine y t.number (tested_parts (comparison_of op) (field_alone x) (number_alone y) t h).number (and_parts (numbers_fit x) (numbers_fit y) l).1
-tested_number (Number m) t h l = none≢some h
-tested_number (Truth b) t h l = none≢some h
-tested_number (Field x) t h l = none≢some h
-tested_number (EnumName y z) t h l = none≢some h
-tested_number Key t h l = none≢some h
-tested_number (KeyName y) t h l = none≢some h
-tested_number Count t h l = none≢some h
-tested_number (Aggregate kind e) t h l = none≢some h
-tested_number (If b y z) t h l = none≢some h
-tested_number (Minus e) t h l = none≢some h
-tested_number (Not e) t h l = none≢some h
-tested_number (And y z) t h l = none≢some h
-tested_number (Or y z) t h l = none≢some h
+tested_number e t h = of_test (λ e. numbers_fit e ≡ true → is_i64 t.number ≡ true) (λ e p. p) t (λ op x y p l. number_fine y t.number p.number (and_parts (numbers_fit x) (numbers_fit y) l).1) e h
 
 number_type : (f : ℕ) (ty : FieldType) → declared_ty f ty ≡ types.Int → is_number_type ty ≡ true
 number_type f (field_types.Int lo hi) h = refl
@@ -191,19 +155,6 @@ module _ (q : Query) (b : Costs) where
   fine_one : (i : Instr) → is_instr head i ≡ true → AllFine (i ∷ [])
   fine_one i h = and_from (is_instr head i) true h refl
 
-  op_fine : (op : Op) → is_instr head (instruction op) ≡ true
-  op_fine Add = refl
-  op_fine Sub = refl
-  op_fine Mul = refl
-  op_fine Div = refl
-  op_fine Rem = refl
-  op_fine Eq = refl
-  op_fine Ne = refl
-  op_fine Lt = refl
-  op_fine Le = refl
-  op_fine Gt = refl
-  op_fine Ge = refl
-
   choice_fine : (jump : ℕ → Instr) (k : ℕ) (first : List Instr) (m : ℕ) (second : List Instr) (n : ℕ) → is_instr head (jump (k + m + 1)) ≡ true → AllFine first → AllFine second → k + m + 1 + n < 65536 → AllFine (choice jump k first m second n)
   choice_fine jump k first m second n j h l room =
       let j2 = instr.Jump (k + m + 1 + n) in
@@ -252,11 +203,12 @@ module _ (q : Query) (b : Costs) where
       let g = and_parts (numbers_fit x) (numbers_fit y) f.1 in
       let j = k + unless_tested (tested c) (size c) + 1 in
       let d = a + (aggregates c + aggregates x) in
-      tested_fine (tested c) (code q k a c) j (code q j (a + aggregates c) x) (size x) (code q (j + size x + 1) d y) (size y) (test_fine around c p.test_is f.0)
+      subst AllFine (if_code q k a c x y)
+      (tested_fine (tested c) (code q k a c) j (code q j (a + aggregates c) x) (size x) (code q (j + size x + 1) d y) (size y) (test_fine around c p.test_is f.0)
       (λ none. code_fine around k a c types.Bool p.test_is f.0 (λ e. let n = accs e in omega (arith, n)) (omega (arith, room, ap (λ v. unless_tested v (size c)) none)))
       (code_fine around j (a + aggregates c) x t p.first_is g.0 (λ e. let n = accs e in omega (arith, n)) (omega (arith, room)))
       (code_fine around (j + size x + 1) d y t p.second_is g.1 (λ e. let n = accs e in omega (arith, n)) (omega (arith, room)))
-      (omega (arith, room))
+      (omega (arith, room)))
   code_fine around k a (Brackets e) t h l accs room = code_fine around k a e t h l accs room
   code_fine around k a (Minus e) t h l accs room =
       fine_both (code q k a e) (instr.Operate operation.Neg ∷ []) (code_fine around k a e types.Int (unary_is q around e types.Int t h).0 l accs (omega (arith, room))) refl
@@ -266,25 +218,28 @@ module _ (q : Query) (b : Costs) where
       let p = two_types q around x y (op_ty op) t h in
       let f = and_parts (numbers_fit x) (numbers_fit y) l in
       let right = code q (k + size x) (a + aggregates x) y in
-      fine_both (code q k a x) (right ++ instruction op ∷ []) (code_fine around k a x p.left p.left_is f.0 (λ e. let n = accs e in omega (arith, n)) (omega (arith, room)))
+      subst AllFine (binary_code q k a op x y)
+      (fine_both (code q k a x) (right ++ instruction op ∷ []) (code_fine around k a x p.left p.left_is f.0 (λ e. let n = accs e in omega (arith, n)) (omega (arith, room)))
       (fine_both right (instruction op ∷ []) (code_fine around (k + size x) (a + aggregates x) y p.right p.right_is f.1 (λ e. let n = accs e in omega (arith, n)) (omega (arith, room)))
-      (fine_one (instruction op) (op_fine op)))
+      refl))
   code_fine around k a (And x y) t h l accs room =
       let p = logic_types q around x y t h in
       let f = and_parts (numbers_fit x) (numbers_fit y) l in
       let j = k + unless_tested (tested x) (size x) + 1 in
       let first = code q j (a + aggregates x) y in
-      tested_fine (tested x) (code q k a x) j first (size y) (instr.PushBool false ∷ []) 1 (test_fine around x p.left_is f.0)
+      subst AllFine (and_code q k a x y)
+      (tested_fine (tested x) (code q k a x) j first (size y) (instr.PushBool false ∷ []) 1 (test_fine around x p.left_is f.0)
       (λ none. code_fine around k a x types.Bool p.left_is f.0 (λ e. let n = accs e in omega (arith, n)) (omega (arith, room, ap (λ v. unless_tested v (size x)) none)))
-      (code_fine around j (a + aggregates x) y types.Bool p.right_is f.1 (λ e. let n = accs e in omega (arith, n)) (omega (arith, room))) refl (omega (arith, room))
+      (code_fine around j (a + aggregates x) y types.Bool p.right_is f.1 (λ e. let n = accs e in omega (arith, n)) (omega (arith, room))) refl (omega (arith, room)))
   code_fine around k a (Or x y) t h l accs room =
       let p = logic_types q around x y t h in
       let f = and_parts (numbers_fit x) (numbers_fit y) l in
       let j = k + unless_tested (tested x) (size x) + 1 in
       let second = code q (j + 1 + 1) (a + aggregates x) y in
-      tested_fine (tested x) (code q k a x) j (instr.PushBool true ∷ []) 1 second (size y) (test_fine around x p.left_is f.0)
+      subst AllFine (or_code q k a x y)
+      (tested_fine (tested x) (code q k a x) j (instr.PushBool true ∷ []) 1 second (size y) (test_fine around x p.left_is f.0)
       (λ none. code_fine around k a x types.Bool p.left_is f.0 (λ e. let n = accs e in omega (arith, n)) (omega (arith, room, ap (λ v. unless_tested v (size x)) none)))
-      refl (code_fine around (j + 1 + 1) (a + aggregates x) y types.Bool p.right_is f.1 (λ e. let n = accs e in omega (arith, n)) (omega (arith, room))) (omega (arith, room))
+      refl (code_fine around (j + 1 + 1) (a + aggregates x) y types.Bool p.right_is f.1 (λ e. let n = accs e in omega (arith, n)) (omega (arith, room))) (omega (arith, room)))
 
   -- ---- sections
 
@@ -299,8 +254,9 @@ module _ (q : Query) (b : Costs) where
       let e = acc.operand in
       let p = and_parts (numbers_fit e) (operands_fit accs) l in
       let rest = folds q (k + size e + 1) (suc a) accs in
-      fine_both (code q k 0 e) (instr.Fold a ∷ rest) (code_fine InAggregate k 0 e (kind_type acc.kind) h.0 p.0 (λ e. no (ap in_column e)) (omega (arith, room)))
-      (and_from (is_instr head (instr.Fold a)) (list_all (is_instr head) rest) (lt-ltb a (length head.kinds) (omega (arith, n))) (folds_fine (k + size e + 1) (suc a) accs h.1 p.1 (omega (arith, n)) (omega (arith, room))))
+      subst AllFine (folds_next q k a acc accs)
+      (fine_both (code q k 0 e) (instr.Fold a ∷ rest) (code_fine InAggregate k 0 e (kind_type acc.kind) h.0 p.0 (λ e. no (ap in_column e)) (omega (arith, room)))
+      (and_from (is_instr head (instr.Fold a)) (list_all (is_instr head) rest) (lt-ltb a (length head.kinds) (omega (arith, n))) (folds_fine (k + size e + 1) (suc a) accs h.1 p.1 (omega (arith, n)) (omega (arith, room)))))
 
   abbrev pub columns_aggregates : List Expr → ℕ
   columns_aggregates [] = condition_aggregates q.having
@@ -308,8 +264,9 @@ module _ (q : Query) (b : Costs) where
 
   pub columns_fine : (k a : ℕ) (es : List Expr) → ColumnsTyped q es → ConditionTyped q InColumn q.having → list_all numbers_fit es ≡ true → condition_numbers q.having ≡ true → a + columns_aggregates es ≤ length head.kinds →
       k + columns_size q.having es < 65536 → AllFine (columns_code q k a es)
-  columns_fine k a [] h having l m n room = condition_fine InColumn k a q.having having m (λ e. n) (omega (arith, room))
+  columns_fine k a [] h having l m n room = subst AllFine (columns_end q k a) (condition_fine InColumn k a q.having having m (λ e. n) (omega (arith, room)))
   columns_fine k a (e ∷ es) h having l m n room =
       let p = and_parts (numbers_fit e) (list_all numbers_fit es) l in
-      fine_both (code q k a e) (columns_code q (k + size e) (a + aggregates e) es)
-      (code_fine InColumn k a e h.0.0 h.0.1 p.0 (λ c. omega (arith, n)) (omega (arith, room))) (columns_fine (k + size e) (a + aggregates e) es h.1 having p.1 m (omega (arith, n)) (omega (arith, room)))
+      subst AllFine (columns_next q k a e es)
+      (fine_both (code q k a e) (columns_code q (k + size e) (a + aggregates e) es)
+      (code_fine InColumn k a e h.0.0 h.0.1 p.0 (λ c. omega (arith, n)) (omega (arith, room))) (columns_fine (k + size e) (a + aggregates e) es h.1 having p.1 m (omega (arith, n)) (omega (arith, room))))

@@ -38,8 +38,9 @@ use Rattle.wsm_machine.proofs.FittingStacks.{no}
 use Rattle.wsm_machine.proofs.ReturnedStacks.{are_types-same}
 use Rattle.wsm_compiler.proofs.Parts.{none≢some}
 use Rattle.wsm_compiler.proofs.KnownFields.{in_column}
-use Rattle.wsm_compiler.proofs.Sizes.{some_columns_size}
-use Rattle.wsm_compiler.proofs.Conditions.{ConditionTyped, ColumnsTyped, in_condition, length-condition, length-columns}
+use Rattle.wsm_compiler.proofs.QueryTerms.{all_columns, columns_end, columns_next}
+use Rattle.wsm_compiler.proofs.Sizes.{length-condition, sizes_are_lengths, some_columns_size}
+use Rattle.wsm_compiler.proofs.Conditions.{ConditionTyped, ColumnsTyped, in_condition}
 use Rattle.wsm_compiler.proofs.Checked.{fine}
 use Rattle.wsm_compiler.proofs.FireFaults.{accs_are}
 use Rattle.wsm_compiler.proofs.Bounded.{bounded_is}
@@ -146,15 +147,14 @@ where_runs q checked spelt d fit =
     let s = on_record d.key d.values in
     let serves = serves_where q b d fit in
     let at = stands_all (where_section q) in
-    let l = length-append (condition_code q 0 0 q.condition) (instr.Return ∷ []) in
-    let m = length-condition q 0 0 q.condition in
+    let l = length-condition q 0 0 q.condition in
     let none : ServesAccs c InWhere s 0 (in_condition q.condition) = λ e. no (ap in_column e) in
     let folds : List (Option Value) = replicate (length c.kinds) None in
     let value = condition_value q s 0 q.condition in
     let k = 0 + condition_size q.condition in
     let returns = condition_stands c q InWhere s serves 0 0 q.condition (instr.Return ∷ []) at in
     comes_to c (state 0 [] folds) (topped k [] folds types.Bool value) (on_stack [] value)
-    (condition_gives c q InWhere s serves 0 0 q.condition (instr.Return ∷ []) (λ n. condition_numbers_of q spelt) f.condition none at (omega (arith, l, m)) [] folds (omega (arith, f.where_need)))
+    (condition_gives c q InWhere s serves 0 0 q.condition (instr.Return ∷ []) (λ n. condition_numbers_of q spelt) f.condition none at (omega (arith, l)) [] folds (omega (arith, f.where_need)))
     (none_topped k [] folds value)
     (topped_returns c k [] folds value (condition_has c q InWhere s serves 0 q.condition f.condition none) returns.0 (λ v h. ap (λ u. (is_type types.Bool u && true) && true) h))
 
@@ -181,9 +181,10 @@ module _ (q : Query) (b : Costs) (d : Inputs) where
       let serves = serves_fire q b d in
       let value = condition_value q s a q.having in
       let j = k + condition_size q.having in
-      let returns = condition_stands c q InColumn s serves k a q.having (instr.Return ∷ []) at in
+      let stands = subst (StandsAt c.code k) (sym (columns_end q k a)) at in
+      let returns = condition_stands c q InColumn s serves k a q.having (instr.Return ∷ []) stands in
       comes_to c (state k stack folds) (topped j stack folds types.Bool value) (on_stack stack value)
-      (condition_gives c q InColumn s serves k a q.having (instr.Return ∷ []) (λ n. absurd (n refl)) hh accs at (omega (arith, inside)) stack folds room)
+      (condition_gives c q InColumn s serves k a q.having (instr.Return ∷ []) (λ n. absurd (n refl)) hh accs stands (omega (arith, inside)) stack folds room)
       (none_topped j stack folds value)
       (topped_returns c j stack folds value (condition_has c q InColumn s serves a q.having hh accs) returns.0
       (λ v e. ap (λ x. x && true) (fire_result c (map (column_type q) q.columns) (cell types.Bool v) stack e (sym (nil_right (reverse (map type_of stack))) ∙ types'))))
@@ -194,7 +195,7 @@ module _ (q : Query) (b : Costs) (d : Inputs) where
       let whole : ServesAccs c InColumn s a (accumulators_of x ++ (flat_map accumulators_of es ++ in_condition q.having)) =
       subst (λ xs. ServesAccs c InColumn s a xs) (append_assoc (accumulators_of x) (flat_map accumulators_of es) (in_condition q.having)) accs in
       let here = serves_left c InColumn s a (accumulators_of x) (flat_map accumulators_of es ++ in_condition q.having) whole in
-      let parts = split_code q c.code k a x (columns_code q j (a + aggregates x) es) at in
+      let parts = split_code q c.code k a x (columns_code q j (a + aggregates x) es) (subst (StandsAt c.code k) (sym (columns_next q k a x es)) at) in
       let ty : type_or_int (typed q InColumn x) ≡ t = ap type_or_int h.0.1 in
       one_column (state k stack folds) j a x es stack folds t ty (in_bounds q s a x) (means_has c q InColumn s serves a x t h.0.1 here)
       (code_means c q InColumn s serves k a x (λ n. absurd (n refl)) t h.0.1 here parts.0 (omega (arith, inside, some_columns_size q.having es)) stack folds (first_room (length stack) (need x) _ room))
@@ -218,7 +219,7 @@ pub fire_runs : (q : Query) → FireRuns q
 fire_runs q checked d fit =
     let b = stated (needed_of q) q.budget in
     let f = fine q b checked in
-    let l = length-columns q 0 0 q.columns in
+    let l = (sizes_are_lengths q).2 in
     columns_run q b d 0 0 q.columns [] (replicate (length (setting (program_of q) Fire d).kinds) None) f.columns f.having
     (subst (λ accs. ServesAccs (setting (program_of q) Fire d) InColumn (on_accumulators d.key d.count d.accs) 0 accs) (accs_are q b) (serves_accs q b d fit))
-    (stands_all (fire_section q)) (omega (arith, l)) f.fire_need refl
+    (subst (StandsAt (fire_section q) 0) (sym (all_columns q)) (stands_all (fire_section q))) (omega (arith, l)) f.fire_need refl

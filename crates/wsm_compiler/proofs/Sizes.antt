@@ -1,12 +1,19 @@
 -- Lengths of code, and that no part of it is empty.
-use Rattle.std.proofs.Common.{◌≡◌, ℕ, ◌+◌, ◌<◌, true, false, List, [], ◌∷◌, ◌++◌, length, Option, Some, None, refl, arith, length-append}
+use Rattle.std.proofs.Common.{◌≡◌, ℕ, suc, ◌+◌, ◌<◌, true, false, List, [], ◌∷◌, ◌++◌, length, map, Option, Some, None, refl, sym, ap, ap₂, ◌∙◌, arith, length-append}
+use Rattle.std.specs.Prelude.{option_map}
 use Rattle.wsm_program.specs.declared.instr.Instr.{Instr}
-use Rattle.wsm_query.specs.Tree.{Query, Expr, Number, Truth, Field, EnumName, Key, KeyName, Count, Aggregate, If, Brackets, Minus, Not, Binary, And, Or}
-use Rattle.wsm_check.specs.Tested.{tested, unless_tested}
-use Rattle.wsm_check.specs.Sizes.{aggregates, size, need, condition_size, columns_size}
-use Rattle.wsm_compiler.specs.Code.{code, choice, instruction, test_code, jump_unless, test_of}
 use Rattle.wsm_program.specs.declared.instr.Instr.TheVariants as instr
 use Rattle.wsm_program.specs.declared.operation.Operation.TheVariants as operation
+use Rattle.wsm_query.specs.Tree as tree
+use Rattle.wsm_query.specs.Tree.{Query, Expr}
+use Rattle.wsm_check.specs.Tested.{unless_tested}
+use Rattle.wsm_check.specs.Sizes.{Acc, accumulators, size, need, condition_size, folds_size, columns_size}
+use Rattle.wsm_check.specs.Terms.{Term, Number, Truth, Field, Name, Key, Count, Accumulator, If, Minus, Not, Binary, And, Or, resolved}
+use Rattle.wsm_check.specs.Parts.{Folding, aggregates_of, folding, columns_from}
+use Rattle.wsm_compiler.specs.TermCode.{choice, instruction, test_code, jump_unless, term_test, term_size, term_code, ending_code, ending_size, foldings_code, foldings_size, firing_code, firing_size}
+use Rattle.wsm_compiler.specs.Code.{code, condition_code, folds, columns_code}
+use Rattle.wsm_compiler.specs.Sized.{SizesAreLengths}
+use Rattle.wsm_compiler.proofs.QueryTerms.{resolved_size, all_columns, ended_size, folded_size, fired_size}
 
 pub length-test_code : {A : Type 0} (o : Option A) (is : List Instr) (n : ℕ) → length is ≡ n → length (test_code o is) ≡ unless_tested o n
 length-test_code None is n h = h
@@ -15,86 +22,118 @@ length-test_code (Some t) is n h = refl
 pub length-choice : (jump : ℕ → Instr) (j : ℕ) (first : List Instr) (m : ℕ) (second : List Instr) (n : ℕ) → length (choice jump j first m second n) ≡ length first + length second + 2
 length-choice jump j first m second n = let l = length-append first (instr.Jump (j + m + 1 + n) ∷ second) in omega (arith, l)
 
--- the code of an expression has as many instructions as its size says
-pub length-code : (q : Query) (k a : ℕ) (e : Expr) → length (code q k a e) ≡ size e
-length-code q k a (If c x y) =
-    let j = k + unless_tested (tested c) (size c) + 1 in
-    let first = code q j (a + aggregates c) x in
-    let second = code q (j + size x + 1) (a + (aggregates c + aggregates x)) y in
-    let l = length-append (test_code (tested c) (code q k a c)) (choice (jump_unless (test_of q c)) j first (size x) second (size y)) in
-    let m = length-choice (jump_unless (test_of q c)) j first (size x) second (size y) in
-    omega (arith, l, m, length-test_code (tested c) (code q k a c) (size c) (length-code q k a c), length-code q j (a + aggregates c) x, length-code q (j + size x + 1) (a + (aggregates c + aggregates x)) y)
-length-code q k a (Brackets e) = length-code q k a e
-length-code q k a (Minus e) = let l = length-append (code q k a e) (instr.Operate operation.Neg ∷ []) in omega (arith, l, length-code q k a e)
-length-code q k a (Not e) = let l = length-append (code q k a e) (instr.Operate operation.Not ∷ []) in omega (arith, l, length-code q k a e)
-length-code q k a (Binary op x y) =
-    let b = a + aggregates x in
-    let right = code q (k + size x) b y in
-    let l = length-append (code q k a x) (right ++ instruction op ∷ []) in
+-- a test, and the choice behind it
+length-chosen : {A : Type 0} (o : Option A) (is : List Instr) (jump : ℕ → Instr) (j : ℕ) (first : List Instr) (m : ℕ) (second : List Instr) (n : ℕ) →
+    length (test_code o is ++ choice jump j first m second n) ≡ unless_tested o (length is) + (length first + length second) + 2
+length-chosen o is jump j first m second n =
+    let l = length-append (test_code o is) (choice jump j first m second n) in
+    omega (arith, l, length-test_code o is (length is) refl, length-choice jump j first m second n)
+
+-- a term has as many instructions as its size says
+pub length-term_code : (k : ℕ) (t : Term) → length (term_code k t) ≡ term_size t
+length-term_code k (If c x y) =
+    let j = k + unless_tested (term_test c) (term_size c) + 1 in
+    let end = j + term_size x + 1 in
+    length-chosen (term_test c) (term_code k c) (jump_unless (term_test c)) j (term_code j x) (term_size x) (term_code end y) (term_size y)
+    ∙ (λ i. unless_tested (term_test c) (length-term_code k c i) + (length-term_code j x i + length-term_code end y i) + 2)
+length-term_code k (Minus x) = length-append (term_code k x) (instr.Operate operation.Neg ∷ []) ∙ ap (λ n. n + 1) (length-term_code k x)
+length-term_code k (Not x) = length-append (term_code k x) (instr.Operate operation.Not ∷ []) ∙ ap (λ n. n + 1) (length-term_code k x)
+length-term_code k (Binary op x y) =
+    let right = term_code (k + term_size x) y in
+    let l = length-append (term_code k x) (right ++ instruction op ∷ []) in
     let m = length-append right (instruction op ∷ []) in
-    omega (arith, l, m, length-code q k a x, length-code q (k + size x) b y)
-length-code q k a (And x y) =
-    let j = k + unless_tested (tested x) (size x) + 1 in
-    let first = code q j (a + aggregates x) y in
-    let l = length-append (test_code (tested x) (code q k a x)) (choice (jump_unless (test_of q x)) j first (size y) (instr.PushBool false ∷ []) 1) in
-    let m = length-choice (jump_unless (test_of q x)) j first (size y) (instr.PushBool false ∷ []) 1 in
-    omega (arith, l, m, length-test_code (tested x) (code q k a x) (size x) (length-code q k a x), length-code q j (a + aggregates x) y)
-length-code q k a (Or x y) =
-    let j = k + unless_tested (tested x) (size x) + 1 in
-    let second = code q (j + 1 + 1) (a + aggregates x) y in
-    let l = length-append (test_code (tested x) (code q k a x)) (choice (jump_unless (test_of q x)) j (instr.PushBool true ∷ []) 1 second (size y)) in
-    let m = length-choice (jump_unless (test_of q x)) j (instr.PushBool true ∷ []) 1 second (size y) in
-    omega (arith, l, m, length-test_code (tested x) (code q k a x) (size x) (length-code q k a x), length-code q (j + 1 + 1) (a + aggregates x) y)
-length-code q k a (Number n) = refl
-length-code q k a (Truth b) = refl
-length-code q k a (Field x) = refl
-length-code q k a (EnumName x y) = refl
-length-code q k a Key = refl
-length-code q k a (KeyName x) = refl
-length-code q k a Count = refl
-length-code q k a (Aggregate kind e) = refl
+    omega (arith, l, m, length-term_code k x, length-term_code (k + term_size x) y)
+length-term_code k (And x y) =
+    let j = k + unless_tested (term_test x) (term_size x) + 1 in
+    let l = length-chosen (term_test x) (term_code k x) (jump_unless (term_test x)) j (term_code j y) (term_size y) (instr.PushBool false ∷ []) 1 in
+    omega (arith, l, ap (unless_tested (term_test x)) (length-term_code k x), length-term_code j y)
+length-term_code k (Or x y) =
+    let j = k + unless_tested (term_test x) (term_size x) + 1 in
+    let l = length-chosen (term_test x) (term_code k x) (jump_unless (term_test x)) j (instr.PushBool true ∷ []) 1 (term_code (j + 1 + 1) y) (term_size y) in
+    omega (arith, l, ap (unless_tested (term_test x)) (length-term_code k x), length-term_code (j + 1 + 1) y)
+length-term_code k (Number n) = refl
+length-term_code k (Truth b) = refl
+length-term_code k (Field f) = refl
+length-term_code k (Name e i) = refl
+length-term_code k Key = refl
+length-term_code k Count = refl
+length-term_code k (Accumulator a) = refl
+
+-- and so has an expression
+pub length-code : (q : Query) (k a : ℕ) (e : Expr) → length (code q k a e) ≡ size e
+length-code q k a e = length-term_code k (resolved q a e) ∙ resolved_size q a e
+
+-- ---- sections
+
+length-ending : (k : ℕ) (o : Option Term) → length (ending_code k o) ≡ ending_size o
+length-ending k None = refl
+length-ending k (Some t) = length-append (term_code k t) (instr.Return ∷ []) ∙ ap (λ n. n + 1) (length-term_code k t)
+
+length-foldings : (k a : ℕ) (fs : List Folding) → length (foldings_code k a fs) ≡ foldings_size fs
+length-foldings k a [] = refl
+length-foldings k a (f ∷ fs) =
+    let l = length-append (term_code k f.operand) (instr.Fold a ∷ foldings_code (k + term_size f.operand + 1) (suc a) fs) in
+    omega (arith, l, length-term_code k f.operand, length-foldings (k + term_size f.operand + 1) (suc a) fs)
+
+length-firing : (k : ℕ) (having : Option Term) (ts : List Term) → length (firing_code k having ts) ≡ firing_size having ts
+length-firing k having [] = length-ending k having
+length-firing k having (t ∷ ts) =
+    length-append (term_code k t) (firing_code (k + term_size t) having ts) ∙ ap₂ (λ m n. m + n) (length-term_code k t) (length-firing (k + term_size t) having ts)
+
+pub length-condition : (q : Query) (k a : ℕ) (o : Option Expr) → length (condition_code q k a o ++ instr.Return ∷ []) ≡ condition_size o + 1
+length-condition q k a o = length-ending k (option_map (resolved q a) o) ∙ ended_size q a o
+
+pub length-folds : (q : Query) (k a : ℕ) (accs : List Acc) → length (folds q k a accs) ≡ folds_size accs
+length-folds q k a accs = length-foldings k a (map (folding q) accs) ∙ folded_size q accs
+
+pub length-columns : (q : Query) (k a : ℕ) (es : List Expr) → length (columns_code q k a es) ≡ columns_size q.having es
+length-columns q k a es = length-firing k _ (columns_from q a es) ∙ fired_size q (a + aggregates_of es) a es
+
+pub sizes_are_lengths : (q : Query) → SizesAreLengths q
+sizes_are_lengths q = (length-condition q 0 0 q.condition, length-folds q 0 0 (accumulators q), ap length (sym (all_columns q)) ∙ length-columns q 0 0 q.columns)
+
+-- ---- nothing is empty
+
+not_empty : (e : Expr) → (0 < size e) × (0 < need e)
+not_empty (tree.Brackets e) = not_empty e
+not_empty (tree.Minus e) = (omega arith, (not_empty e).1)
+not_empty (tree.Not e) = (omega arith, (not_empty e).1)
+not_empty (tree.If c x y) = let h = not_empty x in (omega arith, omega (arith, h.1))
+not_empty (tree.Binary op x y) = (omega arith, omega arith)
+not_empty (tree.And x y) = let h = not_empty y in (omega arith, omega (arith, h.1))
+not_empty (tree.Or x y) = let h = not_empty y in (omega arith, omega (arith, h.1))
+not_empty (tree.Number n) = (omega arith, omega arith)
+not_empty (tree.Truth b) = (omega arith, omega arith)
+not_empty (tree.Field x) = (omega arith, omega arith)
+not_empty (tree.EnumName x y) = (omega arith, omega arith)
+not_empty tree.Key = (omega arith, omega arith)
+not_empty (tree.KeyName x) = (omega arith, omega arith)
+not_empty tree.Count = (omega arith, omega arith)
+not_empty (tree.Aggregate kind e) = (omega arith, omega arith)
 
 pub some_size : (e : Expr) → 0 < size e
-some_size (Brackets e) = some_size e
-some_size (If c x y) = omega arith
-some_size (Minus e) = omega arith
-some_size (Not e) = omega arith
-some_size (Binary op x y) = omega arith
-some_size (And x y) = omega arith
-some_size (Or x y) = omega arith
-some_size (Number n) = omega arith
-some_size (Truth b) = omega arith
-some_size (Field x) = omega arith
-some_size (EnumName x y) = omega arith
-some_size Key = omega arith
-some_size (KeyName x) = omega arith
-some_size Count = omega arith
-some_size (Aggregate kind e) = omega arith
+some_size e = (not_empty e).0
 
-pub some_condition_size : (o : Option Expr) → 0 < condition_size o
+pub some_need : (e : Expr) → 0 < need e
+some_need e = (not_empty e).1
+
+some_condition_size : (o : Option Expr) → 0 < condition_size o
 some_condition_size None = omega arith
 some_condition_size (Some x) = some_size x
+
+pub some_folds_size : (accs : List Acc) → 0 < folds_size accs
+some_folds_size [] = omega arith
+some_folds_size (acc ∷ accs) = omega arith
 
 pub some_columns_size : (o : Option Expr) (es : List Expr) → 0 < columns_size o es
 some_columns_size o [] = omega (arith, some_condition_size o)
 some_columns_size o (x ∷ es) = omega (arith, some_size x)
 
-pub some_need : (e : Expr) → 0 < need e
-some_need (Brackets e) = some_need e
-some_need (Minus e) = some_need e
-some_need (Not e) = some_need e
-some_need (If c x y) = omega (arith, some_need x)
-some_need (Binary op x y) = omega arith
-some_need (And x y) = omega (arith, some_need y)
-some_need (Or x y) = omega (arith, some_need y)
-some_need (Number n) = omega arith
-some_need (Truth b) = omega arith
-some_need (Field x) = omega arith
-some_need (EnumName x y) = omega arith
-some_need Key = omega arith
-some_need (KeyName x) = omega arith
-some_need Count = omega arith
-some_need (Aggregate kind e) = omega arith
-
 pub some_code : (q : Query) (k a : ℕ) (e : Expr) → 0 < length (code q k a e)
 some_code q k a e = omega (arith, length-code q k a e, some_size e)
+
+pub some_folds : (q : Query) (k a : ℕ) (accs : List Acc) → 0 < length (folds q k a accs)
+some_folds q k a accs = omega (arith, length-folds q k a accs, some_folds_size accs)
+
+pub some_columns : (q : Query) (k a : ℕ) (es : List Expr) → 0 < length (columns_code q k a es)
+some_columns q k a es = omega (arith, length-columns q k a es, some_columns_size q.having es)

@@ -1,6 +1,6 @@
 -- FIRE of an accepted query ends on each pane in range, on what UPDATE's values of its records are folded to; so its row is what the
 -- query's columns and HAVING mean there.
-use Rattle.std.proofs.Common.{◌≡◌, ℕ, suc, ◌+◌, ◌≤◌, ◌<◌, true, ◌&&◌, cond, List, [], ◌∷◌, ◌++◌, length, map, reverse, Option, Some, None, refl, sym, ap, ◌∙◌, arith, append_assoc}
+use Rattle.std.proofs.Common.{◌≡◌, ℕ, suc, ◌+◌, ◌≤◌, ◌<◌, true, ◌&&◌, cond, List, [], ◌∷◌, ◌++◌, length, map, reverse, Option, Some, None, refl, sym, ap, subst, ◌∙◌, arith, append_assoc}
 use Rattle.std.proofs.lemmas.List.{reverse-append}
 use Rattle.std.specs.Option.{option_and_then}
 use Rattle.std.specs.Prelude.{pos, nat_lt, option_map}
@@ -10,7 +10,7 @@ use Rattle.wsm_record.specs.declared.event.Value.{Value}
 use Rattle.wsm_record.specs.Schema.{fit_fields, is_i64}
 use Rattle.wsm_interval.specs.Interval.{interval, holds}
 use Rattle.wsm_fold.specs.Laws.{joined_to}
-use Rattle.wsm_fold.specs.Fold.{joins, folds_of}
+use Rattle.wsm_fold.specs.Fold.{are_of_kinds, joins, folds_of}
 use Rattle.wsm_program.specs.declared.instr.SectionId.TheVariants.{Fire}
 use Rattle.wsm_program.specs.Program.{Program}
 use Rattle.wsm_rules.specs.Rules.{judge}
@@ -39,6 +39,7 @@ use Rattle.wsm_compiler.proofs.Visits.{nil_right}
 use Rattle.wsm_machine.proofs.AccumulatorRanges.{accs_types}
 use Rattle.wsm_compiler.proofs.Parts.{none≢some}
 use Rattle.wsm_compiler.proofs.Aggregated.{free, fire_means}
+use Rattle.wsm_compiler.proofs.QueryTerms.{kinds_are}
 use Rattle.wsm_compiler.proofs.ColumnFolds.{folds_hold}
 use Rattle.wsm_compiler.proofs.Total.{costs_of, ends, left, has_value, in_bounds_is, condition_has, says, selects_same, updated_is, updated_in}
 
@@ -168,7 +169,7 @@ module _ (q : Query) (a : IsAccepted q) (key : ℕ) where
     fit : pane_fits q d ≡ true
     fit =
         let b = and_parts (nat_lt key (length q.keys)) (holds (interval (pos 1) q.records) (pos (length records)) && accs_in p 0 p.header.kinds held) ranged in
-        accs_types p 0 p.header.kinds held (and_parts (holds (interval (pos 1) q.records) (pos (length records))) (accs_in p 0 p.header.kinds held) b.1).1
+        subst (λ ks. are_of_kinds ks held ≡ true) (kinds_are q (accumulators q)) (accs_types p 0 p.header.kinds held (and_parts (holds (interval (pos 1) q.records) (pos (length records))) (accs_in p 0 p.header.kinds held) b.1).1)
 
     abbrev ran : Ran
     ran = fire_run p key (length records) held
@@ -177,7 +178,7 @@ module _ (q : Query) (a : IsAccepted q) (key : ℕ) where
     result =
         fired_is q key records 0 q.columns [] ran.stack
         (left ran (fired_stack q (on_records q key records) 0 q.columns []) (ends q a Fire d ranged)
-        (fire_means q a.checked d fit records refl (folds_hold q key records (rows records) held (updates records h.each) held_is)))
+        (fire_means q a.checked d fit records refl (folds_hold q key records (rows records) held (updates records h.each) (ap (λ ks. folds_of ks (rows records)) (sym (kinds_are q (accumulators q))) ∙ held_is))))
 
     pub all_total : AllByRecursion (HasValue q (on_records q key records)) (fired q)
     all_total = fired_total q key records q.columns q.having result.columns (condition_has q (on_records q key records) q.having result.top result.top_is).0
@@ -207,7 +208,7 @@ module _ (q : Query) (a : IsAccepted q) (key : ℕ) where
   datums_row ds same h = (λ i. option_and_then (program.row p key (length-values ds i)) (folds_of p.header.kinds (rows_are ds same i))) ∙ row_is (map (λ d. d.values) ds) h
 
 pub updates_hold : (q : Query) → UpdatesHold q
-updates_hold q a key records held h is = folds_hold q key records (rows q a key records) held (updates q a key records h) is
+updates_hold q a key records held h is = folds_hold q key records (rows q a key records) held (updates q a key records h) (ap (λ ks. folds_of ks (rows q a key records)) (sym (kinds_are q (accumulators q))) ∙ is)
 
 pub total_on_panes : (q : Query) → TotalOnPanes q
 total_on_panes q a key records h = all_total q a key records h

@@ -26,7 +26,8 @@ use Rattle.wsm_compiler.specs.Program.{program_stating}
 use Rattle.wsm_machine.proofs.FittingStacks.{no}
 use Rattle.wsm_compiler.proofs.Parts.{none≢some, Labelled, one}
 use Rattle.wsm_compiler.proofs.Tests.{tested, not_last, with_known}
-use Rattle.wsm_compiler.proofs.Sizes.{length-code, some_code}
+use Rattle.wsm_compiler.proofs.QueryTerms.{kinds_of, folds_next}
+use Rattle.wsm_compiler.proofs.Sizes.{length-code, length-folds, some_code, some_folds, some_folds_size}
 use Rattle.wsm_compiler.proofs.Found.{found}
 use Rattle.wsm_compiler.proofs.FoundRanges.{suits, known_of}
 use Rattle.wsm_compiler.proofs.ExpressionRanges.{AccsIn, range_suits, found_here}
@@ -136,14 +137,6 @@ module _ (q : Query) (b : Costs) where
   pub no_accs : (a : ℕ) (accs : List Acc) → AccsIn updating q InAggregate a accs
   no_accs a accs h = no (ap in_column h)
 
-  pub some_folds : (k a : ℕ) (accs : List Acc) → 0 < length (folds q k a accs)
-  some_folds k a [] = omega arith
-  some_folds k a (acc ∷ accs) = let l = length-append (code q k 0 acc.operand) (Fold a ∷ folds q (k + size acc.operand + 1) (suc a) accs) in omega (arith, l)
-
-  pub some_folds_size : (accs : List Acc) → 0 < folds_size accs
-  some_folds_size [] = omega arith
-  some_folds_size (acc ∷ accs) = omega arith
-
   pub folds_ends : (e : State) (k a : ℕ) (accs : List Acc) → AccsTyped accs → KindsAt a accs → need_of_folds accs ≤ 32 → k + folds_size accs ≤ updating.n →
       Ends e updating k (folds q k a accs) (folded_so q a (length accs)) (not (accs_fit accs))
   folds_ends e k a [] h kinds room more = return_ends e updating k (folded_so q a 0) refl (ap not (all_set a)) (omega arith)
@@ -158,32 +151,27 @@ module _ (q : Query) (b : Costs) where
       let behind : Ends e updating (j + 1) rest (behind_fold a s) (not w) =
       subst (λ fs. Ends e updating (j + 1) rest (record { stack = []; folded = fs; fields = known_fields 0 q.fields }) (not w)) (sym (set_next a n))
       (folds_ends e (j + 1) (suc a) accs h.1 kinds.1 (rest_room (need x) _ room) (omega (arith, more))) in
-      subst (λ v. Ends e updating k (code q k 0 x ++ Fold a ∷ rest) s v)
+      subst (λ js. Ends e updating k js s (not (accs_fit (acc ∷ accs)))) (folds_next q k a acc accs)
+      (subst (λ v. Ends e updating k (code q k 0 x ++ Fold a ∷ rest) s v)
       (ap (λ o. or_behind o goal) (found_here updating q InAggregate (reads_update q b) s.fields refl 0 x (kind_type acc.kind) h.0 (no_accs 0 (accumulators_of x))) ∙ fold_fits acc.kind (range q x) (behind_fold a s) w (range_suits updating q InAggregate x (kind_type acc.kind) h.0))
       (follow_ends e updating k (size x) (code q k 0 x) (Fold a ∷ rest) s (found updating q s.fields 0 x) goal (length-code q k 0 x) (some_code q k 0 x) (omega arith)
       (labelled e updating q InAggregate (reads_update q b) k 0 x (kind_type acc.kind) s refl h.0 (no_accs 0 (accumulators_of x)) (sole_room (need x) _ room) (omega (arith, more, some_folds_size accs)))
-      (λ z ez. sequence_ends e updating j (Fold a ∷ []) rest (with_known z s) (if_takes (takes q.records acc.kind z) (behind_fold a s)) (λ t. not w) (omega arith) (some_folds (j + 1) (suc a) accs)
+      (λ z ez. sequence_ends e updating j (Fold a ∷ []) rest (with_known z s) (if_takes (takes q.records acc.kind z) (behind_fold a s)) (λ t. not w) (omega arith) (some_folds q (j + 1) (suc a) accs)
       (fold_one e j a z s acc.kind kinds.0 (unset a n) (omega arith) (omega (arith, more, some_folds_size accs)))
-      (λ t ht. subst (λ u. Ends e updating (j + 1) rest u (not w)) (same_Some (behind_fold a s) t (taken_is (takes q.records acc.kind z) (behind_fold a s) t ht)) behind)))
+      (λ t ht. subst (λ u. Ends e updating (j + 1) rest u (not w)) (same_Some (behind_fold a s) t (taken_is (takes q.records acc.kind z) (behind_fold a s) t ht)) behind))))
 
-  pub length-folds : (k a : ℕ) (accs : List Acc) → length (folds q k a accs) ≡ folds_size accs
-  length-folds k a [] = refl
-  length-folds k a (acc ∷ accs) =
-      let l = length-append (code q k 0 acc.operand) (Fold a ∷ folds q (k + size acc.operand + 1) (suc a) accs) in
-      omega (arith, l, length-code q k 0 acc.operand, length-folds (k + size acc.operand + 1) (suc a) accs)
-
-  entry_flags : (accs : List Acc) → map (λ k. false) (map (λ acc. acc.kind) accs) ≡ replicate (length accs) false
+  entry_flags : (accs : List Acc) → map (λ k. false) (kinds_of q accs) ≡ replicate (length accs) false
   entry_flags [] = refl
   entry_flags (acc ∷ accs) = ap (λ fs. false ∷ fs) (entry_flags accs)
 
   pub entry_is : folded_so q 0 (length (accumulators q)) ≡ entry (program_stating q b)
   entry_is = ap (λ fs. record { stack = []; folded = fs; fields = known_fields 0 q.fields }) (sym (entry_flags (accumulators q)))
 
-  kinds_from : (before accs : List Acc) → (j : ℕ) → kind_of (map (λ acc. acc.kind) (before ++ accs)) (length before + j) ≡ kind_of (map (λ acc. acc.kind) accs) j
-  kinds_from [] accs j = let e : 0 + j ≡ j = omega arith in ap (kind_of (map (λ acc. acc.kind) accs)) e
+  kinds_from : (before accs : List Acc) → (j : ℕ) → kind_of (kinds_of q (before ++ accs)) (length before + j) ≡ kind_of (kinds_of q accs) j
+  kinds_from [] accs j = let e : 0 + j ≡ j = omega arith in ap (kind_of (kinds_of q accs)) e
   kinds_from (acc ∷ before) accs j =
       let e : suc (length before) + j ≡ suc (length before + j) = omega arith in
-      ap (kind_of (map (λ acc. acc.kind) (acc ∷ (before ++ accs)))) e ∙ kinds_from before accs j
+      ap (kind_of (kinds_of q (acc ∷ (before ++ accs)))) e ∙ kinds_from before accs j
 
   kinds_at : (before accs : List Acc) → before ++ accs ≡ accumulators q → KindsAt (length before) accs
   kinds_at before [] e = tt
@@ -191,7 +179,7 @@ module _ (q : Query) (b : Costs) where
       let here : length before + 0 ≡ length before = omega arith in
       let l = length-append before (acc ∷ []) in
       let next : length (before ++ acc ∷ []) ≡ suc (length before) = omega (arith, l) in (
-        ap (λ xs. kind_of (map (λ acc. acc.kind) xs) (length before)) (sym e) ∙ ap (kind_of (map (λ acc. acc.kind) (before ++ acc ∷ accs))) (sym here) ∙ kinds_from before (acc ∷ accs) 0,
+        ap (λ xs. kind_of (kinds_of q xs) (length before)) (sym e) ∙ ap (kind_of (kinds_of q (before ++ acc ∷ accs))) (sym here) ∙ kinds_from before (acc ∷ accs) 0,
         subst (λ n. KindsAt n accs) next (kinds_at (before ++ acc ∷ []) accs (groups before (acc ∷ []) accs ∙ e)),
       )
     where
@@ -206,6 +194,6 @@ module _ (q : Query) (b : Costs) where
   pub update_faults : AccsTyped (accumulators q) → need_of_folds (accumulators q) ≤ 32 → is_some (fault_in (program_stating q b) Update (ranges_of_record (program_stating q b))) ≡ not (accs_fit (accumulators q))
   update_faults h room =
       let e = entry (program_stating q b) in
-      let l = length-folds 0 0 (accumulators q) in
-      whole_section (program_stating q b) Update (ranges_of_record (program_stating q b)) (not (accs_fit (accumulators q))) (some_folds 0 0 (accumulators q))
+      let l = length-folds q 0 0 (accumulators q) in
+      whole_section (program_stating q b) Update (ranges_of_record (program_stating q b)) (not (accs_fit (accumulators q))) (some_folds q 0 0 (accumulators q))
       (subst (λ s. Ends e updating 0 (update_section q) s (not (accs_fit (accumulators q)))) entry_is (folds_ends e 0 0 (accumulators q) h all_kinds room (omega (arith, l))))

@@ -35,7 +35,9 @@ use Rattle.wsm_compiler.proofs.Visits.{nil_right}
 use Rattle.wsm_machine.proofs.FittingStacks.{no}
 use Rattle.wsm_compiler.proofs.KnownFields.{in_column}
 use Rattle.wsm_compiler.proofs.Checked.{fine}
-use Rattle.wsm_compiler.proofs.UpdateFaults.{AccsTyped, length-folds, some_folds_size}
+use Rattle.wsm_compiler.proofs.UpdateFaults.{AccsTyped}
+use Rattle.wsm_compiler.proofs.QueryTerms.{kinds_of, kinds_are, folds_next}
+use Rattle.wsm_compiler.proofs.Sizes.{length-folds, some_folds_size}
 use Rattle.wsm_compiler.proofs.Machine.{run_goes, gives_on}
 use Rattle.wsm_compiler.proofs.ExpressionRuns.{split_code}
 use Rattle.wsm_compiler.proofs.InputMeanings.{serves_update}
@@ -61,9 +63,9 @@ all_folded : (vs : List Value) → list_all is_some (map (λ (v : Value). Some v
 all_folded [] = refl
 all_folded (v ∷ vs) = all_folded vs
 
-kind_at : (before accs : List Acc) (acc : Acc) → slice_get (map (λ acc. acc.kind) (before ++ acc ∷ accs)) (length before) ≡ Some acc.kind
-kind_at [] accs acc = refl
-kind_at (x ∷ before) accs acc = kind_at before accs acc
+kind_at : (q : Query) (before accs : List Acc) (acc : Acc) → slice_get (kinds_of q (before ++ acc ∷ accs)) (length before) ≡ Some acc.kind
+kind_at q [] accs acc = refl
+kind_at q (x ∷ before) accs acc = kind_at q before accs acc
 
 folds_type : (kind : Kind) (v : Value) → of_ty (kind_type kind) (Some v) ≡ true → is_type (kind_type kind) (type_of (cell (kind_type kind) v)) ≡ true
 folds_type Sum (Int n) h = refl
@@ -154,15 +156,15 @@ module _ (q : Query) (b : Costs) (d : Inputs) (fit : record_fits q d ≡ true) w
       let t = kind_type acc.kind in
       let a = length before in
       let j = k + size y in
-      let parts = split_code q c.code k 0 y (instr.Fold a ∷ folds q (j + 1) (suc a) accs) at in
+      let parts = split_code q c.code k 0 y (instr.Fold a ∷ folds q (j + 1) (suc a) accs) (subst (StandsAt c.code k) (sym (folds_next q k a acc accs)) at) in
       let serves = serves_update q b d fit in
       let la = length-append before (acc ∷ []) in
       let count : length (before ++ acc ∷ []) ≡ suc a = omega (arith, la) in
       by_value k j vs (length accs) acc (folded_values q s accs) (in_bounds q s 0 y) (means_has c q InAggregate s serves 0 y t h.0 (none_inside (accumulators_of y)))
-      (code_means c q InAggregate s serves k 0 y (λ n. numbers.0) t h.0 (none_inside (accumulators_of y)) parts.0 (omega (arith, inside, some_folds_size q b accs)) [] (held vs (suc (length accs))) (sole_room (need y) _ room))
+      (code_means c q InAggregate s serves k 0 y (λ n. numbers.0) t h.0 (none_inside (accumulators_of y)) parts.0 (omega (arith, inside, some_folds_size accs)) [] (held vs (suc (length accs))) (sole_room (need y) _ room))
       (λ v has.
       let lv = length-append vs (v ∷ []) in (
-        fold_step j vs (length accs) a acc.kind v l has parts.1.0 (ap (λ xs. slice_get (map (λ acc. acc.kind) xs) a) (sym e) ∙ kind_at before accs acc),
+        fold_step j vs (length accs) a acc.kind v l has parts.1.0 (ap (λ xs. slice_get (kinds_of q xs) a) (sym e) ∙ kind_at q before accs acc),
         folds_run (j + 1) (before ++ acc ∷ []) accs (vs ++ v ∷ []) (append_assoc before (acc ∷ []) accs ∙ e) (omega (arith, lv, count, l)) h.1 numbers.1 (subst (λ n. StandsAt c.code (j + 1) (folds q (j + 1) n accs)) (sym count) parts.1.1) (omega (arith, inside)) (rest_room (need y) _ room),
       ))
     where
@@ -184,9 +186,9 @@ update_runs q checked spelt d fit =
     let b = stated (needed_of q) q.budget in
     let f = fine q b checked in
     let c = setting (program_of q) Update d in
-    let l = length-folds q b 0 0 (accumulators q) in
+    let l = length-folds q 0 0 (accumulators q) in
     let none : List (Option Value) = replicate (length (accumulators q)) None in
-    let same : replicate (length c.kinds) None ≡ none = ap (λ n. replicate n None) (length-map (accumulators q) (λ (acc : Acc). acc.kind)) in
+    let same : replicate (length c.kinds) None ≡ none = ap (λ n. replicate n None) (ap length (kinds_are q (accumulators q)) ∙ length-map (accumulators q) (λ (acc : Acc). acc.kind)) in
     subst (λ fs. Folds (run_at c (state 0 [] fs)) (folded_values q (on_record d.key d.values) (accumulators q))) (sym same)
     (subst (λ o. Folds (run_at c (state 0 [] none)) o) (with_none (folded_values q (on_record d.key d.values) (accumulators q)))
     (folds_run q b d fit 0 [] (accumulators q) [] refl refl f.accs (operands_numbers_of q spelt) (stands_all (update_section q)) (omega (arith, l)) f.update_need))

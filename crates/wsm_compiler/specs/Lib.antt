@@ -1,10 +1,9 @@
 pub mod Meaning
 pub mod Ranges
-pub mod Code
 pub mod TermCode
+pub mod Code
 pub mod Bounded
 pub mod Program
-pub mod Assembled
 pub mod Means
 pub mod Runs
 pub mod Sections

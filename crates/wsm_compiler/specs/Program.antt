@@ -1,43 +1,49 @@
--- The program of a query.
+-- The program of a query: that of what a checked query has.
 use Rattle.std.specs.Prelude.{map, ℤ, pos, unsigned_abs, Option, Some, None}
 use Rattle.wsm_record.specs.Schema.{source_count}
 use Rattle.wsm_admission.specs.declared.clock.Clock.{Clock}
 use Rattle.wsm_admission.specs.Clock.{late_by}
 use Rattle.wsm_program.specs.declared.program.Costs.{Costs}
-use Rattle.wsm_program.specs.Program.{Program}
+use Rattle.wsm_program.specs.Program.{Header, Program}
 use Rattle.wsm_rules.specs.Costs.{needed}
 use Rattle.wsm_query.specs.Tree.{Query, Budget}
-use Rattle.wsm_check.specs.Parts.{column_type, schema_of}
-use Rattle.wsm_check.specs.Sizes.{accumulators}
-use Rattle.wsm_compiler.specs.Code.{where_section, update_section, fire_section}
+use Rattle.wsm_check.specs.Parts.{Parts, parts_of}
+use Rattle.wsm_compiler.specs.TermCode.{ending_code, foldings_code, firing_code}
 
 -- the numbers of the clock, and how many sources it has: one where none are declared
-abbrev pub clock_of : Query → Clock
-clock_of q = record { start = q.start; skew = q.skew; lateness = q.lateness; late = late_by q.from_window q.shape; records = q.records; sources = source_count (schema_of q) }
+abbrev pub clock_of : Parts → Clock
+clock_of p = record { start = p.start; skew = p.skew; lateness = p.lateness; late = late_by p.from_window p.shape; records = p.records; sources = source_count p.schema }
 
 -- 0 where there is no count
 abbrev pub every : Option ℤ → ℤ
 every None = pos 0
 every (Some n) = n
 
-abbrev pub program_stating : Query → Costs → Program
-program_stating q stated = record {
-  header = record {
-    schema = schema_of q;
-    clock = clock_of q;
-    shape = q.shape;
-    mode = q.mode;
-    early = every q.early;
-    late = every q.late;
-    form = q.form;
-    kinds = map (λ acc. acc.kind) (accumulators q);
-    columns = map (column_type q) q.columns;
-    budget = stated;
-  };
-  selection = where_section q;
-  update = update_section q;
-  fire = fire_section q;
+abbrev pub header_stating : Parts → Costs → Header
+header_stating p stated = record {
+  schema = p.schema;
+  clock = clock_of p;
+  shape = p.shape;
+  mode = p.mode;
+  early = every p.early;
+  late = every p.late;
+  form = p.form;
+  kinds = map (λ f. f.kind) p.foldings;
+  columns = p.types;
+  budget = stated;
 }
+
+-- the program of what a checked query has, which states given numbers
+abbrev pub assembled : Parts → Costs → Program
+assembled p stated = record {
+  header = header_stating p stated;
+  selection = ending_code 0 p.condition;
+  update = foldings_code 0 0 p.foldings;
+  fire = firing_code 0 p.having p.columns;
+}
+
+abbrev pub program_stating : Query → Costs → Program
+program_stating q stated = assembled (parts_of q) stated
 
 -- what the program needs, whatever it states
 abbrev pub needed_of : Query → Costs

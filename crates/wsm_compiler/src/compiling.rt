@@ -8,9 +8,8 @@ ghost use Rattle.wsm_check.specs.Seen.{seen_parts};
 ghost use Rattle.wsm_program.specs.Program.{is_budget};
 ghost use Rattle.wsm_program.specs.declared.program.Costs.{Costs};
 ghost use Rattle.wsm_rules.specs.Costs.{needed};
-ghost use Rattle.wsm_compiler.specs.Assembled.{assembled};
 ghost use Rattle.wsm_compiler.specs.Program as spec;
-ghost use Rattle.wsm_compiler.specs.Program.{program_of};
+ghost use Rattle.wsm_compiler.specs.Program.{assembled, program_of};
 
 use crate::headers::header;
 use crate::sections::{fire, selection, update};

@@ -4,7 +4,7 @@ ghost use Rattle.std.specs.Prelude.{◌≡◌, map, IfOk};
 ghost use Rattle.wsm_program.specs.View.{header_of};
 ghost use Rattle.wsm_check.specs.Seen.{seen_folding, seen_parts};
 ghost use Rattle.wsm_compiler.specs.Program as spec;
-ghost use Rattle.wsm_compiler.specs.Assembled.{assembled_clock, assembled_header};
+ghost use Rattle.wsm_compiler.specs.Program.{clock_of, header_stating};
 
 use std::alloc::{AllocError, Global};
 use wsm_admission::{Clock, LateBy};
@@ -14,7 +14,7 @@ use wsm_record::Kind;
 
 /// The header of a program that states a budget.
 pub fn header(alloc: Global, parts: Parts, budget: Costs) -> Result<Header, AllocError>
-    ensures { IfOk result (λ header. header_of header ≡ assembled_header (seen_parts parts) budget) }
+    ensures { IfOk result (λ header. header_of header ≡ header_stating (seen_parts parts) budget) }
 {
     let clock = clock(&parts);
     let kinds = kinds(alloc, &parts.foldings)?;
@@ -34,7 +34,7 @@ pub fn header(alloc: Global, parts: Parts, budget: Costs) -> Result<Header, Allo
 
 // The numbers of the clock, from when on a record is late, and how many sources watermarks have.
 fn clock(parts: &Parts) -> Clock
-    ensures { result ≡ assembled_clock (seen_parts parts.now) }
+    ensures { result ≡ clock_of (seen_parts parts.now) }
 {
     Clock {
         start: parts.start,

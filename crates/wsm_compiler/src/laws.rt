@@ -4,6 +4,7 @@
 ghost use Rattle.std.specs.Prelude.{ℕ, List};
 ghost use Rattle.wsm_record.specs.declared.event.Value.{Value};
 ghost use Rattle.wsm_query.specs.Tree.{Query, Expr};
+ghost use Rattle.wsm_check.specs.Terms.{Term};
 ghost use Rattle.wsm_compiler.specs.Accepted.{AcceptedExactly, AcceptedWithoutBudget, FaultlessExactly};
 ghost use Rattle.wsm_compiler.specs.Folded.{FireMeans, FoldsHold, MeansTheSame};
 ghost use Rattle.wsm_compiler.specs.Labelled.{LabelsAreRanges};
@@ -28,11 +29,11 @@ pub fn labels_are_ranges()
     ensures { (q : Query) → LabelsAreRanges q }
 {}
 
-/// What the program needs is found by the structure of the query; tests that jumps make are no
-/// longer than others.
+/// What the program needs is found by the structure of the query's terms; tests that jumps make are
+/// no longer than others.
 pub fn needed_by_structure()
     ensures needed { (q : Query) → NeededByStructure q }
-    ensures tests { (e : Expr) → NotLonger e }
+    ensures tests { (t : Term) → NotLonger t }
 {}
 
 /// The instructions of each section are as many as the checks count.

@@ -1,4 +1,5 @@
 pub mod Within
+pub mod Numbered
 pub mod Opcodes
 pub mod Comparisons
 pub mod Lawful

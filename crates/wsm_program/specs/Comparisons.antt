@@ -1,5 +1,6 @@
 -- The table of comparisons: the number that stands for each in the bytes and the texts of programs.
-use Rattle.std.specs.Prelude.{ℕ, List, [], ◌∷◌, Option, Some, None, ◌==◌, if◌then◌else◌}
+use Rattle.std.specs.Prelude.{ℕ, List, [], ◌∷◌, Option, ◌==◌}
+use Rattle.std.specs.List.{find}
 use Rattle.wsm_interval.specs.declared.Comparison.{Comparison}
 use Rattle.wsm_interval.specs.declared.Comparison.TheVariants.{Eq, Ne, Lt, Le, Gt, Ge}
 
@@ -15,10 +16,5 @@ comparison_number Ge = 5
 abbrev pub comparisons : List Comparison
 comparisons = Eq ∷ Ne ∷ Lt ∷ Le ∷ Gt ∷ Ge ∷ []
 
--- the first of some comparisons that has a number
-abbrev pub first_of_number : ℕ → List Comparison → Option Comparison
-first_of_number n [] = None
-first_of_number n (o ∷ os) = if n == comparison_number o then Some o else first_of_number n os
-
 unfoldable pub comparison_of_number : ℕ → Option Comparison
-comparison_of_number n = first_of_number n comparisons
+comparison_of_number n = find (λ o. comparison_number o == n) comparisons

@@ -1,4 +1,5 @@
 pub mod Program
+pub mod Rows
 pub mod Operations
 pub mod Opcodes
 pub mod Comparisons

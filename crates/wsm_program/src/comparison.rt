@@ -5,6 +5,16 @@ ghost use Rattle.wsm_program.specs.Comparisons as spec;
 
 use wsm_interval::Comparison;
 
+// In the order of their numbers.
+const COMPARISONS: [Comparison; 6] = [
+    Comparison::Eq,
+    Comparison::Ne,
+    Comparison::Lt,
+    Comparison::Le,
+    Comparison::Gt,
+    Comparison::Ge,
+];
+
 /// The number of a comparison.
 pub fn comparison_number(comparison: Comparison) -> u8
     ensures { result ≡ spec.comparison_number comparison }
@@ -24,14 +34,8 @@ pub fn comparison_number(comparison: Comparison) -> u8
 pub fn comparison_of_number(number: u8) -> Option<Comparison>
     ensures { result ≡ spec.comparison_of_number number }
 {
-    let comparison = match number {
-        0 => Comparison::Eq,
-        1 => Comparison::Ne,
-        2 => Comparison::Lt,
-        3 => Comparison::Le,
-        4 => Comparison::Gt,
-        5 => Comparison::Ge,
-        _ => return None,
-    };
-    Some(comparison)
+    COMPARISONS
+        .iter()
+        .copied()
+        .find(|comparison| comparison_number(*comparison) == number)
 }

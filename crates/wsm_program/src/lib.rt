@@ -21,6 +21,7 @@
 //! ```
 //!
 //! - `instr`, `operation`: the instructions, and what each is
+//! - `row`: what an instruction is, whatever its argument
 //! - `comparison`: the numbers of comparisons
 //! - `text`: what a section and an instruction are printed as
 //! - `program`: headers and programs
@@ -45,4 +46,5 @@ pub mod named;
 mod operation;
 mod program;
 mod refusal;
+mod row;
 mod text;

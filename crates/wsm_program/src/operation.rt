@@ -1,4 +1,4 @@
-//! The operations: what each has for a code, a name and operands.
+//! The operations: the row and the operands of each.
 //!
 //! The instruction of an operation pops its operands and pushes what it computes of them. It may
 //! stand in each section, and goes on to the next place.
@@ -6,6 +6,7 @@
 ghost use Rattle.std.specs.Prelude.{◌≡◌, ◌≤◌};
 ghost use Rattle.wsm_program.specs.Operations as spec;
 
+use crate::row::{Row, SectionSet};
 use wsm_record::CellType;
 
 /// What is computed of popped values. Where two are popped, y is on top of x.
@@ -53,69 +54,33 @@ pub enum Operands {
 }
 
 impl Operation {
-    /// The code of its instruction.
-    pub(crate) fn code(self) -> u8
-        ensures { result ≡ spec.code self }
+    /// What its instruction is.
+    pub(crate) fn row(self) -> Row
+        ensures code { result.code ≡ (spec.row self).code }
+        ensures name { result.name.now ≡ (spec.row self).name }
+        ensures stands { result.stands ≡ (spec.row self).stands }
+        ensures divides { result.divides ≡ (spec.row self).divides }
     {
-        match self {
-            Operation::Add => 0x10,
-            Operation::Sub => 0x11,
-            Operation::Mul => 0x12,
-            Operation::Div => 0x13,
-            Operation::Rem => 0x14,
-            Operation::Neg => 0x15,
-            Operation::Eq => 0x20,
-            Operation::Ne => 0x21,
-            Operation::Lt => 0x22,
-            Operation::Le => 0x23,
-            Operation::Gt => 0x24,
-            Operation::Ge => 0x25,
-            Operation::Not => 0x28,
-        }
-    }
-
-    /// The operation of a code. `None` where no operation has it.
-    #[tactic(auto, unfolding(crate::specs::Operations::of_code))]
-    pub(crate) fn of_code(code: u8) -> Option<Operation>
-        ensures { result ≡ spec.of_code code }
-    {
-        let operation = match code {
-            0x10 => Operation::Add,
-            0x11 => Operation::Sub,
-            0x12 => Operation::Mul,
-            0x13 => Operation::Div,
-            0x14 => Operation::Rem,
-            0x15 => Operation::Neg,
-            0x20 => Operation::Eq,
-            0x21 => Operation::Ne,
-            0x22 => Operation::Lt,
-            0x23 => Operation::Le,
-            0x24 => Operation::Gt,
-            0x25 => Operation::Ge,
-            0x28 => Operation::Not,
-            _ => return None,
+        let (code, name, divides) = match self {
+            Operation::Add => (0x10, "ADD", false),
+            Operation::Sub => (0x11, "SUB", false),
+            Operation::Mul => (0x12, "MUL", false),
+            Operation::Div => (0x13, "DIV", true),
+            Operation::Rem => (0x14, "REM", true),
+            Operation::Neg => (0x15, "NEG", false),
+            Operation::Eq => (0x20, "EQ", false),
+            Operation::Ne => (0x21, "NE", false),
+            Operation::Lt => (0x22, "LT", false),
+            Operation::Le => (0x23, "LE", false),
+            Operation::Gt => (0x24, "GT", false),
+            Operation::Ge => (0x25, "GE", false),
+            Operation::Not => (0x28, "NOT", false),
         };
-        Some(operation)
-    }
-
-    /// The name of its instruction.
-    pub(crate) fn name(self) -> &'static str
-        ensures { result.now ≡ spec.name self }
-    {
-        match self {
-            Operation::Add => "ADD",
-            Operation::Sub => "SUB",
-            Operation::Mul => "MUL",
-            Operation::Div => "DIV",
-            Operation::Rem => "REM",
-            Operation::Neg => "NEG",
-            Operation::Eq => "EQ",
-            Operation::Ne => "NE",
-            Operation::Lt => "LT",
-            Operation::Le => "LE",
-            Operation::Gt => "GT",
-            Operation::Ge => "GE",
-            Operation::Not => "NOT",
+        Row {
+            code,
+            name,
+            stands: SectionSet::All,
+            divides,
         }
     }
 
@@ -130,18 +95,6 @@ impl Operation {
             Operation::Neg => Operands::One(CellType::Int),
             Operation::Eq | Operation::Ne => Operands::Alike,
             Operation::Not => Operands::One(CellType::Bool),
-        }
-    }
-
-    /// Whether its right operand must not be 0.
-    pub fn divides(self) -> bool
-        ensures { result ≡ spec.divides self }
-    {
-        match self {
-            Operation::Div | Operation::Rem => true,
-            Operation::Add | Operation::Sub | Operation::Mul | Operation::Neg => false,
-            Operation::Eq | Operation::Ne | Operation::Lt | Operation::Le => false,
-            Operation::Gt | Operation::Ge | Operation::Not => false,
         }
     }
 }

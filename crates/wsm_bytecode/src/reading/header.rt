@@ -8,9 +8,10 @@ ghost use Rattle.wsm_bytecode.specs.Reading.{Gives, back_seen, settings_seen, af
 use crate::limits::{MAGIC, MAX_COLUMNS};
 use crate::reading::names::names_of;
 use crate::reading::numbers::{byte_of, byte_within};
-use crate::reading::schema::fields_of;
+use crate::reading::schema::{fields_of, type_tag_of};
 use crate::reading::settings::{Settings, budget_of, kinds_of, times_of};
 use crate::reading::{version1, version2};
+use crate::tags::TypeTag;
 use crate::version::Version;
 use std::alloc::Global;
 use wsm_program::named::name_count;
@@ -158,11 +159,11 @@ fn so_many_columns<'a>(
 fn column_of<'a>(schema: &Schema, bytes: &'a [u8]) -> Result<(CellType, &'a [u8]), DecodeRefusal>
     ensures { Gives (λ x. (x.0, x.1.now)) result (column_at schema.now bytes.now) }
 {
-    let (tag, rest) = byte_within(bytes, 0, 2)?;
+    let (tag, rest) = type_tag_of(bytes)?;
     match tag {
-        0 => Ok((CellType::Int, rest)),
-        1 => Ok((CellType::Bool, rest)),
-        _ => {
+        TypeTag::Int => Ok((CellType::Int, rest)),
+        TypeTag::Bool => Ok((CellType::Bool, rest)),
+        TypeTag::Enum => {
             let (number, rest) = enum_of(schema, rest)?;
             Ok((CellType::Enum(number), rest))
         }

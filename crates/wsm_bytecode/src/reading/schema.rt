@@ -2,12 +2,13 @@
 
 ghost use Rattle.std.specs.Prelude.{◌≡◌, [], map};
 ghost use Rattle.wsm_record.specs.Fields.{type_seen, field_seen};
-ghost use Rattle.wsm_bytecode.specs.Steps.{field_type_at, new_field_at, fields_after, fields_at, interval_at};
+ghost use Rattle.wsm_bytecode.specs.Steps.{type_tag_at, field_type_at, new_field_at, fields_after, fields_at, interval_at};
 ghost use Rattle.wsm_bytecode.specs.Reading.{Gives};
 
 use crate::limits::MAX_FIELDS;
 use crate::reading::names::{name_of, names_of};
-use crate::reading::numbers::{byte_within, i64_of};
+use crate::reading::numbers::{byte_of, byte_within, i64_of};
+use crate::tags::{TypeTag, type_by};
 use std::alloc::Global;
 use wsm_program::DecodeRefusal;
 use wsm_record::{DeclaredField, FieldType, has_field};
@@ -62,15 +63,25 @@ fn new_field_of<'a>(
 fn type_of(alloc: Global, bytes: &[u8]) -> Result<(FieldType, &[u8]), DecodeRefusal>
     ensures { Gives (λ x. (type_seen x.0, x.1.now)) result (field_type_at bytes.now) }
 {
-    let (tag, rest) = byte_within(bytes, 0, 2)?;
+    let (tag, rest) = type_tag_of(bytes)?;
     match tag {
-        0 => interval_of(rest),
-        1 => Ok((FieldType::Bool, rest)),
-        _ => {
+        TypeTag::Int => interval_of(rest),
+        TypeTag::Bool => Ok((FieldType::Bool, rest)),
+        TypeTag::Enum => {
             let (names, rest) = names_of(alloc, rest)?;
             Ok((FieldType::Enum(names), rest))
         }
     }
+}
+
+/// What a field or a column is, without its bounds or its names.
+#[tactic(auto, unfolding(crate::specs::Steps::type_tag_at))]
+pub(crate) fn type_tag_of(bytes: &[u8]) -> Result<(TypeTag, &[u8]), DecodeRefusal>
+    ensures { Gives (λ x. (x.0, x.1.now)) result (type_tag_at bytes.now) }
+{
+    let (tag, rest) = byte_of(bytes)?;
+    let ty = type_by(tag).ok_or(DecodeRefusal::Operand)?;
+    Ok((ty, rest))
 }
 
 // Two numbers, judged together at the later one.

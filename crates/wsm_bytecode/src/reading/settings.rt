@@ -5,7 +5,7 @@ ghost use Rattle.wsm_bytecode.specs.Steps.{times_at, shape_by, windows_by, mode_
 ghost use Rattle.wsm_bytecode.specs.Reading.{Gives};
 
 use crate::limits::{LATEST_TIME, LONGEST_SPAN, MAX_ACCUMULATORS, MAX_HELD, MAX_STATED};
-use crate::reading::numbers::{byte_within, i64_within, u64_within};
+use crate::reading::numbers::{byte_of, byte_within, i64_within, u64_within};
 use crate::tags::{form_by, kind_by, mode_by};
 use std::alloc::Global;
 use wsm_admission::LateBy;
@@ -87,8 +87,9 @@ fn shape_of(bytes: &[u8], tag: u8) -> Result<(Shape, &[u8]), DecodeRefusal>
 pub(crate) fn mode_of(bytes: &[u8]) -> Result<(Mode, &[u8]), DecodeRefusal>
     ensures { Gives (λ x. (x.0, x.1.now)) result (mode_at bytes.now) }
 {
-    let (tag, rest) = byte_within(bytes, 0, 2)?;
-    Ok((mode_by(tag), rest))
+    let (tag, rest) = byte_of(bytes)?;
+    let mode = mode_by(tag).ok_or(DecodeRefusal::Operand)?;
+    Ok((mode, rest))
 }
 
 /// The intervals of EARLY and of LATE, 0 for none.
@@ -101,12 +102,11 @@ pub(crate) fn triggers_of(bytes: &[u8]) -> Result<((i64, i64), &[u8]), DecodeRef
     Ok(((early, late), rest))
 }
 
-/// The form of a tag, which is at most 3, if the mode may write it.
+/// The form of a tag, if the mode may write it.
 pub(crate) fn form_of(tag: u8, mode: Mode) -> Result<Form, DecodeRefusal>
-    requires { tag ≤ 3 }
     ensures { result ≡ form_by_mode mode tag }
 {
-    let form = form_by(tag);
+    let form = form_by(tag).ok_or(DecodeRefusal::Operand)?;
     if !mode.may_write(form) {
         return Err(DecodeRefusal::Operand);
     }
@@ -117,8 +117,9 @@ pub(crate) fn form_of(tag: u8, mode: Mode) -> Result<Form, DecodeRefusal>
 fn kind_of(bytes: &[u8]) -> Result<(Kind, &[u8]), DecodeRefusal>
     ensures { Gives (λ x. (x.0, x.1.now)) result (kind_at bytes.now) }
 {
-    let (tag, rest) = byte_within(bytes, 0, 4)?;
-    Ok((kind_by(tag), rest))
+    let (tag, rest) = byte_of(bytes)?;
+    let kind = kind_by(tag).ok_or(DecodeRefusal::Operand)?;
+    Ok((kind, rest))
 }
 
 /// How each accumulator folds, of at most 16.

@@ -7,10 +7,11 @@ ghost use Rattle.wsm_bytecode.specs.Reading.{Gives, settings_seen};
 
 use crate::limits::MAX_SOURCES;
 use crate::reading::names::so_many_names;
-use crate::reading::numbers::byte_within;
+use crate::reading::numbers::{byte_of, byte_within};
 use crate::reading::settings::{
     Settings, form_of, mode_of, triggers_of, windows_of as windows_of_tag,
 };
+use crate::tags::{FORM_COUNT, SHAPE_COUNT, last_shape_tag};
 use std::alloc::Global;
 use wsm_admission::LateBy;
 use wsm_program::DecodeRefusal;
@@ -37,20 +38,21 @@ pub(crate) fn settings_of(alloc: Global, bytes: &[u8]) -> Result<(Settings, &[u8
     Ok((settings, rest))
 }
 
-// Shapes 3 and 4 are fixed and sliding windows from whose ends lateness is counted.
+// Tags behind those of the shapes are of fixed and sliding windows from whose ends lateness is counted.
 #[tactic(auto, unfolding(crate::specs::Version1::windows_at))]
 fn windows_of(bytes: &[u8]) -> Result<((Shape, LateBy), &[u8]), DecodeRefusal>
     ensures { Gives (λ x. (x.0, x.1.now)) result (windows_at bytes.now) }
 {
-    let (tag, rest) = byte_within(bytes, 0, 4)?;
-    if tag < 3 {
+    let (tag, rest) = byte_within(bytes, 0, SHAPE_COUNT + last_shape_tag(true))?;
+    if tag < SHAPE_COUNT {
         windows_of_tag(rest, tag, false)
     } else {
-        windows_of_tag(rest, tag - 3, true)
+        windows_of_tag(rest, tag - SHAPE_COUNT, true)
     }
 }
 
-// Forms 4 to 7 are forms 0 to 3 of several sources. The form is judged before the sources are read.
+// Tags behind those of the forms are forms of several sources. The form is judged before the sources are
+// read.
 #[tactic(auto, unfolding(crate::specs::Version1::output_at))]
 fn output_of(
     alloc: Global,
@@ -59,8 +61,15 @@ fn output_of(
 ) -> Result<((Form, Names), &[u8]), DecodeRefusal>
     ensures { Gives (λ x. ((x.0.0, x.0.1), x.1.now)) result (output_at mode bytes.now) }
 {
-    let (tag, rest) = byte_within(bytes, 0, 7)?;
-    let form = form_of(if tag < 4 { tag } else { tag - 4 }, mode)?;
+    let (tag, rest) = byte_of(bytes)?;
+    let form = form_of(
+        if tag < FORM_COUNT {
+            tag
+        } else {
+            tag - FORM_COUNT
+        },
+        mode,
+    )?;
     let (sources, rest) = sources_of(alloc, rest, tag)?;
     Ok(((form, sources), rest))
 }
@@ -69,7 +78,7 @@ fn output_of(
 fn sources_of(alloc: Global, bytes: &[u8], tag: u8) -> Result<(Names, &[u8]), DecodeRefusal>
     ensures { Gives (λ x. (x.0, x.1.now)) result (sources_by tag bytes.now) }
 {
-    if tag < 4 {
+    if tag < FORM_COUNT {
         return Ok((Names::with_capacity(alloc, 0)?, bytes));
     }
     let (count, rest) = byte_within(bytes, 2, MAX_SOURCES)?;

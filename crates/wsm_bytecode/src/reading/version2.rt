@@ -12,6 +12,7 @@ use crate::reading::numbers::{byte_of, byte_within};
 use crate::reading::settings::{
     Settings, form_of as form_of_tag, mode_of, triggers_of, windows_of as windows_of_tag,
 };
+use crate::tags::last_shape_tag;
 use std::alloc::Global;
 use wsm_admission::LateBy;
 use wsm_program::DecodeRefusal;
@@ -81,8 +82,7 @@ fn sources_of(alloc: Global, bytes: &[u8]) -> Result<(Names, &[u8]), DecodeRefus
 fn windows_of(bytes: &[u8], from_window: bool) -> Result<((Shape, LateBy), &[u8]), DecodeRefusal>
     ensures { Gives (λ x. (x.0, x.1.now)) result (windows_at from_window bytes.now) }
 {
-    let last = if from_window { 1 } else { 2 };
-    let (tag, rest) = byte_within(bytes, 0, last)?;
+    let (tag, rest) = byte_within(bytes, 0, last_shape_tag(from_window))?;
     windows_of_tag(rest, tag, from_window)
 }
 
@@ -90,7 +90,7 @@ fn windows_of(bytes: &[u8], from_window: bool) -> Result<((Shape, LateBy), &[u8]
 fn form_of(bytes: &[u8], mode: Mode) -> Result<(Form, &[u8]), DecodeRefusal>
     ensures { Gives (λ x. (x.0, x.1.now)) result (form_at mode bytes.now) }
 {
-    let (tag, rest) = byte_within(bytes, 0, 3)?;
+    let (tag, rest) = byte_of(bytes)?;
     let form = form_of_tag(tag, mode)?;
     Ok((form, rest))
 }

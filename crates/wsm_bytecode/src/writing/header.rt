@@ -7,7 +7,7 @@ ghost use Rattle.wsm_bytecode.specs.declared.version.Version.TheVariants.{Two};
 ghost use Rattle.wsm_bytecode.specs.Parts.{times as times_bytes, kinds as kinds_bytes, column as column_bytes, columns as columns_bytes, budget as budget_bytes};
 ghost use Rattle.wsm_bytecode.specs.Spelling.{header as header_bytes};
 
-use crate::tags::kind_tag;
+use crate::tags::{TypeTag, kind_tag, type_tag};
 use crate::writing::numbers::{put_two, put_u8, put_u64};
 use crate::writing::schema::{put_fields, put_names};
 use crate::writing::version2::put_settings;
@@ -62,10 +62,10 @@ fn put_column(out: &mut Vec<u8>, column: CellType) -> Result<(), AllocError>
     ensures { OnOk result (out.new.items ≡ out.old.items ++ column_bytes column) }
 {
     match column {
-        CellType::Int => put_u8(out, 0),
-        CellType::Bool => put_u8(out, 1),
+        CellType::Int => put_u8(out, type_tag(TypeTag::Int)),
+        CellType::Bool => put_u8(out, type_tag(TypeTag::Bool)),
         CellType::Enum(number) => {
-            put_u8(out, 2)?;
+            put_u8(out, type_tag(TypeTag::Enum))?;
             put_u8(out, number)
         }
     }

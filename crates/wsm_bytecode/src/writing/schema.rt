@@ -7,6 +7,7 @@ ghost use Rattle.wsm_record.specs.Fields.{type_seen, field_seen};
 ghost use Rattle.wsm_record.specs.Schema.{is_field_type};
 ghost use Rattle.wsm_bytecode.specs.Parts.{name as name_bytes, names as names_bytes, sources as sources_bytes, field_type as type_bytes, field as field_bytes, fields as fields_bytes};
 
+use crate::tags::{TypeTag, type_tag};
 use crate::writing::numbers::{put_two, put_u8, put_u16};
 use std::alloc::AllocError;
 use wsm_record::{DeclaredField, FieldType, Names};
@@ -38,12 +39,12 @@ fn put_type(out: &mut Vec<u8>, ty: &FieldType) -> Result<(), AllocError>
 {
     match ty {
         FieldType::Int { lo, hi } => {
-            put_u8(out, 0)?;
+            put_u8(out, type_tag(TypeTag::Int))?;
             put_two(out, *lo, *hi)
         }
-        FieldType::Bool => put_u8(out, 1),
+        FieldType::Bool => put_u8(out, type_tag(TypeTag::Bool)),
         FieldType::Enum(names) => {
-            put_u8(out, 2)?;
+            put_u8(out, type_tag(TypeTag::Enum))?;
             put_names(out, names)
         }
     }

@@ -5,11 +5,11 @@ use Rattle.std.proofs.lemmas.Int.{to_z-of_z}
 use Rattle.wsm_check.proofs.assemble.parts_of.Goals as goal
 
 -- the numbers are handed on as they are, and the terms are those of the expressions
-pub returns-clause-parts : goal.returns-clause-parts
-returns-clause-parts c =
+pub returns : goal.returns
+returns c =
     let start : FitsSigned w64 c.args.query.now.start = search rules in
     let skew : FitsSigned w64 c.args.query.now.skew = search rules in
     let lateness : FitsSigned w64 c.args.query.now.lateness = search rules in
     let records : FitsSigned w64 c.args.query.now.records = search rules in
-    let terms = c.in_ok-condition.ensures in
-    simp to_z-of_z (rw (c.requires.schema, c.requires.types, terms.condition, terms.fired.foldings, terms.fired.columns, terms.fired.having) refl)
+    let r = c.requires.resolved in
+    simp to_z-of_z (rw (c.requires.schema, r.condition, r.foldings, r.types, r.columns, r.having) refl)

@@ -4,8 +4,7 @@ use Rattle.wsm_program.specs.Program.{is_budget}
 use Rattle.wsm_rules.specs.Costs.{needed}
 use Rattle.wsm_query.specs.Seen.{seen_budget}
 use Rattle.wsm_check.specs.Seen.{seen_parts}
-use Rattle.wsm_compiler.specs.Assembled.{assembled}
-use Rattle.wsm_compiler.specs.Program.{stated}
+use Rattle.wsm_compiler.specs.Program.{assembled, stated}
 use Rattle.wsm_compiler.specs.declared.compiling.TheConstants.{LEAST}
 use Rattle.wsm_compiler.proofs.AssembledProgram.{is_budget_of}
 use Rattle.wsm_compiler.proofs.compiling.program_with_need.Goals as goal

@@ -1,12 +1,11 @@
--- An expression that has a type has no aggregate in an aggregate.
-use Rattle.std.proofs.Common.{◌≡◌, Bool, true, false, ◌&&◌, Ok, Err, nat_eq, refl, ap, arith}
+-- An expression that has a type in WHERE or in an aggregate has no aggregate.
+use Rattle.std.proofs.Common.{◌≡◌, Bool, true, false, Ok, Err, refl, arith}
 use Rattle.std.specs.Prelude.{is_ok}
-use Rattle.std.proofs.lemmas.Bool.{and_from, false≢true}
+use Rattle.std.proofs.lemmas.Bool.{false≢true}
 use Rattle.wsm_query.specs.Tree.{Query, Expr, Number, Truth, Field, EnumName, Key, KeyName, Count, Aggregate, If, Brackets, Minus, Not, Binary, And, Or}
 use Rattle.wsm_record.specs.declared.words.CellType.{CellType}
 use Rattle.wsm_check.specs.Types.{Around, InWhere, InColumn, InAggregate, Typed, if_typed, if_both, entered, typed}
 use Rattle.wsm_check.specs.Sizes.{aggregates}
-use Rattle.wsm_check.specs.Terms.{is_flat}
 
 abbrev pub HasType : Query → Around → Expr → Type 0
 HasType q around e = is_ok (typed q around e) ≡ true
@@ -21,11 +20,6 @@ rest_ok (Err f) go h = absurd (false≢true h)
 
 second_ok : (x y : Typed) (go : CellType → CellType → Typed) → is_ok (if_both x y go) ≡ true → is_ok y ≡ true
 second_ok x y go h = let r = rest_ok x (λ t. if_typed y (λ u. go t u)) h in first_ok y (λ u. go r.0 u) r.1
-
-entered_ok : (around : Around) (x : Typed) → is_ok (entered around x) ≡ true → is_ok x ≡ true
-entered_ok InWhere x h = absurd (false≢true h)
-entered_ok InColumn x h = h
-entered_ok InAggregate x h = absurd (false≢true h)
 
 -- no aggregate may stand there
 abbrev pub bare : Around → Bool
@@ -57,25 +51,3 @@ plain q around b (EnumName x y) h = refl
 plain q around b Key h = refl
 plain q around b (KeyName x) h = refl
 plain q around b Count h = refl
-
-pub flat : (q : Query) (around : Around) (e : Expr) → HasType q around e → is_flat e ≡ true
-flat q around (Aggregate kind e) h =
-    let inner = first_ok (typed q InAggregate e) _ (entered_ok around _ h) in
-    and_from (nat_eq (aggregates e) 0) (is_flat e) (ap (λ n. nat_eq n 0) (plain q InAggregate refl e inner)) (flat q InAggregate e inner)
-flat q around (If c x y) h =
-    let r = rest_ok (typed q around c) _ h in
-    and_from (is_flat c) (is_flat x && is_flat y) (flat q around c (first_ok (typed q around c) _ h))
-    (and_from (is_flat x) (is_flat y) (flat q around x (first_ok (typed q around x) _ r.1)) (flat q around y (second_ok (typed q around x) (typed q around y) _ r.1)))
-flat q around (Brackets e) h = flat q around e h
-flat q around (Minus e) h = flat q around e (first_ok (typed q around e) _ h)
-flat q around (Not e) h = flat q around e (first_ok (typed q around e) _ h)
-flat q around (Binary op x y) h = and_from (is_flat x) (is_flat y) (flat q around x (first_ok (typed q around x) _ h)) (flat q around y (second_ok (typed q around x) (typed q around y) _ h))
-flat q around (And x y) h = and_from (is_flat x) (is_flat y) (flat q around x (first_ok (typed q around x) _ h)) (flat q around y (second_ok (typed q around x) (typed q around y) _ h))
-flat q around (Or x y) h = and_from (is_flat x) (is_flat y) (flat q around x (first_ok (typed q around x) _ h)) (flat q around y (second_ok (typed q around x) (typed q around y) _ h))
-flat q around (Number n) h = refl
-flat q around (Truth b) h = refl
-flat q around (Field x) h = refl
-flat q around (EnumName x y) h = refl
-flat q around Key h = refl
-flat q around (KeyName x) h = refl
-flat q around Count h = refl
