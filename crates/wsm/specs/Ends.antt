@@ -17,8 +17,13 @@ use Rattle.wsm_rules.specs.declared.rejection.Rule.TheVariants as rule
 use Rattle.wsm_rules.specs.Text.{part_text, rule_name}
 use Rattle.wsm_csv.specs.declared.rows.ReadEnd.{ReadEnd}
 use Rattle.wsm_csv.specs.declared.rows.ReadEnd.TheVariants as read
+use Rattle.wsm_deal.specs.declared.dealing.DealEnd.{DealEnd}
+use Rattle.wsm_deal.specs.declared.dealing.DealEnd.TheVariants as dealing
+use Rattle.wsm_deal.specs.declared.shares.SharesRefusal.{SharesRefusal}
+use Rattle.wsm_deal.specs.declared.shares.SharesRefusal.TheVariants as shares
+use Rattle.wsm_deal.specs.Text as keys_text
 use Rattle.wsm.specs.declared.end.InputRefusal.{InputRefusal}
-use Rattle.wsm.specs.declared.end.InputRefusal.TheVariants.{Text, Check, Bytes}
+use Rattle.wsm.specs.declared.end.InputRefusal.TheVariants.{Text, Check, Bytes, Keys}
 use Rattle.wsm.specs.declared.end.End.{End}
 use Rattle.wsm.specs.declared.end.End.TheVariants.{Refused, Rejected, Memory, ReadFailed, WriteFailed}
 
@@ -55,6 +60,7 @@ abbrev pub refusal_text : InputRefusal → List ℕ
 refusal_text (Text fault position) = fault_text fault ++ codes " at " ++ position_text position
 refusal_text (Check fault part) = check_text.fault_text fault ++ codes " in " ++ check_text.part_text part
 refusal_text (Bytes fault) = bytes_text.refusal_text fault
+refusal_text (Keys fault) = keys_text.refusal_text fault
 
 -- as `V12 MayDivideByZero in fire at 2`
 abbrev pub rejection_text : Rejection → List ℕ
@@ -92,8 +98,18 @@ abbrev pub end_of_read : ReadEnd → End
 end_of_read read.Failed = ReadFailed
 end_of_read read.Memory = Memory
 
+abbrev pub end_of_keys : SharesRefusal → End
+end_of_keys shares.Memory = Memory
+end_of_keys fault = Refused (Keys fault)
+
+abbrev pub end_of_dealing : DealEnd → End
+end_of_dealing dealing.ReadFailed = ReadFailed
+end_of_dealing dealing.Memory = Memory
+end_of_dealing dealing.WriteFailed = WriteFailed
+
 -- want of memory is told as a fault of the bytes or of the program: no answer does so
 abbrev pub hides_memory : End → Bool
 hides_memory (Refused (Bytes bytes.Memory)) = true
+hides_memory (Refused (Keys shares.Memory)) = true
 hides_memory (Rejected why) = is_of_memory why.rule
 hides_memory end = false

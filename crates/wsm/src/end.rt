@@ -8,6 +8,7 @@ use std::error::Error;
 use std::fmt;
 use wsm_check::{CheckFault, CheckRefusal, Part};
 use wsm_csv::{DeviceFault, ReadEnd};
+use wsm_deal::{DealEnd, SharesRefusal};
 use wsm_program::DecodeRefusal;
 use wsm_rules::{Rejection, Rule};
 use wsm_tokens::{Fault, ParseRefusal, Position};
@@ -21,6 +22,8 @@ pub enum InputRefusal {
     Check(CheckFault, Part),
     /// Bytes spell no program. Want of memory never stands here.
     Bytes(DecodeRefusal),
+    /// Keys are dealt to no parts. Want of memory never stands here.
+    Keys(SharesRefusal),
 }
 
 /// How a run, a judgement or a compilation ended early. Its text is what the program prints behind
@@ -50,6 +53,7 @@ impl fmt::Display for InputRefusal {
             InputRefusal::Text(fault, position) => write!(f, "{fault} at {position}"),
             InputRefusal::Check(fault, part) => write!(f, "{fault} in {part}"),
             InputRefusal::Bytes(fault) => write!(f, "{fault}"),
+            InputRefusal::Keys(fault) => write!(f, "{fault}"),
         }
     }
 }
@@ -203,5 +207,34 @@ impl From<DeviceFault> for End {
 
     fn from(_fault: DeviceFault) -> End {
         End::WriteFailed
+    }
+}
+
+impl From<SharesRefusal> for End {
+    ghost use Rattle.std.specs.Prelude.{◌≡◌};
+    ghost use Rattle.wsm.specs.Ends.{end_of_keys};
+
+    ghost from_gives = { λ r e. e ≡ end_of_keys r };
+
+    fn from(refusal: SharesRefusal) -> End {
+        match refusal {
+            SharesRefusal::Memory => End::Memory,
+            fault => End::Refused(InputRefusal::Keys(fault)),
+        }
+    }
+}
+
+impl From<DealEnd> for End {
+    ghost use Rattle.std.specs.Prelude.{◌≡◌};
+    ghost use Rattle.wsm.specs.Ends.{end_of_dealing};
+
+    ghost from_gives = { λ r e. e ≡ end_of_dealing r };
+
+    fn from(end: DealEnd) -> End {
+        match end {
+            DealEnd::ReadFailed => End::ReadFailed,
+            DealEnd::Memory => End::Memory,
+            DealEnd::WriteFailed => End::WriteFailed,
+        }
     }
 }

@@ -64,6 +64,7 @@ pub use migrating::migrate;
 pub use run::{run_program, run_program_over, run_query, run_query_over};
 pub use wsm_check::{CheckFault, Part};
 pub use wsm_csv::{Device, DeviceFault, Guarded, Rows, write_out};
+pub use wsm_deal::{Ahead, Part as DealtPart, Shares, SharesRefusal, deal};
 pub use wsm_engine::Totals;
 pub use wsm_program::DecodeRefusal;
 pub use wsm_rules::Rejection;

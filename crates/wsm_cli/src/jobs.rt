@@ -4,8 +4,8 @@ use std::fs::{self, File};
 use std::io::{self, ErrorKind, Read, Write};
 use std::rt::Files;
 use wsm::{
-    Device, End, Guarded, Job, Rows, compile_text, judge, migrate, run_program_over,
-    run_query_over, write_out,
+    Ahead, DealtPart, Device, End, Guarded, Job, Rows, Shares, SharesRefusal, compile_text, deal,
+    judge, migrate, run_program_over, run_query_over, write_out,
 };
 
 /// Does the job. It is false where a program was judged and rejected.
@@ -20,7 +20,77 @@ pub fn done<R: Files + AllocGlobal + Input + Print>(rt: &R, job: &Job) -> Result
         Job::Migrate { program, out } => migrated(rt, program, out),
         Job::Verify { query, program } => judged(rt, *query, program, false),
         Job::Explain { query, program } => judged(rt, *query, program, true),
+        Job::Deal {
+            keys_of,
+            keys,
+            parts,
+            out,
+            rows,
+        } => {
+            let shares = shares_of(rt, keys, parts)?;
+            if *keys_of {
+                clause(rt, &shares, out)
+            } else {
+                dealt(rt, &shares, out, rows.as_ref())
+            }
+        }
     }
+}
+
+// The keys of a file, for so many parts.
+fn shares_of<R: Files + AllocGlobal>(rt: &R, keys: &String, parts: &String) -> Result<Shares, End> {
+    let text = read(rt, keys)?;
+    let parts = number_of(parts)?;
+    Ok(Shares::of(rt.alloc(), &text, parts)?)
+}
+
+fn number_of(text: &String) -> Result<usize, End> {
+    match text.as_str().parse::<usize>() {
+        Ok(number) => Ok(number),
+        Err(_) => Err(End::from(SharesRefusal::BadNumber)),
+    }
+}
+
+// Writes the clause of a part's keys.
+fn clause<R: AllocGlobal + Print>(rt: &R, shares: &Shares, part: &String) -> Result<bool, End> {
+    let part = number_of(part)?;
+    let text = shares.clause_of(rt.alloc(), part)?;
+    write_all(&text, io::writer(rt))
+}
+
+// Deals a file of rows, or standard input, to the files of the parts.
+fn dealt<R: Files + AllocGlobal + Input>(
+    rt: &R,
+    shares: &Shares,
+    out: &String,
+    rows: Option<&String>,
+) -> Result<bool, End> {
+    match rows {
+        None => deal_over(rt, shares, out, rt.reader()),
+        Some(rows) => match File::open(rt, rows.as_str()) {
+            Ok(rows) => deal_over(rt, shares, out, rows),
+            Err(error) => Err(end_of(&error, End::ReadFailed)),
+        },
+    }
+}
+
+fn deal_over<R: Files + AllocGlobal, I: Read + Drop>(
+    rt: &R,
+    shares: &Shares,
+    out: &String,
+    rows: I,
+) -> Result<bool, End> {
+    let mut parts = Vec::new(rt.alloc());
+    for number in 0..shares.parts() {
+        let name = format!(in rt.alloc(); "{out}{number}")?;
+        match File::create(rt, name.as_str()) {
+            Ok(file) => parts.push(DealtPart::new(rt.alloc(), Guarded::new(file)))?,
+            Err(error) => return Err(end_of(&error, End::WriteFailed)),
+        }
+    }
+    let mut rows = Rows::new(rt.alloc(), Ahead::new(rows));
+    deal(shares, &mut rows, &mut parts)?;
+    Ok(true)
 }
 
 // Runs a query or a program over a file of rows, or over standard input.

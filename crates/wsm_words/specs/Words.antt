@@ -5,7 +5,7 @@ use Rattle.clap.specs.declared.builder.ArgAction.TheVariants.{SetTrue}
 use Rattle.clap.specs.declared.error.Error.{Error}
 use Rattle.clap.specs.declared.error.kind.ErrorKind.TheVariants.{OutOfMemory}
 use Rattle.wsm_words.specs.declared.words.Job.{Job}
-use Rattle.wsm_words.specs.declared.words.Job.TheVariants.{Run, Compile, Migrate, Verify, Explain}
+use Rattle.wsm_words.specs.declared.words.Job.TheVariants.{Run, Compile, Migrate, Verify, Explain, Deal}
 use Rattle.wsm_words.specs.declared.words.WordsRefusal.{WordsRefusal}
 use Rattle.wsm_words.specs.declared.words.WordsRefusal.TheVariants.{Words, Memory}
 
@@ -45,6 +45,14 @@ verify_app = judging_app (codes "verify")
 abbrev pub explain_app : App
 explain_app = judging_app (codes "explain")
 
+-- deal [--keys-of] KEYS PARTS
+abbrev pub dealing_app : App
+dealing_app = with_rule (with_rule (with_rule (new_app (codes "deal")) (flag_rule (codes "keys-of"))) (file_rule (codes "keys"))) (file_rule (codes "parts"))
+
+-- deal [--keys-of] KEYS PARTS OUT [ROWS]
+abbrev pub deal_app : App
+deal_app = with_rule (with_rule dealing_app (file_rule (codes "out"))) rows_rule
+
 -- the program's command, which wants a subcommand and tells its version
 abbrev pub required_app : App
 required_app = let a = new_app (codes "wsm") in record a { top = record a.top { has_version = true; subcommand_required = true } }
@@ -57,8 +65,12 @@ query_app = with_subcommand (with_subcommand required_app run_app.top) compile_a
 abbrev pub writing_app : App
 writing_app = with_subcommand query_app migrate_app.top
 
+-- with those that take a query, write a program or judge one
+abbrev pub judging_apps : App
+judging_apps = with_subcommand (with_subcommand writing_app verify_app.top) explain_app.top
+
 abbrev pub the_app : App
-the_app = with_subcommand (with_subcommand writing_app verify_app.top) explain_app.top
+the_app = with_subcommand judging_apps deal_app.top
 
 -- what a flag's text says: one of these, or there is none
 abbrev pub SaysFlag : Option Text → Bool → Type 0
@@ -80,6 +92,7 @@ IsJob name entries (Compile query out) = (name ≡ codes "compile") × Names ent
 IsJob name entries (Migrate program out) = (name ≡ codes "migrate") × Names entries (codes "program") program × Names entries (codes "out") out
 IsJob name entries (Verify query program) = (name ≡ codes "verify") × SaysFlag (one_of (codes "query") entries) query × Names entries (codes "program") program
 IsJob name entries (Explain query program) = (name ≡ codes "explain") × SaysFlag (one_of (codes "query") entries) query × Names entries (codes "program") program
+IsJob name entries (Deal keys_of keys parts out rows) = (name ≡ codes "deal") × SaysFlag (one_of (codes "keys-of") entries) keys_of × Names entries (codes "keys") keys × Names entries (codes "parts") parts × Names entries (codes "out") out × (option_map string_bytes rows ≡ rows_named (first_of (codes "rows") entries))
 
 -- a job is that of the subcommand and its entries
 abbrev pub IsJobOf : Option (Text × List Row) → Job → Type 0

@@ -30,7 +30,7 @@ Nothing fires at the end of the rows: end them with a watermark.
 Statuses:
   0  done, also after help and the version
   2  the words were refused
-  3  a query's text or a program's bytes were refused
+  3  a query's text, a program's bytes or keys were refused
   4  a program was rejected
   5  memory was refused
   6  a file couldn't be opened or read
@@ -145,3 +145,40 @@ writes
   accepted,5,4,6
 
 and so does `wsm explain --query sums.wsm`, which makes no file.";
+
+/// What the command `deal` does.
+pub const DEAL: &str =
+    "Deals rows to parts by their keys, so that a query over many keys runs as several.";
+
+/// What the flag for a clause says.
+pub const IS_CLAUSE: &str = "OUT is the number of a part, whose KEYS clause is written";
+
+/// What the file of the keys is.
+pub const KEYS: &str = "The file of the keys, one a line";
+
+/// What the number of parts is.
+pub const PARTS: &str = "How many parts there are";
+
+/// What the parts' files are.
+pub const PARTS_OUT: &str = "What the names of the parts' files begin with: OUT0, OUT1, ..";
+
+/// An example of the command `deal`.
+pub const DEAL_EXAMPLE: &str = "The rows of four keys are dealt to two parts:
+
+  printf '%s\\n' a b c d > keys
+  printf 'r,a,5,7\\nr,d,59,3\\nw,60\\n' | wsm deal keys 2 part
+  cat part1
+
+writes
+
+  r,d,59,3
+  w,60
+
+since part 1 has the keys c and d. A watermark goes to each part, and what is no event or of no
+known key to part 0. The clause of a part's query is written by its number:
+
+  wsm deal --keys-of keys 2 1
+
+writes
+
+  KEYS c, d;";

@@ -1,8 +1,8 @@
 //! The program's words.
 
 ghost use Rattle.std.specs.Prelude.{◌≡◌, true, false, IfOk, IfErr, codes, map, option_map, string_bytes};
-ghost use Rattle.clap.specs.Words.{app_of, new_app, fault_of, found_of, rows_of as entries_of, rule_of, subcommand_of, subcommand_rows_of, takes};
-ghost use Rattle.wsm_words.specs.Words.{the_app, query_app, required_app, run_app, compile_app, judging_app, verify_app, explain_app, migrate_app, writing_app, file_rule, flag_rule, AnswersFaults, IsJob, IsJobOf, IsMemory, Names, rows_named};
+ghost use Rattle.clap.specs.Words.{app_of, first_of, new_app, fault_of, found_of, rows_of as entries_of, rule_of, subcommand_of, subcommand_rows_of, takes};
+ghost use Rattle.wsm_words.specs.Words.{the_app, query_app, required_app, run_app, compile_app, judging_app, judging_apps, verify_app, explain_app, migrate_app, writing_app, dealing_app, deal_app, file_rule, flag_rule, AnswersFaults, IsJob, IsJobOf, IsMemory, Names, rows_named};
 
 use crate::help;
 use crate::version::version_text;
@@ -50,6 +50,19 @@ pub enum Job {
         /// The file of the program or the query.
         program: String,
     },
+    /// To deal rows to parts by their keys, or to write the keys of a part as a clause.
+    Deal {
+        /// Whether the keys of one part are written.
+        keys_of: bool,
+        /// The file of the keys.
+        keys: String,
+        /// The number of parts.
+        parts: String,
+        /// What the names of the parts' files begin with, or the number of the part whose keys are written.
+        out: String,
+        /// The file of the rows; standard input where none is named, or `-`.
+        rows: Option<String>,
+    },
 }
 
 /// Why the words ask for nothing.
@@ -86,7 +99,7 @@ impl From<clap::Error> for WordsRefusal {
 
 /// The job that the words ask for, the program's own name first among them. A subcommand is
 /// required: `run [--program] QUERY [ROWS]`, `compile QUERY OUT`, `migrate PROGRAM OUT`,
-/// `verify [--query] PROGRAM` or `explain [--query] PROGRAM`. Words that `clap` takes are refused for
+/// `verify [--query] PROGRAM`, `explain [--query] PROGRAM` or `deal [--keys-of] KEYS PARTS OUT [ROWS]`. Words that `clap` takes are refused for
 /// want of memory alone. Others are refused by a fault that `clap` finds in them, or for want of memory.
 pub fn command_of(alloc: Global, words: &[&str]) -> Result<Job, WordsRefusal>
     ensures job { IfOk result (IsJobOf (subcommand_of the_app (map (λ s. s.now) words.now))) }
@@ -101,6 +114,14 @@ pub fn command_of(alloc: Global, words: &[&str]) -> Result<Job, WordsRefusal>
 // The program's command, with its subcommands.
 fn wsm_command<'a>(alloc: Global, version: &'a str) -> Result<Command<'a>, AllocError>
     ensures { IfOk result (λ c. app_of c ≡ the_app) }
+{
+    let wsm = judging_commands(alloc, version)?.subcommand(deal_command(alloc)?)?;
+    Ok(wsm)
+}
+
+// The program's command, with the subcommands that take a query, write a program or judge one.
+fn judging_commands<'a>(alloc: Global, version: &'a str) -> Result<Command<'a>, AllocError>
+    ensures { IfOk result (λ c. app_of c ≡ judging_apps) }
 {
     let wsm = writing_command(alloc, version)?
         .subcommand(verify_command(alloc)?)?
@@ -197,6 +218,28 @@ fn judging_command<'a>(
     Ok(judging)
 }
 
+// `deal [--keys-of] KEYS PARTS OUT [ROWS]`
+fn deal_command<'a>(alloc: Global) -> Result<Command<'a>, AllocError>
+    ensures { IfOk result (λ c. app_of c ≡ deal_app) }
+{
+    let rows = Arg::new(alloc, "rows").value_name("ROWS").help(help::ROWS);
+    let deal = dealing_command(alloc)?
+        .arg(file(alloc, "out", "OUT", help::PARTS_OUT))?
+        .arg(rows)?;
+    Ok(deal)
+}
+
+// `deal [--keys-of] KEYS PARTS`
+fn dealing_command<'a>(alloc: Global) -> Result<Command<'a>, AllocError>
+    ensures { IfOk result (λ c. app_of c ≡ dealing_app) }
+{
+    let deal = command(alloc, "deal", help::DEAL, help::DEAL_EXAMPLE)
+        .arg(flag(alloc, "keys-of", help::IS_CLAUSE))?
+        .arg(file(alloc, "keys", "KEYS", help::KEYS))?
+        .arg(file(alloc, "parts", "PARTS", help::PARTS))?;
+    Ok(deal)
+}
+
 // A command with the texts of its help.
 fn command<'a>(alloc: Global, name: &'a str, about: &'a str, example: &'a str) -> Command<'a>
     ensures { app_of result ≡ new_app name.entry.now }
@@ -246,6 +289,9 @@ fn job_of(alloc: Global, matches: &ArgMatches<'_>) -> Result<Job, WordsRefusal>
     if let Some(inner) = matches.subcommand_matches("explain") {
         return explain_job(alloc, inner);
     }
+    if let Some(inner) = matches.subcommand_matches("deal") {
+        return deal_job(alloc, inner);
+    }
     // This doesn't come: `wsm_command` has no other subcommand, and requires one.
     Err(WordsRefusal::Memory)
 }
@@ -257,7 +303,7 @@ fn run_job(alloc: Global, inner: &ArgMatches<'_>) -> Result<Job, WordsRefusal>
 {
     let program = inner.get_flag("program");
     let query = file_of(alloc, inner, "query")?;
-    let rows = rows_of(alloc, inner.get_str("rows"))?;
+    let rows = rows_in(alloc, inner)?;
     Ok(Job::Run {
         program,
         query,
@@ -305,6 +351,25 @@ fn explain_job(alloc: Global, inner: &ArgMatches<'_>) -> Result<Job, WordsRefusa
     Ok(Job::Explain { query, program })
 }
 
+// The job of the words behind `deal`.
+fn deal_job(alloc: Global, inner: &ArgMatches<'_>) -> Result<Job, WordsRefusal>
+    ensures job { IfOk result (IsJob (codes "deal") (entries_of (found_of inner.now))) }
+    ensures refused { IfErr result IsMemory }
+{
+    let keys_of = inner.get_flag("keys-of");
+    let keys = file_of(alloc, inner, "keys")?;
+    let parts = file_of(alloc, inner, "parts")?;
+    let out = file_of(alloc, inner, "out")?;
+    let rows = rows_in(alloc, inner)?;
+    Ok(Job::Deal {
+        keys_of,
+        keys,
+        parts,
+        out,
+        rows,
+    })
+}
+
 // The name of a file that a parse gives: its words have one.
 fn file_of(alloc: Global, inner: &ArgMatches<'_>, id: &str) -> Result<String, WordsRefusal>
     ensures named { IfOk result (Names (entries_of (found_of inner.now)) id.now) }
@@ -315,6 +380,14 @@ fn file_of(alloc: Global, inner: &ArgMatches<'_>, id: &str) -> Result<String, Wo
         // This doesn't come: `file` has each of them required, so `clap` refuses words without one.
         None => Err(WordsRefusal::Memory),
     }
+}
+
+// The name of the file of the rows that a parse gives, if it gives one.
+fn rows_in(alloc: Global, inner: &ArgMatches<'_>) -> Result<Option<String>, AllocError>
+    ensures { IfOk result (λ rows. option_map string_bytes rows ≡ rows_named (first_of (codes "rows") (entries_of (found_of inner.now)))) }
+{
+    let rows = rows_of(alloc, inner.get_str("rows"))?;
+    Ok(rows)
 }
 
 // The name of the file of the rows, if one is named: `-` is the standard input.

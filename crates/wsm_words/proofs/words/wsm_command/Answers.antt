@@ -5,9 +5,5 @@ use Rattle.wsm_words.proofs.words.wsm_command.Goals as goal
 
 pub returns : goal.returns
 returns c =
-    let top = λ (a : App). a.top in
-    let plain = λ (a : App). a.top.is_plain in
-    let verify_is = c.in_ok-verify_command.ensures in
-    let explain_is = c.in_ok-explain_command.ensures in
-    let with_verify = c.in_ok-subcommand.ensures.shape (third_fails _ _ _ _ (ap plain verify_is)) ∙ ap₂ with_subcommand c.in_ok-writing_command.ensures (ap top verify_is) in
-    c.in_ok-wsm.ensures.shape (third_fails _ _ _ _ (ap plain explain_is)) ∙ ap₂ with_subcommand with_verify (ap top explain_is)
+    let deal_is = c.in_ok-deal_command.ensures in
+    c.in_ok-wsm.ensures.shape (third_fails _ _ _ _ (ap (λ (a : App). a.top.is_plain) deal_is)) ∙ ap₂ with_subcommand c.in_ok-judging_commands.ensures (ap (λ (a : App). a.top) deal_is)

@@ -1,0 +1,78 @@
+-- What holds of each part, where the parts are gone through one by one.
+use Rattle.std.proofs.Common.{◌≡◌, ◌≢◌, ◌+◌, ◌<◌, ◌≤◌, ◌∷◌, ◌++◌, [], ℕ, List, Option, Some, refl, sym, subst, inl, inr, arith, length}
+use Rattle.std.specs.Prelude.{slice_get, slice_set}
+use Rattle.std.specs.Io.KnownBytes.{Appends}
+use Rattle.std.proofs.lemmas.Bool.{cases_lt, eq-eqb, ne_eqb}
+use Rattle.std.proofs.lemmas.Option.{slice_get_within}
+use Rattle.wsm_csv.specs.Device.{TakesPart}
+use Rattle.wsm_csv.proofs.Written.{TakesPart-all}
+use Rattle.wsm_deal.specs.PartText.{part_text}
+use Rattle.wsm_deal.specs.Parts.{Befores, Hands, Has, one_more_for}
+use Rattle.wsm_deal.specs.declared.part.Part.{Part}
+use Rattle.wsm_deal.proofs.Lists.{at_set}
+use Rattle.wsm_deal.proofs.PartTexts.{Has-part, part-longer}
+
+-- each element has what is said of its place
+abbrev pub EachAt : {A : Type 0} → (ℕ → A → Type 0) → List A → Type 0
+EachAt P xs = (k : ℕ) (p : _) → slice_get xs k ≡ Some p → P k p
+
+-- one element is put anew
+pub each_set : {A : Type 0} (P Q : ℕ → A → Type 0) (xs : List A) (i : ℕ) (y : A) → EachAt P xs → Q i y → ((k : ℕ) (p : A) → k ≢ i → P k p → Q k p) → EachAt Q (slice_set xs i y)
+each_set P Q xs i y each here others k p at = elim (at_set xs i k y p at) [
+  | inl (same, is) ↦ subst (λ (j : ℕ). Q j p) (sym same) (subst (λ (q : _). Q i q) (sym is) here)
+  | inr (other, is) ↦ others k p other (each k p is)
+]
+
+-- what holds of the first elements, and of the rest
+abbrev pub FirstThen : {A : Type 0} → ℕ → (ℕ → A → Type 0) → (ℕ → A → Type 0) → ℕ → A → Type 0
+FirstThen i P Q k p = (k < i → P k p) × (i ≤ k → Q k p)
+
+pub first_more : {A : Type 0} (P Q : ℕ → A → Type 0) (xs : List A) (i : ℕ) (x y : A) → slice_get xs i ≡ Some x → EachAt (FirstThen i P Q) xs → (Q i x → P i y) → EachAt (FirstThen (i + 1) P Q) (slice_set xs i y)
+first_more P Q xs i x y at each step =
+    each_set (FirstThen i P Q) (FirstThen (i + 1) P Q) xs i y each
+    ((λ lt. step ((each i x at).1 (omega arith))), λ le. absurd (omega (arith, le)))
+    (λ k p other h. ((λ lt. h.0 (omega (arith, lt, other))), λ le. h.1 (omega (arith, le))))
+
+pub first_all : {A : Type 0} (P Q : ℕ → A → Type 0) (xs : List A) (i : ℕ) → length xs ≤ i → EachAt (FirstThen i P Q) xs → EachAt P xs
+first_all P Q xs i all each k p at = let within = slice_get_within xs k p at in (each k p at).0 (omega (arith, all, within))
+
+-- all have what follows from either, and from where one is put anew
+pub first_broken : {A : Type 0} (P Q R : ℕ → A → Type 0) (xs : List A) (i : ℕ) (y : A) → EachAt (FirstThen i P Q) xs → R i y → ((k : ℕ) (p : A) → P k p → R k p) → ((k : ℕ) (p : A) → Q k p → R k p) → EachAt R (slice_set xs i y)
+first_broken P Q R xs i y each here first then =
+    each_set (FirstThen i P Q) R xs i y each here (λ k p other h. elim (cases_lt k i) [
+      | inl lt ↦ first k p (h.0 lt)
+      | inr le ↦ then k p (h.1 le)
+    ])
+
+module _ {D : Type 0} (taken : D → Option (List ℕ)) (olds : Befores) (hands : Hands) where
+  -- the part has its rows
+  abbrev pub HasAt : ℕ → Part D → Type 0
+  HasAt k p = Has taken (olds k) (hands k) p
+
+  -- its device took their text
+  abbrev pub TookAt : ℕ → Part D → Type 0
+  TookAt k p = Appends (olds k) (taken p.out) (part_text (hands k))
+
+  -- or a beginning of it
+  abbrev pub BeganAt : ℕ → Part D → Type 0
+  BeganAt k p = TakesPart (olds k) (taken p.out) (part_text (hands k))
+
+  pub has_began : (k : ℕ) (p : Part D) → HasAt k p → BeganAt k p
+  has_began k p has = Has-part taken (olds k) (hands k) p has
+
+  pub took_began : (k : ℕ) (p : Part D) → TookAt k p → BeganAt k p
+  took_began k p took = TakesPart-all (olds k) (taken p.out) (part_text (hands k)) took
+
+  -- with a row more
+  pub more_began : (row : List (List ℕ)) (k : ℕ) (p : Part D) → HasAt k p → TakesPart (olds k) (taken p.out) (part_text (hands k ++ row ∷ []))
+  more_began row k p has = part-longer (olds k) (taken p.out) (hands k) row (has_began k p has)
+
+  -- with a row more for one part
+  pub more_for : (row : List (List ℕ)) (n : ℕ) (p : Part D) → Has taken (olds n) (hands n ++ row ∷ []) p → Has taken (olds n) (one_more_for n hands row n) p
+  more_for row n p has = rw (eq-eqb n n refl) has
+
+  pub more_for_began : (row : List (List ℕ)) (n : ℕ) (p : Part D) → TakesPart (olds n) (taken p.out) (part_text (hands n ++ row ∷ [])) → TakesPart (olds n) (taken p.out) (part_text (one_more_for n hands row n))
+  more_for_began row n p began = rw (eq-eqb n n refl) began
+
+  pub same_for : (row : List (List ℕ)) (n k : ℕ) (p : Part D) → k ≢ n → HasAt k p → Has taken (olds k) (one_more_for n hands row k) p
+  same_for row n k p other has = rw (ne_eqb k n other) has

@@ -1,0 +1,13 @@
+pub mod RowTexts
+mod PartTexts
+mod Goals
+mod Outcomes
+mod FirstRows
+mod Shared
+mod Lists
+mod EachPart
+mod ReadBack
+mod KeysOf
+mod BlockNumbers
+mod PartRuns
+mod DistinctKeys

@@ -1,0 +1,18 @@
+-- What stands in a list in which one element was put anew.
+use Rattle.std.proofs.Common.{◌≡◌, ◌≢◌, ◌<◌, ◌∙◌, ◌∷◌, get_or, length, [], ℕ, zero, suc, List, Some, refl, sym, ap, inl, inr, ◌⊎◌}
+use Rattle.std.specs.Prelude.{slice_get, slice_set}
+use Rattle.std.proofs.lemmas.Option.{slice_get-get_or}
+
+pub at_set : {A : Type 0} (xs : List A) (i k : ℕ) (y p : A) → slice_get (slice_set xs i y) k ≡ Some p → ((k ≡ i) × (p ≡ y)) ⊎ ((k ≢ i) × (slice_get xs k ≡ Some p))
+at_set [] i k y p e = cc
+at_set (x ∷ xs) zero zero y p e = inl (refl, cc)
+at_set (x ∷ xs) zero (suc k) y p e = inr (λ z. cc z, e)
+at_set (x ∷ xs) (suc i) zero y p e = inr (λ z. cc z, e)
+at_set (x ∷ xs) (suc i) (suc k) y p e = elim (at_set xs i k y p e) [
+  | inl (same, is) ↦ inl (ap suc same, is)
+  | inr (other, is) ↦ inr (λ z. other (cc z), is)
+]
+
+-- the element that a loop has in hand
+pub there : {A : Type 0} (xs : List A) (i : ℕ) (x : A) → i < length xs → x ≡ get_or xs i x → slice_get xs i ≡ Some x
+there xs i x within is = slice_get-get_or xs i x within ∙ ap Some (sym is)

@@ -1,0 +1,41 @@
+-- A row that shows no byte, and a text that is made longer.
+use Rattle.std.proofs.Common.{◌≡◌, ◌≢◌, ◌==◌, ◌∷◌, ◌++◌, ◌∙◌, [], ℕ, suc, List, true, false, refl, sym, length, length-append, get_or, take, take-take, inl, inr, arith}
+use Rattle.std.proofs.Math.Seq.{take-append_seam}
+use Rattle.std.specs.Prelude.{◌≤◌}
+use Rattle.std.proofs.lemmas.Bool.{cases_Bool, ne_eqb}
+use Rattle.std.specs.List.{list_any}
+use Rattle.csv.specs.Writing.{default_writer, escaped, is_blank, needs_byte}
+
+more_than_none : (xs : List ℕ) → (suc (length xs) == 0) ≡ false
+more_than_none xs = ne_eqb (suc (length xs)) 0 (λ z. cc z)
+
+-- a row of one cell shows no byte where the cell has none
+blank_one : (cell : List ℕ) → is_blank default_writer (cell ∷ []) ≡ (length cell == 0)
+unfolding is_blank
+blank_one [] = refl
+blank_one (b ∷ rest) = elim (cases_Bool (list_any (needs_byte default_writer) (b ∷ rest))) [
+  | inl needs ↦ rw needs (more_than_none (escaped default_writer (b ∷ rest) ++ 34 ∷ []) ∙ sym (more_than_none rest))
+  | inr plain ↦ rw plain refl
+]
+
+pub blank_of_none : (cells : List (List ℕ)) → length cells ≡ 0 → true ≡ is_blank default_writer cells
+unfolding is_blank
+blank_of_none [] e = refl
+blank_of_none (x ∷ xs) e = absurd (omega arith)
+
+pub blank_of_one : (cells : List (List ℕ)) → length cells ≡ 1 → is_blank default_writer cells ≡ (length (get_or cells 0 []) == 0)
+blank_of_one [] e = cc e
+blank_of_one (x ∷ []) e = blank_one x
+blank_of_one (x ∷ y ∷ ys) e = absurd (omega arith)
+
+pub blank_of_more : (cells : List (List ℕ)) → length cells ≢ 0 → length cells ≢ 1 → false ≡ is_blank default_writer cells
+unfolding is_blank
+blank_of_more [] e h = absurd (e refl)
+blank_of_more (x ∷ []) e h = absurd (h refl)
+blank_of_more (x ∷ y ∷ ys) e h = refl
+
+-- what keeps the text that a text is the start of keeps that text
+pub start_kept : (start longer new rest : List ℕ) → longer ≡ start ++ rest → take (length longer) new ≡ longer → take (length start) new ≡ start
+start_kept start longer new rest more kept =
+    let le : length start ≤ length longer = rw more (simp (length-append) (omega arith)) in
+    sym (take-take (length start) (length longer) new le) ∙ rw (kept, more) (take-append_seam start rest)

@@ -1,0 +1,12 @@
+use Rattle.std.proofs.Common.{ℕ, List, [], Option}
+use Rattle.wsm_csv.specs.Rows.{Follows, turns_left}
+use Rattle.wsm_deal.specs.Parts.{Befores, EachHas, bytes_of, hands_of}
+use Rattle.wsm_deal.proofs.dealing.deal_rows.Given as goal
+
+-- these rows were read, and dealt
+abbrev pub invariant-loop-rows : goal.invariant-loop-rows
+invariant-loop-rows g l = (known : Option (List ℕ)) (olds : Befores) → Follows (bytes_of g.R.Read.remaining) known [] l.fn.rows → EachHas g.D.Device.taken olds (hands_of l.shares []) l.fn.parts
+    → (cells : List (List (List ℕ))) × Follows (bytes_of g.R.Read.remaining) known cells l.rows × EachHas g.D.Device.taken olds (hands_of l.shares cells) l.parts
+
+abbrev pub decreases-loop-rows : goal.decreases-loop-rows
+decreases-loop-rows g l = turns_left l.rows

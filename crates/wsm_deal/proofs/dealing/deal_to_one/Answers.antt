@@ -1,0 +1,35 @@
+use Rattle.std.proofs.Common.{◌≢◌, arith, get_or}
+use Rattle.std.proofs.lemmas.Option.{slice_get-get_or, slice_get_within}
+use Rattle.csv.specs.Records.{fields_of}
+use Rattle.wsm_deal.specs.Parts.{one_more_for}
+use Rattle.wsm_deal.proofs.EachPart.{BeganAt, HasAt, each_set, has_began, more_for, more_for_began, same_for}
+use Rattle.wsm_deal.proofs.Outcomes.{on_err}
+use Rattle.wsm_deal.proofs.dealing.deal_to_one.Goals as goal
+
+pub returns-in_ok-add-clause-dealt : goal.returns-in_ok-add-clause-dealt
+returns-in_ok-add-clause-dealt g c = λ olds hands each.
+    let taken = g.D.Device.taken in
+    let row = fields_of c.args.row.now in
+    let n = c.args.part in
+    let item = c.index-parts-part.result in
+    let there = slice_get-get_or c.args.parts.now n item c.if-part-parts.true in
+    each_set (HasAt taken olds hands) (HasAt taken olds (one_more_for n hands row)) c.args.parts.now n c.add.new.self each
+    (more_for taken olds hands row n c.add.new.self (c.in_ok-add.ensures.adds (olds n) (hands n) (each n (get_or c.args.parts.now n item) there)))
+    (λ k p other h. same_for taken olds hands row n k p other h)
+
+pub returns-in_err-add-clause-began : goal.returns-in_err-add-clause-began
+returns-in_err-add-clause-began g c = λ olds hands each.
+    let taken = g.D.Device.taken in
+    let row = fields_of c.args.row.now in
+    let n = c.args.part in
+    let item = c.index-parts-part.result in
+    let there = slice_get-get_or c.args.parts.now n item c.if-part-parts.true in
+    on_err c.from_residual.result (each_set (HasAt taken olds hands) (BeganAt taken olds (one_more_for n hands row)) c.args.parts.now n c.add.new.self each
+    (more_for_began taken olds hands row n c.add.new.self (c.in_err-add.ensures.part (olds n) (hands n) (each n (get_or c.args.parts.now n item) there)))
+    (λ k p other h. has_began taken olds (one_more_for n hands row) k p (same_for taken olds hands row n k p other h)))
+
+pub returns-else-part-parts-clause-dealt : goal.returns-else-part-parts-clause-dealt
+returns-else-part-parts-clause-dealt g c = λ olds hands each k p at.
+    let within = slice_get_within c.args.parts.now k p at in
+    let other : k ≢ c.args.part = omega (arith, within, c.if-part-parts.false) in
+    same_for g.D.Device.taken olds hands (fields_of c.args.row.now) c.args.part k p other (each k p at)

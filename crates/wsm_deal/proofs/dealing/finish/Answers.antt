@@ -1,0 +1,29 @@
+use Rattle.std.proofs.Common.{◌≡◌, ◌<◌, Some, arith, length, subst}
+use Rattle.std.specs.Prelude.{slice_get}
+use Rattle.wsm_deal.proofs.EachPart.{BeganAt, HasAt, TookAt, first_all, first_broken, first_more, has_began, took_began}
+use Rattle.wsm_deal.proofs.Lists.{there}
+use Rattle.wsm_deal.proofs.Outcomes.{on_err}
+use Rattle.wsm_deal.proofs.dealing.finish.Goals as goal
+
+pub loop-part-preserved : goal.loop-part-preserved
+loop-part-preserved g c = λ olds hands each.
+    let taken = g.D.Device.taken in
+    let i = c.loop-part.part-index in
+    let within : i < length c.loop-part.parts = omega (arith, c.loop-part-test.true, c.loop-part.auto.parts) in
+    let at : slice_get c.loop-part.parts i ≡ Some c.part-item.result = there c.loop-part.parts i c.part-item.result within c.part-item.is in
+    first_more (TookAt taken olds hands) (HasAt taken olds hands) c.loop-part.parts i c.part-item.result c.finish.new.self at (c.loop-part.invariant olds hands each)
+    (λ has. c.in_ok-finish.ensures.took (olds i) (hands i) (search (has, subst (HasAt taken olds hands i) c.part-item.is has)))
+
+pub returns-in_err-finish-clause-began : goal.returns-in_err-finish-clause-began
+returns-in_err-finish-clause-began g c = λ olds hands each.
+    let taken = g.D.Device.taken in
+    let i = c.loop-part.part-index in
+    let inv = c.loop-part.invariant olds hands each in
+    let within : i < length c.loop-part.parts = omega (arith, c.loop-part-test.true, c.loop-part.auto.parts) in
+    let at : slice_get c.loop-part.parts i ≡ Some c.part-item.result = there c.loop-part.parts i c.part-item.result within c.part-item.is in
+    on_err c.from_residual.result (first_broken (TookAt taken olds hands) (HasAt taken olds hands) (BeganAt taken olds hands) c.loop-part.parts i c.finish.new.self inv
+    (c.in_err-finish.ensures.part (olds i) (hands i) (let has = (inv i c.part-item.result at).1 (omega arith) in search (has, subst (HasAt taken olds hands i) c.part-item.is has))) (took_began taken olds hands) (has_began taken olds hands))
+
+pub returns-clause-took : goal.returns-clause-took
+returns-clause-took g c = λ olds hands each.
+    first_all (TookAt g.D.Device.taken olds hands) (HasAt g.D.Device.taken olds hands) c.loop-part.parts c.loop-part.part-index (omega (arith, c.loop-part-test.false, c.loop-part.auto.parts)) (c.loop-part.invariant olds hands each)

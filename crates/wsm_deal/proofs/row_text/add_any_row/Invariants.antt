@@ -1,0 +1,8 @@
+use Rattle.std.proofs.Common.{◌≡◌, ◌++◌, take}
+use Rattle.csv.specs.Records.{fields_of}
+use Rattle.csv.specs.Writing.{default_writer, row_body}
+use Rattle.wsm_deal.proofs.row_text.add_any_row.Given as goal
+
+-- the cells so far have their text
+abbrev pub invariant-loop-place : goal.invariant-loop-place
+invariant-loop-place l = l.out.items ≡ l.fn.out.items ++ row_body default_writer (take l.place (fields_of l.row))

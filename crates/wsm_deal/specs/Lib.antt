@@ -1,0 +1,5 @@
+pub mod Deal
+pub mod PartText
+pub mod Parts
+pub mod Runs
+pub mod Text

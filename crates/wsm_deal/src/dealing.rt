@@ -1,0 +1,181 @@
+//! Dealing the rows of a reader.
+
+ghost use Rattle.std.specs.Prelude.{◌≡◌, ℕ, List, [], Option, IfOk, IfErr, OnErr, OnOk};
+ghost use Rattle.csv.specs.Records.{fields_of};
+ghost use Rattle.wsm_csv.specs.Records.{AreAll};
+ghost use Rattle.wsm_csv.specs.Rows.{Follows};
+ghost use Rattle.wsm_deal.specs.Parts.{Befores, Dealt, EachBegan, EachHas, EachTook, EndsEarly, Hands, bytes_of, hands_of, one_more_each, one_more_for, with_row};
+
+use crate::ahead::Ahead;
+use crate::part::Part;
+use crate::shares::{Goal, Shares};
+use csv::ByteRecord;
+use std::alloc::AllocError;
+use std::io::Read;
+use wsm_csv::{Device, DeviceFault, ReadEnd, Rows};
+
+/// How dealing ends early.
+#[derive(Clone, Copy, Debug, PartialEq, Eq)]
+pub enum DealEnd {
+    /// The rows could not be read on.
+    ReadFailed,
+    /// Memory was refused.
+    Memory,
+    /// What takes a part has failed.
+    WriteFailed,
+}
+
+impl From<AllocError> for DealEnd {
+    ghost use Rattle.std.specs.Prelude.{◌≡◌};
+    ghost use Rattle.wsm_deal.specs.declared.dealing.DealEnd.TheVariants.{Memory};
+
+    ghost from_gives = { λ _ e. e ≡ Memory };
+
+    fn from(_error: AllocError) -> DealEnd {
+        DealEnd::Memory
+    }
+}
+
+impl From<DeviceFault> for DealEnd {
+    ghost use Rattle.std.specs.Prelude.{◌≡◌};
+    ghost use Rattle.wsm_deal.specs.declared.dealing.DealEnd.TheVariants.{WriteFailed};
+
+    ghost from_gives = { λ _ e. e ≡ WriteFailed };
+
+    fn from(_fault: DeviceFault) -> DealEnd {
+        DealEnd::WriteFailed
+    }
+}
+
+impl From<ReadEnd> for DealEnd {
+    ghost use Rattle.std.specs.Prelude.{◌≡◌};
+    ghost use Rattle.wsm_deal.specs.Parts.{end_of_read};
+
+    ghost from_gives = { λ r e. e ≡ end_of_read r };
+
+    fn from(end: ReadEnd) -> DealEnd {
+        match end {
+            ReadEnd::Failed => DealEnd::ReadFailed,
+            ReadEnd::Memory => DealEnd::Memory,
+        }
+    }
+}
+
+/// Deals the rows of a reader to parts: a record to the part of its key, a watermark to each, and what is
+/// neither to the first. What was dealt is handed on before more bytes are asked of the input, and where
+/// 64 KiB of it are kept for a part. A row for a part that isn't there is dropped.
+///
+/// # Errors
+///
+/// After an error each device took a beginning of the text of the rows that were dealt to its part.
+pub fn deal<R: Read + Drop, D: Device>(
+    shares: &Shares,
+    rows: &mut Rows<Ahead<R>>,
+    parts: &mut [Part<D>],
+) -> Result<(), DealEnd>
+    ensures dealt { (known : Option (List ℕ)) (olds : Befores) → Follows (bytes_of R.remaining) known [] rows.old → EachHas D.taken olds (hands_of shares.now []) parts.old →
+        IfOk result (λ _. (cells : List (List (List ℕ))) × Dealt D.taken known shares.now olds cells parts.new) }
+    ensures ends_early { (known : Option (List ℕ)) (olds : Befores) → Follows (bytes_of R.remaining) known [] rows.old → EachHas D.taken olds (hands_of shares.now []) parts.old →
+        IfErr result (λ _. (cells : List (List (List ℕ))) × EndsEarly D.taken known shares.now olds cells parts.new) }
+{
+    deal_rows(shares, rows, parts)?;
+    finish(parts)?;
+    Ok(())
+}
+
+// Deals the rows of a reader. What was dealt last may not be handed on.
+fn deal_rows<R: Read + Drop, D: Device>(
+    shares: &Shares,
+    rows: &mut Rows<Ahead<R>>,
+    parts: &mut [Part<D>],
+) -> Result<(), DealEnd>
+    ensures dealt { (known : Option (List ℕ)) (olds : Befores) → Follows (bytes_of R.remaining) known [] rows.old → EachHas D.taken olds (hands_of shares.now []) parts.old →
+        IfOk result (λ _. (cells : List (List (List ℕ))) × AreAll known cells × EachHas D.taken olds (hands_of shares.now cells) parts.new) }
+    ensures ends_early { (known : Option (List ℕ)) (olds : Befores) → Follows (bytes_of R.remaining) known [] rows.old → EachHas D.taken olds (hands_of shares.now []) parts.old →
+        IfErr result (λ _. (cells : List (List (List ℕ))) × EndsEarly D.taken known shares.now olds cells parts.new) }
+{
+    while rows.advance()? {
+        deal_row(shares, rows.row(), parts)?;
+        pass_on(rows, parts)?;
+    }
+    Ok(())
+}
+
+// Hands on what was dealt where the next row may wait for the input.
+fn pass_on<R: Read + Drop, D: Device>(
+    rows: &Rows<Ahead<R>>,
+    parts: &mut [Part<D>],
+) -> Result<(), DeviceFault>
+    ensures kept { (olds : Befores) (hands : Hands) → EachHas D.taken olds hands parts.old → OnOk result (EachHas D.taken olds hands parts.new) }
+    ensures began { (olds : Befores) (hands : Hands) → EachHas D.taken olds hands parts.old → OnErr result (EachBegan D.taken olds hands parts.new) }
+{
+    if rows.source().may_wait(rows.place()) {
+        return hand_on(parts);
+    }
+    Ok(())
+}
+
+// Deals a row.
+fn deal_row<D: Device>(
+    shares: &Shares,
+    row: &ByteRecord,
+    parts: &mut [Part<D>],
+) -> Result<(), DealEnd>
+    ensures dealt { (olds : Befores) (rows : List (List (List ℕ))) → EachHas D.taken olds (hands_of shares.now rows) parts.old → OnOk result (EachHas D.taken olds (hands_of shares.now (with_row rows (fields_of row.now))) parts.new) }
+    ensures began { (olds : Befores) (rows : List (List (List ℕ))) → EachHas D.taken olds (hands_of shares.now rows) parts.old → OnErr result (EachBegan D.taken olds (hands_of shares.now (with_row rows (fields_of row.now))) parts.new) }
+{
+    match shares.goal_of(row) {
+        Goal::One(part) => deal_to_one(part, row, parts),
+        Goal::All => deal_to_all(row, parts),
+    }
+}
+
+// Deals a row to one part.
+fn deal_to_one<D: Device>(
+    part: usize,
+    row: &ByteRecord,
+    parts: &mut [Part<D>],
+) -> Result<(), DealEnd>
+    ensures dealt { (olds : Befores) (hands : Hands) → EachHas D.taken olds hands parts.old → OnOk result (EachHas D.taken olds (one_more_for part hands (fields_of row.now)) parts.new) }
+    ensures began { (olds : Befores) (hands : Hands) → EachHas D.taken olds hands parts.old → OnErr result (EachBegan D.taken olds (one_more_for part hands (fields_of row.now)) parts.new) }
+{
+    if part < parts.len() {
+        parts[part].add(row)?;
+    }
+    Ok(())
+}
+
+// Deals a row to each part.
+#[inline(never)]
+fn deal_to_all<D: Device>(row: &ByteRecord, parts: &mut [Part<D>]) -> Result<(), DealEnd>
+    ensures dealt { (olds : Befores) (hands : Hands) → EachHas D.taken olds hands parts.old → OnOk result (EachHas D.taken olds (one_more_each hands (fields_of row.now)) parts.new) }
+    ensures began { (olds : Befores) (hands : Hands) → EachHas D.taken olds hands parts.old → OnErr result (EachBegan D.taken olds (one_more_each hands (fields_of row.now)) parts.new) }
+{
+    for part in parts.iter_mut() {
+        part.add(row)?;
+    }
+    Ok(())
+}
+
+// Gives each device the text that it wasn't handed.
+#[inline(never)]
+fn hand_on<D: Device>(parts: &mut [Part<D>]) -> Result<(), DeviceFault>
+    ensures kept { (olds : Befores) (hands : Hands) → EachHas D.taken olds hands parts.old → OnOk result (EachHas D.taken olds hands parts.new) }
+    ensures began { (olds : Befores) (hands : Hands) → EachHas D.taken olds hands parts.old → OnErr result (EachBegan D.taken olds hands parts.new) }
+{
+    for part in parts.iter_mut() {
+        part.hand_on()?;
+    }
+    Ok(())
+}
+
+// Gives each device the text that it wasn't handed, and has all that it took leave.
+fn finish<D: Device>(parts: &mut [Part<D>]) -> Result<(), DeviceFault>
+    ensures took { (olds : Befores) (hands : Hands) → EachHas D.taken olds hands parts.old → OnOk result (EachTook D.taken olds hands parts.new) }
+    ensures began { (olds : Befores) (hands : Hands) → EachHas D.taken olds hands parts.old → OnErr result (EachBegan D.taken olds hands parts.new) }
+{
+    for part in parts.iter_mut() {
+        part.finish()?;
+    }
+    Ok(())
+}

@@ -1,0 +1,125 @@
+//! A part of the rows, and what takes it.
+
+ghost use Rattle.std.specs.Prelude.{◌≡◌, ◌++◌, option_map, OnOk};
+ghost use Rattle.csv.specs.Records.{fields_of};
+ghost use Rattle.wsm_deal.specs.PartText.{has_mark, is_marked, mark_before};
+
+use crate::dealing::DealEnd;
+use crate::row_text::add_row;
+use csv::ByteRecord;
+use std::alloc::{AllocError, Global};
+use wsm_csv::{Device, DeviceFault, write_out};
+
+// How many bytes are kept before they are handed on.
+const FULL: usize = 65_536;
+
+/// A part of the rows: what takes their text, and the text that it wasn't handed yet.
+#[derive(Drop)]
+pub struct Part<D> {
+    out: D,
+    text: Vec<u8>,
+    // Whether a row was dealt to it.
+    begun: bool,
+}
+
+impl<D: Device> Part<D> {
+    ghost use Rattle.std.specs.Prelude.{◌≡◌, ◌∷◌, ◌++◌, [], ℕ, List, Option, OnOk, OnErr};
+    ghost use Rattle.std.specs.Io.KnownBytes.{Appends};
+    ghost use Rattle.csv.specs.Records.{fields_of};
+    ghost use Rattle.wsm_csv.specs.Device.{TakesPart};
+    ghost use Rattle.wsm_deal.specs.PartText.{part_text};
+    ghost use Rattle.wsm_deal.specs.Parts.{Has, out_of};
+
+    /// A part to which no row was dealt.
+    pub fn new(alloc: Global, out: D) -> Part<D>
+        ensures none { Has D.taken (D.taken out) [] result }
+    {
+        Part {
+            out,
+            text: Vec::new(alloc),
+            begun: false,
+        }
+    }
+
+    /// Deals a row to the part. Where too much is kept it is handed on.
+    pub(crate) fn add(&mut self, row: &ByteRecord) -> Result<(), DealEnd>
+        ensures adds { (old : Option (List ℕ)) (rows : List (List (List ℕ))) → Has D.taken old rows self.old → OnOk result (Has D.taken old (rows ++ fields_of row.now ∷ []) self.new) }
+        ensures part { (old : Option (List ℕ)) (rows : List (List (List ℕ))) → Has D.taken old rows self.old → OnErr result (TakesPart old (D.taken (out_of self.new)) (part_text (rows ++ fields_of row.now ∷ []))) }
+    {
+        self.keep(row)?;
+        if FULL <= self.text.len() {
+            self.hand_on()?;
+        }
+        Ok(())
+    }
+
+    // Deals a row to the part, whose text is kept.
+    fn keep(&mut self, row: &ByteRecord) -> Result<(), AllocError>
+        ensures adds { (old : Option (List ℕ)) (rows : List (List (List ℕ))) → Has D.taken old rows self.old → OnOk result (Has D.taken old (rows ++ fields_of row.now ∷ []) self.new) }
+        ensures out { self.new.out ≡ self.old.out }
+    {
+        if !self.begun {
+            self.begun = true;
+            begin(row, &mut self.text)?;
+        }
+        add_row(row, &mut self.text)
+    }
+
+    /// Gives the device the text that it wasn't handed.
+    pub(crate) fn hand_on(&mut self) -> Result<(), DeviceFault>
+        ensures kept { (old : Option (List ℕ)) (rows : List (List (List ℕ))) → Has D.taken old rows self.old → OnOk result (Has D.taken old rows self.new) }
+        ensures empty { OnOk result (self.new.text.items ≡ []) }
+        ensures part { (old : Option (List ℕ)) (rows : List (List (List ℕ))) → Has D.taken old rows self.old → OnErr result (TakesPart old (D.taken (out_of self.new)) (part_text rows)) }
+    {
+        if self.text.is_empty() {
+            return Ok(());
+        }
+        if self.out.failed() {
+            return Err(DeviceFault);
+        }
+        write_out(&mut self.out, &self.text)?;
+        self.text.clear();
+        Ok(())
+    }
+
+    /// Gives the device the text that it wasn't handed, and has all that it took leave.
+    pub(crate) fn finish(&mut self) -> Result<(), DeviceFault>
+        ensures took { (old : Option (List ℕ)) (rows : List (List (List ℕ))) → Has D.taken old rows self.old → OnOk result (Appends old (D.taken (out_of self.new)) (part_text rows)) }
+        ensures part { (old : Option (List ℕ)) (rows : List (List (List ℕ))) → Has D.taken old rows self.old → OnErr result (TakesPart old (D.taken (out_of self.new)) (part_text rows)) }
+    {
+        self.hand_on()?;
+        if self.out.failed() {
+            return Err(DeviceFault);
+        }
+        self.out.flush()
+    }
+}
+
+// Begins the text of a part, in front of its first row.
+#[inline(never)]
+fn begin(row: &ByteRecord, text: &mut Vec<u8>) -> Result<(), AllocError>
+    ensures { OnOk result (text.new.items ≡ text.old.items ++ mark_before (fields_of row.now)) }
+{
+    if begins_with_mark(row.get(0)) {
+        text.extend_from_slice(b"\xEF\xBB\xBF")?;
+    }
+    Ok(())
+}
+
+fn begins_with_mark(cell: Option<&[u8]>) -> bool
+    ensures { result ≡ is_marked (option_map (λ c. c.now) cell.entry) }
+{
+    match cell {
+        Some(cell) => has_mark(cell),
+        None => false,
+    }
+}
+
+fn has_mark(cell: &[u8]) -> bool
+    ensures { result ≡ has_mark cell.now }
+{
+    match cell {
+        [a, b, c, ..] => *a == 0xEF && *b == 0xBB && *c == 0xBF,
+        _ => false,
+    }
+}

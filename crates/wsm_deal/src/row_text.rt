@@ -1,0 +1,192 @@
+//! The text of a row, which is read back as the row.
+
+ghost use Rattle.std.specs.Prelude.{◌≡◌, ◌<◌, ◌≤◌, ◌+◌, ◌++◌, ◌∷◌, [], get_or, length, not, take, true, vec_capacity, vec_len, if◌then◌else◌, OnOk};
+ghost use Rattle.std.specs.List.{list_any};
+ghost use Rattle.csv.specs.Records.{fields_of};
+ghost use Rattle.csv.specs.Writing as csv;
+
+use csv::ByteRecord;
+use std::alloc::AllocError;
+use std::mem;
+
+/// Adds the text of a row, as `csv` writes it.
+pub(crate) fn add_row(row: &ByteRecord, out: &mut Vec<u8>) -> Result<(), AllocError>
+    ensures { OnOk result (out.new.items ≡ out.old.items ++ csv.row_text csv.default_writer (fields_of row.now)) }
+{
+    let start = out.len();
+    make_room(row, out)?;
+    if add_plain_row(row, out) {
+        return Ok(());
+    }
+    out.truncate(start);
+    add_any_row(row, out)
+}
+
+// Has room for the text of a row without quotes.
+#[inline(always)]
+fn make_room(row: &ByteRecord, out: &mut Vec<u8>) -> Result<(), AllocError>
+    ensures { out.new.items ≡ out.old.items }
+{
+    let need = row.as_slice().len().saturating_add(row.len());
+    if out.capacity() - out.len() < need {
+        out.reserve(need)?;
+    }
+    Ok(())
+}
+
+// Adds the text of a row that shows a byte and needs no quotes, where there is room for it, and answers
+// whether it did. Of another one a part may be added.
+#[inline(always)]
+fn add_plain_row(row: &ByteRecord, out: &mut Vec<u8>) -> bool
+    ensures all { result ≡ true → out.new.items ≡ out.old.items ++ csv.row_text csv.default_writer (fields_of row.now) }
+    ensures kept { take (length out.old.items) out.new.items ≡ out.old.items }
+{
+    let empty = Vec::new(*out.allocator());
+    let (is_plain, text) = with_plain_row(row, mem::replace(out, empty));
+    mem::replace(out, text).destroy_empty();
+    is_plain
+}
+
+// The same to a text by value, whose length can stay in a register.
+#[inline(always)]
+fn with_plain_row(row: &ByteRecord, mut text: Vec<u8>) -> (bool, Vec<u8>)
+    ensures all { result.0 ≡ true → result.1.items ≡ text.items ++ csv.row_text csv.default_writer (fields_of row.now) }
+    ensures kept { take (length text.items) result.1.items ≡ text.items }
+{
+    for place in 0..row.len() {
+        if !add_plain_cell(place, cell_at(row, place), &mut text) {
+            return (false, text);
+        }
+    }
+    if is_blank(row) || text.len() == text.capacity() {
+        return (false, text);
+    }
+    text.push_reserved(b'\n');
+    (true, text)
+}
+
+// Adds what stands for the cell at a place, where it needs no quotes and there is room, and answers whether
+// it did.
+#[inline(always)]
+fn add_plain_cell(place: usize, cell: &[u8], out: &mut Vec<u8>) -> bool
+    ensures all { result ≡ true → out.new.items ≡ out.old.items ++ (csv.next_sep csv.default_writer place ++ csv.field_text csv.default_writer cell.now) }
+    ensures kept { take (length out.old.items) out.new.items ≡ out.old.items }
+{
+    if out.capacity() - out.len() <= cell.len() {
+        return false;
+    }
+    if place != 0 {
+        out.push_reserved(b',');
+    }
+    add_plain(cell, out)
+}
+
+// Adds the bytes of a cell, up to the first that needs quotes, and answers whether there is none.
+#[inline(always)]
+fn add_plain(cell: &[u8], out: &mut Vec<u8>) -> bool
+    requires { vec_len out.old + length cell.now ≤ vec_capacity out.old }
+    ensures plain { result ≡ true → out.new.items ≡ out.old.items ++ cell.now }
+    ensures needs { result ≡ not (csv.needs_quotes csv.default_writer cell.now) }
+    ensures kept { take (length out.old.items) out.new.items ≡ out.old.items }
+{
+    for place in 0..cell.len() {
+        let byte = cell[place];
+        if needs_byte(byte) {
+            return false;
+        }
+        out.push_reserved(byte);
+    }
+    true
+}
+
+// Adds the text of any row.
+#[inline(never)]
+fn add_any_row(row: &ByteRecord, out: &mut Vec<u8>) -> Result<(), AllocError>
+    ensures { OnOk result (out.new.items ≡ out.old.items ++ csv.row_text csv.default_writer (fields_of row.now)) }
+{
+    for place in 0..row.len() {
+        add_cell(place, cell_at(row, place), out)?;
+    }
+    end_row(row, out)
+}
+
+// The cell at a place that the row has.
+fn cell_at(row: &ByteRecord, place: usize) -> &[u8]
+    requires { place < length (fields_of row.now) }
+    ensures { result.now ≡ get_or (fields_of row.now) place [] }
+{
+    row.get(place).unwrap()
+}
+
+// Adds the text of the cell at a place, and a comma in front of each but the first.
+fn add_cell(place: usize, cell: &[u8], out: &mut Vec<u8>) -> Result<(), AllocError>
+    ensures { OnOk result (out.new.items ≡ out.old.items ++ (csv.next_sep csv.default_writer place ++ csv.field_text csv.default_writer cell.now)) }
+{
+    if place != 0 {
+        out.push(b',')?;
+    }
+    add_field(cell, out)
+}
+
+fn add_field(cell: &[u8], out: &mut Vec<u8>) -> Result<(), AllocError>
+    ensures { OnOk result (out.new.items ≡ out.old.items ++ csv.field_text csv.default_writer cell.now) }
+{
+    if needs_quotes(cell) {
+        return add_quoted(cell, out);
+    }
+    out.extend_from_slice(cell)
+}
+
+fn needs_quotes(cell: &[u8]) -> bool
+    ensures { result ≡ csv.needs_quotes csv.default_writer cell.now }
+{
+    cell.iter().any(|byte| needs_byte(*byte))
+}
+
+fn needs_byte(byte: u8) -> bool
+    ensures { result ≡ csv.needs_byte csv.default_writer byte }
+{
+    byte == b',' || byte == b'"' || byte == b'\r' || byte == b'\n'
+}
+
+#[inline(never)]
+fn add_quoted(cell: &[u8], out: &mut Vec<u8>) -> Result<(), AllocError>
+    ensures { OnOk result (out.new.items ≡ out.old.items ++ csv.quoted csv.default_writer cell.now) }
+{
+    out.push(b'"')?;
+    for byte in cell {
+        add_escaped(*byte, out)?;
+    }
+    Ok(out.push(b'"')?)
+}
+
+// Adds a byte that stands between quotes.
+fn add_escaped(byte: u8, out: &mut Vec<u8>) -> Result<(), AllocError>
+    ensures { OnOk result (out.new.items ≡ out.old.items ++ csv.escaped csv.default_writer (byte ∷ [])) }
+{
+    if byte == b'"' {
+        out.push(b'"')?;
+    }
+    Ok(out.push(byte)?)
+}
+
+// Ends a row, with two quotes where it shows no byte.
+fn end_row(row: &ByteRecord, out: &mut Vec<u8>) -> Result<(), AllocError>
+    ensures { OnOk result (out.new.items ≡ out.old.items ++ ((if csv.is_blank csv.default_writer (fields_of row.now) then 34 ∷ 34 ∷ [] else []) ++ 10 ∷ [])) }
+{
+    if is_blank(row) {
+        out.extend_from_slice(b"\"\"")?;
+    }
+    Ok(out.push(b'\n')?)
+}
+
+#[tactic(auto, using(crate::proofs::RowTexts::blank_of_more))]
+fn is_blank(row: &ByteRecord) -> bool
+    ensures { result ≡ csv.is_blank csv.default_writer (fields_of row.now) }
+{
+    match row.len() {
+        0 => true,
+        1 => cell_at(row, 0).is_empty(),
+        _ => false,
+    }
+}
