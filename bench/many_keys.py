@@ -1,16 +1,19 @@
 #!/usr/bin/python3
 """Measures examples/many-keys: meters that report through a day, in one file of rows and in four by meter.
 
-usage: many_keys.py FOLDER [PROGRAM [TIMES [ROWS [KEYS]]]]
+usage: many_keys.py [--before SCRIPT] FOLDER [PROGRAM [TIMES [ROWS [KEYS]]]]
 
 Writes ROWS rows of KEYS meters to FOLDER, 10,000,000 of 50,000 where they're left out, with a watermark every ten
 seconds of the day, unless rows are there. Then it runs them TIMES times, 5 where it's left out: the one file by four
-workers, and the four files by four workers and by one, in turn. Prints the seconds of each: of the whole command, and
-of what the workers do once they are there. What is written must be the same each time, and for the four files as for
-the one.
+workers and by one, and the four files by four workers, in turn; with --before also the one file by four workers of
+another text of the script. Prints the seconds of each and the seconds of processors, with those of all processes that
+it started, and their medians. What is written must be the same each time, and for the four files as for the one.
 """
+import ctypes
 import hashlib
+import os
 import random
+import resource
 import statistics
 import subprocess
 import sys
@@ -20,6 +23,7 @@ from pathlib import Path
 TOP = Path(__file__).resolve().parent.parent
 FILES = 4
 DAY = 86400
+ADOPT = 36  # the call of prctl by which a process gets those whose parent has ended, to wait for them
 QUERY = """FIELD watt_hours INT 0..100000;
 START 0; SKEW 149; LATENESS 300; RECORDS 1000000000;
 SELECT SUM(watt_hours), COUNT(*)
@@ -54,46 +58,60 @@ def write_inputs(folder, rows, keys):
             file.close()
 
 
-def measured(folder, program, workers, names):
-    """The seconds of the command and of its workers, and a digest of what it writes."""
-    command = [TOP / "examples/many-keys", "--program", program, "--room", folder, "--workers", str(workers)]
-    begin, ready = time.monotonic(), None
+def processor():
+    """The seconds of processors of all processes that were waited for."""
+    while True:
+        try:
+            os.wait()
+        except ChildProcessError:
+            break
+    used = resource.getrusage(resource.RUSAGE_CHILDREN)
+    return used.ru_utime + used.ru_stime
+
+
+def measured(script, folder, program, workers, names):
+    """The seconds of the command, those of processors, and a digest of what it writes."""
+    command = ["/usr/bin/python3", script, "--program", program, "--room", folder, "--workers", str(workers)]
+    words = [*command, folder / "query.wsm", folder / "keys", *(folder / name for name in names)]
+    begin, used = time.monotonic(), processor()
     with open(folder / "out", "wb") as out:
-        words = [*command, folder / "query.wsm", folder / "keys", *(folder / name for name in names)]
-        with subprocess.Popen(words, stdout=out, stderr=subprocess.PIPE, text=True) as process:
-            for line in process.stderr:
-                if line.startswith("many-keys: workers"):
-                    ready = time.monotonic()
+        ran = subprocess.run(words, stdout=out, stderr=subprocess.PIPE, text=True)
     end = time.monotonic()
-    if process.returncode:
-        sys.exit(line)
+    if ran.returncode:
+        sys.exit(ran.stderr)
     with open(folder / "out", "rb") as file:
-        return end - begin, end - ready, hashlib.file_digest(file, "sha256").hexdigest()
+        return end - begin, processor() - used, hashlib.file_digest(file, "sha256").hexdigest()
 
 
 def main():
-    folder = Path(sys.argv[1]).absolute()
-    program = Path(sys.argv[2] if len(sys.argv) > 2 else TOP / "wsm").absolute()
-    words = sys.argv[3:6]
+    words = sys.argv[1:]
+    before = [Path(words.pop(1)).absolute() for _ in range(words[0] == "--before")]
+    words = words[len(before):]
+    folder = Path(words[0]).absolute()
+    program = Path(words[1] if len(words) > 1 else TOP / "wsm").absolute()
+    words = words[2:]
     times, rows, keys = map(int, words + ["5", "10000000", "50000"][len(words):])
     if not (folder / "rows.csv").exists():
         write_inputs(folder, rows, keys)
-    four = [f"rows-{file}.csv" for file in range(FILES)]
+    ctypes.CDLL(None).prctl(ADOPT, 1)
+    script, four = TOP / "examples/many-keys", [f"rows-{file}.csv" for file in range(FILES)]
     ways = {
-        "one file, 4 workers": (4, ["rows.csv"]), "four files, 4 workers": (4, four), "four files, 1 worker": (1, four),
+        "one file, 4 workers": (script, 4, ["rows.csv"]), "one file, 1 worker": (script, 1, ["rows.csv"]),
+        "four files, 4 workers": (script, 4, four), **{"before: one file, 4 workers": (it, 4, ["rows.csv"]) for it in before},
     }
     found = {way: [] for way in ways}
     for _ in range(times):
-        for way, asked in ways.items():
-            found[way].append(measured(folder, program, *asked))
+        for way, (its, *asked) in ways.items():
+            found[way].append(measured(its, folder, program, *asked))
             print(way, *(f"{seconds:.2f}" for seconds in found[way][-1][:2]), flush=True)
     if len({digest for some in found.values() for *_, digest in some}) > 1:
         sys.exit("what was written differs")
     medians = {way: [statistics.median(of) for of in list(zip(*some))[:2]] for way, some in found.items()}
-    for way, (whole, work) in medians.items():
-        print(f"{way}: {whole:.2f} s, its workers {work:.2f} s")
-    ratios = [one / four for one, four in zip(medians["four files, 1 worker"], medians["four files, 4 workers"])]
-    print(f"four workers are {ratios[0]:.2f} times as fast as one, once they are there {ratios[1]:.2f} times")
+    for way, (whole, used) in medians.items():
+        print(f"{way}: {whole:.2f} s, of processors {used:.2f} s")
+    print(f"four workers are {medians['one file, 1 worker'][0] / medians['one file, 4 workers'][0]:.2f} times as fast as one")
+    for way in list(ways)[3:]:
+        print(f"processors: {medians['one file, 4 workers'][1] / medians[way][1]:.2f} of what it was before")
 
 
 main()

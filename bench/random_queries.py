@@ -96,6 +96,18 @@ def rows_of(pick, query, keys="aaaaabbbbc", count=None):
     return rows
 
 
+# Stand for bytes that only a quoted cell may have, since rows are split at commas here; the last one is no byte.
+QUOTED = str.maketrans({"\1": ",", "\2": "\n", "\3": '"', "\4": "\r", "\5": ""})
+ODD = ["\5", "\1", "\2w,9", "x\2w,90\2", "\3", "w,\3", "w,5\2", "w\1,5", "wx,5", "w", "r,a\1b,5,7,true,red", "r,\2w,5,7,true,red",
+       "r,\3a\3,5,7,true,red", "r,a\2,5,7,true,red", "r,b,5\4\2,7,true,red", "r,a,5,7,true,red\1", "r,b\3\2w,60\2\3,5,7,true,red", "r"]
+
+
+def line_of(row, pick):
+    """A row as a file has it: cells that must be are in quotes, and now and then others."""
+    cells = [(cell, cell.translate(QUOTED)) for cell in row.split(",")]
+    return ",".join('"' + its.replace('"', '""') + '"' if its != cell or pick.random() < .03 else its for cell, its in cells)
+
+
 class Case:
     def __init__(self, program, folder, number):
         pick = random.Random(number)

@@ -276,12 +276,17 @@ class Field:
 
 
 class Query:
-    """A query that was read and checked; `Refused` is raised where it isn't."""
+    """A query that was read and checked; `Refused` is raised where it isn't.
 
-    def __init__(self, text):
+    With keys from elsewhere, any number of them, its text has no KEYS clause.
+    """
+
+    def __init__(self, text, keys=None):
         self.places = {}  # where each part begins and ends in the text, by the names that refusals have for them
+        self.keys, self.most_keys = keys, 1000 if keys is None else len(keys)
         self.read(Tokens(text))
         self.check()
+        self.key_set = frozenset(self.keys)
 
     @contextmanager
     def part(self, t, name):
@@ -290,10 +295,11 @@ class Query:
         self.places[name] = begin, t.end
 
     def read(self, t):
-        with self.part(t, "keys"):
-            t.take("KEYS")
-            self.keys = t.names()
-            t.take(";")
+        if self.keys is None:
+            with self.part(t, "keys"):
+                t.take("KEYS")
+                self.keys = t.names()
+                t.take(";")
         self.fields = []
         while t.sees("FIELD"):
             with self.part(t, f"field {len(self.fields) + 1}"):
@@ -386,7 +392,7 @@ class Query:
     # ---- checks, part by part
 
     def check(self):
-        check_names("keys", self.keys, 1, 1000)
+        check_names("keys", self.keys, 1, self.most_keys)
         for number, found in enumerate(self.fields, 1):
             self.check_field(f"field {number}", number, found)
         if self.sources:

@@ -11,7 +11,7 @@ import time
 
 sys.dont_write_bytecode = True
 
-from query_text import Query, Refused
+from query_text import Query, Refused, Tokens
 
 LONGEST = 1 << 16  # bytes of a line; no row that `wsm` takes is as long
 SHOWN = 80
@@ -58,10 +58,35 @@ class Ended(Exception):
         self.status = status
 
 
-def read_query(path):
+def read_keys(path):
+    """The keys of a file with a name a line."""
     try:
         with open(path, encoding="latin-1", newline="") as file:
-            return Query(file.read())
+            keys = file.read().removesuffix("\n").split("\n")
+    except OSError as why:
+        raise Ended(f"{path}: {why.strerror}", BAD_READ) from None
+    for number, key in enumerate(keys, 1):
+        if not is_name(key):
+            raise Ended(f"{path}: line {number} can't be a key: {shown(key.encode('latin-1'))}", BAD_QUERY)
+    if len(set(keys)) < len(keys):
+        twice = next(key for at, key in enumerate(keys) if keys.index(key) < at)
+        raise Ended(f"{path}: {twice} stands there twice", BAD_QUERY)
+    return keys
+
+
+def is_name(word):
+    try:
+        return Tokens(word).peek() == ("name", word, 0)
+    except Refused:
+        return False
+
+
+def read_query(path, keys_path=None):
+    """The query of a file, whose keys stand in another one where there is one."""
+    keys = None if keys_path is None else read_keys(keys_path)
+    try:
+        with open(path, encoding="latin-1", newline="") as file:
+            return Query(file.read(), keys)
     except Refused as why:
         raise Ended(f"{path}: {why}", BAD_QUERY) from None
     except OSError as why:

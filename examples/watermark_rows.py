@@ -187,7 +187,7 @@ class Watermarks:
         """Whether nothing but its time can be wrong with a record."""
         _, key, _, *cells = row.decode("latin-1").split(",")
         fields = self.query.fields
-        if len(cells) != len(fields) or key not in self.query.keys:
+        if len(cells) != len(fields) or key not in self.query.key_set:
             return False
         values = [value_of(field, cell) for field, cell in zip(fields, cells)]
         return all(
