@@ -51,13 +51,17 @@ def panes(file):
     return ["|".join(map(str, row)) for row in asked(file, PANES)]
 
 
-def below(process):
-    """The processes that a process started, and those that these started."""
+def started_by(process):
+    """The processes that a process started."""
     try:
-        children = Path(f"/proc/{process}/task/{process}/children").read_text().split()
+        return [int(child) for child in Path(f"/proc/{process}/task/{process}/children").read_text().split()]
     except OSError:
         return []
-    return [one for child in map(int, children) for one in (child, *below(child))]
+
+
+def below(process):
+    """The processes that a process started, and those that these started."""
+    return [one for child in started_by(process) for one in (child, *below(child))]
 
 
 def name_of(process):
