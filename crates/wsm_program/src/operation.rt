@@ -6,7 +6,6 @@
 ghost use Rattle.std.specs.Prelude.{◌≡◌, ◌≤◌};
 ghost use Rattle.wsm_program.specs.Operations as spec;
 
-use crate::row::{Row, SectionSet};
 use wsm_record::CellType;
 
 /// What is computed of popped values. Where two are popped, y is on top of x.
@@ -54,36 +53,6 @@ pub enum Operands {
 }
 
 impl Operation {
-    /// What its instruction is.
-    pub(crate) fn row(self) -> Row
-        ensures code { result.code ≡ (spec.row self).code }
-        ensures name { result.name.now ≡ (spec.row self).name }
-        ensures stands { result.stands ≡ (spec.row self).stands }
-        ensures divides { result.divides ≡ (spec.row self).divides }
-    {
-        let (code, name, divides) = match self {
-            Operation::Add => (0x10, "ADD", false),
-            Operation::Sub => (0x11, "SUB", false),
-            Operation::Mul => (0x12, "MUL", false),
-            Operation::Div => (0x13, "DIV", true),
-            Operation::Rem => (0x14, "REM", true),
-            Operation::Neg => (0x15, "NEG", false),
-            Operation::Eq => (0x20, "EQ", false),
-            Operation::Ne => (0x21, "NE", false),
-            Operation::Lt => (0x22, "LT", false),
-            Operation::Le => (0x23, "LE", false),
-            Operation::Gt => (0x24, "GT", false),
-            Operation::Ge => (0x25, "GE", false),
-            Operation::Not => (0x28, "NOT", false),
-        };
-        Row {
-            code,
-            name,
-            stands: SectionSet::All,
-            divides,
-        }
-    }
-
     /// What it takes from the stack.
     pub fn operands(self) -> Operands
         ensures { result ≡ spec.operands self }
