@@ -8,6 +8,7 @@ use Rattle.std.specs.Ordering.{is_eq}
 use Rattle.std.specs.FinMap.Entries.{put, find, where_key, is_sorted, is_sorted-put, is_sorted-where_key, find-where_key}
 use Rattle.wsm_record.specs.declared.event.Value.{Value}
 use Rattle.wsm_record.specs.declared.cell.Cell.{Cell}
+use Rattle.wsm_record.specs.declared.words.Form.{Form}
 use Rattle.wsm_windows.specs.declared.window.Shape.{Shape}
 use Rattle.wsm_windows.specs.declared.window.Shape.TheVariants.{Fixed, Sliding, Session}
 use Rattle.wsm_windows.specs.declared.window.Window.{Window}
@@ -22,10 +23,10 @@ use Rattle.wsm_semantics.specs.Query.{Datum}
 use Rattle.wsm_semantics.specs.Replay.{datum}
 use Rattle.wsm_semantics.specs.Kept.{is_linked}
 use Rattle.wsm_semantics.specs.Summaries.{Plan, Pane, assigned, entered, joined_all, linked, merged_session, session_with, standing_joined, standing_row, with_record}
-use Rattle.wsm_panes.specs.Held.{first_two, has_fired, joined_panes}
+use Rattle.wsm_panes.specs.Held.{are_sessions, first_two, has_fired, joined_panes}
 use Rattle.wsm_relation.specs.Rows.{count_of}
-use Rattle.wsm_firing.specs.Streams.{are_both_fired, rows_and, rows_with, standing_rows}
-use Rattle.wsm_firing.proofs.StreamRows.{Rows}
+use Rattle.wsm_firing.specs.Streams.{IsToldOf, are_both_fired, rows_and, rows_with, standing_rows}
+use Rattle.wsm_firing.proofs.StreamRows.{Numbers, Rows, told_same}
 use Rattle.wsm_firing.proofs.StandingRows.{Folded, Panes, row_at, row_found, without, count_in, count_cons, count_found, count_put, few_rows, length_cons}
 
 module _ (plan : Plan (List Value)) (d : Datum) where
@@ -233,3 +234,29 @@ pub unmarked : (sh : Shape) (m : ℤ) (k : ℕ) (t : ℤ) (es : Panes) → rows_
 unmarked (Fixed size) m k t es = refl
 unmarked (Sliding size period) m k t es = refl
 unmarked (Session gap) m k t es = refl
+
+-- where windows are no sessions, no row goes
+pub rows_apart : (sh : Shape) (d : Datum) (es : Panes) → are_sessions sh ≡ false → rows_with sh d es ≡ standing_rows es
+rows_apart (Fixed size) d es apart = refl
+rows_apart (Sliding size period) d es apart = refl
+rows_apart (Session gap) d es apart = absurd (cc)
+
+-- what was told of the rows that stand then is told of those of the panes
+pub told_entered : (f : Form) (ns : Numbers) (relation : Rows) (plan : Plan (List Value)) (sh : Shape) (l m : ℤ) (k : ℕ) (t : ℤ) (es : Panes) →
+    IsShape sh → T (is_sorted place_cmp es) → ((gap : ℤ) → sh ≡ Session gap → length (linked gap (datum 0 m k t []) es) ≤ 2) →
+    IsToldOf f ns relation (rows_with sh (datum 0 (pos 0) k t []) es) → IsToldOf f ns relation (standing_rows (entered plan sh l (datum 0 m k t []) es))
+told_entered f ns relation plan sh l m k t es is sorted few told =
+    let d = datum 0 m k t [] in
+    told_same f ns relation (rows_with sh (datum 0 (pos 0) k t []) es) (standing_rows (entered plan sh l d es))
+    (λ q. sym (count_entered plan sh l d es is sorted few q ∙ ap (count_of q) (unmarked sh m k t es))) told
+
+few_apart : (sh : Shape) (d : Datum) (es : Panes) → are_sessions sh ≡ false → (gap : ℤ) → sh ≡ Session gap → length (linked gap d es) ≤ 2
+few_apart (Fixed size) d es apart gap is = absurd (cc)
+few_apart (Sliding size period) d es apart gap is = absurd (cc)
+few_apart (Session g) d es apart gap is = absurd (cc)
+
+pub told_apart : (f : Form) (ns : Numbers) (relation : Rows) (plan : Plan (List Value)) (sh : Shape) (l m : ℤ) (k : ℕ) (t : ℤ) (es : Panes) →
+    IsShape sh → T (is_sorted place_cmp es) → are_sessions sh ≡ false → IsToldOf f ns relation (standing_rows es) → IsToldOf f ns relation (standing_rows (entered plan sh l (datum 0 m k t []) es))
+told_apart f ns relation plan sh l m k t es is sorted apart told =
+    told_entered f ns relation plan sh l m k t es is sorted (few_apart sh (datum 0 m k t []) es apart)
+    (subst (λ (rs : Rows). IsToldOf f ns relation rs) (sym (rows_apart sh (datum 0 (pos 0) k t []) es apart)) told)

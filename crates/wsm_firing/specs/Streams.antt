@@ -15,7 +15,7 @@ use Rattle.wsm_semantics.specs.Kept.{is_linked}
 use Rattle.wsm_semantics.specs.Relation.{sorted_rows, stream_rows}
 use Rattle.wsm_semantics.specs.Replay.{datum}
 use Rattle.wsm_semantics.specs.declared.out_row.OutRow.{OutRow}
-use Rattle.wsm_semantics.specs.Summaries.{Pane, linked, standing_row}
+use Rattle.wsm_semantics.specs.Summaries.{Pane, Plan, entered, linked, standing_row}
 use Rattle.wsm_panes.specs.declared.spot.Spot.{Spot}
 use Rattle.wsm_panes.specs.Held.{Held, entries_of, has_fired}
 use Rattle.wsm_firing.specs.Spots.{Holds}
@@ -76,6 +76,11 @@ TellsRows old new before after = (relation : List (List Cell)) → IsTold old re
 -- or of those that stand for some panes
 abbrev pub TellsPanes : {X : Type 0} → Told → Told → List (Place × Pane X) → List (Place × Pane X) → Type 0
 TellsPanes old new before after = TellsRows old new (standing_rows before) (standing_rows after)
+
+-- or of those that stand once a record of a key and a time is put in, whatever the plan and the mark
+abbrev pub TellsEntered : Told → Told → Held → ℕ → ℤ → Type 0
+TellsEntered old new h key time = (plan : Plan (List Value)) (lateness mark : ℤ) →
+    TellsPanes old new (entries_of h) (entered plan h.shape lateness (datum 0 mark key time []) (entries_of h))
 
 -- a row is lost, or gained, if there is one
 abbrev pub Loses : Told → Told → Option (List Cell) → Type 0

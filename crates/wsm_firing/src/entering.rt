@@ -9,7 +9,7 @@ ghost use Rattle.wsm_semantics.specs.Summaries.{linked};
 ghost use Rattle.wsm_panes.specs.Held.{CanEnter, IsKept, entries_of, joins_sessions, session_entered, windows_entered};
 ghost use Rattle.wsm_firing.specs.ByRecord.{panes_entered};
 ghost use Rattle.wsm_firing.specs.Retracting.{LeavesRoom, WithdrawsJoined};
-ghost use Rattle.wsm_firing.specs.Streams.{AreAlike, CanLosePair, CanTell, IsTold, TellsPanes, TellsRows, rows_and, rows_entered, standing_rows};
+ghost use Rattle.wsm_firing.specs.Streams.{AreAlike, CanLosePair, CanTell, IsTold, TellsEntered, TellsPanes, TellsRows, rows_and, rows_entered, standing_rows};
 
 use crate::operator::{Arrival, WindowState};
 use crate::retracting::retract_joined;
@@ -48,12 +48,7 @@ impl WindowState {
             arrival.key,
             arrival.time,
         );
-        match self.streams.form() {
-            Form::Panes => {}
-            Form::Istream | Form::Dstream | Form::Rstream => {
-                lose_joined(&mut self.streams, &self.held, arrival.key, arrival.time);
-            }
-        }
+        lose_joined(&mut self.streams, &self.held, arrival.key, arrival.time);
         self.held.enter(
             &header.kinds,
             arrival.key,
@@ -65,22 +60,23 @@ impl WindowState {
     }
 }
 
-// Tells the streams which rows stand no more once a record is put in.
+// Tells the streams which rows stand no more once a record is put in, whatever the plan and the mark.
 fn lose_joined(streams: &mut Streams, held: &HeldPanes, key: u16, time: i64)
     requires declared { key < held.now.keys }
     requires timely { IsTime time }
     requires tells { CanTell streams.old (entries_of held.now) }
-    ensures told { TellsRows streams.old streams.new (standing_rows (entries_of held.now)) (rows_entered held.now key time) }
+    ensures told { TellsEntered streams.old streams.new held.now key time }
     ensures alike { AreAlike streams.old streams.new }
-    ensures few { (gap : ℤ) → held.now.shape ≡ Session gap → length (linked gap (datum 0 (pos 0) key time []) (entries_of held.now)) ≤ 2 }
-    ensures shape { IsShape held.now.shape }
 {
     if held.has_sessions() {
-        lose_linked(streams, held, key, time);
+        match streams.form() {
+            Form::Panes => {}
+            Form::Istream | Form::Dstream | Form::Rstream => lose_linked(streams, held, key, time),
+        }
     }
 }
 
-// The same where windows are sessions. Its frame is large, so it isn't inlined.
+// The same where windows are sessions and rows are those of a stream. Its frame is large, so it isn't inlined.
 #[inline(never)]
 fn lose_linked(streams: &mut Streams, held: &HeldPanes, key: u16, time: i64)
     requires declared { key < held.now.keys }
