@@ -4,7 +4,9 @@ use Rattle.std.specs.Int.{from_le_bytes}
 use Rattle.std.specs.List.{list_all, AllByRecursion, slice_index}
 use Rattle.std.proofs.lemmas.Nat.{and_block, and_le_l, and_mask, mod_below, mod_low, shr-shr, shr_high, shr_split}
 use Rattle.std.proofs.lemmas.Nat.Bits.{and_high_mask}
-use Rattle.std.proofs.lemmas.Bool.{and_from, le-leb}
+use Rattle.std.proofs.lemmas.Bool.{and_from, and_parts, le-leb}
+use Rattle.std.proofs.lemmas.Bool.Decides.{nat_tests}
+use Rattle.std.specs.Prelude.{nat_le}
 use Rattle.wsm_record.specs.Name.{is_digit}
 use Rattle.wsm_csv.specs.Number.{digits_value}
 
@@ -170,3 +172,40 @@ first_eight (_ ∷ _ ∷ _ ∷ _ ∷ []) len = absurd (omega (arith, len))
 first_eight (_ ∷ _ ∷ _ ∷ _ ∷ _ ∷ []) len = absurd (omega (arith, len))
 first_eight (_ ∷ _ ∷ _ ∷ _ ∷ _ ∷ _ ∷ []) len = absurd (omega (arith, len))
 first_eight (_ ∷ _ ∷ _ ∷ _ ∷ _ ∷ _ ∷ _ ∷ []) len = absurd (omega (arith, len))
+
+-- ---- words of eight bytes
+
+word_same : (xs ys : List ℕ) → length xs ≡ length ys → ((i : ℕ) → get_or xs i 0 < 256) → ((i : ℕ) → get_or ys i 0 < 256) → word_of xs ≡ word_of ys → xs ≡ ys
+word_same [] [] len few fewer same = refl
+word_same [] (y ∷ ys) len few fewer same = absurd (omega (arith, len))
+word_same (x ∷ xs) [] len few fewer same = absurd (omega (arith, len))
+word_same (x ∷ xs) (y ∷ ys) len few fewer same =
+    let byte : x ≡ y = omega (arith, same, few 0, fewer 0) in
+    let rest : xs ≡ ys = word_same xs ys (omega (arith, len)) (λ i. few (suc i)) (λ i. fewer (suc i)) (omega (arith, same, byte)) in
+    λ i. byte i ∷ rest i
+
+word_read : (bs : List ℕ) (word : ℕ) → length bs ≡ 8 → word ≡ from_le_bytes w64 bs → word ≡ word_of bs
+word_read (a ∷ b ∷ c ∷ d ∷ e ∷ f ∷ g ∷ h ∷ []) word len is = omega (arith, is)
+word_read [] word len is = absurd (omega (arith, len))
+word_read (_ ∷ []) word len is = absurd (omega (arith, len))
+word_read (_ ∷ _ ∷ []) word len is = absurd (omega (arith, len))
+word_read (_ ∷ _ ∷ _ ∷ []) word len is = absurd (omega (arith, len))
+word_read (_ ∷ _ ∷ _ ∷ _ ∷ []) word len is = absurd (omega (arith, len))
+word_read (_ ∷ _ ∷ _ ∷ _ ∷ _ ∷ []) word len is = absurd (omega (arith, len))
+word_read (_ ∷ _ ∷ _ ∷ _ ∷ _ ∷ _ ∷ []) word len is = absurd (omega (arith, len))
+word_read (_ ∷ _ ∷ _ ∷ _ ∷ _ ∷ _ ∷ _ ∷ []) word len is = absurd (omega (arith, len))
+word_read (_ ∷ _ ∷ _ ∷ _ ∷ _ ∷ _ ∷ _ ∷ _ ∷ _ ∷ _) word len is = absurd (omega (arith, len))
+
+digit_few : (b : ℕ) → is_digit b ≡ true → b < 256
+digit_few b is = let most = (and_parts (nat_le 48 b) (nat_le b 57) is).1 in grind (arith, nat_tests, most)
+
+digits_few : (bs : List ℕ) → list_all is_digit bs ≡ true → (i : ℕ) → get_or bs i 0 < 256
+digits_few [] all i = omega arith
+digits_few (b ∷ bs) all zero = digit_few b (and_parts (is_digit b) (list_all is_digit bs) all).0
+digits_few (b ∷ bs) all (suc i) = digits_few bs (and_parts (is_digit b) (list_all is_digit bs) all).1 i
+
+-- bytes whose word is that of digits are these digits
+pub same_digits : (xs ys : List ℕ) (word other : ℕ) → length xs ≡ 8 → length ys ≡ 8 → ((i : ℕ) → get_or xs i 0 < 256) → list_all is_digit ys ≡ true
+    → word ≡ from_le_bytes w64 xs → other ≡ from_le_bytes w64 ys → word ≡ other → xs ≡ ys
+same_digits xs ys word other len size few digits is it same =
+    word_same xs ys (len ∙ sym size) few (digits_few ys digits) (sym (word_read xs word len is) ∙ same ∙ word_read ys other size it)

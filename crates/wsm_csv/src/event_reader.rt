@@ -7,9 +7,8 @@ ghost use Rattle.wsm_csv.specs.Cells.{record_of, watermark_of};
 ghost use Rattle.wsm_csv.specs.InPlace.{room_in, values_in};
 ghost use Rattle.wsm_csv.specs.Refused.{IfFault};
 
-use crate::row::{
-    RECORD_HEAD, RowRefusal, Tag, cell_at, read_mark, read_tag, read_time, read_values,
-};
+use crate::number::Fronts;
+use crate::row::{RECORD_HEAD, RowRefusal, Tag, cell_at, read_mark, read_tag, read_values};
 use csv::ByteRecord;
 use std::alloc::Global;
 use std::mem;
@@ -23,6 +22,8 @@ pub struct EventReader {
     event: Event,
     // The vector of the last record, where the event is a watermark.
     spare: Vec<Value>,
+    // What the times of the last records began with.
+    fronts: Fronts,
 }
 
 impl EventReader {
@@ -44,6 +45,7 @@ impl EventReader {
                 values: Vec::new(alloc),
             },
             spare: Vec::new(alloc),
+            fronts: Fronts::new(),
         }
     }
 
@@ -58,7 +60,10 @@ impl EventReader {
         ensures kept { room_of self.old ≤ room_of self.new }
     {
         match read_tag(row) {
-            Some(Tag::Record) => read_record(schema, row, &mut self.event, &mut self.spare),
+            Some(Tag::Record) => {
+                let fronts = &mut self.fronts;
+                read_record(schema, row, fronts, &mut self.event, &mut self.spare)
+            }
             Some(Tag::Watermark) => {
                 Ok(read_watermark(schema, row, &mut self.event, &mut self.spare)?)
             }
@@ -86,6 +91,7 @@ impl EventReader {
 fn read_record(
     schema: &Schema,
     row: &ByteRecord,
+    fronts: &mut Fronts,
     event: &mut Event,
     spare: &mut Vec<Value>,
 ) -> Result<(), RowRefusal>
@@ -95,13 +101,13 @@ fn read_record(
     ensures kept { room_in event.old (vec_capacity spare.old) ≤ room_in event.new (vec_capacity spare.new) }
 {
     let fields = schema.fields();
-    // That there is a head is asked by itself, so that none of its cells is looked for in vain.
-    let cells = row.len();
-    if cells < RECORD_HEAD || cells - RECORD_HEAD != fields.len() {
+    if row.len() != RECORD_HEAD + fields.len() {
         return Err(RowRefusal::Fault(RowFault::CellCount));
     }
     let key = schema.key_number(cell_at(row, 1));
-    let time = read_time(cell_at(row, 2))?;
+    let time = fronts
+        .read_number(cell_at(row, 2))
+        .ok_or(RowFault::BadNumber)?;
     begin_record(event, spare, key, time);
     if let Event::Record { values, .. } = event {
         read_values(fields, row, values)?;

@@ -4,6 +4,9 @@ ghost use Rattle.std.specs.Prelude.{◌≡◌, ◌<◌, ◌≤◌, ◌-◌, ◌^
 ghost use Rattle.wsm_record.specs.Name.{is_digit};
 ghost use Rattle.wsm_csv.specs.Number.{AreDigitsOf, magnitude_behind, magnitude_of, number_of};
 
+use std::marker::Model;
+use std::mem;
+
 /// The most digits that are read without asking at each whether 64 bits hold the value.
 const SHORT: usize = 18;
 
@@ -33,42 +36,157 @@ pub(crate) fn read_number(cell: &[u8]) -> Option<i64>
     }
 }
 
-/// The number that a cell writes, as [`read_number`] reads it. Of eight digits or more the first eight are
-/// read at once, which pays where most numbers are that long.
-#[inline(always)]
-pub(crate) fn read_long_number(cell: &[u8]) -> Option<i64>
-    ensures { result ≡ number_of cell.now }
-{
-    if cell.len() < AT_ONCE {
-        read_number(cell)
-    } else {
-        long_number(cell)
-    }
+// Eight digits, and what they stand for.
+#[derive(Drop)]
+struct Eight {
+    digits: [u8; AT_ONCE],
+    value: u64,
 }
 
-// The number that a long cell writes. It isn't inlined, since it would take room from the rest of a row.
-#[inline(never)]
-fn long_number(cell: &[u8]) -> Option<i64>
-    ensures { result ≡ number_of cell.now }
-{
-    match long_magnitude(cell) {
-        Some(value) => Some(value as i64),
-        None => read_number(cell),
-    }
+impl Model for Eight {
+    ghost use Rattle.std.specs.Prelude.{◌≡◌, ◌<◌, ◌^◌, ℕ, length};
+    ghost use Rattle.wsm_csv.specs.Number.{AreDigitsOf};
+    ghost use Rattle.wsm_csv.specs.declared.number.TheConstants.{AT_ONCE};
+
+    ghost Value = { ℕ };
+
+    ghost view = { λ a. a.value };
+
+    ghost invariant = { λ a. (length a.digits ≡ AT_ONCE) × ((a.value < 10 ^ AT_ONCE) × AreDigitsOf a.digits a.value) };
 }
 
-// What eight digits or more stand for, where they are few enough for 64 bits. No answer tells nothing of the cell.
-#[inline(always)]
-fn long_magnitude(cell: &[u8]) -> Option<u64>
-    ensures value { IfSome result (λ n. magnitude_of cell.now ≡ Some n) }
-    ensures below { IfSome result (λ n. n < 10 ^ SHORT) }
-{
-    match cell {
-        [a, b, c, d, e, f, g, h, rest @ ..] if rest.len() <= SHORT - AT_ONCE => {
-            let front = eight_digits([*a, *b, *c, *d, *e, *f, *g, *h])?;
-            magnitude_from(front, rest)
+impl Eight {
+    // Eight zeros.
+    fn zeros() -> Eight {
+        Eight {
+            digits: [b'0'; AT_ONCE],
+            value: 0,
         }
-        _ => None,
+    }
+
+    // What eight bytes stand for, where they are these digits.
+    #[inline(always)]
+    fn read(&self, bytes: [u8; AT_ONCE]) -> Option<u64>
+        ensures value { IfSome result (λ n. AreDigitsOf bytes n) }
+        ensures below { IfSome result (λ n. n < 10 ^ AT_ONCE) }
+    {
+        let word = u64::from_le_bytes(bytes);
+        let last = u64::from_le_bytes(self.digits);
+        if word == last {
+            return Some(self.value);
+        }
+        None
+    }
+}
+
+/// What the last times of eight digits or more began with: the next one mostly begins with the same, or
+/// with what the one before did.
+#[derive(Drop)]
+pub(crate) struct Fronts {
+    last: Eight,
+    other: Eight,
+}
+
+impl Fronts {
+    /// Before the first time, zeros.
+    pub(crate) fn new() -> Fronts {
+        Fronts {
+            last: Eight::zeros(),
+            other: Eight::zeros(),
+        }
+    }
+
+    /// The number that a cell writes, as [`read_number`] reads it. Of eight digits or more the first eight
+    /// are read at once, which pays where most numbers are that long.
+    #[inline(always)]
+    pub(crate) fn read_number(&mut self, cell: &[u8]) -> Option<i64>
+        ensures { result ≡ number_of cell.now }
+    {
+        if cell.len() < AT_ONCE {
+            read_number(cell)
+        } else {
+            self.long_number(cell)
+        }
+    }
+
+    // The number that a long cell writes. It isn't inlined, since it would take room from the rest of a
+    // row.
+    #[inline(never)]
+    fn long_number(&mut self, cell: &[u8]) -> Option<i64>
+        ensures { result ≡ number_of cell.now }
+    {
+        match self.known_magnitude(cell) {
+            Some(value) => Some(value as i64),
+            None => self.new_number(cell),
+        }
+    }
+
+    // The same of one that begins with other digits.
+    #[inline(never)]
+    fn new_number(&mut self, cell: &[u8]) -> Option<i64>
+        ensures { result ≡ number_of cell.now }
+    {
+        match self.new_magnitude(cell) {
+            Some(value) => Some(value as i64),
+            None => read_number(cell),
+        }
+    }
+
+    // What eight digits or more stand for, where they are few enough for 64 bits, and the first eight are
+    // known. No answer tells nothing of the cell.
+    #[inline(always)]
+    fn known_magnitude(&self, cell: &[u8]) -> Option<u64>
+        ensures value { IfSome result (λ n. magnitude_of cell.now ≡ Some n) }
+        ensures below { IfSome result (λ n. n < 10 ^ SHORT) }
+    {
+        match cell {
+            [a, b, c, d, e, f, g, h, rest @ ..] if rest.len() <= SHORT - AT_ONCE => {
+                let front = self.known([*a, *b, *c, *d, *e, *f, *g, *h])?;
+                magnitude_from(front, rest)
+            }
+            _ => None,
+        }
+    }
+
+    // The same where they aren't known. They are then.
+    #[inline(always)]
+    fn new_magnitude(&mut self, cell: &[u8]) -> Option<u64>
+        ensures value { IfSome result (λ n. magnitude_of cell.now ≡ Some n) }
+        ensures below { IfSome result (λ n. n < 10 ^ SHORT) }
+    {
+        match cell {
+            [a, b, c, d, e, f, g, h, rest @ ..] if rest.len() <= SHORT - AT_ONCE => {
+                let front = self.renew([*a, *b, *c, *d, *e, *f, *g, *h])?;
+                magnitude_from(front, rest)
+            }
+            _ => None,
+        }
+    }
+
+    // What eight bytes stand for, where they are known.
+    #[inline(always)]
+    fn known(&self, bytes: [u8; AT_ONCE]) -> Option<u64>
+        ensures value { IfSome result (λ n. AreDigitsOf bytes n) }
+        ensures below { IfSome result (λ n. n < 10 ^ AT_ONCE) }
+    {
+        match self.last.read(bytes) {
+            Some(value) => Some(value),
+            None => self.other.read(bytes),
+        }
+    }
+
+    // What eight bytes stand for, where all are digits, which are known then.
+    fn renew(&mut self, bytes: [u8; AT_ONCE]) -> Option<u64>
+        ensures value { IfSome result (λ n. AreDigitsOf bytes n) }
+        ensures below { IfSome result (λ n. n < 10 ^ AT_ONCE) }
+    {
+        let value = eight_digits(bytes)?;
+        let eight = Eight {
+            digits: bytes,
+            value,
+        };
+        self.other = mem::replace(&mut self.last, eight);
+        Some(value)
     }
 }
 

@@ -10,7 +10,7 @@ ghost use Rattle.wsm_csv.specs.Refused.{IfFault};
 ghost use Rattle.wsm_csv.specs.Tags.{row_tag, tag_of};
 
 use crate::event_reader::EventReader;
-use crate::number::{read_long_number, read_number};
+use crate::number::read_number;
 use csv::ByteRecord;
 use std::alloc::{AllocError, Global};
 use wsm_record::{DeclaredField, Event, FieldType, Names, RowFault, Schema, Value};
@@ -236,12 +236,11 @@ fn read_truth(cell: &[u8]) -> Option<bool>
     }
 }
 
-/// The time that a cell writes.
-#[inline(always)]
-pub(crate) fn read_time(cell: &[u8]) -> Result<i64, RowFault>
+// The time that a cell writes.
+fn read_time(cell: &[u8]) -> Result<i64, RowFault>
     ensures { result ≡ time_of cell.now }
 {
-    read_long_number(cell).ok_or(RowFault::BadNumber)
+    read_number(cell).ok_or(RowFault::BadNumber)
 }
 
 /// The cell at a place that the row has.
