@@ -21,6 +21,6 @@
 pub use placed::{Entry, Linked, Placed};
 pub use sessions::Sessions;
 
-mod edits;
+mod linking;
 mod placed;
 mod sessions;

@@ -1,15 +1,16 @@
 //! The sessions of one key.
 
-ghost use Rattle.std.specs.Prelude.{◌≡◌, ℕ, ◌<◌, ℤ, pos, ◌≤ℤ◌, List, [], ◌∷◌, length, filter, Contains, IfOk, true, Some, slice_get};
+ghost use Rattle.std.specs.Prelude.{◌≡◌, ℕ, ◌<◌, ℤ, pos, ◌≤ℤ◌, List, [], ◌∷◌, length, filter, Contains, IfOk, true, Some, slice_get, ◌⊎◌, ◌+◌, ◌≤◌, insert, vec_len, vec_capacity};
+ghost use Rattle.std.specs.List.Sorted.{IsPartitionedBy};
 ghost use Rattle.std.specs.List.{list_any};
 ghost use Rattle.wsm_windows.specs.Windows.{IsTime, greatest_span, has_inside};
-ghost use Rattle.wsm_semantics.specs.Sessions.{with_session, session_of, links, ends_after};
+ghost use Rattle.wsm_semantics.specs.Sessions.{with_session, session_of, links, ends_after, ends_by};
 ghost use Rattle.wsm_sessions.specs.Classes.{IsClass};
-ghost use Rattle.wsm_sessions.specs.Live.{Fits, IsApart, times_left};
-ghost use Rattle.wsm_sessions.specs.Placing.{placed, those_linked};
+ghost use Rattle.wsm_sessions.specs.Live.{Fits, IsApart, times_left, IsOfTimes};
+ghost use Rattle.wsm_sessions.specs.Placing.{placed, those_linked, HasOneMore, is_any_linked, joined_at};
 ghost use Rattle.wsm_sessions.specs.Placing as spec;
 
-use crate::edits::{find, keep_past, linked_at, put_time};
+use crate::linking::{alone, extended, find, first_ends_by, joined, linked_at};
 use crate::placed::{Entry, Linked, Placed};
 use std::alloc::{AllocError, Global};
 use std::marker::Model;
@@ -33,7 +34,8 @@ impl Model for Sessions {
 
     ghost view = { λ a. record { gap = a.gap; room = a.room; windows = a.windows.items } };
 
-    ghost invariant = { λ a. (pos 1 ≤ℤ a.gap) × (a.gap ≤ℤ greatest_span) × IsOfTimes a.gap a.windows.items × (vec_len a.windows ≤ a.room) × (a.room ≤ vec_capacity a.windows) };
+    ghost invariant = { λ a. (pos 1 ≤ℤ a.gap) × (a.gap ≤ℤ greatest_span) × IsOfTimes a.gap a.windows.items
+        × (vec_len a.windows ≤ a.room) × (a.room ≤ vec_capacity a.windows) };
 }
 
 impl Sessions {
@@ -154,5 +156,63 @@ impl Sessions {
         ensures covers { (times : List ℤ) → Fits self.now times → (t : ℤ) → Contains times t → list_any (has_inside t) self.now.windows ≡ true }
     {
         self.windows.len()
+    }
+}
+
+// Puts a time into sessions, where it was found what it does to them, and room is left or it is
+// linked to one.
+fn put_time(windows: &mut Vec<Window>, gap: i64, time: i64, found: Placed)
+    requires gap_low { pos 1 ≤ℤ gap }
+    requires gap_high { gap ≤ℤ greatest_span }
+    requires time { IsTime time }
+    requires sessions { IsOfTimes gap windows.old.items }
+    requires found { found ≡ placed gap time windows.old.items }
+    requires room { (is_any_linked gap time windows.old.items ≡ true) ⊎ (vec_len windows.old < vec_capacity windows.old) }
+    ensures items { windows.new.items ≡ with_session gap time windows.old.items }
+    ensures len { HasOneMore gap time windows.old.items (vec_len windows.old) (vec_len windows.new) }
+    ensures capacity { vec_capacity windows.new ≡ vec_capacity windows.old }
+{
+    match found {
+        Placed::New(i) => begin(windows, i, alone(gap, time)),
+        Placed::Extends(i) => windows[i] = extended(windows[i], gap, time),
+        Placed::Joins(i) => join(windows, i),
+    }
+}
+
+// Puts a session in at a place. Mostly that is behind all others, where none is moved.
+fn begin(windows: &mut Vec<Window>, i: usize, session: Window)
+    requires within { i ≤ vec_len windows.old }
+    requires room { vec_len windows.old < vec_capacity windows.old }
+    ensures items { windows.new.items ≡ insert windows.old.items i session }
+    ensures len { vec_len windows.new ≡ vec_len windows.old + 1 }
+    ensures capacity { vec_capacity windows.new ≡ vec_capacity windows.old }
+{
+    if i == windows.len() {
+        windows.push_reserved(session);
+    } else {
+        windows.insert(i, session).unwrap();
+    }
+}
+
+// Puts the sessions at a place and at the next together.
+fn join(windows: &mut Vec<Window>, i: usize)
+    requires { i + 1 < vec_len windows.old }
+    ensures items { windows.new.items ≡ joined_at windows.old.items i }
+    ensures len { vec_len windows.new ≤ vec_len windows.old }
+    ensures capacity { vec_capacity windows.new ≡ vec_capacity windows.old }
+{
+    let next = windows.remove(i + 1);
+    windows[i] = joined(windows[i], next);
+}
+
+// Keeps the windows that end after a limit, where those that end by it come first.
+fn keep_past(windows: &mut Vec<Window>, limit: i64)
+    requires { IsPartitionedBy (ends_by limit) windows.old.items }
+    ensures items { windows.new.items ≡ filter (ends_after limit) windows.old.items }
+    ensures len { vec_len windows.new ≤ vec_len windows.old }
+    ensures capacity { vec_capacity windows.new ≡ vec_capacity windows.old }
+{
+    if first_ends_by(windows, limit) {
+        windows.retain(|w| w.end > limit);
     }
 }

@@ -4,8 +4,8 @@ use Rattle.wsm_windows.specs.Windows.{window}
 use Rattle.wsm_sessions.specs.declared.placed.Placed.TheVariants.{Extends, Joins}
 use Rattle.wsm_sessions.specs.Placing.{placed}
 use Rattle.wsm_sessions.proofs.SessionEdits.{apart_of, extended, joined, linked_one, linked_two}
-use Rattle.wsm_sessions.proofs.edits.linked_at.Goals as goal
-use Rattle.wsm_sessions.proofs.edits.linked_at.Goals.{In-Extends, In-Joins}
+use Rattle.wsm_sessions.proofs.linking.linked_at.Goals as goal
+use Rattle.wsm_sessions.proofs.linking.linked_at.Goals.{In-Extends, In-Joins}
 
 extends : (c : In-Extends) → placed c.args.gap c.args.time c.args.windows.now ≡ Extends c.in-Extends.i
 extends c = sym c.requires.found ∙ c.in-Extends.is

@@ -3,7 +3,7 @@ use Rattle.std.proofs.lemmas.Fn.{filter_same}
 use Rattle.wsm_semantics.specs.Sessions.{ends_after}
 use Rattle.wsm_sessions.specs.Placing.{first_ends_by}
 use Rattle.wsm_sessions.proofs.SessionEdits.{first_after}
-use Rattle.wsm_sessions.proofs.edits.keep_past.Goals as goal
+use Rattle.wsm_sessions.proofs.sessions.keep_past.Goals as goal
 
 -- the closure answers the test, and stays as it was
 pub returns-then-first_ends_by-clause-items : goal.returns-then-first_ends_by-clause-items

@@ -5,7 +5,7 @@ use Rattle.std.specs.Int.{int_max, int_min}
 use Rattle.wsm_windows.specs.declared.window.Window.{Window}
 use Rattle.wsm_windows.specs.Windows.{window}
 use Rattle.wsm_sessions.proofs.SessionEdits.{apart_of, begun, extended, joined}
-use Rattle.wsm_sessions.proofs.edits.put_time.Goals as goal
+use Rattle.wsm_sessions.proofs.sessions.put_time.Goals as goal
 
 -- room is left where the time is linked to none
 room_left : (b : Bool) (n m : ℕ) → (b ≡ true) ⊎ (n < m) → b ≡ false → n < m

@@ -4,7 +4,7 @@ use Rattle.wsm_semantics.specs.Sessions.{ends_by}
 use Rattle.wsm_sessions.specs.declared.placed.Placed.TheVariants.{New, Extends, Joins}
 use Rattle.wsm_sessions.specs.Placing.{starts_before}
 use Rattle.wsm_sessions.proofs.SessionEdits.{parted, apart_of, found_new, found_extends, found_joins}
-use Rattle.wsm_sessions.proofs.edits.find.Goals as goal
+use Rattle.wsm_sessions.proofs.linking.find.Goals as goal
 
 pub ended_by-i-requires : goal.ended_by-i-requires
 ended_by-i-requires c =

@@ -2,7 +2,7 @@ use Rattle.std.proofs.Common.{sym, rules}
 use Rattle.std.proofs.lemmas.List.Sorted.{IsPartitionPoint-from_clause}
 use Rattle.wsm_semantics.specs.Sessions.{ends_by}
 use Rattle.wsm_sessions.proofs.Seams.{point_count}
-use Rattle.wsm_sessions.proofs.edits.ended_by.Goals as goal
+use Rattle.wsm_sessions.proofs.linking.ended_by.Goals as goal
 
 pub returns-clause-count : goal.returns-clause-count
 returns-clause-count c =

@@ -1,7 +1,7 @@
 use Rattle.std.proofs.Common.{◌∙◌, SFits, w64, to_z-of_z, nat_lt, ◌≡◌, length, false, arith}
 use Rattle.std.proofs.lemmas.Bool.Decides.{nat_tests}
 use Rattle.wsm_sessions.proofs.SessionEdits.{before_at, before_past}
-use Rattle.wsm_sessions.proofs.edits.starts_before.Goals as goal
+use Rattle.wsm_sessions.proofs.linking.starts_before.Goals as goal
 
 pub returns-then-i-windows : goal.returns-then-i-windows
 returns-then-i-windows c =

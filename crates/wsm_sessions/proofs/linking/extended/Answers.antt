@@ -1,6 +1,6 @@
 use Rattle.std.proofs.Common.{◌+ℤ◌, rules, SFits, w64, to_z-of_z}
 use Rattle.wsm_windows.specs.Windows.{window}
-use Rattle.wsm_sessions.proofs.edits.extended.Goals as goal
+use Rattle.wsm_sessions.proofs.linking.extended.Goals as goal
 
 pub returns : goal.returns
 returns c =

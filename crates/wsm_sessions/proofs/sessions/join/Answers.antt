@@ -3,7 +3,7 @@ use Rattle.std.specs.Prelude.{slice_set}
 use Rattle.std.specs.List.{remove}
 use Rattle.wsm_windows.specs.Windows.{window}
 use Rattle.wsm_sessions.proofs.SessionEdits.{joined_edits}
-use Rattle.wsm_sessions.proofs.edits.join.Goals as goal
+use Rattle.wsm_sessions.proofs.sessions.join.Goals as goal
 
 pub returns-clause-items : goal.returns-clause-items
 returns-clause-items c =
