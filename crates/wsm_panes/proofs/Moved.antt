@@ -1,5 +1,5 @@
 -- A record put into its session: the panes that it is linked to come to one pane, at the place of the session with it.
-use Rattle.std.proofs.Common.{pos, ◌≡◌, List, [], ◌∷◌, ℕ, ℤ, ◌+ℤ◌, ◌≤ℤ◌, Bool, true, false, ◌&&◌, cond, Some, None, refl, sym, ap, subst, ◌∙◌, arith, length}
+use Rattle.std.proofs.Common.{pos, ◌≡◌, ◌≤◌, List, [], ◌∷◌, ℕ, ℤ, ◌+ℤ◌, ◌≤ℤ◌, Bool, true, false, ◌&&◌, cond, Some, None, refl, sym, ap, subst, ◌∙◌, arith, length}
 use Rattle.std.proofs.lemmas.Int.{ints}
 use Rattle.std.proofs.lemmas.Option.{same_Some}
 use Rattle.std.specs.Prelude.{filter, IfSome, IsSome, int_lt, nat_lt, not}
@@ -16,11 +16,11 @@ use Rattle.wsm_semantics.specs.Query.{Datum}
 use Rattle.wsm_semantics.specs.Replay.{datum}
 use Rattle.wsm_semantics.specs.Sessions.{links, session_of}
 use Rattle.wsm_semantics.specs.Kept.{is_linked}
-use Rattle.wsm_semantics.specs.Summaries.{Pane, Plan, joined, joined_all, linked}
-use Rattle.wsm_panes.specs.Held.{CanJoin, CanJoinAll, CanRecord, taking, windows_of_key, with_one_more}
+use Rattle.wsm_semantics.specs.Summaries.{Pane, Plan, joined, joined_all, linked, merged_session}
+use Rattle.wsm_panes.specs.Held.{CanJoin, CanJoinAll, CanJoinAt, CanRecord, JoinedAt, taking, windows_of_key, with_one_more}
 use Rattle.wsm_semantics.proofs.Each.{itself}
 use Rattle.wsm_panes.proofs.Enters.{any_datum}
-use Rattle.wsm_panes.proofs.Merged.{Puts, parts_at}
+use Rattle.wsm_panes.proofs.Merged.{Puts, merged_fits, parts_at}
 use Rattle.wsm_panes.proofs.Tables.{alike}
 use Rattle.wsm_panes.proofs.Taken.{none_left, one_found, one_left, first_found, second_found, both_left, no_entry, one_entry, two_entries}
 
@@ -135,18 +135,6 @@ module _ (kinds : List Kind) (values : List Value) (gap : ℤ) (long : pos 1 ≤
     two_far : remove (remove m first) second ≡ retain_keys m far
     two_far = (λ i. remove (remove m (first_is i)) (second_is i)) ∙ both_left gap it m (at key w) (at key v) x y two_are.1.1
 
-    pub first_there : IsSome (get m first)
-    first_there = subst IsSome (sym first_held) refl
-
-    pub second_there : IsSome (get (remove m first) second)
-    second_there = subst IsSome (sym second_held) refl
-
-    pub two_join : CanJoinAll kinds values (linked gap it (entries m)) → (a b : Pane (List Value)) → get m first ≡ Some a → get (remove m first) second ≡ Some b → CanJoin kinds a b × CanRecord kinds values (joined plan a b)
-    two_join can a b h k =
-        let here : x ≡ a = same_Some _ _ (sym first_held ∙ h) in
-        let there : y ≡ b = same_Some _ _ (sym second_held ∙ k) in
-        rw (sym here, sym there) (subst (CanJoinAll kinds values) two_are.1.1 can)
-
     pub two_joined : true ≡ nat_lt 1 (length (linked gap it (entries m)))
     two_joined = sym (ap (λ es. nat_lt 1 (length es)) two_are.1.1)
 
@@ -158,6 +146,19 @@ module _ (kinds : List Kind) (values : List Value) (gap : ℤ) (long : pos 1 ≤
       value_is = any_datum kinds values it (Some (joined plan x y));
     }
 
-    pub two_put : (new : FinMap place_cmp (Pane (List Value))) → ((a b : Pane (List Value)) → get m first ≡ Some a → get (remove m first) second ≡ Some b → new ≡ insert (remove (remove m first) second) to (with_one_more kinds values (Some (joined plan a b))))
-        → new ≡ insert (remove (remove m first) second) to (with_one_more kinds values (Some (joined plan x y)))
+    two_join : CanJoinAll kinds values (linked gap it (entries m)) → (a b : Pane (List Value)) → get m first ≡ Some a → get (remove m first) second ≡ Some b → CanJoin kinds a b × CanRecord kinds values (joined plan a b)
+    two_join can a b h k =
+        let here : x ≡ a = same_Some _ _ (sym first_held ∙ h) in
+        let there : y ≡ b = same_Some _ _ (sym second_held ∙ k) in
+        rw (sym here, sym there) (subst (CanJoinAll kinds values) two_are.1.1 can)
+
+    pub two_can : CanJoinAll kinds values (linked gap it (entries m)) → (room : ℕ) → length (merged_session plan gap it (entries m)) ≤ room → CanJoinAt kinds values first second to m room
+    two_can can room fits = record {
+      here = subst IsSome (sym first_held) refl;
+      there = subst IsSome (sym second_held) refl;
+      joins = two_join can;
+      fits = merged_fits plan gap key t m ws agree _ _ _ _ two_puts room fits;
+    }
+
+    pub two_put : (new : FinMap place_cmp (Pane (List Value))) → JoinedAt kinds values first second to m new → new ≡ insert (remove (remove m first) second) to (with_one_more kinds values (Some (joined plan x y)))
     two_put new put = put x y first_held second_held

@@ -155,3 +155,9 @@ left_by mode holds = if is_over_all mode then holds else unfolded holds
 
 abbrev pub head_fired : Mode → Bool → ℕ → Head → Head
 head_fired mode has_row kinds h = record h { unshown = 0; kinds = kinds; holds = left_by mode h.holds; stands = if has_row then FiredRow else NoRow }
+
+-- ---- what is done to a slot
+
+-- a slot has another entry, or none
+abbrev pub with_slot : ℕ → Option (Place × Pane (List Value)) → Slotted → Slotted
+with_slot slot entry s = record s { slots = slice_set s.slots slot entry }

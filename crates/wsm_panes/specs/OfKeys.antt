@@ -28,3 +28,7 @@ pub record IsLeft (limit : ℤ) (old new : Live) : Type 0 where
 pub record AreDropped (limit : ℤ) (olds news : List Live) : Type 0 where
   pub count : length news ≡ length olds
   pub each : (k : ℕ) (new : Live) → slice_get news k ≡ Some new → (old : Live) × (slice_get olds k ≡ Some old) × IsLeft limit old new
+
+-- panes and sessions that went together go together, after something was done to both
+abbrev pub StayOfKeys : List (Place × Pane (List Value)) → List Live → List (Place × Pane (List Value)) → List Live → Type 0
+StayOfKeys es ss fs ts = (gap : ℤ) (keys live : ℕ) → AreOfKeys gap keys live es ss → AreOfKeys gap keys live fs ts

@@ -6,7 +6,7 @@ ghost use Rattle.wsm_windows.specs.Windows.{IsTime, greatest_span, windows_of};
 ghost use Rattle.wsm_fold.specs.Fold.{are_of_kinds};
 ghost use Rattle.wsm_semantics.specs.Replay.{datum};
 ghost use Rattle.wsm_semantics.specs.Summaries.{assigned};
-ghost use Rattle.wsm_panes.specs.Held.{CanEnterWindows, taking};
+ghost use Rattle.wsm_panes.specs.Held.{CanEnterWindows, windows_past, with_assigned};
 
 use crate::ring_table::RingTable;
 use wsm_record::{Kind, Value};
@@ -27,11 +27,11 @@ pub(crate) fn enter_windows(
     requires after { time ≤ℤ past }
     requires wide { length values.now ≡ table.old.widths.accumulators }
     requires types { IsTrue (are_of_kinds kinds.now values.now) }
-    requires can { CanEnterWindows table.old.ring kinds.now values.now key time (filter (λ w. int_lt past w.end) (windows_of table.old.ring.size table.old.ring.period time)) (map.entries table.old.panes) }
-    ensures panes { map.entries table.new.panes ≡ assigned (taking kinds.now values.now) (datum 0 (pos 0) key time []) (filter (λ w. int_lt past w.end) (windows_of table.old.ring.size table.old.ring.period time)) (map.entries table.old.panes) }
+    requires can { CanEnterWindows table.old.ring kinds.now values.now key time (windows_past table.old.ring past time) (map.entries table.old.panes) }
+    ensures panes { map.entries table.new.panes ≡ with_assigned kinds.now values.now table.old.ring past key time (map.entries table.old.panes) }
     ensures ring { table.new.ring ≡ table.old.ring }
     ensures widths { table.new.widths ≡ table.old.widths }
-    ensures count { result ≡ length (filter (λ w. int_lt past w.end) (windows_of table.old.ring.size table.old.ring.period time)) }
+    ensures count { result ≡ length (windows_past table.old.ring past time) }
 {
     let ring = table.ring();
     let mut row = table.first_row(past);

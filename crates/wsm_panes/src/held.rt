@@ -10,10 +10,10 @@ ghost use Rattle.wsm_semantics.specs.Summaries.{Pane as AnyPane, linked};
 ghost use Rattle.wsm_record.specs.declared.event.Value.{Value as OneValue};
 ghost use Rattle.wsm_record.specs.Modes.{retracts};
 ghost use Rattle.wsm_windows.specs.Places.{place_cmp};
-ghost use Rattle.wsm_panes.specs.Held.{CanEnter, IsKept, IsSpot, are_sessions, entries_of, joined_panes, joins_sessions, once_fired, room_of, session_entered, windows_entered, with_entered};
+ghost use Rattle.wsm_panes.specs.Held.{CanEnter, IsKept, IsSpot, are_sessions, entries_of, joined_panes, joins_sessions, room_of, session_entered, windows_entered, with_entered, FiresAmong};
 ghost use Rattle.wsm_panes.specs.HeldState.{AreTables, panes_in, widths_in};
 ghost use Rattle.wsm_panes.specs.Ring.{IsRing};
-ghost use Rattle.wsm_panes.specs.OfKeys.{AreOfKeys, AreDropped};
+ghost use Rattle.wsm_panes.specs.OfKeys.{AreOfKeys, AreDropped, StayOfKeys};
 ghost use Rattle.wsm_panes.specs.Place.{is_kept};
 ghost use Rattle.wsm_panes.specs.Walk.{first_past, following, place_due, place_found};
 
@@ -259,7 +259,7 @@ impl HeldPanes {
         requires spot { IsSpot self.old spot }
         requires wide { IfSome row (λ cells. length cells.now ≡ self.old.widths.columns) }
         requires windows { self.old.widths.windows ≡ retracts mode }
-        ensures panes { (pane : AnyPane (List OneValue)) × (find place_cmp spot.place (entries_of self.old) ≡ Some pane) × (entries_of self.new ≡ put place_cmp spot.place (once_fired mode spot.place (option_map (λ cells. cells.now) row.entry) pane) (entries_of self.old)) }
+        ensures panes { FiresAmong mode spot.place (option_map (λ cells. cells.now) row.entry) (entries_of self.old) (entries_of self.new) }
         ensures keeps { IsKept self.old self.new }
     {
         match &mut self.tables {
@@ -356,7 +356,7 @@ fn drop_from(list: &mut ListTable, sessions: &mut Vec<Sessions>, limit: i64)
     ensures panes { list.new.panes ≡ map.retain_keys list.old.panes (is_kept limit) }
     ensures room { list.new.room ≡ list.old.room }
     ensures widths { list.new.widths ≡ list.old.widths }
-    ensures sessions { (gap : ℤ) (keys live : ℕ) → AreOfKeys gap keys live (map.entries list.old.panes) sessions.old.items → AreOfKeys gap keys live (map.entries list.new.panes) sessions.new.items }
+    ensures sessions { StayOfKeys (map.entries list.old.panes) sessions.old.items (map.entries list.new.panes) sessions.new.items }
 {
     let count = list.len();
     list.drop_expired(limit);

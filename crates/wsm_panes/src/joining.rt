@@ -12,7 +12,7 @@ ghost use Rattle.wsm_semantics.specs.Replay.{datum};
 ghost use Rattle.wsm_semantics.specs.Sessions.{with_session};
 ghost use Rattle.wsm_semantics.specs.Summaries.{Pane as AnyPane, joined, linked, merged_session, session_with};
 ghost use Rattle.wsm_sessions.specs.Live.{Fits};
-ghost use Rattle.wsm_panes.specs.Held.{CanJoin, CanJoinAll, CanRecord, first_two, taking, windows_of_key, with_one_more};
+ghost use Rattle.wsm_panes.specs.Held.{CanJoinAll, first_two, windows_of_key, CanJoinAt, JoinedAt, of_key, parts_of, session_of, with_merged};
 ghost use Rattle.wsm_panes.specs.Layout.{IsAsWide};
 
 use crate::list::ListTable;
@@ -42,18 +42,18 @@ pub(crate) fn enter_session(
     requires few { length values.now ≤ MAX_ACCUMULATORS }
     requires wide { length values.now ≡ table.old.widths.accumulators }
     requires types { IsTrue (are_of_kinds kinds.now values.now) }
-    requires joins { CanJoinAll kinds.now values.now (linked sessions.old.gap (datum 0 (pos 0) key time []) (map.entries table.old.panes)) }
-    requires room { length (merged_session (taking kinds.now values.now) sessions.old.gap (datum 0 (pos 0) key time []) (map.entries table.old.panes)) ≤ table.old.room }
-    requires live { length (filter (λ e. nat_eq e.0.key key) (merged_session (taking kinds.now values.now) sessions.old.gap (datum 0 (pos 0) key time []) (map.entries table.old.panes))) ≤ sessions.old.room }
-    ensures panes { map.entries table.new.panes ≡ merged_session (taking kinds.now values.now) sessions.old.gap (datum 0 (pos 0) key time []) (map.entries table.old.panes) }
+    requires joins { CanJoinAll kinds.now values.now (parts_of sessions.old.gap key time (map.entries table.old.panes)) }
+    requires room { length (with_merged kinds.now values.now sessions.old.gap key time (map.entries table.old.panes)) ≤ table.old.room }
+    requires live { length (of_key key (with_merged kinds.now values.now sessions.old.gap key time (map.entries table.old.panes))) ≤ sessions.old.room }
+    ensures panes { map.entries table.new.panes ≡ with_merged kinds.now values.now sessions.old.gap key time (map.entries table.old.panes) }
     ensures room { table.new.room ≡ table.old.room }
     ensures widths { table.new.widths ≡ table.old.widths }
-    ensures session { result.0 ≡ window_of (session_with sessions.old.gap (datum 0 (pos 0) key time []) (linked sessions.old.gap (datum 0 (pos 0) key time []) (map.entries table.old.panes))) }
-    ensures joined { result.1 ≡ nat_lt 1 (length (linked sessions.old.gap (datum 0 (pos 0) key time []) (map.entries table.old.panes))) }
+    ensures session { result.0 ≡ session_of sessions.old.gap key time (map.entries table.old.panes) }
+    ensures joined { result.1 ≡ nat_lt 1 (length (parts_of sessions.old.gap key time (map.entries table.old.panes))) }
     ensures sessions { sessions.new ≡ record sessions.old { windows = with_session sessions.old.gap time sessions.old.windows } }
     ensures fits { (times : List ℤ) → Fits sessions.old times → Fits sessions.new (time ∷ times) }
     ensures agree { windows_of_key key (map.entries table.new.panes) ≡ sessions.new.windows }
-    ensures others { (k : ℕ) → nat_eq key k ≡ false → windows_of_key k (map.entries table.new.panes) ≡ windows_of_key k (map.entries table.old.panes) }
+    ensures others { (k : _) → nat_eq key k ≡ false → windows_of_key k (map.entries table.new.panes) ≡ windows_of_key k (map.entries table.old.panes) }
 {
     let entry = sessions.enter(time);
     let place = Place::at(key, entry.session);
@@ -89,11 +89,8 @@ fn enter_joined(
     requires few { length values.now ≤ MAX_ACCUMULATORS }
     requires wide { length values.now ≡ table.old.widths.accumulators }
     requires types { IsTrue (are_of_kinds kinds.now values.now) }
-    requires first { IsSome (map.get table.old.panes first) }
-    requires second { IsSome (map.get (map.remove table.old.panes first) second) }
-    requires joins { (v w : AnyPane (List OneValue)) → map.get table.old.panes first ≡ Some v → map.get (map.remove table.old.panes first) second ≡ Some w → CanJoin kinds.now v w × CanRecord kinds.now values.now (joined (taking kinds.now values.now) v w) }
-    requires room { (map.contains_key (map.remove (map.remove table.old.panes first) second) to ≡ true) ⊎ (map.len (map.remove (map.remove table.old.panes first) second) < table.old.room) }
-    ensures panes { (v w : AnyPane (List OneValue)) → map.get table.old.panes first ≡ Some v → map.get (map.remove table.old.panes first) second ≡ Some w → table.new.panes ≡ map.insert (map.remove (map.remove table.old.panes first) second) to (with_one_more kinds.now values.now (Some (joined (taking kinds.now values.now) v w))) }
+    requires can { CanJoinAt kinds.now values.now first second to table.old.panes table.old.room }
+    ensures panes { JoinedAt kinds.now values.now first second to table.old.panes table.new.panes }
     ensures room { table.new.room ≡ table.old.room }
     ensures widths { table.new.widths ≡ table.old.widths }
 {
@@ -115,8 +112,8 @@ pub(crate) fn linked_pair<'a>(
 ) -> Option<(PaneView<'a>, PaneView<'a>)>
     requires time { IsTime time }
     requires agree { windows_of_key key (map.entries table.now.panes) ≡ sessions.now.windows }
-    ensures pair { result ≡ first_two (linked sessions.now.gap (datum 0 (pos 0) key time []) (map.entries table.now.panes)) }
-    ensures few { length (linked sessions.now.gap (datum 0 (pos 0) key time []) (map.entries table.now.panes)) ≤ 2 }
+    ensures pair { result ≡ first_two (parts_of sessions.now.gap key time (map.entries table.now.panes)) }
+    ensures few { length (parts_of sessions.now.gap key time (map.entries table.now.panes)) ≤ 2 }
 {
     match sessions.linked(time) {
         Linked::None => None,

@@ -6,8 +6,8 @@ ghost use Rattle.wsm_record.specs.declared.words.Kind.{Kind as OneKind};
 ghost use Rattle.wsm_record.specs.declared.limits.TheConstants.{MAX_ACCUMULATORS, MAX_COLUMNS};
 ghost use Rattle.wsm_record.specs.Modes.{retracts};
 ghost use Rattle.wsm_fold.specs.Fold.{are_of_kinds};
-ghost use Rattle.wsm_panes.specs.Held.{CanRecord, CanTake, once_fired, with_one_more};
-ghost use Rattle.wsm_panes.specs.Layout.{HasPart, IsAsWide, IsRowWritten, IsWritten, folded_on, part_at, windows_kept, with_any, with_part, with_window};
+ghost use Rattle.wsm_panes.specs.Held.{CanRecord, CanTake, with_one_more, entry_recorded, entry_fired};
+ghost use Rattle.wsm_panes.specs.Layout.{HasPart, IsAsWide, IsRowWritten, IsWritten, folded_on, part_at, windows_kept, with_any, with_part, with_window, with_slot};
 ghost use Rattle.wsm_panes.specs.Ring.{slot_at};
 
 use crate::head::{Head, Holds};
@@ -41,7 +41,11 @@ impl Model for Slots {
 
     ghost Value = { Slotted };
 
-    ghost view = { λ a. record { widths = a.widths; slots = entries_by a.widths.accumulators a.widths.columns a.heads.items a.folds.items a.words.items a.windows.items } };
+    ghost view = { λ a. record {
+      widths = a.widths;
+      slots =
+          entries_by a.widths.accumulators a.widths.columns a.heads.items a.folds.items a.words.items a.windows.items;
+    } };
 
     ghost invariant = { λ a. IsLaidOut a.widths a.heads.items a.folds.items a.words.items a.windows.items };
 }
@@ -125,7 +129,7 @@ impl Slots {
     pub(crate) fn start(&mut self, slot: usize, place: Place, values: &[Value])
         requires slot { slot < length self.old.slots }
         requires wide { length values.now ≡ self.old.widths.accumulators }
-        ensures { (kinds : List OneKind) → self.new ≡ record self.old { slots = slice_set self.old.slots slot (Some (place, with_one_more kinds values.now None)) } }
+        ensures { (kinds : List OneKind) → self.new ≡ with_slot slot (Some (place, with_one_more kinds values.now None)) self.old }
     {
         self.heads[slot] = Head::of_one(place);
         write_part(&mut self.folds, slot, values);
@@ -135,7 +139,7 @@ impl Slots {
     pub(crate) fn put(&mut self, slot: usize, place: Place, pane: &PaneView<'_>)
         requires slot { slot < length self.old.slots }
         requires wide { IsAsWide self.old.widths pane.now }
-        ensures { self.new ≡ record self.old { slots = slice_set self.old.slots slot (Some (place, pane.now)) } }
+        ensures { self.new ≡ with_slot slot (Some (place, pane.now)) self.old }
     {
         let row = pane.standing_row();
         let kinds = write_row(&mut self.words, slot, cells_of(&row));
@@ -150,7 +154,7 @@ impl Slots {
         requires wide { length values.now ≡ self.old.widths.accumulators }
         requires types { IsTrue (are_of_kinds kinds.now values.now) }
         requires takes { IfSome (slot_at self.old.slots slot) (λ e. CanRecord kinds.now values.now e.1) }
-        ensures { self.new ≡ record self.old { slots = slice_set self.old.slots slot (option_map (λ e. (e.0, with_one_more kinds.now values.now (Some e.1))) (slot_at self.old.slots slot)) } }
+        ensures { self.new ≡ with_slot slot (entry_recorded kinds.now values.now (slot_at self.old.slots slot)) self.old }
     {
         let head = &mut self.heads[slot];
         let is_folded = head.is_folded();
@@ -161,7 +165,7 @@ impl Slots {
     /// Has the entry in a slot, if there is one, be at another place.
     pub(crate) fn move_to(&mut self, slot: usize, place: Place)
         requires { slot < length self.old.slots }
-        ensures { self.new ≡ record self.old { slots = slice_set self.old.slots slot (option_map (λ e. (place, e.1)) (slot_at self.old.slots slot)) } }
+        ensures { self.new ≡ with_slot slot (option_map (λ e. (place, e.1)) (slot_at self.old.slots slot)) self.old }
     {
         self.heads[slot].move_to(place);
     }
@@ -172,7 +176,7 @@ impl Slots {
         requires slot { slot < length self.old.slots }
         requires wide { IfSome row (λ cells. length cells.now ≡ self.old.widths.columns) }
         requires windows { self.old.widths.windows ≡ retracts mode }
-        ensures { self.new ≡ record self.old { slots = slice_set self.old.slots slot (option_map (λ e. (e.0, once_fired mode e.0 (option_map (λ cells. cells.now) row.entry) e.1)) (slot_at self.old.slots slot)) } }
+        ensures { self.new ≡ with_slot slot (entry_fired mode (option_map (λ cells. cells.now) row.entry) (slot_at self.old.slots slot)) self.old }
     {
         let kinds = write_row(&mut self.words, slot, row);
         let head = &mut self.heads[slot];
@@ -184,7 +188,7 @@ impl Slots {
     /// Has a slot be free.
     pub(crate) fn clear(&mut self, slot: usize)
         requires { slot < length self.old.slots }
-        ensures { self.new ≡ record self.old { slots = slice_set self.old.slots slot None } }
+        ensures { self.new ≡ with_slot slot None self.old }
     {
         self.heads[slot].holds = Holds::Nothing;
     }

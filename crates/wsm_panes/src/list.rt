@@ -9,7 +9,7 @@ ghost use Rattle.wsm_record.specs.declared.words.Kind.{Kind as OneKind};
 ghost use Rattle.wsm_record.specs.Modes.{retracts};
 ghost use Rattle.wsm_windows.specs.Places.{place_cmp};
 ghost use Rattle.wsm_semantics.specs.Summaries.{Pane as AnyPane};
-ghost use Rattle.wsm_panes.specs.Held.{CanRecord, once_fired, with_one_more};
+ghost use Rattle.wsm_panes.specs.Held.{CanRecord, with_one_more, FiresAt, recorded_at, recorded_from};
 ghost use Rattle.wsm_panes.specs.Layout.{IsAsWide};
 ghost use Rattle.wsm_panes.specs.Place.{is_kept, is_other};
 ghost use Rattle.wsm_panes.specs.Search.{IsAt, IsGapFor};
@@ -110,7 +110,7 @@ impl ListTable {
         requires there { IsSome (map.get self.old.panes spot.place) }
         requires wide { IfSome row (λ cells. length cells.now ≡ self.old.widths.columns) }
         requires windows { self.old.widths.windows ≡ retracts mode }
-        ensures panes { (pane : AnyPane (List OneValue)) × (map.get self.old.panes spot.place ≡ Some pane) × (self.new.panes ≡ map.insert self.old.panes spot.place (once_fired mode spot.place (option_map (λ cells. cells.now) row.entry) pane)) }
+        ensures panes { FiresAt mode spot.place (option_map (λ cells. cells.now) row.entry) self.old.panes self.new.panes }
         ensures room { self.new.room ≡ self.old.room }
         ensures widths { self.new.widths ≡ self.old.widths }
     {
@@ -310,7 +310,7 @@ fn enter_in(row: &mut SlotRow, slots: &mut Slots, place: Place, kinds: &[Kind], 
     requires wide { length values.now ≡ slots.old.widths.accumulators }
     requires types { IsTrue (are_of_kinds kinds.now values.now) }
     requires takes { IfSome (map.find place_cmp place (shown slots.old.slots row.old.row)) (CanRecord kinds.now values.now) }
-    ensures shown { shown slots.new.slots row.new.row ≡ map.put place_cmp place (with_one_more kinds.now values.now (map.find place_cmp place (shown slots.old.slots row.old.row))) (shown slots.old.slots row.old.row) }
+    ensures shown { shown slots.new.slots row.new.row ≡ recorded_at kinds.now values.now place (shown slots.old.slots row.old.row) }
     ensures stored { AreStored slots.new.slots row.new.row }
     ensures room { (row.new.room ≡ row.old.room) × (length slots.new.slots ≡ length slots.old.slots) }
     ensures widths { slots.new.widths ≡ slots.old.widths }
@@ -339,7 +339,7 @@ fn move_in(
     requires takes { IfSome (map.find place_cmp from (shown slots.old.slots row.old.row)) (CanRecord kinds.now values.now) }
     requires other { from ≢ to }
     requires absent { map.find place_cmp to (filter (λ e. is_other from e.0) (shown slots.old.slots row.old.row)) ≡ None }
-    ensures shown { shown slots.new.slots row.new.row ≡ map.put place_cmp to (with_one_more kinds.now values.now (map.find place_cmp from (shown slots.old.slots row.old.row))) (filter (λ e. is_other from e.0) (shown slots.old.slots row.old.row)) }
+    ensures shown { shown slots.new.slots row.new.row ≡ recorded_from kinds.now values.now from to (shown slots.old.slots row.old.row) }
     ensures stored { AreStored slots.new.slots row.new.row }
     ensures room { (row.new.room ≡ row.old.room) × (length slots.new.slots ≡ length slots.old.slots) }
     ensures widths { slots.new.widths ≡ slots.old.widths }

@@ -8,7 +8,7 @@ ghost use Rattle.wsm_record.specs.Modes.{retracts};
 ghost use Rattle.wsm_fold.specs.Fold.{are_of_kinds};
 ghost use Rattle.wsm_windows.specs.Windows.{IsTime, first_start, greatest_span};
 ghost use Rattle.wsm_semantics.specs.Summaries.{Pane as AnyPane};
-ghost use Rattle.wsm_panes.specs.Held.{CanRecord, once_fired, with_one_more};
+ghost use Rattle.wsm_panes.specs.Held.{CanRecord, with_one_more, FiresAt};
 ghost use Rattle.wsm_panes.specs.Walk.{HasSlot};
 ghost use Rattle.wsm_panes.specs.Ring.{IsFirstPast, IsLastDue, IsOnGrid, IsRing, IsRow, RingAdmits, slot_of};
 
@@ -128,7 +128,7 @@ impl RingTable {
         requires spot { HasSlot self.old.ring spot }
         requires wide { IfSome row (λ cells. length cells.now ≡ self.old.widths.columns) }
         requires windows { self.old.widths.windows ≡ retracts mode }
-        ensures panes { (pane : AnyPane (List OneValue)) × (map.get self.old.panes spot.place ≡ Some pane) × (self.new.panes ≡ map.insert self.old.panes spot.place (once_fired mode spot.place (option_map (λ cells. cells.now) row.entry) pane)) }
+        ensures panes { FiresAt mode spot.place (option_map (λ cells. cells.now) row.entry) self.old.panes self.new.panes }
         ensures ring { self.new.ring ≡ self.old.ring }
         ensures widths { self.new.widths ≡ self.old.widths }
     {

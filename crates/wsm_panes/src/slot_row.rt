@@ -174,7 +174,7 @@ fn take_number(numbers: &mut Vec<u32>, at: usize)
 fn shift_number(numbers: &mut Vec<u32>, from: usize, to: usize)
     requires from { from < length numbers.old.items }
     requires to { to < length numbers.old.items }
-    ensures items { (number : ℕ) → slice_get numbers.old.items from ≡ Some number → numbers.new.items ≡ insert (remove numbers.old.items from) to number }
+    ensures items { (slot : ℕ) → slice_get numbers.old.items from ≡ Some slot → numbers.new.items ≡ insert (remove numbers.old.items from) to slot }
     ensures capacity { vec_capacity numbers.new ≡ vec_capacity numbers.old }
 {
     let number = numbers[from];

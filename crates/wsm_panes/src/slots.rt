@@ -9,7 +9,7 @@ ghost use Rattle.wsm_windows.specs.declared.place.Place.{Place as AnyPlace};
 ghost use Rattle.wsm_semantics.specs.Summaries.{Pane as AnyPane};
 ghost use Rattle.wsm_fold.specs.Fold.{are_of_kinds};
 ghost use Rattle.wsm_panes.specs.Held.{CanRecord, with_one_more};
-ghost use Rattle.wsm_panes.specs.Layout.{IsAsWide};
+ghost use Rattle.wsm_panes.specs.Layout.{IsAsWide, with_slot};
 ghost use Rattle.wsm_panes.specs.Ring.{IsRing, AreInPlace, AreBetween, IsFirstInRow, IsFirstUntil, IsOnGrid, IsTakenOut, at_slot, held, kept_slot, pane_of, slot_at, row_of};
 ghost use Rattle.wsm_panes.specs.Ring as spec;
 ghost use Rattle.wsm_panes.specs.Walk.{place_found};
@@ -36,7 +36,7 @@ pub(crate) fn record_in(
     requires wide { length values.now ≡ slots.old.widths.accumulators }
     requires types { IsTrue (are_of_kinds kinds.now values.now) }
     requires takes { IfSome (pane_of place (slot_at slots.old.slots slot)) (CanRecord kinds.now values.now) }
-    ensures slots { slots.new ≡ record slots.old { slots = slice_set slots.old.slots slot (Some (place, with_one_more kinds.now values.now (pane_of place (slot_at slots.old.slots slot)))) } }
+    ensures slots { slots.new ≡ with_slot slot (Some (place, with_one_more kinds.now values.now (pane_of place (slot_at slots.old.slots slot)))) slots.old }
     ensures len { length (held slots.new.slots) ≡ length (held slots.old.slots) + result }
 {
     match slots.place(slot) {
@@ -59,7 +59,7 @@ pub(crate) fn record_in(
 pub(crate) fn fill(slots: &mut Slots, slot: usize, place: Place, pane: &Pane) -> usize
     requires slot { slot < length slots.old.slots }
     requires wide { IsAsWide slots.old.widths pane.now }
-    ensures slots { slots.new ≡ record slots.old { slots = slice_set slots.old.slots slot (Some (place, pane.now)) } }
+    ensures slots { slots.new ≡ with_slot slot (Some (place, pane.now)) slots.old }
     ensures len { length (held slots.new.slots) ≡ length (held slots.old.slots) + result }
 {
     let more = if slots.place(slot).is_none() { 1 } else { 0 };
@@ -262,7 +262,7 @@ fn clear_row(slots: &mut Slots, row: usize, keys: usize, limit: i64) -> usize
 // Clears a slot whose entry expires, and tells how many fewer entries there are.
 fn clear_slot(slots: &mut Slots, slot: usize, limit: i64) -> usize
     requires { slot < length slots.old.slots }
-    ensures slots { slots.new ≡ record slots.old { slots = slice_set slots.old.slots slot (kept_slot limit (slot_at slots.old.slots slot)) } }
+    ensures slots { slots.new ≡ with_slot slot (kept_slot limit (slot_at slots.old.slots slot)) slots.old }
     ensures len { length (held slots.new.slots) + result ≡ length (held slots.old.slots) }
 {
     match slots.place(slot) {

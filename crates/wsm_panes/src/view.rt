@@ -47,7 +47,12 @@ impl<'a> Model for PaneView<'a> {
 
     ghost Value = { AnyPane (List OneValue) };
 
-    ghost view = { λ a. record { count = a.count; unshown = a.unshown; folded = folded_by a.is_folded a.folds.now; stands = standing_by a.stands a.stood (row_seen a.row) } };
+    ghost view = { λ a. record {
+      count = a.count;
+      unshown = a.unshown;
+      folded = folded_by a.is_folded a.folds.now;
+      stands = standing_by a.stands a.stood (row_seen a.row);
+    } };
 
     ghost invariant = { λ a. IsFew a.row };
 }

@@ -12,10 +12,13 @@ second : (c : After-take-other) → map.get (map.remove c.args.table.now.panes c
 second c = ap (λ m. map.get m c.args.second) (sym c.take-pane.ensures.panes) ∙ c.take-other.ensures.pane
 
 can : (c : After-take-other) → CanJoin c.args.kinds.now c.take-pane.result c.take-other.result × CanRecord c.args.kinds.now c.args.values.now (joined (taking c.args.kinds.now c.args.values.now) c.take-pane.result c.take-other.result)
-can c = c.requires.joins _ _ c.take-pane.ensures.pane (second c)
+can c = c.requires.can.joins _ _ c.take-pane.ensures.pane (second c)
+
+pub take-pane-requires : goal.take-pane-requires
+take-pane-requires c = c.requires.can.here
 
 pub take-other-requires : goal.take-other-requires
-take-other-requires c = rw c.take-pane.ensures.panes c.requires.second
+take-other-requires c = rw c.take-pane.ensures.panes c.requires.can.there
 
 pub join-requires : goal.join-requires
 join-requires c = (can (goal.at.join-requires c).After-take-other).0
@@ -34,7 +37,7 @@ put-requires-clause-holds c =
     rw (c.take-other.ensures.widths, c.take-pane.ensures.widths, c.record.ensures, c.join.ensures values) (more_wide kinds values widths c.requires.types c.requires.wide (Some (joined (taking kinds values) c.take-pane.result c.take-other.result)) wide)
 
 pub put-requires-clause-admits : goal.put-requires-clause-admits
-put-requires-clause-admits c = rw (c.take-other.ensures.panes, c.take-other.ensures.room, c.take-pane.ensures.panes, c.take-pane.ensures.room) c.requires.room
+put-requires-clause-admits c = rw (c.take-other.ensures.panes, c.take-other.ensures.room, c.take-pane.ensures.panes, c.take-pane.ensures.room) c.requires.can.fits
 
 pub returns-clause-panes : goal.returns-clause-panes
 returns-clause-panes c v w h k =

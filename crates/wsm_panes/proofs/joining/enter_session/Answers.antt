@@ -12,7 +12,7 @@ use Rattle.wsm_sessions.specs.declared.placed.Linked.TheVariants as linked_to
 use Rattle.wsm_sessions.specs.Placing.{those_linked}
 use Rattle.wsm_panes.specs.Held.{CanRecord, taking, windows_of_key}
 use Rattle.wsm_panes.proofs.Merged.{Puts, admits_it, merged_fits, merged_is, merged_others, merged_windows, session_place}
-use Rattle.wsm_panes.proofs.Moved.{first_there, none_absent, none_joined, none_puts, one_absent, one_joined, one_puts, one_takes, one_there, second_there, two_join, two_joined, two_put, two_puts}
+use Rattle.wsm_panes.proofs.Moved.{none_absent, none_joined, none_puts, one_absent, one_joined, one_puts, one_takes, one_there, two_can, two_joined, two_put, two_puts}
 use Rattle.wsm_panes.proofs.joining.enter_session.Goals as goal
 use Rattle.wsm_panes.proofs.joining.enter_session.Goals.{After-at-place}
 
@@ -147,25 +147,10 @@ returns-in-One-clause-others c k other =
 two : (c : After-at-place) (w v : Window) → c.enter-entry.result.linked ≡ linked_to.Two w v → w ∷ v ∷ [] ≡ filter (links c.args.sessions.now.gap c.args.time) c.args.sessions.now.windows
 two c w v is = ap those_linked (sym is) ∙ linked_are c
 
-pub enter_joined-requires-clause-first : goal.enter_joined-requires-clause-first
-enter_joined-requires-clause-first c =
-    let s = (goal.at.enter_joined-requires-clause-first c).After-at-place in
-    first_there c.args.kinds.now c.args.values.now c.args.sessions.now.gap c.requires.gap c.args.key c.args.time c.args.table.now.panes c.args.sessions.now.windows c.requires.agree c.at-place.result (place_is s) c.in-Two.first c.in-Two.second (two s c.in-Two.first c.in-Two.second c.in-Two.is) c.at-first.result c.at-second.result c.at-first.ensures c.at-second.ensures
-
-pub enter_joined-requires-clause-second : goal.enter_joined-requires-clause-second
-enter_joined-requires-clause-second c =
-    let s = (goal.at.enter_joined-requires-clause-second c).After-at-place in
-    second_there c.args.kinds.now c.args.values.now c.args.sessions.now.gap c.requires.gap c.args.key c.args.time c.args.table.now.panes c.args.sessions.now.windows c.requires.agree c.at-place.result (place_is s) c.in-Two.first c.in-Two.second (two s c.in-Two.first c.in-Two.second c.in-Two.is) c.at-first.result c.at-second.result c.at-first.ensures c.at-second.ensures
-
-pub enter_joined-requires-clause-joins : goal.enter_joined-requires-clause-joins
-enter_joined-requires-clause-joins c =
-    let s = (goal.at.enter_joined-requires-clause-joins c).After-at-place in
-    two_join c.args.kinds.now c.args.values.now c.args.sessions.now.gap c.requires.gap c.args.key c.args.time c.args.table.now.panes c.args.sessions.now.windows c.requires.agree c.at-place.result (place_is s) c.in-Two.first c.in-Two.second (two s c.in-Two.first c.in-Two.second c.in-Two.is) c.at-first.result c.at-second.result c.at-first.ensures c.at-second.ensures c.requires.joins
-
-pub enter_joined-requires-clause-room : goal.enter_joined-requires-clause-room
-enter_joined-requires-clause-room c =
-    let s = (goal.at.enter_joined-requires-clause-room c).After-at-place in
-    merged_fits (taking c.args.kinds.now c.args.values.now) c.args.sessions.now.gap c.args.key c.args.time c.args.table.now.panes c.args.sessions.now.windows c.requires.agree _ _ _ _ (two_puts c.args.kinds.now c.args.values.now c.args.sessions.now.gap c.requires.gap c.args.key c.args.time c.args.table.now.panes c.args.sessions.now.windows c.requires.agree c.at-place.result (place_is s) c.in-Two.first c.in-Two.second (two s c.in-Two.first c.in-Two.second c.in-Two.is) c.at-first.result c.at-second.result c.at-first.ensures c.at-second.ensures) c.args.table.now.room c.requires.room
+pub enter_joined-requires-clause-can : goal.enter_joined-requires-clause-can
+enter_joined-requires-clause-can c =
+    let s = (goal.at.enter_joined-requires-clause-can c).After-at-place in
+    two_can c.args.kinds.now c.args.values.now c.args.sessions.now.gap c.requires.gap c.args.key c.args.time c.args.table.now.panes c.args.sessions.now.windows c.requires.agree c.at-place.result (place_is s) c.in-Two.first c.in-Two.second (two s c.in-Two.first c.in-Two.second c.in-Two.is) c.at-first.result c.at-second.result c.at-first.ensures c.at-second.ensures c.requires.joins c.args.table.now.room c.requires.room
 
 pub returns-in-Two-clause-panes : goal.returns-in-Two-clause-panes
 returns-in-Two-clause-panes c =
