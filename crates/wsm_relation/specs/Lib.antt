@@ -1,3 +1,4 @@
 pub mod Rows
 pub mod Bag
 pub mod Delta
+pub mod Reserved
