@@ -1,6 +1,6 @@
 //! Reading rows as events.
 
-ghost use Rattle.std.specs.Prelude.{◌≡◌, ◌≢◌, ◌+◌, ◌<◌, ◌≤◌, List, [], drop, length, map, vec_capacity, IfErr, IfOk, IsOk, OnOk, Err, Ok, Some, slice_get};
+ghost use Rattle.std.specs.Prelude.{◌≡◌, ◌≢◌, ◌+◌, ◌<◌, ◌≤◌, [], drop, length, map, vec_capacity, IfErr, IfOk, IsOk, OnOk, Err, Ok, Some, slice_get};
 ghost use Rattle.csv.specs.Records.{fields_of};
 ghost use Rattle.wsm_record.specs.Event.{event_of};
 ghost use Rattle.wsm_record.specs.Fields.{field_seen, type_seen};

@@ -1,6 +1,6 @@
 //! Firings on the turn of a record.
 
-ghost use Rattle.std.specs.Prelude.{◌≡◌, IsSome, [], ◌∷◌, map};
+ghost use Rattle.std.specs.Prelude.{IsSome, [], ◌∷◌, map};
 ghost use Rattle.std.specs.FinMap.Entries.{find};
 ghost use Rattle.wsm_windows.specs.Places.{at, place_cmp};
 ghost use Rattle.wsm_machine.specs.Meaning.{query_of};

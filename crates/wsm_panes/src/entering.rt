@@ -1,11 +1,9 @@
 //! What a record does to a table of panes.
 
-ghost use Rattle.std.specs.Prelude.{pos, ◌≡◌, ◌≤◌, ◌≤ℤ◌, [], length, filter, int_lt, IsTrue};
+ghost use Rattle.std.specs.Prelude.{◌≡◌, ◌≤◌, ◌≤ℤ◌, length, IsTrue};
 ghost use Rattle.std.specs.FinMap as map;
-ghost use Rattle.wsm_windows.specs.Windows.{IsTime, greatest_span, windows_of};
+ghost use Rattle.wsm_windows.specs.Windows.{IsTime, greatest_span};
 ghost use Rattle.wsm_fold.specs.Fold.{are_of_kinds};
-ghost use Rattle.wsm_semantics.specs.Replay.{datum};
-ghost use Rattle.wsm_semantics.specs.Summaries.{assigned};
 ghost use Rattle.wsm_panes.specs.Held.{CanEnterWindows, windows_past, with_assigned};
 
 use crate::ring_table::RingTable;

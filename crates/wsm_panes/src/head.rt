@@ -1,6 +1,6 @@
 //! What a slot has beside the values of its pane.
 
-ghost use Rattle.std.specs.Prelude.{◌≡◌, ◌+◌, ◌<◌, ◌^◌, true, false, pos, if◌then◌else◌};
+ghost use Rattle.std.specs.Prelude.{◌≡◌, ◌+◌, ◌<◌, ◌^◌, true, false};
 ghost use Rattle.wsm_panes.specs.Layout.{head_of, head_of_one, head_fired, head_with_one_more, holds_by, is_folded, is_held, place_by, unfolded};
 
 use crate::view::PaneView;

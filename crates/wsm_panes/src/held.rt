@@ -1,16 +1,15 @@
 //! The panes that are held.
 
-ghost use Rattle.std.specs.Prelude.{◌≡◌, ◌≢◌, ◌*◌, ◌<◌, ◌≤◌, ◌≤ℤ◌, ℕ, ℤ, pos, List, [], length, IfOk, IfSome, IsSome, Some, int_lt, option_map, slice_get};
+ghost use Rattle.std.specs.Prelude.{◌≡◌, ◌*◌, ◌<◌, ◌≤◌, ◌≤ℤ◌, ℤ, pos, [], length, IfOk, IfSome, IsSome, Some, int_lt, option_map, slice_get};
 ghost use Rattle.std.specs.FinMap as map;
 ghost use Rattle.std.specs.FinMap.Entries.{find, put, where_key};
-ghost use Rattle.wsm_windows.specs.Windows.{IsShape, IsTime, greatest_span, period_of, size_of};
+ghost use Rattle.wsm_windows.specs.Windows.{IsShape, IsTime, greatest_span};
 ghost use Rattle.wsm_windows.specs.declared.window.Shape.TheVariants.{Session};
 ghost use Rattle.wsm_semantics.specs.Replay.{datum};
-ghost use Rattle.wsm_semantics.specs.Summaries.{Pane as AnyPane, linked};
-ghost use Rattle.wsm_record.specs.declared.event.Value.{Value as OneValue};
+ghost use Rattle.wsm_semantics.specs.Summaries.{linked};
 ghost use Rattle.wsm_record.specs.Modes.{retracts};
 ghost use Rattle.wsm_windows.specs.Places.{place_cmp};
-ghost use Rattle.wsm_panes.specs.Held.{CanEnter, IsKept, IsSpot, are_sessions, entries_of, joined_panes, joins_sessions, room_of, session_entered, windows_entered, with_entered, FiresAmong};
+ghost use Rattle.wsm_panes.specs.Held.{CanEnter, IsKept, IsSpot, are_sessions, entries_of, joined_panes, joins_sessions, session_entered, windows_entered, with_entered, FiresAmong};
 ghost use Rattle.wsm_panes.specs.HeldState.{AreTables, panes_in, widths_in};
 ghost use Rattle.wsm_panes.specs.Ring.{IsRing};
 ghost use Rattle.wsm_panes.specs.OfKeys.{AreOfKeys, AreDropped, StayOfKeys};

@@ -1,16 +1,12 @@
 //! What a record does to a table of panes whose windows are sessions.
 
-ghost use Rattle.std.specs.Prelude.{◌≡◌, ◌⊎◌, ◌<◌, ◌≤◌, ◌≤ℤ◌, ℕ, ℤ, pos, Bool, true, false, [], ◌∷◌, List, length, not, filter, nat_eq, nat_lt, Some, IsSome, IfSome, IsTrue};
+ghost use Rattle.std.specs.Prelude.{◌≡◌, ◌<◌, ◌≤◌, ◌≤ℤ◌, ℤ, pos, true, false, ◌∷◌, List, length, nat_eq, nat_lt, Some, IsSome, IsTrue};
 ghost use Rattle.std.specs.FinMap as map;
-ghost use Rattle.wsm_record.specs.declared.event.Value.{Value as OneValue};
 ghost use Rattle.wsm_record.specs.declared.limits.TheConstants.{MAX_ACCUMULATORS};
 ghost use Rattle.wsm_windows.specs.Windows.{IsTime};
-ghost use Rattle.wsm_windows.specs.Places.{window_of};
 ghost use Rattle.wsm_fold.specs.Fold.{are_of_kinds};
-ghost use Rattle.wsm_semantics.specs.Kept.{is_linked};
-ghost use Rattle.wsm_semantics.specs.Replay.{datum};
 ghost use Rattle.wsm_semantics.specs.Sessions.{with_session};
-ghost use Rattle.wsm_semantics.specs.Summaries.{Pane as AnyPane, joined, linked, merged_session, session_with};
+ghost use Rattle.wsm_semantics.specs.Summaries.{joined, linked};
 ghost use Rattle.wsm_sessions.specs.Live.{Fits};
 ghost use Rattle.wsm_panes.specs.Held.{CanJoinAll, first_two, windows_of_key, CanJoinAt, JoinedAt, of_key, parts_of, session_of, with_merged};
 ghost use Rattle.wsm_panes.specs.Layout.{IsAsWide};

@@ -1,6 +1,6 @@
 //! Panes in slots.
 
-ghost use Rattle.std.specs.Prelude.{◌≡◌, ◌<◌, ◌≤◌, ◌^◌, List, Some, None, true, IfOk, IfSome, IsTrue, length, option_map, replicate, slice_get, slice_set};
+ghost use Rattle.std.specs.Prelude.{◌≡◌, ◌<◌, ◌≤◌, ◌^◌, List, Some, None, true, IfOk, IfSome, IsTrue, length, option_map, replicate, slice_get};
 ghost use Rattle.std.specs.Option.{is_some};
 ghost use Rattle.wsm_record.specs.declared.words.Kind.{Kind as OneKind};
 ghost use Rattle.wsm_record.specs.declared.limits.TheConstants.{MAX_ACCUMULATORS, MAX_COLUMNS};

@@ -5,7 +5,6 @@ ghost use Rattle.std.specs.FinMap as map;
 ghost use Rattle.wsm_fold.specs.Fold.{are_of_kinds};
 ghost use Rattle.wsm_record.specs.declared.event.Value.{Value as OneValue};
 ghost use Rattle.wsm_record.specs.declared.limits.TheConstants.{MAX_ACCUMULATORS, MAX_COLUMNS};
-ghost use Rattle.wsm_record.specs.declared.words.Kind.{Kind as OneKind};
 ghost use Rattle.wsm_record.specs.Modes.{retracts};
 ghost use Rattle.wsm_windows.specs.Places.{place_cmp};
 ghost use Rattle.wsm_semantics.specs.Summaries.{Pane as AnyPane};
@@ -13,7 +12,7 @@ ghost use Rattle.wsm_panes.specs.Held.{CanRecord, with_one_more, FiresAt, record
 ghost use Rattle.wsm_panes.specs.Layout.{IsAsWide};
 ghost use Rattle.wsm_panes.specs.Place.{is_kept, is_other};
 ghost use Rattle.wsm_panes.specs.Search.{IsAt, IsGapFor};
-ghost use Rattle.wsm_panes.specs.Stored.{AreIn, AreStored, shown};
+ghost use Rattle.wsm_panes.specs.Stored.{AreStored, shown};
 ghost use Rattle.wsm_panes.specs.Walk.{first_past, place_due, place_found};
 
 use crate::layout::Slots;

@@ -1,12 +1,12 @@
 //! Panes.
 
-ghost use Rattle.std.specs.Prelude.{◌≡◌, ◌≤◌, List, [], length, None, Some, IfSome, IsTrue, option_map};
+ghost use Rattle.std.specs.Prelude.{◌≡◌, ◌≤◌, List, [], length, None, Some, IfSome, IsTrue};
 ghost use Rattle.wsm_record.specs.declared.event.Value.{Value as OneValue};
 ghost use Rattle.wsm_record.specs.declared.limits.TheConstants.{MAX_ACCUMULATORS};
 ghost use Rattle.wsm_fold.specs.Fold.{are_of_kinds, joins};
 ghost use Rattle.wsm_fold.specs.Accumulators.{SumsFit};
 ghost use Rattle.wsm_semantics.specs.Query.{Datum};
-ghost use Rattle.wsm_semantics.specs.Summaries.{left_folded, standing_joined, with_folded, with_record};
+ghost use Rattle.wsm_semantics.specs.Summaries.{standing_joined, with_folded, with_record};
 ghost use Rattle.wsm_semantics.specs.Summaries as kept;
 ghost use Rattle.std.specs.Option.{is_some};
 ghost use Rattle.wsm_panes.specs.Layout.{folded_by, standing_by};

@@ -1,6 +1,6 @@
 //! The sessions of one key.
 
-ghost use Rattle.std.specs.Prelude.{◌≡◌, ℕ, ◌<◌, ℤ, pos, ◌≤ℤ◌, List, [], ◌∷◌, length, filter, Contains, IfOk, true, Some, slice_get, ◌⊎◌, ◌+◌, ◌≤◌, insert, vec_len, vec_capacity};
+ghost use Rattle.std.specs.Prelude.{◌≡◌, ◌<◌, ℤ, pos, ◌≤ℤ◌, List, [], ◌∷◌, length, filter, Contains, IfOk, true, Some, slice_get, ◌⊎◌, ◌+◌, ◌≤◌, insert, vec_len, vec_capacity};
 ghost use Rattle.std.specs.List.Sorted.{IsPartitionedBy};
 ghost use Rattle.std.specs.List.{list_any};
 ghost use Rattle.wsm_windows.specs.Windows.{IsTime, greatest_span, has_inside};
