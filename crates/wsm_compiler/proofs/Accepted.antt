@@ -10,7 +10,7 @@ use Rattle.wsm_interval.specs.declared.interval.Interval.{Interval}
 use Rattle.wsm_interval.specs.Interval.{add, sub, mul, div, rem}
 use Rattle.wsm_query.specs.declared.expr.Op.{Op}
 use Rattle.wsm_query.specs.declared.expr.Op.TheVariants.{Add, Sub, Mul, Div, Rem, Eq, Ne, Lt, Le, Gt, Ge}
-use Rattle.wsm_query.specs.Tree.{Query, Expr, Number, Truth, Field, EnumName, Key, KeyName, Count, Aggregate, If, Brackets, Minus, Not, Binary, And, Or}
+use Rattle.wsm_query.specs.Tree.{Query, Expr, Aggregate, If, Brackets, Minus, Not, Binary, And, Or}
 use Rattle.wsm_record.specs.Schema.{DeclaredField}
 use Rattle.wsm_check.specs.Tested.{tested}
 use Rattle.wsm_check.specs.Sizes.{Acc, accumulators, accumulators_of, in_option, fired}
@@ -110,13 +110,7 @@ module _ (q : Query) (b : Costs) where
       let dy = where_false (tested x) ds in
       let p = two_fit (range_on q ds x) (range_on q dy y) h in
       fit_both (accumulators_of x) (accumulators_of y) (accs_of_fit ds x p.0) (accs_of_fit dy y p.1)
-  accs_of_fit ds (Number n) h = refl
-  accs_of_fit ds (Truth v) h = refl
-  accs_of_fit ds (Field x) h = refl
-  accs_of_fit ds (EnumName x y) h = refl
-  accs_of_fit ds Key h = refl
-  accs_of_fit ds (KeyName x) h = refl
-  accs_of_fit ds Count h = refl
+  accs_of_fit ds e h = refl
 
   pub accs_of_all : (es : List Expr) → columns_fit q es ≡ true → accs_fit q b (flat_map accumulators_of es) ≡ true
   accs_of_all [] h = refl

@@ -6,7 +6,7 @@ use Rattle.wsm_record.specs.declared.event.Value.{Value}
 use Rattle.wsm_record.specs.declared.event.Value.TheVariants.{Bool as Truth'}
 use Rattle.wsm_record.specs.Schema.{is_i64}
 use Rattle.wsm_record.specs.declared.cell.Cell.{Cell}
-use Rattle.wsm_query.specs.Tree.{Query, Expr, Number, Truth, Field, EnumName, Key, KeyName, Count, Aggregate, If, Brackets, Minus, Not, Binary, And, Or}
+use Rattle.wsm_query.specs.Tree.{Query, Expr, Aggregate, If, Brackets, Minus, Not, Binary, And, Or}
 use Rattle.wsm_check.specs.Types.{typed}
 use Rattle.wsm_check.specs.declared.types.Around.TheVariants.{InColumn}
 use Rattle.wsm_check.specs.Sizes.{Acc, accumulators_of, aggregates}
@@ -48,14 +48,7 @@ free q key records a b (Or x y) =
     let fx = free q key records a b x in
     let fy = free q key records (a + aggregates x) (b + aggregates x) y in
     ((λ i. chosen (fx.0 i) (Some (Truth' true)) (fy.0 i)), (λ i. fx.1 i ++ chosen_numbers (fx.0 i) [] (fy.1 i)))
-free q key records a b (Number n) = (refl, refl)
-free q key records a b (Truth v) = (refl, refl)
-free q key records a b (Field x) = (refl, refl)
-free q key records a b (EnumName x y) = (refl, refl)
-free q key records a b Key = (refl, refl)
-free q key records a b (KeyName x) = (refl, refl)
-free q key records a b Count = (refl, refl)
-free q key records a b (Aggregate kind e) = (refl, refl)
+free q key records a b e = (refl, refl)
 
 -- ---- accumulators of parts
 
@@ -105,13 +98,7 @@ module _ (q : Query) (key : ℕ) (records : List (List Value)) (accs : List Valu
       let fx = same a x (hold_left q key records accs a (accumulators_of x) (accumulators_of y) h) in
       let fy = same (a + aggregates x) y (hold_right q key records accs a x (accumulators_of y) h) in
       ((λ i. chosen (fx.0 i) (Some (Truth' true)) (fy.0 i)), (λ i. fx.1 i ++ chosen_numbers (fx.0 i) [] (fy.1 i)))
-  same a (Number n) h = (refl, refl)
-  same a (Truth v) h = (refl, refl)
-  same a (Field x) h = (refl, refl)
-  same a (EnumName x y) h = (refl, refl)
-  same a Key h = (refl, refl)
-  same a (KeyName x) h = (refl, refl)
-  same a Count h = (refl, refl)
+  same a e h = (refl, refl)
 
   pub means_the_same : (a : ℕ) (e : Expr) → MeansTheSame q key records accs a e
   means_the_same a e h =

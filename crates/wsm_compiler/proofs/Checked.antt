@@ -3,7 +3,7 @@ use Rattle.std.proofs.Common.{◌≡◌, ℕ, suc, ◌≤◌, List, [], ◌∷�
 use Rattle.std.specs.Prelude.{max}
 use Rattle.std.specs.List.{flat_map}
 use Rattle.wsm_program.specs.declared.program.Costs.{Costs}
-use Rattle.wsm_query.specs.Tree.{Query, Expr, Number, Truth, Field, EnumName, Key, KeyName, Count, Aggregate, If, Brackets, Minus, Not, Binary, And, Or}
+use Rattle.wsm_query.specs.Tree.{Query, Expr, Aggregate, If, Brackets, Minus, Not, Binary, And, Or}
 use Rattle.wsm_check.specs.declared.refusal.Part.{Part}
 use Rattle.wsm_check.specs.declared.refusal.Part.TheVariants as part
 use Rattle.wsm_check.specs.Sizes.{Acc, accumulators, accumulators_of, in_option, need_of_condition, need_of_columns, need_of_folds}
@@ -63,13 +63,7 @@ module _ (q : Query) (b : Costs) where
       let p = logic_types q around x y t h in accs_both (accumulators_of x) (accumulators_of y) (accs_typed around x types.Bool p.left_is) (accs_typed around y types.Bool p.right_is)
   accs_typed around (Or x y) t h =
       let p = logic_types q around x y t h in accs_both (accumulators_of x) (accumulators_of y) (accs_typed around x types.Bool p.left_is) (accs_typed around y types.Bool p.right_is)
-  accs_typed around (Number n) t h = tt
-  accs_typed around (Truth v) t h = tt
-  accs_typed around (Field x) t h = tt
-  accs_typed around (EnumName x y) t h = tt
-  accs_typed around Key t h = tt
-  accs_typed around (KeyName x) t h = tt
-  accs_typed around Count t h = tt
+  accs_typed around e t h = tt
 
   of_columns : (es rest : List Expr) → ColumnsTyped q es → AccsTyped q b (flat_map accumulators_of rest) → AccsTyped q b (flat_map accumulators_of (es ++ rest))
   of_columns [] rest h l = l

@@ -1,5 +1,5 @@
 -- A choice: a test on top of the stack, and two parts of which one is run. What is known behind it is the hull of both.
-use Rattle.std.proofs.Common.{◌≡◌, ℕ, suc, ◌+◌, ◌≤◌, ◌<◌, Bool, true, false, ◌&&◌, ◌||◌, not, cond, List, [], ◌∷◌, ◌++◌, length, Option, Some, None, refl, sym, ap, ◌∙◌, arith, length-append}
+use Rattle.std.proofs.Common.{◌≡◌, ℕ, suc, ◌+◌, ◌≤◌, ◌<◌, Bool, true, false, ◌&&◌, ◌||◌, not, cond, List, [], ◌∷◌, ◌++◌, length, Option, Some, None, refl, sym, ap, ◌∙◌, arith, length-append, append-nil}
 use Rattle.std.specs.Prelude.{is_some, nat_eq, nat_lt}
 use Rattle.std.specs.List.{cons_option}
 use Rattle.std.proofs.lemmas.Bool.{and_from, lt-ltb, eq-eqb, or_right}
@@ -15,7 +15,7 @@ use Rattle.wsm_rules.specs.Labels.{State, Label, Unreached, Reached, Visit, same
 use Rattle.wsm_program.specs.Instructions.{may_stand, opposite_test, is_later}
 use Rattle.wsm_rules.specs.Rules.{Setting, fold_missing, fault_of}
 use Rattle.wsm_compiler.specs.TermCode.{choice}
-use Rattle.wsm_compiler.proofs.Visits.{nil_right, extended, added, extended_is, added_append, carries, carries_append, faults, faults_append, or_true}
+use Rattle.wsm_compiler.proofs.Visits.{extended, added, extended_is, added_append, carries, carries_append, faults, faults_append, or_true}
 use Rattle.wsm_compiler.proofs.Hulls.{stack_self, types_self, flags_self, agreeing, hull_with}
 use Rattle.wsm_compiler.proofs.Parts.{none≢some, Comes, Labels, Labelled, shorter, continued, visit_is, fault_is}
 use Rattle.wsm_compiler.proofs.Tests.{tested, not_last, with_known, pushed_on}
@@ -266,7 +266,7 @@ module _ (e : State) (c : Setting) (i m n : ℕ) (go : ℕ → Instr) (first sec
           (carries_whole end
           ∙ (λ j. ((carries end new2 ++ cons_option (edge_on true end (to_jump (i + 1 + length first) end (omega (arith, hm))) j) []) ++ a.quiet t refl end (omega (arith, hm, pn)) j)
           ++ cons_option (no_edge end (omega arith) (other_place end (place_of_second i m) (omega (arith, pn))) j) [])
-          ∙ nil_right ((carries end new2 ++ t ∷ []) ++ []) ∙ nil_right (carries end new2 ++ t ∷ []))
+          ∙ append-nil ((carries end new2 ++ t ∷ []) ++ []) ∙ append-nil (carries end new2 ++ t ∷ []))
           ∙ hull_with (carries end new2) u t (ap (λ q. hull_all (carries q new2)) (sym there) ∙ b.gives u refl) agrees
 
       past_end : (q : ℕ) → i + length (choice go (i + 1) first m second n) < q → carries q whole ≡ []

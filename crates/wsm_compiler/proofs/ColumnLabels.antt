@@ -1,6 +1,7 @@
 -- Behind each column of an accepted query the verifier knows its range.
-use Rattle.std.proofs.Common.{◌≡◌, ℕ, ◌+◌, ◌≤◌, true, List, [], ◌∷◌, ◌++◌, length, take, Some, refl, sym, ap, subst, ◌∙◌, arith, append_assoc, length-append}
+use Rattle.std.proofs.Common.{◌≡◌, ℕ, ◌+◌, ◌≤◌, true, List, [], ◌∷◌, ◌++◌, length, take, Some, refl, sym, ap, subst, ◌∙◌, arith, append_assoc, length-append, append-nil}
 use Rattle.std.specs.List.{flat_map}
+use Rattle.std.proofs.Math.Seq.{take-append_seam}
 use Rattle.std.proofs.lemmas.Bool.{and_parts}
 use Rattle.wsm_program.specs.declared.instr.Instr.{Instr}
 use Rattle.wsm_program.specs.declared.program.Costs.{Costs}
@@ -18,7 +19,7 @@ use Rattle.wsm_compiler.specs.Ranges.{Range, Unfit, NoNumber, Within, range, fit
 use Rattle.wsm_check.specs.Parts.{type_or_int}
 use Rattle.wsm_compiler.specs.Program.{program_stating, program_of, stated, needed_of}
 use Rattle.wsm_compiler.specs.Labelled.{known_as, ColumnLabels, LabelsAreRanges}
-use Rattle.wsm_compiler.proofs.Visits.{nil_right, extended, added, extended_is, visits_are}
+use Rattle.wsm_compiler.proofs.Visits.{extended, added, extended_is, visits_are}
 use Rattle.wsm_machine.proofs.FittingStacks.{no}
 use Rattle.wsm_compiler.proofs.Parts.{Comes, Labels, shorter, continued}
 use Rattle.wsm_compiler.proofs.Tests.{with_known, pushed_on}
@@ -49,14 +50,10 @@ extended_append : (e : State) (r : Ranges) (vs : List Visit) (is js : List Instr
 extended_append e r vs [] js = refl
 extended_append e r vs (i ∷ is) js = extended_append e r (visited_next e r i vs) is js
 
-take_front : (xs ys : List Instr) → take (length xs) (xs ++ ys) ≡ xs
-take_front [] ys = refl
-take_front (x ∷ xs) ys = ap (λ zs. x ∷ zs) (take_front xs ys)
-
 -- the visits of a section's first instructions
 visits_front : (e : State) (r : Ranges) (is js : List Instr) (n : ℕ) → n ≡ length is → visits e r (take n (is ++ js)) ≡ extended e r [] is
 visits_front e r is js n h =
-    ap (λ m. visits e r (take m (is ++ js))) h ∙ ap (visits e r) (take_front is js) ∙ visits_are e r is ∙ sym (extended_is e r [] is ∙ nil_right (added e r [] is))
+    ap (λ m. visits e r (take m (is ++ js))) h ∙ ap (visits e r) (take-append_seam is js) ∙ visits_are e r is ∙ sym (extended_is e r [] is ∙ append-nil (added e r [] is))
 
 module _ (q : Query) (b : Costs) (e : State) (c : Setting) (reads : Reads c q InColumn) where
   columns_labelled : (front : List Instr) (k a : ℕ) (es : List Expr) (below : List Known) → length front ≡ k → ColumnsTyped q es → columns_fit q es ≡ true → Accs c q a (flat_map accumulators_of es ++ in_condition q.having) →

@@ -20,7 +20,7 @@ use Rattle.wsm_query.specs.Tree.{Query, Budget}
 use Rattle.wsm_check.specs.Checks.{is_cost, budget_fits}
 use Rattle.wsm_check.specs.Tested.{unless_tested}
 use Rattle.wsm_check.specs.Sizes.{accumulators}
-use Rattle.wsm_check.specs.Terms.{Term, Number, Truth, Field, Name, Key, Count, Accumulator, If, Minus, Not, Binary, And, Or}
+use Rattle.wsm_check.specs.Terms.{Term, If, Minus, Not, Binary, And, Or}
 use Rattle.wsm_check.specs.Parts.{Folding, aggregates_of, folding, parts_of}
 use Rattle.wsm_compiler.specs.TermCode.{term_test, term_size, ending_size, foldings_size, firing_size}
 use Rattle.wsm_compiler.specs.Longest.{longest, longest_ending, longest_foldings, longest_firing, needed_by_structure}
@@ -51,13 +51,7 @@ longest_at_most (Not x) = let h = longest_at_most x in omega (arith, h)
 longest_at_most (Binary op x y) = let hx = longest_at_most x in let hy = longest_at_most y in omega (arith, hx, hy)
 longest_at_most (And x y) = let h = chosen_at_most x (longest y) 1 (term_size y) 1 (longest_at_most x) (longest_at_most y) (omega arith) in omega (arith, h)
 longest_at_most (Or x y) = let h = chosen_at_most x 1 (longest y) 1 (term_size y) (longest_at_most x) (omega arith) (longest_at_most y) in omega (arith, h)
-longest_at_most (Number n) = omega arith
-longest_at_most (Truth b) = omega arith
-longest_at_most (Field f) = omega arith
-longest_at_most (Name e i) = omega arith
-longest_at_most Key = omega arith
-longest_at_most Count = omega arith
-longest_at_most (Accumulator a) = omega arith
+longest_at_most t = omega arith
 
 ending_at_most : (o : Option Term) → (0 < longest_ending o) × (longest_ending o ≤ ending_size o)
 ending_at_most None = (omega arith, omega arith)

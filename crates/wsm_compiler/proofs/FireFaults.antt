@@ -1,7 +1,8 @@
 -- FIRE has a fault exactly where a range of a column or of HAVING doesn't fit, where those of all aggregates do.
-use Rattle.std.proofs.Common.{◌≡◌, ℕ, zero, suc, ◌+◌, ◌≤◌, true, false, ◌&&◌, not, cond, List, [], ◌∷◌, ◌++◌, map, reverse, Option, Some, None, refl, sym, ap, subst, ◌∙◌, arith, append_assoc}
+use Rattle.std.proofs.Common.{◌≡◌, ℕ, zero, suc, ◌+◌, ◌≤◌, true, false, ◌&&◌, not, cond, List, [], ◌∷◌, ◌++◌, map, reverse, Option, Some, None, refl, sym, ap, subst, ◌∙◌, arith, append-nil}
 use Rattle.std.specs.Prelude.{ℤ, ◌*ℤ◌, is_some, slice_get, slice_index_or}
 use Rattle.std.specs.List.{flat_map}
+use Rattle.std.proofs.lemmas.Grind.{flat_map-append}
 use Rattle.std.specs.Int.{int_min, int_max}
 use Rattle.std.proofs.lemmas.Option.{same_Some}
 use Rattle.std.proofs.lemmas.Bool.{and_parts}
@@ -22,7 +23,6 @@ use Rattle.wsm_rules.specs.Rules.{Setting, setting, entry, and_then, accumulated
 use Rattle.wsm_compiler.specs.Ranges.{Range, Unfit, NoNumber, Within, of_aggregate, range, fits}
 use Rattle.wsm_check.specs.Parts.{column_type}
 use Rattle.wsm_compiler.specs.Program.{program_stating}
-use Rattle.wsm_compiler.proofs.Visits.{nil_right}
 use Rattle.wsm_machine.proofs.FittingStacks.{no}
 use Rattle.wsm_compiler.proofs.Parts.{none≢some}
 use Rattle.wsm_compiler.proofs.FoundRanges.{suits, known_of}
@@ -60,13 +60,9 @@ aggregate_known n All Unfit h l = no l
 aggregate_known n All NoNumber h l = refl
 aggregate_known n All (Within x) h l = no h
 
-flat_append : (xs ys : List Expr) → flat_map accumulators_of (xs ++ ys) ≡ flat_map accumulators_of xs ++ flat_map accumulators_of ys
-flat_append [] ys = refl
-flat_append (x ∷ xs) ys = ap (λ zs. accumulators_of x ++ zs) (flat_append xs ys) ∙ sym (append_assoc (accumulators_of x) (flat_map accumulators_of xs) (flat_map accumulators_of ys))
-
 flat_option : (o : Option Expr) → flat_map accumulators_of (in_option o) ≡ in_condition o
 flat_option None = refl
-flat_option (Some e) = nil_right (accumulators_of e)
+flat_option (Some e) = append-nil (accumulators_of e)
 
 module _ (q : Query) (b : Costs) where
   abbrev known_from : ℕ → List Acc → List Visit → List Known
@@ -93,7 +89,7 @@ module _ (q : Query) (b : Costs) where
       ap (λ i. Some (slice_index_or (known_from 0 (accumulators q) vs) i Truth)) first ∙ known_at 0 (accumulators q) vs j acc h fit values e
 
   pub accs_are : accumulators q ≡ flat_map accumulators_of q.columns ++ in_condition q.having
-  accs_are = flat_append q.columns (in_option q.having) ∙ ap (λ zs. flat_map accumulators_of q.columns ++ zs) (flat_option q.having)
+  accs_are = flat_map-append accumulators_of q.columns (in_option q.having) ∙ ap (λ zs. flat_map accumulators_of q.columns ++ zs) (flat_option q.having)
 
   -- FIRE
   pub fire_faults : ColumnsTyped q q.columns → ConditionTyped q InColumn q.having → AccsTyped q b (accumulators q) → need_of_folds (accumulators q) ≤ 32 → need_of_columns 0 q.having q.columns ≤ 32 →
@@ -108,4 +104,4 @@ module _ (q : Query) (b : Costs) where
       whole_section p Fire r fault (omega (arith, l, some_columns_size q.having q.columns))
       (subst (λ is. Ends (entry p) firing 0 is (entry p) fault) (all_columns q) (columns_ends (entry p) firing q (reads_fire q b (known_accumulators q.records 0 p.header.kinds vs)) 0 0 q.columns (entry p) [] refl h hh
       (subst (λ accs. Accs firing q 0 accs) accs_are (accs_known ha fit (all_values q b ha low fit))) room (omega (arith, l)) refl
-      (ap (λ zs. Truth ∷ zs) (sym (nil_right (reverse (map column_known (map (column_type q) q.columns)))))) refl))
+      (ap (λ zs. Truth ∷ zs) (sym (append-nil (reverse (map column_known (map (column_type q) q.columns)))))) refl))

@@ -17,7 +17,7 @@ use Rattle.wsm_program.specs.declared.program.Costs.{Costs}
 use Rattle.wsm_query.specs.Tree.{Query, Expr}
 use Rattle.wsm_record.specs.Types.{kind_type}
 use Rattle.wsm_check.specs.declared.types.Around.TheVariants.{InAggregate}
-use Rattle.wsm_check.specs.Terms.{Term, Number, Truth, Field, Name, Key, Count, Accumulator, If, Minus, Not, Binary, And, Or, resolved}
+use Rattle.wsm_check.specs.Terms.{Term, If, Minus, Not, Binary, And, Or, resolved}
 use Rattle.wsm_check.specs.Tested.{unless_tested}
 use Rattle.wsm_check.specs.Sizes.{Acc, accumulators, accumulators_of, size, need, folds_size, need_of_folds}
 use Rattle.wsm_rules.specs.declared.known.Known.{Known}
@@ -110,13 +110,7 @@ code_folds_none k (And x y) =
 code_folds_none k (Or x y) =
     let j = k + unless_tested (term_test x) (term_size x) + 1 in
     chosen_folds_none (term_test x) (term_code k x) j (instr.PushBool true ∷ []) 1 (term_code (j + 1 + 1) y) (term_size y) (code_folds_none k x) refl (code_folds_none (j + 1 + 1) y)
-code_folds_none k (Number n) = refl
-code_folds_none k (Truth b) = refl
-code_folds_none k (Field f) = refl
-code_folds_none k (Name e i) = refl
-code_folds_none k Key = refl
-code_folds_none k Count = refl
-code_folds_none k (Accumulator a) = refl
+code_folds_none k t = refl
 
 -- ---- the value of an operand
 

@@ -1,10 +1,11 @@
 -- What reading program bytes asks holds of the program of a checked query.
-use Rattle.std.proofs.Common.{◌≡◌, ℕ, suc, ◌+◌, ◌≤◌, ◌<◌, Bool, true, false, ◌&&◌, not, List, [], ◌∷◌, ◌++◌, length, map, ℤ, Option, Some, None, refl, sym, ap, subst, ◌∙◌, arith, length-append}
+use Rattle.std.proofs.Common.{◌≡◌, ℕ, suc, ◌+◌, ◌≤◌, ◌<◌, Bool, true, false, ◌&&◌, not, List, [], ◌∷◌, ◌++◌, length, ℤ, Option, Some, None, refl, sym, ap, subst, ◌∙◌, arith, length-append}
 use Rattle.std.proofs.lemmas.List.Folds.{list_all-append}
 use Rattle.std.specs.Prelude.{pos, negsuc, int_le, nat_eq, nat_le, nat_lt}
 use Rattle.std.specs.Ordering.{int_eq}
 use Rattle.std.proofs.lemmas.Bool.Decides.{Decides-int_eq}
 use Rattle.wsm_semantics.proofs.Each.{itself}
+use Rattle.std.proofs.lemmas.List.{length-map}
 use Rattle.std.specs.List.{list_all, flat_map}
 use Rattle.std.proofs.lemmas.Bool.{and_from, ltb-true, and_parts, leb-true, le-leb}
 use Rattle.wsm_record.specs.Name.{is_name, is_among, is_between}
@@ -17,7 +18,7 @@ use Rattle.wsm_program.specs.Program.{Header, is_span, is_shape, is_column, is_l
 use Rattle.wsm_record.specs.Modes.{may_write}
 use Rattle.wsm_record.specs.Schema.{FieldType, DeclaredField, is_field_type, is_field_after, are_fields_after, is_schema, source_count, is_i64, is_spelt_type, is_spelt_field}
 use Rattle.wsm_record.specs.Schema as field_types
-use Rattle.wsm_query.specs.Tree.{Name, Query, Expr, Number, Truth, Field, EnumName, Key, KeyName, Count, Aggregate, If, Brackets, Minus, Not, Binary, And, Or}
+use Rattle.wsm_query.specs.Tree.{Name, Query, Expr, Aggregate, If, Brackets, Minus, Not, Binary, And, Or}
 use Rattle.wsm_check.specs.declared.refusal.CheckFault.TheVariants.{Duplicate, Limit}
 use Rattle.wsm_check.specs.declared.refusal.Part.{Part}
 use Rattle.wsm_check.specs.declared.refusal.Part.TheVariants as part
@@ -132,10 +133,6 @@ columns_few q i (e ∷ es) h l =
     let rest = columns_few q (suc i) es h3.0 (omega (arith, room)) in
     (omega (arith, rest.0), omega (arith, rest.1))
 
-length-map : {A B : Type 0} (f : A → B) (xs : List A) → length (map f xs) ≡ length xs
-length-map f [] = refl
-length-map f (x ∷ xs) = ap suc (length-map f xs)
-
 operands_both : (xs ys : List Acc) → operands_fit xs ≡ true → operands_fit ys ≡ true → operands_fit (xs ++ ys) ≡ true
 operands_both xs ys h l = list_all-append (λ acc. numbers_fit acc.operand) xs ys ∙ and_from (operands_fit xs) (operands_fit ys) h l
 
@@ -151,13 +148,7 @@ operands_of (Not e) h = operands_of e h
 operands_of (Binary op x y) h = let p = and_parts (numbers_fit x) (numbers_fit y) h in operands_both (accumulators_of x) (accumulators_of y) (operands_of x p.0) (operands_of y p.1)
 operands_of (And x y) h = let p = and_parts (numbers_fit x) (numbers_fit y) h in operands_both (accumulators_of x) (accumulators_of y) (operands_of x p.0) (operands_of y p.1)
 operands_of (Or x y) h = let p = and_parts (numbers_fit x) (numbers_fit y) h in operands_both (accumulators_of x) (accumulators_of y) (operands_of x p.0) (operands_of y p.1)
-operands_of (Number n) h = refl
-operands_of (Truth b) h = refl
-operands_of (Field x) h = refl
-operands_of (EnumName x y) h = refl
-operands_of Key h = refl
-operands_of (KeyName x) h = refl
-operands_of Count h = refl
+operands_of e h = refl
 
 operands_of_all : (es : List Expr) → list_all numbers_fit es ≡ true → operands_fit (flat_map accumulators_of es) ≡ true
 operands_of_all [] h = refl
@@ -212,7 +203,7 @@ module _ (q : Query) (passes : Passed q) (spelt : IsSpelt q) (b : Costs) (f : Fi
   head = record (program_of q).header { budget = b }
 
   kinds_counted : length head.kinds ≡ length (accumulators q)
-  kinds_counted = ap length (kinds_are q (accumulators q)) ∙ length-map (λ acc. acc.kind) (accumulators q)
+  kinds_counted = ap length (kinds_are q (accumulators q)) ∙ length-map (accumulators q) (λ (acc : Acc). acc.kind)
 
   firing_is : is_firing head ≡ true
   firing_is =
@@ -230,7 +221,7 @@ module _ (q : Query) (passes : Passed q) (spelt : IsSpelt q) (b : Costs) (f : Fi
   row_is : is_row head ≡ true
   row_is =
       let few = columns_few q 0 q.columns passes.columns (omega arith) in
-      let l = length-map (column_type q) q.columns in
+      let l = length-map q.columns (column_type q) in
       let named = columns_named q b q.columns f.columns in
       and_from (nat_le (length head.kinds) 16) (is_between 1 16 (length head.columns) && list_all (is_column head.schema) head.columns) (le-leb (length head.kinds) 16 (omega (arith, kinds_counted, passes.code.accs)))
       (and_from (is_between 1 16 (length head.columns)) (list_all (is_column head.schema) head.columns)

@@ -246,10 +246,4 @@ not_longer (Not x) = let h = not_longer x in omega (arith, h)
 not_longer (Binary op x y) = let h = not_longer x in let l = not_longer y in omega (arith, h, l)
 not_longer (And x y) = chosen_shorter x (longest y) 1 (untested_longest y) 1 (not_longer x) (not_longer y) (omega arith)
 not_longer (Or x y) = chosen_shorter x 1 (longest y) 1 (untested_longest y) (not_longer x) (omega arith) (not_longer y)
-not_longer (Number n) = omega arith
-not_longer (Truth b) = omega arith
-not_longer (Field f) = omega arith
-not_longer (Name e i) = omega arith
-not_longer Key = omega arith
-not_longer Count = omega arith
-not_longer (Accumulator a) = omega arith
+not_longer t = omega arith

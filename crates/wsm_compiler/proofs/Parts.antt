@@ -1,5 +1,5 @@
 -- What is known at the places of a part of a section: whether one has a fault, and what is known behind the part.
-use Rattle.std.proofs.Common.{◌≡◌, ℕ, suc, ◌+◌, ◌<◌, Bool, true, false, ◌&&◌, ◌||◌, cond, List, [], ◌∷◌, ◌++◌, length, Option, Some, None, refl, ap, subst, ◌∙◌, arith, length-append}
+use Rattle.std.proofs.Common.{◌≡◌, ℕ, suc, ◌+◌, ◌<◌, Bool, true, false, ◌&&◌, ◌||◌, cond, List, [], ◌∷◌, ◌++◌, length, Option, Some, None, refl, ap, subst, ◌∙◌, arith, length-append, append-nil}
 use Rattle.std.specs.Prelude.{is_some, is_none, option_map, nat_eq, nat_lt}
 use Rattle.std.specs.List.{cons_option, list_any}
 use Rattle.std.proofs.Math.Bool.{or-false}
@@ -7,7 +7,7 @@ use Rattle.wsm_program.specs.declared.Instr.{Instr}
 use Rattle.wsm_program.specs.Instructions.{next}
 use Rattle.wsm_rules.specs.Labels.{State, Ranges, Label, Reached, Visit, after, along, carried_to, hull_all, gathered, label_of, visit, visit_of}
 use Rattle.wsm_rules.specs.Rules.{Setting, fault_of, fault_at, and_then}
-use Rattle.wsm_compiler.proofs.Visits.{nil_right, both_empty, extended, added, extended_is, added_append, length-extended, carries, carries_append, label_gathered, faults, faults_append, or_true}
+use Rattle.wsm_compiler.proofs.Visits.{both_empty, extended, added, extended_is, added_append, length-extended, carries, carries_append, label_gathered, faults, faults_append, or_true}
 use Rattle.wsm_machine.proofs.FittingStacks.{no}
 
 pub none≢some : {A X : Type 0} {a : A} → None ≡ Some a → X
@@ -47,7 +47,7 @@ continued e c vs k is n s t hi hn at first =
       label =
           label_gathered e q ws (omega (arith, long, hi))
           ∙ ap (gathered q) (extended_is e c.ranges vs is)
-          ∙ ap hull_all (carries_append q new vs ∙ ap (λ zs. carries q new ++ zs) (at.quiet q (omega (arith, hi)) (omega (arith, hn))) ∙ nil_right (carries q new))
+          ∙ ap hull_all (carries_append q new vs ∙ ap (λ zs. carries q new ++ zs) (at.quiet q (omega (arith, hi)) (omega (arith, hn))) ∙ append-nil (carries q new))
           ∙ first.gives t refl;
       quiet = λ p l h. ap (carries p) (extended_is e c.ranges vs is) ∙ carries_append p new vs ∙ both_empty (carries p new) (carries p vs) (first.quiet t refl p l) (at.quiet p (omega (arith, l, hi)) (omega (arith, h)));
     }
@@ -78,7 +78,7 @@ sequence e c k is js s (Some t) f hi hj first rest vs at =
       gives = λ u h.
           ap (λ p. hull_all (carries p (added e c.ranges vs (is ++ js)))) end
           ∙ ap (λ w. hull_all (carries q w)) whole
-          ∙ ap hull_all (carries_append q more new ∙ ap (λ zs. carries q more ++ zs) (a.quiet t refl q (omega (arith, hj))) ∙ nil_right (carries q more))
+          ∙ ap hull_all (carries_append q more new ∙ ap (λ zs. carries q more ++ zs) (a.quiet t refl q (omega (arith, hj))) ∙ append-nil (carries q more))
           ∙ b.gives u h;
       quiet = λ u h p l. ap (carries p) whole ∙ carries_append p more new ∙ both_empty (carries p more) (carries p new) (b.quiet u h p (omega (arith, l, m))) (a.quiet t refl p (omega (arith, l, m)));
     }

@@ -7,7 +7,7 @@ use Rattle.wsm_program.specs.declared.instr.Instr.{Instr}
 use Rattle.wsm_program.specs.declared.instr.Instr.TheVariants as instr
 use Rattle.wsm_interval.specs.declared.Comparison.{Comparison}
 use Rattle.wsm_query.specs.declared.expr.Op.{Op}
-use Rattle.wsm_query.specs.Tree.{Name, Query, Expr, Number, Truth, Field, EnumName, Key, KeyName, Count, Aggregate, If, Brackets, Minus, Not, Binary, And, Or}
+use Rattle.wsm_query.specs.Tree.{Name, Query, Expr, If, Brackets, Minus, Not, Binary, And, Or}
 use Rattle.wsm_check.specs.Names.{field_place}
 use Rattle.wsm_check.specs.Tested.{comparison_of, field_alone, plain_number, negative, number_alone, tested_by, tested, unless_tested}
 use Rattle.wsm_check.specs.Sizes.{Acc, aggregates, size, condition_size, folds_size, columns_size}
@@ -57,14 +57,7 @@ alike q a (Binary op x y) =
     (refl, refl, refl, test, (λ i. f.4 i + g.4 i + 1))
 alike q a (And x y) = let b = a + aggregates x in (refl, refl, refl, refl, (λ i. unless_is q (resolved q a x) x (alike q a x) i + (alike q b y).4 i + 3))
 alike q a (Or x y) = let b = a + aggregates x in (refl, refl, refl, refl, (λ i. unless_is q (resolved q a x) x (alike q a x) i + (alike q b y).4 i + 3))
-alike q a (Number n) = (refl, refl, refl, refl, refl)
-alike q a (Truth b) = (refl, refl, refl, refl, refl)
-alike q a (Field x) = (refl, refl, refl, refl, refl)
-alike q a (EnumName x y) = (refl, refl, refl, refl, refl)
-alike q a Key = (refl, refl, refl, refl, refl)
-alike q a (KeyName x) = (refl, refl, refl, refl, refl)
-alike q a Count = (refl, refl, refl, refl, refl)
-alike q a (Aggregate kind e) = (refl, refl, refl, refl, refl)
+alike q a e = (refl, refl, refl, refl, refl)
 
 pub resolved_size : (q : Query) (a : ℕ) (e : Expr) → term_size (resolved q a e) ≡ size e
 resolved_size q a e = (alike q a e).4

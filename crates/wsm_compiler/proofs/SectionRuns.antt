@@ -1,5 +1,5 @@
 -- Runs of WHERE and of FIRE end with the meanings of their expressions, or trap where one has none.
-use Rattle.std.proofs.Common.{◌≡◌, inl, inr, ℕ, ◌+◌, ◌≤◌, ◌<◌, true, ◌&&◌, not, cond, List, [], ◌∷◌, ◌++◌, length, map, reverse, replicate, Option, Some, None, Ok, refl, sym, ap, subst, ◌∙◌, arith, append_assoc, length-append}
+use Rattle.std.proofs.Common.{◌≡◌, inl, inr, ℕ, ◌+◌, ◌≤◌, ◌<◌, true, ◌&&◌, not, cond, List, [], ◌∷◌, ◌++◌, length, map, reverse, replicate, Option, Some, None, Ok, refl, sym, ap, subst, ◌∙◌, arith, append_assoc, length-append, append-nil}
 use Rattle.std.proofs.lemmas.List.{reverse-append}
 use Rattle.std.specs.Prelude.{slice_get}
 use Rattle.std.specs.List.{flat_map}
@@ -33,7 +33,6 @@ use Rattle.wsm_check.specs.Parts.{column_type, type_or_int}
 use Rattle.wsm_compiler.specs.Program.{program_stating, stated, needed_of, program_of}
 use Rattle.wsm_compiler.specs.Runs.{of_ty, cell, Serves, ServesAccs, state, topped, Gives, StandsAt}
 use Rattle.wsm_compiler.specs.Sections.{in_bounds, condition_value, Leaves, on_stack, fired_stack, WhereRuns, FireRuns}
-use Rattle.wsm_compiler.proofs.Visits.{nil_right}
 use Rattle.wsm_machine.proofs.FittingStacks.{no}
 use Rattle.wsm_machine.proofs.ReturnedStacks.{are_types-same}
 use Rattle.wsm_compiler.proofs.Parts.{none≢some}
@@ -187,7 +186,7 @@ module _ (q : Query) (b : Costs) (d : Inputs) where
       (condition_gives c q InColumn s serves k a q.having (instr.Return ∷ []) (λ n. absurd (n refl)) hh accs stands (omega (arith, inside)) stack folds room)
       (none_topped j stack folds value)
       (topped_returns c j stack folds value (condition_has c q InColumn s serves a q.having hh accs) returns.0
-      (λ v e. ap (λ x. x && true) (fire_result c (map (column_type q) q.columns) (cell types.Bool v) stack e (sym (nil_right (reverse (map type_of stack))) ∙ types'))))
+      (λ v e. ap (λ x. x && true) (fire_result c (map (column_type q) q.columns) (cell types.Bool v) stack e (sym (append-nil (reverse (map type_of stack))) ∙ types'))))
   columns_run k a (x ∷ es) stack folds h hh accs at inside room types' =
       let serves = serves_fire q b d in
       let t = h.0.0 in

@@ -8,7 +8,7 @@ use Rattle.wsm_query.specs.Tree as tree
 use Rattle.wsm_query.specs.Tree.{Query, Expr}
 use Rattle.wsm_check.specs.Tested.{unless_tested}
 use Rattle.wsm_check.specs.Sizes.{Acc, accumulators, size, need, condition_size, folds_size, columns_size}
-use Rattle.wsm_check.specs.Terms.{Term, Number, Truth, Field, Name, Key, Count, Accumulator, If, Minus, Not, Binary, And, Or, resolved}
+use Rattle.wsm_check.specs.Terms.{Term, If, Minus, Not, Binary, And, Or, resolved}
 use Rattle.wsm_check.specs.Parts.{Folding, aggregates_of, folding, columns_from}
 use Rattle.wsm_compiler.specs.TermCode.{choice, instruction, test_code, jump_unless, term_test, term_size, term_code, ending_code, ending_size, foldings_code, foldings_size, firing_code, firing_size}
 use Rattle.wsm_compiler.specs.Code.{code, condition_code, folds, columns_code}
@@ -51,13 +51,7 @@ length-term_code k (Or x y) =
     let j = k + unless_tested (term_test x) (term_size x) + 1 in
     let l = length-chosen (term_test x) (term_code k x) (jump_unless (term_test x)) j (instr.PushBool true ∷ []) 1 (term_code (j + 1 + 1) y) (term_size y) in
     omega (arith, l, ap (unless_tested (term_test x)) (length-term_code k x), length-term_code (j + 1 + 1) y)
-length-term_code k (Number n) = refl
-length-term_code k (Truth b) = refl
-length-term_code k (Field f) = refl
-length-term_code k (Name e i) = refl
-length-term_code k Key = refl
-length-term_code k Count = refl
-length-term_code k (Accumulator a) = refl
+length-term_code k t = refl
 
 -- and so has an expression
 pub length-code : (q : Query) (k a : ℕ) (e : Expr) → length (code q k a e) ≡ size e
@@ -102,14 +96,7 @@ not_empty (tree.If c x y) = let h = not_empty x in (omega arith, omega (arith, h
 not_empty (tree.Binary op x y) = (omega arith, omega arith)
 not_empty (tree.And x y) = let h = not_empty y in (omega arith, omega (arith, h.1))
 not_empty (tree.Or x y) = let h = not_empty y in (omega arith, omega (arith, h.1))
-not_empty (tree.Number n) = (omega arith, omega arith)
-not_empty (tree.Truth b) = (omega arith, omega arith)
-not_empty (tree.Field x) = (omega arith, omega arith)
-not_empty (tree.EnumName x y) = (omega arith, omega arith)
-not_empty tree.Key = (omega arith, omega arith)
-not_empty (tree.KeyName x) = (omega arith, omega arith)
-not_empty tree.Count = (omega arith, omega arith)
-not_empty (tree.Aggregate kind e) = (omega arith, omega arith)
+not_empty e = (omega arith, omega arith)
 
 pub some_size : (e : Expr) → 0 < size e
 some_size e = (not_empty e).0

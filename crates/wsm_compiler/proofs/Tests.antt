@@ -3,6 +3,7 @@ use Rattle.std.proofs.Common.{◌≡◌, ℕ, suc, ◌+◌, ◌<◌, Bool, true,
 use Rattle.std.specs.Prelude.{ℤ, is_some, is_none, option_map, nat_eq, nat_lt}
 use Rattle.std.specs.List.{list_any}
 use Rattle.std.proofs.Math.Bool.{and-false}
+use Rattle.std.proofs.Math.Seq.{drop-append_seam}
 use Rattle.wsm_record.specs.declared.Kind.{Kind}
 use Rattle.wsm_program.specs.declared.Instr.{Instr}
 use Rattle.wsm_program.specs.declared.Instr.TheVariants.{Jump, JumpIfFalse, Test, Fold, Return}
@@ -115,10 +116,6 @@ map_twice : {A B D : Type 0} (f : A → B) (g : B → D) (o : Option A) → opti
 map_twice f g None = refl
 map_twice f g (Some x) = refl
 
-pub drop_front : {A : Type 0} (xs ys : List A) → drop (length xs) (xs ++ ys) ≡ ys
-drop_front [] ys = refl
-drop_front (x ∷ xs) ys = drop_front xs ys
-
 -- what is pushed, in place of the first n values
 abbrev laid : List Known → List Known → List Bool → ℕ → List Known → State
 laid fields below fs n vs = record { stack = vs ++ drop n below; folded = fs; fields = fields }
@@ -149,7 +146,7 @@ acting e c k i ops s types p pl popped fit is div room more =
     (λ t h.
     (λ j. option_map (laid s.fields (ops ++ s.stack) (plain_folded i s.folded pl j) (popped j)) (is j))
     ∙ map_twice (λ x. x ∷ []) (laid s.fields (ops ++ s.stack) s.folded (length ops)) p
-    ∙ ap (λ below. option_map (over s.fields below s.folded) p) (drop_front ops s.stack)
+    ∙ ap (λ below. option_map (over s.fields below s.folded) p) (drop-append_seam ops s.stack)
     ∙ given_some s t (may_stand c.section i && types) p h)
   where
     some_none : (s : State) (o : Option Known) → is_none (pushed_on s o) ≡ is_none o

@@ -1,6 +1,6 @@
 -- FIRE of an accepted query ends on each pane in range, on what UPDATE's values of its records are folded to; so its row is what the
 -- query's columns and HAVING mean there.
-use Rattle.std.proofs.Common.{◌≡◌, ℕ, suc, ◌+◌, ◌≤◌, ◌<◌, true, ◌&&◌, cond, List, [], ◌∷◌, ◌++◌, length, map, reverse, Option, Some, None, refl, sym, ap, subst, ◌∙◌, arith, append_assoc}
+use Rattle.std.proofs.Common.{◌≡◌, ℕ, suc, ◌+◌, ◌≤◌, ◌<◌, true, ◌&&◌, cond, List, [], ◌∷◌, ◌++◌, length, map, reverse, Option, Some, None, refl, sym, ap, subst, ◌∙◌, arith, append_assoc, append-nil}
 use Rattle.std.proofs.lemmas.List.{reverse-append}
 use Rattle.std.specs.Option.{option_and_then}
 use Rattle.std.specs.Prelude.{pos, nat_lt, option_map}
@@ -35,7 +35,6 @@ use Rattle.wsm_compiler.specs.Runs.{cell}
 use Rattle.wsm_compiler.specs.Sections.{in_bounds, condition_value, on_stack, fired_stack, pane_fits}
 use Rattle.wsm_compiler.specs.Folded.{AreUpdates}
 use Rattle.wsm_compiler.specs.SameMeaning.{IsAccepted, record_in_range, IsPane, HasValue, UpdatesHold, TotalOnPanes, AreOfKey, StandsForMeant}
-use Rattle.wsm_compiler.proofs.Visits.{nil_right}
 use Rattle.wsm_machine.proofs.AccumulatorRanges.{accs_types}
 use Rattle.wsm_compiler.proofs.Parts.{none≢some}
 use Rattle.wsm_compiler.proofs.Aggregated.{free, fire_means}
@@ -77,7 +76,7 @@ module _ (q : Query) (key : ℕ) (records : List (List Value)) where
     top_is = is;
     rest = stack;
     out_is = ap (λ (o : Option (List Cell)). elim o [ None ↦ [] | Some c ↦ c ]) (sym e);
-    rest_is = sym (nil_right (reverse stack));
+    rest_is = sym (append-nil (reverse stack));
   }
 
   column_fired : (e : Expr) (es : List Expr) (stack out : List Cell) (v : Value) → in_bounds q s 0 e ≡ Some v → Fired es (cell (column_type q e) v ∷ stack) out → Fired (e ∷ es) stack out

@@ -1,5 +1,5 @@
 -- UPDATE has a fault exactly where the range of an aggregate doesn't fit.
-use Rattle.std.proofs.Common.{◌≡◌, ℕ, zero, suc, ◌+◌, ◌≤◌, ◌<◌, Bool, true, false, ◌&&◌, ◌||◌, not, cond, List, [], ◌∷◌, ◌++◌, length, map, replicate, Option, Some, None, Ok, refl, sym, ap, subst, ◌∙◌, arith, length-append}
+use Rattle.std.proofs.Common.{◌≡◌, ℕ, zero, suc, ◌+◌, ◌≤◌, ◌<◌, Bool, true, false, ◌&&◌, ◌||◌, not, cond, List, [], ◌∷◌, ◌++◌, length, map, replicate, Option, Some, None, Ok, refl, sym, ap, subst, ◌∙◌, arith, append_assoc, length-append}
 use Rattle.std.specs.Prelude.{ℤ, ◌*ℤ◌, is_some, is_none, slice_index_or, slice_set}
 use Rattle.std.specs.List.{list_all}
 use Rattle.std.specs.Int.{int_min, int_max}
@@ -180,12 +180,8 @@ module _ (q : Query) (b : Costs) where
       let l = length-append before (acc ∷ []) in
       let next : length (before ++ acc ∷ []) ≡ suc (length before) = omega (arith, l) in (
         ap (λ xs. kind_of (kinds_of q xs) (length before)) (sym e) ∙ ap (kind_of (kinds_of q (before ++ acc ∷ accs))) (sym here) ∙ kinds_from before (acc ∷ accs) 0,
-        subst (λ n. KindsAt n accs) next (kinds_at (before ++ acc ∷ []) accs (groups before (acc ∷ []) accs ∙ e)),
+        subst (λ n. KindsAt n accs) next (kinds_at (before ++ acc ∷ []) accs (append_assoc before (acc ∷ []) accs ∙ e)),
       )
-    where
-      groups : (xs ys zs : List Acc) → (xs ++ ys) ++ zs ≡ xs ++ (ys ++ zs)
-      groups [] ys zs = refl
-      groups (x ∷ xs) ys zs = ap (λ ws. x ∷ ws) (groups xs ys zs)
 
   pub all_kinds : KindsAt 0 (accumulators q)
   all_kinds = kinds_at [] (accumulators q) refl

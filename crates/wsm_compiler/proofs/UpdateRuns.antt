@@ -1,8 +1,8 @@
 -- A run of UPDATE folds the meaning of each aggregate's operand, or traps where one has none.
-use Rattle.std.proofs.Common.{◌≡◌, inl, inr, ℕ, suc, ◌+◌, ◌≤◌, true, false, not, cond, List, [], ◌∷◌, ◌++◌, length, map, replicate, Option, Some, None, refl, sym, ap, subst, ◌∙◌, arith, append_assoc, length-append}
+use Rattle.std.proofs.Common.{◌≡◌, inl, inr, ℕ, suc, ◌+◌, ◌≤◌, true, false, not, cond, List, [], ◌∷◌, ◌++◌, length, map, replicate, Option, Some, None, refl, sym, ap, subst, ◌∙◌, arith, append_assoc, length-append, append-nil}
 use Rattle.std.specs.Prelude.{is_some, slice_get, slice_set}
 use Rattle.std.specs.List.{list_all}
-use Rattle.std.proofs.lemmas.List.{length-map}
+use Rattle.std.proofs.lemmas.List.{length-map, map-append}
 use Rattle.std.proofs.lemmas.Option.{get_or_from_slice_get}
 use Rattle.wsm_record.specs.declared.event.Value.{Value}
 use Rattle.wsm_record.specs.declared.event.Value.TheVariants.{Int, Bool as Truth', Enum}
@@ -31,7 +31,6 @@ use Rattle.wsm_compiler.specs.Code.{folds, update_section}
 use Rattle.wsm_compiler.specs.Program.{program_stating, stated, needed_of, program_of}
 use Rattle.wsm_compiler.specs.Runs.{of_ty, cell, ServesAccs, state, topped, Gives, StandsAt}
 use Rattle.wsm_compiler.specs.Sections.{record_fits, in_bounds, folded_values, Folds, UpdateRuns}
-use Rattle.wsm_compiler.proofs.Visits.{nil_right}
 use Rattle.wsm_machine.proofs.FittingStacks.{no}
 use Rattle.wsm_compiler.proofs.KnownFields.{in_column}
 use Rattle.wsm_compiler.proofs.Checked.{fine}
@@ -54,10 +53,6 @@ unfolded_at (v ∷ done) rest = unfolded_at done rest
 set_at : (done rest : List (Option Value)) (v : Value) → slice_set (done ++ None ∷ rest) (length done) (Some v) ≡ (done ++ Some v ∷ []) ++ rest
 set_at [] rest v = refl
 set_at (w ∷ done) rest v = ap (λ vs. w ∷ vs) (set_at done rest v)
-
-map-append : (vs ws : List Value) → map (λ (v : Value). Some v) (vs ++ ws) ≡ map (λ (v : Value). Some v) vs ++ map (λ (v : Value). Some v) ws
-map-append [] ws = refl
-map-append (v ∷ vs) ws = ap (λ xs. Some v ∷ xs) (map-append vs ws)
 
 all_folded : (vs : List Value) → list_all is_some (map (λ (v : Value). Some v) vs ++ []) ≡ true
 all_folded [] = refl
@@ -141,7 +136,7 @@ module _ (q : Query) (b : Costs) (d : Inputs) (fit : record_fits q d ≡ true) w
       let next : set ≡ (done ++ Some v ∷ []) ++ rest = ap (λ w. slice_set (done ++ None ∷ rest) (length done) (Some w)) (value_is (kind_type kind) v) ∙ set_at done rest v in
       let goes : step c m (instr.Fold (length done)) ≡ Goes (state (k + 1) [] set) =
       (λ i. unless (cond (has_one 0 i) (Some Underflow) (cond (not (taken i)) (Some WrongType) (cond (unfolded_at done rest i) (Some FoldTwice) None))) (Goes (state (k + 1) [] set))) in
-      subst (λ fs. Gives c m (Some (state (k + 1) [] fs))) (next ∙ ap (λ fs. fs ++ rest) (sym (map-append vs (v ∷ []))))
+      subst (λ fs. Gives c m (Some (state (k + 1) [] fs))) (next ∙ ap (λ fs. fs ++ rest) (sym (map-append (λ (v : Value). Some v) vs (v ∷ []))))
       (run_goes c m (state (k + 1) [] set) (instr.Fold (length done)) (subst (λ p. slice_get c.code k ≡ Some (instr.Fold p)) place at) goes)
 
   folds_run : (k : ℕ) (before accs : List Acc) (vs : List Value) → before ++ accs ≡ accumulators q → length vs ≡ length before → AccsTyped q b accs → operands_fit accs ≡ true → StandsAt c.code k (folds q k (length before) accs) → k + folds_size accs ≤ length c.code → need_of_folds accs ≤ 32 →
@@ -149,7 +144,7 @@ module _ (q : Query) (b : Costs) (d : Inputs) (fit : record_fits q d ≡ true) w
   folds_run k before [] vs e l h fits at inside room =
       let st = state k [] (held vs 0) in
       let r = return_ends c st at.0 (all_folded vs) in
-      (ap (λ (r : Ran). r.outcome) r, ap (λ (r : Ran). r.stack) r, ap (λ (r : Ran). r.folds) r ∙ nil_right (map (λ (v : Value). Some v) vs) ∙ ap (map (λ (v : Value). Some v)) (sym (nil_right vs)))
+      (ap (λ (r : Ran). r.outcome) r, ap (λ (r : Ran). r.stack) r, ap (λ (r : Ran). r.folds) r ∙ append-nil (map (λ (v : Value). Some v) vs) ∙ ap (map (λ (v : Value). Some v)) (sym (append-nil vs)))
   folds_run k before (acc ∷ accs) vs e l h fits at inside room =
       let numbers = and_parts (numbers_fit acc.operand) (operands_fit accs) fits in
       let y = acc.operand in

@@ -1,5 +1,5 @@
 -- The visits of a section's places, a part of the section at a time.
-use Rattle.std.proofs.Common.{◌≡◌, ℕ, ◌+◌, ◌<◌, Bool, true, false, ◌||◌, List, [], ◌∷◌, ◌++◌, length, reverse, Option, Some, None, refl, sym, ap, ◌∙◌, arith, append_assoc, length-append}
+use Rattle.std.proofs.Common.{◌≡◌, ℕ, ◌+◌, ◌<◌, Bool, true, false, ◌||◌, List, [], ◌∷◌, ◌++◌, length, reverse, Option, Some, None, refl, sym, ap, ◌∙◌, arith, append_assoc, length-append, append-nil}
 use Rattle.std.proofs.lemmas.List.{reverse-append}
 use Rattle.std.specs.Prelude.{is_some}
 use Rattle.std.specs.List.{cons_option, filter_map}
@@ -7,10 +7,6 @@ use Rattle.wsm_program.specs.declared.Instr.{Instr}
 use Rattle.wsm_rules.specs.declared.rejection.Rejection.{Rejection}
 use Rattle.wsm_rules.specs.Labels.{State, Ranges, Visit, carried_to, gathered, label_of, visit_of, visited_next, visits_back, visits}
 use Rattle.wsm_rules.specs.Rules.{Setting, fault_at, or_then, first_fault}
-
-pub nil_right : {A : Type 0} (xs : List A) → xs ++ [] ≡ xs
-nil_right [] = refl
-nil_right (x ∷ xs) = ap (λ ys. x ∷ ys) (nil_right xs)
 
 pub both_empty : {A : Type 0} (xs ys : List A) → xs ≡ [] → ys ≡ [] → xs ++ ys ≡ []
 both_empty xs ys h l = (λ i. h i ++ l i)
@@ -31,7 +27,7 @@ extended_is e r vs (i ∷ is) =
     extended_is e r (visited_next e r i vs) is ∙ sym (append_assoc (added e r (visited_next e r i vs) is) (visit_of e r i vs ∷ []) vs)
 
 pub added_append : (e : State) (r : Ranges) (vs : List Visit) (is js : List Instr) → added e r vs (is ++ js) ≡ added e r (extended e r vs is) js ++ added e r vs is
-added_append e r vs [] js = sym (nil_right (added e r vs js))
+added_append e r vs [] js = sym (append-nil (added e r vs js))
 added_append e r vs (i ∷ is) js =
     let ws = visited_next e r i vs in
     ap (λ xs. xs ++ visit_of e r i vs ∷ []) (added_append e r ws is js)
@@ -59,7 +55,7 @@ visits_after e r before (i ∷ is) =
 -- a section's visits are those of its instructions, from none on
 pub visits_are : (e : State) (r : Ranges) (is : List Instr) → visits e r is ≡ added e r [] is
 visits_are e r is =
-    ap (visits_back e r) (sym (nil_right (reverse is))) ∙ visits_after e r [] is ∙ extended_is e r [] is ∙ nil_right (added e r [] is)
+    ap (visits_back e r) (sym (append-nil (reverse is))) ∙ visits_after e r [] is ∙ extended_is e r [] is ∙ append-nil (added e r [] is)
 
 -- what edges from these places carry to a place, the last first
 abbrev pub carries : ℕ → List Visit → List State
