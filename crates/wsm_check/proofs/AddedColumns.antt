@@ -3,6 +3,7 @@ use Rattle.std.proofs.Common.{◌≡◌, ◌∙◌, ◌+◌, ◌-◌, ◌≤◌,
 use Rattle.std.specs.Prelude.{OnOk}
 use Rattle.std.specs.List.{flat_map, list_all}
 use Rattle.std.proofs.lemmas.Bool.{and_from}
+use Rattle.std.proofs.lemmas.Grind.{common_steps}
 use Rattle.std.proofs.lemmas.List.{map-append}
 use Rattle.wsm_record.specs.declared.words.CellType.{CellType}
 use Rattle.wsm_record.specs.declared.words.CellType.TheVariants as types
@@ -16,14 +17,13 @@ use Rattle.wsm_check.specs.declared.refusal.Part.TheVariants as part
 use Rattle.wsm_check.specs.declared.expressions.Fired.{Fired}
 use Rattle.wsm_check.specs.declared.term.Term.{Term as Code}
 use Rattle.wsm_check.specs.Types.{Around, InColumn, typed}
-use Rattle.wsm_check.specs.Sizes.{accumulators_of}
+use Rattle.wsm_check.specs.Aggregates.{accumulators_of}
 use Rattle.wsm_check.specs.Checks.{Judges, or_else, unless, typed_refusal, condition_refusal, columns_refusal}
 use Rattle.wsm_check.specs.Spelt.{numbers_fit}
 use Rattle.wsm_check.specs.Terms.{Term}
 use Rattle.wsm_check.specs.Parts.{Folding, column_type, columns_from, folding, type_or_int}
 use Rattle.wsm_check.specs.Seen.{seen_term}
 use Rattle.wsm_check.specs.Resolved.{AddsColumns, Resolves, ResolvesAs, ResolvesCondition, seen_foldings}
-use Rattle.wsm_check.proofs.CappedNumbers.{split}
 use Rattle.wsm_check.proofs.ChecksInOrder.{goes_on}
 use Rattle.wsm_check.proofs.Resolving.{accumulators_behind, foldings_join}
 
@@ -44,6 +44,9 @@ last_of (Some f) answer h = h
 
 abbrev behind_first : List CodeExpr → List CodeExpr
 behind_first exprs = take (length exprs - 1) (drop 1 exprs)
+
+split : {X : Type 0} (xs : List X) (x : X) → 1 ≤ length xs → x ≡ get_or xs 0 x → x ∷ take (length xs - 1) (drop 1 xs) ≡ xs
+split xs x h e = grind (arith, common_steps)
 
 pub column_judged : {A : Type 0} (q : Query) (i j : ℕ) (exprs : List CodeExpr) (x : CodeExpr) (t : CellType) (answer : Result A CheckRefusal) → 1 ≤ length exprs → x ≡ get_or exprs 0 x → nat_lt i 16 ≡ true → typed q InColumn (seen_expr x) ≡ Ok t → j ≡ i + 1 →
     Judges answer (columns_refusal q j (map seen_expr (behind_first exprs))) → Judges answer (columns_refusal q i (map seen_expr exprs))

@@ -1,5 +1,4 @@
 pub mod NamedFields
-pub mod CappedNumbers
 pub mod Resolving
 pub mod ResolvedQuery
 pub mod AddedColumns

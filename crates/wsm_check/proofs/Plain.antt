@@ -5,7 +5,7 @@ use Rattle.std.proofs.lemmas.Bool.{false≢true}
 use Rattle.wsm_query.specs.Tree.{Query, Expr, Number, Truth, Field, EnumName, Key, KeyName, Count, Aggregate, If, Brackets, Minus, Not, Binary, And, Or}
 use Rattle.wsm_record.specs.declared.words.CellType.{CellType}
 use Rattle.wsm_check.specs.Types.{Around, InWhere, InColumn, InAggregate, Typed, if_typed, if_both, entered, typed}
-use Rattle.wsm_check.specs.Sizes.{aggregates}
+use Rattle.wsm_check.specs.Aggregates.{aggregates}
 
 abbrev pub HasType : Query → Around → Expr → Type 0
 HasType q around e = is_ok (typed q around e) ≡ true

@@ -14,7 +14,7 @@ use Rattle.wsm_query.specs.Tree.{Query, Expr, Aggregate, If, Brackets, Minus, No
 use Rattle.wsm_check.specs.declared.refusal.Part.{Part}
 use Rattle.wsm_check.specs.declared.refusal.CheckRefusal.{CheckRefusal}
 use Rattle.wsm_check.specs.Types.{Around, InColumn, InAggregate, Typed, if_typed, typed, choice_ty, logic_ty, op_ty, wanted}
-use Rattle.wsm_check.specs.Sizes.{Acc, accumulators_of, aggregates}
+use Rattle.wsm_check.specs.Aggregates.{Acc, accumulators_of, aggregates}
 use Rattle.wsm_check.specs.Spelt.{numbers_fit}
 use Rattle.wsm_check.specs.Terms.{Term, resolved}
 use Rattle.wsm_check.specs.Terms as terms

@@ -11,14 +11,18 @@ use Rattle.wsm_record.specs.Schema.{FieldType, DeclaredField, is_source_count, i
 use Rattle.wsm_record.specs.Schema as field_types
 use Rattle.wsm_query.specs.Tree.{Name, Budget, Query, Expr}
 use Rattle.wsm_check.specs.declared.refusal.CheckFault.{CheckFault}
-use Rattle.wsm_check.specs.declared.refusal.CheckFault.TheVariants.{Duplicate, Limit, StreamNeedsAccumulating, SessionLateness}
+use Rattle.wsm_check.specs.declared.refusal.CheckFault.TheVariants.{Duplicate, Limit, Exceeds, StreamNeedsAccumulating, SessionLateness}
+use Rattle.wsm_check.specs.declared.refusal.CodeLimit.{CodeLimit}
+use Rattle.wsm_check.specs.declared.refusal.CodeLimit.TheVariants.{Accumulators, Where, Update, Fire, Stack, Panes}
 use Rattle.wsm_check.specs.declared.refusal.Part.{Part}
 use Rattle.wsm_check.specs.declared.refusal.Part.TheVariants as part
 use Rattle.wsm_check.specs.declared.refusal.CheckRefusal.{CheckRefusal}
 use Rattle.wsm_check.specs.declared.refusal.CheckRefusal.TheVariants.{Fault, Memory}
 use Rattle.wsm_check.specs.Names.{has_repeats}
 use Rattle.wsm_check.specs.Types.{Around, InWhere, InColumn, Typed, typed, typed_condition}
-use Rattle.wsm_check.specs.Sizes.{accumulators, where_size, update_size, fire_size, stack_need}
+use Rattle.wsm_check.specs.Spelt.{IsSpelt}
+use Rattle.wsm_check.specs.Parts.{Parts, parts_of}
+use Rattle.wsm_check.specs.Sizes.{ending_size, foldings_size, firing_size, need_of, counted}
 
 -- a refusal where the condition fails
 abbrev pub unless : Bool → CheckFault → Part → Option CheckRefusal
@@ -92,14 +96,24 @@ columns_refusal q i (e ∷ es) =
     let p = part.Column (suc i) in
     first (unless (nat_lt i MAX_COLUMNS) Limit p ∷ typed_refusal p (typed q InColumn e) ∷ columns_refusal q (suc i) es ∷ [])
 
--- at most 16 accumulators, 1,000 instructions in a section, 32 places on the stack, and 100,000 panes at once
-abbrev pub code_fits : Query → Bool
-code_fits q =
-    nat_le (length (accumulators q)) MAX_ACCUMULATORS
-    && (nat_le (where_size q) MAX_SECTION
-    && (nat_le (update_size q) MAX_SECTION
-    && (nat_le (fire_size q) MAX_SECTION
-    && (nat_le (stack_need q) MAX_STACK && nat_le (length q.keys * live_bound q.shape q.skew q.lateness) MAX_PANES))))
+-- more than there may be of what a limit is of
+abbrev pub exceeds : CodeLimit → ℕ → ℕ → Option CheckRefusal
+exceeds limit n allowed = unless (nat_le n allowed) (Exceeds limit n allowed) part.Code
+
+-- at most 16 accumulators
+abbrev pub foldings_refusal : Parts → Option CheckRefusal
+foldings_refusal p = exceeds Accumulators (length p.foldings) MAX_ACCUMULATORS
+
+-- at most 1,000 instructions in a section, 32 places on the stack, and 100,000 panes at once
+abbrev pub sizes_refusal : Parts → Option CheckRefusal
+sizes_refusal p =
+    first (
+    exceeds Where (counted (ending_size p.condition)) MAX_SECTION
+    ∷ exceeds Update (counted (foldings_size p.foldings)) MAX_SECTION
+    ∷ exceeds Fire (counted (firing_size p.having p.columns)) MAX_SECTION
+    ∷ exceeds Stack (counted (need_of p)) MAX_STACK
+    ∷ exceeds Panes (counted (length p.schema.keys * live_bound p.shape p.skew p.lateness)) MAX_PANES
+    ∷ [])
 
 -- of what the query declares
 abbrev pub declared_refusal : Query → Option CheckRefusal
@@ -126,16 +140,23 @@ expressions_refusal q =
     ∷ condition_refusal q InColumn part.Having q.having
     ∷ [])
 
-abbrev pub refusal : Query → Option CheckRefusal
-refusal q = first (declared_refusal q ∷ numbers_refusal q ∷ expressions_refusal q ∷ unless (code_fits q) Limit part.Code ∷ [])
-
--- of what is behind the declarations
+-- of what is behind the declarations, up to the accumulators, whose number says whether terms may be numbered
 abbrev pub rest_refusal : Query → Option CheckRefusal
-rest_refusal q = first (numbers_refusal q ∷ expressions_refusal q ∷ unless (code_fits q) Limit part.Code ∷ [])
+rest_refusal q = first (numbers_refusal q ∷ expressions_refusal q ∷ foldings_refusal (parts_of q) ∷ [])
+
+abbrev pub refusal : Query → Option CheckRefusal
+refusal q = first (declared_refusal q ∷ rest_refusal q ∷ sizes_refusal (parts_of q) ∷ [])
 
 -- no check refuses the query
 abbrev pub IsChecked : Query → Type 0
 IsChecked q = refusal q ≡ None
+
+-- these are the parts of a query that no check refuses
+pub record ArePartsOfChecked (p : Parts) : Type 0 where
+  pub query : Query
+  pub checked : IsChecked query
+  pub spelt : IsSpelt query
+  pub is : p ≡ parts_of query
 
 -- what the code answers of a check, unless memory ran out
 abbrev pub Judges : {A : Type 0} → Result A CheckRefusal → Option CheckRefusal → Type 0

@@ -1,11 +1,12 @@
 pub mod Names
-pub mod Tested
-pub mod Sizes
+pub mod Aggregates
 pub mod Types
-pub mod Checks
 pub mod Spelt
 pub mod Terms
+pub mod Tested
 pub mod Parts
+pub mod Sizes
+pub mod Checks
 pub mod Seen
 pub mod Resolved
 pub mod Text

@@ -1,5 +1,5 @@
 -- What a checked query has.
-use Rattle.std.specs.Prelude.{◌≡◌, ℕ, ◌+◌, Bool, List, [], ◌∷◌, map, ℤ, Option, option_map, Ok, Err}
+use Rattle.std.specs.Prelude.{ℕ, ◌+◌, Bool, List, [], ◌∷◌, map, ℤ, Option, option_map, Ok, Err}
 use Rattle.wsm_record.specs.declared.words.Kind.{Kind}
 use Rattle.wsm_record.specs.declared.words.Mode.{Mode}
 use Rattle.wsm_record.specs.declared.words.Form.{Form}
@@ -9,9 +9,7 @@ use Rattle.wsm_query.specs.Tree.{Budget, Query, Expr}
 use Rattle.wsm_record.specs.declared.words.CellType.{CellType}
 use Rattle.wsm_record.specs.declared.words.CellType.TheVariants as types
 use Rattle.wsm_check.specs.Types.{Typed, InColumn, typed}
-use Rattle.wsm_check.specs.Sizes.{Acc, aggregates, accumulators}
-use Rattle.wsm_check.specs.Checks.{IsChecked}
-use Rattle.wsm_check.specs.Spelt.{IsSpelt}
+use Rattle.wsm_check.specs.Aggregates.{Acc, aggregates, accumulators}
 pub use Rattle.wsm_check.specs.Names.{schema_of}
 use Rattle.wsm_check.specs.Terms.{Term, resolved}
 
@@ -81,10 +79,3 @@ parts_of q = record {
   columns = columns_from q 0 q.columns;
   having = option_map (resolved q (aggregates_of q.columns)) q.having;
 }
-
--- these are the parts of a query that no check refuses
-pub record ArePartsOfChecked (p : Parts) : Type 0 where
-  pub query : Query
-  pub checked : IsChecked query
-  pub spelt : IsSpelt query
-  pub is : p ≡ parts_of query

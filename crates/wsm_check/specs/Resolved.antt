@@ -12,7 +12,7 @@ use Rattle.wsm_check.specs.declared.refusal.CheckRefusal.TheVariants.{Memory}
 use Rattle.wsm_check.specs.declared.expressions.Fired.{Fired}
 use Rattle.wsm_check.specs.declared.expressions.Expressions.{Expressions}
 use Rattle.wsm_check.specs.Types.{Around, Typed, typed, op_ty, logic_ty}
-use Rattle.wsm_check.specs.Sizes.{accumulators_of, fired, in_option}
+use Rattle.wsm_check.specs.Aggregates.{accumulators_of, fired, in_option}
 use Rattle.wsm_check.specs.Checks.{typed_refusal}
 use Rattle.wsm_check.specs.Spelt.{numbers_fit}
 use Rattle.wsm_check.specs.Terms.{Term, Binary, And, Or, resolved}
@@ -65,7 +65,7 @@ pub record AddsColumns (q : Query) (es : List Expr) (before after : Fired) : Typ
   pub foldings : seen_foldings after ≡ seen_foldings before ++ map (folding q) (flat_map accumulators_of es)
   pub spelt : list_all numbers_fit es ≡ true
 
--- the expressions of a query, where it has as many accumulators as a program may have
+-- the expressions of a query
 pub record AreResolved (q : Query) (r : Expressions) : Type 0 where
   pub condition : option_map seen_term r.condition ≡ (parts_of q).condition
   pub types : r.fired.types.items ≡ (parts_of q).types
@@ -73,3 +73,8 @@ pub record AreResolved (q : Query) (r : Expressions) : Type 0 where
   pub columns : map seen_term r.fired.columns.items ≡ (parts_of q).columns
   pub having : option_map seen_term r.having ≡ (parts_of q).having
   pub spelt : list_all numbers_fit (in_option q.condition ++ fired q) ≡ true
+
+-- So they are where they fold no more than a program may, and as many they fold as the query.
+pub record AreResolvedIfFew (q : Query) (r : Expressions) : Type 0 where
+  pub count : length r.fired.foldings.items ≡ length (parts_of q).foldings
+  pub terms : length r.fired.foldings.items ≤ MAX_ACCUMULATORS → AreResolved q r

@@ -4,7 +4,7 @@ use Rattle.std.specs.List.{list_all}
 use Rattle.wsm_record.specs.Name.{is_name}
 use Rattle.wsm_record.specs.Schema.{is_spelt_field, is_i64}
 use Rattle.wsm_query.specs.Tree.{Query, Expr, Number, Aggregate, If, Brackets, Minus, Not, Binary, And, Or}
-use Rattle.wsm_check.specs.Sizes.{in_option, fired}
+use Rattle.wsm_check.specs.Aggregates.{in_option, fired}
 
 -- each number in an expression has 64 bits
 abbrev pub numbers_fit : Expr → Bool

@@ -4,7 +4,7 @@ use Rattle.wsm_query.specs.declared.expr.Op.{Op}
 use Rattle.wsm_query.specs.Tree as tree
 use Rattle.wsm_query.specs.Tree.{Query, Expr, EnumName, KeyName, Aggregate, Brackets}
 use Rattle.wsm_check.specs.Names.{place_of, field_place, type_of, names_of}
-use Rattle.wsm_check.specs.Sizes.{aggregates}
+use Rattle.wsm_check.specs.Aggregates.{aggregates}
 
 -- ENUM 0 is the keys, and f + 1 the names of field f
 pub data Term : Type 0 where

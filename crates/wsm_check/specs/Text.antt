@@ -2,7 +2,7 @@
 use Rattle.std.specs.Prelude.{ℕ, ◌++◌, List, codes}
 use Rattle.std.specs.Fmt.{decimal}
 use Rattle.wsm_check.specs.declared.refusal.CheckFault.{CheckFault}
-use Rattle.wsm_check.specs.declared.refusal.CheckFault.TheVariants.{UnknownName, Duplicate, FieldOutsideAggregate, AggregateNested, AggregateInWhere, Limit, StreamNeedsAccumulating, SessionLateness}
+use Rattle.wsm_check.specs.declared.refusal.CheckFault.TheVariants.{UnknownName, Duplicate, FieldOutsideAggregate, AggregateNested, AggregateInWhere, Limit, Exceeds, StreamNeedsAccumulating, SessionLateness}
 use Rattle.wsm_check.specs.declared.refusal.CheckFault.TheVariants as fault
 use Rattle.wsm_check.specs.declared.refusal.Part.{Part}
 use Rattle.wsm_check.specs.declared.refusal.Part.TheVariants as part
@@ -17,6 +17,7 @@ fault_text FieldOutsideAggregate = codes "C4 FieldOutsideAggregate"
 fault_text AggregateNested = codes "C5 AggregateNested"
 fault_text AggregateInWhere = codes "C6 AggregateInWhere"
 fault_text Limit = codes "C7 Limit"
+fault_text (Exceeds limit counted allowed) = codes "C7 Limit"
 fault_text StreamNeedsAccumulating = codes "C8 StreamNeedsAccumulating"
 fault_text SessionLateness = codes "C10 SessionLateness"
 

@@ -9,8 +9,10 @@ use Rattle.wsm_record.specs.Schema.{FieldType, DeclaredField}
 use Rattle.wsm_record.specs.Schema as field_types
 use Rattle.wsm_query.specs.Tree.{Query, Expr, Number, Truth, Field, EnumName, Key, KeyName, Count, Aggregate, If, Binary}
 use Rattle.wsm_check.specs.declared.refusal.CheckFault.{CheckFault}
-use Rattle.wsm_check.specs.declared.refusal.CheckFault.TheVariants.{UnknownName, Duplicate, FieldOutsideAggregate, AggregateNested, AggregateInWhere, Limit, StreamNeedsAccumulating, SessionLateness}
+use Rattle.wsm_check.specs.declared.refusal.CheckFault.TheVariants.{UnknownName, Duplicate, FieldOutsideAggregate, AggregateNested, AggregateInWhere, Limit, Exceeds, StreamNeedsAccumulating, SessionLateness}
 use Rattle.wsm_check.specs.declared.refusal.CheckFault.TheVariants as fault
+use Rattle.wsm_check.specs.declared.refusal.CodeLimit.TheVariants.{Accumulators, Stack}
+use Rattle.wsm_check.specs.declared.refusal.CodeLimit.TheVariants as limit
 use Rattle.wsm_check.specs.declared.refusal.Part.{Part}
 use Rattle.wsm_check.specs.declared.refusal.Part.TheVariants as part
 use Rattle.wsm_check.specs.declared.refusal.CheckRefusal.{CheckRefusal}
@@ -264,7 +266,7 @@ sums (suc k) = Binary Add (sums k) (Aggregate Sum n)
 accumulators_16 : selecting (sums 15 ∷ []) ≡ None
 accumulators_16 = refl
 
-accumulators_17 : selecting (sums 16 ∷ []) ≡ refused Limit part.Code
+accumulators_17 : selecting (sums 16 ∷ []) ≡ refused (Exceeds Accumulators 17 16) part.Code
 accumulators_17 = refl
 
 -- operators in their right operands, so many deep
@@ -275,13 +277,13 @@ deep (suc k) = Binary Add one (deep k)
 stack_of_32 : selecting (deep 31 ∷ []) ≡ None
 stack_of_32 = refl
 
-stack_of_33 : selecting (deep 32 ∷ []) ≡ refused Limit part.Code
+stack_of_33 : selecting (deep 32 ∷ []) ≡ refused (Exceeds Stack 33 32) part.Code
 stack_of_33 = refl
 
 -- behind a column it needs one place more
-stack_behind_a_column : selecting (one ∷ deep 31 ∷ []) ≡ refused Limit part.Code
+stack_behind_a_column : selecting (one ∷ deep 31 ∷ []) ≡ refused (Exceeds Stack 33 32) part.Code
 stack_behind_a_column = refl
 
 -- two keys with 1,000,110 live windows each
-too_many_panes : refusal (record base { shape = Sliding (pos 1000000) (pos 1) }) ≡ refused Limit part.Code
+too_many_panes : refusal (record base { shape = Sliding (pos 1000000) (pos 1) }) ≡ refused (Exceeds limit.Panes 2000220 100000) part.Code
 too_many_panes = refl

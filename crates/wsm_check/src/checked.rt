@@ -1,6 +1,6 @@
 //! Checked queries.
 
-ghost use Rattle.wsm_check.specs.Parts.{ArePartsOfChecked};
+ghost use Rattle.wsm_check.specs.Checks.{ArePartsOfChecked};
 ghost use Rattle.wsm_check.specs.Seen.{seen_parts};
 
 use crate::parts::Parts;

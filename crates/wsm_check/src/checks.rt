@@ -1,8 +1,9 @@
 //! Checked queries are made of queries that pass all checks.
 
-ghost use Rattle.std.specs.Prelude.{◌≡◌, ◌≤◌, ◌⊎◌, Some, length, IfOk, IfErr, OnOk};
+ghost use Rattle.std.specs.Prelude.{◌≡◌, ◌≤◌, ◌⊎◌, Some, length, true, IfOk, IfErr, OnOk};
+ghost use Rattle.wsm_windows.specs.Limits.{is_shape};
 ghost use Rattle.wsm_query.specs.Seen.{seen};
-ghost use Rattle.wsm_check.specs.Checks.{IsChecked, Judges, refusal, rest_refusal};
+ghost use Rattle.wsm_check.specs.Checks.{IsChecked, Judges, clock_fits, refusal, rest_refusal};
 ghost use Rattle.wsm_check.specs.Names.{schema_of};
 ghost use Rattle.wsm_check.specs.Resolved.{AreResolved};
 ghost use Rattle.wsm_check.specs.Spelt.{IsSpelt};
@@ -11,15 +12,15 @@ ghost use Rattle.wsm_check.specs.Seen.{seen_parts};
 
 use crate::assemble::parts_of;
 use crate::checked::Checked;
-use crate::code::code_fits;
+use crate::code::{judge_sizes, within};
 use crate::expressions::{Expressions, resolve_expressions};
-use crate::judging::{judge_declared, judge_numbers, want};
+use crate::judging::{judge_declared, judge_numbers};
 use crate::parts::Parts;
-use crate::refusal::{CheckFault, CheckRefusal, Part};
+use crate::refusal::{CheckRefusal, CodeLimit};
 use std::alloc::Global;
 use wsm_query::Query;
 use wsm_record::Schema;
-use wsm_record::limits::{MAX_FIELDS, MAX_NAMES};
+use wsm_record::limits::{MAX_ACCUMULATORS, MAX_FIELDS};
 
 /// The query as a checked one, or the first check that refuses it. A query that isn't taken is
 /// handed back.
@@ -46,21 +47,25 @@ fn checked_parts(alloc: Global, query: &Query) -> Result<Parts, CheckRefusal>
 {
     let schema = judge_declared(alloc, query)?;
     let expressions = judge_rest(alloc, &schema, query)?;
-    Ok(parts_of(query, schema, expressions))
+    let parts = parts_of(query, schema, expressions);
+    judge_sizes(&parts)?;
+    Ok(parts)
 }
 
-// The checks behind those of what is declared. The schema stays with the caller, so that no way out
+// The checks behind those of what is declared, up to the accumulators. The schema stays with the caller, so that no way out
 // from here lets it go.
 #[tactic(auto, using(crate::proofs::ChecksInOrder::steps))]
 fn judge_rest(alloc: Global, schema: &Schema, query: &Query) -> Result<Expressions, CheckRefusal>
     requires fields { length query.now.fields.items ≤ MAX_FIELDS }
-    requires keys { length query.now.keys.items ≤ MAX_NAMES }
     requires schema { schema.now ≡ schema_of (seen query.now) }
     ensures judged { Judges result (rest_refusal (seen query.now)) }
     ensures resolved { IfOk result (λ r. AreResolved (seen query.now) r) }
+    ensures clock { OnOk result (clock_fits (seen query.now) ≡ true) }
+    ensures shape { OnOk result (is_shape query.now.shape ≡ true) }
 {
     judge_numbers(query)?;
     let expressions = resolve_expressions(alloc, schema, query)?;
-    want(code_fits(query), CheckFault::Limit, Part::Code)?;
+    let count = expressions.fired.foldings.len() as u64;
+    within(CodeLimit::Accumulators, count, MAX_ACCUMULATORS as u64)?;
     Ok(expressions)
 }

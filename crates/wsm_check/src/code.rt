@@ -1,66 +1,63 @@
 //! Whether the code of a query is small enough.
 
-ghost use Rattle.std.specs.Prelude.{◌≡◌, ◌≤◌, ◌+◌, ◌*◌, ◌++◌, length, map, option_map, true};
-ghost use Rattle.std.specs.List.{flat_map};
-ghost use Rattle.wsm_query.specs.Seen.{seen, seen_expr};
+ghost use Rattle.std.specs.Prelude.{◌≡◌, ◌*◌, length, map, option_map, true};
 ghost use Rattle.wsm_windows.specs.Life as life;
-ghost use Rattle.wsm_windows.specs.Limits.{is_shape};
-ghost use Rattle.wsm_check.specs.Checks.{clock_fits, code_fits};
+ghost use Rattle.wsm_windows.specs.Limits.{is_shape, is_span};
+ghost use Rattle.wsm_check.specs.Checks.{Judges, exceeds, sizes_refusal};
+ghost use Rattle.wsm_check.specs.Seen.{seen_folding, seen_parts, seen_term};
 ghost use Rattle.wsm_check.specs.Sizes as rule;
-ghost use Rattle.wsm_check.specs.Sizes.{accumulators, accumulators_of, columns_size, counted, folds_of, in_option, need_of_columns, need_of_condition};
+ghost use Rattle.wsm_check.specs.Sizes.{counted, ending_need, ending_size, firing_need, firing_size, foldings_need, foldings_size, need_of};
 
-use crate::sizes::{Folds, folds_in, need, size};
-use wsm_query::{Expr, Query};
-use wsm_record::limits::{
-    MAX_ACCUMULATORS, MAX_COLUMNS, MAX_NAMES, MAX_PANES, MAX_SECTION, MAX_STACK,
-};
+use crate::judging::want;
+use crate::parts::{Folding, Parts};
+use crate::refusal::{CheckFault, CheckRefusal, CodeLimit, Part};
+use crate::sizes::{need, size};
+use crate::term::Term;
+use wsm_record::limits::{MAX_PANES, MAX_SECTION, MAX_STACK};
 use wsm_windows::live_bound;
 
-/// Whether a program may have the code of the query, and hold its panes.
-pub fn code_fits(query: &Query) -> bool
-    requires keys { length query.now.keys.items ≤ MAX_NAMES }
-    requires columns { length query.now.columns.items ≤ MAX_COLUMNS }
-    requires clock { clock_fits (seen query.now) ≡ true }
-    requires shape { is_shape query.now.shape ≡ true }
-    ensures { result ≡ code_fits (seen query.now) }
+/// A refusal where more was counted than a limit allows.
+pub fn within(limit: CodeLimit, counted: u64, allowed: u64) -> Result<(), CheckRefusal>
+    ensures { Judges result (exceeds limit counted allowed) }
 {
-    let folds = folds_in_fired(&query.columns, &query.having);
-    let fired_need = need_of_fired(0, &query.having, &query.columns);
-    let tested_need = need_of_condition(&query.condition);
-    folds.count <= MAX_ACCUMULATORS as u64
-        && condition_size(&query.condition) < MAX_SECTION as u64
-        && folds.size < MAX_SECTION as u64
-        && size_of_fired(&query.having, &query.columns) <= MAX_SECTION as u64
-        && tested_need.max(folds.need.max(fired_need)) <= MAX_STACK as u64
-        && panes_at_once(query) <= MAX_PANES
+    let fault = CheckFault::Exceeds {
+        limit,
+        counted,
+        allowed,
+    };
+    want(counted <= allowed, fault, Part::Code)
 }
 
-// What the aggregates of the columns and of HAVING take.
-#[tactic(auto, using(crate::proofs::CappedNumbers::folds_join, crate::proofs::CappedNumbers::fired_accumulators))]
-fn folds_in_fired(columns: &[Expr], having: &Option<Expr>) -> Folds
-    ensures { result ≡ folds_of (flat_map accumulators_of (map seen_expr columns.now ++ in_option (option_map seen_expr having.now))) }
+/// That a program may have the code, and hold the panes.
+#[tactic(auto, using(crate::proofs::ChecksInOrder::steps))]
+pub fn judge_sizes(parts: &Parts) -> Result<(), CheckRefusal>
+    requires shape { is_shape parts.now.shape ≡ true }
+    requires skew { is_span parts.now.skew ≡ true }
+    requires lateness { is_span parts.now.lateness ≡ true }
+    ensures { Judges result (sizes_refusal (seen_parts parts.now)) }
 {
-    match columns {
-        [first, rest @ ..] => folds_in(first).and(folds_in_fired(rest, having)),
-        [] => match having {
-            Some(test) => folds_in(test),
-            None => Folds::NONE,
-        },
-    }
+    let selection = ending_size(&parts.condition);
+    within(CodeLimit::Where, selection, MAX_SECTION as u64)?;
+    let update = foldings_size(&parts.foldings);
+    within(CodeLimit::Update, update, MAX_SECTION as u64)?;
+    let fire = firing_size(&parts.columns, &parts.having);
+    within(CodeLimit::Fire, fire, MAX_SECTION as u64)?;
+    within(CodeLimit::Stack, stack_need(parts), MAX_STACK as u64)?;
+    within(CodeLimit::Panes, panes_at_once(parts), MAX_PANES)
 }
 
-// A condition that isn't there is true.
-fn condition_size(condition: &Option<Expr>) -> u64
-    ensures { result ≡ counted (rule.condition_size (option_map seen_expr condition.now)) }
+// A condition that isn't there is true. Behind it stands the return.
+fn ending_size(condition: &Option<Term>) -> u64
+    ensures { result ≡ counted (ending_size (option_map seen_term condition.now)) }
 {
     match condition {
-        Some(test) => size(test),
-        None => 1,
+        Some(test) => size(test).saturating_add(1),
+        None => 2,
     }
 }
 
-fn need_of_condition(condition: &Option<Expr>) -> u64
-    ensures { result ≡ counted (need_of_condition (option_map seen_expr condition.now)) }
+fn ending_need(condition: &Option<Term>) -> u64
+    ensures { result ≡ counted (ending_need (option_map seen_term condition.now)) }
 {
     match condition {
         Some(test) => need(test),
@@ -68,36 +65,63 @@ fn need_of_condition(condition: &Option<Expr>) -> u64
     }
 }
 
-// The instructions of the columns and of HAVING, with the return.
-fn size_of_fired(having: &Option<Expr>, columns: &[Expr]) -> u64
-    ensures { result ≡ counted (columns_size (option_map seen_expr having.now) (map seen_expr columns.now)) }
+// The instructions that fold what the accumulators do, with the return.
+fn foldings_size(foldings: &[Folding]) -> u64
+    ensures { result ≡ counted (foldings_size (map seen_folding foldings.now)) }
 {
-    match columns {
-        [first, rest @ ..] => size(first).saturating_add(size_of_fired(having, rest)),
-        [] => condition_size(having).saturating_add(1),
+    match foldings {
+        [first, rest @ ..] => size(&first.operand)
+            .saturating_add(1)
+            .saturating_add(foldings_size(rest)),
+        [] => 1,
     }
 }
 
-// The places that columns and HAVING need, with some on the stack already.
-fn need_of_fired(taken: u64, having: &Option<Expr>, columns: &[Expr]) -> u64
-    requires { taken + length columns.now ≤ MAX_COLUMNS }
-    ensures { result ≡ counted (need_of_columns taken (option_map seen_expr having.now) (map seen_expr columns.now)) }
+fn foldings_need(foldings: &[Folding]) -> u64
+    ensures { result ≡ counted (foldings_need (map seen_folding foldings.now)) }
+{
+    match foldings {
+        [first, rest @ ..] => need(&first.operand).max(foldings_need(rest)),
+        [] => 0,
+    }
+}
+
+// The instructions of the columns and of HAVING, with the return.
+fn firing_size(columns: &[Term], having: &Option<Term>) -> u64
+    ensures { result ≡ counted (firing_size (option_map seen_term having.now) (map seen_term columns.now)) }
 {
     match columns {
-        [first, rest @ ..] => {
-            let here = taken.saturating_add(need(first));
-            here.max(need_of_fired(taken + 1, having, rest))
-        }
-        [] => taken.saturating_add(need_of_condition(having)),
+        [first, rest @ ..] => size(first).saturating_add(firing_size(rest, having)),
+        [] => ending_size(having),
     }
+}
+
+fn firing_need(columns: &[Term], having: &Option<Term>) -> u64
+    ensures { result ≡ counted (firing_need (option_map seen_term having.now) (map seen_term columns.now)) }
+{
+    match columns {
+        [first, rest @ ..] => need(first).max(firing_need(rest, having).saturating_add(1)),
+        [] => ending_need(having),
+    }
+}
+
+// The places on the stack that the sections need.
+fn stack_need(parts: &Parts) -> u64
+    ensures { result ≡ counted (need_of (seen_parts parts.now)) }
+{
+    let selection = ending_need(&parts.condition);
+    let update = foldings_need(&parts.foldings);
+    let fire = firing_need(&parts.columns, &parts.having);
+    selection.max(update.max(fire))
 }
 
 // The most panes that are live at once.
-fn panes_at_once(query: &Query) -> u64
-    requires clock { clock_fits (seen query.now) ≡ true }
-    requires shape { is_shape query.now.shape ≡ true }
-    ensures { result ≡ counted (length query.now.keys.items * life.live_bound query.now.shape query.now.skew query.now.lateness) }
+fn panes_at_once(parts: &Parts) -> u64
+    requires shape { is_shape parts.now.shape ≡ true }
+    requires skew { is_span parts.now.skew ≡ true }
+    requires lateness { is_span parts.now.lateness ≡ true }
+    ensures { let p = seen_parts parts.now in result ≡ counted (length p.schema.keys * life.live_bound p.shape p.skew p.lateness) }
 {
-    let live = live_bound(query.shape, query.skew, query.lateness);
-    (query.keys.len() as u64).saturating_mul(live)
+    let live = live_bound(parts.shape, parts.skew, parts.lateness);
+    (parts.schema.keys().len() as u64).saturating_mul(live)
 }

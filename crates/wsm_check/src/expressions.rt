@@ -5,9 +5,8 @@ ghost use Rattle.wsm_query.specs.Tree.{Query as Text};
 ghost use Rattle.wsm_query.specs.Seen.{seen, seen_expr};
 ghost use Rattle.wsm_check.specs.Names.{schema_of};
 ghost use Rattle.wsm_check.specs.Checks.{Judges, columns_refusal, condition_refusal, expressions_refusal};
-ghost use Rattle.wsm_check.specs.Resolved.{AddsColumns, AreResolved, ResolvesCondition};
+ghost use Rattle.wsm_check.specs.Resolved.{AddsColumns, AreResolvedIfFew, ResolvesCondition};
 ghost use Rattle.wsm_check.specs.Seen.{seen_folding, seen_term};
-ghost use Rattle.wsm_check.specs.Sizes.{accumulators};
 
 use crate::judging::want;
 use crate::parts::Folding;
@@ -17,7 +16,7 @@ use crate::term::Term;
 use crate::types::Around;
 use std::alloc::Global;
 use wsm_query::{Expr, Query};
-use wsm_record::limits::{MAX_ACCUMULATORS, MAX_COLUMNS, MAX_FIELDS};
+use wsm_record::limits::{MAX_COLUMNS, MAX_FIELDS};
 use wsm_record::{CellType, Schema};
 
 /// What fires: the columns with their types, and what the accumulators fold.
@@ -46,8 +45,7 @@ pub fn resolve_expressions(
     requires fields { length schema.now.fields ≤ MAX_FIELDS }
     requires schema { schema.now ≡ schema_of (seen query.now) }
     ensures judged { Judges result (expressions_refusal (seen query.now)) }
-    ensures few { OnOk result (length query.now.columns.items ≤ MAX_COLUMNS) }
-    ensures resolved { IfOk result (λ r. length (accumulators (seen query.now)) ≤ MAX_ACCUMULATORS → AreResolved (seen query.now) r) }
+    ensures resolved { IfOk result (λ r. AreResolvedIfFew (seen query.now) r) }
 {
     let tested = Place {
         part: Part::Where,
@@ -104,7 +102,6 @@ fn resolve_columns(
     requires fields { length schema.now.fields ≤ MAX_FIELDS }
     requires passed { length fired.old.types.items ≤ MAX_COLUMNS }
     ensures judged { (q : Text) → schema.now ≡ schema_of q → Judges result (columns_refusal q (length fired.old.types.items) (map seen_expr exprs.now)) }
-    ensures few { OnOk result (length fired.old.types.items + length exprs.now ≤ MAX_COLUMNS) }
     ensures resolved { (q : Text) → schema.now ≡ schema_of q → OnOk result (AddsColumns q (map seen_expr exprs.now) fired.old fired.new) }
 {
     let passed = fired.types.len();

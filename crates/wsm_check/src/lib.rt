@@ -30,9 +30,10 @@
 pub use checked::Checked;
 pub use checks::check;
 pub use parts::{Folding, Parts};
-pub use refusal::{CheckFault, CheckRefusal, Part};
+pub use refusal::{CheckFault, CheckRefusal, CodeLimit, Part};
+pub use sizes::size;
 pub use term::Term;
-pub use tested::{comparison_of, negative};
+pub use tested::field_test;
 pub use types::Around;
 
 mod assemble;

@@ -22,10 +22,34 @@ pub enum CheckFault {
     AggregateInWhere,
     /// A number or a count is outside its range.
     Limit,
+    /// The code, or the panes that it may hold, are more than a limit allows: what was counted, up to
+    /// the greatest number of 64 bits, and what is allowed.
+    Exceeds {
+        limit: CodeLimit,
+        counted: u64,
+        allowed: u64,
+    },
     /// A stream form stands with a mode that isn't ACCUMULATING.
     StreamNeedsAccumulating,
     /// Lateness is counted from the end of a session, which moves.
     SessionLateness,
+}
+
+/// What of a query's code a limit is of. The first in this order that is exceeded is told.
+#[derive(Clone, Copy, Debug, PartialEq, Eq)]
+pub enum CodeLimit {
+    /// The aggregates, COUNT(*) aside, of which each has an accumulator.
+    Accumulators,
+    /// The instructions of WHERE.
+    Where,
+    /// The instructions that fold a record into the accumulators.
+    Update,
+    /// The instructions of the columns and of HAVING.
+    Fire,
+    /// The values on the stack.
+    Stack,
+    /// The panes that are held at once: keys times the most live windows of one.
+    Panes,
 }
 
 /// The part of a query that a refusal is about.
@@ -102,7 +126,7 @@ impl Display for CheckFault {
             CheckFault::FieldOutsideAggregate => "C4 FieldOutsideAggregate",
             CheckFault::AggregateNested => "C5 AggregateNested",
             CheckFault::AggregateInWhere => "C6 AggregateInWhere",
-            CheckFault::Limit => "C7 Limit",
+            CheckFault::Limit | CheckFault::Exceeds { .. } => "C7 Limit",
             CheckFault::StreamNeedsAccumulating => "C8 StreamNeedsAccumulating",
             CheckFault::SessionLateness => "C10 SessionLateness",
         })

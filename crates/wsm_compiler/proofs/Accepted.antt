@@ -10,10 +10,10 @@ use Rattle.wsm_interval.specs.declared.interval.Interval.{Interval}
 use Rattle.wsm_interval.specs.Interval.{add, sub, mul, div, rem}
 use Rattle.wsm_query.specs.declared.expr.Op.{Op}
 use Rattle.wsm_query.specs.declared.expr.Op.TheVariants.{Add, Sub, Mul, Div, Rem, Eq, Ne, Lt, Le, Gt, Ge}
-use Rattle.wsm_query.specs.Tree.{Query, Expr, Aggregate, If, Brackets, Minus, Not, Binary, And, Or}
+use Rattle.wsm_query.specs.Tree.{Query, Expr, Number, Truth, Field, EnumName, Key, KeyName, Count, Aggregate, If, Brackets, Minus, Not, Binary, And, Or}
 use Rattle.wsm_record.specs.Schema.{DeclaredField}
-use Rattle.wsm_check.specs.Tested.{tested}
-use Rattle.wsm_check.specs.Sizes.{Acc, accumulators, accumulators_of, in_option, fired}
+use Rattle.wsm_compiler.specs.Code.{test_of}
+use Rattle.wsm_check.specs.Aggregates.{Acc, accumulators, accumulators_of, in_option, fired}
 use Rattle.wsm_rules.specs.declared.rejection.Rejection.{Rejection}
 use Rattle.wsm_rules.specs.declared.rejection.Rule.{Rule}
 use Rattle.wsm_rules.specs.declared.rejection.Rule.TheVariants.{BudgetRecord, BudgetPane, BudgetHeld}
@@ -93,8 +93,8 @@ module _ (q : Query) (b : Costs) where
   accs_of_fit : (ds : List DeclaredField) (e : Expr) → fits (range_on q ds e) ≡ true → accs_fit q b (accumulators_of e) ≡ true
   accs_of_fit ds (Aggregate kind e) h = and_from (fits (of_aggregate q.records kind (range q e))) true h refl
   accs_of_fit ds (If c x y) h =
-      let dx = where_true (tested c) ds in
-      let dy = where_false (tested c) ds in
+      let dx = where_true (test_of q 0 c) ds in
+      let dy = where_false (test_of q 0 c) ds in
       let t = test_fits (range_on q ds c) (of_branches (range_on q dx x) (range_on q dy y)) h in
       let p = branches_fit (range_on q dx x) (range_on q dy y) t.1 in
       fit_both (accumulators_of c) (accumulators_of x ++ accumulators_of y) (accs_of_fit ds c t.0) (fit_both (accumulators_of x) (accumulators_of y) (accs_of_fit dx x p.0) (accs_of_fit dy y p.1))
@@ -103,11 +103,11 @@ module _ (q : Query) (b : Costs) where
   accs_of_fit ds (Not e) h = accs_of_fit ds e h
   accs_of_fit ds (Binary op x y) h = let p = op_fit op (range_on q ds x) (range_on q ds y) h in fit_both (accumulators_of x) (accumulators_of y) (accs_of_fit ds x p.0) (accs_of_fit ds y p.1)
   accs_of_fit ds (And x y) h =
-      let dy = where_true (tested x) ds in
+      let dy = where_true (test_of q 0 x) ds in
       let p = two_fit (range_on q ds x) (range_on q dy y) h in
       fit_both (accumulators_of x) (accumulators_of y) (accs_of_fit ds x p.0) (accs_of_fit dy y p.1)
   accs_of_fit ds (Or x y) h =
-      let dy = where_false (tested x) ds in
+      let dy = where_false (test_of q 0 x) ds in
       let p = two_fit (range_on q ds x) (range_on q dy y) h in
       fit_both (accumulators_of x) (accumulators_of y) (accs_of_fit ds x p.0) (accs_of_fit dy y p.1)
   accs_of_fit ds e h = refl

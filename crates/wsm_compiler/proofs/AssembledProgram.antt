@@ -1,9 +1,8 @@
 -- What the checks say of what a checked query has: its sections fit, and what is put together of them is a program.
-use Rattle.std.proofs.Common.{◌≡◌, ◌≤◌, true, List, length, arith, refl}
+use Rattle.std.proofs.Common.{◌≡◌, ◌≤◌, true, List, length, refl}
 use Rattle.std.proofs.Math.Logic.{∥∥₁_elim}
 use Rattle.std.proofs.Math.Bridge.{le_prop}
 use Rattle.std.proofs.Math.Bool.{Bool-set}
-use Rattle.std.proofs.lemmas.List.{length-map}
 use Rattle.std.specs.Prelude.{◌&&◌}
 use Rattle.std.proofs.lemmas.Bool.{and_parts}
 use Rattle.wsm_record.specs.Schema.{is_schema}
@@ -13,13 +12,12 @@ use Rattle.wsm_program.specs.Program.{Header, Program, is_clock, is_firing, is_r
 use Rattle.wsm_program.proofs.StatedBudget.{lawful_stating}
 use Rattle.wsm_rules.specs.Costs.{needed}
 use Rattle.wsm_query.specs.Tree.{Query}
-use Rattle.wsm_check.specs.Sizes.{accumulators}
-use Rattle.wsm_check.specs.Parts.{Parts, ArePartsOfChecked, folding, aggregates_of, parts_of}
+use Rattle.wsm_check.specs.Parts.{Parts, parts_of}
+use Rattle.wsm_check.specs.Checks.{ArePartsOfChecked}
 use Rattle.wsm_compiler.specs.TermCode.{ending_code, ending_size, foldings_code, foldings_size, firing_code, firing_size}
 use Rattle.wsm_compiler.specs.Program.{header_stating, assembled, stated, program_of}
 use Rattle.wsm_compiler.proofs.Passed.{passed}
 use Rattle.wsm_compiler.proofs.Lawful.{is_lawful}
-use Rattle.wsm_compiler.proofs.QueryTerms.{ended_size, folded_size, fired_size}
 use Rattle.wsm_program.proofs.Lawful.{program_header}
 
 budget_of : (p : Program) → is_program p ≡ true → is_budget p.header.budget ≡ true
@@ -39,16 +37,16 @@ put_together p b header selection update fire h s u f = rw (h, s, u, f) refl
 
 module _ (p : Parts) (h : ∥ ArePartsOfChecked p ∥₁) where
   pub selection_fits : ending_size p.condition ≤ 1000
-  selection_fits = ∥∥₁_elim h le_prop (λ w. rw w.is (omega (arith, ended_size w.query 0 w.query.condition, (passed w.query w.checked).code.selection)))
+  selection_fits = ∥∥₁_elim h le_prop (λ w. rw w.is (passed w.query w.checked).code.selection)
 
   pub update_fits : foldings_size p.foldings ≤ 1000
-  update_fits = ∥∥₁_elim h le_prop (λ w. rw w.is (omega (arith, folded_size w.query (accumulators w.query), (passed w.query w.checked).code.update)))
+  update_fits = ∥∥₁_elim h le_prop (λ w. rw w.is (passed w.query w.checked).code.update)
 
   pub few_foldings : length p.foldings ≤ 16
-  few_foldings = ∥∥₁_elim h le_prop (λ w. rw w.is (omega (arith, length-map (accumulators w.query) (folding w.query), (passed w.query w.checked).code.accs)))
+  few_foldings = ∥∥₁_elim h le_prop (λ w. rw w.is (passed w.query w.checked).code.accs)
 
   pub fire_fits : firing_size p.having p.columns ≤ 1000
-  fire_fits = ∥∥₁_elim h le_prop (λ w. rw w.is (omega (arith, fired_size w.query (aggregates_of w.query.columns) 0 w.query.columns, (passed w.query w.checked).code.fire)))
+  fire_fits = ∥∥₁_elim h le_prop (λ w. rw w.is (passed w.query w.checked).code.fire)
 
   pub is_program_of : (b : Costs) → is_budget b ≡ true → is_program (assembled p b) ≡ true
   is_program_of b l =

@@ -6,7 +6,7 @@ use Rattle.wsm_record.specs.declared.event.Value.{Value}
 use Rattle.wsm_record.specs.declared.event.Value.TheVariants.{Int, Bool as Truth', Enum}
 use Rattle.wsm_record.specs.Schema.{is_i64}
 use Rattle.wsm_query.specs.Tree.{Query, Expr, Number, Truth, Field, EnumName, Key, KeyName, Count, Aggregate, If, Brackets, Minus, Not, Binary, And, Or}
-use Rattle.wsm_check.specs.Sizes.{aggregates}
+use Rattle.wsm_check.specs.Aggregates.{aggregates}
 use Rattle.wsm_compiler.specs.Meaning.{Scene, meaning_from, met_from, on_two, both, minus, negated, chosen, chosen_numbers, number_of}
 use Rattle.wsm_compiler.specs.Bounded.{kept, IsBounded}
 

@@ -3,10 +3,12 @@ use Rattle.std.proofs.Common.{◌≡◌, ℕ, suc, ◌≤◌, List, [], ◌∷�
 use Rattle.std.specs.Prelude.{max}
 use Rattle.std.specs.List.{flat_map}
 use Rattle.wsm_program.specs.declared.program.Costs.{Costs}
-use Rattle.wsm_query.specs.Tree.{Query, Expr, Aggregate, If, Brackets, Minus, Not, Binary, And, Or}
+use Rattle.wsm_query.specs.Tree.{Query, Expr, Number, Truth, Field, EnumName, Key, KeyName, Count, Aggregate, If, Brackets, Minus, Not, Binary, And, Or}
 use Rattle.wsm_check.specs.declared.refusal.Part.{Part}
 use Rattle.wsm_check.specs.declared.refusal.Part.TheVariants as part
-use Rattle.wsm_check.specs.Sizes.{Acc, accumulators, accumulators_of, in_option, need_of_condition, need_of_columns, need_of_folds}
+use Rattle.wsm_check.specs.Aggregates.{Acc, accumulators, accumulators_of, in_option}
+use Rattle.wsm_check.specs.Parts.{aggregates_of}
+use Rattle.wsm_compiler.proofs.QueryTerms.{condition_need, folds_need, columns_need}
 use Rattle.wsm_record.specs.declared.words.CellType.{CellType}
 use Rattle.wsm_record.specs.declared.words.CellType.TheVariants as types
 use Rattle.wsm_record.specs.Types.{is_type, kind_type}
@@ -80,14 +82,14 @@ module _ (q : Query) (b : Costs) where
     pub columns : ColumnsTyped q q.columns
     pub having : ConditionTyped q InColumn q.having
     pub accs : AccsTyped q b (accumulators q)
-    pub where_need : need_of_condition q.condition ≤ 32
-    pub update_need : need_of_folds (accumulators q) ≤ 32
-    pub fire_need : need_of_columns 0 q.having q.columns ≤ 32
+    pub where_need : condition_need q 0 q.condition ≤ 32
+    pub update_need : folds_need q (accumulators q) ≤ 32
+    pub fire_need : columns_need q (aggregates_of q.columns) 0 q.columns ≤ 32
 
   pub fine : IsChecked q → Fine
   fine h =
       let p = passed q h in
-      let need = needs (need_of_condition q.condition) (need_of_folds (accumulators q)) (need_of_columns 0 q.having q.columns) p.code.stack in
+      let need = needs (condition_need q 0 q.condition) (folds_need q (accumulators q)) (columns_need q (aggregates_of q.columns) 0 q.columns) p.code.stack in
       let columns = columns_typed q 0 q.columns p.columns in
       let having = condition_typed q InColumn part.Having q.having p.having in
       record {

@@ -9,23 +9,22 @@ use Rattle.wsm_record.specs.declared.words.CellType.TheVariants as types
 use Rattle.wsm_check.specs.Types.{typed, op_ty}
 use Rattle.wsm_check.specs.declared.types.Around.{Around}
 use Rattle.wsm_record.specs.Schema.{DeclaredField}
-use Rattle.wsm_check.specs.Names.{field_place}
 use Rattle.wsm_program.specs.Instructions.{may_stand}
-use Rattle.wsm_check.specs.Tested.{Tested, tested, unless_tested}
-use Rattle.wsm_check.specs.Sizes.{aggregates, accumulators_of, size, need}
+use Rattle.wsm_check.specs.Tested.{unless_tested}
+use Rattle.wsm_program.specs.declared.instr.FieldTest.{FieldTest}
+use Rattle.wsm_check.specs.Aggregates.{aggregates, accumulators_of}
 use Rattle.wsm_rules.specs.declared.known.Known.{Known}
 use Rattle.wsm_rules.specs.declared.known.Known.TheVariants as known
 use Rattle.wsm_rules.specs.Labels.{State, same_type}
 use Rattle.wsm_rules.specs.Rules.{Setting, and_then, known_fields}
 use Rattle.wsm_compiler.specs.TermCode.{instruction}
-use Rattle.wsm_compiler.specs.Code.{code, test_of}
+use Rattle.wsm_compiler.specs.Code.{code, size, need, test_of}
 use Rattle.wsm_compiler.specs.Ranges.{where_true, where_false, range_on}
 use Rattle.wsm_compiler.proofs.Parts.{Labelled}
 use Rattle.wsm_compiler.proofs.Tests.{with_known, pushed_on}
 use Rattle.wsm_compiler.proofs.Choices.{with_fields}
 use Rattle.wsm_compiler.proofs.TestedChoices.{pushed_bind, tested_choice}
 use Rattle.wsm_compiler.proofs.NarrowedFields.{Narrows, as_declared, true_narrows, false_narrows, true_known, false_known}
-use Rattle.wsm_compiler.proofs.QueryTerms.{if_code, and_code, or_code, binary_code}
 use Rattle.wsm_compiler.proofs.Sizes.{length-code, some_size, some_need, some_code}
 use Rattle.wsm_compiler.proofs.Found.{of_instr, known_true, known_false, found, push_int, push_bool, push_enum, push_field, push_key, push_acc, push_count, make_neg, make_not, make_op, follow}
 use Rattle.wsm_compiler.proofs.FoundRanges.{known_same, known_truth}
@@ -52,11 +51,13 @@ same_truth u v is l = ap (same_type v) (sym (same_Some known.Truth u l)) ∙ ap 
 
 module _ (e : State) (c : Setting) (q : Query) (around : Around) (reads : Reads c q around) where
   -- a field that is tested may be read
-  stands : (b : Expr) → typed q around b ≡ Ok types.Bool → (t : Tested) → tested b ≡ Some t → may_stand c.section (instr.Field (field_place q.fields t.field)) ≡ true
-  stands b h t l = reads.field t.field types.Int (tested_int q around b types.Bool t l h)
+  stands : (a : ℕ) (b : Expr) → typed q around b ≡ Ok types.Bool → (t : FieldTest) → test_of q a b ≡ Some t → may_stand c.section (instr.Field t.field) ≡ true
+  stands a b h t l =
+      let f = tested_int q around a b types.Bool t l h in
+      subst (λ g. may_stand c.section (instr.Field g) ≡ true) f.place (reads.field f.name types.Int f.type)
 
   pub labelled_on : (ds : List DeclaredField) → Narrows q ds → (k a : ℕ) (x : Expr) (t : CellType) (s : State) → s.fields ≡ known_fields 0 ds → typed q around x ≡ Ok t → AccsIn c q around a (accumulators_of x) →
-      length s.stack + need x ≤ 32 → k + size x < c.n → Labelled e c k (code q k a x) s (pushed_on s (found c q s.fields a x))
+      length s.stack + need q a x ≤ 32 → k + size q a x < c.n → Labelled e c k (code q k a x) s (pushed_on s (found c q s.fields a x))
   labelled_on ds nd k a (Number n) t s is h accs room more = push_int e c k s (omega (arith, room)) (omega (arith, more)) n
   labelled_on ds nd k a (Truth b) t s is h accs room more = push_bool e c k s (omega (arith, room)) (omega (arith, more)) b
   labelled_on ds nd k a (Field x) t s is h accs room more = push_field e c k s (omega (arith, room)) (omega (arith, more)) _
@@ -68,43 +69,41 @@ module _ (e : State) (c : Setting) (q : Query) (around : Around) (reads : Reads 
   labelled_on ds nd k a (If b x y) t s is h accs room more =
       let p = if_types q around b x y t h in
       let ac = three_accs c q around a b x y accs in
-      let w = tested b in
-      let o = test_of q b in
-      let i = k + unless_tested w (size b) in
+      let w = test_of q a b in
+      let i = k + unless_tested w (size q a b) in
       let ax = a + aggregates b in
       let ay = a + (aggregates b + aggregates x) in
       let first = code q (i + 1) ax x in
-      let second = code q (i + 1 + size x + 1) ay y in
-      let fy = known_true o s.fields in
-      let fn = known_false o s.fields in
-      let iy : fy ≡ known_fields 0 (where_true w ds) = ap (known_true o) is ∙ true_known q w ds nd in
-      let in' : fn ≡ known_fields 0 (where_false w ds) = ap (known_false o) is ∙ false_known q w ds nd in
+      let second = code q (i + 1 + size q ax x + 1) ay y in
+      let fy = known_true w s.fields in
+      let fn = known_false w s.fields in
+      let iy : fy ≡ known_fields 0 (where_true w ds) = ap (known_true w) is ∙ true_known w ds in
+      let in' : fn ≡ known_fields 0 (where_false w ds) = ap (known_false w) is ∙ false_known w ds in
       let ny = true_narrows w nd in
       let nn = false_narrows w nd in
-      subst (λ is. Labelled e c k is s (pushed_on s (found c q s.fields a (If b x y)))) (if_code q k a b x y)
-      (tested_choice e c q w k (size b) (size x) (size y) (code q k a b) first second s (found c q s.fields a b) (found c q fy ax x) (found c q fn ay y)
-      (stands b p.test_is) (is_truth c q around reads ds nd a b p.test_is ac.test s.fields is) (length-code q k a b) (some_code q k a b)
-      (λ none. labelled_on ds nd k a b types.Bool s is p.test_is ac.test (omega (arith, room, ap (λ v. unless_tested v (need b)) none)) (omega (arith, more, ap (λ v. unless_tested v (size b)) none)))
-      (length-code q (i + 1) ax x) (length-code q (i + 1 + size x + 1) ay y) (some_size x) (some_size y) (omega (arith, more)) (omega (arith, room, some_need x))
+      tested_choice e c w k (size q a b) (size q ax x) (size q ay y) (code q k a b) first second s (found c q s.fields a b) (found c q fy ax x) (found c q fn ay y)
+      (stands a b p.test_is) (is_truth c q around reads ds nd a b p.test_is ac.test s.fields is) (length-code q k a b) (some_code q k a b)
+      (λ none. labelled_on ds nd k a b types.Bool s is p.test_is ac.test (omega (arith, room, ap (λ v. unless_tested v (need q a b)) none)) (omega (arith, more, ap (λ v. unless_tested v (size q a b)) none)))
+      (length-code q (i + 1) ax x) (length-code q (i + 1 + size q ax x + 1) ay y) (some_size q ax x) (some_size q ay y) (omega (arith, more)) (omega (arith, room, some_need q ax x))
       (same_found c q around reads (where_true w ds) (where_false w ds) ny nn ax ay x y t p.first_is p.second_is ac.first ac.second fy fn iy in')
       (labelled_on (where_true w ds) ny (i + 1) ax x t (with_fields fy s) iy p.first_is ac.first (omega (arith, room)) (omega (arith, more)))
-      (labelled_on (where_false w ds) nn (i + 1 + size x + 1) ay y t (with_fields fn s) in' p.second_is ac.second (omega (arith, room)) (omega (arith, more))))
+      (labelled_on (where_false w ds) nn (i + 1 + size q ax x + 1) ay y t (with_fields fn s) in' p.second_is ac.second (omega (arith, room)) (omega (arith, more)))
   labelled_on ds nd k a (Brackets x) t s is h accs room more = labelled_on ds nd k a x t s is h accs room more
   labelled_on ds nd k a (Minus x) t s is h accs room more =
       let u = unary_is q around x types.Int t h in
       subst (λ o. Labelled e c k (code q k a x ++ instr.Operate operation.Neg ∷ []) s o) (pushed_bind s (λ v. of_instr c (instr.Operate operation.Neg) (v ∷ [])) (found c q s.fields a x))
-      (follow e c k (size x) (code q k a x) (instr.Operate operation.Neg ∷ []) s (found c q s.fields a x) (λ v. pushed_on s (of_instr c (instr.Operate operation.Neg) (v ∷ []))) (length-code q k a x) (some_code q k a x) (omega arith)
+      (follow e c k (size q a x) (code q k a x) (instr.Operate operation.Neg ∷ []) s (found c q s.fields a x) (λ v. pushed_on s (of_instr c (instr.Operate operation.Neg) (v ∷ []))) (length-code q k a x) (some_code q k a x) (omega arith)
       (labelled_on ds nd k a x types.Int s is u.0 accs room (omega (arith, more)))
-      (λ v ev. make_neg e c (k + size x) s (omega (arith, room, some_need x)) (omega (arith, more)) v))
+      (λ v ev. make_neg e c (k + size q a x) s (omega (arith, room, some_need q a x)) (omega (arith, more)) v))
   labelled_on ds nd k a (Not x) t s is h accs room more =
       let u = unary_is q around x types.Bool t h in
       subst (λ o. Labelled e c k (code q k a x ++ instr.Operate operation.Not ∷ []) s o) (pushed_bind s (λ v. of_instr c (instr.Operate operation.Not) (v ∷ [])) (found c q s.fields a x))
-      (follow e c k (size x) (code q k a x) (instr.Operate operation.Not ∷ []) s (found c q s.fields a x) (λ v. pushed_on s (of_instr c (instr.Operate operation.Not) (v ∷ []))) (length-code q k a x) (some_code q k a x) (omega arith)
+      (follow e c k (size q a x) (code q k a x) (instr.Operate operation.Not ∷ []) s (found c q s.fields a x) (λ v. pushed_on s (of_instr c (instr.Operate operation.Not) (v ∷ []))) (length-code q k a x) (some_code q k a x) (omega arith)
       (labelled_on ds nd k a x types.Bool s is u.0 accs room (omega (arith, more)))
-      (λ v ev. make_not e c (k + size x) s (omega (arith, room, some_need x)) (omega (arith, more)) v))
+      (λ v ev. make_not e c (k + size q a x) s (omega (arith, room, some_need q a x)) (omega (arith, more)) v))
   labelled_on ds nd k a (Binary op x y) t s is h accs room more =
       let p = two_types q around x y (op_ty op) t h in
-      let i = k + size x in
+      let i = k + size q a x in
       let b = a + aggregates x in
       let fx = found c q s.fields a x in
       let fy = found c q s.fields b y in
@@ -112,61 +111,56 @@ module _ (e : State) (c : Setting) (q : Query) (around : Around) (reads : Reads 
       let last = instruction op ∷ [] in
       let l = length-append right last in
       let inner : (u : Known) → Labelled e c i (right ++ last) (with_known u s) (and_then (λ v. pushed_on s (of_instr c (instruction op) (v ∷ u ∷ []))) fy) =
-      λ u. follow e c i (size y) right last (with_known u s) fy (λ v. pushed_on s (of_instr c (instruction op) (v ∷ u ∷ []))) (length-code q i b y) (some_code q i b y) (omega arith)
+      λ u. follow e c i (size q b y) right last (with_known u s) fy (λ v. pushed_on s (of_instr c (instruction op) (v ∷ u ∷ []))) (length-code q i b y) (some_code q i b y) (omega arith)
       (labelled_on ds nd i b y p.right (with_known u s) is p.right_is (in_right c q around a x y accs) (omega (arith, room)) (omega (arith, more)))
-      (λ v ev. make_op e c (i + size y) s (omega (arith, room)) (omega (arith, more)) op u v) in
-      subst (λ is. Labelled e c k is s (pushed_on s (found c q s.fields a (Binary op x y)))) (binary_code q k a op x y)
-      (subst (λ o. Labelled e c k (code q k a x ++ (right ++ last)) s o)
+      (λ v ev. make_op e c (i + size q b y) s (omega (arith, room)) (omega (arith, more)) op u v) in
+      subst (λ o. Labelled e c k (code q k a x ++ (right ++ last)) s o)
       ((λ j. and_then (λ u. pushed_bind s (λ v. of_instr c (instruction op) (v ∷ u ∷ [])) fy j) fx) ∙ pushed_bind s (λ u. and_then (λ v. of_instr c (instruction op) (v ∷ u ∷ [])) fy) fx)
-      (follow e c k (size x) (code q k a x) (right ++ last) s fx (λ u. and_then (λ v. pushed_on s (of_instr c (instruction op) (v ∷ u ∷ []))) fy) (length-code q k a x) (some_code q k a x) (omega (arith, l))
+      (follow e c k (size q a x) (code q k a x) (right ++ last) s fx (λ u. and_then (λ v. pushed_on s (of_instr c (instruction op) (v ∷ u ∷ []))) fy) (length-code q k a x) (some_code q k a x) (omega (arith, l))
       (labelled_on ds nd k a x p.left s is p.left_is (in_left c q around a x y accs) (omega (arith, room)) (omega (arith, more)))
-      (λ u eu. inner u)))
+      (λ u eu. inner u))
   labelled_on ds nd k a (And x y) t s is h accs room more =
       let p = logic_types q around x y t h in
-      let w = tested x in
-      let o = test_of q x in
-      let i = k + unless_tested w (size x) in
+      let w = test_of q a x in
+      let i = k + unless_tested w (size q a x) in
       let b = a + aggregates x in
       let left = in_left c q around a x y accs in
       let right = in_right c q around a x y accs in
       let first = code q (i + 1) b y in
       let second = instr.PushBool false ∷ [] in
-      let fy = known_true o s.fields in
-      let fn = known_false o s.fields in
-      let iy : fy ≡ known_fields 0 (where_true w ds) = ap (known_true o) is ∙ true_known q w ds nd in
+      let fy = known_true w s.fields in
+      let fn = known_false w s.fields in
+      let iy : fy ≡ known_fields 0 (where_true w ds) = ap (known_true w) is ∙ true_known w ds in
       let ny = true_narrows w nd in
-      subst (λ is. Labelled e c k is s (pushed_on s (found c q s.fields a (And x y)))) (and_code q k a x y)
-      (tested_choice e c q w k (size x) (size y) 1 (code q k a x) first second s (found c q s.fields a x) (found c q fy b y) (Some known.Truth)
-      (stands x p.left_is) (is_truth c q around reads ds nd a x p.left_is left s.fields is) (length-code q k a x) (some_code q k a x)
-      (λ none. labelled_on ds nd k a x types.Bool s is p.left_is left (omega (arith, room, ap (λ v. unless_tested v (need x)) none)) (omega (arith, more, ap (λ v. unless_tested v (size x)) none)))
-      (length-code q (i + 1) b y) refl (some_size y) (omega arith) (omega (arith, more)) (omega (arith, room, some_need y))
+      tested_choice e c w k (size q a x) (size q b y) 1 (code q k a x) first second s (found c q s.fields a x) (found c q fy b y) (Some known.Truth)
+      (stands a x p.left_is) (is_truth c q around reads ds nd a x p.left_is left s.fields is) (length-code q k a x) (some_code q k a x)
+      (λ none. labelled_on ds nd k a x types.Bool s is p.left_is left (omega (arith, room, ap (λ v. unless_tested v (need q a x)) none)) (omega (arith, more, ap (λ v. unless_tested v (size q a x)) none)))
+      (length-code q (i + 1) b y) refl (some_size q b y) (omega arith) (omega (arith, more)) (omega (arith, room, some_need q b y))
       (λ u v eu ev. truth_same u v (is_truth c q around reads (where_true w ds) ny b y p.right_is right fy iy u eu) ev)
       (labelled_on (where_true w ds) ny (i + 1) b y types.Bool (with_fields fy s) iy p.right_is right (omega (arith, room)) (omega (arith, more)))
-      (push_bool e c (i + 1 + size y + 1) (with_fields fn s) (omega (arith, room, some_need y)) (omega (arith, more)) false))
+      (push_bool e c (i + 1 + size q b y + 1) (with_fields fn s) (omega (arith, room, some_need q b y)) (omega (arith, more)) false)
   labelled_on ds nd k a (Or x y) t s is h accs room more =
       let p = logic_types q around x y t h in
-      let w = tested x in
-      let o = test_of q x in
-      let i = k + unless_tested w (size x) in
+      let w = test_of q a x in
+      let i = k + unless_tested w (size q a x) in
       let b = a + aggregates x in
       let left = in_left c q around a x y accs in
       let right = in_right c q around a x y accs in
       let first = instr.PushBool true ∷ [] in
       let second = code q (i + 1 + 1 + 1) b y in
-      let fy = known_true o s.fields in
-      let fn = known_false o s.fields in
-      let in' : fn ≡ known_fields 0 (where_false w ds) = ap (known_false o) is ∙ false_known q w ds nd in
+      let fy = known_true w s.fields in
+      let fn = known_false w s.fields in
+      let in' : fn ≡ known_fields 0 (where_false w ds) = ap (known_false w) is ∙ false_known w ds in
       let nn = false_narrows w nd in
-      subst (λ is. Labelled e c k is s (pushed_on s (found c q s.fields a (Or x y)))) (or_code q k a x y)
-      (tested_choice e c q w k (size x) 1 (size y) (code q k a x) first second s (found c q s.fields a x) (Some known.Truth) (found c q fn b y)
-      (stands x p.left_is) (is_truth c q around reads ds nd a x p.left_is left s.fields is) (length-code q k a x) (some_code q k a x)
-      (λ none. labelled_on ds nd k a x types.Bool s is p.left_is left (omega (arith, room, ap (λ v. unless_tested v (need x)) none)) (omega (arith, more, ap (λ v. unless_tested v (size x)) none)))
-      refl (length-code q (i + 1 + 1 + 1) b y) (omega arith) (some_size y) (omega (arith, more)) (omega (arith, room, some_need y))
+      tested_choice e c w k (size q a x) 1 (size q b y) (code q k a x) first second s (found c q s.fields a x) (Some known.Truth) (found c q fn b y)
+      (stands a x p.left_is) (is_truth c q around reads ds nd a x p.left_is left s.fields is) (length-code q k a x) (some_code q k a x)
+      (λ none. labelled_on ds nd k a x types.Bool s is p.left_is left (omega (arith, room, ap (λ v. unless_tested v (need q a x)) none)) (omega (arith, more, ap (λ v. unless_tested v (size q a x)) none)))
+      refl (length-code q (i + 1 + 1 + 1) b y) (omega arith) (some_size q b y) (omega (arith, more)) (omega (arith, room, some_need q b y))
       (λ u v eu ev. same_truth u v (is_truth c q around reads (where_false w ds) nn b y p.right_is right fn in' v ev) eu)
-      (push_bool e c (i + 1) (with_fields fy s) (omega (arith, room, some_need y)) (omega (arith, more)) true)
-      (labelled_on (where_false w ds) nn (i + 1 + 1 + 1) b y types.Bool (with_fields fn s) in' p.right_is right (omega (arith, room)) (omega (arith, more))))
+      (push_bool e c (i + 1) (with_fields fy s) (omega (arith, room, some_need q b y)) (omega (arith, more)) true)
+      (labelled_on (where_false w ds) nn (i + 1 + 1 + 1) b y types.Bool (with_fields fn s) in' p.right_is right (omega (arith, room)) (omega (arith, more)))
 
   -- where the fields are as they are declared
-  pub labelled : (k a : ℕ) (x : Expr) (t : CellType) (s : State) → s.fields ≡ known_fields 0 q.fields → typed q around x ≡ Ok t → AccsIn c q around a (accumulators_of x) → length s.stack + need x ≤ 32 → k + size x < c.n →
+  pub labelled : (k a : ℕ) (x : Expr) (t : CellType) (s : State) → s.fields ≡ known_fields 0 q.fields → typed q around x ≡ Ok t → AccsIn c q around a (accumulators_of x) → length s.stack + need q a x ≤ 32 → k + size q a x < c.n →
       Labelled e c k (code q k a x) s (pushed_on s (found c q s.fields a x))
   labelled k a x t s is h accs room more = labelled_on q.fields (as_declared q) k a x t s is h accs room more

@@ -7,7 +7,7 @@ use Rattle.wsm_record.specs.declared.words.Kind.{Kind}
 use Rattle.wsm_fold.specs.Laws.{joined_to}
 use Rattle.wsm_fold.specs.Fold.{join, joins, fold_of, folds_of}
 use Rattle.wsm_query.specs.Tree.{Query}
-use Rattle.wsm_check.specs.Sizes.{Acc, accumulators}
+use Rattle.wsm_check.specs.Aggregates.{Acc, accumulators}
 use Rattle.wsm_compiler.specs.Meaning.{meaning, meets_i64, on_record, all_of, fold_where_all}
 use Rattle.wsm_compiler.specs.Sections.{in_bounds, folded_values}
 use Rattle.wsm_compiler.specs.Folded.{AreUpdates, FoldsHold}

@@ -10,20 +10,20 @@ use Rattle.wsm_record.specs.declared.words.CellType.{CellType}
 use Rattle.wsm_record.specs.declared.words.CellType.TheVariants as types
 use Rattle.wsm_check.specs.Types.{typed}
 use Rattle.wsm_check.specs.declared.types.Around.TheVariants.{InColumn}
-use Rattle.wsm_check.specs.Sizes.{accumulators_of, aggregates, size, columns_size, fired, need, need_of_columns}
+use Rattle.wsm_check.specs.Aggregates.{accumulators_of, aggregates, fired}
 use Rattle.wsm_rules.specs.declared.known.Known.{Known}
 use Rattle.wsm_rules.specs.Labels.{State, Ranges, Visit, Reached, label_of, label_at, visits, visited_next}
 use Rattle.wsm_rules.specs.Rules.{Setting, entry, known_fields, known_accumulators, update_visits}
-use Rattle.wsm_compiler.specs.Code.{code, columns_code}
+use Rattle.wsm_compiler.specs.Code.{code, size, need, columns_code}
 use Rattle.wsm_compiler.specs.Ranges.{Range, Unfit, NoNumber, Within, range, fits}
-use Rattle.wsm_check.specs.Parts.{type_or_int}
+use Rattle.wsm_check.specs.Parts.{aggregates_of, type_or_int}
 use Rattle.wsm_compiler.specs.Program.{program_stating, program_of, stated, needed_of}
 use Rattle.wsm_compiler.specs.Labelled.{known_as, ColumnLabels, LabelsAreRanges}
 use Rattle.wsm_compiler.proofs.Visits.{extended, added, extended_is, visits_are}
 use Rattle.wsm_machine.proofs.FittingStacks.{no}
 use Rattle.wsm_compiler.proofs.Parts.{Comes, Labels, shorter, continued}
 use Rattle.wsm_compiler.proofs.Tests.{with_known, pushed_on}
-use Rattle.wsm_compiler.proofs.QueryTerms.{all_columns, columns_next}
+use Rattle.wsm_compiler.proofs.QueryTerms.{columns_size, columns_need}
 use Rattle.wsm_compiler.proofs.Sizes.{length-code, sizes_are_lengths, some_code, some_columns, some_columns_size}
 use Rattle.wsm_compiler.proofs.FoundRanges.{suits, known_of}
 use Rattle.wsm_compiler.proofs.ExpressionRanges.{Reads, Accs, accs_left, accs_right, range_suits, found_here}
@@ -56,19 +56,19 @@ visits_front e r is js n h =
     ap (λ m. visits e r (take m (is ++ js))) h ∙ ap (visits e r) (take-append_seam is js) ∙ visits_are e r is ∙ sym (extended_is e r [] is ∙ append-nil (added e r [] is))
 
 module _ (q : Query) (b : Costs) (e : State) (c : Setting) (reads : Reads c q InColumn) where
-  columns_labelled : (front : List Instr) (k a : ℕ) (es : List Expr) (below : List Known) → length front ≡ k → ColumnsTyped q es → columns_fit q es ≡ true → Accs c q a (flat_map accumulators_of es ++ in_condition q.having) →
-      need_of_columns (length below) q.having es ≤ 32 → k + columns_size q.having es ≤ c.n → e.folded ≡ (entry (program_of q)).folded → e.fields ≡ known_fields 0 q.fields →
-      Comes e (extended e c.ranges [] front) k (record e { stack = below }) (length (columns_code q k a es)) →
-      ColumnLabels q (label_at e c.ranges (front ++ columns_code q k a es)) k es below
-  columns_labelled front k a [] below lf h fit accs room more flags fields comes = tt
-  columns_labelled front k a (x ∷ es) below lf h fit accs room more flags fields comes =
+  columns_labelled : (front : List Instr) (h k a : ℕ) (es : List Expr) (below : List Known) → length front ≡ k → ColumnsTyped q es → columns_fit q es ≡ true → Accs c q a (flat_map accumulators_of es ++ in_condition q.having) →
+      length below + columns_need q h a es ≤ 32 → k + columns_size q h a es ≤ c.n → e.folded ≡ (entry (program_of q)).folded → e.fields ≡ known_fields 0 q.fields →
+      Comes e (extended e c.ranges [] front) k (record e { stack = below }) (length (columns_code q h k a es)) →
+      ColumnLabels q (label_at e c.ranges (front ++ columns_code q h k a es)) k a es below
+  columns_labelled front h k a [] below lf hc fit accs room more flags fields comes = tt
+  columns_labelled front h k a (x ∷ es) below lf hc fit accs room more flags fields comes =
       let s : State = record e { stack = below } in
-      let t = h.0.0 in
-      let hx = h.0.1 in
+      let t = hc.0.0 in
+      let hx = hc.0.1 in
       let is = code q k a x in
-      let j = k + size x in
+      let j = k + size q a x in
       let a' = a + aggregates x in
-      let rest = columns_code q j a' es in
+      let rest = columns_code q h j a' es in
       let vs = extended e c.ranges [] front in
       let f = and_parts (fits (range q x)) (columns_fit q es) fit in
       let y = known_as (type_or_int (typed q InColumn x)) (range q x) in
@@ -77,14 +77,13 @@ module _ (q : Query) (b : Costs) (e : State) (c : Setting) (reads : Reads c q In
       let here = accs_left c q a (accumulators_of x) (flat_map accumulators_of es ++ in_condition q.having) whole in
       let behind = accs_right c q a (aggregates x) (accumulators_of x) (flat_map accumulators_of es ++ in_condition q.having) (length-accumulators_of x) whole in
       let known' = found_here c q InColumn reads s.fields fields a x t hx (λ _. here) ∙ known_is t (range q x) (range_suits c q InColumn x t hx) f.0 ∙ ap (λ u. Some (known_as u (range q x))) (sym (ap type_or_int hx)) in
-      let next' = columns_next q k a x es in
-      let la = ap length (sym next') ∙ length-append is rest in
+      let la = length-append is rest in
       let lc = length-code q k a x in
       let comes' : Comes e vs k s (length is + length rest) = subst (λ m. Comes e vs k s m) la comes in
       let first : Labels e c vs k is (Some (with_known y s)) =
       subst (λ o. Labels e c vs k is (pushed_on s o)) known'
-      (labelled e c q InColumn reads k a x t s fields hx (λ _. here) (first_room (length below) (need x) _ room) (omega (arith, more, some_columns_size q.having es)) vs (shorter e vs k s (length is) (length rest) comes')) in
-      let next = continued e c vs k is (length rest) s (with_known y s) (some_code q k a x) (some_columns q j a' es) comes' first in
+      (labelled e c q InColumn reads k a x t s fields hx (λ _. here) (first_room (length below) (need q a x) _ room) (omega (arith, more, some_columns_size q h a' es)) vs (shorter e vs k s (length is) (length rest) comes')) in
+      let next = continued e c vs k is (length rest) s (with_known y s) (some_code q k a x) (some_columns q h j a' es) comes' first in
       let lfc = length-append front is in
       let place : k + length is ≡ j = ap (λ n. k + n) lc in
       let there : j ≡ length (front ++ is) = omega (arith, lfc, lf, lc) in
@@ -94,11 +93,10 @@ module _ (q : Query) (b : Costs) (e : State) (c : Setting) (reads : Reads c q In
       ap (λ xs. label_at e c.ranges xs j) grouped
       ∙ ap (label_of e j) (visits_front e c.ranges (front ++ is) rest j there ∙ seen)
       ∙ ap (λ n. label_of e n (extended e c.ranges vs is)) (sym place)
-      ∙ next.label in
-      subst (λ js. ColumnLabels q (label_at e c.ranges (front ++ js)) k (x ∷ es) below) next' (
+      ∙ next.label in (
         label ∙ (λ i. Reached (record { stack = y ∷ below; folded = flags i; fields = fields i })),
-        subst (λ xs. ColumnLabels q (label_at e c.ranges xs) j es (y ∷ below)) (sym grouped)
-            (columns_labelled (front ++ is) j a' es (y ∷ below) (sym there) h.1 f.1 behind (rest_room (length below + need x) _ room) (omega (arith, more)) flags fields
+        subst (λ xs. ColumnLabels q (label_at e c.ranges xs) j a' es (y ∷ below)) (sym grouped)
+            (columns_labelled (front ++ is) h j a' es (y ∷ below) (sym there) hc.1 f.1 behind (rest_room (length below) (need q a x) _ room) (omega (arith, more)) flags fields
             (subst (λ n. Comes e (extended e c.ranges [] (front ++ is)) n (with_known y s) (length rest)) place (subst (λ ws. Comes e ws (k + length is) (with_known y s) (length rest)) (sym seen) next))),
       )
 
@@ -111,8 +109,6 @@ labels_are_ranges q checked fit =
     let columns = and_parts (columns_fit q q.columns) (condition_fits q q.having) (sym (fired_fit q b) ∙ parts.1) in
     let accs = accs_of_all q b (fired q) parts.1 in
     let l = (sizes_are_lengths q).2 in
-    let all = all_columns q in
-    subst (λ is. ColumnLabels q (label_at (entry p) (firing q b).ranges is) 0 q.columns []) all
-    (columns_labelled q b (entry p) (firing q b) (reads_fire q b (known_accumulators q.records 0 p.header.kinds (update_visits p))) [] 0 0 q.columns [] refl f.columns columns.0
-    (subst (λ xs. Accs (firing q b) q 0 xs) (accs_are q b) (accs_known q b f.accs accs (all_values q b f.accs f.update_need accs))) f.fire_need (omega (arith, l)) refl refl
-    (record { long = refl; label = refl; quiet = λ d u w. refl }))
+    columns_labelled q b (entry p) (firing q b) (reads_fire q b (known_accumulators q.records 0 p.header.kinds (update_visits p))) [] (aggregates_of q.columns) 0 0 q.columns [] refl f.columns columns.0
+    (subst (λ xs. Accs (firing q b) q 0 xs) (accs_are q b) (accs_known q b f.accs accs (all_values q b f.accs f.update_need accs))) (omega (arith, f.fire_need)) (omega (arith, l)) refl refl
+    (record { long = refl; label = refl; quiet = λ d u w. refl })

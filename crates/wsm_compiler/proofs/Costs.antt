@@ -19,16 +19,15 @@ use Rattle.wsm_program.specs.Program.{is_stated, is_budget}
 use Rattle.wsm_query.specs.Tree.{Query, Budget}
 use Rattle.wsm_check.specs.Checks.{is_cost, budget_fits}
 use Rattle.wsm_check.specs.Tested.{unless_tested}
-use Rattle.wsm_check.specs.Sizes.{accumulators}
+use Rattle.wsm_check.specs.Aggregates.{accumulators}
 use Rattle.wsm_check.specs.Terms.{Term, If, Minus, Not, Binary, And, Or}
-use Rattle.wsm_check.specs.Parts.{Folding, aggregates_of, folding, parts_of}
+use Rattle.wsm_check.specs.Parts.{Folding, folding, parts_of}
 use Rattle.wsm_compiler.specs.TermCode.{term_test, term_size, ending_size, foldings_size, firing_size}
 use Rattle.wsm_compiler.specs.Longest.{longest, longest_ending, longest_foldings, longest_firing, needed_by_structure}
 use Rattle.wsm_compiler.specs.Program.{needed_of, stated}
 use Rattle.wsm_machine.proofs.FittingStacks.{no}
 use Rattle.wsm_compiler.proofs.Longest.{needed_is}
 use Rattle.wsm_compiler.proofs.Passed.{Passed}
-use Rattle.wsm_compiler.proofs.QueryTerms.{ended_size, folded_size, fired_size}
 
 -- ---- paths
 
@@ -148,16 +147,16 @@ needed_fits q p keys =
     let f = firing_at_most parts.having parts.columns in
     let few = length-map (accumulators q) (folding q) in
     let windows = windows_at_most q.shape p.shape in
-    let product = product_at_most (windows_of_a_record q.shape) (longest_foldings parts.foldings) windows (omega (arith, u, folded_size q (accumulators q), p.code.update)) in
+    let product = product_at_most (windows_of_a_record q.shape) (longest_foldings parts.foldings) windows (omega (arith, u, p.code.update)) in
     let joins = joins_at_most q.shape (length parts.foldings) in
     let i = and_parts (is_time q.start) (is_span q.skew && (is_span q.lateness && is_size q.records)) p.clock in
     let j = and_parts (is_span q.skew) (is_span q.lateness && is_size q.records) i.1 in
     let k = and_parts (is_span q.lateness) (is_size q.records) j.1 in
     let live = live_at_least q.shape q.skew q.lateness p.shape j.0 k.0 in
     and_from (is_stated need.per_record) (is_stated need.per_pane && is_between 1 100000 need.held)
-    (between 1 1000000000000000000 need.per_record (omega (arith, w.0)) (omega (arith, w.1, ended_size q 0 q.condition, product, joins, few, p.code.selection, p.code.accs)))
+    (between 1 1000000000000000000 need.per_record (omega (arith, w.0)) (omega (arith, w.1, product, joins, few, p.code.selection, p.code.accs)))
     (and_from (is_stated need.per_pane) (is_between 1 100000 need.held)
-    (between 1 1000000000000000000 need.per_pane (omega (arith, f.0)) (omega (arith, f.1, fired_size q (aggregates_of q.columns) 0 q.columns, p.code.fire)))
+    (between 1 1000000000000000000 need.per_pane (omega (arith, f.0)) (omega (arith, f.1, p.code.fire)))
     (between 1 100000 need.held (product_at_least (length q.keys) (live_bound q.shape q.skew q.lateness) keys live) p.code.held))
 
 cost_is : (lo hi : ℕ) (n : ℤ) → is_within (pos lo) (pos hi) n ≡ true → is_between lo hi (unsigned_abs n) ≡ true

@@ -22,7 +22,7 @@ use Rattle.wsm_record.specs.Types.{is_type, kind_type}
 use Rattle.wsm_check.specs.Types.{Typed, wanted, if_typed, declared_ty, read_at, field_ty, op_ty, logic_ty, entered, typed}
 use Rattle.wsm_check.specs.declared.types.Around.{Around}
 use Rattle.wsm_check.specs.declared.types.Around.TheVariants.{InWhere, InColumn, InAggregate}
-use Rattle.wsm_check.specs.Sizes.{Acc, accumulators_of, aggregates}
+use Rattle.wsm_check.specs.Aggregates.{Acc, accumulators_of, aggregates}
 use Rattle.wsm_rules.specs.declared.known.Known.{Known}
 use Rattle.wsm_rules.specs.declared.known.Known.TheVariants as known
 use Rattle.wsm_rules.specs.Rules.{Setting, and_then}
@@ -36,8 +36,12 @@ use Rattle.wsm_program.specs.Instructions.{may_stand}
 use Rattle.wsm_interval.specs.declared.Comparison.{Comparison}
 use Rattle.wsm_compiler.proofs.Parts.{none≢some}
 use Rattle.wsm_compiler.proofs.TestedForms.{of_field, of_number, of_test}
-use Rattle.wsm_check.specs.Tested.{Tested, comparison_of, field_alone, number_alone, tested}
-use Rattle.wsm_compiler.proofs.Found.{of_instr, test_found, found}
+use Rattle.wsm_check.specs.Terms.{resolved}
+use Rattle.wsm_check.specs.Tested.{comparison_of, term_field, term_number}
+use Rattle.wsm_program.specs.declared.instr.FieldTest.{FieldTest}
+use Rattle.wsm_compiler.specs.Code.{test_of}
+use Rattle.wsm_compiler.proofs.QueryTerms.{same_test}
+use Rattle.wsm_compiler.proofs.Found.{of_instr, known_true, known_false, test_found, found}
 use Rattle.wsm_compiler.proofs.NarrowedFields.{Narrows, as_declared, true_narrows, false_narrows, known_here, true_known, false_known, test_hulled, tested_fits, of_cond}
 use Rattle.wsm_compiler.proofs.FoundRanges.{ok_is, err≢ok, typed_first, wanted_is, ty_is, suits, known_of, minus_found, minus_suits, not_found, op_typed, result_of, op_found}
 use Rattle.wsm_check.proofs.PassedChecks.{length-accumulators_of}
@@ -202,7 +206,7 @@ suits_on c q around ds n (Aggregate kind e) t h =
     suits_at (range_on q ds (Aggregate kind e)) (kind_type kind) t u.1 (aggregate_suits q.records kind (range q e) (suits_on c q InAggregate q.fields (as_declared q) e (kind_type kind) u.0))
 suits_on c q around ds n (If b x y) t h =
     let p = if_types q around b x y t h in
-    (chosen_is t (range_on q ds b) (range_on q (where_true (tested b) ds) x) (range_on q (where_false (tested b) ds) y) (suits_on c q around ds n b types.Bool p.test_is) (suits_on c q around _ (true_narrows (tested b) n) x t p.first_is) (suits_on c q around _ (false_narrows (tested b) n) y t p.second_is)).1
+    (chosen_is t (range_on q ds b) (range_on q (where_true (test_of q 0 b) ds) x) (range_on q (where_false (test_of q 0 b) ds) y) (suits_on c q around ds n b types.Bool p.test_is) (suits_on c q around _ (true_narrows (test_of q 0 b) n) x t p.first_is) (suits_on c q around _ (false_narrows (test_of q 0 b) n) y t p.second_is)).1
 suits_on c q around ds n (Brackets e) t h = suits_on c q around ds n e t h
 suits_on c q around ds n (Minus e) t h =
     let u = unary_is q around e types.Int t h in suits_at (range_on q ds (Minus e)) types.Int t u.1 (minus_suits (range_on q ds e) (suits_on c q around ds n e types.Int u.0))
@@ -213,10 +217,10 @@ suits_on c q around ds n (Binary op x y) t h =
     (op_found c op p.left p.right t (range_on q ds x) (range_on q ds y) o.0 o.1 (suits_on c q around ds n x p.left p.left_is) (suits_on c q around ds n y p.right p.right_is)).1
 suits_on c q around ds n (And x y) t h =
     let p = logic_types q around x y t h in
-    suits_at (range_on q ds (And x y)) types.Bool t p.is (logic_is (range_on q ds x) (range_on q (where_true (tested x) ds) y) (suits_on c q around ds n x types.Bool p.left_is) (suits_on c q around _ (true_narrows (tested x) n) y types.Bool p.right_is)).2
+    suits_at (range_on q ds (And x y)) types.Bool t p.is (logic_is (range_on q ds x) (range_on q (where_true (test_of q 0 x) ds) y) (suits_on c q around ds n x types.Bool p.left_is) (suits_on c q around _ (true_narrows (test_of q 0 x) n) y types.Bool p.right_is)).2
 suits_on c q around ds n (Or x y) t h =
     let p = logic_types q around x y t h in
-    suits_at (range_on q ds (Or x y)) types.Bool t p.is (logic_is (range_on q ds x) (range_on q (where_false (tested x) ds) y) (suits_on c q around ds n x types.Bool p.left_is) (suits_on c q around _ (false_narrows (tested x) n) y types.Bool p.right_is)).2
+    suits_at (range_on q ds (Or x y)) types.Bool t p.is (logic_is (range_on q ds x) (range_on q (where_false (test_of q 0 x) ds) y) (suits_on c q around ds n x types.Bool p.left_is) (suits_on c q around _ (false_narrows (test_of q 0 x) n) y types.Bool p.right_is)).2
 
 pub range_suits : (c : Setting) (q : Query) (around : Around) (e : Expr) (t : CellType) → typed q around e ≡ Ok t → suits t (range q e) ≡ true
 range_suits c q around e t h = suits_on c q around q.fields (as_declared q) e t h
@@ -229,16 +233,22 @@ truth_found Unfit h l = no l
 truth_found NoNumber h l = refl
 truth_found (Within i) h l = no h
 
-tested_truth : (c : Setting) (q : Query) (around : Around) (ds : List DeclaredField) → Narrows q ds → (e : Expr) → typed q around e ≡ Ok types.Bool → (t : Tested) → tested e ≡ Some t → is_some (known_of types.Bool (range_on q ds e)) ≡ true
-tested_truth c q around ds n e h t l = truth_found (range_on q ds e) (suits_on c q around ds n e types.Bool h) (tested_fits q ds e t l)
+tested_truth : (c : Setting) (q : Query) (around : Around) (ds : List DeclaredField) → Narrows q ds → (a : ℕ) (e : Expr) → typed q around e ≡ Ok types.Bool → (t : FieldTest) → test_of q a e ≡ Some t → is_some (known_of types.Bool (range_on q ds e)) ≡ true
+tested_truth c q around ds n a e h t l = truth_found (range_on q ds e) (suits_on c q around ds n e types.Bool h) (tested_fits q ds a e t l)
+
+-- a field of a number has a type where it is read
+pub record FieldHas (q : Query) (around : Around) (f : ℕ) (t : CellType) : Type 0 where
+  pub name : Name
+  pub place : field_place q.fields name ≡ f
+  pub type : field_ty q around name ≡ Ok t
 
 -- a field that is compared with a number is one of numbers
-field_typed : (q : Query) (around : Around) (e : Expr) (x : Name) (t : CellType) → field_alone e ≡ Some x → typed q around e ≡ Ok t → field_ty q around x ≡ Ok t
-field_typed q around e x t h = of_field (λ e. typed q around e ≡ Ok t → field_ty q around x ≡ Ok t) (λ e p. p) x (λ l. l) e h
+field_typed : (q : Query) (around : Around) (a : ℕ) (e : Expr) (f : ℕ) (t : CellType) → term_field (resolved q a e) ≡ Some f → typed q around e ≡ Ok t → FieldHas q around f t
+field_typed q around a e f t h = of_field q (λ e. typed q around e ≡ Ok t → FieldHas q around f t) (λ e p. p) f (λ x is l. record { name = x; place = is; type = l }) a e h
 
-number_typed : (q : Query) (around : Around) (e : Expr) (n : ℤ) (t : CellType) → number_alone e ≡ Some n → typed q around e ≡ Ok t → types.Int ≡ t
-number_typed q around e n t h =
-    of_number (λ e. typed q around e ≡ Ok t → types.Int ≡ t) (λ e p. p) n (λ l. ok_is types.Int t l) (λ e m is word same l. (unary_is q around e types.Int t l).1) e h
+number_typed : (q : Query) (around : Around) (a : ℕ) (e : Expr) (n : ℤ) (t : CellType) → term_number (resolved q a e) ≡ Some n → typed q around e ≡ Ok t → types.Int ≡ t
+number_typed q around a e n t h =
+    of_number q (λ e. typed q around e ≡ Ok t → types.Int ≡ t) (λ e p. p) n (λ l. ok_is types.Int t l) (λ b e m is word same l. (unary_is q around e types.Int t l).1) a e h
 
 -- what stands on the left of a number
 left_of_number : (op : Op) (o : Comparison) (t u w : CellType) → comparison_of op ≡ Some o → op_ty op t u ≡ Ok w → types.Int ≡ u → t ≡ types.Int
@@ -254,13 +264,13 @@ left_of_number Le o t u w h l e = ty_is t types.Int (and_parts (is_type t types.
 left_of_number Gt o t u w h l e = ty_is t types.Int (and_parts (is_type t types.Int) (is_type u types.Int) (wanted_is _ types.Bool w l).0).0
 left_of_number Ge o t u w h l e = ty_is t types.Int (and_parts (is_type t types.Int) (is_type u types.Int) (wanted_is _ types.Bool w l).0).0
 
-pub tested_int : (q : Query) (around : Around) (e : Expr) (u : CellType) (t : Tested) → tested e ≡ Some t → typed q around e ≡ Ok u → field_ty q around t.field ≡ Ok types.Int
-tested_int q around e u t h =
-    of_test (λ e. typed q around e ≡ Ok u → field_ty q around t.field ≡ Ok types.Int) (λ e p. p) t
-    (λ op x y p l.
+pub tested_int : (q : Query) (around : Around) (a : ℕ) (e : Expr) (u : CellType) (t : FieldTest) → test_of q a e ≡ Some t → typed q around e ≡ Ok u → FieldHas q around t.field types.Int
+tested_int q around a e u t h =
+    of_test q (λ e. typed q around e ≡ Ok u → FieldHas q around t.field types.Int) (λ e p. p) t
+    (λ a b op x y p l.
     let two = two_types q around x y (op_ty op) u l in
-    let is = left_of_number op t.comparison two.left two.right u p.comparison two.both (number_typed q around y t.number two.right p.number two.right_is) in
-    field_typed q around x t.field types.Int p.field (two.left_is ∙ ap Ok is)) e h
+    let is = left_of_number op t.comparison two.left two.right u p.comparison two.both (number_typed q around b y t.number two.right p.number two.right_is) in
+    field_typed q around a x t.field types.Int p.field (two.left_is ∙ ap Ok is)) a e h
 
 -- ---- what is found
 
@@ -339,12 +349,14 @@ found_on c q around reads ds n a (Aggregate kind e) t h accs =
 found_on c q around reads ds n a (If b x y) t h accs =
     let p = if_types q around b x y t h in
     let s = three_accs c q around a b x y accs in
-    let w = tested b in
-    (λ i. and_then (λ v. hulled
-    (((λ j. found c q (true_known q w ds n j) (a + aggregates b) x) ∙ found_on c q around reads (where_true w ds) (true_narrows w n) (a + aggregates b) x t p.first_is s.first) i)
-    (((λ j. found c q (false_known q w ds n j) (a + (aggregates b + aggregates x)) y) ∙ found_on c q around reads (where_false w ds) (false_narrows w n) (a + (aggregates b + aggregates x)) y t p.second_is s.second) i))
+    let w = test_of q 0 b in
+    let same = same_test q a b in
+    (λ i. and_then (λ v. hulled (found c q (known_true (same i) (known_fields 0 ds)) (a + aggregates b) x) (found c q (known_false (same i) (known_fields 0 ds)) (a + (aggregates b + aggregates x)) y)) (test_found (same i) (found c q (known_fields 0 ds) a b)))
+    ∙ (λ i. and_then (λ v. hulled
+    (((λ j. found c q (true_known w ds j) (a + aggregates b) x) ∙ found_on c q around reads (where_true w ds) (true_narrows w n) (a + aggregates b) x t p.first_is s.first) i)
+    (((λ j. found c q (false_known w ds j) (a + (aggregates b + aggregates x)) y) ∙ found_on c q around reads (where_false w ds) (false_narrows w n) (a + (aggregates b + aggregates x)) y t p.second_is s.second) i))
     (test_found w (found_on c q around reads ds n a b types.Bool p.test_is s.test i)))
-    ∙ test_hulled (tested b) (known_of types.Bool (range_on q ds b)) _ (tested_truth c q around ds n b p.test_is)
+    ∙ test_hulled w (known_of types.Bool (range_on q ds b)) _ (tested_truth c q around ds n 0 b p.test_is)
     ∙ (chosen_is t (range_on q ds b) (range_on q (where_true w ds) x) (range_on q (where_false w ds) y) (suits_on c q around ds n b types.Bool p.test_is) (suits_on c q around _ (true_narrows w n) x t p.first_is) (suits_on c q around _ (false_narrows w n) y t p.second_is)).0
 found_on c q around reads ds n a (Brackets e) t h accs = found_on c q around reads ds n a e t h accs
 found_on c q around reads ds n a (Minus e) t h accs =
@@ -361,17 +373,19 @@ found_on c q around reads ds n a (Binary op x y) t h accs =
 found_on c q around reads ds n a (And x y) t h accs =
     let p = logic_types q around x y t h in
     at_type _ (range_on q ds (And x y)) types.Bool t p.is
-    ((λ i. and_then (λ v. hulled (((λ j. found c q (true_known q (tested x) ds n j) (a + aggregates x) y) ∙ found_on c q around reads (where_true (tested x) ds) (true_narrows (tested x) n) (a + aggregates x) y types.Bool p.right_is (in_right c q around a x y accs)) i) (Some known.Truth))
-    (test_found (tested x) (found_on c q around reads ds n a x types.Bool p.left_is (in_left c q around a x y accs) i)))
-    ∙ test_hulled (tested x) (known_of types.Bool (range_on q ds x)) _ (tested_truth c q around ds n x p.left_is)
-    ∙ (logic_is (range_on q ds x) (range_on q (where_true (tested x) ds) y) (suits_on c q around ds n x types.Bool p.left_is) (suits_on c q around _ (true_narrows (tested x) n) y types.Bool p.right_is)).0)
+    ((λ i. and_then (λ v. hulled (found c q (known_true (same_test q a x i) (known_fields 0 ds)) (a + aggregates x) y) (Some known.Truth)) (test_found (same_test q a x i) (found c q (known_fields 0 ds) a x)))
+    ∙ (λ i. and_then (λ v. hulled (((λ j. found c q (true_known (test_of q 0 x) ds j) (a + aggregates x) y) ∙ found_on c q around reads (where_true (test_of q 0 x) ds) (true_narrows (test_of q 0 x) n) (a + aggregates x) y types.Bool p.right_is (in_right c q around a x y accs)) i) (Some known.Truth))
+    (test_found (test_of q 0 x) (found_on c q around reads ds n a x types.Bool p.left_is (in_left c q around a x y accs) i)))
+    ∙ test_hulled (test_of q 0 x) (known_of types.Bool (range_on q ds x)) _ (tested_truth c q around ds n 0 x p.left_is)
+    ∙ (logic_is (range_on q ds x) (range_on q (where_true (test_of q 0 x) ds) y) (suits_on c q around ds n x types.Bool p.left_is) (suits_on c q around _ (true_narrows (test_of q 0 x) n) y types.Bool p.right_is)).0)
 found_on c q around reads ds n a (Or x y) t h accs =
     let p = logic_types q around x y t h in
     at_type _ (range_on q ds (Or x y)) types.Bool t p.is
-    ((λ i. and_then (λ v. hulled (Some known.Truth) (((λ j. found c q (false_known q (tested x) ds n j) (a + aggregates x) y) ∙ found_on c q around reads (where_false (tested x) ds) (false_narrows (tested x) n) (a + aggregates x) y types.Bool p.right_is (in_right c q around a x y accs)) i))
-    (test_found (tested x) (found_on c q around reads ds n a x types.Bool p.left_is (in_left c q around a x y accs) i)))
-    ∙ test_hulled (tested x) (known_of types.Bool (range_on q ds x)) _ (tested_truth c q around ds n x p.left_is)
-    ∙ (logic_is (range_on q ds x) (range_on q (where_false (tested x) ds) y) (suits_on c q around ds n x types.Bool p.left_is) (suits_on c q around _ (false_narrows (tested x) n) y types.Bool p.right_is)).1)
+    ((λ i. and_then (λ v. hulled (Some known.Truth) (found c q (known_false (same_test q a x i) (known_fields 0 ds)) (a + aggregates x) y)) (test_found (same_test q a x i) (found c q (known_fields 0 ds) a x)))
+    ∙ (λ i. and_then (λ v. hulled (Some known.Truth) (((λ j. found c q (false_known (test_of q 0 x) ds j) (a + aggregates x) y) ∙ found_on c q around reads (where_false (test_of q 0 x) ds) (false_narrows (test_of q 0 x) n) (a + aggregates x) y types.Bool p.right_is (in_right c q around a x y accs)) i))
+    (test_found (test_of q 0 x) (found_on c q around reads ds n a x types.Bool p.left_is (in_left c q around a x y accs) i)))
+    ∙ test_hulled (test_of q 0 x) (known_of types.Bool (range_on q ds x)) _ (tested_truth c q around ds n 0 x p.left_is)
+    ∙ (logic_is (range_on q ds x) (range_on q (where_false (test_of q 0 x) ds) y) (suits_on c q around ds n x types.Bool p.left_is) (suits_on c q around _ (false_narrows (test_of q 0 x) n) y types.Bool p.right_is)).1)
 
 -- where the fields are as they are declared
 pub found_is : (c : Setting) (q : Query) (around : Around) → Reads c q around → (a : ℕ) (e : Expr) (t : CellType) → typed q around e ≡ Ok t → AccsIn c q around a (accumulators_of e) →

@@ -25,16 +25,16 @@ use Rattle.wsm_record.specs.Types.{kind_type}
 use Rattle.wsm_check.specs.Types.{declared_ty, op_ty, typed}
 use Rattle.wsm_check.specs.declared.types.Around.{Around}
 use Rattle.wsm_check.specs.declared.types.Around.TheVariants.{InColumn, InAggregate}
-use Rattle.wsm_check.specs.Sizes.{accumulators_of, aggregates, size, need}
+use Rattle.wsm_check.specs.Aggregates.{accumulators_of, aggregates}
 use Rattle.wsm_check.specs.Spelt.{numbers_fit}
-use Rattle.wsm_check.specs.Tested.{Tested, tested, unless_tested}
+use Rattle.wsm_check.specs.Tested.{unless_tested}
+use Rattle.wsm_program.specs.declared.instr.FieldTest.{FieldTest}
 use Rattle.wsm_compiler.specs.Meaning.{Scene, on_two, both, minus, negated, chosen}
 use Rattle.wsm_compiler.specs.Bounded.{kept, bounded_from}
 use Rattle.wsm_compiler.specs.TermCode.{choice, test_code, jump_unless, instruction}
-use Rattle.wsm_compiler.specs.Code.{code, field_test, test_of}
+use Rattle.wsm_compiler.specs.Code.{code, size, need, test_of}
 use Rattle.wsm_compiler.specs.Runs.{of_ty, cell, Serves, ServesAccs, state, topped, Gives, StandsAt, CodeRuns}
 use Rattle.wsm_machine.proofs.FittingStacks.{no}
-use Rattle.wsm_compiler.proofs.QueryTerms.{if_code, and_code, or_code, binary_code}
 use Rattle.wsm_compiler.proofs.Sizes.{length-code, length-test_code, some_size, some_need}
 use Rattle.wsm_compiler.proofs.FoundRanges.{ok_is, op_typed, result_of}
 use Rattle.wsm_compiler.proofs.ExpressionRanges.{cond_ok, field_is, entered_is, op_is, two_types, if_types, logic_types, unary_is, tested_int}
@@ -57,19 +57,20 @@ split section (x ∷ xs) ys k h =
     let e : k + 1 + length xs ≡ k + suc (length xs) = omega arith in
     ((h.0, rest.0), stands_moved section ys (k + 1 + length xs) (k + suc (length xs)) e rest.1)
 
-pub split_code : (q : Query) (section : List Instr) (k a : ℕ) (e : Expr) (ys : List Instr) → StandsAt section k (code q k a e ++ ys) → StandsAt section k (code q k a e) × StandsAt section (k + size e) ys
+pub split_code : (q : Query) (section : List Instr) (k a : ℕ) (e : Expr) (ys : List Instr) → StandsAt section k (code q k a e ++ ys) → StandsAt section k (code q k a e) × StandsAt section (k + size q a e) ys
 split_code q section k a e ys h =
     let parts = split section (code q k a e) ys k h in
-    (parts.0, stands_moved section ys (k + length (code q k a e)) (k + size e) (ap (λ n. k + n) (length-code q k a e)) parts.1)
+    (parts.0, stands_moved section ys (k + length (code q k a e)) (k + size q a e) (ap (λ n. k + n) (length-code q k a e)) parts.1)
 
 -- a test, where it has code, and what stands behind it
-pub split_test : (q : Query) (section : List Instr) (k a : ℕ) (e : Expr) (ys : List Instr) → StandsAt section k (test_code (tested e) (code q k a e) ++ ys) →
-    (tested e ≡ None → StandsAt section k (code q k a e)) × StandsAt section (k + unless_tested (tested e) (size e)) ys
+pub split_test : (q : Query) (section : List Instr) (k a : ℕ) (e : Expr) (ys : List Instr) → StandsAt section k (test_code (test_of q a e) (code q k a e) ++ ys) →
+    (test_of q a e ≡ None → StandsAt section k (code q k a e)) × StandsAt section (k + unless_tested (test_of q a e) (size q a e)) ys
 split_test q section k a e ys h =
     let is = code q k a e in
-    let parts = split section (test_code (tested e) is) ys k h in
-    let l = length-test_code (tested e) is (size e) (length-code q k a e) in
-    (λ none. subst (λ w. StandsAt section k (test_code w is)) none parts.0, stands_moved section ys (k + length (test_code (tested e) is)) (k + unless_tested (tested e) (size e)) (ap (λ n. k + n) l) parts.1)
+    let w = test_of q a e in
+    let parts = split section (test_code w is) ys k h in
+    let l = length-test_code w is (size q a e) (length-code q k a e) in
+    (λ none. subst (λ w. StandsAt section k (test_code w is)) none parts.0, stands_moved section ys (k + length (test_code w is)) (k + unless_tested w (size q a e)) (ap (λ n. k + n) l) parts.1)
 
 -- ---- what is read
 
@@ -157,29 +158,29 @@ module _ (c : Setting) (q : Query) (around : Around) (s : Scene) (serves : Serve
   value a e = bounded_from q s a e
 
   -- a test and the jump behind it, or the jump alone that makes the test, lead to the first part or to the second
-  tested_runs : (k a : ℕ) (e : Expr) (w : Option Tested) → tested e ≡ w → (i j end : ℕ) (t : CellType) (u v : Option Value) (stack : List Cell) (folds : List (Option Value)) → i ≡ k + unless_tested w (size e) →
-      typed q around e ≡ Ok types.Bool → ((around ≡ InColumn → ⊥) → numbers_fit e ≡ true) → of_ty types.Bool (value a e) ≡ true → (tested e ≡ None → Gives c (state k stack folds) (topped (k + size e) stack folds types.Bool (value a e))) →
-      slice_get c.code i ≡ Some (jump_unless (option_map (field_test q) w) j) → i < j → j < length c.code → Gives c (state (i + 1) stack folds) (topped end stack folds t u) → Gives c (state j stack folds) (topped end stack folds t v) →
+  tested_runs : (k a : ℕ) (e : Expr) (w : Option FieldTest) → test_of q a e ≡ w → (i j end : ℕ) (t : CellType) (u v : Option Value) (stack : List Cell) (folds : List (Option Value)) → i ≡ k + unless_tested w (size q a e) →
+      typed q around e ≡ Ok types.Bool → ((around ≡ InColumn → ⊥) → numbers_fit e ≡ true) → of_ty types.Bool (value a e) ≡ true → (test_of q a e ≡ None → Gives c (state k stack folds) (topped (k + size q a e) stack folds types.Bool (value a e))) →
+      slice_get c.code i ≡ Some (jump_unless w j) → i < j → j < length c.code → Gives c (state (i + 1) stack folds) (topped end stack folds t u) → Gives c (state j stack folds) (topped end stack folds t v) →
       Gives c (state k stack folds) (topped end stack folds t (chosen (value a e) u v))
   tested_runs k a e None is i j end t u v stack folds place h fit has runs at l n gu gv =
       bind c (state k stack folds) i stack folds types.Bool (λ o. topped end stack folds t (chosen o u v)) refl (value a e)
-      (at_place c (state k stack folds) (k + size e) i stack folds types.Bool (value a e) (sym place) (runs is))
+      (at_place c (state k stack folds) (k + size q a e) i stack folds types.Bool (value a e) (sym place) (runs is))
       (λ z ez. choose c i j stack folds end t u v z (has_value types.Bool (value a e) z has ez) at l n gu gv)
   tested_runs k a e (Some x) is i j end t u v stack folds place h fit has runs at l n gu gv =
-      let ty = tested_int q around e types.Bool x is h in
-      let r = serves.field x.field types.Int ty in
-      let outside : around ≡ InColumn → ⊥ = λ z. in_column_not q around x.field types.Int z ty in
+      let g = tested_int q around a e types.Bool x is h in
+      let r = serves.field g.name types.Int g.type in
+      let outside : around ≡ InColumn → ⊥ = λ z. in_column_not q around g.name types.Int z g.type in
       let here : i ≡ k = omega (arith, place) in
-      of_number r.0 r.2 r.1 r.3 r.4 outside here
+      of_number r.0 r.2 (ap s.field (sym g.place) ∙ r.1) (ap (slice_get c.inputs.values) (sym g.place) ∙ r.3) r.4 outside here
     where
-      of_number : (y : Value) → of_ty types.Int (Some y) ≡ true → s.field (field_place q.fields x.field) ≡ Some y → slice_get c.inputs.values (field_place q.fields x.field) ≡ Some y → kept (Some y) ≡ Some y → (around ≡ InColumn → ⊥) → i ≡ k →
+      of_number : (y : Value) → of_ty types.Int (Some y) ≡ true → s.field x.field ≡ Some y → slice_get c.inputs.values x.field ≡ Some y → kept (Some y) ≡ Some y → (around ≡ InColumn → ⊥) → i ≡ k →
           Gives c (state k stack folds) (topped end stack folds t (chosen (value a e) u v))
       of_number (Truth' b) ty f g w outside here = no ty
       of_number (Enum b) ty f g w outside here = no ty
       of_number (Int m) ty f g w outside here =
           subst (λ o. Gives c (state k stack folds) (topped end stack folds t (chosen o u v))) (sym (tested_value q s a e x m is f (word_kept m w) (fit outside)))
-          (subst (λ z. Gives c (state z stack folds) (topped end stack folds t (chosen (Some (Truth' (passes (field_test q x) m))) u v))) here
-          (choose_test c (field_test q x) m i j stack folds end t u v (serves.fields_stand (field_place q.fields x.field) outside) g at l n gu gv))
+          (subst (λ z. Gives c (state z stack folds) (topped end stack folds t (chosen (Some (Truth' (passes x m))) u v))) here
+          (choose_test c x m i j stack folds end t u v (serves.fields_stand x.field outside) g at l n gu gv))
 
   pub code_runs : (k a : ℕ) (e : Expr) → CodeRuns c q around s k a e
   code_runs k a (Number n) m t h accs at inside stack folds room =
@@ -221,12 +222,12 @@ module _ (c : Setting) (q : Query) (around : Around) (s : Scene) (serves : Serve
       (ap (λ o. reads (may_stand c.section (instr.Acc a)) k stack folds (option_map (cell_of 0) o)) held ∙ ap (λ y. reads (may_stand c.section (instr.Acc a)) k stack folds (Some y)) (folded_cell kind g.0 g.2))))
   code_runs k a (If b x y) m t h accs at inside stack folds room =
       let p = if_types q around b x y t h in
-      let ub = unless_tested (tested b) (size b) in
-      let i = k + ub in
-      let j = i + 1 + size x + 1 in
-      let end = j + size y in
       let ax = a + aggregates b in
       let ay = a + (aggregates b + aggregates x) in
+      let ub = unless_tested (test_of q a b) (size q a b) in
+      let i = k + ub in
+      let j = i + 1 + size q ax x + 1 in
+      let end = j + size q ay y in
       let rest = serves_right c around s a b (accumulators_of x ++ accumulators_of y) accs in
       let place : ax + aggregates x ≡ ay = omega arith in
       let sb = serves_left c around s a (accumulators_of b) (accumulators_of x ++ accumulators_of y) accs in
@@ -234,54 +235,54 @@ module _ (c : Setting) (q : Query) (around : Around) (s : Scene) (serves : Serve
       let sy = subst (λ n. ServesAccs c around s n (accumulators_of y)) place (serves_right c around s ax x (accumulators_of y) rest) in
       let cx = code q (i + 1) ax x in
       let cy = code q j ay y in
-      let parts = split_test q c.code k a b (choice (jump_unless (test_of q b)) (i + 1) cx (size x) cy (size y)) (subst (StandsAt c.code k) (sym (if_code q k a b x y)) at) in
+      let parts = split_test q c.code k a b (choice (jump_unless (test_of q a b)) (i + 1) cx (size q ax x) cy (size q ay y)) at in
       let second = split_code q c.code (i + 1) ax x (instr.Jump end ∷ cy) parts.1.1 in
       let mb : (around ≡ InColumn → ⊥) → numbers_fit b ≡ true = λ n. (and_parts (numbers_fit b) (numbers_fit x && numbers_fit y) (m n)).0 in
       let mx : (around ≡ InColumn → ⊥) → numbers_fit x ≡ true = λ n. (and_parts (numbers_fit x) (numbers_fit y) (and_parts (numbers_fit b) (numbers_fit x && numbers_fit y) (m n)).1).0 in
       let my : (around ≡ InColumn → ⊥) → numbers_fit y ≡ true = λ n. (and_parts (numbers_fit x) (numbers_fit y) (and_parts (numbers_fit b) (numbers_fit x && numbers_fit y) (m n)).1).1 in
-      let over : end ≡ k + (ub + (size x + size y) + 2) = omega arith in
-      at_place c (state k stack folds) end (k + (ub + (size x + size y) + 2)) stack folds t (chosen (value a b) (value ax x) (value ay y)) over
-      (tested_runs k a b (tested b) refl i j end t (value ax x) (value ay y) stack folds refl p.test_is mb (value_has c q around s serves a b types.Bool p.test_is sb)
-      (λ none. code_runs k a b mb types.Bool p.test_is sb (parts.0 none) (omega (arith, inside, ap (λ v. unless_tested v (size b)) none)) stack folds (omega (arith, room, ap (λ v. unless_tested v (need b)) none)))
-      parts.1.0 (omega arith) (omega (arith, inside, some_size y))
-      (jump_behind c (state (i + 1) stack folds) (i + 1 + size x) end stack folds t (value ax x) (code_runs (i + 1) ax x mx t p.first_is sx second.0 (omega (arith, inside)) stack folds (omega (arith, room))) second.1.0 (omega (arith, some_size y)) (omega (arith, inside)))
+      let over : end ≡ k + (ub + (size q ax x + size q ay y) + 2) = omega arith in
+      at_place c (state k stack folds) end (k + (ub + (size q ax x + size q ay y) + 2)) stack folds t (chosen (value a b) (value ax x) (value ay y)) over
+      (tested_runs k a b (test_of q a b) refl i j end t (value ax x) (value ay y) stack folds refl p.test_is mb (value_has c q around s serves a b types.Bool p.test_is sb)
+      (λ none. code_runs k a b mb types.Bool p.test_is sb (parts.0 none) (omega (arith, inside, ap (λ v. unless_tested v (size q a b)) none)) stack folds (omega (arith, room, ap (λ v. unless_tested v (need q a b)) none)))
+      parts.1.0 (omega arith) (omega (arith, inside, some_size q ay y))
+      (jump_behind c (state (i + 1) stack folds) (i + 1 + size q ax x) end stack folds t (value ax x) (code_runs (i + 1) ax x mx t p.first_is sx second.0 (omega (arith, inside)) stack folds (omega (arith, room))) second.1.0 (omega (arith, some_size q ay y)) (omega (arith, inside)))
       (code_runs j ay y my t p.second_is sy second.1.1 (omega (arith, inside)) stack folds (omega (arith, room))))
   code_runs k a (Brackets e) m t h accs at inside stack folds room = code_runs k a e m t h accs at inside stack folds room
   code_runs k a (Minus e) m t h accs at inside stack folds room =
       let u = unary_is q around e types.Int t h in
-      let i = k + size e in
+      let i = k + size q a e in
       let parts = split_code q c.code k a e (instr.Operate operation.Neg ∷ []) at in
-      let over : i + 1 ≡ k + (size e + 1) = omega arith in
-      at_place c (state k stack folds) (i + 1) (k + (size e + 1)) stack folds t (kept (minus (value a e))) over
+      let over : i + 1 ≡ k + (size q a e + 1) = omega arith in
+      at_place c (state k stack folds) (i + 1) (k + (size q a e + 1)) stack folds t (kept (minus (value a e))) over
       (at_type c (state k stack folds) (i + 1) stack folds types.Int t (kept (minus (value a e))) u.1
       (bind c (state k stack folds) i stack folds types.Int (λ o. topped (i + 1) stack folds types.Int (kept (minus o))) refl (value a e) (code_runs k a e m types.Int u.0 accs parts.0 (omega (arith, inside)) stack folds room)
-      (λ v ev. neg_gives c i stack folds (omega (arith, room, some_need e)) v (has_value types.Int (value a e) v (value_has c q around s serves a e types.Int u.0 accs) ev) parts.1.0)))
+      (λ v ev. neg_gives c i stack folds (omega (arith, room, some_need q a e)) v (has_value types.Int (value a e) v (value_has c q around s serves a e types.Int u.0 accs) ev) parts.1.0)))
   code_runs k a (Not e) m t h accs at inside stack folds room =
       let u = unary_is q around e types.Bool t h in
-      let i = k + size e in
+      let i = k + size q a e in
       let parts = split_code q c.code k a e (instr.Operate operation.Not ∷ []) at in
-      let over : i + 1 ≡ k + (size e + 1) = omega arith in
-      at_place c (state k stack folds) (i + 1) (k + (size e + 1)) stack folds t (negated (value a e)) over
+      let over : i + 1 ≡ k + (size q a e + 1) = omega arith in
+      at_place c (state k stack folds) (i + 1) (k + (size q a e + 1)) stack folds t (negated (value a e)) over
       (at_type c (state k stack folds) (i + 1) stack folds types.Bool t (negated (value a e)) u.1
       (bind c (state k stack folds) i stack folds types.Bool (λ o. topped (i + 1) stack folds types.Bool (negated o)) refl (value a e) (code_runs k a e m types.Bool u.0 accs parts.0 (omega (arith, inside)) stack folds room)
-      (λ v ev. not_gives c i stack folds (omega (arith, room, some_need e)) v (has_value types.Bool (value a e) v (value_has c q around s serves a e types.Bool u.0 accs) ev) parts.1.0)))
+      (λ v ev. not_gives c i stack folds (omega (arith, room, some_need q a e)) v (has_value types.Bool (value a e) v (value_has c q around s serves a e types.Bool u.0 accs) ev) parts.1.0)))
   code_runs k a (Binary op x y) fit t h accs at inside stack folds room =
       let p = two_types q around x y (op_ty op) t h in
       let o = op_is op p.left p.right t p.both in
       let same = one_type op p.left p.right o.0 in
       let right_is = p.right_is ∙ ap Ok (sym same) in
       let typed' : op_typed op p.left p.left ≡ true = ap (op_typed op p.left) same ∙ o.0 in
-      let i = k + size x in
-      let m = i + size y in
       let b = a + aggregates x in
+      let i = k + size q a x in
+      let m = i + size q b y in
       let sx = serves_left c around s a (accumulators_of x) (accumulators_of y) accs in
       let sy = serves_right c around s a x (accumulators_of y) accs in
-      let parts = split_code q c.code k a x (code q i b y ++ instruction op ∷ []) (subst (StandsAt c.code k) (sym (binary_code q k a op x y)) at) in
+      let parts = split_code q c.code k a x (code q i b y ++ instruction op ∷ []) at in
       let second = split_code q c.code i b y (instruction op ∷ []) parts.1 in
       let bx = value a x in
       let by = value b y in
-      let over : m + 1 ≡ k + (size x + size y + 1) = omega arith in
-      at_place c (state k stack folds) (m + 1) (k + (size x + size y + 1)) stack folds t (kept (both (on_two op) bx by)) over
+      let over : m + 1 ≡ k + (size q a x + size q b y + 1) = omega arith in
+      at_place c (state k stack folds) (m + 1) (k + (size q a x + size q b y + 1)) stack folds t (kept (both (on_two op) bx by)) over
       (at_type c (state k stack folds) (m + 1) stack folds (result_of op) t (kept (both (on_two op) bx by)) o.1
       (bind c (state k stack folds) i stack folds p.left (λ w. topped (m + 1) stack folds (result_of op) (kept (both (on_two op) w by))) refl bx
       (code_runs k a x (λ n. (and_parts (numbers_fit x) (numbers_fit y) (fit n)).0) p.left p.left_is sx parts.0 (omega (arith, inside)) stack folds (omega (arith, room)))
@@ -290,47 +291,47 @@ module _ (c : Setting) (q : Query) (around : Around) (s : Scene) (serves : Serve
       (λ w ew. op_gives c m stack folds (omega (arith, room)) op p.left v w typed' (has_value p.left bx v (value_has c q around s serves a x p.left p.left_is sx) ev) (has_value p.left by w (value_has c q around s serves b y p.left right_is sy) ew) second.1.0))))
   code_runs k a (And x y) m t h accs at inside stack folds room =
       let p = logic_types q around x y t h in
-      let ux = unless_tested (tested x) (size x) in
-      let i = k + ux in
-      let j = i + 1 + size y + 1 in
       let b = a + aggregates x in
+      let ux = unless_tested (test_of q a x) (size q a x) in
+      let i = k + ux in
+      let j = i + 1 + size q b y + 1 in
       let sx = serves_left c around s a (accumulators_of x) (accumulators_of y) accs in
       let sy = serves_right c around s a x (accumulators_of y) accs in
       let cy = code q (i + 1) b y in
-      let parts = split_test q c.code k a x (choice (jump_unless (test_of q x)) (i + 1) cy (size y) (instr.PushBool false ∷ []) 1) (subst (StandsAt c.code k) (sym (and_code q k a x y)) at) in
+      let parts = split_test q c.code k a x (choice (jump_unless (test_of q a x)) (i + 1) cy (size q b y) (instr.PushBool false ∷ []) 1) at in
       let second = split_code q c.code (i + 1) b y (instr.Jump (j + 1) ∷ instr.PushBool false ∷ []) parts.1.1 in
       let mx : (around ≡ InColumn → ⊥) → numbers_fit x ≡ true = λ n. (and_parts (numbers_fit x) (numbers_fit y) (m n)).0 in
       let my : (around ≡ InColumn → ⊥) → numbers_fit y ≡ true = λ n. (and_parts (numbers_fit x) (numbers_fit y) (m n)).1 in
       let by = value b y in
       let no' = Some (Truth' false) in
-      let over : j + 1 ≡ k + (ux + size y + 3) = omega arith in
-      at_place c (state k stack folds) (j + 1) (k + (ux + size y + 3)) stack folds t (chosen (value a x) by no') over
+      let over : j + 1 ≡ k + (ux + size q b y + 3) = omega arith in
+      at_place c (state k stack folds) (j + 1) (k + (ux + size q b y + 3)) stack folds t (chosen (value a x) by no') over
       (at_type c (state k stack folds) (j + 1) stack folds types.Bool t (chosen (value a x) by no') p.is
-      (tested_runs k a x (tested x) refl i j (j + 1) types.Bool by no' stack folds refl p.left_is mx (value_has c q around s serves a x types.Bool p.left_is sx)
-      (λ none. code_runs k a x mx types.Bool p.left_is sx (parts.0 none) (omega (arith, inside, ap (λ v. unless_tested v (size x)) none)) stack folds (omega (arith, room, ap (λ v. unless_tested v (need x)) none)))
+      (tested_runs k a x (test_of q a x) refl i j (j + 1) types.Bool by no' stack folds refl p.left_is mx (value_has c q around s serves a x types.Bool p.left_is sx)
+      (λ none. code_runs k a x mx types.Bool p.left_is sx (parts.0 none) (omega (arith, inside, ap (λ v. unless_tested v (size q a x)) none)) stack folds (omega (arith, room, ap (λ v. unless_tested v (need q a x)) none)))
       parts.1.0 (omega arith) (omega (arith, inside))
-      (jump_behind c (state (i + 1) stack folds) (i + 1 + size y) (j + 1) stack folds types.Bool by (code_runs (i + 1) b y my types.Bool p.right_is sy second.0 (omega (arith, inside)) stack folds (omega (arith, room))) second.1.0 (omega arith) (omega (arith, inside)))
-      (push_bool c j stack folds (omega (arith, room, some_need y)) false second.1.1.0)))
+      (jump_behind c (state (i + 1) stack folds) (i + 1 + size q b y) (j + 1) stack folds types.Bool by (code_runs (i + 1) b y my types.Bool p.right_is sy second.0 (omega (arith, inside)) stack folds (omega (arith, room))) second.1.0 (omega arith) (omega (arith, inside)))
+      (push_bool c j stack folds (omega (arith, room, some_need q b y)) false second.1.1.0)))
   code_runs k a (Or x y) m t h accs at inside stack folds room =
       let p = logic_types q around x y t h in
-      let ux = unless_tested (tested x) (size x) in
+      let b = a + aggregates x in
+      let ux = unless_tested (test_of q a x) (size q a x) in
       let i = k + ux in
       let j = i + 1 + 1 + 1 in
-      let end = j + size y in
-      let b = a + aggregates x in
+      let end = j + size q b y in
       let sx = serves_left c around s a (accumulators_of x) (accumulators_of y) accs in
       let sy = serves_right c around s a x (accumulators_of y) accs in
       let cy = code q j b y in
-      let parts = split_test q c.code k a x (choice (jump_unless (test_of q x)) (i + 1) (instr.PushBool true ∷ []) 1 cy (size y)) (subst (StandsAt c.code k) (sym (or_code q k a x y)) at) in
+      let parts = split_test q c.code k a x (choice (jump_unless (test_of q a x)) (i + 1) (instr.PushBool true ∷ []) 1 cy (size q b y)) at in
       let mx : (around ≡ InColumn → ⊥) → numbers_fit x ≡ true = λ n. (and_parts (numbers_fit x) (numbers_fit y) (m n)).0 in
       let my : (around ≡ InColumn → ⊥) → numbers_fit y ≡ true = λ n. (and_parts (numbers_fit x) (numbers_fit y) (m n)).1 in
       let by = value b y in
       let yes' = Some (Truth' true) in
-      let over : end ≡ k + (ux + size y + 3) = omega arith in
-      at_place c (state k stack folds) end (k + (ux + size y + 3)) stack folds t (chosen (value a x) yes' by) over
+      let over : end ≡ k + (ux + size q b y + 3) = omega arith in
+      at_place c (state k stack folds) end (k + (ux + size q b y + 3)) stack folds t (chosen (value a x) yes' by) over
       (at_type c (state k stack folds) end stack folds types.Bool t (chosen (value a x) yes' by) p.is
-      (tested_runs k a x (tested x) refl i j end types.Bool yes' by stack folds refl p.left_is mx (value_has c q around s serves a x types.Bool p.left_is sx)
-      (λ none. code_runs k a x mx types.Bool p.left_is sx (parts.0 none) (omega (arith, inside, ap (λ v. unless_tested v (size x)) none)) stack folds (omega (arith, room, ap (λ v. unless_tested v (need x)) none)))
-      parts.1.0 (omega arith) (omega (arith, inside, some_size y))
-      (jump_behind c (state (i + 1) stack folds) (i + 1 + 1) end stack folds types.Bool yes' (push_bool c (i + 1) stack folds (omega (arith, room, some_need y)) true parts.1.1.0) parts.1.1.1.0 (omega (arith, some_size y)) (omega (arith, inside)))
+      (tested_runs k a x (test_of q a x) refl i j end types.Bool yes' by stack folds refl p.left_is mx (value_has c q around s serves a x types.Bool p.left_is sx)
+      (λ none. code_runs k a x mx types.Bool p.left_is sx (parts.0 none) (omega (arith, inside, ap (λ v. unless_tested v (size q a x)) none)) stack folds (omega (arith, room, ap (λ v. unless_tested v (need q a x)) none)))
+      parts.1.0 (omega arith) (omega (arith, inside, some_size q b y))
+      (jump_behind c (state (i + 1) stack folds) (i + 1 + 1) end stack folds types.Bool yes' (push_bool c (i + 1) stack folds (omega (arith, room, some_need q b y)) true parts.1.1.0) parts.1.1.1.0 (omega (arith, some_size q b y)) (omega (arith, inside)))
       (code_runs j b y my types.Bool p.right_is sy parts.1.1.1.1 (omega (arith, inside)) stack folds (omega (arith, room)))))

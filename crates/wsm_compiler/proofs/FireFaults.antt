@@ -1,5 +1,5 @@
 -- FIRE has a fault exactly where a range of a column or of HAVING doesn't fit, where those of all aggregates do.
-use Rattle.std.proofs.Common.{◌≡◌, ℕ, zero, suc, ◌+◌, ◌≤◌, true, false, ◌&&◌, not, cond, List, [], ◌∷◌, ◌++◌, map, reverse, Option, Some, None, refl, sym, ap, subst, ◌∙◌, arith, append-nil}
+use Rattle.std.proofs.Common.{◌≡◌, ℕ, zero, suc, ◌+◌, ◌≤◌, true, false, ◌&&◌, not, cond, List, [], ◌∷◌, ◌++◌, map, reverse, Option, Some, None, refl, sym, ap, subst, ◌∙◌, arith, append_assoc, append-nil}
 use Rattle.std.specs.Prelude.{ℤ, ◌*ℤ◌, is_some, slice_get, slice_index_or}
 use Rattle.std.specs.List.{flat_map}
 use Rattle.std.proofs.lemmas.Grind.{flat_map-append}
@@ -15,19 +15,19 @@ use Rattle.wsm_program.specs.declared.program.Costs.{Costs}
 use Rattle.wsm_query.specs.Tree.{Query, Expr}
 use Rattle.wsm_record.specs.Types.{kind_type}
 use Rattle.wsm_check.specs.declared.types.Around.TheVariants.{InColumn, InAggregate}
-use Rattle.wsm_check.specs.Sizes.{Acc, accumulators, accumulators_of, in_option, need_of_folds, need_of_columns}
+use Rattle.wsm_check.specs.Aggregates.{Acc, accumulators, accumulators_of, in_option}
 use Rattle.wsm_rules.specs.declared.known.Known.{Known}
 use Rattle.wsm_rules.specs.declared.known.Known.TheVariants.{Number, Truth}
 use Rattle.wsm_rules.specs.Labels.{Visit}
 use Rattle.wsm_rules.specs.Rules.{Setting, setting, entry, and_then, accumulated, known_range, known_accumulators, ranges_of_pane, update_visits, column_known, fault_in}
 use Rattle.wsm_compiler.specs.Ranges.{Range, Unfit, NoNumber, Within, of_aggregate, range, fits}
-use Rattle.wsm_check.specs.Parts.{column_type}
+use Rattle.wsm_check.specs.Parts.{aggregates_of, column_type}
 use Rattle.wsm_compiler.specs.Program.{program_stating}
 use Rattle.wsm_machine.proofs.FittingStacks.{no}
 use Rattle.wsm_compiler.proofs.Parts.{none≢some}
 use Rattle.wsm_compiler.proofs.FoundRanges.{suits, known_of}
 use Rattle.wsm_compiler.proofs.ExpressionRanges.{Accs, range_suits}
-use Rattle.wsm_compiler.proofs.QueryTerms.{kinds_of, all_columns}
+use Rattle.wsm_compiler.proofs.QueryTerms.{kinds_of, folds_need, columns_need}
 use Rattle.wsm_compiler.proofs.Sizes.{sizes_are_lengths, some_columns_size}
 use Rattle.wsm_compiler.proofs.SectionEnds.{Ends, whole_section}
 use Rattle.wsm_compiler.proofs.KnownFields.{reads_fire}
@@ -92,7 +92,7 @@ module _ (q : Query) (b : Costs) where
   accs_are = flat_map-append accumulators_of q.columns (in_option q.having) ∙ ap (λ zs. flat_map accumulators_of q.columns ++ zs) (flat_option q.having)
 
   -- FIRE
-  pub fire_faults : ColumnsTyped q q.columns → ConditionTyped q InColumn q.having → AccsTyped q b (accumulators q) → need_of_folds (accumulators q) ≤ 32 → need_of_columns 0 q.having q.columns ≤ 32 →
+  pub fire_faults : ColumnsTyped q q.columns → ConditionTyped q InColumn q.having → AccsTyped q b (accumulators q) → folds_need q (accumulators q) ≤ 32 → columns_need q (aggregates_of q.columns) 0 q.columns ≤ 32 →
       accs_fit q b (accumulators q) ≡ true →
       is_some (fault_in (program_stating q b) Fire (ranges_of_pane (program_stating q b) (update_visits (program_stating q b)))) ≡ not (columns_fit q q.columns && condition_fits q q.having)
   fire_faults h hh ha low room fit =
@@ -101,7 +101,7 @@ module _ (q : Query) (b : Costs) where
       let r = ranges_of_pane p vs in
       let fault = not (columns_fit q q.columns && condition_fits q q.having) in
       let l = (sizes_are_lengths q).2 in
-      whole_section p Fire r fault (omega (arith, l, some_columns_size q.having q.columns))
-      (subst (λ is. Ends (entry p) firing 0 is (entry p) fault) (all_columns q) (columns_ends (entry p) firing q (reads_fire q b (known_accumulators q.records 0 p.header.kinds vs)) 0 0 q.columns (entry p) [] refl h hh
-      (subst (λ accs. Accs firing q 0 accs) accs_are (accs_known ha fit (all_values q b ha low fit))) room (omega (arith, l)) refl
-      (ap (λ zs. Truth ∷ zs) (sym (append-nil (reverse (map column_known (map (column_type q) q.columns)))))) refl))
+      whole_section p Fire r fault (omega (arith, l, some_columns_size q (aggregates_of q.columns) 0 q.columns))
+      (columns_ends (entry p) firing q (reads_fire q b (known_accumulators q.records 0 p.header.kinds vs)) (aggregates_of q.columns) 0 0 q.columns (entry p) [] (omega arith) refl h hh
+      (subst (λ accs. Accs firing q 0 accs) accs_are (accs_known ha fit (all_values q b ha low fit))) (omega (arith, room)) (omega (arith, l)) refl
+      (ap (λ zs. Truth ∷ zs) (sym (append-nil (reverse (map column_known (map (column_type q) q.columns)))))) refl)

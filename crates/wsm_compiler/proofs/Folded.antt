@@ -17,22 +17,22 @@ use Rattle.wsm_program.specs.declared.program.Costs.{Costs}
 use Rattle.wsm_query.specs.Tree.{Query, Expr}
 use Rattle.wsm_record.specs.Types.{kind_type}
 use Rattle.wsm_check.specs.declared.types.Around.TheVariants.{InAggregate}
-use Rattle.wsm_check.specs.Terms.{Term, If, Minus, Not, Binary, And, Or, resolved}
+use Rattle.wsm_check.specs.Terms.{Term, Number, Truth, Field, Name, Key, Count, Accumulator, If, Minus, Not, Binary, And, Or, resolved}
 use Rattle.wsm_check.specs.Tested.{unless_tested}
-use Rattle.wsm_check.specs.Sizes.{Acc, accumulators, accumulators_of, size, need, folds_size, need_of_folds}
+use Rattle.wsm_check.specs.Aggregates.{Acc, accumulators, accumulators_of}
 use Rattle.wsm_rules.specs.declared.known.Known.{Known}
 use Rattle.wsm_rules.specs.declared.known.Known.TheVariants as known
 use Rattle.wsm_rules.specs.Labels.{State, Ranges, Label, Reached, Visit, visit, visit_of}
 use Rattle.wsm_rules.specs.Rules.{entry, known_fields, ranges_of_record, hull_options, last_number, value_folded, values_folded, update_visits}
 use Rattle.wsm_compiler.specs.TermCode.{choice, instruction, test_code, jump_unless, term_test, term_size, term_code}
-use Rattle.wsm_compiler.specs.Code.{code, folds, update_section}
+use Rattle.wsm_compiler.specs.Code.{code, size, need, folds, update_section}
 use Rattle.wsm_compiler.specs.Ranges.{Range, Unfit, NoNumber, Within, of_aggregate, range, fits}
 use Rattle.wsm_compiler.specs.Program.{program_stating}
 use Rattle.wsm_compiler.proofs.Visits.{extended, added, added_append, visits_are}
 use Rattle.wsm_machine.proofs.FittingStacks.{no}
 use Rattle.wsm_compiler.proofs.Parts.{Comes, Labels, continued, shorter, visit_is}
 use Rattle.wsm_compiler.proofs.Tests.{with_known, pushed_on}
-use Rattle.wsm_compiler.proofs.QueryTerms.{folds_next}
+use Rattle.wsm_compiler.proofs.QueryTerms.{folds_size, folds_need}
 use Rattle.wsm_compiler.proofs.Sizes.{length-code, length-folds, some_code, some_folds, some_folds_size}
 use Rattle.wsm_compiler.proofs.Found.{found}
 use Rattle.wsm_compiler.proofs.FoundRanges.{suits, known_of}
@@ -40,7 +40,7 @@ use Rattle.wsm_compiler.proofs.ExpressionRanges.{range_suits, found_here}
 use Rattle.wsm_compiler.proofs.CodeLabels.{labelled}
 use Rattle.wsm_compiler.proofs.KnownFields.{reads_update}
 use Rattle.wsm_compiler.proofs.UpdateFaults.{folded_so, set_next, unset, takes, if_takes, updating, behind_fold, fold_one, acc_fits, accs_fit, AccsTyped, KindsAt, no_accs, entry_is, all_kinds}
-use Rattle.wsm_compiler.proofs.Rooms.{sole_room, rest_room}
+use Rattle.wsm_compiler.proofs.Rooms.{sole_room, next_room}
 use Rattle.wsm_semantics.proofs.MergedRecords.{unlike_newer}
 use Rattle.wsm_semantics.proofs.Each.{itself}
 
@@ -182,7 +182,7 @@ module _ (q : Query) (b : Costs) where
     v1 = visit_of e r (instr.Fold a) ws1
 
     abbrev later : List Instr
-    later = folds q (k + size x + 1) (suc a) accs
+    later = folds q (k + size q 0 x + 1) (suc a) accs
 
     abbrev new2 : List Visit
     new2 = added e r (v1 ∷ ws1) later
@@ -194,7 +194,7 @@ module _ (q : Query) (b : Costs) where
     s = folded_so q a (suc (length accs))
 
     whole_is : whole ≡ (new2 ++ v1 ∷ []) ++ added e r vs (code q k 0 x)
-    whole_is = ap (added e r vs) (sym (folds_next q k a acc accs)) ∙ added_append e r vs (code q k 0 x) (instr.Fold a ∷ later)
+    whole_is = added_append e r vs (code q k 0 x) (instr.Fold a ∷ later)
 
     at : (d : ℕ) → values_folded d whole ≡ values_folded d (new2 ++ v1 ∷ [])
     at d = ap (values_folded d) whole_is ∙ none_behind d (new2 ++ v1 ∷ []) (added e r vs (code q k 0 x)) (values_none e r d vs (code q k 0 x) (code_folds_none k (resolved q 0 x)))
@@ -218,7 +218,7 @@ module _ (q : Query) (b : Costs) where
         ),
       )
 
-  folds_values : (e : State) (k a : ℕ) (accs : List Acc) (vs : List Visit) → AccsTyped q b accs → KindsAt q b a accs → need_of_folds accs ≤ 32 → k + folds_size accs ≤ (updating q b).n → accs_fit q b accs ≡ true →
+  folds_values : (e : State) (k a : ℕ) (accs : List Acc) (vs : List Visit) → AccsTyped q b accs → KindsAt q b a accs → folds_need q accs ≤ 32 → k + folds_size q accs ≤ (updating q b).n → accs_fit q b accs ≡ true →
       Comes e vs k (folded_so q a (length accs)) (length (folds q k a accs)) → Folded e k a accs vs
   folds_values e k a [] vs h kinds room more fit comes = (λ d u. refl, tt)
   folds_values e k a (acc ∷ accs) vs h kinds room more fit comes =
@@ -226,15 +226,15 @@ module _ (q : Query) (b : Costs) where
       let y = acc.operand in
       let is = code q k 0 y in
       let st = folded_so q a (suc (length accs)) in
-      let rest = folds q (k + size y + 1) (suc a) accs in
+      let rest = folds q (k + size q 0 y + 1) (suc a) accs in
       let f = and_parts (acc_fits q b acc) (accs_fit q b accs) fit in
       let v = value_of q.records acc.kind (range q y) (range_suits c q InAggregate y (kind_type acc.kind) h.0) f.0 in
       let found' : found c q st.fields 0 y ≡ Some v.value = found_here c q InAggregate (reads_update q b) st.fields refl 0 y (kind_type acc.kind) h.0 (no_accs q b 0 (accumulators_of y)) ∙ v.is in
       let lc = length-code q k 0 y in
-      let la = ap length (sym (folds_next q k a acc accs)) ∙ length-append is (instr.Fold a ∷ rest) in
+      let la = length-append is (instr.Fold a ∷ rest) in
       let whole' : Comes e vs k st (length is + length (instr.Fold a ∷ rest)) = subst (λ m. Comes e vs k st m) la comes in
       let first : Labels e c vs k is (Some (with_known v.value st)) =
-      subst (λ o. Labels e c vs k is (pushed_on st o)) found' (labelled e c q InAggregate (reads_update q b) k 0 y (kind_type acc.kind) st refl h.0 (no_accs q b 0 (accumulators_of y)) (sole_room (need y) _ room) (omega (arith, more, some_folds_size accs)) vs (shorter e vs k st (length is) (length (instr.Fold a ∷ rest)) whole')) in
+      subst (λ o. Labels e c vs k is (pushed_on st o)) found' (labelled e c q InAggregate (reads_update q b) k 0 y (kind_type acc.kind) st refl h.0 (no_accs q b 0 (accumulators_of y)) (sole_room (need q 0 y) _ room) (omega (arith, more, some_folds_size q accs)) vs (shorter e vs k st (length is) (length (instr.Fold a ∷ rest)) whole')) in
       let comes1 = continued e c vs k is (length (instr.Fold a ∷ rest)) st (with_known v.value st) (some_code q k 0 y) (omega arith) whole' first in
       let ws1' = extended e c.ranges vs is in
       let k1 = k + length is in
@@ -242,17 +242,17 @@ module _ (q : Query) (b : Costs) where
       let comes1' = subst (λ m. Comes e ws1' k1 (with_known v.value st) m) one' comes1 in
       let second : Labels e c ws1' k1 (instr.Fold a ∷ []) (Some (behind_fold q b a st)) =
       subst (λ t. Labels e c ws1' k1 (instr.Fold a ∷ []) (if_takes t (behind_fold q b a st))) v.taken
-      (fold_one q b e k1 a v.value st acc.kind kinds.0 (unset a (length accs)) (omega arith) (omega (arith, more, lc, some_folds_size accs)) ws1' (shorter e ws1' k1 (with_known v.value st) (length (instr.Fold a ∷ [])) (length rest) comes1')) in
-      let comes2 = continued e c ws1' k1 (instr.Fold a ∷ []) (length rest) (with_known v.value st) (behind_fold q b a st) (omega arith) (some_folds q (k + size y + 1) (suc a) accs) comes1' second in
-      let place : k1 + length (instr.Fold a ∷ []) ≡ k + size y + 1 = omega (arith, lc) in
+      (fold_one q b e k1 a v.value st acc.kind kinds.0 (unset a (length accs)) (omega arith) (omega (arith, more, lc, some_folds_size q accs)) ws1' (shorter e ws1' k1 (with_known v.value st) (length (instr.Fold a ∷ [])) (length rest) comes1')) in
+      let comes2 = continued e c ws1' k1 (instr.Fold a ∷ []) (length rest) (with_known v.value st) (behind_fold q b a st) (omega arith) (some_folds q (k + size q 0 y + 1) (suc a) accs) comes1' second in
+      let place : k1 + length (instr.Fold a ∷ []) ≡ k + size q 0 y + 1 = omega (arith, lc) in
       let ws2' = extended e c.ranges ws1' (instr.Fold a ∷ []) in
-      let comes3 : Comes e ws2' (k + size y + 1) (folded_so q (suc a) (length accs)) (length rest) =
-      subst (λ fs. Comes e ws2' (k + size y + 1) (record { stack = []; folded = fs; fields = known_fields 0 q.fields }) (length rest)) (set_next a (length accs)) (subst (λ n. Comes e ws2' n (behind_fold q b a st) (length rest)) place comes2) in
+      let comes3 : Comes e ws2' (k + size q 0 y + 1) (folded_so q (suc a) (length accs)) (length rest) =
+      subst (λ fs. Comes e ws2' (k + size q 0 y + 1) (record { stack = []; folded = fs; fields = known_fields 0 q.fields }) (length rest)) (set_next a (length accs)) (subst (λ n. Comes e ws2' n (behind_fold q b a st) (length rest)) place comes2) in
       put_together e k a acc accs vs v.value (visit_is e c.ranges (instr.Fold a) ws1' k1 (with_known v.value st) comes1.long comes1.label) v.interval
-      (folds_values e (k + size y + 1) (suc a) accs ws2' h.1 kinds.1 (rest_room (need y) _ room) (omega (arith, more)) f.1 comes3)
+      (folds_values e (k + size q 0 y + 1) (suc a) accs ws2' h.1 kinds.1 (next_room (need q 0 y) _ room) (omega (arith, more)) f.1 comes3)
 
   -- into each accumulator of the program
-  pub all_values : AccsTyped q b (accumulators q) → need_of_folds (accumulators q) ≤ 32 → accs_fit q b (accumulators q) ≡ true → ValuesAt 0 (accumulators q) (update_visits (program_stating q b))
+  pub all_values : AccsTyped q b (accumulators q) → folds_need q (accumulators q) ≤ 32 → accs_fit q b (accumulators q) ≡ true → ValuesAt 0 (accumulators q) (update_visits (program_stating q b))
   all_values h room fit =
       let p = program_stating q b in
       let l = length-folds q 0 0 (accumulators q) in

@@ -13,13 +13,12 @@ use Rattle.wsm_query.specs.declared.expr.Op.{Op}
 use Rattle.wsm_query.specs.declared.expr.Op.TheVariants.{Add, Sub, Mul, Div, Rem, Eq, Ne, Lt, Le, Gt, Ge}
 use Rattle.wsm_query.specs.Tree.{Query, Expr, Number, Truth, Field, EnumName, Key, KeyName, Count, Aggregate, If, Brackets, Minus, Not, Binary, And, Or}
 use Rattle.wsm_check.specs.Names.{place_of, field_place, type_of, names_of}
-use Rattle.wsm_check.specs.Sizes.{aggregates}
+use Rattle.wsm_check.specs.Aggregates.{aggregates}
 use Rattle.wsm_rules.specs.declared.known.Known.{Known}
 use Rattle.wsm_rules.specs.declared.known.Known.TheVariants as known
 use Rattle.wsm_rules.specs.Labels.{State, pushed, narrowed_known, of_one, of_two}
 use Rattle.wsm_program.specs.Instructions.{may_stand, opposite_test}
 use Rattle.wsm_rules.specs.Rules.{Setting, types_fit, has_zero, and_then}
-use Rattle.wsm_check.specs.Tested.{tested}
 use Rattle.wsm_compiler.specs.TermCode.{instruction}
 use Rattle.wsm_compiler.specs.Code.{test_of}
 use Rattle.wsm_machine.proofs.FittingStacks.{no}
@@ -65,13 +64,13 @@ found c q fs a (KeyName x) = of_instr c (instr.PushEnum 0 (place_of x q.keys)) [
 found c q fs a Count = of_instr c instr.Count []
 found c q fs a (Aggregate kind e) = of_instr c (instr.Acc a) []
 found c q fs a (If t x y) =
-    and_then (λ b. hulled (found c q (known_true (test_of q t) fs) (a + aggregates t) x) (found c q (known_false (test_of q t) fs) (a + (aggregates t + aggregates x)) y)) (test_found (tested t) (found c q fs a t))
+    and_then (λ b. hulled (found c q (known_true (test_of q a t) fs) (a + aggregates t) x) (found c q (known_false (test_of q a t) fs) (a + (aggregates t + aggregates x)) y)) (test_found (test_of q a t) (found c q fs a t))
 found c q fs a (Brackets e) = found c q fs a e
 found c q fs a (Minus e) = and_then (λ x. of_instr c (instr.Operate operation.Neg) (x ∷ [])) (found c q fs a e)
 found c q fs a (Not e) = and_then (λ x. of_instr c (instr.Operate operation.Not) (x ∷ [])) (found c q fs a e)
 found c q fs a (Binary op x y) = and_then (λ u. and_then (λ v. of_instr c (instruction op) (v ∷ u ∷ [])) (found c q fs (a + aggregates x) y)) (found c q fs a x)
-found c q fs a (And x y) = and_then (λ b. hulled (found c q (known_true (test_of q x) fs) (a + aggregates x) y) (Some known.Truth)) (test_found (tested x) (found c q fs a x))
-found c q fs a (Or x y) = and_then (λ b. hulled (Some known.Truth) (found c q (known_false (test_of q x) fs) (a + aggregates x) y)) (test_found (tested x) (found c q fs a x))
+found c q fs a (And x y) = and_then (λ b. hulled (found c q (known_true (test_of q a x) fs) (a + aggregates x) y) (Some known.Truth)) (test_found (test_of q a x) (found c q fs a x))
+found c q fs a (Or x y) = and_then (λ b. hulled (Some known.Truth) (found c q (known_false (test_of q a x) fs) (a + aggregates x) y)) (test_found (test_of q a x) (found c q fs a x))
 
 -- ---- one instruction, with its operands on the stack
 

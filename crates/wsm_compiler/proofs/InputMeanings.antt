@@ -25,7 +25,7 @@ use Rattle.wsm_record.specs.Types.{kind_type}
 use Rattle.wsm_check.specs.Types.{declared_ty, field_ty}
 use Rattle.wsm_check.specs.declared.types.Around.{Around}
 use Rattle.wsm_check.specs.declared.types.Around.TheVariants.{InWhere, InColumn, InAggregate}
-use Rattle.wsm_check.specs.Sizes.{Acc, accumulators}
+use Rattle.wsm_check.specs.Aggregates.{Acc, accumulators}
 use Rattle.wsm_compiler.specs.Meaning.{on_record, on_accumulators}
 use Rattle.wsm_compiler.specs.Program.{program_stating}
 use Rattle.wsm_compiler.specs.Bounded.{kept}

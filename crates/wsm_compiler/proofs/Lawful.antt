@@ -1,5 +1,5 @@
 -- What reading program bytes asks holds of the program of a checked query.
-use Rattle.std.proofs.Common.{◌≡◌, ℕ, suc, ◌+◌, ◌≤◌, ◌<◌, Bool, true, false, ◌&&◌, not, List, [], ◌∷◌, ◌++◌, length, ℤ, Option, Some, None, refl, sym, ap, subst, ◌∙◌, arith, length-append}
+use Rattle.std.proofs.Common.{◌≡◌, ℕ, suc, ◌+◌, ◌≤◌, ◌<◌, Bool, true, false, ◌&&◌, not, List, [], ◌∷◌, ◌++◌, length, map, ℤ, Option, Some, None, refl, sym, ap, subst, ◌∙◌, arith, length-append}
 use Rattle.std.proofs.lemmas.List.Folds.{list_all-append}
 use Rattle.std.specs.Prelude.{pos, negsuc, int_le, nat_eq, nat_le, nat_lt}
 use Rattle.std.specs.Ordering.{int_eq}
@@ -18,28 +18,28 @@ use Rattle.wsm_program.specs.Program.{Header, is_span, is_shape, is_column, is_l
 use Rattle.wsm_record.specs.Modes.{may_write}
 use Rattle.wsm_record.specs.Schema.{FieldType, DeclaredField, is_field_type, is_field_after, are_fields_after, is_schema, source_count, is_i64, is_spelt_type, is_spelt_field}
 use Rattle.wsm_record.specs.Schema as field_types
-use Rattle.wsm_query.specs.Tree.{Name, Query, Expr, Aggregate, If, Brackets, Minus, Not, Binary, And, Or}
+use Rattle.wsm_query.specs.Tree.{Name, Query, Expr, Number, Truth, Field, EnumName, Key, KeyName, Count, Aggregate, If, Brackets, Minus, Not, Binary, And, Or}
 use Rattle.wsm_check.specs.declared.refusal.CheckFault.TheVariants.{Duplicate, Limit}
 use Rattle.wsm_check.specs.declared.refusal.Part.{Part}
 use Rattle.wsm_check.specs.declared.refusal.Part.TheVariants as part
 use Rattle.wsm_check.specs.Names.{has_repeats}
 use Rattle.wsm_check.specs.Types.{typed}
 use Rattle.wsm_check.specs.declared.types.Around.TheVariants.{InWhere, InColumn}
-use Rattle.wsm_check.specs.Sizes.{Acc, accumulators, accumulators_of, in_option, fired}
+use Rattle.wsm_check.specs.Aggregates.{Acc, accumulators, accumulators_of, in_option, fired}
 use Rattle.wsm_check.specs.Checks.{unless, first, ty_refusal, field_refusal, fields_refusal, lateness_fits, every_fits, typed_refusal, columns_refusal}
 use Rattle.wsm_compiler.specs.Code.{where_section, update_section, fire_section}
 use Rattle.wsm_check.specs.Spelt.{numbers_fit, IsSpelt}
 use Rattle.wsm_compiler.specs.Lawful.{IsLawful}
-use Rattle.wsm_check.specs.Parts.{column_type, schema_of}
+use Rattle.wsm_check.specs.Parts.{aggregates_of, column_type, folding, schema_of}
 use Rattle.wsm_compiler.specs.Program.{every, stated, needed_of, program_of}
 use Rattle.wsm_machine.proofs.FittingStacks.{no}
-use Rattle.wsm_compiler.proofs.QueryTerms.{kinds_are, all_columns}
+use Rattle.wsm_compiler.proofs.QueryTerms.{kinds_are, ended_size}
 use Rattle.wsm_compiler.proofs.Sizes.{sizes_are_lengths}
 use Rattle.wsm_compiler.proofs.KnownFields.{in_column}
 use Rattle.wsm_compiler.proofs.Passed.{Passed, passed, unless_none}
 use Rattle.wsm_compiler.proofs.Checked.{Fine, fine}
 use Rattle.wsm_compiler.proofs.DeclaredNames.{names_listed, sources_listed}
-use Rattle.wsm_compiler.proofs.Operands.{condition_numbers, condition_aggregates, columns_aggregates, operands_fit, condition_fine, folds_fine, columns_fine, columns_named}
+use Rattle.wsm_compiler.proofs.Operands.{condition_numbers, condition_aggregates, operands_fit, condition_fine, folds_fine, columns_fine, columns_named}
 use Rattle.wsm_compiler.proofs.Costs.{budget_is}
 use Rattle.wsm_check.proofs.ChecksInOrder.{passed_both}
 use Rattle.wsm_check.proofs.DeclaredSchema.{schema_lawful}
@@ -158,16 +158,16 @@ condition_numbers_is : (o : Option Expr) → list_all numbers_fit (in_option o) 
 condition_numbers_is None h = refl
 condition_numbers_is (Some e) h = (and_parts (numbers_fit e) true h).0
 
-aggregates_counted : (q : Query) (b : Costs) (es : List Expr) → length (flat_map accumulators_of (es ++ in_option q.having)) ≡ columns_aggregates q b es
-aggregates_counted q b [] = of_having q.having
+aggregates_counted : (q : Query) (es : List Expr) → length (flat_map accumulators_of (es ++ in_option q.having)) ≡ aggregates_of es + condition_aggregates q.having
+aggregates_counted q [] = of_having q.having
   where
-    of_having : (o : Option Expr) → length (flat_map accumulators_of (in_option o)) ≡ condition_aggregates o
+    of_having : (o : Option Expr) → length (flat_map accumulators_of (in_option o)) ≡ 0 + condition_aggregates o
     of_having None = refl
     of_having (Some e) = let a = length-append (accumulators_of e) [] in let l = length-accumulators_of e in omega (arith, a, l)
-aggregates_counted q b (e ∷ es) =
+aggregates_counted q (e ∷ es) =
     let a = length-append (accumulators_of e) (flat_map accumulators_of (es ++ in_option q.having)) in
     let l = length-accumulators_of e in
-    let rest = aggregates_counted q b es in
+    let rest = aggregates_counted q es in
     omega (arith, a, l, rest)
 
 -- the numbers of a condition, and of what is folded
@@ -223,7 +223,7 @@ module _ (q : Query) (passes : Passed q) (spelt : IsSpelt q) (b : Costs) (f : Fi
       let few = columns_few q 0 q.columns passes.columns (omega arith) in
       let l = length-map q.columns (column_type q) in
       let named = columns_named q b q.columns f.columns in
-      and_from (nat_le (length head.kinds) 16) (is_between 1 16 (length head.columns) && list_all (is_column head.schema) head.columns) (le-leb (length head.kinds) 16 (omega (arith, kinds_counted, passes.code.accs)))
+      and_from (nat_le (length head.kinds) 16) (is_between 1 16 (length head.columns) && list_all (is_column head.schema) head.columns) (le-leb (length head.kinds) 16 (omega (arith, kinds_counted, length-map (accumulators q) (folding q), passes.code.accs)))
       (and_from (is_between 1 16 (length head.columns)) (list_all (is_column head.schema) head.columns)
       (and_from (nat_le 1 (length head.columns)) (nat_le (length head.columns) 16) (le-leb 1 (length head.columns) (omega (arith, l, few.0))) (le-leb (length head.columns) 16 (omega (arith, l, few.1)))) named)
 
@@ -238,7 +238,7 @@ module _ (q : Query) (passes : Passed q) (spelt : IsSpelt q) (b : Costs) (f : Fi
   where_is =
       let l = (sizes_are_lengths q).0 in
       section_is head (where_section q) (omega (arith, l, passes.code.selection))
-      (condition_fine q b InWhere 0 0 q.condition f.condition (condition_numbers_is q.condition parts.0) (λ e. no (ap in_column e)) (omega (arith, passes.code.selection)))
+      (condition_fine q b InWhere 0 0 q.condition f.condition (condition_numbers_is q.condition parts.0) (λ e. no (ap in_column e)) (omega (arith, passes.code.selection, ended_size q 0 q.condition)))
 
   update_is : is_section head (update_section q) ≡ true
   update_is =
@@ -249,10 +249,9 @@ module _ (q : Query) (passes : Passed q) (spelt : IsSpelt q) (b : Costs) (f : Fi
   fire_is : is_section head (fire_section q) ≡ true
   fire_is =
       let l = (sizes_are_lengths q).2 in
-      let n = aggregates_counted q b q.columns in
+      let n = aggregates_counted q q.columns in
       section_is head (fire_section q) (omega (arith, l, passes.code.fire))
-      (subst (λ is. list_all (is_instr head) is ≡ true) (all_columns q)
-      (columns_fine q b 0 0 q.columns f.columns f.having columns_parts.0 (condition_numbers_is q.having columns_parts.1) (omega (arith, kinds_counted, n)) (omega (arith, passes.code.fire))))
+      (columns_fine q b (aggregates_of q.columns) 0 0 q.columns f.columns f.having columns_parts.0 (condition_numbers_is q.having columns_parts.1) (omega arith) (omega (arith, kinds_counted, n)) (omega (arith, passes.code.fire)))
 
 pub is_lawful : (q : Query) → IsLawful q
 unfolding is_program

@@ -1,7 +1,7 @@
 -- Fields that tests narrow: what the verifier knows of them is what they are narrowed to.
-use Rattle.std.proofs.Common.{◌≡◌, ℕ, suc, ◌+◌, Bool, true, false, ◌&&◌, ◌||◌, not, cond, List, [], ◌∷◌, ℤ, Option, Some, None, Ok, Err, refl, sym, ap, ◌∙◌, arith}
+use Rattle.std.proofs.Common.{◌≡◌, ℕ, zero, suc, ◌+◌, Bool, true, false, ◌&&◌, ◌||◌, not, cond, List, [], ◌∷◌, ℤ, Option, Some, None, Ok, Err, refl, sym, ap, ◌∙◌, arith}
 use Rattle.std.proofs.Math.Numerals.{one-add}
-use Rattle.std.specs.Prelude.{bytes_eq, is_some, neg_ℤ, option_map, slice_index_or, slice_set}
+use Rattle.std.specs.Prelude.{bytes_eq, is_some, neg_ℤ, slice_index_or, slice_set}
 use Rattle.wsm_interval.specs.declared.Comparison.{Comparison}
 use Rattle.wsm_interval.specs.Comparison.{opposite}
 use Rattle.wsm_interval.specs.Interval.{interval}
@@ -20,8 +20,9 @@ use Rattle.wsm_query.specs.Tree.{Name, Query, Expr, Binary}
 use Rattle.wsm_check.specs.declared.refusal.CheckFault.{CheckFault}
 use Rattle.wsm_check.specs.Names.{place_of, field_names, field_place, type_of}
 use Rattle.wsm_check.specs.Types.{Typed, declared_ty}
-use Rattle.wsm_check.specs.Tested.{Tested, comparison_of, field_alone, number_alone, tested}
-use Rattle.wsm_compiler.specs.Code.{field_test}
+use Rattle.wsm_check.specs.Terms.{resolved}
+use Rattle.wsm_check.specs.Tested.{comparison_of, term_field, term_number}
+use Rattle.wsm_compiler.specs.Code.{test_of}
 use Rattle.wsm_compiler.specs.Ranges.{Range, Unfit, NoNumber, Within, no_number, within, of_minus, of_type, narrowed_type, narrowed_fields, where_true, where_false, range_on, fits}
 use Rattle.wsm_machine.proofs.FittingStacks.{no}
 use Rattle.wsm_compiler.proofs.Parts.{none≢some}
@@ -39,35 +40,31 @@ pub record Narrows (q : Query) (ds : List DeclaredField) : Type 0 where
 pub as_declared : (q : Query) → Narrows q q.fields
 as_declared q = record { names = refl; type = λ x f. refl }
 
-narrowed_names : (x : Name) (o : Comparison) (n : ℤ) (ds : List DeclaredField) → field_names (narrowed_fields x o n ds) ≡ field_names ds
-narrowed_names x o n [] = refl
-narrowed_names x o n (d ∷ ds) =
-    elim (bytes_eq x d.name) as (λ b. field_names (cond b (record d { type = narrowed_type o n d.type } ∷ ds) (d ∷ narrowed_fields x o n ds)) ≡ d.name ∷ field_names ds) [
-      | true ↦ refl
-      | false ↦ ap (λ xs. d.name ∷ xs) (narrowed_names x o n ds)
-    ]
+narrowed_names : (g : ℕ) (o : Comparison) (n : ℤ) (ds : List DeclaredField) → field_names (narrowed_fields g o n ds) ≡ field_names ds
+narrowed_names g o n [] = refl
+narrowed_names zero o n (d ∷ ds) = refl
+narrowed_names (suc g) o n (d ∷ ds) = ap (λ xs. d.name ∷ xs) (narrowed_names g o n ds)
 
 narrowed_ty : (o : Comparison) (n : ℤ) (f : ℕ) (ty : FieldType) → declared_ty f (narrowed_type o n ty) ≡ declared_ty f ty
 narrowed_ty o n f (field_types.Int lo hi) = refl
 narrowed_ty o n f field_types.Truth = refl
 narrowed_ty o n f (field_types.Enum names) = refl
 
-narrowed_types : (x : Name) (o : Comparison) (n : ℤ) (y : Name) (f : ℕ) (ds : List DeclaredField) → declared_ty f (type_of y (narrowed_fields x o n ds)) ≡ declared_ty f (type_of y ds)
-narrowed_types x o n y f [] = refl
-narrowed_types x o n y f (d ∷ ds) =
-    elim (bytes_eq x d.name) as (λ b. declared_ty f (type_of y (cond b (record d { type = narrowed_type o n d.type } ∷ ds) (d ∷ narrowed_fields x o n ds))) ≡ declared_ty f (cond (bytes_eq y d.name) d.type (type_of y ds))) [
-      | true ↦ elim (bytes_eq y d.name) as (λ b. declared_ty f (cond b (narrowed_type o n d.type) (type_of y ds)) ≡ declared_ty f (cond b d.type (type_of y ds))) [ true ↦ narrowed_ty o n f d.type | false ↦ refl ]
-      | false ↦ elim (bytes_eq y d.name) as (λ b. declared_ty f (cond b d.type (type_of y (narrowed_fields x o n ds))) ≡ declared_ty f (cond b d.type (type_of y ds))) [ true ↦ refl | false ↦ narrowed_types x o n y f ds ]
-    ]
+narrowed_types : (g : ℕ) (o : Comparison) (n : ℤ) (y : Name) (f : ℕ) (ds : List DeclaredField) → declared_ty f (type_of y (narrowed_fields g o n ds)) ≡ declared_ty f (type_of y ds)
+narrowed_types g o n y f [] = refl
+narrowed_types zero o n y f (d ∷ ds) =
+    elim (bytes_eq y d.name) as (λ b. declared_ty f (cond b (narrowed_type o n d.type) (type_of y ds)) ≡ declared_ty f (cond b d.type (type_of y ds))) [ true ↦ narrowed_ty o n f d.type | false ↦ refl ]
+narrowed_types (suc g) o n y f (d ∷ ds) =
+    elim (bytes_eq y d.name) as (λ b. declared_ty f (cond b d.type (type_of y (narrowed_fields g o n ds))) ≡ declared_ty f (cond b d.type (type_of y ds))) [ true ↦ refl | false ↦ narrowed_types g o n y f ds ]
 
-narrows : {q : Query} {ds : List DeclaredField} (x : Name) (o : Comparison) (n : ℤ) → Narrows q ds → Narrows q (narrowed_fields x o n ds)
-narrows {q} {ds} x o n h = record { names = narrowed_names x o n ds ∙ h.names; type = λ y f. narrowed_types x o n y f ds ∙ h.type y f }
+narrows : {q : Query} {ds : List DeclaredField} (g : ℕ) (o : Comparison) (n : ℤ) → Narrows q ds → Narrows q (narrowed_fields g o n ds)
+narrows {q} {ds} g o n h = record { names = narrowed_names g o n ds ∙ h.names; type = λ y f. narrowed_types g o n y f ds ∙ h.type y f }
 
-pub true_narrows : {q : Query} {ds : List DeclaredField} (w : Option Tested) → Narrows q ds → Narrows q (where_true w ds)
+pub true_narrows : {q : Query} {ds : List DeclaredField} (w : Option FieldTest) → Narrows q ds → Narrows q (where_true w ds)
 true_narrows None h = h
 true_narrows (Some t) h = narrows t.field t.comparison t.number h
 
-pub false_narrows : {q : Query} {ds : List DeclaredField} (w : Option Tested) → Narrows q ds → Narrows q (where_false w ds)
+pub false_narrows : {q : Query} {ds : List DeclaredField} (w : Option FieldTest) → Narrows q ds → Narrows q (where_false w ds)
 false_narrows None h = h
 false_narrows (Some t) h = narrows t.field (opposite t.comparison) t.number h
 
@@ -132,45 +129,35 @@ narrowed_is f x (field_types.Int lo hi) = refl
 narrowed_is f x field_types.Truth = refl
 narrowed_is f x (field_types.Enum names) = refl
 
-set_known : (k : ℕ) (ds : List DeclaredField) (name : Name) (x : FieldTest) → x.field ≡ field_place ds name →
-    known_true (Some x) (known_fields k ds) ≡ known_fields k (narrowed_fields name x.comparison x.number ds)
-set_known k [] name x h = refl
-set_known k (d ∷ ds) name x h =
-    elim (bytes_eq name d.name) as (λ b. bytes_eq name d.name ≡ b → known_true (Some x) (known_fields k (d ∷ ds)) ≡ known_fields k (cond b (record d { type = narrowed_type x.comparison x.number d.type } ∷ ds) (d ∷ narrowed_fields name x.comparison x.number ds))) [
-      | true ↦ λ e.
-          let place : x.field ≡ 0 = h ∙ ap (λ b. cond (not b) (1 + field_place ds name) 0) e in
-          ap (λ p. slice_set (known_fields k (d ∷ ds)) p (narrowed_known x (slice_index_or (known_fields k (d ∷ ds)) p known.Truth))) place ∙ ap (λ y. y ∷ known_fields (suc k) ds) (narrowed_is k x d.type)
-      | false ↦ λ e.
-          let more : 1 + field_place ds name ≡ suc (field_place ds name) = omega arith in
-          let place : x.field ≡ suc (field_place ds name) = h ∙ ap (λ b. cond (not b) (1 + field_place ds name) 0) e ∙ more in
-          ap (λ p. slice_set (known_fields k (d ∷ ds)) p (narrowed_known x (slice_index_or (known_fields k (d ∷ ds)) p known.Truth))) place
-          ∙ ap (λ ys. known_field k d.type ∷ ys) (set_known (suc k) ds name (record x { field = field_place ds name }) refl)
-    ] refl
+set_known : (k : ℕ) (ds : List DeclaredField) (g : ℕ) (o : Comparison) (n : ℤ) → known_true (Some (record { field = g; comparison = o; number = n })) (known_fields k ds) ≡ known_fields k (narrowed_fields g o n ds)
+set_known k [] g o n = refl
+set_known k (d ∷ ds) zero o n = ap (λ y. y ∷ known_fields (suc k) ds) (narrowed_is k (record { field = 0; comparison = o; number = n }) d.type)
+set_known k (d ∷ ds) (suc g) o n = ap (λ ys. known_field k d.type ∷ ys) (set_known (suc k) ds g o n)
 
-pub true_known : (q : Query) (w : Option Tested) (ds : List DeclaredField) → Narrows q ds → known_true (option_map (field_test q) w) (known_fields 0 ds) ≡ known_fields 0 (where_true w ds)
-true_known q None ds n = refl
-true_known q (Some t) ds n = set_known 0 ds t.field (field_test q t) (ap (place_of t.field) (sym n.names))
+pub true_known : (w : Option FieldTest) (ds : List DeclaredField) → known_true w (known_fields 0 ds) ≡ known_fields 0 (where_true w ds)
+true_known None ds = refl
+true_known (Some t) ds = set_known 0 ds t.field t.comparison t.number
 
-pub false_known : (q : Query) (w : Option Tested) (ds : List DeclaredField) → Narrows q ds → known_false (option_map (field_test q) w) (known_fields 0 ds) ≡ known_fields 0 (where_false w ds)
-false_known q None ds n = refl
-false_known q (Some t) ds n = set_known 0 ds t.field (record { field = field_place q.fields t.field; comparison = opposite t.comparison; number = t.number }) (ap (place_of t.field) (sym n.names))
+pub false_known : (w : Option FieldTest) (ds : List DeclaredField) → known_false w (known_fields 0 ds) ≡ known_fields 0 (where_false w ds)
+false_known None ds = refl
+false_known (Some t) ds = set_known 0 ds t.field (opposite t.comparison) t.number
 
 -- ---- a test fits
 
-field_fits : (q : Query) (ds : List DeclaredField) (e : Expr) (x : Name) → field_alone e ≡ Some x → fits (range_on q ds e) ≡ true
-field_fits q ds e x h = of_field (λ e. fits (range_on q ds e) ≡ true) (λ e p. p) x (any_type (type_of x ds)) e h
+field_fits : (q : Query) (ds : List DeclaredField) (a : ℕ) (e : Expr) (f : ℕ) → term_field (resolved q a e) ≡ Some f → fits (range_on q ds e) ≡ true
+field_fits q ds a e f h = of_field q (λ e. fits (range_on q ds e) ≡ true) (λ e p. p) f (λ x is. any_type (type_of x ds)) a e h
   where
     any_type : (ty : FieldType) → fits (of_type ty) ≡ true
     any_type (field_types.Int lo hi) = refl
     any_type field_types.Truth = refl
     any_type (field_types.Enum names) = refl
 
-number_fits : (q : Query) (ds : List DeclaredField) (e : Expr) (n : ℤ) → number_alone e ≡ Some n → fits (range_on q ds e) ≡ true
-number_fits q ds e n h =
-    of_number (λ e. fits (range_on q ds e) ≡ true) (λ e p. p) n refl
-    (λ e m is word same.
-    ap (λ r. fits (of_minus r)) (of_plain (λ e. range_on q ds e ≡ Within (interval m m)) (λ e p. p) m refl e is)
-    ∙ ap (λ b. fits (within (cond (b && b) (Some (interval (neg_ℤ m) (neg_ℤ m))) None))) word) e h
+number_fits : (q : Query) (ds : List DeclaredField) (a : ℕ) (e : Expr) (n : ℤ) → term_number (resolved q a e) ≡ Some n → fits (range_on q ds e) ≡ true
+number_fits q ds a e n h =
+    of_number q (λ e. fits (range_on q ds e) ≡ true) (λ e p. p) n refl
+    (λ b e m is word same.
+    ap (λ r. fits (of_minus r)) (of_plain q (λ e. range_on q ds e ≡ Within (interval m m)) (λ e p. p) m refl b e is)
+    ∙ ap (λ b. fits (within (cond (b && b) (Some (interval (neg_ℤ m) (neg_ℤ m))) None))) word) a e h
 
 both_fit : (r p : Range) → fits r ≡ true → fits p ≡ true → fits (no_number r p) ≡ true
 both_fit Unfit p h l = no h
@@ -194,13 +181,13 @@ compared q ds x y Le o e a b = both_fit (range_on q ds x) (range_on q ds y) a b
 compared q ds x y Gt o e a b = both_fit (range_on q ds x) (range_on q ds y) a b
 compared q ds x y Ge o e a b = both_fit (range_on q ds x) (range_on q ds y) a b
 
-pub tested_fits : (q : Query) (ds : List DeclaredField) (e : Expr) (t : Tested) → tested e ≡ Some t → fits (range_on q ds e) ≡ true
-tested_fits q ds e t h =
-    of_test (λ e. fits (range_on q ds e) ≡ true) (λ e p. p) t
-    (λ op x y p. compared q ds x y op t.comparison p.comparison (field_fits q ds x t.field p.field) (number_fits q ds y t.number p.number)) e h
+pub tested_fits : (q : Query) (ds : List DeclaredField) (a : ℕ) (e : Expr) (t : FieldTest) → test_of q a e ≡ Some t → fits (range_on q ds e) ≡ true
+tested_fits q ds a e t h =
+    of_test q (λ e. fits (range_on q ds e) ≡ true) (λ e p. p) t
+    (λ a b op x y p. compared q ds x y op t.comparison p.comparison (field_fits q ds a x t.field p.field) (number_fits q ds b y t.number p.number)) a e h
 
 -- what follows a test is found alike, whether its jump makes it or not
-pub test_hulled : (w : Option Tested) (o y : Option Known) → ((t : Tested) → w ≡ Some t → is_some o ≡ true) → and_then (λ v. y) (test_found w o) ≡ and_then (λ v. y) o
+pub test_hulled : (w : Option FieldTest) (o y : Option Known) → ((t : FieldTest) → w ≡ Some t → is_some o ≡ true) → and_then (λ v. y) (test_found w o) ≡ and_then (λ v. y) o
 test_hulled None o y h = refl
 test_hulled (Some t) None y h = no (h t refl)
 test_hulled (Some t) (Some u) y h = refl

@@ -1,7 +1,7 @@
 -- The operands of generated code name what the program has.
 use Rattle.std.proofs.Common.{◌≡◌, ℕ, suc, ◌+◌, ◌≤◌, ◌<◌, Bool, true, false, ◌&&◌, List, [], ◌∷◌, ◌++◌, length, map, Option, Some, None, Ok, refl, sym, ap, subst, ◌∙◌, arith}
 use Rattle.std.proofs.lemmas.List.Folds.{list_all-append}
-use Rattle.std.specs.Prelude.{ℤ, is_some, nat_lt, option_map, slice_get}
+use Rattle.std.specs.Prelude.{ℤ, is_some, nat_lt, slice_get}
 use Rattle.std.specs.List.{list_all}
 use Rattle.std.proofs.lemmas.Bool.{and_from, lt-ltb, and_parts}
 use Rattle.wsm_record.specs.declared.words.Kind.{Kind}
@@ -24,13 +24,15 @@ use Rattle.wsm_record.specs.Types.{is_type, kind_type}
 use Rattle.wsm_check.specs.Types.{wanted, if_typed, declared_ty, op_ty, typed}
 use Rattle.wsm_check.specs.declared.types.Around.{Around}
 use Rattle.wsm_check.specs.declared.types.Around.TheVariants.{InColumn, InAggregate}
-use Rattle.wsm_check.specs.Sizes.{Acc, aggregates, size, condition_size, folds_size, columns_size}
+use Rattle.wsm_check.specs.Aggregates.{Acc, aggregates}
 use Rattle.wsm_compiler.specs.TermCode.{choice, test_code, jump_unless, instruction}
-use Rattle.wsm_compiler.specs.Code.{code, field_test, condition_code, folds, columns_code}
-use Rattle.wsm_compiler.proofs.QueryTerms.{if_code, and_code, or_code, binary_code, folds_next, columns_end, columns_next}
-use Rattle.wsm_check.specs.Tested.{Tested, number_alone, tested, unless_tested}
+use Rattle.wsm_compiler.specs.Code.{code, size, test_of, condition_code, folds, columns_code}
+use Rattle.wsm_compiler.proofs.QueryTerms.{condition_size, ended_size, folds_size, columns_size}
+use Rattle.wsm_check.specs.Terms.{resolved}
+use Rattle.wsm_check.specs.Tested.{term_number, unless_tested}
+use Rattle.wsm_program.specs.declared.instr.FieldTest.{FieldTest}
 use Rattle.wsm_check.specs.Spelt.{numbers_fit}
-use Rattle.wsm_check.specs.Parts.{column_type, type_or_int}
+use Rattle.wsm_check.specs.Parts.{aggregates_of, column_type, type_or_int}
 use Rattle.wsm_compiler.specs.Program.{program_stating}
 use Rattle.wsm_machine.proofs.FittingStacks.{no}
 use Rattle.wsm_compiler.proofs.FoundRanges.{ok_is, result_of}
@@ -55,11 +57,12 @@ operands_fit accs = list_all (λ acc. numbers_fit acc.operand) accs
 
 -- ---- tests
 
-number_fine : (e : Expr) (n : ℤ) → number_alone e ≡ Some n → numbers_fit e ≡ true → is_i64 n ≡ true
-number_fine e n h = of_number (λ e. numbers_fit e ≡ true → is_i64 n ≡ true) (λ e p. p) n (λ l. l) (λ e m is word same l. ap is_i64 (sym same) ∙ word) e h
+number_fine : (q : Query) (a : ℕ) (e : Expr) (n : ℤ) → term_number (resolved q a e) ≡ Some n → numbers_fit e ≡ true → is_i64 n ≡ true
+number_fine q a e n h = of_number q (λ e. numbers_fit e ≡ true → is_i64 n ≡ true) (λ e p. p) n (λ l. l) (λ b e m is word same l. ap is_i64 (sym same) ∙ word) a e h
 
-tested_number : (e : Expr) (t : Tested) → tested e ≡ Some t → numbers_fit e ≡ true → is_i64 t.number ≡ true
-tested_number e t h = of_test (λ e. numbers_fit e ≡ true → is_i64 t.number ≡ true) (λ e p. p) t (λ op x y p l. number_fine y t.number p.number (and_parts (numbers_fit x) (numbers_fit y) l).1) e h
+tested_number : (q : Query) (a : ℕ) (e : Expr) (t : FieldTest) → test_of q a e ≡ Some t → numbers_fit e ≡ true → is_i64 t.number ≡ true
+tested_number q a e t h =
+    of_test q (λ e. numbers_fit e ≡ true → is_i64 t.number ≡ true) (λ e p. p) t (λ a b op x y p l. number_fine q b y t.number p.number (and_parts (numbers_fit x) (numbers_fit y) l).1) a e h
 
 number_type : (f : ℕ) (ty : FieldType) → declared_ty f ty ≡ types.Int → is_number_type ty ≡ true
 number_type f (field_types.Int lo hi) h = refl
@@ -162,26 +165,27 @@ module _ (q : Query) (b : Costs) where
       (fine_both first (j2 ∷ second) h (and_from (is_instr head j2) (list_all (is_instr head) second) (lt-ltb (k + m + 1 + n) 65536 room) l))
 
   -- a field that a test names is one of numbers, and the test's number has 64 bits
-  test_fine : (around : Around) (e : Expr) → typed q around e ≡ Ok types.Bool → numbers_fit e ≡ true → (t : Tested) → tested e ≡ Some t → is_test head (field_test q t) ≡ true
-  test_fine around e h l t is =
-      let ty = tested_int q around e types.Bool t is h in
-      and_from (is_number_field (slice_get q.fields (field_place q.fields t.field))) (is_i64 t.number)
-      (number_there q.fields t.field (declared q around t.field types.Int ty) ∙ number_type (field_place q.fields t.field) (type_of t.field q.fields) (field_is q around t.field types.Int ty))
-      (tested_number e t is l)
+  test_fine : (around : Around) (a : ℕ) (e : Expr) → typed q around e ≡ Ok types.Bool → numbers_fit e ≡ true → (t : FieldTest) → test_of q a e ≡ Some t → is_test head t ≡ true
+  test_fine around a e h l t is =
+      let f = tested_int q around a e types.Bool t is h in
+      let x = f.name in
+      and_from (is_number_field (slice_get q.fields t.field)) (is_i64 t.number)
+      (ap (λ n. is_number_field (slice_get q.fields n)) (sym f.place) ∙ number_there q.fields x (declared q around x types.Int f.type) ∙ number_type (field_place q.fields x) (type_of x q.fields) (field_is q around x types.Int f.type))
+      (tested_number q a e t is l)
 
   -- a test and the parts behind it
-  tested_fine : (w : Option Tested) (is : List Instr) (k : ℕ) (first : List Instr) (m : ℕ) (second : List Instr) (n : ℕ) → ((t : Tested) → w ≡ Some t → is_test head (field_test q t) ≡ true) → (w ≡ None → AllFine is) →
-      AllFine first → AllFine second → k + m + 1 + n < 65536 → AllFine (test_code w is ++ choice (jump_unless (option_map (field_test q) w)) k first m second n)
+  tested_fine : (w : Option FieldTest) (is : List Instr) (k : ℕ) (first : List Instr) (m : ℕ) (second : List Instr) (n : ℕ) → ((t : FieldTest) → w ≡ Some t → is_test head t ≡ true) → (w ≡ None → AllFine is) →
+      AllFine first → AllFine second → k + m + 1 + n < 65536 → AllFine (test_code w is ++ choice (jump_unless w) k first m second n)
   tested_fine None is k first m second n named test h l room =
       fine_both is (choice instr.JumpIfFalse k first m second n) (test refl) (choice_fine instr.JumpIfFalse k first m second n (lt-ltb (k + m + 1) 65536 (omega (arith, room))) h l room)
   tested_fine (Some t) is k first m second n named test h l room =
-      choice_fine (instr.Test (field_test q t)) k first m second n (and_from (is_test head (field_test q t)) (nat_lt (k + m + 1) 65536) (named t refl) (lt-ltb (k + m + 1) 65536 (omega (arith, room)))) h l room
+      choice_fine (instr.Test t) k first m second n (and_from (is_test head t) (nat_lt (k + m + 1) 65536) (named t refl) (lt-ltb (k + m + 1) 65536 (omega (arith, room)))) h l room
 
   -- in a column there is an accumulator for each aggregate
   abbrev Room : Around → ℕ → Expr → Type 0
   Room around a e = around ≡ InColumn → a + aggregates e ≤ length head.kinds
 
-  code_fine : (around : Around) (k a : ℕ) (e : Expr) (t : CellType) → typed q around e ≡ Ok t → numbers_fit e ≡ true → Room around a e → k + size e < 65536 → AllFine (code q k a e)
+  code_fine : (around : Around) (k a : ℕ) (e : Expr) (t : CellType) → typed q around e ≡ Ok t → numbers_fit e ≡ true → Room around a e → k + size q a e < 65536 → AllFine (code q k a e)
   code_fine around k a (Number n) t h l accs room = fine_one (instr.PushInt n) l
   code_fine around k a (Truth v) t h l accs room = refl
   code_fine around k a (Field x) t h l accs room = fine_one (instr.Field (field_place q.fields x)) (field_below q.fields x (declared q around x t h))
@@ -201,14 +205,14 @@ module _ (q : Query) (b : Costs) where
       let p = if_types q around c x y t h in
       let f = and_parts (numbers_fit c) (numbers_fit x && numbers_fit y) l in
       let g = and_parts (numbers_fit x) (numbers_fit y) f.1 in
-      let j = k + unless_tested (tested c) (size c) + 1 in
+      let b = a + aggregates c in
+      let j = k + unless_tested (test_of q a c) (size q a c) + 1 in
       let d = a + (aggregates c + aggregates x) in
-      subst AllFine (if_code q k a c x y)
-      (tested_fine (tested c) (code q k a c) j (code q j (a + aggregates c) x) (size x) (code q (j + size x + 1) d y) (size y) (test_fine around c p.test_is f.0)
-      (λ none. code_fine around k a c types.Bool p.test_is f.0 (λ e. let n = accs e in omega (arith, n)) (omega (arith, room, ap (λ v. unless_tested v (size c)) none)))
-      (code_fine around j (a + aggregates c) x t p.first_is g.0 (λ e. let n = accs e in omega (arith, n)) (omega (arith, room)))
-      (code_fine around (j + size x + 1) d y t p.second_is g.1 (λ e. let n = accs e in omega (arith, n)) (omega (arith, room)))
-      (omega (arith, room)))
+      tested_fine (test_of q a c) (code q k a c) j (code q j b x) (size q b x) (code q (j + size q b x + 1) d y) (size q d y) (test_fine around a c p.test_is f.0)
+      (λ none. code_fine around k a c types.Bool p.test_is f.0 (λ e. let n = accs e in omega (arith, n)) (omega (arith, room, ap (λ v. unless_tested v (size q a c)) none)))
+      (code_fine around j b x t p.first_is g.0 (λ e. let n = accs e in omega (arith, n)) (omega (arith, room)))
+      (code_fine around (j + size q b x + 1) d y t p.second_is g.1 (λ e. let n = accs e in omega (arith, n)) (omega (arith, room)))
+      (omega (arith, room))
   code_fine around k a (Brackets e) t h l accs room = code_fine around k a e t h l accs room
   code_fine around k a (Minus e) t h l accs room =
       fine_both (code q k a e) (instr.Operate operation.Neg ∷ []) (code_fine around k a e types.Int (unary_is q around e types.Int t h).0 l accs (omega (arith, room))) refl
@@ -217,56 +221,50 @@ module _ (q : Query) (b : Costs) where
   code_fine around k a (Binary op x y) t h l accs room =
       let p = two_types q around x y (op_ty op) t h in
       let f = and_parts (numbers_fit x) (numbers_fit y) l in
-      let right = code q (k + size x) (a + aggregates x) y in
-      subst AllFine (binary_code q k a op x y)
-      (fine_both (code q k a x) (right ++ instruction op ∷ []) (code_fine around k a x p.left p.left_is f.0 (λ e. let n = accs e in omega (arith, n)) (omega (arith, room)))
-      (fine_both right (instruction op ∷ []) (code_fine around (k + size x) (a + aggregates x) y p.right p.right_is f.1 (λ e. let n = accs e in omega (arith, n)) (omega (arith, room)))
-      refl))
+      let right = code q (k + size q a x) (a + aggregates x) y in
+      fine_both (code q k a x) (right ++ instruction op ∷ []) (code_fine around k a x p.left p.left_is f.0 (λ e. let n = accs e in omega (arith, n)) (omega (arith, room)))
+      (fine_both right (instruction op ∷ []) (code_fine around (k + size q a x) (a + aggregates x) y p.right p.right_is f.1 (λ e. let n = accs e in omega (arith, n)) (omega (arith, room)))
+      refl)
   code_fine around k a (And x y) t h l accs room =
       let p = logic_types q around x y t h in
       let f = and_parts (numbers_fit x) (numbers_fit y) l in
-      let j = k + unless_tested (tested x) (size x) + 1 in
-      let first = code q j (a + aggregates x) y in
-      subst AllFine (and_code q k a x y)
-      (tested_fine (tested x) (code q k a x) j first (size y) (instr.PushBool false ∷ []) 1 (test_fine around x p.left_is f.0)
-      (λ none. code_fine around k a x types.Bool p.left_is f.0 (λ e. let n = accs e in omega (arith, n)) (omega (arith, room, ap (λ v. unless_tested v (size x)) none)))
-      (code_fine around j (a + aggregates x) y types.Bool p.right_is f.1 (λ e. let n = accs e in omega (arith, n)) (omega (arith, room))) refl (omega (arith, room)))
+      let b = a + aggregates x in
+      let j = k + unless_tested (test_of q a x) (size q a x) + 1 in
+      let first = code q j b y in
+      tested_fine (test_of q a x) (code q k a x) j first (size q b y) (instr.PushBool false ∷ []) 1 (test_fine around a x p.left_is f.0)
+      (λ none. code_fine around k a x types.Bool p.left_is f.0 (λ e. let n = accs e in omega (arith, n)) (omega (arith, room, ap (λ v. unless_tested v (size q a x)) none)))
+      (code_fine around j b y types.Bool p.right_is f.1 (λ e. let n = accs e in omega (arith, n)) (omega (arith, room))) refl (omega (arith, room))
   code_fine around k a (Or x y) t h l accs room =
       let p = logic_types q around x y t h in
       let f = and_parts (numbers_fit x) (numbers_fit y) l in
-      let j = k + unless_tested (tested x) (size x) + 1 in
-      let second = code q (j + 1 + 1) (a + aggregates x) y in
-      subst AllFine (or_code q k a x y)
-      (tested_fine (tested x) (code q k a x) j (instr.PushBool true ∷ []) 1 second (size y) (test_fine around x p.left_is f.0)
-      (λ none. code_fine around k a x types.Bool p.left_is f.0 (λ e. let n = accs e in omega (arith, n)) (omega (arith, room, ap (λ v. unless_tested v (size x)) none)))
-      refl (code_fine around (j + 1 + 1) (a + aggregates x) y types.Bool p.right_is f.1 (λ e. let n = accs e in omega (arith, n)) (omega (arith, room))) (omega (arith, room)))
+      let b = a + aggregates x in
+      let j = k + unless_tested (test_of q a x) (size q a x) + 1 in
+      let second = code q (j + 1 + 1) b y in
+      tested_fine (test_of q a x) (code q k a x) j (instr.PushBool true ∷ []) 1 second (size q b y) (test_fine around a x p.left_is f.0)
+      (λ none. code_fine around k a x types.Bool p.left_is f.0 (λ e. let n = accs e in omega (arith, n)) (omega (arith, room, ap (λ v. unless_tested v (size q a x)) none)))
+      refl (code_fine around (j + 1 + 1) b y types.Bool p.right_is f.1 (λ e. let n = accs e in omega (arith, n)) (omega (arith, room))) (omega (arith, room))
 
   -- ---- sections
 
-  pub condition_fine : (around : Around) (k a : ℕ) (o : Option Expr) → ConditionTyped q around o → condition_numbers o ≡ true → (around ≡ InColumn → a + condition_aggregates o ≤ length head.kinds) → k + condition_size o < 65536 →
+  pub condition_fine : (around : Around) (k a : ℕ) (o : Option Expr) → ConditionTyped q around o → condition_numbers o ≡ true → (around ≡ InColumn → a + condition_aggregates o ≤ length head.kinds) → k + condition_size q a o < 65536 →
       AllFine (condition_code q k a o ++ instr.Return ∷ [])
   condition_fine around k a None h l accs room = refl
   condition_fine around k a (Some e) h l accs room = fine_both (code q k a e) (instr.Return ∷ []) (code_fine around k a e types.Bool h l accs room) refl
 
-  pub folds_fine : (k a : ℕ) (accs : List Acc) → AccsTyped q b accs → operands_fit accs ≡ true → a + length accs ≤ length head.kinds → k + folds_size accs < 65536 → AllFine (folds q k a accs)
+  pub folds_fine : (k a : ℕ) (accs : List Acc) → AccsTyped q b accs → operands_fit accs ≡ true → a + length accs ≤ length head.kinds → k + folds_size q accs < 65536 → AllFine (folds q k a accs)
   folds_fine k a [] h l n room = refl
   folds_fine k a (acc ∷ accs) h l n room =
       let e = acc.operand in
       let p = and_parts (numbers_fit e) (operands_fit accs) l in
-      let rest = folds q (k + size e + 1) (suc a) accs in
-      subst AllFine (folds_next q k a acc accs)
-      (fine_both (code q k 0 e) (instr.Fold a ∷ rest) (code_fine InAggregate k 0 e (kind_type acc.kind) h.0 p.0 (λ e. no (ap in_column e)) (omega (arith, room)))
-      (and_from (is_instr head (instr.Fold a)) (list_all (is_instr head) rest) (lt-ltb a (length head.kinds) (omega (arith, n))) (folds_fine (k + size e + 1) (suc a) accs h.1 p.1 (omega (arith, n)) (omega (arith, room)))))
+      let rest = folds q (k + size q 0 e + 1) (suc a) accs in
+      fine_both (code q k 0 e) (instr.Fold a ∷ rest) (code_fine InAggregate k 0 e (kind_type acc.kind) h.0 p.0 (λ e. no (ap in_column e)) (omega (arith, room)))
+      (and_from (is_instr head (instr.Fold a)) (list_all (is_instr head) rest) (lt-ltb a (length head.kinds) (omega (arith, n))) (folds_fine (k + size q 0 e + 1) (suc a) accs h.1 p.1 (omega (arith, n)) (omega (arith, room))))
 
-  abbrev pub columns_aggregates : List Expr → ℕ
-  columns_aggregates [] = condition_aggregates q.having
-  columns_aggregates (e ∷ es) = aggregates e + columns_aggregates es
-
-  pub columns_fine : (k a : ℕ) (es : List Expr) → ColumnsTyped q es → ConditionTyped q InColumn q.having → list_all numbers_fit es ≡ true → condition_numbers q.having ≡ true → a + columns_aggregates es ≤ length head.kinds →
-      k + columns_size q.having es < 65536 → AllFine (columns_code q k a es)
-  columns_fine k a [] h having l m n room = subst AllFine (columns_end q k a) (condition_fine InColumn k a q.having having m (λ e. n) (omega (arith, room)))
-  columns_fine k a (e ∷ es) h having l m n room =
+  -- HAVING's aggregates are behind those of the columns
+  pub columns_fine : (h k a : ℕ) (es : List Expr) → ColumnsTyped q es → ConditionTyped q InColumn q.having → list_all numbers_fit es ≡ true → condition_numbers q.having ≡ true → a + aggregates_of es ≤ h →
+      h + condition_aggregates q.having ≤ length head.kinds → k + columns_size q h a es < 65536 → AllFine (columns_code q h k a es)
+  columns_fine h k a [] hc having l m before n room = condition_fine InColumn k h q.having having m (λ e. n) (omega (arith, room, ended_size q h q.having))
+  columns_fine h k a (e ∷ es) hc having l m before n room =
       let p = and_parts (numbers_fit e) (list_all numbers_fit es) l in
-      subst AllFine (columns_next q k a e es)
-      (fine_both (code q k a e) (columns_code q (k + size e) (a + aggregates e) es)
-      (code_fine InColumn k a e h.0.0 h.0.1 p.0 (λ c. omega (arith, n)) (omega (arith, room))) (columns_fine (k + size e) (a + aggregates e) es h.1 having p.1 m (omega (arith, n)) (omega (arith, room))))
+      fine_both (code q k a e) (columns_code q h (k + size q a e) (a + aggregates e) es)
+      (code_fine InColumn k a e hc.0.0 hc.0.1 p.0 (λ c. omega (arith, before, n)) (omega (arith, room))) (columns_fine h (k + size q a e) (a + aggregates e) es hc.1 having p.1 m (omega (arith, before)) n (omega (arith, room)))

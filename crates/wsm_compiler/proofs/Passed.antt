@@ -1,19 +1,21 @@
 -- The checks that a query passed, one by one.
-use Rattle.std.proofs.Common.{◌≡◌, ◌≤◌, ◌*◌, Bool, true, false, ◌&&◌, [], ◌∷◌, length, Option, Some, None, refl, sym, ap, arith}
+use Rattle.std.proofs.Common.{◌≡◌, ℕ, ◌≤◌, ◌*◌, Bool, true, false, ◌&&◌, [], ◌∷◌, length, Option, Some, None, refl, sym, ap, arith}
 use Rattle.std.specs.Prelude.{nat_le}
-use Rattle.std.proofs.lemmas.Bool.{and_parts}
 use Rattle.wsm_record.specs.Modes.{may_write}
 use Rattle.wsm_windows.specs.Life.{live_bound}
 use Rattle.wsm_windows.specs.Limits.{is_shape}
 use Rattle.wsm_query.specs.Tree.{Query}
 use Rattle.wsm_check.specs.declared.refusal.CheckFault.{CheckFault}
-use Rattle.wsm_check.specs.declared.refusal.CheckFault.TheVariants.{Limit, SessionLateness, StreamNeedsAccumulating}
+use Rattle.wsm_check.specs.declared.refusal.CheckFault.TheVariants.{Limit, Exceeds, SessionLateness, StreamNeedsAccumulating}
 use Rattle.wsm_check.specs.declared.refusal.Part.{Part}
 use Rattle.wsm_check.specs.declared.refusal.Part.TheVariants as part
 use Rattle.wsm_check.specs.declared.refusal.CheckRefusal.{CheckRefusal}
-use Rattle.wsm_check.specs.Sizes.{accumulators, where_size, update_size, fire_size, stack_need}
+use Rattle.wsm_check.specs.declared.refusal.CodeLimit.{CodeLimit}
+use Rattle.wsm_check.specs.declared.refusal.CodeLimit.TheVariants.{Accumulators, Where, Update, Fire, Stack, Panes}
+use Rattle.wsm_check.specs.Parts.{parts_of}
+use Rattle.wsm_check.specs.Sizes.{where_size, update_size, fire_size, stack_need, counted}
 use Rattle.wsm_check.specs.declared.types.Around.TheVariants.{InWhere, InColumn}
-use Rattle.wsm_check.specs.Checks.{unless, first, names_refusal, fields_refusal, sources_refusal, clock_fits, budget_fits, lateness_fits, every_fits, condition_refusal, columns_refusal, code_fits, declared_refusal, numbers_refusal, expressions_refusal, IsChecked}
+use Rattle.wsm_check.specs.Checks.{unless, first, names_refusal, fields_refusal, sources_refusal, clock_fits, budget_fits, lateness_fits, every_fits, condition_refusal, columns_refusal, exceeds, foldings_refusal, sizes_refusal, declared_refusal, numbers_refusal, expressions_refusal, rest_refusal, IsChecked}
 use Rattle.wsm_machine.proofs.FittingStacks.{no}
 use Rattle.wsm_check.proofs.ChecksInOrder.{passed_both}
 
@@ -25,34 +27,41 @@ pub unless_none : (b : Bool) (f : CheckFault) (p : Part) → unless b f p ≡ No
 unless_none true f p h = refl
 unless_none false f p h = no (sym (ap is_refusal h))
 
-is_at_most : (m n : _) → nat_le m n ≡ true → m ≤ n
-is_at_most m n h = grind arith
+-- a number within a limit, as it is and as the code counts it
+is_at_most : (l : CodeLimit) (m n : ℕ) → exceeds l m n ≡ None → m ≤ n
+is_at_most l m n h = let e = unless_none (nat_le m n) (Exceeds l m n) part.Code h in grind (arith, e)
+
+counts_at_most : (l : CodeLimit) (m n : ℕ) → n ≤ 100000 → exceeds l (counted m) n ≡ None → m ≤ n
+counts_at_most l m n few h = let e = is_at_most l (counted m) n h in omega (arith, e, few)
 
 -- how large the code is, and how many panes there may be
 pub record CodeFits (q : Query) : Type 0 where
-  pub accs : length (accumulators q) ≤ 16
+  pub accs : length (parts_of q).foldings ≤ 16
   pub selection : where_size q ≤ 1000
   pub update : update_size q ≤ 1000
   pub fire : fire_size q ≤ 1000
   pub stack : stack_need q ≤ 32
   pub held : length q.keys * live_bound q.shape q.skew q.lateness ≤ 100000
 
-code_fits_in : (q : Query) → code_fits q ≡ true → CodeFits q
-code_fits_in q fits =
-    let held = nat_le (length q.keys * live_bound q.shape q.skew q.lateness) 100000 in
-    let stack = nat_le (stack_need q) 32 in
-    let f1 = and_parts (nat_le (length (accumulators q)) 16) (nat_le (where_size q) 1000 && (nat_le (update_size q) 1000 && (nat_le (fire_size q) 1000 && (stack && held)))) fits in
-    let f2 = and_parts (nat_le (where_size q) 1000) (nat_le (update_size q) 1000 && (nat_le (fire_size q) 1000 && (stack && held))) f1.1 in
-    let f3 = and_parts (nat_le (update_size q) 1000) (nat_le (fire_size q) 1000 && (stack && held)) f2.1 in
-    let f4 = and_parts (nat_le (fire_size q) 1000) (stack && held) f3.1 in
-    let f5 = and_parts stack held f4.1 in
+code_fits_in : (q : Query) → foldings_refusal (parts_of q) ≡ None → sizes_refusal (parts_of q) ≡ None → CodeFits q
+code_fits_in q few fits =
+    let panes = length q.keys * live_bound q.shape q.skew q.lateness in
+    let h = exceeds Panes (counted panes) 100000 in
+    let s = exceeds Stack (counted (stack_need q)) 32 in
+    let f = exceeds Fire (counted (fire_size q)) 1000 in
+    let u = exceeds Update (counted (update_size q)) 1000 in
+    let f1 = passed_both (exceeds Where (counted (where_size q)) 1000) (first (u ∷ f ∷ s ∷ h ∷ [])) fits in
+    let f2 = passed_both u (first (f ∷ s ∷ h ∷ [])) f1.1 in
+    let f3 = passed_both f (first (s ∷ h ∷ [])) f2.1 in
+    let f4 = passed_both s (first (h ∷ [])) f3.1 in
+    let f5 = passed_both h None f4.1 in
     record {
-      accs = is_at_most (length (accumulators q)) 16 f1.0;
-      selection = is_at_most (where_size q) 1000 f2.0;
-      update = is_at_most (update_size q) 1000 f3.0;
-      fire = is_at_most (fire_size q) 1000 f4.0;
-      stack = is_at_most (stack_need q) 32 f5.0;
-      held = is_at_most (length q.keys * live_bound q.shape q.skew q.lateness) 100000 f5.1;
+      accs = is_at_most Accumulators (length (parts_of q).foldings) 16 few;
+      selection = counts_at_most Where (where_size q) 1000 (omega arith) f1.0;
+      update = counts_at_most Update (update_size q) 1000 (omega arith) f2.0;
+      fire = counts_at_most Fire (fire_size q) 1000 (omega arith) f3.0;
+      stack = counts_at_most Stack (stack_need q) 32 (omega arith) f4.0;
+      held = counts_at_most Panes panes 100000 (omega arith) f5.0;
     }
 
 pub record Passed (q : Query) : Type 0 where
@@ -72,11 +81,12 @@ pub record Passed (q : Query) : Type 0 where
 
 pub passed : (q : Query) → IsChecked q → Passed q
 passed q h =
-    let code = unless (code_fits q) Limit part.Code in
-    let g1 = passed_both (declared_refusal q) (first (numbers_refusal q ∷ expressions_refusal q ∷ code ∷ [])) h in
-    let g2 = passed_both (numbers_refusal q) (first (expressions_refusal q ∷ code ∷ [])) g1.1 in
-    let g3 = passed_both (expressions_refusal q) (first (code ∷ [])) g2.1 in
-    let g4 = passed_both code None g3.1 in
+    let accs = foldings_refusal (parts_of q) in
+    let sizes = sizes_refusal (parts_of q) in
+    let g1 = passed_both (declared_refusal q) (first (rest_refusal q ∷ sizes ∷ [])) h in
+    let r = passed_both (rest_refusal q) (first (sizes ∷ [])) g1.1 in
+    let g2 = passed_both (numbers_refusal q) (first (expressions_refusal q ∷ accs ∷ [])) r.0 in
+    let g3 = passed_both (expressions_refusal q) (first (accs ∷ [])) g2.1 in
     let keys = names_refusal part.Keys q.keys in
     let fields = fields_refusal [] q.fields in
     let sources = sources_refusal q.sources in
@@ -114,5 +124,5 @@ passed q h =
       condition = e1.0;
       columns = e2.0;
       having = e3.0;
-      code = code_fits_in q (unless_none (code_fits q) Limit part.Code g4.0);
+      code = code_fits_in q (passed_both accs None g3.1).0 (passed_both sizes None r.1).0;
     }

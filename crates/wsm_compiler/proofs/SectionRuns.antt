@@ -26,10 +26,10 @@ use Rattle.wsm_check.specs.declared.types.Around.TheVariants.{InWhere, InColumn}
 use Rattle.wsm_check.specs.Spelt.{numbers_fit}
 use Rattle.wsm_compiler.proofs.Operands.{condition_numbers}
 use Rattle.wsm_compiler.proofs.Lawful.{condition_numbers_of}
-use Rattle.wsm_check.specs.Sizes.{accumulators_of, aggregates, size, condition_size, columns_size, need, need_of_condition, need_of_columns}
+use Rattle.wsm_check.specs.Aggregates.{accumulators_of, aggregates}
 use Rattle.wsm_compiler.specs.Meaning.{Scene, on_record, on_accumulators}
-use Rattle.wsm_compiler.specs.Code.{code, condition_code, columns_code, where_section, fire_section}
-use Rattle.wsm_check.specs.Parts.{column_type, type_or_int}
+use Rattle.wsm_compiler.specs.Code.{code, size, need, condition_code, columns_code, where_section, fire_section}
+use Rattle.wsm_check.specs.Parts.{aggregates_of, column_type, type_or_int}
 use Rattle.wsm_compiler.specs.Program.{program_stating, stated, needed_of, program_of}
 use Rattle.wsm_compiler.specs.Runs.{of_ty, cell, Serves, ServesAccs, state, topped, Gives, StandsAt}
 use Rattle.wsm_compiler.specs.Sections.{in_bounds, condition_value, Leaves, on_stack, fired_stack, WhereRuns, FireRuns}
@@ -37,7 +37,7 @@ use Rattle.wsm_machine.proofs.FittingStacks.{no}
 use Rattle.wsm_machine.proofs.ReturnedStacks.{are_types-same}
 use Rattle.wsm_compiler.proofs.Parts.{none≢some}
 use Rattle.wsm_compiler.proofs.KnownFields.{in_column}
-use Rattle.wsm_compiler.proofs.QueryTerms.{all_columns, columns_end, columns_next}
+use Rattle.wsm_compiler.proofs.QueryTerms.{condition_size, condition_need, ended_size, columns_size, columns_need}
 use Rattle.wsm_compiler.proofs.Sizes.{length-condition, sizes_are_lengths, some_columns_size}
 use Rattle.wsm_compiler.proofs.Conditions.{ConditionTyped, ColumnsTyped, in_condition}
 use Rattle.wsm_compiler.proofs.Checked.{fine}
@@ -86,16 +86,16 @@ comes_to c s (Some t) stack g none some =
 -- ---- conditions
 
 module _ (c : Setting) (q : Query) (around : Around) (s : Scene) (serves : Serves c q around s) where
-  pub code_means : (k a : ℕ) (e : Expr) → ((around ≡ InColumn → ⊥) → numbers_fit e ≡ true) → (t : CellType) → typed q around e ≡ Ok t → ServesAccs c around s a (accumulators_of e) → StandsAt c.code k (code q k a e) → k + size e < length c.code →
-      (stack : List Cell) (folds : List (Option Value)) → length stack + need e ≤ 32 → Gives c (state k stack folds) (topped (k + size e) stack folds t (in_bounds q s a e))
+  pub code_means : (k a : ℕ) (e : Expr) → ((around ≡ InColumn → ⊥) → numbers_fit e ≡ true) → (t : CellType) → typed q around e ≡ Ok t → ServesAccs c around s a (accumulators_of e) → StandsAt c.code k (code q k a e) → k + size q a e < length c.code →
+      (stack : List Cell) (folds : List (Option Value)) → length stack + need q a e ≤ 32 → Gives c (state k stack folds) (topped (k + size q a e) stack folds t (in_bounds q s a e))
   code_means k a e m t h accs at inside stack folds room =
-      subst (λ o. Gives c (state k stack folds) (topped (k + size e) stack folds t o)) (bounded_is q s a e) (code_runs c q around s serves k a e m t h accs at inside stack folds room)
+      subst (λ o. Gives c (state k stack folds) (topped (k + size q a e) stack folds t o)) (bounded_is q s a e) (code_runs c q around s serves k a e m t h accs at inside stack folds room)
 
   pub means_has : (a : ℕ) (e : Expr) (t : CellType) → typed q around e ≡ Ok t → ServesAccs c around s a (accumulators_of e) → of_ty t (in_bounds q s a e) ≡ true
   means_has a e t h accs = ap (of_ty t) (sym (bounded_is q s a e)) ∙ value_has c q around s serves a e t h accs
 
-  condition_gives : (k a : ℕ) (o : Option Expr) (js : List Instr) → ((around ≡ InColumn → ⊥) → condition_numbers o ≡ true) → ConditionTyped q around o → ServesAccs c around s a (in_condition o) → StandsAt c.code k (condition_code q k a o ++ js) → k + condition_size o < length c.code →
-      (stack : List Cell) (folds : List (Option Value)) → length stack + need_of_condition o ≤ 32 → Gives c (state k stack folds) (topped (k + condition_size o) stack folds types.Bool (condition_value q s a o))
+  condition_gives : (k a : ℕ) (o : Option Expr) (js : List Instr) → ((around ≡ InColumn → ⊥) → condition_numbers o ≡ true) → ConditionTyped q around o → ServesAccs c around s a (in_condition o) → StandsAt c.code k (condition_code q k a o ++ js) → k + condition_size q a o < length c.code →
+      (stack : List Cell) (folds : List (Option Value)) → length stack + condition_need q a o ≤ 32 → Gives c (state k stack folds) (topped (k + condition_size q a o) stack folds types.Bool (condition_value q s a o))
   condition_gives k a None js m h accs at inside stack folds room = push_bool c k stack folds (omega (arith, room)) true at.0
   condition_gives k a (Some e) js m h accs at inside stack folds room = code_means k a e m types.Bool h accs (split_code q c.code k a e js at).0 inside stack folds room
 
@@ -103,7 +103,7 @@ module _ (c : Setting) (q : Query) (around : Around) (s : Scene) (serves : Serve
   condition_has a None h accs = refl
   condition_has a (Some e) h accs = means_has a e types.Bool h accs
 
-  condition_stands : (k a : ℕ) (o : Option Expr) (js : List Instr) → StandsAt c.code k (condition_code q k a o ++ js) → StandsAt c.code (k + condition_size o) js
+  condition_stands : (k a : ℕ) (o : Option Expr) (js : List Instr) → StandsAt c.code k (condition_code q k a o ++ js) → StandsAt c.code (k + condition_size q a o) js
   condition_stands k a None js h = h.1
   condition_stands k a (Some e) js h = (split_code q c.code k a e js h).1
 
@@ -150,7 +150,7 @@ where_runs q checked spelt d fit =
     let none : ServesAccs c InWhere s 0 (in_condition q.condition) = λ e. no (ap in_column e) in
     let folds : List (Option Value) = replicate (length c.kinds) None in
     let value = condition_value q s 0 q.condition in
-    let k = 0 + condition_size q.condition in
+    let k = 0 + condition_size q 0 q.condition in
     let returns = condition_stands c q InWhere s serves 0 0 q.condition (instr.Return ∷ []) at in
     comes_to c (state 0 [] folds) (topped k [] folds types.Bool value) (on_stack [] value)
     (condition_gives c q InWhere s serves 0 0 q.condition (instr.Return ∷ []) (λ n. condition_numbers_of q spelt) f.condition none at (omega (arith, l)) [] folds (omega (arith, f.where_need)))
@@ -172,33 +172,36 @@ module _ (q : Query) (b : Costs) (d : Inputs) where
   abbrev s : Scene
   s = on_accumulators d.key d.count d.accs
 
-  -- columns that are left, and the types of those on the stack
-  columns_run : (k a : ℕ) (es : List Expr) (stack : List Cell) (folds : List (Option Value)) → ColumnsTyped q es → ConditionTyped q InColumn q.having → ServesAccs c InColumn s a (flat_map accumulators_of es ++ in_condition q.having) →
-      StandsAt c.code k (columns_code q k a es) → k + columns_size q.having es ≤ length c.code → need_of_columns (length stack) q.having es ≤ 32 → reverse (map type_of stack) ++ map (column_type q) es ≡ map (column_type q) q.columns →
-      Leaves (run_at c (state k stack folds)) (fired_stack q s a es stack)
-  columns_run k a [] stack folds h hh accs at inside room types' =
+  -- columns that are left, and the types of those on the stack; HAVING's first aggregate is the h-th
+  columns_run : (h k a : ℕ) (es : List Expr) (stack : List Cell) (folds : List (Option Value)) → a + aggregates_of es ≡ h → ColumnsTyped q es → ConditionTyped q InColumn q.having →
+      ServesAccs c InColumn s a (flat_map accumulators_of es ++ in_condition q.having) → StandsAt c.code k (columns_code q h k a es) → k + columns_size q h a es ≤ length c.code → length stack + columns_need q h a es ≤ 32 →
+      reverse (map type_of stack) ++ map (column_type q) es ≡ map (column_type q) q.columns → Leaves (run_at c (state k stack folds)) (fired_stack q s a es stack)
+  columns_run h k a [] stack folds behind hc hh accs at inside room types' =
       let serves = serves_fire q b d in
-      let value = condition_value q s a q.having in
-      let j = k + condition_size q.having in
-      let stands = subst (StandsAt c.code k) (sym (columns_end q k a)) at in
-      let returns = condition_stands c q InColumn s serves k a q.having (instr.Return ∷ []) stands in
-      comes_to c (state k stack folds) (topped j stack folds types.Bool value) (on_stack stack value)
-      (condition_gives c q InColumn s serves k a q.having (instr.Return ∷ []) (λ n. absurd (n refl)) hh accs stands (omega (arith, inside)) stack folds room)
+      let value = condition_value q s h q.having in
+      let j = k + condition_size q h q.having in
+      let first : a ≡ h = omega (arith, behind) in
+      let held = subst (λ n. ServesAccs c InColumn s n (in_condition q.having)) first accs in
+      let returns = condition_stands c q InColumn s serves k h q.having (instr.Return ∷ []) at in
+      subst (λ n. Leaves (run_at c (state k stack folds)) (on_stack stack (condition_value q s n q.having))) (sym first)
+      (comes_to c (state k stack folds) (topped j stack folds types.Bool value) (on_stack stack value)
+      (condition_gives c q InColumn s serves k h q.having (instr.Return ∷ []) (λ n. absurd (n refl)) hh held at (omega (arith, inside, ended_size q h q.having)) stack folds room)
       (none_topped j stack folds value)
-      (topped_returns c j stack folds value (condition_has c q InColumn s serves a q.having hh accs) returns.0
-      (λ v e. ap (λ x. x && true) (fire_result c (map (column_type q) q.columns) (cell types.Bool v) stack e (sym (append-nil (reverse (map type_of stack))) ∙ types'))))
-  columns_run k a (x ∷ es) stack folds h hh accs at inside room types' =
+      (topped_returns c j stack folds value (condition_has c q InColumn s serves h q.having hh held) returns.0
+      (λ v e. ap (λ x. x && true) (fire_result c (map (column_type q) q.columns) (cell types.Bool v) stack e (sym (append-nil (reverse (map type_of stack))) ∙ types')))))
+  columns_run h k a (x ∷ es) stack folds behind hc hh accs at inside room types' =
       let serves = serves_fire q b d in
-      let t = h.0.0 in
-      let j = k + size x in
+      let t = hc.0.0 in
+      let j = k + size q a x in
+      let next = a + aggregates x in
       let whole : ServesAccs c InColumn s a (accumulators_of x ++ (flat_map accumulators_of es ++ in_condition q.having)) =
       subst (λ xs. ServesAccs c InColumn s a xs) (append_assoc (accumulators_of x) (flat_map accumulators_of es) (in_condition q.having)) accs in
       let here = serves_left c InColumn s a (accumulators_of x) (flat_map accumulators_of es ++ in_condition q.having) whole in
-      let parts = split_code q c.code k a x (columns_code q j (a + aggregates x) es) (subst (StandsAt c.code k) (sym (columns_next q k a x es)) at) in
-      let ty : type_or_int (typed q InColumn x) ≡ t = ap type_or_int h.0.1 in
-      one_column (state k stack folds) j a x es stack folds t ty (in_bounds q s a x) (means_has c q InColumn s serves a x t h.0.1 here)
-      (code_means c q InColumn s serves k a x (λ n. absurd (n refl)) t h.0.1 here parts.0 (omega (arith, inside, some_columns_size q.having es)) stack folds (first_room (length stack) (need x) _ room))
-      (λ v has. columns_run j (a + aggregates x) es (cell t v ∷ stack) folds h.1 hh (serves_right c InColumn s a x (flat_map accumulators_of es ++ in_condition q.having) whole) parts.1 (omega (arith, inside)) (rest_room (length stack + need x) _ room)
+      let parts = split_code q c.code k a x (columns_code q h j next es) at in
+      let ty : type_or_int (typed q InColumn x) ≡ t = ap type_or_int hc.0.1 in
+      one_column (state k stack folds) j a x es stack folds t ty (in_bounds q s a x) (means_has c q InColumn s serves a x t hc.0.1 here)
+      (code_means c q InColumn s serves k a x (λ n. absurd (n refl)) t hc.0.1 here parts.0 (omega (arith, inside, some_columns_size q h next es)) stack folds (first_room (length stack) (need q a x) _ room))
+      (λ v has. columns_run h j next es (cell t v ∷ stack) folds (omega (arith, behind)) hc.1 hh (serves_right c InColumn s a x (flat_map accumulators_of es ++ in_condition q.having) whole) parts.1 (omega (arith, inside)) (rest_room (length stack) (need q a x) _ room)
       (ap (λ zs. zs ++ map (column_type q) es) (reverse-append (type_of (cell t v) ∷ []) (map type_of stack)) ∙ append_assoc (reverse (map type_of stack)) (type_of (cell t v) ∷ []) (map (column_type q) es)
       ∙ ap (λ z. reverse (map type_of stack) ++ z ∷ map (column_type q) es) (cell_has t v has ∙ sym ty) ∙ types'))
     where
@@ -219,6 +222,6 @@ fire_runs q checked d fit =
     let b = stated (needed_of q) q.budget in
     let f = fine q b checked in
     let l = (sizes_are_lengths q).2 in
-    columns_run q b d 0 0 q.columns [] (replicate (length (setting (program_of q) Fire d).kinds) None) f.columns f.having
+    columns_run q b d (aggregates_of q.columns) 0 0 q.columns [] (replicate (length (setting (program_of q) Fire d).kinds) None) (omega arith) f.columns f.having
     (subst (λ accs. ServesAccs (setting (program_of q) Fire d) InColumn (on_accumulators d.key d.count d.accs) 0 accs) (accs_are q b) (serves_accs q b d fit))
-    (subst (StandsAt (fire_section q) 0) (sym (all_columns q)) (stands_all (fire_section q))) (omega (arith, l)) f.fire_need refl
+    (stands_all (fire_section q)) (omega (arith, l)) (omega (arith, f.fire_need)) refl

@@ -4,16 +4,16 @@ use Rattle.std.specs.Prelude.{option_map}
 use Rattle.wsm_program.specs.declared.instr.Instr.{Instr}
 use Rattle.wsm_program.specs.declared.instr.Instr.TheVariants as instr
 use Rattle.wsm_program.specs.declared.operation.Operation.TheVariants as operation
-use Rattle.wsm_query.specs.Tree as tree
 use Rattle.wsm_query.specs.Tree.{Query, Expr}
 use Rattle.wsm_check.specs.Tested.{unless_tested}
-use Rattle.wsm_check.specs.Sizes.{Acc, accumulators, size, need, condition_size, folds_size, columns_size}
+use Rattle.wsm_check.specs.Aggregates.{Acc, accumulators}
+use Rattle.wsm_check.specs.Sizes.{term_need}
 use Rattle.wsm_check.specs.Terms.{Term, If, Minus, Not, Binary, And, Or, resolved}
 use Rattle.wsm_check.specs.Parts.{Folding, aggregates_of, folding, columns_from}
 use Rattle.wsm_compiler.specs.TermCode.{choice, instruction, test_code, jump_unless, term_test, term_size, term_code, ending_code, ending_size, foldings_code, foldings_size, firing_code, firing_size}
-use Rattle.wsm_compiler.specs.Code.{code, condition_code, folds, columns_code}
+use Rattle.wsm_compiler.specs.Code.{code, size, need, condition_code, folds, columns_code}
 use Rattle.wsm_compiler.specs.Sized.{SizesAreLengths}
-use Rattle.wsm_compiler.proofs.QueryTerms.{resolved_size, all_columns, ended_size, folded_size, fired_size}
+use Rattle.wsm_compiler.proofs.QueryTerms.{condition_size, ended_size, folds_size, columns_size}
 
 pub length-test_code : {A : Type 0} (o : Option A) (is : List Instr) (n : ℕ) → length is ≡ n → length (test_code o is) ≡ unless_tested o n
 length-test_code None is n h = h
@@ -54,8 +54,8 @@ length-term_code k (Or x y) =
 length-term_code k t = refl
 
 -- and so has an expression
-pub length-code : (q : Query) (k a : ℕ) (e : Expr) → length (code q k a e) ≡ size e
-length-code q k a e = length-term_code k (resolved q a e) ∙ resolved_size q a e
+pub length-code : (q : Query) (k a : ℕ) (e : Expr) → length (code q k a e) ≡ size q a e
+length-code q k a e = length-term_code k (resolved q a e)
 
 -- ---- sections
 
@@ -74,53 +74,51 @@ length-firing k having [] = length-ending k having
 length-firing k having (t ∷ ts) =
     length-append (term_code k t) (firing_code (k + term_size t) having ts) ∙ ap₂ (λ m n. m + n) (length-term_code k t) (length-firing (k + term_size t) having ts)
 
-pub length-condition : (q : Query) (k a : ℕ) (o : Option Expr) → length (condition_code q k a o ++ instr.Return ∷ []) ≡ condition_size o + 1
+pub length-condition : (q : Query) (k a : ℕ) (o : Option Expr) → length (condition_code q k a o ++ instr.Return ∷ []) ≡ condition_size q a o + 1
 length-condition q k a o = length-ending k (option_map (resolved q a) o) ∙ ended_size q a o
 
-pub length-folds : (q : Query) (k a : ℕ) (accs : List Acc) → length (folds q k a accs) ≡ folds_size accs
-length-folds q k a accs = length-foldings k a (map (folding q) accs) ∙ folded_size q accs
+pub length-folds : (q : Query) (k a : ℕ) (accs : List Acc) → length (folds q k a accs) ≡ folds_size q accs
+length-folds q k a accs = length-foldings k a (map (folding q) accs)
 
-pub length-columns : (q : Query) (k a : ℕ) (es : List Expr) → length (columns_code q k a es) ≡ columns_size q.having es
-length-columns q k a es = length-firing k _ (columns_from q a es) ∙ fired_size q (a + aggregates_of es) a es
+pub length-columns : (q : Query) (h k a : ℕ) (es : List Expr) → length (columns_code q h k a es) ≡ columns_size q h a es
+length-columns q h k a es = length-firing k (option_map (resolved q h) q.having) (columns_from q a es)
 
 pub sizes_are_lengths : (q : Query) → SizesAreLengths q
-sizes_are_lengths q = (length-condition q 0 0 q.condition, length-folds q 0 0 (accumulators q), ap length (sym (all_columns q)) ∙ length-columns q 0 0 q.columns)
+sizes_are_lengths q = (length-ending 0 (option_map (resolved q 0) q.condition), length-folds q 0 0 (accumulators q), length-columns q (aggregates_of q.columns) 0 0 q.columns)
 
 -- ---- nothing is empty
 
-not_empty : (e : Expr) → (0 < size e) × (0 < need e)
-not_empty (tree.Brackets e) = not_empty e
-not_empty (tree.Minus e) = (omega arith, (not_empty e).1)
-not_empty (tree.Not e) = (omega arith, (not_empty e).1)
-not_empty (tree.If c x y) = let h = not_empty x in (omega arith, omega (arith, h.1))
-not_empty (tree.Binary op x y) = (omega arith, omega arith)
-not_empty (tree.And x y) = let h = not_empty y in (omega arith, omega (arith, h.1))
-not_empty (tree.Or x y) = let h = not_empty y in (omega arith, omega (arith, h.1))
-not_empty e = (omega arith, omega arith)
+not_empty : (t : Term) → (0 < term_size t) × (0 < term_need t)
+not_empty (Minus x) = (omega arith, (not_empty x).1)
+not_empty (Not x) = (omega arith, (not_empty x).1)
+not_empty (If c x y) = let h = not_empty x in (omega arith, omega (arith, h.1))
+not_empty (And x y) = let h = not_empty y in (omega arith, omega (arith, h.1))
+not_empty (Or x y) = let h = not_empty y in (omega arith, omega (arith, h.1))
+not_empty t = (omega arith, omega arith)
 
-pub some_size : (e : Expr) → 0 < size e
-some_size e = (not_empty e).0
+pub some_size : (q : Query) (a : ℕ) (e : Expr) → 0 < size q a e
+some_size q a e = (not_empty (resolved q a e)).0
 
-pub some_need : (e : Expr) → 0 < need e
-some_need e = (not_empty e).1
+pub some_need : (q : Query) (a : ℕ) (e : Expr) → 0 < need q a e
+some_need q a e = (not_empty (resolved q a e)).1
 
-some_condition_size : (o : Option Expr) → 0 < condition_size o
-some_condition_size None = omega arith
-some_condition_size (Some x) = some_size x
+some_ending : (o : Option Term) → 0 < ending_size o
+some_ending None = omega arith
+some_ending (Some t) = omega arith
 
-pub some_folds_size : (accs : List Acc) → 0 < folds_size accs
-some_folds_size [] = omega arith
-some_folds_size (acc ∷ accs) = omega arith
+pub some_folds_size : (q : Query) (accs : List Acc) → 0 < folds_size q accs
+some_folds_size q [] = omega arith
+some_folds_size q (acc ∷ accs) = omega arith
 
-pub some_columns_size : (o : Option Expr) (es : List Expr) → 0 < columns_size o es
-some_columns_size o [] = omega (arith, some_condition_size o)
-some_columns_size o (x ∷ es) = omega (arith, some_size x)
+pub some_columns_size : (q : Query) (h a : ℕ) (es : List Expr) → 0 < columns_size q h a es
+some_columns_size q h a [] = some_ending (option_map (resolved q h) q.having)
+some_columns_size q h a (x ∷ es) = omega (arith, some_size q a x)
 
 pub some_code : (q : Query) (k a : ℕ) (e : Expr) → 0 < length (code q k a e)
-some_code q k a e = omega (arith, length-code q k a e, some_size e)
+some_code q k a e = omega (arith, length-code q k a e, some_size q a e)
 
 pub some_folds : (q : Query) (k a : ℕ) (accs : List Acc) → 0 < length (folds q k a accs)
-some_folds q k a accs = omega (arith, length-folds q k a accs, some_folds_size accs)
+some_folds q k a accs = omega (arith, length-folds q k a accs, some_folds_size q accs)
 
-pub some_columns : (q : Query) (k a : ℕ) (es : List Expr) → 0 < length (columns_code q k a es)
-some_columns q k a es = omega (arith, length-columns q k a es, some_columns_size q.having es)
+pub some_columns : (q : Query) (h k a : ℕ) (es : List Expr) → 0 < length (columns_code q h k a es)
+some_columns q h k a es = omega (arith, length-columns q h k a es, some_columns_size q h a es)

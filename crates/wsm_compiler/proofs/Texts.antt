@@ -19,7 +19,7 @@ use Rattle.wsm_query.specs.Grammar as grammar
 use Rattle.wsm_record.specs.declared.limits.TheConstants.{MAX_CHAIN, MAX_LEVELS}
 use Rattle.wsm_query.specs.Grammar.{looked_up, kinds, Deeper, opened, aggregate, count_of, choice, brackets, pointed, leaf, atom, unary, chain, chained, products, sums, comparisons, ands, ors, prod, sum, compared, cmp, neg, conj, expr_in, levels, expr, int, names, type_of, field, budget, sources, from_window, clock, selection, output, shape, mode, form, every, query}
 use Rattle.wsm_query.specs.Parse.{query_text, outcome, parse}
-use Rattle.wsm_check.specs.Sizes.{in_option}
+use Rattle.wsm_check.specs.Aggregates.{in_option}
 use Rattle.wsm_check.specs.Spelt.{numbers_fit, IsSpelt}
 use Rattle.wsm_compiler.specs.Lawful.{ParsedIsSpelt}
 use Rattle.wsm_compiler.proofs.FoundRanges.{err≢ok}

@@ -29,7 +29,7 @@ use Rattle.wsm_machine.proofs.CompleteRuns.{completes}
 use Rattle.wsm_machine.proofs.EndedRuns.{folds, values_are}
 use Rattle.wsm_query.specs.Tree.{Query, Expr}
 use Rattle.wsm_record.specs.declared.words.CellType.TheVariants as types
-use Rattle.wsm_check.specs.Sizes.{Acc, accumulators, in_option}
+use Rattle.wsm_check.specs.Aggregates.{Acc, accumulators, in_option}
 use Rattle.wsm_compiler.specs.Meaning.{Scene, meaning, meets_i64, on_record, is_true, condition_holds, selects}
 use Rattle.wsm_check.specs.Parts.{schema_of}
 use Rattle.wsm_compiler.specs.Program.{program_of}

@@ -26,7 +26,7 @@ use Rattle.wsm_machine.proofs.SoundAccumulators.{may_fire}
 use Rattle.wsm_machine.proofs.Words.{updated_words}
 use Rattle.wsm_query.specs.Tree.{Query, Expr}
 use Rattle.wsm_record.specs.declared.words.CellType.TheVariants as types
-use Rattle.wsm_check.specs.Sizes.{aggregates, accumulators, in_option, fired}
+use Rattle.wsm_check.specs.Aggregates.{aggregates, accumulators, in_option, fired}
 use Rattle.wsm_compiler.specs.Meaning.{Scene, meaning, meets_i64, all_of, on_records, condition_holds, column, row}
 use Rattle.wsm_compiler.specs.Means.{meant}
 use Rattle.wsm_check.specs.Parts.{column_type, schema_of}

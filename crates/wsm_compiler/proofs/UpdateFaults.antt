@@ -16,17 +16,17 @@ use Rattle.wsm_query.specs.Tree.{Query}
 use Rattle.wsm_record.specs.Types.{kind_type}
 use Rattle.wsm_check.specs.Types.{typed}
 use Rattle.wsm_check.specs.declared.types.Around.TheVariants.{InAggregate}
-use Rattle.wsm_check.specs.Sizes.{Acc, accumulators, accumulators_of, size, need, folds_size, need_of_folds}
+use Rattle.wsm_check.specs.Aggregates.{Acc, accumulators, accumulators_of}
 use Rattle.wsm_rules.specs.declared.known.Known.{Known}
 use Rattle.wsm_rules.specs.Labels.{State}
 use Rattle.wsm_rules.specs.Rules.{Setting, setting, entry, known_fields, ranges_of_record, has_type, sum_leaves, fault_in}
-use Rattle.wsm_compiler.specs.Code.{code, folds, update_section}
+use Rattle.wsm_compiler.specs.Code.{code, size, need, folds, update_section}
 use Rattle.wsm_compiler.specs.Ranges.{Range, Unfit, NoNumber, Within, of_aggregate, range, fits}
 use Rattle.wsm_compiler.specs.Program.{program_stating}
 use Rattle.wsm_machine.proofs.FittingStacks.{no}
 use Rattle.wsm_compiler.proofs.Parts.{none≢some, Labelled, one}
 use Rattle.wsm_compiler.proofs.Tests.{tested, not_last, with_known}
-use Rattle.wsm_compiler.proofs.QueryTerms.{kinds_of, folds_next}
+use Rattle.wsm_compiler.proofs.QueryTerms.{kinds_of, folds_size, folds_need}
 use Rattle.wsm_compiler.proofs.Sizes.{length-code, length-folds, some_code, some_folds, some_folds_size}
 use Rattle.wsm_compiler.proofs.Found.{found}
 use Rattle.wsm_compiler.proofs.FoundRanges.{suits, known_of}
@@ -35,7 +35,7 @@ use Rattle.wsm_compiler.proofs.CodeLabels.{labelled}
 use Rattle.wsm_compiler.proofs.SectionEnds.{Ends, or_behind, sequence_ends, follow_ends, return_ends, whole_section}
 use Rattle.wsm_compiler.proofs.KnownFields.{in_column, reads_update}
 use Rattle.wsm_compiler.proofs.Choices.{room_at_test, has_one}
-use Rattle.wsm_compiler.proofs.Rooms.{sole_room, rest_room}
+use Rattle.wsm_compiler.proofs.Rooms.{sole_room, next_room}
 
 -- ---- which accumulators are folded: the first, and none of the others
 
@@ -137,28 +137,27 @@ module _ (q : Query) (b : Costs) where
   pub no_accs : (a : ℕ) (accs : List Acc) → AccsIn updating q InAggregate a accs
   no_accs a accs h = no (ap in_column h)
 
-  pub folds_ends : (e : State) (k a : ℕ) (accs : List Acc) → AccsTyped accs → KindsAt a accs → need_of_folds accs ≤ 32 → k + folds_size accs ≤ updating.n →
+  pub folds_ends : (e : State) (k a : ℕ) (accs : List Acc) → AccsTyped accs → KindsAt a accs → folds_need q accs ≤ 32 → k + folds_size q accs ≤ updating.n →
       Ends e updating k (folds q k a accs) (folded_so q a (length accs)) (not (accs_fit accs))
   folds_ends e k a [] h kinds room more = return_ends e updating k (folded_so q a 0) refl (ap not (all_set a)) (omega arith)
   folds_ends e k a (acc ∷ accs) h kinds room more =
       let n = length accs in
       let s = folded_so q a (suc n) in
       let x = acc.operand in
-      let j = k + size x in
+      let j = k + size q 0 x in
       let rest = folds q (j + 1) (suc a) accs in
       let w = accs_fit accs in
       let goal = λ (z : Known). or_behind (if_takes (takes q.records acc.kind z) (behind_fold a s)) (λ t. not w) in
       let behind : Ends e updating (j + 1) rest (behind_fold a s) (not w) =
       subst (λ fs. Ends e updating (j + 1) rest (record { stack = []; folded = fs; fields = known_fields 0 q.fields }) (not w)) (sym (set_next a n))
-      (folds_ends e (j + 1) (suc a) accs h.1 kinds.1 (rest_room (need x) _ room) (omega (arith, more))) in
-      subst (λ js. Ends e updating k js s (not (accs_fit (acc ∷ accs)))) (folds_next q k a acc accs)
-      (subst (λ v. Ends e updating k (code q k 0 x ++ Fold a ∷ rest) s v)
+      (folds_ends e (j + 1) (suc a) accs h.1 kinds.1 (next_room (need q 0 x) _ room) (omega (arith, more))) in
+      subst (λ v. Ends e updating k (code q k 0 x ++ Fold a ∷ rest) s v)
       (ap (λ o. or_behind o goal) (found_here updating q InAggregate (reads_update q b) s.fields refl 0 x (kind_type acc.kind) h.0 (no_accs 0 (accumulators_of x))) ∙ fold_fits acc.kind (range q x) (behind_fold a s) w (range_suits updating q InAggregate x (kind_type acc.kind) h.0))
-      (follow_ends e updating k (size x) (code q k 0 x) (Fold a ∷ rest) s (found updating q s.fields 0 x) goal (length-code q k 0 x) (some_code q k 0 x) (omega arith)
-      (labelled e updating q InAggregate (reads_update q b) k 0 x (kind_type acc.kind) s refl h.0 (no_accs 0 (accumulators_of x)) (sole_room (need x) _ room) (omega (arith, more, some_folds_size accs)))
+      (follow_ends e updating k (size q 0 x) (code q k 0 x) (Fold a ∷ rest) s (found updating q s.fields 0 x) goal (length-code q k 0 x) (some_code q k 0 x) (omega arith)
+      (labelled e updating q InAggregate (reads_update q b) k 0 x (kind_type acc.kind) s refl h.0 (no_accs 0 (accumulators_of x)) (sole_room (need q 0 x) _ room) (omega (arith, more, some_folds_size q accs)))
       (λ z ez. sequence_ends e updating j (Fold a ∷ []) rest (with_known z s) (if_takes (takes q.records acc.kind z) (behind_fold a s)) (λ t. not w) (omega arith) (some_folds q (j + 1) (suc a) accs)
-      (fold_one e j a z s acc.kind kinds.0 (unset a n) (omega arith) (omega (arith, more, some_folds_size accs)))
-      (λ t ht. subst (λ u. Ends e updating (j + 1) rest u (not w)) (same_Some (behind_fold a s) t (taken_is (takes q.records acc.kind z) (behind_fold a s) t ht)) behind))))
+      (fold_one e j a z s acc.kind kinds.0 (unset a n) (omega arith) (omega (arith, more, some_folds_size q accs)))
+      (λ t ht. subst (λ u. Ends e updating (j + 1) rest u (not w)) (same_Some (behind_fold a s) t (taken_is (takes q.records acc.kind z) (behind_fold a s) t ht)) behind)))
 
   entry_flags : (accs : List Acc) → map (λ k. false) (kinds_of q accs) ≡ replicate (length accs) false
   entry_flags [] = refl
@@ -187,7 +186,7 @@ module _ (q : Query) (b : Costs) where
   all_kinds = kinds_at [] (accumulators q) refl
 
   -- UPDATE
-  pub update_faults : AccsTyped (accumulators q) → need_of_folds (accumulators q) ≤ 32 → is_some (fault_in (program_stating q b) Update (ranges_of_record (program_stating q b))) ≡ not (accs_fit (accumulators q))
+  pub update_faults : AccsTyped (accumulators q) → folds_need q (accumulators q) ≤ 32 → is_some (fault_in (program_stating q b) Update (ranges_of_record (program_stating q b))) ≡ not (accs_fit (accumulators q))
   update_faults h room =
       let e = entry (program_stating q b) in
       let l = length-folds q 0 0 (accumulators q) in

@@ -25,9 +25,9 @@ use Rattle.wsm_check.specs.Spelt.{numbers_fit}
 use Rattle.std.proofs.lemmas.Bool.{and_parts}
 use Rattle.wsm_compiler.proofs.Operands.{operands_fit}
 use Rattle.wsm_compiler.proofs.Lawful.{operands_numbers_of}
-use Rattle.wsm_check.specs.Sizes.{Acc, accumulators, accumulators_of, size, need, folds_size, need_of_folds}
+use Rattle.wsm_check.specs.Aggregates.{Acc, accumulators, accumulators_of}
 use Rattle.wsm_compiler.specs.Meaning.{Scene, on_record}
-use Rattle.wsm_compiler.specs.Code.{folds, update_section}
+use Rattle.wsm_compiler.specs.Code.{size, need, folds, update_section}
 use Rattle.wsm_compiler.specs.Program.{program_stating, stated, needed_of, program_of}
 use Rattle.wsm_compiler.specs.Runs.{of_ty, cell, ServesAccs, state, topped, Gives, StandsAt}
 use Rattle.wsm_compiler.specs.Sections.{record_fits, in_bounds, folded_values, Folds, UpdateRuns}
@@ -35,14 +35,14 @@ use Rattle.wsm_machine.proofs.FittingStacks.{no}
 use Rattle.wsm_compiler.proofs.KnownFields.{in_column}
 use Rattle.wsm_compiler.proofs.Checked.{fine}
 use Rattle.wsm_compiler.proofs.UpdateFaults.{AccsTyped}
-use Rattle.wsm_compiler.proofs.QueryTerms.{kinds_of, kinds_are, folds_next}
+use Rattle.wsm_compiler.proofs.QueryTerms.{kinds_of, kinds_are, folds_size, folds_need}
 use Rattle.wsm_compiler.proofs.Sizes.{length-folds, some_folds_size}
 use Rattle.wsm_compiler.proofs.Machine.{run_goes, gives_on}
 use Rattle.wsm_compiler.proofs.ExpressionRuns.{split_code}
 use Rattle.wsm_compiler.proofs.InputMeanings.{serves_update}
 use Rattle.wsm_compiler.proofs.SectionRuns.{stands_all, return_ends, code_means, means_has}
 use Rattle.wsm_compiler.proofs.Choices.{has_one}
-use Rattle.wsm_compiler.proofs.Rooms.{sole_room, rest_room}
+use Rattle.wsm_compiler.proofs.Rooms.{sole_room, next_room}
 
 -- ---- accumulators, of which the first are folded
 
@@ -139,7 +139,7 @@ module _ (q : Query) (b : Costs) (d : Inputs) (fit : record_fits q d ≡ true) w
       subst (λ fs. Gives c m (Some (state (k + 1) [] fs))) (next ∙ ap (λ fs. fs ++ rest) (sym (map-append (λ (v : Value). Some v) vs (v ∷ []))))
       (run_goes c m (state (k + 1) [] set) (instr.Fold (length done)) (subst (λ p. slice_get c.code k ≡ Some (instr.Fold p)) place at) goes)
 
-  folds_run : (k : ℕ) (before accs : List Acc) (vs : List Value) → before ++ accs ≡ accumulators q → length vs ≡ length before → AccsTyped q b accs → operands_fit accs ≡ true → StandsAt c.code k (folds q k (length before) accs) → k + folds_size accs ≤ length c.code → need_of_folds accs ≤ 32 →
+  folds_run : (k : ℕ) (before accs : List Acc) (vs : List Value) → before ++ accs ≡ accumulators q → length vs ≡ length before → AccsTyped q b accs → operands_fit accs ≡ true → StandsAt c.code k (folds q k (length before) accs) → k + folds_size q accs ≤ length c.code → folds_need q accs ≤ 32 →
       Folds (run_at c (state k [] (held vs (length accs)))) (with_front vs (folded_values q s accs))
   folds_run k before [] vs e l h fits at inside room =
       let st = state k [] (held vs 0) in
@@ -150,17 +150,17 @@ module _ (q : Query) (b : Costs) (d : Inputs) (fit : record_fits q d ≡ true) w
       let y = acc.operand in
       let t = kind_type acc.kind in
       let a = length before in
-      let j = k + size y in
-      let parts = split_code q c.code k 0 y (instr.Fold a ∷ folds q (j + 1) (suc a) accs) (subst (StandsAt c.code k) (sym (folds_next q k a acc accs)) at) in
+      let j = k + size q 0 y in
+      let parts = split_code q c.code k 0 y (instr.Fold a ∷ folds q (j + 1) (suc a) accs) at in
       let serves = serves_update q b d fit in
       let la = length-append before (acc ∷ []) in
       let count : length (before ++ acc ∷ []) ≡ suc a = omega (arith, la) in
       by_value k j vs (length accs) acc (folded_values q s accs) (in_bounds q s 0 y) (means_has c q InAggregate s serves 0 y t h.0 (none_inside (accumulators_of y)))
-      (code_means c q InAggregate s serves k 0 y (λ n. numbers.0) t h.0 (none_inside (accumulators_of y)) parts.0 (omega (arith, inside, some_folds_size accs)) [] (held vs (suc (length accs))) (sole_room (need y) _ room))
+      (code_means c q InAggregate s serves k 0 y (λ n. numbers.0) t h.0 (none_inside (accumulators_of y)) parts.0 (omega (arith, inside, some_folds_size q accs)) [] (held vs (suc (length accs))) (sole_room (need q 0 y) _ room))
       (λ v has.
       let lv = length-append vs (v ∷ []) in (
         fold_step j vs (length accs) a acc.kind v l has parts.1.0 (ap (λ xs. slice_get (kinds_of q xs) a) (sym e) ∙ kind_at q before accs acc),
-        folds_run (j + 1) (before ++ acc ∷ []) accs (vs ++ v ∷ []) (append_assoc before (acc ∷ []) accs ∙ e) (omega (arith, lv, count, l)) h.1 numbers.1 (subst (λ n. StandsAt c.code (j + 1) (folds q (j + 1) n accs)) (sym count) parts.1.1) (omega (arith, inside)) (rest_room (need y) _ room),
+        folds_run (j + 1) (before ++ acc ∷ []) accs (vs ++ v ∷ []) (append_assoc before (acc ∷ []) accs ∙ e) (omega (arith, lv, count, l)) h.1 numbers.1 (subst (λ n. StandsAt c.code (j + 1) (folds q (j + 1) n accs)) (sym count) parts.1.1) (omega (arith, inside)) (next_room (need q 0 y) _ room),
       ))
     where
       by_value : (k j : ℕ) (vs : List Value) (n : ℕ) (acc : Acc) (rest : Option (List Value)) (o : Option Value) → of_ty (kind_type acc.kind) o ≡ true →

@@ -16,7 +16,7 @@ use Rattle.wsm_record.specs.Types.{is_type, kind_type}
 use Rattle.wsm_check.specs.Types.{op_ty, typed}
 use Rattle.wsm_check.specs.declared.types.Around.{Around}
 use Rattle.wsm_check.specs.declared.types.Around.TheVariants.{InAggregate}
-use Rattle.wsm_check.specs.Sizes.{Acc, accumulators_of, aggregates}
+use Rattle.wsm_check.specs.Aggregates.{Acc, accumulators_of, aggregates}
 use Rattle.wsm_machine.specs.Step.{Setting}
 use Rattle.wsm_compiler.specs.Meaning.{Scene, on_numbers, on_same, on_two, both, minus, negated, chosen}
 use Rattle.wsm_compiler.specs.Bounded.{kept, bounded_from}

@@ -4,7 +4,7 @@ use Rattle.wsm_record.specs.declared.event.Value.{Value}
 use Rattle.wsm_record.specs.declared.event.Value.TheVariants.{Int, Bool as Truth', Enum}
 use Rattle.wsm_record.specs.Schema.{is_i64}
 use Rattle.wsm_query.specs.Tree.{Query, Expr, If, Brackets, Minus, Not, Binary, And, Or}
-use Rattle.wsm_check.specs.Sizes.{aggregates}
+use Rattle.wsm_check.specs.Aggregates.{aggregates}
 use Rattle.wsm_compiler.specs.Meaning.{Scene, meaning_from, meets_i64, on_two, both, minus, negated, chosen}
 
 -- a value, unless it is a number outside 64 bits

@@ -7,7 +7,7 @@ use Rattle.wsm_machine.specs.Inputs.{Inputs}
 use Rattle.wsm_machine.specs.Run.{run}
 use Rattle.wsm_query.specs.Tree.{Query, Expr}
 use Rattle.wsm_check.specs.Checks.{IsChecked}
-use Rattle.wsm_check.specs.Sizes.{Acc, accumulators, accumulators_of}
+use Rattle.wsm_check.specs.Aggregates.{Acc, accumulators, accumulators_of}
 use Rattle.wsm_compiler.specs.Meaning.{meaning, meaning_from, met_from, on_record, on_records, on_accumulators, all_of, fold_where_all}
 use Rattle.wsm_compiler.specs.Program.{program_of}
 use Rattle.wsm_compiler.specs.Sections.{pane_fits, folded_values, Leaves, fired_stack}

@@ -14,7 +14,7 @@ use Rattle.wsm_query.specs.declared.expr.Op.{Op}
 use Rattle.wsm_query.specs.declared.expr.Op.TheVariants.{Add, Sub, Mul, Div, Rem, Eq, Ne, Lt, Le, Gt, Ge}
 use Rattle.wsm_query.specs.Tree.{Query, Expr, Number, Truth, Field, EnumName, Key, KeyName, Count, Aggregate, If, Brackets, Minus, Not, Binary, And, Or}
 use Rattle.wsm_check.specs.Names.{place_of, field_place, type_of, names_of}
-use Rattle.wsm_check.specs.Sizes.{aggregates}
+use Rattle.wsm_check.specs.Aggregates.{aggregates}
 use Rattle.wsm_check.specs.Parts.{column_type}
 
 -- an operator on two numbers, with no value at a zero divisor

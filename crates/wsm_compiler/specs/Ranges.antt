@@ -1,5 +1,5 @@
 -- The ranges of a query's expressions, by their structure.
-use Rattle.std.specs.Prelude.{Bool, true, false, ◌&&◌, cond, List, [], ◌∷◌, ◌++◌, bytes_eq, ℤ, pos, ◌*ℤ◌, Option, Some, None}
+use Rattle.std.specs.Prelude.{ℕ, zero, suc, Bool, true, false, ◌&&◌, cond, List, [], ◌∷◌, ◌++◌, ℤ, pos, ◌*ℤ◌, Option, Some, None}
 use Rattle.std.specs.List.{list_all}
 use Rattle.std.specs.Int.{int_min, int_max}
 use Rattle.wsm_record.specs.declared.words.Kind.{Kind}
@@ -13,10 +13,11 @@ use Rattle.wsm_query.specs.declared.expr.Op.{Op}
 use Rattle.wsm_query.specs.declared.expr.Op.TheVariants.{Add, Sub, Mul, Div, Rem}
 use Rattle.wsm_record.specs.Schema.{FieldType, DeclaredField, is_i64}
 use Rattle.wsm_record.specs.Schema as field_types
-use Rattle.wsm_check.specs.Tested.{Tested, tested}
-use Rattle.wsm_query.specs.Tree.{Name, Query, Expr, Number, Field, Count, Aggregate, If, Brackets, Minus, Not, Binary, And, Or}
+use Rattle.wsm_program.specs.declared.instr.FieldTest.{FieldTest}
+use Rattle.wsm_query.specs.Tree.{Query, Expr, Number, Field, Count, Aggregate, If, Brackets, Minus, Not, Binary, And, Or}
 use Rattle.wsm_check.specs.Names.{type_of}
-use Rattle.wsm_check.specs.Sizes.{in_option, fired}
+use Rattle.wsm_compiler.specs.Code.{test_of}
+use Rattle.wsm_check.specs.Aggregates.{in_option, fired}
 
 -- an expression's range: none for it or for a part of it, no number, or an interval
 pub data Range : Type 0 where
@@ -81,17 +82,18 @@ abbrev pub narrowed_type : Comparison → ℤ → FieldType → FieldType
 narrowed_type o n (field_types.Int lo hi) = of_interval (narrow o n (interval lo hi))
 narrowed_type o n t = t
 
--- the first field of a name, narrowed to where it compares so with a number
-abbrev pub narrowed_fields : Name → Comparison → ℤ → List DeclaredField → List DeclaredField
-narrowed_fields x o n [] = []
-narrowed_fields x o n (d ∷ ds) = cond (bytes_eq x d.name) (record d { type = narrowed_type o n d.type } ∷ ds) (d ∷ narrowed_fields x o n ds)
+-- the field of a number, narrowed to where it compares so with a number
+abbrev pub narrowed_fields : ℕ → Comparison → ℤ → List DeclaredField → List DeclaredField
+narrowed_fields f o n [] = []
+narrowed_fields zero o n (d ∷ ds) = record d { type = narrowed_type o n d.type } ∷ ds
+narrowed_fields (suc f) o n (d ∷ ds) = d ∷ narrowed_fields f o n ds
 
 -- the fields where a test is true, and where it is false; one that is no comparison of a field with a number narrows none
-abbrev pub where_true : Option Tested → List DeclaredField → List DeclaredField
+abbrev pub where_true : Option FieldTest → List DeclaredField → List DeclaredField
 where_true None fs = fs
 where_true (Some t) fs = narrowed_fields t.field t.comparison t.number fs
 
-abbrev pub where_false : Option Tested → List DeclaredField → List DeclaredField
+abbrev pub where_false : Option FieldTest → List DeclaredField → List DeclaredField
 where_false None fs = fs
 where_false (Some t) fs = narrowed_fields t.field (opposite t.comparison) t.number fs
 
@@ -101,13 +103,13 @@ range_on q fs (Number n) = Within (interval n n)
 range_on q fs (Field x) = of_type (type_of x fs)
 range_on q fs Count = Within (interval (pos 1) q.records)
 range_on q fs (Aggregate kind e) = of_aggregate q.records kind (range_on q q.fields e)
-range_on q fs (If c x y) = if_fits (range_on q fs c) (of_branches (range_on q (where_true (tested c) fs) x) (range_on q (where_false (tested c) fs) y))
+range_on q fs (If c x y) = if_fits (range_on q fs c) (of_branches (range_on q (where_true (test_of q 0 c) fs) x) (range_on q (where_false (test_of q 0 c) fs) y))
 range_on q fs (Brackets e) = range_on q fs e
 range_on q fs (Minus e) = of_minus (range_on q fs e)
 range_on q fs (Not e) = range_on q fs e
 range_on q fs (Binary op x y) = of_op op (range_on q fs x) (range_on q fs y)
-range_on q fs (And x y) = no_number (range_on q fs x) (range_on q (where_true (tested x) fs) y)
-range_on q fs (Or x y) = no_number (range_on q fs x) (range_on q (where_false (tested x) fs) y)
+range_on q fs (And x y) = no_number (range_on q fs x) (range_on q (where_true (test_of q 0 x) fs) y)
+range_on q fs (Or x y) = no_number (range_on q fs x) (range_on q (where_false (test_of q 0 x) fs) y)
 range_on q fs _ = NoNumber
 
 -- where they are as they are declared

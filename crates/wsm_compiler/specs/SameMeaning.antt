@@ -9,7 +9,7 @@ use Rattle.wsm_semantics.specs.Query.{Datum, Query as Meant}
 use Rattle.wsm_machine.specs.Meaning.{updated, query_of}
 use Rattle.wsm_query.specs.Tree.{Query, Expr}
 use Rattle.wsm_check.specs.Checks.{IsChecked}
-use Rattle.wsm_check.specs.Sizes.{accumulators, in_option, fired}
+use Rattle.wsm_check.specs.Aggregates.{accumulators, in_option, fired}
 use Rattle.wsm_compiler.specs.Meaning.{Scene, meaning, meets_i64, on_record, on_records}
 use Rattle.wsm_check.specs.Parts.{schema_of}
 use Rattle.wsm_compiler.specs.Program.{program_of}

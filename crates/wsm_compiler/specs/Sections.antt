@@ -19,7 +19,7 @@ use Rattle.wsm_check.specs.Spelt.{IsSpelt}
 use Rattle.wsm_record.specs.declared.words.CellType.TheVariants as types
 use Rattle.wsm_check.specs.Types.{typed}
 use Rattle.wsm_check.specs.declared.types.Around.TheVariants.{InColumn}
-use Rattle.wsm_check.specs.Sizes.{Acc, accumulators, aggregates}
+use Rattle.wsm_check.specs.Aggregates.{Acc, accumulators, aggregates}
 use Rattle.wsm_compiler.specs.Meaning.{Scene, meaning_from, meets_i64, all_of, on_record, on_accumulators}
 use Rattle.wsm_check.specs.Parts.{type_or_int, schema_of}
 use Rattle.wsm_compiler.specs.Program.{program_of}
