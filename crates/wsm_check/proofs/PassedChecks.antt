@@ -5,7 +5,7 @@ use Rattle.std.specs.List.{flat_map}
 use Rattle.wsm_query.specs.Tree.{Query, Expr, Number, Truth, Field, EnumName, Key, KeyName, Count, Aggregate, If, Brackets, Minus, Not, Binary, And, Or}
 use Rattle.wsm_check.specs.declared.refusal.Part.{Part}
 use Rattle.wsm_check.specs.Types.{InWhere, Typed, typed, typed_condition}
-use Rattle.wsm_check.specs.Aggregates.{accumulators, accumulators_of, aggregates, in_option}
+use Rattle.wsm_check.specs.Aggregates.{accumulators_of, aggregates, in_option}
 use Rattle.wsm_check.specs.Checks.{condition_refusal, typed_refusal}
 use Rattle.wsm_check.specs.Parts.{aggregates_of}
 use Rattle.wsm_check.proofs.Plain.{plain, first_ok}

@@ -6,7 +6,7 @@ use Rattle.wsm_record.specs.declared.event.Value.{Value}
 use Rattle.wsm_record.specs.declared.event.Value.TheVariants.{Bool as Truth'}
 use Rattle.wsm_record.specs.Schema.{is_i64}
 use Rattle.wsm_record.specs.declared.cell.Cell.{Cell}
-use Rattle.wsm_query.specs.Tree.{Query, Expr, Number, Truth, Field, EnumName, Key, KeyName, Count, Aggregate, If, Brackets, Minus, Not, Binary, And, Or}
+use Rattle.wsm_query.specs.Tree.{Query, Expr, Aggregate, If, Brackets, Minus, Not, Binary, And, Or}
 use Rattle.wsm_check.specs.Types.{typed}
 use Rattle.wsm_check.specs.declared.types.Around.TheVariants.{InColumn}
 use Rattle.wsm_check.specs.Aggregates.{Acc, accumulators_of, aggregates}

@@ -1,5 +1,5 @@
 -- FIRE has a fault exactly where a range of a column or of HAVING doesn't fit, where those of all aggregates do.
-use Rattle.std.proofs.Common.{◌≡◌, ℕ, zero, suc, ◌+◌, ◌≤◌, true, false, ◌&&◌, not, cond, List, [], ◌∷◌, ◌++◌, map, reverse, Option, Some, None, refl, sym, ap, subst, ◌∙◌, arith, append_assoc, append-nil}
+use Rattle.std.proofs.Common.{◌≡◌, ℕ, zero, suc, ◌+◌, ◌≤◌, true, false, ◌&&◌, not, cond, List, [], ◌∷◌, ◌++◌, map, reverse, Option, Some, None, refl, sym, ap, subst, ◌∙◌, arith, append-nil}
 use Rattle.std.specs.Prelude.{ℤ, ◌*ℤ◌, is_some, slice_get, slice_index_or}
 use Rattle.std.specs.List.{flat_map}
 use Rattle.std.proofs.lemmas.Grind.{flat_map-append}
@@ -29,7 +29,7 @@ use Rattle.wsm_compiler.proofs.FoundRanges.{suits, known_of}
 use Rattle.wsm_compiler.proofs.ExpressionRanges.{Accs, range_suits}
 use Rattle.wsm_compiler.proofs.QueryTerms.{kinds_of, folds_need, columns_need}
 use Rattle.wsm_compiler.proofs.Sizes.{sizes_are_lengths, some_columns_size}
-use Rattle.wsm_compiler.proofs.SectionEnds.{Ends, whole_section}
+use Rattle.wsm_compiler.proofs.SectionEnds.{whole_section}
 use Rattle.wsm_compiler.proofs.KnownFields.{reads_fire}
 use Rattle.wsm_compiler.proofs.Conditions.{condition_fits, in_condition, ConditionTyped, ColumnsTyped, columns_fit, columns_ends}
 use Rattle.wsm_compiler.proofs.UpdateFaults.{updating, acc_fits, accs_fit, AccsTyped}

@@ -1,7 +1,7 @@
 -- Fields that tests narrow: what the verifier knows of them is what they are narrowed to.
 use Rattle.std.proofs.Common.{◌≡◌, ℕ, zero, suc, ◌+◌, Bool, true, false, ◌&&◌, ◌||◌, not, cond, List, [], ◌∷◌, ℤ, Option, Some, None, Ok, Err, refl, sym, ap, ◌∙◌, arith}
 use Rattle.std.proofs.Math.Numerals.{one-add}
-use Rattle.std.specs.Prelude.{bytes_eq, is_some, neg_ℤ, slice_index_or, slice_set}
+use Rattle.std.specs.Prelude.{bytes_eq, is_some, neg_ℤ, slice_index_or}
 use Rattle.wsm_interval.specs.declared.Comparison.{Comparison}
 use Rattle.wsm_interval.specs.Comparison.{opposite}
 use Rattle.wsm_interval.specs.Interval.{interval}

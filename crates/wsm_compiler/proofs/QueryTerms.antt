@@ -1,5 +1,5 @@
 -- The terms of a query: their tests, and what the code of its conditions, accumulators and columns adds up to.
-use Rattle.std.proofs.Common.{◌≡◌, ℕ, ◌+◌, List, [], ◌∷◌, map, Option, Some, None, refl, ap}
+use Rattle.std.proofs.Common.{◌≡◌, ℕ, ◌+◌, List, map, Option, Some, None, refl, ap}
 use Rattle.std.specs.Prelude.{option_map}
 use Rattle.std.proofs.lemmas.Simd.{map-map}
 use Rattle.wsm_record.specs.declared.words.Kind.{Kind}
