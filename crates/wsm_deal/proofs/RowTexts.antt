@@ -1,10 +1,11 @@
 -- A row that shows no byte, and a text that is made longer.
-use Rattle.std.proofs.Common.{◌≡◌, ◌≢◌, ◌==◌, ◌∷◌, ◌++◌, ◌∙◌, [], ℕ, suc, List, true, false, refl, sym, length, length-append, get_or, take, take-take, inl, inr, arith}
+use Rattle.std.proofs.Common.{◌≡◌, ◌≢◌, ◌==◌, ◌∷◌, ◌++◌, ◌∙◌, [], ℕ, suc, List, true, false, refl, sym, ap, length, length-append, get_or, take, take-take, inl, inr, arith}
 use Rattle.std.proofs.Math.Seq.{take-append_seam}
-use Rattle.std.specs.Prelude.{◌≤◌}
+use Rattle.std.specs.Prelude.{◌+◌, ◌<◌, ◌≤◌}
 use Rattle.std.proofs.lemmas.Bool.{cases_Bool, ne_eqb}
 use Rattle.std.specs.List.{list_any}
-use Rattle.csv.specs.Writing.{default_writer, escaped, is_blank, needs_byte}
+use Rattle.csv.specs.Writing.{default_writer, escaped, field_text, is_blank, needs_byte, next_sep, row_body, row_text}
+use Rattle.csv.proofs.WriteFacts.{row-step}
 
 more_than_none : (xs : List ℕ) → (suc (length xs) == 0) ≡ false
 more_than_none xs = ne_eqb (suc (length xs)) 0 (λ z. cc z)
@@ -39,3 +40,22 @@ pub start_kept : (start longer new rest : List ℕ) → longer ≡ start ++ rest
 start_kept start longer new rest more kept =
     let le : length start ≤ length longer = rw more (simp (length-append) (omega arith)) in
     sym (take-take (length start) (length longer) new le) ∙ rw (kept, more) (take-append_seam start rest)
+
+-- the text of the first cell
+pub first_body : (cells : List (List ℕ)) → 0 < length cells → row_body default_writer (take 1 cells) ≡ field_text default_writer (get_or cells 0 [])
+first_body cells some = row-step default_writer cells 0 some
+
+-- that of the cells up to one more, which isn't the first
+pub next_body : (cells : List (List ℕ)) (i : ℕ) → 0 < i → i < length cells
+    → row_body default_writer (take (i + 1) cells) ≡ row_body default_writer (take i cells) ++ (44 ∷ field_text default_writer (get_or cells i []))
+next_body cells i some within =
+    let other : (i == 0) ≡ false = ne_eqb i 0 (λ z. omega (arith, some, z)) in
+    let comma : next_sep default_writer i ≡ 44 ∷ [] = rw other refl in
+    row-step default_writer cells i within
+    ∙ ap (λ (t : List ℕ). row_body default_writer (take i cells) ++ (t ++ field_text default_writer (get_or cells i []))) comma
+
+-- that of a row of two cells or more
+pub text_of_more : (cells : List (List ℕ)) → 2 ≤ length cells → row_text default_writer cells ≡ row_body default_writer cells ++ 10 ∷ []
+text_of_more cells more =
+    let shows : is_blank default_writer cells ≡ false = sym (blank_of_more cells (λ e. omega (arith, more, e)) (λ e. omega (arith, more, e))) in
+    rw shows refl

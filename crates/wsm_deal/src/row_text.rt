@@ -34,7 +34,7 @@ fn make_room(row: &ByteRecord, out: &mut Vec<u8>) -> Result<(), AllocError>
     Ok(())
 }
 
-// Adds the text of a row that shows a byte and needs no quotes, where there is room for it, and answers
+// Adds the text of a row of two cells or more that needs no quotes, where there is room for it, and answers
 // whether it did. Of another one a part may be added.
 #[inline(always)]
 fn add_plain_row(row: &ByteRecord, out: &mut Vec<u8>) -> bool
@@ -53,38 +53,45 @@ fn with_plain_row(row: &ByteRecord, mut text: Vec<u8>) -> (bool, Vec<u8>)
     ensures all { result.0 ≡ true → result.1.items ≡ text.items ++ csv.row_text csv.default_writer (fields_of row.now) }
     ensures kept { take (length text.items) result.1.items ≡ text.items }
 {
-    for place in 0..row.len() {
-        if !add_plain_cell(place, cell_at(row, place), &mut text) {
+    if row.len() < 2 || !add_plain_cell(cell_at(row, 0), &mut text) {
+        return (false, text);
+    }
+    for place in 1..row.len() {
+        if !add_next_cell(cell_at(row, place), &mut text) {
             return (false, text);
         }
-    }
-    if is_blank(row) || text.len() == text.capacity() {
-        return (false, text);
     }
     text.push_reserved(b'\n');
     (true, text)
 }
 
-// Adds what stands for the cell at a place, where it needs no quotes and there is room, and answers whether
-// it did.
+// Adds a comma and a cell, as the next one does.
 #[inline(always)]
-fn add_plain_cell(place: usize, cell: &[u8], out: &mut Vec<u8>) -> bool
-    ensures all { result ≡ true → out.new.items ≡ out.old.items ++ (csv.next_sep csv.default_writer place ++ csv.field_text csv.default_writer cell.now) }
+fn add_next_cell(cell: &[u8], out: &mut Vec<u8>) -> bool
+    requires { vec_len out.old < vec_capacity out.old }
+    ensures all { result ≡ true → out.new.items ≡ out.old.items ++ (44 ∷ csv.field_text csv.default_writer cell.now) }
+    ensures room { result ≡ true → vec_len out.new < vec_capacity out.new }
     ensures kept { take (length out.old.items) out.new.items ≡ out.old.items }
 {
-    if out.capacity() - out.len() <= cell.len() {
-        return false;
-    }
-    if place != 0 {
-        out.push_reserved(b',');
-    }
-    add_plain(cell, out)
+    out.push_reserved(b',');
+    add_plain_cell(cell, out)
+}
+
+// Adds a cell that needs no quotes, where it leaves room for a byte, and answers whether it did.
+#[inline(always)]
+fn add_plain_cell(cell: &[u8], out: &mut Vec<u8>) -> bool
+    ensures all { result ≡ true → out.new.items ≡ out.old.items ++ csv.field_text csv.default_writer cell.now }
+    ensures room { result ≡ true → vec_len out.new < vec_capacity out.new }
+    ensures kept { take (length out.old.items) out.new.items ≡ out.old.items }
+{
+    out.capacity() - out.len() > cell.len() && add_plain(cell, out)
 }
 
 // Adds the bytes of a cell, up to the first that needs quotes, and answers whether there is none.
 #[inline(always)]
 fn add_plain(cell: &[u8], out: &mut Vec<u8>) -> bool
     requires { vec_len out.old + length cell.now ≤ vec_capacity out.old }
+    ensures room { (vec_len out.new ≤ vec_len out.old + length cell.now) × (vec_capacity out.new ≡ vec_capacity out.old) }
     ensures plain { result ≡ true → out.new.items ≡ out.old.items ++ cell.now }
     ensures needs { result ≡ not (csv.needs_quotes csv.default_writer cell.now) }
     ensures kept { take (length out.old.items) out.new.items ≡ out.old.items }

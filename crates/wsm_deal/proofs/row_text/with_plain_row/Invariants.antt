@@ -1,8 +1,10 @@
-use Rattle.std.proofs.Common.{◌≡◌, ◌++◌, take}
+use Rattle.std.proofs.Common.{◌≡◌, ◌<◌, ◌++◌, take, vec_capacity, vec_len}
 use Rattle.csv.specs.Records.{fields_of}
 use Rattle.csv.specs.Writing.{default_writer, row_body}
 use Rattle.wsm_deal.proofs.row_text.with_plain_row.Given as goal
 
--- the cells so far have their text
+-- the cells so far have their text, and there is room for a byte
 abbrev pub invariant-loop-place : goal.invariant-loop-place
-invariant-loop-place l = l.text.items ≡ l.fn.text.items ++ row_body default_writer (take l.place (fields_of l.row))
+invariant-loop-place l = (l.text.items ≡ l.fn.text.items ++ row_body default_writer (take l.place (fields_of l.row)))
+    × (0 < l.place)
+    × (vec_len l.text < vec_capacity l.text)
