@@ -1,5 +1,7 @@
 //! A number to try first for a key.
 
+ghost use Rattle.std.specs.Prelude.{◌+◌, ◌<◌, ◌≤◌, length};
+
 use std::alloc::{AllocError, Global};
 
 // 2^64 by the golden ratio: its multiples lie far from one another.
@@ -37,6 +39,11 @@ impl Guesses {
         Ok(Guesses { numbers, shift })
     }
 
+    /// What gives the memory of the numbers.
+    pub(crate) fn allocator(&self) -> Global {
+        *self.numbers.allocator()
+    }
+
     /// The number to try for a text.
     #[inline(always)]
     pub(crate) fn number_for(&self, text: &[u8]) -> Option<usize> {
@@ -45,12 +52,48 @@ impl Guesses {
     }
 }
 
-// The place of a text, by the first bits of what a number is spread to that is made of all its bytes.
+// The place of a text, by the first bits of what its mark is spread to.
 #[inline(always)]
 fn place_of(text: &[u8], shift: u32) -> usize {
-    let mut mark = 0u64;
-    for byte in text {
-        mark = mark.wrapping_mul(257).wrapping_add(u64::from(*byte));
-    }
+    let mark = match text.len() {
+        0 => 0,
+        1..4 => mark_of_few(text),
+        _ => mark_of_more(text),
+    };
     mark.wrapping_mul(SPREAD).wrapping_shr(shift) as usize
+}
+
+// A number made of the first, the middle and the last byte of a text, which are all of three at most.
+#[inline(always)]
+fn mark_of_few(text: &[u8]) -> u64
+    requires { 0 < length text.now }
+{
+    let len = text.len();
+    u64::from(text[0]) << 16 | u64::from(text[len / 2]) << 8 | u64::from(text[len - 1])
+}
+
+// A number made of all bytes of a text, four by four, and of its last four once more.
+#[inline(always)]
+fn mark_of_more(text: &[u8]) -> u64
+    requires { 4 ≤ length text.now }
+{
+    let mut mark = four_at(text, text.len() - 4);
+    for word in 0..text.len() / 4 {
+        mark = mark
+            .wrapping_mul(SPREAD)
+            .wrapping_add(four_at(text, 4 * word));
+    }
+    mark
+}
+
+#[inline(always)]
+fn four_at(text: &[u8], start: usize) -> u64
+    requires { start + 4 ≤ length text.now }
+{
+    u64::from(u32::from_le_bytes([
+        text[start],
+        text[start + 1],
+        text[start + 2],
+        text[start + 3],
+    ]))
 }
