@@ -46,6 +46,14 @@ module _ {D : Type 0} (taken : D → Option (List ℕ)) where
     begun = begun ∙ sym (begun_more rows row);
   }
 
+  -- the same where the text was begun before
+  pub Has-added : (old : Option (List ℕ)) (rows : List (List (List ℕ))) (row : List (List ℕ)) (p m q : Part D)
+      → Has taken old rows p → m.out ≡ p.out → m.begun ≡ true → m.text.items ≡ p.text.items ++ (if p.begun then [] else mark_before row)
+      → q.out ≡ m.out → q.begun ≡ m.begun → q.text.items ≡ m.text.items ++ row_text default_writer row → Has taken old (rows ++ row ∷ []) q
+  Has-added old rows row p m q has out begun first same also text =
+      Has-more old rows row p q has (same ∙ out) (also ∙ begun)
+      (text ∙ ap (λ (t : List ℕ). t ++ row_text default_writer row) first ∙ append_assoc p.text.items (if p.begun then [] else mark_before row) (row_text default_writer row))
+
   -- what was kept is handed on
   pub Has-handed : (old : Option (List ℕ)) (rows : List (List (List ℕ))) (p q : Part D)
       → Has taken old rows p → Appends (taken p.out) (taken q.out) p.text.items → q.text.items ≡ [] → q.begun ≡ p.begun → Has taken old rows q

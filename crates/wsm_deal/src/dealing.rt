@@ -8,6 +8,7 @@ ghost use Rattle.wsm_deal.specs.Parts.{Befores, Dealt, EachBegan, EachHas, EachT
 
 use crate::ahead::Ahead;
 use crate::part::Part;
+use crate::row_text::add_row;
 use crate::shares::{Goal, Shares};
 use csv::ByteRecord;
 use std::alloc::AllocError;
@@ -94,8 +95,9 @@ fn deal_rows<R: Read + Drop, D: Device>(
     ensures ends_early { (known : Option (List ℕ)) (olds : Befores) → Follows (bytes_of R.remaining) known [] rows.old → EachHas D.taken olds (hands_of shares.now []) parts.old →
         IfErr result (λ _. (cells : List (List (List ℕ))) × EndsEarly D.taken known shares.now olds cells parts.new) }
 {
+    let mut text = Vec::new(shares.allocator());
     while rows.advance()? {
-        deal_row(shares, rows.row(), parts)?;
+        deal_row(shares, rows.row(), parts, &mut text)?;
         pass_on(rows, parts)?;
     }
     Ok(())
@@ -115,22 +117,25 @@ fn pass_on<R: Read + Drop, D: Device>(
     Ok(())
 }
 
-// Deals a row.
+// Deals a row. The text of one that goes to each part is put in place of what is given.
+#[inline(always)]
 fn deal_row<D: Device>(
     shares: &Shares,
     row: &ByteRecord,
     parts: &mut [Part<D>],
+    text: &mut Vec<u8>,
 ) -> Result<(), DealEnd>
     ensures dealt { (olds : Befores) (rows : List (List (List ℕ))) → EachHas D.taken olds (hands_of shares.now rows) parts.old → OnOk result (EachHas D.taken olds (hands_of shares.now (with_row rows (fields_of row.now))) parts.new) }
     ensures began { (olds : Befores) (rows : List (List (List ℕ))) → EachHas D.taken olds (hands_of shares.now rows) parts.old → OnErr result (EachBegan D.taken olds (hands_of shares.now (with_row rows (fields_of row.now))) parts.new) }
 {
     match shares.goal_of(row) {
         Goal::One(part) => deal_to_one(part, row, parts),
-        Goal::All => deal_to_all(row, parts),
+        Goal::All => deal_to_all(row, parts, text),
     }
 }
 
 // Deals a row to one part.
+#[inline(always)]
 fn deal_to_one<D: Device>(
     part: usize,
     row: &ByteRecord,
@@ -145,14 +150,21 @@ fn deal_to_one<D: Device>(
     Ok(())
 }
 
-// Deals a row to each part.
+// Deals a row to each part. Its text is made once.
 #[inline(never)]
-fn deal_to_all<D: Device>(row: &ByteRecord, parts: &mut [Part<D>]) -> Result<(), DealEnd>
+fn deal_to_all<D: Device>(
+    row: &ByteRecord,
+    parts: &mut [Part<D>],
+    text: &mut Vec<u8>,
+) -> Result<(), DealEnd>
     ensures dealt { (olds : Befores) (hands : Hands) → EachHas D.taken olds hands parts.old → OnOk result (EachHas D.taken olds (one_more_each hands (fields_of row.now)) parts.new) }
     ensures began { (olds : Befores) (hands : Hands) → EachHas D.taken olds hands parts.old → OnErr result (EachBegan D.taken olds (one_more_each hands (fields_of row.now)) parts.new) }
 {
+    text.clear();
+    add_row(row, text)?;
+    let text = text.as_slice();
     for part in parts.iter_mut() {
-        part.add(row)?;
+        part.add_text(row, text)?;
     }
     Ok(())
 }

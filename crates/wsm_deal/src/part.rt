@@ -23,9 +23,10 @@ pub struct Part<D> {
 }
 
 impl<D: Device> Part<D> {
-    ghost use Rattle.std.specs.Prelude.{◌≡◌, ◌∷◌, ◌++◌, [], ℕ, List, Option, OnOk, OnErr};
+    ghost use Rattle.std.specs.Prelude.{◌≡◌, ◌∷◌, ◌++◌, [], ℕ, List, Option, OnOk, OnErr, true, if◌then◌else◌};
     ghost use Rattle.std.specs.Io.KnownBytes.{Appends};
     ghost use Rattle.csv.specs.Records.{fields_of};
+    ghost use Rattle.csv.specs.Writing.{default_writer, row_text};
     ghost use Rattle.wsm_csv.specs.Device.{TakesPart};
     ghost use Rattle.wsm_deal.specs.PartText.{part_text};
     ghost use Rattle.wsm_deal.specs.Parts.{Has, out_of};
@@ -53,16 +54,50 @@ impl<D: Device> Part<D> {
         Ok(())
     }
 
+    /// The same by the row's text.
+    pub(crate) fn add_text(&mut self, row: &ByteRecord, text: &[u8]) -> Result<(), DealEnd>
+        requires { text.now ≡ row_text default_writer (fields_of row.now) }
+        ensures adds { (old : Option (List ℕ)) (rows : List (List (List ℕ))) → Has D.taken old rows self.old → OnOk result (Has D.taken old (rows ++ fields_of row.now ∷ []) self.new) }
+        ensures part { (old : Option (List ℕ)) (rows : List (List (List ℕ))) → Has D.taken old rows self.old → OnErr result (TakesPart old (D.taken (out_of self.new)) (part_text (rows ++ fields_of row.now ∷ []))) }
+    {
+        self.keep_text(row, text)?;
+        if FULL <= self.text.len() {
+            self.hand_on()?;
+        }
+        Ok(())
+    }
+
     // Deals a row to the part, whose text is kept.
     fn keep(&mut self, row: &ByteRecord) -> Result<(), AllocError>
         ensures adds { (old : Option (List ℕ)) (rows : List (List (List ℕ))) → Has D.taken old rows self.old → OnOk result (Has D.taken old (rows ++ fields_of row.now ∷ []) self.new) }
         ensures out { self.new.out ≡ self.old.out }
     {
-        if !self.begun {
-            self.begun = true;
-            begin(row, &mut self.text)?;
-        }
+        self.open(row)?;
         add_row(row, &mut self.text)
+    }
+
+    // The same by the row's text.
+    fn keep_text(&mut self, row: &ByteRecord, text: &[u8]) -> Result<(), AllocError>
+        requires { text.now ≡ row_text default_writer (fields_of row.now) }
+        ensures adds { (old : Option (List ℕ)) (rows : List (List (List ℕ))) → Has D.taken old rows self.old → OnOk result (Has D.taken old (rows ++ fields_of row.now ∷ []) self.new) }
+        ensures out { self.new.out ≡ self.old.out }
+    {
+        self.open(row)?;
+        self.text.extend_from_slice(text)
+    }
+
+    // Begins the text where the row is the first.
+    #[inline(always)]
+    fn open(&mut self, row: &ByteRecord) -> Result<(), AllocError>
+        ensures text { OnOk result (self.new.text.items ≡ self.old.text.items ++ (if self.old.begun then [] else mark_before (fields_of row.now))) }
+        ensures begun { OnOk result (self.new.begun ≡ true) }
+        ensures out { self.new.out ≡ self.old.out }
+    {
+        if self.begun {
+            return Ok(());
+        }
+        self.begun = true;
+        begin(row, &mut self.text)
     }
 
     /// Gives the device the text that it wasn't handed.

@@ -110,6 +110,11 @@ impl Shares {
         })
     }
 
+    /// What gives the memory of the keys.
+    pub(crate) fn allocator(&self) -> Global {
+        self.guesses.allocator()
+    }
+
     /// How many parts there are.
     pub fn parts(&self) -> usize {
         self.names.len().div_ceil(self.block)

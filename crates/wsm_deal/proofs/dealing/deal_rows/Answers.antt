@@ -8,14 +8,14 @@ use Rattle.wsm_deal.proofs.dealing.deal_rows.Goals as goal
 
 pub returns-in_err-advance-clause-ends_early : goal.returns-in_err-advance-clause-ends_early
 returns-in_err-advance-clause-ends_early g c = λ known olds follows each.
-    let (cells, read, has) = c.loop-rows.invariant known olds follows each in
+    let (cells, read, has) = c.loop-text.invariant known olds follows each in
     let ended = c.in_err-advance.ensures.advances known cells read in
     let hands = hands_of c.args.shares.now cells in
     if_err c.from_residual.result (cells, record { first = ended.0; began = λ k p at. has_began g.D.Device.taken olds hands k p (has k p at) })
 
 pub returns-in_err-deal_row-clause-ends_early : goal.returns-in_err-deal_row-clause-ends_early
 returns-in_err-deal_row-clause-ends_early g c = λ known olds follows each.
-    let (cells, read, has) = c.loop-rows.invariant known olds follows each in
+    let (cells, read, has) = c.loop-text.invariant known olds follows each in
     let row = cells_of c.advance.new.self in
     let more = rw c.if-branch.true at (c.in_ok-advance.ensures.advances known cells read) in
     let began = subst (λ (f : List (List ℕ)). EachBegan g.D.Device.taken olds (hands_of c.args.shares.now (with_row cells f)) c.deal_row.new.parts) c.row.ensures (c.in_err-deal_row.ensures.began olds cells has) in
@@ -23,16 +23,16 @@ returns-in_err-deal_row-clause-ends_early g c = λ known olds follows each.
 
 pub returns-in_err-pass_on-clause-ends_early : goal.returns-in_err-pass_on-clause-ends_early
 returns-in_err-pass_on-clause-ends_early g c = λ known olds follows each.
-    let (cells, read, has) = c.loop-rows.invariant known olds follows each in
+    let (cells, read, has) = c.loop-text.invariant known olds follows each in
     let row = cells_of c.advance.new.self in
     let more = rw c.if-branch.true at (c.in_ok-advance.ensures.advances known cells read) in
     let dealt = subst (λ (f : List (List ℕ)). EachHas g.D.Device.taken olds (hands_of c.args.shares.now (with_row cells f)) c.deal_row.new.parts) c.row.ensures (c.in_ok-deal_row.ensures.dealt olds cells has) in
     let began = c.in_err-pass_on.ensures.began olds (hands_of c.args.shares.now (with_row cells row)) dealt in
     if_err c.from_residual-in_err-pass_on.result (cells ++ row ∷ [], record { first = Follows-first (bytes_of g.R.Read.remaining) known (cells ++ row ∷ []) c.advance.new.self more; began = began })
 
-pub loop-rows-preserved : goal.loop-rows-preserved
-loop-rows-preserved g c = λ known olds follows each.
-    let (cells, read, has) = c.loop-rows.invariant known olds follows each in
+pub loop-text-preserved : goal.loop-text-preserved
+loop-text-preserved g c = λ known olds follows each.
+    let (cells, read, has) = c.loop-text.invariant known olds follows each in
     let row = cells_of c.advance.new.self in
     let more = rw c.if-branch.true at (c.in_ok-advance.ensures.advances known cells read) in
     let dealt = subst (λ (f : List (List ℕ)). EachHas g.D.Device.taken olds (hands_of c.args.shares.now (with_row cells f)) c.deal_row.new.parts) c.row.ensures (c.in_ok-deal_row.ensures.dealt olds cells has) in
@@ -40,6 +40,6 @@ loop-rows-preserved g c = λ known olds follows each.
 
 pub returns-clause-dealt : goal.returns-clause-dealt
 returns-clause-dealt g c = λ known olds follows each.
-    let (cells, read, has) = c.loop-rows.invariant known olds follows each in
+    let (cells, read, has) = c.loop-text.invariant known olds follows each in
     let all = rw c.if-branch.false at (c.in_ok-advance.ensures.advances known cells read) in
     (cells, all, has)

@@ -4,9 +4,9 @@ use Rattle.wsm_deal.specs.Parts.{Befores, EachHas, bytes_of, hands_of}
 use Rattle.wsm_deal.proofs.dealing.deal_rows.Given as goal
 
 -- these rows were read, and dealt
-abbrev pub invariant-loop-rows : goal.invariant-loop-rows
-invariant-loop-rows g l = (known : Option (List ℕ)) (olds : Befores) → Follows (bytes_of g.R.Read.remaining) known [] l.fn.rows → EachHas g.D.Device.taken olds (hands_of l.shares []) l.fn.parts
+abbrev pub invariant-loop-text : goal.invariant-loop-text
+invariant-loop-text g l = (known : Option (List ℕ)) (olds : Befores) → Follows (bytes_of g.R.Read.remaining) known [] l.fn.rows → EachHas g.D.Device.taken olds (hands_of l.shares []) l.fn.parts
     → (cells : List (List (List ℕ))) × Follows (bytes_of g.R.Read.remaining) known cells l.rows × EachHas g.D.Device.taken olds (hands_of l.shares cells) l.parts
 
-abbrev pub decreases-loop-rows : goal.decreases-loop-rows
-decreases-loop-rows g l = turns_left l.rows
+abbrev pub decreases-loop-text : goal.decreases-loop-text
+decreases-loop-text g l = turns_left l.rows

@@ -14,11 +14,11 @@ loop-part-preserved g c = λ olds hands each.
     let i = c.loop-part.part-index in
     let within : i < length c.loop-part.parts = omega (arith, c.loop-part-test.true, c.loop-part.auto.parts) in
     let at : slice_get c.loop-part.parts i ≡ Some c.part-item.result = there c.loop-part.parts i c.part-item.result within c.part-item.is in
-    first_more (HasAt taken olds more) (HasAt taken olds hands) c.loop-part.parts i c.part-item.result c.add.new.self at (c.loop-part.invariant olds hands each)
-    (λ has. c.in_ok-add.ensures.adds (olds i) (hands i) (search (has, subst (HasAt taken olds hands i) c.part-item.is has)))
+    first_more (HasAt taken olds more) (HasAt taken olds hands) c.loop-part.parts i c.part-item.result c.add_text.new.self at (c.loop-part.invariant olds hands each)
+    (λ has. c.in_ok-add_text.ensures.adds (olds i) (hands i) (search (has, subst (HasAt taken olds hands i) c.part-item.is has)))
 
-pub returns-in_err-add-clause-began : goal.returns-in_err-add-clause-began
-returns-in_err-add-clause-began g c = λ olds hands each.
+pub returns-in_err-add_text-clause-began : goal.returns-in_err-add_text-clause-began
+returns-in_err-add_text-clause-began g c = λ olds hands each.
     let taken = g.D.Device.taken in
     let row = fields_of c.args.row.now in
     let more = one_more_each hands row in
@@ -26,10 +26,14 @@ returns-in_err-add-clause-began g c = λ olds hands each.
     let inv = c.loop-part.invariant olds hands each in
     let within : i < length c.loop-part.parts = omega (arith, c.loop-part-test.true, c.loop-part.auto.parts) in
     let at : slice_get c.loop-part.parts i ≡ Some c.part-item.result = there c.loop-part.parts i c.part-item.result within c.part-item.is in
-    on_err c.from_residual.result (first_broken (HasAt taken olds more) (HasAt taken olds hands) (BeganAt taken olds more) c.loop-part.parts i c.add.new.self inv
-    (c.in_err-add.ensures.part (olds i) (hands i) (let has = (inv i c.part-item.result at).1 (omega arith) in search (has, subst (HasAt taken olds hands i) c.part-item.is has))) (has_began taken olds more) (more_began taken olds hands row))
+    on_err c.from_residual-in_err-add_text.result (first_broken (HasAt taken olds more) (HasAt taken olds hands) (BeganAt taken olds more) c.loop-part.parts i c.add_text.new.self inv
+    (c.in_err-add_text.ensures.part (olds i) (hands i) (let has = (inv i c.part-item.result at).1 (omega arith) in search (has, subst (HasAt taken olds hands i) c.part-item.is has))) (has_began taken olds more) (more_began taken olds hands row))
 
 pub returns-clause-dealt : goal.returns-clause-dealt
 returns-clause-dealt g c = λ olds hands each.
     let more = one_more_each hands (fields_of c.args.row.now) in
     first_all (HasAt g.D.Device.taken olds more) (HasAt g.D.Device.taken olds hands) c.loop-part.parts c.loop-part.part-index (omega (arith, c.loop-part-test.false, c.loop-part.auto.parts)) (c.loop-part.invariant olds hands each)
+
+pub returns-in_err-add_row-clause-began : goal.returns-in_err-add_row-clause-began
+returns-in_err-add_row-clause-began g c = λ olds hands each.
+    on_err c.from_residual.result (λ k p at. more_began g.D.Device.taken olds hands (fields_of c.args.row.now) k p (each k p at))
