@@ -11,3 +11,4 @@ mod KeysOf
 mod BlockNumbers
 mod PartRuns
 mod DistinctKeys
+mod KeysTexts

@@ -1,4 +1,6 @@
 pub mod Deal
+pub mod KeysText
+pub mod PartCount
 pub mod PartText
 pub mod Parts
 pub mod Runs

@@ -1,6 +1,7 @@
 //! Which part has which keys.
 
-ghost use Rattle.std.specs.Prelude.{◌<◌, length, IfOk};
+ghost use Rattle.std.specs.Prelude.{◌≡◌, ◌<◌, ◌∷◌, length, map, IfOk};
+ghost use Rattle.wsm_deal.specs.KeysText.{keys_text};
 
 use crate::guesses::Guesses;
 use csv::ByteRecord;
@@ -94,9 +95,13 @@ impl Model for Shares {
 }
 
 impl Shares {
-    ghost use Rattle.std.specs.Prelude.{◌≡◌, ◌∷◌, ℕ, List, IfSome, Some, bytes_eq, position, slice_get};
+    ghost use Rattle.std.specs.Prelude.{◌≡◌, ◌<◌, ◌∷◌, ◌⊎◌, [], ℕ, List, IfErr, IfOk, IfSome, Some, bytes_eq, length, map, position, slice_get};
     ghost use Rattle.csv.specs.Records.{fields_of};
     ghost use Rattle.wsm_deal.specs.Deal.{goal_of, names_of, part_of, record_part};
+    ghost use Rattle.wsm_deal.specs.KeysText.{keys_text};
+    ghost use Rattle.wsm_deal.specs.PartCount.{part_count};
+    ghost use Rattle.wsm_deal.specs.Runs.{block_of};
+    ghost use Rattle.wsm_deal.specs.declared.shares.SharesRefusal.TheVariants as SharesRefusal;
 
     /// The keys of a text with a name a line, for so many parts.
     pub fn of(alloc: Global, text: &[u8], parts: usize) -> Result<Shares, SharesRefusal> {
@@ -116,30 +121,28 @@ impl Shares {
     }
 
     /// How many parts there are.
-    pub fn parts(&self) -> usize {
+    pub fn parts(&self) -> usize
+        ensures { result ≡ part_count self.now }
+    {
         self.names.len().div_ceil(self.block)
     }
 
     /// The `KEYS` clause of a part's query, and a line feed.
-    pub fn clause_of(&self, alloc: Global, part: usize) -> Result<Vec<u8>, SharesRefusal> {
-        let names = self.names_of(part);
-        if names.is_empty() {
+    pub fn clause_of(&self, alloc: Global, part: usize) -> Result<Vec<u8>, SharesRefusal>
+        ensures text { IfOk result (λ text. text.items ≡ keys_text (block_of self.now part)) }
+        ensures some { IfOk result (λ _. 0 < length (block_of self.now part)) }
+        ensures refused { IfErr result (λ r. (r ≡ SharesRefusal.Memory) ⊎ ((r ≡ SharesRefusal.BadNumber) × (block_of self.now part ≡ []))) }
+    {
+        let Some((first, rest)) = self.names_of(part).split_first() else {
             return Err(SharesRefusal::BadNumber);
-        }
-        let mut text = Vec::new(alloc);
-        text.extend_from_slice(b"KEYS ")?;
-        for (place, name) in names.iter().enumerate() {
-            if 0 < place {
-                text.extend_from_slice(b", ")?;
-            }
-            text.extend_from_slice(name)?;
-        }
-        text.extend_from_slice(b";\n")?;
-        Ok(text)
+        };
+        Ok(keys_clause(alloc, first, rest)?)
     }
 
     // The names of a part, in their order.
-    fn names_of(&self, part: usize) -> &[Vec<u8>] {
+    fn names_of(&self, part: usize) -> &[Vec<u8>]
+        ensures { map (λ v. v.items) result.now ≡ block_of self.now part }
+    {
         let names = self.names.as_slice();
         let start = part.saturating_mul(self.block).min(names.len());
         let end = start.saturating_add(self.block).min(names.len());
@@ -220,6 +223,21 @@ impl Shares {
     {
         self.names.get_index_of(key)
     }
+}
+
+// The `KEYS` clause of a name and others behind it, and a line feed.
+fn keys_clause(alloc: Global, first: &[u8], rest: &[Vec<u8>]) -> Result<Vec<u8>, AllocError>
+    ensures { IfOk result (λ text. text.items ≡ keys_text (first.now ∷ map (λ v. v.items) rest.now)) }
+{
+    let mut text = Vec::new(alloc);
+    text.extend_from_slice(b"KEYS ")?;
+    text.extend_from_slice(first)?;
+    for name in rest {
+        text.extend_from_slice(b", ")?;
+        text.extend_from_slice(name)?;
+    }
+    text.extend_from_slice(b";\n")?;
+    Ok(text)
 }
 
 fn names_of(alloc: Global, text: &[u8]) -> Result<IndexSet<Vec<u8>>, SharesRefusal> {
