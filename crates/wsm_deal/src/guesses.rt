@@ -63,13 +63,14 @@ fn place_of(text: &[u8], shift: u32) -> usize {
     mark.wrapping_mul(SPREAD).wrapping_shr(shift) as usize
 }
 
-// A number made of the first, the middle and the last byte of a text, which are all of three at most.
+// A number made of a text's length and its first, middle and last byte, which are all of three at most.
 #[inline(always)]
 fn mark_of_few(text: &[u8]) -> u64
     requires { 0 < length text.now }
 {
     let len = text.len();
-    u64::from(text[0]) << 16 | u64::from(text[len / 2]) << 8 | u64::from(text[len - 1])
+    let ends = u64::from(text[0]) << 14 ^ u64::from(text[len - 1]);
+    (len as u64) << 21 ^ ends ^ u64::from(text[len / 2]) << 7
 }
 
 // A number made of all bytes of a text, four by four, and of its last four once more.
