@@ -45,6 +45,14 @@ class Parted:
             self.clauses[place] = self.answer("deal", "--keys-of", self.keys, str(parts), str(number))
         return self.clauses[place]
 
+    def deal_keys(self, parts, out):
+        """Asks for the clauses of all parts at once: the program deals the keys as rows, to files of this name."""
+        Path(f"{out}rows").write_text("".join(f"r,{name}\n" for name in self.names), encoding="latin-1")
+        self.answer("deal", self.keys, str(parts), str(out), f"{out}rows")
+        for number in range(parts):
+            names = ", ".join(row.removeprefix("r,") for row in read(f"{out}{number}").splitlines())
+            self.clauses[parts, number] = f"KEYS {names};"
+
     def answer(self, *words):
         """What the program writes; its line and its status are raised where that isn't 0."""
         try:
