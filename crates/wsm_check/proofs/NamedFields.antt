@@ -23,7 +23,7 @@ behind_all fields x i h low high =
 
 -- ---- numbers of names
 
-first_below : (n : ℕ) → nat_lt 0 (suc n) ≡ true
+pub first_below : (n : ℕ) → nat_lt 0 (suc n) ≡ true
 first_below n = grind arith
 
 next_below : (m n : ℕ) (b : Bool) → nat_lt m n ≡ b → nat_lt (1 + m) (suc n) ≡ b

@@ -14,7 +14,7 @@ use Rattle.wsm_check.specs.declared.expressions.Expressions.{Expressions}
 use Rattle.wsm_check.specs.Types.{Around, Typed, typed, op_ty, logic_ty}
 use Rattle.wsm_check.specs.Aggregates.{accumulators_of, fired, in_option}
 use Rattle.wsm_check.specs.Checks.{typed_refusal}
-use Rattle.wsm_check.specs.Spelt.{numbers_fit}
+use Rattle.wsm_check.specs.Spelt.{numbers_fit, NumbersFit}
 use Rattle.wsm_check.specs.Terms.{Term, Binary, And, Or, resolved}
 use Rattle.wsm_check.specs.Parts.{Folding, column_type, columns_from, folding, parts_of}
 use Rattle.wsm_check.specs.Seen.{seen_folding, seen_term}
@@ -72,7 +72,7 @@ pub record AreResolved (q : Query) (r : Expressions) : Type 0 where
   pub foldings : seen_foldings r.fired ≡ (parts_of q).foldings
   pub columns : map seen_term r.fired.columns.items ≡ (parts_of q).columns
   pub having : option_map seen_term r.having ≡ (parts_of q).having
-  pub spelt : list_all numbers_fit (in_option q.condition ++ fired q) ≡ true
+  pub spelt : NumbersFit q
 
 -- So they are where they fold no more than a program may, and as many they fold as the query.
 pub record AreResolvedIfFew (q : Query) (r : Expressions) : Type 0 where

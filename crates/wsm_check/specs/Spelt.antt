@@ -19,9 +19,13 @@ numbers_fit (And x y) = numbers_fit x && numbers_fit y
 numbers_fit (Or x y) = numbers_fit x && numbers_fit y
 numbers_fit _ = true
 
+-- the numbers of a query's expressions fit
+abbrev pub NumbersFit : Query → Type 0
+NumbersFit q = list_all numbers_fit (in_option q.condition ++ fired q) ≡ true
+
 -- each name that the query declares is a name, and each number of its types and expressions has 64 bits
 pub record IsSpelt (q : Query) : Type 0 where
   pub keys : list_all is_name q.keys ≡ true
   pub fields : list_all is_spelt_field q.fields ≡ true
   pub sources : list_all is_name q.sources ≡ true
-  pub numbers : list_all numbers_fit (in_option q.condition ++ fired q) ≡ true
+  pub numbers : NumbersFit q

@@ -19,13 +19,11 @@ use Rattle.wsm_check.specs.Names.{place_of, has_repeats, field_names, field_plac
 use Rattle.wsm_check.specs.Checks.{unless, first, names_refusal, sources_refusal}
 use Rattle.wsm_machine.proofs.FittingStacks.{no}
 use Rattle.wsm_compiler.proofs.Passed.{unless_none}
+use Rattle.wsm_check.proofs.NamedFields.{first_below}
 use Rattle.wsm_check.proofs.Repeats.{same_either_way}
 use Rattle.wsm_check.proofs.ChecksInOrder.{passed_both}
 
 -- ---- places
-
-first_below : (n : ℕ) → nat_lt 0 (suc n) ≡ true
-first_below n = grind arith
 
 next_below : (m n : ℕ) → nat_lt m n ≡ true → nat_lt (1 + m) (suc n) ≡ true
 next_below m n h = grind arith

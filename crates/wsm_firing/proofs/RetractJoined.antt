@@ -21,7 +21,7 @@ use Rattle.wsm_semantics.specs.Replay.{datum}
 use Rattle.wsm_semantics.specs.Retractions.{retracted, retracted_in}
 use Rattle.wsm_semantics.specs.Summaries.{Plan, Pane, entered, joined_all, linked, parted, parted_by, session_with, standing_joined, with_record, withdrawn_entering, written_by}
 use Rattle.wsm_semantics.proofs.Assigned.{both}
-use Rattle.wsm_panes.specs.Held.{are_sessions, first_two, has_fired, joined_panes}
+use Rattle.wsm_panes.specs.Held.{first_two, has_fired, joined_panes}
 use Rattle.wsm_firing.specs.Retracting.{AreWithdrawn, withdrawn_pair}
 use Rattle.wsm_firing.proofs.RetractWalk.{Panes, Written}
 use Rattle.wsm_firing.proofs.RowsAfterRecord.{length_parts}
@@ -90,12 +90,6 @@ module _ (plan : Plan (List Value)) (d : Datum) (es : Panes) where
   withdraws_none (Fixed size) is = refl
   withdraws_none (Sliding size period) is = refl
   withdraws_none (Session gap) is = none_of (linked gap d es) is
-
-  -- where windows are no sessions
-  pub withdraws_apart : (sh : Shape) → are_sessions sh ≡ false → withdrawn_entering plan sh d es ≡ []
-  withdraws_apart (Fixed size) apart = refl
-  withdraws_apart (Sliding size period) apart = refl
-  withdraws_apart (Session gap) apart = absurd (cc)
 
   -- where it joins two
   pub record WithdrawsPair (sh : Shape) (v w : Pane (List Value)) : Type 0 where
