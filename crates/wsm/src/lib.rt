@@ -62,7 +62,7 @@ pub use end::{End, InputRefusal, REJECTED_STATUS, status_of};
 pub use judging::judge;
 pub use migrating::migrate;
 pub use run::{run_program, run_program_over, run_query, run_query_over};
-pub use wsm_check::{CheckFault, Part};
+pub use wsm_check::{CheckFault, CodeLimit, Part};
 pub use wsm_csv::{Device, DeviceFault, Guarded, Rows, write_out};
 pub use wsm_deal::{Ahead, Part as DealtPart, Shares, SharesRefusal, deal};
 pub use wsm_engine::Totals;
