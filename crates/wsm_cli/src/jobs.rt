@@ -88,7 +88,7 @@ fn deal_over<R: Files + AllocGlobal, I: Read + Drop>(
             Err(error) => return Err(end_of(&error, End::WriteFailed)),
         }
     }
-    let mut rows = Rows::new(rt.alloc(), Ahead::new(rows));
+    let mut rows = Rows::new(rt.alloc(), Ahead::new(rt.alloc(), rows)?);
     deal(shares, &mut rows, &mut parts)?;
     Ok(true)
 }

@@ -1,5 +1,6 @@
 -- What the parts hold and were given, of the rows that were dealt to them.
 use Rattle.std.specs.Prelude.{◌≡◌, ◌==◌, ℕ, List, [], ◌∷◌, ◌++◌, Option, Some, slice_get, if◌then◌else◌}
+use Rattle.std.specs.Io.Buffered.{reader_remaining}
 use Rattle.std.specs.Io.KnownBytes.{Appends}
 use Rattle.wsm_csv.specs.Device.{TakesPart}
 use Rattle.wsm_csv.specs.declared.rows.ReadEnd.{ReadEnd}
@@ -12,9 +13,9 @@ use Rattle.wsm_deal.specs.declared.part.Part.{Part}
 use Rattle.wsm_deal.specs.declared.dealing.DealEnd.{DealEnd}
 use Rattle.wsm_deal.specs.declared.dealing.DealEnd.TheVariants as ends
 
--- the bytes that are left of a reader's input
+-- the bytes that a reader has left: those that it holds, and those that its input has left
 abbrev pub bytes_of : {R : Type 0} → (R → Option (List ℕ)) → Ahead R → Option (List ℕ)
-bytes_of remaining a = remaining a.input
+bytes_of remaining a = reader_remaining remaining a.input
 
 -- what takes a part
 abbrev pub out_of : {D : Type 0} → Part D → D
