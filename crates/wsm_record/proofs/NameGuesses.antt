@@ -7,12 +7,12 @@ use Rattle.std.proofs.lemmas.Option.{get_or_from_slice_get, slice_get_within}
 use Rattle.wsm_record.specs.Guesses.{AreBytes, AreGuesses, IsGuess, spelled}
 use Rattle.wsm_record.specs.declared.names.Guess.{Guess}
 
-spelled_pos : (text : List ℕ) → 1 ≤ spelled text
+pub spelled_pos : (text : List ℕ) → 1 ≤ spelled text
 spelled_pos [] = omega arith
 spelled_pos (b ∷ bs) = let rest = spelled_pos bs in omega (arith, rest)
 
 -- texts with the same word are the same
-spelled_injective : (a b : List ℕ) → AreBytes a → AreBytes b → spelled a ≡ spelled b → a ≡ b
+pub spelled_injective : (a b : List ℕ) → AreBytes a → AreBytes b → spelled a ≡ spelled b → a ≡ b
 spelled_injective [] [] f g e = refl
 spelled_injective [] (b ∷ bs) f g e = let rest = spelled_pos bs in absurd (omega (arith, rest, e))
 spelled_injective (a ∷ more) [] f g e = let rest = spelled_pos more in absurd (omega (arith, rest, e))

@@ -40,6 +40,7 @@ mod cell;
 mod columns;
 mod event;
 pub mod limits;
+pub mod marks;
 mod name;
 mod names;
 mod reserved;
