@@ -1,12 +1,12 @@
 -- The number of a key, where keys differ.
-use Rattle.std.proofs.Common.{◌≡◌, ◌∙◌, ◌+◌, [], ◌∷◌, ℕ, zero, suc, List, Bool, Some, true, false, not, inl, inr, refl, sym, ap, arith, length, map, position}
+use Rattle.std.proofs.Common.{◌≡◌, ◌∙◌, ◌+◌, [], ◌∷◌, ℕ, zero, suc, List, Bool, Option, Some, None, true, false, not, inl, inr, refl, sym, ap, arith, length, map, position}
 use Rattle.std.proofs.lemmas.Bool.{cases_Bool, lt-ltb}
 use Rattle.std.proofs.lemmas.List.{length-map}
 use Rattle.std.proofs.lemmas.Map.Keys.{IsDistinct-head, IsDistinct-tail}
-use Rattle.std.proofs.lemmas.Option.{slice_get_within}
+use Rattle.std.proofs.lemmas.Option.{slice_get-map, slice_get_within}
 use Rattle.std.proofs.lemmas.Slice.Eq.{bytes_eq-Decides}
 use Rattle.std.specs.List.{AllByRecursion, IsDistinct, prefix_len}
-use Rattle.std.specs.Prelude.{bytes_eq, slice_get}
+use Rattle.std.specs.Prelude.{bytes_eq, option_map, slice_get}
 
 some_same : {X : Type 0} (y x : X) → Some y ≡ Some x → y ≡ x
 some_same y x e = cc e
@@ -40,3 +40,12 @@ module _ {V : Type 0} (items : V → List ℕ) where
   pub number_of_distinct : (ks : List V) (i : ℕ) (v : V) → IsDistinct same ks → slice_get ks i ≡ Some v → position (bytes_eq (items v)) (map items ks) ≡ Some i
   number_of_distinct ks i v distinct e =
       rw (in_front ks i v distinct e, length-map ks items, lt-ltb i (length ks) (slice_get_within ks i v e)) refl
+
+  found : (ks : List V) (i : ℕ) (text : List ℕ) (at : Option V) → IsDistinct same ks → slice_get ks i ≡ at → option_map items at ≡ Some text → position (bytes_eq text) (map items ks) ≡ Some i
+  found ks i text None distinct e h = cc h
+  found ks i text (Some v) distinct e h =
+      ap (λ (t : List ℕ). position (bytes_eq t) (map items ks)) (sym (some_same (items v) text h)) ∙ number_of_distinct ks i v distinct e
+
+  -- the same by the text of the key
+  pub number_of_text : (ks : List V) (i : ℕ) (text : List ℕ) → IsDistinct same ks → slice_get (map items ks) i ≡ Some text → position (bytes_eq text) (map items ks) ≡ Some i
+  number_of_text ks i text distinct e = found ks i text (slice_get ks i) distinct refl (sym (slice_get-map items ks i) ∙ e)

@@ -12,3 +12,4 @@ mod BlockNumbers
 mod PartRuns
 mod DistinctKeys
 mod KeysTexts
+mod KeyGuesses

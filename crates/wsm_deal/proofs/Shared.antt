@@ -15,3 +15,7 @@ first_cell (x ∷ xs) cell e = ap (λ (c : List ℕ). c ∷ xs) (cc e)
 pub no_first_cell : (cells : List (List ℕ)) → slice_get cells 0 ≡ None → cells ≡ []
 no_first_cell [] e = refl
 no_first_cell (x ∷ xs) e = cc e
+
+-- the part of the key that is its only name
+pub part_at : (s : Sharing) (names : List (List ℕ)) (block number : ℕ) (key : List ℕ) → record { names = names; block = block } ≡ s → Some number ≡ position (bytes_eq key) names → number / block ≡ part_of s key
+part_at s names block number key e h = part_found s names block key (Some number) e h

@@ -5,3 +5,4 @@ pub mod PartText
 pub mod Parts
 pub mod Runs
 pub mod Text
+pub mod KeyGuesses

@@ -1,100 +1,93 @@
-//! A number to try first for a key.
+//! What to try first for a key.
 
-ghost use Rattle.std.specs.Prelude.{◌+◌, ◌<◌, ◌≤◌, length};
+ghost use Rattle.std.specs.Prelude.{◌≡◌, ◌<◌, ◌≤◌, ◌^◌, ◌/◌, ℕ, List, map, slice_get, Some, IfOk, IfSome};
+ghost use Rattle.wsm_deal.specs.KeyGuesses.{AreGuesses, IsGuess};
 
 use std::alloc::{AllocError, Global};
-
-// 2^64 by the golden ratio: its multiples lie far from one another.
-const SPREAD: u64 = 0x9E37_79B9_7F4A_7C15;
+use wsm_record::marks::{mark_of, place_of, word_of};
 
 // How many places there are at least for a key, so that few share one.
 const PLACES: usize = 8;
 
-/// For each key a number to try, by the key's bytes. It is a guess, which is held against the key of the
-/// number: another text gets a number too, and of keys that share a place the last one has it.
+/// A key to try for a text, by its number and its part, and its word: 0, which no text has, where it is too
+/// long for one.
+#[derive(Clone, Copy)]
+pub(crate) struct Guess {
+    pub(crate) word: u64,
+    pub(crate) number: u32,
+    pub(crate) part: u32,
+}
+
+/// At the place of a text what is tried first for it. Of keys that share a place the last one has it.
 #[derive(Drop)]
 pub(crate) struct Guesses {
-    numbers: Vec<u32>,
-    // How far a mark is shifted to be a place.
+    guesses: Vec<Guess>,
+    // How far a spread mark is shifted to be a place.
     shift: u32,
 }
 
 impl Guesses {
-    /// Guesses of the places of keys.
-    pub(crate) fn of(alloc: Global, keys: &[Vec<u8>]) -> Result<Guesses, AllocError> {
+    /// Guesses of keys, of which each part has so many.
+    pub(crate) fn of(alloc: Global, keys: &[Vec<u8>], block: usize) -> Result<Guesses, AllocError>
+        requires { 0 < block }
+        ensures { IfOk result (λ guesses. AreGuesses (map (λ v. v.items) keys.now) block guesses.guesses.items) }
+    {
         let least = keys.len().saturating_mul(PLACES);
         let Some(places) = least.checked_next_power_of_two() else {
             return Err(AllocError);
         };
         let shift = places.leading_zeros() + 1;
-        let mut numbers = vec![in alloc; 0u32; places]?;
-        let mut number = 0u32;
-        for key in keys {
-            let place = place_of(key, shift);
-            if place < numbers.len() {
-                numbers[place] = number;
-            }
-            number = number.wrapping_add(1);
+        let unknown = Guess {
+            word: 0,
+            number: 0,
+            part: 0,
+        };
+        let mut guesses = vec![in alloc; unknown; places]?;
+        for number in 0..keys.len().min(u32::MAX as usize) {
+            let key = keys[number].as_slice();
+            let place = place_of(mark_of(key), shift);
+            set_guess(&mut guesses, place, guess_of(key, number, block));
         }
-        Ok(Guesses { numbers, shift })
+        Ok(Guesses { guesses, shift })
     }
 
-    /// What gives the memory of the numbers.
+    /// What gives the memory of the guesses.
     pub(crate) fn allocator(&self) -> Global {
-        *self.numbers.allocator()
+        *self.guesses.allocator()
     }
 
-    /// The number to try for a text.
+    /// What is tried first for a text of this mark.
     #[inline(always)]
-    pub(crate) fn number_for(&self, text: &[u8]) -> Option<usize> {
-        let number = self.numbers.get(place_of(text, self.shift))?;
-        Some(*number as usize)
+    pub(crate) fn at(&self, mark: u64) -> Option<&Guess>
+        ensures { (names : List (List ℕ)) (block : ℕ) → AreGuesses names block self.now.guesses.items → IfSome result (λ guess. IsGuess names block guess.now) }
+    {
+        self.guesses.get(place_of(mark, self.shift))
     }
 }
 
-// The place of a text, by the first bits of what its mark is spread to.
-#[inline(always)]
-fn place_of(text: &[u8], shift: u32) -> usize {
-    let mark = match text.len() {
-        0 => 0,
-        1..4 => mark_of_few(text),
-        _ => mark_of_more(text),
-    };
-    mark.wrapping_mul(SPREAD).wrapping_shr(shift) as usize
-}
-
-// A number made of a text's length and its first, middle and last byte, which are all of three at most.
-#[inline(always)]
-fn mark_of_few(text: &[u8]) -> u64
-    requires { 0 < length text.now }
+// Has a guess at a place, where there is this one.
+fn set_guess(guesses: &mut Vec<Guess>, place: usize, guess: Guess)
+    ensures { (names : List (List ℕ)) (block : ℕ) → IsGuess names block guess →
+        AreGuesses names block guesses.old.items → AreGuesses names block guesses.new.items }
 {
-    let len = text.len();
-    let ends = u64::from(text[0]) << 14 ^ u64::from(text[len - 1]);
-    (len as u64) << 21 ^ ends ^ u64::from(text[len / 2]) << 7
-}
-
-// A number made of all bytes of a text, four by four, and of its last four once more.
-#[inline(always)]
-fn mark_of_more(text: &[u8]) -> u64
-    requires { 4 ≤ length text.now }
-{
-    let mut mark = four_at(text, text.len() - 4);
-    for word in 0..text.len() / 4 {
-        mark = mark
-            .wrapping_mul(SPREAD)
-            .wrapping_add(four_at(text, 4 * word));
+    if place < guesses.len() {
+        guesses[place] = guess;
     }
-    mark
 }
 
-#[inline(always)]
-fn four_at(text: &[u8], start: usize) -> u64
-    requires { start + 4 ≤ length text.now }
+// The guess of a key of this number.
+fn guess_of(key: &[u8], number: usize, block: usize) -> Guess
+    requires { (0 < block) × (number < 2 ^ 32) }
+    ensures { (names : List (List ℕ)) → slice_get names number ≡ Some key.now → IsGuess names block result }
 {
-    u64::from(u32::from_le_bytes([
-        text[start],
-        text[start + 1],
-        text[start + 2],
-        text[start + 3],
-    ]))
+    let part = (number / block) as u32;
+    let number = number as u32;
+    match word_of(key) {
+        Some(word) => Guess { word, number, part },
+        None => Guess {
+            word: 0,
+            number,
+            part,
+        },
+    }
 }

@@ -11,6 +11,7 @@ use std::fmt;
 use std::marker::Model;
 use wsm_record::Name;
 use wsm_record::limits::MAX_NAMES;
+use wsm_record::marks::{sum_of, word_of};
 
 // The part that has what is no event, or of no known key.
 const REST: usize = 0;
@@ -79,19 +80,22 @@ pub struct Shares {
     names: IndexSet<Vec<u8>>,
     // How many keys a part has, but perhaps the last.
     block: usize,
-    // The number to try first for a key.
+    // What is tried first for a key.
     guesses: Guesses,
 }
 
 impl Model for Shares {
-    ghost use Rattle.std.specs.Prelude.{◌<◌, map};
+    ghost use Rattle.std.specs.List.{IsDistinct};
+    ghost use Rattle.std.specs.Prelude.{◌<◌, bytes_eq, map};
     ghost use Rattle.wsm_deal.specs.Deal.{Sharing};
+    ghost use Rattle.wsm_deal.specs.KeyGuesses.{AreGuesses};
 
     ghost Value = { Sharing };
 
     ghost view = { λ a. record { names = map (λ v. v.items) a.names.keys; block = a.block } };
 
-    ghost invariant = { λ a. 0 < a.block };
+    ghost invariant = { λ a. (0 < a.block) × (AreGuesses (map (λ v. v.items) a.names.keys) a.block a.guesses.guesses.items ×
+        IsDistinct (λ x y. bytes_eq x.items y.items) a.names.keys) };
 }
 
 impl Shares {
@@ -101,13 +105,14 @@ impl Shares {
     ghost use Rattle.wsm_deal.specs.KeysText.{keys_text};
     ghost use Rattle.wsm_deal.specs.PartCount.{part_count};
     ghost use Rattle.wsm_deal.specs.Runs.{block_of};
+    ghost use Rattle.wsm_record.specs.Guesses.{AreBytes, spelled};
     ghost use Rattle.wsm_deal.specs.declared.shares.SharesRefusal.TheVariants as SharesRefusal;
 
     /// The keys of a text with a name a line, for so many parts.
     pub fn of(alloc: Global, text: &[u8], parts: usize) -> Result<Shares, SharesRefusal> {
         let names = names_of(alloc, text)?;
         let block = block_of(names.len(), parts)?;
-        let guesses = Guesses::of(alloc, names.as_slice())?;
+        let guesses = Guesses::of(alloc, names.as_slice(), block)?;
         Ok(Shares {
             names,
             block,
@@ -184,44 +189,60 @@ impl Shares {
     fn part_of(&self, key: &[u8]) -> usize
         ensures { result ≡ part_of self.now key.now }
     {
-        match self.number_of(key) {
-            Some(number) => number / self.block,
-            None => REST,
-        }
-    }
-
-    // The number of a key, if it is one.
-    #[inline(always)]
-    fn number_of(&self, key: &[u8]) -> Option<usize>
-        ensures { result ≡ position (bytes_eq key.now) (names_of self.now) }
-    {
         match self.guess(key) {
-            Some(number) => Some(number),
+            Some(part) => part,
             None => self.search(key),
         }
     }
 
-    // The number that is tried first for a key, where it is the key's.
+    // The part of a key, where what is tried first has it.
     #[inline(always)]
     fn guess(&self, key: &[u8]) -> Option<usize>
-        ensures { IfSome result (λ number. position (bytes_eq key.now) (names_of self.now) ≡ Some number) }
+        ensures { IfSome result (λ part. part ≡ part_of self.now key.now) }
     {
-        let number = self.guesses.number_for(key)?;
-        let name = self.names.as_slice().get(number)?;
-        if name.as_slice() == key {
-            Some(number)
+        match word_of(key) {
+            Some(word) => self.guess_word(word),
+            None => self.guess_long(key),
+        }
+    }
+
+    // The same of a key with this word.
+    #[inline(always)]
+    fn guess_word(&self, word: u64) -> Option<usize>
+        ensures { (key : List ℕ) → AreBytes key → spelled key ≡ word → IfSome result (λ part. part ≡ part_of self.now key) }
+    {
+        let guess = self.guesses.at(word)?;
+        if guess.word == word {
+            Some(guess.part as usize)
         } else {
             None
         }
     }
 
-    // The number of a key, without a guess.
+    // The same of a key that has no word.
+    #[inline(never)]
+    fn guess_long(&self, key: &[u8]) -> Option<usize>
+        ensures { IfSome result (λ part. part ≡ part_of self.now key.now) }
+    {
+        let number = self.guesses.at(sum_of(key))?.number as usize;
+        let name = self.names.as_slice().get(number)?;
+        if name.as_slice() == key {
+            Some(number / self.block)
+        } else {
+            None
+        }
+    }
+
+    // The part of a key, without a guess.
     #[cold]
     #[inline(never)]
-    fn search(&self, key: &[u8]) -> Option<usize>
-        ensures { result ≡ position (bytes_eq key.now) (names_of self.now) }
+    fn search(&self, key: &[u8]) -> usize
+        ensures { result ≡ part_of self.now key.now }
     {
-        self.names.get_index_of(key)
+        match self.names.get_index_of(key) {
+            Some(number) => number / self.block,
+            None => REST,
+        }
     }
 }
 
