@@ -10,12 +10,12 @@ use Rattle.std.specs.List.{fold, range_with_len, filter, list_any}
 use Rattle.std.specs.Iterator.{YieldsFirst}
 use Rattle.std.specs.Int.{int_max, int_min}
 use Rattle.wsm_record.specs.Event.{Event, Record, Watermark}
+use Rattle.wsm_record.specs.Schema.{Declared, source_count}
 use Rattle.wsm_windows.specs.declared.window.Window.{Window}
 use Rattle.wsm_windows.specs.declared.window.Shape.{Shape}
 use Rattle.wsm_windows.specs.Windows.{windows_of_shape}
 use Rattle.wsm_windows.specs.Life.{is_live, live_windows_of}
 use Rattle.wsm_admission.specs.declared.clock.Clock.{Clock}
-use Rattle.wsm_admission.specs.declared.clock.LateBy.TheVariants as late_by
 use Rattle.wsm_admission.specs.declared.verdict.Refusal.{Refusal}
 use Rattle.wsm_admission.specs.declared.verdict.Refusal.TheVariants as refusal
 use Rattle.wsm_admission.specs.Clock.{is_late_by, is_time, is_source, source_mark, marks_of, least, watermark_of, mark_at, watermark_refusal}
@@ -68,12 +68,12 @@ least_alike x (suc n) h = fold_alike x n
 
 -- ---- over a history
 
-module _ (c : Clock) (past : List Event) where
-  pub mark_of_source : (s : ℕ) → s < c.sources → mark_at (marks_of c past) (Some s) ≡ Some (source_mark c s past)
-  mark_of_source s h = get_of (λ s. source_mark c s past) 0 c.sources s s h (omega arith)
+module _ (c : Clock) (declared : Declared) (past : List Event) where
+  pub mark_of_source : (s : ℕ) → s < source_count declared → mark_at (marks_of c declared past) (Some s) ≡ Some (source_mark c s past)
+  mark_of_source s h = get_of (λ s. source_mark c s past) 0 (source_count declared) s s h (omega arith)
 
-  no_mark : (s : ℕ) → c.sources ≤ s → mark_at (marks_of c past) (Some s) ≡ None
-  no_mark s h = slice_get_past (marks_of c past) s (omega (arith, length-map-range_with_len (λ s. source_mark c s past) 0 c.sources))
+  no_mark : (s : ℕ) → source_count declared ≤ s → mark_at (marks_of c declared past) (Some s) ≡ None
+  no_mark s h = slice_get_past (marks_of c declared past) s (omega (arith, length-map-range_with_len (λ s. source_mark c s past) 0 (source_count declared)))
 
   rises_by : (m t : ℤ) (b : Bool) → m ≤ℤ (if b then int_max m t else m)
   rises_by m t true = grind (arith, ints)
@@ -84,8 +84,8 @@ module _ (c : Clock) (past : List Event) where
   source_rises (Watermark source t) s = rises_by (source_mark c s past) t (is_source s source && is_time t)
 
   -- the watermark never falls
-  pub watermark_rises : (e : Event) → watermark_of c past ≤ℤ watermark_of c (e ∷ past)
-  watermark_rises e = least_rises (λ s. source_mark c s past) (λ s. source_mark c s (e ∷ past)) (range_with_len 0 c.sources) (source_rises e)
+  pub watermark_rises : (e : Event) → watermark_of c declared past ≤ℤ watermark_of c declared (e ∷ past)
+  watermark_rises e = least_rises (λ s. source_mark c s past) (λ s. source_mark c s (e ∷ past)) (range_with_len 0 (source_count declared)) (source_rises e)
 
   abbrev next : ℕ → ℤ → ℕ → ℤ
   next n t s = source_mark c s (Watermark (Some n) t ∷ past)
@@ -121,7 +121,7 @@ module _ (c : Clock) (past : List Event) where
   pub record IsAccepted (source : Option ℕ) (time : ℤ) : Type 0 where
     pub s : ℕ
     pub is : source ≡ Some s
-    pub few : s < c.sources
+    pub few : s < source_count declared
     pub in_time : is_time time ≡ true
     pub past_mark : source_mark c s past <ℤ time
 
@@ -130,22 +130,22 @@ module _ (c : Clock) (past : List Event) where
   passed m t true true k h = absurd cc
   passed m t true false k h = (refl, grind (arith, ints))
 
-  pub accepted_watermark : (source : Option ℕ) (t : ℤ) → watermark_refusal (mark_at (marks_of c past) source) t ≡ None → IsAccepted source t
+  pub accepted_watermark : (source : Option ℕ) (t : ℤ) → watermark_refusal (mark_at (marks_of c declared past) source) t ≡ None → IsAccepted source t
   accepted_watermark None t h = absurd cc
   accepted_watermark (Some n) t h =
-      elim (cases_lt n c.sources) [
+      elim (cases_lt n (source_count declared)) [
         | inl few ↦
             let both = passed (source_mark c n past) t (is_time t) (int_le t (source_mark c n past)) refl (ap (λ (m : Option ℤ). watermark_refusal m t) (sym (mark_of_source n few)) ∙ h) in
             record { s = n; is = refl; few = few; in_time = both.0; past_mark = both.1 }
-        | inr many ↦ let none : watermark_refusal (mark_at (marks_of c past) (Some n)) t ≡ Some refusal.UnknownSource = ap (λ (m : Option ℤ). watermark_refusal m t) (no_mark n many) in absurd cc
+        | inr many ↦ let none : watermark_refusal (mark_at (marks_of c declared past) (Some n)) t ≡ Some refusal.UnknownSource = ap (λ (m : Option ℤ). watermark_refusal m t) (no_mark n many) in absurd cc
       ]
 
-  marks_taken : (source : Option ℕ) (t : ℤ) → IsAccepted source t → marks_of c (Watermark source t ∷ past) ≡ marks_with (marks_of c past) (Watermark source t)
+  marks_taken : (source : Option ℕ) (t : ℤ) → IsAccepted source t → marks_of c declared (Watermark source t ∷ past) ≡ marks_with (marks_of c declared past) (Watermark source t)
   marks_taken source t a =
-      subst (λ (o : Option ℕ). marks_of c (Watermark o t ∷ past) ≡ marks_with (marks_of c past) (Watermark o t)) (sym a.is)
-      (sym (set_of (λ s. source_mark c s past) (next a.s t) 0 c.sources a.s a.s t (omega arith) (greatest a.s t a.in_time a.past_mark) (λ j. other a.s j t)))
+      subst (λ (o : Option ℕ). marks_of c declared (Watermark o t ∷ past) ≡ marks_with (marks_of c declared past) (Watermark o t)) (sym a.is)
+      (sym (set_of (λ s. source_mark c s past) (next a.s t) 0 (source_count declared) a.s a.s t (omega arith) (greatest a.s t a.in_time a.past_mark) (λ j. other a.s j t)))
 
-  pub accepted_marks : (source : Option ℕ) (t : ℤ) → watermark_refusal (mark_at (marks_of c past) source) t ≡ None → marks_of c (Watermark source t ∷ past) ≡ marks_with (marks_of c past) (Watermark source t)
+  pub accepted_marks : (source : Option ℕ) (t : ℤ) → watermark_refusal (mark_at (marks_of c declared past) source) t ≡ None → marks_of c declared (Watermark source t ∷ past) ≡ marks_with (marks_of c declared past) (Watermark source t)
   accepted_marks source t h = marks_taken source t (accepted_watermark source t h)
 
   -- ---- a refused watermark
@@ -156,10 +156,10 @@ module _ (c : Clock) (past : List Event) where
   held_back m t true false r k h is = absurd cc
 
   -- it changes no mark
-  pub refused_marks : (source : Option ℕ) (t : ℤ) (r : Refusal) → watermark_refusal (mark_at (marks_of c past) source) t ≡ Some r → marks_of c (Watermark source t ∷ past) ≡ marks_of c past
+  pub refused_marks : (source : Option ℕ) (t : ℤ) (r : Refusal) → watermark_refusal (mark_at (marks_of c declared past) source) t ≡ Some r → marks_of c declared (Watermark source t ∷ past) ≡ marks_of c declared past
   refused_marks None t r h = refl
   refused_marks (Some n) t r h =
-      sym (map_same (λ s. source_mark c s past) (next n t) 0 c.sources (λ s from until. elim (cases_lt n c.sources) [
+      sym (map_same (λ s. source_mark c s past) (next n t) 0 (source_count declared) (λ s from until. elim (cases_lt n (source_count declared)) [
         | inl few ↦ not_greater n s t (is_time t) refl (held_back (source_mark c n past) t (is_time t) (int_le t (source_mark c n past)) r refl (ap (λ (m : Option ℤ). watermark_refusal m t) (sym (mark_of_source n few)) ∙ h))
         | inr many ↦ other n s t (λ same. omega arith)
       ]))
@@ -181,7 +181,7 @@ none_passes p (v ∷ ws) o rest h =
 
 -- the first of the live windows of a time is there where one of its windows is live
 pub first_is_live : (shape : Shape) (time lateness mark : ℤ) (ws : List Window) (o : Option Window) (rest : List Window) (b : Bool) →
-    ws ≡ live_windows_of shape time lateness mark → YieldsFirst (λ (s : List Window). s) ws o rest → is_some o ≡ not b → b ≡ is_late_by (late_by.Window shape) lateness mark time
+    ws ≡ live_windows_of shape time lateness mark → YieldsFirst (λ (s : List Window). s) ws o rest → is_some o ≡ not b → b ≡ is_late_by true shape lateness mark time
 first_is_live shape time lateness mark ws o rest b is yields none =
     let some = none_passes (λ w. is_live w lateness mark) (windows_of_shape shape time) o rest (subst (λ (xs : List Window). YieldsFirst (λ (s : List Window). s) xs o rest) is yields) in
     twice b ∙ ap not (sym none ∙ some)

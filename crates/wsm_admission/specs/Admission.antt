@@ -2,7 +2,8 @@
 use Rattle.std.specs.Prelude.{◌≡◌, ℕ, ◌+◌, ◌<◌, ◌≤◌, min, List, ◌∷◌, All, length, replicate, ℤ, pos, ◌≤ℤ◌, Option, Some, None, Result, Ok, Err, unsigned_abs, slice_set}
 use Rattle.wsm_record.specs.declared.limits.TheConstants.{LATEST_TIME}
 use Rattle.wsm_record.specs.Event.{Event, Record, Watermark}
-use Rattle.wsm_record.specs.Schema.{Declared}
+use Rattle.wsm_record.specs.Schema.{Declared, source_count}
+use Rattle.wsm_windows.specs.declared.window.Shape.{Shape}
 use Rattle.wsm_windows.specs.Windows.{IsTime}
 use Rattle.wsm_admission.specs.declared.clock.Clock.{Clock}
 use Rattle.wsm_admission.specs.declared.verdict.Admitted.{Admitted}
@@ -25,13 +26,13 @@ pub record State : Type 0 where
   pub refused : ℕ
 
 -- before the first event
-abbrev pub opened : Clock → State
-opened c = record { clock = c; marks = replicate c.sources c.start; mark = c.start; admitted = 0; late = 0; refused = 0 }
+abbrev pub opened : Clock → Declared → State
+opened c declared = record { clock = c; marks = replicate (source_count declared) c.start; mark = c.start; admitted = 0; late = 0; refused = 0 }
 
 -- what is kept lies in its ranges
 pub record IsInRange (s : State) : Type 0 where
   pub limits : IsWithinLimits s.clock
-  pub count : length s.marks ≡ s.clock.sources
+  pub some : 1 ≤ length s.marks
   pub marks : All IsTime s.marks
   pub least : s.mark ≡ least s.marks
   pub mark_from : pos 0 ≤ℤ s.mark
@@ -45,8 +46,8 @@ answer old new (Record key time values) None = Ok admitted.Record
 answer old new (Watermark source time) None = Ok (admitted.Watermark old new)
 
 -- the answer to an event after a history
-abbrev pub answer_after : Clock → Declared → List Event → Event → Result Admitted Refusal
-answer_after c declared past e = answer (watermark_of c past) (watermark_of c (e ∷ past)) e (verdict c declared past e)
+abbrev pub answer_after : Clock → Shape → Declared → List Event → Event → Result Admitted Refusal
+answer_after c shape declared past e = answer (watermark_of c declared past) (watermark_of c declared (e ∷ past)) e (verdict c shape declared past e)
 
 -- the marks after an event that is taken
 abbrev pub marks_with : List ℤ → Event → List ℤ
@@ -61,8 +62,8 @@ MayTake s (Watermark None time) = ⊥
 MayTake s (Watermark (Some n) time) = (n < length s.marks) × IsTime time
 
 -- the answer to an event, by what is kept
-abbrev pub decision : Declared → State → Event → Result Admitted Refusal
-decision declared s e = answer s.mark (least (marks_with s.marks e)) e (verdict_at s.clock declared s.marks s.admitted e)
+abbrev pub decision : Shape → Declared → State → Event → Result Admitted Refusal
+decision shape declared s e = answer s.mark (least (marks_with s.marks e)) e (verdict_at s.clock shape declared s.marks s.admitted e)
 
 -- what is kept after an answer to an event
 abbrev pub after : Result Admitted Refusal → Event → State → State
@@ -72,9 +73,9 @@ after (Err refusal.Late) e s = record s { late = counter (s.late + 1) }
 after (Err _) e s = record s { refused = counter (s.refused + 1) }
 
 -- what is kept is the history's
-pub record Fits (declared : Declared) (s : State) (past : List Event) : Type 0 where
-  pub marks : s.marks ≡ marks_of s.clock past
-  pub mark : s.mark ≡ watermark_of s.clock past
-  pub admitted : s.admitted ≡ admitted_count s.clock declared past
-  pub late : s.late ≡ counter (late_count s.clock declared past)
-  pub refused : s.refused ≡ counter (refused_count s.clock declared past)
+pub record Fits (shape : Shape) (declared : Declared) (s : State) (past : List Event) : Type 0 where
+  pub marks : s.marks ≡ marks_of s.clock declared past
+  pub mark : s.mark ≡ watermark_of s.clock declared past
+  pub admitted : s.admitted ≡ admitted_count s.clock shape declared past
+  pub late : s.late ≡ counter (late_count s.clock shape declared past)
+  pub refused : s.refused ≡ counter (refused_count s.clock shape declared past)

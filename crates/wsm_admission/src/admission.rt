@@ -2,22 +2,22 @@
 
 ghost use Rattle.std.specs.Prelude.{◌≡◌, ◌≤ℤ◌, IsTrue, List, [], ◌∷◌, false, Ok, Err, None, nat_le, pos, unsigned_abs, length, slice_set, ◌<◌};
 ghost use Rattle.wsm_record.specs.Event.{Event as AnyEvent, event_of};
-ghost use Rattle.wsm_record.specs.Schema.{Declared};
-ghost use Rattle.wsm_admission.specs.Clock.{IsWithinLimits, record_refusal, watermark_refusal, verdict_at, least};
+ghost use Rattle.wsm_admission.specs.Clock.{IsTimely, IsWithinLimits, record_refusal, watermark_refusal, verdict_at, least};
 ghost use Rattle.wsm_record.specs.declared.limits.TheConstants.{LATEST_TIME};
 ghost use Rattle.wsm_windows.specs.Limits.{is_time as lies_in_time};
+ghost use Rattle.wsm_windows.specs.declared.window.Shape.{Shape as AnyShape};
 ghost use Rattle.wsm_windows.specs.Windows.{IsTime};
 ghost use Rattle.wsm_admission.specs.Clock.{is_key as is_declared_key};
 ghost use Rattle.wsm_admission.specs.Clock.{is_too_far_ahead, is_late};
 ghost use Rattle.wsm_admission.specs.Admission.{Fits, IsInRange, opened, after};
 ghost use Rattle.wsm_admission.specs.Admission.{answer, answer_after, decision, marks_with, MayTake};
 
-use crate::clock::{Clock, LateBy};
+use crate::clock::Clock;
 use crate::marks::Marks;
 use crate::verdict::{Admitted, Refusal};
 use std::marker::Model;
 use wsm_record::{Event, Schema, Value};
-use wsm_windows::{is_time, live_windows_of};
+use wsm_windows::{Shape, is_time, live_windows_of};
 
 /// The watermarks and the counts of the events so far.
 #[derive(Debug, Drop)]
@@ -57,15 +57,15 @@ impl Model for Admission {
 }
 
 impl Admission {
-    /// Before the first event.
-    pub fn new(clock: Clock) -> Admission
+    /// Before the first event, with a watermark for each source of the schema.
+    pub fn new(clock: Clock, schema: &Schema) -> Admission
         requires { IsWithinLimits clock }
-        ensures opened { result ≡ opened clock }
-        ensures fits { (declared : Declared) → Fits declared result [] }
+        ensures opened { result ≡ opened clock schema.now }
+        ensures fits { (shape : AnyShape) → Fits shape schema.now result [] }
     {
         Admission {
             clock,
-            marks: Marks::new(clock.start, clock.sources),
+            marks: Marks::new(clock.start, schema.source_count() as u8),
             mark: clock.start,
             admitted: 0,
             late: 0,
@@ -105,18 +105,24 @@ impl Admission {
 
     /// Decides on the next event: the first rule that refuses it, or what it does to the clock. A
     /// refusal changes one counter alone: that of the late records, or that of all others refused.
-    pub fn decide(&mut self, schema: &Schema, event: &Event) -> Result<Admitted, Refusal>
-        ensures decision { result ≡ decision schema.now self.old (event_of event.now) }
+    pub fn decide(
+        &mut self,
+        schema: &Schema,
+        shape: Shape,
+        event: &Event,
+    ) -> Result<Admitted, Refusal>
+        requires { IsTimely self.old.clock.from_window shape }
+        ensures decision { result ≡ decision shape schema.now self.old (event_of event.now) }
         ensures state { self.new ≡ after result (event_of event.now) self.old }
         ensures range { IsInRange self.new }
-        ensures verdict { (past : List AnyEvent) → Fits schema.now self.old past →
-            result ≡ answer_after self.old.clock schema.now past (event_of event.now) }
-        ensures fits { (past : List AnyEvent) → Fits schema.now self.old past →
-            Fits schema.now self.new (event_of event.now ∷ past) }
+        ensures verdict { (past : List AnyEvent) → Fits shape schema.now self.old past →
+            result ≡ answer_after self.old.clock shape schema.now past (event_of event.now) }
+        ensures fits { (past : List AnyEvent) → Fits shape schema.now self.old past →
+            Fits shape schema.now self.new (event_of event.now ∷ past) }
     {
         // The rules lean on the clock's limits, which a look at it makes known. Nothing is done.
         let _ = &self.clock;
-        match self.refusal(schema, event) {
+        match self.refusal(schema, shape, event) {
             None => Ok(self.take(event)),
             Some(refusal) => {
                 self.count(refusal);
@@ -170,11 +176,14 @@ impl Admission {
     }
 
     // The first rule that refuses the event, or none.
-    fn refusal(&self, schema: &Schema, event: &Event) -> Option<Refusal>
-        ensures { result ≡ verdict_at self.now.clock schema.now self.now.marks self.now.admitted (event_of event.now) }
+    fn refusal(&self, schema: &Schema, shape: Shape, event: &Event) -> Option<Refusal>
+        requires { IsTimely self.now.clock.from_window shape }
+        ensures { result ≡ verdict_at self.now.clock shape schema.now self.now.marks self.now.admitted (event_of event.now) }
     {
         match event {
-            Event::Record { key, time, values } => self.try_record(schema, *key, *time, values),
+            Event::Record { key, time, values } => {
+                self.try_record(schema, shape, *key, *time, values)
+            }
             Event::Watermark { source, time } => try_watermark(self.marks.of(*source), *time),
         }
     }
@@ -182,11 +191,13 @@ impl Admission {
     fn try_record(
         &self,
         schema: &Schema,
+        shape: Shape,
         key: Option<u16>,
         time: i64,
         values: &[Value],
     ) -> Option<Refusal>
-        ensures { result ≡ record_refusal self.now.clock schema.now self.now.mark self.now.admitted key time values.now }
+        requires { IsTimely self.now.clock.from_window shape }
+        ensures { result ≡ record_refusal self.now.clock shape schema.now self.now.mark self.now.admitted key time values.now }
     {
         if !is_key(schema, key) {
             Some(Refusal::UnknownKey)
@@ -196,7 +207,7 @@ impl Admission {
             Some(Refusal::TimeRange)
         } else if self.is_too_far_ahead(time) {
             Some(Refusal::TooFarAhead)
-        } else if self.is_late(time) {
+        } else if self.is_late(shape, time) {
             Some(Refusal::Late)
         } else if self.is_full() {
             Some(Refusal::RecordLimit)
@@ -213,17 +224,18 @@ impl Admission {
     }
 
     // Whether a record is late.
-    fn is_late(&self, time: i64) -> bool
-        requires { IsTrue (lies_in_time time) }
-        ensures { result ≡ is_late self.now.clock self.now.mark time }
+    fn is_late(&self, shape: Shape, time: i64) -> bool
+        requires time { IsTrue (lies_in_time time) }
+        requires timely { IsTimely self.now.clock.from_window shape }
+        ensures { result ≡ is_late self.now.clock shape self.now.mark time }
     {
         let lateness = self.clock.lateness;
-        match self.clock.late {
-            LateBy::Event => time + lateness < self.mark,
-            LateBy::Window(shape) => live_windows_of(shape, time, lateness, self.mark)
-                .next()
-                .is_none(),
+        if !self.clock.from_window {
+            return time + lateness < self.mark;
         }
+        live_windows_of(shape, time, lateness, self.mark)
+            .next()
+            .is_none()
     }
 
     // Whether as many records as the limit were admitted.

@@ -1,20 +1,12 @@
 //! The numbers of a query's clock.
 
 ghost use Rattle.std.specs.Prelude.{◌≡◌};
-ghost use Rattle.wsm_admission.specs.Clock.{is_limited, late_by};
+ghost use Rattle.wsm_admission.specs.Clock.{is_limited, is_timely};
 
 use wsm_windows::{Shape, is_size, is_span, is_time};
 
-/// From when on a record is late.
-#[derive(Clone, Copy, Debug, PartialEq, Eq)]
-pub enum LateBy {
-    /// Once its own time and the lateness are before the watermark.
-    Event,
-    /// Once none of its windows, of this shape, is live. The shape isn't that of sessions.
-    Window(Shape),
-}
-
-/// The numbers of a query's clock, in event time but for the records and the sources.
+/// What a query says of event time and of how many records it takes. Sources and windows are those of its schema and
+/// its shape. Times and spans are in units of event time.
 #[derive(Clone, Copy, Debug, PartialEq, Eq)]
 pub struct Clock {
     /// The watermark before the first event, of each source.
@@ -24,25 +16,10 @@ pub struct Clock {
     /// How far behind the watermark a record may be; or, counted from windows, the end of its last
     /// window has to be less far behind than this.
     pub lateness: i64,
-    /// From when on a record is late.
-    pub late: LateBy,
+    /// Whether lateness counts from the ends of windows, and not from a record's own time.
+    pub from_window: bool,
     /// How many records are admitted at most.
     pub records: i64,
-    /// How many sources watermarks have: 1 to 16.
-    pub sources: u8,
-}
-
-impl LateBy {
-    /// Counted from the ends of windows of a shape, or from a record's own time.
-    pub fn of(from_window: bool, shape: Shape) -> LateBy
-        ensures { result ≡ late_by from_window shape }
-    {
-        if from_window {
-            LateBy::Window(shape)
-        } else {
-            LateBy::Event
-        }
-    }
 }
 
 impl Clock {
@@ -51,5 +28,15 @@ impl Clock {
         ensures { result ≡ is_limited self.now }
     {
         is_time(self.start) && is_span(self.skew) && is_span(self.lateness) && is_size(self.records)
+    }
+
+    /// Whether it counts lateness from a record's own time, or windows of this shape don't move, as sessions do.
+    pub fn is_timely(&self, shape: Shape) -> bool
+        ensures { result ≡ is_timely self.now.from_window shape }
+    {
+        match shape {
+            Shape::Fixed(_) | Shape::Sliding(_, _) => true,
+            Shape::Session(_) => !self.from_window,
+        }
     }
 }

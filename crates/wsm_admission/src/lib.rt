@@ -5,8 +5,9 @@
 //! rules are tried and what is counted are this project's own rules. No call takes memory.
 //!
 //! ```rust
-//! use wsm_admission::{Admission, Admitted, Clock, LateBy, Refusal};
+//! use wsm_admission::{Admission, Admitted, Clock, Refusal};
 //! use wsm_record::{Event, Name, Schema};
+//! use wsm_windows::Shape;
 //!
 //! fn main(rt: HostRuntime) {
 //!     let Some(key) = Name::new(b"a") else {
@@ -19,16 +20,16 @@
 //!         start: 0,
 //!         skew: 100,
 //!         lateness: 10,
-//!         late: LateBy::Event,
+//!         from_window: false,
 //!         records: 1000,
-//!         sources: 1,
 //!     };
-//!     let mut admission = Admission::new(clock);
-//!     let verdict = admission.decide(&schema, &Event::Watermark { source: Some(0), time: 60 });
+//!     let mut admission = Admission::new(clock, &schema);
+//!     let shape = Shape::Fixed(60);
+//!     let verdict = admission.decide(&schema, shape, &Event::Watermark { source: Some(0), time: 60 });
 //!     assert_eq!(rt; verdict, Ok(Admitted::Watermark { old: 0, new: 60 }));
 //!
 //!     let record = Event::Record { key: Some(0), time: 49, values: Vec::new(rt.alloc()) };
-//!     let verdict = admission.decide(&schema, &record);
+//!     let verdict = admission.decide(&schema, shape, &record);
 //!     assert_eq!(rt; verdict, Err(Refusal::Late)); // 49 + 10 is before 60
 //!     assert_eq!(rt; admission.late(), 1);
 //! }
@@ -36,7 +37,7 @@
 #![tactic(auto)]
 
 pub use admission::Admission;
-pub use clock::{Clock, LateBy};
+pub use clock::Clock;
 pub use verdict::{Admitted, Refusal};
 
 mod admission;

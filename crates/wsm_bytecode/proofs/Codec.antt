@@ -1,9 +1,9 @@
 -- What was spelled is read again: instructions, sections and whole programs.
 use Rattle.std.proofs.Common.{lit<, leb, ◌≡◌, ℕ, zero, suc, ◌<◌, ◌≤◌, Bool, true, false, ltb, ◌&&◌, not, List, [], ◌∷◌, ◌++◌, length, ℤ, Option, Some, None, is_some, Ok, refl, sym, ap, ◌∙◌, append_assoc, append-nil, arith}
-use Rattle.std.specs.Prelude.{◌==◌, nat_eq, slice_get}
+use Rattle.std.specs.Prelude.{◌==◌, slice_get}
 use Rattle.std.specs.List.{list_all, flat_map}
 use Rattle.std.specs.Int.{w8, w16}
-use Rattle.std.proofs.lemmas.Bool.{true≢false, eqb-true, ltb-true, leb-true, le-leb, and_parts, and_from}
+use Rattle.std.proofs.lemmas.Bool.{true≢false, ltb-true, leb-true, le-leb, and_parts, and_from}
 use Rattle.wsm_admission.specs.declared.clock.Clock.{Clock}
 use Rattle.wsm_interval.specs.declared.Comparison.{Comparison}
 use Rattle.wsm_program.specs.declared.instr.FieldTest.{FieldTest}
@@ -13,8 +13,8 @@ use Rattle.wsm_program.specs.declared.instr.Instr.TheVariants.{PushInt, PushBool
 use Rattle.wsm_program.specs.declared.instr.Opcode.{Opcode}
 use Rattle.wsm_program.specs.declared.instr.Opcode.TheVariants as opcodes
 use Rattle.wsm_program.specs.Opcodes.{code as code_of}
-use Rattle.wsm_program.specs.Program.{Name, Header, Program, is_name_of, is_number_field, is_late_by, is_test, is_instr, is_section, is_header, is_program, is_span, is_size, is_time}
-use Rattle.wsm_record.specs.Schema.{FieldType, Int, Truth, Enum, DeclaredField, Declared, source_count, is_name_list, are_names_after, is_field_after, are_fields_after, is_field_type, names_of_type, names_of_field, enum_names, is_schema, is_i64}
+use Rattle.wsm_program.specs.Program.{Name, Header, Program, is_name_of, is_number_field, is_test, is_instr, is_section, is_header, is_program, is_span, is_size, is_time}
+use Rattle.wsm_record.specs.Schema.{FieldType, Int, Truth, Enum, DeclaredField, Declared, is_name_list, are_names_after, is_field_after, are_fields_after, is_field_type, names_of_type, names_of_field, enum_names, is_schema, is_i64}
 use Rattle.wsm_record.specs.Name.{is_name, is_among, is_between}
 use Rattle.wsm_bytecode.specs.declared.version.Version.{Version}
 use Rattle.wsm_bytecode.specs.declared.version.Version.TheVariants.{One, Two}
@@ -241,25 +241,20 @@ version_settings Two s rest h = second.settings_again s rest h
 
 header_step : (v : Version) (h : Header) (bytes r1 r2 r3 r4 r5 r6 rest : List ℕ)
     → names_at bytes ≡ Ok (h.schema.keys, r1) → fields_at r1 ≡ Ok (h.schema.fields, r2) → times_at r2 ≡ Ok (times_in h.clock, r3) → settings_at v r3 ≡ Ok (settings_in h, r4)
-    → kinds_at r4 ≡ Ok (h.kinds, r5) → columns_at h.schema r5 ≡ Ok (h.columns, r6) → budget_at r6 ≡ Ok (h.budget, rest) → source_count h.schema ≡ h.clock.sources
+    → kinds_at r4 ≡ Ok (h.kinds, r5) → columns_at h.schema r5 ≡ Ok (h.columns, r6) → budget_at r6 ≡ Ok (h.budget, rest)
     → header_at v bytes ≡ Ok (h, rest)
 unfolding header_at
-header_step v h bytes r1 r2 r3 r4 r5 r6 rest e1 e2 e3 e4 e5 e6 e7 sources =
-    let counted : (Header × List ℕ) = (record h { clock = record h.clock { sources = source_count h.schema } }, rest) in
-    let whole : counted ≡ (h, rest) = ap (λ n. (record h { clock = record h.clock { sources = n } }, rest)) sources in
-    rw (e1, e2, e3, e4, e5, e6, e7) (ap (λ (x : Header × List ℕ). Ok x) whole)
+header_step v h bytes r1 r2 r3 r4 r5 r6 rest e1 e2 e3 e4 e5 e6 e7 = rw (e1, e2, e3, e4, e5, e6, e7) refl
 
 -- the settings of a lawful header
 settings_of_header : (h : Header) → HeaderParts h → are_settings (settings_in h) ≡ true
 settings_of_header h p =
-    let s = and_parts (is_late_by h.shape h.clock.late) (nat_eq h.clock.sources (source_count h.schema)) p.sourced in
-    are_settings_from (settings_in h) (record { late_by = s.0; sources = (schema_parts h.schema p.schema).sources; shape = p.shape; early = p.early; late = p.late; form = p.form })
+    are_settings_from (settings_in h) (record { timely = p.timely; sources = (schema_parts h.schema p.schema).sources; shape = p.shape; early = p.early; late = p.late; form = p.form })
 
 pub header_again : (v : Version) (h : Header) (rest : List ℕ) → HeaderParts h → header_at v (header v h ++ rest) ≡ Ok (h, rest)
 unfolding header
 header_again v h rest p =
     let d = schema_parts h.schema p.schema in
-    let s = and_parts (is_late_by h.shape h.clock.late) (nat_eq h.clock.sources (source_count h.schema)) p.sourced in
     let r6 = budget h.budget ++ rest in
     let r5 = columns h.columns ++ r6 in
     let r4 = kinds h.kinds ++ r5 in
@@ -269,7 +264,7 @@ header_again v h rest p =
     ap (λ r. header_at v r) (second.regroup_7 (names h.schema.keys) (fields h.schema.fields) (times h.clock) (settings v (settings_in h)) (kinds h.kinds) (columns h.columns) (budget h.budget) rest)
     ∙ header_step v h (names h.schema.keys ++ r1) r1 r2 r3 r4 r5 r6 rest
     (names_again h.schema.keys r1 d.keys) (fields_again h.schema.fields r2 d.few d.fields) (times_again h r3 p) (version_settings v (settings_in h) r4 (settings_of_header h p))
-    (kinds_again h.kinds r5 p.kinds) (columns_again h.schema h.columns r6 d.few p.count p.columns) (budget_again h.budget rest p.budget) (sym (eqb-true _ _ s.1))
+    (kinds_again h.kinds r5 p.kinds) (columns_again h.schema h.columns r6 d.few p.count p.columns) (budget_again h.budget rest p.budget)
 
 -- ---- the program
 

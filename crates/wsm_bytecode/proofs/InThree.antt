@@ -48,7 +48,7 @@ pub header_in_parts : (v : Version) (bytes : List ℕ)
     Ok (
       record {
         schema = schema_of keys.0 fields.0 settings.0;
-        clock = clock_of times.0 settings.0 (schema_of keys.0 fields.0 settings.0);
+        clock = clock_of times.0 settings.0;
         shape = settings.0.shape;
         mode = settings.0.mode;
         early = settings.0.early;
@@ -66,7 +66,7 @@ header_in_parts v bytes = λ i.
     let schema = schema_of keys.0 fields.0 settings.0 in
     let make : List Kind → List CellType → Costs → Header = λ kinds columns budget. record {
       schema = schema;
-      clock = clock_of times.0 settings.0 schema;
+      clock = clock_of times.0 settings.0;
       shape = settings.0.shape;
       mode = settings.0.mode;
       early = settings.0.early;
@@ -84,7 +84,7 @@ pub settings_in_parts : (bytes : List ℕ)
     ≡ (judged (is_between 0 1) (number_at w8 bytes) >>= λ flag. sources_at is_source_count flag.1 >>= λ names. windows_at (flag.0 == 1) names.1 >>= λ windows.
     shown_at windows.1 >>= λ shown.
     Ok (
-      record { shape = windows.0.0; late_by = windows.0.1; mode = shown.0.0; early = shown.0.1.0.0; late = shown.0.1.0.1; form = shown.0.1.1; sources = names.0 },
+      record { shape = windows.0.0; from_window = windows.0.1; mode = shown.0.0; early = shown.0.1.0.0; late = shown.0.1.0.1; form = shown.0.1.1; sources = names.0 },
       shown.1,
     ))
 unfolding second_settings_at shown_at
@@ -92,7 +92,7 @@ settings_in_parts bytes = λ i.
     judged (is_between 0 1) (number_at w8 bytes) >>= λ flag. sources_at is_source_count flag.1 >>= λ names. windows_at (flag.0 == 1) names.1 >>= λ windows.
     let make : Mode → ℤ × ℤ → Form → Settings = λ mode triggers form. record {
       shape = windows.0.0;
-      late_by = windows.0.1;
+      from_window = windows.0.1;
       mode = mode;
       early = triggers.0;
       late = triggers.1;

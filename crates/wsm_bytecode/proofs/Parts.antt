@@ -15,7 +15,6 @@ use Rattle.wsm_record.specs.declared.Mode.TheVariants.{Discarding, Accumulating,
 use Rattle.wsm_record.specs.declared.Form.{Form}
 use Rattle.wsm_record.specs.declared.Form.TheVariants.{Panes, Istream, Dstream, Rstream}
 use Rattle.wsm_record.specs.declared.limits.TheConstants.{LATEST_TIME, LONGEST_SPAN}
-use Rattle.wsm_admission.specs.Clock.{late_by}
 use Rattle.wsm_program.specs.Program.{Name, is_span, is_size, is_shape, is_column, is_stated, is_budget, is_time}
 use Rattle.wsm_record.specs.Modes.{may_write}
 use Rattle.wsm_record.specs.Schema.{FieldType, Int, Truth, Enum, DeclaredField, Declared, is_i64, is_within, are_names_after, is_name_list, is_field_type, is_field_after, are_fields_after, enum_names, names_of_field}
@@ -201,12 +200,12 @@ shape_again (Sliding n d) rest h =
     sliding_step (signed n ++ next) n d next rest (size_again n next a.0) period
 shape_again (Session n) rest h = session_step (signed n ++ rest) n rest (size_again n rest h)
 
-windows_step : (b : Bool) (tag : ℕ) (bytes : List ℕ) (s : Shape) (rest : List ℕ) → shape_by tag bytes ≡ Ok (s, rest) → windows_by b tag bytes ≡ Ok ((s, late_by b s), rest)
+windows_step : (b : Bool) (tag : ℕ) (bytes : List ℕ) (s : Shape) (rest : List ℕ) → shape_by tag bytes ≡ Ok (s, rest) → windows_by b tag bytes ≡ Ok ((s, b), rest)
 unfolding windows_by
 windows_step b tag bytes s rest e = rw e refl
 
 -- the shape of its own tag
-pub windows_again : (b : Bool) (s : Shape) (rest : List ℕ) → is_shape s ≡ true → windows_by b (shape_tag s) (measures s ++ rest) ≡ Ok ((s, late_by b s), rest)
+pub windows_again : (b : Bool) (s : Shape) (rest : List ℕ) → is_shape s ≡ true → windows_by b (shape_tag s) (measures s ++ rest) ≡ Ok ((s, b), rest)
 windows_again b s rest h = windows_step b (shape_tag s) (measures s ++ rest) s rest (shape_again s rest h)
 
 mode_is_byte : (m : Mode) → mode_tag m < 256

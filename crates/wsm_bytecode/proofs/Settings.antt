@@ -5,7 +5,7 @@ use Rattle.std.proofs.lemmas.Bool.{leb-true, and_parts, and_from}
 use Rattle.wsm_record.specs.Modes.{may_write}
 use Rattle.wsm_record.specs.Name.{is_between}
 use Rattle.wsm_record.specs.Schema.{Declared, is_name_list, are_fields_after, is_source_count, are_sources, is_schema}
-use Rattle.wsm_program.specs.Program.{is_span, is_shape, is_late_by}
+use Rattle.wsm_program.specs.Program.{is_span, is_shape, is_timely}
 use Rattle.wsm_bytecode.specs.Parts.{Settings}
 use Rattle.wsm_bytecode.specs.Steps.{Read}
 
@@ -24,14 +24,14 @@ schema_parts s h =
     record { keys = a.0; few = b.0; fields = c.0; sources = c.1 }
 
 abbrev pub are_settings : Settings → Bool
-are_settings s = is_late_by s.shape s.late_by && (are_sources s.sources && (is_shape s.shape && (is_span s.early && (is_span s.late && may_write s.mode s.form))))
+are_settings s = is_timely s.from_window s.shape && (are_sources s.sources && (is_shape s.shape && (is_span s.early && (is_span s.late && may_write s.mode s.form))))
 
 -- settings that were spelled are read again
 abbrev pub AreReadAgain : (Settings → List ℕ) → (List ℕ → Read Settings) → Type 0
 AreReadAgain spelled read = (s : Settings) (rest : List ℕ) → are_settings s ≡ true → read (spelled s ++ rest) ≡ Ok (s, rest)
 
 pub record SettingsParts (s : Settings) : Type 0 where
-  pub late_by : is_late_by s.shape s.late_by ≡ true
+  pub timely : is_timely s.from_window s.shape ≡ true
   pub sources : are_sources s.sources ≡ true
   pub shape : is_shape s.shape ≡ true
   pub early : is_span s.early ≡ true
@@ -40,15 +40,15 @@ pub record SettingsParts (s : Settings) : Type 0 where
 
 pub settings_parts : (s : Settings) → are_settings s ≡ true → SettingsParts s
 settings_parts s h =
-    let a = and_parts (is_late_by s.shape s.late_by) (are_sources s.sources && (is_shape s.shape && (is_span s.early && (is_span s.late && may_write s.mode s.form)))) h in
+    let a = and_parts (is_timely s.from_window s.shape) (are_sources s.sources && (is_shape s.shape && (is_span s.early && (is_span s.late && may_write s.mode s.form)))) h in
     let b = and_parts (are_sources s.sources) (is_shape s.shape && (is_span s.early && (is_span s.late && may_write s.mode s.form))) a.1 in
     let c = and_parts (is_shape s.shape) (is_span s.early && (is_span s.late && may_write s.mode s.form)) b.1 in
     let d = and_parts (is_span s.early) (is_span s.late && may_write s.mode s.form) c.1 in
     let e = and_parts (is_span s.late) (may_write s.mode s.form) d.1 in
-    record { late_by = a.0; sources = b.0; shape = c.0; early = d.0; late = e.0; form = e.1 }
+    record { timely = a.0; sources = b.0; shape = c.0; early = d.0; late = e.0; form = e.1 }
 
 pub are_settings_from : (s : Settings) → SettingsParts s → are_settings s ≡ true
-are_settings_from s p = and_from _ _ p.late_by (and_from _ _ p.sources (and_from _ _ p.shape (and_from _ _ p.early (and_from _ _ p.late p.form))))
+are_settings_from s p = and_from _ _ p.timely (and_from _ _ p.sources (and_from _ _ p.shape (and_from _ _ p.early (and_from _ _ p.late p.form))))
 
 -- a number of sources that there are is between 2 and 16
 not_none : (n : ℕ) → nat_eq (suc n) 0 ≡ false

@@ -10,8 +10,6 @@ use Rattle.wsm_record.specs.declared.Kind.{Kind}
 use Rattle.wsm_windows.specs.declared.Shape.{Shape}
 use Rattle.wsm_windows.specs.declared.Shape.TheVariants.{Fixed, Sliding, Session}
 use Rattle.wsm_record.specs.declared.Mode.{Mode}
-use Rattle.wsm_admission.specs.declared.clock.LateBy.{LateBy}
-use Rattle.wsm_admission.specs.Clock.{late_by}
 use Rattle.wsm_program.specs.declared.refusal.DecodeRefusal.TheVariants.{Operand}
 use Rattle.wsm_record.specs.declared.Form.{Form}
 use Rattle.wsm_program.specs.Program.{Name, is_span, is_size, is_shape, is_column, is_stated, is_budget}
@@ -251,21 +249,21 @@ shape_taken (suc (suc n)) bytes x le fits e =
     let two : 2 ≡ suc (suc n) = omega arith in
     subst (λ k. TookShape k bytes x) two (session_taken bytes x fits e)
 
--- and by what a record is late
-pub record TookWindows (from_window : Bool) (tag : ℕ) (bytes : List ℕ) (x : (Shape × LateBy) × List ℕ) : Type 0 where
+-- and what lateness is counted from
+pub record TookWindows (from_window : Bool) (tag : ℕ) (bytes : List ℕ) (x : (Shape × Bool) × List ℕ) : Type 0 where
   pub tagged : shape_tag x.0.0 ≡ tag
   pub parts : bytes ≡ measures x.0.0 ++ x.1
   pub fits : IsBytes x.1
   pub good : is_shape x.0.0 ≡ true
-  pub late : late_by from_window x.0.0 ≡ x.0.1
+  pub from : from_window ≡ x.0.1
 
-pub windows_taken : (from_window : Bool) (n : ℕ) (bytes : List ℕ) (x : (Shape × LateBy) × List ℕ) → n ≤ 2 → IsBytes bytes → windows_by from_window n bytes ≡ Ok x → TookWindows from_window n bytes x
+pub windows_taken : (from_window : Bool) (n : ℕ) (bytes : List ℕ) (x : (Shape × Bool) × List ℕ) → n ≤ 2 → IsBytes bytes → windows_by from_window n bytes ≡ Ok x → TookWindows from_window n bytes x
 unfolding windows_by
 windows_taken b n bytes x le fits e =
     bind_then _ _ x e (λ s e0 l0.
     let t = shape_taken n bytes s le fits e0 in
-    let made : (Shape × LateBy) × List ℕ = ((s.0, late_by b s.0), s.1) in
-    subst (λ y. TookWindows b n bytes y) (ok_is made x l0) (record { tagged = t.tagged; parts = t.parts; fits = t.fits; good = t.good; late = refl }))
+    let made : (Shape × Bool) × List ℕ = ((s.0, b), s.1) in
+    subst (λ y. TookWindows b n bytes y) (ok_is made x l0) (record { tagged = t.tagged; parts = t.parts; fits = t.fits; good = t.good; from = refl }))
 
 mode_has_tag : (n : ℕ) (m : Mode) → mode_by n ≡ Some m → n ≡ mode_tag m
 unfolding mode_by

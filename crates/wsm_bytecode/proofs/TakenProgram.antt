@@ -3,7 +3,7 @@ use Rattle.std.proofs.Common.{leb, ◌≡◌, ℕ, zero, suc, ◌≤◌, Bool, t
 use Rattle.std.specs.Prelude.{◌==◌, bytes_eq, slice_get}
 use Rattle.std.specs.List.{list_all, flat_map}
 use Rattle.std.specs.Int.{w8, w16}
-use Rattle.std.proofs.lemmas.Bool.{le-leb, eq-eqb, and_parts, and_from}
+use Rattle.std.proofs.lemmas.Bool.{le-leb, and_parts, and_from}
 use Rattle.std.proofs.lemmas.Slice.Eq.{bytes_eq-Decides}
 use Rattle.wsm_program.specs.declared.refusal.DecodeRefusal.TheVariants.{BadMagic, Version as OtherVersion, UnknownOpcode, Operand}
 use Rattle.wsm_program.specs.declared.instr.Instr.{Instr}
@@ -19,7 +19,7 @@ use Rattle.wsm_program.specs.Program.{Name, Header, Program, is_name_of, is_numb
 use Rattle.wsm_interval.specs.declared.Comparison.{Comparison}
 use Rattle.wsm_record.specs.declared.words.CellType.{CellType}
 use Rattle.wsm_record.specs.declared.Kind.{Kind}
-use Rattle.wsm_record.specs.Schema.{DeclaredField, source_count, is_name_list, are_fields_after, are_sources, is_schema, enum_names}
+use Rattle.wsm_record.specs.Schema.{DeclaredField, is_name_list, are_fields_after, are_sources, is_schema, enum_names}
 use Rattle.wsm_record.specs.Name.{is_between}
 use Rattle.wsm_bytecode.specs.declared.version.Version.{Version}
 use Rattle.wsm_bytecode.specs.declared.version.Version.TheVariants.{One, Two}
@@ -277,7 +277,7 @@ regroup_7 a b c d e f g rest = simp append_assoc refl
 abbrev made_of : List Name → List DeclaredField → Times → Settings → List Kind → List CellType → Costs → Header
 made_of keys fs t s ks ts b = record {
   schema = schema_of keys fs s;
-  clock = clock_of t s (schema_of keys fs s);
+  clock = clock_of t s;
   shape = s.shape;
   mode = s.mode;
   early = s.early;
@@ -312,9 +312,8 @@ lawful_made : (keys : List Name) (fs : List DeclaredField) (t : Times) (s : Sett
 unfolding is_header
 lawful_made keys fs t s ks ts b named fielded timed set few columned stated =
     let p = settings_parts s set in
-    let d = schema_of keys fs s in
     and_from _ _ (schema_made keys fs s named fielded p.sources)
-    (and_from _ _ (and_from _ _ timed (and_from _ _ p.late_by (eq-eqb (source_count d) (source_count d) refl)))
+    (and_from _ _ (and_from _ _ timed p.timely)
     (and_from _ _ (and_from _ _ p.shape (and_from _ _ p.early (and_from _ _ p.late p.form)))
     (and_from _ _ (and_from _ _ few columned) stated)))
 

@@ -10,10 +10,7 @@ use Rattle.wsm_record.specs.Name.{is_between}
 use Rattle.wsm_record.specs.Schema.{is_source_count, are_names_after, are_sources}
 use Rattle.wsm_windows.specs.declared.Shape.{Shape}
 use Rattle.wsm_windows.specs.declared.Shape.TheVariants.{Fixed, Sliding, Session}
-use Rattle.wsm_admission.specs.declared.clock.LateBy.{LateBy}
-use Rattle.wsm_admission.specs.declared.clock.LateBy.TheVariants.{Event, Window}
-use Rattle.wsm_admission.specs.Clock.{late_by}
-use Rattle.wsm_program.specs.Program.{Name, is_span, is_shape, is_late_by}
+use Rattle.wsm_program.specs.Program.{Name, is_span, is_shape, is_timely}
 use Rattle.wsm_program.proofs.Within.{at_most}
 use Rattle.wsm_bytecode.specs.Tags.{form_tag, shape_tag}
 use Rattle.wsm_bytecode.specs.Parts.{Settings, byte, signed, sources, mode, measures}
@@ -23,33 +20,30 @@ use Rattle.wsm_bytecode.proofs.Numbers.{byte_again}
 use Rattle.wsm_bytecode.proofs.Parts.{tag_again, sources_again, windows_again, mode_again, triggers_again, form_again}
 use Rattle.wsm_bytecode.proofs.Taken.{IsBytes, bind_then, choose, ok_is, Took, Exact, byte_taken}
 use Rattle.wsm_bytecode.proofs.TakenParts.{tag_taken, sources_taken, TookWindows, windows_taken, mode_taken, triggers_bytes, triggers_taken, form_taken}
-use Rattle.wsm_bytecode.proofs.Lateness.{is_window, late_again, late_lawful}
+use Rattle.wsm_bytecode.proofs.Lateness.{timely_within}
 use Rattle.wsm_bytecode.proofs.Settings.{AreReadAgain, are_settings, settings_parts, are_settings_from, many_sources, count_of_many, few_sources}
 
 -- ---- what was spelled is read again
 
-windows_step : (tag : ℕ) (bytes mid : List ℕ) (x : (Shape × LateBy) × List ℕ) → judged (is_between 0 4) (number_at w8 bytes) ≡ Ok (tag, mid)
+windows_step : (tag : ℕ) (bytes mid : List ℕ) (x : (Shape × Bool) × List ℕ) → judged (is_between 0 4) (number_at w8 bytes) ≡ Ok (tag, mid)
     → cond (ltb tag 3) (windows_by false tag mid) (windows_by true (tag - 3) mid) ≡ Ok x → windows_at bytes ≡ Ok x
 unfolding windows_at
 windows_step tag bytes mid x e f = rw (e, f) refl
 
 windows_tag : (tag : ℕ) (b : Bool) (s : Shape) (rest : List ℕ) → is_between 0 4 tag ≡ true → is_shape s ≡ true
     → cond (ltb tag 3) (windows_by false tag (measures s ++ rest)) (windows_by true (tag - 3) (measures s ++ rest)) ≡ windows_by b (shape_tag s) (measures s ++ rest)
-    → windows_at (byte tag ++ (measures s ++ rest)) ≡ Ok ((s, late_by b s), rest)
+    → windows_at (byte tag ++ (measures s ++ rest)) ≡ Ok ((s, b), rest)
 windows_tag tag b s rest good h e =
     let mid = measures s ++ rest in
-    windows_step tag (byte tag ++ mid) mid ((s, late_by b s), rest) (tag_again 0 4 tag mid (lit< tt) good) (e ∙ windows_again b s rest h)
+    windows_step tag (byte tag ++ mid) mid ((s, b), rest) (tag_again 0 4 tag mid (lit< tt) good) (e ∙ windows_again b s rest h)
 
-tagged_again : (s : Shape) (l : LateBy) (rest : List ℕ) → is_shape s ≡ true → is_late_by s l ≡ true → windows_at (windows l s ++ rest) ≡ Ok ((s, late_by (is_window l) s), rest)
-tagged_again (Fixed n) Event rest h late = windows_tag 0 false (Fixed n) rest refl h refl
-tagged_again (Sliding n d) Event rest h late = ap windows_at (append_assoc (byte 1) (signed n ++ signed d) rest) ∙ windows_tag 1 false (Sliding n d) rest refl h refl
-tagged_again (Session n) Event rest h late = windows_tag 2 false (Session n) rest refl h refl
-tagged_again (Fixed n) (Window other) rest h late = windows_tag 3 true (Fixed n) rest refl h refl
-tagged_again (Sliding n d) (Window other) rest h late = ap windows_at (append_assoc (byte 4) (signed n ++ signed d) rest) ∙ windows_tag 4 true (Sliding n d) rest refl h refl
-tagged_again (Session n) (Window other) rest h late = absurd (true≢false (sym late))
-
-shape_again : (s : Shape) (l : LateBy) (rest : List ℕ) → is_shape s ≡ true → is_late_by s l ≡ true → windows_at (windows l s ++ rest) ≡ Ok ((s, l), rest)
-shape_again s l rest h late = tagged_again s l rest h late ∙ ap (λ (k : LateBy). Ok ((s, k), rest)) (late_again s l late)
+shape_again : (s : Shape) (b : Bool) (rest : List ℕ) → is_shape s ≡ true → is_timely b s ≡ true → windows_at (windows b s ++ rest) ≡ Ok ((s, b), rest)
+shape_again (Fixed n) false rest h late = windows_tag 0 false (Fixed n) rest refl h refl
+shape_again (Sliding n d) false rest h late = ap windows_at (append_assoc (byte 1) (signed n ++ signed d) rest) ∙ windows_tag 1 false (Sliding n d) rest refl h refl
+shape_again (Session n) false rest h late = windows_tag 2 false (Session n) rest refl h refl
+shape_again (Fixed n) true rest h late = windows_tag 3 true (Fixed n) rest refl h refl
+shape_again (Sliding n d) true rest h late = ap windows_at (append_assoc (byte 4) (signed n ++ signed d) rest) ∙ windows_tag 4 true (Sliding n d) rest refl h refl
+shape_again (Session n) true rest h late = absurd (true≢false (sym late))
 
 output_step : (m : Mode) (tag : ℕ) (bytes mid : List ℕ) (f : Form) (ns : List Name) (rest : List ℕ) → number_at w8 bytes ≡ Ok (tag, mid) → form_of m (form_part tag) ≡ Ok f
     → sources_by tag mid ≡ Ok (ns, rest) → output_at m bytes ≡ Ok ((f, ns), rest)
@@ -84,7 +78,7 @@ output_again m Rstream (n ∷ ns) rest h good =
     let a = and_parts (is_source_count (length (n ∷ ns))) (are_names_after [] (n ∷ ns)) good in
     with_sources m 7 Rstream (n ∷ ns) rest (lit< tt) (form_again m Rstream h) refl (many_sources (length ns) a.0) a.1
 
-settings_step : (s : Settings) (bytes r1 r2 r3 rest : List ℕ) → windows_at bytes ≡ Ok ((s.shape, s.late_by), r1) → mode_at r1 ≡ Ok (s.mode, r2) → triggers_at r2 ≡ Ok ((s.early, s.late), r3)
+settings_step : (s : Settings) (bytes r1 r2 r3 rest : List ℕ) → windows_at bytes ≡ Ok ((s.shape, s.from_window), r1) → mode_at r1 ≡ Ok (s.mode, r2) → triggers_at r2 ≡ Ok ((s.early, s.late), r3)
     → output_at s.mode r3 ≡ Ok ((s.form, s.sources), rest) → settings_at bytes ≡ Ok (s, rest)
 unfolding settings_at
 settings_step s bytes r1 r2 r3 rest e1 e2 e3 e4 = rw (e1, e2, e3, e4) refl
@@ -98,41 +92,41 @@ settings_again s rest h =
     let r3 = output s.sources s.form ++ rest in
     let r2 = signed s.early ++ (signed s.late ++ r3) in
     let r1 = mode s.mode ++ r2 in
-    ap settings_at (regroup_5 (windows s.late_by s.shape) (mode s.mode) (signed s.early) (signed s.late) (output s.sources s.form) rest)
-    ∙ settings_step s (windows s.late_by s.shape ++ r1) r1 r2 r3 rest (shape_again s.shape s.late_by r1 p.shape p.late_by) (mode_again s.mode r2) (triggers_again s.early s.late r3 p.early p.late)
+    ap settings_at (regroup_5 (windows s.from_window s.shape) (mode s.mode) (signed s.early) (signed s.late) (output s.sources s.form) rest)
+    ∙ settings_step s (windows s.from_window s.shape ++ r1) r1 r2 r3 rest (shape_again s.shape s.from_window r1 p.shape p.timely) (mode_again s.mode r2) (triggers_again s.early s.late r3 p.early p.late)
     (output_again s.mode s.form s.sources rest p.form p.sources)
 
 -- ---- what was read is what was spelled
 
-abbrev windows_bytes : Shape × LateBy → List ℕ
+abbrev windows_bytes : Shape × Bool → List ℕ
 windows_bytes w = windows w.1 w.0
 
-abbrev are_windows : Shape × LateBy → Bool
-are_windows w = is_late_by w.0 w.1 && is_shape w.0
+abbrev are_windows : Shape × Bool → Bool
+are_windows w = is_timely w.1 w.0 && is_shape w.0
 
 zero_more : (n : ℕ) → n ≡ 0 + n
 zero_more n = omega arith
 
-windows_taken_low : (tag : ℕ) (bytes : List ℕ) (x : (Shape × LateBy) × List ℕ) → TookWindows false tag bytes x → Took windows_bytes are_windows (byte tag ++ bytes) x
+windows_taken_low : (tag : ℕ) (bytes : List ℕ) (x : (Shape × Bool) × List ℕ) → TookWindows false tag bytes x → Took windows_bytes are_windows (byte tag ++ bytes) x
 windows_taken_low tag bytes x t =
-    let l : Event ≡ x.0.1 = t.late in
+    let l : false ≡ x.0.1 = t.from in
     record {
       parts = ap (λ n. byte n ++ bytes) (sym t.tagged ∙ zero_more (shape_tag x.0.0) ∙ ap (λ k. window_tag k + shape_tag x.0.0) l) ∙ ap (λ r. byte (window_tag x.0.1 + shape_tag x.0.0) ++ r) t.parts
           ∙ sym (append_assoc (byte (window_tag x.0.1 + shape_tag x.0.0)) (measures x.0.0) x.1);
       fits = t.fits;
-      good = and_from _ _ (ap (is_late_by x.0.0) (sym l)) t.good;
+      good = and_from _ _ (subst (λ b. is_timely b x.0.0 ≡ true) l (timely_within false x.0.0 (omega (arith, t.tagged)))) t.good;
     }
 
-windows_taken_high : (tag : ℕ) (bytes : List ℕ) (x : (Shape × LateBy) × List ℕ) → 3 ≤ tag → tag ≤ 4 → TookWindows true (tag - 3) bytes x → Took windows_bytes are_windows (byte tag ++ bytes) x
+windows_taken_high : (tag : ℕ) (bytes : List ℕ) (x : (Shape × Bool) × List ℕ) → 3 ≤ tag → tag ≤ 4 → TookWindows true (tag - 3) bytes x → Took windows_bytes are_windows (byte tag ++ bytes) x
 windows_taken_high tag bytes x low high t =
-    let l : Window x.0.0 ≡ x.0.1 = t.late in
+    let l : true ≡ x.0.1 = t.from in
     let same : tag ≡ 3 + shape_tag x.0.0 = omega (arith, t.tagged) in
     let few : shape_tag x.0.0 ≤ 1 = omega (arith, t.tagged) in
     record {
       parts = ap (λ n. byte n ++ bytes) (same ∙ ap (λ k. window_tag k + shape_tag x.0.0) l) ∙ ap (λ r. byte (window_tag x.0.1 + shape_tag x.0.0) ++ r) t.parts
           ∙ sym (append_assoc (byte (window_tag x.0.1 + shape_tag x.0.0)) (measures x.0.0) x.1);
       fits = t.fits;
-      good = and_from _ _ (ap (is_late_by x.0.0) (sym l) ∙ late_lawful true x.0.0 few) t.good;
+      good = and_from _ _ (subst (λ b. is_timely b x.0.0 ≡ true) l (timely_within true x.0.0 few)) t.good;
     }
 
 at_tag : {A : Type 0} (spell : A → List ℕ) (good : A → Bool) (bytes : List ℕ) (n : ℕ) (mid : List ℕ) (x : A × List ℕ) → bytes ≡ byte n ++ mid → Took spell good (byte n ++ mid) x → Took spell good bytes x
@@ -217,14 +211,14 @@ settings_taken bytes x fits e =
     let u = mode_taken w.1 m t.fits e1 in
     let v = triggers_taken m.1 g u.fits e2 in
     let z = output_taken m.0 g.1 o v.fits e3 in
-    let a = and_parts (is_late_by w.0.0 w.0.1) (is_shape w.0.0) t.good in
+    let a = and_parts (is_timely w.0.1 w.0.0) (is_shape w.0.0) t.good in
     let b = and_parts (is_span g.0.0) (is_span g.0.1) v.good in
     let c = and_parts (may_write m.0 o.0.0) (are_sources o.0.1) z.good in
-    let made : Settings × List ℕ = (record { shape = w.0.0; late_by = w.0.1; mode = m.0; early = g.0.0; late = g.0.1; form = o.0.0; sources = o.0.1 }, o.1) in
+    let made : Settings × List ℕ = (record { shape = w.0.0; from_window = w.0.1; mode = m.0; early = g.0.0; late = g.0.1; form = o.0.0; sources = o.0.1 }, o.1) in
     subst (λ y. Took settings are_settings bytes y) (ok_is made x l3)
     (record {
       parts = t.parts ∙ ap (λ r. windows w.0.1 w.0.0 ++ r) (u.parts ∙ ap (λ r. mode m.0 ++ r) (v.parts ∙ ap (λ r. triggers_bytes g.0 ++ r) z.parts))
           ∙ regroup_taken (windows w.0.1 w.0.0) (mode m.0) (signed g.0.0) (signed g.0.1) (output o.0.1 o.0.0) o.1;
       fits = z.fits;
-      good = are_settings_from made.0 (record { late_by = a.0; sources = c.1; shape = a.1; early = b.0; late = b.1; form = c.0 });
+      good = are_settings_from made.0 (record { timely = a.0; sources = c.1; shape = a.1; early = b.0; late = b.1; form = c.0 });
     })))))

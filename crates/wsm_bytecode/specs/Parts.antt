@@ -1,5 +1,5 @@
 -- How the parts of a program are spelled as bytes. Numbers stand with their lowest byte first.
-use Rattle.std.specs.Prelude.{ℕ, List, [], ◌++◌, length, ℤ, codes}
+use Rattle.std.specs.Prelude.{ℕ, Bool, List, [], ◌++◌, length, ℤ, codes}
 use Rattle.std.specs.List.{flat_map}
 use Rattle.std.specs.Int.{w8, w16, w64, to_le_bytes, cast_unsigned}
 use Rattle.wsm_record.specs.declared.words.CellType.{CellType}
@@ -11,7 +11,6 @@ use Rattle.wsm_record.specs.Schema.{FieldType, Int, Truth, Enum, DeclaredField}
 use Rattle.wsm_windows.specs.declared.Shape.{Shape}
 use Rattle.wsm_windows.specs.declared.Shape.TheVariants.{Fixed, Sliding, Session}
 use Rattle.wsm_admission.specs.declared.clock.Clock.{Clock}
-use Rattle.wsm_admission.specs.declared.clock.LateBy.{LateBy}
 use Rattle.wsm_program.specs.declared.instr.Instr.{Instr}
 use Rattle.wsm_program.specs.declared.instr.Argument.{Argument}
 use Rattle.wsm_program.specs.declared.instr.Argument.TheVariants as arguments
@@ -109,7 +108,7 @@ code is = number (length is) ++ flat_map instr is
 
 pub record Settings : Type 0 where
   pub shape : Shape
-  pub late_by : LateBy
+  pub from_window : Bool  -- lateness counts from the ends of windows
   pub mode : Mode
   pub early : ℤ
   pub late : ℤ
@@ -117,4 +116,4 @@ pub record Settings : Type 0 where
   pub sources : List Name
 
 abbrev pub settings_in : Header → Settings
-settings_in h = record { shape = h.shape; late_by = h.clock.late; mode = h.mode; early = h.early; late = h.late; form = h.form; sources = h.schema.sources }
+settings_in h = record { shape = h.shape; from_window = h.clock.from_window; mode = h.mode; early = h.early; late = h.late; form = h.form; sources = h.schema.sources }

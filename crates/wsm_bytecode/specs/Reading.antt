@@ -6,7 +6,7 @@ use Rattle.wsm_record.specs.declared.Kind.{Kind}
 use Rattle.wsm_record.specs.declared.words.CellType.{CellType}
 use Rattle.wsm_record.specs.declared.limits.TheConstants.{MAX_SECTION}
 use Rattle.wsm_record.specs.Name.{is_between}
-use Rattle.wsm_record.specs.Schema.{DeclaredField, Declared, enum_names, source_count}
+use Rattle.wsm_record.specs.Schema.{DeclaredField, Declared, enum_names}
 use Rattle.wsm_admission.specs.declared.clock.Clock.{Clock}
 use Rattle.wsm_program.specs.declared.instr.FieldTest.{FieldTest}
 use Rattle.wsm_program.specs.declared.instr.Instr.{Instr}
@@ -54,8 +54,8 @@ settings_at Two bytes = second.settings_at bytes
 abbrev pub schema_of : List (List ℕ) → List DeclaredField → Settings → Declared
 schema_of keys fields s = record { keys = keys; fields = fields; sources = s.sources }
 
-abbrev pub clock_of : Times → Settings → Declared → Clock
-clock_of t s d = record { start = t.start; skew = t.skew; lateness = t.lateness; late = s.late_by; records = t.records; sources = source_count d }
+abbrev pub clock_of : Times → Settings → Clock
+clock_of t s = record { start = t.start; skew = t.skew; lateness = t.lateness; from_window = s.from_window; records = t.records }
 
 -- what stands behind the version
 unfoldable pub header_at : Version → List ℕ → Read Header
@@ -70,7 +70,7 @@ header_at v bytes = do
   Ok (
     record {
       schema = schema_of keys.0 fields.0 settings.0;
-      clock = clock_of times.0 settings.0 (schema_of keys.0 fields.0 settings.0);
+      clock = clock_of times.0 settings.0;
       shape = settings.0.shape;
       mode = settings.0.mode;
       early = settings.0.early;
@@ -211,7 +211,7 @@ decode bytes = do
 
 -- the settings as the code holds them
 abbrev pub settings_seen : Held → Settings
-settings_seen s = record { shape = s.shape; late_by = s.late_by; mode = s.mode; early = s.early; late = s.late; form = s.form; sources = s.sources }
+settings_seen s = record { shape = s.shape; from_window = s.from_window; mode = s.mode; early = s.early; late = s.late; form = s.form; sources = s.sources }
 
 abbrev pub back_seen : Back → List Kind × (List CellType × Costs)
 back_seen b = (b.kinds.items, (b.columns.items, b.budget))

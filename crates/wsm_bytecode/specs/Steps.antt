@@ -12,8 +12,6 @@ use Rattle.wsm_record.specs.Name.{is_between, is_name, is_among}
 use Rattle.wsm_record.specs.Schema.{FieldType, Int, Truth, Enum, DeclaredField, Declared, is_within, enum_names}
 use Rattle.wsm_windows.specs.declared.Shape.{Shape}
 use Rattle.wsm_windows.specs.declared.Shape.TheVariants.{Fixed, Sliding, Session}
-use Rattle.wsm_admission.specs.declared.clock.LateBy.{LateBy}
-use Rattle.wsm_admission.specs.Clock.{late_by}
 use Rattle.wsm_program.specs.declared.refusal.DecodeRefusal.{DecodeRefusal}
 use Rattle.wsm_program.specs.declared.refusal.DecodeRefusal.TheVariants.{Truncated, Operand}
 use Rattle.wsm_program.specs.declared.program.Costs.{Costs}
@@ -168,11 +166,11 @@ shape_by zero bytes = fixed_at bytes
 shape_by (suc zero) bytes = sliding_at bytes
 shape_by _ bytes = session_at bytes
 
--- the shape of a tag, and by what a record is late
-unfoldable pub windows_by : Bool → ℕ → List ℕ → Read (Shape × LateBy)
+-- the shape of a tag, and what lateness is counted from
+unfoldable pub windows_by : Bool → ℕ → List ℕ → Read (Shape × Bool)
 windows_by from_window tag bytes = do
   s ← shape_by tag bytes
-  Ok ((s.0, late_by from_window s.0), s.1)
+  Ok ((s.0, from_window), s.1)
 
 unfoldable pub mode_at : List ℕ → Read Mode
 mode_at bytes = tagged mode_by bytes

@@ -8,7 +8,6 @@ use Rattle.wsm_record.specs.declared.Form.TheVariants.{Panes}
 use Rattle.wsm_interval.specs.declared.Comparison.TheVariants as compare
 use Rattle.wsm_windows.specs.declared.Shape.{Shape}
 use Rattle.wsm_windows.specs.declared.Shape.TheVariants.{Fixed, Sliding}
-use Rattle.wsm_admission.specs.declared.clock.LateBy.TheVariants.{Event, Window}
 use Rattle.wsm_record.specs.declared.words.CellType.TheVariants as types
 use Rattle.wsm_program.specs.declared.instr.Instr.{Instr}
 use Rattle.wsm_program.specs.declared.instr.Instr.TheVariants.{PushBool, Field, Acc, Count, Operate, Jump, Test, Fold, Return}
@@ -34,7 +33,7 @@ abbrev pub base : Program
 base = record {
   header = record {
     schema = record { keys = codes "a" ∷ codes "b" ∷ []; fields = record { name = codes "n"; type = Int (pos 0) (pos 100) } ∷ []; sources = [] };
-    clock = record { start = pos 0; skew = pos 100; lateness = pos 10; late = Event; records = pos 1000; sources = 1 };
+    clock = record { start = pos 0; skew = pos 100; lateness = pos 10; from_window = false; records = pos 1000 };
     shape = Fixed (pos 60);
     mode = Accumulating;
     early = pos 0;
@@ -99,14 +98,14 @@ base_allowed = refl
 
 -- lateness is counted from the ends of its windows
 abbrev from_windows : Shape → Program
-from_windows shape = record base { header = record base.header { shape = shape; clock = record base.header.clock { late = Window shape } } }
+from_windows shape = record base { header = record base.header { shape = shape; clock = record base.header.clock { from_window = true } } }
 
 abbrev retracting : Program
 retracting = record base { header = record base.header { mode = Retracting } }
 
 -- two sources, x and y
 abbrev of_sources : Program
-of_sources = record base { header = record base.header { schema = record base.header.schema { sources = codes "x" ∷ codes "y" ∷ [] }; clock = record base.header.clock { sources = 2 } } }
+of_sources = record base { header = record base.header { schema = record base.header.schema { sources = codes "x" ∷ codes "y" ∷ [] } } }
 
 -- bytes in place of those from one place up to another
 abbrev putting : List ℕ → ℕ → ℕ → List ℕ → List ℕ

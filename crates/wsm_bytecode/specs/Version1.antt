@@ -7,8 +7,6 @@ use Rattle.wsm_record.specs.declared.Form.{Form}
 use Rattle.wsm_record.specs.declared.limits.TheConstants.{MAX_SOURCES}
 use Rattle.wsm_record.specs.Name.{is_between}
 use Rattle.wsm_windows.specs.declared.Shape.{Shape}
-use Rattle.wsm_admission.specs.declared.clock.LateBy.{LateBy}
-use Rattle.wsm_admission.specs.declared.clock.LateBy.TheVariants.{Event, Window}
 use Rattle.wsm_program.specs.declared.instr.Instr.{Instr}
 use Rattle.wsm_program.specs.declared.instr.Instr.TheVariants.{PushInt, PushBool, PushEnum, Field, Key, Acc, Count, Operate, Jump, JumpIfFalse, Test, Fold, Return}
 use Rattle.wsm_program.specs.Program.{Name}
@@ -19,19 +17,19 @@ use Rattle.wsm_bytecode.specs.Steps.{Read, ◌>>=◌, judged, number_at, windows
 
 -- ---- how it is spelled
 
-abbrev pub window_tag : LateBy → ℕ
-window_tag Event = 0
-window_tag (Window s) = SHAPE_COUNT
+abbrev pub window_tag : Bool → ℕ
+window_tag false = 0
+window_tag true = SHAPE_COUNT
 
-abbrev pub windows : LateBy → Shape → List ℕ
-windows l s = byte (window_tag l + shape_tag s) ++ measures s
+abbrev pub windows : Bool → Shape → List ℕ
+windows from_window s = byte (window_tag from_window + shape_tag s) ++ measures s
 
 abbrev pub output : List Name → Form → List ℕ
 output [] f = byte (form_tag f)
 output (n ∷ ns) f = byte (FORM_COUNT + form_tag f) ++ sources (n ∷ ns)
 
 abbrev pub settings : Settings → List ℕ
-settings s = windows s.late_by s.shape ++ mode s.mode ++ signed s.early ++ signed s.late ++ output s.sources s.form
+settings s = windows s.from_window s.shape ++ mode s.mode ++ signed s.early ++ signed s.late ++ output s.sources s.form
 
 abbrev pub has : Instr → Bool
 has (PushInt n) = true
@@ -50,7 +48,7 @@ has Return = true
 
 -- ---- how it is read
 
-unfoldable pub windows_at : List ℕ → Read (Shape × LateBy)
+unfoldable pub windows_at : List ℕ → Read (Shape × Bool)
 windows_at bytes = do
   tag ← judged (is_between 0 (SHAPE_COUNT + last_shape_tag true)) (number_at w8 bytes)
   if nat_lt tag.0 SHAPE_COUNT then windows_by false tag.0 tag.1 else windows_by true (tag.0 - SHAPE_COUNT) tag.1
@@ -77,6 +75,6 @@ settings_at bytes = do
   triggers ← triggers_at mode.1
   output ← output_at mode.0 triggers.1
   Ok (
-    record { shape = windows.0.0; late_by = windows.0.1; mode = mode.0; early = triggers.0.0; late = triggers.0.1; form = output.0.0; sources = output.0.1 },
+    record { shape = windows.0.0; from_window = windows.0.1; mode = mode.0; early = triggers.0.0; late = triggers.0.1; form = output.0.0; sources = output.0.1 },
     output.1,
   )

@@ -1,4 +1,4 @@
--- What version 2 of the bytes has of its own: by what a record is late and the sources stand in front of the
+-- What version 2 of the bytes has of its own: what lateness is counted from and the sources stand in front of the
 -- shape, and each instruction is there.
 use Rattle.std.specs.Prelude.{ℕ, ℤ, Bool, true, false, List, ◌++◌, Ok, ◌==◌}
 use Rattle.std.specs.Int.{w8}
@@ -7,8 +7,6 @@ use Rattle.wsm_record.specs.declared.Form.{Form}
 use Rattle.wsm_record.specs.Name.{is_between}
 use Rattle.wsm_record.specs.Schema.{is_source_count}
 use Rattle.wsm_windows.specs.declared.Shape.{Shape}
-use Rattle.wsm_admission.specs.declared.clock.LateBy.{LateBy}
-use Rattle.wsm_admission.specs.declared.clock.LateBy.TheVariants.{Event, Window}
 use Rattle.wsm_program.specs.declared.instr.Instr.{Instr}
 use Rattle.wsm_bytecode.specs.Tags.{form_tag, shape_tag, last_shape_tag}
 use Rattle.wsm_bytecode.specs.Parts.{Settings, byte, signed, mode, measures, sources}
@@ -17,9 +15,9 @@ use Rattle.wsm_bytecode.specs.Steps.{Read, ◌>>=◌, judged, number_at, windows
 -- ---- how it is spelled
 
 -- counted from a window's end
-abbrev pub window_flag : LateBy → ℕ
-window_flag Event = 0
-window_flag (Window s) = 1
+abbrev pub window_flag : Bool → ℕ
+window_flag false = 0
+window_flag true = 1
 
 abbrev pub shape : Shape → List ℕ
 shape s = byte (shape_tag s) ++ measures s
@@ -28,7 +26,7 @@ abbrev pub form : Form → List ℕ
 form f = byte (form_tag f)
 
 abbrev pub settings : Settings → List ℕ
-settings s = byte (window_flag s.late_by) ++ sources s.sources ++ shape s.shape ++ mode s.mode ++ signed s.early ++ signed s.late ++ form s.form
+settings s = byte (window_flag s.from_window) ++ sources s.sources ++ shape s.shape ++ mode s.mode ++ signed s.early ++ signed s.late ++ form s.form
 
 abbrev pub has : Instr → Bool
 has i = true
@@ -36,7 +34,7 @@ has i = true
 -- ---- how it is read
 
 -- judged beside what lateness is counted from
-unfoldable pub windows_at : Bool → List ℕ → Read (Shape × LateBy)
+unfoldable pub windows_at : Bool → List ℕ → Read (Shape × Bool)
 windows_at from_window bytes = do
   tag ← judged (is_between 0 (last_shape_tag from_window)) (number_at w8 bytes)
   windows_by from_window tag.0 tag.1
@@ -65,6 +63,6 @@ settings_at bytes = do
   triggers ← triggers_at mode.1
   form ← form_at mode.0 triggers.1
   Ok (
-    record { shape = windows.0.0; late_by = windows.0.1; mode = mode.0; early = triggers.0.0; late = triggers.0.1; form = form.0; sources = names.0 },
+    record { shape = windows.0.0; from_window = windows.0.1; mode = mode.0; early = triggers.0.0; late = triggers.0.1; form = form.0; sources = names.0 },
     form.1,
   )

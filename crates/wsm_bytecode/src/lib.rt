@@ -37,7 +37,7 @@ pub use listing::disassemble;
 pub use reading::decode;
 pub use writing::encode;
 pub use wsm_program::{
-    CellType, Clock, Comparison, Costs, DecodeRefusal, FieldTest, Header, Instr, LateBy, Operands,
+    CellType, Clock, Comparison, Costs, DecodeRefusal, FieldTest, Header, Instr, Operands,
     Operation, Program, Section, SectionId,
 };
 

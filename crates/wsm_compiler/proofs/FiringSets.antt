@@ -67,7 +67,7 @@ module _ (m : Meant) where
 
   pub taken_fits : (past : List Event) (key : ℕ) (time : ℤ) (values : List Value) → verdict_on m past (Record (Some key) time values) ≡ None → (nat_lt key (length m.declared.keys) && fit_fields m.declared.fields values) ≡ true
   taken_fits past key time values h =
-      let t = taken_record m.clock m.declared (mark m past) (admitted_count m.clock m.declared past) (Some key) time values h in
+      let t = taken_record m.clock m.shape m.declared (mark m past) (admitted_count m.clock m.shape m.declared past) (Some key) time values h in
       and_from (nat_lt key (length m.declared.keys)) (fit_fields m.declared.fields values) t.has_key t.fits
 
   one_fits : (e : Event) (past : List Event) → AllByRecursion Fits (selection_of m past e)
@@ -99,7 +99,7 @@ module _ (m : Meant) where
   contents_are : (past : List Event) (p : Place) → AreOf p (contents m past p)
   contents_are past p = record {
     same = keys_there p (selected m past);
-    few = at_most (length (contents m past p)) (length (selected m past)) (admitted_count m.clock m.declared past) (unsigned_abs m.clock.records) (length-filter (is_there m p) (selected m past)) (selected_count m past) (admitted_count-le m.clock m.declared past);
+    few = at_most (length (contents m past p)) (length (selected m past)) (admitted_count m.clock m.shape m.declared past) (unsigned_abs m.clock.records) (length-filter (is_there m p) (selected m past)) (selected_count m past) (admitted_count-le m.clock m.declared past);
     each = filter-all Fits (is_there m p) (selected m past) (all_fit past);
   }
 

@@ -1,22 +1,18 @@
 -- What reading program bytes asks holds of the program of a checked query.
-use Rattle.std.proofs.Common.{◌≡◌, ℕ, suc, ◌+◌, ◌≤◌, ◌<◌, Bool, true, false, ◌&&◌, not, List, [], ◌∷◌, ◌++◌, length, ℤ, Option, Some, None, refl, sym, ap, ◌∙◌, arith, length-append}
+use Rattle.std.proofs.Common.{◌≡◌, ℕ, suc, ◌+◌, ◌≤◌, ◌<◌, Bool, true, false, ◌&&◌, not, List, [], ◌∷◌, ◌++◌, length, map, ℤ, Option, Some, None, refl, sym, ap, subst, ◌∙◌, arith, length-append}
 use Rattle.std.proofs.lemmas.List.Folds.{list_all-append}
 use Rattle.std.specs.Prelude.{pos, negsuc, int_le, nat_eq, nat_le, nat_lt}
-use Rattle.std.specs.Ordering.{int_eq}
-use Rattle.std.proofs.lemmas.Bool.Decides.{Decides-int_eq}
-use Rattle.wsm_semantics.proofs.Each.{itself}
 use Rattle.std.proofs.lemmas.List.{length-map}
 use Rattle.std.specs.List.{list_all, flat_map}
 use Rattle.std.proofs.lemmas.Bool.{and_from, ltb-true, and_parts, leb-true, le-leb}
 use Rattle.wsm_record.specs.Name.{is_name, is_among, is_between}
 use Rattle.wsm_windows.specs.declared.window.Shape.{Shape}
 use Rattle.wsm_windows.specs.declared.window.Shape.TheVariants.{Fixed, Sliding, Session}
-use Rattle.wsm_admission.specs.Clock.{late_by}
 use Rattle.wsm_program.specs.declared.instr.Instr.{Instr}
 use Rattle.wsm_program.specs.declared.program.Costs.{Costs}
-use Rattle.wsm_program.specs.Program.{Header, is_span, is_shape, is_column, is_late_by, is_limited, is_sourced, is_clock, is_firing, is_row, is_budget, is_header, is_instr, is_section, is_program}
+use Rattle.wsm_program.specs.Program.{Header, is_span, is_shape, is_column, is_timely, is_limited, is_clock, is_firing, is_row, is_budget, is_header, is_instr, is_section, is_program}
 use Rattle.wsm_record.specs.Modes.{may_write}
-use Rattle.wsm_record.specs.Schema.{FieldType, DeclaredField, is_field_type, is_field_after, are_fields_after, is_schema, source_count, is_i64, is_spelt_type, is_spelt_field}
+use Rattle.wsm_record.specs.Schema.{FieldType, DeclaredField, is_field_type, is_field_after, are_fields_after, is_schema, is_i64, is_spelt_type, is_spelt_field}
 use Rattle.wsm_record.specs.Schema as field_types
 use Rattle.wsm_query.specs.Tree.{Name, Query, Expr, Aggregate, If, Brackets, Minus, Not, Binary, And, Or}
 use Rattle.wsm_check.specs.declared.refusal.CheckFault.TheVariants.{Duplicate, Limit}
@@ -107,15 +103,11 @@ every_is (Some (pos n)) h = let p = and_parts (int_le (pos 1) (pos n)) (int_le (
     from n = grind arith
 every_is (Some (negsuc n)) h = no h
 
-int_itself : (n : ℤ) → int_eq n n ≡ true
-int_itself n = (Decides-int_eq n n).1 refl
-
 -- lateness isn't counted from the end of a session
-late_by_is : (from_window : Bool) (shape : Shape) → lateness_fits from_window shape ≡ true → is_late_by shape (late_by from_window shape) ≡ true
-late_by_is false shape h = refl
-late_by_is true (Fixed size) h = int_itself size
-late_by_is true (Sliding size period) h = and_from (int_eq size size) (int_eq period period) (int_itself size) (int_itself period)
-late_by_is true (Session gap) h = no h
+timely_is : (from_window : Bool) (shape : Shape) → lateness_fits from_window shape ≡ true → is_timely from_window shape ≡ true
+timely_is from_window (Fixed size) h = refl
+timely_is from_window (Sliding size period) h = refl
+timely_is from_window (Session gap) h = h
 
 -- ---- columns and accumulators
 
@@ -213,10 +205,7 @@ module _ (q : Query) (passes : Passed q) (spelt : IsSpelt q) (b : Costs) (f : Fi
       (and_from (is_span (every q.late)) (may_write q.mode q.form) (every_is q.late t.1) passes.emit))
 
   clock_is : is_clock head ≡ true
-  clock_is =
-      let late = is_late_by q.shape head.clock.late in
-      let counted = nat_eq head.clock.sources (source_count head.schema) in
-      and_from (is_limited head.clock) (is_sourced head) passes.clock (and_from late counted (late_by_is q.from_window q.shape passes.lateness) (itself (source_count head.schema)))
+  clock_is = and_from (is_limited head.clock) (is_timely head.clock.from_window head.shape) passes.clock (timely_is q.from_window q.shape passes.lateness)
 
   row_is : is_row head ≡ true
   row_is =

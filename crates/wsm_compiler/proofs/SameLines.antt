@@ -176,8 +176,8 @@ module _ (m : Meant) (sel : ℕ → List Value → Bool) (row : ℕ → List Dat
     end_same : (rows : List Row) → end_line m rows ≡ end_line other rows
     end_same rows =
         let past = events rows in
-        ap (λ (fs : List Firing). End (counter (length rows)) (counter (admitted_count m.clock m.declared past)) (counter (late_count m.clock m.declared past))
-        (counter (fault_count rows + refused_count m.clock m.declared past)) (counter (length fs))) (so_far_same past)
+        ap (λ (fs : List Firing). End (counter (length rows)) (counter (admitted_count m.clock m.shape m.declared past)) (counter (late_count m.clock m.shape m.declared past))
+        (counter (fault_count rows + refused_count m.clock m.shape m.declared past)) (counter (length fs))) (so_far_same past)
 
     lines_same : (rows : List Row) → all_lines m rows ≡ all_lines other rows
     lines_same rows = (λ i. so_far_lines_same rows i ++ end_same rows i ∷ [])

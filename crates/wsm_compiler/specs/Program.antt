@@ -1,8 +1,6 @@
 -- The program of a query: that of what a checked query has.
 use Rattle.std.specs.Prelude.{map, ℤ, pos, unsigned_abs, Option, Some, None}
-use Rattle.wsm_record.specs.Schema.{source_count}
 use Rattle.wsm_admission.specs.declared.clock.Clock.{Clock}
-use Rattle.wsm_admission.specs.Clock.{late_by}
 use Rattle.wsm_program.specs.declared.program.Costs.{Costs}
 use Rattle.wsm_program.specs.Program.{Header, Program}
 use Rattle.wsm_rules.specs.Costs.{needed}
@@ -10,9 +8,9 @@ use Rattle.wsm_query.specs.Tree.{Query, Budget}
 use Rattle.wsm_check.specs.Parts.{Parts, parts_of}
 use Rattle.wsm_compiler.specs.TermCode.{ending_code, foldings_code, firing_code}
 
--- the numbers of the clock, and how many sources it has: one where none are declared
+-- what it says of event time
 abbrev pub clock_of : Parts → Clock
-clock_of p = record { start = p.start; skew = p.skew; lateness = p.lateness; late = late_by p.from_window p.shape; records = p.records; sources = source_count p.schema }
+clock_of p = record { start = p.start; skew = p.skew; lateness = p.lateness; from_window = p.from_window; records = p.records }
 
 -- 0 where there is no count
 abbrev pub every : Option ℤ → ℤ

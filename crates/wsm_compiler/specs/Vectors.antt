@@ -6,7 +6,6 @@ use Rattle.wsm_record.specs.declared.words.Kind.TheVariants.{Sum, Min, Max}
 use Rattle.wsm_record.specs.declared.words.Mode.TheVariants.{Accumulating, Retracting}
 use Rattle.wsm_record.specs.declared.words.Form.TheVariants.{Panes}
 use Rattle.wsm_windows.specs.declared.window.Shape.TheVariants.{Fixed, Sliding}
-use Rattle.wsm_admission.specs.declared.clock.LateBy.TheVariants as late_by
 use Rattle.wsm_query.specs.declared.expr.Op.TheVariants.{Add, Sub, Div, Rem, Ne, Gt, Lt}
 use Rattle.wsm_interval.specs.declared.Comparison.TheVariants as compare
 use Rattle.wsm_record.specs.Schema as field_types
@@ -69,15 +68,15 @@ base_lawful : is_program (program_of base) ≡ true
 unfolding is_program is_header is_section is_schema is_reserved
 base_lawful = refl
 
--- one source, and lateness from a record's own time
-base_clock : (program_of base).header.clock ≡ record { start = pos 0; skew = pos 100; lateness = pos 10; late = late_by.Event; records = pos 1000; sources = 1 }
+-- lateness from a record's own time
+base_clock : (program_of base).header.clock ≡ record { start = pos 0; skew = pos 100; lateness = pos 10; from_window = false; records = pos 1000 }
 base_clock = refl
 
 -- `SOURCES x, y; .. LATENESS 10 FROM WINDOW; .. FIXED 60 RETRACTING`
 abbrev of_two_sources : Query
 of_two_sources = record base { sources = codes "x" ∷ codes "y" ∷ []; from_window = true; mode = Retracting }
 
-two_sources_clock : (program_of of_two_sources).header.clock ≡ record { start = pos 0; skew = pos 100; lateness = pos 10; late = late_by.Window (Fixed (pos 60)); records = pos 1000; sources = 2 }
+two_sources_clock : (program_of of_two_sources).header.clock ≡ record { start = pos 0; skew = pos 100; lateness = pos 10; from_window = true; records = pos 1000 }
 two_sources_clock = refl
 
 two_sources_lawful : is_program (program_of of_two_sources) ≡ true

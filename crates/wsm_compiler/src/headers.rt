@@ -7,7 +7,7 @@ ghost use Rattle.wsm_compiler.specs.Program as spec;
 ghost use Rattle.wsm_compiler.specs.Program.{clock_of, header_stating};
 
 use std::alloc::{AllocError, Global};
-use wsm_admission::{Clock, LateBy};
+use wsm_admission::Clock;
 use wsm_check::{Folding, Parts};
 use wsm_program::{Costs, Header};
 use wsm_record::Kind;
@@ -32,7 +32,7 @@ pub fn header(alloc: Global, parts: Parts, budget: Costs) -> Result<Header, Allo
     })
 }
 
-// The numbers of the clock, from when on a record is late, and how many sources watermarks have.
+// What it says of event time.
 fn clock(parts: &Parts) -> Clock
     ensures { result ≡ clock_of (seen_parts parts.now) }
 {
@@ -40,9 +40,8 @@ fn clock(parts: &Parts) -> Clock
         start: parts.start,
         skew: parts.skew,
         lateness: parts.lateness,
-        late: LateBy::of(parts.from_window, parts.shape),
+        from_window: parts.from_window,
         records: parts.records,
-        sources: parts.schema.source_count() as u8,
     }
 }
 

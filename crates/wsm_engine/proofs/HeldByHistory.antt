@@ -28,7 +28,7 @@ Panes = List (Place × Pane (List Value))
 module _ (p : Program) (costs : Costs) (judged : judge p ≡ Ok costs) (lawful : IsTrue (is_program p)) (past : List Event) where
   -- how many records were admitted
   abbrev pub admitted : ℕ
-  admitted = admitted_count p.header.clock p.header.schema past
+  admitted = admitted_count p.header.clock p.header.shape p.header.schema past
 
   -- what a program keeps of the held panes
   abbrev pub kept_panes : Panes
@@ -40,7 +40,7 @@ module _ (p : Program) (costs : Costs) (judged : judge p ≡ Ok costs) (lawful :
   counted : (run (plan_of p) (query_of p) past).admission.admitted ≡ admitted
   counted =
       let there = histories.fits p costs judged lawful past in
-      there.admission.admitted ∙ ap (λ (c : Clock). admitted_count c p.header.schema past) there.clock
+      there.admission.admitted ∙ ap (λ (c : Clock). admitted_count c p.header.shape p.header.schema past) there.clock
 
   -- it is sound
   pub kept_sound : AreSound p admitted kept_panes

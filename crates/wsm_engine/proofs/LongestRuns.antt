@@ -25,7 +25,7 @@ module _ (p : Program) (costs : Costs) (judged : judge p ≡ Ok costs) (whole : 
   pub record_paths : (key : ℕ) (time : ℤ) (values : List Value) → verdict_on (query_of p) past (Record (Some key) time values) ≡ None → RecordPaths p key values
   record_paths key time values taken =
       let ranged : IsDatumInRange p (datum 0 (mark (query_of p) past) key time values) =
-      record_in_range p costs judged whole p.header.clock (marks_of p.header.clock past) (admitted_count p.header.clock p.header.schema past) 0 (mark (query_of p) past) key time values taken in
+      record_in_range p costs judged whole p.header.clock (marks_of p.header.clock p.header.schema past) (admitted_count p.header.clock p.header.shape p.header.schema past) 0 (mark (query_of p) past) key time values taken in
       record {
         selects = steps_within p costs judged whole Where (record_inputs key values) ranged;
         updates = steps_within p costs judged whole Update (record_inputs key values) ranged;

@@ -100,15 +100,15 @@ module _ (p : Program) (costs : Costs) (judged : judge p ≡ Ok costs) (lawful :
   sound : AreSound p n es
   sound = kept_sound p costs judged lawful past
 
-  facts : IsTaken p.header.clock p.header.schema (mark (query_of p) past) n (Some k) t vs
-  facts = taken_record p.header.clock p.header.schema (mark (query_of p) past) n (Some k) t vs taken
+  facts : IsTaken p.header.clock p.header.shape p.header.schema (mark (query_of p) past) n (Some k) t vs
+  facts = taken_record p.header.clock p.header.shape p.header.schema (mark (query_of p) past) n (Some k) t vs taken
 
   -- the record is in range
   pub ranged : IsDatumInRange p d
-  ranged = record_in_range p costs judged lawful p.header.clock (marks_of p.header.clock past) n 0 (mark (query_of p) past) k t vs taken
+  ranged = record_in_range p costs judged lawful p.header.clock (marks_of p.header.clock p.header.schema past) n 0 (mark (query_of p) past) k t vs taken
 
   pub room : pos (n + 1) ≤ℤ p.header.clock.records
-  room = room_for_record p costs judged lawful (marks_of p.header.clock past) n k t vs taken
+  room = room_for_record p costs judged lawful (marks_of p.header.clock p.header.schema past) n k t vs taken
 
   pub timely : IsTime t
   timely = a_time t facts.in_time

@@ -36,7 +36,7 @@ module _ (p : Program) (costs : Costs) (judged : judge p ≡ Ok costs) (whole : 
   pub record_ends : (key : ℕ) (time : ℤ) (values : List Value) → verdict_on (query_of p) past (Record (Some key) time values) ≡ None → RecordEnds p key values
   record_ends key time values taken =
       let ranged : IsDatumInRange p (datum 0 (mark (query_of p) past) key time values) =
-      record_in_range p costs judged whole p.header.clock (marks_of p.header.clock past) (admitted_count p.header.clock p.header.schema past) 0 (mark (query_of p) past) key time values taken in
+      record_in_range p costs judged whole p.header.clock (marks_of p.header.clock p.header.schema past) (admitted_count p.header.clock p.header.shape p.header.schema past) 0 (mark (query_of p) past) key time values taken in
       record {
         selects = (completes p costs judged whole Where (record_inputs key values) ranged).done;
         updates = (completes p costs judged whole Update (record_inputs key values) ranged).done;

@@ -26,7 +26,7 @@ greatest_within f most (x ∷ fs) h = omega (arith, h.0, greatest_within f most 
 
 module _ (s : State) (costs : Costs) (judged : judge s.program ≡ Ok costs) (lawful : IsTrue (is_program s.program)) (past : List Event) (fits : Fits s past) where
   as_many : s.machine.admission.admitted ≡ admitted s.program costs judged lawful past
-  as_many = fits.admission.admitted ∙ ap (λ (c : Clock). admitted_count c s.program.header.schema past) fits.clock
+  as_many = fits.admission.admitted ∙ ap (λ (c : Clock). admitted_count c s.program.header.shape s.program.header.schema past) fits.clock
 
   sound_of : IsSoundState s.program s.machine
   sound_of = record {

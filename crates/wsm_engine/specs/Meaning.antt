@@ -32,9 +32,9 @@ reply_to p past e = let q = query_of p in let costs = map (pane_cost p) (firings
 abbrev pub totals_of : Query → List Event → Totals
 totals_of q past = record {
   rows = counter (length past);
-  admitted = admitted_count q.clock q.declared past;
-  late = counter (late_count q.clock q.declared past);
-  refused = counter (refused_count q.clock q.declared past);
+  admitted = admitted_count q.clock q.shape q.declared past;
+  late = counter (late_count q.clock q.shape q.declared past);
+  refused = counter (refused_count q.clock q.shape q.declared past);
   panes = counter (length (firings_so_far q past));
 }
 
@@ -48,7 +48,7 @@ KeepsRelation form.Panes = ⊥
 -- what is kept is the history's; a relation is kept where changes against it are written
 pub record Fits (s : State) (past : List Event) : Type 0 where
   pub clock : s.machine.admission.clock ≡ (query_of s.program).clock
-  pub admission : admission.Fits (query_of s.program).declared s.machine.admission past
+  pub admission : admission.Fits (query_of s.program).shape (query_of s.program).declared s.machine.admission past
   pub panes : s.machine.panes ≡ summaries (plan_of s.program) (query_of s.program).mode (kept (query_of s.program) past)
   pub relation : KeepsRelation (query_of s.program).form → s.machine.relation ≡ relation (query_of s.program) past
   pub fed : s.machine.fed ≡ counter (length past)

@@ -16,7 +16,7 @@ use crate::opening::open_operator;
 use crate::reply::Reply;
 use std::alloc::Global;
 use std::marker::Model;
-use wsm_admission::{Admission, Admitted, Clock, Refusal};
+use wsm_admission::{Admission, Admitted, Refusal};
 use wsm_firing::WindowOperator;
 use wsm_program::Program;
 use wsm_record::{Event, Schema};
@@ -67,7 +67,8 @@ impl Engine {
         let Ok(operator) = open_operator(alloc, &verified) else {
             return Err(OpenRefusal::Memory(verified));
         };
-        let admission = Admission::new(clock(verified.program()));
+        let header = verified.program().header();
+        let admission = Admission::new(header.clock, &header.schema);
         Ok(Engine {
             verified,
             admission,
@@ -145,8 +146,8 @@ impl Engine {
     {
         self.operator.state.rows.clear();
         let mark = self.admission.mark();
-        let schema = &self.verified.program().header().schema;
-        let answer = self.admission.decide(schema, event);
+        let header = self.verified.program().header();
+        let answer = self.admission.decide(&header.schema, header.shape, event);
         let done = act(&mut self.operator, &self.verified, mark, answer, event);
         self.fed = self.fed.saturating_add(1);
         self.fired = self.fired.saturating_add(done.tally.fired);
@@ -158,13 +159,6 @@ impl Engine {
             pane_steps_total: done.tally.steps_total,
         }
     }
-}
-
-// The clock of a program.
-fn clock(program: &Program) -> Clock
-    ensures { result ≡ program.now.header.clock }
-{
-    program.header().clock
 }
 
 // The refusal, if the answer is one.

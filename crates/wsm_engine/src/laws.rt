@@ -9,6 +9,7 @@ ghost use Rattle.wsm_record.specs.declared.words.Form.TheVariants.{Panes};
 ghost use Rattle.wsm_record.specs.Event.{Event, Record, Watermark};
 ghost use Rattle.wsm_windows.specs.declared.window.Shape.TheVariants.{Session};
 ghost use Rattle.wsm_admission.specs.Clock.{marks_of, admitted_count};
+ghost use Rattle.wsm_record.specs.Schema.{source_count};
 ghost use Rattle.wsm_semantics.specs.Query.{mark, verdict_on, selected};
 ghost use Rattle.wsm_semantics.specs.Panes.{held};
 ghost use Rattle.wsm_semantics.specs.Kept.{kept};
@@ -87,9 +88,9 @@ pub fn by_key()
 /// time may be left out too, for windows that begin after it. Where windows don't merge, all is the same once the
 /// watermark has passed the ends of the others and LATENESS.
 pub fn from_watermark()
-    ensures begun { (p : Program) → p.header.clock.sources ≡ 1 → (records : ℤ) (older : List Event)
+    ensures begun { (p : Program) → source_count p.header.schema ≡ 1 → (records : ℤ) (older : List Event)
         → BeginAlike (query_of p) (mark (query_of p) older) records (λ key. mark (query_of p) older +ℤ p.header.clock.skew) older [] (length older) }
-    ensures marks { (p : Program) (start records : ℤ) (older other : List Event) (longer : ℕ) → marks_of (begun_at start records (query_of p)).clock other ≡ marks_of p.header.clock older → length older ≡ length other + longer
+    ensures marks { (p : Program) (start records : ℤ) (older other : List Event) (longer : ℕ) → marks_of (begun_at start records (query_of p)).clock p.header.schema other ≡ marks_of p.header.clock p.header.schema older → length older ≡ length other + longer
         → BeginAlike (query_of p) start records (λ key. mark (query_of p) older +ℤ p.header.clock.skew) older other longer }
     ensures events { (x : Times) (events older : List Event) → (whole (map Stays events) older ≡ events ++ older) × (rest (map Stays events) older ≡ events ++ older) × LeavesOut x (map Stays events) }
     ensures panes { (p : Program) → IsTrue (is_program p) → (start records : ℤ) (x : Times) (older other : List Event) (longer : ℕ) → BeginAlike (query_of p) start records x older other longer
@@ -117,7 +118,7 @@ pub fn left_out()
 /// that another comes right behind nothing follows.
 pub fn kept_decides()
     ensures following { (p : Program) → IsTrue (is_program p) → (start records : ℤ) (past other : List Event) → KeepAlike (plan_of p) (query_of p) start records past other → FollowAlike (plan_of p) (query_of p) start records past other }
-    ensures watermarks { (p : Program) → IsTrue (is_program p) → (past : List Event) (o r : Option ℕ) (t u : ℤ) → let q = query_of p in marks_of q.clock (Watermark r u ∷ Watermark o t ∷ past) ≡ marks_of q.clock (Watermark r u ∷ past)
+    ensures watermarks { (p : Program) → IsTrue (is_program p) → (past : List Event) (o r : Option ℕ) (t u : ℤ) → let q = query_of p in marks_of q.clock q.declared (Watermark r u ∷ Watermark o t ∷ past) ≡ marks_of q.clock q.declared (Watermark r u ∷ past)
         → FollowAlike (plan_of p) q q.clock.start q.clock.records (Watermark r u ∷ Watermark o t ∷ past) (Watermark r u ∷ past) }
 {}
 
@@ -151,7 +152,7 @@ pub fn runs_within()
 /// of any two of them hold is joined in 64 bits.
 pub fn joins_within()
     ensures records { (p : Program) (gap : ℤ) → IsTrue (is_program p) → p.header.shape ≡ Session gap → (past : List Event)
-        → sum_by (λ e. length e.1) (held (query_of p) past) ≤ admitted_count p.header.clock p.header.schema past }
+        → sum_by (λ e. length e.1) (held (query_of p) past) ≤ admitted_count p.header.clock p.header.shape p.header.schema past }
     ensures sums { (p : Program) (costs : Costs) (gap : ℤ) → judge p ≡ Ok costs → IsTrue (is_program p) → p.header.shape ≡ Session gap → (past : List Event)
         → EachTwo (λ e f. JoinFits p e.1 f.1) (kept (query_of p) past) }
 {}

@@ -62,7 +62,7 @@ module _ (p : Program) where
   pub step_cost_is : IsTrue (is_program p) → (s : State (List Value)) (e : Event) (past : List Event) → Fits (plan_of p) (query_of p) s past → step_cost p s e ≡ record_cost p past e
   step_cost_is lawful s e past fits =
       ap (λ (r : Result Admitted Refusal). answer_cost p r e s) (decision-fits (query_of p) s.admission past e fits.clock fits.admission)
-      ∙ answer_cost_is (counts_sessions p lawful) s past (fits.admission.mark ∙ ap (λ (c : Clock). watermark_of c past) fits.clock) fits.panes (mark (query_of p) (e ∷ past)) e (verdict_on (query_of p) past e) refl
+      ∙ answer_cost_is (counts_sessions p lawful) s past (fits.admission.mark ∙ ap (λ (c : Clock). watermark_of c p.header.schema past) fits.clock) fits.panes (mark (query_of p) (e ∷ past)) e (verdict_on (query_of p) past e) refl
 
   each_cost : (fs : List Firing) → map (pane_cost_by p) (map (summary_fired (plan_of p)) fs) ≡ map (pane_cost p) fs
   each_cost [] = refl
@@ -76,7 +76,7 @@ module _ (p : Program) where
       ap (map (pane_cost_by p)) (fires-step (plan_of p) (plan_lawful p) (query_of p) (plan_runs p) is.shape (sessions_by_event p whole) is.lateness.low s e past fits) ∙ each_cost (firings (query_of p) past e)
 
   module _ (costs : Costs) (judged : judge p ≡ Ok costs) (lawful : IsTrue (is_program p)) where
-    answer_within : (s : State (List Value)) (new : ℤ) (e : Event) (v : Option Refusal) → v ≡ verdict_at s.admission.clock p.header.schema s.admission.marks s.admission.admitted e →
+    answer_within : (s : State (List Value)) (new : ℤ) (e : Event) (v : Option Refusal) → v ≡ verdict_at s.admission.clock p.header.shape p.header.schema s.admission.marks s.admission.admitted e →
         answer_cost p (answer s.admission.mark new e v) e s ≤ p.header.budget.per_record
     answer_within s new (Record (Some k) t vs) None h =
         record_cost_within p costs judged lawful (datum 0 s.admission.mark k t vs) (record_in_range p costs judged lawful s.admission.clock s.admission.marks s.admission.admitted 0 s.admission.mark k t vs (sym h)) s.panes
@@ -88,7 +88,7 @@ module _ (p : Program) where
 
     -- a turn costs at most what is stated for a record
     pub step_cost_within : (s : State (List Value)) (e : Event) → step_cost p s e ≤ p.header.budget.per_record
-    step_cost_within s e = answer_within s (least (marks_with s.admission.marks e)) e (verdict_at s.admission.clock p.header.schema s.admission.marks s.admission.admitted e) refl
+    step_cost_within s e = answer_within s (least (marks_with s.admission.marks e)) e (verdict_at s.admission.clock p.header.shape p.header.schema s.admission.marks s.admission.admitted e) refl
 
     -- and each of its firings what is stated for a pane
     pub fired_costs_within : (s : State (List Value)) → IsSoundState p s → (e : Event) → AllByRecursion (λ f. pane_cost_by p f ≤ p.header.budget.per_pane) (step_fires (plan_of p) (query_of p) s e)

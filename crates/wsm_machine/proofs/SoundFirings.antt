@@ -123,14 +123,14 @@ module _ (p : Program) (costs : Costs) (judged : judge p ≡ Ok costs) (lawful :
       least : (a b : ℕ) → 1 ≤ a → a ≤ b → 1 ≤ b
       least a b l m = omega (arith, l, m)
 
-  answered_may : (s : State (List Value)) → IsSoundState p s → (new : ℤ) (e : Event) (v : Option Refusal) → v ≡ verdict_at s.admission.clock p.header.schema s.admission.marks s.admission.admitted e →
+  answered_may : (s : State (List Value)) → IsSoundState p s → (new : ℤ) (e : Event) (v : Option Refusal) → v ≡ verdict_at s.admission.clock p.header.shape p.header.schema s.admission.marks s.admission.admitted e →
       AllByRecursion (MayFire p) (fired_by (plan_of p) (query_of p) (answer s.admission.mark new e v) e s)
   answered_may s h new (Record (Some k) t vs) None is =
       elim ((plan_of p).selects k vs) as (λ b. AllByRecursion (MayFire p) (cond b (fired_by_record (plan_of p) (query_of p) s.admission.mark (datum 0 s.admission.mark k t vs) s.panes) [])) [
         | true ↦ by_record_may s.admission.mark (datum 0 s.admission.mark k t vs) s.admission.admitted s.panes
             (record_in_range p costs judged lawful s.admission.clock s.admission.marks s.admission.admitted 0 s.admission.mark k t vs (sym is))
             (room_for_record p costs judged lawful s.admission.marks s.admission.admitted k t vs
-            (ap (λ (c : Clock). verdict_at c p.header.schema s.admission.marks s.admission.admitted (Record (Some k) t vs)) (sym h.clock) ∙ sym is))
+            (ap (λ (c : Clock). verdict_at c p.header.shape p.header.schema s.admission.marks s.admission.admitted (Record (Some k) t vs)) (sym h.clock) ∙ sym is))
             h.panes
         | false ↦ tt
       ]
@@ -140,7 +140,7 @@ module _ (p : Program) (costs : Costs) (judged : judge p ≡ Ok costs) (lawful :
 
   -- each firing of an event's turn has records, and FIRE may read what they are folded to
   pub step_fires_may : (s : State (List Value)) → IsSoundState p s → (e : Event) → AllByRecursion (MayFire p) (step_fires (plan_of p) (query_of p) s e)
-  step_fires_may s h e = answered_may s h (least_mark (marks_with s.admission.marks e)) e (verdict_at s.admission.clock p.header.schema s.admission.marks s.admission.admitted e) refl
+  step_fires_may s h e = answered_may s h (least_mark (marks_with s.admission.marks e)) e (verdict_at s.admission.clock p.header.shape p.header.schema s.admission.marks s.admission.admitted e) refl
 
   -- a firing costs at most what is stated
   pub fired_within : (f : Fired (List Value)) → MayFire p f → pane_cost_by p f ≤ p.header.budget.per_pane

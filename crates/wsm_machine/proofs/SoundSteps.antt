@@ -44,16 +44,16 @@ use Rattle.wsm_machine.proofs.SoundPanes.{sound_after_record, sound_after_waterm
 
 module _ (p : Program) (costs : Costs) (judged : judge p ≡ Ok costs) (lawful : IsTrue (is_program p)) where
   -- an admitted record is in range
-  pub record_in_range : (c : Clock) (marks : List ℤ) (n turn : ℕ) (mark : ℤ) (key : ℕ) (time : ℤ) (values : List Value) → verdict_at c p.header.schema marks n (Record (Some key) time values) ≡ None →
+  pub record_in_range : (c : Clock) (marks : List ℤ) (n turn : ℕ) (mark : ℤ) (key : ℕ) (time : ℤ) (values : List Value) → verdict_at c p.header.shape p.header.schema marks n (Record (Some key) time values) ≡ None →
       IsDatumInRange p (datum turn mark key time values)
   record_in_range c marks n turn mark key time values h =
-      let taken : IsTaken c p.header.schema (least_mark marks) n (Some key) time values = taken_record c p.header.schema (least_mark marks) n (Some key) time values h in
+      let taken : IsTaken c p.header.shape p.header.schema (least_mark marks) n (Some key) time values = taken_record c p.header.shape p.header.schema (least_mark marks) n (Some key) time values h in
       and_from (nat_lt key (length p.header.schema.keys)) (fit_fields p.header.schema.fields values) taken.has_key taken.fits
 
   -- and there were fewer records than the program allows
-  pub room_for_record : (marks : List ℤ) (n key : ℕ) (time : ℤ) (values : List Value) → verdict_at p.header.clock p.header.schema marks n (Record (Some key) time values) ≡ None → pos (n + 1) ≤ℤ p.header.clock.records
+  pub room_for_record : (marks : List ℤ) (n key : ℕ) (time : ℤ) (values : List Value) → verdict_at p.header.clock p.header.shape p.header.schema marks n (Record (Some key) time values) ≡ None → pos (n + 1) ≤ℤ p.header.clock.records
   room_for_record marks n key time values h =
-      fits p.header.clock.records n (lawful_programs.lawful p lawful).records.0 (taken_record p.header.clock p.header.schema (least_mark marks) n (Some key) time values h).room
+      fits p.header.clock.records n (lawful_programs.lawful p lawful).records.0 (taken_record p.header.clock p.header.shape p.header.schema (least_mark marks) n (Some key) time values h).room
     where
       fits : (r : ℤ) (n : ℕ) → pos 1 ≤ℤ r → nat_le (unsigned_abs r) n ≡ false → pos (n + 1) ≤ℤ r
       fits r n l h = grind (arith, ints, nat_tests)
@@ -66,7 +66,7 @@ module _ (p : Program) (costs : Costs) (judged : judge p ≡ Ok costs) (lawful :
   refused_admits s e _ = refl
 
   panes_sound : (s : State (List Value)) → AreSound p s.admission.admitted s.panes → (new : ℤ) (e : Event) (v : Option Refusal) →
-      v ≡ verdict_at s.admission.clock p.header.schema s.admission.marks s.admission.admitted e →
+      v ≡ verdict_at s.admission.clock p.header.shape p.header.schema s.admission.marks s.admission.admitted e →
       AreSound p (after (answer s.admission.mark new e v) e s.admission).admitted (panes_after (plan_of p) (query_of p) (answer s.admission.mark new e v) e s)
   panes_sound s sound new (Record (Some k) t vs) None h =
       elim ((plan_of p).selects k vs) as (λ b. AreSound p (s.admission.admitted + 1) (cond b (after_record (plan_of p) (query_of p) s.admission.mark (datum 0 s.admission.mark k t vs) s.panes) s.panes)) [
@@ -77,9 +77,9 @@ module _ (p : Program) (costs : Costs) (judged : judge p ≡ Ok costs) (lawful :
   panes_sound s sound new (Watermark o t) None h = sound_after_watermark p s.admission.mark new s.admission.admitted s.panes sound
   panes_sound s sound new e (Some r) h = subst (λ n. AreSound p n s.panes) (sym (refused_admits s.admission e r)) sound
 
-  admitted_few : (s : admission.State) (new : ℤ) (e : Event) (v : Option Refusal) → v ≡ verdict_at s.clock p.header.schema s.marks s.admitted e → s.admitted ≤ unsigned_abs s.clock.records → (after (answer s.mark new e v) e s).admitted ≤ unsigned_abs s.clock.records
+  admitted_few : (s : admission.State) (new : ℤ) (e : Event) (v : Option Refusal) → v ≡ verdict_at s.clock p.header.shape p.header.schema s.marks s.admitted e → s.admitted ≤ unsigned_abs s.clock.records → (after (answer s.mark new e v) e s).admitted ≤ unsigned_abs s.clock.records
   admitted_few s new (Record (Some k) t vs) None h l =
-      let room : nat_le (unsigned_abs s.clock.records) s.admitted ≡ false = (taken_record s.clock p.header.schema (least_mark s.marks) s.admitted (Some k) t vs (sym h)).room in
+      let room : nat_le (unsigned_abs s.clock.records) s.admitted ≡ false = (taken_record s.clock p.header.shape p.header.schema (least_mark s.marks) s.admitted (Some k) t vs (sym h)).room in
       grind (arith, nat_tests)
   admitted_few s new (Record None t vs) None h l = absurd (cc)
   admitted_few s new (Watermark o t) None h l = l
@@ -88,7 +88,7 @@ module _ (p : Program) (costs : Costs) (judged : judge p ≡ Ok costs) (lawful :
   -- an event
   pub sound_step : (s : State (List Value)) (e : Event) → IsSoundState p s → IsSoundState p (step (plan_of p) (query_of p) s e)
   sound_step s e h =
-      let v : Option Refusal = verdict_at s.admission.clock p.header.schema s.admission.marks s.admission.admitted e in
+      let v : Option Refusal = verdict_at s.admission.clock p.header.shape p.header.schema s.admission.marks s.admission.admitted e in
       let new : ℤ = least_mark (marks_with s.admission.marks e) in
       let same : (after (answer s.admission.mark new e v) e s.admission).clock ≡ s.admission.clock = clock-after s.admission.mark new s.admission e v in
       record {

@@ -1,5 +1,5 @@
 -- Worked rows of programs, computed by their meaning and by what is kept of panes.
-use Rattle.std.specs.Prelude.{◌≡◌, refl, ℕ, true, List, [], ◌∷◌, ◌++◌, reverse, map, filter_map, ℤ, pos, Some, None, Ok, codes}
+use Rattle.std.specs.Prelude.{◌≡◌, refl, ℕ, true, List, [], ◌∷◌, ◌++◌, reverse, map, filter_map, ℤ, pos, Some, None, Ok, codes, false}
 use Rattle.wsm_record.specs.declared.event.Value.{Value}
 use Rattle.wsm_record.specs.declared.event.Value.TheVariants.{Int}
 use Rattle.wsm_record.specs.declared.cell.Cell.{Cell}
@@ -10,7 +10,6 @@ use Rattle.wsm_record.specs.declared.words.Mode.TheVariants.{Discarding, Accumul
 use Rattle.wsm_record.specs.declared.words.Form.TheVariants.{Panes, Rstream}
 use Rattle.wsm_record.specs.Event.{Event, Record, Watermark}
 use Rattle.wsm_record.specs.Schema.{Int as Between}
-use Rattle.wsm_admission.specs.declared.clock.LateBy.TheVariants as late_by
 use Rattle.wsm_windows.specs.declared.window.PaneKind.{PaneKind}
 use Rattle.wsm_windows.specs.declared.window.PaneKind.TheVariants.{Early, OnTime, Late, Final}
 use Rattle.wsm_windows.specs.declared.window.Shape.{Shape}
@@ -37,7 +36,7 @@ abbrev base : Shape → Mode → Program
 base shape mode = record {
   header = record {
     schema = record { keys = codes "a" ∷ codes "b" ∷ []; fields = record { name = codes "n"; type = Between (pos 0) (pos 100) } ∷ []; sources = [] };
-    clock = record { start = pos 0; skew = pos 100; lateness = pos 10; late = late_by.Event; records = pos 1000; sources = 1 };
+    clock = record { start = pos 0; skew = pos 100; lateness = pos 10; from_window = false; records = pos 1000 };
     shape = shape;
     mode = mode;
     early = pos 0;

@@ -4,7 +4,7 @@ use Rattle.std.specs.List.{list_all}
 use Rattle.std.proofs.lemmas.Bool.{leb-true, and_parts}
 use Rattle.wsm_record.specs.Name.{is_between}
 use Rattle.wsm_record.specs.Schema.{Declared, is_name_list, are_fields_after, are_sources, is_schema}
-use Rattle.wsm_program.specs.Program.{Header, Program, is_span, is_size, is_shape, is_column, is_limited, is_sourced, is_clock, is_firing, is_row, is_budget, is_header, is_instr, is_section, is_program, section, is_time}
+use Rattle.wsm_program.specs.Program.{Header, Program, is_span, is_size, is_shape, is_column, is_limited, is_timely, is_clock, is_firing, is_row, is_budget, is_header, is_instr, is_section, is_program, section, is_time}
 use Rattle.wsm_record.specs.Modes.{may_write}
 use Rattle.wsm_program.specs.declared.instr.Instr.{Instr}
 use Rattle.wsm_program.specs.declared.instr.SectionId.{SectionId}
@@ -23,7 +23,7 @@ pub record HeaderParts (h : Header) : Type 0 where
   pub skew : is_span h.clock.skew ≡ true
   pub lateness : is_span h.clock.lateness ≡ true
   pub records : is_size h.clock.records ≡ true
-  pub sourced : is_sourced h ≡ true
+  pub timely : is_timely h.clock.from_window h.shape ≡ true
   pub shape : is_shape h.shape ≡ true
   pub early : is_span h.early ≡ true
   pub late : is_span h.late ≡ true
@@ -40,7 +40,7 @@ header_parts h e =
     let q = and_parts (is_clock h) (is_firing h && (is_row h && is_budget h.budget)) p.1 in
     let r = and_parts (is_firing h) (is_row h && is_budget h.budget) q.1 in
     let s = and_parts (is_row h) (is_budget h.budget) r.1 in
-    let c0 = and_parts (is_limited h.clock) (is_sourced h) q.0 in
+    let c0 = and_parts (is_limited h.clock) (is_timely h.clock.from_window h.shape) q.0 in
     let c1 = and_parts (is_time h.clock.start) (is_span h.clock.skew && (is_span h.clock.lateness && is_size h.clock.records)) c0.0 in
     let c2 = and_parts (is_span h.clock.skew) (is_span h.clock.lateness && is_size h.clock.records) c1.1 in
     let c3 = and_parts (is_span h.clock.lateness) (is_size h.clock.records) c2.1 in
@@ -49,7 +49,7 @@ header_parts h e =
     let f3 = and_parts (is_span h.late) (may_write h.mode h.form) f2.1 in
     let r1 = and_parts (leb (length h.kinds) 16) (is_between 1 16 (length h.columns) && list_all (is_column h.schema) h.columns) s.0 in
     let r2 = and_parts (is_between 1 16 (length h.columns)) (list_all (is_column h.schema) h.columns) r1.1 in
-    record { schema = p.0; start = c1.0; skew = c2.0; lateness = c3.0; records = c3.1; sourced = c0.1; shape = f1.0; early = f2.0; late = f3.0; form = f3.1; kinds = r1.0; count = r2.0; columns = r2.1; budget = s.1 }
+    record { schema = p.0; start = c1.0; skew = c2.0; lateness = c3.0; records = c3.1; timely = c0.1; shape = f1.0; early = f2.0; late = f3.0; form = f3.1; kinds = r1.0; count = r2.0; columns = r2.1; budget = s.1 }
 
 pub header_schema : (h : Header) → is_header h ≡ true → is_schema h.schema ≡ true
 header_schema h e = (header_parts h e).schema

@@ -1,6 +1,5 @@
 -- Programs, without where they lie in memory, and what holds of each.
-use Rattle.std.specs.Prelude.{ℕ, Bool, true, false, ◌&&◌, List, length, ℤ, nat_eq, nat_le, nat_lt, Option, Some, None, is_some, slice_get}
-use Rattle.std.specs.Ordering.{int_eq}
+use Rattle.std.specs.Prelude.{ℕ, Bool, true, false, ◌&&◌, List, length, ℤ, nat_le, nat_lt, Option, Some, None, is_some, slice_get}
 use Rattle.std.specs.List.{list_all}
 use Rattle.wsm_record.specs.declared.Kind.{Kind}
 use Rattle.wsm_record.specs.declared.Mode.{Mode}
@@ -8,14 +7,11 @@ use Rattle.wsm_record.specs.declared.Form.{Form}
 use Rattle.wsm_record.specs.declared.limits.TheConstants.{MAX_ACCUMULATORS, MAX_COLUMNS, MAX_PANES, MAX_SECTION, MAX_STATED}
 use Rattle.wsm_record.specs.Modes.{may_write}
 use Rattle.wsm_record.specs.Name.{is_between}
-use Rattle.wsm_record.specs.Schema.{FieldType, Int, Truth, Enum, DeclaredField, Declared, enum_names, is_i64, is_schema, source_count}
+use Rattle.wsm_record.specs.Schema.{FieldType, Int, Truth, Enum, DeclaredField, Declared, enum_names, is_i64, is_schema}
 use Rattle.wsm_admission.specs.declared.clock.Clock.{Clock}
-use Rattle.wsm_admission.specs.declared.clock.LateBy.{LateBy}
-use Rattle.wsm_admission.specs.declared.clock.LateBy.TheVariants as late_by
-pub use Rattle.wsm_admission.specs.Clock.{is_limited}
+pub use Rattle.wsm_admission.specs.Clock.{is_limited, is_timely}
 pub use Rattle.wsm_windows.specs.Limits.{is_shape, is_size, is_span, is_time}
 use Rattle.wsm_windows.specs.declared.Shape.{Shape}
-use Rattle.wsm_windows.specs.declared.Shape.TheVariants.{Fixed, Sliding, Session}
 use Rattle.wsm_record.specs.declared.words.CellType.{CellType}
 use Rattle.wsm_record.specs.declared.words.CellType.TheVariants as types
 use Rattle.wsm_program.specs.declared.instr.Instr.{Instr}
@@ -71,25 +67,9 @@ is_stated n = is_between 1 MAX_STATED n
 abbrev pub is_budget : Costs → Bool
 is_budget b = is_stated b.per_record && (is_stated b.per_pane && is_between 1 MAX_PANES b.held)
 
--- the same shape of windows, which don't move
-abbrev pub is_same_grid : Shape → Shape → Bool
-is_same_grid (Fixed size) (Fixed other) = int_eq size other
-is_same_grid (Sliding size period) (Sliding other apart) = int_eq size other && int_eq period apart
-is_same_grid (Fixed size) _ = false
-is_same_grid (Sliding size period) _ = false
-is_same_grid (Session gap) _ = false
-
--- lateness is counted from a record's own time, or from the ends of the program's own windows
-abbrev pub is_late_by : Shape → LateBy → Bool
-is_late_by shape late_by.Event = true
-is_late_by shape (late_by.Window other) = is_same_grid shape other
-
--- who claims what is still to come, and from when on a record is late
-abbrev pub is_sourced : Header → Bool
-is_sourced h = is_late_by h.shape h.clock.late && nat_eq h.clock.sources (source_count h.schema)
-
+-- its numbers, and what lateness is counted from
 abbrev pub is_clock : Header → Bool
-is_clock h = is_limited h.clock && is_sourced h
+is_clock h = is_limited h.clock && is_timely h.clock.from_window h.shape
 
 -- when panes fire, and what is written
 abbrev pub is_firing : Header → Bool

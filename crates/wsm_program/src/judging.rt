@@ -3,18 +3,16 @@
 ghost use Rattle.std.specs.Prelude.{◌≡◌};
 ghost use Rattle.std.specs.List.{list_all};
 ghost use Rattle.wsm_record.specs.Name.{is_between};
-ghost use Rattle.wsm_program.specs.Program.{is_column, is_clock, is_late_by, is_sourced, is_firing, is_row, is_budget, is_header, is_instr, is_section, is_program};
+ghost use Rattle.wsm_program.specs.Program.{is_column, is_clock, is_firing, is_row, is_budget, is_header, is_instr, is_section, is_program};
 ghost use Rattle.wsm_record.specs.Modes.{may_write};
-ghost use Rattle.wsm_record.specs.Schema.{source_count};
 ghost use Rattle.wsm_program.specs.View.{header_of, program_of};
 
 use crate::instr::{Argument, Instr};
 use crate::named::{has_name, is_number_field, name_count};
 use crate::program::{Costs, Header};
-use wsm_admission::LateBy;
 use wsm_record::limits::{MAX_ACCUMULATORS, MAX_COLUMNS, MAX_PANES, MAX_SECTION, MAX_STATED};
 use wsm_record::{CellType, Schema};
-use wsm_windows::{Shape, is_span};
+use wsm_windows::is_span;
 
 /// Whether these are the parts of a program.
 #[tactic(auto, unfolding(crate::specs::Program::is_program))]
@@ -36,38 +34,18 @@ pub(crate) fn is_lawful(
 fn is_lawful_header(header: &Header) -> bool
     ensures { result ≡ is_header (header_of header.now) }
 {
-    let sources = header.schema.source_count();
-    is_lawful_clock(header, sources)
+    // Whoever asks a schema for its sources learns that it is one.
+    let _ = header.schema.source_count();
+    is_lawful_clock(header)
         && is_lawful_firing(header)
         && is_lawful_row(header)
         && is_lawful_budget(header.budget)
 }
 
-fn is_lawful_clock(header: &Header, sources: usize) -> bool
-    requires { sources ≡ source_count header.now.schema }
+fn is_lawful_clock(header: &Header) -> bool
     ensures { result ≡ is_clock (header_of header.now) }
 {
-    header.clock.is_within_limits() && is_lawfully_sourced(header, sources)
-}
-
-fn is_lawfully_sourced(header: &Header, sources: usize) -> bool
-    requires { sources ≡ source_count header.now.schema }
-    ensures { result ≡ is_sourced (header_of header.now) }
-{
-    is_own_lateness(header.shape, header.clock.late) && usize::from(header.clock.sources) == sources
-}
-
-fn is_own_lateness(shape: Shape, late: LateBy) -> bool
-    ensures { result ≡ is_late_by shape late }
-{
-    match (shape, late) {
-        (_, LateBy::Event) => true,
-        (Shape::Fixed(size), LateBy::Window(Shape::Fixed(other))) => size == other,
-        (Shape::Sliding(size, period), LateBy::Window(Shape::Sliding(other, apart))) => {
-            size == other && period == apart
-        }
-        (Shape::Fixed(_) | Shape::Sliding(_, _) | Shape::Session(_), LateBy::Window(_)) => false,
-    }
+    header.clock.is_within_limits() && header.clock.is_timely(header.shape)
 }
 
 fn is_lawful_firing(header: &Header) -> bool

@@ -35,7 +35,7 @@ pub use instr::{Argument, Edges, FieldTest, Instr, Opcode, SectionId, kind_of};
 pub use operation::{Operands, Operation};
 pub use program::{Costs, Header, Program, Section};
 pub use refusal::DecodeRefusal;
-pub use wsm_admission::{Clock, LateBy};
+pub use wsm_admission::Clock;
 pub use wsm_interval::Comparison;
 pub use wsm_record::CellType;
 

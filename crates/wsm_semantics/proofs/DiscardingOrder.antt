@@ -62,7 +62,7 @@ module _ (q : Query) (low : pos 0 ≤ℤ q.clock.lateness) (none : q.early ≡ 0
       (ended_later new p.end h) (dropped_later new p.end q.clock.lateness low h) (nat_lt 0 (length (firing_set q.mode all unshown))) (nat_lt 0 (length unshown))
 
   before_it : (past : List Event) (e : Event) (end : ℤ) → int_lt (mark q (e ∷ past)) end ≡ true → int_lt (mark q past) end ≡ true
-  before_it past e end h = less_from (mark q past) (mark q (e ∷ past)) end (watermark_rises q.clock past e) h
+  before_it past e end h = less_from (mark q past) (mark q (e ∷ past)) end (watermark_rises q.clock q.declared past e) h
 
   module _ (assigned : IsAssigned q.shape) where
     -- until the watermark comes to its end, nothing shows a pane's records

@@ -42,7 +42,7 @@ module _ (q : Query) (past : List Event) where
   -- ---- the watermark
 
   pub refused_stays : (e : Event) (r : Refusal) → verdict_on q past e ≡ Some r → mark q (e ∷ past) ≡ mark q past
-  refused_stays e r h = ap least (refused_keeps q.clock q.declared (admitted_count q.clock q.declared past) past e r h)
+  refused_stays e r h = ap least (refused_keeps q.clock q.shape q.declared (admitted_count q.clock q.shape q.declared past) past e r h)
 
   -- an event that leaves the watermark doesn't raise it
   pub stays_down : (e : Event) → mark q (e ∷ past) ≡ mark q past → raises q past e ≡ false
@@ -50,7 +50,7 @@ module _ (q : Query) (past : List Event) where
 
   -- and one that doesn't raise it leaves it
   pub down_stays : (e : Event) → raises q past e ≡ false → mark q (e ∷ past) ≡ mark q past
-  down_stays e down = stays_where (mark q past) (mark q (e ∷ past)) (watermark_rises q.clock past e) down
+  down_stays e down = stays_where (mark q past) (mark q (e ∷ past)) (watermark_rises q.clock q.declared past e) down
 
   -- ---- what an event does
 

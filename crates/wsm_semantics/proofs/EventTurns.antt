@@ -145,7 +145,7 @@ module _ (q : Query) (low : pos 0 ≤ℤ q.clock.lateness) (timely : SessionsByE
 
     -- the held panes that live on
     held_on : held q (w ∷ past) ≡ filter (λ x. is_live_at q new x.0) (held q past)
-    held_on = ap (filter (λ x. is_live_at q new x.0)) same_panes ∙ sym (filter_within (λ x. is_live_at q new x.0) (λ x. is_live_at q (mark q past) x.0) (λ x h. lives_before (mark q past) new q.clock.lateness x.0.end (watermark_rises q.clock past w) h) (panes q past))
+    held_on = ap (filter (λ x. is_live_at q new x.0)) same_panes ∙ sym (filter_within (λ x. is_live_at q new x.0) (λ x. is_live_at q (mark q past) x.0) (λ x h. lives_before (mark q past) new q.clock.lateness x.0.end (watermark_rises q.clock q.declared past w) h) (panes q past))
 
     -- what is kept before its drops
     pub kept_before_drops : kept_at_watermark q (mark q past) new (kept q past) ≡ map (kept_in q (w ∷ past)) (held q past)

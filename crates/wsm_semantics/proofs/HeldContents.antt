@@ -91,7 +91,7 @@ module _ (q : Query) (gap : ℤ) (is : q.shape ≡ Session gap) (ok : IsShape q.
     later (f ∷ fs) before panes = (two_disjoint e.0 f.0 before.0 are.0.placed panes.0.placed, later fs before.1 panes.1)
 
   -- the held sessions have together no more records than were admitted
-  pub contents_bounded : sum_by (λ e. length e.1) (held q past) ≤ admitted_count q.clock q.declared past
+  pub contents_bounded : sum_by (λ e. length e.1) (held q past) ≤ admitted_count q.clock q.shape q.declared past
   contents_bounded =
       let ds : List Datum = selected q past in
       let apart : sum_by (λ e. length e.1) (held q past) ≤ length (filter (λ d. list_any (λ e. is_there q e.0 d) (held q past)) ds) =
@@ -99,12 +99,12 @@ module _ (q : Query) (gap : ℤ) (is : q.shape ≡ Session gap) (ok : IsShape q.
       (all-each (IsHeldPane q past) (λ e. e.1 ≡ filter (is_there q e.0) ds) (held q past) (λ e pane. pane.has) (held_panes q ok timely past))
       (all_disjoint (held q past) (in_order (held q past) (as_true _ (is_sorted-held q past))) (held_panes q ok timely past)) in
       let fewer : length (filter (λ d. list_any (λ e. is_there q e.0 d) (held q past)) ds) ≤ length ds = length-filter (λ d. list_any (λ e. is_there q e.0 d) (held q past)) ds in
-      let most : length ds ≤ admitted_count q.clock q.declared past = selected_count q past in
+      let most : length ds ≤ admitted_count q.clock q.shape q.declared past = selected_count q past in
       omega arith
 
   -- and the limit of records bounds them
   pub contents_limited : sum_by (λ e. length e.1) (held q past) ≤ unsigned_abs q.clock.records
   contents_limited =
-      let most : sum_by (λ e. length e.1) (held q past) ≤ admitted_count q.clock q.declared past = contents_bounded in
-      let limit : admitted_count q.clock q.declared past ≤ unsigned_abs q.clock.records = admitted_count-le q.clock q.declared past in
+      let most : sum_by (λ e. length e.1) (held q past) ≤ admitted_count q.clock q.shape q.declared past = contents_bounded in
+      let limit : admitted_count q.clock q.shape q.declared past ≤ unsigned_abs q.clock.records = admitted_count-le q.clock q.shape q.declared past in
       omega arith

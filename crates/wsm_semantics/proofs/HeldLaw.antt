@@ -18,7 +18,7 @@ held_bounded q ok timely within = record {
   panes = λ past. bound.held_bounded q ok timely within past;
   records = λ past.
       all-each (IsHeldPane q past) (λ e. length e.1 ≤ unsigned_abs q.clock.records) (held q past)
-      (λ e pane. let most = pane.count in let limit : admitted_count q.clock q.declared past ≤ unsigned_abs q.clock.records = admitted_count-le q.clock q.declared past in omega arith)
+      (λ e pane. let most = pane.count in let limit : admitted_count q.clock q.shape q.declared past ≤ unsigned_abs q.clock.records = admitted_count-le q.clock q.shape q.declared past in omega arith)
       (held_panes q ok timely past);
   in_sessions = λ past gap is. contents.contents_limited q gap is ok timely past;
   fired = λ past e. rows.firings_bounded q ok timely within past e;

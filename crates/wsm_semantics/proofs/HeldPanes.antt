@@ -92,7 +92,7 @@ pub record IsHeldPane (q : Query) (past : List Event) (e : Place × List Datum) 
   pub placed : among e.0 (places q past) ≡ true
   pub has : e.1 ≡ contents q past e.0
   pub filled : 1 ≤ length e.1
-  pub count : length e.1 ≤ admitted_count q.clock q.declared past
+  pub count : length e.1 ≤ admitted_count q.clock q.shape q.declared past
   pub records : AllByRecursion (IsSelected q (mark q past)) e.1
   pub there : AllByRecursion (λ d. is_there q e.0 d ≡ true) e.1
 
@@ -148,7 +148,7 @@ module _ (q : Query) (ok : IsShape q.shape) (timely : SessionsByEvent q) (past :
         placed = pane.1;
         has = pane.0;
         filled = subst (λ (ds : List Datum). 1 ≤ length ds) (sym is) (omega arith);
-        count = let most = selected_count q past in let less = length-filter (is_there q e.0) (selected q past) in subst (λ (ds : List Datum). length ds ≤ admitted_count q.clock q.declared past) (sym pane.0) (omega arith);
+        count = let most = selected_count q past in let less = length-filter (is_there q e.0) (selected q past) in subst (λ (ds : List Datum). length ds ≤ admitted_count q.clock q.shape q.declared past) (sym pane.0) (omega arith);
         records = chosen;
         there = here;
       }

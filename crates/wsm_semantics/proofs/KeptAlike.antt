@@ -48,7 +48,7 @@ module _ {X : Type 0} (plan : Plan X) (lawful : IsLawful plan) (q : Query) (runs
     -- what is kept, as a machine has it
     abbrev state : List (List Cell) → State X
     state related = record {
-      admission = record (admission.opened q.clock) { mark = mark q past };
+      admission = record (admission.opened q.clock q.declared) { mark = mark q past };
       panes = summaries plan q.mode (kept q past);
       relation = related;
       fed = 0;
@@ -240,10 +240,10 @@ kept_once q ok timely low past o r t u same =
     let w : Event = Watermark r u in
     kept-watermark q low timely (kept_law.places q ok timely) (v ∷ past) r u
     ∙ ap (kept_after_watermark q (mark q (v ∷ past)) (mark q (w ∷ v ∷ past))) (kept-watermark q low timely (kept_law.places q ok timely) past o t)
-    ∙ twice q (mark q past) (mark q (v ∷ past)) (mark q (w ∷ v ∷ past)) (watermark_rises q.clock past v) (watermark_rises q.clock (v ∷ past) w) (kept q past)
+    ∙ twice q (mark q past) (mark q (v ∷ past)) (mark q (w ∷ v ∷ past)) (watermark_rises q.clock q.declared past v) (watermark_rises q.clock q.declared (v ∷ past) w) (kept q past)
     ∙ ap (λ (m : ℤ). kept_after_watermark q (mark q past) m (kept q past)) same
     ∙ sym (kept-watermark q low timely (kept_law.places q ok timely) past r u)
 
 pub thinned : {X : Type 0} (plan : Plan X) (q : Query) → IsShape q.shape → SessionsByEvent q → pos 0 ≤ℤ q.clock.lateness → (past : List Event) (o r : Option ℕ) (t u : ℤ) →
-    marks_of q.clock (Watermark r u ∷ Watermark o t ∷ past) ≡ marks_of q.clock (Watermark r u ∷ past) → KeepAlike plan q q.clock.start q.clock.records (Watermark r u ∷ Watermark o t ∷ past) (Watermark r u ∷ past)
+    marks_of q.clock q.declared (Watermark r u ∷ Watermark o t ∷ past) ≡ marks_of q.clock q.declared (Watermark r u ∷ past) → KeepAlike plan q q.clock.start q.clock.records (Watermark r u ∷ Watermark o t ∷ past) (Watermark r u ∷ past)
 thinned plan q ok timely low past o r t u same = record { marks = sym same; panes = ap (summaries plan q.mode) (kept_once q ok timely low past o r t u (ap least same)) }

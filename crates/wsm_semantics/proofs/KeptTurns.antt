@@ -13,7 +13,6 @@ use Rattle.wsm_windows.specs.declared.place.Place.{Place}
 use Rattle.wsm_windows.specs.declared.window.Shape.{Shape}
 use Rattle.wsm_windows.specs.declared.window.Shape.TheVariants.{Fixed, Sliding, Session}
 use Rattle.wsm_windows.specs.Places.{window_of}
-use Rattle.wsm_admission.specs.declared.clock.LateBy.{LateBy}
 use Rattle.wsm_admission.specs.Clock.{admitted_count, is_late, is_late_by}
 use Rattle.wsm_admission.proofs.Taken.{taken_record}
 use Rattle.wsm_semantics.specs.Query.{Query, Datum, SessionsByEvent, Nothing, effect_of, selection, mark, verdict_on, datum}
@@ -106,12 +105,12 @@ module _ (q : Query) (past : List Event) where
       alike x = λ i. (x.0, record { all = x.1; unshown = unshown_alike x i; stands = stands_alike x i })
 
   -- an admitted record isn't late
-  pub comes_in_time : (k : ℕ) (t : ℤ) (vs : List Value) → verdict_on q past (Record (Some k) t vs) ≡ None → is_late q.clock (mark q past) t ≡ false
-  comes_in_time k t vs taken = (taken_record q.clock q.declared (mark q past) (admitted_count q.clock q.declared past) (Some k) t vs taken).prompt
+  pub comes_in_time : (k : ℕ) (t : ℤ) (vs : List Value) → verdict_on q past (Record (Some k) t vs) ≡ None → is_late q.clock q.shape (mark q past) t ≡ false
+  comes_in_time k t vs taken = (taken_record q.clock q.shape q.declared (mark q past) (admitted_count q.clock q.shape q.declared past) (Some k) t vs taken).prompt
 
   -- one of a session isn't by its own time
   pub prompt : SessionsByEvent q → (gap : ℤ) → q.shape ≡ Session gap → (k : ℕ) (t : ℤ) (vs : List Value) → verdict_on q past (Record (Some k) t vs) ≡ None → int_lt (t +ℤ q.clock.lateness) (mark q past) ≡ false
-  prompt timely gap is k t vs taken = ap (λ (by : LateBy). is_late_by by q.clock.lateness (mark q past) t) (sym (timely gap is)) ∙ comes_in_time k t vs taken
+  prompt timely gap is k t vs taken = ap (λ (by : Bool). is_late_by by q.shape q.clock.lateness (mark q past) t) (sym (timely gap is)) ∙ comes_in_time k t vs taken
 
   -- the windows that it stands in are live at the watermark
   pub lives_there : SessionsByEvent q → (k : ℕ) (t : ℤ) (vs : List Value) → verdict_on q past (Record (Some k) t vs) ≡ None → (p : Place) → is_there q p (datum (length past) (mark q past) k t vs) ≡ true → is_live_at q (mark q past) p ≡ true

@@ -208,8 +208,8 @@ module _ (q : Query) (parts : List Keys) (each : EachOnce parts) where
   pub numbers_add_up : NumbersAddUp q parts
   numbers_add_up = record {
     events = λ past. adds_up_but (λ _. Unit {0}) (λ e past known. known) (λ past. length past) (λ e past. 1) refl (λ e past. event_next past) (λ keys e past known. refl) parts each past tt;
-    admitted = judged_all (admitted_count q.clock q.declared) one_admitted refl (λ e past. admitted_next (admitted_count q.clock q.declared past) e (verdict_on q past e)) (λ past o t. refl);
-    late = judged_all (late_count q.clock q.declared) one_late refl (λ e past. late_next (late_count q.clock q.declared past) e (verdict_on q past e)) (λ past o t. never_late (mark_at (marks_of q.clock past) o) t (Watermark o t));
-    refused = judged_but (refused_count q.clock q.declared) one_refused refl (λ e past. refused_next (refused_count q.clock q.declared past) e (verdict_on q past e));
+    admitted = judged_all (admitted_count q.clock q.shape q.declared) one_admitted refl (λ e past. admitted_next (admitted_count q.clock q.shape q.declared past) e (verdict_on q past e)) (λ past o t. refl);
+    late = judged_all (late_count q.clock q.shape q.declared) one_late refl (λ e past. late_next (late_count q.clock q.shape q.declared past) e (verdict_on q past e)) (λ past o t. never_late (mark_at (marks_of q.clock q.declared past) o) t (Watermark o t));
+    refused = judged_but (refused_count q.clock q.shape q.declared) one_refused refl (λ e past. refused_next (refused_count q.clock q.shape q.declared past) e (verdict_on q past e));
     fired = fired_add_up;
   }

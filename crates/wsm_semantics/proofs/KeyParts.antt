@@ -7,7 +7,8 @@ use Rattle.std.specs.Prelude.{◌≢◌, nat_le, unsigned_abs}
 use Rattle.std.specs.List.{range_with_len}
 use Rattle.std.specs.Int.{int_max}
 use Rattle.wsm_record.specs.Event.{Event, Record, Watermark}
-use Rattle.wsm_record.specs.Schema.{Declared, fit_fields}
+use Rattle.wsm_record.specs.Schema.{Declared, fit_fields, source_count}
+use Rattle.wsm_windows.specs.declared.window.Shape.{Shape}
 use Rattle.wsm_admission.specs.declared.clock.Clock.{Clock}
 use Rattle.wsm_admission.specs.declared.verdict.Refusal.{Refusal}
 use Rattle.wsm_admission.specs.declared.verdict.Refusal.TheVariants.{UnknownKey, FieldRange, TimeRange, TooFarAhead, Late, RecordLimit}
@@ -17,7 +18,7 @@ use Rattle.wsm_semantics.specs.ByKey.{Keys, is_of, of_keys, HasRoom, SameVerdict
 
 -- ---- marks
 
-module _ (c : Clock) (keys : Keys) where
+module _ (c : Clock) (declared : Declared) (keys : Keys) where
   source_of_part : (s : ℕ) (past : List Event) → source_mark c s (of_keys keys past) ≡ source_mark c s past
   source_of_part s [] = refl
   source_of_part s (Record key t vs ∷ past) =
@@ -27,11 +28,11 @@ module _ (c : Clock) (keys : Keys) where
       ]
   source_of_part s (Watermark o t ∷ past) = ap (λ (m : ℤ). cond (is_source s o && is_time t) (int_max m t) m) (source_of_part s past)
 
-  pub marks_of_part : (past : List Event) → marks_of c (of_keys keys past) ≡ marks_of c past
-  marks_of_part past i = map (λ s. source_of_part s past i) (range_with_len 0 c.sources)
+  pub marks_of_part : (past : List Event) → marks_of c declared (of_keys keys past) ≡ marks_of c declared past
+  marks_of_part past i = map (λ s. source_of_part s past i) (range_with_len 0 (source_count declared))
 
 pub mark_of_part : (q : Query) (keys : Keys) (past : List Event) → mark q (of_keys keys past) ≡ mark q past
-mark_of_part q keys past = ap least (marks_of_part q.clock keys past)
+mark_of_part q keys past = ap least (marks_of_part q.clock q.declared keys past)
 
 -- ---- verdicts
 
@@ -54,12 +55,12 @@ same_rule false false false false false true false h k = absurd (true≢false (s
 still_full : (r few many : ℕ) → few ≤ many → nat_le r few ≡ true → nat_le r many ≡ true
 still_full r few many h k = grind (arith, nat_tests)
 
-module _ (c : Clock) (declared : Declared) where
+module _ (c : Clock) (shape : Shape) (declared : Declared) where
   -- fewer admitted records give the same verdict, where the limit doesn't
-  pub fewer_admitted : (marks : List ℤ) (few many : ℕ) (e : Event) → few ≤ many → verdict_at c declared marks many e ≢ Some RecordLimit → verdict_at c declared marks few e ≡ verdict_at c declared marks many e
+  pub fewer_admitted : (marks : List ℤ) (few many : ℕ) (e : Event) → few ≤ many → verdict_at c shape declared marks many e ≢ Some RecordLimit → verdict_at c shape declared marks few e ≡ verdict_at c shape declared marks many e
   fewer_admitted marks few many (Watermark o t) h k = refl
   fewer_admitted marks few many (Record key t vs) h k =
-      same_rule (not (is_key declared key)) (not (fit_fields declared.fields vs)) (not (is_time t)) (is_too_far_ahead c (least marks) t) (is_late c (least marks) t)
+      same_rule (not (is_key declared key)) (not (fit_fields declared.fields vs)) (not (is_time t)) (is_too_far_ahead c (least marks) t) (is_late c shape (least marks) t)
       (nat_le (unsigned_abs c.records) few) (nat_le (unsigned_abs c.records) many) (still_full (unsigned_abs c.records) few many h) k
 
 pub one_more : (few many : ℕ) (e : Event) (v : Option Refusal) → few ≤ many → admitted_with few e v ≤ admitted_with many e v
@@ -74,13 +75,13 @@ no_fewer few many (Record key t vs) (Some r) h = h
 
 module _ (q : Query) (keys : Keys) where
   abbrev admitted : List Event → ℕ
-  admitted past = admitted_count q.clock q.declared past
+  admitted past = admitted_count q.clock q.shape q.declared past
 
   -- with fewer admitted records an event has the verdict of the whole
   verdict_by : (past : List Event) (e : Event) → admitted (of_keys keys past) ≤ admitted past → verdict_on q past e ≢ Some RecordLimit → verdict_on q (of_keys keys past) e ≡ verdict_on q past e
   verdict_by past e fewer h =
-      ap (λ (ms : List ℤ). verdict_at q.clock q.declared ms (admitted (of_keys keys past)) e) (marks_of_part q.clock keys past)
-      ∙ fewer_admitted q.clock q.declared (marks_of q.clock past) (admitted (of_keys keys past)) (admitted past) e fewer h
+      ap (λ (ms : List ℤ). verdict_at q.clock q.shape q.declared ms (admitted (of_keys keys past)) e) (marks_of_part q.clock q.declared keys past)
+      ∙ fewer_admitted q.clock q.shape q.declared (marks_of q.clock q.declared past) (admitted (of_keys keys past)) (admitted past) e fewer h
 
   fewer : (past : List Event) → HasRoom q past → admitted (of_keys keys past) ≤ admitted past
   fewer [] h = omega arith

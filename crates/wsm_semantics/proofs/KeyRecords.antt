@@ -6,7 +6,7 @@ use Rattle.std.specs.Int.{int_max}
 use Rattle.wsm_record.specs.declared.words.Mode.{Mode}
 use Rattle.wsm_record.specs.declared.words.Mode.TheVariants.{Discarding, Accumulating, Retracting}
 use Rattle.wsm_record.specs.Event.{Event, Record, Watermark}
-use Rattle.wsm_record.specs.Schema.{fit_fields}
+use Rattle.wsm_record.specs.Schema.{fit_fields, source_count}
 use Rattle.wsm_windows.specs.declared.place.Place.{Place}
 use Rattle.wsm_admission.specs.declared.verdict.Refusal.{Refusal}
 use Rattle.wsm_admission.specs.declared.verdict.Refusal.TheVariants.{RecordLimit}
@@ -48,8 +48,8 @@ module _ (q : Query) (records : ℤ) where
   source_same s (Record key t vs ∷ past) = source_same s past
   source_same s (Watermark o t ∷ past) = ap (λ (m : ℤ). cond (is_source s o && is_time t) (int_max m t) m) (source_same s past)
 
-  marks_same : (past : List Event) → marks_of other.clock past ≡ marks_of q.clock past
-  marks_same past = λ i. map (λ s. source_same s past i) (range_with_len 0 q.clock.sources)
+  marks_same : (past : List Event) → marks_of other.clock other.declared past ≡ marks_of q.clock q.declared past
+  marks_same past = λ i. map (λ s. source_same s past i) (range_with_len 0 (source_count q.declared))
 
   mark_same : (past : List Event) → mark other past ≡ mark q past
   mark_same past = ap least (marks_same past)
@@ -57,12 +57,12 @@ module _ (q : Query) (records : ℤ) where
   verdict_same : (past : List Event) (e : Event) → verdict_on q past e ≢ Some RecordLimit → verdict_on other past e ≢ Some RecordLimit → verdict_on other past e ≡ verdict_on q past e
   verdict_same past (Watermark o t) h k = ap (λ (ms : List ℤ). watermark_refusal (mark_at ms o) t) (marks_same past)
   verdict_same past (Record key t vs) h k =
-      let first : ℤ → Bool → Option Refusal = λ m full. first_rule (not (is_key q.declared key)) (not (fit_fields q.declared.fields vs)) (not (is_time t)) (is_too_far_ahead q.clock m t) (is_late q.clock m t) full in
-      let by_other : Bool = nat_le (unsigned_abs records) (admitted_count other.clock q.declared past) in
+      let first : ℤ → Bool → Option Refusal = λ m full. first_rule (not (is_key q.declared key)) (not (fit_fields q.declared.fields vs)) (not (is_time t)) (is_too_far_ahead q.clock m t) (is_late q.clock q.shape m t) full in
+      let by_other : Bool = nat_le (unsigned_abs records) (admitted_count other.clock q.shape q.declared past) in
       let moved : first (mark other past) by_other ≡ first (mark q past) by_other = ap (λ (m : ℤ). first m by_other) (mark_same past) in
       moved
-      ∙ either_number (not (is_key q.declared key)) (not (fit_fields q.declared.fields vs)) (not (is_time t)) (is_too_far_ahead q.clock (mark q past) t) (is_late q.clock (mark q past) t)
-      by_other (nat_le (unsigned_abs q.clock.records) (admitted_count q.clock q.declared past)) (λ limit. k (moved ∙ limit)) h
+      ∙ either_number (not (is_key q.declared key)) (not (fit_fields q.declared.fields vs)) (not (is_time t)) (is_too_far_ahead q.clock (mark q past) t) (is_late q.clock q.shape (mark q past) t)
+      by_other (nat_le (unsigned_abs q.clock.records) (admitted_count q.clock q.shape q.declared past)) (λ limit. k (moved ∙ limit)) h
 
   -- ---- records and panes
 

@@ -129,7 +129,7 @@ module _ (q : Query) (ok : IsShape q.shape) (timely : SessionsByEvent q) (low : 
   -- ---- what is dropped
 
   pub live_still : (past : List Event) (e : Event) (p : Place) → is_live_at q (mark q (e ∷ past)) p ≡ true → is_live_at q (mark q past) p ≡ true
-  live_still past e p h = lives_before (mark q past) (mark q (e ∷ past)) q.clock.lateness p.end (watermark_rises q.clock past e) h
+  live_still past e p h = lives_before (mark q past) (mark q (e ∷ past)) q.clock.lateness p.end (watermark_rises q.clock q.declared past e) h
 
   -- what stands before the drops is what stood for those that are dropped, and what stands
   drops : (past : List Event) (e : Event) → IsPermutation (now past e) (of_firings q (standing_dropped q past e) ++ before (e ∷ past))

@@ -3,6 +3,7 @@
 use Rattle.std.proofs.Common.{◌≡◌, ℕ, ◌+◌, Bool, List, [], ◌∷◌, ◌++◌, map, length, ℤ, pos, ◌≤ℤ◌, ◌+ℤ◌, refl, sym, ap, subst, arith}
 use Rattle.std.specs.List.{range_with_len}
 use Rattle.wsm_record.specs.Event.{Event}
+use Rattle.wsm_record.specs.Schema.{source_count}
 use Rattle.wsm_windows.specs.Windows.{IsShape}
 use Rattle.wsm_windows.specs.declared.place.Place.{Place}
 use Rattle.wsm_admission.specs.Clock.{source_mark, marks_of, least}
@@ -24,7 +25,7 @@ ends_by : (q : Query) (past : List Event) → EndsBy q (λ key. mark q past +ℤ
 ends_by q past = all-each (IsSelected q (mark q past)) (λ d. d.time ≤ℤ (mark q past +ℤ q.clock.skew)) (selected q past) (λ d is. is.near) (each_selected q past)
 
 -- with the same marks
-pub begun_by_marks : (q : Query) (start records : ℤ) (older other : List Event) (longer : ℕ) → marks_of (begun_at start records q).clock other ≡ marks_of q.clock older → length older ≡ length other + longer →
+pub begun_by_marks : (q : Query) (start records : ℤ) (older other : List Event) (longer : ℕ) → marks_of (begun_at start records q).clock q.declared other ≡ marks_of q.clock q.declared older → length older ≡ length other + longer →
     BeginAlike q start records (λ key. mark q older +ℤ q.clock.skew) older other longer
 begun_by_marks q start records older other longer marks turns = record {
   marks = marks;
@@ -40,9 +41,9 @@ one_mark g n one = subst (λ (n : ℕ). map (λ s. least (map g (range_with_len 
 none_before : (n : ℕ) → n ≡ 0 + n
 none_before n = omega arith
 
-pub begun_alone : (q : Query) → q.clock.sources ≡ 1 → (records : ℤ) (older : List Event) → BeginAlike q (mark q older) records (λ key. mark q older +ℤ q.clock.skew) older [] (length older)
+pub begun_alone : (q : Query) → source_count q.declared ≡ 1 → (records : ℤ) (older : List Event) → BeginAlike q (mark q older) records (λ key. mark q older +ℤ q.clock.skew) older [] (length older)
 begun_alone q one records older =
-    begun_by_marks q (mark q older) records older [] (length older) (one_mark (λ s. source_mark q.clock s older) q.clock.sources one) (none_before (length older))
+    begun_by_marks q (mark q older) records older [] (length older) (one_mark (λ s. source_mark q.clock s older) (source_count q.declared) one) (none_before (length older))
 
 -- ---- the law
 

@@ -10,8 +10,8 @@ use Rattle.wsm_semantics.specs.Query.{Query, mark, verdict_on}
 use Rattle.wsm_semantics.specs.Firings.{Firing}
 
 -- the answer by what is kept is the answer by the history
-pub decision-fits : (q : Query) (a : admission.State) (past : List Event) (e : Event) → a.clock ≡ q.clock → admission.Fits q.declared a past → decision q.declared a e ≡ answer (mark q past) (mark q (e ∷ past)) e (verdict_on q past e)
-decision-fits q a past e clock fits = answer-fits q.declared a past fits e ∙ ap (λ (c : Clock). answer_after c q.declared past e) clock
+pub decision-fits : (q : Query) (a : admission.State) (past : List Event) (e : Event) → a.clock ≡ q.clock → admission.Fits q.shape q.declared a past → decision q.shape q.declared a e ≡ answer (mark q past) (mark q (e ∷ past)) e (verdict_on q past e)
+decision-fits q a past e clock fits = answer-fits q.shape q.declared a past fits e ∙ ap (λ (c : Clock). answer_after c q.shape q.declared past e) clock
 
 pub some_fired : (n m : ℕ) (fs gs : List Firing) → n ≡ counter (length fs) → m ≡ length gs → counter (n + m) ≡ counter (length (fs ++ gs))
 some_fired n m fs gs h k = omega (arith, length-append {A = Firing} fs gs)

@@ -11,6 +11,7 @@ use Rattle.std.specs.Int.{int_max}
 use Rattle.wsm_record.specs.declared.words.Form.{Form}
 use Rattle.wsm_record.specs.declared.words.Form.TheVariants.{Panes, Istream, Dstream, Rstream}
 use Rattle.wsm_record.specs.Event.{Event, Record, Watermark}
+use Rattle.wsm_record.specs.Schema.{source_count}
 use Rattle.wsm_windows.specs.Windows.{IsShape}
 use Rattle.wsm_windows.specs.declared.place.Place.{Place}
 use Rattle.wsm_admission.specs.declared.verdict.Refusal.{Refusal}
@@ -80,17 +81,17 @@ module _ (q : Query) (x : Times) where
       ] refl
   steps_out (Watermark o t ∷ past) = steps_out past
 
-  pub later_marks : (past : List Event) → marks_of q.clock (later past) ≡ marks_of q.clock past
-  later_marks past = marks_of_steps q q.clock.start q.clock.records x [] [] refl (steps_of past) (steps_out past) ∙ ap (marks_of q.clock) (steps_whole past)
+  pub later_marks : (past : List Event) → marks_of q.clock q.declared (later past) ≡ marks_of q.clock q.declared past
+  later_marks past = marks_of_steps q q.clock.start q.clock.records x [] [] refl (steps_of past) (steps_out past) ∙ ap (marks_of q.clock q.declared) (steps_whole past)
 
   -- fewer are admitted, so none is refused for RECORDS either
   abbrev admitted : List Event → ℕ
-  admitted past = admitted_count q.clock q.declared past
+  admitted past = admitted_count q.clock q.shape q.declared past
 
   verdict_by : (past : List Event) (e : Event) → admitted (later past) ≤ admitted past → HasRoom q (e ∷ past) → verdict_on q (later past) e ≡ verdict_on q past e
   verdict_by past e fewer room =
-      ap (λ (ms : List ℤ). verdict_at q.clock q.declared ms (admitted (later past)) e) (later_marks past)
-      ∙ fewer_admitted q.clock q.declared (marks_of q.clock past) (admitted (later past)) (admitted past) e fewer room.0
+      ap (λ (ms : List ℤ). verdict_at q.clock q.shape q.declared ms (admitted (later past)) e) (later_marks past)
+      ∙ fewer_admitted q.clock q.shape q.declared (marks_of q.clock q.declared past) (admitted (later past)) (admitted past) e fewer room.0
 
   fewer : (past : List Event) → HasRoom q past → admitted (later past) ≤ admitted past
   fewer [] room = omega arith
@@ -137,7 +138,7 @@ module _ (q : Query) (records : ℤ) (x : Times) where
   -- the needed events have the marks of the history, but lower ones of sources whose last watermark isn't among them
   pub record Lag (told : List ℕ) (past some : List Event) : Type 0 where
     pub lower : (s : ℕ) → source_mark anew.clock s some ≤ℤ source_mark q.clock s past
-    pub same : (s : ℕ) → s < q.clock.sources → is_one_of told s ≡ false → source_mark anew.clock s some ≡ source_mark q.clock s past
+    pub same : (s : ℕ) → s < source_count q.declared → is_one_of told s ≡ false → source_mark anew.clock s some ≡ source_mark q.clock s past
 
   -- what a watermark does to the mark of a source
   module _ (past : List Event) (n : ℕ) (t : ℤ) where
@@ -151,17 +152,17 @@ module _ (q : Query) (records : ℤ) (x : Times) where
           | false ↦ λ _. refl
         ] refl
 
-    of_refused : (v : Option Refusal) → verdict_on q past w ≡ v → is_none v ≡ false → (s : ℕ) → s < q.clock.sources → source_mark q.clock s past ≡ source_mark q.clock s (w ∷ past)
+    of_refused : (v : Option Refusal) → verdict_on q past w ≡ v → is_none v ≡ false → (s : ℕ) → s < source_count q.declared → source_mark q.clock s past ≡ source_mark q.clock s (w ∷ past)
     of_refused None h refused s few = absurd (true≢false refused)
-    of_refused (Some r) h refused s few = sym (source_alike q q.clock.start q.clock.records past (w ∷ past) (refused_marks q.clock past (Some n) t r h) s few)
+    of_refused (Some r) h refused s few = sym (source_alike q q.clock.start q.clock.records past (w ∷ past) (refused_marks q.clock q.declared past (Some n) t r h) s few)
 
-    left : (told : List ℕ) (some : List Event) → Lag told past some → ((s : ℕ) → s < q.clock.sources → is_one_of told s ≡ false → source_mark q.clock s past ≡ source_mark q.clock s (w ∷ past)) → Lag told (w ∷ past) some
+    left : (told : List ℕ) (some : List Event) → Lag told past some → ((s : ℕ) → s < source_count q.declared → is_one_of told s ≡ false → source_mark q.clock s past ≡ source_mark q.clock s (w ∷ past)) → Lag told (w ∷ past) some
     left told some lag leaves = record {
       lower = λ s. through (source_mark anew.clock s some) (source_mark q.clock s past) (source_mark q.clock s (w ∷ past)) (lag.lower s) (rises_by (source_mark q.clock s past) t (nat_eq n s && is_time t));
       same = λ s few none. lag.same s few none ∙ leaves s few none;
     }
 
-    taken : (told : List ℕ) (some : List Event) → Lag (n ∷ told) past some → IsAccepted q.clock past (Some n) t → Lag told (w ∷ past) (w ∷ some)
+    taken : (told : List ℕ) (some : List Event) → Lag (n ∷ told) past some → IsAccepted q.clock q.declared past (Some n) t → Lag told (w ∷ past) (w ∷ some)
     taken told some lag accepted = record {
       lower = λ s. both_rise (source_mark anew.clock s some) (source_mark q.clock s past) t (nat_eq n s && is_time t) (lag.lower s);
       same = λ s few none. elim (nat_eq n s) as (λ b. nat_eq n s ≡ b → cond (b && is_time t) (int_max (source_mark anew.clock s some) t) (source_mark anew.clock s some) ≡ cond (b && is_time t) (int_max (source_mark q.clock s past) t) (source_mark q.clock s past)) [
@@ -187,23 +188,23 @@ module _ (q : Query) (records : ℤ) (x : Times) where
       elim (is_taken q past (Watermark (Some n) t)) as (λ b. is_taken q past (Watermark (Some n) t) ≡ b → Lag told (Watermark (Some n) t ∷ past) (cond (b && not (is_one_of told n)) (Watermark (Some n) t ∷ needs (n ∷ told) past) (needs told past))) [
         | true ↦ λ is. elim (is_one_of told n) as (λ b. is_one_of told n ≡ b → Lag told (Watermark (Some n) t ∷ past) (cond (not b) (Watermark (Some n) t ∷ needs (n ∷ told) past) (needs told past))) [
           | true ↦ λ again. left past n t told (needs told past) (lags past told) (λ s few none. told_again past n t told again s none)
-          | false ↦ λ _. taken past n t told (needs (n ∷ told) past) (lags past (n ∷ told)) (accepted_watermark q.clock past (Some n) t (none_is (verdict_on q past (Watermark (Some n) t)) is))
+          | false ↦ λ _. taken past n t told (needs (n ∷ told) past) (lags past (n ∷ told)) (accepted_watermark q.clock q.declared past (Some n) t (none_is (verdict_on q past (Watermark (Some n) t)) is))
         ] refl
         | false ↦ λ refused. left past n t told (needs told past) (lags past told) (λ s few _. of_refused past n t (verdict_on q past (Watermark (Some n) t)) refl refused s few)
       ] refl
 
   pub below : (past some : List Event) (told : List ℕ) → Lag told past some → mark anew some ≤ℤ mark q past
-  below past some told lag = least_rises (λ s. source_mark anew.clock s some) (λ s. source_mark q.clock s past) (range_with_len 0 q.clock.sources) lag.lower
+  below past some told lag = least_rises (λ s. source_mark anew.clock s some) (λ s. source_mark q.clock s past) (range_with_len 0 (source_count q.declared)) lag.lower
 
-  pub needed_marks : (past : List Event) → marks_of anew.clock (needs [] past) ≡ marks_of q.clock past
-  needed_marks past = let lag = lags past [] in marks_each (λ s. source_mark anew.clock s (needs [] past)) (λ s. source_mark q.clock s past) 0 q.clock.sources (λ s few. lag.same s (omega arith) refl)
+  pub needed_marks : (past : List Event) → marks_of anew.clock anew.declared (needs [] past) ≡ marks_of q.clock q.declared past
+  needed_marks past = let lag = lags past [] in marks_each (λ s. source_mark anew.clock s (needs [] past)) (λ s. source_mark q.clock s past) 0 (source_count q.declared) (λ s few. lag.same s (omega arith) refl)
 
 -- ---- none is refused for RECORDS
 
 -- a history that has the marks of another, admitted no more, and has room
 pub record IsLess (q : Query) (past some : List Event) : Type 0 where
-  pub marks : marks_of q.clock some ≡ marks_of q.clock past
-  pub fewer : admitted_count q.clock q.declared some ≤ admitted_count q.clock q.declared past
+  pub marks : marks_of q.clock q.declared some ≡ marks_of q.clock q.declared past
+  pub fewer : admitted_count q.clock q.shape q.declared some ≤ admitted_count q.clock q.shape q.declared past
   pub room : HasRoom q some
 
 never_full : (o : Option ℤ) (t : ℤ) → watermark_refusal o t ≢ Some RecordLimit
@@ -216,14 +217,14 @@ never_full (Some m) t h = by (is_time t) (int_le t m) h where
 
 module _ (q : Query) where
   abbrev count : List Event → ℕ
-  count past = admitted_count q.clock q.declared past
+  count past = admitted_count q.clock q.shape q.declared past
 
-  same_verdict : (past some : List Event) (e : Event) → marks_of q.clock some ≡ marks_of q.clock past → count some ≤ count past → verdict_on q past e ≢ Some RecordLimit → verdict_on q some e ≡ verdict_on q past e
+  same_verdict : (past some : List Event) (e : Event) → marks_of q.clock q.declared some ≡ marks_of q.clock q.declared past → count some ≤ count past → verdict_on q past e ≢ Some RecordLimit → verdict_on q some e ≡ verdict_on q past e
   same_verdict past some e marks fewer room =
-      ap (λ (ms : List ℤ). verdict_at q.clock q.declared ms (count some) e) marks ∙ fewer_admitted q.clock q.declared (marks_of q.clock past) (count some) (count past) e fewer room
+      ap (λ (ms : List ℤ). verdict_at q.clock q.shape q.declared ms (count some) e) marks ∙ fewer_admitted q.clock q.shape q.declared (marks_of q.clock q.declared past) (count some) (count past) e fewer room
 
   -- an event more of both
-  one_of_both : (past some : List Event) (e : Event) → marks_of q.clock some ≡ marks_of q.clock past → count some ≤ count past → verdict_on q past e ≢ Some RecordLimit → (verdict_on q some e ≢ Some RecordLimit) × (count (e ∷ some) ≤ count (e ∷ past))
+  one_of_both : (past some : List Event) (e : Event) → marks_of q.clock q.declared some ≡ marks_of q.clock q.declared past → count some ≤ count past → verdict_on q past e ≢ Some RecordLimit → (verdict_on q some e ≢ Some RecordLimit) × (count (e ∷ some) ≤ count (e ∷ past))
   one_of_both past some e marks fewer room =
       let v : verdict_on q some e ≡ verdict_on q past e = same_verdict past some e marks fewer room in (
         λ full. room (sym v ∙ full),
@@ -257,7 +258,7 @@ module _ (q : Query) where
         elim (is_taken q past w && not (is_one_of told n)) as (λ b. let some = cond b (w ∷ needed_without q x (n ∷ told) past) (needed_without q x told past) in (count some ≤ count (w ∷ past)) × HasRoom q some) [
           | true ↦
               let before = room_of_needed past room.1 (n ∷ told) in
-              (before.0, (never_full (mark_at (marks_of q.clock (needed_without q x (n ∷ told) past)) (Some n)) t, before.1))
+              (before.0, (never_full (mark_at (marks_of q.clock q.declared (needed_without q x (n ∷ told) past)) (Some n)) t, before.1))
           | false ↦ room_of_needed past room.1 told
         ]
 
@@ -330,7 +331,7 @@ module _ {X : Type 0} (plan : Plan X) (lawful : IsLawful plan) (q : Query) (runs
     pub keep_alike : (past : List Event) → sums q (mid past) ≡ raised_to (needs_of [] past) (mid past) → KeepAlike plan q start records (mid past) (needs_of [] past)
     keep_alike past panes =
         let some : List Event = needs_of [] past in
-        let marks : marks_of new.clock some ≡ marks_of q.clock (mid past) = needed_marks q records x past ∙ sym (later_marks q x past) in
+        let marks : marks_of new.clock new.declared some ≡ marks_of q.clock q.declared (mid past) = needed_marks q records x past ∙ sym (later_marks q x past) in
         record {
           marks = marks;
           panes =
@@ -350,7 +351,7 @@ module _ {X : Type 0} (plan : Plan X) (lawful : IsLawful plan) (q : Query) (runs
         ∙ sym (after_watermark-summaries plan q m n (kept q (mid past)))
         ∙ ap (after_watermark plan q m n) panes
         ∙ after_watermark-summaries plan q m n (kept_after_watermark q a m (kept new some))
-        ∙ ap (summaries plan q.mode) (twice q a m n (below_mid past some told lag) (watermark_rises q.clock (mid past) w) (kept new some))
+        ∙ ap (summaries plan q.mode) (twice q a m n (below_mid past some told lag) (watermark_rises q.clock q.declared (mid past) w) (kept new some))
 
     -- that is needed
     passes_on : (past some : List Event) (told others : List ℕ) → Lag q records x others past some → (o : Option ℕ) (t : ℤ) → Lag q records x told (Watermark o t ∷ past) (Watermark o t ∷ some) →
@@ -362,7 +363,7 @@ module _ {X : Type 0} (plan : Plan X) (lawful : IsLawful plan) (q : Query) (runs
         let m : ℤ = mark q (w ∷ mid past) in
         passes past some others lag o t panes
         ∙ ap (summaries plan q.mode) (
-        sym (twice q a c m (watermark_rises new.clock some w) (below_mid (w ∷ past) (w ∷ some) told next) (kept new some))
+        sym (twice q a c m (watermark_rises new.clock new.declared some w) (below_mid (w ∷ past) (w ∷ some) told next) (kept new some))
         ∙ ap (kept_after_watermark q c m) (sym (kept-watermark new low timely (kept_law.places new ok timely) some o t)))
 
     pub panes_of_needed : (past : List Event) → HasRoom q past → (told : List ℕ) → HasRoom new (needs_of told past) → sums q (mid past) ≡ raised_to (needs_of told past) (mid past)
@@ -403,7 +404,7 @@ module _ {X : Type 0} (plan : Plan X) (lawful : IsLawful plan) (q : Query) (runs
                 let some : List Event = needs_of (n ∷ told) past in
                 let lag = lags q records x past (n ∷ told) in
                 passes_on past some told (n ∷ told) lag (Some n) t
-                (taken q records x past n t told some lag (accepted_watermark q.clock past (Some n) t (none_is (verdict_on q past w) is))) (panes_of_needed past room.1 (n ∷ told) roomy.1)
+                (taken q records x past n t told some lag (accepted_watermark q.clock q.declared past (Some n) t (none_is (verdict_on q past w) is))) (panes_of_needed past room.1 (n ∷ told) roomy.1)
           ]
           | false ↦ λ _ roomy. passes past (needs_of told past) told (lags q records x past told) (Some n) t (panes_of_needed past room.1 told roomy)
         ] refl roomy

@@ -237,7 +237,7 @@ marked : (q : Query) (past : List Event) → AllByRecursion (λ d. d.mark ≤ℤ
 marked q [] = tt
 marked q (e ∷ past) =
     let AtMost : ℤ → Datum → Type 0 = λ m d. d.mark ≤ℤ m in
-    let rises = watermark_rises q.clock past e in
+    let rises = watermark_rises q.clock q.declared past e in
     all-append (AtMost (mark q (e ∷ past))) (selection_of q past e) (selected q past)
     (by_effect q past (λ e y. mark q past ≤ℤ mark q (e ∷ past) → AllByRecursion (AtMost (mark q (e ∷ past))) (selection y)) (λ k t vs _ _ h. (h, tt)) (λ o t _ _. tt) (λ e _ _. tt) e rises)
     (all-each (AtMost (mark q past)) (AtMost (mark q (e ∷ past))) (selected q past) (λ d h. up_to d.mark (mark q past) (mark q (e ∷ past)) h rises) (marked q past))

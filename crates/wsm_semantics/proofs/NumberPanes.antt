@@ -10,7 +10,7 @@ use Rattle.std.specs.declared.cmp.Ordering.TheVariants.{Less, Equal, Greater}
 use Rattle.std.specs.FinMap.Entries.{put, by_order}
 use Rattle.wsm_record.specs.declared.event.Value.{Value}
 use Rattle.wsm_record.specs.Event.{Event, Record, Watermark}
-use Rattle.wsm_record.specs.Schema.{fit_fields}
+use Rattle.wsm_record.specs.Schema.{fit_fields, source_count}
 use Rattle.wsm_windows.specs.declared.window.Window.{Window}
 use Rattle.wsm_windows.specs.declared.window.Shape.{Shape}
 use Rattle.wsm_windows.specs.declared.window.Shape.TheVariants.{Fixed, Sliding, Session}
@@ -130,18 +130,18 @@ module _ (q : Query) (number : Numbers) (keys : List (List ℕ)) (are : AreNumbe
   source_by s (Record key t vs ∷ past) = source_by s past
   source_by s (Watermark o t ∷ past) = ap (λ (m : ℤ). cond (is_source s o && is_time t) (int_max m t) m) (source_by s past)
 
-  marks_by : (past : List Event) → marks_of q.clock (by_number past) ≡ marks_of q.clock past
-  marks_by past = λ i. map (λ s. source_by s past i) (range_with_len 0 q.clock.sources)
+  marks_by : (past : List Event) → marks_of q.clock q.declared (by_number past) ≡ marks_of q.clock q.declared past
+  marks_by past = λ i. map (λ s. source_by s past i) (range_with_len 0 (source_count q.declared))
 
   pub mark_by : (past : List Event) → mark q (by_number past) ≡ mark over past
   mark_by past = ap least (marks_by past)
 
-  key_by : (key : Option ℕ) (t : ℤ) (vs : List Value) (ms : List ℤ) (n : ℕ) → verdict_at q.clock q.declared ms n (event_by number (Record key t vs)) ≡ verdict_at q.clock over.declared ms n (Record key t vs)
+  key_by : (key : Option ℕ) (t : ℤ) (vs : List Value) (ms : List ℤ) (n : ℕ) → verdict_at q.clock q.shape q.declared ms n (event_by number (Record key t vs)) ≡ verdict_at q.clock q.shape over.declared ms n (Record key t vs)
   key_by None t vs ms n = refl
   key_by (Some k) t vs ms n =
-      ap (λ (b : Bool). first_rule (not b) (not (fit_fields q.declared.fields vs)) (not (is_time t)) (is_too_far_ahead q.clock (least ms) t) (is_late q.clock (least ms) t) (nat_le (unsigned_abs q.clock.records) n)) (sym (are.declared k))
+      ap (λ (b : Bool). first_rule (not b) (not (fit_fields q.declared.fields vs)) (not (is_time t)) (is_too_far_ahead q.clock (least ms) t) (is_late q.clock q.shape (least ms) t) (nat_le (unsigned_abs q.clock.records) n)) (sym (are.declared k))
 
-  judged_by : (ms : List ℤ) (n : ℕ) (e : Event) → verdict_at q.clock q.declared ms n (event_by number e) ≡ verdict_at q.clock over.declared ms n e
+  judged_by : (ms : List ℤ) (n : ℕ) (e : Event) → verdict_at q.clock q.shape q.declared ms n (event_by number e) ≡ verdict_at q.clock q.shape over.declared ms n e
   judged_by ms n (Record key t vs) = key_by key t vs ms n
   judged_by ms n (Watermark o t) = refl
 
@@ -150,17 +150,17 @@ module _ (q : Query) (number : Numbers) (keys : List (List ℕ)) (are : AreNumbe
   counted_by n (Record key t vs) (Some r) = refl
   counted_by n (Watermark o t) v = refl
 
-  admitted_by : (past : List Event) → admitted_count q.clock q.declared (by_number past) ≡ admitted_count q.clock over.declared past
+  admitted_by : (past : List Event) → admitted_count q.clock q.shape q.declared (by_number past) ≡ admitted_count q.clock q.shape over.declared past
   admitted_by [] = refl
   admitted_by (e ∷ past) =
-      (λ i. admitted_with (admitted_by past i) (event_by number e) (verdict_at q.clock q.declared (marks_by past i) (admitted_by past i) (event_by number e)))
-      ∙ counted_by (admitted_count q.clock over.declared past) e (verdict_at q.clock q.declared (marks_of q.clock past) (admitted_count q.clock over.declared past) (event_by number e))
-      ∙ ap (admitted_with (admitted_count q.clock over.declared past) e) (judged_by (marks_of q.clock past) (admitted_count q.clock over.declared past) e)
+      (λ i. admitted_with (admitted_by past i) (event_by number e) (verdict_at q.clock q.shape q.declared (marks_by past i) (admitted_by past i) (event_by number e)))
+      ∙ counted_by (admitted_count q.clock q.shape over.declared past) e (verdict_at q.clock q.shape q.declared (marks_of q.clock q.declared past) (admitted_count q.clock q.shape over.declared past) (event_by number e))
+      ∙ ap (admitted_with (admitted_count q.clock q.shape over.declared past) e) (judged_by (marks_of q.clock q.declared past) (admitted_count q.clock q.shape over.declared past) e)
 
   pub verdict_by : (past : List Event) (e : Event) → verdict_on q (by_number past) (event_by number e) ≡ verdict_on over past e
   verdict_by past e =
-      (λ i. verdict_at q.clock q.declared (marks_by past i) (admitted_by past i) (event_by number e))
-      ∙ judged_by (marks_of q.clock past) (admitted_count q.clock over.declared past) e
+      (λ i. verdict_at q.clock q.shape q.declared (marks_by past i) (admitted_by past i) (event_by number e))
+      ∙ judged_by (marks_of q.clock q.declared past) (admitted_count q.clock q.shape over.declared past) e
 
   length_by : (past : List Event) → length (by_number past) ≡ length past
   length_by past = length_each (event_by number) past

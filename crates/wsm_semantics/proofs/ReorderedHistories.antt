@@ -6,6 +6,7 @@ use Rattle.std.specs.Prelude.{if◌then◌else◌}
 use Rattle.std.specs.Int.{int_max}
 use Rattle.std.specs.List.{range_with_len}
 use Rattle.wsm_record.specs.Event.{Event, Record, Watermark}
+use Rattle.wsm_record.specs.Schema.{source_count}
 use Rattle.wsm_admission.specs.declared.clock.Clock.{Clock}
 use Rattle.wsm_admission.specs.Clock.{is_source, is_time, source_mark, least}
 use Rattle.wsm_admission.proofs.SourceMarks.{watermark_rises}
@@ -67,7 +68,7 @@ abbrev pub mark_by : Query → List Judged → ℤ
 mark_by q xs = mark q (events_of xs)
 
 pub mark_reordered : (q : Query) (xs ys : List Judged) → Reordered xs ys → mark_by q xs ≡ mark_by q ys
-mark_reordered q xs ys r = λ i. least (map (λ s. source_reordered q.clock s xs ys r i) (range_with_len 0 q.clock.sources))
+mark_reordered q xs ys r = λ i. least (map (λ s. source_reordered q.clock s xs ys r i) (range_with_len 0 (source_count q.declared)))
 
 between : (m n o : ℤ) → m ≤ℤ n → n ≤ℤ o → o ≡ m → n ≡ m
 between m n o h k e = omega (arith, ints)
@@ -101,7 +102,7 @@ module _ (q : Query) where
   pub swapped_told : (a b : Judged) (xs : List Judged) → is_rise a ≡ false → is_rise b ≡ false → AreTold (a ∷ b ∷ xs) → (mark_by q (a ∷ xs) ≡ mark_by q xs) × (mark_by q (b ∷ a ∷ xs) ≡ mark_by q xs)
   swapped_told a b xs k l h =
       let last : mark_by q (b ∷ a ∷ xs) ≡ mark_by q xs = mark_reordered q (b ∷ a ∷ xs) (a ∷ b ∷ xs) (Swap b a xs l k) ∙ h.0 k ∙ h.1.0 l in
-      (between (mark_by q xs) (mark_by q (a ∷ xs)) (mark_by q (b ∷ a ∷ xs)) (watermark_rises q.clock (events_of xs) a.0) (watermark_rises q.clock (events_of (a ∷ xs)) b.0) last, last)
+      (between (mark_by q xs) (mark_by q (a ∷ xs)) (mark_by q (b ∷ a ∷ xs)) (watermark_rises q.clock q.declared (events_of xs) a.0) (watermark_rises q.clock q.declared (events_of (a ∷ xs)) b.0) last, last)
 
   pub reordered_told : (xs ys : List Judged) → Reordered xs ys → AreTold xs → AreTold ys
   reordered_told _ _ Done h = tt

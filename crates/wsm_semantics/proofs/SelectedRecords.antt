@@ -42,7 +42,7 @@ module _ (q : Query) where
   selects_one e past =
       by_effect q past (λ e x. AllByRecursion (IsSelected q (mark q (e ∷ past))) (selection x))
       (λ k t vs is_taken selects.
-      let taken = taken_record q.clock q.declared (mark q past) (admitted_count q.clock q.declared past) (Some k) t vs is_taken in (
+      let taken = taken_record q.clock q.shape q.declared (mark q past) (admitted_count q.clock q.shape q.declared past) (Some k) t vs is_taken in (
         record {
           key = ltb-true k (length q.declared.keys) taken.has_key;
           fits = taken.fits;
@@ -62,7 +62,7 @@ module _ (q : Query) where
   each_selected (e ∷ past) =
       all-append (IsSelected q (mark q (e ∷ past))) (selection_of q past e) (selected q past)
       (selects_one e past)
-      (all-each (IsSelected q (mark q past)) (IsSelected q (mark q (e ∷ past))) (selected q past) (ahead (mark q past) (mark q (e ∷ past)) (watermark_rises q.clock past e)) (each_selected past))
+      (all-each (IsSelected q (mark q past)) (IsSelected q (mark q (e ∷ past))) (selected q past) (ahead (mark q past) (mark q (e ∷ past)) (watermark_rises q.clock q.declared past e)) (each_selected past))
 
   admits_more : (n : ℕ) (e : Event) (v : Option Refusal) → n ≤ admitted_with n e v
   admits_more n (Record k t vs) None = omega arith
@@ -81,8 +81,8 @@ module _ (q : Query) where
   both_grow sel old n all h k = omega arith
 
   -- no more records are selected than admitted
-  pub selected_count : (past : List Event) → length (selected q past) ≤ admitted_count q.clock q.declared past
+  pub selected_count : (past : List Event) → length (selected q past) ≤ admitted_count q.clock q.shape q.declared past
   selected_count [] = omega arith
   selected_count (e ∷ past) =
       rw (length-append (selection_of q past e) (selected q past))
-      (both_grow (length (selection_of q past e)) (length (selected q past)) (admitted_count q.clock q.declared past) _ (selected_count past) (one_selected e past (admitted_count q.clock q.declared past)))
+      (both_grow (length (selection_of q past e)) (length (selected q past)) (admitted_count q.clock q.shape q.declared past) _ (selected_count past) (one_selected e past (admitted_count q.clock q.shape q.declared past)))

@@ -135,10 +135,10 @@ module _ {X : Type 0} (plan : Plan X) (lawful : IsLawful plan) (q : Query) (runs
       rows_are e v h = λ i. chosen_rows q.form (retracted_are e v h i ++ (ap (filter_map (row_of plan)) (fired_are e v h) ∙ rows-summaries plan q runs (firings.firings q past e)) i) (streamed_are e v h i)
 
 -- what is kept before the first event fits the empty history
-pub Fits-opened : {X : Type 0} (plan : Plan X) (q : Query) → 1 ≤ q.clock.sources → Fits plan q (opened plan q) []
-Fits-opened plan q some = record {
+pub Fits-opened : {X : Type 0} (plan : Plan X) (q : Query) → Fits plan q (opened plan q) []
+Fits-opened plan q = record {
   clock = refl;
-  admission = opened_fits q.clock q.declared some;
+  admission = opened_fits q.clock q.shape q.declared;
   panes = refl;
   relation = refl;
   fed = refl;
@@ -165,8 +165,8 @@ module _ {X : Type 0} (plan : Plan X) (lawful : IsLawful plan) (q : Query) (runs
   -- what is kept after an event fits the history with it
   pub Fits-step : Fits plan q (step plan q s e) (e ∷ past)
   Fits-step = record {
-    clock = clock-after s.admission.mark (least (marks_with s.admission.marks e)) s.admission e (verdict_at s.admission.clock q.declared s.admission.marks s.admission.admitted e) ∙ fits.clock;
-    admission = Fits-after q.declared s.admission past fits.admission e;
+    clock = clock-after s.admission.mark (least (marks_with s.admission.marks e)) s.admission e (verdict_at s.admission.clock q.shape q.declared s.admission.marks s.admission.admitted e) ∙ fits.clock;
+    admission = Fits-after q.shape q.declared s.admission past fits.admission e;
     panes = ap (λ (r : Result Admitted Refusal). panes_after plan q r e s) answered ∙ panes_are plan lawful q runs ok timely low past s marked fits.panes e (verdict_on q past e) refl;
     relation = ap (λ (r : Result Admitted Refusal). relation_after plan q r s) answered ∙ relation_is plan lawful q runs ok timely low past s marked fits.panes fits.relation e (verdict_on q past e) refl;
     fed = one_fed s.fed past fits.fed;
@@ -175,6 +175,6 @@ module _ {X : Type 0} (plan : Plan X) (lawful : IsLawful plan) (q : Query) (runs
   }
 
 -- what is kept after a history fits it
-pub Fits-run : {X : Type 0} (plan : Plan X) (lawful : IsLawful plan) (q : Query) (runs : Runs plan q) (ok : IsShape q.shape) (timely : SessionsByEvent q) (low : pos 0 ≤ℤ q.clock.lateness) → 1 ≤ q.clock.sources → (past : List Event) → Fits plan q (run plan q past) past
-Fits-run plan lawful q runs ok timely low some [] = Fits-opened plan q some
-Fits-run plan lawful q runs ok timely low some (e ∷ past) = Fits-step plan lawful q runs ok timely low (run plan q past) e past (Fits-run plan lawful q runs ok timely low some past)
+pub Fits-run : {X : Type 0} (plan : Plan X) (lawful : IsLawful plan) (q : Query) (runs : Runs plan q) (ok : IsShape q.shape) (timely : SessionsByEvent q) (low : pos 0 ≤ℤ q.clock.lateness) (past : List Event) → Fits plan q (run plan q past) past
+Fits-run plan lawful q runs ok timely low [] = Fits-opened plan q
+Fits-run plan lawful q runs ok timely low (e ∷ past) = Fits-step plan lawful q runs ok timely low (run plan q past) e past (Fits-run plan lawful q runs ok timely low past)

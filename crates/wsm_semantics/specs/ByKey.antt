@@ -169,9 +169,9 @@ AddsUpButWatermarks parts past number = sum_of_parts parts past number + number 
 -- and so many panes fired, as in the whole, but that each part has all watermarks
 pub record NumbersAddUp (q : Query) (parts : List Keys) : Type 0 where
   pub events : (past : List Event) → AddsUpButWatermarks parts past length
-  pub admitted : AddsUp q parts (admitted_count q.clock q.declared)
-  pub late : AddsUp q parts (late_count q.clock q.declared)
-  pub refused : (past : List Event) → HasRoom q past → AddsUpButWatermarks parts past (refused_count q.clock q.declared)
+  pub admitted : AddsUp q parts (admitted_count q.clock q.shape q.declared)
+  pub late : AddsUp q parts (late_count q.clock q.shape q.declared)
+  pub refused : (past : List Event) → HasRoom q past → AddsUpButWatermarks parts past (refused_count q.clock q.shape q.declared)
   pub fired : AddsUp q parts (λ part. length (firings_so_far q part))
 
 -- ---- another number of RECORDS

@@ -14,7 +14,7 @@ use Rattle.wsm_semantics.specs.FromWatermark.{begun_at, BothHaveRoom}
 
 -- the same is kept of two histories, the second by a query that is begun anew
 pub record KeepAlike {X : Type 0} (plan : Plan X) (q : Query) (start records : ℤ) (past other : List Event) : Type 0 where
-  pub marks : marks_of (begun_at start records q).clock other ≡ marks_of q.clock past
+  pub marks : marks_of (begun_at start records q).clock q.declared other ≡ marks_of q.clock q.declared past
   pub panes : summaries plan q.mode (kept q past) ≡ summaries plan q.mode (kept (begun_at start records q) other)
 
 -- then it is the same after any events, each of which has the same verdict, fires the same windows, over as many records that are

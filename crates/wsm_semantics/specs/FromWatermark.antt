@@ -80,7 +80,7 @@ EndsBy q x past = AllByRecursion (λ d. d.time ≤ℤ x d.key) (selected q past)
 -- two histories, the second by a query that is begun anew, which agree on the marks of the sources and have
 -- selected no record after the time of its key; the first is so many events longer
 pub record BeginAlike (q : Query) (start records : ℤ) (x : Times) (older other : List Event) (longer : ℕ) : Type 0 where
-  pub marks : marks_of (begun_at start records q).clock other ≡ marks_of q.clock older
+  pub marks : marks_of (begun_at start records q).clock q.declared other ≡ marks_of q.clock q.declared older
   pub turns : length older ≡ length other + longer
   pub before : EndsBy q x older
   pub before_other : EndsBy (begun_at start records q) x other

@@ -1,11 +1,11 @@
 -- Worked rows on what is kept: after each event of some histories, a replay by what is kept alone
 -- keeps, fires and writes what the definitions say. Inputs are written as they are read, the oldest
 -- row first.
-use Rattle.std.specs.Prelude.{◌≡◌, refl, List, [], ◌∷◌, reverse, length, nat_eq, pos, int_lt, Some, None, if◌then◌else◌}
+use Rattle.std.specs.Prelude.{◌≡◌, refl, ℕ, List, [], ◌∷◌, reverse, length, nat_eq, pos, int_lt, Some, None, if◌then◌else◌}
 use Rattle.wsm_record.specs.declared.cell.Cell.TheVariants as cells
 use Rattle.wsm_record.specs.declared.words.Form.TheVariants as form
 use Rattle.wsm_record.specs.declared.words.Mode.TheVariants as mode
-use Rattle.wsm_record.specs.Event.{Event}
+use Rattle.wsm_record.specs.Event.{Event, Watermark}
 use Rattle.wsm_windows.specs.declared.window.Shape.TheVariants.{Sliding, Session}
 use Rattle.wsm_semantics.specs.declared.out_row.OutRow.{OutRow}
 use Rattle.wsm_semantics.specs.Query.{Query, effect_of}
@@ -23,17 +23,34 @@ abbrev latest : List Stage → State
 latest [] = record { panes = []; relation = [] }
 latest (s ∷ ss) = s.0
 
--- the stages of a history, the newest first: by a replay, and by the definitions
+-- the stage of an event: by a replay, and by the definitions
+abbrev replayed : Query → List Event → Event → State → Stage
+replayed q past e s = (after q past e s, fired_by q (length past) (effect_of q past e) s.panes, turn_rows_by q past e s)
+
+abbrev defined : Query → List Event → Event → Stage
+defined q past e = (state q (e ∷ past), firings q past e, turn_rows q past e)
+
+-- the stages of a history, the newest first
 abbrev by_replay : Query → List Event → List Stage
 by_replay q [] = []
-by_replay q (e ∷ past) = let ss = by_replay q past in (after q past e (latest ss), fired_by q (length past) (effect_of q past e) (latest ss).panes, turn_rows_by q past e (latest ss)) ∷ ss
+by_replay q (e ∷ past) = let ss = by_replay q past in replayed q past e (latest ss) ∷ ss
 
 abbrev by_definition : Query → List Event → List Stage
 by_definition q [] = []
-by_definition q (e ∷ past) = (state q (e ∷ past), firings q past e, turn_rows q past e) ∷ by_definition q past
+by_definition q (e ∷ past) = defined q past e ∷ by_definition q past
+
+abbrev AgreeOn : Query → List Event → Type 0
+AgreeOn q past = by_replay q past ≡ by_definition q past
 
 abbrev Agree : Query → List Row → Type 0
-Agree q rows = by_replay q (events (reverse rows)) ≡ by_definition q (events (reverse rows))
+Agree q rows = AgreeOn q (events (reverse rows))
+
+-- they agree on one more event: a long history is computed in two parts
+one_more : (q : Query) (past : List Event) (e : Event) → AgreeOn q past → replayed q past e (latest (by_replay q past)) ≡ defined q past e → AgreeOn q (e ∷ past)
+one_more q past e before now i = now i ∷ before i
+
+abbrev watermark : ℕ → Event
+watermark time = Watermark (Some 0) (pos time)
 
 -- ---- FIXED 60
 
@@ -89,8 +106,17 @@ sliding_gained = refl
 abbrev sessions : Query
 sessions = record base { shape = Session (pos 30) }
 
-sessions_are_joined : Agree sessions (a 0 1 ∷ a 40 1 ∷ b 5 1 ∷ a 20 1 ∷ w 35 ∷ a 75 1 ∷ b 31 1 ∷ a 71 1 ∷ w 75 ∷ w 120 ∷ [])
+abbrev joined : List Row
+joined = a 0 1 ∷ a 40 1 ∷ b 5 1 ∷ a 20 1 ∷ w 35 ∷ a 75 1 ∷ b 31 1 ∷ a 71 1 ∷ []
+
+sessions_are_joined : Agree sessions joined
 sessions_are_joined = refl
+
+joined_sessions_end : AgreeOn sessions (watermark 75 ∷ events (reverse joined))
+joined_sessions_end = one_more sessions (events (reverse joined)) (watermark 75) sessions_are_joined refl
+
+all_sessions_end : AgreeOn sessions (watermark 120 ∷ watermark 75 ∷ events (reverse joined))
+all_sessions_end = one_more sessions (watermark 75 ∷ events (reverse joined)) (watermark 120) joined_sessions_end refl
 
 sessions_early_and_late : Agree (record sessions { early = 2; late = 1 }) (a 0 1 ∷ a 40 2 ∷ a 20 4 ∷ b 20 1 ∷ w 70 ∷ a 65 1 ∷ w 80 ∷ [])
 sessions_early_and_late = refl
@@ -104,8 +130,20 @@ late_and_joined = refl
 dropped_sessions_are_left : Agree (with_lateness 0 (record sessions { late = 1; mode = mode.Discarding })) (a 10 1 ∷ w 40 ∷ a 39 1 ∷ a 40 1 ∷ a 10 1 ∷ w 69 ∷ a 69 1 ∷ w 70 ∷ a 98 1 ∷ a 100 1 ∷ w 160 ∷ [])
 dropped_sessions_are_left = refl
 
-fired_parts_are_joined : Agree (with_lateness 100 sessions) (a 0 1 ∷ a 40 1 ∷ w 30 ∷ w 70 ∷ a 20 1 ∷ a 20 1 ∷ a 99 1 ∷ w 80 ∷ a 71 1 ∷ w 170 ∷ w 171 ∷ w 300 ∷ [])
+abbrev parts : List Row
+parts = a 0 1 ∷ a 40 1 ∷ w 30 ∷ w 70 ∷ a 20 1 ∷ a 20 1 ∷ a 99 1 ∷ w 80 ∷ a 71 1 ∷ []
+
+fired_parts_are_joined : Agree (with_lateness 100 sessions) parts
 fired_parts_are_joined = refl
+
+joined_parts_fire : AgreeOn (with_lateness 100 sessions) (watermark 170 ∷ events (reverse parts))
+joined_parts_fire = one_more (with_lateness 100 sessions) (events (reverse parts)) (watermark 170) fired_parts_are_joined refl
+
+joined_parts_end : AgreeOn (with_lateness 100 sessions) (watermark 171 ∷ watermark 170 ∷ events (reverse parts))
+joined_parts_end = one_more (with_lateness 100 sessions) (watermark 170 ∷ events (reverse parts)) (watermark 171) joined_parts_fire refl
+
+all_parts_end : AgreeOn (with_lateness 100 sessions) (watermark 300 ∷ watermark 171 ∷ watermark 170 ∷ events (reverse parts))
+all_parts_end = one_more (with_lateness 100 sessions) (watermark 171 ∷ watermark 170 ∷ events (reverse parts)) (watermark 300) joined_parts_end refl
 
 fired_and_unfired_are_joined : Agree (record having { shape = Session (pos 30); early = 0; form = form.Istream }) (a 0 1 ∷ a 40 2 ∷ w 30 ∷ a 20 3 ∷ w 35 ∷ a 60 4 ∷ w 90 ∷ [])
 fired_and_unfired_are_joined = refl

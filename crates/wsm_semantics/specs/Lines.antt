@@ -54,8 +54,8 @@ fault_count (Err fault ∷ rows) = fault_count rows + 1
 -- the last line: how many rows were read, records admitted, records late, rows refused and panes fired
 abbrev pub end_line : Query → List Row → Line
 end_line q rows = let past = events rows in
-    End (counter (length rows)) (counter (admitted_count q.clock q.declared past)) (counter (late_count q.clock q.declared past))
-    (counter (fault_count rows + refused_count q.clock q.declared past)) (counter (length (firings_so_far q past)))
+    End (counter (length rows)) (counter (admitted_count q.clock q.shape q.declared past)) (counter (late_count q.clock q.shape q.declared past))
+    (counter (fault_count rows + refused_count q.clock q.shape q.declared past)) (counter (length (firings_so_far q past)))
 
 -- the lines of an input
 abbrev pub all_lines : Query → List Row → List Line

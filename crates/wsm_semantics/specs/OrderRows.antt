@@ -1,6 +1,6 @@
 -- Worked rows of the law of order: a history in another order, and what each of the law's conditions is
 -- for. Histories are written oldest event first.
-use Rattle.std.specs.Prelude.{◌≡◌, refl, ℕ, true, List, [], ◌∷◌, filter_map, reverse, pos, Some, codes}
+use Rattle.std.specs.Prelude.{◌≡◌, refl, ℕ, true, List, [], ◌∷◌, filter_map, reverse, pos, Some, codes, false}
 use Rattle.wsm_record.specs.declared.event.Value.TheVariants.{Int}
 use Rattle.wsm_record.specs.declared.cell.Cell.TheVariants as cells
 use Rattle.wsm_record.specs.declared.words.Form.TheVariants as form
@@ -10,7 +10,6 @@ use Rattle.wsm_record.specs.Schema.{Int as Between}
 use Rattle.wsm_windows.specs.declared.window.PaneKind.TheVariants.{OnTime}
 use Rattle.wsm_windows.specs.declared.window.Shape.TheVariants.{Fixed, Session}
 use Rattle.wsm_windows.specs.Windows.{window}
-use Rattle.wsm_admission.specs.declared.clock.LateBy.TheVariants as late_by
 use Rattle.wsm_semantics.specs.declared.out_row.OutRow.{OutRow}
 use Rattle.wsm_semantics.specs.declared.out_row.OutRow.TheVariants.{Pane}
 use Rattle.wsm_semantics.specs.Query.{Query}
@@ -28,7 +27,7 @@ w time = Watermark (Some 0) (pos time)
 -- SELECT SUM(n) WINDOW FIXED 60 DISCARDING EMIT PANES;
 abbrev base : Query
 base = record {
-  clock = record { start = pos 0; skew = pos 1000; lateness = pos 100; late = late_by.Event; records = pos 1000; sources = 1 };
+  clock = record { start = pos 0; skew = pos 1000; lateness = pos 100; from_window = false; records = pos 1000 };
   declared = record { keys = codes "a" ∷ []; fields = record { name = codes "n"; type = Between (pos 0) (pos 100) } ∷ []; sources = [] };
   shape = Fixed (pos 60);
   mode = mode.Discarding;

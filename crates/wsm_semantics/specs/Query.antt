@@ -1,6 +1,6 @@
 -- What a query means, and what an event does on its turn. A history is a list of events, the newest
 -- first; nothing is kept beside it. The clauses of a query are this project's own.
-use Rattle.std.specs.Prelude.{◌≡◌, ℕ, Bool, ◌&&◌, List, [], ◌∷◌, ◌++◌, length, ℤ, Option, Some, None, is_none, if◌then◌else◌}
+use Rattle.std.specs.Prelude.{◌≡◌, ℕ, Bool, ◌&&◌, List, [], ◌∷◌, ◌++◌, length, ℤ, Option, Some, None, is_none, if◌then◌else◌, false}
 use Rattle.wsm_record.specs.declared.event.Value.{Value}
 use Rattle.wsm_record.specs.declared.cell.Cell.{Cell}
 use Rattle.wsm_record.specs.declared.words.Form.{Form}
@@ -10,7 +10,6 @@ use Rattle.wsm_record.specs.Schema.{Declared}
 use Rattle.wsm_windows.specs.declared.window.Shape.{Shape}
 use Rattle.wsm_windows.specs.declared.window.Shape.TheVariants.{Session}
 use Rattle.wsm_admission.specs.declared.clock.Clock.{Clock}
-use Rattle.wsm_admission.specs.declared.clock.LateBy.TheVariants as late_by
 use Rattle.wsm_admission.specs.declared.verdict.Refusal.{Refusal}
 use Rattle.wsm_admission.specs.Clock.{watermark_of, rises, verdict}
 
@@ -36,19 +35,19 @@ pub record Query : Type 0 where
 
 -- a record of a session is late by its own time: a session's end moves
 abbrev pub SessionsByEvent : Query → Type 0
-SessionsByEvent q = (gap : ℤ) → q.shape ≡ Session gap → q.clock.late ≡ late_by.Event
+SessionsByEvent q = (gap : ℤ) → q.shape ≡ Session gap → q.clock.from_window ≡ false
 
 -- the watermark after a history
 abbrev pub mark : Query → List Event → ℤ
-mark q past = watermark_of q.clock past
+mark q past = watermark_of q.clock q.declared past
 
 -- an event after a history raises the watermark
 abbrev pub raises : Query → List Event → Event → Bool
-raises q past e = rises q.clock past e
+raises q past e = rises q.clock q.declared past e
 
 -- the verdict on an event after a history
 abbrev pub verdict_on : Query → List Event → Event → Option Refusal
-verdict_on q past e = verdict q.clock q.declared past e
+verdict_on q past e = verdict q.clock q.shape q.declared past e
 
 abbrev pub is_taken : Query → List Event → Event → Bool
 is_taken q past e = is_none (verdict_on q past e)

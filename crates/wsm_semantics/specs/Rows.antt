@@ -1,5 +1,5 @@
 -- Worked rows, computed by the definitions. Inputs are written as they are read, the oldest row first.
-use Rattle.std.specs.Prelude.{◌≡◌, refl, ℕ, true, List, [], ◌∷◌, reverse, map, length, ℤ, pos, negsuc, ◌+ℤ◌, int_lt, Some, None, Ok, Err, codes, if◌then◌else◌}
+use Rattle.std.specs.Prelude.{◌≡◌, refl, ℕ, true, List, [], ◌∷◌, reverse, map, length, ℤ, pos, negsuc, ◌+ℤ◌, int_lt, Some, None, Ok, Err, codes, if◌then◌else◌, false}
 use Rattle.wsm_record.specs.declared.event.Value.{Value}
 use Rattle.wsm_record.specs.declared.event.Value.TheVariants.{Int}
 use Rattle.wsm_record.specs.declared.cell.Cell.{Cell}
@@ -13,7 +13,6 @@ use Rattle.wsm_windows.specs.declared.window.PaneKind.{PaneKind}
 use Rattle.wsm_windows.specs.declared.window.PaneKind.TheVariants.{Early, OnTime, Late, Final}
 use Rattle.wsm_windows.specs.declared.window.Shape.TheVariants.{Fixed, Sliding, Session}
 use Rattle.wsm_windows.specs.Windows.{window}
-use Rattle.wsm_admission.specs.declared.clock.LateBy.TheVariants as late_by
 use Rattle.wsm_admission.specs.declared.verdict.Refusal.TheVariants as refusal
 use Rattle.wsm_semantics.specs.declared.out_row.OutRow.TheVariants.{Pane, Retract, Istream, Dstream, Rstream}
 use Rattle.wsm_semantics.specs.Query.{Datum, Query}
@@ -34,7 +33,7 @@ count ds = cells.Int (pos (length ds))
 -- SELECT COUNT(*), SUM(n) WINDOW FIXED 60 ACCUMULATING EMIT PANES;
 abbrev pub base : Query
 base = record {
-  clock = record { start = pos 0; skew = pos 100; lateness = pos 10; late = late_by.Event; records = pos 1000; sources = 1 };
+  clock = record { start = pos 0; skew = pos 100; lateness = pos 10; from_window = false; records = pos 1000 };
   declared = record {
     keys = codes "a" ∷ codes "b" ∷ [];
     fields = record { name = codes "n"; type = Between (pos 0) (pos 100) } ∷ [];
@@ -214,7 +213,7 @@ windows_far_apart = refl
 
 -- LATENESS l FROM WINDOW
 abbrev pub from_window : ℕ → Query → Query
-from_window l q = record q { clock = record q.clock { lateness = pos l; late = late_by.Window q.shape } }
+from_window l q = record q { clock = record q.clock { lateness = pos l; from_window = true } }
 
 a_record_is_late_once_its_window_is_dropped :
     written (from_window 10 base) (w 65 ∷ a 5 4 ∷ w 70 ∷ a 6 1 ∷ []) ≡ pane Final 0 0 60 (1 ∷ 4 ∷ []) ∷ End 4 1 1 0 1 ∷ []
@@ -228,7 +227,7 @@ a_record_enters_its_live_windows_alone = refl
 
 -- SOURCES x, y
 abbrev pub two_sources : Query → Query
-two_sources q = record q { clock = record q.clock { sources = 2 }; declared = record q.declared { sources = codes "x" ∷ codes "y" ∷ [] } }
+two_sources q = record q { declared = record q.declared { sources = codes "x" ∷ codes "y" ∷ [] } }
 
 the_least_watermark_holds :
     written (two_sources base) (a 5 7 ∷ w_of 0 90 ∷ a 50 3 ∷ w_of 1 60 ∷ Ok (Watermark None (pos 70)) ∷ w_of 1 60 ∷ w_of 1 80 ∷ [])

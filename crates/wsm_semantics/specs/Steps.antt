@@ -29,7 +29,7 @@ pub record State (X : Type 0) : Type 0 where
 module _ {X : Type 0} (plan : Plan X) (q : Query) where
   -- before the first event
   abbrev pub opened : State X
-  opened = record { admission = admission.opened q.clock; panes = []; relation = []; fed = 0; fired = 0 }
+  opened = record { admission = admission.opened q.clock q.declared; panes = []; relation = []; fed = 0; fired = 0 }
 
   -- what an answer to an event does to the panes; no number of a turn is kept of a record
   abbrev pub panes_after : Result Admitted Refusal → Event → State X → List (Place × Pane X)
@@ -69,7 +69,7 @@ module _ {X : Type 0} (plan : Plan X) (q : Query) where
   }
 
   abbrev pub answer_to : State X → Event → Result Admitted Refusal
-  answer_to s e = decision q.declared s.admission e
+  answer_to s e = decision q.shape q.declared s.admission e
 
   -- what is kept after an event
   abbrev pub step : State X → Event → State X
@@ -85,7 +85,7 @@ module _ {X : Type 0} (plan : Plan X) (q : Query) where
 -- what is kept is the history's
 pub record Fits {X : Type 0} (plan : Plan X) (q : Query) (s : State X) (past : List Event) : Type 0 where
   pub clock : s.admission.clock ≡ q.clock
-  pub admission : admission.Fits q.declared s.admission past
+  pub admission : admission.Fits q.shape q.declared s.admission past
   pub panes : s.panes ≡ summaries plan q.mode (kept q past)
   pub relation : s.relation ≡ relation q past
   pub fed : s.fed ≡ counter (length past)

@@ -7,8 +7,8 @@ ghost use Rattle.wsm_record.specs.declared.words.Mode.TheVariants.{Discarding, R
 ghost use Rattle.wsm_record.specs.declared.words.Form.TheVariants.{Panes};
 ghost use Rattle.wsm_record.specs.Event.{Event, Watermark};
 ghost use Rattle.wsm_windows.specs.Windows.{IsShape};
-ghost use Rattle.wsm_admission.specs.declared.clock.LateBy.TheVariants as late_by;
 ghost use Rattle.wsm_admission.specs.Clock.{IsWithinLimits, marks_of};
+ghost use Rattle.wsm_record.specs.Schema.{source_count};
 ghost use Rattle.wsm_semantics.specs.Query.{Query, SessionsByEvent, mark, verdict_on, selected};
 ghost use Rattle.wsm_semantics.specs.LiveRecords.{AllLive};
 ghost use Rattle.wsm_semantics.specs.Relation.{turn_rows};
@@ -38,7 +38,7 @@ pub fn rows_alone()
 /// Where lateness is counted from a record's own time, a selected record stands in every window of its
 /// time: each was live before its turn.
 pub fn every_window_live()
-    ensures { (q : Query) → q.clock.late ≡ late_by.Event → AllLive q }
+    ensures { (q : Query) → q.clock.from_window ≡ false → AllLive q }
 {}
 
 /// Where panes discard what they showed, a selected record is in one firing set where a firing shows
@@ -106,8 +106,8 @@ pub fn by_number()
 /// has there. Records with times up to some time may be left out too, for windows that begin after it. Where windows
 /// don't merge, all is the same once the watermark has passed the ends of the others and LATENESS.
 pub fn from_watermark()
-    ensures begun { (q : Query) → q.clock.sources ≡ 1 → (records : ℤ) (older : List Event) → BeginAlike q (mark q older) records (λ key. mark q older +ℤ q.clock.skew) older [] (length older) }
-    ensures marks { (q : Query) (start records : ℤ) (older other : List Event) (longer : ℕ) → marks_of (begun_at start records q).clock other ≡ marks_of q.clock older → length older ≡ length other + longer
+    ensures begun { (q : Query) → source_count q.declared ≡ 1 → (records : ℤ) (older : List Event) → BeginAlike q (mark q older) records (λ key. mark q older +ℤ q.clock.skew) older [] (length older) }
+    ensures marks { (q : Query) (start records : ℤ) (older other : List Event) (longer : ℕ) → marks_of (begun_at start records q).clock q.declared other ≡ marks_of q.clock q.declared older → length older ≡ length other + longer
         → BeginAlike q start records (λ key. mark q older +ℤ q.clock.skew) older other longer }
     ensures events { (x : Times) (events older : List Event) → (whole (map Stays events) older ≡ events ++ older) × (rest (map Stays events) older ≡ events ++ older) × LeavesOut x (map Stays events) }
     ensures panes { (q : Query) → IsShape q.shape → SessionsByEvent q → (start records : ℤ) (x : Times) (older other : List Event) (longer : ℕ) → BeginAlike q start records x older other longer

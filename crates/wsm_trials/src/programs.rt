@@ -7,7 +7,7 @@ use crate::sides::Sides;
 use std::alloc::Global;
 use std::process::Abort;
 use std::test::Fail;
-use wsm_bytecode::{CellType, Clock, Costs, Header, LateBy, Program, decode, encode};
+use wsm_bytecode::{CellType, Clock, Costs, Header, Program, decode, encode};
 use wsm_engine::Engine;
 use wsm_interval::Interval;
 use wsm_machine::Inputs;
@@ -69,9 +69,8 @@ fn header(alloc: Global, budget: Costs) -> Result<Header, Fail> {
             start: 0,
             skew: 100,
             lateness: 10,
-            late: LateBy::Event,
+            from_window: false,
             records: 1000,
-            sources: 1,
         },
         shape: Shape::Fixed(60),
         mode: Mode::Accumulating,

@@ -4,7 +4,6 @@ use Rattle.wsm_program.specs.declared.Instr.TheVariants.{PushInt, PushBool, Push
 use Rattle.wsm_program.specs.declared.Operation.TheVariants.{Add, Sub, Div, Rem, Neg, Eq, Lt, Gt}
 use Rattle.wsm_program.specs.declared.SectionId.TheVariants.{Where, Update, Fire}
 use Rattle.wsm_record.specs.declared.Kind.TheVariants as kind
-use Rattle.wsm_program.specs.declared.LateBy.TheVariants as late_by
 use Rattle.wsm_windows.specs.declared.Shape.{Shape}
 use Rattle.wsm_windows.specs.declared.Shape.TheVariants.{Fixed, Sliding, Session}
 use Rattle.wsm_record.specs.Schema.{FieldType, Int, Enum}
@@ -47,7 +46,7 @@ abbrev pub program : Worked → Program
 program w = record {
   header = record {
     schema = record { keys = (97 ∷ []) ∷ (98 ∷ []) ∷ []; fields = map (λ t. record { name = []; type = t }) w.fields; sources = [] };
-    clock = record { start = pos 0; skew = pos 100; lateness = w.lateness; late = late_by.Event; records = w.records; sources = 1 };
+    clock = record { start = pos 0; skew = pos 100; lateness = w.lateness; from_window = false; records = w.records };
     shape = w.shape;
     mode = Accumulating;
     early = pos 0;

@@ -45,9 +45,8 @@ pub(crate) fn header_of(
         start: times.start,
         skew: times.skew,
         lateness: times.lateness,
-        late: settings.late_by,
+        from_window: settings.from_window,
         records: times.records,
-        sources: schema.source_count() as u8,
     };
     let header = Header {
         schema,

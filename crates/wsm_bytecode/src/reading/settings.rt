@@ -8,7 +8,6 @@ use crate::limits::{LATEST_TIME, LONGEST_SPAN, MAX_ACCUMULATORS, MAX_HELD, MAX_S
 use crate::reading::numbers::{byte_of, byte_within, i64_within, u64_within};
 use crate::tags::{form_by, kind_by, mode_by};
 use std::alloc::Global;
-use wsm_admission::LateBy;
 use wsm_program::{Costs, DecodeRefusal};
 use wsm_record::{Form, Kind, Mode, Names};
 use wsm_windows::Shape;
@@ -26,8 +25,8 @@ pub(crate) struct Times {
 #[derive(Drop)]
 pub(crate) struct Settings {
     pub(crate) shape: Shape,
-    /// From when on a record is late.
-    pub(crate) late_by: LateBy,
+    /// Whether lateness counts from the ends of windows.
+    pub(crate) from_window: bool,
     pub(crate) mode: Mode,
     pub(crate) early: i64,
     pub(crate) late: i64,
@@ -53,18 +52,18 @@ pub(crate) fn times_of(bytes: &[u8]) -> Result<(Times, &[u8]), DecodeRefusal>
     Ok((times, rest))
 }
 
-/// The windows of a shape's tag, which is at most 2, and from when on a record is late.
+/// The windows of a shape's tag, which is at most 2, and whether lateness counts from their ends.
 #[tactic(auto, unfolding(crate::specs::Steps::windows_by))]
 pub(crate) fn windows_of(
     bytes: &[u8],
     tag: u8,
     from_window: bool,
-) -> Result<((Shape, LateBy), &[u8]), DecodeRefusal>
+) -> Result<((Shape, bool), &[u8]), DecodeRefusal>
     requires { tag ≤ 2 }
     ensures { Gives (λ x. (x.0, x.1.now)) result (windows_by from_window tag bytes.now) }
 {
     let (shape, rest) = shape_of(bytes, tag)?;
-    Ok(((shape, LateBy::of(from_window, shape)), rest))
+    Ok(((shape, from_window), rest))
 }
 
 #[tactic(auto, unfolding(crate::specs::Steps::fixed_at, crate::specs::Steps::sliding_at, crate::specs::Steps::session_at))]

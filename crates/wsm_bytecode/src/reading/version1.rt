@@ -13,7 +13,6 @@ use crate::reading::settings::{
 };
 use crate::tags::{FORM_COUNT, SHAPE_COUNT, last_shape_tag};
 use std::alloc::Global;
-use wsm_admission::LateBy;
 use wsm_program::DecodeRefusal;
 use wsm_record::{Form, Mode, Names};
 use wsm_windows::Shape;
@@ -22,13 +21,13 @@ use wsm_windows::Shape;
 pub(crate) fn settings_of(alloc: Global, bytes: &[u8]) -> Result<(Settings, &[u8]), DecodeRefusal>
     ensures { Gives (λ x. (settings_seen x.0, x.1.now)) result (settings_at bytes.now) }
 {
-    let ((shape, late_by), rest) = windows_of(bytes)?;
+    let ((shape, from_window), rest) = windows_of(bytes)?;
     let (mode, rest) = mode_of(rest)?;
     let ((early, late), rest) = triggers_of(rest)?;
     let ((form, sources), rest) = output_of(alloc, rest, mode)?;
     let settings = Settings {
         shape,
-        late_by,
+        from_window,
         mode,
         early,
         late,
@@ -40,7 +39,7 @@ pub(crate) fn settings_of(alloc: Global, bytes: &[u8]) -> Result<(Settings, &[u8
 
 // Tags behind those of the shapes are of fixed and sliding windows from whose ends lateness is counted.
 #[tactic(auto, unfolding(crate::specs::Version1::windows_at))]
-fn windows_of(bytes: &[u8]) -> Result<((Shape, LateBy), &[u8]), DecodeRefusal>
+fn windows_of(bytes: &[u8]) -> Result<((Shape, bool), &[u8]), DecodeRefusal>
     ensures { Gives (λ x. (x.0, x.1.now)) result (windows_at bytes.now) }
 {
     let (tag, rest) = byte_within(bytes, 0, SHAPE_COUNT + last_shape_tag(true))?;

@@ -1,4 +1,4 @@
-//! What version 2 of the bytes has of its own: by what a record is late and the sources stand in front
+//! What version 2 of the bytes has of its own: what lateness is counted from and the sources stand in front
 //! of the shape.
 
 ghost use Rattle.std.specs.Prelude.{◌≡◌};
@@ -14,7 +14,6 @@ use crate::reading::settings::{
 };
 use crate::tags::last_shape_tag;
 use std::alloc::Global;
-use wsm_admission::LateBy;
 use wsm_program::DecodeRefusal;
 use wsm_record::{Form, Mode, Names, is_source_count};
 use wsm_windows::Shape;
@@ -32,13 +31,13 @@ struct Shown {
 pub(crate) fn settings_of(alloc: Global, bytes: &[u8]) -> Result<(Settings, &[u8]), DecodeRefusal>
     ensures { Gives (λ x. (settings_seen x.0, x.1.now)) result (settings_at bytes.now) }
 {
-    let (from_window, rest) = byte_within(bytes, 0, 1)?;
+    let (flag, rest) = byte_within(bytes, 0, 1)?;
     let (sources, rest) = sources_of(alloc, rest)?;
-    let ((shape, late_by), rest) = windows_of(rest, from_window == 1)?;
+    let ((shape, from_window), rest) = windows_of(rest, flag == 1)?;
     let (shown, rest) = shown_of(rest)?;
     let settings = Settings {
         shape,
-        late_by,
+        from_window,
         mode: shown.mode,
         early: shown.early,
         late: shown.late,
@@ -79,7 +78,7 @@ fn sources_of(alloc: Global, bytes: &[u8]) -> Result<(Names, &[u8]), DecodeRefus
 
 // Lateness isn't counted from the end of a session.
 #[tactic(auto, unfolding(crate::specs::Version2::windows_at))]
-fn windows_of(bytes: &[u8], from_window: bool) -> Result<((Shape, LateBy), &[u8]), DecodeRefusal>
+fn windows_of(bytes: &[u8], from_window: bool) -> Result<((Shape, bool), &[u8]), DecodeRefusal>
     ensures { Gives (λ x. (x.0, x.1.now)) result (windows_at from_window bytes.now) }
 {
     let (tag, rest) = byte_within(bytes, 0, last_shape_tag(from_window))?;

@@ -1,4 +1,4 @@
-//! What version 2 of the bytes has of its own: by what a record is late and the sources stand in front
+//! What version 2 of the bytes has of its own: what lateness is counted from and the sources stand in front
 //! of the shape.
 
 ghost use Rattle.std.specs.Prelude.{◌≡◌, ◌++◌, OnOk, IsTrue};
@@ -11,7 +11,6 @@ use crate::tags::{form_tag, mode_tag, shape_tag};
 use crate::writing::numbers::{put_i64, put_two, put_u8};
 use crate::writing::schema::put_sources;
 use std::alloc::AllocError;
-use wsm_admission::LateBy;
 use wsm_program::Header;
 use wsm_windows::Shape;
 
@@ -19,7 +18,7 @@ pub(crate) fn put_settings(out: &mut Vec<u8>, header: &Header) -> Result<(), All
     requires { IsTrue (is_header (header_of header.now)) }
     ensures { OnOk result (out.new.items ≡ out.old.items ++ settings_bytes (settings_in (header_of header.now))) }
 {
-    put_window_flag(out, header.clock.late)?;
+    put_window_flag(out, header.clock.from_window)?;
     put_sources(out, header.schema.sources())?;
     put_shape(out, header.shape)?;
     put_u8(out, mode_tag(header.mode))?;
@@ -27,13 +26,10 @@ pub(crate) fn put_settings(out: &mut Vec<u8>, header: &Header) -> Result<(), All
     put_u8(out, form_tag(header.form))
 }
 
-fn put_window_flag(out: &mut Vec<u8>, late: LateBy) -> Result<(), AllocError>
-    ensures { OnOk result (out.new.items ≡ out.old.items ++ byte (window_flag late)) }
+fn put_window_flag(out: &mut Vec<u8>, from_window: bool) -> Result<(), AllocError>
+    ensures { OnOk result (out.new.items ≡ out.old.items ++ byte (window_flag from_window)) }
 {
-    match late {
-        LateBy::Event => put_u8(out, 0),
-        LateBy::Window(_) => put_u8(out, 1),
-    }
+    put_u8(out, if from_window { 1 } else { 0 })
 }
 
 fn put_shape(out: &mut Vec<u8>, shape: Shape) -> Result<(), AllocError>

@@ -24,4 +24,4 @@ returns c =
     let late : FitsSigned w64 c.in_ok-settings.settings.late = search rules in
     let schema = c.of_parts-schema.ensures.parts in
     let back = rw schema at c.in_ok-back.ensures in
-    simp to_z-of_z (header_in_parts c.args.version c.args.bytes.now ∙ rw (c.in_ok-keys.ensures, c.in_ok-fields.ensures, c.in_ok-times.ensures, c.in_ok-settings.ensures, back, c.source_count.ensures.count, schema) refl)
+    simp to_z-of_z (header_in_parts c.args.version c.args.bytes.now ∙ rw (c.in_ok-keys.ensures, c.in_ok-fields.ensures, c.in_ok-times.ensures, c.in_ok-settings.ensures, back, schema) refl)

@@ -3,9 +3,12 @@ use Rattle.std.proofs.lemmas.Int.{ints, fits_signed_from_abs}
 use Rattle.wsm_record.specs.Event.{Event, event_of}
 use Rattle.wsm_admission.specs.declared.verdict.Admitted.{Admitted}
 use Rattle.wsm_admission.specs.declared.verdict.Refusal.{Refusal}
+use Rattle.wsm_admission.specs.declared.clock.Clock.{Clock}
+use Rattle.wsm_admission.specs.Clock.{IsTimely}
 use Rattle.wsm_admission.specs.Admission.{after, counter, decision}
 use Rattle.wsm_semantics.specs.Steps.{answer_to, fired_by}
 use Rattle.wsm_program.specs.Program.{Program, Header}
+use Rattle.wsm_program.specs.View.{header_of}
 use Rattle.wsm_firing.specs.declared.tally.Tally.{Tally}
 use Rattle.wsm_machine.specs.Meaning.{query_of, plan_of}
 use Rattle.wsm_panes.specs.Held.{entries_of}
@@ -13,6 +16,7 @@ use Rattle.wsm_engine.specs.State.{State}
 use Rattle.wsm_engine.specs.Meaning.{Fits}
 use Rattle.wsm_engine.specs.Operator.{IsAt, last_relation}
 use Rattle.wsm_engine.specs.Engine.{state_of}
+use Rattle.wsm_engine.proofs.Limits.{clock_timely}
 use Rattle.wsm_engine.proofs.EngineTurns.{turn_fits, turned_is, comes_of, next_timely, replied_is}
 use Rattle.wsm_engine.proofs.engine.Engine.turn.Goals as goal
 use Rattle.wsm_engine.proofs.engine.Engine.turn.Goals.{After-decide-answer, After-act-done}
@@ -21,7 +25,15 @@ use Rattle.wsm_engine.proofs.engine.Engine.turn.Goals.{After-decide-answer, Afte
 answered : (c : After-decide-answer) → c.decide-answer.result ≡ answer_to (plan_of (state_of c.self.inside).program) (query_of (state_of c.self.inside).program) (state_of c.self.inside).machine (event_of c.args.event.now)
 answered c =
     c.decide-answer.ensures.decision
-    ∙ ap (λ (h : Header). decision h.schema (state_of c.self.inside).machine.admission (event_of c.args.event.now)) (c.header.ensures.header ∙ ap (λ (p : Program). p.header) c.program.ensures.program)
+    ∙ ap (λ (h : Header). decision h.shape h.schema (state_of c.self.inside).machine.admission (event_of c.args.event.now)) (c.header-header.ensures.header ∙ ap (λ (p : Program). p.header) c.program.ensures.program)
+
+-- lateness may be counted from the program's windows, where its clock does
+pub decide-answer-requires : goal.decide-answer-requires
+decide-answer-requires c =
+    let s : State = state_of c.self.inside in
+    let is : header_of c.header-header.result.now ≡ s.program.header = c.header-header.ensures.header ∙ ap (λ (p : Program). p.header) c.program.ensures.program in
+    let timely = subst (λ (h : Header). IsTimely s.program.header.clock.from_window h.shape) (sym is) (clock_timely s.program c.self.invariant.operator.lawful) in
+    subst (λ (k : Clock). IsTimely k.from_window c.header-header.result.now.shape) (sym c.self.invariant.history.1.clock) timely
 
 -- the operator is at the mark, once the rows of the last turn are gone
 marked : (c : After-act-done) → IsAt (to_z w64 (of_z w64 c.mark-mark.result)) (record c.self.inside.operator { state = record c.self.inside.operator.state { rows = c.clear.new.self } }) (state_of c.self.inside).machine
